@@ -1,12 +1,11 @@
 //! Batches that become durable.
-ghost use Rattle.std.specs.Prelude.{◌≡◌, ◌≢◌, ◌<◌, ℕ, List, [], Option, OnOk, IfErr, length, slice_index_or, refl};
+ghost use Rattle.std.specs.Prelude.{◌≡◌, ◌≢◌, ◌<◌, OnOk, IfErr, length, refl};
 ghost use Rattle.std.proofs.Common.{◌∙◌};
+ghost use Rattle.batches.specs.Bringing.{CommitsBatch, RefusesBatch};
 ghost use Rattle.batches.specs.Pages.{HasReadOnly, given_page};
-ghost use Rattle.vm_types.specs.declared.file.FileInfo.{FileInfo};
-ghost use Rattle.disk_model.specs.Moments.{AsksOnly, LeavesOnly, LeavesNow};
+ghost use Rattle.disk_model.specs.Moments.{AsksOnly};
 ghost use Rattle.sync_journal.specs.Kinds.{IsStoreUsed};
-ghost use Rattle.file_store.specs.Commit.{ArePages, Changes, StandsForEither};
-ghost use Rattle.file_store.specs.Standing.{StandsFor};
+ghost use Rattle.file_store.specs.Commit.{ArePages};
 ghost use Rattle.file_store.specs.Store.{IsReadyStore, files_of};
 
 use crate::pages::{BadBatch, check_pages};
@@ -77,19 +76,9 @@ fn commit_good<D: SectorDisk>(
     requires ready { IsReadyStore D.SectorDisk store.old }
     requires pages { ArePages (files_of store.old) pages.now }
     requires bytes { length bytes.now ≡ length pages.now }
-    ensures size { D.sector_count store.new.disk ≡ D.sector_count store.old.disk }
-    ensures kept { D.keeps_model store.new.disk → D.keeps_model store.old.disk }
-    ensures calm { OnOk result (D.failures store.new.disk ≡ D.failures store.old.disk) }
+    ensures commits { CommitsBatch D.SectorDisk store.old store.new pages.now (given_page bytes.now) result }
     ensures asks { AsksOnly D.SectorDisk (IsStoreUsed store.old.journal) store.old.disk store.new.disk }
     ensures fault { IfErr result (λ fault. (fault ≡ BatchFault.Device) × (D.failures store.old.disk < D.failures store.new.disk)) }
-    ensures files { files_of store.new ≡ files_of store.old }
-    ensures ready { OnOk result (IsReadyStore D.SectorDisk store.new) }
-    ensures any_moment { D.keeps_model store.new.disk → (files : ℕ → Option FileInfo) (before after : ℕ → ℕ → List ℕ)
-        → LeavesNow D.SectorDisk store.old.disk (StandsFor (D.sector_count store.old.disk) files before) → Changes files pages.now (given_page bytes.now) before after
-        → LeavesOnly D.SectorDisk store.old.disk store.new.disk (StandsForEither (D.sector_count store.old.disk) files before after) }
-    ensures ok { D.keeps_model store.new.disk → (files : ℕ → Option FileInfo) (before after : ℕ → ℕ → List ℕ)
-        → LeavesNow D.SectorDisk store.old.disk (StandsFor (D.sector_count store.old.disk) files before) → Changes files pages.now (given_page bytes.now) before after
-        → OnOk result (LeavesNow D.SectorDisk store.new.disk (StandsFor (D.sector_count store.old.disk) files after)) }
 {
     let mut source = GivenPages { pages: bytes };
     match store.commit(pages, &mut source) {
@@ -112,33 +101,13 @@ pub fn commit_pages<D: SectorDisk>(
 ) -> Result<(), BatchFault>
     requires ready { IsReadyStore D.SectorDisk store.old }
     requires bytes { length bytes.now ≡ length pages.now }
-    ensures size { D.sector_count store.new.disk ≡ D.sector_count store.old.disk }
-    ensures kept { D.keeps_model store.new.disk → D.keeps_model store.old.disk }
-    ensures files { files_of store.new ≡ files_of store.old }
-    ensures ready { OnOk result (IsReadyStore D.SectorDisk store.new) }
-
-    // After Ok every image of a stop from now on stands for the files with these pages.
-    ensures ok { D.keeps_model store.new.disk → (files : ℕ → Option FileInfo) (before after : ℕ → ℕ → List ℕ)
-        → LeavesNow D.SectorDisk store.old.disk (StandsFor (D.sector_count store.old.disk) files before) → Changes files pages.now (given_page bytes.now) before after
-        → OnOk result (LeavesNow D.SectorDisk store.new.disk (StandsFor (D.sector_count store.old.disk) files after)) }
-
-    // At every moment of the call it stands for the files before or after.
-    ensures any_moment { D.keeps_model store.new.disk → (files : ℕ → Option FileInfo) (before after : ℕ → ℕ → List ℕ)
-        → LeavesNow D.SectorDisk store.old.disk (StandsFor (D.sector_count store.old.disk) files before) → Changes files pages.now (given_page bytes.now) before after
-        → LeavesOnly D.SectorDisk store.old.disk store.new.disk (StandsForEither (D.sector_count store.old.disk) files before after) }
-
-    // A batch is refused exactly where it is bad, and then nothing is changed.
-    ensures taken { OnOk result (ArePages (files_of store.old) pages.now) }
-    ensures written { OnOk result (HasReadOnly (files_of store.old) pages.now → ⊥) }
-    ensures bad_pages { IfErr result (λ fault. fault ≡ BatchFault.BadPages → ArePages (files_of store.old) pages.now → ⊥) }
-    ensures read_only { IfErr result (λ fault. fault ≡ BatchFault.ReadOnly → ArePages (files_of store.old) pages.now × HasReadOnly (files_of store.old) pages.now) }
-
-    // Device is the fault exactly where the device failed.
-    ensures cause { IfErr result (λ fault. fault ≡ BatchFault.Device → D.failures store.old.disk < D.failures store.new.disk) }
-    ensures calm { OnOk result (D.failures store.new.disk ≡ D.failures store.old.disk) }
+    ensures commits { CommitsBatch D.SectorDisk store.old store.new pages.now (given_page bytes.now) result }
     // Of the device no sector was asked for but those of the gate, the map and the body of its journal, and of the homes of the commit before.
     ensures asks { AsksOnly D.SectorDisk (IsStoreUsed store.old.journal) store.old.disk store.new.disk }
-    ensures unchanged { IfErr result (λ fault. fault ≢ BatchFault.Device → store.new ≡ store.old) }
+    // A batch is refused exactly where it is bad.
+    ensures taken { OnOk result (ArePages (files_of store.old) pages.now) }
+    ensures written { OnOk result (HasReadOnly (files_of store.old) pages.now → ⊥) }
+    ensures refused { IfErr result (RefusesBatch D.SectorDisk store.old store.new pages.now) }
 {
     match check_pages(store, pages) {
         Ok(()) => commit_good(store, pages, bytes),

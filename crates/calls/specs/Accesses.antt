@@ -8,18 +8,24 @@ use Rattle.page_faults.specs.Asking.{AsksForPage}
 use Rattle.frames.specs.FrameTable.{bytes_of, with_bytes}
 use Rattle.page_faults.specs.Wants.{Wants, ReadsHome, RefusesAccess, ShowsFile}
 use Rattle.paging.specs.declared.kernel.Core.{Core}
-use Rattle.mapping.specs.Changes.{IsCalm, KeepsAround, KeepsSlotted, IsThatPage, LinksTables}
+use Rattle.mapping.specs.Changes.{IsCalm, KeepsAround, KeepsOtherViews, KeepsSlotted, IsThatPage, LinksTables}
+use Rattle.paging.specs.Calls.{UsesDevice}
 use Rattle.paging.specs.Picture.{picture_of}
+use Rattle.paging.specs.Reading.{ReadsStore}
 use Rattle.vm_types.specs.declared.access.Access.{Access}
 use Rattle.vm_types.specs.declared.access.Access.TheVariants.{Load, Store, Fetch}
 use Rattle.vm_types.specs.declared.access.StoredValue.{StoredValue}
+use Rattle.vm_types.specs.declared.command.Command.TheVariants as Commands
 use Rattle.vm_types.specs.declared.refusal.Stall.{Stall}
 use Rattle.vm_types.specs.declared.refusal.Stall.TheVariants.{StoreDevice}
 use Rattle.vm_types.specs.declared.reply.Answer.{Answer}
 use Rattle.vm_types.specs.declared.reply.Answer.TheVariants.{Faulted, Stalled}
 use Rattle.vm_types.specs.declared.reply.Reply.{Reply}
+use Rattle.vm_types.specs.declared.width.Width.{Width}
+use Rattle.vm_types.specs.declared.width.Width.TheVariants.{Four}
 use Rattle.vm_types.specs.Access.{with_number}
 use Rattle.vm_types.specs.Width.{byte_count}
+use Rattle.calls.specs.Calls.{AccountsFor, Carries}
 
 abbrev pub answer_of : AccessRefusal → Answer
 answer_of (Refusal.Fault fault) = Faulted fault
@@ -60,3 +66,21 @@ module _ {M : Type 0} {m : Levels.Ghosts M} {D E : Type 0} (g : Ghosts D) (h : G
     -- the devices are asked for sectors of this page, and swap for those of free slots where a frame has to be given up, and one may be
     -- that needs a slot
     pub sectors : AsksForPage g h old new pid (addr / 4096) access
+
+  -- An access keeps to its page, whatever comes of it:
+  pub record KeepsToPage (old new : Core D E M m) (pid addr : ℕ) (reply : Reply) : Type 0 where
+    -- it accounts for what it did,
+    pub accounts : AccountsFor g h old new reply
+    pub open accounts use *
+    -- no other page is seen otherwise,
+    pub others : KeepsOtherViews (picture_of old) (picture_of new) pid (addr / 4096)
+    -- and the store was read at most, the swap device read and written.
+    pub reads : ReadsStore g old.store new.store
+    pub device : UsesDevice h old.swap.pages.disk new.swap.pages.disk
+
+  -- A read of a number is carried out
+  pub record CarriesRead (old new : Core D E M m) (pid addr : ℕ) (width : Width) (kind : Access) (reply : Reply) : Type 0 where
+    -- as a load where it is one of data,
+    pub load : kind ≡ Load → Carries g h old new (Commands.Load pid addr width) reply
+    -- and as a fetch where it is one of an instruction, which has four bytes.
+    pub fetch : kind ≡ Fetch → width ≡ Four → Carries g h old new (Commands.Fetch pid addr) reply

@@ -4,6 +4,9 @@ use Rattle.std.specs.Prelude.{ℕ, ◌≡◌, ◌+◌, ◌<◌, ◌≤◌, true,
 use Rattle.disk_model.specs.declared.sector_disk.SectorDisk.{Ghosts}
 use Rattle.frames.specs.FrameTable.{frame_count}
 use Rattle.swap.specs.Slots.{slots_of}
+use Rattle.mapping.specs.Changes.{KeepsRoom}
+use Rattle.page_ranges.specs.Steps.{KeepsDevices}
+use Rattle.paging.specs.Calls.{UsesDevice}
 use Rattle.paging.specs.declared.kernel.Core.{Core}
 use Rattle.paging.specs.Picture.{picture_of}
 use Rattle.paging.specs.Stalls.{ReadCause}
@@ -19,7 +22,7 @@ use Rattle.vm_types.specs.declared.reply.Reply.TheVariants.{Refused, Stalled}
 use Rattle.vm_types.specs.Stalls.{Causes, MayStall, reads_files, reads_swap}
 use Rattle.vm_types.specs.State.{State}
 use Rattle.vm_types.specs.Step.{outcome}
-use Rattle.calls.specs.Idle.{names_store, names_swap, refused_count}
+use Rattle.calls.specs.Idle.{is_denial, names_store, names_swap, refused_count}
 
 -- Memory of so many frames, or so many slots, are short of what a command needs: the tables of the state after it and three more
 -- frames, or a slot for each page that processes have of their own, each touched file page and each page of an object that was stored to.
@@ -61,3 +64,30 @@ module _ {M : Type 0} {m : Levels.Ghosts M} {D E : Type 0} (g : Ghosts D) (h : G
     pub counted : new.refused.number ≡ old.refused.number + refused_count reply
     pub failed : reply ≡ Refused EIO → g.failures old.store.disk < g.failures new.store.disk
     pub stalled : (stall : Stall) → reply ≡ Stalled stall → ReadCause g h old new stall
+
+  -- A call accounts for what it did, whatever comes of it:
+  pub record AccountsFor (old new : Core D E M m) (reply : Reply) : Type 0 where
+    -- memory has as many frames and slots as it had,
+    pub room : KeepsRoom (picture_of old) (picture_of new)
+    -- nothing changed where the reply is a denial,
+    pub denied : is_denial reply ≡ true → new ≡ old
+    -- and the reply names a device or the want of a frame exactly where that failed, or was refused.
+    pub caused : IsCaused old new reply
+
+  -- A call leaves the store alone, whatever comes of it:
+  pub record LeavesStore (old new : Core D E M m) (reply : Reply) : Type 0 where
+    -- it accounts for what it did,
+    pub accounts : AccountsFor old new reply
+    pub open accounts use *
+    -- the store is as it was,
+    pub store : new.store ≡ old.store
+    -- and the swap device was read and written at most.
+    pub device : UsesDevice h old.swap.pages.disk new.swap.pages.disk
+
+  -- A call leaves both devices alone, whatever comes of it:
+  pub record LeavesDevices (old new : Core D E M m) (reply : Reply) : Type 0 where
+    -- it accounts for what it did,
+    pub accounts : AccountsFor old new reply
+    pub open accounts use *
+    -- and asked neither of them.
+    pub devices : KeepsDevices old new

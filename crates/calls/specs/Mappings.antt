@@ -78,6 +78,15 @@ pub record IsAsked (len : ℕ) (source : MapSource) : Type 0 where
   pub numbered : IsNumbered source
   pub fits : FitsFile source (page_count len)
 
+-- Pages that may be mapped where there is a place for them:
+pub record IsMappable (source : MapSource) (pages : ℕ) : Type 0 where
+  -- there are some, and no more than addresses reach,
+  pub some : 0 < pages
+  pub few : pages ≤ 2 ^ 52
+  -- and where a file is named they are pages that a file can have.
+  pub numbered : IsNumbered source
+  pub fits : FitsFile source pages
+
 -- A mapping that is not refused: its place, and the runs of the process with it; attr: what the first page is at that place.
 module _ (mode : ℕ) where
   pub record MapsPages (runs : List Run) (addr pages : ℕ) (attr : ℕ → Attr) (placing : Placing) (first : ℕ) (next : List Run) : Type 0 where

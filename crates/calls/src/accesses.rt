@@ -1,5 +1,5 @@
 //! Loads, stores and fetches.
-ghost use Rattle.std.specs.Prelude.{◌≡◌, ◌≤◌, ◌<◌, ◌+◌, ◌/◌, ◌%◌, ◌^◌, true, false};
+ghost use Rattle.std.specs.Prelude.{◌≡◌, ◌≤◌, ◌<◌, ◌+◌, ◌/◌, ◌%◌, false};
 ghost use Rattle.vm_types.specs.Replies.{reply_of};
 ghost use Rattle.vm_types.specs.Access.{loaded, with_number};
 ghost use Rattle.vm_types.specs.Width.{byte_count};
@@ -9,14 +9,10 @@ ghost use Rattle.vm_types.specs.declared.width.Width.TheVariants.{Four};
 ghost use Rattle.frames.specs.FrameTable.{IsFrame};
 ghost use Rattle.sv39_walk.specs.Walk.{is_store};
 ghost use Rattle.page_faults.specs.Outcome.{IsWalked};
-ghost use Rattle.mapping.specs.Changes.{KeepsRoom, KeepsOtherViews};
 ghost use Rattle.paging.specs.Picture.{picture_of};
-ghost use Rattle.paging.specs.Reading.{ReadsStore};
-ghost use Rattle.paging.specs.Calls.{UsesDevice};
 ghost use Rattle.msync.specs.Shows.{IsSoundCore};
-ghost use Rattle.calls.specs.Accesses.{answer_of, AsksFor, WritesNumber};
-ghost use Rattle.calls.specs.Calls.{Carries, IsCaused};
-ghost use Rattle.calls.specs.Idle.{is_denial};
+ghost use Rattle.calls.specs.Accesses.{answer_of, AsksFor, CarriesRead, KeepsToPage, WritesNumber};
+ghost use Rattle.calls.specs.Calls.{Carries};
 
 use crate::space::PAGE;
 use byteorder::{ByteOrder, LittleEndian};
@@ -77,16 +73,10 @@ fn read<D: SectorDisk, E: SectorDisk, M: Levels>(
     requires sound { IsSoundCore D.SectorDisk E.SectorDisk core.old }
     requires kind { is_store kind ≡ false }
     ensures sound { IsSoundCore D.SectorDisk E.SectorDisk core.new }
-    ensures load { kind ≡ Access.Load → Carries D.SectorDisk E.SectorDisk core.old core.new (Load pid addr width) (reply_of result) }
-    ensures fetch { kind ≡ Access.Fetch → width ≡ Four → Carries D.SectorDisk E.SectorDisk core.old core.new (Fetch pid addr) (reply_of result) }
-    ensures reads { ReadsStore D.SectorDisk core.old.store core.new.store }
-    ensures device { UsesDevice E.SectorDisk core.old.swap.pages.disk core.new.swap.pages.disk }
-    ensures denied { is_denial (reply_of result) ≡ true → core.new ≡ core.old }
+    ensures comes { CarriesRead D.SectorDisk E.SectorDisk core.old core.new pid addr width kind (reply_of result) }
+    ensures keeps { KeepsToPage D.SectorDisk E.SectorDisk core.old core.new pid addr (reply_of result) }
     ensures walked { (place : Phys) → IsWalked (picture_of core.old) pid addr width kind place → core.new ≡ core.old }
     ensures asks { AsksFor D.SectorDisk E.SectorDisk core.old core.new pid addr kind (reply_of result) }
-    ensures others { KeepsOtherViews (picture_of core.old) (picture_of core.new) pid (addr / 4096) }
-    ensures room { KeepsRoom (picture_of core.old) (picture_of core.new) }
-    ensures caused { IsCaused D.SectorDisk E.SectorDisk core.old core.new (reply_of result) }
 {
     let Some(pid) = core.live(pid) else {
         return Answer::Refused(Errno::ESRCH);
@@ -120,14 +110,9 @@ pub fn load<D: SectorDisk, E: SectorDisk, M: Levels>(
     requires sound { IsSoundCore D.SectorDisk E.SectorDisk core.old }
     ensures sound { IsSoundCore D.SectorDisk E.SectorDisk core.new }
     ensures comes { Carries D.SectorDisk E.SectorDisk core.old core.new (Load pid addr width) (reply_of result) }
-    ensures reads { ReadsStore D.SectorDisk core.old.store core.new.store }
-    ensures device { UsesDevice E.SectorDisk core.old.swap.pages.disk core.new.swap.pages.disk }
-    ensures denied { is_denial (reply_of result) ≡ true → core.new ≡ core.old }
+    ensures keeps { KeepsToPage D.SectorDisk E.SectorDisk core.old core.new pid addr (reply_of result) }
     ensures walked { (place : Phys) → IsWalked (picture_of core.old) pid addr width Access.Load place → core.new ≡ core.old }
     ensures asks { AsksFor D.SectorDisk E.SectorDisk core.old core.new pid addr Access.Load (reply_of result) }
-    ensures others { KeepsOtherViews (picture_of core.old) (picture_of core.new) pid (addr / 4096) }
-    ensures room { KeepsRoom (picture_of core.old) (picture_of core.new) }
-    ensures caused { IsCaused D.SectorDisk E.SectorDisk core.old core.new (reply_of result) }
 {
     read(core, pid, addr, width, Access::Load)
 }
@@ -143,14 +128,9 @@ pub fn fetch<D: SectorDisk, E: SectorDisk, M: Levels>(
     requires sound { IsSoundCore D.SectorDisk E.SectorDisk core.old }
     ensures sound { IsSoundCore D.SectorDisk E.SectorDisk core.new }
     ensures comes { Carries D.SectorDisk E.SectorDisk core.old core.new (Fetch pid addr) (reply_of result) }
-    ensures reads { ReadsStore D.SectorDisk core.old.store core.new.store }
-    ensures device { UsesDevice E.SectorDisk core.old.swap.pages.disk core.new.swap.pages.disk }
-    ensures denied { is_denial (reply_of result) ≡ true → core.new ≡ core.old }
+    ensures keeps { KeepsToPage D.SectorDisk E.SectorDisk core.old core.new pid addr (reply_of result) }
     ensures walked { (place : Phys) → IsWalked (picture_of core.old) pid addr Four Access.Fetch place → core.new ≡ core.old }
     ensures asks { AsksFor D.SectorDisk E.SectorDisk core.old core.new pid addr Access.Fetch (reply_of result) }
-    ensures others { KeepsOtherViews (picture_of core.old) (picture_of core.new) pid (addr / 4096) }
-    ensures room { KeepsRoom (picture_of core.old) (picture_of core.new) }
-    ensures caused { IsCaused D.SectorDisk E.SectorDisk core.old core.new (reply_of result) }
 {
     read(core, pid, addr, Width::Four, Access::Fetch)
 }
@@ -168,14 +148,9 @@ pub fn store<D: SectorDisk, E: SectorDisk, M: Levels>(
     requires sound { IsSoundCore D.SectorDisk E.SectorDisk core.old }
     ensures sound { IsSoundCore D.SectorDisk E.SectorDisk core.new }
     ensures comes { Carries D.SectorDisk E.SectorDisk core.old core.new (Store pid addr stored) (reply_of result) }
-    ensures reads { ReadsStore D.SectorDisk core.old.store core.new.store }
-    ensures device { UsesDevice E.SectorDisk core.old.swap.pages.disk core.new.swap.pages.disk }
-    ensures denied { is_denial (reply_of result) ≡ true → core.new ≡ core.old }
+    ensures keeps { KeepsToPage D.SectorDisk E.SectorDisk core.old core.new pid addr (reply_of result) }
     ensures walked { (place : Phys) → IsWalked (picture_of core.old) pid addr stored.width Access.Store place → WritesNumber core.old core.new (place.0 / 4096) (addr % 4096) stored }
     ensures asks { AsksFor D.SectorDisk E.SectorDisk core.old core.new pid addr Access.Store (reply_of result) }
-    ensures others { KeepsOtherViews (picture_of core.old) (picture_of core.new) pid (addr / 4096) }
-    ensures room { KeepsRoom (picture_of core.old) (picture_of core.new) }
-    ensures caused { IsCaused D.SectorDisk E.SectorDisk core.old core.new (reply_of result) }
 {
     let Some(pid) = core.live(pid) else {
         return Answer::Refused(Errno::ESRCH);

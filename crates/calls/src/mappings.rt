@@ -11,16 +11,13 @@ ghost use Rattle.vm_types.specs.Placement.{fixed_place, is_free};
 ghost use Rattle.vm_types.specs.Runs.{run_count};
 ghost use Rattle.vm_types.specs.declared.command.Command.TheVariants.{Mmap};
 ghost use Rattle.vm_types.specs.declared.command.MapSource.TheVariants.{Common};
-ghost use Rattle.mapping.specs.Changes.{KeepsRoom};
 ghost use Rattle.page_ranges.specs.Rows.{without_maps};
-ghost use Rattle.page_ranges.specs.Steps.{KeepsDevices};
 ghost use Rattle.msync.specs.Shows.{IsSoundCore};
 ghost use Rattle.paging.specs.Picture.{picture_of};
 ghost use Rattle.paging.specs.Parts.{IsFit};
-ghost use Rattle.calls.specs.Calls.{Carries, IsCaused};
-ghost use Rattle.calls.specs.Idle.{is_denial};
+ghost use Rattle.calls.specs.Calls.{Carries, LeavesDevices};
 ghost use Rattle.calls.specs.Ranges.{KeepsEntriesBeside, TakesNothing, first_mapped};
-ghost use Rattle.calls.specs.Mappings.{mmap_asked_checks, file_checks, place_checks, IsAsked, MapsPages, IsNumbered, FitsFile, attr_there};
+ghost use Rattle.calls.specs.Mappings.{mmap_asked_checks, file_checks, place_checks, IsAsked, IsMappable, MapsPages, IsNumbered, attr_there};
 ghost use Rattle.calls.specs.Space.{space_of};
 
 use crate::region_room::RegionRoom;
@@ -248,10 +245,7 @@ fn planned<D, E, M: Levels>(
     next: &mut Regions<M>,
 ) -> Result<u64, Errno>
     requires fit { IsFit (picture_of core.now) }
-    requires some { 0 < pages }
-    requires few { pages ≤ 2 ^ 52 }
-    requires numbered { IsNumbered source }
-    requires fits { FitsFile source pages }
+    requires mappable { IsMappable source pages }
     ensures ok { IfOk result (λ first. MapsPages M.mode regions.now addr pages (attr_there (picture_of core.now).at pid pages source prot) placing first next.new) }
     ensures few { OnOk result (source ≡ Common → (q : ℕ) → run_count M.mode ((picture_of core.now).at q) ≤ 256) }
     ensures err { IfErr result (λ errno. first_of (place_checks M.mode placing (space_of regions.now) pages (attr_there (picture_of core.now).at pid pages source prot) (place_for M.mode placing (space_of regions.now) addr pages)) ≡ Some errno) }
@@ -292,12 +286,9 @@ pub fn mmap<D: SectorDisk, E: SectorDisk, M: Levels>(
     requires sound { IsSoundCore D.SectorDisk E.SectorDisk core.old }
     ensures sound { IsSoundCore D.SectorDisk E.SectorDisk core.new }
     ensures comes { Carries D.SectorDisk E.SectorDisk core.old core.new (Mmap pid addr len prot source placing) (reply_of result) }
-    ensures devices { KeepsDevices core.old core.new }
+    ensures keeps { LeavesDevices D.SectorDisk E.SectorDisk core.old core.new (reply_of result) }
     ensures takes { TakesNothing (picture_of core.old) (picture_of core.new) pid (first_mapped (reply_of result)) (page_count len) }
     ensures beside { KeepsEntriesBeside (picture_of core.old) (picture_of core.new) pid (first_mapped (reply_of result)) (page_count len) }
-    ensures denied { is_denial (reply_of result) ≡ true → core.new ≡ core.old }
-    ensures room { KeepsRoom (picture_of core.old) (picture_of core.new) }
-    ensures caused { IsCaused D.SectorDisk E.SectorDisk core.old core.new (reply_of result) }
 {
     let Some(pid) = core.live(pid) else {
         return Answer::Refused(Errno::ESRCH);

@@ -1,18 +1,14 @@
 //! Processes that come and go.
-ghost use Rattle.std.specs.Prelude.{◌≡◌, true, None};
+ghost use Rattle.std.specs.Prelude.{None};
 ghost use Rattle.disk_model.specs.Moments.{Nothing};
 ghost use Rattle.vm_types.specs.Limits.{user_end};
 ghost use Rattle.vm_types.specs.Replies.{reply_of};
 ghost use Rattle.vm_types.specs.declared.command.Command.TheVariants.{Spawn, Fork, Exit};
 ghost use Rattle.mapping.specs.Asking.{AsksIfFull, AsksSlots};
-ghost use Rattle.mapping.specs.Changes.{KeepsRoom};
-ghost use Rattle.page_ranges.specs.Steps.{KeepsDevices};
 ghost use Rattle.msync.specs.Shows.{IsSoundCore};
-ghost use Rattle.paging.specs.Calls.{UsesDevice};
 ghost use Rattle.paging.specs.Picture.{picture_of};
 ghost use Rattle.calls.specs.Processes.{ForkTakes, SpawnTakes};
-ghost use Rattle.calls.specs.Calls.{Carries, IsCaused};
-ghost use Rattle.calls.specs.Idle.{is_denial};
+ghost use Rattle.calls.specs.Calls.{Carries, LeavesDevices, LeavesStore};
 ghost use Rattle.calls.specs.Ranges.{TakesNothing};
 
 use disk_model::SectorDisk;
@@ -29,13 +25,9 @@ pub fn spawn<D: SectorDisk, E: SectorDisk, M: Levels>(core: &mut Core<D, E, M>) 
     requires sound { IsSoundCore D.SectorDisk E.SectorDisk core.old }
     ensures sound { IsSoundCore D.SectorDisk E.SectorDisk core.new }
     ensures comes { Carries D.SectorDisk E.SectorDisk core.old core.new Spawn (reply_of result) }
+    ensures keeps { LeavesStore D.SectorDisk E.SectorDisk core.old core.new (reply_of result) }
     ensures takes { SpawnTakes (picture_of core.old) (picture_of core.new) (reply_of result) }
-    ensures store { core.new.store ≡ core.old.store }
-    ensures device { UsesDevice E.SectorDisk core.old.swap.pages.disk core.new.swap.pages.disk }
     ensures asks { AsksIfFull E.SectorDisk core.old core.new None Nothing }
-    ensures denied { is_denial (reply_of result) ≡ true → core.new ≡ core.old }
-    ensures room { KeepsRoom (picture_of core.old) (picture_of core.new) }
-    ensures caused { IsCaused D.SectorDisk E.SectorDisk core.old core.new (reply_of result) }
 {
     let Some(pid) = free_pid(core) else {
         return Answer::Refused(Errno::EAGAIN);
@@ -55,13 +47,9 @@ pub fn fork<D: SectorDisk, E: SectorDisk, M: Levels>(core: &mut Core<D, E, M>, p
     requires sound { IsSoundCore D.SectorDisk E.SectorDisk core.old }
     ensures sound { IsSoundCore D.SectorDisk E.SectorDisk core.new }
     ensures comes { Carries D.SectorDisk E.SectorDisk core.old core.new (Fork pid) (reply_of result) }
+    ensures keeps { LeavesStore D.SectorDisk E.SectorDisk core.old core.new (reply_of result) }
     ensures takes { ForkTakes (picture_of core.old) (picture_of core.new) pid (reply_of result) }
-    ensures store { core.new.store ≡ core.old.store }
-    ensures device { UsesDevice E.SectorDisk core.old.swap.pages.disk core.new.swap.pages.disk }
     ensures asks { AsksSlots E.SectorDisk core.old core.new None Nothing }
-    ensures denied { is_denial (reply_of result) ≡ true → core.new ≡ core.old }
-    ensures room { KeepsRoom (picture_of core.old) (picture_of core.new) }
-    ensures caused { IsCaused D.SectorDisk E.SectorDisk core.old core.new (reply_of result) }
 {
     let Some(parent) = core.live(pid) else {
         return Answer::Refused(Errno::ESRCH);
@@ -84,11 +72,8 @@ pub fn exit<D: SectorDisk, E: SectorDisk, M: Levels>(core: &mut Core<D, E, M>, p
     requires sound { IsSoundCore D.SectorDisk E.SectorDisk core.old }
     ensures sound { IsSoundCore D.SectorDisk E.SectorDisk core.new }
     ensures comes { Carries D.SectorDisk E.SectorDisk core.old core.new (Exit pid) (reply_of result) }
-    ensures devices { KeepsDevices core.old core.new }
+    ensures keeps { LeavesDevices D.SectorDisk E.SectorDisk core.old core.new (reply_of result) }
     ensures takes { TakesNothing (picture_of core.old) (picture_of core.new) pid 0 (user_end M.mode) }
-    ensures denied { is_denial (reply_of result) ≡ true → core.new ≡ core.old }
-    ensures room { KeepsRoom (picture_of core.old) (picture_of core.new) }
-    ensures caused { IsCaused D.SectorDisk E.SectorDisk core.old core.new (reply_of result) }
 {
     let Some(pid) = core.live(pid) else {
         return Answer::Refused(Errno::ESRCH);

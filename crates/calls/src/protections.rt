@@ -6,12 +6,9 @@ ghost use Rattle.vm_types.specs.Checks.{first_of, page_count};
 ghost use Rattle.vm_types.specs.Counting.{any_below};
 ghost use Rattle.vm_types.specs.Ranges.{denies_stores, is_guarded, is_guarded_page};
 ghost use Rattle.vm_types.specs.declared.command.Command.TheVariants.{Mprotect};
-ghost use Rattle.mapping.specs.Changes.{KeepsRoom};
-ghost use Rattle.page_ranges.specs.Steps.{KeepsDevices};
 ghost use Rattle.msync.specs.Shows.{IsSoundCore};
 ghost use Rattle.paging.specs.Picture.{picture_of};
-ghost use Rattle.calls.specs.Calls.{Carries, IsCaused};
-ghost use Rattle.calls.specs.Idle.{is_denial};
+ghost use Rattle.calls.specs.Calls.{Carries, LeavesDevices};
 ghost use Rattle.calls.specs.Ranges.{KeepsEntriesBeside, TakesNothing};
 ghost use Rattle.calls.specs.Protections.{permit_checks, IsPermitted};
 ghost use Rattle.calls.specs.Space.{space_of};
@@ -120,13 +117,10 @@ pub fn mprotect<D: SectorDisk, E: SectorDisk, M: Levels>(
     requires sound { IsSoundCore D.SectorDisk E.SectorDisk core.old }
     ensures sound { IsSoundCore D.SectorDisk E.SectorDisk core.new }
     ensures comes { Carries D.SectorDisk E.SectorDisk core.old core.new (Mprotect pid addr len prot) (reply_of result) }
-    ensures devices { KeepsDevices core.old core.new }
+    ensures keeps { LeavesDevices D.SectorDisk E.SectorDisk core.old core.new (reply_of result) }
     ensures takes { TakesNothing (picture_of core.old) (picture_of core.new) pid 0 0 }
     ensures beside { KeepsEntriesBeside (picture_of core.old) (picture_of core.new) pid (addr / 4096) (page_count len) }
     ensures swap { core.new.swap ≡ core.old.swap }
-    ensures denied { is_denial (reply_of result) ≡ true → core.new ≡ core.old }
-    ensures room { KeepsRoom (picture_of core.old) (picture_of core.new) }
-    ensures caused { IsCaused D.SectorDisk E.SectorDisk core.old core.new (reply_of result) }
 {
     let Some(pid) = core.live(pid) else {
         return Answer::Refused(Errno::ESRCH);

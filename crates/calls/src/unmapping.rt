@@ -1,14 +1,11 @@
 //! munmap.
-ghost use Rattle.std.specs.Prelude.{◌≡◌, ◌/◌, true};
+ghost use Rattle.std.specs.Prelude.{◌/◌};
 ghost use Rattle.vm_types.specs.Checks.{page_count};
 ghost use Rattle.vm_types.specs.Replies.{reply_of};
 ghost use Rattle.vm_types.specs.declared.command.Command.TheVariants.{Munmap};
-ghost use Rattle.mapping.specs.Changes.{KeepsRoom};
-ghost use Rattle.page_ranges.specs.Steps.{KeepsDevices};
 ghost use Rattle.msync.specs.Shows.{IsSoundCore};
 ghost use Rattle.paging.specs.Picture.{picture_of};
-ghost use Rattle.calls.specs.Calls.{Carries, IsCaused};
-ghost use Rattle.calls.specs.Idle.{is_denial};
+ghost use Rattle.calls.specs.Calls.{Carries, LeavesDevices};
 ghost use Rattle.calls.specs.Ranges.{KeepsEntriesBeside, TakesNothing};
 
 use crate::region_room::RegionRoom;
@@ -34,12 +31,9 @@ pub fn munmap<D: SectorDisk, E: SectorDisk, M: Levels>(
     requires sound { IsSoundCore D.SectorDisk E.SectorDisk core.old }
     ensures sound { IsSoundCore D.SectorDisk E.SectorDisk core.new }
     ensures comes { Carries D.SectorDisk E.SectorDisk core.old core.new (Munmap pid addr len) (reply_of result) }
-    ensures devices { KeepsDevices core.old core.new }
+    ensures keeps { LeavesDevices D.SectorDisk E.SectorDisk core.old core.new (reply_of result) }
     ensures takes { TakesNothing (picture_of core.old) (picture_of core.new) pid (addr / 4096) (page_count len) }
     ensures beside { KeepsEntriesBeside (picture_of core.old) (picture_of core.new) pid (addr / 4096) (page_count len) }
-    ensures denied { is_denial (reply_of result) ≡ true → core.new ≡ core.old }
-    ensures room { KeepsRoom (picture_of core.old) (picture_of core.new) }
-    ensures caused { IsCaused D.SectorDisk E.SectorDisk core.old core.new (reply_of result) }
 {
     let Some(pid) = core.live(pid) else {
         return Answer::Refused(Errno::ESRCH);

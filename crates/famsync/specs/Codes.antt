@@ -1,5 +1,7 @@
 -- What an export returns.
-use Rattle.std.specs.Prelude.{ℕ}
+use Rattle.std.specs.Prelude.{ℕ, ◌≡◌, ◌≢◌, ◌≤◌}
+use Rattle.sync_plans.specs.declared.requests.Refusal.{Refusal}
+use Rattle.sync_plans.specs.declared.requests.Refusal.TheVariants.{Device, BadLayout, BadJournal, BadPages, ReadOnly}
 
 abbrev pub done : ℕ
 done = 0
@@ -31,3 +33,16 @@ ready = 1
 
 abbrev pub pending : ℕ
 pending = 2
+
+-- A result tells a refusal:
+pub record TellsRefusal (refusal : Refusal) (result : ℕ) : Type 0 where
+  -- it is one of those of a request in turn that was not done,
+  pub answers : result ≤ 6
+  pub done : result ≢ done
+  pub turn : result ≢ out_of_turn
+  -- and each of them comes for its refusal alone.
+  pub layout : result ≡ bad_layout → refusal ≡ BadLayout
+  pub journal : result ≡ bad_journal → refusal ≡ BadJournal
+  pub pages : result ≡ bad_pages → refusal ≡ BadPages
+  pub read_only : result ≡ read_only → refusal ≡ ReadOnly
+  pub room : result ≡ no_room → refusal ≡ Device

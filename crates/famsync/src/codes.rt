@@ -1,6 +1,5 @@
 //! What an export returns, and the states of a handle. C takes no enum from a library, so these are numbers.
-ghost use Rattle.std.specs.Prelude.{◌≡◌, ◌≢◌, ◌≤◌};
-ghost use Rattle.famsync.specs.Codes.{done, out_of_turn, bad_layout, bad_journal, bad_pages, read_only, no_room};
+ghost use Rattle.famsync.specs.Codes.{TellsRefusal};
 
 use sync_plans::Refusal;
 
@@ -37,14 +36,7 @@ pub(crate) const PENDING: u32 = 2;
 
 /// The number of a refusal. A device that lists calls fails where it has no room.
 pub(crate) fn number(refusal: Refusal) -> u32
-    ensures done { result ≢ done }
-    ensures turn { result ≢ out_of_turn }
-    ensures layout { result ≡ bad_layout → refusal ≡ Refusal.BadLayout }
-    ensures journal { result ≡ bad_journal → refusal ≡ Refusal.BadJournal }
-    ensures pages { result ≡ bad_pages → refusal ≡ Refusal.BadPages }
-    ensures read_only { result ≡ read_only → refusal ≡ Refusal.ReadOnly }
-    ensures room { result ≡ no_room → refusal ≡ Refusal.Device }
-    ensures answers { result ≤ 6 }
+    ensures { TellsRefusal refusal result }
 {
     match refusal {
         Refusal::Device => NO_ROOM,

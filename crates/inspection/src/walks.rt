@@ -2,7 +2,7 @@
 ghost use Rattle.std.specs.Prelude.{ℕ, ◌≡◌, ◌≤◌, ◌<◌, ◌+◌, true, false, IfSome, IfNone};
 ghost use Rattle.vm_types.specs.Limits.{top_level, table_entries};
 ghost use Rattle.frames.specs.FrameTable.{IsFrame};
-ghost use Rattle.sv39_walk.specs.Entry.{entry_at, frame_of, is_pointer};
+ghost use Rattle.sv39_walk.specs.Entry.{entry_at, is_pointer};
 ghost use Rattle.page_tables.specs.Tree.{IsTable};
 ghost use Rattle.paging.specs.Picture.{picture_of, is_live};
 ghost use Rattle.paging.specs.Parts.{IsFit};
@@ -54,22 +54,11 @@ pub(crate) fn next_step<D, E, M: Levels>(
     ensures none { IfNone result (0 < step.level → is_pointer step.entry.0 ≡ false) }
 {
     if step.level > 0 && step.entry.is_pointer() {
-        let table = table_below(core, pid, page, step);
+        let table = step.entry.frame_number();
         Some(step_in(&core.frames, table, page, step.level - 1))
     } else {
         None
     }
-}
-
-// The table that a step's entry points to.
-fn table_below<D, E, M: Levels>(core: &Core<D, E, M>, pid: Pid, page: u64, step: Step) -> FrameNo
-    requires fit { IsFit (picture_of core.now) }
-    requires step { IsStep (picture_of core.now) pid page step }
-    requires pointer { is_pointer step.entry.0 ≡ true }
-    ensures table { IsTable core.now.frames result.0 }
-    ensures number { result.0 ≡ frame_of step.entry.0 }
-{
-    step.entry.frame_number()
 }
 
 // What a table of that level says on the way to a page.

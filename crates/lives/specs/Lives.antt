@@ -11,6 +11,8 @@ use Rattle.vm_types.specs.Files.{Files}
 use Rattle.vm_types.specs.Prefix.{Event, IsPrefixHolding}
 use Rattle.vm_types.specs.State.{State}
 use Rattle.vm_types.specs.View.{Pages}
+use Rattle.mode_machine.specs.declared.boot.BootFault.{BootFault}
+use Rattle.mode_machine.specs.declared.boot.BootFault.TheVariants.{BadLayout, BadJournal}
 use Rattle.machine.specs.Boot.{Boots}
 use Rattle.machine.specs.Chain.{Runs, after}
 use Rattle.machine.specs.Machine.{store_of}
@@ -110,3 +112,11 @@ module _ {D E : Type 0} (g : Ghosts D) (h : Ghosts E) where
   abbrev pub FailedSince : D → D → Type 0
   FailedSince store new = (image : Image) → g.left_since new (g.moment store) image
       → Lives (g.sector_count store) (g.content store) (record { events = []; answered = 0 }) image
+
+  -- No machine starts on this store, for this fault:
+  pub record FailsToStart (store : D) (fault : BootFault) (new : D) : Type 0 where
+    -- a stop meanwhile ends a life of no command, where nothing was unsynced;
+    pub failed : g.keeps_model new → ((k : ℕ) → g.unsynced store k → ⊥) → FailedSince store new
+    -- and on what lives left of a store, or one that has had none, the fault is neither `BadLayout` nor `BadJournal`.
+    pub good_layout : g.keeps_model new → (files : Files) (before : Pages) (lives : List Life) → HoldsLives files before lives store → fault ≡ BadLayout → ⊥
+    pub good_journal : g.keeps_model new → (files : Files) (before : Pages) (lives : List Life) → HoldsLives files before lives store → fault ≡ BadJournal → ⊥

@@ -1,10 +1,8 @@
 //! One life of a store.
-ghost use Rattle.std.specs.Prelude.{◌≡◌, ℕ, List, IfOk, IfErr, length};
+ghost use Rattle.std.specs.Prelude.{◌≡◌, IfOk, IfErr, length};
 ghost use Rattle.machine.specs.Boot.{BootRefuses, HasRoom};
 ghost use Rattle.machine.specs.Machine.{IsSoundMachine, store_of, swap_of};
-ghost use Rattle.vm_types.specs.Files.{Files};
-ghost use Rattle.vm_types.specs.View.{Pages};
-ghost use Rattle.lives.specs.Lives.{Life, HoldsLives, RanSince, FailedSince};
+ghost use Rattle.lives.specs.Lives.{FailsToStart, RanSince};
 
 use disk_model::SectorDisk;
 use machine::{BootFault, Config, Machine};
@@ -29,11 +27,7 @@ pub fn live<D: SectorDisk, E: SectorDisk + Drop>(
     ensures lived { IfOk result (λ m. D.keeps_model (store_of m) → E.keeps_model (swap_of m)
         → RanSince D.SectorDisk E.SectorDisk store m commands.now replies.new) }
     ensures refuses { IfErr result (λ e. BootRefuses D.SectorDisk config (E.sector_count swap) store e.0 e.1) }
-    ensures failed { IfErr result (λ e. D.keeps_model e.1 → ((k : ℕ) → D.unsynced store k → ⊥) → FailedSince D.SectorDisk E.SectorDisk store e.1) }
-    ensures good_layout { IfErr result (λ e. D.keeps_model e.1 → (files : Files) (before : Pages) (lives : List Life)
-        → HoldsLives D.SectorDisk E.SectorDisk files before lives store → e.0 ≡ BootFault.BadLayout → ⊥) }
-    ensures good_journal { IfErr result (λ e. D.keeps_model e.1 → (files : Files) (before : Pages) (lives : List Life)
-        → HoldsLives D.SectorDisk E.SectorDisk files before lives store → e.0 ≡ BootFault.BadJournal → ⊥) }
+    ensures fails { IfErr result (λ e. FailsToStart D.SectorDisk E.SectorDisk store e.0 e.1) }
 {
     let mut machine = match Machine::boot(alloc, config, store, swap) {
         Ok(machine) => machine,

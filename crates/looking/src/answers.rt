@@ -1,7 +1,6 @@
 //! Answers to questions.
 ghost use Rattle.machine.specs.Machine.{IsSoundMachine};
 
-use crate::counts::Counts;
 use crate::holdings::{tell_frames, tell_slots, tell_usage};
 use crate::maps::tell_maps;
 use crate::questions::Question;
@@ -10,6 +9,7 @@ use disk_model::SectorDisk;
 use machine::Machine;
 use std::io::{self, Write};
 use vm_types::Pid;
+use watching::Counts;
 
 /// Answers a question. A machine that has halted has its counts alone left.
 pub(crate) fn answer_question<W: Write, D: SectorDisk, E: SectorDisk>(

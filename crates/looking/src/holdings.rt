@@ -1,14 +1,12 @@
 //! Answers about frames and slots.
 ghost use Rattle.machine.specs.Machine.{IsSoundMachine};
 
-use crate::ledger::slot_in;
-use crate::texts::{HoldingText, PageText, StateText, TableText};
-use crate::ways::top_level;
 use disk_model::SectorDisk;
 use inspection::{Holding, SlotHolding};
 use machine::Machine;
 use std::io::{self, Write};
 use vm_types::{FrameNo, PROCESSES, Pid, SlotNo};
+use watching::{HoldingText, PageText, StateText, TableText, slot_in, top_level};
 
 /// `?frames`: a line for each frame from `first` to `last` that is not free, and how many of them are. The clock's hand stands at `>`.
 pub(crate) fn tell_frames<W: Write, D: SectorDisk, E: SectorDisk>(

@@ -2,17 +2,11 @@
 #![tactic(auto)]
 
 mod answers;
-mod counts;
-mod events;
 mod holdings;
-mod ledger;
 mod maps;
 mod program;
 mod questions;
-mod session;
 mod tables;
-mod targets;
-mod texts;
-mod ways;
+mod viewer;
 
 pub use program::pagelook;

@@ -1,8 +1,6 @@
 //! Answers about the pages of a process.
 ghost use Rattle.machine.specs.Machine.{IsSoundMachine};
 
-use crate::ledger::frame_in;
-use crate::texts::{BackingText, ProtText, bytes_before};
 use disk_model::SectorDisk;
 use inspection::{FrameView, Run};
 use machine::Machine;
@@ -10,6 +8,7 @@ use std::fmt::{self, Display, Formatter};
 use std::io::{self, Write};
 use sv39_walk::Pte;
 use vm_types::{FrameNo, Pid};
+use watching::{BackingText, ProtText, bytes_before, frame_in};
 
 /// The pages of a run, counted by their entries (proc_pid_smaps(5)).
 #[derive(Clone, Copy, Default)]

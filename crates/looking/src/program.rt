@@ -1,7 +1,7 @@
 //! The program that runs traces and shows what lies inside.
 ghost use Rattle.std.specs.Prelude.{◌≤◌, IfOk};
 
-use crate::session::Session;
+use crate::viewer::Viewer;
 use disk_model::{FileContents, Unknown};
 use programs::{ProgramFault, boot_image, held_places, report, run_words, status_of};
 use std::fs::{File, Files};
@@ -42,11 +42,11 @@ fn look_image<
     let words = run_words(rt.alloc(), words)?;
     let _places = held_places(rt)?;
     let mut machine = boot_image::<C, K, R>(rt, &words)?;
-    let mut session = Session::new(rt.alloc(), &machine)?;
+    let mut viewer = Viewer::new(rt.alloc(), &machine)?;
     let mut out = match BufWriter::with_capacity(rt.alloc(), WRITE_BYTES, writer) {
         Ok(out) => out,
         Err(_) => return Err(ProgramFault::OutOfMemory),
     };
-    let end = session.take_all(reader, &mut machine, &mut out);
+    let end = viewer.take_all(reader, &mut machine, &mut out);
     status_of(end, &machine)
 }

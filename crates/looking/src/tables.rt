@@ -2,14 +2,13 @@
 ghost use Rattle.std.specs.Prelude.{◌≤◌};
 ghost use Rattle.machine.specs.Machine.{IsSoundMachine};
 
-use crate::texts::{BitsText, EntryText, bytes_before};
-use crate::ways::{Way, pages_of_entry, top_level, user_end};
 use disk_model::SectorDisk;
 use inspection::{Line, Step};
 use machine::Machine;
 use std::io::{self, Write};
 use sv39_walk::Pte;
 use vm_types::{FrameNo, PAGE_BYTES, PROCESSES, Pid};
+use watching::{BitsText, EntryText, Way, bytes_before, pages_of_entry, top_level, user_end};
 
 /// The bytes of an entry.
 const ENTRY_BYTES: usize = 8;

@@ -9,7 +9,7 @@ use Rattle.mode_machine.specs.Boot as OfMode
 use Rattle.mode_machine.specs.Boot.{IsBootState}
 use Rattle.machine.specs.declared.config.Config.{Config}
 use Rattle.machine.specs.declared.machine.Machine.{Machine}
-use Rattle.machine.specs.Machine.{Shows, IsEmpty, store_of, frames_of, slots_of, refused_of, mode_of, bits_of}
+use Rattle.machine.specs.Machine.{Shows, IsEmpty, store_of, swap_of, frames_of, slots_of, refused_of, mode_of, bits_of}
 
 -- the sizes that are asked for
 abbrev pub sizes_of : Config → Sizes
@@ -28,6 +28,13 @@ pub record HasRoom {D E : Type 0} (m : Machine D E) (config : Config) : Type 0 w
   pub frames : frames_of m ≡ config.frames
   pub slots : slots_of m ≡ config.slots
   pub mode : mode_of m ≡ config.mode
+
+-- The machine starts with
+pub record StartsWith {D E : Type 0} (m : Machine D E) (config : Config) (swap_device : E) : Type 0 where
+  -- the room and the mode that were asked for,
+  pub room : HasRoom m config
+  -- and the swap device as it came.
+  pub swap : swap_of m ≡ swap_device
 
 module _ {D E : Type 0} (g : Ghosts D) (h : Ghosts E) where
   -- The machine starts in a state of its mode, whose files are those that the image at entry stood for, with nothing in memory.

@@ -1,4 +1,5 @@
 pub mod Boot
 pub mod Chain
+pub mod Commands
 pub mod Counts
 pub mod Machine

@@ -3,10 +3,10 @@ ghost use Rattle.std.specs.Prelude.{◌≡◌, IfOk, IfErr, length, is_some};
 ghost use Rattle.vm_types.specs.Replies.{told};
 ghost use Rattle.vm_types.specs.State.{State, IsRunning};
 ghost use Rattle.mode_machine.specs.Tidy.{IsTidy};
-ghost use Rattle.machine.specs.Boot.{BootAccepts, BootLeaves, BootRefuses, Boots, HasRoom};
-ghost use Rattle.machine.specs.Chain.{Caused, Runs};
-ghost use Rattle.machine.specs.Counts.{Counts};
-ghost use Rattle.machine.specs.Machine.{store_of, swap_of, halted_of, past_of, Accesses, KeepsIfDenied, KeepsRoom, IsCaused, IsSoundMachine, IsReadable, Shows, Meets};
+ghost use Rattle.machine.specs.Boot.{BootAccepts, BootLeaves, BootRefuses, Boots, StartsWith};
+ghost use Rattle.machine.specs.Chain.{Runs};
+ghost use Rattle.machine.specs.Commands.{DoesAsTold, DoesEachAsTold, KeepsModelsAndRoom};
+ghost use Rattle.machine.specs.Machine.{store_of, swap_of, halted_of, past_of, IsSoundMachine, IsReadable, Shows, Meets};
 
 use crate::config::Config;
 use disk_model::SectorDisk;
@@ -65,12 +65,8 @@ impl<D: SectorDisk, E: SectorDisk> Machine<D, E> {
     pub fn carry_out(&mut self, command: Command) -> Option<Answer>
         requires sound { IsSoundMachine D.SectorDisk E.SectorDisk self.old }
         ensures sound { IsSoundMachine D.SectorDisk E.SectorDisk self.new }
-        ensures kept { D.keeps_model (store_of self.new) → D.keeps_model (store_of self.old) }
-        ensures swap_kept { E.keeps_model (swap_of self.new) → E.keeps_model (swap_of self.old) }
-        ensures room { KeepsRoom self.old self.new }
-        ensures caused { IsCaused D.SectorDisk E.SectorDisk self.old self.new (told (past_of self.new) result) }
-        ensures accesses { Accesses D.SectorDisk E.SectorDisk self.old self.new command (told (past_of self.new) result) }
-        ensures denied { KeepsIfDenied self.old self.new command (told (past_of self.new) result) }
+        ensures keeps { KeepsModelsAndRoom D.SectorDisk E.SectorDisk self.old self.new }
+        ensures does { DoesAsTold D.SectorDisk E.SectorDisk self.old self.new command (told (past_of self.new) result) }
         ensures meets { (s : State) → Shows D.SectorDisk E.SectorDisk self.old s → IsReadable D.SectorDisk E.SectorDisk self.new s command
             → (t : State) × Meets D.SectorDisk E.SectorDisk self.old self.new s t command (told (past_of self.new) result) }
     {
@@ -108,12 +104,8 @@ impl<D: SectorDisk, E: SectorDisk> Machine<D, E> {
     pub fn step(&mut self, command: Command) -> Reply
         requires sound { IsSoundMachine D.SectorDisk E.SectorDisk self.old }
         ensures sound { IsSoundMachine D.SectorDisk E.SectorDisk self.new }
-        ensures kept { D.keeps_model (store_of self.new) → D.keeps_model (store_of self.old) }
-        ensures swap_kept { E.keeps_model (swap_of self.new) → E.keeps_model (swap_of self.old) }
-        ensures room { KeepsRoom self.old self.new }
-        ensures caused { IsCaused D.SectorDisk E.SectorDisk self.old self.new result }
-        ensures accesses { Accesses D.SectorDisk E.SectorDisk self.old self.new command result }
-        ensures denied { KeepsIfDenied self.old self.new command result }
+        ensures keeps { KeepsModelsAndRoom D.SectorDisk E.SectorDisk self.old self.new }
+        ensures does { DoesAsTold D.SectorDisk E.SectorDisk self.old self.new command result }
         ensures meets { (s : State) → Shows D.SectorDisk E.SectorDisk self.old s → IsReadable D.SectorDisk E.SectorDisk self.new s command
             → (t : State) × Meets D.SectorDisk E.SectorDisk self.old self.new s t command result }
         // No bytes are kept of shared anonymous memory that no process has.
@@ -132,11 +124,8 @@ impl<D: SectorDisk, E: SectorDisk> Machine<D, E> {
         requires sound { IsSoundMachine D.SectorDisk E.SectorDisk self.old }
         requires lengths { length replies.old ≡ length commands.now }
         ensures sound { IsSoundMachine D.SectorDisk E.SectorDisk self.new }
-        ensures kept { D.keeps_model (store_of self.new) → D.keeps_model (store_of self.old) }
-        ensures swap_kept { E.keeps_model (swap_of self.new) → E.keeps_model (swap_of self.old) }
-        ensures room { KeepsRoom self.old self.new }
-        ensures caused { Caused D.SectorDisk E.SectorDisk self.old replies.new self.new }
-        ensures counts { Counts D.SectorDisk E.SectorDisk self.old self.new replies.new }
+        ensures keeps { KeepsModelsAndRoom D.SectorDisk E.SectorDisk self.old self.new }
+        ensures does { DoesEachAsTold D.SectorDisk E.SectorDisk self.old self.new replies.new }
         ensures run { (s : State) → Shows D.SectorDisk E.SectorDisk self.old s → D.keeps_model (store_of self.new) → E.keeps_model (swap_of self.new)
             → Runs D.SectorDisk E.SectorDisk self.old self.new commands.now replies.new s }
     {
@@ -161,9 +150,7 @@ impl<D: SectorDisk, E: SectorDisk + Drop> Machine<D, E> {
     ) -> Result<Machine<D, E>, (BootFault, D)>
         ensures sound { IfOk result (λ m. IsSoundMachine D.SectorDisk E.SectorDisk m) }
         ensures boots { IfOk result (λ m. Boots D.SectorDisk E.SectorDisk store m) }
-        ensures room { IfOk result (λ m. HasRoom m config) }
-        // The swap device is as it came.
-        ensures swap { IfOk result (λ m. swap_of m ≡ swap) }
+        ensures starts { IfOk result (λ m. StartsWith m config swap) }
         ensures accepts { IfOk result (λ m. BootAccepts D.SectorDisk config (E.sector_count swap) store (store_of m)) }
         ensures moments { IfOk result (λ m. BootLeaves D.SectorDisk store (store_of m)) }
         ensures refuses { IfErr result (λ e. BootRefuses D.SectorDisk config (E.sector_count swap) store e.0 e.1) }

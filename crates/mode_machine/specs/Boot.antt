@@ -24,11 +24,15 @@ HasBadFrames sizes = (sizes.frames < 8) ⊎ (2 ^ 16 < sizes.frames)
 abbrev pub HasBadSlots : Sizes → ℕ → Type 0
 HasBadSlots sizes sectors = (2 ^ 16 < sizes.slots) ⊎ (sectors < 8 * sizes.slots)
 
--- as many frames and as much room for slots as were asked for
 module _ {M : Type 0} {levels : Levels.Ghosts M} where
-  pub record HasRoom {D E : Type 0} (m : ModeMachine D E M levels) (sizes : Sizes) : Type 0 where
+  -- The machine starts with
+  pub record StartsWith {D E : Type 0} (m : ModeMachine D E M levels) (sizes : Sizes) (swap_device : E) : Type 0 where
+    -- as many frames as were asked for,
     pub frames : frame_count m.core.frames ≡ sizes.frames
+    -- room for as many slots,
     pub slots : (slots_of m.core.swap).total ≡ sizes.slots
+    -- and the swap device as it came.
+    pub swap : m.core.swap.pages.disk ≡ swap_device
 
 -- The flat model as it starts: no process, files of which nothing was stored to, and no objects.
 pub record IsBootState (s : State) : Type 0 where

@@ -1,7 +1,7 @@
 //! Starting a machine.
 ghost use Rattle.std.specs.Prelude.{◌≡◌, IfOk, IfErr};
 ghost use Rattle.mode_machine.specs.Machine.{IsSoundMachine};
-ghost use Rattle.mode_machine.specs.Boot.{BootAccepts, BootLeaves, BootRefuses, Boots, HasRoom};
+ghost use Rattle.mode_machine.specs.Boot.{BootAccepts, BootLeaves, BootRefuses, Boots, StartsWith};
 ghost use Rattle.mode_machine.specs.Fault.{fault_number, boot_fault};
 
 use crate::fault_log::FaultLog;
@@ -93,9 +93,7 @@ impl<D: SectorDisk, E: SectorDisk + Drop, M: Levels> ModeMachine<D, E, M> {
     ) -> Result<ModeMachine<D, E, M>, (BootFault, D)>
         ensures sound { IfOk result (λ m. IsSoundMachine D.SectorDisk E.SectorDisk m) }
         ensures boots { IfOk result (λ m. Boots D.SectorDisk E.SectorDisk store m) }
-        ensures room { IfOk result (λ m. HasRoom m sizes) }
-        // The swap device is as it came.
-        ensures swap { IfOk result (λ m. m.core.swap.pages.disk ≡ swap) }
+        ensures starts { IfOk result (λ m. StartsWith m sizes swap) }
         ensures accepts { IfOk result (λ m. BootAccepts D.SectorDisk sizes (E.sector_count swap) store m.core.store.disk) }
         ensures moments { IfOk result (λ m. BootLeaves D.SectorDisk store m.core.store.disk) }
         ensures refuses { IfErr result (λ e. BootRefuses D.SectorDisk sizes (E.sector_count swap) store e.0 e.1) }

@@ -1,14 +1,13 @@
 //! The machine of one mode: commands in, replies out, over a store that survives stops.
 ghost use Rattle.std.specs.Prelude.{◌≡◌, ◌≤◌, ◌<◌, ◌↔◌, is_some, true, IfSome, IsNone};
 ghost use Rattle.vm_types.specs.State.{State, IsRunning};
-ghost use Rattle.mode_machine.specs.Machine.{IsCaused, IsSoundMachine, IsReadable, KeepsIfDenied, Shows, Meets};
-ghost use Rattle.mapping.specs.Changes.{KeepsRoom};
+ghost use Rattle.mode_machine.specs.Machine.{IsSoundMachine, IsReadable, Shows, Meets};
 ghost use Rattle.paging.specs.Parts.{IsFit};
 ghost use Rattle.paging.specs.Picture.{picture_of, is_live};
 ghost use Rattle.vm_types.specs.Replies.{reply_of, told};
 ghost use Rattle.vm_types.specs.Step.{noted_fault};
 ghost use Rattle.vm_types.specs.declared.refusal.Fault.{Fault};
-ghost use Rattle.mode_machine.specs.Accesses.{Accesses};
+ghost use Rattle.mode_machine.specs.Commands.{DoesAsTold, KeepsModelsAndRoom};
 ghost use Rattle.mode_machine.specs.Tidy.{IsTidy};
 
 use crate::fault_log::FaultLog;
@@ -74,12 +73,8 @@ impl<D: SectorDisk, E: SectorDisk, M: Levels> ModeMachine<D, E, M> {
     pub fn carry_out(&mut self, command: Command) -> Option<Answer>
         requires sound { IsSoundMachine D.SectorDisk E.SectorDisk self.old }
         ensures sound { IsSoundMachine D.SectorDisk E.SectorDisk self.new }
-        ensures kept { D.keeps_model self.new.core.store.disk → D.keeps_model self.old.core.store.disk }
-        ensures swap_kept { E.keeps_model self.new.core.swap.pages.disk → E.keeps_model self.old.core.swap.pages.disk }
-        ensures room { KeepsRoom (picture_of self.old.core) (picture_of self.new.core) }
-        ensures caused { IsCaused D.SectorDisk E.SectorDisk self.old self.new (told self.new.past result) }
-        ensures accesses { Accesses D.SectorDisk E.SectorDisk self.old.core self.new.core command (told self.new.past result) }
-        ensures denied { KeepsIfDenied self.old self.new command (told self.new.past result) }
+        ensures keeps { KeepsModelsAndRoom D.SectorDisk E.SectorDisk self.old self.new }
+        ensures does { DoesAsTold D.SectorDisk E.SectorDisk self.old self.new command (told self.new.past result) }
         ensures meets { (s : State) → Shows D.SectorDisk E.SectorDisk self.old s → IsReadable D.SectorDisk E.SectorDisk self.new s command
             → (t : State) × Meets D.SectorDisk E.SectorDisk self.old self.new s t command (told self.new.past result) }
     {
@@ -152,12 +147,8 @@ impl<D: SectorDisk, E: SectorDisk, M: Levels> ModeMachine<D, E, M> {
     pub fn step(&mut self, command: Command) -> Reply
         requires sound { IsSoundMachine D.SectorDisk E.SectorDisk self.old }
         ensures sound { IsSoundMachine D.SectorDisk E.SectorDisk self.new }
-        ensures kept { D.keeps_model self.new.core.store.disk → D.keeps_model self.old.core.store.disk }
-        ensures swap_kept { E.keeps_model self.new.core.swap.pages.disk → E.keeps_model self.old.core.swap.pages.disk }
-        ensures room { KeepsRoom (picture_of self.old.core) (picture_of self.new.core) }
-        ensures caused { IsCaused D.SectorDisk E.SectorDisk self.old self.new result }
-        ensures accesses { Accesses D.SectorDisk E.SectorDisk self.old.core self.new.core command result }
-        ensures denied { KeepsIfDenied self.old self.new command result }
+        ensures keeps { KeepsModelsAndRoom D.SectorDisk E.SectorDisk self.old self.new }
+        ensures does { DoesAsTold D.SectorDisk E.SectorDisk self.old self.new command result }
         ensures meets { (s : State) → Shows D.SectorDisk E.SectorDisk self.old s → IsReadable D.SectorDisk E.SectorDisk self.new s command
             → (t : State) × Meets D.SectorDisk E.SectorDisk self.old self.new s t command result }
         // No bytes are kept of shared anonymous memory that no process has.

@@ -3,15 +3,15 @@ use Rattle.std.proofs.Common.{◌≡◌, ℕ, ◌<◌, ◌+◌, ◌*◌, List, [
 use Rattle.std.proofs.lemmas.Option.{same_Some}
 use Rattle.std.specs.Option.{option_map}
 use Rattle.disk_model.specs.Stop.{Image}
-use Rattle.disk_model.specs.Moments.{Touches, Nothing, AsksOnly}
-use Rattle.disk_model.proofs.Moments.{asks_then, asks_wider}
+use Rattle.disk_model.specs.Moments.{Touches, Nothing, AsksOnly, LeavesNow, LeavesOnly}
+use Rattle.disk_model.proofs.Moments.{asks_then, asks_wider, then}
 use Rattle.disk_model.specs.declared.sector_disk.SectorDisk.{Ghosts}
 use Rattle.vm_types.specs.declared.file.FileInfo.{FileInfo}
 use Rattle.sync_journal.specs.Layout.{IsPageSector}
 use Rattle.sync_journal.specs.Map.{place_among, place_of}
 use Rattle.sync_journal.specs.Standing.{place_or_home}
 use Rattle.sync_journal.specs.Turns.{turn_stands}
-use Rattle.sync_journal.specs.Kinds.{is_kind, kind_when, kind_of, kind_home, journal_kind, journal_stands, store_live, IsOutsideOf, IsStoreRecovered}
+use Rattle.sync_journal.specs.Kinds.{is_kind, kind_when, kind_of, kind_home, journal_kind, journal_stands, store_live, IsStoreRecovered}
 use Rattle.sync_journal.specs.declared.store_journal.Journals.{Journals}
 use Rattle.sync_journal.specs.declared.store_journal.StoreJournal.{StoreJournal}
 use Rattle.sync_journal.specs.declared.store_journal.StoreJournal.TheVariants.{One, InTurn}
@@ -20,10 +20,10 @@ use Rattle.file_store.proofs.Outside.{left_outside}
 use Rattle.file_store.specs.declared.directory.Directory.{Directory}
 use Rattle.file_store.specs.declared.directory.Entry.{Entry}
 use Rattle.file_store.specs.declared.store.FileStore.{FileStore}
-use Rattle.file_store.specs.Standing.{IsAskedToOpen, IsPageOf, directory_entry}
+use Rattle.file_store.specs.Standing.{IsAskedToOpen, IsPageOf, StandsAs, directory_entry}
 use Rattle.file_store.specs.Store.{IsReadyStore, IsSectorOf, entry_of, files_of, home_in, home_of}
-use Rattle.programs.proofs.Copies.{has_entry, same_content}
-use Rattle.programs.specs.Showing.{IsAskedToShow, IsInHomesOf, IsSectorOfFile, KeepsToFile}
+use Rattle.programs.proofs.Copies.{has_entry, same_content, still_stands}
+use Rattle.programs.specs.Showing.{IsAskedToShow, IsInHomesOf, IsSectorOfFile, KeepsImage, KeepsToFile, OnlyReads}
 
 -- where nothing stands in a journal alone, a page stands in its home
 at_home : (journal : StoreJournal) (h k : ℕ) → store_live journal ≡ [] → IsPageSector (journal_stands journal h) k → IsPageSector (kind_home (journal_kind journal) h) k
@@ -69,6 +69,19 @@ module _ {D : Type 0} (g : Ghosts D) where
             (subst (λ (j : Journals). IsPageSector (kind_home j (home_of store.directory (record { file = f; page = page }))) k) (sym kind) (at_home store.journal _ k none sector.2)),
       )
 
+  -- a page of a file is read after those before
+  pub reads_more : (first mid new : FileStore D) (f page : ℕ) → IsPageOf (files_of first) f page
+      → OnlyReads g (IsSectorOfFile first f) first mid → OnlyReads g (IsSectorOf mid (record { file = f; page = page })) mid new → OnlyReads g (IsSectorOfFile first f) first new
+  reads_more first mid new f page inside before read = record {
+    files = read.files ∙ before.files;
+    journal = read.journal ∙ before.journal;
+    ready = read.ready;
+    size = read.size ∙ before.size;
+    kept = λ keeps. before.kept (read.kept keeps);
+    touches = λ keeps. then g Nothing first.disk mid.disk new.disk (before.touches (read.kept keeps)) (read.touches keeps);
+    asks = asks_page first mid new.disk f page before.files before.journal inside before.asks read.asks;
+  }
+
   -- a store that was opened, and of which a file was shown then
   pub keeps_to : (old : D) (store : FileStore D) (new : D) (f : ℕ) → store_live store.journal ≡ [] → IsReadyStore g store
       → (g.keeps_model new → g.keeps_model store.disk) → (g.keeps_model store.disk → Touches g (IsStoreRecovered (g.content old) (g.sector_count old)) old store.disk)
@@ -97,3 +110,23 @@ module _ {D : Type 0} (g : Ghosts D) where
     asks = λ keeps. asks_wider g (IsAskedToOpen (g.content old)) (IsAskedToShow (g.content old) f) old new (λ k a. inl a) (asked keeps);
     outside = λ keeps. left_outside g (g.sector_count old) (g.content old) old new (opened keeps);
   }
+
+  -- whatever comes of showing a file of a store that was just opened
+  pub keeps_image : (old : D) (store new : FileStore D) (f : ℕ) → store_live store.journal ≡ [] → IsReadyStore g store → (g.keeps_model store.disk → g.keeps_model old)
+      → (g.keeps_model store.disk → Touches g (IsStoreRecovered (g.content old) (g.sector_count old)) old store.disk) → (g.keeps_model store.disk → AsksOnly g (IsAskedToOpen (g.content old)) old store.disk)
+      → (g.keeps_model store.disk → LeavesNow g store.disk (StandsAs (g.sector_count old) (g.content old)))
+      → (g.keeps_model store.disk → ((k : ℕ) → g.unsynced old k → ⊥) → (first : Image) → StandsAs (g.sector_count old) first (g.content old)
+      → LeavesOnly g old store.disk (StandsAs (g.sector_count old) first))
+      → OnlyReads g (IsSectorOfFile store f) store new → KeepsImage g f old new.disk
+  keeps_image old store new f none ready kept opened asked now in_a_row shown = record {
+    kept = λ keeps. kept (shown.kept keeps);
+    any_moment = λ keeps synced. leaves keeps synced (g.content old) (λ files pages was. was);
+    in_a_row = leaves;
+    asks = keeps_to old store new.disk f none ready shown.kept opened shown.touches asked shown.asks;
+  }
+    where
+      leaves : g.keeps_model new.disk → ((k : ℕ) → g.unsynced old k → ⊥) → (first : Image) → StandsAs (g.sector_count old) first (g.content old)
+          → LeavesOnly g old new.disk (StandsAs (g.sector_count old) first)
+      leaves keeps synced first stood =
+          let before = shown.kept keeps in
+          still_stands g old store.disk new.disk _ (in_a_row before synced first stood) (λ image may files pages was. now before image may files pages (stood files pages was)) (shown.touches keeps)

@@ -1,15 +1,23 @@
--- What is asked of a device where a file is shown.
-use Rattle.std.specs.Prelude.{◌≡◌, ◌⊎◌, ℕ, Some}
+-- What a file that is shown is read from, and what becomes of its device and of the writer.
+use Rattle.std.specs.Prelude.{◌≡◌, ◌⊎◌, ◌<◌, ℕ, List, Option, Some, None, Result, OnOk, OnErr, IsErrOf}
+use Rattle.std.specs.Io.KnownBytes.{Appends}
 use Rattle.disk_model.specs.Stop.{Image}
-use Rattle.disk_model.specs.Moments.{AsksOnly}
+use Rattle.disk_model.specs.Moments.{AsksOnly, LeavesOnly, Nothing, Touches}
 use Rattle.disk_model.specs.declared.sector_disk.SectorDisk.{Ghosts}
+use Rattle.vm_types.specs.declared.file.FileInfo.{FileInfo}
 use Rattle.sync_journal.specs.Layout.{IsPageSector}
 use Rattle.sync_journal.specs.Kinds.{kind_of, kind_home, IsOutsideOf}
 use Rattle.file_store.specs.declared.directory.Entry.{Entry}
+use Rattle.file_store.specs.declared.faults.OpenFault.{OpenFault}
+use Rattle.file_store.specs.declared.faults.OpenFault.TheVariants.{Device, BadLayout, BadJournal}
 use Rattle.file_store.specs.declared.store.FileStore.{FileStore}
 use Rattle.file_store.specs.Directory.{IsHomeOf}
-use Rattle.file_store.specs.Standing.{IsAskedToOpen, IsPageOf, directory_entry}
-use Rattle.file_store.specs.Store.{IsSectorOf, files_of}
+use Rattle.file_store.specs.Standing.{IsAskedToOpen, IsBadLayout, IsPageOf, StandsAs, StandsFor, bytes_of_pages, directory_entry}
+use Rattle.file_store.specs.Standing.{IsBadJournal as IsBadJournalOf}
+use Rattle.file_store.specs.Store.{IsReadyStore, IsSectorOf, files_of}
+use Rattle.runner.specs.Bytes.{WritesBeginning}
+use Rattle.programs.specs.declared.showing.ShowFault.{ShowFault}
+use Rattle.programs.specs.declared.showing.ShowFault.TheVariants.{Open, NoFile, Read}
 
 -- a sector of a home of file f, by the directory of the image
 abbrev pub IsInHomesOf : Image → ℕ → ℕ → Type 0
@@ -24,10 +32,79 @@ module _ {D : Type 0} where
   abbrev pub IsSectorOfFile : FileStore D → ℕ → ℕ → Type 0
   IsSectorOfFile store f k = (page : ℕ) × IsPageOf (files_of store) f page × IsSectorOf store (record { file = f; page = page }) k
 
+-- A fault blames the device
+pub record BlamesDevice {T F : Type 0} (before now : ℕ) (blame : F) (result : Result T F) : Type 0 where
+  -- only where it failed,
+  pub cause : IsErrOf result blame → before < now
+  -- and with any other outcome it did not.
+  pub calm : OnOk result (now ≡ before)
+  pub still : OnErr result ((IsErrOf result blame → ⊥) → now ≡ before)
+
 module _ {D : Type 0} (g : Ghosts D) where
+  -- A store is read, and no more:
+  pub record OnlyReads (W : ℕ → Type 0) (old new : FileStore D) : Type 0 where
+    -- it has the directory and the journal that it had, and may be read further;
+    pub files : new.directory ≡ old.directory
+    pub journal : new.journal ≡ old.journal
+    pub ready : IsReadyStore g new
+    -- its device has as many sectors, keeps its model only if it did, and has nothing written to it,
+    pub size : g.sector_count new.disk ≡ g.sector_count old.disk
+    pub kept : g.keeps_model new.disk → g.keeps_model old.disk
+    pub touches : g.keeps_model new.disk → Touches g Nothing old.disk new.disk
+    -- and is asked for these sectors alone.
+    pub asks : AsksOnly g W old.disk new.disk
+
   -- A showing of file f keeps to it.
   pub record KeepsToFile (f : ℕ) (old new : D) : Type 0 where
     -- no sector was asked for but those that an opening asks for, and the homes of the file
     pub asks : g.keeps_model new → AsksOnly g (IsAskedToShow (g.content old) f) old new
     -- the mark, the directory and what lies after the last home are as they were
     pub outside : g.keeps_model new → (k : ℕ) → IsOutsideOf (g.content old) (g.sector_count old) k → g.content new k ≡ g.content old k
+
+  -- Whatever comes of a showing of file f, it changes nothing of what the device stands for:
+  pub record KeepsImage (f : ℕ) (old new : D) : Type 0 where
+    -- the device keeps its model only if it did,
+    pub kept : g.keeps_model new → g.keeps_model old
+    -- and where nothing was unsynced, every image that a stop might leave meanwhile stands for what it did at first, and for what it
+    -- did before any earlier stop;
+    pub any_moment : g.keeps_model new → ((k : ℕ) → g.unsynced old k → ⊥) → LeavesOnly g old new (StandsAs (g.sector_count old) (g.content old))
+    pub in_a_row : g.keeps_model new → ((k : ℕ) → g.unsynced old k → ⊥) → (first : Image) → StandsAs (g.sector_count old) first (g.content old)
+        → LeavesOnly g old new (StandsAs (g.sector_count old) first)
+    -- no sectors are asked for but those of an opening and of the file's homes, and what lies outside the homes stays.
+    pub asks : KeepsToFile f old new
+
+  -- File f is written out:
+  pub record WritesOut (f : ℕ) (old : D) (store : FileStore D) (before now : Option (List ℕ)) : Type 0 where
+    -- the device did not fail, and its store may be read further,
+    pub calm : g.failures store.disk ≡ g.failures old
+    pub ready : IsReadyStore g store
+    -- the image is that of a store,
+    pub good_layout : g.keeps_model store.disk → IsBadLayout (g.sector_count old) (g.content old) → ⊥
+    pub good_journal : g.keeps_model store.disk → IsBadJournalOf (g.sector_count old) (g.content old) → ⊥
+    -- and the writer took the bytes of the file that it stood for.
+    pub shown : g.keeps_model store.disk → (files : ℕ → Option FileInfo) (pages : ℕ → ℕ → List ℕ) → StandsFor (g.sector_count old) files pages (g.content old)
+        → (info : FileInfo) × (files f ≡ Some info) × Appends before now (bytes_of_pages (pages f) info)
+
+  -- File f is not written out, for this fault:
+  pub record RefusesToShow (f : ℕ) (old : D) (fault : ShowFault) (new : D) : Type 0 where
+    -- the device failed where the fault is `Open Device` or `Read`, and with no other;
+    pub device : fault ≡ Open Device → g.failures old < g.failures new
+    pub read : fault ≡ Read → g.failures old < g.failures new
+    pub calm : (fault ≡ Open Device → ⊥) → (fault ≡ Read → ⊥) → g.failures new ≡ g.failures old
+    -- `BadLayout` and `BadJournal` come only where the image is so, a bad layout first, and nothing was written then;
+    pub bad_layout : g.keeps_model new → fault ≡ Open BadLayout → IsBadLayout (g.sector_count old) (g.content old)
+    pub bad_journal : g.keeps_model new → fault ≡ Open BadJournal → IsBadJournalOf (g.sector_count old) (g.content old)
+    pub layout_first : g.keeps_model new → fault ≡ Open BadJournal → IsBadLayout (g.sector_count old) (g.content old) → ⊥
+    pub unwritten : g.keeps_model new → (fault ≡ Open BadLayout) ⊎ (fault ≡ Open BadJournal) → Touches g Nothing old new
+    -- any fault but `Open` comes only of the image of a store, and `NoFile` where it stands for no such file.
+    pub good_layout : g.keeps_model new → ((other : OpenFault) → fault ≡ Open other → ⊥) → IsBadLayout (g.sector_count old) (g.content old) → ⊥
+    pub good_journal : g.keeps_model new → ((other : OpenFault) → fault ≡ Open other → ⊥) → IsBadJournalOf (g.sector_count old) (g.content old) → ⊥
+    pub no_file : fault ≡ NoFile → g.keeps_model new → (files : ℕ → Option FileInfo) (pages : ℕ → ℕ → List ℕ) → StandsFor (g.sector_count old) files pages (g.content old) → files f ≡ None
+
+  -- Then the writer
+  pub record WritesOutPart (f : ℕ) (old : D) (fault : ShowFault) (new : D) (before now : Option (List ℕ)) : Type 0 where
+    -- took nothing where the image could not be opened,
+    pub no_byte : (other : OpenFault) → fault ≡ Open other → now ≡ before
+    -- and else a beginning of the bytes of the file that it stood for.
+    pub begun : g.keeps_model new → (files : ℕ → Option FileInfo) (pages : ℕ → ℕ → List ℕ) (info : FileInfo) → StandsFor (g.sector_count old) files pages (g.content old)
+        → files f ≡ Some info → WritesBeginning before now (bytes_of_pages (pages f) info)

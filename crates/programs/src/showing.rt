@@ -1,13 +1,11 @@
 //! The program that writes a file of an image out.
-ghost use Rattle.std.specs.Prelude.{◌≡◌, ◌⊎◌, ◌≤◌, ◌<◌, ◌*◌, ℕ, List, Option, Some, None, IfOk, IfErr, OnOk, OnErr, IsErrOf, MatchResult, take};
+ghost use Rattle.std.specs.Prelude.{◌≡◌, ◌≤◌, ◌<◌, ◌*◌, ℕ, List, Some, None, IfOk, IfErr, OnOk, IsErrOf, MatchResult, take};
 ghost use Rattle.std.specs.Io.KnownBytes.{Appends};
-ghost use Rattle.disk_model.specs.Stop.{Image};
-ghost use Rattle.disk_model.specs.Moments.{Touches, Nothing, LeavesOnly, AsksOnly};
 ghost use Rattle.vm_types.specs.declared.file.FileInfo.{FileInfo};
 ghost use Rattle.vm_types.specs.Files.{bytes_inside};
-ghost use Rattle.file_store.specs.Standing.{IsBadLayout, IsBadJournal, IsPageOf, StandsAs, StandsFor, bytes_of_pages, standing_page, standing_file};
+ghost use Rattle.file_store.specs.Standing.{IsPageOf, standing_page, standing_file};
 ghost use Rattle.file_store.specs.Store.{IsReadyStore, IsSectorOf, files_of};
-ghost use Rattle.programs.specs.Showing.{IsSectorOfFile, KeepsToFile};
+ghost use Rattle.programs.specs.Showing.{BlamesDevice, IsSectorOfFile, KeepsImage, OnlyReads, RefusesToShow, WritesOut, WritesOutPart};
 ghost use Rattle.runner.specs.Bytes.{WritesBeginning};
 
 use crate::faults::{ProgramFault, report};
@@ -113,43 +111,11 @@ pub fn show<D: SectorDisk + Drop, W: Write>(
     file: u32,
     writer: &mut W,
 ) -> Result<FileStore<D>, (ShowFault, D)>
-    ensures ready { IfOk result (λ store. IsReadyStore D.SectorDisk store) }
-    ensures kept { IfOk result (λ store. D.keeps_model store.disk → D.keeps_model disk) }
-    ensures calm { IfOk result (λ store. D.failures store.disk ≡ D.failures disk) }
-    ensures good_layout { IfOk result (λ store. D.keeps_model store.disk → IsBadLayout (D.sector_count disk) (D.content disk) → ⊥) }
-    ensures good_journal { IfOk result (λ store. D.keeps_model store.disk → IsBadJournal (D.sector_count disk) (D.content disk) → ⊥) }
-    ensures shown { IfOk result (λ store. D.keeps_model store.disk → (files : ℕ → Option FileInfo) (pages : ℕ → ℕ → List ℕ)
-        → StandsFor (D.sector_count disk) files pages (D.content disk)
-        → (info : FileInfo) × (files file ≡ Some info) × Appends (W.contents writer.old) (W.contents writer.new) (bytes_of_pages (pages file) info)) }
-    ensures any_moment { IfOk result (λ store. D.keeps_model store.disk → ((k : ℕ) → D.unsynced disk k → ⊥)
-        → LeavesOnly D.SectorDisk disk store.disk (StandsAs (D.sector_count disk) (D.content disk))) }
-    ensures in_a_row { IfOk result (λ store. D.keeps_model store.disk → ((k : ℕ) → D.unsynced disk k → ⊥) → (first : Image) → StandsAs (D.sector_count disk) first (D.content disk)
-        → LeavesOnly D.SectorDisk disk store.disk (StandsAs (D.sector_count disk) first)) }
-    ensures asks { IfOk result (λ store. KeepsToFile D.SectorDisk file disk store.disk) }
-
-    ensures err_kept { IfErr result (λ e. D.keeps_model e.1 → D.keeps_model disk) }
-    ensures device { IfErr result (λ e. e.0 ≡ ShowFault.Open OpenFault.Device → D.failures disk < D.failures e.1) }
-    ensures err_calm { IfErr result (λ e. (e.0 ≡ ShowFault.Open OpenFault.Device → ⊥) → (e.0 ≡ ShowFault.Read → ⊥) → D.failures e.1 ≡ D.failures disk) }
-    ensures bad_layout { IfErr result (λ e. D.keeps_model e.1 → e.0 ≡ ShowFault.Open OpenFault.BadLayout → IsBadLayout (D.sector_count disk) (D.content disk)) }
-    ensures bad_journal { IfErr result (λ e. D.keeps_model e.1 → e.0 ≡ ShowFault.Open OpenFault.BadJournal → IsBadJournal (D.sector_count disk) (D.content disk)) }
-    // A bad layout is reported before a bad journal, and either before every fault but the device's.
-    ensures layout_first { IfErr result (λ e. D.keeps_model e.1 → e.0 ≡ ShowFault.Open OpenFault.BadJournal → IsBadLayout (D.sector_count disk) (D.content disk) → ⊥) }
-    ensures err_layout { IfErr result (λ e. D.keeps_model e.1 → ((fault : OpenFault) → e.0 ≡ ShowFault.Open fault → ⊥) → IsBadLayout (D.sector_count disk) (D.content disk) → ⊥) }
-    ensures err_journal { IfErr result (λ e. D.keeps_model e.1 → ((fault : OpenFault) → e.0 ≡ ShowFault.Open fault → ⊥) → IsBadJournal (D.sector_count disk) (D.content disk) → ⊥) }
-    // An image that is no store has had nothing written.
-    ensures unwritten { IfErr result (λ e. D.keeps_model e.1 → (e.0 ≡ ShowFault.Open OpenFault.BadLayout) ⊎ (e.0 ≡ ShowFault.Open OpenFault.BadJournal) → Touches D.SectorDisk Nothing disk e.1) }
-    ensures no_byte { IfErr result (λ e. (fault : OpenFault) → e.0 ≡ ShowFault.Open fault → W.contents writer.new ≡ W.contents writer.old) }
-    ensures no_file { IfErr result (λ e. e.0 ≡ ShowFault.NoFile → D.keeps_model e.1 → (files : ℕ → Option FileInfo) (pages : ℕ → ℕ → List ℕ)
-        → StandsFor (D.sector_count disk) files pages (D.content disk) → files file ≡ None) }
-    ensures read { IfErr result (λ e. e.0 ≡ ShowFault.Read → D.failures disk < D.failures e.1) }
-    ensures begun { IfErr result (λ e. D.keeps_model e.1 → (files : ℕ → Option FileInfo) (pages : ℕ → ℕ → List ℕ) (info : FileInfo)
-        → StandsFor (D.sector_count disk) files pages (D.content disk) → files file ≡ Some info
-        → WritesBeginning (W.contents writer.old) (W.contents writer.new) (bytes_of_pages (pages file) info)) }
-    ensures err_moment { IfErr result (λ e. D.keeps_model e.1 → ((k : ℕ) → D.unsynced disk k → ⊥)
-        → LeavesOnly D.SectorDisk disk e.1 (StandsAs (D.sector_count disk) (D.content disk))) }
-    ensures err_in_a_row { IfErr result (λ e. D.keeps_model e.1 → ((k : ℕ) → D.unsynced disk k → ⊥) → (first : Image) → StandsAs (D.sector_count disk) first (D.content disk)
-        → LeavesOnly D.SectorDisk disk e.1 (StandsAs (D.sector_count disk) first)) }
-    ensures err_asks { IfErr result (λ e. KeepsToFile D.SectorDisk file disk e.1) }
+    ensures writes { IfOk result (λ store. WritesOut D.SectorDisk file disk store (W.contents writer.old) (W.contents writer.new)) }
+    ensures keeps { IfOk result (λ store. KeepsImage D.SectorDisk file disk store.disk) }
+    ensures refuses { IfErr result (λ e. RefusesToShow D.SectorDisk file disk e.0 e.1) }
+    ensures begins { IfErr result (λ e. WritesOutPart D.SectorDisk file disk e.0 e.1 (W.contents writer.old) (W.contents writer.new)) }
+    ensures err_keeps { IfErr result (λ e. KeepsImage D.SectorDisk file disk e.1) }
 {
     let mut store = match FileStore::open(disk) {
         Ok(store) => store,
@@ -173,16 +139,11 @@ pub fn show_opened<D: SectorDisk, W: Write>(
     writer: &mut W,
 ) -> Result<(), ShowFault>
     requires ready { IsReadyStore D.SectorDisk store.old }
-    ensures kept { D.keeps_model store.new.disk → D.keeps_model store.old.disk }
-    ensures ready { IsReadyStore D.SectorDisk store.new }
-    ensures touches { D.keeps_model store.new.disk → Touches D.SectorDisk Nothing store.old.disk store.new.disk }
-    ensures asks { AsksOnly D.SectorDisk (IsSectorOfFile store.old file) store.old.disk store.new.disk }
+    ensures reads { OnlyReads D.SectorDisk (IsSectorOfFile store.old file) store.old store.new }
     ensures some { OnOk result ((info : FileInfo) × (files_of store.old file ≡ Some info)) }
     ensures unopened { (fault : OpenFault) → IsErrOf result (ShowFault.Open fault) → ⊥ }
     ensures none { IsErrOf result ShowFault.NoFile → files_of store.old file ≡ None }
-    ensures cause { IsErrOf result ShowFault.Read → D.failures store.old.disk < D.failures store.new.disk }
-    ensures calm { OnOk result (D.failures store.new.disk ≡ D.failures store.old.disk) }
-    ensures still { OnErr result ((IsErrOf result ShowFault.Read → ⊥) → D.failures store.new.disk ≡ D.failures store.old.disk) }
+    ensures blames { BlamesDevice (D.failures store.old.disk) (D.failures store.new.disk) ShowFault.Read result }
     ensures written { D.keeps_model store.new.disk → (bytes : List ℕ) → standing_file (D.content store.old.disk) file ≡ Some bytes
         → MatchResult result
         (λ _. Appends (W.contents writer.old) (W.contents writer.new) bytes)
@@ -234,14 +195,8 @@ fn copy_file<D: SectorDisk, W: Write>(
 ) -> Result<(), CopyFault>
     requires ready { IsReadyStore D.SectorDisk store.old }
     requires file { (info : FileInfo) × (files_of store.old file ≡ Some info) × (info.length ≡ length) }
-    ensures size { D.sector_count store.new.disk ≡ D.sector_count store.old.disk }
-    ensures kept { D.keeps_model store.new.disk → D.keeps_model store.old.disk }
-    ensures cause { IsErrOf result CopyFault.Read → D.failures store.old.disk < D.failures store.new.disk }
-    ensures calm { OnOk result (D.failures store.new.disk ≡ D.failures store.old.disk) }
-    ensures still { IsErrOf result CopyFault.Write → D.failures store.new.disk ≡ D.failures store.old.disk }
-    ensures asks { AsksOnly D.SectorDisk (IsSectorOfFile store.old file) store.old.disk store.new.disk }
-    ensures ready { IsReadyStore D.SectorDisk store.new }
-    ensures touches { D.keeps_model store.new.disk → Touches D.SectorDisk Nothing store.old.disk store.new.disk }
+    ensures reads { OnlyReads D.SectorDisk (IsSectorOfFile store.old file) store.old store.new }
+    ensures blames { BlamesDevice (D.failures store.old.disk) (D.failures store.new.disk) CopyFault.Read result }
     ensures written { D.keeps_model store.new.disk → (bytes : List ℕ) → standing_file (D.content store.old.disk) file ≡ Some bytes
         → MatchResult result
         (λ _. Appends (W.contents writer.old) (W.contents writer.new) bytes)
@@ -249,7 +204,7 @@ fn copy_file<D: SectorDisk, W: Write>(
 {
     let mut page = [0; PAGE_BYTES];
     for k in 0..length.div_ceil(PAGE_BYTES as u32) {
-        match copy_page(store, file, k, length, &mut page, writer) {
+        match copy_page(store, FilePage { file, page: k }, length, &mut page, writer) {
             Ok(()) => {}
             Err(fault) => return Err(fault),
         }
@@ -260,33 +215,24 @@ fn copy_file<D: SectorDisk, W: Write>(
 /// Writes the bytes of a page that lie inside its file to the writer.
 fn copy_page<D: SectorDisk, W: Write>(
     store: &mut FileStore<D>,
-    file: u8,
-    k: u32,
+    page: FilePage,
     length: u32,
-    page: &mut [u8; 4096],
+    bytes: &mut [u8; 4096],
     writer: &mut W,
 ) -> Result<(), CopyFault>
     requires ready { IsReadyStore D.SectorDisk store.old }
-    requires inside { IsPageOf (files_of store.old) file k }
-    requires first { 4096 * k < length }
-    ensures size { D.sector_count store.new.disk ≡ D.sector_count store.old.disk }
-    ensures kept { D.keeps_model store.new.disk → D.keeps_model store.old.disk }
-    ensures cause { IsErrOf result CopyFault.Read → D.failures store.old.disk < D.failures store.new.disk }
-    ensures calm { OnOk result (D.failures store.new.disk ≡ D.failures store.old.disk) }
-    ensures still { IsErrOf result CopyFault.Write → D.failures store.new.disk ≡ D.failures store.old.disk }
-    ensures asks { AsksOnly D.SectorDisk (IsSectorOf store.old (record { file = file; page = k })) store.old.disk store.new.disk }
-    ensures files { store.new.directory ≡ store.old.directory }
-    ensures journal { store.new.journal ≡ store.old.journal }
-    ensures ready { IsReadyStore D.SectorDisk store.new }
-    ensures touches { D.keeps_model store.new.disk → Touches D.SectorDisk Nothing store.old.disk store.new.disk }
+    requires inside { IsPageOf (files_of store.old) page.file page.page }
+    requires first { 4096 * page.page < length }
+    ensures reads { OnlyReads D.SectorDisk (IsSectorOf store.old page) store.old store.new }
+    ensures blames { BlamesDevice (D.failures store.old.disk) (D.failures store.new.disk) CopyFault.Read result }
     ensures written { D.keeps_model store.new.disk → MatchResult result
         (λ _. Appends (W.contents writer.old) (W.contents writer.new)
-        (take (bytes_inside length k) (standing_page (D.content store.old.disk) file k)))
+        (take (bytes_inside length page.page) (standing_page (D.content store.old.disk) page.file page.page)))
         (λ _. WritesBeginning (W.contents writer.old) (W.contents writer.new)
-        (take (bytes_inside length k) (standing_page (D.content store.old.disk) file k))) }
+        (take (bytes_inside length page.page) (standing_page (D.content store.old.disk) page.file page.page))) }
 {
-    store.read_page(FilePage { file, page: k }, page)?;
-    let inside = (length as usize - PAGE_BYTES * k as usize).min(PAGE_BYTES);
-    write_bytes(&page[..inside], writer)?;
+    store.read_page(page, bytes)?;
+    let inside = (length as usize - PAGE_BYTES * page.page as usize).min(PAGE_BYTES);
+    write_bytes(&bytes[..inside], writer)?;
     Ok(())
 }

@@ -1,5 +1,5 @@
 -- What calls of a stopping device tell of earlier ones.
-use Rattle.std.proofs.Common.{◌≡◌, ℕ, suc, ◌+◌, true, false, Option, Some, None, is_some, Result, Ok, Err, is_err, OnOk, ap, refl, arith, sym, ◌∙◌}
+use Rattle.std.proofs.Common.{◌≡◌, ℕ, suc, ◌+◌, false, Option, Some, None, is_some, Result, Ok, Err, is_err, OnOk, ap, refl, arith, sym, ◌∙◌}
 use Rattle.std.proofs.lemmas.Bool.{false≢true}
 use Rattle.stop_trials.specs.declared.stopping.Event.{Event}
 use Rattle.stop_trials.specs.declared.stopping.Event.TheVariants.{Write}

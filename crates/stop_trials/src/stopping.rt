@@ -1,7 +1,7 @@
 //! A device that stops where it is told to.
-ghost use Rattle.std.specs.Prelude.{◌≡◌, ◌⊎◌, ◌<◌, ◌≤◌, ◌+◌, ◌^◌, ℕ, Some, None, is_err, is_some, IfOk, IfSome, OnOk, OnErr, false};
+ghost use Rattle.std.specs.Prelude.{◌≡◌, ◌<◌, ◌≤◌, ◌+◌, ◌^◌, ℕ, Some, None, is_err, is_some, IfOk, IfSome, OnOk, OnErr, false};
 ghost use Rattle.std.proofs.Common.{inl};
-ghost use Rattle.disk_model.specs.Stop.{MayLeave, ChangesOnly, ChangesPage, IsOfPage, Elapses, HasCause, Names};
+ghost use Rattle.disk_model.specs.Stop.{MayLeave, IsOfPage, Names};
 ghost use Rattle.disk_model.specs.Sectors.{part_of};
 ghost use Rattle.disk_model.specs.Plan.{is_at};
 ghost use Rattle.disk_model.specs.SimDisk.{sectors_in, sector_of, IsUnsynced, moment_of, LeftSince, only_present, failures_of, asked_of, counts_of};
@@ -130,7 +130,7 @@ impl StoppingDisk {
 }
 
 impl SectorDisk for StoppingDisk {
-    ghost use Rattle.stop_trials.specs.Stopping.{plan_of, after_event, after_writes, IsHonest};
+    ghost use Rattle.stop_trials.specs.Stopping.{AnswersAsDisk, ChangesSector, ChangesSectors, HoldsAsBefore, IsHonest, StopsAsTold, after_event, after_writes, plan_of};
 
     ghost sector_count = { λ d. sectors_in d.disk };
 
@@ -158,15 +158,10 @@ impl SectorDisk for StoppingDisk {
 
     fn read(&mut self, n: u64, to: &mut [u8; 512]) -> Result<(), DiskFault>
         requires { n < sectors_in self.old.disk }
-        ensures size { sectors_in self.new.disk ≡ sectors_in self.old.disk }
-        ensures kept { IsHonest self.new → IsHonest self.old }
-        ensures cause { HasCause (failures_of self.old.disk) (failures_of self.new.disk) result }
+        ensures keeps { AnswersAsDisk self.old self.new result }
         ensures asks { Names (λ k. k ≡ n) (asked_of self.old.disk) (asked_of self.new.disk) }
         ensures gives { OnOk result (to.new ≡ sector_of self.old.disk n) }
-        ensures same { sector_of self.new.disk ≡ sector_of self.old.disk }
-        ensures unsynced { (k : ℕ) → IsUnsynced self.new.disk k → IsUnsynced self.old.disk k }
-        ensures still { (k : ℕ) → IsUnsynced self.old.disk k → IsUnsynced self.new.disk k }
-        ensures time { Elapses (moment_of self.old.disk) (moment_of self.new.disk) (LeftSince self.old.disk) (LeftSince self.new.disk) (sector_of self.new.disk) (IsUnsynced self.new.disk) }
+        ensures holds { HoldsAsBefore self.old self.new }
         ensures fails { is_err result ≡ is_some self.old.stopped }
         ensures plan { plan_of self.new ≡ plan_of self.old }
     {
@@ -177,15 +172,10 @@ impl SectorDisk for StoppingDisk {
     fn read_page(&mut self, n: u64, to: &mut [u8; 4096]) -> Result<(), DiskFault>
         requires room { n + 8 ≤ sectors_in self.old.disk }
         requires fits { n < 2 ^ 60 }
-        ensures size { sectors_in self.new.disk ≡ sectors_in self.old.disk }
-        ensures kept { IsHonest self.new → IsHonest self.old }
-        ensures cause { HasCause (failures_of self.old.disk) (failures_of self.new.disk) result }
+        ensures keeps { AnswersAsDisk self.old self.new result }
         ensures asks { Names (IsOfPage n) (asked_of self.old.disk) (asked_of self.new.disk) }
         ensures gives { OnOk result ((i : ℕ) → i < 8 → part_of to.new i ≡ sector_of self.old.disk (n + i)) }
-        ensures same { sector_of self.new.disk ≡ sector_of self.old.disk }
-        ensures unsynced { (k : ℕ) → IsUnsynced self.new.disk k → IsUnsynced self.old.disk k }
-        ensures still { (k : ℕ) → IsUnsynced self.old.disk k → IsUnsynced self.new.disk k }
-        ensures time { Elapses (moment_of self.old.disk) (moment_of self.new.disk) (LeftSince self.old.disk) (LeftSince self.new.disk) (sector_of self.new.disk) (IsUnsynced self.new.disk) }
+        ensures holds { HoldsAsBefore self.old self.new }
         ensures plan { plan_of self.new ≡ plan_of self.old }
     {
         self.arm();
@@ -194,18 +184,11 @@ impl SectorDisk for StoppingDisk {
 
     fn write(&mut self, n: u64, from: &[u8; 512]) -> Result<(), DiskFault>
         requires { n < sectors_in self.old.disk }
-        ensures size { sectors_in self.new.disk ≡ sectors_in self.old.disk }
-        ensures kept { IsHonest self.new → IsHonest self.old }
-        ensures cause { HasCause (failures_of self.old.disk) (failures_of self.new.disk) result }
+        ensures keeps { AnswersAsDisk self.old self.new result }
         ensures asks { Names (λ k. k ≡ n) (asked_of self.old.disk) (asked_of self.new.disk) }
         ensures written { OnOk result (sector_of self.new.disk n ≡ from.now) }
-        ensures others { ChangesOnly n (sector_of self.old.disk) (sector_of self.new.disk) }
-        ensures unsynced { (k : ℕ) → IsUnsynced self.new.disk k → IsUnsynced self.old.disk k ⊎ (k ≡ n) }
-        ensures marked { IsUnsynced self.new.disk n }
-        ensures still { (k : ℕ) → IsUnsynced self.old.disk k → IsUnsynced self.new.disk k }
-        ensures time { Elapses (moment_of self.old.disk) (moment_of self.new.disk) (LeftSince self.old.disk) (LeftSince self.new.disk) (sector_of self.new.disk) (IsUnsynced self.new.disk) }
-        ensures fails { is_err result ≡ is_some self.new.stopped }
-        ensures plan { plan_of self.new ≡ after_event (Event.Write n) (plan_of self.old) }
+        ensures changes { ChangesSector n self.old self.new }
+        ensures stops { StopsAsTold (after_event (Event.Write n) (plan_of self.old)) self.new result }
     {
         self.note(Event::Write(n));
         self.disk.write(n, from)
@@ -215,18 +198,11 @@ impl SectorDisk for StoppingDisk {
     fn write_page(&mut self, n: u64, from: &[u8; 4096]) -> Result<(), DiskFault>
         requires room { n + 8 ≤ sectors_in self.old.disk }
         requires fits { n < 2 ^ 60 }
-        ensures size { sectors_in self.new.disk ≡ sectors_in self.old.disk }
-        ensures kept { IsHonest self.new → IsHonest self.old }
-        ensures cause { HasCause (failures_of self.old.disk) (failures_of self.new.disk) result }
+        ensures keeps { AnswersAsDisk self.old self.new result }
         ensures asks { Names (IsOfPage n) (asked_of self.old.disk) (asked_of self.new.disk) }
         ensures written { OnOk result ((i : ℕ) → i < 8 → sector_of self.new.disk (n + i) ≡ part_of from.now i) }
-        ensures others { ChangesPage n (sector_of self.old.disk) (sector_of self.new.disk) }
-        ensures unsynced { (k : ℕ) → IsUnsynced self.new.disk k → IsUnsynced self.old.disk k ⊎ IsOfPage n k }
-        ensures marked { (k : ℕ) → IsOfPage n k → IsUnsynced self.new.disk k }
-        ensures still { (k : ℕ) → IsUnsynced self.old.disk k → IsUnsynced self.new.disk k }
-        ensures time { Elapses (moment_of self.old.disk) (moment_of self.new.disk) (LeftSince self.old.disk) (LeftSince self.new.disk) (sector_of self.new.disk) (IsUnsynced self.new.disk) }
-        ensures fails { is_err result ≡ is_some self.new.stopped }
-        ensures plan { plan_of self.new ≡ after_writes 8 n (plan_of self.old) }
+        ensures changes { ChangesSectors n self.old self.new }
+        ensures stops { StopsAsTold (after_writes 8 n (plan_of self.old)) self.new result }
     {
         let mut failed = false;
         for (i, sector) in parts(from).iter().enumerate() {
@@ -237,17 +213,13 @@ impl SectorDisk for StoppingDisk {
 
     /// A sync that it drops is none, and succeeds.
     fn sync(&mut self) -> Result<(), DiskFault>
-        ensures size { sectors_in self.new.disk ≡ sectors_in self.old.disk }
-        ensures kept { IsHonest self.new → IsHonest self.old }
-        ensures cause { HasCause (failures_of self.old.disk) (failures_of self.new.disk) result }
+        ensures keeps { AnswersAsDisk self.old self.new result }
         ensures asks { (k : ℕ) → asked_of self.new.disk k ≡ asked_of self.old.disk k }
         ensures same { sector_of self.new.disk ≡ sector_of self.old.disk }
         ensures synced { IsHonest self.new → OnOk result ((k : ℕ) → IsUnsynced self.new.disk k → ⊥) }
         ensures unsynced { (k : ℕ) → IsUnsynced self.new.disk k → IsUnsynced self.old.disk k }
         ensures still { OnErr result ((k : ℕ) → IsUnsynced self.old.disk k → IsUnsynced self.new.disk k) }
-        ensures time { Elapses (moment_of self.old.disk) (moment_of self.new.disk) (LeftSince self.old.disk) (LeftSince self.new.disk) (sector_of self.new.disk) (IsUnsynced self.new.disk) }
-        ensures fails { is_err result ≡ is_some self.new.stopped }
-        ensures plan { plan_of self.new ≡ after_event Event.Sync (plan_of self.old) }
+        ensures stops { StopsAsTold (after_event Event.Sync (plan_of self.old)) self.new result }
     {
         self.note(Event::Sync);
         if self.stopped.is_none() && is_at(self.drops, self.events) {

@@ -1,6 +1,8 @@
 -- A store that is opened, and then committed to.
-use Rattle.std.proofs.Common.{ℕ, ◌≡◌, List, [], Option, inl, inr, ⊎_elim, refl, sym, ap, subst, ◌∙◌}
+use Rattle.std.proofs.Common.{ℕ, ◌≡◌, List, [], Option, Result, inl, inr, ⊎_elim, refl, sym, ap, subst, ◌∙◌}
+use Rattle.std.proofs.lemmas.Result.{IfErr-weaker}
 use Rattle.std.proofs.Math.Path.{fun_ext}
+use Rattle.std.specs.Prelude.{IfErr}
 use Rattle.std.specs.Option.{option_map}
 use Rattle.sync_journal.specs.Commit.{IsAtRest as IsJournalAtRest}
 use Rattle.sync_journal.specs.Map.{place_of, place_among}
@@ -20,7 +22,12 @@ use Rattle.vm_types.specs.declared.file.FilePage.{FilePage}
 use Rattle.file_store.specs.Standing.{StandsFor, StandsAs, IsBadLayout, IsBadJournal, file_info, standing_page}
 use Rattle.file_store.specs.Commit.{StandsForEither}
 use Rattle.file_store.proofs.Images.{bad_layout_moves, same_head, stands_for_itself}
-use Rattle.sync_plans.specs.Requests.{IsKindEmpty, IsClosed, KeepsOutside, HasLayout}
+use Rattle.file_store.specs.declared.faults.OpenFault.{OpenFault}
+use Rattle.file_store.specs.declared.faults.OpenFault.TheVariants.{Device as OpenDevice, BadLayout as OpenBadLayout, BadJournal as OpenBadJournal}
+use Rattle.file_store.specs.Resume.{IsResumed, IsRefusedFor}
+use Rattle.sync_plans.specs.declared.requests.Refusal.{Refusal}
+use Rattle.sync_plans.specs.declared.requests.Refusal.TheVariants.{Device, BadLayout, BadJournal, BadPages, ReadOnly}
+use Rattle.sync_plans.specs.Requests.{IsKindEmpty, IsClosed, IsStore, KeepsOutside, HasLayout, RefusesImage, RefusesOn}
 
 module _ {D : Type 0} (g : Ghosts D) (sectors : ℕ) (files : ℕ → Option FileInfo) (before : ℕ → ℕ → List ℕ) (old mid : D) (left : LeavesNow g old (StandsFor sectors files before)) where
   was : StandsFor sectors files before (g.content old)
@@ -70,9 +77,30 @@ module _ {D : Type 0} (g : Ghosts D) (sectors : ℕ) (directory : Directory) (li
       weaker g mid new (PutsHomesOrNone sectors directory list given (g.content mid)) (HasLayout sectors)
       (λ image. ⊎_elim (λ kept. moved image good kept.outside) (λ puts. moved image good puts.outside)) run)
 
--- an open store has the files of the image that it was opened on
-pub same_files : {D : Type 0} (g : Ghosts D) (disk : D) (store : FileStore D) → (IsBadLayout (g.sector_count disk) (g.content disk) → ⊥) → (IsBadJournal (g.sector_count disk) (g.content disk) → ⊥)
-    → LeavesNow g store.disk (StandsAs (g.sector_count disk) (g.content disk)) → IsAtRest g store → files_of store ≡ file_info (g.content disk)
-same_files g disk store layout journal now rest = fun_ext (λ f. ap (option_map (λ e. e.info)) (rest.directory f)
-    ∙ (now (g.content store.disk) (record { kept = λ k. inr refl }) (file_info (g.content disk)) (standing_page (g.content disk))
-    (record { layout = layout; journal = journal; facts = λ n. refl; same = λ n k is. refl })).facts f)
+-- a store that was taken up has the files of the image that it was taken up on
+pub same_files : {D : Type 0} (g : Ghosts D) (disk : D) (store : FileStore D) → IsResumed g disk store → g.keeps_model store.disk → files_of store ≡ file_info (g.content disk)
+same_files g disk store resumed k = fun_ext (λ f. ap (option_map (λ e. e.info)) ((resumed.ready.at_rest k).directory f)
+    ∙ (resumed.found.stands k (g.content store.disk) (record { kept = λ n. inr refl }) (file_info (g.content disk)) (standing_page (g.content disk))
+    (record { layout = resumed.found.good_layout k; journal = resumed.found.good_journal k; facts = λ n. refl; same = λ n p is. refl })).facts f)
+
+-- and that image is one of a store
+pub found_store : {D : Type 0} (g : Ghosts D) (disk : D) (store : FileStore D) → IsResumed g disk store → g.keeps_model store.disk → IsStore (g.sector_count disk) (g.content disk)
+found_store g disk store resumed k = record { layout = resumed.found.good_layout k; journal = resumed.found.good_journal k }
+
+-- a store that is not taken up is refused for what it is refused for, told in other words
+pub told_so : {D : Type 0} (g : Ghosts D) (old new : D) (fault : OpenFault) (refusal : Refusal) {bad denied : Type 0} → IsRefusedFor g old fault new
+    → (refusal ≡ Device → fault ≡ OpenDevice) → (refusal ≡ BadLayout → fault ≡ OpenBadLayout) → (refusal ≡ BadJournal → fault ≡ OpenBadJournal)
+    → (refusal ≡ BadPages → ⊥) → (refusal ≡ ReadOnly → ⊥) → RefusesOn g old new bad denied refusal
+told_so g old new fault refusal refused device layout journal pages read_only = record {
+  cause = λ is. refused.device (device is);
+  layout = λ k is. refused.bad_layout k (layout is);
+  journal = λ k is. record { layout = refused.layout_first k (journal is); journal = refused.bad_journal k (journal is) };
+  pages = λ is. absurd (pages is);
+  read_only = λ is. absurd (read_only is);
+}
+
+-- what is refused on a device that kept its model is refused for its image
+pub refuses_image : {D T : Type 0} (g : Ghosts D) (old new : D) {bad denied bad' denied' : Type 0} (result : Result T Refusal) → g.keeps_model new → (bad → bad') → (denied → denied')
+    → IfErr result (RefusesOn g old new bad denied) → IfErr result (RefusesImage (g.sector_count old) (g.content old) bad' denied')
+refuses_image g old new result k bad_so denied_so = IfErr-weaker result _ _
+    (λ refusal r. record { layout = r.layout k; journal = r.journal k; pages = λ is. bad_so (r.pages is); read_only = λ is. denied_so (r.read_only is) })

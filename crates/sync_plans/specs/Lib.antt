@@ -3,3 +3,5 @@ pub mod Plans
 pub mod Device
 pub mod Requests
 pub mod PlanDisk
+pub mod Writing
+pub mod Planned

@@ -1,10 +1,9 @@
 //! A device that lists its writes and syncs, for the caller to carry out.
-ghost use Rattle.std.specs.Prelude.{◌≡◌, ◌≢◌, ◌<◌, ◌≤◌, ◌+◌, ◌^◌, ◌⊎◌, ℕ, List, length, true, false, Some, IfSome, IsTrue, OnOk, IsErr, slice_get};
+ghost use Rattle.std.specs.Prelude.{◌≡◌, ◌≢◌, ◌<◌, ◌≤◌, ◌+◌, ◌^◌, ◌⊎◌, ℕ, length, true, false, Some, IfSome, IsTrue, slice_get};
 ghost use Rattle.disk_model.specs.Sectors.{part_of};
-ghost use Rattle.disk_model.specs.Stop.{HasCause, ChangesOnly, ChangesPage, IsOfPage, Elapses};
 ghost use Rattle.sync_plans.specs.Pages.{lent_page};
-ghost use Rattle.sync_plans.specs.Plans.{row, writes_to, bytes_in, is_written, IsCall, AreCalls, AreSources};
-ghost use Rattle.sync_plans.specs.Device.{Lists, NamesPage};
+ghost use Rattle.sync_plans.specs.Plans.{row, writes_to, bytes_in, is_written, AreCalls, AreSources};
+ghost use Rattle.sync_plans.specs.Device.{NamesPage};
 
 use crate::call::{Call, ROOM};
 use crate::lent_pages::PageBytes;
@@ -127,7 +126,8 @@ fn keep_row(to: &mut [u8; 512], call: Call, bytes: &[u8; 512])
 }
 
 impl<'a> PlanDisk<'a> {
-    ghost use Rattle.sync_plans.specs.PlanDisk.{pages_of, content_of, unsynced_in, moment_of, left_in};
+    ghost use Rattle.sync_plans.specs.PlanDisk.{pages_of, content_of};
+    ghost use Rattle.sync_plans.specs.Writing.{IsListable, AddsCall, PutsSector, PutsPage};
 
     pub(crate) fn new(
         image: &'a [[u8; 512]],
@@ -160,16 +160,8 @@ impl<'a> PlanDisk<'a> {
 
     /// Lists a call.
     fn list(&mut self, call: Call, bytes: &[u8; 512]) -> Result<(), DiskFault>
-        requires call { IsCall (length self.old.image.now) call }
-        requires lent { call.kind ≡ 3 → length (pages_of self.old call.from) ≡ 4096 }
-        requires unwritten { call.kind ≡ 4 → (self.old.untouched.low ≤ call.from) × (call.from + 8 ≤ self.old.untouched.high) }
-        ensures image { self.new.image.now ≡ self.old.image.now }
-        ensures lent { self.new.lent.now ≡ self.old.lent.now }
-        ensures asked { self.new.asked ≡ self.old.asked }
-        ensures cause { HasCause self.old.failures.number self.new.failures.number result }
-        ensures kept { self.new.full ≡ false → self.old.full ≡ false }
-        ensures ok { self.new.full ≡ false → IsErr result → ⊥ }
-        ensures lists { self.new.full ≡ false → Lists self.old.calls.now self.new.calls.now self.old.rows.now self.new.rows.now self.old.used self.new.used call bytes.now }
+        requires { IsListable self.old call }
+        ensures { AddsCall self.old self.new call bytes.now result }
     {
         if self.full || self.used >= ROOM {
             self.full = true;
@@ -187,16 +179,7 @@ impl<'a> PlanDisk<'a> {
     // A write that is a call, or a part of one.
     fn put(&mut self, n: u64, from: &[u8; SECTOR_BYTES]) -> Result<(), DiskFault>
         requires { n < length self.old.image.now }
-        ensures asked { self.new.asked ≡ self.old.asked }
-        ensures size { length self.new.image.now ≡ length self.old.image.now }
-        ensures kept { self.new.full ≡ false → self.old.full ≡ false }
-        ensures cause { HasCause self.old.failures.number self.new.failures.number result }
-        ensures written { self.new.full ≡ false → OnOk result (content_of self.new n ≡ from.now) }
-        ensures others { self.new.full ≡ false → ChangesOnly n (content_of self.old) (content_of self.new) }
-        ensures unsynced { self.new.full ≡ false → (k : ℕ) → unsynced_in self.new k → unsynced_in self.old k ⊎ (k ≡ n) }
-        ensures marked { self.new.full ≡ false → unsynced_in self.new n }
-        ensures still { self.new.full ≡ false → (k : ℕ) → unsynced_in self.old k → unsynced_in self.new k }
-        ensures time { self.new.full ≡ false → Elapses (moment_of self.old) (moment_of self.new) (left_in self.old) (left_in self.new) (content_of self.new) (unsynced_in self.new) }
+        ensures { PutsSector self.old self.new n from.now result }
     {
         self.list(
             Call {
@@ -210,20 +193,9 @@ impl<'a> PlanDisk<'a> {
 
     // A write of a page by a call that names where its bytes lie.
     fn put_page(&mut self, call: Call, from: &[u8; 4096]) -> Result<(), DiskFault>
-        requires call { IsCall (length self.old.image.now) call }
+        requires listable { IsListable self.old call }
         requires names { NamesPage (pages_of self.old) (row self.old.image.now) call.sector from.now call }
-        requires lent { call.kind ≡ 3 → length (pages_of self.old call.from) ≡ 4096 }
-        requires unwritten { call.kind ≡ 4 → (self.old.untouched.low ≤ call.from) × (call.from + 8 ≤ self.old.untouched.high) }
-        ensures asked { self.new.asked ≡ self.old.asked }
-        ensures size { length self.new.image.now ≡ length self.old.image.now }
-        ensures kept { self.new.full ≡ false → self.old.full ≡ false }
-        ensures cause { HasCause self.old.failures.number self.new.failures.number result }
-        ensures written { self.new.full ≡ false → OnOk result ((i : ℕ) → i < 8 → content_of self.new (call.sector + i) ≡ part_of from.now i) }
-        ensures others { self.new.full ≡ false → ChangesPage call.sector (content_of self.old) (content_of self.new) }
-        ensures unsynced { self.new.full ≡ false → (k : ℕ) → unsynced_in self.new k → unsynced_in self.old k ⊎ IsOfPage call.sector k }
-        ensures marked { self.new.full ≡ false → (k : ℕ) → IsOfPage call.sector k → unsynced_in self.new k }
-        ensures still { self.new.full ≡ false → (k : ℕ) → unsynced_in self.old k → unsynced_in self.new k }
-        ensures time { self.new.full ≡ false → Elapses (moment_of self.old) (moment_of self.new) (left_in self.old) (left_in self.new) (content_of self.new) (unsynced_in self.new) }
+        ensures { PutsPage self.old self.new call.sector from.now result }
     {
         self.next = self.next.saturating_add(1);
         self.list(call, &parts(from)[0])
@@ -233,16 +205,7 @@ impl<'a> PlanDisk<'a> {
     fn put_sectors(&mut self, n: u64, from: &[u8; 4096]) -> Result<(), DiskFault>
         requires room { n + 8 ≤ length self.old.image.now }
         requires fits { n < 2 ^ 60 }
-        ensures asked { self.new.asked ≡ self.old.asked }
-        ensures size { length self.new.image.now ≡ length self.old.image.now }
-        ensures kept { self.new.full ≡ false → self.old.full ≡ false }
-        ensures cause { HasCause self.old.failures.number self.new.failures.number result }
-        ensures written { self.new.full ≡ false → OnOk result ((i : ℕ) → i < 8 → content_of self.new (n + i) ≡ part_of from.now i) }
-        ensures others { self.new.full ≡ false → ChangesPage n (content_of self.old) (content_of self.new) }
-        ensures unsynced { self.new.full ≡ false → (k : ℕ) → unsynced_in self.new k → unsynced_in self.old k ⊎ IsOfPage n k }
-        ensures marked { self.new.full ≡ false → (k : ℕ) → IsOfPage n k → unsynced_in self.new k }
-        ensures still { self.new.full ≡ false → (k : ℕ) → unsynced_in self.old k → unsynced_in self.new k }
-        ensures time { self.new.full ≡ false → Elapses (moment_of self.old) (moment_of self.new) (left_in self.old) (left_in self.new) (content_of self.new) (unsynced_in self.new) }
+        ensures { PutsPage self.old self.new n from.now result }
     {
         for (i, sector) in parts(from).iter().enumerate() {
             self.put(n + i as u64, sector)?;
@@ -268,11 +231,9 @@ impl<'a> PlanDisk<'a> {
     /// at first: a page that is copied comes from the image, where no store of the caller changes it.
     fn named(&self, n: u64, page: &[u8; 4096]) -> Option<Call>
         requires { n + 8 ≤ length self.now.image.now }
-        ensures call { IfSome result (λ call. IsCall (length self.now.image.now) call) }
+        ensures listable { IfSome result (λ call. IsListable self.now call) }
         ensures sector { IfSome result (λ call. call.sector ≡ n) }
         ensures sources { IfSome result (λ call. NamesPage (pages_of self.now) (row self.now.image.now) n page.now call) }
-        ensures lent { IfSome result (λ call. call.kind ≡ 3 → length (pages_of self.now call.from) ≡ 4096) }
-        ensures unwritten { IfSome result (λ call. call.kind ≡ 4 → (self.now.untouched.low ≤ call.from) × (call.from + 8 ≤ self.now.untouched.high)) }
     {
         if self.holds(self.read, page) {
             return Some(Call {

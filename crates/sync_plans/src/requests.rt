@@ -1,11 +1,11 @@
 //! What is asked of the store on a device.
-ghost use Rattle.std.specs.Prelude.{◌≡◌, ◌<◌, ℕ, List, Option, OnOk, IfOk, IfErr, length};
+ghost use Rattle.std.specs.Prelude.{◌≡◌, ℕ, List, Option, OnOk, IfOk, IfErr, length};
 ghost use Rattle.vm_types.specs.declared.file.FileInfo.{FileInfo};
 ghost use Rattle.disk_model.specs.Moments.{LeavesOnly, LeavesNow};
-ghost use Rattle.file_store.specs.Commit.{ArePages, Changes, StandsForEither};
-ghost use Rattle.file_store.specs.Standing.{IsPageOf, StandsFor, IsBadLayout, file_info};
+ghost use Rattle.file_store.specs.Commit.{ArePages, StandsForEither};
+ghost use Rattle.file_store.specs.Standing.{IsPageOf, StandsFor, file_info};
 ghost use Rattle.sync_plans.specs.Pages.{lent_page};
-ghost use Rattle.sync_plans.specs.Requests.{IsStore, HasLayout, HasBadJournal, IsClosed, KeepsOutside, AreWritable, AreReadOnly};
+ghost use Rattle.sync_plans.specs.Requests.{IsStore, AreReadOnly, RefusesOn, OpensStore, CommitsStore};
 
 use crate::lent_pages::{LentPages, PageBytes};
 use batches::{BadBatch, check_page, check_pages};
@@ -54,18 +54,12 @@ fn untaken(fault: BadBatch) -> Refusal
 pub(crate) fn open<D: SectorDisk + Drop>(disk: D) -> (D, Result<(), Refusal>)
     requires { D.keeps_model disk → (k : ℕ) → D.unsynced disk k → ⊥ }
     ensures size { D.sector_count result.0 ≡ D.sector_count disk }
-    ensures cause { IfErr result.1 (λ refusal. refusal ≡ Refusal.Device → D.failures disk < D.failures result.0) }
-    ensures synced { D.keeps_model result.0 → OnOk result.1 ((k : ℕ) → D.unsynced result.0 k → ⊥) }
+    // Whatever comes of it, at any moment of the call the image stands for the files that it stood for.
     ensures any_moment { D.keeps_model result.0 → (files : ℕ → Option FileInfo) (before : ℕ → ℕ → List ℕ)
         → LeavesNow D.SectorDisk disk (StandsFor (D.sector_count disk) files before)
         → LeavesOnly D.SectorDisk disk result.0 (StandsForEither (D.sector_count disk) files before before) }
-    ensures closed { D.keeps_model result.0 → OnOk result.1 (IsClosed (D.content result.0)) }
-    ensures outside { D.keeps_model result.0 → OnOk result.1 (KeepsOutside (D.sector_count disk) (D.content disk) (D.content result.0)) }
-    ensures store { D.keeps_model result.0 → OnOk result.1 (IsStore (D.sector_count disk) (D.content disk)) }
-    ensures layout { D.keeps_model result.0 → IfErr result.1 (λ refusal. refusal ≡ Refusal.BadLayout → IsBadLayout (D.sector_count disk) (D.content disk)) }
-    ensures journal { D.keeps_model result.0 → IfErr result.1 (λ refusal. refusal ≡ Refusal.BadJournal → HasBadJournal (D.sector_count disk) (D.content disk)) }
-    ensures pages { IfErr result.1 (λ refusal. refusal ≡ Refusal.BadPages → ⊥) }
-    ensures read_only { IfErr result.1 (λ refusal. refusal ≡ Refusal.ReadOnly → ⊥) }
+    ensures opens { D.keeps_model result.0 → OnOk result.1 (OpensStore D.SectorDisk disk result.0) }
+    ensures refused { IfErr result.1 (RefusesOn D.SectorDisk disk result.0 ⊥ ⊥) }
 {
     match FileStore::open(disk) {
         Ok(store) => (store.into_disk(), Ok(())),
@@ -79,13 +73,9 @@ pub(crate) fn facts<D: SectorDisk + Drop>(
     file: u8,
 ) -> (D, Result<Option<FileInfo>, Refusal>)
     requires synced { D.keeps_model disk → (k : ℕ) → D.unsynced disk k → ⊥ }
-    ensures cause { IfErr result.1 (λ refusal. refusal ≡ Refusal.Device → D.failures disk < D.failures result.0) }
     ensures facts { D.keeps_model result.0 → IfOk result.1 (λ info. info ≡ file_info (D.content disk) file) }
     ensures store { D.keeps_model result.0 → OnOk result.1 (IsStore (D.sector_count disk) (D.content disk)) }
-    ensures layout { D.keeps_model result.0 → IfErr result.1 (λ refusal. refusal ≡ Refusal.BadLayout → IsBadLayout (D.sector_count disk) (D.content disk)) }
-    ensures journal { D.keeps_model result.0 → IfErr result.1 (λ refusal. refusal ≡ Refusal.BadJournal → HasBadJournal (D.sector_count disk) (D.content disk)) }
-    ensures pages { IfErr result.1 (λ refusal. refusal ≡ Refusal.BadPages → ⊥) }
-    ensures read_only { IfErr result.1 (λ refusal. refusal ≡ Refusal.ReadOnly → ⊥) }
+    ensures refused { IfErr result.1 (RefusesOn D.SectorDisk disk result.0 ⊥ ⊥) }
 {
     match FileStore::resume(disk) {
         Ok(store) => {
@@ -103,15 +93,11 @@ pub(crate) fn read<D: SectorDisk + Drop>(
     to: &mut [u8; 4096],
 ) -> (D, Result<(), Refusal>)
     requires synced { D.keeps_model disk → (k : ℕ) → D.unsynced disk k → ⊥ }
-    ensures cause { IfErr result.1 (λ refusal. refusal ≡ Refusal.Device → D.failures disk < D.failures result.0) }
     ensures page { D.keeps_model result.0 → (files : ℕ → Option FileInfo) (pages : ℕ → ℕ → List ℕ) → LeavesNow D.SectorDisk disk (StandsFor (D.sector_count disk) files pages)
         → IsPageOf files page.file page.page → OnOk result.1 (to.new ≡ pages page.file page.page) }
     ensures inside { D.keeps_model result.0 → OnOk result.1 (IsPageOf (file_info (D.content disk)) page.file page.page) }
     ensures store { D.keeps_model result.0 → OnOk result.1 (IsStore (D.sector_count disk) (D.content disk)) }
-    ensures layout { D.keeps_model result.0 → IfErr result.1 (λ refusal. refusal ≡ Refusal.BadLayout → IsBadLayout (D.sector_count disk) (D.content disk)) }
-    ensures journal { D.keeps_model result.0 → IfErr result.1 (λ refusal. refusal ≡ Refusal.BadJournal → HasBadJournal (D.sector_count disk) (D.content disk)) }
-    ensures pages { D.keeps_model result.0 → IfErr result.1 (λ refusal. refusal ≡ Refusal.BadPages → IsPageOf (file_info (D.content disk)) page.file page.page → ⊥) }
-    ensures read_only { IfErr result.1 (λ refusal. refusal ≡ Refusal.ReadOnly → ⊥) }
+    ensures refused { IfErr result.1 (RefusesOn D.SectorDisk disk result.0 (D.keeps_model result.0 → IsPageOf (file_info (D.content disk)) page.file page.page → ⊥) ⊥) }
 {
     let mut store = match FileStore::resume(disk) {
         Ok(store) => store,
@@ -135,23 +121,9 @@ pub(crate) fn commit<D: SectorDisk + Drop>(
     requires synced { D.keeps_model disk → (k : ℕ) → D.unsynced disk k → ⊥ }
     requires bytes { length bytes.now ≡ length pages.now }
     ensures size { D.sector_count result.0 ≡ D.sector_count disk }
-    ensures cause { IfErr result.1 (λ refusal. refusal ≡ Refusal.Device → D.failures disk < D.failures result.0) }
-    ensures synced { D.keeps_model result.0 → OnOk result.1 ((k : ℕ) → D.unsynced result.0 k → ⊥) }
-    ensures any_moment { D.keeps_model result.0 → (files : ℕ → Option FileInfo) (before after : ℕ → ℕ → List ℕ)
-        → LeavesNow D.SectorDisk disk (StandsFor (D.sector_count disk) files before) → Changes files pages.now (lent_page bytes.now) before after
-        → OnOk result.1 (LeavesOnly D.SectorDisk disk result.0 (StandsForEither (D.sector_count disk) files before after)) }
-    ensures ok { D.keeps_model result.0 → (files : ℕ → Option FileInfo) (before after : ℕ → ℕ → List ℕ)
-        → LeavesNow D.SectorDisk disk (StandsFor (D.sector_count disk) files before) → Changes files pages.now (lent_page bytes.now) before after
-        → OnOk result.1 (LeavesNow D.SectorDisk result.0 (StandsFor (D.sector_count disk) files after)) }
-    // Every image of a stop at any moment of the call has the layout of a store.
-    ensures layout_moment { D.keeps_model result.0 → OnOk result.1 (LeavesOnly D.SectorDisk disk result.0 (HasLayout (D.sector_count disk))) }
-    ensures outside { D.keeps_model result.0 → OnOk result.1 (KeepsOutside (D.sector_count disk) (D.content disk) (D.content result.0)) }
-    ensures store { D.keeps_model result.0 → OnOk result.1 (IsStore (D.sector_count disk) (D.content disk)) }
-    ensures writable { D.keeps_model result.0 → OnOk result.1 (AreWritable (D.content disk) pages.now) }
-    ensures layout { D.keeps_model result.0 → IfErr result.1 (λ refusal. refusal ≡ Refusal.BadLayout → IsBadLayout (D.sector_count disk) (D.content disk)) }
-    ensures journal { D.keeps_model result.0 → IfErr result.1 (λ refusal. refusal ≡ Refusal.BadJournal → HasBadJournal (D.sector_count disk) (D.content disk)) }
-    ensures pages { D.keeps_model result.0 → IfErr result.1 (λ refusal. refusal ≡ Refusal.BadPages → ArePages (file_info (D.content disk)) pages.now → ⊥) }
-    ensures read_only { D.keeps_model result.0 → IfErr result.1 (λ refusal. refusal ≡ Refusal.ReadOnly → AreReadOnly (D.content disk) pages.now) }
+    ensures commits { D.keeps_model result.0 → OnOk result.1 (CommitsStore D.SectorDisk disk result.0 pages.now (lent_page bytes.now)) }
+    ensures refused { IfErr result.1 (RefusesOn D.SectorDisk disk result.0
+        (D.keeps_model result.0 → ArePages (file_info (D.content disk)) pages.now → ⊥) (D.keeps_model result.0 → AreReadOnly (D.content disk) pages.now)) }
 {
     let mut store = match FileStore::resume(disk) {
         Ok(store) => store,

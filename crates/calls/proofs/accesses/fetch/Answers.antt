@@ -2,4 +2,4 @@ use Rattle.std.proofs.Common.{refl}
 use Rattle.calls.proofs.accesses.fetch.Goals as goal
 
 pub returns-clause-comes : goal.returns-clause-comes
-returns-clause-comes g c = c.read.ensures.fetch refl refl
+returns-clause-comes g c = c.read.ensures.comes.fetch refl refl

@@ -1,4 +1,4 @@
-use Rattle.std.proofs.Common.{ℕ, ◌≡◌, inl, true, ◌/◌, ◌%◌, List, refl, sym, ap, ◌∙◌, subst}
+use Rattle.std.proofs.Common.{ℕ, ◌≡◌, inl, true, ◌/◌, ◌%◌, List, refl, sym, ap, ◌∙◌, subst, rules}
 use Rattle.page_faults.specs.Outcome.{Grants, IsRefusal, IsWalked}
 use Rattle.frames.specs.FrameTable.{bytes_of}
 use Rattle.mapping.specs.Changes.{KeepsOtherViews}
@@ -30,19 +30,16 @@ frame_of-frame-requires g c =
     let placed = c.in-Ok.ensures.placed in
     open_read c.args.kind (picture_of c.access.new.core) c.in-Some.pid (c.args.addr / 4096) placed.seen.attr.backing (c.in-Ok.place.0 / 4096) c.requires.kind placed.usable
 
-pub returns-in-Ok-clause-reads : goal.returns-in-Ok-clause-reads
-returns-in-Ok-clause-reads g c = c.access.ensures.proceeds.reads
-
-pub returns-in-Ok-clause-device : goal.returns-in-Ok-clause-device
-returns-in-Ok-clause-device g c = c.access.ensures.proceeds.device
-
-pub returns-in-Ok-clause-others : goal.returns-in-Ok-clause-others
-returns-in-Ok-clause-others g c =
+pub returns-in-Ok-clause-keeps : goal.returns-in-Ok-clause-keeps
+returns-in-Ok-clause-keeps g c =
     let a = c.args in
-    subst (λ (p : ℕ). KeepsOtherViews (picture_of a.core.now) (picture_of c.access.new.core) p (a.addr / 4096)) c.in-Some.ensures.found.0 c.access.ensures.others
-
-pub returns-in-Ok-clause-room : goal.returns-in-Ok-clause-room
-returns-in-Ok-clause-room g c = c.access.ensures.proceeds.room
+    let goes = c.access.ensures.proceeds in
+    record {
+      accounts = record { room = goes.room; denied = search rules; caused = search rules };
+      others = subst (λ (p : ℕ). KeepsOtherViews (picture_of a.core.now) (picture_of c.access.new.core) p (a.addr / 4096)) c.in-Some.ensures.found.0 c.access.ensures.others;
+      reads = goes.reads;
+      device = goes.device;
+    }
 
 pub returns-in-Ok-clause-walked : goal.returns-in-Ok-clause-walked
 returns-in-Ok-clause-walked g c place walked =
@@ -57,51 +54,50 @@ returns-in-Ok-clause-asks g c =
     (asks_unstalled g.D.SectorDisk g.E.SectorDisk a.core.now c.access.new.core c.in-Some.pid a.addr a.kind c.access.ensures.read (λ none. (c.access.ensures.calm none).swap) c.access.ensures.slotted c.access.ensures.asks
     c.access.new.core c.access.ensures.tables c.access.ensures.calm (writes_none a.kind c.access.new.core) reply (λ stall e. cc))
 
-pub returns-in-Ok-clause-load : goal.returns-in-Ok-clause-load
-returns-in-Ok-clause-load g c = λ is s shows keeps swaps.
+pub returns-in-Ok-clause-comes : goal.returns-in-Ok-clause-comes
+returns-in-Ok-clause-comes g c = record {
+  load = λ is s shows keeps swaps.
+      let a = c.args in
+      let old = picture_of a.core.now in
+      let new = picture_of c.access.new.core in
+      let granted = subst (λ (p : ℕ). Grants old new p a.addr a.width Accesses.Load c.in-Ok.place) c.in-Some.ensures.found.0
+      (subst (λ (k : Access). Grants old new c.in-Some.pid a.addr a.width k c.in-Ok.place) is (c.in-Ok.ensures.granted (λ away. swaps refl))) in
+      loads g.D.SectorDisk g.E.SectorDisk a.core.now c.access.new.core _ s shows (keeps refl) (swaps refl) c.access.ensures.proceeds c.access.ensures.brings
+      a.pid a.addr (found_lives (picture_of a.core.now) c.in-Some.pid a.pid c.in-Some.ensures.found) a.width granted.seen (c.in-Ok.place.0 / 4096) c.read_number-value.result granted.fine granted.ready
+      (c.read_number-value.ensures
+      ∙ ap (λ (b : List ℕ). loaded b (a.addr % 4096) (byte_count a.width)) (c.bytes-page.ensures ∙ ap (λ (n : ℕ). bytes_of c.access.new.core.frames n) c.frame_of-frame.ensures));
+  fetch = λ is four s shows keeps swaps.
+      let a = c.args in
+      let old = picture_of a.core.now in
+      let new = picture_of c.access.new.core in
+      let granted = subst (λ (w : Width). Grants old new a.pid a.addr w Accesses.Fetch c.in-Ok.place) four
+      (subst (λ (p : ℕ). Grants old new p a.addr a.width Accesses.Fetch c.in-Ok.place) c.in-Some.ensures.found.0
+      (subst (λ (k : Access). Grants old new c.in-Some.pid a.addr a.width k c.in-Ok.place) is (c.in-Ok.ensures.granted (λ away. swaps refl)))) in
+      subst (λ (w : Width). Comes g.D.SectorDisk g.E.SectorDisk a.core.now c.access.new.core s (Fetch a.pid a.addr) (Value w c.read_number-value.result)) (sym four)
+      (fetches g.D.SectorDisk g.E.SectorDisk a.core.now c.access.new.core _ s shows (keeps refl) (swaps refl) c.access.ensures.proceeds c.access.ensures.brings
+      a.pid a.addr (found_lives (picture_of a.core.now) c.in-Some.pid a.pid c.in-Some.ensures.found) granted.seen (c.in-Ok.place.0 / 4096) c.read_number-value.result granted.fine granted.ready
+      (c.read_number-value.ensures
+      ∙ ap (λ (b : List ℕ). loaded b (a.addr % 4096) (byte_count a.width)) (c.bytes-page.ensures ∙ ap (λ (n : ℕ). bytes_of c.access.new.core.frames n) c.frame_of-frame.ensures)
+      ∙ ap (λ (w : Width). loaded (bytes_of c.access.new.core.frames (c.in-Ok.place.0 / 4096)) (a.addr % 4096) (byte_count w)) four));
+}
+
+pub returns-in-Err-clause-keeps : goal.returns-in-Err-clause-keeps
+returns-in-Err-clause-keeps g c =
     let a = c.args in
-    let old = picture_of a.core.now in
-    let new = picture_of c.access.new.core in
-    let granted = subst (λ (p : ℕ). Grants old new p a.addr a.width Accesses.Load c.in-Ok.place) c.in-Some.ensures.found.0
-    (subst (λ (k : Access). Grants old new c.in-Some.pid a.addr a.width k c.in-Ok.place) is (c.in-Ok.ensures.granted (λ away. swaps refl))) in
-    loads g.D.SectorDisk g.E.SectorDisk a.core.now c.access.new.core _ s shows (keeps refl) (swaps refl) c.access.ensures.proceeds c.access.ensures.brings
-    a.pid a.addr (found_lives (picture_of a.core.now) c.in-Some.pid a.pid c.in-Some.ensures.found) a.width granted.seen (c.in-Ok.place.0 / 4096) c.read_number-value.result granted.fine granted.ready
-    (c.read_number-value.ensures
-    ∙ ap (λ (b : List ℕ). loaded b (a.addr % 4096) (byte_count a.width)) (c.bytes-page.ensures ∙ ap (λ (n : ℕ). bytes_of c.access.new.core.frames n) c.frame_of-frame.ensures))
-
-pub returns-in-Ok-clause-fetch : goal.returns-in-Ok-clause-fetch
-returns-in-Ok-clause-fetch g c = λ is four s shows keeps swaps.
-    let a = c.args in
-    let old = picture_of a.core.now in
-    let new = picture_of c.access.new.core in
-    let granted = subst (λ (w : Width). Grants old new a.pid a.addr w Accesses.Fetch c.in-Ok.place) four
-    (subst (λ (p : ℕ). Grants old new p a.addr a.width Accesses.Fetch c.in-Ok.place) c.in-Some.ensures.found.0
-    (subst (λ (k : Access). Grants old new c.in-Some.pid a.addr a.width k c.in-Ok.place) is (c.in-Ok.ensures.granted (λ away. swaps refl)))) in
-    subst (λ (w : Width). Comes g.D.SectorDisk g.E.SectorDisk a.core.now c.access.new.core s (Fetch a.pid a.addr) (Value w c.read_number-value.result)) (sym four)
-    (fetches g.D.SectorDisk g.E.SectorDisk a.core.now c.access.new.core _ s shows (keeps refl) (swaps refl) c.access.ensures.proceeds c.access.ensures.brings
-    a.pid a.addr (found_lives (picture_of a.core.now) c.in-Some.pid a.pid c.in-Some.ensures.found) granted.seen (c.in-Ok.place.0 / 4096) c.read_number-value.result granted.fine granted.ready
-    (c.read_number-value.ensures
-    ∙ ap (λ (b : List ℕ). loaded b (a.addr % 4096) (byte_count a.width)) (c.bytes-page.ensures ∙ ap (λ (n : ℕ). bytes_of c.access.new.core.frames n) c.frame_of-frame.ensures)
-    ∙ ap (λ (w : Width). loaded (bytes_of c.access.new.core.frames (c.in-Ok.place.0 / 4096)) (a.addr % 4096) (byte_count w)) four))
-
-pub returns-in-Err-clause-reads : goal.returns-in-Err-clause-reads
-returns-in-Err-clause-reads g c = c.access.ensures.proceeds.reads
-
-pub returns-in-Err-clause-device : goal.returns-in-Err-clause-device
-returns-in-Err-clause-device g c = c.access.ensures.proceeds.device
-
-pub returns-in-Err-clause-others : goal.returns-in-Err-clause-others
-returns-in-Err-clause-others g c =
-    let a = c.args in
-    subst (λ (p : ℕ). KeepsOtherViews (picture_of a.core.now) (picture_of c.access.new.core) p (a.addr / 4096)) c.in-Some.ensures.found.0 c.access.ensures.others
-
-pub returns-in-Err-clause-room : goal.returns-in-Err-clause-room
-returns-in-Err-clause-room g c = c.access.ensures.proceeds.room
-
-pub returns-in-Err-clause-denied : goal.returns-in-Err-clause-denied
-returns-in-Err-clause-denied g c =
-    subst (λ (r : Answer). is_denial (reply_of r) ≡ true → c.access.new.core ≡ c.args.core.now) (sym c.refused.ensures)
-    (refused_idle g.D.SectorDisk g.E.SectorDisk c.args.core.now c.access.new.core c.in-Some.pid c.args.addr c.args.width c.args.kind c.in-Err.refusal c.in-Err.ensures.refusal)
+    let goes = c.access.ensures.proceeds in
+    record {
+      accounts = record {
+        room = goes.room;
+        denied = subst (λ (r : Answer). is_denial (reply_of r) ≡ true → c.access.new.core ≡ a.core.now) (sym c.refused.ensures)
+            (refused_idle g.D.SectorDisk g.E.SectorDisk a.core.now c.access.new.core c.in-Some.pid a.addr a.width a.kind c.in-Err.refusal c.in-Err.ensures.refusal);
+        caused = subst (λ (r : Answer). IsCaused g.D.SectorDisk g.E.SectorDisk a.core.now c.access.new.core (reply_of r)) (sym c.refused.ensures)
+            (refused_caused g.D.SectorDisk g.E.SectorDisk a.core.now c.access.new.core c.in-Some.pid a.addr a.width a.kind c.in-Err.refusal
+            goes.reads.failures goes.device.later c.in-Err.ensures.refusal);
+      };
+      others = subst (λ (p : ℕ). KeepsOtherViews (picture_of a.core.now) (picture_of c.access.new.core) p (a.addr / 4096)) c.in-Some.ensures.found.0 c.access.ensures.others;
+      reads = goes.reads;
+      device = goes.device;
+    }
 
 pub returns-in-Err-clause-walked : goal.returns-in-Err-clause-walked
 returns-in-Err-clause-walked g c place walked =
@@ -116,31 +112,24 @@ returns-in-Err-clause-asks g c =
     (asks_refused g.D.SectorDisk g.E.SectorDisk a.core.now c.access.new.core c.in-Some.pid a.addr a.kind c.access.ensures.read (λ none. (c.access.ensures.calm none).swap) c.access.ensures.slotted c.access.ensures.asks
     c.access.new.core c.access.ensures.tables c.access.ensures.calm (writes_none a.kind c.access.new.core) a.width c.in-Err.refusal c.in-Err.ensures.refusal))
 
-pub returns-in-Err-clause-load : goal.returns-in-Err-clause-load
-returns-in-Err-clause-load g c = λ is s shows keeps swaps.
-    let a = c.args in
-    let refusal = subst (λ (p : ℕ). IsRefusal g.D.SectorDisk g.E.SectorDisk a.core.now c.access.new.core p a.addr a.width Accesses.Load c.in-Err.refusal) c.in-Some.ensures.found.0
-    (subst (λ (k : Access). IsRefusal g.D.SectorDisk g.E.SectorDisk a.core.now c.access.new.core c.in-Some.pid a.addr a.width k c.in-Err.refusal) is c.in-Err.ensures.refusal) in
-    subst (λ (r : Answer). Comes g.D.SectorDisk g.E.SectorDisk a.core.now c.access.new.core s (Load a.pid a.addr a.width) (reply_of r)) (sym c.refused.ensures)
-    (load_refused g.D.SectorDisk g.E.SectorDisk a.core.now c.access.new.core _ s shows (keeps refl) (swaps refl) c.access.ensures.proceeds c.access.ensures.brings
-    a.pid a.addr (found_lives (picture_of a.core.now) c.in-Some.pid a.pid c.in-Some.ensures.found) a.width c.in-Err.refusal refusal)
-
-pub returns-in-Err-clause-fetch : goal.returns-in-Err-clause-fetch
-returns-in-Err-clause-fetch g c = λ is four s shows keeps swaps.
-    let a = c.args in
-    let refusal = subst (λ (w : Width). IsRefusal g.D.SectorDisk g.E.SectorDisk a.core.now c.access.new.core a.pid a.addr w Accesses.Fetch c.in-Err.refusal) four
-    (subst (λ (p : ℕ). IsRefusal g.D.SectorDisk g.E.SectorDisk a.core.now c.access.new.core p a.addr a.width Accesses.Fetch c.in-Err.refusal) c.in-Some.ensures.found.0
-    (subst (λ (k : Access). IsRefusal g.D.SectorDisk g.E.SectorDisk a.core.now c.access.new.core c.in-Some.pid a.addr a.width k c.in-Err.refusal) is c.in-Err.ensures.refusal)) in
-    subst (λ (r : Answer). Comes g.D.SectorDisk g.E.SectorDisk a.core.now c.access.new.core s (Fetch a.pid a.addr) (reply_of r)) (sym c.refused.ensures)
-    (fetch_refused g.D.SectorDisk g.E.SectorDisk a.core.now c.access.new.core _ s shows (keeps refl) (swaps refl) c.access.ensures.proceeds c.access.ensures.brings
-    a.pid a.addr (found_lives (picture_of a.core.now) c.in-Some.pid a.pid c.in-Some.ensures.found) c.in-Err.refusal refusal)
-
-pub returns-in-Err-clause-caused : goal.returns-in-Err-clause-caused
-returns-in-Err-clause-caused g c =
-    let goes = c.access.ensures.proceeds in
-    subst (λ (r : Answer). IsCaused g.D.SectorDisk g.E.SectorDisk c.args.core.now c.access.new.core (reply_of r)) (sym c.refused.ensures)
-    (refused_caused g.D.SectorDisk g.E.SectorDisk c.args.core.now c.access.new.core c.in-Some.pid c.args.addr c.args.width c.args.kind c.in-Err.refusal
-    goes.reads.failures goes.device.later c.in-Err.ensures.refusal)
+pub returns-in-Err-clause-comes : goal.returns-in-Err-clause-comes
+returns-in-Err-clause-comes g c = record {
+  load = λ is s shows keeps swaps.
+      let a = c.args in
+      let refusal = subst (λ (p : ℕ). IsRefusal g.D.SectorDisk g.E.SectorDisk a.core.now c.access.new.core p a.addr a.width Accesses.Load c.in-Err.refusal) c.in-Some.ensures.found.0
+      (subst (λ (k : Access). IsRefusal g.D.SectorDisk g.E.SectorDisk a.core.now c.access.new.core c.in-Some.pid a.addr a.width k c.in-Err.refusal) is c.in-Err.ensures.refusal) in
+      subst (λ (r : Answer). Comes g.D.SectorDisk g.E.SectorDisk a.core.now c.access.new.core s (Load a.pid a.addr a.width) (reply_of r)) (sym c.refused.ensures)
+      (load_refused g.D.SectorDisk g.E.SectorDisk a.core.now c.access.new.core _ s shows (keeps refl) (swaps refl) c.access.ensures.proceeds c.access.ensures.brings
+      a.pid a.addr (found_lives (picture_of a.core.now) c.in-Some.pid a.pid c.in-Some.ensures.found) a.width c.in-Err.refusal refusal);
+  fetch = λ is four s shows keeps swaps.
+      let a = c.args in
+      let refusal = subst (λ (w : Width). IsRefusal g.D.SectorDisk g.E.SectorDisk a.core.now c.access.new.core a.pid a.addr w Accesses.Fetch c.in-Err.refusal) four
+      (subst (λ (p : ℕ). IsRefusal g.D.SectorDisk g.E.SectorDisk a.core.now c.access.new.core p a.addr a.width Accesses.Fetch c.in-Err.refusal) c.in-Some.ensures.found.0
+      (subst (λ (k : Access). IsRefusal g.D.SectorDisk g.E.SectorDisk a.core.now c.access.new.core c.in-Some.pid a.addr a.width k c.in-Err.refusal) is c.in-Err.ensures.refusal)) in
+      subst (λ (r : Answer). Comes g.D.SectorDisk g.E.SectorDisk a.core.now c.access.new.core s (Fetch a.pid a.addr) (reply_of r)) (sym c.refused.ensures)
+      (fetch_refused g.D.SectorDisk g.E.SectorDisk a.core.now c.access.new.core _ s shows (keeps refl) (swaps refl) c.access.ensures.proceeds c.access.ensures.brings
+      a.pid a.addr (found_lives (picture_of a.core.now) c.in-Some.pid a.pid c.in-Some.ensures.found) c.in-Err.refusal refusal);
+}
 
 pub returns-in_default-clause-walked : goal.returns-in_default-clause-walked
 returns-in_default-clause-walked g c place walked = refl
@@ -149,6 +138,3 @@ pub returns-in_default-clause-asks : goal.returns-in_default-clause-asks
 returns-in_default-clause-asks g c =
     asks_unstalled g.D.SectorDisk g.E.SectorDisk c.args.core.now c.args.core.now c.args.pid c.args.addr c.args.kind (inl refl) (λ none. refl) (slotted_same _ _ (picture_of c.args.core.now)) (asks_same g.D.SectorDisk g.E.SectorDisk c.args.core.now c.args.core.now c.args.pid (c.args.addr / 4096) c.args.kind refl refl)
     c.args.core.now (λ n table. inl table) (λ none. calm_same c.args.core.now c.args.pid (c.args.addr / 4096)) (writes_none c.args.kind c.args.core.now) (Refused ESRCH) (λ stall e. cc)
-
-pub returns-in_default-clause-others : goal.returns-in_default-clause-others
-returns-in_default-clause-others g c = λ q k other. refl

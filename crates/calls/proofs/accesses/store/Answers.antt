@@ -1,4 +1,4 @@
-use Rattle.std.proofs.Common.{ℕ, ◌<◌, ◌≡◌, ◌⊎◌, inl, inr, true, false, is_some, ◌/◌, ◌%◌, List, refl, sym, ap, ◌∙◌, subst, arith}
+use Rattle.std.proofs.Common.{ℕ, ◌<◌, ◌≡◌, ◌⊎◌, inl, inr, true, false, is_some, ◌/◌, ◌%◌, List, refl, sym, ap, ◌∙◌, subst, rules, arith}
 use Rattle.frames.specs.FrameTable.{FrameTable, IsHeld, IsSound, with_bytes}
 use Rattle.frames.proofs.FrameLemmas.{IsHeld-above, IsHeld-not_zero, IsSound-step, with_bytes-others}
 use Rattle.page_faults.specs.Asking.{AsksForPage}
@@ -32,15 +32,24 @@ frame_of-frame-requires g c =
     let placed = c.in-Ok.ensures.placed in
     (open_held (picture_of c.access.new.core) c.in-Some.pid (c.args.addr / 4096) placed.seen.attr.backing (c.in-Ok.place.0 / 4096) placed.usable).inside
 
-pub returns-in-Ok-clause-reads : goal.returns-in-Ok-clause-reads
-returns-in-Ok-clause-reads g c = c.access.ensures.proceeds.reads
-
-pub returns-in-Ok-clause-device : goal.returns-in-Ok-clause-device
-returns-in-Ok-clause-device g c = c.access.ensures.proceeds.device
-
-pub returns-in-Ok-clause-room : goal.returns-in-Ok-clause-room
-returns-in-Ok-clause-room g c =
-    room_stored (picture_of c.args.core.now) (picture_of c.access.new.core) _ c.frame_of-frame.result.0 c.write_number.new.page c.access.ensures.proceeds.room refl refl
+pub returns-in-Ok-clause-keeps : goal.returns-in-Ok-clause-keeps
+returns-in-Ok-clause-keeps g c =
+    let a = c.args in
+    let old = picture_of a.core.now in
+    let mid = picture_of c.access.new.core in
+    let placed = c.in-Ok.ensures.placed in
+    let here = subst (λ (p : ℕ). IsOpenToStore mid p (a.addr / 4096) placed.seen.attr.backing (c.in-Ok.place.0 / 4096)) c.in-Some.ensures.found.0 placed.usable in
+    let usable = subst (λ (k : ℕ). IsOpenToStore mid a.pid (a.addr / 4096) placed.seen.attr.backing k) (sym c.frame_of-frame.ensures) here in
+    let others = subst (λ (p : ℕ). KeepsOtherViews old mid p (a.addr / 4096)) c.in-Some.ensures.found.0 c.access.ensures.others in
+    let goes = c.access.ensures.proceeds in
+    record {
+      accounts = record { room = room_stored (picture_of a.core.now) (picture_of c.access.new.core) _ c.frame_of-frame.result.0 c.write_number.new.page goes.room refl refl; denied = search rules; caused = search rules };
+      others = others_stored old mid _ a.pid (a.addr / 4096) placed.seen.attr.backing c.frame_of-frame.result.0 c.write_number.new.page c.access.ensures.proceeds.fit
+          usable refl (record { slots = refl; root = λ q. refl; at = λ q k. refl; page_of = λ m. refl; place = λ p. refl; touched = λ p. refl; files = λ f. refl })
+          others;
+      reads = goes.reads;
+      device = goes.device;
+    }
 
 pub returns-in-Ok-clause-sound : goal.returns-in-Ok-clause-sound
 returns-in-Ok-clause-sound g c =
@@ -72,19 +81,6 @@ returns-in-Ok-clause-comes g c = λ s shows keeps swaps.
     ready
     (c.write_number.ensures
     ∙ ap (λ (b : List ℕ). with_number b (a.addr % 4096) (byte_count a.stored.width) a.stored.value) c.bytes_mut-page.ensures.value)
-
-pub returns-in-Ok-clause-others : goal.returns-in-Ok-clause-others
-returns-in-Ok-clause-others g c =
-    let a = c.args in
-    let old = picture_of a.core.now in
-    let mid = picture_of c.access.new.core in
-    let placed = c.in-Ok.ensures.placed in
-    let here = subst (λ (p : ℕ). IsOpenToStore mid p (a.addr / 4096) placed.seen.attr.backing (c.in-Ok.place.0 / 4096)) c.in-Some.ensures.found.0 placed.usable in
-    let usable = subst (λ (k : ℕ). IsOpenToStore mid a.pid (a.addr / 4096) placed.seen.attr.backing k) (sym c.frame_of-frame.ensures) here in
-    let others = subst (λ (p : ℕ). KeepsOtherViews old mid p (a.addr / 4096)) c.in-Some.ensures.found.0 c.access.ensures.others in
-    others_stored old mid _ a.pid (a.addr / 4096) placed.seen.attr.backing c.frame_of-frame.result.0 c.write_number.new.page c.access.ensures.proceeds.fit
-    usable refl (record { slots = refl; root = λ q. refl; at = λ q k. refl; page_of = λ m. refl; place = λ p. refl; touched = λ p. refl; files = λ f. refl })
-    others
 
 pub returns-in-Ok-clause-walked : goal.returns-in-Ok-clause-walked
 returns-in-Ok-clause-walked g c place walked =
@@ -132,24 +128,23 @@ returns-in-Err-clause-comes g c = λ s shows keeps swaps.
     (store_refused g.D.SectorDisk g.E.SectorDisk a.core.now c.access.new.core _ s shows (keeps refl) (swaps refl) c.requires.sound.fit c.access.ensures.proceeds c.access.ensures.brings
     a.pid a.addr (found_lives (picture_of a.core.now) c.in-Some.pid a.pid c.in-Some.ensures.found) a.stored c.in-Err.refusal refusal)
 
-pub returns-in-Err-clause-reads : goal.returns-in-Err-clause-reads
-returns-in-Err-clause-reads g c = c.access.ensures.proceeds.reads
-
-pub returns-in-Err-clause-device : goal.returns-in-Err-clause-device
-returns-in-Err-clause-device g c = c.access.ensures.proceeds.device
-
-pub returns-in-Err-clause-others : goal.returns-in-Err-clause-others
-returns-in-Err-clause-others g c =
+pub returns-in-Err-clause-keeps : goal.returns-in-Err-clause-keeps
+returns-in-Err-clause-keeps g c =
     let a = c.args in
-    subst (λ (p : ℕ). KeepsOtherViews (picture_of a.core.now) (picture_of c.access.new.core) p (a.addr / 4096)) c.in-Some.ensures.found.0 c.access.ensures.others
-
-pub returns-in-Err-clause-room : goal.returns-in-Err-clause-room
-returns-in-Err-clause-room g c = c.access.ensures.proceeds.room
-
-pub returns-in-Err-clause-denied : goal.returns-in-Err-clause-denied
-returns-in-Err-clause-denied g c =
-    subst (λ (r : Answer). is_denial (reply_of r) ≡ true → c.access.new.core ≡ c.args.core.now) (sym c.refused.ensures)
-    (refused_idle g.D.SectorDisk g.E.SectorDisk c.args.core.now c.access.new.core c.in-Some.pid c.args.addr c.args.stored.width Accesses.Store c.in-Err.refusal c.in-Err.ensures.refusal)
+    let goes = c.access.ensures.proceeds in
+    record {
+      accounts = record {
+        room = goes.room;
+        denied = subst (λ (r : Answer). is_denial (reply_of r) ≡ true → c.access.new.core ≡ a.core.now) (sym c.refused.ensures)
+            (refused_idle g.D.SectorDisk g.E.SectorDisk a.core.now c.access.new.core c.in-Some.pid a.addr a.stored.width Accesses.Store c.in-Err.refusal c.in-Err.ensures.refusal);
+        caused = subst (λ (r : Answer). IsCaused g.D.SectorDisk g.E.SectorDisk a.core.now c.access.new.core (reply_of r)) (sym c.refused.ensures)
+            (refused_caused g.D.SectorDisk g.E.SectorDisk a.core.now c.access.new.core c.in-Some.pid a.addr a.stored.width Accesses.Store c.in-Err.refusal
+            goes.reads.failures goes.device.later c.in-Err.ensures.refusal);
+      };
+      others = subst (λ (p : ℕ). KeepsOtherViews (picture_of a.core.now) (picture_of c.access.new.core) p (a.addr / 4096)) c.in-Some.ensures.found.0 c.access.ensures.others;
+      reads = goes.reads;
+      device = goes.device;
+    }
 
 pub returns-in-Err-clause-walked : goal.returns-in-Err-clause-walked
 returns-in-Err-clause-walked g c place walked =
@@ -165,13 +160,6 @@ returns-in-Err-clause-asks g c =
     (asks_refused g.D.SectorDisk g.E.SectorDisk a.core.now c.access.new.core c.in-Some.pid a.addr Accesses.Store c.access.ensures.read (λ none. (c.access.ensures.calm none).swap) c.access.ensures.slotted c.access.ensures.asks
     c.access.new.core c.access.ensures.tables c.access.ensures.calm (writes_none Accesses.Store c.access.new.core) a.stored.width c.in-Err.refusal c.in-Err.ensures.refusal))
 
-pub returns-in-Err-clause-caused : goal.returns-in-Err-clause-caused
-returns-in-Err-clause-caused g c =
-    let goes = c.access.ensures.proceeds in
-    subst (λ (r : Answer). IsCaused g.D.SectorDisk g.E.SectorDisk c.args.core.now c.access.new.core (reply_of r)) (sym c.refused.ensures)
-    (refused_caused g.D.SectorDisk g.E.SectorDisk c.args.core.now c.access.new.core c.in-Some.pid c.args.addr c.args.stored.width Accesses.Store c.in-Err.refusal
-    goes.reads.failures goes.device.later c.in-Err.ensures.refusal)
-
 pub returns-in_default-clause-walked : goal.returns-in_default-clause-walked
 returns-in_default-clause-walked g c place walked =
     let dead : is_live (picture_of c.args.core.now) c.args.pid ≡ false = sym c.live.ensures.known ∙ ap is_some c.in_default.is in
@@ -181,9 +169,6 @@ pub returns-in_default-clause-asks : goal.returns-in_default-clause-asks
 returns-in_default-clause-asks g c =
     asks_unstalled g.D.SectorDisk g.E.SectorDisk c.args.core.now c.args.core.now c.args.pid c.args.addr Accesses.Store (inl refl) (λ none. refl) (slotted_same _ _ (picture_of c.args.core.now)) (asks_same g.D.SectorDisk g.E.SectorDisk c.args.core.now c.args.core.now c.args.pid (c.args.addr / 4096) Accesses.Store refl refl)
     c.args.core.now (λ n table. inl table) (λ none. calm_same c.args.core.now c.args.pid (c.args.addr / 4096)) (writes_none Accesses.Store c.args.core.now) (Refused ESRCH) (λ stall e. cc)
-
-pub returns-in_default-clause-others : goal.returns-in_default-clause-others
-returns-in_default-clause-others g c = λ q k other. refl
 
 sound_written : (t : FrameTable) (n : ℕ) (w : List ℕ) → IsHeld t n → IsSound t → IsSound (with_bytes t n w)
 sound_written t n w held sound =

@@ -1,4 +1,4 @@
-use Rattle.std.proofs.Common.{ℕ, Option, ◌/◌, ◌%◌, ◌≡◌, ◌≢◌, true, sym, subst, ◌∙◌, arith}
+use Rattle.std.proofs.Common.{ℕ, Option, ◌/◌, ◌%◌, ◌≡◌, ◌≢◌, true, sym, subst, ◌∙◌, arith, rules}
 use Rattle.regions.specs.RunList.{attr_at}
 use Rattle.page_ranges.specs.Rows.{RemapsRow}
 use Rattle.paging.specs.Picture.{picture_of}
@@ -46,8 +46,11 @@ returns-clause-comes g c = λ s shows reads swaps.
     c.clear_row.new.core (subst (λ (p : ℕ). RemapsRow old (picture_of c.clear_row.new.core) p (a.addr / 4096) pages (old.at p)) same c.clear_row.ensures.row)
     c.clear_row.ensures.files
 
-pub returns-clause-room : goal.returns-clause-room
-returns-clause-room g c = room_same c.args.core.now c.clear_row.new.core c.clear_row.ensures.rest.cache
+pub returns-clause-keeps : goal.returns-clause-keeps
+returns-clause-keeps g c = record {
+  accounts = record { room = room_same c.args.core.now c.clear_row.new.core c.clear_row.ensures.rest.cache; denied = search rules; caused = search rules };
+  devices = search rules;
+}
 
 pub returns-clause-sound : goal.returns-clause-sound
 returns-clause-sound g c =

@@ -1,5 +1,5 @@
 use Rattle.vm_types.proofs.Modes.{sizes}
-use Rattle.std.proofs.Common.{ℕ, ◌*◌, ◌/◌, ◌≡◌, Option, Some, subst, arith}
+use Rattle.std.proofs.Common.{ℕ, ◌*◌, ◌/◌, ◌≡◌, Option, Some, subst, arith, rules}
 use Rattle.regions.specs.RunList.{attr_at}
 use Rattle.page_ranges.specs.Rows.{without_maps, KeepsNamed, RemapsRow}
 use Rattle.paging.specs.Picture.{picture_of}
@@ -77,8 +77,11 @@ returns-in-Err-clause-comes g c = λ s shows reads swaps.
     (subst (λ (p : ℕ). first_of (place_checks g.M.Levels.mode a.placing (space_of runs) pages (attr_there old.at p pages a.source a.prot) (place_for g.M.Levels.mode a.placing (space_of runs) a.addr pages)) ≡ Some c.in-Err.errno)
     c.in-Some.ensures.found.0 c.in-Err.ensures.err)
 
-pub returns-in-Ok-clause-room : goal.returns-in-Ok-clause-room
-returns-in-Ok-clause-room g c = record { frames = c.remap.ensures.frames; slots = c.remap.ensures.slots.total }
+pub returns-in-Ok-clause-keeps : goal.returns-in-Ok-clause-keeps
+returns-in-Ok-clause-keeps g c = record {
+  accounts = record { room = record { frames = c.remap.ensures.frames; slots = c.remap.ensures.slots.total }; denied = search rules; caused = search rules };
+  devices = c.remap.ensures.devices;
+}
 
 pub returns-in-Ok-clause-sound : goal.returns-in-Ok-clause-sound
 returns-in-Ok-clause-sound g c =

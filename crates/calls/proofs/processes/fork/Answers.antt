@@ -1,4 +1,4 @@
-use Rattle.std.proofs.Common.{ℕ, None, refl, subst}
+use Rattle.std.proofs.Common.{ℕ, None, refl, subst, rules}
 use Rattle.disk_model.specs.Moments.{Nothing}
 use Rattle.mapping.proofs.Asking.{asks_slots_same}
 use Rattle.lifecycle.specs.Changes.{AddsProcess, IsShortToFork}
@@ -31,9 +31,18 @@ returns-in-Err-clause-comes g c = λ s shows reads swaps.
     (subst (λ (p : ℕ). IsShortToFork old p c.in-Err.stall) c.in-Some.ensures.found.0 c.in-Err.ensures.short) c.fork.ensures.room
     c.fork.ensures.files c.in-Err.ensures.err
 
-pub returns-in-Err-clause-caused : goal.returns-in-Err-clause-caused
-returns-in-Err-clause-caused g c =
-    store_kept_caused g.D.SectorDisk g.E.SectorDisk c.args.core.now c.fork.new.core c.in-Err.stall c.fork.ensures.store c.fork.ensures.device.later c.in-Err.ensures.cause
+pub returns-in-Err-clause-keeps : goal.returns-in-Err-clause-keeps
+returns-in-Err-clause-keeps g c =
+    let said = c.fork.ensures in
+    record {
+      accounts = record {
+        room = said.room;
+        denied = search rules;
+        caused = store_kept_caused g.D.SectorDisk g.E.SectorDisk c.args.core.now c.fork.new.core c.in-Err.stall said.store said.device.later c.in-Err.ensures.cause;
+      };
+      store = said.store;
+      device = said.device;
+    }
 
 pub returns-in_default-clause-takes : goal.returns-in_default-clause-takes
 returns-in_default-clause-takes g c = fork_refused_takes (picture_of c.args.core.now) (picture_of c.args.core.now) c.args.pid ESRCH

@@ -1,4 +1,4 @@
-use Rattle.std.proofs.Common.{None, refl}
+use Rattle.std.proofs.Common.{None, refl, rules}
 use Rattle.disk_model.specs.Moments.{Nothing}
 use Rattle.mapping.proofs.Asking.{asks_slots_same}
 use Rattle.paging.specs.Picture.{picture_of}
@@ -21,9 +21,18 @@ returns-in-Err-clause-comes g c = λ s shows reads swaps.
     spawn_stalls g.D.SectorDisk g.E.SectorDisk c.args.core.now s shows.pages c.free_pid.result c.free_pid.ensures.least c.in-Some.pid c.in-Some.is
     c.spawn.new.core c.in-Err.stall c.spawn.ensures.fit c.in-Err.ensures.cause c.in-Err.ensures.short c.spawn.ensures.files c.in-Err.ensures.err
 
-pub returns-in-Err-clause-caused : goal.returns-in-Err-clause-caused
-returns-in-Err-clause-caused g c =
-    store_kept_caused g.D.SectorDisk g.E.SectorDisk c.args.core.now c.spawn.new.core c.in-Err.stall c.spawn.ensures.store c.spawn.ensures.device.later c.in-Err.ensures.cause
+pub returns-in-Err-clause-keeps : goal.returns-in-Err-clause-keeps
+returns-in-Err-clause-keeps g c =
+    let said = c.spawn.ensures in
+    record {
+      accounts = record {
+        room = said.room;
+        denied = search rules;
+        caused = store_kept_caused g.D.SectorDisk g.E.SectorDisk c.args.core.now c.spawn.new.core c.in-Err.stall said.store said.device.later c.in-Err.ensures.cause;
+      };
+      store = said.store;
+      device = said.device;
+    }
 
 pub returns-in_default-clause-takes : goal.returns-in_default-clause-takes
 returns-in_default-clause-takes g c = spawn_refused_takes (picture_of c.args.core.now) (picture_of c.args.core.now) EAGAIN

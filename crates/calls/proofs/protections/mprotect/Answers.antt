@@ -1,4 +1,4 @@
-use Rattle.std.proofs.Common.{ℕ, ◌/◌, ◌%◌, ◌≡◌, ◌≢◌, sym, ap, subst, arith}
+use Rattle.std.proofs.Common.{ℕ, ◌/◌, ◌%◌, ◌≡◌, ◌≢◌, sym, ap, subst, arith, rules}
 use Rattle.swap.specs.declared.slots.Swap.{Swap}
 use Rattle.regions.specs.RunList.{attr_at}
 use Rattle.regions.specs.Permission.{ReadsToo}
@@ -52,8 +52,11 @@ returns-in-Err-clause-comes g c = λ s shows reads swaps.
     runs (subst (λ (p : ℕ). (page : ℕ) → attr_at runs page ≡ old.at p page) c.in-Some.ensures.found.0 c.regions.ensures) pages count
     c.in-Err.errno c.in-Err.ensures.err
 
-pub returns-in-Ok-clause-room : goal.returns-in-Ok-clause-room
-returns-in-Ok-clause-room g c = room_same c.args.core.now c.reprotect.new.core c.reprotect.ensures.cache
+pub returns-in-Ok-clause-keeps : goal.returns-in-Ok-clause-keeps
+returns-in-Ok-clause-keeps g c = record {
+  accounts = record { room = room_same c.args.core.now c.reprotect.new.core c.reprotect.ensures.cache; denied = search rules; caused = search rules };
+  devices = search rules;
+}
 
 pub returns-in-Ok-clause-sound : goal.returns-in-Ok-clause-sound
 returns-in-Ok-clause-sound g c =

@@ -1,4 +1,4 @@
-use Rattle.std.proofs.Common.{ℕ, ◌+◌, ◌-◌, ◌/◌, ◌%◌, ◌≡◌, ◌≢◌, ◌<◌, ◌≤◌, min, sym, ap, ◌∙◌, subst, arith}
+use Rattle.std.proofs.Common.{ℕ, ◌+◌, ◌-◌, ◌/◌, ◌%◌, ◌≡◌, ◌≢◌, ◌<◌, ◌≤◌, min, sym, ap, ◌∙◌, subst, arith, rules}
 use Rattle.regions.specs.RunList.{attr_at}
 use Rattle.regions.proofs.PermissionLemmas.{reads_removed, reads_same}
 use Rattle.page_ranges.specs.Rows.{without_maps, KeepsNamed, RemapsRow}
@@ -74,8 +74,11 @@ returns-in-Err-clause-comes g c = λ s shows reads swaps.
     (let some : a.len ≢ 0 = omega arith in some) (let aligned : a.addr % 4096 ≡ 0 = omega arith in aligned)
     runs (subst (λ (p : ℕ). (page : ℕ) → attr_at runs page ≡ old.at p page) c.in-Some.ensures.found.0 c.regions-regions.ensures) pages count many
 
-pub returns-in-Ok-clause-room : goal.returns-in-Ok-clause-room
-returns-in-Ok-clause-room g c = record { frames = c.remap.ensures.frames; slots = c.remap.ensures.slots.total }
+pub returns-in-Ok-clause-keeps : goal.returns-in-Ok-clause-keeps
+returns-in-Ok-clause-keeps g c = record {
+  accounts = record { room = record { frames = c.remap.ensures.frames; slots = c.remap.ensures.slots.total }; denied = search rules; caused = search rules };
+  devices = c.remap.ensures.devices;
+}
 
 pub returns-in-Ok-clause-sound : goal.returns-in-Ok-clause-sound
 returns-in-Ok-clause-sound g c =

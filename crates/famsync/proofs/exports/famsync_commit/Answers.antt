@@ -22,4 +22,4 @@ returns-in-Err-clause-any_moment c = λ files before after stands changes left s
     (sym (nothing_listed c.plan_commit-planned.new.calls c.plan_commit-planned.new.rows (lent_page c.args.bytes.now) (row c.args.image.now) left stop)) stands)
 
 pub returns-in-Err-clause-layout : goal.returns-in-Err-clause-layout
-returns-in-Err-clause-layout c = λ is. c.in-Err.ensures.layout (c.number.ensures.layout is)
+returns-in-Err-clause-layout c = λ is. c.in-Err.ensures.refused.layout (c.number.ensures.layout is)

@@ -8,7 +8,7 @@ use Rattle.famsync.proofs.exports.famsync_open.Goals as goal
 
 -- so that a plan of fewer calls is refused where it leaves the gate open
 pub returns-in-Ok-clause-any_moment : goal.returns-in-Ok-clause-any_moment
-returns-in-Ok-clause-any_moment c = λ files pages stands left stop. c.in-Ok.ensures.any_moment files pages stands left (fewer (omega arith) stop)
+returns-in-Ok-clause-any_moment c = λ files pages stands left stop. c.in-Ok.ensures.opens.any_moment files pages stands left (fewer (omega arith) stop)
 
 pub returns-in-Err-clause-any_moment : goal.returns-in-Err-clause-any_moment
 returns-in-Err-clause-any_moment c = λ files pages stands left stop.
@@ -16,4 +16,4 @@ returns-in-Err-clause-any_moment c = λ files pages stands left stop.
     (sym (nothing_listed c.plan_open.new.calls c.plan_open.new.rows (lent_page []) (row c.args.image.now) left stop)) stands
 
 pub returns-in-Err-clause-layout : goal.returns-in-Err-clause-layout
-returns-in-Err-clause-layout c = λ is. c.in-Err.ensures.layout (c.number.ensures.layout is)
+returns-in-Err-clause-layout c = λ is. c.in-Err.ensures.refused.layout (c.number.ensures.layout is)

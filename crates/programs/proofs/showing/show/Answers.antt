@@ -1,117 +1,90 @@
-use Rattle.std.proofs.Common.{refl, sym, ap, ◌∙◌, subst, Err}
-use Rattle.disk_model.specs.Moments.{LeavesOnly}
-use Rattle.file_store.specs.Standing.{StandsAs}
-use Rattle.programs.proofs.Asking.{keeps_to, keeps_unopened}
-use Rattle.programs.proofs.Copies.{same_open, opened_bytes, opened_info, still_stands}
-use Rattle.programs.specs.Showing.{KeepsToFile}
+use Rattle.std.proofs.Common.{refl, sym, ap, ◌∙◌, subst, Err, rules}
+use Rattle.programs.proofs.Asking.{keeps_image, keeps_unopened}
+use Rattle.programs.proofs.Copies.{same_open, opened_bytes, opened_info}
+use Rattle.programs.specs.Showing.{KeepsImage, RefusesToShow}
 use Rattle.programs.proofs.showing.show.Goals as goal
 
-pub returns-in-Ok-show_opened-clause-shown : goal.returns-in-Ok-show_opened-clause-shown
-returns-in-Ok-show_opened-clause-shown g c = λ keeps files pages stood.
-    let first = c.show_opened.ensures.kept keeps in
-    let file = c.in-Ok-show_opened.ensures.some in
-    let read = opened_bytes g.D.SectorDisk c.args.disk c.in-Ok.store (g.D.SectorDisk.sector_count c.args.disk) c.args.file file.0
-    c.in-Ok.ensures.ready first (c.in-Ok.ensures.now first) file.1 files pages stood in
-    (file.0, read.0, c.in-Ok-show_opened.ensures.written keeps _ read.1)
+pub returns-in-Ok-show_opened-clause-writes : goal.returns-in-Ok-show_opened-clause-writes
+returns-in-Ok-show_opened-clause-writes g c =
+    let opened = c.in-Ok.ensures in
+    let e = c.in-Ok-show_opened.ensures in
+    record {
+      calm = search rules;
+      ready = search rules;
+      good_layout = λ keeps. opened.good_layout (e.reads.kept keeps);
+      good_journal = λ keeps. opened.good_journal (e.reads.kept keeps);
+      shown = λ keeps files pages stood.
+          let first = e.reads.kept keeps in
+          let read = opened_bytes g.D.SectorDisk c.args.disk c.in-Ok.store (g.D.SectorDisk.sector_count c.args.disk) c.args.file e.some.0
+          opened.ready first (opened.now first) e.some.1 files pages stood in
+          (e.some.0, read.0, e.written keeps _ read.1);
+    }
 
-pub returns-in-Ok-show_opened-clause-any_moment : goal.returns-in-Ok-show_opened-clause-any_moment
-returns-in-Ok-show_opened-clause-any_moment g c = λ keeps synced.
-    let first = c.show_opened.ensures.kept keeps in
-    still_stands g.D.SectorDisk c.args.disk c.in-Ok.store.disk c.show_opened.new.store.disk _ (c.in-Ok.ensures.any_moment first synced) (c.in-Ok.ensures.now first) (c.show_opened.ensures.touches keeps)
-
-pub returns-in-Err-show_opened-clause-no_file : goal.returns-in-Err-show_opened-clause-no_file
-returns-in-Err-show_opened-clause-no_file g c = λ is keeps files pages stood.
-    let kept = subst g.D.SectorDisk.keeps_model c.into_disk.ensures keeps in
-    let first = c.show_opened.ensures.kept kept in
-    sym (opened_info g.D.SectorDisk c.args.disk c.in-Ok.store (g.D.SectorDisk.sector_count c.args.disk) c.args.file
-    c.in-Ok.ensures.ready first (c.in-Ok.ensures.now first) files pages stood) ∙ c.in-Err-show_opened.ensures.none (ap Err is)
-
-pub returns-in-Err-show_opened-clause-begun : goal.returns-in-Err-show_opened-clause-begun
-returns-in-Err-show_opened-clause-begun g c = λ keeps files pages info stood is.
-    let kept = subst g.D.SectorDisk.keeps_model c.into_disk.ensures keeps in
-    let first = c.show_opened.ensures.kept kept in
-    let sectors = g.D.SectorDisk.sector_count c.args.disk in
-    let file = opened_info g.D.SectorDisk c.args.disk c.in-Ok.store sectors c.args.file c.in-Ok.ensures.ready first (c.in-Ok.ensures.now first) files pages stood ∙ is in
-    let read = opened_bytes g.D.SectorDisk c.args.disk c.in-Ok.store sectors c.args.file info c.in-Ok.ensures.ready first (c.in-Ok.ensures.now first) file files pages stood in
-    c.in-Err-show_opened.ensures.written kept _ read.1
-
-pub returns-in-Err-show_opened-clause-err_moment : goal.returns-in-Err-show_opened-clause-err_moment
-returns-in-Err-show_opened-clause-err_moment g c = λ keeps synced.
-    let kept = subst g.D.SectorDisk.keeps_model c.into_disk.ensures keeps in
-    let first = c.show_opened.ensures.kept kept in
-    let sectors = g.D.SectorDisk.sector_count c.args.disk in
-    subst (λ d. LeavesOnly g.D.SectorDisk c.args.disk d (StandsAs sectors (g.D.SectorDisk.content c.args.disk))) (sym c.into_disk.ensures)
-    (still_stands g.D.SectorDisk c.args.disk c.in-Ok.store.disk c.show_opened.new.store.disk _ (c.in-Ok.ensures.any_moment first synced) (c.in-Ok.ensures.now first) (c.show_opened.ensures.touches kept))
-
-pub returns-in-Err-show_opened-clause-device : goal.returns-in-Err-show_opened-clause-device
-returns-in-Err-show_opened-clause-device g c = λ is. absurd (c.in-Err-show_opened.ensures.unopened _ (ap Err is))
-
-pub returns-in-Err-show_opened-clause-bad_layout : goal.returns-in-Err-show_opened-clause-bad_layout
-returns-in-Err-show_opened-clause-bad_layout g c = λ _ is. absurd (c.in-Err-show_opened.ensures.unopened _ (ap Err is))
-
-pub returns-in-Err-show_opened-clause-bad_journal : goal.returns-in-Err-show_opened-clause-bad_journal
-returns-in-Err-show_opened-clause-bad_journal g c = λ _ is. absurd (c.in-Err-show_opened.ensures.unopened _ (ap Err is))
-
-pub returns-in-Err-show_opened-clause-layout_first : goal.returns-in-Err-show_opened-clause-layout_first
-returns-in-Err-show_opened-clause-layout_first g c = λ _ is. absurd (c.in-Err-show_opened.ensures.unopened _ (ap Err is))
-
-pub returns-in-Err-show_opened-clause-no_byte : goal.returns-in-Err-show_opened-clause-no_byte
-returns-in-Err-show_opened-clause-no_byte g c = λ _ is. absurd (c.in-Err-show_opened.ensures.unopened _ (ap Err is))
-
-pub returns-in-Err-show_opened-clause-err_layout : goal.returns-in-Err-show_opened-clause-err_layout
-returns-in-Err-show_opened-clause-err_layout g c = λ keeps _. c.in-Ok.ensures.good_layout (c.show_opened.ensures.kept (subst g.D.SectorDisk.keeps_model c.into_disk.ensures keeps))
-
-pub returns-in-Err-show_opened-clause-err_journal : goal.returns-in-Err-show_opened-clause-err_journal
-returns-in-Err-show_opened-clause-err_journal g c = λ keeps _. c.in-Ok.ensures.good_journal (c.show_opened.ensures.kept (subst g.D.SectorDisk.keeps_model c.into_disk.ensures keeps))
-
-pub returns-in-Err-clause-bad_layout : goal.returns-in-Err-clause-bad_layout
-returns-in-Err-clause-bad_layout g c = λ keeps is. c.in-Err.ensures.bad_layout keeps (same_open c.in-Err.fault _ is)
-
-pub returns-in-Err-clause-bad_journal : goal.returns-in-Err-clause-bad_journal
-returns-in-Err-clause-bad_journal g c = λ keeps is. c.in-Err.ensures.bad_journal keeps (same_open c.in-Err.fault _ is)
-
-pub returns-in-Err-clause-layout_first : goal.returns-in-Err-clause-layout_first
-returns-in-Err-clause-layout_first g c = λ keeps is. c.in-Err.ensures.layout_first keeps (same_open c.in-Err.fault _ is)
-
-pub returns-in-Err-clause-err_layout : goal.returns-in-Err-clause-err_layout
-returns-in-Err-clause-err_layout g c = λ _ none. absurd (none c.in-Err.fault refl)
-
-pub returns-in-Err-clause-err_journal : goal.returns-in-Err-clause-err_journal
-returns-in-Err-clause-err_journal g c = λ _ none. absurd (none c.in-Err.fault refl)
-
-pub returns-in-Ok-show_opened-clause-good_layout : goal.returns-in-Ok-show_opened-clause-good_layout
-returns-in-Ok-show_opened-clause-good_layout g c = λ keeps. c.in-Ok.ensures.good_layout (c.show_opened.ensures.kept keeps)
-
-pub returns-in-Ok-show_opened-clause-good_journal : goal.returns-in-Ok-show_opened-clause-good_journal
-returns-in-Ok-show_opened-clause-good_journal g c = λ keeps. c.in-Ok.ensures.good_journal (c.show_opened.ensures.kept keeps)
-
-pub returns-in-Ok-show_opened-clause-in_a_row : goal.returns-in-Ok-show_opened-clause-in_a_row
-returns-in-Ok-show_opened-clause-in_a_row g c = λ keeps synced before stood.
-    let first = c.show_opened.ensures.kept keeps in
-    still_stands g.D.SectorDisk c.args.disk c.in-Ok.store.disk c.show_opened.new.store.disk _ (c.in-Ok.ensures.in_a_row first synced before stood)
-    (λ image may files pages was. c.in-Ok.ensures.now first image may files pages (stood files pages was)) (c.show_opened.ensures.touches keeps)
-
-pub returns-in-Err-show_opened-clause-err_in_a_row : goal.returns-in-Err-show_opened-clause-err_in_a_row
-returns-in-Err-show_opened-clause-err_in_a_row g c = λ keeps synced before stood.
-    let kept = subst g.D.SectorDisk.keeps_model c.into_disk.ensures keeps in
-    let first = c.show_opened.ensures.kept kept in
-    let sectors = g.D.SectorDisk.sector_count c.args.disk in
-    subst (λ d. LeavesOnly g.D.SectorDisk c.args.disk d (StandsAs sectors before)) (sym c.into_disk.ensures)
-    (still_stands g.D.SectorDisk c.args.disk c.in-Ok.store.disk c.show_opened.new.store.disk _ (c.in-Ok.ensures.in_a_row first synced before stood)
-    (λ image may files pages was. c.in-Ok.ensures.now first image may files pages (stood files pages was)) (c.show_opened.ensures.touches kept))
-
-pub returns-in-Ok-show_opened-clause-asks : goal.returns-in-Ok-show_opened-clause-asks
-returns-in-Ok-show_opened-clause-asks g c =
+pub returns-in-Ok-show_opened-clause-keeps : goal.returns-in-Ok-show_opened-clause-keeps
+returns-in-Ok-show_opened-clause-keeps g c =
     let e = c.in-Ok.ensures in
-    let shown = c.show_opened.ensures in
-    keeps_to g.D.SectorDisk c.args.disk c.in-Ok.store c.show_opened.new.store.disk c.args.file e.closed e.ready shown.kept e.touches shown.touches e.asks shown.asks
+    keeps_image g.D.SectorDisk c.args.disk c.in-Ok.store c.show_opened.new.store c.args.file e.closed e.ready e.kept e.touches e.asks e.now e.in_a_row c.show_opened.ensures.reads
 
-pub returns-in-Err-show_opened-clause-err_asks : goal.returns-in-Err-show_opened-clause-err_asks
-returns-in-Err-show_opened-clause-err_asks g c =
+pub returns-in-Err-show_opened-clause-err_keeps : goal.returns-in-Err-show_opened-clause-err_keeps
+returns-in-Err-show_opened-clause-err_keeps g c =
     let e = c.in-Ok.ensures in
-    let shown = c.show_opened.ensures in
-    subst (λ d. KeepsToFile g.D.SectorDisk c.args.file c.args.disk d) (sym c.into_disk.ensures)
-    (keeps_to g.D.SectorDisk c.args.disk c.in-Ok.store c.show_opened.new.store.disk c.args.file e.closed e.ready shown.kept e.touches shown.touches e.asks shown.asks)
+    subst (λ d. KeepsImage g.D.SectorDisk c.args.file c.args.disk d) (sym c.into_disk.ensures)
+    (keeps_image g.D.SectorDisk c.args.disk c.in-Ok.store c.show_opened.new.store c.args.file e.closed e.ready e.kept e.touches e.asks e.now e.in_a_row c.show_opened.ensures.reads)
 
-pub returns-in-Err-clause-err_asks : goal.returns-in-Err-clause-err_asks
-returns-in-Err-clause-err_asks g c = keeps_unopened g.D.SectorDisk c.args.disk c.in-Err.disk c.args.file c.in-Err.ensures.err_touches c.in-Err.ensures.err_asks
+pub returns-in-Err-show_opened-clause-refuses : goal.returns-in-Err-show_opened-clause-refuses
+returns-in-Err-show_opened-clause-refuses g c =
+    let opened = c.in-Ok.ensures in
+    let e = c.in-Err-show_opened.ensures in
+    subst (λ d. RefusesToShow g.D.SectorDisk c.args.file c.args.disk c.in-Err-show_opened.fault d) (sym c.into_disk.ensures) (record {
+      device = λ is. absurd (e.unopened _ (ap Err is));
+      read = search rules;
+      calm = search rules;
+      bad_layout = λ _ is. absurd (e.unopened _ (ap Err is));
+      bad_journal = λ _ is. absurd (e.unopened _ (ap Err is));
+      layout_first = λ _ is. absurd (e.unopened _ (ap Err is));
+      unwritten = search rules;
+      good_layout = λ keeps _. opened.good_layout (e.reads.kept keeps);
+      good_journal = λ keeps _. opened.good_journal (e.reads.kept keeps);
+      no_file = λ is keeps files pages stood.
+          let first = e.reads.kept keeps in
+          sym (opened_info g.D.SectorDisk c.args.disk c.in-Ok.store (g.D.SectorDisk.sector_count c.args.disk) c.args.file opened.ready first (opened.now first) files pages stood)
+          ∙ e.none (ap Err is);
+    })
+
+pub returns-in-Err-show_opened-clause-begins : goal.returns-in-Err-show_opened-clause-begins
+returns-in-Err-show_opened-clause-begins g c =
+    let opened = c.in-Ok.ensures in
+    let e = c.in-Err-show_opened.ensures in
+    let sectors = g.D.SectorDisk.sector_count c.args.disk in record {
+      no_byte = λ other is. absurd (e.unopened _ (ap Err is));
+      begun = λ keeps files pages info stood is.
+          let kept = subst g.D.SectorDisk.keeps_model c.into_disk.ensures keeps in
+          let first = e.reads.kept kept in
+          let file = opened_info g.D.SectorDisk c.args.disk c.in-Ok.store sectors c.args.file opened.ready first (opened.now first) files pages stood ∙ is in
+          let read = opened_bytes g.D.SectorDisk c.args.disk c.in-Ok.store sectors c.args.file info opened.ready first (opened.now first) file files pages stood in
+          e.written kept _ read.1;
+    }
+
+pub returns-in-Err-clause-refuses : goal.returns-in-Err-clause-refuses
+returns-in-Err-clause-refuses g c =
+    let e = c.in-Err.ensures in record {
+      device = search rules;
+      read = search rules;
+      calm = search rules;
+      bad_layout = λ keeps is. e.bad_layout keeps (same_open c.in-Err.fault _ is);
+      bad_journal = λ keeps is. e.bad_journal keeps (same_open c.in-Err.fault _ is);
+      layout_first = λ keeps is. e.layout_first keeps (same_open c.in-Err.fault _ is);
+      unwritten = search rules;
+      good_layout = λ _ none. absurd (none c.in-Err.fault refl);
+      good_journal = λ _ none. absurd (none c.in-Err.fault refl);
+      no_file = search rules;
+    }
+
+pub returns-in-Err-clause-err_keeps : goal.returns-in-Err-clause-err_keeps
+returns-in-Err-clause-err_keeps g c =
+    let e = c.in-Err.ensures in record {
+      kept = e.err_kept;
+      any_moment = e.err_moment;
+      in_a_row = e.err_in_a_row;
+      asks = keeps_unopened g.D.SectorDisk c.args.disk c.in-Err.disk c.args.file e.err_touches e.err_asks;
+    }

@@ -4,10 +4,10 @@ pub returns-clause-booted : goal.returns-clause-booted
 returns-clause-booted g c = record {
   old = c.in-Ok.machine;
   boots = c.in-Ok.ensures.boots;
-  room = c.in-Ok.ensures.room;
+  room = c.in-Ok.ensures.starts.room;
   frames = c.in-Ok.ensures.accepts.frames;
   slots = c.in-Ok.ensures.accepts.slots;
-  swap_device = c.in-Ok.ensures.swap;
+  swap_device = c.in-Ok.ensures.starts.swap;
   size = c.in-Ok.ensures.accepts.size;
   later = c.in-Ok.ensures.accepts.later;
   calm = c.in-Ok.ensures.accepts.calm;

@@ -1,8 +1,8 @@
 use Rattle.std.proofs.Common.{◌≡◌, OnOk, IfOk, IfErr}
-use Rattle.file_store.specs.Standing.{IsBadLayout, file_info}
-use Rattle.sync_plans.specs.declared.requests.Refusal.TheVariants.{BadLayout, BadJournal}
-use Rattle.sync_plans.specs.Requests.{IsStore, HasBadJournal}
+use Rattle.file_store.specs.Standing.{file_info}
+use Rattle.sync_plans.specs.Requests.{IsStore, RefusesImage}
 use Rattle.sync_plans.specs.PlanDisk.{pages_of}
+use Rattle.sync_plans.proofs.Runs.{refuses_image}
 use Rattle.sync_plans.proofs.Theorem.{as_given}
 use Rattle.sync_plans.proofs.planning.file_facts.Goals as goal
 
@@ -10,13 +10,10 @@ pub returns-clause-store : goal.returns-clause-store
 returns-clause-store c = let d0 = c.new-disk.result in
     as_given d0.calls.now d0.rows.now c.args.image.now d0.image.now (pages_of d0) d0.used (λ sectors image. OnOk c.facts-disk.result.1 (IsStore sectors image)) c.new-disk.ensures.image c.new-disk.ensures.used (c.facts-disk.ensures.store c.if-disk.false)
 
-pub returns-clause-layout : goal.returns-clause-layout
-returns-clause-layout c = let d0 = c.new-disk.result in
-    as_given d0.calls.now d0.rows.now c.args.image.now d0.image.now (pages_of d0) d0.used (λ sectors image. IfErr c.facts-disk.result.1 (λ refusal. refusal ≡ BadLayout → IsBadLayout sectors image)) c.new-disk.ensures.image c.new-disk.ensures.used (c.facts-disk.ensures.layout c.if-disk.false)
-
-pub returns-clause-journal : goal.returns-clause-journal
-returns-clause-journal c = let d0 = c.new-disk.result in
-    as_given d0.calls.now d0.rows.now c.args.image.now d0.image.now (pages_of d0) d0.used (λ sectors image. IfErr c.facts-disk.result.1 (λ refusal. refusal ≡ BadJournal → HasBadJournal sectors image)) c.new-disk.ensures.image c.new-disk.ensures.used (c.facts-disk.ensures.journal c.if-disk.false)
+pub returns-clause-refused : goal.returns-clause-refused
+returns-clause-refused c = let d0 = c.new-disk.result in
+    as_given d0.calls.now d0.rows.now c.args.image.now d0.image.now (pages_of d0) d0.used (λ sectors image. IfErr c.facts-disk.result.1 (RefusesImage sectors image ⊥ ⊥)) c.new-disk.ensures.image c.new-disk.ensures.used
+    (refuses_image _ d0 c.facts-disk.result.0 c.facts-disk.result.1 c.if-disk.false (λ bad. bad) (λ denied. denied) c.facts-disk.ensures.refused)
 
 pub returns-clause-facts : goal.returns-clause-facts
 returns-clause-facts c = let d0 = c.new-disk.result in

@@ -1,9 +1,9 @@
-use Rattle.std.proofs.Common.{[], ap, ◌≡◌, OnOk, IfErr}
-use Rattle.file_store.specs.Standing.{IsPageOf, IsBadLayout, file_info}
-use Rattle.sync_plans.specs.declared.requests.Refusal.TheVariants.{BadLayout, BadJournal, BadPages}
-use Rattle.sync_plans.specs.Requests.{IsStore, HasBadJournal}
+use Rattle.std.proofs.Common.{[], ap, OnOk, IfErr}
+use Rattle.file_store.specs.Standing.{IsPageOf, file_info}
+use Rattle.sync_plans.specs.Requests.{IsStore, RefusesImage}
 use Rattle.sync_plans.specs.Pages.{lent_page}
 use Rattle.sync_plans.specs.PlanDisk.{pages_of}
+use Rattle.sync_plans.proofs.Runs.{refuses_image}
 use Rattle.sync_plans.proofs.Theorem.{stands_now, as_given}
 use Rattle.sync_plans.proofs.planning.read_page.Goals as goal
 
@@ -19,18 +19,11 @@ pub returns-clause-store : goal.returns-clause-store
 returns-clause-store c = let d0 = c.new-disk.result in
     as_given d0.calls.now d0.rows.now c.args.image.now d0.image.now (pages_of d0) d0.used (λ sectors image. OnOk c.read-disk.result.1 (IsStore sectors image)) c.new-disk.ensures.image c.new-disk.ensures.used (c.read-disk.ensures.store c.if-disk.false)
 
-pub returns-clause-layout : goal.returns-clause-layout
-returns-clause-layout c = let d0 = c.new-disk.result in
-    as_given d0.calls.now d0.rows.now c.args.image.now d0.image.now (pages_of d0) d0.used (λ sectors image. IfErr c.read-disk.result.1 (λ refusal. refusal ≡ BadLayout → IsBadLayout sectors image)) c.new-disk.ensures.image c.new-disk.ensures.used (c.read-disk.ensures.layout c.if-disk.false)
-
-pub returns-clause-journal : goal.returns-clause-journal
-returns-clause-journal c = let d0 = c.new-disk.result in
-    as_given d0.calls.now d0.rows.now c.args.image.now d0.image.now (pages_of d0) d0.used (λ sectors image. IfErr c.read-disk.result.1 (λ refusal. refusal ≡ BadJournal → HasBadJournal sectors image)) c.new-disk.ensures.image c.new-disk.ensures.used (c.read-disk.ensures.journal c.if-disk.false)
-
 pub returns-clause-inside : goal.returns-clause-inside
 returns-clause-inside c = let d0 = c.new-disk.result in
     as_given d0.calls.now d0.rows.now c.args.image.now d0.image.now (pages_of d0) d0.used (λ sectors image. OnOk c.read-disk.result.1 (IsPageOf (file_info image) c.args.page.file c.args.page.page)) c.new-disk.ensures.image c.new-disk.ensures.used (c.read-disk.ensures.inside c.if-disk.false)
 
-pub returns-clause-pages : goal.returns-clause-pages
-returns-clause-pages c = let d0 = c.new-disk.result in
-    as_given d0.calls.now d0.rows.now c.args.image.now d0.image.now (pages_of d0) d0.used (λ sectors image. IfErr c.read-disk.result.1 (λ refusal. refusal ≡ BadPages → IsPageOf (file_info image) c.args.page.file c.args.page.page → ⊥)) c.new-disk.ensures.image c.new-disk.ensures.used (c.read-disk.ensures.pages c.if-disk.false)
+pub returns-clause-refused : goal.returns-clause-refused
+returns-clause-refused c = let d0 = c.new-disk.result in
+    as_given d0.calls.now d0.rows.now c.args.image.now d0.image.now (pages_of d0) d0.used (λ sectors image. IfErr c.read-disk.result.1 (RefusesImage sectors image (IsPageOf (file_info image) c.args.page.file c.args.page.page → ⊥) ⊥)) c.new-disk.ensures.image c.new-disk.ensures.used
+    (refuses_image _ d0 c.read-disk.result.0 c.read-disk.result.1 c.if-disk.false (λ bad. bad c.if-disk.false) (λ denied. denied) c.read-disk.ensures.refused)

@@ -1,12 +1,12 @@
 use Rattle.std.proofs.Common.{subst}
+use Rattle.sync_plans.proofs.Runs.{found_store, told_so}
 use Rattle.sync_plans.proofs.requests.facts.Goals as goal
 
 pub returns-in-Ok-clause-store : goal.returns-in-Ok-clause-store
-returns-in-Ok-clause-store g c = λ k. let k1 = subst g.D.SectorDisk.keeps_model c.into_disk.ensures k in record { layout = c.in-Ok.ensures.ok.found.good_layout k1; journal = c.in-Ok.ensures.ok.found.good_journal k1 }
+returns-in-Ok-clause-store g c = λ k.
+    found_store g.D.SectorDisk c.args.disk c.in-Ok.store c.in-Ok.ensures.ok (subst g.D.SectorDisk.keeps_model c.into_disk.ensures k)
 
-pub returns-in-Err-clause-layout : goal.returns-in-Err-clause-layout
-returns-in-Err-clause-layout g c = λ k is. c.in-Err.ensures.err.bad_layout k (c.unopened.ensures.layout is)
-
-pub returns-in-Err-clause-journal : goal.returns-in-Err-clause-journal
-returns-in-Err-clause-journal g c = λ k is.
-    let e = c.unopened.ensures.journal is in record { layout = c.in-Err.ensures.err.layout_first k e; journal = c.in-Err.ensures.err.bad_journal k e }
+pub returns-in-Err-clause-refused : goal.returns-in-Err-clause-refused
+returns-in-Err-clause-refused g c =
+    let u = c.unopened.ensures in
+    told_so g.D.SectorDisk c.args.disk _ _ c.unopened.result c.in-Err.ensures.err u.device u.layout u.journal u.pages u.read_only

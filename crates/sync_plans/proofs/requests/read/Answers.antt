@@ -1,7 +1,7 @@
 use Rattle.std.proofs.Common.{ℕ, IsTrue, Option, inr, refl, sym, subst, ◌∙◌, rules}
 use Rattle.vm_types.specs.declared.file.FileInfo.{FileInfo}
 use Rattle.file_store.specs.Standing.{IsPageOf}
-use Rattle.sync_plans.proofs.Runs.{when_open, same_files}
+use Rattle.sync_plans.proofs.Runs.{when_open, same_files, found_store, told_so}
 use Rattle.sync_plans.proofs.requests.read.Goals as goal
 
 pub returns-in-Ok-read_page-clause-page : goal.returns-in-Ok-read_page-clause-page
@@ -16,20 +16,26 @@ pub returns-in-Ok-read_page-clause-inside : goal.returns-in-Ok-read_page-clause-
 returns-in-Ok-read_page-clause-inside g c = λ k.
     let k1 = c.read_page.ensures.kept (subst g.D.SectorDisk.keeps_model c.into_disk-in-Ok-read_page.ensures k) in
     let is : IsTrue c.check_page.result = search rules in
-    subst (λ (files : ℕ → Option FileInfo). IsPageOf files c.args.page.file c.args.page.page) (same_files g.D.SectorDisk c.args.disk c.in-Ok.store (c.in-Ok.ensures.ok.found.good_layout k1) (c.in-Ok.ensures.ok.found.good_journal k1) (c.in-Ok.ensures.ok.found.stands k1) (c.in-Ok.ensures.ok.ready.at_rest k1)) (c.check_page.ensures.0 is)
+    subst (λ (files : ℕ → Option FileInfo). IsPageOf files c.args.page.file c.args.page.page) (same_files g.D.SectorDisk c.args.disk c.in-Ok.store c.in-Ok.ensures.ok k1) (c.check_page.ensures.0 is)
 
-pub returns-then-not-check_page-clause-pages : goal.returns-then-not-check_page-clause-pages
-returns-then-not-check_page-clause-pages g c = λ k is inside.
-    let k1 = subst g.D.SectorDisk.keeps_model c.into_disk.ensures k in
-    let not : IsTrue c.check_page.result → ⊥ = search rules in
-    not (c.check_page.ensures.1 (subst (λ (files : ℕ → Option FileInfo). IsPageOf files c.args.page.file c.args.page.page) (sym (same_files g.D.SectorDisk c.args.disk c.in-Ok.store (c.in-Ok.ensures.ok.found.good_layout k1) (c.in-Ok.ensures.ok.found.good_journal k1) (c.in-Ok.ensures.ok.found.stands k1) (c.in-Ok.ensures.ok.ready.at_rest k1))) inside))
+pub returns-then-not-check_page-clause-refused : goal.returns-then-not-check_page-clause-refused
+returns-then-not-check_page-clause-refused g c = record {
+  cause = search rules;
+  layout = search rules;
+  journal = search rules;
+  pages = λ is k inside.
+      let k1 = subst g.D.SectorDisk.keeps_model c.into_disk.ensures k in
+      let not : IsTrue c.check_page.result → ⊥ = search rules in
+      not (c.check_page.ensures.1 (subst (λ (files : ℕ → Option FileInfo). IsPageOf files c.args.page.file c.args.page.page)
+      (sym (same_files g.D.SectorDisk c.args.disk c.in-Ok.store c.in-Ok.ensures.ok k1)) inside));
+  read_only = search rules;
+}
 
 pub returns-in-Ok-read_page-clause-store : goal.returns-in-Ok-read_page-clause-store
-returns-in-Ok-read_page-clause-store g c = λ k. let k1 = c.read_page.ensures.kept (subst g.D.SectorDisk.keeps_model c.into_disk-in-Ok-read_page.ensures k) in record { layout = c.in-Ok.ensures.ok.found.good_layout k1; journal = c.in-Ok.ensures.ok.found.good_journal k1 }
+returns-in-Ok-read_page-clause-store g c = λ k.
+    found_store g.D.SectorDisk c.args.disk c.in-Ok.store c.in-Ok.ensures.ok (c.read_page.ensures.kept (subst g.D.SectorDisk.keeps_model c.into_disk-in-Ok-read_page.ensures k))
 
-pub returns-in-Err-clause-layout : goal.returns-in-Err-clause-layout
-returns-in-Err-clause-layout g c = λ k is. c.in-Err.ensures.err.bad_layout k (c.unopened.ensures.layout is)
-
-pub returns-in-Err-clause-journal : goal.returns-in-Err-clause-journal
-returns-in-Err-clause-journal g c = λ k is.
-    let e = c.unopened.ensures.journal is in record { layout = c.in-Err.ensures.err.layout_first k e; journal = c.in-Err.ensures.err.bad_journal k e }
+pub returns-in-Err-clause-refused : goal.returns-in-Err-clause-refused
+returns-in-Err-clause-refused g c =
+    let u = c.unopened.ensures in
+    told_so g.D.SectorDisk c.args.disk _ _ c.unopened.result c.in-Err.ensures.err u.device u.layout u.journal u.pages u.read_only

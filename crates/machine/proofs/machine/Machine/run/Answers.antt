@@ -3,7 +3,7 @@ use Rattle.std.proofs.lemmas.List.{take_more, take_more_set}
 use Rattle.vm_types.specs.declared.command.Command.{Command}
 use Rattle.vm_types.specs.declared.reply.Reply.{Reply}
 use Rattle.machine.specs.Chain.{Caused}
-use Rattle.machine.specs.Counts.{Counts}
+use Rattle.machine.specs.Commands.{DoesEachAsTold}
 use Rattle.machine.proofs.Counts.{counts}
 use Rattle.machine.proofs.Face.{readable}
 use Rattle.machine.proofs.Runs.{all_ran, caused_more, ran_more, room_then, RanSoFar}
@@ -25,31 +25,31 @@ loop-i-preserved g c =
     record {
       sound = c.step.ensures.sound;
       lengths = length-set _ _ _ ∙ inv.lengths;
-      kept = λ k. inv.kept (c.step.ensures.kept k);
-      swap_kept = λ k. inv.swap_kept (c.step.ensures.swap_kept k);
-      room = room_then c.args.self.now c.loop-i.self c.step.new.self inv.room c.step.ensures.room;
+      keeps = record {
+        kept = λ k. inv.keeps.kept (c.step.ensures.keeps.kept k);
+        swap_kept = λ k. inv.keeps.swap_kept (c.step.ensures.keeps.swap_kept k);
+        room = room_then c.args.self.now c.loop-i.self c.step.new.self inv.keeps.room c.step.ensures.keeps.room;
+      };
       caused =
           let old = c.args.self.now in
           subst (λ (zs : List Reply). Caused g.D.SectorDisk g.E.SectorDisk old zs c.step.new.self) (sym ys)
-          (caused_more g.D.SectorDisk g.E.SectorDisk old c.loop-i.self c.step.new.self (take i replies) r inv.caused c.step.ensures.caused);
+          (caused_more g.D.SectorDisk g.E.SectorDisk old c.loop-i.self c.step.new.self (take i replies) r inv.caused c.step.ensures.does.caused);
       ran = λ s shows keeps swap_keeps.
           let old = c.args.self.now in
-          let one = ran_more g.D.SectorDisk g.E.SectorDisk old c.loop-i.self c.step.new.self s (take i commands) (take i replies) x r (inv.ran s shows (c.step.ensures.kept keeps) (c.step.ensures.swap_kept swap_keeps))
+          let one = ran_more g.D.SectorDisk g.E.SectorDisk old c.loop-i.self c.step.new.self s (take i commands) (take i replies) x r (inv.ran s shows (c.step.ensures.keeps.kept keeps) (c.step.ensures.keeps.swap_kept swap_keeps))
           (λ u at. c.step.ensures.meets u at (readable g.D.SectorDisk g.E.SectorDisk c.step.new.self u x keeps swap_keeps)) in
           subst (λ (zs : List Command). RanSoFar g.D.SectorDisk g.E.SectorDisk old c.step.new.self s zs (take (i + 1) (set replies i r))) (sym xs)
           (subst (λ (zs : List Reply). RanSoFar g.D.SectorDisk g.E.SectorDisk old c.step.new.self s (take i commands ++ x ∷ []) zs) (sym ys) one);
     }
 
-pub returns-clause-caused : goal.returns-clause-caused
-returns-clause-caused g c =
+pub returns-clause-does : goal.returns-clause-does
+returns-clause-does g c =
     let every : take c.loop-i.i c.loop-i.replies ≡ c.loop-i.replies = take_all c.loop-i.i c.loop-i.replies (omega (arith, c.loop-i.invariant.lengths)) in
-    subst (λ (zs : List Reply). Caused g.D.SectorDisk g.E.SectorDisk c.args.self.now zs c.loop-i.self) every c.loop-i.invariant.caused
-
-pub returns-clause-counts : goal.returns-clause-counts
-returns-clause-counts g c =
-    let every : take c.loop-i.i c.loop-i.replies ≡ c.loop-i.replies = take_all c.loop-i.i c.loop-i.replies (omega (arith, c.loop-i.invariant.lengths)) in
-    subst (λ (zs : List Reply). Counts g.D.SectorDisk g.E.SectorDisk c.args.self.now c.loop-i.self zs) every
-    (counts g.D.SectorDisk g.E.SectorDisk c.args.self.now (take c.loop-i.i c.loop-i.replies) c.loop-i.self c.loop-i.invariant.caused)
+    let caused = c.loop-i.invariant.caused in
+    subst (λ (zs : List Reply). DoesEachAsTold g.D.SectorDisk g.E.SectorDisk c.args.self.now c.loop-i.self zs) every (record {
+      caused = caused;
+      counts = counts g.D.SectorDisk g.E.SectorDisk c.args.self.now (take c.loop-i.i c.loop-i.replies) c.loop-i.self caused;
+    })
 
 pub returns-clause-run : goal.returns-clause-run
 returns-clause-run g c = λ s shows keeps swap_keeps.

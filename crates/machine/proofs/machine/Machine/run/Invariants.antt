@@ -1,7 +1,8 @@
 use Rattle.std.proofs.Common.{length, take, ◌≡◌}
 use Rattle.vm_types.specs.State.{State}
 use Rattle.machine.specs.Chain.{Caused}
-use Rattle.machine.specs.Machine.{store_of, swap_of, KeepsRoom, IsSoundMachine, Shows}
+use Rattle.machine.specs.Commands.{KeepsModelsAndRoom}
+use Rattle.machine.specs.Machine.{store_of, swap_of, IsSoundMachine, Shows}
 use Rattle.machine.proofs.Runs.{RanSoFar}
 use Rattle.machine.proofs.machine.Machine.run.Given as goal
 
@@ -9,9 +10,7 @@ abbrev pub invariant-loop-i : goal.invariant-loop-i
 invariant-loop-i g l = record {
   sound : IsSoundMachine g.D.SectorDisk g.E.SectorDisk l.self;
   lengths : length l.replies ≡ length l.commands;
-  kept : g.D.SectorDisk.keeps_model (store_of l.self) → g.D.SectorDisk.keeps_model (store_of l.fn.self);
-  swap_kept : g.E.SectorDisk.keeps_model (swap_of l.self) → g.E.SectorDisk.keeps_model (swap_of l.fn.self);
-  room : KeepsRoom l.fn.self l.self;
+  keeps : KeepsModelsAndRoom g.D.SectorDisk g.E.SectorDisk l.fn.self l.self;
   caused : Caused g.D.SectorDisk g.E.SectorDisk l.fn.self (take l.i l.replies) l.self;
   ran : (s : State) → Shows g.D.SectorDisk g.E.SectorDisk l.fn.self s → g.D.SectorDisk.keeps_model (store_of l.self)
       → g.E.SectorDisk.keeps_model (swap_of l.self) → RanSoFar g.D.SectorDisk g.E.SectorDisk l.fn.self l.self s (take l.i l.commands) (take l.i l.replies);

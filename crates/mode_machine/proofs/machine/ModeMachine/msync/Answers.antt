@@ -1,4 +1,4 @@
-use Rattle.std.proofs.Common.{◌≡◌, true, false, rules, ap}
+use Rattle.std.proofs.Common.{◌≡◌, true, false, rules, sym, ap, ◌∙◌}
 use Rattle.vm_types.specs.declared.refusal.Errno.TheVariants.{EIO}
 use Rattle.vm_types.specs.declared.reply.Answer.TheVariants.{Refused}
 use Rattle.vm_types.specs.Replies.{reply_of}
@@ -12,14 +12,26 @@ returns-clause-sound g c =
     let is_not : c.eq-self.result ≡ false → c.msync-answer.result ≡ Refused EIO → ⊥ = λ e. search rules in
     record { going = λ e. c.msync-answer.ensures.ready (is_not e) }
 
-pub returns-clause-room : goal.returns-clause-room
-returns-clause-room g c = record { frames = c.msync-answer.ensures.frames; slots = c.msync-answer.ensures.slots }
-
-pub returns-clause-caused : goal.returns-clause-caused
-returns-clause-caused g c =
+pub returns-clause-keeps : goal.returns-clause-keeps
+returns-clause-keeps g c =
     let e = c.msync-answer.ensures in
-    msync_caused g.D.SectorDisk g.E.SectorDisk c.args.self.now.core c.msync-answer.new.core c.msync-answer.result
-    e.later e.device.later e.cause e.calm e.stalled e.still e.refused
+    record { kept = e.kept; swap_kept = e.device.kept; room = record { frames = e.frames; slots = e.slots } }
+
+pub returns-clause-does : goal.returns-clause-does
+returns-clause-does g c =
+    let e = c.msync-answer.ensures in (
+    record {
+      caused =
+          msync_caused g.D.SectorDisk g.E.SectorDisk c.args.self.now.core c.msync-answer.new.core c.msync-answer.result
+          e.later e.device.later e.cause e.calm e.stalled e.still e.refused;
+      accesses = (e.memory, e.asks);
+      denied = record {
+        refused = λ errno is other. e.unasked errno (refused_so c.msync-answer.result errno is) other;
+        faulted = λ other. absurd (let never : true ≡ false = other in cc);
+        halted = λ stopped. absurd (let never : false ≡ true = sym c.requires.running ∙ stopped in cc);
+      };
+    }
+    )
 
 pub returns-clause-meets : goal.returns-clause-meets
 returns-clause-meets g c = λ s shows readable.
@@ -35,6 +47,3 @@ returns-clause-meets g c = λ s shows readable.
       back = λ after commit away. readable.slots (ap Rattle.std.specs.Option.is_some commit);
     })
     (λ e. ap reply_of (is e)) (λ e r. is_not e (refused_so c.msync-answer.result EIO r))
-
-pub returns-clause-denied : goal.returns-clause-denied
-returns-clause-denied g c = λ errno is other. c.msync-answer.ensures.unasked errno (refused_so c.msync-answer.result errno is) other

@@ -3,10 +3,19 @@ use Rattle.std.specs.Prelude.{is_some}
 use Rattle.vm_types.specs.declared.reply.Reply.{Reply}
 use Rattle.vm_types.specs.declared.reply.Reply.TheVariants.{Past}
 use Rattle.vm_types.specs.State.{State}
+use Rattle.mode_machine.specs.Commands.{DoesAsTold}
 use Rattle.mode_machine.specs.Machine.{Meets}
 use Rattle.paging.specs.Picture.{picture_of}
 use Rattle.mode_machine.proofs.Tidied.{tidied}
 use Rattle.mode_machine.proofs.machine.ModeMachine.step.Goals as goal
+
+pub returns-in-Some-clause-does : goal.returns-in-Some-clause-does
+returns-in-Some-clause-does g c =
+    subst (λ (r : Reply). DoesAsTold g.D.SectorDisk g.E.SectorDisk c.args.self.now c.carry_out.new.self c.args.command r) (sym c.reply.ensures) c.in-Some.ensures.does
+
+pub returns-in-None-clause-does : goal.returns-in-None-clause-does
+returns-in-None-clause-does g c =
+    subst (λ (r : Reply). DoesAsTold g.D.SectorDisk g.E.SectorDisk c.args.self.now c.carry_out.new.self c.args.command r) (sym (ap Past c.history.ensures)) c.in-None.ensures.does
 
 pub returns-in-Some-clause-meets : goal.returns-in-Some-clause-meets
 returns-in-Some-clause-meets g c = λ s shows readable.

@@ -1,4 +1,4 @@
-use Rattle.std.proofs.Common.{◌≡◌, ◌+◌, ◌<◌, true, false, is_err, ⊎_elim, sym, ap, subst, ◌∙◌, arith, rules}
+use Rattle.std.proofs.Common.{◌≡◌, ◌+◌, ◌<◌, false, is_err, ⊎_elim, sym, ap, subst, ◌∙◌, arith, rules}
 use Rattle.std.proofs.lemmas.Bool.{cases_eq}
 use Rattle.disk_model.specs.Sectors.{part_of}
 use Rattle.disk_model.specs.SimDisk.{sector_of, failures_of, asked_of}
@@ -18,7 +18,7 @@ loop-i-preserved c =
     let told : c.is_err-failed.result ≡ is_err c.write.result = c.is_err-failed.ensures.value in
     let calm_before : c.is_err-failed.result ≡ false → c.loop-i.failed ≡ false = λ calm. ⊎_elim
     inv.begun
-    (λ later. inv.fails (omega (arith, later)) ∙ ran_before (Write (c.args.n + i)) (plan_of mid) (plan_of new) w.plan (sym w.fails ∙ sym told ∙ calm))
+    (λ later. inv.fails (omega (arith, later)) ∙ ran_before (Write (c.args.n + i)) (plan_of mid) (plan_of new) w.stops.counted (sym w.stops.fails ∙ sym told ∙ calm))
     (cases_eq i 0) in
     let here : c.is_err-failed.result ≡ false → sector_of new.disk (c.args.n + i) ≡ part_of c.args.from.now i = λ calm.
     when_ok c.write.result _ w.written (sym told ∙ calm)
@@ -27,15 +27,15 @@ loop-i-preserved c =
       asks = names_next c.args.n i (asked_of c.args.self.now.disk) (asked_of mid.disk) (asked_of new.disk) inv.asks w.asks;
       size = search rules;
       later = search rules;
-      caused = λ failed. let more : failures_of mid.disk < failures_of new.disk = w.cause.failed (sym told ∙ failed) in omega (arith, more, inv.later);
-      calm = λ calm. when_ok c.write.result _ w.cause.calm (sym told ∙ calm) ∙ inv.calm (calm_before calm);
+      caused = λ failed. let more : failures_of mid.disk < failures_of new.disk = w.keeps.cause.failed (sym told ∙ failed) in omega (arith, more, inv.later);
+      calm = λ calm. when_ok c.write.result _ w.keeps.cause.calm (sym told ∙ calm) ∙ inv.calm (calm_before calm);
       written = λ calm j less. ⊎_elim
           (λ same. subst (λ m. sector_of new.disk (c.args.n + m) ≡ part_of c.args.from.now m) (sym same) (here calm))
-          (λ other. w.others.others (c.args.n + j) (λ e. other (omega (arith, e))) ∙ inv.written (calm_before calm) j (omega (arith, less, other)))
+          (λ other. w.changes.others.others (c.args.n + j) (λ e. other (omega (arith, e))) ∙ inv.written (calm_before calm) j (omega (arith, less, other)))
           (cases_eq j i);
-      fails = λ some. told ∙ w.fails;
+      fails = λ some. told ∙ w.stops.fails;
       begun = λ none. absurd (omega (arith, none));
-      plan = w.plan ∙ ap (after_event (Write (c.args.n + i))) inv.plan ∙ one_write i c.args.n (plan_of c.args.self.now);
+      plan = w.stops.counted ∙ ap (after_event (Write (c.args.n + i))) inv.plan ∙ one_write i c.args.n (plan_of c.args.self.now);
       others = search rules;
       unsynced = search rules;
       marked = search rules;

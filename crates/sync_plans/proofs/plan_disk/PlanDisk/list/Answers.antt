@@ -1,4 +1,4 @@
-use Rattle.std.proofs.Common.{◌≡◌, ◌<◌, ◌∙◌, true, false, length, sym, arith}
+use Rattle.std.proofs.Common.{◌≡◌, ◌<◌, ◌∙◌, true, false, length, sym, arith, rules}
 use Rattle.std.proofs.lemmas.List.{length-set}
 use Rattle.sync_plans.specs.PlanDisk.{pages_of}
 use Rattle.sync_plans.proofs.Untouched.{behind_written, all_behind, sources_behind, all_listed, sources_listed, listed, still_untouched}
@@ -29,7 +29,7 @@ invariant_of-self-4 c =
       long = length-set s.calls.now s.used c.args.call ∙ s.long;
       rows_long = length-set s.rows.now s.used c.keep_row.new.to ∙ s.rows_long;
       within = omega (arith, c.if-self-ge-ROOM.false);
-      all = all_listed s.calls.now s.used c.args.call room (length s.image.now) s.all c.requires.call;
+      all = all_listed s.calls.now s.used c.args.call room (length s.image.now) s.all c.requires.is;
       sources = sources_listed s.calls.now s.used c.args.call room (pages_of s) s.untouched.low s.untouched.high s.sources s.between c.requires.lent c.requires.unwritten;
       filled = λ full. let e : true ≡ false = sym full ∙ c.if-self.false in cc;
       calm = s.calm;
@@ -39,8 +39,16 @@ invariant_of-self-4 c =
           (c.untouched_with-self.ensures.written n low high);
     }
 
-pub returns-clause-lists : goal.returns-clause-lists
-returns-clause-lists c = λ _.
+pub returns : goal.returns
+returns c =
     let s = c.args.self.now in
-    listed s.calls.now s.used c.args.call (omega (arith, c.if-self-ge-ROOM.false, s.long)) s.rows.now c.args.bytes.now c.keep_row.new.to
-    (omega (arith, c.if-self-ge-ROOM.false, s.rows_long)) c.keep_row.ensures
+    record {
+      ok = search rules;
+      lists = λ _. listed s.calls.now s.used c.args.call (omega (arith, c.if-self-ge-ROOM.false, s.long)) s.rows.now c.args.bytes.now c.keep_row.new.to
+          (omega (arith, c.if-self-ge-ROOM.false, s.rows_long)) c.keep_row.ensures;
+      image = search rules;
+      lent = search rules;
+      asked = search rules;
+      kept = search rules;
+      cause = search rules;
+    }

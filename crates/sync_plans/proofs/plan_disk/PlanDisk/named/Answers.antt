@@ -1,4 +1,4 @@
-use Rattle.std.proofs.Common.{ℕ, List, ◌≡◌, ◌+◌, ◌-◌, ◌∙◌, length, ap, arith, refl}
+use Rattle.std.proofs.Common.{ℕ, List, ◌≡◌, ◌+◌, ◌-◌, ◌∙◌, length, ap, arith, refl, rules}
 use Rattle.std.specs.Cmp.Lexicographic.{same_text}
 use Rattle.disk_model.specs.Sectors.{part_of}
 use Rattle.sync_plans.specs.PlanDisk.{pages_of}
@@ -15,7 +15,11 @@ returns-then-eq-clause-sources c =
       bytes = λ i lt. let e : c.args.n + i - c.args.n ≡ i = omega arith in rw e (ap (λ (page : List ℕ). part_of page i) same);
     }
 
-pub returns-then-eq-clause-lent : goal.returns-then-eq-clause-lent
-returns-then-eq-clause-lent c = λ _.
+pub returns-then-eq-clause-listable : goal.returns-then-eq-clause-listable
+returns-then-eq-clause-listable c =
     let s = c.args.self.now in
-    ap length (lent_here s.lent.now s.next _ c.if-self.true ∙ same_text _ c.args.page.now c.if-eq.ensures) ∙ c.told-page
+    record {
+      is = search rules;
+      lent = λ _. ap length (lent_here s.lent.now s.next _ c.if-self.true ∙ same_text _ c.args.page.now c.if-eq.ensures) ∙ c.told-page;
+      unwritten = search rules;
+    }

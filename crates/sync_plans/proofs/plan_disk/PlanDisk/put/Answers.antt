@@ -1,20 +1,25 @@
-use Rattle.std.proofs.Common.{refl}
+use Rattle.std.proofs.Common.{refl, rules}
 use Rattle.sync_plans.specs.PlanDisk.{pages_of}
 use Rattle.sync_plans.specs.Plans.{row}
-use Rattle.sync_plans.proofs.Growth.{time, marked_here, changes, unsynced_by, still_unsynced}
+use Rattle.sync_plans.proofs.Growth.{time, changes, unsynced_by, still_unsynced}
 use Rattle.sync_plans.proofs.plan_disk.PlanDisk.put.Goals as goal
 
-pub returns-clause-others : goal.returns-clause-others
-returns-clause-others c = λ k. rw (c.list.ensures.image, c.list.ensures.lent) (changes (pages_of c.args.self.now) (row c.args.self.now.image.now) (c.list.ensures.lists k) c.args.n refl)
-
-pub returns-clause-unsynced : goal.returns-clause-unsynced
-returns-clause-unsynced c = λ k. unsynced_by (pages_of c.args.self.now) (row c.args.self.now.image.now) (c.list.ensures.lists k) c.args.n refl
-
-pub returns-clause-marked : goal.returns-clause-marked
-returns-clause-marked c = λ k. marked_here (pages_of c.args.self.now) (row c.args.self.now.image.now) (c.list.ensures.lists k) c.args.n refl
-
-pub returns-clause-still : goal.returns-clause-still
-returns-clause-still c = λ k. still_unsynced (pages_of c.args.self.now) (row c.args.self.now.image.now) (c.list.ensures.lists k) c.args.n refl
-
-pub returns-clause-time : goal.returns-clause-time
-returns-clause-time c = λ k. rw (c.list.ensures.image, c.list.ensures.lent) (time (pages_of c.args.self.now) (row c.args.self.now.image.now) (c.list.ensures.lists k))
+pub returns : goal.returns
+returns c =
+    let pages = pages_of c.args.self.now in
+    let first = row c.args.self.now.image.now in
+    let listed = c.list.ensures.lists in
+    record {
+      written = search rules;
+      others = λ k. rw (c.list.ensures.image, c.list.ensures.lent) (changes pages first (listed k) c.args.n refl);
+      puts = record {
+        unsynced = λ k. unsynced_by pages first (listed k) c.args.n refl;
+        marked = λ k n is. search rules;
+        still = λ k. still_unsynced pages first (listed k) c.args.n refl;
+        time = λ k. rw (c.list.ensures.image, c.list.ensures.lent) (time pages first (listed k));
+        size = search rules;
+        asked = search rules;
+        kept = search rules;
+        cause = search rules;
+      };
+    }

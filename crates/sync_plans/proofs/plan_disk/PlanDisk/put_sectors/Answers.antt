@@ -1,4 +1,4 @@
-use Rattle.std.proofs.Common.{◌≡◌, ◌<◌, ◌+◌, ⊎_elim, inr, sym, subst, ◌∙◌, arith}
+use Rattle.std.proofs.Common.{◌≡◌, ◌<◌, ◌+◌, ⊎_elim, inr, refl, sym, subst, ◌∙◌, arith}
 use Rattle.std.proofs.lemmas.Bool.{cases_eq}
 use Rattle.disk_model.specs.Sectors.{part_of}
 use Rattle.disk_model.proofs.Pages.{more_time, carried}
@@ -27,9 +27,9 @@ loop-i-preserved c =
           (cases_eq j i);
       others = λ k. record { others = λ m out. (w.others k).others m (λ e. out (omega (arith, e), omega (arith, e, below))) ∙ (inv.others (w.kept k)).others m out };
       unsynced = λ k m u. ⊎_elim (inv.unsynced (w.kept k) m) (λ e. inr (omega (arith, e), omega (arith, e, below))) (w.unsynced k m u);
-      marked = λ k m from less. ⊎_elim (λ e. subst (λ n. unsynced_in new n) (sym e) (w.marked k))
+      marked = λ k m from less. ⊎_elim (w.marked k m)
           (λ other. w.still k m (inv.marked (w.kept k) m from (omega (arith, less, other)))) (cases_eq m at);
       still = λ k m u. w.still k m (inv.still (w.kept k) m u);
       time = λ k. more_time (moment_of old) (moment_of mid) (moment_of new) (left_in old) (left_in mid) (left_in new) (content_of mid) (content_of new) (unsynced_in mid) (unsynced_in new)
-          (inv.time (w.kept k)) (w.time k) (carried at (content_of mid) (content_of new) (unsynced_in mid) (unsynced_in new) (w.others k) (w.still k) (w.marked k));
+          (inv.time (w.kept k)) (w.time k) (carried at (content_of mid) (content_of new) (unsynced_in mid) (unsynced_in new) (w.others k) (w.still k) (w.marked k at refl));
     }

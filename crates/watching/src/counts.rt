@@ -5,7 +5,7 @@ use std::fmt::{self, Display, Formatter};
 
 /// A number that is counted up, and stays at its greatest value.
 #[derive(Clone, Copy, PartialEq, Eq, Default)]
-pub(crate) struct Count(u64);
+pub struct Count(u64);
 
 impl Count {
     /// One more.
@@ -26,7 +26,7 @@ impl Display for Count {
 /// fetches` is `buffer-hits + walks + page-faults + faults + stalls + refused`, and each frame by what it was filled with and by how it was lost, so
 /// that `frames-filled - evictions - frames-released` frames hold pages now, and `tables-made - tables-freed` hold tables.
 #[derive(Clone, Copy, Default)]
-pub(crate) struct Counts {
+pub struct Counts {
     /// Lines that stand for a command.
     pub commands: Count,
     pub accesses: AccessCounts,
@@ -38,7 +38,7 @@ pub(crate) struct Counts {
 
 /// Accesses, by their kinds and by what they came to.
 #[derive(Clone, Copy, Default)]
-pub(crate) struct AccessCounts {
+pub struct AccessCounts {
     pub loads: Count,
     pub stores: Count,
     pub fetches: Count,
@@ -55,7 +55,7 @@ pub(crate) struct AccessCounts {
 
 /// Accesses for which the system had to change an entry.
 #[derive(Clone, Copy, Default)]
-pub(crate) struct FaultCounts {
+pub struct FaultCounts {
     pub all: Count,
     /// Those for which a page was read from the image or from a slot.
     pub major: Count,
@@ -70,7 +70,7 @@ pub(crate) struct FaultCounts {
 
 /// Frames of pages, by what filled them and by how they were lost.
 #[derive(Clone, Copy, Default)]
-pub(crate) struct FrameCounts {
+pub struct FrameCounts {
     pub filled: Count,
     pub from_image: Count,
     pub from_slot: Count,
@@ -86,14 +86,14 @@ pub(crate) struct FrameCounts {
 
 /// Frames of tables.
 #[derive(Clone, Copy, Default)]
-pub(crate) struct TableCounts {
+pub struct TableCounts {
     pub made: Count,
     pub freed: Count,
 }
 
 /// Commands that are no accesses.
 #[derive(Clone, Copy, Default)]
-pub(crate) struct CallCounts {
+pub struct CallCounts {
     pub msyncs: Count,
     pub refused: Count,
     pub stalled: Count,

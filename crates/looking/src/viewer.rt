@@ -5,9 +5,7 @@ ghost use Rattle.runner.specs.Session.{Answers};
 ghost use Rattle.looking.specs.Lines.{is_aside};
 
 use crate::answers::answer_question;
-use crate::ledger::{Inquiry, Ledger};
 use crate::questions::{Question, question_in};
-use crate::targets::Target;
 use disk_model::SectorDisk;
 use machine::Machine;
 use memchr::memchr;
@@ -15,52 +13,32 @@ use runner::{LineBuffer, RunEnd, answer_line, read_once};
 use std::alloc::{AllocError, Global};
 use std::io::{self, Read, Write};
 use trace_lang::{MAX_LINE_BYTES, parse_line};
-use vm_types::Command;
+use watching::{Ledger, Outcome, Pending};
 
 /// The most bytes of one read: 32 KiB.
 pub(crate) const READ_BYTES: usize = 32768;
 
 /// What is kept from one line to the next, beside the machine.
 #[derive(Drop)]
-pub(crate) struct Session {
+pub(crate) struct Viewer {
     line: LineBuffer,
     ledger: Ledger,
     text: [u8; 1024],
 }
 
-/// What a command came to, by the first letter of its reply.
-#[derive(Clone, Copy)]
-enum Outcome {
-    Done,
-    Refused,
-    Faulted,
-    Stalled,
-    Halted,
-}
-
-/// A command that is to be carried out, and what stood before it.
-#[derive(Clone, Copy)]
-struct Pending {
-    command: Command,
-    /// The page of an access.
-    target: Option<Target>,
-    /// How many accesses had found a translation kept.
-    hits: u64,
-}
-
-impl Session {
-    /// The session of a machine that has just started. No later call takes memory of the host.
+impl Viewer {
+    /// The viewer of a machine that has just started. No later call takes memory of the host.
     ///
     /// # Errors
     /// `AllocError` where the host has not enough memory.
     pub(crate) fn new<D: SectorDisk, E: SectorDisk>(
         alloc: Global,
         machine: &Machine<D, E>,
-    ) -> Result<Session, AllocError>
+    ) -> Result<Viewer, AllocError>
         requires { IsSoundMachine D.SectorDisk E.SectorDisk machine.now }
     {
         let ledger = Ledger::new(alloc, machine)?;
-        Ok(Session {
+        Ok(Viewer {
             line: LineBuffer::new(),
             ledger,
             text: [0; 1024],
@@ -283,123 +261,5 @@ fn follow<W: Write, D: SectorDisk, E: SectorDisk>(
     match pending {
         Some(pending) => pending.settle(Outcome::of(reply), ledger, machine, out),
         None => Ok(()),
-    }
-}
-
-impl Outcome {
-    /// By the first letter of a reply's text, which are those of `error`, `fault`, `stall` and `halted`, or of none of them.
-    fn of(reply: &[u8]) -> Outcome {
-        match reply.first() {
-            Some(b'e') => Outcome::Refused,
-            Some(b'f') => Outcome::Faulted,
-            Some(b's') => Outcome::Stalled,
-            Some(b'h') => Outcome::Halted,
-            _ => Outcome::Done,
-        }
-    }
-}
-
-impl Pending {
-    fn new<D: SectorDisk, E: SectorDisk>(command: Command, machine: &Machine<D, E>) -> Pending
-        requires { IsSoundMachine D.SectorDisk E.SectorDisk machine.now }
-    {
-        let target = match command {
-            Command::Load { pid, addr, .. }
-            | Command::Store { pid, addr, .. }
-            | Command::Fetch { pid, addr } => Target::new(machine, pid, addr),
-            _ => None,
-        };
-        Pending {
-            command,
-            target,
-            hits: machine.hits(),
-        }
-    }
-
-    /// Counts the command, and tells what it did.
-    fn settle<W: Write, D: SectorDisk, E: SectorDisk>(
-        &self,
-        outcome: Outcome,
-        ledger: &mut Ledger,
-        machine: &Machine<D, E>,
-        out: &mut W,
-    ) -> io::Result<()>
-        requires { IsSoundMachine D.SectorDisk E.SectorDisk machine.now }
-    {
-        ledger.counts.commands.add();
-        match self.command {
-            Command::Load { .. } => ledger.counts.accesses.loads.add(),
-            Command::Store { .. } => ledger.counts.accesses.stores.add(),
-            Command::Fetch { .. } => ledger.counts.accesses.fetches.add(),
-            Command::PastFaults => return Ok(()),
-            _ => return self.settle_call(outcome, ledger, machine, out),
-        }
-        self.settle_access(outcome, ledger, machine, out)
-    }
-
-    /// What an access did. One that faulted or was refused has changed nothing.
-    fn settle_access<W: Write, D: SectorDisk, E: SectorDisk>(
-        &self,
-        outcome: Outcome,
-        ledger: &mut Ledger,
-        machine: &Machine<D, E>,
-        out: &mut W,
-    ) -> io::Result<()>
-        requires { IsSoundMachine D.SectorDisk E.SectorDisk machine.now }
-    {
-        let accesses = &mut ledger.counts.accesses;
-        match (outcome, &self.target) {
-            (Outcome::Refused | Outcome::Halted, _) | (Outcome::Done, None) => accesses
-                .refused
-                .add(),
-            (Outcome::Faulted, _) => accesses.faults.add(),
-            (Outcome::Done, Some(_)) if machine.hits() != self.hits => accesses.hits.add(),
-            (Outcome::Done, Some(target)) => return ledger.compare_access(target, machine, out),
-            (Outcome::Stalled, _) => {
-                accesses.stalls.add();
-                return ledger.compare_all(&self.inquiry(ledger), machine, out);
-            }
-        }
-        Ok(())
-    }
-
-    /// What a call did. One that was refused has changed nothing.
-    fn settle_call<W: Write, D: SectorDisk, E: SectorDisk>(
-        &self,
-        outcome: Outcome,
-        ledger: &mut Ledger,
-        machine: &Machine<D, E>,
-        out: &mut W,
-    ) -> io::Result<()>
-        requires { IsSoundMachine D.SectorDisk E.SectorDisk machine.now }
-    {
-        let calls = &mut ledger.counts.calls;
-        match outcome {
-            Outcome::Refused | Outcome::Faulted | Outcome::Halted => {
-                calls.refused.add();
-                return Ok(());
-            }
-            Outcome::Stalled => calls.stalled.add(),
-            Outcome::Done => {
-                if let Command::Msync { .. } = self.command {
-                    calls.msyncs.add();
-                }
-            }
-        }
-        ledger.compare_all(&self.inquiry(ledger), machine, out)
-    }
-
-    /// What is asked of all frames. Only a spawn, a fork and an access want frames, so only these have others given up.
-    fn inquiry(&self, ledger: &Ledger) -> Inquiry<'_> {
-        let is_asking = match self.command {
-            Command::Spawn | Command::Fork { .. } => true,
-            _ => self.target.is_some(),
-        };
-        Inquiry {
-            target: self.target.as_ref(),
-            gained: None,
-            is_asking,
-            is_watched: ledger.is_watching,
-        }
     }
 }

@@ -1,6 +1,6 @@
 use Rattle.std.proofs.Common.{◌≤◌, length}
 use Rattle.machine.specs.Machine.{IsSoundMachine}
-use Rattle.looking.proofs.session.Session.run_piece.Given as goal
+use Rattle.looking.proofs.viewer.Viewer.run_piece.Given as goal
 
 abbrev pub invariant-loop-at : goal.invariant-loop-at
 invariant-loop-at g l = record {

@@ -1,5 +1,6 @@
 //! The way of an address through the page tables of its process.
-ghost use Rattle.std.specs.Prelude.{ℕ, ◌<◌, ◌≤◌, IfSome};
+ghost use Rattle.std.specs.Prelude.{ℕ, ◌≡◌, ◌<◌, ◌≤◌, ◌^◌, true, false, IfSome, IfNone};
+ghost use Rattle.sv39_walk.specs.Entry.{frame_of, is_swapped};
 ghost use Rattle.inspection.specs.Walks.{IsStep};
 ghost use Rattle.machine.specs.Machine.{IsSoundMachine};
 ghost use Rattle.inspection.specs.Machines.{memory_of};
@@ -8,21 +9,17 @@ use disk_model::SectorDisk;
 use inspection::Step;
 use machine::Machine;
 use sv39_walk::{Pte, TABLE_ENTRIES};
-use vm_types::{Levels, Pid, Sv39, Sv48};
+use vm_types::{FrameNo, Levels, Pid, SlotNo, Sv39, Sv48};
 
 /// What the tables on the way to a page say, from the root on: four at most.
 #[derive(Clone, Copy)]
-pub(crate) struct Way {
+pub struct Way {
     pub steps: [Option<Step>; 4],
 }
 
 impl Way {
     /// The way to a page of a process; without a step where no such process lives or the machine has halted.
-    pub(crate) fn new<D: SectorDisk, E: SectorDisk>(
-        machine: &Machine<D, E>,
-        pid: Pid,
-        page: u64,
-    ) -> Way
+    pub fn new<D: SectorDisk, E: SectorDisk>(machine: &Machine<D, E>, pid: Pid, page: u64) -> Way
         requires { IsSoundMachine D.SectorDisk E.SectorDisk machine.now }
     {
         let root = inspection::root_step(machine, pid, page);
@@ -35,13 +32,13 @@ impl Way {
     }
 
     /// What the last table on the way says.
-    pub(crate) fn last(&self) -> Option<Step> {
+    pub fn last(&self) -> Option<Step> {
         let [root, second, third, fourth] = self.steps;
         fourth.or(third).or(second).or(root)
     }
 
     /// The entry of the page itself; `None` where a table is missing on the way.
-    pub(crate) fn entry(&self) -> Option<Pte> {
+    pub fn entry(&self) -> Option<Pte> {
         match self.last() {
             Some(
                 Step {
@@ -73,8 +70,9 @@ fn step_below<D: SectorDisk, E: SectorDisk>(
 }
 
 /// How many pages stand in the place of one entry of a table of that level.
-pub(crate) fn pages_of_entry(level: u32) -> u64
-    ensures { 0 < result }
+pub fn pages_of_entry(level: u32) -> u64
+    ensures some { 0 < result }
+    ensures pages { level ≤ 3 → result ≡ 512 ^ level }
 {
     match level {
         0 => 1,
@@ -85,7 +83,7 @@ pub(crate) fn pages_of_entry(level: u32) -> u64
 }
 
 /// The level of a root table.
-pub(crate) fn top_level<D, E>(machine: &Machine<D, E>) -> u32
+pub fn top_level<D, E>(machine: &Machine<D, E>) -> u32
     ensures { result ≤ 3 }
 {
     match machine {
@@ -95,9 +93,37 @@ pub(crate) fn top_level<D, E>(machine: &Machine<D, E>) -> u32
 }
 
 /// One past the last user page.
-pub(crate) fn user_end<D, E>(machine: &Machine<D, E>) -> u64 {
+pub fn user_end<D, E>(machine: &Machine<D, E>) -> u64 {
     match machine {
         Machine::Sv39(_) => Sv39::user_end(),
         Machine::Sv48(_) => Sv48::user_end(),
+    }
+}
+
+/// The frame that a page's entry names; `None` where it says nothing, or names a slot.
+pub fn frame_in(entry: Pte) -> Option<FrameNo>
+    ensures frame { IfSome result (λ frame. (frame.0 ≡ frame_of entry.0) × (is_swapped entry.0 ≡ false)) }
+    ensures none { IfNone result (0 < entry.0 → is_swapped entry.0 ≡ false → 2 ^ 32 ≤ frame_of entry.0) }
+{
+    if entry.to_u64() == 0 || entry.is_swapped() {
+        return None;
+    }
+    match u32::try_from(entry.frame()) {
+        Ok(frame) => Some(FrameNo(frame)),
+        Err(_) => None,
+    }
+}
+
+/// The slot that a page's entry names; `None` where it names none.
+pub fn slot_in(entry: Pte) -> Option<SlotNo>
+    ensures slot { IfSome result (λ slot. (slot.0 ≡ frame_of entry.0) × (is_swapped entry.0 ≡ true)) }
+    ensures none { IfNone result (is_swapped entry.0 ≡ true → 2 ^ 32 ≤ frame_of entry.0) }
+{
+    if !entry.is_swapped() {
+        return None;
+    }
+    match u32::try_from(entry.frame()) {
+        Ok(slot) => Some(SlotNo(slot)),
+        Err(_) => None,
     }
 }

@@ -1,10 +1,12 @@
 //! What each command did inside, found by comparing what frames held before it and after it.
+ghost use Rattle.std.specs.Prelude.{IfOk};
 ghost use Rattle.machine.specs.Machine.{IsSoundMachine};
+ghost use Rattle.watching.specs.Books.{IsBalanced};
 
 use crate::counts::{Counts, FrameCounts};
 use crate::events::{Content, Event, Refuge, Source};
 use crate::targets::Target;
-use crate::ways::{Way, top_level};
+use crate::ways::{Way, frame_in, slot_in, top_level};
 use disk_model::SectorDisk;
 use inspection::{FrameView, Holding, Place, Step};
 use machine::Machine;
@@ -15,7 +17,7 @@ use vm_types::{FrameNo, PageKey, Pid, SlotNo};
 
 /// What each frame held after the last command, and what was counted since the start.
 #[derive(Drop)]
-pub(crate) struct Ledger {
+pub struct Ledger {
     frames: Vec<Held>,
     pub counts: Counts,
     /// Whether each thing that happens is told.
@@ -48,11 +50,12 @@ impl Ledger {
     ///
     /// # Errors
     /// `AllocError` where the host has not enough memory.
-    pub(crate) fn new<D: SectorDisk, E: SectorDisk>(
+    pub fn new<D: SectorDisk, E: SectorDisk>(
         alloc: Global,
         machine: &Machine<D, E>,
     ) -> Result<Ledger, AllocError>
         requires { IsSoundMachine D.SectorDisk E.SectorDisk machine.now }
+        ensures balance { IfOk result (λ ledger. IsBalanced ledger.counts.frames) }
     {
         let mut frames = Vec::new(alloc);
         for n in 0..u32::MAX {
@@ -292,28 +295,6 @@ fn table_of(step: Option<Step>) -> Option<FrameNo> {
     match step {
         Some(step) => Some(step.table),
         None => None,
-    }
-}
-
-/// The frame that a page's entry names.
-pub(crate) fn frame_in(entry: Pte) -> Option<FrameNo> {
-    if entry.to_u64() == 0 || entry.is_swapped() {
-        return None;
-    }
-    match u32::try_from(entry.frame()) {
-        Ok(frame) => Some(FrameNo(frame)),
-        Err(_) => None,
-    }
-}
-
-/// The slot that a page's entry names.
-pub(crate) fn slot_in(entry: Pte) -> Option<SlotNo> {
-    if !entry.is_swapped() {
-        return None;
-    }
-    match u32::try_from(entry.frame()) {
-        Ok(slot) => Some(SlotNo(slot)),
-        Err(_) => None,
     }
 }
 

@@ -1,6 +1,6 @@
 //! What a command did inside, as things that happened.
 ghost use Rattle.std.specs.Prelude.{◌≡◌, ◌+◌};
-ghost use Rattle.looking.specs.Books.{HasRoom, IsBalanced, IsCounted};
+ghost use Rattle.watching.specs.Books.{HasRoom, IsBalanced, IsCounted, IsFilledFrom, IsLostTo};
 
 use crate::counts::{Counts, FrameCounts};
 use crate::texts::{EntryText, PageText, TableText};
@@ -103,9 +103,12 @@ impl Counts {
 }
 
 impl FrameCounts {
+    /// Counts a frame that was given up.
     fn note_eviction(&mut self, refuge: Refuge)
         ensures evictions { HasRoom self.old → self.new.evictions.0 ≡ self.old.evictions.0 + 1 }
+        ensures refuge { HasRoom self.old → IsBalanced self.old → IsLostTo refuge self.old self.new }
         ensures filled { self.new.filled ≡ self.old.filled }
+        ensures released { self.new.released ≡ self.old.released }
         ensures balance { HasRoom self.old → IsBalanced self.old → IsBalanced self.new }
     {
         self.evictions.add();
@@ -115,9 +118,12 @@ impl FrameCounts {
         }
     }
 
+    /// Counts a frame that was filled.
     fn note_fill(&mut self, source: Source)
         ensures filled { HasRoom self.old → self.new.filled.0 ≡ self.old.filled.0 + 1 }
+        ensures source { HasRoom self.old → IsBalanced self.old → IsFilledFrom source self.old self.new }
         ensures evictions { self.new.evictions ≡ self.old.evictions }
+        ensures released { self.new.released ≡ self.old.released }
         ensures balance { HasRoom self.old → IsBalanced self.old → IsBalanced self.new }
     {
         self.filled.add();

@@ -1,6 +1,6 @@
 use Rattle.std.proofs.Common.{◌<◌, length}
 use Rattle.machine.specs.Machine.{IsSoundMachine}
-use Rattle.looking.proofs.session.Session.take_all.Given as goal
+use Rattle.looking.proofs.viewer.Viewer.take_all.Given as goal
 
 abbrev pub invariant-loop-i : goal.invariant-loop-i
 invariant-loop-i g l = record {

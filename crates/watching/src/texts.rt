@@ -1,4 +1,5 @@
 //! How things are called in what is told.
+ghost use Rattle.std.specs.Prelude.{◌≡◌, ◌<◌, ◌*◌, ◌^◌};
 
 use inspection::{Holding, TablePlace};
 use std::fmt::{self, Display, Formatter};
@@ -7,7 +8,7 @@ use vm_types::{Backing, PAGE_BYTES, PageKey, Prot};
 
 /// A page of a file or of shared anonymous memory, as `page 3 of file 0`.
 #[derive(Drop)]
-pub(crate) struct PageText(pub PageKey);
+pub struct PageText(pub PageKey);
 
 impl Display for PageText {
     fn fmt<W: fmt::Write>(&self, f: &mut Formatter<W>) -> fmt::Result {
@@ -21,7 +22,7 @@ impl Display for PageText {
 /// The lowest eight bits of a valid entry by their letters, with `-` for each that is clear (RISC-V Privileged Specification, "Sv39 page table
 /// entry").
 #[derive(Drop)]
-pub(crate) struct BitsText(pub Pte);
+pub struct BitsText(pub Pte);
 
 impl Display for BitsText {
     fn fmt<W: fmt::Write>(&self, f: &mut Formatter<W>) -> fmt::Result {
@@ -36,7 +37,7 @@ impl Display for BitsText {
 
 /// What an entry says: only where V is set are its other bits those of the specification, so only then they are shown.
 #[derive(Drop)]
-pub(crate) struct EntryText(pub Pte);
+pub struct EntryText(pub Pte);
 
 impl Display for EntryText {
     fn fmt<W: fmt::Write>(&self, f: &mut Formatter<W>) -> fmt::Result {
@@ -60,7 +61,7 @@ impl Display for EntryText {
 
 /// The bits of an entry over a frame, or `parked` where it keeps the frame and allows nothing.
 #[derive(Drop)]
-pub(crate) struct StateText(pub Pte);
+pub struct StateText(pub Pte);
 
 impl Display for StateText {
     fn fmt<W: fmt::Write>(&self, f: &mut Formatter<W>) -> fmt::Result {
@@ -74,7 +75,7 @@ impl Display for StateText {
 
 /// A permission, as `rw-`.
 #[derive(Drop)]
-pub(crate) struct ProtText(pub Prot);
+pub struct ProtText(pub Prot);
 
 impl Display for ProtText {
     fn fmt<W: fmt::Write>(&self, f: &mut Formatter<W>) -> fmt::Result {
@@ -86,7 +87,7 @@ impl Display for ProtText {
 
 /// What stands behind pages, with the number and the offset of the first, in the words of an mmap line.
 #[derive(Drop)]
-pub(crate) struct BackingText(pub Backing);
+pub struct BackingText(pub Backing);
 
 impl Display for BackingText {
     fn fmt<W: fmt::Write>(&self, f: &mut Formatter<W>) -> fmt::Result {
@@ -115,13 +116,15 @@ impl Display for BackingText {
 }
 
 /// How many bytes stand before a page of that number.
-pub(crate) fn bytes_before(page: u64) -> u64 {
+pub fn bytes_before(page: u64) -> u64
+    ensures { page * 4096 < 2 ^ 64 → result ≡ page * 4096 }
+{
     page.saturating_mul(PAGE_BYTES as u64)
 }
 
 /// A table by its place, as the root of its process or by its level and the first of its pages.
 #[derive(Drop)]
-pub(crate) struct TableText<'a> {
+pub struct TableText<'a> {
     pub place: &'a TablePlace,
     /// The level of a root.
     pub top: u32,
@@ -144,7 +147,7 @@ impl Display for TableText<'_> {
 
 /// What a frame holds.
 #[derive(Drop)]
-pub(crate) struct HoldingText(pub Holding);
+pub struct HoldingText(pub Holding);
 
 impl Display for HoldingText {
     fn fmt<W: fmt::Write>(&self, f: &mut Formatter<W>) -> fmt::Result {

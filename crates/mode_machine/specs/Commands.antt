@@ -1,0 +1,29 @@
+-- What a command keeps whatever comes of it, and what it does whatever the devices do.
+use Rattle.vm_types.specs.declared.mode.Levels as Levels
+use Rattle.disk_model.specs.declared.sector_disk.SectorDisk.{Ghosts}
+use Rattle.mapping.specs.Changes.{KeepsRoom}
+use Rattle.paging.specs.Picture.{picture_of}
+use Rattle.vm_types.specs.declared.command.Command.{Command}
+use Rattle.vm_types.specs.declared.reply.Reply.{Reply}
+use Rattle.mode_machine.specs.Accesses.{Accesses}
+use Rattle.mode_machine.specs.Machine.{IsCaused, KeepsIfDenied}
+use Rattle.mode_machine.specs.declared.machine.ModeMachine.{ModeMachine}
+
+module _ {M : Type 0} {levels : Levels.Ghosts M} {D E : Type 0} (g : Ghosts D) (h : Ghosts E) where
+  -- Whatever comes of a command,
+  pub record KeepsModelsAndRoom (old new : ModeMachine D E M levels) : Type 0 where
+    -- a store that keeps the disk model after it kept the model before it,
+    pub kept : g.keeps_model new.core.store.disk → g.keeps_model old.core.store.disk
+    -- and so did swap,
+    pub swap_kept : h.keeps_model new.core.swap.pages.disk → h.keeps_model old.core.swap.pages.disk
+    -- and there are as many frames and slots as there were.
+    pub room : KeepsRoom (picture_of old.core) (picture_of new.core)
+
+  -- Whatever the devices do, a command does as its reply tells:
+  pub record DoesAsTold (old new : ModeMachine D E M levels) (command : Command) (reply : Reply) : Type 0 where
+    -- what the reply names came to pass,
+    pub caused : IsCaused g h old new reply
+    -- no more was asked of memory and the devices than the command asks for, and what it is to leave was left,
+    pub accesses : Accesses g h old.core new.core command reply
+    -- and where it was not carried out, memory and both devices are as they were.
+    pub denied : KeepsIfDenied old new command reply

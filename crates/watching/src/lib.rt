@@ -1,0 +1,20 @@
+//! What each command of a running machine did inside: the frames that it filled and gave up, the tables that it made and freed, the entries that it set. Each
+//! is told in a line where that is wanted, and counted in books that balance. Nothing below knows of it: it compares what the machine holds before and after.
+#![tactic(auto)]
+
+mod counts;
+mod events;
+mod ledger;
+mod pending;
+mod targets;
+mod texts;
+mod ways;
+
+pub use counts::{AccessCounts, CallCounts, Count, Counts, FaultCounts, FrameCounts, TableCounts};
+pub use ledger::Ledger;
+pub use pending::{Outcome, Pending};
+pub use texts::{
+    BackingText, BitsText, EntryText, HoldingText, PageText, ProtText, StateText, TableText,
+    bytes_before,
+};
+pub use ways::{Way, frame_in, pages_of_entry, slot_in, top_level, user_end};
