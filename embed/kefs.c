@@ -2,12 +2,9 @@
 #define _GNU_SOURCE
 #include "internal.h"
 #include <errno.h>
-#include <fcntl.h>
 #include <stdlib.h>
-#include <string.h>
 #include <sys/file.h>
 #include <sys/mman.h>
-#include <sys/stat.h>
 #include <unistd.h>
 
 /* Turns */
@@ -114,13 +111,18 @@ static int map_at(struct mapping *mapping, void *wanted) {
   return madvise(at, bytes, MADV_DONTFORK) == 0 ? KEFS_OK : errno;
 }
 
+static int make_marks(struct mapping *mapping) {
+  mapping->marks = new_memory(mapping->pages);
+  mapping->areas = new_memory(areas_of(mapping));
+  return mapping->marks == NULL || mapping->areas == NULL ? ENOMEM : KEFS_OK;
+}
+
+/* The place that was asked for is taken first: the system could give it to the marks. */
 static int new_mapping(struct kefs_image *image, unsigned file, void *wanted) {
   struct mapping *mapping = &image->mappings[file];
   *mapping = (struct mapping){.image = image, .file = image->files[file], .pages = ((size_t)image->files[file].length + PAGE - 1) / PAGE};
-  mapping->marks = new_memory(mapping->pages);
-  mapping->areas = new_memory(areas_of(mapping));
-  int has_memory = mapping->marks != NULL && mapping->areas != NULL;
-  int result = !has_memory ? ENOMEM : image->snapshot != NULL ? map_snapshot(mapping, wanted) : map_at(mapping, wanted);
+  int result = image->snapshot != NULL ? map_snapshot(mapping, wanted) : map_at(mapping, wanted);
+  if (result == KEFS_OK) result = make_marks(mapping);
   if (result == KEFS_OK && image->snapshot == NULL) result = load(mapping);
   if (result == KEFS_OK) result = add_region(mapping);
   if (result == KEFS_OK) return KEFS_OK;

@@ -1,4 +1,4 @@
-/* readers_check FOLDER [CASE]: readers beside a writer (KEFS_SNAPSHOT, kefs_refresh): what they see, other openings, files that change under them,
+/* readers_check FOLDER [CASE|-CASE]: readers beside a writer (KEFS_SNAPSHOT, kefs_refresh): what they see, other openings, files that change under them,
    threads and children. */
 #define _GNU_SOURCE
 #include "readers_tests.h"

@@ -164,10 +164,11 @@ static void stop_in_a_commit(void) {
   commit(2, 2);
 }
 
-/* Other work on the machine may make a wait longer, but not each of some. */
+/* Other work on the machine may make a wait longer, but not each of some. A wait of so many milliseconds at most may be shorter by the part of the
+   first one that was over. */
 static double shorter(double than, double least, double start) {
   double taken = now() - start;
-  CHECK(taken >= least);
+  CHECK(taken > least - 0.001);
   return taken < than ? taken : than;
 }
 

@@ -218,11 +218,15 @@ static inline int try(const struct test *test) {
   return status != 0;
 }
 
-/* All of them, or that of this name: the exit status of the program. */
-static inline int try_all(const char *program, const struct test *tests, size_t count, const char *name) {
+static inline int is_chosen(const char *name, const char *chosen) {
+  return chosen == NULL || (*chosen == '-' ? strcmp(name, chosen + 1) != 0 : strcmp(name, chosen) == 0);
+}
+
+/* All of them, that of this name, or after a minus all but it: the exit status of the program. */
+static inline int try_all(const char *program, const struct test *tests, size_t count, const char *chosen) {
   int tried = 0, failed = 0;
   for (size_t i = 0; i < count; i++)
-    if (name == NULL || strcmp(name, tests[i].name) == 0) failed += try(&tests[i]), tried++;
+    if (is_chosen(tests[i].name, chosen)) failed += try(&tests[i]), tried++;
   printf("%s: %d cases: %d failed\n", program, tried, failed);
   return failed > 0;
 }

@@ -1,9 +1,10 @@
-"""crashes.py OUT STATES [SEED]: what power cuts leave of four stores, alone and over kefs, as a table in Markdown.
+"""crashes.py OUT STATES SEED LAYOUT: what power cuts leave of four stores, alone and over kefs, as a table in Markdown.
 
 OUT holds what `run` builds. Of each store STATES states are tried over kefs, in equal parts over its rows, and of each row at most ALONE_MOST alone:
-a third of them in each model of powercuts.py, in rounds of one recorded run each. A state is bad where `workload check` finds it as after no transaction, where the store refuses, crashes or hangs, and where a
-transaction is missing that was acknowledged. Alone a store may repair itself first. Over kefs it may not; the state is read twice, apart from the
-library (tools/imagecat) and by kefsrun, and has to be the same.
+a third of them in each model of powercuts.py, in rounds of one recorded run each. A state is bad where `workload check` finds it as after no transaction,
+where the store refuses, crashes or hangs, and where a transaction is missing that was acknowledged. Alone a store may repair itself first. Over kefs it
+may not; the state is read twice, apart from the library (tools/imagecat) and by kefsrun, and has to be the same. Images are of LAYOUT: 3, as kefsrun
+makes them, or 2.
 
 The last row is a control: a disk that ignores one sync in three, over which no library keeps anything whole. Where no state of it is bad this
 test is blind. The exit status is 1 then, or where a state over kefs is bad, else 0.
@@ -23,8 +24,12 @@ from typing import NamedTuple
 import powercuts
 
 HERE = os.path.dirname(os.path.abspath(__file__))
+sys.path.insert(1, os.path.join(HERE, ".."))
+from images import LAYOUTS, new_image  # noqa: E402
+
 IMAGECAT = os.path.join(HERE, "..", "..", "tools", "imagecat")
 ROOM = 2 << 20  # as workload.h has it
+LENGTH_FILE = 4096  # bytes of the image's other file, as kefsrun makes it
 BEFORE, RECORDED = 100, 60  # transactions that are durable before a recorded run, and of it
 ROUND = 50  # states of a model and a recorded run
 ALONE_MOST = 300  # states of a row
@@ -109,8 +114,9 @@ def read_apart(image):
 class Trial:
     """One row, alone or over kefs, in a folder of its own."""
 
-    def __init__(self, row, out, folder, is_kefs):
-        self.row, self.out, self.folder, self.is_kefs = row, out, folder, is_kefs
+    def __init__(self, row, out, folder, layout=None):
+        self.row, self.out, self.folder, self.layout = row, out, folder, layout
+        self.is_kefs = layout is not None
         self.store = next(it for it in OWN if row.mode.startswith(it))
 
     def path(self, name):
@@ -129,10 +135,14 @@ class Trial:
     def recorded(self, seed):
         """Runs the workload: the bytes of the file, or of the image, before the recorded part, and the trace of that."""
         self.clear("run")
+        if self.is_kefs and self.layout != 3:
+            written(self.path("run.img"), new_image([ROOM, LENGTH_FILE], layout=self.layout))
         file, trace = self.path("run.img" if self.is_kefs else "run.db"), self.path("run.trace")
         self.must_run(self.workload("run", "run", str(seed), str(BEFORE)))
         with open(file, "rb") as content:
             base = content.read()
+        if self.is_kefs and not base.startswith(LAYOUTS[self.layout].mark):
+            sys.exit(f"crashes: {file} is not of layout {self.layout}")
         self.must_run(self.workload("run", "run", str(seed), str(RECORDED)), RECORDED=file, TRACE=trace, LD_PRELOAD=os.path.join(self.out, "recorder.so"))
         return base, trace
 
@@ -231,42 +241,42 @@ def say_row(row, alone, over):
     print("|", " | ".join([f"{row.store}, {row.way}", *cells]), "|", flush=True)
 
 
-def table(out, folder, states, seed):
+def table(out, folder, states, seed, layout):
     """Prints the table and, below it, what was found over kefs; gives the exit status."""
     print("Bad states; in brackets those that the store's own tools refuse, bad or not.\n")
     print("| Store | alone: page | sector | torn | over kefs: page | sector | torn |\n|---|---|---|---|---|---|---|", flush=True)
     found = collections.defaultdict(collections.Counter)
     rows_over = collections.Counter(row.store for row in ROWS if row.commit_at is not None)
     for row in ROWS:
-        alone = tried(Trial(row, out, folder, False), min(states, ALONE_MOST), seed)
-        over = NOT_TRIED if row.commit_at is None else tried(Trial(row, out, folder, True), -(-states // rows_over[row.store]), seed)
+        alone = tried(Trial(row, out, folder), min(states, ALONE_MOST), seed)
+        over = NOT_TRIED if row.commit_at is None else tried(Trial(row, out, folder, layout), -(-states // rows_over[row.store]), seed)
         say_kinds(row, "alone", alone)
         if over is not NOT_TRIED:
             say_kinds(row, "over kefs", over)
             for tally in over.values():
                 found[row.store].update(tally)
         say_row(row, alone, over)
-    control = tried(Trial(CONTROL, out, folder, True), CONTROL_STATES, seed, CONTROL_IGNORES)
+    control = tried(Trial(CONTROL, out, folder, layout), CONTROL_STATES, seed, CONTROL_IGNORES)
     say_kinds(CONTROL, "control", control)
     say_row(CONTROL, NOT_TRIED, control)
     print()
     for name, tally in found.items():
-        print(f"{name}: {sum(tally.values()) - tally['own']} states over kefs, {bad(tally)} bad")
+        print(f"{name}: {sum(tally.values()) - tally['own']} states over kefs, layout {layout}, {bad(tally)} bad")
     blind = not any(bad(tally) for tally in control.values())
     if blind:
         print("crashes: the control has no bad state: this test is blind")
     return 1 if blind or any(bad(tally) for tally in found.values()) else 0
 
 
-def main(out, states, seed):
+def main(out, states, seed, layout):
     folder = tempfile.mkdtemp(prefix="stores.", dir="/dev/shm" if os.access("/dev/shm", os.W_OK) else None)
     try:
-        return table(out, folder, states, seed)
+        return table(out, folder, states, seed, layout)
     finally:
         shutil.rmtree(folder)
 
 
 if __name__ == "__main__":
-    if len(sys.argv) not in (3, 4):
-        sys.exit("usage: crashes.py OUT STATES [SEED]")
-    sys.exit(main(sys.argv[1], int(sys.argv[2]), int(sys.argv[3]) if len(sys.argv) == 4 else 11))
+    if len(sys.argv) != 5:
+        sys.exit("usage: crashes.py OUT STATES SEED LAYOUT")
+    sys.exit(main(sys.argv[1], *map(int, sys.argv[2:])))

@@ -51,7 +51,7 @@ class Runs(unittest.TestCase):
         self.assertIn(text, done.stderr)
 
 
-class Famrun(Runs):
+class Kefsrun(Runs):
     """kefsrun's words, and calls that Python makes."""
 
     def test_words(self):
