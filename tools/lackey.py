@@ -167,8 +167,9 @@ def follow_all(running, folder, near, program, most):
             followers[-1].start()
         if running.poll() is not None:
             end = min(end, time.monotonic())
-        is_late = time.monotonic() > end + GRACE
-        has_ended = end < math.inf and (is_late or not any(is_alive(it.pid) for it in followers))
+        is_alone = not any(is_alive(it.pid) for it in followers)
+        is_late = not is_alone and time.monotonic() > end + GRACE
+        has_ended = end < math.inf and (is_late or is_alone)
         quiet = quiet + 1 if has_ended else 0
         if not is_stopped and (is_late or sum(it.kept_bytes() for it in followers) > most * ENOUGH + CHUNK):
             stop(running)

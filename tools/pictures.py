@@ -10,6 +10,9 @@ INK, PALE = "#222222", "#999999"
 LEFT, BAD = ("#d9d9d9", "#5b9bd5", "#70ad47", "#ffc000", "#a678de"), "#e03030"
 FILLINGS = ("old bytes", "zeros", "ones", "half a gate", "a whole gate")
 BAR = "#5b9bd5"
+# Of lines of several programs or processes; the color-blind tell them apart too, and marks or dashes stand beside.
+LINES = ("#164a9c", "#a04a00", "#09805f", "#bf1994", "#787325", "#1c525d")
+MARKS = ("m-4 0 a4 4 0 1 0 8 0 a4 4 0 1 0 -8 0", "m-4 -4 h8 v8 h-8 z", "m0 -5 l5 9 h-10 z", "m0 -5 l5 5 l-5 5 l-5 -5 z")
 
 
 class Picture:
@@ -31,6 +34,10 @@ class Picture:
         through = " ".join(f"{x:.1f},{y:.1f}" for x, y in points)
         dash = f' stroke-dasharray="{dashes}"' if dashes else ""
         self.parts.append(f'<polyline points="{through}" fill="none" stroke="{color}" stroke-width="2"{dash}/>')
+
+    def mark(self, x, y, row):
+        """A mark of a line: a circle, a square, a triangle or a diamond."""
+        self.parts.append(f'<path d="M{x:.1f} {y:.1f} {MARKS[row % len(MARKS)]}" fill="{LINES[row % len(LINES)]}"/>')
 
     def text(self):
         head = f'<svg xmlns="http://www.w3.org/2000/svg" width="{self.width}" height="{self.height}" viewBox="0 0 {self.width} {self.height}" font-family="sans-serif">'
@@ -289,11 +296,9 @@ def fault_rows(lines):
     return [FaultRow(it[0], int(it[1]), dict(zip(head[2:], map(int, it[2:])))) for it in rows]
 
 
-PROGRAMS = ("#1f5fbf", "#b03060", "#2f8f4f", "#8a5a00", "#6040a0", "#00808a")
-
-
 def fault_lines(rows):
-    """Major page faults and pages read from slots of each program, over the frames: each step to the right is twice the frames, each upwards ten times the count."""
+    """Major page faults and pages read from slots of each program, over the frames: each step to the right is twice the frames, each upwards ten times the count.
+    Each program has a color and a mark of its own."""
     left, top, wide, high = 90, 60, 520, 330
     sizes = sorted({it.frames for it in rows})
     most = max(1, math.ceil(math.log10(max(2, *(it.counts["major"] for it in rows)))))
@@ -314,9 +319,13 @@ def fault_lines(rows):
         picture.word(x, top + high + 18, f"{frames:,}", anchor="middle")
     picture.word(left + wide / 2, top + high + 42, "frames of 4,096 bytes", anchor="middle")
     for row, program in enumerate(dict.fromkeys(it.program for it in rows)):
-        color = PROGRAMS[row % len(PROGRAMS)]
+        color = LINES[row % len(LINES)]
         own = sorted((it for it in rows if it.program == program), key=lambda it: it.frames)
         for name, dashes in (("major", ""), ("from-slot", "5 4")):
-            picture.line([place(it.frames, it.counts[name]) for it in own], color, dashes)
-        picture.word(left + wide + 14, top + 14 + 20 * row, program, size=14, color=color)
+            points = [place(it.frames, it.counts[name]) for it in own]
+            picture.line(points, color, dashes)
+            for x, y in points:
+                picture.mark(x, y, row)
+        picture.mark(left + wide + 22, top + 9 + 20 * row, row)
+        picture.word(left + wide + 34, top + 14 + 20 * row, program, size=14, color=color)
     return picture.text()

@@ -8,7 +8,7 @@ function show(wanted) {
   at = Math.max(0, Math.min(steps.length - 1, wanted));
   steps.forEach((step, number) => { step.hidden = number !== at; });
   slider.value = at;
-  document.getElementById("where").textContent = `${at + 1} of ${steps.length}`;
+  document.getElementById("where").textContent = `step ${at + 1} of ${steps.length}`;
   location.replace(`#${at + 1}`);
 }
 
@@ -28,7 +28,7 @@ function press(event) {
 slider.max = steps.length - 1;
 slider.oninput = () => show(Number(slider.value));
 document.getElementById("back").onclick = () => show(at - 1);
-document.getElementById("on").onclick = () => show(at + 1);
+document.getElementById("next").onclick = () => show(at + 1);
 document.onkeydown = press;
 window.onhashchange = () => { if (linked() !== at) show(linked()); };
 show(linked());
