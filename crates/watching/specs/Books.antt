@@ -66,3 +66,13 @@ pub record IsCounted (event : Event) (old new : FrameCounts) : Type 0 where
   pub filled : new.filled.0 ≡ old.filled.0 + fills event
   pub evictions : new.evictions.0 ≡ old.evictions.0 + losses event
   pub released : new.released.0 ≡ old.released.0 + releases event
+
+-- It is counted under the cause that it names too.
+abbrev pub IsOfCause : Event → FrameCounts → FrameCounts → Type 0
+IsOfCause (Filled frame content source) old new = IsFilledFrom source old new
+IsOfCause (Evicted frame content refuge) old new = IsLostTo refuge old new
+IsOfCause (Released frame content) old new = Unit {0}
+IsOfCause (Shared frame content now before) old new = Unit {0}
+IsOfCause (TableMade frame place top) old new = Unit {0}
+IsOfCause (TableFreed frame) old new = Unit {0}
+IsOfCause (EntrySet pid page now before) old new = Unit {0}

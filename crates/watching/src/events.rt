@@ -1,6 +1,6 @@
 //! What a command did inside, as things that happened.
 ghost use Rattle.std.specs.Prelude.{◌≡◌, ◌+◌};
-ghost use Rattle.watching.specs.Books.{HasRoom, IsBalanced, IsCounted, IsFilledFrom, IsLostTo};
+ghost use Rattle.watching.specs.Books.{HasRoom, IsBalanced, IsCounted, IsFilledFrom, IsLostTo, IsOfCause};
 
 use crate::counts::{Counts, FrameCounts};
 use crate::texts::{EntryText, PageText, TableText};
@@ -89,6 +89,7 @@ impl Counts {
     /// Counts what happened. The books of frames stay balanced, as long as no number has come to its end.
     pub(crate) fn note(&mut self, event: &Event)
         ensures counted { HasRoom self.old.frames → IsCounted event.now self.old.frames self.new.frames }
+        ensures cause { HasRoom self.old.frames → IsBalanced self.old.frames → IsOfCause event.now self.old.frames self.new.frames }
         ensures balance { HasRoom self.old.frames → IsBalanced self.old.frames → IsBalanced self.new.frames }
     {
         match event {
