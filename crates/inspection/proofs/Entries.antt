@@ -8,12 +8,12 @@ use Rattle.page_tables.specs.Tree.{IsPage, page_entry}
 use Rattle.page_tables.specs.Places.{IsTableOf}
 use Rattle.regions.specs.declared.run.Run.{Run}
 use Rattle.regions.specs.RunList.{IsNextRun}
-use Rattle.paging.specs.declared.kernel.Core.{Core}
-use Rattle.paging.specs.Picture.{Picture, picture_of, attr_where, entry}
-use Rattle.paging.specs.Parts.{IsGranting}
-use Rattle.paging.proofs.Entries.{entry-of}
-use Rattle.page_ranges.proofs.Emptied.{none_here, unmapped_zero}
-use Rattle.page_ranges.proofs.Marking.{next_over}
+use Rattle.residency.specs.declared.kernel.Core.{Core}
+use Rattle.residency.specs.Picture.{Picture, picture_of, attr_where, entry}
+use Rattle.residency.specs.Parts.{IsGranting}
+use Rattle.residency.proofs.Entries.{entry-of}
+use Rattle.ranges.proofs.Emptied.{none_here, unmapped_zero}
+use Rattle.ranges.proofs.Marking.{next_over}
 
 -- what a search for a run says of a map it says of an equal one
 pub run_over : (mode : ℕ) (f g : ℕ → Option Attr) (page : ℕ) (o : Option Run) → ((k : ℕ) → f k ≡ g k) → IfSome o (IsNextRun mode f page) → IfSome o (IsNextRun mode g page)

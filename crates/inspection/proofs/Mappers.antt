@@ -4,10 +4,10 @@ use Rattle.std.proofs.Common.{◌≡◌, ◌⊎◌, ℕ, ◌≤◌, ◌<◌, ◌
 use Rattle.std.proofs.lemmas.Bool.{cases_eq, false≢true}
 use Rattle.std.proofs.lemmas.Bool.Decides.{nat_tests}
 use Rattle.std.specs.Prelude.{◌==◌, if◌then◌else◌}
-use Rattle.paging.specs.declared.leaves.Change.TheVariants as Kinds
-use Rattle.paging.specs.Leaves.{IsOver, concerns}
-use Rattle.paging.specs.Picture.{Picture, entry, entry_in}
-use Rattle.paging.specs.Parts.{IsFit}
+use Rattle.residency.specs.declared.leaves.Change.TheVariants as Kinds
+use Rattle.residency.specs.Leaves.{IsOver, concerns}
+use Rattle.residency.specs.Picture.{Picture, entry, entry_in}
+use Rattle.residency.specs.Parts.{IsFit}
 use Rattle.page_tables.specs.Tree.{IsPage}
 use Rattle.inspection.specs.Frames.{IsBefore, IsFrom, IsMapper}
 use Rattle.inspection.specs.declared.frame_views.Mapper.{Mapper}

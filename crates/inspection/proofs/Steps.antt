@@ -7,8 +7,8 @@ use Rattle.sv39_walk.specs.Walk.{index_of}
 use Rattle.page_tables.specs.Tree.{IsTable, Points, Way, last_table, page_entry}
 use Rattle.page_tables.proofs.Ends.{last_is, last_entry-is, missing_of-is, page_entry-whole}
 use Rattle.page_tables.proofs.Ways.{next_table}
-use Rattle.paging.specs.Picture.{Picture}
-use Rattle.paging.specs.Parts.{IsFit}
+use Rattle.residency.specs.Picture.{Picture}
+use Rattle.residency.specs.Parts.{IsFit}
 use Rattle.inspection.specs.Walks.{IsStep}
 use Rattle.inspection.specs.declared.walks.Step.{Step}
 

@@ -8,10 +8,10 @@ use Rattle.frames.specs.FrameTable.{role_of}
 use Rattle.sv39_walk.specs.Entry.{entry_at, is_pointer}
 use Rattle.sv39_walk.specs.Walk.{index_of}
 use Rattle.page_tables.specs.Tree.{IsOnWay, IsPage, IsTable, Way, missing_of}
-use Rattle.paging.specs.Picture.{Picture}
-use Rattle.paging.specs.Parts.{AsRoot, OnWay, IsMapped, IsRootedBut, IsUsed}
-use Rattle.page_ranges.proofs.Gaps.{in_row_of, in_span_of, one_some}
-use Rattle.page_ranges.specs.Steps.{IsGapEnd}
+use Rattle.residency.specs.Picture.{Picture}
+use Rattle.residency.specs.Parts.{AsRoot, OnWay, IsMapped, IsRootedBut, IsUsed}
+use Rattle.ranges.proofs.Gaps.{in_row_of, in_span_of, one_some}
+use Rattle.ranges.specs.Steps.{IsGapEnd}
 use Rattle.inspection.specs.Tables.{HaveOneWay, IsLevelOnWay, IsOffWay, IsOutOf, IsPlaceOf}
 use Rattle.inspection.specs.Walks.{IsStep}
 use Rattle.inspection.specs.declared.walks.Step.{Step}

@@ -5,9 +5,9 @@ use Rattle.frames.specs.declared.role.Role.TheVariants as Role
 use Rattle.frames.specs.FrameTable.{IsFrame, role_of}
 use Rattle.page_tables.specs.Tree.{IsPage}
 use Rattle.page_cache.specs.declared.place.Place.TheVariants.{Frame}
-use Rattle.paging.specs.declared.leaves.Change.TheVariants as Kinds
-use Rattle.paging.specs.Leaves.{IsOver}
-use Rattle.paging.specs.Picture.{Picture, entry, is_data}
+use Rattle.residency.specs.declared.leaves.Change.TheVariants as Kinds
+use Rattle.residency.specs.Leaves.{IsOver}
+use Rattle.residency.specs.Picture.{Picture, entry, is_data}
 use Rattle.inspection.specs.declared.frame_views.Holding.{Holding}
 use Rattle.inspection.specs.declared.frame_views.Holding.TheVariants.{Nothing, Zeros, Table, Own, Page}
 use Rattle.inspection.specs.declared.frame_views.Mapper.{Mapper}

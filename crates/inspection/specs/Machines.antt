@@ -1,6 +1,6 @@
 -- What the memory of a machine of either mode holds.
 use Rattle.std.specs.Prelude.{ℕ}
-use Rattle.paging.specs.Picture.{Picture, picture_of}
+use Rattle.residency.specs.Picture.{Picture, picture_of}
 use Rattle.machine.specs.Machine.{bits_of, mode_of}
 use Rattle.machine.specs.declared.machine.Machine.{Machine}
 use Rattle.machine.specs.declared.machine.Machine.TheVariants.{Sv39, Sv48}

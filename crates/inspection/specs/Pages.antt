@@ -2,7 +2,7 @@
 use Rattle.std.specs.Prelude.{◌≡◌, ◌≢◌, ℕ, ◌<◌, ◌≤◌}
 use Rattle.vm_types.specs.Limits.{top_level}
 use Rattle.page_tables.specs.Tree.{IsPage}
-use Rattle.paging.specs.Picture.{Picture, entry}
+use Rattle.residency.specs.Picture.{Picture, entry}
 use Rattle.inspection.specs.declared.pages.PageEntry.{PageEntry}
 
 -- The first page of a process from a page on that has an entry, and that entry.

@@ -2,8 +2,8 @@
 use Rattle.std.specs.Prelude.{◌≡◌, ◌≢◌, ℕ, ◌+◌, ◌-◌, ◌%◌, ◌^◌, ◌<◌, ◌≤◌, Some}
 use Rattle.vm_types.specs.Limits.{top_level, table_entries}
 use Rattle.page_tables.specs.Tree.{IsPage, IsBelowRoot, IsOnWay, Way}
-use Rattle.paging.specs.Picture.{Picture}
-use Rattle.paging.specs.Parts.{IsMapped}
+use Rattle.residency.specs.Picture.{Picture}
+use Rattle.residency.specs.Parts.{IsMapped}
 use Rattle.inspection.specs.declared.tables.TablePlace.{TablePlace}
 
 -- Frame n has the table of that level on the way to that page from the root of that process, and the page is the first of those that have this

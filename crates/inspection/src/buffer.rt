@@ -1,11 +1,11 @@
 //! The lines of the buffer of translations, and the clock's hand.
 ghost use Rattle.std.specs.Prelude.{◌≡◌, IfSome};
 ghost use Rattle.frames.specs.FrameTable.{IsFrame};
-ghost use Rattle.mapped_memory.specs.Kept.{IsLeafOf};
+ghost use Rattle.memory.specs.Kept.{IsLeafOf};
 
-use paging::Core;
+use memory::{Line, PLACES};
+use residency::Core;
 use vm_types::{FrameNo, Levels};
-use walk_buffer::{Line, PLACES};
 
 /// The line at place `index` of the buffer of translations: the leaf in which the walk to its page ends. `None` where that place has no line,
 /// which no clause says, or there is no such place.

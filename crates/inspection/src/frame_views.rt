@@ -3,15 +3,15 @@ ghost use Rattle.std.specs.Prelude.{ℕ, ◌≡◌, ◌≤◌, ◌<◌, ◌↔�
 ghost use Rattle.vm_types.specs.Limits.{top_level};
 ghost use Rattle.frames.specs.FrameTable.{IsFrame, role_of, count_of};
 ghost use Rattle.page_tables.specs.Tree.{IsPage};
-ghost use Rattle.paging.specs.declared.leaves.Change.TheVariants as Kinds;
-ghost use Rattle.paging.specs.Picture.{picture_of, is_data};
-ghost use Rattle.paging.specs.Parts.{IsFit};
-ghost use Rattle.paging.specs.Leaves.{IsOver};
+ghost use Rattle.residency.specs.declared.leaves.Change.TheVariants as Kinds;
+ghost use Rattle.residency.specs.Picture.{picture_of, is_data};
+ghost use Rattle.residency.specs.Parts.{IsFit};
+ghost use Rattle.residency.specs.Leaves.{IsOver};
 ghost use Rattle.inspection.specs.Frames.{Holds, HoldsData, HasNoMapper, IsMapper};
 
 use frames::Role;
-use mapped_memory::entry_number;
-use paging::{Content, Core, content_of, next_over};
+use memory::entry_number;
+use residency::{Content, Core, content_of, next_over};
 use sv39_walk::Pte;
 use vm_types::{FrameNo, Levels, PROCESSES, PageKey, Pid, Vpn};
 

@@ -12,6 +12,7 @@ mod views;
 mod walks;
 
 pub use frame_views::{FrameView, Holding, Mapper};
+pub use memory::Line;
 pub use page_cache::Place;
 pub use pages::PageEntry;
 pub use places::PageView;
@@ -22,5 +23,4 @@ pub use views::{
     frame_view, hand, line, next_entry, next_mapper, next_run, next_step, page_view,
     place_of_table, root_step, slot_view,
 };
-pub use walk_buffer::Line;
 pub use walks::Step;

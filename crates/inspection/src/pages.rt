@@ -3,14 +3,14 @@ ghost use Rattle.std.specs.Prelude.{ℕ, ◌≡◌, ◌≢◌, ◌<◌, ◌≤�
 ghost use Rattle.vm_types.specs.Limits.{top_level, user_end};
 ghost use Rattle.page_tables.specs.Tree.{IsPage};
 ghost use Rattle.regions.specs.RunList.{IsNextRun};
-ghost use Rattle.paging.specs.Picture.{picture_of, entry};
-ghost use Rattle.paging.specs.Parts.{IsFit};
+ghost use Rattle.residency.specs.Picture.{picture_of, entry};
+ghost use Rattle.residency.specs.Parts.{IsFit};
 ghost use Rattle.inspection.specs.Pages.{IsNextEntry, HasNoEntry};
 
-use mapped_memory::{entry_number, table_of};
-use page_ranges::{gap_end, table_end};
-use paging::Core;
+use memory::{entry_number, table_of};
+use ranges::{gap_end, table_end};
 use regions::Run;
+use residency::Core;
 use sv39_walk::Pte;
 use vm_types::{FrameNo, Levels, Pid, USER_START, Vpn};
 
@@ -72,5 +72,5 @@ fn past_empty<D, E, M: Levels>(core: &Core<D, E, M>, pid: Pid, root: FrameNo, pa
     let Ok(table) = table_of(&core.frames, root, page) else {
         unreachable!();
     };
-    page_ranges::next_entry(&core.frames, table, page.get(), table_end(page))
+    ranges::next_entry(&core.frames, table, page.get(), table_end(page))
 }

@@ -1,9 +1,9 @@
 //! Where pages of files and of shared anonymous memory lie.
 ghost use Rattle.std.specs.Prelude.{◌≡◌};
-ghost use Rattle.paging.specs.Picture.{picture_of};
+ghost use Rattle.residency.specs.Picture.{picture_of};
 
 use page_cache::Place;
-use paging::Core;
+use residency::Core;
 use vm_types::{Levels, PageKey};
 
 /// A page of a file or of shared anonymous memory as it is.

@@ -1,10 +1,10 @@
 //! What a slot holds.
 ghost use Rattle.std.specs.Prelude.{◌≡◌, ◌<◌, ◌↔◌, IfSome, IsSome};
 ghost use Rattle.swap.specs.Slots.{slots_of};
-ghost use Rattle.paging.specs.Picture.{picture_of};
+ghost use Rattle.residency.specs.Picture.{picture_of};
 ghost use Rattle.inspection.specs.Slots.{SlotHolds};
 
-use paging::Core;
+use residency::Core;
 use vm_types::{Levels, PageKey, SlotNo};
 
 /// What a slot of the swap device holds.

@@ -2,14 +2,14 @@
 ghost use Rattle.std.specs.Prelude.{◌≡◌, ◌^◌, ◌<◌, ◌≤◌, true, IfSome, IfNone};
 ghost use Rattle.vm_types.specs.Limits.{top_level, table_entries};
 ghost use Rattle.page_tables.specs.Tree.{IsPage, IsTable};
-ghost use Rattle.paging.specs.Picture.{picture_of, is_live};
-ghost use Rattle.paging.specs.Parts.{IsFit};
+ghost use Rattle.residency.specs.Picture.{picture_of, is_live};
+ghost use Rattle.residency.specs.Parts.{IsFit};
 ghost use Rattle.inspection.specs.Tables.{HaveOneWay, IsLevelOnWay, IsOffWay, IsOutOf, IsPlaceOf};
 
 use crate::pages::next_run;
 use crate::walks::{next_step, root_step};
-use page_ranges::{gap_end, table_end, user_page};
-use paging::Core;
+use ranges::{gap_end, table_end, user_page};
+use residency::Core;
 use sv39_walk::TABLE_ENTRIES;
 use vm_types::{FrameNo, Levels, PROCESSES, Pid, Vpn};
 

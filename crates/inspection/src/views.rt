@@ -4,9 +4,9 @@ ghost use Rattle.vm_types.specs.Limits.{top_level};
 ghost use Rattle.frames.specs.FrameTable.{IsFrame, count_of};
 ghost use Rattle.sv39_walk.specs.Entry.{is_pointer};
 ghost use Rattle.page_tables.specs.Tree.{IsTable};
-ghost use Rattle.mapped_memory.specs.Kept.{IsLeafOf};
+ghost use Rattle.memory.specs.Kept.{IsLeafOf};
 ghost use Rattle.regions.specs.RunList.{IsNextRun};
-ghost use Rattle.paging.specs.Picture.{is_live};
+ghost use Rattle.residency.specs.Picture.{is_live};
 ghost use Rattle.inspection.specs.Frames.{Holds, HoldsData, HasNoMapper, IsMapper};
 ghost use Rattle.inspection.specs.Machines.{hand_of, memory_of};
 ghost use Rattle.inspection.specs.Pages.{HasNoEntry, IsNextEntry};
@@ -24,9 +24,9 @@ use crate::walks::Step;
 use crate::{buffer, frame_views, pages, places, slots, tables, walks};
 use disk_model::SectorDisk;
 use machine::Machine;
+use memory::Line;
 use regions::Run;
 use vm_types::{FrameNo, PageKey, Pid, SlotNo};
-use walk_buffer::Line;
 
 /// What the root table of a process says on the way to page number `page`, whatever that number; `None` exactly where no such process lives, or
 /// the machine has halted.

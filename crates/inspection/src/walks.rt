@@ -4,13 +4,13 @@ ghost use Rattle.vm_types.specs.Limits.{top_level, table_entries};
 ghost use Rattle.frames.specs.FrameTable.{IsFrame};
 ghost use Rattle.sv39_walk.specs.Entry.{entry_at, is_pointer};
 ghost use Rattle.page_tables.specs.Tree.{IsTable};
-ghost use Rattle.paging.specs.Picture.{picture_of, is_live};
-ghost use Rattle.paging.specs.Parts.{IsFit};
+ghost use Rattle.residency.specs.Picture.{picture_of, is_live};
+ghost use Rattle.residency.specs.Parts.{IsFit};
 ghost use Rattle.inspection.specs.Walks.{IsEntryOf, IsStep};
 
 use byteorder::{ByteOrder, LittleEndian};
-use mapped_memory::Memory;
-use paging::Core;
+use memory::Memory;
+use residency::Core;
 use sv39_walk::{Pte, table_index};
 use vm_types::{FrameNo, Levels, Pid};
 

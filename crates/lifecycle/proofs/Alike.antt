@@ -8,13 +8,13 @@ use Rattle.frames.specs.FrameTable.{bytes_of}
 use Rattle.page_tables.specs.Tree.{IsPage}
 use Rattle.regions.specs.declared.run.Run.{Run}
 use Rattle.regions.specs.RunList.{attr_at}
-use Rattle.paging.specs.Seats.{Seat, InFrame, InSlot, seat}
-use Rattle.paging.specs.Picture.{Picture, entry, view, view_of, own_in, bytes_in}
-use Rattle.paging.specs.Parts.{AreObjects, IsFit, IsEntryFor, Nothing, Resident, Away}
-use Rattle.paging.specs.Steps.{Remaps}
-use Rattle.paging.proofs.Granting.{user_map-same, readable-same}
-use Rattle.paging.proofs.Setting.{view_seated, held_same}
-use Rattle.mapping.proofs.Spawning.{entries_remapped, fit_mapped}
+use Rattle.residency.specs.Seats.{Seat, InFrame, InSlot, seat}
+use Rattle.residency.specs.Picture.{Picture, entry, view, view_of, own_in, bytes_in}
+use Rattle.residency.specs.Parts.{AreObjects, IsFit, IsEntryFor, Nothing, Resident, Away}
+use Rattle.residency.specs.Steps.{Remaps}
+use Rattle.residency.proofs.Granting.{user_map-same, readable-same}
+use Rattle.residency.proofs.Setting.{view_seated, held_same}
+use Rattle.fault.proofs.Spawning.{entries_remapped, fit_mapped}
 use Rattle.lifecycle.specs.Changes.{MapsAlike}
 
 unmapped_in : (own : Option (List ℕ)) (attr : Option Attr) → view_of own attr ≡ None → attr ≡ None

@@ -6,13 +6,13 @@ use Rattle.disk_model.specs.Moments.{Nothing}
 use Rattle.frames.specs.FrameTable.{role_of}
 use Rattle.page_cache.specs.CacheTable.{place_of, is_touched}
 use Rattle.swap.specs.Slots.{slots_of}
-use Rattle.paging.specs.declared.kernel.Core.{Core}
-use Rattle.paging.specs.Picture.{Picture, picture_of}
-use Rattle.paging.specs.Parts.{IsFit}
-use Rattle.paging.specs.Calls.{ObtainsTable, KeepsBesideProcesses}
-use Rattle.paging.specs.Steps.{Spawns}
-use Rattle.mapping.specs.Asking.{AsksNoNew, AsksSlots, AsksSlotsIf}
-use Rattle.mapping.proofs.Asking.{no_new_then, no_new_held, no_new_taken, asks_slots_if, asks_slots_kept, asks_slots_then}
+use Rattle.residency.specs.declared.kernel.Core.{Core}
+use Rattle.residency.specs.Picture.{Picture, picture_of}
+use Rattle.residency.specs.Parts.{IsFit}
+use Rattle.residency.specs.Calls.{ObtainsTable, KeepsBesideProcesses}
+use Rattle.residency.specs.Steps.{Spawns}
+use Rattle.fault.specs.Asking.{AsksNoNew, AsksSlots, AsksSlotsIf}
+use Rattle.fault.proofs.Asking.{no_new_then, no_new_held, no_new_taken, asks_slots_if, asks_slots_kept, asks_slots_then}
 
 -- a frame was taken for a table, which is the root of a process that was made
 pub no_new_spawned : {mode : ℕ} (old mid new : Picture mode) (pid n : ℕ) → IsFit old → ObtainsTable old mid n → Spawns mid new pid n → AsksNoNew old new None Nothing

@@ -9,19 +9,19 @@ use Rattle.vm_types.specs.declared.region.Attr.{Attr}
 use Rattle.vm_types.specs.declared.refusal.Stall.{Stall}
 use Rattle.page_tables.specs.Tree.{IsPage, missing_of}
 use Rattle.sv39_walk.specs.Entry.{is_valid, can_write, has_bit, frame_of}
-use Rattle.paging.specs.Seats.{Seat, InFrame, InSlot, seat, is_private, is_swapped}
-use Rattle.paging.specs.Picture.{Picture, is_live, entry, view, view_of, own_in, bytes_in}
-use Rattle.paging.specs.Parts.{IsFit, IsGranting}
-use Rattle.paging.specs.Calls.{KeepsPages}
-use Rattle.paging.specs.Capacity.{IsShort}
-use Rattle.paging.specs.Shows.{KeepsFiles}
-use Rattle.paging.proofs.LeafSteps.{cases_attr}
-use Rattle.paging.proofs.Moves.{view-none}
-use Rattle.paging.proofs.Start.{seat-none}
-use Rattle.mapping.specs.Changes.{KeepsBare, KeepsRoom, KeepsTables}
-use Rattle.mapping.proofs.Steps.{room_then}
-use Rattle.copy_on_write.specs.Shares.{without_write, lowered_entry, given_entry, Weakens, SharesRow}
-use Rattle.copy_on_write.proofs.Weaker.{weaker_leaf, unchanged, weaker_seat}
+use Rattle.residency.specs.Seats.{Seat, InFrame, InSlot, seat, is_private, is_swapped}
+use Rattle.residency.specs.Picture.{Picture, is_live, entry, view, view_of, own_in, bytes_in}
+use Rattle.residency.specs.Parts.{IsFit, IsGranting}
+use Rattle.residency.specs.Calls.{KeepsPages}
+use Rattle.residency.specs.Capacity.{IsShort}
+use Rattle.residency.specs.Shows.{KeepsFiles}
+use Rattle.residency.proofs.LeafSteps.{cases_attr}
+use Rattle.residency.proofs.Moves.{view-none}
+use Rattle.residency.proofs.Start.{seat-none}
+use Rattle.fault.specs.Changes.{KeepsBare, KeepsRoom, KeepsTables}
+use Rattle.fault.proofs.Steps.{room_then}
+use Rattle.lifecycle.specs.Shares.{without_write, lowered_entry, given_entry, Weakens, SharesRow}
+use Rattle.lifecycle.proofs.Weaker.{weaker_leaf, unchanged, weaker_seat}
 use Rattle.lifecycle.specs.Changes.{AddsProcess, RemovesProcess, KeepsProcesses, MapsAlike, TakesRoot, SharesCopies, KeepsBareOfOthers, IsShortToFork}
 use Rattle.lifecycle.proofs.Alike.{bare_page}
 use Rattle.lifecycle.proofs.Keeping.{live_same, files_then}

@@ -22,22 +22,22 @@ use Rattle.page_tables.proofs.Ways.{cases_bool, only_way, last_table-stop}
 use Rattle.page_tables.proofs.Ends.{way_forth, missing_of-is, last_entry-is}
 use Rattle.page_tables.proofs.Fields.{root_field}
 use Rattle.swap.specs.Slots.{SlotTable, IsReady}
-use Rattle.paging.specs.declared.kernel.Core.{Core}
-use Rattle.paging.specs.Seats.{Seat, InFrame, InSlot, seat}
-use Rattle.paging.specs.Picture.{Picture, picture_of, view, bytes_in, IsOwned}
-use Rattle.paging.specs.Parts.{IsFit, IsUsed, AsRoot, OnWay}
-use Rattle.paging.specs.Steps.{Exits}
-use Rattle.paging.specs.Shows.{KeepsFiles}
-use Rattle.paging.proofs.Exiting.{entries_left, fit_left}
-use Rattle.paging.proofs.Moves.{view-none}
-use Rattle.paging.proofs.Setting.{view_seated, held_same}
-use Rattle.paging.proofs.LeafSteps.{cases_attr}
-use Rattle.mapping.proofs.SwapSteps.{ready_released}
-use Rattle.mapping.proofs.Spawning.{one_some}
-use Rattle.page_ranges.proofs.Emptied.{row_out}
-use Rattle.page_ranges.proofs.Named.{named-imp}
-use Rattle.page_ranges.specs.Rows.{KeepsNamed, RemapsRow, without_maps}
-use Rattle.page_ranges.specs.Steps.{KeepsDevices, KeepsEntriesOfOthers, ReturnsTables, LosesSlots, IsMappedBeside, IsWithoutTables}
+use Rattle.residency.specs.declared.kernel.Core.{Core}
+use Rattle.residency.specs.Seats.{Seat, InFrame, InSlot, seat}
+use Rattle.residency.specs.Picture.{Picture, picture_of, view, bytes_in, IsOwned}
+use Rattle.residency.specs.Parts.{IsFit, IsUsed, AsRoot, OnWay}
+use Rattle.residency.specs.Steps.{Exits}
+use Rattle.residency.specs.Shows.{KeepsFiles}
+use Rattle.residency.proofs.Exiting.{entries_left, fit_left}
+use Rattle.residency.proofs.Moves.{view-none}
+use Rattle.residency.proofs.Setting.{view_seated, held_same}
+use Rattle.residency.proofs.LeafSteps.{cases_attr}
+use Rattle.fault.proofs.SwapSteps.{ready_released}
+use Rattle.fault.proofs.Spawning.{one_some}
+use Rattle.ranges.proofs.Emptied.{row_out}
+use Rattle.ranges.proofs.Named.{named-imp}
+use Rattle.ranges.specs.Rows.{KeepsNamed, RemapsRow, without_maps}
+use Rattle.ranges.specs.Steps.{KeepsDevices, KeepsEntriesOfOthers, ReturnsTables, LosesSlots, IsMappedBeside, IsWithoutTables}
 use Rattle.lifecycle.specs.Changes.{RemovesProcess, FreesTables, TakesNoFrame}
 use Rattle.lifecycle.proofs.Keeping.{live_same}
 

@@ -4,7 +4,7 @@ use Rattle.std.specs.Prelude.{is_some}
 use Rattle.std.specs.Option.{option_map}
 use Rattle.vm_types.specs.declared.number.FrameNo.{FrameNo}
 use Rattle.vm_types.specs.Processes.{least_free_from}
-use Rattle.paging.specs.Picture.{number_of_frame}
+use Rattle.residency.specs.Picture.{number_of_frame}
 
 -- whether a process lives, by its root
 pub some_number : (o : Option FrameNo) → is_some (option_map number_of_frame o) ≡ is_some o

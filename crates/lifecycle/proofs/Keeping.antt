@@ -7,10 +7,10 @@ use Rattle.vm_types.specs.declared.number.FrameNo.{FrameNo}
 use Rattle.frames.specs.declared.role.Role.TheVariants.{Free, Private}
 use Rattle.frames.specs.FrameTable.{FrameTable, frame_count, role_of}
 use Rattle.page_tables.specs.Tree.{Points}
-use Rattle.paging.specs.Picture.{Picture, is_live, entry}
-use Rattle.paging.specs.Calls.{KeepsPages, Frees}
-use Rattle.paging.specs.Ages.{Same, GivesForTables}
-use Rattle.paging.specs.Shows.{KeepsFiles}
+use Rattle.residency.specs.Picture.{Picture, is_live, entry}
+use Rattle.residency.specs.Calls.{KeepsPages, Frees}
+use Rattle.residency.specs.Ages.{Same, GivesForTables}
+use Rattle.residency.specs.Shows.{KeepsFiles}
 use Rattle.lifecycle.specs.Changes.{KeepsProcesses, TakesNoCopy}
 
 -- whether a process lives

@@ -1,3 +1,16 @@
+pub mod Copies
+pub mod Linked
+pub mod Runs
+pub mod Weaker
+pub mod Raised
+pub mod Given
+pub mod Lowered
+pub mod Live
+pub mod Sharers
+pub mod SharedRows
+pub mod SharedPage
+pub mod Passed
+pub mod CopySteps
 pub mod Keeping
 pub mod Returned
 pub mod FreeNumbers

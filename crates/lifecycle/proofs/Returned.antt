@@ -9,11 +9,11 @@ use Rattle.frames.specs.declared.role.Role.TheVariants.{Free, Zero, Table, Priva
 use Rattle.frames.specs.FrameTable.{FrameTable, role_of, IsSound}
 use Rattle.page_tables.specs.Tree.{IsTable}
 use Rattle.page_cache.specs.declared.place.Place.TheVariants.{Home, Frame}
-use Rattle.paging.specs.Picture.{Picture}
-use Rattle.paging.specs.Parts.{IsFit, IsMapped, IsUsed, AsRoot, OnWay}
-use Rattle.mapping.proofs.Forms.{used_inside}
-use Rattle.page_ranges.specs.Rows.{KeepsNamed}
-use Rattle.page_ranges.specs.Steps.{ReturnsTables}
+use Rattle.residency.specs.Picture.{Picture}
+use Rattle.residency.specs.Parts.{IsFit, IsMapped, IsUsed, AsRoot, OnWay}
+use Rattle.fault.proofs.Forms.{used_inside}
+use Rattle.ranges.specs.Rows.{KeepsNamed}
+use Rattle.ranges.specs.Steps.{ReturnsTables}
 use Rattle.lifecycle.specs.Changes.{TakesNoCopy, TakesNoFrame}
 
 module _ {mode : ℕ} (old new : Picture mode) (pid : ℕ) (fit : IsFit old) (fit' : IsFit new) (sound : IsSound old.frames) (sound' : IsSound new.frames)

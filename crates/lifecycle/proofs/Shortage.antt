@@ -11,11 +11,11 @@ use Rattle.vm_types.specs.declared.region.Attr.{Attr}
 use Rattle.vm_types.specs.declared.refusal.Stall.{Stall}
 use Rattle.vm_types.specs.declared.refusal.Stall.TheVariants.{NoFrames, NoSwap, SwapDevice, StoreDevice}
 use Rattle.vm_types.specs.declared.object.PageKey.{PageKey}
-use Rattle.paging.specs.Picture.{Picture, is_live, entry, view, view_of, own_in}
-use Rattle.paging.specs.Capacity.{IsShort, tables_over, copies_over, touched_file, stored_object}
-use Rattle.paging.proofs.Counts.{count-same}
-use Rattle.paging.proofs.Tables.{sum-below}
-use Rattle.mapping.specs.Changes.{KeepsRoom}
+use Rattle.residency.specs.Picture.{Picture, is_live, entry, view, view_of, own_in}
+use Rattle.residency.specs.Capacity.{IsShort, tables_over, copies_over, touched_file, stored_object}
+use Rattle.residency.proofs.Counts.{count-same}
+use Rattle.residency.proofs.Tables.{sum-below}
+use Rattle.fault.specs.Changes.{KeepsRoom}
 use Rattle.lifecycle.specs.Changes.{KeepsProcesses, IsShortToFork}
 
 -- one summand is that much more

@@ -9,17 +9,17 @@ use Rattle.frames.specs.declared.role.Role.{Role}
 use Rattle.frames.specs.declared.role.Role.TheVariants.{Free, Zero, Table, Private, Cache}
 use Rattle.frames.specs.FrameTable.{role_of, count_of, IsCountFor, IsFull, IsSound}
 use Rattle.page_tables.specs.Tree.{IsPage, IsTable}
-use Rattle.paging.specs.Seats.{InFrame, InSlot, seat, holders_at, off}
-use Rattle.paging.specs.Picture.{Picture, entry, page_in}
-use Rattle.paging.specs.Parts.{IsFit, nowhere}
-use Rattle.paging.specs.Calls.{Frees, Refuses}
-use Rattle.paging.specs.Ages.{GivesForTables, KeepsRoles}
-use Rattle.paging.proofs.Seats.{holders_none, off-none}
-use Rattle.paging.proofs.Start.{seat-none}
-use Rattle.mapping.specs.Changes.{KeepsRoom, IsTableOnWay}
-use Rattle.mapping.proofs.Forms.{used_inside}
-use Rattle.page_ranges.specs.Steps.{KeepsEntriesOfOthers, LosesSlots}
-use Rattle.copy_on_write.specs.Steps.{HasCopy, LacksTableForCopy}
+use Rattle.residency.specs.Seats.{InFrame, InSlot, seat, holders_at, off}
+use Rattle.residency.specs.Picture.{Picture, entry, page_in}
+use Rattle.residency.specs.Parts.{IsFit, nowhere}
+use Rattle.residency.specs.Calls.{Frees, Refuses}
+use Rattle.residency.specs.Ages.{GivesForTables, KeepsRoles}
+use Rattle.residency.proofs.Seats.{holders_none, off-none}
+use Rattle.residency.proofs.Start.{seat-none}
+use Rattle.fault.specs.Changes.{KeepsRoom, IsTableOnWay}
+use Rattle.fault.proofs.Forms.{used_inside}
+use Rattle.ranges.specs.Steps.{KeepsEntriesOfOthers, LosesSlots}
+use Rattle.lifecycle.specs.Steps.{HasCopy, LacksTableForCopy}
 use Rattle.lifecycle.specs.Changes.{FreesTables, StallsToFork}
 
 -- no frame was to be had for the root

@@ -8,22 +8,22 @@ use Rattle.frames.specs.declared.role.Role.{Role}
 use Rattle.frames.specs.declared.role.Role.TheVariants.{Free, Table, Private, Cache}
 use Rattle.frames.specs.FrameTable.{role_of, bytes_of, frame_count}
 use Rattle.page_tables.specs.Tree.{IsPage, missing_of, page_entry}
-use Rattle.paging.specs.Seats.{Seat, InFrame, InSlot, seat}
-use Rattle.paging.specs.Picture.{Picture, entry, view, bytes_in, IsOwned}
-use Rattle.paging.specs.Parts.{IsFit}
-use Rattle.paging.specs.Calls.{ObtainsTable}
-use Rattle.paging.specs.Steps.{Spawns}
-use Rattle.paging.specs.Shows.{KeepsFiles}
-use Rattle.paging.specs.Ages.{GivesForTables, KeepsRolesBut}
-use Rattle.paging.proofs.Aging.{gives_then}
-use Rattle.paging.proofs.Start.{entry-dead}
-use Rattle.paging.proofs.Entries.{entry-same}
-use Rattle.paging.proofs.LeafSteps.{cases_attr}
-use Rattle.mapping.proofs.Spawning.{bare_started}
-use Rattle.paging.proofs.Moves.{view-none}
-use Rattle.paging.proofs.Setting.{view_seated, held_same}
-use Rattle.mapping.specs.Changes.{KeepsBare, KeepsRoom}
-use Rattle.mapping.proofs.Steps.{bare_freed}
+use Rattle.residency.specs.Seats.{Seat, InFrame, InSlot, seat}
+use Rattle.residency.specs.Picture.{Picture, entry, view, bytes_in, IsOwned}
+use Rattle.residency.specs.Parts.{IsFit}
+use Rattle.residency.specs.Calls.{ObtainsTable}
+use Rattle.residency.specs.Steps.{Spawns}
+use Rattle.residency.specs.Shows.{KeepsFiles}
+use Rattle.residency.specs.Ages.{GivesForTables, KeepsRolesBut}
+use Rattle.residency.proofs.Aging.{gives_then}
+use Rattle.residency.proofs.Start.{entry-dead}
+use Rattle.residency.proofs.Entries.{entry-same}
+use Rattle.residency.proofs.LeafSteps.{cases_attr}
+use Rattle.fault.proofs.Spawning.{bare_started}
+use Rattle.residency.proofs.Moves.{view-none}
+use Rattle.residency.proofs.Setting.{view_seated, held_same}
+use Rattle.fault.specs.Changes.{KeepsBare, KeepsRoom}
+use Rattle.fault.proofs.Steps.{bare_freed}
 use Rattle.lifecycle.specs.Changes.{AddsProcess, TakesRoot, TakesNoCopy}
 use Rattle.lifecycle.proofs.Keeping.{live_same, files_then, no_copy_freed, gives_alike}
 

@@ -7,15 +7,15 @@ use Rattle.frames.specs.FrameTable.{FrameTable, IsFull}
 use Rattle.sv39_walk.specs.Entry.{is_valid, is_accessed}
 use Rattle.page_tables.specs.Tree.{IsTable}
 use Rattle.page_tables.proofs.Ends.{way_forth}
-use Rattle.paging.specs.Seats.{seat, is_private}
-use Rattle.paging.specs.Picture.{Picture, entry, is_data}
-use Rattle.paging.specs.Ages.{Ages, Same, Cleared, Left, IsGiven, GivesForTables}
-use Rattle.paging.proofs.Aging.{ages_map, gives_then}
-use Rattle.paging.proofs.Start.{seat-none}
-use Rattle.mapping.specs.Changes.{IsTableOnWay}
-use Rattle.mapping.proofs.Forms.{seat_own, seat_common}
-use Rattle.copy_on_write.specs.Steps.{HasCopy, LinksCopies}
-use Rattle.copy_on_write.specs.Shares.{SharesRow}
+use Rattle.residency.specs.Seats.{seat, is_private}
+use Rattle.residency.specs.Picture.{Picture, entry, is_data}
+use Rattle.residency.specs.Ages.{Ages, Same, Cleared, Left, IsGiven, GivesForTables}
+use Rattle.residency.proofs.Aging.{ages_map, gives_then}
+use Rattle.residency.proofs.Start.{seat-none}
+use Rattle.fault.specs.Changes.{IsTableOnWay}
+use Rattle.fault.proofs.Forms.{seat_own, seat_common}
+use Rattle.lifecycle.specs.Steps.{HasCopy, LinksCopies}
+use Rattle.lifecycle.specs.Shares.{SharesRow}
 use Rattle.lifecycle.specs.Changes.{TakesRoot, MapsAlike, ForksEntries, TakesTables}
 use Rattle.lifecycle.proofs.Copying.{IsReadied, lowered, given}
 use Rattle.lifecycle.proofs.Keeping.{gives_alike}

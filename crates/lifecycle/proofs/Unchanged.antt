@@ -9,10 +9,10 @@ use Rattle.vm_types.specs.declared.object.PageKey.TheVariants.{File, Object}
 use Rattle.vm_types.specs.Objects.{names, is_named}
 use Rattle.page_cache.specs.declared.place.Place.{Place}
 use Rattle.page_cache.specs.declared.place.Place.TheVariants.{Home, Frame, Slot}
-use Rattle.paging.specs.Picture.{Picture, is_live, held, bytes_at}
-use Rattle.paging.specs.Parts.{IsFit}
-use Rattle.paging.specs.Shows.{KeepsFiles}
-use Rattle.page_ranges.specs.Rows.{KeepsNamed, IsLasting, without_maps}
+use Rattle.residency.specs.Picture.{Picture, is_live, held, bytes_at}
+use Rattle.residency.specs.Parts.{IsFit}
+use Rattle.residency.specs.Shows.{KeepsFiles}
+use Rattle.ranges.specs.Rows.{KeepsNamed, IsLasting, without_maps}
 use Rattle.vm_types.proofs.Naming.{named-at, named-where}
 
 root_of : (o : Option ℕ) → is_some o ≡ true → (r : ℕ) × (o ≡ Some r)

@@ -10,16 +10,16 @@ use Rattle.frames.specs.declared.role.Role.TheVariants.{Free, Table, Private}
 use Rattle.frames.specs.FrameTable.{FrameTable, frame_count, role_of, IsFull}
 use Rattle.sv39_walk.specs.Entry.{is_valid, can_write}
 use Rattle.page_tables.specs.Tree.{IsPage, IsTable, IsOnWay, missing_of}
-use Rattle.paging.specs.Seats.{seat, is_private}
-use Rattle.paging.specs.Picture.{Picture, is_live, is_data, entry, view}
-use Rattle.paging.specs.Calls.{Refuses}
-use Rattle.paging.specs.Capacity.{tables_over, copies_over, touched_file, stored_object}
-use Rattle.paging.specs.Shows.{KeepsFiles}
-use Rattle.paging.specs.Parts.{IsFit}
-use Rattle.paging.specs.Ages.{Ages, IsGiven, GivesForTables}
-use Rattle.mapping.specs.Changes.{IsTableOnWay}
-use Rattle.copy_on_write.specs.Steps.{HasCopy, LacksTableForCopy}
-use Rattle.copy_on_write.specs.Shares.{lowered_entry, given_entry}
+use Rattle.residency.specs.Seats.{seat, is_private}
+use Rattle.residency.specs.Picture.{Picture, is_live, is_data, entry, view}
+use Rattle.residency.specs.Calls.{Refuses}
+use Rattle.residency.specs.Capacity.{tables_over, copies_over, touched_file, stored_object}
+use Rattle.residency.specs.Shows.{KeepsFiles}
+use Rattle.residency.specs.Parts.{IsFit}
+use Rattle.residency.specs.Ages.{Ages, IsGiven, GivesForTables}
+use Rattle.fault.specs.Changes.{IsTableOnWay}
+use Rattle.lifecycle.specs.Steps.{HasCopy, LacksTableForCopy}
+use Rattle.lifecycle.specs.Shares.{lowered_entry, given_entry}
 
 -- a process came, with these pages, and every other process is as it was
 module _ {mode : ℕ} where

@@ -1,1 +1,4 @@
+pub mod Steps
+pub mod Shares
+pub mod TablesForCopies
 pub mod Changes

@@ -1,15 +1,15 @@
 //! A process goes.
 ghost use Rattle.std.specs.Prelude.{◌≡◌, true};
 ghost use Rattle.vm_types.specs.Limits.{user_end};
-ghost use Rattle.paging.specs.Picture.{picture_of, is_live};
-ghost use Rattle.paging.specs.Parts.{IsFit};
-ghost use Rattle.page_ranges.specs.Rows.{KeepsNamed, without_maps};
-ghost use Rattle.mapping.specs.Changes.{KeepsRoom};
-ghost use Rattle.page_ranges.specs.Steps.{KeepsDevices, KeepsEntriesOfOthers, LosesSlots};
+ghost use Rattle.residency.specs.Picture.{picture_of, is_live};
+ghost use Rattle.residency.specs.Parts.{IsFit};
+ghost use Rattle.ranges.specs.Rows.{KeepsNamed, without_maps};
+ghost use Rattle.fault.specs.Changes.{KeepsRoom};
+ghost use Rattle.ranges.specs.Steps.{KeepsDevices, KeepsEntriesOfOthers, LosesSlots};
 ghost use Rattle.lifecycle.specs.Changes.{RemovesProcess, FreesTables, TakesNoFrame};
 
-use page_ranges::{clear_row, forget_row};
-use paging::Core;
+use ranges::{clear_row, forget_row};
+use residency::Core;
 use vm_types::{Levels, Pid};
 
 /// Ends a live process: its own copies are lost, in frames and in slots, its tables are free, and so is its number (exit(2)).

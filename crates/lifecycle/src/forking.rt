@@ -2,19 +2,18 @@
 ghost use Rattle.std.specs.Prelude.{◌≡◌, ◌≢◌, ℕ, true, false, None, OnOk, OnErr, IfErr};
 ghost use Rattle.disk_model.specs.Moments.{Nothing};
 ghost use Rattle.swap.specs.Slots.{IsReady};
-ghost use Rattle.paging.specs.Picture.{picture_of, is_live, view};
-ghost use Rattle.paging.specs.Parts.{IsFit};
-ghost use Rattle.paging.specs.Calls.{KeepsBesideProcesses, UsesDevice};
-ghost use Rattle.paging.specs.Stalls.{HasStallCause};
-ghost use Rattle.paging.specs.Shows.{KeepsFiles};
-ghost use Rattle.mapping.specs.Changes.{KeepsRoom, KeepsTables};
-ghost use Rattle.mapping.specs.Asking.{AsksSlots};
+ghost use Rattle.residency.specs.Picture.{picture_of, is_live, view};
+ghost use Rattle.residency.specs.Parts.{IsFit};
+ghost use Rattle.residency.specs.Calls.{KeepsBesideProcesses, UsesDevice};
+ghost use Rattle.residency.specs.Stalls.{HasStallCause};
+ghost use Rattle.residency.specs.Shows.{KeepsFiles};
+ghost use Rattle.fault.specs.Changes.{KeepsRoom, KeepsTables};
+ghost use Rattle.fault.specs.Asking.{AsksSlots};
 ghost use Rattle.lifecycle.specs.Changes.{AddsProcess, KeepsProcesses, KeepsBareOfOthers, MapsAlike, SharesCopies, ForksEntries, TakesTables, StallsToFork, TakesNoCopy, IsShortToFork};
 
-use crate::{exit, spawn};
-use copy_on_write::{link_copies, share_pages};
+use crate::{exit, link_copies, share_pages, spawn};
 use disk_model::SectorDisk;
-use paging::Core;
+use residency::Core;
 use vm_types::{Levels, Pid, Stall};
 
 /// Makes a process of the number `child`, which no live process has, that is a copy of a live one: the same pages, with the

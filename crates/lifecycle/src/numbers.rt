@@ -1,9 +1,9 @@
 //! Numbers of processes.
 ghost use Rattle.std.specs.Prelude.{◌≡◌, false, IfSome};
 ghost use Rattle.vm_types.specs.Processes.{least_free_from, process_limit};
-ghost use Rattle.paging.specs.Picture.{picture_of, is_live};
+ghost use Rattle.residency.specs.Picture.{picture_of, is_live};
 
-use paging::Core;
+use residency::Core;
 use vm_types::{Levels, Pid};
 
 /// The least number of 1 to 64 that no live process has; `None` exactly where 64 processes live (our choice, as fork(2) has

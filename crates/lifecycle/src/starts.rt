@@ -2,20 +2,20 @@
 ghost use Rattle.std.specs.Prelude.{◌≡◌, ℕ, false, Option, None, OnOk, OnErr, IfErr};
 ghost use Rattle.disk_model.specs.Moments.{Nothing};
 ghost use Rattle.swap.specs.Slots.{IsReady};
-ghost use Rattle.paging.specs.Picture.{picture_of, is_live};
-ghost use Rattle.paging.specs.Parts.{IsFit};
-ghost use Rattle.paging.specs.Calls.{Frees, Refuses, UsesDevice};
-ghost use Rattle.paging.specs.Stalls.{HasStallCause};
-ghost use Rattle.paging.specs.Capacity.{IsShort};
-ghost use Rattle.paging.specs.Ages.{GivesForTables, KeepsRoles};
+ghost use Rattle.residency.specs.Picture.{picture_of, is_live};
+ghost use Rattle.residency.specs.Parts.{IsFit};
+ghost use Rattle.residency.specs.Calls.{Frees, Refuses, UsesDevice};
+ghost use Rattle.residency.specs.Stalls.{HasStallCause};
+ghost use Rattle.residency.specs.Capacity.{IsShort};
+ghost use Rattle.residency.specs.Ages.{GivesForTables, KeepsRoles};
 ghost use Rattle.frames.specs.FrameTable.{IsFull};
-ghost use Rattle.paging.specs.Shows.{KeepsFiles};
-ghost use Rattle.mapping.specs.Changes.{KeepsBare, KeepsRoom};
-ghost use Rattle.mapping.specs.Asking.{AsksIfFull, AsksNoNew};
+ghost use Rattle.residency.specs.Shows.{KeepsFiles};
+ghost use Rattle.fault.specs.Changes.{KeepsBare, KeepsRoom};
+ghost use Rattle.fault.specs.Asking.{AsksIfFull, AsksNoNew};
 ghost use Rattle.lifecycle.specs.Changes.{AddsProcess, KeepsProcesses, TakesRoot, TakesNoCopy};
 
 use disk_model::SectorDisk;
-use paging::Core;
+use residency::Core;
 use vm_types::{Levels, Pid, Stall};
 
 /// Makes a process of that number, which no live process has, without a page (our choice: there is no process to copy at

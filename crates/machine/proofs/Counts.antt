@@ -8,7 +8,7 @@ use Rattle.vm_types.specs.declared.refusal.Stall.{Stall}
 use Rattle.vm_types.specs.declared.refusal.Stall.TheVariants.{NoFrames, NoSwap, SwapDevice, StoreDevice}
 use Rattle.vm_types.specs.declared.reply.Reply.{Reply}
 use Rattle.vm_types.specs.declared.reply.Reply.TheVariants.{Process, Address, Done, Value, Faulted, Refused, Stalled, Halted, Past}
-use Rattle.calls.specs.Idle.{names_store, names_swap, refused_count}
+use Rattle.spaces.specs.Idle.{names_store, names_swap, refused_count}
 use Rattle.machine.specs.Chain.{Caused}
 use Rattle.machine.specs.Counts.{failed_count, swap_failed_count, Counts}
 use Rattle.machine.specs.Machine.{store_of, swap_of}

@@ -2,7 +2,7 @@
 use Rattle.std.proofs.Common.{◌+◌, ◌≡◌, ◌≤◌, ◌<◌, true, false, is_some, refl, ap}
 use Rattle.disk_model.specs.Moments.{LeavesNow, LeavesOnly}
 use Rattle.disk_model.specs.declared.sector_disk.SectorDisk.{Ghosts}
-use Rattle.calls.specs.Idle.{is_idle, names_store, names_swap, refused_count}
+use Rattle.spaces.specs.Idle.{is_idle, names_store, names_swap, refused_count}
 use Rattle.vm_types.specs.declared.command.Command.{Command}
 use Rattle.vm_types.specs.declared.refusal.Errno.TheVariants.{EIO}
 use Rattle.vm_types.specs.declared.refusal.Stall.TheVariants.{SwapDevice, StoreDevice}

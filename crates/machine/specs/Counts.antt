@@ -2,7 +2,7 @@
 use Rattle.std.specs.Prelude.{ℕ, ◌+◌, ◌≡◌, ◌≤◌, List, sum_by, if◌then◌else◌}
 use Rattle.disk_model.specs.declared.sector_disk.SectorDisk.{Ghosts}
 use Rattle.vm_types.specs.declared.reply.Reply.{Reply}
-use Rattle.calls.specs.Idle.{names_store, names_swap, refused_count}
+use Rattle.spaces.specs.Idle.{names_store, names_swap, refused_count}
 use Rattle.machine.specs.declared.machine.Machine.{Machine}
 use Rattle.machine.specs.Machine.{store_of, swap_of, refused_of}
 

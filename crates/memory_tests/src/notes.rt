@@ -3,11 +3,11 @@ ghost use Rattle.std.specs.Prelude.{ℕ, ◌≡◌, ◌<◌};
 ghost use Rattle.vm_types.specs.Limits.{top_level, user_end};
 ghost use Rattle.frames.specs.FrameTable.{IsFrame};
 ghost use Rattle.page_tables.specs.Tree.{IsForest, IsRoot};
-ghost use Rattle.mapped_memory.specs.Notes.{Names};
+ghost use Rattle.memory.specs.Notes.{Names};
 
 use crate::bench::equal;
 use crate::trees::{add_table, new_table};
-use mapped_memory::{
+use memory::{
     Memory, forget_pages, is_kind, kinds_over, missing_tables, page_over, set, set_at, table_of,
 };
 use page_tables::Entry;

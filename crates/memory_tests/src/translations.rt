@@ -1,9 +1,9 @@
 //! Lines of a buffer of translations.
 use crate::bench::equal;
+use memory::{PLACES, TranslationBuffer};
 use std::process::Abort;
 use sv39_walk::Pte;
 use vm_types::{Access, FrameNo, Sv39, Sv48, Vpn};
-use walk_buffer::{PLACES, TranslationBuffer};
 
 /// A call that changes the lines.
 #[derive(Clone, Copy)]

@@ -8,7 +8,7 @@ ghost use Rattle.page_tables.specs.Tree.{IsForest, IsRoot};
 use crate::bench::equal;
 use bitflags::Flags;
 use frames::Role;
-use mapped_memory::{
+use memory::{
     Memory, entry, entry_number, keep_at, link_table, missing_tables, number_in, prune, set,
     set_in, table_of, take_table, walk,
 };

@@ -2,14 +2,14 @@
 use Rattle.vm_types.specs.declared.mode.Levels as Levels
 use Rattle.std.proofs.Common.{ℕ, ◌≡◌, ◌≢◌, Bool, true, false, not, if◌then◌else◌, List, refl, sym, ap, ◌∙◌, subst}
 use Rattle.disk_model.specs.declared.sector_disk.SectorDisk.{Ghosts}
-use Rattle.paging.specs.Calls.{UsesDevice}
-use Rattle.paging.specs.Reading.{ReadsStore}
-use Rattle.paging.specs.Picture.{picture_of, is_live}
-use Rattle.paging.specs.declared.kernel.Core.{Core}
-use Rattle.mapping.specs.Changes.{KeepsRoom}
-use Rattle.page_ranges.specs.Steps.{KeepsDevices}
-use Rattle.calls.specs.Calls as Calls
-use Rattle.calls.specs.Idle.{is_denial, is_idle}
+use Rattle.residency.specs.Calls.{UsesDevice}
+use Rattle.residency.specs.Reading.{ReadsStore}
+use Rattle.residency.specs.Picture.{picture_of, is_live}
+use Rattle.residency.specs.declared.kernel.Core.{Core}
+use Rattle.fault.specs.Changes.{KeepsRoom}
+use Rattle.ranges.specs.Steps.{KeepsDevices}
+use Rattle.spaces.specs.Calls as Calls
+use Rattle.spaces.specs.Idle.{is_denial, is_idle}
 use Rattle.vm_types.specs.declared.access.StoredValue.{StoredValue}
 use Rattle.vm_types.specs.declared.command.Command.{Command}
 use Rattle.vm_types.specs.declared.refusal.Errno.{Errno}

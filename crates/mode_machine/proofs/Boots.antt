@@ -16,9 +16,9 @@ use Rattle.file_store.proofs.Outside.{left_outside}
 use Rattle.page_cache.specs.declared.place.Place.TheVariants.{Home}
 use Rattle.vm_types.specs.declared.object.PageKey.{PageKey}
 use Rattle.vm_types.specs.declared.object.PageKey.TheVariants.{File, Object}
-use Rattle.paging.specs.Calls.{IsStart}
-use Rattle.paging.specs.Picture.{Picture, picture_of, view, held}
-use Rattle.paging.specs.Shows.{ShowsPages}
+use Rattle.residency.specs.Calls.{IsStart}
+use Rattle.residency.specs.Picture.{Picture, picture_of, view, held}
+use Rattle.residency.specs.Shows.{ShowsPages}
 use Rattle.sync_journal.specs.Kinds.{StoreStandsAs, IsOutsideOf, IsStoreRecovered}
 use Rattle.swap.specs.Slots.{slots_of}
 use Rattle.vm_types.specs.State.{State}

@@ -3,10 +3,10 @@ use Rattle.vm_types.specs.declared.mode.Levels as Levels
 use Rattle.std.proofs.Common.{◌≡◌, ◌≢◌, ◌<◌, ◌≤◌, true, false, refl, sym, ap, ◌∙◌, subst, arith}
 use Rattle.disk_model.specs.declared.sector_disk.SectorDisk.{Ghosts}
 use Rattle.disk_model.specs.declared.ghost_data.Count.{Count}
-use Rattle.paging.specs.declared.kernel.Core.{Core}
-use Rattle.paging.specs.Stalls.{ReadCause}
-use Rattle.calls.specs.Calls.{IsCaused}
-use Rattle.calls.specs.Idle.{names_store, names_swap, refused_count}
+use Rattle.residency.specs.declared.kernel.Core.{Core}
+use Rattle.residency.specs.Stalls.{ReadCause}
+use Rattle.spaces.specs.Calls.{IsCaused}
+use Rattle.spaces.specs.Idle.{names_store, names_swap, refused_count}
 use Rattle.vm_types.specs.declared.refusal.Errno.TheVariants.{EIO}
 use Rattle.vm_types.specs.declared.refusal.Stall.{Stall}
 use Rattle.vm_types.specs.declared.refusal.Stall.TheVariants.{SwapDevice}

@@ -9,14 +9,14 @@ use Rattle.file_store.specs.Commit.{StandsForEither}
 use Rattle.file_store.specs.Standing.{StandsFor}
 use Rattle.frames.specs.FrameTable.{frame_count}
 use Rattle.swap.specs.Slots.{slots_of}
-use Rattle.paging.specs.Calls.{UsesDevice}
-use Rattle.paging.specs.Picture.{picture_of}
-use Rattle.paging.specs.Shows.{ShowsPages}
-use Rattle.paging.specs.declared.kernel.Core.{Core}
-use Rattle.mapping.specs.Changes.{KeepsRoom}
-use Rattle.page_ranges.specs.Steps.{KeepsDevices}
-use Rattle.calls.specs.Calls as Calls
-use Rattle.calls.specs.Idle.{is_denial, is_idle}
+use Rattle.residency.specs.Calls.{UsesDevice}
+use Rattle.residency.specs.Picture.{picture_of}
+use Rattle.residency.specs.Shows.{ShowsPages}
+use Rattle.residency.specs.declared.kernel.Core.{Core}
+use Rattle.fault.specs.Changes.{KeepsRoom}
+use Rattle.ranges.specs.Steps.{KeepsDevices}
+use Rattle.spaces.specs.Calls as Calls
+use Rattle.spaces.specs.Idle.{is_denial, is_idle}
 use Rattle.msync.specs.Shows as Syncing
 use Rattle.msync.specs.Core.{KeepsMemory, GivesBack, Commits, Acknowledged, Failed, Unread}
 use Rattle.vm_types.specs.declared.command.Command.{Command}

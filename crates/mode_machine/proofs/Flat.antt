@@ -9,24 +9,24 @@ use Rattle.file_store.specs.Standing.{StandsFor}
 use Rattle.file_store.specs.declared.store.FileStore.{FileStore}
 use Rattle.frames.specs.FrameTable.{frame_count}
 use Rattle.swap.specs.Slots.{slots_of}
-use Rattle.paging.specs.Calls.{UsesDevice}
-use Rattle.paging.specs.Reading.{ReadsStore}
-use Rattle.paging.specs.Picture.{Picture, picture_of}
-use Rattle.paging.specs.Shows.{ShowsPages}
-use Rattle.paging.specs.declared.kernel.Core.{Core}
-use Rattle.mapping.proofs.Asking.{asks_slots_same}
-use Rattle.mapping.specs.Changes.{KeepsRoom}
-use Rattle.page_ranges.specs.Steps.{KeepsDevices}
-use Rattle.page_faults.proofs.Asking.{asks_same}
-use Rattle.page_faults.proofs.Slotted.{slotted_same}
-use Rattle.page_faults.proofs.Wanted.{calm_same}
+use Rattle.residency.specs.Calls.{UsesDevice}
+use Rattle.residency.specs.Reading.{ReadsStore}
+use Rattle.residency.specs.Picture.{Picture, picture_of}
+use Rattle.residency.specs.Shows.{ShowsPages}
+use Rattle.residency.specs.declared.kernel.Core.{Core}
+use Rattle.fault.proofs.Asking.{asks_slots_same}
+use Rattle.fault.specs.Changes.{KeepsRoom}
+use Rattle.ranges.specs.Steps.{KeepsDevices}
+use Rattle.fault.proofs.AccessAsking.{asks_same}
+use Rattle.fault.proofs.AccessSlotted.{slotted_same}
+use Rattle.fault.proofs.Wanted.{calm_same}
 use Rattle.msync.specs.Shows as Syncing
 use Rattle.msync.proofs.SettledPages.{settles_nothing}
-use Rattle.calls.proofs.Asking.{writes_none}
-use Rattle.calls.proofs.Returning.{takes_none}
-use Rattle.calls.specs.Accesses.{AsksFor}
-use Rattle.calls.specs.Calls as Calls
-use Rattle.calls.specs.Idle.{is_idle}
+use Rattle.spaces.proofs.Asking.{writes_none}
+use Rattle.spaces.proofs.Returning.{takes_none}
+use Rattle.spaces.specs.Accesses.{AsksFor}
+use Rattle.spaces.specs.Calls as Calls
+use Rattle.spaces.specs.Idle.{is_idle}
 use Rattle.vm_types.specs.declared.access.Access.{Access}
 use Rattle.vm_types.specs.declared.access.Access.TheVariants as Kinds
 use Rattle.vm_types.specs.declared.command.Command.{Command}

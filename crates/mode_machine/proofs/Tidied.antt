@@ -7,11 +7,11 @@ use Rattle.vm_types.specs.declared.object.PageKey.TheVariants.{Object}
 use Rattle.vm_types.specs.Objects.{is_named, maps_of, names}
 use Rattle.vm_types.specs.State.{State}
 use Rattle.vm_types.specs.View.{View}
-use Rattle.paging.specs.Parts.{IsFit}
-use Rattle.paging.specs.Picture.{Picture}
-use Rattle.paging.specs.Shows.{ShowsPages}
-use Rattle.page_ranges.proofs.Named.{named-alike}
-use Rattle.calls.proofs.Pages.{attrs_seen}
+use Rattle.residency.specs.Parts.{IsFit}
+use Rattle.residency.specs.Picture.{Picture}
+use Rattle.residency.specs.Shows.{ShowsPages}
+use Rattle.ranges.proofs.Named.{named-alike}
+use Rattle.spaces.proofs.Pages.{attrs_seen}
 use Rattle.mode_machine.specs.Tidy.{IsTidy}
 
 maps_seen : {mode : ℕ} (c : Picture mode) (s : State) → ShowsPages c s → (pid page : ℕ) → maps_of s.views pid page ≡ c.at pid page

@@ -5,15 +5,15 @@ use Rattle.vm_types.specs.declared.mode.Levels as Levels
 use Rattle.std.specs.Prelude.{◌≡◌, ◌/◌, ◌%◌, None}
 use Rattle.disk_model.specs.declared.sector_disk.SectorDisk.{Ghosts}
 use Rattle.disk_model.specs.Moments.{Nothing}
-use Rattle.mapping.specs.Asking.{AsksIfFull, AsksSlots}
-use Rattle.page_faults.specs.Outcome.{IsWalked}
+use Rattle.fault.specs.Asking.{AsksIfFull, AsksSlots}
+use Rattle.fault.specs.Outcome.{IsWalked}
 use Rattle.msync.specs.Asking.{AsksToCommit}
 use Rattle.msync.specs.Settling.{SettlesMemory}
-use Rattle.paging.specs.Picture.{picture_of}
-use Rattle.paging.specs.declared.kernel.Core.{Core}
-use Rattle.calls.specs.Accesses.{AsksFor, WritesNumber}
-use Rattle.calls.specs.Processes.{ForkTakes, SpawnTakes}
-use Rattle.calls.specs.Ranges.{KeepsEntriesBeside, TakesNothing, first_mapped}
+use Rattle.residency.specs.Picture.{picture_of}
+use Rattle.residency.specs.declared.kernel.Core.{Core}
+use Rattle.spaces.specs.Accesses.{AsksFor, WritesNumber}
+use Rattle.spaces.specs.Processes.{ForkTakes, SpawnTakes}
+use Rattle.spaces.specs.Ranges.{KeepsEntriesBeside, TakesNothing, first_mapped}
 use Rattle.vm_types.specs.Checks.{page_count}
 use Rattle.vm_types.specs.Limits.{user_end}
 use Rattle.vm_types.specs.declared.access.Access.TheVariants as Access

@@ -8,7 +8,7 @@ use Rattle.sync_journal.specs.Kinds.{IsOutsideOf}
 use Rattle.file_store.specs.Standing.{StandsFor, StandsAs, IsBadLayout, IsBadJournal, IsAskedToOpen}
 use Rattle.frames.specs.FrameTable.{frame_count}
 use Rattle.swap.specs.Slots.{slots_of}
-use Rattle.paging.specs.Calls.{IsStart}
+use Rattle.residency.specs.Calls.{IsStart}
 use Rattle.vm_types.specs.State.{State, IsRunning}
 use Rattle.mode_machine.specs.declared.boot.BootFault.{BootFault}
 use Rattle.mode_machine.specs.declared.boot.BootFault.TheVariants.{Frames, Slots, Device, BadLayout, BadJournal}

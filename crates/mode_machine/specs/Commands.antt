@@ -1,8 +1,8 @@
 -- What a command keeps whatever comes of it, and what it does whatever the devices do.
 use Rattle.vm_types.specs.declared.mode.Levels as Levels
 use Rattle.disk_model.specs.declared.sector_disk.SectorDisk.{Ghosts}
-use Rattle.mapping.specs.Changes.{KeepsRoom}
-use Rattle.paging.specs.Picture.{picture_of}
+use Rattle.fault.specs.Changes.{KeepsRoom}
+use Rattle.residency.specs.Picture.{picture_of}
 use Rattle.vm_types.specs.declared.command.Command.{Command}
 use Rattle.vm_types.specs.declared.reply.Reply.{Reply}
 use Rattle.mode_machine.specs.Accesses.{Accesses}

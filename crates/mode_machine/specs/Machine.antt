@@ -7,13 +7,13 @@ use Rattle.disk_model.specs.declared.sector_disk.SectorDisk.{Ghosts}
 use Rattle.file_store.specs.Standing.{StandsFor}
 use Rattle.frames.specs.FrameTable.{frame_count}
 use Rattle.swap.specs.Slots.{slots_of}
-use Rattle.paging.specs.Picture.{picture_of}
-use Rattle.paging.specs.Shows.{ShowsPages}
-use Rattle.mapping.specs.Changes.{KeepsRoom}
-use Rattle.page_ranges.specs.Steps.{KeepsDevices}
+use Rattle.residency.specs.Picture.{picture_of}
+use Rattle.residency.specs.Shows.{ShowsPages}
+use Rattle.fault.specs.Changes.{KeepsRoom}
+use Rattle.ranges.specs.Steps.{KeepsDevices}
 use Rattle.msync.specs.Shows.{IsSoundCore}
-use Rattle.calls.specs.Calls as Calls
-use Rattle.calls.specs.Idle.{is_idle}
+use Rattle.spaces.specs.Calls as Calls
+use Rattle.spaces.specs.Idle.{is_idle}
 use Rattle.vm_types.specs.declared.command.Command.{Command}
 use Rattle.vm_types.specs.declared.refusal.Errno.{Errno}
 use Rattle.vm_types.specs.declared.refusal.Errno.TheVariants.{EIO}

@@ -6,10 +6,10 @@ ghost use Rattle.mode_machine.specs.Fault.{fault_number, boot_fault};
 
 use crate::fault_log::FaultLog;
 use crate::machine::ModeMachine;
-use calls::{RegionRoom, SyncRoom};
 use disk_model::SectorDisk;
 use file_store::{FileStore, OpenFault};
-use paging::Core;
+use residency::Core;
+use spaces::{RegionRoom, SyncRoom};
 use std::alloc::Global;
 use swap::Swap;
 use thiserror::Error;

@@ -2,8 +2,8 @@
 ghost use Rattle.std.specs.Prelude.{◌≡◌, ◌≤◌, ◌<◌, ◌↔◌, is_some, true, IfSome, IsNone};
 ghost use Rattle.vm_types.specs.State.{State, IsRunning};
 ghost use Rattle.mode_machine.specs.Machine.{IsSoundMachine, IsReadable, Shows, Meets};
-ghost use Rattle.paging.specs.Parts.{IsFit};
-ghost use Rattle.paging.specs.Picture.{picture_of, is_live};
+ghost use Rattle.residency.specs.Parts.{IsFit};
+ghost use Rattle.residency.specs.Picture.{picture_of, is_live};
 ghost use Rattle.vm_types.specs.Replies.{reply_of, told};
 ghost use Rattle.vm_types.specs.Step.{noted_fault};
 ghost use Rattle.vm_types.specs.declared.refusal.Fault.{Fault};
@@ -11,9 +11,9 @@ ghost use Rattle.mode_machine.specs.Commands.{DoesAsTold, KeepsModelsAndRoom};
 ghost use Rattle.mode_machine.specs.Tidy.{IsTidy};
 
 use crate::fault_log::FaultLog;
-use calls::{RegionRoom, SyncRoom};
 use disk_model::SectorDisk;
-use paging::Core;
+use residency::Core;
+use spaces::{RegionRoom, SyncRoom};
 use vm_types::{Answer, Command, History, Levels, Reply};
 
 /// A machine over a store device `D` and a swap device `E`, whose processes have address spaces of the mode `M`, made by `boot`.
@@ -84,9 +84,9 @@ impl<D: SectorDisk, E: SectorDisk, M: Levels> ModeMachine<D, E, M> {
         let core = &mut self.core;
         let room = &mut self.region_room;
         match command {
-            Command::Spawn => Some(calls::spawn(core)),
-            Command::Fork { pid } => Some(calls::fork(core, pid)),
-            Command::Exit { pid } => Some(calls::exit(core, pid)),
+            Command::Spawn => Some(spaces::spawn(core)),
+            Command::Fork { pid } => Some(spaces::fork(core, pid)),
+            Command::Exit { pid } => Some(spaces::exit(core, pid)),
             Command::Mmap {
                 pid,
                 addr,
@@ -94,31 +94,31 @@ impl<D: SectorDisk, E: SectorDisk, M: Levels> ModeMachine<D, E, M> {
                 prot,
                 source,
                 placing,
-            } => Some(calls::mmap(core, room, pid, addr, len, prot, source, placing)),
-            Command::Munmap { pid, addr, len } => Some(calls::munmap(core, room, pid, addr, len)),
+            } => Some(spaces::mmap(core, room, pid, addr, len, prot, source, placing)),
+            Command::Munmap { pid, addr, len } => Some(spaces::munmap(core, room, pid, addr, len)),
             Command::Mprotect {
                 pid,
                 addr,
                 len,
                 prot,
-            } => Some(calls::mprotect(core, room, pid, addr, len, prot)),
+            } => Some(spaces::mprotect(core, room, pid, addr, len, prot)),
             Command::Msync {
                 pid,
                 addr,
                 len,
                 mode,
             } => Some(self.msync(pid, addr, len, mode)),
-            Command::Dontneed { pid, addr, len } => Some(calls::dontneed(core, pid, addr, len)),
+            Command::Dontneed { pid, addr, len } => Some(spaces::dontneed(core, pid, addr, len)),
             Command::Load { pid, addr, width } => {
-                let answer = calls::load(core, pid, addr, width);
+                let answer = spaces::load(core, pid, addr, width);
                 Some(self.noted(pid, answer))
             }
             Command::Store { pid, addr, stored } => {
-                let answer = calls::store(core, pid, addr, stored);
+                let answer = spaces::store(core, pid, addr, stored);
                 Some(self.noted(pid, answer))
             }
             Command::Fetch { pid, addr } => {
-                let answer = calls::fetch(core, pid, addr);
+                let answer = spaces::fetch(core, pid, addr);
                 Some(self.noted(pid, answer))
             }
             Command::PastFaults => None,

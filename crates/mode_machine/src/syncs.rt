@@ -22,7 +22,7 @@ impl<D: SectorDisk, E: SectorDisk, M: Levels> ModeMachine<D, E, M> {
         ensures meets { (s : State) → Shows D.SectorDisk E.SectorDisk self.old s → IsReadable D.SectorDisk E.SectorDisk self.new s (Msync pid addr len mode)
             → (t : State) × Meets D.SectorDisk E.SectorDisk self.old self.new s t (Msync pid addr len mode) (reply_of result) }
     {
-        let answer = calls::msync(&mut self.core, &mut self.sync_room, pid, addr, len, mode);
+        let answer = spaces::msync(&mut self.core, &mut self.sync_room, pid, addr, len, mode);
         self.halted = answer == Answer::Refused(Errno::EIO);
         answer
     }

@@ -7,7 +7,7 @@ use Rattle.swap.specs.Slots.{IsSectorOfSlot}
 use Rattle.vm_types.specs.declared.file.FilePage.{FilePage}
 use Rattle.vm_types.specs.declared.object.PageKey.TheVariants.{File}
 use Rattle.vm_types.specs.declared.number.SlotNo.{SlotNo}
-use Rattle.paging.specs.Picture.{Picture}
+use Rattle.residency.specs.Picture.{Picture}
 use Rattle.msync.specs.Asking.{IsSectorOfFilePage, IsSectorListed, IsSectorTaken}
 use Rattle.msync.specs.Choice.{Chosen, chosen_of, page_at, AreTaken}
 use Rattle.msync.specs.Spots.{spot_at, place_at, IsSectorThere, IsSectorOfSpots, HasSpots}

@@ -39,11 +39,11 @@ use Rattle.vm_types.specs.Msync as Flat
 use Rattle.vm_types.specs.State.{State}
 use Rattle.vm_types.specs.Step.{msync_outcome, commit_of, commits}
 use Rattle.vm_types.specs.View.{Pages}
-use Rattle.paging.specs.declared.kernel.Core.{Core}
-use Rattle.paging.specs.Seats.{InFrame}
-use Rattle.paging.specs.Picture.{Picture, picture_of, entry, held, is_private}
-use Rattle.paging.specs.Parts.{IsFit}
-use Rattle.paging.specs.Shows.{ShowsPages}
+use Rattle.residency.specs.declared.kernel.Core.{Core}
+use Rattle.residency.specs.Seats.{InFrame}
+use Rattle.residency.specs.Picture.{Picture, picture_of, entry, held, is_private}
+use Rattle.residency.specs.Parts.{IsFit}
+use Rattle.residency.specs.Shows.{ShowsPages}
 use Rattle.msync.specs.Choice.{Chosen}
 use Rattle.msync.specs.declared.chosen.Residence.{Residence}
 use Rattle.msync.specs.declared.chosen.Residence.TheVariants.{Framed, Slotted}

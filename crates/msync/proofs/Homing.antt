@@ -3,9 +3,9 @@ use Rattle.std.proofs.Common.{ℕ, inl, ap}
 use Rattle.vm_types.specs.declared.file.FilePage.{FilePage}
 use Rattle.vm_types.specs.declared.object.PageKey.TheVariants.{File}
 use Rattle.frames.specs.FrameTable.{frame_count, role_of}
-use Rattle.paging.specs.Picture.{Picture}
-use Rattle.paging.specs.Parts.{IsFit}
-use Rattle.paging.proofs.Homing.{Homes, same, views, held_else, held_none}
+use Rattle.residency.specs.Picture.{Picture}
+use Rattle.residency.specs.Parts.{IsFit}
+use Rattle.residency.proofs.Homing.{Homes, same, views, held_else, held_none}
 use Rattle.msync.specs.Settling.{SettlesOne}
 use Rattle.msync.specs.Spots.{slotted_at}
 

@@ -22,9 +22,9 @@ use Rattle.file_store.specs.declared.directory.Entry.{Entry}
 use Rattle.file_store.specs.Store.{entry_of}
 use Rattle.regions.specs.declared.run.Run.{Run}
 use Rattle.regions.specs.RunList.{attr_at}
-use Rattle.paging.specs.Picture.{Picture, entry, is_live, attr_where, own_in, view_of, view}
-use Rattle.paging.specs.Parts.{IsFit}
-use Rattle.paging.specs.Shows.{ShowsPages}
+use Rattle.residency.specs.Picture.{Picture, entry, is_live, attr_where, own_in, view_of, view}
+use Rattle.residency.specs.Parts.{IsFit}
+use Rattle.residency.specs.Shows.{ShowsPages}
 use Rattle.msync.specs.declared.chosen.Ruling.{Ruling}
 use Rattle.msync.specs.declared.chosen.Ruling.TheVariants.{Refuses, Passes, Takes}
 use Rattle.msync.specs.Choice.{of_files, page_at, shares_page, is_shared_in, is_chosen, Overflows, Lists, IsChoice, RulesSame, AreListed, AreTaken}

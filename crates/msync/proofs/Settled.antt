@@ -10,17 +10,17 @@ use Rattle.frames.specs.FrameTable.{frame_count, role_of, bytes_of, IsFrame, wit
 use Rattle.frames.proofs.FrameLemmas.{with_bytes-others, with_bytes-same}
 use Rattle.sv39_walk.specs.Entry.{is_valid, is_dirty, frame_of}
 use Rattle.page_cache.specs.declared.place.Place.TheVariants.{Home, Frame}
-use Rattle.paging.specs.declared.leaves.Change.TheVariants.{ClearDirty}
-use Rattle.paging.specs.Seats.{Seat, InFrame, InSlot, seat}
-use Rattle.paging.specs.Picture.{Picture, entry, view, held, bytes_at, bytes_in, IsOwned}
-use Rattle.paging.specs.Parts.{IsFit, nowhere}
-use Rattle.paging.specs.Leaves.{IsChanged, ChangesLeaves}
-use Rattle.paging.specs.Steps.{SameBeside}
-use Rattle.paging.proofs.Bits.{leaf_dirty}
-use Rattle.paging.proofs.Setting.{fit_written, entries_written, bytes_else, view_seated, each_view, held_same}
+use Rattle.residency.specs.declared.leaves.Change.TheVariants.{ClearDirty}
+use Rattle.residency.specs.Seats.{Seat, InFrame, InSlot, seat}
+use Rattle.residency.specs.Picture.{Picture, entry, view, held, bytes_at, bytes_in, IsOwned}
+use Rattle.residency.specs.Parts.{IsFit, nowhere}
+use Rattle.residency.specs.Leaves.{IsChanged, ChangesLeaves}
+use Rattle.residency.specs.Steps.{SameBeside}
+use Rattle.residency.proofs.Bits.{leaf_dirty}
+use Rattle.residency.proofs.Setting.{fit_written, entries_written, bytes_else, view_seated, each_view, held_same}
 use Rattle.msync.specs.Spots.{framed_at}
 use Rattle.msync.specs.Settling.{ClearsLeaf, SettlesOne}
-use Rattle.paging.proofs.Cleaning.{Untouches, entries_untouched, views_untouched, held_untouched}
+use Rattle.residency.proofs.Cleaning.{Untouches, entries_untouched, views_untouched, held_untouched}
 
 pub held_framed : {mode : ℕ} (c : Picture mode) (p : PageKey) (n : ℕ) → c.place p ≡ Frame (record { 0 = n }) → held c p ≡ Some (bytes_of c.frames n)
 unfolding held

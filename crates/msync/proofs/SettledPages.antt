@@ -14,11 +14,11 @@ use Rattle.swap.specs.Written.{IsAsWritten}
 use Rattle.swap.specs.declared.pages.Pages.{Pages as Swap_pages}
 use Rattle.disk_model.specs.declared.sector_disk.SectorDisk.{Ghosts}
 use Rattle.sv39_walk.specs.Entry.{is_dirty}
-use Rattle.paging.specs.declared.kernel.Core.{Core}
-use Rattle.paging.specs.Picture.{Picture, entry, held, bytes_at}
-use Rattle.paging.specs.Parts.{IsFit, HasPlaces}
-use Rattle.paging.proofs.Bits.{bit_seven, seven_clear}
-use Rattle.paging.proofs.Places.{cases_page}
+use Rattle.residency.specs.declared.kernel.Core.{Core}
+use Rattle.residency.specs.Picture.{Picture, entry, held, bytes_at}
+use Rattle.residency.specs.Parts.{IsFit, HasPlaces}
+use Rattle.residency.proofs.Bits.{bit_seven, seven_clear}
+use Rattle.residency.proofs.Places.{cases_page}
 use Rattle.msync.specs.declared.chosen.Residence.{Residence}
 use Rattle.msync.specs.declared.chosen.Residence.TheVariants.{Framed, Slotted}
 use Rattle.msync.specs.declared.chosen.Spot.{Spot}

@@ -9,8 +9,8 @@ use Rattle.vm_types.specs.declared.file.FilePage.{FilePage}
 use Rattle.vm_types.specs.declared.object.PageKey.TheVariants.{File}
 use Rattle.vm_types.specs.declared.number.SlotNo.{SlotNo}
 use Rattle.page_cache.specs.declared.place.Place.TheVariants.{Slot}
-use Rattle.paging.specs.declared.kernel.Core.{Core}
-use Rattle.paging.specs.Picture.{Picture, picture_of}
+use Rattle.residency.specs.declared.kernel.Core.{Core}
+use Rattle.residency.specs.Picture.{Picture, picture_of}
 use Rattle.msync.specs.Choice.{Chosen, page_at, is_taken}
 
 module _ {mode : ℕ} where

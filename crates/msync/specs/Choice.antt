@@ -17,7 +17,7 @@ use Rattle.vm_types.specs.Msync as Flat
 use Rattle.vm_types.specs.Rows.{in_row}
 use Rattle.vm_types.specs.State.{State}
 use Rattle.page_cache.specs.declared.place.Place.TheVariants.{Slot}
-use Rattle.paging.specs.Picture.{Picture}
+use Rattle.residency.specs.Picture.{Picture}
 use Rattle.msync.specs.declared.chosen.Ruling.{Ruling}
 use Rattle.msync.specs.declared.chosen.Ruling.TheVariants.{Refuses, Passes, Takes}
 

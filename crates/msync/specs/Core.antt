@@ -14,9 +14,9 @@ use Rattle.vm_types.specs.declared.reply.Reply.TheVariants.{Done, Refused, Stall
 use Rattle.vm_types.specs.State.{State}
 use Rattle.vm_types.specs.Step.{outcome}
 use Rattle.vm_types.specs.View.{Pages}
-use Rattle.paging.specs.declared.kernel.Core.{Core}
-use Rattle.paging.specs.Picture.{picture_of}
-use Rattle.paging.specs.Shows.{ShowsPages}
+use Rattle.residency.specs.declared.kernel.Core.{Core}
+use Rattle.residency.specs.Picture.{picture_of}
+use Rattle.residency.specs.Shows.{ShowsPages}
 use Rattle.msync.specs.Choice.{TakesAway}
 use Rattle.msync.specs.Shows.{IsSoundCore, Shows}
 

@@ -12,9 +12,9 @@ use Rattle.sv39_walk.specs.Entry.{is_valid, is_dirty, frame_of}
 use Rattle.page_tables.specs.Tree.{IsPage}
 use Rattle.page_cache.specs.declared.place.Place.{Place}
 use Rattle.page_cache.specs.declared.place.Place.TheVariants.{Home, Frame, Slot}
-use Rattle.paging.specs.declared.kernel.Core.{Core}
-use Rattle.paging.specs.Ages.{KeepsRoles}
-use Rattle.paging.specs.Picture.{Picture, entry, view, held, is_private}
+use Rattle.residency.specs.declared.kernel.Core.{Core}
+use Rattle.residency.specs.Ages.{KeepsRoles}
+use Rattle.residency.specs.Picture.{Picture, entry, view, held, is_private}
 use Rattle.msync.specs.declared.chosen.Residence.{Residence}
 use Rattle.msync.specs.declared.chosen.Residence.TheVariants.{Framed, Slotted}
 use Rattle.msync.specs.declared.chosen.Spot.{Spot}

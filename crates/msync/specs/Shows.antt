@@ -6,10 +6,10 @@ use Rattle.file_store.specs.Standing.{StandsFor}
 use Rattle.file_store.specs.Store.{IsReadyStore}
 use Rattle.swap.specs.Slots.{IsReady}
 use Rattle.vm_types.specs.State.{State}
-use Rattle.paging.specs.declared.kernel.Core.{Core}
-use Rattle.paging.specs.Parts.{IsFit}
-use Rattle.paging.specs.Picture.{picture_of}
-use Rattle.paging.specs.Shows.{ShowsPages}
+use Rattle.residency.specs.declared.kernel.Core.{Core}
+use Rattle.residency.specs.Parts.{IsFit}
+use Rattle.residency.specs.Picture.{picture_of}
+use Rattle.residency.specs.Shows.{ShowsPages}
 
 module _ {M : Type 0} {m : Levels.Ghosts M} {D E : Type 0} (g : Ghosts D) where
   -- The memory shows the state, and every image that a stop may leave now stands for its durable files.

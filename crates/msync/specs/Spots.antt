@@ -11,7 +11,7 @@ use Rattle.swap.specs.declared.slots.Swap.{Swap}
 use Rattle.swap.specs.Slots.{SlotTable, slots_of, IsInUse, IsReady, IsSectorOfSlot}
 use Rattle.page_cache.specs.declared.place.Place.{Place}
 use Rattle.page_cache.specs.declared.place.Place.TheVariants.{Frame, Slot}
-use Rattle.paging.specs.Picture.{Picture}
+use Rattle.residency.specs.Picture.{Picture}
 use Rattle.msync.specs.declared.chosen.Residence.{Residence}
 use Rattle.msync.specs.declared.chosen.Residence.TheVariants.{Framed, Slotted}
 use Rattle.msync.specs.declared.chosen.Spot.{Spot}

@@ -6,15 +6,15 @@ ghost use Rattle.vm_types.specs.Rows.{IsUserMap};
 ghost use Rattle.vm_types.specs.State.{State};
 ghost use Rattle.regions.specs.RunList.{attr_at};
 ghost use Rattle.page_cache.specs.CacheTable.{is_touched};
-ghost use Rattle.paging.specs.Picture.{picture_of};
-ghost use Rattle.paging.specs.Parts.{IsFit};
-ghost use Rattle.paging.specs.Shows.{ShowsPages};
+ghost use Rattle.residency.specs.Picture.{picture_of};
+ghost use Rattle.residency.specs.Parts.{IsFit};
+ghost use Rattle.residency.specs.Shows.{ShowsPages};
 ghost use Rattle.msync.specs.Choice.{of_files, is_taken_behind, is_chosen, AreInFiles, Appends, Overflows, IsChoice, RulesSame, AreListed, AreTaken, IsNoDeviceFault};
 
 use crate::chosen::Ruling;
 use page_cache::{PageCache, TooMany};
-use paging::Core;
 use regions::Regions;
+use residency::Core;
 use vm_types::{Backing, Errno, FilePage, Levels, MSYNC_PAGES, MsyncMode, PAGE_BYTES};
 
 /// Bytes of a page, as a number of addresses.

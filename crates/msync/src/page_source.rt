@@ -6,7 +6,7 @@ ghost use Rattle.swap.specs.Slots.{slots_of, IsReady};
 
 use crate::chosen::{Residence, Spot};
 use disk_model::{DiskFault, SectorDisk};
-use mapped_memory::Memory;
+use memory::Memory;
 use swap::Swap;
 use sync_journal::{PageSource, SourceFault};
 use vm_types::Levels;

@@ -4,16 +4,16 @@ ghost use Rattle.vm_types.specs.declared.object.PageKey.TheVariants.{File};
 ghost use Rattle.vm_types.specs.Files.{inside_of, cut};
 ghost use Rattle.frames.specs.FrameTable.{IsFrame, bytes_of, with_bytes};
 ghost use Rattle.page_cache.specs.declared.place.Place.TheVariants.{Frame, Slot};
-ghost use Rattle.paging.specs.Picture.{picture_of};
-ghost use Rattle.paging.specs.Parts.{IsFit};
-ghost use Rattle.paging.specs.Leaves.{KeepsAllButFrames};
+ghost use Rattle.residency.specs.Picture.{picture_of};
+ghost use Rattle.residency.specs.Parts.{IsFit};
+ghost use Rattle.residency.specs.Leaves.{KeepsAllButFrames};
 ghost use Rattle.msync.specs.Spots.{framed_at, slotted_at, spot_at, IsSpot, AreSpots, IsSlotted, HasSlot};
 ghost use Rattle.msync.specs.Settling.{KeepsBesidePages, SettlesOne, Settles};
 
 use crate::chosen::{Residence, Spot};
 use disk_model::SectorDisk;
 use page_cache::Place;
-use paging::{Change, Core, change_leaves};
+use residency::{Change, Core, change_leaves};
 use vm_types::{FilePage, FrameNo, Levels, PageKey, SlotNo};
 
 /// Pages that were committed: bytes past the end of their files become zero, no entry says D of them, and they are touched

@@ -3,7 +3,7 @@ use crate::evictions::{
     EIGHT_PAGES, EIGHT_PAGES_SHOWN, EIGHT_PAGES_SYNCED, FORTY_LINES, LOOKED_AFTER_AN_MSYNC,
     LOOKED_AFTER_TWO_MSYNCS,
 };
-use crate::{evictions, four_levels, histories, mappings, memory, processes, shared_pages};
+use crate::{evictions, four_levels, histories, mappings, private_memory, processes, shared_pages};
 use machine::Config;
 use std::test::Fail;
 use sync_journal::Journals;
@@ -18,12 +18,12 @@ type Exchange = (&'static [u8], &'static [u8]);
 
 #[test]
 fn traces_are_answered(rt: HostRuntime) -> Result<(), Fail> {
-    expect_all(rt.alloc(), 4096, &memory::ROWS)?;
+    expect_all(rt.alloc(), 4096, &private_memory::ROWS)?;
     expect_all(rt.alloc(), 4096, &processes::ROWS)?;
     expect_all(rt.alloc(), 4096, &histories::ROWS)?;
     expect_all(rt.alloc(), 8192, &shared_pages::ROWS)?;
     expect_all(rt.alloc(), 32768, &mappings::ROWS)?;
-    for exchange in memory::LETTERS {
+    for exchange in private_memory::LETTERS {
         expect(rt.alloc(), &image_of_letters(rt.alloc())?, exchange)?;
     }
     Ok(())

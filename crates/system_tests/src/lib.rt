@@ -18,7 +18,7 @@ mod limits;
 #[cfg(test)]
 mod mappings;
 #[cfg(test)]
-mod memory;
+mod private_memory;
 #[cfg(test)]
 mod processes;
 #[cfg(test)]

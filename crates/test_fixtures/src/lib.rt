@@ -5,13 +5,13 @@ ghost use Rattle.std.specs.Prelude.{◌≡◌, ◌<◌, ◌≤◌, ℕ, None, If
 ghost use Rattle.file_store.specs.Store.{IsReadyStore, files_of};
 ghost use Rattle.file_store.specs.Standing.{AreBounded};
 ghost use Rattle.swap.specs.Slots.{IsReady};
-ghost use Rattle.paging.specs.Parts.{IsFit};
-ghost use Rattle.paging.specs.Picture.{picture_of};
+ghost use Rattle.residency.specs.Parts.{IsFit};
+ghost use Rattle.residency.specs.Picture.{picture_of};
 ghost use Rattle.msync.specs.Shows.{IsSoundCore};
 
 use disk_model::{DiskFault, SectorDisk, SimDisk};
 use file_store::{FileSource, FileStore, OpenFault, format};
-use paging::Core;
+use residency::Core;
 use std::alloc::Global;
 use std::test::Fail;
 use swap::Swap;

@@ -1,9 +1,9 @@
 use Rattle.vm_types.specs.Limits.{top_level}
 use Rattle.std.proofs.Common.{ℕ, ◌<◌}
 use Rattle.page_tables.specs.Tree.{IsPage}
-use Rattle.paging.specs.declared.leaves.Change.TheVariants as Kinds
-use Rattle.paging.specs.Picture.{picture_of}
-use Rattle.paging.specs.Leaves.{IsOver}
+use Rattle.residency.specs.declared.leaves.Change.TheVariants as Kinds
+use Rattle.residency.specs.Picture.{picture_of}
+use Rattle.residency.specs.Leaves.{IsOver}
 use Rattle.inspection.specs.Frames.{IsFrom}
 use Rattle.inspection.proofs.frame_views.first_mapper.Given as goal
 

@@ -1,9 +1,9 @@
 use Rattle.vm_types.specs.Limits.{user_end}
 use Rattle.std.proofs.Common.{inl, inr, refl, sym, ◌∙◌, arith}
 use Rattle.std.proofs.lemmas.Bool.{cases_lt, false≢true}
-use Rattle.page_ranges.proofs.Gaps.{user_inside}
-use Rattle.paging.specs.Picture.{picture_of}
-use Rattle.paging.proofs.Entries.{entry-of}
+use Rattle.ranges.proofs.Gaps.{user_inside}
+use Rattle.residency.specs.Picture.{picture_of}
+use Rattle.residency.proofs.Entries.{entry-of}
 use Rattle.inspection.proofs.Entries.{beside_zero}
 use Rattle.inspection.proofs.pages.next_entry.Goals as goal
 

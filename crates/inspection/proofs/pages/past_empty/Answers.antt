@@ -2,8 +2,8 @@ use Rattle.vm_types.specs.Limits.{top_level}
 use Rattle.std.proofs.Common.{◌≡◌, ◌≢◌, ℕ, ◌/◌, ◌<◌, ◌≤◌, subst, arith}
 use Rattle.page_tables.specs.Places.{IsTableOf}
 use Rattle.page_tables.specs.Tree.{page_entry}
-use Rattle.paging.specs.Picture.{picture_of}
-use Rattle.page_ranges.proofs.BetweenEntries.{none_between}
+use Rattle.residency.specs.Picture.{picture_of}
+use Rattle.ranges.proofs.BetweenEntries.{none_between}
 use Rattle.inspection.proofs.Entries.{some_at}
 use Rattle.inspection.proofs.pages.past_empty.Goals as goal
 

@@ -1,7 +1,7 @@
 use Rattle.vm_types.specs.Limits.{top_level}
 use Rattle.std.proofs.Common.{◌≡◌, ℕ, ◌-◌, ◌<◌, Some}
 use Rattle.page_tables.specs.Tree.{Way}
-use Rattle.paging.specs.Picture.{picture_of}
+use Rattle.residency.specs.Picture.{picture_of}
 use Rattle.inspection.specs.Walks.{IsStep}
 use Rattle.inspection.proofs.tables.level_on_way.Given as goal
 

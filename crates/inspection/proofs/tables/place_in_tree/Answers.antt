@@ -1,6 +1,6 @@
 use Rattle.vm_types.proofs.Modes.{sizes, user_pages_fit}
 use Rattle.std.proofs.Common.{ℕ, ◌∙◌, subst, arith}
-use Rattle.paging.specs.Picture.{picture_of}
+use Rattle.residency.specs.Picture.{picture_of}
 use Rattle.inspection.specs.Tables.{HaveOneWay, IsOffWay}
 use Rattle.inspection.proofs.Trees.{out_of, passed_more}
 use Rattle.inspection.proofs.tables.place_in_tree.Goals as goal

@@ -1,5 +1,5 @@
 use Rattle.std.proofs.Common.{ℕ, ◌≤◌, ◌<◌}
-use Rattle.paging.specs.Picture.{picture_of}
+use Rattle.residency.specs.Picture.{picture_of}
 use Rattle.inspection.specs.Tables.{IsOutOf}
 use Rattle.inspection.proofs.tables.place_of_table.Given as goal
 

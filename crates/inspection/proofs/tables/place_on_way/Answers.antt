@@ -1,7 +1,7 @@
 use Rattle.vm_types.proofs.Modes.{sizes}
 use Rattle.std.proofs.Common.{ℕ, ◌+◌, ◌*◌, ◌/◌, ap, arith}
 use Rattle.page_tables.proofs.Pages.{span_positive}
-use Rattle.paging.specs.Picture.{picture_of}
+use Rattle.residency.specs.Picture.{picture_of}
 use Rattle.inspection.proofs.Trees.{placed}
 use Rattle.inspection.proofs.tables.place_on_way.Goals as goal
 

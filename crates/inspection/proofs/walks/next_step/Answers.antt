@@ -5,8 +5,8 @@ use Rattle.vm_types.specs.declared.number.FrameNo.{FrameNo}
 use Rattle.sv39_walk.specs.Entry.{entry_at}
 use Rattle.sv39_walk.specs.Walk.{index_of}
 use Rattle.page_tables.specs.Tree.{IsTable, Way}
-use Rattle.paging.specs.Picture.{picture_of}
-use Rattle.paging.proofs.Entries.{entry-of}
+use Rattle.residency.specs.Picture.{picture_of}
+use Rattle.residency.proofs.Entries.{entry-of}
 use Rattle.inspection.proofs.Steps.{below, last_entry, way_below}
 use Rattle.inspection.proofs.walks.next_step.Goals as goal
 

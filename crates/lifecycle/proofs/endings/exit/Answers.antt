@@ -7,12 +7,12 @@ use Rattle.vm_types.specs.declared.object.PageKey.{PageKey}
 use Rattle.vm_types.specs.Rows.{in_row}
 use Rattle.page_tables.specs.Tree.{IsPage}
 use Rattle.page_cache.specs.CacheTable.{place_of}
-use Rattle.paging.specs.declared.kernel.Core.{Core}
-use Rattle.paging.specs.Picture.{picture_of}
-use Rattle.page_ranges.proofs.Emptied.{row_parts}
-use Rattle.page_ranges.specs.Rows.{RemapsRow, ForgetsRow}
-use Rattle.page_ranges.proofs.Forgotten.{row_forgot, others_forgot, tables_forgot, slots_forgot, none_left_forgot, files_forgot}
-use Rattle.page_ranges.specs.Steps.{KeepsBesideMemory, IsWithoutTables, ReturnsSlots, LosesSlots}
+use Rattle.residency.specs.declared.kernel.Core.{Core}
+use Rattle.residency.specs.Picture.{picture_of}
+use Rattle.ranges.proofs.Emptied.{row_parts}
+use Rattle.ranges.specs.Rows.{RemapsRow, ForgetsRow}
+use Rattle.ranges.proofs.Forgotten.{row_forgot, others_forgot, tables_forgot, slots_forgot, none_left_forgot, files_forgot}
+use Rattle.ranges.specs.Steps.{KeepsBesideMemory, IsWithoutTables, ReturnsSlots, LosesSlots}
 use Rattle.lifecycle.proofs.Ending.{spare_root, ended, none_taken_ended}
 use Rattle.lifecycle.proofs.Returned.{none_taken, still_framed}
 use Rattle.lifecycle.proofs.endings.exit.Goals as goal

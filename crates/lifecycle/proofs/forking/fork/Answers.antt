@@ -8,11 +8,11 @@ use Rattle.page_cache.specs.CacheTable.{place_of}
 use Rattle.swap.specs.declared.slots.Swap.{Swap}
 use Rattle.swap.specs.declared.pages.Pages.{Pages}
 use Rattle.swap.specs.Slots.{slots_of}
-use Rattle.paging.specs.Picture.{Picture, picture_of, attr_where, is_live}
-use Rattle.paging.specs.Calls.{UsesDevice}
-use Rattle.paging.proofs.Aging.{gives_then}
-use Rattle.mapping.proofs.Steps.{device_then}
-use Rattle.mapping.proofs.SwapSteps.{ready_released}
+use Rattle.residency.specs.Picture.{Picture, picture_of, attr_where, is_live}
+use Rattle.residency.specs.Calls.{UsesDevice}
+use Rattle.residency.proofs.Aging.{gives_then}
+use Rattle.fault.proofs.Steps.{device_then}
+use Rattle.fault.proofs.SwapSteps.{ready_released}
 use Rattle.lifecycle.specs.Changes.{IsShortToFork, StallsToFork}
 use Rattle.lifecycle.proofs.Unchanged.{parent_root, files_unchanged, places_unchanged}
 use Rattle.lifecycle.proofs.Keeping.{dead_root, live_same, files_then}

@@ -1,6 +1,6 @@
 use Rattle.std.proofs.Common.{ap, ◌∙◌}
 use Rattle.regions.specs.RunList.{attr_at}
-use Rattle.paging.specs.Picture.{picture_of}
+use Rattle.residency.specs.Picture.{picture_of}
 use Rattle.lifecycle.proofs.Alike.{alike}
 use Rattle.lifecycle.proofs.forking.map_alike.Goals as goal
 

@@ -2,7 +2,7 @@ use Rattle.std.proofs.Common.{◌≡◌, ◌+◌, ◌-◌, inl, inr, Some, true,
 use Rattle.std.specs.Prelude.{is_some}
 use Rattle.std.proofs.lemmas.Bool.{cases_lt, false≢true}
 use Rattle.vm_types.specs.Processes.{least_free_from}
-use Rattle.paging.specs.Picture.{picture_of, is_live}
+use Rattle.residency.specs.Picture.{picture_of, is_live}
 use Rattle.lifecycle.proofs.FreeNumbers.{some_number, least-here, least-next, least-none}
 use Rattle.lifecycle.proofs.numbers.free_pid.Goals as goal
 

@@ -1,6 +1,6 @@
 use Rattle.std.proofs.Common.{◌≡◌, ◌-◌, ◌≤◌}
 use Rattle.vm_types.specs.Processes.{least_free_from}
-use Rattle.paging.specs.Picture.{picture_of, is_live}
+use Rattle.residency.specs.Picture.{picture_of, is_live}
 use Rattle.lifecycle.proofs.numbers.free_pid.Given as goal
 
 abbrev pub invariant-loop-pid : goal.invariant-loop-pid

@@ -1,10 +1,10 @@
 use Rattle.std.proofs.Common.{None, ap, ◌∙◌}
 use Rattle.disk_model.specs.Moments.{Nothing}
 use Rattle.regions.proofs.ResultLemmas.{on_err}
-use Rattle.paging.specs.Picture.{Picture, picture_of, root_in}
-use Rattle.mapping.proofs.Spawning.{fit_started}
-use Rattle.mapping.proofs.Steps.{bare_freed, room_freed}
-use Rattle.mapping.proofs.Asking.{no_new_frees, asks_swap}
+use Rattle.residency.specs.Picture.{Picture, picture_of, root_in}
+use Rattle.fault.proofs.Spawning.{fit_started}
+use Rattle.fault.proofs.Steps.{bare_freed, room_freed}
+use Rattle.fault.proofs.Asking.{no_new_frees, asks_swap}
 use Rattle.lifecycle.specs.Changes.{KeepsProcesses}
 use Rattle.lifecycle.proofs.Keeping.{dead_root, pages_kept, no_copy_freed}
 use Rattle.lifecycle.proofs.Starting.{process_added, root_taken, root_given, bare_kept, no_copy, files_kept, room_kept}

@@ -6,9 +6,9 @@ use Rattle.vm_types.specs.Limits.{top_level}
 use Rattle.frames.specs.FrameTable.{FrameTable}
 use Rattle.page_tables.specs.Tree.{IsForest, IsRoot}
 use Rattle.page_tables.specs.Change.{SetsEntry}
-use Rattle.mapped_memory.specs.Notes.{HasKind, IsNumberOf, Names}
-use Rattle.mapped_memory.proofs.Noting.{set_back}
-use Rattle.mapped_memory.proofs.Numbers.{is_number}
+use Rattle.memory.specs.Notes.{HasKind, IsNumberOf, Names}
+use Rattle.memory.proofs.Noting.{set_back}
+use Rattle.memory.proofs.Numbers.{is_number}
 use Rattle.memory_tests.proofs.notes.show_for_a_moment.Goals as goal
 
 no_kind : (kinds root : ℕ) → kinds ≡ 0 → HasKind kinds root → ⊥

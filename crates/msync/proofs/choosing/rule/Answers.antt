@@ -4,8 +4,8 @@ use Rattle.vm_types.specs.declared.command.MsyncMode.TheVariants.{Async}
 use Rattle.vm_types.specs.Checks.{page_count}
 use Rattle.vm_types.specs.Rows.{is_covered}
 use Rattle.regions.specs.RunList.{attr_at}
-use Rattle.paging.specs.Picture.{picture_of, is_live}
-use Rattle.paging.proofs.Granting.{user_map-same}
+use Rattle.residency.specs.Picture.{picture_of, is_live}
+use Rattle.residency.proofs.Granting.{user_map-same}
 use Rattle.msync.specs.Choice.{of_files, is_chosen, IsChoice, RulesSame}
 use Rattle.msync.proofs.Rulings.{the_process, ruled_missing, ruled_row, ruled_sync, listed_of, taken_of, touched_within}
 use Rattle.msync.proofs.choosing.rule.Goals as goal

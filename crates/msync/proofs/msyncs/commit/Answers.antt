@@ -9,7 +9,7 @@ use Rattle.sync_journal.specs.Kinds.{IsStoreUsed}
 use Rattle.sync_journal.specs.declared.faults.CommitFault.TheVariants.{Source}
 use Rattle.vm_types.specs.Msync.{committed}
 use Rattle.vm_types.specs.declared.refusal.Stall.TheVariants.{SwapDevice}
-use Rattle.paging.specs.Picture.{picture_of, entry}
+use Rattle.residency.specs.Picture.{picture_of, entry}
 use Rattle.msync.specs.Asking.{IsSectorListed}
 use Rattle.msync.specs.Choice.{chosen_of, IsAway}
 use Rattle.msync.specs.Spots.{HasSlot}

@@ -1,6 +1,6 @@
 use Rattle.std.proofs.Common.{ℕ, ◌≡◌, ◌<◌, length}
 use Rattle.swap.specs.Slots.{slots_of}
-use Rattle.paging.specs.Picture.{picture_of}
+use Rattle.residency.specs.Picture.{picture_of}
 use Rattle.msync.specs.Choice.{page_at}
 use Rattle.msync.specs.Spots.{spot_at, bytes_there, IsSpot}
 use Rattle.msync.proofs.msyncs.fill_spots.Given as goal

@@ -2,7 +2,7 @@ use Rattle.std.proofs.Common.{inl, inr}
 use Rattle.msync.specs.Choice.{chosen_of, page_at, IsAway, TakesAway}
 use Rattle.msync.proofs.Asking.{asks_taken}
 use Rattle.msync.proofs.Committing.{takes_some, commits_under}
-use Rattle.paging.specs.Picture.{picture_of}
+use Rattle.residency.specs.Picture.{picture_of}
 use Rattle.msync.proofs.msyncs.msync.Goals as goal
 
 pub returns-in-Takes-clause-passes : goal.returns-in-Takes-clause-passes

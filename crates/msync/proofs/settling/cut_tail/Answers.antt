@@ -3,7 +3,7 @@ use Rattle.vm_types.specs.declared.object.PageKey.TheVariants.{File}
 use Rattle.frames.specs.declared.role.Role.TheVariants.{Cache}
 use Rattle.frames.specs.FrameTable.{FrameTable, role_of, IsFrame, IsHeld, IsSound, with_bytes, is_handed_out}
 use Rattle.frames.proofs.FrameLemmas.{with_bytes-others, IsSound-step, IsHeld-above, IsHeld-not_zero}
-use Rattle.paging.specs.Picture.{Picture, picture_of}
+use Rattle.residency.specs.Picture.{Picture, picture_of}
 use Rattle.msync.proofs.Settled.{fit_cut}
 use Rattle.msync.proofs.settling.cut_tail.Goals as goal
 

@@ -1,5 +1,5 @@
 use Rattle.std.proofs.Common.{◌≡◌, ℕ, inl, inr, length, refl, ◌∙◌, subst, arith}
-use Rattle.paging.specs.Picture.{picture_of}
+use Rattle.residency.specs.Picture.{picture_of}
 use Rattle.msync.specs.Settling.{Settles}
 use Rattle.msync.proofs.SettledPages.{beside_none, beside_then, settles_none, spot_left, settles_more}
 use Rattle.msync.proofs.settling.settle.Goals as goal

@@ -3,8 +3,8 @@ use Rattle.std.proofs.lemmas.Bool.{false≢true}
 use Rattle.vm_types.specs.declared.object.PageKey.TheVariants.{File}
 use Rattle.swap.specs.Slots.{slots_of}
 use Rattle.page_cache.specs.CacheTable.{place_of, is_touched}
-use Rattle.paging.specs.Picture.{Picture, picture_of}
-use Rattle.paging.proofs.Homing.{Homes, fit_homed}
+use Rattle.residency.specs.Picture.{Picture, picture_of}
+use Rattle.residency.proofs.Homing.{Homes, fit_homed}
 use Rattle.msync.proofs.Homing.{settles_homed}
 use Rattle.msync.proofs.settling.settle_in_slot.Goals as goal
 

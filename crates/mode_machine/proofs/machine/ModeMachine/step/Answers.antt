@@ -5,7 +5,7 @@ use Rattle.vm_types.specs.declared.reply.Reply.TheVariants.{Past}
 use Rattle.vm_types.specs.State.{State}
 use Rattle.mode_machine.specs.Commands.{DoesAsTold}
 use Rattle.mode_machine.specs.Machine.{Meets}
-use Rattle.paging.specs.Picture.{picture_of}
+use Rattle.residency.specs.Picture.{picture_of}
 use Rattle.mode_machine.proofs.Tidied.{tidied}
 use Rattle.mode_machine.proofs.machine.ModeMachine.step.Goals as goal
 

@@ -1,5 +1,0 @@
-use Rattle.std.proofs.Common.{refl}
-use Rattle.calls.proofs.accesses.fetch.Goals as goal
-
-pub returns-clause-comes : goal.returns-clause-comes
-returns-clause-comes g c = c.read.ensures.comes.fetch refl refl

@@ -1,0 +1,104 @@
+use Rattle.vm_types.specs.Limits.{user_end}
+use Rattle.std.proofs.Common.{ℕ, refl, Ok, Err, Result, ◌/◌, ◌<◌, sym, ap, ◌∙◌, subst}
+use Rattle.vm_types.specs.Verdict.{Fine}
+use Rattle.vm_types.specs.declared.number.FrameNo.{FrameNo}
+use Rattle.vm_types.specs.declared.number.Phys.{Phys}
+use Rattle.vm_types.specs.declared.refusal.Stall.{Stall}
+use Rattle.residency.specs.declared.kernel.Core.{Core}
+use Rattle.residency.specs.Picture.{picture_of}
+use Rattle.fault.specs.declared.refusal.AccessRefusal.TheVariants as Refusal
+use Rattle.fault.specs.Outcome.{seen_at}
+use Rattle.fault.specs.Serving.{Reaches, Serves}
+use Rattle.fault.proofs.Serving.{reaches_stall, tends_none}
+use Rattle.fault.proofs.Verdicts.{placed_made, grants_made, page_user}
+use Rattle.fault.proofs.Wanted.{root_live, walked_same, no_walk}
+use Rattle.fault.proofs.accesses.access.Goals as goal
+
+pub returns-in-Place : goal.returns-in-Place
+returns-in-Place g c =
+    let pid = c.args.pid in
+    let addr = c.args.addr in
+    let before = c.args.core.now in
+    let old = picture_of before in
+    let found = c.in-Place.ensures.found in
+    let P : Core g.row.D.Denot g.row.E.Denot g.row.M.Denot g.M.Levels → Type 0 = λ m. Reaches g.D.SectorDisk g.E.SectorDisk before m pid addr c.args.width c.args.access (Ok c.in-Place.place) in
+    subst P (sym c.find.ensures.same)
+    (record {
+      tends = tends_none g.D.SectorDisk g.E.SectorDisk before pid (addr / 4096) c.args.access c.requires.fit c.requires.store c.requires.swap;
+      placed = found.0;
+      walked = λ place walked. (refl, ap (λ p. Ok p) (walked_same old pid addr c.args.width c.args.access c.in-Place.place place found.0 walked));
+      granted = λ trusted. found.1;
+      counts = (refl, refl, refl);
+      refusal = tt;
+    })
+
+pub returns-in-Fault : goal.returns-in-Fault
+returns-in-Fault g c =
+    let pid = c.args.pid in
+    let addr = c.args.addr in
+    let before = c.args.core.now in
+    let P : Core g.row.D.Denot g.row.E.Denot g.row.M.Denot g.M.Levels → Type 0 = λ m. Reaches g.D.SectorDisk g.E.SectorDisk before m pid addr c.args.width c.args.access (Err (Refusal.Fault c.fault.result)) in
+    subst P (sym c.find.ensures.same)
+    (record {
+      tends = tends_none g.D.SectorDisk g.E.SectorDisk before pid (addr / 4096) c.args.access c.requires.fit c.requires.store c.requires.swap;
+      placed = tt;
+      walked = λ place walked. absurd (no_walk (picture_of before) pid addr c.args.width c.args.access c.in-Fault.code place c.in-Fault.ensures.found walked);
+      granted = λ trusted. tt;
+      counts = tt;
+      refusal = (c.in-Fault.code, c.in-Fault.ensures.found, c.fault.ensures, refl);
+    })
+
+pub returns-in_err-frame-in-Page : goal.returns-in_err-frame-in-Page
+returns-in_err-frame-in-Page g c =
+    let pid = c.args.pid in
+    let addr = c.args.addr in
+    let attr = c.in-Page.attr in
+    let access = c.args.access in
+    let before = c.args.core.now in
+    let after = c.grant.new.core in
+    let old = picture_of before in
+    let found = c.in-Page.ensures.found in
+    let stall = c.in_err-frame-in-Page.field-0.0 in
+    let failed : Result FrameNo Stall = Err stall in
+    let M : Core g.row.D.Denot g.row.E.Denot g.row.M.Denot g.M.Levels → Type 0 = λ m. Serves g.D.SectorDisk g.E.SectorDisk m after pid c.in-Page.page attr access failed in
+    let P : ℕ → Type 0 = λ x. Serves g.D.SectorDisk g.E.SectorDisk before after pid x attr access failed in
+    let serves = subst P found.page_is (subst M c.find.ensures.same c.in_err-frame-in-Page.ensures.serves) in
+    reaches_stall g.D.SectorDisk g.E.SectorDisk before after pid addr c.args.width access c.from_residual.result stall c.from_residual.ensures.1 serves.tends
+    (λ place walked. found.unwalked walked.root place walked.lives walked.place) (record { seen = seen_at old pid c.in-Page.page attr; fine = found.fine; stalled = serves.stalled })
+
+pub keep_line-requires-clause-user : goal.keep_line-requires-clause-user
+keep_line-requires-clause-user g c =
+    (page_user (picture_of c.args.core.now) c.args.pid c.in-Page.page c.in-Page.attr c.requires.fit c.in-Page.ensures.found.allowed.mapped).1
+
+pub returns-in_ok-frame-in-Page : goal.returns-in_ok-frame-in-Page
+returns-in_ok-frame-in-Page g c =
+    let pid = c.args.pid in
+    let addr = c.args.addr in
+    let width = c.args.width in
+    let attr = c.in-Page.attr in
+    let access = c.args.access in
+    let before = c.args.core.now in
+    let after = c.grant.new.core in
+    let old = picture_of before in
+    let new = picture_of after in
+    let found = c.in-Page.ensures.found in
+    let frame = c.in_ok-frame-in-Page.frame in
+    let here : Result FrameNo Stall = Ok frame in
+    let M : Core g.row.D.Denot g.row.E.Denot g.row.M.Denot g.M.Levels → Type 0 = λ m. Serves g.D.SectorDisk g.E.SectorDisk m after pid c.in-Page.page attr access here in
+    let P : ℕ → Type 0 = λ x. Serves g.D.SectorDisk g.E.SectorDisk before after pid x attr access here in
+    let serves = subst P found.page_is (subst M c.find.ensures.same c.in_ok-frame-in-Page.ensures.serves) in
+    let fine = found.fine ∙ ap (λ k. Fine (seen_at old pid k attr)) found.page_is in
+    let root = root_live old pid c.requires.lives in
+    let K : Core g.row.D.Denot g.row.E.Denot g.row.M.Denot g.M.Levels → Type 0 = λ m. Reaches g.D.SectorDisk g.E.SectorDisk before m pid addr width access (Ok c.place_in.result) in
+    let Q : Phys → Type 0 = λ x. Reaches g.D.SectorDisk g.E.SectorDisk before after pid addr width access (Ok x) in
+    let R : ℕ → Type 0 = λ x. x < user_end g.M.Levels.mode in
+    subst K (sym c.keep_line.ensures) (subst Q (sym c.place_in.ensures)
+    (record {
+      tends = serves.tends;
+      placed = placed_made old new pid root.0 addr width access attr frame.0 serves.proceeds.fit (serves.proceeds.spaces.root pid ∙ root.1)
+          (subst R found.page_is (page_user old pid c.in-Page.page attr c.requires.fit found.allowed.mapped).1) fine serves.entered;
+      walked = λ place walked. absurd (found.unwalked walked.root place walked.lives walked.place);
+      granted = λ trusted. grants_made old new pid addr width access attr frame.0 fine (serves.ready trusted);
+      counts = serves.counts;
+      refusal = tt;
+    }))

@@ -1,0 +1,108 @@
+use Rattle.std.proofs.Common.{◌≡◌, inl, inr, None, sym, ◌∙◌, rules}
+use Rattle.disk_model.specs.Moments.{Nothing}
+use Rattle.frames.specs.declared.role.Role.TheVariants.{Free, Private}
+use Rattle.frames.specs.FrameTable.{IsFull}
+use Rattle.regions.proofs.ResultLemmas.{on_err}
+use Rattle.residency.specs.Picture.{Picture, picture_of}
+use Rattle.fault.specs.Changes.{IsWhole}
+use Rattle.fault.proofs.Steps.{same_with, moves_freed, bare_freed}
+use Rattle.fault.proofs.Slotted.{slotted_frees}
+use Rattle.fault.proofs.TablesLinked.{pages_linked, bare_linked, slotted_linked, tables_linked, spaces_linked, room_linked, fit_after, no_copy_linked, missing_taken}
+use Rattle.fault.proofs.TablesGiven.{still_wanted, links_none, gives_linked, links_linked}
+use Rattle.fault.proofs.Asking.{no_new_frees, no_new_linked, asks_slots_if, asks_swap}
+use Rattle.fault.proofs.NoTables.{full_stays}
+use Rattle.fault.proofs.linking.link_one.Goals as goal
+
+pub link_table-requires-clause-root : goal.link_table-requires-clause-root
+link_table-requires-clause-root g c =
+    let took = c.in_ok-table.ensures.taken in
+    took.adds.roots c.args.root.0 (took.fit.rooted.roots c.args.pid c.args.root.0 (took.frees.pages.root c.args.pid ∙ c.requires.lives))
+
+pub link_table-requires-clause-missing : goal.link_table-requires-clause-missing
+link_table-requires-clause-missing g c none =
+    let took = c.in_ok-table.ensures.taken in
+    c.requires.missing (sym (took.adds.missing c.args.root.0 c.args.page (took.fit.rooted.roots c.args.pid c.args.root.0 (took.frees.pages.root c.args.pid ∙ c.requires.lives))
+    ∙ took.frees.missing c.args.pid c.args.root.0 c.args.page c.requires.lives) ∙ none)
+
+pub returns-clause-links : goal.returns-clause-links
+returns-clause-links g c =
+    let old : Picture g.M.Levels.mode = picture_of c.args.core.now in
+    let taken : Picture g.M.Levels.mode = picture_of c.take_table.new.self in
+    let new : Picture g.M.Levels.mode = record taken { frames = c.link_table.new.memory } in
+    let took = c.in_ok-table.ensures.taken in
+    let done = c.in_ok-table.ensures in
+    let links = c.link_table.ensures.links in
+    let beside = same_with taken c.link_table.new.memory in
+    let n = c.in_ok-table.table.0 in
+    let gives = gives_linked old taken new c.args.pid c.args.root.0 c.args.page n took c.requires.lives links beside done.gives in
+    record {
+      takes = record {
+        moves = record {
+          fit = fit_after old taken new c.args.pid c.args.root.0 c.args.page n took c.requires.lives links beside c.requires.mapped;
+          swap = done.swap;
+          spaces = spaces_linked old taken new c.args.pid c.args.root.0 c.args.page n took c.requires.lives links beside;
+          tables = tables_linked old taken new c.args.pid c.args.root.0 c.args.page n took c.requires.lives links beside;
+          room = room_linked old taken new c.args.pid c.args.root.0 c.args.page n took c.requires.lives links beside;
+          store = done.rest.store;
+          device = done.device;
+        };
+        pages = pages_linked (picture_of c.args.core.now) taken (record taken { frames = c.link_table.new.memory }) c.args.pid c.args.root.0 c.args.page c.in_ok-table.table.0 c.in_ok-table.ensures.taken c.requires.lives
+            c.link_table.ensures.links (same_with taken c.link_table.new.memory);
+        bare = bare_linked (picture_of c.args.core.now) taken (record taken { frames = c.link_table.new.memory }) c.args.pid c.args.root.0 c.args.page c.in_ok-table.table.0 c.in_ok-table.ensures.taken c.requires.lives
+            c.link_table.ensures.links (same_with taken c.link_table.new.memory);
+        gives = gives;
+        tried = search rules;
+        no_copy = no_copy_linked (picture_of c.args.core.now) taken (record taken { frames = c.link_table.new.memory }) c.args.pid c.args.root.0 c.args.page c.in_ok-table.table.0 c.in_ok-table.ensures.taken c.requires.lives
+            c.link_table.ensures.links (same_with taken c.link_table.new.memory);
+        asks = asks_slots_if g.E.SectorDisk (IsFull c.link_table.new.memory) c.args.core.now c.take_table.new.self None Nothing (full_stays old new None gives)
+            (asks_swap g.E.SectorDisk c.args.core.now c.take_table.new.self None Nothing done.asked);
+        asks_later = no_new_linked (picture_of c.args.core.now) taken c.in_ok-table.table.0 c.requires.fit c.in_ok-table.ensures.taken (record taken { frames = c.link_table.new.memory })
+            c.link_table.ensures.links.kept (same_with taken c.link_table.new.memory);
+        full = search rules;
+        refuses = search rules;
+        short = search rules;
+        cause = search rules;
+      };
+      tables = links_linked (picture_of c.args.core.now) taken (record taken { frames = c.link_table.new.memory }) c.args.pid c.args.root.0 c.args.page c.in_ok-table.table.0 c.in_ok-table.ensures.taken c.requires.lives
+          c.link_table.ensures.links (same_with taken c.link_table.new.memory) c.in_ok-table.ensures.gives c.in_ok-table.ensures.only;
+      slotted = slotted_linked (picture_of c.args.core.now) taken (record taken { frames = c.link_table.new.memory }) c.args.pid c.args.root.0 c.args.page c.in_ok-table.table.0 c.in_ok-table.ensures.taken c.requires.lives
+          c.link_table.ensures.links (same_with taken c.link_table.new.memory);
+      wanted = search rules;
+    }
+
+pub returns-clause-lowered : goal.returns-clause-lowered
+returns-clause-lowered g c =
+    let taken : Picture g.M.Levels.mode = picture_of c.take_table.new.self in
+    c.link_table.ensures.links.lowered
+    ∙ missing_taken (picture_of c.args.core.now) taken (record taken { frames = c.link_table.new.memory }) c.args.pid c.args.root.0 c.args.page c.in_ok-table.table.0 c.in_ok-table.ensures.taken c.requires.lives
+    c.link_table.ensures.links (same_with taken c.link_table.new.memory)
+
+pub returns-in_err-table-clause-links : goal.returns-in_err-table-clause-links
+returns-in_err-table-clause-links g c =
+    let done = c.in_err-table.ensures in
+    let old : Picture g.M.Levels.mode = picture_of c.args.core.now in
+    let new : Picture g.M.Levels.mode = picture_of c.take_table.new.self in
+    record {
+      takes = record {
+        moves = moves_freed g.E.SectorDisk c.args.core.now c.take_table.new.self _ done.fit done.swap done.frees done.rest done.device;
+        pages = search rules;
+        bare = bare_freed (picture_of c.args.core.now) (picture_of c.take_table.new.self) _ c.in_err-table.ensures.frees;
+        gives = search rules;
+        tried = search rules;
+        no_copy = λ n is. elim (c.in_err-table.ensures.frees.roles n) [
+          | inl same ↦ sym same ∙ is
+          | inr freed ↦ (let bad : Free ≡ Private = sym freed.0 ∙ is in (cc))
+        ];
+        asks = asks_slots_if g.E.SectorDisk (IsFull c.take_table.new.self.frames) c.args.core.now c.take_table.new.self None Nothing (λ full. done.full)
+            (asks_swap g.E.SectorDisk c.args.core.now c.take_table.new.self None Nothing done.asked);
+        asks_later = no_new_frees (picture_of c.args.core.now) (picture_of c.take_table.new.self) None c.in_err-table.ensures.frees c.requires.fit;
+        full = search rules;
+        refuses = search rules;
+        short = search rules;
+        cause = search rules;
+      };
+      tables = links_none (picture_of c.args.core.now) (picture_of c.take_table.new.self) c.args.pid c.args.page done.frees.count done.still;
+      slotted = slotted_frees (λ p. ⊥) (λ q p. ⊥) (picture_of c.args.core.now) (picture_of c.take_table.new.self) _ c.in_err-table.ensures.frees;
+      wanted = on_err c.from_residual.result (IsWhole new c.args.pid c.args.page → ⊥)
+          (still_wanted old new c.args.pid c.args.root.0 c.args.page c.in_err-table.ensures.frees c.requires.lives c.requires.missing);
+    }

@@ -1,0 +1,76 @@
+use Rattle.std.proofs.Common.{◌≢◌, Some, refl, sym, ap, ◌∙◌, subst, arith, rules}
+use Rattle.disk_model.specs.Moments.{Nothing}
+use Rattle.frames.specs.FrameTable.{FrameTable, IsFrame, bytes_of, role_of, count_of}
+use Rattle.frames.proofs.FrameLemmas.{with_bytes-others, with_bytes-same}
+use Rattle.residency.specs.Picture.{Picture, picture_of}
+use Rattle.residency.specs.Steps.{ChangesFrame}
+use Rattle.fault.proofs.Asking.{asks_swap}
+use Rattle.fault.proofs.SwapSteps.{own_written}
+use Rattle.fault.proofs.owning.take_copy.Goals as goal
+
+pub fill-requires-clause-source : goal.fill-requires-clause-source
+fill-requires-clause-source g c =
+    let took = c.in_ok-own.ensures.taken in
+    let a = took.own.takes.others.frames in
+    let b = took.frees.count in
+    let low = c.requires.source in
+    omega (arith, a, b, low)
+
+pub returns : goal.returns
+returns g c =
+    let took = c.in_ok-own.ensures.taken in
+    let found = took.found in
+    let taken : Picture g.M.Levels.mode = picture_of c.take_own.new.self in
+    let n = c.in_ok-own.own.0 in
+    let m = c.args.from.0 in
+    let w = bytes_of taken.frames m in
+    let P : FrameTable → Type 0 = λ t. ChangesFrame found (record taken { frames = t }) n in
+    let apart : m ≢ n = λ e. c.requires.in_use (sym (took.frees.kept_role m refl) ∙ ap (role_of found.frames) e ∙ took.own.takes.was_free) in
+    let inside : IsFrame taken.frames n = (let same = took.own.takes.others.frames in let low = took.own.takes.inside in omega (arith, same, low)) in
+    record {
+      taken = record {
+        found = found;
+        fit = took.fit;
+        frees = took.frees;
+        changes = subst P (sym c.fill.ensures) (record {
+          slots = took.own.slots;
+          frames = own_written found.frames taken.frames n w took.own.takes;
+          was_free = took.own.takes.was_free;
+          others = took.own.others;
+          root = took.own.root;
+          at = took.own.at;
+          place = took.own.place;
+          touched = took.own.touched;
+          files = took.own.files;
+        });
+        inside = (let Q : FrameTable → Type 0 = λ t. IsFrame t n in let same = (with_bytes-others taken.frames n w).frames in subst Q (sym c.fill.ensures) (omega (arith, same, inside)));
+        role = ap (λ t. role_of t n) c.fill.ensures ∙ took.own.takes.kind_set;
+        count = ap (λ t. count_of t n) c.fill.ensures ∙ took.own.takes.counted;
+        noted = took.own.noted;
+        copied = ap (λ t. bytes_of t n) c.fill.ensures ∙ with_bytes-same taken.frames n w inside ∙ took.own.takes.others.bytes m apart ∙ took.frees.kept_bytes m refl c.requires.datum;
+      };
+      rest = search rules;
+      swap = search rules;
+      device = search rules;
+      asks = asks_swap g.E.SectorDisk c.args.core.now c.take_own.new.self (Some c.args.from) Nothing c.in_ok-own.ensures.asked;
+      fit = search rules;
+      frees = search rules;
+      refuses = search rules;
+      short = search rules;
+      cause = search rules;
+    }
+
+pub returns-in_err-own : goal.returns-in_err-own
+returns-in_err-own g c =
+    record {
+      taken = search rules;
+      rest = search rules;
+      swap = search rules;
+      device = search rules;
+      asks = asks_swap g.E.SectorDisk c.args.core.now c.take_own.new.self (Some c.args.from) Nothing c.in_err-own.ensures.asked;
+      fit = search rules;
+      frees = search rules;
+      refuses = search rules;
+      short = search rules;
+      cause = search rules;
+    }

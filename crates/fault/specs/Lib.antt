@@ -1,0 +1,14 @@
+pub mod Leaves
+pub mod Changes
+pub mod Files
+pub mod Asking
+pub mod PagingIn
+pub mod OwnFrames
+pub mod WaysLinked
+pub mod Shown
+pub mod Wants
+pub mod Outcome
+pub mod Found
+pub mod Granted
+pub mod AccessAsking
+pub mod Serving

@@ -1,0 +1,237 @@
+//! A page brought in, so that its entry grants an access.
+ghost use Rattle.std.specs.Prelude.{◌≡◌, ◌≢◌, ℕ, true, false, None, Some};
+ghost use Rattle.vm_types.specs.declared.access.Access.TheVariants as Access;
+ghost use Rattle.vm_types.specs.declared.region.Backing.TheVariants.{Private};
+ghost use Rattle.vm_types.specs.Attributes.{stands_on};
+ghost use Rattle.file_store.specs.Store.{IsReadyStore};
+ghost use Rattle.swap.specs.Slots.{IsReady};
+ghost use Rattle.residency.specs.Seats.{seat};
+ghost use Rattle.residency.specs.Picture.{picture_of, is_live, entry, is_private, is_swapped};
+ghost use Rattle.residency.specs.Parts.{IsFit, IsBehind, is_shared};
+ghost use Rattle.fault.specs.Changes.{StandsAt, KeepsRows};
+ghost use Rattle.fault.specs.Found.{IsOpenTo, IsWayTo};
+ghost use Rattle.fault.specs.Serving.{Serves};
+
+use crate::finding::Way;
+use crate::{
+    Spot, ZERO_PAGE, cached, link_tables, number_at, own_frame, regrant, root_of, show_cached,
+    show_zero, swap_in, touch,
+};
+use disk_model::SectorDisk;
+use residency::Core;
+use sv39_walk::Pte;
+use vm_types::{Access, Attr, Backing, FilePage, FrameNo, Levels, PageKey, Pid, Stall, Vpn};
+
+/// Makes the entry of a mapped page, which allows the access, grant it: first the tables on its way are made that are missing, then the
+/// page is brought in from where it lies by then. Returns the frame that the page lies in. `way` is the way to the page, and stays so.
+///
+/// # Errors
+/// As `obtain`, where a frame is wanted and none is to be had; `SwapDevice` or `StoreDevice` where that device failed.
+pub(crate) fn grant<D: SectorDisk, E: SectorDisk, M: Levels>(
+    core: &mut Core<D, E, M>,
+    pid: Pid,
+    page: Vpn,
+    attr: Attr,
+    way: Way,
+    access: Access,
+) -> Result<FrameNo, Stall>
+    requires fit { IsFit (picture_of core.old) }
+    requires store { IsReadyStore D.SectorDisk core.old.store }
+    requires swap { IsReady E.SectorDisk core.old.swap }
+    requires lives { is_live (picture_of core.old) pid ≡ true }
+    requires way { IsWayTo (picture_of core.old) pid page way }
+    requires allowed { IsOpenTo (picture_of core.old) pid page access attr }
+    ensures serves { Serves D.SectorDisk E.SectorDisk core.old core.new pid page attr access result }
+    ensures way { IsWayTo (picture_of core.new) pid page way }
+{
+    match way.table {
+        Some(table) => {
+            let root = way.root;
+            let spot = Spot {
+                pid,
+                page,
+                root,
+                table,
+            };
+            grant_linked(core, &spot, attr, access)
+        }
+        None => grant_unlinked(core, pid, page, attr, access),
+    }
+}
+
+/// Of a page on whose way a table may be missing.
+fn grant_unlinked<D: SectorDisk, E: SectorDisk, M: Levels>(
+    core: &mut Core<D, E, M>,
+    pid: Pid,
+    page: Vpn,
+    attr: Attr,
+    access: Access,
+) -> Result<FrameNo, Stall>
+    requires fit { IsFit (picture_of core.old) }
+    requires store { IsReadyStore D.SectorDisk core.old.store }
+    requires swap { IsReady E.SectorDisk core.old.swap }
+    requires lives { is_live (picture_of core.old) pid ≡ true }
+    requires allowed { IsOpenTo (picture_of core.old) pid page access attr }
+    ensures { Serves D.SectorDisk E.SectorDisk core.old core.new pid page attr access result }
+{
+    let table = link_tables(core, pid, page)?;
+    let root = root_of(core, pid);
+    let spot = Spot {
+        pid,
+        page,
+        root,
+        table,
+    };
+    grant_linked(core, &spot, attr, access)
+}
+
+/// Of a page on whose way no table is missing.
+fn grant_linked<D: SectorDisk, E: SectorDisk, M: Levels>(
+    core: &mut Core<D, E, M>,
+    spot: &Spot,
+    attr: Attr,
+    access: Access,
+) -> Result<FrameNo, Stall>
+    requires spot { StandsAt (picture_of core.old) spot.now }
+    requires store { IsReadyStore D.SectorDisk core.old.store }
+    requires swap { IsReady E.SectorDisk core.old.swap }
+    requires allowed { IsOpenTo (picture_of core.old) spot.now.pid spot.now.page access attr }
+    ensures serves { Serves D.SectorDisk E.SectorDisk core.old core.new spot.now.pid spot.now.page attr access result }
+    ensures rows { KeepsRows (picture_of core.old) (picture_of core.new) }
+{
+    let was = number_at(core, spot);
+    if was.is_swapped() {
+        return swap_in(core, spot, attr);
+    }
+    match access {
+        Access::Load | Access::Fetch => grant_read(core, spot, attr, was, access),
+        Access::Store => grant_store(core, spot, attr, was),
+    }
+}
+
+/// Makes the entry of a page that doesn't lie in a slot grant loads or fetches, as its permission has them. `was` is what it was.
+fn grant_read<D: SectorDisk, E: SectorDisk, M: Levels>(
+    core: &mut Core<D, E, M>,
+    spot: &Spot,
+    attr: Attr,
+    was: Pte,
+    access: Access,
+) -> Result<FrameNo, Stall>
+    requires spot { StandsAt (picture_of core.old) spot.now }
+    requires store { IsReadyStore D.SectorDisk core.old.store }
+    requires swap { IsReady E.SectorDisk core.old.swap }
+    requires allowed { IsOpenTo (picture_of core.old) spot.now.pid spot.now.page access attr }
+    requires was { was.0 ≡ entry (picture_of core.old) spot.now.pid spot.now.page }
+    requires here { is_swapped (entry (picture_of core.old) spot.now.pid spot.now.page) ≡ false }
+    requires reads { access ≢ Access.Store }
+    ensures serves { Serves D.SectorDisk E.SectorDisk core.old core.new spot.now.pid spot.now.page attr access result }
+    ensures rows { KeepsRows (picture_of core.old) (picture_of core.new) }
+{
+    if was.to_u64() != 0 {
+        regrant(core, spot, attr);
+        return Ok(was.frame_number());
+    }
+    match attr.backing.stands_on() {
+        None => {
+            show_zero(core, spot, attr);
+            Ok(ZERO_PAGE)
+        }
+        Some(stored) => {
+            let frame = cached(core, stored)?;
+            show_cached(core, spot, attr, frame);
+            Ok(frame)
+        }
+    }
+}
+
+/// Makes the entry of a page that doesn't lie in a slot grant stores. `was` is what it was.
+fn grant_store<D: SectorDisk, E: SectorDisk, M: Levels>(
+    core: &mut Core<D, E, M>,
+    spot: &Spot,
+    attr: Attr,
+    was: Pte,
+) -> Result<FrameNo, Stall>
+    requires spot { StandsAt (picture_of core.old) spot.now }
+    requires store { IsReadyStore D.SectorDisk core.old.store }
+    requires swap { IsReady E.SectorDisk core.old.swap }
+    requires allowed { IsOpenTo (picture_of core.old) spot.now.pid spot.now.page Access.Store attr }
+    requires was { was.0 ≡ entry (picture_of core.old) spot.now.pid spot.now.page }
+    requires here { is_swapped (entry (picture_of core.old) spot.now.pid spot.now.page) ≡ false }
+    ensures serves { Serves D.SectorDisk E.SectorDisk core.old core.new spot.now.pid spot.now.page attr Access.Store result }
+    ensures rows { KeepsRows (picture_of core.old) (picture_of core.new) }
+{
+    match attr.backing {
+        Backing::Anon => grant_own(core, spot, attr),
+        Backing::Private(file_page) => {
+            if was.is_private() {
+                grant_own(core, spot, attr)
+            } else {
+                grant_copy(core, spot, attr, file_page)
+            }
+        }
+        Backing::Shared(file_page) => grant_shared(core, spot, attr, PageKey::File(file_page)),
+        Backing::Common(object_page) => {
+            grant_shared(core, spot, attr, PageKey::Object(object_page))
+        }
+    }
+}
+
+/// Of a page that lies in a frame of its own, or behind which there are zeros.
+fn grant_own<D: SectorDisk, E: SectorDisk, M: Levels>(
+    core: &mut Core<D, E, M>,
+    spot: &Spot,
+    attr: Attr,
+) -> Result<FrameNo, Stall>
+    requires spot { StandsAt (picture_of core.old) spot.now }
+    requires store { IsReadyStore D.SectorDisk core.old.store }
+    requires swap { IsReady E.SectorDisk core.old.swap }
+    requires allowed { IsOpenTo (picture_of core.old) spot.now.pid spot.now.page Access.Store attr }
+    requires here { is_swapped (entry (picture_of core.old) spot.now.pid spot.now.page) ≡ false }
+    requires not_shared { is_shared attr.backing ≡ false }
+    requires in_memory { is_private (entry (picture_of core.old) spot.now.pid spot.now.page) ≡ false → (n : ℕ) × IsBehind (picture_of core.old) attr.backing n }
+    ensures serves { Serves D.SectorDisk E.SectorDisk core.old core.new spot.now.pid spot.now.page attr Access.Store result }
+    ensures rows { KeepsRows (picture_of core.old) (picture_of core.new) }
+{
+    own_frame(core, spot, attr)
+}
+
+/// Of a private page of a file that has no copy of its own.
+fn grant_copy<D: SectorDisk, E: SectorDisk, M: Levels>(
+    core: &mut Core<D, E, M>,
+    spot: &Spot,
+    attr: Attr,
+    file_page: FilePage,
+) -> Result<FrameNo, Stall>
+    requires spot { StandsAt (picture_of core.old) spot.now }
+    requires store { IsReadyStore D.SectorDisk core.old.store }
+    requires swap { IsReady E.SectorDisk core.old.swap }
+    requires allowed { IsOpenTo (picture_of core.old) spot.now.pid spot.now.page Access.Store attr }
+    requires private { attr.backing ≡ Private file_page }
+    requires none { seat (entry (picture_of core.old) spot.now.pid spot.now.page) ≡ None }
+    ensures serves { Serves D.SectorDisk E.SectorDisk core.old core.new spot.now.pid spot.now.page attr Access.Store result }
+    ensures rows { KeepsRows (picture_of core.old) (picture_of core.new) }
+{
+    cached(core, PageKey::File(file_page))?;
+    own_frame(core, spot, attr)
+}
+
+/// Of a shared page of a file or an object.
+fn grant_shared<D: SectorDisk, E: SectorDisk, M: Levels>(
+    core: &mut Core<D, E, M>,
+    spot: &Spot,
+    attr: Attr,
+    stored: PageKey,
+) -> Result<FrameNo, Stall>
+    requires spot { StandsAt (picture_of core.old) spot.now }
+    requires store { IsReadyStore D.SectorDisk core.old.store }
+    requires swap { IsReady E.SectorDisk core.old.swap }
+    requires allowed { IsOpenTo (picture_of core.old) spot.now.pid spot.now.page Access.Store attr }
+    requires shared { is_shared attr.backing ≡ true }
+    requires stands { stands_on attr.backing ≡ Some stored }
+    ensures serves { Serves D.SectorDisk E.SectorDisk core.old core.new spot.now.pid spot.now.page attr Access.Store result }
+    ensures rows { KeepsRows (picture_of core.old) (picture_of core.new) }
+{
+    let frame = cached(core, stored)?;
+    touch(core, spot, attr, stored, frame);
+    Ok(frame)
+}

@@ -1,0 +1,106 @@
+-- The seats that entries name, and the pages of one table.
+use Rattle.vm_types.specs.Limits.{top_level}
+use Rattle.std.proofs.Common.{◌≡◌, ◌≢◌, ◌⊎◌, ℕ, inl, inr, Bool, true, false, Option, Some, None, refl, sym, ap, ◌∙◌, subst}
+use Rattle.std.specs.Prelude.{IsSome}
+use Rattle.std.proofs.lemmas.Bool.{cases_Bool, false≢true}
+use Rattle.vm_types.specs.declared.number.FrameNo.{FrameNo}
+use Rattle.vm_types.specs.declared.number.SlotNo.{SlotNo}
+use Rattle.vm_types.specs.declared.region.Attr.{Attr}
+use Rattle.frames.specs.FrameTable.{FrameTable}
+use Rattle.sv39_walk.specs.Entry.{is_valid, has_bit, frame_of}
+use Rattle.page_tables.specs.declared.forms.Entry.{Entry}
+use Rattle.page_tables.specs.declared.forms.Entry.TheVariants.{Leaf, Swapped, Parked}
+use Rattle.page_tables.specs.declared.forms.Entry.TheVariants as Entries
+use Rattle.page_tables.specs.Entry.{number_of, IsEntry}
+use Rattle.page_tables.specs.Tree.{IsPage}
+use Rattle.memory.specs.Notes.{NamesNoMore}
+use Rattle.residency.specs.Seats.{Seat, InFrame, InSlot, seat, is_private, is_swapped}
+use Rattle.residency.specs.Picture.{Picture, entry}
+use Rattle.residency.specs.Parts.{IsEntryFor, Nothing, Resident, Away, IsGranting, IsMapped}
+use Rattle.residency.proofs.Start.{seat-none, no_bit}
+use Rattle.page_tables.proofs.Bits.{parked_private, parked_framed}
+use Rattle.fault.proofs.Forms.{seat_own, seat_common, seat_away}
+use Rattle.fault.proofs.SwapSteps.{away_seat}
+use Rattle.ranges.proofs.Returning.{not_away, no_seat}
+
+-- an entry that names a frame as the process's own names a seat
+pub own_some : (e : ℕ) → is_private e ≡ true → seat e ≢ None
+own_some e own none = let bad : Some (InFrame (frame_of e)) ≡ None = sym (seat_own e own) ∙ none in (cc)
+
+-- and so does that of a page in a slot
+pub away_some : (e : ℕ) → is_private e ≡ false → is_swapped e ≡ true → seat e ≢ None
+away_some e common away none = let bad : Some (InSlot (frame_of e)) ≡ None = sym (seat_away e common away) ∙ none in (cc)
+
+pub seat_some : (o : Option Seat) (y : Seat) → o ≡ Some y → o ≢ None
+seat_some o y is none = let bad : None ≡ Some y = sym none ∙ is in (cc)
+
+leaf_here : (e : ℕ) → is_valid e ≡ true → is_swapped e ≡ false
+leaf_here e valid = rw valid refl
+
+pub leaf_common : (entry : Entry) (l : _) → entry ≡ Leaf l → IsEntry entry → is_private l.0 ≡ false → seat (number_of entry) ≡ None
+leaf_common entry l is form common =
+    let P : Entry → Type 0 = λ x. IsEntry x in
+    let f = subst P is form in
+    ap (λ x. seat (number_of x)) is ∙ seat_common l.0 common (leaf_here l.0 f.0)
+
+pub leaf_own : (entry : Entry) (l : _) → entry ≡ Leaf l → is_private l.0 ≡ true → seat (number_of entry) ≢ None
+leaf_own entry l is own none = own_some l.0 own (sym (ap (λ x. seat (number_of x)) is) ∙ none)
+
+parked_here : (e : ℕ) → has_bit e 1 ≡ false → is_swapped e ≡ false
+parked_here e clear = elim (cases_Bool (is_valid e)) [
+  | inl valid ↦ rw valid refl
+  | inr invalid ↦ rw (invalid, clear) refl
+]
+
+pub parked_common : (entry : Entry) (f : FrameNo) (p : Bool) → entry ≡ Parked f p → p ≡ false → seat (number_of entry) ≡ None
+parked_common entry f p is common =
+    ap (λ x. seat (number_of x)) is
+    ∙ seat_common (number_of (Parked f p)) (parked_private f.0 p ∙ common) (parked_here (number_of (Parked f p)) (parked_framed f.0 p))
+
+pub parked_own : (entry : Entry) (f : FrameNo) (p : Bool) → entry ≡ Parked f p → p ≡ true → seat (number_of entry) ≢ None
+parked_own entry f p is own none = own_some (number_of (Parked f p)) (parked_private f.0 p ∙ own) (sym (ap (λ x. seat (number_of x)) is) ∙ none)
+
+pub slot_seat : (entry : Entry) (k : SlotNo) → entry ≡ Swapped k → IsEntry entry → seat (number_of entry) ≡ Some (InSlot k.0)
+slot_seat entry k is form =
+    let P : Entry → Type 0 = λ x. IsEntry x in
+    ap (λ x. seat (number_of x)) is ∙ away_seat k.0 (subst P is form)
+
+-- an entry that names a frame as the process's own is one of a page in a frame
+in_one_place : (n k : ℕ) → Some (InFrame n) ≡ Some (InSlot k) → ⊥
+in_one_place n k e = (cc)
+
+pub own_framed : (entry : Entry) → IsEntry entry → is_private (number_of entry) ≡ true → (entry ≡ Entries.None) ⊎ ((k : SlotNo) × (entry ≡ Swapped k)) → ⊥
+own_framed entry form own (inl is) = false≢true (sym no_bit ∙ sym (ap (λ x. is_private (number_of x)) is) ∙ own)
+own_framed entry form own (inr slot) = in_one_place (frame_of (number_of entry)) slot.0.0 (sym (seat_own (number_of entry) own) ∙ slot_seat entry slot.0 slot.1 form)
+
+-- and so does an entry that names a seat, and isn't that of a page in a slot
+pub framed_own : (entry : Entry) → IsEntry entry → ((k : SlotNo) → entry ≢ Swapped k) → seat (number_of entry) ≢ None → is_private (number_of entry) ≡ true
+framed_own entry form other some = elim (cases_Bool (is_private (number_of entry))) [
+  | inl own ↦ own
+  | inr common ↦ absurd (some (no_seat (number_of entry) common (not_away (number_of entry) entry refl form other)))
+]
+
+pub nothing_common : (entry : Entry) → entry ≡ Entries.None → seat (number_of entry) ≡ None
+nothing_common entry is = ap (λ x. seat (number_of x)) is ∙ seat-none
+
+-- a page that isn't mapped has no copy
+unmapped_for : {mode : ℕ} (c : Picture mode) (attr : Option Attr) (e : ℕ) → IsEntryFor c attr e → attr ≡ None → seat e ≡ None
+unmapped_for c attr e (Nothing none) gone = ap seat none ∙ seat-none
+unmapped_for c attr e (Resident a is resident) gone = let bad : None ≡ Some a = sym gone ∙ is in (cc)
+unmapped_for c attr e (Away a is away) gone = let bad : None ≡ Some a = sym gone ∙ is in (cc)
+
+pub unmapped_none : {mode : ℕ} (c : Picture mode) (pid page : ℕ) → IsGranting c → IsPage (top_level mode) page → c.at pid page ≡ None → seat (entry c pid page) ≡ None
+unmapped_none c pid page granting h gone = unmapped_for c (c.at pid page) (entry c pid page) (granting.entries pid page h) gone
+
+-- a page with a copy of its own is mapped
+copied_for : {mode : ℕ} (c : Picture mode) (attr : Option Attr) (e : ℕ) → IsEntryFor c attr e → seat e ≢ None → IsSome attr
+copied_for c attr e (Nothing none) some = absurd (some (ap seat none ∙ seat-none))
+copied_for c attr e (Resident a is resident) some = let P : Option Attr → Type 0 = λ x. IsSome x in subst P (sym is) refl
+copied_for c attr e (Away a is away) some = let P : Option Attr → Type 0 = λ x. IsSome x in subst P (sym is) refl
+
+pub copied_mapped : {mode : ℕ} (c : Picture mode) (pid page : ℕ) → IsGranting c → IsPage (top_level mode) page → seat (entry c pid page) ≢ None → IsMapped c pid page
+copied_mapped c pid page granting h some = copied_for c (c.at pid page) (entry c pid page) (granting.entries pid page h) some
+
+-- a number that names a seat names no frame in common
+pub seat_names : (mode : ℕ) (t : FrameTable) (table index e : ℕ) → seat e ≢ None → NamesNoMore mode t table index e
+seat_names mode t table index e has some here common = absurd (has (seat_common e common here))

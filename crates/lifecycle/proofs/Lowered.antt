@@ -1,0 +1,92 @@
+-- The entry of a process's own page is set to a weaker one.
+use Rattle.vm_types.specs.Limits.{top_level}
+use Rattle.std.proofs.Common.{◌≡◌, ◌≢◌, ℕ, inl, inr, true, Some, None, get_or, refl, sym, ap, ◌∙◌}
+use Rattle.std.proofs.lemmas.Bool.{cases_Bool, false≢true}
+use Rattle.frames.specs.declared.role.Role.TheVariants.{Free}
+use Rattle.sv39_walk.specs.Entry.{is_valid, frame_of}
+use Rattle.page_tables.specs.Change.{SetsEntry}
+use Rattle.page_tables.specs.Tree.{IsPage}
+use Rattle.page_tables.proofs.Places.{row_stays}
+use Rattle.residency.specs.Seats.{InFrame, seat, is_private}
+use Rattle.residency.specs.Picture.{Picture, entry}
+use Rattle.residency.specs.Parts.{IsRootedBut, IsEntryFor, IsFit, nowhere}
+use Rattle.residency.specs.Steps.{SameBeside, SetsPage}
+use Rattle.residency.proofs.Granting.{entry_for-same}
+use Rattle.residency.proofs.Moves.{behind_kept}
+use Rattle.residency.proofs.Setting.{fit_set, set_views, set_held}
+use Rattle.residency.proofs.TableSteps.{sets_page, rooted_set}
+use Rattle.fault.proofs.Forms.{seat_own}
+use Rattle.fault.proofs.Steps.{tables_same}
+use Rattle.lifecycle.specs.Shares.{IsTableFor, Weakens, Withdraws, lowered_entry}
+use Rattle.lifecycle.proofs.Given.{set_counts}
+use Rattle.lifecycle.proofs.Weaker.{weaker_for, weaker_seat, weaker_lowered, leaf_own}
+
+-- an entry was set
+pub places_set : {mode : ℕ} (old new : Picture mode) (m r page number : ℕ) → IsRootedBut old m → ((pid : ℕ) → new.root pid ≡ old.root pid)
+    → SetsEntry old.frames new.frames (top_level mode) r page number → (q row n : ℕ) → IsTableFor old q row n → IsTableFor new q row n
+places_set {mode = mode} old new m r page number rooted root sets q row n place x is =
+    row_stays old.frames new.frames (top_level mode) r page number sets x row n (rooted.roots q x (sym (root q) ∙ is)) (place x (sym (root q) ∙ is))
+
+module _ {mode : ℕ} (old new : Picture mode) (pid r page e : ℕ) (fit : IsFit old) (root : old.root pid ≡ Some r) (h : IsPage (top_level mode) page) (valid : is_valid (entry old pid page) ≡ true)
+    (some : seat (entry old pid page) ≢ None) (weaker : Weakens (entry old pid page) e) (sets : SetsEntry old.frames new.frames (top_level mode) r page e) (beside : SameBeside old new) where
+  own : is_private (entry old pid page) ≡ true
+  own = leaf_own (entry old pid page) valid some
+
+  page_set : SetsPage old new pid page e
+  page_set = sets_page old new 0 pid r page e fit.rooted root h sets beside
+
+  for_page : IsEntryFor new (old.at pid page) e
+  for_page = weaker_for new (old.at pid page) (entry old pid page) e own weaker
+      (entry_for-same old new (old.at pid page) (entry old pid page) (behind_kept old new beside)
+      (λ private write one. page_set.shares.counts (frame_of (entry old pid page)) (fit.counted.1.named pid page (InFrame (frame_of (entry old pid page))) h (seat_own (entry old pid page) private)) ∙ one)
+      (fit.granting.entries pid page h))
+
+  pub fit_lowered : IsFit new
+  fit_lowered = fit_set old new pid page e 0 page_set h for_page (rooted_set old new 0 r page e fit.rooted sets beside)
+      (λ p v common. absurd (false≢true (sym common ∙ weaker.private ∙ own))) (weaker_seat (entry old pid page) e weaker) nowhere 0 fit
+
+  pub withdraws : Withdraws old new pid page e
+  withdraws = record {
+    sets = page_set;
+    lowered = weaker_lowered (entry old pid page) e own weaker;
+    seated = weaker_seat (entry old pid page) e weaker;
+    unwritten = λ v. weaker.unwritten valid;
+    views = set_views old new pid page e 0 nowhere 0 fit page_set h (weaker_seat (entry old pid page) e weaker);
+    held = set_held old new pid page e 0 nowhere 0 fit page_set;
+    room = record { frames = sets.kept.frames; slots = ap (λ t. t.total) beside.slots };
+    tables = tables_same old new (λ q x p lives. sets.missing x p (fit.rooted.roots q x lives));
+    roles = λ n. ap (λ rs. get_or rs n Free) sets.kept.roles;
+    counts = set_counts old new beside.slots sets.kept;
+    pointers = λ n i m. (sets.pointers n i m).0;
+  }
+
+same_beside : {mode : ℕ} (c : Picture mode) → SameBeside c c
+same_beside c = record { slots = refl; root = λ q. refl; at = λ q p. refl; page_of = λ n. refl; place = λ p. refl; touched = λ p. refl; files = λ f. refl }
+
+same_number : (e n : ℕ) → n ≡ e → Weakens e n → n ≡ lowered_entry e
+same_number e n same weaker = elim (cases_Bool (is_private e)) [
+  | inl private ↦ rw private weaker.number
+  | inr common ↦ rw common same
+]
+
+-- the entry is as it was, where it had no W
+pub withdrawn_already : {mode : ℕ} (c : Picture mode) (pid page e : ℕ) → entry c pid page ≡ e → Weakens (entry c pid page) e → Withdraws c c pid page e
+withdrawn_already c pid page e here weaker = record {
+  sets = record {
+    changed = here;
+    others = λ q p h other. refl;
+    beside = same_beside c;
+    shares = record { private = λ n is. is; was_private = λ n is. is; cache = λ n is. is; was_cache = λ n is. is; counts = λ n is. refl };
+    bytes = λ n is. refl;
+  };
+  lowered = same_number (entry c pid page) e (sym here) weaker;
+  seated = ap seat (sym here);
+  unwritten = λ v. weaker.unwritten (sym weaker.valid ∙ v);
+  views = λ q p. refl;
+  held = λ p. refl;
+  room = record { frames = refl; slots = refl };
+  tables = tables_same c c (λ q r p lives. refl);
+  roles = λ n. refl;
+  counts = λ z. refl;
+  pointers = λ n i m p. p;
+}

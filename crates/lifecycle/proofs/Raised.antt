@@ -1,0 +1,247 @@
+-- One more shares a frame or a slot, for which no entry names it yet: no process sees that.
+use Rattle.vm_types.specs.Limits.{top_level}
+use Rattle.std.proofs.Common.{◌≡◌, ◌≢◌, ℕ, inl, inr, ◌<◌, ◌≤◌, true, [], Option, Some, get_or, refl, sym, ap, ◌∙◌, subst, arith}
+use Rattle.std.proofs.lemmas.Bool.{cases_eq, false≢true}
+use Rattle.vm_types.specs.declared.object.PageKey.TheVariants.{File, Object}
+use Rattle.vm_types.specs.declared.object.PageKey.{PageKey}
+use Rattle.vm_types.specs.declared.region.Attr.{Attr}
+use Rattle.vm_types.specs.declared.region.Backing.{Backing}
+use Rattle.vm_types.specs.declared.region.Backing.TheVariants as Backings
+use Rattle.frames.specs.declared.role.Role.TheVariants.{Free, Table, Private}
+use Rattle.frames.specs.FrameTable.{FrameTable, bytes_of, role_of, count_of, Shares}
+use Rattle.swap.specs.Slots.{SlotTable, IsInUse}
+use Rattle.swap.specs.Slots as Slots
+use Rattle.sv39_walk.specs.Entry.{is_valid, can_write, frame_of}
+use Rattle.page_tables.proofs.Data.{KeepsTrees, data_shared}
+use Rattle.page_tables.proofs.Places.{row_same}
+use Rattle.page_cache.specs.declared.place.Place.{Place}
+use Rattle.page_cache.specs.declared.place.Place.TheVariants.{Home, Frame, Slot}
+use Rattle.residency.specs.Seats.{Seat, InFrame, InSlot, seat, is_private}
+use Rattle.residency.specs.Picture.{Picture, entry, held, bytes_at, bytes_in, IsOwned, count_in, page_in}
+use Rattle.residency.specs.Parts.{IsEntryFor, Nothing, Resident, Away, IsBehind, IsGranting, IsFit, IsFitBut, nowhere}
+use Rattle.residency.specs.Steps.{SameBeside}
+use Rattle.residency.proofs.Entries.{entries_kept}
+use Rattle.residency.proofs.Granting.{KeepsBehind, past_end-same, user_map-same, readable-same, granting_same}
+use Rattle.residency.proofs.Moves.{behind_kept}
+use Rattle.residency.proofs.Places.{places_same, dirty_same}
+use Rattle.residency.proofs.Puts.{SameButSlots}
+use Rattle.residency.proofs.Putting.{with_slots}
+use Rattle.residency.proofs.Rooted.{rooted_same, rooted_frames}
+use Rattle.residency.proofs.Seats.{counted_shared}
+use Rattle.residency.proofs.Setting.{each_view, view_seated, held_same}
+use Rattle.fault.proofs.Forms.{seat_own}
+use Rattle.fault.proofs.Steps.{same_with, tables_same}
+use Rattle.lifecycle.specs.Shares.{IsUnwritten, RaisesSeat}
+
+behind-same : {mode : ℕ} (old new : Picture mode) (b : Backing) (n : ℕ) → KeepsBehind old new → IsBehind old b n → IsBehind new b n
+behind-same old new Backings.Anon n kept behind = behind
+behind-same old new (Backings.Private p) n kept behind = kept.place (File p) n behind
+behind-same old new (Backings.Shared p) n kept behind = kept.place (File p) n behind
+behind-same old new (Backings.Common p) n kept behind = kept.place (Object p) n behind
+
+-- an entry of a page stands for it, where a frame to which it lets stores through is still nobody else's
+entry_for-leaf : {mode : ℕ} (old new : Picture mode) (attr : Option Attr) (e : ℕ) → KeepsBehind old new
+    → (is_valid e ≡ true → is_private e ≡ true → can_write e ≡ true → count_of old.frames (frame_of e) ≡ 1 → count_of new.frames (frame_of e) ≡ 1)
+    → IsEntryFor old attr e → IsEntryFor new attr e
+entry_for-leaf old new attr e kept count (Nothing none) = Nothing none
+entry_for-leaf old new attr e kept count (Resident a is resident) = Resident a is (record {
+  framed = resident.framed;
+  inside = past_end-same old new a.backing kept.files ∙ resident.inside;
+  private = resident.private;
+  behind = λ c. behind-same old new a.backing (frame_of e) kept (resident.behind c);
+  leaf = λ valid. (let leaf = resident.leaf valid in record {
+    within = leaf.within;
+    sole = λ private write. count valid private write (leaf.sole private write);
+    common = leaf.common;
+  });
+})
+entry_for-leaf old new attr e kept count (Away a is away) = Away a is (record {
+  swapped = away.swapped;
+  common = away.common;
+  inside = past_end-same old new a.backing kept.files ∙ away.inside;
+  not_shared = away.not_shared;
+})
+
+-- a frame
+module _ {mode : ℕ} (old : Picture mode) (n : ℕ) (fit : IsFit old) (own : role_of old.frames n ≡ Private) (unwritten : IsUnwritten old (InFrame n)) (t : FrameTable) (shares : Shares old.frames t n) where
+  abbrev new : Picture mode
+  new = record old { frames = t }
+
+  beside : SameBeside old new
+  beside = same_with old t
+
+  trees : KeepsTrees old.frames t (top_level mode)
+  trees = data_shared old.frames t (top_level mode) n fit.rooted.forest shares (λ table. (let bad : Private ≡ Table = sym own ∙ table in (cc)))
+
+  entries : (q p : ℕ) → entry new q p ≡ entry old q p
+  entries q p = entries_kept old new 0 fit.rooted trees.entries beside.root q p
+
+  roles : (m : ℕ) → role_of t m ≡ role_of old.frames m
+  roles m = ap (λ r. get_or r m Free) shares.roles_kept
+
+  bytes : (m : ℕ) → bytes_of t m ≡ bytes_of old.frames m
+  bytes m = ap (λ b. get_or b m []) shares.bytes_kept
+
+  forth : (z : Seat) → IsOwned old z → IsOwned new z
+  forth (InFrame m) is = roles m ∙ is
+  forth (InSlot k) is = is
+
+  back : (z : Seat) → IsOwned new z → IsOwned old z
+  back (InFrame m) is = sym (roles m) ∙ is
+  back (InSlot k) is = is
+
+  counts : (z : Seat) → z ≢ InFrame n → count_in new z ≡ count_in old z
+  counts (InFrame m) ne = shares.others.counts m (λ e. ne (ap (λ i. InFrame i) e))
+  counts (InSlot k) ne = refl
+
+  pages : (sp : ℕ → ℕ) (z : Seat) → page_in new sp z ≡ page_in old sp z
+  pages sp (InFrame m) = refl
+  pages sp (InSlot k) = refl
+
+  granting : IsGranting new
+  granting = record {
+    entries = λ q p h. (
+        let here = entry_for-leaf old new (old.at q p) (entry old q p) (behind_kept old new beside)
+        (λ valid private write one. elim (cases_eq (frame_of (entry old q p)) n) [
+          | inl is ↦ absurd (false≢true (sym (unwritten q p h (seat_own (entry old q p) private ∙ ap (λ i. Some (InFrame i)) is) valid) ∙ write))
+          | inr ne ↦ shares.others.counts (frame_of (entry old q p)) ne ∙ one
+        ])
+        (fit.granting.entries q p h) in
+        rw (entries q p) here);
+    user = λ q. user_map-same mode (old.at q) (new.at q) (λ p. refl) (fit.granting.user q);
+    readable = λ q. readable-same (old.at q) (new.at q) (λ p. refl) (fit.granting.readable q);
+    objects = fit.granting.objects;
+  }
+
+  pub fit_frame : IsFitBut new (InFrame n) 1 0
+  fit_frame = record {
+    counted = (
+      fit.counted.0,
+      counted_shared mode (entry old) (entry new) (IsOwned old) (IsOwned new) (count_in old) (count_in new) (page_in old fit.counted.0) (page_in new fit.counted.0)
+          (λ q p h. ap seat (entries q p)) (InFrame n) nowhere fit.counted.1 forth back (λ z ne is. counts z ne) (λ z is. pages fit.counted.0 z) shares.raised,
+    );
+    rooted = rooted_same old new 0 fit.rooted trees (λ q. refl) (λ q p. refl);
+    granting = granting;
+    places = places_same old new fit.places (λ p. refl) (λ q k. refl) (λ f. refl) refl (λ m e. roles m ∙ e) (λ m e. sym (roles m) ∙ e);
+    dirty = dirty_same old new fit.dirty (λ p. refl) (λ p. refl) (λ q p h. entries q p);
+  }
+
+  seat_bytes : (z : Seat) → bytes_in new.frames new.slots z ≡ bytes_in old.frames old.slots z
+  seat_bytes (InFrame m) = bytes m
+  seat_bytes (InSlot k) = refl
+
+  pub raises_frame : RaisesSeat old new (InFrame n)
+  raises_frame = record {
+    beside = record { root = λ q. refl; at = λ q p. refl; page_of = λ m. refl; place = λ p. refl; touched = λ p. refl; files = λ f. refl };
+    room = record { frames = shares.others.frames; slots = refl };
+    roles = roles;
+    entries = entries;
+    views = λ q p. view_seated old new q p refl (ap seat (entries q p)) (λ z is. seat_bytes z);
+    held = λ p. held_same old new p refl refl (λ m at. bytes m);
+    tables = tables_same old new (λ q r p e. trees.missing r p (fit.rooted.roots q r e));
+    rows = λ q r row m lives here. (
+        let table = (fit.rooted.roots q r lives).table in
+        row_same old.frames t fit.rooted.forest trees.forest trees.same (top_level mode) r row m table ((trees.tables r).0 table) here);
+    raised = shares.raised;
+    others = counts;
+    pointers = λ m i k. trees.same.forth m i k;
+    bytes = λ k used. refl;
+  }
+
+-- a slot
+module _ {mode : ℕ} (old : Picture mode) (k : ℕ) (fit : IsFit old) (own : IsOwned old (InSlot k)) (t : SlotTable) (shares : Slots.Shares old.slots t k) where
+  abbrev now : Picture mode
+  now = record old { slots = t }
+
+  same : SameButSlots old now
+  same = with_slots old t
+
+  more : (j : ℕ) → old.slots.count j ≤ t.count j
+  more j = elim (cases_eq j k) [
+    | inl e ↦ (let P : ℕ → Type 0 = λ i. old.slots.count i ≤ t.count i in subst P (sym e) (let r = shares.raised in omega (arith, r)))
+    | inr ne ↦ (let c = shares.others.counts j ne in omega (arith, c))
+  ]
+
+  used_before : (j : ℕ) → 0 < t.count j → 0 < old.slots.count j
+  used_before j used = elim (cases_eq j k) [
+    | inl e ↦ (let P : ℕ → Type 0 = λ i. 0 < old.slots.count i in subst P (sym e) own.0)
+    | inr ne ↦ (let c = shares.others.counts j ne in omega (arith, c, used))
+  ]
+
+  slot_forth : (z : Seat) → IsOwned old z → IsOwned now z
+  slot_forth (InFrame m) is = is
+  slot_forth (InSlot j) is = ((let m = more j in let some = is.0 in omega (arith, m, some)), is.1)
+
+  slot_back : (z : Seat) → IsOwned now z → IsOwned old z
+  slot_back (InFrame m) is = is
+  slot_back (InSlot j) is = (used_before j is.0, is.1)
+
+  slot_counts : (z : Seat) → z ≢ InSlot k → count_in now z ≡ count_in old z
+  slot_counts (InFrame m) ne = refl
+  slot_counts (InSlot j) ne = shares.others.counts j (λ e. ne (ap (λ i. InSlot i) e))
+
+  slot_pages : (sp : ℕ → ℕ) (z : Seat) → page_in now sp z ≡ page_in old sp z
+  slot_pages sp (InFrame m) = refl
+  slot_pages sp (InSlot j) = refl
+
+  pub fit_slot : IsFitBut now (InSlot k) 1 0
+  fit_slot = record {
+    counted = (
+      fit.counted.0,
+      counted_shared mode (entry old) (entry now) (IsOwned old) (IsOwned now) (count_in old) (count_in now) (page_in old fit.counted.0) (page_in now fit.counted.0)
+          (λ q p h. ap seat (same.entries q p)) (InSlot k) nowhere fit.counted.1 slot_forth slot_back (λ z ne is. slot_counts z ne) (λ z is. slot_pages fit.counted.0 z) shares.raised,
+    );
+    rooted = rooted_frames old now 0 fit.rooted refl (λ q. refl) (λ q p. refl);
+    granting = granting_same old now fit.granting (record { place = λ p n e. e; files = λ f. refl }) (λ q p h private one. one) (λ q p. refl) (λ q p h. same.entries q p);
+    places = record {
+      cached = fit.places.cached;
+      held = fit.places.held;
+      apart = fit.places.apart;
+      slotted = λ p j e. elim (cases_eq j k) [
+        | inl is ↦ absurd (own.1 p (e ∙ ap (λ i. Slot (record { 0 = i })) is))
+        | inr ne ↦ shares.others.counts j ne ∙ fit.places.slotted p j e
+      ];
+      used = λ j some. elim (fit.places.used j (used_before j some)) [
+        | inl is ↦ inl (some, is.1)
+        | inr file ↦ inr file
+      ];
+      inside = fit.places.inside;
+    };
+    dirty = dirty_same old now fit.dirty (λ p. refl) (λ p. refl) (λ q p h. same.entries q p);
+  }
+
+  slot_bytes : (j : ℕ) → IsInUse old.slots j → t.bytes j ≡ old.slots.bytes j
+  slot_bytes j used = elim (cases_eq j k) [
+    | inl e ↦ ap t.bytes e ∙ shares.bytes_kept ∙ ap old.slots.bytes (sym e)
+    | inr ne ↦ shares.others.bytes j ne used
+  ]
+
+  seen_bytes : (z : Seat) → IsOwned old z → bytes_in now.frames now.slots z ≡ bytes_in old.frames old.slots z
+  seen_bytes (InFrame m) is = refl
+  seen_bytes (InSlot j) is = slot_bytes j is.0
+
+  place_bytes : (p : PageKey) (x : Place) → old.place p ≡ x → bytes_at now.frames now.slots x ≡ bytes_at old.frames old.slots x
+  place_bytes p Home at = refl
+  place_bytes p (Frame m) at = refl
+  place_bytes p (Slot j) at = ap (λ (w : _). Some w) (slot_bytes j.0 (let one = fit.places.slotted p j.0 at in omega (arith, one)))
+
+  slot_held : (p : PageKey) → held now p ≡ held old p
+  unfolding held
+  slot_held p = place_bytes p (old.place p) refl
+
+  pub raises_slot : RaisesSeat old now (InSlot k)
+  raises_slot = record {
+    beside = record { root = λ q. refl; at = λ q p. refl; page_of = λ m. refl; place = λ p. refl; touched = λ p. refl; files = λ f. refl };
+    room = record { frames = refl; slots = shares.others.total };
+    roles = λ n. refl;
+    entries = same.entries;
+    views = λ q p. each_view old now fit.granting (λ q' p'. refl) q p (λ h. view_seated old now q p refl (ap seat (same.entries q p))
+        (λ z is. seen_bytes z (fit.counted.1.named q p z h is)));
+    held = slot_held;
+    tables = tables_same old now (λ q r p e. refl);
+    rows = λ q r row m lives here. here;
+    raised = shares.raised;
+    others = slot_counts;
+    pointers = λ n i m p. p;
+    bytes = slot_bytes;
+  }

@@ -1,0 +1,55 @@
+use Rattle.vm_types.proofs.Modes.{user_pages_fit}
+use Rattle.vm_types.specs.Limits.{top_level}
+use Rattle.std.proofs.Common.{◌≡◌, ℕ, inl, inr, ◌+◌, ◌/◌, refl, sym, ap, ◌∙◌, subst, arith}
+use Rattle.std.proofs.lemmas.Bool.{cases_eq, cases_lt}
+use Rattle.page_tables.specs.Places.{IsTableOf}
+use Rattle.residency.specs.Seats.{seat}
+use Rattle.residency.specs.Picture.{Picture, picture_of, entry}
+use Rattle.residency.proofs.Entries.{entry-of}
+use Rattle.residency.proofs.Start.{seat-none}
+use Rattle.lifecycle.proofs.Passed.{same_table, none_passed}
+use Rattle.lifecycle.proofs.linking.first_copy.Goals as goal
+
+pub table_of-requires-clause-root : goal.table_of-requires-clause-root
+table_of-requires-clause-root g c = c.requires.fit.rooted.roots c.args.pid c.root_of-root.result.0 c.root_of-root.ensures
+
+pub returns-then-is_own-clause-some : goal.returns-then-is_own-clause-some
+returns-then-is_own-clause-some g c =
+    let old : Picture g.M.Levels.mode = picture_of c.args.core.now in
+    let same = same_table c.args.start c.loop-page.page c.args.stop c.loop-page.invariant.from c.loop-page-test.true c.requires.one_table in
+    let T : ℕ → Type 0 = λ x. IsTableOf c.args.core.now.frames (top_level g.M.Levels.mode) c.root_of-root.result.0 x c.in-Ok.table.0 in
+    let is : c.number_in.result.0 ≡ entry old c.args.pid c.loop-page.page =
+    c.number_in.ensures c.root_of-root.result.0 c.loop-page.page (subst T (sym same) c.in-Ok.ensures.found) refl
+    ∙ sym (entry-of old c.args.pid c.root_of-root.result.0 c.loop-page.page c.root_of-root.ensures) in
+    record {
+      row = ap (λ x. x / 512) c.user_page.ensures ∙ same;
+      copy = (
+        omega (arith, c.user_page.ensures, c.loop-page-test.true, c.requires.high, user_pages_fit g.M.Levels.mode),
+        λ none. c.is_own.ensures.own c.if-is_own.true (ap seat (is ∙ ap (entry old c.args.pid) (sym c.user_page.ensures)) ∙ none),
+      );
+    }
+
+pub loop-page-preserved : goal.loop-page-preserved
+loop-page-preserved g c =
+    let old : Picture g.M.Levels.mode = picture_of c.args.core.now in
+    let k = c.loop-page.invariant in
+    let same = same_table c.args.start c.loop-page.page c.args.stop k.from c.loop-page-test.true c.requires.one_table in
+    let T : ℕ → Type 0 = λ x. IsTableOf c.args.core.now.frames (top_level g.M.Levels.mode) c.root_of-root.result.0 x c.in-Ok.table.0 in
+    let is : c.number_in.result.0 ≡ entry old c.args.pid c.loop-page.page =
+    c.number_in.ensures c.root_of-root.result.0 c.loop-page.page (subst T (sym same) c.in-Ok.ensures.found) refl
+    ∙ sym (entry-of old c.args.pid c.root_of-root.result.0 c.loop-page.page c.root_of-root.ensures) in
+    let from = k.from in
+    let step = c.next_entry-page.ensures in
+    let further = step.from in
+    let within = step.within in
+    record {
+      from = omega (arith, from, further);
+      none = λ page least below. elim (cases_lt page c.loop-page.page) [
+        | inl before ↦ k.none page least before
+        | inr over ↦ elim (cases_eq page c.loop-page.page) [
+          | inl e ↦ ap (λ x. seat (entry old c.args.pid x)) e ∙ ap seat (sym is) ∙ c.is_own.ensures.other c.if-is_own.false
+          | inr ne ↦ ap seat (none_passed old c.args.pid c.root_of-root.result.0 c.args.start c.args.stop c.in-Ok.table.0 (c.loop-page.page + 1) c.next_entry-page.result
+              c.root_of-root.ensures c.in-Ok.ensures.found c.requires.one_table (omega (arith, from)) within step.passed page (omega (arith, over, ne)) below) ∙ seat-none
+        ]
+      ];
+    }

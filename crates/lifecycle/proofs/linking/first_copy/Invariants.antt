@@ -1,0 +1,13 @@
+use Rattle.std.proofs.Common.{◌≡◌, ◌-◌, ◌<◌, ◌≤◌, ℕ, None}
+use Rattle.residency.specs.Seats.{seat}
+use Rattle.residency.specs.Picture.{picture_of, entry}
+use Rattle.lifecycle.proofs.linking.first_copy.Given as goal
+
+abbrev pub invariant-loop-page : goal.invariant-loop-page
+invariant-loop-page g l = record {
+  from : l.fn.start ≤ l.page;
+  none : (page : ℕ) → l.fn.start ≤ page → page < l.page → seat (entry (picture_of l.core) l.fn.pid page) ≡ None;
+}
+
+abbrev pub decreases-loop-page : goal.decreases-loop-page
+decreases-loop-page g l = l.stop - l.page

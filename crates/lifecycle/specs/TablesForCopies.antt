@@ -1,0 +1,52 @@
+-- What the first pass of a fork needs, and what it comes to: the tables that the child wants.
+use Rattle.vm_types.specs.declared.mode.Levels as Levels
+use Rattle.std.specs.Prelude.{◌≡◌, ◌<◌, ◌≤◌, ◌/◌, ℕ, true, Result, OnOk, OnErr}
+use Rattle.vm_types.specs.Limits.{table_entries}
+use Rattle.vm_types.specs.declared.refusal.Stall.{Stall}
+use Rattle.disk_model.specs.declared.sector_disk.SectorDisk.{Ghosts}
+use Rattle.residency.specs.declared.kernel.Core.{Core}
+use Rattle.residency.specs.Picture.{Picture, picture_of, is_live}
+use Rattle.residency.specs.Parts.{IsFit}
+use Rattle.fault.specs.WaysLinked.{TakesForTables}
+use Rattle.ranges.specs.Steps.{IsStepEnd}
+use Rattle.lifecycle.specs.Steps.{HasCopy, HasTables, LacksTableForCopy, LinksCopies}
+
+module _ {mode : ℕ} where
+  -- In a fork, memory is fit, and both processes live, with the same pages.
+  pub record IsForking (c : Picture mode) (parent child : ℕ) : Type 0 where
+    pub fit : IsFit c
+    pub parent_lives : is_live c parent ≡ true
+    pub child_lives : is_live c child ≡ true
+    pub same : (page : ℕ) → c.at child page ≡ c.at parent page
+
+  -- A step of the pass goes on at a page past the first, which is that of the next table, or the end.
+  pub record StepsOn (c : Picture mode) (pid page end next : ℕ) : Type 0 where
+    pub further : page < next
+    pub within : next ≤ end
+    pub end_of_step : IsStepEnd c pid page end next
+
+  -- The page is one of the same table, and its process has a copy of it.
+  pub record IsFirstCopy (c : Picture mode) (pid start page : ℕ) : Type 0 where
+    pub row : page / table_entries ≡ start / table_entries
+    pub copy : HasCopy c pid page
+
+module _ {M : Type 0} {m : Levels.Ghosts M} {D E : Type 0} (h : Ghosts E) where
+  -- A child wants tables for the copies that its parent has:
+  pub record LinksForCopies {T : Type 0} (old new : Core D E M m) (parent child : ℕ) (result : Result T Stall) : Type 0 where
+    -- frames are taken for tables on the ways to these, and for no others,
+    pub takes : TakesForTables h old new result
+    pub open takes use *
+    pub tables : LinksCopies (picture_of old) (picture_of new) parent child
+    -- where none is missing nothing is done,
+    pub idle : HasTables (picture_of old) parent child → new ≡ old
+    -- and where it stalls, one was missing, and still is.
+    pub wanted : OnErr result (LacksTableForCopy (picture_of old) parent child)
+    pub lacks : OnErr result (LacksTableForCopy (picture_of new) parent child)
+
+  -- A child has its tables:
+  pub record MakesReady {T : Type 0} (old new : Core D E M m) (parent child : ℕ) (result : Result T Stall) : Type 0 where
+    -- those that are missing are linked, if frames are to be had for them;
+    pub links : LinksForCopies old new parent child result
+    pub open links use *
+    -- then none is missing for a copy of its parent's.
+    pub linked : OnOk result (HasTables (picture_of new) parent child)

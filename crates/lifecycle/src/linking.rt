@@ -1,0 +1,131 @@
+//! The child's tables.
+ghost use Rattle.std.specs.Prelude.{◌≡◌, ◌≢◌, ℕ, ◌+◌, ◌*◌, ◌/◌, ◌<◌, ◌≤◌, true, false, Option, None, OnOk, IfOk, IfSome, IfNone};
+ghost use Rattle.vm_types.specs.Limits.{user_end, table_entries};
+ghost use Rattle.swap.specs.Slots.{IsReady};
+ghost use Rattle.residency.specs.Seats.{seat};
+ghost use Rattle.residency.specs.Picture.{picture_of, entry, is_live};
+ghost use Rattle.residency.specs.Parts.{IsFit};
+ghost use Rattle.fault.specs.Changes.{IsWhole};
+ghost use Rattle.lifecycle.specs.TablesForCopies.{IsFirstCopy, IsForking, LinksForCopies, MakesReady, StepsOn};
+ghost use Rattle.lifecycle.specs.Steps.{HasTablesFrom, IsMappedRow};
+
+use disk_model::SectorDisk;
+use fault::{link_tables, root_of};
+use memory::{number_in, table_of};
+use ranges::{gap_end, next_entry, table_end, user_page};
+use residency::Core;
+use sv39_walk::{Pte, TABLE_ENTRIES};
+use vm_types::{Levels, Pid, Stall, USER_START, Vpn};
+
+/// Makes for the child, whose pages are mapped as the parent's, every table that is missing on the way to a page of which the
+/// parent has a copy of its own, in a frame or in a slot. A frame is asked for only where such a table is missing; to have one,
+/// frames may be given up, and no process sees that. No entry is set. It costs the parent's runs and, of these, the tables
+/// that they meet and the pages there that have an entry, as far as the first copy, and nothing for what isn't mapped
+/// (fork(2); RISC-V Privileged Specification, "Virtual Address Translation Process").
+///
+/// # Errors
+/// As `obtain`, where a table is missing and no frame is to be had for it. The tables that were made stay.
+pub fn link_copies<D, E: SectorDisk, M: Levels>(
+    core: &mut Core<D, E, M>,
+    parent: Pid,
+    child: Pid,
+) -> Result<(), Stall>
+    requires fit { IsFit (picture_of core.old) }
+    requires swap { IsReady E.SectorDisk core.old.swap }
+    requires parent { is_live (picture_of core.old) parent ≡ true }
+    requires child { is_live (picture_of core.old) child ≡ true }
+    requires same { (page : ℕ) → (picture_of core.old).at child page ≡ (picture_of core.old).at parent page }
+    ensures { MakesReady E.SectorDisk core.old core.new parent child result }
+{
+    let mut page = USER_START;
+    while let Some(run) = core.regions(parent).next_run(page) {
+        link_run(core, parent, child, user_page::<M>(run.first), run.end)?;
+        page = run.end;
+    }
+    Ok(())
+}
+
+/// Makes the child's tables for the pages from `start` up to, not including, `end`, all of which the parent has mapped: no
+/// other page is looked at.
+fn link_run<D, E: SectorDisk, M: Levels>(
+    core: &mut Core<D, E, M>,
+    parent: Pid,
+    child: Pid,
+    start: Vpn,
+    end: u64,
+) -> Result<(), Stall>
+    requires swap { IsReady E.SectorDisk core.old.swap }
+    requires forking { IsForking (picture_of core.old) parent child }
+    requires mapped { IsMappedRow (picture_of core.old) parent start end }
+    requires high { end ≤ user_end M.mode }
+    ensures links { LinksForCopies E.SectorDisk core.old core.new parent child result }
+    ensures linked { OnOk result (HasTablesFrom (picture_of core.new) parent child start end) }
+{
+    let mut page = start.get();
+    while page < end {
+        page = link_next(core, parent, child, user_page::<M>(page), end)?;
+    }
+    Ok(())
+}
+
+/// Makes the child's tables for the pages of one table of the parent, from `page` on, as far as `end`; the result is the first
+/// page past them. Where a table of the parent is missing, the pages of the missing one are passed over.
+fn link_next<D, E: SectorDisk, M: Levels>(
+    core: &mut Core<D, E, M>,
+    parent: Pid,
+    child: Pid,
+    page: Vpn,
+    end: u64,
+) -> Result<u64, Stall>
+    requires swap { IsReady E.SectorDisk core.old.swap }
+    requires forking { IsForking (picture_of core.old) parent child }
+    requires some { page < end }
+    requires high { end ≤ user_end M.mode }
+    ensures links { LinksForCopies E.SectorDisk core.old core.new parent child result }
+    ensures linked { IfOk result (HasTablesFrom (picture_of core.new) parent child page) }
+    ensures next { IfOk result (StepsOn (picture_of core.old) parent page end) }
+{
+    if let Some(gap) = gap_end(core, parent, page) {
+        return Ok(end.min(gap));
+    }
+    let stop = end.min(table_end(page));
+    if let Some(copied) = first_copy(core, parent, page, stop) {
+        link_tables(core, child, copied)?;
+    }
+    Ok(stop)
+}
+
+/// The first page from `start` up to, not including, `stop` of which a live process has a copy of its own. The entries of
+/// those pages stand in one table, and places without an entry are passed over.
+fn first_copy<D, E, M: Levels>(core: &Core<D, E, M>, pid: Pid, start: Vpn, stop: u64) -> Option<Vpn>
+    requires fit { IsFit (picture_of core.now) }
+    requires live { is_live (picture_of core.now) pid ≡ true }
+    requires whole { IsWhole (picture_of core.now) pid start }
+    requires one_table { stop ≤ (start / table_entries + 1) * table_entries }
+    requires high { stop ≤ user_end M.mode }
+    ensures some { IfSome result (IsFirstCopy (picture_of core.now) pid start) }
+    ensures none { IfNone result ((page : ℕ) → start ≤ page → page < stop → seat (entry (picture_of core.now) pid page) ≡ None) }
+{
+    let root = root_of(core, pid);
+    let Ok(table) = table_of(&core.frames, root, start) else {
+        unreachable!();
+    };
+    let mut page = start.get();
+    while page < stop {
+        let index = (page % TABLE_ENTRIES) as usize;
+        if is_own(number_in(&core.frames, table, index)) {
+            return Some(user_page::<M>(page));
+        }
+        page = next_entry(&core.frames, table, page + 1, stop);
+    }
+    None
+}
+
+/// Whether a page's entry names a copy of the process's own: a frame, by the bit that is the software's (RISC-V Privileged
+/// Specification, "Sv39 page table entry", RSW), or a slot.
+pub(crate) fn is_own(number: Pte) -> bool
+    ensures own { result ≡ true → seat number.0 ≢ None }
+    ensures other { result ≡ false → seat number.0 ≡ None }
+{
+    number.is_private() || number.is_swapped()
+}

@@ -1,5 +1,0 @@
-pub mod Leaves
-pub mod Numbers
-pub mod Keeping
-pub mod Noting
-pub mod Walks

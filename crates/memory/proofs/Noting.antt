@@ -1,0 +1,245 @@
+-- Which changes of memory bring no page to name a frame.
+use Rattle.std.proofs.Common.{◌≡◌, ◌≢◌, ℕ, suc, ◌-◌, ◌/◌, ◌%◌, ◌<◌, ◌⊎◌, inl, inr, Result, Ok, Err, get_or, length, true, false, refl, sym, ap, ◌∙◌, subst, arith}
+use Rattle.std.specs.Prelude.{IfOk, OnErr}
+use Rattle.std.proofs.lemmas.Bool.{cases_eq}
+use Rattle.vm_types.specs.Limits.{top_level, user_end}
+use Rattle.vm_types.proofs.Modes.{sizes}
+use Rattle.vm_types.specs.declared.number.FrameNo.{FrameNo}
+use Rattle.vm_types.specs.declared.number.NoFree.{NoFree}
+use Rattle.frames.specs.declared.role.Role.{Role}
+use Rattle.frames.specs.declared.role.Role.TheVariants.{Free, Table}
+use Rattle.frames.specs.FrameTable.{FrameTable, frame_count, role_of, SameButFor, Takes, Releases, IsFresh}
+use Rattle.sv39_walk.specs.Entry.{is_private, is_swapped, entry_at, frame_of}
+use Rattle.sv39_walk.specs.Walk.{index_of}
+use Rattle.page_tables.specs.Tree.{IsTable, Points, IsForest, IsRoot, IsSpare, Way, last_table, page_entry}
+use Rattle.page_tables.specs.Places.{IsTableOf}
+use Rattle.page_tables.specs.Change.{SetsEntry, LinksTable, Prunes}
+use Rattle.page_tables.proofs.Ways.{ends, index_of-lt, only_way}
+use Rattle.page_tables.proofs.Ends.{way_forth}
+use Rattle.page_tables.proofs.Keeping.{empty_not_linking, zeros_empty}
+use Rattle.memory.specs.declared.notes.Notes.{Notes}
+use Rattle.memory.specs.Notes.{IsNumberOf, Names, NamesNoMore, AreNoted, Covers, no_note}
+use Rattle.memory.proofs.Keeping.{number_stays, free_is_no_table, released_role, is_table, not_below, not_last, way_along}
+use Rattle.memory.proofs.Leaves.{is_page, root_table}
+use Rattle.memory.proofs.Numbers.{is_number, of_number}
+
+turned : (old new : FrameTable) (n : ℕ) → SameButFor n old new → SameButFor n new old
+turned old new n same = record {
+  frames = sym same.frames;
+  bytes = λ m ne. sym (same.bytes m ne);
+  roles = λ m ne. sym (same.roles m ne);
+  counts = λ m ne. sym (same.counts m ne);
+}
+
+-- a frame changed that is no table, before or afterwards
+pub data_back : (old new : FrameTable) (n : ℕ) → SameButFor n old new → role_of old n ≢ Table → role_of new n ≢ Table
+    → (mode root page number : ℕ) → IsNumberOf mode new root page number → IsNumberOf mode old root page number
+data_back old new n same before after =
+    number_stays new old n (turned old new n same) (λ i h table. absurd (after table.role)) (λ i m p. before p.table.role)
+
+-- a frame that was taken is filled with zeros
+pub taken_back : (old new : FrameTable) (n : ℕ) (kind : Role) → Takes old new kind n
+    → (mode root page number : ℕ) → IsNumberOf mode new root page number → IsNumberOf mode old root page number
+taken_back old new n kind takes =
+    number_stays new old n (turned old new n takes.others) (λ i h table. zeros_empty new n takes.zeros i h)
+    (λ i m p. free_is_no_table (role_of old n) takes.was_free p.table.role)
+
+-- a frame of data that was given back
+pub released_back : (old new : FrameTable) (n : ℕ) → Releases old new n → role_of old n ≢ Table
+    → (mode root page number : ℕ) → IsNumberOf mode new root page number → IsNumberOf mode old root page number
+released_back old new n releases other =
+    data_back old new n releases.others other (released_role old new n releases other)
+
+-- a table without entries that was given back
+pub dropped_back : (old new : FrameTable) (n : ℕ) → SameButFor n old new → IsSpare old n → role_of new n ≡ Free
+    → (mode root page number : ℕ) → IsNumberOf mode new root page number → IsNumberOf mode old root page number
+dropped_back old new n same spare gone =
+    number_stays new old n (turned old new n same) (λ i h table. absurd (free_is_no_table (role_of new n) gone table.role))
+    (empty_not_linking old n spare.empty)
+
+-- A change in the tree of one root: the numbers of other roots hang on tables that are not in it.
+module _ (mode : ℕ) (old new : FrameTable) (root : ℕ) (forest : IsForest old) (is_root : IsRoot (top_level mode) old root) where
+  -- a root's own numbers are what its tree said before
+  own_back : (r p e : ℕ) → IsNumberOf mode new r p e → r ≡ root → (IsRoot (top_level mode) old r → page_entry new (top_level mode) r p ≡ page_entry old (top_level mode) r p)
+      → IsNumberOf mode old r p e
+  own_back r p e l same entries =
+      let R : ℕ → Type 0 = λ x. IsRoot (top_level mode) old x in
+      let here : IsRoot (top_level mode) old r = subst R (sym same) is_root in
+      of_number mode old r p e forest here l.inside (sym (entries here) ∙ is_number mode new r p e l) l.some
+
+  -- the entry of a page was set
+  pub set_back : (q number : ℕ) → SetsEntry old new (top_level mode) root q number → (r p e : ℕ) → IsNumberOf mode new r p e → (r ≢ root) ⊎ (p ≢ q) → IsNumberOf mode old r p e
+  set_back q number sets r p e l other = elim (cases_eq r root) [
+    | inl same ↦ own_back r p e l same (λ here. sets.entries r p here (is_page mode p l.inside) other)
+    | inr ne ↦ (
+        let unlinked = (sets.unlinked r).1 l.unlinked in
+        let way = way_forth new old (λ a i b. (sets.pointers a i b).1) (top_level mode) r p (top_level mode) l.lowest l.way in
+        let apart = not_last mode old new root forest is_root r p unlinked ne l.lowest (top_level mode) way q in
+        record {
+          lowest = l.lowest;
+          inside = l.inside;
+          unlinked = unlinked;
+          way = way;
+          table = is_table new old l.lowest (sym sets.kept.frames) (sym sets.kept.roles) l.table;
+          here = sym (sets.others l.lowest (index_of p 0) (index_of-lt p 0) (inl apart)) ∙ l.here;
+          some = l.some;
+        })
+  ]
+
+  -- a table was linked
+  pub linked_back : (q table : ℕ) → LinksTable old new (top_level mode) root q table → table ≢ root → (r p e : ℕ) → IsNumberOf mode new r p e → IsNumberOf mode old r p e
+  linked_back q table links apart_ r p e l = elim (cases_eq r root) [
+    | inl same ↦ own_back r p e l same (λ here. links.entries r p (λ z. apart_ (sym z ∙ same)) here)
+    | inr other ↦ (
+        let end = ends new (top_level mode) root q links.forest links.stays.table in
+        let d' : ℕ = top_level mode - (last_table new q (top_level mode) root).0 in
+        let W : ℕ → Type 0 = λ x. Way new (top_level mode) root q d' x in
+        let far : (x d : ℕ) → Way new (top_level mode) r p d x → x ≢ table = λ x d w z.
+        other (only_way new (top_level mode) links.forest r p root q l.unlinked links.stays.unlinked d d' x w (subst W (links.ends ∙ sym z) end.way)).1 in
+        let unlinked = (links.unlinked r (far r 0 refl)).1 l.unlinked in
+        let points : (x d k : ℕ) → Way new (top_level mode) r p d x → Points new x (index_of p (top_level mode - d)) k → Points old x (index_of p (top_level mode - d)) k =
+        λ x d k w point. (links.pointers x _ k (far k (suc d) (x, w, point))).1 point in
+        let way = way_along new old (top_level mode) r p points (top_level mode) l.lowest l.way in
+        let apart = not_last mode old new root forest is_root r p unlinked other l.lowest (top_level mode) way q in
+        record {
+          lowest = l.lowest;
+          inside = l.inside;
+          unlinked = unlinked;
+          way = way;
+          table = is_table new old l.lowest (sym links.kept.frames) (sym links.kept.roles) l.table;
+          here = sym (links.others l.lowest (index_of p 0) (index_of-lt p 0) apart) ∙ l.here;
+          some = l.some;
+        })
+  ]
+
+  -- tables without entries were released
+  pub pruned_back : (q : ℕ) → Prunes old new (top_level mode) root q → (r p e : ℕ) → IsNumberOf mode new r p e → IsNumberOf mode old r p e
+  pruned_back q prunes r p e l = elim (cases_eq r root) [
+    | inl same ↦ own_back r p e l same (prunes.entries r p)
+    | inr ne ↦ (
+        let unlinked = (prunes.unlinked r (root_table new (top_level mode) r p (top_level mode) l.lowest l.way l.table)).1 l.unlinked in
+        let way = way_forth new old prunes.pointers (top_level mode) r p (top_level mode) l.lowest l.way in
+        let same : (i : ℕ) → i < 512 → entry_at new l.lowest i ≡ entry_at old l.lowest i = elim (prunes.others l.lowest l.table) [
+          | inl on ↦ absurd (not_below mode old new root forest is_root r p unlinked ne l.lowest (top_level mode) way q _ on.2)
+          | inr same ↦ same
+        ] in
+        record {
+          lowest = l.lowest;
+          inside = l.inside;
+          unlinked = unlinked;
+          way = way;
+          table = prunes.kept.tables l.lowest l.table;
+          here = sym (same (index_of p 0) (index_of-lt p 0)) ∙ l.here;
+          some = l.some;
+        })
+  ]
+
+-- a page that named the frame before, where its number was there
+named_back : (mode : ℕ) (old new : FrameTable) (r p n : ℕ) (names : Names mode new r p n) → IsNumberOf mode old r p names.number → Names mode old r p n
+named_back mode old new r p n names is = record { number = names.number; is = is; framed = names.framed; common = names.common; frame = names.frame }
+
+-- notes that stay, where no page names a frame that named none
+pub noted_by : (mode : ℕ) (old new : FrameTable) (notes : Notes) → frame_count new ≡ frame_count old
+    → ((r p e : ℕ) → IsNumberOf mode new r p e → IsNumberOf mode old r p e) → AreNoted mode old notes → AreNoted mode new notes
+noted_by mode old new notes frames back is = record {
+  count = is.count ∙ sym frames;
+  covers = λ whole r p n names inside. is.covers whole r p n (named_back mode old new r p n names (back r p names.number names.is)) (rw (← frames) inside);
+}
+
+-- a frame was taken, or none
+pub noted_taken : (mode : ℕ) (old new : FrameTable) (notes : Notes) (kind : Role) (r : Result FrameNo NoFree) → AreNoted mode old notes
+    → IfOk r (λ n. Takes old new kind n.0) → OnErr r (new ≡ old) → AreNoted mode new notes
+noted_taken mode old new notes kind (Ok n) is taken err = noted_by mode old new notes taken.others.frames (taken_back old new n.0 kind taken mode) is
+noted_taken mode old new notes kind (Err e) is taken err = subst (λ (t : FrameTable). AreNoted mode t notes) (sym err) is
+
+-- a frame was changed, and the notes are not whole any more if it is a table
+pub noted_data : (mode : ℕ) (old new : FrameTable) (n : ℕ) (notes notes' : Notes) → frame_count new ≡ frame_count old → notes'.each ≡ notes.each
+    → (notes'.whole ≡ true → (notes.whole ≡ true) × (role_of old n ≢ Table))
+    → (role_of old n ≢ Table → (r p e : ℕ) → IsNumberOf mode new r p e → IsNumberOf mode old r p e) → AreNoted mode old notes → AreNoted mode new notes'
+noted_data mode old new n notes notes' frames each whole back is = record {
+  count = ap (λ v. length v.items) each ∙ is.count ∙ sym frames;
+  covers = λ now r p m names inside.
+      let was = whole now in
+      let covers = is.covers was.0 r p m (named_back mode old new r p m names (back was.1 r p names.number names.is)) (rw (← frames) inside) in
+      rw each covers;
+}
+
+-- A page's entry was set, and the notes cover it.
+module _ (mode : ℕ) (old new : FrameTable) (root q number : ℕ) (notes notes' : Notes) (forest : IsForest old) (is_root : IsRoot (top_level mode) old root)
+    (sets : SetsEntry old new (top_level mode) root q number) (count : length notes'.each.items ≡ length notes.each.items) (whole : notes'.whole ≡ notes.whole)
+    (added : number ≢ 0 → is_swapped number ≡ false → is_private number ≡ false → frame_of number < length notes.each.items → notes.whole ≡ true → q < user_end mode
+    → Covers (get_or notes'.each.items (frame_of number) no_note) root q)
+    (kept : (n r p : ℕ) → Covers (get_or notes.each.items n no_note) r p → Covers (get_or notes'.each.items n no_note) r p) (is : AreNoted mode old notes) where
+  set_here : (n : ℕ) → notes.whole ≡ true → Names mode new root q n → n < frame_count new → Covers (get_or notes'.each.items n no_note) root q
+  set_here n now names inside =
+      let e : names.number ≡ number = sym (is_number mode new root q names.number names.is) ∙ sets.changed in
+      let frame : frame_of number ≡ n = ap frame_of (sym e) ∙ names.frame in
+      let C : ℕ → Type 0 = λ x. Covers (get_or notes'.each.items x no_note) root q in
+      let few : frame_of number < length notes.each.items = (let a = is.count in let b = sets.kept.frames in omega (arith, a, b, frame, inside)) in
+      subst C frame (added (λ z. names.is.some (e ∙ z)) (ap is_swapped (sym e) ∙ names.framed) (ap is_private (sym e) ∙ names.common) few now names.is.inside)
+
+  noted_entry : AreNoted mode new notes'
+  noted_entry = record {
+    count = count ∙ is.count ∙ sym sets.kept.frames;
+    covers = λ now r p n names inside.
+        let there : (r ≢ root) ⊎ (p ≢ q) → Covers (get_or notes'.each.items n no_note) r p = λ other.
+        kept n r p (is.covers (sym whole ∙ now) r p n
+        (named_back mode old new r p n names (set_back mode old new root forest is_root q number sets r p names.number names.is other))
+        (let f = sets.kept.frames in omega (arith, f, inside))) in
+        elim (cases_eq r root) [
+          | inl same_root ↦ elim (cases_eq p q) [
+            | inl same_page ↦ (
+                let N : ℕ → Type 0 = λ x. Names mode new x p n in
+                let M : ℕ → Type 0 = λ x. Names mode new root x n in
+                let P : ℕ → Type 0 = λ x. Covers (get_or notes'.each.items n no_note) x p in
+                let Q : ℕ → Type 0 = λ x. Covers (get_or notes'.each.items n no_note) root x in
+                subst P (sym same_root) (subst Q (sym same_page) (set_here n (sym whole ∙ now) (subst M same_page (subst N same_root names)) inside)))
+            | inr ne ↦ there (inr ne)
+          ]
+          | inr ne ↦ there (inl ne)
+        ];
+  }
+
+-- a page's entry was set, and is noted
+pub noted_set : (mode : ℕ) (old new : FrameTable) (root q number : ℕ) (notes notes' : Notes) → IsForest old → IsRoot (top_level mode) old root
+    → SetsEntry old new (top_level mode) root q number → length notes'.each.items ≡ length notes.each.items → notes'.whole ≡ notes.whole
+    → (number ≢ 0 → is_swapped number ≡ false → is_private number ≡ false → frame_of number < length notes.each.items
+    → Covers (get_or notes'.each.items (frame_of number) no_note) root q)
+    → ((n r p : ℕ) → Covers (get_or notes.each.items n no_note) r p → Covers (get_or notes'.each.items n no_note) r p) → AreNoted mode old notes → AreNoted mode new notes'
+noted_set mode old new root q number notes notes' forest is_root sets count whole added kept is =
+    noted_entry mode old new root q number notes notes' forest is_root sets count whole (λ some framed common few now small. added some framed common few) kept is
+
+-- a page's entry was set at its place of a lowest table, and names no frame anew
+pub noted_place : (mode : ℕ) (old new : FrameTable) (root q number table index : ℕ) (notes : Notes) → IsForest old → IsRoot (top_level mode) old root
+    → SetsEntry old new (top_level mode) root q number → IsTableOf old (top_level mode) root (q / 512) table → q % 512 ≡ index
+    → NamesNoMore mode old table index number → AreNoted mode old notes → AreNoted mode new notes
+noted_place mode old new root q number table index notes forest is_root sets row at names is =
+    noted_entry mode old new root q number notes notes forest is_root sets refl refl
+    (λ some framed common few now small. is.covers now root q (frame_of number) (names some framed common root q is_root small row at) (let a = is.count in omega (arith, a, few)))
+    (λ n r p covers. covers) is
+
+-- memory as it is made has no table but frame 0, at most
+zero_table : (t : FrameTable) (count n : ℕ) → IsFresh t count → IsTable t n → n ≡ 0
+zero_table t count n fresh table = elim (cases_eq n 0) [
+  | inl e ↦ e
+  | inr ne ↦ absurd (free_is_no_table (role_of t n) (fresh.free n (omega (arith, ne)) table.inside) table.role)
+]
+
+-- so the only way of a root is to itself, where a table points
+fresh_way : (t : FrameTable) (count top r p d n : ℕ) → IsFresh t count → IsTable t n → Way t top r p (suc d) n → (a : ℕ) × (i : ℕ) × Points t a i r
+fresh_way t count top r p d n fresh table w =
+    let P : ℕ → Type 0 = λ x. Points t w.0 (index_of p (top - d)) x in
+    let root : r ≡ 0 = zero_table t count r fresh (root_table t top r p (suc d) n w table) in
+    (w.0, index_of p (top - d), subst P (zero_table t count n fresh table ∙ sym root) w.2)
+
+-- and the notes that it is made with are those of no page
+pub noted_fresh : (mode : ℕ) (t : FrameTable) (count : ℕ) (notes : Notes) → IsFresh t count → length notes.each.items ≡ count → AreNoted mode t notes
+noted_fresh mode t count notes fresh all = record {
+  count = all ∙ sym fresh.frames;
+  covers = λ whole r p n names inside. absurd (
+      let l = names.is in
+      let levels : top_level mode ≡ suc (top_level mode - 1) = (let s = (sizes mode).levels in omega (arith, s)) in
+      let W : ℕ → Type 0 = λ d. Way t (top_level mode) r p d l.lowest in
+      let point = fresh_way t count (top_level mode) r p (top_level mode - 1) l.lowest fresh l.table (subst W levels l.way) in
+      l.unlinked point.0 point.1 point.2);
+}

@@ -1,0 +1,8 @@
+use Rattle.std.proofs.Common.{◌%◌, None, Option, ap, arith}
+use Rattle.std.proofs.lemmas.List.{get_or-replicate}
+use Rattle.memory.specs.Lines.{leaf_for}
+use Rattle.memory.specs.declared.line.Line.{Line}
+use Rattle.memory.proofs.buffer.TranslationBuffer.new.Goals as goal
+
+pub returns : goal.returns
+returns c = λ root page. ap (λ (o : Option Line). leaf_for o root page) (get_or-replicate 64 (page % 64) None None (omega arith))

@@ -1,0 +1,16 @@
+use Rattle.std.proofs.Common.{sym, subst}
+use Rattle.vm_types.specs.Limits.{top_level}
+use Rattle.frames.specs.FrameTable.{FrameTable}
+use Rattle.page_tables.specs.Tree.{IsForest, IsRoot}
+use Rattle.memory.proofs.trees.set.Goals as goal
+
+pub invariant_of-memory : goal.invariant_of-memory
+invariant_of-memory g c =
+    let mode = g.M.Levels.mode in
+    let t = c.memory.inside.frames in
+    let forest = subst (λ (x : FrameTable). IsForest x) (sym c.memory.view_is) c.requires.forest in
+    let is_root = subst (λ (x : FrameTable). IsRoot (top_level mode) x c.args.root.0) (sym c.memory.view_is) c.requires.root in
+    let sets = c.set.ensures.sets in (
+      c.after_set.ensures.lines mode t c.set.new.frames forest is_root sets c.memory.invariant.0,
+      c.after_set.ensures.notes mode t c.set.new.frames forest is_root sets c.memory.invariant.1,
+    )

@@ -1,0 +1,11 @@
+use Rattle.std.proofs.Common.{◌≢◌, arith}
+use Rattle.vm_types.specs.Limits.{top_level}
+use Rattle.page_tables.specs.Tree.{missing_of}
+use Rattle.memory.proofs.Walks.{missing_fault}
+use Rattle.memory.proofs.walking.walk_way.Goals as goal
+
+pub returns-in-Err-clause-walked : goal.returns-in-Err-clause-walked
+returns-in-Err-clause-walked g c =
+    let t = c.args.frames.now in
+    let ne : missing_of t (top_level g.M.Levels.mode) c.args.root.0 c.args.page ≢ 0 = λ z. omega (arith, z, c.in-Err.ensures.missing.0, c.in-Err.ensures.missing.1) in
+    (λ addr at. missing_fault g.M.Levels.mode t c.args.root.0 c.args.page addr c.args.access c.requires.forest c.requires.root c.requires.small ne at, ne)

@@ -1,0 +1,5 @@
+pub mod Lines
+pub mod Kept
+pub mod Lending
+pub mod Notes
+pub mod Walks

@@ -1,9 +1,0 @@
-use Rattle.std.proofs.Common.{◌≡◌, ◌≢◌, false, ℕ, ◌<◌, ◌≤◌}
-use Rattle.vm_types.specs.Objects.{names}
-use Rattle.paging.specs.Picture.{picture_of}
-use Rattle.page_ranges.proofs.forgetting.is_named_beside.Given as goal
-
-abbrev pub invariant-loop-number : goal.invariant-loop-number
-invariant-loop-number g l = record {
-  none : (q : ℕ) → 1 ≤ q → q < l.number → q ≢ l.pid → names ((picture_of l.core).at q l.at) l.page.object l.page.page ≡ false;
-}

@@ -1,6 +1,0 @@
-use Rattle.std.proofs.Common.{arith}
-use Rattle.page_tables.proofs.Pages.{span_positive}
-use Rattle.page_ranges.proofs.rows.span_end.Goals as goal
-
-pub nonzero_div-result : goal.nonzero_div-result
-nonzero_div-result c = let some = span_positive c.args.level in omega (arith, some, c.span_of-span.ensures)

@@ -1,0 +1,161 @@
+-- Rows without entries: what the processes see.
+use Rattle.vm_types.specs.Limits.{user_end, top_level}
+use Rattle.vm_types.proofs.Modes.{sizes, user_pages_fit}
+use Rattle.std.proofs.Common.{◌≡◌, ℕ, inl, inr, ◌⊎◌, ◌+◌, ◌<◌, ◌≤◌, true, false, List, Option, Some, None, refl, sym, ap, ◌∙◌, arith}
+use Rattle.std.specs.Prelude.{leb, ltb, is_some, option_map}
+use Rattle.std.proofs.lemmas.Bool.{cases_lt, cases_Bool, and_parts, and_cases, leb-true, leb-false, ltb-true, ltb-false}
+use Rattle.vm_types.specs.declared.region.Attr.{Attr}
+use Rattle.vm_types.specs.Rows.{in_row}
+use Rattle.page_tables.specs.Tree.{IsPage}
+use Rattle.residency.specs.Seats.{InSlot, seat}
+use Rattle.residency.specs.Picture.{Picture, entry, own_in, view_of, view, bytes_in}
+use Rattle.residency.specs.Parts.{IsEntryFor, Nothing, Resident, Away, IsUsed, AsRoot, OnWay, IsGranting, IsFit}
+use Rattle.residency.proofs.Start.{seat-none}
+use Rattle.residency.specs.Shows.{KeepsFiles}
+use Rattle.ranges.specs.Rows.{plain, RemapsRow}
+use Rattle.ranges.specs.Steps.{IsBeside, ReturnsSlots, Clears, IsMappedBeside, IsWithoutTables, IsCleared}
+
+view_plain : (own : Option (List ℕ)) (o : Option Attr) → own ≡ None → view_of own o ≡ option_map plain o
+view_plain own None none = refl
+view_plain own (Some a) none = ap (λ w. Some (record { attr = a; own = w })) none
+
+-- a page without an entry has no own copy
+pub view-bare : {mode : ℕ} (c : Picture mode) (pid page : ℕ) → entry c pid page ≡ 0 → view c pid page ≡ option_map plain (c.at pid page)
+unfolding view
+view-bare c pid page none =
+    view_plain (own_in c.frames c.slots (entry c pid page)) (c.at pid page) (ap (λ o. option_map (bytes_in c.frames c.slots) o) (ap seat none ∙ seat-none))
+
+pub unmapped_zero : {mode : ℕ} (c : Picture mode) (o : Option Attr) (e : ℕ) → IsEntryFor c o e → o ≡ None → e ≡ 0
+unmapped_zero c o e (Nothing none) gone = none
+unmapped_zero c o e (Resident a is resident) gone = let bad : None ≡ Some a = sym gone ∙ is in (cc)
+unmapped_zero c o e (Away a is away) gone = let bad : None ≡ Some a = sym gone ∙ is in (cc)
+
+pub none_here : (o : Option Attr) → (is_some o ≡ true → ⊥) → o ≡ None
+none_here None h = refl
+none_here (Some a) h = absurd (h refl)
+
+-- a page under the first user page has no entry
+module _ {mode : ℕ} where
+  pub low_zero : (c : Picture mode) (pid page : ℕ) → IsGranting c → page < 16 → entry c pid page ≡ 0
+  low_zero c pid page granting low =
+      let h : IsPage (top_level mode) page = (let fits = user_pages_fit mode in let least = (sizes mode).least in omega (arith, fits, least, low)) in
+      unmapped_zero c (c.at pid page) (entry c pid page) (granting.entries pid page h)
+      (none_here (c.at pid page) (λ some. (let above = ((granting.user pid).user_pages page some).0 in omega (arith, low, above))))
+
+pub row_parts : (first pages page : ℕ) → in_row first pages page ≡ true → (first ≤ page) × (page < first + pages)
+row_parts first pages page e =
+    let both = and_parts (leb first page) (ltb page (first + pages)) e in
+    (leb-true first page both.0, ltb-true page (first + pages) both.1)
+
+pub row_out : (first pages page : ℕ) → in_row first pages page ≡ false → (page < first) ⊎ (first + pages ≤ page)
+row_out first pages page e = elim (and_cases (leb first page) (ltb page (first + pages)) e) [
+  | inl low ↦ inl (leb-false first page low)
+  | inr high ↦ inr (ltb-false page (first + pages) high)
+]
+
+-- the user pages of a row are pages of the tree
+pub pages_inside : (mode first pages page : ℕ) → first + pages ≤ user_end mode → in_row first pages page ≡ true → IsPage (top_level mode) page
+pages_inside mode first pages page row e = let parts = row_parts first pages page e in let fits = user_pages_fit mode in omega (arith, parts, row, fits)
+
+-- the pages from low to high are the user pages of a row
+module _ {mode : ℕ} (old new : Picture mode) (pid first pages low high : ℕ) (fit : IsFit old) (granting : IsGranting new) (clears : Clears old new pid low high)
+    (row : first + pages ≤ user_end mode) (start : low ≤ high) (begins : (low ≡ first) ⊎ ((low ≡ 16) × (first < 16))) (reaches : first + pages ≤ high)
+    (ends : (high ≡ low) ⊎ (high ≡ first + pages)) where
+  entry_gone : (page : ℕ) → in_row first pages page ≡ true → entry new pid page ≡ 0
+  entry_gone page e =
+      let at = row_parts first pages page e in
+      elim (cases_lt page low) [
+        | inl before ↦ low_zero new pid page granting (elim begins [
+          | inl is ↦ absurd (omega (arith, is, before, at.0))
+          | inr is ↦ (let l = is.0 in omega (arith, before, l))
+        ])
+        | inr from ↦ (
+            let h : IsPage (top_level mode) page = (let fits = user_pages_fit mode in omega (arith, at.1, row, fits)) in
+            clears.gone page h from (omega (arith, at.1, reaches)))
+      ]
+
+  beside_row : (page : ℕ) → in_row first pages page ≡ false → IsBeside pid low high pid page
+  beside_row page e = elim (row_out first pages page e) [
+    | inl below ↦ inr (inl (elim begins [
+      | inl is ↦ omega (arith, is, below)
+      | inr is ↦ (let l = is.0 in let f = is.1 in omega (arith, below, l, f))
+    ]))
+    | inr above ↦ elim ends [
+      | inl none ↦ elim (cases_lt page low) [
+        | inl lower ↦ inr (inl lower)
+        | inr upper ↦ inr (inr (omega (arith, upper, none)))
+      ]
+      | inr is ↦ inr (inr (omega (arith, above, is)))
+    ]
+  ]
+
+  pub remaps_cleared : RemapsRow old new pid first pages (old.at pid)
+  remaps_cleared = record {
+    root = clears.beside.root;
+    at = λ page. clears.beside.at pid page;
+    others_at = λ q page ne. clears.beside.at q page;
+    entries = entry_gone;
+    kept = λ page h e. clears.kept pid page h (beside_row page e);
+    views = λ page. elim (cases_Bool (in_row first pages page)) [
+      | inl e ↦ rw e (view-bare new pid page (entry_gone page e) ∙ ap (option_map plain) (clears.beside.at pid page))
+      | inr e ↦ rw e (clears.views pid page (beside_row page e))
+    ];
+    others = λ q page ne. clears.views q page (inl ne);
+  }
+
+  pub files_cleared : KeepsFiles old new
+  files_cleared = record { held = λ p. inl (clears.held p); touched = clears.beside.touched; files = clears.beside.files }
+
+  seated_inside : (k page : ℕ) → first ≤ page → page < first + pages → seat (entry old pid page) ≡ Some (InSlot k) → low ≤ page
+  seated_inside k page from below is = elim (cases_lt page low) [
+    | inr inside ↦ inside
+    | inl before ↦ (
+        let under : page < 16 = elim begins [
+          | inl e ↦ absurd (omega (arith, e, before, from))
+          | inr e ↦ (let l = e.0 in omega (arith, before, l))
+        ] in
+        let none : seat (entry old pid page) ≡ None = ap seat (low_zero old pid page fit.granting under) ∙ seat-none in
+        let bad : None ≡ Some (InSlot k) = sym none ∙ is in (cc))
+  ]
+
+  inside_row : (page : ℕ) → low ≤ page → page < high → (first ≤ page) × (page < first + pages)
+  inside_row page from below = (
+    elim begins [
+      | inl e ↦ omega (arith, e, from)
+      | inr e ↦ (let l = e.0 in let f = e.1 in omega (arith, l, f, from))
+    ],
+    elim ends [
+      | inl none ↦ absurd (omega (arith, none, from, below))
+      | inr e ↦ omega (arith, e, below)
+    ],
+  )
+
+  pub slots_cleared : ReturnsSlots old new pid first (first + pages)
+  slots_cleared = record {
+    total = clears.slots.total;
+    fewer = clears.slots.fewer;
+    given = λ k page h from below is. clears.slots.given k page h (seated_inside k page from below is) (omega (arith, below, reaches)) is;
+    kept = λ k other. clears.slots.kept k (λ page h from below. (let row' = inside_row page from below in other page h row'.0 row'.1));
+    bytes = clears.slots.bytes;
+  }
+
+  pub tables_cleared : IsCleared new pid low high → IsWithoutTables new pid first (first + pages)
+  tables_cleared cleared m table = by_use (cleared.tables m table)
+    where
+      beside_it : (q p : ℕ) → IsMappedBeside new pid low high q p → IsBeside pid first (first + pages) q p
+      beside_it q p here = elim here.1 [
+        | inl ne ↦ inl ne
+        | inr side ↦ elim side [
+          | inl below ↦ (
+              let user = ((granting.user q).user_pages p here.0).0 in
+              inr (inl (elim begins [
+                | inl e ↦ omega (arith, e, below)
+                | inr e ↦ (let l = e.0 in absurd (omega (arith, below, l, user)))
+              ])))
+          | inr past ↦ inr (inr (omega (arith, past, reaches)))
+        ]
+      ]
+
+      by_use : IsUsed new (IsMappedBeside new pid low high) m → IsUsed new (IsMappedBeside new pid first (first + pages)) m
+      by_use (AsRoot q is) = AsRoot q is
+      by_use (OnWay q x p is here below) = OnWay q x p is (here.0, beside_it q p here) below

@@ -1,0 +1,99 @@
+-- The state that memory shows once pages are mapped no more: the objects that no page names have no bytes.
+use Rattle.std.proofs.Common.{◌≡◌, ◌≢◌, ℕ, inl, inr, ◌⊎◌, Bool, true, false, List, Option, Some, None, refl, sym, ap, ◌∙◌}
+use Rattle.std.specs.Prelude.{is_some}
+use Rattle.std.proofs.lemmas.Bool.{cases_Bool}
+use Rattle.vm_types.specs.declared.object.ObjectPage.{ObjectPage}
+use Rattle.vm_types.specs.declared.object.PageKey.{PageKey}
+use Rattle.vm_types.specs.declared.object.PageKey.TheVariants.{File, Object}
+use Rattle.vm_types.specs.Capacity.{held_count}
+use Rattle.vm_types.specs.Objects.{Maps, is_named, named_objects}
+use Rattle.vm_types.specs.State.{State}
+use Rattle.vm_types.specs.View.{View}
+use Rattle.frames.specs.FrameTable.{FrameTable}
+use Rattle.swap.specs.Slots.{SlotTable}
+use Rattle.page_cache.specs.declared.place.Place.{Place}
+use Rattle.page_cache.specs.declared.place.Place.TheVariants.{Home, Frame, Slot}
+use Rattle.residency.specs.Picture.{Picture, view, is_live, held, bytes_at}
+use Rattle.residency.specs.Capacity.{copies_over, touched_file, stored_object}
+use Rattle.residency.specs.Parts.{IsFit}
+use Rattle.residency.specs.Shows.{ShowsPages, object_bytes}
+use Rattle.ranges.specs.Rows.{KeepsNamed}
+
+held_home : {mode : ℕ} (c : Picture mode) (p : PageKey) → c.place p ≡ Home → held c p ≡ None
+unfolding held
+held_home c p home = ap (bytes_at c.frames c.slots) home
+
+none_some : (bytes : List ℕ) (o : Option (List ℕ)) → o ≡ None → o ≡ Some bytes → ⊥
+none_some bytes o none some = let bad : None ≡ Some bytes = sym none ∙ some in (cc)
+
+pub shows_named : {mode : ℕ} (old new : Picture mode) (s : State) (maps : Maps) (live : ℕ → Bool) (views : ℕ → ℕ → Option View) → IsFit new → ShowsPages old s → KeepsNamed maps old new
+    → ((pid : ℕ) → live pid ≡ is_live new pid) → ((pid page : ℕ) → views pid page ≡ view new pid page)
+    → ShowsPages new (record s { live = live; views = views; objects = named_objects maps s.objects })
+shows_named old new s maps live views fit shows keeps lives sees = record {
+  live = lives;
+  views = sees;
+  files = λ f. shows.files f ∙ sym (keeps.files f);
+  touched = λ p. shows.touched p ∙ sym (keeps.touched (File p) tt);
+  objects = λ p. elim (cases_Bool (is_named maps p.object p.page)) [
+    | inl named ↦ rw named (shows.objects p ∙ still p named (keeps.held (Object p) named))
+    | inr gone ↦ rw gone (sym (rw (left p gone) refl))
+  ];
+  blank = λ p bytes untouched is. elim (cases_Bool (is_named maps p.object p.page)) [
+    | inl named ↦ elim (keeps.held (Object p) named) [
+      | inl same ↦ shows.blank p bytes (sym (keeps.touched (Object p) named) ∙ untouched) (sym same ∙ is)
+      | inr home ↦ absurd (none_some bytes (held new (Object p)) home.0 is)
+    ]
+    | inr gone ↦ absurd (none_some bytes (held new (Object p)) (held_home new (Object p) (keeps.gone p gone)) is)
+  ];
+  held = λ p bytes is. elim (keeps.held (File p) tt) [
+    | inl same ↦ shows.held p bytes (sym same ∙ is)
+    | inr home ↦ absurd (none_some bytes (held new (File p)) home.0 is)
+  ];
+  same_mode = shows.same_mode;
+  clean = λ p untouched inside. shows.clean p (sym (keeps.touched (File p) tt) ∙ untouched) (inside.0, sym (keeps.files p.file) ∙ inside.1, inside.2);
+}
+  where
+    still : (p : ObjectPage) → is_named maps p.object p.page ≡ true → (held new (Object p) ≡ held old (Object p)) ⊎ ((held new (Object p) ≡ None) × (old.touched (Object p) ≡ false)) → object_bytes old p ≡ object_bytes new p
+    still p named (inl same) = sym (rw (keeps.touched (Object p) named, same) refl)
+    still p named (inr home) = rw (home.1, keeps.touched (Object p) named ∙ home.1) refl
+
+    left : (p : ObjectPage) → is_named maps p.object p.page ≡ false → new.touched (Object p) ≡ false
+    left p gone = elim (cases_Bool (new.touched (Object p))) [
+      | inl touched ↦ absurd (fit.dirty.held (Object p) touched (keeps.gone p gone))
+      | inr clear ↦ clear
+    ]
+
+some_at : (t : FrameTable) (k : SlotTable) (place : Place) → place ≢ Home → is_some (bytes_at t k place) ≡ true
+some_at t k Home away = absurd (away refl)
+some_at t k (Frame n) away = refl
+some_at t k (Slot n) away = refl
+
+some_held : {mode : ℕ} (c : Picture mode) (p : PageKey) → c.place p ≢ Home → is_some (held c p) ≡ true
+unfolding held
+some_held c p away = some_at c.frames c.slots (c.place p) away
+
+-- what is in the objects of the state was stored to
+pub stored_shown : {mode : ℕ} (c : Picture mode) (s : State) → IsFit c → ShowsPages c s → (object page : ℕ) → is_some (s.objects object page) ≡ stored_object c object page
+stored_shown c s fit shows object page =
+    let p : ObjectPage = record { object = object; page = page } in
+    elim (cases_Bool (c.touched (Object p))) [
+      | inl touched ↦ (
+          let at : object_bytes c p ≡ held c (Object p) = rw touched refl in
+          ap (λ o. is_some o) (shows.objects p ∙ at) ∙ some_held c (Object p) (fit.dirty.held (Object p) touched) ∙ sym touched)
+      | inr clear ↦ (
+          let at : object_bytes c p ≡ None = rw clear refl in
+          ap (λ o. is_some o) (shows.objects p ∙ at) ∙ sym clear)
+    ]
+
+-- the slots that a state needs are those that memory counts
+module _ {mode : ℕ} where
+  pub held_shown : (c : Picture mode) (s : State) → IsFit c → ShowsPages c s → held_count s ≡ copies_over mode (view c) (touched_file c) (stored_object c)
+  unfolding held_count copies_over
+  held_shown c s fit shows =
+      let sees : s.views ≡ view c = λ t pid page. shows.views pid page t in
+      let marks : s.touched ≡ touched_file c = λ t file page. shows.touched (record { file = file; page = page }) t in
+      let stored : (λ object page. is_some (s.objects object page)) ≡ stored_object c = λ t object page. stored_shown c s fit shows object page t in
+      ap (λ x. copies_over x s.views s.touched (λ object page. is_some (s.objects object page))) shows.same_mode
+      ∙ ap (λ (v : ℕ → ℕ → Option View). copies_over mode v s.touched (λ object page. is_some (s.objects object page))) sees
+      ∙ ap (λ (m : ℕ → ℕ → Bool). copies_over mode (view c) m (λ object page. is_some (s.objects object page))) marks
+      ∙ ap (copies_over mode (view c) (touched_file c)) stored

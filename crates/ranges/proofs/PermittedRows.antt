@@ -1,0 +1,176 @@
+-- Rows of pages that get another permission: one page after the other.
+use Rattle.vm_types.specs.declared.mode.Levels as Levels
+use Rattle.vm_types.specs.Limits.{top_level}
+use Rattle.std.proofs.Common.{◌≡◌, ◌≢◌, ℕ, inl, inr, ◌⊎◌, ◌+◌, ◌<◌, ◌≤◌, ◌↔◌, Bool, true, false, Option, Some, get_or, refl, sym, ap, ◌∙◌, subst, arith}
+use Rattle.std.proofs.lemmas.Bool.{cases_eq, cases_lt, cases_Bool, false≢true}
+use Rattle.vm_types.specs.declared.permission.Prot.{Prot}
+use Rattle.vm_types.specs.declared.region.Attr.{Attr}
+use Rattle.vm_types.specs.declared.object.PageKey.TheVariants.{File, Object}
+use Rattle.vm_types.specs.declared.region.Backing.{Backing}
+use Rattle.frames.specs.declared.role.Role.TheVariants.{Free, Private}
+use Rattle.frames.specs.FrameTable.{FrameTable, frame_count, role_of, IsFrame, IsSound}
+use Rattle.sv39_walk.specs.Entry.{frame_of}
+use Rattle.page_tables.specs.Change.{KeepsFrames, SetsEntry}
+use Rattle.page_tables.specs.Tree.{IsPage}
+use Rattle.page_tables.specs.Places.{IsTableOf}
+use Rattle.page_tables.proofs.Places.{row_stays}
+use Rattle.residency.specs.Seats.{InFrame}
+use Rattle.residency.specs.Parts.{IsRootedBut, IsBehind, IsEntryFor, HasPlaces, IsFit}
+use Rattle.residency.specs.Parts as Parts
+use Rattle.residency.specs.Picture.{Picture, entry, is_private, is_swapped}
+use Rattle.residency.specs.declared.kernel.Core.{Core}
+use Rattle.residency.specs.Steps.{SameBeside, SetsPage}
+use Rattle.residency.proofs.TableSteps.{sets_page, rooted_set}
+use Rattle.ranges.specs.Leaves.{TakesStores, IsPermittedEntry, Permits, Empty, Away, Kept, NamesFrames, PermitsRow}
+use Rattle.fault.specs.Changes.{KeepsAround}
+use Rattle.fault.proofs.Forms.{seat_own}
+use Rattle.ranges.proofs.Sharing.{inside_memory, private_used, cache_used}
+use Rattle.ranges.proofs.ClearedPages.{out_front, out_back, other_page}
+
+pub beside-refl : {mode : ℕ} (c : Picture mode) → SameBeside c c
+beside-refl c = record { slots = refl; root = λ q. refl; at = λ q page. refl; page_of = λ n. refl; place = λ p. refl; touched = λ p. refl; files = λ f. refl }
+
+pub beside_then : {mode : ℕ} (a b c : Picture mode) → SameBeside a b → SameBeside b c → SameBeside a c
+beside_then a b c one two = record {
+  slots = two.slots ∙ one.slots;
+  root = λ q. two.root q ∙ one.root q;
+  at = λ q page. two.at q page ∙ one.at q page;
+  page_of = λ n. two.page_of n ∙ one.page_of n;
+  place = λ p. two.place p ∙ one.place p;
+  touched = λ p. two.touched p ∙ one.touched p;
+  files = λ f. two.files f ∙ one.files f;
+}
+
+pub around-refl : {M : Type 0} {m : Levels.Ghosts M} → {D E : Type 0} (c : Core D E M m) → KeepsAround c c
+around-refl c = record { store = refl; swap = refl; cache = refl; roots = refl; regions = refl; page_of = refl }
+
+pub around_then : {M : Type 0} {m : Levels.Ghosts M} → {D E : Type 0} (a b c : Core D E M m) → KeepsAround a b → KeepsAround b c → KeepsAround a c
+around_then a b c one two = record {
+  store = two.store ∙ one.store;
+  swap = two.swap ∙ one.swap;
+  cache = two.cache ∙ one.cache;
+  roots = two.roots ∙ one.roots;
+  regions = two.regions ∙ one.regions;
+  page_of = two.page_of ∙ one.page_of;
+}
+
+frames-refl : (t : FrameTable) → KeepsFrames t t
+frames-refl t = record { frames = refl; roles = refl; counts = refl; bytes = λ n other. refl }
+
+frames_then : (a b c : FrameTable) → KeepsFrames a b → KeepsFrames b c → KeepsFrames a c
+frames_then a b c one two = record {
+  frames = two.frames ∙ one.frames;
+  roles = two.roles ∙ one.roles;
+  counts = two.counts ∙ one.counts;
+  bytes = λ n other. two.bytes n (λ e. other (ap (λ rs. get_or rs n Free) (sym one.roles) ∙ e)) ∙ one.bytes n other;
+}
+
+-- nothing changed: the pages have no entries, or lie in slots
+pub permits_same : {mode : ℕ} (c : Picture mode) (pid low high : ℕ) (prot : Prot)
+    → ((page : ℕ) → IsPage (top_level mode) page → low ≤ page → page < high → (entry c pid page ≡ 0) ⊎ (is_swapped (entry c pid page) ≡ true)) → PermitsRow c c pid low high prot
+permits_same c pid low high prot each = record {
+  beside = beside-refl c;
+  memory = frames-refl c.frames;
+  kept = λ q page h out. refl;
+  changed = λ page h least below. elim (each page h least below) [
+    | inl none ↦ Empty none none
+    | inr away ↦ Away away refl
+  ];
+}
+
+pub permits_none : {mode : ℕ} (c : Picture mode) (pid low high : ℕ) (prot : Prot) → ((page : ℕ) → IsPage (top_level mode) page → low ≤ page → page < high → entry c pid page ≡ 0)
+    → PermitsRow c c pid low high prot
+permits_none c pid low high prot none = permits_same c pid low high prot (λ page h least below. inl (none page h least below))
+
+stores_moved : (t t' : FrameTable) (o : Option Attr) (prot : Prot) (e : ℕ) → t'.counts ≡ t.counts → TakesStores t' o prot e → TakesStores t o prot e
+stores_moved t t' o prot e counts s = record {
+  permitted = s.permitted;
+  sole = λ own. ap (λ cs. get_or cs (frame_of e) 0) (sym counts) ∙ s.sole own;
+  common = s.common;
+}
+
+counts_moved : (t t' : FrameTable) (o : Option Attr) (prot : Prot) (e x : ℕ) → t'.counts ≡ t.counts → Permits t' o prot e x → Permits t o prot e x
+counts_moved t t' o prot e x counts (Empty z z') = Empty z z'
+counts_moved t t' o prot e x counts (Away away is) = Away away is
+counts_moved t t' o prot e x counts (Kept some here writable stores is) =
+    Kept some here writable (λ w. stores_moved t t' o prot e counts (stores.0 w), λ s. stores.1 (stores_moved t' t o prot e (sym counts) s)) is
+
+-- one row after the other
+pub permits_then : {mode : ℕ} (a b c : Picture mode) (pid low mid high : ℕ) (prot : Prot) → low ≤ mid → mid ≤ high → PermitsRow a b pid low mid prot → PermitsRow b c pid mid high prot
+    → PermitsRow a c pid low high prot
+permits_then a b c pid low mid high prot le le' one two = record {
+  beside = beside_then a b c one.beside two.beside;
+  memory = frames_then a.frames b.frames c.frames one.memory two.memory;
+  kept = λ q page h out. two.kept q page h (out_back pid low mid high q page le out) ∙ one.kept q page h (out_front pid low mid high q page le' out);
+  changed = λ page h least below. elim (cases_lt page mid) [
+    | inl front ↦ (
+        let P : ℕ → Type 0 = λ x. Permits a.frames (a.at pid page) prot (entry a pid page) x in
+        subst P (sym (two.kept pid page h (inr (inl front)))) (one.changed page h least front))
+    | inr back ↦ (
+        let P : Option Attr → Type 0 = λ o. Permits b.frames o prot (entry b pid page) (entry c pid page) in
+        let Q : ℕ → Type 0 = λ e. Permits b.frames (a.at pid page) prot e (entry c pid page) in
+        counts_moved a.frames b.frames (a.at pid page) prot (entry a pid page) (entry c pid page) one.memory.counts
+        (subst Q (one.kept pid page h (inr (inr back))) (subst P (one.beside.at pid page) (two.changed page h back below))))
+  ];
+}
+
+-- the entry of a page was set to one of that permission
+module _ {mode : ℕ} (old new : Picture mode) (pid r page number : ℕ) (prot : Prot) (rooted : IsRootedBut old 0) (root : old.root pid ≡ Some r) (h : IsPage (top_level mode) page)
+    (sets : SetsEntry old.frames new.frames (top_level mode) r page number) (beside : SameBeside old new) where
+  page_permitted : SetsPage old new pid page number
+  page_permitted = sets_page old new 0 pid r page number rooted root h sets beside
+
+  pub rooted_permitted : IsRootedBut new 0
+  rooted_permitted = rooted_set old new 0 r page number rooted sets beside
+
+  pub places_permitted : (row n : ℕ) → IsTableOf old.frames (top_level mode) r row n → IsTableOf new.frames (top_level mode) r row n
+  places_permitted row n = row_stays old.frames new.frames (top_level mode) r page number sets r row n (rooted.roots pid r root)
+
+  module _ (writable : Bool) (some : entry old pid page ≢ 0) (here : is_swapped (entry old pid page) ≡ false) (stores : (writable ≡ true) ↔ TakesStores old.frames (old.at pid page) prot (entry old pid page))
+      (is : IsPermittedEntry prot writable (entry old pid page) number) where
+    pub named_permitted : NamesFrames old pid → NamesFrames new pid
+    named_permitted named p h' used framed = elim (cases_eq p page) [
+      | inl e ↦ (
+          let there : IsFrame old.frames (frame_of (entry old pid page)) = named page h some here in
+          let frame : frame_of (entry new pid p) ≡ frame_of (entry old pid page) = ap (λ x. frame_of (entry new pid x)) e ∙ ap frame_of page_permitted.changed ∙ is.over.names in
+          let count : frame_count new.frames ≡ frame_count old.frames = sets.kept.frames in
+          rw (frame, count) there)
+      | inr ne ↦ (
+          let same : entry new pid p ≡ entry old pid p = page_permitted.others pid p h' (inr ne) in
+          let there : IsFrame old.frames (frame_of (entry old pid p)) = named p h' (λ z. used (same ∙ z)) (sym (ap is_swapped same) ∙ framed) in
+          let count : frame_count new.frames ≡ frame_count old.frames = sets.kept.frames in
+          rw (same, count) there)
+    ]
+
+    pub permits_set : PermitsRow old new pid page (page + 1) prot
+    permits_set = record {
+      beside = beside;
+      memory = sets.kept;
+      kept = λ q k hk out. page_permitted.others q k hk (other_page pid page q k out);
+      changed = λ k hk low high. (
+          let at : page ≡ k = omega arith in
+          let P : ℕ → Type 0 = λ x. Permits old.frames (old.at pid x) prot (entry old pid x) (entry new pid x) in
+          let Q : ℕ → Type 0 = λ x. Permits old.frames (old.at pid page) prot (entry old pid page) x in
+          subst P at (subst Q (sym page_permitted.changed) (Kept some here writable stores is)));
+    }
+
+behind_inside : {mode : ℕ} (c : Picture mode) (b : Backing) (n : ℕ) → IsSound c.frames → HasPlaces c → IsBehind c b n → IsFrame c.frames n
+behind_inside c Backing.Anon n sound places behind = let least = sound.least in omega (arith, least, behind)
+behind_inside c (Backing.Private p) n sound places behind = inside_memory c.frames n sound (cache_used (role_of c.frames n) (places.cached (File p) n behind))
+behind_inside c (Backing.Shared p) n sound places behind = inside_memory c.frames n sound (cache_used (role_of c.frames n) (places.cached (File p) n behind))
+behind_inside c (Backing.Common p) n sound places behind = inside_memory c.frames n sound (cache_used (role_of c.frames n) (places.cached (Object p) n behind))
+
+named_for : {mode : ℕ} (c : Picture mode) (o : Option Attr) (e : ℕ) → IsSound c.frames → HasPlaces c → IsEntryFor c o e → (is_private e ≡ true → role_of c.frames (frame_of e) ≡ Private)
+    → e ≢ 0 → is_swapped e ≡ false → IsFrame c.frames (frame_of e)
+named_for c o e sound places (Parts.Nothing none) private some here = absurd (some none)
+named_for c o e sound places (Parts.Away a at away) private some here = absurd (false≢true (sym here ∙ away.swapped))
+named_for c o e sound places (Parts.Resident a at resident) private some here = elim (cases_Bool (is_private e)) [
+  | inl own ↦ inside_memory c.frames (frame_of e) sound (private_used (role_of c.frames (frame_of e)) (private own))
+  | inr common ↦ behind_inside c a.backing (frame_of e) sound places (resident.behind common)
+]
+
+-- each entry names a frame of memory, or its page lies in a slot
+pub named_entries : {mode : ℕ} (c : Picture mode) (pid : ℕ) → IsSound c.frames → IsFit c → NamesFrames c pid
+named_entries c pid sound fit page h some here =
+    named_for c (c.at pid page) (entry c pid page) sound fit.places (fit.granting.entries pid page h)
+    (λ own. fit.counted.1.named pid page (InFrame (frame_of (entry c pid page))) h (seat_own (entry c pid page) own)) some here

@@ -1,0 +1,147 @@
+-- What gives back the share of a frame or of a slot, or takes an entry out: counts, and slots.
+use Rattle.vm_types.specs.Limits.{top_level}
+use Rattle.std.proofs.Common.{◌≡◌, ◌≢◌, ℕ, inl, inr, ◌+◌, ◌<◌, true, false, Option, Some, None, refl, sym, ap, ◌∙◌, subst, arith}
+use Rattle.std.proofs.lemmas.Bool.{cases_lt, false≢true}
+use Rattle.std.proofs.lemmas.List.{get_or_past}
+use Rattle.frames.specs.declared.role.Role.{Role}
+use Rattle.frames.specs.declared.role.Role.TheVariants.{Free, Table, Private, Cache}
+use Rattle.frames.specs.FrameTable.{FrameTable, frame_count, role_of, IsFrame, IsHeld, IsSound}
+use Rattle.sv39_walk.specs.Entry.{is_valid, frame_of}
+use Rattle.page_tables.specs.Tree.{IsPage}
+use Rattle.residency.specs.Seats.{Seat, InFrame, seat, is_seat, holders_at, off, AreCounted, OthersSame}
+use Rattle.residency.specs.Picture.{Picture, entry, IsOwned, count_in, page_in}
+use Rattle.residency.specs.Parts.{IsRootedBut, IsFitBut, Nothing, nowhere}
+use Rattle.residency.specs.Steps.{SetsPage}
+use Rattle.residency.proofs.Bits.{valid_zero}
+use Rattle.residency.proofs.Counts.{count-same, count-one}
+use Rattle.residency.proofs.Granting.{granting_changed}
+use Rattle.residency.proofs.Moves.{behind_kept, owned_forth, owned_back, count_kept, page_kept}
+use Rattle.residency.proofs.Places.{places_same, dirty_changed}
+use Rattle.residency.proofs.Seats.{cases_seat, seat-same, seat-other, off-none}
+use Rattle.residency.proofs.Start.{seat-none}
+use Rattle.residency.proofs.Ways.{by_page}
+
+-- a frame of some use is one of memory
+pub inside_memory : (t : FrameTable) (n : ℕ) → IsSound t → role_of t n ≢ Free → IsFrame t n
+inside_memory t n sound used = elim (cases_lt n (frame_count t)) [
+  | inl inside ↦ inside
+  | inr past ↦ absurd (used (get_or_past t.roles n Free (omega (arith, sound.all_roles, past))))
+]
+
+pub private_used : (r : Role) → r ≡ Private → r ≢ Free
+private_used r p f = let bad : Private ≡ Free = sym p ∙ f in (cc)
+
+pub cache_used : (r : Role) → r ≡ Cache → r ≢ Free
+cache_used r p f = let bad : Cache ≡ Free = sym p ∙ f in (cc)
+
+pub private_data : (r : Role) → r ≡ Private → r ≢ Table
+private_data r p t = let bad : Private ≡ Table = sym p ∙ t in (cc)
+
+pub cache_data : (r : Role) → r ≡ Cache → r ≢ Table
+cache_data r p t = let bad : Cache ≡ Table = sym p ∙ t in (cc)
+
+pub held_private : (t : FrameTable) (n : ℕ) → IsFrame t n → role_of t n ≡ Private → IsHeld t n
+held_private t n inside private = record { inside = inside; handed_out = rw private refl }
+
+sits : (o : Option Seat) (y : Seat) → o ≡ Some y → is_seat o y ≡ true
+sits o y e = ap (λ z. is_seat z y) e ∙ seat-same y
+
+sits_not : (o : Option Seat) (x y : Seat) → o ≡ Some x → x ≢ y → is_seat o y ≡ false
+sits_not o x y e ne = ap (λ z. is_seat z y) e ∙ seat-other x y ne
+
+sits_none : (o : Option Seat) (y : Seat) → o ≡ None → is_seat o y ≡ false
+sits_none o y e = ap (λ z. is_seat z y) e
+
+off-here : (x : Seat) (d : ℕ) → off x d x ≡ d
+off-here x d = rw (seat-same x) refl
+
+off-other : (x : Seat) (d : ℕ) (y : Seat) → x ≢ y → off x d y ≡ 0
+off-other x d y ne = rw (seat-other x y ne) refl
+
+-- Of the page (pid, page) the entry named seat x, and names none now: the count of x is one too high.
+module _ (mode : ℕ) (old new : ℕ → ℕ → ℕ) (owned owned' : Seat → Type 0) (count count' page page' : Seat → ℕ) (x x' : Seat) (pid k : ℕ)
+    (counted : AreCounted mode old owned count page x' 0) (forth : (z : Seat) → owned z → owned' z) (back : (z : Seat) → owned' z → owned z)
+    (counts : (z : Seat) → owned z → count' z ≡ count z) (pages : (z : Seat) → owned z → page' z ≡ page z)
+    (h : IsPage (top_level mode) k) (below : pid < 65) (from : seat (old pid k) ≡ Some x) (to : seat (new pid k) ≡ None) (others : OthersSame mode old new pid k) where
+  noted_x : page x ≡ k
+  noted_x = counted.noted pid k x h from
+
+  held_x : owned x
+  held_x = counted.named pid k x h from
+
+  lost : holders_at old k x ≡ holders_at new k x + 1
+  unfolding holders_at
+  lost =
+      count-one (λ q. is_seat (seat (old q k)) x) (λ q. is_seat (seat (new q k)) x) pid 65 below (sits (seat (old pid k)) x from) (sits_none (seat (new pid k)) x to)
+      (λ q ne. ap (λ e. is_seat (seat e) x) (sym (others q k h (inl ne))))
+
+  still : (z : Seat) (p : ℕ) → z ≢ x → IsPage (top_level mode) p → holders_at new p z ≡ holders_at old p z
+  unfolding holders_at
+  still z p ne h' = count-same (λ q. is_seat (seat (new q p)) z) (λ q. is_seat (seat (old q p)) z) 65 (λ q. elim (by_page q p pid k) [
+    | inl e ↦ (
+        let P : ℕ → Type 0 = λ a. is_seat (seat (new a p)) z ≡ is_seat (seat (old a p)) z in
+        let Q : ℕ → Type 0 = λ a. is_seat (seat (new pid a)) z ≡ is_seat (seat (old pid a)) z in
+        subst P (sym e.0) (subst Q (sym e.1) (sits_none (seat (new pid k)) z to ∙ sym (sits_not (seat (old pid k)) x z from (λ e. ne (sym e))))))
+    | inr away ↦ ap (λ e. is_seat (seat e) z) (others q p h' away)
+  ])
+
+  gone : (q p : ℕ) (z : Seat) → (q ≡ pid) × (p ≡ k) → seat (new q p) ≡ Some z → ⊥
+  gone q p z e is =
+      let moved : new q p ≡ new pid k = ap (λ v. new v p) e.0 ∙ ap (λ v. new pid v) e.1 in
+      let bad : None ≡ Some z = sym to ∙ ap seat (sym moved) ∙ is in (cc)
+
+  pub counted_emptied : AreCounted mode new owned' count' page' x 1
+  counted_emptied = record {
+    counts = λ z now. (
+        let was = back z now in
+        let before = counts z was ∙ counted.counts z was in
+        let zero = off-none x' z in
+        elim (cases_seat z x) [
+          | inl e ↦ (
+              let P : Seat → Type 0 = λ a. count' a ≡ holders_at new (page' a) a + off x 1 a in
+              let at : page' x ≡ k = pages x held_x ∙ noted_x in
+              let c = counts x held_x ∙ counted.counts x held_x in
+              let a = off-here x 1 in
+              let b = off-none x' x in
+              let l = lost in
+              subst P (sym e) (rw at (let c' : count' x ≡ holders_at old k x + off x' 0 x = (let R : ℕ → Type 0 = λ v. count' x ≡ holders_at old v x + off x' 0 x in subst R noted_x c) in omega (arith, c', a, b, l))))
+          | inr ne ↦ (
+              let s = still z (page z) ne (counted.pages z was) in
+              let a = off-other x 1 z (λ f. ne (sym f)) in
+              rw (pages z was) (omega (arith, before, s, a, zero)))
+        ]);
+    pages = λ z now. (let was = back z now in let P : ℕ → Type 0 = λ v. IsPage (top_level mode) v in subst P (sym (pages z was)) (counted.pages z was));
+    named = λ q p z h' is. elim (by_page q p pid k) [
+      | inl e ↦ absurd (gone q p z e is)
+      | inr away ↦ forth z (counted.named q p z h' (ap seat (sym (others q p h' away)) ∙ is))
+    ];
+    noted = λ q p z h' is. elim (by_page q p pid k) [
+      | inl e ↦ absurd (gone q p z e is)
+      | inr away ↦ (
+          let was = ap seat (sym (others q p h' away)) ∙ is in
+          pages z (counted.named q p z h' was) ∙ counted.noted q p z h' was)
+    ];
+  }
+
+-- the entry of a page, which named seat x, was taken out
+module _ {mode : ℕ} (old new : Picture mode) (x : Seat) (m pid page : ℕ) (fit : IsFitBut old nowhere 0 m) (sets : SetsPage old new pid page 0) (h : IsPage (top_level mode) page) (below : pid < 65)
+    (from : seat (entry old pid page) ≡ Some x) (rooted : IsRootedBut new m) where
+  pub fit_emptied : IsFitBut new x 1 m
+  fit_emptied = record {
+    counted = (
+      fit.counted.0,
+      counted_emptied mode (entry old) (entry new) (IsOwned old) (IsOwned new) (count_in old) (count_in new) (page_in old fit.counted.0) (page_in new fit.counted.0)
+          x nowhere pid page fit.counted.1 (owned_forth old new sets.beside sets.shares) (owned_back old new sets.beside sets.shares) (count_kept old new sets.beside sets.shares)
+          (λ z is. page_kept old new fit.counted.0 sets.beside z) h below from (ap seat sets.changed ∙ seat-none) sets.others,
+    );
+    rooted = rooted;
+    granting = granting_changed old new pid page fit.granting (behind_kept old new sets.beside)
+        (λ q p h' private one. sets.shares.counts (frame_of (entry old q p)) (fit.counted.1.named q p (InFrame (frame_of (entry old q p))) h' (rw private refl)) ∙ one)
+        sets.beside.at sets.others (Nothing sets.changed);
+    places = places_same old new fit.places sets.beside.place sets.beside.at sets.beside.files sets.beside.slots sets.shares.cache sets.shares.was_cache;
+    dirty = dirty_changed old new pid page fit.dirty sets.beside.place sets.beside.touched sets.others
+        (λ p valid common bit here. absurd (false≢true (sym (ap is_valid sets.changed ∙ valid_zero) ∙ valid)));
+  }
+
+  pub owned_emptied : IsOwned new x
+  owned_emptied = owned_forth old new sets.beside sets.shares x (fit.counted.1.named pid page x h from)

@@ -1,0 +1,80 @@
+use Rattle.vm_types.proofs.Modes.{sizes}
+use Rattle.std.proofs.Common.{◌≤◌, inl, inr, refl, sym, ◌∙◌, arith}
+use Rattle.residency.specs.Picture.{Picture, picture_of}
+use Rattle.ranges.specs.Rows.{IsUnmapped}
+use Rattle.ranges.proofs.ClearedPages.{rest-refl, rest_then, clears_none, clears_then}
+use Rattle.ranges.proofs.Passed.{clears_on, cleared_on, row_passed, files_passed, slots_passed, tables_passed}
+use Rattle.ranges.proofs.Pruned.{cleared_none}
+use Rattle.ranges.proofs.clearing.clear_row.Goals as goal
+
+pub loop-part-init : goal.loop-part-init
+loop-part-init g c =
+    let old : Picture g.M.Levels.mode = picture_of c.args.core.now in
+    record {
+      fit = c.requires.fit;
+      low = omega arith;
+      high = inl refl;
+      clears = clears_none old c.args.pid _ _ (λ page h least below. absurd (omega (arith, least, below)));
+      cleared = cleared_none old c.args.pid _ c.requires.fit c.args.core.now.sound;
+      rest = rest-refl c.args.core.now;
+      refused = refl;
+    }
+
+pub loop-part-preserved : goal.loop-part-preserved
+loop-part-preserved g c =
+    let old : Picture g.M.Levels.mode = picture_of c.args.core.now in
+    let mid : Picture g.M.Levels.mode = picture_of c.loop-part.core in
+    let new : Picture g.M.Levels.mode = picture_of c.clear_part.new.core in
+    let first = c.in-Some.part.first in
+    let end = c.in-Some.part.end in
+    let k = c.loop-part.invariant in
+    let low = k.low in
+    let some = c.in-Some.ensures.some in
+    let from = some.from in
+    let further = some.further in
+    let next = c.clear_part.ensures in
+    let start : c.max-page.result ≤ first = omega (arith, low, from) in
+    let gap : IsUnmapped (mid.at c.args.pid) c.loop-part.page first = λ page least below. sym (c.regions.ensures page) ∙ some.passed page least below in
+    record {
+      fit = next.fit;
+      low = omega (arith, start, further);
+      high = inr some.within;
+      clears = clears_then old mid new c.args.pid c.max-page.result first end c.requires.fit start (omega (arith, further))
+          (clears_on mid c.args.pid c.max-page.result c.loop-part.page first k.fit.granting gap old c.requires.fit low from k.clears) next.clears;
+      cleared = next.cleared c.max-page.result start (cleared_on mid c.args.pid c.max-page.result c.loop-part.page first k.fit.granting gap k.cleared);
+      rest = rest_then c.args.core.now c.loop-part.core c.clear_part.new.core k.rest next.rest;
+      refused = next.refused ∙ k.refused;
+    }
+
+pub returns-clause-row : goal.returns-clause-row
+returns-clause-row g c =
+    let k = c.loop-part.invariant in
+    row_passed (picture_of c.args.core.now) (picture_of c.loop-part.core) c.args.pid c.args.first c.args.pages c.max-page.result c.loop-part.page c.requires.fit k.fit.granting k.clears k.cleared
+    c.requires.row c.max-page.ensures k.low k.high (λ page least below. sym (c.regions.ensures page) ∙ c.in_default.ensures.none page least below)
+
+pub returns-clause-others : goal.returns-clause-others
+returns-clause-others g c q page h ne = c.loop-part.invariant.clears.kept q page h (inl ne)
+
+pub returns-clause-tables : goal.returns-clause-tables
+returns-clause-tables g c = c.loop-part.invariant.clears.returned
+
+pub returns-clause-none_left : goal.returns-clause-none_left
+returns-clause-none_left g c =
+    let k = c.loop-part.invariant in
+    tables_passed (picture_of c.args.core.now) (picture_of c.loop-part.core) c.args.pid c.args.first c.args.pages c.max-page.result c.loop-part.page c.requires.fit k.fit.granting k.clears k.cleared
+    c.requires.row c.max-page.ensures k.low k.high (λ page least below. sym (c.regions.ensures page) ∙ c.in_default.ensures.none page least below)
+
+pub returns-clause-slots : goal.returns-clause-slots
+returns-clause-slots g c =
+    let k = c.loop-part.invariant in
+    slots_passed (picture_of c.args.core.now) (picture_of c.loop-part.core) c.args.pid c.args.first c.args.pages c.max-page.result c.loop-part.page c.requires.fit k.fit.granting k.clears k.cleared
+    c.requires.row c.max-page.ensures k.low k.high (λ page least below. sym (c.regions.ensures page) ∙ c.in_default.ensures.none page least below)
+
+pub returns-clause-files : goal.returns-clause-files
+returns-clause-files g c =
+    let k = c.loop-part.invariant in
+    files_passed (picture_of c.args.core.now) (picture_of c.loop-part.core) c.args.pid c.args.first c.args.pages c.max-page.result c.loop-part.page c.requires.fit k.fit.granting k.clears k.cleared
+    c.requires.row c.max-page.ensures k.low k.high (λ page least below. sym (c.regions.ensures page) ∙ c.in_default.ensures.none page least below)
+
+pub overflow_add-end : goal.overflow_add-end
+overflow_add-end g c = omega (arith, c.requires.row, (sizes g.M.Levels.mode).most)

@@ -1,0 +1,19 @@
+use Rattle.std.proofs.Common.{◌≡◌, ◌-◌, ◌≤◌, ◌⊎◌}
+use Rattle.residency.specs.Parts.{IsFit}
+use Rattle.residency.specs.Picture.{picture_of}
+use Rattle.ranges.specs.Steps.{KeepsBesideMemory, Clears, IsCleared}
+use Rattle.ranges.proofs.clearing.clear_row.Given as goal
+
+abbrev pub invariant-loop-part : goal.invariant-loop-part
+invariant-loop-part g l = record {
+  fit : IsFit (picture_of l.core);
+  low : l.initial.page ≤ l.page;
+  high : (l.page ≡ l.initial.page) ⊎ (l.page ≤ l.end);
+  clears : Clears (picture_of l.initial.core) (picture_of l.core) l.pid l.initial.page l.page;
+  cleared : IsCleared (picture_of l.core) l.pid l.initial.page l.page;
+  rest : KeepsBesideMemory l.initial.core l.core;
+  refused : l.core.refused ≡ l.initial.core.refused;
+}
+
+abbrev pub decreases-loop-part : goal.decreases-loop-part
+decreases-loop-part g l = l.end - l.page

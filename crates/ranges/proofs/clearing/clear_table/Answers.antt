@@ -1,0 +1,110 @@
+use Rattle.vm_types.specs.Limits.{top_level}
+use Rattle.std.proofs.Common.{◌≡◌, ℕ, ◌+◌, ◌-◌, ◌*◌, ◌/◌, ◌%◌, inl, refl, sym, ap, ◌∙◌, subst, arith}
+use Rattle.page_tables.specs.Places.{IsTableOf}
+use Rattle.residency.specs.Picture.{Picture, picture_of}
+use Rattle.ranges.specs.Steps.{Clears}
+use Rattle.ranges.proofs.ClearedPages.{same_beside, rest-refl, rest_then, tables-refl, tables_then, clears_none, clears_then}
+use Rattle.ranges.proofs.Gaps.{in_row_of, user_inside, lives}
+use Rattle.ranges.proofs.Pruned.{fit_pruned, clears_pruned, cleared_block, cleared_still}
+use Rattle.ranges.proofs.clearing.clear_table.Goals as goal
+
+pub root_of-root-requires : goal.root_of-root-requires
+root_of-root-requires g c = record { live = lives ((picture_of c.args.core.now).root c.args.pid) c.requires.live }
+
+pub table_of-requires-clause-root : goal.table_of-requires-clause-root
+table_of-requires-clause-root g c = c.requires.fit.rooted.roots c.args.pid c.root_of-root.result.0 c.root_of-root.ensures
+
+-- where the row of a page begins
+begins : (start : ℕ) → start / 512 * 512 % 512 ≡ 0
+begins start = omega arith
+
+same_row : (start : ℕ) → start / 512 ≡ start / 512 * 512 / 512
+same_row start = omega arith
+
+pub loop-index-init : goal.loop-index-init
+loop-index-init g c =
+    let old : Picture g.M.Levels.mode = picture_of c.args.core.now in
+    let first = c.table_start-first.ensures in
+    let get = c.get.ensures.number in
+    let index : c.table_start-first.result + (c.get.result - c.table_start-first.result) ≡ c.args.start = omega (arith, first, get) in
+    let P : ℕ → Type 0 = λ x. IsTableOf old.frames (top_level g.M.Levels.mode) c.root_of-root.result.0 x c.in-Ok.table.0 in
+    let Q : ℕ → Type 0 = λ x. Clears old old c.args.pid c.args.start x in
+    record {
+      low = omega (arith, index);
+      high = omega (arith, get, c.requires.some);
+      fit = c.requires.fit;
+      place = subst P (same_row c.args.start ∙ ap (λ x. x / 512) (sym first)) c.in-Ok.ensures.found;
+      root_is = c.root_of-root.ensures;
+      clears = subst Q (sym index) (clears_none old c.args.pid c.args.start c.args.start (λ page h least below. absurd (omega (arith, least, below))));
+      tables = tables-refl c.args.core.now.frames;
+      rest = rest-refl c.args.core.now;
+      refused = refl;
+    }
+
+pub clear_at-index-requires-clause-begins : goal.clear_at-index-requires-clause-begins
+clear_at-index-requires-clause-begins g c = ap (λ x. x % 512) c.table_start-first.ensures ∙ begins c.args.start
+
+pub clear_at-index-requires-clause-high : goal.clear_at-index-requires-clause-high
+clear_at-index-requires-clause-high g c = omega (arith, c.table_start-first.ensures, c.requires.some, c.requires.high)
+
+pub loop-index-preserved : goal.loop-index-preserved
+loop-index-preserved g c =
+    let old : Picture g.M.Levels.mode = picture_of c.args.core.now in
+    let mid : Picture g.M.Levels.mode = picture_of c.loop-index.core in
+    let new : Picture g.M.Levels.mode = picture_of c.clear_at-index.new.core in
+    let k = c.loop-index.invariant in
+    let step = c.clear_at-index.ensures in
+    let low = k.low in
+    let further = step.further in
+    record {
+      low = omega (arith, low, further);
+      high = step.within;
+      fit = step.fit;
+      place = step.places (c.table_start-first.result / 512) c.in-Ok.table.0 k.place;
+      root_is = step.clears.beside.root c.args.pid ∙ k.root_is;
+      clears = clears_then old mid new c.args.pid c.args.start (c.table_start-first.result + c.loop-index.index) (c.table_start-first.result + c.clear_at-index.result) c.requires.fit low
+          (omega (arith, further)) k.clears step.clears;
+      tables = tables_then c.args.core.now.frames c.loop-index.core.frames c.clear_at-index.new.core.frames k.tables step.tables;
+      rest = rest_then c.args.core.now c.loop-index.core c.clear_at-index.new.core k.rest step.rest;
+      refused = step.refused ∙ k.refused;
+    }
+
+pub prune-requires-clause-root : goal.prune-requires-clause-root
+prune-requires-clause-root g c = c.loop-index.invariant.fit.rooted.roots c.args.pid c.root_of-root.result.0 c.loop-index.invariant.root_is
+
+pub returns-clause-fit : goal.returns-clause-fit
+returns-clause-fit g c =
+    let mid : Picture g.M.Levels.mode = picture_of c.loop-index.core in
+    let new : Picture g.M.Levels.mode = record mid { frames = c.prune.new.memory } in
+    fit_pruned mid new c.args.pid c.root_of-root.result.0 _ c.loop-index.invariant.fit c.loop-index.core.sound c.loop-index.invariant.root_is
+    c.prune.ensures.prunes (same_beside mid c.prune.new.memory)
+
+pub returns-clause-clears : goal.returns-clause-clears
+returns-clause-clears g c =
+    let old : Picture g.M.Levels.mode = picture_of c.args.core.now in
+    let mid : Picture g.M.Levels.mode = picture_of c.loop-index.core in
+    let new : Picture g.M.Levels.mode = record mid { frames = c.prune.new.memory } in
+    let first = c.table_start-first.ensures in
+    let high = c.loop-index.invariant.high in
+    let end : c.table_start-first.result + c.loop-index.index ≡ c.args.stop = omega (arith, first, high, c.loop-index-test.false, c.requires.some) in
+    let P : ℕ → Type 0 = λ x. Clears old mid c.args.pid c.args.start x in
+    clears_then old mid new c.args.pid c.args.start c.args.stop c.args.stop c.requires.fit (omega (arith, c.requires.some)) (omega arith)
+    (subst P end c.loop-index.invariant.clears)
+    (clears_pruned mid new c.args.pid c.root_of-root.result.0 _ c.loop-index.invariant.fit c.loop-index.core.sound c.loop-index.invariant.root_is
+    c.prune.ensures.prunes (same_beside mid c.prune.new.memory) c.args.stop c.args.stop (λ page h least below. absurd (omega (arith, least, below))))
+
+pub returns-clause-cleared : goal.returns-clause-cleared
+returns-clause-cleared g c low le cleared =
+    let old : Picture g.M.Levels.mode = picture_of c.args.core.now in
+    let mid : Picture g.M.Levels.mode = picture_of c.loop-index.core in
+    let new : Picture g.M.Levels.mode = record mid { frames = c.prune.new.memory } in
+    let first = c.table_start-first.ensures in
+    let high = c.loop-index.invariant.high in
+    let end : c.table_start-first.result + c.loop-index.index ≡ c.args.stop = omega (arith, first, high, c.loop-index-test.false, c.requires.some) in
+    let P : ℕ → Type 0 = λ x. Clears old mid c.args.pid c.args.start x in
+    let clears : Clears old mid c.args.pid c.args.start c.args.stop = subst P end c.loop-index.invariant.clears in
+    cleared_block mid new c.args.pid c.root_of-root.result.0 c.args.start c.loop-index.invariant.fit c.loop-index.core.sound c.loop-index.invariant.root_is
+    c.prune.ensures.prunes (same_beside mid c.prune.new.memory) low c.args.stop le
+    (cleared_still old mid c.args.pid low c.args.start c.args.stop clears c.loop-index.invariant.tables cleared) clears.gone c.prune.ensures.pruned
+    (user_inside g.M.Levels.mode c.args.start c.args.stop c.requires.some c.requires.high) 1 (omega arith) (inl refl)
+    (λ p from below. in_row_of c.args.start p c.args.stop ((c.args.start / 512 + 1) * 512) from below c.requires.one_table refl)

@@ -1,0 +1,23 @@
+use Rattle.vm_types.specs.Limits.{top_level}
+use Rattle.std.proofs.Common.{◌≡◌, ◌+◌, ◌-◌, ◌/◌, ◌≤◌, Some}
+use Rattle.page_tables.specs.Places.{IsTableOf}
+use Rattle.residency.specs.Parts.{IsFit}
+use Rattle.residency.specs.Picture.{picture_of}
+use Rattle.ranges.specs.Steps.{KeepsBesideMemory, SameTables, Clears}
+use Rattle.ranges.proofs.clearing.clear_table.Given as goal
+
+abbrev pub invariant-loop-index : goal.invariant-loop-index
+invariant-loop-index g l = record {
+  low : l.fn.start ≤ l.first + l.index;
+  high : l.index ≤ l.end;
+  fit : IsFit (picture_of l.core);
+  place : IsTableOf l.core.frames (top_level g.M.Levels.mode) l.root.0 (l.first / 512) l.row.table.0;
+  root_is : (picture_of l.core).root l.pid ≡ Some l.root.0;
+  clears : Clears (picture_of l.initial.core) (picture_of l.core) l.pid l.fn.start (l.first + l.index);
+  tables : SameTables l.initial.core.frames l.core.frames;
+  rest : KeepsBesideMemory l.initial.core l.core;
+  refused : l.core.refused ≡ l.initial.core.refused;
+}
+
+abbrev pub decreases-loop-index : goal.decreases-loop-index
+decreases-loop-index g l = l.end - l.index

@@ -1,0 +1,20 @@
+use Rattle.std.proofs.Common.{◌-◌, inl, inr, sym, ◌∙◌, arith}
+use Rattle.std.proofs.lemmas.Bool.{cases_lt}
+use Rattle.ranges.proofs.Naming.{none_named, uncommon_named}
+use Rattle.ranges.proofs.forgetting.common_pages.Goals as goal
+
+pub loop-run-preserved : goal.loop-run-preserved
+loop-run-preserved g c =
+    let next = c.in-Some.ensures.some in
+    let part = c.common_part-count.result in
+    record {
+      low = (let a = c.loop-run.invariant.low in let b = next.from in let d = next.nonempty in omega (arith, a, b, d));
+      few = (let a = c.loop-run.invariant.few in let b = next.from in let d = next.nonempty in let e = c.common_part-count.ensures.few in omega (arith, a, b, d, e));
+      none = λ zero k object page low less. elim (cases_lt k c.loop-run.from) [
+        | inl passed ↦ c.loop-run.invariant.none (omega (arith, zero)) k object page low passed
+        | inr late ↦ elim (cases_lt k c.in-Some.run'.first) [
+          | inl gap ↦ none_named _ object page (sym (c.regions.ensures k) ∙ next.none_before k late gap)
+          | inr within ↦ uncommon_named _ c.in-Some.run' (k - c.in-Some.run'.first) object page (sym (c.regions.ensures k) ∙ next.mapped k within less) (c.common_part-count.ensures.none (omega (arith, zero)))
+        ]
+      ];
+    }

@@ -1,0 +1,84 @@
+use Rattle.vm_types.specs.Limits.{widest_end, top_level}
+use Rattle.vm_types.proofs.Modes.{sizes, user_pages_fit}
+use Rattle.std.proofs.Common.{◌≡◌, ◌⊎◌, ℕ, ◌+◌, ◌<◌, ◌≤◌, inl, inr, true, sym, ap, ◌∙◌, subst, arith}
+use Rattle.std.proofs.lemmas.Bool.{cases_lt, false≢true}
+use Rattle.vm_types.specs.Objects.{is_named, names}
+use Rattle.vm_types.specs.declared.object.ObjectPage.{ObjectPage}
+use Rattle.vm_types.specs.declared.object.PageKey.TheVariants.{Object}
+use Rattle.page_tables.specs.Tree.{IsPage}
+use Rattle.page_cache.specs.declared.place.Place.TheVariants.{Home}
+use Rattle.residency.specs.declared.kernel.Core.{Core}
+use Rattle.residency.specs.Calls.{KeepsBesidePlaces}
+use Rattle.residency.specs.Picture.{Picture, picture_of}
+use Rattle.residency.specs.Steps.{Forgets}
+use Rattle.residency.proofs.Places.{cases_page}
+use Rattle.ranges.specs.Rows.{ForgetsMore, without_maps}
+use Rattle.ranges.proofs.LastName.{in_row_from, named_beside, unnamed_without, same_without, more_then, looked_at, forgets_row, rest_then}
+use Rattle.ranges.proofs.forgetting.forget_pages.Goals as goal
+
+stays_home : {mode : ℕ} (b c : Picture mode) (p : ObjectPage) → Forgets b c p → (q : ObjectPage) → b.place (Object q) ≡ Home → c.place (Object q) ≡ Home
+stays_home b c p forgets q home = elim (cases_page (Object q) (Object p)) [
+  | inl e ↦ ap c.place e ∙ forgets.placed
+  | inr ne ↦ forgets.others (Object q) ne ∙ home
+]
+
+pub loop-named-preserved : goal.loop-named-preserved
+loop-named-preserved g c =
+    let a : Picture g.M.Levels.mode = picture_of c.args.core.now in
+    let b : Picture g.M.Levels.mode = picture_of c.loop-named.core in
+    let k = c.loop-named.invariant in
+    let n = c.in-Some.named in
+    let next = c.in-Some.ensures.some in
+    let new = c.forget_there.new.core in
+    let late : c.args.first ≤ n.at = (let x = k.low in let y = next.from in omega (arith, x, y)) in
+    let inside = in_row_from c.args.first c.args.pages n.at late next.within in
+    let high : n.at < widest_end = (let x = next.within in let y = c.requires.row in let most = (sizes g.M.Levels.mode).most in omega (arith, x, y, most)) in
+    let next_page = c.get-from.ensures.number in
+    let low : c.args.first ≤ c.get-from.result + 1 = omega (arith, late, next_page) in
+    let looked : (j : ℕ) → j < c.get-from.result + 1 → j < n.at + 1 = λ j below. omega (arith, below, next_page) in
+    elim c.forget_there.ensures.there [
+      | inl same ↦ (
+          let P : Core _ _ g.row.M.Denot g.M.Levels → Type 0 = λ x. ForgetsMore a (picture_of x) c.args.pid c.args.first c.args.pages in
+          let Q : Core _ _ g.row.M.Denot g.M.Levels → Type 0 = λ x. (j : ℕ) (q : ObjectPage) → c.args.first ≤ j → j < n.at + 1 → names (a.at c.args.pid j) q.object q.page ≡ true
+          → ((picture_of x).place (Object q) ≡ Home) ⊎ (is_named (without_maps a.at c.args.pid c.args.first c.args.pages) q.object q.page ≡ true) in
+          let R : Core _ _ g.row.M.Denot g.M.Levels → Type 0 = λ x. KeepsBesidePlaces c.args.core.now x in
+          record {
+            fit = c.forget_there.ensures.fit;
+            low = low;
+            more = subst P (sym same.0) k.more;
+            gone = λ j q late' below is. subst Q (sym same.0) (looked_at a b b c.args.pid c.args.first c.args.pages c.loop-named.from n.at n.page k.gone (λ i. k.more.at c.args.pid i) next.here next.none_before (λ i home. home)
+                (inr (sym (same_without a b c.args.pid c.args.first c.args.pages n.page k.more) ∙ named_beside g.M.Levels.mode b.at c.args.pid c.args.first c.args.pages n.page same.1.0 n.at same.1.1 high same.1.2 same.1.3)))
+                j q late' (looked j below) is;
+            rest = subst R (sym same.0) k.rest;
+          })
+      | inr gone ↦ (
+          let unnamed = sym (same_without a b c.args.pid c.args.first c.args.pages n.page k.more) ∙ unnamed_without g.M.Levels.mode b.at c.args.pid c.args.first c.args.pages k.fit.granting.objects n.page n.at inside next.here gone.2 in
+          record {
+            fit = c.forget_there.ensures.fit;
+            low = low;
+            more = more_then a b (picture_of new) c.args.pid c.args.first c.args.pages n.page k.fit k.more gone.0 unnamed;
+            gone = λ j q late' below is. looked_at a b (picture_of new) c.args.pid c.args.first c.args.pages c.loop-named.from n.at n.page k.gone (λ i. k.more.at c.args.pid i) next.here next.none_before
+                (stays_home b (picture_of new) n.page gone.0) (inl gone.0.placed) j q late' (looked j below) is;
+            rest = rest_then c.args.core.now c.loop-named.core new k.rest gone.1;
+          })
+    ]
+
+pub forget_there-requires-clause-bare : goal.forget_there-requires-clause-bare
+forget_there-requires-clause-bare g c =
+    let k = c.loop-named.invariant in
+    let n = c.in-Some.named in
+    let next = c.in-Some.ensures.some in
+    let late : c.args.first ≤ n.at = (let x = k.low in let y = next.from in omega (arith, x, y)) in
+    let user : IsPage (top_level g.M.Levels.mode) n.at = (let x = next.within in let y = c.requires.row in let fits = user_pages_fit g.M.Levels.mode in omega (arith, x, y, fits)) in
+    k.more.entries c.args.pid n.at user ∙ c.requires.bare n.at (in_row_from c.args.first c.args.pages n.at late next.within)
+
+pub returns-clause-forgets : goal.returns-clause-forgets
+returns-clause-forgets g c =
+    let k = c.loop-named.invariant in
+    forgets_row (picture_of c.args.core.now) (picture_of c.loop-named.core) c.args.pid c.args.first c.args.pages c.requires.fit k.more (λ j p low below is. elim (cases_lt j c.loop-named.from) [
+      | inl passed ↦ k.gone j p low passed is
+      | inr late ↦ absurd (false≢true (sym (c.in_default.ensures.none j p.object p.page late below) ∙ ap (λ x. names x p.object p.page) (k.more.at c.args.pid j) ∙ is))
+    ])
+
+pub overflow_add-first : goal.overflow_add-first
+overflow_add-first g c = omega (arith, c.requires.row, (sizes g.M.Levels.mode).most)

@@ -1,0 +1,101 @@
+use Rattle.vm_types.specs.Limits.{top_level}
+use Rattle.std.proofs.Common.{◌≡◌, ℕ, ◌+◌, ◌/◌, ◌<◌, ◌≤◌, refl, sym, ap, ◌∙◌, subst, arith}
+use Rattle.residency.specs.Picture.{Picture, picture_of}
+use Rattle.ranges.specs.Leaves.{PermitsRow}
+use Rattle.page_tables.specs.Places.{IsTableOf}
+use Rattle.page_tables.specs.Tree.{page_entry}
+use Rattle.ranges.proofs.BetweenEntries.{same_table, end_from, none_between}
+use Rattle.ranges.proofs.PermittedRows.{around-refl, around_then, permits_none, permits_then}
+use Rattle.ranges.proofs.Gaps.{user_inside, lives}
+use Rattle.ranges.proofs.permitting.permit_table.Goals as goal
+
+pub root_of-root-requires : goal.root_of-root-requires
+root_of-root-requires g c = record { live = lives ((picture_of c.args.core.now).root c.args.pid) c.requires.live }
+
+pub table_of-requires-clause-root : goal.table_of-requires-clause-root
+table_of-requires-clause-root g c = c.requires.rooted.roots c.args.pid c.root_of-root.result.0 c.root_of-root.ensures
+
+pub next_entry-page-requires-clause-table : goal.next_entry-page-requires-clause-table
+next_entry-page-requires-clause-table g c = c.in-Ok.ensures.found.table
+
+pub loop-page-init : goal.loop-page-init
+loop-page-init g c =
+    let old : Picture g.M.Levels.mode = picture_of c.args.core.now in
+    let begins = c.get.ensures.number in
+    let next = c.next_entry-page.ensures in
+    let P : ℕ → Type 0 = λ x. (root p : ℕ) → IsTableOf old.frames (top_level g.M.Levels.mode) root (p / 512) c.in-Ok.table.0 → x ≤ p → p < c.next_entry-page.result
+    → page_entry old.frames (top_level g.M.Levels.mode) root p ≡ 0 in
+    record {
+      low = omega (arith, next.from, begins);
+      high = next.within;
+      rooted = c.requires.rooted;
+      named = c.requires.named;
+      place = c.in-Ok.ensures.found;
+      root_is = c.root_of-root.ensures;
+      permits = permits_none old c.args.pid c.args.start c.next_entry-page.result c.args.prot
+          (none_between old c.args.pid c.root_of-root.result.0 c.in-Ok.table.0 c.args.start c.args.start c.next_entry-page.result c.args.stop
+          c.root_of-root.ensures c.in-Ok.ensures.found (omega arith) next.within c.requires.one_table (subst P begins next.passed));
+      rest = around-refl c.args.core.now;
+      refused = refl;
+    }
+
+pub permit_page-requires-clause-place : goal.permit_page-requires-clause-place
+permit_page-requires-clause-place g c =
+    let k = c.loop-page.invariant in
+    let same = same_table c.args.start c.loop-page.page c.args.stop k.low c.loop-page-test.true c.requires.one_table in
+    let P : ℕ → Type 0 = λ x. IsTableOf c.loop-page.core.frames (top_level g.M.Levels.mode) c.root_of-root.result.0 x c.in-Ok.table.0 in
+    subst P (same ∙ ap (λ x. x / 512) (sym c.user_page.ensures)) k.place
+
+pub next_entry-page-requires-in-loop-page-clause-table : goal.next_entry-page-requires-in-loop-page-clause-table
+next_entry-page-requires-in-loop-page-clause-table g c = (c.permit_page.ensures.places (c.args.start / 512) c.in-Ok.table.0 c.loop-page.invariant.place).table
+
+pub next_entry-page-requires-in-loop-page-clause-one_table : goal.next_entry-page-requires-in-loop-page-clause-one_table
+next_entry-page-requires-in-loop-page-clause-one_table g c =
+    let low = c.loop-page.invariant.low in
+    end_from c.args.start (c.loop-page.page + 1) c.args.stop (omega (arith, low)) c.requires.one_table
+
+pub loop-page-preserved : goal.loop-page-preserved
+loop-page-preserved g c =
+    let old : Picture g.M.Levels.mode = picture_of c.args.core.now in
+    let mid : Picture g.M.Levels.mode = picture_of c.loop-page.core in
+    let new : Picture g.M.Levels.mode = picture_of c.permit_page.new.core in
+    let page = c.loop-page.page in
+    let k = c.loop-page.invariant in
+    let low = k.low in
+    let next = c.next_entry-page-in-loop-page.ensures in
+    let from = next.from in
+    let place = c.permit_page.ensures.places (c.args.start / 512) c.in-Ok.table.0 k.place in
+    let root_is = c.permit_page.ensures.permits.beside.root c.args.pid ∙ k.root_is in
+    let P : ℕ → Type 0 = λ x. PermitsRow mid new c.args.pid x (x + 1) c.args.prot in
+    let one : PermitsRow mid new c.args.pid page (page + 1) c.args.prot = subst P c.user_page.ensures c.permit_page.ensures.permits in
+    let past = none_between new c.args.pid c.root_of-root.result.0 c.in-Ok.table.0 c.args.start (page + 1) c.next_entry-page-in-loop-page.result c.args.stop
+    root_is place (omega (arith, low)) next.within c.requires.one_table next.passed in
+    record {
+      low = omega (arith, low, from);
+      high = next.within;
+      rooted = c.permit_page.ensures.rooted;
+      named = c.permit_page.ensures.named;
+      place = place;
+      root_is = root_is;
+      permits = permits_then old new new c.args.pid c.args.start (page + 1) c.next_entry-page-in-loop-page.result c.args.prot (omega (arith, low)) from
+          (permits_then old mid new c.args.pid c.args.start page (page + 1) c.args.prot low (omega arith) k.permits one)
+          (permits_none new c.args.pid (page + 1) c.next_entry-page-in-loop-page.result c.args.prot past);
+      rest = around_then c.args.core.now c.loop-page.core c.permit_page.new.core k.rest c.permit_page.ensures.rest;
+      refused = c.permit_page.ensures.refused ∙ k.refused;
+    }
+
+-- the loop ends with the pages
+ends : (page stop : ℕ) → page ≤ stop → stop ≤ page → page ≡ stop
+ends page stop le ge = omega arith
+
+pub returns-clause-permits : goal.returns-clause-permits
+returns-clause-permits g c =
+    let old : Picture g.M.Levels.mode = picture_of c.args.core.now in
+    let mid : Picture g.M.Levels.mode = picture_of c.loop-page.core in
+    let end : c.loop-page.page ≡ c.args.stop = ends c.loop-page.page c.args.stop c.loop-page.invariant.high c.loop-page-test.false in
+    let P : ℕ → Type 0 = λ x. PermitsRow old mid c.args.pid c.args.start x c.args.prot in
+    subst P end c.loop-page.invariant.permits
+
+pub permit_page-requires-clause-inside : goal.permit_page-requires-clause-inside
+permit_page-requires-clause-inside g c =
+    user_inside g.M.Levels.mode c.user_page.result c.args.stop (omega (arith, c.user_page.ensures, c.loop-page-test.true)) c.requires.high

@@ -1,0 +1,24 @@
+use Rattle.vm_types.specs.Limits.{top_level}
+use Rattle.std.proofs.Common.{◌≡◌, ◌-◌, ◌/◌, ◌≤◌, Some}
+use Rattle.fault.specs.Changes.{KeepsAround}
+use Rattle.residency.specs.Parts.{IsRootedBut}
+use Rattle.residency.specs.Picture.{picture_of}
+use Rattle.ranges.specs.Leaves.{NamesFrames, PermitsRow}
+use Rattle.page_tables.specs.Places.{IsTableOf}
+use Rattle.ranges.proofs.permitting.permit_table.Given as goal
+
+abbrev pub invariant-loop-page : goal.invariant-loop-page
+invariant-loop-page g l = record {
+  low : l.fn.start ≤ l.page;
+  high : l.page ≤ l.stop;
+  rooted : IsRootedBut (picture_of l.core) 0;
+  named : NamesFrames (picture_of l.core) l.pid;
+  place : IsTableOf l.core.frames (top_level g.M.Levels.mode) l.root.0 (l.fn.start / 512) l.table.0;
+  root_is : (picture_of l.core).root l.pid ≡ Some l.root.0;
+  permits : PermitsRow (picture_of l.initial.core) (picture_of l.core) l.pid l.fn.start l.page l.prot;
+  rest : KeepsAround l.initial.core l.core;
+  refused : l.core.refused ≡ l.initial.core.refused;
+}
+
+abbrev pub decreases-loop-page : goal.decreases-loop-page
+decreases-loop-page g l = l.stop - l.page

@@ -1,0 +1,50 @@
+use Rattle.std.proofs.Common.{inl, inr, arith}
+use Rattle.std.proofs.lemmas.Bool.{cases_lt}
+use Rattle.residency.specs.Picture.{picture_of}
+use Rattle.ranges.proofs.Gaps.{lives, no_whole, no_entry, is_whole}
+use Rattle.ranges.proofs.rows.next_linked.Goals as goal
+
+pub root_of-root-requires : goal.root_of-root-requires
+root_of-root-requires g c = record { live = lives ((picture_of c.args.core.now).root c.args.pid) c.requires.live }
+
+pub past_gap-requires-clause-root : goal.past_gap-requires-clause-root
+past_gap-requires-clause-root g c = c.requires.rooted.roots c.args.pid c.root_of-root.result.0 c.root_of-root.ensures
+
+pub loop-at-init : goal.loop-at-init
+loop-at-init g c = record {
+  from = omega (arith, c.get-at.ensures.number);
+  passed = λ p from below. absurd (omega (arith, c.get-at.ensures.number, from, below));
+}
+
+pub loop-at-preserved : goal.loop-at-preserved
+loop-at-preserved g c =
+    let k = c.loop-at.invariant in
+    record {
+      from = omega (arith, k.from, c.in-Some.ensures.further, c.user_page.ensures);
+      passed = λ p from below. elim (cases_lt p c.loop-at.at) [
+        | inl front ↦ k.passed p from front
+        | inr back ↦ c.in-Some.ensures.passed p (omega (arith, c.user_page.ensures, back)) below
+      ];
+    }
+
+pub returns-in-None-clause-passed : goal.returns-in-None-clause-passed
+returns-in-None-clause-passed g c p from below =
+    no_whole (picture_of c.args.core.now) c.args.pid c.root_of-root.result.0 c.root_of-root.ensures p (c.loop-at.invariant.passed p from below)
+
+pub returns-in-None-clause-gap : goal.returns-in-None-clause-gap
+returns-in-None-clause-gap g c p from below =
+    no_entry (picture_of c.args.core.now) c.args.pid c.root_of-root.result.0 c.root_of-root.ensures p (c.loop-at.invariant.passed p from below)
+
+pub returns-in-None-clause-found : goal.returns-in-None-clause-found
+returns-in-None-clause-found g c less =
+    is_whole (picture_of c.args.core.now) c.args.pid c.root_of-root.result.0 c.root_of-root.ensures c.loop-at.at _ c.user_page.ensures c.in-None.ensures.whole
+
+pub returns-clause-passed : goal.returns-clause-passed
+returns-clause-passed g c p from below =
+    no_whole (picture_of c.args.core.now) c.args.pid c.root_of-root.result.0 c.root_of-root.ensures p
+    (c.loop-at.invariant.passed p from (omega (arith, c.loop-at-test.false, below)))
+
+pub returns-clause-gap : goal.returns-clause-gap
+returns-clause-gap g c p from below =
+    no_entry (picture_of c.args.core.now) c.args.pid c.root_of-root.result.0 c.root_of-root.ensures p
+    (c.loop-at.invariant.passed p from (omega (arith, c.loop-at-test.false, below)))

@@ -1,0 +1,180 @@
+//! Pages without entries.
+ghost use Rattle.std.specs.Prelude.{◌≡◌, ℕ, ◌+◌, ◌*◌, ◌/◌, ◌%◌, ◌<◌, ◌≤◌, ◌^◌, true};
+ghost use Rattle.vm_types.specs.Limits.{top_level, user_end, table_entries};
+ghost use Rattle.page_tables.specs.Entry.{IsPageEntry};
+ghost use Rattle.page_tables.specs.Places.{IsTableOf};
+ghost use Rattle.page_tables.specs.Tree.{IsPage};
+ghost use Rattle.residency.specs.Seats.{seat};
+ghost use Rattle.residency.specs.Picture.{picture_of, is_live};
+ghost use Rattle.residency.specs.Parts.{IsFit};
+ghost use Rattle.residency.specs.Shows.{KeepsFiles};
+ghost use Rattle.fault.specs.Changes.{IsWhole};
+ghost use Rattle.ranges.specs.Rows.{RemapsRow};
+ghost use Rattle.ranges.specs.Steps.{KeepsBesideMemory, KeepsEntriesOfOthers, SameTables, ReturnsTables, ReturnsSlots, Clears, IsWithoutTables, IsCleared, LacksHolder, ReturnsSeat, IsStepEnd};
+
+use crate::entries::next_place;
+use crate::rows::{TableRow, next_part, span_end, table_end, table_start, user_page};
+use fault::root_of;
+use memory::{last_table, number_in, prune, set_in, table_of};
+use page_tables::{Entry, decode};
+use residency::Core;
+use sv39_walk::Pte;
+use vm_types::{FrameNo, Levels, Pid, USER_START, Vpn};
+
+/// Takes the entries of the `pages` pages from `first` on out of the tables of a live process, with the own copies that
+/// they name, in frames and in slots; the pages stay mapped. A frame or a slot that nobody shares any more is free, and so is a
+/// table that was there for those pages alone (munmap(2), for the part that lies in memory and swap).
+pub fn clear_row<D, E, M: Levels>(core: &mut Core<D, E, M>, pid: Pid, first: u64, pages: u64)
+    requires fit { IsFit (picture_of core.old) }
+    requires live { is_live (picture_of core.old) pid ≡ true }
+    requires row { first + pages ≤ user_end M.mode }
+    ensures fit { IsFit (picture_of core.new) }
+    ensures row { RemapsRow (picture_of core.old) (picture_of core.new) pid first pages ((picture_of core.old).at pid) }
+    ensures files { KeepsFiles (picture_of core.old) (picture_of core.new) }
+    ensures others { KeepsEntriesOfOthers (picture_of core.old) (picture_of core.new) pid }
+    ensures tables { ReturnsTables (picture_of core.old) (picture_of core.new) pid }
+    ensures none_left { IsWithoutTables (picture_of core.new) pid first (first + pages) }
+    ensures slots { ReturnsSlots (picture_of core.old) (picture_of core.new) pid first (first + pages) }
+    ensures rest { KeepsBesideMemory core.old core.new }
+    ensures refused { core.new.refused ≡ core.old.refused }
+{
+    let end = first + pages;
+    let mut page = first.max(USER_START);
+    while let Some(part) = next_part(core.regions(pid), page, end) {
+        clear_part(core, pid, part.first, part.end);
+        page = part.end;
+    }
+}
+
+/// Clears the pages from `start` up to, not including, `end`, table by table.
+fn clear_part<D, E, M: Levels>(core: &mut Core<D, E, M>, pid: Pid, start: Vpn, end: u64)
+    requires fit { IsFit (picture_of core.old) }
+    requires live { is_live (picture_of core.old) pid ≡ true }
+    requires some { start < end }
+    requires high { end ≤ user_end M.mode }
+    ensures fit { IsFit (picture_of core.new) }
+    ensures clears { Clears (picture_of core.old) (picture_of core.new) pid start end }
+    ensures cleared { (low : ℕ) → low ≤ start → IsCleared (picture_of core.old) pid low start → IsCleared (picture_of core.new) pid low end }
+    ensures rest { KeepsBesideMemory core.old core.new }
+    ensures refused { core.new.refused ≡ core.old.refused }
+{
+    let mut page = start.get();
+    while page < end {
+        page = clear_next(core, pid, user_page::<M>(page), end);
+    }
+}
+
+/// Clears the pages from `start` on whose entries stand in one table, as far as `end`. The result is the first page
+/// past them. Where a table is missing on the way, there is nothing to clear on all its pages; but a table between it and the
+/// root may be without entries, since a call that stalled for the want of a frame leaves the tables that it linked.
+fn clear_next<D, E, M: Levels>(core: &mut Core<D, E, M>, pid: Pid, start: Vpn, end: u64) -> u64
+    requires fit { IsFit (picture_of core.old) }
+    requires live { is_live (picture_of core.old) pid ≡ true }
+    requires some { start < end }
+    requires high { end ≤ user_end M.mode }
+    ensures fit { IsFit (picture_of core.new) }
+    ensures further { start < result }
+    ensures within { result ≤ end }
+    ensures ends { IsStepEnd (picture_of core.old) pid start end result }
+    ensures clears { Clears (picture_of core.old) (picture_of core.new) pid start result }
+    ensures cleared { (low : ℕ) → low ≤ start → IsCleared (picture_of core.old) pid low start → IsCleared (picture_of core.new) pid low result }
+    ensures rest { KeepsBesideMemory core.old core.new }
+    ensures refused { core.new.refused ≡ core.old.refused }
+{
+    let top_table = root_of(core, pid);
+    let (missing, _) = last_table(&core.frames, top_table, start);
+    if missing == 0 {
+        let stop = end.min(table_end(start));
+        clear_table(core, pid, start, stop);
+        return stop;
+    }
+    let stop = end.min(span_end(start, missing));
+    if missing == M::top_level() {
+        return stop;
+    }
+    prune(&mut core.frames, top_table, start);
+    stop
+}
+
+/// Clears the pages from `start` up to, not including, `stop`, whose entries stand in one table, and releases the tables
+/// that are without entries then. Places without an entry are passed over many at a time.
+fn clear_table<D, E, M: Levels>(core: &mut Core<D, E, M>, pid: Pid, start: Vpn, stop: u64)
+    requires fit { IsFit (picture_of core.old) }
+    requires live { is_live (picture_of core.old) pid ≡ true }
+    requires whole { IsWhole (picture_of core.old) pid start }
+    requires some { start < stop }
+    requires one_table { stop ≤ (start / table_entries + 1) * table_entries }
+    requires high { stop ≤ user_end M.mode }
+    ensures fit { IsFit (picture_of core.new) }
+    ensures clears { Clears (picture_of core.old) (picture_of core.new) pid start stop }
+    ensures cleared { (low : ℕ) → low ≤ start → IsCleared (picture_of core.old) pid low start → IsCleared (picture_of core.new) pid low stop }
+    ensures rest { KeepsBesideMemory core.old core.new }
+    ensures refused { core.new.refused ≡ core.old.refused }
+{
+    let root = root_of(core, pid);
+    let Ok(table) = table_of(&core.frames, root, start) else {
+        unreachable!();
+    };
+    let first = table_start(start);
+    let row = TableRow { root, table, first };
+    let end = (stop - first) as usize;
+    let mut index = (start.get() - first) as usize;
+    while index < end {
+        index = clear_at(core, pid, row, index, end);
+    }
+    prune(&mut core.frames, root, start);
+}
+
+/// Takes the entry at place `index` of a table out, and gives back the share of the frame or the slot that it names as the
+/// process's own. Where the place has none, nothing is written. The result is the next place, and before `end`, that may have
+/// one. The table may be without entries then.
+fn clear_at<D, E, M: Levels>(
+    core: &mut Core<D, E, M>,
+    pid: Pid,
+    row: TableRow,
+    index: usize,
+    end: usize,
+) -> usize
+    requires fit { IsFit (picture_of core.old) }
+    requires root { (picture_of core.old).root pid ≡ Some row.root.0 }
+    requires place { IsTableOf core.old.frames (top_level M.mode) row.root.0 (row.first / table_entries) row.table.0 }
+    requires begins { row.first % table_entries ≡ 0 }
+    requires below { index < end }
+    requires in_table { end ≤ table_entries }
+    requires high { row.first + end ≤ user_end M.mode }
+    ensures fit { IsFit (picture_of core.new) }
+    ensures further { index < result }
+    ensures within { result ≤ end }
+    ensures clears { Clears (picture_of core.old) (picture_of core.new) pid (row.first + index) (row.first + result) }
+    ensures tables { SameTables core.old.frames core.new.frames }
+    ensures places { (n m : ℕ) → IsTableOf core.old.frames (top_level M.mode) row.root.0 n m → IsTableOf core.new.frames (top_level M.mode) row.root.0 n m }
+    ensures rest { KeepsBesideMemory core.old core.new }
+    ensures refused { core.new.refused ≡ core.old.refused }
+{
+    let number = number_in(&core.frames, row.table, index);
+    if number.to_u64() == 0 {
+        return next_place(&core.frames, row.table, index, end);
+    }
+    set_in(&mut core.frames, row.table, index, Entry::None);
+    give_back(core, number);
+    index + 1
+}
+
+/// Gives back the share of the frame or the slot that an entry named as its process's own, where it named one. The entry is
+/// taken out already.
+fn give_back<D, E, M: Levels>(core: &mut Core<D, E, M>, number: Pte)
+    requires form { IsPageEntry number.0 }
+    requires lacks { LacksHolder (picture_of core.old) (seat number.0) }
+    ensures fit { IsFit (picture_of core.new) }
+    ensures gives { ReturnsSeat (picture_of core.old) (picture_of core.new) (seat number.0) }
+    ensures rest { KeepsBesideMemory core.old core.new }
+    ensures refused { core.new.refused ≡ core.old.refused }
+{
+    if number.is_private() {
+        core.frames.release(number.frame_number());
+        return;
+    }
+    if let Entry::Swapped(slot) = decode(number) {
+        core.swap.release(slot);
+    }
+}

@@ -1,0 +1,192 @@
+-- When swap is asked, from the frame that is tried up to the calls that take one.
+use Rattle.vm_types.specs.declared.mode.Levels as Levels
+use Rattle.vm_types.specs.Limits.{top_level}
+use Rattle.std.proofs.Common.{◌≡◌, ◌≢◌, ℕ, ◌⊎◌, inl, inr, true, Option, refl, sym, ap, ◌∙◌, subst, arith}
+use Rattle.std.proofs.lemmas.Bool.{cases_eq}
+use Rattle.vm_types.specs.declared.number.FrameNo.{FrameNo}
+use Rattle.disk_model.specs.declared.sector_disk.SectorDisk.{Ghosts}
+use Rattle.disk_model.specs.Moments.{AsksOnly, Nothing}
+use Rattle.disk_model.proofs.Moments.{asks_none, asks_wider, asks_then}
+use Rattle.vm_types.specs.declared.file.FilePage.{FilePage}
+use Rattle.file_store.specs.declared.store.FileStore.{FileStore}
+use Rattle.file_store.specs.Store.{IsSectorOf}
+use Rattle.frames.specs.declared.role.Role.TheVariants.{Free, Table}
+use Rattle.frames.specs.FrameTable.{frame_count, role_of, IsFrame, IsFull, SameButFor}
+use Rattle.swap.specs.declared.slots.Swap.{Swap}
+use Rattle.swap.specs.declared.pages.Pages.{Pages}
+use Rattle.swap.specs.Slots.{slots_of, IsSectorOfSlot, IsSectorOfFreeSlot}
+use Rattle.swap.specs.Slots as Slots
+use Rattle.page_cache.specs.CacheTable.{place_of, is_touched}
+use Rattle.page_tables.proofs.Data.{KeepsTrees, data_changed}
+use Rattle.residency.specs.declared.kernel.Core.{Core}
+use Rattle.residency.specs.Picture.{Picture, picture_of, entry, is_data}
+use Rattle.residency.specs.Parts.{IsFit}
+use Rattle.residency.specs.Ages.{Ages, GivesFrame, WantsFrame}
+use Rattle.residency.specs.Calls.{Frees, NeedsSlot, GivesToSwap, AsksSwap, AsksSwapAlso, AsksOneSlot}
+use Rattle.residency.specs.Evictions.{IsEvictable, ClearsMarks, Looked, GivesUp}
+use Rattle.residency.proofs.Entries.{entries_kept}
+use Rattle.residency.proofs.Giving.{frame_given}
+
+-- why a frame was given up, if one was
+pub needed_of : {M : Type 0} {m : Levels.Ghosts M} → {D E : Type 0} (old found : Core D E M m) → IsFull old.frames ⊎ (found ≡ old) → IsFull old.frames ⊎ (picture_of found ≡ picture_of old)
+needed_of old found (inl full) = inl full
+needed_of old found (inr same) = inr (ap picture_of same)
+
+module _ {mode : ℕ} where
+  -- the frame that is free then was the one given up
+  one_given : (old found : Picture mode) (v n : ℕ) → frame_count found.frames ≡ frame_count old.frames → IsFull old.frames → GivesFrame old found v → IsFrame found.frames n → role_of found.frames n ≡ Free → v ≡ n
+  one_given old found v n count full gives inside free = elim (cases_eq n v) [
+    | inl e ↦ sym e
+    | inr ne ↦ absurd (full n (omega (arith, count, inside)) (sym (gives.roles n ne) ∙ free))
+  ]
+
+module _ {M : Type 0} {m : Levels.Ghosts M} {D E : Type 0} where
+  -- a frame that needs a slot after a look needed one before
+  needed_before : (old mid : Core D E M m) (v : ℕ) → role_of mid.frames v ≡ role_of old.frames v → mid.cache ≡ old.cache → NeedsSlot (picture_of mid) v → NeedsSlot (picture_of old) v
+  needed_before old mid v role cache (inl own) = inl (sym role ∙ own)
+  needed_before old mid v role cache (inr filed) = inr (filed.0, ap (λ t. place_of t filed.0) (sym cache) ∙ filed.1, ap (λ t. is_touched t filed.0) (sym cache) ∙ filed.2)
+
+-- swap's device as it was
+module _ {E : Type 0} (h : Ghosts E) where
+  pub asks_same : (W : ℕ → Type 0) (old new : Swap E) → new ≡ old → AsksOnly h W old.pages.disk new.pages.disk
+  asks_same W old new same = asks_none h W old.pages.disk new.pages.disk (λ k. ap (λ (s : Swap E). h.asked s.pages.disk k) same)
+
+  -- some calls before which swap was as it was, and after which its device was
+  pub asks_between : (W : ℕ → Type 0) (old before after new : Swap E) → before ≡ old → new.pages ≡ after.pages → AsksOnly h W before.pages.disk after.pages.disk → AsksOnly h W old.pages.disk new.pages.disk
+  asks_between W old before after new first last asks =
+      let P : Swap E → Type 0 = λ s. AsksOnly h W s.pages.disk new.pages.disk in
+      let Q : Pages E → Type 0 = λ p. AsksOnly h W before.pages.disk p.disk in
+      subst P first (subst Q (sym last) asks)
+
+  -- a slot was put
+  pub asks_put : (old before after new : Swap E) → before ≡ old → new.pages ≡ after.pages → AsksOnly h (IsSectorOfFreeSlot (slots_of before)) before.pages.disk after.pages.disk
+      → AsksOnly h (IsSectorOfFreeSlot (slots_of old)) old.pages.disk new.pages.disk
+  asks_put old before after new first last asks = asks_between (IsSectorOfFreeSlot (slots_of old)) old before after new first last
+      (let P : Swap E → Type 0 = λ s. AsksOnly h (IsSectorOfFreeSlot (slots_of s)) before.pages.disk after.pages.disk in subst P first asks)
+
+  pub one_put : (old before after new : Swap E) (slot : ℕ) → before ≡ old → new.pages ≡ after.pages → AsksOnly h (IsSectorOfSlot slot) before.pages.disk after.pages.disk
+      → (k : ℕ) × AsksOnly h (λ n. IsSectorOfSlot k n ⊎ ⊥) old.pages.disk new.pages.disk
+  one_put old before after new slot first last asks =
+      (slot, asks_wider h (IsSectorOfSlot slot) (λ n. IsSectorOfSlot slot n ⊎ ⊥) old.pages.disk new.pages.disk (λ k is. inl is) (asks_between (IsSectorOfSlot slot) old before after new first last asks))
+
+module _ {M : Type 0} {m : Levels.Ghosts M} {D E : Type 0} (h : Ghosts E) where
+  -- a frame was chosen by the clock, and tried
+  pub asked_tried : (old mid new : Core D E M m) (keep : Option FrameNo) (v : ℕ) → ClearsMarks (picture_of old) (picture_of mid) → Looked old mid → IsEvictable (picture_of mid) keep v
+      → GivesUp v (picture_of mid) (picture_of new) → AsksOnly h (IsSectorOfFreeSlot (slots_of mid.swap)) mid.swap.pages.disk new.swap.pages.disk → (new.swap ≡ mid.swap) ⊎ NeedsSlot (picture_of mid) v → IsFull old.frames
+      → AsksSwap h old new keep
+  asked_tried old mid new keep v marks looked ev gives asks (inl same) full = inl (same ∙ looked.swap)
+  asked_tried old mid new keep v marks looked ev gives asks (inr needs) full = inr (record {
+    full = full;
+    frame = v;
+    spareable = (sym (ap is_data (marks.roles v)) ∙ ev.0.0, ev.0.1);
+    needs = needed_before old mid v (marks.roles v) looked.cache needs;
+    room = (let P : Swap E → Type 0 = λ s. Slots.IsFull (slots_of s) → ⊥ in subst P looked.swap (ev.1 needs));
+    alone = frame_given (picture_of old) (picture_of mid) (picture_of new) v marks gives ev.0.0;
+    asks = asks_wider h (IsSectorOfFreeSlot (slots_of old.swap)) (λ k. IsSectorOfFreeSlot (slots_of old.swap) k ⊎ ⊥) old.swap.pages.disk new.swap.pages.disk (λ k is. inl is)
+        (asks_put h old.swap mid.swap new.swap new.swap looked.swap refl asks);
+  })
+
+  pub one_tried : (old mid new : Core D E M m) → mid.swap ≡ old.swap → AsksOneSlot h mid new Nothing → AsksOneSlot h old new Nothing
+  one_tried old mid new same one = (one.0, asks_between h (λ k. IsSectorOfSlot one.0 k ⊎ ⊥) old.swap mid.swap new.swap new.swap same refl one.1)
+
+  -- it was taken then
+  given_taken : (old found new : Core D E M m) (keep : Option FrameNo) (n : ℕ) (also : ℕ → Type 0) → IsFull old.frames ⊎ (found ≡ old) → Frees (picture_of old) (picture_of found) keep → IsFrame found.frames n
+      → role_of found.frames n ≡ Free → (GivesFrame (picture_of old) (picture_of found) n → GivesFrame (picture_of old) (picture_of new) n) → AsksOnly h also found.swap.pages.disk new.swap.pages.disk
+      → GivesToSwap h old found keep Nothing → (found ≡ old) ⊎ GivesToSwap h old new keep also
+  given_taken old found new keep n also needed frees inside free taken more given = elim needed [
+    | inl full ↦ (
+        let e = one_given (picture_of old) (picture_of found) given.frame n frees.count full given.alone inside free in
+        let P : ℕ → Type 0 = λ k. GivesFrame (picture_of old) (picture_of found) k in
+        let Q : ℕ → Type 0 = λ k. GivesFrame (picture_of old) (picture_of new) k in
+        let W : ℕ → Type 0 = λ k. IsSectorOfFreeSlot (slots_of old.swap) k ⊎ also k in
+        let before = old.swap.pages.disk in
+        let mid = found.swap.pages.disk in
+        let after = new.swap.pages.disk in
+        inr (record {
+          full = full;
+          frame = given.frame;
+          spareable = given.spareable;
+          needs = given.needs;
+          room = given.room;
+          alone = subst Q (sym e) (taken (subst P e given.alone));
+          asks = asks_then h W before mid after (asks_wider h (λ k. IsSectorOfFreeSlot (slots_of old.swap) k ⊎ ⊥) W before mid (λ k is. free_or k is) given.asks) (asks_wider h also W mid after (λ k is. inr is) more);
+        }))
+    | inr same ↦ inl same
+  ]
+    where
+      free_or : (k : ℕ) → IsSectorOfFreeSlot (slots_of old.swap) k ⊎ ⊥ → IsSectorOfFreeSlot (slots_of old.swap) k ⊎ also k
+      free_or k (inl is) = inl is
+      free_or k (inr none) = absurd none
+
+  pub asked_taken : (old found new : Core D E M m) (keep : Option FrameNo) (n : ℕ) → IsFull old.frames ⊎ (found ≡ old) → Frees (picture_of old) (picture_of found) keep → IsFrame found.frames n → role_of found.frames n ≡ Free
+      → new.swap ≡ found.swap → (GivesFrame (picture_of old) (picture_of found) n → GivesFrame (picture_of old) (picture_of new) n) → AsksSwap h old found keep → AsksSwap h old new keep
+  asked_taken old found new keep n needed frees inside free swap taken (inl same) = inl (swap ∙ same)
+  asked_taken old found new keep n needed frees inside free swap taken (inr given) = elim (given_taken old found new keep n Nothing needed frees inside free taken (asks_same h Nothing found.swap new.swap swap) given) [
+    | inl same ↦ inl (swap ∙ ap (λ (c : Core D E M m). c.swap) same)
+    | inr now ↦ inr now
+  ]
+
+  -- and swap asked for more
+  pub also_taken : (old found new : Core D E M m) (keep : Option FrameNo) (n : ℕ) (also : ℕ → Type 0) → IsFull old.frames ⊎ (found ≡ old) → Frees (picture_of old) (picture_of found) keep → IsFrame found.frames n
+      → role_of found.frames n ≡ Free → (GivesFrame (picture_of old) (picture_of found) n → GivesFrame (picture_of old) (picture_of new) n) → AsksOnly h also found.swap.pages.disk new.swap.pages.disk
+      → AsksSwap h old found keep → AsksSwapAlso h old new keep also
+  also_taken old found new keep n also needed frees inside free taken more (inl same) = inl (asks_between h also old.swap found.swap new.swap new.swap same refl more)
+  also_taken old found new keep n also needed frees inside free taken more (inr given) = elim (given_taken old found new keep n also needed frees inside free taken more given) [
+    | inl same ↦ inl (asks_between h also old.swap found.swap new.swap new.swap (ap (λ (c : Core D E M m). c.swap) same) refl more)
+    | inr now ↦ inr now
+  ]
+
+  pub also_asked : (old new : Core D E M m) (keep : Option FrameNo) (also : ℕ → Type 0) → AsksSwap h old new keep → AsksSwapAlso h old new keep also
+  also_asked old new keep also (inl same) = inl (asks_same h also old.swap new.swap same)
+  also_asked old new keep also (inr given) = inr (record { full = given.full; frame = given.frame; spareable = given.spareable; needs = given.needs; room = given.room; alone = given.alone; asks = asks_wider h _ _ old.swap.pages.disk new.swap.pages.disk free_or given.asks })
+    where
+      free_or : (k : ℕ) → IsSectorOfFreeSlot (slots_of old.swap) k ⊎ ⊥ → IsSectorOfFreeSlot (slots_of old.swap) k ⊎ also k
+      free_or k (inl is) = inl is
+      free_or k (inr none) = absurd none
+
+  pub one_also : (old found : Core D E M m) (new : Swap E) (also : ℕ → Type 0) → AsksOneSlot h old found Nothing → AsksOnly h also found.swap.pages.disk new.pages.disk
+      → (slot : ℕ) × AsksOnly h (λ k. IsSectorOfSlot slot k ⊎ also k) old.swap.pages.disk new.pages.disk
+  one_also old found new also one more = (
+    one.0,
+    asks_then h (λ k. IsSectorOfSlot one.0 k ⊎ also k) old.swap.pages.disk found.swap.pages.disk new.pages.disk
+        (asks_wider h (λ k. IsSectorOfSlot one.0 k ⊎ ⊥) (λ k. IsSectorOfSlot one.0 k ⊎ also k) old.swap.pages.disk found.swap.pages.disk (λ k is. slot_or one.0 k is) one.1)
+        (asks_wider h also (λ k. IsSectorOfSlot one.0 k ⊎ also k) found.swap.pages.disk new.pages.disk (λ k is. inr is) more),
+  )
+    where
+      slot_or : (n k : ℕ) → IsSectorOfSlot n k ⊎ ⊥ → IsSectorOfSlot n k ⊎ also k
+      slot_or n k (inl is) = inl is
+      slot_or n k (inr none) = absurd none
+
+-- a frame that was given up holds no table afterwards
+module _ {mode : ℕ} where
+  pub gives_taken : (old found new : Picture mode) (n : ℕ) → IsFit found → SameButFor n found.frames new.frames → role_of found.frames n ≡ Free → role_of new.frames n ≢ Table
+      → ((pid : ℕ) → new.root pid ≡ found.root pid) → GivesFrame old found n → GivesFrame old new n
+  gives_taken old found new n fit same free datum root gives =
+      let trees : KeepsTrees found.frames new.frames (top_level mode) = data_changed found.frames new.frames (top_level mode) n fit.rooted.forest same (λ t. (let bad : Free ≡ Table = sym free ∙ t in (cc))) datum in
+      let entries = entries_kept found new 0 fit.rooted trees.entries root in
+      record {
+        roles = λ k ne. same.roles k ne ∙ gives.roles k ne;
+        entries = λ pid page h. (
+            let P : ℕ → Type 0 = λ e. Ages (λ k. (k ≡ n) × (is_data (role_of old.frames k) ≡ true)) (entry old pid page) e in
+            subst P (sym (entries pid page)) (gives.entries pid page h));
+        pointers = λ a i b points. trees.same.forth a i b (gives.pointers a i b points);
+      }
+
+-- the store was asked for one page
+module _ {D : Type 0} (g : Ghosts D) where
+  pub asks_store : (page : FilePage) (old mid new : FileStore D) → mid ≡ old → AsksOnly g (IsSectorOf mid page) mid.disk new.disk → AsksOnly g (IsSectorOf old page) old.disk new.disk
+  asks_store page old mid new same asks = let P : FileStore D → Type 0 = λ s. AsksOnly g (IsSectorOf s page) s.disk new.disk in subst P same asks
+
+  pub unasked_store : (page : FilePage) (old new : FileStore D) → new ≡ old → AsksOnly g (IsSectorOf old page) old.disk new.disk
+  unasked_store page old new same = asks_none g (IsSectorOf old page) old.disk new.disk (λ k. ap (λ (s : FileStore D). g.asked s.disk k) same)
+
+-- the frame that was wanted, where none was had
+module _ {M : Type 0} {m : Levels.Ghosts M} {D E : Type 0} where
+  pub wants_tried : (old new : Core D E M m) → IsFull old.frames ⊎ (new ≡ old) → IsFull new.frames → (v : ℕ) × GivesFrame (picture_of old) (picture_of new) v → (v : ℕ) × WantsFrame (picture_of old) (picture_of new) v
+  wants_tried old new (inl full) now tried = (tried.0, (tried.1, inl full))
+  wants_tried old new (inr same) now tried = (tried.0, (tried.1, inl (let P : Core D E M m → Type 0 = λ c. IsFull c.frames in subst P same now)))
+
+  -- and where one was had, and given back
+  pub wants_taken : (old found : Core D E M m) (new : Picture m.mode) (n : ℕ) → IsFull old.frames ⊎ (found ≡ old) → role_of found.frames n ≡ Free → GivesFrame (picture_of old) new n → (v : ℕ) × WantsFrame (picture_of old) new v
+  wants_taken old found new n (inl full) free gives = (n, (gives, inl full))
+  wants_taken old found new n (inr same) free gives = (n, (gives, inr (let P : Core D E M m → Type 0 = λ c. role_of c.frames n ≡ Free in subst P same free)))

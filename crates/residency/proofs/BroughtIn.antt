@@ -1,0 +1,283 @@
+-- A file page comes into a free frame, and is touched there.
+use Rattle.vm_types.specs.Limits.{top_level}
+use Rattle.std.proofs.Common.{◌≡◌, ◌≢◌, ℕ, inl, inr, ◌<◌, List, true, false, Option, Some, refl, sym, ap, ◌∙◌, subst, arith}
+use Rattle.std.proofs.lemmas.Bool.{cases_eq, false≢true}
+use Rattle.vm_types.specs.declared.object.PageKey.{PageKey}
+use Rattle.vm_types.specs.declared.object.PageKey.TheVariants.{File, Object}
+use Rattle.vm_types.specs.declared.region.Attr.{Attr}
+use Rattle.vm_types.specs.declared.region.Backing.{Backing}
+use Rattle.vm_types.specs.declared.region.Backing.TheVariants.{Anon, Private as PrivateOf, Shared as SharedOf, Common as CommonOf}
+use Rattle.frames.specs.declared.role.Role.TheVariants.{Free, Table, Private, Cache}
+use Rattle.frames.specs.FrameTable.{FrameTable, bytes_of, role_of, count_of, SameButFor, Takes, with_bytes}
+use Rattle.frames.proofs.FrameLemmas.{with_bytes-others}
+use Rattle.swap.specs.Slots.{SlotTable}
+use Rattle.sv39_walk.specs.Entry.{is_valid, is_dirty, frame_of, has_bit}
+use Rattle.page_tables.specs.Tree.{IsPage}
+use Rattle.page_tables.proofs.Data.{KeepsTrees, data_changed}
+use Rattle.page_cache.specs.declared.place.Place.{Place}
+use Rattle.page_cache.specs.declared.place.Place.TheVariants.{Home, Frame, Slot}
+use Rattle.residency.specs.Seats.{Seat, InFrame, InSlot, seat, is_private, is_swapped}
+use Rattle.residency.specs.Picture.{Picture, entry, view, held, bytes_at, bytes_in, IsOwned, count_in, page_in}
+use Rattle.residency.specs.Parts.{IsFit, IsEntryFor, Nothing, Resident, Away, IsBehind, IsPageFor, HasPlaces, IsDirtySound, nowhere}
+use Rattle.residency.specs.Steps.{BringsIn}
+use Rattle.residency.proofs.Entries.{entries_kept}
+use Rattle.residency.proofs.Granting.{granting_same}
+use Rattle.residency.proofs.Places.{cases_page, one_frame, page_for-same, places_same}
+use Rattle.residency.proofs.Rooted.{rooted_same, rooted_frames}
+use Rattle.residency.proofs.Seats.{counted_same}
+use Rattle.residency.proofs.Setting.{view_seated, each_view}
+
+zero_invalid : is_valid 0 ≡ false
+unfolding has_bit
+zero_invalid = refl
+
+valid_stays : (e : ℕ) → is_valid e ≡ true → is_swapped e ≡ false
+valid_stays e valid = rw valid refl
+
+-- a frame that was taken and written, as the other frames see it
+pub frames_written : (old mid : FrameTable) (n : ℕ) (w : List ℕ) → Takes old mid Cache n → SameButFor n old (with_bytes mid n w)
+frames_written old mid n w takes =
+    let written = with_bytes-others mid n w in
+    record {
+      frames = written.frames ∙ takes.others.frames;
+      bytes = λ m ne. written.bytes m ne ∙ takes.others.bytes m ne;
+      roles = λ m ne. takes.others.roles m ne;
+      counts = λ m ne. takes.others.counts m ne;
+    }
+
+module _ {mode : ℕ} (old new : Picture mode) (page : PageKey) (n : ℕ) (fit : IsFit old) (brings : BringsIn old new page n) where
+  free_cache : Free ≢ Cache
+  free_cache e = (cc)
+
+  not_there : (m : ℕ) → role_of old.frames m ≢ Free → m ≢ n
+  not_there m used e = used (ap (role_of old.frames) e ∙ brings.was_free)
+
+  private_ne : (m : ℕ) → role_of old.frames m ≡ Private → m ≢ n
+  private_ne m own = not_there m (λ free. (let bad : Private ≡ Free = sym own ∙ free in (cc)))
+
+  cache_ne : (m : ℕ) → role_of old.frames m ≡ Cache → m ≢ n
+  cache_ne m cache = not_there m (λ free. (let bad : Cache ≡ Free = sym cache ∙ free in (cc)))
+
+  trees : KeepsTrees old.frames new.frames (top_level mode)
+  trees = data_changed old.frames new.frames (top_level mode) n fit.rooted.forest brings.frames (λ t. (let bad : Free ≡ Table = sym brings.was_free ∙ t in (cc))) (λ t. (let bad : Cache ≡ Table = sym brings.kind ∙ t in (cc)))
+
+  same : (pid k : ℕ) → entry new pid k ≡ entry old pid k
+  same = entries_kept old new 0 fit.rooted trees.entries brings.root
+
+  -- another file page is where it was
+  framed : (p : PageKey) (m : ℕ) → old.place p ≡ Frame (record { 0 = m }) → p ≢ page
+  framed p m at is = brings.was_away m (ap old.place (sym is) ∙ at)
+
+  no_slot : (p : PageKey) (k : ℕ) → p ≡ page → new.place p ≢ Slot (record { 0 = k })
+  no_slot p k is at = let bad : Slot (record { 0 = k }) ≡ Frame (record { 0 = n }) = sym at ∙ ap new.place is ∙ brings.placed in (cc)
+
+  -- the slot of another file page, or of own copies, isn't that of this one
+  slot_ne : (p : PageKey) (k : ℕ) → p ≢ page → old.place p ≡ Slot (record { 0 = k }) → old.place page ≢ Slot (record { 0 = k })
+  slot_ne p k ne at here = ne (fit.places.apart p page (at ∙ sym here) (λ home. (let bad : Home ≡ Slot (record { 0 = k }) = sym home ∙ at in (cc))))
+
+  in_use : (k : ℕ) → old.place page ≢ Slot (record { 0 = k }) → 0 < old.slots.count k → 0 < new.slots.count k
+  in_use k ne some = let c = brings.slots.counts k ne in omega (arith, c, some)
+
+  was_used : (k : ℕ) → 0 < new.slots.count k → (old.place page ≢ Slot (record { 0 = k })) × (0 < old.slots.count k)
+  was_used k some =
+      let ne : old.place page ≢ Slot (record { 0 = k }) = λ here. (let none = brings.slots.left k here in omega (arith, none, some)) in
+      (ne, (let c = brings.slots.counts k ne in omega (arith, c, some)))
+
+  forth : (z : Seat) → IsOwned old z → IsOwned new z
+  forth (InFrame m) is = brings.frames.roles m (private_ne m is) ∙ is
+  forth (InSlot k) is = (
+    in_use k (is.1 page) is.0,
+    λ p at. elim (cases_page p page) [
+      | inl e ↦ no_slot p k e at
+      | inr ne ↦ is.1 p (sym (brings.others p ne) ∙ at)
+    ],
+  )
+
+  back : (z : Seat) → IsOwned new z → IsOwned old z
+  back (InFrame m) is = elim (cases_eq m n) [
+    | inl e ↦ (let bad : Private ≡ Cache = sym is ∙ ap (role_of new.frames) e ∙ brings.kind in (cc))
+    | inr ne ↦ sym (brings.frames.roles m ne) ∙ is
+  ]
+  back (InSlot k) is = (
+    (was_used k is.0).1,
+    λ p at. elim (cases_page p page) [
+      | inl e ↦ (was_used k is.0).0 (ap old.place (sym e) ∙ at)
+      | inr ne ↦ is.1 p (brings.others p ne ∙ at)
+    ],
+  )
+
+  counts : (z : Seat) → IsOwned old z → count_in new z ≡ count_in old z
+  counts (InFrame m) is = brings.frames.counts m (private_ne m is)
+  counts (InSlot k) is = brings.slots.counts k (is.1 page)
+
+  pages : (z : Seat) → IsOwned old z → page_in new fit.counted.0 z ≡ page_in old fit.counted.0 z
+  pages (InFrame m) is = brings.page_of m
+  pages (InSlot k) is = refl
+
+  own_ne : (pid k : ℕ) → IsPage (top_level mode) k → is_private (entry old pid k) ≡ true → frame_of (entry old pid k) ≢ n
+  own_ne pid k h own = private_ne (frame_of (entry old pid k)) (fit.counted.1.named pid k (InFrame (frame_of (entry old pid k))) h (rw own refl))
+
+  placed : HasPlaces new
+  placed = record {
+    cached = λ p m at. elim (cases_page p page) [
+      | inl e ↦ (let here : Frame (record { 0 = n }) ≡ Frame (record { 0 = m }) = sym brings.placed ∙ ap new.place (sym e) ∙ at in ap (role_of new.frames) (one_frame n m here) ∙ brings.kind)
+      | inr ne ↦ (let cache = fit.places.cached p m (sym (brings.others p ne) ∙ at) in brings.frames.roles m (cache_ne m cache) ∙ cache)
+    ];
+    held = λ m cache. elim (cases_eq m n) [
+      | inl e ↦ (page, brings.placed ∙ ap (λ i. Frame (record { 0 = i })) (sym e))
+      | inr ne ↦ (let here = fit.places.held m (sym (brings.frames.roles m ne) ∙ cache) in (here.0, brings.others here.0 (framed here.0 m here.1) ∙ here.1))
+    ];
+    apart = λ p q e away. elim (cases_page p page) [
+      | inl is ↦ elim (cases_page q page) [
+        | inl is' ↦ is ∙ sym is'
+        | inr ne ↦ absurd (cache_ne n (fit.places.cached q n (sym (brings.others q ne) ∙ sym e ∙ ap new.place is ∙ brings.placed)) refl)
+      ]
+      | inr ne ↦ elim (cases_page q page) [
+        | inl is ↦ absurd (cache_ne n (fit.places.cached p n (sym (brings.others p ne) ∙ e ∙ ap new.place is ∙ brings.placed)) refl)
+        | inr ne' ↦ fit.places.apart p q (sym (brings.others p ne) ∙ e ∙ brings.others q ne') (λ home. away (brings.others p ne ∙ home))
+      ]
+    ];
+    slotted = λ p k at. elim (cases_page p page) [
+      | inl e ↦ absurd (no_slot p k e at)
+      | inr ne ↦ (let there = sym (brings.others p ne) ∙ at in brings.slots.counts k (slot_ne p k ne there) ∙ fit.places.slotted p k there)
+    ];
+    used = λ k some. elim (fit.places.used k (was_used k some).1) [
+      | inl own ↦ inl (forth (InSlot k) own)
+      | inr file ↦ inr (file.0, brings.others file.0 (λ e. (was_used k some).0 (ap old.place (sym e) ∙ file.1)) ∙ file.1)
+    ];
+    inside = λ p away. elim (cases_page p page) [
+      | inl e ↦ (let P : PageKey → Type 0 = λ x. IsPageFor new x in subst P (sym e) (page_for-same old new page brings.at brings.files brings.inside))
+      | inr ne ↦ page_for-same old new p brings.at brings.files (fit.places.inside p (λ home. away (brings.others p ne ∙ home)))
+    ];
+  }
+
+  behind_ne : (b : Backing) (m : ℕ) → IsBehind old b m → m ≢ n
+  behind_ne Anon m is = λ e. (let a = brings.above in omega (arith, is, e, a))
+  behind_ne (PrivateOf p) m is = cache_ne m (fit.places.cached (File p) m is)
+  behind_ne (SharedOf p) m is = cache_ne m (fit.places.cached (File p) m is)
+  behind_ne (CommonOf p) m is = cache_ne m (fit.places.cached (Object p) m is)
+
+  resident_ne : (pid k : ℕ) (a : Option Attr) → IsEntryFor old a (entry old pid k) → is_valid (entry old pid k) ≡ true → is_private (entry old pid k) ≡ false → frame_of (entry old pid k) ≢ n
+  resident_ne pid k a (Nothing none) valid common = absurd (false≢true (sym (ap is_valid none ∙ zero_invalid) ∙ valid))
+  resident_ne pid k a (Resident b at res) valid common = behind_ne b.backing (frame_of (entry old pid k)) (res.behind common)
+  resident_ne pid k a (Away b at away) valid common = absurd (false≢true (sym (valid_stays (entry old pid k) valid) ∙ away.swapped))
+
+  dirtied : IsDirtySound new
+  dirtied = record {
+    dirty = λ pid k p h valid common dirty there. (
+        let e = same pid k in
+        let was_valid = sym (ap is_valid e) ∙ valid in
+        let was_common = sym (ap is_private e) ∙ common in
+        elim (cases_page p page) [
+          | inl is ↦ (
+              let at : Frame (record { 0 = n }) ≡ Frame (record { 0 = frame_of (entry new pid k) }) = sym brings.placed ∙ ap new.place (sym is) ∙ there in
+              let number : frame_of (entry old pid k) ≡ n = sym (ap frame_of e) ∙ one_frame n (frame_of (entry new pid k)) at in
+              absurd (resident_ne pid k (old.at pid k) (fit.granting.entries pid k h) was_valid was_common number))
+          | inr ne ↦ brings.touched p
+              ∙ fit.dirty.dirty pid k p h was_valid was_common (sym (ap is_dirty e) ∙ dirty) (sym (brings.others p ne) ∙ there ∙ ap (λ x. Frame (record { 0 = frame_of x })) e)
+        ]);
+    held = λ p touched home. elim (cases_page p page) [
+      | inl is ↦ (let bad : Frame (record { 0 = n }) ≡ Home = sym brings.placed ∙ ap new.place (sym is) ∙ home in (cc))
+      | inr ne ↦ fit.dirty.held p (sym (brings.touched p) ∙ touched) (sym (brings.others p ne) ∙ home)
+    ];
+    slotted = λ p k at. elim (cases_page p page) [
+      | inl e ↦ absurd (no_slot p k e at)
+      | inr ne ↦ brings.touched p ∙ fit.dirty.slotted p k (sym (brings.others p ne) ∙ at)
+    ];
+  }
+
+  pub fit_brought : IsFit new
+  fit_brought = record {
+    counted = (
+      fit.counted.0,
+      counted_same mode (entry old) (entry new) (IsOwned old) (IsOwned new) (count_in old) (count_in new) (page_in old fit.counted.0) (page_in new fit.counted.0)
+          (λ q p h. ap seat (same q p)) nowhere 0 fit.counted.1 forth back counts pages,
+    );
+    rooted = rooted_same old new 0 fit.rooted trees brings.root brings.at;
+    granting = granting_same old new fit.granting (record { place = λ p m at. brings.others p (framed p m at) ∙ at; files = brings.files })
+        (λ pid k h own one. brings.frames.counts (frame_of (entry old pid k)) (own_ne pid k h own) ∙ one) brings.at (λ pid k h. same pid k);
+    places = placed;
+    dirty = dirtied;
+  }
+
+  pub trees_brought : KeepsTrees old.frames new.frames (top_level mode)
+  trees_brought = trees
+
+  pub entries_brought : (pid k : ℕ) → entry new pid k ≡ entry old pid k
+  entries_brought = same
+
+  seat_bytes : (z : Seat) → IsOwned old z → bytes_in new.frames new.slots z ≡ bytes_in old.frames old.slots z
+  seat_bytes (InFrame m) is = brings.frames.bytes m (private_ne m is)
+  seat_bytes (InSlot k) is = brings.slots.bytes k (is.1 page) is.0
+
+  pub views_brought : (q p : ℕ) → view new q p ≡ view old q p
+  views_brought q p = each_view old new fit.granting brings.at q p (λ h. view_seated old new q p (brings.at q p) (ap seat (same q p))
+      (λ z is. seat_bytes z (fit.counted.1.named q p z h is)))
+
+  bytes_else : (p : PageKey) (x : Place) → old.place p ≡ x → p ≢ page → bytes_at new.frames new.slots x ≡ bytes_at old.frames old.slots x
+  bytes_else p Home at ne = refl
+  bytes_else p (Frame m) at ne = ap (λ (w : _). Some w) (brings.frames.bytes m.0 (cache_ne m.0 (fit.places.cached p m.0 at)))
+  bytes_else p (Slot k) at ne = ap (λ (w : _). Some w) (brings.slots.bytes k.0 (slot_ne p k.0 ne at) (let one = fit.places.slotted p k.0 at in omega (arith, one)))
+
+  -- another file page has the bytes that it had, and this one those of the frame
+  pub held_else : (p : PageKey) → p ≢ page → held new p ≡ held old p
+  unfolding held
+  held_else p ne = ap (λ x. bytes_at new.frames new.slots x) (brings.others p ne) ∙ bytes_else p (old.place p) refl ne
+
+  pub held_here : held new page ≡ Some (bytes_of new.frames n)
+  unfolding held
+  held_here = ap (λ x. bytes_at new.frames new.slots x) brings.placed
+
+-- a file page that isn't at home was touched
+module _ {mode : ℕ} (old new : Picture mode) (page : PageKey) (fit : IsFit old) (frames : new.frames ≡ old.frames) (slots : new.slots ≡ old.slots) (away : old.place page ≢ Home) (now : new.touched page ≡ true)
+    (others : (p : PageKey) → p ≢ page → new.touched p ≡ old.touched p) (place : (p : PageKey) → new.place p ≡ old.place p) (root : (pid : ℕ) → new.root pid ≡ old.root pid)
+    (at : (pid k : ℕ) → new.at pid k ≡ old.at pid k) (page_of : (m : ℕ) → new.page_of m ≡ old.page_of m) (files : (f : ℕ) → new.files f ≡ old.files f)
+    (same : (pid k : ℕ) → entry new pid k ≡ entry old pid k) where
+  role : (m : ℕ) → role_of new.frames m ≡ role_of old.frames m
+  role m = ap (λ t. role_of t m) frames
+
+  forth' : (z : Seat) → IsOwned old z → IsOwned new z
+  forth' (InFrame m) is = role m ∙ is
+  forth' (InSlot k) is = ((let P : SlotTable → Type 0 = λ t. 0 < t.count k in subst P (sym slots) is.0), λ p e. is.1 p (sym (place p) ∙ e))
+
+  back' : (z : Seat) → IsOwned new z → IsOwned old z
+  back' (InFrame m) is = sym (role m) ∙ is
+  back' (InSlot k) is = ((let P : SlotTable → Type 0 = λ t. 0 < t.count k in subst P slots is.0), λ p e. is.1 p (place p ∙ e))
+
+  counts' : (z : Seat) → IsOwned old z → count_in new z ≡ count_in old z
+  counts' (InFrame m) is = ap (λ t. count_of t m) frames
+  counts' (InSlot k) is = ap (λ t. t.count k) slots
+
+  pages' : (z : Seat) → IsOwned old z → page_in new fit.counted.0 z ≡ page_in old fit.counted.0 z
+  pages' (InFrame m) is = page_of m
+  pages' (InSlot k) is = refl
+
+  touched_where : (p : PageKey) → (p ≢ page → old.touched p ≡ true) → new.touched p ≡ true
+  touched_where p was = elim (cases_page p page) [
+    | inl e ↦ ap new.touched e ∙ now
+    | inr ne ↦ others p ne ∙ was ne
+  ]
+
+  pub fit_touched : IsFit new
+  fit_touched = record {
+    counted = (
+      fit.counted.0,
+      counted_same mode (entry old) (entry new) (IsOwned old) (IsOwned new) (count_in old) (count_in new) (page_in old fit.counted.0) (page_in new fit.counted.0)
+          (λ q p h. ap seat (same q p)) nowhere 0 fit.counted.1 forth' back' counts' pages',
+    );
+    rooted = rooted_frames old new 0 fit.rooted frames root at;
+    granting = granting_same old new fit.granting (record { place = λ p m e. place p ∙ e; files = files })
+        (λ pid k h own one. ap (λ t. count_of t (frame_of (entry old pid k))) frames ∙ one) at (λ pid k h. same pid k);
+    places = places_same old new fit.places place at files slots (λ m e. role m ∙ e) (λ m e. sym (role m) ∙ e);
+    dirty = record {
+      dirty = λ pid k p h valid common dirty there. (
+          let e = same pid k in
+          touched_where p (λ ne. fit.dirty.dirty pid k p h (sym (ap is_valid e) ∙ valid) (sym (ap is_private e) ∙ common) (sym (ap is_dirty e) ∙ dirty)
+          (sym (place p) ∙ there ∙ ap (λ x. Frame (record { 0 = frame_of x })) e)));
+      held = λ p touched home. elim (cases_page p page) [
+        | inl e ↦ away (ap old.place (sym e) ∙ sym (place p) ∙ home)
+        | inr ne ↦ fit.dirty.held p (sym (others p ne) ∙ touched) (sym (place p) ∙ home)
+      ];
+      slotted = λ p k e. touched_where p (λ ne. fit.dirty.slotted p k (sym (place p) ∙ e));
+    };
+  }

@@ -1,0 +1,54 @@
+-- What a call knows of its page after a frame was asked for.
+use Rattle.vm_types.specs.Limits.{top_level}
+use Rattle.std.proofs.Common.{◌≡◌, ◌≢◌, ℕ, inl, inr, ◌⊎◌, true, false, Option, Some, sym, ◌∙◌, subst}
+use Rattle.std.proofs.lemmas.Bool.{cases_Bool}
+use Rattle.vm_types.specs.declared.number.FrameNo.{FrameNo}
+use Rattle.vm_types.specs.declared.region.Attr.{Attr}
+use Rattle.vm_types.specs.declared.region.Backing.{Backing}
+use Rattle.vm_types.specs.declared.region.Backing.TheVariants.{Anon, Private, Shared, Common}
+use Rattle.sv39_walk.specs.Entry.{frame_of}
+use Rattle.page_tables.specs.Tree.{IsPage, missing_of}
+use Rattle.residency.specs.Seats.{is_private, is_swapped}
+use Rattle.residency.specs.Picture.{Picture, entry}
+use Rattle.residency.specs.Parts.{IsEntryFor, Nothing, Resident, Away, IsBehind}
+use Rattle.residency.specs.Calls.{Frees, IsStaying}
+use Rattle.residency.proofs.Places.{one_frame}
+
+-- the frame behind a page is one
+one_behind : {mode : ℕ} (c : Picture mode) (b : Backing) (n m : ℕ) → IsBehind c b n → IsBehind c b m → (n ≡ 0) ⊎ (n ≡ m)
+one_behind c Anon n m e f = inl e
+one_behind c (Private p) n m e f = inr (one_frame m n (sym f ∙ e))
+one_behind c (Shared p) n m e f = inr (one_frame m n (sym f ∙ e))
+one_behind c (Common p) n m e f = inr (one_frame m n (sym f ∙ e))
+
+-- a page whose shown bytes lie in the frame to keep keeps its entry
+pub shown_stays : {mode : ℕ} (c : Picture mode) (attr : Option Attr) (b : Backing) (e n : ℕ) → IsEntryFor c attr e → ((a : Attr) → attr ≡ Some a → a.backing ≡ b)
+    → (is_private e ≡ true → frame_of e ≡ n) → (is_private e ≡ false → is_swapped e ≡ false → IsBehind c b n) → is_swapped e ≡ false → IsStaying (Some (record { 0 = n })) e
+shown_stays c attr b e n (Nothing none) is own behind resident = inl none
+shown_stays c attr b e n (Away a at away) is own behind resident = inr (inl away.swapped)
+shown_stays c attr b e n (Resident a at res) is own behind resident = elim (cases_Bool (is_private e)) [
+  | inl t ↦ inr (inr (inr (own t)))
+  | inr f ↦ (
+      let P : Backing → Type 0 = λ x. IsBehind c x (frame_of e) in
+      elim (one_behind c b (frame_of e) n (subst P (is a at) (res.behind f)) (behind f resident)) [
+        | inl zero_page ↦ inr (inr (inl zero_page))
+        | inr same ↦ inr (inr (inr same))
+      ])
+]
+
+-- so its call goes on where it was
+module _ {mode : ℕ} (old new : Picture mode) (keep : Option FrameNo) (frees : Frees old new keep) (pid r page : ℕ) (root : old.root pid ≡ Some r) (h : IsPage (top_level mode) page) where
+  pub still_lives : new.root pid ≡ Some r
+  still_lives = frees.pages.root pid ∙ root
+
+  pub still_whole : missing_of old.frames (top_level mode) r page ≡ 0 → missing_of new.frames (top_level mode) r page ≡ 0
+  still_whole whole = frees.missing pid r page root ∙ whole
+
+  pub still_missing : missing_of old.frames (top_level mode) r page ≢ 0 → missing_of new.frames (top_level mode) r page ≢ 0
+  still_missing some none = some (sym (frees.missing pid r page root) ∙ none)
+
+  pub still_none : entry old pid page ≡ 0 → entry new pid page ≡ 0
+  still_none none = frees.entries pid page h (inl none) ∙ none
+
+  pub still_away : is_swapped (entry old pid page) ≡ true → entry new pid page ≡ entry old pid page
+  still_away away = frees.entries pid page h (inr (inl away))

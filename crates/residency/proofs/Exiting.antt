@@ -1,0 +1,132 @@
+-- A process goes.
+use Rattle.vm_types.specs.Limits.{top_level}
+use Rattle.std.proofs.Common.{true, ◌≡◌, ◌≢◌, ℕ, zero, suc, inl, inr, Option, Some, None, refl, sym, ap, ◌∙◌, subst}
+use Rattle.std.specs.Prelude.{IsSome}
+use Rattle.std.proofs.lemmas.Bool.{cases_eq, false≢true}
+use Rattle.vm_types.specs.declared.object.ObjectPage.{ObjectPage}
+use Rattle.vm_types.specs.declared.object.PageKey.TheVariants.{Object}
+use Rattle.vm_types.specs.Objects.{is_named}
+use Rattle.vm_types.specs.declared.region.Attr.{Attr}
+use Rattle.frames.specs.declared.role.Role.{Role}
+use Rattle.frames.specs.declared.role.Role.TheVariants.{Free, Table, Private, Cache}
+use Rattle.frames.specs.FrameTable.{FrameTable, role_of}
+use Rattle.sv39_walk.specs.Entry.{frame_of}
+use Rattle.page_tables.specs.Tree.{Points, Way, IsEmptyTable}
+use Rattle.page_tables.proofs.Data.{DropsTree, root_released}
+use Rattle.page_tables.proofs.Ends.{way_forth}
+use Rattle.page_tables.proofs.Keeping.{empty_not_linking}
+use Rattle.page_cache.specs.declared.place.Place.TheVariants.{Home}
+use Rattle.residency.specs.Seats.{InFrame}
+use Rattle.residency.specs.Picture.{Picture, entry}
+use Rattle.residency.specs.Parts.{IsRootedBut, IsUsed, AsRoot, OnWay, IsMapped, Nothing, IsFit, nowhere}
+use Rattle.residency.specs.Steps.{KeepsShares, Exits}
+use Rattle.residency.proofs.Entries.{entry-of, entry-same}
+use Rattle.residency.proofs.Granting.{entry_for-same, user_map-same, readable-same}
+use Rattle.residency.proofs.Mapping.{one_some, spare_entry, counted_there}
+use Rattle.residency.proofs.Places.{objects-fewer, places_renamed, dirty_same}
+use Rattle.residency.proofs.Start.{entry-dead}
+
+data_kept : (old new : FrameTable) (n m : ℕ) (r : Role) → role_of old n ≡ Table → r ≢ Table → role_of old m ≡ r → m ≢ n
+data_kept old new n m r table other here e = other (sym here ∙ ap (role_of old) e ∙ table)
+
+data_was : (new : FrameTable) (n m : ℕ) (r : Role) → role_of new n ≡ Free → r ≢ Free → role_of new m ≡ r → m ≢ n
+data_was new n m r free other here e = other (sym here ∙ ap (role_of new) e ∙ free)
+
+-- no way leads on from a root without entries
+module _ (mode : ℕ) where
+  no_way : (t : FrameTable) (root page depth n : ℕ) → IsEmptyTable t root → Way t (top_level mode) root page (suc depth) n → ⊥
+  no_way t root page zero n empty way = let P : ℕ → Type 0 = λ x. Points t x _ n in empty_not_linking t root empty _ n (subst P way.1 way.2)
+  no_way t root page (suc depth) n empty way = no_way t root page depth way.0 empty way.1
+
+module _ {mode : ℕ} (old new : Picture mode) (pid r : ℕ) (fit : IsFit old) (exits : Exits old new pid r) where
+  drops : DropsTree old.frames new.frames (top_level mode) r
+  drops = root_released old.frames new.frames (top_level mode) r fit.rooted.forest exits.spare exits.frames exits.free
+
+  shares_dropped : KeepsShares old.frames new.frames
+  shares_dropped =
+      let table = exits.spare.table.role in
+      let private : (n : ℕ) → role_of old.frames n ≡ Private → n ≢ r = λ n e. data_kept old.frames new.frames r n Private table (λ f. (cc)) e in
+      let cache : (n : ℕ) → role_of old.frames n ≡ Cache → n ≢ r = λ n e. data_kept old.frames new.frames r n Cache table (λ f. (cc)) e in
+      record {
+        private = λ n e. exits.frames.roles n (private n e) ∙ e;
+        was_private = λ n e. sym (exits.frames.roles n (data_was new.frames r n Private exits.free (λ f. (cc)) e)) ∙ e;
+        cache = λ n e. exits.frames.roles n (cache n e) ∙ e;
+        was_cache = λ n e. sym (exits.frames.roles n (data_was new.frames r n Cache exits.free (λ f. (cc)) e)) ∙ e;
+        counts = λ n e. exits.frames.counts n (private n e);
+      }
+
+  other_root : (q x : ℕ) → q ≢ pid → old.root q ≡ Some x → x ≢ r
+  other_root q x ne e is = ne (fit.rooted.apart q pid r (e ∙ ap (λ y. Some y) is) exits.lived)
+
+  pub entries_left : (q page : ℕ) → entry new q page ≡ entry old q page
+  entries_left q page = elim (cases_eq q pid) [
+    | inl is ↦ (
+        let P : ℕ → Type 0 = λ x. entry new x page ≡ entry old x page in
+        subst P (sym is) (entry-dead new pid page exits.gone ∙ sym (entry-of old pid r page exits.lived ∙ spare_entry mode old.frames r page exits.spare)))
+    | inr ne ↦ entry-same old new q page (exits.others q ne) (λ x e. drops.entries x page (other_root q x ne e) (fit.rooted.roots q x e))
+  ]
+
+  was_root : (q x : ℕ) → new.root q ≡ Some x → (q ≢ pid) × (old.root q ≡ Some x)
+  was_root q x e =
+      let ne : q ≢ pid = λ is. (let bad : None ≡ Some x = sym exits.gone ∙ ap new.root (sym is) ∙ e in (cc)) in
+      (ne, sym (exits.others q ne) ∙ e)
+
+  -- a table that stays is used by another process
+  used_left : (m : ℕ) → m ≢ r → IsUsed old (IsMapped old) m → IsUsed new (IsMapped new) m
+  used_left m ne (AsRoot q is) = AsRoot q (exits.others q (λ e. ne (one_some m r (sym is ∙ ap old.root e ∙ exits.lived))) ∙ is)
+  used_left m ne (OnWay q x page is here below) =
+      let other : q ≢ pid = λ e. (
+      let same : x ≡ r = one_some x r (sym is ∙ ap old.root e ∙ exits.lived) in
+      let P : ℕ → Type 0 = λ y. Way old.frames (top_level mode) y page (suc below.0) m in
+      no_way mode old.frames r page below.0 m exits.spare.empty (subst P same below.2)) in
+      let Q : Option Attr → Type 0 = λ y. IsSome y in
+      OnWay q x page (exits.others q other ∙ is) (subst Q (sym (exits.at q page other)) here)
+      (below.0, below.1, way_forth old.frames new.frames drops.same.forth (top_level mode) x page (suc below.0) m below.2)
+
+  rooted_left : IsRootedBut new 0
+  rooted_left = record {
+    forest = drops.forest;
+    roots = λ q x e. (let was = was_root q x e in drops.roots x (other_root q x was.0 was.1) (fit.rooted.roots q x was.1));
+    apart = λ p q x e f. fit.rooted.apart p q x (was_root p x e).1 (was_root q x f).1;
+    numbers = λ q x e. fit.rooted.numbers q x (was_root q x e).1;
+    used = λ m table. (
+        let ne : m ≢ r = λ is. (let bad : Free ≡ Table = sym exits.free ∙ ap (role_of new.frames) (sym is) ∙ table.role in (cc)) in
+        elim (fit.rooted.used m ((drops.tables m ne).1 table)) [
+          | inl z ↦ inl z
+          | inr o ↦ inr (used_left m ne o)
+        ]);
+  }
+
+  pub fit_left : ((p : ObjectPage) → old.place (Object p) ≢ Home → is_named new.at p.object p.page ≡ true) → IsFit new
+  fit_left named = record {
+    counted = counted_there old new shares_dropped exits.slots exits.page_of exits.place entries_left nowhere 0 fit.counted;
+    rooted = rooted_left;
+    granting = record {
+      entries = λ q page h. elim (cases_eq q pid) [
+        | inl is ↦ Nothing (ap (λ x. entry new x page) is ∙ entry-dead new pid page exits.gone)
+        | inr ne ↦ (
+            let there = entry_for-same old new (old.at q page) (entry old q page) (record { place = λ p x e. exits.place p ∙ e; files = exits.files })
+            (λ private write one. shares_dropped.counts (frame_of (entry old q page)) (fit.counted.1.named q page (InFrame (frame_of (entry old q page))) h (rw private refl)) ∙ one)
+            (fit.granting.entries q page h) in
+            rw (exits.at q page ne, entries_left q page) there)
+      ];
+      user = λ q. elim (cases_eq q pid) [
+        | inl is ↦ record {
+          user_pages = λ page some. absurd (false≢true (let P : Option Attr → Type 0 = λ x. IsSome x in
+              subst P (ap (λ x. new.at x page) is ∙ exits.unmapped page) some));
+          file_pages = λ page. (let none : new.at q page ≡ None = ap (λ x. new.at x page) is ∙ exits.unmapped page in rw none tt);
+        }
+        | inr ne ↦ user_map-same mode (old.at q) (new.at q) (λ page. exits.at q page ne) (fit.granting.user q)
+      ];
+      readable = λ q. elim (cases_eq q pid) [
+        | inl is ↦ (λ page. (let none : new.at q page ≡ None = ap (λ x. new.at x page) is ∙ exits.unmapped page in rw none tt))
+        | inr ne ↦ readable-same (old.at q) (new.at q) (λ page. exits.at q page ne) (fit.granting.readable q)
+      ];
+      objects = objects-fewer old.at new.at (λ q page. elim (cases_eq q pid) [
+        | inl is ↦ inr (ap (λ x. new.at x page) is ∙ exits.unmapped page)
+        | inr ne ↦ inl (exits.at q page ne)
+      ]) fit.granting.objects;
+    };
+    places = places_renamed old new fit.places exits.place exits.files named exits.slots shares_dropped.cache shares_dropped.was_cache;
+    dirty = dirty_same old new fit.dirty exits.place exits.touched (λ q page h. entries_left q page);
+  }

@@ -1,0 +1,178 @@
+-- A page of an object that no entry is over is at home, and its frame or slot is free.
+use Rattle.vm_types.specs.Limits.{top_level}
+use Rattle.std.proofs.Common.{◌≡◌, ◌≢◌, ℕ, inl, inr, ◌<◌, true, false, Some, None, refl, sym, ap, ◌∙◌, subst, arith, eq-eqb, eqb-true, ◌==◌}
+use Rattle.std.proofs.lemmas.Bool.{cases_eq, cases_Bool, false≢true, and_from}
+use Rattle.vm_types.specs.declared.object.ObjectPage.{ObjectPage}
+use Rattle.vm_types.specs.declared.object.PageKey.{PageKey}
+use Rattle.vm_types.specs.declared.object.PageKey.TheVariants.{File, Object}
+use Rattle.vm_types.specs.declared.region.Backing.{Backing}
+use Rattle.vm_types.specs.declared.region.Backing.TheVariants.{Anon, Private as PrivateOf, Shared as SharedOf, Common as CommonOf}
+use Rattle.vm_types.specs.Attributes.{stands_on}
+use Rattle.vm_types.specs.Objects.{names, is_object_page}
+use Rattle.frames.specs.FrameTable.{FrameTable, frame_count, role_of}
+use Rattle.sv39_walk.specs.Entry.{frame_of}
+use Rattle.page_tables.specs.Tree.{IsPage, Points}
+use Rattle.page_cache.specs.declared.place.Place.TheVariants.{Home, Frame, Slot}
+use Rattle.residency.specs.declared.leaves.Change.{Change}
+use Rattle.residency.specs.declared.leaves.Change.TheVariants.{Forget, ClearAccessed, ClearDirty}
+use Rattle.residency.specs.Seats.{is_private, is_swapped}
+use Rattle.residency.specs.Picture.{Picture, entry, held, bytes_at}
+use Rattle.residency.specs.Parts.{IsFit, nowhere}
+use Rattle.residency.specs.Leaves.{concerns, IsOver}
+use Rattle.residency.specs.Steps.{Forgets, HasNoEntry}
+use Rattle.residency.proofs.Bits.{valid_zero}
+use Rattle.residency.proofs.Cleaning.{Untouches, fit_untouched, views_untouched, held_untouched, entries_untouched}
+use Rattle.residency.proofs.Homing.{Homes, one_slot, fit_homed, same, views, held_else}
+use Rattle.residency.proofs.LeafSteps.{over_resident, over_backed}
+use Rattle.residency.proofs.Leaving.{Leaves, fit_home, left_spares, same_left, trees_left, held_left}
+
+same_key : (p q : PageKey) → Some p ≡ Some q → p ≡ q
+same_key p q e = cc
+
+object_alike : (p q : ObjectPage) → Object p ≡ Object q → (p.object ≡ q.object) × (p.page ≡ q.page)
+object_alike p q e = (cc, cc)
+
+no_object : (p : PageKey) (q : ObjectPage) → p ≡ Object q → (f : _) → p ≡ File f → ⊥
+no_object p q e f g = let bad : Object q ≡ File f = sym e ∙ g in (cc)
+
+named_backing : (b : Backing) (p : ObjectPage) → stands_on b ≡ Some (Object p) → is_object_page b p.object p.page ≡ true
+named_backing Anon p is = (cc)
+named_backing (PrivateOf q) p is = absurd (no_object (File q) p (same_key (File q) (Object p) is) q refl)
+named_backing (SharedOf q) p is = absurd (no_object (File q) p (same_key (File q) (Object p) is) q refl)
+named_backing (CommonOf q) p is =
+    let same = object_alike q p (same_key (Object q) (Object p) is) in
+    and_from _ _ (eq-eqb q.object p.object same.0) (eq-eqb q.page p.page same.1)
+
+concerned_some : (change : Change) (e : ℕ) → concerns change e ≡ true → e ≢ 0
+concerned_some Forget e is zero = let none : concerns Forget 0 ≡ true = ap (concerns Forget) (sym zero) ∙ is in false≢true none
+concerned_some ClearAccessed e is zero = let none : concerns ClearAccessed 0 ≡ true = ap (concerns ClearAccessed) (sym zero) ∙ is in let bad = rw valid_zero at none in false≢true bad
+concerned_some ClearDirty e is zero = let none : concerns ClearDirty 0 ≡ true = ap (concerns ClearDirty) (sym zero) ∙ is in let bad = rw valid_zero at none in false≢true bad
+
+module _ {mode : ℕ} (c : Picture mode) (p : ObjectPage) (n : ℕ) (fit : IsFit c) (bare : HasNoEntry c p) (placed : c.place (Object p) ≡ Frame (record { 0 = n })) (above : 0 < n) where
+  -- no entry is over its frame
+  pub none_over : (change : Change) (pid k : ℕ) → IsPage (top_level mode) k → IsOver c change n pid k → ⊥
+  none_over change pid k h over =
+      let res = over_resident c change n pid k fit h over in
+      let on = over_backed c change n pid k fit h over (Object p) res.0 above placed res.1 in
+      let named : names (c.at pid k) p.object p.page ≡ true = ap (λ a. names a p.object p.page) res.1 ∙ named_backing res.0.backing p on in
+      concerned_some change (entry c pid k) over.concerned (bare pid k h named)
+
+  pub none_named : (pid k : ℕ) → IsPage (top_level mode) k → entry c pid k ≢ 0 → is_private (entry c pid k) ≡ false → is_swapped (entry c pid k) ≡ false → frame_of (entry c pid k) ≢ n
+  none_named pid k h some common here e = none_over Forget pid k h (record { concerned = some_there (entry c pid k) some here; frame = e }) where
+    some_there : (x : ℕ) → x ≢ 0 → is_swapped x ≡ false → concerns Forget x ≡ true
+    some_there x some here = elim (cases_Bool (x == 0)) [
+      | inl t ↦ absurd (some (eqb-true x 0 t))
+      | inr f ↦ rw (f, here) refl
+    ]
+
+-- its mark was taken, and then it left its frame
+module _ {mode : ℕ} (old mid new : Picture mode) (p : ObjectPage) (n : ℕ) (fit : IsFit old) (bare : HasNoEntry old p) (placed : old.place (Object p) ≡ Frame (record { 0 = n })) (above : 0 < n)
+    (u : Untouches old mid (Object p)) (leaves : Leaves mid new (Object p) n Home) where
+  fit_mid : IsFit mid
+  fit_mid = fit_untouched old mid (Object p) n fit u placed (none_over old p n fit bare placed above ClearDirty)
+
+  bare_mid : HasNoEntry mid p
+  bare_mid pid k h named = entries_untouched old mid (Object p) n fit u pid k ∙ bare pid k h (ap (λ a. names a p.object p.page) (sym (u.at pid k)) ∙ named)
+
+  unnamed_mid : (pid k : ℕ) → IsPage (top_level mode) k → entry mid pid k ≢ 0 → is_private (entry mid pid k) ≡ false → is_swapped (entry mid pid k) ≡ false → frame_of (entry mid pid k) ≢ n
+  unnamed_mid = none_named mid p n fit_mid bare_mid (u.place (Object p) ∙ placed) above
+
+  held_home : held new (Object p) ≡ None
+  unfolding held
+  held_home = ap (λ x. bytes_at new.frames new.slots x) leaves.placed
+
+  pub fit_forgotten : IsFit new
+  fit_forgotten = fit_home mid new (Object p) n fit_mid leaves u.now unnamed_mid
+
+  pub forgets_framed : Forgets old new p
+  forgets_framed =
+      let spares = left_spares mid new (Object p) n Home nowhere 0 fit_mid leaves unnamed_mid 0 (inr (held_home, u.now)) in
+      let trees = trees_left mid new (Object p) n Home nowhere 0 fit_mid leaves unnamed_mid in
+      record {
+        root = λ pid. leaves.root pid ∙ u.root pid;
+        at = λ pid k. leaves.at_same pid k ∙ u.at pid k;
+        page_of = λ m. leaves.page_of m ∙ u.page_of m;
+        files = λ f. leaves.files f ∙ u.files f;
+        placed = leaves.placed;
+        others = λ q ne. leaves.others q ne ∙ u.place q;
+        now = leaves.touched (Object p) ∙ u.now;
+        rest = λ q ne. leaves.touched q ∙ u.others q ne;
+        entries = λ pid k h. same_left mid new (Object p) n Home nowhere 0 fit_mid leaves unnamed_mid pid k h ∙ entries_untouched old mid (Object p) n fit u pid k;
+        views = λ pid k. spares.pages.views pid k ∙ views_untouched old mid (Object p) n fit u pid k;
+        held = λ q ne. held_left mid new (Object p) n Home nowhere 0 fit_mid leaves unnamed_mid q ne ∙ held_untouched old mid (Object p) n fit u q;
+        frames = leaves.frames.frames ∙ ap frame_count u.frames;
+        roles = λ m. elim (cases_eq m n) [
+          | inl e ↦ inr (ap (role_of new.frames) e ∙ leaves.free, placed ∙ ap (λ i. Frame (record { 0 = i })) (sym e))
+          | inr ne ↦ inl (leaves.frames.roles m ne ∙ ap (λ t. role_of t m) u.frames)
+        ];
+        pointers = λ a i m. (
+          λ x. trees.same.forth a i m (let P : FrameTable → Type 0 = λ t. Points t a i m in subst P (sym u.frames) x),
+          λ x. (let P : FrameTable → Type 0 = λ t. Points t a i m in subst P u.frames (trees.same.back a i m x)),
+        );
+        total = ap (λ t. t.total) leaves.slots ∙ ap (λ t. t.total) u.slots;
+        counts = λ k ne. ap (λ t. t.count k) leaves.slots ∙ ap (λ t. t.count k) u.slots;
+        left = λ k at. (let bad : Frame (record { 0 = n }) ≡ Slot (record { 0 = k }) = sym placed ∙ at in (cc));
+        bytes = λ k used. ap (λ t. t.bytes k) leaves.slots ∙ ap (λ t. t.bytes k) u.slots;
+      }
+
+-- it left its slot
+module _ {mode : ℕ} (old new : Picture mode) (p : ObjectPage) (k : ℕ) (fit : IsFit old) (homes : Homes old new (Object p) k) where
+  pub fit_forgotten_slot : IsFit new
+  fit_forgotten_slot = fit_homed old new (Object p) k fit homes
+
+  gone : new.slots.count k ≡ 0
+  gone = let less = homes.slots.lowered in let one = fit.places.slotted (Object p) k homes.was in omega (arith, less, one)
+
+  pub forgets_slotted : Forgets old new p
+  forgets_slotted = record {
+    root = homes.root;
+    at = homes.at;
+    page_of = homes.page_of;
+    files = homes.files;
+    placed = homes.placed;
+    others = homes.others;
+    now = homes.now;
+    rest = homes.rest;
+    entries = λ pid q h. same old new (Object p) k fit homes pid q;
+    views = λ pid q. views old new (Object p) k fit homes pid q;
+    held = λ q ne. held_else old new (Object p) k fit homes q ne;
+    frames = ap frame_count homes.frames;
+    roles = λ m. inl (ap (λ t. role_of t m) homes.frames);
+    pointers = λ a i m. (
+      λ x. (let P : FrameTable → Type 0 = λ t. Points t a i m in subst P (sym homes.frames) x),
+      λ x. (let P : FrameTable → Type 0 = λ t. Points t a i m in subst P homes.frames x),
+    );
+    total = homes.slots.others.total;
+    counts = λ j ne. homes.slots.others.counts j (λ e. ne (homes.was ∙ ap (λ i. Slot (record { 0 = i })) (sym e)));
+    left = λ j at. (let e : j ≡ k = one_slot j k (sym at ∙ homes.was) in ap new.slots.count e ∙ gone);
+    bytes = λ j used. elim (cases_eq j k) [
+      | inl e ↦ absurd (let none : new.slots.count j ≡ 0 = ap new.slots.count e ∙ gone in omega (arith, none, used))
+      | inr ne ↦ homes.slots.others.bytes j ne (let c = homes.slots.others.counts j ne in omega (arith, c, used))
+    ];
+  }
+
+-- at home already
+pub forgets_home : {mode : ℕ} (c : Picture mode) (p : ObjectPage) → IsFit c → c.place (Object p) ≡ Home → Forgets c c p
+forgets_home c p fit home = record {
+  root = λ pid. refl;
+  at = λ pid k. refl;
+  page_of = λ m. refl;
+  files = λ f. refl;
+  placed = home;
+  others = λ q ne. refl;
+  now = elim (cases_Bool (c.touched (Object p))) [
+    | inl t ↦ absurd (fit.dirty.held (Object p) t home)
+    | inr f ↦ f
+  ];
+  rest = λ q ne. refl;
+  entries = λ pid k h. refl;
+  views = λ pid k. refl;
+  held = λ q ne. refl;
+  frames = refl;
+  roles = λ m. inl refl;
+  pointers = λ a i m. (λ x. x, λ x. x);
+  total = refl;
+  counts = λ k ne. refl;
+  left = λ k at. (let bad : Home ≡ Slot (record { 0 = k }) = sym home ∙ at in (cc));
+  bytes = λ k used. refl;
+}

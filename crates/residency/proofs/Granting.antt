@@ -1,0 +1,126 @@
+-- Grants: what each step does to what entries let be done.
+use Rattle.vm_types.specs.Limits.{top_level}
+use Rattle.std.proofs.Common.{◌≡◌, ◌≢◌, ℕ, inl, inr, true, Option, refl, sym, ap, ◌∙◌, subst}
+use Rattle.std.specs.Prelude.{IsSome, ◌⊎◌}
+use Rattle.vm_types.specs.declared.object.PageKey.{PageKey}
+use Rattle.vm_types.specs.declared.object.PageKey.TheVariants.{File, Object}
+use Rattle.vm_types.specs.declared.region.Attr.{Attr}
+use Rattle.vm_types.specs.declared.region.Backing.{Backing}
+use Rattle.vm_types.specs.declared.region.Backing.TheVariants.{Anon, Private, Shared, Common}
+use Rattle.vm_types.specs.Files.{is_past_end_of}
+use Rattle.vm_types.specs.Rows.{IsUserMap}
+use Rattle.vm_types.specs.Verdict.{is_past_end}
+use Rattle.frames.specs.FrameTable.{count_of}
+use Rattle.sv39_walk.specs.Entry.{can_write, frame_of}
+use Rattle.page_tables.specs.Tree.{IsPage}
+use Rattle.page_cache.specs.declared.place.Place.TheVariants.{Frame}
+use Rattle.regions.specs.Permission.{IsReadableMap}
+use Rattle.residency.proofs.Places.{objects-same}
+use Rattle.residency.proofs.Ways.{by_page}
+use Rattle.residency.specs.Picture.{Picture, entry, is_private}
+use Rattle.residency.specs.Parts.{IsGranting, IsEntryFor, Nothing, Resident, Away, IsResident, IsBehind}
+
+-- no page leaves the frame that it lies in, and the files are the same
+module _ {mode : ℕ} where
+  pub record KeepsBehind (old new : Picture mode) : Type 0 where
+    pub place : (p : PageKey) (n : ℕ) → old.place p ≡ Frame (record { 0 = n }) → new.place p ≡ Frame (record { 0 = n })
+    pub files : (f : ℕ) → new.files f ≡ old.files f
+
+pub past_end-same : {mode : ℕ} (old new : Picture mode) (b : Backing) → ((f : ℕ) → new.files f ≡ old.files f) → is_past_end new.files b ≡ is_past_end old.files b
+past_end-same old new Anon same = refl
+past_end-same old new (Private p) same = ap (λ i. is_past_end_of i p.page) (same p.file)
+past_end-same old new (Shared p) same = ap (λ i. is_past_end_of i p.page) (same p.file)
+past_end-same old new (Common p) same = refl
+
+behind-same : {mode : ℕ} (old new : Picture mode) (b : Backing) (n : ℕ) → KeepsBehind old new → IsBehind old b n → IsBehind new b n
+behind-same old new Anon n kept behind = behind
+behind-same old new (Private p) n kept behind = kept.place (File p) n behind
+behind-same old new (Shared p) n kept behind = kept.place (File p) n behind
+behind-same old new (Common p) n kept behind = kept.place (Object p) n behind
+
+resident-same : {mode : ℕ} (old new : Picture mode) (a : Attr) (e : ℕ) → KeepsBehind old new
+    → (is_private e ≡ true → can_write e ≡ true → count_of old.frames (frame_of e) ≡ 1 → count_of new.frames (frame_of e) ≡ 1) → IsResident old a e → IsResident new a e
+resident-same old new a e kept count resident = record {
+  framed = resident.framed;
+  inside = past_end-same old new a.backing kept.files ∙ resident.inside;
+  private = resident.private;
+  behind = λ common. behind-same old new a.backing (frame_of e) kept (resident.behind common);
+  leaf = λ valid. (let leaf = resident.leaf valid in record {
+    within = leaf.within;
+    sole = λ private write. count private write (leaf.sole private write);
+    common = leaf.common;
+  });
+}
+
+pub entry_for-same : {mode : ℕ} (old new : Picture mode) (attr : Option Attr) (e : ℕ) → KeepsBehind old new
+    → (is_private e ≡ true → can_write e ≡ true → count_of old.frames (frame_of e) ≡ 1 → count_of new.frames (frame_of e) ≡ 1) → IsEntryFor old attr e → IsEntryFor new attr e
+entry_for-same old new attr e kept count (Nothing none) = Nothing none
+entry_for-same old new attr e kept count (Resident a is resident) = Resident a is (resident-same old new a e kept count resident)
+entry_for-same old new attr e kept count (Away a is away) = Away a is (record {
+  swapped = away.swapped;
+  common = away.common;
+  inside = past_end-same old new a.backing kept.files ∙ away.inside;
+  not_shared = away.not_shared;
+})
+
+module _ (mode : ℕ) where
+  pub user_map-same : (f g : ℕ → Option Attr) → ((page : ℕ) → g page ≡ f page) → IsUserMap mode f → IsUserMap mode g
+  user_map-same f g same user = record {
+    user_pages = λ page some. user.user_pages page (let P : Option Attr → Type 0 = λ x. IsSome x in subst P (same page) some);
+    file_pages = λ page. rw (same page) (user.file_pages page);
+  }
+
+pub readable-same : (f g : ℕ → Option Attr) → ((page : ℕ) → g page ≡ f page) → IsReadableMap f → IsReadableMap g
+readable-same f g same readable page = rw (same page) (readable page)
+
+-- all entries and regions are as they were, and a writable frame of one process is still that
+module _ {mode : ℕ} where
+  pub granting_kept : (old new : Picture mode) → IsGranting old → KeepsBehind old new
+      → ((pid page : ℕ) → IsPage (top_level mode) page → is_private (entry old pid page) ≡ true → can_write (entry old pid page) ≡ true
+      → count_of old.frames (frame_of (entry old pid page)) ≡ 1 → count_of new.frames (frame_of (entry old pid page)) ≡ 1)
+      → ((pid page : ℕ) → new.at pid page ≡ old.at pid page) → ((pid page : ℕ) → IsPage (top_level mode) page → entry new pid page ≡ entry old pid page) → IsGranting new
+  granting_kept old new granting kept count at same = record {
+    entries = λ pid page h. (
+        let here = entry_for-same old new (old.at pid page) (entry old pid page) kept (λ private write one. count pid page h private write one) (granting.entries pid page h) in
+        rw (at pid page, same pid page h) here);
+    user = λ pid. user_map-same mode (old.at pid) (new.at pid) (at pid) (granting.user pid);
+    readable = λ pid. readable-same (old.at pid) (new.at pid) (at pid) (granting.readable pid);
+    objects = objects-same old.at new.at at granting.objects;
+  }
+
+-- all entries and regions are as they were
+module _ {mode : ℕ} where
+  pub granting_same : (old new : Picture mode) → IsGranting old → KeepsBehind old new
+      → ((pid page : ℕ) → IsPage (top_level mode) page → is_private (entry old pid page) ≡ true
+      → count_of old.frames (frame_of (entry old pid page)) ≡ 1 → count_of new.frames (frame_of (entry old pid page)) ≡ 1)
+      → ((pid page : ℕ) → new.at pid page ≡ old.at pid page) → ((pid page : ℕ) → IsPage (top_level mode) page → entry new pid page ≡ entry old pid page) → IsGranting new
+  granting_same old new granting kept count at same = record {
+    entries = λ pid page h. (
+        let here = entry_for-same old new (old.at pid page) (entry old pid page) kept (λ private write one. count pid page h private one) (granting.entries pid page h) in
+        rw (at pid page, same pid page h) here);
+    user = λ pid. user_map-same mode (old.at pid) (new.at pid) (at pid) (granting.user pid);
+    readable = λ pid. readable-same (old.at pid) (new.at pid) (at pid) (granting.readable pid);
+    objects = objects-same old.at new.at at granting.objects;
+  }
+
+-- the entry of one page changed
+module _ {mode : ℕ} where
+  pub granting_changed : (old new : Picture mode) (pid page : ℕ) → IsGranting old → KeepsBehind old new
+      → ((q p : ℕ) → IsPage (top_level mode) p → is_private (entry old q p) ≡ true
+      → count_of old.frames (frame_of (entry old q p)) ≡ 1 → count_of new.frames (frame_of (entry old q p)) ≡ 1)
+      → ((q p : ℕ) → new.at q p ≡ old.at q p) → ((q p : ℕ) → IsPage (top_level mode) p → (q ≢ pid) ⊎ (p ≢ page) → entry new q p ≡ entry old q p)
+      → IsEntryFor new (old.at pid page) (entry new pid page) → IsGranting new
+  granting_changed old new pid page granting kept count at same here = record {
+    entries = λ q p h. elim (by_page q p pid page) [
+      | inl e ↦ (
+          let P : ℕ → Type 0 = λ x. IsEntryFor new (old.at x page) (entry new x page) in
+          let Q : ℕ → Type 0 = λ x. IsEntryFor new (old.at q x) (entry new q x) in
+          rw (at q p) (subst Q (sym e.1) (subst P (sym e.0) here)))
+      | inr other ↦ (
+          let there = entry_for-same old new (old.at q p) (entry old q p) kept (λ private write one. count q p h private one) (granting.entries q p h) in
+          rw (at q p, same q p h other) there)
+    ];
+    user = λ q. user_map-same mode (old.at q) (new.at q) (at q) (granting.user q);
+    readable = λ q. readable-same (old.at q) (new.at q) (at q) (granting.readable q);
+    objects = objects-same old.at new.at at granting.objects;
+  }

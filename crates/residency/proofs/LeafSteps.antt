@@ -1,0 +1,407 @@
+-- Entries over one frame changed: what stays, and where such entries stand.
+use Rattle.vm_types.specs.declared.mode.Levels as Levels
+use Rattle.vm_types.proofs.Modes.{user_pages_fit}
+use Rattle.vm_types.specs.Limits.{user_end, top_level}
+use Rattle.std.proofs.Common.{◌≡◌, ◌≢◌, ℕ, inl, inr, ◌⊎◌, ◌+◌, ◌-◌, ◌<◌, ◌≤◌, true, false, List, [], Option, Some, None, get_or, refl, sym, ap, ◌∙◌, subst, arith, ne_eqb}
+use Rattle.std.specs.Prelude.{IsSome, IfNone, is_some}
+use Rattle.std.proofs.lemmas.Bool.{cases_eq, cases_Bool, false≢true}
+use Rattle.std.proofs.lemmas.Option.{same_Some}
+use Rattle.vm_types.specs.declared.object.PageKey.{PageKey}
+use Rattle.vm_types.specs.declared.number.FrameNo.{FrameNo}
+use Rattle.vm_types.specs.declared.region.Attr.{Attr}
+use Rattle.vm_types.specs.declared.region.Backing.{Backing}
+use Rattle.vm_types.specs.declared.region.Backing.TheVariants as Backings
+use Rattle.vm_types.specs.declared.object.PageKey.TheVariants.{File, Object}
+use Rattle.vm_types.specs.Attributes.{backing_after, stands_on}
+use Rattle.frames.specs.declared.role.Role.TheVariants.{Free, Zero, Table, Private, Cache}
+use Rattle.frames.specs.FrameTable.{FrameTable, role_of}
+use Rattle.sv39_walk.specs.Entry.{is_valid, is_dirty, is_pointer, frame_of, entry_at}
+use Rattle.sv39_walk.specs.Walk.{index_of}
+use Rattle.page_tables.specs.Change.{SetsEntry}
+use Rattle.page_tables.specs.Tree.{IsPage, IsTable, IsForest, missing_of, last_table}
+use Rattle.page_tables.proofs.Ends.{way_forth, last_is, page_entry-missing}
+use Rattle.page_tables.proofs.Ways.{ends, index_of-lt}
+use Rattle.regions.specs.declared.run.Run.{Run}
+use Rattle.regions.specs.RunList.{attr_at}
+use Rattle.regions.specs.Search.{StandsOn}
+use Rattle.page_cache.specs.declared.place.Place.TheVariants.{Home, Frame}
+use Rattle.residency.specs.declared.leaves.Change.{Change}
+use Rattle.residency.specs.declared.leaves.Change.TheVariants.{Forget, ClearAccessed, ClearDirty}
+use Rattle.residency.specs.Seats.{Seat, InFrame, InSlot, seat, is_private}
+use Rattle.residency.specs.declared.kernel.Core.{Core}
+use Rattle.residency.specs.Picture.{Picture, picture_of, attr_where, root_in, number_of_frame, entry, bytes_in, IsOwned, count_in, page_in}
+use Rattle.memory.specs.Notes.{Names}
+use Rattle.memory.proofs.Numbers.{is_number, of_number}
+use Rattle.residency.specs.Parts.{IsEntryFor, IsResident, IsBehind, IsFit, AsRoot, OnWay, nowhere}
+use Rattle.residency.specs.Steps.{SameBeside, SetsPage}
+use Rattle.residency.specs.declared.leaves.Held.{Held}
+use Rattle.residency.specs.declared.leaves.Held.TheVariants.{Own, Filed}
+use Rattle.residency.specs.Leaves.{concerns, IsOver, IsChanged, ChangesLeaves, Holds, KeepsAllButFrames, AreKinds, IsPageOver, key_after}
+use Rattle.residency.proofs.Bits.{some_framed, resident_of, changed_once, seat_changed, for_changed, valid_zero, leaf_accessed}
+use Rattle.residency.proofs.Entries.{entry-of}
+use Rattle.residency.proofs.Granting.{entry_for-same, granting_changed}
+use Rattle.residency.proofs.Moves.{behind_kept, owned_forth, owned_back, count_kept, page_kept, view_kept, view-none}
+use Rattle.residency.proofs.Places.{places_same, dirty_changed}
+use Rattle.residency.proofs.Seats.{counted_same}
+use Rattle.residency.proofs.Start.{entry-dead}
+use Rattle.residency.proofs.TableSteps.{sets_page, rooted_set}
+use Rattle.residency.proofs.Ways.{by_page, begins_table}
+use Rattle.std.specs.Prelude.{option_map}
+
+-- where an entry was set, each way ends where it ended
+module _ (mode : ℕ) where
+  pub last_set : (old new : FrameTable) (root page number : ℕ) → IsForest old → SetsEntry old new (top_level mode) root page number → (r p : ℕ) → IsTable old r → last_table new p (top_level mode) r ≡ last_table old p (top_level mode) r
+  last_set old new root page number forest sets r p table =
+      let end = ends old (top_level mode) r p forest table in
+      let l = last_table old p (top_level mode) r in
+      let w = way_forth old new (λ a i b. (sets.pointers a i b).0) (top_level mode) r p (top_level mode - l.0) l.1 end.way in
+      let there : IsTable new l.1 = record { inside = (let e = sets.kept.frames in rw e end.table.inside); role = ap (λ rs. get_or rs l.1 Free) sets.kept.roles ∙ end.table.role } in
+      last_is new (top_level mode) r p l.0 l.1 end.least w (λ h. elim (cases_Bool (is_pointer (entry_at new l.1 (index_of p l.0)))) [
+        | inl t ↦ (
+            let was = (sets.pointers l.1 (index_of p l.0) (frame_of (entry_at new l.1 (index_of p l.0)))).1 (record { table = there; index = index_of-lt p l.0; pointer = t; target = refl }) in
+            absurd (false≢true (sym (end.stops h) ∙ was.pointer)))
+        | inr f ↦ f
+      ])
+
+-- where an entry over a frame stands
+module _ {mode : ℕ} (c : Picture mode) (change : Change) (n pid k : ℕ) (fit : IsFit c) (h : IsPage (top_level mode) k) (over : IsOver c change n pid k) where
+  pub over_resident : (a : Attr) × (c.at pid k ≡ Some a) × IsResident c a (entry c pid k)
+  over_resident =
+      let f = some_framed change (entry c pid k) over.concerned in
+      resident_of c (c.at pid k) (entry c pid k) (fit.granting.entries pid k h) f.0 f.1
+
+  pub over_user : (16 ≤ k) × (k < user_end mode)
+  over_user = let P : Option Attr → Type 0 = λ x. IsSome x in (fit.granting.user pid).user_pages k (subst P (sym over_resident.1) refl)
+
+  pub over_common : role_of c.frames n ≡ Cache → is_private (entry c pid k) ≡ false
+  over_common cache = elim (cases_Bool (is_private (entry c pid k))) [
+    | inl own ↦ (
+        let named = fit.counted.1.named pid k (InFrame (frame_of (entry c pid k))) h (rw own refl) in
+        let bad : Private ≡ Cache = sym named ∙ ap (role_of c.frames) over.frame ∙ cache in (cc))
+    | inr common ↦ common
+  ]
+
+  behind_one : (b : Backing) (p : PageKey) → 0 < n → c.place p ≡ Frame (record { 0 = n }) → IsBehind c b n → stands_on b ≡ Some p
+  behind_one Backings.Anon p above at zero = absurd (omega (arith, above, zero))
+  behind_one (Backings.Private q) p above at is = ap (λ (x : PageKey). Some x) (fit.places.apart (File q) p (is ∙ sym at) (λ home. (let bad : Home ≡ Frame (record { 0 = n }) = sym home ∙ is in (cc))))
+  behind_one (Backings.Shared q) p above at is = ap (λ (x : PageKey). Some x) (fit.places.apart (File q) p (is ∙ sym at) (λ home. (let bad : Home ≡ Frame (record { 0 = n }) = sym home ∙ is in (cc))))
+  behind_one (Backings.Common q) p above at is = ap (λ (x : PageKey). Some x) (fit.places.apart (Object q) p (is ∙ sym at) (λ home. (let bad : Home ≡ Frame (record { 0 = n }) = sym home ∙ is in (cc))))
+
+  pub over_backed : (p : PageKey) (a : Attr) → 0 < n → c.place p ≡ Frame (record { 0 = n }) → c.at pid k ≡ Some a → stands_on a.backing ≡ Some p
+  over_backed p a above at is =
+      let res = over_resident in
+      let behind = res.2.behind (over_common (fit.places.cached p n at)) in
+      let P : ℕ → Type 0 = λ x. IsBehind c res.0.backing x in
+      let there = behind_one res.0.backing p above at (subst P over.frame behind) in
+      ap (λ (x : Attr). stands_on x.backing) (same_Some a res.0 (sym is ∙ res.1)) ∙ there
+
+  no_private : (b : Backing) → 0 < n → role_of c.frames n ≡ Private → IsBehind c b n → ⊥
+  no_private Backings.Anon above role zero = omega (arith, above, zero)
+  no_private (Backings.Private q) above role is = let bad : Private ≡ Cache = sym role ∙ fit.places.cached (File q) n is in (cc)
+  no_private (Backings.Shared q) above role is = let bad : Private ≡ Cache = sym role ∙ fit.places.cached (File q) n is in (cc)
+  no_private (Backings.Common q) above role is = let bad : Private ≡ Cache = sym role ∙ fit.places.cached (Object q) n is in (cc)
+
+  pub over_own : 0 < n → role_of c.frames n ≡ Private → c.page_of n ≡ k
+  over_own above role = elim (cases_Bool (is_private (entry c pid k))) [
+    | inl own ↦ fit.counted.1.noted pid k (InFrame n) h (rw own (ap (λ j. Some (InFrame j)) over.frame))
+    | inr common ↦ (
+        let res = over_resident in
+        let P : ℕ → Type 0 = λ x. IsBehind c res.0.backing x in
+        absurd (no_private res.0.backing above role (subst P over.frame (res.2.behind common))))
+  ]
+
+  pub over_mapped : c.at pid k ≢ None
+  over_mapped none = let bad : None ≡ Some over_resident.0 = sym none ∙ over_resident.1 in (cc)
+
+-- no table is missing on the way to it
+module _ {mode : ℕ} where
+  pub over_whole : (c : Picture mode) (change : Change) (n pid r k : ℕ) → c.root pid ≡ Some r → IsOver c change n pid k → missing_of c.frames (top_level mode) r k ≡ 0
+  over_whole c change n pid r k root over = elim (cases_eq (missing_of c.frames (top_level mode) r k) 0) [
+    | inl e ↦ e
+    | inr some ↦ absurd ((some_framed change (entry c pid k) over.concerned).0 (entry-of c pid r k root ∙ page_entry-missing c.frames (top_level mode) r k some))
+  ]
+
+pub over_lives : {mode : ℕ} (c : Picture mode) (change : Change) (n pid k : ℕ) → c.root pid ≡ None → IsOver c change n pid k → ⊥
+over_lives c change n pid k dead over = (some_framed change (entry c pid k) over.concerned).0 (entry-dead c pid k dead)
+
+cases_root : (o : Option ℕ) → (o ≡ None) ⊎ ((r : ℕ) × (o ≡ Some r))
+cases_root None = inl refl
+cases_root (Some r) = inr (r, refl)
+
+pub over_number : {mode : ℕ} (c : Picture mode) (change : Change) (n pid k : ℕ) → IsFit c → IsOver c change n pid k → (1 ≤ pid) × (pid ≤ 64)
+over_number c change n pid k fit over = elim (cases_root (c.root pid)) [
+  | inl dead ↦ absurd (over_lives c change n pid k dead over)
+  | inr lives ↦ fit.rooted.numbers pid lives.0 lives.1
+]
+
+pub dead_at : (roots : List (Option FrameNo)) (pid : ℕ) (o : Option FrameNo) → get_or roots pid None ≡ o → o ≡ None → root_in roots pid ≡ None
+dead_at roots pid o is none = ap (λ x. option_map number_of_frame x) (is ∙ none)
+
+pub lives_at : (roots : List (Option FrameNo)) (pid : ℕ) (o : Option FrameNo) (r : FrameNo) → get_or roots pid None ≡ o → o ≡ Some r → root_in roots pid ≡ Some r.0
+lives_at roots pid o r is some = ap (λ x. option_map number_of_frame x) (is ∙ some)
+
+pub if_none : {T : Type 0} (o : Option T) (P : Type 0) → IfNone o P → is_some o ≡ false → P
+if_none None P is none = is
+if_none (Some x) P is none = absurd (false≢true (sym none))
+
+-- runs
+pub stands_after : (b : Backing) (n : ℕ) (p : PageKey) → stands_on b ≡ Some p → stands_on (backing_after b n) ≡ Some (key_after p n)
+stands_after Backings.Anon n p is = (cc)
+stands_after (Backings.Private q) n p is = ap (λ (x : PageKey). Some (key_after x n)) (same_Some (File q) p is)
+stands_after (Backings.Shared q) n p is = ap (λ (x : PageKey). Some (key_after x n)) (same_Some (File q) p is)
+stands_after (Backings.Common q) n p is = ap (λ (x : PageKey). Some (key_after x n)) (same_Some (Object q) p is)
+
+number_after : (b : Backing) (n : ℕ) (p : PageKey) → stands_on (backing_after b n) ≡ Some p → (q : PageKey) × (stands_on b ≡ Some q) × (key_after q n ≡ p)
+number_after Backings.Anon n p is = cc
+number_after (Backings.Private q) n p is = (File q, refl, same_Some (key_after (File q) n) p is)
+number_after (Backings.Shared q) n p is = (File q, refl, same_Some (key_after (File q) n) p is)
+number_after (Backings.Common q) n p is = (Object q, refl, same_Some (key_after (Object q) n) p is)
+
+offset_of : PageKey → ℕ
+offset_of (File p) = p.page
+offset_of (Object p) = p.page
+
+offset_after : (p : PageKey) (n : ℕ) → offset_of (key_after p n) ≡ offset_of p + n
+unfolding offset_of
+offset_after (File p) n = refl
+offset_after (Object p) n = refl
+
+pub one_over : (run : Run) (p : PageKey) (j k : ℕ) → IsPageOver run p j → IsPageOver run p k → j ≡ k
+one_over run p j k a b =
+    let x = number_after run.attr.backing (j - run.first) p a.is in
+    let y = number_after run.attr.backing (k - run.first) p b.is in
+    let same : x.0 ≡ y.0 = same_Some x.0 y.0 (sym x.1 ∙ y.1) in
+    let first : offset_of x.0 ≡ offset_of y.0 = ap offset_of same in
+    let one : offset_of x.0 + (j - run.first) ≡ offset_of p = sym (offset_after x.0 (j - run.first)) ∙ ap offset_of x.2 in
+    let other : offset_of y.0 + (k - run.first) ≡ offset_of p = sym (offset_after y.0 (k - run.first)) ∙ ap offset_of y.2 in
+    omega (arith, first, one, other, a.from, b.from)
+
+-- of anonymous memory that isn't shared no page stands on a page of a file or an object
+pub not_backed : (run : Run) (p : PageKey) (k : ℕ) → stands_on run.attr.backing ≡ None → IsPageOver run p k → ⊥
+not_backed run p k none over =
+    let x = number_after run.attr.backing (k - run.first) p over.is in
+    let bad : None ≡ Some x.0 = sym none ∙ x.1 in (cc)
+
+-- how much further on the run's page over that page stands than the first
+pub over_after : (run : Run) (first p : PageKey) (k : ℕ) → stands_on run.attr.backing ≡ Some first → IsPageOver run p k → key_after first (k - run.first) ≡ p
+over_after run first p k is over = let x = number_after run.attr.backing (k - run.first) p over.is in ap (λ (q : PageKey). key_after q (k - run.first)) (same_Some first x.0 (sym is ∙ x.1)) ∙ x.2
+
+pub one_after : (p : PageKey) (n m : ℕ) → key_after p n ≡ key_after p m → n ≡ m
+one_after p n m e = let same : offset_of p + n ≡ offset_of p + m = sym (offset_after p n) ∙ ap offset_of e ∙ offset_after p m in omega (arith, same)
+
+-- a page of a process with an entry over the frame of a page of a file or an object stands on that
+pub over_stands : {mode : ℕ} (c : Picture mode) (change : Change) (n pid k : ℕ) (runs : List Run) (p : PageKey) → IsFit c → 0 < n → c.place p ≡ Frame (record { 0 = n }) → ((j : ℕ) → c.at pid j ≡ attr_at runs j)
+    → IsPage (top_level mode) k → IsOver c change n pid k → StandsOn (attr_at runs) p k
+over_stands c change n pid k runs p fit above placed at h over =
+    let res = over_resident c change n pid k fit h over in
+    record { attr = res.0; mapped = sym (at k) ∙ res.1; on = over_backed c change n pid k fit h over p res.0 above placed res.1 }
+
+at_where : (r : Option ℕ) (runs : List Run) (page root : ℕ) → r ≡ Some root → attr_where r runs page ≡ attr_at runs page
+at_where r runs page root is = ap (λ x. attr_where x runs page) is
+
+pub map_of : {M : Type 0} {m : Levels.Ghosts M} → {D E : Type 0} (c : Core D E M m) (pid root : ℕ) (runs : List Run) → (picture_of c).root pid ≡ Some root → get_or c.regions.items pid [] ≡ runs
+    → (page : ℕ) → (picture_of c).at pid page ≡ attr_at runs page
+map_of c pid root runs live same page =
+    at_where (root_in c.roots.items pid) (get_or c.regions.items pid []) page root live ∙ ap (λ (rs : List Run). attr_at rs page) same
+
+pub cases_attr : (o : Option Attr) → (o ≡ None) ⊎ IsSome o
+cases_attr None = inl refl
+cases_attr (Some a) = inr refl
+
+-- One entry over the frame was changed.
+module _ {mode : ℕ} (old new : Picture mode) (change : Change) (n pid r page number : ℕ) (fit : IsFit old) (root : old.root pid ≡ Some r) (h : IsPage (top_level mode) page) (over : IsOver old change n pid page)
+    (filed : change ≡ Forget → role_of old.frames n ≡ Cache) (changed : IsChanged change (entry old pid page) number) (sets : SetsEntry old.frames new.frames (top_level mode) r page number)
+    (beside : SameBeside old new) where
+  one_page : SetsPage old new pid page number
+  one_page = sets_page old new 0 pid r page number fit.rooted root h sets beside
+
+  seat_here : seat number ≡ seat (entry old pid page)
+  seat_here = seat_changed change (entry old pid page) number over.concerned (λ forget. over_common old change n pid page fit h over (filed forget)) changed
+
+  seats : (q p : ℕ) → IsPage (top_level mode) p → seat (entry new q p) ≡ seat (entry old q p)
+  seats q p h' = elim (by_page q p pid page) [
+    | inl e ↦ (
+        let P : ℕ → Type 0 = λ x. seat (entry new x p) ≡ seat (entry old x p) in
+        let Q : ℕ → Type 0 = λ x. seat (entry new pid x) ≡ seat (entry old pid x) in
+        subst P (sym e.0) (subst Q (sym e.1) (ap seat one_page.changed ∙ seat_here)))
+    | inr other ↦ ap seat (one_page.others q p h' other)
+  ]
+
+  dirty_here : (ch : Change) → ch ≡ change → (p : PageKey) → IsChanged ch (entry old pid page) number → concerns ch (entry old pid page) ≡ true
+      → is_valid number ≡ true → is_private number ≡ false → is_dirty number ≡ true → old.place p ≡ Frame (record { 0 = frame_of number }) → old.touched p ≡ true
+  dirty_here Forget is p none con valid common dirty at = absurd (false≢true (sym valid_zero ∙ sym (ap is_valid none) ∙ valid))
+  dirty_here ClearAccessed is p ch con valid common dirty at =
+      fit.dirty.dirty pid page p h (leaf_accessed (entry old pid page) con).0 (sym ch.0.private ∙ common) (sym ch.1 ∙ dirty) (at ∙ ap (λ x. Frame (record { 0 = x })) ch.0.frame)
+  dirty_here ClearDirty is p ch con valid common dirty at = absurd (false≢true (sym ch.2 ∙ dirty))
+
+  pub fit_changed : IsFit new
+  fit_changed = record {
+    counted = (
+      fit.counted.0,
+      counted_same mode (entry old) (entry new) (IsOwned old) (IsOwned new) (count_in old) (count_in new) (page_in old fit.counted.0) (page_in new fit.counted.0)
+          seats nowhere 0 fit.counted.1 (owned_forth old new beside one_page.shares) (owned_back old new beside one_page.shares) (count_kept old new beside one_page.shares)
+          (λ z is. page_kept old new fit.counted.0 beside z),
+    );
+    rooted = rooted_set old new 0 r page number fit.rooted sets beside;
+    granting = granting_changed old new pid page fit.granting (behind_kept old new beside)
+        (λ q p h' private one. ap (λ cs. get_or cs (frame_of (entry old q p)) 0) sets.kept.counts ∙ one)
+        beside.at one_page.others
+        (let P : ℕ → Type 0 = λ e. IsEntryFor new (old.at pid page) e in
+        subst P (sym one_page.changed) (entry_for-same old new (old.at pid page) number (behind_kept old new beside)
+        (λ private write one. ap (λ cs. get_or cs (frame_of number) 0) sets.kept.counts ∙ one)
+        (for_changed old change (old.at pid page) (entry old pid page) number over.concerned changed (fit.granting.entries pid page h))));
+    places = places_same old new fit.places beside.place beside.at beside.files beside.slots one_page.shares.cache one_page.shares.was_cache;
+    dirty = dirty_changed old new pid page fit.dirty beside.place beside.touched one_page.others
+        (λ p valid common dirty at. dirty_here change refl p changed over.concerned (sym (ap is_valid one_page.changed) ∙ valid) (sym (ap is_private one_page.changed) ∙ common)
+        (sym (ap is_dirty one_page.changed) ∙ dirty) (at ∙ ap (λ x. Frame (record { 0 = frame_of x })) one_page.changed));
+  }
+
+  own_kept : (o o' : Option Seat) → o' ≡ o → ((z : Seat) → o ≡ Some z → bytes_in new.frames new.slots z ≡ bytes_in old.frames old.slots z)
+      → option_map (bytes_in new.frames new.slots) o' ≡ option_map (bytes_in old.frames old.slots) o
+  own_kept None o' e each = ap (λ x. option_map (bytes_in new.frames new.slots) x) e
+  own_kept (Some z) o' e each = ap (λ x. option_map (bytes_in new.frames new.slots) x) e ∙ ap (λ b. Some b) (each z refl)
+
+  seat_bytes : (z : Seat) → IsOwned old z → bytes_in new.frames new.slots z ≡ bytes_in old.frames old.slots z
+  seat_bytes (InFrame m) is = sets.kept.bytes m (λ t. (let bad : Private ≡ Table = sym is ∙ t in (cc)))
+  seat_bytes (InSlot j) is = ap (λ t. t.bytes j) beside.slots
+
+  pub changes_one : ChangesLeaves change n old new
+  changes_one = record {
+    beside = beside;
+    frames = sets.kept.frames;
+    bytes = sets.kept.bytes;
+    roles = λ m. ap (λ rs. get_or rs m Free) sets.kept.roles;
+    counts = λ m. ap (λ cs. get_or cs m 0) sets.kept.counts;
+    views = λ q p. elim (cases_attr (old.at q p)) [
+      | inl none ↦ view-none new q p (beside.at q p ∙ none) ∙ sym (view-none old q p none)
+      | inr some ↦ (
+          let h' : IsPage (top_level mode) p = (let u = ((fit.granting.user q).user_pages p some).1 in omega (arith, u, user_pages_fit mode)) in
+          view_kept old new q p (beside.at q p) (own_kept (seat (entry old q p)) (seat (entry new q p)) (seats q p h') (λ z is. seat_bytes z (fit.counted.1.named q p z h' is))))
+    ];
+    ends = λ q x p e. last_set mode old.frames new.frames r page number fit.rooted.forest sets x p (fit.rooted.roots q x e).table;
+    pointers = λ m i t. (sets.pointers m i t).0;
+    entries = λ q p h'. elim (by_page q p pid page) [
+      | inl e ↦ (
+          let P : ℕ → Type 0 = λ x. IsOver old change n x p × IsChanged change (entry old x p) (entry new x p) in
+          let Q : ℕ → Type 0 = λ x. IsOver old change n pid x × IsChanged change (entry old pid x) (entry new pid x) in
+          let R : ℕ → Type 0 = λ x. IsChanged change (entry old pid page) x in
+          inr (subst P (sym e.0) (subst Q (sym e.1) (over, subst R (sym one_page.changed) changed))))
+      | inr other ↦ inl (one_page.others q p h' other)
+    ];
+  }
+
+  pub clear_here : IsOver new change n pid page → ⊥
+  clear_here now = false≢true (sym (changed_once change (entry old pid page) number changed) ∙ sym (ap (concerns change) one_page.changed) ∙ now.concerned)
+
+-- entries changed, and others after them
+pub changes_none : {mode : ℕ} (change : Change) (n : ℕ) (c : Picture mode) → ChangesLeaves change n c c
+changes_none change n c = record {
+  beside = record { slots = refl; root = λ p. refl; at = λ p k. refl; page_of = λ m. refl; place = λ p. refl; touched = λ p. refl; files = λ f. refl };
+  frames = refl;
+  bytes = λ m used. refl;
+  roles = λ m. refl;
+  counts = λ m. refl;
+  views = λ q p. refl;
+  ends = λ q r p e. refl;
+  pointers = λ m i t points. points;
+  entries = λ q p h. inl refl;
+}
+
+-- what was clear is clear still
+pub still_clear : {mode : ℕ} (change : Change) (n pid k : ℕ) (old new : Picture mode) → ChangesLeaves change n old new → IsPage (top_level mode) k → (IsOver old change n pid k → ⊥) → IsOver new change n pid k → ⊥
+still_clear change n pid k old new changes h clear over = elim (changes.entries pid k h) [
+  | inl same ↦ clear (record { concerned = ap (concerns change) (sym same) ∙ over.concerned; frame = ap frame_of (sym same) ∙ over.frame })
+  | inr was ↦ clear was.0
+]
+
+pub changes_then : {mode : ℕ} (change : Change) (n : ℕ) (a b c : Picture mode) → ChangesLeaves change n a b → ChangesLeaves change n b c → ChangesLeaves change n a c
+changes_then change n a b c f g = record {
+  beside = record {
+    slots = g.beside.slots ∙ f.beside.slots;
+    root = λ p. g.beside.root p ∙ f.beside.root p;
+    at = λ p k. g.beside.at p k ∙ f.beside.at p k;
+    page_of = λ m. g.beside.page_of m ∙ f.beside.page_of m;
+    place = λ p. g.beside.place p ∙ f.beside.place p;
+    touched = λ p. g.beside.touched p ∙ f.beside.touched p;
+    files = λ x. g.beside.files x ∙ f.beside.files x;
+  };
+  frames = g.frames ∙ f.frames;
+  bytes = λ m used. g.bytes m (λ t. used (sym (f.roles m) ∙ t)) ∙ f.bytes m used;
+  roles = λ m. g.roles m ∙ f.roles m;
+  counts = λ m. g.counts m ∙ f.counts m;
+  views = λ q p. g.views q p ∙ f.views q p;
+  ends = λ q r p e. g.ends q r p (f.beside.root q ∙ e) ∙ f.ends q r p e;
+  pointers = λ m i t points. g.pointers m i t (f.pointers m i t points);
+  entries = λ q p h. elim (f.entries q p h) [
+    | inl same ↦ elim (g.entries q p h) [
+      | inl was ↦ inl (was ∙ same)
+      | inr ch ↦ (
+          let P : ℕ → Type 0 = λ x. IsChanged change x (entry c q p) in
+          inr (record { concerned = ap (concerns change) (sym same) ∙ ch.0.concerned; frame = ap frame_of (sym same) ∙ ch.0.frame }, subst P same ch.1))
+    ]
+    | inr ch ↦ elim (g.entries q p h) [
+      | inl was ↦ (let P : ℕ → Type 0 = λ x. IsChanged change (entry a q p) x in inr (ch.0, subst P (sym was) ch.1))
+      | inr again ↦ absurd (false≢true (sym (changed_once change (entry a q p) (entry b q p) ch.1) ∙ again.0.concerned))
+    ]
+  ];
+}
+
+pub holds_kept : {mode : ℕ} (change : Change) (n : ℕ) (old new : Picture mode) (held : Held) → ChangesLeaves change n old new → Holds old n held → Holds new n held
+holds_kept change n old new (Own page) changes is = (changes.roles n ∙ is.0, changes.beside.page_of n ∙ is.1)
+holds_kept change n old new (Filed p) changes is = changes.beside.place p ∙ is
+
+module _ {M : Type 0} {m : Levels.Ghosts M} {D E : Type 0} where
+  pub frames_none : (c : Core D E M m) → KeepsAllButFrames c c
+  frames_none c = record { store = refl; swap = refl; cache = refl; roots = refl; regions = refl; page_of = refl; clock = refl; refused = refl; keep = refl; looks = refl }
+
+  pub frames_then : (a b c : Core D E M m) → KeepsAllButFrames a b → KeepsAllButFrames b c → KeepsAllButFrames a c
+  frames_then a b c f g = record {
+    store = g.store ∙ f.store;
+    swap = g.swap ∙ f.swap;
+    cache = g.cache ∙ f.cache;
+    roots = g.roots ∙ f.roots;
+    regions = g.regions ∙ f.regions;
+    page_of = g.page_of ∙ f.page_of;
+    clock = g.clock ∙ f.clock;
+    keep = g.keep ∙ f.keep;
+    looks = g.looks ∙ f.looks;
+    refused = g.refused ∙ f.refused;
+  }
+
+-- A page with an entry over the frame of a page of a file or an object is one that names it.
+module _ {mode : ℕ} (c : Picture mode) (change : Change) (n pid r k : ℕ) (fit : IsFit c) (root : c.root pid ≡ Some r) (h : IsPage (top_level mode) k) where
+  pub over_names : role_of c.frames n ≡ Cache → IsOver c change n pid k → Names mode c.frames r k n
+  over_names cache over =
+      let f = some_framed change (entry c pid k) over.concerned in
+      let u = over_user c change n pid k fit h over in
+      record {
+        number = entry c pid k;
+        is = of_number mode c.frames r k (entry c pid k) fit.rooted.forest (fit.rooted.roots pid r root) u.1 (sym (entry-of c pid r k root)) f.0;
+        framed = f.1;
+        common = over_common c change n pid k fit h over cache;
+        frame = over.frame;
+      }
+
+-- and a page that names a frame is a process's, with an entry over it
+pub names_over : {mode : ℕ} (c : Picture mode) (n r k : ℕ) → IsFit c → role_of c.frames 0 ≡ Zero → Names mode c.frames r k n → (pid : ℕ) × IsOver c Forget n pid k
+names_over {mode = mode} c n r k fit zero_role names =
+    let l = names.is in
+    let table : IsTable c.frames r = begins_table c.frames (top_level mode) r k (top_level mode) l.lowest l.table l.way in
+    let over : (pid : ℕ) → c.root pid ≡ Some r → IsOver c Forget n pid k = λ pid root.
+    let e : entry c pid k ≡ names.number = entry-of c pid r k root ∙ is_number mode c.frames r k names.number l in
+    record { concerned = rw (e, ne_eqb names.number 0 l.some, names.framed) refl; frame = ap frame_of e ∙ names.frame } in
+    elim (fit.rooted.used r table) [
+      | inl none ↦ (
+          let role : role_of c.frames 0 ≡ Table = ap (role_of c.frames) (sym none) ∙ table.role in
+          let bad : Zero ≡ Table = sym zero_role ∙ role in (cc))
+      | inr used ↦ elim used [
+        | AsRoot pid root ↦ (pid, over pid root)
+        | OnWay pid x page root mapped below ↦ absurd (l.unlinked below.2.0 _ below.2.2)
+      ]
+    ]
+
+pub kinds_kept : {mode : ℕ} (change : Change) (n kinds : ℕ) (old new : Picture mode) → ChangesLeaves change n old new → AreKinds old change n kinds → AreKinds new change n kinds
+kinds_kept change n kinds old new changes are = λ pid r page root h over. elim (changes.entries pid page h) [
+  | inl same ↦ are pid r page (sym (changes.beside.root pid) ∙ root) h (record { concerned = ap (concerns change) (sym same) ∙ over.concerned; frame = ap frame_of (sym same) ∙ over.frame })
+  | inr was ↦ are pid r page (sym (changes.beside.root pid) ∙ root) h was.0
+]

@@ -1,0 +1,151 @@
+-- A table taken and linked.
+use Rattle.vm_types.specs.Limits.{top_level}
+use Rattle.std.proofs.Common.{◌≡◌, ◌≢◌, ◌-◌, ◌≤◌, ℕ, suc, inl, inr, Some, Option, get_or, refl, sym, ap, ◌∙◌, subst, arith}
+use Rattle.std.specs.Prelude.{IsSome}
+use Rattle.std.proofs.lemmas.Bool.{cases_eq}
+use Rattle.vm_types.specs.declared.region.Attr.{Attr}
+use Rattle.frames.specs.declared.role.Role.TheVariants.{Free, Table, Private, Cache}
+use Rattle.frames.specs.FrameTable.{FrameTable, role_of}
+use Rattle.sv39_walk.specs.Entry.{frame_of}
+use Rattle.page_tables.specs.Change.{AddsTable, LinksTable}
+use Rattle.page_tables.specs.Tree.{IsPage, IsTable, Points, Way, IsBelowRoot, last_table}
+use Rattle.page_tables.proofs.Ways.{EndsAt, ends}
+use Rattle.residency.specs.Seats.{Seat, InFrame, seat}
+use Rattle.residency.specs.Picture.{Picture, entry, IsOwned, count_in, page_in}
+use Rattle.residency.specs.Parts.{IsRootedBut, OnWay, IsMapped, IsFitBut, IsFit, nowhere}
+use Rattle.residency.specs.Steps.{SameBeside, KeepsShares}
+use Rattle.residency.proofs.Entries.{entries_kept, entries_but}
+use Rattle.residency.proofs.Rooted.{used_kept}
+use Rattle.residency.proofs.Seats.{counted_same}
+use Rattle.residency.proofs.Granting.{granting_same}
+use Rattle.residency.proofs.Places.{places_same, dirty_same}
+use Rattle.residency.proofs.Moves.{behind_kept, owned_forth, owned_back, count_kept, page_kept}
+use Rattle.residency.proofs.TableSteps.{shares_kept}
+use Rattle.page_tables.proofs.Tight.{same_taken}
+
+-- a table taken
+pub shares_taken : (old new : FrameTable) (top n : ℕ) → AddsTable old new top n → KeepsShares old new
+shares_taken old new top n adds =
+    let same = adds.takes.others in
+    let was = adds.takes.was_free in
+    let now = adds.takes.kind_set in
+    record {
+      private = λ m e. elim (cases_eq m n) [
+        | inl h ↦ (let bad : Private ≡ Free = sym e ∙ ap (role_of old) h ∙ was in (cc))
+        | inr ne ↦ same.roles m ne ∙ e
+      ];
+      was_private = λ m e. elim (cases_eq m n) [
+        | inl h ↦ (let bad : Private ≡ Table = sym e ∙ ap (role_of new) h ∙ now in (cc))
+        | inr ne ↦ sym (same.roles m ne) ∙ e
+      ];
+      cache = λ m e. elim (cases_eq m n) [
+        | inl h ↦ (let bad : Cache ≡ Free = sym e ∙ ap (role_of old) h ∙ was in (cc))
+        | inr ne ↦ same.roles m ne ∙ e
+      ];
+      was_cache = λ m e. elim (cases_eq m n) [
+        | inl h ↦ (let bad : Cache ≡ Table = sym e ∙ ap (role_of new) h ∙ now in (cc))
+        | inr ne ↦ sym (same.roles m ne) ∙ e
+      ];
+      counts = λ m e. elim (cases_eq m n) [
+        | inl h ↦ (let bad : Private ≡ Free = sym e ∙ ap (role_of old) h ∙ was in (cc))
+        | inr ne ↦ same.counts m ne
+      ];
+    }
+
+-- no page's entry changed
+module _ {mode : ℕ} where
+  pub fit_same : (old new : Picture mode) (x : Seat) (d m m' : ℕ) → IsFitBut old x d m → SameBeside old new → KeepsShares old.frames new.frames
+      → ((pid page : ℕ) → IsPage (top_level mode) page → entry new pid page ≡ entry old pid page) → IsRootedBut new m' → IsFitBut new x d m'
+  fit_same old new x d m m' fit beside shares same rooted = record {
+    counted = (
+      fit.counted.0,
+      counted_same mode (entry old) (entry new) (IsOwned old) (IsOwned new) (count_in old) (count_in new) (page_in old fit.counted.0) (page_in new fit.counted.0)
+          (λ q p h. ap seat (same q p h)) x d fit.counted.1 (owned_forth old new beside shares) (owned_back old new beside shares) (count_kept old new beside shares) (λ z is. page_kept old new fit.counted.0 beside z),
+    );
+    rooted = rooted;
+    granting = granting_same old new fit.granting (behind_kept old new beside)
+        (λ pid page h private one. shares.counts (frame_of (entry old pid page)) (fit.counted.1.named pid page (InFrame (frame_of (entry old pid page))) h (rw private refl)) ∙ one) beside.at same;
+    places = places_same old new fit.places beside.place beside.at beside.files beside.slots shares.cache shares.was_cache;
+    dirty = dirty_same old new fit.dirty beside.place beside.touched same;
+  }
+
+pub loose_table : {mode : ℕ} (old new : Picture mode) (n : ℕ) → IsRootedBut old 0 → AddsTable old.frames new.frames (top_level mode) n → ((pid : ℕ) → new.root pid ≡ old.root pid)
+    → (pid : ℕ) → new.root pid ≢ Some n
+loose_table old new n rooted adds root pid e = adds.apart n (rooted.roots pid n (sym (root pid) ∙ e)).table refl
+
+maps : {mode : ℕ} (old new : Picture mode) → SameBeside old new → (pid page : ℕ) → IsMapped old pid page → IsMapped new pid page
+maps old new beside pid page some = let P : Option Attr → Type 0 = λ x. IsSome x in subst P (sym (beside.at pid page)) some
+
+-- a table taken, in no tree yet
+pub rooted_taken : {mode : ℕ} (old new : Picture mode) (n : ℕ) → IsRootedBut old 0 → role_of old.frames 0 ≢ Table → AddsTable old.frames new.frames (top_level mode) n → SameBeside old new → IsRootedBut new n
+rooted_taken old new n rooted zero_page adds beside =
+    let was : (pid r : ℕ) → new.root pid ≡ Some r → old.root pid ≡ Some r = λ pid r e. sym (beside.root pid) ∙ e in
+    record {
+      forest = adds.forest;
+      roots = λ pid r e. adds.roots r (rooted.roots pid r (was pid r e));
+      apart = λ p q r e f. rooted.apart p q r (was p r e) (was q r f);
+      numbers = λ pid r e. rooted.numbers pid r (was pid r e);
+      used = λ m table. elim (cases_eq m n) [
+        | inl e ↦ inl e
+        | inr ne ↦ (
+            let there : IsTable old.frames m = record { inside = rw (← adds.takes.others.frames) table.inside; role = sym (adds.takes.others.roles m ne) ∙ table.role } in
+            elim (rooted.used m there) [
+              | inl z ↦ absurd (zero_page (ap (role_of old.frames) (sym z) ∙ there.role))
+              | inr o ↦ inr (used_kept old new (IsMapped old) (IsMapped new) m (same_taken old.frames new.frames n rooted.forest adds.takes).forth beside.root (maps old new beside) o)
+            ])
+      ];
+    }
+
+module _ (mode : ℕ) where
+  at_level : (t : FrameTable) (root page m level : ℕ) → level ≤ top_level mode → Way t (top_level mode) root page (top_level mode - level) m → m ≢ root → IsBelowRoot t (top_level mode) root page m
+  at_level t root page m level le w ne =
+      let W : ℕ → Type 0 = λ d. Way t (top_level mode) root page d m in
+      elim (cases_eq level (top_level mode)) [
+        | inl all ↦ absurd (ne (let none : top_level mode - level ≡ 0 = omega (arith, all) in subst W none w))
+        | inr less ↦ (
+            let more : top_level mode - level ≡ suc (top_level mode - suc level) = omega (arith, le, less) in
+            (top_level mode - suc level, omega (arith, le, less), subst W more w))
+      ]
+
+-- where a way ends that isn't its root
+module _ (mode : ℕ) where
+  last_below : (t : FrameTable) (root page m : ℕ) → EndsAt t (top_level mode) root page (last_table t page (top_level mode) root).0 (last_table t page (top_level mode) root).1 → (last_table t page (top_level mode) root).1 ≡ m → m ≢ root → IsBelowRoot t (top_level mode) root page m
+  last_below t root page m end is ne = at_level mode t root page m (last_table t page (top_level mode) root).0 end.least (let P : ℕ → Type 0 = λ x. Way t (top_level mode) root page (top_level mode - (last_table t page (top_level mode) root).0) x in subst P is end.way) ne
+
+-- it was linked, on the way to a mapped page
+module _ {mode : ℕ} where
+  pub rooted_linked : (old new : Picture mode) (pid root page table : ℕ) → IsRootedBut old table → ((q : ℕ) → old.root q ≢ Some table) → ((a i : ℕ) → Points old.frames a i table → ⊥) → old.root pid ≡ Some root → IsMapped old pid page
+      → LinksTable old.frames new.frames (top_level mode) root page table → SameBeside old new → IsRootedBut new 0
+  rooted_linked old new pid root page table rooted loose unlinked lives mapped links beside =
+      let was : (q r : ℕ) → new.root q ≡ Some r → old.root q ≡ Some r = λ q r e. sym (beside.root q) ∙ e in
+      let ne : (r q : ℕ) → old.root q ≡ Some r → r ≢ table = λ r q e is. loose q (e ∙ ap (λ x. Some x) is) in
+      let stays = links.roots root (ne root pid lives) (rooted.roots pid root lives) in
+      let end = ends new.frames (top_level mode) root page links.forest stays.table in
+      record {
+        forest = links.forest;
+        roots = λ q r e. links.roots r (ne r q (was q r e)) (rooted.roots q r (was q r e));
+        apart = λ p q r e f. rooted.apart p q r (was p r e) (was q r f);
+        numbers = λ q r e. rooted.numbers q r (was q r e);
+        used = λ m is_table. elim (cases_eq m table) [
+          | inl e ↦ inr (OnWay pid root page (beside.root pid ∙ lives) (maps old new beside pid page mapped) (last_below mode new.frames root page m end (links.ends ∙ sym e) (λ is. ne root pid lives (sym is ∙ e))))
+          | inr ne' ↦ (
+              let there : IsTable old.frames m = record { inside = rw (← links.kept.frames) is_table.inside; role = ap (λ rs. get_or rs m Free) (sym links.kept.roles) ∙ is_table.role } in
+              elim (rooted.used m there) [
+                | inl z ↦ absurd (ne' z)
+                | inr o ↦ inr (used_kept old new (IsMapped old) (IsMapped new) m (λ a i b p. (links.pointers a i b (λ e. unlinked a i (let P : ℕ → Type 0 = λ x. Points old.frames a i x in subst P e p))).0 p) beside.root (maps old new beside) o)
+              ])
+        ];
+      }
+
+-- a table was taken, and linked on the way to a mapped page
+module _ {mode : ℕ} where
+  pub fit_linked : (old mid new : Picture mode) (pid root page table : ℕ) → IsFit old → role_of old.frames 0 ≢ Table → old.root pid ≡ Some root → IsMapped old pid page
+      → AddsTable old.frames mid.frames (top_level mode) table → SameBeside old mid → LinksTable mid.frames new.frames (top_level mode) root page table → SameBeside mid new → IsFit new
+  fit_linked old mid new pid root page table fit zero_page lives mapped adds beside links beside' =
+      let loose : (q : ℕ) → mid.root q ≢ Some table = loose_table old mid table fit.rooted adds beside.root in
+      let rooted = rooted_taken old mid table fit.rooted zero_page adds beside in
+      let taken = fit_same old mid nowhere 0 0 table fit beside (shares_taken old.frames mid.frames (top_level mode) table adds)
+      (λ q p h. entries_kept old mid 0 fit.rooted adds.entries beside.root q p) rooted in
+      fit_same mid new nowhere 0 table 0 taken beside' (shares_kept mid.frames new.frames links.kept)
+      (λ q p h. entries_but mid new table rooted loose (λ r p' ne is_root. links.entries r p' ne is_root) beside'.root q p)
+      (rooted_linked mid new pid root page table rooted loose (λ a i. adds.spare.unlinked a i) (beside.root pid ∙ lives) (maps old mid beside pid page mapped) links beside')

@@ -1,0 +1,105 @@
+-- An own copy goes from one seat to another: the steps for one process.
+use Rattle.vm_types.specs.Limits.{top_level}
+use Rattle.std.proofs.Common.{◌≡◌, ◌≢◌, ℕ, inl, inr, ◌<◌, true, false, Option, Some, None, refl, sym, ap, ◌∙◌, subst}
+use Rattle.std.specs.Prelude.{option_map}
+use Rattle.vm_types.specs.declared.region.Attr.{Attr}
+use Rattle.frames.specs.declared.role.Role.TheVariants.{Table, Private}
+use Rattle.frames.specs.FrameTable.{bytes_of, role_of}
+use Rattle.swap.specs.Slots.{SlotTable}
+use Rattle.sv39_walk.specs.Entry.{is_valid, frame_of}
+use Rattle.page_tables.specs.Tree.{IsPage}
+use Rattle.residency.specs.Seats.{Seat, InFrame, InSlot, seat, is_private}
+use Rattle.residency.specs.Picture.{Picture, entry, view, view_of, own_in, bytes_in, IsOwned, count_in, page_in}
+use Rattle.residency.specs.Parts.{IsRootedBut, IsEntryFor, IsFitBut}
+use Rattle.residency.specs.Steps.{SameBeside, KeepsShares, SetsPage}
+use Rattle.residency.proofs.Seats.{counted_moved}
+use Rattle.residency.proofs.Granting.{KeepsBehind, granting_changed}
+use Rattle.residency.proofs.Places.{places_same, dirty_changed}
+use Rattle.residency.proofs.Ways.{by_page}
+
+pub behind_kept : {mode : ℕ} (old new : Picture mode) → SameBeside old new → KeepsBehind old new
+behind_kept old new beside = record { place = λ p n e. beside.place p ∙ e; files = beside.files }
+
+pub owned_forth : {mode : ℕ} (old new : Picture mode) → SameBeside old new → KeepsShares old.frames new.frames → (z : Seat) → IsOwned old z → IsOwned new z
+owned_forth old new beside shares (InFrame n) is = shares.private n is
+owned_forth old new beside shares (InSlot k) is =
+    ((let P : SlotTable → Type 0 = λ t. 0 < t.count k in subst P (sym beside.slots) is.0), λ p e. is.1 p (sym (beside.place p) ∙ e))
+
+pub owned_back : {mode : ℕ} (old new : Picture mode) → SameBeside old new → KeepsShares old.frames new.frames → (z : Seat) → IsOwned new z → IsOwned old z
+owned_back old new beside shares (InFrame n) is = shares.was_private n is
+owned_back old new beside shares (InSlot k) is =
+    ((let P : SlotTable → Type 0 = λ t. 0 < t.count k in subst P beside.slots is.0), λ p e. is.1 p (beside.place p ∙ e))
+
+pub count_kept : {mode : ℕ} (old new : Picture mode) → SameBeside old new → KeepsShares old.frames new.frames → (z : Seat) → IsOwned old z → count_in new z ≡ count_in old z
+count_kept old new beside shares (InFrame n) is = shares.counts n is
+count_kept old new beside shares (InSlot k) is = ap (λ t. t.count k) beside.slots
+
+pub page_kept : {mode : ℕ} (old new : Picture mode) (sp : ℕ → ℕ) → SameBeside old new → (z : Seat) → page_in new sp z ≡ page_in old sp z
+page_kept old new sp beside (InFrame n) = beside.page_of n
+page_kept old new sp beside (InSlot k) = refl
+
+none_where : (o : Option Attr) → ((a : Attr) → o ≡ Some a → ⊥) → o ≡ None
+none_where None h = refl
+none_where (Some a) h = absurd (h a refl)
+
+pub view-none : {mode : ℕ} (c : Picture mode) (pid page : ℕ) → c.at pid page ≡ None → view c pid page ≡ None
+unfolding view
+view-none c pid page none = ap (λ a. view_of (own_in c.frames c.slots (entry c pid page)) a) none
+
+-- a page is seen as before where its own copy is the same
+pub view_kept : {mode : ℕ} (old new : Picture mode) (pid page : ℕ) → new.at pid page ≡ old.at pid page
+    → own_in new.frames new.slots (entry new pid page) ≡ own_in old.frames old.slots (entry old pid page) → view new pid page ≡ view old pid page
+unfolding view
+view_kept old new pid page at own = ap (λ o. view_of o (new.at pid page)) own ∙ ap (λ a. view_of (own_in old.frames old.slots (entry old pid page)) a) at
+
+own_at : {mode : ℕ} (c : Picture mode) (e : ℕ) (x : Seat) → seat e ≡ Some x → own_in c.frames c.slots e ≡ Some (bytes_in c.frames c.slots x)
+own_at c e x is = ap (λ o. option_map (bytes_in c.frames c.slots) o) is
+
+bytes_same : {mode : ℕ} (old new : Picture mode) → new.slots ≡ old.slots → ((n : ℕ) → role_of old.frames n ≡ Private → bytes_of new.frames n ≡ bytes_of old.frames n)
+    → (z : Seat) → IsOwned old z → bytes_in new.frames new.slots z ≡ bytes_in old.frames old.slots z
+bytes_same old new slots frames (InFrame n) is = frames n is
+bytes_same old new slots frames (InSlot k) is = ap (λ t. t.bytes k) slots
+
+own_same : {mode : ℕ} (old new : Picture mode) (o : Option Seat) → ((z : Seat) → o ≡ Some z → bytes_in new.frames new.slots z ≡ bytes_in old.frames old.slots z)
+    → option_map (bytes_in new.frames new.slots) o ≡ option_map (bytes_in old.frames old.slots) o
+own_same old new None each = refl
+own_same old new (Some z) each = ap (λ b. Some b) (each z refl)
+
+-- The entry of a page names seat y now, in place of x: y has one holder less than shares before, and x after.
+module _ {mode : ℕ} (old new : Picture mode) (x y : Seat) (m pid page number : ℕ) (fit : IsFitBut old y 1 m) (sets : SetsPage old new pid page number) (h : IsPage (top_level mode) page) (below : pid < 65)
+    (from : seat (entry old pid page) ≡ Some x) (to : seat number ≡ Some y) (apart : x ≢ y) (has : IsOwned old y) (noted : page_in old fit.counted.0 y ≡ page)
+    (for : IsEntryFor new (old.at pid page) number) (parked : is_valid number ≡ true → is_private number ≡ false → ⊥) (rooted : IsRootedBut new m) where
+  now : seat (entry new pid page) ≡ Some y
+  now = ap seat sets.changed ∙ to
+
+  pub fit_moved : IsFitBut new x 1 m
+  fit_moved = record {
+    counted = (
+      fit.counted.0,
+      counted_moved mode (entry old) (entry new) (IsOwned old) (IsOwned new) (count_in old) (count_in new) (page_in old fit.counted.0) (page_in new fit.counted.0)
+          x y pid page fit.counted.1 (owned_forth old new sets.beside sets.shares) (owned_back old new sets.beside sets.shares) (count_kept old new sets.beside sets.shares)
+          (λ z is. page_kept old new fit.counted.0 sets.beside z) has noted h below from now apart sets.others,
+    );
+    rooted = rooted;
+    granting = granting_changed old new pid page fit.granting (behind_kept old new sets.beside)
+        (λ q p h' private one. sets.shares.counts (frame_of (entry old q p)) (fit.counted.1.named q p (InFrame (frame_of (entry old q p))) h' (rw private refl)) ∙ one)
+        sets.beside.at sets.others (let P : ℕ → Type 0 = λ e. IsEntryFor new (old.at pid page) e in subst P (sym sets.changed) for);
+    places = places_same old new fit.places sets.beside.place sets.beside.at sets.beside.files sets.beside.slots sets.shares.cache sets.shares.was_cache;
+    dirty = dirty_changed old new pid page fit.dirty sets.beside.place sets.beside.touched sets.others
+        (λ p valid common bit here. absurd (parked (sym (ap is_valid sets.changed) ∙ valid) (sym (ap is_private sets.changed) ∙ common)));
+  }
+
+  -- nobody sees it, where both seats have the same bytes
+  pub views_moved : bytes_in old.frames old.slots y ≡ bytes_in old.frames old.slots x → (q p : ℕ) → IsPage (top_level mode) p → view new q p ≡ view old q p
+  views_moved same q p h' =
+      let stays : (z : Seat) → IsOwned old z → bytes_in new.frames new.slots z ≡ bytes_in old.frames old.slots z =
+      bytes_same old new sets.beside.slots (λ n is. sets.bytes n (λ t. (let bad : Private ≡ Table = sym is ∙ t in (cc)))) in
+      view_kept old new q p (sets.beside.at q p) (elim (by_page q p pid page) [
+        | inl e ↦ (
+            let P : ℕ → Type 0 = λ a. own_in new.frames new.slots (entry new a p) ≡ own_in old.frames old.slots (entry old a p) in
+            let Q : ℕ → Type 0 = λ a. own_in new.frames new.slots (entry new pid a) ≡ own_in old.frames old.slots (entry old pid a) in
+            subst P (sym e.0) (subst Q (sym e.1) (own_at new (entry new pid page) y now ∙ ap (λ b. Some b) (stays y has ∙ same) ∙ sym (own_at old (entry old pid page) x from))))
+        | inr away ↦ (
+            ap (λ e. own_in new.frames new.slots e) (sets.others q p h' away)
+            ∙ own_same old new (seat (entry old q p)) (λ z is. stays z (fit.counted.1.named q p z h' is)))
+      ])

@@ -1,0 +1,187 @@
+-- Places and dirty bits: what each step does to where file pages are, and to which are touched.
+use Rattle.vm_types.specs.Limits.{top_level, widest_end}
+use Rattle.std.specs.Prelude.{◌⊎◌}
+use Rattle.std.proofs.lemmas.Bool.{cases_eq, false≢true}
+use Rattle.std.proofs.Common.{◌≡◌, ◌≢◌, ◌<◌, ℕ, inl, inr, true, false, Option, None, sym, ap, ◌∙◌, subst}
+use Rattle.vm_types.specs.declared.file.FilePage.{FilePage}
+use Rattle.vm_types.specs.declared.object.ObjectPage.{ObjectPage}
+use Rattle.vm_types.specs.declared.object.PageKey.{PageKey}
+use Rattle.vm_types.specs.declared.object.PageKey.TheVariants.{File, Object}
+use Rattle.vm_types.specs.declared.region.Attr.{Attr}
+use Rattle.vm_types.specs.Counting.{any_below}
+use Rattle.vm_types.specs.Objects.{Maps, names, uses, is_named}
+use Rattle.frames.specs.declared.role.Role.TheVariants.{Cache}
+use Rattle.frames.specs.FrameTable.{role_of}
+use Rattle.sv39_walk.specs.Entry.{is_valid, is_dirty, frame_of}
+use Rattle.page_tables.specs.Tree.{IsPage}
+use Rattle.page_cache.specs.declared.place.Place.{Place}
+use Rattle.page_cache.specs.declared.place.Place.TheVariants.{Home, Frame, Slot}
+use Rattle.residency.specs.Picture.{Picture, entry, is_private}
+use Rattle.residency.specs.Parts.{AreObjects, IsPageFor, HasPlaces, IsDirtySound}
+use Rattle.swap.specs.Slots.{SlotTable}
+use Rattle.residency.proofs.Counts.{any-same, any-more, any-found}
+use Rattle.residency.proofs.Ways.{by_page}
+
+abbrev record_of : ℕ → ℕ → FilePage
+record_of file page = record { file = file; page = page }
+
+abbrev object_of : ℕ → ℕ → ObjectPage
+object_of object page = record { object = object; page = page }
+
+-- the file or object, and the page of it
+number_of : PageKey → ℕ
+number_of (File p) = p.file
+number_of (Object p) = p.object
+
+page_of : PageKey → ℕ
+page_of (File p) = p.page
+page_of (Object p) = p.page
+
+pub cases_page : (p q : PageKey) → (p ≡ q) ⊎ (p ≢ q)
+unfolding number_of page_of
+cases_page (File p) (Object q) = inr (λ same. (cc))
+cases_page (Object p) (File q) = inr (λ same. (cc))
+cases_page (File p) (File q) = elim (cases_eq p.file q.file) [
+  | inl e ↦ elim (cases_eq p.page q.page) [
+    | inl f ↦ inl (let a : File (record_of p.file p.page) ≡ File (record_of q.file q.page) = ap (λ x. File (record_of x p.page)) e ∙ ap (λ x. File (record_of q.file x)) f in a)
+    | inr ne ↦ inr (λ same. ne (ap page_of same))
+  ]
+  | inr ne ↦ inr (λ same. ne (ap number_of same))
+]
+cases_page (Object p) (Object q) = elim (cases_eq p.object q.object) [
+  | inl e ↦ elim (cases_eq p.page q.page) [
+    | inl f ↦ inl (let a : Object (object_of p.object p.page) ≡ Object (object_of q.object q.page) = ap (λ x. Object (object_of x p.page)) e ∙ ap (λ x. Object (object_of q.object x)) f in a)
+    | inr ne ↦ inr (λ same. ne (ap page_of same))
+  ]
+  | inr ne ↦ inr (λ same. ne (ap number_of same))
+]
+
+number_in : Place → ℕ
+number_in Home = 0
+number_in (Frame n) = n.0
+number_in (Slot n) = 0
+
+pub one_frame : (n m : ℕ) → Frame (record { 0 = n }) ≡ Frame (record { 0 = m }) → m ≡ n
+unfolding number_in
+one_frame n m e = sym (ap number_in e)
+
+names-same : (a b : Option Attr) (object page : ℕ) → a ≡ b → names a object page ≡ names b object page
+names-same a b object page e = ap (λ x. names x object page) e
+
+-- what processes name hangs on what their pages are
+pub named-same : (f g : Maps) (object page : ℕ) → ((p k : ℕ) → g p k ≡ f p k) → is_named g object page ≡ is_named f object page
+unfolding is_named
+named-same f g object page same =
+    any-same (λ p. any_below (λ k. names (g p k) object page) widest_end) (λ p. any_below (λ k. names (f p k) object page) widest_end) 65
+    (λ p. any-same (λ k. names (g p k) object page) (λ k. names (f p k) object page) widest_end (λ k. names-same (g p k) (f p k) object page (same p k)))
+
+pub objects-same : (f g : Maps) → ((p k : ℕ) → g p k ≡ f p k) → AreObjects f → AreObjects g
+objects-same f g same objects = record {
+  one_page = λ p q j k object page here there. objects.one_page p q j k object page
+      (sym (names-same (g p j) (f p j) object page (same p j)) ∙ here) (sym (names-same (g q k) (f q k) object page (same q k)) ∙ there);
+  below = λ p k object here. objects.below p k object (sym (ap (λ x. uses x object) (same p k)) ∙ here);
+}
+
+pub page_for-same : {mode : ℕ} (old new : Picture mode) (p : PageKey) → ((q k : ℕ) → new.at q k ≡ old.at q k) → ((f : ℕ) → new.files f ≡ old.files f) → IsPageFor old p → IsPageFor new p
+page_for-same old new (File p) at files is = (is.0, files p.file ∙ is.1, is.2)
+page_for-same old new (Object p) at files is = named-same old.at new.at p.object p.page at ∙ is
+
+page_for-renamed : {mode : ℕ} (old new : Picture mode) (p : PageKey) → ((f : ℕ) → new.files f ≡ old.files f) → ((q : ObjectPage) → old.place (Object q) ≢ Home → is_named new.at q.object q.page ≡ true)
+    → old.place p ≢ Home → IsPageFor old p → IsPageFor new p
+page_for-renamed old new (File p) files named away is = (is.0, files p.file ∙ is.1, is.2)
+page_for-renamed old new (Object p) files named away is = named p away
+
+-- a process and its page that name a page of an object
+pub named_by : (f : Maps) (object page : ℕ) → is_named f object page ≡ true → (p : ℕ) × (k : ℕ) × (names (f p k) object page ≡ true)
+unfolding is_named
+named_by f object page is =
+    let who = any-found (λ p. any_below (λ k. names (f p k) object page) widest_end) 65 is in
+    let at = any-found (λ k. names (f who.0 k) object page) widest_end who.1 in
+    (who.0, at.0, at.1)
+
+-- where fewer pages are mapped
+pub objects-fewer : (f g : Maps) → ((p k : ℕ) → (g p k ≡ f p k) ⊎ (g p k ≡ None)) → AreObjects f → AreObjects g
+objects-fewer f g fewer objects = record {
+  one_page = λ p q j k object page here there. objects.one_page p q j k object page (was p j object page here) (was q k object page there);
+  below = λ p k object here. elim (fewer p k) [
+    | inl same ↦ objects.below p k object (sym (ap (λ x. uses x object) same) ∙ here)
+    | inr none ↦ absurd (false≢true (sym (ap (λ x. uses x object) none) ∙ here))
+  ];
+} where
+  was : (p k object page : ℕ) → names (g p k) object page ≡ true → names (f p k) object page ≡ true
+  was p k object page here = elim (fewer p k) [
+    | inl same ↦ sym (names-same (g p k) (f p k) object page same) ∙ here
+    | inr none ↦ absurd (false≢true (sym (ap (λ x. names x object page) none) ∙ here))
+  ]
+
+-- where more pages are mapped
+pub named-more : (f g : Maps) (object page : ℕ) → ((p k : ℕ) → (g p k ≡ f p k) ⊎ (f p k ≡ None)) → is_named f object page ≡ true → is_named g object page ≡ true
+unfolding is_named
+named-more f g object page more here =
+    any-more (λ p. any_below (λ k. names (f p k) object page) widest_end) (λ p. any_below (λ k. names (g p k) object page) widest_end) 65
+    (λ p. any-more (λ k. names (f p k) object page) (λ k. names (g p k) object page) widest_end (λ k is. elim (more p k) [
+      | inl same ↦ names-same (g p k) (f p k) object page same ∙ is
+      | inr none ↦ absurd (false≢true (sym (ap (λ x. names x object page) none) ∙ is))
+    ])) here
+
+-- all places and slots are as they were, and the same frames hold file pages
+pub places_same : {mode : ℕ} (old new : Picture mode) → HasPlaces old → ((p : PageKey) → new.place p ≡ old.place p) → ((q k : ℕ) → new.at q k ≡ old.at q k) → ((f : ℕ) → new.files f ≡ old.files f) → new.slots ≡ old.slots
+    → ((n : ℕ) → role_of old.frames n ≡ Cache → role_of new.frames n ≡ Cache) → ((n : ℕ) → role_of new.frames n ≡ Cache → role_of old.frames n ≡ Cache) → HasPlaces new
+places_same old new places same at files slots forth back = record {
+  cached = λ p n e. forth n (places.cached p n (sym (same p) ∙ e));
+  held = λ n cache. (let h = places.held n (back n cache) in (h.0, same h.0 ∙ h.1));
+  apart = λ p q e away. places.apart p q (sym (same p) ∙ e ∙ same q) (λ home. away (same p ∙ home));
+  slotted = λ p k e. ap (λ t. t.count k) slots ∙ places.slotted p k (sym (same p) ∙ e);
+  used = λ k some. elim (places.used k (let P : SlotTable → Type 0 = λ t. 0 < t.count k in subst P slots some)) [
+    | inl own ↦ inl (some, λ p e. own.1 p (sym (same p) ∙ e))
+    | inr file ↦ inr (file.0, same file.0 ∙ file.1)
+  ];
+  inside = λ p away. page_for-same old new p at files (places.inside p (λ home. away (same p ∙ home)));
+}
+
+-- all places and slots are as they were, the same frames hold file pages, and what processes are said to name hangs on the new pages
+pub places_renamed : {mode : ℕ} (old new : Picture mode) → HasPlaces old → ((p : PageKey) → new.place p ≡ old.place p) → ((f : ℕ) → new.files f ≡ old.files f) → ((p : ObjectPage) → old.place (Object p) ≢ Home → is_named new.at p.object p.page ≡ true) → new.slots ≡ old.slots
+    → ((n : ℕ) → role_of old.frames n ≡ Cache → role_of new.frames n ≡ Cache) → ((n : ℕ) → role_of new.frames n ≡ Cache → role_of old.frames n ≡ Cache) → HasPlaces new
+places_renamed old new places same files named slots forth back = record {
+  cached = λ p n e. forth n (places.cached p n (sym (same p) ∙ e));
+  held = λ n cache. (let h = places.held n (back n cache) in (h.0, same h.0 ∙ h.1));
+  apart = λ p q e away. places.apart p q (sym (same p) ∙ e ∙ same q) (λ home. away (same p ∙ home));
+  slotted = λ p k e. ap (λ t. t.count k) slots ∙ places.slotted p k (sym (same p) ∙ e);
+  used = λ k some. elim (places.used k (let P : SlotTable → Type 0 = λ t. 0 < t.count k in subst P slots some)) [
+    | inl own ↦ inl (some, λ p e. own.1 p (sym (same p) ∙ e))
+    | inr file ↦ inr (file.0, same file.0 ∙ file.1)
+  ];
+  inside = λ p away. page_for-renamed old new p files named (λ home. away (same p ∙ home)) (places.inside p (λ home. away (same p ∙ home)));
+}
+
+-- all entries, places and touched pages are as they were
+pub dirty_same : {mode : ℕ} (old new : Picture mode) → IsDirtySound old → ((p : PageKey) → new.place p ≡ old.place p) → ((p : PageKey) → new.touched p ≡ old.touched p)
+    → ((pid page : ℕ) → IsPage (top_level mode) page → entry new pid page ≡ entry old pid page) → IsDirtySound new
+dirty_same old new sound place touched same = record {
+  dirty = λ pid page p h valid common dirty here. (
+      let e = same pid page h in
+      touched p ∙ sound.dirty pid page p h (sym (ap is_valid e) ∙ valid) (sym (ap is_private e) ∙ common) (sym (ap is_dirty e) ∙ dirty)
+      (sym (place p) ∙ here ∙ ap (λ x. Frame (record { 0 = frame_of x })) e));
+  held = λ p now home. sound.held p (sym (touched p) ∙ now) (sym (place p) ∙ home);
+  slotted = λ p k e. touched p ∙ sound.slotted p k (sym (place p) ∙ e);
+}
+
+-- the entry of one page changed
+pub dirty_changed : {mode : ℕ} (old new : Picture mode) (pid page : ℕ) → IsDirtySound old → ((p : PageKey) → new.place p ≡ old.place p) → ((p : PageKey) → new.touched p ≡ old.touched p)
+    → ((q p : ℕ) → IsPage (top_level mode) p → (q ≢ pid) ⊎ (p ≢ page) → entry new q p ≡ entry old q p)
+    → ((p : PageKey) → is_valid (entry new pid page) ≡ true → is_private (entry new pid page) ≡ false → is_dirty (entry new pid page) ≡ true
+    → old.place p ≡ Frame (record { 0 = frame_of (entry new pid page) }) → old.touched p ≡ true) → IsDirtySound new
+dirty_changed old new pid page sound place touched same here = record {
+  dirty = λ q k p h valid common dirty there. elim (by_page q k pid page) [
+    | inl e ↦ (
+        let moved : entry new pid page ≡ entry new q k = ap (λ x. entry new x page) (sym e.0) ∙ ap (λ x. entry new q x) (sym e.1) in
+        touched p ∙ here p (ap is_valid moved ∙ valid) (ap is_private moved ∙ common) (ap is_dirty moved ∙ dirty)
+        (sym (place p) ∙ there ∙ ap (λ x. Frame (record { 0 = frame_of x })) (sym moved)))
+    | inr other ↦ (
+        let e = same q k h other in
+        touched p ∙ sound.dirty q k p h (sym (ap is_valid e) ∙ valid) (sym (ap is_private e) ∙ common) (sym (ap is_dirty e) ∙ dirty)
+        (sym (place p) ∙ there ∙ ap (λ x. Frame (record { 0 = frame_of x })) e))
+  ];
+  held = λ p now home. sound.held p (sym (touched p) ∙ now) (sym (place p) ∙ home);
+  slotted = λ p k e. touched p ∙ sound.slotted p k (sym (place p) ∙ e);
+}

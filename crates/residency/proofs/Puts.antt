@@ -1,0 +1,94 @@
+-- A slot was taken: nothing names it yet.
+use Rattle.vm_types.specs.Limits.{top_level}
+use Rattle.std.proofs.Common.{◌≡◌, ◌≢◌, ℕ, inl, inr, ◌==◌, if◌then◌else◌, List, refl, sym, ap, ◌∙◌, arith, eq-eqb, ne_eqb}
+use Rattle.std.proofs.lemmas.Bool.{cases_eq}
+use Rattle.vm_types.specs.declared.object.PageKey.{PageKey}
+use Rattle.frames.specs.FrameTable.{role_of, count_of}
+use Rattle.swap.specs.Slots.{Puts}
+use Rattle.sv39_walk.specs.Entry.{frame_of}
+use Rattle.page_tables.specs.Tree.{IsPage}
+use Rattle.page_cache.specs.declared.place.Place.TheVariants.{Slot}
+use Rattle.residency.specs.Seats.{Seat, InFrame, InSlot, seat}
+use Rattle.residency.specs.Picture.{Picture, entry, IsOwned, count_in, page_in}
+use Rattle.residency.specs.Parts.{IsFitBut, nowhere}
+use Rattle.residency.proofs.Seats.{counted_fresh}
+use Rattle.residency.proofs.Granting.{granting_same}
+use Rattle.residency.proofs.Places.{page_for-same, dirty_same}
+use Rattle.residency.proofs.Rooted.{rooted_frames}
+
+-- nothing but slots changed
+module _ {mode : ℕ} where
+  pub record SameButSlots (old new : Picture mode) : Type 0 where
+    pub frames : new.frames ≡ old.frames
+    pub root : (pid : ℕ) → new.root pid ≡ old.root pid
+    pub at : (pid page : ℕ) → new.at pid page ≡ old.at pid page
+    pub page_of : (n : ℕ) → new.page_of n ≡ old.page_of n
+    pub place : (p : PageKey) → new.place p ≡ old.place p
+    pub touched : (p : PageKey) → new.touched p ≡ old.touched p
+    pub files : (f : ℕ) → new.files f ≡ old.files f
+    pub entries : (pid page : ℕ) → entry new pid page ≡ entry old pid page
+
+slot_pages : (ℕ → ℕ) → ℕ → ℕ → ℕ → ℕ
+slot_pages sp k page j = if j == k then page else sp j
+
+module _ {mode : ℕ} (old new : Picture mode) (k page m : ℕ) (bytes : List ℕ) (fit : IsFitBut old nowhere 0 m) (same : SameButSlots old new) (puts : Puts old.slots new.slots k bytes) (h : IsPage (top_level mode) page) where
+  no_file : (p : PageKey) → old.place p ≡ Slot (record { 0 = k }) → ⊥
+  no_file p e = let one = fit.places.slotted p k e in let none = puts.was_free in omega (arith, one, none)
+
+  slot_ne : (z : Seat) (j : ℕ) → z ≡ InSlot j → z ≢ InSlot k → j ≢ k
+  slot_ne z j is ne e = ne (is ∙ ap (λ i. InSlot i) e)
+
+  forth : (z : Seat) → z ≢ InSlot k → IsOwned old z → IsOwned new z
+  forth (InFrame n) ne is = ap (λ t. role_of t n) same.frames ∙ is
+  forth (InSlot j) ne is =
+      (let c = puts.others.counts j (slot_ne (InSlot j) j refl ne) in (let some = is.0 in omega (arith, c, some)), λ p e. is.1 p (sym (same.place p) ∙ e))
+
+  back : (z : Seat) → z ≢ InSlot k → IsOwned new z → IsOwned old z
+  back (InFrame n) ne is = sym (ap (λ t. role_of t n) same.frames) ∙ is
+  back (InSlot j) ne is =
+      (let c = puts.others.counts j (slot_ne (InSlot j) j refl ne) in (let some = is.0 in omega (arith, c, some)), λ p e. is.1 p (same.place p ∙ e))
+
+  counts : (z : Seat) → z ≢ InSlot k → IsOwned old z → count_in new z ≡ count_in old z
+  counts (InFrame n) ne is = ap (λ t. count_of t n) same.frames
+  counts (InSlot j) ne is = puts.others.counts j (slot_ne (InSlot j) j refl ne)
+
+  pages : (z : Seat) → z ≢ InSlot k → IsOwned old z → page_in new (slot_pages fit.counted.0 k page) z ≡ page_in old fit.counted.0 z
+  unfolding slot_pages
+  pages (InFrame n) ne is = same.page_of n
+  pages (InSlot j) ne is = rw (ne_eqb j k (slot_ne (InSlot j) j refl ne)) refl
+
+  pub fit_put : IsFitBut new (InSlot k) 1 m
+  unfolding slot_pages
+  fit_put = record {
+    counted = (
+      slot_pages fit.counted.0 k page,
+      counted_fresh mode (entry old) (entry new) (IsOwned old) (IsOwned new) (count_in old) (count_in new)
+          (page_in old fit.counted.0) (page_in new (slot_pages fit.counted.0 k page)) (λ q p h'. ap seat (same.entries q p)) (InSlot k) nowhere page fit.counted.1
+          (λ is. (let some = is.0 in let none = puts.was_free in omega (arith, some, none))) forth back counts pages puts.counted (rw (eq-eqb k k refl) refl) h,
+    );
+    rooted = rooted_frames old new m fit.rooted same.frames same.root same.at;
+    granting = granting_same old new fit.granting (record { place = λ p n e. same.place p ∙ e; files = same.files })
+        (λ pid q h' private one. ap (λ t. count_of t (frame_of (entry old pid q))) same.frames ∙ one) same.at (λ pid q h'. same.entries pid q);
+    places = record {
+      cached = λ p n e. ap (λ t. role_of t n) same.frames ∙ fit.places.cached p n (sym (same.place p) ∙ e);
+      held = λ n cache. (let here = fit.places.held n (sym (ap (λ t. role_of t n) same.frames) ∙ cache) in (here.0, same.place here.0 ∙ here.1));
+      apart = λ p q e away. fit.places.apart p q (sym (same.place p) ∙ e ∙ same.place q) (λ home. away (same.place p ∙ home));
+      slotted = λ p j e. elim (cases_eq j k) [
+        | inl is ↦ absurd (no_file p (sym (same.place p) ∙ e ∙ ap (λ i. Slot (record { 0 = i })) is))
+        | inr ne ↦ puts.others.counts j ne ∙ fit.places.slotted p j (sym (same.place p) ∙ e)
+      ];
+      used = λ j some. elim (cases_eq j k) [
+        | inl is ↦ inl (some, λ p e. no_file p (sym (same.place p) ∙ e ∙ ap (λ i. Slot (record { 0 = i })) is))
+        | inr ne ↦ (let c = puts.others.counts j ne in elim (fit.places.used j (omega (arith, c, some))) [
+          | inl own ↦ inl (some, λ p e. own.1 p (sym (same.place p) ∙ e))
+          | inr file ↦ inr (file.0, same.place file.0 ∙ file.1)
+        ])
+      ];
+      inside = λ p away. page_for-same old new p same.at same.files (fit.places.inside p (λ home. away (same.place p ∙ home)));
+    };
+    dirty = dirty_same old new fit.dirty same.place same.touched (λ pid q h'. same.entries pid q);
+  }
+
+  pub put_noted : fit_put.counted.0 k ≡ page
+  unfolding fit_put slot_pages
+  put_noted = rw (eq-eqb k k refl) refl

@@ -1,0 +1,77 @@
+-- Why no frame may be given up.
+use Rattle.std.proofs.Common.{◌≡◌, ◌≢◌, ℕ, zero, suc, ◌<◌, inl, inr, ◌⊎◌, true, Option, refl, sym, ap, ◌∙◌, subst, arith}
+use Rattle.std.proofs.lemmas.Bool.{cases_eq, cases_lt, cases_Bool, false≢true}
+use Rattle.std.proofs.lemmas.List.{get_or_past}
+use Rattle.vm_types.specs.declared.object.PageKey.{PageKey}
+use Rattle.vm_types.specs.declared.number.FrameNo.{FrameNo}
+use Rattle.frames.specs.declared.role.Role.{Role}
+use Rattle.frames.specs.declared.role.Role.TheVariants.{Free, Zero, Table, Private, Cache}
+use Rattle.frames.specs.FrameTable.{FrameTable, IsSound, IsFrame, frame_count, role_of}
+use Rattle.swap.specs.Slots.{SlotTable, IsInUse, IsFull}
+use Rattle.page_cache.specs.declared.place.Place.TheVariants.{Home, Frame}
+use Rattle.residency.specs.Picture.{Picture, is_data}
+use Rattle.residency.specs.Parts.{IsFit}
+use Rattle.residency.specs.Calls.{IsSpareable, NeedsSlot}
+use Rattle.residency.specs.Evictions.{IsEvictable}
+
+pub inside_of : (t : FrameTable) (n : ℕ) → IsSound t → is_data (role_of t n) ≡ true → IsFrame t n
+inside_of t n sound used = elim (cases_lt n (frame_count t)) [
+  | inl inside ↦ inside
+  | inr past ↦ (let all = sound.all_roles in absurd (false≢true (sym (ap is_data (get_or_past t.roles n Free (omega (arith, all, past)))) ∙ used)))
+]
+
+pub above_of : (t : FrameTable) (n : ℕ) → IsSound t → is_data (role_of t n) ≡ true → n ≢ 0
+above_of t n sound used none = false≢true (sym (ap is_data (ap (role_of t) none ∙ sound.zero_role)) ∙ used)
+
+-- a slot is free, or none is
+free_below : (t : SlotTable) (n : ℕ) → ((k : ℕ) × (k < n) × (t.count k ≡ 0)) ⊎ ((k : ℕ) → k < n → IsInUse t k)
+free_below t zero = inr (λ k less. absurd (omega (arith, less)))
+free_below t (suc n) = elim (cases_eq (t.count n) 0) [
+  | inl none ↦ inl (n, omega arith, none)
+  | inr some ↦ elim (free_below t n) [
+    | inl there ↦ inl (there.0, (let l = there.1 in omega (arith, l)), there.2)
+    | inr used ↦ inr (λ k less. elim (cases_eq k n) [
+      | inl e ↦ (let P : ℕ → Type 0 = λ i. IsInUse t i in subst P (sym e) (omega (arith, some)))
+      | inr ne ↦ used k (omega (arith, less, ne))
+    ])
+  ]
+]
+
+pub full_then : (t : SlotTable) → ((IsFull t → ⊥) → ⊥) → IsFull t
+full_then t not_not = elim (free_below t t.total) [
+  | inl there ↦ absurd (not_not (λ full. (let some = full there.0 there.1 in let none = there.2 in omega (arith, some, none))))
+  | inr used ↦ used
+]
+
+module _ {mode : ℕ} where
+  needs_role : (c : Picture mode) (n : ℕ) (r : Role) → IsFit c → role_of c.frames n ≡ r → is_data r ≡ true → NeedsSlot c n ⊎ (NeedsSlot c n → ⊥)
+  needs_role c n Private fit is used = inl (inl is)
+  needs_role c n Cache fit is used =
+      let p = fit.places.held n is in
+      elim (cases_Bool (c.touched p.0)) [
+        | inl t ↦ inl (inr (p.0, p.1, t))
+        | inr f ↦ inr (λ needs. elim needs [
+          | inl own ↦ (let bad : Private ≡ Cache = sym own ∙ is in (cc))
+          | inr file ↦ (
+              let same = one_page c n fit is p.0 file.0 p.1 file.1 in
+              false≢true (sym f ∙ ap c.touched same ∙ file.2))
+        ])
+      ]
+    where
+      one_page : (c : Picture mode) (n : ℕ) → IsFit c → role_of c.frames n ≡ Cache → (p q : PageKey) → c.place p ≡ Frame (record { 0 = n }) → c.place q ≡ Frame (record { 0 = n }) → p ≡ q
+      one_page c n fit is p q at there = fit.places.apart p q (at ∙ sym there) (λ home. (let bad : Home ≡ Frame (record { 0 = n }) = sym home ∙ at in (cc)))
+  needs_role c n Free fit is used = absurd (false≢true used)
+  needs_role c n Zero fit is used = absurd (false≢true used)
+  needs_role c n Table fit is used = absurd (false≢true used)
+
+module _ {mode : ℕ} (c : Picture mode) (keep : Option FrameNo) (fit : IsFit c) (sound : IsSound c.frames) (none : (n : ℕ) → IsFrame c.frames n → IsEvictable c keep n → ⊥) where
+  -- every frame that may be given up needs a slot
+  pub all_need : (n : ℕ) → IsSpareable c keep n → NeedsSlot c n
+  all_need n spare = elim (needs_role c n (role_of c.frames n) fit refl spare.0) [
+    | inl needs ↦ needs
+    | inr not_so ↦ absurd (none n (inside_of c.frames n sound spare.0) (spare, λ needs. absurd (not_so needs)))
+  ]
+
+  -- and none is free
+  pub no_slot_free : (n : ℕ) → IsSpareable c keep n → IsFull c.slots
+  no_slot_free n spare = full_then c.slots (λ not_full. none n (inside_of c.frames n sound spare.0) (spare, λ needs. not_full))

@@ -1,0 +1,58 @@
+-- Trees: what each step does to the roots and to the tables that are reached from them.
+use Rattle.vm_types.specs.Limits.{top_level}
+use Rattle.std.proofs.Common.{◌≡◌, ℕ, suc, inl, inr, Some, Option, sym, ◌∙◌, subst}
+use Rattle.std.specs.Prelude.{IsSome}
+use Rattle.vm_types.specs.declared.region.Attr.{Attr}
+use Rattle.frames.specs.FrameTable.{FrameTable}
+use Rattle.page_tables.specs.Tree.{IsTable, IsForest, IsRoot, Points, IsBelowRoot}
+use Rattle.page_tables.proofs.Data.{KeepsTrees}
+use Rattle.page_tables.proofs.Ends.{way_forth}
+use Rattle.residency.specs.Picture.{Picture}
+use Rattle.residency.specs.Parts.{IsRootedBut, IsUsed, AsRoot, OnWay, IsMapped}
+
+module _ (mode : ℕ) where
+  below_forth : (old new : FrameTable) → ((a i b : ℕ) → Points old a i b → Points new a i b) → (r page m : ℕ) → IsBelowRoot old (top_level mode) r page m → IsBelowRoot new (top_level mode) r page m
+  below_forth old new forth r page m below = (below.0, below.1, way_forth old new forth (top_level mode) r page (suc below.0) m below.2)
+
+-- a table is used where pointers and roots stay, and mapped pages are still mapped
+module _ {mode : ℕ} where
+  pub used_kept : (old new : Picture mode) (mapped mapped' : ℕ → ℕ → Type 0) (m : ℕ) → ((a i b : ℕ) → Points old.frames a i b → Points new.frames a i b)
+      → ((pid : ℕ) → new.root pid ≡ old.root pid) → ((pid page : ℕ) → mapped pid page → mapped' pid page) → IsUsed old mapped m → IsUsed new mapped' m
+  used_kept old new mapped mapped' m forth root maps (AsRoot pid is) = AsRoot pid (root pid ∙ is)
+  used_kept old new mapped mapped' m forth root maps (OnWay pid r page is here below) =
+      OnWay pid r page (root pid ∙ is) (maps pid page here) (below_forth mode old.frames new.frames forth r page m below)
+
+-- all trees are as they were, and so are the roots and the regions
+pub rooted_same : {mode : ℕ} (old new : Picture mode) (n : ℕ) → IsRootedBut old n → KeepsTrees old.frames new.frames (top_level mode)
+    → ((pid : ℕ) → new.root pid ≡ old.root pid) → ((pid page : ℕ) → new.at pid page ≡ old.at pid page) → IsRootedBut new n
+rooted_same old new n rooted trees root at =
+    let was : (pid r : ℕ) → new.root pid ≡ Some r → old.root pid ≡ Some r = λ pid r e. sym (root pid) ∙ e in
+    record {
+      forest = trees.forest;
+      roots = λ pid r e. trees.roots r (rooted.roots pid r (was pid r e));
+      apart = λ p q r e f. rooted.apart p q r (was p r e) (was q r f);
+      numbers = λ pid r e. rooted.numbers pid r (was pid r e);
+      used = λ m table. elim (rooted.used m ((trees.tables m).1 table)) [
+        | inl e ↦ inl e
+        | inr o ↦ inr (used_kept old new (IsMapped old) (IsMapped new) m trees.same.forth root
+            (λ pid page some. (let P : Option Attr → Type 0 = λ x. IsSome x in subst P (sym (at pid page)) some)) o)
+      ];
+    }
+
+-- the frames are the same
+module _ {mode : ℕ} where
+  pub rooted_frames : (old new : Picture mode) (n : ℕ) → IsRootedBut old n → new.frames ≡ old.frames → ((pid : ℕ) → new.root pid ≡ old.root pid)
+      → ((pid page : ℕ) → new.at pid page ≡ old.at pid page) → IsRootedBut new n
+  rooted_frames old new n rooted frames root at =
+      let was : (pid r : ℕ) → new.root pid ≡ Some r → old.root pid ≡ Some r = λ pid r e. sym (root pid) ∙ e in
+      record {
+        forest = (let P : FrameTable → Type 0 = λ t. IsForest t in subst P (sym frames) rooted.forest);
+        roots = λ pid r e. (let P : FrameTable → Type 0 = λ t. IsRoot (top_level mode) t r in subst P (sym frames) (rooted.roots pid r (was pid r e)));
+        apart = λ p q r e f. rooted.apart p q r (was p r e) (was q r f);
+        numbers = λ pid r e. rooted.numbers pid r (was pid r e);
+        used = λ m table. elim (rooted.used m (let P : FrameTable → Type 0 = λ t. IsTable t m in subst P frames table)) [
+          | inl e ↦ inl e
+          | inr o ↦ inr (used_kept old new (IsMapped old) (IsMapped new) m (λ a i b p. (let P : FrameTable → Type 0 = λ t. Points t a i b in subst P (sym frames) p)) root
+              (λ pid page some. (let P : Option Attr → Type 0 = λ x. IsSome x in subst P (sym (at pid page)) some)) o)
+        ];
+      }

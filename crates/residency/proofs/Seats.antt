@@ -1,0 +1,357 @@
+-- Counts of seats: what each step does to them.
+use Rattle.vm_types.specs.Limits.{top_level}
+use Rattle.std.proofs.Common.{◌≡◌, ◌≢◌, ℕ, inl, inr, ◌+◌, ◌<◌, ◌⊎◌, true, false, Option, Some, None, refl, sym, ap, ◌∙◌, subst, arith, eq-eqb, ne_eqb}
+use Rattle.std.proofs.lemmas.Bool.{cases_eq}
+use Rattle.page_tables.specs.Tree.{IsPage}
+use Rattle.residency.proofs.Ways.{by_page}
+use Rattle.residency.proofs.Counts.{count-same, count-none, count-one, count-positive}
+use Rattle.residency.specs.Seats.{Seat, InFrame, InSlot, seat, same_seat, is_seat, holders_at, off, AreCounted, OthersSame}
+
+pub cases_seat : (x y : Seat) → (x ≡ y) ⊎ (x ≢ y)
+cases_seat (InFrame n) (InFrame m) = elim (cases_eq n m) [
+  | inl e ↦ inl (ap (λ z. InFrame z) e)
+  | inr ne ↦ inr (λ e. ne (cc))
+]
+cases_seat (InFrame n) (InSlot m) = inr (λ e. (cc))
+cases_seat (InSlot n) (InFrame m) = inr (λ e. (cc))
+cases_seat (InSlot n) (InSlot m) = elim (cases_eq n m) [
+  | inl e ↦ inl (ap (λ z. InSlot z) e)
+  | inr ne ↦ inr (λ e. ne (cc))
+]
+
+pub seat-same : (x : Seat) → same_seat x x ≡ true
+seat-same (InFrame n) = eq-eqb n n refl
+seat-same (InSlot n) = eq-eqb n n refl
+
+pub seat-other : (x y : Seat) → x ≢ y → same_seat x y ≡ false
+seat-other (InFrame n) (InFrame m) ne = ne_eqb n m (λ e. ne (ap (λ z. InFrame z) e))
+seat-other (InFrame n) (InSlot m) ne = refl
+seat-other (InSlot n) (InFrame m) ne = refl
+seat-other (InSlot n) (InSlot m) ne = ne_eqb n m (λ e. ne (ap (λ z. InSlot z) e))
+
+sits : (o : Option Seat) (y : Seat) → o ≡ Some y → is_seat o y ≡ true
+sits o y e = ap (λ z. is_seat z y) e ∙ seat-same y
+
+sits_not : (o : Option Seat) (x y : Seat) → o ≡ Some x → x ≢ y → is_seat o y ≡ false
+sits_not o x y e ne = ap (λ z. is_seat z y) e ∙ seat-other x y ne
+
+sits_none : (o : Option Seat) (y : Seat) → o ≡ None → is_seat o y ≡ false
+sits_none o y e = ap (λ z. is_seat z y) e
+
+off-here : (x : Seat) (d : ℕ) → off x d x ≡ d
+off-here x d = rw (seat-same x) refl
+
+off-other : (x : Seat) (d : ℕ) (y : Seat) → x ≢ y → off x d y ≡ 0
+off-other x d y ne = rw (seat-other x y ne) refl
+
+some_seat : (x y : Seat) → Some x ≡ Some y → x ≡ y
+some_seat x y e = (cc)
+
+-- Of the page (pid, page) the entry names seat y now, and named x before, whose counts was right and is off now.
+module _ (mode : ℕ) (old new : ℕ → ℕ → ℕ) (owned owned' : Seat → Type 0) (count count' page page' : Seat → ℕ) (x y : Seat) (pid k : ℕ)
+    (counted : AreCounted mode old owned count page y 1) (forth : (z : Seat) → owned z → owned' z) (back : (z : Seat) → owned' z → owned z)
+    (counts : (z : Seat) → owned z → count' z ≡ count z) (pages : (z : Seat) → owned z → page' z ≡ page z)
+    (has : owned y) (noted : page y ≡ k) (h : IsPage (top_level mode) k) (below : pid < 65) (from : seat (old pid k) ≡ Some x) (to : seat (new pid k) ≡ Some y) (apart : x ≢ y)
+    (others : OthersSame mode old new pid k) where
+  held : owned x
+  held = counted.named pid k x h from
+
+  noted_x : page x ≡ k
+  noted_x = counted.noted pid k x h from
+
+  gained : holders_at new k y ≡ holders_at old k y + 1
+  unfolding holders_at
+  gained =
+      count-one (λ q. is_seat (seat (new q k)) y) (λ q. is_seat (seat (old q k)) y) pid 65 below (sits (seat (new pid k)) y to) (sits_not (seat (old pid k)) x y from apart)
+      (λ q ne. ap (λ e. is_seat (seat e) y) (others q k h (inl ne)))
+
+  lost : holders_at old k x ≡ holders_at new k x + 1
+  unfolding holders_at
+  lost =
+      count-one (λ q. is_seat (seat (old q k)) x) (λ q. is_seat (seat (new q k)) x) pid 65 below (sits (seat (old pid k)) x from) (sits_not (seat (new pid k)) y x to (λ e. apart (sym e)))
+      (λ q ne. ap (λ e. is_seat (seat e) x) (sym (others q k h (inl ne))))
+
+  same : (z : Seat) (p : ℕ) → z ≢ x → z ≢ y → IsPage (top_level mode) p → holders_at new p z ≡ holders_at old p z
+  unfolding holders_at
+  same z p ne ne' h' = count-same (λ q. is_seat (seat (new q p)) z) (λ q. is_seat (seat (old q p)) z) 65 (λ q. elim (by_page q p pid k) [
+    | inl e ↦ (
+        let P : ℕ → Type 0 = λ a. is_seat (seat (new a p)) z ≡ is_seat (seat (old a p)) z in
+        let Q : ℕ → Type 0 = λ a. is_seat (seat (new pid a)) z ≡ is_seat (seat (old pid a)) z in
+        subst P (sym e.0) (subst Q (sym e.1) (sits_not (seat (new pid k)) y z to (λ e. ne' (sym e)) ∙ sym (sits_not (seat (old pid k)) x z from (λ e. ne (sym e))))))
+    | inr away ↦ ap (λ e. is_seat (seat e) z) (others q p h' away)
+  ])
+
+  pub counted_moved : AreCounted mode new owned' count' page' x 1
+  counted_moved = record {
+    counts = λ z now. (
+        let was = back z now in
+        let there = pages z was in
+        let before = counts z was ∙ counted.counts z was in
+        elim (cases_seat z y) [
+          | inl e ↦ (
+              let P : Seat → Type 0 = λ a. count' a ≡ holders_at new (page' a) a + off x 1 a in
+              let at : page' y ≡ k = pages y has ∙ noted in
+              let c = counts y has ∙ counted.counts y has in
+              let a = off-here y 1 in
+              let b = off-other x 1 y apart in
+              let g = gained in
+              subst P (sym e) (rw at (let c' : count' y ≡ holders_at old k y + off y 1 y = (let R : ℕ → Type 0 = λ v. count' y ≡ holders_at old v y + off y 1 y in subst R noted c) in omega (arith, c', a, b, g))))
+          | inr ne ↦ elim (cases_seat z x) [
+            | inl e ↦ (
+                let P : Seat → Type 0 = λ a. count' a ≡ holders_at new (page' a) a + off x 1 a in
+                let at : page' x ≡ k = pages x held ∙ noted_x in
+                let c = counts x held ∙ counted.counts x held in
+                let a = off-here x 1 in
+                let b = off-other y 1 x (λ f. apart (sym f)) in
+                let l = lost in
+                subst P (sym e) (rw at (let c' : count' x ≡ holders_at old k x + off y 1 x = (let R : ℕ → Type 0 = λ v. count' x ≡ holders_at old v x + off y 1 x in subst R noted_x c) in omega (arith, c', a, b, l))))
+            | inr ne' ↦ (
+                let s = same z (page z) ne' ne (counted.pages z was) in
+                let a = off-other y 1 z (λ f. ne (sym f)) in
+                let b = off-other x 1 z (λ f. ne' (sym f)) in
+                rw there (omega (arith, before, s, a, b)))
+          ]
+        ]);
+    pages = λ z now. (
+        let was = back z now in
+        let P : ℕ → Type 0 = λ v. IsPage (top_level mode) v in subst P (sym (pages z was)) (counted.pages z was));
+    named = λ q p z h' is. elim (by_page q p pid k) [
+      | inl e ↦ (
+          let moved : new q p ≡ new pid k = ap (λ v. new v p) e.0 ∙ ap (λ v. new pid v) e.1 in
+          subst owned' (some_seat y z (sym to ∙ ap seat (sym moved) ∙ is)) (forth y has))
+      | inr away ↦ forth z (counted.named q p z h' (ap seat (sym (others q p h' away)) ∙ is))
+    ];
+    noted = λ q p z h' is. elim (by_page q p pid k) [
+      | inl e ↦ (
+          let moved : new q p ≡ new pid k = ap (λ v. new v p) e.0 ∙ ap (λ v. new pid v) e.1 in
+          ap page' (sym (some_seat y z (sym to ∙ ap seat (sym moved) ∙ is))) ∙ pages y has ∙ noted ∙ sym e.1)
+      | inr away ↦ (
+          let was = ap seat (sym (others q p h' away)) ∙ is in
+          pages z (counted.named q p z h' was) ∙ counted.noted q p z h' was)
+    ];
+  }
+
+-- Of the page (pid, page) the entry names seat y now, whose count was off, and named none before.
+module _ (mode : ℕ) (old new : ℕ → ℕ → ℕ) (owned owned' : Seat → Type 0) (count count' page page' : Seat → ℕ) (y : Seat) (pid k : ℕ)
+    (counted : AreCounted mode old owned count page y 1) (forth : (z : Seat) → owned z → owned' z) (back : (z : Seat) → owned' z → owned z)
+    (counts : (z : Seat) → owned z → count' z ≡ count z) (pages : (z : Seat) → owned z → page' z ≡ page z)
+    (has : owned y) (noted : page y ≡ k) (h : IsPage (top_level mode) k) (below : pid < 65) (from : seat (old pid k) ≡ None) (to : seat (new pid k) ≡ Some y)
+    (others : OthersSame mode old new pid k) where
+  filled : holders_at new k y ≡ holders_at old k y + 1
+  unfolding holders_at
+  filled =
+      count-one (λ q. is_seat (seat (new q k)) y) (λ q. is_seat (seat (old q k)) y) pid 65 below (sits (seat (new pid k)) y to) (sits_none (seat (old pid k)) y from)
+      (λ q ne. ap (λ e. is_seat (seat e) y) (others q k h (inl ne)))
+
+  still : (z : Seat) (p : ℕ) → z ≢ y → IsPage (top_level mode) p → holders_at new p z ≡ holders_at old p z
+  unfolding holders_at
+  still z p ne h' = count-same (λ q. is_seat (seat (new q p)) z) (λ q. is_seat (seat (old q p)) z) 65 (λ q. elim (by_page q p pid k) [
+    | inl e ↦ (
+        let P : ℕ → Type 0 = λ a. is_seat (seat (new a p)) z ≡ is_seat (seat (old a p)) z in
+        let Q : ℕ → Type 0 = λ a. is_seat (seat (new pid a)) z ≡ is_seat (seat (old pid a)) z in
+        subst P (sym e.0) (subst Q (sym e.1) (sits_not (seat (new pid k)) y z to (λ e. ne (sym e)) ∙ sym (sits_none (seat (old pid k)) z from))))
+    | inr away ↦ ap (λ e. is_seat (seat e) z) (others q p h' away)
+  ])
+
+  pub counted_filled : (x' : Seat) → ((z : Seat) → off x' 0 z ≡ 0) → AreCounted mode new owned' count' page' x' 0
+  counted_filled x' none = record {
+    counts = λ z now. (
+        let was = back z now in
+        let before = counts z was ∙ counted.counts z was in
+        let zero = none z in
+        elim (cases_seat z y) [
+          | inl e ↦ (
+              let P : Seat → Type 0 = λ a. count' a ≡ holders_at new (page' a) a + off x' 0 a in
+              let at : page' y ≡ k = pages y has ∙ noted in
+              let c = counts y has ∙ counted.counts y has in
+              let a = off-here y 1 in
+              let b = none y in
+              let g = filled in
+              subst P (sym e) (rw at (let c' : count' y ≡ holders_at old k y + off y 1 y = (let R : ℕ → Type 0 = λ v. count' y ≡ holders_at old v y + off y 1 y in subst R noted c) in omega (arith, c', a, b, g))))
+          | inr ne ↦ (
+              let s = still z (page z) ne (counted.pages z was) in
+              let a = off-other y 1 z (λ f. ne (sym f)) in
+              rw (pages z was) (omega (arith, before, s, a, zero)))
+        ]);
+    pages = λ z now. (let was = back z now in let P : ℕ → Type 0 = λ v. IsPage (top_level mode) v in subst P (sym (pages z was)) (counted.pages z was));
+    named = λ q p z h' is. elim (by_page q p pid k) [
+      | inl e ↦ (
+          let moved : new q p ≡ new pid k = ap (λ v. new v p) e.0 ∙ ap (λ v. new pid v) e.1 in
+          subst owned' (some_seat y z (sym to ∙ ap seat (sym moved) ∙ is)) (forth y has))
+      | inr away ↦ forth z (counted.named q p z h' (ap seat (sym (others q p h' away)) ∙ is))
+    ];
+    noted = λ q p z h' is. elim (by_page q p pid k) [
+      | inl e ↦ (
+          let moved : new q p ≡ new pid k = ap (λ v. new v p) e.0 ∙ ap (λ v. new pid v) e.1 in
+          ap page' (sym (some_seat y z (sym to ∙ ap seat (sym moved) ∙ is))) ∙ pages y has ∙ noted ∙ sym e.1)
+      | inr away ↦ (
+          let was = ap seat (sym (others q p h' away)) ∙ is in
+          pages z (counted.named q p z h' was) ∙ counted.noted q p z h' was)
+    ];
+  }
+
+-- no entry names another seat than before
+pub seats_kept : (old new : ℕ → ℕ → ℕ) (z : Seat) (p : ℕ) → ((q : ℕ) → seat (new q p) ≡ seat (old q p)) → holders_at new p z ≡ holders_at old p z
+unfolding holders_at
+seats_kept old new z p same = count-same (λ q. is_seat (seat (new q p)) z) (λ q. is_seat (seat (old q p)) z) 65 (λ q. ap (λ o. is_seat o z) (same q))
+
+pub off-none : (x y : Seat) → off x 0 y ≡ 0
+off-none x y = elim (cases_seat x y) [
+  | inl e ↦ (let P : Seat → Type 0 = λ z. off x 0 z ≡ 0 in subst P e (off-here x 0))
+  | inr ne ↦ off-other x 0 y ne
+]
+
+not_there : (x : Seat) (o : Option Seat) → ((y : Seat) → o ≡ Some y → y ≢ x) → is_seat o x ≡ false
+not_there x None none = refl
+not_there x (Some y) none = seat-other y x (none y refl)
+
+-- a seat that no entry names has no holder
+pub holders_none : (entries : ℕ → ℕ → ℕ) (p : ℕ) (x : Seat) → ((q : ℕ) → seat (entries q p) ≢ Some x) → holders_at entries p x ≡ 0
+unfolding holders_at
+holders_none entries p x none = count-none (λ q. is_seat (seat (entries q p)) x) 65 (λ q. not_there x (seat (entries q p)) (λ y is e. none q (is ∙ ap (λ z. Some z) e)))
+
+module _ (mode : ℕ) (old new : ℕ → ℕ → ℕ) (owned owned' : Seat → Type 0) (count count' page page' : Seat → ℕ) (same : (q p : ℕ) → IsPage (top_level mode) p → seat (new q p) ≡ seat (old q p)) where
+  pub counted_same : (x : Seat) (d : ℕ) → AreCounted mode old owned count page x d → ((z : Seat) → owned z → owned' z) → ((z : Seat) → owned' z → owned z)
+      → ((z : Seat) → owned z → count' z ≡ count z) → ((z : Seat) → owned z → page' z ≡ page z) → AreCounted mode new owned' count' page' x d
+  counted_same x d counted forth back counts pages = record {
+    counts = λ z now. (
+        let was = back z now in
+        let here = counted.counts z was in
+        let k = seats_kept old new z (page z) (λ q. same q (page z) (counted.pages z was)) in
+        counts z was ∙ here ∙ ap (λ v. v + off x d z) (sym k) ∙ ap (λ v. holders_at new v z + off x d z) (sym (pages z was)));
+    pages = λ z now. (let was = back z now in let P : ℕ → Type 0 = λ v. IsPage (top_level mode) v in subst P (sym (pages z was)) (counted.pages z was));
+    named = λ q p z h is. forth z (counted.named q p z h (sym (same q p h) ∙ is));
+    noted = λ q p z h is. (let was = sym (same q p h) ∙ is in pages z (counted.named q p z h was) ∙ counted.noted q p z h was);
+  }
+
+  unnamed : (x : Seat) → (x' : Seat) (d : ℕ) → AreCounted mode old owned count page x' d → (owned x → ⊥) → (p : ℕ) → IsPage (top_level mode) p → holders_at new p x ≡ 0
+  unfolding holders_at
+  unnamed x x' d counted fresh p h = count-none (λ q. is_seat (seat (new q p)) x) 65 (λ q. not_there x (seat (new q p)) (λ y is e. fresh (subst owned e (counted.named q p y h (sym (same q p h) ∙ is)))))
+
+  -- a seat was taken that nobody had, and no entry names it yet
+  pub counted_fresh : (x x' : Seat) (k : ℕ) → AreCounted mode old owned count page x' 0 → (owned x → ⊥) → ((z : Seat) → z ≢ x → owned z → owned' z) → ((z : Seat) → z ≢ x → owned' z → owned z)
+      → ((z : Seat) → z ≢ x → owned z → count' z ≡ count z) → ((z : Seat) → z ≢ x → owned z → page' z ≡ page z) → count' x ≡ 1 → page' x ≡ k → IsPage (top_level mode) k
+      → AreCounted mode new owned' count' page' x 1
+  counted_fresh x x' k counted fresh forth back counts pages one noted h =
+      let other : (q p : ℕ) (z : Seat) → IsPage (top_level mode) p → seat (new q p) ≡ Some z → z ≢ x = λ q p z h' is e. fresh (subst owned e (counted.named q p z h' (sym (same q p h') ∙ is))) in
+      record {
+        counts = λ z now. elim (cases_seat z x) [
+          | inl e ↦ (
+              let none : holders_at new (page' x) x ≡ 0 = unnamed x x' 0 counted fresh (page' x) (let P : ℕ → Type 0 = λ v. IsPage (top_level mode) v in subst P (sym noted) h) in
+              let here = off-here x 1 in
+              let P : Seat → Type 0 = λ v. count' v ≡ holders_at new (page' v) v + off x 1 v in
+              subst P (sym e) (omega (arith, one, none, here)))
+          | inr ne ↦ (
+              let was = back z ne now in
+              let here = counted.counts z was in
+              let none = off-none x' z in
+              let none' = off-other x 1 z (λ e. ne (sym e)) in
+              let c = counts z ne was in
+              let k = seats_kept old new z (page z) (λ q. same q (page z) (counted.pages z was)) in
+              rw (pages z ne was) (omega (arith, here, none, none', c, k)))
+        ];
+        pages = λ z now. elim (cases_seat z x) [
+          | inl e ↦ (let P : Seat → Type 0 = λ v. IsPage (top_level mode) (page' v) in let Q : ℕ → Type 0 = λ v. IsPage (top_level mode) v in subst P (sym e) (subst Q (sym noted) h))
+          | inr ne ↦ (let was = back z ne now in let P : ℕ → Type 0 = λ v. IsPage (top_level mode) v in subst P (sym (pages z ne was)) (counted.pages z was))
+        ];
+        named = λ q p z h' is. forth z (other q p z h' is) (counted.named q p z h' (sym (same q p h') ∙ is));
+        noted = λ q p z h' is. (
+            let was = sym (same q p h') ∙ is in
+            pages z (other q p z h' is) (counted.named q p z h' was) ∙ counted.noted q p z h' was);
+      }
+
+  -- one more shares a seat, and no entry names it for that yet
+  pub counted_shared : (x x' : Seat) → AreCounted mode old owned count page x' 0 → ((z : Seat) → owned z → owned' z) → ((z : Seat) → owned' z → owned z)
+      → ((z : Seat) → z ≢ x → owned z → count' z ≡ count z) → ((z : Seat) → owned z → page' z ≡ page z) → count' x ≡ count x + 1 → AreCounted mode new owned' count' page' x 1
+  counted_shared x x' counted forth back counts pages more = record {
+    counts = λ z now. (
+        let was = back z now in
+        let here = counted.counts z was in
+        let none = off-none x' z in
+        let k = seats_kept old new z (page z) (λ q. same q (page z) (counted.pages z was)) in
+        elim (cases_seat z x) [
+          | inl e ↦ (
+              let P : Seat → Type 0 = λ v. count' v ≡ count v + 1 in
+              let m = subst P (sym e) more in
+              let Q : Seat → Type 0 = λ v. off x 1 v ≡ 1 in
+              let o = subst Q (sym e) (off-here x 1) in
+              rw (pages z was) (omega (arith, here, none, k, m, o)))
+          | inr ne ↦ (
+              let c = counts z ne was in
+              let none' = off-other x 1 z (λ e. ne (sym e)) in
+              rw (pages z was) (omega (arith, here, none, k, c, none')))
+        ]);
+    pages = λ z now. (let was = back z now in let P : ℕ → Type 0 = λ v. IsPage (top_level mode) v in subst P (sym (pages z was)) (counted.pages z was));
+    named = λ q p z h is. forth z (counted.named q p z h (sym (same q p h) ∙ is));
+    noted = λ q p z h is. (let was = sym (same q p h) ∙ is in pages z (counted.named q p z h was) ∙ counted.noted q p z h was);
+  }
+
+  -- an entry that names a seat whose count is one too high isn't alone
+  pub not_alone : (x : Seat) → AreCounted mode old owned count page x 1 → (q p : ℕ) → IsPage (top_level mode) p → q < 65 → seat (old q p) ≡ Some x → 1 < count x
+  unfolding holders_at
+  not_alone x counted q p h below is =
+      let has = counted.named q p x h is in
+      let here = counted.counts x has in
+      let one = off-here x 1 in
+      let at = counted.noted q p x h is in
+      let P : ℕ → Type 0 = λ v. 0 < holders_at old v x in
+      let some : 0 < holders_at old (page x) x = subst P (sym at) (count-positive (λ r. is_seat (seat (old r p)) x) q 65 below (sits (seat (old q p)) x is)) in
+      omega (arith, here, one, some)
+
+  -- one less shares a seat, from which an entry was moved away; it is nobody's where nobody is left
+  pub counted_released : (x x' : Seat) → AreCounted mode old owned count page x 1 → owned x → ((z : Seat) → (z ≢ x) ⊎ (1 < count z) → owned z → owned' z) → ((z : Seat) → owned' z → owned z)
+      → ((z : Seat) → z ≢ x → owned z → count' z ≡ count z) → ((z : Seat) → owned z → page' z ≡ page z) → count' x + 1 ≡ count x
+      → ((q p : ℕ) (z : Seat) → IsPage (top_level mode) p → seat (old q p) ≡ Some z → q < 65) → AreCounted mode new owned' count' page' x' 0
+  counted_released x x' counted held forth back counts pages less below = record {
+    counts = λ z now. (
+        let was = back z now in
+        let here = counted.counts z was in
+        let none = off-none x' z in
+        let k = seats_kept old new z (page z) (λ q. same q (page z) (counted.pages z was)) in
+        elim (cases_seat z x) [
+          | inl e ↦ (
+              let P : Seat → Type 0 = λ v. count' v + 1 ≡ count v in
+              let m = subst P (sym e) less in
+              let Q : Seat → Type 0 = λ v. off x 1 v ≡ 1 in
+              let o = subst Q (sym e) (off-here x 1) in
+              rw (pages z was) (omega (arith, here, none, k, m, o)))
+          | inr ne ↦ (
+              let c = counts z ne was in
+              let none' = off-other x 1 z (λ e. ne (sym e)) in
+              rw (pages z was) (omega (arith, here, none, k, c, none')))
+        ]);
+    pages = λ z now. (let was = back z now in let P : ℕ → Type 0 = λ v. IsPage (top_level mode) v in subst P (sym (pages z was)) (counted.pages z was));
+    named = λ q p z h is. (
+        let was = sym (same q p h) ∙ is in
+        elim (cases_seat z x) [
+          | inl e ↦ (
+              let more = not_alone x counted q p h (below q p z h was) (was ∙ ap (λ v. Some v) e) in
+              let P : Seat → Type 0 = λ v. 1 < count v in
+              forth z (inr (subst P (sym e) more)) (counted.named q p z h was))
+          | inr ne ↦ forth z (inl ne) (counted.named q p z h was)
+        ]);
+    noted = λ q p z h is. (let was = sym (same q p h) ∙ is in pages z (counted.named q p z h was) ∙ counted.noted q p z h was);
+  }
+
+  -- a seat that no entry names is nobody's now
+  pub counted_left : (x x' : Seat) → AreCounted mode old owned count page x 1 → owned x → count x ≡ 1 → (owned' x → ⊥) → ((z : Seat) → z ≢ x → owned z → owned' z) → ((z : Seat) → owned' z → owned z)
+      → ((z : Seat) → z ≢ x → owned z → count' z ≡ count z) → ((z : Seat) → owned z → page' z ≡ page z)
+      → ((q p : ℕ) (z : Seat) → IsPage (top_level mode) p → seat (old q p) ≡ Some z → q < 65) → AreCounted mode new owned' count' page' x' 0
+  counted_left x x' counted held one gone forth back counts pages below =
+      let alone : (q p : ℕ) → IsPage (top_level mode) p → seat (old q p) ≡ Some x → ⊥ = λ q p h is. (let more = not_alone x counted q p h (below q p x h is) is in omega (arith, more, one)) in
+      let ne : (z : Seat) → owned' z → z ≢ x = λ z now e. gone (subst owned' e now) in
+      record {
+        counts = λ z now. (
+            let was = back z now in
+            let here = counted.counts z was in
+            let none = off-none x' z in
+            let k = seats_kept old new z (page z) (λ q. same q (page z) (counted.pages z was)) in
+            let c = counts z (ne z now) was in
+            let none' = off-other x 1 z (λ e. ne z now (sym e)) in
+            rw (pages z was) (omega (arith, here, none, k, c, none')));
+        pages = λ z now. (let was = back z now in let P : ℕ → Type 0 = λ v. IsPage (top_level mode) v in subst P (sym (pages z was)) (counted.pages z was));
+        named = λ q p z h is. (
+            let was = sym (same q p h) ∙ is in
+            forth z (λ e. alone q p h (was ∙ ap (λ v. Some v) e)) (counted.named q p z h was));
+        noted = λ q p z h is. (let was = sym (same q p h) ∙ is in pages z (counted.named q p z h was) ∙ counted.noted q p z h was);
+      }

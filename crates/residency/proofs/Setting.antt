@@ -1,0 +1,160 @@
+-- One page's entry set, and what is seen then.
+use Rattle.vm_types.proofs.Modes.{user_pages_fit}
+use Rattle.vm_types.specs.Limits.{top_level}
+use Rattle.std.proofs.Common.{◌≡◌, ◌≢◌, ℕ, inl, inr, ◌⊎◌, ◌<◌, true, false, List, Option, Some, None, refl, sym, ap, ◌∙◌, subst, arith}
+use Rattle.std.specs.Prelude.{option_map}
+use Rattle.vm_types.specs.declared.object.PageKey.{PageKey}
+use Rattle.frames.specs.declared.role.Role.{Role}
+use Rattle.frames.specs.declared.role.Role.TheVariants.{Table, Private, Cache}
+use Rattle.frames.specs.FrameTable.{FrameTable, bytes_of, role_of, with_bytes}
+use Rattle.frames.proofs.FrameLemmas.{with_bytes-others}
+use Rattle.sv39_walk.specs.Entry.{is_valid, is_dirty, frame_of}
+use Rattle.page_tables.specs.Tree.{IsPage}
+use Rattle.page_tables.proofs.Data.{KeepsTrees, data_written}
+use Rattle.page_cache.specs.declared.place.Place.{Place}
+use Rattle.page_cache.specs.declared.place.Place.TheVariants.{Home, Frame, Slot}
+use Rattle.residency.specs.Seats.{Seat, InFrame, InSlot, seat, is_private}
+use Rattle.residency.specs.Picture.{Picture, entry, view, held, bytes_at, bytes_in, IsOwned, count_in, page_in}
+use Rattle.residency.specs.Parts.{IsRootedBut, IsGranting, IsEntryFor, IsFitBut, nowhere}
+use Rattle.residency.specs.Steps.{SameBeside, KeepsShares, SetsPage}
+use Rattle.residency.proofs.Entries.{entries_kept}
+use Rattle.residency.proofs.Granting.{granting_changed}
+use Rattle.residency.proofs.LeafSteps.{cases_attr}
+use Rattle.residency.proofs.Linked.{fit_same}
+use Rattle.residency.proofs.Moves.{behind_kept, owned_forth, owned_back, count_kept, page_kept, view_kept, view-none}
+use Rattle.residency.proofs.Places.{places_same, dirty_changed}
+use Rattle.residency.proofs.Rooted.{rooted_same}
+use Rattle.residency.proofs.Seats.{counted_same, counted_filled, off-none}
+use Rattle.residency.proofs.Ways.{by_page}
+
+-- a page whose own copy lies in the same seat, with the same bytes, is seen as before
+own_kept : {mode : ℕ} (old new : Picture mode) (o o' : Option Seat) → o' ≡ o → ((z : Seat) → o ≡ Some z → bytes_in new.frames new.slots z ≡ bytes_in old.frames old.slots z)
+    → option_map (bytes_in new.frames new.slots) o' ≡ option_map (bytes_in old.frames old.slots) o
+own_kept old new None o' e each = ap (λ x. option_map (bytes_in new.frames new.slots) x) e
+own_kept old new (Some z) o' e each = ap (λ x. option_map (bytes_in new.frames new.slots) x) e ∙ ap (λ b. Some b) (each z refl)
+
+pub view_seated : {mode : ℕ} (old new : Picture mode) (q p : ℕ) → new.at q p ≡ old.at q p → seat (entry new q p) ≡ seat (entry old q p)
+    → ((z : Seat) → seat (entry old q p) ≡ Some z → bytes_in new.frames new.slots z ≡ bytes_in old.frames old.slots z) → view new q p ≡ view old q p
+view_seated old new q p at same bytes = view_kept old new q p at (own_kept old new (seat (entry old q p)) (seat (entry new q p)) same bytes)
+
+-- pages that are no user pages show nothing
+pub each_view : {mode : ℕ} (old new : Picture mode) → IsGranting old → ((q p : ℕ) → new.at q p ≡ old.at q p) → (q p : ℕ) → (IsPage (top_level mode) p → view new q p ≡ view old q p) → view new q p ≡ view old q p
+each_view {mode = mode} old new granting at q p each = elim (cases_attr (old.at q p)) [
+  | inl none ↦ view-none new q p (at q p ∙ none) ∙ sym (view-none old q p none)
+  | inr some ↦ each (let u = ((granting.user q).user_pages p some).1 in omega (arith, u, user_pages_fit mode))
+]
+
+-- file pages lie where they lay, and their bytes are the same
+bytes_there : {mode : ℕ} (old new : Picture mode) (x : Place) → new.slots ≡ old.slots → ((m : ℕ) → x ≡ Frame (record { 0 = m }) → bytes_of new.frames m ≡ bytes_of old.frames m)
+    → bytes_at new.frames new.slots x ≡ bytes_at old.frames old.slots x
+bytes_there old new Home slots same = refl
+bytes_there old new (Frame m) slots same = ap (λ (w : _). Some w) (same m.0 refl)
+bytes_there old new (Slot j) slots same = ap (λ t. Some (t.bytes j.0)) slots
+
+pub held_same : {mode : ℕ} (old new : Picture mode) (p : PageKey) → new.place p ≡ old.place p → new.slots ≡ old.slots
+    → ((m : ℕ) → old.place p ≡ Frame (record { 0 = m }) → bytes_of new.frames m ≡ bytes_of old.frames m) → held new p ≡ held old p
+unfolding held
+held_same old new p place slots same = ap (λ x. bytes_at new.frames new.slots x) place ∙ bytes_there old new (old.place p) slots same
+
+no_table : (r s : Role) → r ≡ s → s ≢ Table → r ≢ Table
+no_table r s e ne f = ne (sym e ∙ f)
+
+-- The entry of a page was set.
+module _ {mode : ℕ} (old new : Picture mode) (pid page number m : ℕ) (sets : SetsPage old new pid page number) (h : IsPage (top_level mode) page)
+    (for : IsEntryFor new (old.at pid page) number) (rooted : IsRootedBut new m)
+    (dirty : (p : PageKey) → is_valid number ≡ true → is_private number ≡ false → is_dirty number ≡ true → old.place p ≡ Frame (record { 0 = frame_of number }) → old.touched p ≡ true) where
+  granted : (x : Seat) (d : ℕ) → IsFitBut old x d m → IsGranting new
+  granted x d fit = granting_changed old new pid page fit.granting (behind_kept old new sets.beside)
+      (λ q p h' private one. sets.shares.counts (frame_of (entry old q p)) (fit.counted.1.named q p (InFrame (frame_of (entry old q p))) h' (rw private refl)) ∙ one)
+      sets.beside.at sets.others (let P : ℕ → Type 0 = λ e. IsEntryFor new (old.at pid page) e in subst P (sym sets.changed) for)
+
+  here : (p : PageKey) → is_valid (entry new pid page) ≡ true → is_private (entry new pid page) ≡ false → is_dirty (entry new pid page) ≡ true
+      → old.place p ≡ Frame (record { 0 = frame_of (entry new pid page) }) → old.touched p ≡ true
+  here p valid common bit at = dirty p (sym (ap is_valid sets.changed) ∙ valid) (sym (ap is_private sets.changed) ∙ common) (sym (ap is_dirty sets.changed) ∙ bit)
+      (at ∙ ap (λ x. Frame (record { 0 = frame_of x })) sets.changed)
+
+  -- it names the seat that it named, or none as before
+  module _ (same : seat number ≡ seat (entry old pid page)) where
+    pub seats_set : (q p : ℕ) → IsPage (top_level mode) p → seat (entry new q p) ≡ seat (entry old q p)
+    seats_set q p h' = elim (by_page q p pid page) [
+      | inl e ↦ (
+          let P : ℕ → Type 0 = λ x. seat (entry new x p) ≡ seat (entry old x p) in
+          let Q : ℕ → Type 0 = λ x. seat (entry new pid x) ≡ seat (entry old pid x) in
+          subst P (sym e.0) (subst Q (sym e.1) (ap seat sets.changed ∙ same)))
+      | inr other ↦ ap seat (sets.others q p h' other)
+    ]
+
+    pub fit_set : (x : Seat) (d : ℕ) → IsFitBut old x d m → IsFitBut new x d m
+    fit_set x d fit = record {
+      counted = (
+        fit.counted.0,
+        counted_same mode (entry old) (entry new) (IsOwned old) (IsOwned new) (count_in old) (count_in new) (page_in old fit.counted.0) (page_in new fit.counted.0)
+            seats_set x d fit.counted.1 (owned_forth old new sets.beside sets.shares) (owned_back old new sets.beside sets.shares) (count_kept old new sets.beside sets.shares)
+            (λ z is. page_kept old new fit.counted.0 sets.beside z),
+      );
+      rooted = rooted;
+      granting = granted x d fit;
+      places = places_same old new fit.places sets.beside.place sets.beside.at sets.beside.files sets.beside.slots sets.shares.cache sets.shares.was_cache;
+      dirty = dirty_changed old new pid page fit.dirty sets.beside.place sets.beside.touched sets.others here;
+    }
+
+  -- it names seat y, whose count was off, and named none before
+  pub fit_filled : (y : Seat) → IsFitBut old y 1 m → IsOwned old y → (noted : (sp : ℕ → ℕ) → page_in old sp y ≡ page) → pid < 65 → seat (entry old pid page) ≡ None → seat number ≡ Some y
+      → IsFitBut new nowhere 0 m
+  fit_filled y fit has noted below from to = record {
+    counted = (
+      fit.counted.0,
+      counted_filled mode (entry old) (entry new) (IsOwned old) (IsOwned new) (count_in old) (count_in new) (page_in old fit.counted.0) (page_in new fit.counted.0)
+          y pid page fit.counted.1 (owned_forth old new sets.beside sets.shares) (owned_back old new sets.beside sets.shares) (count_kept old new sets.beside sets.shares)
+          (λ z is. page_kept old new fit.counted.0 sets.beside z) has (noted fit.counted.0) h below from (ap seat sets.changed ∙ to) sets.others nowhere (off-none nowhere),
+    );
+    rooted = rooted;
+    granting = granted y 1 fit;
+    places = places_same old new fit.places sets.beside.place sets.beside.at sets.beside.files sets.beside.slots sets.shares.cache sets.shares.was_cache;
+    dirty = dirty_changed old new pid page fit.dirty sets.beside.place sets.beside.touched sets.others here;
+  }
+
+-- what is seen where an entry was set
+module _ {mode : ℕ} (old new : Picture mode) (pid page number m : ℕ) (x : Seat) (d : ℕ) (fit : IsFitBut old x d m) (sets : SetsPage old new pid page number) where
+  seat_bytes : (z : Seat) → IsOwned old z → bytes_in new.frames new.slots z ≡ bytes_in old.frames old.slots z
+  seat_bytes (InFrame n) is = sets.bytes n (no_table (role_of old.frames n) Private is (λ e. (cc)))
+  seat_bytes (InSlot k) is = ap (λ t. t.bytes k) sets.beside.slots
+
+  pub other_views : (q p : ℕ) → (q ≢ pid) ⊎ (p ≢ page) → view new q p ≡ view old q p
+  other_views q p other = each_view old new fit.granting sets.beside.at q p (λ h. view_seated old new q p (sets.beside.at q p) (ap seat (sets.others q p h other))
+      (λ z is. seat_bytes z (fit.counted.1.named q p z h is)))
+
+  pub set_views : IsPage (top_level mode) page → seat number ≡ seat (entry old pid page) → (q p : ℕ) → view new q p ≡ view old q p
+  set_views h same q p = elim (by_page q p pid page) [
+    | inl e ↦ (
+        let P : ℕ → Type 0 = λ a. view new a p ≡ view old a p in
+        let Q : ℕ → Type 0 = λ a. view new pid a ≡ view old pid a in
+        subst P (sym e.0) (subst Q (sym e.1) (view_seated old new pid page (sets.beside.at pid page) (ap seat sets.changed ∙ same)
+        (λ z is. seat_bytes z (fit.counted.1.named pid page z h is)))))
+    | inr other ↦ other_views q p other
+  ]
+
+  pub set_held : (p : PageKey) → held new p ≡ held old p
+  set_held p = held_same old new p (sets.beside.place p) sets.beside.slots
+      (λ n at. sets.bytes n (no_table (role_of old.frames n) Cache (fit.places.cached p n at) (λ e. (cc))))
+
+-- The bytes of a frame that is no table were written, where no entry names it yet.
+pub shares_written : (old new : FrameTable) (n : ℕ) (w : List ℕ) → new ≡ with_bytes old n w → KeepsShares old new
+shares_written old new n w is =
+    let P : FrameTable → Type 0 = λ t. KeepsShares old t in
+    subst P (sym is) (record { private = λ m e. e; was_private = λ m e. e; cache = λ m e. e; was_cache = λ m e. e; counts = λ m e. refl })
+
+module _ {mode : ℕ} (old new : Picture mode) (x : Seat) (d m n : ℕ) (w : List ℕ) (fit : IsFitBut old x d m) (frames : new.frames ≡ with_bytes old.frames n w) (beside : SameBeside old new)
+    (datum : role_of old.frames n ≢ Table) where
+  pub trees_written : KeepsTrees old.frames new.frames (top_level mode)
+  trees_written = let P : FrameTable → Type 0 = λ t. KeepsTrees old.frames t (top_level mode) in subst P (sym frames) (data_written old.frames (top_level mode) n w fit.rooted.forest datum)
+
+  pub entries_written : (q p : ℕ) → entry new q p ≡ entry old q p
+  entries_written = entries_kept old new m fit.rooted trees_written.entries beside.root
+
+  pub fit_written : IsFitBut new x d m
+  fit_written = fit_same old new x d m m fit beside (shares_written old.frames new.frames n w frames) (λ q p h. entries_written q p)
+      (rooted_same old new m fit.rooted trees_written beside.root beside.at)
+
+  pub bytes_else : (k : ℕ) → k ≢ n → bytes_of new.frames k ≡ bytes_of old.frames k
+  bytes_else k ne = ap (λ t. bytes_of t k) frames ∙ (with_bytes-others old.frames n w).bytes k ne

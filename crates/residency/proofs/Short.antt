@@ -1,0 +1,82 @@
+-- Where no frame is to be had, memory is full of tables.
+use Rattle.std.proofs.Common.{◌≡◌, ℕ, zero, suc, inl, inr, ◌+◌, ◌<◌, ◌≤◌, Bool, true, false, ◌||◌, ◌==◌, Option, Some, None, refl, ap, arith, eq-eqb, ne_eqb}
+use Rattle.std.proofs.lemmas.Bool.{cases_eq, cases_Bool, false≢true}
+use Rattle.vm_types.specs.declared.number.FrameNo.{FrameNo}
+use Rattle.vm_types.specs.declared.refusal.Stall.TheVariants.{NoFrames}
+use Rattle.vm_types.specs.Counting.{count_below}
+use Rattle.frames.specs.declared.role.Role.{Role}
+use Rattle.frames.specs.declared.role.Role.TheVariants.{Free, Zero, Table, Private, Cache}
+use Rattle.frames.specs.FrameTable.{FrameTable, frame_count, role_of, IsFrame, IsSound}
+use Rattle.residency.specs.Picture.{Picture, is_data}
+use Rattle.residency.specs.Calls.{IsToKeep, Refuses}
+use Rattle.residency.specs.Capacity.{is_table, table_frames}
+
+count-or : (f g : ℕ → Bool) (n : ℕ) → count_below (λ k. f k || g k) n ≤ count_below f n + count_below g n
+unfolding count_below
+count-or f g zero = omega arith
+count-or f g (suc n) = let rest = count-or f g n in elim (cases_Bool (f n)) [
+  | inl t ↦ rw t (omega (arith, rest))
+  | inr f' ↦ elim (cases_Bool (g n)) [
+    | inl t ↦ rw (f', t) (omega (arith, rest))
+    | inr g' ↦ rw (f', g') (omega (arith, rest))
+  ]
+]
+
+count-before : (x n : ℕ) → n ≤ x → count_below (λ k. k == x) n ≡ 0
+unfolding count_below
+count-before x zero le = refl
+count-before x (suc n) le = let rest = count-before x n (omega (arith, le)) in rw (ne_eqb n x (λ e. (omega (arith, e, le)))) (omega (arith, rest))
+
+count-point : (x n : ℕ) → count_below (λ k. k == x) n ≤ 1
+unfolding count_below
+count-point x zero = omega arith
+count-point x (suc n) = elim (cases_eq n x) [
+  | inl e ↦ (let none = count-before x n (omega (arith, e)) in rw (eq-eqb n x e) (omega (arith, none)))
+  | inr ne ↦ (let rest = count-point x n in rw (ne_eqb n x ne) (omega (arith, rest)))
+]
+
+count-full : (f : ℕ → Bool) (n : ℕ) → ((k : ℕ) → k < n → f k ≡ true) → count_below f n ≡ n
+unfolding count_below
+count-full f zero each = refl
+count-full f (suc n) each = let rest = count-full f n (λ k lt. each k (omega (arith, lt))) in rw (each n (omega arith)) (omega (arith, rest))
+
+abbrev kept_number : Option FrameNo → ℕ
+kept_number None = 0
+kept_number (Some k) = k.0
+
+-- zero page, table or frame to keep
+abbrev is_bound : FrameTable → Option FrameNo → ℕ → Bool
+is_bound t keep n = is_table (role_of t n) || ((n == 0) || (n == kept_number keep))
+
+module _ {mode : ℕ} (c : Picture mode) (keep : Option FrameNo) (sound : IsSound c.frames) (refuses : Refuses c keep NoFrames) where
+  or_right : (a b : Bool) → b ≡ true → (a || b) ≡ true
+  or_right false b t = t
+  or_right true b t = refl
+
+  or_left : (a b : Bool) → a ≡ true → (a || b) ≡ true
+  or_left false b t = absurd (false≢true t)
+  or_left true b t = refl
+
+  kept : (keep' : Option FrameNo) (n : ℕ) → ((IsToKeep keep' n → ⊥) → ⊥) → (n == kept_number keep') ≡ true
+  kept None n not_not = absurd (not_not (λ none. none))
+  kept (Some k) n not_not = elim (cases_eq n k.0) [
+    | inl e ↦ eq-eqb n k.0 e
+    | inr ne ↦ absurd (not_not ne)
+  ]
+
+  bound : (n : ℕ) → IsFrame c.frames n → (r : Role) → role_of c.frames n ≡ r → is_bound c.frames keep n ≡ true
+  bound n inside Free e = absurd (refuses.0 n inside e)
+  bound n inside Zero e = or_right (is_table (role_of c.frames n)) _ (or_left (n == 0) _ (eq-eqb n 0 (sound.zero_alone n e)))
+  bound n inside Table e = or_left (is_table (role_of c.frames n)) _ (ap is_table e)
+  bound n inside Private e = or_right (is_table (role_of c.frames n)) _ (or_right (n == 0) _ (kept keep n (λ free. refuses.1 n (ap is_data e, free))))
+  bound n inside Cache e = or_right (is_table (role_of c.frames n)) _ (or_right (n == 0) _ (kept keep n (λ free. refuses.1 n (ap is_data e, free))))
+
+  pub few_frames : frame_count c.frames ≤ table_frames c.frames + 2
+  unfolding table_frames
+  few_frames =
+      let all = count-full (is_bound c.frames keep) (frame_count c.frames) (λ k lt. bound k lt (role_of c.frames k) refl) in
+      let a = count-or (λ n. is_table (role_of c.frames n)) (λ n. (n == 0) || (n == kept_number keep)) (frame_count c.frames) in
+      let b = count-or (λ n. n == 0) (λ n. n == kept_number keep) (frame_count c.frames) in
+      let p = count-point 0 (frame_count c.frames) in
+      let q = count-point (kept_number keep) (frame_count c.frames) in
+      omega (arith, all, a, b, p, q)

@@ -1,0 +1,118 @@
+-- Memory as it is made.
+use Rattle.std.proofs.Common.{◌≡◌, ◌≢◌, ℕ, inl, inr, ◌⊎◌, false, Option, Some, None, refl, sym, ap, ◌∙◌, subst, arith}
+use Rattle.std.specs.Prelude.{IsSome}
+use Rattle.std.proofs.lemmas.Bool.{cases_eq, cases_lt, false≢true}
+use Rattle.std.proofs.lemmas.List.{get_or_past}
+use Rattle.vm_types.specs.Objects.{names, uses}
+use Rattle.vm_types.specs.declared.object.PageKey.{PageKey}
+use Rattle.vm_types.specs.declared.region.Attr.{Attr}
+use Rattle.frames.specs.declared.role.Role.TheVariants.{Free, Zero, Table, Private, Cache}
+use Rattle.frames.specs.FrameTable.{FrameTable, frame_count, role_of, IsSound, IsFresh}
+use Rattle.sv39_walk.specs.Entry.{has_bit}
+use Rattle.page_tables.proofs.Keeping.{fresh_forest}
+use Rattle.page_cache.specs.declared.place.Place.TheVariants.{Home, Frame, Slot}
+use Rattle.residency.specs.Picture.{Picture, entry, is_private, entry_in, IsOwned}
+use Rattle.residency.specs.Seats.{Seat, InFrame, InSlot, seat}
+use Rattle.residency.specs.Parts.{IsFit, Nothing}
+
+pub no_bit : is_private 0 ≡ false
+unfolding has_bit
+no_bit = refl
+
+pub seat-none : seat 0 ≡ None
+unfolding has_bit
+seat-none = refl
+
+module _ {mode : ℕ} where
+  pub entry-dead : (c : Picture mode) (pid page : ℕ) → c.root pid ≡ None → entry c pid page ≡ 0
+  unfolding entry
+  entry-dead c pid page dead = ap (λ r. entry_in mode c.frames r page) dead
+
+-- the roles of memory of which no frame was handed out
+fresh_role : (t : FrameTable) (count n : ℕ) → IsSound t → IsFresh t count → (role_of t n ≡ Free) ⊎ (role_of t n ≡ Zero)
+fresh_role t count n sound fresh = elim (cases_eq n 0) [
+  | inl e ↦ inr (ap (role_of t) e ∙ sound.zero_role)
+  | inr ne ↦ elim (cases_lt n (frame_count t)) [
+    | inl inside ↦ inl (fresh.free n (omega arith) inside)
+    | inr past ↦ inl (get_or_past t.roles n Free (omega (arith, sound.all_roles, past)))
+  ]
+]
+
+module _ {mode : ℕ} (c : Picture mode) (count : ℕ) (sound : IsSound c.frames) (fresh : IsFresh c.frames count) (dead : (pid : ℕ) → c.root pid ≡ None)
+    (unmapped : (pid page : ℕ) → c.at pid page ≡ None) (home : (p : PageKey) → c.place p ≡ Home) (untouched : (p : PageKey) → c.touched p ≡ false)
+    (free : (k : ℕ) → c.slots.count k ≡ 0) where
+  no_private : (n : ℕ) → role_of c.frames n ≢ Private
+  no_private n e = elim (fresh_role c.frames count n sound fresh) [
+    | inl f ↦ (let bad : Free ≡ Private = sym f ∙ e in (cc))
+    | inr z ↦ (let bad : Zero ≡ Private = sym z ∙ e in (cc))
+  ]
+
+  no_cache : (n : ℕ) → role_of c.frames n ≢ Cache
+  no_cache n e = elim (fresh_role c.frames count n sound fresh) [
+    | inl f ↦ (let bad : Free ≡ Cache = sym f ∙ e in (cc))
+    | inr z ↦ (let bad : Zero ≡ Cache = sym z ∙ e in (cc))
+  ]
+
+  no_table : (n : ℕ) → role_of c.frames n ≢ Table
+  no_table n e = elim (fresh_role c.frames count n sound fresh) [
+    | inl f ↦ (let bad : Free ≡ Table = sym f ∙ e in (cc))
+    | inr z ↦ (let bad : Zero ≡ Table = sym z ∙ e in (cc))
+  ]
+
+  no_root : (pid r : ℕ) → c.root pid ≡ Some r → ⊥
+  no_root pid r e = let bad : None ≡ Some r = sym (dead pid) ∙ e in (cc)
+
+  no_seat : (pid page : ℕ) (y : Seat) → seat (entry c pid page) ≡ Some y → ⊥
+  no_seat pid page y e = let none : seat (entry c pid page) ≡ None = ap seat (entry-dead c pid page (dead pid)) ∙ seat-none in let bad : None ≡ Some y = sym none ∙ e in (cc)
+
+  not_owned : (y : Seat) → IsOwned c y → ⊥
+  not_owned (InFrame n) e = no_private n e
+  not_owned (InSlot k) e = let none = free k in let some = e.0 in omega (arith, none, some)
+
+  no_frame : (p : PageKey) (n : ℕ) → c.place p ≡ Frame (record { 0 = n }) → ⊥
+  no_frame p n e = let bad : Home ≡ Frame (record { 0 = n }) = sym (home p) ∙ e in (cc)
+
+  pub start_fit : IsFit c
+  start_fit = record {
+    counted = (
+      λ k. 0,
+      record {
+        counts = λ y e. absurd (not_owned y e);
+        pages = λ y e. absurd (not_owned y e);
+        named = λ pid page y h e. absurd (no_seat pid page y e);
+        noted = λ pid page y h e. absurd (no_seat pid page y e);
+      },
+    );
+    rooted = record {
+      forest = fresh_forest c.frames count sound fresh;
+      roots = λ pid r e. absurd (no_root pid r e);
+      apart = λ p q r e f. absurd (no_root p r e);
+      numbers = λ pid r e. absurd (no_root pid r e);
+      used = λ m table. absurd (no_table m table.role);
+    };
+    granting = record {
+      entries = λ pid page h. Nothing (entry-dead c pid page (dead pid));
+      user = λ pid. record {
+        user_pages = λ page some. absurd (false≢true (let P : Option Attr → Type 0 = λ x. IsSome x in subst P (unmapped pid page) some));
+        file_pages = λ page. rw (unmapped pid page) tt;
+      };
+      readable = λ pid page. rw (unmapped pid page) tt;
+      objects = record {
+        one_page = λ p q j k object page here there. absurd (false≢true (sym (ap (λ a. names a object page) (unmapped p j)) ∙ here));
+        below = λ pid page object here. absurd (false≢true (sym (ap (λ a. uses a object) (unmapped pid page)) ∙ here));
+      };
+    };
+    places = record {
+      cached = λ p n e. absurd (no_frame p n e);
+      held = λ n e. absurd (no_cache n e);
+      apart = λ p q e away. absurd (away (home p));
+      slotted = λ p k e. (let bad : Home ≡ Slot (record { 0 = k }) = sym (home p) ∙ e in (cc));
+      used = λ k some. absurd (let none = free k in omega (arith, none, some));
+      inside = λ p away. absurd (away (home p));
+    };
+    dirty = record {
+      dirty = λ pid page p h valid common dirty here. absurd (no_frame p _ here);
+      held = λ p e at_home. false≢true (sym (untouched p) ∙ e);
+      slotted = λ p k e. (let bad : Home ≡ Slot (record { 0 = k }) = sym (home p) ∙ e in (cc));
+    };
+  }

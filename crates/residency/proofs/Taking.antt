@@ -1,0 +1,131 @@
+-- A frame taken for a process's own, and a frame given back that no entry names.
+use Rattle.vm_types.specs.Limits.{top_level}
+use Rattle.std.proofs.Common.{◌≡◌, ◌≢◌, ℕ, inl, inr, ◌<◌, refl, sym, ap, ◌∙◌, subst}
+use Rattle.std.proofs.lemmas.Bool.{cases_eq}
+use Rattle.vm_types.specs.declared.object.PageKey.{PageKey}
+use Rattle.frames.specs.declared.role.Role.TheVariants.{Free, Table, Private, Cache}
+use Rattle.frames.specs.FrameTable.{role_of, count_of}
+use Rattle.swap.specs.Slots.{SlotTable}
+use Rattle.sv39_walk.specs.Entry.{frame_of}
+use Rattle.page_tables.specs.Tree.{IsPage}
+use Rattle.page_tables.proofs.Data.{KeepsTrees, data_changed}
+use Rattle.residency.specs.Seats.{Seat, InFrame, InSlot, seat}
+use Rattle.residency.specs.Picture.{Picture, entry, view, held, bytes_in, IsOwned, count_in, page_in}
+use Rattle.residency.specs.Parts.{IsFit, IsFitBut, nowhere}
+use Rattle.residency.specs.Steps.{TakesOwn, ChangesFrame}
+use Rattle.residency.proofs.Entries.{entries_kept}
+use Rattle.residency.proofs.Granting.{granting_same}
+use Rattle.residency.proofs.Places.{places_same, dirty_same}
+use Rattle.residency.proofs.Rooted.{rooted_same}
+use Rattle.residency.proofs.Seats.{counted_same, counted_fresh}
+use Rattle.residency.proofs.Setting.{view_seated, each_view, held_same}
+
+seat_frame : Seat → ℕ
+seat_frame (InFrame n) = n
+seat_frame (InSlot k) = 0
+
+pub changes_taken : {mode : ℕ} (old new : Picture mode) (n page : ℕ) → TakesOwn old new n page → ChangesFrame old new n
+changes_taken old new n page own = record {
+  slots = own.slots;
+  frames = own.takes.others;
+  was_free = own.takes.was_free;
+  others = own.others;
+  root = own.root;
+  at = own.at;
+  place = own.place;
+  touched = own.touched;
+  files = own.files;
+}
+
+module _ {mode : ℕ} (old new : Picture mode) (n : ℕ) (fit : IsFit old) (changes : ChangesFrame old new n) (datum : role_of new.frames n ≢ Table) where
+  used_ne : (m : ℕ) → role_of old.frames m ≢ Free → m ≢ n
+  used_ne m used e = used (ap (role_of old.frames) e ∙ changes.was_free)
+
+  pub private_ne : (m : ℕ) → role_of old.frames m ≡ Private → m ≢ n
+  private_ne m own = used_ne m (λ free. (let bad : Private ≡ Free = sym own ∙ free in (cc)))
+
+  pub cache_ne : (m : ℕ) → role_of old.frames m ≡ Cache → m ≢ n
+  cache_ne m cache = used_ne m (λ free. (let bad : Cache ≡ Free = sym cache ∙ free in (cc)))
+
+  pub trees_changed : KeepsTrees old.frames new.frames (top_level mode)
+  trees_changed = data_changed old.frames new.frames (top_level mode) n fit.rooted.forest changes.frames (λ t. (let bad : Free ≡ Table = sym changes.was_free ∙ t in (cc))) datum
+
+  pub entries_changed : (q p : ℕ) → entry new q p ≡ entry old q p
+  entries_changed = entries_kept old new 0 fit.rooted trees_changed.entries changes.root
+
+  seat_bytes : (z : Seat) → IsOwned old z → bytes_in new.frames new.slots z ≡ bytes_in old.frames old.slots z
+  seat_bytes (InFrame m) is = changes.frames.bytes m (private_ne m is)
+  seat_bytes (InSlot k) is = ap (λ t. t.bytes k) changes.slots
+
+  pub views_changed : (q p : ℕ) → view new q p ≡ view old q p
+  views_changed q p = each_view old new fit.granting changes.at q p (λ h. view_seated old new q p (changes.at q p) (ap seat (entries_changed q p))
+      (λ z is. seat_bytes z (fit.counted.1.named q p z h is)))
+
+  pub held_changed : (p : PageKey) → held new p ≡ held old p
+  held_changed p = held_same old new p (changes.place p) changes.slots (λ m at. changes.frames.bytes m (cache_ne m (fit.places.cached p m at)))
+
+  frame_ne : (m : ℕ) → InFrame m ≢ InFrame n → m ≢ n
+  frame_ne m ne e = ne (ap (λ i. InFrame i) e)
+
+  forth : (z : Seat) → IsOwned old z → IsOwned new z
+  forth (InFrame m) is = changes.frames.roles m (private_ne m is) ∙ is
+  forth (InSlot k) is = ((let P : SlotTable → Type 0 = λ t. 0 < t.count k in subst P (sym changes.slots) is.0), λ p e. is.1 p (sym (changes.place p) ∙ e))
+
+  back : (z : Seat) → z ≢ InFrame n → IsOwned new z → IsOwned old z
+  back (InFrame m) ne is = sym (changes.frames.roles m (frame_ne m ne)) ∙ is
+  back (InSlot k) ne is = ((let P : SlotTable → Type 0 = λ t. 0 < t.count k in subst P changes.slots is.0), λ p e. is.1 p (changes.place p ∙ e))
+
+  counts : (z : Seat) → z ≢ InFrame n → IsOwned old z → count_in new z ≡ count_in old z
+  counts (InFrame m) ne is = changes.frames.counts m (frame_ne m ne)
+  counts (InSlot k) ne is = ap (λ t. t.count k) changes.slots
+
+  pages : (z : Seat) → z ≢ InFrame n → IsOwned old z → page_in new fit.counted.0 z ≡ page_in old fit.counted.0 z
+  pages (InFrame m) ne is = changes.others m (frame_ne m ne)
+  pages (InSlot k) ne is = refl
+
+  owned_ne : (z : Seat) → IsOwned old z → z ≢ InFrame n
+  unfolding seat_frame
+  owned_ne (InFrame m) is e = private_ne m is (ap seat_frame e)
+  owned_ne (InSlot k) is e = (cc)
+
+  cache_back : (m : ℕ) → role_of new.frames n ≢ Cache → role_of new.frames m ≡ Cache → role_of old.frames m ≡ Cache
+  cache_back m other e = elim (cases_eq m n) [
+    | inl is ↦ absurd (other (ap (role_of new.frames) (sym is) ∙ e))
+    | inr ne ↦ sym (changes.frames.roles m ne) ∙ e
+  ]
+
+  -- it is private, and no entry names it yet
+  pub fit_own : (page : ℕ) → role_of new.frames n ≡ Private → count_of new.frames n ≡ 1 → new.page_of n ≡ page → IsPage (top_level mode) page → IsFitBut new (InFrame n) 1 0
+  fit_own page role one noted h = record {
+    counted = (
+      fit.counted.0,
+      counted_fresh mode (entry old) (entry new) (IsOwned old) (IsOwned new) (count_in old) (count_in new) (page_in old fit.counted.0) (page_in new fit.counted.0)
+          (λ q p h'. ap seat (entries_changed q p)) (InFrame n) nowhere page fit.counted.1
+          (λ is. private_ne n is refl) (λ z ne is. forth z is) back counts pages one noted h,
+    );
+    rooted = rooted_same old new 0 fit.rooted trees_changed changes.root changes.at;
+    granting = granting_same old new fit.granting (record { place = λ p m e. changes.place p ∙ e; files = changes.files })
+        (λ pid k h' own one'. changes.frames.counts (frame_of (entry old pid k)) (private_ne _ (fit.counted.1.named pid k (InFrame (frame_of (entry old pid k))) h' (rw own refl))) ∙ one') changes.at (λ pid k h'. entries_changed pid k);
+    places = places_same old new fit.places changes.place changes.at changes.files changes.slots (λ m e. changes.frames.roles m (cache_ne m e) ∙ e)
+        (λ m e. cache_back m (λ c. (let bad : Private ≡ Cache = sym role ∙ c in (cc))) e);
+    dirty = dirty_same old new fit.dirty changes.place changes.touched (λ pid k h'. entries_changed pid k);
+  }
+
+  -- it is free again
+  pub fit_spent : role_of new.frames n ≡ Free → IsFit new
+  fit_spent free =
+      let not_owned : (z : Seat) → IsOwned new z → z ≢ InFrame n = λ z is e. (let owned = subst (IsOwned new) e is in let bad : Private ≡ Free = sym owned ∙ free in (cc)) in
+      record {
+        counted = (
+          fit.counted.0,
+          counted_same mode (entry old) (entry new) (IsOwned old) (IsOwned new) (count_in old) (count_in new) (page_in old fit.counted.0) (page_in new fit.counted.0)
+              (λ q p h. ap seat (entries_changed q p)) nowhere 0 fit.counted.1 forth (λ z is. back z (not_owned z is) is)
+              (λ z is. counts z (owned_ne z is) is) (λ z is. pages z (owned_ne z is) is),
+        );
+        rooted = rooted_same old new 0 fit.rooted trees_changed changes.root changes.at;
+        granting = granting_same old new fit.granting (record { place = λ p m e. changes.place p ∙ e; files = changes.files })
+            (λ pid k h' own one'. changes.frames.counts (frame_of (entry old pid k)) (private_ne _ (fit.counted.1.named pid k (InFrame (frame_of (entry old pid k))) h' (rw own refl))) ∙ one') changes.at (λ pid k h'. entries_changed pid k);
+        places = places_same old new fit.places changes.place changes.at changes.files changes.slots (λ m e. changes.frames.roles m (cache_ne m e) ∙ e)
+            (λ m e. cache_back m (λ c. (let bad : Free ≡ Cache = sym free ∙ c in (cc))) e);
+        dirty = dirty_same old new fit.dirty changes.place changes.touched (λ pid k h'. entries_changed pid k);
+      }

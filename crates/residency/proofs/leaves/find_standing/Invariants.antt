@@ -1,0 +1,14 @@
+use Rattle.vm_types.specs.Limits.{user_end}
+use Rattle.std.proofs.Common.{ℕ, ◌-◌, ◌<◌, ◌≤◌}
+use Rattle.residency.specs.Picture.{picture_of}
+use Rattle.residency.specs.Leaves.{IsOver}
+use Rattle.residency.proofs.leaves.find_standing.Given as goal
+
+abbrev pub invariant-loop-at : goal.invariant-loop-at
+invariant-loop-at g l = record {
+  low : l.low ≤ l.from;
+  before : (j : ℕ) → l.low ≤ j → j < l.from → IsOver (picture_of l.core) l.change l.frame.0 l.pid j → ⊥;
+}
+
+abbrev pub decreases-loop-at : goal.decreases-loop-at
+decreases-loop-at g l = user_end g.M.Levels.mode - l.from

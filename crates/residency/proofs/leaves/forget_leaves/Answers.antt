@@ -1,0 +1,31 @@
+use Rattle.vm_types.proofs.Modes.{user_pages_fit}
+use Rattle.std.proofs.Common.{sym, subst, arith}
+use Rattle.frames.specs.FrameTable.{FrameTable}
+use Rattle.residency.specs.Picture.{Picture, picture_of}
+use Rattle.residency.specs.Parts.{IsFit}
+use Rattle.residency.specs.declared.leaves.Change.TheVariants.{Forget}
+use Rattle.residency.specs.Leaves.{ChangesLeaves, IsClear}
+use Rattle.residency.proofs.LeafSteps.{names_over}
+use Rattle.residency.proofs.leaves.forget_leaves.Goals as goal
+
+pub forget_pages-requires-clause-none : goal.forget_pages-requires-clause-none
+forget_pages-requires-clause-none g c = λ root page names.
+    let core = c.change_leaves.new.core in
+    let over = names_over (picture_of core) c.args.frame.0 root page c.change_leaves.ensures.fit core.sound.zero_role names in
+    let l = names.is.inside in
+    c.change_leaves.ensures.clear over.0 page (omega (arith, l, user_pages_fit g.M.Levels.mode)) over.1
+
+pub returns-clause-fit : goal.returns-clause-fit
+returns-clause-fit g c =
+    let mid : Picture g.M.Levels.mode = picture_of c.change_leaves.new.core in
+    subst (λ (t : FrameTable). IsFit (record mid { frames = t })) (sym c.forget_pages.ensures.same) c.change_leaves.ensures.fit
+
+pub returns-clause-changes : goal.returns-clause-changes
+returns-clause-changes g c =
+    let mid : Picture g.M.Levels.mode = picture_of c.change_leaves.new.core in
+    subst (λ (t : FrameTable). ChangesLeaves Forget c.args.frame.0 (picture_of c.args.core.now) (record mid { frames = t })) (sym c.forget_pages.ensures.same) c.change_leaves.ensures.changes
+
+pub returns-clause-clear : goal.returns-clause-clear
+returns-clause-clear g c =
+    let mid : Picture g.M.Levels.mode = picture_of c.change_leaves.new.core in
+    subst (λ (t : FrameTable). IsClear (record mid { frames = t }) Forget c.args.frame.0) (sym c.forget_pages.ensures.same) c.change_leaves.ensures.clear

@@ -1,0 +1,11 @@
+use Rattle.vm_types.specs.Limits.{top_level}
+use Rattle.std.proofs.Common.{ℕ, ◌<◌}
+use Rattle.page_tables.specs.Tree.{IsPage}
+use Rattle.residency.specs.Picture.{picture_of}
+use Rattle.residency.specs.Leaves.{IsOver}
+use Rattle.residency.proofs.leaves.has_leaf.Given as goal
+
+abbrev pub invariant-loop-pid : goal.invariant-loop-pid
+invariant-loop-pid g l = record {
+  clear : (q k : ℕ) → q < l.pid → IsPage (top_level g.M.Levels.mode) k → IsOver (picture_of l.core) l.change l.frame.0 q k → ⊥;
+}

@@ -1,0 +1,16 @@
+use Rattle.std.proofs.Common.{◌%◌, subst, arith}
+use Rattle.std.proofs.lemmas.Nat.Bits.{bit_at_ones}
+use Rattle.residency.specs.Picture.{picture_of}
+use Rattle.residency.specs.declared.leaves.Held.{Held}
+use Rattle.residency.specs.Leaves.{Holds}
+use Rattle.residency.proofs.LeafSteps.{over_names}
+use Rattle.residency.proofs.leaves.kinds_of.Goals as goal
+
+pub returns-in-Own : goal.returns-in-Own
+returns-in-Own g c = λ change pid r page root h over. bit_at_ones 64 (r % 64) (omega arith)
+
+pub returns-in-Filed : goal.returns-in-Filed
+returns-in-Filed g c = λ change pid r page root h over.
+    let placed = subst (λ (h : Held). Holds (picture_of c.args.core.now) c.args.frame.0 h) c.in-Filed.is c.requires.holds in
+    c.kinds_over.ensures r page
+    (over_names (picture_of c.args.core.now) change c.args.frame.0 pid r page c.requires.fit root h (c.requires.fit.places.cached c.in-Filed.field-0 c.args.frame.0 placed) over)

@@ -1,0 +1,14 @@
+use Rattle.std.proofs.Common.{◌≡◌, inl, inr, sym, ap, ◌∙◌}
+use Rattle.page_cache.specs.declared.place.Place.TheVariants.{Home, Frame}
+use Rattle.page_cache.specs.CacheTable.{is_touched}
+use Rattle.residency.proofs.looking.needs_slot.Goals as goal
+
+pub returns-in-Some-clause-other : goal.returns-in-Some-clause-other
+returns-in-Some-clause-other g c = λ needs. elim needs [
+  | inl own ↦ absurd (c.in_default.not-Private (c.role.ensures ∙ own))
+  | inr file ↦ (
+      let cache = c.args.core.now.cache in
+      let same : c.in-Some.page ≡ file.0 = c.requires.fit.places.apart c.in-Some.page file.0 (c.in-Some.ensures.held ∙ sym file.1)
+      (λ home. (let bad : Home ≡ Frame c.args.n = sym home ∙ c.in-Some.ensures.held in (cc))) in
+      c.is_touched.ensures ∙ ap (is_touched cache) same ∙ file.2)
+]

@@ -1,0 +1,152 @@
+//! A frame given up: its own copies go to a slot, its page of a file or an object to a slot or home.
+ghost use Rattle.std.specs.Prelude.{◌≡◌, ℕ, ◌⊎◌, true, false, IfErr, OnOk, OnErr};
+ghost use Rattle.disk_model.specs.Moments.{AsksOnly, Nothing};
+ghost use Rattle.frames.specs.declared.role.Role.TheVariants as Roles;
+ghost use Rattle.frames.specs.FrameTable.{IsFrame, role_of};
+ghost use Rattle.page_cache.specs.declared.place.Place.TheVariants.{Frame};
+ghost use Rattle.swap.specs.Slots.{slots_of, IsReady, IsFull, IsSectorOfFreeSlot};
+ghost use Rattle.vm_types.specs.declared.refusal.Stall.TheVariants as Stalls;
+ghost use Rattle.residency.specs.Picture.{picture_of, is_data};
+ghost use Rattle.residency.specs.Parts.{IsFit};
+ghost use Rattle.residency.specs.Ages.{KeepsRoles};
+ghost use Rattle.residency.specs.Calls.{NeedsSlot, AsksOneSlot, UsesDevice};
+ghost use Rattle.residency.specs.Stalls.{HasStallCause};
+ghost use Rattle.residency.specs.Evictions.{Spares, GivesUp, KeepsPlain};
+
+use crate::kernel::Core;
+use crate::leaves::{Held, forget_leaves, held_in};
+use crate::shares::hand_over;
+use disk_model::SectorDisk;
+use page_cache::Place;
+use swap::PutFault;
+use vm_types::{FrameNo, Levels, PageKey, Stall};
+
+/// Gives up the frame of an untouched page of a file or an object, which is at home then.
+pub(crate) fn send_home<D, E, M: Levels>(core: &mut Core<D, E, M>, victim: FrameNo, page: PageKey)
+    requires fit { IsFit (picture_of core.old) }
+    requires inside { IsFrame core.old.frames victim.0 }
+    requires placed { (picture_of core.old).place page ≡ Frame victim }
+    requires untouched { (picture_of core.old).touched page ≡ false }
+    ensures fit { IsFit (picture_of core.new) }
+    ensures spares { (k : ℕ) → Spares victim.0 k (picture_of core.old) (picture_of core.new) }
+    ensures free { role_of core.new.frames victim.0 ≡ Roles.Free }
+    ensures plain { KeepsPlain core.old core.new }
+    ensures swap { core.new.swap ≡ core.old.swap }
+{
+    forget_leaves(core, victim);
+    core.cache.set_place(page, Place::Home);
+    core.frames.release(victim);
+}
+
+/// Gives up the frame of a touched page of a file or an object, which is in a slot then. A slot is free.
+///
+/// # Errors
+/// `SwapDevice` only where the swap device failed.
+fn send_away<D, E: SectorDisk, M: Levels>(
+    core: &mut Core<D, E, M>,
+    victim: FrameNo,
+    page: PageKey,
+) -> Result<(), Stall>
+    requires fit { IsFit (picture_of core.old) }
+    requires swap { IsReady E.SectorDisk core.old.swap }
+    requires inside { IsFrame core.old.frames victim.0 }
+    requires placed { (picture_of core.old).place page ≡ Frame victim }
+    requires touched { (picture_of core.old).touched page ≡ true }
+    requires room { IsFull (slots_of core.old.swap) → ⊥ }
+    ensures fit { IsFit (picture_of core.new) }
+    ensures swap { IsReady E.SectorDisk core.new.swap }
+    ensures gives { GivesUp victim.0 (picture_of core.old) (picture_of core.new) }
+    ensures free { OnOk result (role_of core.new.frames victim.0 ≡ Roles.Free) }
+    ensures still { OnErr result (KeepsRoles (picture_of core.old) (picture_of core.new)) }
+    ensures plain { KeepsPlain core.old core.new }
+    ensures asks { AsksOnly E.SectorDisk (IsSectorOfFreeSlot (slots_of core.old.swap)) core.old.swap.pages.disk core.new.swap.pages.disk }
+    ensures one { OnOk result (AsksOneSlot E.SectorDisk core.old core.new Nothing) }
+    ensures device { UsesDevice E.SectorDisk core.old.swap.pages.disk core.new.swap.pages.disk }
+    ensures fault { IfErr result (λ s. s ≡ Stalls.SwapDevice) }
+    ensures cause { HasStallCause E.SectorDisk core.old core.new result }
+{
+    forget_leaves(core, victim);
+    match core.swap.put(core.frames.bytes(victim)) {
+        Ok(slot) => {
+            core.cache.set_place(page, Place::Slot(slot));
+            core.frames.release(victim);
+            Ok(())
+        }
+        Err(PutFault::Full) => unreachable!(),
+        Err(PutFault::Device) => Err(Stall::SwapDevice),
+    }
+}
+
+/// Gives up a private frame, whose copies are in a slot then. A slot is free.
+///
+/// # Errors
+/// `SwapDevice` only where the swap device failed.
+fn send_copies<D, E: SectorDisk, M: Levels>(
+    core: &mut Core<D, E, M>,
+    victim: FrameNo,
+) -> Result<(), Stall>
+    requires fit { IsFit (picture_of core.old) }
+    requires swap { IsReady E.SectorDisk core.old.swap }
+    requires inside { IsFrame core.old.frames victim.0 }
+    requires role { role_of core.old.frames victim.0 ≡ Roles.Private }
+    requires room { IsFull (slots_of core.old.swap) → ⊥ }
+    ensures fit { IsFit (picture_of core.new) }
+    ensures swap { IsReady E.SectorDisk core.new.swap }
+    ensures gives { GivesUp victim.0 (picture_of core.old) (picture_of core.new) }
+    ensures free { OnOk result (role_of core.new.frames victim.0 ≡ Roles.Free) }
+    ensures still { OnErr result (KeepsRoles (picture_of core.old) (picture_of core.new)) }
+    ensures plain { KeepsPlain core.old core.new }
+    ensures asks { AsksOnly E.SectorDisk (IsSectorOfFreeSlot (slots_of core.old.swap)) core.old.swap.pages.disk core.new.swap.pages.disk }
+    ensures one { OnOk result (AsksOneSlot E.SectorDisk core.old core.new Nothing) }
+    ensures device { UsesDevice E.SectorDisk core.old.swap.pages.disk core.new.swap.pages.disk }
+    ensures fault { IfErr result (λ s. s ≡ Stalls.SwapDevice) }
+    ensures cause { HasStallCause E.SectorDisk core.old core.new result }
+{
+    match core.swap.put(core.frames.bytes(victim)) {
+        Ok(slot) => {
+            hand_over(core, victim, slot);
+            Ok(())
+        }
+        Err(PutFault::Full) => unreachable!(),
+        Err(PutFault::Device) => Err(Stall::SwapDevice),
+    }
+}
+
+/// Gives up a frame that holds a page of a process, a file or an object. Where it needs a slot, one is free.
+///
+/// # Errors
+/// `SwapDevice` only where the swap device failed.
+pub(crate) fn evict<D, E: SectorDisk, M: Levels>(
+    core: &mut Core<D, E, M>,
+    victim: FrameNo,
+) -> Result<(), Stall>
+    requires fit { IsFit (picture_of core.old) }
+    requires swap { IsReady E.SectorDisk core.old.swap }
+    requires inside { IsFrame core.old.frames victim.0 }
+    requires datum { is_data (role_of core.old.frames victim.0) ≡ true }
+    requires room { NeedsSlot (picture_of core.old) victim.0 → IsFull (slots_of core.old.swap) → ⊥ }
+    ensures asked { (core.new.swap ≡ core.old.swap) ⊎ NeedsSlot (picture_of core.old) victim.0 }
+    ensures fit { IsFit (picture_of core.new) }
+    ensures swap { IsReady E.SectorDisk core.new.swap }
+    ensures gives { GivesUp victim.0 (picture_of core.old) (picture_of core.new) }
+    ensures free { OnOk result (role_of core.new.frames victim.0 ≡ Roles.Free) }
+    ensures still { OnErr result (KeepsRoles (picture_of core.old) (picture_of core.new)) }
+    ensures plain { KeepsPlain core.old core.new }
+    ensures asks { AsksOnly E.SectorDisk (IsSectorOfFreeSlot (slots_of core.old.swap)) core.old.swap.pages.disk core.new.swap.pages.disk }
+    ensures one { OnOk result (AsksOneSlot E.SectorDisk core.old core.new Nothing) }
+    ensures device { UsesDevice E.SectorDisk core.old.swap.pages.disk core.new.swap.pages.disk }
+    ensures fault { IfErr result (λ s. s ≡ Stalls.SwapDevice) }
+    ensures cause { HasStallCause E.SectorDisk core.old core.new result }
+{
+    match held_in(core, victim) {
+        Held::Own(_) => send_copies(core, victim),
+        Held::Filed(page) => {
+            if core.cache.is_touched(page) {
+                send_away(core, victim, page)
+            } else {
+                send_home(core, victim, page);
+                Ok(())
+            }
+        }
+    }
+}

@@ -1,0 +1,129 @@
+//! The choice of a frame to be given up.
+ghost use Rattle.std.specs.Prelude.{◌≡◌, ◌≢◌, ◌<◌, ◌≤◌, ◌+◌, ◌*◌, ◌↔◌, ℕ, true, IfOk, OnErr};
+ghost use Rattle.std.proofs.Common.{refl, ◌∙◌};
+ghost use Rattle.frames.specs.FrameTable.{frame_count, IsFrame, IsFull, role_of};
+ghost use Rattle.swap.specs.Slots.{slots_of};
+ghost use Rattle.residency.specs.Picture.{picture_of, is_data};
+ghost use Rattle.residency.specs.Parts.{IsFit};
+ghost use Rattle.residency.specs.Calls.{Frees, IsSpareable, NeedsSlot};
+ghost use Rattle.residency.specs.Evictions.{IsEvictable, IsAccessed, ClearsMarks, Looked};
+
+use crate::kernel::Core;
+use crate::leaves::{Change, change_leaves, has_leaf};
+use clock_replace::{FrameView, NoVictim};
+use frames::Role;
+use vm_types::{FrameNo, Levels};
+
+impl<D, E, M: Levels> FrameView for Core<D, E, M> {
+    ghost use Rattle.residency.specs.Views.{Follows};
+
+    ghost total = { λ c. frame_count c.frames };
+
+    ghost looks = { λ c. c.looks.number };
+
+    ghost evictable_at = { λ c n. IsEvictable (picture_of c) c.keep n };
+
+    ghost marked = { λ c n. IsAccessed (picture_of c) n };
+
+    ghost is_open = { λ c. IsFit (picture_of c) };
+
+    ghost follows = { λ a b. Follows a b a.keep b.keep };
+
+    fn frames(&self) -> u32 {
+        self.frames.len()
+    }
+
+    fn evictable(&mut self, n: u32) -> bool {
+        self.looks.raise();
+        is_evictable(self, self.keep, FrameNo(n))
+    }
+
+    fn accessed(&self, n: u32) -> bool {
+        is_accessed(self, FrameNo(n))
+    }
+
+    fn clear(&mut self, n: u32) {
+        change_leaves(self, FrameNo(n), Change::ClearAccessed);
+    }
+
+    ghost stays = { λ c. record { kept = refl; marks = λ s f. f; full = λ f. f; frees = λ s f. f; looked = record { store = refl; swap = refl; cache = refl; roots = refl; regions = refl; refused = refl } } };
+
+    ghost goes_on = { λ a b c p q. record { kept = q.kept ∙ p.kept; marks = λ s f. q.marks s (p.marks s f); full = λ f. q.full (p.full f); frees = λ s f. q.frees s (p.frees s f); looked = record { store = q.looked.store ∙ p.looked.store; swap = q.looked.swap ∙ p.looked.swap; cache = q.looked.cache ∙ p.looked.cache; roots = q.looked.roots ∙ p.looked.roots; regions = q.looked.regions ∙ p.looked.regions; refused = q.looked.refused ∙ p.looked.refused } } };
+}
+
+/// Whether the frame holds a page and isn't to be kept.
+pub(crate) fn is_spareable<D, E, M: Levels>(
+    core: &Core<D, E, M>,
+    keep: Option<FrameNo>,
+    n: FrameNo,
+) -> bool
+    requires { IsFrame core.now.frames n.0 }
+    ensures spareable { result ≡ true → IsSpareable (picture_of core.now) keep n.0 }
+    ensures other { IsSpareable (picture_of core.now) keep n.0 → result ≡ true }
+{
+    if let Some(kept) = keep {
+        if kept.0 == n.0 {
+            return false;
+        }
+    }
+    match core.frames.role(n) {
+        Role::Private | Role::Cache => true,
+        _ => false,
+    }
+}
+
+/// Whether the frame needs a slot to be given up.
+fn needs_slot<D, E, M: Levels>(core: &Core<D, E, M>, n: FrameNo) -> bool
+    requires fit { IsFit (picture_of core.now) }
+    requires inside { IsFrame core.now.frames n.0 }
+    ensures needs { result ≡ true → NeedsSlot (picture_of core.now) n.0 }
+    ensures other { NeedsSlot (picture_of core.now) n.0 → result ≡ true }
+{
+    match core.frames.role(n) {
+        Role::Private => true,
+        _ => match core.cache.page_in_frame(n) {
+            Some(page) => core.cache.is_touched(page),
+            None => false,
+        },
+    }
+}
+
+/// Whether the frame may be given up now.
+fn is_evictable<D, E, M: Levels>(core: &Core<D, E, M>, keep: Option<FrameNo>, n: FrameNo) -> bool
+    requires fit { IsFit (picture_of core.now) }
+    requires inside { IsFrame core.now.frames n.0 }
+    ensures { (result ≡ true) ↔ IsEvictable (picture_of core.now) keep n.0 }
+{
+    is_spareable(core, keep, n) && (!needs_slot(core, n) || !core.swap.is_full())
+}
+
+/// Whether a leaf over the frame has A.
+fn is_accessed<D, E, M: Levels>(core: &Core<D, E, M>, n: FrameNo) -> bool
+    requires fit { IsFit (picture_of core.now) }
+    requires inside { IsFrame core.now.frames n.0 }
+    ensures { (result ≡ true) ↔ IsAccessed (picture_of core.now) n.0 }
+{
+    is_spareable(core, None, n) && has_leaf(core, n, Change::ClearAccessed)
+}
+
+/// A frame to be given up, chosen by the clock, which looks at each frame twice at most.
+pub(crate) fn choose<D, E, M: Levels>(
+    core: &mut Core<D, E, M>,
+    keep: Option<FrameNo>,
+) -> Result<FrameNo, NoVictim>
+    requires fit { IsFit (picture_of core.old) }
+    ensures fit { IsFit (picture_of core.new) }
+    ensures frees { Frees (picture_of core.old) (picture_of core.new) keep }
+    ensures marks { ClearsMarks (picture_of core.old) (picture_of core.new) }
+    ensures looked { Looked core.old core.new }
+    ensures full { IsFull core.old.frames → IsFull core.new.frames }
+    ensures found { IfOk result (λ n. IsEvictable (picture_of core.new) keep n.0) }
+    ensures none { OnErr result ((n : ℕ) → IsFrame core.new.frames n → IsEvictable (picture_of core.new) keep n → ⊥) }
+    ensures looks { core.new.looks.number ≤ core.old.looks.number + 2 * frame_count core.old.frames }
+{
+    core.keep = keep;
+    let mut clock = core.clock;
+    let choice = clock.victim(core);
+    core.clock = clock;
+    choice
+}

@@ -1,0 +1,64 @@
+//! What a frame holds, and which pages have it, told to those who change nothing.
+ghost use Rattle.std.specs.Prelude.{◌≡◌, ◌≤◌, ℕ, true, IfSome, IfNone};
+ghost use Rattle.vm_types.specs.Limits.{top_level};
+ghost use Rattle.frames.specs.FrameTable.{IsFrame, role_of};
+ghost use Rattle.page_tables.specs.Tree.{IsPage};
+ghost use Rattle.residency.specs.Picture.{picture_of, is_data};
+ghost use Rattle.residency.specs.Parts.{IsFit};
+ghost use Rattle.residency.specs.declared.leaves.Change.TheVariants as Kinds;
+ghost use Rattle.residency.specs.Leaves.{IsOver, IsFirstOver};
+ghost use Rattle.residency.specs.Contents.{HasContent};
+
+use crate::kernel::Core;
+use crate::leaves::{Change, Held, find_in, held_in};
+use vm_types::{FrameNo, Levels, PageKey, Pid, Vpn};
+
+/// What a frame of data holds.
+#[derive(Clone, Copy, Debug, PartialEq, Eq)]
+pub enum Content {
+    /// The own copy of the page of that number, of each process that shares it.
+    Own(u64),
+    /// That page of a file or an object.
+    Page(PageKey),
+}
+
+/// What a frame of data holds, which is one of role `Private` or `Cache`.
+pub fn content_of<D, E, M: Levels>(core: &Core<D, E, M>, frame: FrameNo) -> Content
+    requires fit { IsFit (picture_of core.now) }
+    requires inside { IsFrame core.now.frames frame.0 }
+    requires data { is_data (role_of core.now.frames frame.0) ≡ true }
+    ensures { HasContent (picture_of core.now) frame.0 result }
+{
+    match held_in(core, frame) {
+        Held::Own(page) => Content::Own(page),
+        Held::Filed(page) => Content::Page(page),
+    }
+}
+
+/// The first page of a process from page number `low` on that has an entry over a frame of data; `None` exactly where none has.
+pub fn next_over<D, E, M: Levels>(
+    core: &Core<D, E, M>,
+    pid: Pid,
+    low: u64,
+    frame: FrameNo,
+) -> Option<Vpn>
+    requires fit { IsFit (picture_of core.now) }
+    requires inside { IsFrame core.now.frames frame.0 }
+    requires data { is_data (role_of core.now.frames frame.0) ≡ true }
+    ensures some { IfSome result (λ k. IsFirstOver (picture_of core.now) Kinds.Forget frame.0 pid low k) }
+    ensures none { IfNone result ((k : ℕ) → low ≤ k → IsPage (top_level M.mode) k → IsOver (picture_of core.now) Kinds.Forget frame.0 pid k → ⊥) }
+{
+    let held = held_in(core, frame);
+    match core.root(pid) {
+        Some(root) => find_in(
+            core,
+            usize::from(pid.get()),
+            root,
+            low,
+            held,
+            frame,
+            Change::Forget,
+        ),
+        None => None,
+    }
+}

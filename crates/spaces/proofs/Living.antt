@@ -1,0 +1,179 @@
+-- spawn, fork and exit of the flat model in a state that memory shows.
+use Rattle.vm_types.specs.declared.mode.Levels as Levels
+use Rattle.vm_types.specs.Limits.{user_end}
+use Rattle.std.proofs.Common.{ℕ, ◌≡◌, ◌≢◌, ◌+◌, ◌≤◌, ◌^◌, ◌==◌, ◌&&◌, ◌||◌, not, Bool, true, false, if◌then◌else◌, Option, Some, None, refl, sym, ap, ◌∙◌, subst, arith}
+use Rattle.std.proofs.lemmas.Bool.Decides.{nat_tests}
+use Rattle.disk_model.specs.declared.sector_disk.SectorDisk.{Ghosts}
+use Rattle.file_store.specs.declared.store.FileStore.{FileStore}
+use Rattle.frames.specs.FrameTable.{frame_count}
+use Rattle.lifecycle.specs.Changes.{AddsProcess, RemovesProcess, KeepsProcesses, IsShortToFork}
+use Rattle.fault.specs.Changes.{KeepsRoom}
+use Rattle.residency.specs.Stalls.{StallCause, ReadCause}
+use Rattle.ranges.proofs.Outlived.{shows_named}
+use Rattle.ranges.specs.Rows.{KeepsNamed, without_maps}
+use Rattle.residency.specs.Capacity.{IsShort}
+use Rattle.residency.specs.Parts.{IsFit}
+use Rattle.residency.specs.declared.kernel.Core.{Core}
+use Rattle.residency.specs.Picture.{Picture, picture_of, is_live, view}
+use Rattle.residency.specs.Shows.{ShowsPages, KeepsFiles}
+use Rattle.vm_types.specs.declared.command.Command.{Command}
+use Rattle.vm_types.specs.declared.command.Command.TheVariants.{Spawn, Fork, Exit}
+use Rattle.vm_types.specs.declared.refusal.Errno.TheVariants.{EAGAIN}
+use Rattle.vm_types.specs.declared.refusal.Stall.{Stall}
+use Rattle.vm_types.specs.declared.refusal.Stall.TheVariants.{NoFrames, NoSwap, SwapDevice, StoreDevice}
+use Rattle.vm_types.specs.declared.reply.Reply.TheVariants.{Process, Done, Refused, Stalled}
+use Rattle.vm_types.specs.Objects.{Maps, named_objects}
+use Rattle.vm_types.specs.Processes.{least_free_from, least_free_pid, with_process, without_process, without_space}
+use Rattle.vm_types.specs.Capacity.{table_count, tables_of}
+use Rattle.vm_types.specs.Stalls.{is_success, is_open_to, cause_of, needs_frames, reads_swap}
+use Rattle.vm_types.specs.State.{State}
+use Rattle.vm_types.specs.Step.{Outcome, outcome, spawn_outcome, fork_outcome, exit_outcome}
+use Rattle.vm_types.specs.View.{View}
+use Rattle.swap.specs.Slots.{slots_of}
+use Rattle.spaces.specs.Calls.{Comes, Stalls, FallsShort, IsCaused, causes}
+use Rattle.spaces.proofs.Calls.{does, does_answer, shows_with, pages_of}
+use Rattle.spaces.proofs.Pages.{views_seen, maps_gone}
+use Rattle.spaces.proofs.Refusals.{stall_caused}
+use Rattle.spaces.proofs.Short.{falls_short, falls_short_to_fork, least_below, tables_added}
+
+-- a test of all numbers, where one is decided
+lives_with : (pid q : ℕ) (b : Bool) (seen : ℕ → Bool) → seen pid ≡ true → (q ≢ pid → b ≡ seen q) → (q == pid || b) ≡ seen q
+lives_with pid q b seen here there =
+    elim (q == pid) as (λ (x : Bool). (q == pid) ≡ x → (x || b) ≡ seen q) [
+      | true ↦ λ e. let same : q ≡ pid = grind (arith, nat_tests) in sym (ap seen same ∙ here)
+      | false ↦ λ e. there (grind (arith, nat_tests))
+    ] refl
+
+lives_without : (pid q : ℕ) (b : Bool) (seen : ℕ → Bool) → seen pid ≡ false → (q ≢ pid → b ≡ seen q) → (not (q == pid) && b) ≡ seen q
+lives_without pid q b seen here there =
+    elim (q == pid) as (λ (x : Bool). (q == pid) ≡ x → (not x && b) ≡ seen q) [
+      | true ↦ λ e. let same : q ≡ pid = grind (arith, nat_tests) in sym (ap seen same ∙ here)
+      | false ↦ λ e. there (grind (arith, nat_tests))
+    ] refl
+
+module _ {mode : ℕ} (old new : Picture mode) (s : State) (shows : ShowsPages old s) (files : KeepsFiles old new) where
+  pub still_shows : KeepsProcesses old new → ShowsPages new s
+  still_shows keeps =
+      shows_with old new s s.live s.views shows files (λ q. shows.live q ∙ sym (keeps.live q)) (λ q page. shows.views q page ∙ sym (keeps.views q page))
+
+  shows_added : (pid : ℕ) (space : ℕ → Option View) → AddsProcess old new pid space → ShowsPages new (with_process s pid space)
+  shows_added pid space adds =
+      shows_with old new s (λ p. p == pid || s.live p) (λ p. if p == pid then space else s.views p) shows files
+      (λ q. lives_with pid q (s.live q) (is_live new) adds.lives (λ ne. shows.live q ∙ sym (adds.others_live q ne)))
+      (λ q page. pages_of pid q space (s.views q) (view new) page
+      (λ e. sym (adds.pages page) ∙ ap (λ (p : ℕ). view new p page) (sym e))
+      (λ ne. shows.views q page ∙ sym (adds.others q page ne)))
+
+module _ {mode : ℕ} (old new : Picture mode) (s : State) (shows : ShowsPages old s) where
+  shows_removed : (pid : ℕ) → IsFit old → IsFit new → KeepsNamed (without_maps old.at pid 0 (user_end mode)) old new → RemovesProcess old new pid → ShowsPages new (without_process s pid)
+  shows_removed pid was fit files removes =
+      subst (λ (maps : Maps). ShowsPages new (record s {
+        live = λ p. not (p == pid) && s.live p;
+        views = without_space s.views pid;
+        objects = named_objects maps s.objects;
+      })) (sym (maps_gone old s shows was pid))
+      (shows_named old new s (without_maps old.at pid 0 (user_end mode)) (λ p. not (p == pid) && s.live p) (without_space s.views pid) fit shows files
+      (λ q. lives_without pid q (s.live q) (is_live new) removes.gone (λ ne. shows.live q ∙ sym (removes.others_live q ne)))
+      (λ q page. pages_of pid q (λ page. None) (s.views q) (view new) page
+      (λ e. sym (removes.pages page) ∙ ap (λ (p : ℕ). view new p page) (sym e))
+      (λ ne. shows.views q page ∙ sym (removes.others q page ne))))
+
+-- why a process didn't come
+cause_is : {M : Type 0} {m : Levels.Ghosts M} → {D E : Type 0} (g : Ghosts D) (h : Ghosts E) (old new : Core D E M m) (stall : Stall) → StallCause h old new stall → cause_of (causes g h old new) stall
+cause_is g h old new NoFrames cause = cause.0
+cause_is g h old new NoSwap cause = cause.0
+cause_is g h old new SwapDevice cause = cause.1
+cause_is g h old new StoreDevice cause = absurd cause
+
+open_to : {M : Type 0} {m : Levels.Ghosts M} (s : State) (command : Command) (stall : Stall) {D E : Type 0} (h : Ghosts E) (old new : Core D E M m) → StallCause h old new stall → needs_frames command ≡ true → reads_swap s command ≡ true
+    → is_open_to s command stall ≡ true
+open_to s command NoFrames h old new cause frames swaps = frames
+open_to s command NoSwap h old new cause frames swaps = frames
+open_to s command SwapDevice h old new cause frames swaps = swaps
+open_to s command StoreDevice h old new cause frames swaps = absurd cause
+
+-- a stall of a call that leaves the store alone, and which would otherwise come to this
+stalled : {M : Type 0} {m : Levels.Ghosts M} → {D E : Type 0} (g : Ghosts D) (h : Ghosts E) (old new : Core D E M m) (s : State) (command : Command) (stall : Stall) (o : Outcome) → StallCause h old new stall
+    → outcome s command ≡ o → is_success o.reply ≡ true → needs_frames command ≡ true → reads_swap s command ≡ true
+    → FallsShort (frame_count new.frames) (slots_of new.swap).total s command stall
+    → ShowsPages (picture_of new) s → Comes g h old new s command (Stalled stall)
+stalled g h old new s command stall o cause e fine frames swaps short shows =
+    Stalls stall (record { otherwise = ap (λ (p : Outcome). is_success p.reply) e ∙ fine; open_to = open_to s command stall h old new cause frames swaps; cause = cause_is g h old new stall cause })
+    short refl shows
+
+-- the stall says of the store's device that it was left alone
+stall_read : {M : Type 0} {m : Levels.Ghosts M} → {D E : Type 0} (g : Ghosts D) (h : Ghosts E) (old new : Core D E M m) (stall : Stall) → new.store ≡ old.store → StallCause h old new stall → ReadCause g h old new stall
+stall_read g h old new NoFrames same cause = (cause.0, ap (λ (t : FileStore _). g.failures t.disk) same, cause.1)
+stall_read g h old new NoSwap same cause = (cause.0, ap (λ (t : FileStore _). g.failures t.disk) same, cause.1)
+stall_read g h old new SwapDevice same cause = (cause.0, ap (λ (t : FileStore _). g.failures t.disk) same, cause.1)
+stall_read g h old new StoreDevice same cause = absurd cause
+
+-- so it is told what the stall came from
+pub store_kept_caused : {M : Type 0} {m : Levels.Ghosts M} → {D E : Type 0} (g : Ghosts D) (h : Ghosts E) (old new : Core D E M m) (stall : Stall) → new.store ≡ old.store
+    → h.failures old.swap.pages.disk ≤ h.failures new.swap.pages.disk → StallCause h old new stall → IsCaused g h old new (Stalled stall)
+store_kept_caused g h old new stall same later cause =
+    let still : g.failures new.store.disk ≡ g.failures old.store.disk = ap (λ (t : FileStore _). g.failures t.disk) same in
+    stall_caused g h old new stall (omega (arith, still)) later (stall_read g h old new stall same cause)
+
+module _ {M : Type 0} {m : Levels.Ghosts M} {D E : Type 0} (g : Ghosts D) (h : Ghosts E) (old : Core D E M m) (s : State) (shows : ShowsPages (picture_of old) s) (number : Option ℕ)
+    (is : number ≡ least_free_from (is_live (picture_of old)) 1 64) where
+  free_is : least_free_pid s.live ≡ number
+  free_is = ap (λ (l : ℕ → Bool). least_free_from l 1 64) (λ t p. shows.live p t) ∙ sym is
+
+  -- the tables of the state with that process more
+  one_more : (pid : ℕ) (space : ℕ → Option View) → number ≡ Some pid → table_count (with_process s pid space) ≡ table_count s + tables_of m.mode space
+  one_more pid space e =
+      let below = least_below s.live 1 64 pid (free_is ∙ e) in
+      tables_added s pid space below.0 (let under = below.1 in omega (arith, under)) ∙ ap (λ (x : ℕ). table_count s + tables_of x space) shows.same_mode
+
+  pub spawn_refused : number ≡ None → Comes g h old old s Spawn (Refused EAGAIN)
+  spawn_refused e = does_answer g h old old s Spawn (Refused EAGAIN) shows (ap (spawn_outcome s) (free_is ∙ e))
+
+  pub spawns : (pid : ℕ) → number ≡ Some pid → (new : Core D E M m) → KeepsFiles (picture_of old) (picture_of new)
+      → AddsProcess (picture_of old) (picture_of new) pid (λ page. None) → Comes g h old new s Spawn (Process pid)
+  spawns pid e new files adds =
+      does g h old new s Spawn (Process pid) (spawn_outcome s (Some pid)) (ap (spawn_outcome s) (free_is ∙ e)) refl
+      (shows_added (picture_of old) (picture_of new) s shows files pid (λ page. None) adds)
+
+  pub spawn_stalls : (pid : ℕ) → number ≡ Some pid → (new : Core D E M m) (stall : Stall) → IsFit (picture_of new) → StallCause h old new stall → IsShort (picture_of new) stall
+      → KeepsFiles (picture_of old) (picture_of new) → KeepsProcesses (picture_of old) (picture_of new) → Comes g h old new s Spawn (Stalled stall)
+  spawn_stalls pid e new stall fit cause short files keeps =
+      let is_one = ap (spawn_outcome s) (free_is ∙ e) in
+      let still = still_shows (picture_of old) (picture_of new) s shows files keeps in
+      let more = ap (λ (o : Outcome). table_count o.state) is_one ∙ one_more pid (λ page. None) e in
+      stalled g h old new s Spawn stall (spawn_outcome s (Some pid)) cause is_one refl refl refl
+      (falls_short (picture_of new) s Spawn fit still stall short (omega (arith, more))) still
+
+  module _ (parent : ℕ) (live : is_live (picture_of old) parent ≡ true) where
+    forks : (o : Option ℕ) → number ≡ o → outcome s (Fork parent) ≡ fork_outcome s parent o
+    forks o e = let l : s.live parent ≡ true = shows.live parent ∙ live in rw l (ap (fork_outcome s parent) (free_is ∙ e))
+
+    pub fork_refused : number ≡ None → Comes g h old old s (Fork parent) (Refused EAGAIN)
+    fork_refused e = does_answer g h old old s (Fork parent) (Refused EAGAIN) shows (forks None e)
+
+    pub forks_to : (pid : ℕ) → number ≡ Some pid → (new : Core D E M m) → KeepsFiles (picture_of old) (picture_of new)
+        → AddsProcess (picture_of old) (picture_of new) pid (view (picture_of old) parent) → Comes g h old new s (Fork parent) (Process pid)
+    forks_to pid e new files adds =
+        does g h old new s (Fork parent) (Process pid) (fork_outcome s parent (Some pid)) (forks (Some pid) e) refl
+        (subst (λ (space : ℕ → Option View). ShowsPages (picture_of new) (with_process s pid space)) (sym (views_seen (picture_of old) s shows parent))
+        (shows_added (picture_of old) (picture_of new) s shows files pid (view (picture_of old) parent) adds))
+
+    pub fork_stalls : (pid : ℕ) → number ≡ Some pid → (new : Core D E M m) (stall : Stall) → IsFit (picture_of old) → StallCause h old new stall → IsShortToFork (picture_of old) parent stall
+        → KeepsRoom (picture_of old) (picture_of new) → KeepsFiles (picture_of old) (picture_of new) → KeepsProcesses (picture_of old) (picture_of new)
+        → Comes g h old new s (Fork parent) (Stalled stall)
+    fork_stalls pid e new stall fit cause short room files keeps =
+        let is_one = forks (Some pid) e in
+        let seen = ap (tables_of m.mode) (views_seen (picture_of old) s shows parent) in
+        let more = ap (λ (o : Outcome). table_count o.state) is_one ∙ one_more pid (s.views parent) e in
+        stalled g h old new s (Fork parent) stall (fork_outcome s parent (Some pid)) cause is_one refl refl refl
+        (falls_short_to_fork (picture_of old) s (Fork parent) fit shows (frame_count new.frames) (slots_of new.swap).total parent stall room.frames room.slots short
+        (omega (arith, more, seen)))
+        (still_shows (picture_of old) (picture_of new) s shows files keeps)
+
+pub exits : {M : Type 0} {m : Levels.Ghosts M} → {D E : Type 0} (g : Ghosts D) (h : Ghosts E) (old new : Core D E M m) (s : State) (pid : ℕ) → ShowsPages (picture_of old) s → is_live (picture_of old) pid ≡ true
+    → IsFit (picture_of old) → IsFit (picture_of new) → KeepsNamed (without_maps (picture_of old).at pid 0 (user_end m.mode)) (picture_of old) (picture_of new)
+    → RemovesProcess (picture_of old) (picture_of new) pid → Comes g h old new s (Exit pid) Done
+exits g h old new s pid shows live was fit files removes =
+    let l : s.live pid ≡ true = shows.live pid ∙ live in
+    does g h old new s (Exit pid) Done (exit_outcome s pid) (rw l refl) refl
+    (shows_removed (picture_of old) (picture_of new) s shows pid was fit files removes)

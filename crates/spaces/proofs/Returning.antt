@@ -1,0 +1,77 @@
+-- Calls that take nothing.
+use Rattle.vm_types.specs.declared.mode.Levels as Levels
+use Rattle.std.proofs.Common.{ℕ, inl, inr, ◌≡◌, List, refl, sym, ap, ◌∙◌}
+use Rattle.std.specs.Prelude.{get_or}
+use Rattle.std.proofs.lemmas.Bool.{cases_Bool}
+use Rattle.frames.specs.declared.role.Role.{Role}
+use Rattle.frames.specs.declared.role.Role.TheVariants.{Free}
+use Rattle.lifecycle.specs.Changes.{TakesNoFrame}
+use Rattle.lifecycle.proofs.Returned.{none_taken, still_framed}
+use Rattle.page_cache.specs.CacheTable.{place_of, is_touched}
+use Rattle.ranges.specs.Rows.{KeepsNamed, without_maps}
+use Rattle.ranges.specs.Steps.{KeepsEntriesOfOthers, ReturnsTables}
+use Rattle.page_tables.specs.Change.{KeepsFrames}
+use Rattle.residency.specs.declared.kernel.Core.{Core}
+use Rattle.residency.specs.Parts.{IsFit}
+use Rattle.residency.specs.Picture.{Picture, picture_of, root_in}
+use Rattle.vm_types.specs.declared.object.PageKey.TheVariants.{Object}
+use Rattle.vm_types.specs.Objects.{is_named}
+use Rattle.spaces.specs.Ranges.{TakesNothing}
+
+-- a call that changes nothing takes nothing
+pub takes_none : {mode : ℕ} (c : Picture mode) (pid first pages : ℕ) → TakesNothing c c pid first pages
+takes_none c pid first pages = record {
+  frames = λ n. inl refl;
+  place = λ p named. refl;
+  touched = λ p named. refl;
+  gone = λ p. inl refl;
+  others = λ q page h ne. refl;
+}
+
+-- pages of objects that only a row named went
+pub takes_named : {mode : ℕ} (old new : Picture mode) (pid first pages : ℕ) → TakesNoFrame old.frames new.frames
+    → KeepsNamed (without_maps old.at pid first pages) old new → KeepsEntriesOfOthers old new pid → TakesNothing old new pid first pages
+takes_named old new pid first pages frames keeps others = record {
+  frames = frames;
+  place = keeps.place;
+  touched = keeps.touched;
+  gone = λ p. elim (cases_Bool (is_named (without_maps old.at pid first pages) p.object p.page)) [
+    | inl named ↦ inl (keeps.place (Object p) named)
+    | inr none ↦ inr (keeps.gone p none)
+  ];
+  others = others;
+}
+
+module _ {M : Type 0} {m : Levels.Ghosts M} {D E : Type 0} (old new : Core D E M m) (pid first pages : ℕ) where
+  -- tables and own copies went, and pages of objects that only a row named
+  pub takes_remapped : IsFit (picture_of old) → IsFit (picture_of new) → new.roots ≡ old.roots → ReturnsTables (picture_of old) (picture_of new) pid
+      → KeepsNamed (without_maps (picture_of old).at pid first pages) (picture_of old) (picture_of new) → KeepsEntriesOfOthers (picture_of old) (picture_of new) pid
+      → TakesNothing (picture_of old) (picture_of new) pid first pages
+  takes_remapped fit fit' roots returned keeps others =
+      takes_named (picture_of old) (picture_of new) pid first pages
+      (none_taken (picture_of old) (picture_of new) pid fit fit' old.sound new.sound (λ q. ap (λ r. root_in r.items q) roots) returned
+      (still_framed (picture_of old) (picture_of new) (without_maps (picture_of old).at pid first pages) keeps)) keeps others
+
+  -- no page of a file or an object went
+  pub takes_cached : new.cache ≡ old.cache → TakesNoFrame old.frames new.frames → KeepsEntriesOfOthers (picture_of old) (picture_of new) pid
+      → TakesNothing (picture_of old) (picture_of new) pid first pages
+  takes_cached cache frames others = record {
+    frames = frames;
+    place = λ p named. ap (λ t. place_of t p) cache;
+    touched = λ p named. ap (λ t. is_touched t p) cache;
+    gone = λ p. inl (ap (λ t. place_of t (Object p)) cache);
+    others = others;
+  }
+
+  -- tables and own copies went
+  pub takes_cleared : IsFit (picture_of old) → IsFit (picture_of new) → new.roots ≡ old.roots → ReturnsTables (picture_of old) (picture_of new) pid
+      → new.cache ≡ old.cache → KeepsEntriesOfOthers (picture_of old) (picture_of new) pid → TakesNothing (picture_of old) (picture_of new) pid first pages
+  takes_cleared fit fit' roots returned cache others =
+      takes_cached cache
+      (none_taken (picture_of old) (picture_of new) pid fit fit' old.sound new.sound (λ q. ap (λ r. root_in r.items q) roots) returned
+      (λ p n at. sym (ap (λ t. place_of t p) cache) ∙ at)) others
+
+  -- bytes of tables changed alone
+  pub takes_rewritten : KeepsFrames old.frames new.frames → new.cache ≡ old.cache → KeepsEntriesOfOthers (picture_of old) (picture_of new) pid
+      → TakesNothing (picture_of old) (picture_of new) pid first pages
+  takes_rewritten keeps cache others = takes_cached cache (λ n. inl (ap (λ (roles : List Role). get_or roles n Free) keeps.roles)) others

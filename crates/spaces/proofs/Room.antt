@@ -1,0 +1,30 @@
+-- Memory of the size that it was, and sound as it was.
+use Rattle.vm_types.specs.declared.mode.Levels as Levels
+use Rattle.std.proofs.Common.{◌≡◌, refl, sym, ap, ◌∙◌, subst}
+use Rattle.disk_model.specs.declared.sector_disk.SectorDisk.{Ghosts}
+use Rattle.file_store.specs.declared.store.FileStore.{FileStore}
+use Rattle.file_store.specs.Store.{IsReadyStore}
+use Rattle.page_cache.specs.CacheTable as CacheTable
+use Rattle.fault.proofs.SwapSteps.{ready_released}
+use Rattle.fault.specs.Changes.{KeepsRoom}
+use Rattle.msync.specs.Shows.{IsSoundCore}
+use Rattle.residency.specs.declared.kernel.Core.{Core}
+use Rattle.residency.specs.Parts.{IsFit}
+use Rattle.residency.specs.Picture.{picture_of}
+
+module _ {M : Type 0} {m : Levels.Ghosts M} {D E : Type 0} (old new : Core D E M m) where
+  -- there is a node for each frame and for each slot, so the map of places tells how many there are
+  pub room_same : new.cache ≡ old.cache → KeepsRoom (picture_of old) (picture_of new)
+  room_same same = record {
+    frames = sym new.node_count ∙ ap CacheTable.frame_count same ∙ old.node_count;
+    slots = sym new.slot_count ∙ ap CacheTable.slot_count same ∙ old.slot_count;
+  }
+
+  -- a call that asked neither device, and gave back slots at the most
+  pub sound_kept : KeepsRoom (picture_of old) (picture_of new) → (g : Ghosts D) (h : Ghosts E) → new.store ≡ old.store → new.swap.pages ≡ old.swap.pages → IsFit (picture_of new)
+      → IsSoundCore g h old → IsSoundCore g h new
+  sound_kept room g h store pages fit sound = record {
+    ready = subst (λ (x : FileStore D). IsReadyStore g x) (sym store) sound.ready;
+    swap = ready_released h old.swap old.swap new.swap refl pages room.slots sound.swap;
+    fit = fit;
+  }

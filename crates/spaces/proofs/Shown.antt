@@ -1,0 +1,34 @@
+-- What a state that memory shows says of an access.
+use Rattle.vm_types.specs.declared.mode.Levels as Levels
+use Rattle.std.proofs.Common.{ℕ, ◌≡◌, inr, Option, refl, ap, ◌∙◌}
+use Rattle.disk_model.specs.declared.sector_disk.SectorDisk.{Ghosts}
+use Rattle.residency.specs.Reading.{ReadsStore}
+use Rattle.fault.specs.Outcome.{verdict_of}
+use Rattle.fault.proofs.AccessShowing.{IsHomeDurable}
+use Rattle.residency.specs.declared.kernel.Core.{Core}
+use Rattle.residency.specs.Picture.{picture_of}
+use Rattle.residency.specs.Shows.{ShowsPages}
+use Rattle.msync.specs.Shows.{Shows}
+use Rattle.vm_types.specs.declared.access.Access.{Access}
+use Rattle.vm_types.specs.declared.width.Width.{Width}
+use Rattle.vm_types.specs.Files.{Files}
+use Rattle.vm_types.specs.State.{State}
+use Rattle.vm_types.specs.Step.{judged}
+use Rattle.vm_types.specs.Verdict.{verdict}
+use Rattle.vm_types.specs.View.{View}
+use Rattle.vm_types.specs.Width.{byte_count}
+use Rattle.spaces.proofs.Pages.{views_seen}
+
+pub judged_is : {M : Type 0} {m : Levels.Ghosts M} → {D E : Type 0} (old : Core D E M m) (s : State) → ShowsPages (picture_of old) s → (pid addr : ℕ) (width : Width) (kind : Access)
+    → judged s pid addr width kind ≡ verdict_of (picture_of old) pid addr width kind
+judged_is old s shows pid addr width kind =
+    let files : s.files ≡ (picture_of old).files = λ t f. shows.files f t in
+    ap (λ (f : Files). verdict f (s.views pid) addr (byte_count width) kind) files
+    ∙ ap (λ (v : ℕ → Option View). verdict (picture_of old).files v addr (byte_count width) kind) (views_seen (picture_of old) s shows pid)
+
+-- what the store's device holds is one of the images that a stop may leave
+pub homes : {M : Type 0} {m : Levels.Ghosts M} → {D E : Type 0} (g : Ghosts D) (old new : Core D E M m) (s : State) → Shows g old s → ReadsStore g old.store new.store → g.keeps_model new.store.disk
+    → IsHomeDurable g old.store.disk (picture_of old) s
+homes g old new s shows reads keeps = λ p inside.
+    let now = shows.stands (reads.kept keeps) (g.content old.store.disk) (record { kept = λ k. inr refl }) in
+    now.same p.file p.page (inside.0, shows.pages.files p.file ∙ inside.1, inside.2)

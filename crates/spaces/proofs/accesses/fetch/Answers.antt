@@ -1,0 +1,5 @@
+use Rattle.std.proofs.Common.{refl}
+use Rattle.spaces.proofs.accesses.fetch.Goals as goal
+
+pub returns-clause-comes : goal.returns-clause-comes
+returns-clause-comes g c = c.read.ensures.comes.fetch refl refl

@@ -1,0 +1,199 @@
+use Rattle.std.proofs.Common.{ℕ, ◌<◌, ◌≡◌, ◌⊎◌, inl, inr, true, false, is_some, ◌/◌, ◌%◌, List, refl, sym, ap, ◌∙◌, subst, rules, arith}
+use Rattle.frames.specs.FrameTable.{FrameTable, IsHeld, IsSound, with_bytes}
+use Rattle.frames.proofs.FrameLemmas.{IsHeld-above, IsHeld-not_zero, IsSound-step, with_bytes-others}
+use Rattle.fault.specs.AccessAsking.{AsksForPage}
+use Rattle.fault.specs.Outcome.{Grants, IsReadyToStore, IsOpenToStore, IsRefusal, IsWalked}
+use Rattle.fault.specs.Wants.{Wants, ReadsHome, ShowsFile}
+use Rattle.fault.proofs.AccessAsking.{asks_same}
+use Rattle.fault.proofs.AccessSlotted.{slotted_same}
+use Rattle.fault.proofs.Wanted.{calm_same}
+use Rattle.fault.specs.Changes.{IsCalm, KeepsOtherViews, KeepsSlotted, IsThatPage, LinksTables}
+use Rattle.residency.specs.Picture.{picture_of, is_live}
+use Rattle.vm_types.specs.declared.access.Access.TheVariants as Accesses
+use Rattle.vm_types.specs.declared.command.Command.TheVariants.{Store}
+use Rattle.vm_types.specs.declared.number.Phys.{Phys}
+use Rattle.vm_types.specs.declared.refusal.Errno.TheVariants.{ESRCH}
+use Rattle.vm_types.specs.declared.reply.Answer.{Answer}
+use Rattle.vm_types.specs.declared.reply.Reply.TheVariants.{Done, Refused}
+use Rattle.vm_types.specs.Access.{with_number}
+use Rattle.vm_types.specs.Width.{byte_count}
+use Rattle.vm_types.specs.Replies.{reply_of}
+use Rattle.spaces.specs.Accesses.{answer_of, AsksFor}
+use Rattle.spaces.specs.Calls.{Comes, IsCaused}
+use Rattle.spaces.specs.Idle.{is_denial}
+use Rattle.spaces.proofs.Asking.{asks_refused, asks_unstalled, no_root, one_end, one_place, writes_none, writes_walked}
+use Rattle.spaces.proofs.Calls.{found_lives}
+use Rattle.spaces.proofs.Refusals.{refused_idle, refused_caused}
+use Rattle.spaces.proofs.Writing.{fit_stored, open_held, others_stored, room_stored, slotted_stored, store_refused, stores}
+use Rattle.spaces.proofs.accesses.store.Goals as goal
+
+pub frame_of-frame-requires : goal.frame_of-frame-requires
+frame_of-frame-requires g c =
+    let placed = c.in-Ok.ensures.placed in
+    (open_held (picture_of c.access.new.core) c.in-Some.pid (c.args.addr / 4096) placed.seen.attr.backing (c.in-Ok.place.0 / 4096) placed.usable).inside
+
+pub returns-in-Ok-clause-keeps : goal.returns-in-Ok-clause-keeps
+returns-in-Ok-clause-keeps g c =
+    let a = c.args in
+    let old = picture_of a.core.now in
+    let mid = picture_of c.access.new.core in
+    let placed = c.in-Ok.ensures.placed in
+    let here = subst (λ (p : ℕ). IsOpenToStore mid p (a.addr / 4096) placed.seen.attr.backing (c.in-Ok.place.0 / 4096)) c.in-Some.ensures.found.0 placed.usable in
+    let usable = subst (λ (k : ℕ). IsOpenToStore mid a.pid (a.addr / 4096) placed.seen.attr.backing k) (sym c.frame_of-frame.ensures) here in
+    let others = subst (λ (p : ℕ). KeepsOtherViews old mid p (a.addr / 4096)) c.in-Some.ensures.found.0 c.access.ensures.others in
+    let goes = c.access.ensures.proceeds in
+    record {
+      accounts = record { room = room_stored (picture_of a.core.now) (picture_of c.access.new.core) _ c.frame_of-frame.result.0 c.write_number.new.page goes.room refl refl; denied = search rules; caused = search rules };
+      others = others_stored old mid _ a.pid (a.addr / 4096) placed.seen.attr.backing c.frame_of-frame.result.0 c.write_number.new.page c.access.ensures.proceeds.fit
+          usable refl (record { slots = refl; root = λ q. refl; at = λ q k. refl; page_of = λ m. refl; place = λ p. refl; touched = λ p. refl; files = λ f. refl })
+          others;
+      reads = goes.reads;
+      device = goes.device;
+    }
+
+pub returns-in-Ok-clause-sound : goal.returns-in-Ok-clause-sound
+returns-in-Ok-clause-sound g c =
+    let a = c.args in
+    let mid = c.access.new.core in
+    let n = c.frame_of-frame.result.0 in
+    let placed = c.in-Ok.ensures.placed in
+    let goes = c.access.ensures.proceeds in
+    let usable = subst (λ (k : ℕ). IsOpenToStore (picture_of mid) c.in-Some.pid (a.addr / 4096) placed.seen.attr.backing k) (sym c.frame_of-frame.ensures) placed.usable in
+    record {
+      ready = goes.ready;
+      swap = goes.swap;
+      fit = fit_stored (picture_of mid) _ c.in-Some.pid (a.addr / 4096) placed.seen.attr.backing n c.write_number.new.page goes.fit usable refl
+          (record { slots = refl; root = λ q. refl; at = λ q k. refl; page_of = λ m. refl; place = λ p. refl; touched = λ p. refl; files = λ f. refl });
+    }
+
+pub returns-in-Ok-clause-comes : goal.returns-in-Ok-clause-comes
+returns-in-Ok-clause-comes g c = λ s shows keeps swaps.
+    let a = c.args in
+    let mid = c.access.new.core in
+    let n = c.frame_of-frame.result.0 in
+    let granted = subst (λ (p : ℕ). Grants (picture_of a.core.now) (picture_of mid) p a.addr a.stored.width Accesses.Store c.in-Ok.place) c.in-Some.ensures.found.0
+    (c.in-Ok.ensures.granted (λ away. swaps refl)) in
+    let ready = subst (λ (k : ℕ). IsReadyToStore (picture_of a.core.now) (picture_of mid) a.pid (a.addr / 4096) granted.seen granted.seen.attr.backing k)
+    (sym c.frame_of-frame.ensures) granted.ready in
+    stores g.D.SectorDisk g.E.SectorDisk a.core.now mid _ s shows (keeps refl) (swaps refl) c.requires.sound.fit c.access.ensures.proceeds c.access.ensures.brings
+    a.pid a.addr (found_lives (picture_of a.core.now) c.in-Some.pid a.pid c.in-Some.ensures.found) a.stored granted.seen granted.fine n _ c.write_number.new.page refl
+    (record { slots = refl; root = λ q. refl; at = λ q k. refl; page_of = λ m. refl; place = λ p. refl; touched = λ p. refl; files = λ f. refl })
+    ready
+    (c.write_number.ensures
+    ∙ ap (λ (b : List ℕ). with_number b (a.addr % 4096) (byte_count a.stored.width) a.stored.value) c.bytes_mut-page.ensures.value)
+
+pub returns-in-Ok-clause-walked : goal.returns-in-Ok-clause-walked
+returns-in-Ok-clause-walked g c place walked =
+    let a = c.args in
+    let mid = c.access.new.core in
+    let granted = c.access.ensures.walked place (subst (λ (p : ℕ). IsWalked (picture_of a.core.now) p a.addr a.stored.width Accesses.Store place) (sym c.in-Some.ensures.found.0) walked) in
+    let number = c.frame_of-frame.ensures ∙ ap (λ (p : Phys). p.0 / 4096) (one_place c.access.result c.in-Ok.place place c.in-Ok.is granted.1) in
+    writes_walked a.core.now mid _ c.frame_of-frame.result.0 (place.0 / 4096) (a.addr % 4096) a.stored c.write_number.new.page granted.0 number
+    (record { store = refl; swap = refl; cache = refl; roots = refl; regions = refl; page_of = refl }) refl refl refl
+    (c.write_number.ensures
+    ∙ ap (λ (b : List ℕ). with_number b (a.addr % 4096) (byte_count a.stored.width) a.stored.value) c.bytes_mut-page.ensures.value)
+
+pub returns-in-Ok-clause-asks : goal.returns-in-Ok-clause-asks
+returns-in-Ok-clause-asks g c =
+    let a = c.args in
+    let old = picture_of a.core.now in
+    let read = subst (λ (p : ℕ). (c.access.new.core.store ≡ a.core.now.store) ⊎ ReadsHome old p (a.addr / 4096)) c.in-Some.ensures.found.0
+    c.access.ensures.read in
+    let slots = subst (λ (p : ℕ). (Wants old p (a.addr / 4096) Accesses.Store → ⊥) → c.access.new.core.swap ≡ a.core.now.swap) c.in-Some.ensures.found.0
+    (λ none. (c.access.ensures.calm none).swap) in
+    let mid = picture_of c.access.new.core in
+    let placed = c.in-Ok.ensures.placed in
+    let slotted = subst (λ (p : ℕ). KeepsSlotted (ShowsFile old p (a.addr / 4096)) (IsThatPage p (a.addr / 4096)) old mid) c.in-Some.ensures.found.0 c.access.ensures.slotted in
+    let sectors = subst (λ (p : ℕ). AsksForPage g.D.SectorDisk g.E.SectorDisk a.core.now c.access.new.core p (a.addr / 4096) Accesses.Store) c.in-Some.ensures.found.0 c.access.ensures.asks in
+    let usable = subst (λ (k : ℕ). IsOpenToStore mid c.in-Some.pid (a.addr / 4096) placed.seen.attr.backing k) (sym c.frame_of-frame.ensures) placed.usable in
+    let tables = subst (λ (p : ℕ). LinksTables old mid p (a.addr / 4096)) c.in-Some.ensures.found.0 c.access.ensures.tables in
+    let calm = subst (λ (p : ℕ). (Wants old p (a.addr / 4096) Accesses.Store → ⊥) → IsCalm a.core.now c.access.new.core p (a.addr / 4096)) c.in-Some.ensures.found.0 c.access.ensures.calm in
+    let n = c.frame_of-frame.result.0 in
+    let written = writes_walked c.access.new.core c.access.new.core _ n n (a.addr % 4096) a.stored c.write_number.new.page refl refl
+    (record { store = refl; swap = refl; cache = refl; roots = refl; regions = refl; page_of = refl }) refl refl refl
+    (c.write_number.ensures
+    ∙ ap (λ (b : List ℕ). with_number b (a.addr % 4096) (byte_count a.stored.width) a.stored.value) c.bytes_mut-page.ensures.value) in
+    asks_unstalled g.D.SectorDisk g.E.SectorDisk a.core.now _ a.pid a.addr Accesses.Store read slots
+    (slotted_stored old mid _ c.in-Some.pid (a.addr / 4096) placed.seen.attr.backing c.frame_of-frame.result.0 c.write_number.new.page
+    (ShowsFile old a.pid (a.addr / 4096)) (IsThatPage a.pid (a.addr / 4096)) c.access.ensures.proceeds.fit usable refl
+    (record { slots = refl; root = λ q. refl; at = λ q k. refl; page_of = λ m. refl; place = λ p. refl; touched = λ p. refl; files = λ f. refl }) slotted)
+    (record { store = sectors.store; swap = sectors.swap }) c.access.new.core tables calm (inr (n, a.addr % 4096, a.stored, written)) Done (λ stall e. cc)
+
+pub returns-in-Err-clause-comes : goal.returns-in-Err-clause-comes
+returns-in-Err-clause-comes g c = λ s shows keeps swaps.
+    let a = c.args in
+    let refusal = subst (λ (p : ℕ). IsRefusal g.D.SectorDisk g.E.SectorDisk a.core.now c.access.new.core p a.addr a.stored.width Accesses.Store c.in-Err.refusal) c.in-Some.ensures.found.0
+    c.in-Err.ensures.refusal in
+    subst (λ (r : Answer). Comes g.D.SectorDisk g.E.SectorDisk a.core.now c.access.new.core s (Store a.pid a.addr a.stored) (reply_of r)) (sym c.refused.ensures)
+    (store_refused g.D.SectorDisk g.E.SectorDisk a.core.now c.access.new.core _ s shows (keeps refl) (swaps refl) c.requires.sound.fit c.access.ensures.proceeds c.access.ensures.brings
+    a.pid a.addr (found_lives (picture_of a.core.now) c.in-Some.pid a.pid c.in-Some.ensures.found) a.stored c.in-Err.refusal refusal)
+
+pub returns-in-Err-clause-keeps : goal.returns-in-Err-clause-keeps
+returns-in-Err-clause-keeps g c =
+    let a = c.args in
+    let goes = c.access.ensures.proceeds in
+    record {
+      accounts = record {
+        room = goes.room;
+        denied = subst (λ (r : Answer). is_denial (reply_of r) ≡ true → c.access.new.core ≡ a.core.now) (sym c.refused.ensures)
+            (refused_idle g.D.SectorDisk g.E.SectorDisk a.core.now c.access.new.core c.in-Some.pid a.addr a.stored.width Accesses.Store c.in-Err.refusal c.in-Err.ensures.refusal);
+        caused = subst (λ (r : Answer). IsCaused g.D.SectorDisk g.E.SectorDisk a.core.now c.access.new.core (reply_of r)) (sym c.refused.ensures)
+            (refused_caused g.D.SectorDisk g.E.SectorDisk a.core.now c.access.new.core c.in-Some.pid a.addr a.stored.width Accesses.Store c.in-Err.refusal
+            goes.reads.failures goes.device.later c.in-Err.ensures.refusal);
+      };
+      others = subst (λ (p : ℕ). KeepsOtherViews (picture_of a.core.now) (picture_of c.access.new.core) p (a.addr / 4096)) c.in-Some.ensures.found.0 c.access.ensures.others;
+      reads = goes.reads;
+      device = goes.device;
+    }
+
+pub returns-in-Err-clause-walked : goal.returns-in-Err-clause-walked
+returns-in-Err-clause-walked g c place walked =
+    let a = c.args in
+    let granted = c.access.ensures.walked place (subst (λ (p : ℕ). IsWalked (picture_of a.core.now) p a.addr a.stored.width Accesses.Store place) (sym c.in-Some.ensures.found.0) walked) in
+    absurd (one_end c.access.result place c.in-Err.refusal c.in-Err.is granted.1)
+
+pub returns-in-Err-clause-asks : goal.returns-in-Err-clause-asks
+returns-in-Err-clause-asks g c =
+    let a = c.args in
+    subst (λ (r : Answer). AsksFor g.D.SectorDisk g.E.SectorDisk a.core.now c.access.new.core a.pid a.addr Accesses.Store (reply_of r)) (sym c.refused.ensures)
+    (subst (λ (p : ℕ). AsksFor g.D.SectorDisk g.E.SectorDisk a.core.now c.access.new.core p a.addr Accesses.Store (reply_of (answer_of c.in-Err.refusal))) c.in-Some.ensures.found.0
+    (asks_refused g.D.SectorDisk g.E.SectorDisk a.core.now c.access.new.core c.in-Some.pid a.addr Accesses.Store c.access.ensures.read (λ none. (c.access.ensures.calm none).swap) c.access.ensures.slotted c.access.ensures.asks
+    c.access.new.core c.access.ensures.tables c.access.ensures.calm (writes_none Accesses.Store c.access.new.core) a.stored.width c.in-Err.refusal c.in-Err.ensures.refusal))
+
+pub returns-in_default-clause-walked : goal.returns-in_default-clause-walked
+returns-in_default-clause-walked g c place walked =
+    let dead : is_live (picture_of c.args.core.now) c.args.pid ≡ false = sym c.live.ensures.known ∙ ap is_some c.in_default.is in
+    absurd (no_root (picture_of c.args.core.now) c.args.pid walked.root dead walked.lives)
+
+pub returns-in_default-clause-asks : goal.returns-in_default-clause-asks
+returns-in_default-clause-asks g c =
+    asks_unstalled g.D.SectorDisk g.E.SectorDisk c.args.core.now c.args.core.now c.args.pid c.args.addr Accesses.Store (inl refl) (λ none. refl) (slotted_same _ _ (picture_of c.args.core.now)) (asks_same g.D.SectorDisk g.E.SectorDisk c.args.core.now c.args.core.now c.args.pid (c.args.addr / 4096) Accesses.Store refl refl)
+    c.args.core.now (λ n table. inl table) (λ none. calm_same c.args.core.now c.args.pid (c.args.addr / 4096)) (writes_none Accesses.Store c.args.core.now) (Refused ESRCH) (λ stall e. cc)
+
+sound_written : (t : FrameTable) (n : ℕ) (w : List ℕ) → IsHeld t n → IsSound t → IsSound (with_bytes t n w)
+sound_written t n w held sound =
+    IsSound-step n t (with_bytes t n w) sound (with_bytes-others t n w) (IsHeld-above t n sound held) refl refl (sound.counted n held.inside) (IsHeld-not_zero t n held)
+
+pub invariant_of-core-clause-sound : goal.invariant_of-core-clause-sound
+invariant_of-core-clause-sound g c =
+    let mid = c.access.new.core in
+    let n = c.frame_of-frame.result.0 in
+    let placed = c.in-Ok.ensures.placed in
+    let usable = subst (λ (k : ℕ). IsOpenToStore (picture_of mid) c.in-Some.pid (c.args.addr / 4096) placed.seen.attr.backing k) (sym c.frame_of-frame.ensures) placed.usable in
+    sound_written mid.frames n c.write_number.new.page (open_held (picture_of mid) c.in-Some.pid (c.args.addr / 4096) placed.seen.attr.backing n usable) mid.sound
+
+-- the frame that was written is one of as many as there were
+pub invariant_of-core-clause-page_count : goal.invariant_of-core-clause-page_count
+invariant_of-core-clause-page_count g c =
+    let mid = c.access.new.core in mid.page_count ∙ sym (with_bytes-others mid.frames c.frame_of-frame.result.0 c.write_number.new.page).frames
+
+pub invariant_of-core-clause-node_count : goal.invariant_of-core-clause-node_count
+invariant_of-core-clause-node_count g c =
+    let mid = c.access.new.core in mid.node_count ∙ sym (with_bytes-others mid.frames c.frame_of-frame.result.0 c.write_number.new.page).frames
+
+below_same : (k m n : ℕ) → k < m → n ≡ m → k < n
+below_same k m n low same = omega (arith, low, same)
+
+pub invariant_of-core-clause-hand_inside : goal.invariant_of-core-clause-hand_inside
+invariant_of-core-clause-hand_inside g c =
+    let mid = c.access.new.core in below_same _ _ _ mid.hand_inside (with_bytes-others mid.frames c.frame_of-frame.result.0 c.write_number.new.page).frames

@@ -1,0 +1,10 @@
+use Rattle.vm_types.specs.Limits.{user_end}
+use Rattle.std.proofs.Common.{◌^◌, ℕ, ◌+◌, ◌≤◌, sym, subst}
+use Rattle.regions.specs.RunList.{attr_at}
+use Rattle.spaces.proofs.Placing.{placed_inside}
+use Rattle.spaces.proofs.mappings.place_of.Goals as goal
+
+pub returns-in-Some-clause-user : goal.returns-in-Some-clause-user
+returns-in-Some-clause-user g c =
+    subst (λ (n : ℕ). (16 ≤ n) × (n + c.args.pages ≤ user_end g.M.Levels.mode)) (sym c.get.ensures.number)
+    (placed_inside g.M.Levels.mode (attr_at c.args.regions.now) c.args.addr c.args.pages c.in-Some.first (sym c.in-Some.ensures))

@@ -1,0 +1,14 @@
+use Rattle.vm_types.specs.Limits.{user_end}
+use Rattle.std.proofs.Common.{◌-◌, ◌≤◌, ◌^◌}
+use Rattle.file_store.specs.Store.{files_of}
+use Rattle.spaces.proofs.Guards.{Unguarded}
+use Rattle.spaces.proofs.protections.has_guarded.Given as goal
+
+abbrev pub invariant-loop-run : goal.invariant-loop-run
+invariant-loop-run g l = record {
+  from : l.first ≤ l.page;
+  past : Unguarded g.M.Levels.mode (files_of l.store) l.regions l.first l.page;
+}
+
+abbrev pub decreases-loop-run : goal.decreases-loop-run
+decreases-loop-run g l = user_end g.M.Levels.mode - l.page

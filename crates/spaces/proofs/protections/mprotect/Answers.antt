@@ -1,0 +1,79 @@
+use Rattle.std.proofs.Common.{ℕ, ◌/◌, ◌%◌, ◌≡◌, ◌≢◌, sym, ap, subst, arith, rules}
+use Rattle.swap.specs.declared.slots.Swap.{Swap}
+use Rattle.regions.specs.RunList.{attr_at}
+use Rattle.regions.specs.Permission.{ReadsToo}
+use Rattle.regions.proofs.PermissionLemmas.{reads_kept}
+use Rattle.ranges.specs.Rows.{ReprotectsRow}
+use Rattle.residency.specs.Picture.{picture_of}
+use Rattle.vm_types.specs.declared.permission.Prot.{Prot}
+use Rattle.vm_types.specs.Checks.{page_count}
+use Rattle.vm_types.specs.Rows.{protected}
+use Rattle.spaces.proofs.Protects.{refuses, protects, protected_map}
+use Rattle.spaces.proofs.Calls.{found_lives}
+use Rattle.spaces.proofs.Room.{room_same, sound_kept}
+use Rattle.spaces.specs.Ranges.{KeepsEntriesBeside, TakesNothing}
+use Rattle.spaces.proofs.Returning.{takes_rewritten}
+use Rattle.spaces.proofs.protections.mprotect.Goals as goal
+
+pub reprotect-requires-clause-reads : goal.reprotect-requires-clause-reads
+reprotect-requires-clause-reads g c = subst (λ (p : Prot). ReadsToo p) (sym c.kept.ensures) (reads_kept c.args.prot)
+
+pub reprotect-requires-clause-map : goal.reprotect-requires-clause-map
+reprotect-requires-clause-map g c =
+    subst (λ (p : Prot). (page : ℕ) → attr_at c.permitted.new.next page ≡ protected ((picture_of c.args.core.now).at c.in-Some.pid) (c.args.addr / 4096) c.div_ceil-pages.result p page)
+    (sym c.kept.ensures)
+    (protected_map c.regions.result.now c.permitted.new.next ((picture_of c.args.core.now).at c.in-Some.pid) (c.args.addr / 4096) c.div_ceil-pages.result _
+    c.regions.ensures c.in-Ok.ensures.ok.map)
+
+pub returns-in-Ok-clause-comes : goal.returns-in-Ok-clause-comes
+returns-in-Ok-clause-comes g c = λ s shows reads swaps.
+    let a = c.args in
+    let old = picture_of a.core.now in
+    let runs = c.regions.result.now in
+    let pages = c.div_ceil-pages.result in
+    let count : pages ≡ page_count a.len = omega (arith, c.div_ceil-pages.ensures) in
+    let same : c.in-Some.pid ≡ a.pid = c.in-Some.ensures.found.0 in
+    protects g.D.SectorDisk g.E.SectorDisk a.core.now s a.pid a.addr a.len a.prot shows.pages (found_lives (picture_of a.core.now) c.in-Some.pid a.pid c.in-Some.ensures.found)
+    (let aligned : a.addr % 4096 ≡ 0 = omega arith in aligned) (let some : a.len ≢ 0 = omega arith in some)
+    runs (subst (λ (p : ℕ). (page : ℕ) → attr_at runs page ≡ old.at p page) same c.regions.ensures) pages count
+    c.permitted.new.next c.in-Ok.ensures.ok c.reprotect.new.core
+    (subst (λ (p : Prot). ReprotectsRow old (picture_of c.reprotect.new.core) a.pid (a.addr / 4096) pages p) c.kept.ensures
+    (subst (λ (p : ℕ). ReprotectsRow old (picture_of c.reprotect.new.core) p (a.addr / 4096) pages c.kept.result) same c.reprotect.ensures.row))
+
+pub returns-in-Err-clause-comes : goal.returns-in-Err-clause-comes
+returns-in-Err-clause-comes g c = λ s shows reads swaps.
+    let a = c.args in
+    let old = picture_of a.core.now in
+    let runs = c.regions.result.now in
+    let pages = c.div_ceil-pages.result in
+    let count : pages ≡ page_count a.len = omega (arith, c.div_ceil-pages.ensures) in
+    refuses g.D.SectorDisk g.E.SectorDisk a.core.now s a.pid a.addr a.len a.prot shows.pages (found_lives (picture_of a.core.now) c.in-Some.pid a.pid c.in-Some.ensures.found)
+    (let aligned : a.addr % 4096 ≡ 0 = omega arith in aligned) (let some : a.len ≢ 0 = omega arith in some)
+    runs (subst (λ (p : ℕ). (page : ℕ) → attr_at runs page ≡ old.at p page) c.in-Some.ensures.found.0 c.regions.ensures) pages count
+    c.in-Err.errno c.in-Err.ensures.err
+
+pub returns-in-Ok-clause-keeps : goal.returns-in-Ok-clause-keeps
+returns-in-Ok-clause-keeps g c = record {
+  accounts = record { room = room_same c.args.core.now c.reprotect.new.core c.reprotect.ensures.cache; denied = search rules; caused = search rules };
+  devices = search rules;
+}
+
+pub returns-in-Ok-clause-sound : goal.returns-in-Ok-clause-sound
+returns-in-Ok-clause-sound g c =
+    sound_kept c.args.core.now c.reprotect.new.core (room_same c.args.core.now c.reprotect.new.core c.reprotect.ensures.cache) g.D.SectorDisk g.E.SectorDisk
+    c.reprotect.ensures.store (ap (λ (s : Swap _). s.pages) c.reprotect.ensures.swap) c.reprotect.ensures.fit c.requires.sound
+
+pub returns-in-Ok-clause-takes : goal.returns-in-Ok-clause-takes
+returns-in-Ok-clause-takes g c =
+    let done = c.reprotect.ensures in
+    subst (λ (p : ℕ). TakesNothing (picture_of c.args.core.now) (picture_of c.reprotect.new.core) p 0 0) c.in-Some.ensures.found.0
+    (takes_rewritten c.args.core.now c.reprotect.new.core c.in-Some.pid 0 0 done.frames done.cache done.others)
+
+pub returns-in-Ok-clause-beside : goal.returns-in-Ok-clause-beside
+returns-in-Ok-clause-beside g c =
+    let a = c.args in
+    let old = picture_of a.core.now in
+    let new = picture_of c.reprotect.new.core in
+    let count : c.div_ceil-pages.result ≡ page_count a.len = omega (arith, c.div_ceil-pages.ensures) in
+    subst (λ (p : ℕ). KeepsEntriesBeside old new p (a.addr / 4096) (page_count a.len)) c.in-Some.ensures.found.0
+    (subst (λ (n : ℕ). KeepsEntriesBeside old new c.in-Some.pid (a.addr / 4096) n) count c.reprotect.ensures.row.kept)

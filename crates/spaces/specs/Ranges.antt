@@ -1,0 +1,47 @@
+-- What an exit and the calls on a range leave of memory: they give back and take nothing.
+use Rattle.std.specs.Prelude.{ℕ, ◌≡◌, ◌⊎◌, ◌/◌, false}
+use Rattle.lifecycle.specs.Changes.{TakesNoFrame}
+use Rattle.page_cache.specs.declared.place.Place.TheVariants.{Home}
+use Rattle.ranges.specs.Rows.{IsLasting, without_maps}
+use Rattle.ranges.specs.Steps.{KeepsEntriesOfOthers}
+use Rattle.page_tables.specs.Tree.{IsPage}
+use Rattle.residency.specs.Picture.{Picture, entry}
+use Rattle.vm_types.specs.Limits.{top_level}
+use Rattle.vm_types.specs.Rows.{in_row}
+use Rattle.vm_types.specs.declared.object.ObjectPage.{ObjectPage}
+use Rattle.vm_types.specs.declared.object.PageKey.{PageKey}
+use Rattle.vm_types.specs.declared.object.PageKey.TheVariants.{Object}
+use Rattle.vm_types.specs.declared.reply.Reply.{Reply}
+use Rattle.vm_types.specs.declared.reply.Reply.TheVariants.{Process, Address, Done, Value, Faulted, Refused, Stalled, Halted, Past}
+
+-- the first page of the mapping whose address a reply names; page 0, which nobody has, where it names none
+abbrev pub first_mapped : Reply → ℕ
+first_mapped (Address addr) = addr / 4096
+first_mapped (Process pid) = 0
+first_mapped Done = 0
+first_mapped (Value width value) = 0
+first_mapped (Faulted fault) = 0
+first_mapped (Refused errno) = 0
+first_mapped (Stalled stall) = 0
+first_mapped Halted = 0
+first_mapped (Past past) = 0
+
+-- A call that takes nothing. The `pages` pages of the process from `first` on are those that it unmaps, or maps anew.
+module _ {mode : ℕ} where
+  pub record TakesNothing (old new : Picture mode) (pid first pages : ℕ) : Type 0 where
+    -- each frame has the use that it had, or is free
+    pub frames : TakesNoFrame old.frames new.frames
+    -- each page of a file lies where it lay, and so does each page of an object that is named beside those pages;
+    pub place : (p : PageKey) → IsLasting (without_maps old.at pid first pages) p → new.place p ≡ old.place p
+    -- none of them became touched or clean
+    pub touched : (p : PageKey) → IsLasting (without_maps old.at pid first pages) p → new.touched p ≡ old.touched p
+    -- each other page of an object lies where it lay or nowhere any more
+    pub gone : (p : ObjectPage) → (new.place (Object p) ≡ old.place (Object p)) ⊎ (new.place (Object p) ≡ Home)
+    -- each page of every other process has the entry that it had
+    pub others : KeepsEntriesOfOthers old new pid
+
+-- each page of the process but the `pages` pages from `first` on has the entry that it had
+module _ {mode : ℕ} where
+  abbrev pub KeepsEntriesBeside : Picture mode → Picture mode → ℕ → ℕ → ℕ → Type 0
+  KeepsEntriesBeside old new pid first pages =
+      (page : ℕ) → IsPage (top_level mode) page → in_row first pages page ≡ false → entry new pid page ≡ entry old pid page

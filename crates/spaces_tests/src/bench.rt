@@ -1,0 +1,334 @@
+//! What the tests share: rows of steps with the answers that are wanted, and how they are carried out.
+//!
+//! A test is a table of such rows, which is data alone: each call, each look at memory and each comparison that a test made itself
+//! would have to be proved to end well, with all that stands before it in mind.
+ghost use Rattle.msync.specs.Shows.{IsSoundCore};
+ghost use Rattle.residency.specs.Parts.{IsFit};
+ghost use Rattle.residency.specs.Picture.{picture_of};
+
+use disk_model::{SectorDisk, SimDisk};
+use fault::root_of;
+use frames::Role;
+use memory::entry_number;
+use residency::Core;
+use spaces::{RegionRoom, SyncRoom};
+use std::alloc::Global;
+use std::fmt::Debug;
+use std::process::Abort;
+use std::test::Fail;
+use test_fixtures::{LEAST, Sizes, memory, sharers};
+use vm_types::{
+    Answer, Backing, Code, Errno, Fault, FrameNo, Levels, MapSource, MsyncMode, Pid, Placing, Prot,
+    Stall, StoredValue, Sv39, Vpn, Width,
+};
+
+/// 16 frames and no slot, over a file without a byte, on devices that work.
+pub(crate) const PLAIN: Sizes = Sizes {
+    frames: 16,
+    ..LEAST
+};
+
+/// Shared pages of the file, from its first byte on.
+pub(crate) const FILE: MapSource = MapSource::Shared { file: 0, offset: 0 };
+
+/// What may be done with a page.
+#[derive(Clone, Copy, Debug)]
+pub(crate) enum May {
+    Read,
+    Write,
+    ReadWrite,
+    Run,
+}
+
+/// A call. Addresses and lengths are in bytes; the process is the first where no number tells of another.
+#[derive(Clone, Copy, Debug)]
+pub(crate) enum Call {
+    Spawn,
+    Fork(u64),
+    Exit(u64),
+    /// An mmap where the hint says: hint and length.
+    Map(u64, u64, May, MapSource),
+    Unmap(u64, u64),
+    Protect(u64, u64, May),
+    /// An msync that waits.
+    Sync(u64, u64),
+    Dontneed(u64, u64),
+    Load(u64, u64, Width),
+    Store(u64, u64, Width, u64),
+    Fetch(u64),
+}
+
+/// What a test does next, or looks at.
+#[derive(Clone, Copy, Debug)]
+pub(crate) enum Step {
+    /// The call is done.
+    Does(Call),
+    /// It is refused.
+    Refuses(Call, Errno),
+    /// It stalls.
+    Stalls(Call, Stall),
+    /// It faults: the cause, the code and the address.
+    Faults(Call, u8, Code, u64),
+    /// It makes a process of that number.
+    Makes(Call, u64),
+    /// It places a mapping at that address.
+    Places(Call, u64),
+    /// Process 1 gets pages to read and write, where the hint says.
+    Maps(u64, u64, MapSource),
+    /// A process stores a byte at that address.
+    Stores(u64, u64, u8),
+    /// A process loads this byte there.
+    Loads(u64, u64, u64),
+    /// Process 1 loads this value of that width.
+    Reads(u64, Width, u64),
+    /// Process 1 fetches these four bytes.
+    Fetches(u64, u64),
+    /// So many slots are free.
+    FreeSlots(u32),
+    /// So many frames are used, the zero page being one.
+    UsedFrames(u32),
+    /// What stands for a page of a process: the low ten bits of its entry, and how many share the frame or slot that it names.
+    Entry(u64, u64, u64, Option<u8>),
+    /// How many runs process 1 has, and what its page at that address stands on.
+    Runs(usize, u64, Backing),
+}
+
+/// A row: its name, the memory that it begins with, and its steps, in parts that other rows may have too.
+#[derive(Clone, Copy)]
+pub(crate) struct Row<'a> {
+    pub(crate) name: &'a str,
+    pub(crate) sizes: Sizes,
+    pub(crate) parts: &'a [&'a [Step]],
+}
+
+fn prot(may: May) -> Prot {
+    match may {
+        May::Read => Prot::READ,
+        May::Write => Prot::WRITE,
+        May::ReadWrite => Prot::READ | Prot::WRITE,
+        May::Run => Prot::EXECUTE,
+    }
+}
+
+/// An msync. Memory is known to be sound after one that the store didn't fail, so the test ends where it did.
+fn synced<D: SectorDisk, E: SectorDisk, M: Levels>(
+    rt: &impl Abort,
+    core: &mut Core<D, E, M>,
+    addr: u64,
+    len: u64,
+) -> Answer
+    requires { IsSoundCore D.SectorDisk E.SectorDisk core.old }
+    ensures { IsSoundCore D.SectorDisk E.SectorDisk core.new }
+{
+    match spaces::msync(core, &mut SyncRoom::new(), 1, addr, len, MsyncMode::Sync) {
+        Answer::Refused(Errno::EIO) => panic!(rt; "the store failed in an msync"),
+        answer => answer,
+    }
+}
+
+fn called<D: SectorDisk, E: SectorDisk, M: Levels>(
+    rt: &impl Abort,
+    core: &mut Core<D, E, M>,
+    call: Call,
+) -> Answer
+    requires { IsSoundCore D.SectorDisk E.SectorDisk core.old }
+    ensures { IsSoundCore D.SectorDisk E.SectorDisk core.new }
+{
+    let room = &mut RegionRoom::new();
+    match call {
+        Call::Spawn => spaces::spawn(core),
+        Call::Fork(pid) => spaces::fork(core, pid),
+        Call::Exit(pid) => spaces::exit(core, pid),
+        Call::Map(addr, len, may, source) => {
+            spaces::mmap(core, room, 1, addr, len, prot(may), source, Placing::Hint)
+        }
+        Call::Unmap(addr, len) => spaces::munmap(core, room, 1, addr, len),
+        Call::Protect(addr, len, may) => spaces::mprotect(core, room, 1, addr, len, prot(may)),
+        Call::Sync(addr, len) => synced(rt, core, addr, len),
+        Call::Dontneed(addr, len) => spaces::dontneed(core, 1, addr, len),
+        Call::Load(pid, addr, width) => spaces::load(core, pid, addr, width),
+        Call::Store(pid, addr, width, value) => {
+            let stored = StoredValue::new(width, value).expect(rt, "a value of that width");
+            spaces::store(core, pid, addr, stored)
+        }
+        Call::Fetch(addr) => spaces::fetch(core, 1, addr),
+    }
+}
+
+/// The call of a step and the answer that is wanted; `None` for a look.
+fn asked(step: Step) -> Option<(Call, Answer)> {
+    match step {
+        Step::Does(call) => Some((call, Answer::Done)),
+        Step::Refuses(call, errno) => Some((call, Answer::Refused(errno))),
+        Step::Stalls(call, stall) => Some((call, Answer::Stalled(stall))),
+        Step::Places(call, addr) => Some((call, Answer::Address(addr))),
+        Step::Makes(call, number) => Some((call, Answer::Process(Pid::new(number)?))),
+        Step::Faults(call, cause, code, addr) => {
+            Some((call, Answer::Faulted(Fault { cause, code, addr })))
+        }
+        Step::Maps(addr, len, source) => Some((
+            Call::Map(addr, len, May::ReadWrite, source),
+            Answer::Address(addr),
+        )),
+        Step::Stores(pid, addr, byte) => Some((
+            Call::Store(pid, addr, Width::One, u64::from(byte)),
+            Answer::Done,
+        )),
+        Step::Loads(pid, addr, value) => Some((
+            Call::Load(pid, addr, Width::One),
+            Answer::Value {
+                width: Width::One,
+                value,
+            },
+        )),
+        Step::Reads(addr, width, value) => {
+            Some((Call::Load(1, addr, width), Answer::Value { width, value }))
+        }
+        Step::Fetches(addr, value) => Some((
+            Call::Fetch(addr),
+            Answer::Value {
+                width: Width::Four,
+                value,
+            },
+        )),
+        _ => None,
+    }
+}
+
+/// How many frames are used.
+fn used_frames<D, E, M: Levels>(core: &Core<D, E, M>) -> u32 {
+    let mut used: u32 = 0;
+    for frame in 0..core.frames.len() {
+        if core.frames.role(FrameNo(frame)) != Role::Free {
+            used = used.saturating_add(1);
+        }
+    }
+    used
+}
+
+/// The number that stands for a page of a process; `None` where there is no such process.
+fn number<D, E, M: Levels>(core: &Core<D, E, M>, pid: u64, addr: u64) -> Option<u64>
+    requires fit { IsFit (picture_of core.now) }
+{
+    let pid = core.live(pid)?;
+    let page = Vpn::new::<M>(addr / 4096)?;
+    let root = root_of(core, pid);
+    Some(entry_number(&core.frames, root, page).to_u64())
+}
+
+/// How many share the frame or the slot that an entry of this number names.
+fn shares<D, E, M: Levels>(core: &Core<D, E, M>, number: u64) -> Option<u8> {
+    if number % 2 == 0 {
+        return sharers(core, u32::try_from(number / 2).ok()?.checked_sub(1)?);
+    }
+    let frame = u32::try_from(number / 1024).ok()?;
+    if frame < core.frames.len() {
+        Some(core.frames.count(FrameNo(frame)))
+    } else {
+        None
+    }
+}
+
+/// How many runs process 1 has, and what its page at that address stands on.
+fn runs<D, E, M: Levels>(core: &Core<D, E, M>, addr: u64) -> Option<(usize, Backing)>
+    requires fit { IsFit (picture_of core.now) }
+{
+    let pid = core.live(1)?;
+    let page = Vpn::new::<M>(addr / 4096)?;
+    let regions = core.regions(pid);
+    let attr = regions.at(page)?;
+    Some((regions.runs(), attr.backing))
+}
+
+/// Looks at memory, and ends the test where it isn't as is wanted.
+fn look<D, E, M: Levels>(rt: &impl Abort, core: &Core<D, E, M>, name: &str, step: Step)
+    requires fit { IsFit (picture_of core.now) }
+{
+    match step {
+        Step::FreeSlots(wanted) => equal(rt, name, core.swap.free_slots(), wanted),
+        Step::UsedFrames(wanted) => equal(rt, name, used_frames(core), wanted),
+        Step::Entry(pid, addr, bits, sharers) => {
+            let number = number(core, pid, addr).expect(rt, name);
+            let found = (number % 1024, shares(core, number));
+            equal(rt, name, found, (bits, sharers));
+        }
+        Step::Runs(count, addr, backing) => {
+            equal(rt, name, runs(core, addr), Some((count, backing)));
+        }
+        _ => panic!(rt; "{name}: no look: {step:?}"),
+    }
+}
+
+/// Does one step, and ends the test where it isn't as is wanted.
+fn carry_out_one<D: SectorDisk, E: SectorDisk, M: Levels>(
+    rt: &impl Abort,
+    core: &mut Core<D, E, M>,
+    name: &str,
+    step: Step,
+)
+    requires { IsSoundCore D.SectorDisk E.SectorDisk core.old }
+    ensures { IsSoundCore D.SectorDisk E.SectorDisk core.new }
+{
+    match asked(step) {
+        Some((call, wanted)) => {
+            let answer = called(rt, core, call);
+            assert_eq!(rt; answer, wanted, "{name}: {call:?}");
+        }
+        None => look(rt, core, name, step),
+    }
+}
+
+/// Does steps one after another.
+fn carry_out_part<D: SectorDisk, E: SectorDisk, M: Levels>(
+    rt: &impl Abort,
+    core: &mut Core<D, E, M>,
+    name: &str,
+    steps: &[Step],
+)
+    requires { IsSoundCore D.SectorDisk E.SectorDisk core.old }
+    ensures { IsSoundCore D.SectorDisk E.SectorDisk core.new }
+{
+    for step in steps {
+        carry_out_one(rt, core, name, *step);
+    }
+}
+
+/// Does the steps of a row.
+fn carry_out<D: SectorDisk, E: SectorDisk, M: Levels>(
+    rt: &impl Abort,
+    core: &mut Core<D, E, M>,
+    row: Row<'_>,
+)
+    requires { IsSoundCore D.SectorDisk E.SectorDisk core.old }
+    ensures { IsSoundCore D.SectorDisk E.SectorDisk core.new }
+{
+    for part in row.parts {
+        carry_out_part(rt, core, row.name, *part);
+    }
+}
+
+/// The device of the store, after the steps of a row in new memory of that mode.
+pub(crate) fn disk_after_in<M: Levels>(
+    rt: &impl Abort,
+    alloc: Global,
+    row: Row<'_>,
+) -> Result<SimDisk, Fail> {
+    let Sizes { frames, slots, .. } = row.sizes;
+    assert!(rt;
+        8 <= frames && frames <= 64 && slots <= 64,
+        "memory of another size"
+    );
+    let mut core = memory::<M>(alloc, row.sizes)?;
+    carry_out(rt, &mut core, row);
+    Ok(core.store.into_disk())
+}
+
+/// The same in Sv39.
+pub(crate) fn disk_after<R: AllocGlobal + Abort>(rt: &R, row: Row<'_>) -> Result<SimDisk, Fail> {
+    disk_after_in::<Sv39>(rt, rt.alloc(), row)
+}
+
+/// Ends the test where the value isn't the one that is wanted.
+pub(crate) fn equal<T: PartialEq + Debug + Drop>(rt: &impl Abort, name: &str, got: T, want: T) {
+    assert_eq!(rt; got, want, "{name}");
+}

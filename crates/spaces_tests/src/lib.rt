@@ -1,0 +1,11 @@
+//! Tests of the calls of processes on their spaces, over devices in memory.
+#![tactic(auto)]
+
+#[cfg(test)]
+mod bench;
+#[cfg(test)]
+mod calls;
+#[cfg(test)]
+mod sharing;
+#[cfg(test)]
+mod wants;

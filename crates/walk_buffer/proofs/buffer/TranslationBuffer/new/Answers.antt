@@ -1,8 +1,0 @@
-use Rattle.std.proofs.Common.{◌%◌, None, Option, ap, arith}
-use Rattle.std.proofs.lemmas.List.{get_or-replicate}
-use Rattle.walk_buffer.specs.Lines.{leaf_for}
-use Rattle.walk_buffer.specs.declared.line.Line.{Line}
-use Rattle.walk_buffer.proofs.buffer.TranslationBuffer.new.Goals as goal
-
-pub returns : goal.returns
-returns c = λ root page. ap (λ (o : Option Line). leaf_for o root page) (get_or-replicate 64 (page % 64) None None (omega arith))
