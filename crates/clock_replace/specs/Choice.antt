@@ -1,5 +1,7 @@
 -- The choice of the clock, or second chance, algorithm.
-use Rattle.std.specs.Prelude.{◌≡◌, ℕ, ◌+◌, ◌*◌, ◌%◌, ◌<◌, ◌↔◌}
+use Rattle.std.specs.Prelude.{◌≡◌, ℕ, ◌+◌, ◌*◌, ◌%◌, ◌<◌, ◌≤◌, ◌↔◌, Result, IfOk, OnErr}
+use Rattle.vm_types.specs.declared.number.FrameNo.{FrameNo}
+use Rattle.clock_replace.specs.declared.clock.Clock.{Clock}
 use Rattle.clock_replace.specs.declared.frame_view.FrameView.{Ghosts}
 
 -- where the hand stands after so many looks
@@ -40,3 +42,16 @@ module _ {V : Type 0} (g : Ghosts V) where
     pub evictable : (m : ℕ) → g.evictable_at new m ↔ g.evictable_at old m
     pub marked : (m : ℕ) → g.marked new m ↔ g.marked old m
     pub follows : g.follows old new
+
+  -- The clock looks at frames, at each of them twice at most:
+  pub record GoesRound {E : Type 0} (old new : V) (clock clock' : Clock) (result : Result FrameNo E) : Type 0 where
+    -- they may be asked further, and the hand stands at one of them;
+    pub «open» : g.is_open new
+    pub hand : clock'.hand < g.total new
+    pub looks : g.looks new ≤ g.looks old + 2 * g.total old
+    -- the first that may be given up and whose mark is clear is returned,
+    pub chooses : IfOk result (λ n. Chooses old new clock.hand clock'.hand n.0)
+    -- or none may be given up: then every mark and the hand are as they were.
+    pub none : OnErr result ((n : ℕ) → n < g.total old → g.evictable_at old n → ⊥)
+    pub kept : OnErr result (Keeps old new)
+    pub still : OnErr result (clock' ≡ clock)

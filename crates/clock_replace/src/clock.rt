@@ -1,6 +1,6 @@
 //! The clock's hand, and the choice that it makes.
-ghost use Rattle.std.specs.Prelude.{◌≡◌, ◌<◌, ◌*◌, ◌≤◌, ◌+◌, ℕ, IfOk, OnOk, OnErr, true, false, ◌==◌, if◌then◌else◌};
-ghost use Rattle.clock_replace.specs.Choice.{Chooses, Keeps};
+ghost use Rattle.std.specs.Prelude.{◌≡◌, ◌<◌, ◌≤◌, ◌+◌, true, false, ◌==◌, if◌then◌else◌};
+ghost use Rattle.clock_replace.specs.Choice.{GoesRound};
 ghost use Rattle.clock_replace.specs.Look.{Looks, IsChoice, IsPast};
 
 use crate::frame_view::FrameView;
@@ -41,13 +41,7 @@ impl Clock {
         requires open { V.is_open view.old }
         requires hand { self.old.hand < V.total view.old }
         requires few { V.total view.old ≤ 65536 }
-        ensures open { V.is_open view.new }
-        ensures hand { self.new.hand < V.total view.new }
-        ensures chooses { IfOk result (λ n. Chooses V.FrameView view.old view.new self.old.hand self.new.hand n.0) }
-        ensures none { OnErr result ((n : ℕ) → n < V.total view.old → V.evictable_at view.old n → ⊥) }
-        ensures kept { OnErr result (Keeps V.FrameView view.old view.new) }
-        ensures still { OnErr result (self.new ≡ self.old) }
-        ensures looks { V.looks view.new ≤ V.looks view.old + 2 * V.total view.old }
+        ensures { GoesRound V.FrameView view.old view.new self.old self.new result }
     {
         let frames = view.frames();
         for i in 0..2 * frames {

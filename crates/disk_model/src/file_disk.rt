@@ -146,11 +146,11 @@ impl<C: FileContents> FileDisk<C> {
 
 impl<C: FileContents> SectorDisk for FileDisk<C> {
     ghost use Rattle.std.specs.Prelude.{length};
-    ghost use Rattle.disk_model.specs.FileRecord.{held, Unsynced, LeftAfter, IsHonest, failed_calls, times_called, counts_present, only_present};
+    ghost use Rattle.disk_model.specs.FileRecord.{held_after, Unsynced, LeftAfter, IsHonest, failed_calls, times_called, counts_present, only_present};
 
     ghost sector_count = { λ d. d.count };
 
-    ghost content = { λ d. held C.at_first C.after_fault d.calls.notes };
+    ghost content = { λ d. held_after C.at_first C.after_fault d.calls.notes };
 
     ghost unsynced = { λ d. Unsynced d.calls.notes };
 

@@ -1,7 +1,7 @@
 //! A device in memory whose failures and stops are chosen.
-ghost use Rattle.std.specs.Prelude.{◌≡◌, ◌⊎◌, ◌<◌, ◌≤◌, ◌+◌, ◌^◌, ℕ, [], slice_index_or, replicate, length, is_err, IfOk, OnOk, OnErr};
+ghost use Rattle.std.specs.Prelude.{◌≡◌, ◌<◌, ◌≤◌, ◌+◌, ◌^◌, ℕ, [], slice_index_or, replicate, length, is_err, IfOk, OnOk};
 ghost use Rattle.std.proofs.Common.{inl};
-ghost use Rattle.disk_model.specs.Stop.{MayLeave, ChangesOnly, ChangesPage, IsOfPage, Elapses, HasCause, Names};
+ghost use Rattle.disk_model.specs.Stop.{MayLeave, IsOfPage, HasCause, Names};
 ghost use Rattle.disk_model.specs.Sectors.{sector_bytes, part_of};
 ghost use Rattle.disk_model.specs.Plan.{is_at, failures_after, first_listed};
 
@@ -98,7 +98,7 @@ fn listed_or<'a>(
 }
 
 impl SimDisk {
-    ghost use Rattle.disk_model.specs.SimDisk.{row, sector_of, IsUnsynced, sectors_in, calls_made, writes_made, syncs_made, IsFresh, left_at, last_synced, moment_of, LeftSince, failures_of, counts_of, fails_next, after_read};
+    ghost use Rattle.disk_model.specs.SimDisk.{image_of_sectors, sector_of, IsUnsynced, sectors_in, calls_made, writes_made, syncs_made, IsNewDevice, left_at, disk_counts, fails_next, after_read, AnswersAsSimulated, FailsAsArmed, KeepsSectors};
 
     /// A device of this many sectors of zeros, all of them synced.
     ///
@@ -108,7 +108,7 @@ impl SimDisk {
     pub fn new(alloc: Global, sectors: u64) -> Result<SimDisk, AllocError>
         ensures size { IfOk result (λ d. sectors_in d ≡ sectors) }
         ensures zeros { IfOk result (λ d. (k : ℕ) → k < sectors → sector_of d k ≡ replicate sector_bytes 0) }
-        ensures fresh { IfOk result IsFresh }
+        ensures fresh { IfOk result IsNewDevice }
     {
         let zeros = [0; SECTOR_BYTES];
         Ok(SimDisk {
@@ -185,7 +185,7 @@ impl SimDisk {
         ensures size { IfOk result (λ d. sectors_in d ≡ sectors_in self.now) }
         ensures bytes { IfOk result (λ d. (k : ℕ) → sector_of d k ≡ left_at self.now chosen.now k) }
         ensures stop { IfOk result (λ d. MayLeave (sector_of self.now) (IsUnsynced self.now) (sector_of d)) }
-        ensures fresh { IfOk result IsFresh }
+        ensures fresh { IfOk result IsNewDevice }
     {
         Ok(SimDisk {
             sectors: self.image_left(alloc, chosen)?,
@@ -209,7 +209,7 @@ impl SimDisk {
         chosen: &[(u64, [u8; SECTOR_BYTES])],
     ) -> Result<Vec<[u8; SECTOR_BYTES]>, AllocError>
         ensures size { IfOk result (λ v. length v.items ≡ sectors_in self.now) }
-        ensures bytes { IfOk result (λ v. (k : ℕ) → row v.items k ≡ left_at self.now chosen.now k) }
+        ensures bytes { IfOk result (λ v. (k : ℕ) → image_of_sectors v.items k ≡ left_at self.now chosen.now k) }
     {
         let mut image = Vec::new(alloc);
         for i in 0..self.sectors.len() {
@@ -226,16 +226,10 @@ impl SimDisk {
     // A read that is a call, or a part of one.
     fn get(&mut self, n: u64, to: &mut [u8; SECTOR_BYTES]) -> Result<(), DiskFault>
         requires { n < sectors_in self.old }
-        ensures size { sectors_in self.new ≡ sectors_in self.old }
-        ensures cause { HasCause (failures_of self.old) (failures_of self.new) result }
+        ensures keeps { AnswersAsSimulated self.old self.new result }
         ensures gives { OnOk result (to.new ≡ sector_of self.old n) }
-        ensures same { sector_of self.new ≡ sector_of self.old }
-        ensures unsynced { (k : ℕ) → IsUnsynced self.new k → IsUnsynced self.old k }
-        ensures still { (k : ℕ) → IsUnsynced self.old k → IsUnsynced self.new k }
-        ensures time { Elapses (moment_of self.old) (moment_of self.new) (LeftSince self.old) (LeftSince self.new) (sector_of self.new) (IsUnsynced self.new) }
-        ensures last { last_synced self.new ≡ last_synced self.old }
-        ensures fails { is_err result ≡ fails_next (counts_of self.old) }
-        ensures counted { counts_of self.new ≡ after_read (counts_of self.old) }
+        ensures holds { KeepsSectors self.old self.new }
+        ensures fails { FailsAsArmed (fails_next (disk_counts self.old)) (after_read (disk_counts self.old)) self.new result }
         ensures asked { self.new.asked ≡ self.old.asked }
     {
         self.calls = self.calls.saturating_add(1);
@@ -249,7 +243,7 @@ impl SimDisk {
 }
 
 impl SectorDisk for SimDisk {
-    ghost use Rattle.disk_model.specs.SimDisk.{sectors_in, sector_of, last_synced, IsUnsynced, moment_of, LeftSince, only_present, failures_of, asked_of, counts_of, fails_next, write_fails_next, after_read, after_sync, after_write, after_reads, after_writes, left_by_write};
+    ghost use Rattle.disk_model.specs.SimDisk.{sectors_in, sector_of, IsUnsynced, moment_of, LeftSince, only_present, failures_of, asked_of, disk_counts, fails_next, write_fails_next, after_read, after_sync, after_write, after_reads, left_by_write, AnswersAsSimulated, FailsAsArmed, KeepsSectors, RewritesSector, RewritesPage, WritesEach, SyncsSectors};
 
     ghost sector_count = { sectors_in };
 
@@ -277,17 +271,11 @@ impl SectorDisk for SimDisk {
 
     fn read(&mut self, n: u64, to: &mut [u8; SECTOR_BYTES]) -> Result<(), DiskFault>
         requires { n < sectors_in self.old }
-        ensures size { sectors_in self.new ≡ sectors_in self.old }
-        ensures cause { HasCause (failures_of self.old) (failures_of self.new) result }
+        ensures keeps { AnswersAsSimulated self.old self.new result }
         ensures asks { Names (λ k. k ≡ n) (asked_of self.old) (asked_of self.new) }
         ensures gives { OnOk result (to.new ≡ sector_of self.old n) }
-        ensures same { sector_of self.new ≡ sector_of self.old }
-        ensures unsynced { (k : ℕ) → IsUnsynced self.new k → IsUnsynced self.old k }
-        ensures still { (k : ℕ) → IsUnsynced self.old k → IsUnsynced self.new k }
-        ensures time { Elapses (moment_of self.old) (moment_of self.new) (LeftSince self.old) (LeftSince self.new) (sector_of self.new) (IsUnsynced self.new) }
-        ensures last { last_synced self.new ≡ last_synced self.old }
-        ensures fails { is_err result ≡ fails_next (counts_of self.old) }
-        ensures counted { counts_of self.new ≡ after_read (counts_of self.old) }
+        ensures holds { KeepsSectors self.old self.new }
+        ensures fails { FailsAsArmed (fails_next (disk_counts self.old)) (after_read (disk_counts self.old)) self.new result }
     {
         self.asked.sector(n);
         self.get(n, to)
@@ -295,19 +283,12 @@ impl SectorDisk for SimDisk {
 
     fn write(&mut self, n: u64, from: &[u8; SECTOR_BYTES]) -> Result<(), DiskFault>
         requires { n < sectors_in self.old }
-        ensures size { sectors_in self.new ≡ sectors_in self.old }
-        ensures cause { HasCause (failures_of self.old) (failures_of self.new) result }
+        ensures keeps { AnswersAsSimulated self.old self.new result }
         ensures asks { Names (λ k. k ≡ n) (asked_of self.old) (asked_of self.new) }
         ensures written { OnOk result (sector_of self.new n ≡ from.now) }
-        ensures leaves { sector_of self.new n ≡ left_by_write (counts_of self.old) from.now }
-        ensures others { ChangesOnly n (sector_of self.old) (sector_of self.new) }
-        ensures unsynced { (k : ℕ) → IsUnsynced self.new k → IsUnsynced self.old k ⊎ (k ≡ n) }
-        ensures marked { IsUnsynced self.new n }
-        ensures still { (k : ℕ) → IsUnsynced self.old k → IsUnsynced self.new k }
-        ensures time { Elapses (moment_of self.old) (moment_of self.new) (LeftSince self.old) (LeftSince self.new) (sector_of self.new) (IsUnsynced self.new) }
-        ensures last { last_synced self.new ≡ last_synced self.old }
-        ensures fails { is_err result ≡ write_fails_next (counts_of self.old) }
-        ensures counted { counts_of self.new ≡ after_write (counts_of self.old) }
+        ensures leaves { sector_of self.new n ≡ left_by_write (disk_counts self.old) from.now }
+        ensures changes { RewritesSector n self.old self.new }
+        ensures fails { FailsAsArmed (write_fails_next (disk_counts self.old)) (after_write (disk_counts self.old)) self.new result }
     {
         self.asked.sector(n);
         self.past.note(&[], &self.sectors, &self.unsynced);
@@ -328,16 +309,11 @@ impl SectorDisk for SimDisk {
     fn read_page(&mut self, n: u64, to: &mut [u8; 4096]) -> Result<(), DiskFault>
         requires room { n + 8 ≤ sectors_in self.old }
         requires fits { n < 2 ^ 60 }
-        ensures size { sectors_in self.new ≡ sectors_in self.old }
-        ensures cause { HasCause (failures_of self.old) (failures_of self.new) result }
+        ensures keeps { AnswersAsSimulated self.old self.new result }
         ensures asks { Names (IsOfPage n) (asked_of self.old) (asked_of self.new) }
         ensures gives { OnOk result ((i : ℕ) → i < 8 → part_of to.new i ≡ sector_of self.old (n + i)) }
-        ensures same { sector_of self.new ≡ sector_of self.old }
-        ensures unsynced { (k : ℕ) → IsUnsynced self.new k → IsUnsynced self.old k }
-        ensures still { (k : ℕ) → IsUnsynced self.old k → IsUnsynced self.new k }
-        ensures time { Elapses (moment_of self.old) (moment_of self.new) (LeftSince self.old) (LeftSince self.new) (sector_of self.new) (IsUnsynced self.new) }
-        ensures last { last_synced self.new ≡ last_synced self.old }
-        ensures counted { counts_of self.new ≡ after_reads 8 (counts_of self.old) }
+        ensures holds { KeepsSectors self.old self.new }
+        ensures counted { disk_counts self.new ≡ after_reads 8 (disk_counts self.old) }
     {
         self.asked.page(n);
         let mut sector = [0; SECTOR_BYTES];
@@ -353,18 +329,11 @@ impl SectorDisk for SimDisk {
     fn write_page(&mut self, n: u64, from: &[u8; 4096]) -> Result<(), DiskFault>
         requires room { n + 8 ≤ sectors_in self.old }
         requires fits { n < 2 ^ 60 }
-        ensures size { sectors_in self.new ≡ sectors_in self.old }
-        ensures cause { HasCause (failures_of self.old) (failures_of self.new) result }
+        ensures keeps { AnswersAsSimulated self.old self.new result }
         ensures asks { Names (IsOfPage n) (asked_of self.old) (asked_of self.new) }
         ensures written { OnOk result ((i : ℕ) → i < 8 → sector_of self.new (n + i) ≡ part_of from.now i) }
-        ensures each { (i : ℕ) → i < 8 → sector_of self.new (n + i) ≡ left_by_write (after_writes i (counts_of self.old)) (part_of from.now i) }
-        ensures others { ChangesPage n (sector_of self.old) (sector_of self.new) }
-        ensures unsynced { (k : ℕ) → IsUnsynced self.new k → IsUnsynced self.old k ⊎ IsOfPage n k }
-        ensures marked { (k : ℕ) → IsOfPage n k → IsUnsynced self.new k }
-        ensures still { (k : ℕ) → IsUnsynced self.old k → IsUnsynced self.new k }
-        ensures time { Elapses (moment_of self.old) (moment_of self.new) (LeftSince self.old) (LeftSince self.new) (sector_of self.new) (IsUnsynced self.new) }
-        ensures last { last_synced self.new ≡ last_synced self.old }
-        ensures counted { counts_of self.new ≡ after_writes 8 (counts_of self.old) }
+        ensures changes { RewritesPage n self.old self.new }
+        ensures writes { WritesEach n from.now self.old self.new }
     {
         let mut failed = false;
         for (i, sector) in parts(from).iter().enumerate() {
@@ -376,18 +345,10 @@ impl SectorDisk for SimDisk {
     }
 
     fn sync(&mut self) -> Result<(), DiskFault>
-        ensures size { sectors_in self.new ≡ sectors_in self.old }
-        ensures cause { HasCause (failures_of self.old) (failures_of self.new) result }
+        ensures keeps { AnswersAsSimulated self.old self.new result }
         ensures asks { (k : ℕ) → asked_of self.new k ≡ asked_of self.old k }
-        ensures same { sector_of self.new ≡ sector_of self.old }
-        ensures synced { OnOk result ((k : ℕ) → IsUnsynced self.new k → ⊥) }
-        ensures unsynced { (k : ℕ) → IsUnsynced self.new k → IsUnsynced self.old k }
-        ensures still { OnErr result ((k : ℕ) → IsUnsynced self.old k → IsUnsynced self.new k) }
-        ensures time { Elapses (moment_of self.old) (moment_of self.new) (LeftSince self.old) (LeftSince self.new) (sector_of self.new) (IsUnsynced self.new) }
-        ensures last { OnOk result (last_synced self.new ≡ sector_of self.old) }
-        ensures last_stays { OnErr result (last_synced self.new ≡ last_synced self.old) }
-        ensures fails { is_err result ≡ fails_next (counts_of self.old) }
-        ensures counted { counts_of self.new ≡ after_sync (counts_of self.old) }
+        ensures syncs { SyncsSectors self.old self.new result }
+        ensures fails { FailsAsArmed (fails_next (disk_counts self.old)) (after_sync (disk_counts self.old)) self.new result }
     {
         self.past.note(&[], &self.sectors, &self.unsynced);
         self.calls = self.calls.saturating_add(1);

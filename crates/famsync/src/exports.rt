@@ -12,12 +12,14 @@ ghost use Rattle.file_store.specs.Commit.{ArePages, Changes, StandsForEither};
 ghost use Rattle.file_store.specs.Standing.{IsPageOf, StandsFor, IsBadLayout, file_info};
 ghost use Rattle.famsync.specs.Codes.{done, out_of_turn, bad_layout, bad_journal, bad_pages, read_only, no_room, closed, ready, pending};
 ghost use Rattle.sync_plans.specs.Pages.{lent_page};
-ghost use Rattle.sync_plans.specs.Plans.{row, AreCalls, AreSources, image_after, Unsynced, StopLeaves};
+ghost use Rattle.sync_plans.specs.Plans.{row, AreCalls, AreSources, image_after, IsLeftUnsynced, StopLeaves};
 ghost use Rattle.sync_plans.specs.Requests.{IsStore, HasBadJournal, IsClosed, KeepsOutside, AreWritable, AreReadOnly};
 
 use crate::codes::{BAD_PAGES, CLOSED, OK, PENDING, READY, TURN, number};
 use crate::handle::Handle;
-use sync_plans::{Call, PageBytes, ROOM, file_facts, plan_commit, plan_open, read_page};
+use sync_plans::{
+    Call, PageBytes, PageUpdates, ROOM, Scratch, file_facts, plan_commit, plan_open, read_page,
+};
 use vm_types::FilePage;
 
 /// Plans that the image is opened. It must hold what the file holds, all of it synced. Returns 0, and the handle is pending then; 2 or 3
@@ -35,7 +37,7 @@ pub extern "C" fn famsync_open(
     ensures few { used.new ≤ 16384 }
     ensures all { AreCalls (length image.now) calls.new used.new }
     ensures sources { AreSources (lent_page []) calls.new used.new }
-    ensures synced { (n : ℕ) → Unsynced calls.new used.new n → ⊥ }
+    ensures synced { (n : ℕ) → IsLeftUnsynced calls.new used.new n → ⊥ }
     ensures any_moment { (files : ℕ → Option FileInfo) (pages : ℕ → ℕ → List ℕ) → StandsFor (length image.now) files pages (row image.now)
         → (left : Image) → StopLeaves calls.new rows.new (lent_page []) (row image.now) used.new left → StandsFor (length image.now) files pages left }
     ensures closed { result ≡ done → IsClosed (image_after calls.new rows.new (lent_page []) (row image.now) used.new) }
@@ -53,7 +55,11 @@ pub extern "C" fn famsync_open(
 {
     *used = 0;
     handle.state = CLOSED;
-    match plan_open(image, scratch_calls, scratch_rows, calls, rows) {
+    let scratch = Scratch {
+        calls: scratch_calls,
+        rows: scratch_rows,
+    };
+    match plan_open(image, scratch, calls, rows) {
         Ok(count) => {
             *used = count;
             handle.state = PENDING;
@@ -84,7 +90,7 @@ pub extern "C" fn famsync_commit(
     ensures few { used.new ≤ 16384 }
     ensures all { AreCalls (length image.now) calls.new used.new }
     ensures sources { AreSources (lent_page bytes.now) calls.new used.new }
-    ensures synced { (n : ℕ) → Unsynced calls.new used.new n → ⊥ }
+    ensures synced { (n : ℕ) → IsLeftUnsynced calls.new used.new n → ⊥ }
     ensures any_moment { (files : ℕ → Option FileInfo) (before after : ℕ → ℕ → List ℕ)
         → StandsFor (length image.now) files before (row image.now) → Changes files pages.now (lent_page bytes.now) before after
         → (left : Image) → StopLeaves calls.new rows.new (lent_page bytes.now) (row image.now) used.new left → StandsForEither (length image.now) files before after left }
@@ -111,15 +117,11 @@ pub extern "C" fn famsync_commit(
     if pages.len() != bytes.len() {
         return BAD_PAGES;
     }
-    let planned = plan_commit(
-        image,
-        scratch_calls,
-        scratch_rows,
-        calls,
-        rows,
-        pages,
-        bytes,
-    );
+    let scratch = Scratch {
+        calls: scratch_calls,
+        rows: scratch_rows,
+    };
+    let planned = plan_commit(image, scratch, calls, rows, PageUpdates { pages, bytes });
     match planned {
         Ok(count) => {
             *used = count;
@@ -159,13 +161,11 @@ pub extern "C" fn famsync_read(
     if handle.state != READY {
         return TURN;
     }
-    match read_page(
-        image,
-        scratch_calls,
-        scratch_rows,
-        FilePage { file, page },
-        to,
-    ) {
+    let scratch = Scratch {
+        calls: scratch_calls,
+        rows: scratch_rows,
+    };
+    match read_page(image, scratch, FilePage { file, page }, to) {
         Ok(()) => OK,
         Err(refusal) => number(refusal),
     }
@@ -193,7 +193,11 @@ pub extern "C" fn famsync_length(
     if handle.state != READY {
         return TURN;
     }
-    match file_facts(image, scratch_calls, scratch_rows, file) {
+    let scratch = Scratch {
+        calls: scratch_calls,
+        rows: scratch_rows,
+    };
+    match file_facts(image, scratch, file) {
         Ok(Some(info)) => {
             *to = info.length;
             OK

@@ -31,10 +31,12 @@ use Rattle.residency.specs.Ages.{GivesForTables, KeepsRolesBut}
 use Rattle.residency.specs.Calls.{KeepsPages}
 use Rattle.residency.specs.Shows.{KeepsFiles}
 use Rattle.residency.proofs.Seats.{holders_none}
-use Rattle.fault.specs.Asking.{HasSwappable, MayAsk, AsksIfFull, AsksNoNew, AsksSlotsIf, IsSectorOfFile, IsSectorOfPage}
-use Rattle.fault.specs.Changes.{IsWhole, IsCalm, KeepsBare, KeepsSlotted, LinksTables, Moves, copied_frame, frame_behind, frame_of_place}
+use Rattle.fault.specs.Asking.{HasSwappable, MayAsk, AsksIfFull, AsksNoNew, AsksSlotsIf, IsSectorOfStoredPage, IsSectorOfPage}
+use Rattle.fault.specs.Changes.{IsCalm, KeepsBare, KeepsSlotted, LinksTables, Moves, copied_frame, frame_behind, frame_of_place}
+use Rattle.residency.specs.Ways.{IsWhole}
 use Rattle.fault.proofs.Asking.{asks_slots_any, asks_slots_if, asks_slots_kept, asks_slots_same, asks_slots_then, asks_slots_wider}
-use Rattle.fault.proofs.Forms.{none_common, seat_common, seat_own, seat_zero}
+use Rattle.fault.proofs.Forms.{none_common, seat_zero}
+use Rattle.residency.proofs.SeatForms.{seat_common, seat_own}
 use Rattle.fault.proofs.OwnSteps.{shown_common}
 use Rattle.fault.specs.AccessAsking.{IsSectorOfItsSlot, AsksForPage}
 use Rattle.fault.specs.Wants.{LacksTable, RunsOut, ShowsFile, WantsTwo}
@@ -165,15 +167,15 @@ module _ {M : Type 0} {m : Levels.Ghosts M} {D E : Type 0} (g : Ghosts D) (h : G
   asks_calm old new pid page access calm = asks_same old new pid page access calm.store calm.swap
 
   module _ (old mid : Core D E M m) (pid page : ℕ) (access : Access) (p : PageKey) (shows : ShowsFile (picture_of old) pid page p) (swap : AsksIfFull h old mid None (IsSectorOfPage (picture_of old) p))
-      (store : AsksOnly g (IsSectorOfFile old.store p) old.store.disk mid.store.disk) where
-    of_file : (k : ℕ) → IsSectorOfFile old.store p k → (f : FilePage) × ShowsFile (picture_of old) pid page (File f) × IsSectorOf old.store f k
+      (store : AsksOnly g (IsSectorOfStoredPage old.store p) old.store.disk mid.store.disk) where
+    of_file : (k : ℕ) → IsSectorOfStoredPage old.store p k → (f : FilePage) × ShowsFile (picture_of old) pid page (File f) × IsSectorOf old.store f k
     of_file k is = (is.0, (let P : PageKey → Type 0 = λ x. ShowsFile (picture_of old) pid page x in subst P is.1 shows), is.2)
 
     file_asked : (new : Core D E M m) → new.store ≡ mid.store
         → AsksOnly g (λ k. (f : FilePage) × ShowsFile (picture_of old) pid page (File f) × IsSectorOf old.store f k) old.store.disk new.store.disk
     file_asked new same =
-        let P : FileStore D → Type 0 = λ s. AsksOnly g (IsSectorOfFile old.store p) old.store.disk s.disk in
-        asks_wider g (IsSectorOfFile old.store p) _ old.store.disk new.store.disk of_file (subst P (sym same) store)
+        let P : FileStore D → Type 0 = λ s. AsksOnly g (IsSectorOfStoredPage old.store p) old.store.disk s.disk in
+        asks_wider g (IsSectorOfStoredPage old.store p) _ old.store.disk new.store.disk of_file (subst P (sym same) store)
 
     slot_asked : (new : Core D E M m) → AsksSlotsIf h (RunsOut (picture_of old) pid page access) old new None (IsSectorOfPage (picture_of old) p)
         → AsksSlotsIf h (RunsOut (picture_of old) pid page access) old new None (IsSectorOfItsSlot (picture_of old) pid page)

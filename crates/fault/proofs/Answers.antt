@@ -8,7 +8,7 @@ use Rattle.sv39_walk.specs.declared.translation.WalkFault.{WalkFault}
 use Rattle.sv39_walk.specs.declared.translation.WalkFault.TheVariants.{Invalid, Reserved, TooDeep, Outside, Misaligned, Denied, NotAccessed, NotDirty}
 use Rattle.sv39_walk.specs.Entry.{is_valid, is_user, is_accessed, is_dirty, is_reserved, is_leaf, frame_of, grants}
 use Rattle.sv39_walk.specs.Walk.{page_of, frame_in, is_store, answer_of}
-use Rattle.fault.specs.Granted.{Opens}
+use Rattle.fault.specs.Granted.{IsOpenLeaf}
 
 guard : (b : Bool) (f : WalkFault) (r : Result Phys WalkFault) (p : Phys) → (if not b then Err f else r) ≡ Ok p → (b ≡ true) × (r ≡ Ok p)
 guard true f r p h = (refl, h)
@@ -52,7 +52,7 @@ frame_in-zero e page = omega arith
 no_low_bits : (n : ℕ) → (n % 1 == 0) ≡ true
 no_low_bits n = let none : n % 1 ≡ 0 = omega arith in rw none
 
-pub answer-ok : (count addr : ℕ) (access : Access) (e : ℕ) → Opens access e → frame_of e < count
+pub answer-ok : (count addr : ℕ) (access : Access) (e : ℕ) → IsOpenLeaf access e → frame_of e < count
     → answer_of count addr access 0 e ≡ Ok (record { 0 = frame_of e * 4096 + addr % 4096 })
 unfolding answer_of
 answer-ok count addr access e opens inside =
@@ -71,7 +71,7 @@ answer-ok count addr access e opens inside =
 
 -- what is known of a place that the walk answers
 pub record Places (count addr : ℕ) (access : Access) (e : ℕ) (phys : Phys) : Type 0 where
-  pub opens : Opens access e
+  pub opens : IsOpenLeaf access e
   pub inside : frame_of e < count
   pub place : phys.0 ≡ frame_of e * 4096 + addr % 4096
 

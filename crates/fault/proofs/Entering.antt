@@ -25,7 +25,8 @@ use Rattle.residency.proofs.Moves.{behind_kept, view_kept}
 use Rattle.residency.proofs.Setting.{fit_set, set_views, set_held}
 use Rattle.residency.proofs.TableSteps.{sets_page, rooted_set}
 use Rattle.fault.specs.Leaves.{IsFullEntry}
-use Rattle.fault.specs.Changes.{IsLinked, Enters, KeepsAround, KeepsTables, KeepsViews}
+use Rattle.fault.specs.Changes.{IsLinked, Enters, KeepsTables, KeepsViews}
+use Rattle.residency.specs.Ways.{KeepsAround}
 use Rattle.fault.proofs.Forms.{full_entry, full_dirty_sound, mapped_page}
 use Rattle.fault.proofs.Rows.{rows_set}
 use Rattle.fault.proofs.Steps.{tables_same}

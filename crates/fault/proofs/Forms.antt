@@ -21,6 +21,7 @@ use Rattle.page_cache.specs.declared.place.Place.TheVariants.{Home, Frame}
 use Rattle.residency.specs.Seats.{InFrame, InSlot, seat, is_private, is_swapped}
 use Rattle.residency.specs.Picture.{Picture, entry}
 use Rattle.residency.specs.Parts.{IsGranting, IsEntryFor, Nothing, Resident, Away, IsResident, IsBehind, IsWithin, HasPlaces, IsFit, is_shared}
+use Rattle.residency.proofs.SeatForms.{seat_own, seat_common, seat_away}
 use Rattle.residency.proofs.Start.{seat-none}
 use Rattle.page_tables.specs.Leaves.{IsLeaf, IsEntryOver, is_barred}
 use Rattle.fault.specs.Leaves.{IsFullEntry, is_touched_behind, full_write}
@@ -64,15 +65,6 @@ over_here e a frame private write stored over = elim (cases_Bool (is_barred a.pr
   | inl barred ↦ (let bits = parked_bits e a frame private write stored over barred in rw (bits.0, bits.1) refl)
   | inr useful ↦ rw (over.leaf useful).valid refl
 ]
-
-pub seat_own : (e : ℕ) → is_private e ≡ true → seat e ≡ Some (InFrame (frame_of e))
-seat_own e own = rw own refl
-
-pub seat_common : (e : ℕ) → is_private e ≡ false → is_swapped e ≡ false → seat e ≡ None
-seat_common e common here = rw (common, here) refl
-
-pub seat_away : (e : ℕ) → is_private e ≡ false → is_swapped e ≡ true → seat e ≡ Some (InSlot (frame_of e))
-seat_away e common away = rw (common, away) refl
 
 -- it names the frame as the process's own, or no seat
 pub seat_over : (e : ℕ) (a : Attr) (frame : ℕ) (write stored : Bool) → IsEntryOver e a.prot frame true write stored → seat e ≡ Some (InFrame frame)

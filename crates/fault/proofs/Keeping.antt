@@ -19,8 +19,10 @@ use Rattle.residency.specs.Seats.{InFrame, InSlot, seat, is_private, is_swapped}
 use Rattle.residency.specs.Picture.{Picture, entry}
 use Rattle.residency.specs.Parts.{IsFit, IsBehind, is_shared}
 use Rattle.residency.specs.Calls.{Frees}
-use Rattle.fault.specs.Changes.{IsLinked, IsWhole, KeepsSeen, KeepsSpaces, KeepsTables, KeepsViews, copied_frame, shown_frame}
-use Rattle.fault.proofs.Forms.{mapped_page, seat_own, seat_common, seat_away}
+use Rattle.fault.specs.Changes.{IsLinked, KeepsSeen, KeepsSpaces, KeepsTables, KeepsViews, copied_frame, shown_frame}
+use Rattle.residency.specs.Ways.{IsWhole}
+use Rattle.fault.proofs.Forms.{mapped_page}
+use Rattle.residency.proofs.SeatForms.{seat_own, seat_common, seat_away}
 use Rattle.fault.proofs.OwnSteps.{shown_own, shown_behind}
 use Rattle.fault.proofs.Staying.{linked_kept}
 use Rattle.fault.specs.Wants.{HoldsShown, KeepsOwnFrame, ShowsFile}

@@ -26,7 +26,8 @@ use Rattle.residency.specs.Calls.{KeepsPages, Refuses}
 use Rattle.residency.specs.Stalls.{StallCause}
 use Rattle.residency.specs.Capacity.{IsShort}
 use Rattle.residency.proofs.Entries.{entry-of}
-use Rattle.fault.specs.Changes.{IsWhole, IsCalm, KeepsBare, LinksTables, Moves}
+use Rattle.fault.specs.Changes.{IsCalm, KeepsBare, LinksTables, Moves}
+use Rattle.residency.specs.Ways.{IsWhole}
 use Rattle.fault.specs.Files.{BringsPages, BringsFiles}
 use Rattle.fault.proofs.BroughtIn.{cause_of}
 use Rattle.fault.proofs.Forms.{none_here, seat_zero}

@@ -11,7 +11,7 @@ use Rattle.regions.specs.Permission.{ReadsToo}
 use Rattle.page_tables.specs.Leaves.{IsEntryOver}
 use Rattle.residency.specs.Picture.{Picture}
 use Rattle.residency.specs.Parts.{IsFit}
-use Rattle.fault.specs.Granted.{Opens}
+use Rattle.fault.specs.Granted.{IsOpenLeaf}
 
 first_bar : (r x : Bool) → r ≡ true → not (r || x) ≡ false
 first_bar true x e = refl
@@ -22,7 +22,7 @@ second_bar true true e = refl
 second_bar false true e = refl
 second_bar r false e = absurd (false≢true e)
 
-pub opens_load : (e : ℕ) (prot : Prot) (n : ℕ) (private write stored : Bool) → IsEntryOver e prot n private write stored → lets Load prot ≡ true → Opens Load e
+pub opens_load : (e : ℕ) (prot : Prot) (n : ℕ) (private write stored : Bool) → IsEntryOver e prot n private write stored → lets Load prot ≡ true → IsOpenLeaf Load e
 opens_load e prot n private write stored over allowed =
     let leaf = over.leaf (first_bar (Permission.can_read prot) (Permission.can_execute prot) allowed) in
     record {
@@ -35,7 +35,7 @@ opens_load e prot n private write stored over allowed =
       dirty = λ store. absurd (false≢true store);
     }
 
-pub opens_fetch : (e : ℕ) (prot : Prot) (n : ℕ) (private write stored : Bool) → IsEntryOver e prot n private write stored → lets Fetch prot ≡ true → Opens Fetch e
+pub opens_fetch : (e : ℕ) (prot : Prot) (n : ℕ) (private write stored : Bool) → IsEntryOver e prot n private write stored → lets Fetch prot ≡ true → IsOpenLeaf Fetch e
 opens_fetch e prot n private write stored over allowed =
     let leaf = over.leaf (second_bar (Permission.can_read prot) (Permission.can_execute prot) allowed) in
     record {
@@ -48,7 +48,7 @@ opens_fetch e prot n private write stored over allowed =
       dirty = λ store. absurd (false≢true store);
     }
 
-pub opens_store : (e : ℕ) (prot : Prot) (n : ℕ) (private : Bool) → IsEntryOver e prot n private true true → Permission.can_read prot ≡ true → Opens Store e
+pub opens_store : (e : ℕ) (prot : Prot) (n : ℕ) (private : Bool) → IsEntryOver e prot n private true true → Permission.can_read prot ≡ true → IsOpenLeaf Store e
 opens_store e prot n private over readable =
     let leaf = over.leaf (first_bar (Permission.can_read prot) (Permission.can_execute prot) readable) in
     record {

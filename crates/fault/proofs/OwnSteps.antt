@@ -31,7 +31,8 @@ use Rattle.residency.proofs.Taking.{trees_changed}
 use Rattle.page_tables.specs.Leaves.{IsEntryOver}
 use Rattle.fault.specs.Leaves.{IsFullEntry}
 use Rattle.fault.specs.Changes.{AddsNoTable, IsLinked, KeepsSpaces, KeepsTables, KeepsRows, KeepsRoom, KeepsOtherViews, KeepsOtherBare, KeepsSlotted, IsThatPage, TakesCopy, frame_of_place, frame_behind, shown_frame, is_sole}
-use Rattle.fault.proofs.Forms.{mapped_page, behind_used, behind_datum, own_role, seat_own, seat_common}
+use Rattle.fault.proofs.Forms.{mapped_page, behind_used, behind_datum, own_role}
+use Rattle.residency.proofs.SeatForms.{seat_own, seat_common}
 use Rattle.fault.proofs.NoTables.{no_table_then, no_table_freed, no_table_spared, no_table_trees, no_table_set}
 use Rattle.fault.proofs.Rows.{rows_then, rows_ends, rows_freed, rows_changed, rows_settled}
 use Rattle.fault.proofs.Settling.{settled_first, settled_moved, settled_others, settled_views, settled_view, settled_held, settled_missing, settled_room, settled_full, settled_bytes, settled_count}

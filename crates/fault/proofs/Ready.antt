@@ -19,7 +19,8 @@ use Rattle.residency.specs.Seats.{seat, is_private, is_swapped}
 use Rattle.residency.specs.Picture.{Picture, entry, own_in, bytes_in, view, view_of}
 use Rattle.residency.specs.Parts.{IsFit, IsResident, IsBehind, is_shared}
 use Rattle.fault.specs.Changes.{KeepsSeen}
-use Rattle.fault.proofs.Forms.{seat_own, seat_common, resident_page, resident_used, own_role, used_inside}
+use Rattle.fault.proofs.Forms.{resident_page, resident_used, own_role, used_inside}
+use Rattle.residency.proofs.SeatForms.{seat_own, seat_common}
 use Rattle.fault.specs.Shown.{AreBehind, AreOwnOrBehind, AreShown, IsSoleOwner}
 use Rattle.fault.specs.Outcome.{Reads, MarksTouchedIn, Owns, seen_at}
 

@@ -21,12 +21,13 @@ use Rattle.residency.specs.Parts.{IsFit, IsBehind, is_shared}
 use Rattle.page_tables.specs.Leaves.{IsEntryOver}
 use Rattle.fault.specs.Changes.{KeepsSeen, KeepsOtherViews, frame_of_place, frame_behind, shown_bytes}
 use Rattle.page_tables.proofs.Bits.{over_some}
-use Rattle.fault.proofs.Forms.{mapped_page, over_here, seat_common}
+use Rattle.fault.proofs.Forms.{mapped_page, over_here}
+use Rattle.residency.proofs.SeatForms.{seat_common}
 use Rattle.fault.proofs.OwnSteps.{shown_own, shown_common}
 use Rattle.fault.proofs.Steps.{seen_then}
 use Rattle.fault.specs.Shown.{AreBehind, AreOwnOrBehind, AreShown}
 use Rattle.fault.specs.Granted.{IsEntered, IsReadyAt}
-use Rattle.fault.specs.Outcome.{Reads, MarksTouchedIn, Owns, IsReadyToStore, IsOpenFor, seen_at}
+use Rattle.fault.specs.Outcome.{Reads, MarksTouchedIn, Owns, IsReadyToStore, IsFrameFor, seen_at}
 use Rattle.fault.proofs.Opening.{opens_load, opens_fetch, opens_store}
 use Rattle.fault.proofs.Verdicts.{ready_open}
 use Rattle.fault.proofs.Ready.{same_key, zero_same, view-mapped, own_in-private, own_in-none, reads, touches, owns}
@@ -69,7 +70,7 @@ ready_read Fetch old new pid page a n other reads = reads
 
 -- a page whose entry lets it be read
 pub entered_read : {mode : ℕ} (access : Access) (c : Picture mode) (pid page : ℕ) (a : Attr) (n : ℕ) (private write stored : Bool) → access ≢ Store → lets access a.prot ≡ true
-    → IsEntryOver (entry c pid page) a.prot n private write stored → IsOpenFor access c pid page a.backing n → IsEntered c pid page a access n
+    → IsEntryOver (entry c pid page) a.prot n private write stored → IsFrameFor access c pid page a.backing n → IsEntered c pid page a access n
 entered_read Load c pid page a n private write stored other allowed over usable =
     record { opens = opens_load (entry c pid page) a.prot n private write stored over allowed; frame = over.names; usable = usable }
 entered_read Store c pid page a n private write stored other allowed over usable = absurd (other refl)
@@ -78,12 +79,12 @@ entered_read Fetch c pid page a n private write stored other allowed over usable
 
 -- one whose entry lets stores through
 pub entered_store : {mode : ℕ} (c : Picture mode) (pid page : ℕ) (a : Attr) (n : ℕ) (private : Bool) → Permission.can_read a.prot ≡ true
-    → IsEntryOver (entry c pid page) a.prot n private true true → IsOpenFor Store c pid page a.backing n → IsEntered c pid page a Store n
+    → IsEntryOver (entry c pid page) a.prot n private true true → IsFrameFor Store c pid page a.backing n → IsEntered c pid page a Store n
 entered_store c pid page a n private readable over usable =
     record { opens = opens_store (entry c pid page) a.prot n private over readable; frame = over.names; usable = usable }
 
 -- and that is ready
-pub entered_ready : {mode : ℕ} (access : Access) (old new : Picture mode) (pid page : ℕ) (a : Attr) (n : ℕ) → IsReadyAt old new pid page a access n → IsOpenFor access new pid page a.backing n
+pub entered_ready : {mode : ℕ} (access : Access) (old new : Picture mode) (pid page : ℕ) (a : Attr) (n : ℕ) → IsReadyAt old new pid page a access n → IsFrameFor access new pid page a.backing n
 entered_ready access old new pid page a n ready = ready_open access old new pid page (seen_at old pid page a) n ready
 
 to_shared : {mode : ℕ} (old new : Picture mode) (pid page : ℕ) (v : View) (b : Backing) (p : PageKey) (n : ℕ) → is_shared b ≡ true → stands_on b ≡ Some p → MarksTouchedIn old new p n

@@ -3,7 +3,8 @@ use Rattle.std.proofs.Common.{◌≢◌, ℕ, None, sym, ◌∙◌, arith}
 use Rattle.residency.specs.Picture.{Picture}
 use Rattle.residency.specs.Parts.{IsFit}
 use Rattle.fault.specs.declared.spot.Spot.{Spot}
-use Rattle.fault.specs.Changes.{IsLinked, IsWhole, KeepsRows, KeepsSpaces, KeepsTables, StandsAt}
+use Rattle.fault.specs.Changes.{IsLinked, KeepsRows, KeepsSpaces, KeepsTables, StandsAt}
+use Rattle.residency.specs.Ways.{IsWhole}
 
 -- no process came or went, and no table came to be missing
 pub linked_kept : {mode : ℕ} (old new : Picture mode) (pid page : ℕ) → IsLinked old pid page → IsFit new → KeepsSpaces old new → KeepsTables old new → IsLinked new pid page

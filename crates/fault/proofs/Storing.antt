@@ -20,6 +20,7 @@ use Rattle.residency.proofs.Evicted.{seat_number}
 use Rattle.residency.proofs.Seats.{seat-same, off-none}
 use Rattle.residency.proofs.Setting.{each_view, view_seated, held_same, entries_written, fit_written, bytes_else}
 use Rattle.fault.proofs.Forms as Forms
+use Rattle.residency.proofs.SeatForms.{seat_own}
 use Rattle.fault.specs.Shown.{IsSoleOwner}
 use Rattle.fault.proofs.Ready.{view-mapped, own_in-private}
 use Rattle.fault.proofs.Settled.{one_view}
@@ -48,7 +49,7 @@ unfolding holders_at
 sole_page c pid page n q k fit sole h there =
     let counted = fit.counted.1 in
     let y = InFrame n in
-    let here : seat (entry c pid page) ≡ Some y = Forms.seat_own (entry c pid page) sole.private ∙ ap (λ x. Some (InFrame x)) sole.frame in
+    let here : seat (entry c pid page) ≡ Some y = seat_own (entry c pid page) sole.private ∙ ap (λ x. Some (InFrame x)) sole.frame in
     let owned = counted.named pid page y sole.inside here in
     let at = counted.noted pid page y sole.inside here in
     let at' = counted.noted q k y h there in

@@ -37,29 +37,11 @@ use Rattle.residency.proofs.Handing.{away_number}
 use Rattle.residency.proofs.Puts.{SameButSlots}
 use Rattle.residency.proofs.Setting.{each_view, view_seated}
 use Rattle.page_tables.proofs.Bits.{parked_framed}
-use Rattle.fault.proofs.Forms.{seat_away}
+use Rattle.residency.proofs.SeatForms.{bit_clear, seat_away, swapped_form, away_seat}
 
 zero_here : is_swapped 0 ≡ false
 unfolding has_bit
 zero_here = refl
-
-bit_clear : (e : ℕ) → has_bit e 1 ≡ false → is_swapped e ≡ false
-bit_clear e clear = elim (cases_Bool (is_valid e)) [
-  | inl valid ↦ rw valid refl
-  | inr invalid ↦ rw (invalid, clear) refl
-]
-
--- an entry of a page in a slot has that form
-pub swapped_form : (e : Entry) → IsEntry e → is_swapped (number_of e) ≡ true → (k : SlotNo) × (e ≡ Swapped k)
-swapped_form Entries.None form is = absurd (false≢true (sym zero_here ∙ is))
-swapped_form (Leaf l) form is = absurd (false≢true (sym (let z : is_swapped l.0 ≡ false = rw form.0 refl in z) ∙ is))
-swapped_form (Swapped k) form is = (k, refl)
-swapped_form (Parked f p) form is = absurd (false≢true (sym (bit_clear (number_of (Parked f p)) (parked_framed f.0 p)) ∙ is))
-
-pub away_seat : (k : ℕ) → k < 2 ^ 32 → seat (k * 1024 + 2) ≡ Some (InSlot k)
-away_seat k low =
-    let away = away_number k low in
-    seat_away (k * 1024 + 2) away.common away.swapped ∙ ap (λ n. Some (InSlot n)) away.slot
 
 some_seat : (x y : Seat) → Some x ≡ Some y → x ≡ y
 some_seat x y e = (cc)
@@ -100,31 +82,6 @@ own_spent old taken new n w takes releases =
       roles = λ m ne. releases.others.roles m ne ∙ written.roles m ne;
       counts = λ m ne. releases.others.counts m ne ∙ written.counts m ne;
     }
-
--- a share of a slot was given back: the bytes of all slots are as they were
-module _ {mode : ℕ} (old new : Picture mode) (k x d : ℕ) (s : Seat) (fit : IsFitBut old s x d) (same : SameButSlots old new) (releases : Slots.Releases old.slots new.slots k) where
-  slot_bytes : (j : ℕ) → IsInUse old.slots j → new.slots.bytes j ≡ old.slots.bytes j
-  slot_bytes j used = elim (cases_eq j k) [
-    | inl e ↦ ap new.slots.bytes e ∙ releases.bytes_kept ∙ ap old.slots.bytes (sym e)
-    | inr ne ↦ releases.others.bytes j ne used
-  ]
-
-  seat_bytes : (z : Seat) → IsOwned old z → bytes_in new.frames new.slots z ≡ bytes_in old.frames old.slots z
-  seat_bytes (InFrame n) is = ap (λ t. bytes_of t n) same.frames
-  seat_bytes (InSlot j) is = slot_bytes j is.0
-
-  pub views_given : (q p : ℕ) → view new q p ≡ view old q p
-  views_given q p = each_view old new fit.granting same.at q p (λ h. view_seated old new q p (same.at q p) (ap seat (same.entries q p))
-      (λ z is. seat_bytes z (fit.counted.1.named q p z h is)))
-
-  place_bytes : (p : PageKey) (y : Place) → old.place p ≡ y → bytes_at new.frames new.slots y ≡ bytes_at old.frames old.slots y
-  place_bytes p Home at = refl
-  place_bytes p (Frame m) at = ap (λ t. Some (bytes_of t m.0)) same.frames
-  place_bytes p (Slot j) at = ap (λ (w : _). Some w) (slot_bytes j.0 (let one = fit.places.slotted p j.0 at in omega (arith, one)))
-
-  pub held_given : (p : PageKey) → held new p ≡ held old p
-  unfolding held
-  held_given p = ap (λ y. bytes_at new.frames new.slots y) (same.place p) ∙ place_bytes p (old.place p) refl
 
 -- a page in a slot keeps its entry while a frame is taken
 pub entry_taken : {mode : ℕ} {keep : Option FrameNo} (old taken : Picture mode) (pid page n : ℕ) (obtains : ObtainsOwn old taken keep n page) → IsPage (top_level mode) page → is_swapped (entry old pid page) ≡ true → entry taken pid page ≡ entry old pid page

@@ -8,7 +8,7 @@ use Rattle.vm_types.specs.declared.region.Attr.{Attr}
 use Rattle.vm_types.specs.Verdict.{is_past_end}
 use Rattle.frames.specs.declared.role.Role.TheVariants.{Table, Private}
 use Rattle.frames.specs.FrameTable.{bytes_of, role_of, count_of}
-use Rattle.swap.specs.Slots.{SlotTable, IsInUse, Releases}
+use Rattle.swap.specs.Slots.{SlotTable, IsInUse, ReleasesSlot}
 use Rattle.page_tables.specs.Tree.{IsPage, missing_of}
 use Rattle.page_tables.specs.Change.{SetsEntry}
 use Rattle.residency.specs.Seats.{InFrame, InSlot, seat, is_swapped}
@@ -29,7 +29,8 @@ use Rattle.fault.proofs.Rows.{rows_then, rows_freed, rows_changed, rows_settled}
 use Rattle.fault.proofs.Settling.{settled_moved, settled_owned, settled_others, settled_views, settled_view, settled_held, settled_missing, settled_room, settled_full}
 use Rattle.fault.proofs.Slotted.{slotted_then, slotted_frees, slotted_but}
 use Rattle.fault.proofs.Steps.{spaces_then, spaces_freed, room_then, room_freed, tables_then, tables_freed, tables_same}
-use Rattle.fault.proofs.SwapSteps.{swapped_page, away_seat, views_given, held_given}
+use Rattle.fault.proofs.SwapSteps.{swapped_page}
+use Rattle.residency.proofs.SeatForms.{away_seat, views_given, held_given}
 
 -- what was held went home or stayed
 pub files_then : {mode : ℕ} (a b c : Picture mode) → KeepsFiles a b → ((p : PageKey) → held c p ≡ held b p) → ((p : PageKey) → c.touched p ≡ b.touched p) → ((f : ℕ) → c.files f ≡ b.files f) → KeepsFiles a c
@@ -102,7 +103,7 @@ module _ {mode : ℕ} {keep : Option FrameNo} (old taken : Picture mode) (pid pa
     pub slot_set : IsInUse set.slots k
     slot_set = owned.0
 
-    module _ (t : SlotTable) (releases : Releases set.slots t k) where
+    module _ (t : SlotTable) (releases : ReleasesSlot set.slots t k) where
       abbrev new : Picture mode
       new = record set { slots = t }
 

@@ -15,7 +15,8 @@ use Rattle.residency.specs.Steps.{SameBeside}
 use Rattle.residency.proofs.Aging.{gives_then}
 use Rattle.residency.proofs.Entries.{entry-same}
 use Rattle.residency.proofs.Linked.{loose_table}
-use Rattle.fault.specs.Changes.{AddsNoTable, IsWhole, IsTableOnWay, LinksTables}
+use Rattle.fault.specs.Changes.{AddsNoTable, IsTableOnWay, LinksTables}
+use Rattle.residency.specs.Ways.{IsWhole}
 use Rattle.fault.proofs.NoTables.{table_before}
 
 -- a table on the way to a page that is not the root

@@ -14,7 +14,7 @@ module _ {M : Type 0} {m : Levels.Ghosts M} {D E : Type 0} (c : Core D E M m) wh
   -- what is always so of it
   abbrev Always : FrameTable → Type 0
   Always t =
-      IsSound t × (length c.roots.items ≡ 65) × (length c.regions.items ≡ 65) × (length c.page_of.items ≡ frame_count t) × (CacheTable.frame_count c.cache ≡ frame_count t)
+      IsSound t × (length c.roots.items ≡ 65) × (length c.regions.items ≡ 65) × (length c.page_of.items ≡ frame_count t) × (CacheTable.cache_frames c.cache ≡ frame_count t)
       × (CacheTable.slot_count c.cache ≡ (slots_of c.swap).total) × (c.clock.hand < frame_count t) × AreBounded (files_of c.store)
 
   always_prop : (t : FrameTable) → IsProp (Always t)

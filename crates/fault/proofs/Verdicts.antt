@@ -31,8 +31,8 @@ use Rattle.fault.specs.declared.finding.Way.{Way}
 use Rattle.fault.specs.Found.{IsOpenTo, IsWayTo, IsFineAt, IsUnwalked}
 use Rattle.fault.specs.Changes.{KeepsSeen}
 use Rattle.fault.specs.Shown.{AreShown}
-use Rattle.fault.specs.Outcome.{verdict_of, seen_at, Owns, IsReadyToStore, IsReadyFor, IsOpenToStore, IsOpenFor, IsPlaced, Grants}
-use Rattle.fault.specs.Granted.{Opens, IsEntered, IsReadyAt}
+use Rattle.fault.specs.Outcome.{verdict_of, seen_at, Owns, IsReadyToStore, IsReadyFor, IsOpenToStore, IsFrameFor, IsPlaced, Grants}
+use Rattle.fault.specs.Granted.{IsOpenLeaf, IsEntered, IsReadyAt}
 use Rattle.fault.proofs.Answers.{Places, answer-ok, answer-places}
 use Rattle.memory.proofs.Walks.{translated-entry}
 use Rattle.fault.proofs.Ready.{valid_zero, valid_some, valid_here, resident, shown_there, view-mapped, reads, touches, owns}
@@ -68,7 +68,7 @@ open_inside_store c pid page (Private p) n is = is.0.inside
 open_inside_store c pid page (Shared p) n is = is.0.inside
 open_inside_store c pid page (Common p) n is = is.0.inside
 
-open_inside : {mode : ℕ} (access : Access) (c : Picture mode) (pid page : ℕ) (b : Backing) (n : ℕ) → IsOpenFor access c pid page b n → n < frame_count c.frames
+open_inside : {mode : ℕ} (access : Access) (c : Picture mode) (pid page : ℕ) (b : Backing) (n : ℕ) → IsFrameFor access c pid page b n → n < frame_count c.frames
 open_inside Load c pid page b n is = is
 open_inside Store c pid page b n is = open_inside_store c pid page b n is
 open_inside Fetch c pid page b n is = is
@@ -80,7 +80,7 @@ ready_open_store old new pid page v (Shared p) n ready = (ready.held, ready.plac
 ready_open_store old new pid page v (Common p) n ready = (ready.held, ready.place, ready.touched)
 
 -- a frame that is ready may be used
-pub ready_open : {mode : ℕ} (access : Access) (old new : Picture mode) (pid page : ℕ) (v : View) (n : ℕ) → IsReadyFor access old new pid page v n → IsOpenFor access new pid page v.attr.backing n
+pub ready_open : {mode : ℕ} (access : Access) (old new : Picture mode) (pid page : ℕ) (v : View) (n : ℕ) → IsReadyFor access old new pid page v n → IsFrameFor access new pid page v.attr.backing n
 ready_open Load old new pid page v n ready = ready.inside
 ready_open Store old new pid page v n ready = ready_open_store old new pid page v v.attr.backing n ready
 ready_open Fetch old new pid page v n ready = ready.inside
@@ -90,7 +90,7 @@ pub placed_made : {mode : ℕ} (old new : Picture mode) (pid root addr : ℕ) (w
     → verdict_of old pid addr width access ≡ Fine (seen_at old pid (addr / 4096) a)
     → IsEntered new pid (addr / 4096) a access n → IsPlaced old new pid addr width access (record { 0 = n * 4096 + addr % 4096 })
 placed_made old new pid root addr width access a n fit lives user fine entered =
-    let P : ℕ → Type 0 = λ x. IsOpenFor access new pid (addr / 4096) a.backing x in
+    let P : ℕ → Type 0 = λ x. IsFrameFor access new pid (addr / 4096) a.backing x in
     let inside : frame_of (entry new pid (addr / 4096)) < frame_count new.frames = rw entered.frame (open_inside access new pid (addr / 4096) a.backing n entered.usable) in
     record {
       seen = seen_at old pid (addr / 4096) a;
@@ -182,14 +182,14 @@ keeps_all : {mode : ℕ} (c : Picture mode) → KeepsSeen c c
 keeps_all c = record { views = λ q k. refl; touched = λ p. refl }
 
 module _ {mode : ℕ} (c : Picture mode) (pid page : ℕ) (a : Attr) (fit : IsFit c) (sound : IsSound c.frames) (h : IsPage (top_level mode) page) (mapped : c.at pid page ≡ Some a) where
-  shown_at : Opens Store (entry c pid page) → AreShown c (seen_at c pid page a) (bytes_of c.frames (frame_of (entry c pid page)))
+  shown_at : IsOpenLeaf Store (entry c pid page) → AreShown c (seen_at c pid page a) (bytes_of c.frames (frame_of (entry c pid page)))
   shown_at opens = shown_there c pid page a fit sound h mapped (valid_some (entry c pid page) opens.valid) (valid_here (entry c pid page) opens.valid)
 
-  own_there : is_shared a.backing ≡ false → Opens Store (entry c pid page) → Owns c c pid page (seen_at c pid page a) (frame_of (entry c pid page))
+  own_there : is_shared a.backing ≡ false → IsOpenLeaf Store (entry c pid page) → Owns c c pid page (seen_at c pid page a) (frame_of (entry c pid page))
   own_there private opens =
       owns c c pid page a (own_in c.frames c.slots (entry c pid page)) fit sound h mapped opens.valid opens.grants private (shown_at opens) (λ q k other. refl) (λ q. refl)
 
-  ready_to_store : (b : Backing) → a.backing ≡ b → Opens Store (entry c pid page) → IsReadyToStore c c pid page (seen_at c pid page a) b (frame_of (entry c pid page))
+  ready_to_store : (b : Backing) → a.backing ≡ b → IsOpenLeaf Store (entry c pid page) → IsReadyToStore c c pid page (seen_at c pid page a) b (frame_of (entry c pid page))
   ready_to_store Anon is opens = own_there (ap is_shared is) opens
   ready_to_store (Private p) is opens = own_there (ap is_shared is) opens
   ready_to_store (Shared p) is opens =
@@ -198,7 +198,7 @@ module _ {mode : ℕ} (c : Picture mode) (pid page : ℕ) (a : Attr) (fit : IsFi
       touches c c pid page a (Object p) fit sound h mapped opens.valid (opens.dirty refl) (ap is_shared is) (ap stands_on is) (λ q k. refl) (λ q ne. refl)
 
   -- an access that is granted already
-  pub ready_there : (access : Access) → Opens access (entry c pid page) → IsReadyFor access c c pid page (seen_at c pid page a) (frame_of (entry c pid page))
+  pub ready_there : (access : Access) → IsOpenLeaf access (entry c pid page) → IsReadyFor access c c pid page (seen_at c pid page a) (frame_of (entry c pid page))
   ready_there Load opens =
       reads c c pid page a fit sound h mapped (valid_some (entry c pid page) opens.valid) (valid_here (entry c pid page) opens.valid) (keeps_all c)
   ready_there Store opens = ready_to_store a.backing refl opens
@@ -225,7 +225,7 @@ module _ {mode : ℕ} where
             let allowed = leaf_lets c a access (entry c pid page) (resides.leaf places.opens.valid) places.opens.grants in
             let fine = verdict-aligned c pid addr width access aligned ∙ verdict-fine c pid page access a some.1 allowed resides.inside in
             let P : ℕ → Type 0 = λ x. IsReadyFor access c c pid page (seen_at c pid page a) x in
-            let Q : ℕ → Type 0 = λ x. IsOpenFor access c pid page a.backing x in
+            let Q : ℕ → Type 0 = λ x. IsFrameFor access c pid page a.backing x in
             let ready = ready_there c pid page a fit sound h some.1 access places.opens in (
               record {
                 seen = seen_at c pid page a;

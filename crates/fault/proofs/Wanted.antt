@@ -27,7 +27,8 @@ use Rattle.residency.specs.declared.kernel.Core.{Core}
 use Rattle.residency.specs.Seats.{seat}
 use Rattle.residency.specs.Picture.{Picture, entry}
 use Rattle.residency.specs.Parts.{IsFit, is_shared}
-use Rattle.fault.specs.Changes.{IsWhole, IsCalm, KeepsSeen, is_sole}
+use Rattle.fault.specs.Changes.{IsCalm, KeepsSeen, is_sole}
+use Rattle.residency.specs.Ways.{IsWhole}
 use Rattle.fault.specs.Files.{IsInStore}
 use Rattle.fault.specs.declared.refusal.AccessRefusal.{AccessRefusal}
 use Rattle.fault.specs.declared.refusal.AccessRefusal.TheVariants as Refusal

@@ -43,8 +43,8 @@ module _ {mode : ℕ} where
 
 module _ {D : Type 0} where
   -- a sector in which a page stands in the store, if it is one of a file
-  abbrev pub IsSectorOfFile : FileStore D → PageKey → ℕ → Type 0
-  IsSectorOfFile store p k = (f : FilePage) × (p ≡ File f) × IsSectorOf store f k
+  abbrev pub IsSectorOfStoredPage : FileStore D → PageKey → ℕ → Type 0
+  IsSectorOfStoredPage store p k = (f : FilePage) × (p ≡ File f) × IsSectorOf store f k
 
 module _ {M : Type 0} {m : Levels.Ghosts M} {D E : Type 0} (h : Ghosts E) where
   -- swap's device was asked for no sector but those

@@ -24,12 +24,8 @@ use Rattle.residency.specs.Picture.{Picture, picture_of, entry, is_private, is_s
 use Rattle.residency.specs.Parts.{IsFit}
 use Rattle.residency.specs.Calls.{Frees, UsesDevice}
 use Rattle.residency.specs.Steps.{ChangesFrame}
+use Rattle.residency.specs.Ways.{IsWhole}
 use Rattle.fault.specs.declared.spot.Spot.{Spot}
-
--- no table is missing on the way to a page of a process
-module _ {mode : ℕ} where
-  abbrev pub IsWhole : Picture mode → ℕ → ℕ → Type 0
-  IsWhole c pid page = (r : ℕ) → c.root pid ≡ Some r → missing_of c.frames (top_level mode) r page ≡ 0
 
 -- a page of a live process, on whose way no table is missing
 module _ {mode : ℕ} where
@@ -196,15 +192,6 @@ module _ {M : Type 0} {m : Levels.Ghosts M} {D E : Type 0} where
     pub rows : KeepsRows (picture_of old) (picture_of new)
     pub views : KeepsViews (picture_of old) (picture_of new)
     pub calm : IsCalm old new pid page
-
-  -- all but the frames is as it was
-  pub record KeepsAround (old new : Core D E M m) : Type 0 where
-    pub store : new.store ≡ old.store
-    pub swap : new.swap ≡ old.swap
-    pub cache : new.cache ≡ old.cache
-    pub roots : new.roots ≡ old.roots
-    pub regions : new.regions ≡ old.regions
-    pub page_of : new.page_of ≡ old.page_of
 
 module _ {M : Type 0} {m : Levels.Ghosts M} {E : Type 0} (h : Ghosts E) where
   module _ {D : Type 0} where

@@ -41,7 +41,7 @@ module _ {mode : ℕ} where
     pub walked : IsWayTo c pid page way
 
 module _ {mode : ℕ} where
-  abbrev pub Finds : Picture mode → ℕ → ℕ → Width → Access → Finding → Type 0
-  Finds c pid addr width access (Finding.Place phys) = IsPlaced c c pid addr width access phys × Grants c c pid addr width access phys
-  Finds c pid addr width access (Finding.Page page attr way) = IsFineAt c pid addr width access page attr way
-  Finds c pid addr width access (Finding.Fault code) = verdict_of c pid addr width access ≡ Faults code
+  abbrev pub FindsPlace : Picture mode → ℕ → ℕ → Width → Access → Finding → Type 0
+  FindsPlace c pid addr width access (Finding.Place phys) = IsPlaced c c pid addr width access phys × Grants c c pid addr width access phys
+  FindsPlace c pid addr width access (Finding.Page page attr way) = IsFineAt c pid addr width access page attr way
+  FindsPlace c pid addr width access (Finding.Fault code) = verdict_of c pid addr width access ≡ Faults code

@@ -12,3 +12,5 @@ pub mod Found
 pub mod Granted
 pub mod AccessAsking
 pub mod Serving
+pub mod FramesShown
+pub mod SpotServing

@@ -91,10 +91,10 @@ module _ {mode : ℕ} where
   IsOpenToStore c pid page (Common p) n = IsHeld c.frames n × (c.place (Object p) ≡ Frame (record { 0 = n })) × (c.touched (Object p) ≡ true)
 
 module _ {mode : ℕ} where
-  abbrev pub IsOpenFor : Access → Picture mode → ℕ → ℕ → Backing → ℕ → Type 0
-  IsOpenFor Load c pid page b n = IsFrame c.frames n
-  IsOpenFor Store c pid page b n = IsOpenToStore c pid page b n
-  IsOpenFor Fetch c pid page b n = IsFrame c.frames n
+  abbrev pub IsFrameFor : Access → Picture mode → ℕ → ℕ → Backing → ℕ → Type 0
+  IsFrameFor Load c pid page b n = IsFrame c.frames n
+  IsFrameFor Store c pid page b n = IsOpenToStore c pid page b n
+  IsFrameFor Fetch c pid page b n = IsFrame c.frames n
 
 -- The access is fine. Its place is that of the walk from the process's root in memory as it is left, and the frame there may be
 -- used for it.
@@ -106,7 +106,7 @@ module _ {mode : ℕ} where
     pub lives : new.root pid ≡ Some root
     pub place : translated (top_level mode) new.frames root addr access ≡ Ok phys
     pub offset : phys.0 % 4096 ≡ addr % 4096
-    pub usable : IsOpenFor access new pid (addr / 4096) seen.attr.backing (phys.0 / 4096)
+    pub usable : IsFrameFor access new pid (addr / 4096) seen.attr.backing (phys.0 / 4096)
 
 -- The access is fine, and the frame of its place is ready for it.
 module _ {mode : ℕ} where

@@ -15,7 +15,7 @@ use Rattle.residency.specs.Ages.{KeepsRolesBut}
 use Rattle.residency.specs.Calls.{Frees, Refuses}
 use Rattle.residency.specs.Capacity.{IsShort}
 use Rattle.residency.specs.Stalls.{HasReadCause}
-use Rattle.fault.specs.Asking.{AsksIfFull, AsksNoNew, IsSectorOfPage, IsSectorOfFile}
+use Rattle.fault.specs.Asking.{AsksIfFull, AsksNoNew, IsSectorOfPage, IsSectorOfStoredPage}
 use Rattle.fault.specs.Changes.{AddsNoTable, KeepsBare, KeepsRows, KeepsSeen, KeepsSlotted}
 use Rattle.fault.specs.Files.{Proceeds, BringsFiles, IsInStore}
 
@@ -38,7 +38,7 @@ module _ {M : Type 0} {m : Levels.Ghosts M} {D E : Type 0} (g : Ghosts D) (h : G
     -- swap for those of free slots where no frame is free;
     pub read : (new.store ≡ old.store) ⊎ IsInStore (picture_of old) page
     pub asks : AsksIfFull h old new None (IsSectorOfPage (picture_of old) page)
-    pub asks_store : AsksOnly g (IsSectorOfFile old.store page) old.store.disk new.store.disk
+    pub asks_store : AsksOnly g (IsSectorOfStoredPage old.store page) old.store.disk new.store.disk
     pub asks_later : IfOk result (λ n. AsksNoNew (picture_of old) (picture_of new) (Some n) (IsSectorOfPage (picture_of old) page))
     -- a stall has its cause: a device failed, or none of the frames that were left could be had.
     pub cause : HasReadCause g h old new result

@@ -20,7 +20,8 @@ use Rattle.residency.specs.Calls.{Refuses}
 use Rattle.residency.specs.Seats.{InFrame, seat, is_swapped}
 use Rattle.residency.specs.Picture.{Picture, entry}
 use Rattle.residency.specs.Parts.{IsBehind, is_shared}
-use Rattle.fault.specs.Changes.{IsWhole, is_sole, LinksTables}
+use Rattle.fault.specs.Changes.{is_sole, LinksTables}
+use Rattle.residency.specs.Ways.{IsWhole}
 
 -- a table is missing on the way to a page of a process
 module _ {mode : ℕ} where

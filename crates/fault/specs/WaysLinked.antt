@@ -16,7 +16,8 @@ use Rattle.residency.specs.Calls.{KeepsPages, Refuses}
 use Rattle.residency.specs.Capacity.{IsShort}
 use Rattle.residency.specs.Stalls.{HasStallCause}
 use Rattle.fault.specs.Asking.{AsksNoNew, AsksSlotsIf}
-use Rattle.fault.specs.Changes.{IsWhole, KeepsBare, KeepsSlotted, LinksTables, Moves}
+use Rattle.fault.specs.Changes.{KeepsBare, KeepsSlotted, LinksTables, Moves}
+use Rattle.residency.specs.Ways.{IsWhole}
 
 module _ {M : Type 0} {m : Levels.Ghosts M} {D E : Type 0} (h : Ghosts E) where
   -- Frames are taken for tables, as many as there are to be had:

@@ -49,7 +49,7 @@ pub fn access<D: SectorDisk, E: SectorDisk, M: Levels>(
         Finding::Fault(code) => Err(AccessRefusal::Fault(fault(access, code, addr))),
         Finding::Page(page, attr, way) => {
             let frame = grant(core, pid, page, attr, way, access)?;
-            keep_line(core, pid, page, way, access);
+            keep_line(core, page, way, access);
             Ok(place_in(frame, addr))
         }
     }

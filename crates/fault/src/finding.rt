@@ -1,18 +1,17 @@
 //! What an access finds.
-ghost use Rattle.std.specs.Prelude.{◌<◌, ◌≡◌, true, IfOk, IfErr};
+ghost use Rattle.std.specs.Prelude.{◌<◌, ◌≡◌, ℕ, true, IfOk, IfErr};
 ghost use Rattle.vm_types.specs.Limits.{user_end};
 ghost use Rattle.vm_types.specs.Verdict.{Faults, page_verdict};
-ghost use Rattle.memory.specs.Lines.{place_in};
+ghost use Rattle.memory.specs.Lines.{address_in};
 ghost use Rattle.residency.specs.Picture.{picture_of, is_live, view};
 ghost use Rattle.residency.specs.Parts.{IsFit};
-ghost use Rattle.fault.specs.Found.{Finds, IsOpenTo, IsWayTo};
+ghost use Rattle.fault.specs.Found.{FindsPlace, IsOpenTo, IsWayTo};
 
 use crate::faults::{is_past_end, lets};
 use crate::processes::attr_at;
-use crate::root_of;
 use disk_model::SectorDisk;
 use memory::{WalkEnd, keep_at, table_of, walk_page};
-use residency::Core;
+use residency::{Core, root_of};
 use vm_types::{Access, Attr, Code, FrameNo, Levels, PAGE_BYTES, Phys, Pid, Vpn, Width};
 
 // Bytes of a page, as a number of addresses.
@@ -51,7 +50,7 @@ pub(crate) fn find<D: SectorDisk, E, M: Levels>(
 ) -> Finding
     requires fit { IsFit (picture_of core.old) }
     requires lives { is_live (picture_of core.old) pid ≡ true }
-    ensures found { Finds (picture_of core.old) pid addr width access result }
+    ensures found { FindsPlace (picture_of core.old) pid addr width access result }
     ensures same { core.new ≡ core.old }
 {
     if addr % u64::from(width.bytes()) != 0 {
@@ -72,7 +71,7 @@ pub(crate) fn find<D: SectorDisk, E, M: Levels>(
 
 /// The address in that frame.
 pub(crate) fn place_in(frame: FrameNo, addr: u64) -> Phys
-    ensures { result ≡ place_in frame.0 addr }
+    ensures { result ≡ address_in frame.0 addr }
 {
     Phys(u64::from(frame.0) * PAGE + addr % PAGE)
 }
@@ -106,14 +105,13 @@ fn judge<D: SectorDisk, E, M: Levels>(
 /// Keeps the leaf of a page that an access was just granted in the buffer of translations, for the next access to the page.
 pub(crate) fn keep_line<D, E, M: Levels>(
     core: &mut Core<D, E, M>,
-    pid: Pid,
     page: Vpn,
     way: Way,
     access: Access,
 )
     requires fit { IsFit (picture_of core.old) }
     requires user { page < user_end M.mode }
-    requires way { IsWayTo (picture_of core.old) pid page way }
+    requires way { (pid : ℕ) × IsWayTo (picture_of core.old) pid page way }
     ensures { core.new ≡ core.old }
 {
     match way.table {

@@ -1,29 +1,31 @@
 //! A page brought in, so that its entry grants an access.
 ghost use Rattle.std.specs.Prelude.{◌≡◌, ◌≢◌, ℕ, true, false, None, Some};
-ghost use Rattle.vm_types.specs.declared.access.Access.TheVariants as Access;
+ghost use Rattle.vm_types.specs.declared.access.Access.{Access};
+ghost use Rattle.vm_types.specs.declared.access.Access.TheVariants.{Store};
 ghost use Rattle.vm_types.specs.declared.region.Backing.TheVariants.{Private};
 ghost use Rattle.vm_types.specs.Attributes.{stands_on};
-ghost use Rattle.file_store.specs.Store.{IsReadyStore};
-ghost use Rattle.swap.specs.Slots.{IsReady};
+ghost use Rattle.vm_types.specs.Verdict.{lets};
 ghost use Rattle.residency.specs.Seats.{seat};
-ghost use Rattle.residency.specs.Picture.{picture_of, is_live, entry, is_private, is_swapped};
-ghost use Rattle.residency.specs.Parts.{IsFit, IsBehind, is_shared};
-ghost use Rattle.fault.specs.Changes.{StandsAt, KeepsRows};
-ghost use Rattle.fault.specs.Found.{IsOpenTo, IsWayTo};
+ghost use Rattle.residency.specs.Picture.{picture_of, entry, is_private, is_swapped};
+ghost use Rattle.residency.specs.Parts.{IsBehind, is_shared};
+ghost use Rattle.fault.specs.Found.{IsWayTo};
 ghost use Rattle.fault.specs.Serving.{Serves};
+ghost use Rattle.fault.specs.SpotServing.{MayServe, MayServeAt, ServesThere};
 
 use crate::finding::Way;
-use crate::{
-    Spot, ZERO_PAGE, cached, link_tables, number_at, own_frame, regrant, root_of, show_cached,
-    show_zero, swap_in, touch,
-};
+use crate::linking::link_tables;
+use crate::owning::own_frame;
+use crate::page_in::cached;
+use crate::showing::{ZERO_PAGE, regrant, show_cached, show_zero, touch};
+use crate::spot::{Spot, number_at};
+use crate::swapping::swap_in;
 use disk_model::SectorDisk;
-use residency::Core;
+use residency::{Core, root_of};
 use sv39_walk::Pte;
 use vm_types::{Access, Attr, Backing, FilePage, FrameNo, Levels, PageKey, Pid, Stall, Vpn};
 
 /// Makes the entry of a mapped page, which allows the access, grant it: first the tables on its way are made that are missing, then the
-/// page is brought in from where it lies by then. Returns the frame that the page lies in. `way` is the way to the page, and stays so.
+/// page is brought in from where it lies by then. Returns the frame that the page lies in. The way to the page stays its way.
 ///
 /// # Errors
 /// As `obtain`, where a frame is wanted and none is to be had; `SwapDevice` or `StoreDevice` where that device failed.
@@ -35,12 +37,8 @@ pub(crate) fn grant<D: SectorDisk, E: SectorDisk, M: Levels>(
     way: Way,
     access: Access,
 ) -> Result<FrameNo, Stall>
-    requires fit { IsFit (picture_of core.old) }
-    requires store { IsReadyStore D.SectorDisk core.old.store }
-    requires swap { IsReady E.SectorDisk core.old.swap }
-    requires lives { is_live (picture_of core.old) pid ≡ true }
+    requires may { MayServe D.SectorDisk E.SectorDisk core.old pid page attr access }
     requires way { IsWayTo (picture_of core.old) pid page way }
-    requires allowed { IsOpenTo (picture_of core.old) pid page access attr }
     ensures serves { Serves D.SectorDisk E.SectorDisk core.old core.new pid page attr access result }
     ensures way { IsWayTo (picture_of core.new) pid page way }
 {
@@ -67,11 +65,7 @@ fn grant_unlinked<D: SectorDisk, E: SectorDisk, M: Levels>(
     attr: Attr,
     access: Access,
 ) -> Result<FrameNo, Stall>
-    requires fit { IsFit (picture_of core.old) }
-    requires store { IsReadyStore D.SectorDisk core.old.store }
-    requires swap { IsReady E.SectorDisk core.old.swap }
-    requires lives { is_live (picture_of core.old) pid ≡ true }
-    requires allowed { IsOpenTo (picture_of core.old) pid page access attr }
+    requires may { MayServe D.SectorDisk E.SectorDisk core.old pid page attr access }
     ensures { Serves D.SectorDisk E.SectorDisk core.old core.new pid page attr access result }
 {
     let table = link_tables(core, pid, page)?;
@@ -92,19 +86,15 @@ fn grant_linked<D: SectorDisk, E: SectorDisk, M: Levels>(
     attr: Attr,
     access: Access,
 ) -> Result<FrameNo, Stall>
-    requires spot { StandsAt (picture_of core.old) spot.now }
-    requires store { IsReadyStore D.SectorDisk core.old.store }
-    requires swap { IsReady E.SectorDisk core.old.swap }
-    requires allowed { IsOpenTo (picture_of core.old) spot.now.pid spot.now.page access attr }
-    ensures serves { Serves D.SectorDisk E.SectorDisk core.old core.new spot.now.pid spot.now.page attr access result }
-    ensures rows { KeepsRows (picture_of core.old) (picture_of core.new) }
+    requires may { MayServeAt D.SectorDisk E.SectorDisk core.old spot.now attr access }
+    ensures { ServesThere D.SectorDisk E.SectorDisk core.old core.new spot.now attr access result }
 {
     let was = number_at(core, spot);
     if was.is_swapped() {
         return swap_in(core, spot, attr);
     }
     match access {
-        Access::Load | Access::Fetch => grant_read(core, spot, attr, was, access),
+        Access::Load | Access::Fetch => grant_read(core, spot, attr, was),
         Access::Store => grant_store(core, spot, attr, was),
     }
 }
@@ -115,17 +105,11 @@ fn grant_read<D: SectorDisk, E: SectorDisk, M: Levels>(
     spot: &Spot,
     attr: Attr,
     was: Pte,
-    access: Access,
 ) -> Result<FrameNo, Stall>
-    requires spot { StandsAt (picture_of core.old) spot.now }
-    requires store { IsReadyStore D.SectorDisk core.old.store }
-    requires swap { IsReady E.SectorDisk core.old.swap }
-    requires allowed { IsOpenTo (picture_of core.old) spot.now.pid spot.now.page access attr }
+    requires may { (access : Access) × MayServeAt D.SectorDisk E.SectorDisk core.old spot.now attr access }
     requires was { was.0 ≡ entry (picture_of core.old) spot.now.pid spot.now.page }
     requires here { is_swapped (entry (picture_of core.old) spot.now.pid spot.now.page) ≡ false }
-    requires reads { access ≢ Access.Store }
-    ensures serves { Serves D.SectorDisk E.SectorDisk core.old core.new spot.now.pid spot.now.page attr access result }
-    ensures rows { KeepsRows (picture_of core.old) (picture_of core.new) }
+    ensures { (access : Access) → access ≢ Store → lets access attr.prot ≡ true → ServesThere D.SectorDisk E.SectorDisk core.old core.new spot.now attr access result }
 {
     if was.to_u64() != 0 {
         regrant(core, spot, attr);
@@ -151,14 +135,10 @@ fn grant_store<D: SectorDisk, E: SectorDisk, M: Levels>(
     attr: Attr,
     was: Pte,
 ) -> Result<FrameNo, Stall>
-    requires spot { StandsAt (picture_of core.old) spot.now }
-    requires store { IsReadyStore D.SectorDisk core.old.store }
-    requires swap { IsReady E.SectorDisk core.old.swap }
-    requires allowed { IsOpenTo (picture_of core.old) spot.now.pid spot.now.page Access.Store attr }
+    requires may { MayServeAt D.SectorDisk E.SectorDisk core.old spot.now attr Store }
     requires was { was.0 ≡ entry (picture_of core.old) spot.now.pid spot.now.page }
     requires here { is_swapped (entry (picture_of core.old) spot.now.pid spot.now.page) ≡ false }
-    ensures serves { Serves D.SectorDisk E.SectorDisk core.old core.new spot.now.pid spot.now.page attr Access.Store result }
-    ensures rows { KeepsRows (picture_of core.old) (picture_of core.new) }
+    ensures { ServesThere D.SectorDisk E.SectorDisk core.old core.new spot.now attr Store result }
 {
     match attr.backing {
         Backing::Anon => grant_own(core, spot, attr),
@@ -182,15 +162,11 @@ fn grant_own<D: SectorDisk, E: SectorDisk, M: Levels>(
     spot: &Spot,
     attr: Attr,
 ) -> Result<FrameNo, Stall>
-    requires spot { StandsAt (picture_of core.old) spot.now }
-    requires store { IsReadyStore D.SectorDisk core.old.store }
-    requires swap { IsReady E.SectorDisk core.old.swap }
-    requires allowed { IsOpenTo (picture_of core.old) spot.now.pid spot.now.page Access.Store attr }
+    requires may { MayServeAt D.SectorDisk E.SectorDisk core.old spot.now attr Store }
     requires here { is_swapped (entry (picture_of core.old) spot.now.pid spot.now.page) ≡ false }
     requires not_shared { is_shared attr.backing ≡ false }
     requires in_memory { is_private (entry (picture_of core.old) spot.now.pid spot.now.page) ≡ false → (n : ℕ) × IsBehind (picture_of core.old) attr.backing n }
-    ensures serves { Serves D.SectorDisk E.SectorDisk core.old core.new spot.now.pid spot.now.page attr Access.Store result }
-    ensures rows { KeepsRows (picture_of core.old) (picture_of core.new) }
+    ensures { ServesThere D.SectorDisk E.SectorDisk core.old core.new spot.now attr Store result }
 {
     own_frame(core, spot, attr)
 }
@@ -202,14 +178,10 @@ fn grant_copy<D: SectorDisk, E: SectorDisk, M: Levels>(
     attr: Attr,
     file_page: FilePage,
 ) -> Result<FrameNo, Stall>
-    requires spot { StandsAt (picture_of core.old) spot.now }
-    requires store { IsReadyStore D.SectorDisk core.old.store }
-    requires swap { IsReady E.SectorDisk core.old.swap }
-    requires allowed { IsOpenTo (picture_of core.old) spot.now.pid spot.now.page Access.Store attr }
+    requires may { MayServeAt D.SectorDisk E.SectorDisk core.old spot.now attr Store }
     requires private { attr.backing ≡ Private file_page }
     requires none { seat (entry (picture_of core.old) spot.now.pid spot.now.page) ≡ None }
-    ensures serves { Serves D.SectorDisk E.SectorDisk core.old core.new spot.now.pid spot.now.page attr Access.Store result }
-    ensures rows { KeepsRows (picture_of core.old) (picture_of core.new) }
+    ensures { ServesThere D.SectorDisk E.SectorDisk core.old core.new spot.now attr Store result }
 {
     cached(core, PageKey::File(file_page))?;
     own_frame(core, spot, attr)
@@ -222,14 +194,10 @@ fn grant_shared<D: SectorDisk, E: SectorDisk, M: Levels>(
     attr: Attr,
     stored: PageKey,
 ) -> Result<FrameNo, Stall>
-    requires spot { StandsAt (picture_of core.old) spot.now }
-    requires store { IsReadyStore D.SectorDisk core.old.store }
-    requires swap { IsReady E.SectorDisk core.old.swap }
-    requires allowed { IsOpenTo (picture_of core.old) spot.now.pid spot.now.page Access.Store attr }
+    requires may { MayServeAt D.SectorDisk E.SectorDisk core.old spot.now attr Store }
     requires shared { is_shared attr.backing ≡ true }
     requires stands { stands_on attr.backing ≡ Some stored }
-    ensures serves { Serves D.SectorDisk E.SectorDisk core.old core.new spot.now.pid spot.now.page attr Access.Store result }
-    ensures rows { KeepsRows (picture_of core.old) (picture_of core.new) }
+    ensures { ServesThere D.SectorDisk E.SectorDisk core.old core.new spot.now attr Store result }
 {
     let frame = cached(core, stored)?;
     touch(core, spot, attr, stored, frame);

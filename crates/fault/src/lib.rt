@@ -22,10 +22,5 @@ mod spot;
 mod swapping;
 
 pub use accesses::access;
-pub use linking::{link_tables, root_of};
-pub use owning::own_frame;
-pub use page_in::cached;
+pub use linking::link_tables;
 pub use refusal::AccessRefusal;
-pub use showing::{ZERO_PAGE, regrant, show_cached, show_zero, touch};
-pub use spot::{Spot, number_at};
-pub use swapping::swap_in;

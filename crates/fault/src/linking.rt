@@ -9,18 +9,15 @@ ghost use Rattle.fault.specs.WaysLinked.{LinksWay, MakesWhole};
 
 use disk_model::SectorDisk;
 use memory::{link_table, table_of};
-use residency::Core;
+use residency::{Core, root_of};
 use vm_types::{FrameNo, Levels, Pid, Stall, Vpn};
 
-/// The root table of a live process.
-pub fn root_of<D, E, M: Levels>(core: &Core<D, E, M>, pid: Pid) -> FrameNo
-    requires live { (picture_of core.now).root pid ≢ None }
-    ensures { (picture_of core.now).root pid ≡ Some result.0 }
-{
-    match core.root(pid) {
-        Some(root) => root,
-        None => unreachable!(),
-    }
+/// The way down to a page of a process, from its root table on.
+#[derive(Clone, Copy)]
+struct WayDown {
+    pid: Pid,
+    root: FrameNo,
+    page: Vpn,
 }
 
 /// Makes the tables that are missing on the way to a mapped page of a live process, and returns the lowest. No process sees a change
@@ -43,7 +40,10 @@ pub fn link_tables<D, E: SectorDisk, M: Levels>(
     loop {
         match table_of(&core.frames, root, page) {
             Ok(table) => return Ok(table),
-            Err(_) => link_one(core, pid, root, page)?,
+            Err(_) => {
+                let way = WayDown { pid, root, page };
+                link_one(core, &way)?;
+            }
         }
     }
 }
@@ -51,19 +51,17 @@ pub fn link_tables<D, E: SectorDisk, M: Levels>(
 // Links a table in the highest missing place on the way to a mapped page.
 fn link_one<D, E: SectorDisk, M: Levels>(
     core: &mut Core<D, E, M>,
-    pid: Pid,
-    root: FrameNo,
-    page: Vpn,
+    way: &WayDown,
 ) -> Result<(), Stall>
     requires fit { IsFit (picture_of core.old) }
     requires swap { IsReady E.SectorDisk core.old.swap }
-    requires lives { (picture_of core.old).root pid ≡ Some root.0 }
-    requires mapped { IsMapped (picture_of core.old) pid page }
-    requires missing { missing_of core.old.frames (top_level M.mode) root.0 page ≢ 0 }
-    ensures links { LinksWay E.SectorDisk core.old core.new pid page result }
-    ensures lowered { OnOk result (missing_of core.new.frames (top_level M.mode) root.0 page + 1 ≡ missing_of core.old.frames (top_level M.mode) root.0 page) }
+    requires lives { (picture_of core.old).root way.now.pid ≡ Some way.now.root.0 }
+    requires mapped { IsMapped (picture_of core.old) way.now.pid way.now.page }
+    requires missing { missing_of core.old.frames (top_level M.mode) way.now.root.0 way.now.page ≢ 0 }
+    ensures links { LinksWay E.SectorDisk core.old core.new way.now.pid way.now.page result }
+    ensures lowered { OnOk result (missing_of core.new.frames (top_level M.mode) way.now.root.0 way.now.page + 1 ≡ missing_of core.old.frames (top_level M.mode) way.now.root.0 way.now.page) }
 {
     let table = core.take_table()?;
-    link_table(&mut core.frames, root, page, table);
+    link_table(&mut core.frames, way.root, way.page, table);
     Ok(())
 }

@@ -27,7 +27,7 @@ use vm_types::{Attr, Backing, FrameNo, Levels, PageKey, Stall, Vpn};
 /// # Errors
 /// As `obtain`, where a frame is wanted and none is to be had: the frame that is copied isn't given up for it. Then the page is seen
 /// as before.
-pub fn own_frame<D, E: SectorDisk, M: Levels>(
+pub(crate) fn own_frame<D, E: SectorDisk, M: Levels>(
     core: &mut Core<D, E, M>,
     spot: &Spot,
     attr: Attr,

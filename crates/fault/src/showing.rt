@@ -1,6 +1,7 @@
 //! Frames that stand behind a page, shown at it.
 ghost use Rattle.std.specs.Prelude.{◌<◌, ◌/◌, ◌≡◌, ◌≢◌, ℕ, None, Some, true, false};
 ghost use Rattle.vm_types.specs.Limits.{top_level, table_entries, user_end};
+ghost use Rattle.vm_types.specs.declared.access.Access.TheVariants.{Store};
 ghost use Rattle.vm_types.specs.Permission.{can_read, can_write};
 ghost use Rattle.vm_types.specs.Attributes.{stands_on};
 ghost use Rattle.vm_types.specs.declared.region.Backing.TheVariants.{Anon};
@@ -9,15 +10,14 @@ ghost use Rattle.frames.specs.FrameTable.{IsFrame};
 ghost use Rattle.sv39_walk.specs.Entry.{frame_of};
 ghost use Rattle.page_tables.specs.Tree.{IsForest, IsRoot};
 ghost use Rattle.page_tables.specs.Places.{IsTableOf};
-ghost use Rattle.page_tables.specs.Change.{SetsEntry};
 ghost use Rattle.page_cache.specs.declared.place.Place.TheVariants.{Frame};
 ghost use Rattle.residency.specs.Seats.{seat};
 ghost use Rattle.residency.specs.Picture.{picture_of, entry, is_private, is_swapped};
 ghost use Rattle.residency.specs.Parts.{is_shared, IsBehind};
-ghost use Rattle.residency.specs.Shows.{KeepsFiles};
-ghost use Rattle.page_tables.specs.Leaves.{IsEntryOver};
-ghost use Rattle.fault.specs.Leaves.{IsFullEntry, full_write, full_dirty, is_touched_behind};
-ghost use Rattle.fault.specs.Changes.{StandsAt, Enters, KeepsAround, MarksTouched};
+ghost use Rattle.fault.specs.Leaves.{full_write, full_dirty, is_touched_behind};
+ghost use Rattle.fault.specs.Changes.{StandsAt};
+ghost use Rattle.fault.specs.Found.{IsOpenTo};
+ghost use Rattle.fault.specs.FramesShown.{SetsFull, ShowsFrame, ShowsFully, TouchesPage};
 
 use crate::spot::{Spot, number_at};
 use memory::set_at;
@@ -26,18 +26,16 @@ use residency::Core;
 use vm_types::{Attr, Backing, FrameNo, Levels, PageKey};
 
 /// The zero page, the frame of zeros that nothing is written to.
-pub const ZERO_PAGE: FrameNo = FrameNo(0);
+pub(crate) const ZERO_PAGE: FrameNo = FrameNo(0);
 
 /// Shows the zero page at an anonymous page that has no entry. Its leaf is without W and D (RISC-V Privileged Specification,
 /// "Sv39 page table entry"): each store asks for a frame first.
-pub fn show_zero<D, E, M: Levels>(core: &mut Core<D, E, M>, spot: &Spot, attr: Attr)
+pub(crate) fn show_zero<D, E, M: Levels>(core: &mut Core<D, E, M>, spot: &Spot, attr: Attr)
     requires spot { StandsAt (picture_of core.old) spot.now }
     requires attr { (picture_of core.old).at spot.now.pid spot.now.page ≡ Some attr }
     requires anonymous { attr.backing ≡ Anon }
     requires none { entry (picture_of core.old) spot.now.pid spot.now.page ≡ 0 }
-    ensures enters { Enters core.old core.new spot.now.pid spot.now.page }
-    ensures entry { IsEntryOver (entry (picture_of core.new) spot.now.pid spot.now.page) attr.prot 0 false false false }
-    ensures files { KeepsFiles (picture_of core.old) (picture_of core.new) }
+    ensures { ShowsFrame core.old core.new spot.now attr 0 false false false }
 {
     set_full(core, spot, attr, ZERO_PAGE, false);
 }
@@ -45,7 +43,7 @@ pub fn show_zero<D, E, M: Levels>(core: &mut Core<D, E, M>, spot: &Spot, attr: A
 /// Shows the frame of its file page at a page of a file without an own copy. Stores are allowed to a shared page of a
 /// touched file page alone, so that the first one to any other is noticed: it finds D clear (RISC-V Privileged
 /// Specification, "Sv39 page table entry", the scheme of Svade).
-pub fn show_cached<D, E, M: Levels>(
+pub(crate) fn show_cached<D, E, M: Levels>(
     core: &mut Core<D, E, M>,
     spot: &Spot,
     attr: Attr,
@@ -56,9 +54,7 @@ pub fn show_cached<D, E, M: Levels>(
     requires behind { IsBehind (picture_of core.old) attr.backing cache_frame.0 }
     requires inside { is_past_end (picture_of core.old).files attr.backing ≡ false }
     requires none { seat (entry (picture_of core.old) spot.now.pid spot.now.page) ≡ None }
-    ensures enters { Enters core.old core.new spot.now.pid spot.now.page }
-    ensures entry { IsFullEntry (picture_of core.old) attr cache_frame.0 false (entry (picture_of core.new) spot.now.pid spot.now.page) }
-    ensures files { KeepsFiles (picture_of core.old) (picture_of core.new) }
+    ensures { ShowsFully core.old core.new spot.now attr cache_frame.0 false }
 {
     set_full(core, spot, attr, cache_frame, false);
 }
@@ -66,15 +62,12 @@ pub fn show_cached<D, E, M: Levels>(
 /// Gives a page that lies in a frame the entry that allows all that its permission and the sharing of its frame
 /// do: W over a frame that nobody else has and over that of a shared page, D there where the file page is touched
 /// (RISC-V Privileged Specification, "Sv39 page table entry").
-pub fn regrant<D, E, M: Levels>(core: &mut Core<D, E, M>, spot: &Spot, attr: Attr)
+pub(crate) fn regrant<D, E, M: Levels>(core: &mut Core<D, E, M>, spot: &Spot, attr: Attr)
     requires spot { StandsAt (picture_of core.old) spot.now }
     requires attr { (picture_of core.old).at spot.now.pid spot.now.page ≡ Some attr }
     requires resident { entry (picture_of core.old) spot.now.pid spot.now.page ≢ 0 }
     requires here { is_swapped (entry (picture_of core.old) spot.now.pid spot.now.page) ≡ false }
-    ensures enters { Enters core.old core.new spot.now.pid spot.now.page }
-    ensures entry { let was = entry (picture_of core.old) spot.now.pid spot.now.page in
-        IsFullEntry (picture_of core.old) attr (frame_of was) (is_private was) (entry (picture_of core.new) spot.now.pid spot.now.page) }
-    ensures files { KeepsFiles (picture_of core.old) (picture_of core.new) }
+    ensures { let was = entry (picture_of core.old) spot.now.pid spot.now.page in ShowsFully core.old core.new spot.now attr (frame_of was) (is_private was) }
 {
     let was = number_at(core, spot);
     set_full(core, spot, attr, was.frame_number(), was.is_private());
@@ -82,7 +75,7 @@ pub fn regrant<D, E, M: Levels>(core: &mut Core<D, E, M>, spot: &Spot, attr: Att
 
 /// Marks the page of a file or an object behind a shared page touched, and shows its frame there with stores allowed, by W and D: one follows
 /// at once (RISC-V Privileged Specification, "Sv39 page table entry").
-pub fn touch<D, E, M: Levels>(
+pub(crate) fn touch<D, E, M: Levels>(
     core: &mut Core<D, E, M>,
     spot: &Spot,
     attr: Attr,
@@ -90,15 +83,11 @@ pub fn touch<D, E, M: Levels>(
     frame: FrameNo,
 )
     requires spot { StandsAt (picture_of core.old) spot.now }
-    requires attr { (picture_of core.old).at spot.now.pid spot.now.page ≡ Some attr }
+    requires allowed { IsOpenTo (picture_of core.old) spot.now.pid spot.now.page Store attr }
     requires shared { is_shared attr.backing ≡ true }
     requires stands { stands_on attr.backing ≡ Some stored }
-    requires writable { can_write attr.prot ≡ true }
-    requires inside { is_past_end (picture_of core.old).files attr.backing ≡ false }
     requires cached { (picture_of core.old).place stored ≡ Frame frame }
-    ensures enters { Enters core.old core.new spot.now.pid spot.now.page }
-    ensures entry { IsEntryOver (entry (picture_of core.new) spot.now.pid spot.now.page) attr.prot frame.0 false true true }
-    ensures touches { MarksTouched (picture_of core.old) (picture_of core.new) stored }
+    ensures { TouchesPage core.old core.new spot.now attr stored frame.0 }
 {
     core.cache.mark_dirty(stored);
     set_full(core, spot, attr, frame, false);
@@ -119,10 +108,7 @@ pub(crate) fn set_full<D, E, M: Levels>(
     requires table { IsTableOf core.old.frames (top_level M.mode) spot.now.root.0 (spot.now.page / table_entries) spot.now.table.0 }
     requires inside { IsFrame core.old.frames frame.0 }
     requires readable { can_write attr.prot ≡ true → can_read attr.prot ≡ true }
-    ensures sets { (number : ℕ) × IsFullEntry (picture_of core.old) attr frame.0 private number
-        × SetsEntry core.old.frames core.new.frames (top_level M.mode) spot.now.root.0 spot.now.page number }
-    ensures rest { KeepsAround core.old core.new }
-    ensures not_refused { core.new.refused.number ≡ core.old.refused.number }
+    ensures { SetsFull core.old core.new spot.now attr frame.0 private }
 {
     let grant = full_grant(core, attr, frame, private);
     let entry = entry_over(attr.prot, grant);

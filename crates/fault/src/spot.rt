@@ -10,19 +10,19 @@ use vm_types::{FrameNo, Levels, Pid, Vpn};
 
 /// A page of a live process on whose way no table is missing, and the tables by which its entry is reached.
 #[derive(Clone, Copy, Debug, PartialEq, Eq)]
-pub struct Spot {
+pub(crate) struct Spot {
     /// The process.
-    pub pid: Pid,
+    pub(crate) pid: Pid,
     /// The page.
-    pub page: Vpn,
+    pub(crate) page: Vpn,
     /// The root table of the process.
-    pub root: FrameNo,
+    pub(crate) root: FrameNo,
     /// The lowest table on the way to the page, in which its entry stands.
-    pub table: FrameNo,
+    pub(crate) table: FrameNo,
 }
 
 /// The number that stands for the page.
-pub fn number_at<D, E, M: Levels>(core: &Core<D, E, M>, spot: &Spot) -> Pte
+pub(crate) fn number_at<D, E, M: Levels>(core: &Core<D, E, M>, spot: &Spot) -> Pte
     requires { StandsAt (picture_of core.now) spot.now }
     ensures { result.0 ≡ entry (picture_of core.now) spot.now.pid spot.now.page }
 {

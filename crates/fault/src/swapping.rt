@@ -17,7 +17,7 @@ use vm_types::{Attr, FrameNo, Levels, Stall};
 ///
 /// # Errors
 /// As `obtain`, where no frame is to be had, and `SwapDevice` where the swap device failed. Then the page lies where it lay.
-pub fn swap_in<D, E: SectorDisk, M: Levels>(
+pub(crate) fn swap_in<D, E: SectorDisk, M: Levels>(
     core: &mut Core<D, E, M>,
     spot: &Spot,
     attr: Attr,

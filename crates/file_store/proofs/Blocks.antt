@@ -1,5 +1,7 @@
 -- A store of layout 3, made from sync to sync.
-use Rattle.std.proofs.Common.{◌≡◌, ◌⊎◌, ◌≤◌, ℕ, ⊎_elim, inl, inr, Result, Ok, Err, OnOk, List, refl, sym, ap, subst, ◌∙◌, arith}
+use Rattle.std.proofs.Common.{◌≡◌, ◌⊎◌, ◌≤◌, ℕ, ⊎_elim, inl, inr, Result, Ok, Err, OnOk, sym, ◌∙◌, arith}
+use Rattle.std.specs.Prelude.{IsErrAnd}
+use Rattle.std.proofs.lemmas.Result.{on_ok_weaker}
 use Rattle.disk_model.specs.Stop.{Image}
 use Rattle.disk_model.specs.Moments.{Touches}
 use Rattle.disk_model.specs.declared.sector_disk.SectorDisk.{Ghosts}
@@ -11,6 +13,7 @@ use Rattle.sync_journal.specs.Blocks.{LeavesInBlocks}
 use Rattle.file_store.specs.Layout.{turn_mark, IsMark}
 use Rattle.file_store.specs.Format.{IsFrom, IsKindSector, IsMarkSector}
 use Rattle.file_store.specs.Blocks.{MakesByBlocks, KindBehind, KindLast}
+use Rattle.file_store.specs.Making.{WritesKindLast}
 use Rattle.file_store.specs.Blocks.MakesByBlocks.{Unmarked, OfKind, Marked}
 
 pub single_paired : ◌≡◌ {A = Journals} Single Paired → ⊥
@@ -20,6 +23,11 @@ single_paired e = cc
 pub on_ok : {T E P : Type 0} (r : Result T E) → P → OnOk r P
 on_ok (Ok x) p = p
 on_ok (Err e) p = tt
+
+-- after an error nothing is said
+pub none_on : {T E : Type 0} (P : Type 0) (r : Result T E) (f : E) → IsErrAnd r (λ e. e ≡ f) → OnOk r P
+none_on P (Ok x) f none = absurd none
+none_on P (Err e) f is = tt
 
 module _ {D : Type 0} (g : Ghosts D) where
   -- more is written before
@@ -37,6 +45,14 @@ module _ {D : Type 0} (g : Ghosts D) where
       → ((c : Image) → ((k : ℕ) → V k ⊎ (c k ≡ g.content mid k)) → Q c → R c) → KindLast g V Q mid new → KindLast g W R old new
   last_more V W Q R old mid new first more into = ⊎_elim (λ run. inl (then g W old mid new first (wider g V W mid new more run)))
       (λ b. inr (behind_more V W Q R old mid new first more into b))
+
+  pub last_then : {T E U F : Type 0} (kind : Journals) (V W : ℕ → Type 0) (Q R : Image → Type 0) (old mid new : D) (r : Result T E) (q : Result U F)
+      → (OnOk r (KindBehind g W R old new) → OnOk q (KindBehind g W R old new)) → Touches g W old mid → ((k : ℕ) → V k → W k)
+      → (kind ≡ Paired → (c : Image) → ((k : ℕ) → V k ⊎ (c k ≡ g.content mid k)) → Q c → R c) → WritesKindLast g kind V Q mid new r → WritesKindLast g kind W R old new q
+  last_then kind V W Q R old mid new r q to first more into last = record {
+    epochs = λ paired. last_more V W Q R old mid new first more (into paired) (last.epochs paired);
+    kind_behind = λ paired. to (on_ok_weaker r (λ b. behind_more V W Q R old mid new first more (into paired) b) (last.kind_behind paired));
+  }
 
   module _ (Whole : Image → Type 0) (old : D) (synced : (k : ℕ) → g.unsynced old k → ⊥) (unmarked : IsMark (g.content old 0) → ⊥) where
     abbrev pub IfPaired : Image → Type 0

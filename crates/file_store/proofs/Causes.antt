@@ -1,11 +1,9 @@
 -- What the faults of the calls below say.
-use Rattle.std.proofs.Common.{◌≡◌, ◌⊎◌, inl, inr, ⊎_elim, Result, Ok, Err, refl, ap}
-use Rattle.std.specs.Prelude.{IsErrAnd, IsErrOf, OnErr}
+use Rattle.std.proofs.Common.{◌≡◌, ◌⊎◌, inl, inr, Result, Ok, Err, refl, ap}
+use Rattle.std.specs.Prelude.{IsErrAnd, OnErr}
 use Rattle.sync_journal.specs.declared.faults.RecoverFault.{RecoverFault}
 use Rattle.sync_journal.specs.declared.faults.RecoverFault.TheVariants.{Device as RecoverDevice, BadJournal as RecoverBadJournal}
 use Rattle.file_store.specs.declared.faults.OpenFault.TheVariants.{BadJournal}
-use Rattle.file_store.specs.declared.faults.FormatFault.{FormatFault}
-use Rattle.file_store.specs.declared.faults.FormatFault.TheVariants.{Source, Device as FormatDevice, TooLarge, Formatted}
 use Rattle.file_store.specs.Faults.{open_fault}
 
 pub journal_from : (r : RecoverFault) → BadJournal ≡ open_fault r → r ≡ RecoverBadJournal
@@ -27,10 +25,3 @@ is_this (Err f) e is = ap Err is
 
 pub same_Err : {T E : Type 0} (a b : E) → ◌≡◌ {A = Result T E} (Err a) (Err b) → a ≡ b
 same_Err a b e = cc
-
--- a fault that comes later in a format is none of the first two
-pub not_refused : {T : Type 0} (r : Result T FormatFault) (f : FormatFault) → IsErrAnd r (λ e. e ≡ f) → IsErrOf {T = T} (Err f) Source ⊎ IsErrOf {T = T} (Err f) FormatDevice
-    → IsErrOf r TooLarge ⊎ IsErrOf r Formatted → ⊥
-not_refused r f made later refused =
-    let is : r ≡ Err f = is_this r f made in
-    ⊎_elim (λ source. ⊎_elim (λ e. cc) (λ e. cc) refused) (λ device. ⊎_elim (λ e. cc) (λ e. cc) refused) later

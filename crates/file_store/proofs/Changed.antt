@@ -1,5 +1,5 @@
 -- What a commit makes of the files.
-use Rattle.std.proofs.Common.{◌≡◌, ◌≢◌, ℕ, zero, suc, ◌+◌, ◌*◌, ◌<◌, ◌≤◌, ◌⊎◌, ⊎_elim, inl, inr, Bool, List, map, length, get_or, take, slice_get, slice_index, Option, Some, None, cond, false, eqb, refl, sym, ap, subst, ◌∙◌, arith}
+use Rattle.std.proofs.Common.{◌≡◌, ◌≢◌, ℕ, zero, suc, ◌+◌, ◌*◌, ◌<◌, ◌≤◌, ◌⊎◌, ⊎_elim, inl, inr, List, map, length, get_or, take, slice_get, slice_index, Option, Some, None, cond, false, eqb, refl, sym, ap, subst, ◌∙◌, arith}
 use Rattle.std.proofs.lemmas.Bool.{cases_eq, cases_lt, eq-eqb}
 use Rattle.std.proofs.lemmas.Bool.Decides.{nat_tests}
 use Rattle.std.proofs.lemmas.List.{length-take-le, get_or-take, length-map, get_or-map}
@@ -15,10 +15,10 @@ use Rattle.vm_types.specs.declared.file.FileInfo.{FileInfo}
 use Rattle.vm_types.specs.declared.file.FilePage.{FilePage}
 use Rattle.file_store.specs.declared.directory.Entry.{Entry}
 use Rattle.file_store.specs.declared.directory.Directory.{Directory}
-use Rattle.file_store.specs.Layout.{trimmed, bytes_inside}
+use Rattle.file_store.specs.Layout.{padded_page, bytes_inside}
 use Rattle.file_store.specs.Directory.{IsSoundDirectory, IsHomeOf}
 use Rattle.file_store.specs.Standing.{IsPageOf, StandsFor, standing, directory_entry, page_standing, standing_page}
-use Rattle.file_store.specs.Store.{entry_of, home_of, homes_of_pages, inside_of, inside_at, IsEntryPage, PutsHomes, PutsHomesOrNone}
+use Rattle.file_store.specs.Store.{entry_of, home_of, homes_of_pages, inside_named, inside_at, IsEntryPage, PutsHomes, PutsHomesOrNone}
 use Rattle.file_store.specs.Commit.{cut_page, ArePages, Changes, StandsForEither}
 use Rattle.disk_model.proofs.Pieces.{joined-same, joined_parts}
 use Rattle.file_store.proofs.Pieces.{trimmed-trimmed, length-trimmed}
@@ -94,9 +94,9 @@ are_homes kind sectors directory files list homes sound pages of_list = record {
 module _ (kind : Journals) (sectors : ℕ) (directory : Directory) (list : List FilePage) (homes : List ℕ) (given : ℕ → List ℕ) (old new : Image)
     (sound : IsSoundDirectory (kind_home_count kind sectors) (entry_of directory)) (same_directory : (f : ℕ) → entry_of directory f ≡ directory_entry old f)
     (of_list : AreHomesOf directory list homes)
-    (kept : IsStoreKept sectors old (StoreStandsFor (changed (standing old) homes (λ i. trimmed (inside_at directory list i) (given i)))) new) where
+    (kept : IsStoreKept sectors old (StoreStandsFor (changed (standing old) homes (λ i. padded_page (inside_at directory list i) (given i)))) new) where
   abbrev cut : ℕ → List ℕ
-  cut i = trimmed (inside_at directory list i) (given i)
+  cut i = padded_page (inside_at directory list i) (given i)
 
   head : SameHead old new
   head = same_head sectors old new kept.outside
@@ -108,23 +108,23 @@ module _ (kind : Journals) (sectors : ℕ) (directory : Directory) (list : List 
       let sectors_same : (i : ℕ) → i < 8 → standing new (e.first + k) i ≡ standing old (e.first + k) i
       = λ i lt. kept.stands.each (e.first + k) i lt ∙ ap (sector_or cut (standing old (e.first + k) i) i) none in
       ap (page_standing new k) (entry_same old new head f ∙ is)
-      ∙ ap (trimmed (bytes_inside e.info.length k)) (joined-same 8 (standing new (e.first + k)) (standing old (e.first + k)) sectors_same)
+      ∙ ap (padded_page (bytes_inside e.info.length k)) (joined-same 8 (standing new (e.first + k)) (standing old (e.first + k)) sectors_same)
       ∙ sym (ap (page_standing old k) is)
 
   -- named: as given
   listed : (f k j : ℕ) (e : Entry) (p : FilePage) → directory_entry old f ≡ Some e → slice_get list j ≡ Some p → p.file ≡ f → p.page ≡ k
-      → place_among (λ j. slice_index homes j) (e.first + k) (length homes) ≡ Some j → standing_page new f k ≡ trimmed (bytes_inside e.info.length k) (given j)
+      → place_among (λ j. slice_index homes j) (e.first + k) (length homes) ≡ Some j → standing_page new f k ≡ padded_page (bytes_inside e.info.length k) (given j)
   unfolding changed
   listed f k j e p is at file page some =
       let sectors_are : (i : ℕ) → i < 8 → standing new (e.first + k) i ≡ part_of (cut j) i
       = λ i lt. kept.stands.each (e.first + k) i lt ∙ ap (sector_or cut (standing old (e.first + k) i) i) some in
       let entry_is : entry_of directory p.file ≡ Some e = ap (entry_of directory) file ∙ same_directory f ∙ is in
       let inside : inside_at directory list j ≡ bytes_inside e.info.length k
-      = ap (inside_of directory) at ∙ inside_of-entry directory p e entry_is ∙ ap (bytes_inside e.info.length) page in
-      let cut_is : cut j ≡ trimmed (bytes_inside e.info.length k) (given j) = ap (λ n. trimmed n (given j)) inside in
+      = ap (inside_named directory) at ∙ inside_of-entry directory p e entry_is ∙ ap (bytes_inside e.info.length) page in
+      let cut_is : cut j ≡ padded_page (bytes_inside e.info.length k) (given j) = ap (λ n. padded_page n (given j)) inside in
       let small : bytes_inside e.info.length k ≤ 4096 = omega arith in
       ap (page_standing new k) (entry_same old new head f ∙ is)
-      ∙ ap (trimmed (bytes_inside e.info.length k)) (joined-same 8 (standing new (e.first + k)) (part_of (cut j)) sectors_are
+      ∙ ap (padded_page (bytes_inside e.info.length k)) (joined-same 8 (standing new (e.first + k)) (part_of (cut j)) sectors_are
       ∙ joined_parts (cut j) (ap length cut_is ∙ length-trimmed (bytes_inside e.info.length k) (given j) small) ∙ cut_is)
       ∙ trimmed-trimmed (bytes_inside e.info.length k) (given j) small
 
@@ -190,7 +190,7 @@ module _ (kind : Journals) (sectors : ℕ) (directory : Directory) (list : List 
           let first : entry.entry.first ≡ e.first = ap (λ x. x.first) same_entry in
           let page : p.page ≡ k = omega (arith, home, first) in
           listed f k some.0 e p entry_is at.1 file page some.1
-          ∙ ap (λ (i : FileInfo). trimmed (bytes_inside i.length k) (given some.0)) b.2
+          ∙ ap (λ (i : FileInfo). padded_page (bytes_inside i.length k) (given some.0)) b.2
           ∙ sym (ap (λ o. cut_page o k (given some.0)) inside.1)
           ∙ sym (ap (λ n. cut_page (files f) n (given some.0)) page)
           ∙ sym (ap (λ n. cut_page (files n) p.page (given some.0)) file)
@@ -202,7 +202,7 @@ module _ (kind : Journals) (sectors : ℕ) (directory : Directory) (list : List 
 pub stands_either : (kind : Journals) (sectors : ℕ) (directory : Directory) (list : List FilePage) (homes : List ℕ) (given : ℕ → List ℕ) (old new : Image)
     → IsSoundDirectory (kind_home_count kind sectors) (entry_of directory) → ((f : ℕ) → entry_of directory f ≡ directory_entry old f) → AreHomesOf directory list homes
     → (files : ℕ → Option FileInfo) (before after : ℕ → ℕ → List ℕ) → StandsFor sectors files before old → Changes files list given before after
-    → IsStoreKept sectors old (StoreStandsForEither (standing old) (changed (standing old) homes (λ i. trimmed (inside_at directory list i) (given i)))) new
+    → IsStoreKept sectors old (StoreStandsForEither (standing old) (changed (standing old) homes (λ i. padded_page (inside_at directory list i) (given i)))) new
     → StandsForEither sectors files before after new
 stands_either kind sectors directory list homes given old new sound same_directory of_list files before after was changes kept = ⊎_elim
     (λ stands. inl (stands_kept sectors old new (record { stands = stands; journal = kept.journal; outside = kept.outside }) files before was))
@@ -214,7 +214,7 @@ stands_either kind sectors directory list homes given old new sound same_directo
 pub homes_either : (kind : Journals) (sectors : ℕ) (directory : Directory) (list : List FilePage) (homes : List ℕ) (given : ℕ → List ℕ) (old new : Image)
     → IsSoundDirectory (kind_home_count kind sectors) (entry_of directory) → ((f : ℕ) → entry_of directory f ≡ directory_entry old f) → AreHomesOf directory list homes
     → AreHomes (kind_home_count kind sectors) homes
-    → IsStoreKept sectors old (StoreStandsForEither (standing old) (changed (standing old) homes (λ i. trimmed (inside_at directory list i) (given i)))) new
+    → IsStoreKept sectors old (StoreStandsForEither (standing old) (changed (standing old) homes (λ i. padded_page (inside_at directory list i) (given i)))) new
     → PutsHomesOrNone sectors directory list given old new
 homes_either kind sectors directory list homes given old new sound same_directory of_list are kept = ⊎_elim
     (λ stands. inl (record { stands = stands; journal = kept.journal; outside = kept.outside }))

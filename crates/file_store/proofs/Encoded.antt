@@ -9,7 +9,7 @@ use Rattle.byteorder.specs.Numbers.{little_number-reads_back}
 use borrow.Rule.Slice.PartMut.{put_mid, post_of}
 use Rattle.sync_journal.proofs.Maps.{same_number}
 use Rattle.file_store.specs.declared.directory.Entry.{Entry}
-use Rattle.file_store.specs.Directory.{word_of, length_of, decoded, IsZero, bytes_in, entry_in}
+use Rattle.file_store.specs.Directory.{word_of, length_of, decoded, IsZero, entry_bytes, entry_in}
 use Rattle.file_store.specs.declared.sources.FileSource.{FileSource}
 use Rattle.file_store.specs.Format.{info_of, first_home, entry_given}
 use Rattle.file_store.proofs.Entries.{entry_in-inside, entry_in-outside}
@@ -104,12 +104,12 @@ module _ (f : ℕ) (sector bytes : List ℕ) (size : length sector ≡ 512) (ins
       ∙ get_or_append_left bytes (post_of (8 * f) (512 - 8 * f) sector) 0 i below
 
   -- the entries before it stay
-  pub entry_before : (g : ℕ) → g < f → decoded (bytes_in renewed g) ≡ decoded (bytes_in sector g)
-  entry_before g less = decoded-same (bytes_in renewed g) (bytes_in sector g)
+  pub entry_before : (g : ℕ) → g < f → decoded (entry_bytes renewed g) ≡ decoded (entry_bytes sector g)
+  entry_before g less = decoded-same (entry_bytes renewed g) (entry_bytes sector g)
       (λ i below. get_or-drop (8 * g) renewed i 0 ∙ before (8 * g + i) (omega (arith, less, below)) ∙ sym (get_or-drop (8 * g) sector i 0))
 
-  pub entry_here : decoded (bytes_in renewed f) ≡ decoded bytes
-  entry_here = decoded-same (bytes_in renewed f) bytes
+  pub entry_here : decoded (entry_bytes renewed f) ≡ decoded bytes
+  entry_here = decoded-same (entry_bytes renewed f) bytes
       (λ i below. get_or-drop (8 * f) renewed i 0 ∙ here i (omega (arith, long, inside, below)))
 
   -- behind it zeros stay
@@ -135,8 +135,8 @@ module _ (f : ℕ) (sector bytes : List ℕ) (size : length sector ≡ 512) (ins
       (cases_lt i 512)
 
 -- past the last source there is no file
-pub no_file : {R : Type 0} (sources : List (FileSource R)) (sector : List ℕ) (f : ℕ) → length sources ≤ f → IsZero (bytes_in sector f)
+pub no_file : {R : Type 0} (sources : List (FileSource R)) (sector : List ℕ) (f : ℕ) → length sources ≤ f → IsZero (entry_bytes sector f)
     → entry_in sector f ≡ entry_given sources f
 no_file sources sector f past zero =
-    ⊎_elim (λ below. entry_in-inside sector f below ∙ zero_says_nothing (bytes_in sector f) zero) (λ outside. entry_in-outside sector f outside) (cases_lt f 64)
+    ⊎_elim (λ below. entry_in-inside sector f below ∙ zero_says_nothing (entry_bytes sector f) zero) (λ outside. entry_in-outside sector f outside) (cases_lt f 64)
     ∙ sym (ap (option_map (λ s. record { first = first_home sources f % 1073741824; info = info_of s })) (slice_get_past sources f past))

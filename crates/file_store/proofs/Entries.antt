@@ -6,10 +6,10 @@ use Rattle.std.proofs.lemmas.List.{get_or-take, get_or-set_same, get_or-set_othe
 use Rattle.std.proofs.lemmas.Option.{none-some}
 use Rattle.std.proofs.lemmas.Bool.Decides.{nat_tests}
 use Rattle.file_store.specs.declared.directory.Entry.{Entry}
-use Rattle.file_store.specs.Directory.{decoded, entry_in, bytes_in, IsZero, end_of, IsHomeOf, IsBadDirectory, IsSoundDirectory, AreGood, AreEntries}
+use Rattle.file_store.specs.Directory.{decoded, entry_in, entry_bytes, IsZero, home_end, IsHomeOf, IsBadDirectory, IsSoundDirectory, AreGood, AreEntries}
 use Rattle.file_store.specs.Directory.IsBadDirectory.{NotZero, Outside, Overlap}
 
-pub entry_in-inside : (sector : List ℕ) (f : ℕ) → f < 64 → entry_in sector f ≡ decoded (bytes_in sector f)
+pub entry_in-inside : (sector : List ℕ) (f : ℕ) → f < 64 → entry_in sector f ≡ decoded (entry_bytes sector f)
 unfolding entry_in
 entry_in-inside sector f lt = grind (arith, nat_tests)
 
@@ -27,13 +27,13 @@ pub entries_none : (sector : List ℕ) (entries : List (Option Entry)) → AreEn
 entries_none sector entries = record { each = λ f lt. absurd (omega (arith, lt)) }
 
 pub good_more : (homes : ℕ) (sector : List ℕ) (n : ℕ) → AreGood homes sector n
-    → (entry_in sector n ≡ None → IsZero (bytes_in sector n))
-    → ((e : Entry) → entry_in sector n ≡ Some e → end_of e ≤ homes)
+    → (entry_in sector n ≡ None → IsZero (entry_bytes sector n))
+    → ((e : Entry) → entry_in sector n ≡ Some e → home_end e ≤ homes)
     → ((f h : ℕ) (a b : Entry) → f < n → entry_in sector f ≡ Some a → entry_in sector n ≡ Some b → IsHomeOf a h → IsHomeOf b h → ⊥)
     → AreGood homes sector (n + 1)
 good_more homes sector n good zero within apart = record {
-  zero = λ f lt. ⊎_elim (λ e. subst (λ k. entry_in sector k ≡ None → IsZero (bytes_in sector k)) (sym e) zero) (λ ne. good.zero f (omega (arith, lt, ne))) (cases_eq f n);
-  within = λ f x lt. ⊎_elim (λ e. subst (λ k. entry_in sector k ≡ Some x → end_of x ≤ homes) (sym e) (within x)) (λ ne. good.within f x (omega (arith, lt, ne))) (cases_eq f n);
+  zero = λ f lt. ⊎_elim (λ e. subst (λ k. entry_in sector k ≡ None → IsZero (entry_bytes sector k)) (sym e) zero) (λ ne. good.zero f (omega (arith, lt, ne))) (cases_eq f n);
+  within = λ f x lt. ⊎_elim (λ e. subst (λ k. entry_in sector k ≡ Some x → home_end x ≤ homes) (sym e) (within x)) (λ ne. good.within f x (omega (arith, lt, ne))) (cases_eq f n);
   apart = λ f g h a b less lt is. ⊎_elim
       (λ e is'. apart f h a b (omega (arith, less, e)) is (subst (λ k. entry_in sector k ≡ Some b) e is'))
       (λ ne. good.apart f g h a b less (omega (arith, lt, ne)) is) (cases_eq g n);

@@ -1,5 +1,5 @@
 -- The homes of pages.
-use Rattle.std.proofs.Common.{◌≡◌, ℕ, ◌+◌, ◌*◌, ◌<◌, ◌≤◌, ⊎_elim, Bool, Option, Some, None, refl, sym, ap, subst, ◌∙◌, arith}
+use Rattle.std.proofs.Common.{◌≡◌, ℕ, ◌+◌, ◌*◌, ◌<◌, ◌≤◌, ⊎_elim, Option, Some, None, refl, sym, ap, subst, ◌∙◌, arith}
 use Rattle.std.specs.Option.{option_map}
 use Rattle.std.proofs.lemmas.Bool.{cases_eq, cases_lt}
 use Rattle.std.proofs.lemmas.Option.{none-some, same_Some}
@@ -11,7 +11,7 @@ use Rattle.file_store.specs.declared.directory.Entry.{Entry}
 use Rattle.file_store.specs.declared.directory.Directory.{Directory}
 use Rattle.file_store.specs.Directory.{IsHomeOf, IsSoundDirectory}
 use Rattle.file_store.specs.Standing.{IsPageOf}
-use Rattle.file_store.specs.Store.{entry_of, home_in, home_of, inside_in, inside_of, IsEntryPage}
+use Rattle.file_store.specs.Store.{entry_of, entry_home, home_of, inside_in, inside_named, IsEntryPage}
 use Rattle.file_store.specs.Layout.{bytes_inside}
 
 -- facts of an entry
@@ -21,7 +21,7 @@ entry_behind (Some e) info is = (e, refl, same_Some e.info info is)
 
 pub home_of-entry : (directory : Directory) (p : FilePage) (e : Entry) → entry_of directory p.file ≡ Some e → home_of directory p ≡ e.first + p.page
 unfolding home_of
-home_of-entry directory p e is = ap (λ o. home_in o p.page) is
+home_of-entry directory p e is = ap (λ o. entry_home o p.page) is
 
 -- a page inside its file has one of the file's homes
 pub is_home : (e : Entry) (k : ℕ) → 4096 * k < e.info.length → IsHomeOf e (e.first + k)
@@ -65,20 +65,20 @@ inside_in-small None k = omega arith
 inside_in-small (Some e) k = omega arith
 
 -- no page has more than its 4,096 bytes in its file
-pub inside_of-small : (directory : Directory) (p : Option FilePage) → inside_of directory p ≤ 4096
-unfolding inside_of
+pub inside_of-small : (directory : Directory) (p : Option FilePage) → inside_named directory p ≤ 4096
+unfolding inside_named
 inside_of-small directory None = omega arith
 inside_of-small directory (Some p) = inside_in-small (entry_of directory p.file) p.page
 
 -- a page of the list
-pub inside_of-entry : (directory : Directory) (p : FilePage) (e : Entry) → entry_of directory p.file ≡ Some e → inside_of directory (Some p) ≡ bytes_inside e.info.length p.page
-unfolding inside_of inside_in
+pub inside_of-entry : (directory : Directory) (p : FilePage) (e : Entry) → entry_of directory p.file ≡ Some e → inside_named directory (Some p) ≡ bytes_inside e.info.length p.page
+unfolding inside_named inside_in
 inside_of-entry directory p e is = ap (λ o. inside_in o p.page) is
 
-pub inside_of-none : (directory : Directory) (p : FilePage) → entry_of directory p.file ≡ None → inside_of directory (Some p) ≡ 4096
-unfolding inside_of inside_in
+pub inside_of-none : (directory : Directory) (p : FilePage) → entry_of directory p.file ≡ None → inside_named directory (Some p) ≡ 4096
+unfolding inside_named inside_in
 inside_of-none directory p is = ap (λ o. inside_in o p.page) is
 
-pub inside_of-past : (directory : Directory) → inside_of directory None ≡ 4096
-unfolding inside_of
+pub inside_of-past : (directory : Directory) → inside_named directory None ≡ 4096
+unfolding inside_named
 inside_of-past directory = refl

@@ -4,10 +4,10 @@ use Rattle.std.specs.Str.{bytes_eq}
 use Rattle.std.proofs.lemmas.Slice.Eq.{bytes_eq-Decides}
 use Rattle.disk_model.specs.Stop.{Image, MayLeave}
 use Rattle.sync_journal.specs.Layout.{layout_before}
-use Rattle.sync_journal.specs.Map.{IsBadMap, count_in, place_among, home_in}
+use Rattle.sync_journal.specs.Map.{IsBadMap, map_count, place_among, home_in}
 use Rattle.sync_journal.specs.Standing.{standing_under}
 use Rattle.sync_journal.specs.Turns.{named_in, turn_map, turn_stands}
-use Rattle.sync_journal.specs.Kinds.{turn_kind, is_kind, kind_when, kind_of, kind_homes, kind_home, kind_standing, IsKindBad, IsKindClosed, IsKindOutside, StoreStandsFor, StoreStandsAs, IsStoreKept}
+use Rattle.sync_journal.specs.Kinds.{turn_kind, is_kind, kind_when, kind_of, kind_homes, kind_home, kind_standing, IsKindBad, IsKindClosed, IsKindOutside, StoreStandsAs}
 use Rattle.sync_journal.proofs.Changes.{closed_not_bad}
 use Rattle.sync_journal.specs.declared.store_journal.Journals.{Journals}
 use Rattle.sync_journal.specs.declared.store_journal.Journals.TheVariants.{Single, Paired}
@@ -15,11 +15,11 @@ use Rattle.file_store.specs.declared.directory.Entry.{Entry}
 use Rattle.file_store.specs.declared.version.Version.{Version}
 use Rattle.file_store.specs.declared.version.Version.TheVariants.{One, Two, Three}
 use Rattle.disk_model.specs.Sectors.{joined}
-use Rattle.file_store.specs.Layout.{IsMark, mark, turn_mark, trimmed, bytes_inside}
-use Rattle.file_store.specs.Versions.{version_at, version_before, version_of, homes_of, count_of, directory_of, mark_of}
+use Rattle.file_store.specs.Layout.{IsMark, mark, turn_mark, padded_page, bytes_inside}
+use Rattle.file_store.specs.Versions.{version_at, version_before, version_of, homes_of, home_pages_of, directory_of, mark_of}
 use Rattle.file_store.specs.Format.{IsFrom, IsLayoutSector, IsUnmarkedSector}
 use Rattle.file_store.specs.Directory.{entry_in, decoded, IsBadDirectory, AreGood}
-use Rattle.file_store.specs.Standing.{standing, IsBadJournal, IsBadLayoutIn, IsBadLayout, entry_at, info_at, directory_entry, file_info, page_standing, standing_page, StandsFor, StandsAs}
+use Rattle.file_store.specs.Standing.{standing, IsBadJournal, IsBadLayoutIn, IsBadLayout, listed_entry, info_at, directory_entry, file_info, page_standing, standing_page, StandsFor, StandsAs}
 use Rattle.file_store.specs.Standing.IsBadLayoutIn.{TooSmall, Unmarked, BadDirectory}
 use Rattle.disk_model.proofs.Pieces.{joined-same}
 use Rattle.file_store.proofs.Entries.{good_directory}
@@ -31,7 +31,7 @@ kind_closed Single image h i closed = rw closed refl
 kind_closed Paired image h i none = ap (λ n. image (turn_stands (named_in image) h (place_among (home_in (turn_map (named_in image) image)) h n) + i)) none
 
 -- and the journal isn't bad
-empty_not_bad : (most homes : ℕ) (map : List ℕ) → count_in map ≡ 0 → IsBadMap most homes map → ⊥
+empty_not_bad : (most homes : ℕ) (map : List ℕ) → map_count map ≡ 0 → IsBadMap most homes map → ⊥
 empty_not_bad most homes map none bad = ⊎_elim (λ many. omega (arith, none, many))
     (λ other. ⊎_elim (λ outside. omega (arith, none, outside.1)) (λ twice. omega (arith, none, twice.3)) other) bad
 
@@ -66,7 +66,7 @@ module _ (old new : Image) (same : SameHead old new) where
   version_is = ap version_at kind_is
 
   pub entry_same : (f : ℕ) → directory_entry new f ≡ directory_entry old f
-  entry_same f = ap (λ v. entry_at v new f) version_is ∙ ap (λ (s : List ℕ). entry_in s f) same.directory
+  entry_same f = ap (λ v. listed_entry v new f) version_is ∙ ap (λ (s : List ℕ). entry_in s f) same.directory
 
   pub info_same : (f : ℕ) → file_info new f ≡ file_info old f
   info_same f = ap (λ v. info_at v new f) version_is ∙ ap (λ (s : List ℕ). info_at (version_of old) (λ _. s) f) same.directory
@@ -74,14 +74,14 @@ module _ (old new : Image) (same : SameHead old new) where
   layout_moves : (version : Version) (sectors : ℕ) → new 0 ≡ old 0 → new (directory_of version) ≡ old (directory_of version) → IsBadLayoutIn version sectors new → IsBadLayoutIn version sectors old
   layout_moves version sectors first second (TooSmall few) = TooSmall few
   layout_moves version sectors first second (Unmarked other) = Unmarked (λ e. other (first ∙ e))
-  layout_moves version sectors first second (BadDirectory bad) = BadDirectory (subst (λ (s : List ℕ). IsBadDirectory (count_of version sectors) s) second bad)
+  layout_moves version sectors first second (BadDirectory bad) = BadDirectory (subst (λ (s : List ℕ). IsBadDirectory (home_pages_of version sectors) s) second bad)
 
   pub bad_layout_moves : (sectors : ℕ) → IsBadLayout sectors new → IsBadLayout sectors old
   bad_layout_moves sectors bad = layout_moves (version_of old) sectors same.mark same.directory (subst (λ v. IsBadLayoutIn v sectors new) version_is bad)
 
 page_standing-same : (old new : Image) (k : ℕ) (entry : Option Entry) → ((h i : ℕ) → i < 8 → standing new h i ≡ standing old h i) → page_standing new k entry ≡ page_standing old k entry
 page_standing-same old new k None same = refl
-page_standing-same old new k (Some e) same = ap (trimmed (bytes_inside e.info.length k)) (joined-same 8 (standing new (e.first + k)) (standing old (e.first + k)) (same (e.first + k)))
+page_standing-same old new k (Some e) same = ap (padded_page (bytes_inside e.info.length k)) (joined-same 8 (standing new (e.first + k)) (standing old (e.first + k)) (same (e.first + k)))
 
 pub standing_page-same : (old new : Image) (f k : ℕ) → directory_entry new f ≡ directory_entry old f → ((h i : ℕ) → i < 8 → standing new h i ≡ standing old h i) → standing_page new f k ≡ standing_page old f k
 standing_page-same old new f k entry same = ap (page_standing new k) entry ∙ page_standing-same old new k (directory_entry old f) same
@@ -103,16 +103,16 @@ pub stands_for_itself : (sectors : ℕ) (image : Image) → (IsBadLayout sectors
 stands_for_itself sectors image layout journal = record { layout = layout; journal = journal; facts = λ f. refl; same = λ f k inside. refl }
 
 pub layout_is_good_in : (version : Version) (sectors : ℕ) (image : Image) → homes_of version ≤ sectors → image 0 ≡ mark_of version
-    → AreGood (count_of version sectors) (image (directory_of version)) 64 → IsBadLayoutIn version sectors image → ⊥
+    → AreGood (home_pages_of version sectors) (image (directory_of version)) 64 → IsBadLayoutIn version sectors image → ⊥
 layout_is_good_in version sectors image room is_mark good (TooSmall few) = omega (arith, room, few)
 layout_is_good_in version sectors image room is_mark good (Unmarked other) = other is_mark
-layout_is_good_in version sectors image room is_mark good (BadDirectory bad) = good_directory (count_of version sectors) (image (directory_of version)) good bad
+layout_is_good_in version sectors image room is_mark good (BadDirectory bad) = good_directory (home_pages_of version sectors) (image (directory_of version)) good bad
 
 -- a page as it stands for its home, trimmed
 pub page_read : (image : Image) (f k : ℕ) (e : Entry) (inside : ℕ) (bytes page : List ℕ) → directory_entry image f ≡ Some e
-    → inside ≡ bytes_inside e.info.length k → bytes ≡ joined (standing image (e.first + k)) 8 → page ≡ trimmed inside bytes → page ≡ standing_page image f k
+    → inside ≡ bytes_inside e.info.length k → bytes ≡ joined (standing image (e.first + k)) 8 → page ≡ padded_page inside bytes → page ≡ standing_page image f k
 page_read image f k e inside bytes page entry_is inside_is bytes_is page_is =
-    page_is ∙ ap (λ (n : ℕ). trimmed n bytes) inside_is ∙ ap (trimmed (bytes_inside e.info.length k)) bytes_is ∙ sym (ap (page_standing image k) entry_is)
+    page_is ∙ ap (λ (n : ℕ). padded_page n bytes) inside_is ∙ ap (padded_page (bytes_inside e.info.length k)) bytes_is ∙ sym (ap (page_standing image k) entry_is)
 
 -- a device with nothing unsynced
 pub synced_stands : (sectors : ℕ) (content : Image) (unsynced : ℕ → Type 0) → ((k : ℕ) → unsynced k → ⊥) → (image : Image) → MayLeave content unsynced image → StandsAs sectors content image

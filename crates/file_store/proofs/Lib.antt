@@ -6,6 +6,8 @@ pub mod Images
 pub mod Homes
 pub mod Openings
 pub mod Resumes
+pub mod Mounted
+pub mod Looking
 pub mod Outside
 pub mod Asking
 pub mod Causes
@@ -13,11 +15,15 @@ pub mod Changed
 pub mod Lists
 pub mod Totals
 pub mod Making
+pub mod Filling
 pub mod Blocks
 pub mod NewStores
 pub mod Formats
+pub mod Marking
 pub mod Encoded
 pub mod Filled
 pub mod Stops
 pub mod Upgrades
+pub mod Copied
+pub mod Refusing
 mod Rows

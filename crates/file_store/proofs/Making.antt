@@ -1,11 +1,12 @@
 -- How the parts of making a store go on.
-use Rattle.std.proofs.Common.{◌≡◌, ◌⊎◌, ◌≤◌, ℕ, refl, sym, subst, ◌∙◌, arith}
-use Rattle.disk_model.specs.Stop.{ChangesOnly, ChangesPage, IsOfPage, Elapses, Names}
+use Rattle.std.proofs.Common.{◌≡◌, ◌⊎◌, ◌≤◌, ◌<◌, ℕ, Result, OnOk, refl, sym, subst, ◌∙◌, arith}
+use Rattle.std.specs.Prelude.{IsErr}
+use Rattle.disk_model.specs.Stop.{ChangesOnly, Elapses, Names}
 use Rattle.disk_model.specs.declared.sector_disk.SectorDisk.{Ghosts}
 use Rattle.disk_model.proofs.Moments.{then, wider, stays, after_write, after_none, asks_then, asks_wider, asks_named, asks_none}
 use Rattle.sync_journal.specs.Layout.{IsPageSector}
-use Rattle.sync_journal.specs.Runs.{Runs}
-use Rattle.file_store.specs.Making.{Makes}
+use Rattle.sync_journal.specs.Runs.{RunsOnDevice}
+use Rattle.file_store.specs.Making.{Makes, WritesTo, WritesSynced}
 
 module _ {D : Type 0} (g : Ghosts D) where
   -- nothing yet
@@ -53,7 +54,7 @@ module _ {D : Type 0} (g : Ghosts D) where
   }
 
   -- a page written to sectors of W
-  pub makes_page : (W : ℕ → Type 0) (first : ℕ) (old new : D) → ((k : ℕ) → IsPageSector first k → W k) → Runs g (IsPageSector first) old new
+  pub makes_page : (W : ℕ → Type 0) (first : ℕ) (old new : D) → ((k : ℕ) → IsPageSector first k → W k) → RunsOnDevice g (IsPageSector first) old new
       → Names (IsPageSector first) (g.asked old) (g.asked new) → Makes g W old new
   makes_page W first old new inside run asks = record {
     size = run.size;
@@ -76,3 +77,11 @@ module _ {D : Type 0} (g : Ghosts D) where
     asks = asks_none g W mid new asks;
     touches = λ h. after_none g W mid new (same h) (marks h) (time h);
   })
+
+  -- a part that was written, and one that was synced
+  pub written : {T E : Type 0} (W : ℕ → Type 0) (old new : D) (r : Result T E) → Makes g W old new → (IsErr r → g.failures old < g.failures new) → OnOk r (g.failures new ≡ g.failures old) → WritesTo g W old new r
+  written W old new r run failed calm = record { run = run; failed = failed; calm = calm }
+
+  pub written_synced : {T E : Type 0} (W : ℕ → Type 0) (old new : D) (r : Result T E) → Makes g W old new → (IsErr r → g.failures old < g.failures new) → OnOk r (g.failures new ≡ g.failures old)
+      → (g.keeps_model new → OnOk r ((k : ℕ) → g.unsynced new k → ⊥)) → WritesSynced g W old new r
+  written_synced W old new r run failed calm synced = record { writes = written W old new r run failed calm; synced = synced }

@@ -8,7 +8,7 @@ use Rattle.vm_types.specs.declared.file.FileInfo.{FileInfo}
 use Rattle.disk_model.specs.Stop.{Image}
 use Rattle.sync_journal.specs.Gate.{closed_sector}
 use Rattle.sync_journal.specs.Turns.{turn_map}
-use Rattle.sync_journal.specs.Map.{count_in}
+use Rattle.sync_journal.specs.Map.{map_count}
 use Rattle.sync_journal.specs.Kinds.{turn_kind, is_kind, kind_when, kind_of, kind_homes, kind_home, kind_home_count, kind_standing, IsKindBad, IsKindClosed}
 use Rattle.disk_model.specs.Sectors.{part_of, joined}
 use Rattle.sync_journal.proofs.Gates.{closed}
@@ -16,10 +16,10 @@ use Rattle.sync_journal.specs.declared.store_journal.Journals.{Journals}
 use Rattle.sync_journal.specs.declared.store_journal.Journals.TheVariants.{Single, Paired}
 use Rattle.file_store.specs.declared.directory.Entry.{Entry}
 use Rattle.file_store.specs.declared.sources.FileSource.{FileSource}
-use Rattle.file_store.specs.Layout.{page_count, bytes_inside, trimmed}
+use Rattle.file_store.specs.Layout.{pages_of_length, bytes_inside, padded_page}
 use Rattle.file_store.specs.Directory.{AreGood}
-use Rattle.file_store.specs.Standing.{IsBadLayoutIn, standing, entry_at, info_at, directory_entry, page_standing, standing_page}
-use Rattle.file_store.specs.Versions.{version_at, version_of, homes_of, count_of, directory_of, mark_of}
+use Rattle.file_store.specs.Standing.{IsBadLayoutIn, standing, listed_entry, info_at, directory_entry, page_standing, standing_page}
+use Rattle.file_store.specs.Versions.{version_at, version_of, homes_of, home_pages_of, directory_of, mark_of}
 use Rattle.file_store.specs.Format.{page_told, page_given, info_of, files_given, total_pages, told_by, first_home, entry_given, HoldsPage, HoldsCut, IsEmptyJournal, HasHead, HasTables, IsTooLarge, IsDirectoryOf, IsUnmarkedStoreOf, IsStoreOf}
 use Rattle.file_store.specs.Format.IsTooLarge.{TooFewSectors, TooManyPages}
 use Rattle.disk_model.proofs.Pieces.{joined-same, joined_parts}
@@ -44,12 +44,12 @@ module _ {R : Type 0} where
 
   -- a file's homes end where those of a later one begin
   pub first_home-order : (sources : List (FileSource R)) (f g : ℕ) (source : FileSource R) → f < g → slice_get sources f ≡ Some source
-      → first_home sources f + page_count source.length ≤ first_home sources g
+      → first_home sources f + pages_of_length source.length ≤ first_home sources g
   unfolding total_pages
   first_home-order [] f g source less at = absurd (none-some source at)
   first_home-order (s ∷ sources) f zero source less at = absurd (omega (arith, less))
   first_home-order (s ∷ sources) zero (suc g) source less at =
-      let same = ap (λ x. page_count x.length) (same_Some s source at) in
+      let same = ap (λ x. pages_of_length x.length) (same_Some s source at) in
       omega (arith, same)
   first_home-order (s ∷ sources) (suc f) (suc g) source less at =
       let rest = first_home-order sources f g source (omega (arith, less)) at in
@@ -57,11 +57,11 @@ module _ {R : Type 0} where
 
   -- and end within the store
   pub first_home-fits : (sources : List (FileSource R)) (f : ℕ) (source : FileSource R) → slice_get sources f ≡ Some source
-      → first_home sources f + page_count source.length ≤ total_pages sources
+      → first_home sources f + pages_of_length source.length ≤ total_pages sources
   unfolding total_pages
   first_home-fits [] f source at = absurd (none-some source at)
   first_home-fits (s ∷ sources) zero source at =
-      let same = ap (λ x. page_count x.length) (same_Some s source at) in
+      let same = ap (λ x. pages_of_length x.length) (same_Some s source at) in
       omega (arith, same)
   first_home-fits (s ∷ sources) (suc f) source at =
       let rest = first_home-fits sources f source at in
@@ -72,7 +72,7 @@ module _ {R : Type 0} where
     pub source : FileSource R
     pub at : slice_get sources f ≡ Some source
     pub first : e.first ≡ first_home sources f % 1073741824
-    pub pages : page_count e.info.length ≡ page_count source.length
+    pub pages : pages_of_length e.info.length ≡ pages_of_length source.length
 
   comes_from_some : (sources : List (FileSource R)) (f : ℕ) (e : Entry) (source : Option (FileSource R)) → slice_get sources f ≡ source
       → option_map (λ s. record { first = first_home sources f % 1073741824; info = info_of s }) source ≡ Some e → ComesFrom sources f e
@@ -80,7 +80,7 @@ module _ {R : Type 0} where
   comes_from_some sources f e (Some s) at is =
       let entry : Entry = record { first = first_home sources f % 1073741824; info = info_of s } in
       let same : entry ≡ e = same_Some entry e is in
-      record { source = s; at = at; first = sym (ap (λ x. x.first) same); pages = sym (ap (λ x. page_count x.info.length) same) }
+      record { source = s; at = at; first = sym (ap (λ x. x.first) same); pages = sym (ap (λ x. pages_of_length x.info.length) same) }
 
   pub comes_from : (sources : List (FileSource R)) (f : ℕ) (e : Entry) → entry_given sources f ≡ Some e → ComesFrom sources f e
   comes_from sources f e is = comes_from_some sources f e (slice_get sources f) refl is
@@ -149,17 +149,17 @@ module _ {R : Type 0} where
 pub record IsTold (length k : ℕ) (told : Option (List ℕ)) (page : List ℕ) : Type 0 where
   pub bytes : List ℕ
   pub are : told ≡ Some bytes
-  pub page_is : page ≡ trimmed (bytes_inside length k) (drop (4096 * k) bytes)
+  pub page_is : page ≡ padded_page (bytes_inside length k) (drop (4096 * k) bytes)
 
 pub is_told : (length k : ℕ) (told : Option (List ℕ)) (page : List ℕ) → page_told length k told ≡ Some page → IsTold length k told page
 is_told length k None page is = absurd (none-some page is)
-is_told length k (Some bytes) page is = record { bytes = bytes; are = refl; page_is = sym (same_Some (trimmed (bytes_inside length k) (drop (4096 * k) bytes)) page is) }
+is_told length k (Some bytes) page is = record { bytes = bytes; are = refl; page_is = sym (same_Some (padded_page (bytes_inside length k) (drop (4096 * k) bytes)) page is) }
 
 -- such a page is of 4,096 bytes, and has no byte past its end
-told_trimmed : (length k : ℕ) (told : Option (List ℕ)) (page : List ℕ) → IsTold length k told page → trimmed (bytes_inside length k) page ≡ page
+told_trimmed : (length k : ℕ) (told : Option (List ℕ)) (page : List ℕ) → IsTold length k told page → padded_page (bytes_inside length k) page ≡ page
 told_trimmed length k told page is =
     let small : bytes_inside length k ≤ 4096 = omega arith in
-    ap (trimmed (bytes_inside length k)) is.page_is ∙ trimmed-trimmed (bytes_inside length k) (drop (4096 * k) is.bytes) small ∙ sym is.page_is
+    ap (padded_page (bytes_inside length k)) is.page_is ∙ trimmed-trimmed (bytes_inside length k) (drop (4096 * k) is.bytes) small ∙ sym is.page_is
 
 told_size : (n k : ℕ) (told : Option (List ℕ)) (page : List ℕ) → IsTold n k told page → length page ≡ 4096
 told_size n k told page is =
@@ -176,12 +176,12 @@ cut_given : (kind : Journals) (h inside : ℕ) (given : Option (List ℕ)) (page
 cut_given kind h inside given page image cut is i lt = cut.holds i lt ∙ ap (λ (p : List ℕ). part_of p i) (cut.is page is)
 
 -- an empty journal: nothing stands in it
-zero_map : (a b c d e f g first : List ℕ) → first ≡ closed_sector → count_in (((((((([] ++ first) ++ a) ++ b) ++ c) ++ d) ++ e) ++ f) ++ g) ≡ 0
-zero_map a b c d e f g first is = ap (λ (s : List ℕ). count_in (((((((([] ++ s) ++ a) ++ b) ++ c) ++ d) ++ e) ++ f) ++ g)) is
+zero_map : (a b c d e f g first : List ℕ) → first ≡ closed_sector → map_count (((((((([] ++ first) ++ a) ++ b) ++ c) ++ d) ++ e) ++ f) ++ g) ≡ 0
+zero_map a b c d e f g first is = ap (λ (s : List ℕ). map_count (((((((([] ++ s) ++ a) ++ b) ++ c) ++ d) ++ e) ++ f) ++ g)) is
 
-named_zero : (second : Bool) (image : Image) → second ≡ false → image 24 ≡ closed_sector → count_in (turn_map second image) ≡ 0
+named_zero : (second : Bool) (image : Image) → second ≡ false → image 24 ≡ closed_sector → map_count (turn_map second image) ≡ 0
 unfolding joined
-named_zero second image is first = ap (λ b. count_in (turn_map b image)) is
+named_zero second image is first = ap (λ b. map_count (turn_map b image)) is
     ∙ zero_map (image 25) (image 26) (image 27) (image 28) (image 29) (image 30) (image 31) (image 24) first
 
 pub empty_closed : (kind : Journals) (image : Image) → IsEmptyJournal kind image → IsKindClosed kind image
@@ -210,7 +210,7 @@ module _ {R : Type 0} (kind : Journals) (remaining : R → Option (List ℕ)) (s
   page_stands image f k source page known is_closed entry holds told =
       let first = first_home sources f in
       ap (page_standing image k) entry
-      ∙ ap (trimmed (bytes_inside source.length k)) (joined-same 8 (standing image (first + k)) (part_of page)
+      ∙ ap (padded_page (bytes_inside source.length k)) (joined-same 8 (standing image (first + k)) (part_of page)
       (λ i inside. ap (λ b. kind_standing b image (first + k) i) known ∙ kind_closed kind image (first + k) i is_closed ∙ holds i inside)
       ∙ joined_parts page (told_size source.length k (told_by remaining source.bytes) page told))
       ∙ told_trimmed source.length k (told_by remaining source.bytes) page told
@@ -220,14 +220,14 @@ module _ {R : Type 0} (kind : Journals) (remaining : R → Option (List ℕ)) (s
       → IsUnmarkedStoreOf kind remaining sources image → image 0 ≡ mark_of (version_of image) → IsStoreOf kind remaining sectors sources image
   store_if_marked sectors image room fit all marked = record {
     layout = λ bad. layout_is_good_in (version_at kind) sectors image (omega (arith, room, homes)) (marked ∙ ap mark_of version)
-        (good_given (count_of (version_at kind) sectors) sources (image (directory_of (version_at kind))) (omega (arith, fit, homes)) (omega arith) all.directory)
+        (good_given (home_pages_of (version_at kind) sectors) sources (image (directory_of (version_at kind))) (omega (arith, fit, homes)) (omega arith) all.directory)
         (subst (λ v. IsBadLayoutIn v sectors image) version bad);
     journal = λ bad. kind_not_bad kind sectors image (empty_closed kind image all.gate) (subst (λ b. IsKindBad b sectors image) all.of_kind bad);
     facts = λ f. ap (λ v. info_at v image f) version ∙ ap (option_map (λ (e : Entry). e.info)) (all.directory.entries f) ∙ info_given sources f;
     pages = λ f k source page at inside given.
         let end = first_home-fits sources f source at in
         let first : first_home sources f < 1073741824 = omega (arith, end, fit, inside) in
-        page_stands image f k source page all.of_kind (empty_closed kind image all.gate) (ap (λ v. entry_at v image f) version ∙ all.directory.entries f ∙ entry_of_pages sources f source at first)
+        page_stands image f k source page all.of_kind (empty_closed kind image all.gate) (ap (λ v. listed_entry v image f) version ∙ all.directory.entries f ∙ entry_of_pages sources f source at first)
         (cut_given kind (first_home sources f + k) (bytes_inside source.length k) (page_given remaining source k) page image
         (all.files f source (slice_get_within sources f source at) at k (omega (arith, inside))) given)
         (is_told source.length k (told_by remaining source.bytes) page given);

@@ -14,7 +14,7 @@ use Rattle.sync_journal.specs.declared.store_journal.Journals.{Journals}
 use Rattle.sync_journal.specs.declared.store_journal.Journals.TheVariants.{Single, Paired}
 use Rattle.file_store.specs.declared.version.Version.{Version}
 use Rattle.file_store.specs.declared.directory.Entry.{Entry}
-use Rattle.file_store.specs.Versions.{version_at, version_before, version_of, homes_of, count_of, directory_of, mark_of}
+use Rattle.file_store.specs.Versions.{version_at, version_before, version_of, homes_of, home_pages_of, directory_of, mark_of}
 use Rattle.file_store.specs.Directory.{IsSoundDirectory, AreGood}
 use Rattle.file_store.specs.Blocks.{OpensByBlocks}
 use Rattle.file_store.specs.Standing.{StandsAs, IsHeadIn, IsBadLayoutIn}
@@ -39,19 +39,19 @@ directory_asked Paired image k paired at = inr (at ∙ ap (λ b. directory_of (v
 
 -- a layout with its mark and a good directory is good
 pub good_when : {T E : Type 0} (r : Result T E) (version : Version) (n m : ℕ) (old mid : Image) → m ≡ n → mid ≡ old → homes_of version ≤ n → old 0 ≡ mark_of version
-    → OnOk r (AreGood (count_of version m) (mid (directory_of version)) 64) → OnOk r (IsBadLayoutIn version n old → ⊥)
+    → OnOk r (AreGood (home_pages_of version m) (mid (directory_of version)) 64) → OnOk r (IsBadLayoutIn version n old → ⊥)
 good_when (Err e) version n m old mid size same room marked good = tt
 good_when (Ok x) version n m old mid size same room marked good = layout_is_good_in version n old room marked
-    (subst (λ (image : Image). AreGood (count_of version n) (image (directory_of version)) 64) same (subst (λ k. AreGood (count_of version k) (mid (directory_of version)) 64) size good))
+    (subst (λ (image : Image). AreGood (home_pages_of version n) (image (directory_of version)) 64) same (subst (λ k. AreGood (home_pages_of version k) (mid (directory_of version)) 64) size good))
 
 -- what is known of the layout of a kind
-pub kind_sound : (kind : Journals) (version : Version) (n : ℕ) (entry : ℕ → Option Entry) → version ≡ version_at kind → IsSoundDirectory (count_of version n) entry → IsSoundDirectory (kind_home_count kind n) entry
-kind_sound Single version n entry is sound = subst (λ v. IsSoundDirectory (count_of v n) entry) is sound
-kind_sound Paired version n entry is sound = subst (λ v. IsSoundDirectory (count_of v n) entry) is sound
+pub kind_sound : (kind : Journals) (version : Version) (n : ℕ) (entry : ℕ → Option Entry) → version ≡ version_at kind → IsSoundDirectory (home_pages_of version n) entry → IsSoundDirectory (kind_home_count kind n) entry
+kind_sound Single version n entry is sound = subst (λ v. IsSoundDirectory (home_pages_of v n) entry) is sound
+kind_sound Paired version n entry is sound = subst (λ v. IsSoundDirectory (home_pages_of v n) entry) is sound
 
-pub old_sound : (kind : Journals) (version : Version) (n : ℕ) (entry : ℕ → Option Entry) → version ≡ version_before kind → IsSoundDirectory (count_of version n) entry → IsSoundDirectory (home_count_in (layout_before kind) n) entry
-old_sound Single version n entry is sound = subst (λ v. IsSoundDirectory (count_of v n) entry) is sound
-old_sound Paired version n entry is sound = subst (λ v. IsSoundDirectory (count_of v n) entry) is sound
+pub old_sound : (kind : Journals) (version : Version) (n : ℕ) (entry : ℕ → Option Entry) → version ≡ version_before kind → IsSoundDirectory (home_pages_of version n) entry → IsSoundDirectory (home_count_in (layout_before kind) n) entry
+old_sound Single version n entry is sound = subst (λ v. IsSoundDirectory (home_pages_of v n) entry) is sound
+old_sound Paired version n entry is sound = subst (λ v. IsSoundDirectory (home_pages_of v n) entry) is sound
 
 module _ {D : Type 0} (g : Ghosts D) where
   pub content_is : (old new : D) → Touches g Nothing old new → g.content new ≡ g.content old

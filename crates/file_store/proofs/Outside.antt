@@ -1,5 +1,5 @@
 -- An opening leaves what lies outside the gate, the journals and the homes.
-use Rattle.std.proofs.Common.{◌≡◌, ℕ, ⊎_elim, Bool, true, false, arith}
+use Rattle.std.proofs.Common.{◌≡◌, ℕ, ⊎_elim, arith}
 use Rattle.disk_model.specs.Stop.{Image}
 use Rattle.disk_model.specs.Moments.{Touches}
 use Rattle.disk_model.specs.declared.sector_disk.SectorDisk.{Ghosts}

@@ -1,5 +1,5 @@
 -- A store that a commit has left.
-use Rattle.std.proofs.Common.{◌≡◌, ℕ, ◌≤◌, ◌∙◌, Bool, Result, Ok, Err, OnOk, List, sym, ap, subst, arith}
+use Rattle.std.proofs.Common.{◌≡◌, ℕ, ◌≤◌, ◌∙◌, Result, Ok, Err, OnOk, List, sym, subst}
 use Rattle.disk_model.specs.declared.sector_disk.SectorDisk.{Ghosts}
 use Rattle.sync_journal.specs.Kinds.{kind_homes, kind_home_count, journal_kind, store_live, IsOutsideOf, IsStoreRest}
 use Rattle.sync_journal.specs.Map.{AreHomes}

@@ -6,7 +6,7 @@ use Rattle.disk_model.specs.declared.sector_disk.SectorDisk.{Ghosts}
 use Rattle.disk_model.proofs.Moments.{then}
 use Rattle.sync_journal.specs.Kinds.{kind_of, IsStoreAsked, IsStoreClosed, KeepsStore}
 use Rattle.sync_journal.specs.Resuming.{IsKindResumed, IsStoreResumed}
-use Rattle.sync_journal.specs.Runs.{Runs}
+use Rattle.sync_journal.specs.Runs.{RunsOnDevice}
 use Rattle.sync_journal.specs.declared.store_journal.Journals.{Journals}
 use Rattle.sync_journal.proofs.Runs.{read_only}
 use Rattle.sync_journal.proofs.InKinds.{while_reading}
@@ -16,7 +16,7 @@ use Rattle.file_store.specs.Versions.{version_of}
 use Rattle.file_store.proofs.Asking.{head_asks, opening_asks}
 use Rattle.file_store.proofs.Openings.{content_is, recovery_leaves, files_stand}
 
-module _ {D : Type 0} (g : Ghosts D) (old read : D) (head : Runs g Nothing old read)
+module _ {D : Type 0} (g : Ghosts D) (old read : D) (head : RunsOnDevice g Nothing old read)
     (only_now : g.keeps_model old → (image : Image) → g.left_since old (g.moment old) image → MayLeave (g.content old) (g.unsynced old) image)
     (synced : g.keeps_model old → (k : ℕ) → g.unsynced old k → ⊥)
     (asked : g.keeps_model read → AsksOnly g (IsHeadIn (version_of (g.content old))) old read) where
@@ -37,7 +37,7 @@ module _ {D : Type 0} (g : Ghosts D) (old read : D) (head : Runs g Nothing old r
   }
 
   -- and then the journal
-  module _ (new : D) (journals : Journals) (kind : g.keeps_model read → kind_of (g.content old) ≡ journals) (run : Runs g (IsKindResumed journals (g.sector_count read)) read new)
+  module _ (new : D) (journals : Journals) (kind : g.keeps_model read → kind_of (g.content old) ≡ journals) (run : RunsOnDevice g (IsKindResumed journals (g.sector_count read)) read new)
       (asks : g.keeps_model new → AsksOnly g (IsStoreAsked (g.content read)) read new)
       (closed : g.keeps_model new → IsStoreClosed (g.content read) → Touches g Nothing read new) (moments : g.keeps_model new → KeepsStore g read new) where
     same : g.keeps_model new → g.content read ≡ g.content old

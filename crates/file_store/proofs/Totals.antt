@@ -2,15 +2,15 @@
 use Rattle.std.proofs.Common.{◌≡◌, ℕ, zero, suc, ◌+◌, ◌<◌, ◌≤◌, List, [], ◌∷◌, length, get_or, drop, set, refl, sym, ap, arith}
 use Rattle.std.proofs.lemmas.List.{drop-set-lt}
 use Rattle.file_store.specs.declared.sources.FileSource.{FileSource}
-use Rattle.file_store.specs.Layout.{page_count}
+use Rattle.file_store.specs.Layout.{pages_of_length}
 use Rattle.file_store.specs.Format.{total_pages}
 
 -- the rest of the files from file f on: it and those behind it
 pub total_pages-rest : {R : Type 0} (sources : List (FileSource R)) (f : ℕ) (source : FileSource R) → f < length sources → source ≡ get_or sources f source
-    → total_pages (drop f sources) ≡ page_count source.length + total_pages (drop (f + 1) sources)
+    → total_pages (drop f sources) ≡ pages_of_length source.length + total_pages (drop (f + 1) sources)
 unfolding total_pages
 total_pages-rest [] f source lt is = absurd (omega (arith, lt))
-total_pages-rest (s ∷ sources) zero source lt is = ap (λ x. page_count x.length + total_pages sources) (sym is)
+total_pages-rest (s ∷ sources) zero source lt is = ap (λ x. pages_of_length x.length + total_pages sources) (sym is)
 total_pages-rest (s ∷ sources) (suc f) source lt is =
     let more : suc f + 1 ≡ suc (f + 1) = omega arith in
     rw more (total_pages-rest sources f source (omega (arith, lt)) is)

@@ -1,26 +1,26 @@
 -- A store made anew in the next layout.
 use Rattle.std.specs.Option.{option_map}
-use Rattle.std.proofs.Common.{◌≡◌, ◌≢◌, ◌⊎◌, ◌+◌, ◌*◌, ◌<◌, ◌≤◌, ℕ, false, Bool, List, Option, Some, None, inl, inr, ⊎_elim, refl, sym, ap, subst, ◌∙◌, arith}
+use Rattle.std.proofs.Common.{◌≡◌, ◌≢◌, ◌⊎◌, ◌+◌, ◌*◌, ◌<◌, ◌≤◌, ℕ, List, Option, Some, None, inl, inr, ⊎_elim, refl, sym, ap, subst, ◌∙◌, arith}
 use Rattle.vm_types.specs.declared.file.FileInfo.{FileInfo}
 use Rattle.disk_model.specs.Stop.{Image}
 use Rattle.disk_model.specs.Sectors.{joined, part_of}
 use Rattle.disk_model.proofs.Pieces.{joined-same, joined_parts}
 use Rattle.sync_journal.specs.Layout.{layout_before}
-use Rattle.sync_journal.specs.Kinds.{is_kind, kind_of, kind_homes, kind_home, kind_home_count, kind_standing, IsKindBad, IsKindClosed}
+use Rattle.sync_journal.specs.Kinds.{kind_of, kind_homes, kind_home, kind_home_count, kind_standing, IsKindBad, IsKindClosed}
 use Rattle.sync_journal.specs.Standing.{standing_in}
 use Rattle.sync_journal.specs.declared.store_journal.Journals.{Journals}
 use Rattle.sync_journal.specs.declared.store_journal.Journals.TheVariants.{Single, Paired}
-use Rattle.file_store.specs.Versions.{version_at, version_before, version_of, homes_of, count_of, directory_of, mark_of}
+use Rattle.file_store.specs.Versions.{version_at, version_before, version_of, home_pages_of, directory_of, mark_of}
 use Rattle.file_store.specs.declared.directory.Entry.{Entry}
 use Rattle.file_store.specs.declared.faults.OpenFault.{OpenFault}
 use Rattle.file_store.specs.declared.faults.OpenFault.TheVariants.{Device, BadLayout, BadJournal}
 use Rattle.file_store.specs.declared.faults.UpgradeFault.TheVariants.{OldLayout}
 use Rattle.file_store.specs.Faults.{old_fault}
-use Rattle.file_store.specs.Layout.{turn_mark, page_count, bytes_inside, trimmed}
-use Rattle.file_store.specs.Directory.{entry_in, end_of, IsHomeOf, IsBadDirectory, IsSoundDirectory}
+use Rattle.file_store.specs.Layout.{turn_mark, pages_of_length, bytes_inside, padded_page}
+use Rattle.file_store.specs.Directory.{entry_in, home_end, IsHomeOf, IsBadDirectory, IsSoundDirectory}
 use Rattle.file_store.specs.Directory.IsBadDirectory.{NotZero, Outside, Overlap}
 use Rattle.file_store.specs.Format.{IsFrom, IsTableSector, HasTables, HoldsPage}
-use Rattle.file_store.specs.Standing.{IsBadLayoutIn, IsBadLayout, IsBadJournal, IsBadOldLayout, IsPageOf, standing, entry_at, info_at, file_info, page_standing_in, page_standing, standing_page_at, standing_page}
+use Rattle.file_store.specs.Standing.{IsBadLayoutIn, IsBadLayout, IsBadJournal, IsBadOldLayout, IsPageOf, standing, listed_entry, info_at, file_info, page_standing_in, page_standing, standing_page_at, standing_page}
 use Rattle.file_store.specs.Standing.IsBadLayoutIn.{TooSmall, Unmarked, BadDirectory}
 use Rattle.file_store.specs.Upgrade.{old_directory, old_entry, IsTooSmall, IsCopiedSector, IsUpgradeSector, IsEntrySector, IsUnmarkedUpgrade, IsKindlessUpgrade, HoldsOldFiles, IsUpgradeOf}
 use Rattle.file_store.proofs.Blocks.{single_paired}
@@ -45,7 +45,7 @@ copied_asked kind old entries same k at = inr (⊎_elim (λ low. inl low) (λ fi
 
 -- a home of one file is none of another's
 pub not_in_entry : (kind : Journals) (homes : ℕ) (entry : ℕ → Option Entry) → IsSoundDirectory homes entry → (f g k i : ℕ) (e : Entry) → f ≢ g → entry f ≡ Some e
-    → k < page_count e.info.length → i < 8 → IsEntrySector kind (entry g) (kind_home kind (e.first + k) + i) → ⊥
+    → k < pages_of_length e.info.length → i < 8 → IsEntrySector kind (entry g) (kind_home kind (e.first + k) + i) → ⊥
 not_in_entry kind homes entry sound f g k i e other is inside lt at = cases (entry g) refl at
   where
     cases : (o : Option Entry) → entry g ≡ o → IsEntrySector kind o (kind_home kind (e.first + k) + i) → ⊥
@@ -55,20 +55,20 @@ not_in_entry kind homes entry sound f g k i e other is inside lt at = cases (ent
         other (one_file homes entry sound f g (e.first + k) e a is a_is (omega arith, omega (arith, inside)) (subst (λ h. IsHomeOf a h) same in_a.1))
 
 -- a directory that is bad for a number of homes within which all files end is bad for every number
-still_bad : (homes more : ℕ) (sector : List ℕ) → ((f : ℕ) (e : Entry) → entry_in sector f ≡ Some e → end_of e ≤ homes) → IsBadDirectory homes sector → IsBadDirectory more sector
+still_bad : (homes more : ℕ) (sector : List ℕ) → ((f : ℕ) (e : Entry) → entry_in sector f ≡ Some e → home_end e ≤ homes) → IsBadDirectory homes sector → IsBadDirectory more sector
 still_bad homes more sector fits (NotZero f lt none not_zero) = NotZero f lt none not_zero
 still_bad homes more sector fits (Outside f e is outside) = let within = fits f e is in absurd (omega (arith, within, outside))
 still_bad homes more sector fits (Overlap f g h a b lt is is' in_a in_b) = Overlap f g h a b lt is is' in_a in_b
 
 -- the layout of the new store
 new_layout : (kind : Journals) (old_sectors sectors : ℕ) (old image : Image) → kind_homes kind ≤ sectors → (IsBadOldLayout kind old_sectors old → ⊥)
-    → ((f : ℕ) (e : Entry) → old_entry kind old f ≡ Some e → end_of e ≤ kind_home_count kind sectors) → image (directory_of (version_at kind)) ≡ old_directory kind old → image 0 ≡ mark_of (version_at kind)
+    → ((f : ℕ) (e : Entry) → old_entry kind old f ≡ Some e → home_end e ≤ kind_home_count kind sectors) → image (directory_of (version_at kind)) ≡ old_directory kind old → image 0 ≡ mark_of (version_at kind)
     → IsBadLayoutIn (version_at kind) sectors image → ⊥
 new_layout kind old_sectors sectors old image room good fits directory marked (TooSmall few) = let homes = homes_same kind in omega (arith, room, few, homes)
 new_layout kind old_sectors sectors old image room good fits directory marked (Unmarked other) = other marked
 new_layout kind old_sectors sectors old image room good fits directory marked (BadDirectory bad) =
-    good (BadDirectory (still_bad (count_of (version_at kind) sectors) _ (old_directory kind old) (λ f e is. let homes = homes_same kind in let fit = fits f e is in omega (arith, homes, fit))
-    (subst (λ s. IsBadDirectory (count_of (version_at kind) sectors) s) directory bad)))
+    good (BadDirectory (still_bad (home_pages_of (version_at kind) sectors) _ (old_directory kind old) (λ f e is. let homes = homes_same kind in let fit = fits f e is in omega (arith, homes, fit))
+    (subst (λ s. IsBadDirectory (home_pages_of (version_at kind) sectors) s) directory bad)))
 
 -- a page of the new store
 page_upgraded : (kind : Journals) (old image : Image) (k : ℕ) (e : Entry) → kind_of image ≡ kind → IsKindClosed kind image
@@ -77,8 +77,8 @@ page_upgraded : (kind : Journals) (old image : Image) (k : ℕ) (e : Entry) → 
 page_upgraded kind old image k e known gate holds =
     let small : bytes_inside e.info.length k ≤ 4096 = omega arith in
     let was = joined (standing_in (layout_before kind) old (e.first + k)) 8 in
-    let page = trimmed (bytes_inside e.info.length k) was in
-    ap (trimmed (bytes_inside e.info.length k)) (joined-same 8 (standing image (e.first + k)) (part_of page)
+    let page = padded_page (bytes_inside e.info.length k) was in
+    ap (padded_page (bytes_inside e.info.length k)) (joined-same 8 (standing image (e.first + k)) (part_of page)
     (λ i lt. ap (λ b. kind_standing b image (e.first + k) i) known ∙ kind_closed kind image (e.first + k) i gate ∙ holds i lt) ∙ joined_parts page (length-trimmed (bytes_inside e.info.length k) was small))
     ∙ trimmed-trimmed (bytes_inside e.info.length k) was small
 
@@ -95,7 +95,7 @@ upgrade_moves kind old before after same all = record {
 
 -- with the mark it is the store
 upgraded : (kind : Journals) (old_sectors sectors : ℕ) (old image : Image) → kind_homes kind ≤ sectors → (IsBadOldLayout kind old_sectors old → ⊥)
-    → ((f : ℕ) (e : Entry) → old_entry kind old f ≡ Some e → (f < 64) × (end_of e ≤ kind_home_count kind sectors)) → IsUnmarkedUpgrade kind old image → image 0 ≡ mark_of (version_of image)
+    → ((f : ℕ) (e : Entry) → old_entry kind old f ≡ Some e → (f < 64) × (home_end e ≤ kind_home_count kind sectors)) → IsUnmarkedUpgrade kind old image → image 0 ≡ mark_of (version_of image)
     → IsUpgradeOf kind old_sectors sectors old image
 upgraded kind old_sectors sectors old image room good fits all marked = record {
   layout = layout;
@@ -125,8 +125,8 @@ upgraded kind old_sectors sectors old image room good fits all marked = record {
     info : (f : ℕ) → file_info image f ≡ info_at (version_before kind) old f
     info f = ap (λ v. info_at v image f) version ∙ ap (λ (s : List ℕ). option_map (λ (e : Entry). e.info) (entry_in s f)) all.head.directory
 
-    entry : (f : ℕ) → entry_at (version_of image) image f ≡ old_entry kind old f
-    entry f = ap (λ v. entry_at v image f) version ∙ ap (λ (s : List ℕ). entry_in s f) all.head.directory
+    entry : (f : ℕ) → listed_entry (version_of image) image f ≡ old_entry kind old f
+    entry f = ap (λ v. listed_entry v image f) version ∙ ap (λ (s : List ℕ). entry_in s f) all.head.directory
 
     same : (files : ℕ → Option FileInfo) (f k : ℕ) → IsPageOf files f k → info_at (version_before kind) old f ≡ files f → standing_page image f k ≡ standing_page_at (version_before kind) (standing_in (layout_before kind) old) old f k
     same files f k inside facts =
@@ -138,7 +138,7 @@ upgraded kind old_sectors sectors old image room good fits all marked = record {
         ∙ sym (ap (page_standing_in (standing_in (layout_before kind) old) k) b.1)
 
 pub upgrade_whole : (kind : Journals) (old_sectors sectors : ℕ) (old mid : Image) → kind_homes kind ≤ sectors → (IsBadOldLayout kind old_sectors old → ⊥)
-    → ((f : ℕ) (e : Entry) → old_entry kind old f ≡ Some e → (f < 64) × (end_of e ≤ kind_home_count kind sectors)) → IsUnmarkedUpgrade kind old mid
+    → ((f : ℕ) (e : Entry) → old_entry kind old f ≡ Some e → (f < 64) × (home_end e ≤ kind_home_count kind sectors)) → IsUnmarkedUpgrade kind old mid
     → (image : Image) → ((k : ℕ) → 1 ≤ k → image k ≡ mid k) → image 0 ≡ mark_of (version_of image) → IsUpgradeOf kind old_sectors sectors old image
 upgrade_whole kind old_sectors sectors old mid room good fits all image same marked =
     upgraded kind old_sectors sectors old image room good fits (upgrade_moves kind old mid image same all) marked
@@ -156,13 +156,13 @@ old_fault_cases BadJournal = inr (inr refl)
 
 -- what doesn't fit is too small
 pub too_small : (kind : Journals) (sectors : ℕ) (old : Image) (entry : ℕ → Option Entry) → ((f : ℕ) → entry f ≡ old_entry kind old f)
-    → (sectors < kind_homes kind) ⊎ ((f : ℕ) × (e : Entry) × (entry f ≡ Some e) × (kind_home_count kind sectors < end_of e)) → IsTooSmall kind sectors old
+    → (sectors < kind_homes kind) ⊎ ((f : ℕ) × (e : Entry) × (entry f ≡ Some e) × (kind_home_count kind sectors < home_end e)) → IsTooSmall kind sectors old
 too_small kind sectors old entry same small = ⊎_elim (λ few. FewSectors few) (λ one. FewHomes one.0 one.1 (sym (same one.0) ∙ one.2) one.3) small
 
 -- the entries of the old store, of which at most 64 are there, fit
 pub entries_fit : (kind : Journals) (sectors : ℕ) (old : Image) (entry : ℕ → Option Entry) → ((f : ℕ) → entry f ≡ old_entry kind old f)
-    → ((f : ℕ) (e : Entry) → entry f ≡ Some e → f < 64) → ((f : ℕ) (e : Entry) → entry f ≡ Some e → end_of e ≤ kind_home_count kind sectors)
-    → (f : ℕ) (e : Entry) → old_entry kind old f ≡ Some e → (f < 64) × (end_of e ≤ kind_home_count kind sectors)
+    → ((f : ℕ) (e : Entry) → entry f ≡ Some e → f < 64) → ((f : ℕ) (e : Entry) → entry f ≡ Some e → home_end e ≤ kind_home_count kind sectors)
+    → (f : ℕ) (e : Entry) → old_entry kind old f ≡ Some e → (f < 64) × (home_end e ≤ kind_home_count kind sectors)
 entries_fit kind sectors old entry same numbers fits f e is = (numbers f e (same f ∙ is), fits f e (same f ∙ is))
 
 -- an upgraded store of layout 3 without its kind
@@ -182,7 +182,7 @@ kindless_upgrade_moves old before after same all = record {
 
 -- with kind and mark it is the store
 pub upgraded_of_kind : (kind : Journals) (old_sectors sectors : ℕ) (old : Image) → kind ≡ Paired → kind_homes kind ≤ sectors → (IsBadOldLayout kind old_sectors old → ⊥)
-    → ((f : ℕ) (e : Entry) → old_entry kind old f ≡ Some e → (f < 64) × (end_of e ≤ kind_home_count kind sectors)) → (mid c : Image) → IsKindlessUpgrade old mid
+    → ((f : ℕ) (e : Entry) → old_entry kind old f ≡ Some e → (f < 64) × (home_end e ≤ kind_home_count kind sectors)) → (mid c : Image) → IsKindlessUpgrade old mid
     → ((k : ℕ) → 8 ≤ k → c k ≡ mid k) → kind_of c ≡ Paired → c 0 ≡ turn_mark → IsUpgradeOf Paired old_sectors sectors old c
 upgraded_of_kind Single old_sectors sectors old is room good fits mid c all same known marked = absurd (single_paired is)
 upgraded_of_kind Paired old_sectors sectors old is room good fits mid c all same known marked =

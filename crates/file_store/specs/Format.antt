@@ -9,19 +9,19 @@ use Rattle.disk_model.specs.Stop.{Image}
 use Rattle.sync_journal.specs.Gate.{closed_sector}
 use Rattle.sync_journal.specs.Layout.{gate_sector}
 use Rattle.sync_journal.specs.Turns.{turn_gate, start_of}
-use Rattle.sync_journal.specs.Kinds.{turn_kind, kind_of, kind_homes, kind_home, kind_home_count}
+use Rattle.sync_journal.specs.Kinds.{kind_of, kind_homes, kind_home, kind_home_count}
 use Rattle.disk_model.specs.Sectors.{part_of}
 use Rattle.file_store.specs.declared.version.Version.TheVariants.{Two, Three}
 use Rattle.file_store.specs.declared.directory.Entry.{Entry}
 use Rattle.file_store.specs.declared.sources.FileSource.{FileSource}
-use Rattle.file_store.specs.Layout.{turn_mark, page_count, bytes_inside, trimmed}
+use Rattle.file_store.specs.Layout.{turn_mark, pages_of_length, bytes_inside, padded_page}
 use Rattle.file_store.specs.Versions.{version_at, version_of, directory_of, mark_of}
-use Rattle.file_store.specs.Directory.{entry_in, bytes_in, IsZero}
+use Rattle.file_store.specs.Directory.{entry_in, entry_bytes, IsZero}
 use Rattle.file_store.specs.Standing.{IsBadLayout, IsBadJournal, file_info, standing_page}
 
 -- page k of a file of so many of these bytes, which is zeros past their end
 abbrev pub page_told : ℕ → ℕ → Option (List ℕ) → Option (List ℕ)
-page_told length k told = option_map (λ bytes. trimmed (bytes_inside length k) (drop (4096 * k) bytes)) told
+page_told length k told = option_map (λ bytes. padded_page (bytes_inside length k) (drop (4096 * k) bytes)) told
 
 -- the sectors from n on
 abbrev pub IsFrom : ℕ → ℕ → Type 0
@@ -79,7 +79,7 @@ HoldsPage kind h page image = (i : ℕ) → i < 8 → image (kind_home kind h + 
 -- Home page h holds a page of which so many bytes lie inside its file, and zeros past them: the given page, if one is given.
 pub record HoldsCut (kind : Journals) (h inside : ℕ) (given : Option (List ℕ)) (image : Image) : Type 0 where
   pub page : List ℕ
-  pub zeros : trimmed inside page ≡ page
+  pub zeros : padded_page inside page ≡ page
   pub holds : HoldsPage kind h page image
   pub is : (told : List ℕ) → given ≡ Some told → page ≡ told
 
@@ -94,7 +94,7 @@ module _ {R : Type 0} where
   -- how many home pages these files have
   unfoldable pub total_pages : List (FileSource R) → ℕ
   total_pages [] = 0
-  total_pages (source ∷ sources) = page_count source.length + total_pages sources
+  total_pages (source ∷ sources) = pages_of_length source.length + total_pages sources
 
   -- No store on so many sectors holds these files.
   pub data IsTooLarge (kind : Journals) (sectors : ℕ) (sources : List (FileSource R)) : Type 0 where
@@ -136,17 +136,17 @@ module _ {R : Type 0} where
   -- the directory sector of these files
   pub record IsDirectoryOf (sources : List (FileSource R)) (sector : List ℕ) : Type 0 where
     pub entries : (f : ℕ) → entry_in sector f ≡ entry_given sources f
-    pub rest : (f : ℕ) → f < file_limit → length sources ≤ f → IsZero (bytes_in sector f)
+    pub rest : (f : ℕ) → f < file_limit → length sources ≤ f → IsZero (entry_bytes sector f)
 
   -- The homes from first on hold the first n pages of the source: the pages that it tells, where it does, and zeros past
   -- its end.
-  abbrev pub HoldsPages : Journals → (R → Option (List ℕ)) → FileSource R → ℕ → ℕ → Image → Type 0
-  HoldsPages kind remaining source first n image = (k : ℕ) → k < n → HoldsCut kind (first + k) (bytes_inside source.length k) (page_given remaining source k) image
+  abbrev pub HoldsSourcePages : Journals → (R → Option (List ℕ)) → FileSource R → ℕ → ℕ → Image → Type 0
+  HoldsSourcePages kind remaining source first n image = (k : ℕ) → k < n → HoldsCut kind (first + k) (bytes_inside source.length k) (page_given remaining source k) image
 
   -- The homes hold the first n of the sources' files.
   abbrev pub HoldsFiles : Journals → (R → Option (List ℕ)) → List (FileSource R) → ℕ → Image → Type 0
   HoldsFiles kind remaining sources n image = (f : ℕ) (source : FileSource R) → f < n → slice_get sources f ≡ Some source
-      → HoldsPages kind remaining source (first_home sources f) (page_count source.length) image
+      → HoldsSourcePages kind remaining source (first_home sources f) (pages_of_length source.length) image
 
   -- The image has all of the sources' store but the mark.
   pub record IsUnmarkedStoreOf (kind : Journals) (remaining : R → Option (List ℕ)) (sources : List (FileSource R)) (image : Image) : Type 0 where
@@ -178,3 +178,14 @@ module _ {R : Type 0} where
   -- An image that has the mark of its kind is such a store.
   abbrev pub IsStoreIfMarked : Journals → (R → Option (List ℕ)) → ℕ → List (FileSource R) → Image → Type 0
   IsStoreIfMarked kind remaining sectors sources image = image 0 ≡ mark_of (version_of image) → IsStoreOf kind remaining sectors sources image
+
+  -- The bytes of page k that a source's reader gave, in a page of zeros:
+  pub record IsPageRead (remaining : R → Option (List ℕ)) (old new : FileSource R) (k : ℕ) (given : List ℕ) : Type 0 where
+    -- past the file's end there are zeros,
+    pub zeros : padded_page (bytes_inside old.length k) given ≡ given
+    -- before it what the source told, where it tells its bytes, and those are told no more,
+    pub page : (told : List ℕ) → told_by remaining old.bytes ≡ Some told → given ≡ padded_page (bytes_inside old.length k) told
+    pub rest : (told : List ℕ) → told_by remaining old.bytes ≡ Some told → told_by remaining new.bytes ≡ Some (drop (bytes_inside old.length k) told)
+    -- and a reader told enough of them.
+    pub tells : (told : List ℕ) → reader_tells remaining old.bytes ≡ Some told
+        → (bytes_inside old.length k ≤ length told) × (reader_tells remaining new.bytes ≡ Some (drop (bytes_inside old.length k) told))

@@ -21,9 +21,9 @@ abbrev pub IsMark : List ℕ → Type 0
 IsMark sector = (sector ≡ mark) ⊎ ((sector ≡ old_mark) ⊎ (sector ≡ turn_mark))
 
 -- how many pages of 4,096 bytes a file of so many bytes has, the last one in part perhaps
-abbrev pub page_count : ℕ → ℕ
-page_count length = (length + 4095) / 4096
+abbrev pub pages_of_length : ℕ → ℕ
+pages_of_length length = (length + 4095) / 4096
 
 -- a page of 4,096 bytes that has the first n of these and then zeros
-unfoldable pub trimmed : ℕ → List ℕ → List ℕ
-trimmed n page = take n page ++ replicate (4096 - length (take n page)) 0
+unfoldable pub padded_page : ℕ → List ℕ → List ℕ
+padded_page n page = take n page ++ replicate (4096 - length (take n page)) 0

@@ -12,3 +12,6 @@ pub mod Resume
 pub mod Commit
 pub mod Stops
 pub mod Blocks
+pub mod Opened
+pub mod Formatted
+pub mod Upgraded

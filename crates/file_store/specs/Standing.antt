@@ -7,11 +7,11 @@ use Rattle.vm_types.specs.declared.file.FileInfo.{FileInfo}
 use Rattle.disk_model.specs.Stop.{Image}
 use Rattle.sync_journal.specs.Layout.{layout_before}
 use Rattle.sync_journal.specs.Standing.{standing_in, IsBadJournalIn}
-use Rattle.sync_journal.specs.Kinds.{kind_of, store_standing, IsBadStore, IsStoreAsked}
+use Rattle.sync_journal.specs.Kinds.{store_standing, IsBadStore, IsStoreAsked}
 use Rattle.disk_model.specs.Sectors.{joined}
 use Rattle.file_store.specs.declared.directory.Entry.{Entry}
-use Rattle.file_store.specs.Layout.{page_count, bytes_inside, trimmed}
-use Rattle.file_store.specs.Versions.{version_before, version_of, homes_of, count_of, directory_of, mark_of}
+use Rattle.file_store.specs.Layout.{pages_of_length, bytes_inside, padded_page}
+use Rattle.file_store.specs.Versions.{version_before, version_of, homes_of, home_pages_of, directory_of, mark_of}
 use Rattle.file_store.specs.declared.version.Version.{Version}
 use Rattle.file_store.specs.Directory.{entry_in, IsBadDirectory}
 
@@ -26,7 +26,7 @@ IsBadJournal sectors image = IsBadStore sectors image
 pub data IsBadLayoutIn (version : Version) (sectors : ℕ) (image : Image) : Type 0 where
   TooSmall : sectors < homes_of version → IsBadLayoutIn version sectors image
   Unmarked : image 0 ≢ mark_of version → IsBadLayoutIn version sectors image
-  BadDirectory : IsBadDirectory (count_of version sectors) (image (directory_of version)) → IsBadLayoutIn version sectors image
+  BadDirectory : IsBadDirectory (home_pages_of version sectors) (image (directory_of version)) → IsBadLayoutIn version sectors image
 
 -- mark, kind and directory
 abbrev pub IsHeadIn : Version → ℕ → Type 0
@@ -37,15 +37,15 @@ abbrev pub IsAskedToOpen : Image → ℕ → Type 0
 IsAskedToOpen image k = IsHeadIn (version_of image) k ⊎ IsStoreAsked image k
 
 -- the directory's entry of file f, of an image of this layout, and of one of the layout that its kind says
-abbrev pub entry_at : Version → Image → ℕ → Option Entry
-entry_at version image f = entry_in (image (directory_of version)) f
+abbrev pub listed_entry : Version → Image → ℕ → Option Entry
+listed_entry version image f = entry_in (image (directory_of version)) f
 
 abbrev pub directory_entry : Image → ℕ → Option Entry
-directory_entry image f = entry_at (version_of image) image f
+directory_entry image f = listed_entry (version_of image) image f
 
 -- what the directory says of file f
 abbrev pub info_at : Version → Image → ℕ → Option FileInfo
-info_at version image f = option_map (λ e. e.info) (entry_at version image f)
+info_at version image f = option_map (λ e. e.info) (listed_entry version image f)
 
 abbrev pub file_info : Image → ℕ → Option FileInfo
 file_info image f = info_at (version_of image) image f
@@ -53,14 +53,14 @@ file_info image f = info_at (version_of image) image f
 -- page k of a file with this entry, where this stands for the homes: the file's bytes, and zeros past its end
 abbrev pub page_standing_in : (ℕ → ℕ → List ℕ) → ℕ → Option Entry → List ℕ
 page_standing_in stands k None = []
-page_standing_in stands k (Some e) = trimmed (bytes_inside e.info.length k) (joined (stands (e.first + k)) 8)
+page_standing_in stands k (Some e) = padded_page (bytes_inside e.info.length k) (joined (stands (e.first + k)) 8)
 
 abbrev pub page_standing : Image → ℕ → Option Entry → List ℕ
 page_standing image k entry = page_standing_in (standing image) k entry
 
 -- page k of file f as it stands
 abbrev pub standing_page_at : Version → (ℕ → ℕ → List ℕ) → Image → ℕ → ℕ → List ℕ
-standing_page_at version stands image f k = page_standing_in stands k (entry_at version image f)
+standing_page_at version stands image f k = page_standing_in stands k (listed_entry version image f)
 
 abbrev pub standing_page : Image → ℕ → ℕ → List ℕ
 standing_page image f k = standing_page_at (version_of image) (standing image) image f k
@@ -99,7 +99,7 @@ OldStandsFor kind sectors files pages image = StandsForIn (version_before kind) 
 
 -- the bytes of a file of these pages
 abbrev pub bytes_of_pages : (ℕ → List ℕ) → FileInfo → List ℕ
-bytes_of_pages pages info = take info.length (joined pages (page_count info.length))
+bytes_of_pages pages info = take info.length (joined pages (pages_of_length info.length))
 
 -- the bytes of file f as they stand
 abbrev pub standing_file : Image → ℕ → Option (List ℕ)

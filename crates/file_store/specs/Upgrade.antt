@@ -8,17 +8,17 @@ use Rattle.sync_journal.specs.Layout.{layout_before, IsPageSector, IsGateOrMapIn
 use Rattle.sync_journal.specs.Gate.{is_open}
 use Rattle.sync_journal.specs.declared.store_journal.Journals.TheVariants.{Paired}
 use Rattle.sync_journal.specs.Kinds.{kind_of, kind_homes, kind_home, kind_home_count}
-use Rattle.sync_journal.specs.OldJournal.{old_homes, StandsAt}
+use Rattle.sync_journal.specs.OldJournal.{old_homes, StandsAsListed}
 use Rattle.sync_journal.specs.Standing.{standing_in, standing_under, map_in}
 use Rattle.file_store.specs.Versions.{version_before, version_of, directory_of, mark_of}
 use Rattle.file_store.specs.declared.directory.Entry.{Entry}
 use Rattle.file_store.specs.declared.old_store.OldStore.{OldStore}
 use Rattle.file_store.specs.declared.faults.UpgradeFault.{UpgradeFault}
 use Rattle.file_store.specs.declared.faults.UpgradeFault.TheVariants.{OldDevice, NewDevice}
-use Rattle.file_store.specs.Layout.{turn_mark, page_count}
-use Rattle.file_store.specs.Directory.{end_of, IsHomeOf}
+use Rattle.file_store.specs.Layout.{turn_mark, pages_of_length}
+use Rattle.file_store.specs.Directory.{home_end, IsHomeOf}
 use Rattle.file_store.specs.Format.{IsMarkSector, IsLayoutSector, HoldsPage, HasHead, HasTables}
-use Rattle.file_store.specs.Standing.{IsHeadIn, IsBadLayout, IsBadJournal, OldStandsFor, StandsFor, entry_at, page_standing_in}
+use Rattle.file_store.specs.Standing.{IsHeadIn, IsBadLayout, IsBadJournal, OldStandsFor, StandsFor, listed_entry, page_standing_in}
 use Rattle.file_store.specs.Store.{entry_of}
 
 -- the directory of the old store, and its entry of file f
@@ -26,19 +26,19 @@ abbrev pub old_directory : Journals → Image → List ℕ
 old_directory kind image = image (directory_of (version_before kind))
 
 abbrev pub old_entry : Journals → Image → ℕ → Option Entry
-old_entry kind image f = entry_at (version_before kind) image f
+old_entry kind image f = listed_entry (version_before kind) image f
 
 -- What is known of a store whose device holds this image, from which one of this kind is made: the directory and its bytes, and
 -- where pages stand.
 pub record IsOldStore (kind : Journals) (image : Image) (store : OldStore) : Type 0 where
   pub sector : store.sector ≡ old_directory kind image
   pub entries : (f : ℕ) → entry_of store.directory f ≡ old_entry kind image f
-  pub stands : StandsAt (layout_before kind) (old_homes store.journal) image
+  pub stands : StandsAsListed (layout_before kind) (old_homes store.journal) image
 
 -- No store on so many sectors has the homes of the files of this image.
 pub data IsTooSmall (kind : Journals) (sectors : ℕ) (image : Image) : Type 0 where
   FewSectors : sectors < kind_homes kind → IsTooSmall kind sectors image
-  FewHomes : (f : ℕ) (e : Entry) → old_entry kind image f ≡ Some e → kind_home_count kind sectors < end_of e → IsTooSmall kind sectors image
+  FewHomes : (f : ℕ) (e : Entry) → old_entry kind image f ≡ Some e → kind_home_count kind sectors < home_end e → IsTooSmall kind sectors image
 
 -- The homes of a file hold its first n pages as they stand in the old store, with zeros past the file's end.
 abbrev pub HoldsOldPages : Journals → Image → Entry → ℕ → Image → Type 0
@@ -46,7 +46,7 @@ HoldsOldPages kind old e n image = (k : ℕ) → k < n → HoldsPage kind (e.fir
 
 -- The homes hold the first n files as they stand in the old store.
 abbrev pub HoldsOldFiles : Journals → Image → ℕ → Image → Type 0
-HoldsOldFiles kind old n image = (f : ℕ) (e : Entry) → f < n → old_entry kind old f ≡ Some e → HoldsOldPages kind old e (page_count e.info.length) image
+HoldsOldFiles kind old n image = (f : ℕ) (e : Entry) → f < n → old_entry kind old f ≡ Some e → HoldsOldPages kind old e (pages_of_length e.info.length) image
 
 -- a sector of the homes of a file
 abbrev pub IsFileSector : Journals → Entry → ℕ → Type 0
@@ -80,7 +80,7 @@ IsOldPage kind image e n k = (p : ℕ) × (p < n) × IsPageSector (old_place kin
 -- a sector in which a page of a file stands in the old store, where there is that file
 abbrev pub IsOldEntry : Journals → Image → Option Entry → ℕ → Type 0
 IsOldEntry kind image None k = ⊥
-IsOldEntry kind image (Some e) k = IsOldPage kind image e (page_count e.info.length) k
+IsOldEntry kind image (Some e) k = IsOldPage kind image e (pages_of_length e.info.length) k
 
 abbrev pub IsOldFile : Journals → Image → ℕ → Type 0
 IsOldFile kind image k = (f : ℕ) × IsOldEntry kind image (old_entry kind image f) k

@@ -31,8 +31,8 @@ homes_of Two = first_home_sector
 homes_of Three = turn_homes
 
 -- how many home pages a device of so many sectors has
-abbrev pub count_of : Version → ℕ → ℕ
-count_of version sectors = min ((sectors - homes_of version) / 8) home_limit
+abbrev pub home_pages_of : Version → ℕ → ℕ
+home_pages_of version sectors = min ((sectors - homes_of version) / 8) home_limit
 
 -- the sector of the directory
 abbrev pub directory_of : Version → ℕ

@@ -3,8 +3,8 @@ ghost use Rattle.std.specs.Prelude.{◌≡◌, ◌<◌, ◌≤◌, ◌+◌, ◌^
 ghost use Rattle.vm_types.specs.Limits.{file_limit};
 ghost use Rattle.disk_model.specs.Sectors.{sector_bytes};
 ghost use Rattle.file_store.specs.declared.directory.Entry.{Entry};
-ghost use Rattle.file_store.specs.Layout.{page_count};
-ghost use Rattle.file_store.specs.Directory.{decoded, entry_in, end_of, IsHomeOf, IsZero, IsBadDirectory, AreGood, AreEntries};
+ghost use Rattle.file_store.specs.Layout.{pages_of_length};
+ghost use Rattle.file_store.specs.Directory.{decoded, entry_in, home_end, IsHomeOf, IsZero, IsBadDirectory, IsNextOf, AreGood, AreEntries};
 
 use crate::layout::{FILES, PAGE_BYTES};
 use byteorder::{ByteOrder, LittleEndian};
@@ -72,14 +72,14 @@ impl Entry {
 
     /// How many pages the file has.
     pub(crate) fn pages(&self) -> u32
-        ensures { result ≡ page_count self.now.info.length }
+        ensures { result ≡ pages_of_length self.now.info.length }
     {
         self.info.length.div_ceil(PAGE_BYTES as u32)
     }
 
     /// The home page behind the file's last.
     fn end(&self) -> u64
-        ensures { result ≡ end_of self.now }
+        ensures { result ≡ home_end self.now }
     {
         u64::from(self.first) + u64::from(self.info.length).div_ceil(PAGE_BYTES)
     }
@@ -152,9 +152,7 @@ impl Directory {
         requires room { length earlier.now < file_limit }
         requires read { AreEntries sector.now earlier.now (length earlier.now) }
         requires good { AreGood homes sector.now (length earlier.now) }
-        ensures entry { IfOk result (λ entry. entry ≡ entry_in sector.now (length earlier.now)) }
-        ensures fits { IfOk result (λ entry. IfSome entry (λ e. e.info.length < 2 ^ 32)) }
-        ensures good { OnOk result (AreGood homes sector.now (length earlier.now + 1)) }
+        ensures next { IfOk result (λ next. IsNextOf homes sector.now (length earlier.now) next) }
         ensures bad { OnErr result (IsBadDirectory homes sector.now) }
     {
         let bytes = &sector[8 * earlier.len()..];
@@ -173,8 +171,8 @@ impl Directory {
 
     /// Whether the homes of all files end within so many.
     pub(crate) fn ends_within(&self, homes: u64) -> bool
-        ensures all { IsTrue result → (f : ℕ) (e : Entry) → entry_of self.now f ≡ Some e → end_of e ≤ homes }
-        ensures one { IsFalse result → (f : ℕ) × (e : Entry) × (entry_of self.now f ≡ Some e) × (homes < end_of e) }
+        ensures all { IsTrue result → (f : ℕ) (e : Entry) → entry_of self.now f ≡ Some e → home_end e ≤ homes }
+        ensures one { IsFalse result → (f : ℕ) × (e : Entry) × (entry_of self.now f ≡ Some e) × (homes < home_end e) }
     {
         for entry in &self.entries {
             if let Some(entry) = entry {

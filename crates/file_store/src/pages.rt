@@ -1,11 +1,11 @@
 //! Pages and the ends of their files.
 ghost use Rattle.std.specs.Prelude.{◌≡◌, ◌≤◌, length, replicate};
-ghost use Rattle.file_store.specs.Layout.{trimmed};
+ghost use Rattle.file_store.specs.Layout.{padded_page};
 
 /// Leaves the first `inside` bytes of a page, and puts zeros in place of the others.
 pub(crate) fn trim(page: &mut [u8; 4096], inside: usize)
     requires { inside ≤ 4096 }
-    ensures { page.new ≡ trimmed inside page.old }
+    ensures { page.new ≡ padded_page inside page.old }
 {
     clear(&mut page[inside..]);
 }

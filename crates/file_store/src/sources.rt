@@ -1,10 +1,10 @@
 //! What files are made of.
-ghost use Rattle.std.specs.Prelude.{◌≡◌, ◌+◌, ◌-◌, ◌*◌, ◌≤◌, ◌^◌, ◌↔◌, ℕ, min, List, Some, length, drop, replicate, OnOk, OnErr, IsErrOf, IsSome, IsTrue};
+ghost use Rattle.std.specs.Prelude.{◌≡◌, ◌-◌, ◌*◌, ◌≤◌, ◌^◌, ◌↔◌, min, length, replicate, OnOk, OnErr, IsErrOf, IsSome, IsTrue};
 ghost use Rattle.vm_types.specs.Limits.{file_limit};
 ghost use Rattle.disk_model.specs.Sectors.{sector_bytes};
 ghost use Rattle.sync_journal.specs.Kinds.{kind_home};
-ghost use Rattle.file_store.specs.Layout.{page_count, bytes_inside, trimmed};
-ghost use Rattle.file_store.specs.Format.{info_of, told_by, reader_tells, total_pages, IsTooLarge, IsDirectoryOf};
+ghost use Rattle.file_store.specs.Layout.{pages_of_length};
+ghost use Rattle.file_store.specs.Format.{info_of, total_pages, IsPageRead, IsTooLarge, IsDirectoryOf};
 
 use crate::directory::Entry;
 use crate::faults::FormatFault;
@@ -30,7 +30,7 @@ pub struct FileSource<R> {
 impl<R> FileSource<R> {
     /// How many pages the file has.
     pub(crate) fn pages(&self) -> u64
-        ensures count { result ≡ page_count self.now.length }
+        ensures count { result ≡ pages_of_length self.now.length }
         ensures bound { result ≤ 2 ^ 20 }
     {
         u64::from(self.length).div_ceil(PAGE_BYTES)
@@ -55,11 +55,7 @@ impl<R: Read> FileSource<R> {
         ensures info { info_of self.new ≡ info_of self.old }
         ensures cause { OnErr result (IsErrOf result FormatFault.Source × IsSome self.old.bytes) }
         ensures reader { IsSome self.new.bytes → IsSome self.old.bytes }
-        ensures zeros { OnOk result (trimmed (bytes_inside self.old.length k) page.new ≡ page.new) }
-        ensures page { OnOk result ((told : List ℕ) → told_by R.remaining self.old.bytes ≡ Some told → page.new ≡ trimmed (bytes_inside self.old.length k) told) }
-        ensures rest { OnOk result ((told : List ℕ) → told_by R.remaining self.old.bytes ≡ Some told → told_by R.remaining self.new.bytes ≡ Some (drop (bytes_inside self.old.length k) told)) }
-        ensures tells { OnOk result ((told : List ℕ) → reader_tells R.remaining self.old.bytes ≡ Some told
-            → (bytes_inside self.old.length k ≤ length told) × (reader_tells R.remaining self.new.bytes ≡ Some (drop (bytes_inside self.old.length k) told))) }
+        ensures told { OnOk result (IsPageRead R.remaining self.old self.new k page.new) }
     {
         let inside = u64::from(self.length)
             .saturating_sub(PAGE_BYTES * k)

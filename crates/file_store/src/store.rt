@@ -1,10 +1,8 @@
 //! An open store.
-ghost use Rattle.std.specs.Prelude.{◌≡◌, ◌<◌, ◌≤◌, ℕ, IsSome, OnOk};
+ghost use Rattle.std.specs.Prelude.{◌≡◌, ◌<◌, IsSome};
 ghost use Rattle.vm_types.specs.Limits.{file_limit};
-ghost use Rattle.disk_model.specs.Stop.{HasCause};
-ghost use Rattle.disk_model.specs.Moments.{Touches, AsksOnly, Nothing};
-ghost use Rattle.file_store.specs.Standing.{standing_page, IsPageOf};
-ghost use Rattle.file_store.specs.Store.{files_of, IsReadyStore, IsSectorOf};
+ghost use Rattle.file_store.specs.Standing.{IsPageOf};
+ghost use Rattle.file_store.specs.Store.{files_of, IsReadyStore, ReadsFilePage};
 
 use crate::directory::Directory;
 use crate::pages::trim;
@@ -57,15 +55,7 @@ impl<D: SectorDisk> FileStore<D> {
     pub fn read_page(&mut self, page: FilePage, to: &mut [u8; 4096]) -> Result<(), DiskFault>
         requires ready { IsReadyStore D.SectorDisk self.old }
         requires inside { IsPageOf (files_of self.old) page.file page.page }
-        ensures size { D.sector_count self.new.disk ≡ D.sector_count self.old.disk }
-        ensures kept { D.keeps_model self.new.disk → D.keeps_model self.old.disk }
-        ensures cause { HasCause (D.failures self.old.disk) (D.failures self.new.disk) result }
-        ensures asks { AsksOnly D.SectorDisk (IsSectorOf self.old page) self.old.disk self.new.disk }
-        ensures files { self.new.directory ≡ self.old.directory }
-        ensures journal { self.new.journal ≡ self.old.journal }
-        ensures ready { IsReadyStore D.SectorDisk self.new }
-        ensures touches { D.keeps_model self.new.disk → Touches D.SectorDisk Nothing self.old.disk self.new.disk }
-        ensures page { D.keeps_model self.new.disk → OnOk result (to.new ≡ standing_page (D.content self.old.disk) page.file page.page) }
+        ensures { ReadsFilePage D.SectorDisk self.old self.new page to.new result }
     {
         let Some(entry) = self.directory.entry(usize::from(page.file)) else {
             unreachable!();

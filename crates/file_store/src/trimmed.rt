@@ -3,7 +3,7 @@ ghost use Rattle.std.specs.Prelude.{◌≡◌, refl};
 ghost use Rattle.std.proofs.Common.{◌∙◌};
 ghost use Rattle.sync_journal.specs.Source.{Asks};
 ghost use Rattle.file_store.specs.Asking.{asks_nothing, asks_more};
-ghost use Rattle.file_store.specs.Layout.{trimmed};
+ghost use Rattle.file_store.specs.Layout.{padded_page};
 ghost use Rattle.file_store.specs.Store.{inside_at};
 
 use crate::directory::Directory;
@@ -35,7 +35,7 @@ impl<S> Trimmed<'_, S> {
 }
 
 impl<S: PageSource> PageSource for Trimmed<'_, S> {
-    ghost pages = { λ t i. trimmed (inside_at t.directory.now t.pages.now i) (S.pages t.source.now i) };
+    ghost pages = { λ t i. padded_page (inside_at t.directory.now t.pages.now i) (S.pages t.source.now i) };
 
     ghost gives = { λ t i. S.gives t.source.now i };
 

@@ -1,21 +1,18 @@
 //! Stores of layout 1, made anew in layout 2 or 3.
-ghost use Rattle.std.specs.Prelude.{◌≡◌, ◌+◌, ◌<◌, ◌≤◌, ◌⊎◌, ℕ, None, Some, false, OnOk, OnErr, IsErr, IsErrOf, IsTrue, IsFalse, IfOk};
+ghost use Rattle.std.specs.Prelude.{◌≡◌, ◌<◌, ◌≤◌, ◌⊎◌, ℕ, Some, false, OnOk, IsErrOf};
 ghost use Rattle.vm_types.specs.Limits.{file_limit};
-ghost use Rattle.disk_model.specs.Moments.{Touches, AsksOnly, Nothing, LeavesOnly};
+ghost use Rattle.disk_model.specs.Moments.{AsksOnly, Nothing};
 ghost use Rattle.sync_journal.specs.Layout.{layout_before, home_count_in};
 ghost use Rattle.sync_journal.specs.Kinds.{is_kind, kind_homes, kind_home_count};
-ghost use Rattle.sync_journal.specs.Runs.{Runs};
+ghost use Rattle.sync_journal.specs.Runs.{RunsOnDevice};
 ghost use Rattle.file_store.specs.declared.directory.Entry.{Entry as AnEntry};
-ghost use Rattle.file_store.specs.Directory.{end_of, IsSoundDirectory};
-ghost use Rattle.sync_journal.specs.declared.store_journal.Journals.TheVariants.{Paired};
+ghost use Rattle.file_store.specs.Directory.{home_end};
 ghost use Rattle.file_store.specs.Format.{IsFrom, IsMarkSector};
-ghost use Rattle.file_store.specs.Blocks.{MakesByBlocks, KindBehind, KindLast};
-ghost use Rattle.file_store.specs.Making.{Makes};
-ghost use Rattle.file_store.specs.Layout.{IsMark, page_count};
-ghost use Rattle.file_store.specs.Standing.{IsBadOldLayout, IsBadOldJournal};
-ghost use Rattle.file_store.specs.Versions.{version_at, mark_of};
+ghost use Rattle.file_store.specs.Making.{WritesKindLast};
+ghost use Rattle.file_store.specs.Layout.{IsMark, pages_of_length};
 ghost use Rattle.file_store.specs.Store.{entry_of};
-ghost use Rattle.file_store.specs.Upgrade.{IsOldStore, IsTooSmall, IsFileSector, IsEntrySector, IsFilesSector, IsCopiedSector, IsUpgradeSector, IsOldPage, IsOldEntry, IsOldFile, IsOldAsked, HoldsOldPages, HoldsOldFiles, IsUnmarkedUpgrade, IsUpgradeOf, IsUpgradeIfMarked, IsKindlessUpgrade, IsUpgradeIfPaired, HasUpgradeCauses};
+ghost use Rattle.file_store.specs.Upgrade.{IsOldStore, IsFileSector, IsEntrySector, IsFilesSector, IsCopiedSector, IsOldPage, IsOldEntry, IsOldFile, HoldsOldPages, HoldsOldFiles, IsUnmarkedUpgrade, IsKindlessUpgrade};
+ghost use Rattle.file_store.specs.Upgraded.{HasCheckCauses, HasRoomFor, IsCopiable, CopiesPages, UpgradesStore};
 
 use crate::directory::{Directory, Entry};
 use crate::faults::UpgradeFault;
@@ -39,49 +36,7 @@ pub fn upgrade<D: SectorDisk, E: SectorDisk>(
     new: &mut E,
     journals: Journals,
 ) -> Result<(), UpgradeFault>
-    ensures old_size { D.sector_count old.new ≡ D.sector_count old.old }
-    ensures size { E.sector_count new.new ≡ E.sector_count new.old }
-    ensures old_kept { D.keeps_model old.new → D.keeps_model old.old }
-    ensures kept { E.keeps_model new.new → E.keeps_model new.old }
-    ensures causes { HasUpgradeCauses (D.failures old.old) (D.failures old.new) (E.failures new.old) (E.failures new.new) result }
-
-    // Of OLD mark, directory, gate and map are asked for, and each page of a file where it stands; of NEW mark, kind, directory,
-    // gate and first map, and the homes of the files.
-    ensures asks_old { D.keeps_model old.new → AsksOnly D.SectorDisk (IsOldAsked journals (D.content old.old)) old.old old.new }
-    ensures asks { D.keeps_model old.new → AsksOnly E.SectorDisk (IsUpgradeSector journals (D.content old.old)) new.old new.new }
-
-    // OLD is never written.
-    ensures only_read { D.keeps_model old.new → Touches D.SectorDisk Nothing old.old old.new }
-
-    ensures old_layout { D.keeps_model old.new → IsErrOf result UpgradeFault.OldLayout → IsBadOldLayout journals (D.sector_count old.old) (D.content old.old) }
-    ensures good_layout { D.keeps_model old.new → IsBadOldLayout journals (D.sector_count old.old) (D.content old.old)
-        → IsErrOf result UpgradeFault.OldLayout ⊎ IsErrOf result UpgradeFault.OldDevice }
-    ensures old_journal { D.keeps_model old.new → IsErrOf result UpgradeFault.OldJournal → IsBadOldJournal journals (D.sector_count old.old) (D.content old.old) }
-    ensures good_journal { D.keeps_model old.new → IsBadOldJournal journals (D.sector_count old.old) (D.content old.old)
-        → IsErrOf result UpgradeFault.OldLayout ⊎ (IsErrOf result UpgradeFault.OldJournal ⊎ IsErrOf result UpgradeFault.OldDevice) }
-    ensures new_small { D.keeps_model old.new → IsErrOf result UpgradeFault.NewSmall → IsTooSmall journals (E.sector_count new.old) (D.content old.old) }
-    ensures large { D.keeps_model old.new → IsTooSmall journals (E.sector_count new.old) (D.content old.old)
-        → IsErrOf result UpgradeFault.OldLayout ⊎ (IsErrOf result UpgradeFault.OldJournal ⊎ (IsErrOf result UpgradeFault.OldDevice ⊎ IsErrOf result UpgradeFault.NewSmall)) }
-    ensures formatted { E.keeps_model new.new → IsErrOf result UpgradeFault.Formatted → IsMark (E.content new.old 0) }
-    ensures not_formatted { E.keeps_model new.new → IsMark (E.content new.old 0) → IsErr result × Touches E.SectorDisk Nothing new.old new.new }
-    ensures unwritten { E.keeps_model new.new → IsErrOf result UpgradeFault.OldLayout ⊎ (IsErrOf result UpgradeFault.OldJournal
-        ⊎ (IsErrOf result UpgradeFault.NewSmall ⊎ IsErrOf result UpgradeFault.Formatted)) → Touches E.SectorDisk Nothing new.old new.new }
-
-    // After Ok NEW stands for what OLD stands for, with its mark, and all of it is synced.
-    ensures ok { D.keeps_model old.new → E.keeps_model new.new → OnOk result
-        (IsUpgradeOf journals (D.sector_count old.old) (E.sector_count new.old) (D.content old.old) (E.content new.new)) }
-    ensures marked { E.keeps_model new.new → OnOk result (E.content new.new 0 ≡ mark_of (version_at journals)) }
-    ensures synced { E.keeps_model new.new → OnOk result ((k : ℕ) → E.unsynced new.new k → ⊥) }
-
-    // Whatever it returns, every image that a stop at any moment of the call might leave of NEW lacks the mark or stands
-    // for what OLD stands for, where NEW had no mark and nothing unsynced.
-    ensures any_moment { D.keeps_model old.new → E.keeps_model new.new → ((k : ℕ) → E.unsynced new.old k → ⊥) → (IsMark (E.content new.old 0) → ⊥)
-        → LeavesOnly E.SectorDisk new.old new.new (IsUpgradeIfMarked journals (D.sector_count old.old) (E.sector_count new.old) (D.content old.old)) }
-
-    // Of layout 3 so it is, too, where a stop leaves any bytes in each block of 4,096 bytes that was written to since the last sync:
-    // an image of layout 3 with its mark is the store.
-    ensures blocks { D.keeps_model old.new → E.keeps_model new.new → ((k : ℕ) → E.unsynced new.old k → ⊥) → (IsMark (E.content new.old 0) → ⊥) → journals ≡ Paired
-        → MakesByBlocks E.SectorDisk (IsUpgradeIfPaired (D.sector_count old.old) (E.sector_count new.old) (D.content old.old)) new.old new.new }
+    ensures { UpgradesStore D.SectorDisk E.SectorDisk journals old.old old.new new.old new.new result }
 {
     let store = OldStore::find(old, journals)?;
     check_new(&store.directory, new, journals)?;
@@ -96,15 +51,12 @@ fn check_new<E: SectorDisk>(
     new: &mut E,
     journals: Journals,
 ) -> Result<(), UpgradeFault>
-    ensures run { Runs E.SectorDisk Nothing new.old new.new }
+    ensures run { RunsOnDevice E.SectorDisk Nothing new.old new.new }
     ensures asks { AsksOnly E.SectorDisk IsMarkSector new.old new.new }
-    ensures failed { IsErrOf result UpgradeFault.NewDevice → E.failures new.old < E.failures new.new }
-    ensures still { (IsErrOf result UpgradeFault.NewDevice → ⊥) → E.failures new.new ≡ E.failures new.old }
-    ensures others { OnErr result (IsErrOf result UpgradeFault.NewSmall ⊎ (IsErrOf result UpgradeFault.Formatted ⊎ IsErrOf result UpgradeFault.NewDevice)) }
-    ensures room { (IsErrOf result UpgradeFault.NewSmall → ⊥) → kind_homes journals ≤ E.sector_count new.old }
-    ensures fits { (IsErrOf result UpgradeFault.NewSmall → ⊥) → (f : ℕ) (e : AnEntry) → entry_of directory.now f ≡ Some e → end_of e ≤ kind_home_count journals (E.sector_count new.old) }
+    ensures causes { HasCheckCauses (E.failures new.old) (E.failures new.new) result }
+    ensures room { (IsErrOf result UpgradeFault.NewSmall → ⊥) → HasRoomFor journals (E.sector_count new.old) directory.now }
     ensures small { IsErrOf result UpgradeFault.NewSmall → (E.sector_count new.old < kind_homes journals)
-        ⊎ ((f : ℕ) × (e : AnEntry) × (entry_of directory.now f ≡ Some e) × (kind_home_count journals (E.sector_count new.old) < end_of e)) }
+        ⊎ ((f : ℕ) × (e : AnEntry) × (entry_of directory.now f ≡ Some e) × (kind_home_count journals (E.sector_count new.old) < home_end e)) }
     ensures marked { E.keeps_model new.new → IsErrOf result UpgradeFault.Formatted → IsMark (E.content new.old 0) }
     ensures unmarked { E.keeps_model new.new → OnOk result (IsMark (E.content new.old 0) → ⊥) }
 {
@@ -127,20 +79,12 @@ fn copy_unmarked<D: SectorDisk, E: SectorDisk>(
     new: &mut E,
     journals: Journals,
 ) -> Result<(), UpgradeFault>
-    requires before { store.now.journal.journals ≡ journals }
-    requires sound { IsSoundDirectory (home_count_in (layout_before journals) (D.sector_count old.old)) (entry_of store.now.directory) }
-    requires found { D.keeps_model old.old → IsOldStore journals (D.content old.old) store.now }
+    requires copied { IsCopiable D.SectorDisk journals store.now old.old (E.sector_count new.old) }
     requires room { kind_homes journals ≤ E.sector_count new.old }
     requires good { is_kind store.now.sector ≡ false }
-    requires fits { (f : ℕ) (e : AnEntry) → entry_of store.now.directory f ≡ Some e → end_of e ≤ kind_home_count journals (E.sector_count new.old) }
-    ensures old_run { Runs D.SectorDisk Nothing old.old old.new }
-    ensures asks_old { D.keeps_model old.new → AsksOnly D.SectorDisk (IsOldFile journals (D.content old.old)) old.old old.new }
-    ensures run { Makes E.SectorDisk (IsCopiedSector journals (entry_of store.now.directory)) new.old new.new }
-    ensures causes { HasUpgradeCauses (D.failures old.old) (D.failures old.new) (E.failures new.old) (E.failures new.new) result }
-    ensures others { OnErr result (IsErrOf result UpgradeFault.OldDevice ⊎ IsErrOf result UpgradeFault.NewDevice) }
+    ensures copies { CopiesPages D.SectorDisk E.SectorDisk (IsOldFile journals (D.content old.old)) (IsCopiedSector journals (entry_of store.now.directory)) old.old old.new new.old new.new result }
     ensures written { D.keeps_model old.new → E.keeps_model new.new → OnOk result (IsUnmarkedUpgrade journals (D.content old.old) (E.content new.new)) }
-    ensures epochs { D.keeps_model old.new → E.keeps_model new.new → journals ≡ Paired → KindLast E.SectorDisk (IsFrom 8) (IsKindlessUpgrade (D.content old.old)) new.old new.new }
-    ensures kind_behind { D.keeps_model old.new → E.keeps_model new.new → journals ≡ Paired → OnOk result (KindBehind E.SectorDisk (IsFrom 8) (IsKindlessUpgrade (D.content old.old)) new.old new.new) }
+    ensures last { D.keeps_model old.new → E.keeps_model new.new → WritesKindLast E.SectorDisk journals (IsFrom 8) (IsKindlessUpgrade (D.content old.old)) new.old new.new result }
     ensures synced { E.keeps_model new.new → OnOk result ((k : ℕ) → E.unsynced new.new k → ⊥) }
 {
     copy_files(store, old, new, journals)?;
@@ -155,15 +99,8 @@ fn copy_files<D: SectorDisk, E: SectorDisk>(
     new: &mut E,
     journals: Journals,
 ) -> Result<(), UpgradeFault>
-    requires before { store.now.journal.journals ≡ journals }
-    requires sound { IsSoundDirectory (home_count_in (layout_before journals) (D.sector_count old.old)) (entry_of store.now.directory) }
-    requires found { D.keeps_model old.old → IsOldStore journals (D.content old.old) store.now }
-    requires fits { (f : ℕ) (e : AnEntry) → entry_of store.now.directory f ≡ Some e → end_of e ≤ kind_home_count journals (E.sector_count new.old) }
-    ensures old_run { Runs D.SectorDisk Nothing old.old old.new }
-    ensures asks_old { D.keeps_model old.new → AsksOnly D.SectorDisk (IsOldFile journals (D.content old.old)) old.old old.new }
-    ensures run { Makes E.SectorDisk (IsFilesSector journals (entry_of store.now.directory)) new.old new.new }
-    ensures causes { HasUpgradeCauses (D.failures old.old) (D.failures old.new) (E.failures new.old) (E.failures new.new) result }
-    ensures others { OnErr result (IsErrOf result UpgradeFault.OldDevice ⊎ IsErrOf result UpgradeFault.NewDevice) }
+    requires { IsCopiable D.SectorDisk journals store.now old.old (E.sector_count new.old) }
+    ensures copies { CopiesPages D.SectorDisk E.SectorDisk (IsOldFile journals (D.content old.old)) (IsFilesSector journals (entry_of store.now.directory)) old.old old.new new.old new.new result }
     ensures files { D.keeps_model old.new → E.keeps_model new.new → OnOk result (HoldsOldFiles journals (D.content old.old) file_limit (E.content new.new)) }
 {
     for f in 0..FILES {
@@ -180,17 +117,10 @@ fn copy_entry<D: SectorDisk, E: SectorDisk>(
     new: &mut E,
     journals: Journals,
 ) -> Result<(), UpgradeFault>
-    requires before { store.now.journal.journals ≡ journals }
-    requires sound { IsSoundDirectory (home_count_in (layout_before journals) (D.sector_count old.old)) (entry_of store.now.directory) }
-    requires found { D.keeps_model old.old → IsOldStore journals (D.content old.old) store.now }
-    requires fits { (f : ℕ) (e : AnEntry) → entry_of store.now.directory f ≡ Some e → end_of e ≤ kind_home_count journals (E.sector_count new.old) }
-    ensures old_run { Runs D.SectorDisk Nothing old.old old.new }
-    ensures asks_old { D.keeps_model old.new → AsksOnly D.SectorDisk (IsOldEntry journals (D.content old.old) (entry_of store.now.directory f)) old.old old.new }
-    ensures run { Makes E.SectorDisk (IsEntrySector journals (entry_of store.now.directory f)) new.old new.new }
-    ensures causes { HasUpgradeCauses (D.failures old.old) (D.failures old.new) (E.failures new.old) (E.failures new.new) result }
-    ensures others { OnErr result (IsErrOf result UpgradeFault.OldDevice ⊎ IsErrOf result UpgradeFault.NewDevice) }
+    requires { IsCopiable D.SectorDisk journals store.now old.old (E.sector_count new.old) }
+    ensures copies { CopiesPages D.SectorDisk E.SectorDisk (IsOldEntry journals (D.content old.old) (entry_of store.now.directory f)) (IsEntrySector journals (entry_of store.now.directory f)) old.old old.new new.old new.new result }
     ensures pages { D.keeps_model old.new → E.keeps_model new.new → OnOk result ((e : AnEntry) → entry_of store.now.directory f ≡ Some e
-        → HoldsOldPages journals (D.content old.old) e (page_count e.info.length) (E.content new.new)) }
+        → HoldsOldPages journals (D.content old.old) e (pages_of_length e.info.length) (E.content new.new)) }
 {
     match store.directory.entry(f) {
         Some(entry) => copy_file(store, entry, old, new, journals),
@@ -207,15 +137,11 @@ fn copy_file<D: SectorDisk, E: SectorDisk>(
     journals: Journals,
 ) -> Result<(), UpgradeFault>
     requires before { store.now.journal.journals ≡ journals }
-    requires within { end_of entry ≤ home_count_in (layout_before journals) (D.sector_count old.old) }
+    requires within { home_end entry ≤ home_count_in (layout_before journals) (D.sector_count old.old) }
     requires found { D.keeps_model old.old → IsOldStore journals (D.content old.old) store.now }
-    requires fits { end_of entry ≤ kind_home_count journals (E.sector_count new.old) }
-    ensures old_run { Runs D.SectorDisk Nothing old.old old.new }
-    ensures asks_old { D.keeps_model old.new → AsksOnly D.SectorDisk (IsOldPage journals (D.content old.old) entry (page_count entry.info.length)) old.old old.new }
-    ensures run { Makes E.SectorDisk (IsFileSector journals entry) new.old new.new }
-    ensures causes { HasUpgradeCauses (D.failures old.old) (D.failures old.new) (E.failures new.old) (E.failures new.new) result }
-    ensures others { OnErr result (IsErrOf result UpgradeFault.OldDevice ⊎ IsErrOf result UpgradeFault.NewDevice) }
-    ensures pages { D.keeps_model old.new → E.keeps_model new.new → OnOk result (HoldsOldPages journals (D.content old.old) entry (page_count entry.info.length) (E.content new.new)) }
+    requires fits { home_end entry ≤ kind_home_count journals (E.sector_count new.old) }
+    ensures copies { CopiesPages D.SectorDisk E.SectorDisk (IsOldPage journals (D.content old.old) entry (pages_of_length entry.info.length)) (IsFileSector journals entry) old.old old.new new.old new.new result }
+    ensures pages { D.keeps_model old.new → E.keeps_model new.new → OnOk result (HoldsOldPages journals (D.content old.old) entry (pages_of_length entry.info.length) (E.content new.new)) }
 {
     let homes = first_home(journals);
     for k in 0..entry.pages() {

@@ -2,7 +2,7 @@
 ghost use Rattle.std.specs.Prelude.{◌≡◌, ◌≤◌, ◌↔◌, IsTrue};
 ghost use Rattle.sync_journal.specs.Kinds.{is_kind, kind_homes, kind_home_count, kind_home};
 ghost use Rattle.file_store.specs.Layout.{IsMark};
-ghost use Rattle.file_store.specs.Versions.{version_at, version_before, homes_of, count_of, directory_of, mark_of};
+ghost use Rattle.file_store.specs.Versions.{version_at, version_before, homes_of, home_pages_of, directory_of, mark_of};
 
 use sync_journal::{
     FIRST_HOME, Journals, OLD_FIRST_HOME, TURN_HOMES, home_count, old_home_count, turn_home_count,
@@ -84,7 +84,7 @@ impl Version {
 
     /// The number of home pages of a device of so many sectors.
     pub(crate) fn home_count(self, sectors: u64) -> u64
-        ensures { result ≡ count_of self sectors }
+        ensures { result ≡ home_pages_of self sectors }
     {
         match self {
             Version::One => old_home_count(sectors),

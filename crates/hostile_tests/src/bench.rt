@@ -5,7 +5,7 @@ use crate::short_disk::ShortDisk;
 use disk_model::SimDisk;
 use file_store::{FileSource, FileStore, format};
 use machine::{BootFault, Config};
-use runner::{RunEnd, run_on};
+use runner::{Devices, RunEnd, run_on};
 use std::alloc::Global;
 use std::test::Fail;
 use sync_journal::Journals;
@@ -99,7 +99,8 @@ impl Case<'_> {
         }
         let mut reader = self.trace;
         let mut output = Vec::new(alloc);
-        match run_on(alloc, self.config, store, swap, &mut reader, &mut output) {
+        let devices = Devices { store, swap };
+        match run_on(alloc, self.config, devices, &mut reader, &mut output) {
             Ok((end, machine)) => Ok(Told {
                 end: Ok(end),
                 output,

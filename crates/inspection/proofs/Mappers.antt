@@ -6,10 +6,10 @@ use Rattle.std.proofs.lemmas.Bool.Decides.{nat_tests}
 use Rattle.std.specs.Prelude.{◌==◌, if◌then◌else◌}
 use Rattle.residency.specs.declared.leaves.Change.TheVariants as Kinds
 use Rattle.residency.specs.Leaves.{IsOver, concerns}
-use Rattle.residency.specs.Picture.{Picture, entry, entry_in}
+use Rattle.residency.specs.Picture.{Picture, entry, entry_under}
 use Rattle.residency.specs.Parts.{IsFit}
 use Rattle.page_tables.specs.Tree.{IsPage}
-use Rattle.inspection.specs.Frames.{IsBefore, IsFrom, IsMapper}
+use Rattle.inspection.specs.Frames.{IsBefore, IsAtOrAfter, IsMapper}
 use Rattle.inspection.specs.declared.frame_views.Mapper.{Mapper}
 
 none_or_some : (o : Option ℕ) → (o ≡ None) ⊎ ((r : ℕ) × (o ≡ Some r))
@@ -19,7 +19,7 @@ none_or_some (Some r) = inr (r, refl)
 module _ {mode : ℕ} (c : Picture mode) (n p k : ℕ) where
   entry_none : c.root p ≡ None → entry c p k ≡ 0
   unfolding entry
-  entry_none none = ap (λ r. entry_in mode c.frames r k) none
+  entry_none none = ap (λ r. entry_under mode c.frames r k) none
 
   pub over_lives : IsOver c Kinds.Forget n p k → (r : ℕ) × (c.root p ≡ Some r)
   over_lives over = elim (none_or_some (c.root p)) [
@@ -38,25 +38,25 @@ low_later number pid page low is other = let test : (number == pid) ≡ false = 
 
 -- the first page over a frame in the first process that has one
 module _ {mode : ℕ} (c : Picture mode) (n pid page number low : ℕ) (least : pid ≤ number) (is : low ≡ (if number == pid then page else 0))
-    (passed : (p k : ℕ) → p < number → IsFrom pid page p k → IsPage (top_level mode) k → IsOver c Kinds.Forget n p k → ⊥) where
-  from_low : (p k : ℕ) → p ≡ number → IsFrom pid page p k → low ≤ k
+    (passed : (p k : ℕ) → p < number → IsAtOrAfter pid page p k → IsPage (top_level mode) k → IsOver c Kinds.Forget n p k → ⊥) where
+  from_low : (p k : ℕ) → p ≡ number → IsAtOrAfter pid page p k → low ≤ k
   from_low p k at (inl here) = let e = low_here number pid page low is (sym at ∙ here.0) in omega (arith, e, here.1)
   from_low p k at (inr later) = let e = low_later number pid page low is (λ same. omega (arith, at, same, later)) in omega (arith, e)
 
-  from_page : (k : ℕ) → low ≤ k → IsFrom pid page number k
+  from_page : (k : ℕ) → low ≤ k → IsAtOrAfter pid page number k
   from_page k le = elim (cases_eq number pid) [
     | inl same ↦ inl (same, (let e = low_here number pid page low is same in omega (arith, e, le)))
     | inr other ↦ inr (omega (arith, least, other))
   ]
 
-  first_low : (p k : ℕ) → p ≡ number → IsFrom number low p k → low ≤ k
+  first_low : (p k : ℕ) → p ≡ number → IsAtOrAfter number low p k → low ≤ k
   first_low p k at (inl here) = here.1
   first_low p k at (inr later) = absurd (omega (arith, at, later))
 
   pub mapper_on : (m : Mapper) → m.pid ≡ number → IsMapper c n number low m → IsMapper c n pid page m
   mapper_on m at first = record {
     from = (
-        let P : ℕ → Type 0 = λ x. IsFrom pid page x m.page in
+        let P : ℕ → Type 0 = λ x. IsAtOrAfter pid page x m.page in
         subst P (sym at) (from_page m.page (first_low m.pid m.page at first.from)));
     over = first.over;
     entry = first.entry;
@@ -68,7 +68,7 @@ module _ {mode : ℕ} (c : Picture mode) (n pid page number low : ℕ) (least : 
 
 -- no page of one process comes before the first of it
 pub only_first : {mode : ℕ} (c : Picture mode) (n number low pid page : ℕ) → pid ≡ number → ((j : ℕ) → low ≤ j → j < page → IsOver c Kinds.Forget n pid j → ⊥)
-    → (p k : ℕ) → IsFrom number low p k → IsBefore pid page p k → IsOver c Kinds.Forget n p k → ⊥
+    → (p k : ℕ) → IsAtOrAfter number low p k → IsBefore pid page p k → IsOver c Kinds.Forget n p k → ⊥
 only_first c n number low pid page at none p k (inl here) (inl earlier) over = omega (arith, here.0, earlier, at)
 only_first c n number low pid page at none p k (inr later) (inl earlier) over = omega (arith, later, earlier, at)
 only_first c n number low pid page at none p k (inr later) (inr same) over = omega (arith, later, same.0, at)

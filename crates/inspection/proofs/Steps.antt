@@ -9,7 +9,8 @@ use Rattle.page_tables.proofs.Ends.{last_is, last_entry-is, missing_of-is, page_
 use Rattle.page_tables.proofs.Ways.{next_table}
 use Rattle.residency.specs.Picture.{Picture}
 use Rattle.residency.specs.Parts.{IsFit}
-use Rattle.inspection.specs.Walks.{IsStep}
+use Rattle.residency.proofs.Entries.{entry-of}
+use Rattle.inspection.specs.Walks.{IsEntryOf, IsStep}
 use Rattle.inspection.specs.declared.walks.Step.{Step}
 
 -- the entry of the lowest table on a way is the page's
@@ -35,3 +36,24 @@ module _ {mode : ℕ} (c : Picture mode) (pid page : ℕ) (step : Step) (fit : I
       let W : ℕ → Type 0 = λ d. Way c.frames (top_level mode) is.root page d (frame_of step.entry.0) in
       let Q : ℕ → Type 0 = λ l. Points c.frames step.table.0 (index_of page l) (frame_of step.entry.0) in
       subst W deeper (step.table.0, is.way, subst Q at points)
+
+  -- what the table that it points to says is the next step
+  pub leads : (next : Step) → 0 < step.level → next.level ≡ step.level - 1 → next.table.0 ≡ frame_of step.entry.0 → IsEntryOf c.frames page next
+      → IsStep c pid page next
+  leads next some level number says =
+      let top = top_level mode in
+      let N : ℕ → Type 0 = λ n. Way c.frames top is.root page (top - (step.level - 1)) n in
+      let L : ℕ → Type 0 = λ l. Way c.frames top is.root page (top - l) next.table.0 in
+      let here = subst L (sym level) (subst N (sym number) (way_below some)) in
+      record {
+        root = is.root;
+        lives = is.lives;
+        level = omega (arith, level, is.level);
+        table = subst (IsTable c.frames) (sym number) below;
+        way = here;
+        says = says;
+        last = λ zero.
+            says.entry ∙ ap (λ l. entry_at c.frames next.table.0 (index_of page l)) zero
+            ∙ sym (last_entry c.frames top is.root page next.table.0 (subst L zero here))
+            ∙ sym (entry-of c pid is.root page is.lives);
+      }

@@ -4,7 +4,7 @@ use Rattle.std.proofs.lemmas.Bool.{false≢true}
 use Rattle.std.specs.Prelude.{IfNone, IfSome, IsSome}
 use Rattle.machine.specs.declared.machine.Machine.{Machine}
 use Rattle.inspection.specs.Machines.{memory_of}
-use Rattle.inspection.specs.Walks.{IsStep}
+use Rattle.inspection.specs.Walks.{IsStepOfSome}
 use Rattle.inspection.specs.declared.walks.Step.{Step}
 
 -- what is so where nothing is told is so under a premise too
@@ -20,5 +20,5 @@ pub none_unless : {A : Type 0} {P : Type 0} (o : Option A) → (P → IsSome o) 
 none_unless None f = λ p. false≢true (f p)
 none_unless (Some a) f = tt
 
-pub step_of : {D E : Type 0} (x y : Machine D E) (pid page : ℕ) (step : Step) → x ≡ y → IsStep (memory_of x) pid page step → IsStep (memory_of y) pid page step
-step_of {D} {E} x y pid page step same is = let P : Machine D E → Type 0 = λ m. IsStep (memory_of m) pid page step in subst P same is
+pub step_of : {D E : Type 0} (x y : Machine D E) (page : ℕ) (step : Step) → x ≡ y → IsStepOfSome (memory_of x) page step → IsStepOfSome (memory_of y) page step
+step_of {D} {E} x y page step same is = let P : Machine D E → Type 0 = λ m. IsStepOfSome (memory_of m) page step in subst P same is

@@ -14,12 +14,12 @@ use Rattle.inspection.specs.declared.frame_views.Mapper.{Mapper}
 
 -- what a frame holds: nothing, zeros, a table, the own copy of a page, or a page of a file or an object
 module _ {mode : ℕ} where
-  abbrev pub Holds : Picture mode → ℕ → Holding → Type 0
-  Holds c n Nothing = role_of c.frames n ≡ Role.Free
-  Holds c n Zeros = role_of c.frames n ≡ Role.Zero
-  Holds c n Table = role_of c.frames n ≡ Role.Table
-  Holds c n (Own page) = (role_of c.frames n ≡ Role.Private) × (c.page_of n ≡ page)
-  Holds c n (Page p) = c.place p ≡ Frame (record { 0 = n })
+  abbrev pub IsHolding : Picture mode → ℕ → Holding → Type 0
+  IsHolding c n Nothing = role_of c.frames n ≡ Role.Free
+  IsHolding c n Zeros = role_of c.frames n ≡ Role.Zero
+  IsHolding c n Table = role_of c.frames n ≡ Role.Table
+  IsHolding c n (Own page) = (role_of c.frames n ≡ Role.Private) × (c.page_of n ≡ page)
+  IsHolding c n (Page p) = c.place p ≡ Frame (record { 0 = n })
 
 -- there is frame n, and it holds an own copy, or a page of a file or an object
 module _ {mode : ℕ} where
@@ -28,13 +28,13 @@ module _ {mode : ℕ} where
     pub kind : is_data (role_of c.frames n) ≡ true
 
 -- page k of process p comes at or after page `page` of process `pid`
-abbrev pub IsFrom : ℕ → ℕ → ℕ → ℕ → Type 0
-IsFrom pid page p k = ((p ≡ pid) × (page ≤ k)) ⊎ (pid < p)
+abbrev pub IsAtOrAfter : ℕ → ℕ → ℕ → ℕ → Type 0
+IsAtOrAfter pid page p k = ((p ≡ pid) × (page ≤ k)) ⊎ (pid < p)
 
 -- no page is over frame n from a page of a process on
 module _ {mode : ℕ} where
   abbrev pub HasNoMapper : Picture mode → ℕ → ℕ → ℕ → Type 0
-  HasNoMapper c n pid page = (p k : ℕ) → IsFrom pid page p k → IsPage (top_level mode) k → IsOver c Kinds.Forget n p k → ⊥
+  HasNoMapper c n pid page = (p k : ℕ) → IsAtOrAfter pid page p k → IsPage (top_level mode) k → IsOver c Kinds.Forget n p k → ⊥
 
 -- page k of process p comes before page `page` of process `pid`
 abbrev pub IsBefore : ℕ → ℕ → ℕ → ℕ → Type 0
@@ -43,7 +43,7 @@ IsBefore pid page p k = (p < pid) ⊎ ((p ≡ pid) × (k < page))
 -- The first page over frame n from a page of a process on, with its entry.
 module _ {mode : ℕ} where
   pub record IsMapper (c : Picture mode) (n pid page : ℕ) (m : Mapper) : Type 0 where
-    pub from : IsFrom pid page m.pid m.page
+    pub from : IsAtOrAfter pid page m.pid m.page
     pub over : IsOver c Kinds.Forget n m.pid m.page
     pub entry : m.entry.0 ≡ entry c m.pid m.page
-    pub none_before : (p k : ℕ) → IsFrom pid page p k → IsBefore m.pid m.page p k → IsPage (top_level mode) k → IsOver c Kinds.Forget n p k → ⊥
+    pub none_before : (p k : ℕ) → IsAtOrAfter pid page p k → IsBefore m.pid m.page p k → IsPage (top_level mode) k → IsOver c Kinds.Forget n p k → ⊥

@@ -15,5 +15,5 @@ module _ {mode : ℕ} where
 
 -- no page of a process from a page on has an entry
 module _ {mode : ℕ} where
-  abbrev pub HasNoEntry : Picture mode → ℕ → ℕ → Type 0
-  HasNoEntry c pid low = (k : ℕ) → low ≤ k → IsPage (top_level mode) k → entry c pid k ≡ 0
+  abbrev pub HasNoEntryFrom : Picture mode → ℕ → ℕ → Type 0
+  HasNoEntryFrom c pid low = (k : ℕ) → low ≤ k → IsPage (top_level mode) k → entry c pid k ≡ 0

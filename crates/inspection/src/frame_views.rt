@@ -7,7 +7,7 @@ ghost use Rattle.residency.specs.declared.leaves.Change.TheVariants as Kinds;
 ghost use Rattle.residency.specs.Picture.{picture_of, is_data};
 ghost use Rattle.residency.specs.Parts.{IsFit};
 ghost use Rattle.residency.specs.Leaves.{IsOver};
-ghost use Rattle.inspection.specs.Frames.{Holds, HoldsData, HasNoMapper, IsMapper};
+ghost use Rattle.inspection.specs.Frames.{IsHolding, HoldsData, HasNoMapper, IsMapper};
 
 use frames::Role;
 use memory::entry_number;
@@ -41,7 +41,7 @@ pub struct FrameView {
 /// What frame `n` holds, and how many share it; `None` exactly where memory has no frame of that number.
 pub(crate) fn frame_view<D, E, M: Levels>(core: &Core<D, E, M>, n: FrameNo) -> Option<FrameView>
     requires fit { IsFit (picture_of core.now) }
-    ensures holds { IfSome result (λ view. Holds (picture_of core.now) n.0 view.holding) }
+    ensures holds { IfSome result (λ view. IsHolding (picture_of core.now) n.0 view.holding) }
     ensures shares { IfSome result (λ view. view.shares ≡ count_of core.now.frames n.0) }
     ensures inside { IsSome result ↔ IsFrame core.now.frames n.0 }
 {
@@ -58,7 +58,7 @@ pub(crate) fn frame_view<D, E, M: Levels>(core: &Core<D, E, M>, n: FrameNo) -> O
 fn holding_of<D, E, M: Levels>(core: &Core<D, E, M>, n: FrameNo) -> Holding
     requires fit { IsFit (picture_of core.now) }
     requires inside { IsFrame core.now.frames n.0 }
-    ensures { Holds (picture_of core.now) n.0 result }
+    ensures { IsHolding (picture_of core.now) n.0 result }
 {
     match core.frames.role(n) {
         Role::Free => Holding::Nothing,

@@ -5,7 +5,7 @@ ghost use Rattle.page_tables.specs.Tree.{IsPage};
 ghost use Rattle.regions.specs.RunList.{IsNextRun};
 ghost use Rattle.residency.specs.Picture.{picture_of, entry};
 ghost use Rattle.residency.specs.Parts.{IsFit};
-ghost use Rattle.inspection.specs.Pages.{IsNextEntry, HasNoEntry};
+ghost use Rattle.inspection.specs.Pages.{IsNextEntry, HasNoEntryFrom};
 
 use memory::{entry_number, table_of};
 use ranges::{gap_end, table_end};
@@ -41,7 +41,7 @@ pub(crate) fn next_entry<D, E, M: Levels>(
 ) -> Option<PageEntry>
     requires fit { IsFit (picture_of core.now) }
     ensures some { IfSome result (IsNextEntry (picture_of core.now) pid low) }
-    ensures none { IfNone result (HasNoEntry (picture_of core.now) pid low) }
+    ensures none { IfNone result (HasNoEntryFrom (picture_of core.now) pid low) }
 {
     let root = core.root(pid)?;
     let mut at = low.max(USER_START);

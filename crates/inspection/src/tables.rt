@@ -110,7 +110,7 @@ fn level_on_way<D, E, M: Levels>(
 {
     let mut step = root_step(core, pid, page)?;
     while step.table != n {
-        step = next_step(core, pid, page, step)?;
+        step = next_step(core, page, step)?;
     }
     Some(step.level)
 }

@@ -7,13 +7,13 @@ ghost use Rattle.page_tables.specs.Tree.{IsTable};
 ghost use Rattle.memory.specs.Kept.{IsLeafOf};
 ghost use Rattle.regions.specs.RunList.{IsNextRun};
 ghost use Rattle.residency.specs.Picture.{is_live};
-ghost use Rattle.inspection.specs.Frames.{Holds, HoldsData, HasNoMapper, IsMapper};
+ghost use Rattle.inspection.specs.Frames.{IsHolding, HoldsData, HasNoMapper, IsMapper};
 ghost use Rattle.inspection.specs.Machines.{hand_of, memory_of};
-ghost use Rattle.inspection.specs.Pages.{HasNoEntry, IsNextEntry};
+ghost use Rattle.inspection.specs.Pages.{HasNoEntryFrom, IsNextEntry};
 ghost use Rattle.inspection.specs.Slots.{SlotHolds};
 ghost use Rattle.inspection.specs.Tables.{IsPlaceOf};
-ghost use Rattle.inspection.specs.Walks.{IsStep};
-ghost use Rattle.machine.specs.Machine.{bits_of, halted_of, mode_of, slots_of, IsSoundMachine};
+ghost use Rattle.inspection.specs.Walks.{IsNextStep, IsStep, IsStepOfSome};
+ghost use Rattle.machine.specs.Machine.{bits_of, halted_of, mode_of, slot_count_of, IsSoundMachine};
 
 use crate::frame_views::{FrameView, Mapper};
 use crate::pages::PageEntry;
@@ -47,24 +47,24 @@ pub fn root_step<D: SectorDisk, E: SectorDisk>(
     }
 }
 
-/// What the next table says on the way to a page, one level below a step that was returned for that page; `None` exactly where the way ends with
+/// What the next table says on the way to a page, one level below a step that was returned for that page, in the tree of whichever process; `None` exactly where the way ends with
 /// that step, at the lowest level or where its entry is no pointer, or the machine has halted.
 pub fn next_step<D: SectorDisk, E: SectorDisk>(
     machine: &Machine<D, E>,
-    pid: Pid,
     page: u64,
     step: Step,
 ) -> Option<Step>
     requires sound { IsSoundMachine D.SectorDisk E.SectorDisk machine.now }
-    requires step { IsStep (memory_of machine.now) pid page step }
+    requires step { IsStepOfSome (memory_of machine.now) page step }
     ensures running { IfSome result (λ _. halted_of machine.now ≡ false) }
-    ensures some { IfSome result (λ next. IsStep (memory_of machine.now) pid page next × (next.level + 1 ≡ step.level)) }
+    ensures some { IfSome result (IsStepOfSome (memory_of machine.now) page) }
+    ensures next { IfSome result (IsNextStep (memory_of machine.now) page step) }
     ensures pointer { IfSome result (λ next. is_pointer step.entry.0 ≡ true) }
     ensures none { IfNone result (halted_of machine.now ≡ false → 0 < step.level → is_pointer step.entry.0 ≡ false) }
 {
     match machine {
-        Machine::Sv39(machine) => walks::next_step(machine.memory()?, pid, page, step),
-        Machine::Sv48(machine) => walks::next_step(machine.memory()?, pid, page, step),
+        Machine::Sv39(machine) => walks::next_step(machine.memory()?, page, step),
+        Machine::Sv48(machine) => walks::next_step(machine.memory()?, page, step),
     }
 }
 
@@ -76,7 +76,7 @@ pub fn frame_view<D: SectorDisk, E: SectorDisk>(
     requires sound { IsSoundMachine D.SectorDisk E.SectorDisk machine.now }
     ensures running { IfSome result (λ _. halted_of machine.now ≡ false) }
     ensures inside { IfSome result (λ _. IsFrame (memory_of machine.now).frames n.0) }
-    ensures holds { IfSome result (λ view. Holds (memory_of machine.now) n.0 view.holding) }
+    ensures holds { IfSome result (λ view. IsHolding (memory_of machine.now) n.0 view.holding) }
     ensures shares { IfSome result (λ view. view.shares ≡ count_of (memory_of machine.now).frames n.0) }
     ensures none { IfNone result (halted_of machine.now ≡ false → IsFrame (memory_of machine.now).frames n.0 → ⊥) }
 {
@@ -93,10 +93,10 @@ pub fn slot_view<D: SectorDisk, E: SectorDisk>(
 ) -> Option<SlotView>
     requires sound { IsSoundMachine D.SectorDisk E.SectorDisk machine.now }
     ensures running { IfSome result (λ _. halted_of machine.now ≡ false) }
-    ensures inside { IfSome result (λ _. n.0 < slots_of machine.now) }
+    ensures inside { IfSome result (λ _. n.0 < slot_count_of machine.now) }
     ensures holds { IfSome result (λ view. SlotHolds (memory_of machine.now) n.0 view.holding) }
     ensures shares { IfSome result (λ view. view.shares ≡ (memory_of machine.now).slots.count n.0) }
-    ensures none { IfNone result (halted_of machine.now ≡ false → slots_of machine.now ≤ n.0) }
+    ensures none { IfNone result (halted_of machine.now ≡ false → slot_count_of machine.now ≤ n.0) }
 {
     match machine {
         Machine::Sv39(machine) => slots::slot_view(machine.memory()?, n),
@@ -151,7 +151,7 @@ pub fn next_entry<D: SectorDisk, E: SectorDisk>(
     requires sound { IsSoundMachine D.SectorDisk E.SectorDisk machine.now }
     ensures running { IfSome result (λ _. halted_of machine.now ≡ false) }
     ensures some { IfSome result (IsNextEntry (memory_of machine.now) pid page) }
-    ensures none { IfNone result (halted_of machine.now ≡ false → HasNoEntry (memory_of machine.now) pid page) }
+    ensures none { IfNone result (halted_of machine.now ≡ false → HasNoEntryFrom (memory_of machine.now) pid page) }
 {
     match machine {
         Machine::Sv39(machine) => pages::next_entry(machine.memory()?, pid, page),

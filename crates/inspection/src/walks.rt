@@ -6,7 +6,7 @@ ghost use Rattle.sv39_walk.specs.Entry.{entry_at, is_pointer};
 ghost use Rattle.page_tables.specs.Tree.{IsTable};
 ghost use Rattle.residency.specs.Picture.{picture_of, is_live};
 ghost use Rattle.residency.specs.Parts.{IsFit};
-ghost use Rattle.inspection.specs.Walks.{IsEntryOf, IsStep};
+ghost use Rattle.inspection.specs.Walks.{IsEntryOf, IsNextStep, IsStep, IsStepOfSome};
 
 use byteorder::{ByteOrder, LittleEndian};
 use memory::Memory;
@@ -39,17 +39,17 @@ pub(crate) fn root_step<D, E, M: Levels>(core: &Core<D, E, M>, pid: Pid, page: u
     }
 }
 
-/// What the next table says on the way to a page, one level lower; `None` exactly where the way ends with this step: at the lowest level, or
-/// where the entry is no pointer.
+/// What the next table says on the way to a page, one level lower, in the tree of whichever process has this step; `None` exactly where the way
+/// ends with it: at the lowest level, or where the entry is no pointer.
 pub(crate) fn next_step<D, E, M: Levels>(
     core: &Core<D, E, M>,
-    pid: Pid,
     page: u64,
     step: Step,
 ) -> Option<Step>
     requires fit { IsFit (picture_of core.now) }
-    requires step { IsStep (picture_of core.now) pid page step }
-    ensures some { IfSome result (λ next. IsStep (picture_of core.now) pid page next × (next.level + 1 ≡ step.level)) }
+    requires step { IsStepOfSome (picture_of core.now) page step }
+    ensures some { IfSome result (IsStepOfSome (picture_of core.now) page) }
+    ensures next { IfSome result (IsNextStep (picture_of core.now) page step) }
     ensures pointer { IfSome result (λ next. is_pointer step.entry.0 ≡ true) }
     ensures none { IfNone result (0 < step.level → is_pointer step.entry.0 ≡ false) }
 {

@@ -12,7 +12,7 @@ use Rattle.residency.specs.Parts.{IsFit}
 use Rattle.fault.specs.Changes.{KeepsSpaces}
 use Rattle.fault.specs.WaysLinked.{MakesWhole}
 use Rattle.fault.proofs.WaySteps.{takes_none, takes_then, takes_done, takes_stall}
-use Rattle.lifecycle.specs.Steps.{HasCopy, HasTables}
+use Rattle.lifecycle.specs.Steps.{HasCopy, HasTablesForCopies}
 use Rattle.lifecycle.specs.TablesForCopies.{IsForking, LinksForCopies}
 use Rattle.lifecycle.proofs.Linked.{copy_stays, lacks_before, links_one, links_then}
 
@@ -45,10 +45,10 @@ module _ {M : Type 0} {m : Levels.Ghosts M} {D E : Type 0} (h : Ghosts E) where
     lacks = (page, copy_stays (picture_of a) (picture_of b) parent page fit.granting done.pages copy, done.wanted);
   }
 
-  idle_then : (a b c : Core D E M m) (parent child : ℕ) → (HasTables (picture_of a) parent child → b ≡ a) → (HasTables (picture_of b) parent child → c ≡ b) → HasTables (picture_of a) parent child → c ≡ a
+  idle_then : (a b c : Core D E M m) (parent child : ℕ) → (HasTablesForCopies (picture_of a) parent child → b ≡ a) → (HasTablesForCopies (picture_of b) parent child → c ≡ b) → HasTablesForCopies (picture_of a) parent child → c ≡ a
   idle_then a b c parent child first second has =
       let same = first has in
-      let P : Core D E M m → Type 0 = λ x. HasTables (picture_of x) parent child in
+      let P : Core D E M m → Type 0 = λ x. HasTablesForCopies (picture_of x) parent child in
       second (subst P (sym same) has) ∙ same
 
   -- one step after another

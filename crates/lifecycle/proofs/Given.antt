@@ -19,7 +19,7 @@ use Rattle.residency.proofs.Seats.{cases_seat, counted_filled, off-none}
 use Rattle.residency.proofs.Setting.{other_views, set_held}
 use Rattle.residency.proofs.Start.{seat-none}
 use Rattle.residency.proofs.TableSteps.{sets_page, rooted_set}
-use Rattle.fault.proofs.Forms.{seat_own}
+use Rattle.residency.proofs.SeatForms.{seat_own}
 use Rattle.fault.proofs.Steps.{tables_same, tables_then, room_then}
 use Rattle.ranges.proofs.ClearedPages.{but_memory, but_then}
 use Rattle.lifecycle.specs.Shares.{lowered_entry, given_entry, Withdraws, RaisesSeat, SharesRow}

@@ -8,6 +8,7 @@ pub mod Lowered
 pub mod Live
 pub mod Sharers
 pub mod SharedRows
+pub mod ShareSteps
 pub mod SharedPage
 pub mod Passed
 pub mod CopySteps

@@ -12,9 +12,10 @@ use Rattle.residency.specs.Calls.{KeepsPages}
 use Rattle.residency.specs.Ages.{GivesForTables}
 use Rattle.residency.proofs.Start.{seat-none}
 use Rattle.page_tables.proofs.Ends.{way_forth}
-use Rattle.fault.specs.Changes.{IsWhole, IsTableOnWay, KeepsTables, LinksTables}
+use Rattle.fault.specs.Changes.{IsTableOnWay, KeepsTables, LinksTables}
+use Rattle.residency.specs.Ways.{IsWhole}
 use Rattle.ranges.proofs.Gaps.{missing_same}
-use Rattle.lifecycle.specs.Steps.{HasCopy, HasTables, HasTablesFrom, LacksTableForCopy, LinksCopies}
+use Rattle.lifecycle.specs.Steps.{HasCopy, HasTablesForCopies, HasTablesFrom, LacksTableForCopy, LinksCopies}
 use Rattle.lifecycle.proofs.Copies.{copied_mapped, unmapped_none}
 
 pub on_err : {T E : Type 0} (result : Result T E) (X : Type 0) → X → OnErr result X
@@ -90,7 +91,7 @@ pub unmapped_wants : {mode : ℕ} (c : Picture mode) (parent child low high : �
 unmapped_wants c parent child low high granting none page from below copy = absurd (copy.1 (unmapped_none c parent page granting copy.0 (none page from below)))
 
 -- nor do those past the last mapped one
-pub all_rows : {mode : ℕ} (c : Picture mode) (parent child end : ℕ) → IsGranting c → ((page : ℕ) → end ≤ page → c.at parent page ≡ None) → HasTablesFrom c parent child 0 end → HasTables c parent child
+pub all_rows : {mode : ℕ} (c : Picture mode) (parent child end : ℕ) → IsGranting c → ((page : ℕ) → end ≤ page → c.at parent page ≡ None) → HasTablesFrom c parent child 0 end → HasTablesForCopies c parent child
 all_rows c parent child end granting none has page copy = elim (cases_lt page end) [
   | inl below ↦ has page (omega arith) below copy
   | inr past ↦ absurd (copy.1 (unmapped_none c parent page granting copy.0 (none page past)))

@@ -15,7 +15,7 @@ use Rattle.residency.proofs.Granting.{entry_for-same}
 use Rattle.residency.proofs.Moves.{behind_kept}
 use Rattle.residency.proofs.Setting.{fit_set, set_views, set_held}
 use Rattle.residency.proofs.TableSteps.{sets_page, rooted_set}
-use Rattle.fault.proofs.Forms.{seat_own}
+use Rattle.residency.proofs.SeatForms.{seat_own}
 use Rattle.fault.proofs.Steps.{tables_same}
 use Rattle.lifecycle.specs.Shares.{IsTableFor, Weakens, Withdraws, lowered_entry}
 use Rattle.lifecycle.proofs.Given.{set_counts}

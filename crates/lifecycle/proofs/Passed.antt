@@ -1,17 +1,13 @@
 -- Places of a table that are passed over.
 use Rattle.vm_types.specs.Limits.{top_level}
-use Rattle.std.proofs.Common.{◌≡◌, ◌≢◌, ℕ, inr, true, Some, ◌+◌, ◌*◌, ◌/◌, ◌%◌, ◌<◌, ◌≤◌, sym, ap, ◌∙◌, subst, arith}
+use Rattle.std.proofs.Common.{◌≡◌, ℕ, true, Some, ◌+◌, ◌*◌, ◌/◌, ◌%◌, ◌<◌, ◌≤◌, sym, ◌∙◌, subst, arith}
 use Rattle.page_tables.specs.Places.{IsTableOf}
-use Rattle.page_tables.specs.Tree.{IsPage, page_entry}
-use Rattle.residency.specs.Seats.{seat}
+use Rattle.page_tables.specs.Tree.{page_entry}
 use Rattle.residency.specs.Picture.{Picture, entry, is_live}
-use Rattle.residency.specs.Parts.{IsFit}
 use Rattle.residency.proofs.Entries.{entry-of}
-use Rattle.residency.proofs.Start.{seat-none}
 use Rattle.ranges.proofs.BetweenEntries.{place_at, row_at}
-use Rattle.lifecycle.specs.Shares.{IsTableFor, SharesRow}
+use Rattle.lifecycle.specs.Shares.{IsTableFor}
 use Rattle.lifecycle.proofs.Live.{live_root}
-use Rattle.lifecycle.proofs.SharedRows.{shares_none, shares_then}
 
 pub same_table : (start page stop : ℕ) → start ≤ page → page < stop → stop ≤ (start / 512 + 1) * 512 → page / 512 ≡ start / 512
 same_table start page stop from below end = omega arith
@@ -25,17 +21,6 @@ none_passed {mode = mode} c pid r start stop n low high root place one_table lea
     let T : ℕ → Type 0 = λ x. IsTableOf c.frames (top_level mode) r x n in
     let row = same_table start p stop (omega (arith, least, from)) (omega (arith, below, most)) one_table in
     entry-of c pid r p root ∙ passed r p (subst T (sym row) place) from below
-
--- so they are shared with those before them
-pub shares_passed : {mode : ℕ} (a b : Picture mode) (parent child low mid high : ℕ) → IsFit a → parent ≢ child → low ≤ mid → mid ≤ high
-    → ((p : ℕ) → a.at child p ≡ a.at parent p) → ((p : ℕ) → IsPage (top_level mode) p → low ≤ p → entry a child p ≡ 0)
-    → ((p : ℕ) → mid ≤ p → p < high → entry b parent p ≡ 0) → SharesRow a b parent child low mid → SharesRow a b parent child low high
-shares_passed a b parent child low mid high fit apart le le' same bare passed one =
-    let at = one.beside.at in
-    shares_then a b b parent child low mid high fit apart le le' one
-    (shares_none b parent child mid high (λ p. at child p ∙ same p ∙ sym (at parent p))
-    (λ p h from below. one.others child p h (inr (inr from)) ∙ bare p h (omega (arith, le, from)))
-    (λ p h from below. ap seat (passed p from below) ∙ seat-none))
 
 -- the table of a row is that of each of its pages
 pub in_row : {mode : ℕ} (c : Picture mode) (pid n first index : ℕ) → first % 512 ≡ 0 → index < 512 → IsTableFor c pid (first / 512) n → IsTableFor c pid ((first + index) / 512) n

@@ -29,7 +29,7 @@ use Rattle.residency.proofs.Putting.{with_slots}
 use Rattle.residency.proofs.Rooted.{rooted_same, rooted_frames}
 use Rattle.residency.proofs.Seats.{counted_shared}
 use Rattle.residency.proofs.Setting.{each_view, view_seated, held_same}
-use Rattle.fault.proofs.Forms.{seat_own}
+use Rattle.residency.proofs.SeatForms.{seat_own}
 use Rattle.fault.proofs.Steps.{same_with, tables_same}
 use Rattle.lifecycle.specs.Shares.{IsUnwritten, RaisesSeat}
 
@@ -149,7 +149,7 @@ module _ {mode : ℕ} (old : Picture mode) (n : ℕ) (fit : IsFit old) (own : ro
   }
 
 -- a slot
-module _ {mode : ℕ} (old : Picture mode) (k : ℕ) (fit : IsFit old) (own : IsOwned old (InSlot k)) (t : SlotTable) (shares : Slots.Shares old.slots t k) where
+module _ {mode : ℕ} (old : Picture mode) (k : ℕ) (fit : IsFit old) (own : IsOwned old (InSlot k)) (t : SlotTable) (shares : Slots.SharesSlot old.slots t k) where
   abbrev now : Picture mode
   now = record old { slots = t }
 

@@ -1,88 +1,106 @@
 -- The steps on one page, whose entry of the parent names a seat, together.
+use Rattle.vm_types.specs.declared.mode.Levels as Levels
 use Rattle.vm_types.specs.Limits.{top_level}
-use Rattle.std.proofs.Common.{◌≡◌, ◌≢◌, ℕ, inl, ◌/◌, ◌+◌, true, Some, None, refl, sym, ap, ◌∙◌, arith}
+use Rattle.vm_types.proofs.Modes.{user_pages_fit}
+use Rattle.std.proofs.Common.{◌≡◌, ℕ, inl, ◌/◌, ◌%◌, ◌+◌, ◌<◌, Some, refl, sym, ap, ◌∙◌, arith}
 use Rattle.frames.specs.FrameTable.{FrameTable}
 use Rattle.page_tables.specs.Change.{SetsEntry}
+use Rattle.page_tables.specs.Entry.{number_of}
 use Rattle.page_tables.specs.Places.{IsTableOf}
 use Rattle.page_tables.specs.Tree.{IsPage, IsForest, IsRoot, IsTable}
+use Rattle.page_tables.specs.declared.forms.Entry.{Entry}
+use Rattle.residency.specs.declared.kernel.Core.{Core}
 use Rattle.residency.specs.Seats.{Seat, seat}
-use Rattle.residency.specs.Picture.{Picture, entry, is_live}
+use Rattle.residency.specs.Picture.{Picture, picture_of, entry}
 use Rattle.residency.specs.Parts.{IsFit, IsFitBut}
 use Rattle.residency.proofs.Start.{seat-none}
+use Rattle.ranges.proofs.BetweenEntries.{place_at}
 use Rattle.ranges.proofs.ClearedPages.{same_beside}
-use Rattle.lifecycle.specs.Shares.{IsTableFor, MayShare, RaisesSeat, SharesRow, Withdraws}
+use Rattle.lifecycle.specs.Shares.{IsTableFor, MayShare, RaisesSeat, SharesRow}
+use Rattle.lifecycle.specs.ChildShares.{AddsShare, AwaitsShares, HoldsEntries, WithdrawsWrite}
 use Rattle.lifecycle.proofs.Given.{fit_shared, shares_one}
 use Rattle.lifecycle.proofs.Live.{live_root, some_of}
 use Rattle.lifecycle.proofs.Lowered.{places_set}
+use Rattle.lifecycle.proofs.Passed.{in_row}
 use Rattle.lifecycle.proofs.Sharers.{may_share, unwritten_all}
 
--- the seat of the parent's page may have one more share, for the child
-pub may_give : {mode : ℕ} (old low : Picture mode) (parent child page e : ℕ) (y : Seat) → IsFit low → IsPage (top_level mode) page → parent ≢ child → is_live old child ≡ true → entry old child page ≡ 0
-    → Withdraws old low parent page e → seat e ≡ Some y → MayShare low y
-may_give old low parent child page e y fit h apart live bare withdraws is =
-    let lives = live_root (old.root child) live in
-    let number = fit.rooted.numbers child lives.0 (withdraws.sets.beside.root child ∙ lives.1) in
-    let source = withdraws.sets.changed in
-    let named : seat (entry low parent page) ≡ Some y = ap seat source ∙ is in
-    let none : entry low child page ≡ 0 = withdraws.sets.others child page h (inl (λ same. apart (sym same))) ∙ bare in
-    record {
-      owned = fit.counted.1.named parent page y h named;
-      few = may_share low parent page child y fit h named (omega (arith, number.0)) number.1 (ap seat none ∙ seat-none);
-      unwritten = unwritten_all low parent page e y fit h source is withdraws.unwritten;
-    }
+module _ {M : Type 0} {m : Levels.Ghosts M} {D E : Type 0} (was low : Core D E M m) (parent child first index to : ℕ) (after : Entry) (below : index < 512)
+    (awaits : AwaitsShares (picture_of was) parent child (first + index) (first + index + 1)) (holds : HoldsEntries (picture_of was) child first (index + 1) to)
+    (withdraws : WithdrawsWrite was low parent (first + index) after) where
+  h : IsPage (top_level m.mode) (first + index)
+  h = omega (arith, holds.user, user_pages_fit m.mode)
 
-module _ {mode : ℕ} (old low mid : Picture mode) (parent child page e to : ℕ) (h : IsPage (top_level mode) page) (apart : parent ≢ child) (live : is_live old child ≡ true) (bare : entry old child page ≡ 0)
-    (alike : old.at child page ≡ old.at parent page) (place : IsTableFor old child (page / 512) to) (withdraws : Withdraws old low parent page e)
-    (places : (q row n : ℕ) → IsTableFor old q row n → IsTableFor low q row n) (some : seat e ≢ None)
-    (fits : (y : Seat) → seat e ≡ Some y → IsFitBut mid y 1 0) (raises : (y : Seat) → seat e ≡ Some y → RaisesSeat low mid y) where
-  shared : (y : Seat) × (seat e ≡ Some y)
-  shared = some_of (seat e) some
+  bare : entry (picture_of was) child (first + index) ≡ 0
+  bare = awaits.bare (first + index) h (omega arith) (omega arith)
 
-  fit : IsFitBut mid shared.0 1 0
-  fit = fits shared.0 shared.1
+  lives : (r : ℕ) × ((picture_of was).root child ≡ Some r)
+  lives = live_root ((picture_of was).root child) awaits.child_lives
 
-  raised : RaisesSeat low mid shared.0
-  raised = raises shared.0 shared.1
+  root_low : (picture_of low).root child ≡ Some lives.0
+  root_low = withdraws.withdrawn.sets.beside.root child ∙ lives.1
 
-  lives : (r : ℕ) × (old.root child ≡ Some r)
-  lives = live_root (old.root child) live
+  -- the seat of the parent's page may have one more share, for the child
+  pub may_give : (y : Seat) → seat (number_of after) ≡ Some y → MayShare (picture_of low) y
+  may_give y is =
+      let number = withdraws.fit.rooted.numbers child lives.0 root_low in
+      let source = withdraws.withdrawn.sets.changed in
+      let named : seat (entry (picture_of low) parent (first + index)) ≡ Some y = ap seat source ∙ is in
+      let none : entry (picture_of low) child (first + index) ≡ 0 = withdraws.withdrawn.sets.others child (first + index) h (inl (λ same. awaits.apart (sym same))) ∙ bare in
+      record {
+        owned = withdraws.fit.counted.1.named parent (first + index) y h named;
+        few = may_share (picture_of low) parent (first + index) child y withdraws.fit h named (omega (arith, number.0)) number.1 (ap seat none ∙ seat-none);
+        unwritten = unwritten_all (picture_of low) parent (first + index) (number_of after) y withdraws.fit h source is withdraws.withdrawn.unwritten;
+      }
 
-  root_low : low.root child ≡ Some lives.0
-  root_low = withdraws.sets.beside.root child ∙ lives.1
+  module _ (mid : Core D E M m) (adds : AddsShare low mid (number_of after)) where
+    shared : (y : Seat) × (seat (number_of after) ≡ Some y)
+    shared = some_of (seat (number_of after)) withdraws.own
 
-  root : mid.root child ≡ Some lives.0
-  root = raised.beside.root child ∙ root_low
+    fit : IsFitBut (picture_of mid) shared.0 1 0
+    fit = adds.fit shared.0 shared.1
 
-  place_mid : IsTableOf mid.frames (top_level mode) lives.0 (page / 512) to
-  place_mid = raised.rows child lives.0 (page / 512) to root_low (places child (page / 512) to place lives.0 root_low)
+    raised : RaisesSeat (picture_of low) (picture_of mid) shared.0
+    raised = adds.raises shared.0 shared.1
 
-  pub forest_raised : IsForest mid.frames
-  forest_raised = fit.rooted.forest
+    root : (picture_of mid).root child ≡ Some lives.0
+    root = raised.beside.root child ∙ root_low
 
-  pub table_raised : IsTable mid.frames to
-  table_raised = place_mid.table
+    place : IsTableFor (picture_of was) child ((first + index) / 512) to
+    place = in_row (picture_of was) child to first index holds.begins below holds.place
 
-  pub place_raised : (r : ℕ) × IsRoot (top_level mode) mid.frames r × IsTableOf mid.frames (top_level mode) r (page / 512) to
-  place_raised = (lives.0, fit.rooted.roots child lives.0 root, place_mid)
+    place_mid : IsTableOf mid.frames (top_level m.mode) lives.0 ((first + index) / 512) to
+    place_mid = raised.rows child lives.0 ((first + index) / 512) to root_low (withdraws.places child ((first + index) / 512) to place lives.0 root_low)
 
-  -- the child's entry is set
-  module _ (t : FrameTable) (set : (r : ℕ) → IsRoot (top_level mode) mid.frames r → IsTableOf mid.frames (top_level mode) r (page / 512) to → SetsEntry mid.frames t (top_level mode) r page e) where
-    abbrev new : Picture mode
-    new = record mid { frames = t }
+    pub forest_raised : IsForest mid.frames
+    forest_raised = fit.rooted.forest
 
-    sets : SetsEntry mid.frames new.frames (top_level mode) lives.0 page e
-    sets = set lives.0 (fit.rooted.roots child lives.0 root) place_mid
+    pub table_raised : IsTable mid.frames to
+    table_raised = place_mid.table
 
-    pub fit_page : IsFit new
-    fit_page = fit_shared old low mid new parent child lives.0 page e shared.0 fit h apart withdraws shared.1 raised bare alike root sets (same_beside mid t)
+    pub place_raised : (r p : ℕ) × IsRoot (top_level m.mode) mid.frames r × IsPage (top_level m.mode) p × IsTableOf mid.frames (top_level m.mode) r (p / 512) to × (p % 512 ≡ index)
+    place_raised = (lives.0, first + index, fit.rooted.roots child lives.0 root, h, place_mid, place_at first index holds.begins below)
 
-    pub shares_page : SharesRow old new parent child page (page + 1)
-    shares_page = shares_one old low mid new parent child lives.0 page e shared.0 fit h apart withdraws shared.1 raised bare alike root sets (same_beside mid t)
+    -- the child's entry is set
+    module _ (t : FrameTable) (set : (r p : ℕ) → IsRoot (top_level m.mode) mid.frames r → IsPage (top_level m.mode) p → IsTableOf mid.frames (top_level m.mode) r (p / 512) to → p % 512 ≡ index
+        → SetsEntry mid.frames t (top_level m.mode) r p (number_of after)) where
+      abbrev pub new : Picture m.mode
+      new = record (picture_of mid) { frames = t }
 
-    raised_place : (q row n : ℕ) → IsTableFor low q row n → IsTableFor mid q row n
-    raised_place q row n at r is = (
-        let was : low.root q ≡ Some r = sym (raised.beside.root q) ∙ is in
-        raised.rows q r row n was (at r was))
+      sets : SetsEntry mid.frames t (top_level m.mode) lives.0 (first + index) (number_of after)
+      sets = set lives.0 (first + index) (fit.rooted.roots child lives.0 root) h place_mid (place_at first index holds.begins below)
 
-    pub places_page : (q row n : ℕ) → IsTableFor old q row n → IsTableFor new q row n
-    places_page q row n at = places_set mid new 0 lives.0 page e fit.rooted (λ q. refl) sets q row n (raised_place q row n (places q row n at))
+      pub fit_page : IsFit new
+      fit_page = fit_shared (picture_of was) (picture_of low) (picture_of mid) new parent child lives.0 (first + index) (number_of after) shared.0 fit h awaits.apart withdraws.withdrawn shared.1 raised bare
+          (awaits.same (first + index)) root sets (same_beside (picture_of mid) t)
+
+      pub shares_page : SharesRow (picture_of was) new parent child (first + index) (first + index + 1)
+      shares_page = shares_one (picture_of was) (picture_of low) (picture_of mid) new parent child lives.0 (first + index) (number_of after) shared.0 fit h awaits.apart withdraws.withdrawn shared.1 raised bare
+          (awaits.same (first + index)) root sets (same_beside (picture_of mid) t)
+
+      raised_place : (q row n : ℕ) → IsTableFor (picture_of low) q row n → IsTableFor (picture_of mid) q row n
+      raised_place q row n at r is = (
+          let before : (picture_of low).root q ≡ Some r = sym (raised.beside.root q) ∙ is in
+          raised.rows q r row n before (at r before))
+
+      pub places_page : (q row n : ℕ) → IsTableFor (picture_of was) q row n → IsTableFor new q row n
+      places_page q row n at = places_set (picture_of mid) new 0 lives.0 (first + index) (number_of after) fit.rooted (λ q. refl) sets q row n (raised_place q row n (withdraws.places q row n at))

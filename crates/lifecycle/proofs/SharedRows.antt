@@ -7,16 +7,15 @@ use Rattle.page_tables.specs.Tree.{IsPage}
 use Rattle.swap.specs.Slots.{IsInUse}
 use Rattle.residency.specs.Seats.{Seat, InSlot, seat}
 use Rattle.residency.specs.Picture.{Picture, entry, bytes_in}
-use Rattle.residency.specs.Parts.{IsFit, IsGranting}
+use Rattle.residency.specs.Parts.{IsFit}
 use Rattle.residency.proofs.Start.{seat-none}
 use Rattle.fault.proofs.Forms.{none_common, none_here}
 use Rattle.fault.proofs.Steps.{tables_same, tables_then, room_then}
-use Rattle.fault.specs.Changes.{IsWhole}
+use Rattle.residency.specs.Ways.{IsWhole}
 use Rattle.ranges.proofs.ClearedPages.{but_then}
 use Rattle.ranges.proofs.Returning.{same_but-refl}
-use Rattle.lifecycle.specs.Steps.{HasTables}
+use Rattle.lifecycle.specs.Steps.{HasTablesForCopies}
 use Rattle.lifecycle.specs.Shares.{lowered_entry, given_entry, SharesRow}
-use Rattle.lifecycle.proofs.Copies.{unmapped_none}
 use Rattle.lifecycle.proofs.Given.{view_alike}
 use Rattle.lifecycle.proofs.Linked.{whole_kept, row_whole}
 use Rattle.lifecycle.proofs.Weaker.{seat_lowered}
@@ -48,12 +47,6 @@ shares_none c parent child low high same bare none = record {
   pointers = λ n i m p. p;
   bytes = λ k used. refl;
 }
-
--- pages that aren't mapped
-pub shares_unmapped : {mode : ℕ} (c : Picture mode) (parent child low high : ℕ) → IsGranting c → ((p : ℕ) → c.at child p ≡ c.at parent p) → ((p : ℕ) → IsPage (top_level mode) p → low ≤ p → entry c child p ≡ 0)
-    → ((p : ℕ) → low ≤ p → p < high → c.at parent p ≡ None) → SharesRow c c parent child low high
-shares_unmapped c parent child low high granting same bare none =
-    shares_none c parent child low high same (λ p h least under. bare p h least) (λ p h least under. unmapped_none c parent p granting h (none p least under))
 
 one_page : {mode : ℕ} (c : Picture mode) (pid p q : ℕ) (y : Seat) → IsFit c → IsPage (top_level mode) p → IsPage (top_level mode) q → seat (entry c pid p) ≡ Some y → seat (entry c pid q) ≡ Some y → p ≡ q
 one_page c pid p q y fit hp hq here there = sym (fit.counted.1.noted pid p y hp here) ∙ fit.counted.1.noted pid q y hq there
@@ -121,7 +114,7 @@ module _ {mode : ℕ} (a b c : Picture mode) (parent child low mid high : ℕ) (
 
 -- the child still has its tables
 pub tables_shared : {mode : ℕ} (a b : Picture mode) (parent child low high : ℕ) → parent ≢ child → SharesRow a b parent child low high → ((p : ℕ) → IsPage (top_level mode) p → seat (entry b parent p) ≡ seat (entry a parent p))
-    → HasTables a parent child → HasTables b parent child
+    → HasTablesForCopies a parent child → HasTablesForCopies b parent child
 tables_shared a b parent child low high apart shares same has p copy =
     whole_kept a b child p shares.beside.root shares.tables (has p (copy.0, λ none. copy.1 (same p copy.0 ∙ none)))
 
@@ -140,7 +133,7 @@ none_or_some None = inl refl
 none_or_some (Some x) = inr (λ none. (let bad : Some x ≡ None = none in (cc)))
 
 -- where the child has no table for the pages of one table, the parent has no copy of them
-pub none_of_row : {mode : ℕ} (c : Picture mode) (parent child start p : ℕ) → HasTables c parent child → (IsWhole c child start → ⊥) → p / 512 ≡ start / 512 → IsPage (top_level mode) p → seat (entry c parent p) ≡ None
+pub none_of_row : {mode : ℕ} (c : Picture mode) (parent child start p : ℕ) → HasTablesForCopies c parent child → (IsWhole c child start → ⊥) → p / 512 ≡ start / 512 → IsPage (top_level mode) p → seat (entry c parent p) ≡ None
 none_of_row c parent child start p has missing same h = elim (none_or_some (seat (entry c parent p))) [
   | inl none ↦ none
   | inr some ↦ absurd (missing (row_whole c child p start same (has p (h, some))))

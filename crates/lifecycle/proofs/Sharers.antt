@@ -13,7 +13,7 @@ use Rattle.residency.proofs.Counts.{count-sole}
 use Rattle.residency.proofs.Evicted.{seat_number}
 use Rattle.residency.proofs.Seats.{off-none, seat-same}
 use Rattle.residency.proofs.Start.{entry-dead, seat-none}
-use Rattle.fault.proofs.Forms.{seat_own}
+use Rattle.residency.proofs.SeatForms.{seat_own}
 use Rattle.lifecycle.proofs.Given.{some_seat}
 use Rattle.lifecycle.specs.Shares.{IsUnwritten}
 use Rattle.lifecycle.proofs.Weaker.{leaf_own}

@@ -1,6 +1,6 @@
 -- What a process that comes takes of memory: its tables, and what was given up for them.
 use Rattle.vm_types.specs.Limits.{user_end, top_level}
-use Rattle.std.proofs.Common.{◌≡◌, ◌≢◌, ℕ, suc, inl, inr, ◌⊎◌, ◌^◌, true, false, ◌&&◌, Some, None, refl, sym, ap, ◌∙◌, subst, arith}
+use Rattle.std.proofs.Common.{◌≡◌, ◌≢◌, ℕ, suc, inl, inr, ◌⊎◌, true, false, ◌&&◌, Some, None, refl, sym, ap, ◌∙◌, subst, arith}
 use Rattle.std.proofs.lemmas.Bool.{cases_eq, cases_Bool, false≢true}
 use Rattle.vm_types.specs.declared.object.PageKey.{PageKey}
 use Rattle.frames.specs.FrameTable.{FrameTable, IsFull}
@@ -13,7 +13,7 @@ use Rattle.residency.specs.Ages.{Ages, Same, Cleared, Left, IsGiven, GivesForTab
 use Rattle.residency.proofs.Aging.{ages_map, gives_then}
 use Rattle.residency.proofs.Start.{seat-none}
 use Rattle.fault.specs.Changes.{IsTableOnWay}
-use Rattle.fault.proofs.Forms.{seat_own, seat_common}
+use Rattle.residency.proofs.SeatForms.{seat_own, seat_common}
 use Rattle.lifecycle.specs.Steps.{HasCopy, LinksCopies}
 use Rattle.lifecycle.specs.Shares.{SharesRow}
 use Rattle.lifecycle.specs.Changes.{TakesRoot, MapsAlike, ForksEntries, TakesTables}

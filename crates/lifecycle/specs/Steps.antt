@@ -5,7 +5,8 @@ use Rattle.page_tables.specs.Tree.{IsPage, IsTable}
 use Rattle.residency.specs.Seats.{seat}
 use Rattle.residency.specs.Picture.{Picture, entry}
 use Rattle.residency.specs.Parts.{IsMapped}
-use Rattle.fault.specs.Changes.{IsWhole, IsTableOnWay}
+use Rattle.fault.specs.Changes.{IsTableOnWay}
+use Rattle.residency.specs.Ways.{IsWhole}
 
 -- the process has a copy of its own of a page, in a frame or in a slot
 module _ {mode : ℕ} where
@@ -14,8 +15,8 @@ module _ {mode : ℕ} where
 
 -- no table is missing for the child on the way to a page of which the parent has a copy of its own
 module _ {mode : ℕ} where
-  abbrev pub HasTables : Picture mode → ℕ → ℕ → Type 0
-  HasTables c parent child = (page : ℕ) → HasCopy c parent page → IsWhole c child page
+  abbrev pub HasTablesForCopies : Picture mode → ℕ → ℕ → Type 0
+  HasTablesForCopies c parent child = (page : ℕ) → HasCopy c parent page → IsWhole c child page
 
 -- the same, of the pages from one up to, not including, another
 module _ {mode : ℕ} where
@@ -32,6 +33,11 @@ module _ {mode : ℕ} where
   abbrev pub LinksCopies : Picture mode → Picture mode → ℕ → ℕ → Type 0
   LinksCopies old new parent child = (n : ℕ) → IsTable new.frames n
       → IsTable old.frames n ⊎ ((page : ℕ) × HasCopy old parent page × IsTableOnWay new child page n)
+
+-- A step goes on at a later place, or at the end.
+pub record AdvancesTo (from end next : ℕ) : Type 0 where
+  pub further : from < next
+  pub within : next ≤ end
 
 -- every page from one up to, not including, another is mapped
 module _ {mode : ℕ} where

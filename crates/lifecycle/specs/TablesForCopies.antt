@@ -1,6 +1,6 @@
 -- What the first pass of a fork needs, and what it comes to: the tables that the child wants.
 use Rattle.vm_types.specs.declared.mode.Levels as Levels
-use Rattle.std.specs.Prelude.{◌≡◌, ◌<◌, ◌≤◌, ◌/◌, ℕ, true, Result, OnOk, OnErr}
+use Rattle.std.specs.Prelude.{◌≡◌, ◌/◌, ℕ, true, Result, OnOk, OnErr}
 use Rattle.vm_types.specs.Limits.{table_entries}
 use Rattle.vm_types.specs.declared.refusal.Stall.{Stall}
 use Rattle.disk_model.specs.declared.sector_disk.SectorDisk.{Ghosts}
@@ -9,7 +9,7 @@ use Rattle.residency.specs.Picture.{Picture, picture_of, is_live}
 use Rattle.residency.specs.Parts.{IsFit}
 use Rattle.fault.specs.WaysLinked.{TakesForTables}
 use Rattle.ranges.specs.Steps.{IsStepEnd}
-use Rattle.lifecycle.specs.Steps.{HasCopy, HasTables, LacksTableForCopy, LinksCopies}
+use Rattle.lifecycle.specs.Steps.{AdvancesTo, HasCopy, HasTablesForCopies, LacksTableForCopy, LinksCopies}
 
 module _ {mode : ℕ} where
   -- In a fork, memory is fit, and both processes live, with the same pages.
@@ -21,8 +21,8 @@ module _ {mode : ℕ} where
 
   -- A step of the pass goes on at a page past the first, which is that of the next table, or the end.
   pub record StepsOn (c : Picture mode) (pid page end next : ℕ) : Type 0 where
-    pub further : page < next
-    pub within : next ≤ end
+    pub advances : AdvancesTo page end next
+    pub open advances use *
     pub end_of_step : IsStepEnd c pid page end next
 
   -- The page is one of the same table, and its process has a copy of it.
@@ -38,7 +38,7 @@ module _ {M : Type 0} {m : Levels.Ghosts M} {D E : Type 0} (h : Ghosts E) where
     pub open takes use *
     pub tables : LinksCopies (picture_of old) (picture_of new) parent child
     -- where none is missing nothing is done,
-    pub idle : HasTables (picture_of old) parent child → new ≡ old
+    pub idle : HasTablesForCopies (picture_of old) parent child → new ≡ old
     -- and where it stalls, one was missing, and still is.
     pub wanted : OnErr result (LacksTableForCopy (picture_of old) parent child)
     pub lacks : OnErr result (LacksTableForCopy (picture_of new) parent child)
@@ -49,4 +49,4 @@ module _ {M : Type 0} {m : Levels.Ghosts M} {D E : Type 0} (h : Ghosts E) where
     pub links : LinksForCopies old new parent child result
     pub open links use *
     -- then none is missing for a copy of its parent's.
-    pub linked : OnOk result (HasTables (picture_of new) parent child)
+    pub linked : OnOk result (HasTablesForCopies (picture_of new) parent child)

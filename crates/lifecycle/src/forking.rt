@@ -1,17 +1,13 @@
 //! A process that is a copy of another.
-ghost use Rattle.std.specs.Prelude.{◌≡◌, ◌≢◌, ℕ, true, false, None, OnOk, OnErr, IfErr};
-ghost use Rattle.disk_model.specs.Moments.{Nothing};
+ghost use Rattle.std.specs.Prelude.{◌≡◌, ◌≢◌, ℕ, true, false, None};
 ghost use Rattle.swap.specs.Slots.{IsReady};
 ghost use Rattle.residency.specs.Picture.{picture_of, is_live, view};
 ghost use Rattle.residency.specs.Parts.{IsFit};
-ghost use Rattle.residency.specs.Calls.{KeepsBesideProcesses, UsesDevice};
-ghost use Rattle.residency.specs.Stalls.{HasStallCause};
-ghost use Rattle.residency.specs.Shows.{KeepsFiles};
-ghost use Rattle.fault.specs.Changes.{KeepsRoom, KeepsTables};
-ghost use Rattle.fault.specs.Asking.{AsksSlots};
-ghost use Rattle.lifecycle.specs.Changes.{AddsProcess, KeepsProcesses, KeepsBareOfOthers, MapsAlike, SharesCopies, ForksEntries, TakesTables, StallsToFork, TakesNoCopy, IsShortToFork};
+ghost use Rattle.lifecycle.specs.Lifetimes.{CopiesMap, ForksProcess};
 
-use crate::{exit, link_copies, share_pages, spawn};
+use crate::linking::link_copies;
+use crate::sharing::share_pages;
+use crate::{exit, spawn};
 use disk_model::SectorDisk;
 use residency::Core;
 use vm_types::{Levels, Pid, Stall};
@@ -34,24 +30,7 @@ pub fn fork<D, E: SectorDisk, M: Levels>(
     requires swap { IsReady E.SectorDisk core.old.swap }
     requires live { is_live (picture_of core.old) parent ≡ true }
     requires dead { is_live (picture_of core.old) child ≡ false }
-    ensures fit { IsFit (picture_of core.new) }
-    ensures swap { IsReady E.SectorDisk core.new.swap }
-    ensures ok { OnOk result (AddsProcess (picture_of core.old) (picture_of core.new) child (view (picture_of core.old) parent)) }
-    ensures err { OnErr result (KeepsProcesses (picture_of core.old) (picture_of core.new)) }
-    ensures shared { OnOk result (SharesCopies (picture_of core.new) parent child) }
-    ensures entries { OnOk result (ForksEntries (picture_of core.old) (picture_of core.new) parent child) }
-    ensures takes { OnOk result (TakesTables (picture_of core.old) (picture_of core.new) parent child) }
-    ensures stalls { IfErr result (StallsToFork (picture_of core.old) (picture_of core.new) parent child) }
-    ensures asks { AsksSlots E.SectorDisk core.old core.new None Nothing }
-    ensures bare { KeepsBareOfOthers (picture_of core.old) (picture_of core.new) child }
-    ensures tables { OnOk result (KeepsTables (picture_of core.old) (picture_of core.new)) }
-    ensures files { KeepsFiles (picture_of core.old) (picture_of core.new) }
-    ensures room { KeepsRoom (picture_of core.old) (picture_of core.new) }
-    ensures store { core.new.store ≡ core.old.store }
-    ensures device { UsesDevice E.SectorDisk core.old.swap.pages.disk core.new.swap.pages.disk }
-    ensures copies { TakesNoCopy core.old.frames core.new.frames }
-    ensures short { IfErr result (IsShortToFork (picture_of core.old) parent) }
-    ensures cause { HasStallCause E.SectorDisk core.old core.new result }
+    ensures { ForksProcess E.SectorDisk core.old core.new parent child result }
 {
     spawn(core, child)?;
     map_alike(core, parent, child);
@@ -70,9 +49,7 @@ fn map_alike<D, E, M: Levels>(core: &mut Core<D, E, M>, parent: Pid, child: Pid)
     requires child { is_live (picture_of core.old) child ≡ true }
     requires apart { parent ≢ child }
     requires empty { (page : ℕ) → view (picture_of core.old) child page ≡ None }
-    ensures fit { IsFit (picture_of core.new) }
-    ensures mapped { MapsAlike (picture_of core.old) (picture_of core.new) parent child }
-    ensures rest { KeepsBesideProcesses core.old core.new }
+    ensures { CopiesMap core.old core.new parent child }
 {
     let regions = core.regions(parent).copied();
     core.remap(child, &regions);

@@ -1,8 +1,8 @@
-//! The two passes of a fork over memory that evicts (fork(2), copy-on-write). The first makes the tables that the child wants, and
-//! gives frames up where none is free; the second, which asks for no frame, gives the child a share of each page of which the
-//! parent has a copy of its own, in a frame or in a slot.
-//!
 //! Processes over memory that evicts: their numbers, and how they come, are copied and go.
+//!
+//! A fork has two passes (fork(2), copy-on-write). The first makes the tables that the child wants, and gives frames up where none
+//! is free; the second, which asks for no frame, gives the child a share of each page of which the parent has a copy of its own, in
+//! a frame or in a slot.
 #![tactic(auto)]
 
 mod endings;
@@ -15,7 +15,5 @@ mod withdrawing;
 
 pub use endings::exit;
 pub use forking::fork;
-pub use linking::link_copies;
 pub use numbers::free_pid;
-pub use sharing::share_pages;
 pub use starts::spawn;

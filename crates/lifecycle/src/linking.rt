@@ -5,15 +5,15 @@ ghost use Rattle.swap.specs.Slots.{IsReady};
 ghost use Rattle.residency.specs.Seats.{seat};
 ghost use Rattle.residency.specs.Picture.{picture_of, entry, is_live};
 ghost use Rattle.residency.specs.Parts.{IsFit};
-ghost use Rattle.fault.specs.Changes.{IsWhole};
+ghost use Rattle.residency.specs.Ways.{IsWhole};
 ghost use Rattle.lifecycle.specs.TablesForCopies.{IsFirstCopy, IsForking, LinksForCopies, MakesReady, StepsOn};
 ghost use Rattle.lifecycle.specs.Steps.{HasTablesFrom, IsMappedRow};
 
 use disk_model::SectorDisk;
-use fault::{link_tables, root_of};
+use fault::link_tables;
 use memory::{number_in, table_of};
 use ranges::{gap_end, next_entry, table_end, user_page};
-use residency::Core;
+use residency::{Core, root_of};
 use sv39_walk::{Pte, TABLE_ENTRIES};
 use vm_types::{Levels, Pid, Stall, USER_START, Vpn};
 
@@ -25,16 +25,13 @@ use vm_types::{Levels, Pid, Stall, USER_START, Vpn};
 ///
 /// # Errors
 /// As `obtain`, where a table is missing and no frame is to be had for it. The tables that were made stay.
-pub fn link_copies<D, E: SectorDisk, M: Levels>(
+pub(crate) fn link_copies<D, E: SectorDisk, M: Levels>(
     core: &mut Core<D, E, M>,
     parent: Pid,
     child: Pid,
 ) -> Result<(), Stall>
-    requires fit { IsFit (picture_of core.old) }
     requires swap { IsReady E.SectorDisk core.old.swap }
-    requires parent { is_live (picture_of core.old) parent ≡ true }
-    requires child { is_live (picture_of core.old) child ≡ true }
-    requires same { (page : ℕ) → (picture_of core.old).at child page ≡ (picture_of core.old).at parent page }
+    requires forking { IsForking (picture_of core.old) parent child }
     ensures { MakesReady E.SectorDisk core.old core.new parent child result }
 {
     let mut page = USER_START;

@@ -1,22 +1,21 @@
 //! The parent's own pages, given to the child.
-ghost use Rattle.std.specs.Prelude.{◌≡◌, ◌≢◌, ℕ, ◌+◌, ◌*◌, ◌/◌, ◌%◌, ◌<◌, ◌≤◌, true, None, IfSome, IfNone};
-ghost use Rattle.vm_types.specs.Limits.{top_level, user_start, user_end, table_entries};
-ghost use Rattle.page_tables.specs.Tree.{IsPage};
+ghost use Rattle.std.specs.Prelude.{◌≡◌, ◌≢◌, ℕ, ◌+◌, ◌*◌, ◌/◌, ◌<◌, ◌≤◌, true, None, IfSome, IfNone};
+ghost use Rattle.vm_types.specs.Limits.{user_start, user_end, table_entries};
 ghost use Rattle.residency.specs.Seats.{seat};
 ghost use Rattle.residency.specs.Picture.{picture_of, entry, is_live};
 ghost use Rattle.residency.specs.Parts.{IsFit};
-ghost use Rattle.fault.specs.Changes.{IsWhole};
-ghost use Rattle.ranges.specs.Steps.{KeepsBesideMemory, IsStepEnd};
-ghost use Rattle.lifecycle.specs.Steps.{HasTables, IsMappedRow};
-ghost use Rattle.lifecycle.specs.Shares.{SharesRow, IsTableFor};
+ghost use Rattle.residency.specs.Ways.{IsWhole};
+ghost use Rattle.lifecycle.specs.Steps.{AdvancesTo, HasTablesForCopies, IsMappedRow};
+ghost use Rattle.lifecycle.specs.Shares.{IsTableFor};
+ghost use Rattle.lifecycle.specs.TablesForCopies.{StepsOn};
+ghost use Rattle.lifecycle.specs.ChildShares.{AwaitsShares, GivesShares, HoldsEntries};
 
 use crate::linking::is_own;
 use crate::withdrawing::{Tables, add_share, withdraw_write};
-use fault::root_of;
 use memory::{number_in, set_in, table_of};
 use page_tables::decode;
 use ranges::{gap_end, next_place, table_end, table_start, user_page};
-use residency::Core;
+use residency::{Core, root_of};
 use sv39_walk::Pte;
 use vm_types::{FrameNo, Levels, Pid, USER_START, Vpn};
 
@@ -25,18 +24,10 @@ use vm_types::{FrameNo, Levels, Pid, USER_START, Vpn};
 /// and gets a copy (fork(2), copy-on-write). `link_copies` has made the tables that the child wants, so no frame is asked for
 /// and no device, and the call can't fail. It costs the parent's runs and, of these, the tables that they meet and the pages
 /// there that have an entry, and nothing for what isn't mapped.
-pub fn share_pages<D, E, M: Levels>(core: &mut Core<D, E, M>, parent: Pid, child: Pid)
-    requires fit { IsFit (picture_of core.old) }
-    requires parent { is_live (picture_of core.old) parent ≡ true }
-    requires child { is_live (picture_of core.old) child ≡ true }
-    requires apart { parent ≢ child }
-    requires same { (page : ℕ) → (picture_of core.old).at child page ≡ (picture_of core.old).at parent page }
-    requires bare { (page : ℕ) → IsPage (top_level M.mode) page → entry (picture_of core.old) child page ≡ 0 }
-    requires linked { HasTables (picture_of core.old) parent child }
-    ensures fit { IsFit (picture_of core.new) }
-    ensures shares { SharesRow (picture_of core.old) (picture_of core.new) parent child user_start (user_end M.mode) }
-    ensures rest { KeepsBesideMemory core.old core.new }
-    ensures refused { core.new.refused ≡ core.old.refused }
+pub(crate) fn share_pages<D, E, M: Levels>(core: &mut Core<D, E, M>, parent: Pid, child: Pid)
+    requires awaits { AwaitsShares (picture_of core.old) parent child user_start (user_end M.mode) }
+    requires linked { HasTablesForCopies (picture_of core.old) parent child }
+    ensures { GivesShares core.old core.new parent child user_start (user_end M.mode) }
 {
     let mut page = USER_START;
     while let Some(run) = core.regions(parent).next_run(page) {
@@ -54,20 +45,12 @@ fn share_run<D, E, M: Levels>(
     start: Vpn,
     end: u64,
 )
-    requires fit { IsFit (picture_of core.old) }
-    requires parent { is_live (picture_of core.old) parent ≡ true }
-    requires child { is_live (picture_of core.old) child ≡ true }
-    requires apart { parent ≢ child }
-    requires same { (p : ℕ) → (picture_of core.old).at child p ≡ (picture_of core.old).at parent p }
-    requires bare { (p : ℕ) → IsPage (top_level M.mode) p → start ≤ p → entry (picture_of core.old) child p ≡ 0 }
-    requires linked { HasTables (picture_of core.old) parent child }
+    requires awaits { AwaitsShares (picture_of core.old) parent child start end }
+    requires linked { HasTablesForCopies (picture_of core.old) parent child }
     requires mapped { IsMappedRow (picture_of core.old) parent start end }
     requires some { start < end }
     requires high { end ≤ user_end M.mode }
-    ensures fit { IsFit (picture_of core.new) }
-    ensures shares { SharesRow (picture_of core.old) (picture_of core.new) parent child start end }
-    ensures rest { KeepsBesideMemory core.old core.new }
-    ensures refused { core.new.refused ≡ core.old.refused }
+    ensures { GivesShares core.old core.new parent child start end }
 {
     let mut page = start.get();
     while page < end {
@@ -84,22 +67,12 @@ fn share_next<D, E, M: Levels>(
     page: Vpn,
     end: u64,
 ) -> u64
-    requires fit { IsFit (picture_of core.old) }
-    requires parent { is_live (picture_of core.old) parent ≡ true }
-    requires child { is_live (picture_of core.old) child ≡ true }
-    requires apart { parent ≢ child }
-    requires same { (p : ℕ) → (picture_of core.old).at child p ≡ (picture_of core.old).at parent p }
-    requires bare { (p : ℕ) → IsPage (top_level M.mode) p → page ≤ p → entry (picture_of core.old) child p ≡ 0 }
-    requires linked { HasTables (picture_of core.old) parent child }
+    requires awaits { AwaitsShares (picture_of core.old) parent child page end }
+    requires linked { HasTablesForCopies (picture_of core.old) parent child }
     requires some { page < end }
     requires high { end ≤ user_end M.mode }
-    ensures fit { IsFit (picture_of core.new) }
-    ensures further { page < result }
-    ensures within { result ≤ end }
-    ensures next { IsStepEnd (picture_of core.old) parent page end result }
-    ensures shares { SharesRow (picture_of core.old) (picture_of core.new) parent child page result }
-    ensures rest { KeepsBesideMemory core.old core.new }
-    ensures refused { core.new.refused ≡ core.old.refused }
+    ensures next { StepsOn (picture_of core.old) parent page end result }
+    ensures gives { GivesShares core.old core.new parent child page result }
 {
     if let Some(gap) = gap_end(core, parent, page) {
         return end.min(gap);
@@ -119,21 +92,13 @@ fn share_table<D, E, M: Levels>(
     start: Vpn,
     stop: u64,
 )
-    requires fit { IsFit (picture_of core.old) }
-    requires parent { is_live (picture_of core.old) parent ≡ true }
-    requires child { is_live (picture_of core.old) child ≡ true }
-    requires apart { parent ≢ child }
-    requires same { (p : ℕ) → (picture_of core.old).at child p ≡ (picture_of core.old).at parent p }
-    requires bare { (p : ℕ) → IsPage (top_level M.mode) p → start ≤ p → entry (picture_of core.old) child p ≡ 0 }
-    requires linked { HasTables (picture_of core.old) parent child }
+    requires awaits { AwaitsShares (picture_of core.old) parent child start stop }
+    requires linked { HasTablesForCopies (picture_of core.old) parent child }
     requires whole { IsWhole (picture_of core.old) parent start }
     requires some { start < stop }
     requires one_table { stop ≤ (start / table_entries + 1) * table_entries }
     requires high { stop ≤ user_end M.mode }
-    ensures fit { IsFit (picture_of core.new) }
-    ensures shares { SharesRow (picture_of core.old) (picture_of core.new) parent child start stop }
-    ensures rest { KeepsBesideMemory core.old core.new }
-    ensures refused { core.new.refused ≡ core.old.refused }
+    ensures { GivesShares core.old core.new parent child start stop }
 {
     let Some(from) = table_for(core, parent, start) else {
         unreachable!();
@@ -142,11 +107,17 @@ fn share_table<D, E, M: Levels>(
         return;
     };
     let first = table_start(start);
-    let tables = Tables { from, to, first };
+    let tables = Tables {
+        parent,
+        child,
+        from,
+        to,
+        first,
+    };
     let end = (stop - first) as usize;
     let mut index = (start.get() - first) as usize;
     while index < end {
-        index = share_at(core, parent, child, tables, index, end);
+        index = share_at(core, &tables, index, end);
     }
 }
 
@@ -168,35 +139,21 @@ fn table_for<D, E, M: Levels>(core: &Core<D, E, M>, pid: Pid, page: Vpn) -> Opti
 /// the next place, and before `end`, at which the parent may have an entry.
 fn share_at<D, E, M: Levels>(
     core: &mut Core<D, E, M>,
-    parent: Pid,
-    child: Pid,
-    tables: Tables,
+    tables: &Tables,
     index: usize,
     end: usize,
 ) -> usize
-    requires fit { IsFit (picture_of core.old) }
-    requires parent { is_live (picture_of core.old) parent ≡ true }
-    requires child { is_live (picture_of core.old) child ≡ true }
-    requires apart { parent ≢ child }
-    requires same { (p : ℕ) → (picture_of core.old).at child p ≡ (picture_of core.old).at parent p }
-    requires bare { (p : ℕ) → IsPage (top_level M.mode) p → tables.first + index ≤ p → entry (picture_of core.old) child p ≡ 0 }
-    requires from { IsTableFor (picture_of core.old) parent (tables.first / table_entries) tables.from.0 }
-    requires to { IsTableFor (picture_of core.old) child (tables.first / table_entries) tables.to.0 }
-    requires begins { tables.first % table_entries ≡ 0 }
+    requires awaits { AwaitsShares (picture_of core.old) tables.now.parent tables.now.child (tables.now.first + index) (tables.now.first + end) }
+    requires from { HoldsEntries (picture_of core.old) tables.now.parent tables.now.first end tables.now.from.0 }
+    requires to { HoldsEntries (picture_of core.old) tables.now.child tables.now.first end tables.now.to.0 }
     requires below { index < end }
     requires in_table { end ≤ table_entries }
-    requires high { tables.first + end ≤ user_end M.mode }
-    ensures fit { IsFit (picture_of core.new) }
-    ensures further { index < result }
-    ensures within { result ≤ end }
-    ensures shares { SharesRow (picture_of core.old) (picture_of core.new) parent child (tables.first + index) (tables.first + result) }
-    ensures places { (q row n : ℕ) → IsTableFor (picture_of core.old) q row n → IsTableFor (picture_of core.new) q row n }
-    ensures rest { KeepsBesideMemory core.old core.new }
-    ensures refused { core.new.refused ≡ core.old.refused }
+    ensures next { AdvancesTo index end result }
+    ensures gives { GivesShares core.old core.new tables.now.parent tables.now.child (tables.now.first + index) (tables.now.first + result) }
 {
     let number = number_in(&core.frames, tables.from, index);
     if is_own(number) {
-        share_page(core, parent, child, tables, index, number);
+        share_page(core, tables, index, number);
         return index + 1;
     }
     if number.to_u64() == 0 {
@@ -207,35 +164,17 @@ fn share_at<D, E, M: Levels>(
 
 /// Gives the child a share of the page at place `index` of the two tables, of which the parent has a copy of its own, and whose
 /// entry of the parent's is that number.
-fn share_page<D, E, M: Levels>(
-    core: &mut Core<D, E, M>,
-    parent: Pid,
-    child: Pid,
-    tables: Tables,
-    index: usize,
-    number: Pte,
-)
-    requires fit { IsFit (picture_of core.old) }
-    requires parent { is_live (picture_of core.old) parent ≡ true }
-    requires child { is_live (picture_of core.old) child ≡ true }
-    requires apart { parent ≢ child }
-    requires same { (p : ℕ) → (picture_of core.old).at child p ≡ (picture_of core.old).at parent p }
-    requires bare { entry (picture_of core.old) child (tables.first + index) ≡ 0 }
-    requires from { IsTableFor (picture_of core.old) parent (tables.first / table_entries) tables.from.0 }
-    requires to { IsTableFor (picture_of core.old) child (tables.first / table_entries) tables.to.0 }
-    requires begins { tables.first % table_entries ≡ 0 }
+fn share_page<D, E, M: Levels>(core: &mut Core<D, E, M>, tables: &Tables, index: usize, number: Pte)
+    requires awaits { AwaitsShares (picture_of core.old) tables.now.parent tables.now.child (tables.now.first + index) (tables.now.first + index + 1) }
+    requires from { HoldsEntries (picture_of core.old) tables.now.parent tables.now.first (index + 1) tables.now.from.0 }
+    requires to { HoldsEntries (picture_of core.old) tables.now.child tables.now.first (index + 1) tables.now.to.0 }
     requires in_table { index < table_entries }
-    requires user { tables.first + index < user_end M.mode }
-    requires number { number.0 ≡ entry (picture_of core.old) parent (tables.first + index) }
+    requires number { number.0 ≡ entry (picture_of core.old) tables.now.parent (tables.now.first + index) }
     requires own { seat number.0 ≢ None }
-    ensures fit { IsFit (picture_of core.new) }
-    ensures shares { SharesRow (picture_of core.old) (picture_of core.new) parent child (tables.first + index) (tables.first + index + 1) }
-    ensures places { (q row n : ℕ) → IsTableFor (picture_of core.old) q row n → IsTableFor (picture_of core.new) q row n }
-    ensures rest { KeepsBesideMemory core.old core.new }
-    ensures refused { core.new.refused ≡ core.old.refused }
+    ensures { GivesShares core.old core.new tables.now.parent tables.now.child (tables.now.first + index) (tables.now.first + index + 1) }
 {
     let before = decode(number);
-    let shared = withdraw_write(core, parent, tables, index, before);
+    let shared = withdraw_write(core, tables, index, before);
     add_share(core, shared);
     set_in(&mut core.frames, tables.to, index, shared);
 }

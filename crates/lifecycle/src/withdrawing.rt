@@ -1,22 +1,24 @@
 //! A page of a process's own that is about to be shared.
-ghost use Rattle.std.specs.Prelude.{◌≡◌, ◌≢◌, ℕ, ◌+◌, ◌/◌, ◌%◌, ◌<◌, ◌^◌, true, Some, None, IfSome, IfNone};
-ghost use Rattle.vm_types.specs.Limits.{table_entries, user_end};
+ghost use Rattle.std.specs.Prelude.{◌≡◌, ◌+◌, ◌<◌, ◌^◌, true, Some, IfSome, IfNone};
+ghost use Rattle.vm_types.specs.Limits.{table_entries};
 ghost use Rattle.sv39_walk.specs.Entry.{is_valid, frame_of};
 ghost use Rattle.page_tables.specs.Entry.{number_of, IsEntry};
 ghost use Rattle.residency.specs.Seats.{Seat, seat, is_private};
 ghost use Rattle.residency.specs.Picture.{picture_of, entry, is_live};
-ghost use Rattle.residency.specs.Parts.{IsFit, IsFitBut};
-ghost use Rattle.ranges.specs.Steps.{KeepsBesideMemory};
-ghost use Rattle.lifecycle.specs.Shares.{IsTableFor, MayShare, RaisesSeat, Weakens, Withdraws};
+ghost use Rattle.residency.specs.Parts.{IsFit};
+ghost use Rattle.lifecycle.specs.ChildShares.{AddsShare, HoldsEntries, IsOwnEntry, WithdrawsWrite};
+ghost use Rattle.lifecycle.specs.Shares.{MayShare, Weakens};
 
 use memory::set_in;
 use page_tables::Entry;
 use residency::Core;
 use vm_types::{FrameNo, Levels, Pid};
 
-/// The tables of a parent and of its child in which the entries of the same 512 pages stand; the first of these pages.
+/// A parent and its child, the tables in which the entries of the same 512 pages of theirs stand, and the first of these pages.
 #[derive(Clone, Copy)]
 pub(crate) struct Tables {
+    pub(crate) parent: Pid,
+    pub(crate) child: Pid,
     pub(crate) from: FrameNo,
     pub(crate) to: FrameNo,
     pub(crate) first: u64,
@@ -27,27 +29,17 @@ pub(crate) struct Tables {
 /// parent's table, and is `before` so far; it is written only where it has W.
 pub(crate) fn withdraw_write<D, E, M: Levels>(
     core: &mut Core<D, E, M>,
-    parent: Pid,
-    tables: Tables,
+    tables: &Tables,
     index: usize,
     before: Entry,
 ) -> Entry
     requires fit { IsFit (picture_of core.old) }
-    requires live { is_live (picture_of core.old) parent ≡ true }
-    requires place { IsTableFor (picture_of core.old) parent (tables.first / table_entries) tables.from.0 }
-    requires begins { tables.first % table_entries ≡ 0 }
+    requires live { is_live (picture_of core.old) tables.now.parent ≡ true }
+    requires place { HoldsEntries (picture_of core.old) tables.now.parent tables.now.first (index + 1) tables.now.from.0 }
     requires in_table { index < table_entries }
-    requires form { IsEntry before }
-    requires before { number_of before ≡ entry (picture_of core.old) parent (tables.first + index) }
-    requires own { seat (entry (picture_of core.old) parent (tables.first + index)) ≢ None }
-    requires user { tables.first + index < user_end M.mode }
-    ensures fit { IsFit (picture_of core.new) }
-    ensures form { IsEntry result }
-    ensures own { seat (number_of result) ≢ None }
-    ensures withdrawn { Withdraws (picture_of core.old) (picture_of core.new) parent (tables.first + index) (number_of result) }
-    ensures places { (q row n : ℕ) → IsTableFor (picture_of core.old) q row n → IsTableFor (picture_of core.new) q row n }
-    ensures rest { KeepsBesideMemory core.old core.new }
-    ensures refused { core.new.refused ≡ core.old.refused }
+    requires before { number_of before ≡ entry (picture_of core.old) tables.now.parent (tables.now.first + index) }
+    requires own { IsOwnEntry before }
+    ensures { WithdrawsWrite core.old core.new tables.now.parent (tables.now.first + index) result }
 {
     let Some(after) = without_write(before) else {
         return before;
@@ -76,13 +68,9 @@ fn without_write(before: Entry) -> Option<Entry>
 /// One more shares the frame or the slot that an entry names as its process's own. No entry names it for that share yet.
 pub(crate) fn add_share<D, E, M: Levels>(core: &mut Core<D, E, M>, shared: Entry)
     requires fit { IsFit (picture_of core.old) }
-    requires form { IsEntry shared }
-    requires some { seat (number_of shared) ≢ None }
+    requires own { IsOwnEntry shared }
     requires may { (y : Seat) → seat (number_of shared) ≡ Some y → MayShare (picture_of core.old) y }
-    ensures fit { (y : Seat) → seat (number_of shared) ≡ Some y → IsFitBut (picture_of core.new) y 1 0 }
-    ensures raises { (y : Seat) → seat (number_of shared) ≡ Some y → RaisesSeat (picture_of core.old) (picture_of core.new) y }
-    ensures rest { KeepsBesideMemory core.old core.new }
-    ensures refused { core.new.refused ≡ core.old.refused }
+    ensures { AddsShare core.old core.new (number_of shared) }
 {
     if let Entry::Swapped(slot) = shared {
         core.swap.share(slot);

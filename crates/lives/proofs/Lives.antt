@@ -12,7 +12,7 @@ use Rattle.vm_types.specs.State.{State}
 use Rattle.vm_types.specs.View.{Pages}
 use Rattle.machine.specs.Boot.{Boots}
 use Rattle.machine.specs.Chain.{Chain, Runs, after}
-use Rattle.mode_machine.specs.Machine.{StandsForSome}
+use Rattle.machine.specs.Engine.{StandsForSome}
 use Rattle.machine.specs.Machine.{store_of}
 use Rattle.machine.specs.declared.machine.Machine.{Machine}
 use Rattle.lives.specs.Lives.{Life, IsLeftBy, StopsEarly, StopsLater, Lives, LeftInLives, HoldsLives, RanSince}

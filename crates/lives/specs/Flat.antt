@@ -12,8 +12,8 @@ use Rattle.machine.specs.declared.machine.Machine.{Machine}
 
 module _ {D E : Type 0} (g : Ghosts D) (h : Ghosts E) where
   -- what came to pass between two machines: a device failed, or a request for a frame was refused
-  abbrev pub causes : Machine D E → Machine D E → Causes
-  causes old new = record {
+  abbrev pub machine_causes : Machine D E → Machine D E → Causes
+  machine_causes old new = record {
     store = g.failures (store_of old) < g.failures (store_of new);
     swap = h.failures (swap_of old) < h.failures (swap_of new);
     refused = refused_of new ≡ refused_of old + 1;
@@ -23,4 +23,4 @@ module _ {D E : Type 0} (g : Ghosts D) (h : Ghosts E) where
   abbrev pub causes_in : (old : Machine D E) (s : State) (commands : List Command) (replies : List Reply) (events : List Event) (new : Machine D E) (t : State)
       → Chain g h old s commands replies events new t → ℕ → Causes
   causes_in old s commands replies events new t chain k =
-      causes (after g h old s commands replies events new t chain k) (after g h old s commands replies events new t chain (suc k))
+      machine_causes (after g h old s commands replies events new t chain k) (after g h old s commands replies events new t chain (suc k))

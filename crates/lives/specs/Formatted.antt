@@ -6,7 +6,7 @@ use Rattle.sync_journal.specs.declared.store_journal.Journals.{Journals}
 use Rattle.file_store.specs.declared.sources.FileSource.{FileSource}
 use Rattle.file_store.specs.Format.{page_given, files_given, IsStoreOf}
 use Rattle.vm_types.specs.View.{Pages}
-use Rattle.mode_machine.specs.Machine.{StandsForSome}
+use Rattle.machine.specs.Engine.{StandsForSome}
 use Rattle.lives.specs.Lives.{Life, LeftInLives}
 
 module _ {R : Type 0} (remaining : R → Option (List ℕ)) where

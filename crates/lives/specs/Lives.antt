@@ -11,8 +11,8 @@ use Rattle.vm_types.specs.Files.{Files}
 use Rattle.vm_types.specs.Prefix.{Event, IsPrefixHolding}
 use Rattle.vm_types.specs.State.{State}
 use Rattle.vm_types.specs.View.{Pages}
-use Rattle.mode_machine.specs.declared.boot.BootFault.{BootFault}
-use Rattle.mode_machine.specs.declared.boot.BootFault.TheVariants.{BadLayout, BadJournal}
+use Rattle.machine.specs.declared.boot.BootFault.{BootFault}
+use Rattle.machine.specs.declared.boot.BootFault.TheVariants.{BadLayout, BadJournal}
 use Rattle.machine.specs.Boot.{Boots}
 use Rattle.machine.specs.Chain.{Runs, after}
 use Rattle.machine.specs.Machine.{store_of}

@@ -18,7 +18,7 @@ ghost use Rattle.vm_types.specs.Prefix.{Event, is_msync, is_done, after_event};
 ghost use Rattle.vm_types.specs.Run.{Run};
 ghost use Rattle.vm_types.specs.State.{State};
 ghost use Rattle.vm_types.specs.View.{Pages};
-ghost use Rattle.mode_machine.specs.Machine.{StandsForSome};
+ghost use Rattle.machine.specs.Engine.{StandsForSome};
 ghost use Rattle.machine.specs.Boot.{Boots};
 ghost use Rattle.machine.specs.Chain.{Chain};
 ghost use Rattle.machine.specs.Machine.{store_of, swap_of};

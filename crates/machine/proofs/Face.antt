@@ -11,10 +11,10 @@ use Rattle.vm_types.specs.declared.reply.Reply.TheVariants.{Refused, Stalled}
 use Rattle.vm_types.specs.Run.{Step}
 use Rattle.vm_types.specs.Stalls.{Causes}
 use Rattle.vm_types.specs.State.{State}
-use Rattle.mode_machine.specs.Machine.{MayStand, HoldsIn, StandsForSome}
+use Rattle.machine.specs.Engine.{MayStand, HoldsIn, StandsForSome}
 use Rattle.machine.specs.declared.machine.Machine.{Machine}
 use Rattle.machine.specs.declared.machine.Machine.TheVariants.{Sv39, Sv48}
-use Rattle.machine.specs.Machine.{store_of, swap_of, halted_of, past_of, refused_of, mode_of, bits_of, KeepsRoom, IsCaused, Shows, Meets, IsReadable}
+use Rattle.machine.specs.Machine.{store_of, swap_of, halted_of, past_of, refused_of, mode_of, bits_of, KeepsSizes, IsCausedBetween, Shows, Meets, IsReadable}
 
 module _ {D E : Type 0} (g : Ghosts D) (h : Ghosts E) where
   -- what came to pass between two machines
@@ -46,7 +46,7 @@ module _ {D E : Type 0} (g : Ghosts D) (h : Ghosts E) where
   pub record IsMet (old new : Machine D E) (s t : State) (command : Command) (reply : Reply) : Type 0 where
     pub step : Step (causes old new) s command reply t
     pub shows : Shows g h new t
-    pub room : KeepsRoom old new
+    pub room : KeepsSizes old new
     pub size : g.sector_count (store_of new) ≡ g.sector_count (store_of old)
     pub swap_size : h.sector_count (swap_of new) ≡ h.sector_count (swap_of old)
     pub kept : g.keeps_model (store_of new) → g.keeps_model (store_of old)
@@ -92,7 +92,7 @@ module _ {D E : Type 0} (g : Ghosts D) (h : Ghosts E) where
     pub stalled : reply ≡ Stalled StoreDevice → g.failures (store_of old) < g.failures (store_of new)
     pub swap_stalled : reply ≡ Stalled SwapDevice → h.failures (swap_of old) < h.failures (swap_of new)
 
-  pub cause_of : (old new : Machine D E) (reply : Reply) → IsCaused g h old new reply → HasCause old new reply
+  pub cause_of : (old new : Machine D E) (reply : Reply) → IsCausedBetween g h old new reply → HasCause old new reply
   cause_of (Sv39 old) (Sv39 new) reply is = record {
     later = is.later;
     swap_later = is.swap_later;

@@ -1,4 +1,12 @@
+pub mod Accesses
+pub mod Boots
+pub mod Causes
+pub mod Commits
 pub mod Counts
 pub mod Face
+pub mod Flat
+pub mod Outcomes
 pub mod Prefixes
 pub mod Runs
+pub mod Steps
+pub mod Tidied

@@ -12,7 +12,7 @@ use Rattle.vm_types.specs.Stalls.{Causes}
 use Rattle.vm_types.specs.State.{State, IsRunning}
 use Rattle.vm_types.specs.Step.{outcome, msync_outcome, ruling, takes, commits}
 use Rattle.vm_types.specs.View.{Pages}
-use Rattle.mode_machine.proofs.Steps.{outcome_keeps, commit_takes}
+use Rattle.machine.proofs.Steps.{outcome_keeps, commit_takes}
 use Rattle.machine.specs.Chain.{event}
 
 pub step_files : (causes : Causes) (s : State) (command : Command) (reply : Reply) (t : State) → Step causes s command reply t → t.files ≡ s.files

@@ -10,8 +10,8 @@ use Rattle.vm_types.specs.State.{State, IsRunning}
 use Rattle.vm_types.specs.Step.{ruling, takes}
 use Rattle.vm_types.specs.View.{Pages}
 use Rattle.machine.specs.Chain.{event, Caused, Chain, after, Runs}
-use Rattle.mode_machine.specs.Machine.{IsOneOf, stands_in, MayStand, HoldsIn, StandsForSome}
-use Rattle.machine.specs.Machine.{store_of, KeepsRoom, IsCaused, Shows, Meets}
+use Rattle.machine.specs.Engine.{IsOneOf, stands_in, MayStand, HoldsIn, StandsForSome}
+use Rattle.machine.specs.Machine.{store_of, KeepsSizes, IsCausedBetween, Shows, Meets}
 use Rattle.machine.specs.declared.machine.Machine.{Machine}
 use Rattle.machine.proofs.Face.{causes, shown, face}
 use Rattle.machine.proofs.Prefixes.{step_files, Failed, goes_on_or_fails, halted_stays, failed_event, prefix_here, prefix_more, prefix_from_start, prefix_during, failed_before, failed_after, halted_event}
@@ -20,17 +20,17 @@ use Rattle.machine.proofs.Prefixes.{step_files, Failed, goes_on_or_fails, halted
 pub some_more : (sectors : ℕ) (files : Files) (P Q : Pages → Type 0) (c : Image) → ((p : Pages) → P p → Q p) → StandsForSome sectors files P c → StandsForSome sectors files Q c
 some_more sectors files P Q c more h = (h.0, more h.0 h.1, h.2)
 
-pub room_none : {D E : Type 0} (m : Machine D E) → KeepsRoom m m
+pub room_none : {D E : Type 0} (m : Machine D E) → KeepsSizes m m
 room_none m = record { frames = refl; slots = refl; mode = refl }
 
-pub room_then : {D E : Type 0} (a b c : Machine D E) → KeepsRoom a b → KeepsRoom b c → KeepsRoom a c
+pub room_then : {D E : Type 0} (a b c : Machine D E) → KeepsSizes a b → KeepsSizes b c → KeepsSizes a c
 room_then a b c first second = record { frames = second.frames ∙ first.frames; slots = second.slots ∙ first.slots; mode = second.mode ∙ first.mode }
 
 module _ {D E : Type 0} (g : Ghosts D) (h : Ghosts E) where
   -- one reply more
-  pub caused_more : (old mid new : Machine D E) (replies : List Reply) (r : Reply) → Caused g h old replies mid → IsCaused g h mid new r
+  pub caused_more : (old mid new : Machine D E) (replies : List Reply) (r : Reply) → Caused g h old replies mid → IsCausedBetween g h mid new r
       → Caused g h old (replies ++ r ∷ []) new
-  caused_more old mid new [] r c is = (new, subst (λ (m : Machine D E). IsCaused g h m new r) c is, refl)
+  caused_more old mid new [] r c is = (new, subst (λ (m : Machine D E). IsCausedBetween g h m new r) c is, refl)
   caused_more old mid new (q ∷ qs) r c is = (c.0, c.1, caused_more c.0 mid new qs r c.2 is)
 
   -- commands carried out so far
@@ -51,8 +51,8 @@ module _ {D E : Type 0} (g : Ghosts D) (h : Ghosts E) where
 
   -- a chain keeps the numbers of frames and slots
   pub chain_room : (old : Machine D E) (s : State) (commands : List Command) (replies : List Reply) (events : List Event) (new : Machine D E) (t : State)
-      → Chain g h old s commands replies events new t → KeepsRoom old new
-  chain_room old s [] [] [] new t c = subst (λ (m : Machine D E). KeepsRoom old m) (sym c.0) (room_none old)
+      → Chain g h old s commands replies events new t → KeepsSizes old new
+  chain_room old s [] [] [] new t c = subst (λ (m : Machine D E). KeepsSizes old m) (sym c.0) (room_none old)
   chain_room old s (x ∷ xs) (r ∷ rs) (e ∷ es) new t c = room_then old c.0 new (face g h old c.0 s c.1 x r c.3).room (chain_room c.0 c.1 xs rs es new t c.4)
   chain_room old s [] [] (e ∷ es) new t c = absurd c
   chain_room old s [] (r ∷ rs) es new t c = absurd c

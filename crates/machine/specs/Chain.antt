@@ -6,9 +6,9 @@ use Rattle.vm_types.specs.declared.command.Command.{Command}
 use Rattle.vm_types.specs.declared.reply.Reply.{Reply}
 use Rattle.vm_types.specs.Prefix.{Event, IsPrefixHolding}
 use Rattle.vm_types.specs.State.{State, IsRunning}
-use Rattle.mode_machine.specs.Machine.{StandsForSome}
+use Rattle.machine.specs.Engine.{StandsForSome}
 use Rattle.machine.specs.declared.machine.Machine.{Machine}
-use Rattle.machine.specs.Machine.{store_of, KeepsRoom, IsCaused, Shows, Meets}
+use Rattle.machine.specs.Machine.{store_of, KeepsSizes, IsCausedBetween, Shows, Meets}
 
 -- a command and its reply, in the state before it
 abbrev pub event : State → Command → Reply → Event
@@ -19,7 +19,7 @@ module _ {D E : Type 0} (g : Ghosts D) (h : Ghosts E) where
   -- between the machine before it and that one.
   abbrev pub Caused : Machine D E → List Reply → Machine D E → Type 0
   Caused old [] new = new ≡ old
-  Caused old (reply ∷ replies) new = (mid : Machine D E) × IsCaused g h old mid reply × Caused mid replies new
+  Caused old (reply ∷ replies) new = (mid : Machine D E) × IsCausedBetween g h old mid reply × Caused mid replies new
 
   -- the machine goes from one state to another by these commands with these replies, each carried out
   abbrev pub Chain : Machine D E → State → List Command → List Reply → List Event → Machine D E → State → Type 0
@@ -58,5 +58,5 @@ module _ {D E : Type 0} (g : Ghosts D) (h : Ghosts E) where
     pub events : List Event
     pub chain : Chain old s commands replies events new last
     pub shows : Shows g h new last
-    pub room : KeepsRoom old new
+    pub room : KeepsSizes old new
     pub prefixes : IsRunning s → g.keeps_model (store_of new) → LeavesPrefixes old s commands replies events new last chain

@@ -5,7 +5,9 @@ use Rattle.vm_types.specs.declared.command.Command.{Command}
 use Rattle.vm_types.specs.declared.reply.Reply.{Reply}
 use Rattle.machine.specs.Chain.{Caused}
 use Rattle.machine.specs.Counts.{Counts}
-use Rattle.machine.specs.Machine.{store_of, swap_of, Accesses, IsCaused, KeepsIfDenied, KeepsRoom}
+use Rattle.machine.specs.Accesses.{Accesses}
+use Rattle.machine.specs.Engine.{KeepsIfDenied}
+use Rattle.machine.specs.Machine.{store_of, swap_of, InSameMode, IsCausedBetween, KeepsSizes}
 use Rattle.machine.specs.declared.machine.Machine.{Machine}
 
 module _ {D E : Type 0} (g : Ghosts D) (h : Ghosts E) where
@@ -16,16 +18,16 @@ module _ {D E : Type 0} (g : Ghosts D) (h : Ghosts E) where
     -- and so did swap,
     pub swap_kept : h.keeps_model (swap_of new) → h.keeps_model (swap_of old)
     -- and there are as many frames and slots as there were, and the mode is the same.
-    pub room : KeepsRoom old new
+    pub room : KeepsSizes old new
 
   -- Whatever the devices do, a command does as its reply tells:
   pub record DoesAsTold (old new : Machine D E) (command : Command) (reply : Reply) : Type 0 where
     -- what the reply names came to pass,
-    pub caused : IsCaused g h old new reply
+    pub caused : IsCausedBetween g h old new reply
     -- no more was asked of memory and the devices than the command asks for, and what it is to leave was left,
-    pub accesses : Accesses g h old new command reply
+    pub accesses : InSameMode (λ M levels before after. Accesses g h before.core after.core command reply) old new
     -- and where it was not carried out, memory and both devices are as they were.
-    pub denied : KeepsIfDenied old new command reply
+    pub denied : InSameMode (λ M levels before after. KeepsIfDenied before after command reply) old new
 
   -- Whatever the devices do, each of the commands in a row does as its reply tells:
   pub record DoesEachAsTold (old new : Machine D E) (replies : List Reply) : Type 0 where

@@ -1,5 +1,11 @@
+pub mod Accesses
 pub mod Boot
 pub mod Chain
 pub mod Commands
 pub mod Counts
+pub mod Engine
+pub mod EngineBoot
+pub mod EngineCommands
+pub mod Fault
 pub mod Machine
+pub mod Tidy

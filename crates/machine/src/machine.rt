@@ -2,15 +2,16 @@
 ghost use Rattle.std.specs.Prelude.{◌≡◌, IfOk, IfErr, length, is_some};
 ghost use Rattle.vm_types.specs.Replies.{told};
 ghost use Rattle.vm_types.specs.State.{State, IsRunning};
-ghost use Rattle.mode_machine.specs.Tidy.{IsTidy};
+ghost use Rattle.machine.specs.Tidy.{IsTidy};
 ghost use Rattle.machine.specs.Boot.{BootAccepts, BootLeaves, BootRefuses, Boots, StartsWith};
 ghost use Rattle.machine.specs.Chain.{Runs};
 ghost use Rattle.machine.specs.Commands.{DoesAsTold, DoesEachAsTold, KeepsModelsAndRoom};
 ghost use Rattle.machine.specs.Machine.{store_of, swap_of, halted_of, past_of, IsSoundMachine, IsReadable, Shows, Meets};
 
+use crate::boot::BootFault;
 use crate::config::Config;
+use crate::engine::Engine;
 use disk_model::SectorDisk;
-use mode_machine::{BootFault, ModeMachine, Sizes};
 use std::alloc::Global;
 use vm_types::{Answer, Command, History, Mode, Reply, Sv39, Sv48};
 
@@ -21,9 +22,9 @@ use vm_types::{Answer, Command, History, Mode, Reply, Sv39, Sv48};
 #[derive(Drop)]
 pub enum Machine<D, E> {
     /// Three levels of page tables.
-    Sv39(ModeMachine<D, E, Sv39>),
+    Sv39(Engine<D, E, Sv39>),
     /// Four levels of page tables.
-    Sv48(ModeMachine<D, E, Sv48>),
+    Sv48(Engine<D, E, Sv48>),
 }
 
 impl<D: SectorDisk, E: SectorDisk> Machine<D, E> {
@@ -32,8 +33,8 @@ impl<D: SectorDisk, E: SectorDisk> Machine<D, E> {
         ensures { result.now ≡ store_of self.now }
     {
         match self {
-            Machine::Sv39(machine) => machine.store(),
-            Machine::Sv48(machine) => machine.store(),
+            Machine::Sv39(engine) => engine.store(),
+            Machine::Sv48(engine) => engine.store(),
         }
     }
 
@@ -44,8 +45,8 @@ impl<D: SectorDisk, E: SectorDisk> Machine<D, E> {
         ensures { result ≡ store_of self }
     {
         match self {
-            Machine::Sv39(machine) => machine.into_store(),
-            Machine::Sv48(machine) => machine.into_store(),
+            Machine::Sv39(engine) => engine.into_store(),
+            Machine::Sv48(engine) => engine.into_store(),
         }
     }
 
@@ -55,8 +56,8 @@ impl<D: SectorDisk, E: SectorDisk> Machine<D, E> {
         ensures ends { (s : State) → Shows D.SectorDisk E.SectorDisk self.now s → result ≡ is_some s.ends }
     {
         match self {
-            Machine::Sv39(machine) => machine.is_halted(),
-            Machine::Sv48(machine) => machine.is_halted(),
+            Machine::Sv39(engine) => engine.is_halted(),
+            Machine::Sv48(engine) => engine.is_halted(),
         }
     }
 
@@ -71,8 +72,8 @@ impl<D: SectorDisk, E: SectorDisk> Machine<D, E> {
             → (t : State) × Meets D.SectorDisk E.SectorDisk self.old self.new s t command (told (past_of self.new) result) }
     {
         match self {
-            Machine::Sv39(machine) => machine.carry_out(command),
-            Machine::Sv48(machine) => machine.carry_out(command),
+            Machine::Sv39(engine) => engine.carry_out(command),
+            Machine::Sv48(engine) => engine.carry_out(command),
         }
     }
 
@@ -80,8 +81,8 @@ impl<D: SectorDisk, E: SectorDisk> Machine<D, E> {
     /// "Supervisor Memory-Management Fence Instruction"); it stays at its greatest value. No clause speaks of it.
     pub fn hits(&self) -> u64 {
         match self {
-            Machine::Sv39(machine) => machine.hits(),
-            Machine::Sv48(machine) => machine.hits(),
+            Machine::Sv39(engine) => engine.hits(),
+            Machine::Sv48(engine) => engine.hits(),
         }
     }
 
@@ -90,8 +91,8 @@ impl<D: SectorDisk, E: SectorDisk> Machine<D, E> {
         ensures { result ≡ past_of self.now }
     {
         match self {
-            Machine::Sv39(machine) => machine.history(),
-            Machine::Sv48(machine) => machine.history(),
+            Machine::Sv39(engine) => engine.history(),
+            Machine::Sv48(engine) => engine.history(),
         }
     }
 
@@ -112,8 +113,8 @@ impl<D: SectorDisk, E: SectorDisk> Machine<D, E> {
         ensures tidy { (s : State) → Shows D.SectorDisk E.SectorDisk self.new s → IsRunning s → IsTidy s }
     {
         match self {
-            Machine::Sv39(machine) => machine.step(command),
-            Machine::Sv48(machine) => machine.step(command),
+            Machine::Sv39(engine) => engine.step(command),
+            Machine::Sv48(engine) => engine.step(command),
         }
     }
 
@@ -156,17 +157,13 @@ impl<D: SectorDisk, E: SectorDisk + Drop> Machine<D, E> {
         ensures refuses { IfErr result (λ e. BootRefuses D.SectorDisk config (E.sector_count swap) store e.0 e.1) }
         ensures err_moments { IfErr result (λ e. BootLeaves D.SectorDisk store e.1) }
     {
-        let sizes = Sizes {
-            frames: config.frames,
-            slots: config.slots,
-        };
         match config.mode {
-            Mode::Sv39 => match ModeMachine::boot(alloc, sizes, store, swap) {
-                Ok(machine) => Ok(Machine::Sv39(machine)),
+            Mode::Sv39 => match Engine::boot(alloc, config, store, swap) {
+                Ok(engine) => Ok(Machine::Sv39(engine)),
                 Err(fault) => Err(fault),
             },
-            Mode::Sv48 => match ModeMachine::boot(alloc, sizes, store, swap) {
-                Ok(machine) => Ok(Machine::Sv48(machine)),
+            Mode::Sv48 => match Engine::boot(alloc, config, store, swap) {
+                Ok(engine) => Ok(Machine::Sv48(engine)),
                 Err(fault) => Err(fault),
             },
         }

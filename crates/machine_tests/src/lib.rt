@@ -1,8 +1,10 @@
-//! Tests of each call of a machine, over devices in memory.
+//! Tests of each call of a machine, and of the looks into one, over devices in memory.
 #![tactic(auto)]
 
 #[cfg(test)]
 mod example;
+#[cfg(test)]
+mod looks;
 #[cfg(test)]
 mod machines;
 #[cfg(test)]

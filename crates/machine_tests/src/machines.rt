@@ -39,14 +39,19 @@ pub(crate) fn image(alloc: Global, formatted: bool, failing: Option<u64>) -> Res
     Ok(left)
 }
 
-/// A machine of so many frames over that store.
-fn booted(alloc: Global, frames: u32, store: SimDisk) -> Result<Machine<SimDisk, SimDisk>, Fail>
+/// A machine of so many frames in a mode, over that store.
+pub(crate) fn booted(
+    alloc: Global,
+    frames: u32,
+    mode: Mode,
+    store: SimDisk,
+) -> Result<Machine<SimDisk, SimDisk>, Fail>
     ensures { IfOk result (λ m. IsSoundMachine ⟦<SimDisk as SectorDisk>⟧ ⟦<SimDisk as SectorDisk>⟧ m) }
 {
     let config = Config {
         frames,
         slots: 16,
-        mode: Mode::Sv39,
+        mode,
     };
     match Machine::boot(alloc, config, store, SimDisk::new(alloc, 128)?) {
         Ok(machine) => Ok(machine),
@@ -144,7 +149,7 @@ fn carry_out<D: SectorDisk, E: SectorDisk>(
 
 /// What a new process finds where the byte was stored, in a machine that starts on that store.
 fn find(rt: &impl Abort, alloc: Global, store: SimDisk, byte: u64) -> Result<(), Fail> {
-    let mut machine = booted(alloc, 8, store)?;
+    let mut machine = booted(alloc, 8, Mode::Sv39, store)?;
     let steps = [
         (Command::Spawn, first(rt).1),
         (MAP, MAPPED),
@@ -174,7 +179,7 @@ fn store_a_byte<D: SectorDisk, E: SectorDisk>(rt: &impl Abort, machine: &mut Mac
 /// What was synced stands in the next machine over the store, and what was only stored doesn't.
 #[test]
 fn commands_are_carried_out(rt: HostRuntime) -> Result<(), Fail> {
-    let mut machine = booted(rt.alloc(), 8, image(rt.alloc(), true, None)?)?;
+    let mut machine = booted(rt.alloc(), 8, Mode::Sv39, image(rt.alloc(), true, None)?)?;
     let at_boot = machine.store().syncs();
     store_a_byte(&rt, &mut machine);
     carry_out(&rt, &mut machine, &[(SYNC, Reply::Done)]);
@@ -194,7 +199,7 @@ fn commands_are_carried_out(rt: HostRuntime) -> Result<(), Fail> {
 
 /// Which call of the store's device is the first of an msync of a byte.
 fn first_of_msync<R: AllocGlobal + Abort>(rt: &R) -> Result<u64, Fail> {
-    let mut machine = booted(rt.alloc(), 8, image(rt.alloc(), true, None)?)?;
+    let mut machine = booted(rt.alloc(), 8, Mode::Sv39, image(rt.alloc(), true, None)?)?;
     store_a_byte(rt, &mut machine);
     Ok(machine.into_store().calls().saturating_add(1))
 }
@@ -204,7 +209,7 @@ fn first_of_msync<R: AllocGlobal + Abort>(rt: &R) -> Result<u64, Fail> {
 fn a_failed_msync_halts(rt: HostRuntime) -> Result<(), Fail> {
     let call = first_of_msync(&rt)?;
     let store = image(rt.alloc(), true, Some(call))?;
-    let mut machine = booted(rt.alloc(), 8, store)?;
+    let mut machine = booted(rt.alloc(), 8, Mode::Sv39, store)?;
     store_a_byte(&rt, &mut machine);
     let before = machine.is_halted();
     let steps = [
@@ -253,7 +258,7 @@ fn boots_are_refused(rt: HostRuntime) -> Result<(), Fail> {
 /// contract: this test refuses it.
 #[test]
 fn ten_loads_are_ten_hits(rt: HostRuntime) -> Result<(), Fail> {
-    let mut machine = booted(rt.alloc(), 64, image(rt.alloc(), true, None)?)?;
+    let mut machine = booted(rt.alloc(), 64, Mode::Sv39, image(rt.alloc(), true, None)?)?;
     let own = Command::Mmap {
         pid: 1,
         addr: 0,
@@ -277,7 +282,7 @@ fn ten_loads_are_ten_hits(rt: HostRuntime) -> Result<(), Fail> {
 
 #[test]
 fn a_fault_is_kept(rt: HostRuntime) -> Result<(), Fail> {
-    let mut machine = booted(rt.alloc(), 8, image(rt.alloc(), true, None)?)?;
+    let mut machine = booted(rt.alloc(), 8, Mode::Sv39, image(rt.alloc(), true, None)?)?;
     let (pid, spawned) = first(&rt);
     let steps = [(Command::Spawn, spawned), (LOAD, Reply::Faulted(UNMAPPED))];
     carry_out(&rt, &mut machine, &steps);

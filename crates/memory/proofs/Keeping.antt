@@ -19,7 +19,7 @@ use Rattle.vm_types.proofs.Modes.{sizes}
 use Rattle.page_tables.proofs.Keeping.{empty_not_linking, zeros_empty}
 use Rattle.page_tables.proofs.Setting.{entry_at-bytes}
 use Rattle.memory.specs.declared.buffer.TranslationBuffer.{TranslationBuffer}
-use Rattle.memory.specs.Lines.{line_at, place_of}
+use Rattle.memory.specs.Lines.{line_at, line_place}
 use Rattle.memory.specs.Kept.{IsLeafOf, LinesAreLeaves}
 use Rattle.memory.specs.Notes.{IsNumberOf}
 use Rattle.memory.proofs.Leaves.{as_leaf, as_number, is_page, root_table, is_entry, of_entry}
@@ -269,19 +269,19 @@ fewer_page b b' root q gone others r p e at = elim (cases_eq r root) [
 ]
 
 -- where that of one place is
-pub fewer_place : (b b' : TranslationBuffer) (place : ℕ) → ((r p : ℕ) → place_of p ≡ place → line_at b' r p ≡ None)
-    → ((r p : ℕ) → place_of p ≢ place → line_at b' r p ≡ line_at b r p) → (r p e : ℕ) → line_at b' r p ≡ Some e → line_at b r p ≡ Some e
-fewer_place b b' place gone others r p e at = elim (cases_eq (place_of p) place) [
+pub fewer_place : (b b' : TranslationBuffer) (place : ℕ) → ((r p : ℕ) → line_place p ≡ place → line_at b' r p ≡ None)
+    → ((r p : ℕ) → line_place p ≢ place → line_at b' r p ≡ line_at b r p) → (r p e : ℕ) → line_at b' r p ≡ Some e → line_at b r p ≡ Some e
+fewer_place b b' place gone others r p e at = elim (cases_eq (line_place p) place) [
   | inl same ↦ absurd (never b' r p e (gone r p same) at)
   | inr ne ↦ sym (others r p ne) ∙ at
 ]
 
 -- a leaf is kept
 pub kept_more : (mode : ℕ) (t : FrameTable) (b b' : TranslationBuffer) (root q leaf : ℕ) → IsLeafOf mode t root q leaf → line_at b' root q ≡ Some leaf
-    → ((r p : ℕ) → place_of p ≡ place_of q → (r ≢ root) ⊎ (p ≢ q) → line_at b' r p ≡ None)
-    → ((r p : ℕ) → place_of p ≢ place_of q → line_at b' r p ≡ line_at b r p) → LinesAreLeaves mode t b → LinesAreLeaves mode t b'
+    → ((r p : ℕ) → line_place p ≡ line_place q → (r ≢ root) ⊎ (p ≢ q) → line_at b' r p ≡ None)
+    → ((r p : ℕ) → line_place p ≢ line_place q → line_at b' r p ≡ line_at b r p) → LinesAreLeaves mode t b → LinesAreLeaves mode t b'
 kept_more mode t b b' root q leaf l now replaced others kept = record {
-  leaves = λ r p e at. elim (cases_eq (place_of p) (place_of q)) [
+  leaves = λ r p e at. elim (cases_eq (line_place p) (line_place q)) [
     | inl same ↦ (
         let gone : (r ≢ root) ⊎ (p ≢ q) → IsLeafOf mode t r p e = λ other. absurd (never b' r p e (replaced r p same other) at) in
         elim (cases_eq r root) [

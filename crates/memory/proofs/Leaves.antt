@@ -12,7 +12,7 @@ use Rattle.sv39_walk.proofs.Way.{last_of-zero, last_of-next}
 use Rattle.page_tables.specs.Tree.{IsTable, IsPage, Points, IsForest, IsRoot, Way, page_entry}
 use Rattle.vm_types.specs.declared.access.Access.{Access}
 use Rattle.memory.specs.declared.buffer.TranslationBuffer.{TranslationBuffer}
-use Rattle.memory.specs.Lines.{IsCoherent, IsLine, lets}
+use Rattle.memory.specs.Lines.{IsCoherent, IsLine, leaf_lets}
 use Rattle.memory.specs.Kept.{LinesAreLeaves, IsLeafOf}
 use Rattle.memory.specs.Notes.{IsNumberOf}
 use Rattle.memory.proofs.Numbers.{is_number, of_number}
@@ -106,5 +106,5 @@ first_of true b e = refl
 first_of false b e = e
 
 -- a leaf that lets an access go through is valid
-pub valid_of : (access : Access) (leaf : ℕ) → lets access leaf ≡ true → is_valid leaf ≡ true
+pub valid_of : (access : Access) (leaf : ℕ) → leaf_lets access leaf ≡ true → is_valid leaf ≡ true
 valid_of access leaf e = first_of (is_valid leaf) _ e

@@ -7,7 +7,7 @@ use Rattle.vm_types.specs.declared.access.Access.{Access}
 use Rattle.frames.specs.FrameTable.{FrameTable, frame_count}
 use Rattle.sv39_walk.specs.Entry.{is_valid, is_user, is_accessed, is_dirty, is_reserved, is_leaf, frame_of, grants}
 use Rattle.sv39_walk.specs.Walk.{is_canonical, is_store, last_of, translated, answer_of, frame_in}
-use Rattle.memory.specs.Lines.{Agrees, Gives, IsLine, lets, place_in, leaf_for}
+use Rattle.memory.specs.Lines.{Agrees, Gives, IsLine, leaf_lets, address_in, leaf_for}
 use Rattle.memory.specs.declared.line.Line.{Line}
 use Rattle.memory.specs.declared.buffer.TranslationBuffer.{TranslationBuffer}
 
@@ -46,8 +46,8 @@ marked true true e = refl
 marked true false e = cc
 marked false d e = refl
 
-answers : (count addr e : ℕ) (access : Access) → lets access e ≡ true → frame_of e < count
-    → answer_of count addr access 0 e ≡ Ok (place_in (frame_of e) addr)
+answers : (count addr e : ℕ) (access : Access) → leaf_lets access e ≡ true → frame_of e < count
+    → answer_of count addr access 0 e ≡ Ok (address_in (frame_of e) addr)
 unfolding answer_of
 answers count addr e access h inside =
     let h0 = both (is_valid e) _ h in
@@ -62,10 +62,10 @@ answers count addr e access h inside =
     chain (is_valid e) (is_reserved e) (is_leaf e) (frame_of e % 512 ^ 0 == 0) (is_user e) (grants access e) (is_accessed e)
     (is_store access && not (is_dirty e)) (nat_le count (frame_in 0 e (addr / 4096)))
     _ _ _ _ _ _ _ _ _ h0.0 h1.0 h2.0 whole h3.0 h4.0 h5.0 (marked (is_store access) (is_dirty e) h5.1) within
-    ∙ ap (λ (n : ℕ). Ok (place_in n addr)) same
+    ∙ ap (λ (n : ℕ). Ok (address_in n addr)) same
 
 pub walks : (mode : ℕ) (t : FrameTable) (root page addr e : ℕ) (access : Access) → IsLine mode t root page e → addr / 4096 ≡ page → page < user_end mode
-    → lets access e ≡ true → translated (top_level mode) t root addr access ≡ Ok (place_in (frame_of e) addr)
+    → leaf_lets access e ≡ true → translated (top_level mode) t root addr access ≡ Ok (address_in (frame_of e) addr)
 unfolding translated
 walks mode t root page addr e access line at low h =
     let there : last_of t (addr / 4096) (top_level mode) root ≡ (0, e) = ap (λ (p : ℕ). last_of t p (top_level mode) root) at ∙ line.last in
@@ -80,5 +80,5 @@ kept_here o line root page e a b = rw e (rw a (rw b refl))
 -- what a look says of every memory in which the lines are leaves
 pub agrees : (b : TranslationBuffer) (root page : ℕ) (access : Access) (frame : ℕ) → Gives b root page access frame → Agrees b root page access frame
 agrees b root page access frame gives = λ mode t addr coherent at low.
-    let P : ℕ → Type 0 = λ n. translated (top_level mode) t root addr access ≡ Ok (place_in n addr) in
+    let P : ℕ → Type 0 = λ n. translated (top_level mode) t root addr access ≡ Ok (address_in n addr) in
     subst P (sym gives.3) (walks mode t root page addr gives.0 access (coherent root page gives.0 gives.1) at low gives.2)

@@ -18,7 +18,7 @@ use Rattle.page_tables.proofs.Ways.{ends, index_of-lt, only_way}
 use Rattle.page_tables.proofs.Ends.{way_forth}
 use Rattle.page_tables.proofs.Keeping.{empty_not_linking, zeros_empty}
 use Rattle.memory.specs.declared.notes.Notes.{Notes}
-use Rattle.memory.specs.Notes.{IsNumberOf, Names, NamesNoMore, AreNoted, Covers, no_note}
+use Rattle.memory.specs.Notes.{IsNumberOf, NamesFrame, NamesNoMore, AreNoted, Covers, no_note}
 use Rattle.memory.proofs.Keeping.{number_stays, free_is_no_table, released_role, is_table, not_below, not_last, way_along}
 use Rattle.memory.proofs.Leaves.{is_page, root_table}
 use Rattle.memory.proofs.Numbers.{is_number, of_number}
@@ -135,7 +135,7 @@ module _ (mode : ℕ) (old new : FrameTable) (root : ℕ) (forest : IsForest old
   ]
 
 -- a page that named the frame before, where its number was there
-named_back : (mode : ℕ) (old new : FrameTable) (r p n : ℕ) (names : Names mode new r p n) → IsNumberOf mode old r p names.number → Names mode old r p n
+named_back : (mode : ℕ) (old new : FrameTable) (r p n : ℕ) (names : NamesFrame mode new r p n) → IsNumberOf mode old r p names.number → NamesFrame mode old r p n
 named_back mode old new r p n names is = record { number = names.number; is = is; framed = names.framed; common = names.common; frame = names.frame }
 
 -- notes that stay, where no page names a frame that named none
@@ -170,7 +170,7 @@ module _ (mode : ℕ) (old new : FrameTable) (root q number : ℕ) (notes notes'
     (added : number ≢ 0 → is_swapped number ≡ false → is_private number ≡ false → frame_of number < length notes.each.items → notes.whole ≡ true → q < user_end mode
     → Covers (get_or notes'.each.items (frame_of number) no_note) root q)
     (kept : (n r p : ℕ) → Covers (get_or notes.each.items n no_note) r p → Covers (get_or notes'.each.items n no_note) r p) (is : AreNoted mode old notes) where
-  set_here : (n : ℕ) → notes.whole ≡ true → Names mode new root q n → n < frame_count new → Covers (get_or notes'.each.items n no_note) root q
+  set_here : (n : ℕ) → notes.whole ≡ true → NamesFrame mode new root q n → n < frame_count new → Covers (get_or notes'.each.items n no_note) root q
   set_here n now names inside =
       let e : names.number ≡ number = sym (is_number mode new root q names.number names.is) ∙ sets.changed in
       let frame : frame_of number ≡ n = ap frame_of (sym e) ∙ names.frame in
@@ -189,8 +189,8 @@ module _ (mode : ℕ) (old new : FrameTable) (root q number : ℕ) (notes notes'
         elim (cases_eq r root) [
           | inl same_root ↦ elim (cases_eq p q) [
             | inl same_page ↦ (
-                let N : ℕ → Type 0 = λ x. Names mode new x p n in
-                let M : ℕ → Type 0 = λ x. Names mode new root x n in
+                let N : ℕ → Type 0 = λ x. NamesFrame mode new x p n in
+                let M : ℕ → Type 0 = λ x. NamesFrame mode new root x n in
                 let P : ℕ → Type 0 = λ x. Covers (get_or notes'.each.items n no_note) x p in
                 let Q : ℕ → Type 0 = λ x. Covers (get_or notes'.each.items n no_note) root x in
                 subst P (sym same_root) (subst Q (sym same_page) (set_here n (sym whole ∙ now) (subst M same_page (subst N same_root names)) inside)))

@@ -11,7 +11,7 @@ use Rattle.sv39_walk.specs.declared.translation.WalkFault.{WalkFault}
 use Rattle.sv39_walk.specs.declared.translation.WalkFault.TheVariants.{Invalid, TooDeep, Misaligned, Denied, NotAccessed, NotDirty, Outside, Reserved}
 use Rattle.sv39_walk.specs.Entry.{has_bit, entry_at, frame_of, is_pointer, is_valid, is_reserved, is_leaf, is_user, is_accessed, is_dirty, grants}
 use Rattle.sv39_walk.specs.Walk.{page_of, index_of, leads_on, last_of, frame_in, is_store, answer_of, translated}
-use Rattle.memory.specs.Lines.{lets}
+use Rattle.memory.specs.Lines.{leaf_lets}
 use Rattle.memory.proofs.Looks.{canonical}
 use Rattle.sv39_walk.proofs.Way.{last_of-zero, last_of-stop, last_of-next}
 use Rattle.page_tables.specs.Tree.{IsTable, IsForest, IsRoot, last_table, last_entry, missing_of, page_entry}
@@ -100,7 +100,7 @@ below_not_at_least : (n count : ℕ) → nat_le count n ≡ false → n < count
 below_not_at_least n count h = grind (arith, nat_tests)
 
 -- a number that is no leaf for the access, or that of a frame outside memory, is a fault
-pub refused : (count addr : ℕ) (access : Access) (e : ℕ) → (lets access e ≡ true → frame_of e < count → ⊥) → IsErr (answer_of count addr access 0 e)
+pub refused : (count addr : ℕ) (access : Access) (e : ℕ) → (leaf_lets access e ≡ true → frame_of e < count → ⊥) → IsErr (answer_of count addr access 0 e)
 unfolding answer_of
 refused count addr access e bad =
     one_holds (is_valid e) (is_reserved e) (is_leaf e) (frame_of e % 512 ^ 0 == 0) (is_user e) (grants access e) (is_accessed e)

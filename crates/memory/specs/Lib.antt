@@ -3,3 +3,4 @@ pub mod Kept
 pub mod Lending
 pub mod Notes
 pub mod Walks
+pub mod SetPlace

@@ -11,8 +11,8 @@ use Rattle.memory.specs.declared.buffer.TranslationBuffer.{TranslationBuffer}
 use Rattle.memory.specs.declared.line.Line.{Line}
 
 -- the place of a page's line
-abbrev pub place_of : ℕ → ℕ
-place_of page = page % 64
+abbrev pub line_place : ℕ → ℕ
+line_place page = page % 64
 
 -- the leaf that a line has for a page of a tree
 abbrev pub leaf_for : Option Line → ℕ → ℕ → Option ℕ
@@ -21,7 +21,7 @@ leaf_for (Some line) root page = if (line.root.0 == root) && (line.page == page)
 
 -- the leaf that is kept for a page of a tree
 abbrev pub line_at : TranslationBuffer → ℕ → ℕ → Option ℕ
-line_at b root page = leaf_for (slice_index_or b.lines (place_of page) None) root page
+line_at b root page = leaf_for (slice_index_or b.lines (line_place page) None) root page
 
 -- the leaf ends the walk to the page, at the lowest level, and names a frame of memory
 pub record IsLine (mode : ℕ) (t : FrameTable) (root page leaf : ℕ) : Type 0 where
@@ -34,20 +34,20 @@ abbrev pub IsCoherent : ℕ → FrameTable → TranslationBuffer → Type 0
 IsCoherent mode t b = (root page leaf : ℕ) → line_at b root page ≡ Some leaf → IsLine mode t root page leaf
 
 -- whether a leaf lets an access in user mode go through
-abbrev pub lets : Access → ℕ → Bool
-lets access e =
+abbrev pub leaf_lets : Access → ℕ → Bool
+leaf_lets access e =
     is_valid e && (not (is_reserved e) && (is_leaf e && (is_user e && (grants access e && (is_accessed e && (not (is_store access) || is_dirty e))))))
 
 -- a line of the page lets the access go through, into that frame
 abbrev pub Gives : TranslationBuffer → ℕ → ℕ → Access → ℕ → Type 0
-Gives b root page access frame = (leaf : ℕ) × (line_at b root page ≡ Some leaf) × (lets access leaf ≡ true) × (frame ≡ frame_of leaf)
+Gives b root page access frame = (leaf : ℕ) × (line_at b root page ≡ Some leaf) × (leaf_lets access leaf ≡ true) × (frame ≡ frame_of leaf)
 
 -- the address in that frame
-abbrev pub place_in : ℕ → ℕ → Phys
-place_in frame addr = record { 0 = frame * 4096 + addr % 4096 }
+abbrev pub address_in : ℕ → ℕ → Phys
+address_in frame addr = record { 0 = frame * 4096 + addr % 4096 }
 
 -- in each mode, in each memory in which the lines are leaves of their pages, the walk to an address of the page ends in that frame
 abbrev pub Agrees : TranslationBuffer → ℕ → ℕ → Access → ℕ → Type 0
 Agrees b root page access frame =
     (mode : ℕ) (t : FrameTable) (addr : ℕ) → IsCoherent mode t b → page_of addr ≡ page → page < user_end mode
-    → translated (top_level mode) t root addr access ≡ Ok (place_in frame addr)
+    → translated (top_level mode) t root addr access ≡ Ok (address_in frame addr)

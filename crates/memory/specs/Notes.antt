@@ -21,7 +21,7 @@ pub record IsNumberOf (mode : ℕ) (t : FrameTable) (root page number : ℕ) : T
   pub some : number ≢ 0
 
 -- The page of that root's tree names frame n, not as its process's own: its entry is there, and isn't that of a page in a slot.
-pub record Names (mode : ℕ) (t : FrameTable) (root page n : ℕ) : Type 0 where
+pub record NamesFrame (mode : ℕ) (t : FrameTable) (root page n : ℕ) : Type 0 where
   pub number : ℕ
   pub is : IsNumberOf mode t root page number
   pub framed : is_swapped number ≡ false
@@ -33,7 +33,7 @@ pub record Names (mode : ℕ) (t : FrameTable) (root page n : ℕ) : Type 0 wher
 abbrev pub NamesNoMore : ℕ → FrameTable → ℕ → ℕ → ℕ → Type 0
 NamesNoMore mode t table index number = number ≢ 0 → is_swapped number ≡ false → is_private number ≡ false
     → (root page : ℕ) → IsRoot (top_level mode) t root → page < user_end mode → IsTableOf t (top_level mode) root (page / table_entries) table → page % table_entries ≡ index
-    → Names mode t root page (frame_of number)
+    → NamesFrame mode t root page (frame_of number)
 
 -- roots whose numbers are equal modulo 64 are of one kind
 abbrev pub HasKind : ℕ → ℕ → Type 0
@@ -50,4 +50,4 @@ no_note = record { kinds = 0; page = 0 }
 -- there is a note for each frame, and, as long as they are whole, it covers each page that names the frame
 pub record AreNoted (mode : ℕ) (t : FrameTable) (notes : Notes) : Type 0 where
   pub count : length notes.each.items ≡ frame_count t
-  pub covers : notes.whole ≡ true → (root page n : ℕ) → Names mode t root page n → n < frame_count t → Covers (slice_index_or notes.each.items n no_note) root page
+  pub covers : notes.whole ≡ true → (root page n : ℕ) → NamesFrame mode t root page n → n < frame_count t → Covers (slice_index_or notes.each.items n no_note) root page

@@ -1,7 +1,7 @@
 //! The lines, each at the place of its page.
 ghost use Rattle.std.specs.Prelude.{ℕ, ◌≡◌, ◌≢◌, ◌<◌, ◌%◌, ◌⊎◌, ◌^◌, Some, None, false, true, IfNone, IfSome, IsNone};
 ghost use Rattle.sv39_walk.specs.Entry.{frame_of};
-ghost use Rattle.memory.specs.Lines.{Agrees, Gives, lets, line_at, place_of};
+ghost use Rattle.memory.specs.Lines.{Agrees, Gives, leaf_lets, line_at, line_place};
 
 use crate::line::Line;
 use sv39_walk::Pte;
@@ -31,7 +31,7 @@ impl TranslationBuffer {
     pub fn look(&self, root: FrameNo, page: Vpn, access: Access) -> Option<FrameNo>
         ensures agrees { IfSome result (λ frame. Agrees self.now root.0 page access frame.0) }
         ensures found { IfSome result (λ frame. Gives self.now root.0 page access frame.0) }
-        ensures none { IsNone result → (leaf : ℕ) → line_at self.now root.0 page ≡ Some leaf → lets access leaf ≡ false }
+        ensures none { IsNone result → (leaf : ℕ) → line_at self.now root.0 page ≡ Some leaf → leaf_lets access leaf ≡ false }
     {
         let found = self.lines[place_of(page)];
         match found {
@@ -45,8 +45,8 @@ impl TranslationBuffer {
     /// The line at place `index`, under 64; `None` exactly where no page of that place has one.
     pub fn line(&self, index: usize) -> Option<Line>
         requires { index < 64 }
-        ensures some { IfSome result (λ line. (place_of line.page ≡ index) × (line_at self.now line.root.0 line.page ≡ Some line.leaf.0)) }
-        ensures none { IfNone result ((root page : ℕ) → place_of page ≡ index → line_at self.now root page ≡ None) }
+        ensures some { IfSome result (λ line. (line_place line.page ≡ index) × (line_at self.now line.root.0 line.page ≡ Some line.leaf.0)) }
+        ensures none { IfNone result ((root page : ℕ) → line_place page ≡ index → line_at self.now root page ≡ None) }
     {
         match self.lines[index] {
             Some(line) if place_of(line.page) == index => Some(line),
@@ -58,8 +58,8 @@ impl TranslationBuffer {
     pub fn keep(&mut self, root: FrameNo, page: Vpn, leaf: Pte)
         requires small { frame_of leaf.0 < 2 ^ 32 }
         ensures kept { line_at self.new root.0 page ≡ Some leaf.0 }
-        ensures replaced { (r p : ℕ) → place_of p ≡ place_of page → (r ≢ root.0) ⊎ (p ≢ page) → line_at self.new r p ≡ None }
-        ensures others { (r p : ℕ) → place_of p ≢ place_of page → line_at self.new r p ≡ line_at self.old r p }
+        ensures replaced { (r p : ℕ) → line_place p ≡ line_place page → (r ≢ root.0) ⊎ (p ≢ page) → line_at self.new r p ≡ None }
+        ensures others { (r p : ℕ) → line_place p ≢ line_place page → line_at self.new r p ≡ line_at self.old r p }
     {
         self.lines[place_of(page)] = Some(Line { root, page, leaf });
     }
@@ -80,8 +80,8 @@ impl TranslationBuffer {
     /// Drops the line at place `index`, under 64, whichever page and tree it is of.
     pub fn drop_place(&mut self, index: usize)
         requires { index < 64 }
-        ensures dropped { (r p : ℕ) → place_of p ≡ index → line_at self.new r p ≡ None }
-        ensures others { (r p : ℕ) → place_of p ≢ index → line_at self.new r p ≡ line_at self.old r p }
+        ensures dropped { (r p : ℕ) → line_place p ≡ index → line_at self.new r p ≡ None }
+        ensures others { (r p : ℕ) → line_place p ≢ index → line_at self.new r p ≡ line_at self.old r p }
     {
         self.lines[index] = None;
     }
@@ -104,7 +104,7 @@ impl TranslationBuffer {
 /// Whether a page's leaf lets an access in user mode go through: V, U and A are set, its form isn't reserved, it grants the
 /// access, and D is set where that is a store.
 pub fn lets(leaf: Pte, access: Access) -> bool
-    ensures { result ≡ lets access leaf.0 }
+    ensures { result ≡ leaf_lets access leaf.0 }
 {
     leaf.is_valid()
         && !leaf.is_reserved()
@@ -117,7 +117,7 @@ pub fn lets(leaf: Pte, access: Access) -> bool
 
 // The place of a page's line.
 fn place_of(page: Vpn) -> usize
-    ensures place { result ≡ place_of page }
+    ensures place { result ≡ line_place page }
     ensures range { result < 64 }
 {
     (page.get() % PLACES as u64) as usize

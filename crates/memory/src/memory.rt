@@ -41,7 +41,7 @@ impl<M: Levels> Memory<M> {
     ghost use Rattle.frames.specs.FrameTable.{frame_count, bytes_of, count_of, IsSound, IsFresh, IsFull, IsHeld, is_handed_out, Takes, Shares, Releases, with_bytes};
     ghost use Rattle.page_tables.specs.Tree.{IsSpare};
     ghost use Rattle.memory.specs.Kept.{IsLeafOf};
-    ghost use Rattle.memory.specs.Lending.{LendsFrame};
+    ghost use Rattle.memory.specs.Lending.{LendsMemoryFrame};
 
     /// Memory of `count` frames, 8 to 65,536, all of them free but frame 0.
     pub fn new(alloc: Global, count: u32) -> Result<Memory<M>, AllocError>
@@ -109,7 +109,7 @@ impl<M: Levels> Memory<M> {
     /// The bytes of frame `n`, to be changed. All other frames stay as they are, and so do all roles and counts.
     pub fn bytes_mut(&mut self, n: FrameNo) -> &mut [u8; 4096]
         requires { IsHeld self.old n.0 }
-        ensures* writes_back { sem 𝓛 (LendsFrame M.row M.Levels self.entry n.0 result) }
+        ensures* writes_back { sem 𝓛 (LendsMemoryFrame M.row M.Levels self.entry n.0 result) }
         ensures value { result.now ≡ bytes_of self.old n.0 }
     {
         forget_table(&self.frames, &mut self.buffer, &mut self.notes, n);

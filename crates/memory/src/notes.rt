@@ -4,7 +4,7 @@ ghost use Rattle.vm_types.specs.Limits.{user_end};
 ghost use Rattle.frames.specs.FrameTable.{IsFrame};
 ghost use Rattle.sv39_walk.specs.Entry.{frame_of, is_private, is_swapped};
 ghost use Rattle.page_tables.specs.Entry.{IsEntry, number_of};
-ghost use Rattle.memory.specs.Notes.{Covers, HasKind, Names, no_note};
+ghost use Rattle.memory.specs.Notes.{Covers, HasKind, NamesFrame, no_note};
 
 use crate::memory::Memory;
 use page_tables::Entry;
@@ -103,7 +103,7 @@ fn named(entry: Entry) -> Option<u64>
 /// The kinds of the roots in whose trees a page may name the frame, not as its process's own.
 pub fn kinds_over<M: Levels>(memory: &Memory<M>, frame: FrameNo) -> u64
     requires { IsFrame memory.now frame.0 }
-    ensures { (root page : ℕ) → Names M.mode memory.now root page frame.0 → HasKind result root }
+    ensures { (root page : ℕ) → NamesFrame M.mode memory.now root page frame.0 → HasKind result root }
 {
     if memory.notes.whole {
         memory.notes.each[frame.0 as usize].kinds
@@ -124,7 +124,7 @@ pub fn is_kind(kinds: u64, root: FrameNo) -> bool
 pub fn page_over<M: Levels>(memory: &Memory<M>, frame: FrameNo) -> Option<Vpn>
     requires { IsFrame memory.now frame.0 }
     ensures user { IfSome result (λ k. k < user_end M.mode) }
-    ensures one { IfSome result (λ k. (root page : ℕ) → Names M.mode memory.now root page frame.0 → page ≡ k) }
+    ensures one { IfSome result (λ k. (root page : ℕ) → NamesFrame M.mode memory.now root page frame.0 → page ≡ k) }
 {
     if memory.notes.whole {
         Vpn::new::<M>(memory.notes.each[frame.0 as usize].page)
@@ -136,7 +136,7 @@ pub fn page_over<M: Levels>(memory: &Memory<M>, frame: FrameNo) -> Option<Vpn>
 /// Notes that no page names the frame any more. Memory stays as it is.
 pub fn forget_pages<M: Levels>(memory: &mut Memory<M>, frame: FrameNo)
     requires inside { IsFrame memory.old frame.0 }
-    requires none { (root page : ℕ) → Names M.mode memory.old root page frame.0 → ⊥ }
+    requires none { (root page : ℕ) → NamesFrame M.mode memory.old root page frame.0 → ⊥ }
     ensures same { memory.new ≡ memory.old }
 {
     memory.notes.each[frame.0 as usize] = Note { kinds: 0, page: 0 };

@@ -7,7 +7,8 @@ ghost use Rattle.page_tables.specs.Tree.{IsPage, IsTable, IsForest, IsRoot, IsSp
 ghost use Rattle.page_tables.specs.Places.{IsTableOf};
 ghost use Rattle.memory.specs.Kept.{LinesAreLeaves};
 ghost use Rattle.memory.specs.Notes.{AreNoted, NamesNoMore};
-ghost use Rattle.page_tables.specs.Change.{KeepsFrames, AddsTable, SetsEntry, LinksTable, Prunes, IsPruned};
+ghost use Rattle.memory.specs.SetPlace.{SetsInTable};
+ghost use Rattle.page_tables.specs.Change.{AddsTable, SetsEntry, LinksTable, Prunes, IsPruned};
 
 use crate::memory::Memory;
 use crate::notes::Notes;
@@ -181,10 +182,7 @@ pub fn set_in<M: Levels>(memory: &mut Memory<M>, table: FrameNo, index: usize, e
     requires placed { (root page : ℕ) × IsRoot (top_level M.mode) memory.old root × IsPage (top_level M.mode) page × IsTableOf memory.old (top_level M.mode) root (page / table_entries) table.0
         × (page % table_entries ≡ index) }
     requires names { NamesNoMore M.mode memory.old table.0 index (number_of entry) }
-    ensures sets { (root page : ℕ) → IsRoot (top_level M.mode) memory.old root → IsPage (top_level M.mode) page → IsTableOf memory.old (top_level M.mode) root (page / table_entries) table.0
-        → page % table_entries ≡ index → SetsEntry memory.old memory.new (top_level M.mode) root page (number_of entry) }
-    ensures kept { KeepsFrames memory.old memory.new }
-    ensures sound { IsSound memory.new }
+    ensures { SetsInTable M.mode memory.old memory.new table.0 index (number_of entry) }
 {
     page_tables::set_in(&mut memory.frames, table, index, entry);
     memory.buffer.drop_place(index % PLACES);

@@ -6,7 +6,7 @@ ghost use Rattle.sv39_walk.specs.Entry.{frame_of};
 ghost use Rattle.sv39_walk.specs.Walk.{page_of, translated, answer_of};
 ghost use Rattle.page_tables.specs.Tree.{IsForest, IsRoot};
 ghost use Rattle.page_tables.specs.Places.{IsTableOf};
-ghost use Rattle.memory.specs.Lines.{lets, place_in};
+ghost use Rattle.memory.specs.Lines.{leaf_lets, address_in};
 ghost use Rattle.memory.specs.Kept.{LinesAreLeaves};
 ghost use Rattle.memory.specs.Walks.{IsWalkTo};
 
@@ -145,7 +145,7 @@ fn keep_leaf<M: Levels>(
     requires table { IsTableOf frames.now (top_level M.mode) root.0 (page / table_entries) table.0 }
     requires kept { LinesAreLeaves M.mode frames.now buffer.old }
     ensures walked { (addr : ℕ) → page_of addr ≡ page
-        → MatchOption result (IsErr (translated (top_level M.mode) frames.now root.0 addr access)) (λ frame. translated (top_level M.mode) frames.now root.0 addr access ≡ Ok (place_in frame.0 addr)) }
+        → MatchOption result (IsErr (translated (top_level M.mode) frames.now root.0 addr access)) (λ frame. translated (top_level M.mode) frames.now root.0 addr access ≡ Ok (address_in frame.0 addr)) }
     ensures kept { LinesAreLeaves M.mode frames.now buffer.new }
 {
     let leaf = number_in(frames, table, (page.get() % ENTRIES) as usize);
@@ -158,7 +158,7 @@ fn keep_leaf<M: Levels>(
 
 // Whether a leaf lets the access go through, into a frame of memory.
 fn is_usable(frames: &Frames, leaf: Pte, access: Access) -> bool
-    ensures usable { result ≡ true → (lets access leaf.0 ≡ true) × (frame_of leaf.0 < frame_count frames.now) × (frame_of leaf.0 < 2 ^ 32) }
+    ensures usable { result ≡ true → (leaf_lets access leaf.0 ≡ true) × (frame_of leaf.0 < frame_count frames.now) × (frame_of leaf.0 < 2 ^ 32) }
     ensures other { result ≡ false → (addr : ℕ) → IsErr (answer_of (frame_count frames.now) addr access 0 leaf.0) }
 {
     lets(leaf, access) && leaf.frame() < u64::from(frames.len())
@@ -166,7 +166,7 @@ fn is_usable(frames: &Frames, leaf: Pte, access: Access) -> bool
 
 // The address in that frame.
 fn place_in(frame: FrameNo, addr: u64) -> Phys
-    ensures { result ≡ place_in frame.0 addr }
+    ensures { result ≡ address_in frame.0 addr }
 {
     Phys(u64::from(frame.0) * PAGE + addr % PAGE)
 }

@@ -3,7 +3,7 @@ ghost use Rattle.std.specs.Prelude.{ℕ, ◌≡◌, ◌<◌};
 ghost use Rattle.vm_types.specs.Limits.{top_level, user_end};
 ghost use Rattle.frames.specs.FrameTable.{IsFrame};
 ghost use Rattle.page_tables.specs.Tree.{IsForest, IsRoot};
-ghost use Rattle.memory.specs.Notes.{Names};
+ghost use Rattle.memory.specs.Notes.{NamesFrame};
 
 use crate::bench::equal;
 use crate::trees::{add_table, new_table};
@@ -106,7 +106,7 @@ fn show_for_a_moment<M: Levels>(rt: &impl Abort, memory: &mut Memory<M>, root: F
     requires root { IsRoot (top_level M.mode) memory.old root.0 }
     requires user { page < user_end M.mode }
     ensures inside { IsFrame memory.new 15 }
-    ensures none { (r p : ℕ) → Names M.mode memory.new r p 15 → ⊥ }
+    ensures none { (r p : ℕ) → NamesFrame M.mode memory.new r p 15 → ⊥ }
 {
     assert!(rt; memory.len() == 16);
     assert!(rt; kinds_over(memory, FRAME) == 0);

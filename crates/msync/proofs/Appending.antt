@@ -1,4 +1,4 @@
--- Lists of file pages to which others are appended, each once.
+-- ListsTouched of file pages to which others are appended, each once.
 use Rattle.std.proofs.Common.{ℕ, ◌≡◌, ◌<◌, ◌≤◌, ◌==◌, ◌⊎◌, ⊎_elim, Bool, true, List, [], Result, Ok, Err, refl, sym, ap, ◌∙◌, arith, eq-eqb}
 use Rattle.std.specs.Prelude.{IfOk}
 use Rattle.std.specs.Result.{OnErr}
@@ -6,7 +6,7 @@ use Rattle.std.proofs.lemmas.Bool.{cases_lt}
 use Rattle.std.proofs.lemmas.Bool.Decides.{nat_tests}
 use Rattle.vm_types.specs.declared.file.FilePage.{FilePage}
 use Rattle.vm_types.specs.Attributes.{file_page_eq}
-use Rattle.msync.specs.Choice.{page_at, Appends, Overflows, Lists}
+use Rattle.msync.specs.Choice.{chosen_page, Appends, OverflowsRow, ListsTouched}
 
 -- nothing passes
 pub nothing : (passes : FilePage → Bool) (list : List FilePage) (used : ℕ) → used ≤ 1023 → ((page : FilePage) → passes page ≡ true → ⊥)
@@ -30,8 +30,8 @@ in_turn a b c x y z u v w from_a from_b to f g = record {
   few = g.few;
   kept = λ i less. g.kept i (omega (arith, f.order)) ∙ f.kept i less;
   each = λ i low high.
-      ⊎_elim (λ (less : i < v). from_a (page_at z i) (ap a (g.kept i less) ∙ f.each i low less))
-      (λ (more : v ≤ i). from_b (page_at z i) (g.each i more high))
+      ⊎_elim (λ (less : i < v). from_a (chosen_page z i) (ap a (g.kept i less) ∙ f.each i low less))
+      (λ (more : v ≤ i). from_b (chosen_page z i) (g.each i more high))
       (cases_lt i v);
   once = λ i j less low high.
       ⊎_elim (λ (below : j < v). λ e. f.once i j less low below (sym (g.kept i (omega arith)) ∙ e ∙ g.kept j below))
@@ -50,7 +50,7 @@ renamed a c x y u v from to f = record {
   order = f.order;
   few = f.few;
   kept = f.kept;
-  each = λ i low high. from (page_at y i) (f.each i low high);
+  each = λ i low high. from (chosen_page y i) (f.each i low high);
   once = f.once;
   all = λ p e. f.all p (to p e);
 }
@@ -58,7 +58,7 @@ renamed a c x y u v from to f = record {
 -- some are appended, and then others would be too many
 pub over : (a b c : FilePage → Bool) (x y : List FilePage) (u v : ℕ)
     → ((p : FilePage) → a p ≡ true → c p ≡ true) → ((p : FilePage) → b p ≡ true → c p ≡ true)
-    → Appends a x y u v → Overflows b y v → Overflows c x u
+    → Appends a x y u v → OverflowsRow b y v → OverflowsRow c x u
 over a b c x y u v from_a from_b f g = record {
   at = g.at;
   kept = λ i less. g.kept i (omega (arith, f.order)) ∙ f.kept i less;
@@ -72,7 +72,7 @@ over a b c x y u v from_a from_b f g = record {
       (cases_lt j v);
 }
 
-pub over_wider : (a c : FilePage → Bool) (x : List FilePage) (u : ℕ) → ((p : FilePage) → a p ≡ true → c p ≡ true) → Overflows a x u → Overflows c x u
+pub over_wider : (a c : FilePage → Bool) (x : List FilePage) (u : ℕ) → ((p : FilePage) → a p ≡ true → c p ≡ true) → OverflowsRow a x u → OverflowsRow c x u
 over_wider a c x u from g = record {
   at = g.at;
   kept = g.kept;
@@ -81,7 +81,7 @@ over_wider a c x u from g = record {
 }
 
 -- where the list was empty, all of it was appended
-pub listed : (a : FilePage → Bool) (x y : List FilePage) (n : ℕ) → Appends a x y 0 n → Lists a y n
+pub listed : (a : FilePage → Bool) (x y : List FilePage) (n : ℕ) → Appends a x y 0 n → ListsTouched a y n
 listed a x y n f = record {
   each = λ i less. f.each i (omega arith) less;
   once = λ i j less high. f.once i j less (omega arith) high;
@@ -118,7 +118,7 @@ map_err (Ok x) f h = tt
 map_err (Err e) f h = f h
 
 -- from an empty list on the old one doesn't matter
-pub over_none : (a : FilePage → Bool) (x : List FilePage) → Overflows a x 0 → Overflows a [] 0
+pub over_none : (a : FilePage → Bool) (x : List FilePage) → OverflowsRow a x 0 → OverflowsRow a [] 0
 over_none a x g = record {
   at = g.at;
   kept = λ i less. absurd (omega arith);
@@ -126,16 +126,16 @@ over_none a x g = record {
   once = g.once;
 }
 
-pub lists_none : (a : FilePage → Bool) (x : List FilePage) → Lists a x 0 → Lists a [] 0
+pub lists_none : (a : FilePage → Bool) (x : List FilePage) → ListsTouched a x 0 → ListsTouched a [] 0
 lists_none a x f = record {
   each = λ i less. absurd (omega arith);
   once = λ i j less high. absurd (omega arith);
   all = λ p e. let r = f.all p e in absurd (let less = r.1 in omega arith);
 }
 
-pub lists_same : (a c : FilePage → Bool) (y : List FilePage) (n : ℕ) → ((p : FilePage) → a p ≡ c p) → Lists a y n → Lists c y n
+pub lists_same : (a c : FilePage → Bool) (y : List FilePage) (n : ℕ) → ((p : FilePage) → a p ≡ c p) → ListsTouched a y n → ListsTouched c y n
 lists_same a c y n same f = record {
-  each = λ i less. sym (same (page_at y i)) ∙ f.each i less;
+  each = λ i less. sym (same (chosen_page y i)) ∙ f.each i less;
   once = f.once;
   all = λ p e. f.all p (same p ∙ e);
 }

@@ -9,7 +9,7 @@ use Rattle.vm_types.specs.declared.object.PageKey.TheVariants.{File}
 use Rattle.vm_types.specs.declared.number.SlotNo.{SlotNo}
 use Rattle.residency.specs.Picture.{Picture}
 use Rattle.msync.specs.Asking.{IsSectorOfFilePage, IsSectorListed, IsSectorTaken}
-use Rattle.msync.specs.Choice.{Chosen, chosen_of, page_at, AreTaken}
+use Rattle.msync.specs.Choice.{Chosen, chosen_of, chosen_page, AreTaken}
 use Rattle.msync.specs.Spots.{spot_at, place_at, IsSectorThere, IsSectorOfSpots, HasSpots}
 use Rattle.msync.specs.declared.chosen.Residence.{Residence}
 use Rattle.msync.specs.declared.chosen.Residence.TheVariants.{Framed, Slotted}
@@ -48,4 +48,4 @@ module _ {E : Type 0} (h : Ghosts E) where
   pub asks_taken : {mode : ℕ} (c : Picture mode) (pid addr len : ℕ) (list : List FilePage) (count : ℕ) (old new : E) → AreTaken c pid addr len list (Takes count)
       → AsksOnly h (IsSectorListed c (chosen_of list count)) old new → AsksOnly h (IsSectorTaken c pid addr len) old new
   asks_taken c pid addr len list count old new taken asks =
-      asks_wider h (IsSectorListed c (chosen_of list count)) (IsSectorTaken c pid addr len) old new (λ k is. (page_at list is.0, taken is.0 is.1, is.2)) asks
+      asks_wider h (IsSectorListed c (chosen_of list count)) (IsSectorTaken c pid addr len) old new (λ k is. (chosen_page list is.0, taken is.0 is.1, is.2)) asks

@@ -11,7 +11,7 @@ use Rattle.disk_model.specs.declared.sector_disk.SectorDisk.{Ghosts}
 use Rattle.file_store.specs.declared.directory.Directory.{Directory}
 use Rattle.file_store.specs.declared.store.FileStore.{FileStore}
 use Rattle.file_store.specs.Commit.{ArePages, Changes, StandsForEither, cut_page}
-use Rattle.file_store.specs.Layout.{trimmed as store_trimmed}
+use Rattle.file_store.specs.Layout.{padded_page as store_trimmed}
 use Rattle.file_store.specs.Standing.{StandsFor, IsPageOf}
 use Rattle.file_store.specs.Store.{entry_of}
 use Rattle.sync_journal.specs.Source.{HasCauses}
@@ -48,48 +48,48 @@ use Rattle.msync.specs.Choice.{Chosen}
 use Rattle.msync.specs.declared.chosen.Residence.{Residence}
 use Rattle.msync.specs.declared.chosen.Residence.TheVariants.{Framed, Slotted}
 use Rattle.msync.specs.declared.chosen.Spot.{Spot}
-use Rattle.msync.specs.Choice.{page_at, Lists, TakesSame, IsListed, IsAway}
+use Rattle.msync.specs.Choice.{chosen_page, ListsTouched, TakesSame, IsListedPage, IsAway}
 use Rattle.msync.specs.Core.{KeepsMemory, IsEnd, Acknowledged, Failed, Unread, Commits}
 use Rattle.msync.specs.Spots.{spot_at, place_at, bytes_there, IsSlotted, HasSlot, AreSpots, HasSpots}
 use Rattle.msync.specs.Settling.{settled_place, settled_in, Settles, LosesDirtyOnly, ComesHome, SettlesMemory, SettlesPlaces}
-use Rattle.msync.specs.Shows.{IsSoundCore, Shows}
+use Rattle.msync.specs.Shows.{IsSoundCore, CoreShows}
 use Rattle.msync.proofs.SettledPages.{one_file, held_spot, cases_listed}
 
 -- what stands at a place of a list
-some_get : (xs : List FilePage) (i : ℕ) (p : FilePage) → slice_get xs i ≡ Some p → (i < length xs) × (p ≡ page_at xs i)
+some_get : (xs : List FilePage) (i : ℕ) (p : FilePage) → slice_get xs i ≡ Some p → (i < length xs) × (p ≡ chosen_page xs i)
 some_get [] i p e = cc
 some_get (x ∷ xs) zero p e = (omega arith, (let k : p ≡ x = cc in k))
 some_get (x ∷ xs) (suc i) p e = let r = some_get xs i p e in (omega (arith, r.0), r.1)
 
-get_some : (xs : List FilePage) (i : ℕ) → i < length xs → slice_get xs i ≡ Some (page_at xs i)
+get_some : (xs : List FilePage) (i : ℕ) → i < length xs → slice_get xs i ≡ Some (chosen_page xs i)
 get_some [] i less = absurd (omega arith)
 get_some (x ∷ xs) zero less = refl
 get_some (x ∷ xs) (suc i) less = get_some xs i (omega arith)
 
 -- the pages of a commit, as they stand at the front of the list
-pub fits : {mode : ℕ} (c : Picture mode) (chosen : Chosen) → IsListed c chosen → chosen.count ≤ length chosen.list
+pub fits : {mode : ℕ} (c : Picture mode) (chosen : Chosen) → IsListedPage c chosen → chosen.count ≤ length chosen.list
 fits c chosen listed = omega (arith, listed.few, listed.room)
 
 pub front_length : (chosen : Chosen) → chosen.count ≤ length chosen.list → length (take chosen.count chosen.list) ≡ chosen.count
 front_length chosen fit = length-take-le chosen.count chosen.list fit
 
-pub front_same : (chosen : Chosen) (i : ℕ) → i < chosen.count → page_at (take chosen.count chosen.list) i ≡ page_at chosen.list i
+pub front_same : (chosen : Chosen) (i : ℕ) → i < chosen.count → chosen_page (take chosen.count chosen.list) i ≡ chosen_page chosen.list i
 front_same chosen i less = get_or-take chosen.count chosen.list i (record { file = 0; page = 0 }) less
 
-pub front_touched : {mode : ℕ} (c : Picture mode) (chosen : Chosen) → IsListed c chosen → (i : ℕ) → i < length (take chosen.count chosen.list)
-    → c.touched (File (page_at (take chosen.count chosen.list) i)) ≡ true
+pub front_touched : {mode : ℕ} (c : Picture mode) (chosen : Chosen) → IsListedPage c chosen → (i : ℕ) → i < length (take chosen.count chosen.list)
+    → c.touched (File (chosen_page (take chosen.count chosen.list) i)) ≡ true
 front_touched c chosen listed i less =
     let below : i < chosen.count = omega (arith, front_length chosen (fits c chosen listed)) in
     ap (λ q. c.touched (File q)) (front_same chosen i below) ∙ listed.touched i below
 
-front_once : {mode : ℕ} (c : Picture mode) (chosen : Chosen) → IsListed c chosen → (i j : ℕ) → i < j → j < length (take chosen.count chosen.list)
-    → page_at (take chosen.count chosen.list) i ≢ page_at (take chosen.count chosen.list) j
+front_once : {mode : ℕ} (c : Picture mode) (chosen : Chosen) → IsListedPage c chosen → (i j : ℕ) → i < j → j < length (take chosen.count chosen.list)
+    → chosen_page (take chosen.count chosen.list) i ≢ chosen_page (take chosen.count chosen.list) j
 front_once c chosen listed i j less high e =
     let below : j < chosen.count = omega (arith, front_length chosen (fits c chosen listed)) in
     listed.once i j less below (sym (front_same chosen i (omega arith)) ∙ e ∙ front_same chosen j below)
 
 -- they may be committed
-pub are_pages : {mode : ℕ} (c : Picture mode) (chosen : Chosen) → IsFit c → IsListed c chosen → ArePages c.files (take chosen.count chosen.list)
+pub are_pages : {mode : ℕ} (c : Picture mode) (chosen : Chosen) → IsFit c → IsListedPage c chosen → ArePages c.files (take chosen.count chosen.list)
 are_pages c chosen fit listed =
     let front = take chosen.count chosen.list in
     record {
@@ -106,7 +106,7 @@ are_pages c chosen fit listed =
     }
 
 -- they lie in their spots, each once
-pub are_spots : {mode : ℕ} (c : Picture mode) (chosen : Chosen) (list : List Spot) → IsListed c chosen → HasSpots c (take chosen.count chosen.list) list → AreSpots c list
+pub are_spots : {mode : ℕ} (c : Picture mode) (chosen : Chosen) (list : List Spot) → IsListedPage c chosen → HasSpots c (take chosen.count chosen.list) list → AreSpots c list
 are_spots c chosen list listed spots =
     let front = take chosen.count chosen.list in
     record {
@@ -118,8 +118,8 @@ are_spots c chosen list listed spots =
 
 -- the list is of what the flat model takes
 pub front_lists : (s : State) (pid first count : ℕ) (chosen : Chosen) → chosen.count ≤ length chosen.list
-    → Lists (λ page. touched_in s pid first count page.file page.page) chosen.list chosen.count
-    → Lists (λ page. touched_in s pid first count page.file page.page) (take chosen.count chosen.list) (length (take chosen.count chosen.list))
+    → ListsTouched (λ page. touched_in s pid first count page.file page.page) chosen.list chosen.count
+    → ListsTouched (λ page. touched_in s pid first count page.file page.page) (take chosen.count chosen.list) (length (take chosen.count chosen.list))
 front_lists s pid first count chosen fit l = record {
   each = λ i less.
       let below : i < chosen.count = omega (arith, front_length chosen fit) in
@@ -161,28 +161,28 @@ from_settled files t s p (Framed n) bytes is = (cc)
 from_settled files t s p (Slotted k) bytes is = let bad : None ≡ Some bytes = is in (cc)
 
 module _ {mode : ℕ} (c : Picture mode) (s : State) (pid first count : ℕ) (pages : List FilePage) (list : List Spot) (fit : IsFit c) (shows : ShowsPages c s) (spots : HasSpots c pages list)
-    (lists : Lists (λ page. touched_in s pid first count page.file page.page) pages (length pages)) where
+    (lists : ListsTouched (λ page. touched_in s pid first count page.file page.page) pages (length pages)) where
   -- the bytes of a page of the list
   there : ℕ → List ℕ
   there i = bytes_there c.frames c.slots (spot_at list i).at
 
-  bytes_at : (i : ℕ) → i < length pages → s.volatile (page_at pages i).file (page_at pages i).page ≡ bytes_there c.frames c.slots (spot_at list i).at
+  bytes_at : (i : ℕ) → i < length pages → s.volatile (chosen_page pages i).file (chosen_page pages i).page ≡ bytes_there c.frames c.slots (spot_at list i).at
   bytes_at i less =
       let x = spot_at list i in
       let P : FilePage → Type 0 = λ p. s.volatile p.file p.page ≡ bytes_there c.frames c.slots (spot_at list i).at in
       subst P (spots.same i less) (shows.held x.page (bytes_there c.frames c.slots x.at) (held_spot c (File x.page) x.at (spots.spots i less).placed))
 
-  file_at : (i : ℕ) → i < length pages → IsPageOf c.files (page_at pages i).file (page_at pages i).page
+  file_at : (i : ℕ) → i < length pages → IsPageOf c.files (chosen_page pages i).file (chosen_page pages i).page
   file_at i less =
       let x = spot_at list i in
       let P : FilePage → Type 0 = λ p. IsPageOf c.files p.file p.page in
       subst P (spots.same i less) (fit.places.inside (File x.page) (λ home. no_home x.at (sym home ∙ (spots.spots i less).placed)))
 
   cut_at : (i : ℕ) → i < length pages
-      → trimmed s.files (page_at pages i).file (page_at pages i).page (s.volatile (page_at pages i).file (page_at pages i).page)
-      ≡ cut_page (s.files (page_at pages i).file) (page_at pages i).page (bytes_there c.frames c.slots (spot_at list i).at)
+      → trimmed s.files (chosen_page pages i).file (chosen_page pages i).page (s.volatile (chosen_page pages i).file (chosen_page pages i).page)
+      ≡ cut_page (s.files (chosen_page pages i).file) (chosen_page pages i).page (bytes_there c.frames c.slots (spot_at list i).at)
   cut_at i less =
-      let p = page_at pages i in
+      let p = chosen_page pages i in
       let w = bytes_there c.frames c.slots (spot_at list i).at in
       let at = file_at i less in
       let file : s.files p.file ≡ Some at.0 = shows.files p.file ∙ at.1 in
@@ -194,14 +194,14 @@ module _ {mode : ℕ} (c : Picture mode) (s : State) (pid first count : ℕ) (pa
   changes before = record {
     listed = λ i p e.
         let r = some_get pages i p e in
-        let q = page_at pages i in
+        let q = chosen_page pages i in
         subst (λ (x : FilePage). committed s pid first count before x.file x.page ≡ cut_page (s.files x.file) x.page (bytes_there c.frames c.slots (spot_at list i).at)) (sym r.1)
         (taken_page s pid first count q.file q.page before (lists.each i r.0) ∙ cut_at i r.0);
     others = λ f k none. elim (cases_taken (touched_in s pid first count f k)) [
       | inr left ↦ left_page s pid first count f k before left
       | inl taken ↦ (
           let r = lists.all (record { file = f; page = k }) taken in
-          absurd (none r.0 (page_at pages r.0) (get_some pages r.0 r.1) (ap (λ (x : FilePage). x.file) r.2) (ap (λ (x : FilePage). x.page) r.2)))
+          absurd (none r.0 (chosen_page pages r.0) (get_some pages r.0 r.1) (ap (λ (x : FilePage). x.file) r.2) (ap (λ (x : FilePage). x.page) r.2)))
     ];
   }
 
@@ -278,7 +278,7 @@ module _ {mode : ℕ} (c : Picture mode) (s : State) (pid first count : ℕ) (pa
       ];
     }
 
-module _ {mode : ℕ} (c new : Picture mode) (chosen : Chosen) (list : List Spot) (fit : IsFit c) (listed : IsListed c chosen) (spots : HasSpots c (take chosen.count chosen.list) list)
+module _ {mode : ℕ} (c new : Picture mode) (chosen : Chosen) (list : List Spot) (fit : IsFit c) (listed : IsListedPage c chosen) (spots : HasSpots c (take chosen.count chosen.list) list)
     (settles : Settles c new list (length list)) where
   was_touched : (i : ℕ) → i < length list → c.touched (File (spot_at list i).page) ≡ true
   was_touched i less =
@@ -415,7 +415,7 @@ module _ {D : Type 0} (g : Ghosts D) where
 
 module _ {M : Type 0} {m : Levels.Ghosts M} {D E : Type 0} (g : Ghosts D) (h : Ghosts E) where
   -- a commit that came to some end
-  commit_ended : (model : Type 0) (old new : Core D E M m) (s : State) (after : Pages) (pid addr len : ℕ) (mode : MsyncMode) (reply : Reply) (chosen : Chosen) → Shows g old s
+  commit_ended : (model : Type 0) (old new : Core D E M m) (s : State) (after : Pages) (pid addr len : ℕ) (mode : MsyncMode) (reply : Reply) (chosen : Chosen) → CoreShows g old s
       → (same : TakesSame s pid addr len mode chosen) → commits s (Msync pid addr len mode) ≡ Some after
       → StoreCommits g model (g.sector_count old.store.disk) s.files s.durable (committed s pid same.first same.count s.durable) old.store new.store
       → IsEnd g h model old new s (Msync pid addr len mode) reply → Commits g h model old new s after (Msync pid addr len mode) reply
@@ -430,7 +430,7 @@ module _ {M : Type 0} {m : Levels.Ghosts M} {D E : Type 0} (g : Ghosts D) (h : G
       } in
       subst (λ (x : Pages). Commits g h model old new s x (Msync pid addr len mode) reply) (after_is s after pid addr len mode chosen same takes) done
 
-  pub commit_done : (model : Type 0) (old new : Core D E M m) (s : State) (after : Pages) (pid addr len : ℕ) (mode : MsyncMode) (chosen : Chosen) → Shows g old s
+  pub commit_done : (model : Type 0) (old new : Core D E M m) (s : State) (after : Pages) (pid addr len : ℕ) (mode : MsyncMode) (chosen : Chosen) → CoreShows g old s
       → (same : TakesSame s pid addr len mode chosen) → commits s (Msync pid addr len mode) ≡ Some after
       → StoreCommits g model (g.sector_count old.store.disk) s.files s.durable (committed s pid same.first same.count s.durable) old.store new.store
       → (g.keeps_model new.store.disk → model → LeavesNow g old.store.disk (StandsFor (g.sector_count old.store.disk) s.files s.durable)
@@ -441,22 +441,22 @@ module _ {M : Type 0} {m : Levels.Ghosts M} {D E : Type 0} (g : Ghosts D) (h : G
       let taken = committed s pid same.first same.count s.durable in
       let t = synced s pid same.first same.count in
       let t_is : t ≡ (msync_outcome s (Flat.msync_ruling s pid addr len mode)).state = sym (ap (λ (r : Flat.Ruling). (msync_outcome s r).state) same.ruling) in
-      let now : model → Shows g new t = λ m. record {
+      let now : model → CoreShows g new t = λ m. record {
         pages = pages;
         stands = λ k c may. subst (λ (x : ℕ). StandsFor x s.files taken c) (sym store.size) (ok k m (shows.stands (store.kept k)) c may);
       } in
-      let P : State → Type 0 = λ x. model → Shows g new x in
+      let P : State → Type 0 = λ x. model → CoreShows g new x in
       commit_ended model old new s after pid addr len mode Done chosen shows same takes store
       (Acknowledged refl (subst (λ (x : State). ShowsPages (picture_of new) x) t_is pages) (subst P t_is now) sound)
 
-  pub commit_failed : (model : Type 0) (old new : Core D E M m) (s : State) (after : Pages) (pid addr len : ℕ) (mode : MsyncMode) (chosen : Chosen) → Shows g old s
+  pub commit_failed : (model : Type 0) (old new : Core D E M m) (s : State) (after : Pages) (pid addr len : ℕ) (mode : MsyncMode) (chosen : Chosen) → CoreShows g old s
       → (same : TakesSame s pid addr len mode chosen) → commits s (Msync pid addr len mode) ≡ Some after → KeepsMemory old new
       → StoreCommits g model (g.sector_count old.store.disk) s.files s.durable (committed s pid same.first same.count s.durable) old.store new.store
       → g.failures old.store.disk < g.failures new.store.disk → Commits g h model old new s after (Msync pid addr len mode) (Refused EIO)
   commit_failed model old new s after pid addr len mode chosen shows same takes memory store grew =
       commit_ended model old new s after pid addr len mode (Refused EIO) chosen shows same takes store (Failed refl grew memory)
 
-  pub commit_unread : (model : Type 0) (old new : Core D E M m) (s : State) (after : Pages) (pid addr len : ℕ) (mode : MsyncMode) (chosen : Chosen) → Shows g old s
+  pub commit_unread : (model : Type 0) (old new : Core D E M m) (s : State) (after : Pages) (pid addr len : ℕ) (mode : MsyncMode) (chosen : Chosen) → CoreShows g old s
       → (same : TakesSame s pid addr len mode chosen) → commits s (Msync pid addr len mode) ≡ Some after → KeepsMemory old new
       → StoreCommits g model (g.sector_count old.store.disk) s.files s.durable (committed s pid same.first same.count s.durable) old.store new.store
       → h.failures old.swap.pages.disk < h.failures new.swap.pages.disk → ShowsPages (picture_of new) s → IsSoundCore g h new
@@ -466,7 +466,7 @@ module _ {M : Type 0} {m : Levels.Ghosts M} {D E : Type 0} (g : Ghosts D) (h : G
       → LeavesOnly g old.store.disk new.store.disk (StandsFor (g.sector_count old.store.disk) s.files s.durable))
       → Commits g h model old new s after (Msync pid addr len mode) (Stalled SwapDevice)
   commit_unread model old new s after pid addr len mode chosen shows same takes memory store grew pages sound now moments =
-      let still : Shows g new s = record {
+      let still : CoreShows g new s = record {
         pages = pages;
         stands = λ k c may. subst (λ (x : ℕ). StandsFor x s.files s.durable c) (sym store.size) (now k (shows.stands (store.kept k)) c may);
       } in

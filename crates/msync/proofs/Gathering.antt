@@ -9,7 +9,7 @@ use Rattle.vm_types.specs.declared.region.Backing.TheVariants.{Shared}
 use Rattle.page_cache.specs.CacheTable.{CacheTable, is_touched}
 use Rattle.page_cache.specs.Gathering.{IsTouchedIn, Gathers, HasAll}
 use Rattle.page_cache.specs.Gathering as Cache
-use Rattle.msync.specs.Choice.{of_files, page_at, in_file_row, is_taken_behind, AreInFiles, Appends, Overflows}
+use Rattle.msync.specs.Choice.{of_files, chosen_page, in_file_row, is_taken_behind, AreInFiles, Appends, OverflowsRow}
 use Rattle.msync.proofs.Walking.{both_true, and_true}
 
 -- a touched page of a row, or of the front of it, by tests
@@ -46,16 +46,16 @@ gathered t first count front used x y less reaches inside n gathers all = record
   order = gathers.longer;
   few = gathers.most;
   kept = gathers.kept;
-  each = λ i low high. behind t first count front (page_at y i) less (gathers.touched i low high);
+  each = λ i low high. behind t first count front (chosen_page y i) less (gathers.touched i low high);
   once = gathers.once;
   all = λ p e. all p (in_row_of t first count front p inside reaches e);
 }
 
 pub overflown : (t : CacheTable) (first : FilePage) (count front used : ℕ) (x y : List FilePage) → front ≤ count → used ≤ 1023 → Cache.Overflows t first.file first.page front used x y
-    → Overflows (is_taken_behind (of_files (is_touched t)) (Shared first) count) x used
+    → OverflowsRow (is_taken_behind (of_files (is_touched t)) (Shared first) count) x used
 overflown t first count front used x y short few over =
-    let at : ℕ → FilePage = λ i. if ltb i 1023 then page_at y i else over.missing in
-    let old : (i : ℕ) → i < 1023 → at i ≡ page_at y i = λ i less. let t : ltb i 1023 ≡ true = grind (arith, nat_tests) in rw t refl in
+    let at : ℕ → FilePage = λ i. if ltb i 1023 then chosen_page y i else over.missing in
+    let old : (i : ℕ) → i < 1023 → at i ≡ chosen_page y i = λ i less. let t : ltb i 1023 ≡ true = grind (arith, nat_tests) in rw t refl in
     let new : (i : ℕ) → 1023 ≤ i → at i ≡ over.missing = λ i more. let t : ltb i 1023 ≡ false = grind (arith, nat_tests) in rw t refl in
     let passes = is_taken_behind (of_files (is_touched t)) (Shared first) count in
     record {
@@ -63,7 +63,7 @@ overflown t first count front used x y short few over =
       kept = λ i less. old i (omega (arith, less, few)) ∙ over.full.kept i less;
       each = λ i low high.
           ⊎_elim
-          (λ (less : i < 1023). ap passes (old i less) ∙ behind t first count front (page_at y i) short (over.full.touched i low less))
+          (λ (less : i < 1023). ap passes (old i less) ∙ behind t first count front (chosen_page y i) short (over.full.touched i low less))
           (λ (more : 1023 ≤ i). ap passes (new i more) ∙ behind t first count front over.missing short over.touched)
           (cases_lt i 1023);
       once = λ i j less low high e.

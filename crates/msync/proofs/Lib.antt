@@ -10,3 +10,4 @@ pub mod Settled
 pub mod SettledPages
 pub mod Committing
 pub mod Asking
+pub mod Ends

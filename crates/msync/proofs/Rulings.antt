@@ -27,7 +27,7 @@ use Rattle.residency.specs.Parts.{IsFit}
 use Rattle.residency.specs.Shows.{ShowsPages}
 use Rattle.msync.specs.declared.chosen.Ruling.{Ruling}
 use Rattle.msync.specs.declared.chosen.Ruling.TheVariants.{Refuses, Passes, Takes}
-use Rattle.msync.specs.Choice.{of_files, page_at, shares_page, is_shared_in, is_chosen, Overflows, Lists, IsChoice, RulesSame, AreListed, AreTaken}
+use Rattle.msync.specs.Choice.{of_files, chosen_page, shares_page, is_shared_in, is_chosen, OverflowsRow, ListsTouched, IsRulingOn, RulesSame, AreListed, AreTaken}
 use Rattle.msync.proofs.Appending.{lists_same}
 use Rattle.msync.proofs.Totals.{total, IsWithin, at_least, exactly}
 use Rattle.msync.proofs.Walking.{both_true}
@@ -97,25 +97,25 @@ module _ (touched : FilePage → Bool) (map : ℕ → Option Attr) (s : State) (
   unfolding touched_count total
   total_of first count = refl
 
-  too_many : (first count : ℕ) → IsWithin touched 64 (2 ^ 20) → Overflows (is_chosen touched map first count) [] 0 → 1023 < touched_count s pid first count
+  too_many : (first count : ℕ) → IsWithin touched 64 (2 ^ 20) → OverflowsRow (is_chosen touched map first count) [] 0 → 1023 < touched_count s pid first count
   too_many first count within over =
       let n = at_least (λ page. touched_in s pid first count page.file page.page) 64 (2 ^ 20) over.at 1024 (taken_within first count within)
       (λ i less. sym (taken_is_chosen first count (over.at i)) ∙ over.each i (omega arith) less)
       (λ i j less high. over.once i j less (omega arith) high) in
       omega (arith, n, total_of first count)
 
-  same_lists : (first count : ℕ) (list : List FilePage) (n : ℕ) → Lists (is_chosen touched map first count) list n
-      → Lists (λ page. touched_in s pid first count page.file page.page) list n
+  same_lists : (first count : ℕ) (list : List FilePage) (n : ℕ) → ListsTouched (is_chosen touched map first count) list n
+      → ListsTouched (λ page. touched_in s pid first count page.file page.page) list n
   same_lists first count list n f =
       lists_same (is_chosen touched map first count) (λ page. touched_in s pid first count page.file page.page) list n
       (λ page. taken_is_chosen first count page) f
 
-  count_of : (first count : ℕ) (list : List FilePage) (n : ℕ) → IsWithin touched 64 (2 ^ 20) → Lists (is_chosen touched map first count) list n
+  count_of : (first count : ℕ) (list : List FilePage) (n : ℕ) → IsWithin touched 64 (2 ^ 20) → ListsTouched (is_chosen touched map first count) list n
       → touched_count s pid first count ≡ n
   count_of first count list n within f =
       let l = same_lists first count list n f in
       total_of first count
-      ∙ exactly (λ page. touched_in s pid first count page.file page.page) 64 (2 ^ 20) (page_at list) n (taken_within first count within) l.each l.once l.all
+      ∙ exactly (λ page. touched_in s pid first count page.file page.page) 64 (2 ^ 20) (chosen_page list) n (taken_within first count within) l.each l.once l.all
 
   -- covered rows
   covered_of : (first count : ℕ) → is_covered (attrs_of (s.views pid)) first count ≡ is_covered map first count
@@ -152,7 +152,7 @@ module _ (touched : FilePage → Bool) (map : ℕ → Option Attr) (s : State) (
 
   pub ruled_sync : (addr len : ℕ) (list : List FilePage) (r : Ruling) → IsWithin touched 64 (2 ^ 20) → addr % 4096 ≡ 0 → len ≢ 0
       → is_covered map (addr / 4096) (page_count len) ≡ true
-      → IsChoice (is_chosen touched map (addr / 4096) (page_count len)) list r → RulesSame s pid addr len Sync list r
+      → IsRulingOn (is_chosen touched map (addr / 4096) (page_count len)) list r → RulesSame s pid addr len Sync list r
   ruled_sync addr len list (Refuses errno) within aligned some covered choice =
       let n = too_many (addr / 4096) (page_count len) within choice.1 in
       let many : nat_lt 1023 (touched_count s pid (addr / 4096) (page_count len)) ≡ true = grind (arith, nat_tests, n) in
@@ -172,14 +172,14 @@ module _ (touched : FilePage → Bool) (map : ℕ → Option Attr) (s : State) (
       }
 
 pub listed_of : {mode : ℕ} (c : Picture mode) (map : ℕ → Option Attr) (first count : ℕ) (list : List FilePage) (r : Ruling) → length list ≡ 1023
-    → IsChoice (is_chosen (of_files c.touched) map first count) list r → AreListed c list r
+    → IsRulingOn (is_chosen (of_files c.touched) map first count) list r → AreListed c list r
 listed_of c map first count list (Refuses errno) room choice = tt
 listed_of c map first count list Passes room choice = tt
 listed_of c map first count list (Takes taken) room choice = record {
   some = choice.0;
   few = choice.1;
   room = room;
-  touched = λ i less. (both_true (c.touched (File (page_at list i))) (is_shared_in map first count (page_at list i)) (choice.2.each i less)).0;
+  touched = λ i less. (both_true (c.touched (File (chosen_page list i))) (is_shared_in map first count (chosen_page list i)) (choice.2.each i less)).0;
   once = choice.2.once;
 }
 
@@ -190,11 +190,11 @@ chosen_same touched a b first count page same =
     (any_same (λ i. shares_page (a (first + i)) page) (λ i. shares_page (b (first + i)) page) count (λ k. ap (λ (o : Option Attr). shares_page o page) (same (first + k))))
 
 pub taken_of : {mode : ℕ} (c : Picture mode) (map : ℕ → Option Attr) (pid addr len : ℕ) (list : List FilePage) (r : Ruling) → ((page : ℕ) → c.at pid page ≡ map page)
-    → IsChoice (is_chosen (of_files c.touched) map (addr / 4096) (page_count len)) list r → AreTaken c pid addr len list r
+    → IsRulingOn (is_chosen (of_files c.touched) map (addr / 4096) (page_count len)) list r → AreTaken c pid addr len list r
 taken_of c map pid addr len list (Refuses errno) same choice = tt
 taken_of c map pid addr len list Passes same choice = tt
 taken_of c map pid addr len list (Takes taken) same choice = λ i less.
-    chosen_same (of_files c.touched) (c.at pid) map (addr / 4096) (page_count len) (page_at list i) same ∙ choice.2.each i less
+    chosen_same (of_files c.touched) (c.at pid) map (addr / 4096) (page_count len) (chosen_page list i) same ∙ choice.2.each i less
 
 -- touched pages are pages of files, of which there are 64, of fewer than 2 ^ 32 bytes
 in_file : (d : Directory) (f : ℕ) (o : Option Entry) (info : FileInfo) → entry_of d f ≡ o → option_map (λ e. e.info) o ≡ Some info → (f < 64) × (info.length < 2 ^ 32)

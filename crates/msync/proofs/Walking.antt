@@ -11,7 +11,7 @@ use Rattle.vm_types.specs.declared.region.Backing.TheVariants.{Anon, Private, Sh
 use Rattle.vm_types.specs.Attributes.{backing_after}
 use Rattle.vm_types.specs.Counting.{any_below}
 use Rattle.vm_types.specs.Msync.{is_shared_page}
-use Rattle.msync.specs.Choice.{stands_behind, is_taken_behind, shares_page, is_shared_in, is_chosen, Appends, Overflows}
+use Rattle.msync.specs.Choice.{stands_behind, is_taken_behind, shares_page, is_shared_in, is_chosen, Appends, OverflowsRow}
 use Rattle.msync.proofs.Appending.{nothing, in_turn, renamed, over}
 
 -- tests
@@ -150,8 +150,8 @@ module _ (mode : ℕ) where
 module _ (mode : ℕ) where
   pub walk_over : (touched : FilePage → Bool) (map : ℕ → Option Attr) (first page stop end : ℕ) (run : Run) (x y : List FilePage) (v : ℕ)
       → IsNextRun mode map page run → first ≤ page → page ≤ end → stop ≤ run.end → stop ≤ end
-      → Appends (is_chosen touched map first (page - first)) x y 0 v → Overflows (is_taken_behind touched run.attr.backing (stop - run.first)) y v
-      → Overflows (is_chosen touched map first (end - first)) x 0
+      → Appends (is_chosen touched map first (page - first)) x y 0 v → OverflowsRow (is_taken_behind touched run.attr.backing (stop - run.first)) y v
+      → OverflowsRow (is_chosen touched map first (end - first)) x 0
   walk_over touched map first page stop end run x y v next from order high within f g =
       over (is_chosen touched map first (page - first)) (is_taken_behind touched run.attr.backing (stop - run.first)) (is_chosen touched map first (end - first)) x y 0 v
       (λ p e. chosen_longer touched map first (page - first) (end - first) p (omega arith) e)

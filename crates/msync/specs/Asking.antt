@@ -11,7 +11,7 @@ use Rattle.vm_types.specs.declared.number.SlotNo.{SlotNo}
 use Rattle.page_cache.specs.declared.place.Place.TheVariants.{Slot}
 use Rattle.residency.specs.declared.kernel.Core.{Core}
 use Rattle.residency.specs.Picture.{Picture, picture_of}
-use Rattle.msync.specs.Choice.{Chosen, page_at, is_taken}
+use Rattle.msync.specs.Choice.{Chosen, chosen_page, takes_page}
 
 module _ {mode : ℕ} where
   -- a sector of the slot that a file page lies in
@@ -20,11 +20,11 @@ module _ {mode : ℕ} where
 
   -- a sector of the slot that a page of the commit lies in
   abbrev pub IsSectorListed : Picture mode → Chosen → ℕ → Type 0
-  IsSectorListed c chosen k = (i : ℕ) × (i < chosen.count) × IsSectorOfFilePage c (page_at chosen.list i) k
+  IsSectorListed c chosen k = (i : ℕ) × (i < chosen.count) × IsSectorOfFilePage c (chosen_page chosen.list i) k
 
   -- a sector of the slot that a page lies in which an msync of these bytes takes
   abbrev pub IsSectorTaken : Picture mode → ℕ → ℕ → ℕ → ℕ → Type 0
-  IsSectorTaken c pid addr len k = (page : FilePage) × (is_taken c pid addr len page ≡ true) × IsSectorOfFilePage c page k
+  IsSectorTaken c pid addr len k = (page : FilePage) × (takes_page c pid addr len page ≡ true) × IsSectorOfFilePage c page k
 
 module _ {M : Type 0} {m : Levels.Ghosts M} {D E : Type 0} (g : Ghosts D) (h : Ghosts E) where
   -- Which sectors an msync asks for, of both devices.

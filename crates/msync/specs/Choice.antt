@@ -34,8 +34,8 @@ abbrev pub first_page : FilePage
 first_page = record { file = 0; page = 0 }
 
 -- the page at a place of a list
-abbrev pub page_at : List FilePage → ℕ → FilePage
-page_at list i = get_or list i first_page
+abbrev pub chosen_page : List FilePage → ℕ → FilePage
+chosen_page list i = get_or list i first_page
 
 -- whether a file page is one of the count pages of a file from first on
 abbrev pub in_file_row : FilePage → ℕ → FilePage → Bool
@@ -77,36 +77,36 @@ is_chosen touched map first count page = touched page && is_shared_in map first 
 pub record Appends (passes : FilePage → Bool) (old new : List FilePage) (used now : ℕ) : Type 0 where
   pub order : used ≤ now
   pub few : now ≤ msync_pages
-  pub kept : (i : ℕ) → i < used → page_at new i ≡ page_at old i
-  pub each : (i : ℕ) → used ≤ i → i < now → passes (page_at new i) ≡ true
-  pub once : (i j : ℕ) → i < j → used ≤ j → j < now → page_at new i ≢ page_at new j
-  pub all : (page : FilePage) → passes page ≡ true → (i : ℕ) × (i < now) × (page_at new i ≡ page)
+  pub kept : (i : ℕ) → i < used → chosen_page new i ≡ chosen_page old i
+  pub each : (i : ℕ) → used ≤ i → i < now → passes (chosen_page new i) ≡ true
+  pub once : (i j : ℕ) → i < j → used ≤ j → j < now → chosen_page new i ≢ chosen_page new j
+  pub all : (page : FilePage) → passes page ≡ true → (i : ℕ) × (i < now) × (chosen_page new i ≡ page)
 
 -- That would be over 1,023: here are 1,024 such pages, those of the first used places included.
-pub record Overflows (passes : FilePage → Bool) (old : List FilePage) (used : ℕ) : Type 0 where
+pub record OverflowsRow (passes : FilePage → Bool) (old : List FilePage) (used : ℕ) : Type 0 where
   pub at : ℕ → FilePage
-  pub kept : (i : ℕ) → i < used → at i ≡ page_at old i
+  pub kept : (i : ℕ) → i < used → at i ≡ chosen_page old i
   pub each : (i : ℕ) → used ≤ i → i < 1024 → passes (at i) ≡ true
   pub once : (i j : ℕ) → i < j → used ≤ j → j < 1024 → at i ≢ at j
 
 -- The file pages in the list are those that pass, each once.
-pub record Lists (passes : FilePage → Bool) (list : List FilePage) (count : ℕ) : Type 0 where
-  pub each : (i : ℕ) → i < count → passes (page_at list i) ≡ true
-  pub once : (i j : ℕ) → i < j → j < count → page_at list i ≢ page_at list j
-  pub all : (page : FilePage) → passes page ≡ true → (i : ℕ) × (i < count) × (page_at list i ≡ page)
+pub record ListsTouched (passes : FilePage → Bool) (list : List FilePage) (count : ℕ) : Type 0 where
+  pub each : (i : ℕ) → i < count → passes (chosen_page list i) ≡ true
+  pub once : (i j : ℕ) → i < j → j < count → chosen_page list i ≢ chosen_page list j
+  pub all : (page : FilePage) → passes page ≡ true → (i : ℕ) × (i < count) × (chosen_page list i ≡ page)
 
 -- the touched pages of a row: over 1,023, none, or all of them
-abbrev pub IsChoice : (FilePage → Bool) → List FilePage → Ruling → Type 0
-IsChoice passes list (Refuses errno) = (errno ≡ ENOSPC) × Overflows passes [] 0
-IsChoice passes list Passes = Lists passes [] 0
-IsChoice passes list (Takes count) = (0 < count) × (count ≤ msync_pages) × Lists passes list count
+abbrev pub IsRulingOn : (FilePage → Bool) → List FilePage → Ruling → Type 0
+IsRulingOn passes list (Refuses errno) = (errno ≡ ENOSPC) × OverflowsRow passes [] 0
+IsRulingOn passes list Passes = ListsTouched passes [] 0
+IsRulingOn passes list (Takes count) = (0 < count) × (count ≤ msync_pages) × ListsTouched passes list count
 
 -- what is taken is what the flat model takes
 pub record TakesSame (s : State) (pid addr len : ℕ) (mode : MsyncMode) (chosen : Chosen) : Type 0 where
   pub first : ℕ
   pub count : ℕ
   pub ruling : msync_ruling s pid addr len mode ≡ Flat.Takes pid first count
-  pub lists : Lists (λ page. touched_in s pid first count page.file page.page) chosen.list chosen.count
+  pub lists : ListsTouched (λ page. touched_in s pid first count page.file page.page) chosen.list chosen.count
 
 -- the ruling of the flat model
 abbrev pub RulesSame : State → ℕ → ℕ → ℕ → MsyncMode → List FilePage → Ruling → Type 0
@@ -116,18 +116,18 @@ RulesSame s pid addr len mode list (Takes count) = TakesSame s pid addr len mode
 
 -- the pages of a commit: some, each once, all touched
 module _ {mode : ℕ} where
-  pub record IsListed (c : Picture mode) (chosen : Chosen) : Type 0 where
+  pub record IsListedPage (c : Picture mode) (chosen : Chosen) : Type 0 where
     pub some : 0 < chosen.count
     pub few : chosen.count ≤ msync_pages
     pub room : length chosen.list ≡ msync_pages
-    pub touched : (i : ℕ) → i < chosen.count → c.touched (File (page_at chosen.list i)) ≡ true
-    pub once : (i j : ℕ) → i < j → j < chosen.count → page_at chosen.list i ≢ page_at chosen.list j
+    pub touched : (i : ℕ) → i < chosen.count → c.touched (File (chosen_page chosen.list i)) ≡ true
+    pub once : (i j : ℕ) → i < j → j < chosen.count → chosen_page chosen.list i ≢ chosen_page chosen.list j
 
 module _ {mode : ℕ} where
   abbrev pub AreListed : Picture mode → List FilePage → Ruling → Type 0
   AreListed c list (Refuses errno) = Unit {0}
   AreListed c list Passes = Unit {0}
-  AreListed c list (Takes count) = IsListed c (chosen_of list count)
+  AreListed c list (Takes count) = IsListedPage c (chosen_of list count)
 
 -- a refusal that doesn't come from the store's device
 abbrev pub IsNoDeviceFault : Ruling → Type 0
@@ -137,21 +137,21 @@ IsNoDeviceFault (Takes count) = Unit {0}
 
 -- whether an msync of these bytes takes the file page: it is touched, and stands behind a shared page of them
 module _ {mode : ℕ} where
-  abbrev pub is_taken : Picture mode → ℕ → ℕ → ℕ → FilePage → Bool
-  is_taken c pid addr len page = is_chosen (of_files c.touched) (c.at pid) (addr / 4096) (page_count len) page
+  abbrev pub takes_page : Picture mode → ℕ → ℕ → ℕ → FilePage → Bool
+  takes_page c pid addr len page = is_chosen (of_files c.touched) (c.at pid) (addr / 4096) (page_count len) page
 
 module _ {mode : ℕ} where
   abbrev pub AreTaken : Picture mode → ℕ → ℕ → ℕ → List FilePage → Ruling → Type 0
   AreTaken c pid addr len list (Refuses errno) = Unit {0}
   AreTaken c pid addr len list Passes = Unit {0}
-  AreTaken c pid addr len list (Takes count) = (i : ℕ) → i < count → is_taken c pid addr len (page_at list i) ≡ true
+  AreTaken c pid addr len list (Takes count) = (i : ℕ) → i < count → takes_page c pid addr len (chosen_page list i) ≡ true
 
 -- a page that it takes lies in a slot
 module _ {mode : ℕ} where
   pub record TakesAway (c : Picture mode) (pid addr len : ℕ) : Type 0 where
     pub page : FilePage
     pub slot : SlotNo
-    pub taken : is_taken c pid addr len page ≡ true
+    pub taken : takes_page c pid addr len page ≡ true
     pub placed : c.place (File page) ≡ Slot slot
 
 -- a page of the commit lies in a slot
@@ -160,4 +160,4 @@ module _ {mode : ℕ} where
     pub number : ℕ
     pub below : number < chosen.count
     pub slot : SlotNo
-    pub placed : c.place (File (page_at chosen.list number)) ≡ Slot slot
+    pub placed : c.place (File (chosen_page chosen.list number)) ≡ Slot slot

@@ -18,7 +18,7 @@ use Rattle.residency.specs.declared.kernel.Core.{Core}
 use Rattle.residency.specs.Picture.{picture_of}
 use Rattle.residency.specs.Shows.{ShowsPages}
 use Rattle.msync.specs.Choice.{TakesAway}
-use Rattle.msync.specs.Shows.{IsSoundCore, Shows}
+use Rattle.msync.specs.Shows.{IsSoundCore, CoreShows}
 
 module _ {M : Type 0} {m : Levels.Ghosts M} {D E : Type 0} where
   -- memory and slots are as they were, and the store has the same files
@@ -41,10 +41,10 @@ module _ {M : Type 0} {m : Levels.Ghosts M} {D E : Type 0} (g : Ghosts D) (h : G
   -- The commit was made; or the store failed in it, and memory is as it was; or a slot couldn't be read, and so are memory and
   -- what every image of a stop stands for, at every moment. What is durable then is told as long as slots gave back what was put.
   pub data IsEnd (given_back : Type 0) (old new : Core D E M m) (s : State) (command : Command) (reply : Reply) : Type 0 where
-    Acknowledged : reply ≡ Done → ShowsPages (picture_of new) (outcome s command).state → (given_back → Shows g new (outcome s command).state) → IsSoundCore g h new
+    Acknowledged : reply ≡ Done → ShowsPages (picture_of new) (outcome s command).state → (given_back → CoreShows g new (outcome s command).state) → IsSoundCore g h new
         → IsEnd given_back old new s command reply
     Failed : reply ≡ Refused EIO → g.failures old.store.disk < g.failures new.store.disk → KeepsMemory old new → IsEnd given_back old new s command reply
-    Unread : reply ≡ Stalled SwapDevice → h.failures old.swap.pages.disk < h.failures new.swap.pages.disk → KeepsMemory old new → Shows g new s → IsSoundCore g h new
+    Unread : reply ≡ Stalled SwapDevice → h.failures old.swap.pages.disk < h.failures new.swap.pages.disk → KeepsMemory old new → CoreShows g new s → IsSoundCore g h new
         → (g.keeps_model new.store.disk → LeavesOnly g old.store.disk new.store.disk (StandsFor (g.sector_count old.store.disk) s.files s.durable))
         → IsEnd given_back old new s command reply
 

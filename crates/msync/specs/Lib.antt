@@ -5,3 +5,4 @@ pub mod Settling
 pub mod Shows
 pub mod Core
 pub mod Asking
+pub mod SyncEnds

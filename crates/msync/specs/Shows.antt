@@ -13,7 +13,7 @@ use Rattle.residency.specs.Shows.{ShowsPages}
 
 module _ {M : Type 0} {m : Levels.Ghosts M} {D E : Type 0} (g : Ghosts D) where
   -- The memory shows the state, and every image that a stop may leave now stands for its durable files.
-  pub record Shows (c : Core D E M m) (s : State) : Type 0 where
+  pub record CoreShows (c : Core D E M m) (s : State) : Type 0 where
     pub pages : ShowsPages (picture_of c) s
     pub stands : g.keeps_model c.store.disk → LeavesNow g c.store.disk (StandsFor (g.sector_count c.store.disk) s.files s.durable)
 

@@ -15,7 +15,7 @@ use Rattle.residency.specs.Picture.{Picture}
 use Rattle.msync.specs.declared.chosen.Residence.{Residence}
 use Rattle.msync.specs.declared.chosen.Residence.TheVariants.{Framed, Slotted}
 use Rattle.msync.specs.declared.chosen.Spot.{Spot}
-use Rattle.msync.specs.Choice.{page_at}
+use Rattle.msync.specs.Choice.{chosen_page}
 
 abbrev pub framed_at : FilePage → FrameNo → Spot
 framed_at page frame = record { page = page; at = Framed frame }
@@ -74,7 +74,7 @@ module _ {mode : ℕ} where
 module _ {mode : ℕ} where
   pub record HasSpots (c : Picture mode) (pages : List FilePage) (list : List Spot) : Type 0 where
     pub count : length list ≡ length pages
-    pub same : (i : ℕ) → i < length pages → (spot_at list i).page ≡ page_at pages i
+    pub same : (i : ℕ) → i < length pages → (spot_at list i).page ≡ chosen_page pages i
     pub spots : (i : ℕ) → i < length pages → IsSpot c (spot_at list i)
     pub whole : (i : ℕ) → i < length pages → length (bytes_there c.frames c.slots (spot_at list i).at) ≡ 4096
 

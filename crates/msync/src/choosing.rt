@@ -9,9 +9,9 @@ ghost use Rattle.page_cache.specs.CacheTable.{is_touched};
 ghost use Rattle.residency.specs.Picture.{picture_of};
 ghost use Rattle.residency.specs.Parts.{IsFit};
 ghost use Rattle.residency.specs.Shows.{ShowsPages};
-ghost use Rattle.msync.specs.Choice.{of_files, is_taken_behind, is_chosen, AreInFiles, Appends, Overflows, IsChoice, RulesSame, AreListed, AreTaken, IsNoDeviceFault};
+ghost use Rattle.msync.specs.Choice.{of_files, is_taken_behind, is_chosen, AreInFiles, Appends, OverflowsRow, IsRulingOn, RulesSame, AreListed, AreTaken, IsNoDeviceFault};
 
-use crate::chosen::Ruling;
+use crate::chosen::{Ruling, SyncCall};
 use page_cache::{PageCache, TooMany};
 use regions::Regions;
 use residency::Core;
@@ -23,18 +23,21 @@ const PAGE: u64 = PAGE_BYTES as u64;
 /// Judges an msync: the checks of msync(2) in our order. The pages that it takes are at the front of the list.
 pub(crate) fn rule<D, E, M: Levels>(
     core: &Core<D, E, M>,
-    pid: u64,
-    addr: u64,
-    len: u64,
-    mode: MsyncMode,
+    call: SyncCall,
     list: &mut [FilePage; MSYNC_PAGES],
 ) -> Ruling
     requires fit { IsFit (picture_of core.now) }
-    ensures same { (s : State) → ShowsPages (picture_of core.now) s → RulesSame s pid addr len mode list.new result }
+    ensures same { (s : State) → ShowsPages (picture_of core.now) s → RulesSame s call.pid call.addr call.len call.mode list.new result }
     ensures listed { AreListed (picture_of core.now) list.new result }
-    ensures taken { AreTaken (picture_of core.now) pid addr len list.new result }
+    ensures taken { AreTaken (picture_of core.now) call.pid call.addr call.len list.new result }
     ensures no_fault { IsNoDeviceFault result }
 {
+    let SyncCall {
+        pid,
+        addr,
+        len,
+        mode,
+    } = call;
     let Some(process) = core.live(pid) else {
         return Ruling::Refuses(Errno::ESRCH);
     };
@@ -67,7 +70,7 @@ fn choose<M: Levels>(
     requires room { first + count < 2 ^ 64 }
     requires user { IsUserMap M.mode (attr_at regions.now) }
     requires inside { AreInFiles (of_files (is_touched cache.now)) }
-    ensures { IsChoice (is_chosen (of_files (is_touched cache.now)) (attr_at regions.now) first count) list.new result }
+    ensures { IsRulingOn (is_chosen (of_files (is_touched cache.now)) (attr_at regions.now) first count) list.new result }
 {
     match choose_between(regions, cache, first, first + count, list) {
         Err(TooMany) => Ruling::Refuses(Errno::ENOSPC),
@@ -89,7 +92,7 @@ fn choose_between<M: Levels>(
     requires user { IsUserMap M.mode (attr_at regions.now) }
     requires inside { AreInFiles (of_files (is_touched cache.now)) }
     ensures ok { IfOk result (Appends (is_chosen (of_files (is_touched cache.now)) (attr_at regions.now) first (end - first)) list.old list.new 0) }
-    ensures too_many { OnErr result (Overflows (is_chosen (of_files (is_touched cache.now)) (attr_at regions.now) first (end - first)) list.old 0) }
+    ensures too_many { OnErr result (OverflowsRow (is_chosen (of_files (is_touched cache.now)) (attr_at regions.now) first (end - first)) list.old 0) }
 {
     let mut count = 0;
     let mut page = first;
@@ -117,7 +120,7 @@ fn choose_behind(
     requires inside { AreInFiles (of_files (is_touched cache.now)) }
     requires few { used ≤ msync_pages }
     ensures ok { IfOk result (Appends (is_taken_behind (of_files (is_touched cache.now)) backing count) list.old list.new used) }
-    ensures too_many { OnErr result (Overflows (is_taken_behind (of_files (is_touched cache.now)) backing count) list.old used) }
+    ensures too_many { OnErr result (OverflowsRow (is_taken_behind (of_files (is_touched cache.now)) backing count) list.old used) }
 {
     match backing {
         Backing::Anon | Backing::Private(_) | Backing::Common(_) => Ok(used),

@@ -1,5 +1,14 @@
 //! The file pages that an msync makes durable.
-use vm_types::{Errno, FilePage, FrameNo, SlotNo};
+use vm_types::{Errno, FilePage, FrameNo, MsyncMode, SlotNo};
+
+/// What an msync is asked for: the `len` bytes of a process from `addr` on.
+#[derive(Clone, Copy, Debug, PartialEq, Eq)]
+pub(crate) struct SyncCall {
+    pub pid: u64,
+    pub addr: u64,
+    pub len: u64,
+    pub mode: MsyncMode,
+}
 
 /// How an msync is judged.
 #[derive(Clone, Copy, Debug, PartialEq, Eq)]

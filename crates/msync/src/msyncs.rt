@@ -1,33 +1,29 @@
 //! msync: file pages made durable through the store.
-ghost use Rattle.std.specs.Prelude.{◌≡◌, ◌≢◌, ◌≤◌, ◌<◌, ◌⊎◌, ℕ, true, Some, None, length, take};
+ghost use Rattle.std.specs.Prelude.{◌≡◌, ◌≤◌, ◌<◌, ℕ, true, Some, length, take};
 ghost use Rattle.vm_types.specs.Limits.{msync_pages};
 ghost use Rattle.vm_types.specs.Replies.{reply_of};
 ghost use Rattle.vm_types.specs.State.{State};
-ghost use Rattle.vm_types.specs.Step.{outcome, commits};
+ghost use Rattle.vm_types.specs.Step.{commits};
 ghost use Rattle.vm_types.specs.View.{Pages};
 ghost use Rattle.vm_types.specs.declared.command.Command.TheVariants.{Msync};
 ghost use Rattle.vm_types.specs.declared.refusal.Errno.{Errno};
 ghost use Rattle.vm_types.specs.declared.refusal.Errno.TheVariants.{EIO};
-ghost use Rattle.vm_types.specs.declared.refusal.Stall.{Stall};
-ghost use Rattle.vm_types.specs.declared.refusal.Stall.TheVariants.{SwapDevice};
 ghost use Rattle.vm_types.specs.declared.command.MsyncMode.{MsyncMode as Mode};
 ghost use Rattle.vm_types.specs.declared.object.PageKey.TheVariants.{File};
 ghost use Rattle.disk_model.specs.Moments.{AsksOnly};
 ghost use Rattle.sync_journal.specs.Kinds.{IsStoreUsed};
-ghost use Rattle.frames.specs.FrameTable.{frame_count};
-ghost use Rattle.swap.specs.Slots.{slots_of, IsReady};
+ghost use Rattle.swap.specs.Slots.{slots_of};
 ghost use Rattle.residency.specs.Picture.{picture_of};
 ghost use Rattle.residency.specs.Parts.{IsFit};
-ghost use Rattle.residency.specs.Calls.{UsesDevice};
-ghost use Rattle.msync.specs.Core.{Commits, GivesBack};
-ghost use Rattle.msync.specs.Asking.{AsksToCommit, IsSectorListed};
-ghost use Rattle.msync.specs.Shows.{IsSoundCore, Shows};
-ghost use Rattle.msync.specs.Choice.{chosen_of, IsListed, TakesSame, TakesAway, IsAway, page_at};
+ghost use Rattle.msync.specs.SyncEnds.{EndsCommit, SyncsBytes};
+ghost use Rattle.msync.specs.Asking.{IsSectorListed};
+ghost use Rattle.msync.specs.Choice.{chosen_of, IsListedPage, TakesSame, IsAway, chosen_page};
+ghost use Rattle.msync.specs.Core.{Commits};
+ghost use Rattle.msync.specs.Shows.{IsSoundCore, CoreShows};
 ghost use Rattle.msync.specs.Spots.{HasSpots, IsSpot, bytes_there};
-ghost use Rattle.msync.specs.Settling.{SettlesMemory};
 
 use crate::choosing::rule;
-use crate::chosen::{Residence, Ruling, Spot};
+use crate::chosen::{Residence, Ruling, Spot, SyncCall};
 use crate::page_source::TouchedPages;
 use crate::room::SyncRoom;
 use crate::settling::settle;
@@ -51,7 +47,6 @@ use vm_types::{Answer, Errno, FilePage, Levels, MSYNC_PAGES, MsyncMode, PageKey,
 ///
 /// What becomes durable of a page in a slot is what was put there as long as the swap device keeps its model. Its time is that of
 /// the touched pages times the runs of all processes, however long they are.
-#[tactic(auto, using(crate::proofs::SettledPages::settles_nothing))]
 pub fn msync<D: SectorDisk, E: SectorDisk, M: Levels>(
     core: &mut Core<D, E, M>,
     room: &mut SyncRoom,
@@ -61,31 +56,16 @@ pub fn msync<D: SectorDisk, E: SectorDisk, M: Levels>(
     mode: MsyncMode,
 ) -> Answer
     requires sound { IsSoundCore D.SectorDisk E.SectorDisk core.old }
-    ensures passes { (s : State) → Shows D.SectorDisk core.old s → commits s (Msync pid addr len mode) ≡ None
-        → (reply_of result ≡ (outcome s (Msync pid addr len mode)).reply) × (core.new ≡ core.old) }
-    ensures commits { (s : State) (after : Pages) → Shows D.SectorDisk core.old s → commits s (Msync pid addr len mode) ≡ Some after
-        → Commits D.SectorDisk E.SectorDisk (GivesBack D.SectorDisk E.SectorDisk core.old core.new pid addr len) core.old core.new s after (Msync pid addr len mode) (reply_of result) }
-    ensures ready { result ≢ Answer.Refused EIO → IsSoundCore D.SectorDisk E.SectorDisk core.new }
-    ensures fit { IsFit (picture_of core.new) }
-    ensures kept { D.keeps_model core.new.store.disk → D.keeps_model core.old.store.disk }
-    ensures size { D.sector_count core.new.store.disk ≡ D.sector_count core.old.store.disk }
-    ensures swap { IsReady E.SectorDisk core.new.swap }
-    ensures device { UsesDevice E.SectorDisk core.old.swap.pages.disk core.new.swap.pages.disk }
-    ensures asks { AsksToCommit D.SectorDisk E.SectorDisk core.old core.new pid addr len }
-    ensures frames { frame_count core.new.frames ≡ frame_count core.old.frames }
-    ensures slots { (slots_of core.new.swap).total ≡ (slots_of core.old.swap).total }
-    ensures later { D.failures core.old.store.disk ≤ D.failures core.new.store.disk }
-    ensures cause { result ≡ Answer.Refused EIO → D.failures core.old.store.disk < D.failures core.new.store.disk }
-    ensures calm { result ≢ Answer.Refused EIO → D.failures core.new.store.disk ≡ D.failures core.old.store.disk }
-    ensures stalled { (stall : Stall) → result ≡ Answer.Stalled stall → (stall ≡ SwapDevice) × (E.failures core.old.swap.pages.disk < E.failures core.new.swap.pages.disk) }
-    ensures still { ((stall : Stall) → result ≢ Answer.Stalled stall) → E.failures core.new.swap.pages.disk ≡ E.failures core.old.swap.pages.disk }
-    ensures away { (core.new.swap ≡ core.old.swap) ⊎ TakesAway (picture_of core.old) pid addr len }
-    ensures refused { core.new.refused ≡ core.old.refused }
-    ensures memory { SettlesMemory (picture_of core.old) (picture_of core.new) }
-    ensures unasked { (errno : Errno) → result ≡ Answer.Refused errno → errno ≢ EIO → core.new ≡ core.old }
+    ensures { SyncsBytes D.SectorDisk E.SectorDisk core.old core.new pid addr len mode result }
 {
     let list = room.pages.list();
-    match rule(core, pid, addr, len, mode, list) {
+    let call = SyncCall {
+        pid,
+        addr,
+        len,
+        mode,
+    };
+    match rule(core, call, list) {
         Ruling::Refuses(errno) => Answer::Refused(errno),
         Ruling::Passes => Answer::Done,
         Ruling::Takes(count) => commit(core, list, count, room.spots.list()),
@@ -101,28 +81,13 @@ fn commit<D: SectorDisk, E: SectorDisk, M: Levels>(
     spots: &mut [Spot; MSYNC_PAGES],
 ) -> Answer
     requires sound { IsSoundCore D.SectorDisk E.SectorDisk core.old }
-    requires listed { IsListed (picture_of core.old) (chosen_of list.now count) }
-    ensures commits { (s : State) (after : Pages) (pid addr len : ℕ) (mode : Mode) → Shows D.SectorDisk core.old s
+    requires listed { IsListedPage (picture_of core.old) (chosen_of list.now count) }
+    ensures commits { (s : State) (after : Pages) (pid addr len : ℕ) (mode : Mode) → CoreShows D.SectorDisk core.old s
         → commits s (Msync pid addr len mode) ≡ Some after → TakesSame s pid addr len mode (chosen_of list.now count)
         → Commits D.SectorDisk E.SectorDisk (IsAway (picture_of core.old) (chosen_of list.now count) → E.keeps_model core.new.swap.pages.disk) core.old core.new s after (Msync pid addr len mode) (reply_of result) }
-    ensures ready { result ≢ Answer.Refused EIO → IsSoundCore D.SectorDisk E.SectorDisk core.new }
-    ensures fit { IsFit (picture_of core.new) }
-    ensures kept { D.keeps_model core.new.store.disk → D.keeps_model core.old.store.disk }
-    ensures size { D.sector_count core.new.store.disk ≡ D.sector_count core.old.store.disk }
-    ensures swap { IsReady E.SectorDisk core.new.swap }
-    ensures device { UsesDevice E.SectorDisk core.old.swap.pages.disk core.new.swap.pages.disk }
+    ensures ends { EndsCommit D.SectorDisk E.SectorDisk (IsAway (picture_of core.old) (chosen_of list.now count)) core.old core.new result }
     ensures asks_store { AsksOnly D.SectorDisk (IsStoreUsed core.old.store.journal) core.old.store.disk core.new.store.disk }
     ensures asks_slots { AsksOnly E.SectorDisk (IsSectorListed (picture_of core.old) (chosen_of list.now count)) core.old.swap.pages.disk core.new.swap.pages.disk }
-    ensures frames { frame_count core.new.frames ≡ frame_count core.old.frames }
-    ensures slots { (slots_of core.new.swap).total ≡ (slots_of core.old.swap).total }
-    ensures later { D.failures core.old.store.disk ≤ D.failures core.new.store.disk }
-    ensures cause { result ≡ Answer.Refused EIO → D.failures core.old.store.disk < D.failures core.new.store.disk }
-    ensures calm { result ≢ Answer.Refused EIO → D.failures core.new.store.disk ≡ D.failures core.old.store.disk }
-    ensures stalled { (stall : Stall) → result ≡ Answer.Stalled stall → (stall ≡ SwapDevice) × (E.failures core.old.swap.pages.disk < E.failures core.new.swap.pages.disk) }
-    ensures still { ((stall : Stall) → result ≢ Answer.Stalled stall) → E.failures core.new.swap.pages.disk ≡ E.failures core.old.swap.pages.disk }
-    ensures away { (core.new.swap ≡ core.old.swap) ⊎ IsAway (picture_of core.old) (chosen_of list.now count) }
-    ensures refused { core.new.refused ≡ core.old.refused }
-    ensures memory { SettlesMemory (picture_of core.old) (picture_of core.new) }
     ensures answers { (errno : Errno) → result ≡ Answer.Refused errno → errno ≡ EIO }
 {
     let list = &list[..count];
@@ -151,7 +116,7 @@ fn fill_spots<D, E, M: Levels>(
 )
     requires fit { IsFit (picture_of core.now) }
     requires few { length pages.now ≤ msync_pages }
-    requires touched { (i : ℕ) → i < length pages.now → (picture_of core.now).touched (File (page_at pages.now i)) ≡ true }
+    requires touched { (i : ℕ) → i < length pages.now → (picture_of core.now).touched (File (chosen_page pages.now i)) ≡ true }
     ensures { HasSpots (picture_of core.now) pages.now (take (length pages.now) spots.new) }
 {
     for i in 0..pages.len() {

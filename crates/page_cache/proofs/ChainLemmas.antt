@@ -4,7 +4,7 @@ use Rattle.std.proofs.lemmas.Bool.{cases_eq, cases_lt, cases_order, both_ways, t
 use Rattle.std.proofs.lemmas.List.{length-replicate, get_or-replicate}
 use Rattle.vm_types.specs.declared.object.PageKey.{PageKey}
 use Rattle.page_cache.specs.Nodes.{page_at, holds}
-use Rattle.page_cache.specs.Chains.{bucket_of, is_in_bucket, IsNext, IsLinkOf, IsChained, IsSeat, IsEmptyIndex}
+use Rattle.page_cache.specs.Chains.{bucket_of, is_in_bucket, IsNext, IsLinkOf, AreChained, IsSeat, IsEmptyIndex}
 use Rattle.page_cache.proofs.NodeLemmas.{page_at-emptied, page_at-within, holds-false}
 
 -- a node holds a page of one bucket
@@ -25,7 +25,7 @@ bucket-inside pages mask b n here =
     page_at-within pages n some.0 some.1
 
 -- an index of a link is one of the list
-pub link-inside : (pages : List (Option PageKey)) (links : List ℕ) (mask b low at : ℕ) → IsChained pages links mask → b ≤ mask → IsLinkOf pages mask b low at → at < length links
+pub link-inside : (pages : List (Option PageKey)) (links : List ℕ) (mask b low at : ℕ) → AreChained pages links mask → b ≤ mask → IsLinkOf pages mask b low at → at < length links
 link-inside pages links mask b low at chained within (inl own) = omega (arith, chained.count, own.0)
 link-inside pages links mask b low at chained within (inr next) =
     let inside = bucket-inside pages mask b next.0 next.3 in
@@ -82,7 +82,7 @@ still : (old new : List (Option PageKey)) (r mask b m : ℕ) → SameButAt r old
 still old new r mask b m same other t e = ap (is_in_bucket mask b) (same m other) ∙ e
 
 -- the node r gives up its page: the link that led to it leads to the next of its bucket
-module _ (old : List (Option PageKey)) (links : List ℕ) (mask b r at : ℕ) (chained : IsChained old links mask) (within : b ≤ mask)
+module _ (old : List (Option PageKey)) (links : List ℕ) (mask b r at : ℕ) (chained : AreChained old links mask) (within : b ≤ mask)
     (held : is_in_bucket mask b (page_at old r) ≡ true) (seat : IsSeat old links mask b r at) (from : r ≤ get_or links at 0) where
   seat-next : IsNext old mask b seat.low (get_or links at 0)
   seat-next = chained.link b seat.low at within seat.link
@@ -156,7 +156,7 @@ module _ (old : List (Option PageKey)) (links : List ℕ) (mask b r at : ℕ) (c
         passed = λ m above below. cleared d m (next.passed m above below);
       }
 
-  pub IsChained-removed : IsChained (set old r None) (set links at (get_or links (mask + 1 + r) 0)) mask
+  pub IsChained-removed : AreChained (set old r None) (set links at (get_or links (mask + 1 + r) 0)) mask
   IsChained-removed = record {
     few = rw (length-set old r None) chained.few;
     count = rw (length-set links at (get_or links (mask + 1 + r) 0), length-set old r None) chained.count;
@@ -171,7 +171,7 @@ module _ (old : List (Option PageKey)) (links : List ℕ) (mask b r at : ℕ) (c
   }
 
 -- the node r, which holds nothing, is given a page of the bucket: it stands between the link and what that led to
-module _ (old : List (Option PageKey)) (links : List ℕ) (mask b r at : ℕ) (page : PageKey) (chained : IsChained old links mask) (within : b ≤ mask)
+module _ (old : List (Option PageKey)) (links : List ℕ) (mask b r at : ℕ) (page : PageKey) (chained : AreChained old links mask) (within : b ≤ mask)
     (free : page_at old r ≡ None) (inside : r < length old) (bucket : bucket_of mask page ≡ b)
     (seat : IsSeat old links mask b r at) (from : r ≤ get_or links at 0) where
   seat-next2 : IsNext old mask b seat.low (get_or links at 0)
@@ -263,7 +263,7 @@ module _ (old : List (Option PageKey)) (links : List ℕ) (mask b r at : ℕ) (p
   own-inside : mask + 1 + r < length links
   own-inside = omega (arith, chained.count)
 
-  pub IsChained-inserted : IsChained (set old r (Some page)) inserted_links mask
+  pub IsChained-inserted : AreChained (set old r (Some page)) inserted_links mask
   IsChained-inserted = record {
     few = rw (length-set old r (Some page)) chained.few;
     count = rw (length-set (set links (mask + 1 + r) (get_or links at 0)) at r, length-set links (mask + 1 + r) (get_or links at 0), length-set old r (Some page)) chained.count;

@@ -7,10 +7,10 @@ use Rattle.page_cache.specs.declared.index.Index.{Index}
 use Rattle.page_cache.specs.declared.node_set.NodeSet.{NodeSet}
 use Rattle.page_cache.specs.declared.cache.PageCache.TheInside.{Inside}
 use Rattle.page_cache.specs.Nodes.{page_at, first_node, IsOneToOne}
-use Rattle.page_cache.specs.Chains.{IsChained}
+use Rattle.page_cache.specs.Chains.{AreChained}
 use Rattle.page_cache.specs.Sets.{is_member, members, IsOrdered, SameMembersBut}
-use Rattle.page_cache.specs.CacheTable.{CacheTable, place_in, place_of, SameButFor}
-use Rattle.page_cache.specs.Inside.{table_of, IsWholeCache}
+use Rattle.page_cache.specs.CacheTable.{CacheTable, place_in, place_of, SameButForPage}
+use Rattle.page_cache.specs.Inside.{cache_table_of, IsWholeCache}
 use Rattle.page_cache.proofs.NodeLemmas.{none≢some, first_node-of, IsOneToOne-removed, IsOneToOne-inserted}
 use Rattle.page_cache.proofs.SetLemmas.{members-at}
 use Rattle.page_cache.proofs.TableLemmas.{some-same, place_of-first, place_of-held, place_in-held, SameButFor-marks, SameButFor-set}
@@ -34,7 +34,7 @@ nothing_held t n one free = by_held (page_at t.pages n) refl where
 
 -- the node gave up its page and its mark
 pub IsWhole-taken : (c : Inside) (index : Index) (touched : NodeSet) (node : ℕ) (page : PageKey) → IsWholeCache c → page_at c.index.pages.items node ≡ Some page
-    → index.pages.items ≡ set c.index.pages.items node None → IsChained index.pages.items index.links.items index.mask
+    → index.pages.items ≡ set c.index.pages.items node None → AreChained index.pages.items index.links.items index.mask
     → IsOrdered touched.order.items touched.ranks.items touched.count → is_member touched.ranks.items touched.count node ≡ false
     → SameMembersBut node c.touched.ranks.items c.touched.count touched.ranks.items touched.count
     → IsWholeCache (record { frames = c.frames; index = index; touched = touched })
@@ -58,8 +58,8 @@ IsWhole-taken c index touched node page whole held pages chained ordered unmarke
 
 -- the node was given a page that was nowhere
 pub IsWhole-given : (c : Inside) (index : Index) (touched : NodeSet) (node : ℕ) (page : PageKey) → IsWholeCache c → node < length c.index.pages.items
-    → place_of (table_of c) page ≡ Home
-    → index.pages.items ≡ set c.index.pages.items node (Some page) → IsChained index.pages.items index.links.items index.mask
+    → place_of (cache_table_of c) page ≡ Home
+    → index.pages.items ≡ set c.index.pages.items node (Some page) → AreChained index.pages.items index.links.items index.mask
     → IsOrdered touched.order.items touched.ranks.items touched.count
     → SameMembersBut node c.touched.ranks.items c.touched.count touched.ranks.items touched.count
     → IsWholeCache (record { frames = c.frames; index = index; touched = touched })
@@ -71,7 +71,7 @@ IsWhole-given c index touched node page whole inside home pages chained ordered 
       least_nodes = rw nodes whole.least_nodes;
       most_nodes = rw nodes whole.most_nodes;
       chained = chained;
-      one = rw pages (IsOneToOne-inserted c.index.pages.items node page whole.one (nowhere (table_of c) page whole.one home) inside);
+      one = rw pages (IsOneToOne-inserted c.index.pages.items node page whole.one (nowhere (cache_table_of c) page whole.one home) inside);
       ordered = ordered;
       nodes = same.nodes ∙ whole.nodes ∙ sym nodes;
       touched_held = λ m member none. elim (cases_eq m node) [
@@ -84,11 +84,11 @@ IsWhole-given c index touched node page whole inside home pages chained ordered 
 
 -- the clauses of `hold` on the page itself
 pub given-placed : (c : Inside) (index : Index) (touched : NodeSet) (node : ℕ) (page : PageKey) → IsWholeCache c → node < length c.index.pages.items
-    → place_of (table_of c) page ≡ Home → index.pages.items ≡ set c.index.pages.items node (Some page)
+    → place_of (cache_table_of c) page ≡ Home → index.pages.items ≡ set c.index.pages.items node (Some page)
     → first_node index.pages.items page ≡ Some node
 given-placed c index touched node page whole inside home pages =
     rw pages (first_node-of (set c.index.pages.items node (Some page)) page node
-    (IsOneToOne-inserted c.index.pages.items node page whole.one (nowhere (table_of c) page whole.one home) inside)
+    (IsOneToOne-inserted c.index.pages.items node page whole.one (nowhere (cache_table_of c) page whole.one home) inside)
     (get_or-set_same c.index.pages.items node (Some page) None inside))
 
 -- a node that holds nothing isn't marked
@@ -98,7 +98,7 @@ unmarked c node whole none = false_from_ne_true (is_member c.touched.ranks.items
 pub SameButFor-given : (c : Inside) (index : Index) (touched : NodeSet) (node : ℕ) (page : PageKey) → page_at c.index.pages.items node ≡ None
     → index.pages.items ≡ set c.index.pages.items node (Some page)
     → SameMembersBut node c.touched.ranks.items c.touched.count touched.ranks.items touched.count
-    → SameButFor page (table_of c) (table_of (record { frames = c.frames; index = index; touched = touched }))
+    → SameButForPage page (cache_table_of c) (cache_table_of (record { frames = c.frames; index = index; touched = touched }))
 SameButFor-given c index touched node page free pages same =
     rw pages (SameButFor-set c.frames c.index.pages.items (members c.touched.ranks.items c.touched.count) (members touched.ranks.items touched.count) page node (Some page)
     (λ p ne held. none≢some p (sym free ∙ held)) (λ p ne held. ne (sym (some-same page p held)))
@@ -107,7 +107,7 @@ SameButFor-given c index touched node page free pages same =
 pub SameButFor-taken : (c : Inside) (index : Index) (touched : NodeSet) (node : ℕ) (page : PageKey) → page_at c.index.pages.items node ≡ Some page
     → index.pages.items ≡ set c.index.pages.items node None
     → SameMembersBut node c.touched.ranks.items c.touched.count touched.ranks.items touched.count
-    → SameButFor page (table_of c) (table_of (record { frames = c.frames; index = index; touched = touched }))
+    → SameButForPage page (cache_table_of c) (cache_table_of (record { frames = c.frames; index = index; touched = touched }))
 SameButFor-taken c index touched node page held pages same =
     rw pages (SameButFor-set c.frames c.index.pages.items (members c.touched.ranks.items c.touched.count) (members touched.ranks.items touched.count) page node None
     (λ p ne e. ne (sym (some-same page p (sym held ∙ e)))) (λ p ne e. none≢some p e)
@@ -115,17 +115,17 @@ SameButFor-taken c index touched node page held pages same =
 
 pub SameButFor-marked : (c : Inside) (touched : NodeSet) (node : ℕ) (page : PageKey) → page_at c.index.pages.items node ≡ Some page
     → SameMembersBut node c.touched.ranks.items c.touched.count touched.ranks.items touched.count
-    → SameButFor page (table_of c) (table_of (record { frames = c.frames; index = c.index; touched = touched }))
+    → SameButForPage page (cache_table_of c) (cache_table_of (record { frames = c.frames; index = c.index; touched = touched }))
 SameButFor-marked c touched node page held same =
     SameButFor-marks c.frames c.index.pages.items (members c.touched.ranks.items c.touched.count) (members touched.ranks.items touched.count) page node held
     (marks_same c.touched.ranks.items c.touched.count touched.ranks.items touched.count node same)
 
 -- the place of a page whose nodes are as they were
 pub place_of-marked : (c : Inside) (touched : NodeSet) (page : PageKey)
-    → place_of (table_of (record { frames = c.frames; index = c.index; touched = touched })) page ≡ place_of (table_of c) page
+    → place_of (cache_table_of (record { frames = c.frames; index = c.index; touched = touched })) page ≡ place_of (cache_table_of c) page
 place_of-marked c touched page =
-    place_of-first (table_of (record { frames = c.frames; index = c.index; touched = touched })) page (first_node c.index.pages.items page) refl
-    ∙ sym (place_of-first (table_of c) page (first_node c.index.pages.items page) refl)
+    place_of-first (cache_table_of (record { frames = c.frames; index = c.index; touched = touched })) page (first_node c.index.pages.items page) refl
+    ∙ sym (place_of-first (cache_table_of c) page (first_node c.index.pages.items page) refl)
 
 pub same_set : (node : ℕ) (ranks : List ℕ) (count : ℕ) → SameMembersBut node ranks count ranks count
 same_set node ranks count = record { nodes = refl; others = λ m other. refl }

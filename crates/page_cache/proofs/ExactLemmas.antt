@@ -6,20 +6,20 @@ use Rattle.vm_types.specs.declared.object.PageKey.TheVariants.{File}
 use Rattle.vm_types.specs.Attributes.{file_page_eq}
 use Rattle.page_cache.specs.declared.place.TooMany.{TooMany}
 use Rattle.page_cache.specs.CacheTable.{CacheTable, is_touched}
-use Rattle.page_cache.specs.Gathering.{IsTouchedIn, entry, IsListed, is_listed, is_fresh, fresh_count, Gathers, HasAll, Overflows}
+use Rattle.page_cache.specs.Gathering.{IsTouchedIn, index_entry, IsListed, is_listed, is_fresh, fresh_count, Gathers, HasAll, Overflows}
 use Rattle.page_cache.proofs.NodeLemmas.{same_file_page, same_file_page_true}
 use Rattle.page_cache.proofs.CountLemmas.{count-at_least, count-at_most, any_below-none, any_below-at}
 
 pub is_listed-false : (list : List FilePage) (n : ℕ) (page : FilePage) → (IsListed list n page → ⊥) → is_listed list n page ≡ false
 is_listed-false list n page absent =
-    any_below-none (λ i. file_page_eq (entry list i) page) n (λ i below. elim (cases_Bool (file_page_eq (entry list i) page)) [
-      | inl e ↦ absurd (absent (i, below, same_file_page (entry list i) page e))
+    any_below-none (λ i. file_page_eq (index_entry list i) page) n (λ i below. elim (cases_Bool (file_page_eq (index_entry list i) page)) [
+      | inl e ↦ absurd (absent (i, below, same_file_page (index_entry list i) page e))
       | inr ne ↦ ne
     ])
 
 pub listed-is : (list : List FilePage) (n : ℕ) (page : FilePage) → IsListed list n page → is_listed list n page ≡ true
 listed-is list n page listed =
-    any_below-at (λ i. file_page_eq (entry list i) page) n listed.0 listed.1 (ap (λ (p : FilePage). file_page_eq p page) listed.2 ∙ same_file_page_true page)
+    any_below-at (λ i. file_page_eq (index_entry list i) page) n listed.0 listed.1 (ap (λ (p : FilePage). file_page_eq p page) listed.2 ∙ same_file_page_true page)
 
 module _ (t : CacheTable) (file first count used : ℕ) (old : List FilePage) where
   -- the page of the row at that offset
@@ -50,35 +50,35 @@ module _ (t : CacheTable) (file first count used : ℕ) (old : List FilePage) wh
       (λ i j less below e. apart i j less below (row_page (g i) (there i (omega arith)) ∙ ap in_row e ∙ sym (row_page (g j) (there j below))))
 
   -- an entry from `used` on isn't among the first `used`
-  not_before : (new : List FilePage) (n i : ℕ) → Gathers t file first count used old new n → used + i < n → IsListed old used (entry new (used + i)) → ⊥
+  not_before : (new : List FilePage) (n i : ℕ) → Gathers t file first count used old new n → used + i < n → IsListed old used (index_entry new (used + i)) → ⊥
   not_before new n i g below listed =
       g.once listed.0 (used + i) (omega (arith, listed.1)) (omega arith) below (g.kept listed.0 listed.1 ∙ listed.2)
 
   at_most : (new : List FilePage) (n : ℕ) → Gathers t file first count used old new n → HasAll t file first count new n → fresh_count t file first count old used ≤ n - used
   unfolding fresh_count
   at_most new n g all =
-      count-at_most (n - used) (λ i. (entry new (used + i)).page - first) passes count (λ k below here. (
+      count-at_most (n - used) (λ i. (index_entry new (used + i)).page - first) passes count (λ k below here. (
       let parts = and_parts (is_touched t (File (in_row k))) (not (is_listed old used (in_row k))) here in
       let unlisted = not-true (is_listed old used (in_row k)) parts.1 in
       let listed = all (in_row k) (record { row = (refl, omega arith, omega arith); touched = parts.0 }) in
       elim (cases_lt listed.0 used) [
         | inl early ↦ absurd (both_ways (is_listed old used (in_row k)) unlisted (listed-is old used (in_row k) (listed.0, early, sym (g.kept listed.0 early) ∙ listed.2)))
-        | inr late ↦ (listed.0 - used, omega (arith, listed.1), ap (λ (j : ℕ). (entry new j).page - first) (omega arith) ∙ ap (λ (p : FilePage). p.page - first) listed.2 ∙ omega arith)
+        | inr late ↦ (listed.0 - used, omega (arith, listed.1), ap (λ (j : ℕ). (index_entry new j).page - first) (omega arith) ∙ ap (λ (p : FilePage). p.page - first) listed.2 ∙ omega arith)
       ]
       ))
 
   pub length_exact : (new : List FilePage) (n : ℕ) → Gathers t file first count used old new n → HasAll t file first count new n
       → n ≡ used + fresh_count t file first count old used
   length_exact new n g all =
-      let least = at_least (n - used) (λ i. entry new (used + i)) (λ i below. g.touched (used + i) (omega arith) (omega arith))
+      let least = at_least (n - used) (λ i. index_entry new (used + i)) (λ i below. g.touched (used + i) (omega arith) (omega arith))
       (λ i below. not_before new n i g (omega arith)) (λ i j less below. g.once (used + i) (used + j) (omega arith) (omega arith) (omega arith)) in
       omega (arith, g.longer, least, at_most new n g all)
 
   -- the new entries of a full list, and then the page that is missing
   picked : List FilePage → FilePage → ℕ → FilePage
-  picked new missing i = cond (ltb i (1023 - used)) (entry new (used + i)) missing
+  picked new missing i = cond (ltb i (1023 - used)) (index_entry new (used + i)) missing
 
-  picked-entry : (new : List FilePage) (missing : FilePage) (i : ℕ) → i < 1023 - used → picked new missing i ≡ entry new (used + i)
+  picked-entry : (new : List FilePage) (missing : FilePage) (i : ℕ) → i < 1023 - used → picked new missing i ≡ index_entry new (used + i)
   unfolding picked
   picked-entry new missing i below = rw (lt-ltb i (1023 - used) below) refl
 

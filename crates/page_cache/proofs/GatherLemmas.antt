@@ -7,7 +7,7 @@ use Rattle.vm_types.specs.declared.object.PageKey.TheVariants.{File, Object}
 use Rattle.page_cache.specs.Nodes.{page_at, IsOneToOne}
 use Rattle.page_cache.specs.Sets.{members, IsOrdered}
 use Rattle.page_cache.specs.CacheTable.{CacheTable, is_touched}
-use Rattle.page_cache.specs.Gathering.{filed, IsTouchedIn, entry, IsListed, Gathers, Overflows, Pushes}
+use Rattle.page_cache.specs.Gathering.{filed, IsTouchedIn, index_entry, IsListed, Gathers, Overflows, Pushes}
 use Rattle.page_cache.proofs.NodeLemmas.{first_node-of, none≢some}
 use Rattle.page_cache.proofs.SetLemmas.{members-at, is_member-inside, is_member-rank}
 use Rattle.page_cache.proofs.TableLemmas.{cases_node, is_touched-first, some-same}
@@ -16,7 +16,7 @@ use Rattle.page_cache.proofs.TableLemmas.{cases_node, is_touched-first, some-sam
 pub record IsPart (t : CacheTable) (file first count used : ℕ) (Seen : FilePage → Type 0) (old new : List FilePage) (n : ℕ) : Type 0 where
   pub room : length new ≡ 1023
   pub gathers : Gathers t file first count used old new n
-  pub seen : (i : ℕ) → used ≤ i → i < n → Seen (entry new i)
+  pub seen : (i : ℕ) → used ≤ i → i < n → Seen (index_entry new i)
   pub all : (p : FilePage) → IsTouchedIn t file first count p → Seen p → IsListed new n p
 
 module _ (t : CacheTable) (file first count used : ℕ) where
@@ -27,20 +27,20 @@ module _ (t : CacheTable) (file first count used : ℕ) where
   IsPart-skip Seen Now old new n part wider more = record {
     room = part.room;
     gathers = part.gathers;
-    seen = λ i above below. wider (entry new i) (part.seen i above below);
+    seen = λ i above below. wider (index_entry new i) (part.seen i above below);
     all = λ p touched now. elim (more p touched now) [ inl seen ↦ part.all p touched seen | inr listed ↦ listed ];
   }
 
   -- an entry that is not among the first n stays; n is the page
-  entry_old : (new : List FilePage) (n i : ℕ) (page : FilePage) → i ≢ n → entry (set new n page) i ≡ entry new i
+  entry_old : (new : List FilePage) (n i : ℕ) (page : FilePage) → i ≢ n → index_entry (set new n page) i ≡ index_entry new i
   entry_old new n i page other = get_or-set_other new n i page (record { file = 0; page = 0 }) other
 
-  entry_new : (new : List FilePage) (n : ℕ) (page : FilePage) → n < length new → entry (set new n page) n ≡ page
+  entry_new : (new : List FilePage) (n : ℕ) (page : FilePage) → n < length new → index_entry (set new n page) n ≡ page
   entry_new new n page inside = get_or-set_same new n page (record { file = 0; page = 0 }) inside
 
   -- no entry so far is a page that was not looked at and is not among the first `used`
   fresh : (Seen : FilePage → Type 0) (old new : List FilePage) (n : ℕ) (page : FilePage) → IsPart t file first count used Seen old new n
-      → (Seen page → ⊥) → (IsListed new used page → ⊥) → (i : ℕ) → i < n → entry new i ≢ page
+      → (Seen page → ⊥) → (IsListed new used page → ⊥) → (i : ℕ) → i < n → index_entry new i ≢ page
   fresh Seen old new n page part unseen unlisted i below e = elim (cases_lt i used) [
     | inl early ↦ unlisted (i, early, e)
     | inr late ↦ unseen (subst Seen e (part.seen i late below))
@@ -54,7 +54,7 @@ module _ (t : CacheTable) (file first count used : ℕ) where
   IsPart-push Seen Now old new n page part wider now more touched unseen unlisted space =
       let inside : n < length new = rw part.room space in
       let here = entry_new new n page inside in
-      let last : (i : ℕ) → i ≡ n → entry (set new n page) i ≡ page = λ i e. ap (entry (set new n page)) e ∙ here in
+      let last : (i : ℕ) → i ≡ n → index_entry (set new n page) i ≡ page = λ i e. ap (index_entry (set new n page)) e ∙ here in
       record {
         room = length-room;
         gathers = record {
@@ -75,7 +75,7 @@ module _ (t : CacheTable) (file first count used : ℕ) where
         };
         seen = λ i above below. elim (cases_eq i n) [
           | inl e ↦ rw (last i e) now
-          | inr other ↦ rw (entry_old new n i page other) (wider (entry new i) (part.seen i above (omega arith)))
+          | inr other ↦ rw (entry_old new n i page other) (wider (index_entry new i) (part.seen i above (omega arith)))
         ];
         all = λ p in_row now_p. elim (more p in_row now_p) [
           | inl seen ↦ (let was = part.all p in_row seen in

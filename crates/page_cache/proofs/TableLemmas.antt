@@ -10,8 +10,8 @@ use Rattle.page_cache.specs.declared.place.Place.{Place}
 use Rattle.page_cache.specs.declared.place.Place.TheVariants.{Home, Frame, Slot}
 use Rattle.page_cache.specs.declared.cache.PageCache.TheInside.{Inside}
 use Rattle.page_cache.specs.Nodes.{page_at, first_node, IsOneToOne}
-use Rattle.page_cache.specs.CacheTable.{CacheTable, frame_count, slot_count, place_in, place_of, is_marked, is_touched, IsInside, IsSoundCache, IsFresh, SameButFor}
-use Rattle.page_cache.specs.Inside.{table_of, IsWholeCache}
+use Rattle.page_cache.specs.CacheTable.{CacheTable, cache_frames, slot_count, place_in, place_of, is_marked, is_touched, IsInside, IsSoundCache, IsNewCache, SameButForPage}
+use Rattle.page_cache.specs.Inside.{cache_table_of, IsWholeCache}
 use Rattle.page_cache.proofs.NodeLemmas.{same_page, same_page_true, holds-true, false-holds, none≢some, page_at-within, first_node-holds, first_node-no_node, first_node-none, first_node-of, first_node-kept}
 
 -- two file pages are one or not
@@ -118,7 +118,7 @@ none_at t n place (Some page) is e = tt
 -- one page was changed at one node: other pages are found where they were, and other nodes are marked as they were
 pub SameButFor-node : (old new : CacheTable) (page : PageKey) (n : ℕ) → new.frames ≡ old.frames → length new.pages ≡ length old.pages
     → ((p : PageKey) → p ≢ page → first_node new.pages p ≡ first_node old.pages p) → ((p : PageKey) → p ≢ page → page_at old.pages n ≢ Some p)
-    → ((m : ℕ) → m ≢ n → get_or new.touched m false ≡ get_or old.touched m false) → SameButFor page old new
+    → ((m : ℕ) → m ≢ n → get_or new.touched m false ≡ get_or old.touched m false) → SameButForPage page old new
 SameButFor-node old new page n frames nodes found other marks = record {
   frames = frames;
   slots = rw (frames, nodes) refl;
@@ -131,7 +131,7 @@ SameButFor-node old new page n frames nodes found other marks = record {
 }
 
 -- one call after another on the same page
-pub SameButFor-then : (page : PageKey) (a b c : CacheTable) → SameButFor page a b → SameButFor page b c → SameButFor page a c
+pub SameButFor-then : (page : PageKey) (a b c : CacheTable) → SameButForPage page a b → SameButForPage page b c → SameButForPage page a c
 SameButFor-then page a b c first second = record {
   frames = second.frames ∙ first.frames;
   slots = second.slots ∙ first.slots;
@@ -142,7 +142,7 @@ SameButFor-then page a b c first second = record {
 -- a change of the marks alone, at the node of the page
 pub SameButFor-marks : (frames : ℕ) (pages : List (Option PageKey)) (before after : List Bool) (page : PageKey) (n : ℕ) → page_at pages n ≡ Some page
     → ((m : ℕ) → m ≢ n → get_or after m false ≡ get_or before m false)
-    → SameButFor page (record { frames = frames; pages = pages; touched = before }) (record { frames = frames; pages = pages; touched = after })
+    → SameButForPage page (record { frames = frames; pages = pages; touched = before }) (record { frames = frames; pages = pages; touched = after })
 SameButFor-marks frames pages before after page n held marks =
     SameButFor-node (record { frames = frames; pages = pages; touched = before }) (record { frames = frames; pages = pages; touched = after }) page n refl refl
     (λ p ne. refl) (λ p ne e. ne (sym (some-same page p (sym held ∙ e)))) marks
@@ -151,7 +151,7 @@ SameButFor-marks frames pages before after page n held marks =
 pub SameButFor-set : (frames : ℕ) (pages : List (Option PageKey)) (before after : List Bool) (page : PageKey) (n : ℕ) (now : Option PageKey)
     → ((p : PageKey) → p ≢ page → page_at pages n ≢ Some p) → ((p : PageKey) → p ≢ page → now ≢ Some p)
     → ((m : ℕ) → m ≢ n → get_or after m false ≡ get_or before m false)
-    → SameButFor page (record { frames = frames; pages = pages; touched = before }) (record { frames = frames; pages = set pages n now; touched = after })
+    → SameButForPage page (record { frames = frames; pages = pages; touched = before }) (record { frames = frames; pages = set pages n now; touched = after })
 SameButFor-set frames pages before after page n now was is marks =
     SameButFor-node (record { frames = frames; pages = pages; touched = before }) (record { frames = frames; pages = set pages n now; touched = after }) page n refl
     (length-set pages n now) (λ p ne. first_node-kept pages n now p (was p ne) (is p ne)) was marks
@@ -162,33 +162,33 @@ empty_at (suc n) zero = refl
 empty_at (suc n) (suc m) = empty_at n m
 
 -- what is true of every cache
-pub IsSound-whole : (c : Inside) → IsWholeCache c → IsSoundCache (table_of c)
+pub IsSound-whole : (c : Inside) → IsWholeCache c → IsSoundCache (cache_table_of c)
 IsSound-whole c whole = record {
   least_frames = whole.least_frames;
   most_frames = whole.most_frames;
   most_slots = omega (arith, whole.most_nodes, whole.least_nodes);
   inside = λ page. elim (cases_node c.index.pages.items page) [
-    | inl found ↦ rw (place_of-first (table_of c) page (Some found.0) found.1) (inside_node found.0 (page_at-within c.index.pages.items found.0 page found.2))
-    | inr none ↦ rw (place_of-first (table_of c) page None none.0) tt
+    | inl found ↦ rw (place_of-first (cache_table_of c) page (Some found.0) found.1) (inside_node found.0 (page_at-within c.index.pages.items found.0 page found.2))
+    | inr none ↦ rw (place_of-first (cache_table_of c) page None none.0) tt
   ];
   apart = λ p q same held. elim (cases_node c.index.pages.items p) [
-    | inl found ↦ (let there = place_of-first (table_of c) p (Some found.0) found.1 in
-        some-same p q (sym found.2 ∙ page_at-place (table_of c) q found.0 (sym same ∙ there)))
-    | inr none ↦ absurd (held (place_of-first (table_of c) p None none.0))
+    | inl found ↦ (let there = place_of-first (cache_table_of c) p (Some found.0) found.1 in
+        some-same p q (sym found.2 ∙ page_at-place (cache_table_of c) q found.0 (sym same ∙ there)))
+    | inr none ↦ absurd (held (place_of-first (cache_table_of c) p None none.0))
   ];
   touched_held = λ page touched home. elim (cases_node c.index.pages.items page) [
-    | inl found ↦ absurd (place_in-held c.frames found.0 (sym (place_of-first (table_of c) page (Some found.0) found.1) ∙ home))
-    | inr none ↦ absurd (both_ways (is_touched (table_of c) page) (is_touched-first (table_of c) page None none.0) touched)
+    | inl found ↦ absurd (place_in-held c.frames found.0 (sym (place_of-first (cache_table_of c) page (Some found.0) found.1) ∙ home))
+    | inr none ↦ absurd (both_ways (is_touched (cache_table_of c) page) (is_touched-first (cache_table_of c) page None none.0) touched)
   ];
 } where
-  inside_node : (n : ℕ) → n < length c.index.pages.items → IsInside (table_of c) (place_in c.frames (Some n))
+  inside_node : (n : ℕ) → n < length c.index.pages.items → IsInside (cache_table_of c) (place_in c.frames (Some n))
   inside_node n within = elim (cases_lt n c.frames) [
     | inl below ↦ rw (place_in-frame c.frames n below) below
     | inr above ↦ rw (place_in-slot c.frames n above) (omega arith)
   ]
 
 -- a cache whose nodes hold nothing
-pub IsFresh-empty : (t : CacheTable) (slots : ℕ) → t.pages ≡ replicate (t.frames + slots) None → IsFresh t t.frames slots
+pub IsFresh-empty : (t : CacheTable) (slots : ℕ) → t.pages ≡ replicate (t.frames + slots) None → IsNewCache t t.frames slots
 IsFresh-empty t slots empty =
     let nodes : length t.pages ≡ t.frames + slots = ap length empty ∙ length-replicate (t.frames + slots) None in
     let nowhere : (page : PageKey) → first_node t.pages page ≡ None =
@@ -200,9 +200,9 @@ IsFresh-empty t slots empty =
       untouched = λ page. is_touched-first t page None (nowhere page);
     }
 
-pub IsSound-fresh : (t : CacheTable) (frames slots : ℕ) → 8 ≤ frames → frames ≤ 65536 → slots ≤ 65536 → IsFresh t frames slots → IsSoundCache t
+pub IsSound-fresh : (t : CacheTable) (frames slots : ℕ) → 8 ≤ frames → frames ≤ 65536 → slots ≤ 65536 → IsNewCache t frames slots → IsSoundCache t
 IsSound-fresh t frames slots least most most_slots fresh =
-    let count : frame_count t ≡ frames = fresh.frames_are in
+    let count : cache_frames t ≡ frames = fresh.frames_are in
     let places : slot_count t ≡ slots = fresh.slots_are in
     record {
       least_frames = omega (arith, count, least);

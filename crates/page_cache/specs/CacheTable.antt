@@ -11,8 +11,8 @@ pub record CacheTable : Type 0 where
   pub pages : List (Option PageKey)
   pub touched : List Bool
 
-abbrev pub frame_count : CacheTable → ℕ
-frame_count t = t.frames
+abbrev pub cache_frames : CacheTable → ℕ
+cache_frames t = t.frames
 
 abbrev pub slot_count : CacheTable → ℕ
 slot_count t = length t.pages - t.frames
@@ -37,7 +37,7 @@ is_touched t page = is_marked t.touched (first_node t.pages page)
 -- a place of this memory and this swap device
 abbrev pub IsInside : CacheTable → Place → Type 0
 IsInside t Home = Unit {0}
-IsInside t (Frame n) = n.0 < frame_count t
+IsInside t (Frame n) = n.0 < cache_frames t
 IsInside t (Slot n) = n.0 < slot_count t
 
 -- no other page has this frame or this slot
@@ -48,8 +48,8 @@ IsFreeFor t page (Slot n) = (p : PageKey) → p ≢ page → place_of t p ≢ Sl
 
 -- what is true at all times
 pub record IsSoundCache (t : CacheTable) : Type 0 where
-  pub least_frames : 8 ≤ frame_count t
-  pub most_frames : frame_count t ≤ 65536
+  pub least_frames : 8 ≤ cache_frames t
+  pub most_frames : cache_frames t ≤ 65536
   pub most_slots : slot_count t ≤ 65536
   pub inside : (page : PageKey) → IsInside t (place_of t page)
   -- no two pages have one frame or one slot
@@ -57,15 +57,15 @@ pub record IsSoundCache (t : CacheTable) : Type 0 where
   pub touched_held : (page : PageKey) → is_touched t page ≡ true → place_of t page ≢ Home
 
 -- every page at home and untouched, with so many frames and slots
-pub record IsFresh (t : CacheTable) (frames slots : ℕ) : Type 0 where
-  pub frames_are : frame_count t ≡ frames
+pub record IsNewCache (t : CacheTable) (frames slots : ℕ) : Type 0 where
+  pub frames_are : cache_frames t ≡ frames
   pub slots_are : slot_count t ≡ slots
   pub at_home : (page : PageKey) → place_of t page ≡ Home
   pub untouched : (page : PageKey) → is_touched t page ≡ false
 
 -- all is as it was but for one page
-pub record SameButFor (page : PageKey) (old new : CacheTable) : Type 0 where
-  pub frames : frame_count new ≡ frame_count old
+pub record SameButForPage (page : PageKey) (old new : CacheTable) : Type 0 where
+  pub frames : cache_frames new ≡ cache_frames old
   pub slots : slot_count new ≡ slot_count old
   pub places : (p : PageKey) → p ≢ page → place_of new p ≡ place_of old p
   pub touched : (p : PageKey) → p ≢ page → is_touched new p ≡ is_touched old p

@@ -7,14 +7,14 @@ use Rattle.vm_types.specs.declared.object.PageKey.TheVariants.{File, Object}
 use Rattle.page_cache.specs.Nodes.{page_at}
 
 -- a number for a page; no page of a file has that of a page of an object with a number below 2 ^ 32
-abbrev pub number_of : PageKey → ℕ
-number_of (File page) = page.file * 4294967296 + page.page
-number_of (Object page) = ((page.object + 256) * 4294967296 + page.page) % 2 ^ 64
+abbrev pub page_number_of : PageKey → ℕ
+page_number_of (File page) = page.file * 4294967296 + page.page
+page_number_of (Object page) = ((page.object + 256) * 4294967296 + page.page) % 2 ^ 64
 
 -- the bucket of a page, at most `mask`: the upper half of its number times an odd constant, 2 ^ 64 over the golden ratio
 -- (Knuth, The Art of Computer Programming, volume 3, section 6.4)
 unfoldable pub bucket_of : ℕ → PageKey → ℕ
-bucket_of mask page = bit_and (number_of page * 11400714819323198485 % 2 ^ 64 / 2 ^ 32) mask
+bucket_of mask page = bit_and (page_number_of page * 11400714819323198485 % 2 ^ 64 / 2 ^ 32) mask
 
 -- whether a node holds a page of the bucket
 abbrev pub is_in_bucket : ℕ → ℕ → Option PageKey → Bool
@@ -35,7 +35,7 @@ IsLinkOf pages mask bucket low at =
     ⊎ ((m : ℕ) × (at ≡ mask + 1 + m) × (low ≡ m + 1) × (is_in_bucket mask bucket (page_at pages m) ≡ true))
 
 -- the links of all buckets, and then those of all nodes
-pub record IsChained (pages : List (Option PageKey)) (links : List ℕ) (mask : ℕ) : Type 0 where
+pub record AreChained (pages : List (Option PageKey)) (links : List ℕ) (mask : ℕ) : Type 0 where
   pub few : length pages ≤ 131072
   pub count : length links ≡ mask + 1 + length pages
   pub link : (bucket low at : ℕ) → bucket ≤ mask → IsLinkOf pages mask bucket low at → IsNext pages mask bucket low (slice_index links at)
@@ -48,5 +48,5 @@ pub record IsSeat (pages : List (Option PageKey)) (links : List ℕ) (mask bucke
 
 -- the index of so many nodes that hold nothing
 pub record IsEmptyIndex (pages : List (Option PageKey)) (links : List ℕ) (mask nodes : ℕ) : Type 0 where
-  pub chained : IsChained pages links mask
+  pub chained : AreChained pages links mask
   pub empty : pages ≡ replicate nodes None

@@ -23,15 +23,15 @@ pub record IsTouchedIn (t : CacheTable) (file first count : ℕ) (page : FilePag
   pub touched : is_touched t (File page) ≡ true
 
 -- the page at that place of a list
-abbrev pub entry : List FilePage → ℕ → FilePage
-entry list i = slice_index_or list i (record { file = 0; page = 0 })
+abbrev pub index_entry : List FilePage → ℕ → FilePage
+index_entry list i = slice_index_or list i (record { file = 0; page = 0 })
 
 -- the page is one of the first n
 abbrev pub IsListed : List FilePage → ℕ → FilePage → Type 0
-IsListed list n page = (i : ℕ) × (i < n) × (entry list i ≡ page)
+IsListed list n page = (i : ℕ) × (i < n) × (index_entry list i ≡ page)
 
 abbrev pub is_listed : List FilePage → ℕ → FilePage → Bool
-is_listed list n page = any_below (λ i. file_page_eq (entry list i) page) n
+is_listed list n page = any_below (λ i. file_page_eq (index_entry list i) page) n
 
 -- whether the page is touched and isn't among the first `used`
 abbrev pub is_fresh : CacheTable → List FilePage → ℕ → FilePage → Bool
@@ -46,10 +46,10 @@ fresh_count t file first count list used = count_below (λ k. is_fresh t list us
 pub record Gathers (t : CacheTable) (file first count used : ℕ) (old new : List FilePage) (n : ℕ) : Type 0 where
   pub longer : used ≤ n
   pub most : n ≤ msync_pages
-  pub kept : (i : ℕ) → i < used → entry new i ≡ entry old i
-  pub rest : (i : ℕ) → n ≤ i → entry new i ≡ entry old i
-  pub touched : (i : ℕ) → used ≤ i → i < n → IsTouchedIn t file first count (entry new i)
-  pub once : (i j : ℕ) → i < j → used ≤ j → j < n → entry new i ≢ entry new j
+  pub kept : (i : ℕ) → i < used → index_entry new i ≡ index_entry old i
+  pub rest : (i : ℕ) → n ≤ i → index_entry new i ≡ index_entry old i
+  pub touched : (i : ℕ) → used ≤ i → i < n → IsTouchedIn t file first count (index_entry new i)
+  pub once : (i j : ℕ) → i < j → used ≤ j → j < n → index_entry new i ≢ index_entry new j
 
 -- each touched page of the row is among the first n
 abbrev pub HasAll : CacheTable → ℕ → ℕ → ℕ → List FilePage → ℕ → Type 0

@@ -27,9 +27,9 @@ impl Model for PageCache {
 
     ghost Value = { CacheTable };
 
-    ghost use Rattle.page_cache.specs.Inside.{table_of, IsWholeCache};
+    ghost use Rattle.page_cache.specs.Inside.{cache_table_of, IsWholeCache};
 
-    ghost view = { table_of };
+    ghost view = { cache_table_of };
 
     ghost invariant = { IsWholeCache };
 }
@@ -37,7 +37,7 @@ impl Model for PageCache {
 impl PageCache {
     ghost use Rattle.page_cache.specs.declared.place.Place.TheVariants.{Home, Frame, Slot};
     ghost use Rattle.page_cache.specs.Gathering.{Gathers, HasAll, Overflows, fresh_count};
-    ghost use Rattle.page_cache.specs.CacheTable.{frame_count, slot_count, place_in, place_of, is_touched, IsInside, IsFreeFor, IsSoundCache, IsFresh, SameButFor};
+    ghost use Rattle.page_cache.specs.CacheTable.{cache_frames, slot_count, place_in, place_of, is_touched, IsInside, IsFreeFor, IsSoundCache, IsNewCache, SameButForPage};
     ghost use Rattle.vm_types.specs.Limits.{msync_pages};
 
     /// The cache of a memory of `frames` frames, 8 to 65,536, and of `slots` slots of swap, at most 65,536, with every
@@ -49,7 +49,7 @@ impl PageCache {
         requires least_frames { 8 ≤ frames }
         requires most_frames { frames ≤ 65536 }
         requires most_slots { slots ≤ 65536 }
-        ensures fresh { IfOk result (λ cache. IsFresh cache frames slots) }
+        ensures fresh { IfOk result (λ cache. IsNewCache cache frames slots) }
         ensures sound { IfOk result IsSoundCache }
     {
         let index = Index::new(alloc, frames + slots)?;
@@ -63,7 +63,7 @@ impl PageCache {
 
     /// The number of frames, 8 to 65,536. The second clause is what is true at all times.
     pub fn frames(&self) -> u32
-        ensures count { result ≡ frame_count self.now }
+        ensures count { result ≡ cache_frames self.now }
         ensures sound { IsSoundCache self.now }
     {
         self.frames
@@ -99,7 +99,7 @@ impl PageCache {
 
     /// The page that frame `n` holds; `None` exactly where it holds none.
     pub fn page_in_frame(&self, n: FrameNo) -> Option<PageKey>
-        requires { n.0 < frame_count self.now }
+        requires { n.0 < cache_frames self.now }
         ensures held { IfSome result (λ page. place_of self.now page ≡ Frame n) }
         ensures none { IfNone result ((page : PageKey) → place_of self.now page ≢ Frame n) }
     {
@@ -123,7 +123,7 @@ impl PageCache {
         requires kept { is_touched self.old page ≡ true → place ≢ Home }
         ensures placed { place_of self.new page ≡ place }
         ensures touched { is_touched self.new page ≡ is_touched self.old page }
-        ensures others { SameButFor page self.old self.new }
+        ensures others { SameButForPage page self.old self.new }
     {
         let touched = self.take_out(page);
         match place {
@@ -138,7 +138,7 @@ impl PageCache {
         requires { place_of self.old page ≢ Home }
         ensures touched { is_touched self.new page ≡ true }
         ensures placed { place_of self.new page ≡ place_of self.old page }
-        ensures others { SameButFor page self.old self.new }
+        ensures others { SameButForPage page self.old self.new }
     {
         if let Some(node) = self.index.find(page) {
             self.touched.insert(node);
@@ -149,7 +149,7 @@ impl PageCache {
     pub fn clean(&mut self, page: PageKey)
         ensures untouched { is_touched self.new page ≡ false }
         ensures placed { place_of self.new page ≡ place_of self.old page }
-        ensures others { SameButFor page self.old self.new }
+        ensures others { SameButForPage page self.old self.new }
     {
         if let Some(node) = self.index.find(page) {
             self.touched.remove(node);
@@ -244,7 +244,7 @@ impl PageCache {
         ensures was { result ≡ is_touched self.old page }
         ensures placed { place_of self.new page ≡ Home }
         ensures untouched { is_touched self.new page ≡ false }
-        ensures others { SameButFor page self.old self.new }
+        ensures others { SameButForPage page self.old self.new }
     {
         let Some(node) = self.index.find(page) else {
             return false;
@@ -257,13 +257,13 @@ impl PageCache {
 
     /// Gives the page, which is at home, the node, which holds none.
     fn hold(&mut self, node: usize, page: PageKey, touched: bool)
-        requires inside { node < frame_count self.old + slot_count self.old }
+        requires inside { node < cache_frames self.old + slot_count self.old }
         requires home { place_of self.old page ≡ Home }
         requires untouched { is_touched self.old page ≡ false }
-        requires free { (p : PageKey) → place_of self.old p ≢ place_in (frame_count self.old) (Some node) }
-        ensures placed { place_of self.new page ≡ place_in (frame_count self.old) (Some node) }
+        requires free { (p : PageKey) → place_of self.old p ≢ place_in (cache_frames self.old) (Some node) }
+        ensures placed { place_of self.new page ≡ place_in (cache_frames self.old) (Some node) }
         ensures touched { is_touched self.new page ≡ touched }
-        ensures others { SameButFor page self.old self.new }
+        ensures others { SameButForPage page self.old self.new }
     {
         self.index.insert(node, page);
         if touched {

@@ -2,7 +2,7 @@
 ghost use Rattle.std.specs.Prelude.{◌≡◌, ◌+◌, ◌<◌, ◌≤◌, ◌≢◌, Some, None, IfOk, IfSome, replicate, slice_set, slice_index, length};
 ghost use Rattle.vm_types.specs.Attributes.{file_page_eq, object_page_eq, page_key_eq};
 ghost use Rattle.page_cache.specs.Nodes.{first_node, holds, page_at};
-ghost use Rattle.page_cache.specs.Chains.{IsChained, IsSeat, bucket_of, number_of};
+ghost use Rattle.page_cache.specs.Chains.{AreChained, IsSeat, bucket_of, page_number_of};
 
 use std::alloc::{AllocError, Global};
 use vm_types::{FilePage, ObjectPage, PageKey};
@@ -12,7 +12,7 @@ const SPREAD: u64 = 0x9e37_79b9_7f4a_7c15;
 
 /// A number for a page of a file or an object.
 fn number_of(page: PageKey) -> u64
-    ensures { result ≡ number_of page }
+    ensures { result ≡ page_number_of page }
 {
     match page {
         PageKey::File(page) => u64::from(page.file) * (1 << 32) + u64::from(page.page),
@@ -112,7 +112,7 @@ impl Index {
 
     /// The node that holds the page.
     pub(crate) fn find(&self, page: PageKey) -> Option<usize>
-        requires { IsChained self.now.pages.items self.now.links.items self.now.mask }
+        requires { AreChained self.now.pages.items self.now.links.items self.now.mask }
         ensures first { result ≡ first_node self.now.pages.items page }
         ensures held { IfSome result (λ node. page_at self.now.pages.items node ≡ Some page) }
     {
@@ -128,7 +128,7 @@ impl Index {
 
     /// The link at which the node stands in the chain of the bucket, or would.
     fn seat(&self, bucket: usize, node: usize) -> usize
-        requires chained { IsChained self.now.pages.items self.now.links.items self.now.mask }
+        requires chained { AreChained self.now.pages.items self.now.links.items self.now.mask }
         requires bucket { bucket ≤ self.now.mask }
         requires node { node < length self.now.pages.items }
         ensures seat { IsSeat self.now.pages.items self.now.links.items self.now.mask bucket node result }
@@ -143,11 +143,11 @@ impl Index {
 
     /// Gives the node, which holds nothing, a page.
     pub(crate) fn insert(&mut self, node: usize, page: PageKey)
-        requires chained { IsChained self.old.pages.items self.old.links.items self.old.mask }
+        requires chained { AreChained self.old.pages.items self.old.links.items self.old.mask }
         requires inside { node < length self.old.pages.items }
         requires free { page_at self.old.pages.items node ≡ None }
         ensures pages { self.new.pages.items ≡ slice_set self.old.pages.items node (Some page) }
-        ensures chained { IsChained self.new.pages.items self.new.links.items self.new.mask }
+        ensures chained { AreChained self.new.pages.items self.new.links.items self.new.mask }
     {
         let at = self.seat(bucket_of(self.mask, page), node);
         let own = self.mask as usize + 1 + node;
@@ -158,10 +158,10 @@ impl Index {
 
     /// Takes its page from the node.
     pub(crate) fn remove(&mut self, node: usize, page: PageKey)
-        requires chained { IsChained self.old.pages.items self.old.links.items self.old.mask }
+        requires chained { AreChained self.old.pages.items self.old.links.items self.old.mask }
         requires held { page_at self.old.pages.items node ≡ Some page }
         ensures pages { self.new.pages.items ≡ slice_set self.old.pages.items node None }
-        ensures chained { IsChained self.new.pages.items self.new.links.items self.new.mask }
+        ensures chained { AreChained self.new.pages.items self.new.links.items self.new.mask }
     {
         let at = self.seat(bucket_of(self.mask, page), node);
         let own = self.mask as usize + 1 + node;

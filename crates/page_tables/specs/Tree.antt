@@ -1,5 +1,5 @@
 -- Tables as trees. `top` is the level of a root: one less than the number of levels, 2 for Sv39 and 3 for Sv48.
-use Rattle.std.specs.Prelude.{◌≡◌, ◌≢◌, ℕ, zero, suc, ◌+◌, ◌-◌, ◌<◌, ◌≤◌, ◌^◌, true, false, ◌==◌, if◌then◌else◌}
+use Rattle.std.specs.Prelude.{◌≡◌, ◌≢◌, ℕ, zero, suc, ◌+◌, ◌-◌, ◌<◌, ◌≤◌, ◌⊎◌, ◌^◌, true, false, ◌==◌, if◌then◌else◌}
 use Rattle.vm_types.specs.Limits.{table_entries}
 use Rattle.frames.specs.declared.role.Role.TheVariants.{Table}
 use Rattle.frames.specs.FrameTable.{FrameTable, IsFrame, role_of}
@@ -53,6 +53,18 @@ last_table t page zero n = (0, n)
 last_table t page (suc level) n =
     let e = entry_at t n (index_of page (suc level)) in
     if is_pointer e then last_table t page level (frame_of e) else (suc level, n)
+
+-- The way to a page from the root of a tree of that many levels above the lowest was gone to its end: it ends
+pub record EndsWay (t : FrameTable) (top root page l n m : ℕ) : Type 0 where
+  -- at that level, which is one of the tree's, at most three above the lowest,
+  pub level : l ≡ (last_table t page top root).0
+  pub in_levels : l ≤ top
+  pub few : top ≤ 3
+  -- in that table,
+  pub table : n ≡ (last_table t page top root).1
+  pub is_table : IsTable t n
+  -- which is the root, or the one that the table before it points to
+  pub parent : (n ≡ root) ⊎ ((l < top) × Points t m (index_of page (l + 1)) n)
 
 -- how many tables are missing on the way to a page
 unfoldable pub missing_of : FrameTable → ℕ → ℕ → ℕ → ℕ

@@ -1,10 +1,9 @@
 //! The calls on trees of tables.
-ghost use Rattle.std.specs.Prelude.{ℕ, ◌≡◌, ◌≢◌, ◌+◌, ◌/◌, ◌%◌, ◌≤◌, IfErr, ◌<◌, ◌⊎◌, ◌↔◌, IsTrue, IsErr, IfOk, OnErr, true, false, get_or};
+ghost use Rattle.std.specs.Prelude.{ℕ, ◌≡◌, ◌≢◌, ◌+◌, ◌/◌, ◌%◌, ◌≤◌, IfErr, ◌<◌, ◌↔◌, IsTrue, IsErr, IfOk, OnErr, true, false, get_or};
 ghost use Rattle.vm_types.specs.Limits.{top_level, table_entries, user_end};
 ghost use Rattle.frames.specs.FrameTable.{IsFull, IsSound, zero_bytes};
-ghost use Rattle.sv39_walk.specs.Walk.{index_of};
 ghost use Rattle.page_tables.specs.Entry.{number_of, IsEntry};
-ghost use Rattle.page_tables.specs.Tree.{IsPage, IsTable, Points, IsForest, IsRoot, IsSpare, IsEmptyTable, last_table, missing_of, page_entry};
+ghost use Rattle.page_tables.specs.Tree.{IsPage, IsTable, Points, EndsWay, IsForest, IsRoot, IsSpare, IsEmptyTable, last_table, missing_of, page_entry};
 ghost use Rattle.page_tables.specs.Places.{IsTableOf};
 ghost use Rattle.page_tables.specs.Change.{KeepsFrames, AddsTable, PutsNumber, ChangesEntry, Unlinks, SetsEntry, LinksTable, Prunes, IsPruned};
 
@@ -215,13 +214,7 @@ pub fn set_in(frames: &mut Frames, table: FrameNo, index: usize, entry: Entry)
 fn end_of_way<M: Levels>(frames: &Frames, root: FrameNo, page: u64) -> (u32, FrameNo, FrameNo)
     requires forest { IsForest frames.now }
     requires root { IsTable frames.now root.0 }
-    ensures level { result.0 ≡ (last_table frames.now page (top_level M.mode) root.0).0 }
-    ensures table { result.1.0 ≡ (last_table frames.now page (top_level M.mode) root.0).1 }
-    ensures in_levels { result.0 ≤ top_level M.mode }
-    ensures few { top_level M.mode ≤ 3 }
-    ensures is_table { IsTable frames.now result.1.0 }
-    ensures parent { (result.1.0 ≡ root.0)
-        ⊎ ((result.0 < top_level M.mode) × Points frames.now result.2.0 (index_of page (result.0 + 1)) result.1.0) }
+    ensures { EndsWay frames.now (top_level M.mode) root.0 page result.0 result.1.0 result.2.0 }
 {
     let mut table = root;
     let mut parent = root;

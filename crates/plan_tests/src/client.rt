@@ -4,7 +4,9 @@ use file_store::{FileSource, format};
 use std::alloc::{AllocError, Global};
 use std::test::Fail;
 use sync_journal::Journals;
-use sync_plans::{Call, PageBytes, ROOM, Refusal, file_facts, plan_commit, plan_open};
+use sync_plans::{
+    Call, PageBytes, PageUpdates, ROOM, Refusal, Scratch, file_facts, plan_commit, plan_open,
+};
 use vm_types::{FileInfo, FilePage};
 
 /// A page of the image, and how many of its bytes lie inside its file.
@@ -189,7 +191,11 @@ impl Client {
         let Some(rows) = self.plan.rows.as_mut_array() else {
             return Err(Refusal::Device);
         };
-        self.plan.used = plan_open(image, scratch_calls, scratch_rows, calls, rows)?;
+        let scratch = Scratch {
+            calls: scratch_calls,
+            rows: scratch_rows,
+        };
+        self.plan.used = plan_open(image, scratch, calls, rows)?;
         Ok(self.plan.used)
     }
 
@@ -215,15 +221,12 @@ impl Client {
         let Some(rows) = self.plan.rows.as_mut_array() else {
             return Err(Refusal::Device);
         };
-        self.plan.used = plan_commit(
-            image,
-            scratch_calls,
-            scratch_rows,
-            calls,
-            rows,
-            pages,
-            bytes,
-        )?;
+        let scratch = Scratch {
+            calls: scratch_calls,
+            rows: scratch_rows,
+        };
+        let updates = PageUpdates { pages, bytes };
+        self.plan.used = plan_commit(image, scratch, calls, rows, updates)?;
         Ok(self.plan.used)
     }
 
@@ -249,7 +252,7 @@ impl Client {
         let Some(rows) = self.scratch.rows.as_mut_array() else {
             return Err(Refusal::Device);
         };
-        sync_plans::read_page(image, calls, rows, page, to)
+        sync_plans::read_page(image, Scratch { calls, rows }, page, to)
     }
 
     /// The facts of a file.
@@ -264,7 +267,7 @@ impl Client {
         let Some(rows) = self.scratch.rows.as_mut_array() else {
             return Err(Refusal::Device);
         };
-        file_facts(image, calls, rows, file)
+        file_facts(image, Scratch { calls, rows }, file)
     }
 
     /// Opens what a device holds, and returns the bytes of all pages.

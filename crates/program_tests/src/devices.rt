@@ -8,7 +8,7 @@ use std::test::Fail;
 use test_steps::FileStep::{IsLong, IsMissing};
 use test_steps::Program::{Cat, Format, Run};
 use test_steps::Step::{self, Does, Fails, File, Removes};
-use test_steps::{NEW, carry_out, path, ran_over, same, same_number};
+use test_steps::{NEW, ProgramCall, carry_out, path, ran_over, same, same_number};
 
 /// Gives some lines, cuts a file before it is read again, so that the device in it fails from there on, and gives the other lines.
 #[derive(Drop)]
@@ -93,7 +93,11 @@ fn expect_cut(rt: &HostRuntime, cut: &Cut) -> Result<(), Fail> {
         after: cut.after,
     };
     let mut output = Vec::new(rt.alloc());
-    let (status, errors) = ran_over(rt, "cuts", Run, cut.words, &mut reader, &mut output)?;
+    let call = ProgramCall {
+        program: Run,
+        words: cut.words,
+    };
+    let (status, errors) = ran_over(rt, "cuts", call, &mut reader, &mut output)?;
     same("standard error", errors.as_slice(), b"")?;
     same("replies", output.as_slice(), cut.replies)?;
     same_number("exit status", status.into(), cut.status.into())

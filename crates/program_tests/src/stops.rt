@@ -4,7 +4,7 @@ use stop_trials::{Event, Trial};
 use sync_journal::Journals;
 use test_steps::Program::Stops;
 use test_steps::Step::{self, Does, Fails};
-use test_steps::{carry_out, ran_over, same, same_number};
+use test_steps::{ProgramCall, carry_out, ran_over, same, same_number};
 
 /// One msync of one page: its events are the sync of the boot, 8 writes of the body, 8 of the map, a sync, the write of the
 /// gate, and a sync.
@@ -80,10 +80,17 @@ fn each_event_or_some_are_stopped_in(rt: HostRuntime) -> Result<(), Fail> {
 /// still hold any bytes, is bad.
 #[test]
 fn a_stop_after_a_dropped_sync_is_bad(rt: HostRuntime) -> Result<(), Fail> {
-    let words = ["--drop", "18", "--every", "10", "zero:1"];
+    let words: &[&str] = &["--drop", "18", "--every", "10", "zero:1"];
+    let program = Stops;
     let mut reader = ONE_MSYNC;
     let mut output = Vec::new(rt.alloc());
-    let (status, errors) = ran_over(&rt, "drops", Stops, &words, &mut reader, &mut output)?;
+    let (status, errors) = ran_over(
+        &rt,
+        "drops",
+        ProgramCall { program, words },
+        &mut reader,
+        &mut output,
+    )?;
     let wanted = b"stop 10 map acknowledged 0 left 0 0 0 0 0\n\
 stop 20 sync acknowledged 0 left 0 0 0 0 - BAD\nstops 2 recoveries 10 bad 1\n";
     same("standard error", errors.as_slice(), b"")?;

@@ -2,11 +2,17 @@
 use std::test::Fail;
 use test_steps::Program::{self, Cat, Format, Run, Stops};
 use test_steps::Step::{self, Does, Removes, Shows};
-use test_steps::{NEW, carry_out, ran_over, repeated, same, same_number};
+use test_steps::{NEW, ProgramCall, carry_out, ran_over, repeated, same, same_number};
 use test_streams::{Calls, CountedReader, CountedWriter, FailingReader, Full, LimitedWriter};
 
 /// A machine on an image.
 const RUN: &[&str] = &["@image", "@swap"];
+
+/// The run of a trace on it.
+const RUN_CALL: ProgramCall<'static> = ProgramCall {
+    program: Run,
+    words: RUN,
+};
 
 /// A run of which a stream fails.
 #[derive(Clone, Copy)]
@@ -87,13 +93,16 @@ fn ended(
     broken: &Broken,
     writer: &mut LimitedWriter,
 ) -> Result<(u8, Vec<u8>), Fail> {
-    let (program, words) = (broken.program, broken.words);
+    let call = ProgramCall {
+        program: broken.program,
+        words: broken.words,
+    };
     let mut rest = broken.input;
     if broken.fails {
         let mut reader = FailingReader { rest };
-        ran_over(rt, "streams", program, words, &mut reader, writer)
+        ran_over(rt, "streams", call, &mut reader, writer)
     } else {
-        ran_over(rt, "streams", program, words, &mut rest, writer)
+        ran_over(rt, "streams", call, &mut rest, writer)
     }
 }
 
@@ -171,7 +180,7 @@ fn expect_turns(rt: &HostRuntime, turns: &Turns) -> Result<(), Fail> {
     let calls = Calls::new();
     let mut reader = CountedReader::new(rt.alloc(), turns.trace, turns.each, &calls);
     let mut writer = CountedWriter::new(turns.room, &calls);
-    let (status, errors) = ran_over(rt, "turns", Run, RUN, &mut reader, &mut writer)?;
+    let (status, errors) = ran_over(rt, "turns", RUN_CALL, &mut reader, &mut writer)?;
     same("standard error", errors.as_slice(), turns.told)?;
     same_number("exit status", status.into(), turns.status.into())?;
     same_number("bytes taken", calls.taken.get() as u64, turns.taken as u64)?;
@@ -204,7 +213,7 @@ fn few_calls(rt: &HostRuntime, trace: &[u8]) -> Result<(), Fail> {
     let calls = Calls::new();
     let mut reader = CountedReader::new(rt.alloc(), trace, 100_000, &calls);
     let mut writer = CountedWriter::new(1_000_000, &calls);
-    let (status, _) = ran_over(rt, "calls", Run, RUN, &mut reader, &mut writer)?;
+    let (status, _) = ran_over(rt, "calls", RUN_CALL, &mut reader, &mut writer)?;
     same_number("exit status", status.into(), 0)?;
     same_number("bytes taken", calls.taken.get() as u64, 360_000)?;
     // One for each 32 KiB that were begun, and the one that finds the end.

@@ -8,7 +8,7 @@ use Rattle.disk_model.proofs.Moments.{asks_then, asks_wider, then}
 use Rattle.disk_model.specs.declared.sector_disk.SectorDisk.{Ghosts}
 use Rattle.vm_types.specs.declared.file.FileInfo.{FileInfo}
 use Rattle.sync_journal.specs.Layout.{IsPageSector}
-use Rattle.sync_journal.specs.Map.{place_among, place_of}
+use Rattle.sync_journal.specs.Map.{place_among, home_rank}
 use Rattle.sync_journal.specs.Standing.{place_or_home}
 use Rattle.sync_journal.specs.Turns.{turn_stands}
 use Rattle.sync_journal.specs.Kinds.{is_kind, kind_when, kind_of, kind_home, journal_kind, journal_stands, store_live, IsStoreRecovered}
@@ -21,20 +21,20 @@ use Rattle.file_store.specs.declared.directory.Directory.{Directory}
 use Rattle.file_store.specs.declared.directory.Entry.{Entry}
 use Rattle.file_store.specs.declared.store.FileStore.{FileStore}
 use Rattle.file_store.specs.Standing.{IsAskedToOpen, IsPageOf, StandsAs, directory_entry}
-use Rattle.file_store.specs.Store.{IsReadyStore, IsSectorOf, entry_of, files_of, home_in, home_of}
+use Rattle.file_store.specs.Store.{IsReadyStore, IsSectorOf, entry_of, files_of, entry_home, home_of}
 use Rattle.programs.proofs.Copies.{has_entry, same_content, still_stands}
 use Rattle.programs.specs.Showing.{IsAskedToShow, IsInHomesOf, IsSectorOfFile, KeepsImage, KeepsToFile, OnlyReads}
 
 -- where nothing stands in a journal alone, a page stands in its home
 at_home : (journal : StoreJournal) (h k : ℕ) → store_live journal ≡ [] → IsPageSector (journal_stands journal h) k → IsPageSector (kind_home (journal_kind journal) h) k
 unfolding place_among
-at_home (One journal) h k none sector = subst (λ (s : List ℕ). IsPageSector (place_or_home h (place_of s h)) k) none sector
-at_home (InTurn journal) h k none sector = subst (λ (s : List ℕ). IsPageSector (turn_stands journal.second h (place_of s h)) k) none sector
+at_home (One journal) h k none sector = subst (λ (s : List ℕ). IsPageSector (place_or_home h (home_rank s h)) k) none sector
+at_home (InTurn journal) h k none sector = subst (λ (s : List ℕ). IsPageSector (turn_stands journal.second h (home_rank s h)) k) none sector
 
 -- the home of a page
 first_and_page : (directory : Directory) (f page : ℕ) (entry : Entry) → entry_of directory f ≡ Some entry → home_of directory (record { file = f; page = page }) ≡ entry.first + page
 unfolding home_of
-first_and_page directory f page entry is = ap (λ (e : Option Entry). home_in e page) is
+first_and_page directory f page entry is = ap (λ (e : Option Entry). entry_home e page) is
 
 module _ {D : Type 0} (g : Ghosts D) where
   -- a page of a file is read after those before

@@ -16,7 +16,7 @@ use Rattle.disk_model.specs.Sectors.{joined}
 use Rattle.file_store.specs.declared.directory.Entry.{Entry}
 use Rattle.file_store.specs.declared.faults.OpenFault.{OpenFault}
 use Rattle.file_store.specs.declared.store.FileStore.{FileStore}
-use Rattle.file_store.specs.Layout.{page_count, bytes_inside}
+use Rattle.file_store.specs.Layout.{pages_of_length, bytes_inside}
 use Rattle.file_store.specs.Standing.{StandsFor, StandsAs, bytes_of_pages, directory_entry, file_info, standing, standing_page, page_standing, standing_file}
 use Rattle.file_store.specs.Store.{IsReadyStore, files_of, entry_of}
 use Rattle.runner.specs.Bytes.{WritesBeginning}
@@ -70,17 +70,17 @@ next_bytes : (pages : ℕ → List ℕ) → AreWhole pages → (info : FileInfo)
     → take (4096 * (k + 1)) (bytes_of_pages pages info) ≡ take (4096 * k) (bytes_of_pages pages info) ++ take (min 4096 (info.length - 4096 * k)) (pages k)
 next_bytes pages whole info k inside =
     let bytes = bytes_of_pages pages info in
-    let all = joined pages (page_count info.length) in
+    let all = joined pages (pages_of_length info.length) in
     let rest = info.length - 4096 * k in
     let split : 4096 * (k + 1) ≡ 4096 * k + 4096 = omega arith in
     let cut : info.length ≡ 4096 * k + rest = omega (arith, inside) in
-    let below : k < page_count info.length = omega (arith, inside) in
+    let below : k < pages_of_length info.length = omega (arith, inside) in
     ap (λ (m : ℕ). take m bytes) split ∙ take-add (4096 * k) 4096 bytes
     ∙ ap (λ (s : List ℕ). take (4096 * k) bytes ++ s)
     (ap (λ (m : ℕ). take 4096 (drop (4096 * k) (take m all))) cut
     ∙ ap (take 4096) (drop-take (4096 * k) rest all)
     ∙ first_of rest (drop (4096 * k) all)
-    ∙ ap (take (min 4096 rest)) (page_at pages whole (page_count info.length) k below))
+    ∙ ap (take (min 4096 rest)) (page_at pages whole (pages_of_length info.length) k below))
   where
     first_of : (m : ℕ) (s : List ℕ) → take 4096 (take m s) ≡ take (min 4096 m) (take 4096 s)
     first_of m s = ⊎_elim
@@ -91,7 +91,7 @@ next_bytes pages whole info k inside =
         (cases_lt m 4096)
 
 -- all pages are all bytes
-all_bytes : (pages : ℕ → List ℕ) (info : FileInfo) (k : ℕ) → page_count info.length ≤ k → take (4096 * k) (bytes_of_pages pages info) ≡ bytes_of_pages pages info
+all_bytes : (pages : ℕ → List ℕ) (info : FileInfo) (k : ℕ) → pages_of_length info.length ≤ k → take (4096 * k) (bytes_of_pages pages info) ≡ bytes_of_pages pages info
 all_bytes pages info k past = take_all (4096 * k) (bytes_of_pages pages info) (simp length-take (omega (arith, past)))
 
 pub has_entry : (entry : Option Entry) (info : FileInfo) → option_map (λ e. e.info) entry ≡ Some info → (e : Entry) × (entry ≡ Some e)
@@ -146,7 +146,7 @@ module _ {D : Type 0} (g : Ghosts D) where
 
   -- all pages were written
   pub all_pages : (store : FileStore D) (f k : ℕ) (info : FileInfo) (bytes : List ℕ) → IsReadyStore g store → g.keeps_model store.disk → files_of store f ≡ Some info
-      → standing_file (g.content store.disk) f ≡ Some bytes → page_count info.length ≤ k → take (4096 * k) bytes ≡ bytes
+      → standing_file (g.content store.disk) f ≡ Some bytes → pages_of_length info.length ≤ k → take (4096 * k) bytes ≡ bytes
   all_pages store f k info bytes ready keeps file is past =
       let known = standing_bytes store f info bytes ready keeps file is in
       let pages = standing_page (g.content store.disk) f in
@@ -162,13 +162,13 @@ module _ {D : Type 0} (g : Ghosts D) where
       let same : entry_of store.directory f ≡ directory_entry image f = (ready.at_rest keeps).directory f in
       let facts : file_info image f ≡ Some info = ap (option_map (λ e. e.info)) (sym same) ∙ file in
       let there : files f ≡ Some info = sym (stands.facts f) ∙ facts in
-      let each : (k : ℕ) → k < page_count info.length → standing_page image f k ≡ pages f k = λ k lt. stands.same f k (info, there, inside info k lt) in (
+      let each : (k : ℕ) → k < pages_of_length info.length → standing_page image f k ≡ pages f k = λ k lt. stands.same f k (info, there, inside info k lt) in (
         there,
         ap (option_map (bytes_of_pages (standing_page image f))) facts
-            ∙ ap (λ (s : List ℕ). Some (take info.length s)) (joined-same (page_count info.length) (standing_page image f) (pages f) each),
+            ∙ ap (λ (s : List ℕ). Some (take info.length s)) (joined-same (pages_of_length info.length) (standing_page image f) (pages f) each),
       )
     where
-      inside : (info : FileInfo) (k : ℕ) → k < page_count info.length → 4096 * k < info.length
+      inside : (info : FileInfo) (k : ℕ) → k < pages_of_length info.length → 4096 * k < info.length
       inside info k lt = omega (arith, lt)
 
   -- a store that was just opened has the files that its device stood for

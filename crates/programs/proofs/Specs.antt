@@ -6,7 +6,7 @@ use Rattle.file_store.specs.declared.sources.FileSource.{FileSource}
 use Rattle.trace_lang.specs.Grammar.{IsNumber}
 use Rattle.programs.specs.declared.sources.FileSpec.{FileSpec}
 use Rattle.programs.specs.declared.sources.FileSpec.TheVariants.{Zeros, Writable, ReadOnly}
-use Rattle.programs.specs.Specs.{IsSpec, IsSourceOf, AreSources}
+use Rattle.programs.specs.Specs.{IsSpec, IsSourceOf, AreSpecSources}
 
 -- of zeros, and what follows is no number that serves
 pub no_spec : (text digits : List ℕ) (read : Option ℕ) → ((rest : List ℕ) → text ≡ codes "rw:" ++ rest → ⊥) → ((rest : List ℕ) → text ≡ codes "ro:" ++ rest → ⊥)
@@ -20,17 +20,17 @@ no_spec text digits read no_rw no_ro zeros none only (ReadOnly path) is = no_ro 
 
 -- one spec more
 pub AreSources-more : {R : Type 0} (texts : List (List ℕ)) (sources : List (FileSource R)) (text : List ℕ) (source : FileSource R)
-    → AreSources texts sources → IsSourceOf text source → AreSources (texts ++ text ∷ []) (sources ++ source ∷ [])
+    → AreSpecSources texts sources → IsSourceOf text source → AreSpecSources (texts ++ text ∷ []) (sources ++ source ∷ [])
 AreSources-more [] [] text source before one = (one, tt)
 AreSources-more [] (s ∷ sources) text source before one = absurd before
 AreSources-more (t ∷ texts) [] text source before one = absurd before
 AreSources-more (t ∷ texts) (s ∷ sources) text source before one = (before.0, AreSources-more texts sources text source before.1 one)
 
 pub AreSources-next : {R : Type 0} (specs : List (Bor (List ℕ))) (i : ℕ) (none : Bor (List ℕ)) (sources after : List (FileSource R)) (source : FileSource R)
-    → i < length specs → AreSources (map (λ spec. spec.now) (take i specs)) sources → IsSourceOf (get_or specs i none).now source
-    → after ≡ sources ++ source ∷ [] → AreSources (map (λ spec. spec.now) (take (i + 1) specs)) after
+    → i < length specs → AreSpecSources (map (λ spec. spec.now) (take i specs)) sources → IsSourceOf (get_or specs i none).now source
+    → after ≡ sources ++ source ∷ [] → AreSpecSources (map (λ spec. spec.now) (take (i + 1) specs)) after
 AreSources-next specs i none sources after source inside before one is =
     let now : Bor (List ℕ) → List ℕ = λ spec. spec.now in
     let text = (get_or specs i none).now in
     let e : map now (take i specs) ++ text ∷ [] ≡ map now (take (i + 1) specs) = sym (ap (map now) (take_more specs i none inside) ∙ map-append now (take i specs) (get_or specs i none ∷ [])) in
-    subst (λ ts. AreSources ts after) e (subst (λ ss. AreSources (map now (take i specs) ++ text ∷ []) ss) (sym is) (AreSources-more (map now (take i specs)) sources text source before one))
+    subst (λ ts. AreSpecSources ts after) e (subst (λ ss. AreSpecSources (map now (take i specs) ++ text ∷ []) ss) (sym is) (AreSources-more (map now (take i specs)) sources text source before one))

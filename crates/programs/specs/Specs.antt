@@ -13,20 +13,20 @@ IsSpec text (ReadOnly path) = text ≡ codes "ro:" ++ path.now
 
 module _ {R : Type 0} where
   -- a source is what was asked for: zeros, or the bytes of a host file
-  abbrev pub Serves : FileSpec → FileSource R → Type 0
-  Serves (Zeros length) source = (source.read_only ≡ false) × (source.length ≡ length) × IsNone source.bytes
-  Serves (Writable path) source = (source.read_only ≡ false) × IsSome source.bytes
-  Serves (ReadOnly path) source = (source.read_only ≡ true) × IsSome source.bytes
+  abbrev pub GivesSource : FileSpec → FileSource R → Type 0
+  GivesSource (Zeros length) source = (source.read_only ≡ false) × (source.length ≡ length) × IsNone source.bytes
+  GivesSource (Writable path) source = (source.read_only ≡ false) × IsSome source.bytes
+  GivesSource (ReadOnly path) source = (source.read_only ≡ true) × IsSome source.bytes
 
   -- the text is a spec, and the source is what it asks for
   pub record IsSourceOf (text : List ℕ) (source : FileSource R) : Type 0 where
     pub asked : FileSpec
     pub is : IsSpec text asked
-    pub serves : Serves asked source
+    pub serves : GivesSource asked source
 
   -- a source for each spec, in their order
-  abbrev pub AreSources : List (List ℕ) → List (FileSource R) → Type 0
-  AreSources [] [] = Unit {0}
-  AreSources [] (source ∷ sources) = ⊥
-  AreSources (text ∷ texts) [] = ⊥
-  AreSources (text ∷ texts) (source ∷ sources) = IsSourceOf text source × AreSources texts sources
+  abbrev pub AreSpecSources : List (List ℕ) → List (FileSource R) → Type 0
+  AreSpecSources [] [] = Unit {0}
+  AreSpecSources [] (source ∷ sources) = ⊥
+  AreSpecSources (text ∷ texts) [] = ⊥
+  AreSpecSources (text ∷ texts) (source ∷ sources) = IsSourceOf text source × AreSpecSources texts sources

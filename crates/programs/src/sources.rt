@@ -1,7 +1,7 @@
 //! The files of a new image, as their specs name them.
 ghost use Rattle.std.specs.Prelude.{◌≡◌, IfOk, IfSome, IfNone, IsSome, map};
 ghost use Rattle.programs.specs.declared.sources.FileSpec.{FileSpec};
-ghost use Rattle.programs.specs.Specs.{IsSpec, IsSourceOf, AreSources};
+ghost use Rattle.programs.specs.Specs.{IsSpec, IsSourceOf, AreSpecSources};
 
 use crate::faults::ProgramFault;
 use crate::files::open_to_read;
@@ -52,7 +52,7 @@ pub fn open_sources<'a, R: Files<File = File>>(
     rt: &R,
     specs: &[&'a str],
 ) -> Result<Vec<FileSource<File>>, ProgramFault<'a>>
-    ensures { IfOk result (λ sources. AreSources (map (λ spec. spec.now) specs.now) sources.items) }
+    ensures { IfOk result (λ sources. AreSpecSources (map (λ spec. spec.now) specs.now) sources.items) }
 {
     let mut sources = Vec::new(alloc);
     for spec in specs {

@@ -12,7 +12,7 @@ use Rattle.page_tables.proofs.Places.{last_in_row}
 use Rattle.page_tables.proofs.Spans.{missing_in_place}
 use Rattle.residency.specs.Picture.{Picture, entry}
 use Rattle.residency.proofs.Entries.{entry-of}
-use Rattle.fault.specs.Changes.{IsWhole}
+use Rattle.residency.specs.Ways.{IsWhole}
 
 -- on the way to pages of one lowest table as many are missing
 module _ (mode : ℕ) where

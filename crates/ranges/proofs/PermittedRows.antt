@@ -22,8 +22,8 @@ use Rattle.residency.specs.declared.kernel.Core.{Core}
 use Rattle.residency.specs.Steps.{SameBeside, SetsPage}
 use Rattle.residency.proofs.TableSteps.{sets_page, rooted_set}
 use Rattle.ranges.specs.Leaves.{TakesStores, IsPermittedEntry, Permits, Empty, Away, Kept, NamesFrames, PermitsRow}
-use Rattle.fault.specs.Changes.{KeepsAround}
-use Rattle.fault.proofs.Forms.{seat_own}
+use Rattle.residency.specs.Ways.{KeepsAround}
+use Rattle.residency.proofs.SeatForms.{seat_own}
 use Rattle.ranges.proofs.Sharing.{inside_memory, private_used, cache_used}
 use Rattle.ranges.proofs.ClearedPages.{out_front, out_back, other_page}
 

@@ -32,7 +32,7 @@ use Rattle.residency.proofs.Rooted.{used_kept}
 use Rattle.residency.proofs.Seats.{counted_same}
 use Rattle.residency.proofs.Moves.{view-none}
 use Rattle.residency.proofs.Setting.{view_seated, held_same}
-use Rattle.fault.proofs.Forms.{seat_own, seat_common}
+use Rattle.residency.proofs.SeatForms.{seat_own, seat_common}
 use Rattle.ranges.specs.Leaves.{is_mapped_shared, TakesStores, IsPermittedEntry, Permits, Empty, Away, Kept, PermitsRow}
 use Rattle.ranges.specs.Rows.{ReprotectsRow}
 use Rattle.ranges.specs.Steps.{IsBeside, KeepsEntriesOfOthers}

@@ -24,8 +24,8 @@ use Rattle.residency.proofs.Handed.{same, release_spares}
 use Rattle.residency.proofs.Putting.{with_slots}
 use Rattle.residency.proofs.Setting.{held_same}
 use Rattle.residency.proofs.SlotReleased.{fit_slot_released}
-use Rattle.fault.proofs.Forms.{seat_own, seat_common}
-use Rattle.fault.proofs.SwapSteps.{swapped_form, away_seat, views_given, held_given}
+use Rattle.residency.proofs.SeatForms.{seat_own, seat_common}
+use Rattle.residency.proofs.SeatForms.{swapped_form, away_seat, views_given, held_given}
 use Rattle.ranges.specs.Steps.{SameButMemory, LacksHolder, ReturnsSeat}
 use Rattle.ranges.proofs.Sharing.{private_data}
 
@@ -81,7 +81,7 @@ some_slot : (k j : ℕ) → Some (InSlot k) ≡ Some (InSlot j) → k ≡ j
 some_slot k j e = (cc)
 
 -- the share of a slot
-module _ {mode : ℕ} (old : Picture mode) (k : ℕ) (fit : IsFitBut old (InSlot k) 1 0) (has : IsOwned old (InSlot k)) (t : SlotTable) (releases : Slots.Releases old.slots t k) (o : Option Seat)
+module _ {mode : ℕ} (old : Picture mode) (k : ℕ) (fit : IsFitBut old (InSlot k) 1 0) (has : IsOwned old (InSlot k)) (t : SlotTable) (releases : Slots.ReleasesSlot old.slots t k) (o : Option Seat)
     (is : o ≡ Some (InSlot k)) where
   pub fit_slot : IsFit (record old { slots = t })
   fit_slot = fit_slot_released old (record old { slots = t }) k 0 fit has (with_slots old t) releases

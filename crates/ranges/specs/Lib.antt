@@ -3,3 +3,8 @@ pub mod Leaves
 pub mod Rows
 pub mod Numbers
 pub mod ObjectSteps
+pub mod RowsCleared
+pub mod RowsPermitted
+pub mod RowsRemapped
+pub mod WaysPassed
+pub mod RowsForgotten

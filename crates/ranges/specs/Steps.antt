@@ -15,7 +15,7 @@ use Rattle.residency.specs.declared.kernel.Core.{Core}
 use Rattle.residency.specs.Seats.{Seat, InSlot, seat}
 use Rattle.residency.specs.Picture.{Picture, entry, view, held, IsOwned}
 use Rattle.residency.specs.Parts.{IsUsed, IsMapped, IsFitBut, IsFit}
-use Rattle.fault.specs.Changes.{IsWhole}
+use Rattle.residency.specs.Ways.{IsWhole}
 
 -- a page that isn't one of a process from low up to, not including, high
 abbrev pub IsBeside : ℕ → ℕ → ℕ → ℕ → ℕ → Type 0

@@ -1,23 +1,19 @@
 //! Pages without entries.
-ghost use Rattle.std.specs.Prelude.{◌≡◌, ℕ, ◌+◌, ◌*◌, ◌/◌, ◌%◌, ◌<◌, ◌≤◌, ◌^◌, true};
-ghost use Rattle.vm_types.specs.Limits.{top_level, user_end, table_entries};
+ghost use Rattle.std.specs.Prelude.{◌≡◌, ◌+◌, ◌*◌, ◌/◌, ◌%◌, ◌<◌, ◌≤◌, ◌^◌, true};
+ghost use Rattle.vm_types.specs.Limits.{user_end, table_entries};
 ghost use Rattle.page_tables.specs.Entry.{IsPageEntry};
-ghost use Rattle.page_tables.specs.Places.{IsTableOf};
-ghost use Rattle.page_tables.specs.Tree.{IsPage};
 ghost use Rattle.residency.specs.Seats.{seat};
 ghost use Rattle.residency.specs.Picture.{picture_of, is_live};
 ghost use Rattle.residency.specs.Parts.{IsFit};
-ghost use Rattle.residency.specs.Shows.{KeepsFiles};
-ghost use Rattle.fault.specs.Changes.{IsWhole};
-ghost use Rattle.ranges.specs.Rows.{RemapsRow};
-ghost use Rattle.ranges.specs.Steps.{KeepsBesideMemory, KeepsEntriesOfOthers, SameTables, ReturnsTables, ReturnsSlots, Clears, IsWithoutTables, IsCleared, LacksHolder, ReturnsSeat, IsStepEnd};
+ghost use Rattle.residency.specs.Ways.{IsWhole};
+ghost use Rattle.ranges.specs.RowsCleared.{StandsIn, ClearsWithTables, ClearsNext, ClearsPlaces, ClearsRow};
+ghost use Rattle.ranges.specs.Steps.{KeepsBesideMemory, LacksHolder, ReturnsSeat};
 
 use crate::entries::next_place;
 use crate::rows::{TableRow, next_part, span_end, table_end, table_start, user_page};
-use fault::root_of;
 use memory::{last_table, number_in, prune, set_in, table_of};
 use page_tables::{Entry, decode};
-use residency::Core;
+use residency::{Core, root_of};
 use sv39_walk::Pte;
 use vm_types::{FrameNo, Levels, Pid, USER_START, Vpn};
 
@@ -28,15 +24,7 @@ pub fn clear_row<D, E, M: Levels>(core: &mut Core<D, E, M>, pid: Pid, first: u64
     requires fit { IsFit (picture_of core.old) }
     requires live { is_live (picture_of core.old) pid ≡ true }
     requires row { first + pages ≤ user_end M.mode }
-    ensures fit { IsFit (picture_of core.new) }
-    ensures row { RemapsRow (picture_of core.old) (picture_of core.new) pid first pages ((picture_of core.old).at pid) }
-    ensures files { KeepsFiles (picture_of core.old) (picture_of core.new) }
-    ensures others { KeepsEntriesOfOthers (picture_of core.old) (picture_of core.new) pid }
-    ensures tables { ReturnsTables (picture_of core.old) (picture_of core.new) pid }
-    ensures none_left { IsWithoutTables (picture_of core.new) pid first (first + pages) }
-    ensures slots { ReturnsSlots (picture_of core.old) (picture_of core.new) pid first (first + pages) }
-    ensures rest { KeepsBesideMemory core.old core.new }
-    ensures refused { core.new.refused ≡ core.old.refused }
+    ensures { ClearsRow core.old core.new pid first pages }
 {
     let end = first + pages;
     let mut page = first.max(USER_START);
@@ -52,11 +40,7 @@ fn clear_part<D, E, M: Levels>(core: &mut Core<D, E, M>, pid: Pid, start: Vpn, e
     requires live { is_live (picture_of core.old) pid ≡ true }
     requires some { start < end }
     requires high { end ≤ user_end M.mode }
-    ensures fit { IsFit (picture_of core.new) }
-    ensures clears { Clears (picture_of core.old) (picture_of core.new) pid start end }
-    ensures cleared { (low : ℕ) → low ≤ start → IsCleared (picture_of core.old) pid low start → IsCleared (picture_of core.new) pid low end }
-    ensures rest { KeepsBesideMemory core.old core.new }
-    ensures refused { core.new.refused ≡ core.old.refused }
+    ensures { ClearsWithTables core.old core.new pid start end }
 {
     let mut page = start.get();
     while page < end {
@@ -72,14 +56,7 @@ fn clear_next<D, E, M: Levels>(core: &mut Core<D, E, M>, pid: Pid, start: Vpn, e
     requires live { is_live (picture_of core.old) pid ≡ true }
     requires some { start < end }
     requires high { end ≤ user_end M.mode }
-    ensures fit { IsFit (picture_of core.new) }
-    ensures further { start < result }
-    ensures within { result ≤ end }
-    ensures ends { IsStepEnd (picture_of core.old) pid start end result }
-    ensures clears { Clears (picture_of core.old) (picture_of core.new) pid start result }
-    ensures cleared { (low : ℕ) → low ≤ start → IsCleared (picture_of core.old) pid low start → IsCleared (picture_of core.new) pid low result }
-    ensures rest { KeepsBesideMemory core.old core.new }
-    ensures refused { core.new.refused ≡ core.old.refused }
+    ensures { ClearsNext core.old core.new pid start end result }
 {
     let top_table = root_of(core, pid);
     let (missing, _) = last_table(&core.frames, top_table, start);
@@ -105,22 +82,23 @@ fn clear_table<D, E, M: Levels>(core: &mut Core<D, E, M>, pid: Pid, start: Vpn, 
     requires some { start < stop }
     requires one_table { stop ≤ (start / table_entries + 1) * table_entries }
     requires high { stop ≤ user_end M.mode }
-    ensures fit { IsFit (picture_of core.new) }
-    ensures clears { Clears (picture_of core.old) (picture_of core.new) pid start stop }
-    ensures cleared { (low : ℕ) → low ≤ start → IsCleared (picture_of core.old) pid low start → IsCleared (picture_of core.new) pid low stop }
-    ensures rest { KeepsBesideMemory core.old core.new }
-    ensures refused { core.new.refused ≡ core.old.refused }
+    ensures { ClearsWithTables core.old core.new pid start stop }
 {
     let root = root_of(core, pid);
     let Ok(table) = table_of(&core.frames, root, start) else {
         unreachable!();
     };
     let first = table_start(start);
-    let row = TableRow { root, table, first };
+    let row = TableRow {
+        pid,
+        root,
+        table,
+        first,
+    };
     let end = (stop - first) as usize;
     let mut index = (start.get() - first) as usize;
     while index < end {
-        index = clear_at(core, pid, row, index, end);
+        index = clear_at(core, &row, index, end);
     }
     prune(&mut core.frames, root, start);
 }
@@ -130,26 +108,17 @@ fn clear_table<D, E, M: Levels>(core: &mut Core<D, E, M>, pid: Pid, start: Vpn, 
 /// one. The table may be without entries then.
 fn clear_at<D, E, M: Levels>(
     core: &mut Core<D, E, M>,
-    pid: Pid,
-    row: TableRow,
+    row: &TableRow,
     index: usize,
     end: usize,
 ) -> usize
     requires fit { IsFit (picture_of core.old) }
-    requires root { (picture_of core.old).root pid ≡ Some row.root.0 }
-    requires place { IsTableOf core.old.frames (top_level M.mode) row.root.0 (row.first / table_entries) row.table.0 }
-    requires begins { row.first % table_entries ≡ 0 }
+    requires row { StandsIn (picture_of core.old) row.now row.now.first }
+    requires begins { row.now.first % table_entries ≡ 0 }
     requires below { index < end }
     requires in_table { end ≤ table_entries }
-    requires high { row.first + end ≤ user_end M.mode }
-    ensures fit { IsFit (picture_of core.new) }
-    ensures further { index < result }
-    ensures within { result ≤ end }
-    ensures clears { Clears (picture_of core.old) (picture_of core.new) pid (row.first + index) (row.first + result) }
-    ensures tables { SameTables core.old.frames core.new.frames }
-    ensures places { (n m : ℕ) → IsTableOf core.old.frames (top_level M.mode) row.root.0 n m → IsTableOf core.new.frames (top_level M.mode) row.root.0 n m }
-    ensures rest { KeepsBesideMemory core.old core.new }
-    ensures refused { core.new.refused ≡ core.old.refused }
+    requires high { row.now.first + end ≤ user_end M.mode }
+    ensures { ClearsPlaces core.old core.new row.now index end result }
 {
     let number = number_in(&core.frames, row.table, index);
     if number.to_u64() == 0 {

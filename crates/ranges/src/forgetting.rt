@@ -6,13 +6,14 @@ ghost use Rattle.vm_types.specs.Rows.{in_row};
 ghost use Rattle.vm_types.specs.declared.object.PageKey.TheVariants.{Object};
 ghost use Rattle.vm_types.specs.declared.region.Backing.TheVariants.{Common};
 ghost use Rattle.page_cache.specs.declared.place.Place.TheVariants.{Home};
-ghost use Rattle.residency.specs.Calls.{KeepsBesidePlaces};
 ghost use Rattle.residency.specs.Picture.{picture_of, entry, is_live};
 ghost use Rattle.residency.specs.Parts.{IsFit};
 ghost use Rattle.residency.specs.Steps.{Forgets};
-ghost use Rattle.page_cache.specs.CacheTable.{frame_count, slot_count};
+ghost use Rattle.page_cache.specs.CacheTable.{cache_frames, slot_count};
 ghost use Rattle.ranges.specs.ObjectSteps.{IsForgottenThere, IsNextCommon};
-ghost use Rattle.ranges.specs.Rows.{ForgetsRow, IsBareRow, IsLastName, is_common, node_of};
+ghost use Rattle.ranges.specs.Rows.{IsBareRow, IsLastName, is_common, node_of};
+ghost use Rattle.ranges.specs.RowsForgotten.{ForgetsNames};
+ghost use Rattle.ranges.specs.RowsRemapped.{IsRowOf};
 
 use regions::Run;
 use residency::{Core, PLACES, page_over};
@@ -33,9 +34,7 @@ pub fn forget_row<D, E, M: Levels>(core: &mut Core<D, E, M>, pid: Pid, first: u6
     requires live { is_live (picture_of core.old) pid ≡ true }
     requires row { first + pages ≤ user_end M.mode }
     requires bare { IsBareRow (picture_of core.old) pid first pages }
-    ensures fit { IsFit (picture_of core.new) }
-    ensures forgets { ForgetsRow (picture_of core.old) (picture_of core.new) pid first pages }
-    ensures rest { KeepsBesidePlaces core.old core.new }
+    ensures { ForgetsNames core.old core.new pid first pages }
 {
     let count = common_pages(core, pid, first, first + pages);
     if count == 0 {
@@ -80,13 +79,9 @@ fn common_part(run: Run, end: u64) -> u64
 
 /// `forget_row` by the pages of the row that are of objects.
 fn forget_pages<D, E, M: Levels>(core: &mut Core<D, E, M>, pid: Pid, first: u64, pages: u64)
-    requires fit { IsFit (picture_of core.old) }
-    requires live { is_live (picture_of core.old) pid ≡ true }
-    requires row { first + pages ≤ user_end M.mode }
+    requires row { IsRowOf (picture_of core.old) pid first pages }
     requires bare { IsBareRow (picture_of core.old) pid first pages }
-    ensures fit { IsFit (picture_of core.new) }
-    ensures forgets { ForgetsRow (picture_of core.old) (picture_of core.new) pid first pages }
-    ensures rest { KeepsBesidePlaces core.old core.new }
+    ensures { ForgetsNames core.old core.new pid first pages }
 {
     let mut from = first;
     while let Some(named) = next_common(core, pid, from, first + pages) {
@@ -133,13 +128,9 @@ fn first_of<M: Levels>(run: Run) -> Option<Named>
 
 /// `forget_row` by frames and slots.
 fn forget_nodes<D, E, M: Levels>(core: &mut Core<D, E, M>, pid: Pid, first: u64, pages: u64)
-    requires fit { IsFit (picture_of core.old) }
-    requires live { is_live (picture_of core.old) pid ≡ true }
-    requires row { first + pages ≤ user_end M.mode }
+    requires row { IsRowOf (picture_of core.old) pid first pages }
     requires bare { IsBareRow (picture_of core.old) pid first pages }
-    ensures fit { IsFit (picture_of core.new) }
-    ensures forgets { ForgetsRow (picture_of core.old) (picture_of core.new) pid first pages }
-    ensures rest { KeepsBesidePlaces core.old core.new }
+    ensures { ForgetsNames core.old core.new pid first pages }
 {
     let nodes = core.cache.frames() + core.cache.slots();
     for node in 0..nodes {
@@ -158,9 +149,9 @@ fn is_common(backing: Backing) -> bool
 
 /// The page of an object that a frame holds, or a slot, the slots being numbered behind the frames.
 fn object_at<D, E, M: Levels>(core: &Core<D, E, M>, node: u32) -> Option<ObjectPage>
-    requires { node < frame_count core.now.cache + slot_count core.now.cache }
+    requires { node < cache_frames core.now.cache + slot_count core.now.cache }
     ensures away { IfSome result (λ p. (picture_of core.now).place (Object p) ≢ Home) }
-    ensures found { (p : ObjectPage) → node_of (frame_count core.now.cache) ((picture_of core.now).place (Object p)) ≡ Some node → result ≡ Some p }
+    ensures found { (p : ObjectPage) → node_of (cache_frames core.now.cache) ((picture_of core.now).place (Object p)) ≡ Some node → result ≡ Some p }
 {
     let frames = core.cache.frames();
     let held = if node < frames {
@@ -182,9 +173,7 @@ fn forget_last<D, E, M: Levels>(
     pages: u64,
     page: ObjectPage,
 )
-    requires fit { IsFit (picture_of core.old) }
-    requires live { is_live (picture_of core.old) pid ≡ true }
-    requires row { first + pages ≤ user_end M.mode }
+    requires row { IsRowOf (picture_of core.old) pid first pages }
     requires bare { IsBareRow (picture_of core.old) pid first pages }
     requires away { (picture_of core.old).place (Object page) ≢ Home }
     ensures fit { IsFit (picture_of core.new) }

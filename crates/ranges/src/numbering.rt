@@ -13,6 +13,14 @@ use vm_types::{Backing, Levels, Pid, WIDEST_END};
 /// How many objects runs of pages name at most: 64 processes have 256 runs each.
 const NAMED: usize = 64 * 256;
 
+/// Pages of a process that are left out: the `pages` ones from `first` on.
+#[derive(Clone, Copy)]
+struct LeftOut {
+    pid: Pid,
+    first: u64,
+    pages: u64,
+}
+
 /// The least number of an object of which no page is, once the `pages` pages from `first` on of the process are mapped no more. Its
 /// time is that of the runs of all processes and of the numbers.
 pub fn free_object<D, E, M: Levels>(core: &Core<D, E, M>, pid: Pid, first: u64, pages: u64) -> u16
@@ -20,31 +28,32 @@ pub fn free_object<D, E, M: Levels>(core: &Core<D, E, M>, pid: Pid, first: u64, 
     requires row { first + pages ≤ user_end M.mode }
     ensures { result ≡ free_object (without_maps (picture_of core.now).at pid first pages) }
 {
+    let left_out = LeftOut { pid, first, pages };
     let mut used = [false; NAMED];
     for number in 1..PLACES {
-        mark_process(core, number as u64, pid, first, pages, &mut used);
+        mark_process(core, number as u64, &left_out, &mut used);
     }
     first_free(&used)
 }
 
-/// Marks the objects of the process of that number, where it lives.
+/// Marks the objects of the process of that number, where it lives, but for the pages that are left out.
 fn mark_process<D, E, M: Levels>(
     core: &Core<D, E, M>,
     number: u64,
-    pid: Pid,
-    first: u64,
-    pages: u64,
+    left_out: &LeftOut,
     used: &mut [bool; NAMED],
 )
     requires fit { IsFit (picture_of core.now) }
-    requires row { first + pages ≤ user_end M.mode }
+    requires row { left_out.now.first + left_out.now.pages ≤ user_end M.mode }
     requires room { length used.old ≡ named_limit }
-    ensures marks { Marks (IsUsedBy (without_maps (picture_of core.now).at pid first pages) number) used.old used.new }
+    ensures marks { Marks (IsUsedBy (without_maps (picture_of core.now).at left_out.now.pid left_out.now.first left_out.now.pages) number) used.old used.new }
 {
     let Some(process) = core.live(number) else {
         return;
     };
-    if process.get() == pid.get() {
+    if process.get() == left_out.pid.get() {
+        let first = left_out.first;
+        let pages = left_out.pages;
         mark(core, process, 0, first, used);
         mark(core, process, first + pages, WIDEST_END, used);
     } else {

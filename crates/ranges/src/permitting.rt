@@ -4,25 +4,22 @@ ghost use Rattle.vm_types.specs.Limits.{top_level, user_end, table_entries};
 ghost use Rattle.vm_types.specs.Rows.{protected};
 ghost use Rattle.frames.specs.FrameTable.{IsFrame};
 ghost use Rattle.sv39_walk.specs.Entry.{frame_of};
-ghost use Rattle.page_tables.specs.Change.{KeepsFrames};
 ghost use Rattle.page_tables.specs.Tree.{IsPage};
-ghost use Rattle.page_tables.specs.Places.{IsTableOf};
 ghost use Rattle.regions.specs.Permission.{ReadsToo};
 ghost use Rattle.regions.specs.RunList.{attr_at};
 ghost use Rattle.residency.specs.Picture.{picture_of, is_live, is_swapped};
-ghost use Rattle.residency.specs.Parts.{IsRootedBut, IsFit};
-ghost use Rattle.ranges.specs.Leaves.{TakesStores, PermitsRow, NamesFrames};
-ghost use Rattle.ranges.specs.Rows.{ReprotectsRow};
-ghost use Rattle.fault.specs.Changes.{IsWhole, KeepsAround};
-ghost use Rattle.ranges.specs.Steps.{KeepsEntriesOfOthers, IsLinkedStepEnd};
+ghost use Rattle.residency.specs.Parts.{IsFit};
+ghost use Rattle.ranges.specs.Leaves.{TakesStores};
+ghost use Rattle.ranges.specs.RowsCleared.{StandsIn};
+ghost use Rattle.ranges.specs.RowsPermitted.{IsPermissible, PermitsPages, PermitsNext, PermitsPage, ReprotectsPages};
+ghost use Rattle.residency.specs.Ways.{IsWhole};
 
 use crate::entries::next_entry;
 use crate::leaves::permitted;
-use crate::rows::{next_linked, table_end, user_page};
-use fault::root_of;
+use crate::rows::{TableRow, next_linked, table_end, table_start, user_page};
 use memory::{number_in, set_in, table_of};
 use regions::Regions;
-use residency::Core;
+use residency::{Core, root_of};
 use sv39_walk::{Pte, TABLE_ENTRIES};
 use vm_types::{FrameNo, Levels, Pid, Prot, USER_START, Vpn};
 
@@ -46,15 +43,7 @@ pub fn reprotect<D, E, M: Levels>(
     requires row { first + pages ≤ user_end M.mode }
     requires reads { ReadsToo prot }
     requires map { (page : ℕ) → attr_at regions.now page ≡ protected ((picture_of core.old).at pid) first pages prot page }
-    ensures fit { IsFit (picture_of core.new) }
-    ensures row { ReprotectsRow (picture_of core.old) (picture_of core.new) pid first pages prot }
-    ensures others { KeepsEntriesOfOthers (picture_of core.old) (picture_of core.new) pid }
-    ensures frames { KeepsFrames core.old.frames core.new.frames }
-    ensures store { core.new.store ≡ core.old.store }
-    ensures swap { core.new.swap ≡ core.old.swap }
-    ensures roots { core.new.roots ≡ core.old.roots }
-    ensures cache { core.new.cache ≡ core.old.cache }
-    ensures refused { core.new.refused ≡ core.old.refused }
+    ensures { ReprotectsPages core.old core.new pid first pages prot }
 {
     let end = first + pages;
     let mut page = first.max(USER_START);
@@ -73,20 +62,10 @@ fn permit_next<D, E, M: Levels>(
     end: u64,
     prot: Prot,
 ) -> u64
-    requires rooted { IsRootedBut (picture_of core.old) 0 }
-    requires named { NamesFrames (picture_of core.old) pid }
-    requires live { is_live (picture_of core.old) pid ≡ true }
+    requires may { IsPermissible (picture_of core.old) pid prot }
     requires some { start < end }
     requires high { end ≤ user_end M.mode }
-    requires reads { ReadsToo prot }
-    ensures rooted { IsRootedBut (picture_of core.new) 0 }
-    ensures named { NamesFrames (picture_of core.new) pid }
-    ensures further { start < result }
-    ensures within { result ≤ end }
-    ensures ends { IsLinkedStepEnd (picture_of core.old) pid start end result }
-    ensures permits { PermitsRow (picture_of core.old) (picture_of core.new) pid start result prot }
-    ensures rest { KeepsAround core.old core.new }
-    ensures refused { core.new.refused ≡ core.old.refused }
+    ensures { PermitsNext core.old core.new pid start end prot result }
 {
     let linked = next_linked(core, pid, start, end);
     if linked >= end {
@@ -107,66 +86,49 @@ fn permit_table<D, E, M: Levels>(
     stop: u64,
     prot: Prot,
 )
-    requires rooted { IsRootedBut (picture_of core.old) 0 }
-    requires named { NamesFrames (picture_of core.old) pid }
-    requires live { is_live (picture_of core.old) pid ≡ true }
+    requires may { IsPermissible (picture_of core.old) pid prot }
     requires whole { IsWhole (picture_of core.old) pid start }
     requires some { start < stop }
     requires one_table { stop ≤ (start / table_entries + 1) * table_entries }
     requires high { stop ≤ user_end M.mode }
-    requires reads { ReadsToo prot }
-    ensures rooted { IsRootedBut (picture_of core.new) 0 }
-    ensures named { NamesFrames (picture_of core.new) pid }
-    ensures permits { PermitsRow (picture_of core.old) (picture_of core.new) pid start stop prot }
-    ensures rest { KeepsAround core.old core.new }
-    ensures refused { core.new.refused ≡ core.old.refused }
+    ensures { PermitsPages core.old core.new pid start stop prot }
 {
     let root = root_of(core, pid);
     let Ok(table) = table_of(&core.frames, root, start) else {
         unreachable!();
     };
+    let row = TableRow {
+        pid,
+        root,
+        table,
+        first: table_start(start),
+    };
     let mut page = next_entry(&core.frames, table, start.get(), stop);
     while page < stop {
-        permit_page(core, pid, root, table, user_page::<M>(page), prot);
+        permit_page(core, &row, user_page::<M>(page), prot);
         page = next_entry(&core.frames, table, page + 1, stop);
     }
 }
 
 /// Gives the permission to a page whose entry stands in that table of a process. The entry of a page in a slot is left alone.
-fn permit_page<D, E, M: Levels>(
-    core: &mut Core<D, E, M>,
-    pid: Pid,
-    root: FrameNo,
-    table: FrameNo,
-    page: Vpn,
-    prot: Prot,
-)
-    requires rooted { IsRootedBut (picture_of core.old) 0 }
-    requires named { NamesFrames (picture_of core.old) pid }
-    requires live { is_live (picture_of core.old) pid ≡ true }
-    requires root { (picture_of core.old).root pid ≡ Some root.0 }
+fn permit_page<D, E, M: Levels>(core: &mut Core<D, E, M>, row: &TableRow, page: Vpn, prot: Prot)
+    requires may { IsPermissible (picture_of core.old) row.now.pid prot }
+    requires row { StandsIn (picture_of core.old) row.now page }
     requires inside { IsPage (top_level M.mode) page }
-    requires place { IsTableOf core.old.frames (top_level M.mode) root.0 (page / table_entries) table.0 }
-    requires reads { ReadsToo prot }
-    ensures rooted { IsRootedBut (picture_of core.new) 0 }
-    ensures named { NamesFrames (picture_of core.new) pid }
-    ensures places { (row n : ℕ) → IsTableOf core.old.frames (top_level M.mode) root.0 row n → IsTableOf core.new.frames (top_level M.mode) root.0 row n }
-    ensures permits { PermitsRow (picture_of core.old) (picture_of core.new) pid page (page + 1) prot }
-    ensures rest { KeepsAround core.old core.new }
-    ensures refused { core.new.refused ≡ core.old.refused }
+    ensures { PermitsPage core.old core.new row.now page prot }
 {
     let index = (page.get() % TABLE_ENTRIES) as usize;
-    let number = number_in(&core.frames, table, index);
+    let number = number_in(&core.frames, row.table, index);
     if number.to_u64() == 0 {
         return;
     }
     if number.is_swapped() {
         return;
     }
-    let writable = takes_stores(core, pid, page, number, prot);
+    let writable = takes_stores(core, row.pid, page, number, prot);
     set_in(
         &mut core.frames,
-        table,
+        row.table,
         index,
         permitted(number, prot, writable),
     );

@@ -1,14 +1,12 @@
 //! Other pages in the place of those of a row.
-ghost use Rattle.std.specs.Prelude.{◌≡◌, ℕ, ◌+◌, ◌≤◌, ◌^◌, true, false};
-ghost use Rattle.vm_types.specs.Limits.{user_end};
-ghost use Rattle.frames.specs.FrameTable.{frame_count};
+ghost use Rattle.std.specs.Prelude.{◌≡◌, ℕ, false};
 ghost use Rattle.vm_types.specs.Rows.{in_row, IsUserMap};
 ghost use Rattle.regions.specs.Permission.{IsReadableMap};
 ghost use Rattle.regions.specs.RunList.{attr_at};
-ghost use Rattle.residency.specs.Picture.{picture_of, is_live};
-ghost use Rattle.residency.specs.Parts.{AreObjects, IsFit};
-ghost use Rattle.ranges.specs.Rows.{KeepsNamed, RemapsRow, with_map, without_maps};
-ghost use Rattle.ranges.specs.Steps.{KeepsDevices, KeepsEntriesOfOthers, ReturnsTables, LosesSlots};
+ghost use Rattle.residency.specs.Picture.{picture_of};
+ghost use Rattle.residency.specs.Parts.{AreObjects};
+ghost use Rattle.ranges.specs.Rows.{with_map};
+ghost use Rattle.ranges.specs.RowsRemapped.{IsRowOf, RemapsPages};
 
 use crate::clearing::clear_row;
 use crate::forgetting::forget_row;
@@ -26,23 +24,12 @@ pub fn remap<D, E, M: Levels>(
     pages: u64,
     regions: &Regions<M>,
 )
-    requires fit { IsFit (picture_of core.old) }
-    requires live { is_live (picture_of core.old) pid ≡ true }
-    requires row { first + pages ≤ user_end M.mode }
+    requires row { IsRowOf (picture_of core.old) pid first pages }
     requires others { (page : ℕ) → in_row first pages page ≡ false → attr_at regions.now page ≡ (picture_of core.old).at pid page }
     requires user { IsUserMap M.mode (attr_at regions.now) }
     requires readable { IsReadableMap (attr_at regions.now) }
     requires objects { AreObjects (with_map (picture_of core.old).at pid (attr_at regions.now)) }
-    ensures fit { IsFit (picture_of core.new) }
-    ensures row { RemapsRow (picture_of core.old) (picture_of core.new) pid first pages (attr_at regions.now) }
-    ensures files { KeepsNamed (without_maps (picture_of core.old).at pid first pages) (picture_of core.old) (picture_of core.new) }
-    ensures others { KeepsEntriesOfOthers (picture_of core.old) (picture_of core.new) pid }
-    ensures tables { ReturnsTables (picture_of core.old) (picture_of core.new) pid }
-    ensures slots { LosesSlots (picture_of core.old) (picture_of core.new) pid first (first + pages) }
-    ensures frames { frame_count core.new.frames ≡ frame_count core.old.frames }
-    ensures devices { KeepsDevices core.old core.new }
-    ensures roots { core.new.roots ≡ core.old.roots }
-    ensures refused { core.new.refused ≡ core.old.refused }
+    ensures { RemapsPages core.old core.new pid first pages (attr_at regions.now) }
 {
     clear_row(core, pid, first, pages);
     forget_row(core, pid, first, pages);

@@ -1,19 +1,19 @@
 //! Rows of pages, and the tables that their entries stand in.
 ghost use Rattle.std.specs.Prelude.{◌≡◌, ◌≢◌, ℕ, ◌<◌, ◌≤◌, ◌+◌, ◌*◌, ◌/◌, ◌^◌, true, IfNone, IfSome};
 ghost use Rattle.vm_types.specs.Limits.{top_level, user_start, user_end, table_entries};
-ghost use Rattle.page_tables.specs.Tree.{IsForest, IsRoot, missing_of};
+ghost use Rattle.page_tables.specs.Tree.{IsForest, IsRoot};
 ghost use Rattle.regions.specs.RunList.{attr_at};
 ghost use Rattle.residency.specs.Picture.{picture_of, is_live, entry};
 ghost use Rattle.residency.specs.Parts.{IsRootedBut};
-ghost use Rattle.fault.specs.Changes.{IsWhole};
+ghost use Rattle.residency.specs.Ways.{IsWhole};
 ghost use Rattle.ranges.specs.Rows.{IsUnmapped, IsNextPart};
-ghost use Rattle.ranges.specs.Steps.{IsGapEnd, IsPastGap};
+ghost use Rattle.ranges.specs.Steps.{IsGapEnd};
+ghost use Rattle.ranges.specs.WaysPassed.{FindsLinked, PassesGap};
 
 use crate::entries::next_set;
-use fault::root_of;
 use memory::{Memory, last_table};
 use regions::Regions;
-use residency::Core;
+use residency::{Core, root_of};
 use sv39_walk::TABLE_ENTRIES;
 use vm_types::{FrameNo, Levels, Pid, Vpn};
 
@@ -24,9 +24,10 @@ pub(crate) struct Part {
     pub(crate) end: u64,
 }
 
-/// A row of 512 pages whose entries stand in one lowest table of the tree of `root`. It begins with the page `first`.
+/// A row of 512 pages of a process whose entries stand in one lowest table of the tree of `root`. It begins with the page `first`.
 #[derive(Clone, Copy)]
 pub(crate) struct TableRow {
+    pub(crate) pid: Pid,
     pub(crate) root: FrameNo,
     pub(crate) table: FrameNo,
     pub(crate) first: u64,
@@ -113,11 +114,7 @@ pub(crate) fn next_linked<D, E, M: Levels>(
     requires live { is_live (picture_of core.now) pid ≡ true }
     requires some { page < end }
     requires high { end ≤ user_end M.mode }
-    ensures from { page ≤ result }
-    ensures within { result ≤ end }
-    ensures passed { (p : ℕ) → page ≤ p → p < result → IsWhole (picture_of core.now) pid p → ⊥ }
-    ensures gap { (p : ℕ) → page ≤ p → p < result → entry (picture_of core.now) pid p ≡ 0 }
-    ensures found { result < end → IsWhole (picture_of core.now) pid result }
+    ensures { FindsLinked (picture_of core.now) pid page end result }
 {
     let root = root_of(core, pid);
     let mut at = page.get();
@@ -137,10 +134,7 @@ fn past_gap<M: Levels>(memory: &Memory<M>, root: FrameNo, page: Vpn, end: u64) -
     requires root { IsRoot (top_level M.mode) memory.now root.0 }
     requires some { page < end }
     requires high { end ≤ user_end M.mode }
-    ensures whole { IfNone result (missing_of memory.now (top_level M.mode) root.0 page ≡ 0) }
-    ensures further { IfSome result (λ next. page < next) }
-    ensures passed { IfSome result (λ next. (p : ℕ) → page ≤ p → p < next → missing_of memory.now (top_level M.mode) root.0 p ≢ 0) }
-    ensures stops { IfSome result (IsPastGap M.mode memory.now root.0 page end) }
+    ensures { PassesGap M.mode memory.now root.0 page end result }
 {
     let (level, table) = last_table(memory, root, page);
     if level == 0 {

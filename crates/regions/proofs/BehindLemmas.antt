@@ -5,8 +5,8 @@ use Rattle.std.specs.List.{slice_get}
 use Rattle.std.specs.List.Sorted.{IsNonDecreasingBy, IsPartitionPoint}
 use Rattle.vm_types.specs.declared.region.Attr.{Attr}
 use Rattle.regions.specs.declared.run.Run.{Run}
-use Rattle.regions.specs.Run.{IsRun, attr_in, cut, run_between}
-use Rattle.regions.specs.RunList.{or_else, attr_at, IsMaximal}
+use Rattle.regions.specs.Run.{IsRun, attr_in, cut_run, run_between}
+use Rattle.regions.specs.RunList.{run_or_else, attr_at, IsMaximal}
 use Rattle.regions.specs.Search.{first_part, gap_from, is_clear, run_or, runs_behind}
 use Rattle.regions.proofs.RunLemmas.{widest_run, attr_in-above, leb-no, lt_or_le, ltb-no, or_else-none}
 use Rattle.regions.proofs.ListLemmas.{attr_at-before}
@@ -74,11 +74,11 @@ Looked mode page runs (Some run) = Tells mode page runs run
 
 module _ (mode : ℕ) (page : ℕ) (run : Run) (runs : List Run) (h : run.end ≤ page) where
   at_passed : attr_at (run ∷ runs) page ≡ attr_at runs page
-  at_passed = ap (λ (o : Option Attr). or_else o (attr_at runs page)) (attr_in-above run page h)
+  at_passed = ap (λ (o : Option Attr). run_or_else o (attr_at runs page)) (attr_in-above run page h)
 
   part_passed : first_part page (run ∷ runs) ≡ first_part page runs
   part_passed =
-      ap (λ (b : Bool). run_or (if b then Some (cut None run (max run.first page) (min run.end (2 ^ 35))) else None) (first_part page runs))
+      ap (λ (b : Bool). run_or (if b then Some (cut_run None run (max run.first page) (min run.end (2 ^ 35))) else None) (first_part page runs))
       (ltb-no (max run.first page) (min run.end (2 ^ 35)) (omega arith))
 
   and_not : (b : Bool) → not (b && false) ≡ true
@@ -118,8 +118,8 @@ module _ (mode : ℕ) (page : ℕ) (run : Run) (runs : List Run) (is_run : IsRun
       let high : run.end ≤ 2 ^ 35 = widest_run mode run is_run in
       let some : run.first < run.end = is_run.nonempty in
       let inside : ltb (max run.first page) (min run.end (2 ^ 35)) ≡ true = lt-ltb (max run.first page) (min run.end (2 ^ 35)) (omega arith) in
-      ap (λ (b : Bool). run_or (if b then Some (cut None run (max run.first page) (min run.end (2 ^ 35))) else None) (first_part page runs)) inside
-      ∙ sym (ap (λ (b : Bool). if b then Some (cut None run (max run.first page) (min run.end (2 ^ 35))) else None) inside)
+      ap (λ (b : Bool). run_or (if b then Some (cut_run None run (max run.first page) (min run.end (2 ^ 35))) else None) (first_part page runs)) inside
+      ∙ sym (ap (λ (b : Bool). if b then Some (cut_run None run (max run.first page) (min run.end (2 ^ 35))) else None) inside)
 
   clear_here : (end : ℕ) → is_clear page end (run ∷ runs) ≡ leb end run.first
   clear_here end =
@@ -138,7 +138,7 @@ module _ (mode : ℕ) (page : ℕ) (run : Run) (runs : List Run) (is_run : IsRun
   here =
       record {
         is_run = is_run;
-        at = ap (λ (o : Option Attr). or_else (attr_in run page) o) (attr_at-before mode run.end runs page rest h) ∙ or_else-none (attr_in run page);
+        at = ap (λ (o : Option Attr). run_or_else (attr_in run page) o) (attr_at-before mode run.end runs page rest h) ∙ or_else-none (attr_in run page);
         part = part_here;
         clear = clear_here;
       }

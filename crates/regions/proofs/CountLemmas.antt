@@ -7,7 +7,7 @@ use Rattle.vm_types.specs.Attributes.{attr_after, attr_eq}
 use Rattle.vm_types.specs.Runs.{begins, begins_run, runs_below, run_count}
 use Rattle.regions.specs.declared.run.Run.{Run}
 use Rattle.regions.specs.Run.{IsRun, joins}
-use Rattle.regions.specs.RunList.{or_else, attr_at, joins_first, IsMaximal, end_of}
+use Rattle.regions.specs.RunList.{run_or_else, attr_at, joins_first, IsMaximal, end_of}
 use Rattle.regions.proofs.AttrLemmas.{attr_after-add, attr_after-zero, attr_eq-same}
 use Rattle.regions.proofs.RunLemmas.{lt_or_le, attr_in-inside, attr_in-below, attr_in-above}
 use Rattle.regions.proofs.ListLemmas.{end_of-from, end_of-user, attr_at-before}
@@ -65,17 +65,17 @@ module _ (mode : ℕ) (run : Run) (runs : List Run) (r : IsRun mode run) (rest :
 
   at_below : (page : ℕ) → page < run.first → attr_at (run ∷ runs) page ≡ None
   at_below page h =
-      ap (λ (o : Option Attr). or_else o (attr_at runs page)) (attr_in-below run page h)
+      ap (λ (o : Option Attr). run_or_else o (attr_at runs page)) (attr_in-below run page h)
       ∙ attr_at-before mode run.end runs page rest (let s : run.first < run.end = r.nonempty in omega arith)
 
   rest_below : (page : ℕ) → page < run.end → attr_at runs page ≡ None
   rest_below page h = attr_at-before mode run.end runs page rest h
 
   at_inside : (page : ℕ) → run.first ≤ page → page < run.end → attr_at (run ∷ runs) page ≡ Some (attr_after run.attr (page - run.first))
-  at_inside page a b = ap (λ (o : Option Attr). or_else o (attr_at runs page)) (attr_in-inside run page a b)
+  at_inside page a b = ap (λ (o : Option Attr). run_or_else o (attr_at runs page)) (attr_in-inside run page a b)
 
   at_above : (page : ℕ) → run.end ≤ page → attr_at (run ∷ runs) page ≡ attr_at runs page
-  at_above page h = ap (λ (o : Option Attr). or_else o (attr_at runs page)) (attr_in-above run page h)
+  at_above page h = ap (λ (o : Option Attr). run_or_else o (attr_at runs page)) (attr_in-above run page h)
 
   begins_first : begins_run (attr_at (run ∷ runs)) run.first ≡ true
   begins_first =

@@ -5,8 +5,8 @@ use Rattle.vm_types.proofs.Modes.{sizes}
 use Rattle.vm_types.specs.declared.permission.Prot.{Prot}
 use Rattle.vm_types.specs.declared.region.Attr.{Attr}
 use Rattle.regions.specs.declared.run.Run.{Run}
-use Rattle.regions.specs.Run.{IsRun, attr_in, joins, merged, cut, run_between}
-use Rattle.regions.specs.RunList.{or_else, attr_at, joins_first, IsMaximal, end_of, pushed, pushed_part, pasted}
+use Rattle.regions.specs.Run.{IsRun, attr_in, joins, merged, cut_run, run_between}
+use Rattle.regions.specs.RunList.{run_or_else, attr_at, joins_first, IsMaximal, end_of, pushed, pushed_part, pasted}
 use Rattle.regions.proofs.RunLemmas.{clipped-none, lt_or_le, apart, attr_in-below, attr_in-above, attr_in-merged, or_else-none, or_else-swap, joins-true, merged-run, clipped, clipped-or, clipped-empty, attr_in-cut, IsPart, cut-run}
 
 module _ (mode : ℕ) where
@@ -36,7 +36,7 @@ module _ (mode : ℕ) where
   attr_at-before from (run ∷ runs) page m h =
       let low : from ≤ run.first = m.0 in
       let some : run.first < run.end = m.1.nonempty in
-      ap (λ (o : Option Attr). or_else o (attr_at runs page)) (attr_in-below run page (omega arith))
+      ap (λ (o : Option Attr). run_or_else o (attr_at runs page)) (attr_in-below run page (omega arith))
       ∙ attr_at-before run.end runs page m.3 (omega arith)
 
 module _ (mode : ℕ) where
@@ -44,7 +44,7 @@ module _ (mode : ℕ) where
   attr_at-behind from [] page m h = refl
   attr_at-behind from (run ∷ runs) page m h =
       let rest : run.end ≤ end_of run.end runs = end_of-from mode run.end runs m.3 in
-      ap (λ (o : Option Attr). or_else o (attr_at runs page)) (attr_in-above run page (omega arith))
+      ap (λ (o : Option Attr). run_or_else o (attr_at runs page)) (attr_in-above run page (omega arith))
       ∙ attr_at-behind run.end runs page m.3 h
 
 -- the first run or the others, not both
@@ -96,20 +96,20 @@ module _ (mode : ℕ) where
       (m.0, m.1, joins_first-pushed run other runs next ∙ m.2, maximal-pushed run.end (other ∷ runs) next m.3 h n)
 
 module _ (mode : ℕ) where
-  one_at : (run next : Run) (page : ℕ) (b : Bool) → joins run next ≡ b → IsRun mode run → IsRun mode next → run.end ≤ next.first → attr_at (if b then merged run next ∷ [] else run ∷ next ∷ []) page ≡ or_else (attr_in next page) (attr_at (run ∷ []) page)
+  one_at : (run next : Run) (page : ℕ) (b : Bool) → joins run next ≡ b → IsRun mode run → IsRun mode next → run.end ≤ next.first → attr_at (if b then merged run next ∷ [] else run ∷ next ∷ []) page ≡ run_or_else (attr_in next page) (attr_at (run ∷ []) page)
   one_at run next page true e r n h =
       or_else-none (attr_in (merged run next) page)
       ∙ attr_in-merged run next page r.nonempty n.nonempty (joins-true run next e)
-      ∙ ap (λ (o : Option Attr). or_else (attr_in next page) o) (sym (or_else-none (attr_in run page)))
+      ∙ ap (λ (o : Option Attr). run_or_else (attr_in next page) o) (sym (or_else-none (attr_in run page)))
   one_at run next page false e r n h = or_else-swap (attr_in run page) (attr_in next page) None (apart run next page h)
 
 module _ (mode : ℕ) where
-  pub attr_at-pushed : (from : ℕ) (runs : List Run) (next : Run) (page : ℕ) → IsMaximal mode from runs → end_of from runs ≤ next.first → IsRun mode next → attr_at (pushed runs next) page ≡ or_else (attr_in next page) (attr_at runs page)
+  pub attr_at-pushed : (from : ℕ) (runs : List Run) (next : Run) (page : ℕ) → IsMaximal mode from runs → end_of from runs ≤ next.first → IsRun mode next → attr_at (pushed runs next) page ≡ run_or_else (attr_in next page) (attr_at runs page)
   attr_at-pushed from [] next page m h n = refl
   attr_at-pushed from (run ∷ []) next page m h n = one_at mode run next page (joins run next) refl m.1 n h
   attr_at-pushed from (run ∷ (other ∷ runs)) next page m h n =
       let rest : run.end ≤ end_of run.end (other ∷ runs) = end_of-from mode run.end (other ∷ runs) m.3 in
-      ap (λ (o : Option Attr). or_else (attr_in run page) o) (attr_at-pushed run.end (other ∷ runs) next page m.3 h n)
+      ap (λ (o : Option Attr). run_or_else (attr_in run page) o) (attr_at-pushed run.end (other ∷ runs) next page m.3 h n)
       ∙ or_else-swap (attr_in run page) (attr_in next page) (attr_at (other ∷ runs) page) (apart run next page (omega arith))
 
 -- what pasting the parts of a list makes of the others
@@ -117,29 +117,29 @@ pub record Pasted (mode : ℕ) (low high : ℕ) (prot : Option Prot) (old runs n
   pub maximal : IsMaximal mode 16 new
   pub end : end_of 16 new ≤ max (end_of 16 old) high
   pub longer : length old ≤ length new
-  pub at : (page : ℕ) → attr_at new page ≡ or_else (clipped low high prot page (attr_at runs page)) (attr_at old page)
+  pub at : (page : ℕ) → attr_at new page ≡ run_or_else (clipped low high prot page (attr_at runs page)) (attr_at old page)
 
 pub record Pushed (mode : ℕ) (low high from : ℕ) (prot : Option Prot) (old : List Run) (run : Run) (new : List Run) : Type 0 where
   pub maximal : IsMaximal mode 16 new
   pub behind : end_of 16 new ≤ max low run.end
   pub end : end_of 16 new ≤ max (end_of 16 old) high
   pub longer : length old ≤ length new
-  pub at : (page : ℕ) → attr_at new page ≡ or_else (clipped low high prot page (attr_in run page)) (attr_at old page)
+  pub at : (page : ℕ) → attr_at new page ≡ run_or_else (clipped low high prot page (attr_in run page)) (attr_at old page)
 
 module _ (mode : ℕ) where
   part_pushed : (low high from : ℕ) (prot : Option Prot) (old : List Run) (run : Run) (b : Bool) → ltb (max run.first low) (min run.end high) ≡ b → IsMaximal mode 16 old → end_of 16 old ≤ max low from → from ≤ run.first → IsRun mode run →
-      Pushed mode low high from prot old run (pushed_part old (if b then Some (cut prot run (max run.first low) (min run.end high)) else None))
+      Pushed mode low high from prot old run (pushed_part old (if b then Some (cut_run prot run (max run.first low) (min run.end high)) else None))
   part_pushed low high from prot old run true e m h l r =
       let t : max run.first low < min run.end high = ltb-true (max run.first low) (min run.end high) e in
-      let part : IsPart mode low high run (cut prot run (max run.first low) (min run.end high)) = cut-run mode low high prot run r t in
-      let new : Run = cut prot run (max run.first low) (min run.end high) in
+      let part : IsPart mode low high run (cut_run prot run (max run.first low) (min run.end high)) = cut-run mode low high prot run r t in
+      let new : Run = cut_run prot run (max run.first low) (min run.end high) in
       let ends : end_of 16 (pushed old new) ≡ min run.end high = end_of-pushed 16 old new in
       record {
         maximal = maximal-pushed mode 16 old new m (omega arith) part.is_run;
         behind = omega arith;
         end = omega arith;
         longer = length-pushed old new;
-        at = λ page. attr_at-pushed mode 16 old new page m (omega arith) part.is_run ∙ ap (λ (o : Option Attr). or_else o (attr_at old page)) (attr_in-cut low high prot run page);
+        at = λ page. attr_at-pushed mode 16 old new page m (omega arith) part.is_run ∙ ap (λ (o : Option Attr). run_or_else o (attr_at old page)) (attr_in-cut low high prot run page);
       }
   part_pushed low high from prot old run false e m h l r =
       let t : min run.end high ≤ max run.first low = ltb-false (max run.first low) (min run.end high) e in
@@ -149,7 +149,7 @@ module _ (mode : ℕ) where
         behind = omega arith;
         end = omega arith;
         longer = omega arith;
-        at = λ page. sym (ap (λ (o : Option Attr). or_else o (attr_at old page)) (clipped-empty low high prot run page t));
+        at = λ page. sym (ap (λ (o : Option Attr). run_or_else o (attr_at old page)) (clipped-empty low high prot run page t));
       }
 
 module _ (mode : ℕ) where
@@ -160,7 +160,7 @@ module _ (mode : ℕ) where
 module _ (mode : ℕ) where
   pub pasted-is : (low high from : ℕ) (prot : Option Prot) (old runs : List Run) → IsMaximal mode 16 old → end_of 16 old ≤ max low from → IsMaximal mode from runs → Pasted mode low high prot old runs (pasted low high prot old runs)
   pasted-is low high from prot old [] m h r =
-      record { maximal = m; end = omega arith; longer = omega arith; at = λ page. sym (ap (λ (o : Option Attr). or_else o (attr_at old page)) (clipped-none low high prot page)) }
+      record { maximal = m; end = omega arith; longer = omega arith; at = λ page. sym (ap (λ (o : Option Attr). run_or_else o (attr_at old page)) (clipped-none low high prot page)) }
   pasted-is low high from prot old (run ∷ runs) m h r =
       let one : Pushed mode low high from prot old run (pushed_part old (run_between low high prot run)) = run_pasted mode low high from prot old run m h r.0 r.1 in
       let rest : Pasted mode low high prot (pushed_part old (run_between low high prot run)) runs (pasted low high prot (pushed_part old (run_between low high prot run)) runs) =
@@ -175,6 +175,6 @@ module _ (mode : ℕ) where
         longer = omega arith;
         at = λ page.
             rest.at page
-            ∙ ap (λ (o : Option Attr). or_else (clipped low high prot page (attr_at runs page)) o) (one.at page)
+            ∙ ap (λ (o : Option Attr). run_or_else (clipped low high prot page (attr_at runs page)) o) (one.at page)
             ∙ clipped-or low high prot page (attr_in run page) (attr_at runs page) (attr_at old page) (first_or_rest mode run runs page r.3);
       }

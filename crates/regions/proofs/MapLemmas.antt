@@ -5,16 +5,16 @@ use Rattle.vm_types.specs.declared.region.Attr.{Attr}
 use Rattle.vm_types.specs.Attributes.{attr_after, with_prot}
 use Rattle.regions.specs.declared.run.Run.{Run}
 use Rattle.regions.specs.Run.{IsRun, attr_in}
-use Rattle.regions.specs.RunList.{or_else, attr_at, IsMaximal, end_of, pushed, pasted, list_removed, list_protected, list_replaced}
+use Rattle.regions.specs.RunList.{run_or_else, attr_at, IsMaximal, end_of, pushed, pasted, list_removed, list_protected, list_replaced}
 use Rattle.regions.proofs.RunLemmas.{lt_or_le, row_inside, row_below, row_above, attr_in-inside, attr_in-below, attr_in-above, or_else-none, clipped, clipped-inside, clipped-below, clipped-above, changed-none}
 use Rattle.regions.proofs.ListLemmas.{end_of-widest, attr_at-behind, end_of-pushed, maximal-pushed, attr_at-pushed, Pasted, pasted-is}
 
 -- before a page, behind a page
-clip_front : (first page : ℕ) (attr : Option Attr) → page < first → or_else (clipped 0 first None page attr) None ≡ attr
+clip_front : (first page : ℕ) (attr : Option Attr) → page < first → run_or_else (clipped 0 first None page attr) None ≡ attr
 clip_front first page attr h =
     or_else-none (clipped 0 first None page attr) ∙ clipped-inside 0 first None page attr (omega arith) h ∙ changed-none attr
 
-clip_no_front : (first page : ℕ) (attr : Option Attr) → first ≤ page → or_else (clipped 0 first None page attr) None ≡ None
+clip_no_front : (first page : ℕ) (attr : Option Attr) → first ≤ page → run_or_else (clipped 0 first None page attr) None ≡ None
 clip_no_front first page attr h =
     or_else-none (clipped 0 first None page attr) ∙ clipped-above 0 first None page attr h
 
@@ -44,9 +44,9 @@ row_some first end page x o a b = ap (λ (c : Bool). if c then x else o) (row_in
 -- the three parts of a page's place
 three_parts : (first end page : ℕ) (x o front middle back : Option Attr) → first ≤ end →
     (page < first → front ≡ o) → (first ≤ page → front ≡ None) →
-    (page < first → middle ≡ None) → (first ≤ page → page < end → or_else middle None ≡ x) → (end ≤ page → middle ≡ None) →
+    (page < first → middle ≡ None) → (first ≤ page → page < end → run_or_else middle None ≡ x) → (end ≤ page → middle ≡ None) →
     (page < end → back ≡ None) → (end ≤ page → back ≡ o) →
-    or_else back (or_else middle front) ≡ (if leb first page && ltb page end then x else o)
+    run_or_else back (run_or_else middle front) ≡ (if leb first page && ltb page end then x else o)
 three_parts first end page x o front middle back h f1 f2 m1 m2 m3 b1 b2 =
     ⊎_elim
     (λ (a : page < first).
@@ -71,7 +71,7 @@ module _ (mode : ℕ) (runs : List Run) (m : IsMaximal mode 16 runs) (first end 
   pub front_is : Pasted mode 0 first None [] runs (pasted 0 first None [] runs)
   front_is = pasted-is mode 0 first 16 None [] runs tt (omega arith) m
 
-  pub front_at : (page : ℕ) → attr_at (pasted 0 first None [] runs) page ≡ or_else (clipped 0 first None page (attr_at runs page)) None
+  pub front_at : (page : ℕ) → attr_at (pasted 0 first None [] runs) page ≡ run_or_else (clipped 0 first None page (attr_at runs page)) None
   front_at page = front_is.at page
 
   pub front_end : end_of 16 (pasted 0 first None [] runs) ≤ max 16 first
@@ -89,8 +89,8 @@ module _ (mode : ℕ) (runs : List Run) (m : IsMaximal mode 16 runs) (first end 
   pub removed_at : (page : ℕ) → attr_at (list_removed runs first end) page ≡ (if leb first page && ltb page end then None else attr_at runs page)
   removed_at page =
       removed_is.at page
-      ∙ ap (λ (o : Option Attr). or_else (clipped end (2 ^ 35) None page (attr_at runs page)) o) (front_at page)
-      ∙ three_parts first end page None (attr_at runs page) (or_else (clipped 0 first None page (attr_at runs page)) None) None (clipped end (2 ^ 35) None page (attr_at runs page)) h
+      ∙ ap (λ (o : Option Attr). run_or_else (clipped end (2 ^ 35) None page (attr_at runs page)) o) (front_at page)
+      ∙ three_parts first end page None (attr_at runs page) (run_or_else (clipped 0 first None page (attr_at runs page)) None) None (clipped end (2 ^ 35) None page (attr_at runs page)) h
       (λ a. clip_front first page (attr_at runs page) a) (λ a. clip_no_front first page (attr_at runs page) a)
       (λ _. refl) (λ _ _. refl) (λ _. refl)
       (λ a. clipped-below end (2 ^ 35) None page (attr_at runs page) a)
@@ -111,9 +111,9 @@ module _ (mode : ℕ) (runs : List Run) (m : IsMaximal mode 16 runs) (first end 
   pub protected_at : (prot : Prot) (page : ℕ) → attr_at (list_protected runs first end prot) page ≡ (if leb first page && ltb page end then option_map (with_prot prot) (attr_at runs page) else attr_at runs page)
   protected_at prot page =
       (protected_is prot).at page
-      ∙ ap (λ (o : Option Attr). or_else (clipped end (2 ^ 35) None page (attr_at runs page)) o)
-      ((middle_is prot).at page ∙ ap (λ (o : Option Attr). or_else (clipped first end (Some prot) page (attr_at runs page)) o) (front_at page))
-      ∙ three_parts first end page (option_map (with_prot prot) (attr_at runs page)) (attr_at runs page) (or_else (clipped 0 first None page (attr_at runs page)) None) (clipped first end (Some prot) page (attr_at runs page)) (clipped end (2 ^ 35) None page (attr_at runs page)) h
+      ∙ ap (λ (o : Option Attr). run_or_else (clipped end (2 ^ 35) None page (attr_at runs page)) o)
+      ((middle_is prot).at page ∙ ap (λ (o : Option Attr). run_or_else (clipped first end (Some prot) page (attr_at runs page)) o) (front_at page))
+      ∙ three_parts first end page (option_map (with_prot prot) (attr_at runs page)) (attr_at runs page) (run_or_else (clipped 0 first None page (attr_at runs page)) None) (clipped first end (Some prot) page (attr_at runs page)) (clipped end (2 ^ 35) None page (attr_at runs page)) h
       (λ a. clip_front first page (attr_at runs page) a) (λ a. clip_no_front first page (attr_at runs page) a)
       (λ a. clipped-below first end (Some prot) page (attr_at runs page) a)
       (λ a b. or_else-none (clipped first end (Some prot) page (attr_at runs page)) ∙ clipped-inside first end (Some prot) page (attr_at runs page) a b)
@@ -146,10 +146,10 @@ module _ (mode : ℕ) (runs : List Run) (m : IsMaximal mode 16 runs) (run : Run)
   replaced_at page =
       let s : run.first < run.end = r.nonempty in
       replaced_is.at page
-      ∙ ap (λ (o : Option Attr). or_else (clipped run.end (2 ^ 35) None page (attr_at runs page)) o)
+      ∙ ap (λ (o : Option Attr). run_or_else (clipped run.end (2 ^ 35) None page (attr_at runs page)) o)
       (attr_at-pushed mode 16 (pasted 0 run.first None [] runs) run page replaced_front.maximal replaced_behind r
-      ∙ ap (λ (o : Option Attr). or_else (attr_in run page) o) (replaced_front.at page))
-      ∙ three_parts run.first run.end page (Some (attr_after run.attr (page - run.first))) (attr_at runs page) (or_else (clipped 0 run.first None page (attr_at runs page)) None) (attr_in run page) (clipped run.end (2 ^ 35) None page (attr_at runs page)) (omega arith)
+      ∙ ap (λ (o : Option Attr). run_or_else (attr_in run page) o) (replaced_front.at page))
+      ∙ three_parts run.first run.end page (Some (attr_after run.attr (page - run.first))) (attr_at runs page) (run_or_else (clipped 0 run.first None page (attr_at runs page)) None) (attr_in run page) (clipped run.end (2 ^ 35) None page (attr_at runs page)) (omega arith)
       (λ a. clip_front run.first page (attr_at runs page) a) (λ a. clip_no_front run.first page (attr_at runs page) a)
       (λ a. attr_in-below run page a)
       (λ a b. or_else-none (attr_in run page) ∙ attr_in-inside run page a b)

@@ -2,7 +2,7 @@
 use Rattle.std.proofs.Common.{◌≡◌, ℕ, ◌+◌, ◌<◌, ◌≤◌, Bool, true, false, if◌then◌else◌, max, min, ltb, sym, ◌∙◌, ap, subst, arith, List, [], ◌∷◌, length, drop, get_or, drop-cons, add-one, Option, Some, None}
 use Rattle.vm_types.specs.declared.permission.Prot.{Prot}
 use Rattle.regions.specs.declared.run.Run.{Run}
-use Rattle.regions.specs.Run.{cut, run_between}
+use Rattle.regions.specs.Run.{cut_run, run_between}
 use Rattle.regions.specs.RunList.{end_of, IsMaximal, pushed, pushed_part, pasted}
 use Rattle.regions.proofs.ListLemmas.{end_of-pushed, length-pushed}
 
@@ -16,9 +16,9 @@ abbrev end_or : Option Run → ℕ
 end_or None = 0
 end_or (Some run) = run.end
 
-part_end : (low high : ℕ) (prot : Option Prot) (run part : Run) (b : Bool) → (if b then Some (cut prot run (max run.first low) (min run.end high)) else None) ≡ Some part → part.end ≤ run.end
+part_end : (low high : ℕ) (prot : Option Prot) (run part : Run) (b : Bool) → (if b then Some (cut_run prot run (max run.first low) (min run.end high)) else None) ≡ Some part → part.end ≤ run.end
 part_end low high prot run part true e =
-    let same : Some (cut prot run (max run.first low) (min run.end high)) ≡ Some part = e in
+    let same : Some (cut_run prot run (max run.first low) (min run.end high)) ≡ Some part = e in
     let end : min run.end high ≡ part.end = ap (λ (o : Option Run). end_or o) same in
     omega arith
 part_end low high prot run part false e = cc

@@ -8,8 +8,8 @@ use Rattle.vm_types.specs.declared.permission.Prot.{Prot}
 use Rattle.vm_types.specs.declared.region.Attr.{Attr}
 use Rattle.vm_types.specs.Attributes.{attr_after, backing_after, attr_eq, backing_fits}
 use Rattle.regions.specs.declared.run.Run.{Run}
-use Rattle.regions.specs.Run.{IsRun, attr_in, joins, merged, changed, cut}
-use Rattle.regions.specs.RunList.{or_else}
+use Rattle.regions.specs.Run.{IsRun, attr_in, joins, merged, changed_run, cut_run}
+use Rattle.regions.specs.RunList.{run_or_else}
 use Rattle.regions.proofs.AttrLemmas.{attr_after-add, backing_fits-after, backing_fits-merged, backing_fits-less, attr_eq-true}
 
 -- where a page lies
@@ -59,11 +59,11 @@ pub apart : (run next : Run) (page : ℕ) → run.end ≤ next.first → (attr_i
 apart run next page h =
     ⊎_elim (λ b. inr (attr_in-below next page (omega arith))) (λ l. inl (attr_in-above run page l)) (lt_or_le page run.end)
 
-pub or_else-none : (o : Option Attr) → or_else o None ≡ o
+pub or_else-none : (o : Option Attr) → run_or_else o None ≡ o
 or_else-none None = refl
 or_else-none (Some a) = refl
 
-pub or_else-swap : (a b o : Option Attr) → (a ≡ None) ⊎ (b ≡ None) → or_else a (or_else b o) ≡ or_else b (or_else a o)
+pub or_else-swap : (a b o : Option Attr) → (a ≡ None) ⊎ (b ≡ None) → run_or_else a (run_or_else b o) ≡ run_or_else b (run_or_else a o)
 or_else-swap a b o h = ⊎_elim (λ e. rw e) (λ e. rw e) h
 
 pub record Joins (run next : Run) : Type 0 where
@@ -105,7 +105,7 @@ after_merged run next page r j h =
     let d : (run.end - run.first) + (page - next.first) ≡ page - run.first = omega arith in
     ap (λ (a : Attr). attr_after a (page - next.first)) (sym j.goes_on) ∙ attr_after-add run.attr (run.end - run.first) (page - next.first) ∙ ap (λ (m : ℕ). attr_after run.attr m) d
 
-pub attr_in-merged : (run next : Run) (page : ℕ) → run.first < run.end → next.first < next.end → Joins run next → attr_in (merged run next) page ≡ or_else (attr_in next page) (attr_in run page)
+pub attr_in-merged : (run next : Run) (page : ℕ) → run.first < run.end → next.first < next.end → Joins run next → attr_in (merged run next) page ≡ run_or_else (attr_in next page) (attr_in run page)
 attr_in-merged run next page r n j =
     let t : run.end ≡ next.first = j.touches in
     elim (side run page) [
@@ -119,9 +119,9 @@ attr_in-merged run next page r n j =
 
 -- a list's attributes between two pages, changed
 abbrev pub clipped : ℕ → ℕ → Option Prot → ℕ → Option Attr → Option Attr
-clipped low high prot page attr = if leb low page && ltb page high then option_map (changed prot) attr else None
+clipped low high prot page attr = if leb low page && ltb page high then option_map (changed_run prot) attr else None
 
-pub clipped-inside : (low high : ℕ) (prot : Option Prot) (page : ℕ) (attr : Option Attr) → low ≤ page → page < high → clipped low high prot page attr ≡ option_map (changed prot) attr
+pub clipped-inside : (low high : ℕ) (prot : Option Prot) (page : ℕ) (attr : Option Attr) → low ≤ page → page < high → clipped low high prot page attr ≡ option_map (changed_run prot) attr
 clipped-inside low high prot page attr a b = rw (row_inside low high page a b)
 
 pub clipped-below : (low high : ℕ) (prot : Option Prot) (page : ℕ) (attr : Option Attr) → page < low → clipped low high prot page attr ≡ None
@@ -137,17 +137,17 @@ cond_none false = refl
 pub clipped-none : (low high : ℕ) (prot : Option Prot) (page : ℕ) → clipped low high prot page None ≡ None
 clipped-none low high prot page = cond_none (leb low page && ltb page high)
 
-pub clipped-or : (low high : ℕ) (prot : Option Prot) (page : ℕ) (a b o : Option Attr) → (a ≡ None) ⊎ (b ≡ None) → or_else (clipped low high prot page b) (or_else (clipped low high prot page a) o) ≡ or_else (clipped low high prot page (or_else a b)) o
+pub clipped-or : (low high : ℕ) (prot : Option Prot) (page : ℕ) (a b o : Option Attr) → (a ≡ None) ⊎ (b ≡ None) → run_or_else (clipped low high prot page b) (run_or_else (clipped low high prot page a) o) ≡ run_or_else (clipped low high prot page (run_or_else a b)) o
 clipped-or low high prot page None b o h =
-    ap (λ (x : Option Attr). or_else (clipped low high prot page b) (or_else x o)) (clipped-none low high prot page)
+    ap (λ (x : Option Attr). run_or_else (clipped low high prot page b) (run_or_else x o)) (clipped-none low high prot page)
 clipped-or low high prot page (Some a) b o h =
     ⊎_elim
     (λ (e : Some a ≡ None). cc)
     (λ (e : b ≡ None).
-    ap (λ (x : Option Attr). or_else x (or_else (clipped low high prot page (Some a)) o)) (ap (λ (x : Option Attr). clipped low high prot page x) e ∙ clipped-none low high prot page))
+    ap (λ (x : Option Attr). run_or_else x (run_or_else (clipped low high prot page (Some a)) o)) (ap (λ (x : Option Attr). clipped low high prot page x) e ∙ clipped-none low high prot page))
     h
 
-pub changed-none : (o : Option Attr) → option_map (changed None) o ≡ o
+pub changed-none : (o : Option Attr) → option_map (changed_run None) o ≡ o
 changed-none None = refl
 changed-none (Some a) = refl
 
@@ -163,7 +163,7 @@ pub record IsPart (mode : ℕ) (low high : ℕ) (run part : Run) : Type 0 where
   pub within : part.end ≤ high
 
 module _ (mode : ℕ) where
-  pub cut-run : (low high : ℕ) (prot : Option Prot) (run : Run) → IsRun mode run → max run.first low < min run.end high → IsPart mode low high run (cut prot run (max run.first low) (min run.end high))
+  pub cut-run : (low high : ℕ) (prot : Option Prot) (run : Run) → IsRun mode run → max run.first low < min run.end high → IsPart mode low high run (cut_run prot run (max run.first low) (min run.end high))
   cut-run low high prot run r h =
       let low_ok : 16 ≤ run.first = r.low in
       let high_ok : run.end ≤ user_end mode = r.high in
@@ -194,26 +194,26 @@ clipped_outside low high prot run page h =
     (lt_or_le page high))
     h
 
-cut_inside : (low high : ℕ) (prot : Option Prot) (run : Run) (page : ℕ) → max run.first low ≤ page → page < min run.end high → attr_in (cut prot run (max run.first low) (min run.end high)) page ≡ clipped low high prot page (attr_in run page)
+cut_inside : (low high : ℕ) (prot : Option Prot) (run : Run) (page : ℕ) → max run.first low ≤ page → page < min run.end high → attr_in (cut_run prot run (max run.first low) (min run.end high)) page ≡ clipped low high prot page (attr_in run page)
 cut_inside low high prot run page a b =
     let m : ℕ = max run.first low in
     let d : (max run.first low - run.first) + (page - max run.first low) ≡ page - run.first = omega arith in
-    let left : attr_in (cut prot run (max run.first low) (min run.end high)) page ≡ Some (changed prot (attr_after (attr_after run.attr (max run.first low - run.first)) (page - max run.first low))) =
-    attr_in-inside (cut prot run (max run.first low) (min run.end high)) page a b in
+    let left : attr_in (cut_run prot run (max run.first low) (min run.end high)) page ≡ Some (changed_run prot (attr_after (attr_after run.attr (max run.first low - run.first)) (page - max run.first low))) =
+    attr_in-inside (cut_run prot run (max run.first low) (min run.end high)) page a b in
     let middle : attr_after (attr_after run.attr (max run.first low - run.first)) (page - max run.first low) ≡ attr_after run.attr (page - run.first) =
     attr_after-add run.attr (max run.first low - run.first) (page - max run.first low) ∙ ap (λ (k : ℕ). attr_after run.attr k) d in
-    let right : clipped low high prot page (Some (attr_after run.attr (page - run.first))) ≡ Some (changed prot (attr_after run.attr (page - run.first))) =
+    let right : clipped low high prot page (Some (attr_after run.attr (page - run.first))) ≡ Some (changed_run prot (attr_after run.attr (page - run.first))) =
     clipped-inside low high prot page (Some (attr_after run.attr (page - run.first))) (omega arith) (omega arith) in
     let whole : attr_in run page ≡ Some (attr_after run.attr (page - run.first)) = attr_in-inside run page (omega arith) (omega arith) in
-    left ∙ ap (λ (x : Attr). Some (changed prot x)) middle ∙ sym right ∙ ap (λ (o : Option Attr). clipped low high prot page o) (sym whole)
+    left ∙ ap (λ (x : Attr). Some (changed_run prot x)) middle ∙ sym right ∙ ap (λ (o : Option Attr). clipped low high prot page o) (sym whole)
 
-pub attr_in-cut : (low high : ℕ) (prot : Option Prot) (run : Run) (page : ℕ) → attr_in (cut prot run (max run.first low) (min run.end high)) page ≡ clipped low high prot page (attr_in run page)
+pub attr_in-cut : (low high : ℕ) (prot : Option Prot) (run : Run) (page : ℕ) → attr_in (cut_run prot run (max run.first low) (min run.end high)) page ≡ clipped low high prot page (attr_in run page)
 attr_in-cut low high prot run page =
     ⊎_elim
-    (λ (a : page < max run.first low). attr_in-below (cut prot run (max run.first low) (min run.end high)) page a ∙ sym (clipped_outside low high prot run page (inl a)))
+    (λ (a : page < max run.first low). attr_in-below (cut_run prot run (max run.first low) (min run.end high)) page a ∙ sym (clipped_outside low high prot run page (inl a)))
     (λ (a : max run.first low ≤ page). ⊎_elim
     (λ (b : page < min run.end high). cut_inside low high prot run page a b)
-    (λ (b : min run.end high ≤ page). attr_in-above (cut prot run (max run.first low) (min run.end high)) page b ∙ sym (clipped_outside low high prot run page (inr b)))
+    (λ (b : min run.end high ≤ page). attr_in-above (cut_run prot run (max run.first low) (min run.end high)) page b ∙ sym (clipped_outside low high prot run page (inr b)))
     (lt_or_le page (min run.end high)))
     (lt_or_le page (max run.first low))
 

@@ -7,7 +7,7 @@ use Rattle.vm_types.specs.Rows.{is_covered}
 use Rattle.vm_types.specs.Placement.{is_free, is_place, lowest_from, lowest_place, placed}
 use Rattle.regions.specs.declared.run.Run.{Run}
 use Rattle.regions.specs.Run.{IsRun, attr_in}
-use Rattle.regions.specs.RunList.{or_else, attr_at, IsMaximal}
+use Rattle.regions.specs.RunList.{run_or_else, attr_at, IsMaximal}
 use Rattle.regions.specs.Search.{gap_from, is_clear, lowest_gap}
 use Rattle.regions.proofs.RunLemmas.{lt_or_le, attr_in-inside, attr_in-below, attr_in-above}
 use Rattle.regions.proofs.ListLemmas.{attr_at-before}
@@ -62,13 +62,13 @@ is_free-at map first (suc count) k e a b =
     (λ (q : k ≡ first + count → ⊥). is_free-at map first count k parts.1 a (omega arith))
     (cases_eq k (first + count))
 
-some_else : (a b : Option Attr) → is_some b ≡ true → is_some (or_else a b) ≡ true
+some_else : (a b : Option Attr) → is_some b ≡ true → is_some (run_or_else a b) ≡ true
 some_else None b e = e
 some_else (Some x) b e = refl
 
 some_inside : (run : Run) (runs : List Run) (page : ℕ) → run.first ≤ page → page < run.end → is_some (attr_at (run ∷ runs) page) ≡ true
 some_inside run runs page a b =
-    ap (λ (o : Option Attr). is_some (or_else o (attr_at runs page))) (attr_in-inside run page a b)
+    ap (λ (o : Option Attr). is_some (run_or_else o (attr_at runs page))) (attr_in-inside run page a b)
 
 -- the gap is the first page from this one on that isn't mapped
 
@@ -84,7 +84,7 @@ module _ (mode : ℕ) where
       record {
         from = omega arith;
         mapped = λ k a b. absurd (omega arith);
-        open_there = ap (λ (o : Option Attr). or_else o (attr_at runs page)) (attr_in-below run page h) ∙ attr_at-before mode run.end runs page rest (omega arith);
+        open_there = ap (λ (o : Option Attr). run_or_else o (attr_at runs page)) (attr_in-below run page h) ∙ attr_at-before mode run.end runs page rest (omega arith);
       }
 
 gap_further : (run : Run) (runs : List Run) (page gap : ℕ) → run.first ≤ page → IsGap (attr_at runs) (max page run.end) gap → IsGap (attr_at (run ∷ runs)) page gap
@@ -96,7 +96,7 @@ gap_further run runs page gap h g =
           (λ (c : k < run.end). some_inside run runs k (omega arith) c)
           (λ (c : run.end ≤ k). some_else (attr_in run k) (attr_at runs k) (g.mapped k (omega arith) b))
           (lt_or_le k run.end);
-      open_there = ap (λ (o : Option Attr). or_else o (attr_at runs gap)) (attr_in-above run gap (omega arith)) ∙ g.open_there;
+      open_there = ap (λ (o : Option Attr). run_or_else o (attr_at runs gap)) (attr_in-above run gap (omega arith)) ∙ g.open_there;
     }
 
 gap_test : (map : ℕ → Option Attr) (page first : ℕ) (x y : ℕ) (b : Bool) → ltb page first ≡ b → (page < first → IsGap map page x) → (first ≤ page → IsGap map page y) → IsGap map page (if b then x else y)
@@ -141,14 +141,14 @@ clear_none : (first end : ℕ) (runs : List Run) (k : ℕ) → is_clear first en
 clear_none first end [] k e a b = refl
 clear_none first end (run ∷ runs) k e a b =
     let parts = and_parts (not (ltb run.first end && ltb first run.end)) (is_clear first end runs) e in
-    ap (λ (o : Option Attr). or_else o (attr_at runs k))
+    ap (λ (o : Option Attr). run_or_else o (attr_at runs k))
     (⊎_elim
     (λ (h : end ≤ run.first). attr_in-below run k (omega arith))
     (λ (h : run.end ≤ first). attr_in-above run k (omega arith))
     (clear_apart run first end parts.0))
     ∙ clear_none first end runs k parts.1 a b
 
-rest_none : (a b : Option Attr) → or_else a b ≡ None → b ≡ None
+rest_none : (a b : Option Attr) → run_or_else a b ≡ None → b ≡ None
 rest_none None b e = e
 rest_none (Some x) b e = cc
 
@@ -280,11 +280,11 @@ module _ (mode : ℕ) (map : ℕ → Option Attr) (count : ℕ) (some : 0 < coun
       gap_choice page run (lowest_gap mode count run.end runs) (leb (page + count) run.first) refl
       (λ (h : page + count ≤ run.first).
       low_here page a (omega arith)
-      (λ k c d. same k c ∙ ap (λ (o : Option Attr). or_else o (attr_at runs k)) (attr_in-below run k (omega arith)) ∙ attr_at-before mode run.end runs k m.3 (omega arith))
+      (λ k c d. same k c ∙ ap (λ (o : Option Attr). run_or_else o (attr_at runs k)) (attr_in-below run k (omega arith)) ∙ attr_at-before mode run.end runs k m.3 (omega arith))
       low)
       (λ (h : run.first < page + count).
       walk run.end runs (omega arith) m.3
-      (λ k c. same k (omega arith) ∙ ap (λ (o : Option Attr). or_else o (attr_at runs k)) (attr_in-above run k c))
+      (λ k c. same k (omega arith) ∙ ap (λ (o : Option Attr). run_or_else o (attr_at runs k)) (attr_in-above run k c))
       (no_place run runs page m.1 h same low))
 
 module _ (mode : ℕ) where

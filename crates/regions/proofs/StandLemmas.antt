@@ -12,8 +12,8 @@ use Rattle.vm_types.specs.declared.region.Backing.TheVariants.{Anon, Private, Sh
 use Rattle.vm_types.specs.Attributes.{file_page_after, object_page_after, backing_after, attr_after, stands_on}
 use Rattle.regions.specs.declared.run.Run.{Run}
 use Rattle.regions.specs.Run.{IsRun}
-use Rattle.regions.specs.RunList.{or_else, attr_at, IsMaximal}
-use Rattle.regions.specs.Search.{first_on, from_or, pages_between, pages_from, page_further, page_on, runs_behind, StandsOn, IsFirstOn}
+use Rattle.regions.specs.RunList.{run_or_else, attr_at, IsMaximal}
+use Rattle.regions.specs.Search.{first_on, from_or, pages_between, run_pages_from, page_further, page_on, runs_behind, StandsOn, IsFirstOn}
 use Rattle.regions.proofs.RunLemmas.{Side, below, inside, above, side, leb-no, attr_in-inside, attr_in-below, attr_in-above}
 use Rattle.regions.proofs.ListLemmas.{attr_at-before, first_or_rest}
 
@@ -57,7 +57,7 @@ object_far q p n true e is =
     ap₂ (λ (o k : ℕ). let r : ObjectPage = record { object = o; page = k } in r) (eqb-true q.object p.object a.0) page
 object_far q p n false e is = cc
 
-far_on : (b : Backing) (key : PageKey) (n : ℕ) → pages_from (stands_on b) key ≡ Some n → stands_on (backing_after b n) ≡ Some key
+far_on : (b : Backing) (key : PageKey) (n : ℕ) → run_pages_from (stands_on b) key ≡ Some n → stands_on (backing_after b n) ≡ Some key
 far_on Anon key n is = cc
 far_on (Private q) (File p) n is = ap (λ (x : FilePage). Some (File x)) (file_far q p n ((q.file == p.file) && leb q.page p.page) refl is)
 far_on (Private q) (Object p) n is = cc
@@ -76,7 +76,7 @@ object_near q n =
     let far : q.page + n - q.page ≡ n = omega arith in
     rw (eq-eqb q.object q.object refl, le-leb q.page (q.page + n) (omega arith)) (ap (λ (k : ℕ). Some k) far)
 
-near_on : (b : Backing) (key : PageKey) (n : ℕ) → stands_on (backing_after b n) ≡ Some key → pages_from (stands_on b) key ≡ Some n
+near_on : (b : Backing) (key : PageKey) (n : ℕ) → stands_on (backing_after b n) ≡ Some key → run_pages_from (stands_on b) key ≡ Some n
 near_on Anon key n is = cc
 near_on (Private q) key n is = subst (λ (x : PageKey). pages_between (File q) x ≡ Some n) (same_Some (File (file_page_after q n)) key is) (file_near q n)
 near_on (Shared q) key n is = subst (λ (x : PageKey). pages_between (File q) x ≡ Some n) (same_Some (File (file_page_after q n)) key is) (file_near q n)
@@ -99,7 +99,7 @@ further_some run (Some n) k is =
 
 pub on_some : (key : PageKey) (run : Run) (k : ℕ) → page_on key run ≡ Some k → (run.first ≤ k) × (k < run.end) × (stands_on (attr_after run.attr (k - run.first)).backing ≡ Some key)
 on_some key run k is =
-    let t = further_some run (pages_from (stands_on run.attr.backing) key) k is in
+    let t = further_some run (run_pages_from (stands_on run.attr.backing) key) k is in
     (t.0, t.1, far_on run.attr.backing key (k - run.first) t.2)
 
 pub on_is : (key : PageKey) (run : Run) (k : ℕ) → run.first ≤ k → k < run.end → stands_on (attr_after run.attr (k - run.first)).backing ≡ Some key → page_on key run ≡ Some k
@@ -113,13 +113,13 @@ on_is key run k low high is =
 
 one_side : (run : Run) (runs : List Run) (key : PageKey) (j : ℕ) → StandsOn (attr_at (run ∷ runs)) key j → Side run j → (page_on key run ≡ Some j) ⊎ StandsOn (attr_at runs) key j
 one_side run runs key j s (below h) =
-    inr (record { attr = s.attr; mapped = sym (ap (λ (o : Option Attr). or_else o (attr_at runs j)) (attr_in-below run j h)) ∙ s.mapped; on = s.on })
+    inr (record { attr = s.attr; mapped = sym (ap (λ (o : Option Attr). run_or_else o (attr_at runs j)) (attr_in-below run j h)) ∙ s.mapped; on = s.on })
 one_side run runs key j s (inside low high) =
-    let here : Some (attr_after run.attr (j - run.first)) ≡ Some s.attr = sym (ap (λ (o : Option Attr). or_else o (attr_at runs j)) (attr_in-inside run j low high)) ∙ s.mapped in
+    let here : Some (attr_after run.attr (j - run.first)) ≡ Some s.attr = sym (ap (λ (o : Option Attr). run_or_else o (attr_at runs j)) (attr_in-inside run j low high)) ∙ s.mapped in
     let same : attr_after run.attr (j - run.first) ≡ s.attr = same_Some (attr_after run.attr (j - run.first)) s.attr here in
     inl (on_is key run j low high (ap (λ (a : Attr). stands_on a.backing) same ∙ s.on))
 one_side run runs key j s (above h) =
-    inr (record { attr = s.attr; mapped = sym (ap (λ (o : Option Attr). or_else o (attr_at runs j)) (attr_in-above run j h)) ∙ s.mapped; on = s.on })
+    inr (record { attr = s.attr; mapped = sym (ap (λ (o : Option Attr). run_or_else o (attr_at runs j)) (attr_in-above run j h)) ∙ s.mapped; on = s.on })
 
 stands_side : (run : Run) (runs : List Run) (key : PageKey) (j : ℕ) → StandsOn (attr_at (run ∷ runs)) key j → (page_on key run ≡ Some j) ⊎ StandsOn (attr_at runs) key j
 stands_side run runs key j s = one_side run runs key j s (side run j)
@@ -127,7 +127,7 @@ stands_side run runs key j s = one_side run runs key j s (side run j)
 module _ (mode : ℕ) where
   stands_later : (run : Run) (runs : List Run) (key : PageKey) (j : ℕ) → IsMaximal mode run.end runs → StandsOn (attr_at runs) key j → StandsOn (attr_at (run ∷ runs)) key j
   stands_later run runs key j m s = elim (first_or_rest mode run runs j m) [
-    | inl none ↦ record { attr = s.attr; mapped = ap (λ (o : Option Attr). or_else o (attr_at runs j)) none ∙ s.mapped; on = s.on }
+    | inl none ↦ record { attr = s.attr; mapped = ap (λ (o : Option Attr). run_or_else o (attr_at runs j)) none ∙ s.mapped; on = s.on }
     | inr none ↦ (let bad : None ≡ Some s.attr = sym none ∙ s.mapped in (cc))
   ]
 
@@ -166,16 +166,16 @@ module _ (mode : ℕ) where
         user = (let a = r.high in let b = at.1 in omega (arith, a, b));
         stands = record {
           attr = attr_after run.attr (k - run.first);
-          mapped = ap (λ (o : Option Attr). or_else o (attr_at runs k)) (attr_in-inside run k at.0 at.1);
+          mapped = ap (λ (o : Option Attr). run_or_else o (attr_at runs k)) (attr_in-inside run k at.0 at.1);
           on = at.2;
         };
         before = λ j from less s. elim (side run j) [
           | below b ↦ (
               let early : attr_at runs j ≡ None = attr_at-before mode run.end runs j m (let n = r.nonempty in omega (arith, b, n)) in
-              let bad : None ≡ Some s.attr = sym early ∙ sym (ap (λ (o : Option Attr). or_else o (attr_at runs j)) (attr_in-below run j b)) ∙ s.mapped in
+              let bad : None ≡ Some s.attr = sym early ∙ sym (ap (λ (o : Option Attr). run_or_else o (attr_at runs j)) (attr_in-below run j b)) ∙ s.mapped in
               (cc))
           | inside low' high' ↦ (
-              let same = same_Some (attr_after run.attr (j - run.first)) s.attr (sym (ap (λ (o : Option Attr). or_else o (attr_at runs j)) (attr_in-inside run j low' high')) ∙ s.mapped) in
+              let same = same_Some (attr_after run.attr (j - run.first)) s.attr (sym (ap (λ (o : Option Attr). run_or_else o (attr_at runs j)) (attr_in-inside run j low' high')) ∙ s.mapped) in
               let also = on_is key run j low' high' (ap (λ (a : Attr). stands_on a.backing) same ∙ s.on) in
               let e : j ≡ k = same_Some j k (sym also ∙ is) in
               omega (arith, e, less))

@@ -5,8 +5,8 @@ use Rattle.vm_types.specs.declared.region.Attr.{Attr}
 use Rattle.vm_types.specs.Attributes.{attr_after, attr_eq, backing_fits}
 use Rattle.vm_types.specs.Rows.{IsUserMap}
 use Rattle.regions.specs.declared.run.Run.{Run}
-use Rattle.regions.specs.Run.{IsRun, attr_in, cut}
-use Rattle.regions.specs.RunList.{or_else, attr_at, joins_first, IsMaximal, IsNextRun}
+use Rattle.regions.specs.Run.{IsRun, attr_in, cut_run}
+use Rattle.regions.specs.RunList.{run_or_else, attr_at, joins_first, IsMaximal, IsNextRun}
 use Rattle.regions.specs.Search.{first_part, run_or}
 use Rattle.regions.proofs.AttrLemmas.{attr_after-add, attr_after-zero, backing_fits-after, backing_fits-less}
 use Rattle.regions.proofs.RunLemmas.{widest_run, lt_or_le, attr_in-inside, attr_in-below, attr_in-above, attr_in-cut, clipped-inside, changed-none, IsPart, cut-run}
@@ -44,7 +44,7 @@ module _ (mode : ℕ) where
       (lt_or_le page run.first)
 
 module _ (mode : ℕ) where
-  user_or : (page : ℕ) (a b : Option Attr) → IsUserAttr mode page a → IsUserAttr mode page b → IsUserAttr mode page (or_else a b)
+  user_or : (page : ℕ) (a b : Option Attr) → IsUserAttr mode page a → IsUserAttr mode page b → IsUserAttr mode page (run_or_else a b)
   user_or page None b ha hb = hb
   user_or page (Some x) b ha hb = ha
 
@@ -86,16 +86,16 @@ module _ (mode : ℕ) where
       let none : run.end - next.first ≡ 0 = omega (arith, e) in
       let is : attr_in next run.end ≡ Some next.attr =
       attr_in-inside next run.end here (omega (arith, e, some)) ∙ ap (λ (n : ℕ). Some (attr_after next.attr n)) none ∙ ap (λ (a : Attr). Some a) (attr_after-zero next.attr) in
-      let same : next.attr ≡ attr = some_attr next.attr attr (sym (ap (λ (o : Option Attr). or_else o (attr_at runs run.end)) is) ∙ there) in
+      let same : next.attr ≡ attr = some_attr next.attr attr (sym (ap (λ (o : Option Attr). run_or_else o (attr_at runs run.end)) is) ∙ there) in
       let P : Bool → Type 0 = λ b. (b && attr_eq (attr_after run.attr (run.end - run.first)) next.attr) ≡ false in
       let Q : Attr → Type 0 = λ a. attr_eq (attr_after run.attr (run.end - run.first)) a ≡ false in
       subst Q same (subst P (eq-eqb run.end next.first e) apart))
       (lt_or_le run.end next.first)
 
 module _ (mode : ℕ) where
-  next_here : (page : ℕ) (run : Run) (runs : List Run) → IsRun mode run → joins_first run runs ≡ false → IsMaximal mode run.end runs → max run.first page < min run.end (2 ^ 35) → IsNextRun mode (attr_at (run ∷ runs)) page (cut None run (max run.first page) (min run.end (2 ^ 35)))
+  next_here : (page : ℕ) (run : Run) (runs : List Run) → IsRun mode run → joins_first run runs ≡ false → IsMaximal mode run.end runs → max run.first page < min run.end (2 ^ 35) → IsNextRun mode (attr_at (run ∷ runs)) page (cut_run None run (max run.first page) (min run.end (2 ^ 35)))
   next_here page run runs r apart rest h =
-      let part : IsPart mode page (2 ^ 35) run (cut None run (max run.first page) (min run.end (2 ^ 35))) = cut-run mode page (2 ^ 35) None run r h in
+      let part : IsPart mode page (2 ^ 35) run (cut_run None run (max run.first page) (min run.end (2 ^ 35))) = cut-run mode page (2 ^ 35) None run r h in
       let high : run.end ≤ 2 ^ 35 = widest_run mode run r in
       let top : run.end ≤ user_end mode = r.high in
       let low : 16 ≤ run.first = r.low in
@@ -106,18 +106,18 @@ module _ (mode : ℕ) where
         nonempty = h;
         high = omega arith;
         none_before = λ k a b.
-            ap (λ (o : Option Attr). or_else o (attr_at runs k)) (attr_in-below run k (omega arith))
+            ap (λ (o : Option Attr). run_or_else o (attr_at runs k)) (attr_in-below run k (omega arith))
             ∙ attr_at-before mode run.end runs k rest (omega arith);
         mapped = λ k a b.
-            let same : attr_in run k ≡ Some (attr_after (cut None run (max run.first page) (min run.end (2 ^ 35))).attr (k - max run.first page)) =
+            let same : attr_in run k ≡ Some (attr_after (cut_run None run (max run.first page) (min run.end (2 ^ 35))).attr (k - max run.first page)) =
             sym (changed-none (attr_in run k))
             ∙ sym (clipped-inside page (2 ^ 35) None k (attr_in run k) (omega arith) (omega arith))
             ∙ sym (attr_in-cut page (2 ^ 35) None run k)
-            ∙ attr_in-inside (cut None run (max run.first page) (min run.end (2 ^ 35))) k a b in
-            ap (λ (o : Option Attr). or_else o (attr_at runs k)) same;
+            ∙ attr_in-inside (cut_run None run (max run.first page) (min run.end (2 ^ 35))) k a b in
+            ap (λ (o : Option Attr). run_or_else o (attr_at runs k)) same;
         ends = λ attr there.
             let end : min run.end (2 ^ 35) ≡ run.end = omega (arith, high) in
-            let behind : attr_at (run ∷ runs) run.end ≡ attr_at runs run.end = ap (λ (o : Option Attr). or_else o (attr_at runs run.end)) (attr_in-above run run.end (omega arith)) in
+            let behind : attr_at (run ∷ runs) run.end ≡ attr_at runs run.end = ap (λ (o : Option Attr). run_or_else o (attr_at runs run.end)) (attr_in-above run run.end (omega arith)) in
             let at_end : attr_at runs run.end ≡ Some attr = sym behind ∙ ap (attr_at (run ∷ runs)) (sym end) ∙ there in
             let count : (max run.first page - run.first) + (min run.end (2 ^ 35) - max run.first page) ≡ run.end - run.first = omega (arith, h, end) in
             let long : attr_after (attr_after run.attr (max run.first page - run.first)) (min run.end (2 ^ 35) - max run.first page) ≡ attr_after run.attr (run.end - run.first) =
@@ -128,7 +128,7 @@ module _ (mode : ℕ) where
 
 module _ (mode : ℕ) where
   next_later : (page : ℕ) (run : Run) (runs : List Run) (next : Option Run) → run.end ≤ page → IsNextOrNone mode (attr_at runs) page next → IsNextOrNone mode (attr_at (run ∷ runs)) page next
-  next_later page run runs None h n = λ k a. ap (λ (o : Option Attr). or_else o (attr_at runs k)) (attr_in-above run k (omega arith)) ∙ n k a
+  next_later page run runs None h n = λ k a. ap (λ (o : Option Attr). run_or_else o (attr_at runs k)) (attr_in-above run k (omega arith)) ∙ n k a
   next_later page run runs (Some next) h n =
       let from : page ≤ next.first = n.from in
       record {
@@ -136,15 +136,15 @@ module _ (mode : ℕ) where
         low = n.low;
         nonempty = n.nonempty;
         high = n.high;
-        none_before = λ k a b. ap (λ (o : Option Attr). or_else o (attr_at runs k)) (attr_in-above run k (omega arith)) ∙ n.none_before k a b;
-        mapped = λ k a b. ap (λ (o : Option Attr). or_else o (attr_at runs k)) (attr_in-above run k (omega arith)) ∙ n.mapped k a b;
+        none_before = λ k a b. ap (λ (o : Option Attr). run_or_else o (attr_at runs k)) (attr_in-above run k (omega arith)) ∙ n.none_before k a b;
+        mapped = λ k a b. ap (λ (o : Option Attr). run_or_else o (attr_at runs k)) (attr_in-above run k (omega arith)) ∙ n.mapped k a b;
         ends = λ attr there. (
             let some : next.first < next.end = n.nonempty in
-            n.ends attr (sym (ap (λ (o : Option Attr). or_else o (attr_at runs next.end)) (attr_in-above run next.end (omega arith))) ∙ there));
+            n.ends attr (sym (ap (λ (o : Option Attr). run_or_else o (attr_at runs next.end)) (attr_in-above run next.end (omega arith))) ∙ there));
       }
 
 module _ (mode : ℕ) where
-  next_test : (page : ℕ) (run : Run) (runs : List Run) (b : Bool) → ltb (max run.first page) (min run.end (2 ^ 35)) ≡ b → IsRun mode run → joins_first run runs ≡ false → IsMaximal mode run.end runs → IsNextOrNone mode (attr_at runs) page (first_part page runs) → IsNextOrNone mode (attr_at (run ∷ runs)) page (run_or (if b then Some (cut None run (max run.first page) (min run.end (2 ^ 35))) else None) (first_part page runs))
+  next_test : (page : ℕ) (run : Run) (runs : List Run) (b : Bool) → ltb (max run.first page) (min run.end (2 ^ 35)) ≡ b → IsRun mode run → joins_first run runs ≡ false → IsMaximal mode run.end runs → IsNextOrNone mode (attr_at runs) page (first_part page runs) → IsNextOrNone mode (attr_at (run ∷ runs)) page (run_or (if b then Some (cut_run None run (max run.first page) (min run.end (2 ^ 35))) else None) (first_part page runs))
   next_test page run runs true e r apart rest n = next_here mode page run runs r apart rest (ltb-true (max run.first page) (min run.end (2 ^ 35)) e)
   next_test page run runs false e r apart rest n =
       let empty : min run.end (2 ^ 35) ≤ max run.first page = ltb-false (max run.first page) (min run.end (2 ^ 35)) e in

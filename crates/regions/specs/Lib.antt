@@ -2,3 +2,4 @@ pub mod Run
 pub mod RunList
 pub mod Search
 pub mod Permission
+pub mod Remaps

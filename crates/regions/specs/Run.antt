@@ -27,18 +27,18 @@ abbrev pub merged : Run → Run → Run
 merged run next = record { first = run.first; end = next.end; attr = run.attr }
 
 -- with the permission, where one is given
-abbrev pub changed : Option Prot → Attr → Attr
-changed prot attr = record { prot = unwrap_or prot attr.prot; backing = attr.backing }
+abbrev pub changed_run : Option Prot → Attr → Attr
+changed_run prot attr = record { prot = unwrap_or prot attr.prot; backing = attr.backing }
 
 -- the pages from first up to, not including, end, of the run
-abbrev pub cut : Option Prot → Run → ℕ → ℕ → Run
-cut prot run first end =
-    record { first = first; end = end; attr = changed prot (attr_after run.attr (first - run.first)) }
+abbrev pub cut_run : Option Prot → Run → ℕ → ℕ → Run
+cut_run prot run first end =
+    record { first = first; end = end; attr = changed_run prot (attr_after run.attr (first - run.first)) }
 
 -- the part of the run between two pages
 abbrev pub run_between : ℕ → ℕ → Option Prot → Run → Option Run
 run_between low high prot run =
     if ltb (max run.first low) (min run.end high) then
-    Some (cut prot run (max run.first low) (min run.end high))
+    Some (cut_run prot run (max run.first low) (min run.end high))
     else
     None

@@ -8,14 +8,14 @@ use Rattle.regions.specs.declared.run.Run.{Run}
 use Rattle.regions.specs.Run.{IsRun, attr_in, joins, merged, run_between}
 
 -- the first where it is there, else the second
-abbrev pub or_else : Option Attr → Option Attr → Option Attr
-or_else None other = other
-or_else (Some attr) other = Some attr
+abbrev pub run_or_else : Option Attr → Option Attr → Option Attr
+run_or_else None other = other
+run_or_else (Some attr) other = Some attr
 
 -- what the page is; None where it isn't mapped
 abbrev pub attr_at : List Run → ℕ → Option Attr
 attr_at [] page = None
-attr_at (run ∷ runs) page = or_else (attr_in run page) (attr_at runs page)
+attr_at (run ∷ runs) page = run_or_else (attr_in run page) (attr_at runs page)
 
 -- whether the first run of the list goes on with this one
 abbrev pub joins_first : Run → List Run → Bool

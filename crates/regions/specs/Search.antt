@@ -44,9 +44,9 @@ pages_between (File q) (Object p) = None
 pages_between (Object q) (File p) = None
 pages_between (Object q) (Object p) = if (q.object == p.object) && leb q.page p.page then Some (p.page - q.page) else None
 
-abbrev pub pages_from : Option PageKey → PageKey → Option ℕ
-pages_from None key = None
-pages_from (Some first) key = pages_between first key
+abbrev pub run_pages_from : Option PageKey → PageKey → Option ℕ
+run_pages_from None key = None
+run_pages_from (Some first) key = pages_between first key
 
 -- the page of a run so far from its first
 abbrev pub page_further : Run → Option ℕ → Option ℕ
@@ -55,7 +55,7 @@ page_further run (Some n) = if ltb n (run.end - run.first) then Some (run.first 
 
 -- the page of a run that stands on that page of a file or an object
 abbrev pub page_on : PageKey → Run → Option ℕ
-page_on key run = page_further run (pages_from (stands_on run.attr.backing) key)
+page_on key run = page_further run (run_pages_from (stands_on run.attr.backing) key)
 
 -- the first where it is there and not under the page, else the second
 abbrev pub from_or : ℕ → Option ℕ → Option ℕ → Option ℕ

@@ -1,5 +1,5 @@
 //! The table of runs, and the calls on it.
-ghost use Rattle.std.specs.Prelude.{◌≡◌, ◌+◌, ◌^◌, ◌<◌, ◌≤◌, ℕ, Some, None, IfNone, IfOk, IfSome, OnOk, OnErr, [], length, max};
+ghost use Rattle.std.specs.Prelude.{◌≡◌, ◌+◌, ◌^◌, ◌<◌, ◌≤◌, ℕ, Some, None, IfNone, IfSome, OnOk, OnErr, [], length, max};
 ghost use Rattle.vm_types.specs.Limits.{user_start};
 
 use crate::RUNS;
@@ -39,6 +39,7 @@ impl<M: Levels> Regions<M> {
     ghost use Rattle.vm_types.specs.Runs.{run_count};
     ghost use Rattle.regions.specs.Run.{IsRun};
     ghost use Rattle.regions.specs.RunList.{attr_at, end_of, IsMaximal, IsNextRun, joins_last, pasted, pushed};
+    ghost use Rattle.regions.specs.Remaps.{MakesMap};
     ghost use Rattle.regions.specs.Search.{first_on, first_part, gap_from, is_clear, lowest_gap, runs_behind, IsFirstOn, StandsOn};
     ghost use Rattle.vm_types.specs.Limits.{user_start, user_end};
 
@@ -270,11 +271,7 @@ impl<M: Levels> Regions<M> {
         requires low { user_start ≤ first }
         requires high { first + pages ≤ user_end M.mode }
         requires file_pages { backing_fits attr.backing pages }
-        ensures ok { OnOk result ((page : ℕ) → attr_at next.new page ≡ replaced (attr_at self.now) first pages attr page) }
-        ensures few { OnOk result (run_count M.mode (replaced (attr_at self.now) first pages attr) ≤ 256) }
-        ensures too_many { OnErr result (256 < run_count M.mode (replaced (attr_at self.now) first pages attr)) }
-        ensures user_before { IsUserMap M.mode (attr_at self.now) }
-        ensures user_after { OnOk result (IsUserMap M.mode (attr_at next.new)) }
+        ensures { MakesMap M.mode self.now (replaced (attr_at self.now) first pages attr) next.new result }
     {
         let run = Run {
             first,
@@ -298,11 +295,7 @@ impl<M: Levels> Regions<M> {
     ) -> Result<(), TooManyRuns>
         requires some { 0 < pages }
         requires row { first + pages < 2 ^ 64 }
-        ensures ok { OnOk result ((page : ℕ) → attr_at next.new page ≡ removed (attr_at self.now) first pages page) }
-        ensures few { OnOk result (run_count M.mode (removed (attr_at self.now) first pages) ≤ 256) }
-        ensures too_many { OnErr result (256 < run_count M.mode (removed (attr_at self.now) first pages)) }
-        ensures user_before { IsUserMap M.mode (attr_at self.now) }
-        ensures user_after { OnOk result (IsUserMap M.mode (attr_at next.new)) }
+        ensures { MakesMap M.mode self.now (removed (attr_at self.now) first pages) next.new result }
     {
         next.clear();
         next.paste(self.as_slice(), 0, first, None)?;
@@ -321,11 +314,7 @@ impl<M: Levels> Regions<M> {
     ) -> Result<(), TooManyRuns>
         requires some { 0 < pages }
         requires row { first + pages < 2 ^ 64 }
-        ensures ok { OnOk result ((page : ℕ) → attr_at next.new page ≡ protected (attr_at self.now) first pages prot page) }
-        ensures few { OnOk result (run_count M.mode (protected (attr_at self.now) first pages prot) ≤ 256) }
-        ensures too_many { OnErr result (256 < run_count M.mode (protected (attr_at self.now) first pages prot)) }
-        ensures user_before { IsUserMap M.mode (attr_at self.now) }
-        ensures user_after { OnOk result (IsUserMap M.mode (attr_at next.new)) }
+        ensures { MakesMap M.mode self.now (protected (attr_at self.now) first pages prot) next.new result }
     {
         let end = first + pages;
         next.clear();

@@ -80,7 +80,7 @@ module _ {M : Type 0} {m : Levels.Ghosts M} {D E : Type 0} (h : Ghosts E) where
     frame = v;
     spareable = (sym (ap is_data (marks.roles v)) ∙ ev.0.0, ev.0.1);
     needs = needed_before old mid v (marks.roles v) looked.cache needs;
-    room = (let P : Swap E → Type 0 = λ s. Slots.IsFull (slots_of s) → ⊥ in subst P looked.swap (ev.1 needs));
+    room = (let P : Swap E → Type 0 = λ s. Slots.IsSwapFull (slots_of s) → ⊥ in subst P looked.swap (ev.1 needs));
     alone = frame_given (picture_of old) (picture_of mid) (picture_of new) v marks gives ev.0.0;
     asks = asks_wider h (IsSectorOfFreeSlot (slots_of old.swap)) (λ k. IsSectorOfFreeSlot (slots_of old.swap) k ⊎ ⊥) old.swap.pages.disk new.swap.pages.disk (λ k is. inl is)
         (asks_put h old.swap mid.swap new.swap new.swap looked.swap refl asks);

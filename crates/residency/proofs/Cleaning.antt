@@ -102,7 +102,7 @@ module _ {mode : ℕ} (old new : Picture mode) (page : PageKey) (n : ℕ) (fit :
   }
 
 -- no place changed
-pub all_placed : (t u : CacheTable.CacheTable) (page : PageKey) → CacheTable.SameButFor page t u → CacheTable.place_of u page ≡ CacheTable.place_of t page
+pub all_placed : (t u : CacheTable.CacheTable) (page : PageKey) → CacheTable.SameButForPage page t u → CacheTable.place_of u page ≡ CacheTable.place_of t page
     → (p : PageKey) → CacheTable.place_of u p ≡ CacheTable.place_of t p
 all_placed t u page same placed p = elim (cases_page p page) [
   | inl is ↦ ap (CacheTable.place_of u) is ∙ placed ∙ sym (ap (CacheTable.place_of t) is)

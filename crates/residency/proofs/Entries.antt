@@ -3,12 +3,12 @@ use Rattle.vm_types.specs.Limits.{top_level}
 use Rattle.std.proofs.Common.{◌≡◌, ◌≢◌, ℕ, Option, Some, None, refl, ap, ◌∙◌}
 use Rattle.frames.specs.FrameTable.{FrameTable}
 use Rattle.page_tables.specs.Tree.{IsRoot, page_entry}
-use Rattle.residency.specs.Picture.{Picture, entry_in, entry}
+use Rattle.residency.specs.Picture.{Picture, entry_under, entry}
 use Rattle.residency.specs.Parts.{IsRootedBut}
 
 module _ (mode : ℕ) where
   entry_in-same : (t t' : FrameTable) (r : Option ℕ) (page : ℕ) → ((x : ℕ) → r ≡ Some x → page_entry t' (top_level mode) x page ≡ page_entry t (top_level mode) x page)
-      → entry_in mode t' r page ≡ entry_in mode t r page
+      → entry_under mode t' r page ≡ entry_under mode t r page
   entry_in-same t t' None page same = refl
   entry_in-same t t' (Some x) page same = same x refl
 
@@ -18,14 +18,14 @@ module _ {mode : ℕ} where
       → ((pid : ℕ) → new.root pid ≡ old.root pid) → (pid page : ℕ) → entry new pid page ≡ entry old pid page
   unfolding entry
   entries_kept old new n rooted same roots pid page =
-      ap (λ r. entry_in mode new.frames r page) (roots pid)
+      ap (λ r. entry_under mode new.frames r page) (roots pid)
       ∙ entry_in-same mode old.frames new.frames (old.root pid) page (λ x e. same x page (rooted.roots pid x e))
 
 -- the entry of a page of a live process
 module _ {mode : ℕ} where
   pub entry-of : (c : Picture mode) (pid r page : ℕ) → c.root pid ≡ Some r → entry c pid page ≡ page_entry c.frames (top_level mode) r page
   unfolding entry
-  entry-of c pid r page root = ap (λ x. entry_in mode c.frames x page) root
+  entry-of c pid r page root = ap (λ x. entry_under mode c.frames x page) root
 
 -- one page's entry is as it was
 module _ {mode : ℕ} where
@@ -33,7 +33,7 @@ module _ {mode : ℕ} where
       → ((x : ℕ) → old.root pid ≡ Some x → page_entry new.frames (top_level mode) x page ≡ page_entry old.frames (top_level mode) x page) → entry new pid page ≡ entry old pid page
   unfolding entry
   entry-same old new pid page root same =
-      ap (λ r. entry_in mode new.frames r page) root ∙ entry_in-same mode old.frames new.frames (old.root pid) page same
+      ap (λ r. entry_under mode new.frames r page) root ∙ entry_in-same mode old.frames new.frames (old.root pid) page same
 
 -- the trees but that of one root, which no process has
 pub entries_but : {mode : ℕ} (old new : Picture mode) (n : ℕ) → IsRootedBut old n → ((pid : ℕ) → old.root pid ≢ Some n)

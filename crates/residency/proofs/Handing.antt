@@ -133,7 +133,7 @@ module _ {mode : ℕ} (old mid new : Picture mode) (k pid r page n number : ℕ)
       (own_region old mid (old.at pid page) (entry old pid page) number k (share.fit.granting.entries pid page h) (frame_seat (entry old pid page) n from) away beside.files)
       (λ valid. absurd (false≢true (sym away.invalid ∙ valid))) (rooted_set old mid 0 r page number share.fit.rooted sets beside)
 
-  pub handed : IsFit new
+  handed : IsFit new
   handed = fit_released mid new n 0 moved (ap (λ rs. get_or rs n Free) sets.kept.roles ∙ was) releases beside'
 
   views_mid : bytes_in old.frames old.slots (InSlot k) ≡ bytes_in old.frames old.slots (InFrame n) → (q p : ℕ) → IsPage (top_level mode) p → view mid q p ≡ view old q p
@@ -209,21 +209,26 @@ module _ {mode : ℕ} (old mid new : Picture mode) (k pid r page n number : ℕ)
     place = λ p ne. beside.place p;
   }
 
-  pub given_spares : bytes_in old.frames old.slots (InSlot k) ≡ bytes_in old.frames old.slots (InFrame n) → Spares n k old new
+  given_spares : bytes_in old.frames old.slots (InSlot k) ≡ bytes_in old.frames old.slots (InFrame n) → Spares n k old new
   given_spares alike = spares_then n k old mid new (hand_spares alike) (release_spares mid new n k moved (ap (λ rs. get_or rs n Free) sets.kept.roles ∙ was) releases beside')
 
   still : (q p : ℕ) → entry new q p ≡ entry mid q p
   still = same mid new n k moved (ap (λ rs. get_or rs n Free) sets.kept.roles ∙ was) releases beside'
 
-  pub given_seat : seat (entry new pid page) ≡ Some (InSlot k)
+  given_seat : seat (entry new pid page) ≡ Some (InSlot k)
   given_seat = ap seat (still pid page) ∙ ap seat set_page.changed ∙ away_seat number k away
 
-  pub given_others : (q : ℕ) → q ≢ pid → entry new q page ≡ entry old q page
+  given_others : (q : ℕ) → q ≢ pid → entry new q page ≡ entry old q page
   given_others q ne = still q page ∙ set_page.others q page h (inl ne)
 
-  pub given_kept : 1 < count_of old.frames n → (role_of new.frames n ≡ role_of old.frames n) × (bytes_of new.frames n ≡ bytes_of old.frames n)
+  given_kept : 1 < count_of old.frames n → (role_of new.frames n ≡ role_of old.frames n) × (bytes_of new.frames n ≡ bytes_of old.frames n)
   given_kept more =
       let two : 1 < count_of mid.frames n = (let same_count = ap (λ cs. get_or cs n 0) sets.kept.counts in omega (arith, more, same_count)) in (
         ap (λ rs. get_or rs n Free) (releases.role_kept two) ∙ ap (λ rs. get_or rs n Free) sets.kept.roles,
         ap (λ bs. get_or bs n []) (releases.bytes_kept two) ∙ sets.kept.bytes n (λ t. (let bad : Private ≡ Table = sym was ∙ t in (cc))),
       )
+
+  pub all_given : bytes_in old.frames old.slots (InSlot k) ≡ bytes_in old.frames old.slots (InFrame n)
+      → IsFit new × Spares n k old new × (seat (entry new pid page) ≡ Some (InSlot k)) × ((q : ℕ) → q ≢ pid → entry new q page ≡ entry old q page)
+      × (1 < count_of old.frames n → (role_of new.frames n ≡ role_of old.frames n) × (bytes_of new.frames n ≡ bytes_of old.frames n))
+  all_given alike = (handed, given_spares alike, given_seat, given_others, given_kept)

@@ -13,7 +13,7 @@ use Rattle.vm_types.specs.Limits.{object_limit, top_level, user_end}
 use Rattle.frames.specs.declared.role.Role.TheVariants.{Private}
 use Rattle.frames.specs.FrameTable.{role_of, count_of}
 use Rattle.page_tables.specs.Tree.{IsPage}
-use Rattle.swap.specs.Slots.{IsFull}
+use Rattle.swap.specs.Slots.{IsSwapFull}
 use Rattle.page_cache.specs.declared.place.Place.{Place}
 use Rattle.page_cache.specs.declared.place.Place.TheVariants.{Home, Frame, Slot}
 use Rattle.residency.specs.Seats.{Seat, InFrame, InSlot, seat, is_seat, holders_at}
@@ -184,7 +184,7 @@ module _ (mode : ℕ) where
       omega (arith, most, all, same)
 
 -- Where every slot is in use and one frame more needs one, the processes and files have more than there are slots.
-module _ {mode : ℕ} (c : Picture mode) (m : ℕ) (fit : IsFitBut c nowhere 0 m) (full : IsFull c.slots) (n : ℕ) (needs : NeedsSlot c n)
+module _ {mode : ℕ} (c : Picture mode) (m : ℕ) (fit : IsFitBut c nowhere 0 m) (full : IsSwapFull c.slots) (n : ℕ) (needs : NeedsSlot c n)
     (user : (pid page : ℕ) → has_own (view c pid page) ≡ true → page < user_end mode)
     (files : (p : FilePage) → c.place (File p) ≢ Home → (p.file < 64) × (p.page < 2 ^ 20))
     (objects : (p : ObjectPage) → c.place (Object p) ≢ Home → (p.object < object_limit) × (p.page < object_page_limit))

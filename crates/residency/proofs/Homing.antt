@@ -4,7 +4,7 @@ use Rattle.std.proofs.Common.{◌≡◌, ◌≢◌, ℕ, inl, inr, ◌<◌, fals
 use Rattle.std.proofs.lemmas.Bool.{false≢true}
 use Rattle.vm_types.specs.declared.object.PageKey.{PageKey}
 use Rattle.frames.specs.FrameTable.{role_of, bytes_of, count_of}
-use Rattle.swap.specs.Slots.{Releases}
+use Rattle.swap.specs.Slots.{ReleasesSlot}
 use Rattle.sv39_walk.specs.Entry.{is_valid, is_dirty, frame_of}
 use Rattle.page_tables.specs.Tree.{page_entry}
 use Rattle.page_cache.specs.declared.place.Place.{Place}
@@ -42,7 +42,7 @@ module _ {mode : ℕ} where
   pub record Homes (old new : Picture mode) (page : PageKey) (k : ℕ) : Type 0 where
     pub was : old.place page ≡ Slot (record { 0 = k })
     pub frames : new.frames ≡ old.frames
-    pub slots : Releases old.slots new.slots k
+    pub slots : ReleasesSlot old.slots new.slots k
     pub root : (pid : ℕ) → new.root pid ≡ old.root pid
     pub at : (pid q : ℕ) → new.at pid q ≡ old.at pid q
     pub page_of : (m : ℕ) → new.page_of m ≡ old.page_of m

@@ -30,13 +30,14 @@ use Rattle.residency.specs.declared.leaves.Change.TheVariants.{Forget, ClearAcce
 use Rattle.residency.specs.Seats.{Seat, InFrame, InSlot, seat, is_private}
 use Rattle.residency.specs.declared.kernel.Core.{Core}
 use Rattle.residency.specs.Picture.{Picture, picture_of, attr_where, root_in, number_of_frame, entry, bytes_in, IsOwned, count_in, page_in}
-use Rattle.memory.specs.Notes.{Names}
+use Rattle.memory.specs.Notes.{NamesFrame}
 use Rattle.memory.proofs.Numbers.{is_number, of_number}
 use Rattle.residency.specs.Parts.{IsEntryFor, IsResident, IsBehind, IsFit, AsRoot, OnWay, nowhere}
 use Rattle.residency.specs.Steps.{SameBeside, SetsPage}
 use Rattle.residency.specs.declared.leaves.Held.{Held}
 use Rattle.residency.specs.declared.leaves.Held.TheVariants.{Own, Filed}
 use Rattle.residency.specs.Leaves.{concerns, IsOver, IsChanged, ChangesLeaves, Holds, KeepsAllButFrames, AreKinds, IsPageOver, key_after}
+use Rattle.residency.specs.LeafChanges.{ChangesEntries}
 use Rattle.residency.proofs.Bits.{some_framed, resident_of, changed_once, seat_changed, for_changed, valid_zero, leaf_accessed}
 use Rattle.residency.proofs.Entries.{entry-of}
 use Rattle.residency.proofs.Granting.{entry_for-same, granting_changed}
@@ -234,7 +235,7 @@ module _ {mode : ℕ} (old new : Picture mode) (change : Change) (n pid r page n
       fit.dirty.dirty pid page p h (leaf_accessed (entry old pid page) con).0 (sym ch.0.private ∙ common) (sym ch.1 ∙ dirty) (at ∙ ap (λ x. Frame (record { 0 = x })) ch.0.frame)
   dirty_here ClearDirty is p ch con valid common dirty at = absurd (false≢true (sym ch.2 ∙ dirty))
 
-  pub fit_changed : IsFit new
+  fit_changed : IsFit new
   fit_changed = record {
     counted = (
       fit.counted.0,
@@ -265,7 +266,7 @@ module _ {mode : ℕ} (old new : Picture mode) (change : Change) (n pid r page n
   seat_bytes (InFrame m) is = sets.kept.bytes m (λ t. (let bad : Private ≡ Table = sym is ∙ t in (cc)))
   seat_bytes (InSlot j) is = ap (λ t. t.bytes j) beside.slots
 
-  pub changes_one : ChangesLeaves change n old new
+  changes_one : ChangesLeaves change n old new
   changes_one = record {
     beside = beside;
     frames = sets.kept.frames;
@@ -290,11 +291,12 @@ module _ {mode : ℕ} (old new : Picture mode) (change : Change) (n pid r page n
     ];
   }
 
-  pub clear_here : IsOver new change n pid page → ⊥
-  clear_here now = false≢true (sym (changed_once change (entry old pid page) number changed) ∙ sym (ap (concerns change) one_page.changed) ∙ now.concerned)
+  -- memory is fit, and nothing else changed, and that page has no such entry now
+  pub one_changed : IsFit new × ChangesLeaves change n old new × (IsOver new change n pid page → ⊥)
+  one_changed = (fit_changed, changes_one, λ now. false≢true (sym (changed_once change (entry old pid page) number changed) ∙ sym (ap (concerns change) one_page.changed) ∙ now.concerned))
 
 -- entries changed, and others after them
-pub changes_none : {mode : ℕ} (change : Change) (n : ℕ) (c : Picture mode) → ChangesLeaves change n c c
+changes_none : {mode : ℕ} (change : Change) (n : ℕ) (c : Picture mode) → ChangesLeaves change n c c
 changes_none change n c = record {
   beside = record { slots = refl; root = λ p. refl; at = λ p k. refl; page_of = λ m. refl; place = λ p. refl; touched = λ p. refl; files = λ f. refl };
   frames = refl;
@@ -314,7 +316,7 @@ still_clear change n pid k old new changes h clear over = elim (changes.entries 
   | inr was ↦ clear was.0
 ]
 
-pub changes_then : {mode : ℕ} (change : Change) (n : ℕ) (a b c : Picture mode) → ChangesLeaves change n a b → ChangesLeaves change n b c → ChangesLeaves change n a c
+changes_then : {mode : ℕ} (change : Change) (n : ℕ) (a b c : Picture mode) → ChangesLeaves change n a b → ChangesLeaves change n b c → ChangesLeaves change n a c
 changes_then change n a b c f g = record {
   beside = record {
     slots = g.beside.slots ∙ f.beside.slots;
@@ -351,10 +353,10 @@ holds_kept change n old new (Own page) changes is = (changes.roles n ∙ is.0, c
 holds_kept change n old new (Filed p) changes is = changes.beside.place p ∙ is
 
 module _ {M : Type 0} {m : Levels.Ghosts M} {D E : Type 0} where
-  pub frames_none : (c : Core D E M m) → KeepsAllButFrames c c
+  frames_none : (c : Core D E M m) → KeepsAllButFrames c c
   frames_none c = record { store = refl; swap = refl; cache = refl; roots = refl; regions = refl; page_of = refl; clock = refl; refused = refl; keep = refl; looks = refl }
 
-  pub frames_then : (a b c : Core D E M m) → KeepsAllButFrames a b → KeepsAllButFrames b c → KeepsAllButFrames a c
+  frames_then : (a b c : Core D E M m) → KeepsAllButFrames a b → KeepsAllButFrames b c → KeepsAllButFrames a c
   frames_then a b c f g = record {
     store = g.store ∙ f.store;
     swap = g.swap ∙ f.swap;
@@ -368,9 +370,19 @@ module _ {M : Type 0} {m : Levels.Ghosts M} {D E : Type 0} where
     refused = g.refused ∙ f.refused;
   }
 
+  pub entries_none : (change : Change) (n : ℕ) (c : Core D E M m) → IsFit (picture_of c) → ChangesEntries change n c c
+  entries_none change n c fit = record { changes = changes_none change n (picture_of c); fit = fit; beside = frames_none c }
+
+  pub entries_then : (change : Change) (n : ℕ) (a b c : Core D E M m) → ChangesEntries change n a b → ChangesEntries change n b c → ChangesEntries change n a c
+  entries_then change n a b c f g = record {
+    changes = changes_then change n (picture_of a) (picture_of b) (picture_of c) f.changes g.changes;
+    fit = g.fit;
+    beside = frames_then a b c f.beside g.beside;
+  }
+
 -- A page with an entry over the frame of a page of a file or an object is one that names it.
 module _ {mode : ℕ} (c : Picture mode) (change : Change) (n pid r k : ℕ) (fit : IsFit c) (root : c.root pid ≡ Some r) (h : IsPage (top_level mode) k) where
-  pub over_names : role_of c.frames n ≡ Cache → IsOver c change n pid k → Names mode c.frames r k n
+  pub over_names : role_of c.frames n ≡ Cache → IsOver c change n pid k → NamesFrame mode c.frames r k n
   over_names cache over =
       let f = some_framed change (entry c pid k) over.concerned in
       let u = over_user c change n pid k fit h over in
@@ -383,7 +395,7 @@ module _ {mode : ℕ} (c : Picture mode) (change : Change) (n pid r k : ℕ) (fi
       }
 
 -- and a page that names a frame is a process's, with an entry over it
-pub names_over : {mode : ℕ} (c : Picture mode) (n r k : ℕ) → IsFit c → role_of c.frames 0 ≡ Zero → Names mode c.frames r k n → (pid : ℕ) × IsOver c Forget n pid k
+pub names_over : {mode : ℕ} (c : Picture mode) (n r k : ℕ) → IsFit c → role_of c.frames 0 ≡ Zero → NamesFrame mode c.frames r k n → (pid : ℕ) × IsOver c Forget n pid k
 names_over {mode = mode} c n r k fit zero_role names =
     let l = names.is in
     let table : IsTable c.frames r = begins_table c.frames (top_level mode) r k (top_level mode) l.lowest l.table l.way in

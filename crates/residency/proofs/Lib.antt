@@ -9,6 +9,7 @@ pub mod Roots
 pub mod Granting
 pub mod Places
 pub mod Moves
+pub mod Obtained
 pub mod Callers
 pub mod Bits
 pub mod LeafSteps
@@ -23,6 +24,7 @@ pub mod Handing
 pub mod Leaving
 pub mod Shown
 pub mod Linked
+pub mod Lives
 pub mod Sparing
 pub mod Handed
 pub mod Putting
@@ -42,3 +44,4 @@ pub mod Asking
 pub mod Homing
 pub mod Cleaning
 pub mod Forgotten
+pub mod SeatForms

@@ -4,7 +4,7 @@ use Rattle.std.proofs.Common.{◌≡◌, ◌≢◌, ℕ, inl, inr, ◌<◌, true
 use Rattle.std.specs.Prelude.{option_map}
 use Rattle.vm_types.specs.declared.region.Attr.{Attr}
 use Rattle.frames.specs.declared.role.Role.TheVariants.{Table, Private}
-use Rattle.frames.specs.FrameTable.{bytes_of, role_of}
+use Rattle.frames.specs.FrameTable.{FrameTable, bytes_of, role_of}
 use Rattle.swap.specs.Slots.{SlotTable}
 use Rattle.sv39_walk.specs.Entry.{is_valid, frame_of}
 use Rattle.page_tables.specs.Tree.{IsPage}
@@ -16,6 +16,10 @@ use Rattle.residency.proofs.Seats.{counted_moved}
 use Rattle.residency.proofs.Granting.{KeepsBehind, granting_changed}
 use Rattle.residency.proofs.Places.{places_same, dirty_changed}
 use Rattle.residency.proofs.Ways.{by_page}
+
+-- but for frames all is as it was
+pub same_beside : {mode : ℕ} (c : Picture mode) (t : FrameTable) → SameBeside c (record c { frames = t })
+same_beside c t = record { slots = refl; root = λ pid. refl; at = λ pid page. refl; page_of = λ n. refl; place = λ p. refl; touched = λ p. refl; files = λ f. refl }
 
 pub behind_kept : {mode : ℕ} (old new : Picture mode) → SameBeside old new → KeepsBehind old new
 behind_kept old new beside = record { place = λ p n e. beside.place p ∙ e; files = beside.files }

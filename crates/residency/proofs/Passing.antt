@@ -1,18 +1,24 @@
 -- The shares of a private frame, passed on to a slot one after the other.
+use Rattle.vm_types.specs.declared.mode.Levels as Levels
 use Rattle.vm_types.specs.Limits.{user_end, top_level}
-use Rattle.std.proofs.Common.{◌≡◌, ◌≢◌, ℕ, ◌+◌, ◌<◌, ◌≤◌, true, inl, inr, ◌⊎◌, Option, Some, None, is_some, refl, sym, ap, ◌∙◌, subst, arith}
+use Rattle.std.proofs.Common.{◌≡◌, ◌≢◌, ℕ, ◌+◌, ◌<◌, ◌≤◌, true, false, inl, inr, ◌⊎◌, Option, Some, None, is_some, refl, sym, ap, ◌∙◌, subst, arith}
 use Rattle.vm_types.specs.declared.region.Attr.{Attr}
 use Rattle.frames.specs.FrameTable.{role_of, count_of, bytes_of}
-use Rattle.swap.specs.Slots.{Shares}
+use Rattle.std.proofs.lemmas.Bool.{false≢true}
+use Rattle.disk_model.specs.declared.sector_disk.SectorDisk.{Ghosts}
+use Rattle.swap.specs.Slots.{SharesSlot, IsReady}
 use Rattle.page_tables.specs.Tree.{IsPage}
 use Rattle.residency.specs.Seats.{Seat, InFrame, InSlot, seat, holders_at}
-use Rattle.residency.specs.Picture.{Picture, entry, IsOwned}
+use Rattle.residency.specs.Picture.{Picture, picture_of, entry, IsOwned}
 use Rattle.residency.specs.Parts.{IsFit, IsRootedBut, IsEntryFor, Nothing, Resident, Away}
+use Rattle.residency.specs.declared.kernel.Core.{Core}
 use Rattle.residency.specs.Evictions.{IsHanding, Spares}
+use Rattle.residency.specs.Handovers.{HandsShares, PassesShare}
 use Rattle.residency.proofs.Evicted.{seat_number}
 use Rattle.residency.proofs.Putting.{has_shared, share_spares}
 use Rattle.residency.proofs.Puts.{SameButSlots}
 use Rattle.residency.proofs.Seats.{holders_none}
+use Rattle.residency.proofs.Sparing.{spares_none, spares_then}
 use Rattle.residency.proofs.Start.{seat-none, entry-dead}
 
 seat_mapped : {mode : ℕ} (c : Picture mode) (a : Option Attr) (e : ℕ) (z : Seat) → IsEntryFor c a e → seat e ≡ Some z → is_some a ≡ true
@@ -73,8 +79,8 @@ module _ {mode : ℕ} (old mid new : Picture mode) (pid page v k : ℕ) (handing
   pub room : mid.slots.count k < 64
   room = let f = handing.few in let m = more in let s = ap (λ t. t.count k) slots in omega (arith, f, m, s)
 
-  module _ (same : SameButSlots mid new) (shares : Shares mid.slots new.slots k) where
-    pub passed : IsHanding new v k page
+  module _ (same : SameButSlots mid new) (shares : SharesSlot mid.slots new.slots k) where
+    passed : IsHanding new v k page
     passed = record {
       share = has_shared mid new k page fit same owned at shares;
       role = ap (λ t. role_of t v) same.frames ∙ (kept more).0 ∙ handing.role;
@@ -84,5 +90,38 @@ module _ {mode : ℕ} (old mid new : Picture mode) (pid page v k : ℕ) (handing
       few = (let f = handing.few in let l = lowered in let c = ap (λ t. count_of t v) same.frames in let s = ap (λ t. t.count k) slots in let r = shares.raised in omega (arith, f, l, c, s, r));
     }
 
-    pub passed_spares : Spares v k mid new
+    passed_spares : Spares v k mid new
     passed_spares = share_spares mid new k page fit same owned at shares v
+
+    pub all_passed : IsHanding new v k page × Spares v k mid new
+    all_passed = (passed, passed_spares)
+
+module _ {M : Type 0} {m : Levels.Ghosts M} {D E : Type 0} (g : Ghosts E) where
+  pub hands_none : (n k : ℕ) (c : Core D E M m) → IsReady g c.swap → HandsShares g n k c c
+  hands_none n k c ready = record { spares = spares_none n k (picture_of c); ready = ready; pages = refl; plain = record { store = refl; roots = refl; regions = refl; refused = refl; looks = refl } }
+
+  pub hands_then : (n k : ℕ) (a b c : Core D E M m) → HandsShares g n k a b → HandsShares g n k b c → HandsShares g n k a c
+  hands_then n k a b c one two = record {
+    spares = spares_then n k (picture_of a) (picture_of b) (picture_of c) one.spares two.spares;
+    ready = two.ready;
+    pages = two.pages ∙ one.pages;
+    plain = record {
+      store = two.plain.store ∙ one.plain.store;
+      roots = two.plain.roots ∙ one.plain.roots;
+      regions = two.plain.regions ∙ one.plain.regions;
+      refused = two.plain.refused ∙ one.plain.refused;
+      looks = two.plain.looks ∙ one.plain.looks;
+    };
+  }
+
+  -- a process had no share of the frame
+  pub passes_none : (n k pid page : ℕ) (c : Core D E M m) → IsReady g c.swap → IsHanding (picture_of c) n k page → seat (entry (picture_of c) pid page) ≢ Some (InFrame n)
+      → PassesShare g n k pid page c c false
+  passes_none n k pid page c ready handing none = record {
+    moved = none;
+    fit = λ f. absurd (false≢true f);
+    free = λ f. absurd (false≢true f);
+    handing = λ f. handing;
+    others = λ q ne. refl;
+    hands = hands_none n k c ready;
+  }

@@ -7,7 +7,7 @@ use Rattle.std.proofs.lemmas.Bool.{cases_eq}
 use Rattle.vm_types.specs.declared.object.PageKey.{PageKey}
 use Rattle.frames.specs.FrameTable.{FrameTable, frame_count, role_of, count_of, bytes_of}
 use Rattle.sv39_walk.specs.Entry.{frame_of}
-use Rattle.swap.specs.Slots.{SlotTable, IsInUse, Same, Puts, Shares}
+use Rattle.swap.specs.Slots.{SlotTable, IsInUse, Same, Puts, SharesSlot}
 use Rattle.page_tables.specs.Tree.{IsPage, Points, last_table}
 use Rattle.page_cache.specs.declared.place.Place.{Place}
 use Rattle.page_cache.specs.declared.place.Place.TheVariants.{Home, Frame, Slot}
@@ -133,7 +133,7 @@ module _ {mode : ℕ} (old new : Picture mode) (fit : IsFit old) (same : SameBut
   }
 
 -- one more shares a slot that holds own copies
-module _ {mode : ℕ} (old new : Picture mode) (k page : ℕ) (fit : IsFit old) (same : SameButSlots old new) (own : IsOwned old (InSlot k)) (noted : fit.counted.0 k ≡ page) (shares : Shares old.slots new.slots k) where
+module _ {mode : ℕ} (old new : Picture mode) (k page : ℕ) (fit : IsFit old) (same : SameButSlots old new) (own : IsOwned old (InSlot k)) (noted : fit.counted.0 k ≡ page) (shares : SharesSlot old.slots new.slots k) where
   more_used : (j : ℕ) → IsInUse old.slots j → IsInUse new.slots j
   more_used j used = elim (cases_eq j k) [
     | inl e ↦ (let r = shares.raised in let P : ℕ → Type 0 = λ i. 0 < new.slots.count i in subst P (sym e) (omega (arith, r)))

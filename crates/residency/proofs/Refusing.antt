@@ -7,7 +7,7 @@ use Rattle.vm_types.specs.declared.number.FrameNo.{FrameNo}
 use Rattle.frames.specs.declared.role.Role.{Role}
 use Rattle.frames.specs.declared.role.Role.TheVariants.{Free, Zero, Table, Private, Cache}
 use Rattle.frames.specs.FrameTable.{FrameTable, IsSound, IsFrame, frame_count, role_of}
-use Rattle.swap.specs.Slots.{SlotTable, IsInUse, IsFull}
+use Rattle.swap.specs.Slots.{SlotTable, IsInUse, IsSwapFull}
 use Rattle.page_cache.specs.declared.place.Place.TheVariants.{Home, Frame}
 use Rattle.residency.specs.Picture.{Picture, is_data}
 use Rattle.residency.specs.Parts.{IsFit}
@@ -37,7 +37,7 @@ free_below t (suc n) = elim (cases_eq (t.count n) 0) [
   ]
 ]
 
-pub full_then : (t : SlotTable) → ((IsFull t → ⊥) → ⊥) → IsFull t
+pub full_then : (t : SlotTable) → ((IsSwapFull t → ⊥) → ⊥) → IsSwapFull t
 full_then t not_not = elim (free_below t t.total) [
   | inl there ↦ absurd (not_not (λ full. (let some = full there.0 there.1 in let none = there.2 in omega (arith, some, none))))
   | inr used ↦ used
@@ -73,5 +73,5 @@ module _ {mode : ℕ} (c : Picture mode) (keep : Option FrameNo) (fit : IsFit c)
   ]
 
   -- and none is free
-  pub no_slot_free : (n : ℕ) → IsSpareable c keep n → IsFull c.slots
+  pub no_slot_free : (n : ℕ) → IsSpareable c keep n → IsSwapFull c.slots
   no_slot_free n spare = full_then c.slots (λ not_full. none n (inside_of c.frames n sound spare.0) (spare, λ needs. not_full))

@@ -27,7 +27,7 @@ unfolding slot_number
 one_slot j k e = ap slot_number e
 
 -- the slot of a file page lost its only share
-pub leaves_slot : {mode : ℕ} (old new : Picture mode) (page : PageKey) (k : ℕ) (t : SlotTable) → old.place page ≡ Slot (record { 0 = k }) → t ≡ old.slots → Slots.Releases t new.slots k → old.slots.count k ≡ 1
+pub leaves_slot : {mode : ℕ} (old new : Picture mode) (page : PageKey) (k : ℕ) (t : SlotTable) → old.place page ≡ Slot (record { 0 = k }) → t ≡ old.slots → Slots.ReleasesSlot t new.slots k → old.slots.count k ≡ 1
     → LeavesSlot old new page
 leaves_slot old new page k t at same releases one =
     let other : (j : ℕ) → old.place page ≢ Slot (record { 0 = j }) → j ≢ k = λ j ne e. ne (at ∙ ap (λ i. Slot (record { 0 = i })) (sym e)) in

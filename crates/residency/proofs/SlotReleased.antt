@@ -3,7 +3,7 @@ use Rattle.std.proofs.Common.{◌≡◌, ◌≢◌, ℕ, inl, inr, ◌⊎◌, �
 use Rattle.std.proofs.lemmas.Bool.{cases_eq}
 use Rattle.vm_types.specs.declared.object.PageKey.{PageKey}
 use Rattle.frames.specs.FrameTable.{role_of, count_of}
-use Rattle.swap.specs.Slots.{Releases}
+use Rattle.swap.specs.Slots.{ReleasesSlot}
 use Rattle.sv39_walk.specs.Entry.{frame_of}
 use Rattle.page_cache.specs.declared.place.Place.TheVariants.{Slot}
 use Rattle.residency.specs.Seats.{Seat, InFrame, InSlot, seat}
@@ -16,7 +16,7 @@ use Rattle.residency.proofs.Rooted.{rooted_frames}
 use Rattle.residency.proofs.Puts.{SameButSlots}
 use Rattle.residency.proofs.Evicted.{seat_number}
 
-module _ {mode : ℕ} (old new : Picture mode) (k m : ℕ) (fit : IsFitBut old (InSlot k) 1 m) (has : IsOwned old (InSlot k)) (same : SameButSlots old new) (releases : Releases old.slots new.slots k) where
+module _ {mode : ℕ} (old new : Picture mode) (k m : ℕ) (fit : IsFitBut old (InSlot k) 1 m) (has : IsOwned old (InSlot k)) (same : SameButSlots old new) (releases : ReleasesSlot old.slots new.slots k) where
   no_file : (p : PageKey) (j : ℕ) → j ≡ k → old.place p ≡ Slot (record { 0 = j }) → ⊥
   no_file p j is e = has.1 p (e ∙ ap (λ i. Slot (record { 0 = i })) is)
 

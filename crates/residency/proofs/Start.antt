@@ -11,7 +11,7 @@ use Rattle.frames.specs.FrameTable.{FrameTable, frame_count, role_of, IsSound, I
 use Rattle.sv39_walk.specs.Entry.{has_bit}
 use Rattle.page_tables.proofs.Keeping.{fresh_forest}
 use Rattle.page_cache.specs.declared.place.Place.TheVariants.{Home, Frame, Slot}
-use Rattle.residency.specs.Picture.{Picture, entry, is_private, entry_in, IsOwned}
+use Rattle.residency.specs.Picture.{Picture, entry, is_private, entry_under, IsOwned}
 use Rattle.residency.specs.Seats.{Seat, InFrame, InSlot, seat}
 use Rattle.residency.specs.Parts.{IsFit, Nothing}
 
@@ -26,7 +26,7 @@ seat-none = refl
 module _ {mode : ℕ} where
   pub entry-dead : (c : Picture mode) (pid page : ℕ) → c.root pid ≡ None → entry c pid page ≡ 0
   unfolding entry
-  entry-dead c pid page dead = ap (λ r. entry_in mode c.frames r page) dead
+  entry-dead c pid page dead = ap (λ r. entry_under mode c.frames r page) dead
 
 -- the roles of memory of which no frame was handed out
 fresh_role : (t : FrameTable) (count n : ℕ) → IsSound t → IsFresh t count → (role_of t n ≡ Free) ⊎ (role_of t n ≡ Zero)

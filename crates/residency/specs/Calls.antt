@@ -1,6 +1,6 @@
 -- What the calls of this layer leave.
 use Rattle.vm_types.specs.declared.mode.Levels as Levels
-use Rattle.std.specs.Prelude.{◌≡◌, ◌≢◌, ℕ, ◌≤◌, ◌⊎◌, true, false, Option, None, Some}
+use Rattle.std.specs.Prelude.{◌≡◌, ◌≢◌, ℕ, ◌≤◌, ◌⊎◌, true, false, Option, None, Some, Result, IfOk, IfErr}
 use Rattle.vm_types.specs.Limits.{top_level}
 use Rattle.vm_types.specs.declared.object.PageKey.{PageKey}
 use Rattle.vm_types.specs.declared.number.FrameNo.{FrameNo}
@@ -8,12 +8,14 @@ use Rattle.vm_types.specs.declared.refusal.Stall.{Stall}
 use Rattle.vm_types.specs.declared.refusal.Stall.TheVariants.{NoFrames, NoSwap, SwapDevice, StoreDevice}
 use Rattle.disk_model.specs.declared.sector_disk.SectorDisk.{Ghosts}
 use Rattle.disk_model.specs.Moments.{AsksOnly, Nothing}
+use Rattle.file_store.specs.declared.store.FileStore.{FileStore}
 use Rattle.frames.specs.declared.role.Role.TheVariants.{Free, Table, Private}
 use Rattle.frames.specs.FrameTable.{FrameTable, frame_count, bytes_of, role_of, count_of, IsFrame, IsFresh, IsFull}
 use Rattle.page_cache.specs.CacheTable.{slot_count}
 use Rattle.page_cache.specs.declared.place.Place.TheVariants.{Home, Frame, Slot}
 use Rattle.page_tables.specs.Tree.{IsPage, Points, missing_of, last_table}
 use Rattle.sv39_walk.specs.Entry.{frame_of}
+use Rattle.swap.specs.declared.slots.Swap.{Swap}
 use Rattle.swap.specs.Slots.{slots_of, IsInUse}
 use Rattle.swap.specs.Slots as Slots
 use Rattle.residency.specs.declared.kernel.Core.{Core}
@@ -29,11 +31,22 @@ module _ {M : Type 0} {m : Levels.Ghosts M} where
   pub record IsStart {D E : Type 0} (c : Core D E M m) (frames slots : ℕ) : Type 0 where
     pub fresh : IsFresh c.frames frames
     pub slots_are : slot_count c.cache ≡ slots
-    pub slots_free : Slots.IsFresh (slots_of c.swap) slots
+    pub slots_free : Slots.AreNewSlots (slots_of c.swap) slots
     pub none : (pid : ℕ) → (picture_of c).root pid ≡ None
     pub at_home : (p : PageKey) → (picture_of c).place p ≡ Home
     pub untouched : (p : PageKey) → (picture_of c).touched p ≡ false
     pub refused : c.refused.number ≡ 0
+
+module _ {M : Type 0} {m : Levels.Ghosts M} {D E : Type 0} where
+  -- Memory is taken of the host:
+  pub record StartsCore {R : Type 0} (files : FileStore D) (device : Swap E) (frames slots : ℕ) (result : Result (Core D E M m) (R × FileStore D)) : Type 0 where
+    -- it is fit and as at the start, over that store and those slots,
+    pub fit : IfOk result (λ core. IsFit (picture_of core))
+    pub start : IfOk result (λ core. IsStart core frames slots)
+    pub store : IfOk result (λ core. core.store ≡ files)
+    pub swap : IfOk result (λ core. core.swap ≡ device)
+    -- or the host has not enough, and the store is handed back.
+    pub err : IfErr result (λ e. e.1 ≡ files)
 
 pub record IsFreeFrame (t : FrameTable) (n : ℕ) : Type 0 where
   pub inside : IsFrame t n
@@ -121,7 +134,7 @@ module _ {mode : ℕ} where
 module _ {mode : ℕ} where
   abbrev pub Refuses : Picture mode → Option FrameNo → Stall → Type 0
   Refuses c keep NoFrames = IsFull c.frames × ((n : ℕ) → IsSpareable c keep n → ⊥)
-  Refuses c keep NoSwap = IsFull c.frames × ((n : ℕ) × IsSpareable c keep n) × ((n : ℕ) → IsSpareable c keep n → NeedsSlot c n) × Slots.IsFull c.slots
+  Refuses c keep NoSwap = IsFull c.frames × ((n : ℕ) × IsSpareable c keep n) × ((n : ℕ) → IsSpareable c keep n → NeedsSlot c n) × Slots.IsSwapFull c.slots
   Refuses c keep SwapDevice = Unit {0}
   Refuses c keep StoreDevice = ⊥
 
@@ -174,7 +187,7 @@ module _ {M : Type 0} {m : Levels.Ghosts M} {D E : Type 0} (h : Ghosts E) where
     pub spareable : IsSpareable (picture_of old) keep frame
     -- it needs a slot, and one was free
     pub needs : NeedsSlot (picture_of old) frame
-    pub room : Slots.IsFull (picture_of old).slots → ⊥
+    pub room : Slots.IsSwapFull (picture_of old).slots → ⊥
     -- no other frame was given up
     pub alone : GivesFrame (picture_of old) (picture_of new) frame
     -- swap's device was asked for no sector but those of free slots, and those that the call asks for anyway

@@ -1,23 +1,29 @@
 -- What the steps of an eviction leave.
 use Rattle.vm_types.specs.declared.mode.Levels as Levels
-use Rattle.std.specs.Prelude.{◌≡◌, ◌≢◌, ℕ, ◌+◌, ◌<◌, ◌≤◌, ◌⊎◌, true, Some, Option}
+use Rattle.std.specs.Prelude.{◌≡◌, ◌≢◌, ℕ, ◌+◌, ◌*◌, ◌<◌, ◌≤◌, ◌⊎◌, true, Some, Option, Result, IfOk, IfErr, OnOk, OnErr}
 use Rattle.vm_types.specs.Limits.{top_level}
 use Rattle.vm_types.specs.declared.object.PageKey.{PageKey}
 use Rattle.vm_types.specs.declared.number.FrameNo.{FrameNo}
+use Rattle.vm_types.specs.declared.refusal.Stall.{Stall}
+use Rattle.vm_types.specs.declared.refusal.Stall.TheVariants.{SwapDevice}
+use Rattle.disk_model.specs.declared.sector_disk.SectorDisk.{Ghosts}
+use Rattle.disk_model.specs.Moments.{AsksOnly, Nothing}
 use Rattle.frames.specs.declared.role.Role.TheVariants.{Free, Table, Private}
-use Rattle.frames.specs.FrameTable.{frame_count, bytes_of, role_of, count_of}
+use Rattle.frames.specs.FrameTable.{frame_count, bytes_of, role_of, count_of, IsFrame}
+use Rattle.frames.specs.FrameTable as Frames
 use Rattle.sv39_walk.specs.Entry.{frame_of}
-use Rattle.swap.specs.Slots.{IsInUse, IsFull}
+use Rattle.swap.specs.Slots.{slots_of, IsInUse, IsSwapFull, IsReady, IsSectorOfFreeSlot}
 use Rattle.page_cache.specs.declared.place.Place.TheVariants.{Frame}
 use Rattle.page_tables.specs.Tree.{IsPage, Points, last_table}
 use Rattle.residency.specs.declared.kernel.Core.{Core}
 use Rattle.residency.specs.declared.leaves.Change.TheVariants.{ClearAccessed}
 use Rattle.residency.specs.Seats.{InSlot, is_swapped}
-use Rattle.residency.specs.Picture.{Picture, entry, IsOwned, is_data}
-use Rattle.residency.specs.Parts.{IsFitBut}
-use Rattle.residency.specs.Calls.{KeepsPages, IsSpareable, NeedsSlot}
+use Rattle.residency.specs.Picture.{Picture, picture_of, entry, IsOwned, is_data}
+use Rattle.residency.specs.Parts.{IsFit, IsFitBut}
+use Rattle.residency.specs.Calls.{AsksOneSlot, Frees, KeepsPages, IsSpareable, NeedsSlot, UsesDevice}
 use Rattle.residency.specs.Leaves.{HasEntryOver}
 use Rattle.residency.specs.Ages.{Ages, KeepsRoles}
+use Rattle.residency.specs.Stalls.{HasStallCause}
 
 -- slot k has a share for which no entry names it yet, at that page
 module _ {mode : ℕ} where
@@ -58,7 +64,7 @@ module _ {mode : ℕ} where
 -- the frame may be given up now: where that needs a slot, one is free
 module _ {mode : ℕ} where
   abbrev pub IsEvictable : Picture mode → Option FrameNo → ℕ → Type 0
-  IsEvictable c keep n = IsSpareable c keep n × (NeedsSlot c n → IsFull c.slots → ⊥)
+  IsEvictable c keep n = IsSpareable c keep n × (NeedsSlot c n → IsSwapFull c.slots → ⊥)
 
 -- a leaf over the frame, which holds a page, has A
 module _ {mode : ℕ} where
@@ -94,3 +100,48 @@ module _ {M : Type 0} {m : Levels.Ghosts M} {D E : Type 0} where
     pub regions : new.regions ≡ old.regions
     pub refused : new.refused ≡ old.refused
     pub looks : new.looks ≡ old.looks
+
+  -- A frame is looked for that may be given up, but not this one:
+  pub record FindsVictim {R : Type 0} (old new : Core D E M m) (keep : Option FrameNo) (result : Result FrameNo R) : Type 0 where
+    -- it is returned, or there is none;
+    pub found : IfOk result (λ n. IsEvictable (picture_of new) keep n.0)
+    pub none : OnErr result ((n : ℕ) → IsFrame new.frames n → IsEvictable (picture_of new) keep n → ⊥)
+    -- memory is fit, no page is seen otherwise, marks of accesses alone were cleared, no frame came free,
+    pub fit : IsFit (picture_of new)
+    pub frees : Frees (picture_of old) (picture_of new) keep
+    pub marks : ClearsMarks (picture_of old) (picture_of new)
+    pub looked : Looked old new
+    pub full : Frames.IsFull old.frames → Frames.IsFull new.frames
+    -- and each frame was looked at twice at most.
+    pub looks : new.looks.number ≤ old.looks.number + 2 * frame_count old.frames
+
+  -- The page of a frame goes home:
+  pub record SendsHome (old new : Core D E M m) (victim : ℕ) : Type 0 where
+    -- the frame is free,
+    pub free : role_of new.frames victim ≡ Free
+    -- memory is fit, nothing but that frame is elsewhere, and no slot is,
+    pub fit : IsFit (picture_of new)
+    pub spares : (k : ℕ) → Spares victim k (picture_of old) (picture_of new)
+    -- and all but memory is as it was.
+    pub plain : KeepsPlain old new
+    pub swap : new.swap ≡ old.swap
+
+module _ {M : Type 0} {m : Levels.Ghosts M} {D E : Type 0} (h : Ghosts E) where
+  -- A frame that holds a page is given up:
+  pub record Evicts {T : Type 0} (old new : Core D E M m) (victim : ℕ) (result : Result T Stall) : Type 0 where
+    -- it is free,
+    pub free : OnOk result (role_of new.frames victim ≡ Free)
+    -- memory is fit, no page is seen otherwise, and one slot at most is in use that wasn't;
+    pub fit : IsFit (picture_of new)
+    pub gives : GivesUp victim (picture_of old) (picture_of new)
+    pub plain : KeepsPlain old new
+    -- swap is asked where the page has to be put into a slot, and for a free one alone, and may be used further;
+    pub asked : (new.swap ≡ old.swap) ⊎ NeedsSlot (picture_of old) victim
+    pub swap : IsReady h new.swap
+    pub asks : AsksOnly h (IsSectorOfFreeSlot (slots_of old.swap)) old.swap.pages.disk new.swap.pages.disk
+    pub one : OnOk result (AsksOneSlot h old new Nothing)
+    pub device : UsesDevice h old.swap.pages.disk new.swap.pages.disk
+    -- or its device failed, and each frame has the use that it had.
+    pub still : OnErr result (KeepsRoles (picture_of old) (picture_of new))
+    pub fault : IfErr result (λ stall. stall ≡ SwapDevice)
+    pub cause : HasStallCause h old new result

@@ -66,14 +66,14 @@ module _ {mode : ℕ} where
   is_live c pid = is_some (c.root pid)
 
 module _ (mode : ℕ) where
-  abbrev pub entry_in : FrameTable → Option ℕ → ℕ → ℕ
-  entry_in t None page = 0
-  entry_in t (Some root) page = page_entry t (top_level mode) root page
+  abbrev pub entry_under : FrameTable → Option ℕ → ℕ → ℕ
+  entry_under t None page = 0
+  entry_under t (Some root) page = page_entry t (top_level mode) root page
 
 -- the number that stands for a page of a process, 0 where a table is missing or the process doesn't live
 module _ {mode : ℕ} where
   unfoldable pub entry : Picture mode → ℕ → ℕ → ℕ
-  entry c pid page = entry_in mode c.frames (c.root pid) page
+  entry c pid page = entry_under mode c.frames (c.root pid) page
 
 abbrev pub bytes_in : FrameTable → SlotTable → Seat → List ℕ
 bytes_in t s (InFrame n) = bytes_of t n

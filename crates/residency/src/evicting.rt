@@ -1,17 +1,13 @@
 //! A frame given up: its own copies go to a slot, its page of a file or an object to a slot or home.
-ghost use Rattle.std.specs.Prelude.{◌≡◌, ℕ, ◌⊎◌, true, false, IfErr, OnOk, OnErr};
-ghost use Rattle.disk_model.specs.Moments.{AsksOnly, Nothing};
+ghost use Rattle.std.specs.Prelude.{◌≡◌, true, false};
 ghost use Rattle.frames.specs.declared.role.Role.TheVariants as Roles;
 ghost use Rattle.frames.specs.FrameTable.{IsFrame, role_of};
 ghost use Rattle.page_cache.specs.declared.place.Place.TheVariants.{Frame};
-ghost use Rattle.swap.specs.Slots.{slots_of, IsReady, IsFull, IsSectorOfFreeSlot};
-ghost use Rattle.vm_types.specs.declared.refusal.Stall.TheVariants as Stalls;
+ghost use Rattle.swap.specs.Slots.{slots_of, IsReady, IsSwapFull};
 ghost use Rattle.residency.specs.Picture.{picture_of, is_data};
 ghost use Rattle.residency.specs.Parts.{IsFit};
-ghost use Rattle.residency.specs.Ages.{KeepsRoles};
-ghost use Rattle.residency.specs.Calls.{NeedsSlot, AsksOneSlot, UsesDevice};
-ghost use Rattle.residency.specs.Stalls.{HasStallCause};
-ghost use Rattle.residency.specs.Evictions.{Spares, GivesUp, KeepsPlain};
+ghost use Rattle.residency.specs.Calls.{NeedsSlot};
+ghost use Rattle.residency.specs.Evictions.{Evicts, SendsHome};
 
 use crate::kernel::Core;
 use crate::leaves::{Held, forget_leaves, held_in};
@@ -27,11 +23,7 @@ pub(crate) fn send_home<D, E, M: Levels>(core: &mut Core<D, E, M>, victim: Frame
     requires inside { IsFrame core.old.frames victim.0 }
     requires placed { (picture_of core.old).place page ≡ Frame victim }
     requires untouched { (picture_of core.old).touched page ≡ false }
-    ensures fit { IsFit (picture_of core.new) }
-    ensures spares { (k : ℕ) → Spares victim.0 k (picture_of core.old) (picture_of core.new) }
-    ensures free { role_of core.new.frames victim.0 ≡ Roles.Free }
-    ensures plain { KeepsPlain core.old core.new }
-    ensures swap { core.new.swap ≡ core.old.swap }
+    ensures { SendsHome core.old core.new victim.0 }
 {
     forget_leaves(core, victim);
     core.cache.set_place(page, Place::Home);
@@ -52,18 +44,8 @@ fn send_away<D, E: SectorDisk, M: Levels>(
     requires inside { IsFrame core.old.frames victim.0 }
     requires placed { (picture_of core.old).place page ≡ Frame victim }
     requires touched { (picture_of core.old).touched page ≡ true }
-    requires room { IsFull (slots_of core.old.swap) → ⊥ }
-    ensures fit { IsFit (picture_of core.new) }
-    ensures swap { IsReady E.SectorDisk core.new.swap }
-    ensures gives { GivesUp victim.0 (picture_of core.old) (picture_of core.new) }
-    ensures free { OnOk result (role_of core.new.frames victim.0 ≡ Roles.Free) }
-    ensures still { OnErr result (KeepsRoles (picture_of core.old) (picture_of core.new)) }
-    ensures plain { KeepsPlain core.old core.new }
-    ensures asks { AsksOnly E.SectorDisk (IsSectorOfFreeSlot (slots_of core.old.swap)) core.old.swap.pages.disk core.new.swap.pages.disk }
-    ensures one { OnOk result (AsksOneSlot E.SectorDisk core.old core.new Nothing) }
-    ensures device { UsesDevice E.SectorDisk core.old.swap.pages.disk core.new.swap.pages.disk }
-    ensures fault { IfErr result (λ s. s ≡ Stalls.SwapDevice) }
-    ensures cause { HasStallCause E.SectorDisk core.old core.new result }
+    requires room { IsSwapFull (slots_of core.old.swap) → ⊥ }
+    ensures { Evicts E.SectorDisk core.old core.new victim.0 result }
 {
     forget_leaves(core, victim);
     match core.swap.put(core.frames.bytes(victim)) {
@@ -89,18 +71,8 @@ fn send_copies<D, E: SectorDisk, M: Levels>(
     requires swap { IsReady E.SectorDisk core.old.swap }
     requires inside { IsFrame core.old.frames victim.0 }
     requires role { role_of core.old.frames victim.0 ≡ Roles.Private }
-    requires room { IsFull (slots_of core.old.swap) → ⊥ }
-    ensures fit { IsFit (picture_of core.new) }
-    ensures swap { IsReady E.SectorDisk core.new.swap }
-    ensures gives { GivesUp victim.0 (picture_of core.old) (picture_of core.new) }
-    ensures free { OnOk result (role_of core.new.frames victim.0 ≡ Roles.Free) }
-    ensures still { OnErr result (KeepsRoles (picture_of core.old) (picture_of core.new)) }
-    ensures plain { KeepsPlain core.old core.new }
-    ensures asks { AsksOnly E.SectorDisk (IsSectorOfFreeSlot (slots_of core.old.swap)) core.old.swap.pages.disk core.new.swap.pages.disk }
-    ensures one { OnOk result (AsksOneSlot E.SectorDisk core.old core.new Nothing) }
-    ensures device { UsesDevice E.SectorDisk core.old.swap.pages.disk core.new.swap.pages.disk }
-    ensures fault { IfErr result (λ s. s ≡ Stalls.SwapDevice) }
-    ensures cause { HasStallCause E.SectorDisk core.old core.new result }
+    requires room { IsSwapFull (slots_of core.old.swap) → ⊥ }
+    ensures { Evicts E.SectorDisk core.old core.new victim.0 result }
 {
     match core.swap.put(core.frames.bytes(victim)) {
         Ok(slot) => {
@@ -124,19 +96,8 @@ pub(crate) fn evict<D, E: SectorDisk, M: Levels>(
     requires swap { IsReady E.SectorDisk core.old.swap }
     requires inside { IsFrame core.old.frames victim.0 }
     requires datum { is_data (role_of core.old.frames victim.0) ≡ true }
-    requires room { NeedsSlot (picture_of core.old) victim.0 → IsFull (slots_of core.old.swap) → ⊥ }
-    ensures asked { (core.new.swap ≡ core.old.swap) ⊎ NeedsSlot (picture_of core.old) victim.0 }
-    ensures fit { IsFit (picture_of core.new) }
-    ensures swap { IsReady E.SectorDisk core.new.swap }
-    ensures gives { GivesUp victim.0 (picture_of core.old) (picture_of core.new) }
-    ensures free { OnOk result (role_of core.new.frames victim.0 ≡ Roles.Free) }
-    ensures still { OnErr result (KeepsRoles (picture_of core.old) (picture_of core.new)) }
-    ensures plain { KeepsPlain core.old core.new }
-    ensures asks { AsksOnly E.SectorDisk (IsSectorOfFreeSlot (slots_of core.old.swap)) core.old.swap.pages.disk core.new.swap.pages.disk }
-    ensures one { OnOk result (AsksOneSlot E.SectorDisk core.old core.new Nothing) }
-    ensures device { UsesDevice E.SectorDisk core.old.swap.pages.disk core.new.swap.pages.disk }
-    ensures fault { IfErr result (λ s. s ≡ Stalls.SwapDevice) }
-    ensures cause { HasStallCause E.SectorDisk core.old core.new result }
+    requires room { NeedsSlot (picture_of core.old) victim.0 → IsSwapFull (slots_of core.old.swap) → ⊥ }
+    ensures { Evicts E.SectorDisk core.old core.new victim.0 result }
 {
     match held_in(core, victim) {
         Held::Own(_) => send_copies(core, victim),

@@ -5,8 +5,8 @@ ghost use Rattle.page_cache.specs.declared.place.Place.TheVariants.{Frame, Slot}
 ghost use Rattle.vm_types.specs.declared.object.PageKey.TheVariants.{Object};
 ghost use Rattle.residency.specs.Picture.{picture_of};
 ghost use Rattle.residency.specs.Parts.{IsFit};
-ghost use Rattle.residency.specs.Steps.{Forgets, HasNoEntry};
-ghost use Rattle.residency.specs.Calls.{KeepsBesidePlaces};
+ghost use Rattle.residency.specs.Steps.{HasNoEntry};
+ghost use Rattle.residency.specs.DroppedPages.{DropsPage};
 
 use crate::kernel::Core;
 use memory::forget_pages;
@@ -19,9 +19,7 @@ impl<D, E, M: Levels> Core<D, E, M> {
     pub fn forget(&mut self, page: ObjectPage)
         requires fit { IsFit (picture_of self.old) }
         requires bare { HasNoEntry (picture_of self.old) page }
-        ensures fit { IsFit (picture_of self.new) }
-        ensures forgets { Forgets (picture_of self.old) (picture_of self.new) page }
-        ensures rest { KeepsBesidePlaces self.old self.new }
+        ensures { DropsPage self.old self.new page }
     {
         match self.cache.place(PageKey::Object(page)) {
             Place::Home => {}
@@ -35,9 +33,7 @@ impl<D, E, M: Levels> Core<D, E, M> {
         requires fit { IsFit (picture_of self.old) }
         requires bare { HasNoEntry (picture_of self.old) page }
         requires placed { (picture_of self.old).place (Object page) ≡ Frame frame }
-        ensures fit { IsFit (picture_of self.new) }
-        ensures forgets { Forgets (picture_of self.old) (picture_of self.new) page }
-        ensures rest { KeepsBesidePlaces self.old self.new }
+        ensures { DropsPage self.old self.new page }
     {
         self.cache.clean(PageKey::Object(page));
         self.cache.set_place(PageKey::Object(page), Place::Home);
@@ -49,9 +45,7 @@ impl<D, E, M: Levels> Core<D, E, M> {
     fn forget_slot(&mut self, page: ObjectPage, slot: SlotNo)
         requires fit { IsFit (picture_of self.old) }
         requires placed { (picture_of self.old).place (Object page) ≡ Slot slot }
-        ensures fit { IsFit (picture_of self.new) }
-        ensures forgets { Forgets (picture_of self.old) (picture_of self.new) page }
-        ensures rest { KeepsBesidePlaces self.old self.new }
+        ensures { DropsPage self.old self.new page }
     {
         self.cache.clean(PageKey::Object(page));
         self.cache.set_place(PageKey::Object(page), Place::Home);

@@ -52,7 +52,7 @@ pub struct Core<D, E, M: Levels> {
     pub ghost root_count: { length roots.items ≡ 65 },
     pub ghost region_count: { length regions.items ≡ 65 },
     pub ghost page_count: { length page_of.items ≡ frame_count frames },
-    pub ghost node_count: { CacheTable.frame_count cache ≡ frame_count frames },
+    pub ghost node_count: { CacheTable.cache_frames cache ≡ frame_count frames },
     pub ghost slot_count: { CacheTable.slot_count cache ≡ (slots_of swap).total },
     pub ghost hand_inside: { clock.hand < frame_count frames },
     /// There are no more files and file pages than the store's format has numbers for.
@@ -60,9 +60,7 @@ pub struct Core<D, E, M: Levels> {
 }
 
 impl<D, E, M: Levels> Core<D, E, M> {
-    ghost use Rattle.residency.specs.Picture.{picture_of};
-    ghost use Rattle.residency.specs.Parts.{IsFit};
-    ghost use Rattle.residency.specs.Calls.{IsStart};
+    ghost use Rattle.residency.specs.Calls.{StartsCore};
     ghost use Rattle.swap.specs.Slots as Slots;
 
     /// Files, `frames` frames of memory, 8 to 65,536, and room for 64 processes and for `slots` slots of swap, at most
@@ -79,16 +77,12 @@ impl<D, E, M: Levels> Core<D, E, M> {
     ) -> Result<Core<D, E, M>, (AllocError, FileStore<D>)>
     where
         E: Drop,
-        requires swap { Slots.IsFresh (slots_of swap) slots }
+        requires swap { Slots.AreNewSlots (slots_of swap) slots }
         requires files { AreBounded (files_of store) }
         requires least_frames { 8 ≤ frames }
         requires most_frames { frames ≤ 65536 }
         requires most_slots { slots ≤ 65536 }
-        ensures fit { IfOk result (λ core. IsFit (picture_of core)) }
-        ensures start { IfOk result (λ core. IsStart core frames slots) }
-        ensures store { IfOk result (λ core. core.store ≡ store) }
-        ensures swap { IfOk result (λ core. core.swap ≡ swap) }
-        ensures err { IfErr result (λ e. e.1 ≡ store) }
+        ensures { StartsCore store swap frames slots result }
     {
         match Room::<M>::new(alloc, frames, slots) {
             Ok(

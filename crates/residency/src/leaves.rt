@@ -12,7 +12,8 @@ ghost use Rattle.residency.specs.Parts.{IsFit};
 ghost use Rattle.residency.specs.declared.leaves.Change.{Change};
 ghost use Rattle.residency.specs.declared.leaves.Change.TheVariants as Kinds;
 ghost use Rattle.page_cache.specs.declared.place.Place.TheVariants.{Frame};
-ghost use Rattle.residency.specs.Leaves.{concerns, IsOver, IsFirstOver, IsChanged, Drops, Holds, ChangesLeaves, KeepsAllButFrames, IsClear, HasEntryOver, AreKinds, IsPageOver, key_after};
+ghost use Rattle.residency.specs.Leaves.{concerns, IsOver, IsChanged, Drops, Holds, HasEntryOver, AreKinds, IsPageOver, key_after};
+ghost use Rattle.residency.specs.LeafChanges.{FindsFirst, ClearsPage, ClearsProcess, ClearsFrame};
 
 use crate::kernel::{Core, PLACES};
 use frames::Role;
@@ -40,6 +41,26 @@ pub(crate) enum Held {
     Own(u64),
     /// That page of a file or an object.
     Filed(PageKey),
+}
+
+/// What is looked for: entries over a frame that a change is for.
+#[derive(Clone, Copy)]
+pub(crate) struct LeafSearch {
+    /// The frame.
+    pub(crate) frame: FrameNo,
+    /// What it holds.
+    pub(crate) held: Held,
+    /// The change.
+    pub(crate) change: Change,
+}
+
+/// A live process.
+#[derive(Clone, Copy)]
+pub(crate) struct LiveProcess {
+    /// Its number.
+    pub(crate) pid: usize,
+    /// Its root table.
+    pub(crate) root: FrameNo,
 }
 
 /// What the frame holds.
@@ -73,63 +94,54 @@ fn is_concerned(entry: Pte, change: Change) -> bool
 /// Whether the page has an entry over the frame that the change is for.
 fn is_over<D, E, M: Levels>(
     core: &Core<D, E, M>,
-    pid: usize,
-    root: FrameNo,
+    process: LiveProcess,
     page: Vpn,
-    frame: FrameNo,
-    change: Change,
+    search: &LeafSearch,
 ) -> bool
     requires fit { IsFit (picture_of core.now) }
-    requires lives { (picture_of core.now).root pid ≡ Some root.0 }
-    ensures over { result ≡ true → IsOver (picture_of core.now) change frame.0 pid page }
-    ensures other { result ≡ false → IsOver (picture_of core.now) change frame.0 pid page → ⊥ }
+    requires lives { (picture_of core.now).root process.pid ≡ Some process.root.0 }
+    ensures over { result ≡ true → IsOver (picture_of core.now) search.now.change search.now.frame.0 process.pid page }
+    ensures other { result ≡ false → IsOver (picture_of core.now) search.now.change search.now.frame.0 process.pid page → ⊥ }
 {
-    let entry = entry_number(&core.frames, root, page);
-    is_concerned(entry, change) && entry.frame() == u64::from(frame.0)
+    let entry = entry_number(&core.frames, process.root, page);
+    is_concerned(entry, search.change) && entry.frame() == u64::from(search.frame.0)
 }
 
 /// The first page of a process from a page on that has an entry over the frame that the change is for.
 pub(crate) fn find_in<D, E, M: Levels>(
     core: &Core<D, E, M>,
-    pid: usize,
-    root: FrameNo,
+    process: LiveProcess,
     low: u64,
-    held: Held,
-    frame: FrameNo,
-    change: Change,
+    search: &LeafSearch,
 ) -> Option<Vpn>
     requires fit { IsFit (picture_of core.now) }
-    requires lives { (picture_of core.now).root pid ≡ Some root.0 }
-    requires above { 0 < frame.0 }
-    requires number { pid < 65 }
-    requires holds { Holds (picture_of core.now) frame.0 held }
-    ensures some { IfSome result (λ k. IsFirstOver (picture_of core.now) change frame.0 pid low k) }
-    ensures none { IfNone result ((k : ℕ) → low ≤ k → IsPage (top_level M.mode) k → IsOver (picture_of core.now) change frame.0 pid k → ⊥) }
+    requires lives { (picture_of core.now).root process.pid ≡ Some process.root.0 }
+    requires above { 0 < search.now.frame.0 }
+    requires number { process.pid < 65 }
+    requires holds { Holds (picture_of core.now) search.now.frame.0 search.now.held }
+    ensures { FindsFirst (picture_of core.now) search.now process.pid low result }
 {
-    match held {
-        Held::Own(page) => find_own(core, pid, root, low, page, frame, change),
-        Held::Filed(page) => find_filed(core, pid, root, low, page, frame, change),
+    match search.held {
+        Held::Own(page) => find_own(core, process, low, page, search),
+        Held::Filed(page) => find_filed(core, process, low, page, search),
     }
 }
 
 /// The same where only one page can have such an entry.
 fn find_at<D, E, M: Levels>(
     core: &Core<D, E, M>,
-    pid: usize,
-    root: FrameNo,
+    process: LiveProcess,
     low: u64,
     page: Vpn,
-    frame: FrameNo,
-    change: Change,
+    search: &LeafSearch,
 ) -> Option<Vpn>
     requires fit { IsFit (picture_of core.now) }
-    requires lives { (picture_of core.now).root pid ≡ Some root.0 }
+    requires lives { (picture_of core.now).root process.pid ≡ Some process.root.0 }
     requires user { page < user_end M.mode }
-    requires only { (k : ℕ) → IsPage (top_level M.mode) k → IsOver (picture_of core.now) change frame.0 pid k → k ≡ page }
-    ensures some { IfSome result (λ k. IsFirstOver (picture_of core.now) change frame.0 pid low k) }
-    ensures none { IfNone result ((k : ℕ) → low ≤ k → IsPage (top_level M.mode) k → IsOver (picture_of core.now) change frame.0 pid k → ⊥) }
+    requires only { (k : ℕ) → IsPage (top_level M.mode) k → IsOver (picture_of core.now) search.now.change search.now.frame.0 process.pid k → k ≡ page }
+    ensures { FindsFirst (picture_of core.now) search.now process.pid low result }
 {
-    if low <= page.get() && is_over(core, pid, root, page, frame, change) {
+    if low <= page.get() && is_over(core, process, page, search) {
         Some(page)
     } else {
         None
@@ -139,27 +151,24 @@ fn find_at<D, E, M: Levels>(
 /// The same where the frame has the own copy of a page.
 fn find_own<D, E, M: Levels>(
     core: &Core<D, E, M>,
-    pid: usize,
-    root: FrameNo,
+    process: LiveProcess,
     low: u64,
     page: u64,
-    frame: FrameNo,
-    change: Change,
+    search: &LeafSearch,
 ) -> Option<Vpn>
     requires fit { IsFit (picture_of core.now) }
-    requires lives { (picture_of core.now).root pid ≡ Some root.0 }
-    requires above { 0 < frame.0 }
-    requires role { role_of core.now.frames frame.0 ≡ Roles.Private }
-    requires noted { (picture_of core.now).page_of frame.0 ≡ page }
-    ensures some { IfSome result (λ k. IsFirstOver (picture_of core.now) change frame.0 pid low k) }
-    ensures none { IfNone result ((k : ℕ) → low ≤ k → IsPage (top_level M.mode) k → IsOver (picture_of core.now) change frame.0 pid k → ⊥) }
+    requires lives { (picture_of core.now).root process.pid ≡ Some process.root.0 }
+    requires above { 0 < search.now.frame.0 }
+    requires role { role_of core.now.frames search.now.frame.0 ≡ Roles.Private }
+    requires noted { (picture_of core.now).page_of search.now.frame.0 ≡ page }
+    ensures { FindsFirst (picture_of core.now) search.now process.pid low result }
 {
     if page < low {
         return None;
     }
     match Vpn::new::<M>(page) {
         Some(at) => {
-            if is_over(core, pid, root, at, frame, change) {
+            if is_over(core, process, at, search) {
                 Some(at)
             } else {
                 None
@@ -173,48 +182,42 @@ fn find_own<D, E, M: Levels>(
 /// on what it holds.
 fn find_filed<D, E, M: Levels>(
     core: &Core<D, E, M>,
-    pid: usize,
-    root: FrameNo,
+    process: LiveProcess,
     low: u64,
     page: PageKey,
-    frame: FrameNo,
-    change: Change,
+    search: &LeafSearch,
 ) -> Option<Vpn>
     requires fit { IsFit (picture_of core.now) }
-    requires lives { (picture_of core.now).root pid ≡ Some root.0 }
-    requires above { 0 < frame.0 }
-    requires number { pid < 65 }
-    requires placed { (picture_of core.now).place page ≡ Frame frame }
-    ensures some { IfSome result (λ k. IsFirstOver (picture_of core.now) change frame.0 pid low k) }
-    ensures none { IfNone result ((k : ℕ) → low ≤ k → IsPage (top_level M.mode) k → IsOver (picture_of core.now) change frame.0 pid k → ⊥) }
+    requires lives { (picture_of core.now).root process.pid ≡ Some process.root.0 }
+    requires above { 0 < search.now.frame.0 }
+    requires number { process.pid < 65 }
+    requires placed { (picture_of core.now).place page ≡ Frame search.now.frame }
+    ensures { FindsFirst (picture_of core.now) search.now process.pid low result }
 {
-    match memory::page_over(&core.frames, frame) {
-        Some(at) => find_at(core, pid, root, low, at, frame, change),
-        None => find_standing(core, pid, root, low, page, frame, change),
+    match memory::page_over(&core.frames, search.frame) {
+        Some(at) => find_at(core, process, low, at, search),
+        None => find_standing(core, process, low, page, search),
     }
 }
 
 /// The same by the runs of the process.
 fn find_standing<D, E, M: Levels>(
     core: &Core<D, E, M>,
-    pid: usize,
-    root: FrameNo,
+    process: LiveProcess,
     low: u64,
     page: PageKey,
-    frame: FrameNo,
-    change: Change,
+    search: &LeafSearch,
 ) -> Option<Vpn>
     requires fit { IsFit (picture_of core.now) }
-    requires lives { (picture_of core.now).root pid ≡ Some root.0 }
-    requires above { 0 < frame.0 }
-    requires number { pid < 65 }
-    requires placed { (picture_of core.now).place page ≡ Frame frame }
-    ensures some { IfSome result (λ k. IsFirstOver (picture_of core.now) change frame.0 pid low k) }
-    ensures none { IfNone result ((k : ℕ) → low ≤ k → IsPage (top_level M.mode) k → IsOver (picture_of core.now) change frame.0 pid k → ⊥) }
+    requires lives { (picture_of core.now).root process.pid ≡ Some process.root.0 }
+    requires above { 0 < search.now.frame.0 }
+    requires number { process.pid < 65 }
+    requires placed { (picture_of core.now).place page ≡ Frame search.now.frame }
+    ensures { FindsFirst (picture_of core.now) search.now process.pid low result }
 {
     let mut from = low;
-    while let Some(at) = core.regions[pid].first_on(from, page) {
-        if is_over(core, pid, root, at, frame, change) {
+    while let Some(at) = core.regions[process.pid].first_on(from, page) {
+        if is_over(core, process, at, search) {
             return Some(at);
         }
         from = at.get() + 1;
@@ -280,77 +283,52 @@ fn offset_from(first: PageKey, page: PageKey) -> Option<u64>
 /// Changes the entry of one page, which is over the frame.
 fn change_at<D, E, M: Levels>(
     core: &mut Core<D, E, M>,
-    pid: usize,
-    root: FrameNo,
+    process: LiveProcess,
     page: Vpn,
-    frame: FrameNo,
-    change: Change,
+    search: &LeafSearch,
 )
     requires fit { IsFit (picture_of core.old) }
-    requires lives { (picture_of core.old).root pid ≡ Some root.0 }
+    requires lives { (picture_of core.old).root process.pid ≡ Some process.root.0 }
     requires user { page < user_end M.mode }
-    requires over { IsOver (picture_of core.old) change frame.0 pid page }
-    requires filed { change ≡ Kinds.Forget → role_of core.old.frames frame.0 ≡ Roles.Cache }
-    ensures fit { IsFit (picture_of core.new) }
-    ensures beside { KeepsAllButFrames core.old core.new }
-    ensures changes { ChangesLeaves change frame.0 (picture_of core.old) (picture_of core.new) }
-    ensures clear { IsOver (picture_of core.new) change frame.0 pid page → ⊥ }
+    requires over { IsOver (picture_of core.old) search.now.change search.now.frame.0 process.pid page }
+    requires filed { search.now.change ≡ Kinds.Forget → role_of core.old.frames search.now.frame.0 ≡ Roles.Cache }
+    ensures { ClearsPage search.now.change search.now.frame.0 process.pid page core.old core.new }
 {
-    let entry = changed(entry(&core.frames, root, page), change);
-    set(&mut core.frames, root, page, entry);
+    let entry = changed(entry(&core.frames, process.root, page), search.change);
+    set(&mut core.frames, process.root, page, entry);
 }
 
 /// Changes so each entry of a process that is over the frame.
-fn change_in<D, E, M: Levels>(
-    core: &mut Core<D, E, M>,
-    pid: usize,
-    root: FrameNo,
-    held: Held,
-    frame: FrameNo,
-    change: Change,
-)
+fn change_in<D, E, M: Levels>(core: &mut Core<D, E, M>, process: LiveProcess, search: &LeafSearch)
     requires fit { IsFit (picture_of core.old) }
-    requires lives { (picture_of core.old).root pid ≡ Some root.0 }
-    requires above { 0 < frame.0 }
-    requires number { pid < 65 }
-    requires holds { Holds (picture_of core.old) frame.0 held }
-    requires filed { change ≡ Kinds.Forget → role_of core.old.frames frame.0 ≡ Roles.Cache }
-    ensures fit { IsFit (picture_of core.new) }
-    ensures beside { KeepsAllButFrames core.old core.new }
-    ensures changes { ChangesLeaves change frame.0 (picture_of core.old) (picture_of core.new) }
-    ensures clear { (page : ℕ) → IsPage (top_level M.mode) page → IsOver (picture_of core.new) change frame.0 pid page → ⊥ }
+    requires lives { (picture_of core.old).root process.pid ≡ Some process.root.0 }
+    requires above { 0 < search.now.frame.0 }
+    requires number { process.pid < 65 }
+    requires holds { Holds (picture_of core.old) search.now.frame.0 search.now.held }
+    requires filed { search.now.change ≡ Kinds.Forget → role_of core.old.frames search.now.frame.0 ≡ Roles.Cache }
+    ensures { ClearsProcess search.now.change search.now.frame.0 process.pid core.old core.new }
 {
     let mut low = 0;
-    while let Some(page) = find_in(core, pid, root, low, held, frame, change) {
-        change_at(core, pid, root, page, frame, change);
+    while let Some(page) = find_in(core, process, low, search) {
+        change_at(core, process, page, search);
         low = page.get() + 1;
     }
 }
 
 /// The same for the process of that number, where it lives. Entries over the frame are in the trees of roots of these kinds alone.
-fn change_of<D, E, M: Levels>(
-    core: &mut Core<D, E, M>,
-    pid: usize,
-    kinds: u64,
-    held: Held,
-    frame: FrameNo,
-    change: Change,
-)
-    requires kinds { AreKinds (picture_of core.old) change frame.0 kinds }
+fn change_of<D, E, M: Levels>(core: &mut Core<D, E, M>, pid: usize, kinds: u64, search: &LeafSearch)
+    requires kinds { AreKinds (picture_of core.old) search.now.change search.now.frame.0 kinds }
     requires fit { IsFit (picture_of core.old) }
-    requires above { 0 < frame.0 }
+    requires above { 0 < search.now.frame.0 }
     requires number { pid < 65 }
-    requires holds { Holds (picture_of core.old) frame.0 held }
-    requires filed { change ≡ Kinds.Forget → role_of core.old.frames frame.0 ≡ Roles.Cache }
-    ensures fit { IsFit (picture_of core.new) }
-    ensures beside { KeepsAllButFrames core.old core.new }
-    ensures changes { ChangesLeaves change frame.0 (picture_of core.old) (picture_of core.new) }
-    ensures clear { (page : ℕ) → IsPage (top_level M.mode) page → IsOver (picture_of core.new) change frame.0 pid page → ⊥ }
+    requires holds { Holds (picture_of core.old) search.now.frame.0 search.now.held }
+    requires filed { search.now.change ≡ Kinds.Forget → role_of core.old.frames search.now.frame.0 ≡ Roles.Cache }
+    ensures { ClearsProcess search.now.change search.now.frame.0 pid core.old core.new }
 {
     match core.roots[pid] {
         Some(root) => {
             if is_kind(kinds, root) {
-                change_in(core, pid, root, held, frame, change);
+                change_in(core, LiveProcess { pid, root }, search);
             }
         }
         None => {}
@@ -364,16 +342,17 @@ pub fn change_leaves<D, E, M: Levels>(core: &mut Core<D, E, M>, frame: FrameNo, 
     requires inside { IsFrame core.old.frames frame.0 }
     requires data { is_data (role_of core.old.frames frame.0) ≡ true }
     requires filed { change ≡ Kinds.Forget → role_of core.old.frames frame.0 ≡ Roles.Cache }
-    ensures fit { IsFit (picture_of core.new) }
-    ensures beside { KeepsAllButFrames core.old core.new }
-    ensures changes { ChangesLeaves change frame.0 (picture_of core.old) (picture_of core.new) }
-    ensures clear { IsClear (picture_of core.new) change frame.0 }
-    ensures above { 0 < frame.0 }
+    ensures { ClearsFrame change frame.0 core.old core.new }
 {
     let held = held_in(core, frame);
     let kinds = kinds_of(core, held, frame);
+    let search = LeafSearch {
+        frame,
+        held,
+        change,
+    };
     for pid in 1..PLACES {
-        change_of(core, pid, kinds, held, frame, change);
+        change_of(core, pid, kinds, &search);
     }
 }
 
@@ -383,11 +362,7 @@ pub(crate) fn forget_leaves<D, E, M: Levels>(core: &mut Core<D, E, M>, frame: Fr
     requires fit { IsFit (picture_of core.old) }
     requires inside { IsFrame core.old.frames frame.0 }
     requires filed { role_of core.old.frames frame.0 ≡ Roles.Cache }
-    ensures fit { IsFit (picture_of core.new) }
-    ensures beside { KeepsAllButFrames core.old core.new }
-    ensures changes { ChangesLeaves Kinds.Forget frame.0 (picture_of core.old) (picture_of core.new) }
-    ensures clear { IsClear (picture_of core.new) Kinds.Forget frame.0 }
-    ensures above { 0 < frame.0 }
+    ensures { ClearsFrame Kinds.Forget frame.0 core.old core.new }
 {
     change_leaves(core, frame, Change::Forget);
     forget_pages(&mut core.frames, frame);
@@ -419,8 +394,13 @@ pub(crate) fn has_leaf<D, E, M: Levels>(
 {
     let held = held_in(core, frame);
     let kinds = kinds_of(core, held, frame);
+    let search = LeafSearch {
+        frame,
+        held,
+        change,
+    };
     for pid in 1..PLACES {
-        if has_leaf_in(core, pid, kinds, held, frame, change) {
+        if has_leaf_in(core, pid, kinds, &search) {
             return true;
         }
     }
@@ -432,17 +412,15 @@ fn has_leaf_in<D, E, M: Levels>(
     core: &Core<D, E, M>,
     pid: usize,
     kinds: u64,
-    held: Held,
-    frame: FrameNo,
-    change: Change,
+    search: &LeafSearch,
 ) -> bool
-    requires kinds { AreKinds (picture_of core.now) change frame.0 kinds }
+    requires kinds { AreKinds (picture_of core.now) search.now.change search.now.frame.0 kinds }
     requires fit { IsFit (picture_of core.now) }
-    requires above { 0 < frame.0 }
+    requires above { 0 < search.now.frame.0 }
     requires number { pid < 65 }
-    requires holds { Holds (picture_of core.now) frame.0 held }
-    ensures some { result ≡ true → HasEntryOver (picture_of core.now) change frame.0 }
-    ensures none { result ≡ false → (page : ℕ) → IsPage (top_level M.mode) page → IsOver (picture_of core.now) change frame.0 pid page → ⊥ }
+    requires holds { Holds (picture_of core.now) search.now.frame.0 search.now.held }
+    ensures some { result ≡ true → HasEntryOver (picture_of core.now) search.now.change search.now.frame.0 }
+    ensures none { result ≡ false → (page : ℕ) → IsPage (top_level M.mode) page → IsOver (picture_of core.now) search.now.change search.now.frame.0 pid page → ⊥ }
 {
     let Some(root) = core.roots[pid] else {
         return false;
@@ -450,7 +428,7 @@ fn has_leaf_in<D, E, M: Levels>(
     if !is_kind(kinds, root) {
         return false;
     }
-    find_in(core, pid, root, 0, held, frame, change).is_some()
+    find_in(core, LiveProcess { pid, root }, 0, search).is_some()
 }
 
 /// The entry changed.

@@ -31,4 +31,4 @@ mod views;
 pub use kernel::{Core, PLACES};
 pub use leaves::{Change, change_leaves, page_over};
 pub use obtaining::obtain;
-pub use views::{Content, content_of, next_over};
+pub use views::{Content, content_of, next_over, root_of};

@@ -1,12 +1,11 @@
 //! The choice of a frame to be given up.
-ghost use Rattle.std.specs.Prelude.{◌≡◌, ◌≢◌, ◌<◌, ◌≤◌, ◌+◌, ◌*◌, ◌↔◌, ℕ, true, IfOk, OnErr};
+ghost use Rattle.std.specs.Prelude.{◌≡◌, ◌≢◌, ◌<◌, ◌+◌, ◌↔◌, ℕ, true};
 ghost use Rattle.std.proofs.Common.{refl, ◌∙◌};
-ghost use Rattle.frames.specs.FrameTable.{frame_count, IsFrame, IsFull, role_of};
-ghost use Rattle.swap.specs.Slots.{slots_of};
-ghost use Rattle.residency.specs.Picture.{picture_of, is_data};
+ghost use Rattle.frames.specs.FrameTable.{frame_count, IsFrame};
+ghost use Rattle.residency.specs.Picture.{picture_of};
 ghost use Rattle.residency.specs.Parts.{IsFit};
-ghost use Rattle.residency.specs.Calls.{Frees, IsSpareable, NeedsSlot};
-ghost use Rattle.residency.specs.Evictions.{IsEvictable, IsAccessed, ClearsMarks, Looked};
+ghost use Rattle.residency.specs.Calls.{IsSpareable, NeedsSlot};
+ghost use Rattle.residency.specs.Evictions.{FindsVictim, IsAccessed, IsEvictable};
 
 use crate::kernel::Core;
 use crate::leaves::{Change, change_leaves, has_leaf};
@@ -112,14 +111,7 @@ pub(crate) fn choose<D, E, M: Levels>(
     keep: Option<FrameNo>,
 ) -> Result<FrameNo, NoVictim>
     requires fit { IsFit (picture_of core.old) }
-    ensures fit { IsFit (picture_of core.new) }
-    ensures frees { Frees (picture_of core.old) (picture_of core.new) keep }
-    ensures marks { ClearsMarks (picture_of core.old) (picture_of core.new) }
-    ensures looked { Looked core.old core.new }
-    ensures full { IsFull core.old.frames → IsFull core.new.frames }
-    ensures found { IfOk result (λ n. IsEvictable (picture_of core.new) keep n.0) }
-    ensures none { OnErr result ((n : ℕ) → IsFrame core.new.frames n → IsEvictable (picture_of core.new) keep n → ⊥) }
-    ensures looks { core.new.looks.number ≤ core.old.looks.number + 2 * frame_count core.old.frames }
+    ensures { FindsVictim core.old core.new keep result }
 {
     core.keep = keep;
     let mut clock = core.clock;

@@ -1,15 +1,15 @@
 //! The shares of a private frame, handed over to a slot one process after the other.
-ghost use Rattle.std.specs.Prelude.{◌≡◌, ◌≢◌, ◌<◌, ◌+◌, ◌^◌, ℕ, Some, true, false};
+ghost use Rattle.std.specs.Prelude.{◌≡◌, ◌≢◌, ◌<◌, Some, true, false};
 ghost use Rattle.vm_types.specs.Limits.{user_end};
-ghost use Rattle.frames.specs.declared.role.Role.TheVariants as Roles;
-ghost use Rattle.frames.specs.FrameTable.{IsFrame, role_of, count_of, bytes_of};
+ghost use Rattle.frames.specs.FrameTable.{IsFrame, bytes_of};
 ghost use Rattle.swap.specs.Slots.{IsReady};
-ghost use Rattle.residency.specs.Seats.{InFrame, InSlot, seat, is_private};
+ghost use Rattle.residency.specs.Seats.{InFrame, seat};
 ghost use Rattle.residency.specs.Picture.{picture_of, entry};
-ghost use Rattle.residency.specs.Parts.{IsFit};
-ghost use Rattle.residency.specs.Evictions.{HasShare, IsHanding, Spares, KeepsPlain};
+ghost use Rattle.residency.specs.Evictions.{HasShare, IsHanding};
+ghost use Rattle.residency.specs.Handovers.{GivesShare, PassesShare, HandsOver};
 
 use crate::kernel::{Core, PLACES};
+use crate::leaves::LiveProcess;
 use disk_model::SectorDisk;
 use memory::{entry_number, set};
 use page_tables::Entry;
@@ -27,58 +27,39 @@ fn is_own(entry: Pte, frame: FrameNo) -> bool
 /// Gives a process, which has the frame at that page, the share of the slot in place of its share of the frame.
 fn give_share<D, E, M: Levels>(
     core: &mut Core<D, E, M>,
-    pid: usize,
-    root: FrameNo,
+    process: LiveProcess,
     page: Vpn,
     frame: FrameNo,
     slot: SlotNo,
 )
     requires share { HasShare (picture_of core.old) slot.0 page }
-    requires lives { (picture_of core.old).root pid ≡ Some root.0 }
+    requires lives { (picture_of core.old).root process.pid ≡ Some process.root.0 }
     requires user { page < user_end M.mode }
-    requires from { seat (entry (picture_of core.old) pid page) ≡ Some (InFrame frame.0) }
+    requires from { seat (entry (picture_of core.old) process.pid page) ≡ Some (InFrame frame.0) }
     requires same { (picture_of core.old).slots.bytes slot.0 ≡ bytes_of core.old.frames frame.0 }
-    ensures fit { IsFit (picture_of core.new) }
-    ensures swap { core.new.swap ≡ core.old.swap }
-    ensures spares { Spares frame.0 slot.0 (picture_of core.old) (picture_of core.new) }
-    ensures plain { KeepsPlain core.old core.new }
-    ensures lowered { count_of core.new.frames frame.0 + 1 ≡ count_of core.old.frames frame.0 }
-    ensures moved { seat (entry (picture_of core.new) pid page) ≡ Some (InSlot slot.0) }
-    ensures others { (q : ℕ) → q ≢ pid → entry (picture_of core.new) q page ≡ entry (picture_of core.old) q page }
-    ensures noted { core.new.page_of ≡ core.old.page_of }
-    ensures kept { 1 < count_of core.old.frames frame.0 → (role_of core.new.frames frame.0 ≡ role_of core.old.frames frame.0) × (bytes_of core.new.frames frame.0 ≡ bytes_of core.old.frames frame.0) }
-    ensures freed { count_of core.old.frames frame.0 ≡ 1 → role_of core.new.frames frame.0 ≡ Roles.Free }
+    ensures { GivesShare frame.0 slot.0 process.pid page core.old core.new }
 {
-    set(&mut core.frames, root, page, Entry::Swapped(slot));
+    set(&mut core.frames, process.root, page, Entry::Swapped(slot));
     core.frames.release(frame);
 }
 
 /// The same, and the slot has a share for another process then, where the frame has one left; whether nobody has the frame.
 fn pass_share<D, E: SectorDisk, M: Levels>(
     core: &mut Core<D, E, M>,
-    pid: usize,
-    root: FrameNo,
+    process: LiveProcess,
     page: Vpn,
     frame: FrameNo,
     slot: SlotNo,
 ) -> bool
     requires ready { IsReady E.SectorDisk core.old.swap }
     requires handing { IsHanding (picture_of core.old) frame.0 slot.0 page }
-    requires lives { (picture_of core.old).root pid ≡ Some root.0 }
+    requires lives { (picture_of core.old).root process.pid ≡ Some process.root.0 }
     requires user { page < user_end M.mode }
-    requires from { seat (entry (picture_of core.old) pid page) ≡ Some (InFrame frame.0) }
-    ensures ready { IsReady E.SectorDisk core.new.swap }
-    ensures spares { Spares frame.0 slot.0 (picture_of core.old) (picture_of core.new) }
-    ensures plain { KeepsPlain core.old core.new }
-    ensures pages { core.new.swap.pages ≡ core.old.swap.pages }
-    ensures fit { result ≡ true → IsFit (picture_of core.new) }
-    ensures free { result ≡ true → role_of core.new.frames frame.0 ≡ Roles.Free }
-    ensures handing { result ≡ false → IsHanding (picture_of core.new) frame.0 slot.0 page }
-    ensures moved { seat (entry (picture_of core.new) pid page) ≢ Some (InFrame frame.0) }
-    ensures others { (q : ℕ) → q ≢ pid → entry (picture_of core.new) q page ≡ entry (picture_of core.old) q page }
+    requires from { seat (entry (picture_of core.old) process.pid page) ≡ Some (InFrame frame.0) }
+    ensures { PassesShare E.SectorDisk frame.0 slot.0 process.pid page core.old core.new result }
 {
     let alone = core.frames.count(frame) == 1;
-    give_share(core, pid, root, page, frame, slot);
+    give_share(core, process, page, frame, slot);
     if alone {
         return true;
     }
@@ -98,15 +79,7 @@ fn hand_one<D, E: SectorDisk, M: Levels>(
     requires handing { IsHanding (picture_of core.old) frame.0 slot.0 page }
     requires number { pid < 65 }
     requires user { page < user_end M.mode }
-    ensures ready { IsReady E.SectorDisk core.new.swap }
-    ensures spares { Spares frame.0 slot.0 (picture_of core.old) (picture_of core.new) }
-    ensures plain { KeepsPlain core.old core.new }
-    ensures pages { core.new.swap.pages ≡ core.old.swap.pages }
-    ensures fit { result ≡ true → IsFit (picture_of core.new) }
-    ensures free { result ≡ true → role_of core.new.frames frame.0 ≡ Roles.Free }
-    ensures handing { result ≡ false → IsHanding (picture_of core.new) frame.0 slot.0 page }
-    ensures moved { seat (entry (picture_of core.new) pid page) ≢ Some (InFrame frame.0) }
-    ensures others { (q : ℕ) → q ≢ pid → entry (picture_of core.new) q page ≡ entry (picture_of core.old) q page }
+    ensures { PassesShare E.SectorDisk frame.0 slot.0 pid page core.old core.new result }
 {
     let Some(root) = core.roots[pid] else {
         return false;
@@ -114,7 +87,7 @@ fn hand_one<D, E: SectorDisk, M: Levels>(
     if !is_own(entry_number(&core.frames, root, page), frame) {
         return false;
     }
-    pass_share(core, pid, root, page, frame, slot)
+    pass_share(core, LiveProcess { pid, root }, page, frame, slot)
 }
 
 /// Gives each process that has the private frame the share of a slot in place of it. The slot has one share, for which no
@@ -127,12 +100,7 @@ pub(crate) fn hand_over<D, E: SectorDisk, M: Levels>(
     requires ready { IsReady E.SectorDisk core.old.swap }
     requires inside { IsFrame core.old.frames frame.0 }
     requires handing { IsHanding (picture_of core.old) frame.0 slot.0 ((picture_of core.old).page_of frame.0) }
-    ensures fit { IsFit (picture_of core.new) }
-    ensures ready { IsReady E.SectorDisk core.new.swap }
-    ensures spares { Spares frame.0 slot.0 (picture_of core.old) (picture_of core.new) }
-    ensures free { role_of core.new.frames frame.0 ≡ Roles.Free }
-    ensures plain { KeepsPlain core.old core.new }
-    ensures pages { core.new.swap.pages ≡ core.old.swap.pages }
+    ensures { HandsOver E.SectorDisk frame.0 slot.0 core.old core.new }
 {
     let Some(page) = Vpn::new::<M>(core.page_of[frame.0 as usize]) else {
         unreachable!()

@@ -1,22 +1,14 @@
 //! What the calls above do to memory, a step at a time.
-ghost use Rattle.std.specs.Prelude.{◌≡◌, ◌≢◌, ℕ, true, Option, None, IfOk, IfErr, OnOk, OnErr};
-ghost use Rattle.disk_model.specs.Moments.{AsksOnly, Nothing};
+ghost use Rattle.std.specs.Prelude.{◌≡◌, true};
 ghost use Rattle.vm_types.specs.declared.object.PageKey.TheVariants.{File, Object};
 ghost use Rattle.vm_types.specs.Objects.{is_named};
-ghost use Rattle.vm_types.specs.View.{zero_page};
 ghost use Rattle.file_store.specs.Standing.{IsPageOf};
-ghost use Rattle.file_store.specs.Store.{IsReadyStore, IsSectorOf};
-ghost use Rattle.frames.specs.FrameTable.{bytes_of, IsFull};
+ghost use Rattle.file_store.specs.Store.{IsReadyStore};
 ghost use Rattle.page_cache.specs.declared.place.Place.TheVariants.{Home, Slot};
-ghost use Rattle.swap.specs.Slots.{IsReady, IsSectorOfSlot};
-ghost use Rattle.vm_types.specs.declared.refusal.Stall.TheVariants as Stalls;
+ghost use Rattle.swap.specs.Slots.{IsReady};
 ghost use Rattle.residency.specs.Picture.{picture_of};
 ghost use Rattle.residency.specs.Parts.{IsFit};
-ghost use Rattle.residency.specs.Capacity.{IsShort};
-ghost use Rattle.residency.specs.Ages.{GivesForTables, WantsFrame, KeepsRoles, KeepsRolesBut};
-ghost use Rattle.residency.specs.Calls.{Frees, KeepsRest, KeepsBesideFiles, Refuses, AsksSwap, AsksSwapAlso, AsksOneSlot, UsesDevice, ObtainsOwn, ObtainsTable, ObtainsCached};
-ghost use Rattle.residency.specs.Stalls.{HasStallCause, HasReadCause};
-ghost use Rattle.residency.specs.Reading.{ReadsStore, IsRead};
+ghost use Rattle.residency.specs.AskedFrames.{ReadsFromHome, ReadsFromSlot, TakesBlank, TakesOwnFrame, TakesTable};
 
 use crate::kernel::Core;
 use crate::obtaining::obtain;
@@ -35,18 +27,7 @@ impl<D, E: SectorDisk, M: Levels> Core<D, E, M> {
     pub fn take_own(&mut self, page: Vpn, keep: Option<FrameNo>) -> Result<FrameNo, Stall>
         requires fit { IsFit (picture_of self.old) }
         requires swap { IsReady E.SectorDisk self.old.swap }
-        ensures taken { IfOk result (λ n. ObtainsOwn (picture_of self.old) (picture_of self.new) keep n.0 page) }
-        ensures fit { OnErr result (IsFit (picture_of self.new)) }
-        ensures frees { OnErr result (Frees (picture_of self.old) (picture_of self.new) keep) }
-        ensures tried { OnErr result ((v : ℕ) × WantsFrame (picture_of self.old) (picture_of self.new) v) }
-        ensures swap { IsReady E.SectorDisk self.new.swap }
-        ensures rest { KeepsRest self.old self.new }
-        ensures asked { AsksSwap E.SectorDisk self.old self.new keep }
-        ensures one { OnOk result (AsksOneSlot E.SectorDisk self.old self.new Nothing) }
-        ensures device { UsesDevice E.SectorDisk self.old.swap.pages.disk self.new.swap.pages.disk }
-        ensures refuses { IfErr result (Refuses (picture_of self.new) keep) }
-        ensures short { IfErr result (IsShort (picture_of self.new)) }
-        ensures cause { HasStallCause E.SectorDisk self.old self.new result }
+        ensures { TakesOwnFrame E.SectorDisk self.old self.new page keep result }
     {
         obtain(self, keep)?;
         match self.frames.take(Role::Private) {
@@ -65,22 +46,7 @@ impl<D, E: SectorDisk, M: Levels> Core<D, E, M> {
     pub fn take_table(&mut self) -> Result<FrameNo, Stall>
         requires fit { IsFit (picture_of self.old) }
         requires swap { IsReady E.SectorDisk self.old.swap }
-        ensures taken { IfOk result (λ n. ObtainsTable (picture_of self.old) (picture_of self.new) n.0) }
-        ensures gives { OnOk result (GivesForTables (picture_of self.old) (picture_of self.new) None) }
-        ensures only { IfOk result (λ n. KeepsRolesBut (picture_of self.old) (picture_of self.new) n.0) }
-        ensures tried { OnErr result ((tried : Option ℕ) × GivesForTables (picture_of self.old) (picture_of self.new) tried) }
-        ensures still { OnErr result (KeepsRoles (picture_of self.old) (picture_of self.new)) }
-        ensures full { OnErr result (IsFull self.new.frames) }
-        ensures fit { OnErr result (IsFit (picture_of self.new)) }
-        ensures frees { OnErr result (Frees (picture_of self.old) (picture_of self.new) None) }
-        ensures swap { IsReady E.SectorDisk self.new.swap }
-        ensures rest { KeepsRest self.old self.new }
-        ensures asked { AsksSwap E.SectorDisk self.old self.new None }
-        ensures one { OnOk result (AsksOneSlot E.SectorDisk self.old self.new Nothing) }
-        ensures device { UsesDevice E.SectorDisk self.old.swap.pages.disk self.new.swap.pages.disk }
-        ensures refuses { IfErr result (Refuses (picture_of self.new) None) }
-        ensures short { IfErr result (IsShort (picture_of self.new)) }
-        ensures cause { HasStallCause E.SectorDisk self.old self.new result }
+        ensures { TakesTable E.SectorDisk self.old self.new result }
     {
         obtain(self, None)?;
         match take_table(&mut self.frames) {
@@ -98,19 +64,7 @@ impl<D, E: SectorDisk, M: Levels> Core<D, E, M> {
         requires fit { IsFit (picture_of self.old) }
         requires swap { IsReady E.SectorDisk self.old.swap }
         requires there { (picture_of self.old).place page ≡ Slot slot }
-        ensures brought { IfOk result (λ n. ObtainsCached (picture_of self.old) (picture_of self.new) page n.0) }
-        ensures same { E.keeps_model self.new.swap.pages.disk → IfOk result (λ n. bytes_of self.new.frames n.0 ≡ (picture_of self.old).slots.bytes slot.0) }
-        ensures fit { IsFit (picture_of self.new) }
-        ensures frees { OnErr result (Frees (picture_of self.old) (picture_of self.new) None) }
-        ensures tried { OnErr result ((v : ℕ) × WantsFrame (picture_of self.old) (picture_of self.new) v) }
-        ensures swap { IsReady E.SectorDisk self.new.swap }
-        ensures rest { KeepsRest self.old self.new }
-        ensures asked { AsksSwapAlso E.SectorDisk self.old self.new None (IsSectorOfSlot slot.0) }
-        ensures one { OnOk result (AsksOneSlot E.SectorDisk self.old self.new (IsSectorOfSlot slot.0)) }
-        ensures device { UsesDevice E.SectorDisk self.old.swap.pages.disk self.new.swap.pages.disk }
-        ensures refuses { IfErr result (Refuses (picture_of self.new) None) }
-        ensures short { IfErr result (IsShort (picture_of self.new)) }
-        ensures cause { HasStallCause E.SectorDisk self.old self.new result }
+        ensures { ReadsFromSlot E.SectorDisk self.old self.new page slot result }
     {
         obtain(self, None)?;
         let Ok(frame) = self.frames.take(Role::Cache) else {
@@ -139,19 +93,7 @@ impl<D, E: SectorDisk, M: Levels> Core<D, E, M> {
         requires swap { IsReady E.SectorDisk self.old.swap }
         requires named { is_named (picture_of self.old).at page.object page.page ≡ true }
         requires home { (picture_of self.old).place (Object page) ≡ Home }
-        ensures brought { IfOk result (λ n. ObtainsCached (picture_of self.old) (picture_of self.new) (Object page) n.0) }
-        ensures blank { IfOk result (λ n. bytes_of self.new.frames n.0 ≡ zero_page) }
-        ensures fit { IsFit (picture_of self.new) }
-        ensures frees { OnErr result (Frees (picture_of self.old) (picture_of self.new) None) }
-        ensures tried { OnErr result ((v : ℕ) × WantsFrame (picture_of self.old) (picture_of self.new) v) }
-        ensures swap { IsReady E.SectorDisk self.new.swap }
-        ensures rest { KeepsRest self.old self.new }
-        ensures asked { AsksSwap E.SectorDisk self.old self.new None }
-        ensures one { OnOk result (AsksOneSlot E.SectorDisk self.old self.new Nothing) }
-        ensures device { UsesDevice E.SectorDisk self.old.swap.pages.disk self.new.swap.pages.disk }
-        ensures refuses { IfErr result (Refuses (picture_of self.new) None) }
-        ensures short { IfErr result (IsShort (picture_of self.new)) }
-        ensures cause { HasStallCause E.SectorDisk self.old self.new result }
+        ensures { TakesBlank E.SectorDisk self.old self.new (Object page) result }
     {
         obtain(self, None)?;
         let Ok(frame) = self.frames.take(Role::Cache) else {
@@ -175,23 +117,7 @@ impl<D: SectorDisk, E: SectorDisk, M: Levels> Core<D, E, M> {
         requires swap { IsReady E.SectorDisk self.old.swap }
         requires inside { IsPageOf (picture_of self.old).files page.file page.page }
         requires home { (picture_of self.old).place (File page) ≡ Home }
-        ensures brought { IfOk result (λ n. ObtainsCached (picture_of self.old) (picture_of self.new) (File page) n.0) }
-        ensures read { IfOk result (λ n. IsRead D.SectorDisk self.old.store.disk self.new.store.disk page (bytes_of self.new.frames n.0)) }
-        ensures fit { IsFit (picture_of self.new) }
-        ensures frees { OnErr result (Frees (picture_of self.old) (picture_of self.new) None) }
-        ensures tried { OnErr result ((v : ℕ) × WantsFrame (picture_of self.old) (picture_of self.new) v) }
-        ensures store { IsReadyStore D.SectorDisk self.new.store }
-        ensures swap { IsReady E.SectorDisk self.new.swap }
-        ensures rest { KeepsBesideFiles self.old self.new }
-        ensures asks { AsksOnly D.SectorDisk (IsSectorOf self.old.store page) self.old.store.disk self.new.store.disk }
-        ensures reads { ReadsStore D.SectorDisk self.old.store self.new.store }
-        ensures asked { AsksSwap E.SectorDisk self.old self.new None }
-        ensures one { OnOk result (AsksOneSlot E.SectorDisk self.old self.new Nothing) }
-        ensures device { UsesDevice E.SectorDisk self.old.swap.pages.disk self.new.swap.pages.disk }
-        ensures refuses { IfErr result (λ stall. stall ≢ Stalls.StoreDevice → Refuses (picture_of self.new) None stall) }
-        ensures unread { IfErr result (λ stall. stall ≢ Stalls.StoreDevice → self.new.store ≡ self.old.store) }
-        ensures short { IfErr result (IsShort (picture_of self.new)) }
-        ensures cause { HasReadCause D.SectorDisk E.SectorDisk self.old self.new result }
+        ensures { ReadsFromHome D.SectorDisk E.SectorDisk self.old self.new page result }
     {
         obtain(self, None)?;
         let Ok(frame) = self.frames.take(Role::Cache) else {

@@ -1,5 +1,5 @@
 //! What a frame holds, and which pages have it, told to those who change nothing.
-ghost use Rattle.std.specs.Prelude.{◌≡◌, ◌≤◌, ℕ, true, IfSome, IfNone};
+ghost use Rattle.std.specs.Prelude.{◌≡◌, ◌≢◌, ◌≤◌, ℕ, true, None, Some, IfSome, IfNone};
 ghost use Rattle.vm_types.specs.Limits.{top_level};
 ghost use Rattle.frames.specs.FrameTable.{IsFrame, role_of};
 ghost use Rattle.page_tables.specs.Tree.{IsPage};
@@ -10,7 +10,7 @@ ghost use Rattle.residency.specs.Leaves.{IsOver, IsFirstOver};
 ghost use Rattle.residency.specs.Contents.{HasContent};
 
 use crate::kernel::Core;
-use crate::leaves::{Change, Held, find_in, held_in};
+use crate::leaves::{Change, Held, LeafSearch, LiveProcess, find_in, held_in};
 use vm_types::{FrameNo, Levels, PageKey, Pid, Vpn};
 
 /// What a frame of data holds.
@@ -20,6 +20,17 @@ pub enum Content {
     Own(u64),
     /// That page of a file or an object.
     Page(PageKey),
+}
+
+/// The root table of a live process.
+pub fn root_of<D, E, M: Levels>(core: &Core<D, E, M>, pid: Pid) -> FrameNo
+    requires live { (picture_of core.now).root pid ≢ None }
+    ensures { (picture_of core.now).root pid ≡ Some result.0 }
+{
+    match core.root(pid) {
+        Some(root) => root,
+        None => unreachable!(),
+    }
 }
 
 /// What a frame of data holds, which is one of role `Private` or `Cache`.
@@ -48,17 +59,19 @@ pub fn next_over<D, E, M: Levels>(
     ensures some { IfSome result (λ k. IsFirstOver (picture_of core.now) Kinds.Forget frame.0 pid low k) }
     ensures none { IfNone result ((k : ℕ) → low ≤ k → IsPage (top_level M.mode) k → IsOver (picture_of core.now) Kinds.Forget frame.0 pid k → ⊥) }
 {
-    let held = held_in(core, frame);
+    let search = LeafSearch {
+        frame,
+        held: held_in(core, frame),
+        change: Change::Forget,
+    };
     match core.root(pid) {
-        Some(root) => find_in(
-            core,
-            usize::from(pid.get()),
-            root,
-            low,
-            held,
-            frame,
-            Change::Forget,
-        ),
+        Some(root) => {
+            let process = LiveProcess {
+                pid: usize::from(pid.get()),
+                root,
+            };
+            find_in(core, process, low, &search)
+        }
         None => None,
     }
 }

@@ -13,11 +13,11 @@ use Rattle.residency.specs.Parts.{IsFit}
 use Rattle.residency.specs.declared.kernel.Core.{Core}
 use Rattle.residency.specs.Picture.{Picture, picture_of, attr_where}
 use Rattle.residency.specs.Steps.{SameBeside}
-use Rattle.fault.specs.Outcome.{IsOpenFor, IsOpenToStore}
+use Rattle.fault.specs.Outcome.{IsFrameFor, IsOpenToStore}
 use Rattle.fault.proofs.Storing.{fit_own, fit_file}
 
 -- it is one of memory's
-pub open_read : {mode : ℕ} (kind : Access) (c : Picture mode) (pid page : ℕ) (b : Backing) (n : ℕ) → is_store kind ≡ false → IsOpenFor kind c pid page b n → IsFrame c.frames n
+pub open_read : {mode : ℕ} (kind : Access) (c : Picture mode) (pid page : ℕ) (b : Backing) (n : ℕ) → is_store kind ≡ false → IsFrameFor kind c pid page b n → IsFrame c.frames n
 open_read Accesses.Load c pid page b n e usable = usable
 open_read Accesses.Store c pid page b n e usable = cc
 open_read Accesses.Fetch c pid page b n e usable = usable

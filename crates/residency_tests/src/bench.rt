@@ -17,12 +17,12 @@ ghost use Rattle.residency.specs.Parts.{IsFit};
 ghost use Rattle.residency_tests.specs.Process.{writable, mapped, IsAlone};
 
 use disk_model::{SectorDisk, SimDisk};
-use fault::{AccessRefusal, access, root_of};
+use fault::{AccessRefusal, access};
 use memory::entry_number;
 use msync::{SyncRoom, msync};
 use page_cache::Place;
 use regions::Regions;
-use residency::Core;
+use residency::{Core, root_of};
 use std::alloc::Global;
 use std::fmt::Debug;
 use std::mem::replace;

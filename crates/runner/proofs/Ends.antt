@@ -10,7 +10,7 @@ use Rattle.runner.specs.declared.engine.RunEnd.{RunEnd}
 use Rattle.runner.specs.declared.engine.RunEnd.TheVariants.{Done, ReadFault, WriteFault}
 use Rattle.runner.specs.Bytes.{WritesBeginning}
 use Rattle.runner.specs.Session.{Answers, CarriesOut}
-use Rattle.runner.specs.Progress.{Stage, stage, HoldsOpenLine, Reads, RunsLast, Fails, GoesOn, BreaksOff, Ends}
+use Rattle.runner.specs.Progress.{Stage, stage, HoldsOpenLine, ReadsAll, RunsLast, Fails, GoesOn, BreaksOff, Ends}
 use Rattle.runner.proofs.Lines.{lines_of-cut, lines_of-unfinished, Cuts-none}
 use Rattle.runner.proofs.Session.{answers_line, CarriesOut-one, CarriesOut-append}
 use Rattle.runner.proofs.Progress.{Advances-trans, breaks_later, wrote_beginning}
@@ -137,7 +137,7 @@ module _ {D E : Type 0} (g : Ghosts D) (h : Ghosts E) where
       }
 
   -- the writer failed at the end of the reader
-  fails_after : (old mid new : Stage D E) (bytes more open_line : List ℕ) → (first : Reads g h old mid bytes open_line) → Fails g h mid new more first.rest
+  fails_after : (old mid new : Stage D E) (bytes more open_line : List ℕ) → (first : ReadsAll g h old mid bytes open_line) → Fails g h mid new more first.rest
       → Fails g h old new (bytes ++ more) open_line
   fails_after old mid new bytes more open_line first second = record {
     text = first.text ++ second.text;

@@ -10,7 +10,7 @@ use Rattle.machine.specs.declared.machine.Machine.{Machine}
 use Rattle.trace_lang.specs.Lines.{HasNoNewline}
 use Rattle.runner.specs.Bytes.{WritesBeginning}
 use Rattle.runner.specs.Session.{Answers}
-use Rattle.runner.specs.Progress.{Stage, stage, HoldsOpenLine, Advances, Reads, Breaks, GoesOn, BreaksOff}
+use Rattle.runner.specs.Progress.{Stage, stage, HoldsOpenLine, Advances, ReadsAll, Breaks, GoesOn, BreaksOff}
 use Rattle.runner.proofs.Lines.{Cuts-trans, Cuts-none, Cuts-bytes, Cuts-newline}
 use Rattle.runner.proofs.Session.{answers_line, CarriesOut-one, CarriesOut-append}
 
@@ -149,7 +149,7 @@ module _ {D E : Type 0} (g : Ghosts D) (h : Ghosts E) where
         wrote = Appends-trans old.held mid.held new.held first.written second.written first.wrote second.wrote;
       }
 
-  pub breaks_later : (old mid new : Stage D E) (bytes more open_line : List ℕ) → (first : Reads g h old mid bytes open_line) → Breaks g h mid new more first.rest
+  pub breaks_later : (old mid new : Stage D E) (bytes more open_line : List ℕ) → (first : ReadsAll g h old mid bytes open_line) → Breaks g h mid new more first.rest
       → Breaks g h old new (bytes ++ more) open_line
   breaks_later old mid new bytes more open_line first second = record {
     text = first.text ++ second.text;

@@ -32,7 +32,7 @@ module _ {D E : Type 0} (g : Ghosts D) (h : Ghosts E) where
     pub runs : CarriesOut g h old lines text new
 
   -- all the bytes were read, and the texts lie with the writer and in the buffer
-  pub record Reads (old new : Stage D E) (bytes open_line : List ℕ) : Type 0 where
+  pub record ReadsAll (old new : Stage D E) (bytes open_line : List ℕ) : Type 0 where
     pub text : List ℕ
     pub rest : List ℕ
     pub written : List ℕ
@@ -53,7 +53,7 @@ module _ {D E : Type 0} (g : Ghosts D) (h : Ghosts E) where
 
   -- the same, whatever the open line is that the buffer holds the beginning of
   abbrev pub GoesOn : Stage D E → Stage D E → List ℕ → Type 0
-  GoesOn old new bytes = (open_line : List ℕ) → HoldsOpenLine old.kept open_line → Reads old new bytes open_line
+  GoesOn old new bytes = (open_line : List ℕ) → HoldsOpenLine old.kept open_line → ReadsAll old new bytes open_line
 
   abbrev pub BreaksOff : Stage D E → Stage D E → List ℕ → Type 0
   BreaksOff old new bytes = (open_line : List ℕ) → HoldsOpenLine old.kept open_line → Breaks old new bytes open_line

@@ -5,7 +5,7 @@ use Rattle.vm_types.specs.declared.reply.Reply.{Reply}
 use Rattle.disk_model.specs.declared.sector_disk.SectorDisk.{Ghosts}
 use Rattle.machine.specs.declared.machine.Machine.{Machine}
 use Rattle.vm_types.specs.State.{State}
-use Rattle.machine.specs.Machine.{store_of, swap_of, IsCaused, IsReadable, Shows, Meets}
+use Rattle.machine.specs.Machine.{store_of, swap_of, IsCausedBetween, IsReadable, Shows, Meets}
 use Rattle.trace_lang.specs.Grammar.{IsCommand}
 use Rattle.trace_lang.specs.Texts.{text_of, bad_line_text}
 
@@ -25,7 +25,7 @@ module _ {D E : Type 0} (g : Ghosts D) (h : Ghosts E) where
     pub reply : Reply
     pub form : IsCommand line command
     pub steps : Steps old command reply new
-    pub caused : IsCaused g h old new reply
+    pub caused : IsCausedBetween g h old new reply
     pub kept : g.keeps_model (store_of new) → g.keeps_model (store_of old)
     pub swap_kept : h.keeps_model (swap_of new) → h.keeps_model (swap_of old)
     pub text_is : text ≡ text_of reply

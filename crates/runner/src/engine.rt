@@ -246,29 +246,37 @@ pub fn read_once<R: Read>(reader: &mut R, input: &mut [u8]) -> Result<Option<usi
     }
 }
 
+// What came of the reader.
+#[derive(Drop)]
+struct Input {
+    // The bytes of the last read, at the front.
+    bytes: [u8; READ_BYTES],
+    // The beginning of the open line.
+    line: LineBuffer,
+}
+
 // One read, and what its bytes ask for. `None`: the run goes on.
 fn turn<R: Read, W: Write, D: SectorDisk, E: SectorDisk>(
-    input: &mut [u8],
     reader: &mut R,
-    line: &mut LineBuffer,
+    input: &mut Input,
     output: &mut OutputBuffer,
     writer: &mut W,
     machine: &mut Machine<D, E>,
 ) -> Option<RunEnd>
-    requires input { 0 < length input.old }
     requires empty { output.old ≡ [] }
     requires sound { IsSoundMachine D.SectorDisk E.SectorDisk machine.old }
     ensures empty { IfNone result (output.new ≡ []) }
     ensures sound { IsSoundMachine D.SectorDisk E.SectorDisk machine.new }
     ensures reads { (bytes : List ℕ) × Consumes (R.remaining reader.old) (R.remaining reader.new) bytes
         × MatchOption result
-        (GoesOn D.SectorDisk E.SectorDisk (stage machine.old line.old output.old (W.contents writer.old))
-        (stage machine.new line.new output.new (W.contents writer.new)) bytes)
-        (λ end. Ends D.SectorDisk E.SectorDisk end (R.remaining reader.new) (stage machine.old line.old output.old (W.contents writer.old))
-        (stage machine.new line.new output.new (W.contents writer.new)) bytes) }
+        (GoesOn D.SectorDisk E.SectorDisk (stage machine.old input.old.line output.old (W.contents writer.old))
+        (stage machine.new input.new.line output.new (W.contents writer.new)) bytes)
+        (λ end. Ends D.SectorDisk E.SectorDisk end (R.remaining reader.new) (stage machine.old input.old.line output.old (W.contents writer.old))
+        (stage machine.new input.new.line output.new (W.contents writer.new)) bytes) }
 {
-    match read_once(reader, input) {
-        Ok(Some(count)) => match take_piece(&input[..count], line, output, writer, machine) {
+    let Input { bytes, line } = input;
+    match read_once(reader, bytes) {
+        Ok(Some(count)) => match take_piece(&bytes[..count], line, output, writer, machine) {
             Ok(()) => None,
             Err(_) => Some(RunEnd::WriteFault),
         },
@@ -289,11 +297,13 @@ fn run_turns<R: Read, W: Write, D: SectorDisk, E: SectorDisk>(
         × EndsSo D.SectorDisk E.SectorDisk result (R.remaining reader.new) (stage machine.old [] [] (W.contents writer.old))
         (stage machine.new [] [] (W.contents writer.new)) bytes [] }
 {
-    let mut input = [0; READ_BYTES];
-    let mut line = LineBuffer::new();
+    let mut input = Input {
+        bytes: [0; READ_BYTES],
+        line: LineBuffer::new(),
+    };
     let mut output = OutputBuffer::new();
     for i in 0..u64::MAX {
-        match turn(&mut input, reader, &mut line, &mut output, writer, machine) {
+        match turn(reader, &mut input, &mut output, writer, machine) {
             None => {}
             Some(end) => return end,
         }

@@ -11,4 +11,4 @@ pub use answering::answer_line;
 pub use engine::{ReadFault, RunEnd, read_once, run};
 pub use line_buffer::LineBuffer;
 pub use output_buffer::{WriteFault, write_bytes};
-pub use starting::run_on;
+pub use starting::{Devices, run_on};

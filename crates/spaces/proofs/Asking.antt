@@ -9,7 +9,8 @@ use Rattle.fault.specs.Outcome.{IsRefusal}
 use Rattle.frames.specs.FrameTable.{bytes_of, with_bytes}
 use Rattle.fault.specs.Wants.{Wants, ReadsHome, RefusesAccess, ShowsFile}
 use Rattle.residency.specs.declared.kernel.Core.{Core}
-use Rattle.fault.specs.Changes.{IsCalm, KeepsAround, KeepsSlotted, IsThatPage, LinksTables}
+use Rattle.fault.specs.Changes.{IsCalm, KeepsSlotted, IsThatPage, LinksTables}
+use Rattle.residency.specs.Ways.{KeepsAround}
 use Rattle.residency.specs.Picture.{Picture, picture_of, is_live}
 use Rattle.vm_types.specs.declared.access.Access.{Access}
 use Rattle.vm_types.specs.declared.access.Access.TheVariants.{Load, Store, Fetch}
@@ -23,7 +24,7 @@ use Rattle.vm_types.specs.declared.width.Width.{Width}
 use Rattle.vm_types.specs.Access.{with_number}
 use Rattle.vm_types.specs.Replies.{reply_of}
 use Rattle.vm_types.specs.Width.{byte_count}
-use Rattle.spaces.specs.Accesses.{answer_of, AsksFor, MayWrite, WritesNumber}
+use Rattle.spaces.specs.Accesses.{reply_for, AsksFor, MayWrite, WritesNumber}
 use Rattle.spaces.proofs.Refusals.{no_stall, same_stall}
 
 -- nothing was written
@@ -54,7 +55,7 @@ module _ {M : Type 0} {m : Levels.Ghosts M} {D E : Type 0} (g : Ghosts D) (h : G
 
   -- an access without a place
   pub asks_refused : (width : Width) (refusal : AccessRefusal) → IsRefusal g h old new pid addr width access refusal
-      → AsksFor g h old new pid addr access (reply_of (answer_of refusal))
+      → AsksFor g h old new pid addr access (reply_of (reply_for refusal))
   asks_refused width (Refusal.Fault fault) is = asks_unstalled (Faulted fault) (no_stall fault)
   asks_refused width (Refusal.Stall stall) is = record {
     wanted = λ other e. is.stalled.wanted;

@@ -5,7 +5,7 @@ use Rattle.disk_model.specs.declared.sector_disk.SectorDisk.{Ghosts}
 use Rattle.fault.specs.declared.refusal.AccessRefusal.{AccessRefusal}
 use Rattle.fault.specs.declared.refusal.AccessRefusal.TheVariants as Refusal
 use Rattle.fault.proofs.AccessShowing.{ShowsFiles, shows_files, shows_kept, bytes_shown}
-use Rattle.fault.specs.Outcome.{Reads, IsOpenFor, IsRefusal, verdict_of}
+use Rattle.fault.specs.Outcome.{Reads, IsFrameFor, IsRefusal, verdict_of}
 use Rattle.frames.specs.FrameTable.{IsFrame, bytes_of}
 use Rattle.fault.specs.Changes.{KeepsSeen}
 use Rattle.fault.specs.Files.{Proceeds, BringsFiles}
@@ -16,7 +16,7 @@ use Rattle.residency.specs.Picture.{Picture, picture_of, is_live}
 use Rattle.residency.specs.Parts.{IsFit}
 use Rattle.residency.specs.Shows.{ShowsPages}
 use Rattle.sv39_walk.specs.Walk.{is_store}
-use Rattle.msync.specs.Shows.{Shows}
+use Rattle.msync.specs.Shows.{CoreShows}
 use Rattle.vm_types.specs.declared.access.Access.{Access}
 use Rattle.vm_types.specs.declared.access.Access.TheVariants as Accesses
 use Rattle.vm_types.specs.declared.command.Command.{Command}
@@ -40,14 +40,14 @@ use Rattle.vm_types.specs.Step.{Outcome, outcome, answers, judged, load_outcome,
 use Rattle.vm_types.specs.Verdict.{Verdict, Fine, Faults, fault_of}
 use Rattle.vm_types.specs.View.{View}
 use Rattle.vm_types.specs.Width.{byte_count}
-use Rattle.spaces.specs.Accesses.{answer_of}
+use Rattle.spaces.specs.Accesses.{reply_for}
 use Rattle.spaces.specs.Calls.{Comes, Stalls, causes}
 use Rattle.spaces.proofs.Calls.{does, does_answer}
 use Rattle.spaces.proofs.Short.{falls_short}
 use Rattle.spaces.proofs.Shown.{judged_is, homes}
 
 -- the frame of a load or a fetch is one of memory's
-pub open_read : {mode : ℕ} (kind : Access) (c : Picture mode) (pid page : ℕ) (b : Backing) (n : ℕ) → is_store kind ≡ false → IsOpenFor kind c pid page b n → IsFrame c.frames n
+pub open_read : {mode : ℕ} (kind : Access) (c : Picture mode) (pid page : ℕ) (b : Backing) (n : ℕ) → is_store kind ≡ false → IsFrameFor kind c pid page b n → IsFrame c.frames n
 open_read Accesses.Load c pid page b n e usable = usable
 open_read Accesses.Store c pid page b n e usable = cc
 open_read Accesses.Fetch c pid page b n e usable = usable
@@ -81,13 +81,13 @@ module _ {M : Type 0} {m : Levels.Ghosts M} {D E : Type 0} (g : Ghosts D) (h : G
       (falls_short (picture_of new) s command fit shows stall short (let same = tables v is in omega (arith, same))) refl shows
 
   pub refused : (refusal : AccessRefusal) → IsRefusal g h old new pid addr width kind refusal → ShowsPages (picture_of old) s
-      → (KeepsSeen (picture_of old) (picture_of new) → ShowsPages (picture_of new) s) → Comes g h old new s command (reply_of (answer_of refusal))
+      → (KeepsSeen (picture_of old) (picture_of new) → ShowsPages (picture_of new) s) → Comes g h old new s command (reply_of (reply_for refusal))
   refused (Refusal.Fault fault) is shows same =
       subst (λ (f : Fault). Comes g h old new s command (Faulted f)) (sym is.2)
       (does_answer g h old new s command (Faulted (fault_of kind is.0 addr)) (subst (λ (c : Core D E M m). ShowsPages (picture_of c) s) (sym is.3) shows) (faults is.0 is.1))
   refused (Refusal.Stall stall) is shows same = stalls stall is.seen is.fine is.stalled.cause is.stalled.short (same is.stalled.keeps)
 
-module _ {M : Type 0} {m : Levels.Ghosts M} {D E : Type 0} (g : Ghosts D) (h : Ghosts E) (old new : Core D E M m) (W : PageKey → Type 0) (s : State) (shows : Shows g old s)
+module _ {M : Type 0} {m : Levels.Ghosts M} {D E : Type 0} (g : Ghosts D) (h : Ghosts E) (old new : Core D E M m) (W : PageKey → Type 0) (s : State) (shows : CoreShows g old s)
     (keeps : g.keeps_model new.store.disk) (swaps : h.keeps_model new.swap.pages.disk) (goes : Proceeds g h old new) (brings : BringsFiles g h W old new)
     (pid addr : ℕ) (live : is_live (picture_of old) pid ≡ true) where
   load_is : (width : Width) (v : Verdict) → verdict_of (picture_of old) pid addr width Accesses.Load ≡ v → outcome s (Load pid addr width) ≡ load_outcome s addr width v
@@ -125,14 +125,14 @@ module _ {M : Type 0} {m : Levels.Ghosts M} {D E : Type 0} (g : Ghosts D) (h : G
       (same read.keeps)
 
   pub load_refused : (width : Width) (refusal : AccessRefusal) → IsRefusal g h old new pid addr width Accesses.Load refusal
-      → Comes g h old new s (Load pid addr width) (reply_of (answer_of refusal))
+      → Comes g h old new s (Load pid addr width) (reply_of (reply_for refusal))
   load_refused width refusal is =
       refused g h old new s pid addr width Accesses.Load (Load pid addr width) (λ v e. ap (λ (o : Outcome). is_success o.reply) (load_is width (Fine v) e))
       (λ v e. ap (λ (o : Outcome). table_count o.state) (load_is width (Fine v) e))
       (λ code e. load_is width (Faults code) e) refl refl refl goes.fit refusal is shows.pages same
 
   pub fetch_refused : (refusal : AccessRefusal) → IsRefusal g h old new pid addr Four Accesses.Fetch refusal
-      → Comes g h old new s (Fetch pid addr) (reply_of (answer_of refusal))
+      → Comes g h old new s (Fetch pid addr) (reply_of (reply_for refusal))
   fetch_refused refusal is =
       refused g h old new s pid addr Four Accesses.Fetch (Fetch pid addr) (λ v e. ap (λ (o : Outcome). is_success o.reply) (fetch_is (Fine v) e))
       (λ v e. ap (λ (o : Outcome). table_count o.state) (fetch_is (Fine v) e))

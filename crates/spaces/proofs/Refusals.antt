@@ -15,7 +15,7 @@ use Rattle.vm_types.specs.declared.refusal.Stall.TheVariants.{NoFrames, NoSwap, 
 use Rattle.vm_types.specs.declared.reply.Reply.TheVariants.{Faulted, Refused, Stalled}
 use Rattle.vm_types.specs.declared.width.Width.{Width}
 use Rattle.vm_types.specs.Replies.{reply_of}
-use Rattle.spaces.specs.Accesses.{answer_of}
+use Rattle.spaces.specs.Accesses.{reply_for}
 use Rattle.spaces.specs.Calls.{IsCaused}
 use Rattle.spaces.specs.Idle.{is_denial, refused_by, stalls_store, stalls_swap}
 
@@ -69,12 +69,12 @@ module _ {M : Type 0} {m : Levels.Ghosts M} {D E : Type 0} (g : Ghosts D) (h : G
   module _ (old new : Core D E M m) (pid addr : ℕ) (width : Width) (kind : Access) where
     -- a fault is told before anything is done
     pub refused_idle : (refusal : AccessRefusal) → Faults.IsRefusal g h old new pid addr width kind refusal
-        → is_denial (reply_of (answer_of refusal)) ≡ true → new ≡ old
+        → is_denial (reply_of (reply_for refusal)) ≡ true → new ≡ old
     refused_idle (Refusal.Fault fault) is denied = is.3
     refused_idle (Refusal.Stall stall) is denied = absurd (let never : false ≡ true = denied in cc)
 
     pub refused_caused : (refusal : AccessRefusal) → g.failures old.store.disk ≤ g.failures new.store.disk → h.failures old.swap.pages.disk ≤ h.failures new.swap.pages.disk
-        → Faults.IsRefusal g h old new pid addr width kind refusal → IsCaused g h old new (reply_of (answer_of refusal))
+        → Faults.IsRefusal g h old new pid addr width kind refusal → IsCaused g h old new (reply_of (reply_for refusal))
     refused_caused (Refusal.Fault fault) later swap_later is = record {
       later = later;
       swap_later = swap_later;

@@ -16,7 +16,7 @@ module _ {M : Type 0} {m : Levels.Ghosts M} {D E : Type 0} (old new : Core D E M
   -- there is a node for each frame and for each slot, so the map of places tells how many there are
   pub room_same : new.cache ≡ old.cache → KeepsRoom (picture_of old) (picture_of new)
   room_same same = record {
-    frames = sym new.node_count ∙ ap CacheTable.frame_count same ∙ old.node_count;
+    frames = sym new.node_count ∙ ap CacheTable.cache_frames same ∙ old.node_count;
     slots = sym new.slot_count ∙ ap CacheTable.slot_count same ∙ old.slot_count;
   }
 

@@ -8,7 +8,7 @@ use Rattle.fault.proofs.AccessShowing.{IsHomeDurable}
 use Rattle.residency.specs.declared.kernel.Core.{Core}
 use Rattle.residency.specs.Picture.{picture_of}
 use Rattle.residency.specs.Shows.{ShowsPages}
-use Rattle.msync.specs.Shows.{Shows}
+use Rattle.msync.specs.Shows.{CoreShows}
 use Rattle.vm_types.specs.declared.access.Access.{Access}
 use Rattle.vm_types.specs.declared.width.Width.{Width}
 use Rattle.vm_types.specs.Files.{Files}
@@ -27,7 +27,7 @@ judged_is old s shows pid addr width kind =
     ∙ ap (λ (v : ℕ → Option View). verdict (picture_of old).files v addr (byte_count width) kind) (views_seen (picture_of old) s shows pid)
 
 -- what the store's device holds is one of the images that a stop may leave
-pub homes : {M : Type 0} {m : Levels.Ghosts M} → {D E : Type 0} (g : Ghosts D) (old new : Core D E M m) (s : State) → Shows g old s → ReadsStore g old.store new.store → g.keeps_model new.store.disk
+pub homes : {M : Type 0} {m : Levels.Ghosts M} → {D E : Type 0} (g : Ghosts D) (old new : Core D E M m) (s : State) → CoreShows g old s → ReadsStore g old.store new.store → g.keeps_model new.store.disk
     → IsHomeDurable g old.store.disk (picture_of old) s
 homes g old new s shows reads keeps = λ p inside.
     let now = shows.stands (reads.kept keeps) (g.content old.store.disk) (record { kept = λ k. inr refl }) in

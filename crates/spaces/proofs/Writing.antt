@@ -22,7 +22,7 @@ use Rattle.residency.specs.Picture.{Picture, picture_of, is_live, entry, own_in,
 use Rattle.residency.specs.Shows.{ShowsPages}
 use Rattle.residency.specs.Steps.{SameBeside}
 use Rattle.page_cache.specs.declared.place.Place.TheVariants.{Frame}
-use Rattle.msync.specs.Shows.{Shows}
+use Rattle.msync.specs.Shows.{CoreShows}
 use Rattle.swap.specs.Slots.{SlotTable}
 use Rattle.vm_types.specs.declared.access.Access.{Access}
 use Rattle.vm_types.specs.declared.access.Access.TheVariants as Accesses
@@ -46,7 +46,7 @@ use Rattle.vm_types.specs.Step.{Outcome, outcome, answers, judged, store_outcome
 use Rattle.vm_types.specs.Verdict.{Verdict, Fine, Faults, lets, is_past_end, page_verdict}
 use Rattle.vm_types.specs.View.{View}
 use Rattle.vm_types.specs.Width.{byte_count}
-use Rattle.spaces.specs.Accesses.{answer_of}
+use Rattle.spaces.specs.Accesses.{reply_for}
 use Rattle.spaces.specs.Calls.{Comes}
 use Rattle.spaces.proofs.Calls.{does}
 use Rattle.spaces.proofs.Reading.{live_outcome, refused, same, files}
@@ -173,7 +173,7 @@ held_there : {mode : ℕ} (c : Picture mode) (p : PageKey) (n : ℕ) → c.place
 unfolding held
 held_there c p n at = ap (bytes_at c.frames c.slots) at
 
-module _ {M : Type 0} {m : Levels.Ghosts M} {D E : Type 0} (g : Ghosts D) (h : Ghosts E) (old mid : Core D E M m) (W : PageKey → Type 0) (s : State) (shows : Shows g old s)
+module _ {M : Type 0} {m : Levels.Ghosts M} {D E : Type 0} (g : Ghosts D) (h : Ghosts E) (old mid : Core D E M m) (W : PageKey → Type 0) (s : State) (shows : CoreShows g old s)
     (keeps : g.keeps_model mid.store.disk) (swaps : h.keeps_model mid.swap.pages.disk) (before : IsFit (picture_of old)) (goes : Proceeds g h old mid)
     (brings : BringsFiles g h W old mid) (pid addr : ℕ) (live : is_live (picture_of old) pid ≡ true) (value : StoredValue) where
   store_is : (v : Verdict) → verdict_of (picture_of old) pid addr value.width Accesses.Store ≡ v → outcome s (Store pid addr value) ≡ store_outcome s pid addr value v
@@ -188,7 +188,7 @@ module _ {M : Type 0} {m : Levels.Ghosts M} {D E : Type 0} (g : Ghosts D) (h : G
       (shows.pages.views pid (addr / 4096) ∙ fine_seen (picture_of old) pid addr value.width Accesses.Store v e)
 
   pub store_refused : (refusal : AccessRefusal) → IsRefusal g h old mid pid addr value.width Accesses.Store refusal
-      → Comes g h old mid s (Store pid addr value) (reply_of (answer_of refusal))
+      → Comes g h old mid s (Store pid addr value) (reply_of (reply_for refusal))
   store_refused refusal is =
       refused g h old mid s pid addr value.width Accesses.Store (Store pid addr value) (λ v e. ap (λ (o : Outcome). is_success o.reply) (store_is (Fine v) e))
       tables_still (λ code e. store_is (Faults code) e) refl refl refl goes.fit refusal is shows.pages

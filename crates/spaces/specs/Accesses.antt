@@ -8,7 +8,8 @@ use Rattle.fault.specs.AccessAsking.{AsksForPage}
 use Rattle.frames.specs.FrameTable.{bytes_of, with_bytes}
 use Rattle.fault.specs.Wants.{Wants, ReadsHome, RefusesAccess, ShowsFile}
 use Rattle.residency.specs.declared.kernel.Core.{Core}
-use Rattle.fault.specs.Changes.{IsCalm, KeepsAround, KeepsOtherViews, KeepsSlotted, IsThatPage, LinksTables}
+use Rattle.fault.specs.Changes.{IsCalm, KeepsOtherViews, KeepsSlotted, IsThatPage, LinksTables}
+use Rattle.residency.specs.Ways.{KeepsAround}
 use Rattle.residency.specs.Calls.{UsesDevice}
 use Rattle.residency.specs.Picture.{picture_of}
 use Rattle.residency.specs.Reading.{ReadsStore}
@@ -27,9 +28,9 @@ use Rattle.vm_types.specs.Access.{with_number}
 use Rattle.vm_types.specs.Width.{byte_count}
 use Rattle.spaces.specs.Calls.{AccountsFor, Carries}
 
-abbrev pub answer_of : AccessRefusal → Answer
-answer_of (Refusal.Fault fault) = Faulted fault
-answer_of (Refusal.Stall stall) = Stalled stall
+abbrev pub reply_for : AccessRefusal → Answer
+reply_for (Refusal.Fault fault) = Faulted fault
+reply_for (Refusal.Stall stall) = Stalled stall
 
 module _ {M : Type 0} {m : Levels.Ghosts M} {D E : Type 0} where
   -- a number was written into frame n from that byte of it on, and nothing else changed

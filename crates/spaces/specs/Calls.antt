@@ -11,7 +11,7 @@ use Rattle.residency.specs.declared.kernel.Core.{Core}
 use Rattle.residency.specs.Picture.{picture_of}
 use Rattle.residency.specs.Stalls.{ReadCause}
 use Rattle.residency.specs.Shows.{ShowsPages}
-use Rattle.msync.specs.Shows.{Shows}
+use Rattle.msync.specs.Shows.{CoreShows}
 use Rattle.vm_types.specs.Capacity.{table_count, held_count}
 use Rattle.vm_types.specs.declared.command.Command.{Command}
 use Rattle.vm_types.specs.declared.refusal.Errno.TheVariants.{EIO}
@@ -51,7 +51,7 @@ module _ {M : Type 0} {m : Levels.Ghosts M} {D E : Type 0} (g : Ghosts D) (h : G
   -- the same from every state that memory shows, as long as the devices keep the disk model where the call reads them
   abbrev pub Carries : Core D E M m → Core D E M m → Command → Reply → Type 0
   Carries old new command reply =
-      (s : State) → Shows g old s → (reads_files command ≡ true → g.keeps_model new.store.disk)
+      (s : State) → CoreShows g old s → (reads_files command ≡ true → g.keeps_model new.store.disk)
       → (reads_swap s command ≡ true → h.keeps_model new.swap.pages.disk) → Comes old new s command reply
 
   -- Whatever the devices do: a reply names a device or the want of a frame exactly where that failed in the call, or was refused.

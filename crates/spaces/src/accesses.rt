@@ -11,7 +11,7 @@ ghost use Rattle.sv39_walk.specs.Walk.{is_store};
 ghost use Rattle.fault.specs.Outcome.{IsWalked};
 ghost use Rattle.residency.specs.Picture.{picture_of};
 ghost use Rattle.msync.specs.Shows.{IsSoundCore};
-ghost use Rattle.spaces.specs.Accesses.{answer_of, AsksFor, CarriesRead, KeepsToPage, WritesNumber};
+ghost use Rattle.spaces.specs.Accesses.{reply_for, AsksFor, CarriesRead, KeepsToPage, WritesNumber};
 ghost use Rattle.spaces.specs.Calls.{Carries};
 
 use crate::space::PAGE;
@@ -54,7 +54,7 @@ fn frame_of<M: Levels>(frames: &Memory<M>, place: Phys) -> FrameNo
 
 /// What an access returns that has no place in memory.
 fn refused(refusal: AccessRefusal) -> Answer
-    ensures { result ≡ answer_of refusal }
+    ensures { result ≡ reply_for refusal }
 {
     match refusal {
         AccessRefusal::Fault(fault) => Answer::Faulted(fault),

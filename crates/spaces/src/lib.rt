@@ -7,6 +7,7 @@ mod mappings;
 mod processes;
 mod protections;
 mod region_room;
+mod requests;
 mod space;
 mod unmapping;
 
@@ -17,4 +18,5 @@ pub use msync::{SyncRoom, msync};
 pub use processes::{exit, fork, spawn};
 pub use protections::mprotect;
 pub use region_room::RegionRoom;
+pub use requests::{MapRequest, ProtectRequest};
 pub use unmapping::munmap;

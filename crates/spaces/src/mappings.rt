@@ -21,6 +21,7 @@ ghost use Rattle.spaces.specs.Mappings.{mmap_asked_checks, file_checks, place_ch
 ghost use Rattle.spaces.specs.Space.{space_of};
 
 use crate::region_room::RegionRoom;
+use crate::requests::{MapRequest, Mapping};
 use crate::space::PAGE;
 use disk_model::SectorDisk;
 use file_store::FileStore;
@@ -28,7 +29,7 @@ use ranges::{free_object, remap};
 use regions::Regions;
 use residency::{Core, PLACES};
 use vm_types::{
-    Answer, Attr, Backing, Errno, FilePage, Levels, MapSource, ObjectPage, Pid, Placing, Prot,
+    Answer, Attr, Backing, Errno, FilePage, Levels, MapSource, ObjectPage, Pid, Placing,
     TooManyRuns, USER_START,
 };
 
@@ -46,17 +47,17 @@ fn is_exact(placing: Placing) -> bool
 }
 
 /// Why a mapping is refused, whatever its place.
-fn refusal<D: SectorDisk>(
-    store: &FileStore<D>,
-    addr: u64,
-    len: u64,
-    prot: Prot,
-    source: MapSource,
-    placing: Placing,
-) -> Option<Errno>
-    ensures asked { result ≡ first_of (mmap_asked_checks (files_of store.now) addr len prot source placing) }
-    ensures fine { IfNone result (IsAsked len source) }
+fn refusal<D: SectorDisk>(store: &FileStore<D>, request: MapRequest) -> Option<Errno>
+    ensures asked { result ≡ first_of (mmap_asked_checks (files_of store.now) request.addr request.len request.prot request.source request.placing) }
+    ensures fine { IfNone result (IsAsked request.len request.source) }
 {
+    let MapRequest {
+        addr,
+        len,
+        prot,
+        source,
+        placing,
+    } = request;
     if len == 0 {
         return Some(Errno::EINVAL);
     }
@@ -155,28 +156,21 @@ fn object_page<D, E, M: Levels>(
 }
 
 /// What the first page of a mapping of these pages is.
-fn first_attr<D, E, M: Levels>(
-    core: &Core<D, E, M>,
-    pid: Pid,
-    first: u64,
-    pages: u64,
-    source: MapSource,
-    prot: Prot,
-) -> Attr
+fn first_attr<D, E, M: Levels>(core: &Core<D, E, M>, pid: Pid, first: u64, mapping: Mapping) -> Attr
     requires fit { IsFit (picture_of core.now) }
-    requires row { first + pages ≤ user_end M.mode }
-    requires numbered { IsNumbered source }
-    ensures attr { result ≡ attr_there (picture_of core.now).at pid pages source prot first }
-    ensures few { source ≡ Common → (q : ℕ) → run_count M.mode ((picture_of core.now).at q) ≤ 256 }
+    requires row { first + mapping.pages ≤ user_end M.mode }
+    requires numbered { IsNumbered mapping.source }
+    ensures attr { result ≡ attr_there (picture_of core.now).at pid mapping.pages mapping.source mapping.prot first }
+    ensures few { mapping.source ≡ Common → (q : ℕ) → run_count M.mode ((picture_of core.now).at q) ≤ 256 }
 {
-    let backing = match source {
+    let backing = match mapping.source {
         MapSource::Anon => Backing::Anon,
-        MapSource::Common => Backing::Common(object_page(core, pid, first, pages)),
+        MapSource::Common => Backing::Common(object_page(core, pid, first, mapping.pages)),
         MapSource::Private { file, offset } => Backing::Private(file_page(file, offset)),
         MapSource::Shared { file, offset } => Backing::Shared(file_page(file, offset)),
     };
     Attr {
-        prot: prot.kept(),
+        prot: mapping.prot.kept(),
         backing,
     }
 }
@@ -232,38 +226,40 @@ fn is_taken<M: Levels>(regions: &Regions<M>, first: u64, pages: u64, placing: Pl
     }
 }
 
-/// Writes the regions with a mapping of `pages` pages into `next`, and returns its first page; or says why its place is refused.
+/// Writes the regions with a mapping into `next`, and returns its first page; or says why its place is refused.
 fn planned<D, E, M: Levels>(
     core: &Core<D, E, M>,
     pid: Pid,
     regions: &Regions<M>,
-    addr: u64,
-    pages: u64,
-    prot: Prot,
-    source: MapSource,
-    placing: Placing,
+    mapping: Mapping,
     next: &mut Regions<M>,
 ) -> Result<u64, Errno>
     requires fit { IsFit (picture_of core.now) }
-    requires mappable { IsMappable source pages }
-    ensures ok { IfOk result (λ first. MapsPages M.mode regions.now addr pages (attr_there (picture_of core.now).at pid pages source prot) placing first next.new) }
-    ensures few { OnOk result (source ≡ Common → (q : ℕ) → run_count M.mode ((picture_of core.now).at q) ≤ 256) }
-    ensures err { IfErr result (λ errno. first_of (place_checks M.mode placing (space_of regions.now) pages (attr_there (picture_of core.now).at pid pages source prot) (place_for M.mode placing (space_of regions.now) addr pages)) ≡ Some errno) }
+    requires mappable { IsMappable mapping.source mapping.pages }
+    ensures ok { IfOk result (λ first. MapsPages M.mode regions.now mapping.addr mapping.pages (attr_there (picture_of core.now).at pid mapping.pages mapping.source mapping.prot) mapping.placing first next.new) }
+    ensures few { OnOk result (mapping.source ≡ Common → (q : ℕ) → run_count M.mode ((picture_of core.now).at q) ≤ 256) }
+    ensures err { IfErr result (λ errno. first_of (place_checks M.mode mapping.placing (space_of regions.now) mapping.pages (attr_there (picture_of core.now).at pid mapping.pages mapping.source mapping.prot) (place_for M.mode mapping.placing (space_of regions.now) mapping.addr mapping.pages)) ≡ Some errno) }
 {
+    let Mapping {
+        addr,
+        pages,
+        placing,
+        ..
+    } = mapping;
     let Some(first) = place_of(regions, addr, pages, placing) else {
         return Err(Errno::ENOMEM);
     };
     if is_taken(regions, first, pages, placing) {
         return Err(Errno::EEXIST);
     }
-    let attr = first_attr(core, pid, first, pages, source, prot);
+    let attr = first_attr(core, pid, first, mapping);
     match regions.replace_into(first, pages, attr, next) {
         Ok(()) => Ok(first),
         Err(TooManyRuns) => Err(Errno::ENOMEM),
     }
 }
 
-/// Maps the pages that `len` bytes take, anonymous ones or those of a file from an offset on, and returns the mapping's
+/// Maps the pages that so many bytes take, anonymous ones or those of a file from an offset on, and returns the mapping's
 /// address, in bytes. Who may write there may read there as well (our choice). Anonymous pages that are shared are those of a new
 /// object, with the least number of which no process has a page (our choice).
 ///
@@ -277,29 +273,32 @@ pub fn mmap<D: SectorDisk, E: SectorDisk, M: Levels>(
     core: &mut Core<D, E, M>,
     room: &mut RegionRoom<M>,
     pid: u64,
-    addr: u64,
-    len: u64,
-    prot: Prot,
-    source: MapSource,
-    placing: Placing,
+    request: MapRequest,
 ) -> Answer
     requires sound { IsSoundCore D.SectorDisk E.SectorDisk core.old }
     ensures sound { IsSoundCore D.SectorDisk E.SectorDisk core.new }
-    ensures comes { Carries D.SectorDisk E.SectorDisk core.old core.new (Mmap pid addr len prot source placing) (reply_of result) }
+    ensures comes { Carries D.SectorDisk E.SectorDisk core.old core.new (Mmap pid request.addr request.len request.prot request.source request.placing) (reply_of result) }
     ensures keeps { LeavesDevices D.SectorDisk E.SectorDisk core.old core.new (reply_of result) }
-    ensures takes { TakesNothing (picture_of core.old) (picture_of core.new) pid (first_mapped (reply_of result)) (page_count len) }
-    ensures beside { KeepsEntriesBeside (picture_of core.old) (picture_of core.new) pid (first_mapped (reply_of result)) (page_count len) }
+    ensures takes { TakesNothing (picture_of core.old) (picture_of core.new) pid (first_mapped (reply_of result)) (page_count request.len) }
+    ensures beside { KeepsEntriesBeside (picture_of core.old) (picture_of core.new) pid (first_mapped (reply_of result)) (page_count request.len) }
 {
     let Some(pid) = core.live(pid) else {
         return Answer::Refused(Errno::ESRCH);
     };
-    if let Some(errno) = refusal(&core.store, addr, len, prot, source, placing) {
+    if let Some(errno) = refusal(&core.store, request) {
         return Answer::Refused(errno);
     }
-    let pages = len.div_ceil(PAGE);
+    let pages = request.len.div_ceil(PAGE);
     let regions = core.regions(pid);
     let next = room.next();
-    match planned(core, pid, regions, addr, pages, prot, source, placing, next) {
+    let mapping = Mapping {
+        addr: request.addr,
+        pages,
+        prot: request.prot,
+        source: request.source,
+        placing: request.placing,
+    };
+    match planned(core, pid, regions, mapping, next) {
         Ok(first) => {
             remap(core, pid, first, pages, next);
             Answer::Address(first * PAGE)

@@ -14,6 +14,7 @@ ghost use Rattle.spaces.specs.Protections.{permit_checks, IsPermitted};
 ghost use Rattle.spaces.specs.Space.{space_of};
 
 use crate::region_room::RegionRoom;
+use crate::requests::{PageRange, ProtectRequest};
 use crate::space::PAGE;
 use disk_model::SectorDisk;
 use file_store::FileStore;
@@ -73,20 +74,20 @@ fn denies_stores<D: SectorDisk, M: Levels>(
     prot.is_writable() && has_guarded(store, regions, first, pages)
 }
 
-/// Writes the regions with the permission for the pages of the row into `next`, or says why that is refused.
+/// Writes the regions with the permission for the pages of the range into `next`, or says why that is refused.
 fn permitted<D: SectorDisk, M: Levels>(
     store: &FileStore<D>,
     regions: &Regions<M>,
-    first: u64,
-    pages: u64,
+    range: PageRange,
     prot: Prot,
     next: &mut Regions<M>,
 ) -> Result<(), Errno>
-    requires some { 0 < pages }
-    requires row { first + pages < 2 ^ 64 }
-    ensures ok { OnOk result (IsPermitted M.mode (files_of store.now) regions.now first pages prot next.new) }
-    ensures err { IfErr result (λ errno. first_of (permit_checks M.mode (files_of store.now) (space_of regions.now) first pages prot) ≡ Some errno) }
+    requires some { 0 < range.pages }
+    requires row { range.first + range.pages < 2 ^ 64 }
+    ensures ok { OnOk result (IsPermitted M.mode (files_of store.now) regions.now range.first range.pages prot next.new) }
+    ensures err { IfErr result (λ errno. first_of (permit_checks M.mode (files_of store.now) (space_of regions.now) range.first range.pages prot) ≡ Some errno) }
 {
+    let PageRange { first, pages } = range;
     if !regions.covers(first, pages) {
         return Err(Errno::ENOMEM);
     }
@@ -99,7 +100,7 @@ fn permitted<D: SectorDisk, M: Levels>(
     }
 }
 
-/// Gives the pages of the range of `len` bytes from `addr` on another permission (mprotect(2)). Who may write there may
+/// Gives the pages of a range of bytes another permission (mprotect(2)). Who may write there may
 /// read there as well (our choice).
 ///
 /// In this order: `ESRCH` where there is no such process, `EINVAL` where the address is no multiple of the page size; a
@@ -110,18 +111,17 @@ pub fn mprotect<D: SectorDisk, E: SectorDisk, M: Levels>(
     core: &mut Core<D, E, M>,
     room: &mut RegionRoom<M>,
     pid: u64,
-    addr: u64,
-    len: u64,
-    prot: Prot,
+    request: ProtectRequest,
 ) -> Answer
     requires sound { IsSoundCore D.SectorDisk E.SectorDisk core.old }
     ensures sound { IsSoundCore D.SectorDisk E.SectorDisk core.new }
-    ensures comes { Carries D.SectorDisk E.SectorDisk core.old core.new (Mprotect pid addr len prot) (reply_of result) }
+    ensures comes { Carries D.SectorDisk E.SectorDisk core.old core.new (Mprotect pid request.addr request.len request.prot) (reply_of result) }
     ensures keeps { LeavesDevices D.SectorDisk E.SectorDisk core.old core.new (reply_of result) }
     ensures takes { TakesNothing (picture_of core.old) (picture_of core.new) pid 0 0 }
-    ensures beside { KeepsEntriesBeside (picture_of core.old) (picture_of core.new) pid (addr / 4096) (page_count len) }
+    ensures beside { KeepsEntriesBeside (picture_of core.old) (picture_of core.new) pid (request.addr / 4096) (page_count request.len) }
     ensures swap { core.new.swap ≡ core.old.swap }
 {
+    let ProtectRequest { addr, len, prot } = request;
     let Some(pid) = core.live(pid) else {
         return Answer::Refused(Errno::ESRCH);
     };
@@ -134,7 +134,13 @@ pub fn mprotect<D: SectorDisk, E: SectorDisk, M: Levels>(
     let first = addr / PAGE;
     let pages = len.div_ceil(PAGE);
     let next = room.next();
-    match permitted(&core.store, core.regions(pid), first, pages, prot, next) {
+    match permitted(
+        &core.store,
+        core.regions(pid),
+        PageRange { first, pages },
+        prot,
+        next,
+    ) {
         Ok(()) => {
             reprotect(core, pid, first, pages, prot.kept(), next);
             Answer::Done

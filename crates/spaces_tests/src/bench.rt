@@ -7,11 +7,10 @@ ghost use Rattle.residency.specs.Parts.{IsFit};
 ghost use Rattle.residency.specs.Picture.{picture_of};
 
 use disk_model::{SectorDisk, SimDisk};
-use fault::root_of;
 use frames::Role;
 use memory::entry_number;
-use residency::Core;
-use spaces::{RegionRoom, SyncRoom};
+use residency::{Core, root_of};
+use spaces::{MapRequest, ProtectRequest, RegionRoom, SyncRoom};
 use std::alloc::Global;
 use std::fmt::Debug;
 use std::process::Abort;
@@ -140,10 +139,20 @@ fn called<D: SectorDisk, E: SectorDisk, M: Levels>(
         Call::Fork(pid) => spaces::fork(core, pid),
         Call::Exit(pid) => spaces::exit(core, pid),
         Call::Map(addr, len, may, source) => {
-            spaces::mmap(core, room, 1, addr, len, prot(may), source, Placing::Hint)
+            let request = MapRequest {
+                addr,
+                len,
+                prot: prot(may),
+                source,
+                placing: Placing::Hint,
+            };
+            spaces::mmap(core, room, 1, request)
         }
         Call::Unmap(addr, len) => spaces::munmap(core, room, 1, addr, len),
-        Call::Protect(addr, len, may) => spaces::mprotect(core, room, 1, addr, len, prot(may)),
+        Call::Protect(addr, len, may) => {
+            let prot = prot(may);
+            spaces::mprotect(core, room, 1, ProtectRequest { addr, len, prot })
+        }
         Call::Sync(addr, len) => synced(rt, core, addr, len),
         Call::Dontneed(addr, len) => spaces::dontneed(core, 1, addr, len),
         Call::Load(pid, addr, width) => spaces::load(core, pid, addr, width),

@@ -7,7 +7,7 @@ use Rattle.disk_model.specs.declared.sector_disk.SectorDisk.{Ghosts}
 use Rattle.disk_model.specs.Sectors.{joined}
 use Rattle.disk_model.proofs.Pieces.{joined-same}
 use Rattle.file_store.specs.declared.store.FileStore.{FileStore}
-use Rattle.file_store.specs.Layout.{page_count}
+use Rattle.file_store.specs.Layout.{pages_of_length}
 use Rattle.file_store.specs.Standing.{IsBadLayout, IsBadJournal, IsPageOf, StandsAs, bytes_of_pages, file_info, standing_file, standing_page}
 use Rattle.file_store.specs.Store.{IsReadyStore, files_of}
 use Rattle.stop_trials.specs.Standing.{standing_bytes, standing_contents}
@@ -20,9 +20,9 @@ of_file pages info = unwrap_or (option_map (bytes_of_pages pages) info) []
 same_pages : (info : Option FileInfo) (xs ys : ℕ → List ℕ) → ((k : ℕ) (i : FileInfo) → info ≡ Some i → 4096 * k < i.length → xs k ≡ ys k) → of_file xs info ≡ of_file ys info
 unfolding of_file
 same_pages None xs ys same = refl
-same_pages (Some i) xs ys same = ap (take i.length) (joined-same (page_count i.length) xs ys (λ k lt. same k i refl (inside i k lt)))
+same_pages (Some i) xs ys same = ap (take i.length) (joined-same (pages_of_length i.length) xs ys (λ k lt. same k i refl (inside i k lt)))
   where
-    inside : (i : FileInfo) (k : ℕ) → k < page_count i.length → 4096 * k < i.length
+    inside : (i : FileInfo) (k : ℕ) → k < pages_of_length i.length → 4096 * k < i.length
     inside i k lt = omega (arith, lt)
 
 same_bytes : (old new : Image) (f : ℕ) → file_info new f ≡ file_info old f → ((k : ℕ) → IsPageOf (file_info old) f k → standing_page new f k ≡ standing_page old f k)

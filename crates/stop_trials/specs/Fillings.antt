@@ -13,12 +13,12 @@ unfoldable pub half_open_sector : List ℕ
 half_open_sector = take 256 open_sector ++ replicate 256 0
 
 -- what a sector holds then that held these bytes when it was last synced
-abbrev pub filled : Filling → List ℕ → List ℕ
-filled Old old = old
-filled Zeros old = closed_sector
-filled Ones old = replicate sector_bytes 255
-filled HalfOpen old = half_open_sector
-filled Open old = open_sector
+abbrev pub filled_by : Filling → List ℕ → List ℕ
+filled_by Old old = old
+filled_by Zeros old = closed_sector
+filled_by Ones old = replicate sector_bytes 255
+filled_by HalfOpen old = half_open_sector
+filled_by Open old = open_sector
 
 abbrev pub left_with : Filling → SimDisk → Image
-left_with filling d k = if slice_index_or d.unsynced.items k false then filled filling (last_synced d k) else sector_of d k
+left_with filling d k = if slice_index_or d.unsynced.items k false then filled_by filling (last_synced d k) else sector_of d k

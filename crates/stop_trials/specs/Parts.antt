@@ -27,9 +27,9 @@ part_in_turn sector =
     else (if nat_lt sector (turn_body true 0) then Map
     else (if nat_lt sector turn_homes then Body else Home)))))))
 
-abbrev pub part_of : Journals → ℕ → Part
-part_of Single sector = part_at sector
-part_of Paired sector = part_in_turn sector
+abbrev pub store_part : Journals → ℕ → Part
+store_part Single sector = part_at sector
+store_part Paired sector = part_in_turn sector
 
 pub last_of_the_map : part_at 10 ≡ Map
 last_of_the_map = refl

@@ -18,21 +18,21 @@ abbrev pub plan_of : StoppingDisk → Plan
 plan_of d = record { events = d.events; stop = d.stop; stopped = d.stopped; drops = d.drops }
 
 -- no sync is dropped
-abbrev pub IsHonest : StoppingDisk → Type 0
-IsHonest d = d.drops ≡ None
+abbrev pub DropsNoSync : StoppingDisk → Type 0
+DropsNoSync d = d.drops ≡ None
 
 -- it stays stopped where it is, and else stops in this event where it is told to
 abbrev pub stopped_in : Option Event → Option ℕ → ℕ → Event → Option Event
 stopped_in (Some earlier) stop count event = Some earlier
 stopped_in None stop count event = if is_at stop count then Some event else None
 
-abbrev pub after_event : Event → Plan → Plan
-after_event event p = record p { events = one_more p.events; stopped = stopped_in p.stopped p.stop (one_more p.events) event }
+abbrev pub plan_after_event : Event → Plan → Plan
+plan_after_event event p = record p { events = one_more p.events; stopped = stopped_in p.stopped p.stop (one_more p.events) event }
 
 -- after so many writes in a row, the first to sector n
-abbrev pub after_writes : ℕ → ℕ → Plan → Plan
-after_writes zero n p = p
-after_writes (suc i) n p = after_event (Write (n + i)) (after_writes i n p)
+abbrev pub plan_after_writes : ℕ → ℕ → Plan → Plan
+plan_after_writes zero n p = p
+plan_after_writes (suc i) n p = plan_after_event (Write (n + i)) (plan_after_writes i n p)
 
 -- after so many calls the next one fails where the device has stopped, and else none, the first being call 1
 abbrev pub failing_call : Option Event → ℕ → ℕ
@@ -44,7 +44,7 @@ pub record AnswersAsDisk {T F : Type 0} (old new : StoppingDisk) (result : Resul
   -- it has as many sectors as it had,
   pub size : sectors_in new.disk ≡ sectors_in old.disk
   -- is honest only if it was before,
-  pub kept : IsHonest new → IsHonest old
+  pub kept : DropsNoSync new → DropsNoSync old
   -- tells a fault exactly where it failed,
   pub cause : HasCause (failures_of old.disk) (failures_of new.disk) result
   -- and a stop might have left what it might have left before, or what it may leave now.

@@ -45,13 +45,13 @@ AreTrials states every [] = Unit {0}
 AreTrials states every (trial ∷ earlier) = IsTrial states (min (every * (length earlier + 1)) (2 ^ 64 - 1)) trial × AreTrials states every earlier
 
 -- each of them left with each filling what it may
-abbrev pub AreGood : List Trial → Type 0
-AreGood [] = Unit {0}
-AreGood (trial ∷ earlier) = AllStand trial × AreGood earlier
+abbrev pub AreGoodTrials : List Trial → Type 0
+AreGoodTrials [] = Unit {0}
+AreGoodTrials (trial ∷ earlier) = AllStand trial × AreGoodTrials earlier
 
 -- What the trials come to: so many stops, and where none was bad each left what it may.
 pub record AreTried (states : List (Vec ℕ Global)) (every : ℕ) (summary : Summary) : Type 0 where
   pub trials : List Trial
   pub each : AreTrials states every trials
   pub count : summary.stops ≡ length trials
-  pub good : summary.bad ≡ 0 → AreGood trials
+  pub good : summary.bad ≡ 0 → AreGoodTrials trials

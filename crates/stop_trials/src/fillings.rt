@@ -3,8 +3,8 @@ ghost use Rattle.std.specs.Prelude.{◌≡◌, ◌<◌, ℕ, List, IfOk, unwrap_
 ghost use Rattle.sync_journal.specs.Gate.{open_sector};
 ghost use Rattle.disk_model.specs.Plan.{first_listed};
 ghost use Rattle.disk_model.specs.Stop.{MayLeave};
-ghost use Rattle.disk_model.specs.SimDisk.{sectors_in, sector_of, IsUnsynced, IsFresh};
-ghost use Rattle.stop_trials.specs.Fillings.{filled, left_with, half_open_sector};
+ghost use Rattle.disk_model.specs.SimDisk.{sectors_in, sector_of, IsUnsynced, IsNewDevice};
+ghost use Rattle.stop_trials.specs.Fillings.{filled_by, left_with, half_open_sector};
 
 use disk_model::{SECTOR_BYTES, SectorDisk, SimDisk};
 use std::alloc::{AllocError, Global};
@@ -76,7 +76,7 @@ fn everywhere(
 impl Filling {
     /// Its bytes, where they aren't the old ones.
     fn bytes(self) -> Option<[u8; SECTOR_BYTES]>
-        ensures { (old : List ℕ) → unwrap_or result old ≡ filled self old }
+        ensures { (old : List ℕ) → unwrap_or result old ≡ filled_by self old }
     {
         match self {
             Filling::Old => None,
@@ -96,7 +96,7 @@ impl Filling {
         ensures size { IfOk result (λ d. sectors_in d ≡ sectors_in disk.now) }
         ensures bytes { IfOk result (λ d. (k : ℕ) → k < sectors_in disk.now → sector_of d k ≡ left_with self disk.now k) }
         ensures stop { IfOk result (λ d. MayLeave (sector_of disk.now) (IsUnsynced disk.now) (sector_of d)) }
-        ensures fresh { IfOk result IsFresh }
+        ensures fresh { IfOk result IsNewDevice }
     {
         let Some(bytes) = self.bytes() else {
             let left = disk.left(alloc, &[])?;

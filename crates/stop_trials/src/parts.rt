@@ -1,6 +1,6 @@
 //! The parts of a store's image.
 ghost use Rattle.std.specs.Prelude.{◌≡◌};
-ghost use Rattle.stop_trials.specs.Parts.{part_at, part_in_turn, part_of};
+ghost use Rattle.stop_trials.specs.Parts.{part_at, part_in_turn, store_part};
 
 use crate::stopping::Event;
 use std::fmt::{self, Display, Formatter};
@@ -50,7 +50,7 @@ pub(crate) enum Part {
 impl Part {
     /// The part that a sector is of, of a store of these journals.
     pub(crate) fn of(journals: Journals, sector: u64) -> Part
-        ensures { result ≡ part_of journals sector }
+        ensures { result ≡ store_part journals sector }
     {
         match journals {
             Journals::Single => Part::of_one(sector),

@@ -4,7 +4,7 @@ ghost use Rattle.std.proofs.Common.{inl};
 ghost use Rattle.disk_model.specs.Stop.{MayLeave, IsOfPage, Names};
 ghost use Rattle.disk_model.specs.Sectors.{part_of};
 ghost use Rattle.disk_model.specs.Plan.{is_at};
-ghost use Rattle.disk_model.specs.SimDisk.{sectors_in, sector_of, IsUnsynced, moment_of, LeftSince, only_present, failures_of, asked_of, counts_of};
+ghost use Rattle.disk_model.specs.SimDisk.{sectors_in, sector_of, IsUnsynced, moment_of, LeftSince, only_present, failures_of, asked_of, disk_counts};
 
 use disk_model::{DiskFault, SectorDisk, SimDisk, parts};
 use std::alloc::{AllocError, Global};
@@ -27,8 +27,8 @@ pub(crate) struct StoppingDisk {
     stop: Option<u64>,
     stopped: Option<Event>,
     drops: Option<u64>,
-    ghost runs: { (counts_of disk).stopped ≡ false },
-    ghost no_stop: { (counts_of disk).stop ≡ None },
+    ghost runs: { (disk_counts disk).stopped ≡ false },
+    ghost no_stop: { (disk_counts disk).stop ≡ None },
 }
 
 /// Whether that event is the one to stop in.
@@ -49,7 +49,7 @@ fn fault_if(failed: bool) -> Result<(), DiskFault>
 }
 
 impl StoppingDisk {
-    ghost use Rattle.stop_trials.specs.Stopping.{plan_of, after_event, failing_call};
+    ghost use Rattle.stop_trials.specs.Stopping.{plan_of, plan_after_event, failing_call};
 
     /// A device of what another one holds, all of it synced. It stops in event `stop`, the first being 1, or never, and drops the
     /// sync that is event `drops`, or none.
@@ -118,7 +118,7 @@ impl StoppingDisk {
 
     /// Counts an event, in which it may stop.
     fn note(&mut self, event: Event)
-        ensures plan { plan_of self.new ≡ after_event event (plan_of self.old) }
+        ensures plan { plan_of self.new ≡ plan_after_event event (plan_of self.old) }
         ensures disk { self.new.disk ≡ record self.old.disk { fail = Some (failing_call self.new.stopped self.old.disk.calls) } }
     {
         self.events = self.events.saturating_add(1);
@@ -130,7 +130,7 @@ impl StoppingDisk {
 }
 
 impl SectorDisk for StoppingDisk {
-    ghost use Rattle.stop_trials.specs.Stopping.{AnswersAsDisk, ChangesSector, ChangesSectors, HoldsAsBefore, IsHonest, StopsAsTold, after_event, after_writes, plan_of};
+    ghost use Rattle.stop_trials.specs.Stopping.{AnswersAsDisk, ChangesSector, ChangesSectors, HoldsAsBefore, DropsNoSync, StopsAsTold, plan_after_event, plan_after_writes, plan_of};
 
     ghost sector_count = { λ d. sectors_in d.disk };
 
@@ -146,7 +146,7 @@ impl SectorDisk for StoppingDisk {
 
     ghost asked = { λ d. asked_of d.disk };
 
-    ghost keeps_model = { IsHonest };
+    ghost keeps_model = { DropsNoSync };
 
     ghost counts_now = { λ d t c kept le now. inl now };
 
@@ -188,7 +188,7 @@ impl SectorDisk for StoppingDisk {
         ensures asks { Names (λ k. k ≡ n) (asked_of self.old.disk) (asked_of self.new.disk) }
         ensures written { OnOk result (sector_of self.new.disk n ≡ from.now) }
         ensures changes { ChangesSector n self.old self.new }
-        ensures stops { StopsAsTold (after_event (Event.Write n) (plan_of self.old)) self.new result }
+        ensures stops { StopsAsTold (plan_after_event (Event.Write n) (plan_of self.old)) self.new result }
     {
         self.note(Event::Write(n));
         self.disk.write(n, from)
@@ -202,7 +202,7 @@ impl SectorDisk for StoppingDisk {
         ensures asks { Names (IsOfPage n) (asked_of self.old.disk) (asked_of self.new.disk) }
         ensures written { OnOk result ((i : ℕ) → i < 8 → sector_of self.new.disk (n + i) ≡ part_of from.now i) }
         ensures changes { ChangesSectors n self.old self.new }
-        ensures stops { StopsAsTold (after_writes 8 n (plan_of self.old)) self.new result }
+        ensures stops { StopsAsTold (plan_after_writes 8 n (plan_of self.old)) self.new result }
     {
         let mut failed = false;
         for (i, sector) in parts(from).iter().enumerate() {
@@ -216,10 +216,10 @@ impl SectorDisk for StoppingDisk {
         ensures keeps { AnswersAsDisk self.old self.new result }
         ensures asks { (k : ℕ) → asked_of self.new.disk k ≡ asked_of self.old.disk k }
         ensures same { sector_of self.new.disk ≡ sector_of self.old.disk }
-        ensures synced { IsHonest self.new → OnOk result ((k : ℕ) → IsUnsynced self.new.disk k → ⊥) }
+        ensures synced { DropsNoSync self.new → OnOk result ((k : ℕ) → IsUnsynced self.new.disk k → ⊥) }
         ensures unsynced { (k : ℕ) → IsUnsynced self.new.disk k → IsUnsynced self.old.disk k }
         ensures still { OnErr result ((k : ℕ) → IsUnsynced self.old.disk k → IsUnsynced self.new.disk k) }
-        ensures stops { StopsAsTold (after_event Event.Sync (plan_of self.old)) self.new result }
+        ensures stops { StopsAsTold (plan_after_event Event.Sync (plan_of self.old)) self.new result }
     {
         self.note(Event::Sync);
         if self.stopped.is_none() && is_at(self.drops, self.events) {

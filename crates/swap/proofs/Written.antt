@@ -6,7 +6,7 @@ use Rattle.disk_model.specs.Stop.{Image, ChangesPage}
 use Rattle.disk_model.specs.Sectors.{part_of}
 use Rattle.disk_model.proofs.Pieces.{joined-same, joined_parts}
 use Rattle.disk_model.specs.declared.sector_disk.SectorDisk.{Ghosts}
-use Rattle.swap.specs.Written.{page_of_rows, written_in, page_at, IsAsWritten}
+use Rattle.swap.specs.Written.{page_of_rows, written_in, image_page, IsAsWritten}
 
 pub rows_make : (rows : List (List ℕ)) (page : List ℕ) → length rows ≡ 8 → length page ≡ 4096
     → ((i : ℕ) → i < 8 → get_or rows i [] ≡ part_of page i) → page_of_rows rows ≡ Some page
@@ -22,7 +22,7 @@ pub noted-other : (note : Note) (older : List Note) (n m : ℕ) → get_or note.
 noted-other note older n m is ne = rw (ne_eqb (get_or note.0 0 0) m (λ e. ne (sym e ∙ is))) refl
 
 module _ {D : Type 0} (g : Ghosts D) where
-  page_stays : (n m : ℕ) (old new : Image) → m ≢ n → ChangesPage (8 * n) old new → page_at new m ≡ page_at old m
+  page_stays : (n m : ℕ) (old new : Image) → m ≢ n → ChangesPage (8 * n) old new → image_page new m ≡ image_page old m
   page_stays n m old new ne changes =
       joined-same 8 (λ i. new (8 * m + i)) (λ i. old (8 * m + i)) (λ i lt. changes.others (8 * m + i) (λ inside. (let low = inside.0 in let high = inside.1 in omega (arith, low, high, lt, ne))))
 
@@ -44,7 +44,7 @@ module _ {D : Type 0} (g : Ghosts D) where
         let here = noted-here note (lost ∷ notes) m (is ∙ sym e) in
         let same : Some page ≡ Some w = sym rows ∙ sym here ∙ at in
         let inner : page ≡ w = (cc) in
-        let P : ℕ → Type 0 = λ x. page_at (g.content new) x ≡ page in
+        let P : ℕ → Type 0 = λ x. image_page (g.content new) x ≡ page in
         subst P (sym e) (joined-same 8 (λ i. g.content new (8 * n + i)) (part_of page) (written k) ∙ joined_parts page size) ∙ inner)
     | inr ne ↦ as_written k m w (sym (noted-other note (lost ∷ notes) n m is ne) ∙ at)
   ]

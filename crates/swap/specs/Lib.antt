@@ -2,3 +2,4 @@ pub mod Written
 pub mod Slots
 pub mod Counts
 pub mod Inside
+pub mod SlotAccess

@@ -30,8 +30,8 @@ abbrev pub IsInUse : SlotTable → ℕ → Type 0
 IsInUse t n = 0 < t.count n
 
 -- no slot is free
-abbrev pub IsFull : SlotTable → Type 0
-IsFull t = (n : ℕ) → n < t.total → IsInUse t n
+abbrev pub IsSwapFull : SlotTable → Type 0
+IsSwapFull t = (n : ℕ) → n < t.total → IsInUse t n
 
 -- how many slots are free
 abbrev pub free_slots : SlotTable → ℕ
@@ -52,7 +52,7 @@ pub record AreSoundSlots (t : SlotTable) : Type 0 where
   pub inside : (n : ℕ) → IsInUse t n → n < t.total
 
 -- all but slot n is as it was
-pub record SameButFor (n : ℕ) (old new : SlotTable) : Type 0 where
+pub record SameButForSlot (n : ℕ) (old new : SlotTable) : Type 0 where
   pub total : new.total ≡ old.total
   pub bytes : (m : ℕ) → m ≢ n → IsInUse old m → new.bytes m ≡ old.bytes m
   pub counts : (m : ℕ) → m ≢ n → new.count m ≡ old.count m
@@ -65,26 +65,26 @@ pub record Same (old new : SlotTable) : Type 0 where
 
 -- slot n, which was free, has these bytes and one share
 pub record Puts (old new : SlotTable) (n : ℕ) (page : List ℕ) : Type 0 where
-  pub others : SameButFor n old new
+  pub others : SameButForSlot n old new
   pub inside : n < old.total
   pub was_free : old.count n ≡ 0
   pub holds : new.bytes n ≡ page
   pub counted : new.count n ≡ 1
 
 -- one more shares slot n
-pub record Shares (old new : SlotTable) (n : ℕ) : Type 0 where
-  pub others : SameButFor n old new
+pub record SharesSlot (old new : SlotTable) (n : ℕ) : Type 0 where
+  pub others : SameButForSlot n old new
   pub bytes_kept : new.bytes n ≡ old.bytes n
   pub raised : new.count n ≡ old.count n + 1
 
 -- one less shares slot n, which is free where nobody is left
-pub record Releases (old new : SlotTable) (n : ℕ) : Type 0 where
-  pub others : SameButFor n old new
+pub record ReleasesSlot (old new : SlotTable) (n : ℕ) : Type 0 where
+  pub others : SameButForSlot n old new
   pub bytes_kept : new.bytes n ≡ old.bytes n
   pub lowered : new.count n + 1 ≡ old.count n
 
 -- so many slots, all of them free
-pub record IsFresh (t : SlotTable) (slots : ℕ) : Type 0 where
+pub record AreNewSlots (t : SlotTable) (slots : ℕ) : Type 0 where
   pub total : t.total ≡ slots
   pub free : (n : ℕ) → t.count n ≡ 0
 

@@ -16,9 +16,9 @@ written_in [] n = None
 written_in (note ∷ older) n = if slice_index note.0 0 == n then page_of_rows note.1 else written_in older n
 
 -- page n of an image: sectors 8n to 8n + 7
-abbrev pub page_at : Image → ℕ → List ℕ
-page_at image n = joined (λ i. image (8 * n + i)) 8
+abbrev pub image_page : Image → ℕ → List ℕ
+image_page image n = joined (λ i. image (8 * n + i)) 8
 
 -- as long as it keeps its model, the device holds what was written
 abbrev pub IsAsWritten : {D : Type 0} → Ghosts D → D → List Note → Type 0
-IsAsWritten g disk notes = g.keeps_model disk → (n : ℕ) (w : List ℕ) → written_in notes n ≡ Some w → page_at (g.content disk) n ≡ w
+IsAsWritten g disk notes = g.keeps_model disk → (n : ℕ) (w : List ℕ) → written_in notes n ≡ Some w → image_page (g.content disk) n ≡ w

@@ -1,8 +1,6 @@
 //! Pages of eight sectors on a device, and what was written to them.
-ghost use Rattle.std.specs.Prelude.{◌≡◌, ◌≢◌, ◌≤◌, ◌+◌, ◌*◌, ℕ, List, [], Some, OnOk};
-ghost use Rattle.disk_model.specs.Stop.{HasCause, ChangesPage, IsOfPage};
-ghost use Rattle.disk_model.specs.Moments.{AsksOnly};
-ghost use Rattle.swap.specs.Written.{written_in, IsAsWritten};
+ghost use Rattle.std.specs.Prelude.{◌≡◌, ◌≤◌, ◌+◌, ◌*◌, []};
+ghost use Rattle.swap.specs.Written.{IsAsWritten};
 
 use disk_model::{DiskFault, Log, SectorDisk, parts};
 
@@ -17,6 +15,8 @@ pub struct Pages<D> {
 }
 
 impl<D: SectorDisk> Pages<D> {
+    ghost use Rattle.swap.specs.SlotAccess.{WritesPage, ReadsPage};
+
     /// The pages of a device, of which nothing is known.
     pub(crate) fn new(disk: D) -> Pages<D>
         ensures disk { result.disk ≡ disk }
@@ -32,14 +32,7 @@ impl<D: SectorDisk> Pages<D> {
     pub(crate) fn put(&mut self, n: u32, page: &[u8; 4096]) -> Result<(), DiskFault>
         requires room { 8 * n + 8 ≤ D.sector_count self.old.disk }
         requires as_written { IsAsWritten D.SectorDisk self.old.disk self.old.written.notes }
-        ensures as_written { IsAsWritten D.SectorDisk self.new.disk self.new.written.notes }
-        ensures size { D.sector_count self.new.disk ≡ D.sector_count self.old.disk }
-        ensures kept { D.keeps_model self.new.disk → D.keeps_model self.old.disk }
-        ensures cause { HasCause (D.failures self.old.disk) (D.failures self.new.disk) result }
-        ensures asks { AsksOnly D.SectorDisk (IsOfPage (8 * n)) self.old.disk self.new.disk }
-        ensures written { OnOk result (written_in self.new.written.notes n ≡ Some page.now) }
-        ensures others { (m : ℕ) → m ≢ n → written_in self.new.written.notes m ≡ written_in self.old.written.notes m }
-        ensures sectors { D.keeps_model self.new.disk → ChangesPage (8 * n) (D.content self.old.disk) (D.content self.new.disk) }
+        ensures { WritesPage D.SectorDisk self.old self.new n page.now result }
     {
         self.written.note(&[u64::from(n)], &[], &[]);
         self.disk.write_page(PAGE_SECTORS * u64::from(n), page)?;
@@ -51,14 +44,7 @@ impl<D: SectorDisk> Pages<D> {
     pub(crate) fn get(&mut self, n: u32, to: &mut [u8; 4096]) -> Result<(), DiskFault>
         requires room { 8 * n + 8 ≤ D.sector_count self.old.disk }
         requires as_written { IsAsWritten D.SectorDisk self.old.disk self.old.written.notes }
-        ensures as_written { IsAsWritten D.SectorDisk self.new.disk self.new.written.notes }
-        ensures size { D.sector_count self.new.disk ≡ D.sector_count self.old.disk }
-        ensures kept { D.keeps_model self.new.disk → D.keeps_model self.old.disk }
-        ensures cause { HasCause (D.failures self.old.disk) (D.failures self.new.disk) result }
-        ensures asks { AsksOnly D.SectorDisk (IsOfPage (8 * n)) self.old.disk self.new.disk }
-        ensures gives { D.keeps_model self.new.disk → OnOk result ((w : List ℕ) → written_in self.old.written.notes n ≡ Some w → to.new ≡ w) }
-        ensures unchanged { D.keeps_model self.new.disk → D.content self.new.disk ≡ D.content self.old.disk }
-        ensures same { self.new.written ≡ self.old.written }
+        ensures { ReadsPage D.SectorDisk self.old self.new n to.new result }
     {
         self.disk.read_page(PAGE_SECTORS * u64::from(n), to)
     }

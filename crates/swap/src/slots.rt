@@ -1,5 +1,5 @@
 //! Slots that pages are put into and got from.
-ghost use Rattle.std.specs.Prelude.{◌≡◌, ◌≢◌, ℕ, ◌*◌, ◌<◌, ◌≤◌, ◌↔◌, List, length, IsTrue, Some, None, IfOk, OnOk, OnErr, IsErrOf};
+ghost use Rattle.std.specs.Prelude.{◌≡◌, ◌≢◌, ℕ, ◌*◌, ◌<◌, ◌≤◌, ◌↔◌, List, length, IsTrue, Some, None, IfOk};
 ghost use Rattle.swap.specs.Counts.{count_at};
 ghost use Rattle.swap.specs.Written.{written_in};
 
@@ -45,10 +45,8 @@ impl From<DiskFault> for PutFault {
 }
 
 impl<D: SectorDisk> Swap<D> {
-    ghost use Rattle.disk_model.specs.Stop.{HasCause, ChangesPage};
-    ghost use Rattle.disk_model.specs.Moments.{AsksOnly};
-    ghost use Rattle.swap.specs.declared.slots.PutFault.TheVariants as PutFault;
-    ghost use Rattle.swap.specs.Slots.{slots_of, IsReady, IsInUse, IsFull, IsFresh, AreSoundSlots, Same, Puts, IsSectorOfSlot, IsSectorOfFreeSlot};
+    ghost use Rattle.swap.specs.Slots.{slots_of, IsReady, IsInUse, AreNewSlots, AreSoundSlots};
+    ghost use Rattle.swap.specs.SlotAccess.{PutsInSlot, GetsFromSlot};
 
     /// The first `slots` slots of a device, at most 65,536, all of them free. No later call takes memory of the host.
     ///
@@ -60,7 +58,7 @@ impl<D: SectorDisk> Swap<D> {
         requires room { 8 * slots ≤ D.sector_count disk }
         requires most { slots ≤ 65536 }
         ensures ready { IfOk result (IsReady D.SectorDisk) }
-        ensures fresh { IfOk result (λ swap. IsFresh (slots_of swap) slots) }
+        ensures fresh { IfOk result (λ swap. AreNewSlots (slots_of swap) slots) }
         ensures disk { IfOk result (λ swap. swap.pages.disk ≡ disk) }
         ensures sound { IfOk result (λ swap. AreSoundSlots (slots_of swap)) }
     {
@@ -79,20 +77,7 @@ impl<D: SectorDisk> Swap<D> {
     #[tactic(auto, using(crate::proofs::Sound::sound_slots))]
     pub fn put(&mut self, page: &[u8; 4096]) -> Result<SlotNo, PutFault>
         requires ready { IsReady D.SectorDisk self.old }
-        ensures ready { IsReady D.SectorDisk self.new }
-        ensures puts { IfOk result (λ n. Puts (slots_of self.old) (slots_of self.new) n.0 page.now) }
-        ensures same { OnErr result (Same (slots_of self.old) (slots_of self.new)) }
-        ensures full { IsErrOf result PutFault.Full ↔ IsFull (slots_of self.old) }
-        ensures unasked { IsErrOf result PutFault.Full → self.new.pages ≡ self.old.pages }
-        ensures asks { IfOk result (λ n. AsksOnly D.SectorDisk (IsSectorOfSlot n.0) self.old.pages.disk self.new.pages.disk) }
-        ensures asks_free { AsksOnly D.SectorDisk (IsSectorOfFreeSlot (slots_of self.old)) self.old.pages.disk self.new.pages.disk }
-        ensures device { IsErrOf result PutFault.Device → D.failures self.old.pages.disk < D.failures self.new.pages.disk }
-        ensures later { D.failures self.old.pages.disk ≤ D.failures self.new.pages.disk }
-        ensures calm { OnOk result (D.failures self.new.pages.disk ≡ D.failures self.old.pages.disk) }
-        ensures sectors { D.keeps_model self.new.pages.disk → IfOk result (λ n. ChangesPage (8 * n.0) (D.content self.old.pages.disk) (D.content self.new.pages.disk)) }
-        ensures size { D.sector_count self.new.pages.disk ≡ D.sector_count self.old.pages.disk }
-        ensures kept { D.keeps_model self.new.pages.disk → D.keeps_model self.old.pages.disk }
-        ensures sound { AreSoundSlots (slots_of self.new) }
+        ensures { PutsInSlot D.SectorDisk self.old self.new page.now result }
     {
         let Some(n) = self.counts.take() else {
             return Err(PutFault::Full);
@@ -113,21 +98,14 @@ impl<D: SectorDisk> Swap<D> {
     pub fn get(&mut self, n: SlotNo, to: &mut [u8; 4096]) -> Result<(), DiskFault>
         requires ready { IsReady D.SectorDisk self.old }
         requires in_use { IsInUse (slots_of self.old) n.0 }
-        ensures ready { IsReady D.SectorDisk self.new }
-        ensures gives { D.keeps_model self.new.pages.disk → OnOk result (to.new ≡ (slots_of self.old).bytes n.0) }
-        ensures same { slots_of self.new ≡ slots_of self.old }
-        ensures cause { HasCause (D.failures self.old.pages.disk) (D.failures self.new.pages.disk) result }
-        ensures asks { AsksOnly D.SectorDisk (IsSectorOfSlot n.0) self.old.pages.disk self.new.pages.disk }
-        ensures unchanged { D.keeps_model self.new.pages.disk → D.content self.new.pages.disk ≡ D.content self.old.pages.disk }
-        ensures size { D.sector_count self.new.pages.disk ≡ D.sector_count self.old.pages.disk }
-        ensures kept { D.keeps_model self.new.pages.disk → D.keeps_model self.old.pages.disk }
+        ensures { GetsFromSlot D.SectorDisk self.old self.new n.0 to.new result }
     {
         self.pages.get(n.0, to)
     }
 }
 
 impl<D> Swap<D> {
-    ghost use Rattle.swap.specs.Slots.{slots_of, IsInUse, IsFull, AreSoundSlots, Shares, Releases, free_slots};
+    ghost use Rattle.swap.specs.Slots.{slots_of, IsInUse, IsSwapFull, AreSoundSlots, SharesSlot, ReleasesSlot, free_slots};
     ghost use Rattle.vm_types.specs.Processes.{process_limit};
 
     /// The number of slots, at most 65,536. The second clause is what is true of slots at all times.
@@ -155,7 +133,7 @@ impl<D> Swap<D> {
 
     /// Whether no slot is free.
     pub fn is_full(&self) -> bool
-        ensures { IsTrue result ↔ IsFull (slots_of self.now) }
+        ensures { IsTrue result ↔ IsSwapFull (slots_of self.now) }
     {
         self.counts.free_count() == 0
     }
@@ -165,7 +143,7 @@ impl<D> Swap<D> {
     pub fn share(&mut self, n: SlotNo)
         requires in_use { IsInUse (slots_of self.old) n.0 }
         requires few { (slots_of self.old).count n.0 < process_limit }
-        ensures shares { Shares (slots_of self.old) (slots_of self.new) n.0 }
+        ensures shares { SharesSlot (slots_of self.old) (slots_of self.new) n.0 }
         ensures pages { self.new.pages ≡ self.old.pages }
         ensures sound { AreSoundSlots (slots_of self.new) }
     {
@@ -176,7 +154,7 @@ impl<D> Swap<D> {
     #[tactic(auto, using(crate::proofs::Sound::sound_slots))]
     pub fn release(&mut self, n: SlotNo)
         requires { IsInUse (slots_of self.old) n.0 }
-        ensures releases { Releases (slots_of self.old) (slots_of self.new) n.0 }
+        ensures releases { ReleasesSlot (slots_of self.old) (slots_of self.new) n.0 }
         ensures pages { self.new.pages ≡ self.old.pages }
         ensures sound { AreSoundSlots (slots_of self.new) }
     {

@@ -5,7 +5,7 @@ use Rattle.disk_model.specs.Moments.{Touches}
 use Rattle.disk_model.specs.declared.sector_disk.SectorDisk.{Ghosts}
 use Rattle.sync_journal.specs.Layout.{body_sector, home_sector, home_count, IsPageSector, IsHomeSector}
 use Rattle.sync_journal.specs.Map.{AreHomes}
-use Rattle.sync_journal.specs.Runs.{Runs}
+use Rattle.sync_journal.specs.Runs.{RunsOnDevice}
 use Rattle.sync_journal.specs.Standing.{AreCopied}
 use Rattle.sync_journal.proofs.Runs.{one_more, of_more}
 
@@ -52,7 +52,7 @@ module _ {D : Type 0} (g : Ghosts D) (count : ℕ) (homes : List ℕ) (are : Are
 
   -- a run that wrote one home is one that wrote homes
   pub one_home : (j to : ℕ) (old mid new : D) → j < length homes → to ≡ home_sector (get_or homes j 0)
-      → Runs g (IsHomeSector homes) old mid → Runs g (IsPageSector to) mid new → Runs g (IsHomeSector homes) old new
+      → RunsOnDevice g (IsHomeSector homes) old mid → RunsOnDevice g (IsPageSector to) mid new → RunsOnDevice g (IsHomeSector homes) old new
   one_home j to old mid new below at so_far more = one_more g (IsHomeSector homes) old mid new so_far
       (of_more g (IsPageSector to) (IsHomeSector homes) mid new (λ k inside. (j, below, (omega (arith, inside.0, at), omega (arith, inside.1, at)))) more)
 

@@ -6,9 +6,9 @@ use Rattle.std.proofs.lemmas.Bool.Decides.{nat_tests}
 use Rattle.disk_model.specs.Stop.{Image}
 use Rattle.sync_journal.specs.Layout.{Layout, layout_2, gate_sector, body_sector, home_at, home_sector, home_count, IsHomeSector, IsOutside}
 use Rattle.sync_journal.specs.Gate.{is_open}
-use Rattle.sync_journal.specs.Map.{place_among, place_of, count_in, home_in, AreHomes, IsBadMap}
+use Rattle.sync_journal.specs.Map.{place_among, home_rank, map_count, home_in, AreHomes, IsBadMap}
 use Rattle.sync_journal.proofs.Maps.{same_map}
-use Rattle.sync_journal.specs.Standing.{place_or_home_in, place_or_home, map_in, map_of, standing_under, standing_in, standing, StandsFor, IsOpenIn, IsOpenFor, AreCopied}
+use Rattle.sync_journal.specs.Standing.{place_or_home_in, place_or_home, map_in, map_of, standing_under, standing_in, standing_single, StandsForPages, IsOpenIn, IsOpenFor, AreCopied}
 use Rattle.sync_journal.specs.Commit.{IsKept}
 
 -- maps that name the same homes have them at the same places
@@ -65,37 +65,37 @@ pub closed_place : (layout : Layout) (image : Image) (h : ℕ) → is_open image
 unfolding standing_under
 closed_place layout image h closed =
     let map = map_in layout image in
-    ap (λ gate. if gate then place_or_home_in layout h (place_among (home_in map) h (count_in map)) else home_at layout h) closed
+    ap (λ gate. if gate then place_or_home_in layout h (place_among (home_in map) h (map_count map)) else home_at layout h) closed
 
 pub closed_stands : (layout : Layout) (image : Image) (h i : ℕ) → is_open image ≡ false → standing_in layout image h i ≡ image (home_at layout h + i)
 closed_stands layout image h i closed = ap (λ first. image (first + i)) (closed_place layout image h closed)
 
-pub standing_closed : (image : Image) (h i : ℕ) → is_open image ≡ false → standing image h i ≡ image (home_sector h + i)
+pub standing_closed : (image : Image) (h i : ℕ) → is_open image ≡ false → standing_single image h i ≡ image (home_sector h + i)
 standing_closed image h i closed = closed_stands layout_2 image h i closed
 
 -- under a gate that is open for homes, what the body holds for them, and the other homes
 pub open_place : (layout : Layout) (homes : List ℕ) (image : Image) (h : ℕ) → IsOpenIn layout homes image
-    → standing_under layout (is_open image) (map_in layout image) h ≡ place_or_home_in layout h (place_of homes h)
+    → standing_under layout (is_open image) (map_in layout image) h ≡ place_or_home_in layout h (home_rank homes h)
 unfolding standing_under
 open_place layout homes image h opens =
     let map = map_in layout image in
     let names = home_in map in
-    ap (λ gate. if gate then place_or_home_in layout h (place_among names h (count_in map)) else home_at layout h) opens.gate
+    ap (λ gate. if gate then place_or_home_in layout h (place_among names h (map_count map)) else home_at layout h) opens.gate
     ∙ ap (λ n. place_or_home_in layout h (place_among names h n)) opens.count
     ∙ ap (λ place. place_or_home_in layout h place) (place_same names (λ j. get_or homes j 0) h (length homes) opens.each)
 
 pub open_stands : (layout : Layout) (homes : List ℕ) (image : Image) (h i : ℕ) → IsOpenIn layout homes image
-    → standing_in layout image h i ≡ image (place_or_home_in layout h (place_of homes h) + i)
+    → standing_in layout image h i ≡ image (place_or_home_in layout h (home_rank homes h) + i)
 open_stands layout homes image h i opens = ap (λ first. image (first + i)) (open_place layout homes image h opens)
 
-pub standing_open : (homes : List ℕ) (image : Image) (h i : ℕ) → IsOpenFor homes image → standing image h i ≡ image (place_or_home h (place_of homes h) + i)
+pub standing_open : (homes : List ℕ) (image : Image) (h i : ℕ) → IsOpenFor homes image → standing_single image h i ≡ image (place_or_home h (home_rank homes h) + i)
 standing_open homes image h i opens = open_stands layout_2 homes image h i opens
 
 -- an image with the same map is open for the same homes
 pub open_as : (homes : List ℕ) (content image : Image) → IsOpenFor homes content → is_open image ≡ true → map_of image ≡ map_of content → IsOpenFor homes image
 open_as homes content image opens gate same = record {
   gate = gate;
-  count = ap count_in same ∙ opens.count;
+  count = ap map_count same ∙ opens.count;
   each = λ j below. ap (λ map. home_in map j) same ∙ opens.each j below;
 }
 
@@ -112,7 +112,7 @@ outside_homes sectors homes k are outside at_home =
 module _ (sectors : ℕ) (homes : List ℕ) (are : AreHomes (home_count sectors) homes) (content : Image) (opens : IsOpenFor homes content) where
   -- an image with the gate open, and the content but for homes that the body holds
   pub open_kept : (image : Image) → is_open image ≡ true → ((k : ℕ) → k ≢ gate_sector → IsHomeSector homes k ⊎ (image k ≡ content k))
-      → IsKept sectors content (StandsFor (standing content)) image
+      → IsKept sectors content (StandsForPages (standing_single content)) image
   open_kept image gate same = record {
     stands = record { each = each };
     journal = λ bad. record { gate = opens.gate; map = subst (IsBadMap 1023 (home_count sectors)) maps bad.map };
@@ -130,17 +130,17 @@ module _ (sectors : ℕ) (homes : List ℕ) (are : AreHomes (home_count sectors)
       here h i below (Some j) found = let few = are.few in
           ⊎_elim (λ at_home. absurd (omega (arith, few, found.0, at_home.2.0))) (λ e. e) (same (body_sector j + i) (omega arith))
 
-      each : (h i : ℕ) → i < 8 → standing image h i ≡ standing content h i
+      each : (h i : ℕ) → i < 8 → standing_single image h i ≡ standing_single content h i
       each h i below = standing_open homes image h i (open_as homes content image opens gate maps)
-          ∙ here h i below (place_of homes h) (place_means (λ j. get_or homes j 0) h (length homes))
+          ∙ here h i below (home_rank homes h) (place_means (λ j. get_or homes j 0) h (length homes))
           ∙ sym (standing_open homes content h i opens)
 
   -- an image with the gate closed, and the content but for the homes, which hold what the body held
   pub closed_kept : (image : Image) → is_open image ≡ false → AreCopied homes (length homes) content image
       → ((k : ℕ) → k ≢ gate_sector → IsHomeSector homes k ⊎ (image k ≡ content k))
-      → IsKept sectors content (StandsFor (standing content)) image
+      → IsKept sectors content (StandsForPages (standing_single content)) image
   closed_kept image gate copied same = record {
-    stands = record { each = λ h i below. standing_closed image h i gate ∙ here h i below (place_of homes h) (place_means (λ j. get_or homes j 0) h (length homes)) ∙ sym (standing_open homes content h i opens) };
+    stands = record { each = λ h i below. standing_closed image h i gate ∙ here h i below (home_rank homes h) (place_means (λ j. get_or homes j 0) h (length homes)) ∙ sym (standing_open homes content h i opens) };
     journal = λ bad. absurd (never bad.gate);
     outside = λ k outside. ⊎_elim (λ at_home. absurd (outside_homes sectors homes k are outside at_home)) (λ e. e) (same k (outside_gate k outside));
   }

@@ -1,11 +1,11 @@
 -- Each layout's words said in the words of both.
-use Rattle.std.proofs.Common.{◌≡◌, ◌⊎◌, ◌<◌, ℕ, Bool, true, false, List, Result, OnOk, refl, sym, ap, subst, ◌∙◌, ⊎_elim, inl, inr, arith}
+use Rattle.std.proofs.Common.{◌≡◌, ◌⊎◌, ◌<◌, ℕ, Bool, true, false, List, Result, Ok, Err, OnOk, refl, sym, ap, subst, ◌∙◌, ⊎_elim, inl, inr, arith}
 use Rattle.disk_model.specs.Stop.{Image, MayLeave}
 use Rattle.disk_model.specs.Moments.{Nothing, Touches, LeavesOnly}
 use Rattle.disk_model.proofs.Moments.{started, goes_on, weaker, joined}
 use Rattle.disk_model.specs.declared.sector_disk.SectorDisk.{Ghosts}
-use Rattle.sync_journal.specs.Standing.{standing, StandsFor}
-use Rattle.sync_journal.specs.Commit.{changed, StandsForEither, IsKept, IsAtRest, IsSettled}
+use Rattle.sync_journal.specs.Standing.{standing_single, StandsForPages}
+use Rattle.sync_journal.specs.Commit.{changed, StandsForEitherPages, IsKept, IsAtRest, IsSettled}
 use Rattle.sync_journal.specs.Journal.{live_homes}
 use Rattle.sync_journal.specs.Turns.{turn_standing, TurnStandsFor, TurnStandsForEither, IsTurnKept, IsTurnRest, IsTurnSettled}
 use Rattle.sync_journal.specs.Kinds.{is_kind, kind_when, kind_of, kind_standing, IsKindBad, IsKindOutside, store_standing, StoreStandsFor, StoreStandsForEither, IsStoreKept, IsStoreRest, IsStoreSettled, StoreStandsAs, KeepsStore}
@@ -17,14 +17,14 @@ use Rattle.sync_journal.specs.declared.store_journal.StoreJournal.{StoreJournal}
 use Rattle.sync_journal.specs.declared.store_journal.StoreJournal.TheVariants.{One, InTurn}
 use Rattle.sync_journal.proofs.Since.{changed_same}
 use Rattle.std.proofs.Common.{◌≤◌, ◌+◌, not, [], length, slice_index, Some, None}
-use Rattle.sync_journal.specs.Layout.{IsPageSector}
+use Rattle.sync_journal.specs.Layout.{IsPageSector, IsOutside}
 use Rattle.sync_journal.specs.Map.{AreHomes}
-use Rattle.sync_journal.specs.Turns.{turn_gate, turn_homes, turn_home, turn_home_count, turn_body, named_in, place_in, stands_under, IsBadUnder, IsTurnSector, IsTurnCommitted, IsTurnRecovered}
+use Rattle.sync_journal.specs.Turns.{turn_gate, turn_homes, turn_home, turn_home_count, turn_body, named_in, map_rank, stands_under, IsBadUnder, IsTurnSector, IsTurnCommitted, IsTurnOutside, IsTurnRecovered}
 use Rattle.sync_journal.proofs.Rests.{rest_read}
 
 -- A store of layout 2.
 module _ (sectors : ℕ) (content : Image) (was : kind_of content ≡ Single) where
-  pub one_same : (h i : ℕ) → standing content h i ≡ store_standing content h i
+  pub one_same : (h i : ℕ) → standing_single content h i ≡ store_standing content h i
   one_same h i = sym (ap (λ b. kind_standing b content h i) was)
 
   pub one_kept : (P Q : Image → Type 0) → ((image : Image) → kind_of image ≡ Single → P image → Q image) → (image : Image) → IsKept sectors content P image → IsStoreKept sectors content Q image
@@ -37,22 +37,22 @@ module _ (sectors : ℕ) (content : Image) (was : kind_of content ≡ Single) wh
       here : kind_of image ≡ Single
       here = ap (λ sector. kind_when (is_kind sector)) (kept.outside 1 (inl (omega arith))) ∙ was
 
-  pub one_stands : (found pages : ℕ → ℕ → List ℕ) → ((h i : ℕ) → found h i ≡ pages h i) → (image : Image) → kind_of image ≡ Single → StandsFor found image → StoreStandsFor pages image
+  pub one_stands : (found pages : ℕ → ℕ → List ℕ) → ((h i : ℕ) → found h i ≡ pages h i) → (image : Image) → kind_of image ≡ Single → StandsForPages found image → StoreStandsFor pages image
   one_stands found pages same image here stands = record { each = λ h i below. ap (λ b. kind_standing b image h i) here ∙ stands.each h i below ∙ same h i }
 
   module _ (homes : List ℕ) (pages : ℕ → List ℕ) where
-    pub one_changed : (h i : ℕ) → changed (standing content) homes pages h i ≡ changed (store_standing content) homes pages h i
-    one_changed h i = changed_same (store_standing content) (standing content) homes pages h i (one_same h i)
+    pub one_changed : (h i : ℕ) → changed (standing_single content) homes pages h i ≡ changed (store_standing content) homes pages h i
+    one_changed h i = changed_same (store_standing content) (standing_single content) homes pages h i (one_same h i)
 
-    pub one_either : (image : Image) → IsKept sectors content (StandsForEither (standing content) (changed (standing content) homes pages)) image
+    pub one_either : (image : Image) → IsKept sectors content (StandsForEitherPages (standing_single content) (changed (standing_single content) homes pages)) image
         → IsStoreKept sectors content (StoreStandsForEither (store_standing content) (changed (store_standing content) homes pages)) image
-    one_either image kept = one_kept (StandsForEither (standing content) (changed (standing content) homes pages)) (StoreStandsForEither (store_standing content) (changed (store_standing content) homes pages))
-        (λ at here. ⊎_elim (λ before. inl (one_stands (standing content) (store_standing content) one_same at here before))
-        (λ after. inr (one_stands (changed (standing content) homes pages) (changed (store_standing content) homes pages) one_changed at here after)))
+    one_either image kept = one_kept (StandsForEitherPages (standing_single content) (changed (standing_single content) homes pages)) (StoreStandsForEither (store_standing content) (changed (store_standing content) homes pages))
+        (λ at here. ⊎_elim (λ before. inl (one_stands (standing_single content) (store_standing content) one_same at here before))
+        (λ after. inr (one_stands (changed (standing_single content) homes pages) (changed (store_standing content) homes pages) one_changed at here after)))
         image kept
 
-  pub one_as_before : (image : Image) → IsKept sectors content (StandsFor (standing content)) image → IsStoreKept sectors content (StoreStandsFor (store_standing content)) image
-  one_as_before image kept = one_kept (StandsFor (standing content)) (StoreStandsFor (store_standing content)) (one_stands (standing content) (store_standing content) one_same) image kept
+  pub one_as_before : (image : Image) → IsKept sectors content (StandsForPages (standing_single content)) image → IsStoreKept sectors content (StoreStandsFor (store_standing content)) image
+  one_as_before image kept = one_kept (StandsForPages (standing_single content)) (StoreStandsFor (store_standing content)) (one_stands (standing_single content) (store_standing content) one_same) image kept
 
   pub one_settled : {D : Type 0} (g : Ghosts D) (journal : Journal) (live : List ℕ) (new : D) (found pages : ℕ → ℕ → List ℕ) → ((h i : ℕ) → found h i ≡ pages h i)
       → live_homes journal ≡ live → IsSettled g sectors content live new found → IsStoreSettled g sectors content (One journal) new pages
@@ -60,11 +60,19 @@ module _ (sectors : ℕ) (content : Image) (was : kind_of content ≡ Single) wh
     rest = record { kind = here; rest = subst (λ homes. IsAtRest g homes new) (sym is) settled.rest };
     stands = one_stands found pages same (g.content new) here settled.stands;
     outside = λ k out. settled.outside k (subst (λ b. IsKindOutside b sectors k) was out);
-    left = λ image may. one_kept (StandsFor found) (StoreStandsFor pages) (one_stands found pages same) image (settled.left image may);
+    left = λ image may. one_kept (StandsForPages found) (StoreStandsFor pages) (one_stands found pages same) image (settled.left image may);
   }
     where
       here : kind_of (g.content new) ≡ Single
       here = ap (λ sector. kind_when (is_kind sector)) (settled.outside 1 (inl (omega arith))) ∙ was
+
+  pub one_rest : {D T E : Type 0} (g : Ghosts D) (journal : Journal) (homes : List ℕ) (new : D) (result : Result T E) → OnOk result (live_homes journal ≡ homes) → OnOk result (IsAtRest g homes new)
+      → OnOk result ((k : ℕ) → IsOutside sectors k → g.content new k ≡ content k) → OnOk result (IsStoreRest g (One journal) new)
+  one_rest g journal homes new (Ok x) live rest outside = record {
+    kind = ap (λ sector. kind_when (is_kind sector)) (outside 1 (inl (omega arith))) ∙ was;
+    rest = subst (λ list. IsAtRest g list new) (sym live) rest;
+  }
+  one_rest g journal homes new (Err e) live rest outside = tt
 
 -- A store of layout 3.
 module _ (sectors : ℕ) (content : Image) (was : kind_of content ≡ Paired) where
@@ -112,6 +120,14 @@ module _ (sectors : ℕ) (content : Image) (was : kind_of content ≡ Paired) wh
     where
       here : kind_of (g.content new) ≡ Paired
       here = ap (λ sector. kind_when (is_kind sector)) (settled.outside 1 (inl (omega arith))) ∙ was
+
+  pub two_rest : {D T E : Type 0} (g : Ghosts D) (journal : TurnJournal) (homes : List ℕ) (new : D) (result : Result T E) → OnOk result (live_homes journal.live ≡ homes)
+      → OnOk result (IsTurnRest g journal.second homes new) → OnOk result ((k : ℕ) → IsTurnOutside sectors k → g.content new k ≡ content k) → OnOk result (IsStoreRest g (InTurn journal) new)
+  two_rest g journal homes new (Ok x) live rest outside = record {
+    kind = ap (λ sector. kind_when (is_kind sector)) (outside 1 (inl (omega arith))) ∙ was;
+    rest = subst (λ list. IsTurnRest g journal.second list new) (sym live) rest;
+  }
+  two_rest g journal homes new (Err e) live rest outside = tt
 
 -- Which journals are two in turn.
 pub single_alone : ◌≡◌ {A = Journals} Single Paired → ⊥
@@ -203,11 +219,11 @@ module _ {D : Type 0} (g : Ghosts D) (old new : D) (run : Touches g Nothing old 
   read_unsynced : (k : ℕ) → g.unsynced new k → g.unsynced old k
   read_unsynced k u = ⊎_elim (λ before. before) (λ none. absurd none) (run.unsynced k u)
 
-  turn_rest_read : (second : Bool) (live : List ℕ) → IsTurnRest g second live old → IsTurnRest g second live new
+  pub turn_rest_read : (second : Bool) (live : List ℕ) → IsTurnRest g second live old → IsTurnRest g second live new
   turn_rest_read second live rest = record {
     gate = subst (λ (image : Image). named_in image ≡ second) (sym read_image) rest.gate;
     good = λ bad. rest.good (subst (λ (n : ℕ). IsBadUnder second n (g.content old)) size (subst (λ (image : Image). IsBadUnder second (g.sector_count new) image) read_image bad));
-    covers = λ h j is. subst (λ (image : Image). place_in second image h ≡ Some j) (sym read_image) (rest.covers h j is);
+    covers = λ h j is. subst (λ (image : Image). map_rank second image h ≡ Some j) (sym read_image) (rest.covers h j is);
     home = λ h i below none. subst (λ (image : Image). stands_under second image h i ≡ image (turn_home h + i)) (sym read_image) (rest.home h i below none);
     synced = λ k u. rest.synced k (read_unsynced k u);
   }

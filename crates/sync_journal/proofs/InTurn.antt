@@ -9,14 +9,14 @@ use Rattle.disk_model.proofs.Pieces.{joined-same, joined_parts}
 use Rattle.disk_model.specs.Sectors.{part_of, joined}
 use Rattle.disk_model.specs.declared.sector_disk.SectorDisk.{Ghosts}
 use Rattle.sync_journal.specs.Gate.{is_open_sector}
-use Rattle.sync_journal.specs.Map.{map_bytes, place_among, place_of, count_in, home_in, AreHomes, IsBadMap}
+use Rattle.sync_journal.specs.Map.{map_bytes, place_among, home_rank, map_count, home_in, AreHomes, IsBadMap}
 use Rattle.sync_journal.specs.Commit.{sector_or, changed}
-use Rattle.sync_journal.specs.Turns.{turn_gate, turn_homes, start_of, turn_body, turn_home, turn_home_count, named_in, turn_map, place_in, turn_stands, stands_under, turn_standing, IsBadUnder, IsBadTurn, IsTurnSector, IsTurnGate, IsGateBlock, IsTurnHome, IsTurnStaged, IsTurnCommitted, IsTurnOutside, TurnStandsFor, TurnStandsForEither, IsTurnKept, TurnsStandAs, HoldsIn, AreCopiedBut, KeepsTurns, IsTurnRest, IsTurnSettled}
+use Rattle.sync_journal.specs.Turns.{turn_gate, turn_homes, start_of, turn_body, turn_home, turn_home_count, named_in, turn_map, map_rank, turn_stands, stands_under, turn_standing, IsBadUnder, IsBadTurn, IsTurnSector, IsTurnGate, IsGateBlock, IsTurnHome, IsTurnStaged, IsTurnCommitted, IsTurnOutside, TurnStandsFor, TurnStandsForEither, IsTurnKept, TurnsStandAs, HoldsJournal, AreCopiedBut, KeepsTurns, IsTurnRest, IsTurnSettled}
 use Rattle.sync_journal.proofs.Maps.{counted, named}
 use Rattle.sync_journal.proofs.Images.{Means, no_place, place_means, place_same}
 use Rattle.sync_journal.proofs.Phases.{not_bad}
 use Rattle.sync_journal.specs.Layout.{IsPageSector}
-use Rattle.sync_journal.specs.Runs.{Runs}
+use Rattle.sync_journal.specs.Runs.{RunsOnDevice}
 use Rattle.sync_journal.specs.Blocks.{IsSameBlock, LeavesInBlocks, CommitsInBlocks, RecoversInBlocks}
 use Rattle.sync_journal.proofs.Runs.{one_more, of_more}
 use Rattle.sync_journal.proofs.Copies.{distinct_homes}
@@ -100,28 +100,28 @@ staged_block second live k j same = ⊎_elim (λ own. inl (journal_block (not se
 -- home page stands in its home.
 module _ (sectors : ℕ) (second : Bool) (live : List ℕ) (are : AreHomes (turn_home_count sectors) live) (content : Image)
     (gate : named_in content ≡ second) (good : IsBadUnder second sectors content → ⊥)
-    (covers : (h j : ℕ) → place_of live h ≡ Some j → place_in second content h ≡ Some j)
-    (at_home : (h i : ℕ) → i < 8 → place_of live h ≡ None → stands_under second content h i ≡ content (turn_home h + i)) where
+    (covers : (h j : ℕ) → home_rank live h ≡ Some j → map_rank second content h ≡ Some j)
+    (at_home : (h i : ℕ) → i < 8 → home_rank live h ≡ None → stands_under second content h i ≡ content (turn_home h + i)) where
   -- it names no more pages than its body has room for
-  few : count_in (turn_map second content) ≤ 1023
-  few = ⊎_elim (λ more. absurd (good (inl more))) (λ le. le) (cases_lt 1023 (count_in (turn_map second content)))
+  few : map_count (turn_map second content) ≤ 1023
+  few = ⊎_elim (λ more. absurd (good (inl more))) (λ le. le) (cases_lt 1023 (map_count (turn_map second content)))
 
   -- a live home has a place in the map
-  placed : (h j : ℕ) → j < length live → get_or live j 0 ≡ h → place_in second content h ≡ None → ⊥
-  placed h j below here none = cases (place_of live h) refl (place_means (λ k. get_or live k 0) h (length live))
+  placed : (h j : ℕ) → j < length live → get_or live j 0 ≡ h → map_rank second content h ≡ None → ⊥
+  placed h j below here none = cases (home_rank live h) refl (place_means (λ k. get_or live k 0) h (length live))
     where
-      cases : (o : Option ℕ) → place_of live h ≡ o → Means (λ k. get_or live k 0) h (length live) o → ⊥
+      cases : (o : Option ℕ) → home_rank live h ≡ o → Means (λ k. get_or live k 0) h (length live) o → ⊥
       cases None is means = means j below here
-      cases (Some m) is means = some_or_none (place_in second content h) m (covers h m is) none
+      cases (Some m) is means = some_or_none (map_rank second content h) m (covers h m is) none
 
   -- an image that holds the content in the named journal, and in every home but the live ones
   under_same : (image : Image) → ((k : ℕ) → IsTurnSector second k → image k ≡ content k) → ((k : ℕ) → turn_homes ≤ k → IsTurnHome live k ⊎ (image k ≡ content k))
       → (h i : ℕ) → i < 8 → stands_under second image h i ≡ stands_under second content h i
   under_same image journal homes h i below =
-      ap (λ m. image (turn_stands second h (place_among (home_in m) h (count_in m)) + i)) (same_turn_map second image content journal)
-      ∙ here (place_in second content h) refl (place_means (home_in (turn_map second content)) h (count_in (turn_map second content)))
+      ap (λ m. image (turn_stands second h (place_among (home_in m) h (map_count m)) + i)) (same_turn_map second image content journal)
+      ∙ here (map_rank second content h) refl (place_means (home_in (turn_map second content)) h (map_count (turn_map second content)))
     where
-      here : (o : Option ℕ) → place_in second content h ≡ o → Means (home_in (turn_map second content)) h (count_in (turn_map second content)) o
+      here : (o : Option ℕ) → map_rank second content h ≡ o → Means (home_in (turn_map second content)) h (map_count (turn_map second content)) o
           → image (turn_stands second h o + i) ≡ content (turn_stands second h o + i)
       here None is means = ⊎_elim
           (λ at. absurd (placed h at.0 at.1 (omega (arith, at.2.0, at.2.1, below)) is))
@@ -152,9 +152,9 @@ module _ (sectors : ℕ) (second : Bool) (live : List ℕ) (are : AreHomes (turn
   -- The content when the other journal is staged and the homes are copied.
   module _ (homes : List ℕ) (new_are : AreHomes (turn_home_count sectors) homes) (staged : Image) (map : turn_map (not second) staged ≡ map_bytes homes) where
     -- the place of a home under the other journal
-    pub new_place : (image : Image) → ((k : ℕ) → (IsGateBlock k → ⊥) → image k ≡ staged k) → (h : ℕ) → place_in (not second) image h ≡ place_of homes h
+    pub new_place : (image : Image) → ((k : ℕ) → (IsGateBlock k → ⊥) → image k ≡ staged k) → (h : ℕ) → map_rank (not second) image h ≡ home_rank homes h
     new_place image same h =
-        ap (λ m. place_among (home_in m) h (count_in m)) (same_turn_map (not second) image staged (λ k inside. same k (λ e. (let low = start_low (not second) in omega (arith, e.1, inside.0, low)))) ∙ map)
+        ap (λ m. place_among (home_in m) h (map_count m)) (same_turn_map (not second) image staged (λ k inside. same k (λ e. (let low = start_low (not second) in omega (arith, e.1, inside.0, low)))) ∙ map)
         ∙ ap (λ n. place_among (home_in (map_bytes homes)) h n) (counted homes new_are.few)
         ∙ place_same (home_in (map_bytes homes)) (λ j. get_or homes j 0) h (length homes)
         (λ j below. named homes j below (let inside = new_are.inside j below in omega (arith, inside)))
@@ -167,15 +167,15 @@ module _ (sectors : ℕ) (second : Bool) (live : List ℕ) (are : AreHomes (turn
         (subst (λ m. IsBadMap 1023 (turn_home_count sectors) m) maps bad)
 
     module _ (pages : ℕ → List ℕ) (others : (k : ℕ) → IsTurnStaged second live k ⊎ (staged k ≡ content k))
-        (body : HoldsIn (not second) (length homes) pages staged) (copied : AreCopiedBut second live homes (length live) content staged) where
+        (body : HoldsJournal (not second) (length homes) pages staged) (copied : AreCopiedBut second live homes (length live) content staged) where
       abbrev pub After : ℕ → ℕ → List ℕ
       After = changed (turn_standing content) homes pages
 
       -- a home that the new pages leave holds what stood for it
-      was_home : (h i : ℕ) → i < 8 → place_of homes h ≡ None → staged (turn_home h + i) ≡ turn_standing content h i
-      was_home h i below left = cases (place_of live h) refl (place_means (λ k. get_or live k 0) h (length live)) ∙ sym (ap (λ b. stands_under b content h i) gate)
+      was_home : (h i : ℕ) → i < 8 → home_rank homes h ≡ None → staged (turn_home h + i) ≡ turn_standing content h i
+      was_home h i below left = cases (home_rank live h) refl (place_means (λ k. get_or live k 0) h (length live)) ∙ sym (ap (λ b. stands_under b content h i) gate)
         where
-          cases : (o : Option ℕ) → place_of live h ≡ o → Means (λ k. get_or live k 0) h (length live) o → staged (turn_home h + i) ≡ stands_under second content h i
+          cases : (o : Option ℕ) → home_rank live h ≡ o → Means (λ k. get_or live k 0) h (length live) o → staged (turn_home h + i) ≡ stands_under second content h i
           cases None is means = ⊎_elim
               (⊎_elim (λ other. absurd (home_high (not second) (turn_home h + i) (omega arith) other))
               (λ home. absurd (means home.0 home.1 (omega (arith, home.2.0, home.2.1, below)))))
@@ -183,7 +183,7 @@ module _ (sectors : ℕ) (second : Bool) (live : List ℕ) (are : AreHomes (turn
               ∙ sym (at_home h i below is)
           cases (Some j) is means =
               ap (λ home. staged (turn_home home + i)) (sym means.1)
-              ∙ copied j i means.0 (ap (place_of homes) means.1 ∙ left) below
+              ∙ copied j i means.0 (ap (home_rank homes) means.1 ∙ left) below
               ∙ sym (ap (λ o. content (turn_stands second h o + i)) (covers h j is))
 
       -- an image whose gate names the other journal
@@ -193,7 +193,7 @@ module _ (sectors : ℕ) (second : Bool) (live : List ℕ) (are : AreHomes (turn
         stands = record {
           each = λ h i below. ap (λ b. stands_under b image h i) names
               ∙ ap (λ o. image (turn_stands (not second) h o + i)) (new_place image same h)
-              ∙ here h i below (place_of homes h) refl (place_means (λ j. get_or homes j 0) h (length homes));
+              ∙ here h i below (home_rank homes h) refl (place_means (λ j. get_or homes j 0) h (length homes));
         };
         journal = λ bad. absurd (new_good image same (subst (λ b. IsBadUnder b sectors image) names bad));
         outside = λ k outside. same k (outside_gate sectors k outside) ∙ ⊎_elim
@@ -201,7 +201,7 @@ module _ (sectors : ℕ) (second : Bool) (live : List ℕ) (are : AreHomes (turn
             (λ e. e) (others k);
       }
         where
-          here : (h i : ℕ) → i < 8 → (o : Option ℕ) → place_of homes h ≡ o → Means (λ j. get_or homes j 0) h (length homes) o
+          here : (h i : ℕ) → i < 8 → (o : Option ℕ) → home_rank homes h ≡ o → Means (λ j. get_or homes j 0) h (length homes) o
               → image (turn_stands (not second) h o + i) ≡ sector_or pages (turn_standing content h i) i o
           here h i below None is means = same (turn_home h + i) (λ e. omega (arith, e.1)) ∙ was_home h i below is
           here h i below (Some j) is means = same (turn_body (not second) j + i) (λ e. (let low = start_low (not second) in omega (arith, e.1, low))) ∙ body j i means.0 below
@@ -217,8 +217,8 @@ module _ (sectors : ℕ) (second : Bool) (live : List ℕ) (are : AreHomes (turn
 -- The pages of a journal copied home, one after the other.
 module _ {D : Type 0} (g : Ghosts D) (second : Bool) (sectors : ℕ) (homes but : List ℕ) (are : AreHomes (turn_home_count sectors) homes) where
   -- a run that wrote one home is one that wrote homes
-  pub one_home : (j : ℕ) (old mid new : D) → j < length homes → Runs g (IsTurnHome homes) old mid → Runs g (IsPageSector (turn_home (get_or homes j 0))) mid new
-      → Runs g (IsTurnHome homes) old new
+  pub one_home : (j : ℕ) (old mid new : D) → j < length homes → RunsOnDevice g (IsTurnHome homes) old mid → RunsOnDevice g (IsPageSector (turn_home (get_or homes j 0))) mid new
+      → RunsOnDevice g (IsTurnHome homes) old new
   one_home j old mid new below so_far more = one_more g (IsTurnHome homes) old mid new so_far
       (of_more g (IsPageSector (turn_home (get_or homes j 0))) (IsTurnHome homes) mid new (λ k inside. (j, below, inside)) more)
 
@@ -226,11 +226,11 @@ module _ {D : Type 0} (g : Ghosts D) (second : Bool) (sectors : ℕ) (homes but 
   pub copied_more : (n from : ℕ) (old mid new : D) → n < length homes → from ≡ turn_body second n
       → Touches g (IsTurnHome homes) old mid → AreCopiedBut second homes but n (g.content old) (g.content mid)
       → Touches g (IsPageSector (turn_home (get_or homes n 0))) mid new
-      → (place_of but (get_or homes n 0) ≡ None → (i : ℕ) → i < 8 → g.content new (turn_home (get_or homes n 0) + i) ≡ g.content mid (from + i))
+      → (home_rank but (get_or homes n 0) ≡ None → (i : ℕ) → i < 8 → g.content new (turn_home (get_or homes n 0) + i) ≡ g.content mid (from + i))
       → AreCopiedBut second homes but (n + 1) (g.content old) (g.content new)
   copied_more n from old mid new below_n at first so_far last here = λ j i below_j left below_i. ⊎_elim
       (λ same. subst (λ m. Copied m i) (sym same)
-      (here (ap (λ m. place_of but (get_or homes m 0)) (sym same) ∙ left) i below_i ∙ ap (λ f. g.content mid (f + i)) at ∙ body_stays n i below_n below_i))
+      (here (ap (λ m. home_rank but (get_or homes m 0)) (sym same) ∙ left) i below_i ∙ ap (λ f. g.content mid (f + i)) at ∙ body_stays n i below_n below_i))
       (λ other. home_stays j i (omega (arith, below_j, other, below_n)) other below_i ∙ so_far j i (omega (arith, below_j, other)) left below_i)
       (cases_eq j n)
     where
@@ -255,7 +255,7 @@ map_stays g second live old new run = same_turn_map second (g.content new) (g.co
     (λ k inside. (let high = start_high second in ⊎_elim (λ home. absurd (omega (arith, home.2.0, inside.1, high))) (λ e. e) (run.content k)))
 
 pub body_stays : {D : Type 0} (g : Ghosts D) (second : Bool) (live : List ℕ) (n : ℕ) (pages : ℕ → List ℕ) (old new : D) → n ≤ 1023 → Touches g (IsTurnHome live) old new
-    → HoldsIn second n pages (g.content old) → HoldsIn second n pages (g.content new)
+    → HoldsJournal second n pages (g.content old) → HoldsJournal second n pages (g.content new)
 body_stays g second live n pages old new few run holds = λ j i below_j below_i.
     (let high = start_high second in ⊎_elim (λ home. absurd (omega (arith, home.2.0, below_j, below_i, few, high))) (λ e. e) (run.content (turn_body second j + i)))
     ∙ holds j i below_j below_i
@@ -273,17 +273,23 @@ prepared g second live old staged new stages copies = then g (IsTurnStaged secon
     (wider g (IsTurnSector (not second)) (IsTurnStaged second live) old staged (λ k inside. inl inside) stages)
     (wider g (IsTurnHome live) (IsTurnStaged second live) staged new (λ k home. inr home) copies)
 
--- and the gate
-pub committed : {D : Type 0} (g : Ghosts D) (second : Bool) (live : List ℕ) (old mid new : D) → Touches g (IsTurnStaged second live) old mid → Touches g IsTurnGate mid new
-    → Touches g (IsTurnCommitted second live) old new
-committed g second live old mid new prepares names = then g (IsTurnCommitted second live) old mid new
-    (wider g (IsTurnStaged second live) (IsTurnCommitted second live) old mid (λ k inside. inr inside) prepares)
-    (wider g IsTurnGate (IsTurnCommitted second live) mid new (λ k gate. inl gate) names)
+-- The other journal is staged, and perhaps homes are copied.
+pub record IsPrepared {D : Type 0} (g : Ghosts D) (second : Bool) (live : List ℕ) (old mid : D) : Type 0 where
+  pub only_now : (image : Image) → g.left_since old (g.moment old) image → MayLeave (g.content old) (g.unsynced old) image
+  pub are : AreHomes (turn_home_count (g.sector_count old)) live
+  pub rest : IsTurnRest g second live old
+  pub run : Touches g (IsTurnStaged second live) old mid
+
+-- It is staged and what is live copied, all of it synced, and then it is named.
+pub record NamesOther {D : Type 0} (g : Ghosts D) (second : Bool) (live homes : List ℕ) (old mid new : D) : Type 0 where
+  pub are : AreHomes (turn_home_count (g.sector_count old)) homes
+  pub map : turn_map (not second) (g.content mid) ≡ map_bytes homes
+  pub copied : AreCopiedBut second live homes (length live) (g.content old) (g.content mid)
+  pub synced : (k : ℕ) → g.unsynced mid k → ⊥
+  pub names : Touches g IsTurnGate mid new
 
 -- The states: before, and when the other journal is staged and perhaps homes are copied.
-module _ {D : Type 0} (g : Ghosts D) (second : Bool) (live : List ℕ) (old mid : D)
-    (only_now : (image : Image) → g.left_since old (g.moment old) image → MayLeave (g.content old) (g.unsynced old) image)
-    (are : AreHomes (turn_home_count (g.sector_count old)) live) (rest : IsTurnRest g second live old) (run : Touches g (IsTurnStaged second live) old mid) where
+module _ {D : Type 0} (g : Ghosts D) (second : Bool) (live : List ℕ) (old mid : D) (p : IsPrepared g second live old mid) where
   abbrev pub Before : Image → Type 0
   Before = TurnsStandAs (g.sector_count old) (g.content old)
 
@@ -292,24 +298,24 @@ module _ {D : Type 0} (g : Ghosts D) (second : Bool) (live : List ℕ) (old mid 
   not_staged = ⊎_elim (λ inside. (let low = start_low (not second) in omega (arith, inside.0, low))) (λ home. omega (arith, home.2.0))
 
   as_before : (image : Image) → ((k : ℕ) → IsTurnStaged second live k ⊎ (image k ≡ g.content old k)) → Before image
-  as_before image same = before_kept (g.sector_count old) second live are (g.content old) rest.gate rest.good rest.covers rest.home image
-      (ap is_open_sector (⊎_elim (λ staged. absurd (not_staged staged)) (λ e. e) (same turn_gate)) ∙ rest.gate)
+  as_before image same = before_kept (g.sector_count old) second live p.are (g.content old) p.rest.gate p.rest.good p.rest.covers p.rest.home image
+      (ap is_open_sector (⊎_elim (λ staged. absurd (not_staged staged)) (λ e. e) (same turn_gate)) ∙ p.rest.gate)
       (λ k other. same k)
 
   around : (image : Image) → MayLeave (g.content old) (λ k. g.unsynced old k ⊎ IsTurnStaged second live k) image → Before image
-  around image may = as_before image (λ k. ⊎_elim (⊎_elim (λ u. inl (inl (rest.synced k u))) (λ staged. inl staged)) (λ e. inr e) (may.kept k))
+  around image may = as_before image (λ k. ⊎_elim (⊎_elim (λ u. inl (inl (p.rest.synced k u))) (λ staged. inl staged)) (λ e. inr e) (may.kept k))
 
   pub while_preparing : LeavesOnly g old mid Before
   while_preparing = goes_on g (IsTurnStaged second live) old old mid Before
-      (started g old Before only_now (λ image may. around image (record { kept = λ k. ⊎_elim (λ u. inl (inl u)) (λ e. inr e) (may.kept k) })))
-      run around
+      (started g old Before p.only_now (λ image may. around image (record { kept = λ k. ⊎_elim (λ u. inl (inl u)) (λ e. inr e) (may.kept k) })))
+      p.run around
 
   -- and where a stop spoils whole blocks
   pub staged_blocks : LeavesInBlocks g (IsTurnStaged second live) Before old mid
   staged_blocks = record {
-    writes = run;
+    writes = p.run;
     each = λ d wrote image may. as_before image (λ k. ⊎_elim
-        (λ block. inl (staged_block second live k block.0 block.1 (⊎_elim (λ u. inl (rest.synced block.0 u)) (λ w. w) (wrote.unsynced block.0 block.2))))
+        (λ block. inl (staged_block second live k block.0 block.1 (⊎_elim (λ u. inl (p.rest.synced block.0 u)) (λ w. w) (wrote.unsynced block.0 block.2))))
         (λ e. ⊎_elim (λ w. inl w) (λ e'. inr (e ∙ e')) (wrote.content k))
         (may.kept k));
   }
@@ -317,19 +323,19 @@ module _ {D : Type 0} (g : Ghosts D) (second : Bool) (live : List ℕ) (old mid 
   -- where the source failed
   pub staged_settled : g.sector_count mid ≡ g.sector_count old → Touches g (IsTurnSector (not second)) old mid
       → IsTurnSettled g (g.sector_count old) (g.content old) second live mid (turn_standing (g.content old))
-  staged_settled size stages = let here = as_before (g.content mid) run.content in record {
+  staged_settled size stages = let here = as_before (g.content mid) p.run.content in record {
     rest = record {
-      gate = ap is_open_sector (⊎_elim (λ staged. absurd (not_staged staged)) (λ e. e) (run.content turn_gate)) ∙ rest.gate;
-      good = λ bad. rest.good (subst (λ n. IsBadUnder second n (g.content old)) size (subst (λ m. IsBadMap 1023 (turn_home_count (g.sector_count mid)) m) maps bad));
-      covers = λ h j is. ap (λ m. place_among (home_in m) h (count_in m)) maps ∙ rest.covers h j is;
+      gate = ap is_open_sector (⊎_elim (λ staged. absurd (not_staged staged)) (λ e. e) (p.run.content turn_gate)) ∙ p.rest.gate;
+      good = λ bad. p.rest.good (subst (λ n. IsBadUnder second n (g.content old)) size (subst (λ m. IsBadMap 1023 (turn_home_count (g.sector_count mid)) m) maps bad));
+      covers = λ h j is. ap (λ m. place_among (home_in m) h (map_count m)) maps ∙ p.rest.covers h j is;
       home = λ h i below none.
-          under_same (g.sector_count old) second live are (g.content old) rest.gate rest.good rest.covers rest.home (g.content mid) journal (λ k high. inr (home k high)) h i below
-          ∙ rest.home h i below none ∙ sym (home (turn_home h + i) (omega arith));
+          under_same (g.sector_count old) second live p.are (g.content old) p.rest.gate p.rest.good p.rest.covers p.rest.home (g.content mid) journal (λ k high. inr (home k high)) h i below
+          ∙ p.rest.home h i below none ∙ sym (home (turn_home h + i) (omega arith));
       synced = unsynced;
     };
     stands = here.stands;
     outside = here.outside;
-    left = λ image may. as_before image (λ k. ⊎_elim (λ u. inl (inl (unsynced k u))) (λ e. ⊎_elim (λ inside. inl inside) (λ e'. inr (e ∙ e')) (run.content k)) (may.kept k));
+    left = λ image may. as_before image (λ k. ⊎_elim (λ u. inl (inl (unsynced k u))) (λ e. ⊎_elim (λ inside. inl inside) (λ e'. inr (e ∙ e')) (p.run.content k)) (may.kept k));
   }
     where
       journal : (k : ℕ) → IsTurnSector second k → g.content mid k ≡ g.content old k
@@ -342,44 +348,7 @@ module _ {D : Type 0} (g : Ghosts D) (second : Bool) (live : List ℕ) (old mid 
       maps = same_turn_map second (g.content mid) (g.content old) journal
 
       unsynced : (k : ℕ) → g.unsynced mid k → IsTurnSector (not second) k
-      unsynced k u = ⊎_elim (λ before. rest.synced k before) (λ inside. inside) (stages.unsynced k u)
-
-  -- when all live pages are copied home, and all is synced
-  pub copied_settled : g.sector_count mid ≡ g.sector_count old → Touches g (IsTurnHome live) old mid
-      → AreCopiedBut second live [] (length live) (g.content old) (g.content mid) → ((k : ℕ) → g.unsynced mid k → ⊥)
-      → IsTurnSettled g (g.sector_count old) (g.content old) second [] mid (turn_standing (g.content old))
-  copied_settled size copies copied mid_synced = let here = as_before (g.content mid) run.content in record {
-    rest = record {
-      gate = ap is_open_sector (⊎_elim (λ staged. absurd (not_staged staged)) (λ e. e) (run.content turn_gate)) ∙ rest.gate;
-      good = λ bad. rest.good (subst (λ n. IsBadUnder second n (g.content old)) size (subst (λ m. IsBadMap 1023 (turn_home_count (g.sector_count mid)) m) maps bad));
-      covers = λ h j is. absurd (some_or_none (place_of [] h) j is (no_place (λ k. get_or [] k 0) h));
-      home = λ h i below none.
-          under_same (g.sector_count old) second live are (g.content old) rest.gate rest.good rest.covers rest.home (g.content mid) journal homes h i below
-          ∙ cases h i below (place_of live h) refl (place_means (λ k. get_or live k 0) h (length live));
-      synced = λ k u. absurd (mid_synced k u);
-    };
-    stands = here.stands;
-    outside = here.outside;
-    left = λ image may. as_before image (λ k. ⊎_elim (λ u. absurd (mid_synced k u)) (λ e. ⊎_elim (λ inside. inl inside) (λ e'. inr (e ∙ e')) (run.content k)) (may.kept k));
-  }
-    where
-      journal : (k : ℕ) → IsTurnSector second k → g.content mid k ≡ g.content old k
-      journal k inside = let high = start_high second in ⊎_elim (λ home. absurd (omega (arith, home.2.0, inside.1, high))) (λ e. e) (copies.content k)
-
-      homes : (k : ℕ) → turn_homes ≤ k → IsTurnHome live k ⊎ (g.content mid k ≡ g.content old k)
-      homes k high = copies.content k
-
-      maps : turn_map second (g.content mid) ≡ turn_map second (g.content old)
-      maps = same_turn_map second (g.content mid) (g.content old) journal
-
-      cases : (h i : ℕ) → i < 8 → (o : Option ℕ) → place_of live h ≡ o → Means (λ k. get_or live k 0) h (length live) o
-          → stands_under second (g.content old) h i ≡ g.content mid (turn_home h + i)
-      cases h i below None is means = rest.home h i below is
-          ∙ sym (⊎_elim {C = g.content mid (turn_home h + i) ≡ g.content old (turn_home h + i)}
-          (λ home. absurd (means home.0 home.1 (omega (arith, home.2.0, home.2.1, below)))) (λ e. e) (copies.content (turn_home h + i)))
-      cases h i below (Some j) is means = ap (λ o. g.content old (turn_stands second h o + i)) (rest.covers h j is)
-          ∙ sym (copied j i means.0 (no_place (λ k. get_or [] k 0) (get_or live j 0)) below)
-          ∙ ap (λ home. g.content mid (turn_home home + i)) means.1
+      unsynced k u = ⊎_elim (λ before. p.rest.synced k before) (λ inside. inside) (stages.unsynced k u)
 
   module _ (homes : List ℕ) (pages : ℕ → List ℕ) where
     abbrev pub Either : Image → Type 0
@@ -395,55 +364,53 @@ module _ {D : Type 0} (g : Ghosts D) (second : Bool) (live : List ℕ) (old mid 
       each = λ d wrote image may. (let kept = blocks.each d wrote image may in record { stands = inl kept.stands; journal = kept.journal; outside = kept.outside });
     }
 
-    module _ (new : D) (new_are : AreHomes (turn_home_count (g.sector_count old)) homes) (map : turn_map (not second) (g.content mid) ≡ map_bytes homes)
-        (copied : AreCopiedBut second live homes (length live) (g.content old) (g.content mid)) (mid_synced : (k : ℕ) → g.unsynced mid k → ⊥)
-        (names : Touches g IsTurnGate mid new) where
+    module _ (new : D) (q : NamesOther g second live homes old mid new) where
       -- the other journal is named, and nothing is unsynced
       module _ (gate : named_in (g.content new) ≡ not second) (size : g.sector_count new ≡ g.sector_count old) (new_synced : (k : ℕ) → g.unsynced new k → ⊥) where
         same_but_gate : (k : ℕ) → (IsGateBlock k → ⊥) → g.content new k ≡ g.content mid k
-        same_but_gate k other = ⊎_elim (λ at. absurd (other (at_gate k at))) (λ e. e) (names.content k)
+        same_but_gate k other = ⊎_elim (λ at. absurd (other (at_gate k at))) (λ e. e) (q.names.content k)
 
-        place_new : (h : ℕ) → place_in (not second) (g.content new) h ≡ place_of homes h
-        place_new h = new_place (g.sector_count old) second live are (g.content old) rest.gate rest.good rest.covers rest.home homes new_are (g.content mid) map
+        place_new : (h : ℕ) → map_rank (not second) (g.content new) h ≡ home_rank homes h
+        place_new h = new_place (g.sector_count old) second live p.are (g.content old) p.rest.gate p.rest.good p.rest.covers p.rest.home homes q.are (g.content mid) q.map
             (g.content new) same_but_gate h
 
         pub new_rest : IsTurnRest g (not second) homes new
         new_rest = record {
           gate = gate;
-          good = λ bad. new_good (g.sector_count old) second live are (g.content old) rest.gate rest.good rest.covers rest.home homes new_are (g.content mid) map
+          good = λ bad. new_good (g.sector_count old) second live p.are (g.content old) p.rest.gate p.rest.good p.rest.covers p.rest.home homes q.are (g.content mid) q.map
               (g.content new) same_but_gate (subst (λ n. IsBadUnder (not second) n (g.content new)) size bad);
           covers = λ h j is. place_new h ∙ is;
           home = λ h i below none. ap (λ o. g.content new (turn_stands (not second) h o + i)) (place_new h ∙ none);
           synced = λ k u. absurd (new_synced k u);
         }
 
-      module _ (body : HoldsIn (not second) (length homes) pages (g.content mid)) where
+      module _ (body : HoldsJournal (not second) (length homes) pages (g.content mid)) where
         around_naming : (image : Image) → MayLeave (g.content mid) (λ k. g.unsynced mid k ⊎ IsTurnGate k) image → Either image
-        around_naming image may = either_kept (g.sector_count old) second live are (g.content old) rest.gate rest.good rest.covers rest.home homes new_are (g.content mid) map pages
-            run.content body copied image
-            (λ k other. ⊎_elim (⊎_elim (λ u. absurd (mid_synced k u)) (λ at. absurd (other (at_gate k at)))) (λ e. e) (may.kept k))
+        around_naming image may = either_kept (g.sector_count old) second live p.are (g.content old) p.rest.gate p.rest.good p.rest.covers p.rest.home homes q.are (g.content mid) q.map pages
+            p.run.content body q.copied image
+            (λ k other. ⊎_elim (⊎_elim (λ u. absurd (q.synced k u)) (λ at. absurd (other (at_gate k at)))) (λ e. e) (may.kept k))
 
         -- and where a stop spoils whole blocks
         pub named_blocks : LeavesInBlocks g IsTurnGate Either mid new
         named_blocks = record {
-          writes = names;
-          each = λ d wrote image may. either_kept (g.sector_count old) second live are (g.content old) rest.gate rest.good rest.covers rest.home homes new_are (g.content mid) map pages
-              run.content body copied image
+          writes = q.names;
+          each = λ d wrote image may. either_kept (g.sector_count old) second live p.are (g.content old) p.rest.gate p.rest.good p.rest.covers p.rest.home homes q.are (g.content mid) q.map pages
+              p.run.content body q.copied image
               (λ k other. ⊎_elim
-              (λ block. absurd (⊎_elim (λ u. mid_synced block.0 u) (λ at. other (gate_block k block.0 block.1 at)) (wrote.unsynced block.0 block.2)))
+              (λ block. absurd (⊎_elim (λ u. q.synced block.0 u) (λ at. other (gate_block k block.0 block.1 at)) (wrote.unsynced block.0 block.2)))
               (λ e. ⊎_elim (λ at. absurd (other (at_gate k at))) (λ e'. e ∙ e') (wrote.content k))
               (may.kept k));
         }
 
         pub while_naming : LeavesOnly g old new Either
-        while_naming = goes_on g IsTurnGate old mid new Either while_preparing_either names around_naming
+        while_naming = goes_on g IsTurnGate old mid new Either while_preparing_either q.names around_naming
 
         module _ (gate : named_in (g.content new) ≡ not second) (new_synced : (k : ℕ) → g.unsynced new k → ⊥) where
           after : (image : Image) → ((k : ℕ) → image k ≡ g.content new k)
               → IsTurnKept (g.sector_count old) (g.content old) (TurnStandsFor (changed (turn_standing (g.content old)) homes pages)) image
-          after image same = after_kept (g.sector_count old) second live are (g.content old) rest.gate rest.good rest.covers rest.home homes new_are (g.content mid) map pages
-              run.content body copied image (ap is_open_sector (same turn_gate) ∙ gate)
-              (λ k other. same k ∙ ⊎_elim (λ at. absurd (other (at_gate k at))) (λ e. e) (names.content k))
+          after image same = after_kept (g.sector_count old) second live p.are (g.content old) p.rest.gate p.rest.good p.rest.covers p.rest.home homes q.are (g.content mid) q.map pages
+              p.run.content body q.copied image (ap is_open_sector (same turn_gate) ∙ gate)
+              (λ k other. same k ∙ ⊎_elim (λ at. absurd (other (at_gate k at))) (λ e. e) (q.names.content k))
 
           pub new_settled : IsTurnRest g (not second) homes new
               → IsTurnSettled g (g.sector_count old) (g.content old) (not second) homes new (changed (turn_standing (g.content old)) homes pages)
@@ -454,19 +421,67 @@ module _ {D : Type 0} (g : Ghosts D) (second : Bool) (live : List ℕ) (old mid 
             left = λ image may. after image (λ k. ⊎_elim (λ u. absurd (new_synced k u)) (λ e. e) (may.kept k));
           }
 
+-- The runs of which a commit is made, over a journal at rest.
+module _ {D : Type 0} (g : Ghosts D) (second : Bool) (live : List ℕ) (old : D)
+    (only_now : g.keeps_model old → (image : Image) → g.left_since old (g.moment old) image → MayLeave (g.content old) (g.unsynced old) image)
+    (are : AreHomes (turn_home_count (g.sector_count old)) live) (rest : g.keeps_model old → IsTurnRest g second live old) where
+  -- the other journal is staged
+  pub is_staged : (mid : D) → RunsOnDevice g (IsTurnSector (not second)) old mid → g.keeps_model mid → IsPrepared g second live old mid
+  is_staged mid stages keeps = record {
+    only_now = only_now (stages.kept keeps);
+    are = are;
+    rest = rest (stages.kept keeps);
+    run = wider g (IsTurnSector (not second)) (IsTurnStaged second live) old mid (λ k inside. inl inside) (stages.touches keeps);
+  }
+
+  -- and what is live copied
+  pub is_prepared : (staged mid : D) → RunsOnDevice g (IsTurnSector (not second)) old staged → RunsOnDevice g (IsTurnHome live) staged mid → g.keeps_model mid → IsPrepared g second live old mid
+  is_prepared staged mid stages copies keeps =
+      let before = stages.kept (copies.kept keeps) in
+      record { only_now = only_now before; are = are; rest = rest before; run = prepared g second live old staged mid (stages.touches (copies.kept keeps)) (copies.touches keeps) }
+
+  -- and then the other journal named
+  pub is_named : (homes : List ℕ) (staged mid new : D) → AreHomes (turn_home_count (g.sector_count old)) homes → RunsOnDevice g (IsTurnSector (not second)) old staged → RunsOnDevice g (IsTurnHome live) staged mid
+      → RunsOnDevice g IsTurnGate mid new → (g.keeps_model staged → turn_map (not second) (g.content staged) ≡ map_bytes homes)
+      → (g.keeps_model mid → AreCopiedBut second live homes (length live) (g.content staged) (g.content mid)) → (g.keeps_model mid → (k : ℕ) → g.unsynced mid k → ⊥)
+      → g.keeps_model new → NamesOther g second live homes old mid new
+  is_named homes staged mid new homes_are stages copies names map copied synced keeps =
+      let end = names.kept keeps in
+      let at = copies.kept end in
+      record {
+        are = homes_are;
+        map = map_stays g (not second) live staged mid (copies.touches end) ∙ map at;
+        copied = copied_since g second live homes old staged mid are.few (stages.touches at) (copied end);
+        synced = synced end;
+        names = names.touches keeps;
+      }
+
+-- the sectors that they write
+module _ {D : Type 0} (g : Ghosts D) (second : Bool) (live : List ℕ) (old staged : D) (stages : RunsOnDevice g (IsTurnSector (not second)) old staged) where
+  pub staged_run : RunsOnDevice g (IsTurnCommitted second live) old staged
+  staged_run = of_more g (IsTurnSector (not second)) (IsTurnCommitted second live) old staged (λ k inside. inr (inl inside)) stages
+
+  pub prepared_run : (mid : D) → RunsOnDevice g (IsTurnHome live) staged mid → RunsOnDevice g (IsTurnCommitted second live) old mid
+  prepared_run mid copies = one_more g (IsTurnCommitted second live) old staged mid staged_run
+      (of_more g (IsTurnHome live) (IsTurnCommitted second live) staged mid (λ k home. inr (inr home)) copies)
+
+  pub named_run : (mid new : D) → RunsOnDevice g (IsTurnHome live) staged mid → RunsOnDevice g IsTurnGate mid new → RunsOnDevice g (IsTurnCommitted second live) old new
+  named_run mid new copies names = one_more g (IsTurnCommitted second live) old mid new (prepared_run mid copies)
+      (of_more g IsTurnGate (IsTurnCommitted second live) mid new (λ k gate. inl gate) names)
+
 -- where a page stands between two commits
-pub page_stands : {D : Type 0} (g : Ghosts D) (second : Bool) (live : List ℕ) (d : D) (h first : ℕ) → IsTurnRest g second live d → first ≡ turn_stands second h (place_of live h)
+pub page_stands : {D : Type 0} (g : Ghosts D) (second : Bool) (live : List ℕ) (d : D) (h first : ℕ) → IsTurnRest g second live d → first ≡ turn_stands second h (home_rank live h)
     → joined (λ i. g.content d (first + i)) 8 ≡ joined (turn_standing (g.content d) h) 8
 page_stands g second live d h first rest at = joined-same 8 (λ i. g.content d (first + i)) (turn_standing (g.content d) h)
-    (λ i below. ap (λ n. g.content d (n + i)) at ∙ cases (place_of live h) refl i below ∙ sym (ap (λ b. stands_under b (g.content d) h i) rest.gate))
+    (λ i below. ap (λ n. g.content d (n + i)) at ∙ cases (home_rank live h) refl i below ∙ sym (ap (λ b. stands_under b (g.content d) h i) rest.gate))
   where
-    cases : (o : Option ℕ) → place_of live h ≡ o → (i : ℕ) → i < 8 → g.content d (turn_stands second h (place_of live h) + i) ≡ stands_under second (g.content d) h i
+    cases : (o : Option ℕ) → home_rank live h ≡ o → (i : ℕ) → i < 8 → g.content d (turn_stands second h (home_rank live h) + i) ≡ stands_under second (g.content d) h i
     cases None is i below = ap (λ o. g.content d (turn_stands second h o + i)) is ∙ sym (rest.home h i below is)
     cases (Some j) is i below = ap (λ o. g.content d (turn_stands second h o + i)) (is ∙ sym (rest.covers h j is))
 
 -- What gate and map say, read from a device that has nothing unsynced.
 pub named_rest : {D : Type 0} (g : Ghosts D) (d : D) (second : Bool) (n : ℕ) (map list : List ℕ) → named_in (g.content d) ≡ second → turn_map second (g.content d) ≡ map
-    → n ≡ count_in map → n ≤ length list → ((j : ℕ) → j < n → get_or list j 0 ≡ home_in map j) → AreHomes (turn_home_count (g.sector_count d)) (take n list)
+    → n ≡ map_count map → n ≤ length list → ((j : ℕ) → j < n → get_or list j 0 ≡ home_in map j) → AreHomes (turn_home_count (g.sector_count d)) (take n list)
     → ((k : ℕ) → g.unsynced d k → ⊥) → IsTurnRest g second (take n list) d
 named_rest g d second n map list gate mapped counts room read are synced = record {
   gate = gate;
@@ -483,8 +498,8 @@ named_rest g d second n map list gate mapped counts room read are synced = recor
     names : (j : ℕ) → j < length (take n list) → home_in map j ≡ get_or (take n list) j 0
     names j below = let inside : j < n = omega (arith, below, long) in sym (read j inside) ∙ sym (get_or-take n list j 0 inside)
 
-    places : (h : ℕ) → place_in second (g.content d) h ≡ place_of (take n list) h
-    places h = ap (λ m. place_among (home_in m) h (count_in m)) mapped
+    places : (h : ℕ) → map_rank second (g.content d) h ≡ home_rank (take n list) h
+    places h = ap (λ m. place_among (home_in m) h (map_count m)) mapped
         ∙ ap (λ k. place_among (home_in map) h k) (sym counts ∙ sym long)
         ∙ place_same (home_in map) (λ j. get_or (take n list) j 0) h (length (take n list)) names
 
@@ -512,7 +527,7 @@ turn_since g old new first was run = weaker g old new (TurnsStandAs (g.sector_co
 
 -- A recovery: a sync and a look, and then copies.
 module _ {D : Type 0} (g : Ghosts D) (old read new : D) (reads : Touches g Nothing old read) where
-  same_read : g.content read ≡ g.content old
+  pub same_read : g.content read ≡ g.content old
   same_read = λ t k. ⊎_elim {C = g.content read k ≡ g.content old k} (λ none. absurd none) (λ e. e) (reads.content k) t
 
   pub while_looking : ((image : Image) → g.left_since old (g.moment old) image → MayLeave (g.content old) (g.unsynced old) image)

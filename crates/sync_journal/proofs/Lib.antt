@@ -17,3 +17,7 @@ pub mod InTurn
 pub mod TurnAsking
 pub mod InKinds
 pub mod Resuming
+pub mod TurnRecoveries
+pub mod KindRecoveries
+pub mod OneRecoveries
+pub mod Causes

@@ -10,7 +10,7 @@ use Rattle.disk_model.specs.Sectors.{joined, part_of}
 use Rattle.disk_model.proofs.Pieces.{joined-same, joined_parts}
 use Rattle.sync_journal.specs.Layout.{layout_1, map_sector, first_body_sector}
 use Rattle.sync_journal.specs.Standing.{map_in, map_of}
-use Rattle.sync_journal.specs.Map.{count_in, home_in, map_bytes, HasNoHome, HasHomeTwice, IsBadMap}
+use Rattle.sync_journal.specs.Map.{map_count, home_in, map_bytes, HasNoHome, HasHomeTwice, IsBadMap}
 
 -- the map of layout 1 is one sector
 pub one_sector : (image : Image) → map_in layout_1 image ≡ image map_sector
@@ -61,7 +61,7 @@ number_at e k map inside = same_number (drop (4 * k) (take e (drop 4 map))) (dro
         ∙ sym (get_or-drop (4 + 4 * k) map i 0)
 
 -- what is wrong with the numbers that were read is wrong with the map
-pub bad_numbers : (most limit count : ℕ) (map homes : List ℕ) → count ≡ count_in map → length homes ≡ count
+pub bad_numbers : (most limit count : ℕ) (map homes : List ℕ) → count ≡ map_count map → length homes ≡ count
     → ((j : ℕ) → j < count → get_or homes j 0 ≡ home_in map j)
     → HasNoHome limit (λ j. get_or homes j 0) (length homes) ⊎ HasHomeTwice (λ j. get_or homes j 0) (length homes)
     → IsBadMap most limit map
@@ -89,7 +89,7 @@ home_of (home ∷ homes) (suc j) rest below small =
     ∙ home_of homes j rest (omega arith) small
 
 -- what the map of these homes says
-pub counted : (homes : List ℕ) → length homes ≤ 1023 → count_in (map_bytes homes) ≡ length homes
+pub counted : (homes : List ℕ) → length homes ≤ 1023 → map_count (map_bytes homes) ≡ length homes
 counted homes few = little_number-reads_back 4 (length homes) (flat_map (little_bytes 4) homes ++ replicate (4092 - 4 * length homes) 0) (omega arith)
 
 pub named : (homes : List ℕ) (j : ℕ) → j < length homes → get_or homes j 0 < 2 ^ 32 → home_in (map_bytes homes) j ≡ get_or homes j 0

@@ -7,22 +7,22 @@ use Rattle.sync_journal.specs.Layout.{Layout, layout_before, home_count_in}
 use Rattle.sync_journal.specs.declared.store_journal.Journals.{Journals}
 use Rattle.sync_journal.specs.declared.store_journal.Journals.TheVariants.{Single, Paired}
 use Rattle.sync_journal.specs.Gate.{is_open}
-use Rattle.sync_journal.specs.Map.{place_of, count_in, home_in, IsBadMap, AreFewHomes, AreNamed, ReadsMap}
+use Rattle.sync_journal.specs.Map.{home_rank, map_count, home_in, IsBadMap, AreFewHomes, AreNamed, ReadsMap}
 use Rattle.sync_journal.specs.Standing.{place_or_home_in, standing_in, map_in, IsBadJournalIn, IsOpenIn}
-use Rattle.sync_journal.specs.OldJournal.{StandsAt}
+use Rattle.sync_journal.specs.OldJournal.{StandsAsListed}
 use Rattle.sync_journal.proofs.Images.{no_place, closed_place, open_place}
 use Rattle.sync_journal.proofs.Phases.{not_bad}
 
-pub closed_at : (layout : Layout) (image : Image) → is_open image ≡ false → StandsAt layout [] image
+pub closed_at : (layout : Layout) (image : Image) → is_open image ≡ false → StandsAsListed layout [] image
 closed_at layout image closed = record {
   at = λ h. closed_place layout image h closed ∙ ap (λ o. place_or_home_in layout h o) (sym (no_place (λ j. get_or [] j 0) h));
 }
 
-pub open_at : (layout : Layout) (homes : List ℕ) (image : Image) → IsOpenIn layout homes image → StandsAt layout homes image
+pub open_at : (layout : Layout) (homes : List ℕ) (image : Image) → IsOpenIn layout homes image → StandsAsListed layout homes image
 open_at layout homes image opens = record { at = λ h. open_place layout homes image h opens }
 
 -- the page that stands for a home
-pub stands_there : (layout : Layout) (homes : List ℕ) (image : Image) (h i : ℕ) → StandsAt layout homes image → image (place_or_home_in layout h (place_of homes h) + i) ≡ standing_in layout image h i
+pub stands_there : (layout : Layout) (homes : List ℕ) (image : Image) (h i : ℕ) → StandsAsListed layout homes image → image (place_or_home_in layout h (home_rank homes h) + i) ≡ standing_in layout image h i
 stands_there layout homes image h i stands = ap (λ first. image (first + i)) (sym (stands.at h))
 
 -- the first numbers of a list, read from the map behind an open gate
@@ -52,7 +52,7 @@ named_front most limit count map front rest inside are = record {
 
 -- what is read of a map into the front of a list
 pub reads_map : (most len limit homes_limit : ℕ) (map page front rest : List ℕ) (found : Option ℕ) → len ≡ most → length front ≡ most → limit ≡ homes_limit → page ≡ map
-    → MatchOption found (IsBadMap len limit page) (λ count. (count ≡ count_in page) × (count ≤ len) × ((j : ℕ) → j < count → get_or front j 0 ≡ home_in page j) × AreFewHomes len limit (take count front))
+    → MatchOption found (IsBadMap len limit page) (λ count. (count ≡ map_count page) × (count ≤ len) × ((j : ℕ) → j < count → get_or front j 0 ≡ home_in page j) × AreFewHomes len limit (take count front))
     → ReadsMap most homes_limit map (front ++ rest) found
 reads_map most len limit homes_limit map page front rest None same long limit_is page_is bad =
     subst (λ m. IsBadMap most homes_limit m) page_is (subst (λ n. IsBadMap most n page) limit_is (subst (λ n. IsBadMap n limit page) same bad))

@@ -6,9 +6,9 @@ use Rattle.disk_model.proofs.Moments.{started, goes_on, weaker}
 use Rattle.disk_model.specs.declared.sector_disk.SectorDisk.{Ghosts}
 use Rattle.sync_journal.specs.Layout.{gate_sector, home_sector, body_sector, home_count, IsGate, IsJournalSector, IsOutside}
 use Rattle.sync_journal.specs.Gate.{is_open, is_open_sector}
-use Rattle.sync_journal.specs.Map.{map_bytes, place_of, count_in, home_in, AreFewHomes, AreHomes, IsBadMap}
-use Rattle.sync_journal.specs.Standing.{place_or_home, map_of, standing, StandsFor, IsOpenFor, HoldsPages}
-use Rattle.sync_journal.specs.Commit.{sector_or, changed, StandsForEither, IsKept, IsQuiet, IsLive, IsSettled}
+use Rattle.sync_journal.specs.Map.{map_bytes, home_rank, map_count, home_in, AreFewHomes, AreHomes, IsBadMap}
+use Rattle.sync_journal.specs.Standing.{place_or_home, map_of, standing_single, StandsForPages, IsOpenFor, HoldsPages}
+use Rattle.sync_journal.specs.Commit.{sector_or, changed, StandsForEitherPages, IsKept, IsQuiet, IsLive, IsSettled}
 use Rattle.sync_journal.proofs.Maps.{counted, named, same_map}
 use Rattle.sync_journal.proofs.Images.{Means, place_means, standing_closed, standing_open}
 use Rattle.sync_journal.proofs.Replays.{open_or_closed}
@@ -29,7 +29,7 @@ opened_outside g sectors old staged opened stages opens k outside =
     ∙ ⊎_elim {C = g.content staged k ≡ g.content old k} (λ inside. absurd (not_journal sectors k outside inside)) (λ e. e) (stages.content k)
 
 -- a map of good homes isn't bad
-pub not_bad : (most count : ℕ) (homes map : List ℕ) → AreFewHomes most count homes → count_in map ≡ length homes
+pub not_bad : (most count : ℕ) (homes map : List ℕ) → AreFewHomes most count homes → map_count map ≡ length homes
     → ((j : ℕ) → j < length homes → home_in map j ≡ get_or homes j 0) → IsBadMap most count map → ⊥
 not_bad most count homes map are counts names bad = ⊎_elim
     (λ many. let few = are.few in omega (arith, many, counts, few))
@@ -42,7 +42,7 @@ not_bad most count homes map are counts names bad = ⊎_elim
 
 -- an image with the gate closed, and the content outside the journal
 pub before_kept : (sectors : ℕ) (content image : Image) → is_open content ≡ false → is_open image ≡ false
-    → ((k : ℕ) → k ≢ gate_sector → IsJournalSector k ⊎ (image k ≡ content k)) → IsKept sectors content (StandsFor (standing content)) image
+    → ((k : ℕ) → k ≢ gate_sector → IsJournalSector k ⊎ (image k ≡ content k)) → IsKept sectors content (StandsForPages (standing_single content)) image
 before_kept sectors content image was gate same = record {
   stands = record {
     each = λ h i below. standing_closed image h i gate
@@ -61,44 +61,44 @@ pub opens_for : (count : ℕ) (homes : List ℕ) (image : Image) → AreHomes co
     → map_of image ≡ map_bytes homes → IsOpenFor homes image
 opens_for count homes image are small gate map = record {
   gate = gate;
-  count = ap count_in map ∙ counted homes are.few;
+  count = ap map_count map ∙ counted homes are.few;
   each = λ j below. ap (λ m. home_in m j) map ∙ named homes j below (let inside = are.inside j below in omega (arith, inside));
 }
 
 -- The content before, with its gate closed, and what stands when pages and map are staged.
 module _ (sectors : ℕ) (homes : List ℕ) (are : AreHomes (home_count sectors) homes) (pages : ℕ → List ℕ) (content staged : Image)
     (was : is_open content ≡ false) (others : (k : ℕ) → IsJournalSector k ⊎ (staged k ≡ content k))
-    (counts : count_in (map_of staged) ≡ length homes) (names : (j : ℕ) → j < length homes → home_in (map_of staged) j ≡ get_or homes j 0)
+    (counts : map_count (map_of staged) ≡ length homes) (names : (j : ℕ) → j < length homes → home_in (map_of staged) j ≡ get_or homes j 0)
     (body : HoldsPages (length homes) pages staged) where
   abbrev pub After : ℕ → ℕ → List ℕ
-  After = changed (standing content) homes pages
+  After = changed (standing_single content) homes pages
 
   -- an image as staged, with the gate open
   pub names_homes : (image : Image) → is_open image ≡ true → ((k : ℕ) → k ≢ gate_sector → image k ≡ staged k) → IsOpenFor homes image
   names_homes image gate same =
       let map = same_map image staged (λ k from below. same k (omega (arith, from))) in
-      record { gate = gate; count = ap count_in map ∙ counts; each = λ j below. ap (λ m. home_in m j) map ∙ names j below }
+      record { gate = gate; count = ap map_count map ∙ counts; each = λ j below. ap (λ m. home_in m j) map ∙ names j below }
 
-  pub after_kept : (image : Image) → is_open image ≡ true → ((k : ℕ) → k ≢ gate_sector → image k ≡ staged k) → IsKept sectors content (StandsFor After) image
+  pub after_kept : (image : Image) → is_open image ≡ true → ((k : ℕ) → k ≢ gate_sector → image k ≡ staged k) → IsKept sectors content (StandsForPages After) image
   unfolding changed
   after_kept image gate same = record {
     stands = record {
       each = λ h i below. standing_open homes image h i (names_homes image gate same)
-          ∙ here h i below (place_of homes h) (place_means (λ j. get_or homes j 0) h (length homes));
+          ∙ here h i below (home_rank homes h) (place_means (λ j. get_or homes j 0) h (length homes));
     };
     journal = λ bad. absurd (let named = names_homes image gate same in not_bad 1023 (home_count sectors) homes (map_of image) are named.count named.each bad.map);
     outside = λ k outside. same k (not_gate sectors k outside) ∙ ⊎_elim (λ inside. absurd (not_journal sectors k outside inside)) (λ e. e) (others k);
   }
     where
       here : (h i : ℕ) → i < 8 → (o : Option ℕ) → Means (λ j. get_or homes j 0) h (length homes) o
-          → image (place_or_home h o + i) ≡ sector_or pages (standing content h i) i o
+          → image (place_or_home h o + i) ≡ sector_or pages (standing_single content h i) i o
       here h i below None none = same (home_sector h + i) (omega arith)
           ∙ ⊎_elim (λ inside. absurd (omega (arith, inside.1))) (λ e. e) (others (home_sector h + i))
           ∙ sym (standing_closed content h i was)
       here h i below (Some j) found = same (body_sector j + i) (omega arith) ∙ body j i found.0 below
 
   -- whatever the gate holds, before or after
-  pub either_kept : (image : Image) → ((k : ℕ) → k ≢ gate_sector → image k ≡ staged k) → IsKept sectors content (StandsForEither (standing content) After) image
+  pub either_kept : (image : Image) → ((k : ℕ) → k ≢ gate_sector → image k ≡ staged k) → IsKept sectors content (StandsForEitherPages (standing_single content) After) image
   either_kept image same = ⊎_elim
       (λ gate. let kept = after_kept image gate same in record { stands = inr kept.stands; journal = kept.journal; outside = kept.outside })
       (λ gate. let kept = before_kept sectors content image was gate (λ k other. ⊎_elim (λ inside. inl inside) (λ e. inr (same k other ∙ e)) (others k)) in
@@ -110,10 +110,10 @@ module _ {D : Type 0} (g : Ghosts D) (homes : List ℕ) (pages : ℕ → List �
     (only_now : (image : Image) → g.left_since old (g.moment old) image → MayLeave (g.content old) (g.unsynced old) image)
     (are : AreHomes (home_count (g.sector_count old)) homes) (quiet : IsQuiet g old) (stages : Touches g IsJournalSector old staged) where
   abbrev pub Before : Image → Type 0
-  Before = IsKept (g.sector_count old) (g.content old) (StandsFor (standing (g.content old)))
+  Before = IsKept (g.sector_count old) (g.content old) (StandsForPages (standing_single (g.content old)))
 
   abbrev pub Either : Image → Type 0
-  Either = IsKept (g.sector_count old) (g.content old) (StandsForEither (standing (g.content old)) (changed (standing (g.content old)) homes pages))
+  Either = IsKept (g.sector_count old) (g.content old) (StandsForEitherPages (standing_single (g.content old)) (changed (standing_single (g.content old)) homes pages))
 
   -- an image with the content before outside the journal
   as_before : (image : Image) → ((k : ℕ) → IsJournalSector k ⊎ (image k ≡ g.content old k)) → Before image
@@ -130,7 +130,7 @@ module _ {D : Type 0} (g : Ghosts D) (homes : List ℕ) (pages : ℕ → List �
       stages around_staging
 
   -- where the source failed
-  pub staged_settled : IsSettled g (g.sector_count old) (g.content old) [] staged (standing (g.content old))
+  pub staged_settled : IsSettled g (g.sector_count old) (g.content old) [] staged (standing_single (g.content old))
   staged_settled =
       let here = as_before (g.content staged) stages.content in
       record {
@@ -152,8 +152,8 @@ module _ {D : Type 0} (g : Ghosts D) (homes : List ℕ) (pages : ℕ → List �
 
   module _ (opened : D) (body : HoldsPages (length homes) pages (g.content staged)) (map : map_of (g.content staged) ≡ map_bytes homes)
       (staged_synced : (k : ℕ) → g.unsynced staged k → ⊥) (opens : Touches g IsGate staged opened) where
-    counts : count_in (map_of (g.content staged)) ≡ length homes
-    counts = ap count_in map ∙ counted homes are.few
+    counts : map_count (map_of (g.content staged)) ≡ length homes
+    counts = ap map_count map ∙ counted homes are.few
 
     names : (j : ℕ) → j < length homes → home_in (map_of (g.content staged)) j ≡ get_or homes j 0
     names j below = ap (λ m. home_in m j) map ∙ named homes j below (let inside = are.inside j below in omega (arith, inside))
@@ -167,12 +167,12 @@ module _ {D : Type 0} (g : Ghosts D) (homes : List ℕ) (pages : ℕ → List �
 
     module _ (gate : is_open (g.content opened) ≡ true) (opened_synced : (k : ℕ) → g.unsynced opened k → ⊥) (some : 0 < length homes) where
       -- an image with the content as the gate was opened
-      after : (image : Image) → ((k : ℕ) → image k ≡ g.content opened k) → IsKept (g.sector_count old) (g.content old) (StandsFor (changed (standing (g.content old)) homes pages)) image
+      after : (image : Image) → ((k : ℕ) → image k ≡ g.content opened k) → IsKept (g.sector_count old) (g.content old) (StandsForPages (changed (standing_single (g.content old)) homes pages)) image
       after image same = after_kept (g.sector_count old) homes are pages (g.content old) (g.content staged) quiet.closed stages.content counts names body image
           (ap is_open_sector (same gate_sector) ∙ gate)
           (λ k other. same k ∙ ⊎_elim (λ at. absurd (other at)) (λ e. e) (opens.content k))
 
-      pub opened_settled : IsLive g homes opened → IsSettled g (g.sector_count old) (g.content old) homes opened (changed (standing (g.content old)) homes pages)
+      pub opened_settled : IsLive g homes opened → IsSettled g (g.sector_count old) (g.content old) homes opened (changed (standing_single (g.content old)) homes pages)
       opened_settled live = let here = after (g.content opened) (λ k. refl) in record {
         rest = live_at_rest g homes opened some live;
         stands = here.stands;

@@ -1,8 +1,8 @@
 -- What a device holds between two commits.
 use Rattle.std.proofs.Common.{◌≡◌, ◌<◌, ◌+◌, ℕ, List, [], ◌∷◌, length, take, get_or, sym, ap, subst, ◌∙◌, ⊎_elim, arith}
 use Rattle.disk_model.specs.declared.sector_disk.SectorDisk.{Ghosts}
-use Rattle.sync_journal.specs.Map.{place_of}
-use Rattle.sync_journal.specs.Standing.{standing, place_or_home, IsOpenFor}
+use Rattle.sync_journal.specs.Map.{home_rank}
+use Rattle.sync_journal.specs.Standing.{standing_single, place_or_home, IsOpenFor}
 use Rattle.disk_model.specs.Stop.{Image}
 use Rattle.disk_model.specs.Moments.{Touches, Nothing}
 use Rattle.sync_journal.specs.Gate.{is_open}
@@ -45,12 +45,12 @@ module _ {D : Type 0} (g : Ghosts D) where
       cases (home ∷ more) live = record { opened = subst (IsOpenFor (home ∷ more)) (sym same) live.opened; synced = λ k u. live.synced k (unsynced k u) }
 
   -- where a home page stands: in the body where the journal is live with it
-  pub standing_rest : (homes : List ℕ) (d : D) (h i : ℕ) → IsAtRest g homes d → standing (g.content d) h i ≡ g.content d (place_or_home h (place_of homes h) + i)
+  pub standing_rest : (homes : List ℕ) (d : D) (h i : ℕ) → IsAtRest g homes d → standing_single (g.content d) h i ≡ g.content d (place_or_home h (home_rank homes h) + i)
   standing_rest [] d h i rest = standing_closed (g.content d) h i rest.closed ∙ ap (λ o. g.content d (place_or_home h o + i)) (sym (no_place (λ j. get_or [] j 0) h))
   standing_rest (home ∷ homes) d h i rest = standing_open (home ∷ homes) (g.content d) h i rest.opened
 
   -- a page read from where its home page stands
-  pub page_stands : (homes : List ℕ) (d : D) (h first : ℕ) → IsAtRest g homes d → first ≡ place_or_home h (place_of homes h)
-      → joined (λ i. g.content d (first + i)) 8 ≡ joined (standing (g.content d) h) 8
-  page_stands homes d h first rest at = joined-same 8 (λ i. g.content d (first + i)) (standing (g.content d) h)
+  pub page_stands : (homes : List ℕ) (d : D) (h first : ℕ) → IsAtRest g homes d → first ≡ place_or_home h (home_rank homes h)
+      → joined (λ i. g.content d (first + i)) 8 ≡ joined (standing_single (g.content d) h) 8
+  page_stands homes d h first rest at = joined-same 8 (λ i. g.content d (first + i)) (standing_single (g.content d) h)
       (λ i below. ap (λ n. g.content d (n + i)) at ∙ sym (standing_rest homes d h i rest))

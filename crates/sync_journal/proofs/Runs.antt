@@ -6,14 +6,14 @@ use Rattle.disk_model.proofs.Moments.{wider, then, after_write, after_page, afte
 use Rattle.disk_model.specs.declared.sector_disk.SectorDisk.{Ghosts}
 use Rattle.sync_journal.specs.Layout.{IsGate, IsJournalSector, IsReplayed, IsPublished, IsCommitted, IsRecovered, home_count, home_sector}
 use Rattle.sync_journal.specs.Map.{AreHomes}
-use Rattle.sync_journal.specs.Runs.{Runs}
+use Rattle.sync_journal.specs.Runs.{RunsOnDevice}
 
 home_ends : (count h k : ℕ) → h < count → k < home_sector h + 8 → k < home_sector count
 home_ends count h k below inside = omega arith
 
 module _ {D : Type 0} (g : Ghosts D) where
   -- one run after another
-  pub one_more : (W : ℕ → Type 0) (old mid new : D) → Runs g W old mid → Runs g W mid new → Runs g W old new
+  pub one_more : (W : ℕ → Type 0) (old mid new : D) → RunsOnDevice g W old mid → RunsOnDevice g W mid new → RunsOnDevice g W old new
   one_more W old mid new first second = record {
     size = second.size ∙ first.size;
     kept = λ h. first.kept (second.kept h);
@@ -22,7 +22,7 @@ module _ {D : Type 0} (g : Ghosts D) where
   }
 
   -- more sectors
-  pub of_more : (W V : ℕ → Type 0) (old new : D) → ((k : ℕ) → W k → V k) → Runs g W old new → Runs g V old new
+  pub of_more : (W V : ℕ → Type 0) (old new : D) → ((k : ℕ) → W k → V k) → RunsOnDevice g W old new → RunsOnDevice g V old new
   of_more W V old new more run = record {
     size = run.size;
     kept = run.kept;
@@ -35,7 +35,7 @@ module _ {D : Type 0} (g : Ghosts D) where
       → g.failures old ≤ g.failures new → (g.keeps_model new → g.content new ≡ g.content old)
       → (g.keeps_model new → (k : ℕ) → g.unsynced new k → g.unsynced old k)
       → (g.keeps_model new → Elapses (g.moment old) (g.moment new) (g.left_since old) (g.left_since new) (g.content new) (g.unsynced new))
-      → Runs g W old new
+      → RunsOnDevice g W old new
   no_write W old new size kept later same marks time = record {
     size = size;
     kept = kept;
@@ -44,11 +44,11 @@ module _ {D : Type 0} (g : Ghosts D) where
   }
 
   -- a sync behind a run
-  pub and_no_write : (W : ℕ → Type 0) (old mid new : D) → Runs g W old mid → g.sector_count new ≡ g.sector_count mid
+  pub and_no_write : (W : ℕ → Type 0) (old mid new : D) → RunsOnDevice g W old mid → g.sector_count new ≡ g.sector_count mid
       → (g.keeps_model new → g.keeps_model mid) → g.failures mid ≤ g.failures new → (g.keeps_model new → g.content new ≡ g.content mid)
       → (g.keeps_model new → (k : ℕ) → g.unsynced new k → g.unsynced mid k)
       → (g.keeps_model new → Elapses (g.moment mid) (g.moment new) (g.left_since mid) (g.left_since new) (g.content new) (g.unsynced new))
-      → Runs g W old new
+      → RunsOnDevice g W old new
   and_no_write W old mid new run size kept later same marks time = one_more W old mid new run (no_write W mid new size kept later same marks time)
 
   -- a write to a sector of W
@@ -56,7 +56,7 @@ module _ {D : Type 0} (g : Ghosts D) where
       → g.failures old ≤ g.failures new → (g.keeps_model new → ChangesOnly n (g.content old) (g.content new))
       → (g.keeps_model new → (k : ℕ) → g.unsynced new k → g.unsynced old k ⊎ (k ≡ n))
       → (g.keeps_model new → Elapses (g.moment old) (g.moment new) (g.left_since old) (g.left_since new) (g.content new) (g.unsynced new))
-      → Runs g W old new
+      → RunsOnDevice g W old new
   one_write W n old new here size kept later changes marks time = record {
     size = size;
     kept = kept;
@@ -69,7 +69,7 @@ module _ {D : Type 0} (g : Ghosts D) where
       → g.failures old ≤ g.failures new → (g.keeps_model new → ChangesPage n (g.content old) (g.content new))
       → (g.keeps_model new → (k : ℕ) → g.unsynced new k → g.unsynced old k ⊎ IsOfPage n k)
       → (g.keeps_model new → Elapses (g.moment old) (g.moment new) (g.left_since old) (g.left_since new) (g.content new) (g.unsynced new))
-      → Runs g W old new
+      → RunsOnDevice g W old new
   one_page W n old new inside size kept later changes marks time = record {
     size = size;
     kept = kept;
@@ -78,17 +78,18 @@ module _ {D : Type 0} (g : Ghosts D) where
   }
 
   -- what the parts of a commit write
-  pub published : (old staged opened : D) → Touches g IsJournalSector old staged → Touches g IsGate staged opened → Touches g IsPublished old opened
-  published old staged opened stages opens = then g IsPublished old staged opened
-      (wider g IsJournalSector IsPublished old staged (λ k inside. inr inside) stages)
-      (wider g IsGate IsPublished staged opened (λ k gate. inl gate) opens)
+  pub staged_run : (old staged : D) → RunsOnDevice g IsJournalSector old staged → RunsOnDevice g IsPublished old staged
+  staged_run old staged = of_more IsJournalSector IsPublished old staged (λ k inside. inr inside)
 
-  pub finished : (homes : List ℕ) (old new : D) → Touches g (IsReplayed homes) old new → Touches g (IsCommitted homes) old new
-  finished homes old new = wider g (IsReplayed homes) (IsCommitted homes) old new (λ k. ⊎_elim (λ gate. inl (inl gate)) (λ at_home. inr at_home))
+  pub published_run : (old staged opened : D) → RunsOnDevice g IsJournalSector old staged → RunsOnDevice g IsGate staged opened → RunsOnDevice g IsPublished old opened
+  published_run old staged opened stages opens = one_more IsPublished old staged opened (staged_run old staged stages) (of_more IsGate IsPublished staged opened (λ k gate. inl gate) opens)
 
-  pub committed : (homes : List ℕ) (old mid new : D) → Touches g (IsReplayed homes) old mid → Touches g IsPublished mid new → Touches g (IsCommitted homes) old new
-  committed homes old mid new first second = then g (IsCommitted homes) old mid new (finished homes old mid first)
-      (wider g IsPublished (IsCommitted homes) mid new (λ k own. inl own) second)
+  pub finished_run : (homes : List ℕ) (old new : D) → RunsOnDevice g (IsReplayed homes) old new → RunsOnDevice g (IsCommitted homes) old new
+  finished_run homes old new = of_more (IsReplayed homes) (IsCommitted homes) old new (λ k. ⊎_elim (λ gate. inl (inl gate)) (λ at_home. inr at_home))
+
+  pub committed_run : (homes : List ℕ) (old mid new : D) → RunsOnDevice g (IsReplayed homes) old mid → RunsOnDevice g IsPublished mid new → RunsOnDevice g (IsCommitted homes) old new
+  committed_run homes old mid new first second = one_more (IsCommitted homes) old mid new (finished_run homes old mid first)
+      (of_more IsPublished (IsCommitted homes) mid new (λ k own. inl own) second)
 
   -- what a recovery writes
   pub read_only : (W : ℕ → Type 0) (old new : D) → Touches g Nothing old new → Touches g W old new

@@ -3,7 +3,7 @@ use Rattle.std.proofs.Common.{ℕ, zero, suc, subst}
 use Rattle.disk_model.specs.Stop.{Image}
 use Rattle.disk_model.specs.declared.sector_disk.SectorDisk.{Ghosts}
 use Rattle.sync_journal.specs.Commit.{HomesStandAs}
-use Rattle.sync_journal.specs.Stops.{Recovers, LeftInARow}
+use Rattle.sync_journal.specs.Stops.{Recovers, LeftByRecoveries}
 use Rattle.sync_journal.proofs.Recoveries.{same_kept, kept_again}
 
 module _ {D : Type 0} (g : Ghosts D) where
@@ -14,7 +14,7 @@ module _ {D : Type 0} (g : Ghosts D) where
       (subst (λ held. HomesStandAs (g.sector_count old) held last) run.held (run.homes.each last left))
 
   -- any number of them
-  pub still_stands : (sectors n : ℕ) (first last : Image) → LeftInARow g sectors n first last → HomesStandAs sectors first last
+  pub still_stands : (sectors n : ℕ) (first last : Image) → LeftByRecoveries g sectors n first last → HomesStandAs sectors first last
   still_stands sectors zero first last same = same_kept sectors first last same
   still_stands sectors (suc n) first last row =
       kept_again sectors first row.0 last (still_stands sectors n first row.0 row.3) (one_stop sectors row.0 last row.1 row.2 row.4 row.5)

@@ -6,7 +6,7 @@ use Rattle.disk_model.proofs.Moments.{asks_named, asks_once, asks_then}
 use Rattle.disk_model.proofs.Naming.{once_named, once_apart, once_wider}
 use Rattle.disk_model.specs.declared.sector_disk.SectorDisk.{Ghosts}
 use Rattle.sync_journal.specs.Layout.{IsPageSector}
-use Rattle.sync_journal.specs.Map.{AreHomes, place_of, home_in}
+use Rattle.sync_journal.specs.Map.{AreHomes, home_rank, home_in}
 use Rattle.sync_journal.specs.Journal.{live_homes}
 use Rattle.sync_journal.specs.Turns.{turn_gate, start_of, turn_body, turn_home, turn_map, named_in, IsTurnSector, IsTurnGate, IsTurnPart, IsTurnFilled, IsTurnCopy, IsTurnUsed, IsTurnAsked, IsTurnAskedIn, IsNamedFor}
 use Rattle.sync_journal.specs.declared.turns.TurnJournal.{TurnJournal}
@@ -38,12 +38,12 @@ module _ (before mid now : ℕ → ℕ) (second : Bool) where
   -- a page more copied home, or passed over
   pub copy_more : (count : ℕ) (homes but : List ℕ) → AreHomes count homes → (j from : ℕ) → j < length homes → from ≡ turn_body second j
       → NamesOnce (IsTurnCopy second homes but j) before mid
-      → NamesOnce (λ k. (place_of but (get_or homes j 0) ≡ None) × (IsPageSector from k ⊎ IsPageSector (turn_home (get_or homes j 0)) k)) mid now
+      → NamesOnce (λ k. (home_rank but (get_or homes j 0) ≡ None) × (IsPageSector from k ⊎ IsPageSector (turn_home (get_or homes j 0)) k)) mid now
       → NamesOnce (IsTurnCopy second homes but (j + 1)) before now
   copy_more count homes but are j from below at so_far page = once_apart (IsTurnCopy second homes but j) Here (IsTurnCopy second homes but (j + 1)) before mid now earlier next two so_far page
     where
       Here : ℕ → Type 0
-      Here k = (place_of but (get_or homes j 0) ≡ None) × (IsPageSector from k ⊎ IsPageSector (turn_home (get_or homes j 0)) k)
+      Here k = (home_rank but (get_or homes j 0) ≡ None) × (IsPageSector from k ⊎ IsPageSector (turn_home (get_or homes j 0)) k)
 
       earlier : (k : ℕ) → IsTurnCopy second homes but j k → IsTurnCopy second homes but (j + 1) k
       earlier k was = (was.0, omega (arith, was.1), was.2, was.3)
@@ -139,3 +139,7 @@ module _ {D : Type 0} (g : Ghosts D) (image : Image) where
             ),
           )))))
           used.1
+
+-- said where there is something to ask for
+pub asks_some : (W : ℕ → Type 0) (n : ℕ) (before now : ℕ → ℕ) → 0 < n → NamesOnce W before now → NamesOnce (λ k. (0 < n) × W k) before now
+asks_some W n before now some once = once_wider W (λ k. (0 < n) × W k) before now (λ k asked. (some, asked)) once

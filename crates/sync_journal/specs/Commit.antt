@@ -6,8 +6,8 @@ use Rattle.disk_model.specs.Moments.{LeavesNow, LeavesOnly}
 use Rattle.disk_model.specs.declared.sector_disk.SectorDisk.{Ghosts}
 use Rattle.sync_journal.specs.Layout.{IsJournalSector, IsOutside, IsFinished, IsOpened}
 use Rattle.sync_journal.specs.Gate.{is_open}
-use Rattle.sync_journal.specs.Map.{place_of}
-use Rattle.sync_journal.specs.Standing.{standing, StandsFor, IsOpenFor, IsBadJournal}
+use Rattle.sync_journal.specs.Map.{home_rank}
+use Rattle.sync_journal.specs.Standing.{standing_single, StandsForPages, IsOpenFor, IsBadSingle}
 use Rattle.disk_model.specs.Sectors.{part_of}
 
 -- sector i of a page: of page j where there is a place j, otherwise the old one
@@ -17,22 +17,22 @@ sector_or pages old i (Some j) = part_of (pages j) i
 
 -- the pages of before, but that the home at place j of the list holds page j
 unfoldable pub changed : (ℕ → ℕ → List ℕ) → List ℕ → (ℕ → List ℕ) → ℕ → ℕ → List ℕ
-changed before homes pages h i = sector_or pages (before h i) i (place_of homes h)
+changed before homes pages h i = sector_or pages (before h i) i (home_rank homes h)
 
 -- the pages of before, or those of after
-abbrev pub StandsForEither : (ℕ → ℕ → List ℕ) → (ℕ → ℕ → List ℕ) → Image → Type 0
-StandsForEither before after image = StandsFor before image ⊎ StandsFor after image
+abbrev pub StandsForEitherPages : (ℕ → ℕ → List ℕ) → (ℕ → ℕ → List ℕ) → Image → Type 0
+StandsForEitherPages before after image = StandsForPages before image ⊎ StandsForPages after image
 
 -- An image that a stop may leave where the device held this content: what it stands for has `Stands`, its journal is
 -- bad only where that of the content was, and nothing outside the gate, the journal and the homes is changed.
 pub record IsKept (sectors : ℕ) (content : Image) (Stands : Image → Type 0) (image : Image) : Type 0 where
   pub stands : Stands image
-  pub journal : IsBadJournal sectors image → IsBadJournal sectors content
+  pub journal : IsBadSingle sectors image → IsBadSingle sectors content
   pub outside : (k : ℕ) → IsOutside sectors k → image k ≡ content k
 
 -- An image that a stop may leave where the device held the old one, and that stands for the same home pages.
 abbrev pub HomesStandAs : ℕ → Image → Image → Type 0
-HomesStandAs sectors old image = IsKept sectors old (StandsFor (standing old)) image
+HomesStandAs sectors old image = IsKept sectors old (StandsForPages (standing_single old)) image
 
 module _ {D : Type 0} (g : Ghosts D) where
   -- Every image that a stop at some moment from old to new might have left stands for the home pages of old.
@@ -58,9 +58,9 @@ module _ {D : Type 0} (g : Ghosts D) where
   -- the homes it holds this content.
   pub record IsSettled (sectors : ℕ) (content : Image) (live : List ℕ) (new : D) (pages : ℕ → ℕ → List ℕ) : Type 0 where
     pub rest : IsAtRest live new
-    pub stands : StandsFor pages (g.content new)
+    pub stands : StandsForPages pages (g.content new)
     pub outside : (k : ℕ) → IsOutside sectors k → g.content new k ≡ content k
-    pub left : LeavesNow g new (IsKept sectors content (StandsFor pages))
+    pub left : LeavesNow g new (IsKept sectors content (StandsForPages pages))
 
   -- A commit of so many pages over these live homes asks once at most for the gate and for each sector that it copies from
   -- and to, and then once at most for the gate, the map and each sector of as many pages of the body.

@@ -6,8 +6,8 @@ use Rattle.disk_model.specs.Moments.{LeavesNow, LeavesOnly}
 use Rattle.disk_model.specs.declared.sector_disk.SectorDisk.{Ghosts}
 use Rattle.sync_journal.specs.Layout.{page_limit, home_limit, first_home_sector, IsPageSector, IsCommitted, IsRecovered, IsOutside}
 use Rattle.sync_journal.specs.Gate.{is_open, repeated}
-use Rattle.sync_journal.specs.Map.{count_in, home_in, place_of}
-use Rattle.sync_journal.specs.Standing.{standing, place_or_home, IsBadJournal, IsAskedIn}
+use Rattle.sync_journal.specs.Map.{map_count, home_in, home_rank}
+use Rattle.sync_journal.specs.Standing.{standing_single, place_or_home, IsBadSingle, IsAskedIn}
 use Rattle.sync_journal.specs.Commit.{IsAtRest, AsksInTwo}
 use Rattle.sync_journal.specs.Journal.{live_homes}
 use Rattle.sync_journal.specs.Turns.{turn_gate, turn_homes, turn_home, turn_home_count, turn_standing, turn_stands, turn_map, named_in, IsTurnGate, IsTurnSector, IsTurnHome, IsTurnCommitted, IsBadTurn, IsTurnOutside, IsTurnRecovered, IsTurnUsed, IsTurnAsked, IsTurnAskedIn, IsTurnRest}
@@ -45,11 +45,11 @@ abbrev pub kind_home : Journals → ℕ → ℕ
 kind_home kind h = kind_homes kind + 8 * h
 
 abbrev pub kind_standing : Journals → Image → ℕ → ℕ → List ℕ
-kind_standing Single image h i = standing image h i
+kind_standing Single image h i = standing_single image h i
 kind_standing Paired image h i = turn_standing image h i
 
 abbrev pub IsKindBad : Journals → ℕ → Image → Type 0
-IsKindBad Single sectors image = IsBadJournal sectors image
+IsKindBad Single sectors image = IsBadSingle sectors image
 IsKindBad Paired sectors image = IsBadTurn sectors image
 
 abbrev pub IsKindOutside : Journals → ℕ → ℕ → Type 0
@@ -59,7 +59,7 @@ IsKindOutside Paired sectors k = IsTurnOutside sectors k
 -- nothing stands in a journal alone: the gate is closed, or the map of the journal that it names is empty
 abbrev pub IsKindClosed : Journals → Image → Type 0
 IsKindClosed Single image = is_open image ≡ false
-IsKindClosed Paired image = count_in (turn_map (named_in image) image) ≡ 0
+IsKindClosed Paired image = map_count (turn_map (named_in image) image) ≡ 0
 
 -- what a recovery of a device of so many sectors writes
 abbrev pub IsKindRecovered : Journals → ℕ → ℕ → Type 0
@@ -120,8 +120,8 @@ store_live (InTurn journal) = live_homes journal.live
 
 -- the first sector of the page that stands for a home: in the body of the journal that is live with it, otherwise in its home
 abbrev pub journal_stands : StoreJournal → ℕ → ℕ
-journal_stands (One journal) h = place_or_home h (place_of (live_homes journal) h)
-journal_stands (InTurn journal) h = turn_stands journal.second h (place_of (live_homes journal.live) h)
+journal_stands (One journal) h = place_or_home h (home_rank (live_homes journal) h)
+journal_stands (InTurn journal) h = turn_stands journal.second h (home_rank (live_homes journal.live) h)
 
 -- what a commit writes: the gate, a journal, and homes of the commit before
 abbrev pub IsStoreCommitted : StoreJournal → ℕ → Type 0

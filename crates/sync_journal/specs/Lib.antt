@@ -7,9 +7,12 @@ pub mod Journal
 pub mod OldJournal
 pub mod Source
 pub mod Runs
+pub mod Steps
 pub mod Recovery
 pub mod Stops
 pub mod Turns
 pub mod Blocks
 pub mod Kinds
 pub mod Resuming
+pub mod Committing
+pub mod Recovering

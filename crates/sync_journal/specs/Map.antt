@@ -6,8 +6,8 @@ use Rattle.sync_journal.specs.Layout.{page_limit}
 use Rattle.byteorder.specs.Endian.{little_number, little_bytes}
 
 -- how many pages a map names
-abbrev pub count_in : List ℕ → ℕ
-count_in map = little_number 4 map
+abbrev pub map_count : List ℕ → ℕ
+map_count map = little_number 4 map
 
 -- the home of the page at place j
 abbrev pub home_in : List ℕ → ℕ → ℕ
@@ -23,8 +23,8 @@ place_among homes h zero = None
 place_among homes h (suc n) = if homes n == h then Some n else place_among homes h n
 
 -- the place of home h in a list of homes
-abbrev pub place_of : List ℕ → ℕ → Option ℕ
-place_of homes h = place_among (λ j. slice_index homes j) h (length homes)
+abbrev pub home_rank : List ℕ → ℕ → Option ℕ
+home_rank homes h = place_among (λ j. slice_index homes j) h (length homes)
 
 -- at most so many homes, each under the number of homes, none twice
 pub record AreFewHomes (most count : ℕ) (homes : List ℕ) : Type 0 where
@@ -46,16 +46,16 @@ HasHomeTwice names n = (i : ℕ) × (j : ℕ) × (i < j) × (j < n) × (names i 
 
 -- a map that no commit writes: more pages than it has room for, a home that the device hasn't, or a home twice
 abbrev pub IsBadMap : ℕ → ℕ → List ℕ → Type 0
-IsBadMap most count map = (most < count_in map) ⊎ (HasNoHome count (home_in map) (count_in map) ⊎ HasHomeTwice (home_in map) (count_in map))
+IsBadMap most count map = (most < map_count map) ⊎ (HasNoHome count (home_in map) (map_count map) ⊎ HasHomeTwice (home_in map) (map_count map))
 
 -- no number, or one that is at most so large
-abbrev pub IsWithin : ℕ → Option ℕ → Type 0
-IsWithin most None = ⊤
-IsWithin most (Some count) = count ≤ most
+abbrev pub IsWithinHomes : ℕ → Option ℕ → Type 0
+IsWithinHomes most None = ⊤
+IsWithinHomes most (Some count) = count ≤ most
 
 -- The first so many of a list are the homes that a good map names.
 pub record AreNamed (most limit : ℕ) (map homes : List ℕ) (count : ℕ) : Type 0 where
-  pub counted : count ≡ count_in map
+  pub counted : count ≡ map_count map
   pub each : (j : ℕ) → j < count → slice_index homes j ≡ home_in map j
   pub good : AreFewHomes most limit (take count homes)
 

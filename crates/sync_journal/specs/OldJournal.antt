@@ -1,10 +1,16 @@
 -- The journal of a store of the layout before, which is only read.
-use Rattle.std.specs.Prelude.{ℕ, ◌≡◌, List, take}
+use Rattle.std.specs.Prelude.{ℕ, ◌≡◌, List, take, Result, IfOk, OnOk, IsErrOf}
 use Rattle.disk_model.specs.Stop.{Image}
-use Rattle.sync_journal.specs.Layout.{Layout}
-use Rattle.sync_journal.specs.Map.{place_of}
+use Rattle.disk_model.specs.Moments.{AsksOnly}
+use Rattle.disk_model.specs.declared.sector_disk.SectorDisk.{Ghosts}
+use Rattle.sync_journal.specs.Layout.{Layout, layout_before, IsGateOrMapIn}
+use Rattle.sync_journal.specs.Map.{home_rank}
 use Rattle.sync_journal.specs.Gate.{is_open}
-use Rattle.sync_journal.specs.Standing.{standing_under, map_in, place_or_home_in}
+use Rattle.sync_journal.specs.Standing.{standing_under, map_in, place_or_home_in, IsBadJournalIn}
+use Rattle.sync_journal.specs.Steps.{LooksOnly}
+use Rattle.sync_journal.specs.declared.faults.RecoverFault.{RecoverFault}
+use Rattle.sync_journal.specs.declared.faults.RecoverFault.TheVariants.{BadJournal}
+use Rattle.sync_journal.specs.declared.store_journal.Journals.{Journals}
 use Rattle.sync_journal.specs.declared.old_journal.OldJournal.{OldJournal}
 
 -- the homes of the pages in the body
@@ -12,5 +18,19 @@ abbrev pub old_homes : OldJournal → List ℕ
 old_homes journal = take journal.count journal.homes
 
 -- A page stands in the body at its place in this list of homes, and in its home where the list doesn't name it.
-pub record StandsAt (layout : Layout) (homes : List ℕ) (image : Image) : Type 0 where
-  pub at : (h : ℕ) → standing_under layout (is_open image) (map_in layout image) h ≡ place_or_home_in layout h (place_of homes h)
+pub record StandsAsListed (layout : Layout) (homes : List ℕ) (image : Image) : Type 0 where
+  pub at : (h : ℕ) → standing_under layout (is_open image) (map_in layout image) h ≡ place_or_home_in layout h (home_rank homes h)
+
+module _ {D : Type 0} (g : Ghosts D) where
+  -- The journal of a store of the layout before is looked for:
+  pub record FindsBefore (journals : Journals) (old new : D) (result : Result OldJournal RecoverFault) : Type 0 where
+    -- it is that of the layout before, and says where each page stands,
+    pub before : IfOk result (λ journal. journal.journals ≡ journals)
+    pub found : g.keeps_model new → IfOk result (λ journal. StandsAsListed (layout_before journals) (old_homes journal) (g.content old))
+    -- nothing is written, and nothing but gate and map asked for,
+    pub looks : LooksOnly g old new result
+    pub open looks use *
+    pub asks : AsksOnly g (IsGateOrMapIn (layout_before journals)) old new
+    -- and it is refused exactly where it is bad, unless the device failed.
+    pub good : g.keeps_model new → OnOk result (IsBadJournalIn (layout_before journals) (g.sector_count old) (g.content old) → ⊥)
+    pub bad : g.keeps_model new → IsErrOf result BadJournal → IsBadJournalIn (layout_before journals) (g.sector_count old) (g.content old)

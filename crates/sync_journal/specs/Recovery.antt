@@ -4,7 +4,7 @@ use Rattle.disk_model.specs.Stop.{Image}
 use Rattle.sync_journal.specs.Layout.{home_count, page_limit}
 use Rattle.sync_journal.specs.Gate.{is_open}
 use Rattle.sync_journal.specs.Map.{AreHomes}
-use Rattle.sync_journal.specs.Standing.{IsOpenFor, IsBadJournal}
+use Rattle.sync_journal.specs.Standing.{IsOpenFor, IsBadSingle}
 use Rattle.sync_journal.specs.declared.faults.RecoverFault.{RecoverFault}
 use Rattle.sync_journal.specs.declared.faults.RecoverFault.TheVariants.{Device, BadJournal}
 
@@ -13,7 +13,7 @@ abbrev pub Finds : ℕ → Image → List ℕ → Result (Option ℕ) RecoverFau
 Finds sectors image homes (Ok None) = is_open image ≡ false
 Finds sectors image homes (Ok (Some count)) = IsOpenFor (take count homes) image
 Finds sectors image homes (Err Device) = ⊤
-Finds sectors image homes (Err BadJournal) = IsBadJournal sectors image
+Finds sectors image homes (Err BadJournal) = IsBadSingle sectors image
 
 -- The first homes of the list are fit to be written.
 abbrev pub GivesHomes : ℕ → List ℕ → Result (Option ℕ) RecoverFault → Type 0

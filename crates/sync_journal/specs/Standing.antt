@@ -4,7 +4,7 @@ use Rattle.disk_model.specs.Sectors.{part_of, joined}
 use Rattle.disk_model.specs.Stop.{Image}
 use Rattle.sync_journal.specs.Layout.{Layout, layout_2, map_sector, body_at, home_at, home_count_in, body_sector, home_sector, IsGate, IsStaged, IsPageSector}
 use Rattle.sync_journal.specs.Gate.{is_open}
-use Rattle.sync_journal.specs.Map.{count_in, home_in, place_among, IsBadMap}
+use Rattle.sync_journal.specs.Map.{map_count, home_in, place_among, IsBadMap}
 
 module _ (layout : Layout) where
   -- where home page h stands if the map names it at this place
@@ -18,7 +18,7 @@ module _ (layout : Layout) where
 
   -- where home page h stands under this gate and this map
   unfoldable pub standing_under : Bool → List ℕ → ℕ → ℕ
-  standing_under gate map h = if gate then place_or_home_in h (place_among (home_in map) h (count_in map)) else home_at layout h
+  standing_under gate map h = if gate then place_or_home_in h (place_among (home_in map) h (map_count map)) else home_at layout h
 
   -- sector i of the page that stands for home page h
   abbrev pub standing_in : Image → ℕ → ℕ → List ℕ
@@ -32,7 +32,7 @@ module _ (layout : Layout) where
   -- The gate is open before a map that names these homes.
   pub record IsOpenIn (homes : List ℕ) (image : Image) : Type 0 where
     pub gate : is_open image ≡ true
-    pub count : count_in (map_in image) ≡ length homes
+    pub count : map_count (map_in image) ≡ length homes
     pub each : (j : ℕ) → j < length homes → home_in (map_in image) j ≡ slice_index homes j
 
 -- The same of layout 2.
@@ -42,18 +42,18 @@ place_or_home h place = place_or_home_in layout_2 h place
 abbrev pub map_of : Image → List ℕ
 map_of image = map_in layout_2 image
 
-abbrev pub standing : Image → ℕ → ℕ → List ℕ
-standing image h i = standing_in layout_2 image h i
+abbrev pub standing_single : Image → ℕ → ℕ → List ℕ
+standing_single image h i = standing_in layout_2 image h i
 
-abbrev pub IsBadJournal : ℕ → Image → Type 0
-IsBadJournal sectors image = IsBadJournalIn layout_2 sectors image
+abbrev pub IsBadSingle : ℕ → Image → Type 0
+IsBadSingle sectors image = IsBadJournalIn layout_2 sectors image
 
 abbrev pub IsOpenFor : List ℕ → Image → Type 0
 IsOpenFor homes image = IsOpenIn layout_2 homes image
 
 -- The image stands for these pages, of eight sectors each.
-pub record StandsFor (pages : ℕ → ℕ → List ℕ) (image : Image) : Type 0 where
-  pub each : (h i : ℕ) → i < 8 → standing image h i ≡ pages h i
+pub record StandsForPages (pages : ℕ → ℕ → List ℕ) (image : Image) : Type 0 where
+  pub each : (h i : ℕ) → i < 8 → standing_single image h i ≡ pages h i
 
 -- The first n homes hold what the body held.
 abbrev pub AreCopied : List ℕ → ℕ → Image → Image → Type 0
@@ -65,9 +65,9 @@ HoldsPages n pages image = (j i : ℕ) → j < n → i < 8 → image (body_secto
 
 -- a sector of a home that the map of this image names
 abbrev pub IsNamedHome : Image → ℕ → Type 0
-IsNamedHome image k = (j : ℕ) × (j < count_in (map_of image)) × IsPageSector (home_sector (home_in (map_of image) j)) k
+IsNamedHome image k = (j : ℕ) × (j < map_count (map_of image)) × IsPageSector (home_sector (home_in (map_of image) j)) k
 
 -- what a recovery of this image asks for: the gate and, where it is open, the map, the pages of the body
 -- and the homes that the map names
 abbrev pub IsAskedIn : Image → ℕ → Type 0
-IsAskedIn image k = IsGate k ⊎ ((is_open image ≡ true) × (IsStaged (count_in (map_of image)) k ⊎ IsNamedHome image k))
+IsAskedIn image k = IsGate k ⊎ ((is_open image ≡ true) × (IsStaged (map_count (map_of image)) k ⊎ IsNamedHome image k))

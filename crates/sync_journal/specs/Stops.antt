@@ -16,7 +16,7 @@ module _ {D : Type 0} (g : Ghosts D) where
 
   -- The last image is one that n stops in a row may leave: the first of them within a recovery of the first image, and
   -- each other one within a recovery of what the stop before it left.
-  abbrev pub LeftInARow : ℕ → ℕ → Image → Image → Type 0
-  LeftInARow sectors zero first last = last ≡ first
-  LeftInARow sectors (suc n) first last = (image : Image) × (old : D) × (new : D)
-      × LeftInARow sectors n first image × Recovers sectors image old new × g.left_since new (g.moment old) last
+  abbrev pub LeftByRecoveries : ℕ → ℕ → Image → Image → Type 0
+  LeftByRecoveries sectors zero first last = last ≡ first
+  LeftByRecoveries sectors (suc n) first last = (image : Image) × (old : D) × (new : D)
+      × LeftByRecoveries sectors n first image × Recovers sectors image old new × g.left_since new (g.moment old) last

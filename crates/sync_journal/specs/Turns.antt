@@ -7,7 +7,7 @@ use Rattle.disk_model.specs.Moments.{LeavesNow, LeavesOnly}
 use Rattle.disk_model.specs.declared.sector_disk.SectorDisk.{Ghosts}
 use Rattle.sync_journal.specs.Layout.{page_limit, home_limit, IsPageSector}
 use Rattle.sync_journal.specs.Gate.{is_open_sector}
-use Rattle.sync_journal.specs.Map.{count_in, home_in, place_among, place_of, IsBadMap}
+use Rattle.sync_journal.specs.Map.{map_count, home_in, place_among, home_rank, IsBadMap}
 use Rattle.sync_journal.specs.Journal.{live_homes}
 use Rattle.sync_journal.specs.declared.turns.TurnJournal.{TurnJournal}
 
@@ -45,8 +45,8 @@ abbrev pub turn_map : Bool → Image → List ℕ
 turn_map second image = joined (λ i. image (start_of second + i)) 8
 
 -- the place at which a journal's map names home h, if any
-abbrev pub place_in : Bool → Image → ℕ → Option ℕ
-place_in second image h = place_among (home_in (turn_map second image)) h (count_in (turn_map second image))
+abbrev pub map_rank : Bool → Image → ℕ → Option ℕ
+map_rank second image h = place_among (home_in (turn_map second image)) h (map_count (turn_map second image))
 
 -- where home page h stands if a journal names it at this place
 abbrev pub turn_stands : Bool → ℕ → Option ℕ → ℕ
@@ -55,7 +55,7 @@ turn_stands second h (Some j) = turn_body second j
 
 -- sector i of the page that stands for home page h under this journal
 abbrev pub stands_under : Bool → Image → ℕ → ℕ → List ℕ
-stands_under second image h i = image (turn_stands second h (place_in second image h) + i)
+stands_under second image h i = image (turn_stands second h (map_rank second image h) + i)
 
 -- and under that which the gate names: what the image stands for
 abbrev pub turn_standing : Image → ℕ → ℕ → List ℕ
@@ -106,7 +106,7 @@ IsTurnFilled second n k = (turn_body second 0 ≤ k) × (k < turn_body second n)
 
 -- what the first n of these homes are copied from and to, but for those that the other list names
 abbrev pub IsTurnCopy : Bool → List ℕ → List ℕ → ℕ → ℕ → Type 0
-IsTurnCopy second homes but n k = (j : ℕ) × (j < n) × (place_of but (slice_index homes j) ≡ None)
+IsTurnCopy second homes but n k = (j : ℕ) × (j < n) × (home_rank but (slice_index homes j) ≡ None)
     × (IsPageSector (turn_body second j) k ⊎ IsPageSector (turn_home (slice_index homes j)) k)
 
 -- what a commit to these homes over the live ones asks for: the gate, as much of the journal that is not named as it fills,
@@ -120,12 +120,12 @@ IsTurnAsked second live pages k = IsTurnGate k ⊎ (IsTurnPart (not second) page
 
 -- what the pages that this map names are copied from and to
 abbrev pub IsNamedCopy : Bool → List ℕ → ℕ → Type 0
-IsNamedCopy second map k = (j : ℕ) × (j < count_in map) × (IsPageSector (turn_body second j) k ⊎ IsPageSector (turn_home (home_in map j)) k)
+IsNamedCopy second map k = (j : ℕ) × (j < map_count map) × (IsPageSector (turn_body second j) k ⊎ IsPageSector (turn_home (home_in map j)) k)
 
 -- what a recovery of this image asks for: the gate, the map of the journal that it names, and where that has pages the other
 -- map and what is copied home
 abbrev pub IsTurnAskedIn : Image → ℕ → Type 0
-IsTurnAskedIn image k = IsTurnGate k ⊎ (IsPageSector (start_of (named_in image)) k ⊎ ((0 < count_in (turn_map (named_in image) image))
+IsTurnAskedIn image k = IsTurnGate k ⊎ (IsPageSector (start_of (named_in image)) k ⊎ ((0 < map_count (turn_map (named_in image) image))
     × (IsPageSector (start_of (not (named_in image))) k ⊎ IsNamedCopy (named_in image) (turn_map (named_in image) image) k)))
 
 -- what a recovery of a device of so many sectors of layout 3 writes: gate, map of the journal that is not named, homes
@@ -151,18 +151,18 @@ abbrev pub TurnsStandAs : ℕ → Image → Image → Type 0
 TurnsStandAs sectors old image = IsTurnKept sectors old (TurnStandsFor (turn_standing old)) image
 
 -- A journal's body holds the first n of these pages.
-abbrev pub HoldsIn : Bool → ℕ → (ℕ → List ℕ) → Image → Type 0
-HoldsIn second n pages image = (j i : ℕ) → j < n → i < 8 → image (turn_body second j + i) ≡ part_of (pages j) i
+abbrev pub HoldsJournal : Bool → ℕ → (ℕ → List ℕ) → Image → Type 0
+HoldsJournal second n pages image = (j i : ℕ) → j < n → i < 8 → image (turn_body second j + i) ≡ part_of (pages j) i
 
 -- The first n of these homes hold what a journal's body held, but for those that the other list names.
 abbrev pub AreCopiedBut : Bool → List ℕ → List ℕ → ℕ → Image → Image → Type 0
-AreCopiedBut second homes but n old new = (j i : ℕ) → j < n → place_of but (slice_index homes j) ≡ None → i < 8
+AreCopiedBut second homes but n old new = (j i : ℕ) → j < n → home_rank but (slice_index homes j) ≡ None → i < 8
     → new (turn_home (slice_index homes j) + i) ≡ old (turn_body second j + i)
 
 -- The image's gate names the journal, and its map the live homes.
 pub record IsNamedFor (journal : TurnJournal) (image : Image) : Type 0 where
   pub gate : named_in image ≡ journal.second
-  pub count : count_in (turn_map (named_in image) image) ≡ journal.live.count
+  pub count : map_count (turn_map (named_in image) image) ≡ journal.live.count
   pub long : length (live_homes journal.live) ≡ journal.live.count
   pub each : (j : ℕ) → j < journal.live.count → home_in (turn_map (named_in image) image) j ≡ slice_index (live_homes journal.live) j
 
@@ -177,8 +177,8 @@ module _ {D : Type 0} (g : Ghosts D) where
   pub record IsTurnRest (second : Bool) (live : List ℕ) (d : D) : Type 0 where
     pub gate : named_in (g.content d) ≡ second
     pub good : IsBadUnder second (g.sector_count d) (g.content d) → ⊥
-    pub covers : (h j : ℕ) → place_of live h ≡ Some j → place_in second (g.content d) h ≡ Some j
-    pub home : (h i : ℕ) → i < 8 → place_of live h ≡ None → stands_under second (g.content d) h i ≡ g.content d (turn_home h + i)
+    pub covers : (h j : ℕ) → home_rank live h ≡ Some j → map_rank second (g.content d) h ≡ Some j
+    pub home : (h i : ℕ) → i < 8 → home_rank live h ≡ None → stands_under second (g.content d) h i ≡ g.content d (turn_home h + i)
     pub synced : (k : ℕ) → g.unsynced d k → IsTurnSector (not second) k
 
   -- The device is at rest again, and stands for these pages now and after every stop. Outside the gate, the journals and

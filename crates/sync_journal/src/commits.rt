@@ -1,16 +1,14 @@
 //! Pages made durable all at once.
-ghost use Rattle.std.specs.Prelude.{◌≡◌, ◌<◌, ◌≤◌, ◌⊎◌, ◌+◌, ℕ, [], length, IfSome, OnOk, IsErr, IsErrOf};
-ghost use Rattle.disk_model.specs.Stop.{Image, HasCause, NamesOnce};
-ghost use Rattle.disk_model.specs.Moments.{LeavesOnly, Touches, AsksOnly, Nothing};
-ghost use Rattle.sync_journal.specs.Layout.{gate_sector, home_count, home_sector, IsCommitted, IsFinished, IsPageSector, IsOutside, IsReplayed, first_home_sector, page_limit};
+ghost use Rattle.std.specs.Prelude.{◌≡◌, ◌<◌, ◌≤◌, ◌⊎◌, ◌+◌, ℕ, [], length, IfSome, OnOk};
+ghost use Rattle.sync_journal.specs.Layout.{gate_sector, home_count, home_sector, IsFinished, IsPageSector, IsReplayed, first_home_sector, page_limit};
 ghost use Rattle.sync_journal.specs.Gate.{closed_gate};
-ghost use Rattle.sync_journal.specs.Map.{AreHomes, map_bytes, place_of};
-ghost use Rattle.sync_journal.specs.Standing.{standing, place_or_home, map_of};
+ghost use Rattle.sync_journal.specs.Map.{AreHomes, home_rank};
+ghost use Rattle.sync_journal.specs.Standing.{standing_single, place_or_home};
 ghost use Rattle.disk_model.specs.Sectors.{joined};
-ghost use Rattle.sync_journal.specs.Commit.{changed, StandsForEither, KeepsHomes, IsKept, IsAtRest, IsSettled, AsksInTwo};
+ghost use Rattle.sync_journal.specs.Commit.{IsAtRest, IsSettled, HomesStandAs};
 ghost use Rattle.sync_journal.specs.Journal.{live_homes};
-ghost use Rattle.sync_journal.specs.Runs.{Runs};
-ghost use Rattle.sync_journal.specs.Source.{Asks, HasCauses};
+ghost use Rattle.sync_journal.specs.Committing.{CommitsOne};
+ghost use Rattle.sync_journal.specs.Steps.{SeesHome, MovesHome};
 
 use crate::faults::CommitFault;
 use crate::homes::replay;
@@ -56,40 +54,7 @@ impl Journal {
         requires live { AreHomes (home_count (D.sector_count disk.old)) (live_homes self.old) }
         requires gives { (i : ℕ) → i < length homes.now → S.gives source.old i }
         requires rest { D.keeps_model disk.old → IsAtRest D.SectorDisk (live_homes self.old) disk.old }
-
-        ensures size { D.sector_count disk.new ≡ D.sector_count disk.old }
-        ensures kept { D.keeps_model disk.new → D.keeps_model disk.old }
-        ensures asks { Asks S.PageSource source.old source.new }
-        // The device is asked for the gate, the journal, and the homes of the commit before alone.
-        ensures asks_device { AsksOnly D.SectorDisk (IsCommitted (live_homes self.old)) disk.old disk.new }
-        // And for no sector more often than it takes.
-        ensures once { AsksInTwo D.SectorDisk (live_homes self.old) (length homes.now) disk.old disk.new }
-        ensures causes { HasCauses (D.failures disk.old) (D.failures disk.new) (S.failures source.old) (S.failures source.new) result }
-
-        // Every image of a stop at any moment of the call stands for the pages before or after.
-        ensures any_moment { D.keeps_model disk.new → S.keeps_model source.new → LeavesOnly D.SectorDisk disk.old disk.new
-            (IsKept (D.sector_count disk.old) (D.content disk.old) (StandsForEither (standing (D.content disk.old))
-            (changed (standing (D.content disk.old)) homes.now (S.pages source.old)))) }
-
-        ensures ok { D.keeps_model disk.new → S.keeps_model source.new → OnOk result (IsSettled D.SectorDisk (D.sector_count disk.old)
-            (D.content disk.old) homes.now disk.new (changed (standing (D.content disk.old)) homes.now (S.pages source.old))) }
-
-        // Whatever the source gives, the journal is live after Ok, the device is at rest, and outside as it was.
-        ensures live { OnOk result (live_homes self.new ≡ homes.now) }
-        ensures rest { D.keeps_model disk.new → OnOk result (IsAtRest D.SectorDisk homes.now disk.new) }
-        ensures synced { D.keeps_model disk.new → OnOk result ((k : ℕ) → D.unsynced disk.new k → ⊥) }
-        ensures map { D.keeps_model disk.new → OnOk result (map_of (D.content disk.new) ≡ map_bytes homes.now) }
-        ensures outside { D.keeps_model disk.new → OnOk result ((k : ℕ) → IsOutside (D.sector_count disk.old) k → D.content disk.new k ≡ D.content disk.old k) }
-
-        // Of the homes only those of the commit before are written: the new pages stand in the body.
-        ensures touches { D.keeps_model disk.new → Touches D.SectorDisk (IsCommitted (live_homes self.old)) disk.old disk.new }
-
-        // After a source's fault the pages of the commit before are home, the gate is closed, and no journal is live.
-        ensures not_live { IsErrOf result CommitFault.Source → live_homes self.new ≡ [] }
-        ensures source { D.keeps_model disk.new → IsErrOf result CommitFault.Source
-            → IsSettled D.SectorDisk (D.sector_count disk.old) (D.content disk.old) [] disk.new (standing (D.content disk.old)) }
-        ensures source_moments { D.keeps_model disk.new → IsErrOf result CommitFault.Source → KeepsHomes D.SectorDisk disk.old disk.new }
-        ensures source_gate { D.keeps_model disk.new → IsErrOf result CommitFault.Source → D.content disk.new gate_sector ≡ closed_gate (D.content disk.old) }
+        ensures { CommitsOne D.SectorDisk S.PageSource self.old self.new homes.now disk.old disk.new source.old source.new result }
     {
         self.finish(disk)?;
         publish(disk, homes, source)?;
@@ -107,21 +72,15 @@ impl Journal {
     ) -> Result<(), DiskFault>
         requires home { home < home_count (D.sector_count disk.old) }
         requires rest { D.keeps_model disk.old → IsAtRest D.SectorDisk (live_homes self.now) disk.old }
-        ensures size { D.sector_count disk.new ≡ D.sector_count disk.old }
-        ensures kept { D.keeps_model disk.new → D.keeps_model disk.old }
-        ensures cause { HasCause (D.failures disk.old) (D.failures disk.new) result }
-        // No sector is asked for but the eight in which that page stands.
-        ensures asks { AsksOnly D.SectorDisk (IsPageSector (place_or_home home (place_of (live_homes self.now) home))) disk.old disk.new }
-        ensures touches { D.keeps_model disk.new → Touches D.SectorDisk Nothing disk.old disk.new }
-        ensures rest { D.keeps_model disk.new → IsAtRest D.SectorDisk (live_homes self.now) disk.new }
-        ensures page { D.keeps_model disk.new → OnOk result (to.new ≡ joined (standing (D.content disk.old) home) 8) }
+        ensures { SeesHome D.SectorDisk (joined (standing_single (D.content disk.old) home) 8) (IsPageSector (place_or_home home (home_rank (live_homes self.now) home)))
+            (IsAtRest D.SectorDisk (live_homes self.now) disk.new) disk.old disk.new to.new result }
     {
         read_page(disk, self.stands_at(home), to)
     }
 
     // The first sector of the page that stands for a home.
     fn stands_at(&self, home: u32) -> u64
-        ensures at { result ≡ place_or_home home (place_of (live_homes self.now) home) }
+        ensures at { result ≡ place_or_home home (home_rank (live_homes self.now) home) }
         ensures inside { (result + 8 ≤ first_home_sector) ⊎ (result ≡ home_sector home) }
     {
         match place(self.live(), home) {
@@ -135,15 +94,10 @@ impl Journal {
         requires room { first_home_sector ≤ D.sector_count disk.old }
         requires live { AreHomes (home_count (D.sector_count disk.old)) (live_homes self.old) }
         requires rest { D.keeps_model disk.old → IsAtRest D.SectorDisk (live_homes self.old) disk.old }
-        ensures run { Runs D.SectorDisk (IsReplayed (live_homes self.old)) disk.old disk.new }
-        ensures asks { NamesOnce (IsFinished (live_homes self.old)) (D.asked disk.old) (D.asked disk.new) }
-        ensures failed { IsErr result → D.failures disk.old < D.failures disk.new }
-        ensures calm { OnOk result (D.failures disk.new ≡ D.failures disk.old) }
-        ensures not_live { OnOk result (live_homes self.new ≡ []) }
-        ensures any_moment { D.keeps_model disk.new → KeepsHomes D.SectorDisk disk.old disk.new }
+        ensures home { MovesHome D.SectorDisk (IsReplayed (live_homes self.old)) (IsFinished (live_homes self.old)) (HomesStandAs (D.sector_count disk.old) (D.content disk.old))
+            (IsSettled D.SectorDisk (D.sector_count disk.old) (D.content disk.old) [] disk.new (standing_single (D.content disk.old))) disk.old disk.new result }
         ensures gate { D.keeps_model disk.new → OnOk result (D.content disk.new gate_sector ≡ closed_gate (D.content disk.old)) }
-        ensures settled { D.keeps_model disk.new → OnOk result
-            (IsSettled D.SectorDisk (D.sector_count disk.old) (D.content disk.old) [] disk.new (standing (D.content disk.old))) }
+        ensures not_live { OnOk result (live_homes self.new ≡ []) }
     {
         if self.count > 0 {
             replay(disk, self.live())?;
@@ -166,7 +120,7 @@ impl Journal {
 
 // The place of a home in a list of homes.
 pub(crate) fn place(homes: &[u32], home: u32) -> Option<usize>
-    ensures at { result ≡ place_of homes.now home }
+    ensures at { result ≡ home_rank homes.now home }
     ensures below { IfSome result (λ j. j < length homes.now) }
 {
     let mut found = None;

@@ -1,12 +1,11 @@
 //! The pages of an open journal, copied to their homes.
-ghost use Rattle.std.specs.Prelude.{◌≡◌, ◌<◌, ◌≤◌, ℕ, [], length, OnOk, IsErr};
-ghost use Rattle.disk_model.specs.Stop.{NamesOnce};
+ghost use Rattle.std.specs.Prelude.{◌≡◌, ◌<◌, ◌≤◌, ℕ, [], length, OnOk};
 ghost use Rattle.sync_journal.specs.Layout.{gate_sector, home_count, IsHomeSector, IsReplayed, IsCopied, IsFinished, first_home_sector};
 ghost use Rattle.sync_journal.specs.Gate.{closed_sector};
 ghost use Rattle.sync_journal.specs.Map.{AreHomes};
-ghost use Rattle.sync_journal.specs.Standing.{IsOpenFor, AreCopied, standing};
-ghost use Rattle.sync_journal.specs.Commit.{KeepsHomes, IsSettled};
-ghost use Rattle.sync_journal.specs.Runs.{Runs};
+ghost use Rattle.sync_journal.specs.Standing.{IsOpenFor, AreCopied, standing_single};
+ghost use Rattle.sync_journal.specs.Commit.{IsSettled, HomesStandAs};
+ghost use Rattle.sync_journal.specs.Steps.{WritesInto, SyncsInto, MovesHome};
 
 use crate::gate::close_gate;
 use crate::layout::{BODY, FIRST_HOME, PAGE_SECTORS};
@@ -19,13 +18,8 @@ pub(crate) fn replay<D: SectorDisk>(disk: &mut D, homes: &[u32]) -> Result<(), D
     requires homes { AreHomes (home_count (D.sector_count disk.old)) homes.now }
     requires opened { D.keeps_model disk.old → IsOpenFor homes.now (D.content disk.old) }
     requires synced { D.keeps_model disk.old → (k : ℕ) → D.unsynced disk.old k → ⊥ }
-    ensures run { Runs D.SectorDisk (IsReplayed homes.now) disk.old disk.new }
-    ensures asks { NamesOnce (IsFinished homes.now) (D.asked disk.old) (D.asked disk.new) }
-    ensures failed { IsErr result → D.failures disk.old < D.failures disk.new }
-    ensures calm { OnOk result (D.failures disk.new ≡ D.failures disk.old) }
-    ensures any_moment { D.keeps_model disk.new → KeepsHomes D.SectorDisk disk.old disk.new }
-    ensures settled { D.keeps_model disk.new → OnOk result
-        (IsSettled D.SectorDisk (D.sector_count disk.old) (D.content disk.old) [] disk.new (standing (D.content disk.old))) }
+    ensures home { MovesHome D.SectorDisk (IsReplayed homes.now) (IsFinished homes.now) (HomesStandAs (D.sector_count disk.old) (D.content disk.old))
+        (IsSettled D.SectorDisk (D.sector_count disk.old) (D.content disk.old) [] disk.new (standing_single (D.content disk.old))) disk.old disk.new result }
     ensures zeros { D.keeps_model disk.new → OnOk result (D.content disk.new gate_sector ≡ closed_sector) }
     ensures all_synced { D.keeps_model disk.new → OnOk result ((k : ℕ) → D.unsynced disk.new k → ⊥) }
 {
@@ -36,12 +30,8 @@ pub(crate) fn replay<D: SectorDisk>(disk: &mut D, homes: &[u32]) -> Result<(), D
 // Copies each page of the body to its home, and syncs.
 fn copy_homes<D: SectorDisk>(disk: &mut D, homes: &[u32]) -> Result<(), DiskFault>
     requires { AreHomes (home_count (D.sector_count disk.old)) homes.now }
-    ensures run { Runs D.SectorDisk (IsHomeSector homes.now) disk.old disk.new }
-    ensures asks { NamesOnce (IsCopied homes.now (length homes.now)) (D.asked disk.old) (D.asked disk.new) }
-    ensures failed { IsErr result → D.failures disk.old < D.failures disk.new }
-    ensures calm { OnOk result (D.failures disk.new ≡ D.failures disk.old) }
-    ensures copied { D.keeps_model disk.new → OnOk result (AreCopied homes.now (length homes.now) (D.content disk.old) (D.content disk.new)) }
-    ensures synced { D.keeps_model disk.new → OnOk result ((k : ℕ) → D.unsynced disk.new k → ⊥) }
+    ensures { SyncsInto D.SectorDisk (IsHomeSector homes.now) (IsCopied homes.now (length homes.now))
+        (AreCopied homes.now (length homes.now) (D.content disk.old) (D.content disk.new)) disk.old disk.new result }
 {
     copy_each(disk, homes)?;
     disk.sync()
@@ -49,11 +39,8 @@ fn copy_homes<D: SectorDisk>(disk: &mut D, homes: &[u32]) -> Result<(), DiskFaul
 
 fn copy_each<D: SectorDisk>(disk: &mut D, homes: &[u32]) -> Result<(), DiskFault>
     requires { AreHomes (home_count (D.sector_count disk.old)) homes.now }
-    ensures run { Runs D.SectorDisk (IsHomeSector homes.now) disk.old disk.new }
-    ensures asks { NamesOnce (IsCopied homes.now (length homes.now)) (D.asked disk.old) (D.asked disk.new) }
-    ensures failed { IsErr result → D.failures disk.old < D.failures disk.new }
-    ensures calm { OnOk result (D.failures disk.new ≡ D.failures disk.old) }
-    ensures copied { D.keeps_model disk.new → OnOk result (AreCopied homes.now (length homes.now) (D.content disk.old) (D.content disk.new)) }
+    ensures { WritesInto D.SectorDisk (IsHomeSector homes.now) (IsCopied homes.now (length homes.now))
+        (AreCopied homes.now (length homes.now) (D.content disk.old) (D.content disk.new)) disk.old disk.new result }
 {
     for (j, home) in homes.iter().enumerate() {
         copy_page(

@@ -4,7 +4,7 @@ ghost use Rattle.std.specs.Bool.{OnTrue, OnFalse};
 ghost use Rattle.std.specs.List.{flat_map};
 ghost use Rattle.sync_journal.specs.Layout.{page_limit};
 ghost use Rattle.byteorder.specs.Endian.{little_bytes};
-ghost use Rattle.sync_journal.specs.Map.{AreFewHomes, HasNoHome, HasHomeTwice, IsBadMap, map_bytes, count_in, home_in};
+ghost use Rattle.sync_journal.specs.Map.{AreFewHomes, HasNoHome, HasHomeTwice, IsBadMap, map_bytes, map_count, home_in};
 
 use byteorder::{ByteOrder, LittleEndian};
 
@@ -32,7 +32,7 @@ fn write_map(map: &mut [u8], homes: &[u32])
 /// `None` exactly where the map names more pages than that, a home that isn't under `limit` or a home twice.
 pub(crate) fn read_homes(map: &[u8], limit: u64, homes: &mut [u32]) -> Option<usize>
     requires { length map.now ≡ 4 + 4 * length homes.old }
-    ensures { MatchOption result (IsBadMap (length homes.old) limit map.now) (λ count. (count ≡ count_in map.now) × (count ≤ length homes.old)
+    ensures { MatchOption result (IsBadMap (length homes.old) limit map.now) (λ count. (count ≡ map_count map.now) × (count ≤ length homes.old)
         × ((j : ℕ) → j < count → slice_index homes.new j ≡ home_in map.now j) × AreFewHomes (length homes.old) limit (take count homes.new)) }
 {
     let count = LittleEndian::read_u32(map) as usize;

@@ -1,12 +1,12 @@
 //! The journal of a store of the layout before, which is only read.
-ghost use Rattle.std.specs.Prelude.{◌≡◌, ◌<◌, ◌≤◌, ◌+◌, ◌*◌, ◌⊎◌, ℕ, IfOk, OnOk, IsErr, IsErrOf, take};
-ghost use Rattle.disk_model.specs.Stop.{HasCause};
-ghost use Rattle.disk_model.specs.Moments.{Touches, AsksOnly, Nothing};
+ghost use Rattle.std.specs.Prelude.{◌≡◌, ◌<◌, ◌≤◌, ◌+◌, ◌*◌, ◌⊎◌, IfOk, OnOk, IsErr};
+ghost use Rattle.disk_model.specs.Moments.{AsksOnly, Nothing};
 ghost use Rattle.disk_model.specs.Sectors.{joined};
-ghost use Rattle.sync_journal.specs.Layout.{layout_1, layout_2, layout_before, home_at, home_count_in, IsPageSector, IsMapIn, IsGateOrMapIn};
-ghost use Rattle.sync_journal.specs.Map.{place_of, IsWithin, ReadsMap};
-ghost use Rattle.sync_journal.specs.Runs.{Runs};
-ghost use Rattle.sync_journal.specs.Standing.{standing_in, place_or_home_in, map_in, IsBadJournalIn};
+ghost use Rattle.sync_journal.specs.Layout.{layout_1, layout_2, layout_before, home_at, home_count_in, IsPageSector, IsMapIn};
+ghost use Rattle.sync_journal.specs.Map.{home_rank, IsWithinHomes, ReadsMap};
+ghost use Rattle.sync_journal.specs.Runs.{RunsOnDevice};
+ghost use Rattle.sync_journal.specs.Standing.{standing_in, place_or_home_in, map_in};
+ghost use Rattle.sync_journal.specs.Steps.{SeesHome};
 
 use crate::commits::place;
 use crate::faults::RecoverFault;
@@ -47,7 +47,7 @@ pub struct OldJournal {
 }
 
 impl OldJournal {
-    ghost use Rattle.sync_journal.specs.OldJournal.{old_homes, StandsAt};
+    ghost use Rattle.sync_journal.specs.OldJournal.{old_homes, StandsAsListed, FindsBefore};
 
     /// Looks at gate and map. Nothing is written.
     ///
@@ -57,15 +57,7 @@ impl OldJournal {
     /// device hasn't or a home twice, unless the device fails first. `Device` comes exactly where the device failed.
     pub fn find<D: SectorDisk>(disk: &mut D, journals: Journals) -> Result<OldJournal, RecoverFault>
         requires { (layout_before journals).homes ≤ D.sector_count disk.old }
-        ensures run { Runs D.SectorDisk Nothing disk.old disk.new }
-        ensures asks { AsksOnly D.SectorDisk (IsGateOrMapIn (layout_before journals)) disk.old disk.new }
-        ensures device { IsErrOf result RecoverFault.Device → D.failures disk.old < D.failures disk.new }
-        ensures calm { OnOk result (D.failures disk.new ≡ D.failures disk.old) }
-        ensures still { IsErrOf result RecoverFault.BadJournal → D.failures disk.new ≡ D.failures disk.old }
-        ensures good { D.keeps_model disk.new → OnOk result (IsBadJournalIn (layout_before journals) (D.sector_count disk.old) (D.content disk.old) → ⊥) }
-        ensures bad { D.keeps_model disk.new → IsErrOf result RecoverFault.BadJournal → IsBadJournalIn (layout_before journals) (D.sector_count disk.old) (D.content disk.old) }
-        ensures before { IfOk result (λ journal. journal.journals ≡ journals) }
-        ensures found { D.keeps_model disk.new → IfOk result (λ journal. StandsAt (layout_before journals) (old_homes journal) (D.content disk.old)) }
+        ensures { FindsBefore D.SectorDisk journals disk.old disk.new result }
     {
         let mut homes = [0; PAGE_LIMIT];
         let mut sector = [0; 512];
@@ -96,20 +88,17 @@ impl OldJournal {
         to: &mut [u8; 4096],
     ) -> Result<(), DiskFault>
         requires home { home < home_count_in (layout_before self.now.journals) (D.sector_count disk.old) }
-        requires found { D.keeps_model disk.old → StandsAt (layout_before self.now.journals) (old_homes self.now) (D.content disk.old) }
-        ensures size { D.sector_count disk.new ≡ D.sector_count disk.old }
-        ensures kept { D.keeps_model disk.new → D.keeps_model disk.old }
-        ensures cause { HasCause (D.failures disk.old) (D.failures disk.new) result }
-        ensures asks { AsksOnly D.SectorDisk (IsPageSector (place_or_home_in (layout_before self.now.journals) home (place_of (old_homes self.now) home))) disk.old disk.new }
-        ensures touches { D.keeps_model disk.new → Touches D.SectorDisk Nothing disk.old disk.new }
-        ensures page { D.keeps_model disk.new → OnOk result (to.new ≡ joined (standing_in (layout_before self.now.journals) (D.content disk.old) home) 8) }
+        requires found { D.keeps_model disk.old → StandsAsListed (layout_before self.now.journals) (old_homes self.now) (D.content disk.old) }
+        ensures { SeesHome D.SectorDisk (joined (standing_in (layout_before self.now.journals) (D.content disk.old) home) 8)
+            (IsPageSector (place_or_home_in (layout_before self.now.journals) home (home_rank (old_homes self.now) home)))
+            (StandsAsListed (layout_before self.now.journals) (old_homes self.now) (D.content disk.new)) disk.old disk.new to.new result }
     {
         read_page(disk, self.stands_at(home), to)
     }
 
     // The first sector of the page that stands for a home.
     fn stands_at(&self, home: u32) -> u64
-        ensures at { result ≡ place_or_home_in (layout_before self.now.journals) home (place_of (old_homes self.now) home) }
+        ensures at { result ≡ place_or_home_in (layout_before self.now.journals) home (home_rank (old_homes self.now) home) }
         ensures inside { (result + 8 ≤ (layout_before self.now.journals).homes) ⊎ (result ≡ home_at (layout_before self.now.journals) home) }
     {
         match place(&self.homes[..self.count], home) {
@@ -150,11 +139,11 @@ fn read_map<D: SectorDisk>(
     homes: &mut [u32; PAGE_LIMIT],
 ) -> Result<Option<usize>, DiskFault>
     requires { (layout_before journals).homes ≤ D.sector_count disk.old }
-    ensures run { Runs D.SectorDisk Nothing disk.old disk.new }
+    ensures run { RunsOnDevice D.SectorDisk Nothing disk.old disk.new }
     ensures asks { AsksOnly D.SectorDisk (IsMapIn (layout_before journals)) disk.old disk.new }
     ensures failed { IsErr result → D.failures disk.old < D.failures disk.new }
     ensures calm { OnOk result (D.failures disk.new ≡ D.failures disk.old) }
-    ensures few { IfOk result (λ found. IsWithin (layout_before journals).most found) }
+    ensures few { IfOk result (λ found. IsWithinHomes (layout_before journals).most found) }
     ensures names { D.keeps_model disk.new → IfOk result (λ found. ReadsMap (layout_before journals).most (home_count_in (layout_before journals) (D.sector_count disk.old)) (map_in (layout_before journals) (D.content disk.old)) homes.new found) }
 {
     match journals {
@@ -169,11 +158,11 @@ fn read_map_of_1<D: SectorDisk>(
     homes: &mut [u32; PAGE_LIMIT],
 ) -> Result<Option<usize>, DiskFault>
     requires { layout_1.homes ≤ D.sector_count disk.old }
-    ensures run { Runs D.SectorDisk Nothing disk.old disk.new }
+    ensures run { RunsOnDevice D.SectorDisk Nothing disk.old disk.new }
     ensures asks { AsksOnly D.SectorDisk (IsMapIn layout_1) disk.old disk.new }
     ensures failed { IsErr result → D.failures disk.old < D.failures disk.new }
     ensures calm { OnOk result (D.failures disk.new ≡ D.failures disk.old) }
-    ensures few { IfOk result (λ found. IsWithin layout_1.most found) }
+    ensures few { IfOk result (λ found. IsWithinHomes layout_1.most found) }
     ensures names { D.keeps_model disk.new → IfOk result (λ found. ReadsMap layout_1.most (home_count_in layout_1 (D.sector_count disk.old)) (map_in layout_1 (D.content disk.old)) homes.new found) }
 {
     let mut map = [0; 512];
@@ -192,11 +181,11 @@ fn read_map_of_2<D: SectorDisk>(
     homes: &mut [u32; PAGE_LIMIT],
 ) -> Result<Option<usize>, DiskFault>
     requires { layout_2.homes ≤ D.sector_count disk.old }
-    ensures run { Runs D.SectorDisk Nothing disk.old disk.new }
+    ensures run { RunsOnDevice D.SectorDisk Nothing disk.old disk.new }
     ensures asks { AsksOnly D.SectorDisk (IsMapIn layout_2) disk.old disk.new }
     ensures failed { IsErr result → D.failures disk.old < D.failures disk.new }
     ensures calm { OnOk result (D.failures disk.new ≡ D.failures disk.old) }
-    ensures few { IfOk result (λ found. IsWithin layout_2.most found) }
+    ensures few { IfOk result (λ found. IsWithinHomes layout_2.most found) }
     ensures names { D.keeps_model disk.new → IfOk result (λ found. ReadsMap layout_2.most (home_count_in layout_2 (D.sector_count disk.old)) (map_in layout_2 (D.content disk.old)) homes.new found) }
 {
     let mut map = [0; 4096];

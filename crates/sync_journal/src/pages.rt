@@ -1,10 +1,10 @@
 //! Pages of eight sectors, each in one call of the device.
 ghost use Rattle.std.specs.Prelude.{◌≡◌, ◌<◌, ◌≤◌, ◌+◌, ◌^◌, ◌⊎◌, ℕ, OnOk, IsErr};
-ghost use Rattle.disk_model.specs.Stop.{HasCause, Names, NamesOnce};
-ghost use Rattle.disk_model.specs.Moments.{Touches, Nothing};
+ghost use Rattle.disk_model.specs.Stop.{Names};
 ghost use Rattle.sync_journal.specs.Layout.{IsPageSector};
-ghost use Rattle.sync_journal.specs.Runs.{Runs};
-ghost use Rattle.disk_model.specs.Sectors.{part_of, joined};
+ghost use Rattle.sync_journal.specs.Runs.{RunsOnDevice};
+ghost use Rattle.disk_model.specs.Sectors.{part_of};
+ghost use Rattle.sync_journal.specs.Steps.{ReadsSectors, WritesInto};
 
 use disk_model::{DiskFault, SectorDisk};
 
@@ -20,7 +20,7 @@ pub fn write_page<D: SectorDisk>(
 ) -> Result<(), DiskFault>
     requires room { first + 8 ≤ D.sector_count disk.old }
     requires fits { first < 2 ^ 60 }
-    ensures run { Runs D.SectorDisk (IsPageSector first) disk.old disk.new }
+    ensures run { RunsOnDevice D.SectorDisk (IsPageSector first) disk.old disk.new }
     ensures asks { Names (IsPageSector first) (D.asked disk.old) (D.asked disk.new) }
     ensures failed { IsErr result → D.failures disk.old < D.failures disk.new }
     ensures calm { OnOk result (D.failures disk.new ≡ D.failures disk.old) }
@@ -41,12 +41,7 @@ pub fn read_page<D: SectorDisk>(
 ) -> Result<(), DiskFault>
     requires room { first + 8 ≤ D.sector_count disk.old }
     requires fits { first < 2 ^ 60 }
-    ensures size { D.sector_count disk.new ≡ D.sector_count disk.old }
-    ensures kept { D.keeps_model disk.new → D.keeps_model disk.old }
-    ensures cause { HasCause (D.failures disk.old) (D.failures disk.new) result }
-    ensures asks { Names (IsPageSector first) (D.asked disk.old) (D.asked disk.new) }
-    ensures touches { D.keeps_model disk.new → Touches D.SectorDisk Nothing disk.old disk.new }
-    ensures read { D.keeps_model disk.new → OnOk result (to.new ≡ joined (λ i. D.content disk.old (first + i)) 8) }
+    ensures { ReadsSectors D.SectorDisk first disk.old disk.new to.new result }
 {
     disk.read_page(first, to)
 }
@@ -56,11 +51,8 @@ pub(crate) fn copy_page<D: SectorDisk>(disk: &mut D, from: u64, to: u64) -> Resu
     requires behind { from + 8 ≤ to }
     requires room { to + 8 ≤ D.sector_count disk.old }
     requires fits { to < 2 ^ 60 }
-    ensures run { Runs D.SectorDisk (IsPageSector to) disk.old disk.new }
-    ensures asks { NamesOnce (λ k. IsPageSector from k ⊎ IsPageSector to k) (D.asked disk.old) (D.asked disk.new) }
-    ensures failed { IsErr result → D.failures disk.old < D.failures disk.new }
-    ensures calm { OnOk result (D.failures disk.new ≡ D.failures disk.old) }
-    ensures copied { D.keeps_model disk.new → OnOk result ((i : ℕ) → i < 8 → D.content disk.new (to + i) ≡ D.content disk.old (from + i)) }
+    ensures { WritesInto D.SectorDisk (IsPageSector to) (λ k. IsPageSector from k ⊎ IsPageSector to k)
+        ((i : ℕ) → i < 8 → D.content disk.new (to + i) ≡ D.content disk.old (from + i)) disk.old disk.new result }
 {
     let mut page = [0; 4096];
     disk.read_page(from, &mut page)?;

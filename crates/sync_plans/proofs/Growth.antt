@@ -8,8 +8,8 @@ use Rattle.std.proofs.Math.Path.{fun_ext}
 use Rattle.disk_model.specs.Sectors.{part_of}
 use Rattle.disk_model.specs.Stop.{Image, MayLeave, ChangesOnly, ChangesPage, IsOfPage, Elapses}
 use Rattle.sync_plans.specs.declared.call.Call.{Call}
-use Rattle.sync_plans.specs.Plans.{row, is_of_page, writes_to, page_bytes, bytes_in, is_sync, is_unsynced, Unsynced, image_after, is_written}
-use Rattle.sync_plans.specs.Device.{LeftSince, Lists, NamesPage}
+use Rattle.sync_plans.specs.Plans.{row, is_of_page, writes_to, page_bytes, written_bytes, is_sync_call, is_left_unsynced, IsLeftUnsynced, image_after, is_written}
+use Rattle.sync_plans.specs.Device.{PlanLeftSince, Lists, NamesPage}
 
 -- sectors of a page
 pub in_page : (first n : ℕ) → IsOfPage first n → is_of_page first n ≡ true
@@ -68,9 +68,9 @@ writes_here calls k n d inside = ap (λ (o : Option Call). writes_to o n) (slice
 
 module _ (calls : List Call) (rows : List (List ℕ)) (pages : ℕ → List ℕ) (first : Image) where
   abbrev branch : ℕ → ℕ → Bool → List ℕ
-  branch k n b = if b then bytes_in rows pages first k (slice_get calls k) n else image_after calls rows pages first k n
+  branch k n b = if b then written_bytes rows pages first k (slice_get calls k) n else image_after calls rows pages first k n
 
-  pub written : (m k n : ℕ) → m ≡ suc k → writes_to (slice_get calls k) n ≡ true → image_after calls rows pages first m n ≡ bytes_in rows pages first k (slice_get calls k) n
+  pub written : (m k n : ℕ) → m ≡ suc k → writes_to (slice_get calls k) n ≡ true → image_after calls rows pages first m n ≡ written_bytes rows pages first k (slice_get calls k) n
   written m k n e writes = ap (λ (j : ℕ). image_after calls rows pages first j n) e ∙ ap (branch k n) writes
 
   pub passed : (m k n : ℕ) → m ≡ suc k → writes_to (slice_get calls k) n ≡ false → image_after calls rows pages first m n ≡ image_after calls rows pages first k n
@@ -85,7 +85,7 @@ module _ (calls : List Call) (rows : List (List ℕ)) (pages : ℕ → List ℕ)
 
 -- plans with the same first calls
 module _ (calls calls' : List Call) (used : ℕ) (same_calls : (k : ℕ) → k < used → slice_get calls' k ≡ slice_get calls k) where
-  pub alike_unsynced : (k n : ℕ) → k ≤ used → is_unsynced calls' k n ≡ is_unsynced calls k n
+  pub alike_unsynced : (k n : ℕ) → k ≤ used → is_left_unsynced calls' k n ≡ is_left_unsynced calls k n
   alike_unsynced zero n le = refl
   alike_unsynced (suc k) n le = rw (same_calls k (omega (arith, le)), alike_unsynced k n (omega (arith, le))) refl
 
@@ -95,7 +95,7 @@ module _ (calls calls' : List Call) (used : ℕ) (same_calls : (k : ℕ) → k <
 
   module _ (rows rows' : List (List ℕ)) (pages : ℕ → List ℕ) (first : Image)
       (same_rows : (k : ℕ) (call : Call) → k < used → slice_get calls k ≡ Some call → call.kind ≡ 1 → row rows' k ≡ row rows k) where
-    same_bytes : (k n : ℕ) (call : Option Call) → k < used → slice_get calls k ≡ call → bytes_in rows' pages first k call n ≡ bytes_in rows pages first k call n
+    same_bytes : (k n : ℕ) (call : Option Call) → k < used → slice_get calls k ≡ call → written_bytes rows' pages first k call n ≡ written_bytes rows pages first k call n
     same_bytes k n None lt is = refl
     same_bytes k n (Some call) lt is = ⊎_elim
         (λ one. rw (eq-eqb call.kind 1 one) (same_rows k call lt is one))
@@ -108,10 +108,10 @@ module _ (calls calls' : List Call) (used : ℕ) (same_calls : (k : ℕ) → k <
         (ap (λ (bytes : List ℕ). if writes_to (slice_get calls k) n then bytes else image_after calls rows pages first k n)
         (same_bytes k n (slice_get calls k) (omega (arith, le)) refl))
 
-    pub alike_leaves : (k : ℕ) (c : Image) → k ≤ used → MayLeave (image_after calls' rows' pages first k) (Unsynced calls' k) c → MayLeave (image_after calls rows pages first k) (Unsynced calls k) c
+    pub alike_leaves : (k : ℕ) (c : Image) → k ≤ used → MayLeave (image_after calls' rows' pages first k) (IsLeftUnsynced calls' k) c → MayLeave (image_after calls rows pages first k) (IsLeftUnsynced calls k) c
     alike_leaves k c le may = record { kept = λ n. ⊎_elim (λ u. inl (subst IsTrue (alike_unsynced k n le) u)) (λ e. inr (e ∙ alike_image k n le)) (may.kept n) }
 
-    pub alike_left : (k : ℕ) (c : Image) → k ≤ used → MayLeave (image_after calls rows pages first k) (Unsynced calls k) c → MayLeave (image_after calls' rows' pages first k) (Unsynced calls' k) c
+    pub alike_left : (k : ℕ) (c : Image) → k ≤ used → MayLeave (image_after calls rows pages first k) (IsLeftUnsynced calls k) c → MayLeave (image_after calls' rows' pages first k) (IsLeftUnsynced calls' k) c
     alike_left k c le may = record { kept = λ n. ⊎_elim (λ u. inl (subst IsTrue (sym (alike_unsynced k n le)) u)) (λ e. inr (e ∙ sym (alike_image k n le))) (may.kept n) }
 
 -- a call more
@@ -122,26 +122,26 @@ module _ {calls calls' : List Call} {rows rows' : List (List ℕ)} {used used' :
   same_image : (k n : ℕ) → k ≤ used → image_after calls' rows' pages first k n ≡ image_after calls rows pages first k n
   same_image = alike_image calls calls' used lists.calls_before rows rows' pages first same_rows
 
-  same_unsynced : (k n : ℕ) → k ≤ used → is_unsynced calls' k n ≡ is_unsynced calls k n
+  same_unsynced : (k n : ℕ) → k ≤ used → is_left_unsynced calls' k n ≡ is_left_unsynced calls k n
   same_unsynced = alike_unsynced calls calls' used lists.calls_before
 
-  may_before : (k : ℕ) (c : Image) → k ≤ used → MayLeave (image_after calls' rows' pages first k) (Unsynced calls' k) c → MayLeave (image_after calls rows pages first k) (Unsynced calls k) c
+  may_before : (k : ℕ) (c : Image) → k ≤ used → MayLeave (image_after calls' rows' pages first k) (IsLeftUnsynced calls' k) c → MayLeave (image_after calls rows pages first k) (IsLeftUnsynced calls k) c
   may_before = alike_leaves calls calls' used lists.calls_before rows rows' pages first same_rows
 
-  may_after : (k : ℕ) (c : Image) → k ≤ used → MayLeave (image_after calls rows pages first k) (Unsynced calls k) c → MayLeave (image_after calls' rows' pages first k) (Unsynced calls' k) c
+  may_after : (k : ℕ) (c : Image) → k ≤ used → MayLeave (image_after calls rows pages first k) (IsLeftUnsynced calls k) c → MayLeave (image_after calls' rows' pages first k) (IsLeftUnsynced calls' k) c
   may_after = alike_left calls calls' used lists.calls_before rows rows' pages first same_rows
 
-  image_now : (n : ℕ) → image_after calls' rows' pages first used' n ≡ (if writes_to (Some call) n then bytes_in rows' pages first used (Some call) n else image_after calls rows pages first used n)
+  image_now : (n : ℕ) → image_after calls' rows' pages first used' n ≡ (if writes_to (Some call) n then written_bytes rows' pages first used (Some call) n else image_after calls rows pages first used n)
   image_now n = rw (lists.more, lists.call_here, same_image used n (omega arith)) refl
 
-  unsynced_now : (n : ℕ) → is_unsynced calls' used' n ≡ (if is_sync (Some call) then false else (writes_to (Some call) n || is_unsynced calls used n))
+  unsynced_now : (n : ℕ) → is_left_unsynced calls' used' n ≡ (if is_sync_call (Some call) then false else (writes_to (Some call) n || is_left_unsynced calls used n))
   unsynced_now n = rw (lists.more, lists.call_here, same_unsynced used n (omega arith)) refl
 
-  pub time : Elapses (used + 2) (used' + 2) (LeftSince calls rows pages first used) (LeftSince calls' rows' pages first used') (image_after calls' rows' pages first used') (Unsynced calls' used')
+  pub time : Elapses (used + 2) (used' + 2) (PlanLeftSince calls rows pages first used) (PlanLeftSince calls' rows' pages first used') (image_after calls' rows' pages first used') (IsLeftUnsynced calls' used')
   time = record {
     later = omega (arith, lists.more);
     nothing_else = λ t c le left. ⊎_elim (λ named. inl (inl named)) (⊎_elim (λ named. inl (inr (inl named)))
-        (λ had. ⊎_elim (λ now. inr (subst (λ (k : ℕ). MayLeave (image_after calls' rows' pages first k) (Unsynced calls' k) c) (omega (arith, now, had.2, lists.more)) had.3))
+        (λ had. ⊎_elim (λ now. inr (subst (λ (k : ℕ). MayLeave (image_after calls' rows' pages first k) (IsLeftUnsynced calls' k) c) (omega (arith, now, had.2, lists.more)) had.3))
         (λ early. inl (inr (inr (had.0, had.1, early, may_before had.0 c early had.3)))) (cases_lt used had.0)))
         left;
     keeps = λ t c le left. ⊎_elim (λ named. inl named) (⊎_elim (λ named. inr (inl named))
@@ -160,36 +160,36 @@ module _ {calls calls' : List Call} {rows rows' : List (List ℕ)} {used used' :
     image_written : (k : ℕ) → image_after calls' rows' pages first used' k ≡ (if k == n then bytes else image_after calls rows pages first used k)
     image_written k = image_now k ∙ rw (writes, row_now) refl
 
-    unsynced_written : (k : ℕ) → is_unsynced calls' used' k ≡ ((k == n) || is_unsynced calls used k)
+    unsynced_written : (k : ℕ) → is_left_unsynced calls' used' k ≡ ((k == n) || is_left_unsynced calls used k)
     unsynced_written k = unsynced_now k ∙ rw writes refl
 
     pub written_here : image_after calls' rows' pages first used' n ≡ bytes
     written_here = image_written n ∙ rw (eq-eqb n n refl) refl
 
-    pub marked_here : Unsynced calls' used' n
+    pub marked_here : IsLeftUnsynced calls' used' n
     marked_here = unsynced_written n ∙ rw (eq-eqb n n refl) refl
 
     pub changes : ChangesOnly n (image_after calls rows pages first used) (image_after calls' rows' pages first used')
     changes = record { others = λ k ne. image_written k ∙ rw (ne_eqb k n ne) refl }
 
-    pub unsynced_by : (k : ℕ) → Unsynced calls' used' k → Unsynced calls used k ⊎ (k ≡ n)
+    pub unsynced_by : (k : ℕ) → IsLeftUnsynced calls' used' k → IsLeftUnsynced calls used k ⊎ (k ≡ n)
     unsynced_by k u = ⊎_elim (λ e. inr e) (λ ne. inl (subst IsTrue (unsynced_written k ∙ rw (ne_eqb k n ne) refl) u)) (cases_eq k n)
 
-    pub still_unsynced : (k : ℕ) → Unsynced calls used k → Unsynced calls' used' k
-    still_unsynced k u = subst IsTrue (sym (unsynced_written k)) (or_true (k == n) (is_unsynced calls used k) u)
+    pub still_unsynced : (k : ℕ) → IsLeftUnsynced calls used k → IsLeftUnsynced calls' used' k
+    still_unsynced k u = subst IsTrue (sym (unsynced_written k)) (or_true (k == n) (is_left_unsynced calls used k) u)
 
   -- a write of a page whose bytes are named
   module _ (page : List ℕ) (names : NamesPage pages first call.sector page call) where
     image_paged : (k : ℕ) → image_after calls' rows' pages first used' k ≡ (if is_of_page call.sector k then page_bytes pages first call k else image_after calls rows pages first used k)
     image_paged k = image_now k
-        ∙ ap (λ (b : Bool). if b then bytes_in rows' pages first used (Some call) k else image_after calls rows pages first used k) (page_writes call k names.kind.0)
+        ∙ ap (λ (b : Bool). if b then written_bytes rows' pages first used (Some call) k else image_after calls rows pages first used k) (page_writes call k names.kind.0)
         ∙ ap (λ (b : Bool). if is_of_page call.sector k then (if b then row rows' used else page_bytes pages first call k) else image_after calls rows pages first used k)
         (ne_eqb call.kind 1 (λ one. let from = names.kind.0 in omega (arith, one, from)))
 
-    unsynced_paged : (k : ℕ) → is_unsynced calls' used' k ≡ (is_of_page call.sector k || is_unsynced calls used k)
+    unsynced_paged : (k : ℕ) → is_left_unsynced calls' used' k ≡ (is_of_page call.sector k || is_left_unsynced calls used k)
     unsynced_paged k = unsynced_now k
-        ∙ ap (λ (b : Bool). if b then false else (writes_to (Some call) k || is_unsynced calls used k)) (ne_eqb call.kind 2 (λ two. let from = names.kind.0 in omega (arith, two, from)))
-        ∙ ap (λ (b : Bool). b || is_unsynced calls used k) (page_writes call k names.kind.0)
+        ∙ ap (λ (b : Bool). if b then false else (writes_to (Some call) k || is_left_unsynced calls used k)) (ne_eqb call.kind 2 (λ two. let from = names.kind.0 in omega (arith, two, from)))
+        ∙ ap (λ (b : Bool). b || is_left_unsynced calls used k) (page_writes call k names.kind.0)
 
     pub page_written : (i : ℕ) → i < 8 → image_after calls' rows' pages first used' (call.sector + i) ≡ part_of page i
     page_written i lt = image_paged (call.sector + i)
@@ -203,16 +203,16 @@ module _ {calls calls' : List Call} {rows rows' : List (List ℕ)} {used used' :
           ∙ ap (λ (b : Bool). if b then page_bytes pages first call k else image_after calls rows pages first used k) (out_of_page call.sector k out);
     }
 
-    pub page_unsynced_by : (k : ℕ) → Unsynced calls' used' k → Unsynced calls used k ⊎ IsOfPage call.sector k
+    pub page_unsynced_by : (k : ℕ) → IsLeftUnsynced calls' used' k → IsLeftUnsynced calls used k ⊎ IsOfPage call.sector k
     page_unsynced_by k u = ⊎_elim (λ is. inr is)
-        (λ out. inl (subst IsTrue (unsynced_paged k ∙ ap (λ (b : Bool). b || is_unsynced calls used k) (out_of_page call.sector k out)) u))
+        (λ out. inl (subst IsTrue (unsynced_paged k ∙ ap (λ (b : Bool). b || is_left_unsynced calls used k) (out_of_page call.sector k out)) u))
         (is_or_not call.sector k)
 
-    pub page_marked : (k : ℕ) → IsOfPage call.sector k → Unsynced calls' used' k
-    page_marked k is = unsynced_paged k ∙ ap (λ (b : Bool). b || is_unsynced calls used k) (in_page call.sector k is)
+    pub page_marked : (k : ℕ) → IsOfPage call.sector k → IsLeftUnsynced calls' used' k
+    page_marked k is = unsynced_paged k ∙ ap (λ (b : Bool). b || is_left_unsynced calls used k) (in_page call.sector k is)
 
-    pub page_still : (k : ℕ) → Unsynced calls used k → Unsynced calls' used' k
-    page_still k u = subst IsTrue (sym (unsynced_paged k)) (or_true (is_of_page call.sector k) (is_unsynced calls used k) u)
+    pub page_still : (k : ℕ) → IsLeftUnsynced calls used k → IsLeftUnsynced calls' used' k
+    page_still k u = subst IsTrue (sym (unsynced_paged k)) (or_true (is_of_page call.sector k) (is_left_unsynced calls used k) u)
 
   -- a sync
   module _ (syncs : call ≡ record { kind = 2; sector = 0; from = 0 }) where

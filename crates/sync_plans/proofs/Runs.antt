@@ -5,13 +5,13 @@ use Rattle.std.proofs.Math.Path.{fun_ext}
 use Rattle.std.specs.Prelude.{IfErr}
 use Rattle.std.specs.Option.{option_map}
 use Rattle.sync_journal.specs.Commit.{IsAtRest as IsJournalAtRest}
-use Rattle.sync_journal.specs.Map.{place_of, place_among}
+use Rattle.sync_journal.specs.Map.{home_rank, place_among}
 use Rattle.sync_journal.specs.Turns.{stands_under}
 use Rattle.sync_journal.specs.Kinds.{is_kind, kind_when, store_live, IsKindOutside, IsOutsideOf, IsStoreRest}
 use Rattle.sync_journal.specs.declared.store_journal.StoreJournal.{StoreJournal}
 use Rattle.sync_journal.specs.declared.store_journal.StoreJournal.TheVariants.{One, InTurn}
 use Rattle.file_store.specs.declared.store.FileStore.{FileStore}
-use Rattle.file_store.specs.Store.{files_of, IsAtRest, PutsHomesOrNone}
+use Rattle.file_store.specs.Store.{files_of, IsStoreAtRest, PutsHomesOrNone}
 use Rattle.file_store.specs.declared.directory.Directory.{Directory}
 use Rattle.disk_model.specs.Stop.{Image}
 use Rattle.disk_model.specs.Moments.{LeavesOnly, LeavesNow}
@@ -52,9 +52,9 @@ journal_closed : {D : Type 0} (g : Ghosts D) (disk : D) (journal : StoreJournal)
 unfolding place_among
 journal_closed g disk (One journal) none rest = subst (λ kind. IsKindEmpty kind (g.content disk)) (sym rest.kind) (subst (λ homes. IsJournalAtRest g homes disk) none rest.rest).closed
 journal_closed g disk (InTurn journal) none rest = subst (λ kind. IsKindEmpty kind (g.content disk)) (sym rest.kind)
-    (λ h i below. ap (λ second. stands_under second (g.content disk) h i) rest.rest.gate ∙ rest.rest.home h i below (ap (λ homes. place_of homes h) none))
+    (λ h i below. ap (λ second. stands_under second (g.content disk) h i) rest.rest.gate ∙ rest.rest.home h i below (ap (λ homes. home_rank homes h) none))
 
-pub is_closed : {D : Type 0} (g : Ghosts D) (store : FileStore D) → store_live store.journal ≡ [] → IsAtRest g store → IsClosed (g.content store.disk)
+pub is_closed : {D : Type 0} (g : Ghosts D) (store : FileStore D) → store_live store.journal ≡ [] → IsStoreAtRest g store → IsClosed (g.content store.disk)
 is_closed g store none rest = journal_closed g store.disk store.journal none rest.journal
 
 -- what lies outside the homes of an image does so of an image that keeps it

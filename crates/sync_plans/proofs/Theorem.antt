@@ -16,16 +16,16 @@ use Rattle.file_store.specs.Commit.{StandsForEither}
 use Rattle.sync_plans.specs.declared.call.Call.{Call}
 use Rattle.sync_plans.specs.declared.lent_pages.PageBytes.{PageBytes}
 use Rattle.sync_plans.specs.Pages.{bytes_or_none, lent_page}
-use Rattle.sync_plans.specs.Plans.{row, bytes_in, is_written, writes_to, is_sync, is_unsynced, Unsynced, image_after, StopLeaves, After, Within}
-use Rattle.sync_plans.specs.Device.{label, LeftSince}
+use Rattle.sync_plans.specs.Plans.{row, written_bytes, is_written, writes_to, is_sync_call, is_left_unsynced, IsLeftUnsynced, image_after, StopLeaves, After, Within}
+use Rattle.sync_plans.specs.Device.{label, PlanLeftSince}
 use Rattle.sync_plans.specs.Requests.{HasLayout}
 use Rattle.sync_plans.proofs.Growth.{alike_leaves, alike_image}
 
 -- nothing is left but what was there
 pub nothing_done : (calls : List Call) (rows : List (List ℕ)) (pages : ℕ → List ℕ) (first : Image) (used : ℕ) (c : Image) → used ≡ 0
-    → MayLeave (image_after calls rows pages first used) (Unsynced calls used) c → c ≡ first
+    → MayLeave (image_after calls rows pages first used) (IsLeftUnsynced calls used) c → c ≡ first
 nothing_done calls rows pages first used c e may = fun_ext (λ n. ⊎_elim (λ u. absurd (false≢true u)) (λ same. same)
-    ((subst (λ (k : ℕ). MayLeave (image_after calls rows pages first k) (Unsynced calls k) c) e may).kept n))
+    ((subst (λ (k : ℕ). MayLeave (image_after calls rows pages first k) (IsLeftUnsynced calls k) c) e may).kept n))
 
 -- what a stop in the midst of writes leaves is what some stop after them does
 or_left : (a b : Bool) → IsTrue a → IsTrue (a || b)
@@ -37,22 +37,22 @@ or_right true b is = refl
 or_right false b is = is
 
 module _ (calls : List Call) (rows : List (List ℕ)) (pages : ℕ → List ℕ) (first : Image) (k : ℕ) where
-  next_unsynced : (m n : ℕ) → is_sync (slice_get calls (k + m)) ≡ false → is_unsynced calls (k + suc m) n ≡ (writes_to (slice_get calls (k + m)) n || is_unsynced calls (k + m) n)
+  next_unsynced : (m n : ℕ) → is_sync_call (slice_get calls (k + m)) ≡ false → is_left_unsynced calls (k + suc m) n ≡ (writes_to (slice_get calls (k + m)) n || is_left_unsynced calls (k + m) n)
   next_unsynced m n other = let e : k + suc m ≡ suc (k + m) = omega arith in rw (e, other) refl
 
-  next_image : (m n : ℕ) → image_after calls rows pages first (k + suc m) n ≡ (if writes_to (slice_get calls (k + m)) n then bytes_in rows pages first (k + m) (slice_get calls (k + m)) n else image_after calls rows pages first (k + m) n)
+  next_image : (m n : ℕ) → image_after calls rows pages first (k + suc m) n ≡ (if writes_to (slice_get calls (k + m)) n then written_bytes rows pages first (k + m) (slice_get calls (k + m)) n else image_after calls rows pages first (k + m) n)
   next_image m n = let e : k + suc m ≡ suc (k + m) = omega arith in rw e refl
 
-  still : (m n : ℕ) → ((j : ℕ) → j < m → is_sync (slice_get calls (k + j)) ≡ false) → Unsynced calls k n → Unsynced calls (k + m) n
+  still : (m n : ℕ) → ((j : ℕ) → j < m → is_sync_call (slice_get calls (k + j)) ≡ false) → IsLeftUnsynced calls k n → IsLeftUnsynced calls (k + m) n
   still zero n writes u = let e : k + zero ≡ k = omega arith in rw e u
   still (suc m) n writes u = subst IsTrue (sym (next_unsynced m n (writes m (omega arith))))
-      (or_right (writes_to (slice_get calls (k + m)) n) (is_unsynced calls (k + m) n) (still m n (λ j lt. writes j (omega (arith, lt))) u))
+      (or_right (writes_to (slice_get calls (k + m)) n) (is_left_unsynced calls (k + m) n) (still m n (λ j lt. writes j (omega (arith, lt))) u))
 
-  written_unsynced : (m n : ℕ) → ((j : ℕ) → j < m → is_sync (slice_get calls (k + j)) ≡ false) → IsTrue (is_written calls k m n) → Unsynced calls (k + m) n
+  written_unsynced : (m n : ℕ) → ((j : ℕ) → j < m → is_sync_call (slice_get calls (k + j)) ≡ false) → IsTrue (is_written calls k m n) → IsLeftUnsynced calls (k + m) n
   written_unsynced zero n writes w = absurd (false≢true w)
   written_unsynced (suc m) n writes w = subst IsTrue (sym (next_unsynced m n (writes m (omega arith)))) (elim (cases_Bool (writes_to (slice_get calls (k + m)) n)) [
-    | inl here ↦ or_left (writes_to (slice_get calls (k + m)) n) (is_unsynced calls (k + m) n) here
-    | inr away ↦ or_right (writes_to (slice_get calls (k + m)) n) (is_unsynced calls (k + m) n)
+    | inl here ↦ or_left (writes_to (slice_get calls (k + m)) n) (is_left_unsynced calls (k + m) n) here
+    | inr away ↦ or_right (writes_to (slice_get calls (k + m)) n) (is_left_unsynced calls (k + m) n)
         (written_unsynced m n (λ j lt. writes j (omega (arith, lt))) (rw away at w))
   ])
 
@@ -64,7 +64,7 @@ module _ (calls : List Call) (rows : List (List ℕ)) (pages : ℕ → List ℕ)
   ]
 
 pub between : (calls : List Call) (rows : List (List ℕ)) (pages : ℕ → List ℕ) (first : Image) (used : ℕ) (c : Image) → StopLeaves calls rows pages first used c
-    → (k : ℕ) × (k ≤ used) × MayLeave (image_after calls rows pages first k) (Unsynced calls k) c
+    → (k : ℕ) × (k ≤ used) × MayLeave (image_after calls rows pages first k) (IsLeftUnsynced calls k) c
 between calls rows pages first used c (After k le may) = (k, le, may)
 between calls rows pages first used c (Within k m le writes may) = (
   k + m,
@@ -96,8 +96,8 @@ same_label one other e = fun_ext (λ n. ap (λ (f : Image). f (suc n)) e)
 
 -- two states of a plan began alike
 module _ (calls0 calls : List Call) (rows0 rows : List (List ℕ)) (pages0 pages : ℕ → List ℕ) (first0 first : Image) (used0 used sectors : ℕ) (none : used0 ≡ 0) (good : HasLayout sectors first0)
-    (run : (t : ℕ) (c : Image) → t ≤ used0 + 2 → LeftSince calls rows pages first used t c → LeftSince calls0 rows0 pages0 first0 used0 t c ⊎ HasLayout sectors c) where
-  no_name : (c : Image) → c 0 ≡ [] → (k : ℕ) → k ≤ used0 → MayLeave (image_after calls0 rows0 pages0 first0 k) (Unsynced calls0 k) c → ⊥
+    (run : (t : ℕ) (c : Image) → t ≤ used0 + 2 → PlanLeftSince calls rows pages first used t c → PlanLeftSince calls0 rows0 pages0 first0 used0 t c ⊎ HasLayout sectors c) where
+  no_name : (c : Image) → c 0 ≡ [] → (k : ℕ) → k ≤ used0 → MayLeave (image_after calls0 rows0 pages0 first0 k) (IsLeftUnsynced calls0 k) c → ⊥
   no_name c blank k le may = no_layout sectors first0 good (sym (ap (λ (f : Image). f 0) (nothing_done calls0 rows0 pages0 first0 k c (omega (arith, le, none)) may)) ∙ blank)
 
   pub same_first : first ≡ first0
@@ -117,8 +117,8 @@ module _ (calls0 calls : List Call) (rows0 rows : List (List ℕ)) (pages0 pages
 -- A plan that was made as a device at `image0`, a store at every moment, and copied.
 module _ (calls0 calls calls' : List Call) (rows0 rows rows' image image0 image1 : List (List ℕ)) (pages pages0 pages1 : ℕ → List ℕ) (used0 used : ℕ)
     (given : image0 ≡ image) (lent : pages0 ≡ pages) (none : used0 ≡ 0) (good : HasLayout (length image) (row image))
-    (run : (t : ℕ) (c : Image) → t ≤ used0 + 2 → LeftSince calls rows pages1 (row image1) used t c
-    → LeftSince calls0 rows0 pages0 (row image0) used0 t c ⊎ HasLayout (length image0) c) where
+    (run : (t : ℕ) (c : Image) → t ≤ used0 + 2 → PlanLeftSince calls rows pages1 (row image1) used t c
+    → PlanLeftSince calls0 rows0 pages0 (row image0) used0 t c ⊎ HasLayout (length image0) c) where
   good0 : HasLayout (length image0) (row image0)
   good0 = subst (λ (xs : List (List ℕ)). HasLayout (length xs) (row xs)) (sym given) good
 
@@ -141,15 +141,15 @@ module _ (calls0 calls calls' : List Call) (rows0 rows rows' image image0 image1
   stands0 : StandsFor (length image0) files before (row image0)
   stands0 = subst (λ (xs : List (List ℕ)). StandsFor (length xs) files before (row xs)) (sym given) stands
 
-  pub stands_now : (c : Image) → MayLeave (image_after calls0 rows0 pages0 (row image0) used0) (Unsynced calls0 used0) c → StandsFor (length image0) files before c
+  pub stands_now : (c : Image) → MayLeave (image_after calls0 rows0 pages0 (row image0) used0) (IsLeftUnsynced calls0 used0) c → StandsFor (length image0) files before c
   stands_now c may = subst (λ (i : Image). StandsFor (length image0) files before i) (sym (nothing_done calls0 rows0 pages0 (row image0) used0 c none may)) stands0
 
-  module _ (run : (t : ℕ) (c : Image) → t ≤ used0 + 2 → LeftSince calls rows pages1 (row image1) used t c
-      → LeftSince calls0 rows0 pages0 (row image0) used0 t c ⊎ StandsForEither (length image0) files before after c)
+  module _ (run : (t : ℕ) (c : Image) → t ≤ used0 + 2 → PlanLeftSince calls rows pages1 (row image1) used t c
+      → PlanLeftSince calls0 rows0 pages0 (row image0) used0 t c ⊎ StandsForEither (length image0) files before after c)
       (same_calls : (k : ℕ) → k < used → slice_get calls' k ≡ slice_get calls k)
       (same_rows : (k : ℕ) (call : Call) → k < used → slice_get calls k ≡ Some call → call.kind ≡ 1 → row rows' k ≡ row rows k) where
-    pub layouts : (t : ℕ) (c : Image) → t ≤ used0 + 2 → LeftSince calls rows pages1 (row image1) used t c
-        → LeftSince calls0 rows0 pages0 (row image0) used0 t c ⊎ HasLayout (length image0) c
+    pub layouts : (t : ℕ) (c : Image) → t ≤ used0 + 2 → PlanLeftSince calls rows pages1 (row image1) used t c
+        → PlanLeftSince calls0 rows0 pages0 (row image0) used0 t c ⊎ HasLayout (length image0) c
     layouts t c le left = ⊎_elim inl (⊎_elim (λ s. inr s.layout) (λ s. inr s.layout)) (run t c le left)
 
     began_so : row image ≡ row image1
@@ -158,16 +158,16 @@ module _ (calls0 calls calls' : List Call) (rows0 rows rows' image image0 image1
     lent_so : pages ≡ pages1
     lent_so = began_pages calls0 calls calls' rows0 rows rows' image image0 image1 pages pages0 pages1 used0 used given lent none stands.layout layouts
 
-    pub stops_leave : ((c : Image) → LeftSince calls rows pages1 (row image1) used (used0 + 2) c → StandsForEither (length image0) files before after c)
+    pub stops_leave : ((c : Image) → PlanLeftSince calls rows pages1 (row image1) used (used0 + 2) c → StandsForEither (length image0) files before after c)
         → (c : Image) → StopLeaves calls' rows' pages (row image) used c → StandsForEither (length image) files before after c
     stops_leave each c stop =
         let at = between calls' rows' pages (row image) used c stop in
         let may = alike_leaves calls calls' used same_calls rows rows' pages (row image) same_rows at.0 c at.1 at.2 in
-        let may1 = subst (λ (first : Image). MayLeave (image_after calls rows pages first at.0) (Unsynced calls at.0) c) began_so may in
+        let may1 = subst (λ (first : Image). MayLeave (image_after calls rows pages first at.0) (IsLeftUnsynced calls at.0) c) began_so may in
         subst (λ (xs : List (List ℕ)). StandsForEither (length xs) files before after c) given
-        (each c (inr (inr (at.0, omega (arith, none), at.1, subst (λ (p : ℕ → List ℕ). MayLeave (image_after calls rows p (row image1) at.0) (Unsynced calls at.0) c) lent_so may1))))
+        (each c (inr (inr (at.0, omega (arith, none), at.1, subst (λ (p : ℕ → List ℕ). MayLeave (image_after calls rows p (row image1) at.0) (IsLeftUnsynced calls at.0) c) lent_so may1))))
 
-    pub stands_then : ((c : Image) → MayLeave (image_after calls rows pages1 (row image1) used) (Unsynced calls used) c → StandsFor (length image0) files after c)
+    pub stands_then : ((c : Image) → MayLeave (image_after calls rows pages1 (row image1) used) (IsLeftUnsynced calls used) c → StandsFor (length image0) files after c)
         → StandsFor (length image) files after (image_after calls' rows' pages (row image) used)
     stands_then now = subst (λ (xs : List (List ℕ)). StandsFor (length xs) files after (image_after calls' rows' pages (row image) used)) given
         (subst (λ (i : Image). StandsFor (length image0) files after i) (sym (same_end calls0 calls calls' rows0 rows rows' image image0 image1 pages pages0 pages1 used0 used given lent none stands.layout layouts same_calls same_rows))

@@ -4,7 +4,7 @@ use Rattle.std.proofs.Common.{inr, ⊎_elim, subst, arith}
 use Rattle.disk_model.specs.Sectors.{part_of}
 use Rattle.disk_model.specs.Stop.{Image, MayLeave}
 use Rattle.sync_plans.specs.declared.call.Call.{Call}
-use Rattle.sync_plans.specs.Plans.{row, page_bytes, image_after, Unsynced}
+use Rattle.sync_plans.specs.Plans.{row, page_bytes, image_after, IsLeftUnsynced}
 
 -- No image of a store, but a name for an image or for pages.
 abbrev pub label : Image → Image
@@ -12,18 +12,18 @@ label first zero = []
 label first (suc n) = first n
 
 -- The clock of a plan is at k + 2 after k calls. Before that there are the names of its first image and of the pages that are lent alone.
-abbrev pub LeftSince : List Call → List (List ℕ) → (ℕ → List ℕ) → Image → ℕ → ℕ → Image → Type 0
-LeftSince calls rows pages first used t c = ((t ≡ 0) × (c ≡ label first)) ⊎ (((t ≡ 1) × (c ≡ label pages))
-    ⊎ ((k : ℕ) × (t ≤ k + 2) × (k ≤ used) × MayLeave (image_after calls rows pages first k) (Unsynced calls k) c))
+abbrev pub PlanLeftSince : List Call → List (List ℕ) → (ℕ → List ℕ) → Image → ℕ → ℕ → Image → Type 0
+PlanLeftSince calls rows pages first used t c = ((t ≡ 0) × (c ≡ label first)) ⊎ (((t ≡ 1) × (c ≡ label pages))
+    ⊎ ((k : ℕ) × (t ≤ k + 2) × (k ≤ used) × MayLeave (image_after calls rows pages first k) (IsLeftUnsynced calls k) c))
 
 pub counts_present : (calls : List Call) (rows : List (List ℕ)) (pages : ℕ → List ℕ) (first : Image) (used t : ℕ) (c : Image) → t ≤ used + 2
-    → MayLeave (image_after calls rows pages first used) (Unsynced calls used) c → LeftSince calls rows pages first used t c
+    → MayLeave (image_after calls rows pages first used) (IsLeftUnsynced calls used) c → PlanLeftSince calls rows pages first used t c
 counts_present calls rows pages first used t c le may = inr (inr (used, le, omega arith, may))
 
 pub only_present : (calls : List Call) (rows : List (List ℕ)) (pages : ℕ → List ℕ) (first : Image) (used : ℕ) (c : Image)
-    → LeftSince calls rows pages first used (used + 2) c → MayLeave (image_after calls rows pages first used) (Unsynced calls used) c
+    → PlanLeftSince calls rows pages first used (used + 2) c → MayLeave (image_after calls rows pages first used) (IsLeftUnsynced calls used) c
 only_present calls rows pages first used c left = ⊎_elim (λ named. absurd (omega (arith, named.0))) (⊎_elim (λ named. absurd (omega (arith, named.0)))
-    (λ had. subst (λ (k : ℕ). MayLeave (image_after calls rows pages first k) (Unsynced calls k) c) (omega (arith, had.1, had.2)) had.3)) left
+    (λ had. subst (λ (k : ℕ). MayLeave (image_after calls rows pages first k) (IsLeftUnsynced calls k) c) (omega (arith, had.1, had.2)) had.3)) left
 
 -- one call more is listed, with its row where it has one
 pub record Lists (calls calls' : List Call) (rows rows' : List (List ℕ)) (used used' : ℕ) (call : Call) (bytes : List ℕ) : Type 0 where

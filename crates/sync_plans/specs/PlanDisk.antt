@@ -3,8 +3,8 @@ use Rattle.std.specs.Prelude.{ℕ, ◌+◌, List}
 use Rattle.disk_model.specs.Stop.{Image}
 use Rattle.sync_plans.specs.declared.plan_disk.PlanDisk.{PlanDisk}
 use Rattle.sync_plans.specs.Pages.{lent_page}
-use Rattle.sync_plans.specs.Plans.{row, image_after, Unsynced}
-use Rattle.sync_plans.specs.Device.{LeftSince}
+use Rattle.sync_plans.specs.Plans.{row, image_after, IsLeftUnsynced}
+use Rattle.sync_plans.specs.Device.{PlanLeftSince}
 
 -- the pages that calls may name
 abbrev pub pages_of : PlanDisk → ℕ → List ℕ
@@ -15,10 +15,10 @@ abbrev pub content_of : PlanDisk → Image
 content_of d = image_after d.calls.now d.rows.now (pages_of d) (row d.image.now) d.used
 
 abbrev pub unsynced_in : PlanDisk → ℕ → Type 0
-unsynced_in d = Unsynced d.calls.now d.used
+unsynced_in d = IsLeftUnsynced d.calls.now d.used
 
-abbrev pub moment_of : PlanDisk → ℕ
-moment_of d = d.used + 2
+abbrev pub plan_moment : PlanDisk → ℕ
+plan_moment d = d.used + 2
 
 abbrev pub left_in : PlanDisk → ℕ → Image → Type 0
-left_in d = LeftSince d.calls.now d.rows.now (pages_of d) (row d.image.now) d.used
+left_in d = PlanLeftSince d.calls.now d.rows.now (pages_of d) (row d.image.now) d.used

@@ -6,7 +6,7 @@ use Rattle.disk_model.specs.Stop.{Image}
 use Rattle.file_store.specs.Commit.{Changes, StandsForEither}
 use Rattle.file_store.specs.Standing.{StandsFor}
 use Rattle.sync_plans.specs.declared.call.Call.{Call}
-use Rattle.sync_plans.specs.Plans.{row, AreCalls, AreSources, image_after, Unsynced, StopLeaves}
+use Rattle.sync_plans.specs.Plans.{row, AreCalls, AreSources, image_after, IsLeftUnsynced, StopLeaves}
 use Rattle.sync_plans.specs.Requests.{IsStore, IsClosed, KeepsOutside, AreWritable}
 
 -- The first `used` calls, made of a device of so many sectors with these pages lent, are a plan:
@@ -18,7 +18,7 @@ pub record IsPlan (sectors : ℕ) (pages : ℕ → List ℕ) (calls : List Call)
   -- each finds the bytes that it names,
   pub sources : AreSources pages calls used
   -- and after the last nothing is unsynced.
-  pub synced : (n : ℕ) → Unsynced calls used n → ⊥
+  pub synced : (n : ℕ) → IsLeftUnsynced calls used n → ⊥
 
 -- A plan opens an image:
 pub record PlansOpening (image : List (List ℕ)) (pages : ℕ → List ℕ) (calls : List Call) (rows : List (List ℕ)) (used : ℕ) : Type 0 where

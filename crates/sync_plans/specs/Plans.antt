@@ -23,13 +23,13 @@ abbrev pub page_bytes : (ℕ → List ℕ) → Image → Call → ℕ → List �
 page_bytes pages first call n = if call.kind == 3 then part_of (pages call.from) (n - call.sector) else first (call.from + (n - call.sector))
 
 -- what call k writes to sector n, in a plan of these rows, with these pages lent, for a device that held `first`
-abbrev pub bytes_in : List (List ℕ) → (ℕ → List ℕ) → Image → ℕ → Option Call → ℕ → List ℕ
-bytes_in rows pages first k None n = []
-bytes_in rows pages first k (Some call) n = if call.kind == 1 then row rows k else page_bytes pages first call n
+abbrev pub written_bytes : List (List ℕ) → (ℕ → List ℕ) → Image → ℕ → Option Call → ℕ → List ℕ
+written_bytes rows pages first k None n = []
+written_bytes rows pages first k (Some call) n = if call.kind == 1 then row rows k else page_bytes pages first call n
 
-abbrev pub is_sync : Option Call → Bool
-is_sync None = false
-is_sync (Some call) = call.kind == 2
+abbrev pub is_sync_call : Option Call → Bool
+is_sync_call None = false
+is_sync_call (Some call) = call.kind == 2
 
 -- a write of one of so many sectors or of a page of them, or a sync
 pub record IsCall (sectors : ℕ) (call : Call) : Type 0 where
@@ -43,17 +43,17 @@ abbrev pub AreCalls : ℕ → List Call → ℕ → Type 0
 AreCalls sectors calls used = (k : ℕ) (call : Call) → k < used → slice_get calls k ≡ Some call → IsCall sectors call
 
 -- sector n is written among the first k calls, and not synced after that
-abbrev pub is_unsynced : List Call → ℕ → ℕ → Bool
-is_unsynced calls zero n = false
-is_unsynced calls (suc k) n = if is_sync (slice_get calls k) then false else (writes_to (slice_get calls k) n || is_unsynced calls k n)
+abbrev pub is_left_unsynced : List Call → ℕ → ℕ → Bool
+is_left_unsynced calls zero n = false
+is_left_unsynced calls (suc k) n = if is_sync_call (slice_get calls k) then false else (writes_to (slice_get calls k) n || is_left_unsynced calls k n)
 
-abbrev pub Unsynced : List Call → ℕ → ℕ → Type 0
-Unsynced calls k n = IsTrue (is_unsynced calls k n)
+abbrev pub IsLeftUnsynced : List Call → ℕ → ℕ → Type 0
+IsLeftUnsynced calls k n = IsTrue (is_left_unsynced calls k n)
 
 -- what a device that held `first` holds after the first k calls
 abbrev pub image_after : List Call → List (List ℕ) → (ℕ → List ℕ) → Image → ℕ → Image
 image_after calls rows pages first zero n = first n
-image_after calls rows pages first (suc k) n = if writes_to (slice_get calls k) n then bytes_in rows pages first k (slice_get calls k) n else image_after calls rows pages first k n
+image_after calls rows pages first (suc k) n = if writes_to (slice_get calls k) n then written_bytes rows pages first k (slice_get calls k) n else image_after calls rows pages first k n
 
 -- sector n is written by one of the m calls from call k on
 abbrev pub is_written : List Call → ℕ → ℕ → ℕ → Bool
@@ -71,6 +71,6 @@ pub record AreSources (pages : ℕ → List ℕ) (calls : List Call) (used : ℕ
 -- then, which is also what a stop in the midst of a sync leaves; in the midst of m of them that are made together, none of
 -- them a sync, also any bytes in the sectors that they write.
 pub data StopLeaves (calls : List Call) (rows : List (List ℕ)) (pages : ℕ → List ℕ) (first : Image) (used : ℕ) (image : Image) : Type 0 where
-  After : (k : ℕ) → k ≤ used → MayLeave (image_after calls rows pages first k) (Unsynced calls k) image → StopLeaves calls rows pages first used image
-  Within : (k m : ℕ) → k + m ≤ used → ((j : ℕ) → j < m → is_sync (slice_get calls (k + j)) ≡ false)
-      → MayLeave (image_after calls rows pages first k) (λ n. Unsynced calls k n ⊎ IsTrue (is_written calls k m n)) image → StopLeaves calls rows pages first used image
+  After : (k : ℕ) → k ≤ used → MayLeave (image_after calls rows pages first k) (IsLeftUnsynced calls k) image → StopLeaves calls rows pages first used image
+  Within : (k m : ℕ) → k + m ≤ used → ((j : ℕ) → j < m → is_sync_call (slice_get calls (k + j)) ≡ false)
+      → MayLeave (image_after calls rows pages first k) (λ n. IsLeftUnsynced calls k n ⊎ IsTrue (is_written calls k m n)) image → StopLeaves calls rows pages first used image

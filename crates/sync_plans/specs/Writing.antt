@@ -7,7 +7,7 @@ use Rattle.sync_plans.specs.declared.call.Call.{Call}
 use Rattle.sync_plans.specs.declared.plan_disk.PlanDisk.{PlanDisk}
 use Rattle.sync_plans.specs.Plans.{IsCall}
 use Rattle.sync_plans.specs.Device.{Lists}
-use Rattle.sync_plans.specs.PlanDisk.{pages_of, content_of, unsynced_in, moment_of, left_in}
+use Rattle.sync_plans.specs.PlanDisk.{pages_of, content_of, unsynced_in, plan_moment, left_in}
 
 -- A call that may be listed
 pub record IsListable (d : PlanDisk) (call : Call) : Type 0 where
@@ -38,7 +38,7 @@ module _ {T : Type 0} where
     pub unsynced : new.full ≡ false → (k : ℕ) → unsynced_in new k → unsynced_in old k ⊎ sectors k
     pub marked : new.full ≡ false → (k : ℕ) → sectors k → unsynced_in new k
     pub still : new.full ≡ false → (k : ℕ) → unsynced_in old k → unsynced_in new k
-    pub time : new.full ≡ false → Elapses (moment_of old) (moment_of new) (left_in old) (left_in new) (content_of new) (unsynced_in new)
+    pub time : new.full ≡ false → Elapses (plan_moment old) (plan_moment new) (left_in old) (left_in new) (content_of new) (unsynced_in new)
     -- there are as many sectors as before, none is named to the device once more, and a list that has once found no room is full for good;
     pub size : length new.image.now ≡ length old.image.now
     pub asked : new.asked ≡ old.asked

@@ -8,8 +8,12 @@ mod lent_pages;
 mod plan_disk;
 mod planning;
 mod requests;
+mod scratch;
+mod updates;
 
 pub use call::{Call, ROOM};
 pub use lent_pages::PageBytes;
 pub use planning::{file_facts, plan_commit, plan_open, read_page};
 pub use requests::Refusal;
+pub use scratch::Scratch;
+pub use updates::PageUpdates;

@@ -2,11 +2,12 @@
 ghost use Rattle.std.specs.Prelude.{◌≡◌, ◌≢◌, ◌<◌, ◌≤◌, ◌+◌, ◌^◌, ◌⊎◌, ℕ, length, true, false, Some, IfSome, IsTrue, slice_get};
 ghost use Rattle.disk_model.specs.Sectors.{part_of};
 ghost use Rattle.sync_plans.specs.Pages.{lent_page};
-ghost use Rattle.sync_plans.specs.Plans.{row, writes_to, bytes_in, is_written, AreCalls, AreSources};
+ghost use Rattle.sync_plans.specs.Plans.{row, writes_to, written_bytes, is_written, AreCalls, AreSources};
 ghost use Rattle.sync_plans.specs.Device.{NamesPage};
 
 use crate::call::{Call, ROOM};
 use crate::lent_pages::PageBytes;
+use crate::scratch::Scratch;
 use disk_model::{Asked, Count, DiskFault, SECTOR_BYTES, SectorDisk, parts};
 
 const WRITE: u64 = 1;
@@ -132,13 +133,13 @@ impl<'a> PlanDisk<'a> {
     pub(crate) fn new(
         image: &'a [[u8; 512]],
         lent: &'a [PageBytes<'a>],
-        calls: &'a mut [Call; ROOM],
-        rows: &'a mut [[u8; 512]; ROOM],
+        scratch: Scratch<'a>,
     ) -> PlanDisk<'a>
         ensures image { result.image.now ≡ image.now }
         ensures lent { result.lent.now ≡ lent.now }
         ensures used { result.used ≡ 0 }
     {
+        let Scratch { calls, rows } = scratch;
         PlanDisk {
             image,
             lent,
@@ -290,7 +291,7 @@ impl<'a> PlanDisk<'a> {
     fn bytes(&self, k: usize, n: u64) -> &[u8; 512]
         requires listed { k < self.now.used }
         requires here { writes_to (slice_get self.now.calls.now k) n ≡ true }
-        ensures { result.now ≡ bytes_in self.now.rows.now (pages_of self.now) (row self.now.image.now) k (slice_get self.now.calls.now k) n }
+        ensures { result.now ≡ written_bytes self.now.rows.now (pages_of self.now) (row self.now.image.now) k (slice_get self.now.calls.now k) n }
     {
         let call = self.listed(k);
         if call.kind == WRITE {
@@ -331,7 +332,7 @@ impl<'a> PlanDisk<'a> {
 
 impl SectorDisk for PlanDisk<'_> {
     ghost use Rattle.disk_model.specs.Asked.{times_named};
-    ghost use Rattle.sync_plans.specs.PlanDisk.{pages_of, content_of, unsynced_in, moment_of, left_in};
+    ghost use Rattle.sync_plans.specs.PlanDisk.{pages_of, content_of, unsynced_in, plan_moment, left_in};
     ghost use Rattle.sync_plans.specs.Device.{counts_present, only_present};
 
     ghost sector_count = { λ d. length d.image.now };
@@ -340,7 +341,7 @@ impl SectorDisk for PlanDisk<'_> {
 
     ghost unsynced = { unsynced_in };
 
-    ghost moment = { moment_of };
+    ghost moment = { plan_moment };
 
     ghost left_since = { left_in };
 

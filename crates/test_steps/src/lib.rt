@@ -15,5 +15,5 @@ mod tables;
 pub use endings::ran_over;
 pub use looks::{repeated, same, same_number};
 pub use names::path;
-pub use steps::{FileStep, NEW, Program, Step, TwoFiles, UNMADE};
+pub use steps::{FileStep, NEW, Program, ProgramCall, Step, TwoFiles, UNMADE};
 pub use tables::{carry_out, carry_out_all, carry_out_for_each};

@@ -10,6 +10,13 @@ pub enum Program {
     Stops,
 }
 
+/// A program, and the words that it is called with.
+#[derive(Clone, Copy)]
+pub struct ProgramCall<'a> {
+    pub program: Program,
+    pub words: &'a [&'a str],
+}
+
 /// What a test does next, or sees.
 #[derive(Clone, Copy)]
 pub enum Step<'a> {

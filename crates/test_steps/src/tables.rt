@@ -3,7 +3,7 @@ use crate::endings::{Ending, ends, fails, refuses};
 use crate::files::{remove, with_file, with_files};
 use crate::looks::repeated;
 use crate::names::start_of;
-use crate::steps::{Program, Step};
+use crate::steps::{Program, ProgramCall, Step};
 use std::test::Fail;
 
 /// Carries out the steps of that test, where `@` stands for how the paths of its files begin, and fails at the first that does not come out so.
@@ -48,7 +48,7 @@ fn carry_out_one(rt: &HostRuntime, start: &str, step: Step<'_>) -> Result<(), Fa
                 output,
                 errors: b"",
             };
-            ends(rt, start, program, words, input, ending)
+            ends(rt, start, ProgramCall { program, words }, input, ending)
         }
         Step::Shows(words, parts) => {
             let wanted = repeated(rt, parts)?;
@@ -57,10 +57,11 @@ fn carry_out_one(rt: &HostRuntime, start: &str, step: Step<'_>) -> Result<(), Fa
                 output: wanted.as_slice(),
                 errors: b"",
             };
-            ends(rt, start, Program::Cat, words, b"", ending)
+            let program = Program::Cat;
+            ends(rt, start, ProgramCall { program, words }, b"", ending)
         }
-        Step::Fails(program, words, line) => fails(rt, start, program, words, line),
-        Step::Refuses(program, words) => refuses(rt, start, program, words),
+        Step::Fails(program, words, line) => fails(rt, start, ProgramCall { program, words }, line),
+        Step::Refuses(program, words) => refuses(rt, start, ProgramCall { program, words }),
         Step::File(file, step) => with_file(rt, start, file, step),
         Step::Files(step, first, second) => with_files(rt, start, step, first, second),
         Step::Removes(files) => remove(rt, start, files),

@@ -6,7 +6,7 @@ use crate::exchanges::{expect_end, same};
 use crate::images::{image, image_of_two, image_with};
 use disk_model::{SectorDisk, SimDisk};
 use machine::{BootFault, Config, Machine};
-use runner::{RunEnd, run, run_on};
+use runner::{Devices, RunEnd, run, run_on};
 use std::alloc::Global;
 use std::io::{Read, Write};
 use std::test::Fail;
@@ -214,7 +214,7 @@ pub fn ran_on(
     output: &mut Vec<u8>,
 ) -> Result<(RunEnd, bool), (BootFault, SimDisk)> {
     let (store, swap) = devices;
-    match run_on(alloc, config, store, swap, reader, output) {
+    match run_on(alloc, config, Devices { store, swap }, reader, output) {
         Ok((end, machine)) => Ok((end, machine.is_halted())),
         Err(refused) => Err(refused),
     }

@@ -1,7 +1,7 @@
 -- The words of a line stand for one command at most, whose name the first word is.
 use Rattle.std.proofs.Common.{◌≡◌, ℕ, List, [], Option, Some, None, IfSome, get_or, subst, sym, ◌∙◌, ap}
 use Rattle.trace_lang.specs.Grammar.{IsForm}
-use Rattle.trace_lang.specs.Names.{name_text, StandsFor}
+use Rattle.trace_lang.specs.Names.{name_text, ReadsWords}
 use Rattle.trace_lang.specs.declared.names.Name.{Name}
 use Rattle.trace_lang.specs.declared.names.Name.TheVariants as name
 use Rattle.trace_lang.proofs.OneName.{same_name, OnlyOf}
@@ -55,7 +55,7 @@ at_name ws r (Fetch pid addr) h only = only pid addr h
 at_name ws r PastFaults h only = only h
 
 -- what was read of a form of the name, where it is the one command of that form
-pub stands : (n : Name) (ws : List (List ℕ)) (r : Option Command) → first ws ≡ name_text n → IfSome r (λ command. IsForm ws command) → OnlyOf n ws r → StandsFor ws r
+pub stands : (n : Name) (ws : List (List ℕ)) (r : Option Command) → first ws ≡ name_text n → IfSome r (λ command. IsForm ws command) → OnlyOf n ws r → ReadsWords ws r
 stands n ws r e found only = record {
   found = found;
   only = λ command h.
@@ -64,15 +64,15 @@ stands n ws r e found only = record {
 }
 
 -- nothing was read of a form of the name, where there is no command of it
-pub unread : (n : Name) (ws : List (List ℕ)) (r : Option Command) → r ≡ None → first ws ≡ name_text n → OnlyOf n ws None → StandsFor ws r
+pub unread : (n : Name) (ws : List (List ℕ)) (r : Option Command) → r ≡ None → first ws ≡ name_text n → OnlyOf n ws None → ReadsWords ws r
 unread n ws r e named only =
-    let P : Option Command → Type 0 = λ t. StandsFor ws t in
+    let P : Option Command → Type 0 = λ t. ReadsWords ws t in
     subst P (sym e) (stands n ws None named tt only)
 
 -- words whose first is no name stand for no command
-pub no_command : (ws : List (List ℕ)) (r : Option Command) → r ≡ None → ((n : Name) → first ws ≡ name_text n → ⊥) → StandsFor ws r
+pub no_command : (ws : List (List ℕ)) (r : Option Command) → r ≡ None → ((n : Name) → first ws ≡ name_text n → ⊥) → ReadsWords ws r
 no_command ws r e unnamed =
-    let P : Option Command → Type 0 = λ t. StandsFor ws t in
+    let P : Option Command → Type 0 = λ t. ReadsWords ws t in
     subst P (sym e) record { found = tt; only = λ command h. absurd (unnamed (form_name command) (begins ws command h)) }
 
 -- P of a word of one account from that of the other

@@ -25,6 +25,6 @@ pub record SaysName (word : List ℕ) (read : Option Name) : Type 0 where
   pub only : (name : Name) → word ≡ name_text name → read ≡ Some name
 
 -- what is read of the words of a line is the command that they stand for, and None exactly where they are in no form
-pub record StandsFor (words : List (List ℕ)) (read : Option Command) : Type 0 where
+pub record ReadsWords (words : List (List ℕ)) (read : Option Command) : Type 0 where
   pub found : IfSome read (λ command. IsForm words command)
   pub only : (command : Command) → IsForm words command → read ≡ Some command

@@ -1,7 +1,7 @@
 //! The forms of a line: one function for each name, over the text after the name and its space.
 ghost use Rattle.std.specs.Prelude.{◌∷◌, codes};
 ghost use Rattle.trace_lang.specs.Grammar.{HasNoSpace};
-ghost use Rattle.trace_lang.specs.Names.{StandsFor};
+ghost use Rattle.trace_lang.specs.Names.{ReadsWords};
 ghost use Rattle.trace_lang.specs.Words.{words_of};
 
 use crate::arguments::{back_of, mode_of, permission_of};
@@ -13,7 +13,7 @@ use vm_types::Command;
 
 /// A fork.
 fn fork_in(text: &[u8]) -> Option<Command>
-    ensures { StandsFor (codes "fork" ∷ words_of text.now) result }
+    ensures { ReadsWords (codes "fork" ∷ words_of text.now) result }
 {
     let pid = parse_number(text)?;
     Some(Command::Fork { pid })
@@ -21,7 +21,7 @@ fn fork_in(text: &[u8]) -> Option<Command>
 
 /// An exit.
 fn exit_in(text: &[u8]) -> Option<Command>
-    ensures { StandsFor (codes "exit" ∷ words_of text.now) result }
+    ensures { ReadsWords (codes "exit" ∷ words_of text.now) result }
 {
     let pid = parse_number(text)?;
     Some(Command::Exit { pid })
@@ -29,7 +29,7 @@ fn exit_in(text: &[u8]) -> Option<Command>
 
 /// A load.
 pub(crate) fn load_in(text: &[u8]) -> Option<Command>
-    ensures { StandsFor (codes "load" ∷ words_of text.now) result }
+    ensures { ReadsWords (codes "load" ∷ words_of text.now) result }
 {
     let (pid, text) = front_number(text)?;
     let (addr, text) = front_number(text)?;
@@ -39,7 +39,7 @@ pub(crate) fn load_in(text: &[u8]) -> Option<Command>
 
 /// A store.
 pub(crate) fn store_in(text: &[u8]) -> Option<Command>
-    ensures { StandsFor (codes "store" ∷ words_of text.now) result }
+    ensures { ReadsWords (codes "store" ∷ words_of text.now) result }
 {
     let (pid, text) = front_number(text)?;
     let (addr, text) = front_number(text)?;
@@ -50,7 +50,7 @@ pub(crate) fn store_in(text: &[u8]) -> Option<Command>
 
 /// A fetch.
 pub(crate) fn fetch_in(text: &[u8]) -> Option<Command>
-    ensures { StandsFor (codes "fetch" ∷ words_of text.now) result }
+    ensures { ReadsWords (codes "fetch" ∷ words_of text.now) result }
 {
     let (pid, text) = front_number(text)?;
     let addr = parse_number(text)?;
@@ -59,7 +59,7 @@ pub(crate) fn fetch_in(text: &[u8]) -> Option<Command>
 
 /// An msync.
 fn msync_in(text: &[u8]) -> Option<Command>
-    ensures { StandsFor (codes "msync" ∷ words_of text.now) result }
+    ensures { ReadsWords (codes "msync" ∷ words_of text.now) result }
 {
     let (pid, text) = front_number(text)?;
     let (addr, text) = front_number(text)?;
@@ -75,7 +75,7 @@ fn msync_in(text: &[u8]) -> Option<Command>
 
 /// An mmap.
 fn mmap_in(text: &[u8]) -> Option<Command>
-    ensures { StandsFor (codes "mmap" ∷ words_of text.now) result }
+    ensures { ReadsWords (codes "mmap" ∷ words_of text.now) result }
 {
     let (pid, text) = front_number(text)?;
     let (addr, text) = front_number(text)?;
@@ -97,7 +97,7 @@ fn mmap_in(text: &[u8]) -> Option<Command>
 
 /// An munmap.
 fn munmap_in(text: &[u8]) -> Option<Command>
-    ensures { StandsFor (codes "munmap" ∷ words_of text.now) result }
+    ensures { ReadsWords (codes "munmap" ∷ words_of text.now) result }
 {
     let (pid, text) = front_number(text)?;
     let (addr, text) = front_number(text)?;
@@ -107,7 +107,7 @@ fn munmap_in(text: &[u8]) -> Option<Command>
 
 /// A dontneed.
 fn dontneed_in(text: &[u8]) -> Option<Command>
-    ensures { StandsFor (codes "dontneed" ∷ words_of text.now) result }
+    ensures { ReadsWords (codes "dontneed" ∷ words_of text.now) result }
 {
     let (pid, text) = front_number(text)?;
     let (addr, text) = front_number(text)?;
@@ -117,7 +117,7 @@ fn dontneed_in(text: &[u8]) -> Option<Command>
 
 /// An mprotect.
 fn mprotect_in(text: &[u8]) -> Option<Command>
-    ensures { StandsFor (codes "mprotect" ∷ words_of text.now) result }
+    ensures { ReadsWords (codes "mprotect" ∷ words_of text.now) result }
 {
     let (pid, text) = front_number(text)?;
     let (addr, text) = front_number(text)?;
@@ -133,7 +133,7 @@ fn mprotect_in(text: &[u8]) -> Option<Command>
 
 /// The command that a line of one word stands for.
 fn alone_in(line: &[u8]) -> Option<Command>
-    ensures { HasNoSpace line.now → StandsFor (words_of line.now) result }
+    ensures { HasNoSpace line.now → ReadsWords (words_of line.now) result }
 {
     match name_of(line)? {
         Name::Spawn => Some(Command::Spawn),
@@ -145,7 +145,7 @@ fn alone_in(line: &[u8]) -> Option<Command>
 /// The command that a line stands for, by its first word.
 #[inline(never)]
 pub(crate) fn named_in(line: &[u8]) -> Option<Command>
-    ensures { StandsFor (words_of line.now) result }
+    ensures { ReadsWords (words_of line.now) result }
 {
     let Some((name, text)) = cut(line) else {
         return alone_in(line);

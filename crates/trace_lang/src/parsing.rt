@@ -1,7 +1,7 @@
 //! Reads a line of a trace.
 ghost use Rattle.std.specs.Prelude.{◌≡◌, IfOk, OnErr};
 ghost use Rattle.trace_lang.specs.Grammar.{IsCommand};
-ghost use Rattle.trace_lang.specs.Names.{StandsFor};
+ghost use Rattle.trace_lang.specs.Names.{ReadsWords};
 ghost use Rattle.trace_lang.specs.Words.{words_of};
 ghost use Rattle.vm_types.specs.declared.command.Command.{Command};
 
@@ -18,7 +18,7 @@ pub struct BadLine;
 /// The command that a line stands for, by its words. Most lines are accesses, whose names are looked for first.
 #[inline(never)]
 fn command_in(line: &[u8]) -> Option<Command>
-    ensures { StandsFor (words_of line.now) result }
+    ensures { ReadsWords (words_of line.now) result }
 {
     if let [b'l', b'o', b'a', b'd', b' ', rest @ ..] = line {
         return load_in(rest);

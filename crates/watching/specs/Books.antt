@@ -14,7 +14,7 @@ pub record IsBalanced (c : FrameCounts) : Type 0 where
   pub losses : c.evictions.0 ≡ c.to_slot.0 + c.dropped.0
 
 -- No number of frames has come to its end: those that are sums of others, and those that calls gave back.
-pub record HasRoom (c : FrameCounts) : Type 0 where
+pub record HasCountRoom (c : FrameCounts) : Type 0 where
   pub fills : c.filled.0 < 2 ^ 64 - 1
   pub losses : c.evictions.0 < 2 ^ 64 - 1
   pub releases : c.released.0 < 2 ^ 64 - 1
@@ -62,7 +62,7 @@ IsLostTo (To.Slot slot) old new = new.to_slot.0 ≡ old.to_slot.0 + 1
 IsLostTo To.Home old new = new.dropped.0 ≡ old.dropped.0 + 1
 
 -- What happened is counted once: as a frame that was filled, as one that was given up, as one that was given back, or as none of these.
-pub record IsCounted (event : Event) (old new : FrameCounts) : Type 0 where
+pub record IsTallied (event : Event) (old new : FrameCounts) : Type 0 where
   pub filled : new.filled.0 ≡ old.filled.0 + fills event
   pub evictions : new.evictions.0 ≡ old.evictions.0 + losses event
   pub released : new.released.0 ≡ old.released.0 + releases event

@@ -1,6 +1,6 @@
 //! What a command did inside, as things that happened.
 ghost use Rattle.std.specs.Prelude.{◌≡◌, ◌+◌};
-ghost use Rattle.watching.specs.Books.{HasRoom, IsBalanced, IsCounted, IsFilledFrom, IsLostTo, IsOfCause};
+ghost use Rattle.watching.specs.Books.{HasCountRoom, IsBalanced, IsTallied, IsFilledFrom, IsLostTo, IsOfCause};
 
 use crate::counts::{Counts, FrameCounts};
 use crate::texts::{EntryText, PageText, TableText};
@@ -88,9 +88,9 @@ pub(crate) enum Source {
 impl Counts {
     /// Counts what happened. The books of frames stay balanced, as long as no number has come to its end.
     pub(crate) fn note(&mut self, event: &Event)
-        ensures counted { HasRoom self.old.frames → IsCounted event.now self.old.frames self.new.frames }
-        ensures cause { HasRoom self.old.frames → IsBalanced self.old.frames → IsOfCause event.now self.old.frames self.new.frames }
-        ensures balance { HasRoom self.old.frames → IsBalanced self.old.frames → IsBalanced self.new.frames }
+        ensures counted { HasCountRoom self.old.frames → IsTallied event.now self.old.frames self.new.frames }
+        ensures cause { HasCountRoom self.old.frames → IsBalanced self.old.frames → IsOfCause event.now self.old.frames self.new.frames }
+        ensures balance { HasCountRoom self.old.frames → IsBalanced self.old.frames → IsBalanced self.new.frames }
     {
         match event {
             Event::Evicted { refuge, .. } => self.frames.note_eviction(*refuge),
@@ -106,11 +106,11 @@ impl Counts {
 impl FrameCounts {
     /// Counts a frame that was given up.
     fn note_eviction(&mut self, refuge: Refuge)
-        ensures evictions { HasRoom self.old → self.new.evictions.0 ≡ self.old.evictions.0 + 1 }
-        ensures refuge { HasRoom self.old → IsBalanced self.old → IsLostTo refuge self.old self.new }
+        ensures evictions { HasCountRoom self.old → self.new.evictions.0 ≡ self.old.evictions.0 + 1 }
+        ensures refuge { HasCountRoom self.old → IsBalanced self.old → IsLostTo refuge self.old self.new }
         ensures filled { self.new.filled ≡ self.old.filled }
         ensures released { self.new.released ≡ self.old.released }
-        ensures balance { HasRoom self.old → IsBalanced self.old → IsBalanced self.new }
+        ensures balance { HasCountRoom self.old → IsBalanced self.old → IsBalanced self.new }
     {
         self.evictions.add();
         match refuge {
@@ -121,11 +121,11 @@ impl FrameCounts {
 
     /// Counts a frame that was filled.
     fn note_fill(&mut self, source: Source)
-        ensures filled { HasRoom self.old → self.new.filled.0 ≡ self.old.filled.0 + 1 }
-        ensures source { HasRoom self.old → IsBalanced self.old → IsFilledFrom source self.old self.new }
+        ensures filled { HasCountRoom self.old → self.new.filled.0 ≡ self.old.filled.0 + 1 }
+        ensures source { HasCountRoom self.old → IsBalanced self.old → IsFilledFrom source self.old self.new }
         ensures evictions { self.new.evictions ≡ self.old.evictions }
         ensures released { self.new.released ≡ self.old.released }
-        ensures balance { HasRoom self.old → IsBalanced self.old → IsBalanced self.new }
+        ensures balance { HasCountRoom self.old → IsBalanced self.old → IsBalanced self.new }
     {
         self.filled.add();
         match source {

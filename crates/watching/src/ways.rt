@@ -1,7 +1,7 @@
 //! The way of an address through the page tables of its process.
 ghost use Rattle.std.specs.Prelude.{ℕ, ◌≡◌, ◌<◌, ◌≤◌, ◌^◌, true, false, IfSome, IfNone};
 ghost use Rattle.sv39_walk.specs.Entry.{frame_of, is_swapped};
-ghost use Rattle.inspection.specs.Walks.{IsStep};
+ghost use Rattle.inspection.specs.Walks.{IsStepOfSome};
 ghost use Rattle.machine.specs.Machine.{IsSoundMachine};
 ghost use Rattle.inspection.specs.Machines.{memory_of};
 
@@ -23,9 +23,9 @@ impl Way {
         requires { IsSoundMachine D.SectorDisk E.SectorDisk machine.now }
     {
         let root = inspection::root_step(machine, pid, page);
-        let second = step_below(machine, pid, page, root);
-        let third = step_below(machine, pid, page, second);
-        let fourth = step_below(machine, pid, page, third);
+        let second = step_below(machine, page, root);
+        let third = step_below(machine, page, second);
+        let fourth = step_below(machine, page, third);
         Way {
             steps: [root, second, third, fourth],
         }
@@ -55,16 +55,15 @@ impl Way {
 /// The next step behind one.
 fn step_below<D: SectorDisk, E: SectorDisk>(
     machine: &Machine<D, E>,
-    pid: Pid,
     page: u64,
     step: Option<Step>,
 ) -> Option<Step>
     requires sound { IsSoundMachine D.SectorDisk E.SectorDisk machine.now }
-    requires step { IfSome step (IsStep (memory_of machine.now) pid page) }
-    ensures { IfSome result (IsStep (memory_of machine.now) pid page) }
+    requires step { IfSome step (IsStepOfSome (memory_of machine.now) page) }
+    ensures { IfSome result (IsStepOfSome (memory_of machine.now) page) }
 {
     match step {
-        Some(step) => inspection::next_step(machine, pid, page, step),
+        Some(step) => inspection::next_step(machine, page, step),
         None => None,
     }
 }

@@ -70,6 +70,9 @@ pub keep_line-requires-clause-user : goal.keep_line-requires-clause-user
 keep_line-requires-clause-user g c =
     (page_user (picture_of c.args.core.now) c.args.pid c.in-Page.page c.in-Page.attr c.requires.fit c.in-Page.ensures.found.allowed.mapped).1
 
+pub keep_line-requires-clause-way : goal.keep_line-requires-clause-way
+keep_line-requires-clause-way g c = (c.args.pid, c.in_ok-frame-in-Page.ensures.way)
+
 pub returns-in_ok-frame-in-Page : goal.returns-in_ok-frame-in-Page
 returns-in_ok-frame-in-Page g c =
     let pid = c.args.pid in

@@ -26,37 +26,22 @@ use Rattle.fault.proofs.granting.grant_copy.Goals as goal
 
 pub cached-requires-clause-inside : goal.cached-requires-clause-inside
 cached-requires-clause-inside g c =
-    page_inside (picture_of c.args.core.now) c.args.spot.now.pid c.args.spot.now.page c.args.attr (File c.args.file_page) c.requires.spot.linked c.requires.allowed.mapped (ap stands_on c.requires.private) c.requires.allowed.inside
-
-pub returns-in_err-cached-clause-serves : goal.returns-in_err-cached-clause-serves
-returns-in_err-cached-clause-serves g c =
-    let pid = c.args.spot.now.pid in
-    let page = c.args.spot.now.page in
-    let before = c.args.core.now in
-    let after = c.cached.new.core in
-    let file = File c.args.file_page in
-    let shows = shows_file (picture_of before) pid page c.args.attr file c.requires.allowed.mapped (ap stands_on c.requires.private) c.requires.none in
-    let fit = c.requires.spot.linked.fit in
-    let stall = c.in_err-cached.field-0.0 in
-    let done = c.in_err-cached.ensures in
-    serves_stall g.D.SectorDisk g.E.SectorDisk before after pid page c.args.attr Store c.from_residual.result stall c.from_residual.ensures.1
-    (tends_away g.D.SectorDisk g.E.SectorDisk before after pid page Store file shows fit stall done.pages_in done.idle)
-    (stalls_away g.D.SectorDisk g.E.SectorDisk before after pid page Store file shows fit stall done.pages_in done.idle)
+    page_inside (picture_of c.args.core.now) c.args.spot.now.pid c.args.spot.now.page c.args.attr (File c.args.file_page) c.requires.may.spot.linked c.requires.may.allowed.mapped (ap stands_on c.requires.private) c.requires.may.allowed.inside
 
 pub own_frame-requires-clause-page : goal.own_frame-requires-clause-page
 own_frame-requires-clause-page g c =
     let old : Picture g.M.Levels.mode = picture_of c.args.core.now in
     let mid : Picture g.M.Levels.mode = picture_of c.cached.new.core in
     let done = c.in_ok-cached.ensures.pages_in in
-    let now = done.proceeds.spaces.at c.args.spot.now.pid c.args.spot.now.page ∙ c.requires.allowed.mapped in
+    let now = done.proceeds.spaces.at c.args.spot.now.pid c.args.spot.now.page ∙ c.requires.may.allowed.mapped in
     record {
-      stands = stands_kept old mid c.args.spot.now c.requires.spot done.proceeds.fit done.proceeds.spaces done.proceeds.tables done.rows;
+      stands = stands_kept old mid c.args.spot.now c.requires.may.spot done.proceeds.fit done.proceeds.spaces done.proceeds.tables done.rows;
       mapped = now;
       writable = search rules;
       not_shared = ap is_shared c.requires.private;
       inside = (open_still old mid c.args.spot.now.pid c.args.spot.now.page Store c.args.attr done.proceeds.spaces.at
-          (files_read g.D.SectorDisk c.args.core.now.store c.cached.new.core.store done.proceeds.reads) c.requires.allowed).inside;
-      resident = none_here _ (none_same old mid c.args.spot.now.pid c.args.spot.now.page c.args.attr c.requires.allowed.mapped now
+          (files_read g.D.SectorDisk c.args.core.now.store c.cached.new.core.store done.proceeds.reads) c.requires.may.allowed).inside;
+      resident = none_here _ (none_same old mid c.args.spot.now.pid c.args.spot.now.page c.args.attr c.requires.may.allowed.mapped now
           (done.keeps.views c.args.spot.now.pid c.args.spot.now.page) c.requires.none);
     }
 
@@ -64,8 +49,26 @@ pub own_frame-requires-clause-in_memory : goal.own_frame-requires-clause-in_memo
 own_frame-requires-clause-in_memory g c common =
     (c.in_ok-cached.field-0.0, behind_of (picture_of c.cached.new.core) c.args.attr.backing (File c.args.file_page) c.in_ok-cached.field-0.0 (ap stands_on c.requires.private) c.in_ok-cached.ensures.pages_in.placed)
 
-pub returns-clause-serves : goal.returns-clause-serves
-returns-clause-serves g c =
+pub returns-in_err-cached : goal.returns-in_err-cached
+returns-in_err-cached g c =
+    let pid = c.args.spot.now.pid in
+    let page = c.args.spot.now.page in
+    let before = c.args.core.now in
+    let after = c.cached.new.core in
+    let file = File c.args.file_page in
+    let shows = shows_file (picture_of before) pid page c.args.attr file c.requires.may.allowed.mapped (ap stands_on c.requires.private) c.requires.none in
+    let fit = c.requires.may.spot.linked.fit in
+    let stall = c.in_err-cached.field-0.0 in
+    let done = c.in_err-cached.ensures in
+    record {
+      serves = serves_stall g.D.SectorDisk g.E.SectorDisk before after pid page c.args.attr Store c.from_residual.result stall c.from_residual.ensures.1
+          (tends_away g.D.SectorDisk g.E.SectorDisk before after pid page Store file shows fit stall done.pages_in done.idle)
+          (stalls_away g.D.SectorDisk g.E.SectorDisk before after pid page Store file shows fit stall done.pages_in done.idle);
+      rows = c.in_err-cached.ensures.pages_in.rows;
+    }
+
+pub returns : goal.returns
+returns g c =
     let pid = c.args.spot.now.pid in
     let page = c.args.spot.now.page in
     let attr = c.args.attr in
@@ -77,7 +80,7 @@ returns-clause-serves g c =
     let mid = picture_of between in
     let new = picture_of after in
     let asked = c.requires in
-    let mapped = asked.allowed.mapped in
+    let mapped = asked.may.allowed.mapped in
     let alone = ap is_shared asked.private in
     let backs = ap stands_on asked.private in
     let shows = shows_file old pid page attr file mapped backs asked.none in
@@ -91,32 +94,30 @@ returns-clause-serves g c =
     let now = done.moves.spaces.at pid page ∙ at in
     let made = no_table_then old mid new first.no_table done.no_table in
     record {
-      tends = record {
-        proceeds = proceeds_then g.D.SectorDisk g.E.SectorDisk before between after first.proceeds done.moves;
-        brings = brings_on before between pid page file shows g.D.SectorDisk g.E.SectorDisk after first.brings first.keeps done.moves.store done.moves.device done.files.held done.files.files;
-        others = λ q k other. done.others q k other ∙ first.keeps.views q k;
-        slotted = slotted_on old mid pid page new file shows first.slotted done.slotted;
-        calm = calm_then before between pid page file shows (λ n is. (idle n is).0) after Store (owned_calm between after pid page attr at alone done.calm);
-        read = read_then before between pid page file shows after.store asked.spot.linked.fit done.moves.store first.read;
-        tables = links_no_table old new pid page made;
-        pointers = made.pointers;
-        asks = asks_copied g.D.SectorDisk g.E.SectorDisk before between pid page Store file shows first.asks first.asks_store after c.in_ok-cached.field-0 (copied_frame mid pid page attr)
-            (copies_cached mid pid page attr c.args.file_page c.in_ok-cached.field-0 asked.private none first.placed) first.asks_later
-            (brought_out old mid pid page file c.in_ok-cached.field-0 shows first.proceeds.room.frames first.only (λ n is. ap (λ (k : Core _ _ _ _). picture_of k) (idle n is).0)) done.moves.store done.asks;
+      serves = record {
+        tends = record {
+          proceeds = proceeds_then g.D.SectorDisk g.E.SectorDisk before between after first.proceeds done.moves;
+          brings = brings_on before between pid page file shows g.D.SectorDisk g.E.SectorDisk after first.brings first.keeps done.moves.store done.moves.device done.files.held done.files.files;
+          others = λ q k other. done.others q k other ∙ first.keeps.views q k;
+          slotted = slotted_on old mid pid page new file shows first.slotted done.slotted;
+          calm = calm_then before between pid page file shows (λ n is. (idle n is).0) after Store (owned_calm between after pid page attr at alone done.calm);
+          read = read_then before between pid page file shows after.store asked.may.spot.linked.fit done.moves.store first.read;
+          tables = links_no_table old new pid page made;
+          pointers = made.pointers;
+          asks = asks_copied g.D.SectorDisk g.E.SectorDisk before between pid page Store file shows first.asks first.asks_store after c.in_ok-cached.field-0 (copied_frame mid pid page attr)
+              (copies_cached mid pid page attr c.args.file_page c.in_ok-cached.field-0 asked.private none first.placed) first.asks_later
+              (brought_out old mid pid page file c.in_ok-cached.field-0 shows first.proceeds.room.frames first.only (λ n is. ap (λ (k : Core _ _ _ _). picture_of k) (idle n is).0)) done.moves.store done.asks;
+        };
+        entered = owned_entered mid new pid page attr between.sound done.moves.fit after.sound now alone asked.may.allowed.lets here
+            (λ common. (c.in_ok-cached.field-0.0, behind_of mid attr.backing file c.in_ok-cached.field-0.0 backs first.placed)) done.behind done.others done.files r done.bytes done.entered;
+        ready = λ trusted. ok_then (λ n. IsReadyAt mid new pid page attr Store n.0) (λ n. IsReadyAt old new pid page attr Store n.0) r (λ n. ready_after old mid new pid page attr Store n.0 mapped at first.keeps)
+            (owned_ready mid new pid page attr between.sound done.moves.fit after.sound now alone asked.may.allowed.lets here
+            (λ common. (c.in_ok-cached.field-0.0, behind_of mid attr.backing file c.in_ok-cached.field-0.0 backs first.placed)) done.behind done.others done.files r done.bytes done.entered);
+        counts = on_ok_then _ _ r (counts_then g.D.SectorDisk g.E.SectorDisk before between after first.cause) (counts_done g.D.SectorDisk g.E.SectorDisk between after r done.moves.store done.cause);
+        stalled = stalled_on before between pid page file shows g.D.SectorDisk g.E.SectorDisk after Store r (λ n is. (idle n is).0) first.keeps first.cause.2 first.cause.0 first.cause.1 done.cause
+            (owned_stalled between after pid page attr at alone g.D.SectorDisk g.E.SectorDisk r (linked_then old mid pid page first.proceeds.fit first.proceeds.spaces first.proceeds.tables asked.may.spot.linked) here
+            (λ common. (c.in_ok-cached.field-0.0, behind_of mid attr.backing file c.in_ok-cached.field-0.0 backs first.placed)) done.behind done.moves done.files done.same done.frees done.wanted done.cause done.short
+            done.refuses);
       };
-      entered = owned_entered mid new pid page attr between.sound done.moves.fit after.sound now alone asked.allowed.lets here
-          (λ common. (c.in_ok-cached.field-0.0, behind_of mid attr.backing file c.in_ok-cached.field-0.0 backs first.placed)) done.behind done.others done.files r done.bytes done.entered;
-      ready = λ trusted. ok_then (λ n. IsReadyAt mid new pid page attr Store n.0) (λ n. IsReadyAt old new pid page attr Store n.0) r (λ n. ready_after old mid new pid page attr Store n.0 mapped at first.keeps)
-          (owned_ready mid new pid page attr between.sound done.moves.fit after.sound now alone asked.allowed.lets here
-          (λ common. (c.in_ok-cached.field-0.0, behind_of mid attr.backing file c.in_ok-cached.field-0.0 backs first.placed)) done.behind done.others done.files r done.bytes done.entered);
-      counts = on_ok_then _ _ r (counts_then g.D.SectorDisk g.E.SectorDisk before between after first.cause) (counts_done g.D.SectorDisk g.E.SectorDisk between after r done.moves.store done.cause);
-      stalled = stalled_on before between pid page file shows g.D.SectorDisk g.E.SectorDisk after Store r (λ n is. (idle n is).0) first.keeps first.cause.2 first.cause.0 first.cause.1 done.cause
-          (owned_stalled between after pid page attr at alone g.D.SectorDisk g.E.SectorDisk r (linked_then old mid pid page first.proceeds.fit first.proceeds.spaces first.proceeds.tables asked.spot.linked) here
-          (λ common. (c.in_ok-cached.field-0.0, behind_of mid attr.backing file c.in_ok-cached.field-0.0 backs first.placed)) done.behind done.moves done.files done.same done.frees done.wanted done.cause done.short
-          done.refuses);
+      rows = rows_then (picture_of c.args.core.now) (picture_of c.cached.new.core) (picture_of c.own_frame.new.core) first.proceeds.spaces.root first.rows c.own_frame.ensures.rows;
     }
-
-pub returns-clause-rows : goal.returns-clause-rows
-returns-clause-rows g c =
-    let first = c.in_ok-cached.ensures.pages_in in
-    rows_then (picture_of c.args.core.now) (picture_of c.cached.new.core) (picture_of c.own_frame.new.core) first.proceeds.spaces.root first.rows c.own_frame.ensures.rows

@@ -4,15 +4,15 @@ use Rattle.residency.specs.Picture.{picture_of, is_swapped}
 use Rattle.fault.specs.Asking.{IsSectorOfCopy}
 use Rattle.fault.proofs.Forms.{mapped_page}
 use Rattle.fault.proofs.SwapSteps.{swapped_page}
-use Rattle.fault.specs.Serving.{Serves}
+use Rattle.fault.specs.SpotServing.{MayServeAt, ServesThere}
 use Rattle.fault.specs.Wants.{ForSlot}
 use Rattle.fault.proofs.Entered.{swapped_entered, swapped_ready, swapped_stalled}
 use Rattle.fault.proofs.Serving.{tends_moved}
 use Rattle.fault.proofs.AccessSteps.{counts_done}
 use Rattle.fault.proofs.granting.grant_linked.Goals as goal
 
-pub returns-then-is_swapped-clause-serves : goal.returns-then-is_swapped-clause-serves
-returns-then-is_swapped-clause-serves g c =
+pub returns-then-is_swapped : goal.returns-then-is_swapped
+returns-then-is_swapped g c =
     let pid = c.args.spot.now.pid in
     let page = c.args.spot.now.page in
     let attr = c.args.attr in
@@ -25,21 +25,29 @@ returns-then-is_swapped-clause-serves g c =
     let done = c.swap_in.ensures in
     let r = c.swap_in.result in
     let away = sym (ap is_swapped c.number_at-was.ensures) ∙ sym c.is_swapped.ensures ∙ c.if-is_swapped.true in
-    let at = asked.allowed.mapped in
+    let at = asked.may.allowed.mapped in
     let now = done.moves.spaces.at pid page ∙ at in
-    let inside = mapped_page old pid page attr asked.spot.linked.fit.granting at in
-    let its = swapped_page old pid page attr asked.spot.linked.fit inside at away in
+    let inside = mapped_page old pid page attr asked.may.spot.linked.fit.granting at in
+    let its = swapped_page old pid page attr asked.may.spot.linked.fit inside at away in
     record {
-      tends = tends_moved g.D.SectorDisk g.E.SectorDisk before after pid page access None (IsSectorOfCopy old pid page) asked.store done.moves done.files done.others done.slotted
-          (λ none. absurd (none (ForSlot away))) (λ k is. inl is) done.asks done.no_table;
-      entered = swapped_entered old new pid page attr access done.moves.fit after.sound now its.not_shared asked.allowed.lets r done.entered done.sole;
-      ready = λ trusted. swapped_ready old new pid page attr access done.moves.fit after.sound now its.not_shared asked.allowed.lets r at (record { views = done.seen (trusted away); touched = done.files.touched })
-          done.entered done.sole;
-      counts = counts_done g.D.SectorDisk g.E.SectorDisk before after r done.moves.store done.cause;
-      stalled = swapped_stalled g.D.SectorDisk g.E.SectorDisk before after pid page access r done.moves.store done.files done.same inside its.common away done.frees done.cause done.short done.refuses;
+      serves = record {
+        tends = tends_moved g.D.SectorDisk g.E.SectorDisk before after pid page access None (IsSectorOfCopy old pid page) asked.may.store done.moves done.files done.others done.slotted
+            (λ none. absurd (none (ForSlot away))) (λ k is. inl is) done.asks done.no_table;
+        entered = swapped_entered old new pid page attr access done.moves.fit after.sound now its.not_shared asked.may.allowed.lets r done.entered done.sole;
+        ready = λ trusted. swapped_ready old new pid page attr access done.moves.fit after.sound now its.not_shared asked.may.allowed.lets r at (record { views = done.seen (trusted away); touched = done.files.touched })
+            done.entered done.sole;
+        counts = counts_done g.D.SectorDisk g.E.SectorDisk before after r done.moves.store done.cause;
+        stalled = swapped_stalled g.D.SectorDisk g.E.SectorDisk before after pid page access r done.moves.store done.files done.same inside its.common away done.frees done.cause done.short done.refuses;
+      };
+      rows = c.swap_in.ensures.rows;
     }
 
-pub returns-in-Store-clause-serves : goal.returns-in-Store-clause-serves
-returns-in-Store-clause-serves g c =
-    let P : Access → Type 0 = λ a. Serves g.D.SectorDisk g.E.SectorDisk c.args.core.now c.grant_store.new.core c.args.spot.now.pid c.args.spot.now.page c.args.attr a c.grant_store.result in
-    subst P (sym c.in-Store.is) c.grant_store.ensures.serves
+pub grant_store-requires-clause-may : goal.grant_store-requires-clause-may
+grant_store-requires-clause-may g c =
+    let P : Access → Type 0 = λ a. MayServeAt g.D.SectorDisk g.E.SectorDisk c.args.core.now c.args.spot.now c.args.attr a in
+    subst P c.in-Store.is c.requires.may
+
+pub returns-in-Store : goal.returns-in-Store
+returns-in-Store g c =
+    let P : Access → Type 0 = λ a. ServesThere g.D.SectorDisk g.E.SectorDisk c.args.core.now c.grant_store.new.core c.args.spot.now c.args.attr a c.grant_store.result in
+    subst P (sym c.in-Store.is) c.grant_store.ensures

@@ -24,85 +24,22 @@ frame_number-requires g c =
     let is = ap frame_of c.requires.was in
     let some : entry old c.args.spot.now.pid c.args.spot.now.page ≢ 0 = λ none. c.if-to_u64-ne0.true (c.to_u64.ensures ∙ c.requires.was ∙ none) in
     let low = used_inside old.frames (frame_of (entry old c.args.spot.now.pid c.args.spot.now.page)) c.args.core.now.sound
-    (resident_used old c.args.spot.now.pid c.args.spot.now.page c.args.attr c.args.core.now.sound c.requires.spot.linked.fit
-    (mapped_page old c.args.spot.now.pid c.args.spot.now.page c.args.attr c.requires.spot.linked.fit.granting c.requires.allowed.mapped) c.requires.allowed.mapped some c.requires.here) in
+    (resident_used old c.args.spot.now.pid c.args.spot.now.page c.args.attr c.args.core.now.sound c.requires.may.1.spot.linked.fit
+    (mapped_page old c.args.spot.now.pid c.args.spot.now.page c.args.attr c.requires.may.1.spot.linked.fit.granting c.requires.may.1.allowed.mapped) c.requires.may.1.allowed.mapped some c.requires.here) in
     let most = c.args.core.now.sound.most in
     omega (arith, is, low, most)
-
-pub returns-then-to_u64-ne0-clause-serves : goal.returns-then-to_u64-ne0-clause-serves
-returns-then-to_u64-ne0-clause-serves g c =
-    let pid = c.args.spot.now.pid in
-    let page = c.args.spot.now.page in
-    let before = c.args.core.now in
-    let after = c.regrant.new.core in
-    let old = picture_of before in
-    let new = picture_of after in
-    let mapped = c.requires.allowed.mapped in
-    let enters = c.regrant.ensures.enters in
-    let files = c.regrant.ensures.files in
-    let frame = frame_of (entry old pid page) in
-    let now = enters.spaces.at pid page ∙ mapped in
-    let P : ℕ → Type 0 = λ x. Serves g.D.SectorDisk g.E.SectorDisk before after pid page c.args.attr c.args.access (Ok (record { 0 = x })) in
-    subst P (sym (c.frame_number.ensures ∙ ap frame_of c.requires.was))
-    (record {
-      tends = tends_entered g.D.SectorDisk g.E.SectorDisk before after pid page c.args.access c.requires.store c.requires.swap enters files;
-      entered = read_entered old new pid page c.args.attr c.args.access frame _ _ _ enters.fit after.sound mapped now (record { views = enters.views; touched = files.touched }) c.regrant.ensures.entry c.requires.reads
-          c.requires.allowed.lets;
-      ready = λ trusted. read_ready old new pid page c.args.attr c.args.access frame _ _ _ enters.fit after.sound mapped now (record { views = enters.views; touched = files.touched }) c.regrant.ensures.entry c.requires.reads
-          c.requires.allowed.lets;
-      counts = counts_calm g.D.SectorDisk g.E.SectorDisk before after pid page enters.calm;
-      stalled = tt;
-    })
 
 pub show_zero-requires-clause-none : goal.show_zero-requires-clause-none
 show_zero-requires-clause-none g c = sym c.requires.was ∙ sym c.to_u64.ensures ∙ c.if-to_u64-ne0.false
 
-pub returns-in-None-clause-serves : goal.returns-in-None-clause-serves
-returns-in-None-clause-serves g c =
-    let pid = c.args.spot.now.pid in
-    let page = c.args.spot.now.page in
-    let before = c.args.core.now in
-    let after = c.show_zero.new.core in
-    let old = picture_of before in
-    let new = picture_of after in
-    let mapped = c.requires.allowed.mapped in
-    let enters = c.show_zero.ensures.enters in
-    let files = c.show_zero.ensures.files in
-    let now = enters.spaces.at pid page ∙ mapped in
-    record {
-      tends = tends_entered g.D.SectorDisk g.E.SectorDisk before after pid page c.args.access c.requires.store c.requires.swap enters files;
-      entered = read_entered old new pid page c.args.attr c.args.access 0 _ _ _ enters.fit after.sound mapped now (record { views = enters.views; touched = files.touched }) c.show_zero.ensures.entry c.requires.reads
-          c.requires.allowed.lets;
-      ready = λ trusted. read_ready old new pid page c.args.attr c.args.access 0 _ _ _ enters.fit after.sound mapped now (record { views = enters.views; touched = files.touched }) c.show_zero.ensures.entry c.requires.reads
-          c.requires.allowed.lets;
-      counts = counts_calm g.D.SectorDisk g.E.SectorDisk before after pid page enters.calm;
-      stalled = tt;
-    }
-
 pub cached-requires-clause-inside : goal.cached-requires-clause-inside
 cached-requires-clause-inside g c =
-    page_inside (picture_of c.args.core.now) c.args.spot.now.pid c.args.spot.now.page c.args.attr c.in-Some.stored c.requires.spot.linked c.requires.allowed.mapped (sym c.stands_on.ensures ∙ c.in-Some.is) c.requires.allowed.inside
-
-pub returns-in_err-frame-in-Some-clause-serves : goal.returns-in_err-frame-in-Some-clause-serves
-returns-in_err-frame-in-Some-clause-serves g c =
-    let pid = c.args.spot.now.pid in
-    let page = c.args.spot.now.page in
-    let before = c.args.core.now in
-    let after = c.cached.new.core in
-    let stored = c.in-Some.stored in
-    let none = seat_zero _ (sym c.requires.was ∙ sym c.to_u64.ensures ∙ c.if-to_u64-ne0.false) in
-    let shows = shows_file (picture_of before) pid page c.args.attr stored c.requires.allowed.mapped (sym c.stands_on.ensures ∙ c.in-Some.is) none in
-    let fit = c.requires.spot.linked.fit in
-    let stall = c.in_err-frame-in-Some.field-0.0 in
-    let done = c.in_err-frame-in-Some.ensures in
-    serves_stall g.D.SectorDisk g.E.SectorDisk before after pid page c.args.attr c.args.access c.from_residual.result stall c.from_residual.ensures.1
-    (tends_away g.D.SectorDisk g.E.SectorDisk before after pid page c.args.access stored shows fit stall done.pages_in done.idle)
-    (stalls_away g.D.SectorDisk g.E.SectorDisk before after pid page c.args.access stored shows fit stall done.pages_in done.idle)
+    page_inside (picture_of c.args.core.now) c.args.spot.now.pid c.args.spot.now.page c.args.attr c.in-Some.stored c.requires.may.1.spot.linked c.requires.may.1.allowed.mapped (sym c.stands_on.ensures ∙ c.in-Some.is) c.requires.may.1.allowed.inside
 
 pub show_cached-requires-clause-spot : goal.show_cached-requires-clause-spot
 show_cached-requires-clause-spot g c =
     let done = c.in_ok-frame-in-Some.ensures.pages_in in
-    stands_kept (picture_of c.args.core.now) (picture_of c.cached.new.core) c.args.spot.now c.requires.spot done.proceeds.fit done.proceeds.spaces done.proceeds.tables done.rows
+    stands_kept (picture_of c.args.core.now) (picture_of c.cached.new.core) c.args.spot.now c.requires.may.1.spot done.proceeds.fit done.proceeds.spaces done.proceeds.tables done.rows
 
 pub show_cached-requires-clause-behind : goal.show_cached-requires-clause-behind
 show_cached-requires-clause-behind g c =
@@ -111,18 +48,90 @@ show_cached-requires-clause-behind g c =
 pub show_cached-requires-clause-inside : goal.show_cached-requires-clause-inside
 show_cached-requires-clause-inside g c =
     let done = c.in_ok-frame-in-Some.ensures.pages_in in
-    (open_still (picture_of c.args.core.now) (picture_of c.cached.new.core) c.args.spot.now.pid c.args.spot.now.page c.args.access c.args.attr done.proceeds.spaces.at
-    (files_read g.D.SectorDisk c.args.core.now.store c.cached.new.core.store done.proceeds.reads) c.requires.allowed).inside
+    (open_still (picture_of c.args.core.now) (picture_of c.cached.new.core) c.args.spot.now.pid c.args.spot.now.page c.requires.may.0 c.args.attr done.proceeds.spaces.at
+    (files_read g.D.SectorDisk c.args.core.now.store c.cached.new.core.store done.proceeds.reads) c.requires.may.1.allowed).inside
 
 pub show_cached-requires-clause-none : goal.show_cached-requires-clause-none
 show_cached-requires-clause-none g c =
     let done = c.in_ok-frame-in-Some.ensures.pages_in in
-    none_same (picture_of c.args.core.now) (picture_of c.cached.new.core) c.args.spot.now.pid c.args.spot.now.page c.args.attr c.requires.allowed.mapped
-    (done.proceeds.spaces.at c.args.spot.now.pid c.args.spot.now.page ∙ c.requires.allowed.mapped) (done.keeps.views c.args.spot.now.pid c.args.spot.now.page)
+    none_same (picture_of c.args.core.now) (picture_of c.cached.new.core) c.args.spot.now.pid c.args.spot.now.page c.args.attr c.requires.may.1.allowed.mapped
+    (done.proceeds.spaces.at c.args.spot.now.pid c.args.spot.now.page ∙ c.requires.may.1.allowed.mapped) (done.keeps.views c.args.spot.now.pid c.args.spot.now.page)
     (seat_zero _ (sym c.requires.was ∙ sym c.to_u64.ensures ∙ c.if-to_u64-ne0.false))
 
-pub returns-in_ok-frame-in-Some-clause-serves : goal.returns-in_ok-frame-in-Some-clause-serves
-returns-in_ok-frame-in-Some-clause-serves g c =
+pub returns-then-to_u64-ne0 : goal.returns-then-to_u64-ne0
+returns-then-to_u64-ne0 g c access reads lets =
+    let pid = c.args.spot.now.pid in
+    let page = c.args.spot.now.page in
+    let before = c.args.core.now in
+    let after = c.regrant.new.core in
+    let old = picture_of before in
+    let new = picture_of after in
+    let mapped = c.requires.may.1.allowed.mapped in
+    let enters = c.regrant.ensures.enters in
+    let files = c.regrant.ensures.files in
+    let frame = frame_of (entry old pid page) in
+    let now = enters.spaces.at pid page ∙ mapped in
+    let P : ℕ → Type 0 = λ x. Serves g.D.SectorDisk g.E.SectorDisk before after pid page c.args.attr access (Ok (record { 0 = x })) in
+    record {
+      serves = subst P (sym (c.frame_number.ensures ∙ ap frame_of c.requires.was))
+          (record {
+            tends = tends_entered g.D.SectorDisk g.E.SectorDisk before after pid page access c.requires.may.1.store c.requires.may.1.swap enters files;
+            entered = read_entered old new pid page c.args.attr access frame _ _ _ enters.fit after.sound mapped now (record { views = enters.views; touched = files.touched }) c.regrant.ensures.entry reads
+                lets;
+            ready = λ trusted. read_ready old new pid page c.args.attr access frame _ _ _ enters.fit after.sound mapped now (record { views = enters.views; touched = files.touched }) c.regrant.ensures.entry reads
+                lets;
+            counts = counts_calm g.D.SectorDisk g.E.SectorDisk before after pid page enters.calm;
+            stalled = tt;
+          });
+      rows = c.regrant.ensures.enters.rows;
+    }
+
+pub returns-in-None : goal.returns-in-None
+returns-in-None g c access reads lets =
+    let pid = c.args.spot.now.pid in
+    let page = c.args.spot.now.page in
+    let before = c.args.core.now in
+    let after = c.show_zero.new.core in
+    let old = picture_of before in
+    let new = picture_of after in
+    let mapped = c.requires.may.1.allowed.mapped in
+    let enters = c.show_zero.ensures.enters in
+    let files = c.show_zero.ensures.files in
+    let now = enters.spaces.at pid page ∙ mapped in
+    record {
+      serves = record {
+        tends = tends_entered g.D.SectorDisk g.E.SectorDisk before after pid page access c.requires.may.1.store c.requires.may.1.swap enters files;
+        entered = read_entered old new pid page c.args.attr access 0 _ _ _ enters.fit after.sound mapped now (record { views = enters.views; touched = files.touched }) c.show_zero.ensures.entry reads
+            lets;
+        ready = λ trusted. read_ready old new pid page c.args.attr access 0 _ _ _ enters.fit after.sound mapped now (record { views = enters.views; touched = files.touched }) c.show_zero.ensures.entry reads
+            lets;
+        counts = counts_calm g.D.SectorDisk g.E.SectorDisk before after pid page enters.calm;
+        stalled = tt;
+      };
+      rows = c.show_zero.ensures.enters.rows;
+    }
+
+pub returns-in_err-frame-in-Some : goal.returns-in_err-frame-in-Some
+returns-in_err-frame-in-Some g c access reads lets =
+    let pid = c.args.spot.now.pid in
+    let page = c.args.spot.now.page in
+    let before = c.args.core.now in
+    let after = c.cached.new.core in
+    let stored = c.in-Some.stored in
+    let none = seat_zero _ (sym c.requires.was ∙ sym c.to_u64.ensures ∙ c.if-to_u64-ne0.false) in
+    let shows = shows_file (picture_of before) pid page c.args.attr stored c.requires.may.1.allowed.mapped (sym c.stands_on.ensures ∙ c.in-Some.is) none in
+    let fit = c.requires.may.1.spot.linked.fit in
+    let stall = c.in_err-frame-in-Some.field-0.0 in
+    let done = c.in_err-frame-in-Some.ensures in
+    record {
+      serves = serves_stall g.D.SectorDisk g.E.SectorDisk before after pid page c.args.attr access c.from_residual.result stall c.from_residual.ensures.1
+          (tends_away g.D.SectorDisk g.E.SectorDisk before after pid page access stored shows fit stall done.pages_in done.idle)
+          (stalls_away g.D.SectorDisk g.E.SectorDisk before after pid page access stored shows fit stall done.pages_in done.idle);
+      rows = c.in_err-frame-in-Some.ensures.pages_in.rows;
+    }
+
+pub returns-in_ok-frame-in-Some : goal.returns-in_ok-frame-in-Some
+returns-in_ok-frame-in-Some g c access reads lets =
     let pid = c.args.spot.now.pid in
     let page = c.args.spot.now.page in
     let before = c.args.core.now in
@@ -132,7 +141,7 @@ returns-in_ok-frame-in-Some-clause-serves g c =
     let mid = picture_of between in
     let new = picture_of after in
     let stored = c.in-Some.stored in
-    let mapped = c.requires.allowed.mapped in
+    let mapped = c.requires.may.1.allowed.mapped in
     let none = seat_zero _ (sym c.requires.was ∙ sym c.to_u64.ensures ∙ c.if-to_u64-ne0.false) in
     let shows = shows_file old pid page c.args.attr stored mapped (sym c.stands_on.ensures ∙ c.in-Some.is) none in
     let idle = c.in_ok-frame-in-Some.ensures.idle in
@@ -143,14 +152,12 @@ returns-in_ok-frame-in-Some-clause-serves g c =
     let now = enters.spaces.at pid page ∙ first.proceeds.spaces.at pid page ∙ mapped in
     let seen = seen_then old mid new first.keeps (record { views = enters.views; touched = files.touched }) in
     record {
-      tends = tends_shown g.D.SectorDisk g.E.SectorDisk before between pid page c.args.access stored shows c.requires.spot.linked.fit after _ first (λ n at. (idle n at).0) enters files.held files.files;
-      entered = read_entered old new pid page c.args.attr c.args.access frame _ _ _ enters.fit after.sound mapped now seen c.show_cached.ensures.entry c.requires.reads c.requires.allowed.lets;
-      ready = λ trusted. read_ready old new pid page c.args.attr c.args.access frame _ _ _ enters.fit after.sound mapped now seen c.show_cached.ensures.entry c.requires.reads c.requires.allowed.lets;
-      counts = counts_then g.D.SectorDisk g.E.SectorDisk before between after first.cause (counts_calm g.D.SectorDisk g.E.SectorDisk between after pid page enters.calm);
-      stalled = tt;
+      serves = record {
+        tends = tends_shown g.D.SectorDisk g.E.SectorDisk before between pid page access stored shows c.requires.may.1.spot.linked.fit after _ first (λ n at. (idle n at).0) enters files.held files.files;
+        entered = read_entered old new pid page c.args.attr access frame _ _ _ enters.fit after.sound mapped now seen c.show_cached.ensures.entry reads lets;
+        ready = λ trusted. read_ready old new pid page c.args.attr access frame _ _ _ enters.fit after.sound mapped now seen c.show_cached.ensures.entry reads lets;
+        counts = counts_then g.D.SectorDisk g.E.SectorDisk before between after first.cause (counts_calm g.D.SectorDisk g.E.SectorDisk between after pid page enters.calm);
+        stalled = tt;
+      };
+      rows = rows_then (picture_of c.args.core.now) (picture_of c.cached.new.core) (picture_of c.show_cached.new.core) first.proceeds.spaces.root first.rows c.show_cached.ensures.enters.rows;
     }
-
-pub returns-in_ok-frame-in-Some-clause-rows : goal.returns-in_ok-frame-in-Some-clause-rows
-returns-in_ok-frame-in-Some-clause-rows g c =
-    let first = c.in_ok-frame-in-Some.ensures.pages_in in
-    rows_then (picture_of c.args.core.now) (picture_of c.cached.new.core) (picture_of c.show_cached.new.core) first.proceeds.spaces.root first.rows c.show_cached.ensures.enters.rows

@@ -16,38 +16,41 @@ use Rattle.fault.proofs.granting.grant_shared.Goals as goal
 
 pub cached-requires-clause-inside : goal.cached-requires-clause-inside
 cached-requires-clause-inside g c =
-    page_inside (picture_of c.args.core.now) c.args.spot.now.pid c.args.spot.now.page c.args.attr c.args.stored c.requires.spot.linked c.requires.allowed.mapped c.requires.stands c.requires.allowed.inside
+    page_inside (picture_of c.args.core.now) c.args.spot.now.pid c.args.spot.now.page c.args.attr c.args.stored c.requires.may.spot.linked c.requires.may.allowed.mapped c.requires.stands c.requires.may.allowed.inside
 
-pub returns-in_err-frame-clause-serves : goal.returns-in_err-frame-clause-serves
-returns-in_err-frame-clause-serves g c =
+pub touch-requires-clause-spot : goal.touch-requires-clause-spot
+touch-requires-clause-spot g c =
+    let done = c.in_ok-frame.ensures.pages_in in
+    stands_kept (picture_of c.args.core.now) (picture_of c.cached.new.core) c.args.spot.now c.requires.may.spot done.proceeds.fit done.proceeds.spaces done.proceeds.tables done.rows
+
+pub touch-requires-clause-allowed : goal.touch-requires-clause-allowed
+touch-requires-clause-allowed g c =
+    let done = c.in_ok-frame.ensures.pages_in in
+    open_still (picture_of c.args.core.now) (picture_of c.cached.new.core) c.args.spot.now.pid c.args.spot.now.page Store c.args.attr done.proceeds.spaces.at
+    (files_read g.D.SectorDisk c.args.core.now.store c.cached.new.core.store done.proceeds.reads) c.requires.may.allowed
+
+pub returns-in_err-frame : goal.returns-in_err-frame
+returns-in_err-frame g c =
     let pid = c.args.spot.now.pid in
     let page = c.args.spot.now.page in
     let before = c.args.core.now in
     let after = c.cached.new.core in
     let old = picture_of before in
-    let fit = c.requires.spot.linked.fit in
-    let mapped = c.requires.allowed.mapped in
+    let fit = c.requires.may.spot.linked.fit in
+    let mapped = c.requires.may.allowed.mapped in
     let none = shared_none old pid page c.args.attr fit.granting mapped (mapped_page old pid page c.args.attr fit.granting mapped) c.requires.shared in
     let shows = shows_file old pid page c.args.attr c.args.stored mapped c.requires.stands none in
     let stall = c.in_err-frame.field-0.0 in
     let done = c.in_err-frame.ensures in
-    serves_stall g.D.SectorDisk g.E.SectorDisk before after pid page c.args.attr Store c.from_residual.result stall c.from_residual.ensures.1
-    (tends_away g.D.SectorDisk g.E.SectorDisk before after pid page Store c.args.stored shows fit stall done.pages_in done.idle)
-    (stalls_away g.D.SectorDisk g.E.SectorDisk before after pid page Store c.args.stored shows fit stall done.pages_in done.idle)
+    record {
+      serves = serves_stall g.D.SectorDisk g.E.SectorDisk before after pid page c.args.attr Store c.from_residual.result stall c.from_residual.ensures.1
+          (tends_away g.D.SectorDisk g.E.SectorDisk before after pid page Store c.args.stored shows fit stall done.pages_in done.idle)
+          (stalls_away g.D.SectorDisk g.E.SectorDisk before after pid page Store c.args.stored shows fit stall done.pages_in done.idle);
+      rows = c.in_err-frame.ensures.pages_in.rows;
+    }
 
-pub touch-requires-clause-spot : goal.touch-requires-clause-spot
-touch-requires-clause-spot g c =
-    let done = c.in_ok-frame.ensures.pages_in in
-    stands_kept (picture_of c.args.core.now) (picture_of c.cached.new.core) c.args.spot.now c.requires.spot done.proceeds.fit done.proceeds.spaces done.proceeds.tables done.rows
-
-pub touch-requires-clause-inside : goal.touch-requires-clause-inside
-touch-requires-clause-inside g c =
-    let done = c.in_ok-frame.ensures.pages_in in
-    (open_still (picture_of c.args.core.now) (picture_of c.cached.new.core) c.args.spot.now.pid c.args.spot.now.page Store c.args.attr done.proceeds.spaces.at
-    (files_read g.D.SectorDisk c.args.core.now.store c.cached.new.core.store done.proceeds.reads) c.requires.allowed).inside
-
-pub returns-clause-serves : goal.returns-clause-serves
-returns-clause-serves g c =
+pub returns : goal.returns
+returns g c =
     let pid = c.args.spot.now.pid in
     let page = c.args.spot.now.page in
     let attr = c.args.attr in
@@ -58,8 +61,8 @@ returns-clause-serves g c =
     let old = picture_of before in
     let mid = picture_of between in
     let new = picture_of after in
-    let fit = c.requires.spot.linked.fit in
-    let mapped = c.requires.allowed.mapped in
+    let fit = c.requires.may.spot.linked.fit in
+    let mapped = c.requires.may.allowed.mapped in
     let none = shared_none old pid page attr fit.granting mapped (mapped_page old pid page attr fit.granting mapped) c.requires.shared in
     let shows = shows_file old pid page attr stored mapped c.requires.stands none in
     let idle = c.in_ok-frame.ensures.idle in
@@ -68,18 +71,16 @@ returns-clause-serves g c =
     let marks = c.touch.ensures.touches in
     let frame = c.in_ok-frame.frame.0 in
     let now = enters.spaces.at pid page ∙ first.proceeds.spaces.at pid page ∙ mapped in
-    let readable = reads_too new pid page attr enters.fit now c.requires.allowed.lets in
+    let readable = reads_too new pid page attr enters.fit now c.requires.may.allowed.lets in
     let touched = touched_entry mid new pid page attr stored frame enters.fit after.sound now c.requires.shared c.requires.stands readable c.touch.ensures.entry enters.views marks.others in
     record {
-      tends = tends_shown g.D.SectorDisk g.E.SectorDisk before between pid page Store stored shows fit after _ first (λ n at. (idle n at).0) enters
-          (λ q. inl (held_marked mid new stored marks (ap slots_of enters.calm.swap) q)) marks.files;
-      entered = entered_store new pid page attr frame false readable c.touch.ensures.entry (entered_ready Store mid new pid page attr frame (ready_shared mid new pid page attr stored frame c.requires.shared c.requires.stands touched));
-      ready = λ trusted. ready_shared old new pid page attr stored frame c.requires.shared c.requires.stands (touches_after old mid new stored frame first.keeps touched);
-      counts = counts_then g.D.SectorDisk g.E.SectorDisk before between after first.cause (counts_calm g.D.SectorDisk g.E.SectorDisk between after pid page enters.calm);
-      stalled = tt;
+      serves = record {
+        tends = tends_shown g.D.SectorDisk g.E.SectorDisk before between pid page Store stored shows fit after _ first (λ n at. (idle n at).0) enters
+            (λ q. inl (held_marked mid new stored marks (ap slots_of enters.calm.swap) q)) marks.files;
+        entered = entered_store new pid page attr frame false readable c.touch.ensures.entry (entered_ready Store mid new pid page attr frame (ready_shared mid new pid page attr stored frame c.requires.shared c.requires.stands touched));
+        ready = λ trusted. ready_shared old new pid page attr stored frame c.requires.shared c.requires.stands (touches_after old mid new stored frame first.keeps touched);
+        counts = counts_then g.D.SectorDisk g.E.SectorDisk before between after first.cause (counts_calm g.D.SectorDisk g.E.SectorDisk between after pid page enters.calm);
+        stalled = tt;
+      };
+      rows = rows_then (picture_of c.args.core.now) (picture_of c.cached.new.core) (picture_of c.touch.new.core) first.proceeds.spaces.root first.rows c.touch.ensures.enters.rows;
     }
-
-pub returns-clause-rows : goal.returns-clause-rows
-returns-clause-rows g c =
-    let first = c.in_ok-frame.ensures.pages_in in
-    rows_then (picture_of c.args.core.now) (picture_of c.cached.new.core) (picture_of c.touch.new.core) first.proceeds.spaces.root first.rows c.touch.ensures.enters.rows

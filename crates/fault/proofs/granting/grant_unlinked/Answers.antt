@@ -1,10 +1,10 @@
-use Rattle.std.proofs.Common.{inl, inr, Option, None, refl, sym, ap, ◌∙◌, subst}
+use Rattle.std.proofs.Common.{inl, inr, Option, None, refl, sym, ap, ◌∙◌, subst, rules}
 use Rattle.std.specs.Prelude.{IsSome}
 use Rattle.vm_types.specs.declared.region.Attr.{Attr}
 use Rattle.disk_model.specs.Moments.{Nothing}
 use Rattle.frames.specs.FrameTable.{IsFull}
 use Rattle.residency.specs.Picture.{picture_of}
-use Rattle.fault.specs.Changes.{IsWhole}
+use Rattle.residency.specs.Ways.{IsWhole}
 use Rattle.fault.proofs.Forms.{mapped_page}
 use Rattle.fault.proofs.TablesGiven.{links_on}
 use Rattle.fault.specs.Wants.{ForTable, LacksTable, ShowsFile}
@@ -17,10 +17,35 @@ use Rattle.fault.proofs.Wanted.{root_live, root_lives, whole_or}
 use Rattle.fault.proofs.granting.grant_unlinked.Goals as goal
 
 pub link_tables-requires-clause-live : goal.link_tables-requires-clause-live
-link_tables-requires-clause-live g c = root_lives ((picture_of c.args.core.now).root c.args.pid) c.requires.lives
+link_tables-requires-clause-live g c = root_lives ((picture_of c.args.core.now).root c.args.pid) c.requires.may.lives
 
 pub link_tables-requires-clause-mapped : goal.link_tables-requires-clause-mapped
-link_tables-requires-clause-mapped g c = let P : Option Attr → Type 0 = λ x. IsSome x in subst P (sym c.requires.allowed.mapped) refl
+link_tables-requires-clause-mapped g c = let P : Option Attr → Type 0 = λ x. IsSome x in subst P (sym c.requires.may.allowed.mapped) refl
+
+pub root_of-root-requires : goal.root_of-root-requires
+root_of-root-requires g c =
+    let done = c.in_ok-table.ensures in
+    record { live = λ none. root_lives ((picture_of c.args.core.now).root c.args.pid) c.requires.may.lives (sym (done.moves.spaces.root c.args.pid) ∙ none) }
+
+pub grant_linked-requires : goal.grant_linked-requires
+grant_linked-requires g c =
+    let done = c.in_ok-table.ensures in
+    record {
+      may = record {
+        spot = record {
+          linked = record {
+            fit = done.moves.fit;
+            lives = λ none. root_lives ((picture_of c.args.core.now).root c.args.pid) c.requires.may.lives (sym (done.moves.spaces.root c.args.pid) ∙ none);
+            whole = done.whole;
+          };
+          root = c.root_of-root.ensures;
+          table = done.table c.root_of-root.result.0 c.root_of-root.ensures;
+        };
+        store = search rules;
+        swap = done.moves.swap;
+        allowed = open_still (picture_of c.args.core.now) (picture_of c.link_tables.new.core) c.args.pid c.args.page c.args.access c.args.attr done.pages.at done.pages.files.files c.requires.may.allowed;
+      };
+    }
 
 pub returns-in_err-table : goal.returns-in_err-table
 returns-in_err-table g c =
@@ -30,7 +55,7 @@ returns-in_err-table g c =
     let after = c.link_tables.new.core in
     let old = picture_of before in
     let new = picture_of after in
-    let lives = root_live old pid c.requires.lives in
+    let lives = root_live old pid c.requires.may.lives in
     let done = c.in_err-table.ensures in
     let lacks = (elim (whole_or old pid page lives) as (λ x. LacksTable old pid page) [
       | inl whole ↦ absurd (done.idle whole).1
@@ -38,7 +63,7 @@ returns-in_err-table g c =
     ]) in
     serves_stall g.D.SectorDisk g.E.SectorDisk before after pid page c.args.attr c.args.access c.from_residual.result c.in_err-table.field-0.0 c.from_residual.ensures.1
     (record {
-      proceeds = proceeds_moves g.D.SectorDisk g.E.SectorDisk before after c.requires.store done.moves;
+      proceeds = proceeds_moves g.D.SectorDisk g.E.SectorDisk before after c.requires.may.store done.moves;
       brings = λ kept. brings_none g.D.SectorDisk before.store.disk after.store.disk (ShowsFile old pid page) old new done.pages.files.held done.pages.files.files;
       others = λ q k other. done.pages.views q k;
       slotted = slotted_none old new pid page done.slotted;
@@ -52,29 +77,6 @@ returns-in_err-table g c =
     (stalled_tables before after pid page lives done.pages (λ whole. (done.idle whole).0) g.D.SectorDisk g.E.SectorDisk done.moves c.args.access c.in_err-table.field-0.0 done.cause done.short done.refuses
     done.wanted lacks)
 
-pub root_of-root-requires : goal.root_of-root-requires
-root_of-root-requires g c =
-    let done = c.in_ok-table.ensures in
-    record { live = λ none. root_lives ((picture_of c.args.core.now).root c.args.pid) c.requires.lives (sym (done.moves.spaces.root c.args.pid) ∙ none) }
-
-pub grant_linked-requires-clause-spot : goal.grant_linked-requires-clause-spot
-grant_linked-requires-clause-spot g c =
-    let done = c.in_ok-table.ensures in
-    record {
-      linked = record {
-        fit = done.moves.fit;
-        lives = λ none. root_lives ((picture_of c.args.core.now).root c.args.pid) c.requires.lives (sym (done.moves.spaces.root c.args.pid) ∙ none);
-        whole = done.whole;
-      };
-      root = c.root_of-root.ensures;
-      table = done.table c.root_of-root.result.0 c.root_of-root.ensures;
-    }
-
-pub grant_linked-requires-clause-allowed : goal.grant_linked-requires-clause-allowed
-grant_linked-requires-clause-allowed g c =
-    let done = c.in_ok-table.ensures in
-    open_still (picture_of c.args.core.now) (picture_of c.link_tables.new.core) c.args.pid c.args.page c.args.access c.args.attr done.pages.at done.pages.files.files c.requires.allowed
-
 pub returns : goal.returns
 returns g c =
     let pid = c.args.pid in
@@ -85,9 +87,9 @@ returns g c =
     let between = c.link_tables.new.core in
     let after = c.grant_linked.new.core in
     let old = picture_of before in
-    let lives = root_live old pid c.requires.lives in
-    let at = c.requires.allowed.mapped in
-    let inside = mapped_page old pid page attr c.requires.fit.granting at in
+    let lives = root_live old pid c.requires.may.lives in
+    let at = c.requires.may.allowed.mapped in
+    let inside = mapped_page old pid page attr c.requires.may.fit.granting at in
     let first = c.in_ok-table.ensures in
     let idle = λ (whole : IsWhole old pid page). (first.idle whole).0 in
     let then = c.grant_linked.ensures.serves in
@@ -102,7 +104,7 @@ returns g c =
         read = read_back before between pid page lives first.pages idle first.whole first.gives first.tables after.store first.moves.store then.read;
         tables = links_on old (picture_of between) (picture_of after) pid page (then.proceeds.spaces.root pid) then.pointers first.tables then.tables;
         pointers = λ n i m points. then.pointers n i m (first.gives.pointers n i m points);
-        asks = asks_back g.D.SectorDisk g.E.SectorDisk before between after pid page access c.requires.fit lives inside idle first.moves first.pages first.bare first.slotted first.whole first.gives first.tables
+        asks = asks_back g.D.SectorDisk g.E.SectorDisk before between after pid page access c.requires.may.fit lives inside idle first.moves first.pages first.bare first.slotted first.whole first.gives first.tables
             first.asks_later first.asks then.asks;
       };
       entered = then.entered;

@@ -4,7 +4,7 @@ use Rattle.frames.specs.declared.role.Role.TheVariants.{Free, Private}
 use Rattle.frames.specs.FrameTable.{IsFull}
 use Rattle.regions.proofs.ResultLemmas.{on_err}
 use Rattle.residency.specs.Picture.{Picture, picture_of}
-use Rattle.fault.specs.Changes.{IsWhole}
+use Rattle.residency.specs.Ways.{IsWhole}
 use Rattle.fault.proofs.Steps.{same_with, moves_freed, bare_freed}
 use Rattle.fault.proofs.Slotted.{slotted_frees}
 use Rattle.fault.proofs.TablesLinked.{pages_linked, bare_linked, slotted_linked, tables_linked, spaces_linked, room_linked, fit_after, no_copy_linked, missing_taken}
@@ -16,13 +16,13 @@ use Rattle.fault.proofs.linking.link_one.Goals as goal
 pub link_table-requires-clause-root : goal.link_table-requires-clause-root
 link_table-requires-clause-root g c =
     let took = c.in_ok-table.ensures.taken in
-    took.adds.roots c.args.root.0 (took.fit.rooted.roots c.args.pid c.args.root.0 (took.frees.pages.root c.args.pid ∙ c.requires.lives))
+    took.adds.roots c.args.way.now.root.0 (took.fit.rooted.roots c.args.way.now.pid c.args.way.now.root.0 (took.frees.pages.root c.args.way.now.pid ∙ c.requires.lives))
 
 pub link_table-requires-clause-missing : goal.link_table-requires-clause-missing
 link_table-requires-clause-missing g c none =
     let took = c.in_ok-table.ensures.taken in
-    c.requires.missing (sym (took.adds.missing c.args.root.0 c.args.page (took.fit.rooted.roots c.args.pid c.args.root.0 (took.frees.pages.root c.args.pid ∙ c.requires.lives))
-    ∙ took.frees.missing c.args.pid c.args.root.0 c.args.page c.requires.lives) ∙ none)
+    c.requires.missing (sym (took.adds.missing c.args.way.now.root.0 c.args.way.now.page (took.fit.rooted.roots c.args.way.now.pid c.args.way.now.root.0 (took.frees.pages.root c.args.way.now.pid ∙ c.requires.lives))
+    ∙ took.frees.missing c.args.way.now.pid c.args.way.now.root.0 c.args.way.now.page c.requires.lives) ∙ none)
 
 pub returns-clause-links : goal.returns-clause-links
 returns-clause-links g c =
@@ -34,25 +34,25 @@ returns-clause-links g c =
     let links = c.link_table.ensures.links in
     let beside = same_with taken c.link_table.new.memory in
     let n = c.in_ok-table.table.0 in
-    let gives = gives_linked old taken new c.args.pid c.args.root.0 c.args.page n took c.requires.lives links beside done.gives in
+    let gives = gives_linked old taken new c.args.way.now.pid c.args.way.now.root.0 c.args.way.now.page n took c.requires.lives links beside done.gives in
     record {
       takes = record {
         moves = record {
-          fit = fit_after old taken new c.args.pid c.args.root.0 c.args.page n took c.requires.lives links beside c.requires.mapped;
+          fit = fit_after old taken new c.args.way.now.pid c.args.way.now.root.0 c.args.way.now.page n took c.requires.lives links beside c.requires.mapped;
           swap = done.swap;
-          spaces = spaces_linked old taken new c.args.pid c.args.root.0 c.args.page n took c.requires.lives links beside;
-          tables = tables_linked old taken new c.args.pid c.args.root.0 c.args.page n took c.requires.lives links beside;
-          room = room_linked old taken new c.args.pid c.args.root.0 c.args.page n took c.requires.lives links beside;
+          spaces = spaces_linked old taken new c.args.way.now.pid c.args.way.now.root.0 c.args.way.now.page n took c.requires.lives links beside;
+          tables = tables_linked old taken new c.args.way.now.pid c.args.way.now.root.0 c.args.way.now.page n took c.requires.lives links beside;
+          room = room_linked old taken new c.args.way.now.pid c.args.way.now.root.0 c.args.way.now.page n took c.requires.lives links beside;
           store = done.rest.store;
           device = done.device;
         };
-        pages = pages_linked (picture_of c.args.core.now) taken (record taken { frames = c.link_table.new.memory }) c.args.pid c.args.root.0 c.args.page c.in_ok-table.table.0 c.in_ok-table.ensures.taken c.requires.lives
+        pages = pages_linked (picture_of c.args.core.now) taken (record taken { frames = c.link_table.new.memory }) c.args.way.now.pid c.args.way.now.root.0 c.args.way.now.page c.in_ok-table.table.0 c.in_ok-table.ensures.taken c.requires.lives
             c.link_table.ensures.links (same_with taken c.link_table.new.memory);
-        bare = bare_linked (picture_of c.args.core.now) taken (record taken { frames = c.link_table.new.memory }) c.args.pid c.args.root.0 c.args.page c.in_ok-table.table.0 c.in_ok-table.ensures.taken c.requires.lives
+        bare = bare_linked (picture_of c.args.core.now) taken (record taken { frames = c.link_table.new.memory }) c.args.way.now.pid c.args.way.now.root.0 c.args.way.now.page c.in_ok-table.table.0 c.in_ok-table.ensures.taken c.requires.lives
             c.link_table.ensures.links (same_with taken c.link_table.new.memory);
         gives = gives;
         tried = search rules;
-        no_copy = no_copy_linked (picture_of c.args.core.now) taken (record taken { frames = c.link_table.new.memory }) c.args.pid c.args.root.0 c.args.page c.in_ok-table.table.0 c.in_ok-table.ensures.taken c.requires.lives
+        no_copy = no_copy_linked (picture_of c.args.core.now) taken (record taken { frames = c.link_table.new.memory }) c.args.way.now.pid c.args.way.now.root.0 c.args.way.now.page c.in_ok-table.table.0 c.in_ok-table.ensures.taken c.requires.lives
             c.link_table.ensures.links (same_with taken c.link_table.new.memory);
         asks = asks_slots_if g.E.SectorDisk (IsFull c.link_table.new.memory) c.args.core.now c.take_table.new.self None Nothing (full_stays old new None gives)
             (asks_swap g.E.SectorDisk c.args.core.now c.take_table.new.self None Nothing done.asked);
@@ -63,9 +63,9 @@ returns-clause-links g c =
         short = search rules;
         cause = search rules;
       };
-      tables = links_linked (picture_of c.args.core.now) taken (record taken { frames = c.link_table.new.memory }) c.args.pid c.args.root.0 c.args.page c.in_ok-table.table.0 c.in_ok-table.ensures.taken c.requires.lives
+      tables = links_linked (picture_of c.args.core.now) taken (record taken { frames = c.link_table.new.memory }) c.args.way.now.pid c.args.way.now.root.0 c.args.way.now.page c.in_ok-table.table.0 c.in_ok-table.ensures.taken c.requires.lives
           c.link_table.ensures.links (same_with taken c.link_table.new.memory) c.in_ok-table.ensures.gives c.in_ok-table.ensures.only;
-      slotted = slotted_linked (picture_of c.args.core.now) taken (record taken { frames = c.link_table.new.memory }) c.args.pid c.args.root.0 c.args.page c.in_ok-table.table.0 c.in_ok-table.ensures.taken c.requires.lives
+      slotted = slotted_linked (picture_of c.args.core.now) taken (record taken { frames = c.link_table.new.memory }) c.args.way.now.pid c.args.way.now.root.0 c.args.way.now.page c.in_ok-table.table.0 c.in_ok-table.ensures.taken c.requires.lives
           c.link_table.ensures.links (same_with taken c.link_table.new.memory);
       wanted = search rules;
     }
@@ -74,7 +74,7 @@ pub returns-clause-lowered : goal.returns-clause-lowered
 returns-clause-lowered g c =
     let taken : Picture g.M.Levels.mode = picture_of c.take_table.new.self in
     c.link_table.ensures.links.lowered
-    ∙ missing_taken (picture_of c.args.core.now) taken (record taken { frames = c.link_table.new.memory }) c.args.pid c.args.root.0 c.args.page c.in_ok-table.table.0 c.in_ok-table.ensures.taken c.requires.lives
+    ∙ missing_taken (picture_of c.args.core.now) taken (record taken { frames = c.link_table.new.memory }) c.args.way.now.pid c.args.way.now.root.0 c.args.way.now.page c.in_ok-table.table.0 c.in_ok-table.ensures.taken c.requires.lives
     c.link_table.ensures.links (same_with taken c.link_table.new.memory)
 
 pub returns-in_err-table-clause-links : goal.returns-in_err-table-clause-links
@@ -101,8 +101,8 @@ returns-in_err-table-clause-links g c =
         short = search rules;
         cause = search rules;
       };
-      tables = links_none (picture_of c.args.core.now) (picture_of c.take_table.new.self) c.args.pid c.args.page done.frees.count done.still;
+      tables = links_none (picture_of c.args.core.now) (picture_of c.take_table.new.self) c.args.way.now.pid c.args.way.now.page done.frees.count done.still;
       slotted = slotted_frees (λ p. ⊥) (λ q p. ⊥) (picture_of c.args.core.now) (picture_of c.take_table.new.self) _ c.in_err-table.ensures.frees;
-      wanted = on_err c.from_residual.result (IsWhole new c.args.pid c.args.page → ⊥)
-          (still_wanted old new c.args.pid c.args.root.0 c.args.page c.in_err-table.ensures.frees c.requires.lives c.requires.missing);
+      wanted = on_err c.from_residual.result (IsWhole new c.args.way.now.pid c.args.way.now.page → ⊥)
+          (still_wanted old new c.args.way.now.pid c.args.way.now.root.0 c.args.way.now.page c.in_err-table.ensures.frees c.requires.lives c.requires.missing);
     }

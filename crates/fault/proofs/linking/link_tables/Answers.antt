@@ -5,7 +5,7 @@ use Rattle.std.specs.Prelude.{IsSome}
 use Rattle.vm_types.specs.declared.region.Attr.{Attr}
 use Rattle.regions.proofs.ResultLemmas.{on_err}
 use Rattle.residency.specs.Picture.{picture_of}
-use Rattle.fault.specs.Changes.{IsWhole}
+use Rattle.residency.specs.Ways.{IsWhole}
 use Rattle.fault.proofs.Slotted.{slotted_then, slotted_same}
 use Rattle.fault.proofs.TablesGiven.{links_then}
 use Rattle.fault.proofs.WaySteps.{takes_none, takes_then, takes_done, takes_stall, nothing_on, nothing_if}

@@ -6,7 +6,7 @@ use Rattle.swap.specs.Slots.{IsSectorOfSlot}
 use Rattle.vm_types.specs.declared.number.FrameNo.{FrameNo}
 use Rattle.vm_types.specs.declared.number.SlotNo.{SlotNo}
 use Rattle.residency.specs.Picture.{picture_of}
-use Rattle.fault.specs.Asking.{IsSectorOfPage, IsSectorOfFile}
+use Rattle.fault.specs.Asking.{IsSectorOfPage, IsSectorOfStoredPage}
 use Rattle.fault.proofs.Asking.{asks_slots_wider, asks_swap_also}
 use Rattle.fault.proofs.AskedIn.{store_same, no_new_of}
 use Rattle.fault.proofs.BroughtIn.{spaces_of, tables_of, rows_of, no_table_of, only_of, room_of, seen_of, bare_of, slotted_of, placed_of, reads_none, brings_slot_of, causes_of, never_store, refused_but}
@@ -47,7 +47,7 @@ returns-in-Slot g c =
       slotted = slotted_of old new page r done.brought done.frees;
       read = inl done.rest.store;
       asks = asks_slots_wider g.E.SectorDisk before after None here (IsSectorOfPage old page) (λ k is. inl (c.in-Slot.slot, at, is)) (asks_swap_also g.E.SectorDisk before after None here done.asked);
-      asks_store = store_same g.D.SectorDisk (IsSectorOfFile before.store page) before.store after.store done.rest.store;
+      asks_store = store_same g.D.SectorDisk (IsSectorOfStoredPage before.store page) before.store after.store done.rest.store;
       asks_later = no_new_of old new page c.requires.fit (λ k there. no_frame c.in-Slot.slot k (sym at ∙ there)) r done.brought;
       cause = causes_of g.D.SectorDisk g.E.SectorDisk before after r done.rest.store done.cause;
       home = never_store g.D.SectorDisk g.E.SectorDisk _ before after r done.cause;

@@ -9,7 +9,7 @@ use Rattle.vm_types.specs.declared.number.FrameNo.{FrameNo}
 use Rattle.vm_types.specs.declared.object.PageKey.{PageKey}
 use Rattle.vm_types.specs.declared.object.PageKey.TheVariants.{File, Object}
 use Rattle.disk_model.proofs.Moments.{asks_wider}
-use Rattle.fault.specs.Asking.{IsSectorOfPage, IsSectorOfFile}
+use Rattle.fault.specs.Asking.{IsSectorOfPage, IsSectorOfStoredPage}
 use Rattle.fault.specs.PagingIn.{PagesIn}
 use Rattle.fault.proofs.Asking.{asks_swap}
 use Rattle.fault.proofs.AskedIn.{store_same, no_new_of}
@@ -59,7 +59,7 @@ returns-in-File g c =
       slotted = slotted_of old new page r done.brought done.frees;
       read = inr (c.in-File.page, refl, home);
       asks = asks_swap g.E.SectorDisk before after None (IsSectorOfPage old page) done.asked;
-      asks_store = asks_wider g.D.SectorDisk (IsSectorOf before.store c.in-File.page) (IsSectorOfFile before.store page) before.store.disk after.store.disk (λ k is. (c.in-File.page, refl, is)) done.asks;
+      asks_store = asks_wider g.D.SectorDisk (IsSectorOf before.store c.in-File.page) (IsSectorOfStoredPage before.store page) before.store.disk after.store.disk (λ k is. (c.in-File.page, refl, is)) done.asks;
       asks_later = no_new_of old new page c.requires.fit (λ k at. no_frame k (sym home ∙ at)) r done.brought;
       cause = done.cause;
       home = err_always _ r (λ s is. (c.in-File.page, refl, home));
@@ -101,7 +101,7 @@ returns-in-Object g c =
       slotted = slotted_of old new page r done.brought done.frees;
       read = inl done.rest.store;
       asks = asks_swap g.E.SectorDisk before after None (IsSectorOfPage old page) done.asked;
-      asks_store = store_same g.D.SectorDisk (IsSectorOfFile before.store page) before.store after.store done.rest.store;
+      asks_store = store_same g.D.SectorDisk (IsSectorOfStoredPage before.store page) before.store after.store done.rest.store;
       asks_later = no_new_of old new page c.requires.fit (λ k at. no_frame k (sym home ∙ at)) r done.brought;
       cause = causes_of g.D.SectorDisk g.E.SectorDisk before after r done.rest.store done.cause;
       home = never_store g.D.SectorDisk g.E.SectorDisk _ before after r done.cause;

@@ -1,6 +1,6 @@
 use Rattle.std.proofs.Common.{Some, None, inl, inr, refl, rules, arith}
 use Rattle.residency.specs.Picture.{picture_of}
-use Rattle.fault.specs.Asking.{IsSectorOfPage, IsSectorOfFile}
+use Rattle.fault.specs.Asking.{IsSectorOfPage, IsSectorOfStoredPage}
 use Rattle.fault.proofs.Asking.{no_new_same, asks_slots_same}
 use Rattle.fault.proofs.AskedIn.{store_same}
 use Rattle.fault.proofs.BroughtIn.{reads_none, brings_none}
@@ -34,7 +34,7 @@ returns-in-Frame-clause-pages_in g c =
       slotted = slotted_same _ _ (picture_of core) (picture_of core) (λ p. refl) (λ q p h. refl);
       read = inl refl;
       asks = asks_slots_same g.E.SectorDisk core core None (IsSectorOfPage (picture_of core) page) refl;
-      asks_store = store_same g.D.SectorDisk (IsSectorOfFile core.store page) core.store core.store refl;
+      asks_store = store_same g.D.SectorDisk (IsSectorOfStoredPage core.store page) core.store core.store refl;
       asks_later = no_new_same (picture_of core) (Some c.in-Frame.frame) (IsSectorOfPage (picture_of core) page);
       cause = (refl, refl, refl);
       home = tt;

@@ -31,37 +31,29 @@ frame_number-requires g c =
     let most = c.args.core.now.sound.most in
     omega (arith, is, low, most)
 
-pub returns-clause-enters : goal.returns-clause-enters
-returns-clause-enters g c =
+pub set_full-requires-clause-user : goal.set_full-requires-clause-user
+set_full-requires-clause-user g c = ((c.requires.spot.linked.fit.granting.user c.args.spot.now.pid).user_pages c.args.spot.now.page (ap is_some c.requires.attr)).1
+
+pub returns : goal.returns
+returns g c =
     let old : Picture g.M.Levels.mode = picture_of c.args.core.now in
     let sets = c.set_full.ensures.sets in
     let e = c.number_at-was.ensures in
     let own = c.is_private.ensures ∙ ap is_private e in
     let is = c.frame_number.ensures ∙ ap frame_of e in
-    let resident = resident_page old c.args.spot.now.pid c.args.spot.now.page c.args.attr c.requires.spot.linked.fit.granting
-    (mapped_page old c.args.spot.now.pid c.args.spot.now.page c.args.attr c.requires.spot.linked.fit.granting c.requires.attr) c.requires.attr c.requires.resident c.requires.here in
-    enters_set c.args.core.now c.set_full.new.core c.args.spot.now.pid c.args.spot.now.page c.args.spot.now.root.0 c.args.attr c.frame_number.result.0 c.is_private.result c.requires.spot.linked c.requires.spot.root c.requires.attr
-    sets c.set_full.ensures.rest c.set_full.ensures.not_refused
-    (seat_kept (entry old c.args.spot.now.pid c.args.spot.now.page) sets.0 c.args.attr c.frame_number.result.0 c.is_private.result _ _ sets.1 own (λ _. is) c.requires.here)
-    (λ p. resident.private (sym own ∙ p))
-    (λ common. let P : ℕ → Type 0 = λ x. IsBehind old c.args.attr.backing x in subst P (sym is) (resident.behind (sym own ∙ common))) resident.inside
-
-pub returns-clause-entry : goal.returns-clause-entry
-returns-clause-entry g c =
-    let old : Picture g.M.Levels.mode = picture_of c.args.core.now in
+    let resident = resident_page old c.args.spot.now.pid c.args.spot.now.page c.args.attr c.requires.spot.linked.fit.granting (mapped_page old c.args.spot.now.pid c.args.spot.now.page c.args.attr c.requires.spot.linked.fit.granting c.requires.attr) c.requires.attr c.requires.resident c.requires.here in
     let new : Picture g.M.Levels.mode = picture_of c.set_full.new.core in
-    let e = c.number_at-was.ensures in
-    let full = full_entry_now old new c.args.spot.now.pid c.args.spot.now.page c.args.spot.now.root.0 c.args.attr c.frame_number.result.0 c.is_private.result c.requires.spot.linked c.requires.spot.root c.requires.attr
-    c.set_full.ensures.sets (beside_around c.args.core.now c.set_full.new.core c.set_full.ensures.rest) in
+    let full = full_entry_now old new c.args.spot.now.pid c.args.spot.now.page c.args.spot.now.root.0 c.args.attr c.frame_number.result.0 c.is_private.result c.requires.spot.linked c.requires.spot.root c.requires.attr c.set_full.ensures.sets (beside_around c.args.core.now c.set_full.new.core c.set_full.ensures.rest) in
     let now = entry new c.args.spot.now.pid c.args.spot.now.page in
     let P : ℕ → Type 0 = λ x. IsFullEntry old c.args.attr x c.is_private.result now in
     let Q : Bool → Type 0 = λ x. IsFullEntry old c.args.attr (frame_of (entry old c.args.spot.now.pid c.args.spot.now.page)) x now in
-    subst Q (c.is_private.ensures ∙ ap is_private e) (subst P (c.frame_number.ensures ∙ ap frame_of e) full)
-
-pub returns-clause-files : goal.returns-clause-files
-returns-clause-files g c =
-    full_files (picture_of c.args.core.now) (picture_of c.set_full.new.core) c.args.spot.now.pid c.args.spot.now.page c.args.spot.now.root.0 c.args.attr c.frame_number.result.0 c.is_private.result c.requires.spot.linked
-    c.requires.spot.root c.requires.attr c.set_full.ensures.sets (beside_around c.args.core.now c.set_full.new.core c.set_full.ensures.rest)
-
-pub set_full-requires-clause-user : goal.set_full-requires-clause-user
-set_full-requires-clause-user g c = ((c.requires.spot.linked.fit.granting.user c.args.spot.now.pid).user_pages c.args.spot.now.page (ap is_some c.requires.attr)).1
+    record {
+      enters = enters_set c.args.core.now c.set_full.new.core c.args.spot.now.pid c.args.spot.now.page c.args.spot.now.root.0 c.args.attr c.frame_number.result.0 c.is_private.result c.requires.spot.linked c.requires.spot.root c.requires.attr
+          sets c.set_full.ensures.rest c.set_full.ensures.not_refused
+          (seat_kept (entry old c.args.spot.now.pid c.args.spot.now.page) sets.0 c.args.attr c.frame_number.result.0 c.is_private.result _ _ sets.1 own (λ _. is) c.requires.here)
+          (λ p. resident.private (sym own ∙ p))
+          (λ common. let P : ℕ → Type 0 = λ x. IsBehind old c.args.attr.backing x in subst P (sym is) (resident.behind (sym own ∙ common))) resident.inside;
+      files = full_files (picture_of c.args.core.now) (picture_of c.set_full.new.core) c.args.spot.now.pid c.args.spot.now.page c.args.spot.now.root.0 c.args.attr c.frame_number.result.0 c.is_private.result c.requires.spot.linked
+          c.requires.spot.root c.requires.attr c.set_full.ensures.sets (beside_around c.args.core.now c.set_full.new.core c.set_full.ensures.rest);
+      entry = subst Q (c.is_private.ensures ∙ ap is_private e) (subst P (c.frame_number.ensures ∙ ap frame_of e) full);
+    }

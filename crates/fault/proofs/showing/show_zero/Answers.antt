@@ -16,29 +16,23 @@ set_full-requires-clause-root g c = c.requires.spot.linked.fit.rooted.roots c.ar
 pub set_full-requires-clause-inside : goal.set_full-requires-clause-inside
 set_full-requires-clause-inside g c = let least = c.args.core.now.sound.least in omega (arith, least)
 
-pub returns-clause-enters : goal.returns-clause-enters
-returns-clause-enters g c =
-    let old : Picture g.M.Levels.mode = picture_of c.args.core.now in
-    let sets = c.set_full.ensures.sets in
-    enters_set c.args.core.now c.set_full.new.core c.args.spot.now.pid c.args.spot.now.page c.args.spot.now.root.0 c.args.attr 0 false c.requires.spot.linked c.requires.spot.root c.requires.attr
-    sets c.set_full.ensures.rest c.set_full.ensures.not_refused
-    (seat_over_common sets.0 c.args.attr 0 _ _ sets.1 ∙ sym (seat_zero (entry old c.args.spot.now.pid c.args.spot.now.page) c.requires.none))
-    (λ own. absurd (false≢true own)) (λ _. let P : Backing → Type 0 = λ b. IsBehind old b 0 in subst P (sym c.requires.anonymous) refl)
-    (ap (λ b. is_past_end old.files b) c.requires.anonymous)
-
-pub returns-clause-entry : goal.returns-clause-entry
-returns-clause-entry g c =
-    let old : Picture g.M.Levels.mode = picture_of c.args.core.now in
-    let new : Picture g.M.Levels.mode = picture_of c.set_full.new.core in
-    let full = full_entry_now old new c.args.spot.now.pid c.args.spot.now.page c.args.spot.now.root.0 c.args.attr 0 false c.requires.spot.linked c.requires.spot.root c.requires.attr
-    c.set_full.ensures.sets (beside_around c.args.core.now c.set_full.new.core c.set_full.ensures.rest) in
-    let P : Backing → Type 0 = λ b. IsFullEntry old (record { prot = c.args.attr.prot; backing = b }) 0 false (entry new c.args.spot.now.pid c.args.spot.now.page) in
-    subst P c.requires.anonymous full
-
-pub returns-clause-files : goal.returns-clause-files
-returns-clause-files g c =
-    full_files (picture_of c.args.core.now) (picture_of c.set_full.new.core) c.args.spot.now.pid c.args.spot.now.page c.args.spot.now.root.0 c.args.attr 0 false c.requires.spot.linked
-    c.requires.spot.root c.requires.attr c.set_full.ensures.sets (beside_around c.args.core.now c.set_full.new.core c.set_full.ensures.rest)
-
 pub set_full-requires-clause-user : goal.set_full-requires-clause-user
 set_full-requires-clause-user g c = ((c.requires.spot.linked.fit.granting.user c.args.spot.now.pid).user_pages c.args.spot.now.page (ap is_some c.requires.attr)).1
+
+pub returns : goal.returns
+returns g c =
+    let old : Picture g.M.Levels.mode = picture_of c.args.core.now in
+    let sets = c.set_full.ensures.sets in
+    let new : Picture g.M.Levels.mode = picture_of c.set_full.new.core in
+    let full = full_entry_now old new c.args.spot.now.pid c.args.spot.now.page c.args.spot.now.root.0 c.args.attr 0 false c.requires.spot.linked c.requires.spot.root c.requires.attr c.set_full.ensures.sets (beside_around c.args.core.now c.set_full.new.core c.set_full.ensures.rest) in
+    let P : Backing → Type 0 = λ b. IsFullEntry old (record { prot = c.args.attr.prot; backing = b }) 0 false (entry new c.args.spot.now.pid c.args.spot.now.page) in
+    record {
+      enters = enters_set c.args.core.now c.set_full.new.core c.args.spot.now.pid c.args.spot.now.page c.args.spot.now.root.0 c.args.attr 0 false c.requires.spot.linked c.requires.spot.root c.requires.attr
+          sets c.set_full.ensures.rest c.set_full.ensures.not_refused
+          (seat_over_common sets.0 c.args.attr 0 _ _ sets.1 ∙ sym (seat_zero (entry old c.args.spot.now.pid c.args.spot.now.page) c.requires.none))
+          (λ own. absurd (false≢true own)) (λ _. let P : Backing → Type 0 = λ b. IsBehind old b 0 in subst P (sym c.requires.anonymous) refl)
+          (ap (λ b. is_past_end old.files b) c.requires.anonymous);
+      files = full_files (picture_of c.args.core.now) (picture_of c.set_full.new.core) c.args.spot.now.pid c.args.spot.now.page c.args.spot.now.root.0 c.args.attr 0 false c.requires.spot.linked
+          c.requires.spot.root c.requires.attr c.set_full.ensures.sets (beside_around c.args.core.now c.set_full.new.core c.set_full.ensures.rest);
+      entry = subst P c.requires.anonymous full;
+    }

@@ -15,7 +15,8 @@ use Rattle.residency.proofs.Entries.{entry-of}
 use Rattle.residency.proofs.Taking.{changes_taken}
 use Rattle.fault.proofs.Entering.{beside_around}
 use Rattle.fault.proofs.Forms.{mapped_page}
-use Rattle.fault.proofs.SwapSteps.{swapped_form, away_seat, changes_written, changes_spent, full_count, ready_released}
+use Rattle.fault.proofs.SwapSteps.{changes_written, changes_spent, full_count, ready_released}
+use Rattle.residency.proofs.SeatForms.{swapped_form, away_seat}
 use Rattle.residency.specs.Calls.{UsesDevice}
 use Rattle.regions.proofs.ResultLemmas.{on_err}
 use Rattle.residency.specs.Capacity.{IsShort}

@@ -1,184 +1,167 @@
-use Rattle.std.proofs.Common.{ℕ, inl, inr, refl, ◌∙◌, sym, subst}
-use Rattle.disk_model.specs.Moments.{Nothing}
-use Rattle.disk_model.proofs.Moments.{then, wider, stays, asks_then, asks_wider}
-use Rattle.file_store.specs.declared.faults.FormatFault.TheVariants.{Device}
+use Rattle.std.proofs.Common.{◌≡◌, ◌≤◌, ℕ, Err, inl, inr, refl, ◌∙◌, sym, ap, subst, ⊎_elim, arith, rules}
 use Rattle.std.proofs.lemmas.Bool.{false≢true}
-use Rattle.file_store.specs.Format.{total_pages, IsTooLarge, IsFrom, IsMarkSector, IsUnmarkedSector, IsStoreSector, IsStoreOf, IsKindlessStoreOf}
+use Rattle.disk_model.proofs.Moments.{stays}
+use Rattle.sync_journal.specs.declared.store_journal.Journals.{Journals}
+use Rattle.disk_model.specs.Moments.{Nothing}
+use Rattle.disk_model.specs.Stop.{Image}
+use Rattle.file_store.specs.declared.faults.FormatFault.TheVariants.{Device}
+use Rattle.file_store.specs.Format.{total_pages, IsTooLarge, IsMarkSector, IsUnmarkedSector, IsStoreSector, IsStoreOf, IsKindlessStoreOf}
+use Rattle.file_store.proofs.Causes.{same_Err}
+use Rattle.file_store.proofs.Filling.{causes_later, causes_device, causes_none}
+use Rattle.file_store.proofs.Formats.{kindless_moves, whole_of_kind, marked_whole, store_whole}
 use Rattle.file_store.proofs.Images.{unmarked_from}
-use Rattle.file_store.proofs.Causes.{not_refused}
+use Rattle.file_store.proofs.Looking.{ok_is_no_err}
+use Rattle.file_store.proofs.Making.{makes_more, makes_of}
+use Rattle.file_store.specs.Versions.{version_of, mark_of}
+use Rattle.file_store.proofs.Marking.{LeavesNoPart, nothing_made, unmarked_made, marked_made, looked_makes, when_looking, when_filling, when_marking, format_refused}
 use Rattle.file_store.proofs.NewStores.{store_fits}
-use Rattle.file_store.proofs.Formats.{kindless_moves, whole_of_kind, while_unmarked, while_marking, marked_whole, store_whole}
-use Rattle.file_store.specs.Blocks.MakesByBlocks.{Unmarked}
-use Rattle.sync_journal.specs.declared.store_journal.Journals.TheVariants.{Paired}
-use Rattle.file_store.proofs.Blocks.{behind_more, last_more, first_epoch, made_last, made_marked}
 use Rattle.file_store.proofs.formatting.format.Goals as goal
 
-pub returns-in_err-check_unmarked-clause-any_moment : goal.returns-in_err-check_unmarked-clause-any_moment
-returns-in_err-check_unmarked-clause-any_moment g c = λ keeps synced unmarked.
+pub returns-then-is_too_large : goal.returns-then-is_too_large
+returns-then-is_too_large g c =
+    let d = g.D.SectorDisk in
+    let old = c.args.disk.now in
+    let Whole : Journals → Image → Type 0 = λ b. IsStoreOf b g.R.Read.remaining (d.sector_count old) c.args.sources.now in
+    record {
+      ok = search rules;
+      marked = search rules;
+      synced = search rules;
+      whole = search rules;
+      any_moment = λ k. (nothing_made d c.args.journals Whole old (λ image left. g.met.D.SectorDisk.only_now old image k left) old (stays d Nothing old)).any_moment;
+      blocks = λ k. (nothing_made d c.args.journals Whole old (λ image left. g.met.D.SectorDisk.only_now old image k left) old (stays d Nothing old)).blocks;
+      size = search rules;
+      kept = search rules;
+      later = search rules;
+      asks = search rules;
+      too_large = search rules;
+      formatted = search rules;
+      not_formatted = search rules;
+      unwritten = search rules;
+      source = search rules;
+      causes = search rules;
+    }
+
+pub returns-in_err-check_unmarked : goal.returns-in_err-check_unmarked
+returns-in_err-check_unmarked g c =
+    let d = g.D.SectorDisk in
+    let old = c.args.disk.now in
+    let mid = c.check_unmarked.new.disk in
+    let kind = c.args.journals in
     let sources = c.args.sources.now in
-    let before = c.check_unmarked.ensures.kept keeps in
-    while_unmarked g.D.SectorDisk (IsStoreOf c.args.journals g.R.Read.remaining (g.D.SectorDisk.sector_count c.args.disk.now) sources) c.args.disk.now
-    (λ image left. g.met.D.SectorDisk.only_now c.args.disk.now image before left) synced unmarked c.check_unmarked.new.disk
-    (wider g.D.SectorDisk Nothing (IsFrom 1) c.args.disk.now c.check_unmarked.new.disk (λ k none. absurd none) (c.check_unmarked.ensures.touches keeps))
+    let Whole : Journals → Image → Type 0 = λ b. IsStoreOf b g.R.Read.remaining (d.sector_count old) sources in
+    let check = c.check_unmarked.ensures in
+    let e = c.in_err-check_unmarked.ensures in
+    let fault = c.in_err-check_unmarked.field-0.0 in
+    format_refused d kind g.R.Read.remaining sources old mid fault c.from_residual.result c.from_residual.ensures.1
+    (λ bad. absurd (false≢true (sym c.if-is_too_large.false ∙ c.is_too_large.ensures.1 (subst (λ n. IsTooLarge kind n sources) (sym c.sectors.ensures) bad))))
+    (when_looking fault e.others).0 (looked_makes d (IsStoreSector kind (total_pages sources)) old mid (λ s at. inl at) check.run check.asks) e.causes
+    (λ k. nothing_made d kind Whole old (λ image left. g.met.D.SectorDisk.only_now old image (check.run.kept k) left) mid (check.run.touches k))
+    (λ k is. e.marked k (ap Err is)) (λ k mark. ⊎_elim (λ e. inl (same_Err _ _ e)) (λ e. inr (same_Err _ _ e)) e.others) (λ k is. check.run.touches k)
+    (λ is. absurd ((when_looking fault e.others).1 is))
 
-pub returns-in_err-write_unmarked-clause-unwritten : goal.returns-in_err-write_unmarked-clause-unwritten
-returns-in_err-write_unmarked-clause-unwritten g c = λ keeps refused. absurd (not_refused c.from_residual-in_err-write_unmarked.result c.in_err-write_unmarked.field-0.0
-    c.from_residual-in_err-write_unmarked.ensures.1 c.in_err-write_unmarked.ensures.others refused)
-
-pub returns-in_err-write_unmarked-clause-any_moment : goal.returns-in_err-write_unmarked-clause-any_moment
-returns-in_err-write_unmarked-clause-any_moment g c = λ keeps synced unmarked.
+pub returns-in_err-write_unmarked : goal.returns-in_err-write_unmarked
+returns-in_err-write_unmarked g c =
+    let d = g.D.SectorDisk in
+    let old = c.args.disk.now in
+    let mid = c.check_unmarked.new.disk in
+    let made = c.write_unmarked.new.disk in
+    let kind = c.args.journals in
     let sources = c.args.sources.now in
-    let w = c.write_unmarked.ensures.run in
-    let mid = w.kept keeps in
-    let before = c.check_unmarked.ensures.kept mid in
-    while_unmarked g.D.SectorDisk (IsStoreOf c.args.journals g.R.Read.remaining (g.D.SectorDisk.sector_count c.args.disk.now) sources) c.args.disk.now
-    (λ image left. g.met.D.SectorDisk.only_now c.args.disk.now image before left) synced unmarked c.write_unmarked.new.disk
-    (then g.D.SectorDisk (IsFrom 1) c.args.disk.now c.check_unmarked.new.disk c.write_unmarked.new.disk
-    (wider g.D.SectorDisk Nothing (IsFrom 1) c.args.disk.now c.check_unmarked.new.disk (λ k none. absurd none) (c.check_unmarked.ensures.touches mid))
-    (wider g.D.SectorDisk (IsUnmarkedSector c.args.journals (total_pages c.args.sources.now)) (IsFrom 1) c.check_unmarked.new.disk c.write_unmarked.new.disk (unmarked_from c.args.journals (total_pages c.args.sources.now)) (w.touches keeps)))
+    let sectors = d.sector_count old in
+    let Whole : Journals → Image → Type 0 = λ b. IsStoreOf b g.R.Read.remaining sectors sources in
+    let W : ℕ → Type 0 = IsStoreSector kind (total_pages sources) in
+    let check = c.check_unmarked.ensures in
+    let w = c.write_unmarked.ensures in
+    let e = c.in_err-write_unmarked.ensures in
+    let fault = c.in_err-write_unmarked.field-0.0 in
+    let known : IsTooLarge kind sectors sources → ⊥ = λ bad. absurd (false≢true (sym c.if-is_too_large.false ∙ c.is_too_large.ensures.1 (subst (λ n. IsTooLarge kind n sources) (sym c.sectors.ensures) bad))) in
+    let fits = store_fits kind sectors sources known in
+    let other = when_filling fault e.fills.others in
+    format_refused d kind g.R.Read.remaining sources old made fault c.from_residual-in_err-write_unmarked.result c.from_residual-in_err-write_unmarked.ensures.1 known other.0
+    (makes_more d W old mid made (looked_makes d W old mid (λ s at. inl at) check.run check.asks) (makes_of d (IsUnmarkedSector kind (total_pages sources)) W mid made (λ s at. inr at) w.fills.run))
+    (causes_later fault _ _ _ c.in_ok-check_unmarked.ensures.causes.calm e.fills.causes)
+    (λ k. let before = w.fills.run.kept k in
+    unmarked_made d kind Whole old (λ image left. g.met.D.SectorDisk.only_now old image (check.run.kept before) left) mid (check.run.touches before)
+    (IsUnmarkedSector kind (total_pages sources)) (unmarked_from kind (total_pages sources)) (IsKindlessStoreOf g.R.Read.remaining sources) (IsKindlessStoreOf g.R.Read.remaining sources) (λ image q. q)
+    (λ paired. whole_of_kind g.R.Read.remaining sources kind sectors paired fits.0 fits.1) made (w.fills.run.touches k) (w.last k).epochs)
+    (λ k is. absurd (other.1 is)) (λ k mark. absurd (c.in_ok-check_unmarked.ensures.unmarked (w.fills.run.kept k) mark)) (λ k is. absurd (other.1 is)) (λ is. e.fills.source (ap Err is))
 
-pub returns-in_err-write_mark-clause-any_moment : goal.returns-in_err-write_mark-clause-any_moment
-returns-in_err-write_mark-clause-any_moment g c = λ keeps synced unmarked.
+pub returns-in_err-write_mark : goal.returns-in_err-write_mark
+returns-in_err-write_mark g c =
+    let d = g.D.SectorDisk in
+    let old = c.args.disk.now in
+    let mid = c.check_unmarked.new.disk in
+    let made = c.write_unmarked.new.disk in
+    let new = c.write_mark.new.disk in
+    let kind = c.args.journals in
     let sources = c.args.sources.now in
-    let m = c.write_mark.ensures.run in
-    let w = c.write_unmarked.ensures.run in
-    let last = m.kept keeps in
-    let mid = w.kept last in
-    let before = c.check_unmarked.ensures.kept mid in
-    let all = c.in_ok-write_unmarked.ensures in
-    let fits = store_fits c.args.journals (g.D.SectorDisk.sector_count c.args.disk.now) sources
-    (λ bad. absurd (false≢true (sym c.if-is_too_large.false ∙ c.is_too_large.ensures.1 (subst (λ n. IsTooLarge c.args.journals n sources) (sym c.sectors.ensures) bad)))) in
-    while_marking g.D.SectorDisk (IsStoreOf c.args.journals g.R.Read.remaining (g.D.SectorDisk.sector_count c.args.disk.now) sources) c.args.disk.now
-    (λ image left. g.met.D.SectorDisk.only_now c.args.disk.now image before left) synced unmarked c.write_unmarked.new.disk c.write_mark.new.disk
-    (then g.D.SectorDisk (IsFrom 1) c.args.disk.now c.check_unmarked.new.disk c.write_unmarked.new.disk
-    (wider g.D.SectorDisk Nothing (IsFrom 1) c.args.disk.now c.check_unmarked.new.disk (λ k none. absurd none) (c.check_unmarked.ensures.touches mid))
-    (wider g.D.SectorDisk (IsUnmarkedSector c.args.journals (total_pages c.args.sources.now)) (IsFrom 1) c.check_unmarked.new.disk c.write_unmarked.new.disk (unmarked_from c.args.journals (total_pages c.args.sources.now)) (w.touches last)))
-    (all.synced last) (store_whole c.args.journals g.R.Read.remaining (g.D.SectorDisk.sector_count c.args.disk.now) sources (g.D.SectorDisk.content c.write_unmarked.new.disk) (all.written last) fits.0 fits.1)
-    (m.touches keeps)
+    let sectors = d.sector_count old in
+    let Whole : Journals → Image → Type 0 = λ b. IsStoreOf b g.R.Read.remaining sectors sources in
+    let W : ℕ → Type 0 = IsStoreSector kind (total_pages sources) in
+    let check = c.check_unmarked.ensures in
+    let w = c.in_ok-write_unmarked.ensures in
+    let m = c.write_mark.ensures.writes.run in
+    let known : IsTooLarge kind sectors sources → ⊥ = λ bad. absurd (false≢true (sym c.if-is_too_large.false ∙ c.is_too_large.ensures.1 (subst (λ n. IsTooLarge kind n sources) (sym c.sectors.ensures) bad))) in
+    let fits = store_fits kind sectors sources known in
+    let failed = c.in_err-write_mark.ensures.writes.failed refl in
+    let calm = w.fills.calm ∙ c.in_ok-check_unmarked.ensures.causes.calm in
+    format_refused d kind g.R.Read.remaining sources old new Device c.from_residual-in_err-write_mark.result c.from_residual-in_err-write_mark.ensures.1 known when_marking.0
+    (makes_more d W old made new
+    (makes_more d W old mid made (looked_makes d W old mid (λ s at. inl at) check.run check.asks) (makes_of d (IsUnmarkedSector kind (total_pages sources)) W mid made (λ s at. inr at) w.fills.run))
+    (makes_of d IsMarkSector W made new (λ s at. inl at) m))
+    (causes_device _ _ (omega (arith, failed, calm)))
+    (λ k. let last = m.kept k in
+    let before = w.fills.run.kept last in
+    marked_made d kind Whole old (λ image left. g.met.D.SectorDisk.only_now old image (check.run.kept before) left) mid (check.run.touches before)
+    (IsUnmarkedSector kind (total_pages sources)) (unmarked_from kind (total_pages sources)) (IsKindlessStoreOf g.R.Read.remaining sources) (IsKindlessStoreOf g.R.Read.remaining sources) (λ image q. q)
+    (λ paired. whole_of_kind g.R.Read.remaining sources kind sectors paired fits.0 fits.1) made (w.fills.run.touches last) (w.last last).kind_behind (w.synced last)
+    (store_whole kind g.R.Read.remaining sectors sources (d.content made) (w.written last) fits.0 fits.1) (kindless_moves g.R.Read.remaining sources) new (m.touches k))
+    (λ k is. absurd (when_marking.1.0 is)) (λ k mark. inr refl) (λ k is. absurd (when_marking.1.0 is)) (λ is. absurd (when_marking.1.1 is))
 
-pub returns-clause-ok : goal.returns-clause-ok
-returns-clause-ok g c = λ keeps.
+pub returns : goal.returns
+returns g c =
+    let d = g.D.SectorDisk in
+    let old = c.args.disk.now in
+    let mid = c.check_unmarked.new.disk in
+    let made = c.write_unmarked.new.disk in
+    let new = c.write_mark.new.disk in
+    let kind = c.args.journals in
     let sources = c.args.sources.now in
-    let m = c.write_mark.ensures.run in
-    let fits = store_fits c.args.journals (g.D.SectorDisk.sector_count c.args.disk.now) sources
-    (λ bad. absurd (false≢true (sym c.if-is_too_large.false ∙ c.is_too_large.ensures.1 (subst (λ n. IsTooLarge c.args.journals n sources) (sym c.sectors.ensures) bad)))) in
-    marked_whole g.D.SectorDisk (IsStoreOf c.args.journals g.R.Read.remaining (g.D.SectorDisk.sector_count c.args.disk.now) sources) c.args.journals c.write_unmarked.new.disk c.write_mark.new.disk
-    (store_whole c.args.journals g.R.Read.remaining (g.D.SectorDisk.sector_count c.args.disk.now) sources (g.D.SectorDisk.content c.write_unmarked.new.disk)
-    (c.in_ok-write_unmarked.ensures.written (m.kept keeps)) fits.0 fits.1) (c.in_ok-write_unmarked.ensures.written (m.kept keeps)).of_kind (m.touches keeps) (c.in_ok-write_mark.ensures.marked keeps)
-
-pub returns-clause-any_moment : goal.returns-clause-any_moment
-returns-clause-any_moment g c = λ keeps synced unmarked.
-    let sources = c.args.sources.now in
-    let m = c.write_mark.ensures.run in
-    let w = c.write_unmarked.ensures.run in
-    let last = m.kept keeps in
-    let mid = w.kept last in
-    let before = c.check_unmarked.ensures.kept mid in
-    let all = c.in_ok-write_unmarked.ensures in
-    let fits = store_fits c.args.journals (g.D.SectorDisk.sector_count c.args.disk.now) sources
-    (λ bad. absurd (false≢true (sym c.if-is_too_large.false ∙ c.is_too_large.ensures.1 (subst (λ n. IsTooLarge c.args.journals n sources) (sym c.sectors.ensures) bad)))) in
-    while_marking g.D.SectorDisk (IsStoreOf c.args.journals g.R.Read.remaining (g.D.SectorDisk.sector_count c.args.disk.now) sources) c.args.disk.now
-    (λ image left. g.met.D.SectorDisk.only_now c.args.disk.now image before left) synced unmarked c.write_unmarked.new.disk c.write_mark.new.disk
-    (then g.D.SectorDisk (IsFrom 1) c.args.disk.now c.check_unmarked.new.disk c.write_unmarked.new.disk
-    (wider g.D.SectorDisk Nothing (IsFrom 1) c.args.disk.now c.check_unmarked.new.disk (λ k none. absurd none) (c.check_unmarked.ensures.touches mid))
-    (wider g.D.SectorDisk (IsUnmarkedSector c.args.journals (total_pages c.args.sources.now)) (IsFrom 1) c.check_unmarked.new.disk c.write_unmarked.new.disk (unmarked_from c.args.journals (total_pages c.args.sources.now)) (w.touches last)))
-    (all.synced last) (store_whole c.args.journals g.R.Read.remaining (g.D.SectorDisk.sector_count c.args.disk.now) sources (g.D.SectorDisk.content c.write_unmarked.new.disk) (all.written last) fits.0 fits.1)
-    (m.touches keeps)
-
-pub returns-in_err-check_unmarked-clause-asks : goal.returns-in_err-check_unmarked-clause-asks
-returns-in_err-check_unmarked-clause-asks g c = let pages = total_pages c.args.sources.now in
-    let W : ℕ → Type 0 = IsStoreSector c.args.journals pages in
-    let d = g.D.SectorDisk in
-    asks_wider d IsMarkSector W c.args.disk.now c.check_unmarked.new.disk (λ k at. inl at) c.check_unmarked.ensures.asks
-
-pub returns-in_err-write_unmarked-clause-asks : goal.returns-in_err-write_unmarked-clause-asks
-returns-in_err-write_unmarked-clause-asks g c = let pages = total_pages c.args.sources.now in
-    let W : ℕ → Type 0 = IsStoreSector c.args.journals pages in
-    let d = g.D.SectorDisk in
-    asks_then d W c.args.disk.now c.check_unmarked.new.disk c.write_unmarked.new.disk
-    (asks_wider d IsMarkSector W c.args.disk.now c.check_unmarked.new.disk (λ k at. inl at) c.check_unmarked.ensures.asks)
-    (asks_wider d (IsUnmarkedSector c.args.journals pages) W c.check_unmarked.new.disk c.write_unmarked.new.disk (λ k at. inr at) c.write_unmarked.ensures.run.asks)
-
-pub returns-in_err-write_mark-clause-asks : goal.returns-in_err-write_mark-clause-asks
-returns-in_err-write_mark-clause-asks g c = let pages = total_pages c.args.sources.now in
-    let W : ℕ → Type 0 = IsStoreSector c.args.journals pages in
-    let d = g.D.SectorDisk in
-    asks_then d W c.args.disk.now c.write_unmarked.new.disk c.write_mark.new.disk
-    (asks_then d W c.args.disk.now c.check_unmarked.new.disk c.write_unmarked.new.disk
-    (asks_wider d IsMarkSector W c.args.disk.now c.check_unmarked.new.disk (λ k at. inl at) c.check_unmarked.ensures.asks)
-    (asks_wider d (IsUnmarkedSector c.args.journals pages) W c.check_unmarked.new.disk c.write_unmarked.new.disk (λ k at. inr at) c.write_unmarked.ensures.run.asks))
-    (asks_wider d IsMarkSector W c.write_unmarked.new.disk c.write_mark.new.disk (λ k at. inl at) c.write_mark.ensures.run.asks)
-
-pub returns-clause-asks : goal.returns-clause-asks
-returns-clause-asks g c = let pages = total_pages c.args.sources.now in
-    let W : ℕ → Type 0 = IsStoreSector c.args.journals pages in
-    let d = g.D.SectorDisk in
-    asks_then d W c.args.disk.now c.write_unmarked.new.disk c.write_mark.new.disk
-    (asks_then d W c.args.disk.now c.check_unmarked.new.disk c.write_unmarked.new.disk
-    (asks_wider d IsMarkSector W c.args.disk.now c.check_unmarked.new.disk (λ k at. inl at) c.check_unmarked.ensures.asks)
-    (asks_wider d (IsUnmarkedSector c.args.journals pages) W c.check_unmarked.new.disk c.write_unmarked.new.disk (λ k at. inr at) c.write_unmarked.ensures.run.asks))
-    (asks_wider d IsMarkSector W c.write_unmarked.new.disk c.write_mark.new.disk (λ k at. inl at) c.write_mark.ensures.run.asks)
-
-pub returns-in_err-write_unmarked-clause-not_formatted : goal.returns-in_err-write_unmarked-clause-not_formatted
-returns-in_err-write_unmarked-clause-not_formatted g c = λ keeps marked. absurd (c.in_ok-check_unmarked.ensures.unmarked (c.write_unmarked.ensures.run.kept keeps) marked)
-
-pub returns-clause-not_formatted : goal.returns-clause-not_formatted
-returns-clause-not_formatted g c = λ keeps marked. absurd (c.in_ok-check_unmarked.ensures.unmarked (c.write_unmarked.ensures.run.kept (c.write_mark.ensures.run.kept keeps)) marked)
-
-pub returns-in_err-write_mark-clause-unwritten : goal.returns-in_err-write_mark-clause-unwritten
-returns-in_err-write_mark-clause-unwritten g c = λ keeps refused. absurd (not_refused c.from_residual-in_err-write_mark.result Device c.from_residual-in_err-write_mark.ensures.1 (inr refl) refused)
-
-pub returns-then-is_too_large-clause-blocks : goal.returns-then-is_too_large-clause-blocks
-returns-then-is_too_large-clause-blocks g c = λ keeps synced unmarked paired.
-    let d = g.D.SectorDisk in
-    let Whole = IsStoreOf Paired g.R.Read.remaining (d.sector_count c.args.disk.now) c.args.sources.now in
-    Unmarked (first_epoch d Whole c.args.disk.now synced unmarked c.args.disk.now (stays d (IsFrom 8) c.args.disk.now))
-
-pub returns-in_err-check_unmarked-clause-blocks : goal.returns-in_err-check_unmarked-clause-blocks
-returns-in_err-check_unmarked-clause-blocks g c = λ keeps synced unmarked paired.
-    let d = g.D.SectorDisk in
-    let Whole = IsStoreOf Paired g.R.Read.remaining (d.sector_count c.args.disk.now) c.args.sources.now in
-    Unmarked (first_epoch d Whole c.args.disk.now synced unmarked c.check_unmarked.new.disk
-    (wider d Nothing (IsFrom 8) c.args.disk.now c.check_unmarked.new.disk (λ k none. absurd none) (c.check_unmarked.ensures.touches keeps)))
-
-pub returns-in_err-write_unmarked-clause-blocks : goal.returns-in_err-write_unmarked-clause-blocks
-returns-in_err-write_unmarked-clause-blocks g c = λ keeps synced unmarked paired.
-    let d = g.D.SectorDisk in
-    let Whole = IsStoreOf Paired g.R.Read.remaining (d.sector_count c.args.disk.now) c.args.sources.now in
-    let fits = store_fits c.args.journals (d.sector_count c.args.disk.now) c.args.sources.now
-    (λ bad. absurd (false≢true (sym c.if-is_too_large.false ∙ c.is_too_large.ensures.1 (subst (λ n. IsTooLarge c.args.journals n c.args.sources.now) (sym c.sectors.ensures) bad)))) in
-    let Q = IsKindlessStoreOf g.R.Read.remaining c.args.sources.now in
-    let whole = whole_of_kind g.R.Read.remaining c.args.sources.now c.args.journals (d.sector_count c.args.disk.now) paired fits.0 fits.1 in
-    let mid = c.write_unmarked.ensures.run.kept keeps in
-    made_last d Whole c.args.disk.now synced unmarked Q whole c.write_unmarked.new.disk
-    (last_more d (IsFrom 8) (IsFrom 8) Q Q c.args.disk.now c.check_unmarked.new.disk c.write_unmarked.new.disk (wider d Nothing (IsFrom 8) c.args.disk.now c.check_unmarked.new.disk (λ k none. absurd none) (c.check_unmarked.ensures.touches mid)) (λ k at. at) (λ c same q. q) (c.write_unmarked.ensures.epochs keeps paired))
-
-pub returns-in_err-write_mark-clause-blocks : goal.returns-in_err-write_mark-clause-blocks
-returns-in_err-write_mark-clause-blocks g c = λ keeps synced unmarked paired.
-    let d = g.D.SectorDisk in
-    let Whole = IsStoreOf Paired g.R.Read.remaining (d.sector_count c.args.disk.now) c.args.sources.now in
-    let fits = store_fits c.args.journals (d.sector_count c.args.disk.now) c.args.sources.now
-    (λ bad. absurd (false≢true (sym c.if-is_too_large.false ∙ c.is_too_large.ensures.1 (subst (λ n. IsTooLarge c.args.journals n c.args.sources.now) (sym c.sectors.ensures) bad)))) in
-    let Q = IsKindlessStoreOf g.R.Read.remaining c.args.sources.now in
-    let whole = whole_of_kind g.R.Read.remaining c.args.sources.now c.args.journals (d.sector_count c.args.disk.now) paired fits.0 fits.1 in
-    let last = c.write_mark.ensures.run.kept keeps in
-    let mid = c.write_unmarked.ensures.run.kept last in
-    made_marked d Whole c.args.disk.now synced unmarked Q whole c.write_unmarked.new.disk c.write_mark.new.disk (c.in_ok-write_unmarked.ensures.synced last)
-    (kindless_moves g.R.Read.remaining c.args.sources.now)
-    (behind_more d (IsFrom 8) (IsFrom 8) Q Q c.args.disk.now c.check_unmarked.new.disk c.write_unmarked.new.disk (wider d Nothing (IsFrom 8) c.args.disk.now c.check_unmarked.new.disk (λ k none. absurd none) (c.check_unmarked.ensures.touches mid)) (λ k at. at) (λ c same q. q) (c.in_ok-write_unmarked.ensures.kind_behind last paired))
-    (c.write_mark.ensures.run.touches keeps)
-
-pub returns-clause-blocks : goal.returns-clause-blocks
-returns-clause-blocks g c = λ keeps synced unmarked paired.
-    let d = g.D.SectorDisk in
-    let Whole = IsStoreOf Paired g.R.Read.remaining (d.sector_count c.args.disk.now) c.args.sources.now in
-    let fits = store_fits c.args.journals (d.sector_count c.args.disk.now) c.args.sources.now
-    (λ bad. absurd (false≢true (sym c.if-is_too_large.false ∙ c.is_too_large.ensures.1 (subst (λ n. IsTooLarge c.args.journals n c.args.sources.now) (sym c.sectors.ensures) bad)))) in
-    let Q = IsKindlessStoreOf g.R.Read.remaining c.args.sources.now in
-    let whole = whole_of_kind g.R.Read.remaining c.args.sources.now c.args.journals (d.sector_count c.args.disk.now) paired fits.0 fits.1 in
-    let last = c.write_mark.ensures.run.kept keeps in
-    let mid = c.write_unmarked.ensures.run.kept last in
-    made_marked d Whole c.args.disk.now synced unmarked Q whole c.write_unmarked.new.disk c.write_mark.new.disk (c.in_ok-write_unmarked.ensures.synced last)
-    (kindless_moves g.R.Read.remaining c.args.sources.now)
-    (behind_more d (IsFrom 8) (IsFrom 8) Q Q c.args.disk.now c.check_unmarked.new.disk c.write_unmarked.new.disk (wider d Nothing (IsFrom 8) c.args.disk.now c.check_unmarked.new.disk (λ k none. absurd none) (c.check_unmarked.ensures.touches mid)) (λ k at. at) (λ c same q. q) (c.in_ok-write_unmarked.ensures.kind_behind last paired))
-    (c.write_mark.ensures.run.touches keeps)
+    let sectors = d.sector_count old in
+    let Whole : Journals → Image → Type 0 = λ b. IsStoreOf b g.R.Read.remaining sectors sources in
+    let W : ℕ → Type 0 = IsStoreSector kind (total_pages sources) in
+    let check = c.check_unmarked.ensures in
+    let w = c.in_ok-write_unmarked.ensures in
+    let m = c.write_mark.ensures.writes.run in
+    let known : IsTooLarge kind sectors sources → ⊥ = λ bad. absurd (false≢true (sym c.if-is_too_large.false ∙ c.is_too_large.ensures.1 (subst (λ n. IsTooLarge kind n sources) (sym c.sectors.ensures) bad))) in
+    let fits = store_fits kind sectors sources known in
+    let run = makes_more d W old made new
+    (makes_more d W old mid made (looked_makes d W old mid (λ s at. inl at) check.run check.asks) (makes_of d (IsUnmarkedSector kind (total_pages sources)) W mid made (λ s at. inr at) w.fills.run))
+    (makes_of d IsMarkSector W made new (λ s at. inl at) m) in
+    let whole : d.keeps_model made → (c : Image) → ((k : ℕ) → 1 ≤ k → c k ≡ d.content made k) → c 0 ≡ mark_of (version_of c) → IsStoreOf kind g.R.Read.remaining sectors sources c =
+    λ last. store_whole kind g.R.Read.remaining sectors sources (d.content made) (w.written last) fits.0 fits.1 in
+    let leaves : d.keeps_model new → LeavesNoPart d kind Whole old new = λ k.
+    let last = m.kept k in
+    let before = w.fills.run.kept last in
+    marked_made d kind Whole old (λ image left. g.met.D.SectorDisk.only_now old image (check.run.kept before) left) mid (check.run.touches before)
+    (IsUnmarkedSector kind (total_pages sources)) (unmarked_from kind (total_pages sources)) (IsKindlessStoreOf g.R.Read.remaining sources) (IsKindlessStoreOf g.R.Read.remaining sources) (λ image q. q)
+    (λ paired. whole_of_kind g.R.Read.remaining sources kind sectors paired fits.0 fits.1) made (w.fills.run.touches last) (w.last last).kind_behind (w.synced last)
+    (whole last) (kindless_moves g.R.Read.remaining sources) new (m.touches k) in
+    record {
+      ok = λ k. marked_whole d (Whole kind) kind made new (whole (m.kept k)) (w.written (m.kept k)).of_kind (m.touches k) (c.in_ok-write_mark.ensures.marked k);
+      marked = c.in_ok-write_mark.ensures.marked;
+      synced = c.in_ok-write_mark.ensures.writes.synced;
+      whole = w.fills.whole;
+      any_moment = λ k. (leaves k).any_moment;
+      blocks = λ k. (leaves k).blocks;
+      size = run.size;
+      kept = run.kept;
+      later = run.later;
+      asks = run.asks;
+      too_large = (λ is. absurd (ok_is_no_err _ _ is), λ large. absurd (known large));
+      formatted = λ k is. absurd (ok_is_no_err _ _ is);
+      not_formatted = λ k mark. absurd (c.in_ok-check_unmarked.ensures.unmarked (w.fills.run.kept (m.kept k)) mark);
+      unwritten = λ k. ⊎_elim (λ is. absurd (ok_is_no_err _ _ is)) (λ is. absurd (ok_is_no_err _ _ is));
+      source = λ is. absurd (ok_is_no_err _ _ is);
+      causes = causes_none _ _ _ (c.in_ok-write_mark.ensures.writes.calm ∙ w.fills.calm ∙ c.in_ok-check_unmarked.ensures.causes.calm);
+    }

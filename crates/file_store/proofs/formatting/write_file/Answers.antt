@@ -1,8 +1,9 @@
-use Rattle.std.proofs.Common.{◌≡◌, ◌+◌, ◌*◌, ◌<◌, min, Some, drop, drop-drop, length-drop, sym, ap, subst, ◌∙◌, ⊎_elim, arith}
+use Rattle.std.proofs.Common.{◌≡◌, ◌+◌, ◌*◌, ◌<◌, min, Some, refl, drop, drop-drop, length-drop, sym, ap, subst, ◌∙◌, ⊎_elim, arith}
 use Rattle.std.proofs.lemmas.Bool.{cases_eq}
 use Rattle.sync_journal.specs.Kinds.{kind_home}
-use Rattle.file_store.specs.Layout.{page_count, bytes_inside, trimmed}
+use Rattle.file_store.specs.Layout.{pages_of_length, bytes_inside, padded_page}
 use Rattle.file_store.specs.Format.{told_by, page_given, IsHomesBetween, HoldsCut}
+use Rattle.file_store.proofs.Filling.{fills_failed}
 use Rattle.file_store.proofs.Making.{makes_more, makes_page}
 use Rattle.file_store.proofs.NewStores.{cut_moves, is_told}
 use Rattle.file_store.proofs.formatting.write_file.Goals as goal
@@ -15,21 +16,21 @@ loop-k-preserved g c =
     let remaining = g.R.Read.remaining in
     let content = g.D.SectorDisk.content in
     let length : c.loop-k.source.length ≡ c.args.source.now.length = ap (λ i. i.length) inv.info in
-    let below : c.loop-k.k < page_count c.args.source.now.length = omega (arith, c.loop-k-test.true, c.pages-k-end.ensures.count, length) in
+    let below : c.loop-k.k < pages_of_length c.args.source.now.length = omega (arith, c.loop-k-test.true, c.pages-k-end.ensures.count, length) in
     let more : 4096 * c.loop-k.k < c.args.source.now.length = omega (arith, c.loop-k-test.true, c.pages-k-end.ensures.count) in
     record {
-      run = makes_more g.D.SectorDisk (IsHomesBetween c.args.journals c.args.first (c.args.first + page_count c.args.source.now.length)) c.args.disk.now c.loop-k.disk c.write_page.new.disk inv.run
-          (makes_page g.D.SectorDisk (IsHomesBetween c.args.journals c.args.first (c.args.first + page_count c.args.source.now.length)) (c.first_home-homes.result + 8 * (c.args.first + c.loop-k.k)) c.loop-k.disk c.write_page.new.disk
+      run = makes_more g.D.SectorDisk (IsHomesBetween c.args.journals c.args.first (c.args.first + pages_of_length c.args.source.now.length)) c.args.disk.now c.loop-k.disk c.write_page.new.disk inv.run
+          (makes_page g.D.SectorDisk (IsHomesBetween c.args.journals c.args.first (c.args.first + pages_of_length c.args.source.now.length)) (c.first_home-homes.result + 8 * (c.args.first + c.loop-k.k)) c.loop-k.disk c.write_page.new.disk
           (λ k inside. (omega (arith, inside.0, c.first_home-homes.ensures.is), omega (arith, inside.1, c.first_home-homes.ensures.is, below))) c.write_page.ensures.run c.write_page.ensures.asks);
       calm = c.in_ok-write_page.ensures.calm ∙ inv.calm;
       info = c.read_page.ensures.info ∙ inv.info;
       left = λ told is.
           let e : min c.args.source.now.length (4096 * c.loop-k.k) + bytes_inside c.loop-k.source.length c.loop-k.k ≡ min c.args.source.now.length (4096 * (c.loop-k.k + 1)) = omega (arith, more, length) in
-          r.rest _ (inv.left told is)
+          r.told.rest _ (inv.left told is)
           ∙ ap Some (drop-drop (bytes_inside c.loop-k.source.length c.loop-k.k) (min c.args.source.now.length (4096 * c.loop-k.k)) told ∙ ap (λ n. drop n told) e);
       tells = λ told is.
           let before = inv.tells told is in
-          let now = r.tells _ before.1 in
+          let now = r.told.tells _ before.1 in
           let e : min c.args.source.now.length (4096 * c.loop-k.k) + bytes_inside c.loop-k.source.length c.loop-k.k ≡ min c.args.source.now.length (4096 * (c.loop-k.k + 1)) = omega (arith, more, length) in (
             omega (arith, e, before.0, now.0, length-drop (min c.args.source.now.length (4096 * c.loop-k.k)) told),
             now.1 ∙ ap Some (drop-drop (bytes_inside c.loop-k.source.length c.loop-k.k) (min c.args.source.now.length (4096 * c.loop-k.k)) told ∙ ap (λ n. drop n told) e),
@@ -39,14 +40,14 @@ loop-k-preserved g c =
           (λ same. subst (λ n. HoldsCut c.args.journals (c.args.first + n) (bytes_inside c.args.source.now.length n) (page_given remaining c.args.source.now n) (content c.write_page.new.disk))
           (sym same) (record {
             page = c.read_page.new.page;
-            zeros = ap (λ n. trimmed (bytes_inside n c.loop-k.k) c.read_page.new.page) (sym length) ∙ r.zeros;
+            zeros = ap (λ n. padded_page (bytes_inside n c.loop-k.k) c.read_page.new.page) (sym length) ∙ r.told.zeros;
             holds = λ i lt. ap (λ n. content c.write_page.new.disk (n + 8 * (c.args.first + c.loop-k.k) + i)) (sym c.first_home-homes.ensures.is) ∙ c.in_ok-write_page.ensures.written keeps i lt;
             is = λ page given.
                 let told = is_told c.args.source.now.length c.loop-k.k (told_by remaining c.args.source.now.bytes) page given in
                 let reached : min c.args.source.now.length (4096 * c.loop-k.k) ≡ 4096 * c.loop-k.k = omega (arith, more) in
-                r.page _ (inv.left told.bytes told.are)
-                ∙ ap (λ n. trimmed (bytes_inside n c.loop-k.k) (drop (min c.args.source.now.length (4096 * c.loop-k.k)) told.bytes)) length
-                ∙ ap (λ n. trimmed (bytes_inside c.args.source.now.length c.loop-k.k) (drop n told.bytes)) reached
+                r.told.page _ (inv.left told.bytes told.are)
+                ∙ ap (λ n. padded_page (bytes_inside n c.loop-k.k) (drop (min c.args.source.now.length (4096 * c.loop-k.k)) told.bytes)) length
+                ∙ ap (λ n. padded_page (bytes_inside c.args.source.now.length c.loop-k.k) (drop n told.bytes)) reached
                 ∙ sym told.page_is;
           }))
           (λ other. cut_moves c.args.journals (c.args.first + j) (bytes_inside c.args.source.now.length j) (page_given remaining c.args.source.now j)
@@ -56,10 +57,14 @@ loop-k-preserved g c =
           (cases_eq j c.loop-k.k);
     }
 
-pub returns-in_err-write_page-clause-run : goal.returns-in_err-write_page-clause-run
-returns-in_err-write_page-clause-run g c =
+pub returns-in_err-write_page-clause-fills : goal.returns-in_err-write_page-clause-fills
+returns-in_err-write_page-clause-fills g c =
     let length : c.loop-k.source.length ≡ c.args.source.now.length = ap (λ i. i.length) c.loop-k.invariant.info in
-    let below : c.loop-k.k < page_count c.args.source.now.length = omega (arith, c.loop-k-test.true, c.pages-k-end.ensures.count, length) in
-    makes_more g.D.SectorDisk (IsHomesBetween c.args.journals c.args.first (c.args.first + page_count c.args.source.now.length)) c.args.disk.now c.loop-k.disk c.write_page.new.disk c.loop-k.invariant.run
-    (makes_page g.D.SectorDisk (IsHomesBetween c.args.journals c.args.first (c.args.first + page_count c.args.source.now.length)) (c.first_home-homes.result + 8 * (c.args.first + c.loop-k.k)) c.loop-k.disk c.write_page.new.disk
-    (λ k inside. (omega (arith, inside.0, c.first_home-homes.ensures.is), omega (arith, inside.1, c.first_home-homes.ensures.is, below))) c.write_page.ensures.run c.write_page.ensures.asks)
+    let below : c.loop-k.k < pages_of_length c.args.source.now.length = omega (arith, c.loop-k-test.true, c.pages-k-end.ensures.count, length) in
+    let failed = c.in_err-write_page.ensures.failed refl in
+    let calm = c.loop-k.invariant.calm in
+    fills_failed g.D.SectorDisk _ _ _ c.args.disk.now c.write_page.new.disk
+    (makes_more g.D.SectorDisk (IsHomesBetween c.args.journals c.args.first (c.args.first + pages_of_length c.args.source.now.length)) c.args.disk.now c.loop-k.disk c.write_page.new.disk c.loop-k.invariant.run
+    (makes_page g.D.SectorDisk (IsHomesBetween c.args.journals c.args.first (c.args.first + pages_of_length c.args.source.now.length)) (c.first_home-homes.result + 8 * (c.args.first + c.loop-k.k)) c.loop-k.disk c.write_page.new.disk
+    (λ k inside. (omega (arith, inside.0, c.first_home-homes.ensures.is), omega (arith, inside.1, c.first_home-homes.ensures.is, below))) c.write_page.ensures.run c.write_page.ensures.asks))
+    c.from_residual-in_err-write_page.result c.from_residual-in_err-write_page.ensures.1 (omega (arith, failed, calm))

@@ -1,13 +1,13 @@
 use Rattle.std.proofs.Common.{◌≡◌, ◌≤◌, ◌+◌, ◌*◌, min, ℕ, List, Some, drop, length}
 use Rattle.std.specs.Prelude.{IsSome}
-use Rattle.file_store.specs.Format.{info_of, told_by, reader_tells, IsHomesBetween, HoldsPages}
-use Rattle.file_store.specs.Layout.{page_count}
+use Rattle.file_store.specs.Format.{info_of, told_by, reader_tells, IsHomesBetween, HoldsSourcePages}
+use Rattle.file_store.specs.Layout.{pages_of_length}
 use Rattle.file_store.specs.Making.{Makes}
 use Rattle.file_store.proofs.formatting.write_file.Given as goal
 
 abbrev pub invariant-loop-k : goal.invariant-loop-k
 invariant-loop-k g l = record {
-  run : Makes g.D.SectorDisk (IsHomesBetween l.fn.journals l.first (l.first + page_count l.initial.source.length)) l.initial.disk l.disk;
+  run : Makes g.D.SectorDisk (IsHomesBetween l.fn.journals l.first (l.first + pages_of_length l.initial.source.length)) l.initial.disk l.disk;
   calm : g.D.SectorDisk.failures l.disk ≡ g.D.SectorDisk.failures l.initial.disk;
   info : info_of l.source ≡ info_of l.initial.source;
   left : (told : List ℕ) → told_by g.R.Read.remaining l.initial.source.bytes ≡ Some told
@@ -16,5 +16,5 @@ invariant-loop-k g l = record {
       → (min l.initial.source.length (4096 * l.k) ≤ length told)
       × (reader_tells g.R.Read.remaining l.source.bytes ≡ Some (drop (min l.initial.source.length (4096 * l.k)) told));
   reader : IsSome l.source.bytes → IsSome l.initial.source.bytes;
-  pages : g.D.SectorDisk.keeps_model l.disk → HoldsPages l.fn.journals g.R.Read.remaining l.initial.source l.first l.k (g.D.SectorDisk.content l.disk);
+  pages : g.D.SectorDisk.keeps_model l.disk → HoldsSourcePages l.fn.journals g.R.Read.remaining l.initial.source l.first l.k (g.D.SectorDisk.content l.disk);
 }

@@ -5,12 +5,12 @@ use Rattle.std.proofs.lemmas.List.{length-set, drop-set-lt}
 use Rattle.std.proofs.lemmas.Option.{same_Some, slice_get_read}
 use Rattle.sync_journal.specs.Kinds.{kind_home, kind_home_count}
 use Rattle.file_store.specs.declared.sources.FileSource.{FileSource}
-use Rattle.file_store.specs.Layout.{page_count, bytes_inside}
-use Rattle.file_store.specs.Format.{total_pages, first_home, page_given, reader_tells, IsHomesBetween, HoldsPages}
+use Rattle.file_store.specs.Layout.{pages_of_length, bytes_inside}
+use Rattle.file_store.specs.Format.{total_pages, first_home, page_given, reader_tells, IsHomesBetween, HoldsSourcePages}
 use Rattle.file_store.proofs.Making.{makes_more, makes_of}
 use Rattle.file_store.proofs.NewStores.{cut_moves, slice_get-drop, first_home-rest, first_home-order}
 use Rattle.file_store.proofs.Totals.{total_pages-rest, total_pages-set}
-use Rattle.file_store.proofs.Causes.{is_this}
+use Rattle.file_store.proofs.Filling.{fills_error}
 use Rattle.file_store.proofs.formatting.write_homes.Goals as goal
 
 pub write_file-requires : goal.write_file-requires
@@ -18,22 +18,12 @@ write_file-requires g c =
     let inv = c.loop-f.invariant in
     let below : c.loop-f.f < length c.loop-f.sources = omega (arith, inv.length, c.loop-f-test.true) in
     let e = total_pages-rest c.loop-f.sources c.loop-f.f c.index-sources-f.result below c.index-sources-f.is in
-    let same = ap (λ s. page_count s.length) c.index-sources-f.is in
+    let same = ap (λ s. pages_of_length s.length) c.index-sources-f.is in
     let homes = ap (kind_home_count c.args.journals) inv.run.size in
     omega (arith, e, same, homes, inv.rest, c.requires)
 
 pub overflow_add-first : goal.overflow_add-first
 overflow_add-first g c = omega (arith, c.loop-f.invariant.rest, c.requires, c.pages-first.ensures.bound)
-
-pub returns-in_err-write_file-clause-run : goal.returns-in_err-write_file-clause-run
-returns-in_err-write_file-clause-run g c =
-    let inv = c.loop-f.invariant in
-    let below : c.loop-f.f < length c.loop-f.sources = omega (arith, inv.length, c.loop-f-test.true) in
-    let e = total_pages-rest c.loop-f.sources c.loop-f.f c.index-sources-f.result below c.index-sources-f.is in
-    let is = ap (λ s. page_count s.length) c.index-sources-f.is in
-    makes_more g.D.SectorDisk (IsHomesBetween c.args.journals 0 (total_pages c.args.sources.now)) c.args.disk.now c.loop-f.disk c.write_file.new.disk inv.run
-    (makes_of g.D.SectorDisk (IsHomesBetween c.args.journals c.loop-f.first (c.loop-f.first + page_count (get_or c.loop-f.sources c.loop-f.f c.index-sources-f.result).length)) (IsHomesBetween c.args.journals 0 (total_pages c.args.sources.now)) c.loop-f.disk c.write_file.new.disk
-    (λ k at. (omega (arith, at.0), omega (arith, at.1, e, is, inv.rest))) c.write_file.ensures.run)
 
 pub loop-f-preserved : goal.loop-f-preserved
 loop-f-preserved g c =
@@ -44,16 +34,16 @@ loop-f-preserved g c =
     let below : f < length c.loop-f.sources = omega (arith, inv.length, c.loop-f-test.true) in
     let e = total_pages-rest c.loop-f.sources f c.index-sources-f.result below c.index-sources-f.is in
     let after = total_pages-set c.loop-f.sources f c.write_file.new.source in
-    let same = ap (λ i. page_count i.length) w.info in
-    let is = ap (λ s. page_count s.length) c.index-sources-f.is in
+    let same = ap (λ i. pages_of_length i.length) w.info in
+    let is = ap (λ s. pages_of_length s.length) c.index-sources-f.is in
     let here : slice_get sources f ≡ Some c.index-sources-f.result = sym (slice_get-drop sources f) ∙ ap (λ list. slice_get list 0) (sym inv.behind) ∙ slice_get-drop c.loop-f.sources f
     ∙ slice_get_read c.loop-f.sources (length c.loop-f.sources) f c.index-sources-f.result refl below c.index-sources-f.is in
     let first : c.loop-f.first ≡ first_home sources f = let split = first_home-rest sources f in let behind = ap total_pages inv.behind in omega (arith, split, behind, inv.rest) in
     record {
       run = makes_more g.D.SectorDisk (IsHomesBetween c.args.journals 0 (total_pages c.args.sources.now)) c.args.disk.now c.loop-f.disk c.write_file.new.disk inv.run
-          (makes_of g.D.SectorDisk (IsHomesBetween c.args.journals c.loop-f.first (c.loop-f.first + page_count (get_or c.loop-f.sources c.loop-f.f c.index-sources-f.result).length)) (IsHomesBetween c.args.journals 0 (total_pages c.args.sources.now)) c.loop-f.disk c.write_file.new.disk
-          (λ k at. (omega (arith, at.0), omega (arith, at.1, e, is, inv.rest))) c.write_file.ensures.run);
-      calm = c.in_ok-write_file.ensures.calm ∙ inv.calm;
+          (makes_of g.D.SectorDisk (IsHomesBetween c.args.journals c.loop-f.first (c.loop-f.first + pages_of_length (get_or c.loop-f.sources c.loop-f.f c.index-sources-f.result).length)) (IsHomesBetween c.args.journals 0 (total_pages c.args.sources.now)) c.loop-f.disk c.write_file.new.disk
+          (λ k at. (omega (arith, at.0), omega (arith, at.1, e, is, inv.rest))) c.write_file.ensures.fills.run);
+      calm = c.in_ok-write_file.ensures.fills.calm ∙ inv.calm;
       length = length-set c.loop-f.sources f c.write_file.new.source ∙ inv.length;
       rest = omega (arith, e, after, same, is, inv.rest, c.pages-first.ensures.count);
       behind = drop-set-lt (f + 1) c.loop-f.sources f c.write_file.new.source (omega arith)
@@ -62,8 +52,8 @@ loop-f-preserved g c =
           (λ same.
           let source_is : get_or c.loop-f.sources f c.index-sources-f.result ≡ source = sym c.index-sources-f.is ∙ same_Some c.index-sources-f.result source (sym here ∙ ap (slice_get sources) (sym same) ∙ at) in
           let from : c.loop-f.first ≡ first_home sources h = first ∙ ap (first_home sources) (sym same) in
-          subst (λ n. HoldsPages c.args.journals g.R.Read.remaining source n (page_count source.length) (g.D.SectorDisk.content c.write_file.new.disk)) from
-          (subst (λ (s : FileSource g.row.R.Denot). HoldsPages c.args.journals g.R.Read.remaining s c.loop-f.first (page_count s.length) (g.D.SectorDisk.content c.write_file.new.disk)) source_is
+          subst (λ n. HoldsSourcePages c.args.journals g.R.Read.remaining source n (pages_of_length source.length) (g.D.SectorDisk.content c.write_file.new.disk)) from
+          (subst (λ (s : FileSource g.row.R.Denot). HoldsSourcePages c.args.journals g.R.Read.remaining s c.loop-f.first (pages_of_length s.length) (g.D.SectorDisk.content c.write_file.new.disk)) source_is
           (c.in_ok-write_file.ensures.pages keeps)))
           (λ other. λ k inside.
           let order = first_home-order sources h f source (omega (arith, less, other)) at in
@@ -71,25 +61,32 @@ loop-f-preserved g c =
           (g.D.SectorDisk.content c.loop-f.disk) (g.D.SectorDisk.content c.write_file.new.disk)
           (λ i lt. ⊎_elim (λ behind. absurd (omega (arith, behind, first, order, inside, lt)))
           (λ e. e)
-          ((w.run.touches keeps).content (kind_home c.args.journals (first_home sources h + k) + i)))
-          (inv.files (w.run.kept keeps) h source (omega (arith, less, other)) at k inside))
+          ((w.fills.run.touches keeps).content (kind_home c.args.journals (first_home sources h + k) + i)))
+          (inv.files (w.fills.run.kept keeps) h source (omega (arith, less, other)) at k inside))
           (cases_eq h f);
       whole = λ h source told less at tells. ⊎_elim
           (λ same.
           let source_is : get_or c.loop-f.sources f c.index-sources-f.result ≡ source = sym c.index-sources-f.is ∙ same_Some c.index-sources-f.result source (sym here ∙ ap (slice_get sources) (sym same) ∙ at) in
           subst (λ (s : FileSource g.row.R.Denot). reader_tells g.R.Read.remaining s.bytes ≡ Some told → s.length ≤ length told) source_is
-          (c.in_ok-write_file.ensures.whole told) tells)
+          (c.in_ok-write_file.ensures.fills.whole told) tells)
           (λ other. inv.whole h source told (omega (arith, less, other)) at tells)
           (cases_eq h f);
     }
 
-pub returns-in_err-write_file-clause-source : goal.returns-in_err-write_file-clause-source
-returns-in_err-write_file-clause-source g c = λ failed.
+pub returns-in_err-write_file-clause-fills : goal.returns-in_err-write_file-clause-fills
+returns-in_err-write_file-clause-fills g c =
+    let inv = c.loop-f.invariant in
     let sources = c.args.sources.now in
     let f = c.loop-f.f in
-    let below : f < length c.loop-f.sources = omega (arith, c.loop-f.invariant.length, c.loop-f-test.true) in
-    let here : slice_get sources f ≡ Some c.index-sources-f.result = sym (slice_get-drop sources f) ∙ ap (λ list. slice_get list 0) (sym c.loop-f.invariant.behind)
+    let below : f < length c.loop-f.sources = omega (arith, inv.length, c.loop-f-test.true) in
+    let e = total_pages-rest c.loop-f.sources f c.index-sources-f.result below c.index-sources-f.is in
+    let is = ap (λ s. pages_of_length s.length) c.index-sources-f.is in
+    let here : slice_get sources f ≡ Some c.index-sources-f.result = sym (slice_get-drop sources f) ∙ ap (λ list. slice_get list 0) (sym inv.behind)
     ∙ slice_get-drop c.loop-f.sources f ∙ slice_get_read c.loop-f.sources (length c.loop-f.sources) f c.index-sources-f.result refl below c.index-sources-f.is in
-    let is = is_this c.from_residual.result c.in_err-write_file.field-0.0 c.from_residual.ensures.1 in
-    let given = subst (λ (s : FileSource g.row.R.Denot). IsSome s.bytes × (0 < s.length)) (sym c.index-sources-f.is) (c.in_err-write_file.ensures.source (sym is ∙ failed)) in
-    (f, c.index-sources-f.result, here, given.0, given.1)
+    fills_error g.D.SectorDisk _ _ _ c.args.disk.now c.write_file.new.disk
+    (makes_more g.D.SectorDisk (IsHomesBetween c.args.journals 0 (total_pages sources)) c.args.disk.now c.loop-f.disk c.write_file.new.disk inv.run
+    (makes_of g.D.SectorDisk (IsHomesBetween c.args.journals c.loop-f.first (c.loop-f.first + pages_of_length (get_or c.loop-f.sources f c.index-sources-f.result).length)) (IsHomesBetween c.args.journals 0 (total_pages sources)) c.loop-f.disk c.write_file.new.disk
+    (λ k at. (omega (arith, at.0), omega (arith, at.1, e, is, inv.rest))) c.write_file.ensures.fills.run))
+    _ _ _ c.in_err-write_file.field-0.0 c.from_residual.result c.loop-f.disk c.from_residual.ensures.1 inv.calm c.in_err-write_file.ensures.fills (λ bytes.
+    let given = subst (λ (s : FileSource g.row.R.Denot). IsSome s.bytes × (0 < s.length)) (sym c.index-sources-f.is) bytes in
+    (f, c.index-sources-f.result, here, given.0, given.1))

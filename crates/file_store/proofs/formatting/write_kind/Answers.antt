@@ -1,15 +1,17 @@
-use Rattle.std.proofs.Common.{ℕ, refl}
+use Rattle.std.proofs.Common.{ℕ, refl, rules}
 use Rattle.file_store.specs.Format.{IsKindSector}
-use Rattle.file_store.proofs.Making.{makes_write, makes_synced}
+use Rattle.file_store.proofs.Making.{written_synced, makes_write, makes_synced}
 use Rattle.file_store.proofs.formatting.write_kind.Goals as goal
 
-pub returns-in_err-write-clause-run : goal.returns-in_err-write-clause-run
-returns-in_err-write-clause-run g c = let d = g.D.SectorDisk in
-    (makes_write d IsKindSector 1 c.args.disk.now c.write.new.self refl c.write.ensures.size c.write.ensures.kept c.write.ensures.cause.later c.write.ensures.asks c.write.ensures.others c.write.ensures.unsynced c.write.ensures.time)
+pub returns-in_err-write-clause-writes : goal.returns-in_err-write-clause-writes
+returns-in_err-write-clause-writes g c =
+    let d = g.D.SectorDisk in
+    written_synced d _ _ _ _ (makes_write d IsKindSector 1 c.args.disk.now c.write.new.self refl c.write.ensures.size c.write.ensures.kept c.write.ensures.cause.later c.write.ensures.asks c.write.ensures.others c.write.ensures.unsynced c.write.ensures.time) (search rules) (search rules) (search rules)
 
-pub returns-clause-run : goal.returns-clause-run
-returns-clause-run g c = let d = g.D.SectorDisk in
+pub returns-clause-writes : goal.returns-clause-writes
+returns-clause-writes g c =
+    let d = g.D.SectorDisk in
     let W : ℕ → Type 0 = IsKindSector in
-    (makes_synced d W c.args.disk.now c.write.new.self c.sync.new.self
+    written_synced d _ _ _ _ (makes_synced d W c.args.disk.now c.write.new.self c.sync.new.self
     (makes_write d IsKindSector 1 c.args.disk.now c.write.new.self refl c.write.ensures.size c.write.ensures.kept c.write.ensures.cause.later c.write.ensures.asks c.write.ensures.others c.write.ensures.unsynced c.write.ensures.time)
-    c.sync.ensures.size c.sync.ensures.kept c.sync.ensures.cause.later c.sync.ensures.asks c.sync.ensures.same c.sync.ensures.unsynced c.sync.ensures.time)
+    c.sync.ensures.size c.sync.ensures.kept c.sync.ensures.cause.later c.sync.ensures.asks c.sync.ensures.same c.sync.ensures.unsynced c.sync.ensures.time) (search rules) (search rules) (search rules)

@@ -1,30 +1,33 @@
-use Rattle.std.proofs.Common.{◌≡◌, ℕ, inl, inr, ap, sym, refl, ◌∙◌, arith}
-use Rattle.sync_journal.specs.declared.store_journal.Journals.TheVariants.{Single, Paired}
+use Rattle.std.proofs.Common.{◌≡◌, ℕ, inl, inr, ap, sym, refl, ◌∙◌, arith, rules}
+use Rattle.sync_journal.specs.declared.store_journal.Journals.TheVariants.{Single}
 use Rattle.file_store.specs.Format.{IsLayoutSector}
-use Rattle.file_store.proofs.Making.{makes_more, makes_write, makes_synced}
+use Rattle.file_store.proofs.Making.{written_synced, makes_more, makes_write, makes_synced}
 use Rattle.file_store.proofs.NewStores.{one_head}
 use Rattle.file_store.proofs.formatting.write_one.Goals as goal
 
-pub returns-in_err-write-clause-run : goal.returns-in_err-write-clause-run
-returns-in_err-write-clause-run g c = let d = g.D.SectorDisk in
+pub returns-in_err-write-clause-writes : goal.returns-in_err-write-clause-writes
+returns-in_err-write-clause-writes g c =
+    let d = g.D.SectorDisk in
     let W : ℕ → Type 0 = IsLayoutSector Single in
-    (makes_write d W c.directory.result c.args.disk.now c.write.new.self (inr (inl c.directory.ensures.is)) c.write.ensures.size c.write.ensures.kept c.write.ensures.cause.later c.write.ensures.asks c.write.ensures.others c.write.ensures.unsynced c.write.ensures.time)
+    written_synced d _ _ _ _ (makes_write d W c.directory.result c.args.disk.now c.write.new.self (inr (inl c.directory.ensures.is)) c.write.ensures.size c.write.ensures.kept c.write.ensures.cause.later c.write.ensures.asks c.write.ensures.others c.write.ensures.unsynced c.write.ensures.time) (search rules) (search rules) (search rules)
 
-pub returns-in_err-write-2-clause-run : goal.returns-in_err-write-2-clause-run
-returns-in_err-write-2-clause-run g c = let d = g.D.SectorDisk in
+pub returns-in_err-write-2-clause-writes : goal.returns-in_err-write-2-clause-writes
+returns-in_err-write-2-clause-writes g c =
+    let d = g.D.SectorDisk in
     let W : ℕ → Type 0 = IsLayoutSector Single in
+    written_synced d _ _ _ _ (makes_more d W c.args.disk.now c.write.new.self c.write-2.new.self
+    (makes_write d W c.directory.result c.args.disk.now c.write.new.self (inr (inl c.directory.ensures.is)) c.write.ensures.size c.write.ensures.kept c.write.ensures.cause.later c.write.ensures.asks c.write.ensures.others c.write.ensures.unsynced c.write.ensures.time)
+    (makes_write d W 2 c.write.new.self c.write-2.new.self (inr (inr refl)) c.write-2.ensures.size c.write-2.ensures.kept c.write-2.ensures.cause.later c.write-2.ensures.asks c.write-2.ensures.others c.write-2.ensures.unsynced c.write-2.ensures.time)) (search rules) (search rules) (search rules)
+
+pub returns-clause-writes : goal.returns-clause-writes
+returns-clause-writes g c =
+    let d = g.D.SectorDisk in
+    let W : ℕ → Type 0 = IsLayoutSector Single in
+    written_synced d _ _ _ _ (makes_synced d W c.args.disk.now c.write-2.new.self c.sync.new.self
     (makes_more d W c.args.disk.now c.write.new.self c.write-2.new.self
     (makes_write d W c.directory.result c.args.disk.now c.write.new.self (inr (inl c.directory.ensures.is)) c.write.ensures.size c.write.ensures.kept c.write.ensures.cause.later c.write.ensures.asks c.write.ensures.others c.write.ensures.unsynced c.write.ensures.time)
     (makes_write d W 2 c.write.new.self c.write-2.new.self (inr (inr refl)) c.write-2.ensures.size c.write-2.ensures.kept c.write-2.ensures.cause.later c.write-2.ensures.asks c.write-2.ensures.others c.write-2.ensures.unsynced c.write-2.ensures.time))
-
-pub returns-clause-run : goal.returns-clause-run
-returns-clause-run g c = let d = g.D.SectorDisk in
-    let W : ℕ → Type 0 = IsLayoutSector Single in
-    (makes_synced d W c.args.disk.now c.write-2.new.self c.sync.new.self
-    (makes_more d W c.args.disk.now c.write.new.self c.write-2.new.self
-    (makes_write d W c.directory.result c.args.disk.now c.write.new.self (inr (inl c.directory.ensures.is)) c.write.ensures.size c.write.ensures.kept c.write.ensures.cause.later c.write.ensures.asks c.write.ensures.others c.write.ensures.unsynced c.write.ensures.time)
-    (makes_write d W 2 c.write.new.self c.write-2.new.self (inr (inr refl)) c.write-2.ensures.size c.write-2.ensures.kept c.write-2.ensures.cause.later c.write-2.ensures.asks c.write-2.ensures.others c.write-2.ensures.unsynced c.write-2.ensures.time))
-    c.sync.ensures.size c.sync.ensures.kept c.sync.ensures.cause.later c.sync.ensures.asks c.sync.ensures.same c.sync.ensures.unsynced c.sync.ensures.time)
+    c.sync.ensures.size c.sync.ensures.kept c.sync.ensures.cause.later c.sync.ensures.asks c.sync.ensures.same c.sync.ensures.unsynced c.sync.ensures.time) (search rules) (search rules) (search rules)
 
 pub returns-clause-head : goal.returns-clause-head
 returns-clause-head g c = λ keeps.

@@ -1,30 +1,33 @@
-use Rattle.std.proofs.Common.{◌≡◌, ℕ, inl, inr, ap, sym, refl, ◌∙◌, arith}
-use Rattle.sync_journal.specs.declared.store_journal.Journals.TheVariants.{Single, Paired}
+use Rattle.std.proofs.Common.{◌≡◌, ℕ, inl, inr, ap, sym, refl, ◌∙◌, arith, rules}
+use Rattle.sync_journal.specs.declared.store_journal.Journals.TheVariants.{Paired}
 use Rattle.file_store.specs.Format.{IsTableSector}
-use Rattle.file_store.proofs.Making.{makes_more, makes_write}
+use Rattle.file_store.proofs.Making.{written, makes_more, makes_write}
 use Rattle.file_store.proofs.NewStores.{tables_at}
 use Rattle.file_store.proofs.formatting.write_tables.Goals as goal
 
-pub returns-in_err-write-clause-run : goal.returns-in_err-write-clause-run
-returns-in_err-write-clause-run g c = let d = g.D.SectorDisk in
+pub returns-in_err-write-clause-writes : goal.returns-in_err-write-clause-writes
+returns-in_err-write-clause-writes g c =
+    let d = g.D.SectorDisk in
     let W : ℕ → Type 0 = IsTableSector Paired in
-    (makes_write d W c.directory.result c.args.disk.now c.write.new.self (inl c.directory.ensures.is) c.write.ensures.size c.write.ensures.kept c.write.ensures.cause.later c.write.ensures.asks c.write.ensures.others c.write.ensures.unsynced c.write.ensures.time)
+    written d _ _ _ _ (makes_write d W c.directory.result c.args.disk.now c.write.new.self (inl c.directory.ensures.is) c.write.ensures.size c.write.ensures.kept c.write.ensures.cause.later c.write.ensures.asks c.write.ensures.others c.write.ensures.unsynced c.write.ensures.time) (search rules) (search rules)
 
-pub returns-in_err-write-2-clause-run : goal.returns-in_err-write-2-clause-run
-returns-in_err-write-2-clause-run g c = let d = g.D.SectorDisk in
+pub returns-in_err-write-2-clause-writes : goal.returns-in_err-write-2-clause-writes
+returns-in_err-write-2-clause-writes g c =
+    let d = g.D.SectorDisk in
     let W : ℕ → Type 0 = IsTableSector Paired in
+    written d _ _ _ _ (makes_more d W c.args.disk.now c.write.new.self c.write-2.new.self
+    (makes_write d W c.directory.result c.args.disk.now c.write.new.self (inl c.directory.ensures.is) c.write.ensures.size c.write.ensures.kept c.write.ensures.cause.later c.write.ensures.asks c.write.ensures.others c.write.ensures.unsynced c.write.ensures.time)
+    (makes_write d W 16 c.write.new.self c.write-2.new.self (inr (inl refl)) c.write-2.ensures.size c.write-2.ensures.kept c.write-2.ensures.cause.later c.write-2.ensures.asks c.write-2.ensures.others c.write-2.ensures.unsynced c.write-2.ensures.time)) (search rules) (search rules)
+
+pub returns-clause-writes : goal.returns-clause-writes
+returns-clause-writes g c =
+    let d = g.D.SectorDisk in
+    let W : ℕ → Type 0 = IsTableSector Paired in
+    written d _ _ _ _ (makes_more d W c.args.disk.now c.write-2.new.self c.write-3.new.self
     (makes_more d W c.args.disk.now c.write.new.self c.write-2.new.self
     (makes_write d W c.directory.result c.args.disk.now c.write.new.self (inl c.directory.ensures.is) c.write.ensures.size c.write.ensures.kept c.write.ensures.cause.later c.write.ensures.asks c.write.ensures.others c.write.ensures.unsynced c.write.ensures.time)
     (makes_write d W 16 c.write.new.self c.write-2.new.self (inr (inl refl)) c.write-2.ensures.size c.write-2.ensures.kept c.write-2.ensures.cause.later c.write-2.ensures.asks c.write-2.ensures.others c.write-2.ensures.unsynced c.write-2.ensures.time))
-
-pub returns-clause-run : goal.returns-clause-run
-returns-clause-run g c = let d = g.D.SectorDisk in
-    let W : ℕ → Type 0 = IsTableSector Paired in
-    (makes_more d W c.args.disk.now c.write-2.new.self c.write-3.new.self
-    (makes_more d W c.args.disk.now c.write.new.self c.write-2.new.self
-    (makes_write d W c.directory.result c.args.disk.now c.write.new.self (inl c.directory.ensures.is) c.write.ensures.size c.write.ensures.kept c.write.ensures.cause.later c.write.ensures.asks c.write.ensures.others c.write.ensures.unsynced c.write.ensures.time)
-    (makes_write d W 16 c.write.new.self c.write-2.new.self (inr (inl refl)) c.write-2.ensures.size c.write-2.ensures.kept c.write-2.ensures.cause.later c.write-2.ensures.asks c.write-2.ensures.others c.write-2.ensures.unsynced c.write-2.ensures.time))
-    (makes_write d W 24 c.write-2.new.self c.write-3.new.self (inr (inr refl)) c.write-3.ensures.size c.write-3.ensures.kept c.write-3.ensures.cause.later c.write-3.ensures.asks c.write-3.ensures.others c.write-3.ensures.unsynced c.write-3.ensures.time))
+    (makes_write d W 24 c.write-2.new.self c.write-3.new.self (inr (inr refl)) c.write-3.ensures.size c.write-3.ensures.kept c.write-3.ensures.cause.later c.write-3.ensures.asks c.write-3.ensures.others c.write-3.ensures.unsynced c.write-3.ensures.time)) (search rules) (search rules)
 
 pub returns-clause-tables : goal.returns-clause-tables
 returns-clause-tables g c = λ keeps.

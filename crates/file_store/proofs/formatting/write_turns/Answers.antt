@@ -1,35 +1,38 @@
-use Rattle.std.proofs.Common.{ℕ, inl, inr, ⊎_elim, subst, sym, arith}
-use Rattle.sync_journal.specs.declared.store_journal.Journals.TheVariants.{Single, Paired}
+use Rattle.std.proofs.Common.{ℕ, inl, inr, ⊎_elim, subst, sym, arith, rules}
+use Rattle.sync_journal.specs.declared.store_journal.Journals.TheVariants.{Paired}
 use Rattle.file_store.specs.Format.{IsTableSector, IsKindSector, IsLayoutSector, HasTables}
-use Rattle.file_store.proofs.Making.{makes_more, makes_of, makes_synced}
+use Rattle.file_store.proofs.Making.{written_synced, makes_more, makes_of, makes_synced}
 use Rattle.file_store.proofs.Blocks.{on_ok}
 use Rattle.file_store.proofs.NewStores.{tables_head}
 use Rattle.file_store.proofs.formatting.write_turns.Goals as goal
 
-pub returns-in_err-write_tables-clause-run : goal.returns-in_err-write_tables-clause-run
-returns-in_err-write_tables-clause-run g c = let d = g.D.SectorDisk in
+pub returns-in_err-write_tables-clause-writes : goal.returns-in_err-write_tables-clause-writes
+returns-in_err-write_tables-clause-writes g c =
+    let d = g.D.SectorDisk in
     let W : ℕ → Type 0 = IsLayoutSector Paired in
-    (makes_of d (IsTableSector Paired) W c.args.disk.now c.write_tables.new.disk (λ k at. inr at) c.write_tables.ensures.run)
+    written_synced d _ _ _ _ (makes_of d (IsTableSector Paired) W c.args.disk.now c.write_tables.new.disk (λ k at. inr at) c.write_tables.ensures.writes.run) (search rules) (search rules) (search rules)
 
-pub returns-in_err-sync-clause-run : goal.returns-in_err-sync-clause-run
-returns-in_err-sync-clause-run g c = let d = g.D.SectorDisk in
+pub returns-in_err-sync-clause-writes : goal.returns-in_err-sync-clause-writes
+returns-in_err-sync-clause-writes g c =
+    let d = g.D.SectorDisk in
     let W : ℕ → Type 0 = IsLayoutSector Paired in
-    (makes_synced d W c.args.disk.now c.write_tables.new.disk c.sync.new.self
-    (makes_of d (IsTableSector Paired) W c.args.disk.now c.write_tables.new.disk (λ k at. inr at) c.write_tables.ensures.run)
-    c.sync.ensures.size c.sync.ensures.kept c.sync.ensures.cause.later c.sync.ensures.asks c.sync.ensures.same c.sync.ensures.unsynced c.sync.ensures.time)
+    written_synced d _ _ _ _ (makes_synced d W c.args.disk.now c.write_tables.new.disk c.sync.new.self
+    (makes_of d (IsTableSector Paired) W c.args.disk.now c.write_tables.new.disk (λ k at. inr at) c.write_tables.ensures.writes.run)
+    c.sync.ensures.size c.sync.ensures.kept c.sync.ensures.cause.later c.sync.ensures.asks c.sync.ensures.same c.sync.ensures.unsynced c.sync.ensures.time) (search rules) (search rules) (search rules)
 
-pub returns-clause-run : goal.returns-clause-run
-returns-clause-run g c = let d = g.D.SectorDisk in
+pub returns-clause-writes : goal.returns-clause-writes
+returns-clause-writes g c =
+    let d = g.D.SectorDisk in
     let W : ℕ → Type 0 = IsLayoutSector Paired in
-    makes_more d W c.args.disk.now c.sync.new.self c.write_kind.new.disk
+    written_synced d _ _ _ _ (makes_more d W c.args.disk.now c.sync.new.self c.write_kind.new.disk
     (makes_synced d W c.args.disk.now c.write_tables.new.disk c.sync.new.self
-    (makes_of d (IsTableSector Paired) W c.args.disk.now c.write_tables.new.disk (λ k at. inr at) c.write_tables.ensures.run)
+    (makes_of d (IsTableSector Paired) W c.args.disk.now c.write_tables.new.disk (λ k at. inr at) c.write_tables.ensures.writes.run)
     c.sync.ensures.size c.sync.ensures.kept c.sync.ensures.cause.later c.sync.ensures.asks c.sync.ensures.same c.sync.ensures.unsynced c.sync.ensures.time)
-    (makes_of d IsKindSector W c.sync.new.self c.write_kind.new.disk (λ k at. inl at) c.write_kind.ensures.run)
+    (makes_of d IsKindSector W c.sync.new.self c.write_kind.new.disk (λ k at. inl at) c.write_kind.ensures.writes.run)) (search rules) (search rules) (search rules)
 
 pub returns-clause-head : goal.returns-clause-head
 returns-clause-head g c = λ keeps.
-    let run = c.write_kind.ensures.run in
+    let run = c.write_kind.ensures.writes.run in
     let k1 = run.kept keeps in
     tables_head c.write_kind.result c.args.directory.now (g.D.SectorDisk.content c.sync.new.self) (g.D.SectorDisk.content c.write_kind.new.disk)
     (subst (λ image. HasTables Paired c.args.directory.now image) (sym (c.sync.ensures.same k1)) (c.in_ok-write_tables.ensures.tables (c.sync.ensures.kept k1)))
@@ -37,39 +40,39 @@ returns-clause-head g c = λ keeps.
     (c.write_kind.ensures.kind keeps)
 
 pub returns-in_err-write_tables-clause-epochs : goal.returns-in_err-write_tables-clause-epochs
-returns-in_err-write_tables-clause-epochs g c = λ keeps. inl (c.write_tables.ensures.run.touches keeps)
+returns-in_err-write_tables-clause-epochs g c = λ keeps. inl (c.write_tables.ensures.writes.run.touches keeps)
 
 pub returns-in_err-sync-clause-epochs : goal.returns-in_err-sync-clause-epochs
 returns-in_err-sync-clause-epochs g c = λ keeps.
     let d = g.D.SectorDisk in
     let W : ℕ → Type 0 = IsTableSector Paired in
-    inl ((makes_synced d W c.args.disk.now c.write_tables.new.disk c.sync.new.self c.write_tables.ensures.run
+    inl ((makes_synced d W c.args.disk.now c.write_tables.new.disk c.sync.new.self c.write_tables.ensures.writes.run
     c.sync.ensures.size c.sync.ensures.kept c.sync.ensures.cause.later c.sync.ensures.asks c.sync.ensures.same c.sync.ensures.unsynced c.sync.ensures.time).touches keeps)
 
 pub returns-clause-epochs : goal.returns-clause-epochs
 returns-clause-epochs g c = λ keeps.
     let d = g.D.SectorDisk in
     let W : ℕ → Type 0 = IsTableSector Paired in
-    let k1 = c.write_kind.ensures.run.kept keeps in
+    let k1 = c.write_kind.ensures.writes.run.kept keeps in
     inr (record {
       tables = c.sync.new.self;
-      before = (makes_synced d W c.args.disk.now c.write_tables.new.disk c.sync.new.self c.write_tables.ensures.run
+      before = (makes_synced d W c.args.disk.now c.write_tables.new.disk c.sync.new.self c.write_tables.ensures.writes.run
           c.sync.ensures.size c.sync.ensures.kept c.sync.ensures.cause.later c.sync.ensures.asks c.sync.ensures.same c.sync.ensures.unsynced c.sync.ensures.time).touches k1;
       synced = c.in_ok-sync.ensures.synced k1;
       holds = subst (λ image. HasTables Paired c.args.directory.now image) (sym (c.sync.ensures.same k1)) (c.in_ok-write_tables.ensures.tables (c.sync.ensures.kept k1));
-      kind = c.write_kind.ensures.run.touches keeps;
+      kind = c.write_kind.ensures.writes.run.touches keeps;
     })
 
 pub returns-clause-kind_behind : goal.returns-clause-kind_behind
 returns-clause-kind_behind g c = λ keeps.
     let d = g.D.SectorDisk in
     let W : ℕ → Type 0 = IsTableSector Paired in
-    let k1 = c.write_kind.ensures.run.kept keeps in
+    let k1 = c.write_kind.ensures.writes.run.kept keeps in
     on_ok c.write_kind.result (record {
       tables = c.sync.new.self;
-      before = (makes_synced d W c.args.disk.now c.write_tables.new.disk c.sync.new.self c.write_tables.ensures.run
+      before = (makes_synced d W c.args.disk.now c.write_tables.new.disk c.sync.new.self c.write_tables.ensures.writes.run
           c.sync.ensures.size c.sync.ensures.kept c.sync.ensures.cause.later c.sync.ensures.asks c.sync.ensures.same c.sync.ensures.unsynced c.sync.ensures.time).touches k1;
       synced = c.in_ok-sync.ensures.synced k1;
       holds = subst (λ image. HasTables Paired c.args.directory.now image) (sym (c.sync.ensures.same k1)) (c.in_ok-write_tables.ensures.tables (c.sync.ensures.kept k1));
-      kind = c.write_kind.ensures.run.touches keeps;
+      kind = c.write_kind.ensures.writes.run.touches keeps;
     })

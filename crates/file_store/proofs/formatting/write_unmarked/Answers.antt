@@ -1,37 +1,49 @@
-use Rattle.std.proofs.Common.{ℕ, ◌+◌, ⊎_elim, inl, inr, List, sym, subst, arith}
+use Rattle.std.proofs.Common.{ℕ, ◌+◌, ⊎_elim, inl, inr, List, refl, sym, subst, ◌∙◌, arith, rules}
 use Rattle.sync_journal.specs.Kinds.{kind_home, kind_home_count}
 use Rattle.file_store.specs.Layout.{bytes_inside}
 use Rattle.file_store.specs.Format.{first_home, total_pages, page_given, IsFrom, IsTableSector, IsKindlessStoreOf, HasTables, IsLayoutSector, IsHomesBetween, IsUnmarkedSector, IsDirectoryOf}
 use Rattle.disk_model.proofs.Moments.{wider}
 use Rattle.sync_journal.specs.declared.store_journal.Journals.TheVariants.{Paired}
-use Rattle.file_store.proofs.Blocks.{behind_more, last_more}
+use Rattle.file_store.proofs.Blocks.{none_on, last_then}
+use Rattle.file_store.proofs.Filling.{fills_done, fills_error, fills_failed}
 use Rattle.file_store.proofs.Formats.{table_between, kindless}
 use Rattle.file_store.proofs.Making.{makes_more, makes_of}
 use Rattle.file_store.proofs.NewStores.{cut_moves, good_given}
 use Rattle.file_store.proofs.Images.{homes_behind, layout_low, good_not_kind}
 use Rattle.file_store.proofs.formatting.write_unmarked.Goals as goal
 
-pub returns-in_err-write_homes-clause-run : goal.returns-in_err-write_homes-clause-run
-returns-in_err-write_homes-clause-run g c = let d = g.D.SectorDisk in
+pub returns-in_err-write_homes-clause-fills : goal.returns-in_err-write_homes-clause-fills
+returns-in_err-write_homes-clause-fills g c =
+    let d = g.D.SectorDisk in
     let pages = total_pages c.args.sources.now in
     let W : ℕ → Type 0 = IsUnmarkedSector c.args.journals pages in
-    (makes_of d (IsHomesBetween c.args.journals 0 pages) W c.args.disk.now c.write_homes.new.disk (λ k at. inr at) c.write_homes.ensures.run)
+    fills_error d W _ _ c.args.disk.now c.write_homes.new.disk
+    (makes_of d (IsHomesBetween c.args.journals 0 pages) W c.args.disk.now c.write_homes.new.disk (λ k at. inr at) c.write_homes.ensures.fills.run)
+    _ _ _ c.in_err-write_homes.field-0.0 c.from_residual.result c.args.disk.now c.from_residual.ensures.1 refl c.in_err-write_homes.ensures.fills (λ bytes. bytes)
 
-pub returns-in_err-write_layout-clause-run : goal.returns-in_err-write_layout-clause-run
-returns-in_err-write_layout-clause-run g c = let d = g.D.SectorDisk in
+pub returns-in_err-write_layout-clause-fills : goal.returns-in_err-write_layout-clause-fills
+returns-in_err-write_layout-clause-fills g c =
+    let d = g.D.SectorDisk in
     let pages = total_pages c.args.sources.now in
     let W : ℕ → Type 0 = IsUnmarkedSector c.args.journals pages in
-    makes_more d W c.args.disk.now c.write_homes.new.disk c.write_layout.new.disk
-    (makes_of d (IsHomesBetween c.args.journals 0 pages) W c.args.disk.now c.write_homes.new.disk (λ k at. inr at) c.write_homes.ensures.run)
-    (makes_of d (IsLayoutSector c.args.journals) W c.write_homes.new.disk c.write_layout.new.disk (λ k at. inl at) c.write_layout.ensures.run)
+    let failed = c.in_err-write_layout.ensures.writes.failed refl in
+    let calm = c.in_ok-write_homes.ensures.fills.calm in
+    fills_failed d W _ _ c.args.disk.now c.write_layout.new.disk
+    (makes_more d W c.args.disk.now c.write_homes.new.disk c.write_layout.new.disk
+    (makes_of d (IsHomesBetween c.args.journals 0 pages) W c.args.disk.now c.write_homes.new.disk (λ k at. inr at) c.write_homes.ensures.fills.run)
+    (makes_of d (IsLayoutSector c.args.journals) W c.write_homes.new.disk c.write_layout.new.disk (λ k at. inl at) c.write_layout.ensures.writes.run))
+    c.from_residual-in_err-write_layout.result c.from_residual-in_err-write_layout.ensures.1 (omega (arith, failed, calm))
 
-pub returns-clause-run : goal.returns-clause-run
-returns-clause-run g c = let d = g.D.SectorDisk in
+pub returns-clause-fills : goal.returns-clause-fills
+returns-clause-fills g c =
+    let d = g.D.SectorDisk in
     let pages = total_pages c.args.sources.now in
     let W : ℕ → Type 0 = IsUnmarkedSector c.args.journals pages in
-    makes_more d W c.args.disk.now c.write_homes.new.disk c.write_layout.new.disk
-    (makes_of d (IsHomesBetween c.args.journals 0 pages) W c.args.disk.now c.write_homes.new.disk (λ k at. inr at) c.write_homes.ensures.run)
-    (makes_of d (IsLayoutSector c.args.journals) W c.write_homes.new.disk c.write_layout.new.disk (λ k at. inl at) c.write_layout.ensures.run)
+    fills_done d W _ _ c.args.disk.now c.write_layout.new.disk
+    (makes_more d W c.args.disk.now c.write_homes.new.disk c.write_layout.new.disk
+    (makes_of d (IsHomesBetween c.args.journals 0 pages) W c.args.disk.now c.write_homes.new.disk (λ k at. inr at) c.write_homes.ensures.fills.run)
+    (makes_of d (IsLayoutSector c.args.journals) W c.write_homes.new.disk c.write_layout.new.disk (λ k at. inl at) c.write_layout.ensures.writes.run))
+    _ (c.in_ok-write_layout.ensures.writes.calm ∙ c.in_ok-write_homes.ensures.fills.calm) c.in_ok-write_homes.ensures.fills.whole
 
 pub returns-clause-written : goal.returns-clause-written
 returns-clause-written g c = λ keeps.
@@ -47,8 +59,8 @@ returns-clause-written g c = λ keeps.
           (λ i lt. ⊎_elim
           (λ layout. absurd (let low = homes_behind c.args.journals in let at = layout_low c.args.journals _ layout in omega (arith, at.1, low)))
           (λ e. e)
-          ((w.run.touches keeps).content (kind_home c.args.journals (first_home sources f + k) + i)))
-          (c.in_ok-write_homes.ensures.files (w.run.kept keeps) f source less at k inside);
+          ((w.writes.run.touches keeps).content (kind_home c.args.journals (first_home sources f + k) + i)))
+          (c.in_ok-write_homes.ensures.files (w.writes.run.kept keeps) f source less at k inside);
     }
 
 pub write_layout-requires-clause-good : goal.write_layout-requires-clause-good
@@ -57,44 +69,33 @@ write_layout-requires-clause-good g c =
     good_not_kind (kind_home_count c.args.journals (g.D.SectorDisk.sector_count c.args.disk.now)) c.directory_of-directory.result
     (good_given (kind_home_count c.args.journals (g.D.SectorDisk.sector_count c.args.disk.now)) sources c.directory_of-directory.result c.requires.homes (omega arith) c.directory_of-directory.ensures)
 
-pub returns-in_err-write_homes-clause-epochs : goal.returns-in_err-write_homes-clause-epochs
-returns-in_err-write_homes-clause-epochs g c = λ keeps paired.
-    let d = g.D.SectorDisk in
-    let pages = total_pages c.args.sources.now in
-    inl (wider d (IsHomesBetween c.args.journals 0 pages) (IsFrom 8) c.args.disk.now c.write_homes.new.disk (λ k at. let low = homes_behind c.args.journals in omega (arith, at.0, low)) (c.write_homes.ensures.run.touches keeps))
+pub returns-in_err-write_homes-clause-last : goal.returns-in_err-write_homes-clause-last
+returns-in_err-write_homes-clause-last g c = λ keeps. record {
+  epochs = λ paired. inl (wider g.D.SectorDisk (IsHomesBetween c.args.journals 0 (total_pages c.args.sources.now)) (IsFrom 8) c.args.disk.now c.write_homes.new.disk
+      (λ k at. let low = homes_behind c.args.journals in omega (arith, at.0, low)) (c.write_homes.ensures.fills.run.touches keeps));
+  kind_behind = search rules;
+}
 
-pub returns-in_err-write_layout-clause-epochs : goal.returns-in_err-write_layout-clause-epochs
-returns-in_err-write_layout-clause-epochs g c = λ keeps paired.
+pub returns-in_err-write_layout-clause-last : goal.returns-in_err-write_layout-clause-last
+returns-in_err-write_layout-clause-last g c = λ keeps.
     let d = g.D.SectorDisk in
-    let pages = total_pages c.args.sources.now in
-    let k1 = c.write_layout.ensures.run.kept keeps in
-    last_more d (IsTableSector Paired) (IsFrom 8) (HasTables Paired c.directory_of-directory.result) (IsKindlessStoreOf g.R.Read.remaining c.args.sources.now) c.args.disk.now c.write_homes.new.disk c.write_layout.new.disk
-    (wider d (IsHomesBetween c.args.journals 0 pages) (IsFrom 8) c.args.disk.now c.write_homes.new.disk (λ k at. let low = homes_behind c.args.journals in omega (arith, at.0, low)) (c.write_homes.ensures.run.touches k1))
+    let k1 = c.write_layout.ensures.writes.run.kept keeps in
+    last_then d c.args.journals (IsTableSector Paired) (IsFrom 8) (HasTables Paired c.directory_of-directory.result) (IsKindlessStoreOf g.R.Read.remaining c.args.sources.now)
+    c.args.disk.now c.write_homes.new.disk c.write_layout.new.disk _ _ (λ _. none_on _ _ _ c.from_residual-in_err-write_layout.ensures.1)
+    (wider d (IsHomesBetween c.args.journals 0 (total_pages c.args.sources.now)) (IsFrom 8) c.args.disk.now c.write_homes.new.disk (λ k at. let low = homes_behind c.args.journals in omega (arith, at.0, low)) (c.write_homes.ensures.fills.run.touches k1))
     (λ k at. (table_between k at).0)
-    (λ image same tables. kindless g.R.Read.remaining c.args.sources.now c.args.journals c.directory_of-directory.result (d.content c.write_homes.new.disk) image paired c.directory_of-directory.ensures
+    (λ paired image same tables. kindless g.R.Read.remaining c.args.sources.now c.args.journals c.directory_of-directory.result (d.content c.write_homes.new.disk) image paired c.directory_of-directory.ensures
     (c.in_ok-write_homes.ensures.files k1) same tables)
-    (c.write_layout.ensures.epochs keeps paired)
+    (c.in_err-write_layout.ensures.last keeps)
 
-pub returns-clause-epochs : goal.returns-clause-epochs
-returns-clause-epochs g c = λ keeps paired.
+pub returns-clause-last : goal.returns-clause-last
+returns-clause-last g c = λ keeps.
     let d = g.D.SectorDisk in
-    let pages = total_pages c.args.sources.now in
-    let k1 = c.write_layout.ensures.run.kept keeps in
-    last_more d (IsTableSector Paired) (IsFrom 8) (HasTables Paired c.directory_of-directory.result) (IsKindlessStoreOf g.R.Read.remaining c.args.sources.now) c.args.disk.now c.write_homes.new.disk c.write_layout.new.disk
-    (wider d (IsHomesBetween c.args.journals 0 pages) (IsFrom 8) c.args.disk.now c.write_homes.new.disk (λ k at. let low = homes_behind c.args.journals in omega (arith, at.0, low)) (c.write_homes.ensures.run.touches k1))
+    let k1 = c.write_layout.ensures.writes.run.kept keeps in
+    last_then d c.args.journals (IsTableSector Paired) (IsFrom 8) (HasTables Paired c.directory_of-directory.result) (IsKindlessStoreOf g.R.Read.remaining c.args.sources.now)
+    c.args.disk.now c.write_homes.new.disk c.write_layout.new.disk _ _ (λ b. b)
+    (wider d (IsHomesBetween c.args.journals 0 (total_pages c.args.sources.now)) (IsFrom 8) c.args.disk.now c.write_homes.new.disk (λ k at. let low = homes_behind c.args.journals in omega (arith, at.0, low)) (c.write_homes.ensures.fills.run.touches k1))
     (λ k at. (table_between k at).0)
-    (λ image same tables. kindless g.R.Read.remaining c.args.sources.now c.args.journals c.directory_of-directory.result (d.content c.write_homes.new.disk) image paired c.directory_of-directory.ensures
+    (λ paired image same tables. kindless g.R.Read.remaining c.args.sources.now c.args.journals c.directory_of-directory.result (d.content c.write_homes.new.disk) image paired c.directory_of-directory.ensures
     (c.in_ok-write_homes.ensures.files k1) same tables)
-    (c.write_layout.ensures.epochs keeps paired)
-
-pub returns-clause-kind_behind : goal.returns-clause-kind_behind
-returns-clause-kind_behind g c = λ keeps paired.
-    let d = g.D.SectorDisk in
-    let pages = total_pages c.args.sources.now in
-    let k1 = c.write_layout.ensures.run.kept keeps in
-    behind_more d (IsTableSector Paired) (IsFrom 8) (HasTables Paired c.directory_of-directory.result) (IsKindlessStoreOf g.R.Read.remaining c.args.sources.now) c.args.disk.now c.write_homes.new.disk c.write_layout.new.disk
-    (wider d (IsHomesBetween c.args.journals 0 pages) (IsFrom 8) c.args.disk.now c.write_homes.new.disk (λ k at. let low = homes_behind c.args.journals in omega (arith, at.0, low)) (c.write_homes.ensures.run.touches k1))
-    (λ k at. (table_between k at).0)
-    (λ image same tables. kindless g.R.Read.remaining c.args.sources.now c.args.journals c.directory_of-directory.result (d.content c.write_homes.new.disk) image paired c.directory_of-directory.ensures
-    (c.in_ok-write_homes.ensures.files k1) same tables)
-    (c.in_ok-write_layout.ensures.kind_behind keeps paired)
+    (c.in_ok-write_layout.ensures.last keeps)

@@ -2,7 +2,7 @@ use Rattle.std.proofs.Common.{◌≡◌, ℕ, ◌+◌, ◌-◌, ◌*◌, ◌<◌
 use Rattle.std.proofs.lemmas.Bool.{cases_eq, cases_lt}
 use Rattle.std.proofs.lemmas.List.{take_all, length-drop, get_or-drop}
 use Rattle.std.proofs.lemmas.Option.{slice_get_read}
-use Rattle.file_store.specs.Directory.{decoded, bytes_in}
+use Rattle.file_store.specs.Directory.{decoded, entry_bytes}
 use Rattle.file_store.specs.Format.{first_home, entry_given}
 use Rattle.file_store.proofs.Encoded.{renewed, entry_before, entry_here, zeros_behind, zero_entry, no_file}
 use Rattle.file_store.proofs.Entries.{entry_in-inside}
@@ -40,8 +40,8 @@ loop-f-preserved g c =
       entries = λ n less. ⊎_elim
           (λ same.
           let written = entry_written sources f c.loop-f.first c.info.result c.index-sources-f.result at first c.info.ensures in
-          let read : decoded (bytes_in (renewed f sector bytes inv.size few within others) f) ≡ entry_given sources f = entry_here f sector bytes inv.size few within others ∙ c.encode.ensures.entry ∙ written in
-          subst (λ k. decoded (bytes_in (renewed f sector bytes inv.size few within others) k) ≡ entry_given sources k) (sym same) read)
+          let read : decoded (entry_bytes (renewed f sector bytes inv.size few within others) f) ≡ entry_given sources f = entry_here f sector bytes inv.size few within others ∙ c.encode.ensures.entry ∙ written in
+          subst (λ k. decoded (entry_bytes (renewed f sector bytes inv.size few within others) k) ≡ entry_given sources k) (sym same) read)
           (λ other. entry_before f sector bytes inv.size few within others n (omega (arith, less, other)) ∙ inv.entries n (omega (arith, less, other)))
           (cases_eq n f);
       zeros = zeros_behind f sector bytes inv.size few within others inv.zeros;
@@ -52,7 +52,7 @@ returns g c =
     let sources = c.args.sources.now in
     let sector = c.loop-f.directory in
     let inv = c.loop-f.invariant in
-    let zero = λ (f : ℕ) (past : length sources ≤ f). zero_entry (bytes_in sector f)
+    let zero = λ (f : ℕ) (past : length sources ≤ f). zero_entry (entry_bytes sector f)
     (λ i below. get_or-drop (8 * f) sector i 0 ∙ inv.zeros (8 * f + i) (omega (arith, past, c.loop-f.auto.f-end))) in
     record {
       entries = λ f. ⊎_elim

@@ -1,5 +1,5 @@
 use Rattle.std.proofs.Common.{◌≡◌, ◌+◌, ◌*◌, ◌<◌, ◌≤◌, ℕ, drop, length, get_or}
-use Rattle.file_store.specs.Directory.{decoded, bytes_in}
+use Rattle.file_store.specs.Directory.{decoded, entry_bytes}
 use Rattle.file_store.specs.Format.{total_pages, entry_given}
 use Rattle.file_store.proofs.sources.directory_of.Given as goal
 
@@ -7,6 +7,6 @@ abbrev pub invariant-loop-f : goal.invariant-loop-f
 invariant-loop-f g l = record {
   size : length l.directory ≡ 512;
   rest : l.first + total_pages (drop l.f l.sources) ≡ total_pages l.sources;
-  entries : (n : ℕ) → n < l.f → decoded (bytes_in l.directory n) ≡ entry_given l.sources n;
+  entries : (n : ℕ) → n < l.f → decoded (entry_bytes l.directory n) ≡ entry_given l.sources n;
   zeros : (i : ℕ) → 8 * l.f ≤ i → get_or l.directory i 0 ≡ 0;
 }

@@ -1,4 +1,4 @@
-use Rattle.std.proofs.Common.{◌≡◌, ◌+◌, ◌*◌, ◌<◌, Some, sym, ap, subst, ◌∙◌, ⊎_elim, arith}
+use Rattle.std.proofs.Common.{◌≡◌, ◌+◌, ◌*◌, ◌<◌, Some, refl, sym, ap, subst, ◌∙◌, ⊎_elim, arith}
 use Rattle.std.proofs.lemmas.Bool.{cases_eq}
 use Rattle.disk_model.specs.Stop.{Image}
 use Rattle.disk_model.specs.Moments.{Nothing}
@@ -8,26 +8,21 @@ use Rattle.sync_journal.specs.Layout.{layout_before, home_count_in, IsPageSector
 use Rattle.sync_journal.specs.Standing.{standing_in}
 use Rattle.sync_journal.specs.Kinds.{kind_home}
 use Rattle.sync_journal.proofs.Runs.{one_more}
-use Rattle.file_store.specs.Layout.{page_count}
+use Rattle.file_store.specs.Layout.{pages_of_length}
 use Rattle.file_store.specs.Format.{HoldsPage}
 use Rattle.file_store.specs.Standing.{page_standing_in}
 use Rattle.file_store.specs.Upgrade.{IsOldStore, IsFileSector, IsOldPage, old_place}
+use Rattle.file_store.specs.Faults.{old_fault}
+use Rattle.file_store.proofs.Causes.{same_Err}
+use Rattle.file_store.proofs.Copied.{copies_unread, copies_unwritten}
 use Rattle.file_store.proofs.Making.{makes_more, makes_page}
 use Rattle.file_store.proofs.Openings.{content_is}
 use Rattle.file_store.proofs.upgrading.copy_file.Goals as goal
 
-pub returns-in_err-write_page-clause-run : goal.returns-in_err-write_page-clause-run
-returns-in_err-write_page-clause-run g c =
-    let entry = c.args.entry in
-    let below : c.loop-k.k < page_count entry.info.length = omega (arith, c.loop-k-test.true, c.pages-k-end.ensures) in
-    makes_more g.E.SectorDisk (IsFileSector c.args.journals entry) c.args.new.now c.loop-k.new c.write_page.new.disk c.loop-k.invariant.run
-    (makes_page g.E.SectorDisk (IsFileSector c.args.journals entry) (c.first_home-homes.result + 8 * c.from.result) c.loop-k.new c.write_page.new.disk
-    (λ s inside. (entry.first + c.loop-k.k, (omega arith, omega (arith, below)), (omega (arith, inside.0, c.from.ensures, c.first_home-homes.ensures.is), omega (arith, inside.1, c.from.ensures, c.first_home-homes.ensures.is)))) c.write_page.ensures.run c.write_page.ensures.asks)
-
 pub read_page-requires-clause-home : goal.read_page-requires-clause-home
 read_page-requires-clause-home g c =
     let size = c.loop-k.invariant.old_run.size in
-    let below : c.loop-k.k < page_count c.args.entry.info.length = omega (arith, c.loop-k-test.true, c.pages-k-end.ensures) in
+    let below : c.loop-k.k < pages_of_length c.args.entry.info.length = omega (arith, c.loop-k-test.true, c.pages-k-end.ensures) in
     subst (λ b. c.args.entry.first + c.loop-k.k < home_count_in (layout_before b) (g.D.SectorDisk.sector_count c.loop-k.old)) (sym c.requires.before)
     (subst (λ n. c.args.entry.first + c.loop-k.k < home_count_in (layout_before c.args.journals) n) (sym size) (omega (arith, below, c.requires.within)))
 
@@ -45,13 +40,13 @@ loop-k-preserved g c =
     let n = g.E.SectorDisk in
     let w = c.write_page.ensures in
     let entry = c.args.entry in
-    let below : c.loop-k.k < page_count entry.info.length = omega (arith, c.loop-k-test.true, c.pages-k-end.ensures) in
+    let below : c.loop-k.k < pages_of_length entry.info.length = omega (arith, c.loop-k-test.true, c.pages-k-end.ensures) in
     let old = d.content c.args.old.now in
     let new = n.content c.write_page.new.disk in
     record {
-      old_run = one_more d Nothing c.args.old.now c.loop-k.old c.read_page.new.disk inv.old_run c.read_page.ensures.run;
+      old_run = one_more d Nothing c.args.old.now c.loop-k.old c.read_page.new.disk inv.old_run c.read_page.ensures.reads.run;
       asks_old = λ keeps.
-          let was = c.read_page.ensures.run.kept keeps in
+          let was = c.read_page.ensures.reads.run.kept keeps in
           let same = content_is d c.args.old.now c.loop-k.old (inv.old_run.touches was) in
           asks_then d (IsOldPage c.args.journals old entry (c.loop-k.k + 1)) c.args.old.now c.loop-k.old c.read_page.new.disk
           (asks_wider d (IsOldPage c.args.journals old entry c.loop-k.k) (IsOldPage c.args.journals old entry (c.loop-k.k + 1)) c.args.old.now c.loop-k.old (λ s at. (at.0, omega (arith, at.1), at.2)) (inv.asks_old was))
@@ -66,10 +61,10 @@ loop-k-preserved g c =
       run = makes_more n (IsFileSector c.args.journals entry) c.args.new.now c.loop-k.new c.write_page.new.disk inv.run
           (makes_page g.E.SectorDisk (IsFileSector c.args.journals entry) (c.first_home-homes.result + 8 * c.from.result) c.loop-k.new c.write_page.new.disk
           (λ s inside. (entry.first + c.loop-k.k, (omega arith, omega (arith, below)), (omega (arith, inside.0, c.from.ensures, c.first_home-homes.ensures.is), omega (arith, inside.1, c.from.ensures, c.first_home-homes.ensures.is)))) c.write_page.ensures.run c.write_page.ensures.asks);
-      old_calm = c.in_ok-read_page.ensures.calm ∙ inv.old_calm;
+      old_calm = c.in_ok-read_page.ensures.reads.calm ∙ inv.old_calm;
       calm = c.in_ok-write_page.ensures.calm ∙ inv.calm;
       pages = λ keeps_old keeps j below_j.
-          let was = c.read_page.ensures.run.kept keeps_old in
+          let was = c.read_page.ensures.reads.run.kept keeps_old in
           let same = content_is d c.args.old.now c.loop-k.old (inv.old_run.touches was) in ⊎_elim
           (λ here. subst (λ m. HoldsPage c.args.journals (entry.first + m) (page_standing_in (standing_in (layout_before c.args.journals) old) m (Some entry)) new) (sym here)
           (λ i lt. ap (λ m. new (m + 8 * (entry.first + c.loop-k.k) + i)) (sym c.first_home-homes.ensures.is) ∙ ap (λ m. new (c.first_home-homes.result + 8 * m + i)) (sym c.from.ensures)
@@ -82,16 +77,22 @@ loop-k-preserved g c =
           (cases_eq j c.loop-k.k);
     }
 
-pub returns-in_err-read_page-clause-asks_old : goal.returns-in_err-read_page-clause-asks_old
-returns-in_err-read_page-clause-asks_old g c = λ keeps.
+pub returns-in_err-read_page-clause-copies : goal.returns-in_err-read_page-clause-copies
+returns-in_err-read_page-clause-copies g c =
     let inv = c.loop-k.invariant in
     let d = g.D.SectorDisk in
+    let n = g.E.SectorDisk in
     let entry = c.args.entry in
     let old = d.content c.args.old.now in
-    let below : c.loop-k.k < page_count entry.info.length = omega (arith, c.loop-k-test.true, c.pages-k-end.ensures) in
-    let was = c.read_page.ensures.run.kept keeps in
+    let below : c.loop-k.k < pages_of_length entry.info.length = omega (arith, c.loop-k-test.true, c.pages-k-end.ensures) in
+    let W = IsOldPage c.args.journals old entry (pages_of_length entry.info.length) in
+    let fault = c.in_err-read_page.field-0.0 in
+    let failed = c.in_err-read_page.ensures.reads.failed refl in
+    let calm = inv.old_calm in
+    copies_unread d n W _ c.args.old.now c.read_page.new.disk c.args.new.now c.loop-k.new (one_more d Nothing c.args.old.now c.loop-k.old c.read_page.new.disk inv.old_run c.read_page.ensures.reads.run)
+    (λ keeps.
+    let was = c.read_page.ensures.reads.run.kept keeps in
     let same = content_is d c.args.old.now c.loop-k.old (inv.old_run.touches was) in
-    let W = IsOldPage c.args.journals old entry (page_count entry.info.length) in
     asks_then d W c.args.old.now c.loop-k.old c.read_page.new.disk
     (asks_wider d (IsOldPage c.args.journals old entry c.loop-k.k) W c.args.old.now c.loop-k.old (λ s at. (at.0, omega (arith, at.1, below), at.2)) (inv.asks_old was))
     (asks_wider d (IsPageSector (old_place c.args.store.now.journal.journals (d.content c.loop-k.old) (entry.first + c.loop-k.k))) W c.loop-k.old c.read_page.new.disk
@@ -101,18 +102,24 @@ returns-in_err-read_page-clause-asks_old g c = λ keeps.
       subst (λ (image : Image). IsPageSector (old_place c.args.journals image (entry.first + c.loop-k.k)) s) same
           (subst (λ b. IsPageSector (old_place b (d.content c.loop-k.old) (entry.first + c.loop-k.k)) s) c.requires.before at),
     ))
-    (c.read_page.ensures.asks keeps))
+    (c.read_page.ensures.asks keeps)))
+    inv.run (old_fault fault) c.from_residual.result c.from_residual.ensures.1 (ap old_fault (same_Err _ _ c.in_err-read_page.ensures.device)) (omega (arith, failed, calm)) inv.calm
 
-pub returns-in_err-write_page-clause-asks_old : goal.returns-in_err-write_page-clause-asks_old
-returns-in_err-write_page-clause-asks_old g c = λ keeps.
+pub returns-in_err-write_page-clause-copies : goal.returns-in_err-write_page-clause-copies
+returns-in_err-write_page-clause-copies g c =
     let inv = c.loop-k.invariant in
     let d = g.D.SectorDisk in
+    let n = g.E.SectorDisk in
     let entry = c.args.entry in
     let old = d.content c.args.old.now in
-    let below : c.loop-k.k < page_count entry.info.length = omega (arith, c.loop-k-test.true, c.pages-k-end.ensures) in
-    let was = c.read_page.ensures.run.kept keeps in
+    let below : c.loop-k.k < pages_of_length entry.info.length = omega (arith, c.loop-k-test.true, c.pages-k-end.ensures) in
+    let W = IsOldPage c.args.journals old entry (pages_of_length entry.info.length) in
+    let failed = c.in_err-write_page.ensures.failed refl in
+    let calm = inv.calm in
+    copies_unwritten d n W _ c.args.old.now c.read_page.new.disk c.args.new.now c.write_page.new.disk (one_more d Nothing c.args.old.now c.loop-k.old c.read_page.new.disk inv.old_run c.read_page.ensures.reads.run)
+    (λ keeps.
+    let was = c.read_page.ensures.reads.run.kept keeps in
     let same = content_is d c.args.old.now c.loop-k.old (inv.old_run.touches was) in
-    let W = IsOldPage c.args.journals old entry (page_count entry.info.length) in
     asks_then d W c.args.old.now c.loop-k.old c.read_page.new.disk
     (asks_wider d (IsOldPage c.args.journals old entry c.loop-k.k) W c.args.old.now c.loop-k.old (λ s at. (at.0, omega (arith, at.1, below), at.2)) (inv.asks_old was))
     (asks_wider d (IsPageSector (old_place c.args.store.now.journal.journals (d.content c.loop-k.old) (entry.first + c.loop-k.k))) W c.loop-k.old c.read_page.new.disk
@@ -122,4 +129,8 @@ returns-in_err-write_page-clause-asks_old g c = λ keeps.
       subst (λ (image : Image). IsPageSector (old_place c.args.journals image (entry.first + c.loop-k.k)) s) same
           (subst (λ b. IsPageSector (old_place b (d.content c.loop-k.old) (entry.first + c.loop-k.k)) s) c.requires.before at),
     ))
-    (c.read_page.ensures.asks keeps))
+    (c.read_page.ensures.asks keeps)))
+    (makes_more g.E.SectorDisk (IsFileSector c.args.journals entry) c.args.new.now c.loop-k.new c.write_page.new.disk c.loop-k.invariant.run
+    (makes_page g.E.SectorDisk (IsFileSector c.args.journals entry) (c.first_home-homes.result + 8 * c.from.result) c.loop-k.new c.write_page.new.disk
+    (λ s inside. (entry.first + c.loop-k.k, (omega arith, omega (arith, below)), (omega (arith, inside.0, c.from.ensures, c.first_home-homes.ensures.is), omega (arith, inside.1, c.from.ensures, c.first_home-homes.ensures.is)))) c.write_page.ensures.run c.write_page.ensures.asks))
+    c.from_residual-in_err-write_page.result c.from_residual-in_err-write_page.ensures.1 (c.in_ok-read_page.ensures.reads.calm ∙ inv.old_calm) (omega (arith, failed, calm))

@@ -1,13 +1,13 @@
 use Rattle.std.proofs.Common.{◌≡◌}
 use Rattle.disk_model.specs.Moments.{AsksOnly, Nothing}
-use Rattle.sync_journal.specs.Runs.{Runs}
+use Rattle.sync_journal.specs.Runs.{RunsOnDevice}
 use Rattle.file_store.specs.Making.{Makes}
 use Rattle.file_store.specs.Upgrade.{IsOldPage, IsFileSector, HoldsOldPages}
 use Rattle.file_store.proofs.upgrading.copy_file.Given as goal
 
 abbrev pub invariant-loop-k : goal.invariant-loop-k
 invariant-loop-k g l = record {
-  old_run : Runs g.D.SectorDisk Nothing l.initial.old l.old;
+  old_run : RunsOnDevice g.D.SectorDisk Nothing l.initial.old l.old;
   asks_old : g.D.SectorDisk.keeps_model l.old → AsksOnly g.D.SectorDisk (IsOldPage l.fn.journals (g.D.SectorDisk.content l.initial.old) l.entry l.k) l.initial.old l.old;
   run : Makes g.E.SectorDisk (IsFileSector l.fn.journals l.entry) l.initial.new l.new;
   old_calm : g.D.SectorDisk.failures l.old ≡ g.D.SectorDisk.failures l.initial.old;

@@ -6,20 +6,19 @@ use Rattle.disk_model.proofs.Moments.{asks_then, asks_wider}
 use Rattle.sync_journal.specs.Layout.{layout_before, home_count_in}
 use Rattle.sync_journal.specs.Kinds.{kind_home}
 use Rattle.sync_journal.proofs.Runs.{one_more}
-use Rattle.file_store.specs.Layout.{page_count}
+use Rattle.file_store.specs.Layout.{pages_of_length}
 use Rattle.file_store.specs.Store.{entry_of}
 use Rattle.file_store.specs.Upgrade.{IsEntrySector, IsFilesSector, IsOldEntry, IsOldFile, HoldsOldPages}
 use Rattle.file_store.specs.declared.directory.Entry.{Entry}
+use Rattle.file_store.proofs.Copied.{copiable_still, copies_error}
 use Rattle.file_store.proofs.Making.{makes_more, makes_of}
 use Rattle.file_store.proofs.Openings.{content_is}
 use Rattle.file_store.proofs.Upgrades.{not_in_entry}
 use Rattle.file_store.proofs.upgrading.copy_files.Goals as goal
 
-pub returns-in_err-copy_entry-clause-run : goal.returns-in_err-copy_entry-clause-run
-returns-in_err-copy_entry-clause-run g c =
-    let entry = entry_of c.args.store.now.directory c.loop-f.f in
-    makes_more g.E.SectorDisk (IsFilesSector c.args.journals (entry_of c.args.store.now.directory)) c.args.new.now c.loop-f.new c.copy_entry.new.new c.loop-f.invariant.run
-    (makes_of g.E.SectorDisk (IsEntrySector c.args.journals entry) (IsFilesSector c.args.journals (entry_of c.args.store.now.directory)) c.loop-f.new c.copy_entry.new.new (λ k at. (c.loop-f.f, at)) c.copy_entry.ensures.run)
+pub copy_entry-requires : goal.copy_entry-requires
+copy_entry-requires g c = copiable_still g.D.SectorDisk g.E.SectorDisk c.args.journals c.args.store.now c.args.old.now c.loop-f.old (g.E.SectorDisk.sector_count c.args.new.now) (g.E.SectorDisk.sector_count c.loop-f.new)
+    c.loop-f.invariant.run.size c.loop-f.invariant.old_run c.requires
 
 pub loop-f-preserved : goal.loop-f-preserved
 loop-f-preserved g c =
@@ -32,9 +31,9 @@ loop-f-preserved g c =
     let new = n.content c.copy_entry.new.new in
     let old = d.content c.args.old.now in
     record {
-      old_run = one_more d Nothing c.args.old.now c.loop-f.old c.copy_entry.new.old inv.old_run w.old_run;
+      old_run = one_more d Nothing c.args.old.now c.loop-f.old c.copy_entry.new.old inv.old_run w.copies.old_run;
       asks_old = λ keeps.
-          let was = c.copy_entry.ensures.old_run.kept keeps in
+          let was = c.copy_entry.ensures.copies.old_run.kept keeps in
           let same = content_is d c.args.old.now c.loop-f.old (inv.old_run.touches was) in
           let W = IsOldFile c.args.journals old in
           asks_then d W c.args.old.now c.loop-f.old c.copy_entry.new.old (inv.asks_old was)
@@ -43,32 +42,34 @@ loop-f-preserved g c =
             c.loop-f.f,
             subst (λ (o : Option Entry). IsOldEntry c.args.journals old o k) ((c.requires.found (inv.old_run.kept was)).entries c.loop-f.f)
                 (subst (λ (image : Image). IsOldEntry c.args.journals image entry k) same at),
-          )) (c.copy_entry.ensures.asks_old keeps));
+          )) (c.copy_entry.ensures.copies.asks_old keeps));
       run = makes_more n (IsFilesSector c.args.journals (entry_of c.args.store.now.directory)) c.args.new.now c.loop-f.new c.copy_entry.new.new inv.run
-          (makes_of n (IsEntrySector c.args.journals entry) (IsFilesSector c.args.journals (entry_of c.args.store.now.directory)) c.loop-f.new c.copy_entry.new.new (λ k at. (c.loop-f.f, at)) c.copy_entry.ensures.run);
-      old_calm = c.in_ok-copy_entry.ensures.causes.old_still (λ e. cc) ∙ inv.old_calm;
-      calm = c.in_ok-copy_entry.ensures.causes.new_still (λ e. cc) ∙ inv.calm;
+          (makes_of n (IsEntrySector c.args.journals entry) (IsFilesSector c.args.journals (entry_of c.args.store.now.directory)) c.loop-f.new c.copy_entry.new.new (λ k at. (c.loop-f.f, at)) c.copy_entry.ensures.copies.run);
+      old_calm = c.in_ok-copy_entry.ensures.copies.causes.old_still (λ e. cc) ∙ inv.old_calm;
+      calm = c.in_ok-copy_entry.ensures.copies.causes.new_still (λ e. cc) ∙ inv.calm;
       files = λ keeps_old keeps h e less is.
-          let was = w.old_run.kept keeps_old in
+          let was = w.copies.old_run.kept keeps_old in
           let first = inv.old_run.kept was in
           let same = content_is d c.args.old.now c.loop-f.old (inv.old_run.touches was) in
           let known : entry_of directory h ≡ Some e = (c.requires.found first).entries h ∙ is in ⊎_elim
-          (λ here. subst (λ (image : Image). HoldsOldPages c.args.journals image e (page_count e.info.length) new) same
+          (λ here. subst (λ (image : Image). HoldsOldPages c.args.journals image e (pages_of_length e.info.length) new) same
           (c.in_ok-copy_entry.ensures.pages keeps_old keeps e (ap (entry_of directory) (sym here) ∙ known)))
           (λ other. λ k inside i lt. ⊎_elim {C = new (kind_home c.args.journals (e.first + k) + i) ≡ n.content c.loop-f.new (kind_home c.args.journals (e.first + k) + i)}
           (λ at. absurd (not_in_entry c.args.journals (home_count_in (layout_before c.args.journals) (d.sector_count c.args.old.now)) (entry_of directory) c.requires.sound h c.loop-f.f k i e other known inside lt at))
-          (λ e. e) ((w.run.touches keeps).content (kind_home c.args.journals (e.first + k) + i))
-          ∙ inv.files was (w.run.kept keeps) h e (omega (arith, less, other)) is k inside i lt)
+          (λ e. e) ((w.copies.run.touches keeps).content (kind_home c.args.journals (e.first + k) + i))
+          ∙ inv.files was (w.copies.run.kept keeps) h e (omega (arith, less, other)) is k inside i lt)
           (cases_eq h c.loop-f.f);
     }
 
-pub returns-in_err-copy_entry-clause-asks_old : goal.returns-in_err-copy_entry-clause-asks_old
-returns-in_err-copy_entry-clause-asks_old g c = λ keeps.
+pub returns-in_err-copy_entry-clause-copies : goal.returns-in_err-copy_entry-clause-copies
+returns-in_err-copy_entry-clause-copies g c =
     let inv = c.loop-f.invariant in
     let d = g.D.SectorDisk in
     let entry = entry_of c.args.store.now.directory c.loop-f.f in
     let old = d.content c.args.old.now in
-    let was = c.copy_entry.ensures.old_run.kept keeps in
+    copies_error d g.E.SectorDisk _ _ c.args.old.now c.copy_entry.new.old c.args.new.now c.copy_entry.new.new (one_more d Nothing c.args.old.now c.loop-f.old c.copy_entry.new.old inv.old_run c.copy_entry.ensures.copies.old_run)
+    (λ keeps.
+    let was = c.copy_entry.ensures.copies.old_run.kept keeps in
     let same = content_is d c.args.old.now c.loop-f.old (inv.old_run.touches was) in
     let W = IsOldFile c.args.journals old in
     asks_then d W c.args.old.now c.loop-f.old c.copy_entry.new.old (inv.asks_old was)
@@ -77,4 +78,7 @@ returns-in_err-copy_entry-clause-asks_old g c = λ keeps.
       c.loop-f.f,
       subst (λ (o : Option Entry). IsOldEntry c.args.journals old o k) ((c.requires.found (inv.old_run.kept was)).entries c.loop-f.f)
           (subst (λ (image : Image). IsOldEntry c.args.journals image entry k) same at),
-    )) (c.copy_entry.ensures.asks_old keeps))
+    )) (c.copy_entry.ensures.copies.asks_old keeps)))
+    (makes_more g.E.SectorDisk (IsFilesSector c.args.journals (entry_of c.args.store.now.directory)) c.args.new.now c.loop-f.new c.copy_entry.new.new c.loop-f.invariant.run
+    (makes_of g.E.SectorDisk (IsEntrySector c.args.journals entry) (IsFilesSector c.args.journals (entry_of c.args.store.now.directory)) c.loop-f.new c.copy_entry.new.new (λ k at. (c.loop-f.f, at)) c.copy_entry.ensures.copies.run))
+    _ _ c.in_err-copy_entry.field-0.0 c.from_residual.result c.loop-f.old c.loop-f.new c.from_residual.ensures.1 inv.old_calm inv.calm c.in_err-copy_entry.ensures.copies

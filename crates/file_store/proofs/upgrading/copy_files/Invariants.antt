@@ -1,6 +1,6 @@
 use Rattle.std.proofs.Common.{◌≡◌}
 use Rattle.disk_model.specs.Moments.{AsksOnly, Nothing}
-use Rattle.sync_journal.specs.Runs.{Runs}
+use Rattle.sync_journal.specs.Runs.{RunsOnDevice}
 use Rattle.file_store.specs.Making.{Makes}
 use Rattle.file_store.specs.Store.{entry_of}
 use Rattle.file_store.specs.Upgrade.{IsOldFile, IsFilesSector, HoldsOldFiles}
@@ -8,7 +8,7 @@ use Rattle.file_store.proofs.upgrading.copy_files.Given as goal
 
 abbrev pub invariant-loop-f : goal.invariant-loop-f
 invariant-loop-f g l = record {
-  old_run : Runs g.D.SectorDisk Nothing l.initial.old l.old;
+  old_run : RunsOnDevice g.D.SectorDisk Nothing l.initial.old l.old;
   asks_old : g.D.SectorDisk.keeps_model l.old → AsksOnly g.D.SectorDisk (IsOldFile l.fn.journals (g.D.SectorDisk.content l.initial.old)) l.initial.old l.old;
   run : Makes g.E.SectorDisk (IsFilesSector l.fn.journals (entry_of l.store.directory)) l.initial.new l.new;
   old_calm : g.D.SectorDisk.failures l.old ≡ g.D.SectorDisk.failures l.initial.old;

@@ -1,297 +1,258 @@
-use Rattle.std.proofs.Common.{ℕ, Err, refl, inl, inr, ⊎_elim, sym, ap, subst, ◌∙◌}
+use Rattle.std.proofs.Common.{◌≡◌, ◌≤◌, ◌<◌, ℕ, Err, Some, refl, inl, inr, ⊎_elim, sym, ap, subst, ◌∙◌}
 use Rattle.disk_model.specs.Stop.{Image}
-use Rattle.disk_model.specs.Moments.{Nothing}
-use Rattle.disk_model.proofs.Moments.{then, wider, stays, asks_none, asks_then, asks_wider}
+use Rattle.disk_model.specs.Moments.{Nothing, AsksOnly}
+use Rattle.disk_model.proofs.Moments.{stays, asks_none, asks_then, asks_wider}
+use Rattle.sync_journal.specs.declared.store_journal.Journals.{Journals}
+use Rattle.sync_journal.specs.Kinds.{kind_home_count}
+use Rattle.sync_journal.specs.Layout.{layout_before, home_count_in}
+use Rattle.sync_journal.proofs.Runs.{one_more}
+use Rattle.file_store.specs.declared.directory.Entry.{Entry}
+use Rattle.file_store.specs.declared.faults.UpgradeFault.TheVariants.{NewDevice}
+use Rattle.file_store.specs.Directory.{home_end, IsSoundDirectory}
 use Rattle.file_store.specs.Faults.{old_fault}
-use Rattle.file_store.specs.Format.{IsFrom, IsMarkSector}
+use Rattle.file_store.specs.Format.{IsMarkSector}
 use Rattle.file_store.specs.Store.{entry_of}
-use Rattle.file_store.specs.Upgrade.{IsOldStore, IsUnmarkedUpgrade, IsKindlessUpgrade, IsUpgradeOf, IsCopiedSector, IsUpgradeSector, IsOldHead, IsOldFile, IsOldAsked}
-use Rattle.file_store.proofs.Causes.{is_this, same_Err}
-use Rattle.file_store.proofs.Formats.{while_unmarked, while_marking, marked_whole}
+use Rattle.file_store.specs.Upgrade.{old_entry, IsOldStore, IsUnmarkedUpgrade, IsKindlessUpgrade, IsUpgradeOf, IsCopiedSector, IsUpgradeSector, IsOldHead, IsOldAsked}
+use Rattle.file_store.specs.Versions.{version_of, mark_of}
+use Rattle.file_store.proofs.Causes.{same_Err}
+use Rattle.file_store.proofs.Copied.{causes_after, causes_before, causes_none, causes_marking, copied_old_asked}
+use Rattle.file_store.proofs.Formats.{marked_whole}
+use Rattle.file_store.proofs.Looking.{ok_is_no_err}
+use Rattle.file_store.proofs.Marking.{LeavesNoPart, nothing_made, unmarked_made, marked_made}
 use Rattle.file_store.proofs.Openings.{content_is}
+use Rattle.file_store.proofs.Refusing.{of_old, broken_from, when_checking, when_copying, when_marking, room_is_not_small, causes_checked, upgrade_refused}
 use Rattle.file_store.proofs.Upgrades.{kindless_upgrade_moves, upgraded_of_kind, copied_from, copied_asked, layout_from, old_fault_cases, too_small, upgrade_whole, entries_fit}
-use Rattle.file_store.specs.Blocks.MakesByBlocks.{Unmarked}
-use Rattle.sync_journal.specs.declared.store_journal.Journals.TheVariants.{Paired}
-use Rattle.file_store.proofs.Blocks.{behind_more, last_more, first_epoch, made_last, made_marked}
 use Rattle.file_store.proofs.upgrading.upgrade.Goals as goal
 
-pub returns-in_err-store-clause-old_layout : goal.returns-in_err-store-clause-old_layout
-returns-in_err-store-clause-old_layout g c = λ keeps is.
+pub copy_unmarked-requires-clause-copied : goal.copy_unmarked-requires-clause-copied
+copy_unmarked-requires-clause-copied g c =
+    let d = g.D.SectorDisk in
+    let store = c.in_ok-store.store in
+    let found = c.in_ok-store.ensures.found in
+    record {
+      before = found.before;
+      sound = subst (λ (n : ℕ). IsSoundDirectory (home_count_in (layout_before c.args.journals) n) (entry_of store.directory)) (sym c.find.ensures.looks.run.size) found.sound;
+      found = λ keeps. subst (λ (image : Image). IsOldStore c.args.journals image store) (sym (content_is d c.args.old.now c.find.new.disk (c.find.ensures.looks.run.touches keeps))) (found.found keeps);
+      fits = λ f e is. subst (λ (n : ℕ). home_end e ≤ kind_home_count c.args.journals n) (sym c.check_new.ensures.run.size) ((c.in_ok-check_new.ensures.room (ok_is_no_err _ _)).fits f e is);
+    }
+
+-- the old store is refused
+pub returns-in_err-store : goal.returns-in_err-store
+returns-in_err-store g c =
+    let d = g.D.SectorDisk in
+    let n = g.E.SectorDisk in
+    let kind = c.args.journals in
+    let old = c.args.old.now in
+    let read = c.find.new.disk in
+    let new = c.args.new.now in
+    let image = d.content old in
+    let find = c.find.ensures in
     let fault = c.in_err-store.field-0.0 in
-    let made = is_this c.from_residual.result (old_fault fault) c.from_residual.ensures.1 in
-    c.in_err-store.ensures.bad_layout keeps (ap Err (layout_from fault (same_Err _ _ (sym made ∙ is))))
+    let e = c.in_err-store.ensures in
+    upgrade_refused d n kind old read new new (old_fault fault) c.from_residual.result c.from_residual.ensures.1 find.looks.run refl (λ k. k)
+    (λ k. asks_wider d (IsOldHead kind) (IsOldAsked kind image) old read (λ s at. inl at) find.asks) (λ k. asks_none n (IsUpgradeSector kind image) new new (λ s. refl))
+    (causes_before fault _ _ _ e.looks find.looks.run.later)
+    (λ k k'. nothing_made n kind (λ b. IsUpgradeOf b (d.sector_count old) (n.sector_count new) image) new (λ i left. g.met.E.SectorDisk.only_now new i k' left) new (stays n Nothing new))
+    (λ k is. e.bad_layout k (ap Err (layout_from fault is)))
+    (λ k bad. ⊎_elim (λ device. inr (ap old_fault device)) (⊎_elim (λ layout. inl (ap old_fault layout)) (λ journal. absurd ((e.bad_journal k (ap Err journal)).1 bad))) (old_fault_cases fault))
+    (λ k is. (e.bad_journal k (ap Err (broken_from fault is))).0)
+    (λ k bad. ⊎_elim (λ device. inr (inr (ap old_fault device))) (⊎_elim (λ layout. inl (ap old_fault layout)) (λ journal. inr (inl (ap old_fault journal)))) (old_fault_cases fault))
+    (λ k is. absurd ((of_old fault).0 is))
+    (λ k small. ⊎_elim (λ device. inr (inr (inl (ap old_fault device)))) (⊎_elim (λ layout. inl (ap old_fault layout)) (λ journal. inr (inl (ap old_fault journal)))) (old_fault_cases fault))
+    (λ k is. absurd ((of_old fault).1 is)) (λ k mark. stays n Nothing new) (λ k is. stays n Nothing new)
 
-pub returns-in_err-store-clause-good_layout : goal.returns-in_err-store-clause-good_layout
-returns-in_err-store-clause-good_layout g c = λ keeps bad.
-    let fault = c.in_err-store.field-0.0 in
-    let made = is_this c.from_residual.result (old_fault fault) c.from_residual.ensures.1 in
-    ⊎_elim (λ device. inr (made ∙ ap (λ f. Err (old_fault f)) device))
-    (⊎_elim (λ layout. inl (made ∙ ap (λ f. Err (old_fault f)) layout))
-    (λ journal. absurd ((c.in_err-store.ensures.bad_journal keeps (ap Err journal)).1 bad)))
-    (old_fault_cases fault)
-
-pub returns-in_err-check_new-clause-good_layout : goal.returns-in_err-check_new-clause-good_layout
-returns-in_err-check_new-clause-good_layout g c = λ keeps bad. absurd (c.in_ok-store.ensures.good_layout keeps bad)
-
-pub returns-in_err-check_new-clause-new_small : goal.returns-in_err-check_new-clause-new_small
-returns-in_err-check_new-clause-new_small g c = λ keeps is.
-    let made = is_this c.from_residual-in_err-check_new.result c.in_err-check_new.field-0.0 c.from_residual-in_err-check_new.ensures.1 in
-    too_small c.args.journals (g.E.SectorDisk.sector_count c.args.new.now) (g.D.SectorDisk.content c.args.old.now) (entry_of c.in_ok-store.store.directory)
-    (c.in_ok-store.ensures.found keeps).entries (c.in_err-check_new.ensures.small (sym made ∙ is))
-
-pub copy_unmarked-requires-clause-found : goal.copy_unmarked-requires-clause-found
-copy_unmarked-requires-clause-found g c = λ keeps.
-    subst (λ (image : Image). IsOldStore c.args.journals image c.in_ok-store.store) (sym (content_is g.D.SectorDisk c.args.old.now c.find.new.disk (c.find.ensures.run.touches keeps)))
-    (c.in_ok-store.ensures.found keeps)
-
-pub returns-in_err-copy_unmarked-clause-good_layout : goal.returns-in_err-copy_unmarked-clause-good_layout
-returns-in_err-copy_unmarked-clause-good_layout g c = λ keeps bad. absurd (c.in_ok-store.ensures.good_layout (c.copy_unmarked.ensures.old_run.kept keeps) bad)
-
-pub returns-in_err-write_mark-clause-good_layout : goal.returns-in_err-write_mark-clause-good_layout
-returns-in_err-write_mark-clause-good_layout g c = λ keeps bad. absurd (c.in_ok-store.ensures.good_layout (c.copy_unmarked.ensures.old_run.kept keeps) bad)
-
-pub returns-clause-good_layout : goal.returns-clause-good_layout
-returns-clause-good_layout g c = λ keeps bad. absurd (c.in_ok-store.ensures.good_layout (c.copy_unmarked.ensures.old_run.kept keeps) bad)
-
-pub returns-in_err-copy_unmarked-clause-any_moment : goal.returns-in_err-copy_unmarked-clause-any_moment
-returns-in_err-copy_unmarked-clause-any_moment g c = λ keeps_old keeps synced unmarked.
-    let n = g.E.SectorDisk in
-    let w = c.copy_unmarked.ensures.run in
-    let mid = w.kept keeps in
-    let before = c.check_new.ensures.run.kept mid in
-    while_unmarked n (IsUpgradeOf c.args.journals (g.D.SectorDisk.sector_count c.args.old.now) (n.sector_count c.args.new.now) (g.D.SectorDisk.content c.args.old.now)) c.args.new.now
-    (λ image left. g.met.E.SectorDisk.only_now c.args.new.now image before left) synced unmarked c.copy_unmarked.new.new
-    (then n (IsFrom 1) c.args.new.now c.check_new.new.new c.copy_unmarked.new.new
-    (wider n Nothing (IsFrom 1) c.args.new.now c.check_new.new.new (λ k none. absurd none) (c.check_new.ensures.run.touches mid))
-    (wider n (IsCopiedSector c.args.journals (entry_of c.in_ok-store.store.directory)) (IsFrom 1) c.check_new.new.new c.copy_unmarked.new.new (copied_from c.args.journals (entry_of c.in_ok-store.store.directory)) (w.touches keeps)))
-
-pub returns-in_err-write_mark-clause-any_moment : goal.returns-in_err-write_mark-clause-any_moment
-returns-in_err-write_mark-clause-any_moment g c = λ keeps_old keeps synced unmarked.
-    let n = g.E.SectorDisk in
-    let old = g.D.SectorDisk.content c.args.old.now in
-    let sectors = n.sector_count c.args.new.now in
-    let m = c.write_mark.ensures.run in
-    let last = m.kept keeps in
-    let found = c.copy_unmarked.ensures.old_run.kept keeps_old in
-    let store = c.in_ok-store.store in
-    let written = subst (λ (image : Image). IsUnmarkedUpgrade c.args.journals image (n.content c.copy_unmarked.new.new))
-    (content_is g.D.SectorDisk c.args.old.now c.find.new.disk (c.find.ensures.run.touches found)) (c.in_ok-copy_unmarked.ensures.written keeps_old last) in
-    let whole = upgrade_whole c.args.journals (g.D.SectorDisk.sector_count c.args.old.now) sectors old (n.content c.copy_unmarked.new.new)
-    (c.in_ok-check_new.ensures.room (λ e. cc)) (c.in_ok-store.ensures.good_layout found)
-    (entries_fit c.args.journals sectors old (entry_of store.directory) (c.in_ok-store.ensures.found found).entries store.directory.numbers (c.in_ok-check_new.ensures.fits (λ e. cc))) written in
-    let w = c.copy_unmarked.ensures.run in
-    let mid = w.kept last in
-    let before = c.check_new.ensures.run.kept mid in
-    while_marking n (IsUpgradeOf c.args.journals (g.D.SectorDisk.sector_count c.args.old.now) sectors old) c.args.new.now
-    (λ image left. g.met.E.SectorDisk.only_now c.args.new.now image before left) synced unmarked c.copy_unmarked.new.new c.write_mark.new.disk
-    (then n (IsFrom 1) c.args.new.now c.check_new.new.new c.copy_unmarked.new.new
-    (wider n Nothing (IsFrom 1) c.args.new.now c.check_new.new.new (λ k none. absurd none) (c.check_new.ensures.run.touches mid))
-    (wider n (IsCopiedSector c.args.journals (entry_of c.in_ok-store.store.directory)) (IsFrom 1) c.check_new.new.new c.copy_unmarked.new.new (copied_from c.args.journals (entry_of c.in_ok-store.store.directory)) (w.touches last)))
-    (c.in_ok-copy_unmarked.ensures.synced last) whole (m.touches keeps)
-
-pub returns-clause-ok : goal.returns-clause-ok
-returns-clause-ok g c = λ keeps_old keeps.
-    let n = g.E.SectorDisk in
-    let old = g.D.SectorDisk.content c.args.old.now in
-    let sectors = n.sector_count c.args.new.now in
-    let m = c.write_mark.ensures.run in
-    let last = m.kept keeps in
-    let found = c.copy_unmarked.ensures.old_run.kept keeps_old in
-    let store = c.in_ok-store.store in
-    let written = subst (λ (image : Image). IsUnmarkedUpgrade c.args.journals image (n.content c.copy_unmarked.new.new))
-    (content_is g.D.SectorDisk c.args.old.now c.find.new.disk (c.find.ensures.run.touches found)) (c.in_ok-copy_unmarked.ensures.written keeps_old last) in
-    let whole = upgrade_whole c.args.journals (g.D.SectorDisk.sector_count c.args.old.now) sectors old (n.content c.copy_unmarked.new.new)
-    (c.in_ok-check_new.ensures.room (λ e. cc)) (c.in_ok-store.ensures.good_layout found)
-    (entries_fit c.args.journals sectors old (entry_of store.directory) (c.in_ok-store.ensures.found found).entries store.directory.numbers (c.in_ok-check_new.ensures.fits (λ e. cc))) written in
-    marked_whole n (IsUpgradeOf c.args.journals (g.D.SectorDisk.sector_count c.args.old.now) sectors old) c.args.journals c.copy_unmarked.new.new c.write_mark.new.disk whole
-    written.head.of_kind (m.touches keeps) (c.in_ok-write_mark.ensures.marked keeps)
-
-pub returns-clause-any_moment : goal.returns-clause-any_moment
-returns-clause-any_moment g c = λ keeps_old keeps synced unmarked.
-    let n = g.E.SectorDisk in
-    let old = g.D.SectorDisk.content c.args.old.now in
-    let sectors = n.sector_count c.args.new.now in
-    let m = c.write_mark.ensures.run in
-    let last = m.kept keeps in
-    let found = c.copy_unmarked.ensures.old_run.kept keeps_old in
-    let store = c.in_ok-store.store in
-    let written = subst (λ (image : Image). IsUnmarkedUpgrade c.args.journals image (n.content c.copy_unmarked.new.new))
-    (content_is g.D.SectorDisk c.args.old.now c.find.new.disk (c.find.ensures.run.touches found)) (c.in_ok-copy_unmarked.ensures.written keeps_old last) in
-    let whole = upgrade_whole c.args.journals (g.D.SectorDisk.sector_count c.args.old.now) sectors old (n.content c.copy_unmarked.new.new)
-    (c.in_ok-check_new.ensures.room (λ e. cc)) (c.in_ok-store.ensures.good_layout found)
-    (entries_fit c.args.journals sectors old (entry_of store.directory) (c.in_ok-store.ensures.found found).entries store.directory.numbers (c.in_ok-check_new.ensures.fits (λ e. cc))) written in
-    let w = c.copy_unmarked.ensures.run in
-    let mid = w.kept last in
-    let before = c.check_new.ensures.run.kept mid in
-    while_marking n (IsUpgradeOf c.args.journals (g.D.SectorDisk.sector_count c.args.old.now) sectors old) c.args.new.now
-    (λ image left. g.met.E.SectorDisk.only_now c.args.new.now image before left) synced unmarked c.copy_unmarked.new.new c.write_mark.new.disk
-    (then n (IsFrom 1) c.args.new.now c.check_new.new.new c.copy_unmarked.new.new
-    (wider n Nothing (IsFrom 1) c.args.new.now c.check_new.new.new (λ k none. absurd none) (c.check_new.ensures.run.touches mid))
-    (wider n (IsCopiedSector c.args.journals (entry_of c.in_ok-store.store.directory)) (IsFrom 1) c.check_new.new.new c.copy_unmarked.new.new (copied_from c.args.journals (entry_of c.in_ok-store.store.directory)) (w.touches last)))
-    (c.in_ok-copy_unmarked.ensures.synced last) whole (m.touches keeps)
-
-pub returns-in_err-store-clause-asks_old : goal.returns-in_err-store-clause-asks_old
-returns-in_err-store-clause-asks_old g c = λ keeps.
+-- the new device is
+pub returns-in_err-check_new : goal.returns-in_err-check_new
+returns-in_err-check_new g c =
     let d = g.D.SectorDisk in
-    let image = d.content c.args.old.now in
-    let W : ℕ → Type 0 = IsOldAsked c.args.journals image in
-    (asks_wider d (IsOldHead c.args.journals) W c.args.old.now c.find.new.disk (λ k at. inl at) c.find.ensures.asks)
+    let n = g.E.SectorDisk in
+    let kind = c.args.journals in
+    let old = c.args.old.now in
+    let read = c.find.new.disk in
+    let new = c.args.new.now in
+    let image = d.content old in
+    let find = c.find.ensures in
+    let checked = c.check_new.new.new in
+    let check = c.check_new.ensures in
+    let found = c.in_ok-store.ensures.found in
+    let calm = c.in_ok-store.ensures.looks.calm in
+    let fault = c.in_err-check_new.field-0.0 in
+    let e = c.in_err-check_new.ensures in
+    let other = when_checking fault e.causes.others in
+    upgrade_refused d n kind old read new checked fault c.from_residual-in_err-check_new.result c.from_residual-in_err-check_new.ensures.1 find.looks.run check.run.size check.run.kept
+    (λ k. asks_wider d (IsOldHead kind) (IsOldAsked kind image) old read (λ s at. inl at) find.asks) (λ k. asks_wider n IsMarkSector (IsUpgradeSector kind image) new checked (λ s at. inl at) check.asks)
+    (causes_checked fault _ _ _ _ calm other.1.1 check.run.later e.causes)
+    (λ k k'. nothing_made n kind (λ b. IsUpgradeOf b (d.sector_count old) (n.sector_count new) image) new (λ i left. g.met.E.SectorDisk.only_now new i (check.run.kept k') left) checked (check.run.touches k'))
+    (λ k is. absurd (other.0 is)) (λ k bad. absurd (found.good_layout k bad)) (λ k is. absurd (other.1.0 is)) (λ k bad. absurd (found.good_journal k bad))
+    (λ k is. too_small kind (n.sector_count new) image (entry_of c.in_ok-store.store.directory) (found.found k).entries (e.small (ap Err is)))
+    (λ k small. ⊎_elim (λ is. inr (inr (inr (same_Err _ _ is))))
+    (λ is. absurd (room_is_not_small kind (n.sector_count new) c.in_ok-store.store.directory image (found.found k).entries (e.room (λ other. ⊎_elim (λ a. cc) (λ a. cc) is)) small)) e.causes.others)
+    (λ k is. e.marked k (ap Err is)) (λ k mark. check.run.touches k) (λ k is. check.run.touches k)
 
-pub returns-in_err-check_new-clause-asks_old : goal.returns-in_err-check_new-clause-asks_old
-returns-in_err-check_new-clause-asks_old g c = λ keeps.
+-- a device fails while the files are copied
+pub returns-in_err-copy_unmarked : goal.returns-in_err-copy_unmarked
+returns-in_err-copy_unmarked g c =
     let d = g.D.SectorDisk in
-    let image = d.content c.args.old.now in
-    let W : ℕ → Type 0 = IsOldAsked c.args.journals image in
-    (asks_wider d (IsOldHead c.args.journals) W c.args.old.now c.find.new.disk (λ k at. inl at) c.find.ensures.asks)
+    let n = g.E.SectorDisk in
+    let kind = c.args.journals in
+    let old = c.args.old.now in
+    let read = c.find.new.disk in
+    let new = c.args.new.now in
+    let image = d.content old in
+    let find = c.find.ensures in
+    let checked = c.check_new.new.new in
+    let check = c.check_new.ensures in
+    let found = c.in_ok-store.ensures.found in
+    let calm = c.in_ok-store.ensures.looks.calm in
+    let entries = entry_of c.in_ok-store.store.directory in
+    let sectors = n.sector_count new in
+    let copied = c.copy_unmarked.new.old in
+    let made = c.copy_unmarked.new.new in
+    let copies = c.copy_unmarked.ensures.copies in
+    let still = c.in_ok-check_new.ensures.causes.still (ok_is_no_err _ _) in
+    let has = c.in_ok-check_new.ensures.room (ok_is_no_err _ _) in
+    let known : d.keeps_model copied → (f : ℕ) (e : Entry) → old_entry kind image f ≡ Some e → (f < 64) × (home_end e ≤ kind_home_count kind sectors) = λ k.
+    entries_fit kind sectors image entries (found.found (copies.old_run.kept k)).entries c.in_ok-store.store.directory.numbers has.fits in
+    let same : d.keeps_model copied → d.content read ≡ image = λ k. content_is d old read (find.looks.run.touches (copies.old_run.kept k)) in
+    let Whole : Journals → Image → Type 0 = λ b. IsUpgradeOf b (d.sector_count old) sectors image in
+    let asks_old : d.keeps_model copied → AsksOnly d (IsOldAsked kind image) old copied = λ k. copied_old_asked d kind old read copied (same k) find.asks (copies.asks_old k) in
+    let asks_made : d.keeps_model copied → AsksOnly n (IsUpgradeSector kind image) new made = λ k. asks_then n (IsUpgradeSector kind image) new checked made
+    (asks_wider n IsMarkSector (IsUpgradeSector kind image) new checked (λ s at. inl at) check.asks)
+    (asks_wider n (IsCopiedSector kind entries) (IsUpgradeSector kind image) checked made (copied_asked kind image entries (found.found (copies.old_run.kept k)).entries) copies.run.asks) in
+    let run = one_more d Nothing old read copied find.looks.run copies.old_run in
+    let fault = c.in_err-copy_unmarked.field-0.0 in
+    let e = c.in_err-copy_unmarked.ensures in
+    let other = when_copying fault e.copies.others in
+    upgrade_refused d n kind old copied new made fault c.from_residual-in_err-copy_unmarked.result c.from_residual-in_err-copy_unmarked.ensures.1 run (copies.run.size ∙ check.run.size) (λ k. check.run.kept (copies.run.kept k))
+    asks_old asks_made (causes_after fault _ _ _ _ _ _ calm still e.copies.causes)
+    (λ k k'. unmarked_made n kind Whole new (λ image left. g.met.E.SectorDisk.only_now new image (check.run.kept (copies.run.kept k')) left) checked (check.run.touches (copies.run.kept k'))
+    (IsCopiedSector kind entries) (copied_from kind entries) (IsKindlessUpgrade (d.content read)) (IsKindlessUpgrade image) (λ i q. subst (λ (o : Image). IsKindlessUpgrade o i) (same k) q)
+    (λ paired. upgraded_of_kind kind (d.sector_count old) sectors image paired has.room (found.good_layout (copies.old_run.kept k)) (known k)) made (copies.run.touches k')
+    (c.copy_unmarked.ensures.last k k').epochs)
+    (λ k is. absurd (other.0 is)) (λ k bad. absurd (found.good_layout (copies.old_run.kept k) bad)) (λ k is. absurd (other.1.0 is)) (λ k bad. absurd (found.good_journal (copies.old_run.kept k) bad))
+    (λ k is. absurd (other.1.1.0 is)) (λ k small. absurd (room_is_not_small kind sectors c.in_ok-store.store.directory image (found.found (copies.old_run.kept k)).entries has small))
+    (λ k is. absurd (other.1.1.1 is)) (λ k mark. absurd (c.in_ok-check_new.ensures.unmarked (copies.run.kept k) mark))
+    (λ k. ⊎_elim (λ is. absurd (other.0 is)) (⊎_elim (λ is. absurd (other.1.0 is)) (⊎_elim (λ is. absurd (other.1.1.0 is)) (λ is. absurd (other.1.1.1 is)))))
 
-pub returns-in_err-copy_unmarked-clause-asks_old : goal.returns-in_err-copy_unmarked-clause-asks_old
-returns-in_err-copy_unmarked-clause-asks_old g c = λ keeps.
+-- or the new one does at its mark
+pub returns-in_err-write_mark : goal.returns-in_err-write_mark
+returns-in_err-write_mark g c =
     let d = g.D.SectorDisk in
-    let image = d.content c.args.old.now in
-    let W : ℕ → Type 0 = IsOldAsked c.args.journals image in
-    let same = content_is d c.args.old.now c.find.new.disk (c.find.ensures.run.touches (c.copy_unmarked.ensures.old_run.kept keeps)) in
-    asks_then d W c.args.old.now c.find.new.disk c.copy_unmarked.new.old
-    (asks_wider d (IsOldHead c.args.journals) W c.args.old.now c.find.new.disk (λ k at. inl at) c.find.ensures.asks)
-    (asks_wider d (IsOldFile c.args.journals (d.content c.find.new.disk)) W c.find.new.disk c.copy_unmarked.new.old
-    (λ k at. inr (subst (λ (i : Image). IsOldFile c.args.journals i k) same at)) (c.copy_unmarked.ensures.asks_old keeps))
+    let n = g.E.SectorDisk in
+    let kind = c.args.journals in
+    let old = c.args.old.now in
+    let read = c.find.new.disk in
+    let new = c.args.new.now in
+    let image = d.content old in
+    let find = c.find.ensures in
+    let checked = c.check_new.new.new in
+    let check = c.check_new.ensures in
+    let found = c.in_ok-store.ensures.found in
+    let calm = c.in_ok-store.ensures.looks.calm in
+    let entries = entry_of c.in_ok-store.store.directory in
+    let sectors = n.sector_count new in
+    let copied = c.copy_unmarked.new.old in
+    let made = c.copy_unmarked.new.new in
+    let copies = c.copy_unmarked.ensures.copies in
+    let still = c.in_ok-check_new.ensures.causes.still (ok_is_no_err _ _) in
+    let has = c.in_ok-check_new.ensures.room (ok_is_no_err _ _) in
+    let known : d.keeps_model copied → (f : ℕ) (e : Entry) → old_entry kind image f ≡ Some e → (f < 64) × (home_end e ≤ kind_home_count kind sectors) = λ k.
+    entries_fit kind sectors image entries (found.found (copies.old_run.kept k)).entries c.in_ok-store.store.directory.numbers has.fits in
+    let same : d.keeps_model copied → d.content read ≡ image = λ k. content_is d old read (find.looks.run.touches (copies.old_run.kept k)) in
+    let Whole : Journals → Image → Type 0 = λ b. IsUpgradeOf b (d.sector_count old) sectors image in
+    let asks_old : d.keeps_model copied → AsksOnly d (IsOldAsked kind image) old copied = λ k. copied_old_asked d kind old read copied (same k) find.asks (copies.asks_old k) in
+    let asks_made : d.keeps_model copied → AsksOnly n (IsUpgradeSector kind image) new made = λ k. asks_then n (IsUpgradeSector kind image) new checked made
+    (asks_wider n IsMarkSector (IsUpgradeSector kind image) new checked (λ s at. inl at) check.asks)
+    (asks_wider n (IsCopiedSector kind entries) (IsUpgradeSector kind image) checked made (copied_asked kind image entries (found.found (copies.old_run.kept k)).entries) copies.run.asks) in
+    let run = one_more d Nothing old read copied find.looks.run copies.old_run in
+    let m = c.write_mark.ensures.writes.run in
+    let last_new = c.write_mark.new.disk in
+    let written : d.keeps_model copied → n.keeps_model made → IsUnmarkedUpgrade kind image (n.content made) = λ k last. subst (λ (i : Image). IsUnmarkedUpgrade kind i (n.content made)) (same k) (c.in_ok-copy_unmarked.ensures.written k last) in
+    let whole : d.keeps_model copied → n.keeps_model made → (i : Image) → ((s : ℕ) → 1 ≤ s → i s ≡ n.content made s) → i 0 ≡ mark_of (version_of i) → IsUpgradeOf kind (d.sector_count old) sectors image i = λ k last.
+    upgrade_whole kind (d.sector_count old) sectors image (n.content made) has.room (found.good_layout (copies.old_run.kept k)) (known k) (written k last) in
+    let asks : d.keeps_model copied → AsksOnly n (IsUpgradeSector kind image) new last_new = λ k. asks_then n (IsUpgradeSector kind image) new made last_new (asks_made k)
+    (asks_wider n IsMarkSector (IsUpgradeSector kind image) made last_new (λ s at. inl at) m.asks) in
+    let leaves : d.keeps_model copied → n.keeps_model last_new → LeavesNoPart n kind Whole new last_new = λ k k'.
+    let last = m.kept k' in
+    marked_made n kind Whole new (λ image left. g.met.E.SectorDisk.only_now new image (check.run.kept (copies.run.kept last)) left) checked (check.run.touches (copies.run.kept last))
+    (IsCopiedSector kind entries) (copied_from kind entries) (IsKindlessUpgrade (d.content read)) (IsKindlessUpgrade image) (λ i q. subst (λ (o : Image). IsKindlessUpgrade o i) (same k) q)
+    (λ paired. upgraded_of_kind kind (d.sector_count old) sectors image paired has.room (found.good_layout (copies.old_run.kept k)) (known k)) made (copies.run.touches last)
+    (c.in_ok-copy_unmarked.ensures.last k last).kind_behind (c.in_ok-copy_unmarked.ensures.synced last) (whole k last) (kindless_upgrade_moves image) last_new (m.touches k') in
+    let failed = c.in_err-write_mark.ensures.writes.failed refl in
+    let done = c.in_ok-copy_unmarked.ensures.copies.causes in
+    let other = when_marking in
+    upgrade_refused d n kind old copied new last_new NewDevice c.from_residual-in_err-write_mark.result c.from_residual-in_err-write_mark.ensures.1 run (m.size ∙ copies.run.size ∙ check.run.size) (λ k. check.run.kept (copies.run.kept (m.kept k)))
+    asks_old asks (causes_marking _ _ _ _ _ (done.old_still (ok_is_no_err _ _) ∙ calm) (done.new_still (ok_is_no_err _ _) ∙ still) failed) leaves
+    (λ k is. absurd (other.0 is)) (λ k bad. absurd (found.good_layout (copies.old_run.kept k) bad)) (λ k is. absurd (other.1.0 is)) (λ k bad. absurd (found.good_journal (copies.old_run.kept k) bad))
+    (λ k is. absurd (other.1.1.0 is)) (λ k small. absurd (room_is_not_small kind sectors c.in_ok-store.store.directory image (found.found (copies.old_run.kept k)).entries has small))
+    (λ k is. absurd (other.1.1.1 is)) (λ k mark. absurd (c.in_ok-check_new.ensures.unmarked (copies.run.kept (m.kept k)) mark))
+    (λ k. ⊎_elim (λ is. absurd (other.0 is)) (⊎_elim (λ is. absurd (other.1.0 is)) (⊎_elim (λ is. absurd (other.1.1.0 is)) (λ is. absurd (other.1.1.1 is)))))
 
-pub returns-in_err-write_mark-clause-asks_old : goal.returns-in_err-write_mark-clause-asks_old
-returns-in_err-write_mark-clause-asks_old g c = λ keeps.
+pub returns : goal.returns
+returns g c =
     let d = g.D.SectorDisk in
-    let image = d.content c.args.old.now in
-    let W : ℕ → Type 0 = IsOldAsked c.args.journals image in
-    let same = content_is d c.args.old.now c.find.new.disk (c.find.ensures.run.touches (c.copy_unmarked.ensures.old_run.kept keeps)) in
-    asks_then d W c.args.old.now c.find.new.disk c.copy_unmarked.new.old
-    (asks_wider d (IsOldHead c.args.journals) W c.args.old.now c.find.new.disk (λ k at. inl at) c.find.ensures.asks)
-    (asks_wider d (IsOldFile c.args.journals (d.content c.find.new.disk)) W c.find.new.disk c.copy_unmarked.new.old
-    (λ k at. inr (subst (λ (i : Image). IsOldFile c.args.journals i k) same at)) (c.copy_unmarked.ensures.asks_old keeps))
-
-pub returns-clause-asks_old : goal.returns-clause-asks_old
-returns-clause-asks_old g c = λ keeps.
-    let d = g.D.SectorDisk in
-    let image = d.content c.args.old.now in
-    let W : ℕ → Type 0 = IsOldAsked c.args.journals image in
-    let same = content_is d c.args.old.now c.find.new.disk (c.find.ensures.run.touches (c.copy_unmarked.ensures.old_run.kept keeps)) in
-    asks_then d W c.args.old.now c.find.new.disk c.copy_unmarked.new.old
-    (asks_wider d (IsOldHead c.args.journals) W c.args.old.now c.find.new.disk (λ k at. inl at) c.find.ensures.asks)
-    (asks_wider d (IsOldFile c.args.journals (d.content c.find.new.disk)) W c.find.new.disk c.copy_unmarked.new.old
-    (λ k at. inr (subst (λ (i : Image). IsOldFile c.args.journals i k) same at)) (c.copy_unmarked.ensures.asks_old keeps))
-
-pub returns-in_err-store-clause-asks : goal.returns-in_err-store-clause-asks
-returns-in_err-store-clause-asks g c = λ keeps.
     let n = g.E.SectorDisk in
-    let image = g.D.SectorDisk.content c.args.old.now in
-    let W : ℕ → Type 0 = IsUpgradeSector c.args.journals image in
-    asks_none n W c.args.new.now c.args.new.now (λ k. refl)
-
-pub returns-in_err-check_new-clause-asks : goal.returns-in_err-check_new-clause-asks
-returns-in_err-check_new-clause-asks g c = λ keeps.
-    let n = g.E.SectorDisk in
-    let image = g.D.SectorDisk.content c.args.old.now in
-    let W : ℕ → Type 0 = IsUpgradeSector c.args.journals image in
-    asks_wider n IsMarkSector W c.args.new.now c.check_new.new.new (λ k at. inl at) c.check_new.ensures.asks
-
-pub returns-in_err-copy_unmarked-clause-asks : goal.returns-in_err-copy_unmarked-clause-asks
-returns-in_err-copy_unmarked-clause-asks g c = λ keeps.
-    let n = g.E.SectorDisk in
-    let image = g.D.SectorDisk.content c.args.old.now in
-    let W : ℕ → Type 0 = IsUpgradeSector c.args.journals image in
-    asks_then n W c.args.new.now c.check_new.new.new c.copy_unmarked.new.new
-    (asks_wider n IsMarkSector W c.args.new.now c.check_new.new.new (λ k at. inl at) c.check_new.ensures.asks)
-    (asks_wider n (IsCopiedSector c.args.journals (entry_of c.in_ok-store.store.directory)) W c.check_new.new.new c.copy_unmarked.new.new
-    (copied_asked c.args.journals image (entry_of c.in_ok-store.store.directory) (c.in_ok-store.ensures.found (c.copy_unmarked.ensures.old_run.kept keeps)).entries) c.copy_unmarked.ensures.run.asks)
-
-pub returns-in_err-write_mark-clause-asks : goal.returns-in_err-write_mark-clause-asks
-returns-in_err-write_mark-clause-asks g c = λ keeps.
-    let n = g.E.SectorDisk in
-    let image = g.D.SectorDisk.content c.args.old.now in
-    let W : ℕ → Type 0 = IsUpgradeSector c.args.journals image in
-    asks_then n W c.args.new.now c.copy_unmarked.new.new c.write_mark.new.disk
-    (asks_then n W c.args.new.now c.check_new.new.new c.copy_unmarked.new.new
-    (asks_wider n IsMarkSector W c.args.new.now c.check_new.new.new (λ k at. inl at) c.check_new.ensures.asks)
-    (asks_wider n (IsCopiedSector c.args.journals (entry_of c.in_ok-store.store.directory)) W c.check_new.new.new c.copy_unmarked.new.new
-    (copied_asked c.args.journals image (entry_of c.in_ok-store.store.directory) (c.in_ok-store.ensures.found (c.copy_unmarked.ensures.old_run.kept keeps)).entries) c.copy_unmarked.ensures.run.asks))
-    (asks_wider n IsMarkSector W c.copy_unmarked.new.new c.write_mark.new.disk (λ k at. inl at) c.write_mark.ensures.run.asks)
-
-pub returns-clause-asks : goal.returns-clause-asks
-returns-clause-asks g c = λ keeps.
-    let n = g.E.SectorDisk in
-    let image = g.D.SectorDisk.content c.args.old.now in
-    let W : ℕ → Type 0 = IsUpgradeSector c.args.journals image in
-    asks_then n W c.args.new.now c.copy_unmarked.new.new c.write_mark.new.disk
-    (asks_then n W c.args.new.now c.check_new.new.new c.copy_unmarked.new.new
-    (asks_wider n IsMarkSector W c.args.new.now c.check_new.new.new (λ k at. inl at) c.check_new.ensures.asks)
-    (asks_wider n (IsCopiedSector c.args.journals (entry_of c.in_ok-store.store.directory)) W c.check_new.new.new c.copy_unmarked.new.new
-    (copied_asked c.args.journals image (entry_of c.in_ok-store.store.directory) (c.in_ok-store.ensures.found (c.copy_unmarked.ensures.old_run.kept keeps)).entries) c.copy_unmarked.ensures.run.asks))
-    (asks_wider n IsMarkSector W c.copy_unmarked.new.new c.write_mark.new.disk (λ k at. inl at) c.write_mark.ensures.run.asks)
-
-pub returns-in_err-store-clause-blocks : goal.returns-in_err-store-clause-blocks
-returns-in_err-store-clause-blocks g c = λ keeps_old keeps synced unmarked paired.
-    let n = g.E.SectorDisk in
-    let old = g.D.SectorDisk.content c.args.old.now in
-    let sectors = n.sector_count c.args.new.now in
-    let Whole = IsUpgradeOf Paired (g.D.SectorDisk.sector_count c.args.old.now) sectors old in
-    Unmarked (first_epoch n Whole c.args.new.now synced unmarked c.args.new.now (stays n (IsFrom 8) c.args.new.now))
-
-pub returns-in_err-check_new-clause-blocks : goal.returns-in_err-check_new-clause-blocks
-returns-in_err-check_new-clause-blocks g c = λ keeps_old keeps synced unmarked paired.
-    let n = g.E.SectorDisk in
-    let old = g.D.SectorDisk.content c.args.old.now in
-    let sectors = n.sector_count c.args.new.now in
-    let Whole = IsUpgradeOf Paired (g.D.SectorDisk.sector_count c.args.old.now) sectors old in
-    Unmarked (first_epoch n Whole c.args.new.now synced unmarked c.check_new.new.new (wider n Nothing (IsFrom 8) c.args.new.now c.check_new.new.new (λ k none. absurd none) (c.check_new.ensures.run.touches keeps)))
-
-pub returns-in_err-copy_unmarked-clause-blocks : goal.returns-in_err-copy_unmarked-clause-blocks
-returns-in_err-copy_unmarked-clause-blocks g c = λ keeps_old keeps synced unmarked paired.
-    let n = g.E.SectorDisk in
-    let old = g.D.SectorDisk.content c.args.old.now in
-    let sectors = n.sector_count c.args.new.now in
-    let Whole = IsUpgradeOf Paired (g.D.SectorDisk.sector_count c.args.old.now) sectors old in
-    let found = c.copy_unmarked.ensures.old_run.kept keeps_old in
-    let store = c.in_ok-store.store in
-    let Q = IsKindlessUpgrade old in
-    let whole = upgraded_of_kind c.args.journals (g.D.SectorDisk.sector_count c.args.old.now) sectors old paired (c.in_ok-check_new.ensures.room (λ e. cc)) (c.in_ok-store.ensures.good_layout found)
-    (entries_fit c.args.journals sectors old (entry_of store.directory) (c.in_ok-store.ensures.found found).entries store.directory.numbers (c.in_ok-check_new.ensures.fits (λ e. cc))) in
-    let was = content_is g.D.SectorDisk c.args.old.now c.find.new.disk (c.find.ensures.run.touches found) in
-    let mid = c.copy_unmarked.ensures.run.kept keeps in
-    made_last n Whole c.args.new.now synced unmarked Q whole c.copy_unmarked.new.new
-    (last_more n (IsFrom 8) (IsFrom 8) (IsKindlessUpgrade (g.D.SectorDisk.content c.find.new.disk)) Q c.args.new.now c.check_new.new.new c.copy_unmarked.new.new (wider n Nothing (IsFrom 8) c.args.new.now c.check_new.new.new (λ k none. absurd none) (c.check_new.ensures.run.touches mid)) (λ k at. at) (λ i same q. subst (λ (o : Image). IsKindlessUpgrade o i) was q)
-    (c.copy_unmarked.ensures.epochs keeps_old keeps paired))
-
-pub returns-in_err-write_mark-clause-blocks : goal.returns-in_err-write_mark-clause-blocks
-returns-in_err-write_mark-clause-blocks g c = λ keeps_old keeps synced unmarked paired.
-    let n = g.E.SectorDisk in
-    let old = g.D.SectorDisk.content c.args.old.now in
-    let sectors = n.sector_count c.args.new.now in
-    let Whole = IsUpgradeOf Paired (g.D.SectorDisk.sector_count c.args.old.now) sectors old in
-    let found = c.copy_unmarked.ensures.old_run.kept keeps_old in
-    let store = c.in_ok-store.store in
-    let Q = IsKindlessUpgrade old in
-    let whole = upgraded_of_kind c.args.journals (g.D.SectorDisk.sector_count c.args.old.now) sectors old paired (c.in_ok-check_new.ensures.room (λ e. cc)) (c.in_ok-store.ensures.good_layout found)
-    (entries_fit c.args.journals sectors old (entry_of store.directory) (c.in_ok-store.ensures.found found).entries store.directory.numbers (c.in_ok-check_new.ensures.fits (λ e. cc))) in
-    let was = content_is g.D.SectorDisk c.args.old.now c.find.new.disk (c.find.ensures.run.touches found) in
-    let last = c.write_mark.ensures.run.kept keeps in
-    let mid = c.copy_unmarked.ensures.run.kept last in
-    made_marked n Whole c.args.new.now synced unmarked Q whole c.copy_unmarked.new.new c.write_mark.new.disk (c.in_ok-copy_unmarked.ensures.synced last) (kindless_upgrade_moves old)
-    (behind_more n (IsFrom 8) (IsFrom 8) (IsKindlessUpgrade (g.D.SectorDisk.content c.find.new.disk)) Q c.args.new.now c.check_new.new.new c.copy_unmarked.new.new (wider n Nothing (IsFrom 8) c.args.new.now c.check_new.new.new (λ k none. absurd none) (c.check_new.ensures.run.touches mid)) (λ k at. at) (λ i same q. subst (λ (o : Image). IsKindlessUpgrade o i) was q)
-    (c.in_ok-copy_unmarked.ensures.kind_behind keeps_old last paired))
-    (c.write_mark.ensures.run.touches keeps)
-
-pub returns-clause-blocks : goal.returns-clause-blocks
-returns-clause-blocks g c = λ keeps_old keeps synced unmarked paired.
-    let n = g.E.SectorDisk in
-    let old = g.D.SectorDisk.content c.args.old.now in
-    let sectors = n.sector_count c.args.new.now in
-    let Whole = IsUpgradeOf Paired (g.D.SectorDisk.sector_count c.args.old.now) sectors old in
-    let found = c.copy_unmarked.ensures.old_run.kept keeps_old in
-    let store = c.in_ok-store.store in
-    let Q = IsKindlessUpgrade old in
-    let whole = upgraded_of_kind c.args.journals (g.D.SectorDisk.sector_count c.args.old.now) sectors old paired (c.in_ok-check_new.ensures.room (λ e. cc)) (c.in_ok-store.ensures.good_layout found)
-    (entries_fit c.args.journals sectors old (entry_of store.directory) (c.in_ok-store.ensures.found found).entries store.directory.numbers (c.in_ok-check_new.ensures.fits (λ e. cc))) in
-    let was = content_is g.D.SectorDisk c.args.old.now c.find.new.disk (c.find.ensures.run.touches found) in
-    let last = c.write_mark.ensures.run.kept keeps in
-    let mid = c.copy_unmarked.ensures.run.kept last in
-    made_marked n Whole c.args.new.now synced unmarked Q whole c.copy_unmarked.new.new c.write_mark.new.disk (c.in_ok-copy_unmarked.ensures.synced last) (kindless_upgrade_moves old)
-    (behind_more n (IsFrom 8) (IsFrom 8) (IsKindlessUpgrade (g.D.SectorDisk.content c.find.new.disk)) Q c.args.new.now c.check_new.new.new c.copy_unmarked.new.new (wider n Nothing (IsFrom 8) c.args.new.now c.check_new.new.new (λ k none. absurd none) (c.check_new.ensures.run.touches mid)) (λ k at. at) (λ i same q. subst (λ (o : Image). IsKindlessUpgrade o i) was q)
-    (c.in_ok-copy_unmarked.ensures.kind_behind keeps_old last paired))
-    (c.write_mark.ensures.run.touches keeps)
+    let kind = c.args.journals in
+    let old = c.args.old.now in
+    let read = c.find.new.disk in
+    let new = c.args.new.now in
+    let image = d.content old in
+    let find = c.find.ensures in
+    let checked = c.check_new.new.new in
+    let check = c.check_new.ensures in
+    let found = c.in_ok-store.ensures.found in
+    let calm = c.in_ok-store.ensures.looks.calm in
+    let entries = entry_of c.in_ok-store.store.directory in
+    let sectors = n.sector_count new in
+    let copied = c.copy_unmarked.new.old in
+    let made = c.copy_unmarked.new.new in
+    let copies = c.copy_unmarked.ensures.copies in
+    let still = c.in_ok-check_new.ensures.causes.still (ok_is_no_err _ _) in
+    let has = c.in_ok-check_new.ensures.room (ok_is_no_err _ _) in
+    let known : d.keeps_model copied → (f : ℕ) (e : Entry) → old_entry kind image f ≡ Some e → (f < 64) × (home_end e ≤ kind_home_count kind sectors) = λ k.
+    entries_fit kind sectors image entries (found.found (copies.old_run.kept k)).entries c.in_ok-store.store.directory.numbers has.fits in
+    let same : d.keeps_model copied → d.content read ≡ image = λ k. content_is d old read (find.looks.run.touches (copies.old_run.kept k)) in
+    let Whole : Journals → Image → Type 0 = λ b. IsUpgradeOf b (d.sector_count old) sectors image in
+    let asks_old : d.keeps_model copied → AsksOnly d (IsOldAsked kind image) old copied = λ k. copied_old_asked d kind old read copied (same k) find.asks (copies.asks_old k) in
+    let asks_made : d.keeps_model copied → AsksOnly n (IsUpgradeSector kind image) new made = λ k. asks_then n (IsUpgradeSector kind image) new checked made
+    (asks_wider n IsMarkSector (IsUpgradeSector kind image) new checked (λ s at. inl at) check.asks)
+    (asks_wider n (IsCopiedSector kind entries) (IsUpgradeSector kind image) checked made (copied_asked kind image entries (found.found (copies.old_run.kept k)).entries) copies.run.asks) in
+    let run = one_more d Nothing old read copied find.looks.run copies.old_run in
+    let m = c.write_mark.ensures.writes.run in
+    let last_new = c.write_mark.new.disk in
+    let written : d.keeps_model copied → n.keeps_model made → IsUnmarkedUpgrade kind image (n.content made) = λ k last. subst (λ (i : Image). IsUnmarkedUpgrade kind i (n.content made)) (same k) (c.in_ok-copy_unmarked.ensures.written k last) in
+    let whole : d.keeps_model copied → n.keeps_model made → (i : Image) → ((s : ℕ) → 1 ≤ s → i s ≡ n.content made s) → i 0 ≡ mark_of (version_of i) → IsUpgradeOf kind (d.sector_count old) sectors image i = λ k last.
+    upgrade_whole kind (d.sector_count old) sectors image (n.content made) has.room (found.good_layout (copies.old_run.kept k)) (known k) (written k last) in
+    let asks : d.keeps_model copied → AsksOnly n (IsUpgradeSector kind image) new last_new = λ k. asks_then n (IsUpgradeSector kind image) new made last_new (asks_made k)
+    (asks_wider n IsMarkSector (IsUpgradeSector kind image) made last_new (λ s at. inl at) m.asks) in
+    let leaves : d.keeps_model copied → n.keeps_model last_new → LeavesNoPart n kind Whole new last_new = λ k k'.
+    let last = m.kept k' in
+    marked_made n kind Whole new (λ image left. g.met.E.SectorDisk.only_now new image (check.run.kept (copies.run.kept last)) left) checked (check.run.touches (copies.run.kept last))
+    (IsCopiedSector kind entries) (copied_from kind entries) (IsKindlessUpgrade (d.content read)) (IsKindlessUpgrade image) (λ i q. subst (λ (o : Image). IsKindlessUpgrade o i) (same k) q)
+    (λ paired. upgraded_of_kind kind (d.sector_count old) sectors image paired has.room (found.good_layout (copies.old_run.kept k)) (known k)) made (copies.run.touches last)
+    (c.in_ok-copy_unmarked.ensures.last k last).kind_behind (c.in_ok-copy_unmarked.ensures.synced last) (whole k last) (kindless_upgrade_moves image) last_new (m.touches k') in
+    let done = c.in_ok-copy_unmarked.ensures.copies.causes in
+    record {
+      ok = λ k k'. let last = m.kept k' in marked_whole n (Whole kind) kind made last_new (whole k last) (written k last).head.of_kind (m.touches k') (c.in_ok-write_mark.ensures.marked k');
+      marked = c.in_ok-write_mark.ensures.marked;
+      synced = c.in_ok-write_mark.ensures.writes.synced;
+      any_moment = λ k k'. (leaves k k').any_moment;
+      blocks = λ k k'. (leaves k k').blocks;
+      old_size = run.size;
+      size = m.size ∙ copies.run.size ∙ check.run.size;
+      old_kept = run.kept;
+      kept = λ k. check.run.kept (copies.run.kept (m.kept k));
+      only_read = run.touches;
+      asks_old = asks_old;
+      asks = asks;
+      old_layout = λ k is. absurd (ok_is_no_err _ _ is);
+      good_layout = λ k bad. absurd (found.good_layout (copies.old_run.kept k) bad);
+      old_journal = λ k is. absurd (ok_is_no_err _ _ is);
+      good_journal = λ k bad. absurd (found.good_journal (copies.old_run.kept k) bad);
+      new_small = λ k is. absurd (ok_is_no_err _ _ is);
+      large = λ k small. absurd (room_is_not_small kind sectors c.in_ok-store.store.directory image (found.found (copies.old_run.kept k)).entries has small);
+      formatted = λ k is. absurd (ok_is_no_err _ _ is);
+      not_formatted = λ k mark. absurd (c.in_ok-check_new.ensures.unmarked (copies.run.kept (m.kept k)) mark);
+      unwritten = λ k. ⊎_elim (λ is. absurd (ok_is_no_err _ _ is)) (⊎_elim (λ is. absurd (ok_is_no_err _ _ is)) (⊎_elim (λ is. absurd (ok_is_no_err _ _ is)) (λ is. absurd (ok_is_no_err _ _ is))));
+      causes = causes_none _ _ _ _ _ (done.old_still (ok_is_no_err _ _) ∙ calm) (c.in_ok-write_mark.ensures.writes.calm ∙ done.new_still (ok_is_no_err _ _) ∙ still);
+    }

@@ -6,11 +6,11 @@ use Rattle.inspection.specs.Walks.{IsStep}
 use Rattle.inspection.proofs.tables.level_on_way.Given as goal
 
 -- no table above this step's is the one
-abbrev pub invariant-loop-pid : goal.invariant-loop-pid
-invariant-loop-pid g l = record {
-  stands : IsStep (picture_of l.core) l.pid l.page l.step;
-  passed : (r d : ℕ) → (picture_of l.core).root l.pid ≡ Some r → d < top_level g.M.Levels.mode - l.step.level → Way l.core.frames (top_level g.M.Levels.mode) r l.page d l.n.0 → ⊥;
+abbrev pub invariant-loop-n : goal.invariant-loop-n
+invariant-loop-n g l = record {
+  stands : IsStep (picture_of l.core) l.fn.pid l.page l.step;
+  passed : (r d : ℕ) → (picture_of l.core).root l.fn.pid ≡ Some r → d < top_level g.M.Levels.mode - l.step.level → Way l.core.frames (top_level g.M.Levels.mode) r l.page d l.n.0 → ⊥;
 }
 
-abbrev pub decreases-loop-pid : goal.decreases-loop-pid
-decreases-loop-pid g l = l.step.level
+abbrev pub decreases-loop-n : goal.decreases-loop-n
+decreases-loop-n g l = l.step.level

@@ -1,7 +1,7 @@
 use Rattle.vm_types.proofs.Modes.{user_pages_fit}
 use Rattle.vm_types.specs.declared.mode.Levels as Levels
 use Rattle.vm_types.specs.Limits.{user_end, top_level}
-use Rattle.std.proofs.Common.{◌≡◌, ◌+◌, ◌≤◌, ℕ, true, ap, ◌∙◌, subst, arith}
+use Rattle.std.proofs.Common.{◌≡◌, ◌+◌, ◌≤◌, ℕ, true, ap, ◌∙◌, subst, arith, rules}
 use Rattle.std.specs.Prelude.{is_some}
 use Rattle.vm_types.specs.declared.object.PageKey.{PageKey}
 use Rattle.vm_types.specs.Rows.{in_row}
@@ -47,8 +47,8 @@ remove_process-requires-clause-spare g c r root =
     let place = same_places c.args.core.now c.clear_row.new.core c.clear_row.ensures.rest in
     spare_root old c.args.pid r c.forget_row.ensures.fit root (subst (λ (n : ℕ). IsWithoutTables old c.args.pid 0 n) sum (none_left_forgot first cleared old c.args.pid 0 (user_end g.M.Levels.mode) row forgets place none_left))
 
-pub returns-clause-fit : goal.returns-clause-fit
-returns-clause-fit g c =
+pub returns : goal.returns
+returns g c =
     let first = picture_of c.args.core.now in
     let cleared = picture_of c.clear_row.new.core in
     let old = picture_of c.forget_row.new.core in
@@ -58,108 +58,24 @@ returns-clause-fit g c =
     let none_left = subst (λ (n : ℕ). IsWithoutTables cleared c.args.pid 0 (0 + n)) same c.clear_row.ensures.none_left in
     let slots = subst (λ (n : ℕ). ReturnsSlots first cleared c.args.pid 0 (0 + n)) same c.clear_row.ensures.slots in
     let sum : 0 + user_end g.M.Levels.mode ≡ user_end g.M.Levels.mode = omega arith in
-    let place = same_places c.args.core.now c.clear_row.new.core c.clear_row.ensures.rest in
-    (ended first old (picture_of c.remove_process.new.self) c.args.pid c.remove_process.ensures.exits.0
-    c.requires.fit c.forget_row.ensures.fit (row_forgot first cleared old c.args.pid 0 (user_end g.M.Levels.mode) row forgets place (λ page e. pages_inside g.M.Levels.mode 0 (user_end g.M.Levels.mode) page (omega arith) e)) (others_forgot first cleared old c.args.pid 0 (user_end g.M.Levels.mode) row forgets place c.clear_row.ensures.others)
-    (tables_forgot first cleared old c.args.pid 0 (user_end g.M.Levels.mode) row forgets place c.clear_row.ensures.tables) (subst (λ (n : ℕ). IsWithoutTables old c.args.pid 0 n) sum (none_left_forgot first cleared old c.args.pid 0 (user_end g.M.Levels.mode) row forgets place none_left))
-    (subst (λ (n : ℕ). LosesSlots first old c.args.pid 0 n) sum (slots_forgot first cleared old c.args.pid 0 (user_end g.M.Levels.mode) row forgets place slots)) (files_forgot first cleared old c.args.pid 0 (user_end g.M.Levels.mode) row forgets place c.clear_row.ensures.files) c.remove_process.ensures.exits.1).fit
-
-pub returns-clause-removed : goal.returns-clause-removed
-returns-clause-removed g c =
-    let first = picture_of c.args.core.now in
-    let cleared = picture_of c.clear_row.new.core in
-    let old = picture_of c.forget_row.new.core in
-    let same = c.user_end-end.ensures.end in
-    let row = subst (λ (n : ℕ). RemapsRow first cleared c.args.pid 0 n (first.at c.args.pid)) same c.clear_row.ensures.row in
-    let forgets = subst (λ (n : ℕ). ForgetsRow cleared old c.args.pid 0 n) same c.forget_row.ensures.forgets in
-    let none_left = subst (λ (n : ℕ). IsWithoutTables cleared c.args.pid 0 (0 + n)) same c.clear_row.ensures.none_left in
-    let slots = subst (λ (n : ℕ). ReturnsSlots first cleared c.args.pid 0 (0 + n)) same c.clear_row.ensures.slots in
-    let sum : 0 + user_end g.M.Levels.mode ≡ user_end g.M.Levels.mode = omega arith in
-    let place = same_places c.args.core.now c.clear_row.new.core c.clear_row.ensures.rest in
-    (ended first old (picture_of c.remove_process.new.self) c.args.pid c.remove_process.ensures.exits.0
-    c.requires.fit c.forget_row.ensures.fit (row_forgot first cleared old c.args.pid 0 (user_end g.M.Levels.mode) row forgets place (λ page e. pages_inside g.M.Levels.mode 0 (user_end g.M.Levels.mode) page (omega arith) e)) (others_forgot first cleared old c.args.pid 0 (user_end g.M.Levels.mode) row forgets place c.clear_row.ensures.others)
-    (tables_forgot first cleared old c.args.pid 0 (user_end g.M.Levels.mode) row forgets place c.clear_row.ensures.tables) (subst (λ (n : ℕ). IsWithoutTables old c.args.pid 0 n) sum (none_left_forgot first cleared old c.args.pid 0 (user_end g.M.Levels.mode) row forgets place none_left))
-    (subst (λ (n : ℕ). LosesSlots first old c.args.pid 0 n) sum (slots_forgot first cleared old c.args.pid 0 (user_end g.M.Levels.mode) row forgets place slots)) (files_forgot first cleared old c.args.pid 0 (user_end g.M.Levels.mode) row forgets place c.clear_row.ensures.files) c.remove_process.ensures.exits.1).removed
-
-pub returns-clause-others : goal.returns-clause-others
-returns-clause-others g c =
-    let first = picture_of c.args.core.now in
-    let cleared = picture_of c.clear_row.new.core in
-    let old = picture_of c.forget_row.new.core in
-    let same = c.user_end-end.ensures.end in
-    let row = subst (λ (n : ℕ). RemapsRow first cleared c.args.pid 0 n (first.at c.args.pid)) same c.clear_row.ensures.row in
-    let forgets = subst (λ (n : ℕ). ForgetsRow cleared old c.args.pid 0 n) same c.forget_row.ensures.forgets in
-    let none_left = subst (λ (n : ℕ). IsWithoutTables cleared c.args.pid 0 (0 + n)) same c.clear_row.ensures.none_left in
-    let slots = subst (λ (n : ℕ). ReturnsSlots first cleared c.args.pid 0 (0 + n)) same c.clear_row.ensures.slots in
-    let sum : 0 + user_end g.M.Levels.mode ≡ user_end g.M.Levels.mode = omega arith in
-    let place = same_places c.args.core.now c.clear_row.new.core c.clear_row.ensures.rest in
-    (ended first old (picture_of c.remove_process.new.self) c.args.pid c.remove_process.ensures.exits.0
-    c.requires.fit c.forget_row.ensures.fit (row_forgot first cleared old c.args.pid 0 (user_end g.M.Levels.mode) row forgets place (λ page e. pages_inside g.M.Levels.mode 0 (user_end g.M.Levels.mode) page (omega arith) e)) (others_forgot first cleared old c.args.pid 0 (user_end g.M.Levels.mode) row forgets place c.clear_row.ensures.others)
-    (tables_forgot first cleared old c.args.pid 0 (user_end g.M.Levels.mode) row forgets place c.clear_row.ensures.tables) (subst (λ (n : ℕ). IsWithoutTables old c.args.pid 0 n) sum (none_left_forgot first cleared old c.args.pid 0 (user_end g.M.Levels.mode) row forgets place none_left))
-    (subst (λ (n : ℕ). LosesSlots first old c.args.pid 0 n) sum (slots_forgot first cleared old c.args.pid 0 (user_end g.M.Levels.mode) row forgets place slots)) (files_forgot first cleared old c.args.pid 0 (user_end g.M.Levels.mode) row forgets place c.clear_row.ensures.files) c.remove_process.ensures.exits.1).others
-
-pub returns-clause-tables : goal.returns-clause-tables
-returns-clause-tables g c =
-    let first = picture_of c.args.core.now in
-    let cleared = picture_of c.clear_row.new.core in
-    let old = picture_of c.forget_row.new.core in
-    let same = c.user_end-end.ensures.end in
-    let row = subst (λ (n : ℕ). RemapsRow first cleared c.args.pid 0 n (first.at c.args.pid)) same c.clear_row.ensures.row in
-    let forgets = subst (λ (n : ℕ). ForgetsRow cleared old c.args.pid 0 n) same c.forget_row.ensures.forgets in
-    let none_left = subst (λ (n : ℕ). IsWithoutTables cleared c.args.pid 0 (0 + n)) same c.clear_row.ensures.none_left in
-    let slots = subst (λ (n : ℕ). ReturnsSlots first cleared c.args.pid 0 (0 + n)) same c.clear_row.ensures.slots in
-    let sum : 0 + user_end g.M.Levels.mode ≡ user_end g.M.Levels.mode = omega arith in
-    let place = same_places c.args.core.now c.clear_row.new.core c.clear_row.ensures.rest in
-    (ended first old (picture_of c.remove_process.new.self) c.args.pid c.remove_process.ensures.exits.0
-    c.requires.fit c.forget_row.ensures.fit (row_forgot first cleared old c.args.pid 0 (user_end g.M.Levels.mode) row forgets place (λ page e. pages_inside g.M.Levels.mode 0 (user_end g.M.Levels.mode) page (omega arith) e)) (others_forgot first cleared old c.args.pid 0 (user_end g.M.Levels.mode) row forgets place c.clear_row.ensures.others)
-    (tables_forgot first cleared old c.args.pid 0 (user_end g.M.Levels.mode) row forgets place c.clear_row.ensures.tables) (subst (λ (n : ℕ). IsWithoutTables old c.args.pid 0 n) sum (none_left_forgot first cleared old c.args.pid 0 (user_end g.M.Levels.mode) row forgets place none_left))
-    (subst (λ (n : ℕ). LosesSlots first old c.args.pid 0 n) sum (slots_forgot first cleared old c.args.pid 0 (user_end g.M.Levels.mode) row forgets place slots)) (files_forgot first cleared old c.args.pid 0 (user_end g.M.Levels.mode) row forgets place c.clear_row.ensures.files) c.remove_process.ensures.exits.1).tables
-
-pub returns-clause-slots : goal.returns-clause-slots
-returns-clause-slots g c =
-    let first = picture_of c.args.core.now in
-    let cleared = picture_of c.clear_row.new.core in
-    let old = picture_of c.forget_row.new.core in
-    let same = c.user_end-end.ensures.end in
-    let row = subst (λ (n : ℕ). RemapsRow first cleared c.args.pid 0 n (first.at c.args.pid)) same c.clear_row.ensures.row in
-    let forgets = subst (λ (n : ℕ). ForgetsRow cleared old c.args.pid 0 n) same c.forget_row.ensures.forgets in
-    let none_left = subst (λ (n : ℕ). IsWithoutTables cleared c.args.pid 0 (0 + n)) same c.clear_row.ensures.none_left in
-    let slots = subst (λ (n : ℕ). ReturnsSlots first cleared c.args.pid 0 (0 + n)) same c.clear_row.ensures.slots in
-    let sum : 0 + user_end g.M.Levels.mode ≡ user_end g.M.Levels.mode = omega arith in
-    let place = same_places c.args.core.now c.clear_row.new.core c.clear_row.ensures.rest in
-    (ended first old (picture_of c.remove_process.new.self) c.args.pid c.remove_process.ensures.exits.0
-    c.requires.fit c.forget_row.ensures.fit (row_forgot first cleared old c.args.pid 0 (user_end g.M.Levels.mode) row forgets place (λ page e. pages_inside g.M.Levels.mode 0 (user_end g.M.Levels.mode) page (omega arith) e)) (others_forgot first cleared old c.args.pid 0 (user_end g.M.Levels.mode) row forgets place c.clear_row.ensures.others)
-    (tables_forgot first cleared old c.args.pid 0 (user_end g.M.Levels.mode) row forgets place c.clear_row.ensures.tables) (subst (λ (n : ℕ). IsWithoutTables old c.args.pid 0 n) sum (none_left_forgot first cleared old c.args.pid 0 (user_end g.M.Levels.mode) row forgets place none_left))
-    (subst (λ (n : ℕ). LosesSlots first old c.args.pid 0 n) sum (slots_forgot first cleared old c.args.pid 0 (user_end g.M.Levels.mode) row forgets place slots)) (files_forgot first cleared old c.args.pid 0 (user_end g.M.Levels.mode) row forgets place c.clear_row.ensures.files) c.remove_process.ensures.exits.1).slots
-
-pub returns-clause-frames : goal.returns-clause-frames
-returns-clause-frames g c =
-    let first = picture_of c.args.core.now in
-    let cleared = picture_of c.clear_row.new.core in
-    let old = picture_of c.forget_row.new.core in
-    let same = c.user_end-end.ensures.end in
-    let row = subst (λ (n : ℕ). RemapsRow first cleared c.args.pid 0 n (first.at c.args.pid)) same c.clear_row.ensures.row in
-    let forgets = subst (λ (n : ℕ). ForgetsRow cleared old c.args.pid 0 n) same c.forget_row.ensures.forgets in
     let place = same_places c.args.core.now c.clear_row.new.core c.clear_row.ensures.rest in
     let returned = tables_forgot first cleared old c.args.pid 0 (user_end g.M.Levels.mode) row forgets place c.clear_row.ensures.tables in
     let files = files_forgot first cleared old c.args.pid 0 (user_end g.M.Levels.mode) row forgets place c.clear_row.ensures.files in
-    none_taken_ended first old (picture_of c.remove_process.new.self) c.args.pid c.remove_process.ensures.exits.0 c.remove_process.ensures.exits.1
-    (none_taken first old c.args.pid c.requires.fit c.forget_row.ensures.fit c.args.core.now.sound c.forget_row.new.core.sound
-    (λ q. forgets.root q ∙ row.root q) returned (still_framed first old _ files))
-
-pub returns-clause-files : goal.returns-clause-files
-returns-clause-files g c =
-    let first = picture_of c.args.core.now in
-    let cleared = picture_of c.clear_row.new.core in
-    let old = picture_of c.forget_row.new.core in
-    let same = c.user_end-end.ensures.end in
-    let row = subst (λ (n : ℕ). RemapsRow first cleared c.args.pid 0 n (first.at c.args.pid)) same c.clear_row.ensures.row in
-    let forgets = subst (λ (n : ℕ). ForgetsRow cleared old c.args.pid 0 n) same c.forget_row.ensures.forgets in
-    let none_left = subst (λ (n : ℕ). IsWithoutTables cleared c.args.pid 0 (0 + n)) same c.clear_row.ensures.none_left in
-    let slots = subst (λ (n : ℕ). ReturnsSlots first cleared c.args.pid 0 (0 + n)) same c.clear_row.ensures.slots in
-    let sum : 0 + user_end g.M.Levels.mode ≡ user_end g.M.Levels.mode = omega arith in
-    let place = same_places c.args.core.now c.clear_row.new.core c.clear_row.ensures.rest in
-    (ended first old (picture_of c.remove_process.new.self) c.args.pid c.remove_process.ensures.exits.0
+    let gone = ended first old (picture_of c.remove_process.new.self) c.args.pid c.remove_process.ensures.exits.0
     c.requires.fit c.forget_row.ensures.fit (row_forgot first cleared old c.args.pid 0 (user_end g.M.Levels.mode) row forgets place (λ page e. pages_inside g.M.Levels.mode 0 (user_end g.M.Levels.mode) page (omega arith) e)) (others_forgot first cleared old c.args.pid 0 (user_end g.M.Levels.mode) row forgets place c.clear_row.ensures.others)
-    (tables_forgot first cleared old c.args.pid 0 (user_end g.M.Levels.mode) row forgets place c.clear_row.ensures.tables) (subst (λ (n : ℕ). IsWithoutTables old c.args.pid 0 n) sum (none_left_forgot first cleared old c.args.pid 0 (user_end g.M.Levels.mode) row forgets place none_left))
-    (subst (λ (n : ℕ). LosesSlots first old c.args.pid 0 n) sum (slots_forgot first cleared old c.args.pid 0 (user_end g.M.Levels.mode) row forgets place slots)) (files_forgot first cleared old c.args.pid 0 (user_end g.M.Levels.mode) row forgets place c.clear_row.ensures.files) c.remove_process.ensures.exits.1).files
+    returned (subst (λ (n : ℕ). IsWithoutTables old c.args.pid 0 n) sum (none_left_forgot first cleared old c.args.pid 0 (user_end g.M.Levels.mode) row forgets place none_left))
+    (subst (λ (n : ℕ). LosesSlots first old c.args.pid 0 n) sum (slots_forgot first cleared old c.args.pid 0 (user_end g.M.Levels.mode) row forgets place slots)) files c.remove_process.ensures.exits.1 in
+    record {
+      removed = gone.removed;
+      tables = gone.tables;
+      slots = gone.slots;
+      frames = none_taken_ended first old (picture_of c.remove_process.new.self) c.args.pid c.remove_process.ensures.exits.0 c.remove_process.ensures.exits.1
+          (none_taken first old c.args.pid c.requires.fit c.forget_row.ensures.fit c.args.core.now.sound c.forget_row.new.core.sound
+          (λ q. forgets.root q ∙ row.root q) returned (still_framed first old _ files));
+      others = gone.others;
+      files = gone.files;
+      fit = gone.fit;
+      room = search rules;
+      devices = search rules;
+      refused = search rules;
+    }

@@ -1,6 +1,6 @@
 use Rattle.std.proofs.Common.{sym, ◌∙◌}
 use Rattle.std.proofs.lemmas.Bool.{false≢true}
-use Rattle.fault.proofs.Forms.{seat_common}
+use Rattle.residency.proofs.SeatForms.{seat_common}
 use Rattle.lifecycle.proofs.Copies.{own_some, away_some}
 use Rattle.lifecycle.proofs.linking.is_own.Goals as goal
 

@@ -13,15 +13,14 @@ pub loop-run-init : goal.loop-run-init
 loop-run-init g c =
     let old = picture_of c.args.core.now in
     record {
-      links = copies_none g.E.SectorDisk c.args.core.now c.args.parent c.args.child tt c.requires.fit c.requires.swap;
-      linked = none_wanted old c.args.parent c.args.child 0 16 (λ page from below. low_zero old c.args.parent page c.requires.fit.granting below);
+      links = copies_none g.E.SectorDisk c.args.core.now c.args.parent c.args.child tt c.requires.forking.fit c.requires.swap;
+      linked = none_wanted old c.args.parent c.args.child 0 16 (λ page from below. low_zero old c.args.parent page c.requires.forking.fit.granting below);
     }
 
 pub link_run-requires-clause-forking : goal.link_run-requires-clause-forking
 link_run-requires-clause-forking g c =
     let k = c.loop-run.invariant.links in
-    forking_still (picture_of c.args.core.now) (picture_of c.loop-run.core) c.args.parent c.args.child
-    (record { fit = c.requires.fit; parent_lives = c.requires.parent; child_lives = c.requires.child; same = c.requires.same }) k.moves.fit k.moves.spaces
+    forking_still (picture_of c.args.core.now) (picture_of c.loop-run.core) c.args.parent c.args.child c.requires.forking k.moves.fit k.moves.spaces
 
 pub link_run-requires-clause-swap : goal.link_run-requires-clause-swap
 link_run-requires-clause-swap g c = c.loop-run.invariant.links.moves.swap

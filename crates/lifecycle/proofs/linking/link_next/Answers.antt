@@ -15,8 +15,7 @@ returns-in-Some-clause-links g c = copies_none g.E.SectorDisk c.args.core.now c.
 
 pub returns-in-Some-clause-next : goal.returns-in-Some-clause-next
 returns-in-Some-clause-next g c = record {
-  further = search rules;
-  within = search rules;
+  advances = record { further = search rules; within = search rules };
   end_of_step = λ r root.
       let gap = c.in-Some.ensures.end r root in
       step_gap c.args.page c.args.end c.min.result c.in-Some.gap (missing_of c.args.core.now.frames (top_level g.M.Levels.mode) r c.args.page) gap.0 gap.1 c.min.ensures;

@@ -4,11 +4,10 @@ use Rattle.residency.specs.Picture.{Picture, picture_of, entry}
 use Rattle.residency.proofs.Start.{seat-none}
 use Rattle.ranges.proofs.BetweenEntries.{none_at}
 use Rattle.ranges.proofs.ClearedPlaces.{past}
-use Rattle.ranges.proofs.Gaps.{user_inside}
-use Rattle.lifecycle.specs.Shares.{SharesRow}
+use Rattle.lifecycle.specs.ChildShares.{GivesShares}
 use Rattle.lifecycle.proofs.Live.{live_root}
 use Rattle.lifecycle.proofs.Passed.{number_in_row}
-use Rattle.lifecycle.proofs.SharedRows.{shares_none}
+use Rattle.lifecycle.proofs.ShareSteps.{awaits_within, gives_none}
 use Rattle.lifecycle.proofs.sharing.share_at.Goals as goal
 
 -- a place of the table
@@ -18,52 +17,77 @@ in_table index end below most = omega arith
 pub share_page-requires-clause-number : goal.share_page-requires-clause-number
 share_page-requires-clause-number g c =
     let old : Picture g.M.Levels.mode = picture_of c.args.core.now in
-    number_in_row old c.args.parent c.args.tables.from.0 c.args.tables.first c.args.index c.number_in-number.result.0 c.requires.parent c.requires.begins
-    (in_table c.args.index c.args.end c.requires.below c.requires.in_table) c.requires.from c.number_in-number.ensures
+    let t = c.args.tables.now in
+    let q = c.requires in
+    number_in_row old t.parent t.from.0 t.first c.args.index c.number_in-number.result.0 q.awaits.parent_lives q.from.begins
+    (in_table c.args.index c.args.end q.below q.in_table) q.from.place c.number_in-number.ensures
 
-pub share_page-requires-clause-bare : goal.share_page-requires-clause-bare
-share_page-requires-clause-bare g c =
-    let page = c.args.tables.first + c.args.index in
-    c.requires.bare page (user_inside g.M.Levels.mode page (c.args.tables.first + c.args.end) (omega (arith, c.requires.below)) c.requires.high) (omega arith)
+pub share_page-requires-clause-awaits : goal.share_page-requires-clause-awaits
+share_page-requires-clause-awaits g c =
+    let t = c.args.tables.now in
+    let page = t.first + c.args.index in
+    awaits_within (picture_of c.args.core.now) t.parent t.child page (t.first + c.args.end) page (page + 1) c.requires.awaits (omega arith) (omega (arith, c.requires.below))
+
+pub share_page-requires-clause-from : goal.share_page-requires-clause-from
+share_page-requires-clause-from g c =
+    let from = c.requires.from in
+    record { place = from.place; begins = from.begins; user = (let user = from.user in omega (arith, user, c.requires.below)) }
+
+pub share_page-requires-clause-to : goal.share_page-requires-clause-to
+share_page-requires-clause-to g c =
+    let to = c.requires.to in
+    record { place = to.place; begins = to.begins; user = (let user = to.user in omega (arith, user, c.requires.below)) }
 
 pub share_page-requires-clause-own : goal.share_page-requires-clause-own
 share_page-requires-clause-own g c = c.is_own.ensures.own c.if-is_own.true
 
-pub returns-then-is_own-clause-shares : goal.returns-then-is_own-clause-shares
-returns-then-is_own-clause-shares g c =
-    let page = c.args.tables.first + c.args.index in
-    let next : page + 1 ≡ c.args.tables.first + (c.args.index + 1) = omega arith in
-    let P : ℕ → Type 0 = λ x. SharesRow (picture_of c.args.core.now) (picture_of c.share_page.new.core) c.args.parent c.args.child page x in
-    subst P next c.share_page.ensures.shares
+pub returns-then-is_own-clause-gives : goal.returns-then-is_own-clause-gives
+returns-then-is_own-clause-gives g c =
+    let t = c.args.tables.now in
+    let page = t.first + c.args.index in
+    let next : page + 1 ≡ t.first + (c.args.index + 1) = omega arith in
+    let P : ℕ → Type 0 = λ x. GivesShares c.args.core.now c.share_page.new.core t.parent t.child page x in
+    subst P next c.share_page.ensures
 
-pub returns-then-to_u64-eq0-clause-further : goal.returns-then-to_u64-eq0-clause-further
-returns-then-to_u64-eq0-clause-further g c =
+pub returns-then-to_u64-eq0-clause-next : goal.returns-then-to_u64-eq0-clause-next
+returns-then-to_u64-eq0-clause-next g c =
     let old : Picture g.M.Levels.mode = picture_of c.args.core.now in
+    let t = c.args.tables.now in
     let q = c.requires in
-    let r = live_root (old.root c.args.parent) q.parent in
+    let r = live_root (old.root t.parent) q.awaits.parent_lives in
     let next = c.next_place.ensures in
-    past old c.args.parent r.0 c.args.tables.from.0 c.args.tables.first c.args.index c.args.end c.number_in-number.result.0 q.fit r.1 (q.from r.0 r.1) q.begins q.below q.in_table q.high
-    c.number_in-number.ensures c.next_place.result (sym c.to_u64.ensures ∙ c.if-to_u64-eq0.true) next.from next.within next.passed next.found
+    record {
+      further = past old t.parent r.0 t.from.0 t.first c.args.index c.args.end c.number_in-number.result.0 q.awaits.fit r.1 (q.from.place r.0 r.1) q.from.begins q.below q.in_table q.from.user
+          c.number_in-number.ensures c.next_place.result (sym c.to_u64.ensures ∙ c.if-to_u64-eq0.true) next.from next.within next.passed next.found;
+      within = next.within;
+    }
 
-pub returns-then-to_u64-eq0-clause-shares : goal.returns-then-to_u64-eq0-clause-shares
-returns-then-to_u64-eq0-clause-shares g c =
+pub returns-then-to_u64-eq0-clause-gives : goal.returns-then-to_u64-eq0-clause-gives
+returns-then-to_u64-eq0-clause-gives g c =
     let old : Picture g.M.Levels.mode = picture_of c.args.core.now in
+    let t = c.args.tables.now in
     let q = c.requires in
-    let r = live_root (old.root c.args.parent) q.parent in
+    let r = live_root (old.root t.parent) q.awaits.parent_lives in
     let next = c.next_place.ensures in
     let within = next.within in
-    shares_none old c.args.parent c.args.child (c.args.tables.first + c.args.index) (c.args.tables.first + c.next_place.result) q.same (λ p h least under. q.bare p h least)
-    (λ p h least under. ap seat (none_at old c.args.parent r.0 c.args.tables.from.0 c.args.tables.first c.args.index c.next_place.result r.1 (q.from r.0 r.1) q.begins
+    let page = t.first + c.args.index in
+    gives_none c.args.core.now t.parent t.child page (t.first + c.next_place.result)
+    (awaits_within old t.parent t.child page (t.first + c.args.end) page (t.first + c.next_place.result) q.awaits (omega arith) (omega (arith, within)))
+    (λ p h least under. ap seat (none_at old t.parent r.0 t.from.0 t.first c.args.index c.next_place.result r.1 (q.from.place r.0 r.1) q.from.begins
     (omega (arith, within, q.in_table)) next.passed p least under) ∙ seat-none)
 
 -- a page alone
 this : (first index p : ℕ) → first + index ≤ p → p < first + (index + 1) → p ≡ first + index
 this first index p least under = omega arith
 
-pub returns-clause-shares : goal.returns-clause-shares
-returns-clause-shares g c =
+pub returns-clause-gives : goal.returns-clause-gives
+returns-clause-gives g c =
     let old : Picture g.M.Levels.mode = picture_of c.args.core.now in
-    let is = number_in_row old c.args.parent c.args.tables.from.0 c.args.tables.first c.args.index c.number_in-number.result.0 c.requires.parent c.requires.begins
-    (in_table c.args.index c.args.end c.requires.below c.requires.in_table) c.requires.from c.number_in-number.ensures in
-    shares_none old c.args.parent c.args.child (c.args.tables.first + c.args.index) (c.args.tables.first + (c.args.index + 1)) c.requires.same (λ p h least under. c.requires.bare p h least)
-    (λ p h least under. ap (λ x. seat (entry old c.args.parent x)) (this c.args.tables.first c.args.index p least under) ∙ ap seat (sym is) ∙ c.is_own.ensures.other c.if-is_own.false)
+    let t = c.args.tables.now in
+    let q = c.requires in
+    let is = number_in_row old t.parent t.from.0 t.first c.args.index c.number_in-number.result.0 q.awaits.parent_lives q.from.begins
+    (in_table c.args.index c.args.end q.below q.in_table) q.from.place c.number_in-number.ensures in
+    let page = t.first + c.args.index in
+    gives_none c.args.core.now t.parent t.child page (t.first + (c.args.index + 1))
+    (awaits_within old t.parent t.child page (t.first + c.args.end) page (t.first + (c.args.index + 1)) q.awaits (omega arith) (omega (arith, q.below)))
+    (λ p h least under. ap (λ x. seat (entry old t.parent x)) (this t.first c.args.index p least under) ∙ ap seat (sym is) ∙ c.is_own.ensures.other c.if-is_own.false)

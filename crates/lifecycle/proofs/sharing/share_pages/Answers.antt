@@ -1,100 +1,79 @@
 use Rattle.vm_types.proofs.Modes.{sizes}
-use Rattle.vm_types.specs.Limits.{user_end, top_level}
-use Rattle.std.proofs.Common.{◌≡◌, ℕ, inr, ◌<◌, ◌≤◌, None, refl, sym, ap, ◌∙◌, subst, arith}
-use Rattle.std.specs.Prelude.{is_some}
-use Rattle.page_tables.specs.Tree.{IsPage}
+use Rattle.vm_types.specs.Limits.{user_end}
+use Rattle.std.proofs.Common.{◌≤◌, ℕ, refl, sym, ◌∙◌, subst, arith}
 use Rattle.regions.specs.RunList.{attr_at}
-use Rattle.residency.specs.Parts.{IsFit}
-use Rattle.residency.specs.Picture.{Picture, picture_of, entry}
-use Rattle.ranges.proofs.ClearedPages.{rest-refl, rest_then}
-use Rattle.lifecycle.specs.Shares.{SharesRow}
+use Rattle.residency.specs.Picture.{picture_of}
+use Rattle.lifecycle.specs.ChildShares.{GivesShares}
 use Rattle.lifecycle.specs.Steps.{IsMappedRow}
 use Rattle.lifecycle.proofs.Runs.{unmapped_before, mapped_inside}
-use Rattle.lifecycle.proofs.SharedRows.{shares_none, shares_unmapped, shares_then, seats_kept, tables_shared}
+use Rattle.lifecycle.proofs.ShareSteps.{awaits_rest, gives_no_row, gives_then, gives_unmapped, linked_still}
 use Rattle.lifecycle.proofs.sharing.share_pages.Goals as goal
 
 pub loop-run-init : goal.loop-run-init
 loop-run-init g c =
-    let old : Picture g.M.Levels.mode = picture_of c.args.core.now in
+    let end = user_end g.M.Levels.mode in
+    let some : 16 ≤ end = (let least = (sizes g.M.Levels.mode).least in omega (arith, least)) in
     record {
       from = omega arith;
-      most = (let least = (sizes g.M.Levels.mode).least in omega (arith, least));
-      fit = c.requires.fit;
-      shares = shares_none old c.args.parent c.args.child 16 16 c.requires.same (λ p h least under. c.requires.bare p h) (λ p h least under. absurd (omega (arith, least, under)));
-      rest = rest-refl c.args.core.now;
-      refused = refl;
+      most = some;
+      gives = gives_no_row c.args.core.now c.args.parent c.args.child 16 end 16 c.requires.awaits refl some;
     }
 
-pub share_run-requires-clause-parent : goal.share_run-requires-clause-parent
-share_run-requires-clause-parent g c = ap is_some (c.loop-run.invariant.shares.beside.root c.args.parent) ∙ c.requires.parent
-
-pub share_run-requires-clause-child : goal.share_run-requires-clause-child
-share_run-requires-clause-child g c = ap is_some (c.loop-run.invariant.shares.beside.root c.args.child) ∙ c.requires.child
-
-pub share_run-requires-clause-same : goal.share_run-requires-clause-same
-share_run-requires-clause-same g c p =
-    let at = c.loop-run.invariant.shares.beside.at in
-    at c.args.child p ∙ c.requires.same p ∙ sym (at c.args.parent p)
-
-pub share_run-requires-clause-bare : goal.share_run-requires-clause-bare
-share_run-requires-clause-bare g c p h from =
-    let least = c.in-Some.ensures.some.from in
-    c.loop-run.invariant.shares.others c.args.child p h (inr (inr (omega (arith, c.user_page.ensures, least, from)))) ∙ c.requires.bare p h
+pub share_run-requires-clause-awaits : goal.share_run-requires-clause-awaits
+share_run-requires-clause-awaits g c =
+    let k = c.loop-run.invariant in
+    let next = c.in-Some.ensures.some in
+    let from = k.from in
+    let least = next.from in
+    awaits_rest c.args.core.now c.loop-run.core c.args.parent c.args.child 16 c.loop-run.page (user_end g.M.Levels.mode) c.user_page.result c.in-Some.run'.end c.requires.awaits k.gives
+    (omega (arith, c.user_page.ensures, least, from)) (omega (arith, c.user_page.ensures, least)) next.high
 
 pub share_run-requires-clause-linked : goal.share_run-requires-clause-linked
 share_run-requires-clause-linked g c =
-    let old : Picture g.M.Levels.mode = picture_of c.args.core.now in
-    let mid : Picture g.M.Levels.mode = picture_of c.loop-run.core in
-    let shares = c.loop-run.invariant.shares in
-    tables_shared old mid c.args.parent c.args.child 16 c.loop-run.page c.requires.apart shares
-    (seats_kept old mid c.args.parent c.args.child 16 c.loop-run.page shares) c.requires.linked
+    linked_still c.args.core.now c.loop-run.core c.args.parent c.args.child 16 c.loop-run.page c.requires.awaits.apart c.loop-run.invariant.gives c.requires.linked
 
 pub share_run-requires-clause-mapped : goal.share_run-requires-clause-mapped
 share_run-requires-clause-mapped g c =
-    let mid : Picture g.M.Levels.mode = picture_of c.loop-run.core in
+    let mid = picture_of c.loop-run.core in
     let run = c.in-Some.run' in
     let P : ℕ → Type 0 = λ x. IsMappedRow mid c.args.parent x run.end in
     subst P (sym c.user_page.ensures)
     (mapped_inside mid c.args.parent c.loop-run.page (attr_at c.regions.result.now) run c.regions.ensures c.in-Some.ensures.some)
 
--- a row of pages that aren't mapped, from the page that the loop has come to
-unmapped_row : {mode : ℕ} (old mid : Picture mode) (parent child page high : ℕ) → IsFit mid → SharesRow old mid parent child 16 page → ((p : ℕ) → old.at child p ≡ old.at parent p)
-    → ((p : ℕ) → IsPage (top_level mode) p → entry old child p ≡ 0) → ((p : ℕ) → page ≤ p → p < high → mid.at parent p ≡ None) → SharesRow mid mid parent child page high
-unmapped_row old mid parent child page high fit shares same bare none =
-    shares_unmapped mid parent child page high fit.granting (λ p. shares.beside.at child p ∙ same p ∙ sym (shares.beside.at parent p))
-    (λ p h least. shares.others child p h (inr (inr least)) ∙ bare p h) none
-
 pub loop-run-preserved : goal.loop-run-preserved
 loop-run-preserved g c =
-    let old : Picture g.M.Levels.mode = picture_of c.args.core.now in
-    let mid : Picture g.M.Levels.mode = picture_of c.loop-run.core in
-    let new : Picture g.M.Levels.mode = picture_of c.share_run.new.core in
+    let first = c.args.core.now in
+    let mid = c.loop-run.core in
+    let new = c.share_run.new.core in
     let run = c.in-Some.run' in
     let next = c.in-Some.ensures.some in
     let k = c.loop-run.invariant in
-    let step = c.share_run.ensures in
-    let P : ℕ → Type 0 = λ x. SharesRow mid new c.args.parent c.args.child x run.end in
-    let gap = unmapped_row old mid c.args.parent c.args.child c.loop-run.page run.first k.fit k.shares c.requires.same c.requires.bare
-    (unmapped_before mid c.args.parent c.loop-run.page (attr_at c.regions.result.now) run c.regions.ensures next) in
+    let q = c.requires.awaits in
+    let end = user_end g.M.Levels.mode in
+    let P : ℕ → Type 0 = λ x. GivesShares mid new c.args.parent c.args.child x run.end in
     let from = k.from in
     let least = next.from in
     let order = next.nonempty in
+    let high = next.high in
+    let gap = gives_unmapped mid c.args.parent c.args.child c.loop-run.page run.first
+    (awaits_rest first mid c.args.parent c.args.child 16 c.loop-run.page end c.loop-run.page run.first q k.gives from (omega arith) (omega (arith, order, high)))
+    (unmapped_before (picture_of mid) c.args.parent c.loop-run.page (attr_at c.regions.result.now) run c.regions.ensures next) in
     record {
       from = omega (arith, from, least, order);
-      most = next.high;
-      fit = step.fit;
-      shares = shares_then old mid new c.args.parent c.args.child 16 run.first run.end c.requires.fit c.requires.apart (omega (arith, from, least)) (omega (arith, order))
-          (shares_then old mid mid c.args.parent c.args.child 16 c.loop-run.page run.first c.requires.fit c.requires.apart from least k.shares gap)
-          (subst P c.user_page.ensures step.shares);
-      rest = rest_then c.args.core.now c.loop-run.core c.share_run.new.core k.rest step.rest;
-      refused = step.refused ∙ k.refused;
+      most = high;
+      gives = gives_then first mid new c.args.parent c.args.child 16 run.first run.end q.fit q.apart (omega (arith, from, least)) (omega (arith, order))
+          (gives_then first mid mid c.args.parent c.args.child 16 c.loop-run.page run.first q.fit q.apart from least k.gives gap)
+          (subst P c.user_page.ensures c.share_run.ensures);
     }
 
-pub returns-clause-shares : goal.returns-clause-shares
-returns-clause-shares g c =
-    let old : Picture g.M.Levels.mode = picture_of c.args.core.now in
-    let mid : Picture g.M.Levels.mode = picture_of c.loop-run.core in
+pub returns : goal.returns
+returns g c =
+    let first = c.args.core.now in
+    let mid = c.loop-run.core in
     let k = c.loop-run.invariant in
-    shares_then old mid mid c.args.parent c.args.child 16 c.loop-run.page (user_end g.M.Levels.mode) c.requires.fit c.requires.apart k.from k.most k.shares
-    (unmapped_row old mid c.args.parent c.args.child c.loop-run.page (user_end g.M.Levels.mode) k.fit k.shares c.requires.same c.requires.bare
+    let q = c.requires.awaits in
+    let end = user_end g.M.Levels.mode in
+    gives_then first mid mid c.args.parent c.args.child 16 c.loop-run.page end q.fit q.apart k.from k.most k.gives
+    (gives_unmapped mid c.args.parent c.args.child c.loop-run.page end
+    (awaits_rest first mid c.args.parent c.args.child 16 c.loop-run.page end c.loop-run.page end q k.gives k.from (omega arith) (omega arith))
     (λ p past under. sym (c.regions.ensures p) ∙ c.in_default.ensures.none p past))

@@ -2,7 +2,7 @@ use Rattle.std.proofs.Common.{◌∙◌, ℕ, inl, inr, sym, subst, length-set, 
 use Rattle.std.proofs.lemmas.Bool.{cases_eq}
 use Rattle.frames.specs.FrameTable.{FrameTable}
 use Rattle.memory.specs.declared.notes.Note.{Note}
-use Rattle.memory.specs.Notes.{Covers, Names, no_note}
+use Rattle.memory.specs.Notes.{Covers, NamesFrame, no_note}
 use Rattle.memory.proofs.notes.forget_pages.Goals as goal
 
 pub invariant_of-memory : goal.invariant_of-memory
@@ -16,8 +16,8 @@ invariant_of-memory g c =
         count = length-set items n no_note ∙ was.count;
         covers = λ whole root page m names inside. elim (cases_eq m n) [
           | inl e ↦ (
-              let N : ℕ → Type 0 = λ x. Names g.M.Levels.mode t root page x in
-              absurd (c.requires.none root page (subst (λ (x : FrameTable). Names g.M.Levels.mode x root page n) c.memory.view_is (subst N e names))))
+              let N : ℕ → Type 0 = λ x. NamesFrame g.M.Levels.mode t root page x in
+              absurd (c.requires.none root page (subst (λ (x : FrameTable). NamesFrame g.M.Levels.mode x root page n) c.memory.view_is (subst N e names))))
           | inr ne ↦ subst (λ (x : Note). Covers x root page) (sym (get_or-set_other items n m no_note no_note ne)) (was.covers whole root page m names inside)
         ];
       },

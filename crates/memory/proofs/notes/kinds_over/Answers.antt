@@ -3,7 +3,7 @@ use Rattle.std.proofs.lemmas.List.{get_or_read}
 use Rattle.std.proofs.lemmas.Nat.Bits.{bit_at_ones}
 use Rattle.frames.specs.FrameTable.{FrameTable, frame_count}
 use Rattle.memory.specs.declared.notes.Note.{Note}
-use Rattle.memory.specs.Notes.{HasKind, Names, no_note}
+use Rattle.memory.specs.Notes.{HasKind, NamesFrame, no_note}
 use Rattle.memory.proofs.notes.kinds_over.Goals as goal
 
 pub returns-then-memory : goal.returns-then-memory
@@ -13,7 +13,7 @@ returns-then-memory g c = λ root page names.
     let items = c.memory.inside.notes.each.items in
     let inside : n < frame_count t = subst (λ (x : FrameTable). n < frame_count x) (sym c.memory.view_is) c.requires in
     let below : n < length items = (let a = c.memory.invariant.1.count in omega (arith, a, inside)) in
-    let covers = c.memory.invariant.1.covers c.if-memory.true root page n (subst (λ (x : FrameTable). Names g.M.Levels.mode x root page n) (sym c.memory.view_is) names) inside in
+    let covers = c.memory.invariant.1.covers c.if-memory.true root page n (subst (λ (x : FrameTable). NamesFrame g.M.Levels.mode x root page n) (sym c.memory.view_is) names) inside in
     subst (λ (x : Note). HasKind x.kinds root) (sym (get_or_read items n _ below c.index.ensures no_note)) covers.kind
 
 pub returns-else-memory : goal.returns-else-memory

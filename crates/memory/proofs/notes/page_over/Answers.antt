@@ -3,7 +3,7 @@ use Rattle.std.specs.Prelude.{IfSome, IsSome}
 use Rattle.std.proofs.lemmas.List.{get_or_read}
 use Rattle.frames.specs.FrameTable.{FrameTable, frame_count}
 use Rattle.memory.specs.declared.notes.Note.{Note}
-use Rattle.memory.specs.Notes.{Covers, Names, no_note}
+use Rattle.memory.specs.Notes.{Covers, NamesFrame, no_note}
 use Rattle.memory.proofs.notes.page_over.Goals as goal
 
 if_page : (o : Option ℕ) (n : ℕ) (P : ℕ → Type 0) → IfSome o (λ k. k ≡ n) → (IsSome o → P n) → IfSome o P
@@ -22,6 +22,6 @@ returns-then-memory-clause-one g c =
     let inside : n < frame_count t = subst (λ (x : FrameTable). n < frame_count x) (sym c.memory.view_is) c.requires in
     let below : n < length items = (let a = c.memory.invariant.1.count in omega (arith, a, inside)) in
     if_page c.new.result c.index.result.now.page _ c.new.ensures.found (λ some root page names.
-    let covers = c.memory.invariant.1.covers c.if-memory.true root page n (subst (λ (x : FrameTable). Names g.M.Levels.mode x root page n) (sym c.memory.view_is) names) inside in
+    let covers = c.memory.invariant.1.covers c.if-memory.true root page n (subst (λ (x : FrameTable). NamesFrame g.M.Levels.mode x root page n) (sym c.memory.view_is) names) inside in
     let here : Covers c.index.result.now root page = subst (λ (x : Note). Covers x root page) (sym (get_or_read items n _ below c.index.ensures no_note)) covers in
     the_one c.index.result.now root page (c.new.ensures.known.0 some).0 here.page_is)

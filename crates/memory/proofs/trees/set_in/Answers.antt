@@ -1,5 +1,5 @@
 use Rattle.vm_types.specs.Limits.{top_level}
-use Rattle.std.proofs.Common.{◌≡◌, ℕ, ◌%◌, ◌/◌, sym, subst, arith}
+use Rattle.std.proofs.Common.{◌≡◌, ℕ, ◌%◌, ◌/◌, sym, subst, arith, rules}
 use Rattle.frames.specs.FrameTable.{FrameTable}
 use Rattle.page_tables.specs.Tree.{IsForest, IsPage, IsRoot}
 use Rattle.page_tables.specs.Places.{IsTableOf}
@@ -33,10 +33,11 @@ invariant_of-memory g c =
           (subst N (sym c.memory.view_is) c.requires.names) c.memory.invariant.1,
     )
 
-pub returns-clause-sets : goal.returns-clause-sets
-returns-clause-sets g c root page is_root is_page row at =
+pub returns : goal.returns
+returns g c =
     let new = c.set_in.new.frames in
-    let R : FrameTable → Type 0 = λ x. IsRoot (top_level g.M.Levels.mode) x root in
-    let T : FrameTable → Type 0 = λ x. IsTableOf x (top_level g.M.Levels.mode) root (page / 512) c.args.table.0 in
-    let S : FrameTable → Type 0 = λ x. SetsEntry x new (top_level g.M.Levels.mode) root page (number_of c.args.entry) in
-    subst S c.memory.view_is (c.set_in.ensures.sets (top_level g.M.Levels.mode) root page (subst R (sym c.memory.view_is) is_root) is_page (subst T (sym c.memory.view_is) row) at)
+    record {
+      sets = λ root page is_root is_page row at. (let R : FrameTable → Type 0 = λ x. IsRoot (top_level g.M.Levels.mode) x root in let T : FrameTable → Type 0 = λ x. IsTableOf x (top_level g.M.Levels.mode) root (page / 512) c.args.table.0 in let S : FrameTable → Type 0 = λ x. SetsEntry x new (top_level g.M.Levels.mode) root page (number_of c.args.entry) in subst S c.memory.view_is (c.set_in.ensures.sets (top_level g.M.Levels.mode) root page (subst R (sym c.memory.view_is) is_root) is_page (subst T (sym c.memory.view_is) row) at));
+      kept = search rules;
+      sound = search rules;
+    }

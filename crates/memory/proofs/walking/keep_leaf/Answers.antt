@@ -6,7 +6,7 @@ use Rattle.frames.specs.FrameTable.{frame_count}
 use Rattle.sv39_walk.specs.declared.translation.WalkFault.{WalkFault}
 use Rattle.sv39_walk.specs.Walk.{answer_of}
 use Rattle.page_tables.specs.Tree.{page_entry}
-use Rattle.memory.specs.Lines.{place_in}
+use Rattle.memory.specs.Lines.{address_in}
 use Rattle.memory.proofs.Looks.{walks}
 use Rattle.memory.proofs.Leaves.{is_line, of_entry, valid_of}
 use Rattle.memory.proofs.Keeping.{kept_more}
@@ -33,7 +33,7 @@ returns-clause-walked g c addr at =
     let usable = c.is_usable.ensures.usable c.if-not-is_usable.false in
     let l = of_entry g.M.Levels.mode t root page leaf c.requires.forest c.requires.root c.requires.small
     (sym (c.number_in-leaf.ensures top root page c.requires.table (sym (ap (λ n. n % 512) c.get.ensures.number)))) (valid_of c.args.access leaf usable.0) usable.1 in
-    walks g.M.Levels.mode t root page addr leaf c.args.access (is_line g.M.Levels.mode t root page leaf l) at c.requires.small usable.0 ∙ ap (λ (n : ℕ). Ok (place_in n addr)) (sym c.frame_number.ensures)
+    walks g.M.Levels.mode t root page addr leaf c.args.access (is_line g.M.Levels.mode t root page leaf l) at c.requires.small usable.0 ∙ ap (λ (n : ℕ). Ok (address_in n addr)) (sym c.frame_number.ensures)
 
 pub returns-clause-kept : goal.returns-clause-kept
 returns-clause-kept g c =

@@ -6,7 +6,7 @@ use Rattle.vm_types.specs.Limits.{top_level}
 use Rattle.frames.specs.FrameTable.{FrameTable}
 use Rattle.page_tables.specs.Tree.{IsForest, IsRoot}
 use Rattle.page_tables.specs.Change.{SetsEntry}
-use Rattle.memory.specs.Notes.{HasKind, IsNumberOf, Names}
+use Rattle.memory.specs.Notes.{HasKind, IsNumberOf, NamesFrame}
 use Rattle.memory.proofs.Noting.{set_back}
 use Rattle.memory.proofs.Numbers.{is_number}
 use Rattle.memory_tests.proofs.notes.show_for_a_moment.Goals as goal
@@ -20,8 +20,8 @@ no_kind kinds root none has =
 -- a page's entry was set and taken away: what names the frame then is another page, and did so before
 module _ (mode : ℕ) (before between after : FrameTable) (root q number n : ℕ) (forest : IsForest before) (is_root : IsRoot (top_level mode) before root)
     (set : SetsEntry before between (top_level mode) root q number) (cleared : SetsEntry between after (top_level mode) root q 0)
-    (none : (r p : ℕ) → Names mode before r p n → ⊥) where
-  elsewhere : (r p : ℕ) → Names mode after r p n → (r ≢ root) ⊎ (p ≢ q) → ⊥
+    (none : (r p : ℕ) → NamesFrame mode before r p n → ⊥) where
+  elsewhere : (r p : ℕ) → NamesFrame mode after r p n → (r ≢ root) ⊎ (p ≢ q) → ⊥
   elsewhere r p names other = none r p (record {
     number = names.number;
     is = set_back mode before between root forest is_root q number set r p names.number
@@ -31,7 +31,7 @@ module _ (mode : ℕ) (before between after : FrameTable) (root q number n : ℕ
     frame = names.frame;
   })
 
-  none_left : (r p : ℕ) → Names mode after r p n → ⊥
+  none_left : (r p : ℕ) → NamesFrame mode after r p n → ⊥
   none_left r p names = elim (cases_eq r root) [
     | inl same_root ↦ elim (cases_eq p q) [
       | inl same_page ↦ (

@@ -1,7 +1,7 @@
 use Rattle.std.proofs.Common.{ℕ, ◌≡◌, ◌+◌, ◌-◌, refl, subst, arith}
 use Rattle.regions.specs.RunList.{attr_at}
 use Rattle.page_cache.specs.CacheTable.{is_touched}
-use Rattle.msync.specs.Choice.{of_files, is_chosen, Overflows, Lists}
+use Rattle.msync.specs.Choice.{of_files, is_chosen, OverflowsRow, ListsTouched}
 use Rattle.msync.proofs.Appending.{listed, lists_none, over_none}
 use Rattle.msync.proofs.choosing.choose.Goals as goal
 
@@ -13,7 +13,7 @@ returns-in-Ok g c =
     let count : (first + c.args.count) - first ≡ c.args.count = omega arith in (
       omega (arith, c.in-Ok.count-test.1),
       c.in-Ok.ensures.ok.few,
-      subst (λ (n : ℕ). Lists (is_chosen touched map first n) c.choose_between.new.list c.in-Ok.count) count
+      subst (λ (n : ℕ). ListsTouched (is_chosen touched map first n) c.choose_between.new.list c.in-Ok.count) count
           (listed (is_chosen touched map first ((first + c.args.count) - first)) _ c.choose_between.new.list c.in-Ok.count c.in-Ok.ensures.ok),
     )
 
@@ -24,7 +24,7 @@ returns-in-Err g c =
     let first = c.args.first in
     let count : (first + c.args.count) - first ≡ c.args.count = omega arith in (
       refl,
-      subst (λ (n : ℕ). Overflows (is_chosen touched map first n) _ 0) count
+      subst (λ (n : ℕ). OverflowsRow (is_chosen touched map first n) _ 0) count
           (over_none (is_chosen touched map first ((first + c.args.count) - first)) _ c.in-Err.ensures.too_many),
     )
 
@@ -36,5 +36,5 @@ returns-in-Ok-eq0 g c =
     let count : (first + c.args.count) - first ≡ c.args.count = omega arith in
     let l = listed (is_chosen touched map first ((first + c.args.count) - first)) _ c.choose_between.new.list c.in-Ok-eq0.field-0 c.in-Ok-eq0.ensures.ok in
     lists_none (is_chosen touched map first c.args.count) c.choose_between.new.list
-    (subst (λ (k : ℕ). Lists (is_chosen touched map first c.args.count) c.choose_between.new.list k) c.in-Ok-eq0.field-0-test
-    (subst (λ (n : ℕ). Lists (is_chosen touched map first n) c.choose_between.new.list c.in-Ok-eq0.field-0) count l))
+    (subst (λ (k : ℕ). ListsTouched (is_chosen touched map first c.args.count) c.choose_between.new.list k) c.in-Ok-eq0.field-0-test
+    (subst (λ (n : ℕ). ListsTouched (is_chosen touched map first n) c.choose_between.new.list c.in-Ok-eq0.field-0) count l))

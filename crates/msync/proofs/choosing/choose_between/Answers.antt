@@ -1,7 +1,7 @@
 use Rattle.std.proofs.Common.{ℕ, ◌≡◌, ◌-◌, arith, subst}
 use Rattle.regions.specs.RunList.{attr_at}
 use Rattle.page_cache.specs.CacheTable.{is_touched}
-use Rattle.msync.specs.Choice.{of_files, is_chosen, is_taken_behind, Appends, Overflows}
+use Rattle.msync.specs.Choice.{of_files, is_chosen, is_taken_behind, Appends, OverflowsRow}
 use Rattle.msync.proofs.Appending.{on_err}
 use Rattle.msync.proofs.Walking.{walk_start, walk_on, walk_over, walk_end}
 use Rattle.msync.proofs.choosing.choose_between.Goals as goal
@@ -44,7 +44,7 @@ returns-in_err-count-clause-too_many g c =
     let next = c.in-Some.ensures.some in
     let stop = c.min-stop.result in
     let count : c.saturating_sub-pages.result ≡ stop - run.first = omega (arith, c.saturating_sub-pages.ensures) in
-    let step = subst (λ (n : ℕ). Overflows (is_taken_behind touched run.attr.backing n) c.loop-page.list c.loop-page.count) count c.in_err-count.ensures.too_many in
+    let step = subst (λ (n : ℕ). OverflowsRow (is_taken_behind touched run.attr.backing n) c.loop-page.list c.loop-page.count) count c.in_err-count.ensures.too_many in
     on_err c.from_residual.result
     (walk_over g.M.Levels.mode touched map c.args.first c.loop-page.page stop c.args.end run c.args.list.now c.loop-page.list c.loop-page.count
     next c.loop-page.invariant.from c.loop-page.invariant.to (omega arith) (omega arith) c.loop-page.invariant.chosen step)

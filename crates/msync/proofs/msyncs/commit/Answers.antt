@@ -1,4 +1,4 @@
-use Rattle.std.proofs.Common.{inl, inr, length, take, refl, sym, ◌∙◌, subst}
+use Rattle.std.proofs.Common.{inl, inr, length, take, refl, sym, ◌∙◌, subst, rules}
 use Rattle.disk_model.specs.Moments.{LeavesNow, AsksOnly}
 use Rattle.file_store.specs.declared.store.FileStore.{FileStore}
 use Rattle.file_store.specs.Standing.{StandsFor}
@@ -81,72 +81,83 @@ returns-in-Ok-clause-commits g c = λ s after pid addr len mode shows takes same
       fit = c.settle.ensures.fit;
     })
 
-pub returns-in-Ok-clause-ready : goal.returns-in-Ok-clause-ready
-returns-in-Ok-clause-ready g c = λ other.
-    let new = c.settle.new.core in
-    let beside = c.settle.ensures.beside in
+pub returns-in-Ok-clause-ends : goal.returns-in-Ok-clause-ends
+returns-in-Ok-clause-ends g c =
+    let old = c.args.core.now in
+    let ch = chosen_of c.args.list.now c.args.count in
+    let front = take ch.count ch.list in
+    let list = take (length front) c.fill_spots.new.spots in
     let reads = c.in-Ok.ensures.asks.follows.2 in
     let source = c.commit.new.source.swap.now in
-    let R : FileStore g.row.D.Denot → Type 0 = λ x. IsReadyStore g.D.SectorDisk x in
+    let spots = c.fill_spots.ensures in
     record {
-      ready = subst R (sym beside.store) c.in-Ok.ensures.ready;
-      swap = ready_shared g.E.SectorDisk source new.swap (reads.ready c.requires.sound.swap) beside.pages c.settle.ensures.settles.slots;
-      fit = c.settle.ensures.fit;
+      fit = search rules;
+      frames = search rules;
+      slots = search rules;
+      memory = memory_synced (picture_of old) (picture_of c.settle.new.core) ch list c.requires.sound.fit c.requires.listed c.fill_spots.ensures
+          (settles_store (picture_of old) (picture_of c.settle.new.core) (slots_of old.swap) (slots_of source) old.store.directory c.commit.new.self.directory list (length list)
+          reads.slots c.in-Ok.ensures.files c.settle.ensures.settles);
+      ready = λ other.
+          let new = c.settle.new.core in
+          let beside = c.settle.ensures.beside in
+          let reads = c.in-Ok.ensures.asks.follows.2 in
+          let source = c.commit.new.source.swap.now in
+          let R : FileStore g.row.D.Denot → Type 0 = λ x. IsReadyStore g.D.SectorDisk x in
+          record {
+            ready = subst R (sym beside.store) c.in-Ok.ensures.ready;
+            swap = ready_shared g.E.SectorDisk source new.swap (reads.ready c.requires.sound.swap) beside.pages c.settle.ensures.settles.slots;
+            fit = c.settle.ensures.fit;
+          };
+      size = search rules;
+      kept = search rules;
+      swap = search rules;
+      device = search rules;
+      away = elim c.settle.ensures.swap [
+        | inl same ↦ elim reads.only [
+          | inl was ↦ inl (same ∙ was)
+          | inr has ↦ inr (away_of (picture_of old) ch list (fits (picture_of old) ch c.requires.listed) spots has)
+        ]
+        | inr has ↦ inr (away_of (picture_of old) ch list (fits (picture_of old) ch c.requires.listed) spots has)
+      ];
+      later = search rules;
+      cause = search rules;
+      calm = search rules;
+      stalled = search rules;
+      still = search rules;
+      refused = search rules;
     }
 
-pub returns-in-Ok-clause-away : goal.returns-in-Ok-clause-away
-returns-in-Ok-clause-away g c =
-    let old = c.args.core.now in
-    let ch = chosen_of c.args.list.now c.args.count in
-    let front = take ch.count ch.list in
-    let list = take (length front) c.fill_spots.new.spots in
-    let spots = c.fill_spots.ensures in
-    let reads = c.in-Ok.ensures.asks.follows.2 in
-    let source = c.commit.new.source.swap.now in
-    elim c.settle.ensures.swap [
-      | inl same ↦ elim reads.only [
-        | inl was ↦ inl (same ∙ was)
-        | inr has ↦ inr (away_of (picture_of old) ch list (fits (picture_of old) ch c.requires.listed) spots has)
-      ]
-      | inr has ↦ inr (away_of (picture_of old) ch list (fits (picture_of old) ch c.requires.listed) spots has)
-    ]
-
-pub returns-in-Ok-clause-memory : goal.returns-in-Ok-clause-memory
-returns-in-Ok-clause-memory g c =
-    let old = c.args.core.now in
-    let ch = chosen_of c.args.list.now c.args.count in
-    let front = take ch.count ch.list in
-    let list = take (length front) c.fill_spots.new.spots in
-    let reads = c.in-Ok.ensures.asks.follows.2 in
-    let source = c.commit.new.source.swap.now in
-    memory_synced (picture_of old) (picture_of c.settle.new.core) ch list c.requires.sound.fit c.requires.listed c.fill_spots.ensures
-    (settles_store (picture_of old) (picture_of c.settle.new.core) (slots_of old.swap) (slots_of source) old.store.directory c.commit.new.self.directory list (length list)
-    reads.slots c.in-Ok.ensures.files c.settle.ensures.settles)
-
-pub returns-in-Err-Device-clause-fit : goal.returns-in-Err-Device-clause-fit
-returns-in-Err-Device-clause-fit g c =
-    let old = c.args.core.now in
-    let reads = c.in-Err-Device.ensures.asks.follows.2 in
-    let source = c.commit.new.source.swap.now in
-    fit_store (picture_of old) (slots_of old.swap) (slots_of source) old.store.directory c.commit.new.self.directory reads.slots c.in-Err-Device.ensures.files c.requires.sound.fit
-
-pub returns-in-Err-Device-clause-away : goal.returns-in-Err-Device-clause-away
-returns-in-Err-Device-clause-away g c =
-    let old = c.args.core.now in
-    let ch = chosen_of c.args.list.now c.args.count in
-    let front = take ch.count ch.list in
-    let list = take (length front) c.fill_spots.new.spots in
-    let spots = c.fill_spots.ensures in
-    let reads = c.in-Err-Device.ensures.asks.follows.2 in
-    let source = c.commit.new.source.swap.now in
-    elim reads.only [
-      | inl same ↦ inl same
-      | inr has ↦ inr (away_of (picture_of old) ch list (fits (picture_of old) ch c.requires.listed) spots has)
-    ]
-
-pub returns-in-Err-Device-clause-memory : goal.returns-in-Err-Device-clause-memory
+pub returns-in-Err-Device-clause-ends : goal.returns-in-Err-Device-clause-ends
 unfolding entry
-returns-in-Err-Device-clause-memory g c = record { roles = λ n. refl; entries = λ pid page h. inl refl; places = λ p. inl refl }
+returns-in-Err-Device-clause-ends g c =
+    let old = c.args.core.now in
+    let reads = c.in-Err-Device.ensures.asks.follows.2 in
+    let source = c.commit.new.source.swap.now in
+    let ch = chosen_of c.args.list.now c.args.count in
+    let front = take ch.count ch.list in
+    let list = take (length front) c.fill_spots.new.spots in
+    let spots = c.fill_spots.ensures in
+    record {
+      fit = fit_store (picture_of old) (slots_of old.swap) (slots_of source) old.store.directory c.commit.new.self.directory reads.slots c.in-Err-Device.ensures.files c.requires.sound.fit;
+      frames = search rules;
+      slots = search rules;
+      memory = record { roles = λ n. refl; entries = λ pid page h. inl refl; places = λ p. inl refl };
+      ready = search rules;
+      size = search rules;
+      kept = search rules;
+      swap = search rules;
+      device = search rules;
+      away = elim reads.only [
+        | inl same ↦ inl same
+        | inr has ↦ inr (away_of (picture_of old) ch list (fits (picture_of old) ch c.requires.listed) spots has)
+      ];
+      later = search rules;
+      cause = search rules;
+      calm = search rules;
+      stalled = search rules;
+      still = search rules;
+      refused = search rules;
+    }
 
 pub returns-in-Err-Device-clause-commits : goal.returns-in-Err-Device-clause-commits
 returns-in-Err-Device-clause-commits g c = λ s after pid addr len mode shows takes same.
@@ -173,30 +184,45 @@ returns-in-Err-Device-clause-commits g c = λ s after pid addr len mode shows ta
     })
     (device_failed _ _ _ _ c.in-Err-Device.field-0 c.in-Err-Device.field-0-is c.in-Err-Device.ensures.causes)
 
-pub returns-in-Err-Source-clause-fit : goal.returns-in-Err-Source-clause-fit
-returns-in-Err-Source-clause-fit g c =
+pub returns-in-Err-Source-clause-ends : goal.returns-in-Err-Source-clause-ends
+unfolding entry
+returns-in-Err-Source-clause-ends g c =
     let old = c.args.core.now in
     let reads = c.in-Err-Source.ensures.asks.follows.2 in
     let source = c.commit.new.source.swap.now in
-    fit_store (picture_of old) (slots_of old.swap) (slots_of source) old.store.directory c.commit.new.self.directory reads.slots c.in-Err-Source.ensures.files c.requires.sound.fit
-
-pub returns-in-Err-Source-clause-away : goal.returns-in-Err-Source-clause-away
-returns-in-Err-Source-clause-away g c =
-    let old = c.args.core.now in
     let ch = chosen_of c.args.list.now c.args.count in
     let front = take ch.count ch.list in
     let list = take (length front) c.fill_spots.new.spots in
     let spots = c.fill_spots.ensures in
-    let reads = c.in-Err-Source.ensures.asks.follows.2 in
-    let source = c.commit.new.source.swap.now in
-    elim reads.only [
-      | inl same ↦ inl same
-      | inr has ↦ inr (away_of (picture_of old) ch list (fits (picture_of old) ch c.requires.listed) spots has)
-    ]
-
-pub returns-in-Err-Source-clause-memory : goal.returns-in-Err-Source-clause-memory
-unfolding entry
-returns-in-Err-Source-clause-memory g c = record { roles = λ n. refl; entries = λ pid page h. inl refl; places = λ p. inl refl }
+    record {
+      fit = fit_store (picture_of old) (slots_of old.swap) (slots_of source) old.store.directory c.commit.new.self.directory reads.slots c.in-Err-Source.ensures.files c.requires.sound.fit;
+      frames = search rules;
+      slots = search rules;
+      memory = record { roles = λ n. refl; entries = λ pid page h. inl refl; places = λ p. inl refl };
+      ready = λ other.
+          let old = c.args.core.now in
+          let reads = c.in-Err-Source.ensures.asks.follows.2 in
+          let source = c.commit.new.source.swap.now in
+          record {
+            ready = c.in-Err-Source.ensures.ready_after_source (err_is c.in-Err-Source.field-0 Source c.in-Err-Source.field-0-is);
+            swap = reads.ready c.requires.sound.swap;
+            fit = fit_store (picture_of old) (slots_of old.swap) (slots_of source) old.store.directory c.commit.new.self.directory reads.slots c.in-Err-Source.ensures.files c.requires.sound.fit;
+          };
+      size = search rules;
+      kept = search rules;
+      swap = search rules;
+      device = search rules;
+      away = elim reads.only [
+        | inl same ↦ inl same
+        | inr has ↦ inr (away_of (picture_of old) ch list (fits (picture_of old) ch c.requires.listed) spots has)
+      ];
+      later = search rules;
+      cause = search rules;
+      calm = search rules;
+      stalled = search rules;
+      still = λ none. absurd (none SwapDevice refl);
+      refused = search rules;
+    }
 
 pub returns-in-Err-Source-clause-commits : goal.returns-in-Err-Source-clause-commits
 returns-in-Err-Source-clause-commits g c = λ s after pid addr len mode shows takes same.
@@ -230,20 +256,6 @@ returns-in-Err-Source-clause-commits g c = λ s after pid addr len mode shows ta
     })
     (λ k now. c.in-Err-Source.ensures.source_now k (err_is c.in-Err-Source.field-0 Source c.in-Err-Source.field-0-is) s.files s.durable now)
     (λ k now. c.in-Err-Source.ensures.source k (err_is c.in-Err-Source.field-0 Source c.in-Err-Source.field-0-is) s.files s.durable now)
-
-pub returns-in-Err-Source-clause-ready : goal.returns-in-Err-Source-clause-ready
-returns-in-Err-Source-clause-ready g c = λ other.
-    let old = c.args.core.now in
-    let reads = c.in-Err-Source.ensures.asks.follows.2 in
-    let source = c.commit.new.source.swap.now in
-    record {
-      ready = c.in-Err-Source.ensures.ready_after_source (err_is c.in-Err-Source.field-0 Source c.in-Err-Source.field-0-is);
-      swap = reads.ready c.requires.sound.swap;
-      fit = fit_store (picture_of old) (slots_of old.swap) (slots_of source) old.store.directory c.commit.new.self.directory reads.slots c.in-Err-Source.ensures.files c.requires.sound.fit;
-    }
-
-pub returns-in-Err-Source-clause-still : goal.returns-in-Err-Source-clause-still
-returns-in-Err-Source-clause-still g c = λ none. absurd (none SwapDevice refl)
 
 pub returns-in-Ok-clause-asks_store : goal.returns-in-Ok-clause-asks_store
 returns-in-Ok-clause-asks_store g c =

@@ -1,14 +1,14 @@
 use Rattle.std.proofs.Common.{ℕ, ◌≡◌, ◌<◌, length}
 use Rattle.swap.specs.Slots.{slots_of}
 use Rattle.residency.specs.Picture.{picture_of}
-use Rattle.msync.specs.Choice.{page_at}
+use Rattle.msync.specs.Choice.{chosen_page}
 use Rattle.msync.specs.Spots.{spot_at, bytes_there, IsSpot}
 use Rattle.msync.proofs.msyncs.fill_spots.Given as goal
 
 abbrev pub invariant-loop-i : goal.invariant-loop-i
 invariant-loop-i g l = record {
   room : length l.spots ≡ 1023;
-  same : (j : ℕ) → j < l.i → (spot_at l.spots j).page ≡ page_at l.pages j;
+  same : (j : ℕ) → j < l.i → (spot_at l.spots j).page ≡ chosen_page l.pages j;
   spots : (j : ℕ) → j < l.i → IsSpot (picture_of l.core) (spot_at l.spots j);
   whole : (j : ℕ) → j < l.i → length (bytes_there l.core.frames (slots_of l.core.swap) (spot_at l.spots j).at) ≡ 4096;
 }

@@ -1,5 +1,5 @@
 use Rattle.vm_types.specs.Limits.{top_level}
-use Rattle.std.proofs.Common.{◌≡◌, ◌-◌, ◌+◌, ◌<◌, inr, sym, ap, ◌∙◌, arith}
+use Rattle.std.proofs.Common.{◌≡◌, ◌-◌, ◌+◌, ◌<◌, inr, sym, ap, ◌∙◌, arith, rules}
 use Rattle.sv39_walk.specs.Entry.{entry_at}
 use Rattle.page_tables.specs.Tree.{last_table}
 use Rattle.page_tables.proofs.Ways.{last_table-zero, last_at-next, last_at-stop, not_pointer, next_table, is_pointer-leads_on}
@@ -14,11 +14,16 @@ stopped g c =
     (not_pointer c.args.frames.now c.args.page c.loop-level.level c.loop-level.table.0 c.requires.forest c.loop-level.invariant.1 stops))
     ∙ c.loop-level.invariant.2
 
-pub returns-in-None-clause-level : goal.returns-in-None-clause-level
-returns-in-None-clause-level g c = ap (λ p. p.0) (stopped g c)
-
-pub returns-in-None-clause-table : goal.returns-in-None-clause-table
-returns-in-None-clause-table g c = ap (λ p. p.1) (stopped g c)
+pub returns-in-None : goal.returns-in-None
+returns-in-None g c =
+    record {
+      level = ap (λ p. p.0) (stopped g c);
+      in_levels = search rules;
+      few = search rules;
+      table = ap (λ p. p.1) (stopped g c);
+      is_table = search rules;
+      parent = search rules;
+    }
 
 pub loop-level-preserved : goal.loop-level-preserved
 loop-level-preserved g c =
@@ -37,12 +42,14 @@ loop-level-preserved g c =
       omega (arith, c.loop-level.invariant.4),
     )
 
-pub returns-clause-level : goal.returns-clause-level
-returns-clause-level g c =
+pub returns : goal.returns
+returns g c =
     let zero : c.loop-level.level ≡ 0 = omega arith in
-    ap (λ p. p.0) (sym (last_table-zero c.args.frames.now c.args.page c.loop-level.table.0) ∙ (rw zero at c.loop-level.invariant.2))
-
-pub returns-clause-table : goal.returns-clause-table
-returns-clause-table g c =
-    let zero : c.loop-level.level ≡ 0 = omega arith in
-    ap (λ p. p.1) (sym (last_table-zero c.args.frames.now c.args.page c.loop-level.table.0) ∙ (rw zero at c.loop-level.invariant.2))
+    record {
+      level = ap (λ p. p.0) (sym (last_table-zero c.args.frames.now c.args.page c.loop-level.table.0) ∙ (rw zero at c.loop-level.invariant.2));
+      in_levels = search rules;
+      few = search rules;
+      table = ap (λ p. p.1) (sym (last_table-zero c.args.frames.now c.args.page c.loop-level.table.0) ∙ (rw zero at c.loop-level.invariant.2));
+      is_table = search rules;
+      parent = search rules;
+    }

@@ -46,12 +46,15 @@ loop-page-preserved g c =
 ends : (page end : ℕ) → page ≤ end → end ≤ page → page ≡ end
 ends page end le ge = omega arith
 
-pub returns-clause-clears : goal.returns-clause-clears
-returns-clause-clears g c =
+pub returns : goal.returns
+returns g c =
     let P : ℕ → Type 0 = λ x. Clears (picture_of c.args.core.now) (picture_of c.loop-page.core) c.args.pid c.args.start x in
-    subst P (ends c.loop-page.page c.args.end c.loop-page.invariant.high c.loop-page-test.false) c.loop-page.invariant.clears
-
-pub returns-clause-cleared : goal.returns-clause-cleared
-returns-clause-cleared g c low le cleared =
-    let P : ℕ → Type 0 = λ x. IsCleared (picture_of c.loop-page.core) c.args.pid low x in
-    subst P (ends c.loop-page.page c.args.end c.loop-page.invariant.high c.loop-page-test.false) (c.loop-page.invariant.cleared low le cleared)
+    record {
+      pages = record {
+        clears = subst P (ends c.loop-page.page c.args.end c.loop-page.invariant.high c.loop-page-test.false) c.loop-page.invariant.clears;
+        fit = c.loop-page.invariant.fit;
+        rest = c.loop-page.invariant.rest;
+        refused = c.loop-page.invariant.refused;
+      };
+      cleared = λ low le cleared. (let P : ℕ → Type 0 = λ x. IsCleared (picture_of c.loop-page.core) c.args.pid low x in subst P (ends c.loop-page.page c.args.end c.loop-page.invariant.high c.loop-page-test.false) (c.loop-page.invariant.cleared low le cleared));
+    }

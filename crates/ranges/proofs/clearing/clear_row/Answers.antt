@@ -46,35 +46,24 @@ loop-part-preserved g c =
       refused = next.refused ∙ k.refused;
     }
 
-pub returns-clause-row : goal.returns-clause-row
-returns-clause-row g c =
-    let k = c.loop-part.invariant in
-    row_passed (picture_of c.args.core.now) (picture_of c.loop-part.core) c.args.pid c.args.first c.args.pages c.max-page.result c.loop-part.page c.requires.fit k.fit.granting k.clears k.cleared
-    c.requires.row c.max-page.ensures k.low k.high (λ page least below. sym (c.regions.ensures page) ∙ c.in_default.ensures.none page least below)
-
-pub returns-clause-others : goal.returns-clause-others
-returns-clause-others g c q page h ne = c.loop-part.invariant.clears.kept q page h (inl ne)
-
-pub returns-clause-tables : goal.returns-clause-tables
-returns-clause-tables g c = c.loop-part.invariant.clears.returned
-
-pub returns-clause-none_left : goal.returns-clause-none_left
-returns-clause-none_left g c =
-    let k = c.loop-part.invariant in
-    tables_passed (picture_of c.args.core.now) (picture_of c.loop-part.core) c.args.pid c.args.first c.args.pages c.max-page.result c.loop-part.page c.requires.fit k.fit.granting k.clears k.cleared
-    c.requires.row c.max-page.ensures k.low k.high (λ page least below. sym (c.regions.ensures page) ∙ c.in_default.ensures.none page least below)
-
-pub returns-clause-slots : goal.returns-clause-slots
-returns-clause-slots g c =
-    let k = c.loop-part.invariant in
-    slots_passed (picture_of c.args.core.now) (picture_of c.loop-part.core) c.args.pid c.args.first c.args.pages c.max-page.result c.loop-part.page c.requires.fit k.fit.granting k.clears k.cleared
-    c.requires.row c.max-page.ensures k.low k.high (λ page least below. sym (c.regions.ensures page) ∙ c.in_default.ensures.none page least below)
-
-pub returns-clause-files : goal.returns-clause-files
-returns-clause-files g c =
-    let k = c.loop-part.invariant in
-    files_passed (picture_of c.args.core.now) (picture_of c.loop-part.core) c.args.pid c.args.first c.args.pages c.max-page.result c.loop-part.page c.requires.fit k.fit.granting k.clears k.cleared
-    c.requires.row c.max-page.ensures k.low k.high (λ page least below. sym (c.regions.ensures page) ∙ c.in_default.ensures.none page least below)
-
 pub overflow_add-end : goal.overflow_add-end
 overflow_add-end g c = omega (arith, c.requires.row, (sizes g.M.Levels.mode).most)
+
+pub returns : goal.returns
+returns g c =
+    let k = c.loop-part.invariant in
+    record {
+      row = row_passed (picture_of c.args.core.now) (picture_of c.loop-part.core) c.args.pid c.args.first c.args.pages c.max-page.result c.loop-part.page c.requires.fit k.fit.granting k.clears k.cleared
+          c.requires.row c.max-page.ensures k.low k.high (λ page least below. sym (c.regions.ensures page) ∙ c.in_default.ensures.none page least below);
+      others = λ q page h ne. c.loop-part.invariant.clears.kept q page h (inl ne);
+      tables = c.loop-part.invariant.clears.returned;
+      none_left = tables_passed (picture_of c.args.core.now) (picture_of c.loop-part.core) c.args.pid c.args.first c.args.pages c.max-page.result c.loop-part.page c.requires.fit k.fit.granting k.clears k.cleared
+          c.requires.row c.max-page.ensures k.low k.high (λ page least below. sym (c.regions.ensures page) ∙ c.in_default.ensures.none page least below);
+      slots = slots_passed (picture_of c.args.core.now) (picture_of c.loop-part.core) c.args.pid c.args.first c.args.pages c.max-page.result c.loop-part.page c.requires.fit k.fit.granting k.clears k.cleared
+          c.requires.row c.max-page.ensures k.low k.high (λ page least below. sym (c.regions.ensures page) ∙ c.in_default.ensures.none page least below);
+      fit = k.fit;
+      files = files_passed (picture_of c.args.core.now) (picture_of c.loop-part.core) c.args.pid c.args.first c.args.pages c.max-page.result c.loop-part.page c.requires.fit k.fit.granting k.clears k.cleared
+          c.requires.row c.max-page.ensures k.low k.high (λ page least below. sym (c.regions.ensures page) ∙ c.in_default.ensures.none page least below);
+      rest = k.rest;
+      refused = k.refused;
+    }

@@ -1,5 +1,5 @@
 use Rattle.vm_types.specs.Limits.{top_level}
-use Rattle.std.proofs.Common.{◌≡◌, ℕ, ◌+◌, ◌-◌, ◌*◌, ◌/◌, ◌%◌, inl, refl, sym, ap, ◌∙◌, subst, arith}
+use Rattle.std.proofs.Common.{◌≡◌, ℕ, ◌+◌, ◌-◌, ◌*◌, ◌/◌, ◌%◌, inl, refl, sym, ap, ◌∙◌, subst, arith, rules}
 use Rattle.page_tables.specs.Places.{IsTableOf}
 use Rattle.residency.specs.Picture.{Picture, picture_of}
 use Rattle.ranges.specs.Steps.{Clears}
@@ -41,6 +41,9 @@ loop-index-init g c =
       refused = refl;
     }
 
+pub clear_at-index-requires-clause-row : goal.clear_at-index-requires-clause-row
+clear_at-index-requires-clause-row g c = record { root = c.loop-index.invariant.root_is; place = c.loop-index.invariant.place }
+
 pub clear_at-index-requires-clause-begins : goal.clear_at-index-requires-clause-begins
 clear_at-index-requires-clause-begins g c = ap (λ x. x % 512) c.table_start-first.ensures ∙ begins c.args.start
 
@@ -72,29 +75,8 @@ loop-index-preserved g c =
 pub prune-requires-clause-root : goal.prune-requires-clause-root
 prune-requires-clause-root g c = c.loop-index.invariant.fit.rooted.roots c.args.pid c.root_of-root.result.0 c.loop-index.invariant.root_is
 
-pub returns-clause-fit : goal.returns-clause-fit
-returns-clause-fit g c =
-    let mid : Picture g.M.Levels.mode = picture_of c.loop-index.core in
-    let new : Picture g.M.Levels.mode = record mid { frames = c.prune.new.memory } in
-    fit_pruned mid new c.args.pid c.root_of-root.result.0 _ c.loop-index.invariant.fit c.loop-index.core.sound c.loop-index.invariant.root_is
-    c.prune.ensures.prunes (same_beside mid c.prune.new.memory)
-
-pub returns-clause-clears : goal.returns-clause-clears
-returns-clause-clears g c =
-    let old : Picture g.M.Levels.mode = picture_of c.args.core.now in
-    let mid : Picture g.M.Levels.mode = picture_of c.loop-index.core in
-    let new : Picture g.M.Levels.mode = record mid { frames = c.prune.new.memory } in
-    let first = c.table_start-first.ensures in
-    let high = c.loop-index.invariant.high in
-    let end : c.table_start-first.result + c.loop-index.index ≡ c.args.stop = omega (arith, first, high, c.loop-index-test.false, c.requires.some) in
-    let P : ℕ → Type 0 = λ x. Clears old mid c.args.pid c.args.start x in
-    clears_then old mid new c.args.pid c.args.start c.args.stop c.args.stop c.requires.fit (omega (arith, c.requires.some)) (omega arith)
-    (subst P end c.loop-index.invariant.clears)
-    (clears_pruned mid new c.args.pid c.root_of-root.result.0 _ c.loop-index.invariant.fit c.loop-index.core.sound c.loop-index.invariant.root_is
-    c.prune.ensures.prunes (same_beside mid c.prune.new.memory) c.args.stop c.args.stop (λ page h least below. absurd (omega (arith, least, below))))
-
-pub returns-clause-cleared : goal.returns-clause-cleared
-returns-clause-cleared g c low le cleared =
+pub returns : goal.returns
+returns g c =
     let old : Picture g.M.Levels.mode = picture_of c.args.core.now in
     let mid : Picture g.M.Levels.mode = picture_of c.loop-index.core in
     let new : Picture g.M.Levels.mode = record mid { frames = c.prune.new.memory } in
@@ -103,8 +85,20 @@ returns-clause-cleared g c low le cleared =
     let end : c.table_start-first.result + c.loop-index.index ≡ c.args.stop = omega (arith, first, high, c.loop-index-test.false, c.requires.some) in
     let P : ℕ → Type 0 = λ x. Clears old mid c.args.pid c.args.start x in
     let clears : Clears old mid c.args.pid c.args.start c.args.stop = subst P end c.loop-index.invariant.clears in
-    cleared_block mid new c.args.pid c.root_of-root.result.0 c.args.start c.loop-index.invariant.fit c.loop-index.core.sound c.loop-index.invariant.root_is
-    c.prune.ensures.prunes (same_beside mid c.prune.new.memory) low c.args.stop le
-    (cleared_still old mid c.args.pid low c.args.start c.args.stop clears c.loop-index.invariant.tables cleared) clears.gone c.prune.ensures.pruned
-    (user_inside g.M.Levels.mode c.args.start c.args.stop c.requires.some c.requires.high) 1 (omega arith) (inl refl)
-    (λ p from below. in_row_of c.args.start p c.args.stop ((c.args.start / 512 + 1) * 512) from below c.requires.one_table refl)
+    record {
+      pages = record {
+        clears = clears_then old mid new c.args.pid c.args.start c.args.stop c.args.stop c.requires.fit (omega (arith, c.requires.some)) (omega arith)
+            (subst P end c.loop-index.invariant.clears)
+            (clears_pruned mid new c.args.pid c.root_of-root.result.0 _ c.loop-index.invariant.fit c.loop-index.core.sound c.loop-index.invariant.root_is
+            c.prune.ensures.prunes (same_beside mid c.prune.new.memory) c.args.stop c.args.stop (λ page h least below. absurd (omega (arith, least, below))));
+        fit = fit_pruned mid new c.args.pid c.root_of-root.result.0 _ c.loop-index.invariant.fit c.loop-index.core.sound c.loop-index.invariant.root_is
+            c.prune.ensures.prunes (same_beside mid c.prune.new.memory);
+        rest = search rules;
+        refused = search rules;
+      };
+      cleared = λ low le cleared. cleared_block mid new c.args.pid c.root_of-root.result.0 c.args.start c.loop-index.invariant.fit c.loop-index.core.sound c.loop-index.invariant.root_is
+          c.prune.ensures.prunes (same_beside mid c.prune.new.memory) low c.args.stop le
+          (cleared_still old mid c.args.pid low c.args.start c.args.stop clears c.loop-index.invariant.tables cleared) clears.gone c.prune.ensures.pruned
+          (user_inside g.M.Levels.mode c.args.start c.args.stop c.requires.some c.requires.high) 1 (omega arith) (inl refl)
+          (λ p from below. in_row_of c.args.start p c.args.stop ((c.args.start / 512 + 1) * 512) from below c.requires.one_table refl);
+    }

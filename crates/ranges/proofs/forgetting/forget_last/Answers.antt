@@ -9,7 +9,7 @@ use Rattle.ranges.proofs.forgetting.forget_last.Goals as goal
 pub returns-in_default-clause-last : goal.returns-in_default-clause-last
 returns-in_default-clause-last g c = inl (
   refl,
-  named_without g.M.Levels.mode (picture_of c.args.core.now).at c.args.pid c.args.first c.args.pages c.args.page (c.requires.fit.places.inside (Object c.args.page) c.requires.away)
+  named_without g.M.Levels.mode (picture_of c.args.core.now).at c.args.pid c.args.first c.args.pages c.args.page (c.requires.row.fit.places.inside (Object c.args.page) c.requires.away)
       (λ k inside. (let parts = row_parts c.args.first c.args.pages k inside in c.in_default.ensures.none k parts.0 parts.1)),
 )
 
@@ -20,12 +20,12 @@ returns-clause-last g c =
     elim c.forget_there.ensures.there [
       | inl same ↦ inl (
         same.0,
-        named_beside g.M.Levels.mode at c.args.pid c.args.first c.args.pages c.args.page same.1.0 c.in-Some.at same.1.1 (let high = some.1 in let row = c.requires.row in let most = (sizes g.M.Levels.mode).most in omega (arith, high, row, most)) same.1.2 same.1.3,
+        named_beside g.M.Levels.mode at c.args.pid c.args.first c.args.pages c.args.page same.1.0 c.in-Some.at same.1.1 (let high = some.1 in let row = c.requires.row.row in let most = (sizes g.M.Levels.mode).most in omega (arith, high, row, most)) same.1.2 same.1.3,
       )
       | inr gone ↦ inr (
         gone.0,
         gone.1,
-        unnamed_without g.M.Levels.mode at c.args.pid c.args.first c.args.pages c.requires.fit.granting.objects c.args.page c.in-Some.at (in_row_from c.args.first c.args.pages c.in-Some.at some.0 some.1) some.2 gone.2,
+        unnamed_without g.M.Levels.mode at c.args.pid c.args.first c.args.pages c.requires.row.fit.granting.objects c.args.page c.in-Some.at (in_row_from c.args.first c.args.pages c.in-Some.at some.0 some.1) some.2 gone.2,
       )
     ]
 
@@ -35,4 +35,4 @@ forget_there-requires-clause-bare g c =
     c.requires.bare c.in-Some.at (in_row_from c.args.first c.args.pages c.in-Some.at some.0 some.1)
 
 pub overflow_add-first : goal.overflow_add-first
-overflow_add-first g c = omega (arith, c.requires.row, (sizes g.M.Levels.mode).most)
+overflow_add-first g c = omega (arith, c.requires.row.row, (sizes g.M.Levels.mode).most)

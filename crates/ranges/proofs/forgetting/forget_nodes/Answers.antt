@@ -1,10 +1,10 @@
-use Rattle.std.proofs.Common.{◌≡◌, ℕ, ◌+◌, ◌<◌, inl, inr, true, Some, None, sym, ap, ◌∙◌, subst, arith}
+use Rattle.std.proofs.Common.{◌≡◌, ℕ, ◌+◌, ◌<◌, inl, inr, true, Some, None, sym, ap, ◌∙◌, subst, arith, rules}
 use Rattle.vm_types.specs.Objects.{is_named}
 use Rattle.vm_types.specs.declared.object.ObjectPage.{ObjectPage}
 use Rattle.vm_types.specs.declared.object.PageKey.TheVariants.{Object}
 use Rattle.page_cache.specs.declared.place.Place.{Place}
 use Rattle.page_cache.specs.declared.place.Place.TheVariants.{Home, Frame, Slot}
-use Rattle.page_cache.specs.CacheTable.{CacheTable, frame_count, slot_count, IsInside}
+use Rattle.page_cache.specs.CacheTable.{CacheTable, cache_frames, slot_count, IsInside}
 use Rattle.residency.specs.declared.kernel.Core.{Core}
 use Rattle.residency.specs.Calls.{KeepsBesidePlaces}
 use Rattle.residency.specs.Picture.{Picture, picture_of}
@@ -15,12 +15,12 @@ use Rattle.ranges.proofs.forgetting.forget_nodes.Goals.{in-Some, in_default}
 use Rattle.ranges.proofs.forgetting.forget_nodes.Goals as goal
 
 -- a node of a place is one of the nodes
-node_inside : (t : CacheTable) (x : Place) (m : ℕ) → IsInside t x → node_of (frame_count t) x ≡ Some m → m < frame_count t + slot_count t
+node_inside : (t : CacheTable) (x : Place) (m : ℕ) → IsInside t x → node_of (cache_frames t) x ≡ Some m → m < cache_frames t + slot_count t
 node_inside t Home m inside is = absurd (let bad : None ≡ Some m = is in (cc))
 node_inside t (Frame n) m inside is = let e : n.0 ≡ m = some_number n.0 m is in omega (arith, inside, e) where
   some_number : (x y : ℕ) → Some x ≡ Some y → x ≡ y
   some_number x y e = cc
-node_inside t (Slot k) m inside is = let e : frame_count t + k.0 ≡ m = some_number (frame_count t + k.0) m is in omega (arith, inside, e) where
+node_inside t (Slot k) m inside is = let e : cache_frames t + k.0 ≡ m = some_number (cache_frames t + k.0) m is in omega (arith, inside, e) where
   some_number : (x y : ℕ) → Some x ≡ Some y → x ≡ y
   some_number x y e = cc
 
@@ -29,7 +29,7 @@ loop-node-preserved g c =
     let a : Picture g.M.Levels.mode = picture_of c.args.core.now in
     let b : Picture g.M.Levels.mode = picture_of c.loop-node.core in
     let k = c.loop-node.invariant in
-    let frames = frame_count c.loop-node.core.cache in
+    let frames = cache_frames c.loop-node.core.cache in
     elim c.match-object_at.branch [
       | in_default w ↦ rw w.core-is (record {
         fit = k.fit;
@@ -43,7 +43,7 @@ loop-node-preserved g c =
           elim last [
             | inl same ↦ (
                 let P : Core _ _ g.row.M.Denot g.M.Levels → Type 0 = λ x. ForgetsMore a (picture_of x) c.args.pid c.args.first c.args.pages in
-                let Q : Core _ _ g.row.M.Denot g.M.Levels → Type 0 = λ x. (p : ObjectPage) (m : ℕ) → node_of (frame_count x.cache) ((picture_of x).place (Object p)) ≡ Some m → m < c.loop-node.node + 1
+                let Q : Core _ _ g.row.M.Denot g.M.Levels → Type 0 = λ x. (p : ObjectPage) (m : ℕ) → node_of (cache_frames x.cache) ((picture_of x).place (Object p)) ≡ Some m → m < c.loop-node.node + 1
                 → is_named (without_maps a.at c.args.pid c.args.first c.args.pages) p.object p.page ≡ true in
                 let R : Core _ _ g.row.M.Denot g.M.Levels → Type 0 = λ x. KeepsBesidePlaces c.args.core.now x in
                 rw w.core-is (record {
@@ -53,7 +53,7 @@ loop-node-preserved g c =
                   rest = subst R (sym same.0) k.rest;
                 }))
             | inr gone ↦ (
-                let count : frame_count new.cache ≡ frames = new.node_count ∙ gone.0.frames ∙ sym c.loop-node.core.node_count in
+                let count : cache_frames new.cache ≡ frames = new.node_count ∙ gone.0.frames ∙ sym c.loop-node.core.node_count in
                 let Q : ℕ → Type 0 = λ x. (p : ObjectPage) (m : ℕ) → node_of x ((picture_of new).place (Object p)) ≡ Some m → m < c.loop-node.node + 1
                 → is_named (without_maps a.at c.args.pid c.args.first c.args.pages) p.object p.page ≡ true in
                 rw w.core-is (record {
@@ -65,18 +65,25 @@ loop-node-preserved g c =
           ])
     ]
 
-pub returns-clause-forgets : goal.returns-clause-forgets
-returns-clause-forgets g c =
+pub returns : goal.returns
+returns g c =
     let a : Picture g.M.Levels.mode = picture_of c.args.core.now in
     let b : Picture g.M.Levels.mode = picture_of c.loop-node.core in
     let k = c.loop-node.invariant in
     let t = c.args.core.now.cache in
-    let count : frame_count c.loop-node.core.cache ≡ frame_count t = c.loop-node.core.node_count ∙ k.more.frames ∙ sym c.args.core.now.node_count in
-    forgets_all a b c.args.pid c.args.first c.args.pages (frame_count t) (frame_count t + slot_count t) c.requires.fit k.more
-    (λ p m at. node_inside t (a.place (Object p)) m (c.frames.ensures.sound.inside (Object p)) at)
-    (λ p m at below. k.gone p m (ap (λ x. node_of x (b.place (Object p))) count ∙ at)
-    (let frames = c.frames.ensures.count in let slots = c.slots.ensures in let end = c.loop-node-test.false in omega (arith, below, frames, slots, end)))
+    let count : cache_frames c.loop-node.core.cache ≡ cache_frames t = c.loop-node.core.node_count ∙ k.more.frames ∙ sym c.args.core.now.node_count in
+    record {
+      forgets = forgets_all a b c.args.pid c.args.first c.args.pages (cache_frames t) (cache_frames t + slot_count t) c.requires.row.fit k.more
+          (λ p m at. node_inside t (a.place (Object p)) m (c.frames.ensures.sound.inside (Object p)) at)
+          (λ p m at below. k.gone p m (ap (λ x. node_of x (b.place (Object p))) count ∙ at)
+          (let frames = c.frames.ensures.count in let slots = c.slots.ensures in let end = c.loop-node-test.false in omega (arith, below, frames, slots, end)));
+      fit = c.loop-node.invariant.fit;
+      rest = c.loop-node.invariant.rest;
+    }
 
 pub forget_last-requires-clause-bare : goal.forget_last-requires-clause-bare
 forget_last-requires-clause-bare g c page inside =
-    c.loop-node.invariant.more.entries c.args.pid page (pages_inside g.M.Levels.mode c.args.first c.args.pages page c.requires.row inside) ∙ c.requires.bare page inside
+    c.loop-node.invariant.more.entries c.args.pid page (pages_inside g.M.Levels.mode c.args.first c.args.pages page c.requires.row.row inside) ∙ c.requires.bare page inside
+
+pub forget_last-requires-clause-row : goal.forget_last-requires-clause-row
+forget_last-requires-clause-row g c = record { fit = c.loop-node.invariant.fit; live = search rules; row = c.requires.row.row }

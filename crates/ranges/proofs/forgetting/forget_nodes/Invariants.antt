@@ -2,7 +2,7 @@ use Rattle.std.proofs.Common.{◌≡◌, true, Some, ℕ, ◌<◌}
 use Rattle.vm_types.specs.Objects.{is_named}
 use Rattle.vm_types.specs.declared.object.ObjectPage.{ObjectPage}
 use Rattle.vm_types.specs.declared.object.PageKey.TheVariants.{Object}
-use Rattle.page_cache.specs.CacheTable.{frame_count}
+use Rattle.page_cache.specs.CacheTable.{cache_frames}
 use Rattle.residency.specs.Calls.{KeepsBesidePlaces}
 use Rattle.residency.specs.Parts.{IsFit}
 use Rattle.residency.specs.Picture.{picture_of}
@@ -13,7 +13,7 @@ abbrev pub invariant-loop-node : goal.invariant-loop-node
 invariant-loop-node g l = record {
   fit : IsFit (picture_of l.core);
   more : ForgetsMore (picture_of l.initial.core) (picture_of l.core) l.pid l.first l.pages;
-  gone : (p : ObjectPage) (m : ℕ) → node_of (frame_count l.core.cache) ((picture_of l.core).place (Object p)) ≡ Some m → m < l.node
+  gone : (p : ObjectPage) (m : ℕ) → node_of (cache_frames l.core.cache) ((picture_of l.core).place (Object p)) ≡ Some m → m < l.node
       → is_named (without_maps (picture_of l.initial.core).at l.pid l.first l.pages) p.object p.page ≡ true;
   rest : KeepsBesidePlaces l.initial.core l.core;
 }

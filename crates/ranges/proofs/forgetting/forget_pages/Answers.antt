@@ -32,7 +32,7 @@ loop-named-preserved g c =
     let new = c.forget_there.new.core in
     let late : c.args.first ≤ n.at = (let x = k.low in let y = next.from in omega (arith, x, y)) in
     let inside = in_row_from c.args.first c.args.pages n.at late next.within in
-    let high : n.at < widest_end = (let x = next.within in let y = c.requires.row in let most = (sizes g.M.Levels.mode).most in omega (arith, x, y, most)) in
+    let high : n.at < widest_end = (let x = next.within in let y = c.requires.row.row in let most = (sizes g.M.Levels.mode).most in omega (arith, x, y, most)) in
     let next_page = c.get-from.ensures.number in
     let low : c.args.first ≤ c.get-from.result + 1 = omega (arith, late, next_page) in
     let looked : (j : ℕ) → j < c.get-from.result + 1 → j < n.at + 1 = λ j below. omega (arith, below, next_page) in
@@ -69,16 +69,20 @@ forget_there-requires-clause-bare g c =
     let n = c.in-Some.named in
     let next = c.in-Some.ensures.some in
     let late : c.args.first ≤ n.at = (let x = k.low in let y = next.from in omega (arith, x, y)) in
-    let user : IsPage (top_level g.M.Levels.mode) n.at = (let x = next.within in let y = c.requires.row in let fits = user_pages_fit g.M.Levels.mode in omega (arith, x, y, fits)) in
+    let user : IsPage (top_level g.M.Levels.mode) n.at = (let x = next.within in let y = c.requires.row.row in let fits = user_pages_fit g.M.Levels.mode in omega (arith, x, y, fits)) in
     k.more.entries c.args.pid n.at user ∙ c.requires.bare n.at (in_row_from c.args.first c.args.pages n.at late next.within)
 
-pub returns-clause-forgets : goal.returns-clause-forgets
-returns-clause-forgets g c =
+pub returns : goal.returns
+returns g c =
     let k = c.loop-named.invariant in
-    forgets_row (picture_of c.args.core.now) (picture_of c.loop-named.core) c.args.pid c.args.first c.args.pages c.requires.fit k.more (λ j p low below is. elim (cases_lt j c.loop-named.from) [
-      | inl passed ↦ k.gone j p low passed is
-      | inr late ↦ absurd (false≢true (sym (c.in_default.ensures.none j p.object p.page late below) ∙ ap (λ x. names x p.object p.page) (k.more.at c.args.pid j) ∙ is))
-    ])
+    record {
+      forgets = forgets_row (picture_of c.args.core.now) (picture_of c.loop-named.core) c.args.pid c.args.first c.args.pages c.requires.row.fit k.more (λ j p low below is. elim (cases_lt j c.loop-named.from) [
+        | inl passed ↦ k.gone j p low passed is
+        | inr late ↦ absurd (false≢true (sym (c.in_default.ensures.none j p.object p.page late below) ∙ ap (λ x. names x p.object p.page) (k.more.at c.args.pid j) ∙ is))
+      ]);
+      fit = c.loop-named.invariant.fit;
+      rest = c.loop-named.invariant.rest;
+    }
 
 pub overflow_add-first : goal.overflow_add-first
-overflow_add-first g c = omega (arith, c.requires.row, (sizes g.M.Levels.mode).most)
+overflow_add-first g c = omega (arith, c.requires.row.row, (sizes g.M.Levels.mode).most)

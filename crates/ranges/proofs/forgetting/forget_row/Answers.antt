@@ -1,12 +1,22 @@
-use Rattle.std.proofs.Common.{arith}
+use Rattle.std.proofs.Common.{arith, rules}
 use Rattle.vm_types.proofs.Modes.{sizes}
 use Rattle.residency.specs.Picture.{picture_of}
 use Rattle.ranges.proofs.LastName.{forgets_none}
 use Rattle.ranges.proofs.forgetting.forget_row.Goals as goal
 
-pub returns-then-count-eq0-clause-forgets : goal.returns-then-count-eq0-clause-forgets
-returns-then-count-eq0-clause-forgets g c =
-    forgets_none (picture_of c.args.core.now) c.args.pid c.args.first c.args.pages c.requires.fit (c.common_pages-count.ensures.none c.if-count-eq0.true)
+pub returns-then-count-eq0 : goal.returns-then-count-eq0
+returns-then-count-eq0 g c =
+    record {
+      forgets = forgets_none (picture_of c.args.core.now) c.args.pid c.args.first c.args.pages c.requires.fit (c.common_pages-count.ensures.none c.if-count-eq0.true);
+      fit = c.requires.fit;
+      rest = search rules;
+    }
 
 pub overflow_add-first : goal.overflow_add-first
 overflow_add-first g c = omega (arith, c.requires.row, (sizes g.M.Levels.mode).most)
+
+pub forget_pages-requires-clause-row : goal.forget_pages-requires-clause-row
+forget_pages-requires-clause-row g c = record { fit = c.requires.fit; live = c.requires.live; row = c.requires.row }
+
+pub forget_nodes-requires-clause-row : goal.forget_nodes-requires-clause-row
+forget_nodes-requires-clause-row g c = record { fit = c.requires.fit; live = c.requires.live; row = c.requires.row }

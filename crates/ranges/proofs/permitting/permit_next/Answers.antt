@@ -1,52 +1,64 @@
-use Rattle.std.proofs.Common.{ℕ, ◌+◌, ◌*◌, ◌/◌, inl, inr, sym, ap, ◌∙◌, subst, arith}
+use Rattle.std.proofs.Common.{ℕ, ◌+◌, ◌*◌, ◌/◌, inl, inr, refl, sym, ap, ◌∙◌, subst, arith}
 use Rattle.std.specs.Prelude.{min}
 use Rattle.residency.specs.Picture.{Picture, picture_of}
-use Rattle.fault.specs.Changes.{IsWhole}
+use Rattle.residency.specs.Ways.{IsWhole}
 use Rattle.ranges.specs.Leaves.{PermitsRow}
-use Rattle.ranges.proofs.PermittedRows.{permits_none, permits_then}
+use Rattle.ranges.proofs.PermittedRows.{around-refl, permits_none, permits_then}
 use Rattle.ranges.proofs.permitting.permit_next.Goals as goal
-
-pub returns-then-linked-end-clause-permits : goal.returns-then-linked-end-clause-permits
-returns-then-linked-end-clause-permits g c =
-    let next = c.next_linked-linked.ensures in
-    permits_none (picture_of c.args.core.now) c.args.pid c.args.start _ c.args.prot
-    (λ page h from below. next.gap page from (omega (arith, c.requires.some, c.if-linked-end.true, below)))
-
-pub returns-then-linked-end-clause-ends : goal.returns-then-linked-end-clause-ends
-returns-then-linked-end-clause-ends g c =
-    let next = c.next_linked-linked.ensures in
-    record {
-      linked = c.next_linked-linked.result;
-      from = next.from;
-      passed = next.passed;
-      ends = inl (omega (arith, next.within, c.if-linked-end.true), omega arith);
-    }
 
 pub permit_table-requires-clause-whole : goal.permit_table-requires-clause-whole
 permit_table-requires-clause-whole g c =
     let P : ℕ → Type 0 = λ x. IsWhole (picture_of c.args.core.now) c.args.pid x in
     subst P (sym c.user_page-first.ensures) (c.next_linked-linked.ensures.found c.if-linked-end.false)
 
-pub returns-clause-permits : goal.returns-clause-permits
-returns-clause-permits g c =
+pub returns-then-linked-end : goal.returns-then-linked-end
+returns-then-linked-end g c =
+    let next = c.next_linked-linked.ensures in
+    record {
+      leaves = record {
+        permits = permits_none (picture_of c.args.core.now) c.args.pid c.args.start _ c.args.prot
+            (λ page h from below. next.gap page from (omega (arith, c.requires.some, c.if-linked-end.true, below)));
+        rooted = c.requires.may.rooted;
+        named = c.requires.may.named;
+        rest = around-refl c.args.core.now;
+        refused = refl;
+      };
+      further = c.requires.some;
+      within = omega arith;
+      ends = record {
+        linked = c.next_linked-linked.result;
+        from = next.from;
+        passed = next.passed;
+        ends = inl (omega (arith, next.within, c.if-linked-end.true), omega arith);
+      };
+    }
+
+pub returns : goal.returns
+returns g c =
     let old : Picture g.M.Levels.mode = picture_of c.args.core.now in
     let new : Picture g.M.Levels.mode = picture_of c.permit_table.new.core in
     let next = c.next_linked-linked.ensures in
     let P : ℕ → Type 0 = λ x. PermitsRow old new c.args.pid x c.min-stop.result c.args.prot in
-    permits_then old old new c.args.pid c.args.start c.next_linked-linked.result c.min-stop.result c.args.prot next.from
-    (omega (arith, c.min-stop.ensures, c.table_end.ensures, c.user_page-first.ensures, c.if-linked-end.false))
-    (permits_none old c.args.pid c.args.start c.next_linked-linked.result c.args.prot (λ page h from below. next.gap page from below))
-    (subst P c.user_page-first.ensures c.permit_table.ensures.permits)
-
-pub returns-clause-ends : goal.returns-clause-ends
-returns-clause-ends g c =
-    let next = c.next_linked-linked.ensures in
     record {
-      linked = c.next_linked-linked.result;
-      from = next.from;
-      passed = next.passed;
-      ends = inr (
-        next.found c.if-linked-end.false,
-        c.min-stop.ensures ∙ ap (min c.args.end) (c.table_end.ensures ∙ ap (λ x. (x / 512 + 1) * 512) c.user_page-first.ensures),
-      );
+      leaves = record {
+        permits = permits_then old old new c.args.pid c.args.start c.next_linked-linked.result c.min-stop.result c.args.prot next.from
+            (omega (arith, c.min-stop.ensures, c.table_end.ensures, c.user_page-first.ensures, c.if-linked-end.false))
+            (permits_none old c.args.pid c.args.start c.next_linked-linked.result c.args.prot (λ page h from below. next.gap page from below))
+            (subst P c.user_page-first.ensures c.permit_table.ensures.permits);
+        rooted = c.permit_table.ensures.rooted;
+        named = c.permit_table.ensures.named;
+        rest = c.permit_table.ensures.rest;
+        refused = c.permit_table.ensures.refused;
+      };
+      further = omega (arith, next.from, c.min-stop.ensures, c.table_end.ensures, c.user_page-first.ensures, c.if-linked-end.false);
+      within = omega (arith, c.min-stop.ensures);
+      ends = record {
+        linked = c.next_linked-linked.result;
+        from = next.from;
+        passed = next.passed;
+        ends = inr (
+          next.found c.if-linked-end.false,
+          c.min-stop.ensures ∙ ap (min c.args.end) (c.table_end.ensures ∙ ap (λ x. (x / 512 + 1) * 512) c.user_page-first.ensures),
+        );
+      };
     }

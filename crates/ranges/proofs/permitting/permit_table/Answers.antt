@@ -1,4 +1,5 @@
 use Rattle.vm_types.specs.Limits.{top_level}
+use Rattle.std.specs.Prelude.{is_some}
 use Rattle.std.proofs.Common.{◌≡◌, ℕ, ◌+◌, ◌/◌, ◌<◌, ◌≤◌, refl, sym, ap, ◌∙◌, subst, arith}
 use Rattle.residency.specs.Picture.{Picture, picture_of}
 use Rattle.ranges.specs.Leaves.{PermitsRow}
@@ -10,10 +11,10 @@ use Rattle.ranges.proofs.Gaps.{user_inside, lives}
 use Rattle.ranges.proofs.permitting.permit_table.Goals as goal
 
 pub root_of-root-requires : goal.root_of-root-requires
-root_of-root-requires g c = record { live = lives ((picture_of c.args.core.now).root c.args.pid) c.requires.live }
+root_of-root-requires g c = record { live = lives ((picture_of c.args.core.now).root c.args.pid) c.requires.may.live }
 
 pub table_of-requires-clause-root : goal.table_of-requires-clause-root
-table_of-requires-clause-root g c = c.requires.rooted.roots c.args.pid c.root_of-root.result.0 c.root_of-root.ensures
+table_of-requires-clause-root g c = c.requires.may.rooted.roots c.args.pid c.root_of-root.result.0 c.root_of-root.ensures
 
 pub next_entry-page-requires-clause-table : goal.next_entry-page-requires-clause-table
 next_entry-page-requires-clause-table g c = c.in-Ok.ensures.found.table
@@ -28,8 +29,8 @@ loop-page-init g c =
     record {
       low = omega (arith, next.from, begins);
       high = next.within;
-      rooted = c.requires.rooted;
-      named = c.requires.named;
+      rooted = c.requires.may.rooted;
+      named = c.requires.may.named;
       place = c.in-Ok.ensures.found;
       root_is = c.root_of-root.ensures;
       permits = permits_none old c.args.pid c.args.start c.next_entry-page.result c.args.prot
@@ -39,12 +40,16 @@ loop-page-init g c =
       refused = refl;
     }
 
-pub permit_page-requires-clause-place : goal.permit_page-requires-clause-place
-permit_page-requires-clause-place g c =
+pub permit_page-requires-clause-may : goal.permit_page-requires-clause-may
+permit_page-requires-clause-may g c =
+    record { live = ap is_some c.loop-page.invariant.root_is; rooted = c.loop-page.invariant.rooted; named = c.loop-page.invariant.named; reads = c.requires.may.reads }
+
+pub permit_page-requires-clause-row : goal.permit_page-requires-clause-row
+permit_page-requires-clause-row g c =
     let k = c.loop-page.invariant in
     let same = same_table c.args.start c.loop-page.page c.args.stop k.low c.loop-page-test.true c.requires.one_table in
     let P : ℕ → Type 0 = λ x. IsTableOf c.loop-page.core.frames (top_level g.M.Levels.mode) c.root_of-root.result.0 x c.in-Ok.table.0 in
-    subst P (same ∙ ap (λ x. x / 512) (sym c.user_page.ensures)) k.place
+    record { root = k.root_is; place = subst P (same ∙ ap (λ x. x / 512) (sym c.user_page.ensures)) k.place }
 
 pub next_entry-page-requires-in-loop-page-clause-table : goal.next_entry-page-requires-in-loop-page-clause-table
 next_entry-page-requires-in-loop-page-clause-table g c = (c.permit_page.ensures.places (c.args.start / 512) c.in-Ok.table.0 c.loop-page.invariant.place).table
@@ -88,14 +93,20 @@ loop-page-preserved g c =
 ends : (page stop : ℕ) → page ≤ stop → stop ≤ page → page ≡ stop
 ends page stop le ge = omega arith
 
-pub returns-clause-permits : goal.returns-clause-permits
-returns-clause-permits g c =
+pub permit_page-requires-clause-inside : goal.permit_page-requires-clause-inside
+permit_page-requires-clause-inside g c =
+    user_inside g.M.Levels.mode c.user_page.result c.args.stop (omega (arith, c.user_page.ensures, c.loop-page-test.true)) c.requires.high
+
+pub returns : goal.returns
+returns g c =
     let old : Picture g.M.Levels.mode = picture_of c.args.core.now in
     let mid : Picture g.M.Levels.mode = picture_of c.loop-page.core in
     let end : c.loop-page.page ≡ c.args.stop = ends c.loop-page.page c.args.stop c.loop-page.invariant.high c.loop-page-test.false in
     let P : ℕ → Type 0 = λ x. PermitsRow old mid c.args.pid c.args.start x c.args.prot in
-    subst P end c.loop-page.invariant.permits
-
-pub permit_page-requires-clause-inside : goal.permit_page-requires-clause-inside
-permit_page-requires-clause-inside g c =
-    user_inside g.M.Levels.mode c.user_page.result c.args.stop (omega (arith, c.user_page.ensures, c.loop-page-test.true)) c.requires.high
+    record {
+      permits = subst P end c.loop-page.invariant.permits;
+      rooted = c.loop-page.invariant.rooted;
+      named = c.loop-page.invariant.named;
+      rest = c.loop-page.invariant.rest;
+      refused = c.loop-page.invariant.refused;
+    }

@@ -1,6 +1,6 @@
 use Rattle.vm_types.specs.Limits.{top_level}
 use Rattle.std.proofs.Common.{◌≡◌, ◌-◌, ◌/◌, ◌≤◌, Some}
-use Rattle.fault.specs.Changes.{KeepsAround}
+use Rattle.residency.specs.Ways.{KeepsAround}
 use Rattle.residency.specs.Parts.{IsRootedBut}
 use Rattle.residency.specs.Picture.{picture_of}
 use Rattle.ranges.specs.Leaves.{NamesFrames, PermitsRow}
@@ -12,10 +12,10 @@ invariant-loop-page g l = record {
   low : l.fn.start ≤ l.page;
   high : l.page ≤ l.stop;
   rooted : IsRootedBut (picture_of l.core) 0;
-  named : NamesFrames (picture_of l.core) l.pid;
-  place : IsTableOf l.core.frames (top_level g.M.Levels.mode) l.root.0 (l.fn.start / 512) l.table.0;
-  root_is : (picture_of l.core).root l.pid ≡ Some l.root.0;
-  permits : PermitsRow (picture_of l.initial.core) (picture_of l.core) l.pid l.fn.start l.page l.prot;
+  named : NamesFrames (picture_of l.core) l.fn.pid;
+  place : IsTableOf l.core.frames (top_level g.M.Levels.mode) l.row.root.0 (l.fn.start / 512) l.table.0;
+  root_is : (picture_of l.core).root l.fn.pid ≡ Some l.row.root.0;
+  permits : PermitsRow (picture_of l.initial.core) (picture_of l.core) l.fn.pid l.fn.start l.page l.prot;
   rest : KeepsAround l.initial.core l.core;
   refused : l.core.refused ≡ l.initial.core.refused;
 }

@@ -1,6 +1,6 @@
 use Rattle.vm_types.proofs.Modes.{sizes}
-use Rattle.std.proofs.Common.{◌≡◌, ℕ, ◌+◌, ◌<◌, ◌≤◌, ◌⊎◌, inl, inr, refl, sym, ◌∙◌, subst, arith}
-use Rattle.std.specs.Prelude.{max}
+use Rattle.std.proofs.Common.{◌≡◌, ℕ, ◌+◌, ◌<◌, ◌≤◌, ◌⊎◌, inl, inr, refl, sym, ap, ◌∙◌, subst, arith, rules}
+use Rattle.std.specs.Prelude.{is_some, max}
 use Rattle.std.proofs.lemmas.Bool.{cases_lt}
 use Rattle.frames.specs.FrameTable.{FrameTable}
 use Rattle.page_tables.specs.Change.{KeepsFrames}
@@ -33,6 +33,10 @@ loop-page-init g c =
       refused = refl;
     }
 
+pub permit_next-page-requires-clause-may : goal.permit_next-page-requires-clause-may
+permit_next-page-requires-clause-may g c =
+    record { live = ap is_some (c.loop-page.invariant.permits.beside.root c.args.pid) ∙ c.requires.live; rooted = c.loop-page.invariant.rooted; named = c.loop-page.invariant.named; reads = c.requires.reads }
+
 pub loop-page-preserved : goal.loop-page-preserved
 loop-page-preserved g c =
     let old : Picture g.M.Levels.mode = picture_of c.args.core.now in
@@ -54,42 +58,32 @@ loop-page-preserved g c =
       refused = next.refused ∙ k.refused;
     }
 
-pub returns-clause-fit : goal.returns-clause-fit
-returns-clause-fit g c =
-    let old : Picture g.M.Levels.mode = picture_of c.args.core.now in
-    let mid : Picture g.M.Levels.mode = picture_of c.loop-page.core in
-    let new : Picture g.M.Levels.mode = picture_of c.remap.new.self in
-    let k = c.loop-page.invariant in
-    fit_reprotected old mid new c.args.pid c.args.first c.args.pages c.max-page.result c.loop-page.page c.args.prot c.requires.fit k.permits k.rooted
-    c.remap.ensures.remaps (λ page. c.remap.ensures.at page ∙ c.requires.map page) c.requires.reads c.requires.row
-    (begins c.max-page.result c.args.first c.max-page.ensures) c.loop-page-test.false
-    (ends c.max-page.result c.loop-page.page (c.args.first + c.args.pages) c.loop-page-test.false k.high)
-
-pub returns-clause-row : goal.returns-clause-row
-returns-clause-row g c =
-    let old : Picture g.M.Levels.mode = picture_of c.args.core.now in
-    let mid : Picture g.M.Levels.mode = picture_of c.loop-page.core in
-    let new : Picture g.M.Levels.mode = picture_of c.remap.new.self in
-    let k = c.loop-page.invariant in
-    row_reprotected old mid new c.args.pid c.args.first c.args.pages c.max-page.result c.loop-page.page c.args.prot c.requires.fit k.permits k.rooted
-    c.remap.ensures.remaps (λ page. c.remap.ensures.at page ∙ c.requires.map page) c.requires.reads c.requires.row
-    (begins c.max-page.result c.args.first c.max-page.ensures) c.loop-page-test.false
-    (ends c.max-page.result c.loop-page.page (c.args.first + c.args.pages) c.loop-page-test.false k.high)
-
-pub returns-clause-others : goal.returns-clause-others
-returns-clause-others g c =
-    let old : Picture g.M.Levels.mode = picture_of c.args.core.now in
-    let mid : Picture g.M.Levels.mode = picture_of c.loop-page.core in
-    let new : Picture g.M.Levels.mode = picture_of c.remap.new.self in
-    let k = c.loop-page.invariant in
-    others_reprotected old mid new c.args.pid c.args.first c.args.pages c.max-page.result c.loop-page.page c.args.prot c.requires.fit k.permits k.rooted
-    c.remap.ensures.remaps (λ page. c.remap.ensures.at page ∙ c.requires.map page) c.requires.reads c.requires.row
-    (begins c.max-page.result c.args.first c.max-page.ensures) c.loop-page-test.false
-    (ends c.max-page.result c.loop-page.page (c.args.first + c.args.pages) c.loop-page-test.false k.high)
-
-pub returns-clause-frames : goal.returns-clause-frames
-returns-clause-frames g c =
-    subst (λ (t : FrameTable). KeepsFrames c.args.core.now.frames t) (sym c.remap.ensures.rest.frames) c.loop-page.invariant.permits.memory
-
 pub overflow_add-end : goal.overflow_add-end
 overflow_add-end g c = omega (arith, c.requires.row, (sizes g.M.Levels.mode).most)
+
+pub returns : goal.returns
+returns g c =
+    let old : Picture g.M.Levels.mode = picture_of c.args.core.now in
+    let mid : Picture g.M.Levels.mode = picture_of c.loop-page.core in
+    let new : Picture g.M.Levels.mode = picture_of c.remap.new.self in
+    let k = c.loop-page.invariant in
+    record {
+      row = row_reprotected old mid new c.args.pid c.args.first c.args.pages c.max-page.result c.loop-page.page c.args.prot c.requires.fit k.permits k.rooted
+          c.remap.ensures.remaps (λ page. c.remap.ensures.at page ∙ c.requires.map page) c.requires.reads c.requires.row
+          (begins c.max-page.result c.args.first c.max-page.ensures) c.loop-page-test.false
+          (ends c.max-page.result c.loop-page.page (c.args.first + c.args.pages) c.loop-page-test.false k.high);
+      others = others_reprotected old mid new c.args.pid c.args.first c.args.pages c.max-page.result c.loop-page.page c.args.prot c.requires.fit k.permits k.rooted
+          c.remap.ensures.remaps (λ page. c.remap.ensures.at page ∙ c.requires.map page) c.requires.reads c.requires.row
+          (begins c.max-page.result c.args.first c.max-page.ensures) c.loop-page-test.false
+          (ends c.max-page.result c.loop-page.page (c.args.first + c.args.pages) c.loop-page-test.false k.high);
+      fit = fit_reprotected old mid new c.args.pid c.args.first c.args.pages c.max-page.result c.loop-page.page c.args.prot c.requires.fit k.permits k.rooted
+          c.remap.ensures.remaps (λ page. c.remap.ensures.at page ∙ c.requires.map page) c.requires.reads c.requires.row
+          (begins c.max-page.result c.args.first c.max-page.ensures) c.loop-page-test.false
+          (ends c.max-page.result c.loop-page.page (c.args.first + c.args.pages) c.loop-page-test.false k.high);
+      frames = subst (λ (t : FrameTable). KeepsFrames c.args.core.now.frames t) (sym c.remap.ensures.rest.frames) c.loop-page.invariant.permits.memory;
+      store = search rules;
+      swap = search rules;
+      roots = search rules;
+      cache = search rules;
+      refused = search rules;
+    }

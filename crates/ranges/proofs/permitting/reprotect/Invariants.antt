@@ -1,5 +1,5 @@
 use Rattle.std.proofs.Common.{◌≡◌, ◌-◌, ◌≤◌, ◌⊎◌}
-use Rattle.fault.specs.Changes.{KeepsAround}
+use Rattle.residency.specs.Ways.{KeepsAround}
 use Rattle.residency.specs.Parts.{IsRootedBut}
 use Rattle.residency.specs.Picture.{picture_of}
 use Rattle.ranges.specs.Leaves.{NamesFrames, PermitsRow}

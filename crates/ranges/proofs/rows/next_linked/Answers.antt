@@ -27,24 +27,24 @@ loop-at-preserved g c =
       ];
     }
 
-pub returns-in-None-clause-passed : goal.returns-in-None-clause-passed
-returns-in-None-clause-passed g c p from below =
-    no_whole (picture_of c.args.core.now) c.args.pid c.root_of-root.result.0 c.root_of-root.ensures p (c.loop-at.invariant.passed p from below)
+pub returns-in-None : goal.returns-in-None
+returns-in-None g c =
+    record {
+      from = c.loop-at.invariant.from;
+      within = omega (arith, c.loop-at-test.true);
+      passed = λ p from below. no_whole (picture_of c.args.core.now) c.args.pid c.root_of-root.result.0 c.root_of-root.ensures p (c.loop-at.invariant.passed p from below);
+      gap = λ p from below. no_entry (picture_of c.args.core.now) c.args.pid c.root_of-root.result.0 c.root_of-root.ensures p (c.loop-at.invariant.passed p from below);
+      found = λ less. is_whole (picture_of c.args.core.now) c.args.pid c.root_of-root.result.0 c.root_of-root.ensures c.loop-at.at _ c.user_page.ensures c.in-None.ensures.whole;
+    }
 
-pub returns-in-None-clause-gap : goal.returns-in-None-clause-gap
-returns-in-None-clause-gap g c p from below =
-    no_entry (picture_of c.args.core.now) c.args.pid c.root_of-root.result.0 c.root_of-root.ensures p (c.loop-at.invariant.passed p from below)
-
-pub returns-in-None-clause-found : goal.returns-in-None-clause-found
-returns-in-None-clause-found g c less =
-    is_whole (picture_of c.args.core.now) c.args.pid c.root_of-root.result.0 c.root_of-root.ensures c.loop-at.at _ c.user_page.ensures c.in-None.ensures.whole
-
-pub returns-clause-passed : goal.returns-clause-passed
-returns-clause-passed g c p from below =
-    no_whole (picture_of c.args.core.now) c.args.pid c.root_of-root.result.0 c.root_of-root.ensures p
-    (c.loop-at.invariant.passed p from (omega (arith, c.loop-at-test.false, below)))
-
-pub returns-clause-gap : goal.returns-clause-gap
-returns-clause-gap g c p from below =
-    no_entry (picture_of c.args.core.now) c.args.pid c.root_of-root.result.0 c.root_of-root.ensures p
-    (c.loop-at.invariant.passed p from (omega (arith, c.loop-at-test.false, below)))
+pub returns : goal.returns
+returns g c =
+    record {
+      from = omega (arith, c.requires.some);
+      within = omega arith;
+      passed = λ p from below. no_whole (picture_of c.args.core.now) c.args.pid c.root_of-root.result.0 c.root_of-root.ensures p
+          (c.loop-at.invariant.passed p from (omega (arith, c.loop-at-test.false, below)));
+      gap = λ p from below. no_entry (picture_of c.args.core.now) c.args.pid c.root_of-root.result.0 c.root_of-root.ensures p
+          (c.loop-at.invariant.passed p from (omega (arith, c.loop-at-test.false, below)));
+      found = λ less. absurd (omega (arith, less));
+    }

@@ -1,15 +1,11 @@
 use Rattle.vm_types.specs.Limits.{top_level}
 use Rattle.vm_types.proofs.Modes.{sizes}
-use Rattle.std.proofs.Common.{◌≡◌, ℕ, ◌+◌, ◌-◌, ◌*◌, ◌/◌, ◌^◌, ◌<◌, sym, ap, ◌∙◌, arith}
+use Rattle.std.proofs.Common.{◌≡◌, ℕ, ◌+◌, ◌-◌, ◌*◌, ◌/◌, ◌^◌, ◌<◌, sym, ap, ◌∙◌, arith, rules}
 use Rattle.std.specs.Prelude.{min}
 use Rattle.page_tables.proofs.Pages.{span_positive}
 use Rattle.page_tables.proofs.Ends.{missing_of-is}
 use Rattle.ranges.proofs.Linked.{past_place, own_past, next_fits, last_below, search_one_table, passed_missing, stops_past}
 use Rattle.ranges.proofs.rows.past_gap.Goals as goal
-
-pub returns-then-level-eq0-clause-whole : goal.returns-then-level-eq0-clause-whole
-returns-then-level-eq0-clause-whole g c =
-    missing_of-is c.args.memory.now (top_level g.M.Levels.mode) c.args.root.0 c.args.page ∙ sym (ap (λ x. x.0) c.last_table-level.ensures.last) ∙ c.if-level-eq0.true
 
 pub overflow_add-level : goal.overflow_add-level
 overflow_add-level g c = let levels = (sizes g.M.Levels.mode).levels.1 in omega (arith, c.last_table-level.ensures.range, levels)
@@ -54,26 +50,29 @@ overflow_mul-result g c =
     (rw c.span_of-span.ensures at c.next_set.ensures.within) in
     rw c.span_of-span.ensures (omega (arith, small))
 
-pub returns-clause-further : goal.returns-clause-further
-returns-clause-further g c =
-    rw c.span_of-span.ensures (past_place c.args.page c.next_set.result c.last_table-level.result.0 (rw (c.span_of-span.ensures, c.get.ensures.number) at c.next_set.ensures.from))
+pub returns-then-level-eq0 : goal.returns-then-level-eq0
+returns-then-level-eq0 g c =
+    record {
+      whole = missing_of-is c.args.memory.now (top_level g.M.Levels.mode) c.args.root.0 c.args.page ∙ sym (ap (λ x. x.0) c.last_table-level.ensures.last) ∙ c.if-level-eq0.true;
+      further = search rules;
+      passed = search rules;
+      stops = search rules;
+    }
 
-pub returns-clause-passed : goal.returns-clause-passed
-returns-clause-passed g c =
+pub returns : goal.returns
+returns g c =
     let k = c.last_table-level.result.0 in
     let last = c.min-last.result - 1 in
     let is = last_is c.args.page c.args.end c.span_end.result c.min-last.result last (k + 1) c.requires.some c.span_end.ensures c.min-last.ensures (omega arith) in
-    rw c.span_of-span.ensures (passed_missing c.args.page c.args.end c.span_end.result last k c.requires.some c.span_end.ensures is
-    g.M.Levels.mode c.args.memory.now c.args.root.0 c.last_table-level.result.1.0 c.next_set.result c.last_table-level.ensures.last (omega (arith, c.if-level-eq0.false))
-    (rw (c.span_of-span.ensures, c.get.ensures.number) at c.next_set.ensures.from) (rw c.span_of-span.ensures at c.next_set.ensures.within)
-    (rw (c.span_of-span.ensures, c.get.ensures.number) at c.next_set.ensures.passed))
-
-pub returns-clause-stops : goal.returns-clause-stops
-returns-clause-stops g c =
-    let k = c.last_table-level.result.0 in
-    let last = c.min-last.result - 1 in
-    let is = last_is c.args.page c.args.end c.span_end.result c.min-last.result last (k + 1) c.requires.some c.span_end.ensures c.min-last.ensures (omega arith) in
-    rw c.span_of-span.ensures (stops_past c.args.page c.args.end c.span_end.result last k c.requires.some c.span_end.ensures is
-    g.M.Levels.mode c.args.memory.now c.args.root.0 c.last_table-level.result.1.0 c.next_set.result c.last_table-level.ensures.last (omega (arith, c.if-level-eq0.false))
-    (rw (c.span_of-span.ensures, c.get.ensures.number) at c.next_set.ensures.from) (rw c.span_of-span.ensures at c.next_set.ensures.within)
-    c.requires.root (rw c.span_of-span.ensures at c.next_set.ensures.found))
+    record {
+      whole = search rules;
+      further = rw c.span_of-span.ensures (past_place c.args.page c.next_set.result c.last_table-level.result.0 (rw (c.span_of-span.ensures, c.get.ensures.number) at c.next_set.ensures.from));
+      passed = rw c.span_of-span.ensures (passed_missing c.args.page c.args.end c.span_end.result last k c.requires.some c.span_end.ensures is
+          g.M.Levels.mode c.args.memory.now c.args.root.0 c.last_table-level.result.1.0 c.next_set.result c.last_table-level.ensures.last (omega (arith, c.if-level-eq0.false))
+          (rw (c.span_of-span.ensures, c.get.ensures.number) at c.next_set.ensures.from) (rw c.span_of-span.ensures at c.next_set.ensures.within)
+          (rw (c.span_of-span.ensures, c.get.ensures.number) at c.next_set.ensures.passed));
+      stops = rw c.span_of-span.ensures (stops_past c.args.page c.args.end c.span_end.result last k c.requires.some c.span_end.ensures is
+          g.M.Levels.mode c.args.memory.now c.args.root.0 c.last_table-level.result.1.0 c.next_set.result c.last_table-level.ensures.last (omega (arith, c.if-level-eq0.false))
+          (rw (c.span_of-span.ensures, c.get.ensures.number) at c.next_set.ensures.from) (rw c.span_of-span.ensures at c.next_set.ensures.within)
+          c.requires.root (rw c.span_of-span.ensures at c.next_set.ensures.found));
+    }

@@ -1,15 +1,23 @@
+use Rattle.std.proofs.Common.{inl, rules}
 use Rattle.swap.specs.Slots.{slots_of}
 use Rattle.residency.proofs.Asking.{asks_same}
 use Rattle.residency.proofs.Sparing.{past_unused}
 use Rattle.residency.proofs.evicting.evict.Goals as goal
 
-pub returns-else-is_touched-clause-gives : goal.returns-else-is_touched-clause-gives
-returns-else-is_touched-clause-gives g c =
+pub returns-else-is_touched : goal.returns-else-is_touched
+returns-else-is_touched g c =
     let swap = c.args.core.now.swap in
-    ((slots_of swap).total, past_unused swap, c.send_home.ensures.spares (slots_of swap).total)
-
-pub returns-else-is_touched-clause-asks : goal.returns-else-is_touched-clause-asks
-returns-else-is_touched-clause-asks g c = asks_same g.E.SectorDisk _ c.args.core.now.swap c.send_home.new.core.swap c.send_home.ensures.swap
-
-pub returns-else-is_touched-clause-one : goal.returns-else-is_touched-clause-one
-returns-else-is_touched-clause-one g c = (0, asks_same g.E.SectorDisk _ c.args.core.now.swap c.send_home.new.core.swap c.send_home.ensures.swap)
+    record {
+      free = search rules;
+      fit = search rules;
+      gives = ((slots_of swap).total, past_unused swap, c.send_home.ensures.spares (slots_of swap).total);
+      plain = search rules;
+      asked = inl c.send_home.ensures.swap;
+      swap = search rules;
+      asks = asks_same g.E.SectorDisk _ c.args.core.now.swap c.send_home.new.core.swap c.send_home.ensures.swap;
+      one = (0, asks_same g.E.SectorDisk _ c.args.core.now.swap c.send_home.new.core.swap c.send_home.ensures.swap);
+      device = search rules;
+      still = search rules;
+      fault = search rules;
+      cause = search rules;
+    }

@@ -1,5 +1,5 @@
 use Rattle.vm_types.proofs.Modes.{sizes, user_pages_fit}
-use Rattle.std.proofs.Common.{◌≡◌, ◌≢◌, ℕ, inl, inr, Some, refl, sym, ap, ◌∙◌, subst, arith}
+use Rattle.std.proofs.Common.{◌≡◌, ◌≢◌, ℕ, inl, inr, Some, refl, sym, ap, ◌∙◌, subst, arith, rules}
 use Rattle.frames.specs.declared.role.Role.TheVariants.{Private, Cache}
 use Rattle.vm_types.specs.declared.object.PageKey.{PageKey}
 use Rattle.frames.specs.FrameTable.{bytes_of}
@@ -20,104 +20,90 @@ held_there : {mode : ℕ} (old new : Picture mode) (p : PageKey) (v k : ℕ) →
 unfolding held
 held_there old new p v k at now same = ap (λ x. bytes_at new.frames new.slots x) now ∙ ap (λ b. Some b) same ∙ sym (ap (λ x. bytes_at old.frames old.slots x) at)
 
-pub returns-in-Ok-clause-fit : goal.returns-in-Ok-clause-fit
+pub returns-in-Ok : goal.returns-in-Ok
 unfolding entry
-returns-in-Ok-clause-fit g c =
-    let m = c.forget_leaves.new.core in
-    let mid : Picture g.M.Levels.mode = picture_of m in
-    let t = slots_of c.put.new.self in
-    let put : Picture g.M.Levels.mode = record mid { slots = t } in
-    let new : Picture g.M.Levels.mode = record mid { slots = t; frames = c.release.new.self; place = place_of c.set_place.new.self; touched = is_touched c.set_place.new.self } in
-    let k = c.in-Ok.slot.0 in
-    let puts = c.in-Ok.ensures.puts in
-    let fit = c.forget_leaves.ensures.fit in
-    let ch = c.forget_leaves.ensures.changes in
-    let was = ch.beside.place c.args.page ∙ c.requires.placed in
-    let cache = fit.places.cached c.args.page c.args.victim.0 was in
-    let leaves : Leaves put new c.args.page c.args.victim.0 (Slot (record { 0 = k })) = record {
-      was = was;
-      above = (let a = c.forget_leaves.ensures.above in λ zero. omega (arith, a, zero));
-      placed = c.set_place.ensures.placed;
-      others = c.set_place.ensures.others.places;
-      frames = c.release.ensures.change.others;
-      free = c.release.ensures.alone (λ own. (let bad : Private ≡ Cache = sym own ∙ cache in (cc)));
-      slots = refl;
-      root = λ pid. refl;
-      at_same = λ pid k. refl;
-      page_of = λ n. refl;
-      touched = λ p. elim (cases_page p c.args.page) [
-        | inl e ↦ ap new.touched e ∙ c.set_place.ensures.touched ∙ ap mid.touched (sym e)
-        | inr ne ↦ c.set_place.ensures.others.touched p ne
-      ];
-      files = λ f. refl;
-    } in
-    fit_slot put new c.args.page c.args.victim.0 k (fit_put mid put k 0 0 _ fit (with_slots mid t) puts (omega (arith, user_pages_fit g.M.Levels.mode, (sizes g.M.Levels.mode).least))) (owned_by mid t k _ fit puts) puts.counted leaves
-    (ch.beside.touched c.args.page ∙ c.requires.touched) (unnamed_of mid c.args.victim.0 c.forget_leaves.ensures.clear)
-
-pub returns-in-Ok-clause-gives : goal.returns-in-Ok-clause-gives
-unfolding entry
-returns-in-Ok-clause-gives g c =
-    let m = c.forget_leaves.new.core in
+returns-in-Ok g c =
     let old : Picture g.M.Levels.mode = picture_of c.args.core.now in
-    let mid : Picture g.M.Levels.mode = picture_of m in
+    let mid : Picture g.M.Levels.mode = picture_of c.forget_leaves.new.core in
     let t = slots_of c.put.new.self in
     let put : Picture g.M.Levels.mode = record mid { slots = t } in
     let new : Picture g.M.Levels.mode = record mid { slots = t; frames = c.release.new.self; place = place_of c.set_place.new.self; touched = is_touched c.set_place.new.self } in
+    let page = c.args.page in
+    let v = c.args.victim.0 in
     let k = c.in-Ok.slot.0 in
     let puts = c.in-Ok.ensures.puts in
     let fit = c.forget_leaves.ensures.fit in
     let ch = c.forget_leaves.ensures.changes in
-    let v = c.args.victim.0 in
-    let was = ch.beside.place c.args.page ∙ c.requires.placed in
-    let cache = fit.places.cached c.args.page c.args.victim.0 was in
-    let leaves : Leaves put new c.args.page c.args.victim.0 (Slot (record { 0 = k })) = record {
+    let clear = unnamed_of mid v c.forget_leaves.ensures.clear in
+    let was = ch.beside.place page ∙ c.requires.placed in
+    let cache = fit.places.cached page v was in
+    let free = c.release.ensures.alone (λ own. (let bad : Private ≡ Cache = sym own ∙ cache in (cc))) in
+    let leaves : Leaves put new page v (Slot (record { 0 = k })) = record {
       was = was;
       above = (let a = c.forget_leaves.ensures.above in λ zero. omega (arith, a, zero));
       placed = c.set_place.ensures.placed;
       others = c.set_place.ensures.others.places;
       frames = c.release.ensures.change.others;
-      free = c.release.ensures.alone (λ own. (let bad : Private ≡ Cache = sym own ∙ cache in (cc)));
+      free = free;
       slots = refl;
       root = λ pid. refl;
       at_same = λ pid k. refl;
       page_of = λ n. refl;
-      touched = λ p. elim (cases_page p c.args.page) [
+      touched = λ p. elim (cases_page p page) [
         | inl e ↦ ap new.touched e ∙ c.set_place.ensures.touched ∙ ap mid.touched (sym e)
         | inr ne ↦ c.set_place.ensures.others.touched p ne
       ];
       files = λ f. refl;
     } in
-    let first = forgotten_spares v k old mid c.requires.fit (c.requires.fit.places.cached c.args.page v c.requires.placed) ch in
+    let filled = fit_put mid put k 0 0 _ fit (with_slots mid t) puts (omega (arith, user_pages_fit g.M.Levels.mode, (sizes g.M.Levels.mode).least)) in
+    let first = forgotten_spares v k old mid c.requires.fit (c.requires.fit.places.cached page v c.requires.placed) ch in
     let puts_counts : (j : ℕ) → j ≢ k → IsInUse mid.slots j → t.count j ≡ mid.slots.count j = λ j ne used. (kept_by mid.slots t k _ puts j used).1 in
     let second = put_spares mid put fit (with_slots mid t) (λ j used. (kept_by mid.slots t k _ puts j used).0) v k puts.others.total puts_counts in
-    let third = left_spares put new c.args.page v (Slot (record { 0 = k })) (InSlot k) 1 (fit_put mid put k 0 0 _ fit (with_slots mid t) puts (omega (arith, user_pages_fit g.M.Levels.mode, (sizes g.M.Levels.mode).least))) leaves
-    (unnamed_of mid v c.forget_leaves.ensures.clear) k (inl (held_there put new c.args.page v k was c.set_place.ensures.placed (puts.holds ∙ c.bytes.ensures))) in
+    let third = left_spares put new page v (Slot (record { 0 = k })) (InSlot k) 1 filled leaves clear k (inl (held_there put new page v k was c.set_place.ensures.placed (puts.holds ∙ c.bytes.ensures))) in
     let unused : IsInUse old.slots k → ⊥ = λ used. (let P : SlotTable → Type 0 = λ s. IsInUse s k in let there = subst P (sym ch.beside.slots) used in let none = puts.was_free in omega (arith, there, none)) in
-    (k, unused, spares_then v k old put new (spares_then v k old mid put first second) third)
+    record {
+      free = free;
+      fit = fit_slot put new page v k filled (owned_by mid t k _ fit puts) puts.counted leaves (ch.beside.touched page ∙ c.requires.touched) clear;
+      gives = (k, unused, spares_then v k old put new (spares_then v k old mid put first second) third);
+      plain = search rules;
+      asked = inr (inr (page, c.requires.placed, c.requires.touched));
+      swap = search rules;
+      asks = asks_put g.E.SectorDisk c.args.core.now.swap c.forget_leaves.new.core.swap c.put.new.self c.put.new.self c.forget_leaves.ensures.beside.swap refl c.put.ensures.asks_free;
+      one = one_put g.E.SectorDisk c.args.core.now.swap c.forget_leaves.new.core.swap c.put.new.self c.put.new.self k c.forget_leaves.ensures.beside.swap refl c.in-Ok.ensures.asks;
+      device = search rules;
+      still = tt;
+      fault = tt;
+      cause = search rules;
+    }
 
-pub returns-in-Err-Device-clause-fit : goal.returns-in-Err-Device-clause-fit
-returns-in-Err-Device-clause-fit g c =
+pub returns-in-Err-Device : goal.returns-in-Err-Device
+returns-in-Err-Device g c =
     let mid : Picture g.M.Levels.mode = picture_of c.forget_leaves.new.core in
     let t = slots_of c.put.new.self in
-    fit_unput mid (record mid { slots = t }) c.forget_leaves.ensures.fit (with_slots mid t) c.in-Err-Device.ensures.same
-
-pub returns-in-Err-Device-clause-gives : goal.returns-in-Err-Device-clause-gives
-returns-in-Err-Device-clause-gives g c =
     let old : Picture g.M.Levels.mode = picture_of c.args.core.now in
-    let mid : Picture g.M.Levels.mode = picture_of c.forget_leaves.new.core in
-    let t = slots_of c.put.new.self in
     let put : Picture g.M.Levels.mode = record mid { slots = t } in
     let v = c.args.victim.0 in
     let k = old.slots.total in
-    let same = c.in-Err-Device.ensures.same in (
-      k,
-      past_unused c.args.core.now.swap,
-      spares_then v k old mid put (forgotten_spares v k old mid c.requires.fit (c.requires.fit.places.cached c.args.page v c.requires.placed) c.forget_leaves.ensures.changes)
-          (put_spares mid put c.forget_leaves.ensures.fit (with_slots mid t) (λ j used. same.bytes j used) v k same.total (λ j ne used. same.counts j)),
-    )
-
-pub returns-in-Err-Device-clause-still : goal.returns-in-Err-Device-clause-still
-returns-in-Err-Device-clause-still g c = λ n. c.forget_leaves.ensures.changes.roles n
+    let same = c.in-Err-Device.ensures.same in
+    record {
+      free = tt;
+      fit = fit_unput mid (record mid { slots = t }) c.forget_leaves.ensures.fit (with_slots mid t) c.in-Err-Device.ensures.same;
+      gives = (
+        k,
+        past_unused c.args.core.now.swap,
+        spares_then v k old mid put (forgotten_spares v k old mid c.requires.fit (c.requires.fit.places.cached c.args.page v c.requires.placed) c.forget_leaves.ensures.changes)
+            (put_spares mid put c.forget_leaves.ensures.fit (with_slots mid t) (λ j used. same.bytes j used) v k same.total (λ j ne used. same.counts j)),
+      );
+      plain = search rules;
+      asked = inr (inr (c.args.page, c.requires.placed, c.requires.touched));
+      swap = search rules;
+      asks = asks_put g.E.SectorDisk c.args.core.now.swap c.forget_leaves.new.core.swap c.put.new.self c.put.new.self c.forget_leaves.ensures.beside.swap refl c.put.ensures.asks_free;
+      one = tt;
+      device = search rules;
+      still = λ n. c.forget_leaves.ensures.changes.roles n;
+      fault = search rules;
+      cause = search rules;
+    }
 
 pub forget_leaves-requires-clause-filed : goal.forget_leaves-requires-clause-filed
 forget_leaves-requires-clause-filed g c = c.requires.fit.places.cached c.args.page c.args.victim.0 c.requires.placed
@@ -133,17 +119,3 @@ release-requires g c =
     let ch = c.forget_leaves.ensures.changes in
     let cache = c.forget_leaves.ensures.fit.places.cached c.args.page c.args.victim.0 (ch.beside.place c.args.page ∙ c.requires.placed) in
     record { inside = (let e = ch.frames in let inside = c.requires.inside in omega (arith, e, inside)); handed_out = rw cache refl }
-
-pub returns-in-Ok-clause-free : goal.returns-in-Ok-clause-free
-returns-in-Ok-clause-free g c =
-    let cache = c.forget_leaves.ensures.fit.places.cached c.args.page c.args.victim.0 (c.forget_leaves.ensures.changes.beside.place c.args.page ∙ c.requires.placed) in
-    c.release.ensures.alone (λ own. (let bad : Private ≡ Cache = sym own ∙ cache in (cc)))
-
-pub returns-in-Ok-clause-asks : goal.returns-in-Ok-clause-asks
-returns-in-Ok-clause-asks g c = asks_put g.E.SectorDisk c.args.core.now.swap c.forget_leaves.new.core.swap c.put.new.self c.put.new.self c.forget_leaves.ensures.beside.swap refl c.put.ensures.asks_free
-
-pub returns-in-Err-Device-clause-asks : goal.returns-in-Err-Device-clause-asks
-returns-in-Err-Device-clause-asks g c = asks_put g.E.SectorDisk c.args.core.now.swap c.forget_leaves.new.core.swap c.put.new.self c.put.new.self c.forget_leaves.ensures.beside.swap refl c.put.ensures.asks_free
-
-pub returns-in-Ok-clause-one : goal.returns-in-Ok-clause-one
-returns-in-Ok-clause-one g c = one_put g.E.SectorDisk c.args.core.now.swap c.forget_leaves.new.core.swap c.put.new.self c.put.new.self c.in-Ok.slot.0 c.forget_leaves.ensures.beside.swap refl c.in-Ok.ensures.asks

@@ -1,4 +1,4 @@
-use Rattle.std.proofs.Common.{refl, ◌∙◌, subst, arith}
+use Rattle.std.proofs.Common.{inl, inr, refl, ◌∙◌, subst, arith, rules}
 use Rattle.frames.specs.declared.role.Role.{Role}
 use Rattle.frames.specs.FrameTable.{IsCountFor, count_of}
 use Rattle.swap.specs.Slots.{slots_of}
@@ -35,39 +35,55 @@ hand_over-requires-clause-handing g c =
       few = (let one = puts.counted in let most = count.1 in omega (arith, one, most));
     }
 
-pub returns-in-Ok-clause-gives : goal.returns-in-Ok-clause-gives
-returns-in-Ok-clause-gives g c =
+pub returns-in-Ok : goal.returns-in-Ok
+returns-in-Ok g c =
     let old : Picture g.M.Levels.mode = picture_of c.args.core.now in
     let t = slots_of c.put.new.self in
     let put : Picture g.M.Levels.mode = record old { slots = t } in
     let new : Picture g.M.Levels.mode = picture_of c.hand_over.new.core in
     let k = c.in-Ok.slot.0 in
     let v = c.args.victim.0 in
-    let puts = c.in-Ok.ensures.puts in (
-      k,
-      (λ used. (let none = puts.was_free in omega (arith, used, none))),
-      spares_then v k old put new (put_spares old put c.requires.fit (with_slots old t) (λ j used. (kept_by old.slots t k _ puts j used).0) v k puts.others.total (λ j ne used. (kept_by old.slots t k _ puts j used).1)) c.hand_over.ensures.spares,
-    )
+    let puts = c.in-Ok.ensures.puts in
+    record {
+      free = search rules;
+      fit = search rules;
+      gives = (
+        k,
+        (λ used. (let none = puts.was_free in omega (arith, used, none))),
+        spares_then v k old put new (put_spares old put c.requires.fit (with_slots old t) (λ j used. (kept_by old.slots t k _ puts j used).0) v k puts.others.total (λ j ne used. (kept_by old.slots t k _ puts j used).1)) c.hand_over.ensures.spares,
+      );
+      plain = search rules;
+      asked = inr (inl c.requires.role);
+      swap = search rules;
+      asks = asks_put g.E.SectorDisk c.args.core.now.swap c.args.core.now.swap c.put.new.self c.hand_over.new.core.swap refl c.hand_over.ensures.pages c.put.ensures.asks_free;
+      one = one_put g.E.SectorDisk c.args.core.now.swap c.args.core.now.swap c.put.new.self c.hand_over.new.core.swap c.in-Ok.slot.0 refl c.hand_over.ensures.pages c.in-Ok.ensures.asks;
+      device = search rules;
+      still = search rules;
+      fault = search rules;
+      cause = search rules;
+    }
 
-pub returns-in-Err-Device-clause-fit : goal.returns-in-Err-Device-clause-fit
-returns-in-Err-Device-clause-fit g c =
-    let old : Picture g.M.Levels.mode = picture_of c.args.core.now in
-    let t = slots_of c.put.new.self in
-    fit_unput old (record old { slots = t }) c.requires.fit (with_slots old t) c.in-Err-Device.ensures.same
-
-pub returns-in-Err-Device-clause-gives : goal.returns-in-Err-Device-clause-gives
-returns-in-Err-Device-clause-gives g c =
+pub returns-in-Err-Device : goal.returns-in-Err-Device
+returns-in-Err-Device g c =
     let old : Picture g.M.Levels.mode = picture_of c.args.core.now in
     let t = slots_of c.put.new.self in
     let v = c.args.victim.0 in
-    let same = c.in-Err-Device.ensures.same in (
-      old.slots.total,
-      past_unused c.args.core.now.swap,
-      put_spares old (record old { slots = t }) c.requires.fit (with_slots old t) (λ j used. same.bytes j used) v old.slots.total same.total (λ j ne used. same.counts j),
-    )
-
-pub returns-in-Ok-clause-asks : goal.returns-in-Ok-clause-asks
-returns-in-Ok-clause-asks g c = asks_put g.E.SectorDisk c.args.core.now.swap c.args.core.now.swap c.put.new.self c.hand_over.new.core.swap refl c.hand_over.ensures.pages c.put.ensures.asks_free
-
-pub returns-in-Ok-clause-one : goal.returns-in-Ok-clause-one
-returns-in-Ok-clause-one g c = one_put g.E.SectorDisk c.args.core.now.swap c.args.core.now.swap c.put.new.self c.hand_over.new.core.swap c.in-Ok.slot.0 refl c.hand_over.ensures.pages c.in-Ok.ensures.asks
+    let same = c.in-Err-Device.ensures.same in
+    record {
+      free = search rules;
+      fit = fit_unput old (record old { slots = t }) c.requires.fit (with_slots old t) c.in-Err-Device.ensures.same;
+      gives = (
+        old.slots.total,
+        past_unused c.args.core.now.swap,
+        put_spares old (record old { slots = t }) c.requires.fit (with_slots old t) (λ j used. same.bytes j used) v old.slots.total same.total (λ j ne used. same.counts j),
+      );
+      plain = search rules;
+      asked = inr (inl c.requires.role);
+      swap = search rules;
+      asks = search rules;
+      one = search rules;
+      device = search rules;
+      still = search rules;
+      fault = search rules;
+      cause = search rules;
+    }

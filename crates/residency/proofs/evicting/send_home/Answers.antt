@@ -1,4 +1,4 @@
-use Rattle.std.proofs.Common.{ℕ, ◌≡◌, inl, inr, None, refl, sym, ap, ◌∙◌, arith}
+use Rattle.std.proofs.Common.{ℕ, ◌≡◌, inl, inr, None, refl, sym, ap, ◌∙◌, arith, rules}
 use Rattle.vm_types.specs.declared.object.PageKey.{PageKey}
 use Rattle.frames.specs.declared.role.Role.TheVariants.{Zero, Private, Cache}
 use Rattle.frames.specs.FrameTable.{role_of}
@@ -15,63 +15,45 @@ gone_home : {mode : ℕ} (c : Picture mode) (p : PageKey) → c.place p ≡ Home
 unfolding held
 gone_home c p home = ap (λ x. bytes_at c.frames c.slots x) home
 
-pub returns-clause-fit : goal.returns-clause-fit
-returns-clause-fit g c =
-    let m = c.forget_leaves.new.core in
-    let mid : Picture g.M.Levels.mode = picture_of m in
-    let new : Picture g.M.Levels.mode = record mid { frames = c.release.new.self; place = place_of c.set_place.new.self; touched = is_touched c.set_place.new.self } in
-    let ch = c.forget_leaves.ensures.changes in
-    let was = ch.beside.place c.args.page ∙ c.requires.placed in
-    let cache = c.forget_leaves.ensures.fit.places.cached c.args.page c.args.victim.0 was in
-    let leaves : Leaves mid new c.args.page c.args.victim.0 Home = record {
-      was = was;
-      above = λ zero. (let bad : Zero ≡ Cache = sym c.args.core.now.sound.zero_role ∙ sym (ap (role_of c.args.core.now.frames) zero) ∙ sym (ch.roles c.args.victim.0) ∙ cache in (cc));
-      placed = c.set_place.ensures.placed;
-      others = c.set_place.ensures.others.places;
-      frames = c.release.ensures.change.others;
-      free = c.release.ensures.alone (λ own. (let bad : Private ≡ Cache = sym own ∙ cache in (cc)));
-      slots = refl;
-      root = λ pid. refl;
-      at_same = λ pid k. refl;
-      page_of = λ n. refl;
-      touched = λ p. elim (cases_page p c.args.page) [
-        | inl e ↦ ap new.touched e ∙ c.set_place.ensures.touched ∙ ap mid.touched (sym e)
-        | inr ne ↦ c.set_place.ensures.others.touched p ne
-      ];
-      files = λ f. refl;
-    } in
-    fit_home mid new c.args.page c.args.victim.0 c.forget_leaves.ensures.fit leaves (ch.beside.touched c.args.page ∙ c.requires.untouched)
-    (unnamed_of mid c.args.victim.0 c.forget_leaves.ensures.clear)
-
-pub returns-clause-spares : goal.returns-clause-spares
-returns-clause-spares g c = λ k.
-    let m = c.forget_leaves.new.core in
+pub returns : goal.returns
+returns g c =
     let old : Picture g.M.Levels.mode = picture_of c.args.core.now in
-    let mid : Picture g.M.Levels.mode = picture_of m in
+    let mid : Picture g.M.Levels.mode = picture_of c.forget_leaves.new.core in
     let new : Picture g.M.Levels.mode = record mid { frames = c.release.new.self; place = place_of c.set_place.new.self; touched = is_touched c.set_place.new.self } in
+    let page = c.args.page in
+    let v = c.args.victim.0 in
+    let fit = c.forget_leaves.ensures.fit in
     let ch = c.forget_leaves.ensures.changes in
-    let was = ch.beside.place c.args.page ∙ c.requires.placed in
-    let cache = c.forget_leaves.ensures.fit.places.cached c.args.page c.args.victim.0 was in
-    let leaves : Leaves mid new c.args.page c.args.victim.0 Home = record {
+    let clear = unnamed_of mid v c.forget_leaves.ensures.clear in
+    let untouched = ch.beside.touched page ∙ c.requires.untouched in
+    let was = ch.beside.place page ∙ c.requires.placed in
+    let cache = fit.places.cached page v was in
+    let free = c.release.ensures.alone (λ own. (let bad : Private ≡ Cache = sym own ∙ cache in (cc))) in
+    let leaves : Leaves mid new page v Home = record {
       was = was;
-      above = λ zero. (let bad : Zero ≡ Cache = sym c.args.core.now.sound.zero_role ∙ sym (ap (role_of c.args.core.now.frames) zero) ∙ sym (ch.roles c.args.victim.0) ∙ cache in (cc));
+      above = λ zero. (let bad : Zero ≡ Cache = sym c.args.core.now.sound.zero_role ∙ sym (ap (role_of c.args.core.now.frames) zero) ∙ sym (ch.roles v) ∙ cache in (cc));
       placed = c.set_place.ensures.placed;
       others = c.set_place.ensures.others.places;
       frames = c.release.ensures.change.others;
-      free = c.release.ensures.alone (λ own. (let bad : Private ≡ Cache = sym own ∙ cache in (cc)));
+      free = free;
       slots = refl;
       root = λ pid. refl;
       at_same = λ pid k. refl;
       page_of = λ n. refl;
-      touched = λ p. elim (cases_page p c.args.page) [
+      touched = λ p. elim (cases_page p page) [
         | inl e ↦ ap new.touched e ∙ c.set_place.ensures.touched ∙ ap mid.touched (sym e)
         | inr ne ↦ c.set_place.ensures.others.touched p ne
       ];
       files = λ f. refl;
     } in
-    spares_then c.args.victim.0 k old mid new (forgotten_spares c.args.victim.0 k old mid c.requires.fit (c.requires.fit.places.cached c.args.page c.args.victim.0 c.requires.placed) ch)
-    (left_spares mid new c.args.page c.args.victim.0 Home nowhere 0 c.forget_leaves.ensures.fit leaves (unnamed_of mid c.args.victim.0 c.forget_leaves.ensures.clear) k
-    (inr (gone_home new c.args.page c.set_place.ensures.placed, ch.beside.touched c.args.page ∙ c.requires.untouched)))
+    record {
+      free = free;
+      fit = fit_home mid new page v fit leaves untouched clear;
+      spares = λ k. spares_then v k old mid new (forgotten_spares v k old mid c.requires.fit (c.requires.fit.places.cached page v c.requires.placed) ch)
+          (left_spares mid new page v Home nowhere 0 fit leaves clear k (inr (gone_home new page c.set_place.ensures.placed, untouched)));
+      plain = search rules;
+      swap = search rules;
+    }
 
 pub forget_leaves-requires-clause-filed : goal.forget_leaves-requires-clause-filed
 forget_leaves-requires-clause-filed g c = c.requires.fit.places.cached c.args.page c.args.victim.0 c.requires.placed
@@ -81,8 +63,3 @@ release-requires g c =
     let ch = c.forget_leaves.ensures.changes in
     let cache = c.forget_leaves.ensures.fit.places.cached c.args.page c.args.victim.0 (ch.beside.place c.args.page ∙ c.requires.placed) in
     record { inside = (let e = ch.frames in let inside = c.requires.inside in omega (arith, e, inside)); handed_out = rw cache refl }
-
-pub returns-clause-free : goal.returns-clause-free
-returns-clause-free g c =
-    let cache = c.forget_leaves.ensures.fit.places.cached c.args.page c.args.victim.0 (c.forget_leaves.ensures.changes.beside.place c.args.page ∙ c.requires.placed) in
-    c.release.ensures.alone (λ own. (let bad : Private ≡ Cache = sym own ∙ cache in (cc)))

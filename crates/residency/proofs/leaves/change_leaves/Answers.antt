@@ -2,40 +2,40 @@ use Rattle.std.proofs.Common.{ℕ, inl, inr, subst, arith}
 use Rattle.std.proofs.lemmas.Bool.{cases_eq}
 use Rattle.residency.specs.Picture.{picture_of}
 use Rattle.residency.specs.Leaves.{IsOver}
-use Rattle.residency.proofs.LeafSteps.{changes_none, changes_then, frames_none, frames_then, still_clear, over_number, kinds_kept}
+use Rattle.residency.proofs.LeafSteps.{entries_none, entries_then, still_clear, over_number, kinds_kept}
 use Rattle.residency.proofs.leaves.change_leaves.Goals as goal
 
 pub loop-pid-init : goal.loop-pid-init
 loop-pid-init g c = record {
-  fit = c.requires.fit;
-  beside = frames_none c.args.core.now;
-  changes = changes_none c.args.change c.args.frame.0 (picture_of c.args.core.now);
+  entries = entries_none c.args.change c.args.frame.0 c.args.core.now c.requires.fit;
   clear = λ q k less h over. (let n = over_number (picture_of c.args.core.now) c.args.change c.args.frame.0 q k c.requires.fit over in omega (arith, less, n.0));
 }
 
 pub loop-pid-preserved : goal.loop-pid-preserved
 loop-pid-preserved g c =
-    let a = c.args.core.now in
     let b = c.loop-pid.core in
     let d = c.change_of.new.core in
     let kept = c.loop-pid.invariant in
     let done = c.change_of.ensures in
     record {
-      fit = done.fit;
-      beside = frames_then a b d kept.beside done.beside;
-      changes = changes_then c.args.change c.args.frame.0 (picture_of a) (picture_of b) (picture_of d) kept.changes done.changes;
+      entries = entries_then c.args.change c.args.frame.0 c.args.core.now c.loop-pid.core c.change_of.new.core kept.entries done.entries;
       clear = λ q k less h over. elim (cases_eq q c.loop-pid.pid) [
         | inl e ↦ (let P : ℕ → Type 0 = λ x. IsOver (picture_of d) c.args.change c.args.frame.0 x k in done.clear k h (subst P e over))
         | inr ne ↦ still_clear c.args.change c.args.frame.0 q k (picture_of b) (picture_of d) done.changes h (kept.clear q k (omega (arith, less, ne)) h) over
       ];
     }
 
-pub returns-clause-clear : goal.returns-clause-clear
-returns-clause-clear g c = λ pid page h over.
+pub returns : goal.returns
+returns g c =
     let kept = c.loop-pid.invariant in
-    let n = over_number (picture_of c.loop-pid.core) c.args.change c.args.frame.0 pid page kept.fit over in
-    kept.clear pid page (omega (arith, n.1, c.loop-pid-test.false)) h over
+    record {
+      clear = λ pid page h over. (
+          let n = over_number (picture_of c.loop-pid.core) c.args.change c.args.frame.0 pid page kept.entries.fit over in
+          kept.clear pid page (omega (arith, n.1, c.loop-pid-test.false)) h over);
+      above = c.held_in-held.ensures.above;
+      entries = kept.entries;
+    }
 
 pub change_of-requires-clause-kinds : goal.change_of-requires-clause-kinds
 change_of-requires-clause-kinds g c =
-    kinds_kept c.args.change c.args.frame.0 c.kinds_of-kinds.result (picture_of c.args.core.now) (picture_of c.loop-pid.core) c.loop-pid.invariant.changes (c.kinds_of-kinds.ensures c.args.change)
+    kinds_kept c.args.change c.args.frame.0 c.kinds_of-kinds.result (picture_of c.args.core.now) (picture_of c.loop-pid.core) c.loop-pid.invariant.entries.changes (c.kinds_of-kinds.ensures c.args.change)

@@ -2,14 +2,12 @@ use Rattle.vm_types.specs.Limits.{top_level}
 use Rattle.std.proofs.Common.{ℕ, ◌<◌}
 use Rattle.page_tables.specs.Tree.{IsPage}
 use Rattle.residency.specs.Picture.{picture_of}
-use Rattle.residency.specs.Parts.{IsFit}
-use Rattle.residency.specs.Leaves.{IsOver, ChangesLeaves, KeepsAllButFrames}
+use Rattle.residency.specs.Leaves.{IsOver}
+use Rattle.residency.specs.LeafChanges.{ChangesEntries}
 use Rattle.residency.proofs.leaves.change_leaves.Given as goal
 
 abbrev pub invariant-loop-pid : goal.invariant-loop-pid
 invariant-loop-pid g l = record {
-  fit : IsFit (picture_of l.core);
-  beside : KeepsAllButFrames l.fn.core l.core;
-  changes : ChangesLeaves l.change l.frame.0 (picture_of l.fn.core) (picture_of l.core);
-  clear : (q k : ℕ) → q < l.pid → IsPage (top_level g.M.Levels.mode) k → IsOver (picture_of l.core) l.change l.frame.0 q k → ⊥;
+  entries : ChangesEntries l.fn.change l.fn.frame.0 l.fn.core l.core;
+  clear : (q k : ℕ) → q < l.pid → IsPage (top_level g.M.Levels.mode) k → IsOver (picture_of l.core) l.fn.change l.fn.frame.0 q k → ⊥;
 }

@@ -1,5 +1,5 @@
 use Rattle.vm_types.proofs.Modes.{user_pages_fit}
-use Rattle.std.proofs.Common.{sym, subst, arith}
+use Rattle.std.proofs.Common.{sym, subst, arith, rules}
 use Rattle.frames.specs.FrameTable.{FrameTable}
 use Rattle.residency.specs.Picture.{Picture, picture_of}
 use Rattle.residency.specs.Parts.{IsFit}
@@ -15,17 +15,16 @@ forget_pages-requires-clause-none g c = λ root page names.
     let l = names.is.inside in
     c.change_leaves.ensures.clear over.0 page (omega (arith, l, user_pages_fit g.M.Levels.mode)) over.1
 
-pub returns-clause-fit : goal.returns-clause-fit
-returns-clause-fit g c =
+pub returns : goal.returns
+returns g c =
     let mid : Picture g.M.Levels.mode = picture_of c.change_leaves.new.core in
-    subst (λ (t : FrameTable). IsFit (record mid { frames = t })) (sym c.forget_pages.ensures.same) c.change_leaves.ensures.fit
-
-pub returns-clause-changes : goal.returns-clause-changes
-returns-clause-changes g c =
-    let mid : Picture g.M.Levels.mode = picture_of c.change_leaves.new.core in
-    subst (λ (t : FrameTable). ChangesLeaves Forget c.args.frame.0 (picture_of c.args.core.now) (record mid { frames = t })) (sym c.forget_pages.ensures.same) c.change_leaves.ensures.changes
-
-pub returns-clause-clear : goal.returns-clause-clear
-returns-clause-clear g c =
-    let mid : Picture g.M.Levels.mode = picture_of c.change_leaves.new.core in
-    subst (λ (t : FrameTable). IsClear (record mid { frames = t }) Forget c.args.frame.0) (sym c.forget_pages.ensures.same) c.change_leaves.ensures.clear
+    let P : FrameTable → Type 0 = λ t. IsClear (record mid { frames = t }) Forget c.args.frame.0 in
+    let Q : FrameTable → Type 0 = λ t. ChangesLeaves Forget c.args.frame.0 (picture_of c.args.core.now) (record mid { frames = t }) in
+    let R : FrameTable → Type 0 = λ t. IsFit (record mid { frames = t }) in
+    let done = c.change_leaves.ensures in
+    let same = sym c.forget_pages.ensures.same in
+    record {
+      clear = subst P same done.clear;
+      above = done.above;
+      entries = record { changes = subst Q same done.changes; fit = subst R same done.fit; beside = search rules };
+    }

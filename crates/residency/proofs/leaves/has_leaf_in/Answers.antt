@@ -2,23 +2,21 @@ use Rattle.vm_types.proofs.Modes.{user_pages_fit}
 use Rattle.std.specs.Prelude.{IfSome}
 use Rattle.std.proofs.Common.{◌≡◌, ◌<◌, ℕ, true, Option, Some, None, is_some, length, sym, ◌∙◌, arith}
 use Rattle.std.proofs.lemmas.Bool.{false≢true}
-use Rattle.std.proofs.lemmas.List.{get_or_read}
 use Rattle.residency.specs.Picture.{picture_of}
-use Rattle.residency.proofs.LeafSteps.{over_lives, dead_at, lives_at, if_none}
+use Rattle.residency.proofs.LeafSteps.{over_lives, if_none}
+use Rattle.residency.proofs.Lives.{dead_process, live_process}
 use Rattle.residency.proofs.leaves.has_leaf_in.Goals as goal
 
 pub returns-in_default-clause-none : goal.returns-in_default-clause-none
 returns-in_default-clause-none g c = λ f page h over.
     let core = c.args.core.now in
-    let below : c.args.pid < length core.roots.items = (let n = c.requires.number in let s = core.root_count in omega (arith, n, s)) in
-    over_lives (picture_of core) c.args.change c.args.frame.0 c.args.pid page
-    (dead_at core.roots.items c.args.pid c.index.result.now (sym (get_or_read core.roots.items c.args.pid _ below c.index.ensures None)) c.in_default.is) over
+    over_lives (picture_of core) c.args.search.now.change c.args.search.now.frame.0 c.args.pid page
+    (dead_process core c.args.pid c.requires.number c.index.result.now c.index.ensures c.in_default.is) over
 
 pub returns-then-not-is_kind-clause-none : goal.returns-then-not-is_kind-clause-none
 returns-then-not-is_kind-clause-none g c = λ f page h over.
     let core = c.args.core.now in
-    let below : c.args.pid < length core.roots.items = (let n = c.requires.number in let s = core.root_count in omega (arith, n, s)) in
-    let lives = lives_at core.roots.items c.args.pid c.index.result.now c.in-Some.root (sym (get_or_read core.roots.items c.args.pid _ below c.index.ensures None)) c.in-Some.is in
+    let lives = live_process core c.args.pid c.requires.number c.index.result.now c.index.ensures c.in-Some.root c.in-Some.is in
     c.is_kind.ensures.other c.if-not-is_kind.true (c.requires.kinds c.args.pid c.in-Some.root.0 page lives h over)
 
 picked : (r : Option ℕ) (P : ℕ → Type 0) → IfSome r P → is_some r ≡ true → (k : ℕ) × P k

@@ -1,75 +1,144 @@
-use Rattle.std.proofs.Common.{ℕ, arith}
-use Rattle.residency.specs.Picture.{picture_of}
+use Rattle.std.proofs.Common.{ℕ, ◌≡◌, inl, sym, ◌∙◌, arith, rules}
+use Rattle.std.specs.declared.result.Result.{Result}
+use Rattle.std.specs.declared.result.Result.TheVariants.{Ok, Err}
+use Rattle.std.specs.Prelude.{IfErr, IsErrAnd}
+use Rattle.vm_types.specs.declared.refusal.Stall.{Stall}
+use Rattle.vm_types.specs.declared.refusal.Stall.TheVariants.{NoFrames, NoSwap, SwapDevice}
+use Rattle.frames.specs.FrameTable.{FrameTable, frame_count, role_of, IsFull}
+use Rattle.residency.specs.Picture.{Picture, picture_of}
 use Rattle.residency.specs.Ages.{GivesFrame}
+use Rattle.residency.specs.Calls.{Refuses}
+use Rattle.residency.specs.Capacity.{IsShort}
 use Rattle.residency.proofs.Asking.{asked_tried, one_tried}
 use Rattle.residency.proofs.Giving.{on_err_same, frame_given}
+use Rattle.residency.proofs.Shown.{shows_kept}
 use Rattle.residency.proofs.Sparing.{frees_then, gives_frees}
+use Rattle.residency.proofs.Stalls.{short_of}
 use Rattle.residency.proofs.Refusing.{inside_of, above_of, all_need, no_slot_free}
 use Rattle.residency.proofs.obtaining.give_up.Goals as goal
+
+-- frames of which none is free and each keeps its use
+full_still : (old new : FrameTable) → frame_count new ≡ frame_count old → ((n : ℕ) → role_of new n ≡ role_of old n) → IsFull old → IsFull new
+full_still old new count roles full = λ n inside free. full n (omega (arith, count, inside)) (sym (roles n) ∙ free)
+
+-- a failure of the swap device says nothing of what memory is
+short_swap : {mode : ℕ} {T : Type 0} (c : Picture mode) (stall : Stall) (r : Result T Stall) → IsErrAnd r (λ e. e ≡ stall) → stall ≡ SwapDevice → IfErr r (IsShort c)
+unfolding IsShort
+short_swap c stall (Ok x) is swap = absurd is
+short_swap c stall (Err e) is swap = rw (is, swap) tt
 
 pub evict-requires-clause-inside : goal.evict-requires-clause-inside
 evict-requires-clause-inside g c = inside_of c.choose-choice.new.core.frames c.in-Ok.victim.0 c.choose-choice.new.core.sound c.in-Ok.ensures.found.0.0
 
-pub returns-in_err-evict-in-Ok-clause-frees : goal.returns-in_err-evict-in-Ok-clause-frees
-returns-in_err-evict-in-Ok-clause-frees g c =
+pub returns-in_err-evict-in-Ok : goal.returns-in_err-evict-in-Ok
+returns-in_err-evict-in-Ok g c =
     let old = picture_of c.args.core.now in
     let mid = picture_of c.choose-choice.new.core in
     let new = picture_of c.evict.new.core in
-    let v = c.in-Ok.ensures.found in
-    frees_then old mid new c.args.keep c.choose-choice.ensures.frees
-    (gives_frees c.in-Ok.victim.0 mid new c.args.keep c.evict.ensures.gives (above_of mid.frames c.in-Ok.victim.0 c.choose-choice.new.core.sound v.0.0) v.0.1)
+    let found = c.choose-choice.ensures in
+    let may = c.in-Ok.ensures.found in
+    let v = c.in-Ok.victim.0 in
+    let gives = c.evict.ensures.gives in
+    let frees = frees_then old mid new c.args.keep found.frees (gives_frees v mid new c.args.keep gives (above_of mid.frames v c.choose-choice.new.core.sound may.0.0) may.0.1) in
+    record {
+      free = search rules;
+      gives = search rules;
+      fit = search rules;
+      frees = frees;
+      shows = λ s. shows_kept old new s frees.pages;
+      rest = search rules;
+      looks = search rules;
+      idle = λ some. absurd (some c.requires.full);
+      needed = inl c.requires.full;
+      asked = asked_tried g.E.SectorDisk c.args.core.now c.choose-choice.new.core _ c.args.keep v found.marks found.looked may gives c.evict.ensures.asks c.evict.ensures.asked c.requires.full;
+      uses = search rules;
+      full = on_err_same (IsFull new.frames) c.from_residual.result (full_still mid.frames new.frames gives.2.count c.in_err-evict-in-Ok.ensures.still (found.full c.requires.full));
+      still = search rules;
+      tried = on_err_same ((v : ℕ) × GivesFrame old new v) c.from_residual.result (v, frame_given old mid new v found.marks gives may.0.0);
+      refused = record { refuses = search rules; short = short_swap new _ c.from_residual.result c.from_residual.ensures.1 c.in_err-evict-in-Ok.ensures.fault; cause = search rules };
+    }
 
-pub returns-in_ok-evict-in-Ok-clause-frees : goal.returns-in_ok-evict-in-Ok-clause-frees
-returns-in_ok-evict-in-Ok-clause-frees g c =
+pub returns-in_ok-evict-in-Ok : goal.returns-in_ok-evict-in-Ok
+returns-in_ok-evict-in-Ok g c =
     let old = picture_of c.args.core.now in
     let mid = picture_of c.choose-choice.new.core in
     let new = picture_of c.evict.new.core in
-    let v = c.in-Ok.ensures.found in
-    frees_then old mid new c.args.keep c.choose-choice.ensures.frees
-    (gives_frees c.in-Ok.victim.0 mid new c.args.keep c.evict.ensures.gives (above_of mid.frames c.in-Ok.victim.0 c.choose-choice.new.core.sound v.0.0) v.0.1)
+    let found = c.choose-choice.ensures in
+    let may = c.in-Ok.ensures.found in
+    let v = c.in-Ok.victim.0 in
+    let gives = c.evict.ensures.gives in
+    let count = gives.2.count in
+    let inside = inside_of mid.frames v c.choose-choice.new.core.sound may.0.0 in
+    let frees = frees_then old mid new c.args.keep found.frees (gives_frees v mid new c.args.keep gives (above_of mid.frames v c.choose-choice.new.core.sound may.0.0) may.0.1) in
+    record {
+      free = record { inside = omega (arith, inside, count); free = c.in_ok-evict-in-Ok.ensures.free };
+      gives = frame_given old mid new v found.marks gives may.0.0;
+      fit = search rules;
+      frees = frees;
+      shows = λ s. shows_kept old new s frees.pages;
+      rest = search rules;
+      looks = search rules;
+      idle = λ some. absurd (some c.requires.full);
+      needed = inl c.requires.full;
+      asked = asked_tried g.E.SectorDisk c.args.core.now c.choose-choice.new.core _ c.args.keep v found.marks found.looked may gives c.evict.ensures.asks c.evict.ensures.asked c.requires.full;
+      uses = record { swap = search rules; device = search rules; one = one_tried g.E.SectorDisk c.args.core.now c.choose-choice.new.core c.evict.new.core found.looked.swap c.in_ok-evict-in-Ok.ensures.one };
+      full = tt;
+      still = tt;
+      tried = tt;
+      refused = search rules;
+    }
 
-pub returns-in_ok-evict-in-Ok-clause-free : goal.returns-in_ok-evict-in-Ok-clause-free
-returns-in_ok-evict-in-Ok-clause-free g c =
-    let inside = inside_of c.choose-choice.new.core.frames c.in-Ok.victim.0 c.choose-choice.new.core.sound c.in-Ok.ensures.found.0.0 in
-    let count = c.evict.ensures.gives.2.count in
-    record { inside = omega (arith, inside, count); free = c.in_ok-evict-in-Ok.ensures.free }
-
-pub returns-then-has_spareable-clause-refuses : goal.returns-then-has_spareable-clause-refuses
-returns-then-has_spareable-clause-refuses g c =
+pub returns-then-has_spareable : goal.returns-then-has_spareable
+returns-then-has_spareable g c =
     let now = picture_of c.choose-choice.new.core in
+    let found = c.choose-choice.ensures in
+    let sound = c.choose-choice.new.core.sound in
     let some = c.has_spareable.ensures.some c.if-has_spareable.true in
     let none = c.in-Err.ensures.none in
-    let sound = c.choose-choice.new.core.sound in (
-      c.choose-choice.ensures.full c.requires.full,
-      (some.0, some.1),
-      all_need now c.args.keep c.choose-choice.ensures.fit sound none,
-      no_slot_free now c.args.keep c.choose-choice.ensures.fit sound none some.0 some.1,
-    )
+    let refuses : Refuses now c.args.keep NoSwap = (
+      found.full c.requires.full,
+      some,
+      all_need now c.args.keep found.fit sound none,
+      no_slot_free now c.args.keep found.fit sound none some.0 some.1,
+    ) in
+    record {
+      free = tt;
+      gives = tt;
+      fit = found.fit;
+      frees = found.frees;
+      shows = λ s. shows_kept (picture_of c.args.core.now) now s found.frees.pages;
+      rest = search rules;
+      looks = found.looks;
+      idle = λ some. absurd (some c.requires.full);
+      needed = inl c.requires.full;
+      asked = inl found.looked.swap;
+      uses = search rules;
+      full = found.full c.requires.full;
+      still = found.marks.roles;
+      tried = search rules;
+      refused = record { refuses = refuses; short = short_of now found.fit sound c.choose-choice.new.core.bounded.each c.args.keep NoSwap refuses; cause = search rules };
+    }
 
-pub returns-else-has_spareable-clause-refuses : goal.returns-else-has_spareable-clause-refuses
-returns-else-has_spareable-clause-refuses g c =
+pub returns-else-has_spareable : goal.returns-else-has_spareable
+returns-else-has_spareable g c =
     let now = picture_of c.choose-choice.new.core in
+    let found = c.choose-choice.ensures in
     let sound = c.choose-choice.new.core.sound in
-    (c.choose-choice.ensures.full c.requires.full, λ n spare. c.has_spareable.ensures.none c.if-has_spareable.false n (inside_of now.frames n sound spare.0) spare)
-
-pub returns-in_ok-evict-in-Ok-clause-gives : goal.returns-in_ok-evict-in-Ok-clause-gives
-returns-in_ok-evict-in-Ok-clause-gives g c = frame_given (picture_of c.args.core.now) (picture_of c.choose-choice.new.core) (picture_of c.evict.new.core) c.in-Ok.victim.0
-    c.choose-choice.ensures.marks c.evict.ensures.gives c.in-Ok.ensures.found.0.0
-
-pub returns-in_err-evict-in-Ok-clause-tried : goal.returns-in_err-evict-in-Ok-clause-tried
-returns-in_err-evict-in-Ok-clause-tried g c =
-    let old = picture_of c.args.core.now in
-    let new = picture_of c.evict.new.core in
-    let gives = frame_given old (picture_of c.choose-choice.new.core) new c.in-Ok.victim.0 c.choose-choice.ensures.marks c.evict.ensures.gives c.in-Ok.ensures.found.0.0 in
-    on_err_same ((v : ℕ) × GivesFrame old new v) c.from_residual.result (c.in-Ok.victim.0, gives)
-
-pub returns-in_err-evict-in-Ok-clause-asked : goal.returns-in_err-evict-in-Ok-clause-asked
-returns-in_err-evict-in-Ok-clause-asked g c = asked_tried g.E.SectorDisk c.args.core.now c.choose-choice.new.core _ c.args.keep c.in-Ok.victim.0
-    c.choose-choice.ensures.marks c.choose-choice.ensures.looked c.in-Ok.ensures.found c.evict.ensures.gives c.evict.ensures.asks c.evict.ensures.asked c.requires.full
-
-pub returns-in_ok-evict-in-Ok-clause-asked : goal.returns-in_ok-evict-in-Ok-clause-asked
-returns-in_ok-evict-in-Ok-clause-asked g c = asked_tried g.E.SectorDisk c.args.core.now c.choose-choice.new.core _ c.args.keep c.in-Ok.victim.0
-    c.choose-choice.ensures.marks c.choose-choice.ensures.looked c.in-Ok.ensures.found c.evict.ensures.gives c.evict.ensures.asks c.evict.ensures.asked c.requires.full
-
-pub returns-in_ok-evict-in-Ok-clause-one : goal.returns-in_ok-evict-in-Ok-clause-one
-returns-in_ok-evict-in-Ok-clause-one g c = one_tried g.E.SectorDisk c.args.core.now c.choose-choice.new.core c.evict.new.core c.choose-choice.ensures.looked.swap c.in_ok-evict-in-Ok.ensures.one
+    let refuses : Refuses now c.args.keep NoFrames = (found.full c.requires.full, λ n spare. c.has_spareable.ensures.none c.if-has_spareable.false n (inside_of now.frames n sound spare.0) spare) in
+    record {
+      free = tt;
+      gives = tt;
+      fit = found.fit;
+      frees = found.frees;
+      shows = λ s. shows_kept (picture_of c.args.core.now) now s found.frees.pages;
+      rest = search rules;
+      looks = found.looks;
+      idle = λ some. absurd (some c.requires.full);
+      needed = inl c.requires.full;
+      asked = inl found.looked.swap;
+      uses = search rules;
+      full = found.full c.requires.full;
+      still = found.marks.roles;
+      tried = search rules;
+      refused = record { refuses = refuses; short = short_of now found.fit sound c.choose-choice.new.core.bounded.each c.args.keep NoFrames refuses; cause = search rules };
+    }

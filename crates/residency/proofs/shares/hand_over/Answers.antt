@@ -4,8 +4,7 @@ use Rattle.std.proofs.lemmas.List.{get_or_read}
 use Rattle.residency.specs.Seats.{InFrame, seat}
 use Rattle.residency.specs.Picture.{picture_of, entry}
 use Rattle.residency.specs.Evictions.{IsHanding}
-use Rattle.residency.proofs.Passing.{first_seat, somebody, no_user}
-use Rattle.residency.proofs.Sparing.{spares_none, spares_then}
+use Rattle.residency.proofs.Passing.{first_seat, somebody, no_user, hands_none, hands_then}
 use Rattle.residency.proofs.shares.hand_over.Goals as goal
 
 pub unreachable-requires : goal.unreachable-requires
@@ -22,17 +21,19 @@ loop-pid-init g c =
     let is = c.in-Some.ensures.found ∙ get_or_read core.page_of.items c.args.frame.0 _ below c.index.ensures 0 in
     let P : ℕ → Type 0 = λ n. IsHanding (picture_of core) c.args.frame.0 c.args.slot.0 n in
     record {
-      ready = c.requires.ready;
+      hands = hands_none g.E.SectorDisk c.args.frame.0 c.args.slot.0 core c.requires.ready;
       handing = subst P (sym is) c.requires.handing;
-      spares = spares_none c.args.frame.0 c.args.slot.0 (picture_of core);
-      plain = record { store = refl; roots = refl; regions = refl; refused = refl; looks = refl };
-      pages = refl;
       passed = first_seat (picture_of core) 0 c.in-Some.page (InFrame c.args.frame.0) c.requires.handing.share.fit.rooted;
     }
 
-pub returns-then-hand_one-clause-spares : goal.returns-then-hand_one-clause-spares
-returns-then-hand_one-clause-spares g c =
-    spares_then c.args.frame.0 c.args.slot.0 (picture_of c.args.core.now) (picture_of c.loop-pid.core) (picture_of c.hand_one.new.core) c.loop-pid.invariant.spares c.hand_one.ensures.spares
+pub returns-then-hand_one : goal.returns-then-hand_one
+returns-then-hand_one g c =
+    let done = c.hand_one.ensures in
+    record {
+      fit = done.fit c.if-hand_one.true;
+      free = done.free c.if-hand_one.true;
+      hands = hands_then g.E.SectorDisk c.args.frame.0 c.args.slot.0 c.args.core.now c.loop-pid.core c.hand_one.new.core c.loop-pid.invariant.hands done.hands;
+    }
 
 pub loop-pid-preserved : goal.loop-pid-preserved
 loop-pid-preserved g c =
@@ -40,17 +41,8 @@ loop-pid-preserved g c =
     let done = c.hand_one.ensures in
     let new = picture_of c.hand_one.new.core in
     record {
-      ready = done.ready;
+      hands = hands_then g.E.SectorDisk c.args.frame.0 c.args.slot.0 c.args.core.now c.loop-pid.core c.hand_one.new.core kept.hands done.hands;
       handing = done.handing c.if-hand_one.false;
-      spares = spares_then c.args.frame.0 c.args.slot.0 (picture_of c.args.core.now) (picture_of c.loop-pid.core) new kept.spares done.spares;
-      plain = record {
-        store = done.plain.store ∙ kept.plain.store;
-        roots = done.plain.roots ∙ kept.plain.roots;
-        regions = done.plain.regions ∙ kept.plain.regions;
-        refused = done.plain.refused ∙ kept.plain.refused;
-        looks = done.plain.looks ∙ kept.plain.looks;
-      };
-      pages = done.pages ∙ kept.pages;
       passed = λ q less. elim (cases_eq q c.loop-pid.pid) [
         | inl e ↦ (let P : ℕ → Type 0 = λ x. seat (entry new x c.in-Some.page) ≢ Some (InFrame c.args.frame.0) in subst P (sym e) done.moved)
         | inr ne ↦ (λ is. kept.passed q (omega (arith, less, ne)) (sym (ap seat (done.others q ne)) ∙ is))

@@ -1,4 +1,4 @@
-use Rattle.std.proofs.Common.{[], ◌++◌, None, arith}
+use Rattle.std.proofs.Common.{[], ◌++◌, None}
 use Rattle.std.proofs.KnownBytes.{Consumes-trans, Consumes-nil}
 use Rattle.runner.specs.declared.engine.RunEnd.TheVariants.{ReadFault}
 use Rattle.runner.proofs.Progress.{HoldsOpenLine-none, GoesOn-trans}
@@ -19,7 +19,6 @@ loop-i-preserved g c =
     let before = c.loop-i.invariant.reads in
     let now = c.in-None.ensures.reads in
     record {
-      input = omega arith;
       empty = c.in-None.ensures.empty;
       sound = c.turn.ensures.sound;
       reads = (before.0 ++ now.0, Consumes-trans _ _ _ before.0 now.0 before.1 now.1, GoesOn-trans g.D.SectorDisk g.E.SectorDisk _ _ _ before.0 now.0 before.2 now.2);

@@ -1,4 +1,4 @@
-use Rattle.std.proofs.Common.{◌≡◌, ◌<◌, ℕ, List, [], length}
+use Rattle.std.proofs.Common.{◌≡◌, ℕ, List, []}
 use Rattle.std.specs.Io.KnownBytes.{Consumes}
 use Rattle.machine.specs.Machine.{IsSoundMachine}
 use Rattle.runner.specs.Progress.{stage, GoesOn}
@@ -6,10 +6,9 @@ use Rattle.runner.proofs.engine.run_turns.Given as goal
 
 abbrev pub invariant-loop-i : goal.invariant-loop-i
 invariant-loop-i g l = record {
-  input : 0 < length l.input;
   empty : l.output ≡ [];
   sound : IsSoundMachine g.D.SectorDisk g.E.SectorDisk l.machine;
   reads : (bytes : List ℕ) × Consumes (g.R.Read.remaining l.initial.reader) (g.R.Read.remaining l.reader) bytes
       × GoesOn g.D.SectorDisk g.E.SectorDisk (stage l.initial.machine [] [] (g.W.Write.contents l.initial.writer))
-      (stage l.machine l.line l.output (g.W.Write.contents l.writer)) bytes;
+      (stage l.machine l.input.line l.output (g.W.Write.contents l.writer)) bytes;
 }

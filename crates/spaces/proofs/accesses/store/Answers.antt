@@ -18,7 +18,7 @@ use Rattle.vm_types.specs.declared.reply.Reply.TheVariants.{Done, Refused}
 use Rattle.vm_types.specs.Access.{with_number}
 use Rattle.vm_types.specs.Width.{byte_count}
 use Rattle.vm_types.specs.Replies.{reply_of}
-use Rattle.spaces.specs.Accesses.{answer_of, AsksFor}
+use Rattle.spaces.specs.Accesses.{reply_for, AsksFor}
 use Rattle.spaces.specs.Calls.{Comes, IsCaused}
 use Rattle.spaces.specs.Idle.{is_denial}
 use Rattle.spaces.proofs.Asking.{asks_refused, asks_unstalled, no_root, one_end, one_place, writes_none, writes_walked}
@@ -156,7 +156,7 @@ pub returns-in-Err-clause-asks : goal.returns-in-Err-clause-asks
 returns-in-Err-clause-asks g c =
     let a = c.args in
     subst (λ (r : Answer). AsksFor g.D.SectorDisk g.E.SectorDisk a.core.now c.access.new.core a.pid a.addr Accesses.Store (reply_of r)) (sym c.refused.ensures)
-    (subst (λ (p : ℕ). AsksFor g.D.SectorDisk g.E.SectorDisk a.core.now c.access.new.core p a.addr Accesses.Store (reply_of (answer_of c.in-Err.refusal))) c.in-Some.ensures.found.0
+    (subst (λ (p : ℕ). AsksFor g.D.SectorDisk g.E.SectorDisk a.core.now c.access.new.core p a.addr Accesses.Store (reply_of (reply_for c.in-Err.refusal))) c.in-Some.ensures.found.0
     (asks_refused g.D.SectorDisk g.E.SectorDisk a.core.now c.access.new.core c.in-Some.pid a.addr Accesses.Store c.access.ensures.read (λ none. (c.access.ensures.calm none).swap) c.access.ensures.slotted c.access.ensures.asks
     c.access.new.core c.access.ensures.tables c.access.ensures.calm (writes_none Accesses.Store c.access.new.core) a.stored.width c.in-Err.refusal c.in-Err.ensures.refusal))
 

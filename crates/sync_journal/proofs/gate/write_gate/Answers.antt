@@ -1,14 +1,32 @@
-use Rattle.std.proofs.Common.{◌≡◌}
+use Rattle.std.proofs.Common.{◌≡◌, rules}
 use Rattle.disk_model.proofs.Naming.{once_named, once_still}
 use Rattle.sync_journal.specs.Layout.{IsGate}
 use Rattle.sync_journal.proofs.gate.write_gate.Goals as goal
 
-pub returns-in_err-write-clause-asks : goal.returns-in_err-write-clause-asks
-returns-in_err-write-clause-asks g c =
-    once_named IsGate (λ k. k ≡ 2) (g.D.SectorDisk.asked c.args.disk.now) (g.D.SectorDisk.asked c.write.new.self) (λ k here. here) c.write.ensures.asks
+pub returns-in_err-write : goal.returns-in_err-write
+returns-in_err-write g c =
+    record {
+      writes = record {
+        done = search rules;
+        run = search rules;
+        once = once_named IsGate (λ k. k ≡ 2) (g.D.SectorDisk.asked c.args.disk.now) (g.D.SectorDisk.asked c.write.new.self) (λ k here. here) c.write.ensures.asks;
+        failed = search rules;
+        calm = search rules;
+      };
+      synced = search rules;
+    }
 
-pub returns-clause-asks : goal.returns-clause-asks
-returns-clause-asks g c =
-    once_still IsGate (g.D.SectorDisk.asked c.args.disk.now) (g.D.SectorDisk.asked c.write.new.self) (g.D.SectorDisk.asked c.sync.new.self)
-    (once_named IsGate (λ k. k ≡ 2) (g.D.SectorDisk.asked c.args.disk.now) (g.D.SectorDisk.asked c.write.new.self) (λ k here. here) c.write.ensures.asks)
-    c.sync.ensures.asks
+pub returns : goal.returns
+returns g c =
+    record {
+      writes = record {
+        done = search rules;
+        run = search rules;
+        once = once_still IsGate (g.D.SectorDisk.asked c.args.disk.now) (g.D.SectorDisk.asked c.write.new.self) (g.D.SectorDisk.asked c.sync.new.self)
+            (once_named IsGate (λ k. k ≡ 2) (g.D.SectorDisk.asked c.args.disk.now) (g.D.SectorDisk.asked c.write.new.self) (λ k here. here) c.write.ensures.asks)
+            c.sync.ensures.asks;
+        failed = search rules;
+        calm = search rules;
+      };
+      synced = search rules;
+    }

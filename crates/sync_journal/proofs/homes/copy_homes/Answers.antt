@@ -1,13 +1,19 @@
-use Rattle.std.proofs.Common.{length}
+use Rattle.std.proofs.Common.{length, rules}
 use Rattle.disk_model.proofs.Naming.{once_still}
 use Rattle.sync_journal.specs.Layout.{IsCopied}
 use Rattle.sync_journal.proofs.Runs.{and_no_write}
 use Rattle.sync_journal.proofs.homes.copy_homes.Goals as goal
 
-pub returns-clause-run : goal.returns-clause-run
-returns-clause-run g c = search (and_no_write, c.copy_each.ensures.run, c.sync.ensures)
-
-pub returns-clause-asks : goal.returns-clause-asks
-returns-clause-asks g c =
-    once_still (IsCopied c.args.homes.now (length c.args.homes.now)) (g.D.SectorDisk.asked c.args.disk.now) (g.D.SectorDisk.asked c.copy_each.new.disk) (g.D.SectorDisk.asked c.sync.new.self)
-    c.copy_each.ensures.asks c.sync.ensures.asks
+pub returns : goal.returns
+returns g c =
+    record {
+      writes = record {
+        done = search rules;
+        run = search (and_no_write, c.copy_each.ensures.run, c.sync.ensures);
+        once = once_still (IsCopied c.args.homes.now (length c.args.homes.now)) (g.D.SectorDisk.asked c.args.disk.now) (g.D.SectorDisk.asked c.copy_each.new.disk) (g.D.SectorDisk.asked c.sync.new.self)
+            c.copy_each.ensures.once c.sync.ensures.asks;
+        failed = search rules;
+        calm = search rules;
+      };
+      synced = search rules;
+    }

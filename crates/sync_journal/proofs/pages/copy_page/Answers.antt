@@ -1,15 +1,34 @@
-use Rattle.std.proofs.Common.{◌⊎◌, inl}
+use Rattle.std.proofs.Common.{◌⊎◌, inl, rules}
 use Rattle.disk_model.proofs.Naming.{once_named}
 use Rattle.sync_journal.specs.Layout.{IsPageSector}
 use Rattle.sync_journal.proofs.Asking.{page_copied}
+use Rattle.sync_journal.proofs.Runs.{one_more, no_write, one_page}
 use Rattle.sync_journal.proofs.pages.copy_page.Goals as goal
 
-pub returns-in_err-read_page-clause-asks : goal.returns-in_err-read_page-clause-asks
-returns-in_err-read_page-clause-asks g c =
-    once_named (λ k. IsPageSector c.args.from k ⊎ IsPageSector c.args.to k) (IsPageSector c.args.from) (g.D.SectorDisk.asked c.args.disk.now) (g.D.SectorDisk.asked c.read_page.new.self)
-    (λ k source. inl source) c.read_page.ensures.asks
+pub returns-in_err-read_page : goal.returns-in_err-read_page
+returns-in_err-read_page g c =
+    record {
+      done = search rules;
+      run = search rules;
+      once = once_named (λ k. IsPageSector c.args.from k ⊎ IsPageSector c.args.to k) (IsPageSector c.args.from) (g.D.SectorDisk.asked c.args.disk.now) (g.D.SectorDisk.asked c.read_page.new.self)
+          (λ k source. inl source) c.read_page.ensures.asks;
+      failed = search rules;
+      calm = search rules;
+    }
 
-pub returns-clause-asks : goal.returns-clause-asks
-returns-clause-asks g c =
-    page_copied (g.D.SectorDisk.asked c.args.disk.now) (g.D.SectorDisk.asked c.read_page.new.self) (g.D.SectorDisk.asked c.write_page.new.self)
-    c.args.from c.args.to c.requires.behind c.read_page.ensures.asks c.write_page.ensures.asks
+pub returns : goal.returns
+returns g c =
+    let d = g.D.SectorDisk in
+    let old = c.args.disk.now in
+    let read = c.read_page.new.self in
+    let r = c.read_page.ensures in
+    let w = c.write_page.ensures in
+    record {
+      done = search rules;
+      run = one_more d (IsPageSector c.args.to) old read c.write_page.new.self (no_write d _ old read r.size r.kept r.cause.later r.same r.unsynced r.time)
+          (one_page d _ c.args.to read c.write_page.new.self (λ k inside. inside) w.size w.kept w.cause.later w.others w.unsynced w.time);
+      once = page_copied (g.D.SectorDisk.asked c.args.disk.now) (g.D.SectorDisk.asked c.read_page.new.self) (g.D.SectorDisk.asked c.write_page.new.self)
+          c.args.from c.args.to c.requires.behind c.read_page.ensures.asks c.write_page.ensures.asks;
+      failed = search rules;
+      calm = search rules;
+    }

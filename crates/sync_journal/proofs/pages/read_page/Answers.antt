@@ -4,10 +4,14 @@ use Rattle.disk_model.specs.Sectors.{part_of}
 use Rattle.disk_model.proofs.Pieces.{joined-same, joined_parts}
 use Rattle.sync_journal.proofs.pages.read_page.Goals as goal
 
-pub returns-clause-read : goal.returns-clause-read
-returns-clause-read g c = λ keeps.
+pub returns : goal.returns
+returns g c =
     let page = c.read_page.new.to in
     let long : length page ≡ 4096 = search rules in
-    on_ok_weaker c.read_page.result
-    (λ gives. sym (joined_parts page long) ∙ joined-same 8 (part_of page) (λ i. g.D.SectorDisk.content c.args.disk.now (c.args.first + i)) gives)
-    (c.read_page.ensures.gives keeps)
+    record {
+      read = λ keeps. on_ok_weaker c.read_page.result
+          (λ gives. sym (joined_parts page long) ∙ joined-same 8 (part_of page) (λ i. g.D.SectorDisk.content c.args.disk.now (c.args.first + i)) gives)
+          (c.read_page.ensures.gives keeps);
+      reads = search rules;
+      asks = search rules;
+    }

@@ -1,13 +1,13 @@
-use Rattle.std.proofs.Common.{ℕ, Option, Ok, take, sym, subst, arith}
+use Rattle.std.proofs.Common.{ℕ, Option, Result, Ok, take, if◌then◌else◌, refl, ap, sym, subst, ◌∙◌, arith, rules}
 use Rattle.std.proofs.lemmas.List.{length-take-le}
-use Rattle.sync_journal.specs.Layout.{home_count}
+use Rattle.sync_journal.specs.Layout.{gate_sector, home_count}
+use Rattle.sync_journal.specs.Gate.{closed_sector}
 use Rattle.sync_journal.specs.Map.{AreHomes}
 use Rattle.sync_journal.specs.Recovery.{GivesHomes, Finds}
-use Rattle.disk_model.proofs.Moments.{then}
-use Rattle.sync_journal.specs.Layout.{IsRecovered}
-use Rattle.sync_journal.proofs.Asking.{replay_asks}
-use Rattle.sync_journal.proofs.Runs.{read_only, replayed}
-use Rattle.sync_journal.proofs.Recoveries.{while_reading, while_replaying, settled_since}
+use Rattle.sync_journal.proofs.Recoveries.{settled_since}
+use Rattle.sync_journal.specs.declared.faults.RecoverFault.{RecoverFault}
+use Rattle.sync_journal.proofs.Causes.{told_was, is_error, not_bad_device, blames_device, blames_on, blames_none}
+use Rattle.sync_journal.proofs.OneRecoveries.{looked, closed_there, replays}
 use Rattle.sync_journal.proofs.recovery.recover_synced.Goals as goal
 
 pub slice_bounds-homes-end : goal.slice_bounds-homes-end
@@ -23,71 +23,54 @@ slice_bounds-replay-end g c =
 pub replay-requires-clause-homes : goal.replay-requires-clause-homes
 replay-requires-clause-homes g c =
     let found = subst (λ (o : Option ℕ). GivesHomes (g.D.SectorDisk.sector_count c.args.disk.now) c.find_open.new.homes (Ok o)) c.in-Some.is c.in_ok-count.ensures.gives in
-    subst (λ n. AreHomes (home_count n) (take c.in-Some.count c.find_open.new.homes)) (sym c.find_open.ensures.run.size) found.1
+    subst (λ n. AreHomes (home_count n) (take c.in-Some.count c.find_open.new.homes)) (sym c.find_open.ensures.looks.run.size) found.1
 
-pub returns-in_err-replay-clause-any_moment : goal.returns-in_err-replay-clause-any_moment
-returns-in_err-replay-clause-any_moment g c = λ keeps.
-    let run = c.find_open.ensures.run in
-    let mid = c.replay.ensures.run.kept keeps in
-    let before = run.kept mid in
-    while_replaying g.D.SectorDisk c.args.disk.now c.find_open.new.disk c.replay.new.disk (run.touches mid) run.size
-    (while_reading g.D.SectorDisk c.args.disk.now c.find_open.new.disk c.replay.new.disk (run.touches mid)
-    (λ image left. g.met.D.SectorDisk.only_now c.args.disk.now image before left) (c.requires.synced before))
-    (c.replay.ensures.any_moment keeps)
-
-pub returns-clause-any_moment : goal.returns-clause-any_moment
-returns-clause-any_moment g c = λ keeps.
-    let run = c.find_open.ensures.run in
-    let mid = c.replay.ensures.run.kept keeps in
-    let before = run.kept mid in
-    while_replaying g.D.SectorDisk c.args.disk.now c.find_open.new.disk c.replay.new.disk (run.touches mid) run.size
-    (while_reading g.D.SectorDisk c.args.disk.now c.find_open.new.disk c.replay.new.disk (run.touches mid)
-    (λ image left. g.met.D.SectorDisk.only_now c.args.disk.now image before left) (c.requires.synced before))
-    (c.replay.ensures.any_moment keeps)
-
-pub returns-clause-ok : goal.returns-clause-ok
-returns-clause-ok g c = λ keeps.
-    let run = c.find_open.ensures.run in
-    let mid = c.replay.ensures.run.kept keeps in
-    settled_since g.D.SectorDisk c.args.disk.now c.find_open.new.disk c.replay.new.disk (run.touches mid) run.size (c.in_ok-replay.ensures.settled keeps)
-
-pub returns-in_err-count-clause-any_moment : goal.returns-in_err-count-clause-any_moment
-returns-in_err-count-clause-any_moment g c = λ keeps.
-    let run = c.find_open.ensures.run in
-    let before = run.kept keeps in
-    while_reading g.D.SectorDisk c.args.disk.now c.find_open.new.disk c.find_open.new.disk (run.touches keeps)
-    (λ image left. g.met.D.SectorDisk.only_now c.args.disk.now image before left) (c.requires.synced before)
-
-pub returns-in_err-replay-clause-touches : goal.returns-in_err-replay-clause-touches
-returns-in_err-replay-clause-touches g c = λ keeps.
+pub returns-in_err-count : goal.returns-in_err-count
+returns-in_err-count g c =
     let d = g.D.SectorDisk in
-    let sectors = d.sector_count c.args.disk.now in
-    let found = subst (λ (o : Option ℕ). GivesHomes sectors c.find_open.new.homes (Ok o)) c.in-Some.is c.in_ok-count.ensures.gives in
-    then d (IsRecovered sectors) c.args.disk.now c.find_open.new.disk c.replay.new.disk
-    (read_only d (IsRecovered sectors) c.args.disk.now c.find_open.new.disk (c.find_open.ensures.run.touches (c.replay.ensures.run.kept keeps)))
-    (replayed d sectors (take c.in-Some.count c.find_open.new.homes) c.find_open.new.disk c.replay.new.disk found.1 (c.replay.ensures.run.touches keeps))
+    let old = c.args.disk.now in
+    let new = c.find_open.new.disk in
+    let found = c.in_err-count.ensures in
+    looked d old new (λ k image left. g.met.D.SectorDisk.only_now old image k left) c.find_open.ensures.looks.run
+    _ (is_error _ _ c.from_residual.ensures.1) c.find_open.ensures.asks (blames_on d old old new _ _ c.from_residual.ensures.1 refl found.looks.blames)
+    (λ keeps is. subst (λ (r : Result (Option ℕ) RecoverFault). Finds (d.sector_count old) (d.content old) c.find_open.new.homes r) (told_was _ _ _ c.from_residual.ensures.1 is) (found.finds keeps))
 
-pub returns-clause-touches : goal.returns-clause-touches
-returns-clause-touches g c = λ keeps.
+pub returns-in_err-replay : goal.returns-in_err-replay
+returns-in_err-replay g c =
     let d = g.D.SectorDisk in
-    let sectors = d.sector_count c.args.disk.now in
+    let old = c.args.disk.now in
+    let new = c.replay.new.disk in
+    let sectors = d.sector_count old in
     let found = subst (λ (o : Option ℕ). GivesHomes sectors c.find_open.new.homes (Ok o)) c.in-Some.is c.in_ok-count.ensures.gives in
-    then d (IsRecovered sectors) c.args.disk.now c.find_open.new.disk c.replay.new.disk
-    (read_only d (IsRecovered sectors) c.args.disk.now c.find_open.new.disk (c.find_open.ensures.run.touches (c.replay.ensures.run.kept keeps)))
-    (replayed d sectors (take c.in-Some.count c.find_open.new.homes) c.find_open.new.disk c.replay.new.disk found.1 (c.replay.ensures.run.touches keeps))
+    let calm = c.in_ok-count.ensures.looks.calm in
+    let failed = c.in_err-replay.ensures.home.failed refl in
+    replays d old c.find_open.new.disk (λ k image left. g.met.D.SectorDisk.only_now old image k left) c.find_open.ensures.looks.run new (take c.in-Some.count c.find_open.new.homes) found.1
+    (λ keeps. subst (λ (o : Option ℕ). Finds sectors (d.content old) c.find_open.new.homes (Ok o)) c.in-Some.is (c.in_ok-count.ensures.finds keeps)) c.replay.ensures.home
+    _ c.find_open.ensures.asks (search rules) (search rules)
+    (blames_device d old new _ c.from_residual-in_err-replay.ensures.1 (omega (arith, failed, calm))) (λ keeps is. absurd (not_bad_device _ c.from_residual-in_err-replay.ensures.1 is))
+    (search rules)
 
-pub returns-in_err-replay-clause-asks : goal.returns-in_err-replay-clause-asks
-returns-in_err-replay-clause-asks g c = λ keeps.
-    let image = g.D.SectorDisk.content c.args.disk.now in
-    let before = c.replay.ensures.run.kept keeps in
-    let finds = subst (λ (o : Option ℕ). Finds (g.D.SectorDisk.sector_count c.args.disk.now) image c.find_open.new.homes (Ok o)) c.in-Some.is (c.in_ok-count.ensures.finds before) in
-    replay_asks g.D.SectorDisk image (take c.in-Some.count c.find_open.new.homes) c.args.disk.now c.find_open.new.disk c.replay.new.disk
-    finds (c.find_open.ensures.asks before) c.replay.ensures.asks
+pub returns : goal.returns
+returns g c =
+    let d = g.D.SectorDisk in
+    let old = c.args.disk.now in
+    let read = c.find_open.new.disk in
+    let new = c.replay.new.disk in
+    let looks = c.find_open.ensures.looks.run in
+    let sectors = d.sector_count old in
+    let done = c.in_ok-replay.ensures in
+    let found = subst (λ (o : Option ℕ). GivesHomes sectors c.find_open.new.homes (Ok o)) c.in-Some.is c.in_ok-count.ensures.gives in
+    replays d old read (λ k image left. g.met.D.SectorDisk.only_now old image k left) looks new (take c.in-Some.count c.find_open.new.homes) found.1
+    (λ keeps. subst (λ (o : Option ℕ). Finds sectors (d.content old) c.find_open.new.homes (Ok o)) c.in-Some.is (c.in_ok-count.ensures.finds keeps)) c.replay.ensures.home
+    _ c.find_open.ensures.asks (λ keeps. settled_since d old read new (looks.touches (c.replay.ensures.home.kept keeps)) looks.size (done.home.done keeps)) done.all_synced
+    (blames_none d old new _ (done.home.calm ∙ c.in_ok-count.ensures.looks.calm)) (λ keeps is. cc)
+    (λ keeps. (let opened = subst (λ (o : Option ℕ). Finds sectors (d.content old) c.find_open.new.homes (Ok o)) c.in-Some.is (c.in_ok-count.ensures.finds (c.replay.ensures.home.kept keeps)) in
+    done.zeros keeps ∙ ap (λ b. if b then closed_sector else (d.content old gate_sector)) (sym opened.gate)))
 
-pub returns-clause-asks : goal.returns-clause-asks
-returns-clause-asks g c = λ keeps.
-    let image = g.D.SectorDisk.content c.args.disk.now in
-    let before = c.replay.ensures.run.kept keeps in
-    let finds = subst (λ (o : Option ℕ). Finds (g.D.SectorDisk.sector_count c.args.disk.now) image c.find_open.new.homes (Ok o)) c.in-Some.is (c.in_ok-count.ensures.finds before) in
-    replay_asks g.D.SectorDisk image (take c.in-Some.count c.find_open.new.homes) c.args.disk.now c.find_open.new.disk c.replay.new.disk
-    finds (c.find_open.ensures.asks before) c.replay.ensures.asks
+pub returns-in_default : goal.returns-in_default
+returns-in_default g c =
+    let d = g.D.SectorDisk in
+    let old = c.args.disk.now in
+    closed_there d old c.find_open.new.disk (λ k image left. g.met.D.SectorDisk.only_now old image k left) c.find_open.ensures.looks.run
+    (λ keeps. subst (λ (o : Option ℕ). Finds (d.sector_count old) (d.content old) c.find_open.new.homes (Ok o)) c.in_default.is (c.in_ok-count.ensures.finds keeps))
+    c.requires.synced c.find_open.ensures.asks c.in_ok-count.ensures.looks.calm

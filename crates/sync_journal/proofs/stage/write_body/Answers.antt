@@ -3,27 +3,36 @@ use Rattle.std.proofs.lemmas.Bool.{cases_eq}
 use Rattle.sync_journal.specs.Layout.{body_sector, IsJournalSector, IsBodySector, IsPageSector}
 use Rattle.sync_journal.specs.Source.{Asks}
 use Rattle.disk_model.specs.Sectors.{part_of}
-use Rattle.sync_journal.specs.Runs.{Runs}
+use Rattle.sync_journal.specs.Runs.{RunsOnDevice}
 use Rattle.disk_model.proofs.Naming.{once_wider}
 use Rattle.sync_journal.proofs.Asking.{body_asks}
 use Rattle.sync_journal.proofs.Runs.{one_more, of_more}
 use Rattle.sync_journal.proofs.stage.write_body.Goals as goal
 
-pub returns-in_err-page-clause-asks_device : goal.returns-in_err-page-clause-asks_device
-returns-in_err-page-clause-asks_device g c =
-    once_wider (IsBodySector c.loop-j.j) (IsBodySector c.args.count) (g.D.SectorDisk.asked c.args.disk.now) (g.D.SectorDisk.asked c.loop-j.disk)
-    (λ k inside. (inside.0, omega (arith, inside.1, c.loop-j-test.true))) c.loop-j.invariant.6
+pub returns-in_err-page-clause-fills : goal.returns-in_err-page-clause-fills
+returns-in_err-page-clause-fills g c =
+    record {
+      body = search rules;
+      once = once_wider (IsBodySector c.loop-j.j) (IsBodySector c.args.count) (g.D.SectorDisk.asked c.args.disk.now) (g.D.SectorDisk.asked c.loop-j.disk)
+          (λ k inside. (inside.0, omega (arith, inside.1, c.loop-j-test.true))) c.loop-j.invariant.6;
+    }
 
-pub returns-in_err-write_page-clause-asks_device : goal.returns-in_err-write_page-clause-asks_device
-returns-in_err-write_page-clause-asks_device g c =
-    once_wider (IsBodySector (c.loop-j.j + 1)) (IsBodySector c.args.count) (g.D.SectorDisk.asked c.args.disk.now) (g.D.SectorDisk.asked c.write_page.new.disk)
-    (λ k inside. (inside.0, omega (arith, inside.1, c.loop-j-test.true)))
-    (body_asks (g.D.SectorDisk.asked c.args.disk.now) (g.D.SectorDisk.asked c.loop-j.disk) (g.D.SectorDisk.asked c.write_page.new.disk) c.loop-j.j c.loop-j.invariant.6 c.write_page.ensures.asks)
+pub returns-in_err-write_page-clause-fills : goal.returns-in_err-write_page-clause-fills
+returns-in_err-write_page-clause-fills g c =
+    record {
+      body = search rules;
+      once = once_wider (IsBodySector (c.loop-j.j + 1)) (IsBodySector c.args.count) (g.D.SectorDisk.asked c.args.disk.now) (g.D.SectorDisk.asked c.write_page.new.disk)
+          (λ k inside. (inside.0, omega (arith, inside.1, c.loop-j-test.true)))
+          (body_asks (g.D.SectorDisk.asked c.args.disk.now) (g.D.SectorDisk.asked c.loop-j.disk) (g.D.SectorDisk.asked c.write_page.new.disk) c.loop-j.j c.loop-j.invariant.6 c.write_page.ensures.asks);
+    }
 
-pub returns-clause-asks_device : goal.returns-clause-asks_device
-returns-clause-asks_device g c =
-    once_wider (IsBodySector c.loop-j.j) (IsBodySector c.args.count) (g.D.SectorDisk.asked c.args.disk.now) (g.D.SectorDisk.asked c.loop-j.disk)
-    (λ k inside. (inside.0, omega (arith, inside.1))) c.loop-j.invariant.6
+pub returns-clause-fills : goal.returns-clause-fills
+returns-clause-fills g c =
+    record {
+      body = search rules;
+      once = once_wider (IsBodySector c.loop-j.j) (IsBodySector c.args.count) (g.D.SectorDisk.asked c.args.disk.now) (g.D.SectorDisk.asked c.loop-j.disk)
+          (λ k inside. (inside.0, omega (arith, inside.1))) c.loop-j.invariant.6;
+    }
 
 pub loop-j-preserved : goal.loop-j-preserved
 loop-j-preserved g c =
@@ -32,7 +41,7 @@ loop-j-preserved g c =
     let inv = c.loop-j.invariant in
     let w = c.write_page.ensures in
     let first = body_sector n in
-    let runs : Runs d IsJournalSector c.args.disk.now c.write_page.new.disk = one_more d IsJournalSector c.args.disk.now c.loop-j.disk c.write_page.new.disk inv.1
+    let runs : RunsOnDevice d IsJournalSector c.args.disk.now c.write_page.new.disk = one_more d IsJournalSector c.args.disk.now c.loop-j.disk c.write_page.new.disk inv.1
     (of_more d (IsPageSector first) IsJournalSector c.loop-j.disk c.write_page.new.disk (λ k inside. (omega (arith, inside.0), omega (arith, inside.1, c.loop-j-test.true, c.requires.few))) w.run) in
     let asks : Asks g.S.PageSource c.args.source.now c.page.new.self = search rules in (
       search rules,

@@ -1,29 +1,51 @@
-use Rattle.std.proofs.Common.{◌≡◌, ℕ, length, take, ⊎_elim, ap, sym, subst, ◌∙◌, arith}
+use Rattle.std.proofs.Common.{◌≡◌, ℕ, length, take, ⊎_elim, ap, sym, subst, ◌∙◌, arith, rules}
+use Rattle.std.proofs.lemmas.List.{length-take-le, get_or-take}
 use Rattle.disk_model.specs.Stop.{Image}
 use Rattle.disk_model.specs.Sectors.{joined}
 use Rattle.sync_journal.specs.Gate.{is_open_sector}
-use Rattle.sync_journal.specs.Map.{IsBadMap, AreHomes}
+use Rattle.sync_journal.specs.Map.{IsBadMap, AreHomes, map_count, home_in}
 use Rattle.sync_journal.specs.Turns.{start_of, turn_home_count, turn_map, named_in, IsBadUnder}
 use Rattle.sync_journal.proofs.InTurn.{named_rest, map_read}
 use Rattle.sync_journal.proofs.Sectors.{same_content}
 use Rattle.sync_journal.proofs.turns.find_named.Goals as goal
 
-pub returns-in-Some-clause-found : goal.returns-in-Some-clause-found
-returns-in-Some-clause-found g c = λ keeps.
-    let d = g.D.SectorDisk in
-    let first = c.in_ok-read.ensures in
-    let second = c.in_ok-read_page.ensures in
-    let before = second.kept keeps in
-    let e = c.in-Some.ensures in
-    let end = c.read_page.new.disk in
-    let same : (k : ℕ) → d.content end k ≡ d.content c.read.new.self k = same_content d c.read.new.self end (second.touches keeps) in
-    let count = c.turn_home_count.ensures ∙ ap turn_home_count c.sectors.ensures in
-    named_rest d end c.is_open_gate-second.result c.in-Some.count c.read_page.new.to c.read_homes.new.homes
-    (ap is_open_sector (same 16 ∙ ap (λ (image : Image). image 16) (first.same before) ∙ sym (first.gives before)) ∙ sym c.is_open_gate-second.ensures)
-    (map_read c.is_open_gate-second.result (d.content c.read.new.self) (d.content end) c.start.result c.start.ensures.is same ∙ sym (second.read keeps))
-    e.0 (let long : length c.read_homes.new.homes ≡ 1023 = c.read_homes.auto.homes in omega (arith, e.1, long)) e.2
-    (subst (λ n. AreHomes n (take c.in-Some.count c.read_homes.new.homes)) count e.3)
-    (λ k u. c.requires.synced (first.kept before) k (first.unsynced before k (⊎_elim (λ o. o) (λ none. absurd none) ((second.touches keeps).unsynced k u))))
+pub returns-in-Some-clause-ok : goal.returns-in-Some-clause-ok
+returns-in-Some-clause-ok g c = record {
+  homes = search rules;
+  names = λ keeps.
+      let d = g.D.SectorDisk in
+      let first = c.in_ok-read.ensures in
+      let page = c.in_ok-read_page.ensures in
+      let before = page.kept keeps in
+      let old = d.content c.args.disk.now in
+      let e = c.in-Some.ensures in
+      let count = c.in-Some.count in
+      let homes = c.read_homes.new.homes in
+      let gate = ap is_open_sector (sym (first.gives before)) ∙ sym c.is_open_gate-second.ensures in
+      let mapped : turn_map (named_in old) old ≡ c.read_page.new.to = ap (λ b. turn_map b old) gate
+      ∙ map_read c.is_open_gate-second.result (d.content c.read.new.self) old c.start.result c.start.ensures.is (λ k. ap (λ (image : Image). image k) (sym (first.same before))) ∙ sym (page.read keeps) in
+      record {
+        gate = gate;
+        count = ap map_count mapped ∙ sym e.0;
+        long = length-take-le count homes (let long : length homes ≡ 1023 = c.read_homes.auto.homes in omega (arith, e.1, long));
+        each = λ j below. ap (λ map. home_in map j) mapped ∙ sym (e.2 j below) ∙ sym (get_or-take count homes j 0 below);
+      };
+  found = λ keeps.
+      let d = g.D.SectorDisk in
+      let first = c.in_ok-read.ensures in
+      let second = c.in_ok-read_page.ensures in
+      let before = second.kept keeps in
+      let e = c.in-Some.ensures in
+      let end = c.read_page.new.disk in
+      let same : (k : ℕ) → d.content end k ≡ d.content c.read.new.self k = same_content d c.read.new.self end (second.touches keeps) in
+      let count = c.turn_home_count.ensures ∙ ap turn_home_count c.sectors.ensures in
+      named_rest d end c.is_open_gate-second.result c.in-Some.count c.read_page.new.to c.read_homes.new.homes
+      (ap is_open_sector (same 16 ∙ ap (λ (image : Image). image 16) (first.same before) ∙ sym (first.gives before)) ∙ sym c.is_open_gate-second.ensures)
+      (map_read c.is_open_gate-second.result (d.content c.read.new.self) (d.content end) c.start.result c.start.ensures.is same ∙ sym (second.read keeps))
+      e.0 (let long : length c.read_homes.new.homes ≡ 1023 = c.read_homes.auto.homes in omega (arith, e.1, long)) e.2
+      (subst (λ n. AreHomes n (take c.in-Some.count c.read_homes.new.homes)) count e.3)
+      (λ k u. c.requires.synced (first.kept before) k (first.unsynced before k (⊎_elim (λ o. o) (λ none. absurd none) ((second.touches keeps).unsynced k u))));
+}
 
 pub returns-in-None-clause-bad : goal.returns-in-None-clause-bad
 returns-in-None-clause-bad g c = λ keeps is.

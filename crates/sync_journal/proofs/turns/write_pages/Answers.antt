@@ -3,7 +3,7 @@ use Rattle.std.proofs.lemmas.Bool.{cases_eq}
 use Rattle.sync_journal.specs.Layout.{IsPageSector}
 use Rattle.sync_journal.specs.Source.{Asks}
 use Rattle.disk_model.specs.Sectors.{part_of}
-use Rattle.sync_journal.specs.Runs.{Runs}
+use Rattle.sync_journal.specs.Runs.{RunsOnDevice}
 use Rattle.sync_journal.specs.Turns.{start_of, turn_body, IsTurnSector}
 use Rattle.sync_journal.proofs.Runs.{one_more, of_more}
 use Rattle.disk_model.proofs.Naming.{once_wider}
@@ -19,7 +19,7 @@ loop-j-preserved g c =
     let w = c.write_page.ensures in
     let first = c.start-body.result + 8 + 8 * n in
     let at = c.start-body.ensures.is in
-    let runs : Runs d (IsTurnSector c.args.second) c.args.disk.now c.write_page.new.disk = one_more d (IsTurnSector c.args.second) c.args.disk.now c.loop-j.disk c.write_page.new.disk inv.1
+    let runs : RunsOnDevice d (IsTurnSector c.args.second) c.args.disk.now c.write_page.new.disk = one_more d (IsTurnSector c.args.second) c.args.disk.now c.loop-j.disk c.write_page.new.disk inv.1
     (of_more d (IsPageSector first) (IsTurnSector c.args.second) c.loop-j.disk c.write_page.new.disk
     (λ k inside. (omega (arith, inside.0, at), omega (arith, inside.1, at, c.loop-j-test.true, c.requires.few))) w.run) in
     let asks : Asks g.S.PageSource c.args.source.now c.page.new.self = search rules in (
@@ -40,21 +40,30 @@ loop-j-preserved g c =
           (ap (λ (s : ℕ). s + 8 + 8 * n) at) inv.6 w.asks,
     )
 
-pub returns-in_err-write_page-clause-once : goal.returns-in_err-write_page-clause-once
-returns-in_err-write_page-clause-once g c =
+pub returns-in_err-write_page-clause-fills : goal.returns-in_err-write_page-clause-fills
+returns-in_err-write_page-clause-fills g c =
     let d = g.D.SectorDisk in
     let n = c.loop-j.j in
-    once_wider (IsTurnFilled c.args.second (n + 1)) (IsTurnFilled c.args.second c.args.count) (d.asked c.args.disk.now) (d.asked c.write_page.new.disk)
-    (λ k inside. (inside.0, omega (arith, inside.1, c.loop-j-test.true)))
-    (filled_more (d.asked c.args.disk.now) (d.asked c.loop-j.disk) (d.asked c.write_page.new.disk) c.args.second n (c.start-body.result + 8 + 8 * n)
-    (ap (λ (s : ℕ). s + 8 + 8 * n) c.start-body.ensures.is) c.loop-j.invariant.6 c.write_page.ensures.asks)
+    record {
+      body = search rules;
+      once = once_wider (IsTurnFilled c.args.second (n + 1)) (IsTurnFilled c.args.second c.args.count) (d.asked c.args.disk.now) (d.asked c.write_page.new.disk)
+          (λ k inside. (inside.0, omega (arith, inside.1, c.loop-j-test.true)))
+          (filled_more (d.asked c.args.disk.now) (d.asked c.loop-j.disk) (d.asked c.write_page.new.disk) c.args.second n (c.start-body.result + 8 + 8 * n)
+          (ap (λ (s : ℕ). s + 8 + 8 * n) c.start-body.ensures.is) c.loop-j.invariant.6 c.write_page.ensures.asks);
+    }
 
-pub returns-in_err-page-clause-once : goal.returns-in_err-page-clause-once
-returns-in_err-page-clause-once g c =
-    once_wider (IsTurnFilled c.args.second c.loop-j.j) (IsTurnFilled c.args.second c.args.count) (g.D.SectorDisk.asked c.args.disk.now) (g.D.SectorDisk.asked c.loop-j.disk)
-    (λ k inside. (inside.0, omega (arith, inside.1, c.loop-j-test.true))) c.loop-j.invariant.6
+pub returns-in_err-page-clause-fills : goal.returns-in_err-page-clause-fills
+returns-in_err-page-clause-fills g c =
+    record {
+      body = search rules;
+      once = once_wider (IsTurnFilled c.args.second c.loop-j.j) (IsTurnFilled c.args.second c.args.count) (g.D.SectorDisk.asked c.args.disk.now) (g.D.SectorDisk.asked c.loop-j.disk)
+          (λ k inside. (inside.0, omega (arith, inside.1, c.loop-j-test.true))) c.loop-j.invariant.6;
+    }
 
-pub returns-clause-once : goal.returns-clause-once
-returns-clause-once g c =
-    once_wider (IsTurnFilled c.args.second c.loop-j.j) (IsTurnFilled c.args.second c.args.count) (g.D.SectorDisk.asked c.args.disk.now) (g.D.SectorDisk.asked c.loop-j.disk)
-    (λ k inside. (inside.0, omega (arith, inside.1))) c.loop-j.invariant.6
+pub returns-clause-fills : goal.returns-clause-fills
+returns-clause-fills g c =
+    record {
+      body = search rules;
+      once = once_wider (IsTurnFilled c.args.second c.loop-j.j) (IsTurnFilled c.args.second c.args.count) (g.D.SectorDisk.asked c.args.disk.now) (g.D.SectorDisk.asked c.loop-j.disk)
+          (λ k inside. (inside.0, omega (arith, inside.1))) c.loop-j.invariant.6;
+    }

@@ -19,29 +19,29 @@ returns-in-Ok-clause-commits c =
     let commits = rw c.in-Ok.is at (c.commit-disk.ensures.commits c.if-disk.false) in
     let store = as_given d0.calls.now d0.rows.now c.args.image.now d0.image.now (pages_of d0) d0.used (λ sectors first. IsStore sectors first) c.new-disk.ensures.image c.new-disk.ensures.used commits.store in
     let moments = commits.layout_moment.before in
-    let same = same_end d0.calls.now d.calls.now c.copy_to.new.calls d0.rows.now d.rows.now c.copy_to.new.rows c.args.image.now d0.image.now d.image.now (lent_page c.args.bytes.now) (pages_of d0) (pages_of d) d0.used d.used
+    let same = same_end d0.calls.now d.calls.now c.copy_to.new.calls d0.rows.now d.rows.now c.copy_to.new.rows c.args.image.now d0.image.now d.image.now (lent_page c.args.updates.bytes.now) (pages_of d0) (pages_of d) d0.used d.used
     c.new-disk.ensures.image (ap lent_page c.new-disk.ensures.lent) c.new-disk.ensures.used store.layout moments c.copy_to.ensures.calls c.copy_to.ensures.rows in
     record {
       store = store;
-      writable = as_given d0.calls.now d0.rows.now c.args.image.now d0.image.now (pages_of d0) d0.used (λ sectors first. AreWritable first c.args.pages.now) c.new-disk.ensures.image c.new-disk.ensures.used commits.writable;
+      writable = as_given d0.calls.now d0.rows.now c.args.image.now d0.image.now (pages_of d0) d0.used (λ sectors first. AreWritable first c.args.updates.pages.now) c.new-disk.ensures.image c.new-disk.ensures.used commits.writable;
       plan = record {
         few = d.within;
         all = subst (λ (sectors : ℕ). AreCalls sectors c.copy_to.new.calls d.used) (c.commit-disk.ensures.size ∙ ap length c.new-disk.ensures.image) c.copy_to.ensures.all;
-        sources = subst (λ (p : ℕ → List ℕ). AreSources p c.copy_to.new.calls d.used) (sym (began_pages d0.calls.now d.calls.now c.copy_to.new.calls d0.rows.now d.rows.now c.copy_to.new.rows c.args.image.now d0.image.now d.image.now (lent_page c.args.bytes.now) (pages_of d0) (pages_of d) d0.used d.used
+        sources = subst (λ (p : ℕ → List ℕ). AreSources p c.copy_to.new.calls d.used) (sym (began_pages d0.calls.now d.calls.now c.copy_to.new.calls d0.rows.now d.rows.now c.copy_to.new.rows c.args.image.now d0.image.now d.image.now (lent_page c.args.updates.bytes.now) (pages_of d0) (pages_of d) d0.used d.used
             c.new-disk.ensures.image (ap lent_page c.new-disk.ensures.lent) c.new-disk.ensures.used store.layout moments)) c.copy_to.ensures.sources;
         synced = λ n u. commits.synced n (subst IsTrue (alike_unsynced d.calls.now c.copy_to.new.calls d.used c.copy_to.ensures.calls d.used n (omega arith)) u);
       };
       any_moment = λ files before after stands changes.
-          let now = stands_now d0.calls.now d.calls.now c.copy_to.new.calls d0.rows.now d.rows.now c.copy_to.new.rows c.args.image.now d0.image.now d.image.now (lent_page c.args.bytes.now) (pages_of d0) (pages_of d) d0.used d.used
+          let now = stands_now d0.calls.now d.calls.now c.copy_to.new.calls d0.rows.now d.rows.now c.copy_to.new.rows c.args.image.now d0.image.now d.image.now (lent_page c.args.updates.bytes.now) (pages_of d0) (pages_of d) d0.used d.used
           files before after c.new-disk.ensures.image (ap lent_page c.new-disk.ensures.lent) c.new-disk.ensures.used stands in
           let run = commits.any_moment files before after now changes in
-          stops_leave d0.calls.now d.calls.now c.copy_to.new.calls d0.rows.now d.rows.now c.copy_to.new.rows c.args.image.now d0.image.now d.image.now (lent_page c.args.bytes.now) (pages_of d0) (pages_of d) d0.used d.used
+          stops_leave d0.calls.now d.calls.now c.copy_to.new.calls d0.rows.now d.rows.now c.copy_to.new.rows c.args.image.now d0.image.now d.image.now (lent_page c.args.updates.bytes.now) (pages_of d0) (pages_of d) d0.used d.used
           files before after c.new-disk.ensures.image (ap lent_page c.new-disk.ensures.lent) c.new-disk.ensures.used stands run.before c.copy_to.ensures.calls c.copy_to.ensures.rows run.each;
       ok = λ files before after stands changes.
-          let now = stands_now d0.calls.now d.calls.now c.copy_to.new.calls d0.rows.now d.rows.now c.copy_to.new.rows c.args.image.now d0.image.now d.image.now (lent_page c.args.bytes.now) (pages_of d0) (pages_of d) d0.used d.used
+          let now = stands_now d0.calls.now d.calls.now c.copy_to.new.calls d0.rows.now d.rows.now c.copy_to.new.rows c.args.image.now d0.image.now d.image.now (lent_page c.args.updates.bytes.now) (pages_of d0) (pages_of d) d0.used d.used
           files before after c.new-disk.ensures.image (ap lent_page c.new-disk.ensures.lent) c.new-disk.ensures.used stands in
           let run = commits.any_moment files before after now changes in
-          stands_then d0.calls.now d.calls.now c.copy_to.new.calls d0.rows.now d.rows.now c.copy_to.new.rows c.args.image.now d0.image.now d.image.now (lent_page c.args.bytes.now) (pages_of d0) (pages_of d) d0.used d.used
+          stands_then d0.calls.now d.calls.now c.copy_to.new.calls d0.rows.now d.rows.now c.copy_to.new.rows c.args.image.now d0.image.now d.image.now (lent_page c.args.updates.bytes.now) (pages_of d0) (pages_of d) d0.used d.used
           files before after c.new-disk.ensures.image (ap lent_page c.new-disk.ensures.lent) c.new-disk.ensures.used stands run.before c.copy_to.ensures.calls c.copy_to.ensures.rows
           (commits.ok files before after now changes);
       outside = subst (λ (i : Image). KeepsOutside (length c.args.image.now) image i) (sym same)
@@ -63,5 +63,5 @@ returns-then-disk-clause-no_room c = λ is.
 pub returns-in-Err-clause-refused : goal.returns-in-Err-clause-refused
 returns-in-Err-clause-refused c =
     let d0 = c.new-disk.result in
-    rw c.in-Err.is at (as_given d0.calls.now d0.rows.now c.args.image.now d0.image.now (pages_of d0) d0.used (λ sectors image. IfErr c.commit-disk.result.1 (RefusesImage sectors image (ArePages (file_info image) c.args.pages.now → ⊥) (AreReadOnly image c.args.pages.now))) c.new-disk.ensures.image c.new-disk.ensures.used
+    rw c.in-Err.is at (as_given d0.calls.now d0.rows.now c.args.image.now d0.image.now (pages_of d0) d0.used (λ sectors image. IfErr c.commit-disk.result.1 (RefusesImage sectors image (ArePages (file_info image) c.args.updates.pages.now → ⊥) (AreReadOnly image c.args.updates.pages.now))) c.new-disk.ensures.image c.new-disk.ensures.used
     (refuses_image _ d0 c.commit-disk.result.0 c.commit-disk.result.1 c.if-disk.false (λ bad. bad c.if-disk.false) (λ denied. denied c.if-disk.false) c.commit-disk.ensures.refused))

@@ -1,4 +1,4 @@
-use Rattle.std.proofs.Common.{◌≡◌, ◌+◌, ◌*◌, ◌<◌, ◌==◌, if◌then◌else◌, ℕ, ap, ◌∙◌, subst, arith}
+use Rattle.std.proofs.Common.{◌≡◌, ◌+◌, ◌*◌, ◌<◌, ◌==◌, if◌then◌else◌, ℕ, ap, ◌∙◌, subst, arith, rules}
 use Rattle.std.proofs.lemmas.Nat.{mod_below}
 use Rattle.clock_replace.specs.Choice.{place, Passes}
 use Rattle.clock_replace.specs.declared.clock.Clock.{Clock}
@@ -9,8 +9,8 @@ use Rattle.clock_replace.proofs.clock.Clock.victim.Goals as goal
 on : (hand total i now next : ℕ) → hand < total → i < 2 * total → now ≡ place hand total i → next ≡ (if now + 1 == total then 0 else now + 1) → next ≡ place hand total (i + 1)
 on hand total i now next below few at is = is ∙ ap (λ x. if x + 1 == total then 0 else x + 1) at ∙ next_place hand total i below few
 
-pub returns-then-look-clause-chooses : goal.returns-then-look-clause-chooses
-returns-then-look-clause-chooses g c =
+pub returns-then-look : goal.returns-then-look
+returns-then-look g c =
     let inv = c.loop-i.invariant in
     let hand = c.args.self.now.hand in
     let F = c.frames-frames.result in
@@ -19,8 +19,15 @@ returns-then-look-clause-chooses g c =
     let Q : ℕ → Type 0 = λ x. hand < x in
     let R : ℕ → Type 0 = λ x. c.loop-i.self.hand ≡ place hand x c.loop-i.i in
     let S : ℕ → Type 0 = λ x. c.next-self.result ≡ place hand x (c.loop-i.i + 1) in
-    chooses g.V.FrameView hand c.loop-i.i c.loop-i.self.hand c.args.view.now c.loop-i.view c.look.new.view inv.passes (subst Q inv.count inv.started) (subst P inv.count c.loop-i-test.true)
-    c.look.ensures.looks (subst R inv.count inv.hand) inv.looked g.met.V.FrameView.goes_on c.next-self.result (subst S inv.count next) (c.look.ensures.chosen c.if-look.true)
+    record {
+      «open» = search rules;
+      hand = search rules;
+      looks = search rules;
+      chooses = chooses g.V.FrameView hand c.loop-i.i c.loop-i.self.hand c.args.view.now c.loop-i.view c.look.new.view inv.passes (subst Q inv.count inv.started) (subst P inv.count c.loop-i-test.true) c.look.ensures.looks (subst R inv.count inv.hand) inv.looked g.met.V.FrameView.goes_on c.next-self.result (subst S inv.count next) (c.look.ensures.chosen c.if-look.true);
+      none = tt;
+      kept = tt;
+      still = tt;
+    }
 
 pub loop-i-preserved : goal.loop-i-preserved
 loop-i-preserved g c =
@@ -46,30 +53,26 @@ loop-i-preserved g c =
           looks (subst R inv.count inv.hand) so_far g.met.V.FrameView.goes_on (c.look.ensures.passed c.if-look.false);
     }
 
-pub returns-clause-none : goal.returns-clause-none
-returns-clause-none g c =
-    let inv = c.loop-i.invariant in
-    let Q : ℕ → Type 0 = λ x. c.args.self.now.hand < x in
-    let end : c.loop-i.i ≡ 2 * c.frames-frames.result = (let a = c.loop-i-test.false in let b = c.loop-i.auto.i-end in omega (arith, a, b)) in
-    let P : ℕ → Type 0 = λ x. Passes g.V.FrameView c.args.view.now c.loop-i.view c.args.self.now.hand x in
-    none_left g.V.FrameView c.args.self.now.hand c.args.view.now c.loop-i.view (subst P (end ∙ ap (λ x. 2 * x) inv.count) inv.passes) (subst Q inv.count inv.started)
-
-pub returns-clause-kept : goal.returns-clause-kept
-returns-clause-kept g c =
-    let inv = c.loop-i.invariant in
-    let Q : ℕ → Type 0 = λ x. c.args.self.now.hand < x in
-    let below = subst Q inv.count inv.started in
-    let end : c.loop-i.i ≡ 2 * c.frames-frames.result = (let a = c.loop-i-test.false in let b = c.loop-i.auto.i-end in omega (arith, a, b)) in
-    let P : ℕ → Type 0 = λ x. Passes g.V.FrameView c.args.view.now c.loop-i.view c.args.self.now.hand x in
-    let passes = subst P (end ∙ ap (λ x. 2 * x) inv.count) inv.passes in
-    all_kept g.V.FrameView c.args.self.now.hand _ c.args.view.now c.loop-i.view passes below (none_left g.V.FrameView c.args.self.now.hand c.args.view.now c.loop-i.view passes below)
-
 abbrev at_hand : ℕ → Clock
 at_hand h = record { hand = h }
 
-pub returns-clause-still : goal.returns-clause-still
-returns-clause-still g c =
+pub returns : goal.returns
+returns g c =
     let inv = c.loop-i.invariant in
+    let hand = c.args.self.now.hand in
+    let Q : ℕ → Type 0 = λ x. hand < x in
+    let below = subst Q inv.count inv.started in
     let end : c.loop-i.i ≡ 2 * c.frames-frames.result = (let a = c.loop-i-test.false in let b = c.loop-i.auto.i-end in omega (arith, a, b)) in
-    let back : c.loop-i.self.hand ≡ c.args.self.now.hand = inv.hand ∙ ap (place c.args.self.now.hand c.frames-frames.result) end ∙ full_turn c.args.self.now.hand c.frames-frames.result inv.started in
-    ap at_hand back
+    let P : ℕ → Type 0 = λ x. Passes g.V.FrameView c.args.view.now c.loop-i.view hand x in
+    let passes = subst P (end ∙ ap (λ x. 2 * x) inv.count) inv.passes in
+    let none = none_left g.V.FrameView hand c.args.view.now c.loop-i.view passes below in
+    let back : c.loop-i.self.hand ≡ hand = inv.hand ∙ ap (place hand c.frames-frames.result) end ∙ full_turn hand c.frames-frames.result inv.started in
+    record {
+      «open» = search rules;
+      hand = search rules;
+      looks = search rules;
+      chooses = tt;
+      none = none;
+      kept = all_kept g.V.FrameView hand _ c.args.view.now c.loop-i.view passes below none;
+      still = ap at_hand back;
+    }

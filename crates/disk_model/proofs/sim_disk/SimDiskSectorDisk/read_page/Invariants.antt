@@ -1,7 +1,7 @@
 use Rattle.std.proofs.Common.{◌≡◌, ◌<◌, ◌+◌, ◌-◌, ℕ, length}
 use Rattle.disk_model.specs.Stop.{Elapses}
 use Rattle.disk_model.specs.Sectors.{part_of}
-use Rattle.disk_model.specs.SimDisk.{sectors_in, sector_of, IsUnsynced, moment_of, LeftSince, failures_of, last_synced, counts_of, after_reads}
+use Rattle.disk_model.specs.SimDisk.{sectors_in, sector_of, IsUnsynced, moment_of, LeftSince, failures_of, last_synced, disk_counts, after_reads}
 use Rattle.disk_model.proofs.sim_disk.SimDiskSectorDisk.read_page.Given as goal
 
 abbrev pub invariant-loop-i : goal.invariant-loop-i
@@ -11,7 +11,7 @@ invariant-loop-i l = record {
   long : length l.to ≡ 4096;
   sector : length l.sector ≡ 512;
   calm : failures_of l.self ≡ failures_of l.initial.self;
-  counted : after_reads 8 (counts_of l.initial.self) ≡ after_reads (8 - l.i) (counts_of l.self);
+  counted : after_reads 8 (disk_counts l.initial.self) ≡ after_reads (8 - l.i) (disk_counts l.self);
   last : last_synced l.self ≡ last_synced l.initial.self;
   gives : (j : ℕ) → j < l.i → part_of l.to j ≡ sector_of l.initial.self (l.n + j);
   same : sector_of l.self ≡ sector_of l.initial.self;

@@ -1,7 +1,7 @@
 use Rattle.std.proofs.Common.{◌≡◌, ◌+◌, ⊎_elim, sym, ap, subst, ◌∙◌, arith, rules, if◌then◌else◌, replicate}
 use Rattle.std.proofs.lemmas.Bool.{cases_eq, false≢true}
 use Rattle.disk_model.specs.Sectors.{part_of}
-use Rattle.disk_model.specs.SimDisk.{Counts, sector_of, asked_of, counts_of, after_write, after_writes, left_by_write}
+use Rattle.disk_model.specs.SimDisk.{DiskCounts, sector_of, asked_of, disk_counts, after_write, after_writes, left_by_write}
 use Rattle.disk_model.proofs.Naming.{names_next}
 use Rattle.disk_model.proofs.Counts.{one_write}
 use Rattle.disk_model.proofs.sim_disk.SimDiskSectorDisk.write_page.Goals as goal
@@ -15,7 +15,7 @@ loop-i-preserved c =
     let w = c.write.ensures in
     let inv = c.loop-i.invariant in
     let i = c.loop-i.i in
-    let here : sector_of new (c.args.n + i) ≡ left_by_write (counts_of mid) (part_of c.args.from.now i) = w.leaves ∙ ap (left_by_write (counts_of mid)) (c.parts-sector-items.ensures.each i (let len = c.parts-sector-items.ensures.len in omega (arith, c.loop-i-test.true, len))) in
+    let here : sector_of new (c.args.n + i) ≡ left_by_write (disk_counts mid) (part_of c.args.from.now i) = w.leaves ∙ ap (left_by_write (disk_counts mid)) (c.parts-sector-items.ensures.each i (let len = c.parts-sector-items.ensures.len in omega (arith, c.loop-i-test.true, len))) in
     record {
       asks = names_next c.args.n i (asked_of old) (asked_of mid) (asked_of new) inv.asks w.asks;
       size = search rules;
@@ -26,17 +26,17 @@ loop-i-preserved c =
         | then-is_err at ↦ absurd (false≢true (sym calm ∙ at.failed-is))
         | else-is_err at ↦ ⊎_elim
             (λ same. subst (λ m. sector_of new (c.args.n + m) ≡ part_of c.args.from.now m) (sym same)
-            (here ∙ ap (λ fails. if fails then replicate 512 238 else part_of c.args.from.now i) (sym w.fails ∙ sym c.is_err.ensures.value ∙ at.if-is_err.false)))
-            (λ other. w.others.others (c.args.n + j) (λ e. other (omega (arith, e))) ∙ inv.written (sym at.failed-is ∙ calm) j (omega (arith, less, other)))
+            (here ∙ ap (λ fails. if fails then replicate 512 238 else part_of c.args.from.now i) (sym w.fails.failing ∙ sym c.is_err.ensures.value ∙ at.if-is_err.false)))
+            (λ other. w.changes.others.others (c.args.n + j) (λ e. other (omega (arith, e))) ∙ inv.written (sym at.failed-is ∙ calm) j (omega (arith, less, other)))
             (cases_eq j i)
       ];
       each = λ j less. ⊎_elim
-          (λ same. subst (λ m. sector_of new (c.args.n + m) ≡ left_by_write (after_writes m (counts_of old)) (part_of c.args.from.now m)) (sym same)
-          (here ∙ ap (λ (k : Counts). left_by_write k (part_of c.args.from.now i)) inv.counted))
-          (λ other. w.others.others (c.args.n + j) (λ e. other (omega (arith, e))) ∙ inv.each j (omega (arith, less, other)))
+          (λ same. subst (λ m. sector_of new (c.args.n + m) ≡ left_by_write (after_writes m (disk_counts old)) (part_of c.args.from.now m)) (sym same)
+          (here ∙ ap (λ (k : DiskCounts). left_by_write k (part_of c.args.from.now i)) inv.counted))
+          (λ other. w.changes.others.others (c.args.n + j) (λ e. other (omega (arith, e))) ∙ inv.each j (omega (arith, less, other)))
           (cases_eq j i);
-      counted = w.counted ∙ ap after_write inv.counted ∙ one_write i (counts_of old);
-      last = w.last ∙ inv.last;
+      counted = w.fails.counted ∙ ap after_write inv.counted ∙ one_write i (disk_counts old);
+      last = w.changes.last ∙ inv.last;
       others = search rules;
       unsynced = search rules;
       marked = search rules;

@@ -1,7 +1,7 @@
 use Rattle.std.proofs.Common.{◌≡◌, ◌⊎◌, ◌≤◌, ◌<◌, ◌+◌, ℕ, true, false}
 use Rattle.disk_model.specs.Stop.{IsOfPage, ChangesPage, Elapses, Names}
 use Rattle.disk_model.specs.Sectors.{part_of}
-use Rattle.disk_model.specs.SimDisk.{sectors_in, sector_of, IsUnsynced, moment_of, LeftSince, failures_of, asked_of, last_synced, counts_of, after_writes, left_by_write}
+use Rattle.disk_model.specs.SimDisk.{sectors_in, sector_of, IsUnsynced, moment_of, LeftSince, failures_of, asked_of, last_synced, disk_counts, after_writes, left_by_write}
 use Rattle.disk_model.proofs.Naming.{IsAmong}
 use Rattle.disk_model.proofs.sim_disk.SimDiskSectorDisk.write_page.Given as goal
 
@@ -13,8 +13,8 @@ invariant-loop-i l = record {
   caused : l.failed ≡ true → failures_of l.initial.self < failures_of l.self;
   calm : l.failed ≡ false → failures_of l.self ≡ failures_of l.initial.self;
   written : l.failed ≡ false → (j : ℕ) → j < l.i → sector_of l.self (l.n + j) ≡ part_of l.from j;
-  each : (j : ℕ) → j < l.i → sector_of l.self (l.n + j) ≡ left_by_write (after_writes j (counts_of l.initial.self)) (part_of l.from j);
-  counted : counts_of l.self ≡ after_writes l.i (counts_of l.initial.self);
+  each : (j : ℕ) → j < l.i → sector_of l.self (l.n + j) ≡ left_by_write (after_writes j (disk_counts l.initial.self)) (part_of l.from j);
+  counted : disk_counts l.self ≡ after_writes l.i (disk_counts l.initial.self);
   last : last_synced l.self ≡ last_synced l.initial.self;
   others : ChangesPage l.n (sector_of l.initial.self) (sector_of l.self);
   unsynced : (k : ℕ) → IsUnsynced l.self k → IsUnsynced l.initial.self k ⊎ IsOfPage l.n k;

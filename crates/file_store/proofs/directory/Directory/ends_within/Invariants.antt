@@ -1,7 +1,7 @@
 use Rattle.std.proofs.Common.{◌≡◌, ℕ, ◌<◌, ◌≤◌, get_or, Some, None}
 use Rattle.file_store.specs.declared.directory.Entry.{Entry}
-use Rattle.file_store.specs.Directory.{end_of}
+use Rattle.file_store.specs.Directory.{home_end}
 use Rattle.file_store.proofs.directory.Directory.ends_within.Given as goal
 
 abbrev pub invariant-loop-entry : goal.invariant-loop-entry
-invariant-loop-entry l = (f : ℕ) (e : Entry) → f < l.entry-index → get_or l.self.entries f None ≡ Some e → end_of e ≤ l.homes
+invariant-loop-entry l = (f : ℕ) (e : Entry) → f < l.entry-index → get_or l.self.entries f None ≡ Some e → home_end e ≤ l.homes

@@ -16,16 +16,16 @@ loop-f-preserved c =
     let f = c.loop-f.f in
     let inside : f < length entries = omega (arith, c.loop-f.invariant.size, c.loop-f-test.true) in
     let front : length (take f entries) ≡ f = length-take-le f entries (omega arith) in
-    let is : c.in_ok-entries.field-0 ≡ entry_in sector f = c.in_ok-entries.ensures.entry ∙ ap (entry_in sector) front in
+    let is : c.in_ok-entries.field-0 ≡ entry_in sector f = c.in_ok-entries.ensures.next.entry ∙ ap (entry_in sector) front in
     record {
       size = length-set entries f c.in_ok-entries.field-0 ∙ c.loop-f.invariant.size;
       fits = λ k e less there. ⊎_elim
-          (λ (same : k ≡ f). fits_in c.in_ok-entries.field-0 e c.in_ok-entries.ensures.fits
+          (λ (same : k ≡ f). fits_in c.in_ok-entries.field-0 e c.in_ok-entries.ensures.next.fits
           (sym (get_or-set_same entries f c.in_ok-entries.field-0 None inside) ∙ ap (λ n. get_or (set entries f c.in_ok-entries.field-0) n None) (sym same) ∙ there))
           (λ (other : k ≢ f). c.loop-f.invariant.fits k e (omega (arith, less, other)) (sym (get_or-set_other entries f k c.in_ok-entries.field-0 None other) ∙ there))
           (cases_eq k f);
       read = entries_more sector entries f c.in_ok-entries.field-0 inside c.loop-f.invariant.read is;
-      good = subst (λ n. AreGood c.args.homes sector (n + 1)) front c.in_ok-entries.ensures.good;
+      good = subst (λ n. AreGood c.args.homes sector (n + 1)) front c.in_ok-entries.ensures.next.good;
     }
 
 pub returns-clause-entries : goal.returns-clause-entries

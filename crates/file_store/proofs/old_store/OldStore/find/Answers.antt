@@ -1,11 +1,11 @@
-use Rattle.std.proofs.Common.{◌≡◌, ◌≤◌, ◌⊎◌, ℕ, Err, inl, inr, sym, ap, subst, ◌∙◌}
+use Rattle.std.proofs.Common.{◌≡◌, ◌≤◌, ◌⊎◌, ℕ, Err, inl, inr, sym, ap, subst, ◌∙◌, rules}
 use Rattle.disk_model.specs.Stop.{Image}
 use Rattle.disk_model.proofs.Moments.{asks_then, asks_wider}
 use Rattle.sync_journal.specs.Layout.{layout_before, IsGateOrMapIn}
-use Rattle.sync_journal.specs.OldJournal.{old_homes, StandsAt}
+use Rattle.sync_journal.specs.OldJournal.{old_homes, StandsAsListed}
 use Rattle.file_store.specs.declared.faults.OpenFault.TheVariants.{BadLayout}
 use Rattle.file_store.specs.Faults.{open_fault}
-use Rattle.file_store.specs.Standing.{IsHeadIn, IsBadLayoutIn, IsBadOldJournal, entry_at}
+use Rattle.file_store.specs.Standing.{IsHeadIn, IsBadLayoutIn, IsBadOldJournal, listed_entry}
 use Rattle.file_store.specs.Store.{entry_of}
 use Rattle.file_store.specs.Versions.{version_before, homes_of, directory_of}
 use Rattle.file_store.proofs.Causes.{journal_from, is_this, same_Err}
@@ -17,10 +17,10 @@ pub returns-in_err-directory-clause-bad_layout : goal.returns-in_err-directory-c
 returns-in_err-directory-clause-bad_layout g c = λ k is.
     let made = is_this c.from_residual.result c.in_err-directory.field-0.0 c.from_residual.ensures.1 in
     subst (λ v. IsBadLayoutIn v (g.D.SectorDisk.sector_count c.args.disk.now) (g.D.SectorDisk.content c.args.disk.now)) c.before-2.ensures
-    (c.in_err-directory.ensures.bad k (ap Err (same_Err c.in_err-directory.field-0.0 BadLayout (sym made ∙ is))))
+    (c.in_err-directory.ensures.looks.bad k (ap Err (same_Err c.in_err-directory.field-0.0 BadLayout (sym made ∙ is))))
 
 pub find-requires : goal.find-requires
-find-requires g c = subst (λ m. (layout_before c.args.journals).homes ≤ m) (sym c.read_layout.ensures.run.size)
+find-requires g c = subst (λ m. (layout_before c.args.journals).homes ≤ m) (sym c.read_layout.ensures.looks.run.size)
     (subst (λ m. m ≤ g.D.SectorDisk.sector_count c.args.disk.now) (ap homes_of c.before-2.ensures ∙ homes_before c.args.journals) c.in_ok-directory.ensures.room)
 
 pub returns-in_err-journal-clause-bad_journal : goal.returns-in_err-journal-clause-bad_journal
@@ -29,37 +29,36 @@ returns-in_err-journal-clause-bad_journal g c = λ k is.
     let layout = c.in_ok-directory.ensures in
     let made = is_this c.from_residual-in_err-journal.result (open_fault c.in_err-journal.field-0.0) c.from_residual-in_err-journal.ensures.1 in
     let fault = journal_from c.in_err-journal.field-0.0 (same_Err _ _ (sym is ∙ made)) in
-    let same = content_is g.D.SectorDisk c.args.disk.now c.read_layout.new.disk (layout.run.touches k1) in (
+    let same = content_is g.D.SectorDisk c.args.disk.now c.read_layout.new.disk (layout.looks.run.touches k1) in (
       subst (λ (image : Image). IsBadOldJournal c.args.journals (g.D.SectorDisk.sector_count c.args.disk.now) image) same
-          (subst (λ (s : ℕ). IsBadOldJournal c.args.journals s (g.D.SectorDisk.content c.read_layout.new.disk)) layout.run.size (c.in_err-journal.ensures.bad k (ap Err fault))),
+          (subst (λ (s : ℕ). IsBadOldJournal c.args.journals s (g.D.SectorDisk.content c.read_layout.new.disk)) layout.looks.run.size (c.in_err-journal.ensures.bad k (ap Err fault))),
       λ bad. layout.good k1 (subst (λ v. IsBadLayoutIn v (g.D.SectorDisk.sector_count c.args.disk.now) (g.D.SectorDisk.content c.args.disk.now)) (sym c.before-2.ensures) bad),
     )
 
 pub returns-clause-found : goal.returns-clause-found
-returns-clause-found g c = λ k.
-    let k1 = c.find.ensures.run.kept k in
+returns-clause-found g c =
+    let d = g.D.SectorDisk in
+    let old = c.args.disk.now in
+    let mid = c.read_layout.new.disk in
+    let n = d.sector_count old in
+    let content = d.content old in
     let layout = c.in_ok-directory.ensures in
-    let content = g.D.SectorDisk.content c.args.disk.now in
-    let same = content_is g.D.SectorDisk c.args.disk.now c.read_layout.new.disk (layout.run.touches k1) in
+    let before = c.before-2.ensures in
+    let kept = c.find.ensures.run.kept in
+    let same : d.keeps_model c.find.new.disk → d.content mid ≡ content = λ k. content_is d old mid (layout.looks.run.touches (kept k)) in
     record {
-      sector = layout.sector k1 ∙ ap (λ v. content (directory_of v)) c.before-2.ensures;
-      entries = λ f. layout.entries k1 f ∙ ap (λ v. entry_at v content f) c.before-2.ensures;
-      stands = subst (λ (image : Image). StandsAt (layout_before c.args.journals) (old_homes c.in_ok-journal.journal) image) same (c.in_ok-journal.ensures.found k);
+      before = search rules;
+      sound = old_sound c.args.journals c.before-2.result n (entry_of c.in_ok-directory.directory) before layout.found.sound;
+      no_kind = layout.found.no_kind;
+      found = λ k. record {
+        sector = layout.found.sector (kept k) ∙ ap (λ v. content (directory_of v)) before;
+        entries = λ f. layout.found.entries (kept k) f ∙ ap (λ v. listed_entry v content f) before;
+        stands = subst (λ (image : Image). StandsAsListed (layout_before c.args.journals) (old_homes c.in_ok-journal.journal) image) (same k) (c.in_ok-journal.ensures.found k);
+      };
+      good_layout = λ k bad. layout.good (kept k) (subst (λ v. IsBadLayoutIn v n content) (sym before) bad);
+      good_journal = λ k bad. c.in_ok-journal.ensures.good k (subst (λ (s : ℕ). IsBadOldJournal c.args.journals s (d.content mid)) (sym layout.looks.run.size)
+          (subst (λ (image : Image). IsBadOldJournal c.args.journals n image) (sym (same k)) bad));
     }
-
-pub returns-clause-sound : goal.returns-clause-sound
-returns-clause-sound g c = old_sound c.args.journals c.before-2.result (g.D.SectorDisk.sector_count c.args.disk.now) (entry_of c.in_ok-directory.directory) c.before-2.ensures c.in_ok-directory.ensures.sound
-
-pub returns-clause-good_layout : goal.returns-clause-good_layout
-returns-clause-good_layout g c = λ k bad. c.in_ok-directory.ensures.good (c.find.ensures.run.kept k)
-    (subst (λ v. IsBadLayoutIn v (g.D.SectorDisk.sector_count c.args.disk.now) (g.D.SectorDisk.content c.args.disk.now)) (sym c.before-2.ensures) bad)
-
-pub returns-clause-good_journal : goal.returns-clause-good_journal
-returns-clause-good_journal g c = λ k bad.
-    let layout = c.in_ok-directory.ensures in
-    let same = content_is g.D.SectorDisk c.args.disk.now c.read_layout.new.disk (layout.run.touches (c.find.ensures.run.kept k)) in
-    c.in_ok-journal.ensures.good k (subst (λ (s : ℕ). IsBadOldJournal c.args.journals s (g.D.SectorDisk.content c.read_layout.new.disk)) (sym layout.run.size)
-    (subst (λ (image : Image). IsBadOldJournal c.args.journals (g.D.SectorDisk.sector_count c.args.disk.now) image) (sym same) bad))
 
 pub returns-in_err-directory-clause-asks : goal.returns-in_err-directory-clause-asks
 returns-in_err-directory-clause-asks g c =

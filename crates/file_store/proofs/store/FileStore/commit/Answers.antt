@@ -1,9 +1,10 @@
 use Rattle.std.proofs.Common.{◌≡◌, ℕ, List, length, take, subst, arith, rules}
 use Rattle.std.proofs.lemmas.Result.{on_ok_weaker}
+use Rattle.disk_model.specs.Stop.{Image}
 use Rattle.disk_model.proofs.Moments.{weaker}
-use Rattle.file_store.specs.Layout.{trimmed}
-use Rattle.file_store.specs.Standing.{StandsFor, standing}
-use Rattle.file_store.specs.Store.{inside_at, files_of, PutsHomesOrNone}
+use Rattle.file_store.specs.Layout.{padded_page}
+use Rattle.file_store.specs.Standing.{StandsFor, standing, directory_entry}
+use Rattle.file_store.specs.Store.{entry_of, inside_at, files_of, PutsHomesOrNone}
 use Rattle.file_store.specs.Commit.{StandsForEither}
 use Rattle.file_store.proofs.Reading.{has_content}
 use Rattle.file_store.proofs.Homes.{entry_page}
@@ -29,144 +30,50 @@ commit-requires-clause-homes g c =
     (λ i p at. entry_page (journal_kind c.args.self.now.journal) sectors directory c.requires.ready.sound p (c.requires.pages.inside i p at)) in
     are_homes (journal_kind c.args.self.now.journal) sectors directory (files_of c.args.self.now) c.args.pages.now (take (length c.args.pages.now) c.fill_homes.new.homes) c.requires.ready.sound c.requires.pages of_list
 
-pub returns-clause-ready : goal.returns-clause-ready
-returns-clause-ready g c =
-    let sectors = g.D.SectorDisk.sector_count c.args.self.now.disk in
-    let directory = c.args.self.now.directory in
-    let long : length c.fill_homes.new.homes ≡ 1023 = c.fill_homes.ensures.long in
-    let of_list = homes_front directory c.args.pages.now c.fill_homes.new.homes (let few = c.requires.pages.few in omega (arith, few, long)) c.fill_homes.ensures.homes
-    (λ i p at. entry_page (journal_kind c.args.self.now.journal) sectors directory c.requires.ready.sound p (c.requires.pages.inside i p at)) in
-    ready_again g.D.SectorDisk c.commit.result c.args.self.now c.commit.new.disk c.commit.new.self (take (length c.args.pages.now) c.fill_homes.new.homes) c.requires.ready
-    c.commit.ensures.kind c.commit.ensures.size c.commit.ensures.kept (are_homes (journal_kind c.args.self.now.journal) sectors directory (files_of c.args.self.now) c.args.pages.now (take (length c.args.pages.now) c.fill_homes.new.homes) c.requires.ready.sound c.requires.pages of_list) c.commit.ensures.live c.commit.ensures.rest c.commit.ensures.outside
-
-pub returns-clause-asks : goal.returns-clause-asks
-returns-clause-asks g c = let a = c.commit.ensures.asks.follows.1 in search rules
-
-pub returns-clause-any_moment : goal.returns-clause-any_moment
-returns-clause-any_moment g c = λ k ks files before after left changes.
-    let ks' : g.S.PageSource.keeps_model c.commit.new.source.source.now = search rules in
-    let sectors = g.D.SectorDisk.sector_count c.args.self.now.disk in
-    let directory = c.args.self.now.directory in
+pub returns : goal.returns
+returns g c =
+    let d = g.D.SectorDisk in
+    let e = c.commit.ensures in
+    let store = c.args.self.now in
+    let kind = journal_kind store.journal in
+    let sectors = d.sector_count store.disk in
+    let directory = store.directory in
     let list = c.args.pages.now in
     let given = g.S.PageSource.pages c.args.source.now in
-    let old = g.D.SectorDisk.content c.args.self.now.disk in
+    let old = d.content store.disk in
     let homes = take (length list) c.fill_homes.new.homes in
-    let rest = c.requires.ready.at_rest (c.commit.ensures.kept k) in
+    let sound = c.requires.ready.sound in
+    let rest : d.keeps_model c.commit.new.disk → (f : ℕ) → entry_of directory f ≡ directory_entry old f = λ k. (c.requires.ready.at_rest (e.kept k)).directory in
     let long : length c.fill_homes.new.homes ≡ 1023 = c.fill_homes.ensures.long in
     let of_list = homes_front directory list c.fill_homes.new.homes (let few = c.requires.pages.few in omega (arith, few, long)) c.fill_homes.ensures.homes
-    (λ i p at. entry_page (journal_kind c.args.self.now.journal) sectors directory c.requires.ready.sound p (c.requires.pages.inside i p at)) in
-    let was = has_content g.D.SectorDisk c.args.self.now.disk (StandsFor sectors files before) left in
-    weaker g.D.SectorDisk c.args.self.now.disk c.commit.new.disk
-    (IsStoreKept sectors old (StoreStandsForEither (standing old) (changed (standing old) homes (λ i. trimmed (inside_at directory list i) (given i)))))
-    (StandsForEither sectors files before after)
-    (λ image kept. stands_either (journal_kind c.args.self.now.journal) sectors directory list homes given old image c.requires.ready.sound rest.directory of_list files before after was changes kept)
-    (c.commit.ensures.any_moment k ks')
-
-pub returns-clause-blocks : goal.returns-clause-blocks
-returns-clause-blocks g c = λ k ks files before after left changes turns is.
-    let ks' : g.S.PageSource.keeps_model c.commit.new.source.source.now = search rules in
-    let sectors = g.D.SectorDisk.sector_count c.args.self.now.disk in
-    let directory = c.args.self.now.directory in
-    let list = c.args.pages.now in
-    let given = g.S.PageSource.pages c.args.source.now in
-    let old = g.D.SectorDisk.content c.args.self.now.disk in
-    let homes = take (length list) c.fill_homes.new.homes in
-    let rest = c.requires.ready.at_rest (c.commit.ensures.kept k) in
-    let long : length c.fill_homes.new.homes ≡ 1023 = c.fill_homes.ensures.long in
-    let of_list = homes_front directory list c.fill_homes.new.homes (let few = c.requires.pages.few in omega (arith, few, long)) c.fill_homes.ensures.homes
-    (λ i p at. entry_page (journal_kind c.args.self.now.journal) sectors directory c.requires.ready.sound p (c.requires.pages.inside i p at)) in
-    let was = has_content g.D.SectorDisk c.args.self.now.disk (StandsFor sectors files before) left in
-    commits_weaker g.D.SectorDisk
-    (IsStoreKept sectors old (StoreStandsForEither (standing old) (changed (standing old) homes (λ i. trimmed (inside_at directory list i) (given i)))))
-    (StandsForEither sectors files before after)
-    (λ image kept. stands_either (journal_kind c.args.self.now.journal) sectors directory list homes given old image c.requires.ready.sound rest.directory of_list files before after was changes kept)
-    turns.second (live_homes turns.live) c.args.self.now.disk c.commit.new.disk (c.commit.ensures.blocks k ks' turns is)
-
-pub returns-clause-ok : goal.returns-clause-ok
-returns-clause-ok g c = λ k ks files before after left changes.
-    let ks' : g.S.PageSource.keeps_model c.commit.new.source.source.now = search rules in
-    let sectors = g.D.SectorDisk.sector_count c.args.self.now.disk in
-    let directory = c.args.self.now.directory in
-    let list = c.args.pages.now in
-    let given = g.S.PageSource.pages c.args.source.now in
-    let old = g.D.SectorDisk.content c.args.self.now.disk in
-    let homes = take (length list) c.fill_homes.new.homes in
-    let rest = c.requires.ready.at_rest (c.commit.ensures.kept k) in
-    let long : length c.fill_homes.new.homes ≡ 1023 = c.fill_homes.ensures.long in
-    let of_list = homes_front directory list c.fill_homes.new.homes (let few = c.requires.pages.few in omega (arith, few, long)) c.fill_homes.ensures.homes
-    (λ i p at. entry_page (journal_kind c.args.self.now.journal) sectors directory c.requires.ready.sound p (c.requires.pages.inside i p at)) in
-    let was = has_content g.D.SectorDisk c.args.self.now.disk (StandsFor sectors files before) left in
-    on_ok_weaker c.commit.result (λ settled image may. stands_changed (journal_kind c.args.self.now.journal) sectors directory list homes given old image c.requires.ready.sound rest.directory of_list
-    (settled.left image may) files before after was changes) (c.commit.ensures.ok k ks')
-
-pub returns-clause-source : goal.returns-clause-source
-returns-clause-source g c = λ k is files before left.
-    let sectors = g.D.SectorDisk.sector_count c.args.self.now.disk in
-    let old = g.D.SectorDisk.content c.args.self.now.disk in
-    let was = has_content g.D.SectorDisk c.args.self.now.disk (StandsFor sectors files before) left in
-    weaker g.D.SectorDisk c.args.self.now.disk c.commit.new.disk (IsStoreKept sectors old (StoreStandsFor (standing old))) (StandsFor sectors files before)
-    (λ image kept. stands_kept sectors old image kept files before was) (c.commit.ensures.source_moments k is)
-
-pub returns-clause-source_now : goal.returns-clause-source_now
-returns-clause-source_now g c = λ k is files before left image may.
-    let sectors = g.D.SectorDisk.sector_count c.args.self.now.disk in
-    let old = g.D.SectorDisk.content c.args.self.now.disk in
-    let was = has_content g.D.SectorDisk c.args.self.now.disk (StandsFor sectors files before) left in
-    let settled = c.commit.ensures.source k is in
-    stands_kept sectors old image (settled.left image may) files before was
-
-pub returns-clause-homes : goal.returns-clause-homes
-returns-clause-homes g c = λ k ks.
-    let ks' : g.S.PageSource.keeps_model c.commit.new.source.source.now = search rules in
-    let sectors = g.D.SectorDisk.sector_count c.args.self.now.disk in
-    let directory = c.args.self.now.directory in
-    let list = c.args.pages.now in
-    let given = g.S.PageSource.pages c.args.source.now in
-    let old = g.D.SectorDisk.content c.args.self.now.disk in
-    let homes = take (length list) c.fill_homes.new.homes in
-    let rest = c.requires.ready.at_rest (c.commit.ensures.kept k) in
-    let long : length c.fill_homes.new.homes ≡ 1023 = c.fill_homes.ensures.long in
-    let of_list = homes_front directory list c.fill_homes.new.homes (let few = c.requires.pages.few in omega (arith, few, long)) c.fill_homes.ensures.homes
-    (λ i p at. entry_page (journal_kind c.args.self.now.journal) sectors directory c.requires.ready.sound p (c.requires.pages.inside i p at)) in
-    let are = are_homes (journal_kind c.args.self.now.journal) sectors directory (files_of c.args.self.now) list homes c.requires.ready.sound c.requires.pages of_list in
-    on_ok_weaker c.commit.result (λ settled image may. homes_put (journal_kind c.args.self.now.journal) sectors directory list homes given old image c.requires.ready.sound rest.directory of_list
-    (settled.left image may) are) (c.commit.ensures.ok k ks')
-
-pub returns-clause-homes_moment : goal.returns-clause-homes_moment
-returns-clause-homes_moment g c = λ k ks.
-    let ks' : g.S.PageSource.keeps_model c.commit.new.source.source.now = search rules in
-    let sectors = g.D.SectorDisk.sector_count c.args.self.now.disk in
-    let directory = c.args.self.now.directory in
-    let list = c.args.pages.now in
-    let given = g.S.PageSource.pages c.args.source.now in
-    let old = g.D.SectorDisk.content c.args.self.now.disk in
-    let homes = take (length list) c.fill_homes.new.homes in
-    let rest = c.requires.ready.at_rest (c.commit.ensures.kept k) in
-    let long : length c.fill_homes.new.homes ≡ 1023 = c.fill_homes.ensures.long in
-    let of_list = homes_front directory list c.fill_homes.new.homes (let few = c.requires.pages.few in omega (arith, few, long)) c.fill_homes.ensures.homes
-    (λ i p at. entry_page (journal_kind c.args.self.now.journal) sectors directory c.requires.ready.sound p (c.requires.pages.inside i p at)) in
-    let are = are_homes (journal_kind c.args.self.now.journal) sectors directory (files_of c.args.self.now) list homes c.requires.ready.sound c.requires.pages of_list in
-    weaker g.D.SectorDisk c.args.self.now.disk c.commit.new.disk
-    (IsStoreKept sectors old (StoreStandsForEither (standing old) (changed (standing old) homes (λ i. trimmed (inside_at directory list i) (given i)))))
-    (PutsHomesOrNone sectors directory list given old)
-    (λ image kept. homes_either (journal_kind c.args.self.now.journal) sectors directory list homes given old image c.requires.ready.sound rest.directory of_list are kept)
-    (c.commit.ensures.any_moment k ks')
-
-pub returns-clause-source_homes : goal.returns-clause-source_homes
-returns-clause-source_homes g c = λ k is. (c.commit.ensures.source k is).left
-
-pub returns-clause-once : goal.returns-clause-once
-returns-clause-once g c =
-    let sectors = g.D.SectorDisk.sector_count c.args.self.now.disk in
-    let directory = c.args.self.now.directory in
-    let list = c.args.pages.now in
-    let long : length c.fill_homes.new.homes ≡ 1023 = c.fill_homes.ensures.long in
-    let of_list = homes_front directory list c.fill_homes.new.homes (let few = c.requires.pages.few in omega (arith, few, long)) c.fill_homes.ensures.homes
-    (λ i p at. entry_page (journal_kind c.args.self.now.journal) sectors directory c.requires.ready.sound p (c.requires.pages.inside i p at)) in
-    subst (λ (homes : List ℕ). AsksEachOnce g.D.SectorDisk c.args.self.now.journal homes c.args.self.now.disk c.commit.new.disk)
-    (homes_mapped directory list (take (length list) c.fill_homes.new.homes) of_list) c.commit.ensures.once
-
-pub returns-clause-ready_after_source : goal.returns-clause-ready_after_source
-returns-clause-ready_after_source g c = λ is.
-    ready_with g.D.SectorDisk c.args.self.now c.commit.new.disk c.commit.new.self c.requires.ready c.commit.ensures.kind c.commit.ensures.size c.commit.ensures.kept
-    (c.commit.ensures.source_live is) (λ k. (c.commit.ensures.source k is).rest) (λ k. (c.commit.ensures.source k is).outside)
+    (λ i p at. entry_page kind sectors directory sound p (c.requires.pages.inside i p at)) in
+    let are = are_homes kind sectors directory (files_of store) list homes sound c.requires.pages of_list in
+    let Either : Image → Type 0 = IsStoreKept sectors old (StoreStandsForEither (standing old) (changed (standing old) homes (λ i. padded_page (inside_at directory list i) (given i)))) in
+    record {
+      ok = λ k ks files before after left changes. on_ok_weaker c.commit.result (λ settled image may. stands_changed kind sectors directory list homes given old image sound (rest k) of_list
+          (settled.left image may) files before after (has_content d store.disk (StandsFor sectors files before) left) changes) (e.ok k (let ks' : g.S.PageSource.keeps_model c.commit.new.source.source.now = search rules in ks'));
+      synced = search rules;
+      ready = ready_again d c.commit.result store c.commit.new.disk c.commit.new.self homes c.requires.ready e.kind e.size e.kept are e.live e.rest e.outside;
+      any_moment = λ k ks files before after left changes. weaker d store.disk c.commit.new.disk Either (StandsForEither sectors files before after)
+          (λ image kept. stands_either kind sectors directory list homes given old image sound (rest k) of_list files before after (has_content d store.disk (StandsFor sectors files before) left) changes kept)
+          (e.any_moment k (let ks' : g.S.PageSource.keeps_model c.commit.new.source.source.now = search rules in ks'));
+      blocks = λ k ks files before after left changes turns is. commits_weaker d Either (StandsForEither sectors files before after)
+          (λ image kept. stands_either kind sectors directory list homes given old image sound (rest k) of_list files before after (has_content d store.disk (StandsFor sectors files before) left) changes kept)
+          turns.second (live_homes turns.live) store.disk c.commit.new.disk (e.blocks k (let ks' : g.S.PageSource.keeps_model c.commit.new.source.source.now = search rules in ks') turns is);
+      homes = λ k ks. on_ok_weaker c.commit.result (λ settled image may. homes_put kind sectors directory list homes given old image sound (rest k) of_list (settled.left image may) are) (e.ok k (let ks' : g.S.PageSource.keeps_model c.commit.new.source.source.now = search rules in ks'));
+      homes_moment = λ k ks. weaker d store.disk c.commit.new.disk Either (PutsHomesOrNone sectors directory list given old)
+          (λ image kept. homes_either kind sectors directory list homes given old image sound (rest k) of_list are kept) (e.any_moment k (let ks' : g.S.PageSource.keeps_model c.commit.new.source.source.now = search rules in ks'));
+      source_homes = λ k is. (e.source k is).left;
+      source = λ k is files before left. weaker d store.disk c.commit.new.disk (IsStoreKept sectors old (StoreStandsFor (standing old))) (StandsFor sectors files before)
+          (λ image kept. stands_kept sectors old image kept files before (has_content d store.disk (StandsFor sectors files before) left)) (e.source_moments k is);
+      source_now = λ k is files before left image may. stands_kept sectors old image ((e.source k is).left image may) files before (has_content d store.disk (StandsFor sectors files before) left);
+      ready_after_source = λ is. ready_with d store c.commit.new.disk c.commit.new.self c.requires.ready e.kind e.size e.kept (e.source_live is) (λ k. (e.source k is).rest) (λ k. (e.source k is).outside);
+      files = search rules;
+      size = search rules;
+      kept = search rules;
+      asks = let a = e.asks.follows.1 in search rules;
+      asks_device = search rules;
+      once = subst (λ (homes : List ℕ). AsksEachOnce d store.journal homes store.disk c.commit.new.disk) (homes_mapped directory list homes of_list) e.once;
+      touches = search rules;
+      causes = search rules;
+    }

@@ -1,4 +1,4 @@
-use Rattle.std.proofs.Common.{◌<◌, sym, ap, subst, ◌∙◌}
+use Rattle.std.proofs.Common.{◌<◌, sym, ap, subst, ◌∙◌, rules}
 use Rattle.sync_journal.specs.Kinds.{journal_kind, kind_home_count}
 use Rattle.file_store.specs.Standing.{standing}
 use Rattle.file_store.specs.Store.{entry_of}
@@ -20,19 +20,36 @@ read-requires-clause-home g c =
     subst (λ h. h < kind_home_count kind sectors) (sym (c.home_of.ensures ∙ home_of-entry directory c.args.page at.entry at.is))
     (home_inside kind sectors directory c.requires.ready.sound c.args.page at)
 
-pub returns-clause-page : goal.returns-clause-page
-returns-clause-page g c = λ k.
-    let image = g.D.SectorDisk.content c.args.self.now.disk in
-    let directory = c.args.self.now.directory in
-    let rest = c.requires.ready.at_rest (c.in_ok-read.ensures.kept k) in
-    let in_directory = ap (entry_of directory) (sym c.from.ensures) ∙ sym c.entry.ensures.entry ∙ c.in-Some.is in
-    let home = c.home_of.ensures ∙ home_of-entry directory c.args.page c.in-Some.entry in_directory in
-    page_read image c.args.page.file c.args.page.page c.in-Some.entry c.bytes_inside.result c.read.new.to c.trim.new.page
-    (sym (rest.directory c.args.page.file) ∙ in_directory) c.bytes_inside.ensures.inside
-    (c.in_ok-read.ensures.page k ∙ ap (λ h. joined (standing image h) 8) home) c.trim.ensures
+pub returns-in_err-read : goal.returns-in_err-read
+returns-in_err-read g c = record {
+  page = search rules;
+  ready = search rules;
+  files = search rules;
+  journal = search rules;
+  size = search rules;
+  kept = search rules;
+  touches = search rules;
+  asks = page_asks g.D.SectorDisk c.args.self.now c.args.page c.home_of.result c.read.new.disk c.home_of.ensures c.read.ensures.asks;
+  cause = search rules;
+}
 
-pub returns-in_err-read-clause-asks : goal.returns-in_err-read-clause-asks
-returns-in_err-read-clause-asks g c = page_asks g.D.SectorDisk c.args.self.now c.args.page c.home_of.result c.read.new.disk c.home_of.ensures c.read.ensures.asks
-
-pub returns-clause-asks : goal.returns-clause-asks
-returns-clause-asks g c = page_asks g.D.SectorDisk c.args.self.now c.args.page c.home_of.result c.read.new.disk c.home_of.ensures c.read.ensures.asks
+pub returns : goal.returns
+returns g c = record {
+  page = λ k.
+      let image = g.D.SectorDisk.content c.args.self.now.disk in
+      let directory = c.args.self.now.directory in
+      let rest = c.requires.ready.at_rest (c.in_ok-read.ensures.kept k) in
+      let in_directory = ap (entry_of directory) (sym c.from.ensures) ∙ sym c.entry.ensures.entry ∙ c.in-Some.is in
+      let home = c.home_of.ensures ∙ home_of-entry directory c.args.page c.in-Some.entry in_directory in
+      page_read image c.args.page.file c.args.page.page c.in-Some.entry c.bytes_inside.result c.read.new.to c.trim.new.page
+      (sym (rest.directory c.args.page.file) ∙ in_directory) c.bytes_inside.ensures.inside
+      (c.in_ok-read.ensures.page k ∙ ap (λ h. joined (standing image h) 8) home) c.trim.ensures;
+  ready = search rules;
+  files = search rules;
+  journal = search rules;
+  size = search rules;
+  kept = search rules;
+  touches = search rules;
+  asks = page_asks g.D.SectorDisk c.args.self.now c.args.page c.home_of.result c.read.new.disk c.home_of.ensures c.read.ensures.asks;
+  cause = search rules;
+}

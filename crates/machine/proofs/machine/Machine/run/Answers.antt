@@ -1,4 +1,4 @@
-use Rattle.std.proofs.Common.{◌≡◌, ◌+◌, ◌++◌, ◌∷◌, [], ◌<◌, List, length, take, set, sym, ◌∙◌, ap, subst, arith, length-set, take_all}
+use Rattle.std.proofs.Common.{◌≡◌, ◌+◌, ◌++◌, ◌∷◌, [], ◌<◌, List, length, take, set, refl, sym, ◌∙◌, ap, subst, arith, length-set, take_all}
 use Rattle.std.proofs.lemmas.List.{take_more, take_more_set}
 use Rattle.vm_types.specs.declared.command.Command.{Command}
 use Rattle.vm_types.specs.declared.reply.Reply.{Reply}
@@ -8,6 +8,15 @@ use Rattle.machine.proofs.Counts.{counts}
 use Rattle.machine.proofs.Face.{readable}
 use Rattle.machine.proofs.Runs.{all_ran, caused_more, ran_more, room_then, RanSoFar}
 use Rattle.machine.proofs.machine.Machine.run.Goals as goal
+
+pub loop-i-init : goal.loop-i-init
+loop-i-init g c = record {
+  sound = c.requires.sound;
+  lengths = c.requires.lengths;
+  keeps = record { kept = λ k. k; swap_kept = λ k. k; room = record { frames = refl; slots = refl; mode = refl } };
+  caused = refl;
+  ran = λ s shows keeps swap_keeps. record { last = s; events = []; chain = (refl, refl); shows = shows };
+}
 
 pub loop-i-preserved : goal.loop-i-preserved
 loop-i-preserved g c =

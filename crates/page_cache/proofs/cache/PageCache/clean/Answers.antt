@@ -1,5 +1,5 @@
 use Rattle.std.proofs.Common.{Some, None, sym, ◌∙◌}
-use Rattle.page_cache.specs.Inside.{table_of}
+use Rattle.page_cache.specs.Inside.{cache_table_of}
 use Rattle.page_cache.proofs.SetLemmas.{members-at}
 use Rattle.page_cache.proofs.TableLemmas.{is_touched-first}
 use Rattle.page_cache.proofs.Changes.{SameButFor-marked, place_of-marked}
@@ -8,7 +8,7 @@ use Rattle.page_cache.proofs.cache.PageCache.clean.Goals as goal
 pub returns-in-Some-clause-untouched : goal.returns-in-Some-clause-untouched
 returns-in-Some-clause-untouched c =
     let touched = c.remove.new.self in
-    is_touched-first (table_of (record { frames = c.self.inside.frames; index = c.self.inside.index; touched = touched })) c.args.page (Some c.in-Some.node)
+    is_touched-first (cache_table_of (record { frames = c.self.inside.frames; index = c.self.inside.index; touched = touched })) c.args.page (Some c.in-Some.node)
     (sym c.in-Some.ensures.first) ∙ members-at touched.ranks.items touched.count c.in-Some.node ∙ c.remove.ensures.no_member
 
 pub returns-in-Some-clause-placed : goal.returns-in-Some-clause-placed
@@ -20,4 +20,4 @@ returns-in-Some-clause-others c =
 
 pub returns-in_default-clause-untouched : goal.returns-in_default-clause-untouched
 returns-in_default-clause-untouched c =
-    rw (← c.self.view_is) (is_touched-first (table_of c.self.inside) c.args.page None (sym c.in_default.ensures.first))
+    rw (← c.self.view_is) (is_touched-first (cache_table_of c.self.inside) c.args.page None (sym c.in_default.ensures.first))

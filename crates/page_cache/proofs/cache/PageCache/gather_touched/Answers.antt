@@ -3,7 +3,7 @@ use Rattle.std.proofs.lemmas.Bool.{iff_false}
 use Rattle.vm_types.specs.declared.file.FilePage.{FilePage}
 use Rattle.vm_types.specs.declared.object.PageKey.TheVariants.{File}
 use Rattle.page_cache.specs.Nodes.{page_at}
-use Rattle.page_cache.specs.Inside.{table_of}
+use Rattle.page_cache.specs.Inside.{cache_table_of}
 use Rattle.page_cache.proofs.NodeLemmas.{none≢some}
 use Rattle.page_cache.proofs.TableLemmas.{some-same}
 use Rattle.page_cache.specs.Gathering.{filed}
@@ -25,7 +25,7 @@ returns-in_err-n-clause-too_many c =
     let below : c.loop-place.place < set.count = omega (arith, c.len-place-end.ensures) in
     let touched = place_touched cache.frames pages order set.ranks.items set.count c.self.invariant.one c.self.invariant.ordered c.loop-place.place c.in-Some.page below held in
     let unseen = place_unseen cache.frames pages order set.ranks.items set.count c.self.invariant.one c.self.invariant.ordered c.loop-place.place c.in-Some.page below held in
-    on_err c.from_residual.result _ (rw (← c.self.view_is, c.in_err-n.ensures.err) (Overflows-full (table_of cache) c.args.file c.args.first c.args.count c.args.used
+    on_err c.from_residual.result _ (rw (← c.self.view_is, c.in_err-n.ensures.err) (Overflows-full (cache_table_of cache) c.args.file c.args.first c.args.count c.args.used
     (IsAtPlace pages order c.loop-place.place) c.args.list.now c.loop-place.list c.loop-place.n c.in-Some.page c.loop-place.invariant
     (record { row = (c.is_in_row.ensures).0 c.if-is_in_row.true; touched = touched }) unseen c.in_err-n.ensures.fresh c.in_err-n.ensures.full))
 
@@ -42,7 +42,7 @@ loop-place-preserved c =
     let more = λ (p : FilePage). place_more cache.frames pages order set.ranks.items set.count c.self.invariant.one c.self.invariant.ordered place c.page.result p there in
     elim c.match-filed.branch [
       | in-Some+then-is_in_row+in_ok-n w ↦ (let held : page_at pages (get_or order place 0) ≡ Some (File w.in-Some.page) = sym there ∙ filed-some c.page.result w.in-Some.page (sym c.filed.ensures ∙ w.in-Some.is) in
-          rw (w.list-is, w.n-is) (IsPart-pushed (table_of cache) c.args.file c.args.first c.args.count c.args.used (IsAtPlace pages order place) (IsAtPlace pages order (place + 1))
+          rw (w.list-is, w.n-is) (IsPart-pushed (cache_table_of cache) c.args.file c.args.first c.args.count c.args.used (IsAtPlace pages order place) (IsAtPlace pages order (place + 1))
           c.args.list.now c.loop-place.list w.push_fresh.new.list c.loop-place.n w.in_ok-n.n w.in-Some.page c.loop-place.invariant wider (place, omega arith, held)
           (λ p in_row now. elim (more p now) [ inl seen ↦ inl seen | inr e ↦ inr (sym (some-same w.in-Some.page p (sym w.in-Some.is ∙ c.filed.ensures ∙ ap filed e))) ])
           (record {
@@ -51,13 +51,13 @@ loop-place-preserved c =
           })
           (place_unseen cache.frames pages order set.ranks.items set.count c.self.invariant.one c.self.invariant.ordered place w.in-Some.page below held)
           w.in_ok-n.ensures.pushed))
-      | in-Some+else-is_in_row w ↦ rw (w.list-is, w.n-is) (IsPart-skip (table_of cache) c.args.file c.args.first c.args.count c.args.used
+      | in-Some+else-is_in_row w ↦ rw (w.list-is, w.n-is) (IsPart-skip (cache_table_of cache) c.args.file c.args.first c.args.count c.args.used
           (IsAtPlace pages order place) (IsAtPlace pages order (place + 1)) c.args.list.now c.loop-place.list c.loop-place.n c.loop-place.invariant wider
           (λ p in_row now. elim (more p now) [
             | inl seen ↦ inl seen
             | inr e ↦ absurd (iff_false w.is_in_row.ensures w.if-is_in_row.false (rw (some-same w.in-Some.page p (sym w.in-Some.is ∙ c.filed.ensures ∙ ap filed e)) in_row.row))
           ]))
-      | in_default w ↦ rw (w.list-is, w.n-is) (IsPart-skip (table_of cache) c.args.file c.args.first c.args.count c.args.used
+      | in_default w ↦ rw (w.list-is, w.n-is) (IsPart-skip (cache_table_of cache) c.args.file c.args.first c.args.count c.args.used
           (IsAtPlace pages order place) (IsAtPlace pages order (place + 1)) c.args.list.now c.loop-place.list c.loop-place.n c.loop-place.invariant wider
           (λ p in_row now. elim (more p now) [ inl seen ↦ inl seen | inr e ↦ absurd (none≢some p (sym w.in_default.is ∙ c.filed.ensures ∙ ap filed e)) ]))
     ]

@@ -1,5 +1,5 @@
 use Rattle.std.proofs.Common.{None, Some, sym, ◌∙◌, arith}
-use Rattle.page_cache.specs.Inside.{table_of}
+use Rattle.page_cache.specs.Inside.{cache_table_of}
 use Rattle.page_cache.proofs.NodeLemmas.{page_at-within}
 use Rattle.page_cache.proofs.SetLemmas.{members-at}
 use Rattle.page_cache.proofs.TableLemmas.{is_touched-first}
@@ -13,8 +13,8 @@ contains-requires c =
 pub returns-in-Some : goal.returns-in-Some
 returns-in-Some c =
     let set = c.self.inside.touched in
-    rw (← c.self.view_is) (sym (is_touched-first (table_of c.self.inside) c.args.page (Some c.in-Some.node) (sym c.in-Some.ensures.first)
+    rw (← c.self.view_is) (sym (is_touched-first (cache_table_of c.self.inside) c.args.page (Some c.in-Some.node) (sym c.in-Some.ensures.first)
     ∙ members-at set.ranks.items set.count c.in-Some.node ∙ sym c.contains.ensures))
 
 pub returns-in-None : goal.returns-in-None
-returns-in-None c = rw (← c.self.view_is) (sym (is_touched-first (table_of c.self.inside) c.args.page None (sym c.in-None.ensures.first)))
+returns-in-None c = rw (← c.self.view_is) (sym (is_touched-first (cache_table_of c.self.inside) c.args.page None (sym c.in-None.ensures.first)))

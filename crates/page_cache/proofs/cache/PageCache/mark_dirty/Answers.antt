@@ -1,5 +1,5 @@
 use Rattle.std.proofs.Common.{Some, None, sym, ◌∙◌}
-use Rattle.page_cache.specs.Inside.{table_of}
+use Rattle.page_cache.specs.Inside.{cache_table_of}
 use Rattle.page_cache.proofs.SetLemmas.{members-at}
 use Rattle.page_cache.proofs.TableLemmas.{is_touched-first, place_of-first}
 use Rattle.page_cache.proofs.Changes.{SameButFor-marked, place_of-marked}
@@ -8,7 +8,7 @@ use Rattle.page_cache.proofs.cache.PageCache.mark_dirty.Goals as goal
 pub returns-in-Some-clause-touched : goal.returns-in-Some-clause-touched
 returns-in-Some-clause-touched c =
     let touched = c.insert.new.self in
-    is_touched-first (table_of (record { frames = c.self.inside.frames; index = c.self.inside.index; touched = touched })) c.args.page (Some c.in-Some.node)
+    is_touched-first (cache_table_of (record { frames = c.self.inside.frames; index = c.self.inside.index; touched = touched })) c.args.page (Some c.in-Some.node)
     (sym c.in-Some.ensures.first) ∙ members-at touched.ranks.items touched.count c.in-Some.node ∙ c.insert.ensures.member
 
 pub returns-in-Some-clause-placed : goal.returns-in-Some-clause-placed
@@ -21,4 +21,4 @@ returns-in-Some-clause-others c =
 pub returns-in_default-clause-touched : goal.returns-in_default-clause-touched
 returns-in_default-clause-touched c =
     let away = rw (← c.self.view_is) at c.requires in
-    absurd (away (place_of-first (table_of c.self.inside) c.args.page None (sym c.in_default.ensures.first)))
+    absurd (away (place_of-first (cache_table_of c.self.inside) c.args.page None (sym c.in_default.ensures.first)))

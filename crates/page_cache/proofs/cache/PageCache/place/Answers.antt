@@ -1,5 +1,5 @@
 use Rattle.std.proofs.Common.{None, Some, sym, ◌∙◌, arith}
-use Rattle.page_cache.specs.Inside.{table_of}
+use Rattle.page_cache.specs.Inside.{cache_table_of}
 use Rattle.page_cache.proofs.NodeLemmas.{page_at-within}
 use Rattle.page_cache.proofs.TableLemmas.{place_of-first, place_in-frame, place_in-slot}
 use Rattle.page_cache.proofs.cache.PageCache.place.Goals as goal
@@ -11,13 +11,13 @@ overflow_cast-result-in-Some-2 c =
 
 pub returns-in-Some : goal.returns-in-Some
 returns-in-Some c =
-    rw (← c.self.view_is) (sym (place_of-first (table_of c.self.inside) c.args.page (Some c.in-Some.node) (sym c.in-Some.ensures.first)
+    rw (← c.self.view_is) (sym (place_of-first (cache_table_of c.self.inside) c.args.page (Some c.in-Some.node) (sym c.in-Some.ensures.first)
     ∙ place_in-frame c.self.inside.frames c.in-Some.node (omega arith)))
 
 pub returns-in-Some-2 : goal.returns-in-Some-2
 returns-in-Some-2 c =
-    rw (← c.self.view_is) (sym (place_of-first (table_of c.self.inside) c.args.page (Some c.in-Some.node) (sym c.in-Some.ensures.first)
+    rw (← c.self.view_is) (sym (place_of-first (cache_table_of c.self.inside) c.args.page (Some c.in-Some.node) (sym c.in-Some.ensures.first)
     ∙ place_in-slot c.self.inside.frames c.in-Some.node (omega arith)))
 
 pub returns-in-None : goal.returns-in-None
-returns-in-None c = rw (← c.self.view_is) (sym (place_of-first (table_of c.self.inside) c.args.page None (sym c.in-None.ensures.first)))
+returns-in-None c = rw (← c.self.view_is) (sym (place_of-first (cache_table_of c.self.inside) c.args.page None (sym c.in-None.ensures.first)))

@@ -1,5 +1,5 @@
 use Rattle.vm_types.proofs.Modes.{user_pages_fit}
-use Rattle.std.proofs.Common.{◌≡◌, ◌≢◌, inl, inr, refl, sym, ap, ◌∙◌, subst, arith}
+use Rattle.std.proofs.Common.{◌≡◌, ◌≢◌, inl, inr, refl, sym, ap, ◌∙◌, subst, arith, rules}
 use Rattle.vm_types.specs.declared.object.PageKey.TheVariants.{Object}
 use Rattle.frames.specs.declared.role.Role.TheVariants.{Zero, Private, Cache}
 use Rattle.frames.specs.FrameTable.{FrameTable, IsHeld, SameButFor, role_of}
@@ -34,8 +34,8 @@ release-requires g c =
     subst (λ (t : FrameTable). IsHeld t c.args.frame.0) (sym c.forget_pages.ensures.same)
     (record { inside = inside_of c.args.self.now.frames c.args.frame.0 c.args.self.now.sound (ap is_data cache); handed_out = rw cache refl })
 
-pub returns-clause-fit : goal.returns-clause-fit
-returns-clause-fit g c =
+pub returns : goal.returns
+returns g c =
     let old : Picture g.M.Levels.mode = picture_of c.args.self.now in
     let mid : Picture g.M.Levels.mode = record old { place = place_of c.clean.new.self; touched = is_touched c.clean.new.self } in
     let new : Picture g.M.Levels.mode = record old { frames = c.release.new.self; place = place_of c.set_place.new.self; touched = is_touched c.set_place.new.self } in
@@ -71,43 +71,4 @@ returns-clause-fit g c =
       ];
       files = λ f. refl;
     } in
-    fit_forgotten old mid new c.args.page n c.requires.fit c.requires.bare c.requires.placed (omega (arith, nonzero)) u leaves
-
-pub returns-clause-forgets : goal.returns-clause-forgets
-returns-clause-forgets g c =
-    let old : Picture g.M.Levels.mode = picture_of c.args.self.now in
-    let mid : Picture g.M.Levels.mode = record old { place = place_of c.clean.new.self; touched = is_touched c.clean.new.self } in
-    let new : Picture g.M.Levels.mode = record old { frames = c.release.new.self; place = place_of c.set_place.new.self; touched = is_touched c.set_place.new.self } in
-    let key = Object c.args.page in
-    let n = c.args.frame.0 in
-    let cache = c.requires.fit.places.cached key n c.requires.placed in
-    let nonzero : n ≢ 0 = λ zero. (let bad : Zero ≡ Cache = sym c.args.self.now.sound.zero_role ∙ ap (role_of c.args.self.now.frames) (sym zero) ∙ cache in (cc)) in
-    let u : Untouches old mid key = record {
-      frames = refl;
-      slots = refl;
-      root = λ pid. refl;
-      at = λ pid k. refl;
-      page_of = λ m. refl;
-      files = λ f. refl;
-      place = all_placed c.args.self.now.cache c.clean.new.self key c.clean.ensures.others c.clean.ensures.placed;
-      now = c.clean.ensures.untouched;
-      others = c.clean.ensures.others.touched;
-    } in
-    let leaves : Leaves mid new key n Home = record {
-      was = c.clean.ensures.placed ∙ c.requires.placed;
-      above = nonzero;
-      placed = c.set_place.ensures.placed;
-      others = c.set_place.ensures.others.places;
-      frames = subst (λ (t : FrameTable). SameButFor n t c.release.new.self) c.forget_pages.ensures.same c.release.ensures.change.others;
-      free = c.release.ensures.alone (λ own. (let bad : Private ≡ Cache = sym own ∙ ap (λ (t : FrameTable). role_of t n) c.forget_pages.ensures.same ∙ cache in (cc)));
-      slots = refl;
-      root = λ pid. refl;
-      at_same = λ pid k. refl;
-      page_of = λ m. refl;
-      touched = λ q. elim (cases_page q key) [
-        | inl e ↦ ap new.touched e ∙ c.set_place.ensures.touched ∙ ap mid.touched (sym e)
-        | inr ne ↦ c.set_place.ensures.others.touched q ne
-      ];
-      files = λ f. refl;
-    } in
-    forgets_framed old mid new c.args.page n c.requires.fit c.requires.bare c.requires.placed (omega (arith, nonzero)) u leaves
+    record { forgets = forgets_framed old mid new c.args.page n c.requires.fit c.requires.bare c.requires.placed (omega (arith, nonzero)) u leaves; fit = fit_forgotten old mid new c.args.page n c.requires.fit c.requires.bare c.requires.placed (omega (arith, nonzero)) u leaves; rest = search rules }

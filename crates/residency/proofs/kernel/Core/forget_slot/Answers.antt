@@ -1,4 +1,4 @@
-use Rattle.std.proofs.Common.{refl, ◌∙◌, arith}
+use Rattle.std.proofs.Common.{refl, ◌∙◌, arith, rules}
 use Rattle.vm_types.specs.declared.object.PageKey.TheVariants.{Object}
 use Rattle.swap.specs.Slots.{slots_of}
 use Rattle.page_cache.specs.CacheTable.{place_of, is_touched}
@@ -10,8 +10,8 @@ use Rattle.residency.proofs.kernel.Core.forget_slot.Goals as goal
 pub release-requires : goal.release-requires
 release-requires g c = (let one = c.requires.fit.places.slotted (Object c.args.page) c.args.slot.0 c.requires.placed in omega (arith, one))
 
-pub returns-clause-fit : goal.returns-clause-fit
-returns-clause-fit g c =
+pub returns : goal.returns
+returns g c =
     let old : Picture g.M.Levels.mode = picture_of c.args.self.now in
     let new : Picture g.M.Levels.mode = record old { slots = slots_of c.release.new.self; place = place_of c.set_place.new.self; touched = is_touched c.set_place.new.self } in
     let homes : Homes old new (Object c.args.page) c.args.slot.0 = record {
@@ -27,23 +27,4 @@ returns-clause-fit g c =
       now = c.set_place.ensures.touched ∙ c.clean.ensures.untouched;
       rest = λ p ne. c.set_place.ensures.others.touched p ne ∙ c.clean.ensures.others.touched p ne;
     } in
-    fit_forgotten_slot old new c.args.page c.args.slot.0 c.requires.fit homes
-
-pub returns-clause-forgets : goal.returns-clause-forgets
-returns-clause-forgets g c =
-    let old : Picture g.M.Levels.mode = picture_of c.args.self.now in
-    let new : Picture g.M.Levels.mode = record old { slots = slots_of c.release.new.self; place = place_of c.set_place.new.self; touched = is_touched c.set_place.new.self } in
-    let homes : Homes old new (Object c.args.page) c.args.slot.0 = record {
-      was = c.requires.placed;
-      frames = refl;
-      slots = c.release.ensures.releases;
-      root = λ p. refl;
-      at = λ p k. refl;
-      page_of = λ m. refl;
-      files = λ f. refl;
-      placed = c.set_place.ensures.placed;
-      others = λ p ne. c.set_place.ensures.others.places p ne ∙ c.clean.ensures.others.places p ne;
-      now = c.set_place.ensures.touched ∙ c.clean.ensures.untouched;
-      rest = λ p ne. c.set_place.ensures.others.touched p ne ∙ c.clean.ensures.others.touched p ne;
-    } in
-    forgets_slotted old new c.args.page c.args.slot.0 c.requires.fit homes
+    record { forgets = forgets_slotted old new c.args.page c.args.slot.0 c.requires.fit homes; fit = fit_forgotten_slot old new c.args.page c.args.slot.0 c.requires.fit homes; rest = search rules }

@@ -1,49 +1,54 @@
-use Rattle.std.proofs.Common.{◌≡◌, sym, ◌<◌, length, refl, ◌∙◌, arith, get_or-set_same, get_or-set_other, ℕ}
+use Rattle.std.proofs.Common.{◌≡◌, sym, ◌<◌, length, refl, ◌∙◌, arith, get_or-set_same, get_or-set_other, ℕ, rules}
 use Rattle.frames.specs.declared.role.Role.TheVariants.{Table, Private}
 use Rattle.residency.specs.Picture.{picture_of}
 use Rattle.residency.specs.Ages.{WantsFrame}
-use Rattle.residency.proofs.Asking.{needed_of, asked_taken, gives_taken, wants_tried}
-use Rattle.residency.proofs.Giving.{on_err_same, frame_taken}
+use Rattle.residency.proofs.Asking.{needed_of, wants_tried}
+use Rattle.residency.proofs.Giving.{on_err_same}
+use Rattle.residency.proofs.Obtained.{given, given_on, seeks_on, seeks_stall}
 use Rattle.residency.proofs.kernel.Core.take_own.Goals as goal
 
-pub returns-clause-taken : goal.returns-clause-taken
-returns-clause-taken g c =
-    let n = c.in-Ok.own.0 in
+pub returns : goal.returns
+returns g c =
+    let own = c.in-Ok.own in
     let items = c.obtain.new.core.page_of.items in
+    let got = c.in_ok-obtain.ensures in
     let takes = c.in-Ok.ensures.taken in
-    let needed = needed_of c.args.self.now c.obtain.new.core c.obtain.ensures.needed in
-    let there : n < length items = (let pages = c.obtain.new.core.page_count in let low = takes.inside in omega (arith, pages, low)) in
+    let there : own.0 < length items = (let pages = c.obtain.new.core.page_count in let low = takes.inside in omega (arith, pages, low)) in
     record {
-      found = picture_of c.obtain.new.core;
-      fit = c.obtain.ensures.fit;
-      frees = c.obtain.ensures.frees;
-      gives = frame_taken (picture_of c.args.self.now) (picture_of c.obtain.new.core) c.args.keep c.in_ok-obtain.field-0.0 n c.obtain.ensures.frees c.in_ok-obtain.ensures.gives needed takes.inside takes.was_free;
-      needed = needed;
-      own = record {
-        slots = refl;
-        takes = takes;
-        noted = get_or-set_same items n c.get.result 0 there ∙ c.get.ensures.number;
-        others = λ k ne. get_or-set_other items n k c.get.result 0 ne;
-        root = λ q. refl;
-        at = λ q k. refl;
-        place = λ p. refl;
-        touched = λ p. refl;
-        files = λ f. refl;
+      taken = record {
+        found = picture_of c.obtain.new.core;
+        fit = got.fit;
+        frees = got.frees;
+        gives = given got own takes.inside takes.was_free;
+        needed = needed_of c.args.self.now c.obtain.new.core got.needed;
+        own = record {
+          slots = refl;
+          takes = takes;
+          noted = get_or-set_same items own.0 c.get.result 0 there ∙ c.get.ensures.number;
+          others = λ k ne. get_or-set_other items own.0 k c.get.result 0 ne;
+          root = λ q. refl;
+          at = λ q k. refl;
+          place = λ p. refl;
+          touched = λ p. refl;
+          files = λ f. refl;
+        };
       };
+      seeks = seeks_on got own takes.inside takes.was_free _ refl refl (record { store = refl; roots = refl; regions = refl })
+          (given_on got own takes.inside takes.was_free _ takes.others (λ t. (let bad : Private ≡ Table = sym takes.kind_set ∙ t in (cc))) (λ pid. refl));
+      fit = tt;
+      frees = tt;
+      tried = tt;
     }
 
-pub returns-clause-asked : goal.returns-clause-asked
-returns-clause-asked g c =
-    let takes = c.in-Ok.ensures.taken in
-    let found = picture_of c.obtain.new.core in
-    asked_taken g.E.SectorDisk c.args.self.now c.obtain.new.core _ c.args.keep c.in-Ok.own.0 c.obtain.ensures.needed c.obtain.ensures.frees takes.inside takes.was_free refl
-    (gives_taken (picture_of c.args.self.now) found _ c.in-Ok.own.0 c.obtain.ensures.fit takes.others takes.was_free (λ t. (let bad : Private ≡ Table = sym takes.kind_set ∙ t in (cc))) (λ pid. refl))
-    c.obtain.ensures.asked
-
-pub returns-clause-one : goal.returns-clause-one
-returns-clause-one g c = c.in_ok-obtain.ensures.one
-
-pub returns-in_err-obtain-clause-tried : goal.returns-in_err-obtain-clause-tried
-returns-in_err-obtain-clause-tried g c =
-    on_err_same ((v : ℕ) × WantsFrame (picture_of c.args.self.now) (picture_of c.obtain.new.core) v) c.from_residual.result
-    (wants_tried c.args.self.now c.obtain.new.core c.obtain.ensures.needed c.in_err-obtain.ensures.full c.in_err-obtain.ensures.tried)
+pub returns-in_err-obtain : goal.returns-in_err-obtain
+returns-in_err-obtain g c =
+    let got = c.in_err-obtain.ensures in
+    let old = c.args.self.now in
+    let new = c.obtain.new.core in
+    record {
+      taken = search rules;
+      seeks = seeks_stall c.from_residual.result c.from_residual.ensures.1 got;
+      fit = on_err_same _ c.from_residual.result got.fit;
+      frees = on_err_same _ c.from_residual.result got.frees;
+      tried = on_err_same ((v : ℕ) × WantsFrame (picture_of old) (picture_of new) v) c.from_residual.result (wants_tried old new got.needed got.full got.tried);
+    }

@@ -4,7 +4,7 @@ use Rattle.disk_model.specs.Sectors.{part_of}
 use Rattle.disk_model.specs.SimDisk.{sector_of, failures_of, asked_of}
 use Rattle.disk_model.proofs.Naming.{names_next}
 use Rattle.stop_trials.specs.declared.stopping.Event.TheVariants.{Write}
-use Rattle.stop_trials.specs.Stopping.{plan_of, after_event}
+use Rattle.stop_trials.specs.Stopping.{plan_of, plan_after_event}
 use Rattle.stop_trials.proofs.Writes.{when_ok, ran_before, one_write}
 use Rattle.stop_trials.proofs.stopping.StoppingDiskSectorDisk.write_page.Goals as goal
 
@@ -35,7 +35,7 @@ loop-i-preserved c =
           (cases_eq j i);
       fails = λ some. told ∙ w.stops.fails;
       begun = λ none. absurd (omega (arith, none));
-      plan = w.stops.counted ∙ ap (after_event (Write (c.args.n + i))) inv.plan ∙ one_write i c.args.n (plan_of c.args.self.now);
+      plan = w.stops.counted ∙ ap (plan_after_event (Write (c.args.n + i))) inv.plan ∙ one_write i c.args.n (plan_of c.args.self.now);
       others = search rules;
       unsynced = search rules;
       marked = search rules;

@@ -3,7 +3,7 @@ use Rattle.disk_model.specs.Stop.{IsOfPage, ChangesPage, Elapses, Names}
 use Rattle.disk_model.specs.Sectors.{part_of}
 use Rattle.disk_model.specs.SimDisk.{sectors_in, sector_of, IsUnsynced, moment_of, LeftSince, failures_of, asked_of}
 use Rattle.disk_model.proofs.Naming.{IsAmong}
-use Rattle.stop_trials.specs.Stopping.{plan_of, after_writes}
+use Rattle.stop_trials.specs.Stopping.{plan_of, plan_after_writes}
 use Rattle.stop_trials.proofs.stopping.StoppingDiskSectorDisk.write_page.Given as goal
 
 abbrev pub invariant-loop-i : goal.invariant-loop-i
@@ -16,7 +16,7 @@ invariant-loop-i l = record {
   written : l.failed ≡ false → (j : ℕ) → j < l.i → sector_of l.self.disk (l.n + j) ≡ part_of l.from j;
   fails : 0 < l.i → l.failed ≡ is_some l.self.stopped;
   begun : l.i ≡ 0 → l.failed ≡ false;
-  plan : plan_of l.self ≡ after_writes l.i l.n (plan_of l.initial.self);
+  plan : plan_of l.self ≡ plan_after_writes l.i l.n (plan_of l.initial.self);
   others : ChangesPage l.n (sector_of l.initial.self.disk) (sector_of l.self.disk);
   unsynced : (k : ℕ) → IsUnsynced l.self.disk k → IsUnsynced l.initial.self.disk k ⊎ IsOfPage l.n k;
   marked : (k : ℕ) → l.n ≤ k → k < l.n + l.i → IsUnsynced l.self.disk k;

@@ -1,74 +1,94 @@
-use Rattle.std.proofs.Common.{length, rules}
-use Rattle.std.specs.Prelude.{IsErrOf}
-use Rattle.sync_journal.specs.declared.faults.CommitFault.TheVariants.{Source}
+use Rattle.std.proofs.Common.{length, refl, sym, subst, ◌∙◌, rules}
+use Rattle.sync_journal.specs.Layout.{IsOutside}
+use Rattle.sync_journal.proofs.Rests.{live_at_rest}
 use Rattle.sync_journal.specs.Journal.{live_homes}
 use Rattle.sync_journal.proofs.Asking.{finish_only, commit_only, in_one, in_two}
-use Rattle.sync_journal.proofs.Runs.{finished, committed}
-use Rattle.sync_journal.proofs.Since.{either_of, both_either, both_before, settled_after}
+use Rattle.sync_journal.proofs.Causes.{calm_first, told_on, told_was, not_source, device_failed, asks_nothing}
+use Rattle.sync_journal.proofs.Runs.{finished_run, committed_run}
+use Rattle.sync_journal.proofs.Since.{either_of, both_either, both_before, settled_before, settled_after}
 use Rattle.sync_journal.proofs.journal.Journal.commit.Goals as goal
 
-pub returns-in_err-finish-clause-any_moment : goal.returns-in_err-finish-clause-any_moment
-returns-in_err-finish-clause-any_moment g c = λ keeps gives.
-    either_of g.D.SectorDisk c.args.disk.now c.finish.new.disk _ (c.finish.ensures.any_moment keeps)
+pub returns-in_err-finish : goal.returns-in_err-finish
+returns-in_err-finish g c =
+    record {
+      puts = record {
+        ok = search rules;
+        rest = search rules;
+        outside = search rules;
+        any_moment = λ keeps gives.
+            either_of g.D.SectorDisk c.args.disk.now c.finish.new.disk _ (c.finish.ensures.home.any_moment keeps);
+        once = in_one g.D.SectorDisk (live_homes c.args.self.now) (length c.args.homes.now) c.args.disk.now c.finish.new.disk c.finish.ensures.home.once;
+        takes = record {
+          run = finished_run g.D.SectorDisk (live_homes c.args.self.now) c.args.disk.now c.finish.new.disk c.finish.ensures.home.run;
+          asks = asks_nothing g.S.PageSource c.args.source.now (g.met.S.PageSource.stays c.args.source.now);
+          causes = device_failed (g.D.SectorDisk.failures c.args.disk.now) (g.D.SectorDisk.failures c.finish.new.disk) (g.S.PageSource.failures c.args.source.now) (g.S.PageSource.failures c.args.source.now) _ c.from_residual.ensures.1 (c.in_err-finish.ensures.home.failed refl) refl;
+        };
+        source = λ keeps is. absurd (not_source _ c.from_residual.ensures.1 is);
+        source_moments = λ keeps is. absurd (not_source _ c.from_residual.ensures.1 is);
+      };
+      live = search rules;
+      map = search rules;
+      synced = search rules;
+      asks_device = finish_only g.D.SectorDisk (live_homes c.args.self.now) c.args.disk.now c.finish.new.disk c.requires.live.few c.finish.ensures.home.once;
+      not_live = λ is. absurd (not_source _ c.from_residual.ensures.1 is);
+      source_gate = λ keeps is. absurd (not_source _ c.from_residual.ensures.1 is);
+    }
 
-pub returns-in_err-publish-clause-any_moment : goal.returns-in_err-publish-clause-any_moment
-returns-in_err-publish-clause-any_moment g c = λ keeps gives.
-    let mid = c.publish.ensures.kept keeps in
-    both_either g.D.SectorDisk c.args.disk.now c.finish.new.disk c.publish.new.disk c.finish.ensures.run.size (c.in_ok-finish.ensures.settled mid)
-    c.args.homes.now (g.S.PageSource.pages c.args.source.now) (c.finish.ensures.any_moment mid) (c.publish.ensures.any_moment keeps gives)
+pub returns-in_err-publish : goal.returns-in_err-publish
+returns-in_err-publish g c =
+    let e = c.in_err-publish.ensures in
+    record {
+      puts = record {
+        ok = search rules;
+        rest = search rules;
+        outside = search rules;
+        any_moment = λ keeps gives. (let mid = c.publish.ensures.kept keeps in both_either g.D.SectorDisk c.args.disk.now c.finish.new.disk c.publish.new.disk c.finish.ensures.home.run.size (c.in_ok-finish.ensures.home.done mid)
+            c.args.homes.now (g.S.PageSource.pages c.args.source.now) (c.finish.ensures.home.any_moment mid) (c.publish.ensures.any_moment keeps gives));
+        once = in_two g.D.SectorDisk (live_homes c.args.self.now) (length c.args.homes.now) c.args.disk.now c.finish.new.disk c.publish.new.disk c.finish.ensures.home.once c.publish.ensures.once;
+        takes = record {
+          run = committed_run g.D.SectorDisk (live_homes c.args.self.now) c.args.disk.now c.finish.new.disk c.publish.new.disk c.finish.ensures.home.run c.publish.ensures.run;
+          asks = c.publish.ensures.asks;
+          causes = told_on (g.D.SectorDisk.failures c.args.disk.now) (g.D.SectorDisk.failures c.publish.new.disk) (g.S.PageSource.failures c.args.source.now) (g.S.PageSource.failures c.publish.new.source) _ _ c.from_residual-in_err-publish.ensures.1
+              (calm_first c.in_ok-finish.ensures.home.calm c.in_err-publish.ensures.causes);
+        };
+        source = λ keeps is. settled_before g.D.SectorDisk c.args.disk.now c.finish.new.disk c.publish.new.disk c.finish.ensures.home.run.size (c.in_ok-finish.ensures.home.done (e.kept keeps))
+            (e.source keeps (told_was _ _ _ c.from_residual-in_err-publish.ensures.1 is));
+        source_moments = λ keeps is_source. (let mid = c.publish.ensures.kept keeps in both_before g.D.SectorDisk c.args.disk.now c.finish.new.disk c.publish.new.disk c.finish.ensures.home.run.size (c.in_ok-finish.ensures.home.done mid)
+            (c.finish.ensures.home.any_moment mid) (e.source_moments keeps (told_was _ _ _ c.from_residual-in_err-publish.ensures.1 is_source)));
+      };
+      live = search rules;
+      map = search rules;
+      synced = search rules;
+      asks_device = commit_only g.D.SectorDisk (live_homes c.args.self.now) (length c.args.homes.now) c.args.disk.now c.finish.new.disk c.publish.new.disk
+          c.requires.live.few c.requires.homes.few c.finish.ensures.home.once c.publish.ensures.once;
+      not_live = λ is. c.in_ok-finish.ensures.not_live;
+      source_gate = λ keeps is. e.source_gate keeps (told_was _ _ _ c.from_residual-in_err-publish.ensures.1 is) ∙ c.in_ok-finish.ensures.gate (e.kept keeps);
+    }
 
-pub returns-in_err-publish-clause-source_moments : goal.returns-in_err-publish-clause-source_moments
-returns-in_err-publish-clause-source_moments g c = λ keeps is_source.
-    let mid = c.publish.ensures.kept keeps in
-    let is : IsErrOf c.publish.result Source = search rules in
-    both_before g.D.SectorDisk c.args.disk.now c.finish.new.disk c.publish.new.disk c.finish.ensures.run.size (c.in_ok-finish.ensures.settled mid)
-    (c.finish.ensures.any_moment mid) (c.publish.ensures.source_moments keeps is)
-
-pub returns-clause-any_moment : goal.returns-clause-any_moment
-returns-clause-any_moment g c = λ keeps gives.
-    let mid = c.publish.ensures.kept keeps in
-    both_either g.D.SectorDisk c.args.disk.now c.finish.new.disk c.publish.new.disk c.finish.ensures.run.size (c.in_ok-finish.ensures.settled mid)
-    c.args.homes.now (g.S.PageSource.pages c.args.source.now) (c.finish.ensures.any_moment mid) (c.publish.ensures.any_moment keeps gives)
-
-pub returns-clause-ok : goal.returns-clause-ok
-returns-clause-ok g c = λ keeps gives.
-    let mid = c.publish.ensures.kept keeps in
-    settled_after g.D.SectorDisk c.args.disk.now c.finish.new.disk c.publish.new.disk c.finish.ensures.run.size (c.in_ok-finish.ensures.settled mid)
-    c.args.homes.now (g.S.PageSource.pages c.args.source.now) c.args.homes.now (c.in_ok-publish.ensures.ok keeps gives)
-
-pub returns-in_err-finish-clause-touches : goal.returns-in_err-finish-clause-touches
-returns-in_err-finish-clause-touches g c = λ keeps. finished g.D.SectorDisk (live_homes c.args.self.now) c.args.disk.now c.finish.new.disk (c.finish.ensures.run.touches keeps)
-
-pub returns-in_err-publish-clause-touches : goal.returns-in_err-publish-clause-touches
-returns-in_err-publish-clause-touches g c = λ keeps. committed g.D.SectorDisk (live_homes c.args.self.now) c.args.disk.now c.finish.new.disk c.publish.new.disk
-    (c.finish.ensures.run.touches (c.publish.ensures.kept keeps)) (c.publish.ensures.touches keeps)
-
-pub returns-clause-touches : goal.returns-clause-touches
-returns-clause-touches g c = λ keeps. committed g.D.SectorDisk (live_homes c.args.self.now) c.args.disk.now c.finish.new.disk c.publish.new.disk
-    (c.finish.ensures.run.touches (c.publish.ensures.kept keeps)) (c.publish.ensures.touches keeps)
-
-pub returns-in_err-finish-clause-asks_device : goal.returns-in_err-finish-clause-asks_device
-returns-in_err-finish-clause-asks_device g c =
-    finish_only g.D.SectorDisk (live_homes c.args.self.now) c.args.disk.now c.finish.new.disk c.requires.live.few c.finish.ensures.asks
-
-pub returns-in_err-finish-clause-once : goal.returns-in_err-finish-clause-once
-returns-in_err-finish-clause-once g c =
-    in_one g.D.SectorDisk (live_homes c.args.self.now) (length c.args.homes.now) c.args.disk.now c.finish.new.disk c.finish.ensures.asks
-
-pub returns-in_err-publish-clause-asks_device : goal.returns-in_err-publish-clause-asks_device
-returns-in_err-publish-clause-asks_device g c =
-    commit_only g.D.SectorDisk (live_homes c.args.self.now) (length c.args.homes.now) c.args.disk.now c.finish.new.disk c.publish.new.disk
-    c.requires.live.few c.requires.homes.few c.finish.ensures.asks c.publish.ensures.asks_device
-
-pub returns-in_err-publish-clause-once : goal.returns-in_err-publish-clause-once
-returns-in_err-publish-clause-once g c =
-    in_two g.D.SectorDisk (live_homes c.args.self.now) (length c.args.homes.now) c.args.disk.now c.finish.new.disk c.publish.new.disk c.finish.ensures.asks c.publish.ensures.asks_device
-
-pub returns-clause-asks_device : goal.returns-clause-asks_device
-returns-clause-asks_device g c =
-    commit_only g.D.SectorDisk (live_homes c.args.self.now) (length c.args.homes.now) c.args.disk.now c.finish.new.disk c.publish.new.disk
-    c.requires.live.few c.requires.homes.few c.finish.ensures.asks c.publish.ensures.asks_device
-
-pub returns-clause-once : goal.returns-clause-once
-returns-clause-once g c =
-    in_two g.D.SectorDisk (live_homes c.args.self.now) (length c.args.homes.now) c.args.disk.now c.finish.new.disk c.publish.new.disk c.finish.ensures.asks c.publish.ensures.asks_device
+pub returns : goal.returns
+returns g c =
+    record {
+      puts = record {
+        ok = λ keeps gives. (let mid = c.publish.ensures.kept keeps in settled_after g.D.SectorDisk c.args.disk.now c.finish.new.disk c.publish.new.disk c.finish.ensures.home.run.size (c.in_ok-finish.ensures.home.done mid)
+            c.args.homes.now (g.S.PageSource.pages c.args.source.now) c.args.homes.now (c.in_ok-publish.ensures.ok keeps gives));
+        rest = λ keeps. live_at_rest g.D.SectorDisk c.args.homes.now c.publish.new.disk c.requires.some (c.in_ok-publish.ensures.rest keeps);
+        outside = λ keeps k out. c.in_ok-publish.ensures.outside keeps k (subst (λ n. IsOutside n k) (sym c.finish.ensures.home.run.size) out) ∙ (c.in_ok-finish.ensures.home.done (c.publish.ensures.kept keeps)).outside k out;
+        any_moment = λ keeps gives. (let mid = c.publish.ensures.kept keeps in both_either g.D.SectorDisk c.args.disk.now c.finish.new.disk c.publish.new.disk c.finish.ensures.home.run.size (c.in_ok-finish.ensures.home.done mid)
+            c.args.homes.now (g.S.PageSource.pages c.args.source.now) (c.finish.ensures.home.any_moment mid) (c.publish.ensures.any_moment keeps gives));
+        once = in_two g.D.SectorDisk (live_homes c.args.self.now) (length c.args.homes.now) c.args.disk.now c.finish.new.disk c.publish.new.disk c.finish.ensures.home.once c.publish.ensures.once;
+        takes = record {
+          run = committed_run g.D.SectorDisk (live_homes c.args.self.now) c.args.disk.now c.finish.new.disk c.publish.new.disk c.finish.ensures.home.run c.publish.ensures.run;
+          asks = c.publish.ensures.asks;
+          causes = calm_first c.in_ok-finish.ensures.home.calm c.in_ok-publish.ensures.causes;
+        };
+        source = λ keeps is. cc;
+        source_moments = λ keeps is. cc;
+      };
+      live = search rules;
+      map = c.in_ok-publish.ensures.map;
+      synced = λ keeps. (c.in_ok-publish.ensures.rest keeps).synced;
+      asks_device = commit_only g.D.SectorDisk (live_homes c.args.self.now) (length c.args.homes.now) c.args.disk.now c.finish.new.disk c.publish.new.disk
+          c.requires.live.few c.requires.homes.few c.finish.ensures.home.once c.publish.ensures.once;
+      not_live = λ is. cc;
+      source_gate = λ keeps is. cc;
+    }

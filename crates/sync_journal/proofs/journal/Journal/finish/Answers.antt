@@ -1,4 +1,4 @@
-use Rattle.std.proofs.Common.{[], refl, arith}
+use Rattle.std.proofs.Common.{[], refl, arith, rules}
 use Rattle.disk_model.proofs.Moments.{stays}
 use Rattle.disk_model.proofs.Naming.{once_none}
 use Rattle.sync_journal.specs.Layout.{IsJournalSector, IsFinished}
@@ -7,19 +7,23 @@ use Rattle.sync_journal.proofs.Phases.{while_staging, staged_settled}
 use Rattle.sync_journal.proofs.Rests.{rest_quiet, none_live}
 use Rattle.sync_journal.proofs.journal.Journal.finish.Goals as goal
 
-pub returns-else-self-gt0-clause-any_moment : goal.returns-else-self-gt0-clause-any_moment
-returns-else-self-gt0-clause-any_moment g c = λ keeps.
-    while_staging g.D.SectorDisk (live_homes c.args.self.now) (λ _. []) c.args.disk.now c.args.disk.now
-    (λ image left. g.met.D.SectorDisk.only_now c.args.disk.now image keeps left) c.requires.live
-    (rest_quiet g.D.SectorDisk (live_homes c.args.self.now) c.args.disk.now (none_live c.args.self.now (omega (arith, c.if-self-gt0.false))) (c.requires.rest keeps))
-    (stays g.D.SectorDisk IsJournalSector c.args.disk.now)
-
-pub returns-else-self-gt0-clause-settled : goal.returns-else-self-gt0-clause-settled
-returns-else-self-gt0-clause-settled g c = λ keeps.
-    staged_settled g.D.SectorDisk (live_homes c.args.self.now) (λ _. []) c.args.disk.now c.args.disk.now
-    (λ image left. g.met.D.SectorDisk.only_now c.args.disk.now image keeps left) c.requires.live
-    (rest_quiet g.D.SectorDisk (live_homes c.args.self.now) c.args.disk.now (none_live c.args.self.now (omega (arith, c.if-self-gt0.false))) (c.requires.rest keeps))
-    (stays g.D.SectorDisk IsJournalSector c.args.disk.now)
-
-pub returns-else-self-gt0-clause-asks : goal.returns-else-self-gt0-clause-asks
-returns-else-self-gt0-clause-asks g c = once_none (IsFinished (live_homes c.args.self.now)) (g.D.SectorDisk.asked c.args.disk.now) (g.D.SectorDisk.asked c.args.disk.now) (λ k. refl)
+pub returns-else-self-gt0-clause-home : goal.returns-else-self-gt0-clause-home
+returns-else-self-gt0-clause-home g c =
+    record {
+      writes = record {
+        done = λ keeps.
+            staged_settled g.D.SectorDisk (live_homes c.args.self.now) (λ _. []) c.args.disk.now c.args.disk.now
+            (λ image left. g.met.D.SectorDisk.only_now c.args.disk.now image keeps left) c.requires.live
+            (rest_quiet g.D.SectorDisk (live_homes c.args.self.now) c.args.disk.now (none_live c.args.self.now (omega (arith, c.if-self-gt0.false))) (c.requires.rest keeps))
+            (stays g.D.SectorDisk IsJournalSector c.args.disk.now);
+        run = search rules;
+        once = once_none (IsFinished (live_homes c.args.self.now)) (g.D.SectorDisk.asked c.args.disk.now) (g.D.SectorDisk.asked c.args.disk.now) (λ k. refl);
+        failed = search rules;
+        calm = search rules;
+      };
+      any_moment = λ keeps.
+          while_staging g.D.SectorDisk (live_homes c.args.self.now) (λ _. []) c.args.disk.now c.args.disk.now
+          (λ image left. g.met.D.SectorDisk.only_now c.args.disk.now image keeps left) c.requires.live
+          (rest_quiet g.D.SectorDisk (live_homes c.args.self.now) c.args.disk.now (none_live c.args.self.now (omega (arith, c.if-self-gt0.false))) (c.requires.rest keeps))
+          (stays g.D.SectorDisk IsJournalSector c.args.disk.now);
+    }

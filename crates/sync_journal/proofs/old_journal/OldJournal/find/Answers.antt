@@ -1,49 +1,134 @@
-use Rattle.std.proofs.Common.{ap, sym, subst, ◌≡◌, length, Some, ◌∙◌, arith}
+use Rattle.std.proofs.Common.{◌≡◌, length, take, refl, ap, sym, subst, inl, inr, ◌∙◌, arith, rules}
 use Rattle.disk_model.specs.Stop.{Image}
-use Rattle.sync_journal.specs.Layout.{layout_before, home_count_in}
+use Rattle.disk_model.specs.Moments.{Nothing}
+use Rattle.disk_model.proofs.Moments.{asks_named, asks_wider, asks_then}
+use Rattle.sync_journal.specs.Layout.{layout_before, home_count_in, IsMapIn, IsGateOrMapIn}
 use Rattle.sync_journal.specs.Gate.{is_open_sector}
-use Rattle.sync_journal.specs.Map.{AreNamed, IsWithin, ReadsMap}
-use Rattle.sync_journal.specs.Standing.{map_in}
+use Rattle.sync_journal.specs.Map.{AreNamed, IsWithinHomes, ReadsMap}
+use Rattle.sync_journal.specs.Standing.{map_in, IsOpenIn}
+use Rattle.sync_journal.proofs.Causes.{not_bad_device, blames_device, blames_none}
+use Rattle.sync_journal.proofs.Runs.{no_write, one_more}
 use Rattle.sync_journal.proofs.OldJournals.{closed_at, open_at, named_opens, named_good, most_before}
 use Rattle.sync_journal.proofs.old_journal.OldJournal.find.Goals as goal
 
-pub returns-then-not-is_open_gate-clause-found : goal.returns-then-not-is_open_gate-clause-found
-returns-then-not-is_open_gate-clause-found g c = λ keeps.
-    let content = g.D.SectorDisk.content c.args.disk.now in
-    closed_at (layout_before c.args.journals) content (ap is_open_sector (sym (c.in_ok-read.ensures.gives keeps)) ∙ sym c.is_open_gate.ensures ∙ c.if-not-is_open_gate.true)
+pub returns-in_err-read : goal.returns-in_err-read
+returns-in_err-read g c =
+    let d = g.D.SectorDisk in
+    let old = c.args.disk.now in
+    let new = c.read.new.self in
+    let r = c.read.ensures in
+    record {
+      before = search rules;
+      found = search rules;
+      looks = record {
+        run = no_write d Nothing old new r.size r.kept r.cause.later r.same r.unsynced r.time;
+        blames = blames_device d old new _ c.from_residual.ensures.1 (c.in_err-read.ensures.cause.failed refl);
+      };
+      asks = asks_named d (IsGateOrMapIn (layout_before c.args.journals)) (λ k. k ≡ 2) old new (λ k here. inl here) r.asks;
+      good = search rules;
+      bad = λ keeps is. absurd (not_bad_device _ c.from_residual.ensures.1 is);
+    }
 
-pub returns-in-Some-clause-good : goal.returns-in-Some-clause-good
-returns-in-Some-clause-good g c = λ keeps.
+pub returns-then-not-is_open_gate : goal.returns-then-not-is_open_gate
+returns-then-not-is_open_gate g c =
+    let d = g.D.SectorDisk in
+    let old = c.args.disk.now in
+    let new = c.read.new.self in
+    let r = c.in_ok-read.ensures in
+    record {
+      before = refl;
+      found = λ keeps. closed_at (layout_before c.args.journals) (d.content old) (ap is_open_sector (sym (r.gives keeps)) ∙ sym c.is_open_gate.ensures ∙ c.if-not-is_open_gate.true);
+      looks = record {
+        run = no_write d Nothing old new r.size r.kept r.cause.later r.same r.unsynced r.time;
+        blames = blames_none d old new _ r.cause.calm;
+      };
+      asks = asks_named d (IsGateOrMapIn (layout_before c.args.journals)) (λ k. k ≡ 2) old new (λ k here. inl here) r.asks;
+      good = λ keeps bad. (let closed = ap is_open_sector (sym (r.gives keeps)) ∙ sym c.is_open_gate.ensures ∙ c.if-not-is_open_gate.true in let opened = bad.gate in cc);
+      bad = λ keeps is. cc;
+    }
+
+pub returns-in_err-count : goal.returns-in_err-count
+returns-in_err-count g c =
+    let d = g.D.SectorDisk in
+    let old = c.args.disk.now in
+    let mid = c.read.new.self in
+    let new = c.read_map.new.disk in
+    let r = c.in_ok-read.ensures in
+    let calm = r.cause.calm in
+    let failed = c.in_err-count.ensures.failed refl in
+    let asked = IsGateOrMapIn (layout_before c.args.journals) in
+    record {
+      before = search rules;
+      found = search rules;
+      looks = record {
+        run = one_more d Nothing old mid new (no_write d Nothing old mid r.size r.kept r.cause.later r.same r.unsynced r.time) c.read_map.ensures.run;
+        blames = blames_device d old new _ c.from_residual-in_err-count.ensures.1 (omega (arith, failed, calm));
+      };
+      asks = asks_then d asked old mid new (asks_named d asked (λ k. k ≡ 2) old mid (λ k here. inl here) r.asks)
+          (asks_wider d (IsMapIn (layout_before c.args.journals)) asked mid new (λ k map. inr map) c.read_map.ensures.asks);
+      good = search rules;
+      bad = λ keeps is. absurd (not_bad_device _ c.from_residual-in_err-count.ensures.1 is);
+    }
+
+pub returns-in-Some : goal.returns-in-Some
+returns-in-Some g c =
+    let d = g.D.SectorDisk in
+    let old = c.args.disk.now in
+    let mid = c.read.new.self in
+    let new = c.read_map.new.disk in
+    let r = c.in_ok-read.ensures in
     let layout = layout_before c.args.journals in
-    let content = g.D.SectorDisk.content c.args.disk.now in
-    let sectors = g.D.SectorDisk.sector_count c.args.disk.now in
-    let first = c.in_ok-read.ensures in
-    let before = c.read_map.ensures.run.kept keeps in
+    let content = d.content old in
+    let limit = home_count_in layout (d.sector_count old) in
+    let count = c.in-Some.count in
     let homes = c.read_map.new.homes in
-    let few = subst (λ o. IsWithin layout.most o) c.in-Some.is c.in_ok-count.ensures.few in
+    let few = subst (λ o. IsWithinHomes layout.most o) c.in-Some.is c.in_ok-count.ensures.few in
     let most = most_before c.args.journals in
     let long : length homes ≡ 1023 = c.read_map.array_long in
-    let are : AreNamed layout.most (home_count_in layout sectors) (map_in layout content) homes c.in-Some.count =
-    subst (λ (image : Image). AreNamed layout.most (home_count_in layout sectors) (map_in layout image) homes c.in-Some.count) (first.same before)
-    (subst (λ n. AreNamed layout.most (home_count_in layout n) (map_in layout (g.D.SectorDisk.content c.read.new.self)) homes c.in-Some.count) first.size
-    (subst (λ o. ReadsMap layout.most (home_count_in layout (g.D.SectorDisk.sector_count c.read.new.self)) (map_in layout (g.D.SectorDisk.content c.read.new.self)) homes o) c.in-Some.is (c.in_ok-count.ensures.names keeps))) in
-    let gate = ap is_open_sector (sym (first.gives before)) ∙ sym c.is_open_gate.ensures ∙ c.if-not-is_open_gate.false in
-    named_good layout sectors c.in-Some.count homes content are (named_opens layout (home_count_in layout sectors) c.in-Some.count homes content gate are (omega (arith, few, most, long)))
+    let asked = IsGateOrMapIn layout in
+    let are : d.keeps_model new → AreNamed layout.most limit (map_in layout content) homes count = λ keeps. subst (λ o. ReadsMap layout.most limit (map_in layout content) homes o) c.in-Some.is
+    (subst (λ (image : Image). ReadsMap layout.most limit (map_in layout image) homes c.in_ok-count.field-0) (r.same (c.read_map.ensures.run.kept keeps))
+    (subst (λ n. ReadsMap layout.most (home_count_in layout n) (map_in layout (d.content mid)) homes c.in_ok-count.field-0) r.size (c.in_ok-count.ensures.names keeps))) in
+    let opens : d.keeps_model new → IsOpenIn layout (take count homes) content = λ keeps. named_opens layout limit count homes content
+    (ap is_open_sector (sym (r.gives (c.read_map.ensures.run.kept keeps))) ∙ sym c.is_open_gate.ensures ∙ c.if-not-is_open_gate.false) (are keeps) (omega (arith, few, most, long)) in
+    record {
+      before = refl;
+      found = λ keeps. open_at layout _ content (opens keeps);
+      looks = record {
+        run = one_more d Nothing old mid new (no_write d Nothing old mid r.size r.kept r.cause.later r.same r.unsynced r.time) c.read_map.ensures.run;
+        blames = blames_none d old new _ (c.in_ok-count.ensures.calm ∙ r.cause.calm);
+      };
+      asks = asks_then d asked old mid new (asks_named d asked (λ k. k ≡ 2) old mid (λ k here. inl here) r.asks)
+          (asks_wider d (IsMapIn layout) asked mid new (λ k map. inr map) c.read_map.ensures.asks);
+      good = λ keeps. named_good layout (d.sector_count old) count homes content (are keeps) (opens keeps);
+      bad = λ keeps is. cc;
+    }
 
-pub returns-in-Some-clause-found : goal.returns-in-Some-clause-found
-returns-in-Some-clause-found g c = λ keeps.
+pub returns-in-None : goal.returns-in-None
+returns-in-None g c =
+    let d = g.D.SectorDisk in
+    let old = c.args.disk.now in
+    let mid = c.read.new.self in
+    let new = c.read_map.new.disk in
+    let r = c.in_ok-read.ensures in
     let layout = layout_before c.args.journals in
-    let content = g.D.SectorDisk.content c.args.disk.now in
-    let sectors = g.D.SectorDisk.sector_count c.args.disk.now in
-    let first = c.in_ok-read.ensures in
-    let before = c.read_map.ensures.run.kept keeps in
+    let limit = home_count_in layout (d.sector_count old) in
     let homes = c.read_map.new.homes in
-    let few = subst (λ o. IsWithin layout.most o) c.in-Some.is c.in_ok-count.ensures.few in
-    let most = most_before c.args.journals in
-    let long : length homes ≡ 1023 = c.read_map.array_long in
-    let are : AreNamed layout.most (home_count_in layout sectors) (map_in layout content) homes c.in-Some.count =
-    subst (λ (image : Image). AreNamed layout.most (home_count_in layout sectors) (map_in layout image) homes c.in-Some.count) (first.same before)
-    (subst (λ n. AreNamed layout.most (home_count_in layout n) (map_in layout (g.D.SectorDisk.content c.read.new.self)) homes c.in-Some.count) first.size
-    (subst (λ o. ReadsMap layout.most (home_count_in layout (g.D.SectorDisk.sector_count c.read.new.self)) (map_in layout (g.D.SectorDisk.content c.read.new.self)) homes o) c.in-Some.is (c.in_ok-count.ensures.names keeps))) in
-    let gate = ap is_open_sector (sym (first.gives before)) ∙ sym c.is_open_gate.ensures ∙ c.if-not-is_open_gate.false in
-    open_at layout _ content (named_opens layout (home_count_in layout sectors) c.in-Some.count homes content gate are (omega (arith, few, most, long)))
+    let asked = IsGateOrMapIn layout in
+    record {
+      before = tt;
+      found = λ keeps. tt;
+      looks = record {
+        run = one_more d Nothing old mid new (no_write d Nothing old mid r.size r.kept r.cause.later r.same r.unsynced r.time) c.read_map.ensures.run;
+        blames = record { device = λ is. cc; calm = tt; still = λ is. c.in_ok-count.ensures.calm ∙ r.cause.calm };
+      };
+      asks = asks_then d asked old mid new (asks_named d asked (λ k. k ≡ 2) old mid (λ k here. inl here) r.asks)
+          (asks_wider d (IsMapIn layout) asked mid new (λ k map. inr map) c.read_map.ensures.asks);
+      good = λ keeps. tt;
+      bad = λ keeps is. record {
+        gate = ap is_open_sector (sym (r.gives (c.read_map.ensures.run.kept keeps))) ∙ sym c.is_open_gate.ensures ∙ c.if-not-is_open_gate.false;
+        map = subst (λ o. ReadsMap layout.most limit (map_in layout (d.content old)) homes o) c.in-None.is
+            (subst (λ (image : Image). ReadsMap layout.most limit (map_in layout image) homes c.in_ok-count.field-0) (r.same (c.read_map.ensures.run.kept keeps))
+            (subst (λ n. ReadsMap layout.most (home_count_in layout n) (map_in layout (d.content mid)) homes c.in_ok-count.field-0) r.size (c.in_ok-count.ensures.names keeps)));
+      };
+    }

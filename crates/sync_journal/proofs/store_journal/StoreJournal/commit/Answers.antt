@@ -1,125 +1,92 @@
-use Rattle.std.proofs.Common.{refl, ap, ◌∙◌}
-use Rattle.disk_model.proofs.Moments.{weaker}
+use Rattle.std.proofs.Common.{[], refl, ap, sym, subst, ◌∙◌}
+use Rattle.std.proofs.lemmas.Result.{on_ok_weaker}
+use Rattle.disk_model.specs.Stop.{Image}
+use Rattle.disk_model.specs.Moments.{AsksOnly}
+use Rattle.disk_model.proofs.Moments.{weaker, asks_once}
+use Rattle.sync_journal.specs.Map.{AreHomes}
+use Rattle.sync_journal.specs.Commit.{changed}
 use Rattle.sync_journal.specs.Journal.{live_homes}
-use Rattle.sync_journal.specs.Kinds.{journal_kind}
+use Rattle.sync_journal.specs.Turns.{IsTurnUsed, IsTurnAsked}
+use Rattle.sync_journal.specs.Blocks.{CommitsInBlocks}
+use Rattle.sync_journal.specs.Kinds.{journal_kind, store_live, store_standing, kind_home_count, IsKindOutside, IsStoreCommitted, IsStoreUsed, AsksEachOnce, StoreStandsForEither, IsStoreKept}
+use Rattle.sync_journal.specs.Runs.{RunsOnDevice}
 use Rattle.sync_journal.specs.declared.turns.TurnJournal.{TurnJournal}
 use Rattle.sync_journal.proofs.Replays.{on_ok_both}
-use Rattle.sync_journal.proofs.InKinds.{one_either, one_changed, one_settled, two_either, two_changed, two_before, two_settled, one_alone, same_turns}
-use Rattle.disk_model.specs.Moments.{AsksOnly}
-use Rattle.disk_model.proofs.Moments.{asks_once}
-use Rattle.sync_journal.specs.Turns.{IsTurnUsed, IsTurnAsked}
-use Rattle.sync_journal.specs.Kinds.{IsStoreUsed, AsksEachOnce, StoreStandsForEither, IsStoreKept, store_standing}
-use Rattle.disk_model.specs.Stop.{Image}
-use Rattle.sync_journal.specs.Commit.{changed}
-use Rattle.sync_journal.specs.Blocks.{CommitsInBlocks}
-use Rattle.sync_journal.proofs.InTurn.{commits_weaker}
+use Rattle.sync_journal.proofs.InTurn.{commits_weaker, none_are}
 use Rattle.sync_journal.proofs.TurnAsking.{used_more}
+use Rattle.sync_journal.proofs.InKinds.{one_same, one_as_before, one_either, one_changed, one_settled, one_rest, one_alone, two_as_before, two_before, two_either, two_changed, two_settled, two_rest, same_turns}
 use Rattle.sync_journal.proofs.store_journal.StoreJournal.commit.Goals as goal
-use Rattle.std.proofs.Common.{sym, subst}
-use Rattle.std.proofs.lemmas.Result.{on_ok_weaker}
-use Rattle.disk_model.specs.Moments.{Touches}
-use Rattle.sync_journal.specs.Kinds.{IsKindOutside, IsStoreCommitted}
-use Rattle.sync_journal.proofs.InKinds.{one_as_before, two_as_before}
 
-pub returns-in-One-clause-any_moment : goal.returns-in-One-clause-any_moment
-returns-in-One-clause-any_moment g c = λ keeps gives.
+pub returns-in-One : goal.returns-in-One
+returns-in-One g c =
     let d = g.D.SectorDisk in
     let old = c.args.disk.now in
-    let kind = (c.requires.rest (c.commit.ensures.kept keeps)).kind ∙ ap journal_kind c.in-One.is in
-    weaker d old c.commit.new.disk _ _ (one_either (d.sector_count old) (d.content old) kind c.args.homes.now (g.S.PageSource.pages c.args.source.now)) (c.commit.ensures.any_moment keeps gives)
-
-pub returns-in-One-clause-ok : goal.returns-in-One-clause-ok
-returns-in-One-clause-ok g c = λ keeps gives.
-    let d = g.D.SectorDisk in
-    let old = c.args.disk.now in
-    let kind = (c.requires.rest (c.commit.ensures.kept keeps)).kind ∙ ap journal_kind c.in-One.is in
-    on_ok_both c.commit.result c.commit.ensures.live (c.commit.ensures.ok keeps gives)
-    (one_settled (d.sector_count old) (d.content old) kind d c.commit.new.self c.args.homes.now c.commit.new.disk _ _
-    (one_changed (d.sector_count old) (d.content old) kind c.args.homes.now (g.S.PageSource.pages c.args.source.now)))
-
-pub returns-in-InTurn-clause-any_moment : goal.returns-in-InTurn-clause-any_moment
-returns-in-InTurn-clause-any_moment g c = λ keeps gives.
-    let d = g.D.SectorDisk in
-    let old = c.args.disk.now in
-    let e = c.commit-in-InTurn.ensures in
-    let kind = (c.requires.rest (e.kept keeps)).kind ∙ ap journal_kind c.in-InTurn.is in
-    weaker d old c.commit-in-InTurn.new.disk _ _ (two_either (d.sector_count old) (d.content old) kind c.args.homes.now (g.S.PageSource.pages c.args.source.now)) (e.any_moment keeps gives)
-
-pub returns-in-InTurn-clause-ok : goal.returns-in-InTurn-clause-ok
-returns-in-InTurn-clause-ok g c = λ keeps gives.
-    let d = g.D.SectorDisk in
-    let old = c.args.disk.now in
-    let e = c.commit-in-InTurn.ensures in
-    let kind = (c.requires.rest (e.kept keeps)).kind ∙ ap journal_kind c.in-InTurn.is in
-    on_ok_both c.commit-in-InTurn.result e.live (e.ok keeps gives)
-    (two_settled (d.sector_count old) (d.content old) kind d c.commit-in-InTurn.new.self c.commit-in-InTurn.new.self.second c.args.homes.now c.commit-in-InTurn.new.disk _ _
-    (two_changed (d.sector_count old) (d.content old) kind c.args.homes.now (g.S.PageSource.pages c.args.source.now)) refl)
-
-pub returns-in-InTurn-clause-source : goal.returns-in-InTurn-clause-source
-returns-in-InTurn-clause-source g c = λ keeps is.
-    let d = g.D.SectorDisk in
-    let old = c.args.disk.now in
-    let e = c.commit-in-InTurn.ensures in
-    let kind = (c.requires.rest (e.kept keeps)).kind ∙ ap journal_kind c.in-InTurn.is in
-    let same = e.as_it_was is in
-    two_settled (d.sector_count old) (d.content old) kind d c.commit-in-InTurn.new.self _ _ c.commit-in-InTurn.new.disk _ _
-    (two_before (d.sector_count old) (d.content old) kind) (ap (λ (j : TurnJournal). j.second) same) (ap (λ (j : TurnJournal). live_homes j.live) same) (e.source keeps is)
-
-pub returns-in-One-clause-touches : goal.returns-in-One-clause-touches
-returns-in-One-clause-touches g c = λ keeps. subst (λ j. Touches g.D.SectorDisk (IsStoreCommitted j) c.args.disk.now c.commit.new.disk) (sym c.in-One.is) (c.commit.ensures.touches keeps)
-
-pub returns-in-One-clause-source_moments : goal.returns-in-One-clause-source_moments
-returns-in-One-clause-source_moments g c = λ keeps is.
-    let d = g.D.SectorDisk in
-    let old = c.args.disk.now in
-    let kind = (c.requires.rest (c.commit.ensures.kept keeps)).kind ∙ ap journal_kind c.in-One.is in
-    weaker d old c.commit.new.disk _ _ (one_as_before (d.sector_count old) (d.content old) kind) (c.commit.ensures.source_moments keeps is)
-
-pub returns-in-InTurn-clause-touches : goal.returns-in-InTurn-clause-touches
-returns-in-InTurn-clause-touches g c = λ keeps. subst (λ j. Touches g.D.SectorDisk (IsStoreCommitted j) c.args.disk.now c.commit-in-InTurn.new.disk) (sym c.in-InTurn.is) (c.commit-in-InTurn.ensures.touches keeps)
-
-pub returns-in-InTurn-clause-source_moments : goal.returns-in-InTurn-clause-source_moments
-returns-in-InTurn-clause-source_moments g c = λ keeps is.
-    let d = g.D.SectorDisk in
-    let old = c.args.disk.now in
-    let kind = (c.requires.rest (c.commit-in-InTurn.ensures.kept keeps)).kind ∙ ap journal_kind c.in-InTurn.is in
-    weaker d old c.commit-in-InTurn.new.disk _ _ (two_as_before (d.sector_count old) (d.content old) kind) (c.commit-in-InTurn.ensures.source_moments keeps is)
-
-pub returns-in-InTurn-clause-outside : goal.returns-in-InTurn-clause-outside
-returns-in-InTurn-clause-outside g c = λ keeps.
-    let d = g.D.SectorDisk in
-    let old = c.args.disk.now in
-    let kind = (c.requires.rest (c.commit-in-InTurn.ensures.kept keeps)).kind ∙ ap journal_kind c.in-InTurn.is in
-    on_ok_weaker c.commit-in-InTurn.result (λ outside k out. outside k (subst (λ b. IsKindOutside b (d.sector_count old) k) kind out)) (c.commit-in-InTurn.ensures.outside keeps)
-
-pub returns-in-InTurn-clause-asks_device : goal.returns-in-InTurn-clause-asks_device
-returns-in-InTurn-clause-asks_device g c =
-    let d = g.D.SectorDisk in
-    let journal = c.in-InTurn.journal in
+    let new = c.commit.new.disk in
+    let n = d.sector_count old in
+    let image = d.content old in
     let homes = c.args.homes.now in
-    let live = live_homes journal.live in
-    subst (λ j. AsksOnly d (IsStoreUsed j) c.args.disk.now c.commit-in-InTurn.new.disk) (sym c.in-InTurn.is)
-    (asks_once d (IsTurnAsked journal.second live 1023) (IsTurnUsed journal.second live homes) c.args.disk.now c.commit-in-InTurn.new.disk
-    (used_more journal.second live homes 1023 c.requires.homes.few) c.commit-in-InTurn.ensures.once)
+    let pages = g.S.PageSource.pages c.args.source.now in
+    let e = c.commit.ensures in
+    let now = c.commit.new.self in
+    let is = c.in-One.is in
+    record {
+      puts = record {
+        ok = λ keeps gives. (let kind = (c.requires.rest (e.kept keeps)).kind ∙ ap journal_kind is in
+            on_ok_both c.commit.result e.live (e.ok keeps gives) (one_settled n image kind d now homes new _ _ (one_changed n image kind homes pages)));
+        rest = λ keeps. one_rest n image ((c.requires.rest (e.kept keeps)).kind ∙ ap journal_kind is) d now homes new c.commit.result e.live (e.rest keeps) (e.outside keeps);
+        outside = λ keeps. (let kind = (c.requires.rest (e.kept keeps)).kind ∙ ap journal_kind is in
+            on_ok_weaker c.commit.result (λ outside k out. outside k (subst (λ b. IsKindOutside b n k) kind out)) (e.outside keeps));
+        any_moment = λ keeps gives. weaker d old new _ _ (one_either n image ((c.requires.rest (e.kept keeps)).kind ∙ ap journal_kind is) homes pages) (e.any_moment keeps gives);
+        once = subst (λ j. AsksEachOnce d j homes old new) (sym is) e.once;
+        takes = record { run = subst (λ j. RunsOnDevice d (IsStoreCommitted j) old new) (sym is) e.run; asks = e.asks; causes = e.causes };
+        source = λ keeps told. (let kind = (c.requires.rest (e.kept keeps)).kind ∙ ap journal_kind is in
+            one_settled n image kind d now [] new _ _ (one_same n image kind) (e.not_live told) (e.source keeps told));
+        source_moments = λ keeps told. weaker d old new _ _ (one_as_before n image ((c.requires.rest (e.kept keeps)).kind ∙ ap journal_kind is)) (e.source_moments keeps told);
+      };
+      live = e.live;
+      synced = e.synced;
+      kind = sym (ap journal_kind is);
+      blocks = λ keeps gives turns paired. absurd (one_alone _ turns (sym is ∙ paired));
+      asks_device = subst (λ j. AsksOnly d (IsStoreUsed j) old new) (sym is) e.asks_device;
+      source_live = λ told. subst (λ list. AreHomes (kind_home_count (journal_kind c.args.self.now) n) list) (sym (e.not_live told)) (none_are _);
+    }
 
-pub returns-in-InTurn-clause-once : goal.returns-in-InTurn-clause-once
-returns-in-InTurn-clause-once g c =
-    subst (λ j. AsksEachOnce g.D.SectorDisk j c.args.homes.now c.args.disk.now c.commit-in-InTurn.new.disk) (sym c.in-InTurn.is) c.commit-in-InTurn.ensures.once
-
-pub returns-in-One-clause-blocks : goal.returns-in-One-clause-blocks
-returns-in-One-clause-blocks g c = λ keeps gives turns is. absurd (one_alone _ turns (sym c.in-One.is ∙ is))
-
-pub returns-in-InTurn-clause-blocks : goal.returns-in-InTurn-clause-blocks
-returns-in-InTurn-clause-blocks g c = λ keeps gives turns is.
+pub returns-in-InTurn : goal.returns-in-InTurn
+returns-in-InTurn g c =
     let d = g.D.SectorDisk in
     let old = c.args.disk.now in
     let new = c.commit-in-InTurn.new.disk in
-    let e = c.commit-in-InTurn.ensures in
-    let journal = c.in-InTurn.journal in
-    let kind = (c.requires.rest (e.kept keeps)).kind ∙ ap journal_kind c.in-InTurn.is in
+    let n = d.sector_count old in
+    let image = d.content old in
     let homes = c.args.homes.now in
     let pages = g.S.PageSource.pages c.args.source.now in
-    let Either : Image → Type 0
-    = IsStoreKept (d.sector_count old) (d.content old) (StoreStandsForEither (store_standing (d.content old)) (changed (store_standing (d.content old)) homes pages)) in
-    subst (λ (t : TurnJournal). CommitsInBlocks d t.second (live_homes t.live) Either old new) (same_turns journal turns (sym c.in-InTurn.is ∙ is))
-    (commits_weaker d _ Either (two_either (d.sector_count old) (d.content old) kind homes pages) journal.second (live_homes journal.live) old new (e.blocks keeps gives))
+    let e = c.commit-in-InTurn.ensures in
+    let now = c.commit-in-InTurn.new.self in
+    let is = c.in-InTurn.is in
+    let journal = c.in-InTurn.journal in
+    let live = live_homes journal.live in
+    let Either : Image → Type 0 = IsStoreKept n image (StoreStandsForEither (store_standing image) (changed (store_standing image) homes pages)) in
+    record {
+      puts = record {
+        ok = λ keeps gives. (let kind = (c.requires.rest (e.kept keeps)).kind ∙ ap journal_kind is in
+            on_ok_both c.commit-in-InTurn.result e.live (e.ok keeps gives) (two_settled n image kind d now now.second homes new _ _ (two_changed n image kind homes pages) refl));
+        rest = λ keeps. two_rest n image ((c.requires.rest (e.kept keeps)).kind ∙ ap journal_kind is) d now homes new c.commit-in-InTurn.result e.live (e.rest keeps) (e.outside keeps);
+        outside = λ keeps. (let kind = (c.requires.rest (e.kept keeps)).kind ∙ ap journal_kind is in
+            on_ok_weaker c.commit-in-InTurn.result (λ outside k out. outside k (subst (λ b. IsKindOutside b n k) kind out)) (e.outside keeps));
+        any_moment = λ keeps gives. weaker d old new _ _ (two_either n image ((c.requires.rest (e.kept keeps)).kind ∙ ap journal_kind is) homes pages) (e.any_moment keeps gives);
+        once = subst (λ j. AsksEachOnce d j homes old new) (sym is) e.once;
+        takes = record { run = subst (λ j. RunsOnDevice d (IsStoreCommitted j) old new) (sym is) e.run; asks = e.asks; causes = e.causes };
+        source = λ keeps told. (let kind = (c.requires.rest (e.kept keeps)).kind ∙ ap journal_kind is in let same = e.as_it_was told in
+            two_settled n image kind d now _ _ new _ _ (two_before n image kind) (ap (λ (j : TurnJournal). j.second) same) (ap (λ (j : TurnJournal). live_homes j.live) same) (e.source keeps told));
+        source_moments = λ keeps told. weaker d old new _ _ (two_as_before n image ((c.requires.rest (e.kept keeps)).kind ∙ ap journal_kind is)) (e.source_moments keeps told);
+      };
+      live = e.live;
+      synced = e.synced;
+      kind = sym (ap journal_kind is);
+      blocks = λ keeps gives turns paired. subst (λ (t : TurnJournal). CommitsInBlocks d t.second (live_homes t.live) Either old new) (same_turns journal turns (sym is ∙ paired))
+          (commits_weaker d _ Either (two_either n image ((c.requires.rest (e.kept keeps)).kind ∙ ap journal_kind is) homes pages) journal.second live old new (e.blocks keeps gives));
+      asks_device = subst (λ j. AsksOnly d (IsStoreUsed j) old new) (sym is)
+          (asks_once d (IsTurnAsked journal.second live 1023) (IsTurnUsed journal.second live homes) old new (used_more journal.second live homes 1023 c.requires.homes.few) e.once);
+      source_live = λ told. subst (λ list. AreHomes (kind_home_count (journal_kind c.args.self.now) n) list)
+          (ap store_live is ∙ sym (ap (λ (j : TurnJournal). live_homes j.live) (e.as_it_was told))) c.requires.live;
+    }

@@ -1,7 +1,37 @@
+use Rattle.std.proofs.Common.{◌≡◌, OnOk, ap, sym, subst, ◌∙◌}
+use Rattle.disk_model.specs.Moments.{AsksOnly}
+use Rattle.disk_model.specs.Sectors.{joined}
+use Rattle.sync_journal.specs.Layout.{IsPageSector}
+use Rattle.sync_journal.specs.Kinds.{journal_kind, journal_stands, kind_standing}
 use Rattle.sync_journal.proofs.InKinds.{store_rest_read}
 use Rattle.sync_journal.proofs.store_journal.StoreJournal.read.Goals as goal
 
-pub returns-in-InTurn-clause-rest : goal.returns-in-InTurn-clause-rest
-returns-in-InTurn-clause-rest g c = λ keeps.
+pub returns-in-One : goal.returns-in-One
+returns-in-One g c =
+    let d = g.D.SectorDisk in
+    let old = c.args.disk.now in
+    let new = c.read.new.disk in
+    let e = c.read.ensures in
+    let is = c.in-One.is in
+    record {
+      page = λ keeps. subst (λ b. OnOk c.read.result (c.read.new.to ≡ joined (λ i. kind_standing b (d.content old) c.args.home i) 8))
+          (sym ((c.requires.rest (e.kept keeps)).kind ∙ ap journal_kind is)) (e.page keeps);
+      rest = λ keeps. store_rest_read d old new (e.touches keeps) e.size c.args.self.now (c.requires.rest (e.kept keeps));
+      reads = e.reads;
+      asks = subst (λ j. AsksOnly d (IsPageSector (journal_stands j c.args.home)) old new) (sym is) e.asks;
+    }
+
+pub returns-in-InTurn : goal.returns-in-InTurn
+returns-in-InTurn g c =
+    let d = g.D.SectorDisk in
+    let old = c.args.disk.now in
+    let new = c.read-in-InTurn.new.disk in
     let e = c.read-in-InTurn.ensures in
-    store_rest_read g.D.SectorDisk c.args.disk.now c.read-in-InTurn.new.disk (e.touches keeps) e.size c.args.self.now (c.requires.rest (e.kept keeps))
+    let is = c.in-InTurn.is in
+    record {
+      page = λ keeps. subst (λ b. OnOk c.read-in-InTurn.result (c.read-in-InTurn.new.to ≡ joined (λ i. kind_standing b (d.content old) c.args.home i) 8))
+          (sym ((c.requires.rest (e.kept keeps)).kind ∙ ap journal_kind is)) (e.page keeps);
+      rest = λ keeps. store_rest_read d old new (e.touches keeps) e.size c.args.self.now (c.requires.rest (e.kept keeps));
+      reads = e.reads;
+      asks = subst (λ j. AsksOnly d (IsPageSector (journal_stands j c.args.home)) old new) (sym is) e.asks;
+    }

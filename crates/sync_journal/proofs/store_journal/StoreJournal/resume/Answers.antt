@@ -1,88 +1,118 @@
-use Rattle.std.proofs.Common.{sym, subst, ◌∙◌, rules}
-use Rattle.std.specs.Prelude.{IsErrOf}
+use Rattle.std.proofs.Common.{◌≡◌, sym, subst, ◌∙◌, rules}
+use Rattle.disk_model.specs.Moments.{AsksOnly}
 use Rattle.disk_model.proofs.Moments.{weaker}
 use Rattle.sync_journal.specs.Map.{AreHomes}
 use Rattle.sync_journal.specs.Journal.{live_homes}
-use Rattle.sync_journal.specs.Kinds.{kind_home_count}
-use Rattle.sync_journal.specs.Runs.{Runs}
+use Rattle.sync_journal.specs.Kinds.{kind_home_count, IsKindAsked, IsKindClosed}
+use Rattle.sync_journal.specs.Runs.{RunsOnDevice}
 use Rattle.sync_journal.specs.Resuming.{IsKindResumed}
-use Rattle.sync_journal.specs.declared.faults.RecoverFault.TheVariants.{Device, BadJournal}
-use Rattle.sync_journal.specs.declared.store_journal.Journals.TheVariants.{Single}
-use Rattle.sync_journal.proofs.InKinds.{one_as_before, while_reading}
-use Rattle.sync_journal.proofs.Resuming.{bad_of, looked_synced, two_looked, two_good}
+use Rattle.sync_journal.specs.declared.store_journal.Journals.TheVariants.{Single, Paired}
+use Rattle.sync_journal.proofs.Causes.{told_was}
+use Rattle.sync_journal.proofs.InTurn.{none_are}
+use Rattle.sync_journal.proofs.InKinds.{one_same, one_settled, one_as_before, while_reading}
+use Rattle.sync_journal.proofs.Resuming.{bad_of, of_bad, looked_synced, two_looked, two_good}
 use Rattle.sync_journal.proofs.store_journal.StoreJournal.resume.Goals as goal
 
 -- of one journal
-pub returns-in_ok-recover_synced-in-Single-clause-run : goal.returns-in_ok-recover_synced-in-Single-clause-run
-returns-in_ok-recover_synced-in-Single-clause-run g c =
+pub returns-in_ok-recover_synced-in-Single : goal.returns-in_ok-recover_synced-in-Single
+returns-in_ok-recover_synced-in-Single g c =
     let d = g.D.SectorDisk in
     let old = c.args.disk.now in
+    let new = c.recover_synced.new.disk in
+    let n = d.sector_count old in
+    let image = d.content old in
     let e = c.recover_synced.ensures in
-    subst (λ b. Runs d (IsKindResumed b (d.sector_count old)) old c.recover_synced.new.disk) (sym c.in-Single.is)
-    (record { size = e.size; kept = e.kept; later = e.later; touches = e.touches })
+    let done = c.in_ok-recover_synced-in-Single.ensures in
+    let is = c.in-Single.is in
+    record {
+      ok = record {
+        kind = sym is;
+        homes = subst (λ list. AreHomes (kind_home_count c.args.journals n) list) (sym c.closed.ensures) (none_are _);
+        calm = done.calm;
+        settled = λ keeps. (let kind = c.requires.kind (e.kept keeps) ∙ is in one_settled n image kind d c.closed.result _ new _ _ (one_same n image kind) c.closed.ensures (done.ok keeps));
+        synced = done.synced;
+        named = λ keeps. c.closed.ensures;
+        good = λ keeps bad. done.good keeps (of_bad Single n image (c.requires.kind (e.kept keeps) ∙ is) bad);
+      };
+      any_moment = λ keeps. weaker d old new _ _ (one_as_before n image (c.requires.kind (e.kept keeps) ∙ is)) (e.any_moment keeps (c.requires.synced (e.kept keeps)));
+      run = subst (λ b. RunsOnDevice d (IsKindResumed b n) old new) (sym is) e.run;
+      closed_unwritten = λ keeps closed. e.closed_unwritten keeps (subst (λ b. IsKindClosed b image) (c.requires.kind (e.kept keeps) ∙ is) closed);
+      asks = λ keeps. subst (λ b. AsksOnly d (IsKindAsked b image) old new) (sym (c.requires.kind (e.kept keeps) ∙ is)) (e.asks keeps);
+      err = record { device = λ told. cc; still = λ told. cc; bad = λ keeps told. cc; unwritten = λ keeps told. cc };
+    }
 
-pub returns-in_err-recover_synced-in-Single-clause-any_moment : goal.returns-in_err-recover_synced-in-Single-clause-any_moment
-returns-in_err-recover_synced-in-Single-clause-any_moment g c = λ keeps.
+pub returns-in_err-recover_synced-in-Single : goal.returns-in_err-recover_synced-in-Single
+returns-in_err-recover_synced-in-Single g c =
     let d = g.D.SectorDisk in
     let old = c.args.disk.now in
-    let e = c.recover_synced.ensures in
-    weaker d old c.recover_synced.new.disk _ _ (one_as_before (d.sector_count old) (d.content old) (c.requires.kind (e.kept keeps) ∙ c.in-Single.is)) (e.any_moment keeps)
-
-pub returns-in_ok-recover_synced-in-Single-clause-any_moment : goal.returns-in_ok-recover_synced-in-Single-clause-any_moment
-returns-in_ok-recover_synced-in-Single-clause-any_moment g c = λ keeps.
-    let d = g.D.SectorDisk in
-    let old = c.args.disk.now in
-    let e = c.recover_synced.ensures in
-    weaker d old c.recover_synced.new.disk _ _ (one_as_before (d.sector_count old) (d.content old) (c.requires.kind (e.kept keeps) ∙ c.in-Single.is)) (e.any_moment keeps)
+    let new = c.recover_synced.new.disk in
+    let n = d.sector_count old in
+    let image = d.content old in
+    let e = c.in_err-recover_synced-in-Single.ensures in
+    let is = c.in-Single.is in
+    record {
+      ok = search rules;
+      any_moment = λ keeps. weaker d old new _ _ (one_as_before n image (c.requires.kind (e.kept keeps) ∙ is)) (e.any_moment keeps (c.requires.synced (e.kept keeps)));
+      run = subst (λ b. RunsOnDevice d (IsKindResumed b n) old new) (sym is) e.run;
+      closed_unwritten = λ keeps closed. e.closed_unwritten keeps (subst (λ b. IsKindClosed b image) (c.requires.kind (e.kept keeps) ∙ is) closed);
+      asks = λ keeps. subst (λ b. AsksOnly d (IsKindAsked b image) old new) (sym (c.requires.kind (e.kept keeps) ∙ is)) (e.asks keeps);
+      err = record {
+        device = λ told. e.device (told_was _ _ _ c.from_residual.ensures.1 told);
+        still = λ told. e.still (told_was _ _ _ c.from_residual.ensures.1 told);
+        bad = λ keeps told. bad_of Single n image (c.requires.kind (e.kept keeps) ∙ is) (e.bad keeps (told_was _ _ _ c.from_residual.ensures.1 told));
+        unwritten = λ keeps told. e.bad_unwritten keeps (e.bad keeps (told_was _ _ _ c.from_residual.ensures.1 told));
+      };
+    }
 
 -- of two
-pub returns-in_err-journal-in-Paired-clause-any_moment : goal.returns-in_err-journal-in-Paired-clause-any_moment
-returns-in_err-journal-in-Paired-clause-any_moment g c = λ keeps.
-    let d = g.D.SectorDisk in
-    let old = c.args.disk.now in
-    let run = c.find_named.ensures.run in
-    while_reading d old c.find_named.new.disk c.find_named.new.disk (run.touches keeps) (λ image left. g.met.D.SectorDisk.only_now old image (run.kept keeps) left) (c.requires.synced (run.kept keeps))
-
-pub returns-in_ok-journal-in-Paired-clause-any_moment : goal.returns-in_ok-journal-in-Paired-clause-any_moment
-returns-in_ok-journal-in-Paired-clause-any_moment g c = λ keeps.
-    let d = g.D.SectorDisk in
-    let old = c.args.disk.now in
-    let run = c.find_named.ensures.run in
-    while_reading d old c.find_named.new.disk c.find_named.new.disk (run.touches keeps) (λ image left. g.met.D.SectorDisk.only_now old image (run.kept keeps) left) (c.requires.synced (run.kept keeps))
-
-pub returns-in_ok-journal-in-Paired-clause-ok : goal.returns-in_ok-journal-in-Paired-clause-ok
-returns-in_ok-journal-in-Paired-clause-ok g c =
+pub returns-in_err-journal-in-Paired : goal.returns-in_err-journal-in-Paired
+returns-in_err-journal-in-Paired g c =
     let d = g.D.SectorDisk in
     let old = c.args.disk.now in
     let new = c.find_named.new.disk in
-    let run = c.find_named.ensures.run in
+    let n = d.sector_count old in
+    let image = d.content old in
+    let e = c.in_err-journal-in-Paired.ensures in
+    let run = e.looks.run in
+    let is = c.in-Paired.is in
+    record {
+      ok = search rules;
+      any_moment = λ keeps. while_reading d old new new (run.touches keeps) (λ image left. g.met.D.SectorDisk.only_now old image (run.kept keeps) left) (c.requires.synced (run.kept keeps));
+      run = subst (λ b. RunsOnDevice d (IsKindResumed b n) old new) (sym is) run;
+      closed_unwritten = λ keeps closed. run.touches keeps;
+      asks = λ keeps. subst (λ b. AsksOnly d (IsKindAsked b image) old new) (sym (c.requires.kind (run.kept keeps) ∙ is)) (e.asks keeps);
+      err = record {
+        device = λ told. e.looks.device (told_was _ _ _ c.from_residual-in_err-journal-in-Paired.ensures.1 told);
+        still = λ told. e.looks.still (told_was _ _ _ c.from_residual-in_err-journal-in-Paired.ensures.1 told);
+        bad = λ keeps told. bad_of Paired n image (c.requires.kind (run.kept keeps) ∙ is) (e.bad keeps (told_was _ _ _ c.from_residual-in_err-journal-in-Paired.ensures.1 told));
+        unwritten = λ keeps told. run.touches keeps;
+      };
+    }
+
+pub returns-in_ok-journal-in-Paired : goal.returns-in_ok-journal-in-Paired
+returns-in_ok-journal-in-Paired g c =
+    let d = g.D.SectorDisk in
+    let old = c.args.disk.now in
+    let new = c.find_named.new.disk in
+    let n = d.sector_count old in
+    let image = d.content old in
     let journal = c.in_ok-journal-in-Paired.journal in
     let done = c.in_ok-journal-in-Paired.ensures in
+    let run = done.looks.run in
+    let is = c.in-Paired.is in
     record {
-      kind = sym c.in-Paired.is;
-      homes = subst (λ b. AreHomes (kind_home_count b (d.sector_count old)) (live_homes journal.live)) (sym c.in-Paired.is) done.homes;
-      calm = done.calm;
-      settled = λ keeps. two_looked d old new (run.touches keeps) (c.requires.synced (run.kept keeps)) journal (c.requires.kind (run.kept keeps) ∙ c.in-Paired.is) (done.found keeps);
-      synced = λ keeps. looked_synced d old new (run.touches keeps) (c.requires.synced (run.kept keeps));
-      named = done.names;
-      good = λ keeps. two_good d old new (run.touches keeps) (c.requires.synced (run.kept keeps)) journal (c.requires.kind (run.kept keeps) ∙ c.in-Paired.is) run.size (done.found keeps);
+      ok = record {
+        kind = sym is;
+        homes = subst (λ b. AreHomes (kind_home_count b n) (live_homes journal.live)) (sym is) done.ok.homes;
+        calm = done.looks.calm;
+        settled = λ keeps. two_looked d old new (run.touches keeps) (c.requires.synced (run.kept keeps)) journal (c.requires.kind (run.kept keeps) ∙ is) (done.ok.found keeps);
+        synced = λ keeps. looked_synced d old new (run.touches keeps) (c.requires.synced (run.kept keeps));
+        named = done.ok.names;
+        good = λ keeps. two_good d old new (run.touches keeps) (c.requires.synced (run.kept keeps)) journal (c.requires.kind (run.kept keeps) ∙ is) run.size (done.ok.found keeps);
+      };
+      any_moment = λ keeps. while_reading d old new new (run.touches keeps) (λ image left. g.met.D.SectorDisk.only_now old image (run.kept keeps) left) (c.requires.synced (run.kept keeps));
+      run = subst (λ b. RunsOnDevice d (IsKindResumed b n) old new) (sym is) run;
+      closed_unwritten = λ keeps closed. run.touches keeps;
+      asks = λ keeps. subst (λ b. AsksOnly d (IsKindAsked b image) old new) (sym (c.requires.kind (run.kept keeps) ∙ is)) (done.asks keeps);
+      err = record { device = λ told. cc; still = λ told. cc; bad = λ keeps told. cc; unwritten = λ keeps told. cc };
     }
-
-pub returns-in_err-recover_synced-in-Single-clause-err : goal.returns-in_err-recover_synced-in-Single-clause-err
-returns-in_err-recover_synced-in-Single-clause-err g c =
-    let d = g.D.SectorDisk in
-    let old = c.args.disk.now in
-    let e = c.recover_synced.ensures in
-    record {
-      device = λ is. e.device (let told : IsErrOf c.recover_synced.result Device = search rules in told);
-      still = λ is. e.still (let told : IsErrOf c.recover_synced.result BadJournal = search rules in told);
-      bad = λ keeps is. bad_of Single (d.sector_count old) (d.content old) (c.requires.kind (e.kept keeps) ∙ c.in-Single.is)
-          (e.bad keeps (let told : IsErrOf c.recover_synced.result BadJournal = search rules in told));
-      unwritten = λ keeps is. e.bad_unwritten keeps (e.bad keeps (let told : IsErrOf c.recover_synced.result BadJournal = search rules in told));
-    }
-
-pub returns-in_ok-journal-in-Paired-clause-run : goal.returns-in_ok-journal-in-Paired-clause-run
-returns-in_ok-journal-in-Paired-clause-run g c =
-    let d = g.D.SectorDisk in
-    let old = c.args.disk.now in
-    subst (λ b. Runs d (IsKindResumed b (d.sector_count old)) old c.find_named.new.disk) (sym c.in-Paired.is) c.find_named.ensures.run

@@ -1,338 +1,65 @@
-use Rattle.std.proofs.Common.{ℕ, [], inl, inr, sym, subst, ◌∙◌, rules}
-use Rattle.std.specs.Prelude.{IsErrOf}
-use Rattle.sync_journal.specs.declared.faults.RecoverFault.TheVariants.{BadJournal}
-use Rattle.disk_model.specs.Stop.{Image}
-use Rattle.disk_model.specs.Moments.{Nothing, Touches, AsksOnly}
-use Rattle.disk_model.proofs.Moments.{after_none, then, wider, asks_none, asks_then}
-use Rattle.sync_journal.specs.Journal.{live_homes}
-use Rattle.sync_journal.proofs.InTurn.{while_looking, while_copying, blocks_since, recovered, bad_before, good_before, turn_since}
-use Rattle.sync_journal.proofs.TurnAsking.{recovery_asks}
+use Rattle.std.proofs.Common.{refl, ◌∙◌, arith, rules}
+use Rattle.disk_model.specs.Moments.{Nothing}
+use Rattle.disk_model.proofs.Moments.{asks_none}
+use Rattle.sync_journal.specs.Turns.{IsTurnAskedIn}
+use Rattle.sync_journal.proofs.Runs.{no_write, one_more}
+use Rattle.sync_journal.proofs.InTurn.{recovered, bad_before}
+use Rattle.sync_journal.proofs.Causes.{told_was, is_error, not_bad_device, blames_device, blames_on, blames_none}
+use Rattle.sync_journal.proofs.TurnRecoveries.{named_since, asks_since, looked, emptied}
 use Rattle.sync_journal.proofs.turns.TurnJournal.recover.Goals as goal
-use Rattle.sync_journal.specs.Map.{AreHomes}
-use Rattle.sync_journal.specs.Turns.{turn_home_count, IsTurnCommitted, IsTurnRecovered, IsTurnAskedIn, IsNamedFor}
-use Rattle.sync_journal.proofs.InKinds.{recovered_sector}
 
-pub returns-in_err-sync-clause-any_moment : goal.returns-in_err-sync-clause-any_moment
-returns-in_err-sync-clause-any_moment g c = λ keeps synced.
+pub returns-in_err-sync : goal.returns-in_err-sync
+returns-in_err-sync g c =
+    let d = g.D.SectorDisk in
+    let s = c.sync.ensures in
+    let old = c.args.disk.now in
+    let new = c.sync.new.self in
+    looked d old new (λ k image left. g.met.D.SectorDisk.only_now old image k left) (no_write d Nothing old new s.size s.kept s.cause.later s.same s.unsynced s.time)
+    _ (is_error _ _ c.from_residual.ensures.1) (λ keeps. asks_none d (IsTurnAskedIn (d.content old)) old new s.asks)
+    (blames_device d old new _ c.from_residual.ensures.1 (c.in_err-sync.ensures.cause.failed refl)) (λ keeps is. absurd (not_bad_device _ c.from_residual.ensures.1 is))
+
+pub returns-in_err-journal : goal.returns-in_err-journal
+returns-in_err-journal g c =
     let d = g.D.SectorDisk in
     let s = c.sync.ensures in
     let old = c.args.disk.now in
     let mid = c.sync.new.self in
-    while_looking d old mid mid (after_none d Nothing old mid (s.same keeps) (s.unsynced keeps) (s.time keeps))
-    (λ image left. g.met.D.SectorDisk.only_now old image (s.kept keeps) left) synced
+    let new = c.find_named.new.disk in
+    let found = c.find_named.ensures in
+    let syncs = no_write d Nothing old mid s.size s.kept s.cause.later s.same s.unsynced s.time in
+    looked d old new (λ k image left. g.met.D.SectorDisk.only_now old image k left) (one_more d Nothing old mid new syncs found.looks.run)
+    _ (is_error _ _ c.from_residual-in_err-journal.ensures.1) (asks_since d old mid new syncs found.looks.run s.asks found.asks) (blames_on d old mid new _ _ c.from_residual-in_err-journal.ensures.1 c.in_ok-sync.ensures.cause.calm c.in_err-journal.ensures.looks.blames)
+    (λ keeps is. bad_before d old mid mid (syncs.touches (found.looks.kept keeps)) s.size (c.in_err-journal.ensures.bad keeps (told_was _ _ _ c.from_residual-in_err-journal.ensures.1 is)))
 
-pub returns-in_err-sync-clause-in_a_row : goal.returns-in_err-sync-clause-in_a_row
-returns-in_err-sync-clause-in_a_row g c = λ keeps synced first was.
+pub returns-in_err-finish : goal.returns-in_err-finish
+returns-in_err-finish g c =
     let d = g.D.SectorDisk in
     let s = c.sync.ensures in
     let old = c.args.disk.now in
     let mid = c.sync.new.self in
-    turn_since d old mid first was (while_looking d old mid mid (after_none d Nothing old mid (s.same keeps) (s.unsynced keeps) (s.time keeps))
-    (λ image left. g.met.D.SectorDisk.only_now old image (s.kept keeps) left) synced)
+    let read = c.find_named.new.disk in
+    let found = c.find_named.ensures in
+    let syncs = no_write d Nothing old mid s.size s.kept s.cause.later s.same s.unsynced s.time in
+    emptied d old read (λ k image left. g.met.D.SectorDisk.only_now old image k left) (one_more d Nothing old mid read syncs found.looks.run) c.finish.new.disk c.in_ok-journal.journal c.finish.new.self
+    (named_since d old mid read syncs found.looks.run c.in_ok-journal.journal c.in_ok-journal.ensures.ok) c.finish.ensures
+    _ (asks_since d old mid read syncs found.looks.run s.asks found.asks) (search rules) (search rules)
+    (let failed = c.in_err-finish.ensures.failed refl in let still = c.in_ok-journal.ensures.looks.calm in let before = c.in_ok-sync.ensures.cause.calm in
+    blames_device d old c.finish.new.disk _ c.from_residual-in_err-finish.ensures.1 (omega (arith, failed, still, before)))
+    (λ keeps is. absurd (not_bad_device _ c.from_residual-in_err-finish.ensures.1 is)) (search rules)
 
-pub returns-in_err-journal-clause-bad : goal.returns-in_err-journal-clause-bad
-returns-in_err-journal-clause-bad g c = λ keeps is.
-    let d = g.D.SectorDisk in
-    let s = c.sync.ensures in
-    let old = c.args.disk.now in
-    let mid = c.sync.new.self in
-    let still = c.find_named.ensures.run.kept keeps in
-    bad_before d old mid mid (after_none d Nothing old mid (s.same still) (s.unsynced still) (s.time still)) s.size
-    (c.find_named.ensures.bad keeps (let told : IsErrOf c.find_named.result BadJournal = search rules in told))
-
-pub returns-in_err-journal-clause-any_moment : goal.returns-in_err-journal-clause-any_moment
-returns-in_err-journal-clause-any_moment g c = λ keeps synced.
-    let d = g.D.SectorDisk in
-    let s = c.sync.ensures in
-    let old = c.args.disk.now in
-    let mid = c.sync.new.self in
-    let end = c.find_named.new.disk in
-    let still = c.find_named.ensures.run.kept keeps in
-    while_looking d old end end (then d Nothing old mid end (after_none d Nothing old mid (s.same still) (s.unsynced still) (s.time still)) (c.find_named.ensures.run.touches keeps))
-    (λ image left. g.met.D.SectorDisk.only_now old image (s.kept still) left) synced
-
-pub returns-in_err-journal-clause-in_a_row : goal.returns-in_err-journal-clause-in_a_row
-returns-in_err-journal-clause-in_a_row g c = λ keeps synced first was.
-    let d = g.D.SectorDisk in
-    let s = c.sync.ensures in
-    let old = c.args.disk.now in
-    let mid = c.sync.new.self in
-    let end = c.find_named.new.disk in
-    let still = c.find_named.ensures.run.kept keeps in
-    turn_since d old end first was
-    (while_looking d old end end (then d Nothing old mid end (after_none d Nothing old mid (s.same still) (s.unsynced still) (s.time still)) (c.find_named.ensures.run.touches keeps))
-    (λ image left. g.met.D.SectorDisk.only_now old image (s.kept still) left) synced)
-
-pub returns-in_err-finish-clause-any_moment : goal.returns-in_err-finish-clause-any_moment
-returns-in_err-finish-clause-any_moment g c = λ keeps synced.
+pub returns : goal.returns
+returns g c =
     let d = g.D.SectorDisk in
     let s = c.sync.ensures in
     let old = c.args.disk.now in
     let mid = c.sync.new.self in
     let read = c.find_named.new.disk in
     let new = c.finish.new.disk in
-    let end = c.finish.ensures.run.kept keeps in
-    let still = c.find_named.ensures.run.kept end in
-    let looks = then d Nothing old mid read (after_none d Nothing old mid (s.same still) (s.unsynced still) (s.time still)) (c.find_named.ensures.run.touches end) in
-    while_copying d old read new looks (c.find_named.ensures.run.size ∙ s.size)
-    (while_looking d old read new looks (λ image left. g.met.D.SectorDisk.only_now old image (s.kept still) left) synced)
-    (c.finish.ensures.any_moment keeps)
-
-pub returns-clause-any_moment : goal.returns-clause-any_moment
-returns-clause-any_moment g c = λ keeps synced.
-    let d = g.D.SectorDisk in
-    let s = c.sync.ensures in
-    let old = c.args.disk.now in
-    let mid = c.sync.new.self in
-    let read = c.find_named.new.disk in
-    let new = c.finish.new.disk in
-    let end = c.finish.ensures.run.kept keeps in
-    let still = c.find_named.ensures.run.kept end in
-    let looks = then d Nothing old mid read (after_none d Nothing old mid (s.same still) (s.unsynced still) (s.time still)) (c.find_named.ensures.run.touches end) in
-    while_copying d old read new looks (c.find_named.ensures.run.size ∙ s.size)
-    (while_looking d old read new looks (λ image left. g.met.D.SectorDisk.only_now old image (s.kept still) left) synced)
-    (c.finish.ensures.any_moment keeps)
-
-pub returns-in_err-finish-clause-in_a_row : goal.returns-in_err-finish-clause-in_a_row
-returns-in_err-finish-clause-in_a_row g c = λ keeps synced first was.
-    let d = g.D.SectorDisk in
-    let s = c.sync.ensures in
-    let old = c.args.disk.now in
-    let mid = c.sync.new.self in
-    let read = c.find_named.new.disk in
-    let new = c.finish.new.disk in
-    let end = c.finish.ensures.run.kept keeps in
-    let still = c.find_named.ensures.run.kept end in
-    let looks = then d Nothing old mid read (after_none d Nothing old mid (s.same still) (s.unsynced still) (s.time still)) (c.find_named.ensures.run.touches end) in
-    turn_since d old new first was (while_copying d old read new looks (c.find_named.ensures.run.size ∙ s.size)
-    (while_looking d old read new looks (λ image left. g.met.D.SectorDisk.only_now old image (s.kept still) left) synced)
-    (c.finish.ensures.any_moment keeps))
-
-pub returns-clause-in_a_row : goal.returns-clause-in_a_row
-returns-clause-in_a_row g c = λ keeps synced first was.
-    let d = g.D.SectorDisk in
-    let s = c.sync.ensures in
-    let old = c.args.disk.now in
-    let mid = c.sync.new.self in
-    let read = c.find_named.new.disk in
-    let new = c.finish.new.disk in
-    let end = c.finish.ensures.run.kept keeps in
-    let still = c.find_named.ensures.run.kept end in
-    let looks = then d Nothing old mid read (after_none d Nothing old mid (s.same still) (s.unsynced still) (s.time still)) (c.find_named.ensures.run.touches end) in
-    turn_since d old new first was (while_copying d old read new looks (c.find_named.ensures.run.size ∙ s.size)
-    (while_looking d old read new looks (λ image left. g.met.D.SectorDisk.only_now old image (s.kept still) left) synced)
-    (c.finish.ensures.any_moment keeps))
-
-pub returns-in_err-finish-clause-bad_unwritten : goal.returns-in_err-finish-clause-bad_unwritten
-returns-in_err-finish-clause-bad_unwritten g c = λ keeps bad.
-    let d = g.D.SectorDisk in
-    let s = c.sync.ensures in
-    let old = c.args.disk.now in
-    let mid = c.sync.new.self in
-    let read = c.find_named.new.disk in
-    let end = c.finish.ensures.run.kept keeps in
-    let still = c.find_named.ensures.run.kept end in
-    let looks = then d Nothing old mid read (after_none d Nothing old mid (s.same still) (s.unsynced still) (s.time still)) (c.find_named.ensures.run.touches end) in
-    absurd (good_before d old read c.finish.new.disk looks c.in_ok-journal.journal.second (live_homes c.in_ok-journal.journal.live) (c.find_named.ensures.run.size ∙ s.size)
-    (c.in_ok-journal.ensures.found end) bad)
-
-pub returns-clause-bad_unwritten : goal.returns-clause-bad_unwritten
-returns-clause-bad_unwritten g c = λ keeps bad.
-    let d = g.D.SectorDisk in
-    let s = c.sync.ensures in
-    let old = c.args.disk.now in
-    let mid = c.sync.new.self in
-    let read = c.find_named.new.disk in
-    let end = c.finish.ensures.run.kept keeps in
-    let still = c.find_named.ensures.run.kept end in
-    let looks = then d Nothing old mid read (after_none d Nothing old mid (s.same still) (s.unsynced still) (s.time still)) (c.find_named.ensures.run.touches end) in
-    absurd (good_before d old read c.finish.new.disk looks c.in_ok-journal.journal.second (live_homes c.in_ok-journal.journal.live) (c.find_named.ensures.run.size ∙ s.size)
-    (c.in_ok-journal.ensures.found end) bad)
-
-pub returns-clause-good : goal.returns-clause-good
-returns-clause-good g c = λ keeps.
-    let d = g.D.SectorDisk in
-    let s = c.sync.ensures in
-    let old = c.args.disk.now in
-    let mid = c.sync.new.self in
-    let read = c.find_named.new.disk in
-    let end = c.finish.ensures.run.kept keeps in
-    let still = c.find_named.ensures.run.kept end in
-    let looks = then d Nothing old mid read (after_none d Nothing old mid (s.same still) (s.unsynced still) (s.time still)) (c.find_named.ensures.run.touches end) in
-    good_before d old read c.finish.new.disk looks c.in_ok-journal.journal.second (live_homes c.in_ok-journal.journal.live) (c.find_named.ensures.run.size ∙ s.size)
-    (c.in_ok-journal.ensures.found end)
-
-pub returns-clause-ok : goal.returns-clause-ok
-returns-clause-ok g c = λ keeps.
-    let d = g.D.SectorDisk in
-    let s = c.sync.ensures in
-    let old = c.args.disk.now in
-    let mid = c.sync.new.self in
-    let read = c.find_named.new.disk in
-    let end = c.finish.ensures.run.kept keeps in
-    let still = c.find_named.ensures.run.kept end in
-    let looks = then d Nothing old mid read (after_none d Nothing old mid (s.same still) (s.unsynced still) (s.time still)) (c.find_named.ensures.run.touches end) in
-    recovered d old read c.finish.new.disk looks c.finish.new.self.second (c.find_named.ensures.run.size ∙ s.size) (c.in_ok-finish.ensures.settled keeps)
-
-pub returns-in_err-finish-clause-touches : goal.returns-in_err-finish-clause-touches
-returns-in_err-finish-clause-touches g c = λ keeps.
-    let d = g.D.SectorDisk in
-    let s = c.sync.ensures in
-    let old = c.args.disk.now in
-    let mid = c.sync.new.self in
-    let read = c.find_named.new.disk in
-    let end = c.finish.ensures.run.kept keeps in
-    let still = c.find_named.ensures.run.kept end in
-    let looks = then d Nothing old mid read (after_none d Nothing old mid (s.same still) (s.unsynced still) (s.time still)) (c.find_named.ensures.run.touches end) in
-    let size = c.find_named.ensures.run.size ∙ s.size in
-    let sectors = d.sector_count old in
-    then d (IsTurnRecovered sectors) old read c.finish.new.disk
-    (wider d Nothing (IsTurnRecovered sectors) old read (λ k none. absurd none) looks)
-    (wider d (IsTurnCommitted c.in_ok-journal.journal.second (live_homes c.in_ok-journal.journal.live)) (IsTurnRecovered sectors) read c.finish.new.disk
-    (recovered_sector c.in_ok-journal.journal.second sectors (live_homes c.in_ok-journal.journal.live)
-    (subst (λ (n : ℕ). AreHomes (turn_home_count n) (live_homes c.in_ok-journal.journal.live)) s.size c.in_ok-journal.ensures.homes))
-    (c.finish.ensures.run.touches keeps))
-
-pub returns-clause-touches : goal.returns-clause-touches
-returns-clause-touches g c = λ keeps.
-    let d = g.D.SectorDisk in
-    let s = c.sync.ensures in
-    let old = c.args.disk.now in
-    let mid = c.sync.new.self in
-    let read = c.find_named.new.disk in
-    let end = c.finish.ensures.run.kept keeps in
-    let still = c.find_named.ensures.run.kept end in
-    let looks = then d Nothing old mid read (after_none d Nothing old mid (s.same still) (s.unsynced still) (s.time still)) (c.find_named.ensures.run.touches end) in
-    let size = c.find_named.ensures.run.size ∙ s.size in
-    let sectors = d.sector_count old in
-    then d (IsTurnRecovered sectors) old read c.finish.new.disk
-    (wider d Nothing (IsTurnRecovered sectors) old read (λ k none. absurd none) looks)
-    (wider d (IsTurnCommitted c.in_ok-journal.journal.second (live_homes c.in_ok-journal.journal.live)) (IsTurnRecovered sectors) read c.finish.new.disk
-    (recovered_sector c.in_ok-journal.journal.second sectors (live_homes c.in_ok-journal.journal.live)
-    (subst (λ (n : ℕ). AreHomes (turn_home_count n) (live_homes c.in_ok-journal.journal.live)) s.size c.in_ok-journal.ensures.homes))
-    (c.finish.ensures.run.touches keeps))
-
-pub returns-in_err-finish-clause-asks : goal.returns-in_err-finish-clause-asks
-returns-in_err-finish-clause-asks g c = λ keeps.
-    let d = g.D.SectorDisk in
-    let s = c.sync.ensures in
-    let old = c.args.disk.now in
-    let mid = c.sync.new.self in
-    let read = c.find_named.new.disk in
-    let end = c.finish.ensures.run.kept keeps in
-    let still = c.find_named.ensures.run.kept end in
-    let image = d.content old in
-    let journal = c.in_ok-journal.journal in
-    let looks = asks_then d (IsTurnAskedIn image) old mid read (asks_none d (IsTurnAskedIn image) old mid s.asks)
-    (subst (λ (held : Image). AsksOnly d (IsTurnAskedIn held) mid read) (s.same still) (c.find_named.ensures.asks end)) in
-    recovery_asks d image journal old read c.finish.new.disk
-    (subst (λ (held : Image). IsNamedFor journal held) (s.same still) (c.in_ok-journal.ensures.names end)) looks c.finish.ensures.once
-
-pub returns-clause-asks : goal.returns-clause-asks
-returns-clause-asks g c = λ keeps.
-    let d = g.D.SectorDisk in
-    let s = c.sync.ensures in
-    let old = c.args.disk.now in
-    let mid = c.sync.new.self in
-    let read = c.find_named.new.disk in
-    let end = c.finish.ensures.run.kept keeps in
-    let still = c.find_named.ensures.run.kept end in
-    let image = d.content old in
-    let journal = c.in_ok-journal.journal in
-    let looks = asks_then d (IsTurnAskedIn image) old mid read (asks_none d (IsTurnAskedIn image) old mid s.asks)
-    (subst (λ (held : Image). AsksOnly d (IsTurnAskedIn held) mid read) (s.same still) (c.find_named.ensures.asks end)) in
-    recovery_asks d image journal old read c.finish.new.disk
-    (subst (λ (held : Image). IsNamedFor journal held) (s.same still) (c.in_ok-journal.ensures.names end)) looks c.finish.ensures.once
-
-pub returns-in_err-finish-clause-empty_unwritten : goal.returns-in_err-finish-clause-empty_unwritten
-returns-in_err-finish-clause-empty_unwritten g c = λ keeps empty.
-    let d = g.D.SectorDisk in
-    let s = c.sync.ensures in
-    let old = c.args.disk.now in
-    let mid = c.sync.new.self in
-    let read = c.find_named.new.disk in
-    let end = c.finish.ensures.run.kept keeps in
-    let still = c.find_named.ensures.run.kept end in
-    let looks = then d Nothing old mid read (after_none d Nothing old mid (s.same still) (s.unsynced still) (s.time still)) (c.find_named.ensures.run.touches end) in
-    let names = subst (λ (held : Image). IsNamedFor c.in_ok-journal.journal held) (s.same still) (c.in_ok-journal.ensures.names end) in
-    subst (λ now. Touches d Nothing old now) (sym (c.finish.ensures.idle (sym names.count ∙ empty))) looks
-
-pub returns-clause-empty_unwritten : goal.returns-clause-empty_unwritten
-returns-clause-empty_unwritten g c = λ keeps empty.
-    let d = g.D.SectorDisk in
-    let s = c.sync.ensures in
-    let old = c.args.disk.now in
-    let mid = c.sync.new.self in
-    let read = c.find_named.new.disk in
-    let end = c.finish.ensures.run.kept keeps in
-    let still = c.find_named.ensures.run.kept end in
-    let looks = then d Nothing old mid read (after_none d Nothing old mid (s.same still) (s.unsynced still) (s.time still)) (c.find_named.ensures.run.touches end) in
-    let names = subst (λ (held : Image). IsNamedFor c.in_ok-journal.journal held) (s.same still) (c.in_ok-journal.ensures.names end) in
-    subst (λ now. Touches d Nothing old now) (sym (c.finish.ensures.idle (sym names.count ∙ empty))) looks
-
-pub returns-clause-kept : goal.returns-clause-kept
-returns-clause-kept g c = λ keeps. c.sync.ensures.kept (c.find_named.ensures.run.kept (c.finish.ensures.run.kept keeps))
-
-pub returns-in_err-journal-clause-asks : goal.returns-in_err-journal-clause-asks
-returns-in_err-journal-clause-asks g c = λ keeps.
-    let d = g.D.SectorDisk in
-    let s = c.sync.ensures in
-    let old = c.args.disk.now in
-    let mid = c.sync.new.self in
-    let image = d.content old in
-    asks_then d (IsTurnAskedIn image) old mid c.find_named.new.disk (asks_none d (IsTurnAskedIn image) old mid s.asks)
-    (subst (λ (held : Image). AsksOnly d (IsTurnAskedIn held) mid c.find_named.new.disk) (s.same (c.find_named.ensures.run.kept keeps)) (c.find_named.ensures.asks keeps))
-
-pub returns-in_err-sync-clause-blocks : goal.returns-in_err-sync-clause-blocks
-returns-in_err-sync-clause-blocks g c = λ keeps.
-    let s = c.sync.ensures in
-    inl (after_none g.D.SectorDisk Nothing c.args.disk.now c.sync.new.self (s.same keeps) (s.unsynced keeps) (s.time keeps))
-
-pub returns-in_err-journal-clause-blocks : goal.returns-in_err-journal-clause-blocks
-returns-in_err-journal-clause-blocks g c = λ keeps.
-    let d = g.D.SectorDisk in
-    let s = c.sync.ensures in
-    let old = c.args.disk.now in
-    let mid = c.sync.new.self in
-    let still = c.find_named.ensures.run.kept keeps in
-    inl (then d Nothing old mid c.find_named.new.disk (after_none d Nothing old mid (s.same still) (s.unsynced still) (s.time still)) (c.find_named.ensures.run.touches keeps))
-
-pub returns-in_err-finish-clause-blocks : goal.returns-in_err-finish-clause-blocks
-returns-in_err-finish-clause-blocks g c = λ keeps.
-    let d = g.D.SectorDisk in
-    let s = c.sync.ensures in
-    let old = c.args.disk.now in
-    let mid = c.sync.new.self in
-    let read = c.find_named.new.disk in
-    let new = c.finish.new.disk in
-    let journal = c.in_ok-journal.journal in
-    let end = c.finish.ensures.run.kept keeps in
-    let still = c.find_named.ensures.run.kept end in
-    let looks = then d Nothing old mid read (after_none d Nothing old mid (s.same still) (s.unsynced still) (s.time still)) (c.find_named.ensures.run.touches end) in
-    inr (
-      read,
-      looks,
-      journal.second,
-      live_homes journal.live,
-      blocks_since d old read new looks journal.second (live_homes journal.live) (c.find_named.ensures.run.size ∙ s.size) (c.finish.ensures.blocks keeps),
-    )
-
-pub returns-clause-blocks : goal.returns-clause-blocks
-returns-clause-blocks g c = λ keeps.
-    let d = g.D.SectorDisk in
-    let s = c.sync.ensures in
-    let old = c.args.disk.now in
-    let mid = c.sync.new.self in
-    let read = c.find_named.new.disk in
-    let new = c.finish.new.disk in
-    let journal = c.in_ok-journal.journal in
-    let end = c.finish.ensures.run.kept keeps in
-    let still = c.find_named.ensures.run.kept end in
-    let looks = then d Nothing old mid read (after_none d Nothing old mid (s.same still) (s.unsynced still) (s.time still)) (c.find_named.ensures.run.touches end) in
-    inr (
-      read,
-      looks,
-      journal.second,
-      live_homes journal.live,
-      blocks_since d old read new looks journal.second (live_homes journal.live) (c.find_named.ensures.run.size ∙ s.size) (c.finish.ensures.blocks keeps),
-    )
+    let found = c.find_named.ensures in
+    let syncs = no_write d Nothing old mid s.size s.kept s.cause.later s.same s.unsynced s.time in
+    let looks = one_more d Nothing old mid read syncs found.looks.run in
+    emptied d old read (λ k image left. g.met.D.SectorDisk.only_now old image k left) looks new c.in_ok-journal.journal c.finish.new.self
+    (named_since d old mid read syncs found.looks.run c.in_ok-journal.journal c.in_ok-journal.ensures.ok) c.finish.ensures
+    _ (asks_since d old mid read syncs found.looks.run s.asks found.asks)
+    (λ keeps. recovered d old read new (looks.touches (c.finish.ensures.kept keeps)) c.finish.new.self.second looks.size (c.in_ok-finish.ensures.done keeps))
+    c.in_ok-finish.ensures.synced (blames_none d old new _ (c.in_ok-finish.ensures.calm ∙ c.in_ok-journal.ensures.looks.calm ∙ c.in_ok-sync.ensures.cause.calm)) (λ keeps is. cc) c.in_ok-finish.ensures.not_live

@@ -2,7 +2,7 @@ use Rattle.std.proofs.Common.{◌≡◌, ◌<◌, ◌+◌, ⊎_elim, inr, refl, 
 use Rattle.std.proofs.lemmas.Bool.{cases_eq}
 use Rattle.disk_model.specs.Sectors.{part_of}
 use Rattle.disk_model.proofs.Pages.{more_time, carried}
-use Rattle.sync_plans.specs.PlanDisk.{content_of, unsynced_in, moment_of, left_in}
+use Rattle.sync_plans.specs.PlanDisk.{content_of, unsynced_in, plan_moment, left_in}
 use Rattle.sync_plans.proofs.plan_disk.PlanDisk.put_sectors.Goals as goal
 
 pub loop-i-preserved : goal.loop-i-preserved
@@ -30,6 +30,6 @@ loop-i-preserved c =
       marked = λ k m from less. ⊎_elim (w.marked k m)
           (λ other. w.still k m (inv.marked (w.kept k) m from (omega (arith, less, other)))) (cases_eq m at);
       still = λ k m u. w.still k m (inv.still (w.kept k) m u);
-      time = λ k. more_time (moment_of old) (moment_of mid) (moment_of new) (left_in old) (left_in mid) (left_in new) (content_of mid) (content_of new) (unsynced_in mid) (unsynced_in new)
+      time = λ k. more_time (plan_moment old) (plan_moment mid) (plan_moment new) (left_in old) (left_in mid) (left_in new) (content_of mid) (content_of new) (unsynced_in mid) (unsynced_in new)
           (inv.time (w.kept k)) (w.time k) (carried at (content_of mid) (content_of new) (unsynced_in mid) (unsynced_in new) (w.others k) (w.still k) (w.marked k at refl));
     }

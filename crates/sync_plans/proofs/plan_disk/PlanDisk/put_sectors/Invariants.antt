@@ -1,7 +1,7 @@
 use Rattle.std.proofs.Common.{◌≡◌, ◌⊎◌, ◌≤◌, ◌<◌, ◌+◌, ℕ, false, length}
 use Rattle.disk_model.specs.Stop.{IsOfPage, ChangesPage, Elapses}
 use Rattle.disk_model.specs.Sectors.{part_of}
-use Rattle.sync_plans.specs.PlanDisk.{content_of, unsynced_in, moment_of, left_in}
+use Rattle.sync_plans.specs.PlanDisk.{content_of, unsynced_in, plan_moment, left_in}
 use Rattle.sync_plans.proofs.plan_disk.PlanDisk.put_sectors.Given as goal
 
 abbrev pub invariant-loop-i : goal.invariant-loop-i
@@ -15,5 +15,5 @@ invariant-loop-i l = record {
   unsynced : l.self.full ≡ false → (k : ℕ) → unsynced_in l.self k → unsynced_in l.initial.self k ⊎ IsOfPage l.n k;
   marked : l.self.full ≡ false → (k : ℕ) → l.n ≤ k → k < l.n + l.i → unsynced_in l.self k;
   still : l.self.full ≡ false → (k : ℕ) → unsynced_in l.initial.self k → unsynced_in l.self k;
-  time : l.self.full ≡ false → Elapses (moment_of l.initial.self) (moment_of l.self) (left_in l.initial.self) (left_in l.self) (content_of l.self) (unsynced_in l.self);
+  time : l.self.full ≡ false → Elapses (plan_moment l.initial.self) (plan_moment l.self) (left_in l.initial.self) (left_in l.self) (content_of l.self) (unsynced_in l.self);
 }

@@ -1,6 +1,6 @@
 use Rattle.disk_model.proofs.Pages.{no_time}
-use Rattle.sync_plans.specs.PlanDisk.{content_of, unsynced_in, moment_of, left_in}
+use Rattle.sync_plans.specs.PlanDisk.{content_of, unsynced_in, plan_moment, left_in}
 use Rattle.sync_plans.proofs.plan_disk.PlanDiskSectorDisk.read.Goals as goal
 
 pub returns-clause-time : goal.returns-clause-time
-returns-clause-time c = λ _. let s = c.args.self.now in no_time (moment_of s) (left_in s) (content_of s) (unsynced_in s)
+returns-clause-time c = λ _. let s = c.args.self.now in no_time (plan_moment s) (left_in s) (content_of s) (unsynced_in s)

@@ -1,0 +1,109 @@
+-- How a new store comes about: a look at the mark, then all but the mark, written and synced, and then the mark.
+use Rattle.std.proofs.Common.{◌≡◌, ◌⊎◌, ◌≤◌, ℕ, List, Result, Err, Option, inl, inr, ⊎_elim, sym, ap, subst}
+use Rattle.std.specs.Prelude.{IsErrAnd, IsErrOf}
+use Rattle.disk_model.specs.Stop.{Image, MayLeave}
+use Rattle.disk_model.specs.Moments.{Nothing, Touches, AsksOnly, LeavesOnly}
+use Rattle.disk_model.specs.declared.sector_disk.SectorDisk.{Ghosts}
+use Rattle.disk_model.proofs.Moments.{then, wider, asks_wider}
+use Rattle.sync_journal.specs.declared.store_journal.Journals.{Journals}
+use Rattle.sync_journal.specs.declared.store_journal.Journals.TheVariants.{Paired}
+use Rattle.sync_journal.specs.Kinds.{kind_of}
+use Rattle.sync_journal.specs.Runs.{RunsOnDevice}
+use Rattle.file_store.specs.declared.faults.FormatFault.{FormatFault}
+use Rattle.file_store.specs.declared.faults.FormatFault.TheVariants.{TooLarge, Formatted, Source, Device}
+use Rattle.file_store.specs.declared.sources.FileSource.{FileSource}
+use Rattle.file_store.specs.Blocks.{MakesByBlocks, KindBehind, KindLast}
+use Rattle.file_store.specs.Blocks.MakesByBlocks.{Unmarked}
+use Rattle.file_store.specs.Format.{total_pages, IsFrom, IsMarkSector, IsStoreSector, IsTooLarge, HasReader, IsStoreOf}
+use Rattle.file_store.specs.Formatted.{FormatsStore}
+use Rattle.file_store.specs.Layout.{turn_mark, IsMark}
+use Rattle.file_store.specs.Making.{Makes, HasFormatCauses}
+use Rattle.file_store.specs.Versions.{version_of, mark_of}
+use Rattle.file_store.proofs.Blocks.{behind_more, last_more, first_epoch, made_last, made_marked}
+use Rattle.file_store.proofs.Causes.{is_this, same_Err}
+use Rattle.file_store.proofs.Formats.{while_unmarked, while_marking}
+
+module _ {D : Type 0} (g : Ghosts D) (kind : Journals) (Whole : Journals → Image → Type 0) (old : D) where
+  -- every image of a stop lacks the mark or is whole, of layout 3 also one that spoils whole blocks
+  pub record LeavesNoPart (new : D) : Type 0 where
+    pub any_moment : ((k : ℕ) → g.unsynced old k → ⊥) → (IsMark (g.content old 0) → ⊥) → LeavesOnly g old new (λ image. image 0 ≡ mark_of (version_of image) → Whole kind image)
+    pub blocks : ((k : ℕ) → g.unsynced old k → ⊥) → (IsMark (g.content old 0) → ⊥) → kind ≡ Paired
+        → MakesByBlocks g (λ image. kind_of image ≡ Paired → image 0 ≡ turn_mark → Whole Paired image) old new
+
+  module _ (only_now : (c : Image) → g.left_since old (g.moment old) c → MayLeave (g.content old) (g.unsynced old) c) (mid : D) (reads : Touches g Nothing old mid) where
+    -- it is only looked at
+    pub nothing_made : LeavesNoPart mid
+    nothing_made = record {
+      any_moment = λ synced unmarked. while_unmarked g (Whole kind) old only_now synced unmarked mid (wider g Nothing (IsFrom 1) old mid (λ k none. absurd none) reads);
+      blocks = λ synced unmarked paired. Unmarked (first_epoch g (Whole Paired) old synced unmarked mid (wider g Nothing (IsFrom 8) old mid (λ k none. absurd none) reads));
+    }
+
+    module _ (W : ℕ → Type 0) (from : (k : ℕ) → W k → IsFrom 1 k) (P Q : Image → Type 0) (into : (c : Image) → P c → Q c)
+        (whole_of : kind ≡ Paired → (b c : Image) → Q b → ((k : ℕ) → 8 ≤ k → c k ≡ b k) → kind_of c ≡ Paired → c 0 ≡ turn_mark → Whole Paired c)
+        (made : D) (writes : Touches g W mid made) where
+      all_but_mark : Touches g (IsFrom 1) old made
+      all_but_mark = then g (IsFrom 1) old mid made (wider g Nothing (IsFrom 1) old mid (λ k none. absurd none) reads) (wider g W (IsFrom 1) mid made from writes)
+
+      -- all but the mark is written, or not all yet
+      pub unmarked_made : (kind ≡ Paired → KindLast g (IsFrom 8) P mid made) → LeavesNoPart made
+      unmarked_made epochs = record {
+        any_moment = λ synced unmarked. while_unmarked g (Whole kind) old only_now synced unmarked made all_but_mark;
+        blocks = λ synced unmarked paired. made_last g (Whole Paired) old synced unmarked Q (whole_of paired) made
+            (last_more g (IsFrom 8) (IsFrom 8) P Q old mid made (wider g Nothing (IsFrom 8) old mid (λ k none. absurd none) reads) (λ k at. at) (λ c same p. into c p) (epochs paired));
+      }
+
+      -- and then the mark
+      pub marked_made : (kind ≡ Paired → KindBehind g (IsFrom 8) P mid made) → ((k : ℕ) → g.unsynced made k → ⊥)
+          → ((c : Image) → ((k : ℕ) → 1 ≤ k → c k ≡ g.content made k) → c 0 ≡ mark_of (version_of c) → Whole kind c)
+          → ((c d : Image) → ((k : ℕ) → 8 ≤ k → d k ≡ c k) → Q c → Q d) → (new : D) → Touches g IsMarkSector made new → LeavesNoPart new
+      marked_made behind made_synced whole moves new marks = record {
+        any_moment = λ synced unmarked. while_marking g (Whole kind) old only_now synced unmarked made new all_but_mark made_synced whole marks;
+        blocks = λ synced unmarked paired. made_marked g (Whole Paired) old synced unmarked Q (whole_of paired) made new made_synced moves
+            (behind_more g (IsFrom 8) (IsFrom 8) P Q old mid made (wider g Nothing (IsFrom 8) old mid (λ k none. absurd none) reads) (λ k at. at) (λ c same p. into c p) (behind paired)) marks;
+      }
+
+-- a look at the mark asks for no more than a part that asks for it
+pub looked_makes : {D : Type 0} (g : Ghosts D) (W : ℕ → Type 0) (old new : D) → ((k : ℕ) → IsMarkSector k → W k) → RunsOnDevice g Nothing old new → AsksOnly g IsMarkSector old new → Makes g W old new
+looked_makes g W old new mark run asks = record {
+  size = run.size;
+  kept = run.kept;
+  later = run.later;
+  asks = asks_wider g IsMarkSector W old new mark asks;
+  touches = λ k. wider g Nothing W old new (λ s none. absurd none) (run.touches k);
+}
+
+-- faults that are none of others
+pub when_looking : {T : Type 0} (f : FormatFault) → IsErrOf {T = T} (Err f) Formatted ⊎ IsErrOf {T = T} (Err f) Device → (f ≡ TooLarge → ⊥) × (f ≡ Source → ⊥)
+when_looking f = ⊎_elim (λ a. (λ e. cc, λ e. cc)) (λ a. (λ e. cc, λ e. cc))
+
+pub when_filling : {T : Type 0} (f : FormatFault) → IsErrOf {T = T} (Err f) Source ⊎ IsErrOf {T = T} (Err f) Device → (f ≡ TooLarge → ⊥) × (f ≡ Formatted → ⊥)
+when_filling f = ⊎_elim (λ a. (λ e. cc, λ e. cc)) (λ a. (λ e. cc, λ e. cc))
+
+pub when_marking : (Device ≡ TooLarge → ⊥) × ((Device ≡ Formatted → ⊥) × (Device ≡ Source → ⊥))
+when_marking = (λ e. cc, (λ e. cc, λ e. cc))
+
+-- a format that is refused once the files are known to fit
+module _ {D R T : Type 0} (g : Ghosts D) (kind : Journals) (remaining : R → Option (List ℕ)) (sources : List (FileSource R)) (old new : D) where
+  pub format_refused : (fault : FormatFault) (r : Result T FormatFault) → IsErrAnd r (λ f. f ≡ fault) → (IsTooLarge kind (g.sector_count old) sources → ⊥) → (fault ≡ TooLarge → ⊥)
+      → Makes g (IsStoreSector kind (total_pages sources)) old new → HasFormatCauses {T = T} (g.failures old) (g.failures new) (Err fault)
+      → (g.keeps_model new → LeavesNoPart g kind (λ b. IsStoreOf b remaining (g.sector_count old) sources) old new)
+      → (g.keeps_model new → fault ≡ Formatted → IsMark (g.content old 0)) → (g.keeps_model new → IsMark (g.content old 0) → (fault ≡ Formatted) ⊎ (fault ≡ Device))
+      → (g.keeps_model new → fault ≡ Formatted → Touches g Nothing old new) → (fault ≡ Source → HasReader sources) → FormatsStore g kind remaining sources old new r
+  format_refused fault r is fits known run causes leaves formatted marked unwritten source = subst (λ r. FormatsStore g kind remaining sources old new r) (sym (is_this r fault is)) (record {
+    ok = λ k. tt;
+    marked = λ k. tt;
+    synced = λ k. tt;
+    whole = tt;
+    any_moment = λ k. (leaves k).any_moment;
+    blocks = λ k. (leaves k).blocks;
+    size = run.size;
+    kept = run.kept;
+    later = run.later;
+    asks = run.asks;
+    too_large = (λ e. absurd (known (same_Err _ _ e)), λ large. absurd (fits large));
+    formatted = λ k e. formatted k (same_Err _ _ e);
+    not_formatted = λ k mark. inr (⊎_elim (λ e. inl (ap Err e)) (λ e. inr (ap Err e)) (marked k mark));
+    unwritten = λ k. ⊎_elim (λ e. absurd (known (same_Err _ _ e))) (λ e. unwritten k (same_Err _ _ e));
+    source = λ e. source (same_Err _ _ e);
+    causes = causes;
+  })

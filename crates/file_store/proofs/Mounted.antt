@@ -1,0 +1,94 @@
+-- What an opening leaves: a look at the head of the store, and then its journal.
+use Rattle.std.proofs.Common.{◌≡◌, ◌<◌, ◌≤◌, ℕ, Err, inl, refl, ⊎_elim, sym, ap, subst, ◌∙◌, arith}
+use Rattle.disk_model.specs.Stop.{Image, MayLeave}
+use Rattle.disk_model.specs.Moments.{Nothing, Touches, AsksOnly}
+use Rattle.disk_model.specs.declared.sector_disk.SectorDisk.{Ghosts}
+use Rattle.disk_model.proofs.Moments.{then}
+use Rattle.sync_journal.specs.declared.faults.RecoverFault.{RecoverFault}
+use Rattle.sync_journal.specs.declared.faults.RecoverFault.TheVariants.{Device as RecoverDevice, BadJournal as RecoverBadJournal}
+use Rattle.sync_journal.specs.declared.store_journal.Journals.{Journals}
+use Rattle.sync_journal.specs.declared.store_journal.Journals.TheVariants.{Paired}
+use Rattle.sync_journal.specs.Blocks.{RecoversInBlocks}
+use Rattle.sync_journal.specs.Kinds.{kind_of, IsBadStore, IsStoreAsked, IsStoreClosed, IsStoreRecovered, StoreStandsAs, KeepsStore}
+use Rattle.sync_journal.specs.Runs.{RunsOnDevice}
+use Rattle.sync_journal.proofs.Runs.{read_only}
+use Rattle.sync_journal.proofs.InKinds.{while_reading, same_store}
+use Rattle.file_store.specs.declared.faults.OpenFault.{OpenFault}
+use Rattle.file_store.specs.Faults.{open_fault}
+use Rattle.file_store.specs.Opened.{LooksFor, Mounts}
+use Rattle.file_store.specs.Resume.{IsRefusedFor}
+use Rattle.file_store.specs.Standing.{IsBadLayout, IsHeadIn}
+use Rattle.file_store.specs.Versions.{version_of}
+use Rattle.file_store.proofs.Asking.{head_asks, opening_asks}
+use Rattle.file_store.proofs.Causes.{journal_from, fault_cases, same_Err}
+use Rattle.file_store.proofs.Openings.{content_is, recovery_leaves, reads_by_blocks, opens_by_blocks}
+
+module _ {D : Type 0} (g : Ghosts D) where
+  -- mark, kind or directory can't be read, or are bad
+  pub head_refuses : {T : Type 0} (fault : OpenFault) (old new : D) → LooksFor g {T = T} (IsBadLayout (g.sector_count old) (g.content old)) old new (Err fault) → IsRefusedFor g old fault new
+  head_refuses fault old new looks = record {
+    device = λ is. looks.device (ap Err is);
+    calm = λ other. looks.still (λ is. other (same_Err _ _ is));
+    bad_layout = λ k is. looks.bad k (ap Err is);
+    bad_journal = λ k is. absurd (looks.no_journal (ap Err is));
+    layout_first = λ k is. absurd (looks.no_journal (ap Err is));
+    unwritten = λ k other. looks.run.touches k;
+  }
+
+  module _ (old read : D) (head : RunsOnDevice g Nothing old read) where
+    -- or the journal is
+    pub journal_refuses : (r : RecoverFault) (new : D) → g.failures read ≡ g.failures old → (g.keeps_model new → g.keeps_model read)
+        → (g.keeps_model read → IsBadLayout (g.sector_count old) (g.content old) → ⊥) → (r ≡ RecoverDevice → g.failures read < g.failures new)
+        → (r ≡ RecoverBadJournal → g.failures new ≡ g.failures read) → (g.keeps_model new → r ≡ RecoverBadJournal → IsBadStore (g.sector_count read) (g.content read))
+        → (g.keeps_model new → r ≡ RecoverBadJournal → Touches g Nothing read new) → IsRefusedFor g old (open_fault r) new
+    journal_refuses r new calm kept good device still bad unwritten = record {
+      device = λ is. ⊎_elim (λ fault. (let more = device fault in omega (arith, more, calm))) (λ fault. absurd (let other = sym (ap open_fault fault) ∙ is in cc)) (fault_cases r);
+      calm = λ other. ⊎_elim (λ fault. absurd (other (ap open_fault fault))) (λ fault. still fault ∙ calm) (fault_cases r);
+      bad_layout = λ k is. absurd (⊎_elim (λ fault. (let other = sym (ap open_fault fault) ∙ is in cc)) (λ fault. (let other = sym (ap open_fault fault) ∙ is in cc)) (fault_cases r));
+      bad_journal = λ k is. subst (λ (n : ℕ). IsBadStore n (g.content old)) head.size
+          (subst (λ (image : Image). IsBadStore (g.sector_count read) image) (content_is g old read (head.touches (kept k))) (bad k (journal_from r (sym is))));
+      layout_first = λ k is. good (kept k);
+      unwritten = λ k other. ⊎_elim (λ fault. absurd (other (ap open_fault fault))) (λ fault. then g Nothing old read new (head.touches (kept k)) (unwritten k fault)) (fault_cases r);
+    }
+
+    module _ (only_now : g.keeps_model old → (image : Image) → g.left_since old (g.moment old) image → MayLeave (g.content old) (g.unsynced old) image)
+        (asked : g.keeps_model read → AsksOnly g (IsHeadIn (version_of (g.content old))) old read) where
+      -- the head alone
+      pub mounts_head : Mounts g old read
+      mounts_head = record {
+        size = head.size;
+        kept = head.kept;
+        later = head.later;
+        asks = λ k. head_asks g (g.content old) old read (asked k);
+        touches = λ k. read_only g (IsStoreRecovered (g.content old) (g.sector_count old)) old read (head.touches k);
+        closed_unwritten = λ k closed. head.touches k;
+        any_moment = λ k synced. while_reading g old read read (head.touches k) (only_now (head.kept k)) synced;
+        blocks = λ k synced paired. inl (reads_by_blocks g (StoreStandsAs (g.sector_count old) (g.content old)) old read synced
+            (same_store (g.sector_count old) (g.content old) (g.content old) refl) (head.touches k));
+      }
+
+      -- and then a recovery
+      pub mounts : (new : D) (journals : Journals) → (g.keeps_model read → kind_of (g.content old) ≡ journals)
+          → g.sector_count new ≡ g.sector_count read → (g.keeps_model new → g.keeps_model read) → g.failures read ≤ g.failures new
+          → (g.keeps_model new → AsksOnly g (IsStoreAsked (g.content read)) read new)
+          → (g.keeps_model new → Touches g (IsStoreRecovered (g.content read) (g.sector_count read)) read new)
+          → (g.keeps_model new → IsStoreClosed (g.content read) → Touches g Nothing read new)
+          → (g.keeps_model new → ((k : ℕ) → g.unsynced read k → ⊥) → KeepsStore g read new)
+          → (g.keeps_model new → journals ≡ Paired → RecoversInBlocks g (StoreStandsAs (g.sector_count read) (g.content read)) read new) → Mounts g old new
+      mounts new journals kind size kept later asks touches closed moments blocks = record {
+        size = size ∙ head.size;
+        kept = λ k. head.kept (kept k);
+        later = let first = head.later in omega (arith, first, later);
+        asks = λ k. opening_asks g (g.content old) old read new (same k) (asked (kept k)) (asks k);
+        touches = λ k.
+            let W : ℕ → Type 0 = IsStoreRecovered (g.content old) (g.sector_count old) in
+            then g W old read new (read_only g W old read (head.touches (kept k)))
+            (subst (λ (n : ℕ). Touches g (IsStoreRecovered (g.content old) n) read new) head.size
+            (subst (λ (image : Image). Touches g (IsStoreRecovered image (g.sector_count read)) read new) (same k) (touches k)));
+        closed_unwritten = λ k is. then g Nothing old read new (head.touches (kept k)) (closed k (subst (λ (image : Image). IsStoreClosed image) (sym (same k)) is));
+        any_moment = λ k. recovery_leaves g old read new head.size (only_now (head.kept (kept k))) (head.touches (kept k)) (moments k);
+        blocks = λ k synced paired. opens_by_blocks g old read new head.size synced (head.touches (kept k)) (blocks k (sym (kind (kept k)) ∙ paired));
+      }
+        where
+          same : g.keeps_model new → g.content read ≡ g.content old
+          same k = content_is g old read (head.touches (kept k))

@@ -1,0 +1,319 @@
+-- What a boot leaves, from what the store's opening says.
+use Rattle.vm_types.specs.declared.mode.Levels as Levels
+use Rattle.std.proofs.Common.{ℕ, ◌*◌, ◌≡◌, ◌<◌, ◌≤◌, ◌⊎◌, inl, inr, ⊎_elim, false, List, Some, None, is_some, [], refl, sym, ap, ◌∙◌, subst, arith}
+use Rattle.std.specs.Option.{option_map}
+use Rattle.disk_model.specs.Moments.{LeavesNow, LeavesOnly, Touches, AsksOnly, Nothing}
+use Rattle.disk_model.specs.Stop.{Image, MayLeave}
+use Rattle.disk_model.specs.declared.sector_disk.SectorDisk.{Ghosts}
+use Rattle.disk_model.proofs.Moments.{started, stays, asks_none}
+use Rattle.file_store.specs.Standing.{StandsFor, StandsAs, IsBadLayout, IsBadJournal, IsAskedToOpen, file_info, standing_page}
+use Rattle.file_store.specs.Store.{IsReadyStore}
+use Rattle.file_store.specs.Store as Stores
+use Rattle.file_store.specs.declared.faults.OpenFault.{OpenFault}
+use Rattle.file_store.specs.declared.faults.OpenFault.TheVariants.{Device as StoreDevice, BadLayout as StoreLayout, BadJournal as StoreJournal}
+use Rattle.file_store.specs.declared.store.FileStore.{FileStore}
+use Rattle.file_store.proofs.Outside.{left_outside}
+use Rattle.page_cache.specs.declared.place.Place.TheVariants.{Home}
+use Rattle.vm_types.specs.declared.object.PageKey.{PageKey}
+use Rattle.vm_types.specs.declared.object.PageKey.TheVariants.{File, Object}
+use Rattle.residency.specs.Calls.{IsStart}
+use Rattle.residency.specs.Picture.{Picture, picture_of, view, held}
+use Rattle.residency.specs.Shows.{ShowsPages}
+use Rattle.sync_journal.specs.Kinds.{StoreStandsAs, IsOutsideOf, IsStoreRecovered}
+use Rattle.swap.specs.Slots.{slots_of}
+use Rattle.vm_types.specs.State.{State}
+use Rattle.machine.specs.declared.boot.BootFault.TheVariants.{Frames, Slots, OutOfMemory, Device, BadLayout, BadJournal}
+use Rattle.machine.specs.declared.config.Config.{Config}
+use Rattle.machine.specs.declared.engine.Engine.{Engine}
+use Rattle.machine.specs.Boot.{HasBadFrames, HasBadSlots, BootAccepts, BootLeaves, BootRefuses}
+use Rattle.machine.specs.EngineBoot.{EngineBoots}
+use Rattle.machine.specs.Fault.{boot_fault}
+
+pub was_layout : (fault : OpenFault) → boot_fault fault ≡ BadLayout → fault ≡ StoreLayout
+was_layout StoreDevice e = cc
+was_layout StoreLayout e = refl
+was_layout StoreJournal e = cc
+
+pub was_journal : (fault : OpenFault) → boot_fault fault ≡ BadJournal → fault ≡ StoreJournal
+was_journal StoreDevice e = cc
+was_journal StoreLayout e = cc
+was_journal StoreJournal e = refl
+
+was_device : (fault : OpenFault) → boot_fault fault ≡ Device → fault ≡ StoreDevice
+was_device StoreDevice e = refl
+was_device StoreLayout e = cc
+was_device StoreJournal e = cc
+
+-- once the store is opened, the sizes were fine
+pub sized : (fault : OpenFault) → (boot_fault fault ≡ Frames) ⊎ (boot_fault fault ≡ Slots) → ⊥
+sized StoreDevice (inl e) = cc
+sized StoreDevice (inr e) = cc
+sized StoreLayout (inl e) = cc
+sized StoreLayout (inr e) = cc
+sized StoreJournal (inl e) = cc
+sized StoreJournal (inr e) = cc
+
+-- a bad store is no failed device
+pub no_device : (fault : OpenFault) → (boot_fault fault ≡ BadLayout) ⊎ (boot_fault fault ≡ BadJournal) → fault ≡ StoreDevice → ⊥
+no_device StoreDevice (inl e) same = cc
+no_device StoreDevice (inr e) same = cc
+no_device StoreLayout e same = cc
+no_device StoreJournal e same = cc
+
+-- sizes that pass the tests are fine
+pub fine_frames : (config : Config) → 8 ≤ config.frames → config.frames ≤ 65536 → HasBadFrames config → ⊥
+fine_frames config least most bad = ⊎_elim (λ few. omega (arith, few, least)) (λ many. omega (arith, many, most)) bad
+
+pub fine_slots : (config : Config) (n slots sectors : ℕ) → config.slots ≤ 65536 → slots ≡ config.slots → sectors ≡ n → 8 * slots ≤ sectors → HasBadSlots config n → ⊥
+fine_slots config n slots sectors most same all room bad = ⊎_elim (λ many. omega (arith, many, most)) (λ short. omega (arith, short, same, all, room)) bad
+
+module _ {D : Type 0} (g : Ghosts D) where
+  -- what the opening of a store says
+  pub record IsOpened (entry : D) (store : FileStore D) : Type 0 where
+    pub ready : IsReadyStore g store
+    pub size : g.sector_count store.disk ≡ g.sector_count entry
+    pub layout : g.keeps_model store.disk → IsBadLayout (g.sector_count entry) (g.content entry) → ⊥
+    pub journal : g.keeps_model store.disk → IsBadJournal (g.sector_count entry) (g.content entry) → ⊥
+    pub leaves : g.keeps_model store.disk → LeavesNow g store.disk (StandsAs (g.sector_count entry) (g.content entry))
+    pub homes : g.keeps_model store.disk → LeavesNow g store.disk (StoreStandsAs (g.sector_count entry) (g.content entry))
+    pub kept : g.keeps_model store.disk → g.keeps_model entry
+    pub later : g.failures entry ≤ g.failures store.disk
+    pub calm : g.failures store.disk ≡ g.failures entry
+    pub asks : g.keeps_model store.disk → AsksOnly g (IsAskedToOpen (g.content entry)) entry store.disk
+    pub moments : BootLeaves g entry store.disk
+
+  -- no time passed, and nothing is unsynced
+  pub unmoved : (d : D) → ((c : Image) → g.left_since d (g.moment d) c → MayLeave (g.content d) (g.unsynced d) c)
+      → ((k : ℕ) → g.unsynced d k → ⊥) → (first : Image) → StandsAs (g.sector_count d) first (g.content d)
+      → LeavesOnly g d d (StandsAs (g.sector_count d) first)
+  unmoved d only_now synced first stands =
+      started g d (StandsAs (g.sector_count d) first) only_now
+      (λ c may.
+      let same : c ≡ g.content d = λ i k. ⊎_elim (λ u. absurd (synced k u)) (λ (e : c k ≡ g.content d k). e) (may.kept k) i in
+      subst (StandsAs (g.sector_count d) first) (sym same) stands)
+
+  -- what a stop leaves of a device that was not asked
+  pub still : (d : D) → (g.keeps_model d → (c : Image) → g.left_since d (g.moment d) c → MayLeave (g.content d) (g.unsynced d) c) → BootLeaves g d d
+  still d only_now = record {
+    any_moment = λ keeps synced. unmoved d (only_now keeps) synced (g.content d) (λ files pages stands. stands);
+    in_a_row = λ keeps synced first stands. unmoved d (only_now keeps) synced first stands;
+  }
+
+  -- too few frames, or too many
+  pub refuses_frames : (config : Config) (n : ℕ) (store : D) → HasBadFrames config → BootRefuses g config n store Frames store
+  refuses_frames config n store bad = record {
+    bad_frames = λ _. bad;
+    only_frames = λ _. refl;
+    bad_slots = λ e. absurd (let never : Frames ≡ Slots = e in cc);
+    only_slots = λ fine _. absurd (fine bad);
+    device = λ e. absurd (let never : Frames ≡ Device = e in cc);
+    err_calm = λ _. refl;
+    bad_layout = λ _ e. absurd (let never : Frames ≡ BadLayout = e in cc);
+    bad_journal = λ _ e. absurd (let never : Frames ≡ BadJournal = e in cc);
+    layout_first = λ _ e _. (let never : Frames ≡ BadJournal = e in cc);
+    unasked = λ _. refl;
+    unwritten = λ _ _. stays g Nothing store;
+    asks = λ _. asks_none g _ store store (λ k. refl);
+    outside = λ _ k _. refl;
+    err_size = refl;
+    err_kept = λ keeps. keeps;
+    err_later = omega arith;
+  }
+
+  -- too many slots
+  pub refuses_slots : (config : Config) (n : ℕ) (store : D) → (HasBadFrames config → ⊥) → HasBadSlots config n → BootRefuses g config n store Slots store
+  refuses_slots config n store fine bad = record {
+    bad_frames = λ e. absurd (let never : Slots ≡ Frames = e in cc);
+    only_frames = λ few. absurd (fine few);
+    bad_slots = λ _. bad;
+    only_slots = λ _ _. refl;
+    device = λ e. absurd (let never : Slots ≡ Device = e in cc);
+    err_calm = λ _. refl;
+    bad_layout = λ _ e. absurd (let never : Slots ≡ BadLayout = e in cc);
+    bad_journal = λ _ e. absurd (let never : Slots ≡ BadJournal = e in cc);
+    layout_first = λ _ e _. (let never : Slots ≡ BadJournal = e in cc);
+    unasked = λ _. refl;
+    unwritten = λ _ _. stays g Nothing store;
+    asks = λ _. asks_none g _ store store (λ k. refl);
+    outside = λ _ k _. refl;
+    err_size = refl;
+    err_kept = λ keeps. keeps;
+    err_later = omega arith;
+  }
+
+  -- what an opening leaves outside the homes
+  same_outside : (entry : D) (store : FileStore D) → IsOpened entry store → g.keeps_model store.disk
+      → (k : ℕ) → IsOutsideOf (g.content entry) (g.sector_count entry) k → g.content store.disk k ≡ g.content entry k
+  same_outside entry store opened keeps = (opened.homes keeps (g.content store.disk) (record { kept = λ k. inr refl })).outside
+
+  -- a store that was opened, of which a machine is made
+  pub accepts : (config : Config) (n : ℕ) (entry : D) (store : FileStore D) → (HasBadFrames config → ⊥) → (HasBadSlots config n → ⊥) → IsOpened entry store
+      → BootAccepts g config n entry store.disk
+  accepts config n entry store frames slots opened = record {
+    frames = frames;
+    slots = slots;
+    layout = opened.layout;
+    journal = opened.journal;
+    size = opened.size;
+    kept = opened.kept;
+    later = opened.later;
+    calm = opened.calm;
+    asks = opened.asks;
+    outside = same_outside entry store opened;
+  }
+
+  -- or not, for want of memory
+  pub refuses_memory : (config : Config) (n : ℕ) (entry : D) (store : FileStore D) → (HasBadFrames config → ⊥) → (HasBadSlots config n → ⊥) → IsOpened entry store
+      → BootRefuses g config n entry OutOfMemory store.disk
+  refuses_memory config n entry store frames slots opened = record {
+    bad_frames = λ e. absurd (let never : OutOfMemory ≡ Frames = e in cc);
+    only_frames = λ few. absurd (frames few);
+    bad_slots = λ e. absurd (let never : OutOfMemory ≡ Slots = e in cc);
+    only_slots = λ _ many. absurd (slots many);
+    device = λ e. absurd (let never : OutOfMemory ≡ Device = e in cc);
+    err_calm = λ _. opened.calm;
+    bad_layout = λ _ e. absurd (let never : OutOfMemory ≡ BadLayout = e in cc);
+    bad_journal = λ _ e. absurd (let never : OutOfMemory ≡ BadJournal = e in cc);
+    layout_first = λ _ e _. (let never : OutOfMemory ≡ BadJournal = e in cc);
+    unasked = λ either. absurd (⊎_elim (λ e. (let never : OutOfMemory ≡ Frames = e in cc)) (λ e. (let never : OutOfMemory ≡ Slots = e in cc)) either);
+    unwritten = λ _ either. absurd (⊎_elim (λ e. (let never : OutOfMemory ≡ BadLayout = e in cc)) (λ e. (let never : OutOfMemory ≡ BadJournal = e in cc)) either);
+    asks = opened.asks;
+    outside = same_outside entry store opened;
+    err_size = opened.size;
+    err_kept = opened.kept;
+    err_later = opened.later;
+  }
+
+  -- what the opening of a store says that gives up
+  pub record IsUnopened (entry : D) (fault : OpenFault) (left : D) : Type 0 where
+    pub size : g.sector_count left ≡ g.sector_count entry
+    pub kept : g.keeps_model left → g.keeps_model entry
+    pub later : g.failures entry ≤ g.failures left
+    pub device : fault ≡ StoreDevice → g.failures entry < g.failures left
+    pub calm : (fault ≡ StoreDevice → ⊥) → g.failures left ≡ g.failures entry
+    pub layout : g.keeps_model left → fault ≡ StoreLayout → IsBadLayout (g.sector_count entry) (g.content entry)
+    pub journal : g.keeps_model left → fault ≡ StoreJournal → IsBadJournal (g.sector_count entry) (g.content entry)
+    pub first : g.keeps_model left → fault ≡ StoreJournal → IsBadLayout (g.sector_count entry) (g.content entry) → ⊥
+    pub unwritten : g.keeps_model left → (fault ≡ StoreDevice → ⊥) → Touches g Nothing entry left
+    pub asks : g.keeps_model left → AsksOnly g (IsAskedToOpen (g.content entry)) entry left
+    pub touches : g.keeps_model left → Touches g (IsStoreRecovered (g.content entry) (g.sector_count entry)) entry left
+
+  -- a store that can't be opened
+  pub refuses_store : (config : Config) (n : ℕ) (entry : D) (fault : OpenFault) (left : D) → (HasBadFrames config → ⊥) → (HasBadSlots config n → ⊥) → IsUnopened entry fault left
+      → BootRefuses g config n entry (boot_fault fault) left
+  refuses_store config n entry fault left frames slots unopened = record {
+    bad_frames = λ e. absurd (sized fault (inl e));
+    only_frames = λ few. absurd (frames few);
+    bad_slots = λ e. absurd (sized fault (inr e));
+    only_slots = λ _ many. absurd (slots many);
+    device = λ e. unopened.device (was_device fault e);
+    err_calm = λ other. unopened.calm (λ e. other (ap boot_fault e));
+    bad_layout = λ keeps e. unopened.layout keeps (was_layout fault e);
+    bad_journal = λ keeps e. unopened.journal keeps (was_journal fault e);
+    layout_first = λ keeps e. unopened.first keeps (was_journal fault e);
+    unasked = λ either. absurd (sized fault either);
+    unwritten = λ keeps either. unopened.unwritten keeps (no_device fault either);
+    asks = unopened.asks;
+    outside = λ keeps. left_outside g (g.sector_count entry) (g.content entry) entry left (unopened.touches keeps);
+    err_size = unopened.size;
+    err_kept = unopened.kept;
+    err_later = unopened.later;
+  }
+
+  -- the image at entry stands for its own files and pages
+  at_entry : (entry : D) (store : FileStore D) → IsOpened entry store → g.keeps_model store.disk
+      → StandsFor (g.sector_count entry) (file_info (g.content entry)) (standing_page (g.content entry)) (g.content entry)
+  at_entry entry store opened keeps = record {
+    layout = opened.layout keeps;
+    journal = opened.journal keeps;
+    facts = λ f. refl;
+    same = λ f k is. refl;
+  }
+
+  -- and so does the device as it was opened
+  at_opened : (entry : D) (store : FileStore D) → IsOpened entry store → g.keeps_model store.disk
+      → StandsFor (g.sector_count entry) (file_info (g.content entry)) (standing_page (g.content entry)) (g.content store.disk)
+  at_opened entry store opened keeps =
+      opened.leaves keeps (g.content store.disk) (record { kept = λ k. inr refl }) _ _ (at_entry entry store opened keeps)
+
+  -- the directory is that of the image at entry
+  pub same_files : (entry : D) (store : FileStore D) → IsOpened entry store → g.keeps_model store.disk
+      → (f : ℕ) → Stores.files_of store f ≡ file_info (g.content entry) f
+  same_files entry store opened keeps f =
+      ap (option_map (λ e. e.info)) ((opened.ready.at_rest keeps).directory f) ∙ (at_opened entry store opened keeps).facts f
+
+-- a page that isn't mapped is no page
+unmapped : {mode : ℕ} (c : Picture mode) (pid page : ℕ) → c.at pid page ≡ None → view c pid page ≡ None
+unfolding view
+unmapped c pid page none = rw none refl
+
+-- what is at home is not in memory
+at_home : {mode : ℕ} (c : Picture mode) (p : PageKey) (bytes : List ℕ) → c.place p ≡ Home → held c p ≡ Some bytes → ⊥
+unfolding held
+at_home c p bytes home is = let never : None ≡ Some bytes = sym (rw home refl) ∙ is in cc
+
+module _ {M : Type 0} {levels : Levels.Ghosts M} {D E : Type 0} (g : Ghosts D) (h : Ghosts E) where
+  -- the state that a machine starts in over an image
+  abbrev start : Engine D E M levels → Image → State
+  start m image = record {
+    mode = levels.mode;
+    live = λ pid. false;
+    views = λ pid page. None;
+    files = Stores.files_of m.core.store;
+    volatile = standing_page image;
+    durable = standing_page image;
+    touched = λ file page. false;
+    objects = λ object page. None;
+    past = [];
+    ends = None;
+  }
+
+  stands_at_start : (entry : D) (m : Engine D E M levels) → IsOpened g entry m.core.store → g.keeps_model m.core.store.disk
+      → StandsFor (g.sector_count entry) (Stores.files_of m.core.store) (standing_page (g.content entry)) (g.content entry)
+  stands_at_start entry m opened keeps = record {
+    layout = opened.layout keeps;
+    journal = opened.journal keeps;
+    facts = λ f. sym (same_files g entry m.core.store opened keeps f);
+    same = λ f k is. refl;
+  }
+
+  starts_so : (image : Image) (m : Engine D E M levels) (frames slots : ℕ) → IsStart m.core frames slots → ShowsPages (picture_of m.core) (start m image)
+  starts_so image m frames slots fresh = record {
+    live = λ pid. sym (ap is_some (fresh.none pid));
+    views = λ pid page. sym (unmapped (picture_of m.core) pid page (rw (fresh.none pid) refl));
+    files = λ f. refl;
+    touched = λ p. sym (fresh.untouched (File p));
+    objects = λ p. sym (rw (fresh.untouched (Object p)) refl);
+    blank = λ p bytes untouched e. absurd (at_home (picture_of m.core) (Object p) bytes (fresh.at_home (Object p)) e);
+    held = λ p bytes e. absurd (at_home (picture_of m.core) (File p) bytes (fresh.at_home (File p)) e);
+    same_mode = refl;
+    clean = λ p e inside. refl;
+  }
+
+  pub boots : (entry : D) (m : Engine D E M levels) (frames slots : ℕ) → m.halted ≡ false → m.past ≡ [] → IsOpened g entry m.core.store → IsStart m.core frames slots → EngineBoots g h entry m
+  boots entry m frames slots goes bare opened fresh = record {
+    state = start m (g.content entry);
+    shows = record {
+      pages = starts_so (g.content entry) m frames slots fresh;
+      running = sym goes;
+      past = bare;
+      stands = λ keeps c may. (
+        standing_page (g.content entry),
+        refl,
+        subst (λ (n : ℕ). StandsFor n (Stores.files_of m.core.store) (standing_page (g.content entry)) c) (sym opened.size)
+            (opened.leaves keeps c may (Stores.files_of m.core.store) (standing_page (g.content entry)) (stands_at_start entry m opened keeps)),
+      );
+    };
+    fresh = subst (λ (n : ℕ). IsStart m.core n (slots_of m.core.swap).total) (sym fresh.fresh.frames)
+        (subst (λ (n : ℕ). IsStart m.core frames n) (sym fresh.slots_free.total) fresh);
+    start = record {
+      live = λ pid. refl;
+      views = λ pid page. refl;
+      same = λ file page. refl;
+      touched = λ file page. refl;
+      objects = λ object page. refl;
+      past = refl;
+      running = refl;
+    };
+    stands = λ keeps. stands_at_start entry m opened keeps;
+  }

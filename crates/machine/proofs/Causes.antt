@@ -1,0 +1,75 @@
+-- What the result of an msync comes from.
+use Rattle.vm_types.specs.declared.mode.Levels as Levels
+use Rattle.std.proofs.Common.{◌≡◌, ◌≢◌, ◌<◌, ◌≤◌, true, false, refl, sym, ap, ◌∙◌, subst, arith}
+use Rattle.disk_model.specs.declared.sector_disk.SectorDisk.{Ghosts}
+use Rattle.disk_model.specs.declared.ghost_data.Count.{Count}
+use Rattle.residency.specs.declared.kernel.Core.{Core}
+use Rattle.residency.specs.Stalls.{ReadCause}
+use Rattle.spaces.specs.Calls.{IsCaused}
+use Rattle.spaces.specs.Idle.{names_store, names_swap, refused_count}
+use Rattle.vm_types.specs.declared.refusal.Errno.TheVariants.{EIO}
+use Rattle.vm_types.specs.declared.refusal.Stall.{Stall}
+use Rattle.vm_types.specs.declared.refusal.Stall.TheVariants.{SwapDevice}
+use Rattle.vm_types.specs.declared.reply.Answer.{Answer}
+use Rattle.vm_types.specs.declared.reply.Answer.TheVariants.{Process, Address, Done, Value, Faulted, Refused, Stalled, Halted}
+use Rattle.vm_types.specs.declared.reply.Reply.TheVariants as Reply
+use Rattle.vm_types.specs.Replies.{reply_of}
+use Rattle.machine.proofs.Accesses.{refused_so}
+
+-- only the answer that stalls is a stall
+stalled_so : (a : Answer) (stall : Stall) → reply_of a ≡ Reply.Stalled stall → a ≡ Stalled stall
+stalled_so (Process pid) stall e = absurd (let never : Reply.Process pid ≡ Reply.Stalled stall = e in cc)
+stalled_so (Address addr) stall e = absurd (let never : Reply.Address addr ≡ Reply.Stalled stall = e in cc)
+stalled_so Done stall e = absurd (let never : Reply.Done ≡ Reply.Stalled stall = e in cc)
+stalled_so (Value width value) stall e = absurd (let never : Reply.Value width value ≡ Reply.Stalled stall = e in cc)
+stalled_so (Faulted fault) stall e = absurd (let never : Reply.Faulted fault ≡ Reply.Stalled stall = e in cc)
+stalled_so (Refused errno) stall e = absurd (let never : Reply.Refused errno ≡ Reply.Stalled stall = e in cc)
+stalled_so (Stalled other) stall e = let same : Reply.Stalled other ≡ Reply.Stalled stall = e in cc
+stalled_so Halted stall e = absurd (let never : Reply.Halted ≡ Reply.Stalled stall = e in cc)
+
+-- a stall for the swap device refused no frame
+none_refused : (a : Answer) → ((stall : Stall) → a ≡ Stalled stall → stall ≡ SwapDevice) → refused_count (reply_of a) ≡ 0
+none_refused (Process pid) only = refl
+none_refused (Address addr) only = refl
+none_refused Done only = refl
+none_refused (Value width value) only = refl
+none_refused (Faulted fault) only = refl
+none_refused (Refused errno) only = refl
+none_refused (Stalled stall) only = rw (only stall refl) refl
+none_refused Halted only = refl
+
+-- what names the store is no answer that doesn't
+failure_named : (a : Answer) → names_store (reply_of a) ≡ false → a ≢ Refused EIO
+failure_named a calm is = absurd (let named : names_store (reply_of (Refused EIO)) ≡ false = subst (λ (b : Answer). names_store (reply_of b) ≡ false) is calm in cc)
+
+-- an answer that doesn't name the swap device, where only that one stalls, is no stall
+unstalled : (a : Answer) → ((stall : Stall) → a ≡ Stalled stall → stall ≡ SwapDevice) → names_swap (reply_of a) ≡ false → (stall : Stall) → a ≢ Stalled stall
+unstalled a only calm stall is =
+    let named : names_swap (reply_of (Stalled SwapDevice)) ≡ false =
+    subst (λ (b : Answer). names_swap (reply_of b) ≡ false) (is ∙ ap (λ (x : Stall). Stalled x) (only stall is)) calm in
+    absurd (let never : true ≡ false = named in cc)
+
+module _ {M : Type 0} {levels : Levels.Ghosts M} {D E : Type 0} (g : Ghosts D) (h : Ghosts E) where
+  stall_cause : (old new : Core D E M levels) (stall : Stall) → stall ≡ SwapDevice → new.refused ≡ old.refused → g.failures new.store.disk ≡ g.failures old.store.disk
+      → h.failures old.swap.pages.disk < h.failures new.swap.pages.disk → ReadCause g h old new stall
+  stall_cause old new stall is refused calm grew = subst (ReadCause g h old new) (sym is) (ap (λ (c : Count). c.number) refused, calm, grew)
+
+  pub msync_caused : (old new : Core D E M levels) (a : Answer) → g.failures old.store.disk ≤ g.failures new.store.disk
+      → h.failures old.swap.pages.disk ≤ h.failures new.swap.pages.disk
+      → (a ≡ Refused EIO → g.failures old.store.disk < g.failures new.store.disk)
+      → (a ≢ Refused EIO → g.failures new.store.disk ≡ g.failures old.store.disk)
+      → ((stall : Stall) → a ≡ Stalled stall → (stall ≡ SwapDevice) × (h.failures old.swap.pages.disk < h.failures new.swap.pages.disk))
+      → (((stall : Stall) → a ≢ Stalled stall) → h.failures new.swap.pages.disk ≡ h.failures old.swap.pages.disk)
+      → new.refused ≡ old.refused → IsCaused g h old new (reply_of a)
+  msync_caused old new a later swap_later cause calm stalled still refused = record {
+    later = later;
+    swap_later = swap_later;
+    calm = λ names. calm (failure_named a names);
+    swap_calm = λ names. still (unstalled a (λ stall is. (stalled stall is).0) names);
+    counted = omega (arith, ap (λ (c : Count). c.number) refused, none_refused a (λ stall is. (stalled stall is).0));
+    failed = λ r. cause (refused_so a EIO r);
+    stalled = λ stall r.
+        let is = stalled_so a stall r in
+        let why = stalled stall is in
+        stall_cause old new stall why.0 refused (calm (λ failed. absurd (let never : Refused EIO ≡ Stalled stall = sym failed ∙ is in cc))) why.1;
+  }

@@ -1,0 +1,330 @@
+-- msync on a machine.
+use Rattle.vm_types.specs.declared.mode.Levels as Levels
+use Rattle.std.proofs.Common.{ℕ, ◌≡◌, ◌<◌, ◌≤◌, ◌⊎◌, inl, inr, ⊎_elim, ◌∷◌, [], Bool, true, false, not, ◌==◌, ◌%◌, ◌/◌, if◌then◌else◌, nat_lt, List, Option, Some, None, is_some, refl, sym, ap, ◌∙◌, subst}
+use Rattle.disk_model.specs.Moments.{LeavesOnly}
+use Rattle.disk_model.specs.Stop.{Image, MayLeave}
+use Rattle.disk_model.specs.declared.sector_disk.SectorDisk.{Ghosts}
+use Rattle.disk_model.proofs.Moments.{weaker, holds_now}
+use Rattle.file_store.specs.Commit.{StandsForEither}
+use Rattle.file_store.specs.Standing.{StandsFor}
+use Rattle.frames.specs.FrameTable.{frame_count}
+use Rattle.swap.specs.Slots.{slots_of}
+use Rattle.residency.specs.Calls.{UsesDevice}
+use Rattle.residency.specs.Picture.{picture_of}
+use Rattle.residency.specs.Shows.{ShowsPages}
+use Rattle.residency.specs.declared.kernel.Core.{Core}
+use Rattle.fault.specs.Changes.{KeepsRoom}
+use Rattle.ranges.specs.Steps.{KeepsDevices}
+use Rattle.spaces.specs.Calls as Calls
+use Rattle.spaces.specs.Idle.{is_denial, is_idle}
+use Rattle.msync.specs.Shows as Syncing
+use Rattle.msync.specs.Core.{KeepsMemory, GivesBack, Commits, Acknowledged, Failed, Unread}
+use Rattle.vm_types.specs.declared.command.Command.{Command}
+use Rattle.vm_types.specs.declared.command.Command.TheVariants.{Msync}
+use Rattle.vm_types.specs.declared.command.MsyncMode.{MsyncMode}
+use Rattle.vm_types.specs.declared.command.MsyncMode.TheVariants.{Sync, Async}
+use Rattle.vm_types.specs.declared.refusal.Errno.{Errno}
+use Rattle.vm_types.specs.declared.refusal.Errno.TheVariants.{ESRCH, EIO, EINVAL, ENOMEM, ENOSPC}
+use Rattle.vm_types.specs.declared.refusal.Stall.{Stall}
+use Rattle.vm_types.specs.declared.refusal.Stall.TheVariants.{SwapDevice}
+use Rattle.vm_types.specs.declared.reply.Reply.{Reply}
+use Rattle.vm_types.specs.declared.reply.Reply.TheVariants.{Done, Refused, Stalled}
+use Rattle.vm_types.specs.Checks.{Check, first_of, pages_from}
+use Rattle.vm_types.specs.Msync.{Ruling, Refuses, Passes, Takes, or_else, row_ruling, msync_ruling, touched_count, committed}
+use Rattle.vm_types.specs.Prefix.{is_io_error, may_have_taken}
+use Rattle.vm_types.specs.Rows.{is_covered}
+use Rattle.vm_types.specs.Run.{Answers, Fails, Stalls}
+use Rattle.vm_types.specs.Stalls.{is_success}
+use Rattle.vm_types.specs.State.{State, IsRunning, halted}
+use Rattle.vm_types.specs.Step.{noted, outcome, msync_outcome, ruling, commit_of, commits, takes}
+use Rattle.vm_types.specs.View.{Pages, attrs_of}
+use Rattle.machine.specs.declared.engine.Engine.{Engine}
+use Rattle.machine.specs.Engine.{stands_in, MayStand, HoldsIn, StandsForSome, EngineShows, EngineMeets}
+use Rattle.machine.proofs.Flat.{with_past, OnlyNow, is_running, shows_core, answered, unread, keeps_all}
+use Rattle.machine.proofs.Steps.{outcome_keeps, commit_takes}
+
+-- no check returns EIO
+abbrev IsNoFailure : Option Errno → Type 0
+IsNoFailure None = Unit {0}
+IsNoFailure (Some errno) = is_io_error errno ≡ false
+
+abbrev RefusesOnly : Ruling → Type 0
+RefusesOnly (Refuses errno) = is_io_error errno ≡ false
+RefusesOnly Passes = Unit {0}
+RefusesOnly (Takes pid first count) = Unit {0}
+
+one_check : (b : Bool) (errno : Errno) (rest : List Check) → is_io_error errno ≡ false → IsNoFailure (first_of rest) → IsNoFailure (first_of ((b, errno) ∷ rest))
+one_check true errno rest e h = e
+one_check false errno rest e h = h
+
+checked : (o : Option Errno) (r : Ruling) → IsNoFailure o → RefusesOnly r → RefusesOnly (or_else o r)
+checked None r h k = k
+checked (Some errno) r h k = h
+
+either_ruling : (b : Bool) (x y : Ruling) → RefusesOnly x → RefusesOnly y → RefusesOnly (if b then x else y)
+either_ruling true x y h k = h
+either_ruling false x y h k = k
+
+row_refuses : (s : State) (pid first count : ℕ) (mode : MsyncMode) → RefusesOnly (row_ruling s pid first count mode)
+row_refuses s pid first count Async = tt
+row_refuses s pid first count Sync =
+    let n = touched_count s pid first count in
+    either_ruling (nat_lt 1023 n) (Refuses ENOSPC) (if n == 0 then Passes else Takes pid first count) refl
+    (either_ruling (n == 0) Passes (Takes pid first count) tt tt)
+
+msync_refuses : (s : State) (pid addr len : ℕ) (mode : MsyncMode) → RefusesOnly (msync_ruling s pid addr len mode)
+msync_refuses s pid addr len mode =
+    let count = pages_from addr len in
+    let covered = (not (is_covered (attrs_of (s.views pid)) (addr / 4096) count), ENOMEM) ∷ [] in
+    let row = or_else (first_of covered) (row_ruling s pid (addr / 4096) count mode) in
+    checked (first_of ((not (s.live pid), ESRCH) ∷ (not (addr % 4096 == 0), EINVAL) ∷ [])) (if len == 0 then Passes else row)
+    (one_check (not (s.live pid)) ESRCH ((not (addr % 4096 == 0), EINVAL) ∷ []) refl
+    (one_check (not (addr % 4096 == 0)) EINVAL [] refl tt))
+    (either_ruling (len == 0) Passes row tt
+    (checked (first_of covered) (row_ruling s pid (addr / 4096) count mode)
+    (one_check (not (is_covered (attrs_of (s.views pid)) (addr / 4096) count)) ENOMEM [] refl tt)
+    (row_refuses s pid (addr / 4096) count mode)))
+
+ruled_so : (s : State) (r : Ruling) → RefusesOnly r → (msync_outcome s r).reply ≡ Refused EIO → ⊥
+ruled_so s (Refuses errno) fine e =
+    let io : is_io_error errno ≡ true = ap may_have_taken e in
+    let never : false ≡ true = sym fine ∙ io in
+    cc
+ruled_so s Passes fine e = cc
+ruled_so s (Takes pid first count) fine e = cc
+
+-- the flat model's msync never fails
+never_fails : (s : State) (pid addr len : ℕ) (mode : MsyncMode) → (outcome s (Msync pid addr len mode)).reply ≡ Refused EIO → ⊥
+never_fails s pid addr len mode e = ruled_so s (msync_ruling s pid addr len mode) (msync_refuses s pid addr len mode) e
+
+-- what it returns, where it makes pages durable
+done_of : (s : State) (r : Ruling) (after : Pages) → commit_of s r ≡ Some after → (msync_outcome s r).reply ≡ Done
+done_of s (Refuses errno) after e = absurd (let k : None ≡ Some after = e in cc)
+done_of s Passes after e = absurd (let k : None ≡ Some after = e in cc)
+done_of s (Takes pid first count) after e = refl
+
+-- where it makes none durable, the state stays
+stays_of : (s : State) (r : Ruling) → commit_of s r ≡ None → ((msync_outcome s r).state ≡ s) × (takes s r s.durable ≡ s.durable)
+stays_of s (Refuses errno) e = (refl, refl)
+stays_of s Passes e = (refl, refl)
+stays_of s (Takes pid first count) e = absurd (let k : Some (committed s pid first count s.durable) ≡ None = e in cc)
+
+-- an msync that makes pages durable is not idle, however it ends
+never_idle : (s : State) (pid addr len : ℕ) (mode : MsyncMode) (reply : Reply) (after : Pages) → commits s (Msync pid addr len mode) ≡ Some after
+    → is_denial reply ≡ false → is_idle s (Msync pid addr len mode) reply ≡ true → ⊥
+never_idle s pid addr len mode reply after commit taken idle =
+    let asked : (if is_some (Some after) then is_denial reply else true) ≡ true =
+    subst (λ (o : Option Pages). (if is_some o then is_denial reply else true) ≡ true) commit idle in
+    let never : false ≡ true = sym taken ∙ asked in
+    cc
+
+-- it stalls for the swap device alone
+done_no_stall : (stall : Stall) → Done ≡ Stalled stall → ⊥
+done_no_stall stall e = cc
+
+refused_no_stall : (errno : Errno) (stall : Stall) → Refused errno ≡ Stalled stall → ⊥
+refused_no_stall errno stall e = cc
+
+stall_is : (stall : Stall) → Stalled SwapDevice ≡ Stalled stall → SwapDevice ≡ stall
+stall_is stall e = cc
+
+-- one that makes pages durable reads the swap device
+reads_slots : (s : State) (pid addr len : ℕ) (mode : MsyncMode) (after : Pages) → commits s (Msync pid addr len mode) ≡ Some after
+    → is_some (commits s (Msync pid addr len mode)) ≡ true
+reads_slots s pid addr len mode after commit = ap is_some commit
+
+none_or_some : (o : Option Pages) → (o ≡ None) ⊎ ((after : Pages) × (o ≡ Some after))
+none_or_some None = inl refl
+none_or_some (Some after) = inr (after, refl)
+
+module _ {D : Type 0} (g : Ghosts D) where
+  abbrev pub CountsNow : Type 0
+  CountsNow = (d : D) (t : ℕ) (c : Image) → g.keeps_model d → t ≤ g.moment d → MayLeave (g.content d) (g.unsynced d) c → g.left_since d t c
+
+holds_either : (n : ℕ) (s : State) (command : Command) (reply : Reply) (after : Pages) (c : Image) → IsRunning s
+    → commits s command ≡ Some after → may_have_taken reply ≡ true
+    → StandsForEither n s.files s.durable after c → StandsForSome n s.files (HoldsIn s command reply) c
+holds_either n s command reply after c run commit taken either =
+    ⊎_elim (λ b. (s.durable, inl (subst (λ (o : Option (List Pages)). stands_in o s.durable s.durable) (sym run) refl), b))
+    (λ a. (after, inr (run, taken, commit_takes s (ruling s command) after commit), a)) either
+
+module _ {M : Type 0} {levels : Levels.Ghosts M} {D E : Type 0} (g : Ghosts D) (h : Ghosts E) where
+  -- the commit was made
+  commit_done : (old : Engine D E M levels) (core : Core D E M levels) (s : State) (pid addr len : ℕ) (mode : MsyncMode) (reply : Reply) (after : Pages)
+      → EngineShows g h old s → IsRunning s → KeepsRoom (picture_of old.core) (picture_of core) → UsesDevice h old.core.swap.pages.disk core.swap.pages.disk → commits s (Msync pid addr len mode) ≡ Some after
+      → (back : GivesBack g h old.core core pid addr len) → Commits g h (GivesBack g h old.core core pid addr len) old.core core s after (Msync pid addr len mode) reply → reply ≡ Done
+      → Syncing.CoreShows g core (outcome s (Msync pid addr len mode)).state
+      → (t : State) × EngineMeets g h old (record { core = core; halted = false; past = old.past; sync_room = tt; region_room = tt }) s t (Msync pid addr len mode) reply
+  commit_done old core s pid addr len mode reply after shows run room device commit back made done now =
+      let x = Msync pid addr len mode in
+      let new : Engine D E M levels = record { core = core; halted = false; past = old.past; sync_room = tt; region_room = tt } in
+      let n = g.sector_count old.core.store.disk in
+      let t = noted x reply (outcome s x).state in
+      let all = outcome_keeps s x in
+      let goes_on : IsRunning t = all.ends ∙ run in
+      let meets : EngineMeets g h old new s t x reply = record {
+        step = Answers run (done ∙ sym (done_of s (ruling s x) after commit)) refl;
+        shows = record {
+          pages = with_past (picture_of core) (outcome s x).state _ now.pages;
+          running = ap is_some goes_on;
+          past = shows.past ∙ sym all.past;
+          stands = λ k c may. (t.durable, subst (λ (o : Option (List Pages)). stands_in o t.durable t.durable) (sym goes_on) refl, now.stands k c may);
+        };
+        capacity = λ stall e. absurd (done_no_stall stall (sym done ∙ e));
+        room = room;
+        size = made.size;
+        swap_size = device.size;
+        kept = made.kept;
+        swap_kept = device.kept;
+        idle = λ e. absurd (never_idle s pid addr len mode reply after commit (ap is_denial done) e);
+        moments = λ k. weaker g old.core.store.disk core.store.disk (StandsForEither n s.files s.durable after) (StandsForSome n s.files (HoldsIn s x reply))
+            (λ c either. holds_either n s x reply after c run commit (ap may_have_taken done) either)
+            (made.either k back);
+      } in
+      (t, meets)
+
+  -- the store failed in it
+  commit_failed : (counts_now : CountsNow g) (old : Engine D E M levels) (core : Core D E M levels) (s : State) (pid addr len : ℕ) (mode : MsyncMode) (reply : Reply) (after : Pages)
+      → EngineShows g h old s → IsRunning s → KeepsRoom (picture_of old.core) (picture_of core) → UsesDevice h old.core.swap.pages.disk core.swap.pages.disk → commits s (Msync pid addr len mode) ≡ Some after
+      → (back : GivesBack g h old.core core pid addr len) → Commits g h (GivesBack g h old.core core pid addr len) old.core core s after (Msync pid addr len mode) reply → reply ≡ Refused EIO
+      → g.failures old.core.store.disk < g.failures core.store.disk → KeepsMemory old.core core
+      → (t : State) × EngineMeets g h old (record { core = core; halted = true; past = old.past; sync_room = tt; region_room = tt }) s t (Msync pid addr len mode) reply
+  commit_failed counts_now old core s pid addr len mode reply after shows run room device commit back made failed grew memory =
+      let x = Msync pid addr len mode in
+      let new : Engine D E M levels = record { core = core; halted = true; past = old.past; sync_room = tt; region_room = tt } in
+      let n = g.sector_count old.core.store.disk in
+      let t = halted s after in
+      let pages : ShowsPages (picture_of old.core) t = record {
+        live = shows.pages.live;
+        views = shows.pages.views;
+        files = shows.pages.files;
+        touched = shows.pages.touched;
+        objects = shows.pages.objects;
+        blank = shows.pages.blank;
+        held = shows.pages.held;
+        same_mode = shows.pages.same_mode;
+        clean = shows.pages.clean;
+      } in
+      let meets : EngineMeets g h old new s t x reply = record {
+        step = Fails after run commit grew failed refl;
+        shows = record {
+          pages = rw (memory.frames, memory.slots, memory.cache, memory.roots, memory.regions, memory.page_of, memory.directory) pages;
+          running = refl;
+          past = shows.past;
+          stands = λ k c may.
+              subst (λ (sectors : ℕ). StandsForSome sectors s.files (MayStand t) c) (sym made.size)
+              (⊎_elim (λ b. (s.durable, inl refl, b)) (λ a. (after, inr (inl refl), a))
+              (holds_now g old.core.store.disk core.store.disk (StandsForEither n s.files s.durable after)
+              (λ m i le ml. counts_now core.store.disk m i k le ml) (made.either k back) c may));
+        };
+        capacity = λ stall e. absurd (refused_no_stall EIO stall (sym failed ∙ e));
+        room = room;
+        size = made.size;
+        swap_size = device.size;
+        kept = made.kept;
+        swap_kept = device.kept;
+        idle = λ e. absurd (never_idle s pid addr len mode reply after commit (ap is_denial failed) e);
+        moments = λ k. weaker g old.core.store.disk core.store.disk (StandsForEither n s.files s.durable after) (StandsForSome n s.files (HoldsIn s x reply))
+            (λ c either. holds_either n s x reply after c run commit (ap may_have_taken failed) either)
+            (made.either k back);
+      } in
+      (t, meets)
+
+  -- a slot couldn't be read
+  commit_unread : (old : Engine D E M levels) (core : Core D E M levels) (s : State) (pid addr len : ℕ) (mode : MsyncMode) (reply : Reply) (after : Pages)
+      → EngineShows g h old s → IsRunning s → KeepsRoom (picture_of old.core) (picture_of core) → UsesDevice h old.core.swap.pages.disk core.swap.pages.disk → commits s (Msync pid addr len mode) ≡ Some after
+      → Commits g h (GivesBack g h old.core core pid addr len) old.core core s after (Msync pid addr len mode) reply → reply ≡ Stalled SwapDevice
+      → h.failures old.core.swap.pages.disk < h.failures core.swap.pages.disk → Syncing.CoreShows g core s
+      → (g.keeps_model core.store.disk → LeavesOnly g old.core.store.disk core.store.disk (StandsFor (g.sector_count old.core.store.disk) s.files s.durable))
+      → (t : State) × EngineMeets g h old (record { core = core; halted = false; past = old.past; sync_room = tt; region_room = tt }) s t (Msync pid addr len mode) reply
+  commit_unread old core s pid addr len mode reply after shows run room device commit made stalled grew now only =
+      let x = Msync pid addr len mode in
+      let new : Engine D E M levels = record { core = core; halted = false; past = old.past; sync_room = tt; region_room = tt } in
+      let n = g.sector_count old.core.store.disk in
+      let meets : EngineMeets g h old new s s x reply = record {
+        step = Stalls SwapDevice run
+            (record {
+              otherwise = ap is_success (done_of s (ruling s x) after commit);
+              open_to = reads_slots s pid addr len mode after commit;
+              cause = grew;
+            }) stalled refl;
+        shows = record {
+          pages = now.pages;
+          running = ap is_some run;
+          past = shows.past;
+          stands = λ k c may. (s.durable, subst (λ (o : Option (List Pages)). stands_in o s.durable s.durable) (sym run) refl, now.stands k c may);
+        };
+        capacity = λ stall e. subst (Calls.FallsShort (frame_count core.frames) (slots_of core.swap).total s x) (stall_is stall (sym stalled ∙ e)) tt;
+        room = room;
+        size = made.size;
+        swap_size = device.size;
+        kept = made.kept;
+        swap_kept = device.kept;
+        idle = λ e. absurd (never_idle s pid addr len mode reply after commit (ap is_denial stalled) e);
+        moments = λ k. weaker g old.core.store.disk core.store.disk (StandsFor n s.files s.durable) (StandsForSome n s.files (HoldsIn s x reply))
+            (λ c stands. (s.durable, inl (subst (λ (o : Option (List Pages)). stands_in o s.durable s.durable) (sym run) refl), stands))
+            (only k);
+      } in
+      (s, meets)
+
+  -- what is said of an msync, in a state that memory shows
+  pub record Msynced (old core : Core D E M levels) (s : State) (pid addr len : ℕ) (mode : MsyncMode) (reply : Reply) : Type 0 where
+    pub passes : commits s (Msync pid addr len mode) ≡ None → (reply ≡ (outcome s (Msync pid addr len mode)).reply) × (core ≡ old)
+    pub commits_so : (after : Pages) → commits s (Msync pid addr len mode) ≡ Some after
+        → Commits g h (GivesBack g h old core pid addr len) old core s after (Msync pid addr len mode) reply
+    pub back : (after : Pages) → commits s (Msync pid addr len mode) ≡ Some after → GivesBack g h old core pid addr len
+
+  -- returning EIO, it halts the machine
+  pub msync_halts : (counts_now : CountsNow g) (old : Engine D E M levels) (core : Core D E M levels) (s : State) (pid addr len : ℕ) (mode : MsyncMode) (reply : Reply)
+      → EngineShows g h old s → old.halted ≡ false → KeepsRoom (picture_of old.core) (picture_of core) → UsesDevice h old.core.swap.pages.disk core.swap.pages.disk
+      → (Syncing.CoreShows g old.core s → Msynced old.core core s pid addr len mode reply)
+      → reply ≡ Refused EIO → (t : State) × EngineMeets g h old (record { core = core; halted = true; past = old.past; sync_room = tt; region_room = tt }) s t (Msync pid addr len mode) reply
+  msync_halts counts_now old core s pid addr len mode reply shows live room device said e =
+      let x = Msync pid addr len mode in
+      let run = is_running g h old s shows live in
+      let told = said (shows_core g h old s shows run) in
+      ⊎_elim (λ none. absurd (never_fails s pid addr len mode (sym (told.passes none).0 ∙ e)))
+      (λ (some : (after : Pages) × (commits s x ≡ Some after)).
+      let made = told.commits_so some.0 some.1 in
+      elim made.end as (λ _. (t : State) × EngineMeets g h old (record { core = core; halted = true; past = old.past; sync_room = tt; region_room = tt }) s t x reply) [
+        | Acknowledged done pages now sound ↦ absurd (let never : Done ≡ Refused EIO = sym done ∙ e in cc)
+        | Failed failed grew memory ↦ commit_failed counts_now old core s pid addr len mode reply some.0 shows run room device some.1 (told.back some.0 some.1) made e grew memory
+        | Unread stalled grew memory now sound only ↦ absurd (let never : Stalled SwapDevice ≡ Refused EIO = sym stalled ∙ e in cc)
+      ])
+      (none_or_some (commits s x))
+
+  -- returning anything else, it leaves the machine running
+  pub msync_goes_on : (only_now : OnlyNow g) (old : Engine D E M levels) (core : Core D E M levels) (s : State) (pid addr len : ℕ) (mode : MsyncMode) (reply : Reply)
+      → EngineShows g h old s → old.halted ≡ false → KeepsRoom (picture_of old.core) (picture_of core) → UsesDevice h old.core.swap.pages.disk core.swap.pages.disk
+      → (Syncing.CoreShows g old.core s → Msynced old.core core s pid addr len mode reply)
+      → (reply ≡ Refused EIO → ⊥) → (t : State) × EngineMeets g h old (record { core = core; halted = false; past = old.past; sync_room = tt; region_room = tt }) s t (Msync pid addr len mode) reply
+  msync_goes_on only_now old core s pid addr len mode reply shows live room device said otherwise =
+      let x = Msync pid addr len mode in
+      let run = is_running g h old s shows live in
+      let told = said (shows_core g h old s shows run) in
+      ⊎_elim (λ none.
+      let stays = stays_of s (ruling s x) none in
+      let same : core ≡ old.core = (told.passes none).1 in
+      let pages : ShowsPages (picture_of core) (outcome s x).state =
+      subst (λ (t : State). ShowsPages (picture_of core) t) (sym stays.0) (subst (λ (o : Core D E M levels). ShowsPages (picture_of o) s) (sym same) shows.pages) in
+      let keeps : KeepsDevices old.core core = keeps_all g h old.core core same in
+      answered g h only_now old core false old.past s x reply shows live refl stays.1 refl (unread g old.core.store core.store keeps.store) device (λ _. keeps) room (Calls.Does (told.passes none).0 pages))
+      (λ (some : (after : Pages) × (commits s x ≡ Some after)).
+      let made = told.commits_so some.0 some.1 in
+      elim made.end as (λ _. (t : State) × EngineMeets g h old (record { core = core; halted = false; past = old.past; sync_room = tt; region_room = tt }) s t x reply) [
+        | Acknowledged done pages now sound ↦ commit_done old core s pid addr len mode reply some.0 shows run room device some.1 (told.back some.0 some.1) made done (now (told.back some.0 some.1))
+        | Failed failed grew memory ↦ absurd (otherwise failed)
+        | Unread stalled grew memory now sound only ↦ commit_unread old core s pid addr len mode reply some.0 shows run room device some.1 made stalled grew now only
+      ])
+      (none_or_some (commits s x))
+
+  -- either way
+  pub msync_meets : (only_now : OnlyNow g) (counts_now : CountsNow g) (old : Engine D E M levels) (core : Core D E M levels) (stops : Bool) (s : State) (pid addr len : ℕ) (mode : MsyncMode) (reply : Reply)
+      → EngineShows g h old s → old.halted ≡ false → KeepsRoom (picture_of old.core) (picture_of core) → UsesDevice h old.core.swap.pages.disk core.swap.pages.disk
+      → (Syncing.CoreShows g old.core s → Msynced old.core core s pid addr len mode reply)
+      → (stops ≡ true → reply ≡ Refused EIO) → (stops ≡ false → reply ≡ Refused EIO → ⊥)
+      → (t : State) × EngineMeets g h old (record { core = core; halted = stops; past = old.past; sync_room = tt; region_room = tt }) s t (Msync pid addr len mode) reply
+  msync_meets only_now counts_now old core true s pid addr len mode reply shows live room device said failed otherwise =
+      msync_halts counts_now old core s pid addr len mode reply shows live room device said (failed refl)
+  msync_meets only_now counts_now old core false s pid addr len mode reply shows live room device said failed otherwise =
+      msync_goes_on only_now old core s pid addr len mode reply shows live room device said (otherwise refl)

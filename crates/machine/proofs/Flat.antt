@@ -1,0 +1,310 @@
+-- Commands that write nothing to the store.
+use Rattle.vm_types.specs.declared.mode.Levels as Levels
+use Rattle.std.proofs.Common.{ℕ, ◌/◌, ◌≡◌, inl, Bool, true, false, List, Option, Some, None, is_some, refl, sym, ap, ◌∙◌, subst, inr, ⊎_elim, arith}
+use Rattle.disk_model.specs.Moments.{LeavesNow, LeavesOnly, Touches, Nothing}
+use Rattle.disk_model.specs.Stop.{Image, MayLeave}
+use Rattle.disk_model.specs.declared.sector_disk.SectorDisk.{Ghosts}
+use Rattle.disk_model.proofs.Moments.{stays, started, goes_on, still_leaves, asks_none}
+use Rattle.file_store.specs.Standing.{StandsFor}
+use Rattle.file_store.specs.declared.store.FileStore.{FileStore}
+use Rattle.frames.specs.FrameTable.{frame_count}
+use Rattle.swap.specs.Slots.{slots_of}
+use Rattle.residency.specs.Calls.{UsesDevice}
+use Rattle.residency.specs.Reading.{ReadsStore}
+use Rattle.residency.specs.Picture.{Picture, picture_of}
+use Rattle.residency.specs.Shows.{ShowsPages}
+use Rattle.residency.specs.declared.kernel.Core.{Core}
+use Rattle.fault.proofs.Asking.{asks_slots_same}
+use Rattle.fault.specs.Changes.{KeepsRoom}
+use Rattle.ranges.specs.Steps.{KeepsDevices}
+use Rattle.fault.proofs.AccessAsking.{asks_same}
+use Rattle.fault.proofs.AccessSlotted.{slotted_same}
+use Rattle.fault.proofs.Wanted.{calm_same}
+use Rattle.msync.specs.Shows as Syncing
+use Rattle.msync.proofs.SettledPages.{settles_nothing}
+use Rattle.spaces.proofs.Asking.{writes_none}
+use Rattle.spaces.proofs.Returning.{takes_none}
+use Rattle.spaces.specs.Accesses.{AsksFor}
+use Rattle.spaces.specs.Calls as Calls
+use Rattle.spaces.specs.Idle.{is_idle}
+use Rattle.vm_types.specs.declared.access.Access.{Access}
+use Rattle.vm_types.specs.declared.access.Access.TheVariants as Kinds
+use Rattle.vm_types.specs.declared.command.Command.{Command}
+use Rattle.vm_types.specs.declared.command.Command.TheVariants.{Spawn, Fork, Exit, Mmap, Munmap, Mprotect, Dontneed, Msync, Load, Store, Fetch, PastFaults}
+use Rattle.vm_types.specs.declared.refusal.Stall.{Stall}
+use Rattle.vm_types.specs.declared.refusal.Stall.TheVariants.{StoreDevice}
+use Rattle.vm_types.specs.declared.reply.Reply.{Reply}
+use Rattle.vm_types.specs.declared.reply.Reply.TheVariants.{Done, Halted}
+use Rattle.vm_types.specs.Checks.{page_count}
+use Rattle.vm_types.specs.Files.{Files}
+use Rattle.vm_types.specs.Limits.{user_end}
+use Rattle.vm_types.specs.History.{Past}
+use Rattle.vm_types.specs.Run.{Answers, Stalls, Stays}
+use Rattle.vm_types.specs.Stalls.{MayStall}
+use Rattle.vm_types.specs.State.{State, IsRunning}
+use Rattle.vm_types.specs.Step.{outcome, noted, past_after, ruling, takes}
+use Rattle.vm_types.specs.View.{Pages}
+use Rattle.machine.specs.Engine.{stands_in, MayStand, HoldsIn, StandsForSome, EngineShows, EngineMeets, EngineMayRead}
+use Rattle.machine.specs.Accesses.{Accesses}
+use Rattle.machine.specs.declared.engine.Engine.{Engine}
+use Rattle.machine.proofs.Outcomes.{never_stalls}
+use Rattle.machine.proofs.Steps.{outcome_keeps, past_stalled}
+
+running_of : (o : Option (List Pages)) → is_some o ≡ false → o ≡ None
+running_of None e = refl
+running_of (Some x) e = cc
+
+halted_of : (o : Option (List Pages)) → is_some o ≡ true → (ends : List Pages) × (o ≡ Some ends)
+halted_of None e = cc
+halted_of (Some x) e = (x, refl)
+
+-- a halted machine asks for nothing
+no_stall : (stall : Stall) → Halted ≡ Reply.Stalled stall → ⊥
+no_stall stall e = cc
+
+no_process : (pid : ℕ) → Halted ≡ Reply.Process pid → ⊥
+no_process pid e = cc
+
+same_stall : (stall other : Stall) → Reply.Stalled stall ≡ Reply.Stalled other → stall ≡ other
+same_stall stall other e = cc
+
+halted_asks : {M : Type 0} {levels : Levels.Ghosts M} {D E : Type 0} (g : Ghosts D) (h : Ghosts E) (c : Core D E M levels) (pid addr : ℕ) (access : Access) → AsksFor g h c c pid addr access Halted
+halted_asks g h c pid addr access = record { wanted = λ stall e. absurd (no_stall stall e); refused = λ stall e. absurd (no_stall stall e); home = λ e. absurd (no_stall StoreDevice e); read = inl refl; slots = λ none. refl; slotted = slotted_same _ _ (picture_of c); granted = c; tables = λ n table. inl table; calm = λ none. calm_same c pid (addr / 4096); writes = writes_none access c; sectors = asks_same g h c c pid (addr / 4096) access refl refl }
+
+module _ {M : Type 0} {levels : Levels.Ghosts M} {D E : Type 0} (g : Ghosts D) (h : Ghosts E) where
+  pub halted_accesses : (c : Core D E M levels) (command : Command) → Accesses g h c c command Halted
+  halted_accesses c (Load pid addr width) = (halted_asks g h c pid addr Kinds.Load, λ place walked. refl)
+  halted_accesses c (Fetch pid addr) = (halted_asks g h c pid addr Kinds.Fetch, λ place walked. refl)
+  halted_accesses c (Store pid addr stored) = (halted_asks g h c pid addr Kinds.Store, λ place walked done. absurd (let never : Halted ≡ Done = done in cc))
+  halted_accesses c Spawn = (
+    record {
+      root = λ pid e. absurd (no_process pid e);
+      gives = λ pid e. absurd (no_process pid e);
+      tried = λ stall e. absurd (no_stall stall e);
+      still = λ stall e. absurd (no_stall stall e);
+      full = λ stall e. absurd (no_stall stall e);
+      refuses = λ stall e. absurd (no_stall stall e);
+    },
+    refl,
+    asks_slots_same h c c None Nothing refl,
+  )
+  halted_accesses c (Fork pid) = (
+    record {
+      entries = λ child e. absurd (no_process child e);
+      tables = λ child e. absurd (no_process child e);
+      stalls = λ stall e. absurd (no_stall stall e);
+    },
+    refl,
+    asks_slots_same h c c None Nothing refl,
+  )
+  halted_accesses c (Exit pid) = takes_none (picture_of c) pid 0 (user_end levels.mode)
+  halted_accesses c (Mmap pid addr len prot source placing) = (takes_none (picture_of c) pid 0 (page_count len), λ page user out. refl)
+  halted_accesses c (Munmap pid addr len) = (takes_none (picture_of c) pid (addr / 4096) (page_count len), λ page user out. refl)
+  halted_accesses c (Mprotect pid addr len prot) = (takes_none (picture_of c) pid 0 0, λ page user out. refl)
+  halted_accesses c (Dontneed pid addr len) = (takes_none (picture_of c) pid 0 0, λ page user out. refl)
+  halted_accesses c (Msync pid addr len mode) = (
+    settles_nothing (picture_of c),
+    record {
+      store = asks_none g _ c.store.disk c.store.disk (λ k. refl);
+      swap = asks_none h _ c.swap.pages.disk c.swap.pages.disk (λ k. refl);
+    },
+  )
+  halted_accesses c PastFaults = refl
+
+module _ {D : Type 0} (g : Ghosts D) where
+  abbrev pub OnlyNow : Type 0
+  OnlyNow = (d : D) (c : Image) → g.keeps_model d → g.left_since d (g.moment d) c → MayLeave (g.content d) (g.unsynced d) c
+
+  -- a call that leaves the store alone reads it, too
+  pub unread : (old core : FileStore D) → core ≡ old → ReadsStore g old core
+  unread old core same = record {
+    size = ap (λ (store : FileStore D). g.sector_count store.disk) same;
+    kept = λ k. subst (λ (store : FileStore D). g.keeps_model store.disk) same k;
+    failures = rw same (omega arith);
+    touches = λ k. subst (λ (store : FileStore D). Touches g Nothing old.disk store.disk) (sym same) (stays g Nothing old.disk);
+    directory = ap (λ (store : FileStore D). store.directory) same;
+  }
+
+module _ {E : Type 0} (h : Ghosts E) where
+  -- a device that was not asked
+  pub unused : (old new : E) → new ≡ old → UsesDevice h old new
+  unused old new same = record {
+    size = ap h.sector_count same;
+    kept = λ k. subst h.keeps_model same k;
+    later = rw same (omega arith);
+  }
+
+module _ {mode : ℕ} where
+  -- memory knows nothing of the history
+  pub with_past : (c : Picture mode) (s : State) (past : Past) → ShowsPages c s → ShowsPages c (record s { past = past })
+  with_past c s past shows = record { same_mode = shows.same_mode; live = shows.live; views = shows.views; files = shows.files; touched = shows.touched; objects = shows.objects; blank = shows.blank; held = shows.held; clean = shows.clean }
+
+-- the same files, running or halted as before, and the same durable pages
+record Leaves (s t : State) : Type 0 where
+  pub files : t.files ≡ s.files
+  pub ends : t.ends ≡ s.ends
+  pub durable_is : t.durable ≡ s.durable
+
+same_stands : (n : ℕ) (s t : State) (c : Image) → Leaves s t → StandsForSome n s.files (MayStand s) c → StandsForSome n t.files (MayStand t) c
+same_stands n s t c kept p = (
+  p.0,
+  subst (λ (o : Option (List Pages)). stands_in o t.durable p.0) (sym kept.ends) (subst (λ (d : Pages). stands_in s.ends d p.0) (sym kept.durable_is) p.1),
+  subst (λ (f : Files). StandsFor n f p.0 c) (sym kept.files) p.2,
+)
+
+module _ {D : Type 0} (g : Ghosts D) where
+  no_time : (only_now : OnlyNow g) (d : D) (n : ℕ) (s : State) (command : Command) (reply : Reply) → g.keeps_model d
+      → LeavesNow g d (StandsForSome n s.files (MayStand s)) → LeavesOnly g d d (StandsForSome n s.files (HoldsIn s command reply))
+  no_time only_now d n s command reply keeps stands =
+      started g d (StandsForSome n s.files (HoldsIn s command reply)) (λ c left. only_now d c keeps left)
+      (λ c may. let p = stands c may in (p.0, inl p.1, p.2))
+
+  -- nothing was written: what stands while the command runs is what stood before it
+  only_read : (only_now : OnlyNow g) (old new : D) (n : ℕ) (s : State) (command : Command) (reply : Reply) → g.keeps_model old
+      → LeavesNow g old (StandsForSome n s.files (MayStand s)) → Touches g Nothing old new
+      → LeavesOnly g old new (StandsForSome n s.files (HoldsIn s command reply))
+  only_read only_now old new n s command reply keeps stands run =
+      goes_on g Nothing old old new (StandsForSome n s.files (HoldsIn s command reply)) (no_time only_now old n s command reply keeps stands) run
+      (λ c may. let p = stands c (record { kept = λ k. ⊎_elim (⊎_elim inl (λ none. absurd none)) inr (may.kept k) }) in (p.0, inl p.1, p.2))
+
+module _ {M : Type 0} {levels : Levels.Ghosts M} {D E : Type 0} (g : Ghosts D) (h : Ghosts E) where
+  pub is_running : (m : Engine D E M levels) (s : State) → EngineShows g h m s → m.halted ≡ false → IsRunning s
+  is_running m s shows e = running_of s.ends (shows.running ∙ e)
+
+  durable_now : (old : Engine D E M levels) (s : State) → EngineShows g h old s → IsRunning s → g.keeps_model old.core.store.disk
+      → LeavesNow g old.core.store.disk (StandsFor (g.sector_count old.core.store.disk) s.files s.durable)
+  durable_now old s shows run keeps c may =
+      let p = shows.stands keeps c may in
+      let e : p.0 ≡ s.durable = subst (λ (o : Option (List Pages)). stands_in o s.durable p.0) run p.1 in
+      subst (λ (d : Pages). StandsFor (g.sector_count old.core.store.disk) s.files d c) e p.2
+
+  -- a running machine's processes and files
+  pub shows_core : (old : Engine D E M levels) (s : State) → EngineShows g h old s → IsRunning s → Syncing.CoreShows g old.core s
+  shows_core old s shows run = record { pages = shows.pages; stands = λ k. durable_now old s shows run k }
+
+  -- the state after it, where the store was only read
+  module _ (only_now : OnlyNow g) (old : Engine D E M levels) (core : Core D E M levels) (past : Past) (s : State) (command : Command) (reply : Reply)
+      (shows : EngineShows g h old s) (run : old.halted ≡ false) (reads : ReadsStore g old.core.store core.store) (device : UsesDevice h old.core.swap.pages.disk core.swap.pages.disk)
+      (kept_past : past ≡ past_after command reply old.past) (idle : is_idle s command reply ≡ true → KeepsDevices old.core core) (room : KeepsRoom (picture_of old.core) (picture_of core)) where
+    abbrev new : Engine D E M levels
+    new = record { core = core; halted = false; past = past; sync_room = tt; region_room = tt }
+
+    abbrev n : ℕ
+    n = g.sector_count old.core.store.disk
+
+    moved : (t : State) → Leaves s t → g.keeps_model core.store.disk
+        → LeavesNow g core.store.disk (StandsForSome (g.sector_count core.store.disk) t.files (MayStand t))
+    moved t kept k = λ c may.
+        same_stands (g.sector_count core.store.disk) s t c kept
+        (subst (λ (sectors : ℕ). StandsForSome sectors s.files (MayStand s) c) (sym reads.size)
+        (still_leaves g old.core.store.disk core.store.disk (StandsForSome n s.files (MayStand s)) (reads.touches k) (shows.stands (reads.kept k)) c may))
+
+    goes : (t : State) → Leaves s t → is_some t.ends ≡ false
+    goes t kept = rw kept.ends (rw (is_running old s shows run) refl)
+
+    during : g.keeps_model core.store.disk → LeavesOnly g old.core.store.disk core.store.disk (StandsForSome n s.files (HoldsIn s command reply))
+    during k = only_read g only_now old.core.store.disk core.store.disk n s command reply (reads.kept k) (shows.stands (reads.kept k)) (reads.touches k)
+
+    did : takes s (ruling s command) s.durable ≡ s.durable → reply ≡ (outcome s command).reply → ShowsPages (picture_of core) (outcome s command).state
+        → (t : State) × EngineMeets g h old new s t command reply
+    did none answer pages =
+        let t = noted command reply (outcome s command).state in
+        let all = outcome_keeps s command in
+        let kept : Leaves s t = record { files = all.files; ends = all.ends; durable_is = all.durable_is ∙ none } in
+        let meets : EngineMeets g h old new s t command reply = record {
+          step = Answers (is_running old s shows run) answer refl;
+          shows = record {
+            pages = with_past (picture_of core) (outcome s command).state _ pages;
+            running = goes t kept;
+            past = kept_past ∙ ap (past_after command reply) (shows.past ∙ sym all.past);
+            stands = moved t kept;
+          };
+          capacity = λ stall e. absurd (never_stalls s command stall (sym answer ∙ e));
+          room = room;
+          size = reads.size;
+          swap_size = device.size;
+          kept = reads.kept;
+          swap_kept = device.kept;
+          idle = idle;
+          moments = during;
+        } in
+        (t, meets)
+
+    stalled : (stall : Stall) → MayStall (Calls.causes g h old.core core) s command stall → Calls.FallsShort (frame_count core.frames) (slots_of core.swap).total s command stall
+        → reply ≡ Reply.Stalled stall → ShowsPages (picture_of core) s → (t : State) × EngineMeets g h old new s t command reply
+    stalled stall may short answer pages =
+        let kept : Leaves s s = record { files = refl; ends = refl; durable_is = refl } in
+        let meets : EngineMeets g h old new s s command reply = record {
+          step = Stalls stall (is_running old s shows run) may answer refl;
+          shows = record {
+            pages = pages;
+            running = goes s kept;
+            past = kept_past ∙ ap (λ (r : Reply). past_after command r old.past) answer ∙ past_stalled command stall old.past ∙ shows.past;
+            stands = moved s kept;
+          };
+          capacity = λ other e. subst (Calls.FallsShort (frame_count core.frames) (slots_of core.swap).total s command) (same_stall stall other (sym answer ∙ e)) short;
+          room = room;
+          size = reads.size;
+          swap_size = device.size;
+          kept = reads.kept;
+          swap_kept = device.kept;
+          idle = idle;
+          moments = during;
+        } in
+        (s, meets)
+
+    pub read_meets : takes s (ruling s command) s.durable ≡ s.durable → Calls.Comes g h old.core core s command reply
+        → (t : State) × EngineMeets g h old new s t command reply
+    read_meets none (Calls.Does answer pages) = did none answer pages
+    read_meets none (Calls.Stalls stall may short answer pages) = stalled stall may short answer pages
+
+  -- what a call that leaves both devices alone says of the swap device
+  pub unswapped : (old core : Core D E M levels) → KeepsDevices old core → UsesDevice h old.swap.pages.disk core.swap.pages.disk
+  unswapped old core keeps = unused h old.swap.pages.disk core.swap.pages.disk (ap (λ pages. pages.disk) keeps.pages)
+
+  -- what is asked of a command is asked of the same one
+  pub reads_as : (m : Engine D E M levels) (s : State) (x y : Command) → x ≡ y → EngineMayRead g h m s x → EngineMayRead g h m s y
+  reads_as m s x y same readable = subst (EngineMayRead g h m s) same readable
+
+  -- a call that changed nothing
+  pub keeps_all : (old core : Core D E M levels) → core ≡ old → KeepsDevices old core
+  keeps_all old core same = record { store = ap (λ (o : Core D E M levels). o.store) same; pages = ap (λ (o : Core D E M levels). o.swap.pages) same }
+
+  pub answered : (only_now : OnlyNow g) (old : Engine D E M levels) (core : Core D E M levels) (halted : Bool) (past : Past) (s : State) (command : Command) (reply : Reply)
+      → EngineShows g h old s → old.halted ≡ false → halted ≡ false → takes s (ruling s command) s.durable ≡ s.durable
+      → past ≡ past_after command reply old.past → ReadsStore g old.core.store core.store → UsesDevice h old.core.swap.pages.disk core.swap.pages.disk
+      → (is_idle s command reply ≡ true → KeepsDevices old.core core) → KeepsRoom (picture_of old.core) (picture_of core) → Calls.Comes g h old.core core s command reply
+      → (t : State) × EngineMeets g h old (record { core = core; halted = halted; past = past; sync_room = tt; region_room = tt }) s t command reply
+  answered only_now old core halted past s command reply shows run goes_on none kept_past reads device idle room comes =
+      subst (λ (b : Bool). (t : State) × EngineMeets g h old (record { core = core; halted = b; past = past; sync_room = tt; region_room = tt }) s t command reply) (sym goes_on)
+      (read_meets only_now old core past s command reply shows run reads device kept_past idle room none comes)
+
+  -- what a call says of a machine that runs
+  pub carried : (only_now : OnlyNow g) (old : Engine D E M levels) (core : Core D E M levels) (halted : Bool) (past : Past) (s : State) (command : Command) (reply : Reply)
+      → EngineShows g h old s → old.halted ≡ false → halted ≡ false → takes s (ruling s command) s.durable ≡ s.durable
+      → past ≡ past_after command reply old.past → ReadsStore g old.core.store core.store → UsesDevice h old.core.swap.pages.disk core.swap.pages.disk
+      → (is_idle s command reply ≡ true → KeepsDevices old.core core) → KeepsRoom (picture_of old.core) (picture_of core) → Calls.Carries g h old.core core command reply
+      → EngineMayRead g h (record { core = core; halted = halted; past = past; sync_room = tt; region_room = tt }) s command
+      → (t : State) × EngineMeets g h old (record { core = core; halted = halted; past = past; sync_room = tt; region_room = tt }) s t command reply
+  carried only_now old core halted past s command reply shows run goes_on none kept_past reads device idle room carries readable =
+      answered only_now old core halted past s command reply shows run goes_on none kept_past reads device idle room
+      (carries s (shows_core old s shows (is_running old s shows run)) readable.files readable.slots)
+
+  pub stays_halted : (only_now : OnlyNow g) (old : Engine D E M levels) (s : State) (command : Command) → EngineShows g h old s → old.halted ≡ true
+      → (t : State) × EngineMeets g h old old s t command Halted
+  stays_halted only_now old s command shows stop =
+      let ends = halted_of s.ends (shows.running ∙ stop) in
+      let n = g.sector_count old.core.store.disk in
+      let meets : EngineMeets g h old old s s command Halted = record {
+        step = Stays ends.0 ends.1 refl refl;
+        shows = shows;
+        capacity = λ stall e. absurd (no_stall stall e);
+        room = record { frames = refl; slots = refl };
+        size = refl;
+        swap_size = refl;
+        kept = λ k. k;
+        swap_kept = λ k. k;
+        idle = λ _. record { store = refl; pages = refl };
+        moments = λ k. no_time g only_now old.core.store.disk n s command Halted k (shows.stands k);
+      } in
+      (s, meets)

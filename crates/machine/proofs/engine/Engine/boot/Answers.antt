@@ -1,0 +1,155 @@
+use Rattle.std.proofs.Common.{inl, inr, ⊎_elim, refl, sym, subst, arith}
+use Rattle.machine.proofs.Boots.{fine_frames, fine_slots, still, boots, accepts, refuses_frames, refuses_slots, refuses_memory, refuses_store, IsOpened, IsUnopened}
+use Rattle.machine.specs.Boot.{HasBadSlots}
+use Rattle.machine.proofs.engine.Engine.boot.Goals as goal
+use Rattle.machine.proofs.engine.Engine.boot.Goals.{then-config-gt-MAX_SLOTS-via-then-config-gt-MAX_SLOTS, then-config-gt-MAX_SLOTS-via-else-config-gt-MAX_SLOTS+then-from-sectors}
+
+pub returns-then-config-lt-MIN_FRAMES-clause-refuses : goal.returns-then-config-lt-MIN_FRAMES-clause-refuses
+returns-then-config-lt-MIN_FRAMES-clause-refuses g c =
+    refuses_frames g.D.SectorDisk c.args.config _ c.args.store (⊎_elim (λ few. inl few) (λ many. inr (omega (arith, many.1))) c.then-config-lt-MIN_FRAMES.either)
+
+pub returns-then-config-lt-MIN_FRAMES-clause-err_moments : goal.returns-then-config-lt-MIN_FRAMES-clause-err_moments
+returns-then-config-lt-MIN_FRAMES-clause-err_moments g c = still g.D.SectorDisk c.args.store (λ keeps i left. g.met.D.SectorDisk.only_now c.args.store i keeps left)
+
+pub returns-then-config-gt-MAX_SLOTS-clause-refuses : goal.returns-then-config-gt-MAX_SLOTS-clause-refuses
+returns-then-config-gt-MAX_SLOTS-clause-refuses g c =
+    let bad : HasBadSlots c.args.config (g.E.SectorDisk.sector_count c.args.swap) = elim c.then-config-gt-MAX_SLOTS.branch [
+      | then-config-gt-MAX_SLOTS-via-then-config-gt-MAX_SLOTS w ↦ inl w.if-config-gt-MAX_SLOTS.true
+      | then-config-gt-MAX_SLOTS-via-else-config-gt-MAX_SLOTS+then-from-sectors w ↦ inr (rw (sym w.from.ensures, sym w.sectors.ensures) w.if-from-sectors.true)
+    ] in
+    refuses_slots g.D.SectorDisk c.args.config _ c.args.store (fine_frames c.args.config c.if-config-lt-MIN_FRAMES.false c.if-config-gt-MAX_FRAMES.false) bad
+
+pub returns-then-config-gt-MAX_SLOTS-clause-err_moments : goal.returns-then-config-gt-MAX_SLOTS-clause-err_moments
+returns-then-config-gt-MAX_SLOTS-clause-err_moments g c = still g.D.SectorDisk c.args.store (λ keeps i left. g.met.D.SectorDisk.only_now c.args.store i keeps left)
+
+pub returns-in-Err-clause-refuses : goal.returns-in-Err-clause-refuses
+returns-in-Err-clause-refuses g c =
+    let e = c.in-Err.ensures in
+    let unopened : IsUnopened g.D.SectorDisk c.args.store c.in-Err.fault c.in-Err.disk = record {
+      size = e.err_size;
+      kept = e.err_kept;
+      later = e.err_later;
+      device = e.device;
+      calm = e.err_calm;
+      layout = e.bad_layout;
+      journal = e.bad_journal;
+      first = e.layout_first;
+      unwritten = e.unwritten;
+      asks = e.err_asks;
+      touches = e.err_touches;
+    } in
+    rw c.from-in-Err.ensures (refuses_store g.D.SectorDisk c.args.config _ c.args.store c.in-Err.fault c.in-Err.disk (fine_frames c.args.config c.if-config-lt-MIN_FRAMES.false c.if-config-gt-MAX_FRAMES.false)
+    (fine_slots c.args.config _ _ _ c.if-config-gt-MAX_SLOTS.false c.from.ensures c.sectors.ensures c.if-from-sectors.false) unopened)
+
+pub returns-in-Err-clause-err_moments : goal.returns-in-Err-clause-err_moments
+returns-in-Err-clause-err_moments g c = record { any_moment = c.in-Err.ensures.err_moment; in_a_row = c.in-Err.ensures.err_in_a_row }
+
+pub returns-in_default-clause-refuses : goal.returns-in_default-clause-refuses
+returns-in_default-clause-refuses g c =
+    let e = c.in-Ok.ensures in
+    let opened : IsOpened g.D.SectorDisk c.args.store c.in-Ok.store = record {
+      ready = e.ready;
+      size = e.size;
+      layout = e.good_layout;
+      journal = e.good_journal;
+      leaves = e.now;
+      homes = e.homes;
+      kept = e.kept;
+      later = e.later;
+      calm = e.calm;
+      asks = e.asks;
+      moments = record { any_moment = e.any_moment; in_a_row = e.in_a_row };
+    } in
+    rw c.into_disk.ensures (refuses_memory g.D.SectorDisk c.args.config _ c.args.store c.in-Ok.store (fine_frames c.args.config c.if-config-lt-MIN_FRAMES.false c.if-config-gt-MAX_FRAMES.false)
+    (fine_slots c.args.config _ _ _ c.if-config-gt-MAX_SLOTS.false c.from.ensures c.sectors.ensures c.if-from-sectors.false) opened)
+
+pub returns-in_default-clause-err_moments : goal.returns-in_default-clause-err_moments
+returns-in_default-clause-err_moments g c = rw c.into_disk.ensures (record { any_moment = c.in-Ok.ensures.any_moment; in_a_row = c.in-Ok.ensures.in_a_row })
+
+pub returns-in_default-new-clause-refuses : goal.returns-in_default-new-clause-refuses
+returns-in_default-new-clause-refuses g c =
+    let e = c.in-Ok.ensures in
+    let opened : IsOpened g.D.SectorDisk c.args.store c.in-Ok.store = record {
+      ready = e.ready;
+      size = e.size;
+      layout = e.good_layout;
+      journal = e.good_journal;
+      leaves = e.now;
+      homes = e.homes;
+      kept = e.kept;
+      later = e.later;
+      calm = e.calm;
+      asks = e.asks;
+      moments = record { any_moment = e.any_moment; in_a_row = e.in_a_row };
+    } in
+    rw c.into_disk-in_default-new.ensures (refuses_memory g.D.SectorDisk c.args.config _ c.args.store c.in-Ok.store (fine_frames c.args.config c.if-config-lt-MIN_FRAMES.false c.if-config-gt-MAX_FRAMES.false)
+    (fine_slots c.args.config _ _ _ c.if-config-gt-MAX_SLOTS.false c.from.ensures c.sectors.ensures c.if-from-sectors.false) opened)
+
+pub returns-in_default-new-clause-err_moments : goal.returns-in_default-new-clause-err_moments
+returns-in_default-new-clause-err_moments g c =
+    rw c.into_disk-in_default-new.ensures (record { any_moment = c.in-Ok.ensures.any_moment; in_a_row = c.in-Ok.ensures.in_a_row })
+
+pub returns-in-Err-new-clause-refuses : goal.returns-in-Err-new-clause-refuses
+returns-in-Err-new-clause-refuses g c =
+    let e = c.in-Ok.ensures in
+    let opened : IsOpened g.D.SectorDisk c.args.store c.in-Ok.store = record {
+      ready = e.ready;
+      size = e.size;
+      layout = e.good_layout;
+      journal = e.good_journal;
+      leaves = e.now;
+      homes = e.homes;
+      kept = e.kept;
+      later = e.later;
+      calm = e.calm;
+      asks = e.asks;
+      moments = record { any_moment = e.any_moment; in_a_row = e.in_a_row };
+    } in
+    rw (c.into_disk-in-Err-new.ensures, c.in-Err-new.ensures.err) (refuses_memory g.D.SectorDisk c.args.config _ c.args.store c.in-Ok.store (fine_frames c.args.config c.if-config-lt-MIN_FRAMES.false c.if-config-gt-MAX_FRAMES.false)
+    (fine_slots c.args.config _ _ _ c.if-config-gt-MAX_SLOTS.false c.from.ensures c.sectors.ensures c.if-from-sectors.false) opened)
+
+pub returns-in-Err-new-clause-err_moments : goal.returns-in-Err-new-clause-err_moments
+returns-in-Err-new-clause-err_moments g c =
+    rw (c.into_disk-in-Err-new.ensures, c.in-Err-new.ensures.err) (record { any_moment = c.in-Ok.ensures.any_moment; in_a_row = c.in-Ok.ensures.in_a_row })
+
+pub returns-in-Ok-new-3-clause-boots : goal.returns-in-Ok-new-3-clause-boots
+returns-in-Ok-new-3-clause-boots g c =
+    let e = c.in-Ok.ensures in
+    let opened : IsOpened g.D.SectorDisk c.args.store c.in-Ok.store = record {
+      ready = e.ready;
+      size = e.size;
+      layout = e.good_layout;
+      journal = e.good_journal;
+      leaves = e.now;
+      homes = e.homes;
+      kept = e.kept;
+      later = e.later;
+      calm = e.calm;
+      asks = e.asks;
+      moments = record { any_moment = e.any_moment; in_a_row = e.in_a_row };
+    } in
+    let made = c.in-Ok-new-3.ensures in
+    boots g.D.SectorDisk g.E.SectorDisk c.args.store _ c.args.config.frames c.args.config.slots refl c.in-Ok-new.ensures
+    (subst (λ store. IsOpened g.D.SectorDisk c.args.store store) (sym made.store) opened) made.start
+
+pub returns-in-Ok-new-3-clause-accepts : goal.returns-in-Ok-new-3-clause-accepts
+returns-in-Ok-new-3-clause-accepts g c =
+    let e = c.in-Ok.ensures in
+    let opened : IsOpened g.D.SectorDisk c.args.store c.in-Ok.store = record {
+      ready = e.ready;
+      size = e.size;
+      layout = e.good_layout;
+      journal = e.good_journal;
+      leaves = e.now;
+      homes = e.homes;
+      kept = e.kept;
+      later = e.later;
+      calm = e.calm;
+      asks = e.asks;
+      moments = record { any_moment = e.any_moment; in_a_row = e.in_a_row };
+    } in
+    rw c.in-Ok-new-3.ensures.store (accepts g.D.SectorDisk c.args.config _ c.args.store c.in-Ok.store (fine_frames c.args.config c.if-config-lt-MIN_FRAMES.false c.if-config-gt-MAX_FRAMES.false)
+    (fine_slots c.args.config _ _ _ c.if-config-gt-MAX_SLOTS.false c.from.ensures c.sectors.ensures c.if-from-sectors.false) opened)
+
+pub returns-in-Ok-new-3-clause-moments : goal.returns-in-Ok-new-3-clause-moments
+returns-in-Ok-new-3-clause-moments g c = rw c.in-Ok-new-3.ensures.store (record { any_moment = c.in-Ok.ensures.any_moment; in_a_row = c.in-Ok.ensures.in_a_row })

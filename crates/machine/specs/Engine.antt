@@ -1,0 +1,97 @@
+-- How the machine of one mode is a state of the flat model, stops included.
+use Rattle.vm_types.specs.declared.mode.Levels as Levels
+use Rattle.std.specs.Prelude.{ℕ, ◌≡◌, ◌≢◌, ◌⊎◌, true, false, List, [], ◌∷◌, Option, Some, None, is_some}
+use Rattle.disk_model.specs.Moments.{LeavesNow, LeavesOnly}
+use Rattle.disk_model.specs.Stop.{Image}
+use Rattle.disk_model.specs.declared.sector_disk.SectorDisk.{Ghosts}
+use Rattle.file_store.specs.Standing.{StandsFor}
+use Rattle.frames.specs.FrameTable.{frame_count}
+use Rattle.swap.specs.Slots.{slots_of}
+use Rattle.residency.specs.Picture.{picture_of}
+use Rattle.residency.specs.Shows.{ShowsPages}
+use Rattle.fault.specs.Changes.{KeepsRoom}
+use Rattle.ranges.specs.Steps.{KeepsDevices}
+use Rattle.msync.specs.Shows.{IsSoundCore}
+use Rattle.spaces.specs.Calls as Calls
+use Rattle.spaces.specs.Idle.{is_idle}
+use Rattle.vm_types.specs.declared.command.Command.{Command}
+use Rattle.vm_types.specs.declared.refusal.Errno.{Errno}
+use Rattle.vm_types.specs.declared.refusal.Errno.TheVariants.{EIO}
+use Rattle.vm_types.specs.declared.refusal.Fault.{Fault}
+use Rattle.vm_types.specs.declared.refusal.Stall.{Stall}
+use Rattle.vm_types.specs.declared.reply.Reply.{Reply}
+use Rattle.vm_types.specs.declared.reply.Reply.TheVariants.{Faulted, Refused, Stalled}
+use Rattle.vm_types.specs.Files.{Files}
+use Rattle.vm_types.specs.Prefix.{is_msync, may_have_taken}
+use Rattle.vm_types.specs.Run.{Step}
+use Rattle.vm_types.specs.Stalls.{reads_files, reads_swap}
+use Rattle.vm_types.specs.State.{State, IsRunning}
+use Rattle.vm_types.specs.Step.{ruling, takes}
+use Rattle.vm_types.specs.View.{Pages}
+use Rattle.machine.specs.declared.engine.Engine.{Engine}
+
+-- one of a list of contents
+abbrev pub IsOneOf : Pages → List Pages → Type 0
+IsOneOf pages [] = ⊥
+IsOneOf pages (one ∷ others) = (pages ≡ one) ⊎ IsOneOf pages others
+
+abbrev pub stands_in : Option (List Pages) → Pages → Pages → Type 0
+stands_in None durable pages = pages ≡ durable
+stands_in (Some ends) durable pages = IsOneOf pages ends
+
+-- the contents of all files that a stop may leave in a state: the durable ones, or once it has halted one of its ends
+abbrev pub MayStand : State → Pages → Type 0
+MayStand s pages = stands_in s.ends s.durable pages
+
+-- the same at any moment of a command: what it makes durable may stand as well
+abbrev pub HoldsIn : State → Command → Reply → Pages → Type 0
+HoldsIn s command reply pages =
+    MayStand s pages ⊎ (IsRunning s × (may_have_taken reply ≡ true) × (pages ≡ takes s (ruling s command) s.durable))
+
+-- the image stands for contents of which P holds
+abbrev pub StandsForSome : ℕ → Files → (Pages → Type 0) → Image → Type 0
+StandsForSome sectors files P image = (pages : Pages) × P pages × StandsFor sectors files pages image
+
+module _ {M : Type 0} {levels : Levels.Ghosts M} {D E : Type 0} where
+  -- A command that was not carried out leaves memory and both devices as they were.
+  pub record KeepsIfDenied (old new : Engine D E M levels) (command : Command) (reply : Reply) : Type 0 where
+    -- a call that was refused; EIO alone comes of an msync that was begun
+    pub refused : (errno : Errno) → reply ≡ Refused errno → errno ≢ EIO → new.core ≡ old.core
+    -- an access that faulted: the history alone notes it (no msync faults)
+    pub faulted : is_msync command ≡ false → (fault : Fault) → reply ≡ Faulted fault → new.core ≡ old.core
+    -- any command of a halted machine, which leaves its history, too
+    pub halted : old.halted ≡ true → new ≡ old
+
+module _ {M : Type 0} {levels : Levels.Ghosts M} {D E : Type 0} (g : Ghosts D) (h : Ghosts E) where
+  -- The engine may go on: unless it has halted, its store may be read and committed to, slots may be put and got, and its memory
+  -- is fit.
+  pub record IsSoundEngine (m : Engine D E M levels) : Type 0 where
+    pub going : m.halted ≡ false → IsSoundCore g h m.core
+
+  -- The engine is in that state: its memory shows it, and so does every image that a stop may leave now.
+  pub record EngineShows (m : Engine D E M levels) (s : State) : Type 0 where
+    pub pages : ShowsPages (picture_of m.core) s
+    pub running : is_some s.ends ≡ m.halted
+    pub past : m.past ≡ s.past
+    pub stands : g.keeps_model m.core.store.disk
+        → LeavesNow g m.core.store.disk (StandsForSome (g.sector_count m.core.store.disk) s.files (MayStand s))
+
+  -- A command was carried out: as the flat model does, stalled for want of memory only where that is short, with as many frames and
+  -- slots as there were, and with nothing else durable at any moment.
+  pub record EngineMeets (old new : Engine D E M levels) (s t : State) (command : Command) (reply : Reply) : Type 0 where
+    pub step : Step (Calls.causes g h old.core new.core) s command reply t
+    pub shows : EngineShows new t
+    pub capacity : (stall : Stall) → reply ≡ Stalled stall → Calls.FallsShort (frame_count new.core.frames) (slots_of new.core.swap).total s command stall
+    pub room : KeepsRoom (picture_of old.core) (picture_of new.core)
+    pub size : g.sector_count new.core.store.disk ≡ g.sector_count old.core.store.disk
+    pub swap_size : h.sector_count new.core.swap.pages.disk ≡ h.sector_count old.core.swap.pages.disk
+    pub kept : g.keeps_model new.core.store.disk → g.keeps_model old.core.store.disk
+    pub swap_kept : h.keeps_model new.core.swap.pages.disk → h.keeps_model old.core.swap.pages.disk
+    pub idle : is_idle s command reply ≡ true → KeepsDevices old.core new.core
+    pub moments : g.keeps_model new.core.store.disk
+        → LeavesOnly g old.core.store.disk new.core.store.disk (StandsForSome (g.sector_count old.core.store.disk) s.files (HoldsIn s command reply))
+
+  -- The premise of a command's contract: a device that it reads keeps its model.
+  pub record EngineMayRead (m : Engine D E M levels) (s : State) (command : Command) : Type 0 where
+    pub files : reads_files command ≡ true → g.keeps_model m.core.store.disk
+    pub slots : reads_swap s command ≡ true → h.keeps_model m.core.swap.pages.disk

@@ -1,0 +1,121 @@
+//! Starting the machine of one mode.
+ghost use Rattle.std.specs.Prelude.{◌≡◌, IfOk, IfErr};
+ghost use Rattle.machine.specs.Engine.{IsSoundEngine};
+ghost use Rattle.machine.specs.Boot.{BootAccepts, BootLeaves, BootRefuses};
+ghost use Rattle.machine.specs.EngineBoot.{EngineBoots, EngineStarts};
+ghost use Rattle.machine.specs.Fault.{fault_number, boot_fault};
+
+use crate::config::Config;
+use crate::engine::Engine;
+use crate::fault_log::FaultLog;
+use disk_model::SectorDisk;
+use file_store::{FileStore, OpenFault};
+use residency::Core;
+use spaces::{RegionRoom, SyncRoom};
+use std::alloc::Global;
+use swap::Swap;
+use thiserror::Error;
+use vm_types::Levels;
+
+/// The fewest and the most frames.
+const MIN_FRAMES: u32 = 8;
+
+const MAX_FRAMES: u32 = 1 << 16;
+
+/// The most slots, and the sectors of one.
+const MAX_SLOTS: u32 = 1 << 16;
+
+const SLOT_SECTORS: u64 = 8;
+
+/// Why a machine doesn't start. `Display` gives its name, as the programs print it.
+#[derive(Clone, Copy, Debug, PartialEq, Eq, Error)]
+pub enum BootFault {
+    /// Fewer than 8 or more than 65,536 frames.
+    #[error("FRAMES")]
+    Frames = 1,
+    /// More than 65,536 slots, or more than the swap device has room for.
+    #[error("SLOTS")]
+    Slots = 2,
+    /// Want of memory.
+    #[error("OUTOFMEMORY")]
+    OutOfMemory = 3,
+    /// The store device failed.
+    #[error("{}", OpenFault::Device)]
+    Device = 4,
+    /// The image has no layout of a store, as `OpenFault::BadLayout` says. Nothing was written.
+    #[error("{}", OpenFault::BadLayout)]
+    BadLayout = 5,
+    /// The journal is open with a map that no commit writes. Nothing was written.
+    #[error("{}", OpenFault::BadJournal)]
+    BadJournal = 6,
+}
+
+impl BootFault {
+    /// The number, 1 to 6.
+    pub fn number(self) -> u8
+        ensures { result ≡ fault_number self }
+    {
+        self as u8
+    }
+}
+
+impl From<OpenFault> for BootFault {
+    ghost from_gives = { λ fault boot. boot ≡ boot_fault fault };
+
+    fn from(fault: OpenFault) -> Self {
+        match fault {
+            OpenFault::Device => BootFault::Device,
+            OpenFault::BadLayout => BootFault::BadLayout,
+            OpenFault::BadJournal => BootFault::BadJournal,
+        }
+    }
+}
+
+impl<D: SectorDisk, E: SectorDisk + Drop, M: Levels> Engine<D, E, M> {
+    /// Starts the engine of that mode, as `Machine::boot` starts the machine that has it: of the configuration it reads the sizes
+    /// alone, before the store is asked.
+    ///
+    /// `Frames`, `Slots`, `BadLayout` and `BadJournal` come exactly where their texts say, unless an earlier one
+    /// comes; `Device` exactly where the store device failed in this call. Each fault hands the store back.
+    pub fn boot(
+        alloc: Global,
+        config: Config,
+        store: D,
+        swap: E,
+    ) -> Result<Engine<D, E, M>, (BootFault, D)>
+        ensures sound { IfOk result (λ m. IsSoundEngine D.SectorDisk E.SectorDisk m) }
+        ensures boots { IfOk result (λ m. EngineBoots D.SectorDisk E.SectorDisk store m) }
+        ensures starts { IfOk result (λ m. EngineStarts m config swap) }
+        ensures accepts { IfOk result (λ m. BootAccepts D.SectorDisk config (E.sector_count swap) store m.core.store.disk) }
+        ensures moments { IfOk result (λ m. BootLeaves D.SectorDisk store m.core.store.disk) }
+        ensures refuses { IfErr result (λ e. BootRefuses D.SectorDisk config (E.sector_count swap) store e.0 e.1) }
+        ensures err_moments { IfErr result (λ e. BootLeaves D.SectorDisk store e.1) }
+    {
+        if config.frames < MIN_FRAMES || config.frames > MAX_FRAMES {
+            return Err((BootFault::Frames, store));
+        }
+        if config.slots > MAX_SLOTS || SLOT_SECTORS * u64::from(config.slots) > swap.sectors() {
+            return Err((BootFault::Slots, store));
+        }
+        let store = match FileStore::open(store) {
+            Ok(store) => store,
+            Err((fault, disk)) => return Err((BootFault::from(fault), disk)),
+        };
+        let Ok(past) = FaultLog::new(alloc) else {
+            return Err((BootFault::OutOfMemory, store.into_disk()));
+        };
+        let Ok(swap) = Swap::new(alloc, swap, config.slots) else {
+            return Err((BootFault::OutOfMemory, store.into_disk()));
+        };
+        match Core::new(alloc, store, swap, config.frames, config.slots) {
+            Ok(core) => Ok(Engine {
+                core,
+                halted: false,
+                past,
+                sync_room: SyncRoom::new(),
+                region_room: RegionRoom::new(),
+            }),
+            Err((_, store)) => Err((BootFault::OutOfMemory, store.into_disk())),
+        }
+    }
+}

@@ -1,0 +1,67 @@
+-- What an msync answers, and what it leaves.
+use Rattle.vm_types.specs.declared.mode.Levels as Levels
+use Rattle.std.specs.Prelude.{◌≡◌, ◌≢◌, ◌≤◌, ◌<◌, ◌⊎◌, ℕ, Some, None}
+use Rattle.vm_types.specs.Replies.{reply_of}
+use Rattle.vm_types.specs.State.{State}
+use Rattle.vm_types.specs.Step.{outcome, commits}
+use Rattle.vm_types.specs.View.{Pages}
+use Rattle.vm_types.specs.declared.command.Command.TheVariants.{Msync}
+use Rattle.vm_types.specs.declared.command.MsyncMode.{MsyncMode}
+use Rattle.vm_types.specs.declared.refusal.Errno.{Errno}
+use Rattle.vm_types.specs.declared.refusal.Errno.TheVariants.{EIO}
+use Rattle.vm_types.specs.declared.refusal.Stall.{Stall}
+use Rattle.vm_types.specs.declared.refusal.Stall.TheVariants.{SwapDevice}
+use Rattle.vm_types.specs.declared.reply.Answer.{Answer}
+use Rattle.vm_types.specs.declared.reply.Answer.TheVariants.{Refused, Stalled}
+use Rattle.disk_model.specs.declared.sector_disk.SectorDisk.{Ghosts}
+use Rattle.frames.specs.FrameTable.{frame_count}
+use Rattle.swap.specs.Slots.{slots_of, IsReady}
+use Rattle.residency.specs.declared.kernel.Core.{Core}
+use Rattle.residency.specs.Picture.{picture_of}
+use Rattle.residency.specs.Parts.{IsFit}
+use Rattle.residency.specs.Calls.{UsesDevice}
+use Rattle.msync.specs.Asking.{AsksToCommit}
+use Rattle.msync.specs.Choice.{TakesAway}
+use Rattle.msync.specs.Core.{Commits, GivesBack}
+use Rattle.msync.specs.Settling.{SettlesMemory}
+use Rattle.msync.specs.Shows.{IsSoundCore, CoreShows}
+
+module _ {M : Type 0} {m : Levels.Ghosts M} {D E : Type 0} (g : Ghosts D) (h : Ghosts E) where
+  -- Whatever comes of a commit, of whose pages one lies in a slot only where that holds:
+  pub record EndsCommit (slotted : Type 0) (old new : Core D E M m) (result : Answer) : Type 0 where
+    -- memory is fit, with as many frames and slots, and changes only where a page is made durable;
+    pub fit : IsFit (picture_of new)
+    pub frames : frame_count new.frames ≡ frame_count old.frames
+    pub slots : (slots_of new.swap).total ≡ (slots_of old.swap).total
+    pub memory : SettlesMemory (picture_of old) (picture_of new)
+    -- the store, as large as it was, may be committed to further, unless it failed,
+    pub ready : result ≢ Refused EIO → IsSoundCore g h new
+    pub size : g.sector_count new.store.disk ≡ g.sector_count old.store.disk
+    pub kept : g.keeps_model new.store.disk → g.keeps_model old.store.disk
+    -- and so may swap, which is read, and given slots back, only where a page lies in one;
+    pub swap : IsReady h new.swap
+    pub device : UsesDevice h old.swap.pages.disk new.swap.pages.disk
+    pub away : (new.swap ≡ old.swap) ⊎ slotted
+    -- EIO says that the store failed, and a stall that the swap device did; with no other answer one failed;
+    pub later : g.failures old.store.disk ≤ g.failures new.store.disk
+    pub cause : result ≡ Refused EIO → g.failures old.store.disk < g.failures new.store.disk
+    pub calm : result ≢ Refused EIO → g.failures new.store.disk ≡ g.failures old.store.disk
+    pub stalled : (stall : Stall) → result ≡ Stalled stall → (stall ≡ SwapDevice) × (h.failures old.swap.pages.disk < h.failures new.swap.pages.disk)
+    pub still : ((stall : Stall) → result ≢ Stalled stall) → h.failures new.swap.pages.disk ≡ h.failures old.swap.pages.disk
+    -- and no stall for a frame is counted.
+    pub refused : new.refused ≡ old.refused
+
+  -- An msync of so many bytes of a process, from that address on:
+  pub record SyncsBytes (old new : Core D E M m) (pid addr len : ℕ) (mode : MsyncMode) (result : Answer) : Type 0 where
+    -- where it takes no page it answers with nothing changed,
+    pub passes : (s : State) → CoreShows g old s → commits s (Msync pid addr len mode) ≡ None
+        → (reply_of result ≡ (outcome s (Msync pid addr len mode)).reply) × (new ≡ old)
+    -- and else it commits those that it takes, at once;
+    pub commits : (s : State) (after : Pages) → CoreShows g old s → commits s (Msync pid addr len mode) ≡ Some after
+        → Commits g h (GivesBack g h old new pid addr len) old new s after (Msync pid addr len mode) (reply_of result)
+    pub ends : EndsCommit (TakesAway (picture_of old) pid addr len) old new result
+    pub open ends use *
+    -- it asks the devices for what these pages and the store's journal want, and for nothing else;
+    pub asks : AsksToCommit g h old new pid addr len
+    -- or it is refused, and nothing is changed, unless the store failed.
+    pub unasked : (errno : Errno) → result ≡ Refused errno → errno ≢ EIO → new ≡ old

@@ -1,0 +1,92 @@
+-- A frame that was obtained, and what was done with it.
+use Rattle.vm_types.specs.declared.mode.Levels as Levels
+use Rattle.std.proofs.Common.{◌≡◌, ◌≢◌, ℕ, ◌⊎◌, Option, None, Result, Ok, Err, sym, ap, ◌∙◌, subst}
+use Rattle.std.specs.Prelude.{IsErrAnd}
+use Rattle.vm_types.specs.declared.number.FrameNo.{FrameNo}
+use Rattle.vm_types.specs.declared.object.PageKey.{PageKey}
+use Rattle.vm_types.specs.declared.refusal.Stall.{Stall}
+use Rattle.disk_model.specs.declared.sector_disk.SectorDisk.{Ghosts}
+use Rattle.disk_model.specs.Moments.{AsksOnly}
+use Rattle.frames.specs.declared.role.Role.TheVariants.{Free, Table}
+use Rattle.frames.specs.FrameTable.{role_of, IsFrame, SameButFor}
+use Rattle.swap.specs.declared.slots.Swap.{Swap}
+use Rattle.swap.specs.Slots.{IsReady, IsSectorOfSlot}
+use Rattle.residency.specs.declared.kernel.Core.{Core}
+use Rattle.residency.specs.Picture.{Picture, picture_of}
+use Rattle.residency.specs.Ages.{GivesFrame}
+use Rattle.residency.specs.AskedFrames.{ComesIn, Obtains, SeeksFrame}
+use Rattle.residency.specs.Calls.{AsksSwap, AsksSwapAlso, KeepsRest, UsesDevice}
+use Rattle.residency.specs.Steps.{BringsIn, ChangesFrame}
+use Rattle.residency.proofs.Asking.{also_taken, asked_taken, gives_taken, needed_of, wants_taken, wants_tried}
+use Rattle.residency.proofs.BroughtIn.{fit_brought}
+use Rattle.residency.proofs.Giving.{frame_taken}
+use Rattle.residency.proofs.Returning.{frees_spent}
+use Rattle.residency.proofs.Sparing.{frees_then}
+use Rattle.residency.proofs.Taking.{fit_spent}
+
+module _ {M : Type 0} {m : Levels.Ghosts M} {D E : Type 0} {h : Ghosts E} {old found : Core D E M m} {keep : Option FrameNo} {v : FrameNo} (got : Obtains h old found keep (Ok v))
+    (n : FrameNo) (inside : IsFrame found.frames n.0) (free : role_of found.frames n.0 ≡ Free) where
+  -- no frame was given up but the one that is taken,
+  pub given : GivesFrame (picture_of old) (picture_of found) n.0
+  given = frame_taken (picture_of old) (picture_of found) keep v.0 n.0 got.frees got.gives (needed_of old found got.needed) inside free
+
+  -- nor after it was changed, and became no table
+  pub given_on : (new : Picture m.mode) → SameButFor n.0 found.frames new.frames → role_of new.frames n.0 ≢ Table → ((pid : ℕ) → new.root pid ≡ (picture_of found).root pid)
+      → GivesFrame (picture_of old) (picture_of found) n.0 → GivesFrame (picture_of old) new n.0
+  given_on new same datum root gives = gives_taken (picture_of old) (picture_of found) new n.0 got.fit same free datum root gives
+
+  -- nor after it was given back
+  pub given_back : (new : Picture m.mode) → ChangesFrame (picture_of found) new n.0 → role_of new.frames n.0 ≡ Free → GivesFrame (picture_of old) (picture_of found) n.0 → GivesFrame (picture_of old) new n.0
+  given_back new changes freed = given_on new changes.frames (λ t. (let bad : Free ≡ Table = sym freed ∙ t in (cc))) changes.root
+
+  pub asked_on : (new : Core D E M m) → new.swap ≡ found.swap → (GivesFrame (picture_of old) (picture_of found) n.0 → GivesFrame (picture_of old) (picture_of new) n.0) → AsksSwap h old new keep
+  asked_on new swap taken = asked_taken h old found new keep n.0 got.needed got.frees inside free swap taken got.asked
+
+  pub also_on : (new : Core D E M m) (also : ℕ → Type 0) → (GivesFrame (picture_of old) (picture_of found) n.0 → GivesFrame (picture_of old) (picture_of new) n.0) → AsksOnly h also found.swap.pages.disk new.swap.pages.disk
+      → AsksSwapAlso h old new keep also
+  also_on new also taken more = also_taken h old found new keep n.0 also got.needed got.frees inside free taken more got.asked
+
+  -- it was put to use
+  pub seeks_on : (new : Core D E M m) → new.swap ≡ found.swap → new.refused ≡ found.refused → KeepsRest found new
+      → (GivesFrame (picture_of old) (picture_of found) n.0 → GivesFrame (picture_of old) (picture_of new) n.0) → SeeksFrame h old new keep (Ok n)
+  seeks_on new swap refused rest taken =
+      let P : Swap E → Type 0 = λ s. IsReady h s × UsesDevice h old.swap.pages.disk s.pages.disk × ((slot : ℕ) × AsksOnly h (λ k. IsSectorOfSlot slot k ⊎ ⊥) old.swap.pages.disk s.pages.disk) in
+      let uses = subst P (sym swap) (got.swap, got.device, got.one) in
+      record {
+        rest = record { store = rest.store ∙ got.rest.store; roots = rest.roots ∙ got.rest.roots; regions = rest.regions ∙ got.rest.regions };
+        asked = asked_on new swap taken;
+        uses = record { swap = uses.0; device = uses.1; one = uses.2 };
+        refused = record { refuses = tt; short = tt; cause = (ap (λ r. r.number) refused ∙ got.cause.0, ap (λ (s : Swap E). h.failures s.pages.disk) swap ∙ got.cause.1) };
+      }
+
+-- for a page of a file or an object
+module _ {M : Type 0} {m : Levels.Ghosts M} {D E : Type 0} {h : Ghosts E} {old found : Core D E M m} {v : FrameNo} (got : Obtains h old found None (Ok v))
+    (n : FrameNo) (inside : IsFrame found.frames n.0) (free : role_of found.frames n.0 ≡ Free) (new : Core D E M m) (page : PageKey) where
+  pub comes_on : BringsIn (picture_of found) (picture_of new) page n.0 → ComesIn old new page (Ok n)
+  comes_on brings = record {
+    brought = record { found = picture_of found; fit = got.fit; frees = got.frees; gives = given got n inside free; needed = needed_of old found got.needed; brings = brings };
+    fit = fit_brought (picture_of found) (picture_of new) page n.0 got.fit brings;
+    frees = tt;
+    tried = tt;
+  }
+
+  -- it was given back
+  pub comes_back : (stall : Stall) → ChangesFrame (picture_of found) (picture_of new) n.0 → role_of new.frames n.0 ≡ Free → ComesIn old new page (Err stall)
+  comes_back stall changes freed = record {
+    brought = tt;
+    fit = fit_spent (picture_of found) (picture_of new) n.0 got.fit changes (λ t. (let bad : Free ≡ Table = sym freed ∙ t in (cc))) freed;
+    frees = frees_then (picture_of old) (picture_of found) (picture_of new) None got.frees (frees_spent (picture_of found) (picture_of new) n.0 got.fit changes freed);
+    tried = wants_taken old found (picture_of new) n.0 got.needed free (given_back got n inside free (picture_of new) changes freed (given got n inside free));
+  }
+
+-- none was had
+module _ {M : Type 0} {m : Levels.Ghosts M} {D E : Type 0} {h : Ghosts E} {old new : Core D E M m} {stall : Stall} where
+  pub seeks_stall : {keep : Option FrameNo} (r : Result FrameNo Stall) → IsErrAnd r (λ e. e ≡ stall) → Obtains h old new keep (Err stall) → SeeksFrame h old new keep r
+  seeks_stall (Ok x) is got = absurd is
+  seeks_stall {keep} (Err e) is got =
+      let P : Stall → Type 0 = λ s. SeeksFrame h {T = FrameNo} old new keep (Err s) in
+      subst P (sym is) (record { rest = got.rest; asked = got.asked; uses = got.uses; refused = got.refused })
+
+  pub comes_stall : (page : PageKey) (r : Result FrameNo Stall) → IsErrAnd r (λ e. e ≡ stall) → Obtains h old new None (Err stall) → ComesIn old new page r
+  comes_stall page (Ok x) is got = absurd is
+  comes_stall page (Err e) is got = record { brought = tt; fit = got.fit; frees = got.frees; tried = wants_tried old new got.needed got.full got.tried }

@@ -1,0 +1,45 @@
+-- The entries over one frame, looked for and changed.
+use Rattle.vm_types.specs.declared.mode.Levels as Levels
+use Rattle.std.specs.Prelude.{ℕ, ◌<◌, ◌≤◌, Option, IfSome, IfNone}
+use Rattle.vm_types.specs.Limits.{top_level}
+use Rattle.page_tables.specs.Tree.{IsPage}
+use Rattle.residency.specs.declared.kernel.Core.{Core}
+use Rattle.residency.specs.declared.leaves.Change.{Change}
+use Rattle.residency.specs.declared.leaves.LeafSearch.{LeafSearch}
+use Rattle.residency.specs.Picture.{Picture, picture_of}
+use Rattle.residency.specs.Parts.{IsFit}
+use Rattle.residency.specs.Leaves.{IsOver, IsFirstOver, IsClear, ChangesLeaves, KeepsAllButFrames}
+
+-- the first page of a process from a page on that has an entry which is looked for, or none where no page has
+module _ {mode : ℕ} where
+  pub record FindsFirst (c : Picture mode) (s : LeafSearch) (pid low : ℕ) (result : Option ℕ) : Type 0 where
+    pub some : IfSome result (λ k. IsFirstOver c s.change s.frame.0 pid low k)
+    pub none : IfNone result ((k : ℕ) → low ≤ k → IsPage (top_level mode) k → IsOver c s.change s.frame.0 pid k → ⊥)
+
+module _ {M : Type 0} {m : Levels.Ghosts M} {D E : Type 0} where
+  -- entries over frame n that the change is for
+  pub record ChangesEntries (change : Change) (n : ℕ) (old new : Core D E M m) : Type 0 where
+    -- were changed so, and memory is fit as before,
+    pub changes : ChangesLeaves change n (picture_of old) (picture_of new)
+    pub fit : IsFit (picture_of new)
+    -- and nothing but frames changed
+    pub beside : KeepsAllButFrames old new
+
+  -- the page of the process has no such entry any more
+  pub record ClearsPage (change : Change) (n pid page : ℕ) (old new : Core D E M m) : Type 0 where
+    pub clear : IsOver (picture_of new) change n pid page → ⊥
+    pub entries : ChangesEntries change n old new
+    pub open entries use *
+
+  -- no page of the process has one
+  pub record ClearsProcess (change : Change) (n pid : ℕ) (old new : Core D E M m) : Type 0 where
+    pub clear : (page : ℕ) → IsPage (top_level m.mode) page → IsOver (picture_of new) change n pid page → ⊥
+    pub entries : ChangesEntries change n old new
+    pub open entries use *
+
+  -- no page of any process has one, and the frame isn't the zero page
+  pub record ClearsFrame (change : Change) (n : ℕ) (old new : Core D E M m) : Type 0 where
+    pub clear : IsClear (picture_of new) change n
+    pub above : 0 < n
+    pub entries : ChangesEntries change n old new
+    pub open entries use *

@@ -1,0 +1,88 @@
+-- Which fault a commit tells, and what a source was asked for.
+use Rattle.std.proofs.Common.{◌≡◌, ◌<◌, ℕ, Result, Ok, Err, refl, ap, sym, subst, ◌∙◌, arith}
+use Rattle.std.specs.Prelude.{IsErr, IsErrAnd, IsErrOf}
+use Rattle.sync_journal.specs.Source.{Asks, HasCauses}
+use Rattle.sync_journal.specs.declared.faults.CommitFault.{CommitFault}
+use Rattle.sync_journal.specs.declared.faults.CommitFault.TheVariants.{Source, Device}
+use Rattle.sync_journal.specs.declared.source.PageSource.{Ghosts}
+use Rattle.disk_model.specs.declared.sector_disk.SectorDisk.{Ghosts as DiskGhosts}
+use Rattle.sync_journal.specs.Steps.{BlamesJournal}
+use Rattle.sync_journal.specs.declared.faults.RecoverFault.{RecoverFault}
+use Rattle.sync_journal.specs.declared.faults.RecoverFault.TheVariants.{Device as DeviceFailed, BadJournal}
+
+-- nothing was asked for
+pub asks_nothing : {S : Type 0} (s : Ghosts S) (source : S) → s.follows source source → Asks s source source
+asks_nothing s source stays = record { kept = λ h. h; later = omega arith; same = λ h k. refl; still = λ k gives. gives; follows = stays }
+
+-- which fault it is
+pub told_was : {S T E : Type 0} (fault of : E) (result : Result T E) → IsErrAnd result (λ e. e ≡ fault) → IsErrOf result of → ◌≡◌ {A = Result S E} (Err fault) (Err of)
+told_was fault of (Ok done) same is = absurd same
+told_was fault of (Err e) same is = (let here : e ≡ of = cc in ap Err (sym same ∙ here))
+
+pub not_source : (result : Result (Unit {0}) CommitFault) → IsErrAnd result (λ e. e ≡ Device) → IsErrOf result Source → ⊥
+not_source (Ok done) same is = absurd same
+not_source (Err e) same is = cc
+
+-- told of a device that hadn't failed before
+pub calm_first : {a mid b x y : ℕ} {result : Result (Unit {0}) CommitFault} → mid ≡ a → HasCauses mid b x y result → HasCauses a b x y result
+calm_first {a} {mid} {b} {x} {y} {result} calm causes = subst (λ n. HasCauses n b x y result) calm causes
+
+-- over the failures of a device and of a source, before and now
+module _ (a b x y : ℕ) where
+  -- a fault that was told before
+  pub told_on : (fault : CommitFault) (result : Result (Unit {0}) CommitFault) → IsErrAnd result (λ e. e ≡ fault) → HasCauses a b x y (Err fault) → HasCauses a b x y result
+  told_on fault (Ok done) is causes = absurd is
+  told_on fault (Err e) is causes = subst (λ f. HasCauses a b x y (Err f)) (sym is) causes
+
+  -- the device failed alone
+  pub device_failed : (result : Result (Unit {0}) CommitFault) → IsErrAnd result (λ e. e ≡ Device) → a < b → y ≡ x → HasCauses a b x y result
+  device_failed (Ok done) is failed calm = absurd is
+  device_failed (Err e) is failed calm = record {
+    device_later = omega (arith, failed);
+    source_later = omega (arith, calm);
+    device = λ told. failed;
+    source = λ told. cc;
+    device_calm = tt;
+    device_still = λ told. cc;
+    source_calm = tt;
+    source_still = λ told. calm;
+  }
+
+  -- neither failed
+  pub none_failed : b ≡ a → y ≡ x → HasCauses a b x y (Ok (tt {0}))
+  none_failed device source = record {
+    device_later = omega (arith, device);
+    source_later = omega (arith, source);
+    device = λ told. cc;
+    source = λ told. cc;
+    device_calm = device;
+    device_still = λ told. device;
+    source_calm = source;
+    source_still = λ told. source;
+  }
+
+-- what a recovery tells
+pub is_error : {T E : Type 0} (result : Result T E) (P : E → Type 0) → IsErrAnd result P → IsErr result
+is_error (Ok x) P is = absurd is
+is_error (Err e) P is = refl
+
+pub not_bad_device : {T : Type 0} (result : Result T RecoverFault) → IsErrAnd result (λ e. e ≡ DeviceFailed) → IsErrOf result BadJournal → ⊥
+not_bad_device (Ok x) same is = absurd same
+not_bad_device (Err e) same is = cc
+
+module _ {D T : Type 0} (g : DiskGhosts D) where
+  pub blames_device : (old new : D) (result : Result T RecoverFault) → IsErrAnd result (λ e. e ≡ DeviceFailed) → g.failures old < g.failures new → BlamesJournal g old new result
+  blames_device old new (Ok x) same failed = absurd same
+  blames_device old new (Err e) same failed = record { device = λ is. failed; calm = tt; still = λ is. cc }
+
+  pub blames_on : {S : Type 0} (old mid new : D) (fault : RecoverFault) (result : Result T RecoverFault) → IsErrAnd result (λ e. e ≡ fault) → g.failures mid ≡ g.failures old
+      → BlamesJournal g {T = S} mid new (Err fault) → BlamesJournal g old new result
+  blames_on old mid new fault (Ok x) same calm blames = absurd same
+  blames_on old mid new fault (Err e) same calm blames = record {
+    device = λ is. (let failed = blames.device (told_was fault DeviceFailed (Err e) same is) in omega (arith, failed, calm));
+    calm = tt;
+    still = λ is. blames.still (told_was fault BadJournal (Err e) same is) ∙ calm;
+  }
+
+  pub blames_none : (old new : D) (x : T) → g.failures new ≡ g.failures old → BlamesJournal g old new (Ok x)
+  blames_none old new x calm = record { device = λ is. cc; calm = calm; still = λ is. cc }

@@ -1,0 +1,69 @@
+-- A recovery in the words of a layout is one in the words of both.
+use Rattle.std.proofs.Common.{◌≡◌, ℕ, Result, Ok, Err, OnOk, OnErr, sym, subst}
+use Rattle.std.specs.Prelude.{IsErrAnd, IsErrOf}
+use Rattle.std.proofs.lemmas.Result.{on_ok_weaker}
+use Rattle.disk_model.specs.Stop.{Image}
+use Rattle.disk_model.specs.Moments.{AsksOnly, Touches}
+use Rattle.disk_model.proofs.Moments.{weaker}
+use Rattle.disk_model.specs.declared.sector_disk.SectorDisk.{Ghosts}
+use Rattle.sync_journal.specs.Kinds.{kind_of, IsKindAsked, IsKindBad, IsKindClosed, IsKindRecovered, IsBadStore, IsStoreAsked, IsStoreClosed, IsStoreRecovered, KeepsStore, StoreStandsAs}
+use Rattle.sync_journal.specs.Recovering.{RecoversBy}
+use Rattle.sync_journal.specs.declared.faults.RecoverFault.{RecoverFault}
+use Rattle.sync_journal.specs.declared.store_journal.Journals.{Journals}
+use Rattle.sync_journal.specs.declared.store_journal.StoreJournal.{StoreJournal}
+use Rattle.sync_journal.proofs.InKinds.{store_since}
+use Rattle.sync_journal.proofs.Causes.{told_was}
+
+-- a fault is handed on as it is
+abbrev pub HandsOn : {S T : Type 0} → Result S RecoverFault → Result T RecoverFault → Type 0
+HandsOn (Ok x) result = OnErr result ⊥
+HandsOn (Err fault) result = IsErrAnd result (λ told. told ≡ fault)
+
+module _ {S T : Type 0} where
+  ok_still : (r : Result S RecoverFault) (result : Result T RecoverFault) (P : Type 0) → HandsOn r result → OnOk r P → OnOk result P
+  ok_still (Ok x) (Ok y) P same p = p
+  ok_still (Ok x) (Err told) P same p = absurd same
+  ok_still (Err fault) (Ok y) P same p = absurd same
+  ok_still (Err fault) (Err told) P same p = tt
+
+  err_was : (r : Result S RecoverFault) (result : Result T RecoverFault) (of : RecoverFault) → HandsOn r result → IsErrOf result of → IsErrOf r of
+  err_was (Ok x) (Ok y) of same is = cc
+  err_was (Ok x) (Err told) of same is = absurd same
+  err_was (Err fault) (Ok y) of same is = absurd same
+  err_was (Err fault) (Err told) of same is = told_was fault of (Err told) same is
+
+module _ {D : Type 0} (g : Ghosts D) (journals : Journals) (old new : D) (kind : g.keeps_model old → kind_of (g.content old) ≡ journals) where
+  pub recovers_kind : {S : Type 0} (StandsAs : Image → Image → Type 0) (After Settled : Type 0) (r : Result S RecoverFault) (result : Result StoreJournal RecoverFault)
+      → (g.keeps_model old → (image : Image) → StandsAs (g.content old) image → StoreStandsAs (g.sector_count old) (g.content old) image)
+      → HandsOn r result → (g.keeps_model new → Settled)
+      → RecoversBy g StandsAs (IsKindRecovered journals (g.sector_count old)) (IsKindAsked journals (g.content old)) (IsKindBad journals (g.sector_count old) (g.content old))
+      (IsKindClosed journals (g.content old)) After old new r
+      → RecoversBy g (StoreStandsAs (g.sector_count old)) (IsStoreRecovered (g.content old) (g.sector_count old)) (IsStoreAsked (g.content old)) (IsBadStore (g.sector_count old) (g.content old))
+      (IsStoreClosed (g.content old)) Settled old new result
+  recovers_kind StandsAs After Settled r result stands same settled e = record {
+    ok = settled;
+    synced = λ keeps. ok_still r result _ same (e.synced keeps);
+    stays = record { any_moment = moments; in_a_row = λ keeps still first was. store_since g old new first was (moments keeps still) };
+    run = record {
+      size = e.size;
+      kept = e.kept;
+      later = e.later;
+      touches = λ keeps. subst (λ b. Touches g (IsKindRecovered b (g.sector_count old)) old new) (sym (kind (e.kept keeps))) (e.touches keeps);
+    };
+    bad_unwritten = λ keeps bad. e.bad_unwritten keeps (here keeps bad);
+    closed_unwritten = λ keeps closed. e.closed_unwritten keeps (subst (λ b. IsKindClosed b (g.content old)) (kind (e.kept keeps)) closed);
+    asks = λ keeps. subst (λ b. AsksOnly g (IsKindAsked b (g.content old)) old new) (sym (kind (e.kept keeps))) (e.asks keeps);
+    blames = record {
+      device = λ is. e.device (err_was r result _ same is);
+      calm = ok_still r result _ same e.calm;
+      still = λ is. e.still (err_was r result _ same is);
+    };
+    good = λ keeps. ok_still r result _ same (on_ok_weaker r (λ good bad. good (here keeps bad)) (e.good keeps));
+    bad = λ keeps is. subst (λ b. IsKindBad b (g.sector_count old) (g.content old)) (sym (kind (e.kept keeps))) (e.bad keeps (err_was r result _ same is));
+  }
+    where
+      moments : g.keeps_model new → ((k : ℕ) → g.unsynced old k → ⊥) → KeepsStore g old new
+      moments keeps still = weaker g old new _ _ (stands (e.kept keeps)) (e.any_moment keeps still)
+
+      here : g.keeps_model new → IsBadStore (g.sector_count old) (g.content old) → IsKindBad journals (g.sector_count old) (g.content old)
+      here keeps bad = subst (λ b. IsKindBad b (g.sector_count old) (g.content old)) (kind (e.kept keeps)) bad

@@ -1,0 +1,104 @@
+-- A recovery of two journals in turn: a sync and a look, and then a commit of no pages.
+use Rattle.std.proofs.Common.{◌≡◌, ℕ, true, false, [], inl, inr, Result, Ok, Err, OnOk, sym, subst, ◌∙◌}
+use Rattle.std.specs.Prelude.{IfOk, IsErr, IsErrOf}
+use Rattle.disk_model.specs.Stop.{Image, MayLeave}
+use Rattle.disk_model.specs.Moments.{AsksOnly, Nothing, Touches}
+use Rattle.disk_model.proofs.Moments.{asks_none, asks_then}
+use Rattle.disk_model.specs.declared.sector_disk.DiskFault.{DiskFault}
+use Rattle.disk_model.specs.declared.sector_disk.SectorDisk.{Ghosts}
+use Rattle.sync_journal.specs.Journal.{live_homes}
+use Rattle.sync_journal.specs.Map.{AreHomes}
+use Rattle.sync_journal.specs.Runs.{RunsOnDevice}
+use Rattle.sync_journal.specs.Turns.{turn_home_count, turn_standing, IsBadTurn, IsNamedFor, IsTurnAskedIn, IsTurnCommitted, IsTurnRecovered, IsTurnSettled, KeepsTurns}
+use Rattle.sync_journal.specs.Recovering.{IsNamedLive, EmptiesNamed, RecoversInTurn}
+use Rattle.sync_journal.specs.Steps.{BlamesJournal}
+use Rattle.sync_journal.specs.declared.faults.RecoverFault.{RecoverFault}
+use Rattle.sync_journal.specs.declared.faults.RecoverFault.TheVariants.{BadJournal}
+use Rattle.sync_journal.specs.declared.turns.TurnJournal.{TurnJournal}
+use Rattle.sync_journal.proofs.Runs.{one_more, of_more}
+use Rattle.sync_journal.proofs.InTurn.{same_read, while_looking, while_copying, blocks_since, good_before, turn_since}
+use Rattle.sync_journal.proofs.InKinds.{recovered_sector}
+use Rattle.sync_journal.proofs.TurnAsking.{recovery_asks}
+use Rattle.sync_journal.proofs.Replays.{if_ok}
+
+-- What a look after a sync finds stood before the sync.
+module _ {D : Type 0} (g : Ghosts D) (old mid read : D) (syncs : RunsOnDevice g Nothing old mid) (looks : RunsOnDevice g Nothing mid read) where
+  held : g.keeps_model read → g.content mid ≡ g.content old
+  held keeps = same_read g old mid mid (syncs.touches (looks.kept keeps))
+
+  pub named_since : (journal : TurnJournal) → IsNamedLive g mid read journal → IsNamedLive g old read journal
+  named_since journal named = record {
+    homes = subst (λ n. AreHomes (turn_home_count n) (live_homes journal.live)) syncs.size named.homes;
+    names = λ keeps. subst (λ (image : Image). IsNamedFor journal image) (held keeps) (named.names keeps);
+    found = named.found;
+  }
+
+  pub asks_since : ((k : ℕ) → g.asked mid k ≡ g.asked old k) → (g.keeps_model read → AsksOnly g (IsTurnAskedIn (g.content mid)) mid read)
+      → g.keeps_model read → AsksOnly g (IsTurnAskedIn (g.content old)) old read
+  asks_since unasked asks keeps = asks_then g (IsTurnAskedIn (g.content old)) old mid read (asks_none g (IsTurnAskedIn (g.content old)) old mid unasked)
+      (subst (λ (image : Image). AsksOnly g (IsTurnAskedIn image) mid read) (held keeps) (asks keeps))
+
+module _ {D : Type 0} (g : Ghosts D) (old read : D) (only_now : g.keeps_model old → (image : Image) → g.left_since old (g.moment old) image → MayLeave (g.content old) (g.unsynced old) image)
+    (looks : RunsOnDevice g Nothing old read) where
+  -- where nothing but gate and map is read
+  pub looked : (result : Result TurnJournal RecoverFault) → IsErr result → (g.keeps_model read → AsksOnly g (IsTurnAskedIn (g.content old)) old read) → BlamesJournal g old read result
+      → (g.keeps_model read → IsErrOf result BadJournal → IsBadTurn (g.sector_count old) (g.content old)) → RecoversInTurn g old read result
+  looked (Ok journal) is asks blames bad = let none : false ≡ true = is in cc
+  looked (Err fault) is asks blames bad = record {
+    recovers = record {
+      ok = λ keeps. tt;
+      synced = λ keeps. tt;
+      stays = record {
+        any_moment = λ keeps still. while_looking g old read read (looks.touches keeps) (only_now (looks.kept keeps)) still;
+        in_a_row = λ keeps still first was. turn_since g old read first was (while_looking g old read read (looks.touches keeps) (only_now (looks.kept keeps)) still);
+      };
+      run = of_more g Nothing (IsTurnRecovered (g.sector_count old)) old read (λ k none. absurd none) looks;
+      bad_unwritten = λ keeps is. looks.touches keeps;
+      closed_unwritten = λ keeps none. looks.touches keeps;
+      asks = asks;
+      blames = blames;
+      good = λ keeps. tt;
+      bad = bad;
+    };
+    not_live = tt;
+    blocks = λ keeps. inl (looks.touches keeps);
+  }
+
+  -- and then what is live is copied home
+  module _ (new : D) (journal now : TurnJournal) (named : IsNamedLive g old read journal) {r : Result (Unit {0}) DiskFault} (e : EmptiesNamed g journal now read new r) where
+    moments : g.keeps_model new → ((k : ℕ) → g.unsynced old k → ⊥) → KeepsTurns g old new
+    moments keeps synced = while_copying g old read new (looks.touches (e.kept keeps)) looks.size
+        (while_looking g old read new (looks.touches (e.kept keeps)) (only_now (looks.kept (e.kept keeps))) synced) (e.any_moment keeps)
+
+    good_found : g.keeps_model new → IsBadTurn (g.sector_count old) (g.content old) → ⊥
+    good_found keeps = good_before g old read new (looks.touches (e.kept keeps)) journal.second (live_homes journal.live) looks.size (named.found (e.kept keeps))
+
+    -- whatever is told of it
+    pub emptied : (result : Result TurnJournal RecoverFault) → (g.keeps_model read → AsksOnly g (IsTurnAskedIn (g.content old)) old read)
+        → (g.keeps_model new → IfOk result (λ found. IsTurnSettled g (g.sector_count old) (g.content old) found.second [] new (turn_standing (g.content old))))
+        → (g.keeps_model new → OnOk result ((k : ℕ) → g.unsynced new k → ⊥)) → BlamesJournal g old new result
+        → (g.keeps_model new → IsErrOf result BadJournal → IsBadTurn (g.sector_count old) (g.content old)) → IfOk result (λ found. live_homes found.live ≡ []) → RecoversInTurn g old new result
+    emptied result asks ok synced blames bad not_live = record {
+      recovers = record {
+        ok = ok;
+        synced = synced;
+        stays = record { any_moment = moments; in_a_row = λ keeps still first was. turn_since g old new first was (moments keeps still) };
+        run = one_more g (IsTurnRecovered (g.sector_count old)) old read new (of_more g Nothing (IsTurnRecovered (g.sector_count old)) old read (λ k none. absurd none) looks)
+            (of_more g (IsTurnCommitted journal.second (live_homes journal.live)) (IsTurnRecovered (g.sector_count old)) read new
+            (recovered_sector journal.second (g.sector_count old) (live_homes journal.live) named.homes) e.run);
+        bad_unwritten = λ keeps is. absurd (good_found keeps is);
+        closed_unwritten = λ keeps none. subst (λ after. Touches g Nothing old after) (sym (e.idle (sym (named.names (e.kept keeps)).count ∙ none))) (looks.touches (e.kept keeps));
+        asks = λ keeps. recovery_asks g (g.content old) journal old read new (named.names (e.kept keeps)) (asks (e.kept keeps)) e.once;
+        blames = blames;
+        good = λ keeps. if_ok result (good_found keeps);
+        bad = bad;
+      };
+      not_live = not_live;
+      blocks = λ keeps. inr (
+        read,
+        looks.touches (e.kept keeps),
+        journal.second,
+        live_homes journal.live,
+        blocks_since g old read new (looks.touches (e.kept keeps)) journal.second (live_homes journal.live) looks.size (e.blocks keeps),
+      );
+    }

@@ -1,0 +1,120 @@
+-- What the steps of a commit and of a recovery come to on a device, in whichever layout.
+use Rattle.std.specs.Prelude.{ℕ, List, ◌+◌, ◌<◌, ◌≡◌, Result, OnOk, IsErr, IsErrOf}
+use Rattle.disk_model.specs.Sectors.{joined}
+use Rattle.disk_model.specs.Stop.{Image, HasCause, Names, NamesOnce}
+use Rattle.disk_model.specs.Moments.{LeavesOnly, AsksOnly, Nothing}
+use Rattle.disk_model.specs.declared.sector_disk.DiskFault.{DiskFault}
+use Rattle.disk_model.specs.declared.sector_disk.SectorDisk.{Ghosts}
+use Rattle.sync_journal.specs.declared.faults.CommitFault.{CommitFault}
+use Rattle.sync_journal.specs.declared.faults.RecoverFault.{RecoverFault}
+use Rattle.sync_journal.specs.declared.faults.RecoverFault.TheVariants.{Device, BadJournal}
+use Rattle.sync_journal.specs.declared.source.PageSource as Source
+use Rattle.sync_journal.specs.Layout.{IsPageSector}
+use Rattle.sync_journal.specs.Runs.{RunsOnDevice}
+use Rattle.sync_journal.specs.Source.{Asks, HasCauses}
+
+module _ {D : Type 0} (g : Ghosts D) where
+  -- A device is read:
+  pub record ReadsOnly {T E : Type 0} (old new : D) (result : Result T E) : Type 0 where
+    -- nothing is written,
+    pub run : RunsOnDevice g Nothing old new
+    pub open run use *
+    -- and a fault comes only where the device failed.
+    pub cause : HasCause (g.failures old) (g.failures new) result
+
+  -- A page is read:
+  pub record ReadsSectors (first : ℕ) (old new : D) (to : List ℕ) (result : Result (Unit {0}) DiskFault) : Type 0 where
+    -- it is what the eight sectors from the first on hold,
+    pub read : g.keeps_model new → OnOk result (to ≡ joined (λ i. g.content old (first + i)) 8)
+    -- and the device is read alone, each of them once.
+    pub reads : ReadsOnly old new result
+    pub open reads use *
+    pub asks : Names (IsPageSector first) (g.asked old) (g.asked new)
+
+  -- The page that stands for a home is read:
+  pub record SeesHome (bytes : List ℕ) (Asked : ℕ → Type 0) (Rest : Type 0) (old new : D) (to : List ℕ) (result : Result (Unit {0}) DiskFault) : Type 0 where
+    -- it is that page,
+    pub page : g.keeps_model new → OnOk result (to ≡ bytes)
+    -- the journal stands as it did,
+    pub rest : g.keeps_model new → Rest
+    -- and the device is read alone, in no sector but those in which that page stands.
+    pub reads : ReadsOnly old new result
+    pub open reads use *
+    pub asks : AsksOnly g Asked old new
+
+  -- Sectors are written:
+  pub record WritesInto {T E : Type 0} (Written Asked : ℕ → Type 0) (After : Type 0) (old new : D) (result : Result T E) : Type 0 where
+    -- what was to be done is done,
+    pub done : g.keeps_model new → OnOk result After
+    -- no other sector is written,
+    pub run : RunsOnDevice g Written old new
+    pub open run use *
+    -- and none is asked for twice, nor any but those that it takes;
+    pub once : NamesOnce Asked (g.asked old) (g.asked new)
+    -- or the device failed.
+    pub failed : IsErr result → g.failures old < g.failures new
+    pub calm : OnOk result (g.failures new ≡ g.failures old)
+
+  -- Sectors are written and synced:
+  pub record SyncsInto {T E : Type 0} (Written Asked : ℕ → Type 0) (After : Type 0) (old new : D) (result : Result T E) : Type 0 where
+    pub writes : WritesInto Written Asked After old new result
+    pub open writes use *
+    -- nothing is unsynced then.
+    pub synced : g.keeps_model new → OnOk result ((k : ℕ) → g.unsynced new k → ⊥)
+
+  -- What stands in a journal alone is copied home:
+  pub record MovesHome {T E : Type 0} (Written Asked : ℕ → Type 0) (Stays : Image → Type 0) (After : Type 0) (old new : D) (result : Result T E) : Type 0 where
+    -- the device is at rest then, with homes in which all of it stands, or the device failed;
+    pub writes : WritesInto Written Asked After old new result
+    pub open writes use *
+    -- and every image of a stop at any moment of the call stands for the same pages.
+    pub any_moment : g.keeps_model new → LeavesOnly g old new Stays
+
+  -- A fault of a recovery has its cause:
+  pub record BlamesJournal {T : Type 0} (old new : D) (result : Result T RecoverFault) : Type 0 where
+    -- `Device` comes only where the device failed,
+    pub device : IsErrOf result Device → g.failures old < g.failures new
+    -- and it didn't fail with `BadJournal` or with no fault.
+    pub calm : OnOk result (g.failures new ≡ g.failures old)
+    pub still : IsErrOf result BadJournal → g.failures new ≡ g.failures old
+
+  -- A journal is looked at:
+  pub record LooksOnly {T : Type 0} (old new : D) (result : Result T RecoverFault) : Type 0 where
+    -- nothing is written,
+    pub run : RunsOnDevice g Nothing old new
+    pub open run use *
+    -- and a fault has its cause.
+    pub blames : BlamesJournal old new result
+    pub open blames use *
+
+module _ {D S : Type 0} (g : Ghosts D) (s : Source.Ghosts S) where
+  -- Pages are asked of a source, to be written:
+  pub record TakesPages (Written : ℕ → Type 0) (old new : D) (from left : S) (result : Result (Unit {0}) CommitFault) : Type 0 where
+    -- no other sector is written,
+    pub run : RunsOnDevice g Written old new
+    pub open run use *
+    -- of the source nothing but pages is asked,
+    pub asks : Asks s from left
+    -- and each fault has its cause.
+    pub causes : HasCauses (g.failures old) (g.failures new) (s.failures from) (s.failures left) result
+
+  -- The pages that a source gives are written to a journal's body:
+  pub record FillsBody (Asked : ℕ → Type 0) (After : Type 0) (old new : D) (left : S) (result : Result (Unit {0}) CommitFault) : Type 0 where
+    -- it holds them,
+    pub body : g.keeps_model new → s.keeps_model left → OnOk result After
+    -- and no sector is asked for twice, nor any but those that they take.
+    pub once : NamesOnce Asked (g.asked old) (g.asked new)
+
+  -- The pages that a source gives are written to a journal, with the homes that they are of:
+  pub record FillsJournal (Asked : ℕ → Type 0) (After Mapped : Type 0) (old new : D) (left : S) (result : Result (Unit {0}) CommitFault) : Type 0 where
+    pub fills : FillsBody Asked After old new left result
+    pub open fills use *
+    -- its map names these.
+    pub map : g.keeps_model new → OnOk result Mapped
+
+  -- and all of that is synced:
+  pub record SyncsJournal (Asked : ℕ → Type 0) (After Mapped : Type 0) (old new : D) (left : S) (result : Result (Unit {0}) CommitFault) : Type 0 where
+    pub fills : FillsJournal Asked After Mapped old new left result
+    pub open fills use *
+    -- nothing is unsynced then.
+    pub synced : g.keeps_model new → OnOk result ((k : ℕ) → g.unsynced new k → ⊥)
