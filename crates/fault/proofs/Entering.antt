@@ -28,7 +28,6 @@ use Rattle.fault.specs.Leaves.{IsFullEntry}
 use Rattle.fault.specs.Changes.{IsLinked, Enters, KeepsTables, KeepsViews}
 use Rattle.residency.specs.Ways.{KeepsAround}
 use Rattle.fault.proofs.Forms.{full_entry, full_dirty_sound, mapped_page}
-use Rattle.fault.proofs.Rows.{rows_set}
 use Rattle.fault.proofs.Steps.{tables_same}
 
 -- what a call leaves that changes frames and the count of refused requests alone
@@ -93,7 +92,6 @@ module _ {M : Type 0} {m : Levels.Ghosts M} {D E : Type 0} where
         fit = full_fit o n pid page r a frame private linked lives at sets beside same alone behind inside;
         spaces = record { root = beside.root; at = beside.at };
         tables = full_tables o n pid page r a frame private linked lives at sets beside;
-        rows = rows_set o n linked.fit r page sets.0 sets.2;
         views = full_views o n pid page r a frame private linked lives at sets beside same;
         calm = record {
           store = rest.store;

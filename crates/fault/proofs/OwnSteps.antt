@@ -34,7 +34,7 @@ use Rattle.fault.specs.Changes.{AddsNoTable, IsLinked, KeepsSpaces, KeepsTables,
 use Rattle.fault.proofs.Forms.{mapped_page, behind_used, behind_datum, own_role}
 use Rattle.residency.proofs.SeatForms.{seat_own, seat_common}
 use Rattle.fault.proofs.NoTables.{no_table_then, no_table_freed, no_table_spared, no_table_trees, no_table_set}
-use Rattle.fault.proofs.Rows.{rows_then, rows_ends, rows_freed, rows_changed, rows_settled}
+use Rattle.fault.proofs.Rows.{rows_then, rows_freed, rows_changed}
 use Rattle.fault.proofs.Settling.{settled_first, settled_moved, settled_others, settled_views, settled_view, settled_held, settled_missing, settled_room, settled_full, settled_bytes, settled_count}
 use Rattle.fault.proofs.Slotted.{slotted_then, slotted_frees, slotted_but, slotted_same}
 use Rattle.fault.proofs.Steps.{spaces_then, spaces_freed, room_then, room_freed, tables_then, tables_freed, tables_same}
@@ -180,9 +180,6 @@ module _ {mode : ℕ} (old : Picture mode) (pid page m : ℕ) (a : Attr) (sound 
       tables_set = tables_then old found set copy.frees.pages.root (tables_freed old found _ copy.frees)
           (tables_same found set (settled_missing found mid pid page r n a copy.fit copy.changes copy.role copy.count copy.noted lives_found whole_found at_found set sets beside alone inside))
 
-      pub rows_own : KeepsRows old set
-      rows_own = rows_then old found set copy.frees.pages.root (rows_freed old found _ copy.fit copy.frees) (rows_settled found mid n copy.fit copy.changes datum_mid set r page sets.0 sets.2)
-
       pub no_table_own : AddsNoTable old set
       no_table_own =
           no_table_then old found set (no_table_freed old found _ copy.frees)
@@ -271,9 +268,6 @@ module _ {mode : ℕ} (old : Picture mode) (pid page m : ℕ) (a : Attr) (sound 
 
           pub tables_shared : KeepsTables old new
           tables_shared = tables_then old set new spaces_set.root tables_set (tables_same set new (λ q x p e. missing_ends set new x p ((release_spares set new m 0 fit_moved' role_shared releases beside').ends q x p e)))
-
-          pub rows_shared : KeepsRows old new
-          rows_shared = rows_then old set new spaces_set.root rows_own (rows_ends set new fit_shared beside'.root (release_spares set new m 0 fit_moved' role_shared releases beside').ends)
 
           pub no_table_shared : AddsNoTable old new
           no_table_shared = no_table_then old set new no_table_own (no_table_spared m 0 set new (release_spares set new m 0 fit_moved' role_shared releases beside'))

@@ -5,10 +5,9 @@ use Rattle.vm_types.specs.declared.number.FrameNo.{FrameNo}
 use Rattle.frames.specs.declared.role.Role.TheVariants.{Table}
 use Rattle.frames.specs.FrameTable.{role_of}
 use Rattle.page_tables.specs.Tree.{IsTable, last_table}
-use Rattle.page_tables.specs.Change.{SetsEntry}
 use Rattle.page_tables.proofs.Data.{KeepsTrees}
 use Rattle.page_tables.proofs.Ends.{missing_of-is}
-use Rattle.page_tables.proofs.Places.{row_stays, row_same}
+use Rattle.page_tables.proofs.Places.{row_same}
 use Rattle.page_tables.proofs.Ways.{ends}
 use Rattle.residency.specs.Picture.{Picture}
 use Rattle.residency.specs.Parts.{IsFit}
@@ -46,15 +45,7 @@ rows_trees {mode = mode} old new fit trees pid r row n e is =
     let table = (fit.rooted.roots pid r e).table in
     row_same old.frames new.frames fit.rooted.forest trees.forest trees.same (top_level mode) r row n table ((trees.tables r).0 table) is
 
--- one entry was set
-pub rows_set : {mode : ℕ} (old new : Picture mode) → IsFit old → (root page number : ℕ) → SetsEntry old.frames new.frames (top_level mode) root page number → KeepsRows old new
-rows_set {mode = mode} old new fit root page number sets pid r row n e is = row_stays old.frames new.frames (top_level mode) root page number sets r row n (fit.rooted.roots pid r e) is
-
 -- a free frame was taken that is no table, and an entry set
 module _ {mode : ℕ} (found mid : Picture mode) (n : ℕ) (fit : IsFit found) (changes : ChangesFrame found mid n) (datum : role_of mid.frames n ≢ Table) where
   pub rows_changed : KeepsRows found mid
   rows_changed = rows_trees found mid fit (trees_changed found mid n fit changes datum)
-
-  pub rows_settled : (set : Picture mode) (root page number : ℕ) → SetsEntry mid.frames set.frames (top_level mode) root page number → KeepsRows found set
-  rows_settled set root page number sets pid r row k e is =
-      row_stays mid.frames set.frames (top_level mode) root page number sets r row k ((trees_changed found mid n fit changes datum).roots r (fit.rooted.roots pid r e)) (rows_changed pid r row k e is)

@@ -1,13 +1,11 @@
 -- A page's own copy read from its slot into a frame.
 use Rattle.vm_types.specs.Limits.{top_level}
-use Rattle.std.proofs.Common.{◌≡◌, ◌≢◌, ℕ, inl, inr, ◌+◌, ◌*◌, ◌<◌, ◌^◌, true, false, List, Option, Some, refl, sym, ap, ◌∙◌, subst, arith}
-use Rattle.std.proofs.lemmas.Bool.{cases_eq, cases_Bool, false≢true}
-use Rattle.vm_types.specs.declared.object.PageKey.{PageKey}
+use Rattle.std.proofs.Common.{◌≡◌, ◌≢◌, ℕ, inl, inr, ◌*◌, true, false, List, Option, Some, refl, sym, ap, ◌∙◌, subst, arith}
+use Rattle.std.proofs.lemmas.Bool.{cases_Bool, false≢true}
 use Rattle.vm_types.specs.declared.number.FrameNo.{FrameNo}
-use Rattle.vm_types.specs.declared.number.SlotNo.{SlotNo}
 use Rattle.vm_types.specs.declared.region.Attr.{Attr}
 use Rattle.frames.specs.declared.role.Role.TheVariants.{Table, Private}
-use Rattle.frames.specs.FrameTable.{FrameTable, bytes_of, count_of, SameButFor, Takes, with_bytes, Releases}
+use Rattle.frames.specs.FrameTable.{FrameTable, count_of, SameButFor, Takes, with_bytes, Releases}
 use Rattle.frames.proofs.FrameLemmas.{with_bytes-others}
 use Rattle.std.specs.Prelude.{◌&&◌, ◌==◌, ◌≤◌}
 use Rattle.vm_types.specs.Permission.{can_write}
@@ -17,27 +15,16 @@ use Rattle.swap.specs.declared.pages.Pages.{Pages}
 use Rattle.swap.specs.Written.{IsAsWritten}
 use Rattle.page_tables.specs.Leaves.{IsEntryOver}
 use Rattle.fault.specs.Leaves.{IsFullEntry}
-use Rattle.swap.specs.Slots.{SlotTable, IsInUse, IsReady, slots_of}
-use Rattle.swap.specs.Slots as Slots
+use Rattle.swap.specs.Slots.{SlotTable, IsReady, slots_of}
 use Rattle.sv39_walk.specs.Entry.{is_valid, has_bit}
-use Rattle.page_tables.specs.declared.forms.Entry.{Entry}
-use Rattle.page_tables.specs.declared.forms.Entry.TheVariants.{Leaf, Swapped, Parked}
-use Rattle.page_tables.specs.declared.forms.Entry.TheVariants as Entries
-use Rattle.page_tables.specs.Entry.{number_of, IsEntry}
-use Rattle.page_cache.specs.declared.place.Place.{Place}
-use Rattle.page_cache.specs.declared.place.Place.TheVariants.{Home, Frame, Slot}
 use Rattle.page_tables.specs.Tree.{IsPage}
-use Rattle.residency.specs.Seats.{Seat, InFrame, InSlot, seat, is_swapped}
-use Rattle.residency.specs.Picture.{Picture, entry, view, held, bytes_at, bytes_in, IsOwned}
-use Rattle.residency.specs.Parts.{IsFit, IsFitBut, IsEntryFor, Nothing, Resident, Away, IsSwapped}
+use Rattle.residency.specs.Seats.{Seat, is_swapped}
+use Rattle.residency.specs.Picture.{Picture, entry}
+use Rattle.residency.specs.Parts.{IsFit, IsEntryFor, Nothing, Resident, Away, IsSwapped}
 use Rattle.residency.specs.Calls.{ObtainsOwn}
 use Rattle.residency.specs.Steps.{TakesOwn, ChangesFrame}
 use Rattle.residency.proofs.Taking.{changes_taken, entries_changed}
-use Rattle.residency.proofs.Handing.{away_number}
-use Rattle.residency.proofs.Puts.{SameButSlots}
-use Rattle.residency.proofs.Setting.{each_view, view_seated}
-use Rattle.page_tables.proofs.Bits.{parked_framed}
-use Rattle.residency.proofs.SeatForms.{bit_clear, seat_away, swapped_form, away_seat}
+use Rattle.residency.proofs.SeatForms.{bit_clear}
 
 zero_here : is_swapped 0 ≡ false
 unfolding has_bit

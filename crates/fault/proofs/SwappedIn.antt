@@ -25,7 +25,7 @@ use Rattle.fault.specs.Leaves.{IsFullEntry}
 use Rattle.fault.specs.Changes.{AddsNoTable, IsLinked, KeepsSpaces, KeepsTables, KeepsRows, KeepsRoom, KeepsViews, KeepsOtherViews, KeepsOtherBare, KeepsSlotted, IsThatPage}
 use Rattle.fault.proofs.Forms.{mapped_page}
 use Rattle.fault.proofs.NoTables.{no_table_then, no_table_freed, no_table_trees, no_table_set}
-use Rattle.fault.proofs.Rows.{rows_then, rows_freed, rows_changed, rows_settled}
+use Rattle.fault.proofs.Rows.{rows_then, rows_freed, rows_changed}
 use Rattle.fault.proofs.Settling.{settled_moved, settled_owned, settled_others, settled_views, settled_view, settled_held, settled_missing, settled_room, settled_full}
 use Rattle.fault.proofs.Slotted.{slotted_then, slotted_frees, slotted_but}
 use Rattle.fault.proofs.Steps.{spaces_then, spaces_freed, room_then, room_freed, tables_then, tables_freed, tables_same}
@@ -116,9 +116,6 @@ module _ {mode : ℕ} {keep : Option FrameNo} (old taken : Picture mode) (pid pa
       pub tables_in : KeepsTables old (record set { slots = t })
       tables_in = tables_then old found new obtains.frees.pages.root (tables_freed old found keep obtains.frees)
           (tables_same found new (λ q x p e. settled_missing found written pid page r n a obtains.fit changes role one noted lives_of whole_of at_of set sets beside not_shared inside q x p e))
-
-      pub rows_in : KeepsRows old (record set { slots = t })
-      rows_in = rows_then old found set obtains.frees.pages.root (rows_freed old found keep obtains.fit obtains.frees) (rows_settled found written n obtains.fit changes datum set r page sets.0 sets.2)
 
       pub no_table_in : AddsNoTable old (record set { slots = t })
       no_table_in =

@@ -189,7 +189,6 @@ module _ {M : Type 0} {m : Levels.Ghosts M} {D E : Type 0} where
     pub fit : IsFit (picture_of new)
     pub spaces : KeepsSpaces (picture_of old) (picture_of new)
     pub tables : KeepsTables (picture_of old) (picture_of new)
-    pub rows : KeepsRows (picture_of old) (picture_of new)
     pub views : KeepsViews (picture_of old) (picture_of new)
     pub calm : IsCalm old new pid page
 

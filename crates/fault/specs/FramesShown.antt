@@ -1,18 +1,48 @@
 -- What showing a frame at a page comes to.
 use Rattle.vm_types.specs.declared.mode.Levels as Levels
-use Rattle.std.specs.Prelude.{◌≡◌, ℕ, Bool, true, false}
+use Rattle.std.specs.Prelude.{◌≡◌, ◌≢◌, ℕ, Bool, true, false, Some}
 use Rattle.vm_types.specs.Limits.{top_level}
 use Rattle.vm_types.specs.declared.region.Attr.{Attr}
+use Rattle.vm_types.specs.declared.region.Backing.{Backing}
+use Rattle.vm_types.specs.declared.region.Backing.TheVariants.{Anon}
 use Rattle.vm_types.specs.declared.object.PageKey.{PageKey}
+use Rattle.frames.specs.FrameTable.{IsFrame}
 use Rattle.page_tables.specs.Change.{SetsEntry}
 use Rattle.page_tables.specs.Leaves.{IsEntryOver}
 use Rattle.residency.specs.declared.kernel.Core.{Core}
-use Rattle.residency.specs.Picture.{picture_of, entry}
+use Rattle.residency.specs.Picture.{Picture, picture_of, entry, is_swapped}
+use Rattle.residency.specs.Parts.{IsBehind}
 use Rattle.residency.specs.Shows.{KeepsFiles}
 use Rattle.fault.specs.declared.spot.Spot.{Spot}
-use Rattle.fault.specs.Changes.{Enters, MarksTouched}
+use Rattle.fault.specs.Changes.{Enters, MarksTouched, StandsAt}
 use Rattle.residency.specs.Ways.{KeepsAround}
 use Rattle.fault.specs.Leaves.{IsFullEntry, full_write, full_dirty}
+
+module _ {mode : ℕ} where
+  -- A frame may be shown at a page:
+  pub record MayShow (c : Picture mode) (backing : Backing) (frame : ℕ) (private : Bool) : Type 0 where
+    -- it is one of memory,
+    pub inside : IsFrame c.frames frame
+    -- and it stands behind the page, unless it is the process's own.
+    pub behind : private ≡ false → IsBehind c backing frame
+
+  -- A page of anonymous memory is zeros still:
+  pub record IsBlank (c : Picture mode) (there : Spot) (its : Attr) : Type 0 where
+    -- it has its place in a table that is there, and is mapped so,
+    pub spot : StandsAt c there
+    pub attr : c.at there.pid there.page ≡ Some its
+    pub anonymous : its.backing ≡ Anon
+    -- and nothing stands there.
+    pub none : entry c there.pid there.page ≡ 0
+
+  -- A page lies in a frame:
+  pub record LiesInFrame (c : Picture mode) (there : Spot) (its : Attr) : Type 0 where
+    -- it has its place in a table that is there, and is mapped so,
+    pub spot : StandsAt c there
+    pub attr : c.at there.pid there.page ≡ Some its
+    -- and what stands there names no slot.
+    pub resident : entry c there.pid there.page ≢ 0
+    pub here : is_swapped (entry c there.pid there.page) ≡ false
 
 module _ {M : Type 0} {m : Levels.Ghosts M} {D E : Type 0} where
   -- The fullest entry of a page over a frame is set:

@@ -1,6 +1,6 @@
 -- What giving a page a frame of its own needs, and what it comes to.
 use Rattle.vm_types.specs.declared.mode.Levels as Levels
-use Rattle.std.specs.Prelude.{◌≡◌, ℕ, true, false, Option, Some, None, Result, IfOk, IfErr, OnErr}
+use Rattle.std.specs.Prelude.{◌≡◌, ◌≢◌, ℕ, true, false, Option, Some, None, Result, IfOk, IfErr, OnErr}
 use Rattle.vm_types.specs.declared.number.FrameNo.{FrameNo}
 use Rattle.vm_types.specs.declared.refusal.Stall.{Stall}
 use Rattle.vm_types.specs.declared.region.Attr.{Attr}
@@ -8,7 +8,8 @@ use Rattle.vm_types.specs.Permission.{can_write}
 use Rattle.vm_types.specs.Verdict.{is_past_end}
 use Rattle.disk_model.specs.declared.sector_disk.SectorDisk.{Ghosts}
 use Rattle.disk_model.specs.Moments.{Nothing}
-use Rattle.frames.specs.FrameTable.{bytes_of, count_of}
+use Rattle.frames.specs.declared.role.Role.TheVariants.{Free, Table}
+use Rattle.frames.specs.FrameTable.{IsFrame, bytes_of, count_of, role_of}
 use Rattle.swap.specs.Slots.{IsReady}
 use Rattle.page_tables.specs.Leaves.{IsEntryOver}
 use Rattle.residency.specs.declared.kernel.Core.{Core}
@@ -20,10 +21,10 @@ use Rattle.residency.specs.Shows.{KeepsFiles}
 use Rattle.residency.specs.Stalls.{HasStallCause}
 use Rattle.fault.specs.declared.spot.Spot.{Spot}
 use Rattle.fault.specs.Asking.{AsksIfFull, IsSectorOfCopy}
-use Rattle.fault.specs.Changes.{StandsAt, AddsNoTable, IsCalm, IsThatPage, KeepsOtherBare, KeepsOtherViews, KeepsRows, KeepsSlotted, KeepsViews, Moves, TakesCopy, is_sole, shown_frame}
+use Rattle.fault.specs.Changes.{StandsAt, AddsNoTable, IsCalm, IsThatPage, KeepsOtherBare, KeepsOtherViews, KeepsSlotted, KeepsViews, Moves, TakesCopy, is_sole, shown_frame}
 use Rattle.fault.specs.Leaves.{IsFullEntry}
 
-module _ {M : Type 0} {m : Levels.Ghosts M} {D E : Type 0} where
+module _ {M : Type 0} {m : Levels.Ghosts M} {D E : Type 0} (h : Ghosts E) where
   -- A page of which its process may have a copy of its own
   pub record IsOwnable (core : Core D E M m) (spot : Spot) (attr : Attr) : Type 0 where
     -- has its entry in a table that is there,
@@ -33,10 +34,29 @@ module _ {M : Type 0} {m : Levels.Ghosts M} {D E : Type 0} where
     pub writable : can_write attr.prot ≡ true
     pub not_shared : is_shared attr.backing ≡ false
     pub inside : is_past_end (picture_of core).files attr.backing ≡ false
-    -- and lies in no slot.
+    -- and lies in no slot; the swap device may be used.
     pub resident : is_swapped (entry (picture_of core) spot.pid spot.page) ≡ false
+    pub swap : IsReady h core.swap
 
-module _ {M : Type 0} {m : Levels.Ghosts M} {D E : Type 0} (h : Ghosts E) where
+  -- The page lies in a slot:
+  pub record LiesInSlot (core : Core D E M m) (there : Spot) (its : Attr) : Type 0 where
+    -- it has its entry in a table that is there, and is mapped so,
+    pub spot : StandsAt (picture_of core) there
+    pub attr : (picture_of core).at there.pid there.page ≡ Some its
+    -- and the entry names the slot, of a swap device that may be used.
+    pub away : is_swapped (entry (picture_of core) there.pid there.page) ≡ true
+    pub swap : IsReady h core.swap
+
+  -- A frame may be copied:
+  pub record MayCopy (core : Core D E M m) (frame : FrameNo) : Type 0 where
+    -- memory is fit, and the swap device may be used,
+    pub fit : IsFit (picture_of core)
+    pub swap : IsReady h core.swap
+    -- and the frame is one of memory that is in use, and no table.
+    pub source : IsFrame core.frames frame.0
+    pub in_use : role_of core.frames frame.0 ≢ Free
+    pub datum : role_of core.frames frame.0 ≢ Table
+
   -- A page of a process wants a copy of a frame:
   pub record TakesFrameWith (old new : Core D E M m) (page : ℕ) (source : FrameNo) (also : ℕ → Type 0) (result : Result FrameNo Stall) : Type 0 where
     -- one that holds the same bytes, and that no entry names yet, is returned,
@@ -58,7 +78,6 @@ module _ {M : Type 0} {m : Levels.Ghosts M} {D E : Type 0} (h : Ghosts E) where
   pub record LeavesOthers (old new : Core D E M m) (pid page : ℕ) : Type 0 where
     -- memory is fit, with the processes, the regions and the tables that it had, and the swap device may be used further;
     pub moves : Moves h old new
-    pub rows : KeepsRows (picture_of old) (picture_of new)
     -- no frame comes to be a table;
     pub no_table : AddsNoTable (picture_of old) (picture_of new)
     -- every file has the bytes that it had;

@@ -8,9 +8,12 @@ use Rattle.vm_types.specs.declared.refusal.Stall.TheVariants.{StoreDevice}
 use Rattle.disk_model.specs.declared.sector_disk.SectorDisk.{Ghosts}
 use Rattle.disk_model.specs.Moments.{AsksOnly}
 use Rattle.frames.specs.FrameTable.{IsFull}
+use Rattle.file_store.specs.Store.{IsReadyStore}
 use Rattle.page_cache.specs.declared.place.Place.TheVariants.{Frame}
+use Rattle.swap.specs.Slots.{IsReady}
 use Rattle.residency.specs.declared.kernel.Core.{Core}
 use Rattle.residency.specs.Picture.{picture_of}
+use Rattle.residency.specs.Parts.{IsFit, IsPageFor}
 use Rattle.residency.specs.Ages.{KeepsRolesBut}
 use Rattle.residency.specs.Calls.{Frees, Refuses}
 use Rattle.residency.specs.Capacity.{IsShort}
@@ -20,6 +23,15 @@ use Rattle.fault.specs.Changes.{AddsNoTable, KeepsBare, KeepsRows, KeepsSeen, Ke
 use Rattle.fault.specs.Files.{Proceeds, BringsFiles, IsInStore}
 
 module _ {M : Type 0} {m : Levels.Ghosts M} {D E : Type 0} (g : Ghosts D) (h : Ghosts E) where
+  -- A page of a file or an object may be brought in:
+  pub record MayBring (core : Core D E M m) (page : PageKey) : Type 0 where
+    -- memory is fit, both devices may be used,
+    pub fit : IsFit (picture_of core)
+    pub store : IsReadyStore g core.store
+    pub swap : IsReady h core.swap
+    -- and the page begins inside its file, or is of an object that a process names.
+    pub inside : IsPageFor (picture_of core) page
+
   -- A page of a file or an object is brought into the frame that is returned, or stays where it was:
   pub record PagesIn (old new : Core D E M m) (page : PageKey) (result : Result FrameNo Stall) : Type 0 where
     pub placed : IfOk result (λ n. (picture_of new).place page ≡ Frame n)

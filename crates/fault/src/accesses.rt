@@ -7,7 +7,7 @@ ghost use Rattle.residency.specs.Parts.{IsFit};
 ghost use Rattle.fault.specs.Serving.{Reaches};
 
 use crate::faults::fault;
-use crate::finding::{Finding, find, keep_line, place_in};
+use crate::finding::{Finding, find, place_in};
 use crate::granting::grant;
 use crate::refusal::AccessRefusal;
 use disk_model::SectorDisk;
@@ -49,7 +49,6 @@ pub fn access<D: SectorDisk, E: SectorDisk, M: Levels>(
         Finding::Fault(code) => Err(AccessRefusal::Fault(fault(access, code, addr))),
         Finding::Page(page, attr, way) => {
             let frame = grant(core, pid, page, attr, way, access)?;
-            keep_line(core, page, way, access);
             Ok(place_in(frame, addr))
         }
     }

@@ -1,16 +1,15 @@
 //! What an access finds.
-ghost use Rattle.std.specs.Prelude.{◌<◌, ◌≡◌, ℕ, true, IfOk, IfErr};
-ghost use Rattle.vm_types.specs.Limits.{user_end};
+ghost use Rattle.std.specs.Prelude.{◌≡◌, true, IfOk, IfErr};
 ghost use Rattle.vm_types.specs.Verdict.{Faults, page_verdict};
 ghost use Rattle.memory.specs.Lines.{address_in};
 ghost use Rattle.residency.specs.Picture.{picture_of, is_live, view};
 ghost use Rattle.residency.specs.Parts.{IsFit};
-ghost use Rattle.fault.specs.Found.{FindsPlace, IsOpenTo, IsWayTo};
+ghost use Rattle.fault.specs.Found.{FindsPlace, IsOpenTo};
 
 use crate::faults::{is_past_end, lets};
 use crate::processes::attr_at;
 use disk_model::SectorDisk;
-use memory::{WalkEnd, keep_at, table_of, walk_page};
+use memory::{WalkEnd, walk_page};
 use residency::{Core, root_of};
 use vm_types::{Access, Attr, Code, FrameNo, Levels, PAGE_BYTES, Phys, Pid, Vpn, Width};
 
@@ -100,27 +99,4 @@ fn judge<D: SectorDisk, E, M: Levels>(
         return Err(Code::BusAdrerr);
     }
     Ok(attr)
-}
-
-/// Keeps the leaf of a page that an access was just granted in the buffer of translations, for the next access to the page.
-pub(crate) fn keep_line<D, E, M: Levels>(
-    core: &mut Core<D, E, M>,
-    page: Vpn,
-    way: Way,
-    access: Access,
-)
-    requires fit { IsFit (picture_of core.old) }
-    requires user { page < user_end M.mode }
-    requires way { (pid : ℕ) × IsWayTo (picture_of core.old) pid page way }
-    ensures { core.new ≡ core.old }
-{
-    match way.table {
-        Some(table) => keep_at(&mut core.frames, way.root, page, table, access),
-        // The table was only just made.
-        None => {
-            if let Ok(table) = table_of(&core.frames, way.root, page) {
-                keep_at(&mut core.frames, way.root, page, table, access);
-            }
-        }
-    }
 }

@@ -10,7 +10,7 @@ ghost use Rattle.residency.specs.Picture.{picture_of, entry, is_private, is_swap
 ghost use Rattle.residency.specs.Parts.{IsBehind, is_shared};
 ghost use Rattle.fault.specs.Found.{IsWayTo};
 ghost use Rattle.fault.specs.Serving.{Serves};
-ghost use Rattle.fault.specs.SpotServing.{MayServe, MayServeAt, ServesThere};
+ghost use Rattle.fault.specs.SpotServing.{MayServe, MayServeAt};
 
 use crate::finding::Way;
 use crate::linking::link_tables;
@@ -25,7 +25,7 @@ use sv39_walk::Pte;
 use vm_types::{Access, Attr, Backing, FilePage, FrameNo, Levels, PageKey, Pid, Stall, Vpn};
 
 /// Makes the entry of a mapped page, which allows the access, grant it: first the tables on its way are made that are missing, then the
-/// page is brought in from where it lies by then. Returns the frame that the page lies in. The way to the page stays its way.
+/// page is brought in from where it lies by then. Returns the frame that the page lies in.
 ///
 /// # Errors
 /// As `obtain`, where a frame is wanted and none is to be had; `SwapDevice` or `StoreDevice` where that device failed.
@@ -39,8 +39,7 @@ pub(crate) fn grant<D: SectorDisk, E: SectorDisk, M: Levels>(
 ) -> Result<FrameNo, Stall>
     requires may { MayServe D.SectorDisk E.SectorDisk core.old pid page attr access }
     requires way { IsWayTo (picture_of core.old) pid page way }
-    ensures serves { Serves D.SectorDisk E.SectorDisk core.old core.new pid page attr access result }
-    ensures way { IsWayTo (picture_of core.new) pid page way }
+    ensures { Serves D.SectorDisk E.SectorDisk core.old core.new pid page attr access result }
 {
     match way.table {
         Some(table) => {
@@ -87,7 +86,7 @@ fn grant_linked<D: SectorDisk, E: SectorDisk, M: Levels>(
     access: Access,
 ) -> Result<FrameNo, Stall>
     requires may { MayServeAt D.SectorDisk E.SectorDisk core.old spot.now attr access }
-    ensures { ServesThere D.SectorDisk E.SectorDisk core.old core.new spot.now attr access result }
+    ensures { Serves D.SectorDisk E.SectorDisk core.old core.new spot.now.pid spot.now.page attr access result }
 {
     let was = number_at(core, spot);
     if was.is_swapped() {
@@ -109,7 +108,7 @@ fn grant_read<D: SectorDisk, E: SectorDisk, M: Levels>(
     requires may { (access : Access) × MayServeAt D.SectorDisk E.SectorDisk core.old spot.now attr access }
     requires was { was.0 ≡ entry (picture_of core.old) spot.now.pid spot.now.page }
     requires here { is_swapped (entry (picture_of core.old) spot.now.pid spot.now.page) ≡ false }
-    ensures { (access : Access) → access ≢ Store → lets access attr.prot ≡ true → ServesThere D.SectorDisk E.SectorDisk core.old core.new spot.now attr access result }
+    ensures { (access : Access) → access ≢ Store → lets access attr.prot ≡ true → Serves D.SectorDisk E.SectorDisk core.old core.new spot.now.pid spot.now.page attr access result }
 {
     if was.to_u64() != 0 {
         regrant(core, spot, attr);
@@ -138,7 +137,7 @@ fn grant_store<D: SectorDisk, E: SectorDisk, M: Levels>(
     requires may { MayServeAt D.SectorDisk E.SectorDisk core.old spot.now attr Store }
     requires was { was.0 ≡ entry (picture_of core.old) spot.now.pid spot.now.page }
     requires here { is_swapped (entry (picture_of core.old) spot.now.pid spot.now.page) ≡ false }
-    ensures { ServesThere D.SectorDisk E.SectorDisk core.old core.new spot.now attr Store result }
+    ensures { Serves D.SectorDisk E.SectorDisk core.old core.new spot.now.pid spot.now.page attr Store result }
 {
     match attr.backing {
         Backing::Anon => grant_own(core, spot, attr),
@@ -166,7 +165,7 @@ fn grant_own<D: SectorDisk, E: SectorDisk, M: Levels>(
     requires here { is_swapped (entry (picture_of core.old) spot.now.pid spot.now.page) ≡ false }
     requires not_shared { is_shared attr.backing ≡ false }
     requires in_memory { is_private (entry (picture_of core.old) spot.now.pid spot.now.page) ≡ false → (n : ℕ) × IsBehind (picture_of core.old) attr.backing n }
-    ensures { ServesThere D.SectorDisk E.SectorDisk core.old core.new spot.now attr Store result }
+    ensures { Serves D.SectorDisk E.SectorDisk core.old core.new spot.now.pid spot.now.page attr Store result }
 {
     own_frame(core, spot, attr)
 }
@@ -181,7 +180,7 @@ fn grant_copy<D: SectorDisk, E: SectorDisk, M: Levels>(
     requires may { MayServeAt D.SectorDisk E.SectorDisk core.old spot.now attr Store }
     requires private { attr.backing ≡ Private file_page }
     requires none { seat (entry (picture_of core.old) spot.now.pid spot.now.page) ≡ None }
-    ensures { ServesThere D.SectorDisk E.SectorDisk core.old core.new spot.now attr Store result }
+    ensures { Serves D.SectorDisk E.SectorDisk core.old core.new spot.now.pid spot.now.page attr Store result }
 {
     cached(core, PageKey::File(file_page))?;
     own_frame(core, spot, attr)
@@ -197,7 +196,7 @@ fn grant_shared<D: SectorDisk, E: SectorDisk, M: Levels>(
     requires may { MayServeAt D.SectorDisk E.SectorDisk core.old spot.now attr Store }
     requires shared { is_shared attr.backing ≡ true }
     requires stands { stands_on attr.backing ≡ Some stored }
-    ensures { ServesThere D.SectorDisk E.SectorDisk core.old core.new spot.now attr Store result }
+    ensures { Serves D.SectorDisk E.SectorDisk core.old core.new spot.now.pid spot.now.page attr Store result }
 {
     let frame = cached(core, stored)?;
     touch(core, spot, attr, stored, frame);

@@ -1,14 +1,12 @@
 //! Frames of a process's own.
-ghost use Rattle.std.specs.Prelude.{◌≡◌, ◌≢◌, ℕ, ◌<◌, ◌^◌, Some, true, false};
+ghost use Rattle.std.specs.Prelude.{◌≡◌, ℕ, ◌<◌, ◌^◌, Some, true, false};
 ghost use Rattle.disk_model.specs.Moments.{Nothing};
-ghost use Rattle.frames.specs.declared.role.Role.TheVariants.{Free, Table};
-ghost use Rattle.frames.specs.FrameTable.{IsFrame, IsHeld, bytes_of, role_of, zero_bytes, with_bytes};
+ghost use Rattle.frames.specs.FrameTable.{IsFrame, IsHeld, bytes_of, zero_bytes, with_bytes};
 ghost use Rattle.sv39_walk.specs.Entry.{frame_of};
-ghost use Rattle.swap.specs.Slots.{IsReady};
 ghost use Rattle.residency.specs.Picture.{picture_of, entry, is_private};
-ghost use Rattle.residency.specs.Parts.{IsFit, IsBehind};
+ghost use Rattle.residency.specs.Parts.{IsBehind};
 ghost use Rattle.page_cache.specs.declared.place.Place.TheVariants.{Frame};
-ghost use Rattle.fault.specs.OwnFrames.{CopiesPage, IsOwnable, MakesSole, TakesFrameWith};
+ghost use Rattle.fault.specs.OwnFrames.{CopiesPage, IsOwnable, MakesSole, MayCopy, TakesFrameWith};
 ghost use Rattle.fault.specs.Changes.{frame_of_place, shown_frame};
 
 use crate::showing::{ZERO_PAGE, regrant, set_full};
@@ -32,8 +30,7 @@ pub(crate) fn own_frame<D, E: SectorDisk, M: Levels>(
     spot: &Spot,
     attr: Attr,
 ) -> Result<FrameNo, Stall>
-    requires swap { IsReady E.SectorDisk core.old.swap }
-    requires page { IsOwnable core.old spot.now attr }
+    requires page { IsOwnable E.SectorDisk core.old spot.now attr }
     requires in_memory { is_private (entry (picture_of core.old) spot.now.pid spot.now.page) ≡ false
         → (n : ℕ) × IsBehind (picture_of core.old) attr.backing n }
     ensures { MakesSole E.SectorDisk core.old core.new spot.now.pid spot.now.page attr result }
@@ -55,8 +52,7 @@ fn copy_page<D, E: SectorDisk, M: Levels>(
     was: Pte,
     shown: FrameNo,
 ) -> Result<FrameNo, Stall>
-    requires swap { IsReady E.SectorDisk core.old.swap }
-    requires page { IsOwnable core.old spot.now attr }
+    requires page { IsOwnable E.SectorDisk core.old spot.now attr }
     requires was { was.0 ≡ entry (picture_of core.old) spot.now.pid spot.now.page }
     requires own { is_private (entry (picture_of core.old) spot.now.pid spot.now.page) ≡ true → frame_of (entry (picture_of core.old) spot.now.pid spot.now.page) ≡ shown.0 }
     requires common { is_private (entry (picture_of core.old) spot.now.pid spot.now.page) ≡ false → IsBehind (picture_of core.old) attr.backing shown.0 }
@@ -105,11 +101,7 @@ fn take_copy<D, E: SectorDisk, M: Levels>(
     from: FrameNo,
     page: Vpn,
 ) -> Result<FrameNo, Stall>
-    requires fit { IsFit (picture_of core.old) }
-    requires swap { IsReady E.SectorDisk core.old.swap }
-    requires source { IsFrame core.old.frames from.0 }
-    requires in_use { role_of core.old.frames from.0 ≢ Free }
-    requires datum { role_of core.old.frames from.0 ≢ Table }
+    requires { MayCopy E.SectorDisk core.old from }
     ensures { TakesFrameWith E.SectorDisk core.old core.new page from Nothing result }
 {
     let own = core.take_own(page, Some(from))?;

@@ -1,12 +1,9 @@
 //! Pages of files and objects brought into memory.
 ghost use Rattle.std.specs.Prelude.{◌≡◌, ◌≢◌, OnErr};
 ghost use Rattle.vm_types.specs.declared.number.FrameNo.{FrameNo};
-ghost use Rattle.file_store.specs.Store.{IsReadyStore};
-ghost use Rattle.swap.specs.Slots.{IsReady};
 ghost use Rattle.page_cache.specs.declared.place.Place.TheVariants.{Home, Frame};
 ghost use Rattle.residency.specs.Picture.{picture_of};
-ghost use Rattle.residency.specs.Parts.{IsFit, IsPageFor};
-ghost use Rattle.fault.specs.PagingIn.{PagesIn};
+ghost use Rattle.fault.specs.PagingIn.{MayBring, PagesIn};
 
 use disk_model::SectorDisk;
 use page_cache::Place;
@@ -24,10 +21,7 @@ pub(crate) fn cached<D: SectorDisk, E: SectorDisk, M: Levels>(
     core: &mut Core<D, E, M>,
     page: PageKey,
 ) -> Result<FrameNo, Stall>
-    requires fit { IsFit (picture_of core.old) }
-    requires store { IsReadyStore D.SectorDisk core.old.store }
-    requires swap { IsReady E.SectorDisk core.old.swap }
-    requires inside { IsPageFor (picture_of core.old) page }
+    requires { MayBring D.SectorDisk E.SectorDisk core.old page }
     ensures pages_in { PagesIn D.SectorDisk E.SectorDisk core.old core.new page result }
     ensures idle { (n : FrameNo) → (picture_of core.old).place page ≡ Frame n → (core.new ≡ core.old) × OnErr result ⊥ }
 {
@@ -44,10 +38,7 @@ fn bring<D: SectorDisk, E: SectorDisk, M: Levels>(
     page: PageKey,
     place: Place,
 ) -> Result<FrameNo, Stall>
-    requires fit { IsFit (picture_of core.old) }
-    requires store { IsReadyStore D.SectorDisk core.old.store }
-    requires swap { IsReady E.SectorDisk core.old.swap }
-    requires inside { IsPageFor (picture_of core.old) page }
+    requires may { MayBring D.SectorDisk E.SectorDisk core.old page }
     requires place { (picture_of core.old).place page ≡ place }
     requires away { (n : FrameNo) → place ≢ Frame n }
     ensures { PagesIn D.SectorDisk E.SectorDisk core.old core.new page result }
@@ -64,10 +55,7 @@ fn bring_home<D: SectorDisk, E: SectorDisk, M: Levels>(
     core: &mut Core<D, E, M>,
     page: PageKey,
 ) -> Result<FrameNo, Stall>
-    requires fit { IsFit (picture_of core.old) }
-    requires store { IsReadyStore D.SectorDisk core.old.store }
-    requires swap { IsReady E.SectorDisk core.old.swap }
-    requires inside { IsPageFor (picture_of core.old) page }
+    requires may { MayBring D.SectorDisk E.SectorDisk core.old page }
     requires home { (picture_of core.old).place page ≡ Home }
     ensures { PagesIn D.SectorDisk E.SectorDisk core.old core.new page result }
 {

@@ -1,10 +1,9 @@
 //! Frames that stand behind a page, shown at it.
-ghost use Rattle.std.specs.Prelude.{◌<◌, ◌/◌, ◌≡◌, ◌≢◌, ℕ, None, Some, true, false};
+ghost use Rattle.std.specs.Prelude.{◌<◌, ◌/◌, ◌≡◌, None, Some, true, false};
 ghost use Rattle.vm_types.specs.Limits.{top_level, table_entries, user_end};
 ghost use Rattle.vm_types.specs.declared.access.Access.TheVariants.{Store};
 ghost use Rattle.vm_types.specs.Permission.{can_read, can_write};
 ghost use Rattle.vm_types.specs.Attributes.{stands_on};
-ghost use Rattle.vm_types.specs.declared.region.Backing.TheVariants.{Anon};
 ghost use Rattle.vm_types.specs.Verdict.{is_past_end};
 ghost use Rattle.frames.specs.FrameTable.{IsFrame};
 ghost use Rattle.sv39_walk.specs.Entry.{frame_of};
@@ -12,15 +11,15 @@ ghost use Rattle.page_tables.specs.Tree.{IsForest, IsRoot};
 ghost use Rattle.page_tables.specs.Places.{IsTableOf};
 ghost use Rattle.page_cache.specs.declared.place.Place.TheVariants.{Frame};
 ghost use Rattle.residency.specs.Seats.{seat};
-ghost use Rattle.residency.specs.Picture.{picture_of, entry, is_private, is_swapped};
+ghost use Rattle.residency.specs.Picture.{picture_of, entry, is_private};
 ghost use Rattle.residency.specs.Parts.{is_shared, IsBehind};
 ghost use Rattle.fault.specs.Leaves.{full_write, full_dirty, is_touched_behind};
 ghost use Rattle.fault.specs.Changes.{StandsAt};
 ghost use Rattle.fault.specs.Found.{IsOpenTo};
-ghost use Rattle.fault.specs.FramesShown.{SetsFull, ShowsFrame, ShowsFully, TouchesPage};
+ghost use Rattle.fault.specs.FramesShown.{IsBlank, LiesInFrame, MayShow, SetsFull, ShowsFrame, ShowsFully, TouchesPage};
 
 use crate::spot::{Spot, number_at};
-use memory::set_at;
+use memory::set_kept;
 use page_tables::{Grant, entry_over};
 use residency::Core;
 use vm_types::{Attr, Backing, FrameNo, Levels, PageKey};
@@ -31,10 +30,7 @@ pub(crate) const ZERO_PAGE: FrameNo = FrameNo(0);
 /// Shows the zero page at an anonymous page that has no entry. Its leaf is without W and D (RISC-V Privileged Specification,
 /// "Sv39 page table entry"): each store asks for a frame first.
 pub(crate) fn show_zero<D, E, M: Levels>(core: &mut Core<D, E, M>, spot: &Spot, attr: Attr)
-    requires spot { StandsAt (picture_of core.old) spot.now }
-    requires attr { (picture_of core.old).at spot.now.pid spot.now.page ≡ Some attr }
-    requires anonymous { attr.backing ≡ Anon }
-    requires none { entry (picture_of core.old) spot.now.pid spot.now.page ≡ 0 }
+    requires { IsBlank (picture_of core.old) spot.now attr }
     ensures { ShowsFrame core.old core.new spot.now attr 0 false false false }
 {
     set_full(core, spot, attr, ZERO_PAGE, false);
@@ -63,10 +59,7 @@ pub(crate) fn show_cached<D, E, M: Levels>(
 /// do: W over a frame that nobody else has and over that of a shared page, D there where the file page is touched
 /// (RISC-V Privileged Specification, "Sv39 page table entry").
 pub(crate) fn regrant<D, E, M: Levels>(core: &mut Core<D, E, M>, spot: &Spot, attr: Attr)
-    requires spot { StandsAt (picture_of core.old) spot.now }
-    requires attr { (picture_of core.old).at spot.now.pid spot.now.page ≡ Some attr }
-    requires resident { entry (picture_of core.old) spot.now.pid spot.now.page ≢ 0 }
-    requires here { is_swapped (entry (picture_of core.old) spot.now.pid spot.now.page) ≡ false }
+    requires { LiesInFrame (picture_of core.old) spot.now attr }
     ensures { let was = entry (picture_of core.old) spot.now.pid spot.now.page in ShowsFully core.old core.new spot.now attr (frame_of was) (is_private was) }
 {
     let was = number_at(core, spot);
@@ -106,13 +99,13 @@ pub(crate) fn set_full<D, E, M: Levels>(
     requires root { IsRoot (top_level M.mode) core.old.frames spot.now.root.0 }
     requires user { spot.now.page < user_end M.mode }
     requires table { IsTableOf core.old.frames (top_level M.mode) spot.now.root.0 (spot.now.page / table_entries) spot.now.table.0 }
-    requires inside { IsFrame core.old.frames frame.0 }
+    requires frame { MayShow (picture_of core.old) attr.backing frame.0 private }
     requires readable { can_write attr.prot ≡ true → can_read attr.prot ≡ true }
     ensures { SetsFull core.old core.new spot.now attr frame.0 private }
 {
     let grant = full_grant(core, attr, frame, private);
     let entry = entry_over(attr.prot, grant);
-    set_at(&mut core.frames, spot.root, spot.page, spot.table, entry);
+    set_kept(&mut core.frames, spot.root, spot.page, spot.table, entry);
 }
 
 // What the fullest entry of a page over a frame allows.
@@ -122,7 +115,7 @@ fn full_grant<D, E, M: Levels>(
     frame: FrameNo,
     private: bool,
 ) -> Grant
-    requires { IsFrame core.now.frames frame.0 }
+    requires { MayShow (picture_of core.now) attr.backing frame.0 private }
     ensures frame { result.frame ≡ frame }
     ensures private { result.private ≡ private }
     ensures write { result.write ≡ full_write (picture_of core.now) attr frame.0 private }
@@ -135,7 +128,7 @@ fn full_grant<D, E, M: Levels>(
     } else {
         (
             writable && attr.backing.is_shared(),
-            writable && is_touched_behind(core, attr.backing),
+            writable && is_touched_behind(core, attr.backing, frame),
         )
     };
     Grant {
@@ -146,13 +139,18 @@ fn full_grant<D, E, M: Levels>(
     }
 }
 
-// Whether stores through such a page reach a touched page of a file or an object.
-fn is_touched_behind<D, E, M: Levels>(core: &Core<D, E, M>, backing: Backing) -> bool
+// Whether stores through such a page, behind which that frame stands, reach a touched page of a file or an object.
+fn is_touched_behind<D, E, M: Levels>(
+    core: &Core<D, E, M>,
+    backing: Backing,
+    frame: FrameNo,
+) -> bool
+    requires inside { IsFrame core.now.frames frame.0 }
+    requires behind { IsBehind (picture_of core.now) backing frame.0 }
     ensures { result ≡ is_touched_behind (picture_of core.now) backing }
 {
     match backing {
-        Backing::Shared(page) => core.cache.is_touched(PageKey::File(page)),
-        Backing::Common(page) => core.cache.is_touched(PageKey::Object(page)),
+        Backing::Shared(_) | Backing::Common(_) => core.cache.is_frame_touched(frame),
         Backing::Anon | Backing::Private(_) => false,
     }
 }

@@ -1,9 +1,5 @@
 //! Own copies brought back from slots.
-ghost use Rattle.std.specs.Prelude.{◌≡◌, Some, true};
-ghost use Rattle.swap.specs.Slots.{IsReady};
-ghost use Rattle.residency.specs.Picture.{picture_of, entry, is_swapped};
-ghost use Rattle.fault.specs.Changes.{StandsAt};
-ghost use Rattle.fault.specs.OwnFrames.{SwapsIn};
+ghost use Rattle.fault.specs.OwnFrames.{LiesInSlot, SwapsIn};
 
 use crate::showing::set_full;
 use crate::spot::{Spot, number_at};
@@ -22,10 +18,7 @@ pub(crate) fn swap_in<D, E: SectorDisk, M: Levels>(
     spot: &Spot,
     attr: Attr,
 ) -> Result<FrameNo, Stall>
-    requires spot { StandsAt (picture_of core.old) spot.now }
-    requires swap { IsReady E.SectorDisk core.old.swap }
-    requires attr { (picture_of core.old).at spot.now.pid spot.now.page ≡ Some attr }
-    requires away { is_swapped (entry (picture_of core.old) spot.now.pid spot.now.page) ≡ true }
+    requires { LiesInSlot E.SectorDisk core.old spot.now attr }
     ensures { SwapsIn E.SectorDisk core.old core.new spot.now.pid spot.now.page attr result }
 {
     let Entry::Swapped(slot) = decode(number_at(core, spot)) else {

@@ -53,12 +53,3 @@ module _ {D : Type 0} (g : Ghosts D) {T : Type 0} (W : ℕ → Type 0) (HasBytes
     others = inr refl;
     whole = tt;
   })
-
-  pub fills_short : (r : Result T FormatFault) (fault : FormatFault) → IsErrAnd r (λ f. f ≡ fault) → fault ≡ Source → g.failures new ≡ g.failures old → HasBytes → FillsHomes g W HasBytes AreTold old new r
-  fills_short r fault is source calm bytes = subst (λ r. FillsHomes g W HasBytes AreTold old new r) (sym (is_this r fault is ∙ ap Err source)) (record {
-    run = run;
-    causes = record { device = λ e. absurd (source_no_device (same_Err _ _ e)); calm = tt; still = inr calm };
-    source = λ e. bytes;
-    others = inl refl;
-    whole = tt;
-  })

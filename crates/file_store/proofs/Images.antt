@@ -2,7 +2,7 @@
 use Rattle.std.proofs.Common.{◌≡◌, ℕ, ◌+◌, ◌<◌, ◌≤◌, ⊎_elim, inl, inr, Bool, true, false, List, get_or, Option, Some, None, refl, sym, ap, subst, ◌∙◌, arith}
 use Rattle.std.specs.Str.{bytes_eq}
 use Rattle.std.proofs.lemmas.Slice.Eq.{bytes_eq-Decides}
-use Rattle.disk_model.specs.Stop.{Image, MayLeave}
+use Rattle.disk_model.specs.Stop.{Image}
 use Rattle.sync_journal.specs.Layout.{layout_before}
 use Rattle.sync_journal.specs.Map.{IsBadMap, map_count, place_among, home_in}
 use Rattle.sync_journal.specs.Standing.{standing_under}
@@ -113,12 +113,6 @@ pub page_read : (image : Image) (f k : ℕ) (e : Entry) (inside : ℕ) (bytes pa
     → inside ≡ bytes_inside e.info.length k → bytes ≡ joined (standing image (e.first + k)) 8 → page ≡ padded_page inside bytes → page ≡ standing_page image f k
 page_read image f k e inside bytes page entry_is inside_is bytes_is page_is =
     page_is ∙ ap (λ (n : ℕ). padded_page n bytes) inside_is ∙ ap (padded_page (bytes_inside e.info.length k)) bytes_is ∙ sym (ap (page_standing image k) entry_is)
-
--- a device with nothing unsynced
-pub synced_stands : (sectors : ℕ) (content : Image) (unsynced : ℕ → Type 0) → ((k : ℕ) → unsynced k → ⊥) → (image : Image) → MayLeave content unsynced image → StandsAs sectors content image
-synced_stands sectors content unsynced synced image may files pages was =
-    let same : image ≡ content = λ t k. (⊎_elim (λ u. absurd (synced k u)) (λ e. e) (may.kept k)) t in
-    subst (λ (c : Image). StandsFor sectors files pages c) (sym same) was
 
 -- the numbers of a kind
 pub homes_same : (kind : Journals) → homes_of (version_at kind) ≡ kind_homes kind

@@ -12,7 +12,6 @@ pub mod Outside
 pub mod Asking
 pub mod Causes
 pub mod Changed
-pub mod Lists
 pub mod Totals
 pub mod Making
 pub mod Filling

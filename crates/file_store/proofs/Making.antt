@@ -1,24 +1,14 @@
 -- How the parts of making a store go on.
-use Rattle.std.proofs.Common.{◌≡◌, ◌⊎◌, ◌≤◌, ◌<◌, ℕ, Result, OnOk, refl, sym, subst, ◌∙◌, arith}
+use Rattle.std.proofs.Common.{◌≡◌, ◌⊎◌, ◌≤◌, ◌<◌, ℕ, Result, OnOk, sym, subst, ◌∙◌, arith}
 use Rattle.std.specs.Prelude.{IsErr}
 use Rattle.disk_model.specs.Stop.{ChangesOnly, Elapses, Names}
 use Rattle.disk_model.specs.declared.sector_disk.SectorDisk.{Ghosts}
-use Rattle.disk_model.proofs.Moments.{then, wider, stays, after_write, after_none, asks_then, asks_wider, asks_named, asks_none}
+use Rattle.disk_model.proofs.Moments.{then, wider, after_write, after_none, asks_then, asks_wider, asks_named, asks_none}
 use Rattle.sync_journal.specs.Layout.{IsPageSector}
 use Rattle.sync_journal.specs.Runs.{RunsOnDevice}
 use Rattle.file_store.specs.Making.{Makes, WritesTo, WritesSynced}
 
 module _ {D : Type 0} (g : Ghosts D) where
-  -- nothing yet
-  pub makes_none : (W : ℕ → Type 0) (d : D) → Makes g W d d
-  makes_none W d = record {
-    size = refl;
-    kept = λ h. h;
-    later = omega arith;
-    asks = asks_none g W d d (λ k. refl);
-    touches = λ h. stays g W d;
-  }
-
   -- one part after another
   pub makes_more : (W : ℕ → Type 0) (old mid new : D) → Makes g W old mid → Makes g W mid new → Makes g W old new
   makes_more W old mid new first second = record {

@@ -88,8 +88,8 @@ module _ {D R T : Type 0} (g : Ghosts D) (kind : Journals) (remaining : R → Op
       → Makes g (IsStoreSector kind (total_pages sources)) old new → HasFormatCauses {T = T} (g.failures old) (g.failures new) (Err fault)
       → (g.keeps_model new → LeavesNoPart g kind (λ b. IsStoreOf b remaining (g.sector_count old) sources) old new)
       → (g.keeps_model new → fault ≡ Formatted → IsMark (g.content old 0)) → (g.keeps_model new → IsMark (g.content old 0) → (fault ≡ Formatted) ⊎ (fault ≡ Device))
-      → (g.keeps_model new → fault ≡ Formatted → Touches g Nothing old new) → (fault ≡ Source → HasReader sources) → FormatsStore g kind remaining sources old new r
-  format_refused fault r is fits known run causes leaves formatted marked unwritten source = subst (λ r. FormatsStore g kind remaining sources old new r) (sym (is_this r fault is)) (record {
+      → (g.keeps_model new → IsMark (g.content old 0) → Touches g Nothing old new) → (fault ≡ Source → HasReader sources) → FormatsStore g kind remaining sources old new r
+  format_refused fault r is fits known run causes leaves formatted marked spared source = subst (λ r. FormatsStore g kind remaining sources old new r) (sym (is_this r fault is)) (record {
     ok = λ k. tt;
     marked = λ k. tt;
     synced = λ k. tt;
@@ -103,7 +103,8 @@ module _ {D R T : Type 0} (g : Ghosts D) (kind : Journals) (remaining : R → Op
     too_large = (λ e. absurd (known (same_Err _ _ e)), λ large. absurd (fits large));
     formatted = λ k e. formatted k (same_Err _ _ e);
     not_formatted = λ k mark. inr (⊎_elim (λ e. inl (ap Err e)) (λ e. inr (ap Err e)) (marked k mark));
-    unwritten = λ k. ⊎_elim (λ e. absurd (known (same_Err _ _ e))) (λ e. unwritten k (same_Err _ _ e));
+    spared = spared;
+    unwritten = λ k. ⊎_elim (λ e. absurd (known (same_Err _ _ e))) (λ e. spared k (formatted k (same_Err _ _ e)));
     source = λ e. source (same_Err _ _ e);
     causes = causes;
   })

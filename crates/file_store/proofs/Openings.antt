@@ -1,14 +1,13 @@
 -- What opening leaves meanwhile.
-use Rattle.std.proofs.Common.{◌≡◌, ◌<◌, ◌≤◌, ℕ, false, List, Option, Result, Ok, Err, OnOk, inl, inr, refl, ⊎_elim, sym, ap, subst, ◌∙◌, arith}
+use Rattle.std.proofs.Common.{◌≡◌, ◌≤◌, ℕ, false, List, Option, Result, Ok, Err, OnOk, inl, inr, refl, ⊎_elim, sym, ap, subst, ◌∙◌, arith}
 use Rattle.disk_model.specs.Stop.{Image, MayLeave}
 use Rattle.disk_model.specs.Moments.{Nothing, Touches, LeavesOnly}
 use Rattle.disk_model.specs.declared.sector_disk.SectorDisk.{Ghosts}
 use Rattle.disk_model.proofs.Moments.{weaker, then}
-use Rattle.sync_journal.specs.Kinds.{StoreStandsAs, KeepsStore}
+use Rattle.sync_journal.specs.Kinds.{StoreStandsAs, KeepsStore, is_kind, kind_when, kind_of, kind_home_count}
 use Rattle.sync_journal.specs.Blocks.{MayLeaveBlocks, LeavesInBlocks, RecoversInBlocks}
 use Rattle.sync_journal.proofs.InTurn.{blocks_weaker, commits_weaker}
 use Rattle.sync_journal.proofs.InKinds.{while_reading, while_recovering, same_store}
-use Rattle.sync_journal.specs.Kinds.{is_kind, kind_when, kind_of, kind_home_count}
 use Rattle.sync_journal.specs.Layout.{layout_before, home_count_in}
 use Rattle.sync_journal.specs.declared.store_journal.Journals.{Journals}
 use Rattle.sync_journal.specs.declared.store_journal.Journals.TheVariants.{Single, Paired}
@@ -21,11 +20,6 @@ use Rattle.file_store.specs.Standing.{StandsAs, IsHeadIn, IsBadLayoutIn}
 use Rattle.file_store.proofs.Images.{sector_kind, stands_kept, layout_is_good_in}
 use Rattle.file_store.proofs.Reading.{same_content}
 use Rattle.file_store.proofs.Stops.{stands_as_again}
-
--- a device that is too small for layout 2 is so for layout 3
-pub small_for_both : (kind : Journals) (n : ℕ) → n < 8195 → n < homes_of (version_at kind)
-small_for_both Single n few = few
-small_for_both Paired n few = omega (arith, few)
 
 -- what was found of the kind: where the mark claims layout 3 it was read, and otherwise sector 1 holds a directory
 pub kind_found : (kind : Journals) (image : Image) (sector : List ℕ) → (kind ≡ Paired → kind_of image ≡ Paired) → is_kind sector ≡ false → sector ≡ image (directory_of (version_at kind)) → kind_of image ≡ kind

@@ -41,7 +41,8 @@ module _ {D : Type 0} (g : Ghosts D) where
       -- with `Formatted` exactly where there is a mark, unless the device fails first,
       pub formatted : g.keeps_model new → IsErrOf result Formatted → IsMark (g.content old 0)
       pub not_formatted : g.keeps_model new → IsMark (g.content old 0) → IsErrOf result TooLarge ⊎ (IsErrOf result Formatted ⊎ IsErrOf result Device)
-      -- and nothing was written then;
+      -- and nothing was written then, nor where there is a mark, whatever is returned;
+      pub spared : g.keeps_model new → IsMark (g.content old 0) → Touches g Nothing old new
       pub unwritten : g.keeps_model new → IsErrOf result TooLarge ⊎ IsErrOf result Formatted → Touches g Nothing old new
       -- with `Source` only where a reader was asked for bytes, and with `Device` exactly where the device failed.
       pub source : IsErrOf result Source → HasReader sources

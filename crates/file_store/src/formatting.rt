@@ -27,7 +27,8 @@ use sync_journal::{Journals, PAGE_SECTORS, TURN_GATE, write_page};
 /// The faults are looked for in this order: `TooLarge`, exactly where there are over 64 sources, the device has fewer
 /// than the sectors before its homes or not enough home pages; `Formatted`, exactly where sector 0 is the mark of any layout already,
 /// unless the device fails first; and as they occur `Device`, exactly where the device failed, and `Source`, where a reader
-/// failed or ended early. After `TooLarge` and `Formatted` nothing was written.
+/// failed or ended early. After `TooLarge` and `Formatted` nothing was written, and to a device that has a mark nothing is, whatever is
+/// returned.
 pub fn format<D: SectorDisk, R: Read>(
     disk: &mut D,
     journals: Journals,

@@ -1,32 +1,13 @@
 -- The pages of a process, by its runs and its entries.
 use Rattle.vm_types.specs.declared.mode.Levels as Levels
 use Rattle.vm_types.specs.Limits.{top_level, user_end}
-use Rattle.std.proofs.Common.{◌≡◌, ◌≢◌, ◌⊎◌, ℕ, ◌/◌, ◌<◌, ◌≤◌, Option, Some, None, inl, inr, sym, ap, ◌∙◌, arith}
-use Rattle.std.specs.Prelude.{IfNone, IfSome, slice_index_or, []}
-use Rattle.vm_types.specs.declared.region.Attr.{Attr}
+use Rattle.std.proofs.Common.{◌≡◌, ◌≢◌, ◌⊎◌, ℕ, ◌/◌, ◌<◌, ◌≤◌, Some, inl, inr, sym, ◌∙◌, arith}
 use Rattle.page_tables.specs.Tree.{IsPage, page_entry}
 use Rattle.page_tables.specs.Places.{IsTableOf}
-use Rattle.regions.specs.declared.run.Run.{Run}
-use Rattle.regions.specs.RunList.{IsNextRun}
-use Rattle.residency.specs.declared.kernel.Core.{Core}
-use Rattle.residency.specs.Picture.{Picture, picture_of, attr_where, entry}
+use Rattle.residency.specs.Picture.{Picture, entry}
 use Rattle.residency.specs.Parts.{IsGranting}
 use Rattle.residency.proofs.Entries.{entry-of}
 use Rattle.ranges.proofs.Emptied.{none_here, unmapped_zero}
-use Rattle.ranges.proofs.Marking.{next_over}
-
--- what a search for a run says of a map it says of an equal one
-pub run_over : (mode : ℕ) (f g : ℕ → Option Attr) (page : ℕ) (o : Option Run) → ((k : ℕ) → f k ≡ g k) → IfSome o (IsNextRun mode f page) → IfSome o (IsNextRun mode g page)
-run_over mode f g page None same is = is
-run_over mode f g page (Some run) same is = next_over mode f g run page same is
-
-pub none_over : (f g : ℕ → Option Attr) (page : ℕ) (o : Option Run) → ((k : ℕ) → f k ≡ g k) → IfNone o ((k : ℕ) → page ≤ k → f k ≡ None) → IfNone o ((k : ℕ) → page ≤ k → g k ≡ None)
-none_over f g page None same is = λ k from. sym (same k) ∙ is k from
-none_over f g page (Some run) same is = is
-
--- a process that doesn't live has no page
-pub dead_unmapped : {M : Type 0} {m : Levels.Ghosts M} {D E : Type 0} (core : Core D E M m) (pid k : ℕ) → (picture_of core).root pid ≡ None → (picture_of core).at pid k ≡ None
-dead_unmapped core pid k dead = ap (λ r. attr_where r (slice_index_or core.regions.items pid []) k) dead
 
 module _ {mode : ℕ} where
   -- pages beside the user pages have no entry

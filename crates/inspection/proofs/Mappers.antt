@@ -1,34 +1,15 @@
--- Only live processes have pages over a frame.
+-- The first page over a frame, process by process.
 use Rattle.vm_types.specs.Limits.{top_level}
-use Rattle.std.proofs.Common.{◌≡◌, ◌⊎◌, ℕ, ◌≤◌, ◌<◌, ◌≢◌, Option, Some, None, true, false, refl, sym, ap, ◌∙◌, subst, inl, inr, arith}
-use Rattle.std.proofs.lemmas.Bool.{cases_eq, false≢true}
+use Rattle.std.proofs.Common.{◌≡◌, ℕ, ◌≤◌, ◌<◌, ◌≢◌, true, false, refl, sym, ◌∙◌, subst, inl, inr, arith}
+use Rattle.std.proofs.lemmas.Bool.{cases_eq}
 use Rattle.std.proofs.lemmas.Bool.Decides.{nat_tests}
 use Rattle.std.specs.Prelude.{◌==◌, if◌then◌else◌}
 use Rattle.residency.specs.declared.leaves.Change.TheVariants as Kinds
-use Rattle.residency.specs.Leaves.{IsOver, concerns}
-use Rattle.residency.specs.Picture.{Picture, entry, entry_under}
-use Rattle.residency.specs.Parts.{IsFit}
+use Rattle.residency.specs.Leaves.{IsOver}
+use Rattle.residency.specs.Picture.{Picture, entry}
 use Rattle.page_tables.specs.Tree.{IsPage}
 use Rattle.inspection.specs.Frames.{IsBefore, IsAtOrAfter, IsMapper}
 use Rattle.inspection.specs.declared.frame_views.Mapper.{Mapper}
-
-none_or_some : (o : Option ℕ) → (o ≡ None) ⊎ ((r : ℕ) × (o ≡ Some r))
-none_or_some None = inl refl
-none_or_some (Some r) = inr (r, refl)
-
-module _ {mode : ℕ} (c : Picture mode) (n p k : ℕ) where
-  entry_none : c.root p ≡ None → entry c p k ≡ 0
-  unfolding entry
-  entry_none none = ap (λ r. entry_under mode c.frames r k) none
-
-  pub over_lives : IsOver c Kinds.Forget n p k → (r : ℕ) × (c.root p ≡ Some r)
-  over_lives over = elim (none_or_some (c.root p)) [
-    | inl none ↦ absurd (false≢true (sym (ap (concerns Kinds.Forget) (entry_none none)) ∙ over.concerned))
-    | inr some ↦ some
-  ]
-
-  pub over_numbers : IsFit c → IsOver c Kinds.Forget n p k → p < 65
-  over_numbers fit over = let lives = over_lives over in let numbers = fit.rooted.numbers p lives.0 lives.1 in omega (arith, numbers.1)
 
 low_here : (number pid page low : ℕ) → low ≡ (if number == pid then page else 0) → number ≡ pid → low ≡ page
 low_here number pid page low is same = let test : (number == pid) ≡ true = grind (arith, nat_tests, same) in is ∙ rw test refl
@@ -58,6 +39,7 @@ module _ {mode : ℕ} (c : Picture mode) (n pid page number low : ℕ) (least : 
     from = (
         let P : ℕ → Type 0 = λ x. IsAtOrAfter pid page x m.page in
         subst P (sym at) (from_page m.page (first_low m.pid m.page at first.from)));
+    holds = first.holds;
     over = first.over;
     entry = first.entry;
     none_before = λ p k from before inside over. elim before [

@@ -2,6 +2,7 @@
 use Rattle.vm_types.specs.Limits.{top_level}
 use Rattle.std.proofs.Common.{◌≡◌, ◌≢◌, ℕ, suc, ◌+◌, ◌-◌, ◌*◌, ◌/◌, ◌%◌, ◌^◌, ◌<◌, ◌≤◌, Option, Some, None, true, false, inl, inr, refl, sym, ap, ◌∙◌, subst, arith}
 use Rattle.std.proofs.lemmas.Bool.{cases_lt, false≢true}
+use Rattle.std.proofs.Math.Nat.{mul-mod_left}
 use Rattle.std.specs.Prelude.{is_some, IfNone}
 use Rattle.frames.specs.declared.role.Role.TheVariants.{Table}
 use Rattle.frames.specs.FrameTable.{role_of}
@@ -12,10 +13,10 @@ use Rattle.residency.specs.Picture.{Picture}
 use Rattle.residency.specs.Parts.{AsRoot, OnWay, IsMapped, IsRootedBut, IsUsed}
 use Rattle.ranges.proofs.Gaps.{in_row_of, in_span_of, one_some}
 use Rattle.ranges.specs.Steps.{IsGapEnd}
-use Rattle.inspection.specs.Tables.{HaveOneWay, IsLevelOnWay, IsOffWay, IsOutOf, IsPlaceOf}
+use Rattle.inspection.specs.Tables.{HaveOneWay, IsOffWay, IsOutOf, IsPlaceOf}
 use Rattle.inspection.specs.Walks.{IsStep}
 use Rattle.inspection.specs.declared.walks.Step.{Step}
-use Rattle.inspection.proofs.Ways.{begins_place, first_inside, goes_on, one_gap, one_row, one_table, same_first, way_within}
+use Rattle.inspection.proofs.Ways.{first_inside, goes_on, one_gap, one_row, one_table, same_first, way_within}
 
 module _ {mode : ℕ} (c : Picture mode) (pid page n : ℕ) (step : Step) (is : IsStep c pid page step) (other : n ≢ step.table.0)
     (passed : (r d : ℕ) → c.root pid ≡ Some r → d < top_level mode - step.level → Way c.frames (top_level mode) r page d n → ⊥) where
@@ -53,19 +54,20 @@ if_none (Some a) p = tt
 
 module _ {mode : ℕ} (c : Picture mode) where
   -- the place of a table that is on the way to a page
-  pub placed : (pid page n level first : ℕ) → IsLevelOnWay c pid page n level → IsPage (top_level mode) page → first ≡ page / 512 ^ (level + 1) * 512 ^ (level + 1)
-      → IsPlaceOf c n (record { pid = pid; level = level; first = first })
-  placed pid page n level first is inside at =
-      let least = is.most in
+  pub placed : (pid page n first : ℕ) (step : Step) → IsStep c pid page step → step.table.0 ≡ n → IsPage (top_level mode) page
+      → first ≡ page / 512 ^ (step.level + 1) * 512 ^ (step.level + 1) → IsPlaceOf c n (record { pid = pid; level = step.level; first = first })
+  placed pid page n first step is same inside at =
+      let least = is.level in
+      let W : ℕ → Type 0 = λ x. Way c.frames (top_level mode) is.root page (top_level mode - step.level) x in
       let P : ℕ → Type 0 = λ x. IsPage (top_level mode) x in
       record {
         root = is.root;
         lives = is.lives;
-        level = is.most;
-        way = way_within c.frames (top_level mode) is.root page first (level + 1) (top_level mode - level) n (same_first page (level + 1) ∙ ap (λ x. x / 512 ^ (level + 1)) (sym at))
-            (omega (arith, least)) is.way;
-        inside = subst P (sym at) (first_inside (top_level mode) page (level + 1) inside);
-        begins = ap (λ x. x % 512 ^ (level + 1)) at ∙ begins_place page (level + 1);
+        level = is.level;
+        way = way_within c.frames (top_level mode) is.root page first (step.level + 1) (top_level mode - step.level) n
+            (same_first page (step.level + 1) ∙ ap (λ x. x / 512 ^ (step.level + 1)) (sym at)) (omega (arith, least)) (subst W same is.way);
+        inside = subst P (sym at) (first_inside (top_level mode) page (step.level + 1) inside);
+        begins = ap (λ x. x % 512 ^ (step.level + 1)) at ∙ mul-mod_left (page / 512 ^ (step.level + 1)) (512 ^ (step.level + 1));
       }
 
   -- the pages that are passed over have the way of the first

@@ -1,7 +1,7 @@
 -- Ways to pages: which tables they go through, and which pages have one way.
-use Rattle.std.proofs.Common.{◌≡◌, ℕ, zero, suc, ◌+◌, ◌-◌, ◌*◌, ◌/◌, ◌%◌, ◌^◌, ◌<◌, ◌≤◌, true, false, inl, inr, sym, ap, ◌∙◌, subst, arith}
+use Rattle.std.proofs.Common.{◌≡◌, ℕ, zero, suc, ◌+◌, ◌-◌, ◌*◌, ◌/◌, ◌^◌, ◌<◌, ◌≤◌, true, false, inl, inr, sym, ap, ◌∙◌, subst, arith}
 use Rattle.std.proofs.lemmas.Bool.{cases_eq, cases_lt, false≢true}
-use Rattle.std.proofs.Math.Nat.{mul-div_cancel, mod-eq-sub-div-mul, div-mul-le_self}
+use Rattle.std.proofs.Math.Nat.{mul-div_cancel, div-mul-le_self}
 use Rattle.frames.specs.FrameTable.{FrameTable}
 use Rattle.sv39_walk.specs.Entry.{entry_at, frame_of, is_pointer}
 use Rattle.sv39_walk.specs.Walk.{index_of}
@@ -79,11 +79,6 @@ pub one_row : (t : FrameTable) (top root page k n : ℕ) → k / 512 ≡ page / 
 one_row t top root page k n same (d, le, w) = (d, le, way_within t top root k page 1 d n same (omega (arith, le)) w)
 
 -- the first page of a place
-pub begins_place : (page k : ℕ) → page / 512 ^ k * 512 ^ k % 512 ^ k ≡ 0
-begins_place page k =
-    let q = page / 512 ^ k in
-    mod-eq-sub-div-mul (q * 512 ^ k) (512 ^ k) ∙ ap (λ x. q * 512 ^ k - x * 512 ^ k) (mul-div_cancel q (span_positive k)) ∙ omega arith
-
 pub same_first : (page k : ℕ) → page / 512 ^ k ≡ page / 512 ^ k * 512 ^ k / 512 ^ k
 same_first page k = sym (mul-div_cancel (page / 512 ^ k) (span_positive k))
 

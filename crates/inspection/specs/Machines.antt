@@ -1,7 +1,7 @@
--- What the memory of a machine of either mode holds.
-use Rattle.std.specs.Prelude.{ℕ}
+-- What the memory of a machine of either mode holds, and what is told of it.
+use Rattle.std.specs.Prelude.{◌≡◌, ℕ, Option, false, IfSome, IfNone}
 use Rattle.residency.specs.Picture.{Picture, picture_of}
-use Rattle.machine.specs.Machine.{bits_of, mode_of}
+use Rattle.machine.specs.Machine.{bits_of, halted_of, mode_of}
 use Rattle.machine.specs.declared.machine.Machine.{Machine}
 use Rattle.machine.specs.declared.machine.Machine.TheVariants.{Sv39, Sv48}
 
@@ -15,3 +15,11 @@ module _ {D E : Type 0} where
   abbrev pub hand_of : Machine D E → ℕ
   hand_of (Sv39 m) = m.core.clock.hand
   hand_of (Sv48 m) = m.core.clock.hand
+
+  -- What is asked of a machine is told:
+  pub record Tells {A : Type 0} (m : Machine D E) (P : A → Type 0) (N : Type 0) (result : Option A) : Type 0 where
+    -- it has not halted, and what it tells is so,
+    pub running : IfSome result (λ a. halted_of m ≡ false)
+    pub some : IfSome result P
+    -- or it tells nothing, because there is none, or it has halted.
+    pub none : IfNone result (halted_of m ≡ false → N)

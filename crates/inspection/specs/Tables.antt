@@ -17,14 +17,6 @@ module _ {mode : ℕ} where
     pub inside : IsPage (top_level mode) place.first
     pub begins : place.first % table_entries ^ (place.level + 1) ≡ 0
 
--- a level at which table n stands on the way to a page
-module _ {mode : ℕ} where
-  pub record IsLevelOnWay (c : Picture mode) (pid page n level : ℕ) : Type 0 where
-    pub root : ℕ
-    pub lives : c.root pid ≡ Some root
-    pub most : level ≤ top_level mode
-    pub way : Way c.frames (top_level mode) root page (top_level mode - level) n
-
 -- table n is not on the way to a page
 module _ {mode : ℕ} where
   abbrev pub IsOffWay : Picture mode → ℕ → ℕ → ℕ → Type 0

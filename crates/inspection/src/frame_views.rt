@@ -1,13 +1,13 @@
 //! What a frame holds, and which pages have it.
-ghost use Rattle.std.specs.Prelude.{ℕ, ◌≡◌, ◌≤◌, ◌<◌, ◌↔◌, ◌==◌, if◌then◌else◌, true, false, IfSome, IfNone, IsSome};
+ghost use Rattle.std.specs.Prelude.{ℕ, ◌≡◌, ◌≤◌, ◌<◌, ◌==◌, if◌then◌else◌, true, false, IfSome, IfNone};
 ghost use Rattle.vm_types.specs.Limits.{top_level};
-ghost use Rattle.frames.specs.FrameTable.{IsFrame, role_of, count_of};
+ghost use Rattle.frames.specs.FrameTable.{IsFrame};
 ghost use Rattle.page_tables.specs.Tree.{IsPage};
 ghost use Rattle.residency.specs.declared.leaves.Change.TheVariants as Kinds;
 ghost use Rattle.residency.specs.Picture.{picture_of, is_data};
 ghost use Rattle.residency.specs.Parts.{IsFit};
 ghost use Rattle.residency.specs.Leaves.{IsOver};
-ghost use Rattle.inspection.specs.Frames.{IsHolding, HoldsData, HasNoMapper, IsMapper};
+ghost use Rattle.inspection.specs.Frames.{IsDataFrame, IsFrameView, IsHolding, HoldsData, HasNoMapper, IsMapper};
 
 use frames::Role;
 use memory::entry_number;
@@ -41,9 +41,8 @@ pub struct FrameView {
 /// What frame `n` holds, and how many share it; `None` exactly where memory has no frame of that number.
 pub(crate) fn frame_view<D, E, M: Levels>(core: &Core<D, E, M>, n: FrameNo) -> Option<FrameView>
     requires fit { IsFit (picture_of core.now) }
-    ensures holds { IfSome result (λ view. IsHolding (picture_of core.now) n.0 view.holding) }
-    ensures shares { IfSome result (λ view. view.shares ≡ count_of core.now.frames n.0) }
-    ensures inside { IsSome result ↔ IsFrame core.now.frames n.0 }
+    ensures some { IfSome result (IsFrameView (picture_of core.now) n.0) }
+    ensures none { IfNone result (IsFrame core.now.frames n.0 → ⊥) }
 {
     if n.0 < core.frames.len() {
         Some(FrameView {
@@ -112,9 +111,7 @@ fn first_mapper<D, E, M: Levels>(
     pid: u64,
     page: u64,
 ) -> Option<Mapper>
-    requires fit { IsFit (picture_of core.now) }
-    requires inside { IsFrame core.now.frames n.0 }
-    requires data { is_data (role_of core.now.frames n.0) ≡ true }
+    requires { IsDataFrame (picture_of core.now) n.0 }
     ensures some { IfSome result (IsMapper (picture_of core.now) n.0 pid page) }
     ensures none { IfNone result (HasNoMapper (picture_of core.now) n.0 pid page) }
 {
@@ -141,9 +138,7 @@ fn mapper_of<D, E, M: Levels>(
     number: u64,
     low: u64,
 ) -> Option<Mapper>
-    requires fit { IsFit (picture_of core.now) }
-    requires inside { IsFrame core.now.frames n.0 }
-    requires data { is_data (role_of core.now.frames n.0) ≡ true }
+    requires { IsDataFrame (picture_of core.now) n.0 }
     ensures some { IfSome result (λ m. IsMapper (picture_of core.now) n.0 number low m × (m.pid ≡ number)) }
     ensures none { IfNone result ((k : ℕ) → low ≤ k → IsPage (top_level M.mode) k → IsOver (picture_of core.now) Kinds.Forget n.0 number k → ⊥) }
 {

@@ -1,6 +1,6 @@
 //! Where pages of files and of shared anonymous memory lie.
-ghost use Rattle.std.specs.Prelude.{◌≡◌};
 ghost use Rattle.residency.specs.Picture.{picture_of};
+ghost use Rattle.inspection.specs.Pages.{IsPageView};
 
 use page_cache::Place;
 use residency::Core;
@@ -16,8 +16,7 @@ pub struct PageView {
 
 /// Where a page of a file or of shared anonymous memory lies, and whether it is touched.
 pub(crate) fn page_view<D, E, M: Levels>(core: &Core<D, E, M>, page: PageKey) -> PageView
-    ensures place { result.place ≡ (picture_of core.now).place page }
-    ensures touched { result.is_touched ≡ (picture_of core.now).touched page }
+    ensures { IsPageView (picture_of core.now) page result }
 {
     PageView {
         place: core.cache.place(page),

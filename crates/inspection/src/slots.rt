@@ -1,8 +1,7 @@
 //! What a slot holds.
-ghost use Rattle.std.specs.Prelude.{◌≡◌, ◌<◌, ◌↔◌, IfSome, IsSome};
-ghost use Rattle.swap.specs.Slots.{slots_of};
+ghost use Rattle.std.specs.Prelude.{◌≡◌, ◌<◌, ◌≤◌, IfSome, IfNone};
 ghost use Rattle.residency.specs.Picture.{picture_of};
-ghost use Rattle.inspection.specs.Slots.{SlotHolds};
+ghost use Rattle.inspection.specs.Slots.{IsSlotView, SlotHolds};
 
 use residency::Core;
 use vm_types::{Levels, PageKey, SlotNo};
@@ -28,9 +27,8 @@ pub struct SlotView {
 
 /// What slot `n` holds, and how many share it; `None` exactly where there is no slot of that number.
 pub(crate) fn slot_view<D, E, M: Levels>(core: &Core<D, E, M>, n: SlotNo) -> Option<SlotView>
-    ensures holds { IfSome result (λ view. SlotHolds (picture_of core.now) n.0 view.holding) }
-    ensures shares { IfSome result (λ view. view.shares ≡ (slots_of core.now.swap).count n.0) }
-    ensures inside { IsSome result ↔ (n.0 < (slots_of core.now.swap).total) }
+    ensures some { IfSome result (IsSlotView (picture_of core.now) n.0) }
+    ensures none { IfNone result ((picture_of core.now).slots.total ≤ n.0) }
 {
     if n.0 >= core.swap.len() {
         return None;
@@ -43,8 +41,8 @@ pub(crate) fn slot_view<D, E, M: Levels>(core: &Core<D, E, M>, n: SlotNo) -> Opt
 }
 
 fn slot_holding<D, E, M: Levels>(core: &Core<D, E, M>, n: SlotNo, shares: u8) -> SlotHolding
-    requires inside { n.0 < (slots_of core.now.swap).total }
-    requires shares { shares ≡ (slots_of core.now.swap).count n.0 }
+    requires inside { n.0 < (picture_of core.now).slots.total }
+    requires shares { shares ≡ (picture_of core.now).slots.count n.0 }
     ensures { SlotHolds (picture_of core.now) n.0 result }
 {
     if shares == 0 {

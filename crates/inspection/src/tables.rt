@@ -3,8 +3,8 @@ ghost use Rattle.std.specs.Prelude.{◌≡◌, ◌^◌, ◌<◌, ◌≤◌, true
 ghost use Rattle.vm_types.specs.Limits.{top_level, table_entries};
 ghost use Rattle.page_tables.specs.Tree.{IsPage, IsTable};
 ghost use Rattle.residency.specs.Picture.{picture_of, is_live};
-ghost use Rattle.residency.specs.Parts.{IsFit};
-ghost use Rattle.inspection.specs.Tables.{HaveOneWay, IsLevelOnWay, IsOffWay, IsOutOf, IsPlaceOf};
+ghost use Rattle.residency.specs.Parts.{IsFit, IsRootedBut};
+ghost use Rattle.inspection.specs.Tables.{HaveOneWay, IsOffWay, IsOutOf, IsPlaceOf};
 
 use crate::pages::next_run;
 use crate::walks::{next_step, root_step};
@@ -33,7 +33,7 @@ pub(crate) fn place_of_table<D, E, M: Levels>(
     ensures none { IfNone result (IsTable core.now.frames n.0 → ⊥) }
 {
     for number in 1..PROCESSES as u64 + 1 {
-        if let Some(place) = place_of_number(core, number, n) {
+        if let Some(place) = place_in_tree(core, number, n) {
             return Some(place);
         }
     }
@@ -41,7 +41,7 @@ pub(crate) fn place_of_table<D, E, M: Levels>(
 }
 
 // The same in the tree of the process of that number, where it lives.
-fn place_of_number<D, E, M: Levels>(
+fn place_in_tree<D, E, M: Levels>(
     core: &Core<D, E, M>,
     number: u64,
     n: FrameNo,
@@ -51,16 +51,6 @@ fn place_of_number<D, E, M: Levels>(
     ensures none { IfNone result (IsOutOf (picture_of core.now) number n.0) }
 {
     let pid = core.live(number)?;
-    place_in_tree(core, pid, n)
-}
-
-// The same in the tree of a live process.
-fn place_in_tree<D, E, M: Levels>(core: &Core<D, E, M>, pid: Pid, n: FrameNo) -> Option<TablePlace>
-    requires fit { IsFit (picture_of core.now) }
-    requires live { is_live (picture_of core.now) pid ≡ true }
-    ensures some { IfSome result (IsPlaceOf (picture_of core.now) n.0) }
-    ensures none { IfNone result (IsOutOf (picture_of core.now) pid n.0) }
-{
     // (the root is on the way to any page)
     if let Some(place) = place_on_way(core, pid, 0, n) {
         return Some(place);
@@ -88,36 +78,21 @@ fn place_on_way<D, E, M: Levels>(
     ensures some { IfSome result (IsPlaceOf (picture_of core.now) n.0) }
     ensures none { IfNone result (IsOffWay (picture_of core.now) pid page n.0) }
 {
-    let level = level_on_way(core, pid, page, n)?;
-    let span = span_of(level + 1);
-    Some(TablePlace {
-        pid,
-        level,
-        first: page / span * span,
-    })
-}
-
-// The level of a table on the way to a page.
-fn level_on_way<D, E, M: Levels>(
-    core: &Core<D, E, M>,
-    pid: Pid,
-    page: u64,
-    n: FrameNo,
-) -> Option<u32>
-    requires fit { IsFit (picture_of core.now) }
-    ensures some { IfSome result (IsLevelOnWay (picture_of core.now) pid page n.0) }
-    ensures none { IfNone result (IsOffWay (picture_of core.now) pid page n.0) }
-{
     let mut step = root_step(core, pid, page)?;
     while step.table != n {
         step = next_step(core, page, step)?;
     }
-    Some(step.level)
+    let span = span_of(step.level + 1);
+    Some(TablePlace {
+        pid,
+        level: step.level,
+        first: page / span * span,
+    })
 }
 
 // The first page past those whose way goes through the same tables.
 fn way_end<D, E, M: Levels>(core: &Core<D, E, M>, pid: Pid, page: Vpn) -> u64
-    requires fit { IsFit (picture_of core.now) }
+    requires rooted { IsRootedBut (picture_of core.now) 0 }
     requires live { is_live (picture_of core.now) pid ≡ true }
     ensures further { page < result }
     ensures one_way { HaveOneWay (picture_of core.now) pid page result }

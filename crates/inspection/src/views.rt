@@ -1,19 +1,19 @@
 //! What a machine holds, told as values to whoever looks inside: nothing here changes anything, and nothing above knows how memory is kept.
-ghost use Rattle.std.specs.Prelude.{ℕ, ◌≡◌, ◌≤◌, ◌<◌, ◌+◌, ◌↔◌, true, false, None, IfNone, IfSome, IsNone};
+ghost use Rattle.std.specs.Prelude.{ℕ, ◌≡◌, ◌≤◌, ◌<◌, ◌↔◌, true, false, None, IfSome, IsNone};
 ghost use Rattle.vm_types.specs.Limits.{top_level};
-ghost use Rattle.frames.specs.FrameTable.{IsFrame, count_of};
+ghost use Rattle.frames.specs.FrameTable.{IsFrame};
 ghost use Rattle.sv39_walk.specs.Entry.{is_pointer};
 ghost use Rattle.page_tables.specs.Tree.{IsTable};
 ghost use Rattle.memory.specs.Kept.{IsLeafOf};
 ghost use Rattle.regions.specs.RunList.{IsNextRun};
 ghost use Rattle.residency.specs.Picture.{is_live};
-ghost use Rattle.inspection.specs.Frames.{IsHolding, HoldsData, HasNoMapper, IsMapper};
-ghost use Rattle.inspection.specs.Machines.{hand_of, memory_of};
-ghost use Rattle.inspection.specs.Pages.{HasNoEntryFrom, IsNextEntry};
-ghost use Rattle.inspection.specs.Slots.{SlotHolds};
+ghost use Rattle.inspection.specs.Frames.{IsFrameView, HoldsData, HasNoMapper, IsMapper};
+ghost use Rattle.inspection.specs.Machines.{hand_of, memory_of, Tells};
+ghost use Rattle.inspection.specs.Pages.{HasNoEntryFrom, IsNextEntry, IsPageView};
+ghost use Rattle.inspection.specs.Slots.{IsSlotView};
 ghost use Rattle.inspection.specs.Tables.{IsPlaceOf};
 ghost use Rattle.inspection.specs.Walks.{IsNextStep, IsStep, IsStepOfSome};
-ghost use Rattle.machine.specs.Machine.{bits_of, halted_of, mode_of, slot_count_of, IsSoundMachine};
+ghost use Rattle.machine.specs.Machine.{bits_of, halted_of, mode_of, IsSoundMachine};
 
 use crate::frame_views::{FrameView, Mapper};
 use crate::pages::PageEntry;
@@ -36,14 +36,12 @@ pub fn root_step<D: SectorDisk, E: SectorDisk>(
     page: u64,
 ) -> Option<Step>
     requires sound { IsSoundMachine D.SectorDisk E.SectorDisk machine.now }
-    ensures running { IfSome result (λ _. halted_of machine.now ≡ false) }
-    ensures some { IfSome result (IsStep (memory_of machine.now) pid page) }
+    ensures tells { Tells machine.now (IsStep (memory_of machine.now) pid page) (is_live (memory_of machine.now) pid ≡ false) result }
     ensures level { IfSome result (λ step. step.level ≡ top_level (bits_of (mode_of machine.now))) }
-    ensures none { IfNone result (halted_of machine.now ≡ false → is_live (memory_of machine.now) pid ≡ false) }
 {
     match machine {
-        Machine::Sv39(machine) => walks::root_step(machine.memory()?, pid, page),
-        Machine::Sv48(machine) => walks::root_step(machine.memory()?, pid, page),
+        Machine::Sv39(engine) => walks::root_step(engine.memory()?, pid, page),
+        Machine::Sv48(engine) => walks::root_step(engine.memory()?, pid, page),
     }
 }
 
@@ -56,15 +54,13 @@ pub fn next_step<D: SectorDisk, E: SectorDisk>(
 ) -> Option<Step>
     requires sound { IsSoundMachine D.SectorDisk E.SectorDisk machine.now }
     requires step { IsStepOfSome (memory_of machine.now) page step }
-    ensures running { IfSome result (λ _. halted_of machine.now ≡ false) }
-    ensures some { IfSome result (IsStepOfSome (memory_of machine.now) page) }
+    ensures tells { Tells machine.now (IsStepOfSome (memory_of machine.now) page) (0 < step.level → is_pointer step.entry.0 ≡ false) result }
     ensures next { IfSome result (IsNextStep (memory_of machine.now) page step) }
     ensures pointer { IfSome result (λ next. is_pointer step.entry.0 ≡ true) }
-    ensures none { IfNone result (halted_of machine.now ≡ false → 0 < step.level → is_pointer step.entry.0 ≡ false) }
 {
     match machine {
-        Machine::Sv39(machine) => walks::next_step(machine.memory()?, page, step),
-        Machine::Sv48(machine) => walks::next_step(machine.memory()?, page, step),
+        Machine::Sv39(engine) => walks::next_step(engine.memory()?, page, step),
+        Machine::Sv48(engine) => walks::next_step(engine.memory()?, page, step),
     }
 }
 
@@ -74,15 +70,11 @@ pub fn frame_view<D: SectorDisk, E: SectorDisk>(
     n: FrameNo,
 ) -> Option<FrameView>
     requires sound { IsSoundMachine D.SectorDisk E.SectorDisk machine.now }
-    ensures running { IfSome result (λ _. halted_of machine.now ≡ false) }
-    ensures inside { IfSome result (λ _. IsFrame (memory_of machine.now).frames n.0) }
-    ensures holds { IfSome result (λ view. IsHolding (memory_of machine.now) n.0 view.holding) }
-    ensures shares { IfSome result (λ view. view.shares ≡ count_of (memory_of machine.now).frames n.0) }
-    ensures none { IfNone result (halted_of machine.now ≡ false → IsFrame (memory_of machine.now).frames n.0 → ⊥) }
+    ensures { Tells machine.now (IsFrameView (memory_of machine.now) n.0) (IsFrame (memory_of machine.now).frames n.0 → ⊥) result }
 {
     match machine {
-        Machine::Sv39(machine) => frame_views::frame_view(machine.memory()?, n),
-        Machine::Sv48(machine) => frame_views::frame_view(machine.memory()?, n),
+        Machine::Sv39(engine) => frame_views::frame_view(engine.memory()?, n),
+        Machine::Sv48(engine) => frame_views::frame_view(engine.memory()?, n),
     }
 }
 
@@ -92,15 +84,11 @@ pub fn slot_view<D: SectorDisk, E: SectorDisk>(
     n: SlotNo,
 ) -> Option<SlotView>
     requires sound { IsSoundMachine D.SectorDisk E.SectorDisk machine.now }
-    ensures running { IfSome result (λ _. halted_of machine.now ≡ false) }
-    ensures inside { IfSome result (λ _. n.0 < slot_count_of machine.now) }
-    ensures holds { IfSome result (λ view. SlotHolds (memory_of machine.now) n.0 view.holding) }
-    ensures shares { IfSome result (λ view. view.shares ≡ (memory_of machine.now).slots.count n.0) }
-    ensures none { IfNone result (halted_of machine.now ≡ false → slot_count_of machine.now ≤ n.0) }
+    ensures { Tells machine.now (IsSlotView (memory_of machine.now) n.0) ((memory_of machine.now).slots.total ≤ n.0) result }
 {
     match machine {
-        Machine::Sv39(machine) => slots::slot_view(machine.memory()?, n),
-        Machine::Sv48(machine) => slots::slot_view(machine.memory()?, n),
+        Machine::Sv39(engine) => slots::slot_view(engine.memory()?, n),
+        Machine::Sv48(engine) => slots::slot_view(engine.memory()?, n),
     }
 }
 
@@ -113,13 +101,11 @@ pub fn next_mapper<D: SectorDisk, E: SectorDisk>(
     page: u64,
 ) -> Option<Mapper>
     requires sound { IsSoundMachine D.SectorDisk E.SectorDisk machine.now }
-    ensures running { IfSome result (λ _. halted_of machine.now ≡ false) }
-    ensures some { IfSome result (IsMapper (memory_of machine.now) n.0 pid page) }
-    ensures none { IfNone result (halted_of machine.now ≡ false → HoldsData (memory_of machine.now) n.0 → HasNoMapper (memory_of machine.now) n.0 pid page) }
+    ensures { Tells machine.now (IsMapper (memory_of machine.now) n.0 pid page) (HoldsData (memory_of machine.now) n.0 → HasNoMapper (memory_of machine.now) n.0 pid page) result }
 {
     match machine {
-        Machine::Sv39(machine) => frame_views::next_mapper(machine.memory()?, n, pid, page),
-        Machine::Sv48(machine) => frame_views::next_mapper(machine.memory()?, n, pid, page),
+        Machine::Sv39(engine) => frame_views::next_mapper(engine.memory()?, n, pid, page),
+        Machine::Sv48(engine) => frame_views::next_mapper(engine.memory()?, n, pid, page),
     }
 }
 
@@ -131,13 +117,11 @@ pub fn next_run<D: SectorDisk, E: SectorDisk>(
     page: u64,
 ) -> Option<Run>
     requires sound { IsSoundMachine D.SectorDisk E.SectorDisk machine.now }
-    ensures running { IfSome result (λ _. halted_of machine.now ≡ false) }
-    ensures some { IfSome result (IsNextRun (bits_of (mode_of machine.now)) ((memory_of machine.now).at pid) page) }
-    ensures none { IfNone result (halted_of machine.now ≡ false → (k : ℕ) → page ≤ k → (memory_of machine.now).at pid k ≡ None) }
+    ensures { Tells machine.now (IsNextRun (bits_of (mode_of machine.now)) ((memory_of machine.now).at pid) page) ((k : ℕ) → page ≤ k → (memory_of machine.now).at pid k ≡ None) result }
 {
     match machine {
-        Machine::Sv39(machine) => pages::next_run(machine.memory()?, pid, page),
-        Machine::Sv48(machine) => pages::next_run(machine.memory()?, pid, page),
+        Machine::Sv39(engine) => pages::next_run(engine.memory()?, pid, page),
+        Machine::Sv48(engine) => pages::next_run(engine.memory()?, pid, page),
     }
 }
 
@@ -149,13 +133,11 @@ pub fn next_entry<D: SectorDisk, E: SectorDisk>(
     page: u64,
 ) -> Option<PageEntry>
     requires sound { IsSoundMachine D.SectorDisk E.SectorDisk machine.now }
-    ensures running { IfSome result (λ _. halted_of machine.now ≡ false) }
-    ensures some { IfSome result (IsNextEntry (memory_of machine.now) pid page) }
-    ensures none { IfNone result (halted_of machine.now ≡ false → HasNoEntryFrom (memory_of machine.now) pid page) }
+    ensures { Tells machine.now (IsNextEntry (memory_of machine.now) pid page) (HasNoEntryFrom (memory_of machine.now) pid page) result }
 {
     match machine {
-        Machine::Sv39(machine) => pages::next_entry(machine.memory()?, pid, page),
-        Machine::Sv48(machine) => pages::next_entry(machine.memory()?, pid, page),
+        Machine::Sv39(engine) => pages::next_entry(engine.memory()?, pid, page),
+        Machine::Sv48(engine) => pages::next_entry(engine.memory()?, pid, page),
     }
 }
 
@@ -165,13 +147,12 @@ pub fn page_view<D: SectorDisk, E: SectorDisk>(
     page: PageKey,
 ) -> Option<PageView>
     requires sound { IsSoundMachine D.SectorDisk E.SectorDisk machine.now }
-    ensures place { IfSome result (λ view. view.place ≡ (memory_of machine.now).place page) }
-    ensures touched { IfSome result (λ view. view.is_touched ≡ (memory_of machine.now).touched page) }
+    ensures view { IfSome result (IsPageView (memory_of machine.now) page) }
     ensures none { IsNone result ↔ (halted_of machine.now ≡ true) }
 {
     match machine {
-        Machine::Sv39(machine) => Some(places::page_view(machine.memory()?, page)),
-        Machine::Sv48(machine) => Some(places::page_view(machine.memory()?, page)),
+        Machine::Sv39(engine) => Some(places::page_view(engine.memory()?, page)),
+        Machine::Sv48(engine) => Some(places::page_view(engine.memory()?, page)),
     }
 }
 
@@ -181,13 +162,11 @@ pub fn place_of_table<D: SectorDisk, E: SectorDisk>(
     n: FrameNo,
 ) -> Option<TablePlace>
     requires sound { IsSoundMachine D.SectorDisk E.SectorDisk machine.now }
-    ensures running { IfSome result (λ _. halted_of machine.now ≡ false) }
-    ensures some { IfSome result (IsPlaceOf (memory_of machine.now) n.0) }
-    ensures none { IfNone result (halted_of machine.now ≡ false → IsTable (memory_of machine.now).frames n.0 → ⊥) }
+    ensures { Tells machine.now (IsPlaceOf (memory_of machine.now) n.0) (IsTable (memory_of machine.now).frames n.0 → ⊥) result }
 {
     match machine {
-        Machine::Sv39(machine) => tables::place_of_table(machine.memory()?, n),
-        Machine::Sv48(machine) => tables::place_of_table(machine.memory()?, n),
+        Machine::Sv39(engine) => tables::place_of_table(engine.memory()?, n),
+        Machine::Sv48(engine) => tables::place_of_table(engine.memory()?, n),
     }
 }
 
@@ -199,8 +178,8 @@ pub fn line<D: SectorDisk, E: SectorDisk>(machine: &Machine<D, E>, index: usize)
     ensures leaf { IfSome result (λ line. IsLeafOf (bits_of (mode_of machine.now)) (memory_of machine.now).frames line.root.0 line.page line.leaf.0) }
 {
     match machine {
-        Machine::Sv39(machine) => buffer::line(machine.memory()?, index),
-        Machine::Sv48(machine) => buffer::line(machine.memory()?, index),
+        Machine::Sv39(engine) => buffer::line(engine.memory()?, index),
+        Machine::Sv48(engine) => buffer::line(engine.memory()?, index),
     }
 }
 
@@ -212,7 +191,7 @@ pub fn hand<D: SectorDisk, E: SectorDisk>(machine: &Machine<D, E>) -> Option<Fra
     ensures none { IsNone result ↔ (halted_of machine.now ≡ true) }
 {
     match machine {
-        Machine::Sv39(machine) => Some(buffer::hand(machine.memory()?)),
-        Machine::Sv48(machine) => Some(buffer::hand(machine.memory()?)),
+        Machine::Sv39(engine) => Some(buffer::hand(engine.memory()?)),
+        Machine::Sv48(engine) => Some(buffer::hand(engine.memory()?)),
     }
 }

@@ -19,8 +19,7 @@ use Rattle.residency.specs.Picture.{Picture, entry}
 use Rattle.residency.specs.Parts.{IsEntryFor, Nothing, Resident, Away, IsGranting, IsMapped}
 use Rattle.residency.proofs.Start.{seat-none, no_bit}
 use Rattle.page_tables.proofs.Bits.{parked_private, parked_framed}
-use Rattle.residency.proofs.SeatForms.{seat_own, seat_common, seat_away}
-use Rattle.residency.proofs.SeatForms.{away_seat}
+use Rattle.residency.proofs.SeatForms.{seat_own, seat_common, seat_away, away_seat}
 use Rattle.ranges.proofs.Returning.{not_away, no_seat}
 
 -- an entry that names a frame as the process's own names a seat

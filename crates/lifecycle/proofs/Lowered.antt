@@ -1,7 +1,7 @@
 -- The entry of a process's own page is set to a weaker one.
 use Rattle.vm_types.specs.Limits.{top_level}
-use Rattle.std.proofs.Common.{◌≡◌, ◌≢◌, ℕ, inl, inr, true, Some, None, get_or, refl, sym, ap, ◌∙◌}
-use Rattle.std.proofs.lemmas.Bool.{cases_Bool, false≢true}
+use Rattle.std.proofs.Common.{◌≡◌, ◌≢◌, ℕ, true, Some, None, get_or, sym, ap, ◌∙◌}
+use Rattle.std.proofs.lemmas.Bool.{false≢true}
 use Rattle.frames.specs.declared.role.Role.TheVariants.{Free}
 use Rattle.sv39_walk.specs.Entry.{is_valid, frame_of}
 use Rattle.page_tables.specs.Change.{SetsEntry}
@@ -17,7 +17,7 @@ use Rattle.residency.proofs.Setting.{fit_set, set_views, set_held}
 use Rattle.residency.proofs.TableSteps.{sets_page, rooted_set}
 use Rattle.residency.proofs.SeatForms.{seat_own}
 use Rattle.fault.proofs.Steps.{tables_same}
-use Rattle.lifecycle.specs.Shares.{IsTableFor, Weakens, Withdraws, lowered_entry}
+use Rattle.lifecycle.specs.Shares.{IsTableFor, Weakens, Withdraws}
 use Rattle.lifecycle.proofs.Given.{set_counts}
 use Rattle.lifecycle.proofs.Weaker.{weaker_for, weaker_seat, weaker_lowered, leaf_own}
 
@@ -59,34 +59,3 @@ module _ {mode : ℕ} (old new : Picture mode) (pid r page e : ℕ) (fit : IsFit
     counts = set_counts old new beside.slots sets.kept;
     pointers = λ n i m. (sets.pointers n i m).0;
   }
-
-same_beside : {mode : ℕ} (c : Picture mode) → SameBeside c c
-same_beside c = record { slots = refl; root = λ q. refl; at = λ q p. refl; page_of = λ n. refl; place = λ p. refl; touched = λ p. refl; files = λ f. refl }
-
-same_number : (e n : ℕ) → n ≡ e → Weakens e n → n ≡ lowered_entry e
-same_number e n same weaker = elim (cases_Bool (is_private e)) [
-  | inl private ↦ rw private weaker.number
-  | inr common ↦ rw common same
-]
-
--- the entry is as it was, where it had no W
-pub withdrawn_already : {mode : ℕ} (c : Picture mode) (pid page e : ℕ) → entry c pid page ≡ e → Weakens (entry c pid page) e → Withdraws c c pid page e
-withdrawn_already c pid page e here weaker = record {
-  sets = record {
-    changed = here;
-    others = λ q p h other. refl;
-    beside = same_beside c;
-    shares = record { private = λ n is. is; was_private = λ n is. is; cache = λ n is. is; was_cache = λ n is. is; counts = λ n is. refl };
-    bytes = λ n is. refl;
-  };
-  lowered = same_number (entry c pid page) e (sym here) weaker;
-  seated = ap seat (sym here);
-  unwritten = λ v. weaker.unwritten (sym weaker.valid ∙ v);
-  views = λ q p. refl;
-  held = λ p. refl;
-  room = record { frames = refl; slots = refl };
-  tables = tables_same c c (λ q r p lives. refl);
-  roles = λ n. refl;
-  counts = λ z. refl;
-  pointers = λ n i m p. p;
-}

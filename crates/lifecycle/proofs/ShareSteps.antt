@@ -9,8 +9,7 @@ use Rattle.residency.specs.Seats.{seat}
 use Rattle.residency.specs.Picture.{Picture, picture_of, entry}
 use Rattle.residency.specs.Parts.{IsFit}
 use Rattle.ranges.proofs.ClearedPages.{rest-refl, rest_then}
-use Rattle.lifecycle.specs.Steps.{HasTablesForCopies}
-use Rattle.lifecycle.specs.ChildShares.{AwaitsShares, GivesShares}
+use Rattle.lifecycle.specs.ChildShares.{AwaitsShares, GivesShares, IsReadyForShares}
 use Rattle.lifecycle.proofs.Copies.{unmapped_none}
 use Rattle.lifecycle.proofs.SharedRows.{shares_none, shares_then, seats_kept, tables_shared}
 
@@ -73,6 +72,9 @@ module _ {M : Type 0} {m : Levels.Ghosts M} {D E : Type 0} where
       }
 
   -- and no table is missing
-  pub linked_still : (a b : Core D E M m) (parent child low mid : ℕ) → parent ≢ child → GivesShares a b parent child low mid → HasTablesForCopies (picture_of a) parent child → HasTablesForCopies (picture_of b) parent child
-  linked_still a b parent child low mid apart gives has =
-      tables_shared (picture_of a) (picture_of b) parent child low mid apart gives.shares (seats_kept (picture_of a) (picture_of b) parent child low mid gives.shares) has
+  pub ready_rest : (a b : Core D E M m) (parent child low mid high from stop : ℕ) → IsReadyForShares (picture_of a) parent child low high → GivesShares a b parent child low mid → low ≤ from → mid ≤ from → stop ≤ high
+      → IsReadyForShares (picture_of b) parent child from stop
+  ready_rest a b parent child low mid high from stop ready gives least past most = record {
+    awaits = awaits_rest a b parent child low mid high from stop ready.awaits gives least past most;
+    linked = tables_shared (picture_of a) (picture_of b) parent child low mid ready.awaits.apart gives.shares (seats_kept (picture_of a) (picture_of b) parent child low mid gives.shares) ready.linked;
+  }

@@ -11,6 +11,7 @@ use Rattle.residency.specs.Picture.{Picture, picture_of, entry}
 use Rattle.residency.specs.Parts.{IsFit, IsFitBut}
 use Rattle.ranges.specs.Steps.{KeepsBesideMemory}
 use Rattle.lifecycle.specs.Shares.{IsTableFor, RaisesSeat, SharesRow, Withdraws}
+use Rattle.lifecycle.specs.Steps.{HasTablesForCopies}
 use Rattle.lifecycle.specs.TablesForCopies.{IsForking}
 
 module _ {mode : ℕ} where
@@ -22,6 +23,11 @@ module _ {mode : ℕ} where
     pub apart : parent ≢ child
     -- and has no entry for any of these pages.
     pub bare : (page : ℕ) → IsPage (top_level mode) page → low ≤ page → page < high → entry c child page ≡ 0
+
+  -- It has the tables for them too, wherever its parent has a copy.
+  pub record IsReadyForShares (c : Picture mode) (parent child low high : ℕ) : Type 0 where
+    pub awaits : AwaitsShares c parent child low high
+    pub linked : HasTablesForCopies c parent child
 
   -- A table holds the entries of a process's pages from that one on, with which it begins; of these, so many are a user's.
   pub record HoldsEntries (c : Picture mode) (pid first count n : ℕ) : Type 0 where

@@ -4,6 +4,7 @@ use Rattle.std.specs.Prelude.{◌≡◌, ◌/◌, ℕ, true, Result, OnOk, OnErr
 use Rattle.vm_types.specs.Limits.{table_entries}
 use Rattle.vm_types.specs.declared.refusal.Stall.{Stall}
 use Rattle.disk_model.specs.declared.sector_disk.SectorDisk.{Ghosts}
+use Rattle.swap.specs.Slots.{IsReady}
 use Rattle.residency.specs.declared.kernel.Core.{Core}
 use Rattle.residency.specs.Picture.{Picture, picture_of, is_live}
 use Rattle.residency.specs.Parts.{IsFit}
@@ -31,6 +32,11 @@ module _ {mode : ℕ} where
     pub copy : HasCopy c pid page
 
 module _ {M : Type 0} {m : Levels.Ghosts M} {D E : Type 0} (h : Ghosts E) where
+  -- Tables may be linked for a child: it is another process in a fork, and the swap device may be used.
+  pub record MayLink (core : Core D E M m) (parent child : ℕ) : Type 0 where
+    pub forking : IsForking (picture_of core) parent child
+    pub swap : IsReady h core.swap
+
   -- A child wants tables for the copies that its parent has:
   pub record LinksForCopies {T : Type 0} (old new : Core D E M m) (parent child : ℕ) (result : Result T Stall) : Type 0 where
     -- frames are taken for tables on the ways to these, and for no others,

@@ -1,20 +1,22 @@
 //! The child's tables.
 ghost use Rattle.std.specs.Prelude.{◌≡◌, ◌≢◌, ℕ, ◌+◌, ◌*◌, ◌/◌, ◌<◌, ◌≤◌, true, false, Option, None, OnOk, IfOk, IfSome, IfNone};
 ghost use Rattle.vm_types.specs.Limits.{user_end, table_entries};
-ghost use Rattle.swap.specs.Slots.{IsReady};
+ghost use Rattle.page_tables.specs.Entry.{number_of, IsEntry};
 ghost use Rattle.residency.specs.Seats.{seat};
 ghost use Rattle.residency.specs.Picture.{picture_of, entry, is_live};
 ghost use Rattle.residency.specs.Parts.{IsFit};
 ghost use Rattle.residency.specs.Ways.{IsWhole};
-ghost use Rattle.lifecycle.specs.TablesForCopies.{IsFirstCopy, IsForking, LinksForCopies, MakesReady, StepsOn};
+ghost use Rattle.ranges.specs.WaysPassed.{IsUserRow};
+ghost use Rattle.lifecycle.specs.TablesForCopies.{IsFirstCopy, LinksForCopies, MakesReady, MayLink, StepsOn};
 ghost use Rattle.lifecycle.specs.Steps.{HasTablesFrom, IsMappedRow};
 
 use disk_model::SectorDisk;
 use fault::link_tables;
 use memory::{number_in, table_of};
+use page_tables::{Entry, decode};
 use ranges::{gap_end, next_entry, table_end, user_page};
 use residency::{Core, root_of};
-use sv39_walk::{Pte, TABLE_ENTRIES};
+use sv39_walk::TABLE_ENTRIES;
 use vm_types::{Levels, Pid, Stall, USER_START, Vpn};
 
 /// Makes for the child, whose pages are mapped as the parent's, every table that is missing on the way to a page of which the
@@ -30,8 +32,7 @@ pub(crate) fn link_copies<D, E: SectorDisk, M: Levels>(
     parent: Pid,
     child: Pid,
 ) -> Result<(), Stall>
-    requires swap { IsReady E.SectorDisk core.old.swap }
-    requires forking { IsForking (picture_of core.old) parent child }
+    requires { MayLink E.SectorDisk core.old parent child }
     ensures { MakesReady E.SectorDisk core.old core.new parent child result }
 {
     let mut page = USER_START;
@@ -51,8 +52,7 @@ fn link_run<D, E: SectorDisk, M: Levels>(
     start: Vpn,
     end: u64,
 ) -> Result<(), Stall>
-    requires swap { IsReady E.SectorDisk core.old.swap }
-    requires forking { IsForking (picture_of core.old) parent child }
+    requires ready { MayLink E.SectorDisk core.old parent child }
     requires mapped { IsMappedRow (picture_of core.old) parent start end }
     requires high { end ≤ user_end M.mode }
     ensures links { LinksForCopies E.SectorDisk core.old core.new parent child result }
@@ -74,10 +74,8 @@ fn link_next<D, E: SectorDisk, M: Levels>(
     page: Vpn,
     end: u64,
 ) -> Result<u64, Stall>
-    requires swap { IsReady E.SectorDisk core.old.swap }
-    requires forking { IsForking (picture_of core.old) parent child }
-    requires some { page < end }
-    requires high { end ≤ user_end M.mode }
+    requires ready { MayLink E.SectorDisk core.old parent child }
+    requires row { IsUserRow M.mode page end }
     ensures links { LinksForCopies E.SectorDisk core.old core.new parent child result }
     ensures linked { IfOk result (HasTablesFrom (picture_of core.new) parent child page) }
     ensures next { IfOk result (StepsOn (picture_of core.old) parent page end) }
@@ -110,7 +108,7 @@ fn first_copy<D, E, M: Levels>(core: &Core<D, E, M>, pid: Pid, start: Vpn, stop:
     let mut page = start.get();
     while page < stop {
         let index = (page % TABLE_ENTRIES) as usize;
-        if is_own(number_in(&core.frames, table, index)) {
+        if is_own(decode(number_in(&core.frames, table, index))) {
             return Some(user_page::<M>(page));
         }
         page = next_entry(&core.frames, table, page + 1, stop);
@@ -120,9 +118,15 @@ fn first_copy<D, E, M: Levels>(core: &Core<D, E, M>, pid: Pid, start: Vpn, stop:
 
 /// Whether a page's entry names a copy of the process's own: a frame, by the bit that is the software's (RISC-V Privileged
 /// Specification, "Sv39 page table entry", RSW), or a slot.
-pub(crate) fn is_own(number: Pte) -> bool
-    ensures own { result ≡ true → seat number.0 ≢ None }
-    ensures other { result ≡ false → seat number.0 ≡ None }
+pub(crate) fn is_own(found: Entry) -> bool
+    requires { IsEntry found }
+    ensures own { result ≡ true → seat (number_of found) ≢ None }
+    ensures other { result ≡ false → seat (number_of found) ≡ None }
 {
-    number.is_private() || number.is_swapped()
+    match found {
+        Entry::None => false,
+        Entry::Leaf(leaf) => leaf.is_private(),
+        Entry::Swapped(_) => true,
+        Entry::Parked(_, private) => private,
+    }
 }

@@ -1,22 +1,22 @@
 //! The parent's own pages, given to the child.
-ghost use Rattle.std.specs.Prelude.{◌≡◌, ◌≢◌, ℕ, ◌+◌, ◌*◌, ◌/◌, ◌<◌, ◌≤◌, true, None, IfSome, IfNone};
+ghost use Rattle.std.specs.Prelude.{◌≡◌, ℕ, ◌+◌, ◌*◌, ◌/◌, ◌<◌, ◌≤◌, true, IfSome, IfNone};
 ghost use Rattle.vm_types.specs.Limits.{user_start, user_end, table_entries};
-ghost use Rattle.residency.specs.Seats.{seat};
+ghost use Rattle.page_tables.specs.Entry.{number_of};
 ghost use Rattle.residency.specs.Picture.{picture_of, entry, is_live};
 ghost use Rattle.residency.specs.Parts.{IsFit};
 ghost use Rattle.residency.specs.Ways.{IsWhole};
-ghost use Rattle.lifecycle.specs.Steps.{AdvancesTo, HasTablesForCopies, IsMappedRow};
+ghost use Rattle.ranges.specs.WaysPassed.{IsUserRow};
+ghost use Rattle.lifecycle.specs.Steps.{AdvancesTo, IsMappedRow};
 ghost use Rattle.lifecycle.specs.Shares.{IsTableFor};
 ghost use Rattle.lifecycle.specs.TablesForCopies.{StepsOn};
-ghost use Rattle.lifecycle.specs.ChildShares.{AwaitsShares, GivesShares, HoldsEntries};
+ghost use Rattle.lifecycle.specs.ChildShares.{AwaitsShares, GivesShares, HoldsEntries, IsOwnEntry, IsReadyForShares};
 
 use crate::linking::is_own;
 use crate::withdrawing::{Tables, add_share, withdraw_write};
 use memory::{number_in, set_in, table_of};
-use page_tables::decode;
+use page_tables::{Entry, decode};
 use ranges::{gap_end, next_place, table_end, table_start, user_page};
 use residency::{Core, root_of};
-use sv39_walk::Pte;
 use vm_types::{FrameNo, Levels, Pid, USER_START, Vpn};
 
 /// Gives the child, whose pages are mapped as the parent's and have no entry, a share of each page of which the parent has a
@@ -25,8 +25,7 @@ use vm_types::{FrameNo, Levels, Pid, USER_START, Vpn};
 /// and no device, and the call can't fail. It costs the parent's runs and, of these, the tables that they meet and the pages
 /// there that have an entry, and nothing for what isn't mapped.
 pub(crate) fn share_pages<D, E, M: Levels>(core: &mut Core<D, E, M>, parent: Pid, child: Pid)
-    requires awaits { AwaitsShares (picture_of core.old) parent child user_start (user_end M.mode) }
-    requires linked { HasTablesForCopies (picture_of core.old) parent child }
+    requires { IsReadyForShares (picture_of core.old) parent child user_start (user_end M.mode) }
     ensures { GivesShares core.old core.new parent child user_start (user_end M.mode) }
 {
     let mut page = USER_START;
@@ -45,11 +44,9 @@ fn share_run<D, E, M: Levels>(
     start: Vpn,
     end: u64,
 )
-    requires awaits { AwaitsShares (picture_of core.old) parent child start end }
-    requires linked { HasTablesForCopies (picture_of core.old) parent child }
+    requires ready { IsReadyForShares (picture_of core.old) parent child start end }
     requires mapped { IsMappedRow (picture_of core.old) parent start end }
-    requires some { start < end }
-    requires high { end ≤ user_end M.mode }
+    requires row { IsUserRow M.mode start end }
     ensures { GivesShares core.old core.new parent child start end }
 {
     let mut page = start.get();
@@ -67,10 +64,8 @@ fn share_next<D, E, M: Levels>(
     page: Vpn,
     end: u64,
 ) -> u64
-    requires awaits { AwaitsShares (picture_of core.old) parent child page end }
-    requires linked { HasTablesForCopies (picture_of core.old) parent child }
-    requires some { page < end }
-    requires high { end ≤ user_end M.mode }
+    requires ready { IsReadyForShares (picture_of core.old) parent child page end }
+    requires row { IsUserRow M.mode page end }
     ensures next { StepsOn (picture_of core.old) parent page end result }
     ensures gives { GivesShares core.old core.new parent child page result }
 {
@@ -92,8 +87,7 @@ fn share_table<D, E, M: Levels>(
     start: Vpn,
     stop: u64,
 )
-    requires awaits { AwaitsShares (picture_of core.old) parent child start stop }
-    requires linked { HasTablesForCopies (picture_of core.old) parent child }
+    requires ready { IsReadyForShares (picture_of core.old) parent child start stop }
     requires whole { IsWhole (picture_of core.old) parent start }
     requires some { start < stop }
     requires one_table { stop ≤ (start / table_entries + 1) * table_entries }
@@ -151,29 +145,33 @@ fn share_at<D, E, M: Levels>(
     ensures next { AdvancesTo index end result }
     ensures gives { GivesShares core.old core.new tables.now.parent tables.now.child (tables.now.first + index) (tables.now.first + result) }
 {
-    let number = number_in(&core.frames, tables.from, index);
-    if is_own(number) {
-        share_page(core, tables, index, number);
+    let before = decode(number_in(&core.frames, tables.from, index));
+    if is_own(before) {
+        share_page(core, tables, index, before);
         return index + 1;
     }
-    if number.to_u64() == 0 {
+    if let Entry::None = before {
         return next_place(&core.frames, tables.from, index, end);
     }
     index + 1
 }
 
 /// Gives the child a share of the page at place `index` of the two tables, of which the parent has a copy of its own, and whose
-/// entry of the parent's is that number.
-fn share_page<D, E, M: Levels>(core: &mut Core<D, E, M>, tables: &Tables, index: usize, number: Pte)
+/// entry of the parent's is that one.
+fn share_page<D, E, M: Levels>(
+    core: &mut Core<D, E, M>,
+    tables: &Tables,
+    index: usize,
+    before: Entry,
+)
     requires awaits { AwaitsShares (picture_of core.old) tables.now.parent tables.now.child (tables.now.first + index) (tables.now.first + index + 1) }
     requires from { HoldsEntries (picture_of core.old) tables.now.parent tables.now.first (index + 1) tables.now.from.0 }
     requires to { HoldsEntries (picture_of core.old) tables.now.child tables.now.first (index + 1) tables.now.to.0 }
     requires in_table { index < table_entries }
-    requires number { number.0 ≡ entry (picture_of core.old) tables.now.parent (tables.now.first + index) }
-    requires own { seat number.0 ≢ None }
+    requires before { number_of before ≡ entry (picture_of core.old) tables.now.parent (tables.now.first + index) }
+    requires own { IsOwnEntry before }
     ensures { GivesShares core.old core.new tables.now.parent tables.now.child (tables.now.first + index) (tables.now.first + index + 1) }
 {
-    let before = decode(number);
     let shared = withdraw_write(core, tables, index, before);
     add_share(core, shared);
     set_in(&mut core.frames, tables.to, index, shared);

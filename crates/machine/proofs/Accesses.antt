@@ -1,4 +1,4 @@
--- Accesses, whose faults are kept.
+-- Calls, each in the cases that its contract has; the faults of accesses are kept.
 use Rattle.vm_types.specs.declared.mode.Levels as Levels
 use Rattle.std.proofs.Common.{ℕ, ◌≡◌, ◌≢◌, Bool, true, false, not, if◌then◌else◌, List, refl, sym, ap, ◌∙◌, subst}
 use Rattle.disk_model.specs.declared.sector_disk.SectorDisk.{Ghosts}
@@ -6,10 +6,12 @@ use Rattle.residency.specs.Calls.{UsesDevice}
 use Rattle.residency.specs.Reading.{ReadsStore}
 use Rattle.residency.specs.Picture.{picture_of, is_live}
 use Rattle.residency.specs.declared.kernel.Core.{Core}
-use Rattle.fault.specs.Changes.{KeepsRoom}
 use Rattle.ranges.specs.Steps.{KeepsDevices}
+use Rattle.spaces.specs.Accesses.{KeepsToPage}
 use Rattle.spaces.specs.Calls as Calls
+use Rattle.spaces.specs.Ranges.{GivesPagesBack}
 use Rattle.spaces.specs.Idle.{is_denial, is_idle}
+use Rattle.vm_types.specs.declared.access.Access.{Access}
 use Rattle.vm_types.specs.declared.access.StoredValue.{StoredValue}
 use Rattle.vm_types.specs.declared.command.Command.{Command}
 use Rattle.vm_types.specs.declared.refusal.Errno.{Errno}
@@ -30,9 +32,11 @@ use Rattle.vm_types.specs.State.{State}
 use Rattle.vm_types.specs.Step.{Outcome, outcome, answers, load_outcome, store_outcome, fetch_outcome, past_after, ruling, takes}
 use Rattle.vm_types.specs.Verdict.{Verdict, Fine, Faults}
 use Rattle.vm_types.specs.View.{View}
-use Rattle.machine.specs.Engine.{KeepsIfDenied, EngineShows, EngineMeets, EngineMayRead}
+use Rattle.machine.specs.Engine.{EngineMeets}
 use Rattle.machine.specs.declared.engine.Engine.{Engine}
-use Rattle.machine.proofs.Flat.{OnlyNow, carried, shows_core, is_running}
+use Rattle.machine.specs.Accesses.{Accesses}
+use Rattle.machine.specs.EngineCommands.{EngineCarriesOut}
+use Rattle.machine.proofs.Flat.{OnlyNow, is_running, keeps_all, read_meets, shows_core, unread, unswapped}
 
 -- only the answer that refuses is a refusal
 pub refused_so : (a : Answer) (errno : Errno) → reply_of a ≡ Refused errno → a ≡ Answers.Refused errno
@@ -94,38 +98,79 @@ module _ {M : Type 0} {levels : Levels.Ghosts M} {D E : Type 0} (g : Ghosts D) (
       → ◌≡◌ {A = Engine D E M levels} (record { core = core; halted = halted; past = past; sync_room = tt; region_room = tt }) m
   machine_is m core halted past a b c = λ t. record { core = sym a t; halted = sym b t; past = sym c t; sync_room = tt; region_room = tt }
 
-  lives : (old core : Core D E M levels) (s : State) (command : Command) (reply : Reply) (pid : ℕ) → Calls.Comes g h old core s command reply
+  pub lives : (old core : Core D E M levels) (s : State) (command : Command) (reply : Reply) (pid : ℕ) → Calls.Comes g h old core s command reply
       → ((fault : Fault) → (outcome s command).reply ≡ Faulted fault → (outcome s command).state.live pid ≡ true)
       → (fault : Fault) → reply ≡ Faulted fault → is_live (picture_of core) pid ≡ true
   lives old core s command reply pid (Calls.Does answer pages) living fault e = sym (pages.live pid) ∙ living fault (sym answer ∙ e)
   lives old core s command reply pid (Calls.Stalls stall may short answer pages) living fault e = absurd (let never : Stalled stall ≡ Faulted fault = sym answer ∙ e in cc)
 
-  -- an access is carried out, and its fault is kept
-  pub accessed : (only_now : OnlyNow g) (old new : Engine D E M levels) (core : Core D E M levels) (s : State) (command : Command) (reply result : Reply) (pid : ℕ)
-      → EngineShows g h old s → old.halted ≡ false → takes s (ruling s command) s.durable ≡ s.durable
-      → ReadsStore g old.core.store core.store → UsesDevice h old.core.swap.pages.disk core.swap.pages.disk → (is_idle s command reply ≡ true → KeepsDevices old.core core)
-      → KeepsRoom (picture_of old.core) (picture_of core) → Calls.Carries g h old.core core command reply → EngineMayRead g h new s command
-      → ((fault : Fault) → (outcome s command).reply ≡ Faulted fault → (outcome s command).state.live pid ≡ true)
-      → result ≡ reply → new.core ≡ core → new.halted ≡ old.halted
-      → (((fault : Fault) → reply ≡ Faulted fault → is_live (picture_of core) pid ≡ true) → new.past ≡ past_after command reply old.past)
-      → (t : State) × EngineMeets g h old new s t command result
-  accessed only_now old new core s command reply result pid shows run none reads device idle room carries honest living same core_is halted_is noted =
-      let readable : EngineMayRead g h (record { core = core; halted = old.halted; past = past_after command reply old.past; sync_room = tt; region_room = tt }) s command = record {
-        files = λ r. subst (λ (k : Core D E M levels). g.keeps_model k.store.disk) core_is (honest.files r);
-        slots = λ r. subst (λ (k : Core D E M levels). h.keeps_model k.swap.pages.disk) core_is (honest.slots r);
-      } in
-      let comes = carries s (shows_core g h old s shows (is_running g h old s shows run)) readable.files readable.slots in
-      let past : new.past ≡ past_after command reply old.past = noted (lives old.core core s command reply pid comes living) in
-      subst (λ (r : Reply). (t : State) × EngineMeets g h old new s t command r) (sym same)
-      (subst (λ (m : Engine D E M levels). (t : State) × EngineMeets g h old m s t command reply) (machine_is new core old.halted (past_after command reply old.past) core_is halted_is past)
-      (carried g h only_now old core old.halted (past_after command reply old.past) s command reply shows run run none refl reads device idle room carries readable))
+  -- What a call of the processes on their spaces says, whichever it is.
+  pub record IsCall (old new : Core D E M levels) (command : Command) (reply : Reply) : Type 0 where
+    pub carries : Calls.Carries g h old new command reply
+    pub accounts : Calls.AccountsFor g h old new reply
+    pub reads : ReadsStore g old.store new.store
+    pub device : UsesDevice h old.swap.pages.disk new.swap.pages.disk
+    pub idle : (s : State) → is_idle s command reply ≡ true → KeepsDevices old new
 
-module _ {M : Type 0} {levels : Levels.Ghosts M} {D E : Type 0} where
-  -- what a call says of a machine that runs
-  pub keeps_denied : (old new : Engine D E M levels) (command : Command) (reply : Reply) → old.halted ≡ false → (is_denial reply ≡ true → new.core ≡ old.core)
-      → KeepsIfDenied old new command reply
-  keeps_denied old new command reply run denied = record {
-    refused = λ errno is other. denied (is_denied reply errno is other);
-    faulted = λ _ fault is. denied (ap is_denial is);
-    halted = λ stopped. absurd (let never : false ≡ true = sym run ∙ stopped in cc);
+  -- one that leaves the store alone,
+  pub apart : (old new : Core D E M levels) (command : Command) (reply : Reply) → Calls.LeavesStore g h old new reply → Calls.Carries g h old new command reply
+      → ((s : State) → is_idle s command reply ≡ true → is_denial reply ≡ true) → IsCall old new command reply
+  apart old new command reply keeps carries denies = record {
+    carries = carries;
+    accounts = keeps.accounts;
+    reads = unread g old.store new.store keeps.store;
+    device = keeps.device;
+    idle = λ s e. keeps_all g h old new (keeps.denied (denies s e));
   }
+
+  -- one that gives pages back,
+  pub given_back : (old new : Core D E M levels) (command : Command) (reply : Reply) (pid first pages : ℕ) → GivesPagesBack g h old new pid first pages reply
+      → Calls.Carries g h old new command reply → IsCall old new command reply
+  given_back old new command reply pid first pages keeps carries = record {
+    carries = carries;
+    accounts = keeps.accounts;
+    reads = unread g old.store new.store keeps.devices.store;
+    device = unswapped g h old new keeps.devices;
+    idle = λ s e. keeps.devices;
+  }
+
+  -- and an access
+  pub on_page : (old new : Core D E M levels) (command : Command) (reply : Reply) (pid addr : ℕ) (access : Access) → KeepsToPage g h old new pid addr access reply
+      → Calls.Carries g h old new command reply → ((s : State) → is_idle s command reply ≡ true → is_denial reply ≡ true) → IsCall old new command reply
+  on_page old new command reply pid addr access keeps carries denies = record {
+    carries = carries;
+    accounts = keeps.accounts;
+    reads = keeps.reads;
+    device = keeps.device;
+    idle = λ s e. keeps_all g h old new (keeps.denied (denies s e));
+  }
+
+  -- A call is carried out by a machine that runs, and makes nothing durable. The history may note what came of it.
+  pub carries_out : (only_now : OnlyNow g) (old new : Engine D E M levels) (core : Core D E M levels) (command : Command) (reply result : Reply) → old.halted ≡ false
+      → ((s : State) → takes s (ruling s command) s.durable ≡ s.durable) → new.core ≡ core → new.halted ≡ old.halted → result ≡ reply
+      → ((s : State) → Calls.Comes g h old.core core s command reply → new.past ≡ past_after command reply old.past)
+      → IsCall old.core core command reply → Accesses g h old.core core command reply → EngineCarriesOut g h old new command result
+  carries_out only_now old new core command reply result run none core_is halted_is same noted said asked =
+      let Q : Core D E M levels → Type 0 = λ k. IsCall old.core k command reply × Accesses g h old.core k command reply in
+      let both = subst Q (sym core_is) (said, asked) in
+      let call = both.0 in
+      let P : Reply → Type 0 = λ r. EngineCarriesOut g h old new command r in
+      subst P (sym same) (record {
+        does = record {
+          sound = record { going = λ _. call.accounts.sound };
+          keeps = record { kept = call.reads.kept; swap_kept = call.device.kept; room = call.accounts.room };
+          caused = call.accounts.caused;
+          accesses = both.1;
+          denied = record {
+            refused = λ errno is other. call.accounts.denied (is_denied reply errno is other);
+            faulted = λ _ fault is. call.accounts.denied (ap is_denial is);
+            halted = λ stopped. absurd (let never : false ≡ true = sym run ∙ stopped in cc);
+          };
+        };
+        meets = λ s shows readable.
+            let past = past_after command reply old.past in
+            let comes = call.carries s (shows_core g h old s shows (is_running g h old s shows run)) readable.files readable.slots in
+            let told : new.past ≡ past = noted s (subst (λ (k : Core D E M levels). Calls.Comes g h old.core k s command reply) core_is comes) in
+            subst (λ (m : Engine D E M levels). (t : State) × EngineMeets g h old m s t command reply) (machine_is new new.core false past refl (halted_is ∙ run) told)
+            (read_meets g h only_now old new.core past s command reply shows run call.reads call.device refl (call.idle s) call.accounts.room (none s) comes);
+      })

@@ -128,11 +128,6 @@ refused_no_stall errno stall e = cc
 stall_is : (stall : Stall) → Stalled SwapDevice ≡ Stalled stall → SwapDevice ≡ stall
 stall_is stall e = cc
 
--- one that makes pages durable reads the swap device
-reads_slots : (s : State) (pid addr len : ℕ) (mode : MsyncMode) (after : Pages) → commits s (Msync pid addr len mode) ≡ Some after
-    → is_some (commits s (Msync pid addr len mode)) ≡ true
-reads_slots s pid addr len mode after commit = ap is_some commit
-
 none_or_some : (o : Option Pages) → (o ≡ None) ⊎ ((after : Pages) × (o ≡ Some after))
 none_or_some None = inl refl
 none_or_some (Some after) = inr (after, refl)
@@ -148,21 +143,34 @@ holds_either n s command reply after c run commit taken either =
     ⊎_elim (λ b. (s.durable, inl (subst (λ (o : Option (List Pages)). stands_in o s.durable s.durable) (sym run) refl), b))
     (λ a. (after, inr (run, taken, commit_takes s (ruling s command) after commit), a)) either
 
-module _ {M : Type 0} {levels : Levels.Ghosts M} {D E : Type 0} (g : Ghosts D) (h : Ghosts E) where
+-- An msync that makes pages durable, on an engine that runs.
+module _ {M : Type 0} {levels : Levels.Ghosts M} {D E : Type 0} (g : Ghosts D) (h : Ghosts E)
+    (old : Engine D E M levels) (core : Core D E M levels) (s : State) (pid addr len : ℕ) (mode : MsyncMode) (reply : Reply) (after : Pages)
+    (shows : EngineShows g h old s) (run : IsRunning s) (room : KeepsRoom (picture_of old.core) (picture_of core)) (device : UsesDevice h old.core.swap.pages.disk core.swap.pages.disk)
+    (commit : commits s (Msync pid addr len mode) ≡ Some after)
+    (made : Commits g h (GivesBack g h old.core core pid addr len) old.core core s after (Msync pid addr len mode) reply) where
+  abbrev x : Command
+  x = Msync pid addr len mode
+
+  abbrev n : ℕ
+  n = g.sector_count old.core.store.disk
+
+  abbrev engine : Bool → Engine D E M levels
+  engine halts = record { core = core; halted = halts; past = old.past; sync_room = tt; region_room = tt }
+
+  -- at every moment the pages are as they were, or as they are to be
+  during : may_have_taken reply ≡ true → GivesBack g h old.core core pid addr len → g.keeps_model core.store.disk
+      → LeavesOnly g old.core.store.disk core.store.disk (StandsForSome n s.files (HoldsIn s x reply))
+  during taken back k = weaker g old.core.store.disk core.store.disk (StandsForEither n s.files s.durable after) (StandsForSome n s.files (HoldsIn s x reply))
+      (λ c either. holds_either n s x reply after c run commit taken either) (made.either k back)
+
   -- the commit was made
-  commit_done : (old : Engine D E M levels) (core : Core D E M levels) (s : State) (pid addr len : ℕ) (mode : MsyncMode) (reply : Reply) (after : Pages)
-      → EngineShows g h old s → IsRunning s → KeepsRoom (picture_of old.core) (picture_of core) → UsesDevice h old.core.swap.pages.disk core.swap.pages.disk → commits s (Msync pid addr len mode) ≡ Some after
-      → (back : GivesBack g h old.core core pid addr len) → Commits g h (GivesBack g h old.core core pid addr len) old.core core s after (Msync pid addr len mode) reply → reply ≡ Done
-      → Syncing.CoreShows g core (outcome s (Msync pid addr len mode)).state
-      → (t : State) × EngineMeets g h old (record { core = core; halted = false; past = old.past; sync_room = tt; region_room = tt }) s t (Msync pid addr len mode) reply
-  commit_done old core s pid addr len mode reply after shows run room device commit back made done now =
-      let x = Msync pid addr len mode in
-      let new : Engine D E M levels = record { core = core; halted = false; past = old.past; sync_room = tt; region_room = tt } in
-      let n = g.sector_count old.core.store.disk in
+  commit_done : GivesBack g h old.core core pid addr len → reply ≡ Done → Syncing.CoreShows g core (outcome s x).state → (t : State) × EngineMeets g h old (engine false) s t x reply
+  commit_done back done now =
       let t = noted x reply (outcome s x).state in
       let all = outcome_keeps s x in
       let goes_on : IsRunning t = all.ends ∙ run in
-      let meets : EngineMeets g h old new s t x reply = record {
+      let meets : EngineMeets g h old (engine false) s t x reply = record {
         step = Answers run (done ∙ sym (done_of s (ruling s x) after commit)) refl;
         shows = record {
           pages = with_past (picture_of core) (outcome s x).state _ now.pages;
@@ -177,22 +185,14 @@ module _ {M : Type 0} {levels : Levels.Ghosts M} {D E : Type 0} (g : Ghosts D) (
         kept = made.kept;
         swap_kept = device.kept;
         idle = λ e. absurd (never_idle s pid addr len mode reply after commit (ap is_denial done) e);
-        moments = λ k. weaker g old.core.store.disk core.store.disk (StandsForEither n s.files s.durable after) (StandsForSome n s.files (HoldsIn s x reply))
-            (λ c either. holds_either n s x reply after c run commit (ap may_have_taken done) either)
-            (made.either k back);
+        moments = during (ap may_have_taken done) back;
       } in
       (t, meets)
 
   -- the store failed in it
-  commit_failed : (counts_now : CountsNow g) (old : Engine D E M levels) (core : Core D E M levels) (s : State) (pid addr len : ℕ) (mode : MsyncMode) (reply : Reply) (after : Pages)
-      → EngineShows g h old s → IsRunning s → KeepsRoom (picture_of old.core) (picture_of core) → UsesDevice h old.core.swap.pages.disk core.swap.pages.disk → commits s (Msync pid addr len mode) ≡ Some after
-      → (back : GivesBack g h old.core core pid addr len) → Commits g h (GivesBack g h old.core core pid addr len) old.core core s after (Msync pid addr len mode) reply → reply ≡ Refused EIO
-      → g.failures old.core.store.disk < g.failures core.store.disk → KeepsMemory old.core core
-      → (t : State) × EngineMeets g h old (record { core = core; halted = true; past = old.past; sync_room = tt; region_room = tt }) s t (Msync pid addr len mode) reply
-  commit_failed counts_now old core s pid addr len mode reply after shows run room device commit back made failed grew memory =
-      let x = Msync pid addr len mode in
-      let new : Engine D E M levels = record { core = core; halted = true; past = old.past; sync_room = tt; region_room = tt } in
-      let n = g.sector_count old.core.store.disk in
+  commit_failed : CountsNow g → GivesBack g h old.core core pid addr len → reply ≡ Refused EIO → g.failures old.core.store.disk < g.failures core.store.disk
+      → KeepsMemory old.core core → (t : State) × EngineMeets g h old (engine true) s t x reply
+  commit_failed counts_now back failed grew memory =
       let t = halted s after in
       let pages : ShowsPages (picture_of old.core) t = record {
         live = shows.pages.live;
@@ -205,7 +205,7 @@ module _ {M : Type 0} {levels : Levels.Ghosts M} {D E : Type 0} (g : Ghosts D) (
         same_mode = shows.pages.same_mode;
         clean = shows.pages.clean;
       } in
-      let meets : EngineMeets g h old new s t x reply = record {
+      let meets : EngineMeets g h old (engine true) s t x reply = record {
         step = Fails after run commit grew failed refl;
         shows = record {
           pages = rw (memory.frames, memory.slots, memory.cache, memory.roots, memory.regions, memory.page_of, memory.directory) pages;
@@ -224,36 +224,23 @@ module _ {M : Type 0} {levels : Levels.Ghosts M} {D E : Type 0} (g : Ghosts D) (
         kept = made.kept;
         swap_kept = device.kept;
         idle = λ e. absurd (never_idle s pid addr len mode reply after commit (ap is_denial failed) e);
-        moments = λ k. weaker g old.core.store.disk core.store.disk (StandsForEither n s.files s.durable after) (StandsForSome n s.files (HoldsIn s x reply))
-            (λ c either. holds_either n s x reply after c run commit (ap may_have_taken failed) either)
-            (made.either k back);
+        moments = during (ap may_have_taken failed) back;
       } in
       (t, meets)
 
   -- a slot couldn't be read
-  commit_unread : (old : Engine D E M levels) (core : Core D E M levels) (s : State) (pid addr len : ℕ) (mode : MsyncMode) (reply : Reply) (after : Pages)
-      → EngineShows g h old s → IsRunning s → KeepsRoom (picture_of old.core) (picture_of core) → UsesDevice h old.core.swap.pages.disk core.swap.pages.disk → commits s (Msync pid addr len mode) ≡ Some after
-      → Commits g h (GivesBack g h old.core core pid addr len) old.core core s after (Msync pid addr len mode) reply → reply ≡ Stalled SwapDevice
-      → h.failures old.core.swap.pages.disk < h.failures core.swap.pages.disk → Syncing.CoreShows g core s
-      → (g.keeps_model core.store.disk → LeavesOnly g old.core.store.disk core.store.disk (StandsFor (g.sector_count old.core.store.disk) s.files s.durable))
-      → (t : State) × EngineMeets g h old (record { core = core; halted = false; past = old.past; sync_room = tt; region_room = tt }) s t (Msync pid addr len mode) reply
-  commit_unread old core s pid addr len mode reply after shows run room device commit made stalled grew now only =
-      let x = Msync pid addr len mode in
-      let new : Engine D E M levels = record { core = core; halted = false; past = old.past; sync_room = tt; region_room = tt } in
-      let n = g.sector_count old.core.store.disk in
-      let meets : EngineMeets g h old new s s x reply = record {
+  commit_unread : reply ≡ Stalled SwapDevice → h.failures old.core.swap.pages.disk < h.failures core.swap.pages.disk → Syncing.CoreShows g core s
+      → (g.keeps_model core.store.disk → LeavesOnly g old.core.store.disk core.store.disk (StandsFor n s.files s.durable)) → (t : State) × EngineMeets g h old (engine false) s t x reply
+  commit_unread stalled grew now only =
+      let durable : stands_in s.ends s.durable s.durable = subst (λ (o : Option (List Pages)). stands_in o s.durable s.durable) (sym run) refl in
+      let meets : EngineMeets g h old (engine false) s s x reply = record {
         step = Stalls SwapDevice run
             (record {
               otherwise = ap is_success (done_of s (ruling s x) after commit);
-              open_to = reads_slots s pid addr len mode after commit;
+              open_to = ap is_some commit;
               cause = grew;
             }) stalled refl;
-        shows = record {
-          pages = now.pages;
-          running = ap is_some run;
-          past = shows.past;
-          stands = λ k c may. (s.durable, subst (λ (o : Option (List Pages)). stands_in o s.durable s.durable) (sym run) refl, now.stands k c may);
-        };
+        shows = record { pages = now.pages; running = ap is_some run; past = shows.past; stands = λ k c may. (s.durable, durable, now.stands k c may) };
         capacity = λ stall e. subst (Calls.FallsShort (frame_count core.frames) (slots_of core.swap).total s x) (stall_is stall (sym stalled ∙ e)) tt;
         room = room;
         size = made.size;
@@ -262,11 +249,11 @@ module _ {M : Type 0} {levels : Levels.Ghosts M} {D E : Type 0} (g : Ghosts D) (
         swap_kept = device.kept;
         idle = λ e. absurd (never_idle s pid addr len mode reply after commit (ap is_denial stalled) e);
         moments = λ k. weaker g old.core.store.disk core.store.disk (StandsFor n s.files s.durable) (StandsForSome n s.files (HoldsIn s x reply))
-            (λ c stands. (s.durable, inl (subst (λ (o : Option (List Pages)). stands_in o s.durable s.durable) (sym run) refl), stands))
-            (only k);
+            (λ c stands. (s.durable, inl durable, stands)) (only k);
       } in
       (s, meets)
 
+module _ {M : Type 0} {levels : Levels.Ghosts M} {D E : Type 0} (g : Ghosts D) (h : Ghosts E) where
   -- what is said of an msync, in a state that memory shows
   pub record Msynced (old core : Core D E M levels) (s : State) (pid addr len : ℕ) (mode : MsyncMode) (reply : Reply) : Type 0 where
     pub passes : commits s (Msync pid addr len mode) ≡ None → (reply ≡ (outcome s (Msync pid addr len mode)).reply) × (core ≡ old)
@@ -288,7 +275,7 @@ module _ {M : Type 0} {levels : Levels.Ghosts M} {D E : Type 0} (g : Ghosts D) (
       let made = told.commits_so some.0 some.1 in
       elim made.end as (λ _. (t : State) × EngineMeets g h old (record { core = core; halted = true; past = old.past; sync_room = tt; region_room = tt }) s t x reply) [
         | Acknowledged done pages now sound ↦ absurd (let never : Done ≡ Refused EIO = sym done ∙ e in cc)
-        | Failed failed grew memory ↦ commit_failed counts_now old core s pid addr len mode reply some.0 shows run room device some.1 (told.back some.0 some.1) made e grew memory
+        | Failed failed grew memory ↦ commit_failed g h old core s pid addr len mode reply some.0 shows run room device some.1 made counts_now (told.back some.0 some.1) e grew memory
         | Unread stalled grew memory now sound only ↦ absurd (let never : Stalled SwapDevice ≡ Refused EIO = sym stalled ∙ e in cc)
       ])
       (none_or_some (commits s x))
@@ -312,9 +299,9 @@ module _ {M : Type 0} {levels : Levels.Ghosts M} {D E : Type 0} (g : Ghosts D) (
       (λ (some : (after : Pages) × (commits s x ≡ Some after)).
       let made = told.commits_so some.0 some.1 in
       elim made.end as (λ _. (t : State) × EngineMeets g h old (record { core = core; halted = false; past = old.past; sync_room = tt; region_room = tt }) s t x reply) [
-        | Acknowledged done pages now sound ↦ commit_done old core s pid addr len mode reply some.0 shows run room device some.1 (told.back some.0 some.1) made done (now (told.back some.0 some.1))
+        | Acknowledged done pages now sound ↦ commit_done g h old core s pid addr len mode reply some.0 shows run room device some.1 made (told.back some.0 some.1) done (now (told.back some.0 some.1))
         | Failed failed grew memory ↦ absurd (otherwise failed)
-        | Unread stalled grew memory now sound only ↦ commit_unread old core s pid addr len mode reply some.0 shows run room device some.1 made stalled grew now only
+        | Unread stalled grew memory now sound only ↦ commit_unread g h old core s pid addr len mode reply some.0 shows run room device some.1 made stalled grew now only
       ])
       (none_or_some (commits s x))
 

@@ -44,7 +44,7 @@ use Rattle.vm_types.specs.Stalls.{MayStall}
 use Rattle.vm_types.specs.State.{State, IsRunning}
 use Rattle.vm_types.specs.Step.{outcome, noted, past_after, ruling, takes}
 use Rattle.vm_types.specs.View.{Pages}
-use Rattle.machine.specs.Engine.{stands_in, MayStand, HoldsIn, StandsForSome, EngineShows, EngineMeets, EngineMayRead}
+use Rattle.machine.specs.Engine.{stands_in, MayStand, HoldsIn, StandsForSome, EngineShows, EngineMeets}
 use Rattle.machine.specs.Accesses.{Accesses}
 use Rattle.machine.specs.declared.engine.Engine.{Engine}
 use Rattle.machine.proofs.Outcomes.{never_stalls}
@@ -69,7 +69,7 @@ same_stall : (stall other : Stall) → Reply.Stalled stall ≡ Reply.Stalled oth
 same_stall stall other e = cc
 
 halted_asks : {M : Type 0} {levels : Levels.Ghosts M} {D E : Type 0} (g : Ghosts D) (h : Ghosts E) (c : Core D E M levels) (pid addr : ℕ) (access : Access) → AsksFor g h c c pid addr access Halted
-halted_asks g h c pid addr access = record { wanted = λ stall e. absurd (no_stall stall e); refused = λ stall e. absurd (no_stall stall e); home = λ e. absurd (no_stall StoreDevice e); read = inl refl; slots = λ none. refl; slotted = slotted_same _ _ (picture_of c); granted = c; tables = λ n table. inl table; calm = λ none. calm_same c pid (addr / 4096); writes = writes_none access c; sectors = asks_same g h c c pid (addr / 4096) access refl refl }
+halted_asks g h c pid addr access = record { wanted = λ stall e. absurd (no_stall stall e); refused = λ stall e. absurd (no_stall stall e); home = λ e. absurd (no_stall StoreDevice e); read = inl refl; slots = λ none. refl; slotted = slotted_same _ _ (picture_of c); granted = c; tables = λ n table. inl table; calm = λ none. calm_same c pid (addr / 4096); writes = writes_none access c; grants = λ done unstalled. absurd (let never : true ≡ false = done in cc); sectors = asks_same g h c c pid (addr / 4096) access refl refl }
 
 module _ {M : Type 0} {levels : Levels.Ghosts M} {D E : Type 0} (g : Ghosts D) (h : Ghosts E) where
   pub halted_accesses : (c : Core D E M levels) (command : Command) → Accesses g h c c command Halted
@@ -262,10 +262,6 @@ module _ {M : Type 0} {levels : Levels.Ghosts M} {D E : Type 0} (g : Ghosts D) (
   pub unswapped : (old core : Core D E M levels) → KeepsDevices old core → UsesDevice h old.swap.pages.disk core.swap.pages.disk
   unswapped old core keeps = unused h old.swap.pages.disk core.swap.pages.disk (ap (λ pages. pages.disk) keeps.pages)
 
-  -- what is asked of a command is asked of the same one
-  pub reads_as : (m : Engine D E M levels) (s : State) (x y : Command) → x ≡ y → EngineMayRead g h m s x → EngineMayRead g h m s y
-  reads_as m s x y same readable = subst (EngineMayRead g h m s) same readable
-
   -- a call that changed nothing
   pub keeps_all : (old core : Core D E M levels) → core ≡ old → KeepsDevices old core
   keeps_all old core same = record { store = ap (λ (o : Core D E M levels). o.store) same; pages = ap (λ (o : Core D E M levels). o.swap.pages) same }
@@ -278,17 +274,6 @@ module _ {M : Type 0} {levels : Levels.Ghosts M} {D E : Type 0} (g : Ghosts D) (
   answered only_now old core halted past s command reply shows run goes_on none kept_past reads device idle room comes =
       subst (λ (b : Bool). (t : State) × EngineMeets g h old (record { core = core; halted = b; past = past; sync_room = tt; region_room = tt }) s t command reply) (sym goes_on)
       (read_meets only_now old core past s command reply shows run reads device kept_past idle room none comes)
-
-  -- what a call says of a machine that runs
-  pub carried : (only_now : OnlyNow g) (old : Engine D E M levels) (core : Core D E M levels) (halted : Bool) (past : Past) (s : State) (command : Command) (reply : Reply)
-      → EngineShows g h old s → old.halted ≡ false → halted ≡ false → takes s (ruling s command) s.durable ≡ s.durable
-      → past ≡ past_after command reply old.past → ReadsStore g old.core.store core.store → UsesDevice h old.core.swap.pages.disk core.swap.pages.disk
-      → (is_idle s command reply ≡ true → KeepsDevices old.core core) → KeepsRoom (picture_of old.core) (picture_of core) → Calls.Carries g h old.core core command reply
-      → EngineMayRead g h (record { core = core; halted = halted; past = past; sync_room = tt; region_room = tt }) s command
-      → (t : State) × EngineMeets g h old (record { core = core; halted = halted; past = past; sync_room = tt; region_room = tt }) s t command reply
-  carried only_now old core halted past s command reply shows run goes_on none kept_past reads device idle room carries readable =
-      answered only_now old core halted past s command reply shows run goes_on none kept_past reads device idle room
-      (carries s (shows_core old s shows (is_running old s shows run)) readable.files readable.slots)
 
   pub stays_halted : (only_now : OnlyNow g) (old : Engine D E M levels) (s : State) (command : Command) → EngineShows g h old s → old.halted ≡ true
       → (t : State) × EngineMeets g h old old s t command Halted

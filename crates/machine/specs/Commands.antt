@@ -7,7 +7,7 @@ use Rattle.machine.specs.Chain.{Caused}
 use Rattle.machine.specs.Counts.{Counts}
 use Rattle.machine.specs.Accesses.{Accesses}
 use Rattle.machine.specs.Engine.{KeepsIfDenied}
-use Rattle.machine.specs.Machine.{store_of, swap_of, InSameMode, IsCausedBetween, KeepsSizes}
+use Rattle.machine.specs.Machine.{store_of, swap_of, InSameMode, IsCausedBetween, IsSoundMachine, KeepsSizes}
 use Rattle.machine.specs.declared.machine.Machine.{Machine}
 
 module _ {D E : Type 0} (g : Ghosts D) (h : Ghosts E) where
@@ -31,6 +31,10 @@ module _ {D E : Type 0} (g : Ghosts D) (h : Ghosts E) where
 
   -- Whatever the devices do, each of the commands in a row does as its reply tells:
   pub record DoesEachAsTold (old new : Machine D E) (replies : List Reply) : Type 0 where
+    -- the machine may go on,
+    pub sound : IsSoundMachine g h new
+    -- its devices, its room and its mode are kept,
+    pub keeps : KeepsModelsAndRoom old new
     -- what the reply names came to pass between the machine before the command and the one after it,
     pub caused : Caused g h old replies new
     -- and devices failed and frames were refused as often as the replies tell.

@@ -1,13 +1,13 @@
 //! The machine of one mode: commands in, replies out, over a store that survives stops.
 ghost use Rattle.std.specs.Prelude.{◌≡◌, ◌≤◌, ◌<◌, ◌↔◌, is_some, true, IfSome, IsNone};
 ghost use Rattle.vm_types.specs.State.{State, IsRunning};
-ghost use Rattle.machine.specs.Engine.{IsSoundEngine, EngineMayRead, EngineShows, EngineMeets};
+ghost use Rattle.machine.specs.Engine.{IsSoundEngine, EngineShows};
 ghost use Rattle.residency.specs.Parts.{IsFit};
 ghost use Rattle.residency.specs.Picture.{picture_of, is_live};
 ghost use Rattle.vm_types.specs.Replies.{reply_of, told};
 ghost use Rattle.vm_types.specs.Step.{noted_fault};
 ghost use Rattle.vm_types.specs.declared.refusal.Fault.{Fault};
-ghost use Rattle.machine.specs.EngineCommands.{EngineDoes, EngineKeeps};
+ghost use Rattle.machine.specs.EngineCommands.{EngineCarriesOut};
 ghost use Rattle.machine.specs.Tidy.{IsTidy};
 
 use crate::fault_log::FaultLog;
@@ -70,11 +70,7 @@ impl<D: SectorDisk, E: SectorDisk, M: Levels> Engine<D, E, M> {
     /// the reply is the history, which `history` returns. It takes no memory of the host.
     pub fn carry_out(&mut self, command: Command) -> Option<Answer>
         requires sound { IsSoundEngine D.SectorDisk E.SectorDisk self.old }
-        ensures sound { IsSoundEngine D.SectorDisk E.SectorDisk self.new }
-        ensures keeps { EngineKeeps D.SectorDisk E.SectorDisk self.old self.new }
-        ensures does { EngineDoes D.SectorDisk E.SectorDisk self.old self.new command (told self.new.past result) }
-        ensures meets { (s : State) → EngineShows D.SectorDisk E.SectorDisk self.old s → EngineMayRead D.SectorDisk E.SectorDisk self.new s command
-            → (t : State) × EngineMeets D.SectorDisk E.SectorDisk self.old self.new s t command (told self.new.past result) }
+        ensures { EngineCarriesOut D.SectorDisk E.SectorDisk self.old self.new command (told self.new.past result) }
     {
         if self.halted {
             return Some(Answer::Halted);
@@ -156,11 +152,7 @@ impl<D: SectorDisk, E: SectorDisk, M: Levels> Engine<D, E, M> {
     /// the machine halts: from then on every command returns `Halted`.
     pub fn step(&mut self, command: Command) -> Reply
         requires sound { IsSoundEngine D.SectorDisk E.SectorDisk self.old }
-        ensures sound { IsSoundEngine D.SectorDisk E.SectorDisk self.new }
-        ensures keeps { EngineKeeps D.SectorDisk E.SectorDisk self.old self.new }
-        ensures does { EngineDoes D.SectorDisk E.SectorDisk self.old self.new command result }
-        ensures meets { (s : State) → EngineShows D.SectorDisk E.SectorDisk self.old s → EngineMayRead D.SectorDisk E.SectorDisk self.new s command
-            → (t : State) × EngineMeets D.SectorDisk E.SectorDisk self.old self.new s t command result }
+        ensures carries { EngineCarriesOut D.SectorDisk E.SectorDisk self.old self.new command result }
         // No bytes are kept of shared anonymous memory that no process has.
         ensures tidy { (s : State) → EngineShows D.SectorDisk E.SectorDisk self.new s → IsRunning s → IsTidy s }
     {

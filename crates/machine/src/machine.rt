@@ -124,8 +124,6 @@ impl<D: SectorDisk, E: SectorDisk> Machine<D, E> {
     pub fn run(&mut self, commands: &[Command], replies: &mut [Reply])
         requires sound { IsSoundMachine D.SectorDisk E.SectorDisk self.old }
         requires lengths { length replies.old ≡ length commands.now }
-        ensures sound { IsSoundMachine D.SectorDisk E.SectorDisk self.new }
-        ensures keeps { KeepsModelsAndRoom D.SectorDisk E.SectorDisk self.old self.new }
         ensures does { DoesEachAsTold D.SectorDisk E.SectorDisk self.old self.new replies.new }
         ensures run { (s : State) → Shows D.SectorDisk E.SectorDisk self.old s → D.keeps_model (store_of self.new) → E.keeps_model (swap_of self.new)
             → Runs D.SectorDisk E.SectorDisk self.old self.new commands.now replies.new s }

@@ -18,6 +18,6 @@ pub use memory::Memory;
 pub use notes::{forget_pages, is_kind, kinds_over, page_over};
 pub use trees::{
     entry, entry_number, last_table, link_table, missing_tables, number_in, prune, set, set_at,
-    set_in, table_of, take_table,
+    set_in, set_kept, table_of, take_table,
 };
-pub use walking::{WalkEnd, keep_at, walk, walk_page};
+pub use walking::{WalkEnd, walk, walk_page};

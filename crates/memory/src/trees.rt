@@ -13,6 +13,7 @@ ghost use Rattle.page_tables.specs.Change.{AddsTable, SetsEntry, LinksTable, Pru
 use crate::memory::Memory;
 use crate::notes::Notes;
 use crate::{PLACES, TranslationBuffer};
+use frames::Frames;
 use page_tables::Entry;
 use sv39_walk::{Pte, TABLE_ENTRIES};
 use vm_types::{FrameNo, Levels, NoFree, Vpn};
@@ -94,6 +95,50 @@ pub fn set_at<M: Levels>(
     let index = (page.get() % TABLE_ENTRIES) as usize;
     page_tables::set_in(&mut memory.frames, table, index, entry);
     after_set(&mut memory.buffer, &mut memory.notes, root, page, entry);
+}
+
+/// The same, and a leaf is kept at once, so that the next walk to the page finds its line.
+pub fn set_kept<M: Levels>(
+    memory: &mut Memory<M>,
+    root: FrameNo,
+    page: Vpn,
+    table: FrameNo,
+    entry: Entry,
+)
+    requires forest { IsForest memory.old }
+    requires root { IsRoot (top_level M.mode) memory.old root.0 }
+    requires user { page < user_end M.mode }
+    requires table { IsTableOf memory.old (top_level M.mode) root.0 (page / table_entries) table.0 }
+    requires form { IsEntry entry }
+    ensures sets { SetsEntry memory.old memory.new (top_level M.mode) root.0 page (number_of entry) }
+    ensures sound { IsSound memory.new }
+{
+    set_at(memory, root, page, table, entry);
+    keep_entry::<M>(&memory.frames, &mut memory.buffer, root, page, entry);
+    let _ = memory.len();
+}
+
+// Keeps what the tree says of a page, where that is a leaf over a frame of memory.
+fn keep_entry<M: Levels>(
+    frames: &Frames,
+    buffer: &mut TranslationBuffer,
+    root: FrameNo,
+    page: Vpn,
+    entry: Entry,
+)
+    requires forest { IsForest frames.now }
+    requires root { IsRoot (top_level M.mode) frames.now root.0 }
+    requires user { page < user_end M.mode }
+    requires form { IsEntry entry }
+    requires stands { page_entry frames.now (top_level M.mode) root.0 page ≡ number_of entry }
+    requires kept { LinesAreLeaves M.mode frames.now buffer.old }
+    ensures { LinesAreLeaves M.mode frames.now buffer.new }
+{
+    if let Entry::Leaf(leaf) = entry {
+        if leaf.frame() < u64::from(frames.len()) {
+            buffer.keep(root, page, leaf);
+        }
+    }
 }
 
 // What else changes when a page's entry is set: the page's line is dropped, and the page is noted.

@@ -80,31 +80,6 @@ pub fn walk_page<M: Levels>(
     }
 }
 
-/// Keeps the leaf of a user page of the mode where it lets the access go through, so that the next walk to the page finds its line. The
-/// lowest table on the page's way is known. Memory stays as it is.
-pub fn keep_at<M: Levels>(
-    memory: &mut Memory<M>,
-    root: FrameNo,
-    page: Vpn,
-    table: FrameNo,
-    access: Access,
-)
-    requires forest { IsForest memory.old }
-    requires root { IsRoot (top_level M.mode) memory.old root.0 }
-    requires user { page < user_end M.mode }
-    requires table { IsTableOf memory.old (top_level M.mode) root.0 (page / table_entries) table.0 }
-    ensures same { memory.new ≡ memory.old }
-{
-    let _ = keep_leaf::<M>(
-        &memory.frames,
-        &mut memory.buffer,
-        root,
-        page,
-        table,
-        access,
-    );
-}
-
 // The walk to a page that has no line.
 fn walk_way<M: Levels>(
     frames: &Frames,

@@ -33,6 +33,10 @@ fn put(rt: &impl Abort, cache: &mut PageCache, page: PageKey, place: Place, touc
     } else {
         cache.clean(page);
     }
+    if let Place::Frame(n) = place {
+        assert!(rt; n.0 < cache.frames());
+        assert!(rt; cache.is_frame_touched(n) == touched);
+    }
 }
 
 #[test]

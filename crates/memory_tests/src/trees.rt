@@ -9,8 +9,8 @@ use crate::bench::equal;
 use bitflags::Flags;
 use frames::Role;
 use memory::{
-    Memory, entry, entry_number, keep_at, link_table, missing_tables, number_in, prune, set,
-    set_in, table_of, take_table, walk,
+    Memory, entry, entry_number, link_table, missing_tables, number_in, prune, set, set_in,
+    set_kept, table_of, take_table, walk,
 };
 use page_tables::{Entry, Grant, entry_over};
 use std::alloc::{AllocError, Global};
@@ -161,9 +161,14 @@ fn clear<M: Levels>(rt: &impl Abort, memory: &mut Memory<M>, root: FrameNo, page
 fn tables_are_given_back<M: Levels>(rt: &impl Abort, alloc: Global) -> Result<(), Fail> {
     let mut tree = plant_tree::<M>(rt, alloc)?;
     assert!(rt; missing_tables(&tree.memory, tree.root, tree.page) == 0);
-    set(&mut tree.memory, tree.root, tree.page, checked(rt, FIFTH));
     let table = table_of(&tree.memory, tree.root, tree.page).expect(rt, "a lowest table");
-    keep_at(&mut tree.memory, tree.root, tree.page, table, Access::Load);
+    set_kept(
+        &mut tree.memory,
+        tree.root,
+        tree.page,
+        table,
+        checked(rt, FIFTH),
+    );
     walk_twice(rt, &mut tree.memory, tree.root, Ok(21383), 2);
     clear(rt, &mut tree.memory, tree.root, tree.page);
     walk_twice(rt, &mut tree.memory, tree.root, NOWHERE, 2);

@@ -72,14 +72,6 @@ over a b c x y u v from_a from_b f g = record {
       (cases_lt j v);
 }
 
-pub over_wider : (a c : FilePage → Bool) (x : List FilePage) (u : ℕ) → ((p : FilePage) → a p ≡ true → c p ≡ true) → OverflowsRow a x u → OverflowsRow c x u
-over_wider a c x u from g = record {
-  at = g.at;
-  kept = g.kept;
-  each = λ i low high. from (g.at i) (g.each i low high);
-  once = g.once;
-}
-
 -- where the list was empty, all of it was appended
 pub listed : (a : FilePage → Bool) (x y : List FilePage) (n : ℕ) → Appends a x y 0 n → ListsTouched a y n
 listed a x y n f = record {

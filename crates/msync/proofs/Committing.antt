@@ -44,11 +44,10 @@ use Rattle.residency.specs.Seats.{InFrame}
 use Rattle.residency.specs.Picture.{Picture, picture_of, entry, held, is_private}
 use Rattle.residency.specs.Parts.{IsFit}
 use Rattle.residency.specs.Shows.{ShowsPages}
-use Rattle.msync.specs.Choice.{Chosen}
+use Rattle.msync.specs.Choice.{Chosen, chosen_page, ListsTouched, TakesSame, IsListedPage, IsAway}
 use Rattle.msync.specs.declared.chosen.Residence.{Residence}
 use Rattle.msync.specs.declared.chosen.Residence.TheVariants.{Framed, Slotted}
 use Rattle.msync.specs.declared.chosen.Spot.{Spot}
-use Rattle.msync.specs.Choice.{chosen_page, ListsTouched, TakesSame, IsListedPage, IsAway}
 use Rattle.msync.specs.Core.{KeepsMemory, IsEnd, Acknowledged, Failed, Unread, Commits}
 use Rattle.msync.specs.Spots.{spot_at, place_at, bytes_there, IsSlotted, HasSlot, AreSpots, HasSpots}
 use Rattle.msync.specs.Settling.{settled_place, settled_in, Settles, LosesDirtyOnly, ComesHome, SettlesMemory, SettlesPlaces}
@@ -379,31 +378,12 @@ module _ {mode : ℕ} where
   abbrev pub with_store : Picture mode → SlotTable → Directory → Picture mode
   with_store c t d = record c { slots = t; files = λ f. option_map (λ e. e.info) (entry_of d f) }
 
--- the same slots and files
-pub fit_store : {mode : ℕ} (c : Picture mode) (t t' : SlotTable) (d d' : Directory) → t' ≡ t → d' ≡ d → IsFit (with_store c t d) → IsFit (with_store c t' d')
-fit_store c t t' d d' slots files fit =
-    let P : SlotTable → Type 0 = λ x. IsFit (with_store c x d) in
-    let Q : Directory → Type 0 = λ x. IsFit (with_store c t' x) in
-    subst Q (sym files) (subst P (sym slots) fit)
-
-pub spots_store : {mode : ℕ} (c : Picture mode) (t t' : SlotTable) (d d' : Directory) (list : List Spot) → t' ≡ t → d' ≡ d → AreSpots (with_store c t d) list → AreSpots (with_store c t' d') list
-spots_store c t t' d d' list slots files spots =
-    let P : SlotTable → Type 0 = λ x. AreSpots (with_store c x d) list in
-    let Q : Directory → Type 0 = λ x. AreSpots (with_store c t' x) list in
-    subst Q (sym files) (subst P (sym slots) spots)
-
-pub shows_store : {mode : ℕ} (c : Picture mode) (t t' : SlotTable) (d d' : Directory) (s : State) → t' ≡ t → d' ≡ d → ShowsPages (with_store c t d) s → ShowsPages (with_store c t' d') s
-shows_store c t t' d d' s slots files shows =
-    let P : SlotTable → Type 0 = λ x. ShowsPages (with_store c x d) s in
-    let Q : Directory → Type 0 = λ x. ShowsPages (with_store c t' x) s in
-    subst Q (sym files) (subst P (sym slots) shows)
-
--- and what is settled over them
-pub settles_store : {mode : ℕ} (c n : Picture mode) (t t' : SlotTable) (d d' : Directory) (list : List Spot) (k : ℕ) → t' ≡ t → d' ≡ d → Settles (with_store c t' d') n list k → Settles (with_store c t d) n list k
-settles_store c n t t' d d' list k slots files settles =
-    let P : SlotTable → Type 0 = λ x. Settles (with_store c x d) n list k in
-    let Q : Directory → Type 0 = λ x. Settles (with_store c t' x) n list k in
-    subst P slots (subst Q files settles)
+-- what holds of memory holds of it with the same slots and files
+pub store_same : {mode : ℕ} (P : Picture mode → Type 0) (c : Picture mode) (t t' : SlotTable) (d d' : Directory) → t' ≡ t → d' ≡ d → P (with_store c t d) → P (with_store c t' d')
+store_same P c t t' d d' slots files p =
+    let Q : SlotTable → Type 0 = λ x. P (with_store c x d) in
+    let R : Directory → Type 0 = λ x. P (with_store c t' x) in
+    subst R (sym files) (subst Q (sym slots) p)
 
 module _ {D : Type 0} (g : Ghosts D) where
   -- what the store's commit says of these contents, as long as its source kept its model

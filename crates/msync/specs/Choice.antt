@@ -14,7 +14,7 @@ use Rattle.vm_types.specs.Checks.{page_count}
 use Rattle.vm_types.specs.Counting.{any_below}
 use Rattle.vm_types.specs.Msync.{msync_ruling, touched_in, is_shared_page}
 use Rattle.vm_types.specs.Msync as Flat
-use Rattle.vm_types.specs.Rows.{in_row}
+use Rattle.vm_types.specs.Rows.{IsUserMap, in_row}
 use Rattle.vm_types.specs.State.{State}
 use Rattle.page_cache.specs.declared.place.Place.TheVariants.{Slot}
 use Rattle.residency.specs.Picture.{Picture}
@@ -55,6 +55,12 @@ of_files touched page = touched (File page)
 -- of pages of files none that no file is long enough for
 abbrev pub AreInFiles : (FilePage → Bool) → Type 0
 AreInFiles touched = (page : FilePage) → touched page ≡ true → page.page < file_page_limit
+
+-- Pages may be chosen among these: a process has user pages alone, and no touched page is one that no file is long enough for.
+module _ (mode : ℕ) where
+  pub record MayBeChosen (map : ℕ → Option Attr) (touched : FilePage → Bool) : Type 0 where
+    pub user : IsUserMap mode map
+    pub inside : AreInFiles touched
 
 -- the same of touched file pages alone
 abbrev pub is_taken_behind : (FilePage → Bool) → Backing → ℕ → FilePage → Bool

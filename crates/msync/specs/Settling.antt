@@ -14,11 +14,12 @@ use Rattle.page_cache.specs.declared.place.Place.{Place}
 use Rattle.page_cache.specs.declared.place.Place.TheVariants.{Home, Frame, Slot}
 use Rattle.residency.specs.declared.kernel.Core.{Core}
 use Rattle.residency.specs.Ages.{KeepsRoles}
-use Rattle.residency.specs.Picture.{Picture, entry, view, held, is_private}
+use Rattle.residency.specs.Parts.{IsFit}
+use Rattle.residency.specs.Picture.{Picture, picture_of, entry, view, held, is_private}
 use Rattle.msync.specs.declared.chosen.Residence.{Residence}
 use Rattle.msync.specs.declared.chosen.Residence.TheVariants.{Framed, Slotted}
 use Rattle.msync.specs.declared.chosen.Spot.{Spot}
-use Rattle.msync.specs.Spots.{spot_at}
+use Rattle.msync.specs.Spots.{spot_at, IsSpot, IsSlotted, HasSlot}
 
 module _ {M : Type 0} {m : Levels.Ghosts M} {D E : Type 0} where
   -- all but frames, places and the shares of slots is as it was, and no device was asked
@@ -94,6 +95,31 @@ module _ {mode : ℕ} where
     pub untouched : (p : PageKey) → ((i : ℕ) → i < n → File (spot_at list i).page ≢ p) → new.touched p ≡ old.touched p
     pub settled : (i : ℕ) → i < n → held new (File (spot_at list i).page) ≡ settled_bytes old (spot_at list i)
     pub kept : (p : PageKey) → ((i : ℕ) → i < n → File (spot_at list i).page ≢ p) → held new p ≡ held old p
+
+-- A page may be settled: memory is fit, and the page lies there.
+module _ {mode : ℕ} where
+  pub record IsSettleable (c : Picture mode) (spot : Spot) : Type 0 where
+    pub fit : IsFit c
+    pub lies : IsSpot c spot
+    pub open lies use *
+
+module _ {M : Type 0} {m : Levels.Ghosts M} {D E : Type 0} where
+  -- A page that was committed is settled, and memory with it:
+  pub record SettlesPage (old new : Core D E M m) (spot : Spot) : Type 0 where
+    -- it is fit still,
+    pub fit : IsFit (picture_of new)
+    -- nothing but frames, places and the shares of slots is otherwise, and slots only where the page lay in one,
+    pub beside : KeepsBesidePages old new
+    pub swap : (new.swap ≡ old.swap) ⊎ IsSlotted spot.at
+    -- and the page is touched no more.
+    pub settles : SettlesOne (picture_of old) (picture_of new) spot
+
+  -- All pages of a list that were committed are settled, likewise.
+  pub record SettlesPages (old new : Core D E M m) (list : List Spot) : Type 0 where
+    pub fit : IsFit (picture_of new)
+    pub beside : KeepsBesidePages old new
+    pub swap : (new.swap ≡ old.swap) ⊎ HasSlot list
+    pub settles : Settles (picture_of old) (picture_of new) list (length list)
 
 -- A leaf over the frame of a file page that was touched, and is no more, lost D. It is no process's own copy.
 module _ {mode : ℕ} where

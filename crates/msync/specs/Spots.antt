@@ -1,5 +1,5 @@
 -- Where touched pages lie, and what is read there.
-use Rattle.std.specs.Prelude.{◌≡◌, ◌≢◌, ◌⊎◌, ℕ, ◌<◌, ◌≤◌, List, length, get_or}
+use Rattle.std.specs.Prelude.{◌≡◌, ◌≢◌, ◌⊎◌, ℕ, ◌<◌, ◌≤◌, true, List, length, get_or}
 use Rattle.vm_types.specs.declared.file.FilePage.{FilePage}
 use Rattle.vm_types.specs.declared.object.PageKey.TheVariants.{File}
 use Rattle.vm_types.specs.declared.number.FrameNo.{FrameNo}
@@ -11,6 +11,7 @@ use Rattle.swap.specs.declared.slots.Swap.{Swap}
 use Rattle.swap.specs.Slots.{SlotTable, slots_of, IsInUse, IsReady, IsSectorOfSlot}
 use Rattle.page_cache.specs.declared.place.Place.{Place}
 use Rattle.page_cache.specs.declared.place.Place.TheVariants.{Frame, Slot}
+use Rattle.residency.specs.Parts.{IsFit}
 use Rattle.residency.specs.Picture.{Picture}
 use Rattle.msync.specs.declared.chosen.Residence.{Residence}
 use Rattle.msync.specs.declared.chosen.Residence.TheVariants.{Framed, Slotted}
@@ -57,6 +58,12 @@ IsSectorThere (Slotted s) k = IsSectorOfSlot s.0 k
 -- a sector of a slot that a page of the list lies in
 abbrev pub IsSectorOfSpots : List Spot → ℕ → Type 0
 IsSectorOfSpots list k = (i : ℕ) × (i < length list) × IsSectorThere (spot_at list i).at k
+
+-- memory is fit, and the file page touched in it, so that it lies in a frame or a slot
+module _ {mode : ℕ} where
+  pub record HoldsTouched (c : Picture mode) (page : FilePage) : Type 0 where
+    pub fit : IsFit c
+    pub touched : c.touched (File page) ≡ true
 
 -- the file page lies there
 module _ {mode : ℕ} where

@@ -13,15 +13,17 @@ use Rattle.vm_types.specs.declared.refusal.Stall.{Stall}
 use Rattle.vm_types.specs.declared.refusal.Stall.TheVariants.{SwapDevice}
 use Rattle.vm_types.specs.declared.reply.Answer.{Answer}
 use Rattle.vm_types.specs.declared.reply.Answer.TheVariants.{Refused, Stalled}
+use Rattle.disk_model.specs.Moments.{AsksOnly}
 use Rattle.disk_model.specs.declared.sector_disk.SectorDisk.{Ghosts}
+use Rattle.sync_journal.specs.Kinds.{IsStoreUsed}
 use Rattle.frames.specs.FrameTable.{frame_count}
 use Rattle.swap.specs.Slots.{slots_of, IsReady}
 use Rattle.residency.specs.declared.kernel.Core.{Core}
 use Rattle.residency.specs.Picture.{picture_of}
 use Rattle.residency.specs.Parts.{IsFit}
 use Rattle.residency.specs.Calls.{UsesDevice}
-use Rattle.msync.specs.Asking.{AsksToCommit}
-use Rattle.msync.specs.Choice.{TakesAway}
+use Rattle.msync.specs.Asking.{AsksToCommit, IsSectorListed}
+use Rattle.msync.specs.Choice.{Chosen, IsAway, TakesAway, TakesSame}
 use Rattle.msync.specs.Core.{Commits, GivesBack}
 use Rattle.msync.specs.Settling.{SettlesMemory}
 use Rattle.msync.specs.Shows.{IsSoundCore, CoreShows}
@@ -50,6 +52,19 @@ module _ {M : Type 0} {m : Levels.Ghosts M} {D E : Type 0} (g : Ghosts D) (h : G
     pub still : ((stall : Stall) → result ≢ Stalled stall) → h.failures new.swap.pages.disk ≡ h.failures old.swap.pages.disk
     -- and no stall for a frame is counted.
     pub refused : new.refused ≡ old.refused
+
+  -- A commit of these pages:
+  pub record CommitsListed (old new : Core D E M m) (chosen : Chosen) (result : Answer) : Type 0 where
+    -- it makes durable what the flat model does, as long as slots gave back what was put;
+    pub commits : (s : State) (after : Pages) (pid addr len : ℕ) (mode : MsyncMode) → CoreShows g old s → commits s (Msync pid addr len mode) ≡ Some after
+        → TakesSame s pid addr len mode chosen
+        → Commits g h (IsAway (picture_of old) chosen → h.keeps_model new.swap.pages.disk) old new s after (Msync pid addr len mode) (reply_of result)
+    pub ends : EndsCommit (IsAway (picture_of old) chosen) old new result
+    -- it asks the devices for what these pages and the store's journal want, and for nothing else;
+    pub asks_store : AsksOnly g (IsStoreUsed old.store.journal) old.store.disk new.store.disk
+    pub asks_slots : AsksOnly h (IsSectorListed (picture_of old) chosen) old.swap.pages.disk new.swap.pages.disk
+    -- and it is refused only where the store failed.
+    pub answers : (errno : Errno) → result ≡ Refused errno → errno ≡ EIO
 
   -- An msync of so many bytes of a process, from that address on:
   pub record SyncsBytes (old new : Core D E M m) (pid addr len : ℕ) (mode : MsyncMode) (result : Answer) : Type 0 where

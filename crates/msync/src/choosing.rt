@@ -2,14 +2,13 @@
 ghost use Rattle.std.specs.Prelude.{◌≡◌, ◌≤◌, ◌<◌, ◌+◌, ◌-◌, ◌^◌, ℕ, IfOk, OnErr};
 ghost use Rattle.vm_types.specs.Limits.{msync_pages};
 ghost use Rattle.vm_types.specs.Attributes.{backing_fits};
-ghost use Rattle.vm_types.specs.Rows.{IsUserMap};
 ghost use Rattle.vm_types.specs.State.{State};
 ghost use Rattle.regions.specs.RunList.{attr_at};
 ghost use Rattle.page_cache.specs.CacheTable.{is_touched};
 ghost use Rattle.residency.specs.Picture.{picture_of};
 ghost use Rattle.residency.specs.Parts.{IsFit};
 ghost use Rattle.residency.specs.Shows.{ShowsPages};
-ghost use Rattle.msync.specs.Choice.{of_files, is_taken_behind, is_chosen, AreInFiles, Appends, OverflowsRow, IsRulingOn, RulesSame, AreListed, AreTaken, IsNoDeviceFault};
+ghost use Rattle.msync.specs.Choice.{of_files, is_taken_behind, is_chosen, AreInFiles, MayBeChosen, Appends, OverflowsRow, IsRulingOn, RulesSame, AreListed, AreTaken, IsNoDeviceFault};
 
 use crate::chosen::{Ruling, SyncCall};
 use page_cache::{PageCache, TooMany};
@@ -68,8 +67,7 @@ fn choose<M: Levels>(
     list: &mut [FilePage; MSYNC_PAGES],
 ) -> Ruling
     requires room { first + count < 2 ^ 64 }
-    requires user { IsUserMap M.mode (attr_at regions.now) }
-    requires inside { AreInFiles (of_files (is_touched cache.now)) }
+    requires pages { MayBeChosen M.mode (attr_at regions.now) (of_files (is_touched cache.now)) }
     ensures { IsRulingOn (is_chosen (of_files (is_touched cache.now)) (attr_at regions.now) first count) list.new result }
 {
     match choose_between(regions, cache, first, first + count, list) {
@@ -89,8 +87,7 @@ fn choose_between<M: Levels>(
     list: &mut [FilePage; MSYNC_PAGES],
 ) -> Result<usize, TooMany>
     requires order { first ≤ end }
-    requires user { IsUserMap M.mode (attr_at regions.now) }
-    requires inside { AreInFiles (of_files (is_touched cache.now)) }
+    requires pages { MayBeChosen M.mode (attr_at regions.now) (of_files (is_touched cache.now)) }
     ensures ok { IfOk result (Appends (is_chosen (of_files (is_touched cache.now)) (attr_at regions.now) first (end - first)) list.old list.new 0) }
     ensures too_many { OnErr result (OverflowsRow (is_chosen (of_files (is_touched cache.now)) (attr_at regions.now) first (end - first)) list.old 0) }
 {

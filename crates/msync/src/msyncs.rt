@@ -1,26 +1,14 @@
 //! msync: file pages made durable through the store.
-ghost use Rattle.std.specs.Prelude.{◌≡◌, ◌≤◌, ◌<◌, ℕ, true, Some, length, take};
+ghost use Rattle.std.specs.Prelude.{◌≡◌, ◌≤◌, ◌<◌, ℕ, true, length, take};
 ghost use Rattle.vm_types.specs.Limits.{msync_pages};
-ghost use Rattle.vm_types.specs.Replies.{reply_of};
-ghost use Rattle.vm_types.specs.State.{State};
-ghost use Rattle.vm_types.specs.Step.{commits};
-ghost use Rattle.vm_types.specs.View.{Pages};
-ghost use Rattle.vm_types.specs.declared.command.Command.TheVariants.{Msync};
-ghost use Rattle.vm_types.specs.declared.refusal.Errno.{Errno};
-ghost use Rattle.vm_types.specs.declared.refusal.Errno.TheVariants.{EIO};
-ghost use Rattle.vm_types.specs.declared.command.MsyncMode.{MsyncMode as Mode};
 ghost use Rattle.vm_types.specs.declared.object.PageKey.TheVariants.{File};
-ghost use Rattle.disk_model.specs.Moments.{AsksOnly};
-ghost use Rattle.sync_journal.specs.Kinds.{IsStoreUsed};
 ghost use Rattle.swap.specs.Slots.{slots_of};
 ghost use Rattle.residency.specs.Picture.{picture_of};
 ghost use Rattle.residency.specs.Parts.{IsFit};
-ghost use Rattle.msync.specs.SyncEnds.{EndsCommit, SyncsBytes};
-ghost use Rattle.msync.specs.Asking.{IsSectorListed};
-ghost use Rattle.msync.specs.Choice.{chosen_of, IsListedPage, TakesSame, IsAway, chosen_page};
-ghost use Rattle.msync.specs.Core.{Commits};
-ghost use Rattle.msync.specs.Shows.{IsSoundCore, CoreShows};
-ghost use Rattle.msync.specs.Spots.{HasSpots, IsSpot, bytes_there};
+ghost use Rattle.msync.specs.SyncEnds.{CommitsListed, SyncsBytes};
+ghost use Rattle.msync.specs.Choice.{chosen_of, IsListedPage, chosen_page};
+ghost use Rattle.msync.specs.Shows.{IsSoundCore};
+ghost use Rattle.msync.specs.Spots.{HasSpots, HoldsTouched, IsSpot, bytes_there};
 
 use crate::choosing::rule;
 use crate::chosen::{Residence, Ruling, Spot, SyncCall};
@@ -82,13 +70,7 @@ fn commit<D: SectorDisk, E: SectorDisk, M: Levels>(
 ) -> Answer
     requires sound { IsSoundCore D.SectorDisk E.SectorDisk core.old }
     requires listed { IsListedPage (picture_of core.old) (chosen_of list.now count) }
-    ensures commits { (s : State) (after : Pages) (pid addr len : ℕ) (mode : Mode) → CoreShows D.SectorDisk core.old s
-        → commits s (Msync pid addr len mode) ≡ Some after → TakesSame s pid addr len mode (chosen_of list.now count)
-        → Commits D.SectorDisk E.SectorDisk (IsAway (picture_of core.old) (chosen_of list.now count) → E.keeps_model core.new.swap.pages.disk) core.old core.new s after (Msync pid addr len mode) (reply_of result) }
-    ensures ends { EndsCommit D.SectorDisk E.SectorDisk (IsAway (picture_of core.old) (chosen_of list.now count)) core.old core.new result }
-    ensures asks_store { AsksOnly D.SectorDisk (IsStoreUsed core.old.store.journal) core.old.store.disk core.new.store.disk }
-    ensures asks_slots { AsksOnly E.SectorDisk (IsSectorListed (picture_of core.old) (chosen_of list.now count)) core.old.swap.pages.disk core.new.swap.pages.disk }
-    ensures answers { (errno : Errno) → result ≡ Answer.Refused errno → errno ≡ EIO }
+    ensures { CommitsListed D.SectorDisk E.SectorDisk core.old core.new (chosen_of list.now count) result }
 {
     let list = &list[..count];
     fill_spots(core, list, spots);
@@ -126,8 +108,7 @@ fn fill_spots<D, E, M: Levels>(
 
 /// The place that a touched page lies in.
 fn spot_of<D, E, M: Levels>(core: &Core<D, E, M>, page: FilePage) -> Spot
-    requires fit { IsFit (picture_of core.now) }
-    requires touched { (picture_of core.now).touched (File page) ≡ true }
+    requires { HoldsTouched (picture_of core.now) page }
     ensures spot { IsSpot (picture_of core.now) result }
     ensures whole { length (bytes_there core.now.frames (slots_of core.now.swap) result.at) ≡ 4096 }
     ensures page { result.page ≡ page }

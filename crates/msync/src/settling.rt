@@ -1,14 +1,12 @@
 //! What memory is after a commit: its pages are as they stand in the store, and touched no more.
-ghost use Rattle.std.specs.Prelude.{◌≡◌, ◌⊎◌, ◌≤◌, ◌<◌, ℕ, ◌++◌, Some, length, take, replicate};
-ghost use Rattle.vm_types.specs.declared.object.PageKey.TheVariants.{File};
+ghost use Rattle.std.specs.Prelude.{◌≡◌, ◌≤◌, length, replicate};
 ghost use Rattle.vm_types.specs.Files.{inside_of, cut};
-ghost use Rattle.frames.specs.FrameTable.{IsFrame, bytes_of, with_bytes};
-ghost use Rattle.page_cache.specs.declared.place.Place.TheVariants.{Frame, Slot};
+ghost use Rattle.frames.specs.FrameTable.{bytes_of, with_bytes};
 ghost use Rattle.residency.specs.Picture.{picture_of};
 ghost use Rattle.residency.specs.Parts.{IsFit};
 ghost use Rattle.residency.specs.Leaves.{KeepsAllButFrames};
-ghost use Rattle.msync.specs.Spots.{framed_at, slotted_at, spot_at, IsSpot, AreSpots, IsSlotted, HasSlot};
-ghost use Rattle.msync.specs.Settling.{KeepsBesidePages, SettlesOne, Settles};
+ghost use Rattle.msync.specs.Spots.{framed_at, slotted_at, AreSpots};
+ghost use Rattle.msync.specs.Settling.{IsSettleable, SettlesPage, SettlesPages};
 
 use crate::chosen::{Residence, Spot};
 use disk_model::SectorDisk;
@@ -21,10 +19,7 @@ use vm_types::{FilePage, FrameNo, Levels, PageKey, SlotNo};
 pub(crate) fn settle<D: SectorDisk, E, M: Levels>(core: &mut Core<D, E, M>, spots: &[Spot])
     requires fit { IsFit (picture_of core.old) }
     requires spots { AreSpots (picture_of core.old) spots.now }
-    ensures fit { IsFit (picture_of core.new) }
-    ensures beside { KeepsBesidePages core.old core.new }
-    ensures swap { (core.new.swap ≡ core.old.swap) ⊎ HasSlot spots.now }
-    ensures settles { Settles (picture_of core.old) (picture_of core.new) spots.now (length spots.now) }
+    ensures { SettlesPages core.old core.new spots.now }
 {
     for i in 0..spots.len() {
         settle_one(core, spots[i]);
@@ -33,12 +28,8 @@ pub(crate) fn settle<D: SectorDisk, E, M: Levels>(core: &mut Core<D, E, M>, spot
 
 /// The same of one page.
 fn settle_one<D: SectorDisk, E, M: Levels>(core: &mut Core<D, E, M>, spot: Spot)
-    requires fit { IsFit (picture_of core.old) }
-    requires spot { IsSpot (picture_of core.old) spot }
-    ensures fit { IsFit (picture_of core.new) }
-    ensures beside { KeepsBesidePages core.old core.new }
-    ensures swap { (core.new.swap ≡ core.old.swap) ⊎ IsSlotted spot.at }
-    ensures settles { SettlesOne (picture_of core.old) (picture_of core.new) spot }
+    requires { IsSettleable (picture_of core.old) spot }
+    ensures { SettlesPage core.old core.new spot }
 {
     match spot.at {
         Residence::Framed(frame) => settle_in_frame(core, spot.page, frame),
@@ -52,13 +43,8 @@ fn settle_in_frame<D: SectorDisk, E, M: Levels>(
     page: FilePage,
     frame: FrameNo,
 )
-    requires fit { IsFit (picture_of core.old) }
-    requires placed { (picture_of core.old).place (File page) ≡ Frame frame }
-    requires inside { IsFrame core.old.frames frame.0 }
-    ensures fit { IsFit (picture_of core.new) }
-    ensures beside { KeepsBesidePages core.old core.new }
-    ensures swap { core.new.swap ≡ core.old.swap }
-    ensures settles { SettlesOne (picture_of core.old) (picture_of core.new) (framed_at page frame) }
+    requires { IsSettleable (picture_of core.old) (framed_at page frame) }
+    ensures { SettlesPage core.old core.new (framed_at page frame) }
 {
     cut_tail(core, page, frame);
     change_leaves(core, frame, Change::ClearDirty);
@@ -67,11 +53,8 @@ fn settle_in_frame<D: SectorDisk, E, M: Levels>(
 
 /// The same of a page in a slot, which is given back.
 fn settle_in_slot<D, E, M: Levels>(core: &mut Core<D, E, M>, page: FilePage, slot: SlotNo)
-    requires fit { IsFit (picture_of core.old) }
-    requires placed { (picture_of core.old).place (File page) ≡ Slot slot }
-    ensures fit { IsFit (picture_of core.new) }
-    ensures beside { KeepsBesidePages core.old core.new }
-    ensures settles { SettlesOne (picture_of core.old) (picture_of core.new) (slotted_at page slot) }
+    requires { IsSettleable (picture_of core.old) (slotted_at page slot) }
+    ensures { SettlesPage core.old core.new (slotted_at page slot) }
 {
     core.cache.clean(PageKey::File(page));
     core.cache.set_place(PageKey::File(page), Place::Home);
@@ -80,9 +63,7 @@ fn settle_in_slot<D, E, M: Levels>(core: &mut Core<D, E, M>, page: FilePage, slo
 
 /// Bytes past the end of a page's file become zero in its frame.
 fn cut_tail<D: SectorDisk, E, M: Levels>(core: &mut Core<D, E, M>, page: FilePage, frame: FrameNo)
-    requires fit { IsFit (picture_of core.old) }
-    requires placed { (picture_of core.old).place (File page) ≡ Frame frame }
-    requires inside { IsFrame core.old.frames frame.0 }
+    requires { IsSettleable (picture_of core.old) (framed_at page frame) }
     ensures fit { IsFit (picture_of core.new) }
     ensures beside { KeepsAllButFrames core.old core.new }
     ensures cuts { core.new.frames ≡ with_bytes core.old.frames frame.0

@@ -87,15 +87,6 @@ count-at_most (suc m) f passes c all =
     let less = count-at_most m f (without passes (f m)) c rest in
     omega (arith, less, without-less passes (f m) c)
 
--- some number below the limit passes
-pub any_below-some : (passes : ℕ → Bool) (n : ℕ) → any_below passes n ≡ true → (i : ℕ) × (i < n) × (passes i ≡ true)
-unfolding any_below
-any_below-some passes zero e = absurd (both_ways false refl e)
-any_below-some passes (suc n) e = elim (cases_Bool (passes n)) [
-  | inl here ↦ (n, omega arith, here)
-  | inr fails ↦ (let rest = any_below-some passes n (rw fails at e) in (rest.0, omega (arith, rest.1), rest.2))
-]
-
 pub any_below-none : (passes : ℕ → Bool) (n : ℕ) → ((i : ℕ) → i < n → passes i ≡ false) → any_below passes n ≡ false
 unfolding any_below
 any_below-none passes zero none = refl

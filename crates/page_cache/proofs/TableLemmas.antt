@@ -130,15 +130,6 @@ SameButFor-node old new page n frames nodes found other marks = record {
   ];
 }
 
--- one call after another on the same page
-pub SameButFor-then : (page : PageKey) (a b c : CacheTable) → SameButForPage page a b → SameButForPage page b c → SameButForPage page a c
-SameButFor-then page a b c first second = record {
-  frames = second.frames ∙ first.frames;
-  slots = second.slots ∙ first.slots;
-  places = λ p ne. second.places p ne ∙ first.places p ne;
-  touched = λ p ne. second.touched p ne ∙ first.touched p ne;
-}
-
 -- a change of the marks alone, at the node of the page
 pub SameButFor-marks : (frames : ℕ) (pages : List (Option PageKey)) (before after : List Bool) (page : PageKey) (n : ℕ) → page_at pages n ≡ Some page
     → ((m : ℕ) → m ≢ n → get_or after m false ≡ get_or before m false)

@@ -1,5 +1,5 @@
 -- Lists of the touched pages of rows: a row is so many pages of one file, from some page on.
-use Rattle.std.specs.Prelude.{◌≡◌, ◌≢◌, ℕ, ◌+◌, ◌<◌, ◌≤◌, ◌⊎◌, Bool, true, not, ◌&&◌, List, Option, Some, None, slice_index_or, slice_set}
+use Rattle.std.specs.Prelude.{◌≡◌, ◌≢◌, ℕ, ◌+◌, ◌<◌, ◌≤◌, ◌⊎◌, Bool, true, not, ◌&&◌, List, Option, Some, None, Result, IfOk, OnErr, slice_index_or, slice_set}
 use Rattle.vm_types.specs.Limits.{msync_pages}
 use Rattle.vm_types.specs.declared.file.FilePage.{FilePage}
 use Rattle.vm_types.specs.declared.object.PageKey.{PageKey}
@@ -61,6 +61,15 @@ pub record Overflows (t : CacheTable) (file first count used : ℕ) (old new : L
   pub missing : FilePage
   pub touched : IsTouchedIn t file first count missing
   pub absent : IsListed new msync_pages missing → ⊥
+
+-- A row was gathered:
+pub record GathersRow {E : Type 0} (t : CacheTable) (file first count used : ℕ) (old new : List FilePage) (result : Result ℕ E) : Type 0 where
+  -- the list was lengthened by touched pages of the row,
+  pub gathered : IfOk result (λ n. Gathers t file first count used old new n)
+  -- and has all of these,
+  pub all : IfOk result (λ n. HasAll t file first count new n)
+  -- or has no room for one.
+  pub too_many : OnErr result (Overflows t file first count used old new)
 
 -- the page was among the first `used`, and nothing changed, or it is the entry n now
 abbrev pub Pushes : List FilePage → List FilePage → ℕ → ℕ → FilePage → ℕ → Type 0

@@ -1,5 +1,6 @@
 -- A set of nodes: all nodes in some order, those of the set first, and the rank of each in that order.
 use Rattle.std.specs.Prelude.{◌≡◌, ◌≢◌, ℕ, ◌<◌, ◌≤◌, Bool, nat_lt, List, length, map, slice_index, slice_index_or}
+use Rattle.page_cache.specs.declared.node_set.NodeSet.{NodeSet}
 
 -- whether the node is one of the first `count`
 abbrev pub is_member : List ℕ → ℕ → ℕ → Bool
@@ -30,6 +31,13 @@ pub record HaveSwapped (order old new : List ℕ) (i j : ℕ) : Type 0 where
 pub record SameMembersBut (node : ℕ) (old : List ℕ) (old_count : ℕ) (new : List ℕ) (new_count : ℕ) : Type 0 where
   pub nodes : length new ≡ length old
   pub others : (n : ℕ) → n ≢ node → is_member new new_count n ≡ is_member old old_count n
+
+-- A node was put into the set or taken out of it: order and ranks undo each other still, the node is a member or is none, and the
+-- others are what they were.
+pub record ChangesMember (node : ℕ) (is : Bool) (old new : NodeSet) : Type 0 where
+  pub ordered : IsOrdered new.order.items new.ranks.items new.count
+  pub member : is_member new.ranks.items new.count node ≡ is
+  pub others : SameMembersBut node old.ranks.items old.count new.ranks.items new.count
 
 -- the set of none of so many nodes
 pub record IsEmptySet (order ranks : List ℕ) (count nodes : ℕ) : Type 0 where

@@ -36,7 +36,7 @@ impl Model for PageCache {
 
 impl PageCache {
     ghost use Rattle.page_cache.specs.declared.place.Place.TheVariants.{Home, Frame, Slot};
-    ghost use Rattle.page_cache.specs.Gathering.{Gathers, HasAll, Overflows, fresh_count};
+    ghost use Rattle.page_cache.specs.Gathering.{Gathers, GathersRow, HasAll, Overflows, fresh_count};
     ghost use Rattle.page_cache.specs.CacheTable.{cache_frames, slot_count, place_in, place_of, is_touched, IsInside, IsFreeFor, IsSoundCache, IsNewCache, SameButForPage};
     ghost use Rattle.vm_types.specs.Limits.{msync_pages};
 
@@ -95,6 +95,14 @@ impl PageCache {
             Some(node) => self.touched.contains(node),
             None => false,
         }
+    }
+
+    /// Whether the page that frame `n` holds is touched: what `is_touched` says of it, without a search.
+    pub fn is_frame_touched(&self, n: FrameNo) -> bool
+        requires { n.0 < cache_frames self.now }
+        ensures { (page : PageKey) → place_of self.now page ≡ Frame n → result ≡ is_touched self.now page }
+    {
+        self.touched.contains(n.0 as usize)
     }
 
     /// The page that frame `n` holds; `None` exactly where it holds none.
@@ -197,9 +205,7 @@ impl PageCache {
     ) -> Result<usize, TooMany>
         requires used { used ≤ msync_pages }
         requires row { first + count ≤ 2 ^ 32 }
-        ensures gathered { IfOk result (λ n. Gathers self.now file first count used list.old list.new n) }
-        ensures all { IfOk result (λ n. HasAll self.now file first count list.new n) }
-        ensures too_many { OnErr result (Overflows self.now file first count used list.old list.new) }
+        ensures { GathersRow self.now file first count used list.old list.new result }
     {
         let mut n = used;
         for offset in 0..count {
@@ -224,9 +230,7 @@ impl PageCache {
         used: usize,
     ) -> Result<usize, TooMany>
         requires { used ≤ msync_pages }
-        ensures gathered { IfOk result (λ n. Gathers self.now file first count used list.old list.new n) }
-        ensures all { IfOk result (λ n. HasAll self.now file first count list.new n) }
-        ensures too_many { OnErr result (Overflows self.now file first count used list.old list.new) }
+        ensures { GathersRow self.now file first count used list.old list.new result }
     {
         let mut n = used;
         for place in 0..self.touched.len() {

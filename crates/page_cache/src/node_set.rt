@@ -1,7 +1,7 @@
 //! Sets of nodes whose members are listed without looking at the other nodes (Briggs and Torczon, An Efficient
 //! Representation for Sparse Sets, 1993).
 ghost use Rattle.std.specs.Prelude.{◌≡◌, ◌<◌, ◌≤◌, true, false, IfOk, length, slice_index};
-ghost use Rattle.page_cache.specs.Sets.{is_member, IsOrdered, HaveSwapped, SameMembersBut};
+ghost use Rattle.page_cache.specs.Sets.{is_member, IsOrdered, ChangesMember, HaveSwapped};
 
 use std::alloc::{AllocError, Global};
 
@@ -65,9 +65,7 @@ impl NodeSet {
     pub(crate) fn insert(&mut self, node: usize)
         requires ordered { IsOrdered self.old.order.items self.old.ranks.items self.old.count }
         requires inside { node < length self.old.ranks.items }
-        ensures ordered { IsOrdered self.new.order.items self.new.ranks.items self.new.count }
-        ensures member { is_member self.new.ranks.items self.new.count node ≡ true }
-        ensures others { SameMembersBut node self.old.ranks.items self.old.count self.new.ranks.items self.new.count }
+        ensures { ChangesMember node true self.old self.new }
     {
         let rank = self.ranks[node];
         if rank >= self.count {
@@ -80,9 +78,7 @@ impl NodeSet {
     pub(crate) fn remove(&mut self, node: usize)
         requires ordered { IsOrdered self.old.order.items self.old.ranks.items self.old.count }
         requires inside { node < length self.old.ranks.items }
-        ensures ordered { IsOrdered self.new.order.items self.new.ranks.items self.new.count }
-        ensures no_member { is_member self.new.ranks.items self.new.count node ≡ false }
-        ensures others { SameMembersBut node self.old.ranks.items self.old.count self.new.ranks.items self.new.count }
+        ensures { ChangesMember node false self.old self.new }
     {
         let rank = self.ranks[node];
         if rank < self.count {

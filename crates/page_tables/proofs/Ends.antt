@@ -1,13 +1,13 @@
 -- Where ways end, and what they have in common in two memories.
-use Rattle.std.proofs.Common.{◌≡◌, ◌≢◌, ℕ, zero, suc, ◌+◌, ◌-◌, ◌<◌, ◌≤◌, inl, inr, false, refl, sym, ap, ◌∙◌, subst, arith}
+use Rattle.std.proofs.Common.{◌≡◌, ◌≢◌, ℕ, zero, suc, ◌+◌, ◌-◌, ◌<◌, ◌≤◌, inl, inr, true, false, refl, sym, ap, ◌∙◌, subst, arith}
 use Rattle.std.proofs.lemmas.Bool.{cases_eq, false≢true}
 use Rattle.std.proofs.lemmas.Bool.Decides.{nat_tests}
 use Rattle.std.specs.Prelude.{◌==◌}
 use Rattle.frames.specs.FrameTable.{FrameTable}
-use Rattle.sv39_walk.specs.Entry.{entry_at, is_pointer}
+use Rattle.sv39_walk.specs.Entry.{entry_at, frame_of, has_bit, is_pointer, is_valid}
 use Rattle.sv39_walk.specs.Walk.{index_of}
 use Rattle.page_tables.specs.Tree.{IsTable, Points, IsForest, IsRoot, last_table, last_entry, missing_of, page_entry, Way}
-use Rattle.page_tables.proofs.Ways.{ends, index_of-lt, last_table-next, last_table-stop, last_table-zero}
+use Rattle.page_tables.proofs.Ways.{cases_bool, ends, index_of-lt, last_at-stop, last_table-next, last_table-stop, last_table-zero}
 use Rattle.page_tables.specs.Entry.{IsPageEntry}
 use Rattle.page_tables.specs.declared.forms.Entry.TheVariants.{None}
 
@@ -125,4 +125,20 @@ page_is_entry t top root page forest is_root = elim (cases_eq (missing_of t top 
       subst P (sym (page_entry-whole t top root page whole ∙ entry)) here)
   | inr ne ↦ (let P : ℕ → Type 0 = λ x. IsPageEntry x in
       subst P (sym (page_entry-missing t top root page ne)) (record { entry = None; form = tt; is = refl }))
+]
+
+invalid_zero : is_valid 0 ≡ false
+unfolding has_bit
+invalid_zero = refl
+
+-- a valid entry of a table on the way to a page, above the lowest level, points to the next one
+pub valid_points : (t : FrameTable) (top root page level n e : ℕ) → IsRoot top t root → IsTable t n → 0 < level → last_table t page level n ≡ last_table t page top root
+    → e ≡ entry_at t n (index_of page level) → is_valid e ≡ true → Points t n (index_of page level) (frame_of e)
+valid_points t top root page level n e is_root table above same is valid = elim (cases_bool (is_pointer (entry_at t n (index_of page level)))) [
+  | inl pointer ↦ record { table = table; index = index_of-lt page level; pointer = pointer; target = ap frame_of (sym is) }
+  | inr stop ↦ (let ends : last_table t page top root ≡ (level, n) = sym same ∙ last_at-stop t page level n above stop in
+      let missing = missing_of-is t top root page ∙ ap (λ x. x.0) ends in
+      let some : missing_of t top root page ≢ 0 = λ none. absurd (omega (arith, above, missing, none)) in
+      let bare = is ∙ sym (ap (λ x. entry_at t x.1 (index_of page x.0)) ends) ∙ sym (last_entry-is t top root page) ∙ is_root.bare page some in
+      absurd (false≢true (sym invalid_zero ∙ ap is_valid (sym bare) ∙ valid)))
 ]

@@ -1,11 +1,9 @@
 -- Ways from roots to tables.
 use Rattle.std.proofs.Common.{◌≡◌, ℕ, zero, suc, ◌-◌, ◌<◌, ◌≤◌, ◌⊎◌, inl, inr, Bool, true, false, refl, sym, ap, ◌∙◌, subst, arith}
-use Rattle.std.proofs.lemmas.Bool.{cases_eq, false≢true}
-use Rattle.std.proofs.lemmas.Bool.Decides.{nat_tests}
-use Rattle.std.specs.Prelude.{nat_lt}
-use Rattle.frames.specs.FrameTable.{FrameTable, frame_count}
+use Rattle.std.proofs.lemmas.Bool.{cases_eq}
+use Rattle.frames.specs.FrameTable.{FrameTable}
 use Rattle.sv39_walk.specs.Entry.{entry_at, frame_of, is_pointer}
-use Rattle.sv39_walk.specs.Walk.{index_of, leads_on}
+use Rattle.sv39_walk.specs.Walk.{index_of}
 use Rattle.page_tables.specs.Tree.{IsTable, Points, IsForest, IsUnlinked, Way, last_table}
 
 -- a field of a page's number is under 512
@@ -81,27 +79,6 @@ way_to_last t top root page forest (suc level) d n least e table w = elim (cases
 -- the whole way
 pub ends : (t : FrameTable) (top root page : ℕ) → IsForest t → IsTable t root → EndsAt t top root page (last_table t page top root).0 (last_table t page top root).1
 ends t top root page forest table = way_to_last t top root page forest top 0 root (omega arith) (omega arith) table refl
-
-below_true : (m n : ℕ) → m < n → nat_lt m n ≡ true
-below_true m n h = grind (arith, nat_tests)
-
--- an entry that leads nowhere is no pointer, since pointers lead to tables
-pub not_pointer : (t : FrameTable) (page level n : ℕ) → IsForest t → IsTable t n → leads_on t (entry_at t n (index_of page level)) ≡ false
-    → is_pointer (entry_at t n (index_of page level)) ≡ false
-not_pointer t page level n forest table stops = elim (cases_bool (is_pointer (entry_at t n (index_of page level)))) [
-  | inl pointer ↦ (let there = forest.onto_tables n _ _ (next_table t page level n table pointer) in
-      let e = entry_at t n (index_of page level) in
-      let both : leads_on t e ≡ true = rw pointer (below_true (frame_of e) (frame_count t) there.inside) in
-      absurd (false≢true (sym stops ∙ both)))
-  | inr stop ↦ stop
-]
-
--- an entry that leads on is a pointer
-pub is_pointer-leads_on : (t : FrameTable) (e : ℕ) → leads_on t e ≡ true → is_pointer e ≡ true
-is_pointer-leads_on t e h = elim (cases_bool (is_pointer e)) [
-  | inl pointer ↦ pointer
-  | inr stop ↦ absurd (false≢true (let none : leads_on t e ≡ false = rw stop in sym none ∙ h))
-]
 
 pub last_at-next : (t : FrameTable) (page level n : ℕ) → 0 < level → is_pointer (entry_at t n (index_of page level)) ≡ true
     → last_table t page level n ≡ last_table t page (level - 1) (frame_of (entry_at t n (index_of page level)))

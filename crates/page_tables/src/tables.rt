@@ -10,7 +10,7 @@ ghost use Rattle.page_tables.specs.Change.{KeepsFrames, AddsTable, PutsNumber, C
 use crate::forms::{Entry, decode, encode};
 use byteorder::{ByteOrder, LittleEndian};
 use frames::{Frames, Role};
-use sv39_walk::{Pte, next_table, read_entry, table_index};
+use sv39_walk::{Pte, read_entry, table_index};
 use vm_types::{FrameNo, Levels, NoFree, Vpn};
 
 /// A table of zeros that is in no tree, to be linked or to begin a tree in which nothing stands. All trees stay as they are.
@@ -213,20 +213,22 @@ pub fn set_in(frames: &mut Frames, table: FrameNo, index: usize, entry: Entry)
 // Where the way to a page ends: the level, the table, and the table before it, if it isn't the root.
 fn end_of_way<M: Levels>(frames: &Frames, root: FrameNo, page: u64) -> (u32, FrameNo, FrameNo)
     requires forest { IsForest frames.now }
-    requires root { IsTable frames.now root.0 }
+    requires root { IsRoot (top_level M.mode) frames.now root.0 }
     ensures { EndsWay frames.now (top_level M.mode) root.0 page result.0 result.1.0 result.2.0 }
 {
+    // (brings in that memory is sound, so that the numbers of its frames are small)
+    let _ = frames.len();
     let mut table = root;
     let mut parent = root;
     let mut level = M::top_level();
     while level > 0 {
-        match next_table(frames, read_entry(frames, table, table_index(page, level))) {
-            Some(next) => {
-                parent = table;
-                table = next;
-            }
-            None => return (level, table, parent),
+        let entry = read_entry(frames, table, table_index(page, level));
+        // What stands above the lowest level of a tree and is valid points to a table.
+        if !entry.is_valid() {
+            return (level, table, parent);
         }
+        parent = table;
+        table = entry.frame_number();
         level -= 1;
     }
     (0, table, parent)

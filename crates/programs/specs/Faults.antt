@@ -1,13 +1,15 @@
 -- What faults, and the ends of runs, are told by.
-use Rattle.std.specs.Prelude.{◌≡◌, ℕ, List, Bool, true, false}
+use Rattle.std.specs.Prelude.{◌≡◌, ◌⊎◌, ℕ, List, Bool, true, false}
 use Rattle.clap.specs.declared.error.kind.ErrorKind.{ErrorKind}
 use Rattle.clap.specs.declared.error.kind.ErrorKind.TheVariants.{OutOfMemory as MemoryKind}
 use Rattle.programs.specs.declared.faults.ProgramFault.{ProgramFault}
-use Rattle.programs.specs.declared.faults.ProgramFault.TheVariants.{Usage, OutOfMemory, CannotOpen}
+use Rattle.programs.specs.declared.faults.ProgramFault.TheVariants.{Usage, OutOfMemory, CannotOpen, Boot, ReadFailed, WriteFailed}
 use Rattle.programs.specs.declared.showing.CopyFault.{CopyFault}
 use Rattle.programs.specs.declared.showing.CopyFault.TheVariants.{Read as CopyRead, Write as CopyWrite}
 use Rattle.programs.specs.declared.showing.ShowFault.{ShowFault}
 use Rattle.programs.specs.declared.showing.ShowFault.TheVariants.{Read as ShowRead, Write as ShowWrite}
+use Rattle.runner.specs.declared.engine.RunEnd.{RunEnd}
+use Rattle.runner.specs.declared.engine.RunEnd.TheVariants.{Done, ReadFault, WriteFault}
 
 -- words that a program does not take are told by 2, every other fault by 1
 abbrev pub fault_status : ProgramFault → ℕ
@@ -23,6 +25,18 @@ words_fault kind = Usage
 abbrev pub IsUnopened : List ℕ → ProgramFault → Type 0
 IsUnopened name (CannotOpen path) = path.now ≡ name
 IsUnopened name fault = ⊥
+
+-- no machine starts on files of these names: one of them can't be opened, or a boot fails
+abbrev pub IsUnstarted : List ℕ → List ℕ → ProgramFault → Type 0
+IsUnstarted image swap (CannotOpen path) = (path.now ≡ image) ⊎ (path.now ≡ swap)
+IsUnstarted image swap (Boot fault) = Unit {0}
+IsUnstarted image swap fault = ⊥
+
+-- the fault of a run that ended so: the input failed, or the output did
+abbrev pub IsEndFault : RunEnd → ProgramFault → Type 0
+IsEndFault Done fault = ⊥
+IsEndFault ReadFault fault = fault ≡ ReadFailed
+IsEndFault WriteFault fault = fault ≡ WriteFailed
 
 -- a trace that was read to its end is told by 3 where the machine has halted, else by 0
 abbrev pub end_status : Bool → ℕ

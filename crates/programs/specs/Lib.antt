@@ -1,3 +1,4 @@
 pub mod Specs
 pub mod Faults
 pub mod Showing
+pub mod Disks

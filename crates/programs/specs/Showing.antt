@@ -1,10 +1,11 @@
 -- What a file that is shown is read from, and what becomes of its device and of the writer.
-use Rattle.std.specs.Prelude.{◌≡◌, ◌⊎◌, ◌<◌, ℕ, List, Option, Some, None, Result, OnOk, OnErr, IsErrOf}
+use Rattle.std.specs.Prelude.{◌≡◌, ◌⊎◌, ◌<◌, ◌*◌, ℕ, List, Option, Some, None, Result, OnOk, OnErr, IsErrOf}
 use Rattle.std.specs.Io.KnownBytes.{Appends}
 use Rattle.disk_model.specs.Stop.{Image}
 use Rattle.disk_model.specs.Moments.{AsksOnly, LeavesOnly, Nothing, Touches}
 use Rattle.disk_model.specs.declared.sector_disk.SectorDisk.{Ghosts}
 use Rattle.vm_types.specs.declared.file.FileInfo.{FileInfo}
+use Rattle.vm_types.specs.declared.file.FilePage.{FilePage}
 use Rattle.sync_journal.specs.Layout.{IsPageSector}
 use Rattle.sync_journal.specs.Kinds.{kind_of, kind_home, IsOutsideOf}
 use Rattle.file_store.specs.declared.directory.Entry.{Entry}
@@ -41,6 +42,13 @@ pub record BlamesDevice {T F : Type 0} (before now : ℕ) (blame : F) (result : 
   pub still : OnErr result ((IsErrOf result blame → ⊥) → now ≡ before)
 
 module _ {D : Type 0} (g : Ghosts D) where
+  -- A page of a file of so many bytes may be copied out of a store:
+  pub record IsCopyable (store : FileStore D) (page : FilePage) (length : ℕ) : Type 0 where
+    -- this may be read, and has it, and some of its bytes lie inside the file.
+    pub ready : IsReadyStore g store
+    pub inside : IsPageOf (files_of store) page.file page.page
+    pub first : 4096 * page.page < length
+
   -- A store is read, and no more:
   pub record OnlyReads (W : ℕ → Type 0) (old new : FileStore D) : Type 0 where
     -- it has the directory and the journal that it had, and may be read further;

@@ -1,6 +1,6 @@
 //! The files that a program works on, as devices.
-ghost use Rattle.std.specs.Prelude.{◌≡◌, ℕ, IfOk, IfErr};
-ghost use Rattle.programs.specs.Faults.{IsUnopened};
+ghost use Rattle.std.specs.Prelude.{◌≡◌, IfOk, IfErr};
+ghost use Rattle.programs.specs.Disks.{OpensDisk};
 
 use crate::faults::ProgramFault;
 use disk_model::{FileContents, FileDisk, SectorDisk};
@@ -19,53 +19,20 @@ pub(crate) enum Access {
     Make,
 }
 
-/// The device in the file of that path, which is lengthened with zeros to so many bytes where it is shorter. No other
-/// program of ours has the file until the device is dropped.
+/// The device in the file of that path that was opened so. No other program of ours has the file until the device is dropped.
 ///
 /// # Errors
 ///
 /// `CannotOpen` where the file can't be had so. One that can't be synced is had: its device fails.
-pub(crate) fn open_disk<'a, C: FileContents, R: Files<File = File>>(
-    rt: &R,
-    path: &'a str,
-    access: Access,
-    length: u64,
-) -> Result<FileDisk<C>, ProgramFault<'a>>
-    ensures kept { IfOk result (λ disk. ⟦<FileDisk<C> as SectorDisk>⟧.keeps_model disk) }
-    ensures synced { IfOk result (λ disk. (k : ℕ) → ⟦<FileDisk<C> as SectorDisk>⟧.unsynced disk k → ⊥) }
-    ensures told { IfErr result (IsUnopened path.now) }
-{
-    match opened_lengthened(rt, path, access, length) {
-        Ok(file) => disk_in::<C>(path, file),
-        Err(_) => Err(ProgramFault::CannotOpen(path)),
-    }
-}
-
-/// The device in the file of that path, of which nothing is written where it may only be read. The fault is that of
-/// `open_disk`.
-pub(crate) fn open_disk_to_show<'a, C: FileContents, R: Files<File = File>>(
-    rt: &R,
-    path: &'a str,
-) -> Result<FileDisk<C>, ProgramFault<'a>>
-    ensures kept { IfOk result (λ disk. ⟦<FileDisk<C> as SectorDisk>⟧.keeps_model disk) }
-    ensures synced { IfOk result (λ disk. (k : ℕ) → ⟦<FileDisk<C> as SectorDisk>⟧.unsynced disk k → ⊥) }
-    ensures told { IfErr result (IsUnopened path.now) }
-{
-    match open_alone(rt, path, Access::Write) {
-        Ok(file) => disk_in::<C>(path, file),
-        Err(_) => open_disk::<C, R>(rt, path, Access::Read, 0),
-    }
-}
-
-/// The device in a file of that path.
 pub(crate) fn disk_in<'a, C: FileContents>(
     path: &'a str,
-    file: File,
+    opened: io::Result<File>,
 ) -> Result<FileDisk<C>, ProgramFault<'a>>
-    ensures kept { IfOk result (λ disk. ⟦<FileDisk<C> as SectorDisk>⟧.keeps_model disk) }
-    ensures synced { IfOk result (λ disk. (k : ℕ) → ⟦<FileDisk<C> as SectorDisk>⟧.unsynced disk k → ⊥) }
-    ensures told { IfErr result (IsUnopened path.now) }
+    ensures { OpensDisk ⟦<FileDisk<C> as SectorDisk>⟧ path.now result }
 {
+    let Ok(file) = opened else {
+        return Err(ProgramFault::CannotOpen(path));
+    };
     match FileDisk::<C>::new(file) {
         Ok(disk) => Ok(disk),
         Err(_) => Err(ProgramFault::CannotOpen(path)),
@@ -137,14 +104,22 @@ pub(crate) fn open_regular<R: Files<File = File>>(
     options.open(rt, path)
 }
 
-/// The regular file of that path, under a lock and lengthened with zeros to so many bytes where it is shorter.
-fn opened_lengthened<R: Files<File = File>>(
+/// The regular file of that path of an image that is shown, under a lock. Of one that may only be read nothing is written.
+pub(crate) fn open_to_show<R: Files<File = File>>(rt: &R, path: &str) -> io::Result<File> {
+    match open_alone(rt, path, Access::Write) {
+        Ok(file) => Ok(file),
+        Err(_) => open_alone(rt, path, Access::Read),
+    }
+}
+
+/// The regular file of that path, under a lock and lengthened with zeros to so many bytes where it is shorter. One that is missing
+/// is made.
+pub(crate) fn open_lengthened<R: Files<File = File>>(
     rt: &R,
     path: &str,
-    access: Access,
     length: u64,
 ) -> io::Result<File> {
-    let file = open_alone(rt, path, access)?;
+    let file = open_alone(rt, path, Access::Make)?;
     lengthen(&file, length)?;
     Ok(file)
 }

@@ -1,6 +1,6 @@
 //! The program that makes images.
-ghost use Rattle.std.specs.Prelude.{◌≡◌, ◌≤◌, ℕ, IfOk, IfErr};
-ghost use Rattle.programs.specs.Faults.{IsUnopened};
+ghost use Rattle.std.specs.Prelude.{◌≤◌, IfOk};
+ghost use Rattle.programs.specs.Disks.{IsJustOpened};
 
 use crate::faults::{ProgramFault, report};
 use crate::files::{Access, disk_in, has_mark, lengthen, open_alone, open_regular};
@@ -45,19 +45,14 @@ pub fn pagefmt<R: Files<File = File> + AllocGlobal, I: Read, O: Write, X: Write>
 ) -> u8
     ensures statuses { result ≤ 2 }
 {
-    report(
-        "pagefmt",
-        format_or_upgrade::<Unknown, Unknown, R>(rt, words),
-        errors,
-    )
+    let made = format_or_upgrade::<Unknown, Unknown, R>(rt, words);
+    report("pagefmt", made.map(|()| 0), errors)
 }
 
 fn format_or_upgrade<'a, C: FileContents, K: FileContents, R: Files<File = File> + AllocGlobal>(
     rt: &R,
     words: &'a [String],
-) -> Result<u8, ProgramFault<'a>>
-    ensures { IfOk result (λ status. status ≡ 0) }
-{
+) -> Result<(), ProgramFault<'a>> {
     match format_words(rt.alloc(), words)? {
         FormatWords::New(words) => format_image::<C, R>(rt, words),
         FormatWords::Upgrade(words) => upgrade_image::<C, K, R>(rt, words),
@@ -67,9 +62,7 @@ fn format_or_upgrade<'a, C: FileContents, K: FileContents, R: Files<File = File>
 fn format_image<'a, C: FileContents, R: Files<File = File> + AllocGlobal>(
     rt: &R,
     words: NewWords<'a>,
-) -> Result<u8, ProgramFault<'a>>
-    ensures { IfOk result (λ status. status ≡ 0) }
-{
+) -> Result<(), ProgramFault<'a>> {
     let _places = held_places(rt)?;
     let mut sources = open_sources(rt.alloc(), rt, words.specs.as_slice())?;
     let (file, former) = match image_file(rt, words.image) {
@@ -89,7 +82,7 @@ fn format_image<'a, C: FileContents, R: Files<File = File> + AllocGlobal>(
         }
     };
     match format(&mut disk, words.journals, sources.as_mut_slice()) {
-        Ok(()) => Ok(0),
+        Ok(()) => Ok(()),
         Err(fault) => {
             if !disk.is_written() {
                 set_back(rt, words.image, &file, former);
@@ -180,38 +173,23 @@ fn unmarked_disk<'a, C: FileContents>(
     journals: Journals,
     sources: &[FileSource<File>],
 ) -> Result<FileDisk<C>, ProgramFault<'a>>
-    ensures kept { IfOk result (λ disk. ⟦<FileDisk<C> as SectorDisk>⟧.keeps_model disk) }
-    ensures synced { IfOk result (λ disk. (k : ℕ) → ⟦<FileDisk<C> as SectorDisk>⟧.unsynced disk k → ⊥) }
+    ensures { IfOk result (IsJustOpened ⟦<FileDisk<C> as SectorDisk>⟧) }
 {
     if sources.len() > MAX_FILES {
         return Err(ProgramFault::Format(FormatFault::TooLarge));
     }
     match has_mark(file) {
-        Ok(false) => lengthened_disk::<C>(path, file, image_bytes(journals, sources)),
+        Ok(false) => disk_in::<C>(path, lengthened(file, image_bytes(journals, sources))),
         Ok(true) => Err(ProgramFault::Format(FormatFault::Formatted)),
         Err(_) => Err(ProgramFault::Format(FormatFault::Device)),
     }
 }
 
-/// The device in a file, which is lengthened with zeros to so many bytes where it is shorter. The device has a handle of its
-/// own.
-///
-/// # Errors
-///
-/// `CannotOpen` where the file can't be lengthened or gets no second handle.
-pub(crate) fn lengthened_disk<'a, C: FileContents>(
-    path: &'a str,
-    file: &File,
-    length: u64,
-) -> Result<FileDisk<C>, ProgramFault<'a>>
-    ensures kept { IfOk result (λ disk. ⟦<FileDisk<C> as SectorDisk>⟧.keeps_model disk) }
-    ensures synced { IfOk result (λ disk. (k : ℕ) → ⟦<FileDisk<C> as SectorDisk>⟧.unsynced disk k → ⊥) }
-    ensures told { IfErr result (IsUnopened path.now) }
-{
-    let (Ok(own), Ok(())) = (file.try_clone(), lengthen(file, length)) else {
-        return Err(ProgramFault::CannotOpen(path));
-    };
-    disk_in::<C>(path, own)
+/// A second handle of a file, which is lengthened with zeros to so many bytes where it is shorter.
+pub(crate) fn lengthened(file: &File, length: u64) -> io::Result<File> {
+    let own = file.try_clone()?;
+    lengthen(file, length)?;
+    Ok(own)
 }
 
 /// Takes back what this run did to the file of that path, of which it wrote nothing. Where the system fails in that too, an

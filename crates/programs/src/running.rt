@@ -1,10 +1,10 @@
 //! The program that runs traces.
-ghost use Rattle.std.specs.Prelude.{◌≡◌, ◌⊎◌, ◌≤◌, IfOk, true, false};
+ghost use Rattle.std.specs.Prelude.{◌≡◌, ◌⊎◌, ◌≤◌, IfErr, IfOk, true, false};
 ghost use Rattle.machine.specs.Machine.{halted_of, IsSoundMachine};
-ghost use Rattle.programs.specs.Faults.{end_status};
+ghost use Rattle.programs.specs.Faults.{IsEndFault, IsUnstarted, end_status};
 
 use crate::faults::{ProgramFault, report};
-use crate::files::{Access, open_disk, settled};
+use crate::files::{Access, disk_in, open_alone, open_lengthened, settled};
 use crate::places::held_places;
 use crate::words::{RunWords, run_words};
 use disk_model::{FileContents, FileDisk, SectorDisk, Unknown};
@@ -68,10 +68,11 @@ pub fn boot_image<'a, C: FileContents, K: FileContents, R: Files<File = File> + 
     words: &RunWords<'a>,
 ) -> Result<Machine<FileDisk<C>, FileDisk<K>>, ProgramFault<'a>>
     ensures sound { IfOk result (λ m. IsSoundMachine ⟦<FileDisk<C> as SectorDisk>⟧ ⟦<FileDisk<K> as SectorDisk>⟧ m) }
+    ensures told { IfErr result (IsUnstarted words.now.image.now words.now.swap.now) }
 {
-    let store = open_disk::<C, R>(rt, words.image, Access::Write, 0)?;
+    let store = disk_in::<C>(words.image, open_alone(rt, words.image, Access::Write))?;
     let length = swap_bytes(words.config.slots);
-    let swap = open_disk::<K, R>(rt, words.swap, Access::Make, length)?;
+    let swap = disk_in::<K>(words.swap, open_lengthened(rt, words.swap, length))?;
     let swap = settled(swap, ProgramFault::CannotOpen(words.swap))?;
     match Machine::boot(rt.alloc(), words.config, store, swap) {
         Ok(machine) => Ok(machine),
@@ -100,7 +101,8 @@ pub fn status_of<'a, D: SectorDisk, E: SectorDisk>(
     end: RunEnd,
     machine: &Machine<D, E>,
 ) -> Result<u8, ProgramFault<'a>>
-    ensures { IfOk result (λ status. (end ≡ RunEnd.Done) × (status ≡ end_status (halted_of machine.now))) }
+    ensures status { IfOk result (λ status. (end ≡ RunEnd.Done) × (status ≡ end_status (halted_of machine.now))) }
+    ensures told { IfErr result (IsEndFault end) }
 {
     match end {
         RunEnd::Done if machine.is_halted() => Ok(HALTED),

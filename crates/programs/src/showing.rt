@@ -1,15 +1,15 @@
 //! The program that writes a file of an image out.
-ghost use Rattle.std.specs.Prelude.{◌≡◌, ◌≤◌, ◌<◌, ◌*◌, ℕ, List, Some, None, IfOk, IfErr, OnOk, IsErrOf, MatchResult, take};
+ghost use Rattle.std.specs.Prelude.{◌≡◌, ◌≤◌, ℕ, List, Some, None, IfOk, IfErr, OnOk, IsErrOf, MatchResult, take};
 ghost use Rattle.std.specs.Io.KnownBytes.{Appends};
 ghost use Rattle.vm_types.specs.declared.file.FileInfo.{FileInfo};
 ghost use Rattle.vm_types.specs.Files.{bytes_inside};
-ghost use Rattle.file_store.specs.Standing.{IsPageOf, standing_page, standing_file};
+ghost use Rattle.file_store.specs.Standing.{standing_page, standing_file};
 ghost use Rattle.file_store.specs.Store.{IsReadyStore, IsSectorOf, files_of};
-ghost use Rattle.programs.specs.Showing.{BlamesDevice, IsSectorOfFile, KeepsImage, OnlyReads, RefusesToShow, WritesOut, WritesOutPart};
+ghost use Rattle.programs.specs.Showing.{BlamesDevice, IsSectorOfFile, KeepsImage, IsCopyable, OnlyReads, RefusesToShow, WritesOut, WritesOutPart};
 ghost use Rattle.runner.specs.Bytes.{WritesBeginning};
 
 use crate::faults::{ProgramFault, report};
-use crate::files::{open_disk_to_show, settled};
+use crate::files::{disk_in, open_to_show, settled};
 use crate::places::held_places;
 use crate::words::cat_words;
 use disk_model::{DiskFault, FileContents, SectorDisk, Unknown};
@@ -33,26 +33,21 @@ pub fn pagecat<R: Files<File = File> + AllocGlobal, I: Read, O: Write, X: Write>
 ) -> u8
     ensures statuses { result ≤ 2 }
 {
-    report(
-        "pagecat",
-        show_file::<Unknown, R, O>(rt, words, writer),
-        errors,
-    )
+    let shown = show_file::<Unknown, R, O>(rt, words, writer);
+    report("pagecat", shown.map(|()| 0), errors)
 }
 
 fn show_file<'a, C: FileContents, R: Files<File = File> + AllocGlobal, O: Write>(
     rt: &R,
     words: &'a [String],
     writer: &mut O,
-) -> Result<u8, ProgramFault<'a>>
-    ensures { IfOk result (λ status. status ≡ 0) }
-{
+) -> Result<(), ProgramFault<'a>> {
     let words = cat_words(rt.alloc(), words)?;
     let _places = held_places(rt)?;
-    let disk = open_disk_to_show::<C, R>(rt, words.image)?;
+    let disk = disk_in::<C>(words.image, open_to_show(rt, words.image))?;
     let disk = settled(disk, ProgramFault::Open(OpenFault::Device))?;
     match show(disk, words.file, writer) {
-        Ok(_) => Ok(0),
+        Ok(_) => Ok(()),
         Err((fault, _)) => Err(told(fault, words.file)),
     }
 }
@@ -220,9 +215,7 @@ fn copy_page<D: SectorDisk, W: Write>(
     bytes: &mut [u8; 4096],
     writer: &mut W,
 ) -> Result<(), CopyFault>
-    requires ready { IsReadyStore D.SectorDisk store.old }
-    requires inside { IsPageOf (files_of store.old) page.file page.page }
-    requires first { 4096 * page.page < length }
+    requires { IsCopyable D.SectorDisk store.old page length }
     ensures reads { OnlyReads D.SectorDisk (IsSectorOf store.old page) store.old store.new }
     ensures blames { BlamesDevice (D.failures store.old.disk) (D.failures store.new.disk) CopyFault.Read result }
     ensures written { D.keeps_model store.new.disk → MatchResult result

@@ -1,9 +1,7 @@
 //! Images made anew in the next layout.
-ghost use Rattle.std.specs.Prelude.{◌≡◌, IfOk};
-
 use crate::faults::ProgramFault;
-use crate::files::{Access, open_disk};
-use crate::formatting::{image_file, lengthened_disk, set_back};
+use crate::files::{Access, disk_in, open_alone};
+use crate::formatting::{image_file, lengthened, set_back};
 use crate::places::held_places;
 use crate::words::UpgradeWords;
 use disk_model::{FileContents, FileDisk, SECTOR_BYTES, SectorDisk};
@@ -17,17 +15,15 @@ pub(crate) fn upgrade_image<
     C: FileContents,
     K: FileContents,
     R: Files<File = File> + AllocGlobal,
->(rt: &R, words: UpgradeWords<'a>) -> Result<u8, ProgramFault<'a>>
-    ensures { IfOk result (λ status. status ≡ 0) }
-{
+>(rt: &R, words: UpgradeWords<'a>) -> Result<(), ProgramFault<'a>> {
     let _places = held_places(rt)?;
-    let mut old = open_disk::<C, R>(rt, words.old, Access::Read, 0)?;
+    let mut old = disk_in::<C>(words.old, open_alone(rt, words.old, Access::Read))?;
     let (file, former) = match image_file(rt, words.new) {
         Ok(opened) => opened,
         Err(_) => return Err(ProgramFault::CannotOpen(words.new)),
     };
     let length = upgraded_bytes(words.journals, old.sectors());
-    let mut new = match lengthened_disk::<K>(words.new, &file, length) {
+    let mut new = match disk_in::<K>(words.new, lengthened(&file, length)) {
         Ok(new) => new,
         Err(fault) => {
             set_back(rt, words.new, &file, former);
@@ -35,7 +31,7 @@ pub(crate) fn upgrade_image<
         }
     };
     match upgrade_settled(&mut old, &mut new, words.journals) {
-        Ok(()) => Ok(0),
+        Ok(()) => Ok(()),
         Err(fault) => {
             if !new.is_written() {
                 set_back(rt, words.new, &file, former);

@@ -105,25 +105,6 @@ slot_or (Slot j) k = elim (cases_eq j.0 k) [
   number (Frame n) = 0
   number (Slot j) = j.0
 
-pub more_none : {mode : ℕ} (c : Picture mode) (pid first pages : ℕ) → ForgetsMore c c pid first pages
-more_none c pid first pages = record {
-  root = λ q. refl;
-  at = λ q page. refl;
-  page_of = λ n. refl;
-  files = λ f. refl;
-  entries = λ q page h. refl;
-  views = λ q page. refl;
-  frames = refl;
-  roles = λ n. inl refl;
-  pointers = λ n i m. (λ x. x, λ x. x);
-  total = refl;
-  fewer = λ k. omega arith;
-  counts = λ k none. refl;
-  bytes = λ k used. refl;
-  place = λ p. inl refl;
-  lasting = λ p is. (refl, refl, refl);
-}
-
 pub more_then : {mode : ℕ} (a b c : Picture mode) (pid first pages : ℕ) (p : ObjectPage) → IsFit b → ForgetsMore a b pid first pages → Forgets b c p
     → is_named (without_maps a.at pid first pages) p.object p.page ≡ false → ForgetsMore a c pid first pages
 more_then a b c pid first pages p fit more forgets unnamed = record {
@@ -394,6 +375,7 @@ rest_then a b c p q = record {
   pages = q.pages ∙ p.pages;
   roots = q.roots ∙ p.roots;
   regions = q.regions ∙ p.regions;
+  clock = q.clock ∙ p.clock;
   page_of = q.page_of ∙ p.page_of;
   refused = q.refused ∙ p.refused;
 }

@@ -2,7 +2,6 @@
 use Rattle.vm_types.specs.Limits.{top_level}
 use Rattle.std.proofs.Common.{◌≡◌, ◌≢◌, ℕ, zero, suc, ◌+◌, ◌*◌, ◌/◌, ◌%◌, ◌^◌, ◌≤◌, ◌<◌, ◌⊎◌, inl, inr, sym, ap, ◌∙◌, subst, arith}
 use Rattle.std.specs.Prelude.{min}
-use Rattle.std.proofs.Math.Nat.{div-le_self}
 use Rattle.frames.specs.FrameTable.{FrameTable}
 use Rattle.sv39_walk.specs.Entry.{entry_at}
 use Rattle.page_tables.specs.Tree.{IsRoot, last_table, missing_of}
@@ -15,33 +14,12 @@ use Rattle.ranges.specs.Steps.{IsPastGap}
 pub past_place : (page next k : ℕ) → page / 512 ^ k + 1 ≤ next → page < next * 512 ^ k
 past_place page next k past = below_place page next k (omega (arith, past))
 
--- up to four levels nothing is too large
-pub few_pages : (k : ℕ) → k ≤ 4 → 512 ^ k ≤ 2 ^ 36
-few_pages zero le = omega arith
-few_pages (suc zero) le = omega arith
-few_pages (suc (suc zero)) le = omega arith
-few_pages (suc (suc (suc zero))) le = omega arith
-few_pages (suc (suc (suc (suc zero)))) le = omega arith
-few_pages (suc (suc (suc (suc (suc k))))) le = absurd (omega arith)
-
-pub end_fits : (page k : ℕ) → k ≤ 4 → page < 2 ^ 35 → (page / 512 ^ k + 1) * 512 ^ k ≤ 2 ^ 37
-end_fits page zero le low = let e : page / 1 + 1 ≤ 2 ^ 37 = omega (arith, low) in omega (arith, low)
-end_fits page (suc zero) le low = let e : (page / 512 + 1) * 512 ≤ 2 ^ 37 = omega (arith, low) in e
-end_fits page (suc (suc zero)) le low = let e : (page / 262144 + 1) * 262144 ≤ 2 ^ 37 = omega (arith, low) in e
-end_fits page (suc (suc (suc zero))) le low = let e : (page / 134217728 + 1) * 134217728 ≤ 2 ^ 37 = omega (arith, low) in e
-end_fits page (suc (suc (suc (suc zero)))) le low = let e : (page / 68719476736 + 1) * 68719476736 ≤ 2 ^ 37 = omega (arith, low) in e
-end_fits page (suc (suc (suc (suc (suc k))))) le low = absurd (omega (arith, le))
-
 pub next_fits : (last next k : ℕ) → k ≤ 3 → last < 2 ^ 35 → next ≤ last / 512 ^ k + 1 → next * 512 ^ k ≤ 2 ^ 37
 next_fits last next zero le low within = let e : next * 1 ≤ 2 ^ 37 = omega (arith, low, within) in e
 next_fits last next (suc zero) le low within = let h : next ≤ last / 512 + 1 = within in let e : next * 512 ≤ 2 ^ 37 = omega (arith, low, h) in e
 next_fits last next (suc (suc zero)) le low within = let h : next ≤ last / 262144 + 1 = within in let e : next * 262144 ≤ 2 ^ 37 = omega (arith, low, h) in e
 next_fits last next (suc (suc (suc zero))) le low within = let h : next ≤ last / 134217728 + 1 = within in let e : next * 134217728 ≤ 2 ^ 37 = omega (arith, low, h) in e
 next_fits last next (suc (suc (suc (suc k)))) le low within = absurd (omega (arith, le))
-
--- a page's place is no larger than its number
-pub place_small : (page k : ℕ) → page / 512 ^ k ≤ page
-place_small page k = div-le_self page (512 ^ k)
 
 -- the end of a span is past each page of it
 pub own_past : (page own k : ℕ) → own ≡ (page / 512 ^ k + 1) * 512 ^ k → page < own

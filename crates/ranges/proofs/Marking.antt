@@ -1,12 +1,11 @@
 -- Objects are marked one after the other.
 use Rattle.vm_types.specs.declared.mode.Levels as Levels
-use Rattle.std.proofs.Common.{◌≡◌, ◌≢◌, ℕ, zero, suc, ◌+◌, ◌-◌, ◌<◌, ◌≤◌, inl, inr, ◌⊎◌, Bool, true, false, Option, Some, None, List, length, get_or, set, refl, sym, ap, ◌∙◌, arith, length-set, get_or-set_same, get_or-set_other, eqb-true, eq-eqb, ne_eqb}
+use Rattle.std.proofs.Common.{◌≡◌, ◌≢◌, ℕ, zero, suc, ◌+◌, ◌-◌, ◌<◌, ◌≤◌, inl, inr, ◌⊎◌, Bool, true, false, Option, Some, None, List, get_or, refl, sym, ap, ◌∙◌, arith, eq-eqb, ne_eqb}
 use Rattle.std.specs.Prelude.{replicate}
 use Rattle.std.proofs.lemmas.List.{get_or_past, get_or-replicate, length-replicate}
 use Rattle.std.proofs.lemmas.Bool.Decides.{nat_tests}
 use Rattle.std.proofs.lemmas.Bool.{cases_Bool, cases_eq, cases_lt, false≢true}
 use Rattle.vm_types.specs.Limits.{named_limit, widest_end}
-use Rattle.vm_types.specs.declared.object.ObjectPage.{ObjectPage}
 use Rattle.vm_types.specs.declared.region.Attr.{Attr}
 use Rattle.vm_types.specs.declared.region.Backing.{Backing}
 use Rattle.vm_types.specs.declared.region.Backing.TheVariants.{Anon, Private, Shared, Common}
@@ -54,34 +53,6 @@ marks_alike f g x y forth back marks = record {
     | inl old ↦ inl old
     | inr is ↦ inr (forth o is)
   ];
-}
-
--- one object
-pub marks_one : (b : Backing) (p : ObjectPage) (xs : List Bool) → b ≡ Common p → p.object < length xs → Marks (λ o. is_of_object b o ≡ true) xs (set xs p.object true)
-marks_one b p xs is low = record {
-  room = length-set xs p.object true;
-  kept = λ o e. elim (cases_eq o p.object) [
-    | inl same ↦ ap (λ k. get_or (set xs p.object true) k false) same ∙ get_or-set_same xs p.object true false low
-    | inr ne ↦ get_or-set_other xs p.object o true false ne ∙ e
-  ];
-  all = λ o inside of. (
-      let same : p.object ≡ o = eqb-true p.object o (sym (ap (λ x. is_of_object x o) is) ∙ of) in
-      ap (λ k. get_or (set xs p.object true) k false) (sym same) ∙ get_or-set_same xs p.object true false low);
-  only = λ o e. elim (cases_eq o p.object) [
-    | inl same ↦ inr (ap (λ x. is_of_object x o) is ∙ eq-eqb p.object o (sym same))
-    | inr ne ↦ inl (sym (get_or-set_other xs p.object o true false ne) ∙ e)
-  ];
-}
-
--- an object past the marks needs none
-pub marks_past : (b : Backing) (p : ObjectPage) (xs : List Bool) → b ≡ Common p → named_limit ≤ p.object → Marks (λ o. is_of_object b o ≡ true) xs xs
-marks_past b p xs is past = record {
-  room = refl;
-  kept = λ o e. e;
-  all = λ o low of. (
-      let same : p.object ≡ o = eqb-true p.object o (sym (ap (λ x. is_of_object x o) is) ∙ of) in
-      absurd (omega (arith, same, low, past)));
-  only = λ o e. inl e;
 }
 
 of_uses : (b : Backing) (n o : ℕ) → is_of_object (backing_after b n) o ≡ is_of_object b o

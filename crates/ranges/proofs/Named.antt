@@ -1,8 +1,7 @@
 -- What processes name hangs on what stands behind their pages, and on no permission.
 use Rattle.vm_types.specs.Limits.{widest_end}
-use Rattle.std.proofs.Common.{◌≡◌, ℕ, true, Option, Some, None, refl, sym, ◌∙◌}
+use Rattle.std.proofs.Common.{◌≡◌, ℕ, true, Option, Some, None, refl, sym, ◌∙◌, inl, inr}
 use Rattle.std.specs.Prelude.{option_map}
-use Rattle.std.proofs.Common.{inl, inr}
 use Rattle.std.proofs.lemmas.Bool.{cases_Bool}
 use Rattle.vm_types.specs.declared.permission.Prot.{Prot}
 use Rattle.vm_types.specs.declared.region.Attr.{Attr}

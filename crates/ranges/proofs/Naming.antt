@@ -1,5 +1,5 @@
 -- Which pages of a run name a page of an object.
-use Rattle.std.proofs.Common.{◌+◌, arith, ◌≡◌, ℕ, ◌-◌, ◌<◌, ◌≤◌, true, false, Option, Some, None, refl, sym, ap, ◌∙◌, eqb-true, eq-eqb, ◌==◌}
+use Rattle.std.proofs.Common.{◌≡◌, ℕ, ◌-◌, ◌<◌, ◌≤◌, true, false, Option, Some, None, refl, sym, ap, ◌∙◌, eqb-true, eq-eqb, ◌==◌}
 use Rattle.std.proofs.lemmas.Bool.{false≢true, and_parts, and_from}
 use Rattle.vm_types.specs.declared.object.ObjectPage.{ObjectPage}
 use Rattle.vm_types.specs.declared.object.PageKey.{PageKey}
@@ -63,9 +63,3 @@ names_over a run p k is from below named = record {
   below = below;
   is = backing_named (attr_after run.attr (k - run.first)).backing p (sym (ap (λ x. names x p.object p.page) is) ∙ named);
 }
-
--- the first page of a run of pages of an object names the first of those
-pub first_named : (a : Option Attr) (run : Run) (p : ObjectPage) → a ≡ Some (attr_after run.attr (run.first - run.first)) → run.attr.backing ≡ Common p → names a p.object p.page ≡ true
-first_named a run p is backed =
-    ap (λ x. names x p.object p.page) is ∙ ap (λ b. is_object_page (backing_after b (run.first - run.first)) p.object p.page) backed
-    ∙ and_from _ _ (eq-eqb p.object p.object refl) (eq-eqb (p.page + (run.first - run.first)) p.page (omega arith))

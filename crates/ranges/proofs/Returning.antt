@@ -24,8 +24,7 @@ use Rattle.residency.proofs.Handed.{same, release_spares}
 use Rattle.residency.proofs.Putting.{with_slots}
 use Rattle.residency.proofs.Setting.{held_same}
 use Rattle.residency.proofs.SlotReleased.{fit_slot_released}
-use Rattle.residency.proofs.SeatForms.{seat_own, seat_common}
-use Rattle.residency.proofs.SeatForms.{swapped_form, away_seat, views_given, held_given}
+use Rattle.residency.proofs.SeatForms.{seat_own, seat_common, swapped_form, away_seat, views_given, held_given}
 use Rattle.ranges.specs.Steps.{SameButMemory, LacksHolder, ReturnsSeat}
 use Rattle.ranges.proofs.Sharing.{private_data}
 

@@ -1,21 +1,42 @@
 -- What taking the entries of pages of one process out comes to.
 use Rattle.vm_types.specs.declared.mode.Levels as Levels
-use Rattle.std.specs.Prelude.{◌≡◌, ℕ, ◌+◌, ◌/◌, ◌<◌, ◌≤◌, Some}
-use Rattle.vm_types.specs.Limits.{top_level, table_entries}
+use Rattle.std.specs.Prelude.{◌≡◌, ℕ, ◌+◌, ◌/◌, ◌%◌, ◌<◌, ◌≤◌, true, Some}
+use Rattle.vm_types.specs.Limits.{top_level, table_entries, user_end}
 use Rattle.page_tables.specs.Places.{IsTableOf}
 use Rattle.residency.specs.declared.kernel.Core.{Core}
-use Rattle.residency.specs.Picture.{Picture, picture_of}
+use Rattle.residency.specs.Seats.{seat}
+use Rattle.residency.specs.Picture.{Picture, picture_of, is_live}
 use Rattle.residency.specs.Parts.{IsFit}
 use Rattle.residency.specs.Shows.{KeepsFiles}
 use Rattle.ranges.specs.declared.rows.TableRow.{TableRow}
 use Rattle.ranges.specs.Rows.{RemapsRow}
-use Rattle.ranges.specs.Steps.{KeepsBesideMemory, KeepsEntriesOfOthers, SameTables, ReturnsTables, ReturnsSlots, Clears, IsWithoutTables, IsCleared, IsStepEnd}
+use Rattle.ranges.specs.Steps.{KeepsBesideMemory, KeepsEntriesOfOthers, SameTables, ReturnsSeat, ReturnsTables, ReturnsSlots, Clears, IsWithoutTables, IsCleared, IsStepEnd}
 
 -- the entry of a page of the row's process stands in the row's table
 module _ {mode : ℕ} where
   pub record StandsIn (c : Picture mode) (row : TableRow) (page : ℕ) : Type 0 where
     pub root : c.root row.pid ≡ Some row.root.0
     pub place : IsTableOf c.frames (top_level mode) row.root.0 (page / table_entries) row.table.0
+
+  -- Pages of one process, from one up to, not including, another, are those of a part:
+  pub record IsPartOf (c : Picture mode) (pid start end : ℕ) : Type 0 where
+    -- the process lives, in memory that is fit,
+    pub fit : IsFit c
+    pub live : is_live c pid ≡ true
+    -- and there are some, which are the user's.
+    pub some : start < end
+    pub high : end ≤ user_end mode
+
+  -- A table row holds the entries of pages at its places before an end:
+  pub record HoldsPlaces (c : Picture mode) (row : TableRow) (end : ℕ) : Type 0 where
+    -- memory is fit, and the row's first page stands at the table's first place,
+    pub fit : IsFit c
+    pub stands : StandsIn c row row.first
+    pub open stands use *
+    pub begins : row.first % table_entries ≡ 0
+    -- and the places are the table's, of the user's pages.
+    pub in_table : end ≤ table_entries
+    pub high : row.first + end ≤ user_end mode
 
 module _ {M : Type 0} {m : Levels.Ghosts M} {D E : Type 0} where
   -- The pages of one process from low up to, not including, high lose their entries:
@@ -24,6 +45,15 @@ module _ {M : Type 0} {m : Levels.Ghosts M} {D E : Type 0} where
     pub clears : Clears (picture_of old) (picture_of new) pid low high
     -- memory is fit, and nothing but frames and the share counts of slots changes.
     pub fit : IsFit (picture_of new)
+    pub rest : KeepsBesideMemory old new
+    pub refused : new.refused ≡ old.refused
+
+  -- The share of what an entry named, which is taken out already, is given back:
+  pub record ReleasesShare (old new : Core D E M m) (number : ℕ) : Type 0 where
+    -- memory is fit, and of the frame or slot that it named one share less is counted,
+    pub fit : IsFit (picture_of new)
+    pub gives : ReturnsSeat (picture_of old) (picture_of new) (seat number)
+    -- and nothing but frames and the share counts of slots changes.
     pub rest : KeepsBesideMemory old new
     pub refused : new.refused ≡ old.refused
 

@@ -7,7 +7,7 @@ use Rattle.frames.specs.FrameTable.{frame_count}
 use Rattle.residency.specs.declared.kernel.Core.{Core}
 use Rattle.residency.specs.Picture.{Picture, picture_of, is_live}
 use Rattle.residency.specs.Parts.{IsFit}
-use Rattle.ranges.specs.Rows.{KeepsNamed, RemapsRow, without_maps}
+use Rattle.ranges.specs.Rows.{IsBareRow, KeepsNamed, RemapsRow, without_maps}
 use Rattle.ranges.specs.Steps.{KeepsDevices, KeepsEntriesOfOthers, ReturnsTables, LosesSlots}
 
 -- those are pages of a live process, in memory that is fit
@@ -16,6 +16,11 @@ module _ {mode : ℕ} where
     pub fit : IsFit c
     pub live : is_live c pid ≡ true
     pub row : first + pages ≤ user_end mode
+
+  -- those pages have no entries either
+  pub record IsBareRowOf (c : Picture mode) (pid first pages : ℕ) : Type 0 where
+    pub row : IsRowOf c pid first pages
+    pub bare : IsBareRow c pid first pages
 
 module _ {M : Type 0} {m : Levels.Ghosts M} {D E : Type 0} where
   -- The pages of a row of one process are those of a map:

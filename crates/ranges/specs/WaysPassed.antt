@@ -1,11 +1,16 @@
 -- What a search for the next page on whose way no table is missing comes to.
 use Rattle.std.specs.Prelude.{◌≡◌, ◌≢◌, ℕ, ◌<◌, ◌≤◌, Option, IfNone, IfSome}
-use Rattle.vm_types.specs.Limits.{top_level}
+use Rattle.vm_types.specs.Limits.{top_level, user_end}
 use Rattle.frames.specs.FrameTable.{FrameTable}
 use Rattle.page_tables.specs.Tree.{missing_of}
 use Rattle.residency.specs.Picture.{Picture, entry}
 use Rattle.residency.specs.Ways.{IsWhole}
 use Rattle.ranges.specs.Steps.{IsPastGap}
+
+-- pages from one up to, not including, an end: there are some, and they are the user's
+pub record IsUserRow (mode page end : ℕ) : Type 0 where
+  pub some : page < end
+  pub high : end ≤ user_end mode
 
 -- Of the pages of a process from one up to, not including, an end, a search finds
 module _ {mode : ℕ} where

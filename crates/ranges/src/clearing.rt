@@ -1,13 +1,13 @@
 //! Pages without entries.
-ghost use Rattle.std.specs.Prelude.{◌≡◌, ◌+◌, ◌*◌, ◌/◌, ◌%◌, ◌<◌, ◌≤◌, ◌^◌, true};
+ghost use Rattle.std.specs.Prelude.{◌≡◌, ◌+◌, ◌*◌, ◌/◌, ◌<◌, ◌≤◌, ◌^◌, true, false};
 ghost use Rattle.vm_types.specs.Limits.{user_end, table_entries};
 ghost use Rattle.page_tables.specs.Entry.{IsPageEntry};
-ghost use Rattle.residency.specs.Seats.{seat};
+ghost use Rattle.residency.specs.Seats.{is_private, seat};
 ghost use Rattle.residency.specs.Picture.{picture_of, is_live};
 ghost use Rattle.residency.specs.Parts.{IsFit};
 ghost use Rattle.residency.specs.Ways.{IsWhole};
-ghost use Rattle.ranges.specs.RowsCleared.{StandsIn, ClearsWithTables, ClearsNext, ClearsPlaces, ClearsRow};
-ghost use Rattle.ranges.specs.Steps.{KeepsBesideMemory, LacksHolder, ReturnsSeat};
+ghost use Rattle.ranges.specs.RowsCleared.{IsPartOf, HoldsPlaces, ClearsWithTables, ClearsNext, ClearsPlaces, ClearsRow, ReleasesShare};
+ghost use Rattle.ranges.specs.Steps.{LacksHolder};
 
 use crate::entries::next_place;
 use crate::rows::{TableRow, next_part, span_end, table_end, table_start, user_page};
@@ -36,10 +36,7 @@ pub fn clear_row<D, E, M: Levels>(core: &mut Core<D, E, M>, pid: Pid, first: u64
 
 /// Clears the pages from `start` up to, not including, `end`, table by table.
 fn clear_part<D, E, M: Levels>(core: &mut Core<D, E, M>, pid: Pid, start: Vpn, end: u64)
-    requires fit { IsFit (picture_of core.old) }
-    requires live { is_live (picture_of core.old) pid ≡ true }
-    requires some { start < end }
-    requires high { end ≤ user_end M.mode }
+    requires { IsPartOf (picture_of core.old) pid start end }
     ensures { ClearsWithTables core.old core.new pid start end }
 {
     let mut page = start.get();
@@ -52,10 +49,7 @@ fn clear_part<D, E, M: Levels>(core: &mut Core<D, E, M>, pid: Pid, start: Vpn, e
 /// past them. Where a table is missing on the way, there is nothing to clear on all its pages; but a table between it and the
 /// root may be without entries, since a call that stalled for the want of a frame leaves the tables that it linked.
 fn clear_next<D, E, M: Levels>(core: &mut Core<D, E, M>, pid: Pid, start: Vpn, end: u64) -> u64
-    requires fit { IsFit (picture_of core.old) }
-    requires live { is_live (picture_of core.old) pid ≡ true }
-    requires some { start < end }
-    requires high { end ≤ user_end M.mode }
+    requires { IsPartOf (picture_of core.old) pid start end }
     ensures { ClearsNext core.old core.new pid start end result }
 {
     let top_table = root_of(core, pid);
@@ -76,12 +70,9 @@ fn clear_next<D, E, M: Levels>(core: &mut Core<D, E, M>, pid: Pid, start: Vpn, e
 /// Clears the pages from `start` up to, not including, `stop`, whose entries stand in one table, and releases the tables
 /// that are without entries then. Places without an entry are passed over many at a time.
 fn clear_table<D, E, M: Levels>(core: &mut Core<D, E, M>, pid: Pid, start: Vpn, stop: u64)
-    requires fit { IsFit (picture_of core.old) }
-    requires live { is_live (picture_of core.old) pid ≡ true }
+    requires part { IsPartOf (picture_of core.old) pid start stop }
     requires whole { IsWhole (picture_of core.old) pid start }
-    requires some { start < stop }
     requires one_table { stop ≤ (start / table_entries + 1) * table_entries }
-    requires high { stop ≤ user_end M.mode }
     ensures { ClearsWithTables core.old core.new pid start stop }
 {
     let root = root_of(core, pid);
@@ -112,37 +103,41 @@ fn clear_at<D, E, M: Levels>(
     index: usize,
     end: usize,
 ) -> usize
-    requires fit { IsFit (picture_of core.old) }
-    requires row { StandsIn (picture_of core.old) row.now row.now.first }
-    requires begins { row.now.first % table_entries ≡ 0 }
+    requires row { HoldsPlaces (picture_of core.old) row.now end }
     requires below { index < end }
-    requires in_table { end ≤ table_entries }
-    requires high { row.now.first + end ≤ user_end M.mode }
     ensures { ClearsPlaces core.old core.new row.now index end result }
 {
     let number = number_in(&core.frames, row.table, index);
+    if number.is_private() {
+        set_in(&mut core.frames, row.table, index, Entry::None);
+        give_back_frame(core, number);
+        return index + 1;
+    }
     if number.to_u64() == 0 {
         return next_place(&core.frames, row.table, index, end);
     }
     set_in(&mut core.frames, row.table, index, Entry::None);
-    give_back(core, number);
+    give_back_slot(core, number);
     index + 1
 }
 
-/// Gives back the share of the frame or the slot that an entry named as its process's own, where it named one. The entry is
-/// taken out already.
-fn give_back<D, E, M: Levels>(core: &mut Core<D, E, M>, number: Pte)
-    requires form { IsPageEntry number.0 }
+/// Gives back the share of the frame that an entry named as its process's own. The entry is taken out already.
+fn give_back_frame<D, E, M: Levels>(core: &mut Core<D, E, M>, number: Pte)
+    requires own { is_private number.0 ≡ true }
     requires lacks { LacksHolder (picture_of core.old) (seat number.0) }
-    ensures fit { IsFit (picture_of core.new) }
-    ensures gives { ReturnsSeat (picture_of core.old) (picture_of core.new) (seat number.0) }
-    ensures rest { KeepsBesideMemory core.old core.new }
-    ensures refused { core.new.refused ≡ core.old.refused }
+    ensures { ReleasesShare core.old core.new number.0 }
 {
-    if number.is_private() {
-        core.frames.release(number.frame_number());
-        return;
-    }
+    core.frames.release(number.frame_number());
+}
+
+/// Gives back the share of the slot that an entry named, where it named one, and no frame as its process's own. The entry is
+/// taken out already.
+fn give_back_slot<D, E, M: Levels>(core: &mut Core<D, E, M>, number: Pte)
+    requires form { IsPageEntry number.0 }
+    requires common { is_private number.0 ≡ false }
+    requires lacks { LacksHolder (picture_of core.old) (seat number.0) }
+    ensures { ReleasesShare core.old core.new number.0 }
+{
     if let Entry::Swapped(slot) = decode(number) {
         core.swap.release(slot);
     }

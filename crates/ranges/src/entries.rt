@@ -46,7 +46,7 @@ pub fn next_place<M: Levels>(memory: &Memory<M>, table: FrameNo, index: usize, e
 /// place of a number is its remainder by 512: in a lowest table the numbers are pages, and in one above it those of the tables
 /// below.
 pub(crate) fn next_set<M: Levels>(memory: &Memory<M>, table: FrameNo, first: u64, stop: u64) -> u64
-    requires table { IsTable memory.now table.0 }
+    requires inside { IsFrame memory.now table.0 }
     requires order { first ≤ stop }
     requires one_table { stop ≤ (first / table_entries + 1) * table_entries }
     ensures from { first ≤ result }

@@ -2,18 +2,17 @@
 ghost use Rattle.std.specs.Prelude.{◌≡◌, ◌≢◌, ℕ, Some, ◌+◌, ◌-◌, ◌≤◌, ◌<◌, true, false, IfSome, IfNone};
 ghost use Rattle.vm_types.specs.Limits.{user_start, user_end};
 ghost use Rattle.vm_types.specs.Objects.{is_named, names};
-ghost use Rattle.vm_types.specs.Rows.{in_row};
 ghost use Rattle.vm_types.specs.declared.object.PageKey.TheVariants.{Object};
 ghost use Rattle.vm_types.specs.declared.region.Backing.TheVariants.{Common};
 ghost use Rattle.page_cache.specs.declared.place.Place.TheVariants.{Home};
-ghost use Rattle.residency.specs.Picture.{picture_of, entry, is_live};
+ghost use Rattle.residency.specs.Picture.{picture_of, is_live};
 ghost use Rattle.residency.specs.Parts.{IsFit};
 ghost use Rattle.residency.specs.Steps.{Forgets};
 ghost use Rattle.page_cache.specs.CacheTable.{cache_frames, slot_count};
-ghost use Rattle.ranges.specs.ObjectSteps.{IsForgottenThere, IsNextCommon};
-ghost use Rattle.ranges.specs.Rows.{IsBareRow, IsLastName, is_common, node_of};
+ghost use Rattle.ranges.specs.ObjectSteps.{ForgetsLast, IsForgottenThere, IsNextCommon, NamesWithoutEntry};
+ghost use Rattle.ranges.specs.Rows.{is_common, node_of};
 ghost use Rattle.ranges.specs.RowsForgotten.{ForgetsNames};
-ghost use Rattle.ranges.specs.RowsRemapped.{IsRowOf};
+ghost use Rattle.ranges.specs.RowsRemapped.{IsBareRowOf};
 
 use regions::Run;
 use residency::{Core, PLACES, page_over};
@@ -30,10 +29,7 @@ pub(crate) struct Named {
 /// home, as zeros, and its frame or slot is free. The pages of the row have no entries. Where none of them is of an object nothing is
 /// looked at but the regions; else either the pages of the row that are, or all frames and slots, whichever are fewer, once each.
 pub fn forget_row<D, E, M: Levels>(core: &mut Core<D, E, M>, pid: Pid, first: u64, pages: u64)
-    requires fit { IsFit (picture_of core.old) }
-    requires live { is_live (picture_of core.old) pid ≡ true }
-    requires row { first + pages ≤ user_end M.mode }
-    requires bare { IsBareRow (picture_of core.old) pid first pages }
+    requires { IsBareRowOf (picture_of core.old) pid first pages }
     ensures { ForgetsNames core.old core.new pid first pages }
 {
     let count = common_pages(core, pid, first, first + pages);
@@ -79,8 +75,7 @@ fn common_part(run: Run, end: u64) -> u64
 
 /// `forget_row` by the pages of the row that are of objects.
 fn forget_pages<D, E, M: Levels>(core: &mut Core<D, E, M>, pid: Pid, first: u64, pages: u64)
-    requires row { IsRowOf (picture_of core.old) pid first pages }
-    requires bare { IsBareRow (picture_of core.old) pid first pages }
+    requires { IsBareRowOf (picture_of core.old) pid first pages }
     ensures { ForgetsNames core.old core.new pid first pages }
 {
     let mut from = first;
@@ -128,8 +123,7 @@ fn first_of<M: Levels>(run: Run) -> Option<Named>
 
 /// `forget_row` by frames and slots.
 fn forget_nodes<D, E, M: Levels>(core: &mut Core<D, E, M>, pid: Pid, first: u64, pages: u64)
-    requires row { IsRowOf (picture_of core.old) pid first pages }
-    requires bare { IsBareRow (picture_of core.old) pid first pages }
+    requires { IsBareRowOf (picture_of core.old) pid first pages }
     ensures { ForgetsNames core.old core.new pid first pages }
 {
     let nodes = core.cache.frames() + core.cache.slots();
@@ -173,11 +167,9 @@ fn forget_last<D, E, M: Levels>(
     pages: u64,
     page: ObjectPage,
 )
-    requires row { IsRowOf (picture_of core.old) pid first pages }
-    requires bare { IsBareRow (picture_of core.old) pid first pages }
+    requires bare { IsBareRowOf (picture_of core.old) pid first pages }
     requires away { (picture_of core.old).place (Object page) ≢ Home }
-    ensures fit { IsFit (picture_of core.new) }
-    ensures last { IsLastName core.old core.new pid first pages page }
+    ensures { ForgetsLast core.old core.new pid first pages page }
 {
     let Some(at) = page_naming(core, pid, first, first + pages, page) else {
         return;
@@ -188,9 +180,7 @@ fn forget_last<D, E, M: Levels>(
 /// Forgets a page of an object that a live process names at a page without an entry, where no other process does there. (A page of an
 /// object is at one page number in all processes.)
 fn forget_there<D, E, M: Levels>(core: &mut Core<D, E, M>, pid: Pid, at: Vpn, page: ObjectPage)
-    requires fit { IsFit (picture_of core.old) }
-    requires named { names ((picture_of core.old).at pid at) page.object page.page ≡ true }
-    requires bare { entry (picture_of core.old) pid at ≡ 0 }
+    requires { NamesWithoutEntry (picture_of core.old) pid at page }
     ensures fit { IsFit (picture_of core.new) }
     ensures there { IsForgottenThere core.old core.new pid at page }
 {

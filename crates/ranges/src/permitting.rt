@@ -12,6 +12,7 @@ ghost use Rattle.residency.specs.Parts.{IsFit};
 ghost use Rattle.ranges.specs.Leaves.{TakesStores};
 ghost use Rattle.ranges.specs.RowsCleared.{StandsIn};
 ghost use Rattle.ranges.specs.RowsPermitted.{IsPermissible, PermitsPages, PermitsNext, PermitsPage, ReprotectsPages};
+ghost use Rattle.ranges.specs.WaysPassed.{IsUserRow};
 ghost use Rattle.residency.specs.Ways.{IsWhole};
 
 use crate::entries::next_entry;
@@ -63,8 +64,7 @@ fn permit_next<D, E, M: Levels>(
     prot: Prot,
 ) -> u64
     requires may { IsPermissible (picture_of core.old) pid prot }
-    requires some { start < end }
-    requires high { end ≤ user_end M.mode }
+    requires row { IsUserRow M.mode start end }
     ensures { PermitsNext core.old core.new pid start end prot result }
 {
     let linked = next_linked(core, pid, start, end);

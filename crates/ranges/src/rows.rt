@@ -8,7 +8,7 @@ ghost use Rattle.residency.specs.Parts.{IsRootedBut};
 ghost use Rattle.residency.specs.Ways.{IsWhole};
 ghost use Rattle.ranges.specs.Rows.{IsUnmapped, IsNextPart};
 ghost use Rattle.ranges.specs.Steps.{IsGapEnd};
-ghost use Rattle.ranges.specs.WaysPassed.{FindsLinked, PassesGap};
+ghost use Rattle.ranges.specs.WaysPassed.{FindsLinked, IsUserRow, PassesGap};
 
 use crate::entries::next_set;
 use memory::{Memory, last_table};
@@ -112,8 +112,7 @@ pub(crate) fn next_linked<D, E, M: Levels>(
 ) -> u64
     requires rooted { IsRootedBut (picture_of core.now) 0 }
     requires live { is_live (picture_of core.now) pid ≡ true }
-    requires some { page < end }
-    requires high { end ≤ user_end M.mode }
+    requires row { IsUserRow M.mode page end }
     ensures { FindsLinked (picture_of core.now) pid page end result }
 {
     let root = root_of(core, pid);
@@ -132,8 +131,7 @@ pub(crate) fn next_linked<D, E, M: Levels>(
 fn past_gap<M: Levels>(memory: &Memory<M>, root: FrameNo, page: Vpn, end: u64) -> Option<u64>
     requires forest { IsForest memory.now }
     requires root { IsRoot (top_level M.mode) memory.now root.0 }
-    requires some { page < end }
-    requires high { end ≤ user_end M.mode }
+    requires row { IsUserRow M.mode page end }
     ensures { PassesGap M.mode memory.now root.0 page end result }
 {
     let (level, table) = last_table(memory, root, page);

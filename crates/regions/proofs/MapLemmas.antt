@@ -25,9 +25,6 @@ clip_back end page attr h none =
     (λ (b : 2 ^ 35 ≤ page). clipped-above end (2 ^ 35) None page attr b ∙ sym (none b))
     (lt_or_le page (2 ^ 35))
 
-pub attr_high : ℕ → ℕ
-attr_high n = n
-
 module _ (mode : ℕ) where
   pub attr_at-high : (runs : List Run) → IsMaximal mode 16 runs → (page : ℕ) → 2 ^ 35 ≤ page → attr_at runs page ≡ None
   attr_at-high runs m page h =

@@ -151,10 +151,6 @@ pub changed-none : (o : Option Attr) → option_map (changed_run None) o ≡ o
 changed-none None = refl
 changed-none (Some a) = refl
 
-abbrev pub attr_in_part : Option Run → ℕ → Option Attr
-attr_in_part None page = None
-attr_in_part (Some run) page = attr_in run page
-
 -- the part is a run of its own
 pub record IsPart (mode : ℕ) (low high : ℕ) (run part : Run) : Type 0 where
   pub is_run : IsRun mode part

@@ -7,6 +7,7 @@ use Rattle.vm_types.specs.declared.object.PageKey.TheVariants.{File, Object}
 use Rattle.vm_types.specs.declared.region.Attr.{Attr}
 use Rattle.regions.specs.declared.run.Run.{Run}
 use Rattle.regions.specs.Run.{run_between}
+use Rattle.regions.specs.RunList.{IsMaximal}
 
 -- the runs from the first one on that ends behind the page
 abbrev pub runs_behind : ℕ → List Run → List Run
@@ -66,6 +67,11 @@ from_or low (Some k) other = if leb low k then Some k else other
 abbrev pub first_on : ℕ → PageKey → List Run → Option ℕ
 first_on low key [] = None
 first_on low key (run ∷ runs) = from_or low (page_on key run) (first_on low key runs)
+
+-- A search over the runs of a map was made: it gave what a walk along them finds, and they are in order and maximal.
+pub record SearchesRuns {A : Type 0} (mode : ℕ) (runs : List Run) (walk : List Run → A) (result : A) : Type 0 where
+  pub found : result ≡ walk runs
+  pub maximal : IsMaximal mode user_start runs
 
 -- page k of a map stands on that page of a file or an object
 pub record StandsOn (map : ℕ → Option Attr) (key : PageKey) (k : ℕ) : Type 0 where

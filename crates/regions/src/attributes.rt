@@ -46,15 +46,13 @@ pub(crate) fn attr_after(attr: Attr, count: u64) -> Attr
 
 /// Whether `next` is the file page `count` pages further on than `page`.
 fn file_page_follows(page: FilePage, count: u64, next: FilePage) -> bool
-    requires { count < 2 ^ 36 }
     ensures { result ≡ file_page_eq (file_page_after page count) next }
 {
-    page.file == next.file && page.page as u64 + count == next.page as u64
+    page.file == next.file && page.page <= next.page && u64::from(next.page - page.page) == count
 }
 
 /// Whether `next` is the page of an object `count` pages further on than `page`.
 fn object_page_follows(page: ObjectPage, count: u64, next: ObjectPage) -> bool
-    requires { count < 2 ^ 36 }
     ensures { result ≡ object_page_eq (object_page_after page count) next }
 {
     page.object == next.object && page.page <= next.page && next.page - page.page == count
@@ -62,7 +60,6 @@ fn object_page_follows(page: ObjectPage, count: u64, next: ObjectPage) -> bool
 
 /// Whether `next` stands behind the page `count` pages further on than `backing`'s.
 fn backing_follows(backing: Backing, count: u64, next: Backing) -> bool
-    requires { count < 2 ^ 36 }
     ensures { result ≡ backing_eq (backing_after backing count) next }
 {
     match (backing, next) {
@@ -76,7 +73,6 @@ fn backing_follows(backing: Backing, count: u64, next: Backing) -> bool
 
 /// Whether `next` is what the page `count` pages further on than `attr`'s would be.
 pub(crate) fn attr_follows(attr: Attr, count: u64, next: Attr) -> bool
-    requires { count < 2 ^ 36 }
     ensures { result ≡ attr_eq (attr_after attr count) next }
 {
     attr.prot == next.prot && backing_follows(attr.backing, count, next.backing)

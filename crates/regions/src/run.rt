@@ -1,5 +1,5 @@
 //! One run, and its part between two pages.
-ghost use Rattle.std.specs.Prelude.{◌≡◌};
+ghost use Rattle.std.specs.Prelude.{◌≡◌, ◌≤◌};
 
 use crate::attributes::{attr_after, attr_follows, pages_between};
 use vm_types::{Attr, Levels, PageKey, Prot};
@@ -30,16 +30,16 @@ impl Run {
     }
 
     /// Whether `next` begins where this run ends, and goes on with it.
-    pub(crate) fn joins<M: Levels>(&self, next: Run) -> bool
-        requires { IsRun M.mode self.now }
+    pub(crate) fn joins(&self, next: Run) -> bool
+        requires { self.now.first ≤ self.now.end }
         ensures { result ≡ joins self.now next }
     {
         self.end == next.first && attr_follows(self.attr, self.end - self.first, next.attr)
     }
 
     /// The page that stands on that page of a file or an object; `None` where none of the run does.
-    pub(crate) fn page_on<M: Levels>(&self, key: PageKey) -> Option<u64>
-        requires { IsRun M.mode self.now }
+    pub(crate) fn page_on(&self, key: PageKey) -> Option<u64>
+        requires { self.now.first ≤ self.now.end }
         ensures { result ≡ page_on key self.now }
     {
         let pages = pages_between(self.attr.backing.stands_on()?, key)?;

@@ -40,7 +40,7 @@ impl<M: Levels> Regions<M> {
     ghost use Rattle.regions.specs.Run.{IsRun};
     ghost use Rattle.regions.specs.RunList.{attr_at, end_of, IsMaximal, IsNextRun, joins_last, pasted, pushed};
     ghost use Rattle.regions.specs.Remaps.{MakesMap};
-    ghost use Rattle.regions.specs.Search.{first_on, first_part, gap_from, is_clear, lowest_gap, runs_behind, IsFirstOn, StandsOn};
+    ghost use Rattle.regions.specs.Search.{first_on, first_part, gap_from, is_clear, lowest_gap, runs_behind, IsFirstOn, SearchesRuns, StandsOn};
     ghost use Rattle.vm_types.specs.Limits.{user_start, user_end};
 
     /// No page is mapped.
@@ -90,8 +90,7 @@ impl<M: Levels> Regions<M> {
 
     /// The runs from the first one on that ends behind the page. It is found by halves, in at most nine steps.
     fn runs_behind(&self, page: u64) -> &[Run]
-        ensures runs { result.now ≡ runs_behind page self.now }
-        ensures maximal { IsMaximal M.mode user_start self.now }
+        ensures { SearchesRuns M.mode self.now (runs_behind page) result.now }
     {
         let runs = self.as_slice();
         let ended = runs.partition_point(|run| run.end <= page);
@@ -147,8 +146,7 @@ impl<M: Levels> Regions<M> {
 
     /// The part from the page on of the first run that has one.
     fn first_part(&self, page: u64) -> Option<Run>
-        ensures part { result ≡ first_part page self.now }
-        ensures maximal { IsMaximal M.mode user_start self.now }
+        ensures { SearchesRuns M.mode self.now (first_part page) result }
     {
         let run = self.runs_behind(page).first()?;
         run.part::<M>(page, WIDEST_END, None)
@@ -165,11 +163,10 @@ impl<M: Levels> Regions<M> {
 
     /// The same as a number.
     fn first_page(&self, low: u64, key: PageKey) -> Option<u64>
-        ensures page { result ≡ first_on low key self.now }
-        ensures maximal { IsMaximal M.mode user_start self.now }
+        ensures { SearchesRuns M.mode self.now (first_on low key) result }
     {
         for run in self.runs_behind(low) {
-            if let Some(at) = run.page_on::<M>(key) {
+            if let Some(at) = run.page_on(key) {
                 if low <= at {
                     return Some(at);
                 }
@@ -188,8 +185,7 @@ impl<M: Levels> Regions<M> {
 
     /// The first page from this one on that isn't mapped.
     fn gap_from(&self, page: u64) -> u64
-        ensures gap { result ≡ gap_from page self.now }
-        ensures maximal { IsMaximal M.mode user_start self.now }
+        ensures { SearchesRuns M.mode self.now (gap_from page) result }
     {
         let mut gap = page;
         for run in self.runs_behind(page) {
@@ -228,8 +224,7 @@ impl<M: Levels> Regions<M> {
 
     /// Whether no run has a page from `first` up to, not including, `end`.
     fn is_clear(&self, first: u64, end: u64) -> bool
-        ensures clear { result ≡ is_clear first end self.now }
-        ensures maximal { IsMaximal M.mode user_start self.now }
+        ensures { SearchesRuns M.mode self.now (is_clear first end) result }
     {
         match self.runs_behind(first).first() {
             Some(run) => end <= run.first,
@@ -240,8 +235,7 @@ impl<M: Levels> Regions<M> {
     /// The lowest page where `pages` pages lie between two runs or behind the last.
     fn lowest_gap(&self, pages: u64) -> Option<Vpn>
         requires { 0 < pages }
-        ensures place { result ≡ lowest_gap M.mode pages user_start self.now }
-        ensures maximal { IsMaximal M.mode user_start self.now }
+        ensures { SearchesRuns M.mode self.now (lowest_gap M.mode pages user_start) result }
     {
         let end = M::user_end();
         let mut start = USER_START;
@@ -375,6 +369,6 @@ impl<M: Levels> Regions<M> {
         if self.len == 0 {
             return false;
         }
-        self.runs[self.len - 1].joins::<M>(next)
+        self.runs[self.len - 1].joins(next)
     }
 }

@@ -27,6 +27,10 @@ use Rattle.residency.specs.Evictions.{IsEvictable, ClearsMarks, Looked, GivesUp}
 use Rattle.residency.proofs.Entries.{entries_kept}
 use Rattle.residency.proofs.Giving.{frame_given}
 
+or_more : {A B : Type 0} → A ⊎ ⊥ → A ⊎ B
+or_more (inl is) = inl is
+or_more (inr none) = absurd none
+
 -- why a frame was given up, if one was
 pub needed_of : {M : Type 0} {m : Levels.Ghosts M} → {D E : Type 0} (old found : Core D E M m) → IsFull old.frames ⊎ (found ≡ old) → IsFull old.frames ⊎ (picture_of found ≡ picture_of old)
 needed_of old found (inl full) = inl full
@@ -109,14 +113,10 @@ module _ {M : Type 0} {m : Levels.Ghosts M} {D E : Type 0} (h : Ghosts E) where
           needs = given.needs;
           room = given.room;
           alone = subst Q (sym e) (taken (subst P e given.alone));
-          asks = asks_then h W before mid after (asks_wider h (λ k. IsSectorOfFreeSlot (slots_of old.swap) k ⊎ ⊥) W before mid (λ k is. free_or k is) given.asks) (asks_wider h also W mid after (λ k is. inr is) more);
+          asks = asks_then h W before mid after (asks_wider h (λ k. IsSectorOfFreeSlot (slots_of old.swap) k ⊎ ⊥) W before mid (λ k is. or_more is) given.asks) (asks_wider h also W mid after (λ k is. inr is) more);
         }))
     | inr same ↦ inl same
   ]
-    where
-      free_or : (k : ℕ) → IsSectorOfFreeSlot (slots_of old.swap) k ⊎ ⊥ → IsSectorOfFreeSlot (slots_of old.swap) k ⊎ also k
-      free_or k (inl is) = inl is
-      free_or k (inr none) = absurd none
 
   pub asked_taken : (old found new : Core D E M m) (keep : Option FrameNo) (n : ℕ) → IsFull old.frames ⊎ (found ≡ old) → Frees (picture_of old) (picture_of found) keep → IsFrame found.frames n → role_of found.frames n ≡ Free
       → new.swap ≡ found.swap → (GivesFrame (picture_of old) (picture_of found) n → GivesFrame (picture_of old) (picture_of new) n) → AsksSwap h old found keep → AsksSwap h old new keep
@@ -138,24 +138,16 @@ module _ {M : Type 0} {m : Levels.Ghosts M} {D E : Type 0} (h : Ghosts E) where
 
   pub also_asked : (old new : Core D E M m) (keep : Option FrameNo) (also : ℕ → Type 0) → AsksSwap h old new keep → AsksSwapAlso h old new keep also
   also_asked old new keep also (inl same) = inl (asks_same h also old.swap new.swap same)
-  also_asked old new keep also (inr given) = inr (record { full = given.full; frame = given.frame; spareable = given.spareable; needs = given.needs; room = given.room; alone = given.alone; asks = asks_wider h _ _ old.swap.pages.disk new.swap.pages.disk free_or given.asks })
-    where
-      free_or : (k : ℕ) → IsSectorOfFreeSlot (slots_of old.swap) k ⊎ ⊥ → IsSectorOfFreeSlot (slots_of old.swap) k ⊎ also k
-      free_or k (inl is) = inl is
-      free_or k (inr none) = absurd none
+  also_asked old new keep also (inr given) = inr (record { full = given.full; frame = given.frame; spareable = given.spareable; needs = given.needs; room = given.room; alone = given.alone; asks = asks_wider h _ _ old.swap.pages.disk new.swap.pages.disk (λ k is. or_more is) given.asks })
 
   pub one_also : (old found : Core D E M m) (new : Swap E) (also : ℕ → Type 0) → AsksOneSlot h old found Nothing → AsksOnly h also found.swap.pages.disk new.pages.disk
       → (slot : ℕ) × AsksOnly h (λ k. IsSectorOfSlot slot k ⊎ also k) old.swap.pages.disk new.pages.disk
   one_also old found new also one more = (
     one.0,
     asks_then h (λ k. IsSectorOfSlot one.0 k ⊎ also k) old.swap.pages.disk found.swap.pages.disk new.pages.disk
-        (asks_wider h (λ k. IsSectorOfSlot one.0 k ⊎ ⊥) (λ k. IsSectorOfSlot one.0 k ⊎ also k) old.swap.pages.disk found.swap.pages.disk (λ k is. slot_or one.0 k is) one.1)
+        (asks_wider h (λ k. IsSectorOfSlot one.0 k ⊎ ⊥) (λ k. IsSectorOfSlot one.0 k ⊎ also k) old.swap.pages.disk found.swap.pages.disk (λ k is. or_more is) one.1)
         (asks_wider h also (λ k. IsSectorOfSlot one.0 k ⊎ also k) found.swap.pages.disk new.pages.disk (λ k is. inr is) more),
   )
-    where
-      slot_or : (n k : ℕ) → IsSectorOfSlot n k ⊎ ⊥ → IsSectorOfSlot n k ⊎ also k
-      slot_or n k (inl is) = inl is
-      slot_or n k (inr none) = absurd none
 
 -- a frame that was given up holds no table afterwards
 module _ {mode : ℕ} where

@@ -1,6 +1,6 @@
 -- Bits cleared in entries, and which entries a change is for.
 use Rattle.std.proofs.Common.{◌≡◌, ◌≢◌, ℕ, ◌-◌, ◌/◌, ◌%◌, ◌^◌, ◌==◌, Bool, true, false, not, ◌&&◌, if◌then◌else◌, Some, None, Option, inl, inr, refl, ap, sym, ◌∙◌, subst, arith, ne_eqb, ◌*◌, ◌+◌}
-use Rattle.std.proofs.lemmas.Bool.{cases_Bool, false≢true}
+use Rattle.std.proofs.lemmas.Bool.{cases_Bool, false≢true, and_parts}
 use Rattle.std.proofs.lemmas.Bool.Decides.{nat_tests}
 use Rattle.vm_types.specs.declared.region.Attr.{Attr}
 use Rattle.frames.specs.FrameTable.{count_of}
@@ -22,7 +22,7 @@ bit_same : (e d k : ℕ) → e / 2 ^ k % 2 ≡ d / 2 ^ k % 2 → has_bit e k ≡
 unfolding has_bit
 bit_same e d k same = ap (λ x. x == 1) same
 
-bit_clear : (e k : ℕ) → e / 2 ^ k % 2 ≡ 0 → has_bit e k ≡ false
+pub bit_clear : (e k : ℕ) → e / 2 ^ k % 2 ≡ 0 → has_bit e k ≡ false
 unfolding has_bit
 bit_clear e k h = rw h
 
@@ -86,23 +86,15 @@ valid_leaf (Swapped slot) v = absurd (false≢true (sym (even (slot.0 * 1024 + 2
 valid_leaf (Parked frame true) v = absurd (false≢true (sym (even (frame.0 * 1024 + 260) (omega arith)) ∙ v))
 valid_leaf (Parked frame false) v = absurd (false≢true (sym (even (frame.0 * 1024 + 4) (omega arith)) ∙ v))
 
-and_left : (a b : Bool) → (a && b) ≡ true → a ≡ true
-and_left true b h = refl
-and_left false b h = h
-
-and_right : (a b : Bool) → (a && b) ≡ true → b ≡ true
-and_right true b h = h
-and_right false b h = absurd (false≢true h)
-
 not_true : (a : Bool) → not a ≡ true → a ≡ false
 not_true true h = absurd (false≢true h)
 not_true false h = refl
 
 pub leaf_accessed : (e : ℕ) → concerns ClearAccessed e ≡ true → (is_valid e ≡ true) × (is_accessed e ≡ true)
-leaf_accessed e h = (and_left (is_valid e) (is_accessed e) h, and_right (is_valid e) (is_accessed e) h)
+leaf_accessed e = and_parts (is_valid e) (is_accessed e)
 
 pub leaf_dirty : (e : ℕ) → concerns ClearDirty e ≡ true → (is_valid e ≡ true) × (is_dirty e ≡ true)
-leaf_dirty e h = (and_left (is_valid e) (is_dirty e) h, and_right (is_valid e) (is_dirty e) h)
+leaf_dirty e = and_parts (is_valid e) (is_dirty e)
 
 valid_some : (e : ℕ) → is_valid e ≡ true → e ≢ 0
 valid_some e valid none = false≢true (sym valid_zero ∙ sym (ap is_valid none) ∙ valid)
@@ -110,8 +102,8 @@ valid_some e valid none = false≢true (sym valid_zero ∙ sym (ap is_valid none
 -- an entry that a change is for names a frame
 pub some_framed : (change : Change) (e : ℕ) → concerns change e ≡ true → (e ≢ 0) × (is_swapped e ≡ false)
 some_framed Forget e h =
-    let some = not_true (e == 0) (and_left (not (e == 0)) (not (is_swapped e)) h) in
-    (λ none. false≢true (sym some ∙ (let z : (e == 0) ≡ true = rw none refl in z)), not_true (is_swapped e) (and_right (not (e == 0)) (not (is_swapped e)) h))
+    let parts = and_parts (not (e == 0)) (not (is_swapped e)) h in
+    (λ none. false≢true (sym (not_true (e == 0) parts.0) ∙ (let z : (e == 0) ≡ true = rw none refl in z)), not_true (is_swapped e) parts.1)
 some_framed ClearAccessed e h = let v = leaf_accessed e h in (valid_some e v.0, rw v.0 refl)
 some_framed ClearDirty e h = let v = leaf_dirty e h in (valid_some e v.0, rw v.0 refl)
 

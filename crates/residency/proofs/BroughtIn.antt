@@ -8,28 +8,25 @@ use Rattle.vm_types.specs.declared.region.Attr.{Attr}
 use Rattle.vm_types.specs.declared.region.Backing.{Backing}
 use Rattle.vm_types.specs.declared.region.Backing.TheVariants.{Anon, Private as PrivateOf, Shared as SharedOf, Common as CommonOf}
 use Rattle.frames.specs.declared.role.Role.TheVariants.{Free, Table, Private, Cache}
-use Rattle.frames.specs.FrameTable.{FrameTable, bytes_of, role_of, count_of, SameButFor, Takes, with_bytes}
+use Rattle.frames.specs.FrameTable.{FrameTable, bytes_of, role_of, SameButFor, Takes, with_bytes}
 use Rattle.frames.proofs.FrameLemmas.{with_bytes-others}
-use Rattle.swap.specs.Slots.{SlotTable}
-use Rattle.sv39_walk.specs.Entry.{is_valid, is_dirty, frame_of, has_bit}
+use Rattle.sv39_walk.specs.Entry.{is_valid, frame_of}
 use Rattle.page_tables.specs.Tree.{IsPage}
 use Rattle.page_tables.proofs.Data.{KeepsTrees, data_changed}
-use Rattle.page_cache.specs.declared.place.Place.{Place}
 use Rattle.page_cache.specs.declared.place.Place.TheVariants.{Home, Frame, Slot}
 use Rattle.residency.specs.Seats.{Seat, InFrame, InSlot, seat, is_private, is_swapped}
 use Rattle.residency.specs.Picture.{Picture, entry, view, held, bytes_at, bytes_in, IsOwned, count_in, page_in}
-use Rattle.residency.specs.Parts.{IsFit, IsEntryFor, Nothing, Resident, Away, IsBehind, IsPageFor, HasPlaces, IsDirtySound, nowhere}
+use Rattle.residency.specs.Parts.{IsFit, IsEntryFor, Nothing, Resident, Away, IsBehind, HasPlaces, IsDirtySound, nowhere}
 use Rattle.residency.specs.Steps.{BringsIn}
 use Rattle.residency.proofs.Entries.{entries_kept}
 use Rattle.residency.proofs.Granting.{granting_same}
-use Rattle.residency.proofs.Places.{cases_page, one_frame, page_for-same, places_same}
+use Rattle.residency.proofs.Moves.{shares_same, fit_kept}
+use Rattle.residency.proofs.Places.{cases_page, one_frame}
+use Rattle.residency.proofs.Placed.{places_replaced, dirty_replaced}
 use Rattle.residency.proofs.Rooted.{rooted_same, rooted_frames}
 use Rattle.residency.proofs.Seats.{counted_same}
-use Rattle.residency.proofs.Setting.{view_seated, each_view}
-
-zero_invalid : is_valid 0 ≡ false
-unfolding has_bit
-zero_invalid = refl
+use Rattle.residency.proofs.Setting.{view_seated, each_view, held_by}
+use Rattle.residency.proofs.Bits.{valid_zero}
 
 valid_stays : (e : ℕ) → is_valid e ≡ true → is_swapped e ≡ false
 valid_stays e valid = rw valid refl
@@ -46,9 +43,6 @@ frames_written old mid n w takes =
     }
 
 module _ {mode : ℕ} (old new : Picture mode) (page : PageKey) (n : ℕ) (fit : IsFit old) (brings : BringsIn old new page n) where
-  free_cache : Free ≢ Cache
-  free_cache e = (cc)
-
   not_there : (m : ℕ) → role_of old.frames m ≢ Free → m ≢ n
   not_there m used e = used (ap (role_of old.frames) e ∙ brings.was_free)
 
@@ -118,38 +112,25 @@ module _ {mode : ℕ} (old new : Picture mode) (page : PageKey) (n : ℕ) (fit :
   own_ne pid k h own = private_ne (frame_of (entry old pid k)) (fit.counted.1.named pid k (InFrame (frame_of (entry old pid k))) h (rw own refl))
 
   placed : HasPlaces new
-  placed = record {
-    cached = λ p m at. elim (cases_page p page) [
-      | inl e ↦ (let here : Frame (record { 0 = n }) ≡ Frame (record { 0 = m }) = sym brings.placed ∙ ap new.place (sym e) ∙ at in ap (role_of new.frames) (one_frame n m here) ∙ brings.kind)
-      | inr ne ↦ (let cache = fit.places.cached p m (sym (brings.others p ne) ∙ at) in brings.frames.roles m (cache_ne m cache) ∙ cache)
-    ];
+  placed = places_replaced old new page fit.places (record {
+    others = brings.others;
+    at = brings.at;
+    files = brings.files;
+    cached = λ m is. ap (role_of new.frames) (one_frame n m (sym brings.placed ∙ is)) ∙ brings.kind;
+    cached_else = λ p m ne is. (let cache = fit.places.cached p m is in brings.frames.roles m (cache_ne m cache) ∙ cache);
     held = λ m cache. elim (cases_eq m n) [
-      | inl e ↦ (page, brings.placed ∙ ap (λ i. Frame (record { 0 = i })) (sym e))
-      | inr ne ↦ (let here = fit.places.held m (sym (brings.frames.roles m ne) ∙ cache) in (here.0, brings.others here.0 (framed here.0 m here.1) ∙ here.1))
+      | inl e ↦ inl (brings.placed ∙ ap (λ i. Frame (record { 0 = i })) (sym e))
+      | inr ne ↦ inr (brings.was_away m, sym (brings.frames.roles m ne) ∙ cache)
     ];
-    apart = λ p q e away. elim (cases_page p page) [
-      | inl is ↦ elim (cases_page q page) [
-        | inl is' ↦ is ∙ sym is'
-        | inr ne ↦ absurd (cache_ne n (fit.places.cached q n (sym (brings.others q ne) ∙ sym e ∙ ap new.place is ∙ brings.placed)) refl)
-      ]
-      | inr ne ↦ elim (cases_page q page) [
-        | inl is ↦ absurd (cache_ne n (fit.places.cached p n (sym (brings.others p ne) ∙ e ∙ ap new.place is ∙ brings.placed)) refl)
-        | inr ne' ↦ fit.places.apart p q (sym (brings.others p ne) ∙ e ∙ brings.others q ne') (λ home. away (brings.others p ne ∙ home))
-      ]
-    ];
-    slotted = λ p k at. elim (cases_page p page) [
-      | inl e ↦ absurd (no_slot p k e at)
-      | inr ne ↦ (let there = sym (brings.others p ne) ∙ at in brings.slots.counts k (slot_ne p k ne there) ∙ fit.places.slotted p k there)
-    ];
+    slotted = λ k is. absurd (no_slot page k refl is);
+    slotted_else = λ p k ne is. brings.slots.counts k (slot_ne p k ne is);
     used = λ k some. elim (fit.places.used k (was_used k some).1) [
       | inl own ↦ inl (forth (InSlot k) own)
-      | inr file ↦ inr (file.0, brings.others file.0 (λ e. (was_used k some).0 (ap old.place (sym e) ∙ file.1)) ∙ file.1)
+      | inr file ↦ inr (inr ((was_used k some).0, file.0, file.1))
     ];
-    inside = λ p away. elim (cases_page p page) [
-      | inl e ↦ (let P : PageKey → Type 0 = λ x. IsPageFor new x in subst P (sym e) (page_for-same old new page brings.at brings.files brings.inside))
-      | inr ne ↦ page_for-same old new p brings.at brings.files (fit.places.inside p (λ home. away (brings.others p ne ∙ home)))
-    ];
-  }
+    apart = λ q ne e. absurd (cache_ne n (fit.places.cached q n (sym e ∙ brings.placed)) refl);
+    inside = λ away. brings.inside;
+  })
 
   behind_ne : (b : Backing) (m : ℕ) → IsBehind old b m → m ≢ n
   behind_ne Anon m is = λ e. (let a = brings.above in omega (arith, is, e, a))
@@ -158,33 +139,16 @@ module _ {mode : ℕ} (old new : Picture mode) (page : PageKey) (n : ℕ) (fit :
   behind_ne (CommonOf p) m is = cache_ne m (fit.places.cached (Object p) m is)
 
   resident_ne : (pid k : ℕ) (a : Option Attr) → IsEntryFor old a (entry old pid k) → is_valid (entry old pid k) ≡ true → is_private (entry old pid k) ≡ false → frame_of (entry old pid k) ≢ n
-  resident_ne pid k a (Nothing none) valid common = absurd (false≢true (sym (ap is_valid none ∙ zero_invalid) ∙ valid))
+  resident_ne pid k a (Nothing none) valid common = absurd (false≢true (sym (ap is_valid none ∙ valid_zero) ∙ valid))
   resident_ne pid k a (Resident b at res) valid common = behind_ne b.backing (frame_of (entry old pid k)) (res.behind common)
   resident_ne pid k a (Away b at away) valid common = absurd (false≢true (sym (valid_stays (entry old pid k) valid) ∙ away.swapped))
 
   dirtied : IsDirtySound new
-  dirtied = record {
-    dirty = λ pid k p h valid common dirty there. (
-        let e = same pid k in
-        let was_valid = sym (ap is_valid e) ∙ valid in
-        let was_common = sym (ap is_private e) ∙ common in
-        elim (cases_page p page) [
-          | inl is ↦ (
-              let at : Frame (record { 0 = n }) ≡ Frame (record { 0 = frame_of (entry new pid k) }) = sym brings.placed ∙ ap new.place (sym is) ∙ there in
-              let number : frame_of (entry old pid k) ≡ n = sym (ap frame_of e) ∙ one_frame n (frame_of (entry new pid k)) at in
-              absurd (resident_ne pid k (old.at pid k) (fit.granting.entries pid k h) was_valid was_common number))
-          | inr ne ↦ brings.touched p
-              ∙ fit.dirty.dirty pid k p h was_valid was_common (sym (ap is_dirty e) ∙ dirty) (sym (brings.others p ne) ∙ there ∙ ap (λ x. Frame (record { 0 = frame_of x })) e)
-        ]);
-    held = λ p touched home. elim (cases_page p page) [
-      | inl is ↦ (let bad : Frame (record { 0 = n }) ≡ Home = sym brings.placed ∙ ap new.place (sym is) ∙ home in (cc))
-      | inr ne ↦ fit.dirty.held p (sym (brings.touched p) ∙ touched) (sym (brings.others p ne) ∙ home)
-    ];
-    slotted = λ p k at. elim (cases_page p page) [
-      | inl e ↦ absurd (no_slot p k e at)
-      | inr ne ↦ brings.touched p ∙ fit.dirty.slotted p k (sym (brings.others p ne) ∙ at)
-    ];
-  }
+  dirtied = dirty_replaced old new page fit.dirty brings.others (λ p ne. brings.touched p) (λ pid k h. same pid k)
+      (λ pid k h valid common dirty there. (
+      let number = one_frame n (frame_of (entry old pid k)) (sym brings.placed ∙ there) in
+      absurd (resident_ne pid k (old.at pid k) (fit.granting.entries pid k h) valid common number)))
+      (λ touched home. (let bad : Frame (record { 0 = n }) ≡ Home = sym brings.placed ∙ home in (cc))) (λ k is. absurd (no_slot page k refl is))
 
   pub fit_brought : IsFit new
   fit_brought = record {
@@ -214,15 +178,10 @@ module _ {mode : ℕ} (old new : Picture mode) (page : PageKey) (n : ℕ) (fit :
   views_brought q p = each_view old new fit.granting brings.at q p (λ h. view_seated old new q p (brings.at q p) (ap seat (same q p))
       (λ z is. seat_bytes z (fit.counted.1.named q p z h is)))
 
-  bytes_else : (p : PageKey) (x : Place) → old.place p ≡ x → p ≢ page → bytes_at new.frames new.slots x ≡ bytes_at old.frames old.slots x
-  bytes_else p Home at ne = refl
-  bytes_else p (Frame m) at ne = ap (λ (w : _). Some w) (brings.frames.bytes m.0 (cache_ne m.0 (fit.places.cached p m.0 at)))
-  bytes_else p (Slot k) at ne = ap (λ (w : _). Some w) (brings.slots.bytes k.0 (slot_ne p k.0 ne at) (let one = fit.places.slotted p k.0 at in omega (arith, one)))
-
   -- another file page has the bytes that it had, and this one those of the frame
   pub held_else : (p : PageKey) → p ≢ page → held new p ≡ held old p
-  unfolding held
-  held_else p ne = ap (λ x. bytes_at new.frames new.slots x) (brings.others p ne) ∙ bytes_else p (old.place p) refl ne
+  held_else p ne = held_by old new p (brings.others p ne) (λ m at. brings.frames.bytes m (cache_ne m (fit.places.cached p m at)))
+      (λ k at. brings.slots.bytes k (slot_ne p k ne at) (let one = fit.places.slotted p k at in omega (arith, one)))
 
   pub held_here : held new page ≡ Some (bytes_of new.frames n)
   unfolding held
@@ -233,51 +192,7 @@ module _ {mode : ℕ} (old new : Picture mode) (page : PageKey) (fit : IsFit old
     (others : (p : PageKey) → p ≢ page → new.touched p ≡ old.touched p) (place : (p : PageKey) → new.place p ≡ old.place p) (root : (pid : ℕ) → new.root pid ≡ old.root pid)
     (at : (pid k : ℕ) → new.at pid k ≡ old.at pid k) (page_of : (m : ℕ) → new.page_of m ≡ old.page_of m) (files : (f : ℕ) → new.files f ≡ old.files f)
     (same : (pid k : ℕ) → entry new pid k ≡ entry old pid k) where
-  role : (m : ℕ) → role_of new.frames m ≡ role_of old.frames m
-  role m = ap (λ t. role_of t m) frames
-
-  forth' : (z : Seat) → IsOwned old z → IsOwned new z
-  forth' (InFrame m) is = role m ∙ is
-  forth' (InSlot k) is = ((let P : SlotTable → Type 0 = λ t. 0 < t.count k in subst P (sym slots) is.0), λ p e. is.1 p (sym (place p) ∙ e))
-
-  back' : (z : Seat) → IsOwned new z → IsOwned old z
-  back' (InFrame m) is = sym (role m) ∙ is
-  back' (InSlot k) is = ((let P : SlotTable → Type 0 = λ t. 0 < t.count k in subst P slots is.0), λ p e. is.1 p (place p ∙ e))
-
-  counts' : (z : Seat) → IsOwned old z → count_in new z ≡ count_in old z
-  counts' (InFrame m) is = ap (λ t. count_of t m) frames
-  counts' (InSlot k) is = ap (λ t. t.count k) slots
-
-  pages' : (z : Seat) → IsOwned old z → page_in new fit.counted.0 z ≡ page_in old fit.counted.0 z
-  pages' (InFrame m) is = page_of m
-  pages' (InSlot k) is = refl
-
-  touched_where : (p : PageKey) → (p ≢ page → old.touched p ≡ true) → new.touched p ≡ true
-  touched_where p was = elim (cases_page p page) [
-    | inl e ↦ ap new.touched e ∙ now
-    | inr ne ↦ others p ne ∙ was ne
-  ]
-
   pub fit_touched : IsFit new
-  fit_touched = record {
-    counted = (
-      fit.counted.0,
-      counted_same mode (entry old) (entry new) (IsOwned old) (IsOwned new) (count_in old) (count_in new) (page_in old fit.counted.0) (page_in new fit.counted.0)
-          (λ q p h. ap seat (same q p)) nowhere 0 fit.counted.1 forth' back' counts' pages',
-    );
-    rooted = rooted_frames old new 0 fit.rooted frames root at;
-    granting = granting_same old new fit.granting (record { place = λ p m e. place p ∙ e; files = files })
-        (λ pid k h own one. ap (λ t. count_of t (frame_of (entry old pid k))) frames ∙ one) at (λ pid k h. same pid k);
-    places = places_same old new fit.places place at files slots (λ m e. role m ∙ e) (λ m e. sym (role m) ∙ e);
-    dirty = record {
-      dirty = λ pid k p h valid common dirty there. (
-          let e = same pid k in
-          touched_where p (λ ne. fit.dirty.dirty pid k p h (sym (ap is_valid e) ∙ valid) (sym (ap is_private e) ∙ common) (sym (ap is_dirty e) ∙ dirty)
-          (sym (place p) ∙ there ∙ ap (λ x. Frame (record { 0 = frame_of x })) e)));
-      held = λ p touched home. elim (cases_page p page) [
-        | inl e ↦ away (ap old.place (sym e) ∙ sym (place p) ∙ home)
-        | inr ne ↦ fit.dirty.held p (sym (others p ne) ∙ touched) (sym (place p) ∙ home)
-      ];
-      slotted = λ p k e. touched_where p (λ ne. fit.dirty.slotted p k (sym (place p) ∙ e));
-    };
-  }
+  fit_touched = fit_kept old new (shares_same old.frames new.frames frames) slots page_of place nowhere 0 0 0 fit at files (λ pid k h. same pid k)
+      (rooted_frames old new 0 fit.rooted frames root at)
+      (dirty_replaced old new page fit.dirty (λ p ne. place p) others (λ pid k h. same pid k) (λ pid k h valid common bit there. now) (λ touched home. away (sym (place page) ∙ home)) (λ k is. now))

@@ -1,17 +1,14 @@
 -- What a call knows of its page after a frame was asked for.
-use Rattle.vm_types.specs.Limits.{top_level}
 use Rattle.std.proofs.Common.{◌≡◌, ◌≢◌, ℕ, inl, inr, ◌⊎◌, true, false, Option, Some, sym, ◌∙◌, subst}
 use Rattle.std.proofs.lemmas.Bool.{cases_Bool}
-use Rattle.vm_types.specs.declared.number.FrameNo.{FrameNo}
 use Rattle.vm_types.specs.declared.region.Attr.{Attr}
 use Rattle.vm_types.specs.declared.region.Backing.{Backing}
 use Rattle.vm_types.specs.declared.region.Backing.TheVariants.{Anon, Private, Shared, Common}
 use Rattle.sv39_walk.specs.Entry.{frame_of}
-use Rattle.page_tables.specs.Tree.{IsPage, missing_of}
 use Rattle.residency.specs.Seats.{is_private, is_swapped}
 use Rattle.residency.specs.Picture.{Picture, entry}
 use Rattle.residency.specs.Parts.{IsEntryFor, Nothing, Resident, Away, IsBehind}
-use Rattle.residency.specs.Calls.{Frees, IsStaying}
+use Rattle.residency.specs.Calls.{IsStaying}
 use Rattle.residency.proofs.Places.{one_frame}
 
 -- the frame behind a page is one
@@ -35,20 +32,3 @@ shown_stays c attr b e n (Resident a at res) is own behind resident = elim (case
         | inr same ↦ inr (inr (inr same))
       ])
 ]
-
--- so its call goes on where it was
-module _ {mode : ℕ} (old new : Picture mode) (keep : Option FrameNo) (frees : Frees old new keep) (pid r page : ℕ) (root : old.root pid ≡ Some r) (h : IsPage (top_level mode) page) where
-  pub still_lives : new.root pid ≡ Some r
-  still_lives = frees.pages.root pid ∙ root
-
-  pub still_whole : missing_of old.frames (top_level mode) r page ≡ 0 → missing_of new.frames (top_level mode) r page ≡ 0
-  still_whole whole = frees.missing pid r page root ∙ whole
-
-  pub still_missing : missing_of old.frames (top_level mode) r page ≢ 0 → missing_of new.frames (top_level mode) r page ≢ 0
-  still_missing some none = some (sym (frees.missing pid r page root) ∙ none)
-
-  pub still_none : entry old pid page ≡ 0 → entry new pid page ≡ 0
-  still_none none = frees.entries pid page h (inl none) ∙ none
-
-  pub still_away : is_swapped (entry old pid page) ≡ true → entry new pid page ≡ entry old pid page
-  still_away away = frees.entries pid page h (inr (inl away))

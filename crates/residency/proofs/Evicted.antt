@@ -20,7 +20,7 @@ use Rattle.residency.proofs.Rooted.{rooted_same}
 use Rattle.residency.proofs.Moves.{behind_kept}
 use Rattle.residency.proofs.Start.{entry-dead, seat-none}
 
-cases_some : (o : Option ℕ) → (o ≡ None) ⊎ ((r : ℕ) × (o ≡ Some r))
+pub cases_some : (o : Option ℕ) → (o ≡ None) ⊎ ((r : ℕ) × (o ≡ Some r))
 cases_some None = inl refl
 cases_some (Some r) = inr (r, refl)
 
@@ -41,6 +41,11 @@ module _ {mode : ℕ} (old new : Picture mode) (n m : ℕ) (fit : IsFitBut old (
     | inl one ↦ inr (releases.freed one)
     | inr ne ↦ (let less = releases.lowered in let more : 1 < count_of old.frames n = omega (arith, less, ne) in inl (kept_role more ∙ held))
   ]
+
+  -- an entry that names it still isn't alone
+  pub shared_frame : (pid k : ℕ) → IsPage (top_level mode) k → seat (entry old pid k) ≡ Some (InFrame n) → 1 < count_of old.frames n
+  shared_frame pid k h is = not_alone mode (entry old) (entry old) (IsOwned old) (IsOwned old) (count_in old) (count_in old) (page_in old fit.counted.0) (page_in old fit.counted.0) (λ q p h'. refl) (InFrame n) fit.counted.1 pid k h
+      (seat_number old m pid k (InFrame n) fit.rooted is) is
 
   frame_ne : (j : ℕ) → InFrame j ≢ InFrame n → j ≢ n
   frame_ne j ne e = ne (ap (λ i. InFrame i) e)
@@ -87,7 +92,7 @@ module _ {mode : ℕ} (old new : Picture mode) (n m : ℕ) (fit : IsFitBut old (
             (λ pid k h private write one. elim (cases_eq (frame_of (entry old pid k)) n) [
               | inl e ↦ (
                   let own : seat (entry old pid k) ≡ Some (InFrame n) = rw private (ap (λ j. Some (InFrame j)) e) in
-                  let more = not_alone mode (entry old) (entry old) (IsOwned old) (IsOwned old) (count_in old) (count_in old) (page_in old fit.counted.0) (page_in old fit.counted.0) (λ q p h'. refl) (InFrame n) fit.counted.1 pid k h (seat_number old m pid k (InFrame n) fit.rooted own) own in
+                  let more = shared_frame pid k h own in
                   let one_n : count_of old.frames n ≡ 1 = ap (count_of old.frames) (sym e) ∙ one in
                   absurd (omega (arith, more, one_n)))
               | inr ne ↦ releases.others.counts (frame_of (entry old pid k)) ne ∙ one

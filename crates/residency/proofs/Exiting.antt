@@ -1,36 +1,32 @@
 -- A process goes.
 use Rattle.vm_types.specs.Limits.{top_level}
-use Rattle.std.proofs.Common.{true, ◌≡◌, ◌≢◌, ℕ, zero, suc, inl, inr, Option, Some, None, refl, sym, ap, ◌∙◌, subst}
+use Rattle.std.proofs.Common.{true, ◌≡◌, ◌≢◌, ℕ, zero, suc, inl, inr, Option, Some, None, refl, sym, ap, ◌∙◌, subst, arith}
 use Rattle.std.specs.Prelude.{IsSome}
 use Rattle.std.proofs.lemmas.Bool.{cases_eq, false≢true}
+use Rattle.std.proofs.lemmas.Option.{same_Some}
+use Rattle.vm_types.proofs.Modes.{sizes}
 use Rattle.vm_types.specs.declared.object.ObjectPage.{ObjectPage}
 use Rattle.vm_types.specs.declared.object.PageKey.TheVariants.{Object}
 use Rattle.vm_types.specs.Objects.{is_named}
 use Rattle.vm_types.specs.declared.region.Attr.{Attr}
-use Rattle.frames.specs.declared.role.Role.{Role}
-use Rattle.frames.specs.declared.role.Role.TheVariants.{Free, Table, Private, Cache}
+use Rattle.frames.specs.declared.role.Role.TheVariants.{Free, Table}
 use Rattle.frames.specs.FrameTable.{FrameTable, role_of}
 use Rattle.sv39_walk.specs.Entry.{frame_of}
-use Rattle.page_tables.specs.Tree.{Points, Way, IsEmptyTable}
+use Rattle.page_tables.specs.Tree.{Points, Way, IsEmptyTable, IsSpare, missing_of, page_entry}
 use Rattle.page_tables.proofs.Data.{DropsTree, root_released}
-use Rattle.page_tables.proofs.Ends.{way_forth}
+use Rattle.page_tables.proofs.Ends.{way_forth, missing_of-is, page_entry-missing}
+use Rattle.page_tables.proofs.Linking.{empty_last}
 use Rattle.page_tables.proofs.Keeping.{empty_not_linking}
 use Rattle.page_cache.specs.declared.place.Place.TheVariants.{Home}
-use Rattle.residency.specs.Seats.{InFrame}
-use Rattle.residency.specs.Picture.{Picture, entry}
+use Rattle.residency.specs.Seats.{InFrame, seat}
+use Rattle.residency.specs.Picture.{Picture, entry, is_data}
 use Rattle.residency.specs.Parts.{IsRootedBut, IsUsed, AsRoot, OnWay, IsMapped, Nothing, IsFit, nowhere}
 use Rattle.residency.specs.Steps.{KeepsShares, Exits}
 use Rattle.residency.proofs.Entries.{entry-of, entry-same}
 use Rattle.residency.proofs.Granting.{entry_for-same, user_map-same, readable-same}
-use Rattle.residency.proofs.Mapping.{one_some, spare_entry, counted_there}
+use Rattle.residency.proofs.Moves.{counted_kept, shares_but}
 use Rattle.residency.proofs.Places.{objects-fewer, places_renamed, dirty_same}
 use Rattle.residency.proofs.Start.{entry-dead}
-
-data_kept : (old new : FrameTable) (n m : ℕ) (r : Role) → role_of old n ≡ Table → r ≢ Table → role_of old m ≡ r → m ≢ n
-data_kept old new n m r table other here e = other (sym here ∙ ap (role_of old) e ∙ table)
-
-data_was : (new : FrameTable) (n m : ℕ) (r : Role) → role_of new n ≡ Free → r ≢ Free → role_of new m ≡ r → m ≢ n
-data_was new n m r free other here e = other (sym here ∙ ap (role_of new) e ∙ free)
 
 -- no way leads on from a root without entries
 module _ (mode : ℕ) where
@@ -38,22 +34,19 @@ module _ (mode : ℕ) where
   no_way t root page zero n empty way = let P : ℕ → Type 0 = λ x. Points t x _ n in empty_not_linking t root empty _ n (subst P way.1 way.2)
   no_way t root page (suc depth) n empty way = no_way t root page depth way.0 empty way.1
 
+-- nothing stands in a tree of which the root has no entry
+module _ (mode : ℕ) where
+  spare_entry : (t : FrameTable) (n page : ℕ) → IsSpare t n → page_entry t (top_level mode) n page ≡ 0
+  spare_entry t n page spare =
+      let level : missing_of t (top_level mode) n page ≡ top_level mode = missing_of-is t (top_level mode) n page ∙ ap (λ x. x.0) (empty_last t page (top_level mode) n spare.empty) in
+      page_entry-missing t (top_level mode) n page (λ none. (omega (arith, level, none, (sizes mode).levels)))
+
 module _ {mode : ℕ} (old new : Picture mode) (pid r : ℕ) (fit : IsFit old) (exits : Exits old new pid r) where
   drops : DropsTree old.frames new.frames (top_level mode) r
   drops = root_released old.frames new.frames (top_level mode) r fit.rooted.forest exits.spare exits.frames exits.free
 
   shares_dropped : KeepsShares old.frames new.frames
-  shares_dropped =
-      let table = exits.spare.table.role in
-      let private : (n : ℕ) → role_of old.frames n ≡ Private → n ≢ r = λ n e. data_kept old.frames new.frames r n Private table (λ f. (cc)) e in
-      let cache : (n : ℕ) → role_of old.frames n ≡ Cache → n ≢ r = λ n e. data_kept old.frames new.frames r n Cache table (λ f. (cc)) e in
-      record {
-        private = λ n e. exits.frames.roles n (private n e) ∙ e;
-        was_private = λ n e. sym (exits.frames.roles n (data_was new.frames r n Private exits.free (λ f. (cc)) e)) ∙ e;
-        cache = λ n e. exits.frames.roles n (cache n e) ∙ e;
-        was_cache = λ n e. sym (exits.frames.roles n (data_was new.frames r n Cache exits.free (λ f. (cc)) e)) ∙ e;
-        counts = λ n e. exits.frames.counts n (private n e);
-      }
+  shares_dropped = shares_but old.frames new.frames r exits.frames (ap is_data exits.spare.table.role) (ap is_data exits.free)
 
   other_root : (q x : ℕ) → q ≢ pid → old.root q ≡ Some x → x ≢ r
   other_root q x ne e is = ne (fit.rooted.apart q pid r (e ∙ ap (λ y. Some y) is) exits.lived)
@@ -73,10 +66,10 @@ module _ {mode : ℕ} (old new : Picture mode) (pid r : ℕ) (fit : IsFit old) (
 
   -- a table that stays is used by another process
   used_left : (m : ℕ) → m ≢ r → IsUsed old (IsMapped old) m → IsUsed new (IsMapped new) m
-  used_left m ne (AsRoot q is) = AsRoot q (exits.others q (λ e. ne (one_some m r (sym is ∙ ap old.root e ∙ exits.lived))) ∙ is)
+  used_left m ne (AsRoot q is) = AsRoot q (exits.others q (λ e. ne (same_Some m r (sym is ∙ ap old.root e ∙ exits.lived))) ∙ is)
   used_left m ne (OnWay q x page is here below) =
       let other : q ≢ pid = λ e. (
-      let same : x ≡ r = one_some x r (sym is ∙ ap old.root e ∙ exits.lived) in
+      let same : x ≡ r = same_Some x r (sym is ∙ ap old.root e ∙ exits.lived) in
       let P : ℕ → Type 0 = λ y. Way old.frames (top_level mode) y page (suc below.0) m in
       no_way mode old.frames r page below.0 m exits.spare.empty (subst P same below.2)) in
       let Q : Option Attr → Type 0 = λ y. IsSome y in
@@ -99,7 +92,7 @@ module _ {mode : ℕ} (old new : Picture mode) (pid r : ℕ) (fit : IsFit old) (
 
   pub fit_left : ((p : ObjectPage) → old.place (Object p) ≢ Home → is_named new.at p.object p.page ≡ true) → IsFit new
   fit_left named = record {
-    counted = counted_there old new shares_dropped exits.slots exits.page_of exits.place entries_left nowhere 0 fit.counted;
+    counted = counted_kept old new shares_dropped exits.slots exits.page_of exits.place nowhere 0 (λ q p h. ap seat (entries_left q p)) fit.counted;
     rooted = rooted_left;
     granting = record {
       entries = λ q page h. elim (cases_eq q pid) [

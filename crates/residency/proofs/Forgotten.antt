@@ -1,7 +1,7 @@
 -- A page of an object that no entry is over is at home, and its frame or slot is free.
 use Rattle.vm_types.specs.Limits.{top_level}
 use Rattle.std.proofs.Common.{◌≡◌, ◌≢◌, ℕ, inl, inr, ◌<◌, true, false, Some, None, refl, sym, ap, ◌∙◌, subst, arith, eq-eqb, eqb-true, ◌==◌}
-use Rattle.std.proofs.lemmas.Bool.{cases_eq, cases_Bool, false≢true, and_from}
+use Rattle.std.proofs.lemmas.Bool.{cases_eq, and_from}
 use Rattle.vm_types.specs.declared.object.ObjectPage.{ObjectPage}
 use Rattle.vm_types.specs.declared.object.PageKey.{PageKey}
 use Rattle.vm_types.specs.declared.object.PageKey.TheVariants.{File, Object}
@@ -14,20 +14,18 @@ use Rattle.sv39_walk.specs.Entry.{frame_of}
 use Rattle.page_tables.specs.Tree.{IsPage, Points}
 use Rattle.page_cache.specs.declared.place.Place.TheVariants.{Home, Frame, Slot}
 use Rattle.residency.specs.declared.leaves.Change.{Change}
-use Rattle.residency.specs.declared.leaves.Change.TheVariants.{Forget, ClearAccessed, ClearDirty}
+use Rattle.residency.specs.declared.leaves.Change.TheVariants.{Forget, ClearDirty}
 use Rattle.residency.specs.Seats.{is_private, is_swapped}
-use Rattle.residency.specs.Picture.{Picture, entry, held, bytes_at}
+use Rattle.residency.specs.Picture.{Picture, entry, held}
 use Rattle.residency.specs.Parts.{IsFit, nowhere}
-use Rattle.residency.specs.Leaves.{concerns, IsOver}
+use Rattle.residency.specs.Leaves.{IsOver}
 use Rattle.residency.specs.Steps.{Forgets, HasNoEntry}
-use Rattle.residency.proofs.Bits.{valid_zero}
+use Rattle.residency.proofs.Bits.{some_framed}
 use Rattle.residency.proofs.Cleaning.{Untouches, fit_untouched, views_untouched, held_untouched, entries_untouched}
 use Rattle.residency.proofs.Homing.{Homes, one_slot, fit_homed, same, views, held_else}
 use Rattle.residency.proofs.LeafSteps.{over_resident, over_backed}
-use Rattle.residency.proofs.Leaving.{Leaves, fit_home, left_spares, same_left, trees_left, held_left}
-
-same_key : (p q : PageKey) → Some p ≡ Some q → p ≡ q
-same_key p q e = cc
+use Rattle.residency.proofs.Leaving.{Leaves, unnamed_of, fit_home, left_spares, same_left, trees_left, held_left, home_held}
+use Rattle.std.proofs.lemmas.Option.{same_Some}
 
 object_alike : (p q : ObjectPage) → Object p ≡ Object q → (p.object ≡ q.object) × (p.page ≡ q.page)
 object_alike p q e = (cc, cc)
@@ -37,16 +35,11 @@ no_object p q e f g = let bad : Object q ≡ File f = sym e ∙ g in (cc)
 
 named_backing : (b : Backing) (p : ObjectPage) → stands_on b ≡ Some (Object p) → is_object_page b p.object p.page ≡ true
 named_backing Anon p is = (cc)
-named_backing (PrivateOf q) p is = absurd (no_object (File q) p (same_key (File q) (Object p) is) q refl)
-named_backing (SharedOf q) p is = absurd (no_object (File q) p (same_key (File q) (Object p) is) q refl)
+named_backing (PrivateOf q) p is = absurd (no_object (File q) p (same_Some (File q) (Object p) is) q refl)
+named_backing (SharedOf q) p is = absurd (no_object (File q) p (same_Some (File q) (Object p) is) q refl)
 named_backing (CommonOf q) p is =
-    let same = object_alike q p (same_key (Object q) (Object p) is) in
+    let same = object_alike q p (same_Some (Object q) (Object p) is) in
     and_from _ _ (eq-eqb q.object p.object same.0) (eq-eqb q.page p.page same.1)
-
-concerned_some : (change : Change) (e : ℕ) → concerns change e ≡ true → e ≢ 0
-concerned_some Forget e is zero = let none : concerns Forget 0 ≡ true = ap (concerns Forget) (sym zero) ∙ is in false≢true none
-concerned_some ClearAccessed e is zero = let none : concerns ClearAccessed 0 ≡ true = ap (concerns ClearAccessed) (sym zero) ∙ is in let bad = rw valid_zero at none in false≢true bad
-concerned_some ClearDirty e is zero = let none : concerns ClearDirty 0 ≡ true = ap (concerns ClearDirty) (sym zero) ∙ is in let bad = rw valid_zero at none in false≢true bad
 
 module _ {mode : ℕ} (c : Picture mode) (p : ObjectPage) (n : ℕ) (fit : IsFit c) (bare : HasNoEntry c p) (placed : c.place (Object p) ≡ Frame (record { 0 = n })) (above : 0 < n) where
   -- no entry is over its frame
@@ -55,15 +48,10 @@ module _ {mode : ℕ} (c : Picture mode) (p : ObjectPage) (n : ℕ) (fit : IsFit
       let res = over_resident c change n pid k fit h over in
       let on = over_backed c change n pid k fit h over (Object p) res.0 above placed res.1 in
       let named : names (c.at pid k) p.object p.page ≡ true = ap (λ a. names a p.object p.page) res.1 ∙ named_backing res.0.backing p on in
-      concerned_some change (entry c pid k) over.concerned (bare pid k h named)
+      (some_framed change (entry c pid k) over.concerned).0 (bare pid k h named)
 
   pub none_named : (pid k : ℕ) → IsPage (top_level mode) k → entry c pid k ≢ 0 → is_private (entry c pid k) ≡ false → is_swapped (entry c pid k) ≡ false → frame_of (entry c pid k) ≢ n
-  none_named pid k h some common here e = none_over Forget pid k h (record { concerned = some_there (entry c pid k) some here; frame = e }) where
-    some_there : (x : ℕ) → x ≢ 0 → is_swapped x ≡ false → concerns Forget x ≡ true
-    some_there x some here = elim (cases_Bool (x == 0)) [
-      | inl t ↦ absurd (some (eqb-true x 0 t))
-      | inr f ↦ rw (f, here) refl
-    ]
+  none_named = unnamed_of c n (none_over Forget)
 
 -- its mark was taken, and then it left its frame
 module _ {mode : ℕ} (old mid new : Picture mode) (p : ObjectPage) (n : ℕ) (fit : IsFit old) (bare : HasNoEntry old p) (placed : old.place (Object p) ≡ Frame (record { 0 = n })) (above : 0 < n)
@@ -77,16 +65,12 @@ module _ {mode : ℕ} (old mid new : Picture mode) (p : ObjectPage) (n : ℕ) (f
   unnamed_mid : (pid k : ℕ) → IsPage (top_level mode) k → entry mid pid k ≢ 0 → is_private (entry mid pid k) ≡ false → is_swapped (entry mid pid k) ≡ false → frame_of (entry mid pid k) ≢ n
   unnamed_mid = none_named mid p n fit_mid bare_mid (u.place (Object p) ∙ placed) above
 
-  held_home : held new (Object p) ≡ None
-  unfolding held
-  held_home = ap (λ x. bytes_at new.frames new.slots x) leaves.placed
-
   pub fit_forgotten : IsFit new
   fit_forgotten = fit_home mid new (Object p) n fit_mid leaves u.now unnamed_mid
 
   pub forgets_framed : Forgets old new p
   forgets_framed =
-      let spares = left_spares mid new (Object p) n Home nowhere 0 fit_mid leaves unnamed_mid 0 (inr (held_home, u.now)) in
+      let spares = left_spares mid new (Object p) n Home nowhere 0 fit_mid leaves unnamed_mid 0 (inr (home_held new (Object p) leaves.placed, u.now)) in
       let trees = trees_left mid new (Object p) n Home nowhere 0 fit_mid leaves unnamed_mid in
       record {
         root = λ pid. leaves.root pid ∙ u.root pid;
@@ -150,29 +134,3 @@ module _ {mode : ℕ} (old new : Picture mode) (p : ObjectPage) (k : ℕ) (fit :
       | inr ne ↦ homes.slots.others.bytes j ne (let c = homes.slots.others.counts j ne in omega (arith, c, used))
     ];
   }
-
--- at home already
-pub forgets_home : {mode : ℕ} (c : Picture mode) (p : ObjectPage) → IsFit c → c.place (Object p) ≡ Home → Forgets c c p
-forgets_home c p fit home = record {
-  root = λ pid. refl;
-  at = λ pid k. refl;
-  page_of = λ m. refl;
-  files = λ f. refl;
-  placed = home;
-  others = λ q ne. refl;
-  now = elim (cases_Bool (c.touched (Object p))) [
-    | inl t ↦ absurd (fit.dirty.held (Object p) t home)
-    | inr f ↦ f
-  ];
-  rest = λ q ne. refl;
-  entries = λ pid k h. refl;
-  views = λ pid k. refl;
-  held = λ q ne. refl;
-  frames = refl;
-  roles = λ m. inl refl;
-  pointers = λ a i m. (λ x. x, λ x. x);
-  total = refl;
-  counts = λ k ne. refl;
-  left = λ k at. (let bad : Home ≡ Slot (record { 0 = k }) = sym home ∙ at in (cc));
-  bytes = λ k used. refl;
-}

@@ -94,14 +94,7 @@ module _ {mode : ℕ} where
       → ((pid page : ℕ) → IsPage (top_level mode) page → is_private (entry old pid page) ≡ true
       → count_of old.frames (frame_of (entry old pid page)) ≡ 1 → count_of new.frames (frame_of (entry old pid page)) ≡ 1)
       → ((pid page : ℕ) → new.at pid page ≡ old.at pid page) → ((pid page : ℕ) → IsPage (top_level mode) page → entry new pid page ≡ entry old pid page) → IsGranting new
-  granting_same old new granting kept count at same = record {
-    entries = λ pid page h. (
-        let here = entry_for-same old new (old.at pid page) (entry old pid page) kept (λ private write one. count pid page h private one) (granting.entries pid page h) in
-        rw (at pid page, same pid page h) here);
-    user = λ pid. user_map-same mode (old.at pid) (new.at pid) (at pid) (granting.user pid);
-    readable = λ pid. readable-same (old.at pid) (new.at pid) (at pid) (granting.readable pid);
-    objects = objects-same old.at new.at at granting.objects;
-  }
+  granting_same old new granting kept count at same = granting_kept old new granting kept (λ pid page h private write. count pid page h private) at same
 
 -- the entry of one page changed
 module _ {mode : ℕ} where

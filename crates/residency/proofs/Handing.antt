@@ -1,38 +1,34 @@
 -- An own copy handed over to a slot.
-use Rattle.vm_types.proofs.Modes.{user_pages_fit}
 use Rattle.vm_types.specs.Limits.{top_level}
 use Rattle.std.proofs.Common.{◌≡◌, ◌≢◌, ℕ, inl, inr, ◌⊎◌, ◌+◌, ◌*◌, ◌/◌, ◌%◌, ◌^◌, ◌<◌, true, false, [], Option, Some, None, get_or, refl, sym, ap, ◌∙◌, subst, arith, ne_eqb}
 use Rattle.std.proofs.lemmas.Bool.{cases_eq, cases_Bool, false≢true}
-use Rattle.vm_types.specs.declared.object.PageKey.{PageKey}
-use Rattle.page_cache.specs.declared.place.Place.{Place}
-use Rattle.page_cache.specs.declared.place.Place.TheVariants.{Home, Frame, Slot}
 use Rattle.vm_types.specs.declared.region.Attr.{Attr}
-use Rattle.frames.specs.declared.role.Role.TheVariants.{Free, Table, Private, Cache}
+use Rattle.frames.specs.declared.role.Role.TheVariants.{Free, Table, Private}
 use Rattle.frames.specs.FrameTable.{bytes_of, role_of, count_of, Releases}
 use Rattle.sv39_walk.specs.Entry.{is_valid, frame_of, has_bit}
 use Rattle.page_tables.specs.Change.{SetsEntry}
 use Rattle.page_tables.specs.Tree.{IsPage, missing_of}
 use Rattle.page_tables.proofs.Ends.{page_entry-missing}
 use Rattle.residency.specs.Seats.{Seat, InFrame, InSlot, seat, is_private, is_swapped}
-use Rattle.residency.specs.Picture.{Picture, entry, view, held, bytes_at, bytes_in}
+use Rattle.residency.specs.Picture.{Picture, entry, view, held, bytes_in}
 use Rattle.residency.specs.Parts.{IsEntryFor, Nothing, Resident, Away, IsFitBut, IsFit}
 use Rattle.residency.specs.Steps.{SameBeside, SetsPage}
 use Rattle.residency.specs.declared.leaves.Change.TheVariants.{Forget}
 use Rattle.residency.specs.Leaves.{concerns}
 use Rattle.residency.specs.Ages.{Ages, Same, Left}
-use Rattle.residency.specs.Evictions.{HasShare}
+use Rattle.residency.specs.Evictions.{HasShare, Spares}
 use Rattle.residency.proofs.Entries.{entry-of}
 use Rattle.residency.proofs.TableSteps.{sets_page, rooted_set}
 use Rattle.residency.proofs.Moves.{fit_moved, views_moved}
 use Rattle.residency.proofs.Evicted.{fit_released, seat_number}
-use Rattle.residency.specs.Evictions.{Spares}
 use Rattle.residency.proofs.Handed.{release_spares, same}
-use Rattle.residency.proofs.LeafSteps.{cases_attr, last_set}
-use Rattle.residency.proofs.Moves.{view-none}
+use Rattle.residency.proofs.LeafSteps.{last_set}
+use Rattle.residency.proofs.Setting.{each_view, set_held}
 use Rattle.residency.proofs.Sparing.{spares_then}
 use Rattle.residency.proofs.Ways.{by_page}
 use Rattle.residency.proofs.Granting.{past_end-same}
-use Rattle.residency.proofs.Start.{seat-none}
+use Rattle.residency.proofs.Start.{seat-none, no_bit}
+use Rattle.residency.proofs.Bits.{bit_clear}
 
 -- the number of a page in slot k
 pub record IsAway (e k : ℕ) : Type 0 where
@@ -41,10 +37,6 @@ pub record IsAway (e k : ℕ) : Type 0 where
   pub swapped : is_swapped e ≡ true
   pub slot : frame_of e ≡ k
 
-bit_at : (e k : ℕ) → e / 2 ^ k % 2 ≡ 0 → has_bit e k ≡ false
-unfolding has_bit
-bit_at e k zero = rw zero refl
-
 bit_on : (e k : ℕ) → e / 2 ^ k % 2 ≡ 1 → has_bit e k ≡ true
 unfolding has_bit
 bit_on e k one = rw one refl
@@ -52,10 +44,10 @@ bit_on e k one = rw one refl
 pub away_number : (k : ℕ) → k < 2 ^ 32 → IsAway (k * 1024 + 2) k
 unfolding frame_of
 away_number k low =
-    let invalid = bit_at (k * 1024 + 2) 0 (omega arith) in
+    let invalid = bit_clear (k * 1024 + 2) 0 (omega arith) in
     record {
       invalid = invalid;
-      common = bit_at (k * 1024 + 2) 8 (omega arith);
+      common = bit_clear (k * 1024 + 2) 8 (omega arith);
       swapped = rw (invalid, bit_on (k * 1024 + 2) 1 (omega arith)) refl;
       slot = omega (arith, low);
     }
@@ -73,13 +65,9 @@ module _ {mode : ℕ} where
         let bad : None ≡ Some z = sym none ∙ is in (cc))
   ]
 
-private_zero : is_private 0 ≡ false
-unfolding has_bit
-private_zero = refl
-
 -- a page with an own copy may lie in a slot
 own_region : {mode : ℕ} (c new : Picture mode) (a : Option Attr) (e e' k : ℕ) → IsEntryFor c a e → is_private e ≡ true → IsAway e' k → ((f : ℕ) → new.files f ≡ c.files f) → IsEntryFor new a e'
-own_region c new a e e' k (Nothing none) own away files = absurd (false≢true (sym (ap is_private none ∙ private_zero) ∙ own))
+own_region c new a e e' k (Nothing none) own away files = absurd (false≢true (sym (ap is_private none ∙ no_bit) ∙ own))
 own_region c new a e e' k (Away b at is) own away files = absurd (false≢true (sym is.common ∙ own))
 own_region c new a e e' k (Resident b at res) own away files = Away b at (record {
   swapped = away.swapped;
@@ -110,7 +98,7 @@ unfolding seat_no
 seat_frame e n is = (let own = frame_seat e n is in let there : Some (InFrame (frame_of e)) ≡ Some (InFrame n) = rw own at is in ap seat_no there)
 
 own_not_swapped : {mode : ℕ} (c : Picture mode) (a : Option Attr) (e : ℕ) → IsEntryFor c a e → is_private e ≡ true → is_swapped e ≡ false
-own_not_swapped c a e (Nothing none) own = absurd (false≢true (sym (ap is_private none ∙ private_zero) ∙ own))
+own_not_swapped c a e (Nothing none) own = absurd (false≢true (sym (ap is_private none ∙ no_bit) ∙ own))
 own_not_swapped c a e (Away b at is) own = absurd (false≢true (sym is.common ∙ own))
 own_not_swapped c a e (Resident b at res) own = elim (cases_Bool (is_valid e)) [
   | inl t ↦ rw t refl
@@ -142,16 +130,6 @@ module _ {mode : ℕ} (old mid new : Picture mode) (k pid r page n number : ℕ)
       (own_region old mid (old.at pid page) (entry old pid page) number k (share.fit.granting.entries pid page h) (frame_seat (entry old pid page) n from) away beside.files)
       (λ valid. absurd (false≢true (sym away.invalid ∙ valid))) (rooted_set old mid 0 r page number share.fit.rooted sets beside) alike
 
-  bytes_there : (x : Place) → ((m : ℕ) → x ≡ Frame (record { 0 = m }) → role_of old.frames m ≢ Table) → bytes_at mid.frames mid.slots x ≡ bytes_at old.frames old.slots x
-  bytes_there Home used = refl
-  bytes_there (Frame m) used = ap (λ (w : _). Some w) (sets.kept.bytes m.0 (used m.0 refl))
-  bytes_there (Slot j) used = ap (λ t. Some (t.bytes j.0)) beside.slots
-
-  held_mid : (p : PageKey) → held mid p ≡ held old p
-  unfolding held
-  held_mid p = ap (λ x. bytes_at mid.frames mid.slots x) (beside.place p)
-      ∙ bytes_there (old.place p) (λ m is table. (let bad : Cache ≡ Table = sym (share.fit.places.cached p m is) ∙ table in (cc)))
-
   not_here : (entry old pid page ≡ 0) ⊎ ((is_swapped (entry old pid page) ≡ true) ⊎ (frame_of (entry old pid page) ≢ n)) → frame_of (entry old pid page) ≡ n → is_swapped (entry old pid page) ≡ false → ⊥
   not_here (inl none) frame resident = (let bad : None ≡ Some (InFrame n) = sym (ap seat none ∙ seat-none) ∙ from in (cc))
   not_here (inr (inl swapped)) frame resident = false≢true (sym resident ∙ swapped)
@@ -177,11 +155,8 @@ module _ {mode : ℕ} (old mid new : Picture mode) (k pid r page n number : ℕ)
     pages = record {
       root = beside.root;
       at = beside.at;
-      views = λ q p. elim (cases_attr (old.at q p)) [
-        | inl none ↦ view-none mid q p (beside.at q p ∙ none) ∙ sym (view-none old q p none)
-        | inr some ↦ views_mid alike q p (let u = ((share.fit.granting.user q).user_pages p some).1 in omega (arith, u, user_pages_fit mode))
-      ];
-      files = record { held = λ p. inl (held_mid p); touched = beside.touched; files = beside.files };
+      views = λ q p. each_view old mid share.fit.granting beside.at q p (views_mid alike q p);
+      files = record { held = λ p. inl (set_held old mid pid page number 0 (InSlot k) 1 share.fit set_page p); touched = beside.touched; files = beside.files };
     };
     count = sets.kept.frames;
     roles = λ m ne. ap (λ rs. get_or rs m Free) sets.kept.roles;

@@ -1,7 +1,7 @@
 -- Own copies and touched pages that lie in slots and frames are no more than a state has.
 use Rattle.std.proofs.Common.{◌≡◌, ◌≢◌, ℕ, zero, suc, inl, inr, ◌⊎◌, ◌+◌, ◌^◌, ◌<◌, ◌≤◌, Bool, true, false, ◌==◌, ◌&&◌, nat_lt, Option, Some, None, refl, sym, ap, ◌∙◌, arith, eq-eqb, ne_eqb}
 use Rattle.std.proofs.lemmas.Bool.Decides.{nat_tests}
-use Rattle.std.proofs.lemmas.Bool.{cases_eq, cases_lt, cases_Bool, false≢true}
+use Rattle.std.proofs.lemmas.Bool.{cases_lt, cases_Bool, eqb-true, false≢true, and_parts}
 use Rattle.vm_types.specs.Capacity.{has_own, object_page_limit}
 use Rattle.vm_types.specs.Counting.{count_below, sum_below}
 use Rattle.vm_types.specs.View.{View}
@@ -21,10 +21,11 @@ use Rattle.residency.specs.Picture.{Picture, entry, view, IsOwned, count_in, pag
 use Rattle.residency.specs.Parts.{IsFitBut, nowhere}
 use Rattle.residency.specs.Calls.{NeedsSlot}
 use Rattle.residency.specs.Capacity.{copies_over, touched_file, stored_object}
-use Rattle.residency.proofs.Counts.{count-same, count-one}
-use Rattle.residency.proofs.Seats.{cases_seat, seat-other, off-none}
+use Rattle.residency.proofs.Counts.{count-same, count-one, count-all}
+use Rattle.residency.proofs.Seats.{seated, some_seat, off-none}
 use Rattle.residency.proofs.Pigeon.{pigeons}
 use Rattle.residency.proofs.Tables.{sum-one, sum-below}
+use Rattle.residency.proofs.Places.{one_slot, record_of, object_of}
 
 -- what a seat in memory or swap is for: a page of a process, of a file or of an object
 pub data Claim : Type 0 where
@@ -53,31 +54,21 @@ claim_eq (ObjectAt p k) (OwnAt q j) = false
 claim_eq (ObjectAt p k) (FileAt q j) = false
 claim_eq (ObjectAt p k) (ObjectAt q j) = (p == q) && (k == j)
 
-eq_at : (p q : ℕ) → (p == q) ≡ true → p ≡ q
-eq_at p q t = elim (cases_eq p q) [
-  | inl e ↦ e
-  | inr ne ↦ absurd (false≢true (sym (ne_eqb p q ne) ∙ t))
-]
-
-both : (a b : Bool) → (a && b) ≡ true → (a ≡ true) × (b ≡ true)
-both false b t = absurd (false≢true t)
-both true b t = (refl, t)
-
 claim_same : (x : Claim) → claim_eq x x ≡ true
 claim_same (OwnAt p i) = rw (eq-eqb p p refl) (eq-eqb i i refl)
 claim_same (FileAt p i) = rw (eq-eqb p p refl) (eq-eqb i i refl)
 claim_same (ObjectAt p i) = rw (eq-eqb p p refl) (eq-eqb i i refl)
 
 claim_is : (x y : Claim) → claim_eq x y ≡ true → x ≡ y
-claim_is (OwnAt p i) (OwnAt q j) t = let h = both (p == q) (i == j) t in ap (λ z. OwnAt z i) (eq_at p q h.0) ∙ ap (λ z. OwnAt q z) (eq_at i j h.1)
+claim_is (OwnAt p i) (OwnAt q j) t = let h = and_parts (p == q) (i == j) t in ap (λ z. OwnAt z i) (eqb-true p q h.0) ∙ ap (λ z. OwnAt q z) (eqb-true i j h.1)
 claim_is (OwnAt p i) (FileAt q j) t = absurd (false≢true t)
 claim_is (FileAt p i) (OwnAt q j) t = absurd (false≢true t)
 claim_is (OwnAt p i) (ObjectAt q j) t = absurd (false≢true t)
 claim_is (FileAt p i) (ObjectAt q j) t = absurd (false≢true t)
 claim_is (ObjectAt p i) (OwnAt q j) t = absurd (false≢true t)
 claim_is (ObjectAt p i) (FileAt q j) t = absurd (false≢true t)
-claim_is (ObjectAt p i) (ObjectAt q j) t = let h = both (p == q) (i == j) t in ap (λ z. ObjectAt z i) (eq_at p q h.0) ∙ ap (λ z. ObjectAt q z) (eq_at i j h.1)
-claim_is (FileAt p i) (FileAt q j) t = let h = both (p == q) (i == j) t in ap (λ z. FileAt z i) (eq_at p q h.0) ∙ ap (λ z. FileAt q z) (eq_at i j h.1)
+claim_is (ObjectAt p i) (ObjectAt q j) t = let h = and_parts (p == q) (i == j) t in ap (λ z. ObjectAt z i) (eqb-true p q h.0) ∙ ap (λ z. ObjectAt q z) (eqb-true i j h.1)
+claim_is (FileAt p i) (FileAt q j) t = let h = and_parts (p == q) (i == j) t in ap (λ z. FileAt z i) (eqb-true p q h.0) ∙ ap (λ z. FileAt q z) (eqb-true i j h.1)
 
 module _ (mode : ℕ) where
   abbrev pub is_inside : Claim → Type 0
@@ -91,14 +82,8 @@ module _ (mode : ℕ) where
       sum_below (λ p. count_below (λ k. Q (OwnAt p k)) (user_end mode)) 65 + sum_below (λ f. count_below (λ k. Q (FileAt f k)) (2 ^ 20)) 64
       + sum_below (λ o. count_below (λ k. Q (ObjectAt o k)) object_page_limit) object_limit
 
-owns_same : (P Q : Claim → Bool) (n m : ℕ) → ((p k : ℕ) → P (OwnAt p k) ≡ Q (OwnAt p k)) → sum_below (λ p. count_below (λ k. P (OwnAt p k)) m) n ≡ sum_below (λ p. count_below (λ k. Q (OwnAt p k)) m) n
-owns_same P Q n m same = sum-below (λ p. count_below (λ k. P (OwnAt p k)) m) (λ p. count_below (λ k. Q (OwnAt p k)) m) n n (omega arith) (λ p ne. count-same (λ k. P (OwnAt p k)) (λ k. Q (OwnAt p k)) m (same p))
-
-files_same : (P Q : Claim → Bool) (n m : ℕ) → ((p k : ℕ) → P (FileAt p k) ≡ Q (FileAt p k)) → sum_below (λ p. count_below (λ k. P (FileAt p k)) m) n ≡ sum_below (λ p. count_below (λ k. Q (FileAt p k)) m) n
-files_same P Q n m same = sum-below (λ p. count_below (λ k. P (FileAt p k)) m) (λ p. count_below (λ k. Q (FileAt p k)) m) n n (omega arith) (λ p ne. count-same (λ k. P (FileAt p k)) (λ k. Q (FileAt p k)) m (same p))
-
-objects_same : (P Q : Claim → Bool) (n m : ℕ) → ((p k : ℕ) → P (ObjectAt p k) ≡ Q (ObjectAt p k)) → sum_below (λ p. count_below (λ k. P (ObjectAt p k)) m) n ≡ sum_below (λ p. count_below (λ k. Q (ObjectAt p k)) m) n
-objects_same P Q n m same = sum-below (λ p. count_below (λ k. P (ObjectAt p k)) m) (λ p. count_below (λ k. Q (ObjectAt p k)) m) n n (omega arith) (λ p ne. count-same (λ k. P (ObjectAt p k)) (λ k. Q (ObjectAt p k)) m (same p))
+rows_same : (f g : ℕ → ℕ → Bool) (n m : ℕ) → ((p k : ℕ) → f p k ≡ g p k) → sum_below (λ p. count_below (λ k. f p k) m) n ≡ sum_below (λ p. count_below (λ k. g p k) m) n
+rows_same f g n m same = sum-below (λ p. count_below (λ k. f p k) m) (λ p. count_below (λ k. g p k) m) n n (omega arith) (λ p ne. count-same (λ k. f p k) (λ k. g p k) m (same p))
 
 module _ (mode : ℕ) where
   claims_less : (P Q : Claim → Bool) (x : Claim) → is_inside mode x → P x ≡ true → Q x ≡ false → ((y : Claim) → y ≢ x → P y ≡ Q y) → claims mode P ≡ claims mode Q + 1
@@ -107,22 +92,22 @@ module _ (mode : ℕ) where
       let a = sum-one (λ q. count_below (λ k. P (OwnAt q k)) (user_end mode)) (λ q. count_below (λ k. Q (OwnAt q k)) (user_end mode)) p 65 below.0
       (count-one (λ k. P (OwnAt p k)) (λ k. Q (OwnAt p k)) x (user_end mode) below.1 here gone (λ k ne. others (OwnAt p k) (λ e. ne (ap page_of e))))
       (λ q ne. count-same (λ k. P (OwnAt q k)) (λ k. Q (OwnAt q k)) (user_end mode) (λ k. others (OwnAt q k) (λ e. ne (ap first_of e)))) in
-      let b = files_same P Q 64 (2 ^ 20) (λ q k. others (FileAt q k) (λ e. (cc))) in
-      let c = objects_same P Q object_limit object_page_limit (λ q k. others (ObjectAt q k) (λ e. (cc))) in
+      let b = rows_same (λ q k. P (FileAt q k)) (λ q k. Q (FileAt q k)) 64 (2 ^ 20) (λ q k. others (FileAt q k) (λ e. (cc))) in
+      let c = rows_same (λ q k. P (ObjectAt q k)) (λ q k. Q (ObjectAt q k)) object_limit object_page_limit (λ q k. others (ObjectAt q k) (λ e. (cc))) in
       omega (arith, a, b, c)
   claims_less P Q (FileAt p x) below here gone others =
       let a = sum-one (λ q. count_below (λ k. P (FileAt q k)) (2 ^ 20)) (λ q. count_below (λ k. Q (FileAt q k)) (2 ^ 20)) p 64 below.0
       (count-one (λ k. P (FileAt p k)) (λ k. Q (FileAt p k)) x (2 ^ 20) below.1 here gone (λ k ne. others (FileAt p k) (λ e. ne (ap page_of e))))
       (λ q ne. count-same (λ k. P (FileAt q k)) (λ k. Q (FileAt q k)) (2 ^ 20) (λ k. others (FileAt q k) (λ e. ne (ap first_of e)))) in
-      let b = owns_same P Q 65 (user_end mode) (λ q k. others (OwnAt q k) (λ e. (cc))) in
-      let c = objects_same P Q object_limit object_page_limit (λ q k. others (ObjectAt q k) (λ e. (cc))) in
+      let b = rows_same (λ q k. P (OwnAt q k)) (λ q k. Q (OwnAt q k)) 65 (user_end mode) (λ q k. others (OwnAt q k) (λ e. (cc))) in
+      let c = rows_same (λ q k. P (ObjectAt q k)) (λ q k. Q (ObjectAt q k)) object_limit object_page_limit (λ q k. others (ObjectAt q k) (λ e. (cc))) in
       omega (arith, a, b, c)
   claims_less P Q (ObjectAt p x) below here gone others =
       let a = sum-one (λ q. count_below (λ k. P (ObjectAt q k)) object_page_limit) (λ q. count_below (λ k. Q (ObjectAt q k)) object_page_limit) p object_limit below.0
       (count-one (λ k. P (ObjectAt p k)) (λ k. Q (ObjectAt p k)) x object_page_limit below.1 here gone (λ k ne. others (ObjectAt p k) (λ e. ne (ap page_of e))))
       (λ q ne. count-same (λ k. P (ObjectAt q k)) (λ k. Q (ObjectAt q k)) object_page_limit (λ k. others (ObjectAt q k) (λ e. ne (ap first_of e)))) in
-      let b = owns_same P Q 65 (user_end mode) (λ q k. others (OwnAt q k) (λ e. (cc))) in
-      let c = files_same P Q 64 (2 ^ 20) (λ q k. others (FileAt q k) (λ e. (cc))) in
+      let b = rows_same (λ q k. P (OwnAt q k)) (λ q k. Q (OwnAt q k)) 65 (user_end mode) (λ q k. others (OwnAt q k) (λ e. (cc))) in
+      let c = rows_same (λ q k. P (FileAt q k)) (λ q k. Q (FileAt q k)) 64 (2 ^ 20) (λ q k. others (FileAt q k) (λ e. (cc))) in
       omega (arith, a, b, c)
 
 -- whether a state has it
@@ -135,11 +120,6 @@ module _ (mode : ℕ) where
   claimed_are : (views : ℕ → ℕ → Option View) (touched stored : ℕ → ℕ → Bool) → claims mode (is_claimed views touched stored) ≡ copies_over mode views touched stored
   unfolding claims copies_over
   claimed_are views touched stored = refl
-
-count-all : (f : ℕ → Bool) (n : ℕ) → ((k : ℕ) → k < n → f k ≡ true) → count_below f n ≡ n
-unfolding count_below
-count-all f zero each = refl
-count-all f (suc n) each = let rest = count-all f n (λ k lt. each k (omega (arith, lt))) in rw (each n (omega arith)) (omega (arith, rest))
 
 lt_true : (k n : ℕ) → k < n → nat_lt k n ≡ true
 lt_true k n lt = grind (arith, nat_tests)
@@ -154,22 +134,6 @@ count-found f (suc n) some = elim (cases_Bool (f n)) [
   | inl t ↦ (n, omega arith, t)
   | inr f' ↦ (let rest : 0 < count_below f n = (let total = rw f' at some in omega (arith, total)) in let found = count-found f n rest in (found.0, (let lt = found.1 in omega (arith, lt)), found.2))
 ]
-
-seat_is : (o : Option Seat) (z : Seat) → is_seat o z ≡ true → o ≡ Some z
-seat_is None z t = absurd (false≢true t)
-seat_is (Some y) z t = elim (cases_seat y z) [
-  | inl e ↦ ap (λ x. Some x) e
-  | inr ne ↦ absurd (false≢true (sym (seat-other y z ne) ∙ t))
-]
-
-some_seat : (x y : Seat) → Some x ≡ Some y → x ≡ y
-some_seat x y e = (cc)
-
-abbrev record_of : ℕ → ℕ → FilePage
-record_of file page = record { file = file; page = page }
-
-abbrev object_of : ℕ → ℕ → ObjectPage
-object_of object page = record { object = object; page = page }
 
 -- so many things with claims of their own are no more than a state has
 module _ (mode : ℕ) where
@@ -196,7 +160,7 @@ module _ {mode : ℕ} (c : Picture mode) (m : ℕ) (fit : IsFitBut c nowhere 0 m
       let none = off-none nowhere z in
       let page = page_in c fit.counted.0 z in
       let found = count-found (λ q. is_seat (seat (entry c q page)) z) 65 (omega (arith, here, none, some)) in
-      (found.0, found.1, seat_is (seat (entry c found.0 page)) z found.2)
+      (found.0, found.1, seated (seat (entry c found.0 page)) z found.2)
 
   -- the claim of what lies at a seat or a place
   data HasClaim (z : Seat) (at : Place) : Type 0 where
@@ -258,21 +222,12 @@ module _ {mode : ℕ} (c : Picture mode) (m : ℕ) (fit : IsFitBut c nowhere 0 m
   code_by k (inl lt) = claim_of (slot_claim k lt)
   code_by k (inr le) = claim_of frame_claim
 
-  slot_number : Place → ℕ
-  slot_number Home = 0
-  slot_number (Frame x) = 0
-  slot_number (Slot x) = x.0
-
-  slot_place : (j k : ℕ) → Slot (record { 0 = j }) ≡ Slot (record { 0 = k }) → j ≡ k
-  unfolding slot_number
-  slot_place j k e = ap slot_number e
-
   apart_by : (j k : ℕ) (a : (j < c.slots.total) ⊎ (c.slots.total ≤ j)) (b : (k < c.slots.total) ⊎ (c.slots.total ≤ k)) → j < c.slots.total + 1 → k < c.slots.total + 1
       → code_by j a ≡ code_by k b → j ≡ k
   unfolding code_by
   apart_by j k (inl lt) (inl lt') below below' e = elim (tells (InSlot j) (InSlot k) (Slot (record { 0 = j })) (Slot (record { 0 = k })) (slot_claim j lt) (slot_claim k lt') e) [
     | inl s ↦ (cc)
-    | inr s ↦ slot_place j k s
+    | inr s ↦ one_slot j k s
   ]
   apart_by j k (inl lt) (inr le) below below' e = elim (tells (InSlot j) (InFrame n) (Slot (record { 0 = j })) (Frame (record { 0 = n })) (slot_claim j lt) frame_claim e) [
     | inl s ↦ absurd ((cc))

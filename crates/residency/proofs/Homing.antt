@@ -5,28 +5,20 @@ use Rattle.std.proofs.lemmas.Bool.{false≢true}
 use Rattle.vm_types.specs.declared.object.PageKey.{PageKey}
 use Rattle.frames.specs.FrameTable.{role_of, bytes_of, count_of}
 use Rattle.swap.specs.Slots.{ReleasesSlot}
-use Rattle.sv39_walk.specs.Entry.{is_valid, is_dirty, frame_of}
+use Rattle.sv39_walk.specs.Entry.{frame_of}
 use Rattle.page_tables.specs.Tree.{page_entry}
-use Rattle.page_cache.specs.declared.place.Place.{Place}
 use Rattle.page_cache.specs.declared.place.Place.TheVariants.{Home, Frame, Slot}
-use Rattle.residency.specs.Seats.{Seat, InFrame, InSlot, seat, is_private}
+use Rattle.residency.specs.Seats.{Seat, InFrame, InSlot, seat}
 use Rattle.residency.specs.Picture.{Picture, entry, view, held, bytes_at, bytes_in, IsOwned, count_in, page_in}
 use Rattle.residency.specs.Parts.{IsFit, HasPlaces, IsDirtySound, nowhere}
 use Rattle.residency.proofs.Entries.{entries_kept}
 use Rattle.residency.proofs.Granting.{granting_same}
-use Rattle.residency.proofs.Places.{cases_page, page_for-same}
+use Rattle.residency.proofs.Places.{cases_page}
+pub use Rattle.residency.proofs.Places.{one_slot}
+use Rattle.residency.proofs.Placed.{places_replaced, dirty_replaced}
 use Rattle.residency.proofs.Rooted.{rooted_frames}
 use Rattle.residency.proofs.Seats.{counted_same}
-use Rattle.residency.proofs.Setting.{view_seated, each_view}
-
-slot_number : Place → ℕ
-slot_number Home = 0
-slot_number (Frame n) = 0
-slot_number (Slot k) = k.0
-
-pub one_slot : (j k : ℕ) → Slot (record { 0 = j }) ≡ Slot (record { 0 = k }) → j ≡ k
-unfolding slot_number
-one_slot j k e = ap slot_number e
+use Rattle.residency.proofs.Setting.{view_seated, each_view, held_by}
 
 home_frame : (n : ℕ) → Home ≢ Frame (record { 0 = n })
 home_frame n e = (cc)
@@ -115,57 +107,29 @@ module _ {mode : ℕ} (old new : Picture mode) (page : PageKey) (k : ℕ) (fit :
   seat_bytes (InSlot j) is = homes.slots.others.bytes j (owned_ne j is) is.0
 
   places : HasPlaces new
-  places = record {
-    cached = λ p n at. elim (cases_page p page) [
-      | inl e ↦ absurd (home_frame n (sym (placed_home p e) ∙ at))
-      | inr ne ↦ role n ∙ fit.places.cached p n (sym (homes.others p ne) ∙ at)
-    ];
-    held = λ n cache. (
-        let here = fit.places.held n (sym (role n) ∙ cache) in
-        (here.0, homes.others here.0 (λ e. slot_frame k n (sym homes.was ∙ ap old.place (sym e) ∙ here.1)) ∙ here.1));
-    apart = λ p q e away. elim (cases_page p page) [
-      | inl is ↦ absurd (away (placed_home p is))
-      | inr ne ↦ elim (cases_page q page) [
-        | inl is ↦ absurd (away (e ∙ placed_home q is))
-        | inr ne' ↦ fit.places.apart p q (sym (homes.others p ne) ∙ e ∙ homes.others q ne') (λ home. away (homes.others p ne ∙ home))
-      ]
-    ];
-    slotted = λ p j at. elim (cases_page p page) [
-      | inl e ↦ absurd (home_slot j (sym (placed_home p e) ∙ at))
-      | inr ne ↦ (let there = sym (homes.others p ne) ∙ at in homes.slots.others.counts j (slot_ne p j ne there) ∙ fit.places.slotted p j there)
-    ];
+  places = places_replaced old new page fit.places (record {
+    others = homes.others;
+    at = homes.at;
+    files = homes.files;
+    cached = λ n is. absurd (home_frame n (sym homes.placed ∙ is));
+    cached_else = λ p n ne is. role n ∙ fit.places.cached p n is;
+    held = λ n is. inr ((λ e. slot_frame k n (sym homes.was ∙ e)), sym (role n) ∙ is);
+    slotted = λ j is. absurd (home_slot j (sym homes.placed ∙ is));
+    slotted_else = λ p j ne is. homes.slots.others.counts j (slot_ne p j ne is);
     used = λ j some. (
         let ne = not_k j some in
         let c = homes.slots.others.counts j ne in
         elim (fit.places.used j (omega (arith, c, some))) [
           | inl own ↦ inl (forth (InSlot j) own)
-          | inr file ↦ inr (file.0, homes.others file.0 (λ e. ne (one_slot j k (sym file.1 ∙ ap old.place e ∙ homes.was))) ∙ file.1)
+          | inr file ↦ inr (inr ((λ e. ne (one_slot j k (sym e ∙ homes.was))), file.0, file.1))
         ]);
-    inside = λ p away. elim (cases_page p page) [
-      | inl e ↦ absurd (away (placed_home p e))
-      | inr ne ↦ page_for-same old new p homes.at homes.files (fit.places.inside p (λ home. away (homes.others p ne ∙ home)))
-    ];
-  }
+    apart = λ q ne e. sym e ∙ homes.placed;
+    inside = λ away. absurd (away homes.placed);
+  })
 
   dirty : IsDirtySound new
-  dirty = record {
-    dirty = λ pid q p h valid common bit there. elim (cases_page p page) [
-      | inl e ↦ absurd (home_frame _ (sym (placed_home p e) ∙ there))
-      | inr ne ↦ (
-          let e = same pid q in
-          homes.rest p ne
-          ∙ fit.dirty.dirty pid q p h (sym (ap is_valid e) ∙ valid) (sym (ap is_private e) ∙ common) (sym (ap is_dirty e) ∙ bit)
-          (sym (homes.others p ne) ∙ there ∙ ap (λ x. Frame (record { 0 = frame_of x })) e))
-    ];
-    held = λ p touched home. elim (cases_page p page) [
-      | inl e ↦ false≢true (sym (ap new.touched e ∙ homes.now) ∙ touched)
-      | inr ne ↦ fit.dirty.held p (sym (homes.rest p ne) ∙ touched) (sym (homes.others p ne) ∙ home)
-    ];
-    slotted = λ p j at. elim (cases_page p page) [
-      | inl e ↦ absurd (home_slot j (sym (placed_home p e) ∙ at))
-      | inr ne ↦ homes.rest p ne ∙ fit.dirty.slotted p j (sym (homes.others p ne) ∙ at)
-    ];
-  }
+  dirty = dirty_replaced old new page fit.dirty homes.others homes.rest (λ pid q h. same pid q) (λ pid q h valid common bit there. absurd (home_frame (frame_of (entry old pid q)) (sym homes.placed ∙ there)))
+      (λ touched home. false≢true (sym homes.now ∙ touched)) (λ j is. absurd (home_slot j (sym homes.placed ∙ is)))
 
   pub fit_homed : IsFit new
   fit_homed = record {
@@ -189,15 +153,9 @@ module _ {mode : ℕ} (old new : Picture mode) (page : PageKey) (k : ℕ) (fit :
   views q p = each_view old new fit.granting homes.at q p (λ h. view_seated old new q p (homes.at q p) (ap seat (same q p))
       (λ z is. seat_bytes z (fit.counted.1.named q p z h is)))
 
-  bytes_else : (p : PageKey) (x : Place) → old.place p ≡ x → p ≢ page → bytes_at new.frames new.slots x ≡ bytes_at old.frames old.slots x
-  bytes_else p Home at ne = refl
-  bytes_else p (Frame m) at ne = ap (λ t. Some (bytes_of t m.0)) homes.frames
-  bytes_else p (Slot j) at ne =
-      ap (λ (w : _). Some w) (homes.slots.others.bytes j.0 (slot_ne p j.0 ne at) (let c = fit.places.slotted p j.0 at in omega (arith, c)))
-
   pub held_else : (p : PageKey) → p ≢ page → held new p ≡ held old p
-  unfolding held
-  held_else p ne = ap (λ x. bytes_at new.frames new.slots x) (homes.others p ne) ∙ bytes_else p (old.place p) refl ne
+  held_else p ne = held_by old new p (homes.others p ne) (λ m at. ap (λ t. bytes_of t m) homes.frames)
+      (λ k' at. homes.slots.others.bytes k' (slot_ne p k' ne at) (let c = fit.places.slotted p k' at in omega (arith, c)))
 
   pub held_none : held new page ≡ None
   unfolding held

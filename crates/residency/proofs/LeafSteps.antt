@@ -1,9 +1,8 @@
 -- Entries over one frame changed: what stays, and where such entries stand.
 use Rattle.vm_types.specs.declared.mode.Levels as Levels
-use Rattle.vm_types.proofs.Modes.{user_pages_fit}
 use Rattle.vm_types.specs.Limits.{user_end, top_level}
 use Rattle.std.proofs.Common.{◌≡◌, ◌≢◌, ℕ, inl, inr, ◌⊎◌, ◌+◌, ◌-◌, ◌<◌, ◌≤◌, true, false, List, [], Option, Some, None, get_or, refl, sym, ap, ◌∙◌, subst, arith, ne_eqb}
-use Rattle.std.specs.Prelude.{IsSome, IfNone, is_some}
+use Rattle.std.specs.Prelude.{IsSome, IfNone, is_some, option_map}
 use Rattle.std.proofs.lemmas.Bool.{cases_eq, cases_Bool, false≢true}
 use Rattle.std.proofs.lemmas.Option.{same_Some}
 use Rattle.vm_types.specs.declared.object.PageKey.{PageKey}
@@ -27,27 +26,24 @@ use Rattle.regions.specs.Search.{StandsOn}
 use Rattle.page_cache.specs.declared.place.Place.TheVariants.{Home, Frame}
 use Rattle.residency.specs.declared.leaves.Change.{Change}
 use Rattle.residency.specs.declared.leaves.Change.TheVariants.{Forget, ClearAccessed, ClearDirty}
-use Rattle.residency.specs.Seats.{Seat, InFrame, InSlot, seat, is_private}
+use Rattle.residency.specs.Seats.{InFrame, seat, is_private}
 use Rattle.residency.specs.declared.kernel.Core.{Core}
-use Rattle.residency.specs.Picture.{Picture, picture_of, attr_where, root_in, number_of_frame, entry, bytes_in, IsOwned, count_in, page_in}
+use Rattle.residency.specs.Picture.{Picture, picture_of, attr_where, root_in, number_of_frame, entry}
 use Rattle.memory.specs.Notes.{NamesFrame}
 use Rattle.memory.proofs.Numbers.{is_number, of_number}
-use Rattle.residency.specs.Parts.{IsEntryFor, IsResident, IsBehind, IsFit, AsRoot, OnWay, nowhere}
+use Rattle.residency.specs.Parts.{IsResident, IsBehind, IsFit, AsRoot, OnWay, nowhere}
 use Rattle.residency.specs.Steps.{SameBeside, SetsPage}
-use Rattle.residency.specs.declared.leaves.Held.{Held}
-use Rattle.residency.specs.declared.leaves.Held.TheVariants.{Own, Filed}
-use Rattle.residency.specs.Leaves.{concerns, IsOver, IsChanged, ChangesLeaves, Holds, KeepsAllButFrames, AreKinds, IsPageOver, key_after}
+use Rattle.residency.specs.Leaves.{concerns, IsOver, IsChanged, ChangesLeaves, KeepsAllButFrames, AreKinds, IsPageOver, key_after}
 use Rattle.residency.specs.LeafChanges.{ChangesEntries}
 use Rattle.residency.proofs.Bits.{some_framed, resident_of, changed_once, seat_changed, for_changed, valid_zero, leaf_accessed}
 use Rattle.residency.proofs.Entries.{entry-of}
-use Rattle.residency.proofs.Granting.{entry_for-same, granting_changed}
-use Rattle.residency.proofs.Moves.{behind_kept, owned_forth, owned_back, count_kept, page_kept, view_kept, view-none}
-use Rattle.residency.proofs.Places.{places_same, dirty_changed}
-use Rattle.residency.proofs.Seats.{counted_same}
+use Rattle.residency.proofs.Granting.{entry_for-same}
+use Rattle.residency.proofs.Moves.{behind_kept}
+pub use Rattle.residency.proofs.Moves.{cases_attr}
+use Rattle.residency.proofs.Setting.{fit_set, set_views}
 use Rattle.residency.proofs.Start.{entry-dead}
 use Rattle.residency.proofs.TableSteps.{sets_page, rooted_set}
 use Rattle.residency.proofs.Ways.{by_page, begins_table}
-use Rattle.std.specs.Prelude.{option_map}
 
 -- where an entry was set, each way ends where it ended
 module _ (mode : ℕ) where
@@ -111,9 +107,6 @@ module _ {mode : ℕ} (c : Picture mode) (change : Change) (n pid k : ℕ) (fit 
         absurd (no_private res.0.backing above role (subst P over.frame (res.2.behind common))))
   ]
 
-  pub over_mapped : c.at pid k ≢ None
-  over_mapped none = let bad : None ≡ Some over_resident.0 = sym none ∙ over_resident.1 in (cc)
-
 -- no table is missing on the way to it
 module _ {mode : ℕ} where
   pub over_whole : (c : Picture mode) (change : Change) (n pid r k : ℕ) → c.root pid ≡ Some r → IsOver c change n pid k → missing_of c.frames (top_level mode) r k ≡ 0
@@ -145,50 +138,15 @@ pub if_none : {T : Type 0} (o : Option T) (P : Type 0) → IfNone o P → is_som
 if_none None P is none = is
 if_none (Some x) P is none = absurd (false≢true (sym none))
 
--- runs
-pub stands_after : (b : Backing) (n : ℕ) (p : PageKey) → stands_on b ≡ Some p → stands_on (backing_after b n) ≡ Some (key_after p n)
-stands_after Backings.Anon n p is = (cc)
-stands_after (Backings.Private q) n p is = ap (λ (x : PageKey). Some (key_after x n)) (same_Some (File q) p is)
-stands_after (Backings.Shared q) n p is = ap (λ (x : PageKey). Some (key_after x n)) (same_Some (File q) p is)
-stands_after (Backings.Common q) n p is = ap (λ (x : PageKey). Some (key_after x n)) (same_Some (Object q) p is)
-
 number_after : (b : Backing) (n : ℕ) (p : PageKey) → stands_on (backing_after b n) ≡ Some p → (q : PageKey) × (stands_on b ≡ Some q) × (key_after q n ≡ p)
 number_after Backings.Anon n p is = cc
 number_after (Backings.Private q) n p is = (File q, refl, same_Some (key_after (File q) n) p is)
 number_after (Backings.Shared q) n p is = (File q, refl, same_Some (key_after (File q) n) p is)
 number_after (Backings.Common q) n p is = (Object q, refl, same_Some (key_after (Object q) n) p is)
 
-offset_of : PageKey → ℕ
-offset_of (File p) = p.page
-offset_of (Object p) = p.page
-
-offset_after : (p : PageKey) (n : ℕ) → offset_of (key_after p n) ≡ offset_of p + n
-unfolding offset_of
-offset_after (File p) n = refl
-offset_after (Object p) n = refl
-
-pub one_over : (run : Run) (p : PageKey) (j k : ℕ) → IsPageOver run p j → IsPageOver run p k → j ≡ k
-one_over run p j k a b =
-    let x = number_after run.attr.backing (j - run.first) p a.is in
-    let y = number_after run.attr.backing (k - run.first) p b.is in
-    let same : x.0 ≡ y.0 = same_Some x.0 y.0 (sym x.1 ∙ y.1) in
-    let first : offset_of x.0 ≡ offset_of y.0 = ap offset_of same in
-    let one : offset_of x.0 + (j - run.first) ≡ offset_of p = sym (offset_after x.0 (j - run.first)) ∙ ap offset_of x.2 in
-    let other : offset_of y.0 + (k - run.first) ≡ offset_of p = sym (offset_after y.0 (k - run.first)) ∙ ap offset_of y.2 in
-    omega (arith, first, one, other, a.from, b.from)
-
--- of anonymous memory that isn't shared no page stands on a page of a file or an object
-pub not_backed : (run : Run) (p : PageKey) (k : ℕ) → stands_on run.attr.backing ≡ None → IsPageOver run p k → ⊥
-not_backed run p k none over =
-    let x = number_after run.attr.backing (k - run.first) p over.is in
-    let bad : None ≡ Some x.0 = sym none ∙ x.1 in (cc)
-
 -- how much further on the run's page over that page stands than the first
 pub over_after : (run : Run) (first p : PageKey) (k : ℕ) → stands_on run.attr.backing ≡ Some first → IsPageOver run p k → key_after first (k - run.first) ≡ p
 over_after run first p k is over = let x = number_after run.attr.backing (k - run.first) p over.is in ap (λ (q : PageKey). key_after q (k - run.first)) (same_Some first x.0 (sym is ∙ x.1)) ∙ x.2
-
-pub one_after : (p : PageKey) (n m : ℕ) → key_after p n ≡ key_after p m → n ≡ m
-one_after p n m e = let same : offset_of p + n ≡ offset_of p + m = sym (offset_after p n) ∙ ap offset_of e ∙ offset_after p m in omega (arith, same)
 
 -- a page of a process with an entry over the frame of a page of a file or an object stands on that
 pub over_stands : {mode : ℕ} (c : Picture mode) (change : Change) (n pid k : ℕ) (runs : List Run) (p : PageKey) → IsFit c → 0 < n → c.place p ≡ Frame (record { 0 = n }) → ((j : ℕ) → c.at pid j ≡ attr_at runs j)
@@ -205,10 +163,6 @@ pub map_of : {M : Type 0} {m : Levels.Ghosts M} → {D E : Type 0} (c : Core D E
 map_of c pid root runs live same page =
     at_where (root_in c.roots.items pid) (get_or c.regions.items pid []) page root live ∙ ap (λ (rs : List Run). attr_at rs page) same
 
-pub cases_attr : (o : Option Attr) → (o ≡ None) ⊎ IsSome o
-cases_attr None = inl refl
-cases_attr (Some a) = inr refl
-
 -- One entry over the frame was changed.
 module _ {mode : ℕ} (old new : Picture mode) (change : Change) (n pid r page number : ℕ) (fit : IsFit old) (root : old.root pid ≡ Some r) (h : IsPage (top_level mode) page) (over : IsOver old change n pid page)
     (filed : change ≡ Forget → role_of old.frames n ≡ Cache) (changed : IsChanged change (entry old pid page) number) (sets : SetsEntry old.frames new.frames (top_level mode) r page number)
@@ -219,52 +173,18 @@ module _ {mode : ℕ} (old new : Picture mode) (change : Change) (n pid r page n
   seat_here : seat number ≡ seat (entry old pid page)
   seat_here = seat_changed change (entry old pid page) number over.concerned (λ forget. over_common old change n pid page fit h over (filed forget)) changed
 
-  seats : (q p : ℕ) → IsPage (top_level mode) p → seat (entry new q p) ≡ seat (entry old q p)
-  seats q p h' = elim (by_page q p pid page) [
-    | inl e ↦ (
-        let P : ℕ → Type 0 = λ x. seat (entry new x p) ≡ seat (entry old x p) in
-        let Q : ℕ → Type 0 = λ x. seat (entry new pid x) ≡ seat (entry old pid x) in
-        subst P (sym e.0) (subst Q (sym e.1) (ap seat one_page.changed ∙ seat_here)))
-    | inr other ↦ ap seat (one_page.others q p h' other)
-  ]
-
-  dirty_here : (ch : Change) → ch ≡ change → (p : PageKey) → IsChanged ch (entry old pid page) number → concerns ch (entry old pid page) ≡ true
+  dirty_here : (ch : Change) (p : PageKey) → IsChanged ch (entry old pid page) number → concerns ch (entry old pid page) ≡ true
       → is_valid number ≡ true → is_private number ≡ false → is_dirty number ≡ true → old.place p ≡ Frame (record { 0 = frame_of number }) → old.touched p ≡ true
-  dirty_here Forget is p none con valid common dirty at = absurd (false≢true (sym valid_zero ∙ sym (ap is_valid none) ∙ valid))
-  dirty_here ClearAccessed is p ch con valid common dirty at =
+  dirty_here Forget p none con valid common dirty at = absurd (false≢true (sym valid_zero ∙ sym (ap is_valid none) ∙ valid))
+  dirty_here ClearAccessed p ch con valid common dirty at =
       fit.dirty.dirty pid page p h (leaf_accessed (entry old pid page) con).0 (sym ch.0.private ∙ common) (sym ch.1 ∙ dirty) (at ∙ ap (λ x. Frame (record { 0 = x })) ch.0.frame)
-  dirty_here ClearDirty is p ch con valid common dirty at = absurd (false≢true (sym ch.2 ∙ dirty))
+  dirty_here ClearDirty p ch con valid common dirty at = absurd (false≢true (sym ch.2 ∙ dirty))
 
   fit_changed : IsFit new
-  fit_changed = record {
-    counted = (
-      fit.counted.0,
-      counted_same mode (entry old) (entry new) (IsOwned old) (IsOwned new) (count_in old) (count_in new) (page_in old fit.counted.0) (page_in new fit.counted.0)
-          seats nowhere 0 fit.counted.1 (owned_forth old new beside one_page.shares) (owned_back old new beside one_page.shares) (count_kept old new beside one_page.shares)
-          (λ z is. page_kept old new fit.counted.0 beside z),
-    );
-    rooted = rooted_set old new 0 r page number fit.rooted sets beside;
-    granting = granting_changed old new pid page fit.granting (behind_kept old new beside)
-        (λ q p h' private one. ap (λ cs. get_or cs (frame_of (entry old q p)) 0) sets.kept.counts ∙ one)
-        beside.at one_page.others
-        (let P : ℕ → Type 0 = λ e. IsEntryFor new (old.at pid page) e in
-        subst P (sym one_page.changed) (entry_for-same old new (old.at pid page) number (behind_kept old new beside)
-        (λ private write one. ap (λ cs. get_or cs (frame_of number) 0) sets.kept.counts ∙ one)
-        (for_changed old change (old.at pid page) (entry old pid page) number over.concerned changed (fit.granting.entries pid page h))));
-    places = places_same old new fit.places beside.place beside.at beside.files beside.slots one_page.shares.cache one_page.shares.was_cache;
-    dirty = dirty_changed old new pid page fit.dirty beside.place beside.touched one_page.others
-        (λ p valid common dirty at. dirty_here change refl p changed over.concerned (sym (ap is_valid one_page.changed) ∙ valid) (sym (ap is_private one_page.changed) ∙ common)
-        (sym (ap is_dirty one_page.changed) ∙ dirty) (at ∙ ap (λ x. Frame (record { 0 = frame_of x })) one_page.changed));
-  }
-
-  own_kept : (o o' : Option Seat) → o' ≡ o → ((z : Seat) → o ≡ Some z → bytes_in new.frames new.slots z ≡ bytes_in old.frames old.slots z)
-      → option_map (bytes_in new.frames new.slots) o' ≡ option_map (bytes_in old.frames old.slots) o
-  own_kept None o' e each = ap (λ x. option_map (bytes_in new.frames new.slots) x) e
-  own_kept (Some z) o' e each = ap (λ x. option_map (bytes_in new.frames new.slots) x) e ∙ ap (λ b. Some b) (each z refl)
-
-  seat_bytes : (z : Seat) → IsOwned old z → bytes_in new.frames new.slots z ≡ bytes_in old.frames old.slots z
-  seat_bytes (InFrame m) is = sets.kept.bytes m (λ t. (let bad : Private ≡ Table = sym is ∙ t in (cc)))
-  seat_bytes (InSlot j) is = ap (λ t. t.bytes j) beside.slots
+  fit_changed = fit_set old new pid page number 0 one_page h
+      (entry_for-same old new (old.at pid page) number (behind_kept old new beside) (λ private write one. ap (λ cs. get_or cs (frame_of number) 0) sets.kept.counts ∙ one)
+      (for_changed old change (old.at pid page) (entry old pid page) number over.concerned changed (fit.granting.entries pid page h)))
+      (rooted_set old new 0 r page number fit.rooted sets beside) (λ p. dirty_here change p changed over.concerned) seat_here nowhere 0 fit
 
   changes_one : ChangesLeaves change n old new
   changes_one = record {
@@ -273,12 +193,7 @@ module _ {mode : ℕ} (old new : Picture mode) (change : Change) (n pid r page n
     bytes = sets.kept.bytes;
     roles = λ m. ap (λ rs. get_or rs m Free) sets.kept.roles;
     counts = λ m. ap (λ cs. get_or cs m 0) sets.kept.counts;
-    views = λ q p. elim (cases_attr (old.at q p)) [
-      | inl none ↦ view-none new q p (beside.at q p ∙ none) ∙ sym (view-none old q p none)
-      | inr some ↦ (
-          let h' : IsPage (top_level mode) p = (let u = ((fit.granting.user q).user_pages p some).1 in omega (arith, u, user_pages_fit mode)) in
-          view_kept old new q p (beside.at q p) (own_kept (seat (entry old q p)) (seat (entry new q p)) (seats q p h') (λ z is. seat_bytes z (fit.counted.1.named q p z h' is))))
-    ];
+    views = set_views old new pid page number 0 nowhere 0 fit one_page h seat_here;
     ends = λ q x p e. last_set mode old.frames new.frames r page number fit.rooted.forest sets x p (fit.rooted.roots q x e).table;
     pointers = λ m i t. (sets.pointers m i t).0;
     entries = λ q p h'. elim (by_page q p pid page) [
@@ -347,10 +262,6 @@ changes_then change n a b c f g = record {
     ]
   ];
 }
-
-pub holds_kept : {mode : ℕ} (change : Change) (n : ℕ) (old new : Picture mode) (held : Held) → ChangesLeaves change n old new → Holds old n held → Holds new n held
-holds_kept change n old new (Own page) changes is = (changes.roles n ∙ is.0, changes.beside.page_of n ∙ is.1)
-holds_kept change n old new (Filed p) changes is = changes.beside.place p ∙ is
 
 module _ {M : Type 0} {m : Levels.Ghosts M} {D E : Type 0} where
   frames_none : (c : Core D E M m) → KeepsAllButFrames c c

@@ -1,5 +1,4 @@
 -- A page of a file leaves its frame, for home or for a slot.
-use Rattle.vm_types.proofs.Modes.{user_pages_fit}
 use Rattle.vm_types.specs.Limits.{top_level}
 use Rattle.std.proofs.Common.{◌≡◌, ◌≢◌, ℕ, inl, inr, ◌⊎◌, ◌<◌, true, false, Option, Some, None, refl, sym, ap, ◌∙◌, subst, arith, ne_eqb}
 use Rattle.std.proofs.lemmas.Bool.{cases_eq, cases_Bool, false≢true}
@@ -11,11 +10,10 @@ use Rattle.vm_types.specs.declared.region.Backing.TheVariants.{Anon, Private as 
 use Rattle.frames.specs.declared.role.Role.TheVariants.{Free, Table, Private, Cache}
 use Rattle.frames.specs.FrameTable.{role_of, SameButFor}
 use Rattle.swap.specs.Slots.{SlotTable}
-use Rattle.sv39_walk.specs.Entry.{is_valid, is_dirty, frame_of, has_bit}
+use Rattle.sv39_walk.specs.Entry.{is_valid, frame_of, has_bit}
 use Rattle.page_tables.specs.Tree.{IsPage}
 use Rattle.page_tables.proofs.Data.{KeepsTrees, data_changed}
 use Rattle.page_tables.proofs.Ends.{same_last}
-use Rattle.std.specs.Prelude.{option_map}
 use Rattle.page_cache.specs.declared.place.Place.{Place}
 use Rattle.page_cache.specs.declared.place.Place.TheVariants.{Home, Frame, Slot}
 use Rattle.residency.specs.Seats.{Seat, InFrame, InSlot, seat, is_private, is_swapped}
@@ -23,16 +21,19 @@ use Rattle.residency.specs.declared.leaves.Change.TheVariants.{Forget}
 use Rattle.residency.specs.Leaves.{IsClear}
 use Rattle.residency.specs.Ages.{Same}
 use Rattle.residency.specs.Evictions.{Spares}
-use Rattle.residency.proofs.LeafSteps.{cases_attr}
-use Rattle.residency.proofs.Moves.{view_kept, view-none}
-use Rattle.residency.specs.Picture.{Picture, entry, held, bytes_at, is_data, own_in, bytes_in, IsOwned, count_in, page_in}
-use Rattle.residency.specs.Parts.{IsRootedBut, IsGranting, IsEntryFor, Nothing, Resident, Away, IsResident, IsBehind, IsPageFor, IsFitBut, IsFit, nowhere, HasPlaces, IsDirtySound}
+use Rattle.residency.specs.Picture.{Picture, entry, held, is_data, bytes_in, IsOwned, count_in, page_in, bytes_at}
+use Rattle.residency.specs.Parts.{IsCountedBut, IsRootedBut, IsGranting, IsEntryFor, Nothing, Resident, Away, IsResident, IsBehind, IsFitBut, IsFit, nowhere, HasPlaces, IsDirtySound}
 use Rattle.residency.proofs.Entries.{entries_kept}
 use Rattle.residency.proofs.Seats.{counted_left, counted_same}
 use Rattle.residency.proofs.Granting.{past_end-same, user_map-same, readable-same}
-use Rattle.residency.proofs.Places.{cases_page, one_frame, objects-same, page_for-same}
+use Rattle.residency.proofs.Places.{cases_page, one_frame, objects-same, one_slot}
+use Rattle.residency.proofs.Placed.{places_replaced, dirty_replaced}
 use Rattle.residency.proofs.Rooted.{rooted_same}
+use Rattle.residency.proofs.Setting.{view_seated, each_view, held_by}
 use Rattle.residency.proofs.Evicted.{seat_number as seat_below}
+
+slot_seat : (j i : ℕ) → InSlot j ≡ InSlot i → j ≡ i
+slot_seat j i e = (cc)
 
 -- the file page left frame v, which is free now; every other file page is where it was
 module _ {mode : ℕ} where
@@ -50,16 +51,15 @@ module _ {mode : ℕ} where
     pub touched : (p : PageKey) → new.touched p ≡ old.touched p
     pub files : (f : ℕ) → new.files f ≡ old.files f
 
+-- a page at home is held nowhere
+pub home_held : {mode : ℕ} (c : Picture mode) (p : PageKey) → c.place p ≡ Home → held c p ≡ None
+unfolding held
+home_held c p home = ap (λ x. bytes_at c.frames c.slots x) home
+
 -- no entry is over a frame that was forgotten
 pub unnamed_of : {mode : ℕ} (c : Picture mode) (v : ℕ) → IsClear c Forget v → (pid k : ℕ) → IsPage (top_level mode) k → entry c pid k ≢ 0 → is_private (entry c pid k) ≡ false → is_swapped (entry c pid k) ≡ false → frame_of (entry c pid k) ≢ v
 unnamed_of c v clear pid k h some common resident frame =
     clear pid k h (record { concerned = rw (ne_eqb (entry c pid k) 0 some, resident) refl; frame = frame })
-
--- where it may go: home untouched, or touched into a slot that has one share and no holder
-module _ {mode : ℕ} where
-  pub data GoesTo (c : Picture mode) (page : PageKey) : Place → Seat → ℕ → Type 0 where
-    ToHome : c.touched page ≡ false → GoesTo c page Home nowhere 0
-    ToSlot : (k : ℕ) → c.touched page ≡ true → IsOwned c (InSlot k) → c.slots.count k ≡ 1 → GoesTo c page (Slot (record { 0 = k })) (InSlot k) 1
 
 module _ {mode : ℕ} (old new : Picture mode) (page : PageKey) (v : ℕ) (at : Place) (x : Seat) (d : ℕ) (fit : IsFitBut old x d 0) (leaves : Leaves old new page v at)
     (unnamed : (pid k : ℕ) → IsPage (top_level mode) k → entry old pid k ≢ 0 → is_private (entry old pid k) ≡ false → is_swapped (entry old pid k) ≡ false → frame_of (entry old pid k) ≢ v) where
@@ -73,11 +73,7 @@ module _ {mode : ℕ} (old new : Picture mode) (page : PageKey) (v : ℕ) (at : 
       data_changed old.frames new.frames (top_level mode) v fit.rooted.forest leaves.frames (λ e. cache_table (sym cache ∙ e)) (λ e. free_table (sym leaves.free ∙ e))
 
   same : (pid k : ℕ) → IsPage (top_level mode) k → entry new pid k ≡ entry old pid k
-  same pid k h =
-      let cache_table : Cache ≢ Table = λ e. (cc) in
-      let free_table : Free ≢ Table = λ e. (cc) in
-      let trees = data_changed old.frames new.frames (top_level mode) v fit.rooted.forest leaves.frames (λ e. cache_table (sym cache ∙ e)) (λ e. free_table (sym leaves.free ∙ e)) in
-      entries_kept old new 0 fit.rooted trees.entries leaves.root pid k
+  same pid k h = entries_kept old new 0 fit.rooted trees.entries leaves.root pid k
 
   private_ne : (n : ℕ) → role_of old.frames n ≡ Private → n ≢ v
   private_ne n is e = let bad : Private ≡ Cache = sym is ∙ ap (role_of old.frames) e ∙ cache in (cc)
@@ -142,14 +138,7 @@ module _ {mode : ℕ} (old new : Picture mode) (page : PageKey) (v : ℕ) (at : 
   frame_other p n ne is e = ne (fit.places.apart p page (is ∙ ap (λ i. Frame (record { 0 = i })) e ∙ sym leaves.was) (λ home. (let bad : Home ≡ Frame (record { 0 = n }) = sym home ∙ is in (cc))))
 
   rooted_left : IsRootedBut new 0
-  rooted_left =
-      let cache_table : Cache ≢ Table = λ e. (cc) in
-      let free_table : Free ≢ Table = λ e. (cc) in
-      rooted_same old new 0 fit.rooted (data_changed old.frames new.frames (top_level mode) v fit.rooted.forest leaves.frames (λ e. cache_table (sym cache ∙ e)) (λ e. free_table (sym leaves.free ∙ e)))
-      leaves.root leaves.at_same
-
-  seat_number : (pid k : ℕ) (z : Seat) → IsPage (top_level mode) k → seat (entry old pid k) ≡ Some z → pid < 65
-  seat_number pid k z h is = seat_below old 0 pid k z fit.rooted is
+  rooted_left = rooted_same old new 0 fit.rooted trees leaves.root leaves.at_same
 
   frame_page : (sp : ℕ → ℕ) (z : Seat) → page_in new sp z ≡ page_in old sp z
   frame_page sp (InFrame n) = leaves.page_of n
@@ -162,9 +151,6 @@ module _ {mode : ℕ} (old new : Picture mode) (page : PageKey) (v : ℕ) (at : 
   free_private : role_of new.frames v ≢ Private
   free_private is = let bad : Free ≡ Private = sym leaves.free ∙ is in (cc)
 
-  owned_frame : (n : ℕ) → role_of new.frames n ≡ Private → role_of old.frames n ≡ Private
-  owned_frame n is = sym (roles n (λ e. free_private (ap (role_of new.frames) (sym e) ∙ is))) ∙ is
-
   no_slot : (p : PageKey) (j : ℕ) → p ≢ page → new.place p ≡ Slot (record { 0 = j }) → old.place p ≡ Slot (record { 0 = j })
   no_slot p j ne is = sym (leaves.others p ne) ∙ is
 
@@ -174,111 +160,70 @@ module _ {mode : ℕ} (old new : Picture mode) (page : PageKey) (v : ℕ) (at : 
   some_new : (j : ℕ) → 0 < old.slots.count j → 0 < new.slots.count j
   some_new j some = let P : SlotTable → Type 0 = λ t. 0 < t.count j in subst P (sym leaves.slots) some
 
-  -- places, by what is known of the new one
-  places_left : (at ≢ Frame (record { 0 = v })) → ((j : ℕ) → at ≡ Slot (record { 0 = j }) → (old.slots.count j ≡ 1) × IsOwned old (InSlot j))
-      → ((j : ℕ) → 0 < old.slots.count j → IsOwned old (InSlot j) → (at ≡ Slot (record { 0 = j })) ⊎ (at ≢ Slot (record { 0 = j })))
-      → ((n : ℕ) → at ≢ Frame (record { 0 = n })) → ((q : PageKey) → q ≢ page → at ≡ old.place q → at ≢ Home → ⊥) → HasPlaces new
-  places_left away slot decide no_frame clash = record {
-    cached = λ p n is. elim (cases_page p page) [
-      | inl e ↦ absurd (no_frame n (sym leaves.placed ∙ ap new.place (sym e) ∙ is))
-      | inr ne ↦ (let there = sym (leaves.others p ne) ∙ is in roles n (frame_other p n ne there) ∙ fit.places.cached p n there)
-    ];
-    held = λ n is. (
-        let ne = cache_ne n is in
-        let h = fit.places.held n (sym (roles n ne) ∙ is) in
-        (h.0, leaves.others h.0 (λ e. ne (one_frame v n (sym leaves.was ∙ ap old.place (sym e) ∙ h.1))) ∙ h.1));
-    apart = λ p q e nh. elim (cases_page p page) [
-      | inl ip ↦ elim (cases_page q page) [
-        | inl iq ↦ ip ∙ sym iq
-        | inr nq ↦ absurd (clash q nq (sym leaves.placed ∙ ap new.place (sym ip) ∙ e ∙ leaves.others q nq) (λ home. nh (ap new.place ip ∙ leaves.placed ∙ home)))
-      ]
-      | inr np ↦ elim (cases_page q page) [
-        | inl iq ↦ absurd (clash p np (sym leaves.placed ∙ ap new.place (sym iq) ∙ sym e ∙ leaves.others p np) (λ home. nh (e ∙ ap new.place iq ∙ leaves.placed ∙ home)))
-        | inr nq ↦ fit.places.apart p q (sym (leaves.others p np) ∙ e ∙ leaves.others q nq) (λ home. nh (leaves.others p np ∙ home))
-      ]
-    ];
-    slotted = λ p j is. elim (cases_page p page) [
-      | inl e ↦ slot_of-same j ∙ (slot j (sym leaves.placed ∙ ap new.place (sym e) ∙ is)).0
-      | inr ne ↦ slot_of-same j ∙ fit.places.slotted p j (no_slot p j ne is)
-    ];
-    used = λ j some. elim (fit.places.used j (some_old j some)) [
-      | inl own ↦ elim (decide j (some_old j some) own) [
-        | inl is ↦ inr (page, leaves.placed ∙ is)
-        | inr ne ↦ inl (
-          some,
-          λ p e. elim (cases_page p page) [
-            | inl ip ↦ ne (sym leaves.placed ∙ ap new.place (sym ip) ∙ e)
-            | inr np ↦ own.1 p (no_slot p j np e)
-          ],
-        )
-      ]
-      | inr file ↦ inr (file.0, leaves.others file.0 (λ e. (let bad : Frame (record { 0 = v }) ≡ Slot (record { 0 = j }) = sym leaves.was ∙ ap old.place (sym e) ∙ file.1 in (cc))) ∙ file.1)
-    ];
-    inside = λ p nh. elim (cases_page p page) [
-      | inl e ↦ (let i = fit.places.inside page (λ home. (let bad : Home ≡ Frame (record { 0 = v }) = sym home ∙ leaves.was in (cc))) in
-          let P : PageKey → Type 0 = λ q. IsPageFor new q in subst P (sym e) (page_for-same old new page leaves.at_same leaves.files i))
-      | inr ne ↦ page_for-same old new p leaves.at_same leaves.files (fit.places.inside p (λ home. nh (leaves.others p ne ∙ home)))
-    ];
-  }
-
-  dirty_left : ((j : ℕ) → at ≡ Slot (record { 0 = j }) → old.touched page ≡ true) → (old.touched page ≡ true → at ≢ Home) → ((n : ℕ) → at ≢ Frame (record { 0 = n })) → IsDirtySound new
-  dirty_left slot home no_frame = record {
-    dirty = λ pid k p h valid common dirty here. elim (cases_page p page) [
-      | inl e ↦ absurd (no_frame _ (sym leaves.placed ∙ ap new.place (sym e) ∙ here))
-      | inr ne ↦ (
-          let e = same pid k h in
-          leaves.touched p ∙ fit.dirty.dirty pid k p h (sym (ap is_valid e) ∙ valid) (sym (ap is_private e) ∙ common) (sym (ap is_dirty e) ∙ dirty)
-          (sym (leaves.others p ne) ∙ here ∙ ap (λ i. Frame (record { 0 = frame_of i })) e))
-    ];
-    held = λ p now is. elim (cases_page p page) [
-      | inl e ↦ home (sym (leaves.touched page) ∙ ap new.touched (sym e) ∙ now) (sym leaves.placed ∙ ap new.place (sym e) ∙ is)
-      | inr ne ↦ fit.dirty.held p (sym (leaves.touched p) ∙ now) (sym (leaves.others p ne) ∙ is)
-    ];
-    slotted = λ p j is. elim (cases_page p page) [
-      | inl e ↦ ap new.touched e ∙ leaves.touched page ∙ slot j (sym leaves.placed ∙ ap new.place (sym e) ∙ is)
-      | inr ne ↦ leaves.touched p ∙ fit.dirty.slotted p j (sym (leaves.others p ne) ∙ is)
-    ];
-  }
-
-  back_left : (j : ℕ) → ((p : PageKey) → new.place p ≢ Slot (record { 0 = j })) → 0 < new.slots.count j → IsOwned old (InSlot j)
-  back_left j none some = (
-    some_old j some,
-    λ p e. elim (cases_page p page) [
-      | inl ip ↦ (let bad : Frame (record { 0 = v }) ≡ Slot (record { 0 = j }) = sym leaves.was ∙ ap old.place (sym ip) ∙ e in (cc))
-      | inr np ↦ none p (leaves.others p np ∙ e)
-    ],
-  )
-
-  forth_left : (j : ℕ) → at ≢ Slot (record { 0 = j }) → IsOwned old (InSlot j) → IsOwned new (InSlot j)
-  forth_left j ne own = (
+  forth : (z : Seat) → ((j : ℕ) → z ≡ InSlot j → at ≢ Slot (record { 0 = j })) → IsOwned old z → IsOwned new z
+  forth (InFrame n) other is = roles n (private_ne n is) ∙ is
+  forth (InSlot j) other own = (
     some_new j own.0,
     λ p e. elim (cases_page p page) [
-      | inl ip ↦ ne (sym leaves.placed ∙ ap new.place (sym ip) ∙ e)
+      | inl ip ↦ other j refl (sym leaves.placed ∙ ap new.place (sym ip) ∙ e)
       | inr np ↦ own.1 p (no_slot p j np e)
     ],
   )
 
-  forth_frame : (n : ℕ) → role_of old.frames n ≡ Private → role_of new.frames n ≡ Private
-  forth_frame n is = roles n (private_ne n is) ∙ is
+  back : (z : Seat) → IsOwned new z → IsOwned old z
+  back (InFrame n) is = sym (roles n (λ e. free_private (ap (role_of new.frames) (sym e) ∙ is))) ∙ is
+  back (InSlot j) is = (
+    some_old j is.0,
+    λ p e. elim (cases_page p page) [
+      | inl ip ↦ (let bad : Frame (record { 0 = v }) ≡ Slot (record { 0 = j }) = sym leaves.was ∙ ap old.place (sym ip) ∙ e in (cc))
+      | inr np ↦ is.1 p (leaves.others p np ∙ e)
+    ],
+  )
+
+  -- places, by what is known of the new one
+  places_left : ((j : ℕ) → at ≡ Slot (record { 0 = j }) → old.slots.count j ≡ 1) → ((j : ℕ) → (at ≡ Slot (record { 0 = j })) ⊎ (at ≢ Slot (record { 0 = j })))
+      → ((n : ℕ) → at ≢ Frame (record { 0 = n })) → ((q : PageKey) → at ≡ old.place q → old.place q ≡ Home) → HasPlaces new
+  places_left slot decide no_frame clash = places_replaced old new page fit.places (record {
+    others = leaves.others;
+    at = leaves.at_same;
+    files = leaves.files;
+    cached = λ n is. absurd (no_frame n (sym leaves.placed ∙ is));
+    cached_else = λ p n ne is. roles n (frame_other p n ne is) ∙ fit.places.cached p n is;
+    held = λ n is. (let ne = cache_ne n is in inr ((λ e. ne (one_frame v n (sym leaves.was ∙ e))), sym (roles n ne) ∙ is));
+    slotted = λ j is. slot_of-same j ∙ slot j (sym leaves.placed ∙ is);
+    slotted_else = λ p j ne is. slot_of-same j;
+    used = λ j some. elim (fit.places.used j (some_old j some)) [
+      | inl own ↦ elim (decide j) [
+        | inl is ↦ inr (inl (leaves.placed ∙ is))
+        | inr ne ↦ inl (forth (InSlot j) (λ i e. (let same : j ≡ i = slot_seat j i e in subst (λ k. at ≢ Slot (record { 0 = k })) same ne)) own)
+      ]
+      | inr file ↦ inr (inr ((λ e. (let bad : Frame (record { 0 = v }) ≡ Slot (record { 0 = j }) = sym leaves.was ∙ e in (cc))), file.0, file.1))
+    ];
+    apart = λ q ne e. clash q (sym leaves.placed ∙ e);
+    inside = λ away. fit.places.inside page (λ home. (let bad : Home ≡ Frame (record { 0 = v }) = sym home ∙ leaves.was in (cc)));
+  })
+
+  dirty_left : ((j : ℕ) → at ≡ Slot (record { 0 = j }) → old.touched page ≡ true) → (old.touched page ≡ true → at ≢ Home) → ((n : ℕ) → at ≢ Frame (record { 0 = n })) → IsDirtySound new
+  dirty_left slot home no_frame = dirty_replaced old new page fit.dirty leaves.others (λ p ne. leaves.touched p) same
+      (λ pid k h valid common dirty here. absurd (no_frame (frame_of (entry old pid k)) (sym leaves.placed ∙ here)))
+      (λ now is. home (sym (leaves.touched page) ∙ now) (sym leaves.placed ∙ is)) (λ j is. leaves.touched page ∙ slot j (sym leaves.placed ∙ is))
+
+  fit_by : IsCountedBut new nowhere 0 → ((j : ℕ) → at ≡ Slot (record { 0 = j }) → (old.slots.count j ≡ 1) × (old.touched page ≡ true)) → ((j : ℕ) → (at ≡ Slot (record { 0 = j })) ⊎ (at ≢ Slot (record { 0 = j })))
+      → ((n : ℕ) → at ≢ Frame (record { 0 = n })) → ((q : PageKey) → at ≡ old.place q → old.place q ≡ Home) → (old.touched page ≡ true → at ≢ Home) → IsFit new
+  fit_by counted slot decide no_frame clash home = record {
+    counted = counted;
+    rooted = rooted_left;
+    granting = granting_left;
+    places = places_left (λ j e. (slot j e).0) decide no_frame clash;
+    dirty = dirty_left (λ j e. (slot j e).1) home no_frame;
+  }
 
   own_bytes : (z : Seat) → IsOwned old z → bytes_in new.frames new.slots z ≡ bytes_in old.frames old.slots z
   own_bytes (InFrame n) is = leaves.frames.bytes n (private_ne n is)
   own_bytes (InSlot j) is = ap (λ t. t.bytes j) leaves.slots
 
-  own_left : (o : Option Seat) → ((z : Seat) → o ≡ Some z → IsOwned old z) → option_map (bytes_in new.frames new.slots) o ≡ option_map (bytes_in old.frames old.slots) o
-  own_left None each = refl
-  own_left (Some z) each = ap (λ b. Some b) (own_bytes z (each z refl))
-
-  bytes_left : (p : Place) → p ≢ Frame (record { 0 = v }) → bytes_at new.frames new.slots p ≡ bytes_at old.frames old.slots p
-  bytes_left Home ne = refl
-  bytes_left (Frame n) ne = ap (λ (w : _). Some w) (leaves.frames.bytes n.0 (λ e. ne (ap (λ i. Frame (record { 0 = i })) e)))
-  bytes_left (Slot j) ne = ap (λ t. Some (t.bytes j.0)) leaves.slots
-
   held_other : (p : PageKey) → p ≢ page → held new p ≡ held old p
-  unfolding held
-  held_other p ne =
-      ap (λ x. bytes_at new.frames new.slots x) (leaves.others p ne)
-      ∙ bytes_left (old.place p) (λ there. ne (fit.places.apart p page (there ∙ sym leaves.was) (λ home. (let bad : Home ≡ Frame (record { 0 = v }) = sym home ∙ there in (cc)))))
+  held_other p ne = held_by old new p (leaves.others p ne) (λ m there. leaves.frames.bytes m (frame_other p m ne there)) (λ k there. ap (λ t. t.bytes k) leaves.slots)
 
   pub same_left : (pid k : ℕ) → IsPage (top_level mode) k → entry new pid k ≡ entry old pid k
   same_left = same
@@ -295,13 +240,8 @@ module _ {mode : ℕ} (old new : Picture mode) (page : PageKey) (v : ℕ) (at : 
     pages = record {
       root = leaves.root;
       at = leaves.at_same;
-      views = λ pid p. elim (cases_attr (old.at pid p)) [
-        | inl none ↦ view-none new pid p (leaves.at_same pid p ∙ none) ∙ sym (view-none old pid p none)
-        | inr some ↦ (
-            let h : IsPage (top_level mode) p = (let u = ((fit.granting.user pid).user_pages p some).1 in omega (arith, u, user_pages_fit mode)) in
-            view_kept old new pid p (leaves.at_same pid p)
-            (ap (λ e. own_in new.frames new.slots e) (same pid p h) ∙ own_left (seat (entry old pid p)) (λ z is. fit.counted.1.named pid p z h is)))
-      ];
+      views = λ pid p. each_view old new fit.granting leaves.at_same pid p (λ h. view_seated old new pid p (leaves.at_same pid p) (ap seat (same pid p h))
+          (λ z is. own_bytes z (fit.counted.1.named pid p z h is)));
       files = record {
         held = λ p. elim (cases_page p page) [
           | inl e ↦ (let P : PageKey → Type 0 = λ q. (held new q ≡ held old q) ⊎ ((held new q ≡ None) × (old.touched q ≡ false)) in subst P (sym e) bytes)
@@ -325,75 +265,40 @@ module _ {mode : ℕ} (old new : Picture mode) (page : PageKey) (v : ℕ) (at : 
     place = λ p ne. leaves.others p (λ e. ne (ap old.place e ∙ leaves.was));
   }
 
-slot_number : Place → ℕ
-slot_number Home = 0
-slot_number (Frame x) = 0
-slot_number (Slot x) = x.0
-
-one_slot : (j k : ℕ) → Slot (record { 0 = j }) ≡ Slot (record { 0 = k }) → j ≡ k
-unfolding slot_number
-one_slot j k e = ap slot_number e
-
 module _ {mode : ℕ} (old new : Picture mode) (page : PageKey) (v : ℕ) where
   abbrev Unnamed : Type 0
   Unnamed = (pid k : ℕ) → IsPage (top_level mode) k → entry old pid k ≢ 0 → is_private (entry old pid k) ≡ false → is_swapped (entry old pid k) ≡ false → frame_of (entry old pid k) ≢ v
 
-  forth_home : (fit : IsFit old) → Leaves old new page v Home → Unnamed → (z : Seat) → IsOwned old z → IsOwned new z
-  forth_home fit leaves unnamed (InFrame n) is = forth_frame old new page v Home nowhere 0 fit leaves unnamed n is
-  forth_home fit leaves unnamed (InSlot j) is = forth_left old new page v Home nowhere 0 fit leaves unnamed j (λ e. (cc)) is
-
-  back_home : (fit : IsFit old) → Leaves old new page v Home → Unnamed → (z : Seat) → IsOwned new z → IsOwned old z
-  back_home fit leaves unnamed (InFrame n) is = owned_frame old new page v Home nowhere 0 fit leaves unnamed n is
-  back_home fit leaves unnamed (InSlot j) is = back_left old new page v Home nowhere 0 fit leaves unnamed j is.1 is.0
-
   -- An untouched page went home.
   pub fit_home : IsFit old → Leaves old new page v Home → old.touched page ≡ false
       → Unnamed → IsFit new
-  fit_home fit leaves untouched unnamed = record {
-    counted = (
-      fit.counted.0,
-      counted_same mode (entry old) (entry new) (IsOwned old) (IsOwned new) (count_in old) (count_in new) (page_in old fit.counted.0) (page_in new fit.counted.0)
-          (λ q p h. ap seat (same old new page v Home nowhere 0 fit leaves unnamed q p h)) nowhere 0 fit.counted.1
-          (forth_home fit leaves unnamed) (back_home fit leaves unnamed)
-          (λ z is. count_left old new page v Home nowhere 0 fit leaves unnamed z is) (λ z is. frame_page old new page v Home nowhere 0 fit leaves unnamed fit.counted.0 z),
-    );
-    rooted = rooted_left old new page v Home nowhere 0 fit leaves unnamed;
-    granting = granting_left old new page v Home nowhere 0 fit leaves unnamed;
-    places = places_left old new page v Home nowhere 0 fit leaves unnamed (λ e. (cc)) (λ j e. absurd ((cc))) (λ j some own. inr (λ e. (cc))) (λ n e. (cc)) (λ q ne e nh. nh refl);
-    dirty = dirty_left old new page v Home nowhere 0 fit leaves unnamed (λ j e. absurd ((cc))) (λ t. absurd (false≢true (sym untouched ∙ t))) (λ n e. (cc));
-  }
+  fit_home fit leaves untouched unnamed = fit_by old new page v Home nowhere 0 fit leaves unnamed (
+    fit.counted.0,
+    counted_same mode (entry old) (entry new) (IsOwned old) (IsOwned new) (count_in old) (count_in new) (page_in old fit.counted.0) (page_in new fit.counted.0)
+        (λ q p h. ap seat (same old new page v Home nowhere 0 fit leaves unnamed q p h)) nowhere 0 fit.counted.1
+        (λ z. forth old new page v Home nowhere 0 fit leaves unnamed z (λ j e home. (cc))) (back old new page v Home nowhere 0 fit leaves unnamed)
+        (count_left old new page v Home nowhere 0 fit leaves unnamed) (λ z is. frame_page old new page v Home nowhere 0 fit leaves unnamed fit.counted.0 z),
+  )
+      (λ j e. absurd ((cc))) (λ j. inr (λ e. (cc))) (λ n e. (cc)) (λ q e. sym e) (λ t. absurd (false≢true (sym untouched ∙ t)))
 
   module _ (k : ℕ) where
     abbrev place_k : Place
     place_k = Slot (record { 0 = k })
 
-    forth_slot : (fit : IsFitBut old (InSlot k) 1 0) → Leaves old new page v place_k → Unnamed → (z : Seat) → z ≢ InSlot k → IsOwned old z → IsOwned new z
-    forth_slot fit leaves unnamed (InFrame n) ne is = forth_frame old new page v place_k (InSlot k) 1 fit leaves unnamed n is
-    forth_slot fit leaves unnamed (InSlot j) ne is = forth_left old new page v place_k (InSlot k) 1 fit leaves unnamed j (λ e. ne (ap (λ i. InSlot i) (sym (one_slot k j e)))) is
-
-    back_slot : (fit : IsFitBut old (InSlot k) 1 0) → Leaves old new page v place_k → Unnamed → (z : Seat) → IsOwned new z → IsOwned old z
-    back_slot fit leaves unnamed (InFrame n) is = owned_frame old new page v place_k (InSlot k) 1 fit leaves unnamed n is
-    back_slot fit leaves unnamed (InSlot j) is = back_left old new page v place_k (InSlot k) 1 fit leaves unnamed j is.1 is.0
-
     -- A touched page went to slot k, which nobody had.
     pub fit_slot : (fit : IsFitBut old (InSlot k) 1 0) → IsOwned old (InSlot k) → old.slots.count k ≡ 1 → Leaves old new page v place_k → old.touched page ≡ true → Unnamed → IsFit new
-    fit_slot fit own one leaves touched unnamed = record {
-      counted = (
-        fit.counted.0,
-        counted_left mode (entry old) (entry new) (IsOwned old) (IsOwned new) (count_in old) (count_in new) (page_in old fit.counted.0) (page_in new fit.counted.0)
-            (λ q p h. ap seat (same old new page v place_k (InSlot k) 1 fit leaves unnamed q p h)) (InSlot k) nowhere fit.counted.1 own one (λ now. now.1 page leaves.placed)
-            (forth_slot fit leaves unnamed) (back_slot fit leaves unnamed)
-            (λ z ne is. count_left old new page v place_k (InSlot k) 1 fit leaves unnamed z is) (λ z is. frame_page old new page v place_k (InSlot k) 1 fit leaves unnamed fit.counted.0 z)
-            (λ q p z h is. seat_number old new page v place_k (InSlot k) 1 fit leaves unnamed q p z h is),
-      );
-      rooted = rooted_left old new page v place_k (InSlot k) 1 fit leaves unnamed;
-      granting = granting_left old new page v place_k (InSlot k) 1 fit leaves unnamed;
-      places = places_left old new page v place_k (InSlot k) 1 fit leaves unnamed (λ e. (cc))
-          (λ j e. (let P : ℕ → Type 0 = λ i. (old.slots.count i ≡ 1) × IsOwned old (InSlot i) in subst P (one_slot k j e) (one, own)))
-          (λ j some own'. elim (cases_eq k j) [
-            | inl e ↦ inl (ap (λ i. Slot (record { 0 = i })) e)
-            | inr ne ↦ inr (λ e. ne (one_slot k j e))
-          ])
-          (λ n e. (cc)) (λ q ne e nh. own.1 q (sym e));
-      dirty = dirty_left old new page v place_k (InSlot k) 1 fit leaves unnamed (λ j e. touched) (λ t e. (cc)) (λ n e. (cc));
-    }
+    fit_slot fit own one leaves touched unnamed = fit_by old new page v place_k (InSlot k) 1 fit leaves unnamed (
+      fit.counted.0,
+      counted_left mode (entry old) (entry new) (IsOwned old) (IsOwned new) (count_in old) (count_in new) (page_in old fit.counted.0) (page_in new fit.counted.0)
+          (λ q p h. ap seat (same old new page v place_k (InSlot k) 1 fit leaves unnamed q p h)) (InSlot k) nowhere fit.counted.1 own one (λ now. now.1 page leaves.placed)
+          (λ z ne. forth old new page v place_k (InSlot k) 1 fit leaves unnamed z (λ j e there. ne (e ∙ ap (λ i. InSlot i) (sym (one_slot k j there)))))
+          (back old new page v place_k (InSlot k) 1 fit leaves unnamed)
+          (λ z ne is. count_left old new page v place_k (InSlot k) 1 fit leaves unnamed z is) (λ z is. frame_page old new page v place_k (InSlot k) 1 fit leaves unnamed fit.counted.0 z)
+          (λ q p z h is. seat_below old 0 q p z fit.rooted is),
+    )
+        (λ j e. ((let P : ℕ → Type 0 = λ i. old.slots.count i ≡ 1 in subst P (one_slot k j e) one), touched))
+        (λ j. elim (cases_eq k j) [
+          | inl e ↦ inl (ap (λ i. Slot (record { 0 = i })) e)
+          | inr ne ↦ inr (λ e. ne (one_slot k j e))
+        ])
+        (λ n e. (cc)) (λ q e. absurd (own.1 q (sym e))) (λ t e. (cc))

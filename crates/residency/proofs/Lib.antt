@@ -5,9 +5,9 @@ pub mod Entries
 pub mod Seats
 pub mod Start
 pub mod Rooted
-pub mod Roots
 pub mod Granting
 pub mod Places
+pub mod Placed
 pub mod Moves
 pub mod Obtained
 pub mod Callers
@@ -36,7 +36,6 @@ pub mod Setting
 pub mod BroughtIn
 pub mod Taking
 pub mod Returning
-pub mod Mapping
 pub mod Exiting
 pub mod Aging
 pub mod Giving

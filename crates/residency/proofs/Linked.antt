@@ -4,70 +4,32 @@ use Rattle.std.proofs.Common.{◌≡◌, ◌≢◌, ◌-◌, ◌≤◌, ℕ, suc
 use Rattle.std.specs.Prelude.{IsSome}
 use Rattle.std.proofs.lemmas.Bool.{cases_eq}
 use Rattle.vm_types.specs.declared.region.Attr.{Attr}
-use Rattle.frames.specs.declared.role.Role.TheVariants.{Free, Table, Private, Cache}
+use Rattle.frames.specs.declared.role.Role.TheVariants.{Free, Table}
 use Rattle.frames.specs.FrameTable.{FrameTable, role_of}
-use Rattle.sv39_walk.specs.Entry.{frame_of}
 use Rattle.page_tables.specs.Change.{AddsTable, LinksTable}
 use Rattle.page_tables.specs.Tree.{IsPage, IsTable, Points, Way, IsBelowRoot, last_table}
 use Rattle.page_tables.proofs.Ways.{EndsAt, ends}
-use Rattle.residency.specs.Seats.{Seat, InFrame, seat}
-use Rattle.residency.specs.Picture.{Picture, entry, IsOwned, count_in, page_in}
+use Rattle.residency.specs.Seats.{Seat}
+use Rattle.residency.specs.Picture.{Picture, entry, is_data}
 use Rattle.residency.specs.Parts.{IsRootedBut, OnWay, IsMapped, IsFitBut, IsFit, nowhere}
 use Rattle.residency.specs.Steps.{SameBeside, KeepsShares}
 use Rattle.residency.proofs.Entries.{entries_kept, entries_but}
 use Rattle.residency.proofs.Rooted.{used_kept}
-use Rattle.residency.proofs.Seats.{counted_same}
-use Rattle.residency.proofs.Granting.{granting_same}
-use Rattle.residency.proofs.Places.{places_same, dirty_same}
-use Rattle.residency.proofs.Moves.{behind_kept, owned_forth, owned_back, count_kept, page_kept}
+use Rattle.residency.proofs.Places.{dirty_same}
+use Rattle.residency.proofs.Moves.{fit_kept, shares_but}
 use Rattle.residency.proofs.TableSteps.{shares_kept}
 use Rattle.page_tables.proofs.Tight.{same_taken}
 
 -- a table taken
 pub shares_taken : (old new : FrameTable) (top n : ℕ) → AddsTable old new top n → KeepsShares old new
-shares_taken old new top n adds =
-    let same = adds.takes.others in
-    let was = adds.takes.was_free in
-    let now = adds.takes.kind_set in
-    record {
-      private = λ m e. elim (cases_eq m n) [
-        | inl h ↦ (let bad : Private ≡ Free = sym e ∙ ap (role_of old) h ∙ was in (cc))
-        | inr ne ↦ same.roles m ne ∙ e
-      ];
-      was_private = λ m e. elim (cases_eq m n) [
-        | inl h ↦ (let bad : Private ≡ Table = sym e ∙ ap (role_of new) h ∙ now in (cc))
-        | inr ne ↦ sym (same.roles m ne) ∙ e
-      ];
-      cache = λ m e. elim (cases_eq m n) [
-        | inl h ↦ (let bad : Cache ≡ Free = sym e ∙ ap (role_of old) h ∙ was in (cc))
-        | inr ne ↦ same.roles m ne ∙ e
-      ];
-      was_cache = λ m e. elim (cases_eq m n) [
-        | inl h ↦ (let bad : Cache ≡ Table = sym e ∙ ap (role_of new) h ∙ now in (cc))
-        | inr ne ↦ sym (same.roles m ne) ∙ e
-      ];
-      counts = λ m e. elim (cases_eq m n) [
-        | inl h ↦ (let bad : Private ≡ Free = sym e ∙ ap (role_of old) h ∙ was in (cc))
-        | inr ne ↦ same.counts m ne
-      ];
-    }
+shares_taken old new top n adds = shares_but old new n adds.takes.others (ap is_data adds.takes.was_free) (ap is_data adds.takes.kind_set)
 
 -- no page's entry changed
 module _ {mode : ℕ} where
   pub fit_same : (old new : Picture mode) (x : Seat) (d m m' : ℕ) → IsFitBut old x d m → SameBeside old new → KeepsShares old.frames new.frames
       → ((pid page : ℕ) → IsPage (top_level mode) page → entry new pid page ≡ entry old pid page) → IsRootedBut new m' → IsFitBut new x d m'
-  fit_same old new x d m m' fit beside shares same rooted = record {
-    counted = (
-      fit.counted.0,
-      counted_same mode (entry old) (entry new) (IsOwned old) (IsOwned new) (count_in old) (count_in new) (page_in old fit.counted.0) (page_in new fit.counted.0)
-          (λ q p h. ap seat (same q p h)) x d fit.counted.1 (owned_forth old new beside shares) (owned_back old new beside shares) (count_kept old new beside shares) (λ z is. page_kept old new fit.counted.0 beside z),
-    );
-    rooted = rooted;
-    granting = granting_same old new fit.granting (behind_kept old new beside)
-        (λ pid page h private one. shares.counts (frame_of (entry old pid page)) (fit.counted.1.named pid page (InFrame (frame_of (entry old pid page))) h (rw private refl)) ∙ one) beside.at same;
-    places = places_same old new fit.places beside.place beside.at beside.files beside.slots shares.cache shares.was_cache;
-    dirty = dirty_same old new fit.dirty beside.place beside.touched same;
-  }
+  fit_same old new x d m m' fit beside shares same rooted = fit_kept old new shares beside.slots beside.page_of beside.place x d m m' fit beside.at beside.files same rooted
+      (dirty_same old new fit.dirty beside.place beside.touched same)
 
 pub loose_table : {mode : ℕ} (old new : Picture mode) (n : ℕ) → IsRootedBut old 0 → AddsTable old.frames new.frames (top_level mode) n → ((pid : ℕ) → new.root pid ≡ old.root pid)
     → (pid : ℕ) → new.root pid ≢ Some n

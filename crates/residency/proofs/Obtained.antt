@@ -7,8 +7,8 @@ use Rattle.vm_types.specs.declared.object.PageKey.{PageKey}
 use Rattle.vm_types.specs.declared.refusal.Stall.{Stall}
 use Rattle.disk_model.specs.declared.sector_disk.SectorDisk.{Ghosts}
 use Rattle.disk_model.specs.Moments.{AsksOnly}
-use Rattle.frames.specs.declared.role.Role.TheVariants.{Free, Table}
-use Rattle.frames.specs.FrameTable.{role_of, IsFrame, SameButFor}
+use Rattle.frames.specs.declared.role.Role.TheVariants.{Free, Table, Cache}
+use Rattle.frames.specs.FrameTable.{role_of, IsFrame, SameButFor, FrameTable, Takes}
 use Rattle.swap.specs.declared.slots.Swap.{Swap}
 use Rattle.swap.specs.Slots.{IsReady, IsSectorOfSlot}
 use Rattle.residency.specs.declared.kernel.Core.{Core}
@@ -16,13 +16,17 @@ use Rattle.residency.specs.Picture.{Picture, picture_of}
 use Rattle.residency.specs.Ages.{GivesFrame}
 use Rattle.residency.specs.AskedFrames.{ComesIn, Obtains, SeeksFrame}
 use Rattle.residency.specs.Calls.{AsksSwap, AsksSwapAlso, KeepsRest, UsesDevice}
-use Rattle.residency.specs.Steps.{BringsIn, ChangesFrame}
+use Rattle.residency.specs.Steps.{BringsIn, ChangesFrame, LeavesSlot}
 use Rattle.residency.proofs.Asking.{also_taken, asked_taken, gives_taken, needed_of, wants_taken, wants_tried}
 use Rattle.residency.proofs.BroughtIn.{fit_brought}
 use Rattle.residency.proofs.Giving.{frame_taken}
 use Rattle.residency.proofs.Returning.{frees_spent}
 use Rattle.residency.proofs.Sparing.{frees_then}
 use Rattle.residency.proofs.Taking.{fit_spent}
+use Rattle.page_cache.specs.declared.place.Place.TheVariants.{Frame}
+use Rattle.page_cache.specs.CacheTable.{place_of, is_touched, SameButForPage}
+use Rattle.residency.specs.Parts.{IsPageFor}
+use Rattle.residency.proofs.Cleaning.{all_touched}
 
 module _ {M : Type 0} {m : Levels.Ghosts M} {D E : Type 0} {h : Ghosts E} {old found : Core D E M m} {keep : Option FrameNo} {v : FrameNo} (got : Obtains h old found keep (Ok v))
     (n : FrameNo) (inside : IsFrame found.frames n.0) (free : role_of found.frames n.0 ≡ Free) where
@@ -69,6 +73,29 @@ module _ {M : Type 0} {m : Levels.Ghosts M} {D E : Type 0} {h : Ghosts E} {old f
     frees = tt;
     tried = tt;
   }
+
+  -- it was taken, and the page lies there
+  pub comes_taken : {t : FrameTable} → Takes found.frames t Cache n.0 → SameButFor n.0 found.frames new.frames → role_of new.frames n.0 ≡ Cache → LeavesSlot (picture_of found) (picture_of new) page
+      → ((k : ℕ) → place_of found.cache page ≢ Frame (record { 0 = k })) → IsPageFor (picture_of found) page
+      → place_of new.cache page ≡ Frame n → is_touched new.cache page ≡ is_touched found.cache page → SameButForPage page found.cache new.cache
+      → ((pid : ℕ) → (picture_of new).root pid ≡ (picture_of found).root pid) → ((pid k : ℕ) → (picture_of new).at pid k ≡ (picture_of found).at pid k)
+      → ((k : ℕ) → (picture_of new).page_of k ≡ (picture_of found).page_of k) → ((f : ℕ) → (picture_of new).files f ≡ (picture_of found).files f) → ComesIn old new page (Ok n)
+  comes_taken takes frames kind slots away inner placed touched others root at page_of files = comes_on (record {
+    slots = slots;
+    frames = frames;
+    above = takes.above;
+    was_free = takes.was_free;
+    kind = kind;
+    was_away = away;
+    inside = inner;
+    placed = placed;
+    others = λ p ne. others.places p ne;
+    root = root;
+    at = at;
+    page_of = page_of;
+    touched = all_touched found.cache new.cache page others touched;
+    files = files;
+  })
 
   -- it was given back
   pub comes_back : (stall : Stall) → ChangesFrame (picture_of found) (picture_of new) n.0 → role_of new.frames n.0 ≡ Free → ComesIn old new page (Err stall)

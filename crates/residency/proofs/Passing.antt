@@ -14,7 +14,7 @@ use Rattle.residency.specs.Parts.{IsFit, IsRootedBut, IsEntryFor, Nothing, Resid
 use Rattle.residency.specs.declared.kernel.Core.{Core}
 use Rattle.residency.specs.Evictions.{IsHanding, Spares}
 use Rattle.residency.specs.Handovers.{HandsShares, PassesShare}
-use Rattle.residency.proofs.Evicted.{seat_number}
+use Rattle.residency.proofs.Evicted.{seat_number, cases_some}
 use Rattle.residency.proofs.Putting.{has_shared, share_spares}
 use Rattle.residency.proofs.Puts.{SameButSlots}
 use Rattle.residency.proofs.Seats.{holders_none}
@@ -32,13 +32,9 @@ slot_no_seat k n e = (cc)
 pub dead_seat : {mode : ℕ} (c : Picture mode) (pid page : ℕ) (z : Seat) → c.root pid ≡ None → seat (entry c pid page) ≢ Some z
 dead_seat c pid page z dead is = let bad : None ≡ Some z = sym (ap seat (entry-dead c pid page dead) ∙ seat-none) ∙ is in (cc)
 
-cases_root : (o : Option ℕ) → (o ≡ None) ⊎ ((r : ℕ) × (o ≡ Some r))
-cases_root None = inl refl
-cases_root (Some r) = inr (r, refl)
-
 -- place 0 is no process's
 pub first_seat : {mode : ℕ} (c : Picture mode) (m page : ℕ) (z : Seat) → IsRootedBut c m → (q : ℕ) → q < 1 → seat (entry c q page) ≢ Some z
-first_seat c m page z rooted q less is = elim (cases_root (c.root q)) [
+first_seat c m page z rooted q less is = elim (cases_some (c.root q)) [
   | inl dead ↦ dead_seat c q page z dead is
   | inr lives ↦ (let n = rooted.numbers q lives.0 lives.1 in omega (arith, n, less))
 ]
@@ -75,9 +71,6 @@ module _ {mode : ℕ} (old mid new : Picture mode) (pid page v k : ℕ) (handing
 
   at : fit.counted.0 k ≡ page
   at = fit.counted.1.noted pid page (InSlot k) (page_range old v k page handing) moved
-
-  pub room : mid.slots.count k < 64
-  room = let f = handing.few in let m = more in let s = ap (λ t. t.count k) slots in omega (arith, f, m, s)
 
   module _ (same : SameButSlots mid new) (shares : SharesSlot mid.slots new.slots k) where
     passed : IsHanding new v k page

@@ -22,10 +22,10 @@ use Rattle.swap.specs.Slots.{SlotTable}
 use Rattle.residency.proofs.Counts.{any-same, any-more, any-found}
 use Rattle.residency.proofs.Ways.{by_page}
 
-abbrev record_of : ℕ → ℕ → FilePage
+abbrev pub record_of : ℕ → ℕ → FilePage
 record_of file page = record { file = file; page = page }
 
-abbrev object_of : ℕ → ℕ → ObjectPage
+abbrev pub object_of : ℕ → ℕ → ObjectPage
 object_of object page = record { object = object; page = page }
 
 -- the file or object, and the page of it
@@ -64,6 +64,15 @@ number_in (Slot n) = 0
 pub one_frame : (n m : ℕ) → Frame (record { 0 = n }) ≡ Frame (record { 0 = m }) → m ≡ n
 unfolding number_in
 one_frame n m e = sym (ap number_in e)
+
+slot_in : Place → ℕ
+slot_in Home = 0
+slot_in (Frame n) = 0
+slot_in (Slot k) = k.0
+
+pub one_slot : (j k : ℕ) → Slot (record { 0 = j }) ≡ Slot (record { 0 = k }) → j ≡ k
+unfolding slot_in
+one_slot j k e = ap slot_in e
 
 names-same : (a b : Option Attr) (object page : ℕ) → a ≡ b → names a object page ≡ names b object page
 names-same a b object page e = ap (λ x. names x object page) e
@@ -124,10 +133,10 @@ named-more f g object page more here =
       | inr none ↦ absurd (false≢true (sym (ap (λ x. names x object page) none) ∙ is))
     ])) here
 
--- all places and slots are as they were, and the same frames hold file pages
-pub places_same : {mode : ℕ} (old new : Picture mode) → HasPlaces old → ((p : PageKey) → new.place p ≡ old.place p) → ((q k : ℕ) → new.at q k ≡ old.at q k) → ((f : ℕ) → new.files f ≡ old.files f) → new.slots ≡ old.slots
+-- all places and slots are as they were, and the same frames hold pages of files and objects
+places_kept : {mode : ℕ} (old new : Picture mode) → HasPlaces old → ((p : PageKey) → new.place p ≡ old.place p) → ((p : PageKey) → old.place p ≢ Home → IsPageFor old p → IsPageFor new p) → new.slots ≡ old.slots
     → ((n : ℕ) → role_of old.frames n ≡ Cache → role_of new.frames n ≡ Cache) → ((n : ℕ) → role_of new.frames n ≡ Cache → role_of old.frames n ≡ Cache) → HasPlaces new
-places_same old new places same at files slots forth back = record {
+places_kept old new places same inside slots forth back = record {
   cached = λ p n e. forth n (places.cached p n (sym (same p) ∙ e));
   held = λ n cache. (let h = places.held n (back n cache) in (h.0, same h.0 ∙ h.1));
   apart = λ p q e away. places.apart p q (sym (same p) ∙ e ∙ same q) (λ home. away (same p ∙ home));
@@ -136,23 +145,17 @@ places_same old new places same at files slots forth back = record {
     | inl own ↦ inl (some, λ p e. own.1 p (sym (same p) ∙ e))
     | inr file ↦ inr (file.0, same file.0 ∙ file.1)
   ];
-  inside = λ p away. page_for-same old new p at files (places.inside p (λ home. away (same p ∙ home)));
+  inside = λ p away. (let was = λ (home : old.place p ≡ Home). away (same p ∙ home) in inside p was (places.inside p was));
 }
 
--- all places and slots are as they were, the same frames hold file pages, and what processes are said to name hangs on the new pages
+pub places_same : {mode : ℕ} (old new : Picture mode) → HasPlaces old → ((p : PageKey) → new.place p ≡ old.place p) → ((q k : ℕ) → new.at q k ≡ old.at q k) → ((f : ℕ) → new.files f ≡ old.files f) → new.slots ≡ old.slots
+    → ((n : ℕ) → role_of old.frames n ≡ Cache → role_of new.frames n ≡ Cache) → ((n : ℕ) → role_of new.frames n ≡ Cache → role_of old.frames n ≡ Cache) → HasPlaces new
+places_same old new places same at files = places_kept old new places same (λ p away. page_for-same old new p at files)
+
+-- what processes are said to name hangs on the new pages
 pub places_renamed : {mode : ℕ} (old new : Picture mode) → HasPlaces old → ((p : PageKey) → new.place p ≡ old.place p) → ((f : ℕ) → new.files f ≡ old.files f) → ((p : ObjectPage) → old.place (Object p) ≢ Home → is_named new.at p.object p.page ≡ true) → new.slots ≡ old.slots
     → ((n : ℕ) → role_of old.frames n ≡ Cache → role_of new.frames n ≡ Cache) → ((n : ℕ) → role_of new.frames n ≡ Cache → role_of old.frames n ≡ Cache) → HasPlaces new
-places_renamed old new places same files named slots forth back = record {
-  cached = λ p n e. forth n (places.cached p n (sym (same p) ∙ e));
-  held = λ n cache. (let h = places.held n (back n cache) in (h.0, same h.0 ∙ h.1));
-  apart = λ p q e away. places.apart p q (sym (same p) ∙ e ∙ same q) (λ home. away (same p ∙ home));
-  slotted = λ p k e. ap (λ t. t.count k) slots ∙ places.slotted p k (sym (same p) ∙ e);
-  used = λ k some. elim (places.used k (let P : SlotTable → Type 0 = λ t. 0 < t.count k in subst P slots some)) [
-    | inl own ↦ inl (some, λ p e. own.1 p (sym (same p) ∙ e))
-    | inr file ↦ inr (file.0, same file.0 ∙ file.1)
-  ];
-  inside = λ p away. page_for-renamed old new p files named (λ home. away (same p ∙ home)) (places.inside p (λ home. away (same p ∙ home)));
-}
+places_renamed old new places same files named = places_kept old new places same (λ p. page_for-renamed old new p files named)
 
 -- all entries, places and touched pages are as they were
 pub dirty_same : {mode : ℕ} (old new : Picture mode) → IsDirtySound old → ((p : PageKey) → new.place p ≡ old.place p) → ((p : PageKey) → new.touched p ≡ old.touched p)

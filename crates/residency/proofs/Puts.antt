@@ -1,6 +1,6 @@
 -- A slot was taken: nothing names it yet.
 use Rattle.vm_types.specs.Limits.{top_level}
-use Rattle.std.proofs.Common.{◌≡◌, ◌≢◌, ℕ, inl, inr, ◌==◌, if◌then◌else◌, List, refl, sym, ap, ◌∙◌, arith, eq-eqb, ne_eqb}
+use Rattle.std.proofs.Common.{◌≡◌, ◌≢◌, ℕ, inl, inr, ◌⊎◌, ◌<◌, ◌==◌, if◌then◌else◌, List, refl, sym, ap, ◌∙◌, arith, eq-eqb, ne_eqb}
 use Rattle.std.proofs.lemmas.Bool.{cases_eq}
 use Rattle.vm_types.specs.declared.object.PageKey.{PageKey}
 use Rattle.frames.specs.FrameTable.{role_of, count_of}
@@ -10,7 +10,7 @@ use Rattle.page_tables.specs.Tree.{IsPage}
 use Rattle.page_cache.specs.declared.place.Place.TheVariants.{Slot}
 use Rattle.residency.specs.Seats.{Seat, InFrame, InSlot, seat}
 use Rattle.residency.specs.Picture.{Picture, entry, IsOwned, count_in, page_in}
-use Rattle.residency.specs.Parts.{IsFitBut, nowhere}
+use Rattle.residency.specs.Parts.{IsCountedBut, IsFitBut, nowhere}
 use Rattle.residency.proofs.Seats.{counted_fresh}
 use Rattle.residency.proofs.Granting.{granting_same}
 use Rattle.residency.proofs.Places.{page_for-same, dirty_same}
@@ -27,6 +27,32 @@ module _ {mode : ℕ} where
     pub touched : (p : PageKey) → new.touched p ≡ old.touched p
     pub files : (f : ℕ) → new.files f ≡ old.files f
     pub entries : (pid page : ℕ) → entry new pid page ≡ entry old pid page
+
+-- The counts are right for the new slots, each page of a file or an object has its slot as before, and no other slot came into use but for own copies.
+unfoldable pub fit_slots : {mode : ℕ} (old new : Picture mode) (x x' : Seat) (d d' m : ℕ) → IsFitBut old x d m → SameButSlots old new → IsCountedBut new x' d'
+    → ((p : PageKey) (j : ℕ) → old.place p ≡ Slot (record { 0 = j }) → new.slots.count j ≡ old.slots.count j)
+    → ((j : ℕ) → 0 < new.slots.count j → (0 < old.slots.count j) ⊎ ((p : PageKey) → old.place p ≢ Slot (record { 0 = j }))) → IsFitBut new x' d' m
+fit_slots old new x x' d d' m fit same counted slotted used = record {
+  counted = counted;
+  rooted = rooted_frames old new m fit.rooted same.frames same.root same.at;
+  granting = granting_same old new fit.granting (record { place = λ p n e. same.place p ∙ e; files = same.files })
+      (λ pid q h private one. ap (λ t. count_of t (frame_of (entry old pid q))) same.frames ∙ one) same.at (λ pid q h. same.entries pid q);
+  places = record {
+    cached = λ p n e. ap (λ t. role_of t n) same.frames ∙ fit.places.cached p n (sym (same.place p) ∙ e);
+    held = λ n cache. (let here = fit.places.held n (sym (ap (λ t. role_of t n) same.frames) ∙ cache) in (here.0, same.place here.0 ∙ here.1));
+    apart = λ p q e away. fit.places.apart p q (sym (same.place p) ∙ e ∙ same.place q) (λ home. away (same.place p ∙ home));
+    slotted = λ p j e. (let there = sym (same.place p) ∙ e in slotted p j there ∙ fit.places.slotted p j there);
+    used = λ j some. elim (used j some) [
+      | inl was ↦ elim (fit.places.used j was) [
+        | inl own ↦ inl (some, λ p e. own.1 p (sym (same.place p) ∙ e))
+        | inr file ↦ inr (file.0, same.place file.0 ∙ file.1)
+      ]
+      | inr no_page ↦ inl (some, λ p e. no_page p (sym (same.place p) ∙ e))
+    ];
+    inside = λ p away. page_for-same old new p same.at same.files (fit.places.inside p (λ home. away (same.place p ∙ home)));
+  };
+  dirty = dirty_same old new fit.dirty same.place same.touched (λ pid q h. same.entries pid q);
+}
 
 slot_pages : (ℕ → ℕ) → ℕ → ℕ → ℕ → ℕ
 slot_pages sp k page j = if j == k then page else sp j
@@ -59,36 +85,18 @@ module _ {mode : ℕ} (old new : Picture mode) (k page m : ℕ) (bytes : List �
 
   pub fit_put : IsFitBut new (InSlot k) 1 m
   unfolding slot_pages
-  fit_put = record {
-    counted = (
-      slot_pages fit.counted.0 k page,
-      counted_fresh mode (entry old) (entry new) (IsOwned old) (IsOwned new) (count_in old) (count_in new)
-          (page_in old fit.counted.0) (page_in new (slot_pages fit.counted.0 k page)) (λ q p h'. ap seat (same.entries q p)) (InSlot k) nowhere page fit.counted.1
-          (λ is. (let some = is.0 in let none = puts.was_free in omega (arith, some, none))) forth back counts pages puts.counted (rw (eq-eqb k k refl) refl) h,
-    );
-    rooted = rooted_frames old new m fit.rooted same.frames same.root same.at;
-    granting = granting_same old new fit.granting (record { place = λ p n e. same.place p ∙ e; files = same.files })
-        (λ pid q h' private one. ap (λ t. count_of t (frame_of (entry old pid q))) same.frames ∙ one) same.at (λ pid q h'. same.entries pid q);
-    places = record {
-      cached = λ p n e. ap (λ t. role_of t n) same.frames ∙ fit.places.cached p n (sym (same.place p) ∙ e);
-      held = λ n cache. (let here = fit.places.held n (sym (ap (λ t. role_of t n) same.frames) ∙ cache) in (here.0, same.place here.0 ∙ here.1));
-      apart = λ p q e away. fit.places.apart p q (sym (same.place p) ∙ e ∙ same.place q) (λ home. away (same.place p ∙ home));
-      slotted = λ p j e. elim (cases_eq j k) [
-        | inl is ↦ absurd (no_file p (sym (same.place p) ∙ e ∙ ap (λ i. Slot (record { 0 = i })) is))
-        | inr ne ↦ puts.others.counts j ne ∙ fit.places.slotted p j (sym (same.place p) ∙ e)
-      ];
-      used = λ j some. elim (cases_eq j k) [
-        | inl is ↦ inl (some, λ p e. no_file p (sym (same.place p) ∙ e ∙ ap (λ i. Slot (record { 0 = i })) is))
-        | inr ne ↦ (let c = puts.others.counts j ne in elim (fit.places.used j (omega (arith, c, some))) [
-          | inl own ↦ inl (some, λ p e. own.1 p (sym (same.place p) ∙ e))
-          | inr file ↦ inr (file.0, same.place file.0 ∙ file.1)
-        ])
-      ];
-      inside = λ p away. page_for-same old new p same.at same.files (fit.places.inside p (λ home. away (same.place p ∙ home)));
-    };
-    dirty = dirty_same old new fit.dirty same.place same.touched (λ pid q h'. same.entries pid q);
-  }
+  fit_put = fit_slots old new nowhere (InSlot k) 0 1 m fit same (
+    slot_pages fit.counted.0 k page,
+    counted_fresh mode (entry old) (entry new) (IsOwned old) (IsOwned new) (count_in old) (count_in new)
+        (page_in old fit.counted.0) (page_in new (slot_pages fit.counted.0 k page)) (λ q p h'. ap seat (same.entries q p)) (InSlot k) nowhere page fit.counted.1
+        (λ is. (let some = is.0 in let none = puts.was_free in omega (arith, some, none))) forth back counts pages puts.counted (rw (eq-eqb k k refl) refl) h,
+  )
+      (λ p j there. puts.others.counts j (λ e. no_file p (there ∙ ap (λ i. Slot (record { 0 = i })) e)))
+      (λ j some. elim (cases_eq j k) [
+        | inl is ↦ inr (λ p there. no_file p (there ∙ ap (λ i. Slot (record { 0 = i })) is))
+        | inr ne ↦ inl (let c = puts.others.counts j ne in omega (arith, c, some))
+      ])
 
   pub put_noted : fit_put.counted.0 k ≡ page
-  unfolding fit_put slot_pages
+  unfolding fit_put fit_slots slot_pages
   put_noted = rw (eq-eqb k k refl) refl

@@ -1,28 +1,20 @@
 -- A slot was taken, or was not to be had: what is seen stays.
-use Rattle.vm_types.proofs.Modes.{user_pages_fit}
 use Rattle.vm_types.specs.Limits.{top_level}
 use Rattle.std.proofs.Common.{◌≡◌, ◌≢◌, ℕ, inl, inr, ◌<◌, List, Option, Some, None, refl, sym, ap, ◌∙◌, subst, arith}
-use Rattle.std.specs.Prelude.{option_map}
 use Rattle.std.proofs.lemmas.Bool.{cases_eq}
 use Rattle.vm_types.specs.declared.object.PageKey.{PageKey}
 use Rattle.frames.specs.FrameTable.{FrameTable, frame_count, role_of, count_of, bytes_of}
-use Rattle.sv39_walk.specs.Entry.{frame_of}
 use Rattle.swap.specs.Slots.{SlotTable, IsInUse, Same, Puts, SharesSlot}
-use Rattle.page_tables.specs.Tree.{IsPage, Points, last_table}
-use Rattle.page_cache.specs.declared.place.Place.{Place}
-use Rattle.page_cache.specs.declared.place.Place.TheVariants.{Home, Frame, Slot}
+use Rattle.page_tables.specs.Tree.{Points, last_table}
+use Rattle.page_cache.specs.declared.place.Place.TheVariants.{Slot}
 use Rattle.residency.specs.Seats.{Seat, InFrame, InSlot, seat}
-use Rattle.residency.specs.Picture.{Picture, entry, held, bytes_at, own_in, bytes_in, IsOwned, count_in, page_in}
+use Rattle.residency.specs.Picture.{Picture, entry, held, bytes_in, IsOwned, count_in, page_in}
 use Rattle.residency.specs.Parts.{IsFit, nowhere}
 use Rattle.residency.specs.Ages.{Same as SameAge}
 use Rattle.residency.specs.Evictions.{HasShare, Spares}
-use Rattle.residency.proofs.Granting.{granting_same}
-use Rattle.residency.proofs.LeafSteps.{cases_attr}
-use Rattle.residency.proofs.Moves.{view_kept, view-none}
-use Rattle.residency.proofs.Places.{page_for-same, dirty_same}
-use Rattle.residency.proofs.Puts.{SameButSlots}
-use Rattle.residency.proofs.Rooted.{rooted_frames}
+use Rattle.residency.proofs.Puts.{SameButSlots, fit_slots}
 use Rattle.residency.proofs.Seats.{counted_same, counted_shared}
+use Rattle.residency.proofs.Setting.{view_seated, each_view, held_by}
 
 pub with_slots : {mode : ℕ} (c : Picture mode) (t : SlotTable) → SameButSlots c (record c { slots = t })
 unfolding entry
@@ -43,31 +35,16 @@ module _ {mode : ℕ} (old new : Picture mode) (fit : IsFit old) (same : SameBut
   own_bytes (InFrame n) is = ap (λ t. bytes_of t n) same.frames
   own_bytes (InSlot j) is = kept j is.0
 
-  own_put : (o : Option Seat) → ((z : Seat) → o ≡ Some z → IsOwned old z) → option_map (bytes_in new.frames new.slots) o ≡ option_map (bytes_in old.frames old.slots) o
-  own_put None each = refl
-  own_put (Some z) each = ap (λ b. Some b) (own_bytes z (each z refl))
-
-  bytes_put : (x : Place) → ((j : ℕ) → x ≡ Slot (record { 0 = j }) → IsInUse old.slots j) → bytes_at new.frames new.slots x ≡ bytes_at old.frames old.slots x
-  bytes_put Home used = refl
-  bytes_put (Frame m) used = ap (λ t. Some (bytes_of t m.0)) same.frames
-  bytes_put (Slot j) used = ap (λ b. Some b) (kept j.0 (used j.0 refl))
-
   held_put : (p : PageKey) → held new p ≡ held old p
-  unfolding held
-  held_put p = ap (λ x. bytes_at new.frames new.slots x) (same.place p) ∙ bytes_put (old.place p) (λ j is. (let one = fit.places.slotted p j is in omega (arith, one)))
+  held_put p = held_by old new p (same.place p) (λ m at. ap (λ t. bytes_of t m) same.frames) (λ j at. kept j (let one = fit.places.slotted p j at in omega (arith, one)))
 
   pub put_spares : (v k : ℕ) → new.slots.total ≡ old.slots.total → ((j : ℕ) → j ≢ k → IsInUse old.slots j → new.slots.count j ≡ old.slots.count j) → Spares v k old new
   put_spares v k total counts = record {
     pages = record {
       root = same.root;
       at = same.at;
-      views = λ pid p. elim (cases_attr (old.at pid p)) [
-        | inl none ↦ view-none new pid p (same.at pid p ∙ none) ∙ sym (view-none old pid p none)
-        | inr some ↦ (
-            let h : IsPage (top_level mode) p = (let u = ((fit.granting.user pid).user_pages p some).1 in omega (arith, u, user_pages_fit mode)) in
-            view_kept old new pid p (same.at pid p)
-            (ap (λ e. own_in new.frames new.slots e) (same.entries pid p) ∙ own_put (seat (entry old pid p)) (λ z is. fit.counted.1.named pid p z h is)))
-      ];
+      views = λ pid p. each_view old new fit.granting same.at pid p (λ h. view_seated old new pid p (same.at pid p) (ap seat (same.entries pid p))
+          (λ z is. own_bytes z (fit.counted.1.named pid p z h is)));
       files = record { held = λ p. inl (held_put p); touched = same.touched; files = same.files };
     };
     count = ap (λ t. frame_count t) same.frames;
@@ -109,28 +86,12 @@ module _ {mode : ℕ} (old new : Picture mode) (fit : IsFit old) (same : SameBut
   pages (InSlot j) is = refl
 
   pub fit_unput : IsFit new
-  fit_unput = record {
-    counted = (
-      fit.counted.0,
-      counted_same mode (entry old) (entry new) (IsOwned old) (IsOwned new) (count_in old) (count_in new) (page_in old fit.counted.0) (page_in new fit.counted.0)
-          (λ q p h. ap seat (same.entries q p)) nowhere 0 fit.counted.1 forth back counts pages,
-    );
-    rooted = rooted_frames old new 0 fit.rooted same.frames same.root same.at;
-    granting = granting_same old new fit.granting (record { place = λ p n e. same.place p ∙ e; files = same.files })
-        (λ pid q h' private one. ap (λ t. count_of t (frame_of (entry old pid q))) same.frames ∙ one) same.at (λ pid q h'. same.entries pid q);
-    places = record {
-      cached = λ p n e. ap (λ t. role_of t n) same.frames ∙ fit.places.cached p n (sym (same.place p) ∙ e);
-      held = λ n cache. (let here = fit.places.held n (sym (ap (λ t. role_of t n) same.frames) ∙ cache) in (here.0, same.place here.0 ∙ here.1));
-      apart = λ p q e away. fit.places.apart p q (sym (same.place p) ∙ e ∙ same.place q) (λ home. away (same.place p ∙ home));
-      slotted = λ p j e. slots.counts j ∙ fit.places.slotted p j (sym (same.place p) ∙ e);
-      used = λ j some. elim (fit.places.used j (was_used j some)) [
-        | inl own ↦ inl (some, λ p e. own.1 p (sym (same.place p) ∙ e))
-        | inr file ↦ inr (file.0, same.place file.0 ∙ file.1)
-      ];
-      inside = λ p away. page_for-same old new p same.at same.files (fit.places.inside p (λ home. away (same.place p ∙ home)));
-    };
-    dirty = dirty_same old new fit.dirty same.place same.touched (λ pid q h'. same.entries pid q);
-  }
+  fit_unput = fit_slots old new nowhere nowhere 0 0 0 fit same (
+    fit.counted.0,
+    counted_same mode (entry old) (entry new) (IsOwned old) (IsOwned new) (count_in old) (count_in new) (page_in old fit.counted.0) (page_in new fit.counted.0)
+        (λ q p h. ap seat (same.entries q p)) nowhere 0 fit.counted.1 forth back counts pages,
+  )
+      (λ p j there. slots.counts j) (λ j some. inl (was_used j some))
 
 -- one more shares a slot that holds own copies
 module _ {mode : ℕ} (old new : Picture mode) (k page : ℕ) (fit : IsFit old) (same : SameButSlots old new) (own : IsOwned old (InSlot k)) (noted : fit.counted.0 k ≡ page) (shares : SharesSlot old.slots new.slots k) where
@@ -163,31 +124,14 @@ module _ {mode : ℕ} (old new : Picture mode) (k page : ℕ) (fit : IsFit old) 
   pages_shared (InSlot j) is = refl
 
   pub has_shared : HasShare new k page
+  unfolding fit_slots
   has_shared = record {
-    fit = record {
-      counted = (
-        fit.counted.0,
-        counted_shared mode (entry old) (entry new) (IsOwned old) (IsOwned new) (count_in old) (count_in new) (page_in old fit.counted.0) (page_in new fit.counted.0)
-            (λ q p h. ap seat (same.entries q p)) (InSlot k) nowhere fit.counted.1 forth_shared back_shared counts_shared pages_shared shares.raised,
-      );
-      rooted = rooted_frames old new 0 fit.rooted same.frames same.root same.at;
-      granting = granting_same old new fit.granting (record { place = λ p n e. same.place p ∙ e; files = same.files })
-          (λ pid q h' private one. ap (λ t. count_of t (frame_of (entry old pid q))) same.frames ∙ one) same.at (λ pid q h'. same.entries pid q);
-      places = record {
-        cached = λ p n e. ap (λ t. role_of t n) same.frames ∙ fit.places.cached p n (sym (same.place p) ∙ e);
-        held = λ n cache. (let here = fit.places.held n (sym (ap (λ t. role_of t n) same.frames) ∙ cache) in (here.0, same.place here.0 ∙ here.1));
-        apart = λ p q e away. fit.places.apart p q (sym (same.place p) ∙ e ∙ same.place q) (λ home. away (same.place p ∙ home));
-        slotted = λ p j e. (
-            let there = sym (same.place p) ∙ e in
-            shares.others.counts j (λ is. own.1 p (there ∙ ap (λ i. Slot (record { 0 = i })) is)) ∙ fit.places.slotted p j there);
-        used = λ j some. elim (fit.places.used j (were_used j some)) [
-          | inl owned ↦ inl (some, λ p e. owned.1 p (sym (same.place p) ∙ e))
-          | inr file ↦ inr (file.0, same.place file.0 ∙ file.1)
-        ];
-        inside = λ p away. page_for-same old new p same.at same.files (fit.places.inside p (λ home. away (same.place p ∙ home)));
-      };
-      dirty = dirty_same old new fit.dirty same.place same.touched (λ pid q h'. same.entries pid q);
-    };
+    fit = fit_slots old new nowhere (InSlot k) 0 1 0 fit same (
+      fit.counted.0,
+      counted_shared mode (entry old) (entry new) (IsOwned old) (IsOwned new) (count_in old) (count_in new) (page_in old fit.counted.0) (page_in new fit.counted.0)
+          (λ q p h. ap seat (same.entries q p)) (InSlot k) nowhere fit.counted.1 forth_shared back_shared counts_shared pages_shared shares.raised,
+    )
+        (λ p j there. shares.others.counts j (λ is. own.1 p (there ∙ ap (λ i. Slot (record { 0 = i })) is))) (λ j some. inl (were_used j some));
     owned = forth_shared (InSlot k) own;
     noted = noted;
   }

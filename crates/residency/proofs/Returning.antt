@@ -8,23 +8,14 @@ use Rattle.frames.specs.FrameTable.{FrameTable, IsSound, role_of, SameButFor, Ta
 use Rattle.swap.specs.Slots.{SlotTable}
 use Rattle.swap.specs.Slots as Slots
 use Rattle.page_tables.proofs.Ends.{same_last}
-use Rattle.page_cache.specs.declared.place.Place.{Place}
-use Rattle.page_cache.specs.declared.place.Place.TheVariants.{Home, Frame, Slot}
+use Rattle.page_cache.specs.declared.place.Place.TheVariants.{Home, Slot}
 use Rattle.residency.specs.Picture.{Picture}
 use Rattle.residency.specs.Parts.{IsFit}
 use Rattle.residency.specs.Calls.{Frees}
 use Rattle.residency.specs.Steps.{LeavesSlot, ChangesFrame}
 use Rattle.residency.proofs.BroughtIn.{frames_written}
 use Rattle.residency.proofs.Taking.{trees_changed, entries_changed, views_changed, held_changed}
-
-slot_number : Place → ℕ
-slot_number Home = 0
-slot_number (Frame n) = 0
-slot_number (Slot k) = k.0
-
-one_slot : (j k : ℕ) → Slot (record { 0 = j }) ≡ Slot (record { 0 = k }) → j ≡ k
-unfolding slot_number
-one_slot j k e = ap slot_number e
+use Rattle.residency.proofs.Places.{one_slot}
 
 -- the slot of a file page lost its only share
 pub leaves_slot : {mode : ℕ} (old new : Picture mode) (page : PageKey) (k : ℕ) (t : SlotTable) → old.place page ≡ Slot (record { 0 = k }) → t ≡ old.slots → Slots.ReleasesSlot t new.slots k → old.slots.count k ≡ 1

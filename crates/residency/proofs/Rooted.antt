@@ -1,10 +1,10 @@
 -- Trees: what each step does to the roots and to the tables that are reached from them.
 use Rattle.vm_types.specs.Limits.{top_level}
-use Rattle.std.proofs.Common.{◌≡◌, ℕ, suc, inl, inr, Some, Option, sym, ◌∙◌, subst}
+use Rattle.std.proofs.Common.{◌≡◌, ℕ, suc, inl, inr, Some, Option, refl, sym, ◌∙◌, subst}
 use Rattle.std.specs.Prelude.{IsSome}
 use Rattle.vm_types.specs.declared.region.Attr.{Attr}
 use Rattle.frames.specs.FrameTable.{FrameTable}
-use Rattle.page_tables.specs.Tree.{IsTable, IsForest, IsRoot, Points, IsBelowRoot}
+use Rattle.page_tables.specs.Tree.{Points, IsBelowRoot}
 use Rattle.page_tables.proofs.Data.{KeepsTrees}
 use Rattle.page_tables.proofs.Ends.{way_forth}
 use Rattle.residency.specs.Picture.{Picture}
@@ -44,15 +44,14 @@ module _ {mode : ℕ} where
   pub rooted_frames : (old new : Picture mode) (n : ℕ) → IsRootedBut old n → new.frames ≡ old.frames → ((pid : ℕ) → new.root pid ≡ old.root pid)
       → ((pid page : ℕ) → new.at pid page ≡ old.at pid page) → IsRootedBut new n
   rooted_frames old new n rooted frames root at =
-      let was : (pid r : ℕ) → new.root pid ≡ Some r → old.root pid ≡ Some r = λ pid r e. sym (root pid) ∙ e in
-      record {
-        forest = (let P : FrameTable → Type 0 = λ t. IsForest t in subst P (sym frames) rooted.forest);
-        roots = λ pid r e. (let P : FrameTable → Type 0 = λ t. IsRoot (top_level mode) t r in subst P (sym frames) (rooted.roots pid r (was pid r e)));
-        apart = λ p q r e f. rooted.apart p q r (was p r e) (was q r f);
-        numbers = λ pid r e. rooted.numbers pid r (was pid r e);
-        used = λ m table. elim (rooted.used m (let P : FrameTable → Type 0 = λ t. IsTable t m in subst P frames table)) [
-          | inl e ↦ inl e
-          | inr o ↦ inr (used_kept old new (IsMapped old) (IsMapped new) m (λ a i b p. (let P : FrameTable → Type 0 = λ t. Points t a i b in subst P (sym frames) p)) root
-              (λ pid page some. (let P : Option Attr → Type 0 = λ x. IsSome x in subst P (sym (at pid page)) some)) o)
-        ];
-      }
+      let P : FrameTable → Type 0 = λ t. KeepsTrees old.frames t (top_level mode) in
+      rooted_same old new n rooted (subst P (sym frames) (record {
+        forest = rooted.forest;
+        same = record { forth = λ a i b p. p; back = λ a i b p. p; entries = λ a i h was is. refl };
+        tables = λ a. (λ is. is, λ is. is);
+        unlinked = λ a. (λ is. is, λ is. is);
+        roots = λ r is. is;
+        were_roots = λ r is. is;
+        entries = λ r p is. refl;
+        missing = λ r p is. refl;
+      })) root at

@@ -1,11 +1,10 @@
 -- Which seat an entry has by its form, and what a share that is given back leaves of all bytes.
-use Rattle.vm_types.specs.Limits.{top_level}
 use Rattle.std.proofs.Common.{◌≡◌, ◌≢◌, ℕ, inl, inr, ◌+◌, ◌*◌, ◌<◌, ◌^◌, true, false, List, Option, Some, None, refl, sym, ap, ◌∙◌, subst, arith}
 use Rattle.std.proofs.lemmas.Bool.{cases_eq, cases_Bool, false≢true}
 use Rattle.vm_types.specs.declared.object.PageKey.{PageKey}
 use Rattle.vm_types.specs.declared.number.SlotNo.{SlotNo}
 use Rattle.frames.specs.FrameTable.{bytes_of}
-use Rattle.swap.specs.Slots.{SlotTable, IsInUse}
+use Rattle.swap.specs.Slots.{IsInUse}
 use Rattle.swap.specs.Slots as Slots
 use Rattle.sv39_walk.specs.Entry.{frame_of, is_valid, has_bit}
 use Rattle.page_tables.specs.declared.forms.Entry.{Entry}
@@ -13,14 +12,12 @@ use Rattle.page_tables.specs.declared.forms.Entry.TheVariants.{Leaf, Swapped, Pa
 use Rattle.page_tables.specs.declared.forms.Entry.TheVariants as Entries
 use Rattle.page_tables.specs.Entry.{number_of, IsEntry}
 use Rattle.page_tables.proofs.Bits.{parked_framed}
-use Rattle.page_cache.specs.declared.place.Place.{Place}
-use Rattle.page_cache.specs.declared.place.Place.TheVariants.{Home, Frame, Slot}
 use Rattle.residency.specs.Seats.{Seat, InFrame, InSlot, seat, is_private, is_swapped}
-use Rattle.residency.specs.Picture.{Picture, entry, view, held, bytes_at, bytes_in, IsOwned}
+use Rattle.residency.specs.Picture.{Picture, entry, view, held, bytes_in, IsOwned}
 use Rattle.residency.specs.Parts.{IsFitBut}
 use Rattle.residency.proofs.Handing.{away_number}
 use Rattle.residency.proofs.Puts.{SameButSlots}
-use Rattle.residency.proofs.Setting.{each_view, view_seated}
+use Rattle.residency.proofs.Setting.{each_view, view_seated, held_by}
 
 pub seat_own : (e : ℕ) → is_private e ≡ true → seat e ≡ Some (InFrame (frame_of e))
 seat_own e own = rw own refl
@@ -69,11 +66,5 @@ module _ {mode : ℕ} (old new : Picture mode) (k x d : ℕ) (s : Seat) (fit : I
   views_given q p = each_view old new fit.granting same.at q p (λ h. view_seated old new q p (same.at q p) (ap seat (same.entries q p))
       (λ z is. seat_bytes z (fit.counted.1.named q p z h is)))
 
-  place_bytes : (p : PageKey) (y : Place) → old.place p ≡ y → bytes_at new.frames new.slots y ≡ bytes_at old.frames old.slots y
-  place_bytes p Home at = refl
-  place_bytes p (Frame m) at = ap (λ t. Some (bytes_of t m.0)) same.frames
-  place_bytes p (Slot j) at = ap (λ (w : _). Some w) (slot_bytes j.0 (let one = fit.places.slotted p j.0 at in omega (arith, one)))
-
   pub held_given : (p : PageKey) → held new p ≡ held old p
-  unfolding held
-  held_given p = ap (λ y. bytes_at new.frames new.slots y) (same.place p) ∙ place_bytes p (old.place p) refl
+  held_given p = held_by old new p (same.place p) (λ m at. ap (λ t. bytes_of t m) same.frames) (λ j at. slot_bytes j (let one = fit.places.slotted p j at in omega (arith, one)))

@@ -1,7 +1,7 @@
 -- Counts of seats: what each step does to them.
 use Rattle.vm_types.specs.Limits.{top_level}
-use Rattle.std.proofs.Common.{◌≡◌, ◌≢◌, ℕ, inl, inr, ◌+◌, ◌<◌, ◌⊎◌, true, false, Option, Some, None, refl, sym, ap, ◌∙◌, subst, arith, eq-eqb, ne_eqb}
-use Rattle.std.proofs.lemmas.Bool.{cases_eq}
+use Rattle.std.proofs.Common.{if◌then◌else◌, ◌≡◌, ◌≢◌, ℕ, inl, inr, ◌+◌, ◌<◌, ◌⊎◌, true, false, Option, Some, None, refl, sym, ap, ◌∙◌, subst, arith, eq-eqb, ne_eqb}
+use Rattle.std.proofs.lemmas.Bool.{cases_eq, cases_Bool, false≢true}
 use Rattle.page_tables.specs.Tree.{IsPage}
 use Rattle.residency.proofs.Ways.{by_page}
 use Rattle.residency.proofs.Counts.{count-same, count-none, count-one, count-positive}
@@ -35,8 +35,12 @@ sits o y e = ap (λ z. is_seat z y) e ∙ seat-same y
 sits_not : (o : Option Seat) (x y : Seat) → o ≡ Some x → x ≢ y → is_seat o y ≡ false
 sits_not o x y e ne = ap (λ z. is_seat z y) e ∙ seat-other x y ne
 
-sits_none : (o : Option Seat) (y : Seat) → o ≡ None → is_seat o y ≡ false
-sits_none o y e = ap (λ z. is_seat z y) e
+pub seated : (o : Option Seat) (y : Seat) → is_seat o y ≡ true → o ≡ Some y
+seated None y e = (cc)
+seated (Some x) y e = elim (cases_seat x y) [
+  | inl same ↦ ap (λ z. Some z) same
+  | inr ne ↦ absurd (false≢true (sym (seat-other x y ne) ∙ e))
+]
 
 off-here : (x : Seat) (d : ℕ) → off x d x ≡ d
 off-here x d = rw (seat-same x) refl
@@ -44,151 +48,104 @@ off-here x d = rw (seat-same x) refl
 off-other : (x : Seat) (d : ℕ) (y : Seat) → x ≢ y → off x d y ≡ 0
 off-other x d y ne = rw (seat-other x y ne) refl
 
-some_seat : (x y : Seat) → Some x ≡ Some y → x ≡ y
+pub some_seat : (x y : Seat) → Some x ≡ Some y → x ≡ y
 some_seat x y e = (cc)
 
--- Of the page (pid, page) the entry names seat y now, and named x before, whose counts was right and is off now.
+-- Of the page (pid, page) the entry names seat y now, whose count was off, and what it named before is off now.
+module _ (mode : ℕ) (old new : ℕ → ℕ → ℕ) (owned owned' : Seat → Type 0) (count count' page page' : Seat → ℕ) (o : Option Seat) (x y : Seat) (d pid k : ℕ)
+    (counted : AreCounted mode old owned count page y 1) (forth : (z : Seat) → owned z → owned' z) (back : (z : Seat) → owned' z → owned z)
+    (counts : (z : Seat) → owned z → count' z ≡ count z) (pages : (z : Seat) → owned z → page' z ≡ page z)
+    (has : owned y) (noted : page y ≡ k) (h : IsPage (top_level mode) k) (below : pid < 65) (from : seat (old pid k) ≡ o) (to : seat (new pid k) ≡ Some y) (apart : is_seat o y ≡ false)
+    (others : OthersSame mode old new pid k) (rest : (z : Seat) → off x d z ≡ (if is_seat o z then 1 else 0)) where
+  was_at : (z : Seat) → is_seat (seat (old pid k)) z ≡ is_seat o z
+  was_at z = ap (λ s. is_seat s z) from
+
+  gained : holders_at new k y ≡ holders_at old k y + 1
+  unfolding holders_at
+  gained =
+      count-one (λ q. is_seat (seat (new q k)) y) (λ q. is_seat (seat (old q k)) y) pid 65 below (sits (seat (new pid k)) y to) (was_at y ∙ apart)
+      (λ q ne. ap (λ e. is_seat (seat e) y) (others q k h (inl ne)))
+
+  lost : (z : Seat) → z ≢ y → is_seat o z ≡ true → holders_at old k z ≡ holders_at new k z + 1
+  unfolding holders_at
+  lost z ne there =
+      count-one (λ q. is_seat (seat (old q k)) z) (λ q. is_seat (seat (new q k)) z) pid 65 below (was_at z ∙ there) (sits_not (seat (new pid k)) y z to (λ e. ne (sym e)))
+      (λ q away. ap (λ e. is_seat (seat e) z) (sym (others q k h (inl away))))
+
+  still : (z : Seat) (p : ℕ) → z ≢ y → is_seat o z ≡ false → IsPage (top_level mode) p → holders_at new p z ≡ holders_at old p z
+  unfolding holders_at
+  still z p ne none h' = count-same (λ q. is_seat (seat (new q p)) z) (λ q. is_seat (seat (old q p)) z) 65 (λ q. elim (by_page q p pid k) [
+    | inl e ↦ (
+        let P : ℕ → Type 0 = λ a. is_seat (seat (new a p)) z ≡ is_seat (seat (old a p)) z in
+        let Q : ℕ → Type 0 = λ a. is_seat (seat (new pid a)) z ≡ is_seat (seat (old pid a)) z in
+        subst P (sym e.0) (subst Q (sym e.1) (sits_not (seat (new pid k)) y z to (λ e. ne (sym e)) ∙ sym (was_at z ∙ none))))
+    | inr away ↦ ap (λ e. is_seat (seat e) z) (others q p h' away)
+  ])
+
+  now_at : (q p : ℕ) (z : Seat) → (q ≡ pid) × (p ≡ k) → seat (new q p) ≡ Some z → y ≡ z
+  now_at q p z e is = some_seat y z (sym to ∙ ap seat (sym (ap (λ v. new v p) e.0 ∙ ap (λ v. new pid v) e.1)) ∙ is)
+
+  counts_here : (z : Seat) → owned z → count z ≡ holders_at new (page z) z + off x d z
+  counts_here z was =
+      let before = counted.counts z was in
+      let r = rest z in
+      elim (cases_seat z y) [
+        | inl e ↦ (
+            let P : Seat → Type 0 = λ a. count a ≡ holders_at new (page a) a + off x d a in
+            let Q : ℕ → Type 0 = λ v. holders_at new v y ≡ holders_at old v y + 1 in
+            let g = subst Q (sym noted) gained in
+            let c = counted.counts y has in
+            let one = off-here y 1 in
+            let none : off x d y ≡ 0 = rest y ∙ ap (λ b. if b then 1 else 0) apart in
+            subst P (sym e) (omega (arith, c, g, one, none)))
+        | inr ne ↦ (
+            let none = off-other y 1 z (λ f. ne (sym f)) in
+            elim (cases_Bool (is_seat o z)) [
+              | inl there ↦ (
+                  let Q : ℕ → Type 0 = λ v. holders_at old v z ≡ holders_at new v z + 1 in
+                  let l = subst Q (sym (counted.noted pid k z h (from ∙ seated o z there))) (lost z ne there) in
+                  let one : off x d z ≡ 1 = r ∙ ap (λ b. if b then 1 else 0) there in
+                  omega (arith, before, l, none, one))
+              | inr away ↦ (
+                  let s = still z (page z) ne away (counted.pages z was) in
+                  let zero : off x d z ≡ 0 = r ∙ ap (λ b. if b then 1 else 0) away in
+                  omega (arith, before, s, none, zero))
+            ])
+      ]
+
+  counted_put : AreCounted mode new owned' count' page' x d
+  counted_put = record {
+    counts = λ z now. (let was = back z now in let c = counts z was in let here = counts_here z was in rw (pages z was) (omega (arith, c, here)));
+    pages = λ z now. (let was = back z now in let P : ℕ → Type 0 = λ v. IsPage (top_level mode) v in subst P (sym (pages z was)) (counted.pages z was));
+    named = λ q p z h' is. elim (by_page q p pid k) [
+      | inl e ↦ subst owned' (now_at q p z e is) (forth y has)
+      | inr away ↦ forth z (counted.named q p z h' (ap seat (sym (others q p h' away)) ∙ is))
+    ];
+    noted = λ q p z h' is. elim (by_page q p pid k) [
+      | inl e ↦ ap page' (sym (now_at q p z e is)) ∙ pages y has ∙ noted ∙ sym e.1
+      | inr away ↦ (
+          let was = ap seat (sym (others q p h' away)) ∙ is in
+          pages z (counted.named q p z h' was) ∙ counted.noted q p z h' was)
+    ];
+  }
+
+-- it named seat x before, whose count was right
 module _ (mode : ℕ) (old new : ℕ → ℕ → ℕ) (owned owned' : Seat → Type 0) (count count' page page' : Seat → ℕ) (x y : Seat) (pid k : ℕ)
     (counted : AreCounted mode old owned count page y 1) (forth : (z : Seat) → owned z → owned' z) (back : (z : Seat) → owned' z → owned z)
     (counts : (z : Seat) → owned z → count' z ≡ count z) (pages : (z : Seat) → owned z → page' z ≡ page z)
     (has : owned y) (noted : page y ≡ k) (h : IsPage (top_level mode) k) (below : pid < 65) (from : seat (old pid k) ≡ Some x) (to : seat (new pid k) ≡ Some y) (apart : x ≢ y)
     (others : OthersSame mode old new pid k) where
-  held : owned x
-  held = counted.named pid k x h from
-
-  noted_x : page x ≡ k
-  noted_x = counted.noted pid k x h from
-
-  gained : holders_at new k y ≡ holders_at old k y + 1
-  unfolding holders_at
-  gained =
-      count-one (λ q. is_seat (seat (new q k)) y) (λ q. is_seat (seat (old q k)) y) pid 65 below (sits (seat (new pid k)) y to) (sits_not (seat (old pid k)) x y from apart)
-      (λ q ne. ap (λ e. is_seat (seat e) y) (others q k h (inl ne)))
-
-  lost : holders_at old k x ≡ holders_at new k x + 1
-  unfolding holders_at
-  lost =
-      count-one (λ q. is_seat (seat (old q k)) x) (λ q. is_seat (seat (new q k)) x) pid 65 below (sits (seat (old pid k)) x from) (sits_not (seat (new pid k)) y x to (λ e. apart (sym e)))
-      (λ q ne. ap (λ e. is_seat (seat e) x) (sym (others q k h (inl ne))))
-
-  same : (z : Seat) (p : ℕ) → z ≢ x → z ≢ y → IsPage (top_level mode) p → holders_at new p z ≡ holders_at old p z
-  unfolding holders_at
-  same z p ne ne' h' = count-same (λ q. is_seat (seat (new q p)) z) (λ q. is_seat (seat (old q p)) z) 65 (λ q. elim (by_page q p pid k) [
-    | inl e ↦ (
-        let P : ℕ → Type 0 = λ a. is_seat (seat (new a p)) z ≡ is_seat (seat (old a p)) z in
-        let Q : ℕ → Type 0 = λ a. is_seat (seat (new pid a)) z ≡ is_seat (seat (old pid a)) z in
-        subst P (sym e.0) (subst Q (sym e.1) (sits_not (seat (new pid k)) y z to (λ e. ne' (sym e)) ∙ sym (sits_not (seat (old pid k)) x z from (λ e. ne (sym e))))))
-    | inr away ↦ ap (λ e. is_seat (seat e) z) (others q p h' away)
-  ])
-
   pub counted_moved : AreCounted mode new owned' count' page' x 1
-  counted_moved = record {
-    counts = λ z now. (
-        let was = back z now in
-        let there = pages z was in
-        let before = counts z was ∙ counted.counts z was in
-        elim (cases_seat z y) [
-          | inl e ↦ (
-              let P : Seat → Type 0 = λ a. count' a ≡ holders_at new (page' a) a + off x 1 a in
-              let at : page' y ≡ k = pages y has ∙ noted in
-              let c = counts y has ∙ counted.counts y has in
-              let a = off-here y 1 in
-              let b = off-other x 1 y apart in
-              let g = gained in
-              subst P (sym e) (rw at (let c' : count' y ≡ holders_at old k y + off y 1 y = (let R : ℕ → Type 0 = λ v. count' y ≡ holders_at old v y + off y 1 y in subst R noted c) in omega (arith, c', a, b, g))))
-          | inr ne ↦ elim (cases_seat z x) [
-            | inl e ↦ (
-                let P : Seat → Type 0 = λ a. count' a ≡ holders_at new (page' a) a + off x 1 a in
-                let at : page' x ≡ k = pages x held ∙ noted_x in
-                let c = counts x held ∙ counted.counts x held in
-                let a = off-here x 1 in
-                let b = off-other y 1 x (λ f. apart (sym f)) in
-                let l = lost in
-                subst P (sym e) (rw at (let c' : count' x ≡ holders_at old k x + off y 1 x = (let R : ℕ → Type 0 = λ v. count' x ≡ holders_at old v x + off y 1 x in subst R noted_x c) in omega (arith, c', a, b, l))))
-            | inr ne' ↦ (
-                let s = same z (page z) ne' ne (counted.pages z was) in
-                let a = off-other y 1 z (λ f. ne (sym f)) in
-                let b = off-other x 1 z (λ f. ne' (sym f)) in
-                rw there (omega (arith, before, s, a, b)))
-          ]
-        ]);
-    pages = λ z now. (
-        let was = back z now in
-        let P : ℕ → Type 0 = λ v. IsPage (top_level mode) v in subst P (sym (pages z was)) (counted.pages z was));
-    named = λ q p z h' is. elim (by_page q p pid k) [
-      | inl e ↦ (
-          let moved : new q p ≡ new pid k = ap (λ v. new v p) e.0 ∙ ap (λ v. new pid v) e.1 in
-          subst owned' (some_seat y z (sym to ∙ ap seat (sym moved) ∙ is)) (forth y has))
-      | inr away ↦ forth z (counted.named q p z h' (ap seat (sym (others q p h' away)) ∙ is))
-    ];
-    noted = λ q p z h' is. elim (by_page q p pid k) [
-      | inl e ↦ (
-          let moved : new q p ≡ new pid k = ap (λ v. new v p) e.0 ∙ ap (λ v. new pid v) e.1 in
-          ap page' (sym (some_seat y z (sym to ∙ ap seat (sym moved) ∙ is))) ∙ pages y has ∙ noted ∙ sym e.1)
-      | inr away ↦ (
-          let was = ap seat (sym (others q p h' away)) ∙ is in
-          pages z (counted.named q p z h' was) ∙ counted.noted q p z h' was)
-    ];
-  }
+  counted_moved = counted_put mode old new owned owned' count count' page page' (Some x) x y 1 pid k counted forth back counts pages has noted h below from to (seat-other x y apart) others (λ z. refl)
 
--- Of the page (pid, page) the entry names seat y now, whose count was off, and named none before.
+-- it named none before
 module _ (mode : ℕ) (old new : ℕ → ℕ → ℕ) (owned owned' : Seat → Type 0) (count count' page page' : Seat → ℕ) (y : Seat) (pid k : ℕ)
     (counted : AreCounted mode old owned count page y 1) (forth : (z : Seat) → owned z → owned' z) (back : (z : Seat) → owned' z → owned z)
     (counts : (z : Seat) → owned z → count' z ≡ count z) (pages : (z : Seat) → owned z → page' z ≡ page z)
     (has : owned y) (noted : page y ≡ k) (h : IsPage (top_level mode) k) (below : pid < 65) (from : seat (old pid k) ≡ None) (to : seat (new pid k) ≡ Some y)
     (others : OthersSame mode old new pid k) where
-  filled : holders_at new k y ≡ holders_at old k y + 1
-  unfolding holders_at
-  filled =
-      count-one (λ q. is_seat (seat (new q k)) y) (λ q. is_seat (seat (old q k)) y) pid 65 below (sits (seat (new pid k)) y to) (sits_none (seat (old pid k)) y from)
-      (λ q ne. ap (λ e. is_seat (seat e) y) (others q k h (inl ne)))
-
-  still : (z : Seat) (p : ℕ) → z ≢ y → IsPage (top_level mode) p → holders_at new p z ≡ holders_at old p z
-  unfolding holders_at
-  still z p ne h' = count-same (λ q. is_seat (seat (new q p)) z) (λ q. is_seat (seat (old q p)) z) 65 (λ q. elim (by_page q p pid k) [
-    | inl e ↦ (
-        let P : ℕ → Type 0 = λ a. is_seat (seat (new a p)) z ≡ is_seat (seat (old a p)) z in
-        let Q : ℕ → Type 0 = λ a. is_seat (seat (new pid a)) z ≡ is_seat (seat (old pid a)) z in
-        subst P (sym e.0) (subst Q (sym e.1) (sits_not (seat (new pid k)) y z to (λ e. ne (sym e)) ∙ sym (sits_none (seat (old pid k)) z from))))
-    | inr away ↦ ap (λ e. is_seat (seat e) z) (others q p h' away)
-  ])
-
   pub counted_filled : (x' : Seat) → ((z : Seat) → off x' 0 z ≡ 0) → AreCounted mode new owned' count' page' x' 0
-  counted_filled x' none = record {
-    counts = λ z now. (
-        let was = back z now in
-        let before = counts z was ∙ counted.counts z was in
-        let zero = none z in
-        elim (cases_seat z y) [
-          | inl e ↦ (
-              let P : Seat → Type 0 = λ a. count' a ≡ holders_at new (page' a) a + off x' 0 a in
-              let at : page' y ≡ k = pages y has ∙ noted in
-              let c = counts y has ∙ counted.counts y has in
-              let a = off-here y 1 in
-              let b = none y in
-              let g = filled in
-              subst P (sym e) (rw at (let c' : count' y ≡ holders_at old k y + off y 1 y = (let R : ℕ → Type 0 = λ v. count' y ≡ holders_at old v y + off y 1 y in subst R noted c) in omega (arith, c', a, b, g))))
-          | inr ne ↦ (
-              let s = still z (page z) ne (counted.pages z was) in
-              let a = off-other y 1 z (λ f. ne (sym f)) in
-              rw (pages z was) (omega (arith, before, s, a, zero)))
-        ]);
-    pages = λ z now. (let was = back z now in let P : ℕ → Type 0 = λ v. IsPage (top_level mode) v in subst P (sym (pages z was)) (counted.pages z was));
-    named = λ q p z h' is. elim (by_page q p pid k) [
-      | inl e ↦ (
-          let moved : new q p ≡ new pid k = ap (λ v. new v p) e.0 ∙ ap (λ v. new pid v) e.1 in
-          subst owned' (some_seat y z (sym to ∙ ap seat (sym moved) ∙ is)) (forth y has))
-      | inr away ↦ forth z (counted.named q p z h' (ap seat (sym (others q p h' away)) ∙ is))
-    ];
-    noted = λ q p z h' is. elim (by_page q p pid k) [
-      | inl e ↦ (
-          let moved : new q p ≡ new pid k = ap (λ v. new v p) e.0 ∙ ap (λ v. new pid v) e.1 in
-          ap page' (sym (some_seat y z (sym to ∙ ap seat (sym moved) ∙ is))) ∙ pages y has ∙ noted ∙ sym e.1)
-      | inr away ↦ (
-          let was = ap seat (sym (others q p h' away)) ∙ is in
-          pages z (counted.named q p z h' was) ∙ counted.noted q p z h' was)
-    ];
-  }
+  counted_filled x' none = counted_put mode old new owned owned' count count' page page' None x' y 0 pid k counted forth back counts pages has noted h below from to refl others none
 
 -- no entry names another seat than before
 pub seats_kept : (old new : ℕ → ℕ → ℕ) (z : Seat) (p : ℕ) → ((q : ℕ) → seat (new q p) ≡ seat (old q p)) → holders_at new p z ≡ holders_at old p z
@@ -201,6 +158,15 @@ off-none x y = elim (cases_seat x y) [
   | inr ne ↦ off-other x 0 y ne
 ]
 
+by_one : (x z : Seat) (n n' : Seat → ℕ) → n' x ≡ n x + 1 → (z ≢ x → n' z ≡ n z) → n' z ≡ n z + off x 1 z
+by_one x z n n' more same = elim (cases_seat z x) [
+  | inl e ↦ (
+      let P : Seat → Type 0 = λ v. n' v ≡ n v + off x 1 v in
+      let here = off-here x 1 in
+      subst P (sym e) (omega (arith, more, here)))
+  | inr ne ↦ (let s = same ne in let none = off-other x 1 z (λ e. ne (sym e)) in omega (arith, s, none))
+]
+
 not_there : (x : Seat) (o : Option Seat) → ((y : Seat) → o ≡ Some y → y ≢ x) → is_seat o x ≡ false
 not_there x None none = refl
 not_there x (Some y) none = seat-other y x (none y refl)
@@ -211,18 +177,26 @@ unfolding holders_at
 holders_none entries p x none = count-none (λ q. is_seat (seat (entries q p)) x) 65 (λ q. not_there x (seat (entries q p)) (λ y is e. none q (is ∙ ap (λ z. Some z) e)))
 
 module _ (mode : ℕ) (old new : ℕ → ℕ → ℕ) (owned owned' : Seat → Type 0) (count count' page page' : Seat → ℕ) (same : (q p : ℕ) → IsPage (top_level mode) p → seat (new q p) ≡ seat (old q p)) where
-  pub counted_same : (x : Seat) (d : ℕ) → AreCounted mode old owned count page x d → ((z : Seat) → owned z → owned' z) → ((z : Seat) → owned' z → owned z)
-      → ((z : Seat) → owned z → count' z ≡ count z) → ((z : Seat) → owned z → page' z ≡ page z) → AreCounted mode new owned' count' page' x d
-  counted_same x d counted forth back counts pages = record {
+  -- Of the seats that are owned afterwards each was owned before, at the same page, and its count changed as it is off.
+  counted_by : (x x' : Seat) (d d' : ℕ) → AreCounted mode old owned count page x d → ((z : Seat) → owned' z → owned z) → ((z : Seat) → owned z → page' z ≡ page z)
+      → ((z : Seat) → owned' z → count' z + off x d z ≡ count z + off x' d' z) → ((q p : ℕ) (z : Seat) → IsPage (top_level mode) p → seat (old q p) ≡ Some z → owned' z)
+      → AreCounted mode new owned' count' page' x' d'
+  counted_by x x' d d' counted back pages counts named = record {
     counts = λ z now. (
         let was = back z now in
         let here = counted.counts z was in
         let k = seats_kept old new z (page z) (λ q. same q (page z) (counted.pages z was)) in
-        counts z was ∙ here ∙ ap (λ v. v + off x d z) (sym k) ∙ ap (λ v. holders_at new v z + off x d z) (sym (pages z was)));
+        let c = counts z now in
+        rw (pages z was) (omega (arith, here, k, c)));
     pages = λ z now. (let was = back z now in let P : ℕ → Type 0 = λ v. IsPage (top_level mode) v in subst P (sym (pages z was)) (counted.pages z was));
-    named = λ q p z h is. forth z (counted.named q p z h (sym (same q p h) ∙ is));
+    named = λ q p z h is. named q p z h (sym (same q p h) ∙ is);
     noted = λ q p z h is. (let was = sym (same q p h) ∙ is in pages z (counted.named q p z h was) ∙ counted.noted q p z h was);
   }
+
+  pub counted_same : (x : Seat) (d : ℕ) → AreCounted mode old owned count page x d → ((z : Seat) → owned z → owned' z) → ((z : Seat) → owned' z → owned z)
+      → ((z : Seat) → owned z → count' z ≡ count z) → ((z : Seat) → owned z → page' z ≡ page z) → AreCounted mode new owned' count' page' x d
+  counted_same x d counted forth back counts pages =
+      counted_by x x d d counted back pages (λ z now. ap (λ v. v + off x d z) (counts z (back z now))) (λ q p z h is. forth z (counted.named q p z h is))
 
   unnamed : (x : Seat) → (x' : Seat) (d : ℕ) → AreCounted mode old owned count page x' d → (owned x → ⊥) → (p : ℕ) → IsPage (top_level mode) p → holders_at new p x ≡ 0
   unfolding holders_at
@@ -263,28 +237,8 @@ module _ (mode : ℕ) (old new : ℕ → ℕ → ℕ) (owned owned' : Seat → T
   -- one more shares a seat, and no entry names it for that yet
   pub counted_shared : (x x' : Seat) → AreCounted mode old owned count page x' 0 → ((z : Seat) → owned z → owned' z) → ((z : Seat) → owned' z → owned z)
       → ((z : Seat) → z ≢ x → owned z → count' z ≡ count z) → ((z : Seat) → owned z → page' z ≡ page z) → count' x ≡ count x + 1 → AreCounted mode new owned' count' page' x 1
-  counted_shared x x' counted forth back counts pages more = record {
-    counts = λ z now. (
-        let was = back z now in
-        let here = counted.counts z was in
-        let none = off-none x' z in
-        let k = seats_kept old new z (page z) (λ q. same q (page z) (counted.pages z was)) in
-        elim (cases_seat z x) [
-          | inl e ↦ (
-              let P : Seat → Type 0 = λ v. count' v ≡ count v + 1 in
-              let m = subst P (sym e) more in
-              let Q : Seat → Type 0 = λ v. off x 1 v ≡ 1 in
-              let o = subst Q (sym e) (off-here x 1) in
-              rw (pages z was) (omega (arith, here, none, k, m, o)))
-          | inr ne ↦ (
-              let c = counts z ne was in
-              let none' = off-other x 1 z (λ e. ne (sym e)) in
-              rw (pages z was) (omega (arith, here, none, k, c, none')))
-        ]);
-    pages = λ z now. (let was = back z now in let P : ℕ → Type 0 = λ v. IsPage (top_level mode) v in subst P (sym (pages z was)) (counted.pages z was));
-    named = λ q p z h is. forth z (counted.named q p z h (sym (same q p h) ∙ is));
-    noted = λ q p z h is. (let was = sym (same q p h) ∙ is in pages z (counted.named q p z h was) ∙ counted.noted q p z h was);
-  }
+  counted_shared x x' counted forth back counts pages more = counted_by x' x 0 1 counted back pages
+      (λ z now. (let b = by_one x z count count' more (λ ne. counts z ne (back z now)) in let none = off-none x' z in omega (arith, b, none))) (λ q p z h is. forth z (counted.named q p z h is))
 
   -- an entry that names a seat whose count is one too high isn't alone
   pub not_alone : (x : Seat) → AreCounted mode old owned count page x 1 → (q p : ℕ) → IsPage (top_level mode) p → q < 65 → seat (old q p) ≡ Some x → 1 < count x
@@ -302,56 +256,26 @@ module _ (mode : ℕ) (old new : ℕ → ℕ → ℕ) (owned owned' : Seat → T
   pub counted_released : (x x' : Seat) → AreCounted mode old owned count page x 1 → owned x → ((z : Seat) → (z ≢ x) ⊎ (1 < count z) → owned z → owned' z) → ((z : Seat) → owned' z → owned z)
       → ((z : Seat) → z ≢ x → owned z → count' z ≡ count z) → ((z : Seat) → owned z → page' z ≡ page z) → count' x + 1 ≡ count x
       → ((q p : ℕ) (z : Seat) → IsPage (top_level mode) p → seat (old q p) ≡ Some z → q < 65) → AreCounted mode new owned' count' page' x' 0
-  counted_released x x' counted held forth back counts pages less below = record {
-    counts = λ z now. (
-        let was = back z now in
-        let here = counted.counts z was in
-        let none = off-none x' z in
-        let k = seats_kept old new z (page z) (λ q. same q (page z) (counted.pages z was)) in
-        elim (cases_seat z x) [
-          | inl e ↦ (
-              let P : Seat → Type 0 = λ v. count' v + 1 ≡ count v in
-              let m = subst P (sym e) less in
-              let Q : Seat → Type 0 = λ v. off x 1 v ≡ 1 in
-              let o = subst Q (sym e) (off-here x 1) in
-              rw (pages z was) (omega (arith, here, none, k, m, o)))
-          | inr ne ↦ (
-              let c = counts z ne was in
-              let none' = off-other x 1 z (λ e. ne (sym e)) in
-              rw (pages z was) (omega (arith, here, none, k, c, none')))
-        ]);
-    pages = λ z now. (let was = back z now in let P : ℕ → Type 0 = λ v. IsPage (top_level mode) v in subst P (sym (pages z was)) (counted.pages z was));
-    named = λ q p z h is. (
-        let was = sym (same q p h) ∙ is in
-        elim (cases_seat z x) [
-          | inl e ↦ (
-              let more = not_alone x counted q p h (below q p z h was) (was ∙ ap (λ v. Some v) e) in
-              let P : Seat → Type 0 = λ v. 1 < count v in
-              forth z (inr (subst P (sym e) more)) (counted.named q p z h was))
-          | inr ne ↦ forth z (inl ne) (counted.named q p z h was)
-        ]);
-    noted = λ q p z h is. (let was = sym (same q p h) ∙ is in pages z (counted.named q p z h was) ∙ counted.noted q p z h was);
-  }
+  counted_released x x' counted held forth back counts pages less below = counted_by x x' 1 0 counted back pages
+      (λ z now. (let b = by_one x z count' count (sym less) (λ ne. sym (counts z ne (back z now))) in let none = off-none x' z in omega (arith, b, none)))
+      (λ q p z h is. (
+      let has = counted.named q p z h is in
+      elim (cases_seat z x) [
+        | inl e ↦ (
+            let P : Seat → Type 0 = λ v. 1 < count v in
+            forth z (inr (subst P (sym e) (not_alone x counted q p h (below q p z h is) (is ∙ ap (λ v. Some v) e)))) has)
+        | inr ne ↦ forth z (inl ne) has
+      ]))
 
   -- a seat that no entry names is nobody's now
   pub counted_left : (x x' : Seat) → AreCounted mode old owned count page x 1 → owned x → count x ≡ 1 → (owned' x → ⊥) → ((z : Seat) → z ≢ x → owned z → owned' z) → ((z : Seat) → owned' z → owned z)
       → ((z : Seat) → z ≢ x → owned z → count' z ≡ count z) → ((z : Seat) → owned z → page' z ≡ page z)
       → ((q p : ℕ) (z : Seat) → IsPage (top_level mode) p → seat (old q p) ≡ Some z → q < 65) → AreCounted mode new owned' count' page' x' 0
-  counted_left x x' counted held one gone forth back counts pages below =
-      let alone : (q p : ℕ) → IsPage (top_level mode) p → seat (old q p) ≡ Some x → ⊥ = λ q p h is. (let more = not_alone x counted q p h (below q p x h is) is in omega (arith, more, one)) in
-      let ne : (z : Seat) → owned' z → z ≢ x = λ z now e. gone (subst owned' e now) in
-      record {
-        counts = λ z now. (
-            let was = back z now in
-            let here = counted.counts z was in
-            let none = off-none x' z in
-            let k = seats_kept old new z (page z) (λ q. same q (page z) (counted.pages z was)) in
-            let c = counts z (ne z now) was in
-            let none' = off-other x 1 z (λ e. ne z now (sym e)) in
-            rw (pages z was) (omega (arith, here, none, k, c, none')));
-        pages = λ z now. (let was = back z now in let P : ℕ → Type 0 = λ v. IsPage (top_level mode) v in subst P (sym (pages z was)) (counted.pages z was));
-        named = λ q p z h is. (
-            let was = sym (same q p h) ∙ is in
-            forth z (λ e. alone q p h (was ∙ ap (λ v. Some v) e)) (counted.named q p z h was));
-        noted = λ q p z h is. (let was = sym (same q p h) ∙ is in pages z (counted.named q p z h was) ∙ counted.noted q p z h was);
-      }
+  counted_left x x' counted held one gone forth back counts pages below = counted_by x x' 1 0 counted back pages
+      (λ z now. (
+      let ne : z ≢ x = λ e. gone (subst owned' e now) in
+      let c = counts z ne (back z now) in
+      let none = off-none x' z in
+      let none' = off-other x 1 z (λ e. ne (sym e)) in
+      omega (arith, c, none, none')))
+      (λ q p z h is. forth z (λ e. (let more = not_alone x counted q p h (below q p z h is) (is ∙ ap (λ v. Some v) e) in omega (arith, more, one))) (counted.named q p z h is))

@@ -13,18 +13,15 @@ use Rattle.page_tables.specs.Tree.{IsPage}
 use Rattle.page_tables.proofs.Data.{KeepsTrees, data_written}
 use Rattle.page_cache.specs.declared.place.Place.{Place}
 use Rattle.page_cache.specs.declared.place.Place.TheVariants.{Home, Frame, Slot}
-use Rattle.residency.specs.Seats.{Seat, InFrame, InSlot, seat, is_private}
+use Rattle.residency.specs.Seats.{Seat, seat, is_private}
 use Rattle.residency.specs.Picture.{Picture, entry, view, held, bytes_at, bytes_in, IsOwned, count_in, page_in}
 use Rattle.residency.specs.Parts.{IsRootedBut, IsGranting, IsEntryFor, IsFitBut, nowhere}
 use Rattle.residency.specs.Steps.{SameBeside, KeepsShares, SetsPage}
 use Rattle.residency.proofs.Entries.{entries_kept}
-use Rattle.residency.proofs.Granting.{granting_changed}
-use Rattle.residency.proofs.LeafSteps.{cases_attr}
 use Rattle.residency.proofs.Linked.{fit_same}
-use Rattle.residency.proofs.Moves.{behind_kept, owned_forth, owned_back, count_kept, page_kept, view_kept, view-none}
-use Rattle.residency.proofs.Places.{places_same, dirty_changed}
+use Rattle.residency.proofs.Moves.{cases_attr, owned_forth, owned_back, count_kept, page_kept, view_kept, view-none, counted_kept, bytes_same, set_by}
 use Rattle.residency.proofs.Rooted.{rooted_same}
-use Rattle.residency.proofs.Seats.{counted_same, counted_filled, off-none}
+use Rattle.residency.proofs.Seats.{counted_filled, off-none}
 use Rattle.residency.proofs.Ways.{by_page}
 
 -- a page whose own copy lies in the same seat, with the same bytes, is seen as before
@@ -44,17 +41,21 @@ each_view {mode = mode} old new granting at q p each = elim (cases_attr (old.at 
   | inr some ↦ each (let u = ((granting.user q).user_pages p some).1 in omega (arith, u, user_pages_fit mode))
 ]
 
--- file pages lie where they lay, and their bytes are the same
-bytes_there : {mode : ℕ} (old new : Picture mode) (x : Place) → new.slots ≡ old.slots → ((m : ℕ) → x ≡ Frame (record { 0 = m }) → bytes_of new.frames m ≡ bytes_of old.frames m)
-    → bytes_at new.frames new.slots x ≡ bytes_at old.frames old.slots x
-bytes_there old new Home slots same = refl
-bytes_there old new (Frame m) slots same = ap (λ (w : _). Some w) (same m.0 refl)
-bytes_there old new (Slot j) slots same = ap (λ t. Some (t.bytes j.0)) slots
+-- a page of a file or an object lies where it lay, and its bytes are the same
+bytes_there : {mode : ℕ} (old new : Picture mode) (x : Place) → ((m : ℕ) → x ≡ Frame (record { 0 = m }) → bytes_of new.frames m ≡ bytes_of old.frames m)
+    → ((k : ℕ) → x ≡ Slot (record { 0 = k }) → new.slots.bytes k ≡ old.slots.bytes k) → bytes_at new.frames new.slots x ≡ bytes_at old.frames old.slots x
+bytes_there old new Home frame slot = refl
+bytes_there old new (Frame m) frame slot = ap (λ (w : _). Some w) (frame m.0 refl)
+bytes_there old new (Slot k) frame slot = ap (λ (w : _). Some w) (slot k.0 refl)
+
+pub held_by : {mode : ℕ} (old new : Picture mode) (p : PageKey) → new.place p ≡ old.place p → ((m : ℕ) → old.place p ≡ Frame (record { 0 = m }) → bytes_of new.frames m ≡ bytes_of old.frames m)
+    → ((k : ℕ) → old.place p ≡ Slot (record { 0 = k }) → new.slots.bytes k ≡ old.slots.bytes k) → held new p ≡ held old p
+unfolding held
+held_by old new p place frame slot = ap (λ x. bytes_at new.frames new.slots x) place ∙ bytes_there old new (old.place p) frame slot
 
 pub held_same : {mode : ℕ} (old new : Picture mode) (p : PageKey) → new.place p ≡ old.place p → new.slots ≡ old.slots
     → ((m : ℕ) → old.place p ≡ Frame (record { 0 = m }) → bytes_of new.frames m ≡ bytes_of old.frames m) → held new p ≡ held old p
-unfolding held
-held_same old new p place slots same = ap (λ x. bytes_at new.frames new.slots x) place ∙ bytes_there old new (old.place p) slots same
+held_same old new p place slots frame = held_by old new p place frame (λ k there. ap (λ t. t.bytes k) slots)
 
 no_table : (r s : Role) → r ≡ s → s ≢ Table → r ≢ Table
 no_table r s e ne f = ne (sym e ∙ f)
@@ -63,16 +64,6 @@ no_table r s e ne f = ne (sym e ∙ f)
 module _ {mode : ℕ} (old new : Picture mode) (pid page number m : ℕ) (sets : SetsPage old new pid page number) (h : IsPage (top_level mode) page)
     (for : IsEntryFor new (old.at pid page) number) (rooted : IsRootedBut new m)
     (dirty : (p : PageKey) → is_valid number ≡ true → is_private number ≡ false → is_dirty number ≡ true → old.place p ≡ Frame (record { 0 = frame_of number }) → old.touched p ≡ true) where
-  granted : (x : Seat) (d : ℕ) → IsFitBut old x d m → IsGranting new
-  granted x d fit = granting_changed old new pid page fit.granting (behind_kept old new sets.beside)
-      (λ q p h' private one. sets.shares.counts (frame_of (entry old q p)) (fit.counted.1.named q p (InFrame (frame_of (entry old q p))) h' (rw private refl)) ∙ one)
-      sets.beside.at sets.others (let P : ℕ → Type 0 = λ e. IsEntryFor new (old.at pid page) e in subst P (sym sets.changed) for)
-
-  here : (p : PageKey) → is_valid (entry new pid page) ≡ true → is_private (entry new pid page) ≡ false → is_dirty (entry new pid page) ≡ true
-      → old.place p ≡ Frame (record { 0 = frame_of (entry new pid page) }) → old.touched p ≡ true
-  here p valid common bit at = dirty p (sym (ap is_valid sets.changed) ∙ valid) (sym (ap is_private sets.changed) ∙ common) (sym (ap is_dirty sets.changed) ∙ bit)
-      (at ∙ ap (λ x. Frame (record { 0 = frame_of x })) sets.changed)
-
   -- it names the seat that it named, or none as before
   module _ (same : seat number ≡ seat (entry old pid page)) where
     pub seats_set : (q p : ℕ) → IsPage (top_level mode) p → seat (entry new q p) ≡ seat (entry old q p)
@@ -85,40 +76,23 @@ module _ {mode : ℕ} (old new : Picture mode) (pid page number m : ℕ) (sets :
     ]
 
     pub fit_set : (x : Seat) (d : ℕ) → IsFitBut old x d m → IsFitBut new x d m
-    fit_set x d fit = record {
-      counted = (
-        fit.counted.0,
-        counted_same mode (entry old) (entry new) (IsOwned old) (IsOwned new) (count_in old) (count_in new) (page_in old fit.counted.0) (page_in new fit.counted.0)
-            seats_set x d fit.counted.1 (owned_forth old new sets.beside sets.shares) (owned_back old new sets.beside sets.shares) (count_kept old new sets.beside sets.shares)
-            (λ z is. page_kept old new fit.counted.0 sets.beside z),
-      );
-      rooted = rooted;
-      granting = granted x d fit;
-      places = places_same old new fit.places sets.beside.place sets.beside.at sets.beside.files sets.beside.slots sets.shares.cache sets.shares.was_cache;
-      dirty = dirty_changed old new pid page fit.dirty sets.beside.place sets.beside.touched sets.others here;
-    }
+    fit_set x d fit = set_by old new pid page number m sets for rooted dirty x x d d fit
+        (counted_kept old new sets.shares sets.beside.slots sets.beside.page_of sets.beside.place x d seats_set fit.counted)
 
   -- it names seat y, whose count was off, and named none before
   pub fit_filled : (y : Seat) → IsFitBut old y 1 m → IsOwned old y → (noted : (sp : ℕ → ℕ) → page_in old sp y ≡ page) → pid < 65 → seat (entry old pid page) ≡ None → seat number ≡ Some y
       → IsFitBut new nowhere 0 m
-  fit_filled y fit has noted below from to = record {
-    counted = (
-      fit.counted.0,
-      counted_filled mode (entry old) (entry new) (IsOwned old) (IsOwned new) (count_in old) (count_in new) (page_in old fit.counted.0) (page_in new fit.counted.0)
-          y pid page fit.counted.1 (owned_forth old new sets.beside sets.shares) (owned_back old new sets.beside sets.shares) (count_kept old new sets.beside sets.shares)
-          (λ z is. page_kept old new fit.counted.0 sets.beside z) has (noted fit.counted.0) h below from (ap seat sets.changed ∙ to) sets.others nowhere (off-none nowhere),
-    );
-    rooted = rooted;
-    granting = granted y 1 fit;
-    places = places_same old new fit.places sets.beside.place sets.beside.at sets.beside.files sets.beside.slots sets.shares.cache sets.shares.was_cache;
-    dirty = dirty_changed old new pid page fit.dirty sets.beside.place sets.beside.touched sets.others here;
-  }
+  fit_filled y fit has noted below from to = set_by old new pid page number m sets for rooted dirty y nowhere 1 0 fit (
+    fit.counted.0,
+    counted_filled mode (entry old) (entry new) (IsOwned old) (IsOwned new) (count_in old) (count_in new) (page_in old fit.counted.0) (page_in new fit.counted.0)
+        y pid page fit.counted.1 (owned_forth old new sets.beside sets.shares) (owned_back old new sets.beside sets.shares) (count_kept old new sets.beside sets.shares)
+        (λ z is. page_kept old new fit.counted.0 sets.beside z) has (noted fit.counted.0) h below from (ap seat sets.changed ∙ to) sets.others nowhere (off-none nowhere),
+  )
 
 -- what is seen where an entry was set
 module _ {mode : ℕ} (old new : Picture mode) (pid page number m : ℕ) (x : Seat) (d : ℕ) (fit : IsFitBut old x d m) (sets : SetsPage old new pid page number) where
   seat_bytes : (z : Seat) → IsOwned old z → bytes_in new.frames new.slots z ≡ bytes_in old.frames old.slots z
-  seat_bytes (InFrame n) is = sets.bytes n (no_table (role_of old.frames n) Private is (λ e. (cc)))
-  seat_bytes (InSlot k) is = ap (λ t. t.bytes k) sets.beside.slots
+  seat_bytes = bytes_same old new sets.beside.slots (λ n is. sets.bytes n (no_table (role_of old.frames n) Private is (λ e. (cc))))
 
   pub other_views : (q p : ℕ) → (q ≢ pid) ⊎ (p ≢ page) → view new q p ≡ view old q p
   other_views q p other = each_view old new fit.granting sets.beside.at q p (λ h. view_seated old new q p (sets.beside.at q p) (ap seat (sets.others q p h other))

@@ -1,6 +1,6 @@
 -- Where no frame is to be had, memory is full of tables.
 use Rattle.std.proofs.Common.{◌≡◌, ℕ, zero, suc, inl, inr, ◌+◌, ◌<◌, ◌≤◌, Bool, true, false, ◌||◌, ◌==◌, Option, Some, None, refl, ap, arith, eq-eqb, ne_eqb}
-use Rattle.std.proofs.lemmas.Bool.{cases_eq, cases_Bool, false≢true}
+use Rattle.std.proofs.lemmas.Bool.{cases_eq, cases_Bool, or_left, or_right}
 use Rattle.vm_types.specs.declared.number.FrameNo.{FrameNo}
 use Rattle.vm_types.specs.declared.refusal.Stall.TheVariants.{NoFrames}
 use Rattle.vm_types.specs.Counting.{count_below}
@@ -10,6 +10,7 @@ use Rattle.frames.specs.FrameTable.{FrameTable, frame_count, role_of, IsFrame, I
 use Rattle.residency.specs.Picture.{Picture, is_data}
 use Rattle.residency.specs.Calls.{IsToKeep, Refuses}
 use Rattle.residency.specs.Capacity.{is_table, table_frames}
+use Rattle.residency.proofs.Counts.{count-all}
 
 count-or : (f g : ℕ → Bool) (n : ℕ) → count_below (λ k. f k || g k) n ≤ count_below f n + count_below g n
 unfolding count_below
@@ -35,11 +36,6 @@ count-point x (suc n) = elim (cases_eq n x) [
   | inr ne ↦ (let rest = count-point x n in rw (ne_eqb n x ne) (omega (arith, rest)))
 ]
 
-count-full : (f : ℕ → Bool) (n : ℕ) → ((k : ℕ) → k < n → f k ≡ true) → count_below f n ≡ n
-unfolding count_below
-count-full f zero each = refl
-count-full f (suc n) each = let rest = count-full f n (λ k lt. each k (omega (arith, lt))) in rw (each n (omega arith)) (omega (arith, rest))
-
 abbrev kept_number : Option FrameNo → ℕ
 kept_number None = 0
 kept_number (Some k) = k.0
@@ -49,14 +45,6 @@ abbrev is_bound : FrameTable → Option FrameNo → ℕ → Bool
 is_bound t keep n = is_table (role_of t n) || ((n == 0) || (n == kept_number keep))
 
 module _ {mode : ℕ} (c : Picture mode) (keep : Option FrameNo) (sound : IsSound c.frames) (refuses : Refuses c keep NoFrames) where
-  or_right : (a b : Bool) → b ≡ true → (a || b) ≡ true
-  or_right false b t = t
-  or_right true b t = refl
-
-  or_left : (a b : Bool) → a ≡ true → (a || b) ≡ true
-  or_left false b t = absurd (false≢true t)
-  or_left true b t = refl
-
   kept : (keep' : Option FrameNo) (n : ℕ) → ((IsToKeep keep' n → ⊥) → ⊥) → (n == kept_number keep') ≡ true
   kept None n not_not = absurd (not_not (λ none. none))
   kept (Some k) n not_not = elim (cases_eq n k.0) [
@@ -74,7 +62,7 @@ module _ {mode : ℕ} (c : Picture mode) (keep : Option FrameNo) (sound : IsSoun
   pub few_frames : frame_count c.frames ≤ table_frames c.frames + 2
   unfolding table_frames
   few_frames =
-      let all = count-full (is_bound c.frames keep) (frame_count c.frames) (λ k lt. bound k lt (role_of c.frames k) refl) in
+      let all = count-all (is_bound c.frames keep) (frame_count c.frames) (λ k lt. bound k lt (role_of c.frames k) refl) in
       let a = count-or (λ n. is_table (role_of c.frames n)) (λ n. (n == 0) || (n == kept_number keep)) (frame_count c.frames) in
       let b = count-or (λ n. n == 0) (λ n. n == kept_number keep) (frame_count c.frames) in
       let p = count-point 0 (frame_count c.frames) in

@@ -2,7 +2,6 @@
 use Rattle.vm_types.specs.Limits.{top_level}
 use Rattle.std.proofs.Common.{◌≡◌, ◌≢◌, ℕ, ◌<◌, inl, inr, ◌⊎◌, true, Option, Some, get_or, length, refl, sym, ap, ◌∙◌, subst, arith}
 use Rattle.std.proofs.lemmas.Bool.{cases_eq, false≢true}
-use Rattle.vm_types.specs.declared.object.PageKey.{PageKey}
 use Rattle.vm_types.specs.declared.number.FrameNo.{FrameNo}
 use Rattle.frames.specs.declared.role.Role.{Role}
 use Rattle.frames.specs.declared.role.Role.TheVariants.{Free, Table, Cache}
@@ -11,24 +10,24 @@ use Rattle.sv39_walk.specs.Entry.{frame_of}
 use Rattle.std.proofs.lemmas.List.{get_or_past}
 use Rattle.swap.specs.declared.slots.Swap.{Swap}
 use Rattle.swap.specs.Slots.{IsInUse, slots_of}
-use Rattle.page_cache.specs.declared.place.Place.{Place}
 use Rattle.page_cache.specs.declared.place.Place.TheVariants.{Home, Frame, Slot}
 use Rattle.page_tables.specs.Tree.{IsPage, missing_of, last_table}
 use Rattle.page_tables.proofs.Ends.{missing_of-is}
 use Rattle.residency.specs.declared.leaves.Change.{Change}
-use Rattle.residency.specs.declared.leaves.Change.TheVariants.{Forget}
+use Rattle.residency.specs.declared.leaves.Change.TheVariants.{Forget, ClearAccessed}
 use Rattle.residency.specs.Seats.{is_swapped}
-use Rattle.residency.specs.Picture.{Picture, entry, held, bytes_at, is_data}
+use Rattle.residency.specs.Picture.{Picture, entry, held, is_data}
 use Rattle.residency.specs.Parts.{IsFit}
-use Rattle.residency.specs.Ages.{Same, Left}
+use Rattle.residency.specs.Ages.{Ages, Same, Cleared, Left}
 use Rattle.residency.specs.Calls.{Frees, KeepsPages, IsToKeep, IsStaying}
 use Rattle.residency.specs.Evictions.{Spares, GivesUp}
-use Rattle.residency.specs.Leaves.{ChangesLeaves, IsOver}
+use Rattle.residency.specs.Leaves.{ChangesLeaves, IsChanged, IsOver}
 use Rattle.residency.proofs.Aging.{ages_then}
 use Rattle.residency.proofs.Bits.{some_framed}
 use Rattle.residency.proofs.LeafSteps.{over_common}
 use Rattle.residency.proofs.Places.{one_frame}
 use Rattle.residency.proofs.Shown.{keeps_then}
+use Rattle.residency.proofs.Setting.{held_same}
 
 no_data : (r : Role) → r ≡ Free → is_data r ≡ true → ⊥
 no_data r free datum = false≢true (sym (ap is_data free) ∙ datum)
@@ -40,14 +39,6 @@ stays_free v a b (inr gone) datum = absurd (no_data (role_of b.frames v) gone.0 
 module _ {mode : ℕ} where
   pub missing_ends : (old new : Picture mode) (r page : ℕ) → last_table new.frames page (top_level mode) r ≡ last_table old.frames page (top_level mode) r → missing_of new.frames (top_level mode) r page ≡ missing_of old.frames (top_level mode) r page
   missing_ends old new r page e = missing_of-is new.frames (top_level mode) r page ∙ ap (λ l. l.0) e ∙ sym (missing_of-is old.frames (top_level mode) r page)
-
-cases_place : (p : Place) (v : ℕ) → (p ≡ Frame (record { 0 = v })) ⊎ (p ≢ Frame (record { 0 = v }))
-cases_place Home v = inr (λ e. (cc))
-cases_place (Slot k) v = inr (λ e. (cc))
-cases_place (Frame n) v = elim (cases_eq n.0 v) [
-  | inl e ↦ inl (ap (λ i. Frame (record { 0 = i })) e)
-  | inr ne ↦ inr (λ e. ne (one_frame v n.0 (sym e)))
-]
 
 -- what stays isn't over a frame that isn't kept
 not_kept : (v : ℕ) (keep : Option FrameNo) → (IsToKeep keep v → ⊥) → (n : ℕ) → IsToKeep keep n → n ≢ v
@@ -97,38 +88,34 @@ module _ {mode : ℕ} (change : Change) (n : ℕ) (old new : Picture mode) (fit 
     | inr was ↦ absurd (not_over pid page was.0 stays)
   ]
 
-  bytes_there : (x : Place) → ((m : ℕ) → x ≡ Frame (record { 0 = m }) → role_of old.frames m ≢ Table) → bytes_at new.frames new.slots x ≡ bytes_at old.frames old.slots x
-  bytes_there Home datum = refl
-  bytes_there (Frame m) datum = ap (λ (w : _). Some w) (ch.bytes m.0 (datum m.0 refl))
-  bytes_there (Slot j) datum = ap (λ t. Some (t.bytes j.0)) ch.beside.slots
-
-  held_same : (p : PageKey) → held new p ≡ held old p
-  unfolding held
-  held_same p = ap (λ x. bytes_at new.frames new.slots x) (ch.beside.place p) ∙ bytes_there (old.place p) (λ m is table. (let bad : Cache ≡ Table = sym (fit.places.cached p m is) ∙ table in (cc)))
-
   pages_unchanged : KeepsPages old new
-  pages_unchanged = record { root = ch.beside.root; at = ch.beside.at; views = ch.views; files = record { held = λ p. inl (held_same p); touched = ch.beside.touched; files = ch.beside.files } }
+  pages_unchanged = record { root = ch.beside.root; at = ch.beside.at; views = ch.views; files = record { held = λ p. inl (held_same old new p (ch.beside.place p) ch.beside.slots (λ m is. ch.bytes m (λ t. (let bad : Cache ≡ Table = sym (fit.places.cached p m is) ∙ t in (cc))))); touched = ch.beside.touched; files = ch.beside.files } }
+
+  changes_spares : (k : ℕ) → ((pid page : ℕ) → IsPage (top_level mode) page → IsOver old change n pid page → IsChanged change (entry old pid page) (entry new pid page)
+      → Ages (λ m. m ≡ n) (entry old pid page) (entry new pid page)) → Spares n k old new
+  changes_spares k aged = record {
+    pages = pages_unchanged;
+    count = ch.frames;
+    roles = λ m ne. ch.roles m;
+    role = inl (ch.roles n);
+    counts = λ m ne. ch.counts m;
+    bytes = λ m ne. ch.bytes m;
+    ends = ch.ends;
+    entries = entries_unchanged;
+    ages = λ pid page h. elim (ch.entries pid page h) [
+      | inl same ↦ Same same
+      | inr was ↦ aged pid page h was.0 was.1
+    ];
+    pointers = ch.pointers;
+    slots = λ j ne used. (ap (λ t. t.bytes j) ch.beside.slots, ap (λ t. t.count j) ch.beside.slots);
+    total = ap (λ t. t.total) ch.beside.slots;
+    place = λ p ne. ch.beside.place p;
+  }
 
 -- entries over a file page's frame were forgotten
 pub forgotten_spares : {mode : ℕ} (n k : ℕ) (old new : Picture mode) → IsFit old → role_of old.frames n ≡ Cache → ChangesLeaves Forget n old new → Spares n k old new
-forgotten_spares n k old new fit cache ch = record {
-  pages = pages_unchanged Forget n old new fit ch;
-  count = ch.frames;
-  roles = λ m ne. ch.roles m;
-  role = inl (ch.roles n);
-  counts = λ m ne. ch.counts m;
-  bytes = λ m ne. ch.bytes m;
-  ends = ch.ends;
-  entries = entries_unchanged Forget n old new fit ch;
-  ages = λ pid page h. elim (ch.entries pid page h) [
-    | inl same ↦ Same same
-    | inr was ↦ Left was.0.concerned was.0.frame (inr (over_common old Forget n pid page fit h was.0 cache, was.1))
-  ];
-  pointers = ch.pointers;
-  slots = λ j ne used. (ap (λ t. t.bytes j) ch.beside.slots, ap (λ t. t.count j) ch.beside.slots);
-  total = ap (λ t. t.total) ch.beside.slots;
-  place = λ p ne. ch.beside.place p;
-}
+forgotten_spares n k old new fit cache ch =
+    changes_spares Forget n old new fit ch k (λ pid page h over none. Left over.concerned over.frame (inr (over_common old Forget n pid page fit h over cache, none)))
 
 pub spares_then : {mode : ℕ} (v k : ℕ) (a b c : Picture mode) → Spares v k a b → Spares v k b c → Spares v k a c
 spares_then v k a b c f g = record {
@@ -233,24 +220,10 @@ pub gives_frees : {mode : ℕ} (v : ℕ) (old new : Picture mode) (keep : Option
 gives_frees v old new keep gives above other =
     frees_of v gives.0 old new keep gives.2 above (λ j used. gives.2.slots j (λ e. (let P : ℕ → Type 0 = λ i. IsInUse old.slots i in gives.1 (subst P e used))) used) other
 
-pub changes_frees : {mode : ℕ} (change : Change) (n : ℕ) (old new : Picture mode) (keep : Option FrameNo) → IsFit old → ChangesLeaves change n old new → n ≢ 0 → (IsToKeep keep n → ⊥) → Frees old new keep
-changes_frees change n old new keep fit ch above other = record {
-  pages = pages_unchanged change n old new fit ch;
-  count = ch.frames;
-  roles = λ m. inl (ch.roles m);
-  missing = λ pid r page e. missing_ends old new r page (ch.ends pid r page e);
-  ends = ch.ends;
-  pointers = ch.pointers;
-  entries = λ pid page h stays. entries_unchanged change n old new fit ch pid page h (staying n keep above other (entry old pid page) stays);
-  slots = λ j used. (ap (λ t. t.bytes j) ch.beside.slots, ap (λ t. t.count j) ch.beside.slots);
-  total = ap (λ t. t.total) ch.beside.slots;
-  home = λ p e. ch.beside.place p ∙ e;
-  slotted = λ p j e. ch.beside.place p ∙ e;
-  kept_place = λ p m kept e. ch.beside.place p ∙ e;
-  kept_role = λ m kept. ch.roles m;
-  kept_count = λ m kept. ch.counts m;
-  kept_bytes = λ m kept. ch.bytes m;
-}
+pub cleared_frees : {mode : ℕ} (n : ℕ) (old new : Picture mode) (keep : Option FrameNo) → IsFit old → ChangesLeaves ClearAccessed n old new → n ≢ 0 → (IsToKeep keep n → ⊥) → Frees old new keep
+cleared_frees n old new keep fit ch above other =
+    frees_of n 0 old new keep (changes_spares ClearAccessed n old new fit ch 0 (λ pid page h over cleared. Cleared over.concerned cleared)) above
+    (λ j used. (ap (λ t. t.bytes j) ch.beside.slots, ap (λ t. t.count j) ch.beside.slots)) other
 
 -- a slot past the last isn't in use
 pub past_unused : {E : Type 0} (s : Swap E) → IsInUse (slots_of s) (slots_of s).total → ⊥

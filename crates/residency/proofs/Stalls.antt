@@ -1,11 +1,10 @@
 -- Why no frame was to be had, told by what processes see and files are touched.
-use Rattle.vm_types.specs.Limits.{user_end}
+use Rattle.vm_types.specs.Limits.{user_end, object_limit}
 use Rattle.std.proofs.Common.{◌≡◌, ◌≢◌, ℕ, inl, inr, ◌*◌, ◌^◌, ◌<◌, ◌≤◌, true, Option, Some, None, is_some, length, List, refl, sym, ap, ◌∙◌, subst, arith}
 use Rattle.std.specs.Prelude.{option_map, IfSome, ◌==◌}
 use Rattle.std.proofs.lemmas.Bool.{cases_lt, and_parts, eqb-true, false≢true}
 use Rattle.std.proofs.lemmas.List.{get_or_past}
 use Rattle.vm_types.specs.declared.number.FrameNo.{FrameNo}
-use Rattle.vm_types.specs.Limits.{object_limit}
 use Rattle.vm_types.specs.Attributes.{backing_fits}
 use Rattle.vm_types.specs.Objects.{names, uses, is_object_page, is_of_object}
 use Rattle.vm_types.specs.declared.object.ObjectPage.{ObjectPage}
@@ -52,9 +51,6 @@ used_inside t n sound used = elim (cases_lt n (length t.roles)) [
   | inl low ↦ (let roles = sound.all_roles in omega (arith, low, roles))
   | inr past ↦ absurd (used (get_or_past t.roles n Free past))
 ]
-
-below : (k length : ℕ) → 4096 * k < length → length < 2 ^ 32 → k < 2 ^ 20
-below k length inside most = omega (arith, inside, most)
 
 used_where : (a : Option Attr) (object page : ℕ) → names a object page ≡ true → uses a object ≡ true
 used_where None object page is = is

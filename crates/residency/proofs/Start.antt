@@ -14,6 +14,7 @@ use Rattle.page_cache.specs.declared.place.Place.TheVariants.{Home, Frame, Slot}
 use Rattle.residency.specs.Picture.{Picture, entry, is_private, entry_under, IsOwned}
 use Rattle.residency.specs.Seats.{Seat, InFrame, InSlot, seat}
 use Rattle.residency.specs.Parts.{IsFit, Nothing}
+use Rattle.frames.specs.declared.role.Role.{Role}
 
 pub no_bit : is_private 0 ≡ false
 unfolding has_bit
@@ -41,22 +42,10 @@ fresh_role t count n sound fresh = elim (cases_eq n 0) [
 module _ {mode : ℕ} (c : Picture mode) (count : ℕ) (sound : IsSound c.frames) (fresh : IsFresh c.frames count) (dead : (pid : ℕ) → c.root pid ≡ None)
     (unmapped : (pid page : ℕ) → c.at pid page ≡ None) (home : (p : PageKey) → c.place p ≡ Home) (untouched : (p : PageKey) → c.touched p ≡ false)
     (free : (k : ℕ) → c.slots.count k ≡ 0) where
-  no_private : (n : ℕ) → role_of c.frames n ≢ Private
-  no_private n e = elim (fresh_role c.frames count n sound fresh) [
-    | inl f ↦ (let bad : Free ≡ Private = sym f ∙ e in (cc))
-    | inr z ↦ (let bad : Zero ≡ Private = sym z ∙ e in (cc))
-  ]
-
-  no_cache : (n : ℕ) → role_of c.frames n ≢ Cache
-  no_cache n e = elim (fresh_role c.frames count n sound fresh) [
-    | inl f ↦ (let bad : Free ≡ Cache = sym f ∙ e in (cc))
-    | inr z ↦ (let bad : Zero ≡ Cache = sym z ∙ e in (cc))
-  ]
-
-  no_table : (n : ℕ) → role_of c.frames n ≢ Table
-  no_table n e = elim (fresh_role c.frames count n sound fresh) [
-    | inl f ↦ (let bad : Free ≡ Table = sym f ∙ e in (cc))
-    | inr z ↦ (let bad : Zero ≡ Table = sym z ∙ e in (cc))
+  is_not : (n : ℕ) (r : Role) → Free ≢ r → Zero ≢ r → role_of c.frames n ≢ r
+  is_not n r free zero e = elim (fresh_role c.frames count n sound fresh) [
+    | inl f ↦ free (sym f ∙ e)
+    | inr z ↦ zero (sym z ∙ e)
   ]
 
   no_root : (pid r : ℕ) → c.root pid ≡ Some r → ⊥
@@ -66,7 +55,7 @@ module _ {mode : ℕ} (c : Picture mode) (count : ℕ) (sound : IsSound c.frames
   no_seat pid page y e = let none : seat (entry c pid page) ≡ None = ap seat (entry-dead c pid page (dead pid)) ∙ seat-none in let bad : None ≡ Some y = sym none ∙ e in (cc)
 
   not_owned : (y : Seat) → IsOwned c y → ⊥
-  not_owned (InFrame n) e = no_private n e
+  not_owned (InFrame n) e = is_not n Private (λ f. (cc)) (λ z. (cc)) e
   not_owned (InSlot k) e = let none = free k in let some = e.0 in omega (arith, none, some)
 
   no_frame : (p : PageKey) (n : ℕ) → c.place p ≡ Frame (record { 0 = n }) → ⊥
@@ -88,7 +77,7 @@ module _ {mode : ℕ} (c : Picture mode) (count : ℕ) (sound : IsSound c.frames
       roots = λ pid r e. absurd (no_root pid r e);
       apart = λ p q r e f. absurd (no_root p r e);
       numbers = λ pid r e. absurd (no_root pid r e);
-      used = λ m table. absurd (no_table m table.role);
+      used = λ m table. absurd (is_not m Table (λ f. (cc)) (λ z. (cc)) table.role);
     };
     granting = record {
       entries = λ pid page h. Nothing (entry-dead c pid page (dead pid));
@@ -104,7 +93,7 @@ module _ {mode : ℕ} (c : Picture mode) (count : ℕ) (sound : IsSound c.frames
     };
     places = record {
       cached = λ p n e. absurd (no_frame p n e);
-      held = λ n e. absurd (no_cache n e);
+      held = λ n e. absurd (is_not n Cache (λ f. (cc)) (λ z. (cc)) e);
       apart = λ p q e away. absurd (away (home p));
       slotted = λ p k e. (let bad : Home ≡ Slot (record { 0 = k }) = sym (home p) ∙ e in (cc));
       used = λ k some. absurd (let none = free k in omega (arith, none, some));

@@ -4,7 +4,7 @@ use Rattle.vm_types.proofs.Modes.{two_modes}
 use Rattle.std.proofs.Math.Nat.{div-add-mod, mod-lt, pow-succ'}
 use Rattle.page_tables.proofs.Pages.{fields_same}
 use Rattle.std.proofs.Common.{◌≡◌, ◌≢◌, ℕ, zero, suc, inl, inr, ◌+◌, ◌-◌, ◌*◌, ◌/◌, ◌%◌, ◌^◌, ◌<◌, ◌≤◌, Bool, true, false, ◌==◌, ◌&&◌, if◌then◌else◌, Option, Some, is_some, refl, sym, ap, ◌∙◌, subst, arith, eq-eqb, ne_eqb}
-use Rattle.std.proofs.lemmas.Bool.{cases_eq, cases_Bool, false≢true}
+use Rattle.std.proofs.lemmas.Bool.{cases_eq, cases_Bool, eqb-true, false≢true, and_parts}
 use Rattle.vm_types.specs.Capacity.{tables_of, tables_below}
 use Rattle.vm_types.specs.Counting.{any_below, count_below, sum_below}
 use Rattle.vm_types.specs.View.{View}
@@ -19,6 +19,7 @@ use Rattle.residency.specs.Picture.{Picture}
 use Rattle.residency.specs.Parts.{IsUsed, AsRoot, OnWay}
 use Rattle.residency.proofs.Pigeon.{pigeons}
 use Rattle.residency.proofs.Counts.{count-same, count-none, count-one}
+use Rattle.std.proofs.lemmas.Option.{same_Some}
 
 -- where a table is: at the root of a process, or over so many pages, 512 to a power: process, power and row
 pub data Spot : Type 0 where
@@ -71,28 +72,18 @@ spot_eq (Root p) (Below q l j) = false
 spot_eq (Below p k i) (Root q) = false
 spot_eq (Below p k i) (Below q l j) = (p == q) && ((k == l) && (i == j))
 
-eq_at : (p q : ℕ) → (p == q) ≡ true → p ≡ q
-eq_at p q t = elim (cases_eq p q) [
-  | inl e ↦ e
-  | inr ne ↦ absurd (false≢true (sym (ne_eqb p q ne) ∙ t))
-]
-
-both : (a b : Bool) → (a && b) ≡ true → (a ≡ true) × (b ≡ true)
-both false b t = absurd (false≢true t)
-both true b t = (refl, t)
-
 spot_same : (x : Spot) → spot_eq x x ≡ true
 spot_same (Root p) = eq-eqb p p refl
 spot_same (Below p k i) = rw (eq-eqb p p refl) (rw (eq-eqb k k refl) (eq-eqb i i refl))
 
 spot_is : (x y : Spot) → spot_eq x y ≡ true → x ≡ y
-spot_is (Root p) (Root q) t = ap (λ z. Root z) (eq_at p q t)
+spot_is (Root p) (Root q) t = ap (λ z. Root z) (eqb-true p q t)
 spot_is (Root p) (Below q l j) t = absurd (false≢true t)
 spot_is (Below p k i) (Root q) t = absurd (false≢true t)
 spot_is (Below p k i) (Below q l j) t =
-    let h = both (p == q) ((k == l) && (i == j)) t in
-    let m = both (k == l) (i == j) h.1 in
-    ap (λ z. Below z k i) (eq_at p q h.0) ∙ ap (λ z. Below q z i) (eq_at k l m.0) ∙ ap (λ z. Below q l z) (eq_at i j m.1)
+    let h = and_parts (p == q) ((k == l) && (i == j)) t in
+    let m = and_parts (k == l) (i == j) h.1 in
+    ap (λ z. Below z k i) (eqb-true p q h.0) ∙ ap (λ z. Below q z i) (eqb-true k l m.0) ∙ ap (λ z. Below q l z) (eqb-true i j m.1)
 
 abbrev pid_of : Spot → ℕ
 pid_of (Root p) = p
@@ -183,7 +174,7 @@ unfolding spots_up_to
 needed_up_to mode live views pid zero = omega arith
 needed_up_to mode live views pid (suc k) =
     let here = count-le (λ i. is_needed live views (Below pid (suc k) i)) (λ i. any_below (λ j. is_some (views pid (table_entries ^ suc k * i + j))) (table_entries ^ suc k))
-    (rows mode (suc k)) (λ i h. (both (live pid) _ h).1) in
+    (rows mode (suc k)) (λ i h. (and_parts (live pid) _ h).1) in
     let rest = needed_up_to mode live views pid k in
     omega (arith, here, rest)
 
@@ -285,11 +276,8 @@ module _ {mode : ℕ} (c : Picture mode) (live : ℕ → Bool) (views : ℕ → 
       (table_entries ^ (top_level mode - depth)) (page % table_entries ^ (top_level mode - depth)) (mod-lt page some)
       (ap (λ x. is_some (views pid x)) (div-add-mod page (table_entries ^ (top_level mode - depth))) ∙ here))
 
-  some_one : (x y : ℕ) → Some x ≡ Some y → x ≡ y
-  some_one x y e = (cc)
-
   one_root : (pid pid' r r' : ℕ) → pid ≡ pid' → root pid ≡ Some r → root pid' ≡ Some r' → r ≡ r'
-  one_root pid pid' r r' e is is' = some_one r r' (sym is ∙ ap root e ∙ is')
+  one_root pid pid' r r' e is is' = same_Some r r' (sym is ∙ ap root e ∙ is')
 
   apart : (n n' : ℕ) (u : IsUsed c mapped n) (u' : IsUsed c mapped n') → spot_of n u ≡ spot_of n' u' → n ≡ n'
   unfolding spot_of spot_on

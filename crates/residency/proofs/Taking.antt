@@ -11,7 +11,7 @@ use Rattle.page_tables.specs.Tree.{IsPage}
 use Rattle.page_tables.proofs.Data.{KeepsTrees, data_changed}
 use Rattle.residency.specs.Seats.{Seat, InFrame, InSlot, seat}
 use Rattle.residency.specs.Picture.{Picture, entry, view, held, bytes_in, IsOwned, count_in, page_in}
-use Rattle.residency.specs.Parts.{IsFit, IsFitBut, nowhere}
+use Rattle.residency.specs.Parts.{IsCountedBut, IsFit, IsFitBut, nowhere}
 use Rattle.residency.specs.Steps.{TakesOwn, ChangesFrame}
 use Rattle.residency.proofs.Entries.{entries_kept}
 use Rattle.residency.proofs.Granting.{granting_same}
@@ -94,38 +94,32 @@ module _ {mode : ℕ} (old new : Picture mode) (n : ℕ) (fit : IsFit old) (chan
     | inr ne ↦ sym (changes.frames.roles m ne) ∙ e
   ]
 
-  -- it is private, and no entry names it yet
-  pub fit_own : (page : ℕ) → role_of new.frames n ≡ Private → count_of new.frames n ≡ 1 → new.page_of n ≡ page → IsPage (top_level mode) page → IsFitBut new (InFrame n) 1 0
-  fit_own page role one noted h = record {
-    counted = (
-      fit.counted.0,
-      counted_fresh mode (entry old) (entry new) (IsOwned old) (IsOwned new) (count_in old) (count_in new) (page_in old fit.counted.0) (page_in new fit.counted.0)
-          (λ q p h'. ap seat (entries_changed q p)) (InFrame n) nowhere page fit.counted.1
-          (λ is. private_ne n is refl) (λ z ne is. forth z is) back counts pages one noted h,
-    );
+  fit_by : (x : Seat) (d : ℕ) → role_of new.frames n ≢ Cache → IsCountedBut new x d → IsFitBut new x d 0
+  fit_by x d other counted = record {
+    counted = counted;
     rooted = rooted_same old new 0 fit.rooted trees_changed changes.root changes.at;
     granting = granting_same old new fit.granting (record { place = λ p m e. changes.place p ∙ e; files = changes.files })
-        (λ pid k h' own one'. changes.frames.counts (frame_of (entry old pid k)) (private_ne _ (fit.counted.1.named pid k (InFrame (frame_of (entry old pid k))) h' (rw own refl))) ∙ one') changes.at (λ pid k h'. entries_changed pid k);
-    places = places_same old new fit.places changes.place changes.at changes.files changes.slots (λ m e. changes.frames.roles m (cache_ne m e) ∙ e)
-        (λ m e. cache_back m (λ c. (let bad : Private ≡ Cache = sym role ∙ c in (cc))) e);
-    dirty = dirty_same old new fit.dirty changes.place changes.touched (λ pid k h'. entries_changed pid k);
+        (λ pid k h own one. changes.frames.counts (frame_of (entry old pid k)) (private_ne _ (fit.counted.1.named pid k (InFrame (frame_of (entry old pid k))) h (rw own refl))) ∙ one) changes.at (λ pid k h. entries_changed pid k);
+    places = places_same old new fit.places changes.place changes.at changes.files changes.slots (λ m e. changes.frames.roles m (cache_ne m e) ∙ e) (λ m e. cache_back m other e);
+    dirty = dirty_same old new fit.dirty changes.place changes.touched (λ pid k h. entries_changed pid k);
   }
+
+  -- it is private, and no entry names it yet
+  pub fit_own : (page : ℕ) → role_of new.frames n ≡ Private → count_of new.frames n ≡ 1 → new.page_of n ≡ page → IsPage (top_level mode) page → IsFitBut new (InFrame n) 1 0
+  fit_own page role one noted h = fit_by (InFrame n) 1 (λ c. (let bad : Private ≡ Cache = sym role ∙ c in (cc))) (
+    fit.counted.0,
+    counted_fresh mode (entry old) (entry new) (IsOwned old) (IsOwned new) (count_in old) (count_in new) (page_in old fit.counted.0) (page_in new fit.counted.0)
+        (λ q p h'. ap seat (entries_changed q p)) (InFrame n) nowhere page fit.counted.1
+        (λ is. private_ne n is refl) (λ z ne is. forth z is) back counts pages one noted h,
+  )
 
   -- it is free again
   pub fit_spent : role_of new.frames n ≡ Free → IsFit new
   fit_spent free =
       let not_owned : (z : Seat) → IsOwned new z → z ≢ InFrame n = λ z is e. (let owned = subst (IsOwned new) e is in let bad : Private ≡ Free = sym owned ∙ free in (cc)) in
-      record {
-        counted = (
-          fit.counted.0,
-          counted_same mode (entry old) (entry new) (IsOwned old) (IsOwned new) (count_in old) (count_in new) (page_in old fit.counted.0) (page_in new fit.counted.0)
-              (λ q p h. ap seat (entries_changed q p)) nowhere 0 fit.counted.1 forth (λ z is. back z (not_owned z is) is)
-              (λ z is. counts z (owned_ne z is) is) (λ z is. pages z (owned_ne z is) is),
-        );
-        rooted = rooted_same old new 0 fit.rooted trees_changed changes.root changes.at;
-        granting = granting_same old new fit.granting (record { place = λ p m e. changes.place p ∙ e; files = changes.files })
-            (λ pid k h' own one'. changes.frames.counts (frame_of (entry old pid k)) (private_ne _ (fit.counted.1.named pid k (InFrame (frame_of (entry old pid k))) h' (rw own refl))) ∙ one') changes.at (λ pid k h'. entries_changed pid k);
-        places = places_same old new fit.places changes.place changes.at changes.files changes.slots (λ m e. changes.frames.roles m (cache_ne m e) ∙ e)
-            (λ m e. cache_back m (λ c. (let bad : Free ≡ Cache = sym free ∙ c in (cc))) e);
-        dirty = dirty_same old new fit.dirty changes.place changes.touched (λ pid k h'. entries_changed pid k);
-      }
+      fit_by nowhere 0 (λ c. (let bad : Free ≡ Cache = sym free ∙ c in (cc))) (
+        fit.counted.0,
+        counted_same mode (entry old) (entry new) (IsOwned old) (IsOwned new) (count_in old) (count_in new) (page_in old fit.counted.0) (page_in new fit.counted.0)
+            (λ q p h. ap seat (entries_changed q p)) nowhere 0 fit.counted.1 forth (λ z is. back z (not_owned z is) is)
+            (λ z is. counts z (owned_ne z is) is) (λ z is. pages z (owned_ne z is) is),
+      )

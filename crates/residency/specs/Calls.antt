@@ -157,6 +157,7 @@ module _ {M : Type 0} {m : Levels.Ghosts M} {D E : Type 0} where
     pub pages : new.swap.pages ≡ old.swap.pages
     pub roots : new.roots ≡ old.roots
     pub regions : new.regions ≡ old.regions
+    pub clock : new.clock ≡ old.clock
     pub page_of : new.page_of ≡ old.page_of
     pub refused : new.refused ≡ old.refused
 
@@ -166,6 +167,7 @@ module _ {M : Type 0} {m : Levels.Ghosts M} {D E : Type 0} where
     pub swap : new.swap ≡ old.swap
     pub frames : new.frames ≡ old.frames
     pub cache : new.cache ≡ old.cache
+    pub clock : new.clock ≡ old.clock
     pub page_of : new.page_of ≡ old.page_of
     pub refused : new.refused ≡ old.refused
 
@@ -174,6 +176,7 @@ module _ {M : Type 0} {m : Levels.Ghosts M} {D E : Type 0} where
     pub store : new.store ≡ old.store
     pub swap : new.swap ≡ old.swap
     pub cache : new.cache ≡ old.cache
+    pub clock : new.clock ≡ old.clock
     pub page_of : new.page_of ≡ old.page_of
     pub refused : new.refused ≡ old.refused
 

@@ -127,6 +127,13 @@ module _ {M : Type 0} {m : Levels.Ghosts M} {D E : Type 0} where
     pub swap : new.swap ≡ old.swap
 
 module _ {M : Type 0} {m : Levels.Ghosts M} {D E : Type 0} (h : Ghosts E) where
+  -- a frame of memory that is fit may be put into a slot: one is free
+  pub record MayGoToSwap (c : Core D E M m) (n : ℕ) : Type 0 where
+    pub fit : IsFit (picture_of c)
+    pub swap : IsReady h c.swap
+    pub inside : IsFrame c.frames n
+    pub room : IsSwapFull (slots_of c.swap) → ⊥
+
   -- A frame that holds a page is given up:
   pub record Evicts {T : Type 0} (old new : Core D E M m) (victim : ℕ) (result : Result T Stall) : Type 0 where
     -- it is free,

@@ -1,14 +1,49 @@
 -- The entries over one frame, looked for and changed.
 use Rattle.vm_types.specs.declared.mode.Levels as Levels
-use Rattle.std.specs.Prelude.{ℕ, ◌<◌, ◌≤◌, Option, IfSome, IfNone}
-use Rattle.vm_types.specs.Limits.{top_level}
+use Rattle.std.specs.Prelude.{◌≡◌, ℕ, ◌<◌, ◌≤◌, true, Option, Some, IfSome, IfNone}
+use Rattle.vm_types.specs.Limits.{top_level, user_end}
+use Rattle.frames.specs.declared.role.Role.TheVariants.{Cache}
+use Rattle.frames.specs.FrameTable.{IsFrame, role_of}
 use Rattle.page_tables.specs.Tree.{IsPage}
 use Rattle.residency.specs.declared.kernel.Core.{Core}
 use Rattle.residency.specs.declared.leaves.Change.{Change}
-use Rattle.residency.specs.declared.leaves.LeafSearch.{LeafSearch}
-use Rattle.residency.specs.Picture.{Picture, picture_of}
+use Rattle.residency.specs.declared.leaves.Change.TheVariants.{Forget}
+use Rattle.residency.specs.declared.searches.LeafSearch.{LeafSearch}
+use Rattle.residency.specs.declared.searches.LiveProcess.{LiveProcess}
+use Rattle.residency.specs.Picture.{Picture, picture_of, is_data}
 use Rattle.residency.specs.Parts.{IsFit}
-use Rattle.residency.specs.Leaves.{IsOver, IsFirstOver, IsClear, ChangesLeaves, KeepsAllButFrames}
+use Rattle.residency.specs.Leaves.{AreKinds, Holds, IsOver, IsFirstOver, IsClear, ChangesLeaves, KeepsAllButFrames}
+
+-- frame n of memory that is fit holds a page of a process, a file or an object
+module _ {mode : ℕ} where
+  pub record HasData (c : Picture mode) (n : ℕ) : Type 0 where
+    pub fit : IsFit c
+    pub inside : IsFrame c.frames n
+    pub role : is_data (role_of c.frames n) ≡ true
+
+-- the process lives in memory that is fit
+module _ {mode : ℕ} where
+  pub record LivesIn (c : Picture mode) (p : LiveProcess) : Type 0 where
+    pub fit : IsFit c
+    pub root : c.root p.pid ≡ Some p.root.0
+
+-- In memory that is fit all entries that are looked for are in the trees of roots of these kinds.
+module _ {mode : ℕ} where
+  pub record IsAmong (c : Picture mode) (s : LeafSearch) (kinds : ℕ) : Type 0 where
+    pub fit : IsFit c
+    pub roots : AreKinds c s.change s.frame.0 kinds
+
+-- no page of the process but this one may have an entry that is looked for
+module _ {mode : ℕ} where
+  pub record IsOnlyOver (c : Picture mode) (s : LeafSearch) (pid page : ℕ) : Type 0 where
+    pub user : page < user_end mode
+    pub one : (k : ℕ) → IsPage (top_level mode) k → IsOver c s.change s.frame.0 pid k → k ≡ page
+
+-- the frame holds what it is said to, and entries are forgotten only over one that holds a page of a file or an object
+module _ {mode : ℕ} where
+  pub record IsChangeable (c : Picture mode) (s : LeafSearch) : Type 0 where
+    pub holds : Holds c s.frame.0 s.held
+    pub filed : s.change ≡ Forget → role_of c.frames s.frame.0 ≡ Cache
 
 -- the first page of a process from a page on that has an entry which is looked for, or none where no page has
 module _ {mode : ℕ} where

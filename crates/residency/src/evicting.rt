@@ -7,7 +7,7 @@ ghost use Rattle.swap.specs.Slots.{slots_of, IsReady, IsSwapFull};
 ghost use Rattle.residency.specs.Picture.{picture_of, is_data};
 ghost use Rattle.residency.specs.Parts.{IsFit};
 ghost use Rattle.residency.specs.Calls.{NeedsSlot};
-ghost use Rattle.residency.specs.Evictions.{Evicts, SendsHome};
+ghost use Rattle.residency.specs.Evictions.{MayGoToSwap, Evicts, SendsHome};
 
 use crate::kernel::Core;
 use crate::leaves::{Held, forget_leaves, held_in};
@@ -39,12 +39,9 @@ fn send_away<D, E: SectorDisk, M: Levels>(
     victim: FrameNo,
     page: PageKey,
 ) -> Result<(), Stall>
-    requires fit { IsFit (picture_of core.old) }
-    requires swap { IsReady E.SectorDisk core.old.swap }
-    requires inside { IsFrame core.old.frames victim.0 }
+    requires goes { MayGoToSwap E.SectorDisk core.old victim.0 }
     requires placed { (picture_of core.old).place page ≡ Frame victim }
     requires touched { (picture_of core.old).touched page ≡ true }
-    requires room { IsSwapFull (slots_of core.old.swap) → ⊥ }
     ensures { Evicts E.SectorDisk core.old core.new victim.0 result }
 {
     forget_leaves(core, victim);
@@ -67,11 +64,8 @@ fn send_copies<D, E: SectorDisk, M: Levels>(
     core: &mut Core<D, E, M>,
     victim: FrameNo,
 ) -> Result<(), Stall>
-    requires fit { IsFit (picture_of core.old) }
-    requires swap { IsReady E.SectorDisk core.old.swap }
-    requires inside { IsFrame core.old.frames victim.0 }
+    requires goes { MayGoToSwap E.SectorDisk core.old victim.0 }
     requires role { role_of core.old.frames victim.0 ≡ Roles.Private }
-    requires room { IsSwapFull (slots_of core.old.swap) → ⊥ }
     ensures { Evicts E.SectorDisk core.old core.new victim.0 result }
 {
     match core.swap.put(core.frames.bytes(victim)) {

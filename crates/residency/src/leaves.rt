@@ -12,10 +12,11 @@ ghost use Rattle.residency.specs.Parts.{IsFit};
 ghost use Rattle.residency.specs.declared.leaves.Change.{Change};
 ghost use Rattle.residency.specs.declared.leaves.Change.TheVariants as Kinds;
 ghost use Rattle.page_cache.specs.declared.place.Place.TheVariants.{Frame};
-ghost use Rattle.residency.specs.Leaves.{concerns, IsOver, IsChanged, Drops, Holds, HasEntryOver, AreKinds, IsPageOver, key_after};
-ghost use Rattle.residency.specs.LeafChanges.{FindsFirst, ClearsPage, ClearsProcess, ClearsFrame};
+ghost use Rattle.residency.specs.Leaves.{concerns, IsOver, IsChanged, Holds, HasEntryOver, AreKinds, IsPageOver, key_after};
+ghost use Rattle.residency.specs.LeafChanges.{HasData, LivesIn, IsAmong, IsOnlyOver, IsChangeable, FindsFirst, ClearsPage, ClearsProcess, ClearsFrame};
 
 use crate::kernel::{Core, PLACES};
+use crate::searches::{LeafSearch, LiveProcess};
 use frames::Role;
 use memory::{entry, entry_number, forget_pages, is_kind, kinds_over, set};
 use page_tables::Entry;
@@ -43,31 +44,9 @@ pub(crate) enum Held {
     Filed(PageKey),
 }
 
-/// What is looked for: entries over a frame that a change is for.
-#[derive(Clone, Copy)]
-pub(crate) struct LeafSearch {
-    /// The frame.
-    pub(crate) frame: FrameNo,
-    /// What it holds.
-    pub(crate) held: Held,
-    /// The change.
-    pub(crate) change: Change,
-}
-
-/// A live process.
-#[derive(Clone, Copy)]
-pub(crate) struct LiveProcess {
-    /// Its number.
-    pub(crate) pid: usize,
-    /// Its root table.
-    pub(crate) root: FrameNo,
-}
-
 /// What the frame holds.
 pub(crate) fn held_in<D, E, M: Levels>(core: &Core<D, E, M>, frame: FrameNo) -> Held
-    requires fit { IsFit (picture_of core.now) }
-    requires inside { IsFrame core.now.frames frame.0 }
-    requires data { is_data (role_of core.now.frames frame.0) ≡ true }
+    requires { HasData (picture_of core.now) frame.0 }
     ensures holds { Holds (picture_of core.now) frame.0 result }
     ensures above { 0 < frame.0 }
 {
@@ -98,8 +77,7 @@ fn is_over<D, E, M: Levels>(
     page: Vpn,
     search: &LeafSearch,
 ) -> bool
-    requires fit { IsFit (picture_of core.now) }
-    requires lives { (picture_of core.now).root process.pid ≡ Some process.root.0 }
+    requires lives { LivesIn (picture_of core.now) process }
     ensures over { result ≡ true → IsOver (picture_of core.now) search.now.change search.now.frame.0 process.pid page }
     ensures other { result ≡ false → IsOver (picture_of core.now) search.now.change search.now.frame.0 process.pid page → ⊥ }
 {
@@ -107,23 +85,27 @@ fn is_over<D, E, M: Levels>(
     is_concerned(entry, search.change) && entry.frame() == u64::from(search.frame.0)
 }
 
-/// The first page of a process from a page on that has an entry over the frame that the change is for.
+/// The first page of a process from a page on that has an entry over the frame that the change is for: that of the own copy, that
+/// which is noted for the frame, or else the first that stands on what the frame holds.
 pub(crate) fn find_in<D, E, M: Levels>(
     core: &Core<D, E, M>,
     process: LiveProcess,
     low: u64,
     search: &LeafSearch,
 ) -> Option<Vpn>
-    requires fit { IsFit (picture_of core.now) }
-    requires lives { (picture_of core.now).root process.pid ≡ Some process.root.0 }
-    requires above { 0 < search.now.frame.0 }
-    requires number { process.pid < 65 }
+    requires lives { LivesIn (picture_of core.now) process }
     requires holds { Holds (picture_of core.now) search.now.frame.0 search.now.held }
     ensures { FindsFirst (picture_of core.now) search.now process.pid low result }
 {
     match search.held {
-        Held::Own(page) => find_own(core, process, low, page, search),
-        Held::Filed(page) => find_filed(core, process, low, page, search),
+        Held::Own(page) => match Vpn::new::<M>(page) {
+            Some(at) => find_at(core, process, low, at, search),
+            None => None,
+        },
+        Held::Filed(page) => match memory::page_over(&core.frames, search.frame) {
+            Some(at) => find_at(core, process, low, at, search),
+            None => find_standing(core, process, low, page, search),
+        },
     }
 }
 
@@ -135,68 +117,14 @@ fn find_at<D, E, M: Levels>(
     page: Vpn,
     search: &LeafSearch,
 ) -> Option<Vpn>
-    requires fit { IsFit (picture_of core.now) }
-    requires lives { (picture_of core.now).root process.pid ≡ Some process.root.0 }
-    requires user { page < user_end M.mode }
-    requires only { (k : ℕ) → IsPage (top_level M.mode) k → IsOver (picture_of core.now) search.now.change search.now.frame.0 process.pid k → k ≡ page }
+    requires lives { LivesIn (picture_of core.now) process }
+    requires only { IsOnlyOver (picture_of core.now) search.now process.pid page }
     ensures { FindsFirst (picture_of core.now) search.now process.pid low result }
 {
     if low <= page.get() && is_over(core, process, page, search) {
         Some(page)
     } else {
         None
-    }
-}
-
-/// The same where the frame has the own copy of a page.
-fn find_own<D, E, M: Levels>(
-    core: &Core<D, E, M>,
-    process: LiveProcess,
-    low: u64,
-    page: u64,
-    search: &LeafSearch,
-) -> Option<Vpn>
-    requires fit { IsFit (picture_of core.now) }
-    requires lives { (picture_of core.now).root process.pid ≡ Some process.root.0 }
-    requires above { 0 < search.now.frame.0 }
-    requires role { role_of core.now.frames search.now.frame.0 ≡ Roles.Private }
-    requires noted { (picture_of core.now).page_of search.now.frame.0 ≡ page }
-    ensures { FindsFirst (picture_of core.now) search.now process.pid low result }
-{
-    if page < low {
-        return None;
-    }
-    match Vpn::new::<M>(page) {
-        Some(at) => {
-            if is_over(core, process, at, search) {
-                Some(at)
-            } else {
-                None
-            }
-        }
-        None => None,
-    }
-}
-
-/// The same where the frame holds a page of a file or an object: at the page that is noted for the frame, or else at those that stand
-/// on what it holds.
-fn find_filed<D, E, M: Levels>(
-    core: &Core<D, E, M>,
-    process: LiveProcess,
-    low: u64,
-    page: PageKey,
-    search: &LeafSearch,
-) -> Option<Vpn>
-    requires fit { IsFit (picture_of core.now) }
-    requires lives { (picture_of core.now).root process.pid ≡ Some process.root.0 }
-    requires above { 0 < search.now.frame.0 }
-    requires number { process.pid < 65 }
-    requires placed { (picture_of core.now).place page ≡ Frame search.now.frame }
-    ensures { FindsFirst (picture_of core.now) search.now process.pid low result }
-{
-    match memory::page_over(&core.frames, search.frame) {
-        Some(at) => find_at(core, process, low, at, search),
-        None => find_standing(core, process, low, page, search),
     }
 }
 
@@ -208,10 +136,7 @@ fn find_standing<D, E, M: Levels>(
     page: PageKey,
     search: &LeafSearch,
 ) -> Option<Vpn>
-    requires fit { IsFit (picture_of core.now) }
-    requires lives { (picture_of core.now).root process.pid ≡ Some process.root.0 }
-    requires above { 0 < search.now.frame.0 }
-    requires number { process.pid < 65 }
+    requires lives { LivesIn (picture_of core.now) process }
     requires placed { (picture_of core.now).place page ≡ Frame search.now.frame }
     ensures { FindsFirst (picture_of core.now) search.now process.pid low result }
 {
@@ -287,8 +212,7 @@ fn change_at<D, E, M: Levels>(
     page: Vpn,
     search: &LeafSearch,
 )
-    requires fit { IsFit (picture_of core.old) }
-    requires lives { (picture_of core.old).root process.pid ≡ Some process.root.0 }
+    requires lives { LivesIn (picture_of core.old) process }
     requires user { page < user_end M.mode }
     requires over { IsOver (picture_of core.old) search.now.change search.now.frame.0 process.pid page }
     requires filed { search.now.change ≡ Kinds.Forget → role_of core.old.frames search.now.frame.0 ≡ Roles.Cache }
@@ -300,12 +224,8 @@ fn change_at<D, E, M: Levels>(
 
 /// Changes so each entry of a process that is over the frame.
 fn change_in<D, E, M: Levels>(core: &mut Core<D, E, M>, process: LiveProcess, search: &LeafSearch)
-    requires fit { IsFit (picture_of core.old) }
-    requires lives { (picture_of core.old).root process.pid ≡ Some process.root.0 }
-    requires above { 0 < search.now.frame.0 }
-    requires number { process.pid < 65 }
-    requires holds { Holds (picture_of core.old) search.now.frame.0 search.now.held }
-    requires filed { search.now.change ≡ Kinds.Forget → role_of core.old.frames search.now.frame.0 ≡ Roles.Cache }
+    requires lives { LivesIn (picture_of core.old) process }
+    requires held { IsChangeable (picture_of core.old) search.now }
     ensures { ClearsProcess search.now.change search.now.frame.0 process.pid core.old core.new }
 {
     let mut low = 0;
@@ -317,12 +237,9 @@ fn change_in<D, E, M: Levels>(core: &mut Core<D, E, M>, process: LiveProcess, se
 
 /// The same for the process of that number, where it lives. Entries over the frame are in the trees of roots of these kinds alone.
 fn change_of<D, E, M: Levels>(core: &mut Core<D, E, M>, pid: usize, kinds: u64, search: &LeafSearch)
-    requires kinds { AreKinds (picture_of core.old) search.now.change search.now.frame.0 kinds }
-    requires fit { IsFit (picture_of core.old) }
-    requires above { 0 < search.now.frame.0 }
+    requires among { IsAmong (picture_of core.old) search.now kinds }
     requires number { pid < 65 }
-    requires holds { Holds (picture_of core.old) search.now.frame.0 search.now.held }
-    requires filed { search.now.change ≡ Kinds.Forget → role_of core.old.frames search.now.frame.0 ≡ Roles.Cache }
+    requires held { IsChangeable (picture_of core.old) search.now }
     ensures { ClearsProcess search.now.change search.now.frame.0 pid core.old core.new }
 {
     match core.roots[pid] {
@@ -370,8 +287,7 @@ pub(crate) fn forget_leaves<D, E, M: Levels>(core: &mut Core<D, E, M>, frame: Fr
 
 /// The kinds of the roots in whose trees there may be entries over a frame that holds a page. Own copies aren't noted.
 fn kinds_of<D, E, M: Levels>(core: &Core<D, E, M>, held: Held, frame: FrameNo) -> u64
-    requires fit { IsFit (picture_of core.now) }
-    requires inside { IsFrame core.now.frames frame.0 }
+    requires has { HasData (picture_of core.now) frame.0 }
     requires holds { Holds (picture_of core.now) frame.0 held }
     ensures { (change : Change) → AreKinds (picture_of core.now) change frame.0 result }
 {
@@ -387,9 +303,7 @@ pub(crate) fn has_leaf<D, E, M: Levels>(
     frame: FrameNo,
     change: Change,
 ) -> bool
-    requires fit { IsFit (picture_of core.now) }
-    requires inside { IsFrame core.now.frames frame.0 }
-    requires data { is_data (role_of core.now.frames frame.0) ≡ true }
+    requires { HasData (picture_of core.now) frame.0 }
     ensures { (result ≡ true) ↔ HasEntryOver (picture_of core.now) change frame.0 }
 {
     let held = held_in(core, frame);
@@ -414,9 +328,7 @@ fn has_leaf_in<D, E, M: Levels>(
     kinds: u64,
     search: &LeafSearch,
 ) -> bool
-    requires kinds { AreKinds (picture_of core.now) search.now.change search.now.frame.0 kinds }
-    requires fit { IsFit (picture_of core.now) }
-    requires above { 0 < search.now.frame.0 }
+    requires among { IsAmong (picture_of core.now) search.now kinds }
     requires number { pid < 65 }
     requires holds { Holds (picture_of core.now) search.now.frame.0 search.now.held }
     ensures some { result ≡ true → HasEntryOver (picture_of core.now) search.now.change search.now.frame.0 }
@@ -451,10 +363,7 @@ fn changed(entry: Entry, change: Change) -> Entry
 /// The entry with A clear.
 fn without_accessed(leaf: Pte) -> Pte
     requires { is_accessed leaf.0 ≡ true }
-    ensures drops { Drops leaf.0 result.0 }
-    ensures dirty { is_dirty result.0 ≡ is_dirty leaf.0 }
-    ensures clear { is_accessed result.0 ≡ false }
-    ensures number { result.0 + 64 ≡ leaf.0 }
+    ensures { IsChanged Kinds.ClearAccessed leaf.0 result.0 }
 {
     leaf.without_accessed()
 }
@@ -462,10 +371,7 @@ fn without_accessed(leaf: Pte) -> Pte
 /// The entry with D clear.
 fn without_dirty(leaf: Pte) -> Pte
     requires { is_dirty leaf.0 ≡ true }
-    ensures drops { Drops leaf.0 result.0 }
-    ensures accessed { is_accessed result.0 ≡ is_accessed leaf.0 }
-    ensures clear { is_dirty result.0 ≡ false }
-    ensures number { result.0 + 128 ≡ leaf.0 }
+    ensures { IsChanged Kinds.ClearDirty leaf.0 result.0 }
 {
     leaf.without_dirty()
 }

@@ -24,6 +24,7 @@ mod leaves;
 mod looking;
 mod obtaining;
 mod processes;
+mod searches;
 mod shares;
 mod steps;
 mod views;

@@ -5,6 +5,7 @@ ghost use Rattle.frames.specs.FrameTable.{frame_count, IsFrame};
 ghost use Rattle.residency.specs.Picture.{picture_of};
 ghost use Rattle.residency.specs.Parts.{IsFit};
 ghost use Rattle.residency.specs.Calls.{IsSpareable, NeedsSlot};
+ghost use Rattle.residency.specs.LeafChanges.{HasData};
 ghost use Rattle.residency.specs.Evictions.{FindsVictim, IsAccessed, IsEvictable};
 
 use crate::kernel::Core;
@@ -34,11 +35,13 @@ impl<D, E, M: Levels> FrameView for Core<D, E, M> {
 
     fn evictable(&mut self, n: u32) -> bool {
         self.looks.raise();
-        is_evictable(self, self.keep, FrameNo(n))
+        let frame = FrameNo(n);
+        is_spareable(self, self.keep, frame) && (!needs_slot(self, frame) || !self.swap.is_full())
     }
 
     fn accessed(&self, n: u32) -> bool {
-        is_accessed(self, FrameNo(n))
+        let frame = FrameNo(n);
+        is_spareable(self, None, frame) && has_leaf(self, frame, Change::ClearAccessed)
     }
 
     fn clear(&mut self, n: u32) {
@@ -72,37 +75,18 @@ pub(crate) fn is_spareable<D, E, M: Levels>(
 }
 
 /// Whether the frame needs a slot to be given up.
-fn needs_slot<D, E, M: Levels>(core: &Core<D, E, M>, n: FrameNo) -> bool
-    requires fit { IsFit (picture_of core.now) }
-    requires inside { IsFrame core.now.frames n.0 }
-    ensures needs { result ≡ true → NeedsSlot (picture_of core.now) n.0 }
-    ensures other { NeedsSlot (picture_of core.now) n.0 → result ≡ true }
+fn needs_slot<D, E, M: Levels>(core: &Core<D, E, M>, frame: FrameNo) -> bool
+    requires { HasData (picture_of core.now) frame.0 }
+    ensures needs { result ≡ true → NeedsSlot (picture_of core.now) frame.0 }
+    ensures other { NeedsSlot (picture_of core.now) frame.0 → result ≡ true }
 {
-    match core.frames.role(n) {
+    match core.frames.role(frame) {
         Role::Private => true,
-        _ => match core.cache.page_in_frame(n) {
+        _ => match core.cache.page_in_frame(frame) {
             Some(page) => core.cache.is_touched(page),
             None => false,
         },
     }
-}
-
-/// Whether the frame may be given up now.
-fn is_evictable<D, E, M: Levels>(core: &Core<D, E, M>, keep: Option<FrameNo>, n: FrameNo) -> bool
-    requires fit { IsFit (picture_of core.now) }
-    requires inside { IsFrame core.now.frames n.0 }
-    ensures { (result ≡ true) ↔ IsEvictable (picture_of core.now) keep n.0 }
-{
-    is_spareable(core, keep, n) && (!needs_slot(core, n) || !core.swap.is_full())
-}
-
-/// Whether a leaf over the frame has A.
-fn is_accessed<D, E, M: Levels>(core: &Core<D, E, M>, n: FrameNo) -> bool
-    requires fit { IsFit (picture_of core.now) }
-    requires inside { IsFrame core.now.frames n.0 }
-    ensures { (result ≡ true) ↔ IsAccessed (picture_of core.now) n.0 }
-{
-    is_spareable(core, None, n) && has_leaf(core, n, Change::ClearAccessed)
 }
 
 /// A frame to be given up, chosen by the clock, which looks at each frame twice at most.

@@ -1,15 +1,14 @@
 //! The shares of a private frame, handed over to a slot one process after the other.
 ghost use Rattle.std.specs.Prelude.{◌≡◌, ◌≢◌, ◌<◌, Some, true, false};
 ghost use Rattle.vm_types.specs.Limits.{user_end};
-ghost use Rattle.frames.specs.FrameTable.{IsFrame, bytes_of};
-ghost use Rattle.swap.specs.Slots.{IsReady};
+ghost use Rattle.frames.specs.FrameTable.{bytes_of};
 ghost use Rattle.residency.specs.Seats.{InFrame, seat};
-ghost use Rattle.residency.specs.Picture.{picture_of, entry};
-ghost use Rattle.residency.specs.Evictions.{HasShare, IsHanding};
-ghost use Rattle.residency.specs.Handovers.{GivesShare, PassesShare, HandsOver};
+ghost use Rattle.residency.specs.Picture.{picture_of};
+ghost use Rattle.residency.specs.Evictions.{HasShare};
+ghost use Rattle.residency.specs.Handovers.{HasAt, MayHandOver, GivesShare, PassesShare, HandsOver};
 
 use crate::kernel::{Core, PLACES};
-use crate::leaves::LiveProcess;
+use crate::searches::LiveProcess;
 use disk_model::SectorDisk;
 use memory::{entry_number, set};
 use page_tables::Entry;
@@ -33,9 +32,7 @@ fn give_share<D, E, M: Levels>(
     slot: SlotNo,
 )
     requires share { HasShare (picture_of core.old) slot.0 page }
-    requires lives { (picture_of core.old).root process.pid ≡ Some process.root.0 }
-    requires user { page < user_end M.mode }
-    requires from { seat (entry (picture_of core.old) process.pid page) ≡ Some (InFrame frame.0) }
+    requires has { HasAt (picture_of core.old) process page frame.0 }
     requires same { (picture_of core.old).slots.bytes slot.0 ≡ bytes_of core.old.frames frame.0 }
     ensures { GivesShare frame.0 slot.0 process.pid page core.old core.new }
 {
@@ -51,11 +48,8 @@ fn pass_share<D, E: SectorDisk, M: Levels>(
     frame: FrameNo,
     slot: SlotNo,
 ) -> bool
-    requires ready { IsReady E.SectorDisk core.old.swap }
-    requires handing { IsHanding (picture_of core.old) frame.0 slot.0 page }
-    requires lives { (picture_of core.old).root process.pid ≡ Some process.root.0 }
-    requires user { page < user_end M.mode }
-    requires from { seat (entry (picture_of core.old) process.pid page) ≡ Some (InFrame frame.0) }
+    requires hands { MayHandOver E.SectorDisk core.old frame.0 slot.0 page }
+    requires has { HasAt (picture_of core.old) process page frame.0 }
     ensures { PassesShare E.SectorDisk frame.0 slot.0 process.pid page core.old core.new result }
 {
     let alone = core.frames.count(frame) == 1;
@@ -75,8 +69,7 @@ fn hand_one<D, E: SectorDisk, M: Levels>(
     frame: FrameNo,
     slot: SlotNo,
 ) -> bool
-    requires ready { IsReady E.SectorDisk core.old.swap }
-    requires handing { IsHanding (picture_of core.old) frame.0 slot.0 page }
+    requires hands { MayHandOver E.SectorDisk core.old frame.0 slot.0 page }
     requires number { pid < 65 }
     requires user { page < user_end M.mode }
     ensures { PassesShare E.SectorDisk frame.0 slot.0 pid page core.old core.new result }
@@ -97,9 +90,7 @@ pub(crate) fn hand_over<D, E: SectorDisk, M: Levels>(
     frame: FrameNo,
     slot: SlotNo,
 )
-    requires ready { IsReady E.SectorDisk core.old.swap }
-    requires inside { IsFrame core.old.frames frame.0 }
-    requires handing { IsHanding (picture_of core.old) frame.0 slot.0 ((picture_of core.old).page_of frame.0) }
+    requires { MayHandOver E.SectorDisk core.old frame.0 slot.0 ((picture_of core.old).page_of frame.0) }
     ensures { HandsOver E.SectorDisk frame.0 slot.0 core.old core.new }
 {
     let Some(page) = Vpn::new::<M>(core.page_of[frame.0 as usize]) else {

@@ -10,7 +10,8 @@ ghost use Rattle.residency.specs.Leaves.{IsOver, IsFirstOver};
 ghost use Rattle.residency.specs.Contents.{HasContent};
 
 use crate::kernel::Core;
-use crate::leaves::{Change, Held, LeafSearch, LiveProcess, find_in, held_in};
+use crate::leaves::{Change, Held, find_in, held_in};
+use crate::searches::{LeafSearch, LiveProcess};
 use vm_types::{FrameNo, Levels, PageKey, Pid, Vpn};
 
 /// What a frame of data holds.

@@ -2,8 +2,8 @@
 use Rattle.std.proofs.Common.{◌≡◌, ℕ, ◌+◌, ◌<◌, ◌≤◌, ◌-◌, min, List, [], ◌∷◌, ◌++◌, length, take, drop, sym, ap, ◌∙◌, arith, append_assoc, get_or, Option, MatchResult, Result, Ok, Err}
 use Rattle.std.proofs.lemmas.List.{take_all, take_more, take_min, take_rest, take-append-drop}
 use Rattle.std.proofs.Math.Seq.{take-add, take-append-add}
-use Rattle.std.specs.Io.KnownBytes.{Appends, Keeps}
-use Rattle.std.proofs.KnownBytes.{Appends-trans, Appends-nil, Appends-kept}
+use Rattle.std.specs.Io.KnownBytes.{Appends}
+use Rattle.std.proofs.KnownBytes.{Appends-trans}
 use Rattle.runner.specs.Bytes.{WritesBeginning}
 
 -- a line of at most 257 bytes goes on by as many as there is room for
@@ -27,9 +27,6 @@ taken_beginning old new bytes at taken = (take at bytes, taken, (drop at bytes, 
 
 pub taken_all : (old new : Option (List ℕ)) (bytes : List ℕ) (at : ℕ) → length bytes ≤ at → Appends old new (take at bytes) → Appends old new bytes
 taken_all old new bytes at all taken = rw (take_all at bytes all) at taken
-
-pub kept_none : (old new : Option (List ℕ)) → Keeps old new → Appends old new []
-kept_none old new kept = Appends-kept old old new [] (Appends-nil old) kept
 
 -- what follows on either side of a result
 pub match_both : {X Y A B P Q : Type 0} (r : Result X Y) → (A → P) → (B → Q) → MatchResult r (λ _. A) (λ _. B) → MatchResult r (λ _. P) (λ _. Q)

@@ -1,6 +1,5 @@
 -- How a run ends, after what it did before.
-use Rattle.std.proofs.Common.{◌≡◌, ◌≢◌, ℕ, ◌≤◌, List, [], ◌∷◌, ◌++◌, length, refl, sym, ap, subst, ◌∙◌, append_assoc, append-nil, arith, Option, inl, inr}
-use Rattle.std.proofs.lemmas.List.{length-take}
+use Rattle.std.proofs.Common.{◌≡◌, ◌≢◌, ℕ, List, [], ◌∷◌, ◌++◌, length, refl, sym, ap, subst, ◌∙◌, append_assoc, append-nil, Option, inl, inr}
 use Rattle.std.specs.Io.KnownBytes.{Appends, IsAtEnd}
 use Rattle.std.proofs.KnownBytes.{Appends-trans, Appends-nil}
 use Rattle.disk_model.specs.declared.sector_disk.SectorDisk.{Ghosts}
@@ -20,14 +19,6 @@ pub lines_of-open : (kept open_line : List ℕ) → HoldsOpenLine kept open_line
 lines_of-open kept [] begun some = let none : length kept ≡ 0 = ap length begun.front in absurd (some none)
 lines_of-open kept (b ∷ line) begun some = lines_of-unfinished b line begun.unfinished
 
--- an open line of which nothing is kept has no bytes
-pub nothing_open : (kept open_line : List ℕ) → HoldsOpenLine kept open_line → length kept ≡ 0 → open_line ≡ []
-nothing_open kept [] begun none = refl
-nothing_open kept (b ∷ line) begun none =
-    let kept_length = ap length begun.front ∙ length-take 257 (b ∷ line) in
-    let some : 1 ≤ length (b ∷ line) = omega arith in
-    absurd (omega arith)
-
 -- the lines of an open line, the bytes after it, and what follows
 pub lines_of-more : (open_line bytes more : List ℕ) (lines : List (List ℕ)) (rest : List ℕ) → Cuts (open_line ++ bytes) lines rest
     → lines_of (open_line ++ (bytes ++ more)) ≡ lines ++ lines_of (rest ++ more)
@@ -44,14 +35,6 @@ wrote_all old mid new pending text written half others sent wrote more =
     (Appends-trans old mid new written (half ++ others) wrote more)
 
 module _ {D E : Type 0} (g : Ghosts D) (h : Ghosts E) where
-  pub runs_no_last : (machine : Machine D E) (kept open_line pending : List ℕ) → HoldsOpenLine kept open_line → length kept ≡ 0
-      → RunsLast g h machine machine open_line pending pending
-  runs_no_last machine kept open_line pending begun none = record {
-    text = [];
-    runs = subst (λ l. CarriesOut g h machine (lines_of l) [] machine) (sym (nothing_open kept open_line begun none)) (refl, refl);
-    sent = sym (append-nil pending);
-  }
-
   pub runs_last : (old new : Machine D E) (kept open_line pending more text : List ℕ) → HoldsOpenLine kept open_line → length kept ≢ 0
       → Answers g h old kept text new → more ≡ pending ++ text → RunsLast g h old new open_line pending more
   runs_last old new kept open_line pending more text begun some answers sent = record {
@@ -97,9 +80,6 @@ module _ {D E : Type 0} (g : Ghosts D) (h : Ghosts E) where
     advances = record { lines = []; cuts = Cuts-none open_line begun.unfinished; runs = (refl, refl) };
     wrote = subst (Appends held held) (sym (append-nil pending ∙ none)) (Appends-nil held);
   }
-
-  pub break_ends : (remaining : Option (List ℕ)) (old new : Stage D E) (bytes : List ℕ) → BreaksOff g h old new bytes → Ends g h WriteFault remaining old new bytes
-  break_ends remaining old new bytes broke open_line begun = inl (broke open_line begun)
 
   -- what was pending is written out
   pub written_out : (old : Stage D E) (machine : Machine D E) (kept pending left : List ℕ) (held held_then : Option (List ℕ)) (bytes : List ℕ)

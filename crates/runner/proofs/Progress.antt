@@ -1,5 +1,5 @@
 -- How the engine goes on, line after line.
-use Rattle.std.proofs.Common.{◌≡◌, ◌≢◌, ℕ, ◌≤◌, List, [], ◌∷◌, ◌++◌, length, take, refl, sym, ap, subst, ◌∙◌, append_assoc, append-nil, inl, inr, arith, Option}
+use Rattle.std.proofs.Common.{◌≡◌, ◌≢◌, ℕ, ◌≤◌, List, [], ◌∷◌, ◌++◌, length, take, refl, sym, ap, subst, ◌∙◌, append_assoc, append-nil, inl, inr, arith, Option, Result}
 use Rattle.std.proofs.lemmas.List.{take_all, length-take-le, take-append-le}
 use Rattle.std.proofs.lemmas.List.Elements.{All-nil}
 use Rattle.std.proofs.lemmas.Bool.{cases_lt}
@@ -10,7 +10,9 @@ use Rattle.machine.specs.declared.machine.Machine.{Machine}
 use Rattle.trace_lang.specs.Lines.{HasNoNewline}
 use Rattle.runner.specs.Bytes.{WritesBeginning}
 use Rattle.runner.specs.Session.{Answers}
-use Rattle.runner.specs.Progress.{Stage, stage, HoldsOpenLine, Advances, ReadsAll, Breaks, GoesOn, BreaksOff}
+use Rattle.runner.specs.Progress.{Stage, stage, HoldsOpenLine, Advances, ReadsAll, Breaks, GoesOn, BreaksOff, TakesBytes}
+use Rattle.runner.specs.declared.output_buffer.WriteFault.{WriteFault}
+use Rattle.runner.proofs.Bytes.{match_both}
 use Rattle.runner.proofs.Lines.{Cuts-trans, Cuts-none, Cuts-bytes, Cuts-newline}
 use Rattle.runner.proofs.Session.{answers_line, CarriesOut-one, CarriesOut-append}
 
@@ -168,25 +170,21 @@ module _ {D E : Type 0} (g : Ghosts D) (h : Ghosts E) where
 
   -- A whole line with its newline, by what the newline does where the line is held. The line may stand in the buffer, or in the
   -- bytes behind an empty buffer.
-  pub goes_on_by_line : (old new : Machine D E) (kept line cleared pending more bytes : List ℕ) (held held_then : Option (List ℕ))
+  pub reads_line : (r : Result (Unit {0}) WriteFault) (old new : Machine D E) (kept line cleared pending more bytes : List ℕ) (held held_then : Option (List ℕ))
       → HasNoNewline bytes → line ≡ take 257 (kept ++ bytes) → cleared ≡ []
-      → GoesOn g h (stage old line pending held) (stage new [] more held_then) (10 ∷ [])
-      → GoesOn g h (stage old kept pending held) (stage new cleared more held_then) (bytes ++ 10 ∷ [])
-  goes_on_by_line old new kept line cleared pending more bytes held held_then unbroken is none ended =
-      let P : List ℕ → Type 0 = λ k. GoesOn g h (stage old kept pending held) (stage new k more held_then) (bytes ++ 10 ∷ []) in
-      subst P (sym none)
-      (GoesOn-trans (stage old kept pending held) (stage old line pending held) (stage new [] more held_then) bytes (10 ∷ [])
-      (goes_on_by_bytes old kept pending held bytes line unbroken is) ended)
-
-  pub breaks_in_line : (old new : Machine D E) (kept line cleared pending more bytes : List ℕ) (held held_then : Option (List ℕ))
-      → HasNoNewline bytes → line ≡ take 257 (kept ++ bytes) → cleared ≡ []
-      → BreaksOff g h (stage old line pending held) (stage new [] more held_then) (10 ∷ [])
-      → BreaksOff g h (stage old kept pending held) (stage new cleared more held_then) (bytes ++ 10 ∷ [])
-  breaks_in_line old new kept line cleared pending more bytes held held_then unbroken is none ended =
-      let P : List ℕ → Type 0 = λ k. BreaksOff g h (stage old kept pending held) (stage new k more held_then) (bytes ++ 10 ∷ []) in
-      subst P (sym none)
-      (breaks_after (stage old kept pending held) (stage old line pending held) (stage new [] more held_then) bytes (10 ∷ [])
-      (goes_on_by_bytes old kept pending held bytes line unbroken is) ended)
+      → TakesBytes g h r (stage old line pending held) (stage new [] more held_then) (10 ∷ [])
+      → TakesBytes g h r (stage old kept pending held) (stage new cleared more held_then) (bytes ++ 10 ∷ [])
+  reads_line r old new kept line cleared pending more bytes held held_then unbroken is none ended =
+      let before = stage old kept pending held in
+      let mid = stage old line pending held in
+      let after = stage new [] more held_then in
+      let goes = goes_on_by_bytes old kept pending held bytes line unbroken is in
+      let P : List ℕ → Type 0 = λ k. TakesBytes g h r before (stage new k more held_then) (bytes ++ 10 ∷ []) in
+      subst P (sym none) (record {
+        sound = ended.sound;
+        reads = match_both r (GoesOn-trans before mid after bytes (10 ∷ []) goes) (breaks_after before mid after bytes (10 ∷ []) goes) ended.reads;
+        room = ended.room;
+      })
 
   -- the bytes after a break stay unread
   pub breaks_before : (old new : Stage D E) (bytes more : List ℕ) → BreaksOff g h old new bytes → BreaksOff g h old new (bytes ++ more)

@@ -103,41 +103,24 @@ module _ {D E : Type 0} (g : Ghosts D) (h : Ghosts E) where
         ends = r.ends;
       }
 
-  -- a store that keeps the disk model to the end kept it from the beginning
-  kept_all : (old new : Machine D E) (lines : List (List ℕ)) (text : List ℕ) → CarriesOut g h old lines text new
-      → g.keeps_model (store_of new) → g.keeps_model (store_of old)
-  kept_all old new [] text carried keeps = subst (λ m. g.keeps_model (store_of m)) carried.1 keeps
-  kept_all old new (line ∷ lines) text carried keeps =
-      let mid = kept_all carried.0 new lines carried.2 carried.4 keeps in
-      elim carried.3 [
-        | inl o ↦ o.kept mid
-        | inr r ↦ subst (λ m. g.keeps_model (store_of m)) r.same mid
-      ]
+  -- devices that keep the disk model to the end kept it from the beginning
+  abbrev pub KeptModels : Machine D E → Machine D E → Type 0
+  KeptModels old new = (g.keeps_model (store_of new) → g.keeps_model (store_of old)) × (h.keeps_model (swap_of new) → h.keeps_model (swap_of old))
 
-  -- and so a swap device
-  swap_kept_all : (old new : Machine D E) (lines : List (List ℕ)) (text : List ℕ) → CarriesOut g h old lines text new
-      → h.keeps_model (swap_of new) → h.keeps_model (swap_of old)
-  swap_kept_all old new [] text carried keeps = subst (λ m. h.keeps_model (swap_of m)) carried.1 keeps
-  swap_kept_all old new (line ∷ lines) text carried keeps =
-      let mid = swap_kept_all carried.0 new lines carried.2 carried.4 keeps in
+  kept_all : (old new : Machine D E) (lines : List (List ℕ)) (text : List ℕ) → CarriesOut g h old lines text new → KeptModels old new
+  kept_all old new [] text carried = (subst (λ m. g.keeps_model (store_of m)) carried.1, subst (λ m. h.keeps_model (swap_of m)) carried.1)
+  kept_all old new (line ∷ lines) text carried =
+      let later = kept_all carried.0 new lines carried.2 carried.4 in
       elim carried.3 [
-        | inl o ↦ o.swap_kept mid
-        | inr r ↦ subst (λ m. h.keeps_model (swap_of m)) r.same mid
+        | inl o ↦ (λ k. o.kept (later.0 k), λ k. o.swap_kept (later.1 k))
+        | inr r ↦ subst (λ m. KeptModels m new) r.same later
       ]
 
   pub kept_trace : (end : RunEnd) (old new : Machine D E) (left left_then held held_then : Option (List ℕ)) (bytes : List ℕ)
-      → EndsSo g h end left_then (stage old [] [] held) (stage new [] [] held_then) bytes []
-      → g.keeps_model (store_of new) → g.keeps_model (store_of old)
-  kept_trace end old new left left_then held held_then bytes ended keeps =
+      → EndsSo g h end left_then (stage old [] [] held) (stage new [] [] held_then) bytes [] → KeptModels old new
+  kept_trace end old new left left_then held held_then bytes ended =
       let r = ran end old new left left_then held held_then bytes ended in
-      kept_all old new r.lines r.text r.runs keeps
-
-  pub swap_kept_trace : (end : RunEnd) (old new : Machine D E) (left left_then held held_then : Option (List ℕ)) (bytes : List ℕ)
-      → EndsSo g h end left_then (stage old [] [] held) (stage new [] [] held_then) bytes []
-      → h.keeps_model (swap_of new) → h.keeps_model (swap_of old)
-  swap_kept_trace end old new left left_then held held_then bytes ended keeps =
-      let r = ran end old new left left_then held held_then bytes ended in
-      swap_kept_all old new r.lines r.text r.runs keeps
+      kept_all old new r.lines r.text r.runs
 
 module _ {D E : Type 0} (g : Ghosts D) (h : Ghosts E)
     (only_now : (d : D) (image : Image) → g.keeps_model d → g.left_since d (g.moment d) image → MayLeave (g.content d) (g.unsynced d) image) where
@@ -192,7 +175,8 @@ module _ {D E : Type 0} (g : Ghosts D) (h : Ghosts E)
       let mid = carried.0 in
       elim carried.3 [
         | inl o ↦
-            let may = readable g h mid s o.command (kept_all g h mid new lines carried.2 carried.4 keeps) (swap_kept_all g h mid new lines carried.2 carried.4 swap_keeps) in
+            let kept = kept_all g h mid new lines carried.2 carried.4 in
+            let may = readable g h mid s o.command (kept.0 keeps) (kept.1 swap_keeps) in
             let step = o.steps s shows may in
             obeyed old mid new s line lines carried.1 carried.2 text o carried.5 step
             (relates mid new step.0 lines carried.2 carried.4 (face g h old mid s step.0 o.command o.reply step.1).shows keeps swap_keeps)

@@ -1,14 +1,16 @@
 -- How far the engine has come, by what it holds: the machine, the beginning of the open line, the bytes that the writer
 -- has not taken yet, and what the writer holds where that is known.
-use Rattle.std.specs.Prelude.{◌≡◌, ◌⊎◌, ℕ, List, ◌++◌, take, Option}
-use Rattle.std.specs.Io.KnownBytes.{Appends, IsAtEnd}
+use Rattle.std.specs.Prelude.{◌≡◌, ◌⊎◌, ℕ, ◌+◌, ◌<◌, ◌≤◌, List, [], ◌++◌, length, take, Option, Result, IfNone, OnOk, MatchOption, MatchResult}
+use Rattle.std.specs.Io.KnownBytes.{Appends, Consumes, IsAtEnd}
 use Rattle.disk_model.specs.declared.sector_disk.SectorDisk.{Ghosts}
 use Rattle.machine.specs.declared.machine.Machine.{Machine}
+use Rattle.machine.specs.Machine.{IsSoundMachine}
 use Rattle.trace_lang.specs.Lines.{Cuts, HasNoNewline, lines_of}
 use Rattle.runner.specs.declared.engine.RunEnd.{RunEnd}
 use Rattle.runner.specs.declared.engine.RunEnd.TheVariants.{Done, ReadFault, WriteFault}
+use Rattle.runner.specs.declared.output_buffer.WriteFault as Writing
 use Rattle.runner.specs.Bytes.{WritesBeginning}
-use Rattle.runner.specs.Session.{CarriesOut}
+use Rattle.runner.specs.Session.{Answers, CarriesOut}
 
 pub record Stage (D E : Type 0) : Type 0 where
   pub machine : Machine D E
@@ -93,3 +95,47 @@ module _ {D E : Type 0} (g : Ghosts D) (h : Ghosts E) where
   -- the run ends after these bytes, whatever the open line is that the buffer holds the beginning of
   abbrev pub Ends : RunEnd → Option (List ℕ) → Stage D E → Stage D E → List ℕ → Type 0
   Ends end left old new bytes = (open_line : List ℕ) → HoldsOpenLine old.kept open_line → EndsSo end left old new bytes open_line
+
+  -- a line may be answered: the machine may go on, and there is room for its reply
+  pub record MayAnswer (machine : Machine D E) (pending : List ℕ) : Type 0 where
+    pub sound : IsSoundMachine g h machine
+    pub room : length pending < 32768
+
+  -- A line was answered:
+  pub record AddsReply (old new : Machine D E) (line pending more : List ℕ) : Type 0 where
+    -- the machine may go on,
+    pub sound : IsSoundMachine g h new
+    -- and the text of its reply, of 1,024 bytes at most, was added to the output.
+    pub answers : (text : List ℕ) × Answers g h old line text new × (more ≡ pending ++ text)
+    pub room : length more ≤ length pending + 1024
+
+  -- Bytes of the trace were read:
+  pub record TakesBytes (result : Result (Unit {0}) Writing.WriteFault) (old new : Stage D E) (bytes : List ℕ) : Type 0 where
+    -- the machine may go on,
+    pub sound : IsSoundMachine g h new.machine
+    -- and all of them were, with room left for a reply, or the writer failed.
+    pub reads : MatchResult result (λ _. GoesOn old new bytes) (λ _. BreaksOff old new bytes)
+    pub room : OnOk result (length new.pending < 32768)
+
+  -- the last line was run where it has bytes, and the machine may go on
+  pub record RunsLastLine (old new : Machine D E) (kept pending more : List ℕ) : Type 0 where
+    pub sound : IsSoundMachine g h new
+    pub runs : (open_line : List ℕ) → HoldsOpenLine kept open_line → RunsLast old new open_line pending more
+
+  -- the run ended with the reader, and the machine may go on
+  pub record EndsWithReader (end : RunEnd) (old new : Stage D E) : Type 0 where
+    pub sound : IsSoundMachine g h new.machine
+    pub ends : (left : Option (List ℕ)) → IsAtEnd left → Ends end left old new []
+
+  -- One turn of a run, whose reader had so much left before and after it:
+  pub record TakesTurn (result : Option RunEnd) (had left : Option (List ℕ)) (old new : Stage D E) : Type 0 where
+    -- the machine may go on,
+    pub sound : IsSoundMachine g h new.machine
+    -- and the bytes that came were read, with nothing pending, or the run ended so.
+    pub empty : IfNone result (new.pending ≡ [])
+    pub reads : (bytes : List ℕ) × Consumes had left bytes × MatchOption result (GoesOn old new bytes) (λ end. Ends end left old new bytes)
+
+  -- All turns of a run, likewise, and how it ended.
+  pub record TakesTurns (end : RunEnd) (had left : Option (List ℕ)) (old new : Stage D E) : Type 0 where
+    pub sound : IsSoundMachine g h new.machine
+    pub reads : (bytes : List ℕ) × Consumes had left bytes × EndsSo end left old new bytes []

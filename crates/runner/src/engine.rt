@@ -3,8 +3,7 @@ ghost use Rattle.std.specs.Prelude.{◌≡◌, ℕ, List, Option, [], ◌∷◌,
 ghost use Rattle.std.specs.Io.KnownBytes.{Consumes, IsAtEnd};
 ghost use Rattle.machine.specs.Machine.{store_of, swap_of, past_of, IsSoundMachine, Shows};
 ghost use Rattle.vm_types.specs.State.{State};
-ghost use Rattle.runner.specs.Progress.{stage, HoldsOpenLine, RunsLast, GoesOn, BreaksOff, Ends, EndsSo};
-ghost use Rattle.runner.specs.Session.{Answers};
+ghost use Rattle.runner.specs.Progress.{stage, AddsReply, EndsWithReader, MayAnswer, RunsLastLine, TakesBytes, TakesTurn, TakesTurns};
 ghost use Rattle.trace_lang.specs.Lines.{HasNoNewline};
 ghost use Rattle.trace_lang.specs.Texts.{text_of};
 ghost use Rattle.vm_types.specs.declared.reply.Reply.TheVariants.{Past};
@@ -53,12 +52,8 @@ fn answer<D: SectorDisk, E: SectorDisk>(
     output: &mut OutputBuffer,
     machine: &mut Machine<D, E>,
 )
-    requires room { length output.old < 32768 }
-    requires sound { IsSoundMachine D.SectorDisk E.SectorDisk machine.old }
-    ensures room { length output.new ≤ length output.old + 1024 }
-    ensures sound { IsSoundMachine D.SectorDisk E.SectorDisk machine.new }
-    ensures answers { (text : List ℕ) × Answers D.SectorDisk E.SectorDisk machine.old line.now text machine.new
-        × (output.new ≡ output.old ++ text) }
+    requires { MayAnswer D.SectorDisk E.SectorDisk machine.old output.old }
+    ensures { AddsReply D.SectorDisk E.SectorDisk machine.old machine.new line.now output.old output.new }
 {
     match parse_line(line) {
         Ok(command) => match machine.carry_out(command) {
@@ -76,15 +71,9 @@ fn end_line<W: Write, D: SectorDisk, E: SectorDisk>(
     writer: &mut W,
     machine: &mut Machine<D, E>,
 ) -> Result<(), WriteFault>
-    requires room { length output.old < 32768 }
-    requires sound { IsSoundMachine D.SectorDisk E.SectorDisk machine.old }
-    ensures room { OnOk result (length output.new < 32768) }
-    ensures sound { IsSoundMachine D.SectorDisk E.SectorDisk machine.new }
-    ensures reads { MatchResult result
-        (λ _. GoesOn D.SectorDisk E.SectorDisk (stage machine.old line.now output.old (W.contents writer.old))
-        (stage machine.new [] output.new (W.contents writer.new)) (10 ∷ []))
-        (λ _. BreaksOff D.SectorDisk E.SectorDisk (stage machine.old line.now output.old (W.contents writer.old))
-        (stage machine.new [] output.new (W.contents writer.new)) (10 ∷ [])) }
+    requires { MayAnswer D.SectorDisk E.SectorDisk machine.old output.old }
+    ensures { TakesBytes D.SectorDisk E.SectorDisk result (stage machine.old line.now output.old (W.contents writer.old))
+        (stage machine.new [] output.new (W.contents writer.new)) (10 ∷ []) }
 {
     answer(line, output, machine);
     if output.is_full() {
@@ -111,16 +100,10 @@ fn run_line<W: Write, D: SectorDisk, E: SectorDisk>(
     writer: &mut W,
     machine: &mut Machine<D, E>,
 ) -> Result<(), WriteFault>
-    requires room { length output.old < 32768 }
-    requires sound { IsSoundMachine D.SectorDisk E.SectorDisk machine.old }
+    requires going { MayAnswer D.SectorDisk E.SectorDisk machine.old output.old }
     requires unbroken { HasNoNewline bytes.now }
-    ensures room { OnOk result (length output.new < 32768) }
-    ensures sound { IsSoundMachine D.SectorDisk E.SectorDisk machine.new }
-    ensures reads { MatchResult result
-        (λ _. GoesOn D.SectorDisk E.SectorDisk (stage machine.old line.old output.old (W.contents writer.old))
-        (stage machine.new line.new output.new (W.contents writer.new)) (bytes.now ++ 10 ∷ []))
-        (λ _. BreaksOff D.SectorDisk E.SectorDisk (stage machine.old line.old output.old (W.contents writer.old))
-        (stage machine.new line.new output.new (W.contents writer.new)) (bytes.now ++ 10 ∷ [])) }
+    ensures { TakesBytes D.SectorDisk E.SectorDisk result (stage machine.old line.old output.old (W.contents writer.old))
+        (stage machine.new line.new output.new (W.contents writer.new)) (bytes.now ++ 10 ∷ []) }
 {
     if line.is_empty() && bytes.len() <= MAX_LINE_BYTES {
         return end_line(bytes, output, writer, machine);
@@ -139,15 +122,9 @@ fn run_piece<W: Write, D: SectorDisk, E: SectorDisk>(
     writer: &mut W,
     machine: &mut Machine<D, E>,
 ) -> Result<(), WriteFault>
-    requires room { length output.old < 32768 }
-    requires sound { IsSoundMachine D.SectorDisk E.SectorDisk machine.old }
-    ensures room { OnOk result (length output.new < 32768) }
-    ensures sound { IsSoundMachine D.SectorDisk E.SectorDisk machine.new }
-    ensures reads { MatchResult result
-        (λ _. GoesOn D.SectorDisk E.SectorDisk (stage machine.old line.old output.old (W.contents writer.old))
-        (stage machine.new line.new output.new (W.contents writer.new)) piece.now)
-        (λ _. BreaksOff D.SectorDisk E.SectorDisk (stage machine.old line.old output.old (W.contents writer.old))
-        (stage machine.new line.new output.new (W.contents writer.new)) piece.now) }
+    requires { MayAnswer D.SectorDisk E.SectorDisk machine.old output.old }
+    ensures { TakesBytes D.SectorDisk E.SectorDisk result (stage machine.old line.old output.old (W.contents writer.old))
+        (stage machine.new line.new output.new (W.contents writer.new)) piece.now }
 {
     let mut rest = piece;
     while let Some(at) = newline_in(rest) {
@@ -169,15 +146,10 @@ fn take_piece<W: Write, D: SectorDisk, E: SectorDisk>(
     writer: &mut W,
     machine: &mut Machine<D, E>,
 ) -> Result<(), WriteFault>
-    requires room { length output.old < 32768 }
-    requires sound { IsSoundMachine D.SectorDisk E.SectorDisk machine.old }
+    requires { MayAnswer D.SectorDisk E.SectorDisk machine.old output.old }
     ensures empty { OnOk result (output.new ≡ []) }
-    ensures sound { IsSoundMachine D.SectorDisk E.SectorDisk machine.new }
-    ensures reads { MatchResult result
-        (λ _. GoesOn D.SectorDisk E.SectorDisk (stage machine.old line.old output.old (W.contents writer.old))
-        (stage machine.new line.new output.new (W.contents writer.new)) piece.now)
-        (λ _. BreaksOff D.SectorDisk E.SectorDisk (stage machine.old line.old output.old (W.contents writer.old))
-        (stage machine.new line.new output.new (W.contents writer.new)) piece.now) }
+    ensures reads { TakesBytes D.SectorDisk E.SectorDisk result (stage machine.old line.old output.old (W.contents writer.old))
+        (stage machine.new line.new output.new (W.contents writer.new)) piece.now }
 {
     match run_piece(piece, line, output, writer, machine) {
         Ok(()) => {}
@@ -192,11 +164,8 @@ fn answer_last<D: SectorDisk, E: SectorDisk>(
     output: &mut OutputBuffer,
     machine: &mut Machine<D, E>,
 )
-    requires room { length output.old < 32768 }
-    requires sound { IsSoundMachine D.SectorDisk E.SectorDisk machine.old }
-    ensures sound { IsSoundMachine D.SectorDisk E.SectorDisk machine.new }
-    ensures runs { (open_line : List ℕ) → HoldsOpenLine line.now open_line
-        → RunsLast D.SectorDisk E.SectorDisk machine.old machine.new open_line output.old output.new }
+    requires { MayAnswer D.SectorDisk E.SectorDisk machine.old output.old }
+    ensures { RunsLastLine D.SectorDisk E.SectorDisk machine.old machine.new line.now output.old output.new }
 {
     if line.is_empty() {
         return;
@@ -211,11 +180,9 @@ fn finish<W: Write, D: SectorDisk, E: SectorDisk>(
     writer: &mut W,
     machine: &mut Machine<D, E>,
 ) -> RunEnd
-    requires room { length output.old < 32768 }
-    requires sound { IsSoundMachine D.SectorDisk E.SectorDisk machine.old }
-    ensures sound { IsSoundMachine D.SectorDisk E.SectorDisk machine.new }
-    ensures ends { (left : Option (List ℕ)) → IsAtEnd left → Ends D.SectorDisk E.SectorDisk result left
-        (stage machine.old line.now output.old (W.contents writer.old)) (stage machine.new line.now output.new (W.contents writer.new)) [] }
+    requires { MayAnswer D.SectorDisk E.SectorDisk machine.old output.old }
+    ensures { EndsWithReader D.SectorDisk E.SectorDisk result (stage machine.old line.now output.old (W.contents writer.old))
+        (stage machine.new line.now output.new (W.contents writer.new)) }
 {
     answer_last(line, output, machine);
     match output.write_out(writer) {
@@ -265,14 +232,8 @@ fn turn<R: Read, W: Write, D: SectorDisk, E: SectorDisk>(
 ) -> Option<RunEnd>
     requires empty { output.old ≡ [] }
     requires sound { IsSoundMachine D.SectorDisk E.SectorDisk machine.old }
-    ensures empty { IfNone result (output.new ≡ []) }
-    ensures sound { IsSoundMachine D.SectorDisk E.SectorDisk machine.new }
-    ensures reads { (bytes : List ℕ) × Consumes (R.remaining reader.old) (R.remaining reader.new) bytes
-        × MatchOption result
-        (GoesOn D.SectorDisk E.SectorDisk (stage machine.old input.old.line output.old (W.contents writer.old))
-        (stage machine.new input.new.line output.new (W.contents writer.new)) bytes)
-        (λ end. Ends D.SectorDisk E.SectorDisk end (R.remaining reader.new) (stage machine.old input.old.line output.old (W.contents writer.old))
-        (stage machine.new input.new.line output.new (W.contents writer.new)) bytes) }
+    ensures { TakesTurn D.SectorDisk E.SectorDisk result (R.remaining reader.old) (R.remaining reader.new)
+        (stage machine.old input.old.line output.old (W.contents writer.old)) (stage machine.new input.new.line output.new (W.contents writer.new)) }
 {
     let Input { bytes, line } = input;
     match read_once(reader, bytes) {
@@ -291,11 +252,9 @@ fn run_turns<R: Read, W: Write, D: SectorDisk, E: SectorDisk>(
     writer: &mut W,
     machine: &mut Machine<D, E>,
 ) -> RunEnd
-    requires { IsSoundMachine D.SectorDisk E.SectorDisk machine.old }
-    ensures sound { IsSoundMachine D.SectorDisk E.SectorDisk machine.new }
-    ensures reads { (bytes : List ℕ) × Consumes (R.remaining reader.old) (R.remaining reader.new) bytes
-        × EndsSo D.SectorDisk E.SectorDisk result (R.remaining reader.new) (stage machine.old [] [] (W.contents writer.old))
-        (stage machine.new [] [] (W.contents writer.new)) bytes [] }
+    requires sound { IsSoundMachine D.SectorDisk E.SectorDisk machine.old }
+    ensures { TakesTurns D.SectorDisk E.SectorDisk result (R.remaining reader.old) (R.remaining reader.new)
+        (stage machine.old [] [] (W.contents writer.old)) (stage machine.new [] [] (W.contents writer.new)) }
 {
     let mut input = Input {
         bytes: [0; READ_BYTES],

@@ -24,7 +24,8 @@ use Rattle.vm_types.specs.declared.width.Width.{Width}
 use Rattle.vm_types.specs.Access.{with_number}
 use Rattle.vm_types.specs.Replies.{reply_of}
 use Rattle.vm_types.specs.Width.{byte_count}
-use Rattle.spaces.specs.Accesses.{reply_for, AsksFor, MayWrite, WritesNumber}
+use Rattle.spaces.specs.Accesses.{reply_for, AsksFor, LetsThrough, MayWrite, WritesNumber}
+use Rattle.spaces.specs.Idle.{is_denial}
 use Rattle.spaces.proofs.Refusals.{no_stall, same_stall}
 
 -- nothing was written
@@ -38,8 +39,9 @@ module _ {M : Type 0} {m : Levels.Ghosts M} {D E : Type 0} (g : Ghosts D) (h : G
     (slotted : KeepsSlotted (ShowsFile (picture_of old) pid (addr / 4096)) (IsThatPage pid (addr / 4096)) (picture_of old) (picture_of new)) (sectors : AsksForPage g h old new pid (addr / 4096) access)
     (granted : Core D E M m) (tables : LinksTables (picture_of old) (picture_of granted) pid (addr / 4096)) (calm : (Wants (picture_of old) pid (addr / 4096) access → ⊥) → IsCalm old granted pid (addr / 4096))
     (writes : MayWrite access granted new) where
-  pub asks_unstalled : (reply : Reply) → ((stall : Stall) → reply ≡ Stalled stall → ⊥) → AsksFor g h old new pid addr access reply
-  asks_unstalled reply none = record {
+  pub asks_unstalled : (reply : Reply) → ((stall : Stall) → reply ≡ Stalled stall → ⊥) → (is_denial reply ≡ false → LetsThrough (picture_of granted) pid addr access)
+      → AsksFor g h old new pid addr access reply
+  asks_unstalled reply none grants = record {
     wanted = λ stall e. absurd (none stall e);
     refused = λ stall e. absurd (none stall e);
     home = λ e. absurd (none StoreDevice e);
@@ -50,13 +52,14 @@ module _ {M : Type 0} {m : Levels.Ghosts M} {D E : Type 0} (g : Ghosts D) (h : G
     tables = tables;
     calm = calm;
     writes = writes;
+    grants = λ done unstalled. grants done;
     sectors = sectors;
   }
 
   -- an access without a place
   pub asks_refused : (width : Width) (refusal : AccessRefusal) → IsRefusal g h old new pid addr width access refusal
       → AsksFor g h old new pid addr access (reply_of (reply_for refusal))
-  asks_refused width (Refusal.Fault fault) is = asks_unstalled (Faulted fault) (no_stall fault)
+  asks_refused width (Refusal.Fault fault) is = asks_unstalled (Faulted fault) (no_stall fault) (λ done. absurd (let never : true ≡ false = done in cc))
   asks_refused width (Refusal.Stall stall) is = record {
     wanted = λ other e. is.stalled.wanted;
     refused = λ other e. (
@@ -70,6 +73,7 @@ module _ {M : Type 0} {m : Levels.Ghosts M} {D E : Type 0} (g : Ghosts D) (h : G
     tables = tables;
     calm = calm;
     writes = writes;
+    grants = λ done unstalled. absurd (unstalled stall refl);
     sectors = sectors;
   }
 

@@ -1,7 +1,7 @@
 -- The checks of a mapping's place, decided one after the other.
 use Rattle.vm_types.proofs.Modes.{sizes}
 use Rattle.vm_types.specs.Limits.{user_end}
-use Rattle.std.proofs.Common.{ℕ, ◌≡◌, ◌<◌, ◌≤◌, ◌^◌, Bool, true, false, nat_lt, List, [], ◌∷◌, Option, Some, None, refl, sym, ap, ◌∙◌, arith}
+use Rattle.std.proofs.Common.{ℕ, ◌≡◌, ◌<◌, ◌≤◌, Bool, true, false, nat_lt, List, [], ◌∷◌, Option, Some, None, refl, sym, ap, ◌∙◌, arith}
 use Rattle.std.proofs.lemmas.Bool.Decides.{nat_tests}
 use Rattle.regions.specs.declared.run.Run.{Run}
 use Rattle.regions.specs.RunList.{attr_at}

@@ -1,6 +1,6 @@
 -- Where memory or slots are short of what processes see, they fall short of what a state needs.
 use Rattle.lifecycle.proofs.Shortage.{tables_alike}
-use Rattle.std.proofs.Common.{ℕ, zero, suc, ◌≡◌, ◌≢◌, inl, inr, ◌+◌, ◌*◌, ◌^◌, ◌<◌, ◌≤◌, ◌==◌, ◌||◌, Bool, false, if◌then◌else◌, Option, Some, is_some, refl, sym, ap, ◌∙◌, arith, eq-eqb, ne_eqb}
+use Rattle.std.proofs.Common.{ℕ, zero, suc, ◌≡◌, ◌≢◌, inl, inr, ◌+◌, ◌<◌, ◌≤◌, ◌==◌, ◌||◌, Bool, false, if◌then◌else◌, Option, Some, is_some, refl, sym, ap, ◌∙◌, arith, eq-eqb, ne_eqb}
 use Rattle.std.proofs.lemmas.Bool.{cases_eq, cases_Bool}
 use Rattle.frames.specs.FrameTable.{frame_count}
 use Rattle.lifecycle.specs.Changes.{IsShortToFork}
@@ -11,7 +11,7 @@ use Rattle.residency.specs.Picture.{Picture, is_live, view}
 use Rattle.residency.specs.Shows.{ShowsPages}
 use Rattle.residency.proofs.Tables.{sum-below}
 use Rattle.vm_types.specs.Capacity.{tables_of, table_count}
-use Rattle.vm_types.specs.Counting.{any_below, count_below, sum_below}
+use Rattle.vm_types.specs.Counting.{sum_below}
 use Rattle.vm_types.specs.declared.command.Command.{Command}
 use Rattle.vm_types.specs.declared.refusal.Stall.{Stall}
 use Rattle.vm_types.specs.declared.refusal.Stall.TheVariants.{NoFrames, NoSwap, SwapDevice, StoreDevice}

@@ -1,22 +1,24 @@
 -- What an access returns where it has no place, and what it asks for.
 use Rattle.vm_types.specs.declared.mode.Levels as Levels
-use Rattle.std.specs.Prelude.{ℕ, ◌≡◌, ◌≢◌, ◌⊎◌, ◌/◌}
+use Rattle.std.specs.Prelude.{ℕ, ◌≡◌, ◌≢◌, ◌⊎◌, ◌/◌, false, Some, Ok}
 use Rattle.disk_model.specs.declared.sector_disk.SectorDisk.{Ghosts}
 use Rattle.fault.specs.declared.refusal.AccessRefusal.{AccessRefusal}
 use Rattle.fault.specs.declared.refusal.AccessRefusal.TheVariants as Refusal
 use Rattle.fault.specs.AccessAsking.{AsksForPage}
 use Rattle.frames.specs.FrameTable.{bytes_of, with_bytes}
+use Rattle.sv39_walk.specs.Walk.{translated}
 use Rattle.fault.specs.Wants.{Wants, ReadsHome, RefusesAccess, ShowsFile}
 use Rattle.residency.specs.declared.kernel.Core.{Core}
 use Rattle.fault.specs.Changes.{IsCalm, KeepsOtherViews, KeepsSlotted, IsThatPage, LinksTables}
 use Rattle.residency.specs.Ways.{KeepsAround}
 use Rattle.residency.specs.Calls.{UsesDevice}
-use Rattle.residency.specs.Picture.{picture_of}
+use Rattle.residency.specs.Picture.{Picture, picture_of}
 use Rattle.residency.specs.Reading.{ReadsStore}
 use Rattle.vm_types.specs.declared.access.Access.{Access}
 use Rattle.vm_types.specs.declared.access.Access.TheVariants.{Load, Store, Fetch}
 use Rattle.vm_types.specs.declared.access.StoredValue.{StoredValue}
 use Rattle.vm_types.specs.declared.command.Command.TheVariants as Commands
+use Rattle.vm_types.specs.declared.number.Phys.{Phys}
 use Rattle.vm_types.specs.declared.refusal.Stall.{Stall}
 use Rattle.vm_types.specs.declared.refusal.Stall.TheVariants.{StoreDevice}
 use Rattle.vm_types.specs.declared.reply.Answer.{Answer}
@@ -25,12 +27,19 @@ use Rattle.vm_types.specs.declared.reply.Reply.{Reply}
 use Rattle.vm_types.specs.declared.width.Width.{Width}
 use Rattle.vm_types.specs.declared.width.Width.TheVariants.{Four}
 use Rattle.vm_types.specs.Access.{with_number}
+use Rattle.vm_types.specs.Limits.{top_level}
 use Rattle.vm_types.specs.Width.{byte_count}
 use Rattle.spaces.specs.Calls.{AccountsFor, Carries}
+use Rattle.spaces.specs.Idle.{is_denial}
 
 abbrev pub reply_for : AccessRefusal → Answer
 reply_for (Refusal.Fault fault) = Faulted fault
 reply_for (Refusal.Stall stall) = Stalled stall
+
+-- the walk from the process's root has a place for the access to the address
+module _ {mode : ℕ} where
+  abbrev pub LetsThrough : Picture mode → ℕ → ℕ → Access → Type 0
+  LetsThrough c pid addr access = (root : ℕ) × (place : Phys) × (c.root pid ≡ Some root) × (translated (top_level mode) c.frames root addr access ≡ Ok place)
 
 module _ {M : Type 0} {m : Levels.Ghosts M} {D E : Type 0} where
   -- a number was written into frame n from that byte of it on, and nothing else changed
@@ -64,20 +73,24 @@ module _ {M : Type 0} {m : Levels.Ghosts M} {D E : Type 0} (g : Ghosts D) (h : G
     pub tables : LinksTables (picture_of old) (picture_of granted) pid (addr / 4096)
     pub calm : (Wants (picture_of old) pid (addr / 4096) access → ⊥) → IsCalm old granted pid (addr / 4096)
     pub writes : MayWrite access granted new
+    -- and once it is done the tables let it through
+    pub grants : is_denial reply ≡ false → ((stall : Stall) → reply ≢ Reply.Stalled stall) → LetsThrough (picture_of granted) pid addr access
     -- the devices are asked for sectors of this page, and swap for those of free slots where a frame has to be given up, and one may be
     -- that needs a slot
     pub sectors : AsksForPage g h old new pid (addr / 4096) access
 
   -- An access keeps to its page, whatever comes of it:
-  pub record KeepsToPage (old new : Core D E M m) (pid addr : ℕ) (reply : Reply) : Type 0 where
+  pub record KeepsToPage (old new : Core D E M m) (pid addr : ℕ) (access : Access) (reply : Reply) : Type 0 where
     -- it accounts for what it did,
     pub accounts : AccountsFor g h old new reply
     pub open accounts use *
     -- no other page is seen otherwise,
     pub others : KeepsOtherViews (picture_of old) (picture_of new) pid (addr / 4096)
-    -- and the store was read at most, the swap device read and written.
+    -- the store was read at most, the swap device read and written,
     pub reads : ReadsStore g old.store new.store
     pub device : UsesDevice h old.swap.pages.disk new.swap.pages.disk
+    -- and no more was asked for than it wants.
+    pub asks : AsksFor old new pid addr access reply
 
   -- A read of a number is carried out
   pub record CarriesRead (old new : Core D E M m) (pid addr : ℕ) (width : Width) (kind : Access) (reply : Reply) : Type 0 where

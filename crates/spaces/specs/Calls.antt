@@ -5,13 +5,12 @@ use Rattle.disk_model.specs.declared.sector_disk.SectorDisk.{Ghosts}
 use Rattle.frames.specs.FrameTable.{frame_count}
 use Rattle.swap.specs.Slots.{slots_of}
 use Rattle.fault.specs.Changes.{KeepsRoom}
-use Rattle.ranges.specs.Steps.{KeepsDevices}
 use Rattle.residency.specs.Calls.{UsesDevice}
 use Rattle.residency.specs.declared.kernel.Core.{Core}
 use Rattle.residency.specs.Picture.{picture_of}
 use Rattle.residency.specs.Stalls.{ReadCause}
 use Rattle.residency.specs.Shows.{ShowsPages}
-use Rattle.msync.specs.Shows.{CoreShows}
+use Rattle.msync.specs.Shows.{IsSoundCore, CoreShows}
 use Rattle.vm_types.specs.Capacity.{table_count, held_count}
 use Rattle.vm_types.specs.declared.command.Command.{Command}
 use Rattle.vm_types.specs.declared.refusal.Errno.TheVariants.{EIO}
@@ -67,6 +66,8 @@ module _ {M : Type 0} {m : Levels.Ghosts M} {D E : Type 0} (g : Ghosts D) (h : G
 
   -- A call accounts for what it did, whatever comes of it:
   pub record AccountsFor (old new : Core D E M m) (reply : Reply) : Type 0 where
+    -- the next call may be made,
+    pub sound : IsSoundCore g h new
     -- memory has as many frames and slots as it had,
     pub room : KeepsRoom (picture_of old) (picture_of new)
     -- nothing changed where the reply is a denial,
@@ -83,11 +84,3 @@ module _ {M : Type 0} {m : Levels.Ghosts M} {D E : Type 0} (g : Ghosts D) (h : G
     pub store : new.store ≡ old.store
     -- and the swap device was read and written at most.
     pub device : UsesDevice h old.swap.pages.disk new.swap.pages.disk
-
-  -- A call leaves both devices alone, whatever comes of it:
-  pub record LeavesDevices (old new : Core D E M m) (reply : Reply) : Type 0 where
-    -- it accounts for what it did,
-    pub accounts : AccountsFor old new reply
-    pub open accounts use *
-    -- and asked neither of them.
-    pub devices : KeepsDevices old new

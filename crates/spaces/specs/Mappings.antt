@@ -3,6 +3,8 @@ use Rattle.std.specs.Prelude.{ℕ, false, ◌+◌, ◌/◌, ◌%◌, ◌<◌, �
 use Rattle.vm_types.specs.Limits.{user_end}
 use Rattle.regions.specs.declared.run.Run.{Run}
 use Rattle.regions.specs.RunList.{attr_at}
+use Rattle.residency.specs.Parts.{IsFit}
+use Rattle.residency.specs.Picture.{Picture}
 use Rattle.vm_types.specs.declared.command.MapSource.{MapSource}
 use Rattle.vm_types.specs.declared.command.MapSource.TheVariants.{Anon, Private, Shared, Common}
 use Rattle.vm_types.specs.declared.command.Placing.{Placing}
@@ -79,13 +81,22 @@ pub record IsAsked (len : ℕ) (source : MapSource) : Type 0 where
   pub fits : FitsFile source (page_count len)
 
 -- Pages that may be mapped where there is a place for them:
-pub record IsMappable (source : MapSource) (pages : ℕ) : Type 0 where
-  -- there are some, and no more than addresses reach,
-  pub some : 0 < pages
-  pub few : pages ≤ 2 ^ 52
-  -- and where a file is named they are pages that a file can have.
-  pub numbered : IsNumbered source
-  pub fits : FitsFile source pages
+module _ {mode : ℕ} where
+  pub record IsMappable (c : Picture mode) (source : MapSource) (pages : ℕ) : Type 0 where
+    -- memory is fit,
+    pub fit : IsFit c
+    -- there are some pages, and no more than addresses reach,
+    pub some : 0 < pages
+    pub few : pages ≤ 2 ^ 52
+    -- and where a file is named they are pages that a file can have.
+    pub numbered : IsNumbered source
+    pub fits : FitsFile source pages
+
+-- memory is fit, and these are user pages
+module _ {mode : ℕ} where
+  pub record IsFitRow (c : Picture mode) (first pages : ℕ) : Type 0 where
+    pub fit : IsFit c
+    pub row : first + pages ≤ user_end mode
 
 -- A mapping that is not refused: its place, and the runs of the process with it; attr: what the first page is at that place.
 module _ (mode : ℕ) where

@@ -1,11 +1,14 @@
 -- What an exit and the calls on a range leave of memory: they give back and take nothing.
+use Rattle.vm_types.specs.declared.mode.Levels as Levels
 use Rattle.std.specs.Prelude.{ℕ, ◌≡◌, ◌⊎◌, ◌/◌, false}
+use Rattle.disk_model.specs.declared.sector_disk.SectorDisk.{Ghosts}
 use Rattle.lifecycle.specs.Changes.{TakesNoFrame}
 use Rattle.page_cache.specs.declared.place.Place.TheVariants.{Home}
 use Rattle.ranges.specs.Rows.{IsLasting, without_maps}
-use Rattle.ranges.specs.Steps.{KeepsEntriesOfOthers}
+use Rattle.ranges.specs.Steps.{KeepsDevices, KeepsEntriesOfOthers}
 use Rattle.page_tables.specs.Tree.{IsPage}
-use Rattle.residency.specs.Picture.{Picture, entry}
+use Rattle.residency.specs.declared.kernel.Core.{Core}
+use Rattle.residency.specs.Picture.{Picture, picture_of, entry}
 use Rattle.vm_types.specs.Limits.{top_level}
 use Rattle.vm_types.specs.Rows.{in_row}
 use Rattle.vm_types.specs.declared.object.ObjectPage.{ObjectPage}
@@ -13,6 +16,7 @@ use Rattle.vm_types.specs.declared.object.PageKey.{PageKey}
 use Rattle.vm_types.specs.declared.object.PageKey.TheVariants.{Object}
 use Rattle.vm_types.specs.declared.reply.Reply.{Reply}
 use Rattle.vm_types.specs.declared.reply.Reply.TheVariants.{Process, Address, Done, Value, Faulted, Refused, Stalled, Halted, Past}
+use Rattle.spaces.specs.Calls.{AccountsFor}
 
 -- the first page of the mapping whose address a reply names; page 0, which nobody has, where it names none
 abbrev pub first_mapped : Reply → ℕ
@@ -39,6 +43,17 @@ module _ {mode : ℕ} where
     pub gone : (p : ObjectPage) → (new.place (Object p) ≡ old.place (Object p)) ⊎ (new.place (Object p) ≡ Home)
     -- each page of every other process has the entry that it had
     pub others : KeepsEntriesOfOthers old new pid
+
+module _ {M : Type 0} {m : Levels.Ghosts M} {D E : Type 0} (g : Ghosts D) (h : Ghosts E) where
+  -- A call gives pages back, whatever comes of it:
+  pub record GivesPagesBack (old new : Core D E M m) (pid first pages : ℕ) (reply : Reply) : Type 0 where
+    -- it accounts for what it did,
+    pub accounts : AccountsFor g h old new reply
+    pub open accounts use *
+    -- asked neither device,
+    pub devices : KeepsDevices old new
+    -- and took nothing.
+    pub takes : TakesNothing (picture_of old) (picture_of new) pid first pages
 
 -- each page of the process but the `pages` pages from `first` on has the entry that it had
 module _ {mode : ℕ} where

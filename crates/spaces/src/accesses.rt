@@ -11,7 +11,7 @@ ghost use Rattle.sv39_walk.specs.Walk.{is_store};
 ghost use Rattle.fault.specs.Outcome.{IsWalked};
 ghost use Rattle.residency.specs.Picture.{picture_of};
 ghost use Rattle.msync.specs.Shows.{IsSoundCore};
-ghost use Rattle.spaces.specs.Accesses.{reply_for, AsksFor, CarriesRead, KeepsToPage, WritesNumber};
+ghost use Rattle.spaces.specs.Accesses.{reply_for, CarriesRead, KeepsToPage, WritesNumber};
 ghost use Rattle.spaces.specs.Calls.{Carries};
 
 use crate::space::PAGE;
@@ -72,11 +72,9 @@ fn read<D: SectorDisk, E: SectorDisk, M: Levels>(
 ) -> Answer
     requires sound { IsSoundCore D.SectorDisk E.SectorDisk core.old }
     requires kind { is_store kind ≡ false }
-    ensures sound { IsSoundCore D.SectorDisk E.SectorDisk core.new }
     ensures comes { CarriesRead D.SectorDisk E.SectorDisk core.old core.new pid addr width kind (reply_of result) }
-    ensures keeps { KeepsToPage D.SectorDisk E.SectorDisk core.old core.new pid addr (reply_of result) }
+    ensures keeps { KeepsToPage D.SectorDisk E.SectorDisk core.old core.new pid addr kind (reply_of result) }
     ensures walked { (place : Phys) → IsWalked (picture_of core.old) pid addr width kind place → core.new ≡ core.old }
-    ensures asks { AsksFor D.SectorDisk E.SectorDisk core.old core.new pid addr kind (reply_of result) }
 {
     let Some(pid) = core.live(pid) else {
         return Answer::Refused(Errno::ESRCH);
@@ -108,11 +106,9 @@ pub fn load<D: SectorDisk, E: SectorDisk, M: Levels>(
     width: Width,
 ) -> Answer
     requires sound { IsSoundCore D.SectorDisk E.SectorDisk core.old }
-    ensures sound { IsSoundCore D.SectorDisk E.SectorDisk core.new }
     ensures comes { Carries D.SectorDisk E.SectorDisk core.old core.new (Load pid addr width) (reply_of result) }
-    ensures keeps { KeepsToPage D.SectorDisk E.SectorDisk core.old core.new pid addr (reply_of result) }
+    ensures keeps { KeepsToPage D.SectorDisk E.SectorDisk core.old core.new pid addr Access.Load (reply_of result) }
     ensures walked { (place : Phys) → IsWalked (picture_of core.old) pid addr width Access.Load place → core.new ≡ core.old }
-    ensures asks { AsksFor D.SectorDisk E.SectorDisk core.old core.new pid addr Access.Load (reply_of result) }
 {
     read(core, pid, addr, width, Access::Load)
 }
@@ -126,11 +122,9 @@ pub fn fetch<D: SectorDisk, E: SectorDisk, M: Levels>(
     addr: u64,
 ) -> Answer
     requires sound { IsSoundCore D.SectorDisk E.SectorDisk core.old }
-    ensures sound { IsSoundCore D.SectorDisk E.SectorDisk core.new }
     ensures comes { Carries D.SectorDisk E.SectorDisk core.old core.new (Fetch pid addr) (reply_of result) }
-    ensures keeps { KeepsToPage D.SectorDisk E.SectorDisk core.old core.new pid addr (reply_of result) }
+    ensures keeps { KeepsToPage D.SectorDisk E.SectorDisk core.old core.new pid addr Access.Fetch (reply_of result) }
     ensures walked { (place : Phys) → IsWalked (picture_of core.old) pid addr Four Access.Fetch place → core.new ≡ core.old }
-    ensures asks { AsksFor D.SectorDisk E.SectorDisk core.old core.new pid addr Access.Fetch (reply_of result) }
 {
     read(core, pid, addr, Width::Four, Access::Fetch)
 }
@@ -146,11 +140,9 @@ pub fn store<D: SectorDisk, E: SectorDisk, M: Levels>(
     stored: StoredValue,
 ) -> Answer
     requires sound { IsSoundCore D.SectorDisk E.SectorDisk core.old }
-    ensures sound { IsSoundCore D.SectorDisk E.SectorDisk core.new }
     ensures comes { Carries D.SectorDisk E.SectorDisk core.old core.new (Store pid addr stored) (reply_of result) }
-    ensures keeps { KeepsToPage D.SectorDisk E.SectorDisk core.old core.new pid addr (reply_of result) }
+    ensures keeps { KeepsToPage D.SectorDisk E.SectorDisk core.old core.new pid addr Access.Store (reply_of result) }
     ensures walked { (place : Phys) → IsWalked (picture_of core.old) pid addr stored.width Access.Store place → WritesNumber core.old core.new (place.0 / 4096) (addr % 4096) stored }
-    ensures asks { AsksFor D.SectorDisk E.SectorDisk core.old core.new pid addr Access.Store (reply_of result) }
 {
     let Some(pid) = core.live(pid) else {
         return Answer::Refused(Errno::ESRCH);

@@ -5,8 +5,8 @@ ghost use Rattle.vm_types.specs.Replies.{reply_of};
 ghost use Rattle.vm_types.specs.declared.command.Command.TheVariants.{Dontneed};
 ghost use Rattle.msync.specs.Shows.{IsSoundCore};
 ghost use Rattle.residency.specs.Picture.{picture_of};
-ghost use Rattle.spaces.specs.Calls.{Carries, LeavesDevices};
-ghost use Rattle.spaces.specs.Ranges.{KeepsEntriesBeside, TakesNothing};
+ghost use Rattle.spaces.specs.Calls.{Carries};
+ghost use Rattle.spaces.specs.Ranges.{GivesPagesBack, KeepsEntriesBeside};
 
 use crate::space::PAGE;
 use disk_model::SectorDisk;
@@ -27,10 +27,8 @@ pub fn dontneed<D: SectorDisk, E: SectorDisk, M: Levels>(
     len: u64,
 ) -> Answer
     requires sound { IsSoundCore D.SectorDisk E.SectorDisk core.old }
-    ensures sound { IsSoundCore D.SectorDisk E.SectorDisk core.new }
     ensures comes { Carries D.SectorDisk E.SectorDisk core.old core.new (Dontneed pid addr len) (reply_of result) }
-    ensures keeps { LeavesDevices D.SectorDisk E.SectorDisk core.old core.new (reply_of result) }
-    ensures takes { TakesNothing (picture_of core.old) (picture_of core.new) pid 0 0 }
+    ensures keeps { GivesPagesBack D.SectorDisk E.SectorDisk core.old core.new pid 0 0 (reply_of result) }
     ensures beside { KeepsEntriesBeside (picture_of core.old) (picture_of core.new) pid (addr / 4096) (page_count len) }
 {
     let Some(pid) = core.live(pid) else {

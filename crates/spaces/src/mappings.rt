@@ -15,9 +15,9 @@ ghost use Rattle.ranges.specs.Rows.{without_maps};
 ghost use Rattle.msync.specs.Shows.{IsSoundCore};
 ghost use Rattle.residency.specs.Picture.{picture_of};
 ghost use Rattle.residency.specs.Parts.{IsFit};
-ghost use Rattle.spaces.specs.Calls.{Carries, LeavesDevices};
-ghost use Rattle.spaces.specs.Ranges.{KeepsEntriesBeside, TakesNothing, first_mapped};
-ghost use Rattle.spaces.specs.Mappings.{mmap_asked_checks, file_checks, place_checks, IsAsked, IsMappable, MapsPages, IsNumbered, attr_there};
+ghost use Rattle.spaces.specs.Calls.{Carries};
+ghost use Rattle.spaces.specs.Ranges.{GivesPagesBack, KeepsEntriesBeside, first_mapped};
+ghost use Rattle.spaces.specs.Mappings.{mmap_asked_checks, file_checks, place_checks, IsAsked, IsFitRow, IsMappable, MapsPages, IsNumbered, attr_there};
 ghost use Rattle.spaces.specs.Space.{space_of};
 
 use crate::region_room::RegionRoom;
@@ -143,8 +143,7 @@ fn object_page<D, E, M: Levels>(
     first: u64,
     pages: u64,
 ) -> ObjectPage
-    requires fit { IsFit (picture_of core.now) }
-    requires row { first + pages ≤ user_end M.mode }
+    requires { IsFitRow (picture_of core.now) first pages }
     ensures number { result ≡ record { object = new_number (without_maps (picture_of core.now).at pid first pages); page = 0 } }
     ensures few { (q : ℕ) → run_count M.mode ((picture_of core.now).at q) ≤ 256 }
 {
@@ -157,8 +156,7 @@ fn object_page<D, E, M: Levels>(
 
 /// What the first page of a mapping of these pages is.
 fn first_attr<D, E, M: Levels>(core: &Core<D, E, M>, pid: Pid, first: u64, mapping: Mapping) -> Attr
-    requires fit { IsFit (picture_of core.now) }
-    requires row { first + mapping.pages ≤ user_end M.mode }
+    requires row { IsFitRow (picture_of core.now) first mapping.pages }
     requires numbered { IsNumbered mapping.source }
     ensures attr { result ≡ attr_there (picture_of core.now).at pid mapping.pages mapping.source mapping.prot first }
     ensures few { mapping.source ≡ Common → (q : ℕ) → run_count M.mode ((picture_of core.now).at q) ≤ 256 }
@@ -234,8 +232,7 @@ fn planned<D, E, M: Levels>(
     mapping: Mapping,
     next: &mut Regions<M>,
 ) -> Result<u64, Errno>
-    requires fit { IsFit (picture_of core.now) }
-    requires mappable { IsMappable mapping.source mapping.pages }
+    requires { IsMappable (picture_of core.now) mapping.source mapping.pages }
     ensures ok { IfOk result (λ first. MapsPages M.mode regions.now mapping.addr mapping.pages (attr_there (picture_of core.now).at pid mapping.pages mapping.source mapping.prot) mapping.placing first next.new) }
     ensures few { OnOk result (mapping.source ≡ Common → (q : ℕ) → run_count M.mode ((picture_of core.now).at q) ≤ 256) }
     ensures err { IfErr result (λ errno. first_of (place_checks M.mode mapping.placing (space_of regions.now) mapping.pages (attr_there (picture_of core.now).at pid mapping.pages mapping.source mapping.prot) (place_for M.mode mapping.placing (space_of regions.now) mapping.addr mapping.pages)) ≡ Some errno) }
@@ -276,10 +273,8 @@ pub fn mmap<D: SectorDisk, E: SectorDisk, M: Levels>(
     request: MapRequest,
 ) -> Answer
     requires sound { IsSoundCore D.SectorDisk E.SectorDisk core.old }
-    ensures sound { IsSoundCore D.SectorDisk E.SectorDisk core.new }
     ensures comes { Carries D.SectorDisk E.SectorDisk core.old core.new (Mmap pid request.addr request.len request.prot request.source request.placing) (reply_of result) }
-    ensures keeps { LeavesDevices D.SectorDisk E.SectorDisk core.old core.new (reply_of result) }
-    ensures takes { TakesNothing (picture_of core.old) (picture_of core.new) pid (first_mapped (reply_of result)) (page_count request.len) }
+    ensures keeps { GivesPagesBack D.SectorDisk E.SectorDisk core.old core.new pid (first_mapped (reply_of result)) (page_count request.len) (reply_of result) }
     ensures beside { KeepsEntriesBeside (picture_of core.old) (picture_of core.new) pid (first_mapped (reply_of result)) (page_count request.len) }
 {
     let Some(pid) = core.live(pid) else {

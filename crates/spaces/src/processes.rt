@@ -8,8 +8,8 @@ ghost use Rattle.fault.specs.Asking.{AsksIfFull, AsksSlots};
 ghost use Rattle.msync.specs.Shows.{IsSoundCore};
 ghost use Rattle.residency.specs.Picture.{picture_of};
 ghost use Rattle.spaces.specs.Processes.{ForkTakes, SpawnTakes};
-ghost use Rattle.spaces.specs.Calls.{Carries, LeavesDevices, LeavesStore};
-ghost use Rattle.spaces.specs.Ranges.{TakesNothing};
+ghost use Rattle.spaces.specs.Calls.{Carries, LeavesStore};
+ghost use Rattle.spaces.specs.Ranges.{GivesPagesBack};
 
 use disk_model::SectorDisk;
 use lifecycle::free_pid;
@@ -23,7 +23,6 @@ use vm_types::{Answer, Errno, Levels};
 /// where that device failed as a frame was given up; then there is no such process, and nobody sees a change.
 pub fn spawn<D: SectorDisk, E: SectorDisk, M: Levels>(core: &mut Core<D, E, M>) -> Answer
     requires sound { IsSoundCore D.SectorDisk E.SectorDisk core.old }
-    ensures sound { IsSoundCore D.SectorDisk E.SectorDisk core.new }
     ensures comes { Carries D.SectorDisk E.SectorDisk core.old core.new Spawn (reply_of result) }
     ensures keeps { LeavesStore D.SectorDisk E.SectorDisk core.old core.new (reply_of result) }
     ensures takes { SpawnTakes (picture_of core.old) (picture_of core.new) (reply_of result) }
@@ -45,7 +44,6 @@ pub fn spawn<D: SectorDisk, E: SectorDisk, M: Levels>(core: &mut Core<D, E, M>) 
 /// spawn does, for the child's tables; then there is no child.
 pub fn fork<D: SectorDisk, E: SectorDisk, M: Levels>(core: &mut Core<D, E, M>, pid: u64) -> Answer
     requires sound { IsSoundCore D.SectorDisk E.SectorDisk core.old }
-    ensures sound { IsSoundCore D.SectorDisk E.SectorDisk core.new }
     ensures comes { Carries D.SectorDisk E.SectorDisk core.old core.new (Fork pid) (reply_of result) }
     ensures keeps { LeavesStore D.SectorDisk E.SectorDisk core.old core.new (reply_of result) }
     ensures takes { ForkTakes (picture_of core.old) (picture_of core.new) pid (reply_of result) }
@@ -70,10 +68,8 @@ pub fn fork<D: SectorDisk, E: SectorDisk, M: Levels>(core: &mut Core<D, E, M>, p
 #[tactic(auto, using(crate::proofs::Returning::takes_none))]
 pub fn exit<D: SectorDisk, E: SectorDisk, M: Levels>(core: &mut Core<D, E, M>, pid: u64) -> Answer
     requires sound { IsSoundCore D.SectorDisk E.SectorDisk core.old }
-    ensures sound { IsSoundCore D.SectorDisk E.SectorDisk core.new }
     ensures comes { Carries D.SectorDisk E.SectorDisk core.old core.new (Exit pid) (reply_of result) }
-    ensures keeps { LeavesDevices D.SectorDisk E.SectorDisk core.old core.new (reply_of result) }
-    ensures takes { TakesNothing (picture_of core.old) (picture_of core.new) pid 0 (user_end M.mode) }
+    ensures keeps { GivesPagesBack D.SectorDisk E.SectorDisk core.old core.new pid 0 (user_end M.mode) (reply_of result) }
 {
     let Some(pid) = core.live(pid) else {
         return Answer::Refused(Errno::ESRCH);

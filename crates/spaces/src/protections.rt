@@ -8,8 +8,8 @@ ghost use Rattle.vm_types.specs.Ranges.{denies_stores, is_guarded, is_guarded_pa
 ghost use Rattle.vm_types.specs.declared.command.Command.TheVariants.{Mprotect};
 ghost use Rattle.msync.specs.Shows.{IsSoundCore};
 ghost use Rattle.residency.specs.Picture.{picture_of};
-ghost use Rattle.spaces.specs.Calls.{Carries, LeavesDevices};
-ghost use Rattle.spaces.specs.Ranges.{KeepsEntriesBeside, TakesNothing};
+ghost use Rattle.spaces.specs.Calls.{Carries};
+ghost use Rattle.spaces.specs.Ranges.{GivesPagesBack, KeepsEntriesBeside};
 ghost use Rattle.spaces.specs.Protections.{permit_checks, IsPermitted};
 ghost use Rattle.spaces.specs.Space.{space_of};
 
@@ -40,14 +40,12 @@ fn is_guarded<D: SectorDisk>(store: &FileStore<D>, backing: Backing) -> bool
 fn has_guarded<D: SectorDisk, M: Levels>(
     store: &FileStore<D>,
     regions: &Regions<M>,
-    first: u64,
-    pages: u64,
+    range: PageRange,
 ) -> bool
-    requires { first + pages < 2 ^ 64 }
-    ensures { result ≡ any_below (λ i. is_guarded_page (files_of store.now) (space_of regions.now (first + i))) pages }
+    ensures { result ≡ any_below (λ i. is_guarded_page (files_of store.now) (space_of regions.now (range.first + i))) range.pages }
 {
-    let end = first + pages;
-    let mut page = first;
+    let end = range.first + range.pages;
+    let mut page = range.first;
     while let Some(run) = regions.next_run(page) {
         if run.first >= end {
             return false;
@@ -64,14 +62,12 @@ fn has_guarded<D: SectorDisk, M: Levels>(
 fn denies_stores<D: SectorDisk, M: Levels>(
     store: &FileStore<D>,
     regions: &Regions<M>,
-    first: u64,
-    pages: u64,
+    range: PageRange,
     prot: Prot,
 ) -> bool
-    requires { first + pages < 2 ^ 64 }
-    ensures { result ≡ denies_stores (files_of store.now) (space_of regions.now) first pages prot }
+    ensures { result ≡ denies_stores (files_of store.now) (space_of regions.now) range.first range.pages prot }
 {
-    prot.is_writable() && has_guarded(store, regions, first, pages)
+    prot.is_writable() && has_guarded(store, regions, range)
 }
 
 /// Writes the regions with the permission for the pages of the range into `next`, or says why that is refused.
@@ -82,19 +78,17 @@ fn permitted<D: SectorDisk, M: Levels>(
     prot: Prot,
     next: &mut Regions<M>,
 ) -> Result<(), Errno>
-    requires some { 0 < range.pages }
-    requires row { range.first + range.pages < 2 ^ 64 }
+    requires { 0 < range.pages }
     ensures ok { OnOk result (IsPermitted M.mode (files_of store.now) regions.now range.first range.pages prot next.new) }
     ensures err { IfErr result (λ errno. first_of (permit_checks M.mode (files_of store.now) (space_of regions.now) range.first range.pages prot) ≡ Some errno) }
 {
-    let PageRange { first, pages } = range;
-    if !regions.covers(first, pages) {
+    if !regions.covers(range.first, range.pages) {
         return Err(Errno::ENOMEM);
     }
-    if denies_stores(store, regions, first, pages, prot) {
+    if denies_stores(store, regions, range, prot) {
         return Err(Errno::EACCES);
     }
-    match regions.protect_into(first, pages, prot.kept(), next) {
+    match regions.protect_into(range.first, range.pages, prot.kept(), next) {
         Ok(()) => Ok(()),
         Err(TooManyRuns) => Err(Errno::ENOMEM),
     }
@@ -114,10 +108,8 @@ pub fn mprotect<D: SectorDisk, E: SectorDisk, M: Levels>(
     request: ProtectRequest,
 ) -> Answer
     requires sound { IsSoundCore D.SectorDisk E.SectorDisk core.old }
-    ensures sound { IsSoundCore D.SectorDisk E.SectorDisk core.new }
     ensures comes { Carries D.SectorDisk E.SectorDisk core.old core.new (Mprotect pid request.addr request.len request.prot) (reply_of result) }
-    ensures keeps { LeavesDevices D.SectorDisk E.SectorDisk core.old core.new (reply_of result) }
-    ensures takes { TakesNothing (picture_of core.old) (picture_of core.new) pid 0 0 }
+    ensures keeps { GivesPagesBack D.SectorDisk E.SectorDisk core.old core.new pid 0 0 (reply_of result) }
     ensures beside { KeepsEntriesBeside (picture_of core.old) (picture_of core.new) pid (request.addr / 4096) (page_count request.len) }
     ensures swap { core.new.swap ≡ core.old.swap }
 {

@@ -1,4 +1,5 @@
 //! What is asked of a mapping's pages.
+ghost use Rattle.std.specs.Prelude.{◌+◌, ◌<◌, ◌^◌};
 
 use vm_types::{MapSource, Placing, Prot};
 
@@ -30,9 +31,10 @@ pub struct ProtectRequest {
     pub prot: Prot,
 }
 
-/// The `pages` pages from `first` on.
+/// The `pages` pages from `first` on, the end of which is a number of a `u64`.
 #[derive(Clone, Copy)]
 pub(crate) struct PageRange {
     pub first: u64,
     pub pages: u64,
+    pub ghost row: { first + pages < 2 ^ 64 },
 }

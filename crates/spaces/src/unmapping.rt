@@ -5,8 +5,8 @@ ghost use Rattle.vm_types.specs.Replies.{reply_of};
 ghost use Rattle.vm_types.specs.declared.command.Command.TheVariants.{Munmap};
 ghost use Rattle.msync.specs.Shows.{IsSoundCore};
 ghost use Rattle.residency.specs.Picture.{picture_of};
-ghost use Rattle.spaces.specs.Calls.{Carries, LeavesDevices};
-ghost use Rattle.spaces.specs.Ranges.{KeepsEntriesBeside, TakesNothing};
+ghost use Rattle.spaces.specs.Calls.{Carries};
+ghost use Rattle.spaces.specs.Ranges.{GivesPagesBack, KeepsEntriesBeside};
 
 use crate::region_room::RegionRoom;
 use crate::space::PAGE;
@@ -29,10 +29,8 @@ pub fn munmap<D: SectorDisk, E: SectorDisk, M: Levels>(
     len: u64,
 ) -> Answer
     requires sound { IsSoundCore D.SectorDisk E.SectorDisk core.old }
-    ensures sound { IsSoundCore D.SectorDisk E.SectorDisk core.new }
     ensures comes { Carries D.SectorDisk E.SectorDisk core.old core.new (Munmap pid addr len) (reply_of result) }
-    ensures keeps { LeavesDevices D.SectorDisk E.SectorDisk core.old core.new (reply_of result) }
-    ensures takes { TakesNothing (picture_of core.old) (picture_of core.new) pid (addr / 4096) (page_count len) }
+    ensures keeps { GivesPagesBack D.SectorDisk E.SectorDisk core.old core.new pid (addr / 4096) (page_count len) (reply_of result) }
     ensures beside { KeepsEntriesBeside (picture_of core.old) (picture_of core.new) pid (addr / 4096) (page_count len) }
 {
     let Some(pid) = core.live(pid) else {

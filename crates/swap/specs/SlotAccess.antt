@@ -1,7 +1,7 @@
 -- Pages put into slots, and got from them.
 use Rattle.std.specs.Prelude.{◌≡◌, ◌≢◌, ℕ, ◌*◌, ◌<◌, ◌≤◌, ◌↔◌, List, Some, Result, IfOk, OnOk, OnErr, IsErrOf}
 use Rattle.vm_types.specs.declared.number.SlotNo.{SlotNo}
-use Rattle.disk_model.specs.Stop.{HasCause, ChangesPage, IsOfPage}
+use Rattle.disk_model.specs.Stop.{HasCause, ChangesPage, IsOfPage, NamesOnce}
 use Rattle.disk_model.specs.Moments.{AsksOnly}
 use Rattle.disk_model.specs.declared.sector_disk.DiskFault.{DiskFault}
 use Rattle.disk_model.specs.declared.sector_disk.SectorDisk.{Ghosts}
@@ -17,6 +17,8 @@ module _ {T D : Type 0} (g : Ghosts D) where
   pub record KeepsWritten (old new : Pages D) (n : ℕ) (result : Result T DiskFault) : Type 0 where
     -- no sector but its eight was asked for
     pub asks : AsksOnly g (IsOfPage (8 * n)) old.disk new.disk
+    -- and each of them once at most
+    pub once : NamesOnce (IsOfPage (8 * n)) (g.asked old.disk) (g.asked new.disk)
     -- the device holds what was written, as long as it keeps its model, which it did before if it does now
     pub as_written : IsAsWritten g new.disk new.written.notes
     pub kept : g.keeps_model new.disk → g.keeps_model old.disk
@@ -65,6 +67,8 @@ module _ {D : Type 0} (g : Ghosts D) where
     pub keeps : KeepsSlots old new
     pub open keeps use *
     pub asks_free : AsksOnly g (IsSectorOfFreeSlot (slots_of old)) old.pages.disk new.pages.disk
+    -- and for none twice
+    pub once : NamesOnce (IsSectorOfFreeSlot (slots_of old)) (g.asked old.pages.disk) (g.asked new.pages.disk)
     pub later : g.failures old.pages.disk ≤ g.failures new.pages.disk
     -- else every share, and every slot in use, is as it was
     pub same : OnErr result (Same (slots_of old) (slots_of new))
@@ -83,6 +87,7 @@ module _ {T D : Type 0} (g : Ghosts D) where
     pub keeps : KeepsSlots g old new
     pub open keeps use *
     pub asks : AsksOnly g (IsSectorOfSlot n) old.pages.disk new.pages.disk
+    pub once : NamesOnce (IsSectorOfSlot n) (g.asked old.pages.disk) (g.asked new.pages.disk)
     pub unchanged : g.keeps_model new.pages.disk → g.content new.pages.disk ≡ g.content old.pages.disk
     -- and an error is a failure of the device
     pub cause : HasCause (g.failures old.pages.disk) (g.failures new.pages.disk) result

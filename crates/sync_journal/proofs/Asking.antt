@@ -1,12 +1,12 @@
 -- Which sectors the parts of a commit and of a recovery ask for.
-use Rattle.std.proofs.Common.{◌≡◌, ◌⊎◌, ◌<◌, ◌≤◌, ◌+◌, ℕ, true, List, length, get_or, inl, inr, ⊎_elim, refl, sym, subst, arith}
+use Rattle.std.proofs.Common.{◌≡◌, ◌⊎◌, ◌<◌, ◌≤◌, ◌+◌, ◌*◌, ℕ, true, List, length, get_or, inl, inr, ⊎_elim, refl, sym, subst, arith}
 use Rattle.std.proofs.lemmas.Bool.{cases_eq}
 use Rattle.disk_model.specs.Stop.{Image, Names, NamesOnce}
 use Rattle.disk_model.specs.Moments.{AsksOnly}
 use Rattle.disk_model.proofs.Moments.{asks_named, asks_once, asks_then}
 use Rattle.disk_model.proofs.Naming.{once_named, once_apart}
 use Rattle.disk_model.specs.declared.sector_disk.SectorDisk.{Ghosts}
-use Rattle.sync_journal.specs.Layout.{page_limit, gate_sector, map_sector, body_sector, home_sector, IsPageSector, IsGate, IsBodySector, IsStaged, IsOpened, IsCopied, IsFinished, IsCommitted}
+use Rattle.sync_journal.specs.Layout.{page_limit, gate_sector, map_sector, body_sector, home_sector, IsPageSector, IsGate, IsFilledAt, IsStagedAt, IsStaged, IsOpened, IsCopied, IsFinished, IsCommitted}
 use Rattle.sync_journal.specs.Gate.{is_open}
 use Rattle.sync_journal.specs.Map.{AreHomes}
 use Rattle.sync_journal.specs.Standing.{IsOpenFor, IsAskedIn}
@@ -23,17 +23,17 @@ module _ (before mid now : ℕ → ℕ) where
       (once_named (IsPageSector from) (IsPageSector from) before mid (λ k inside. inside) reads)
       (once_named (IsPageSector to) (IsPageSector to) mid now (λ k inside. inside) writes)
 
-  -- a page is written into the body
-  pub body_asks : (j : ℕ) → NamesOnce (IsBodySector j) before mid → Names (IsPageSector (body_sector j)) mid now → NamesOnce (IsBodySector (j + 1)) before now
-  body_asks j so_far page = once_apart (IsBodySector j) (IsPageSector (body_sector j)) (IsBodySector (j + 1)) before mid now
+  -- a page more is written into the body of the journal that begins at a sector
+  pub filled_more : (start j : ℕ) → NamesOnce (IsFilledAt start j) before mid → Names (IsPageSector (start + 8 + 8 * j)) mid now → NamesOnce (IsFilledAt start (j + 1)) before now
+  filled_more start j so_far page = once_apart (IsFilledAt start j) (IsPageSector (start + 8 + 8 * j)) (IsFilledAt start (j + 1)) before mid now
       (λ k inside. (inside.0, omega (arith, inside.1))) (λ k inside. (omega (arith, inside.0), omega (arith, inside.1))) (λ k first second. omega (arith, first.1, second.0))
-      so_far (once_named (IsPageSector (body_sector j)) (IsPageSector (body_sector j)) mid now (λ k inside. inside) page)
+      so_far (once_named (IsPageSector (start + 8 + 8 * j)) (IsPageSector (start + 8 + 8 * j)) mid now (λ k inside. inside) page)
 
   -- and the map after the body
-  pub map_page_asks : (n : ℕ) → NamesOnce (IsBodySector n) before mid → Names (IsPageSector map_sector) mid now → NamesOnce (IsStaged n) before now
-  map_page_asks n so_far map = once_apart (IsBodySector n) (IsPageSector map_sector) (IsStaged n) before mid now
+  pub staged_asks : (start n : ℕ) → NamesOnce (IsFilledAt start n) before mid → Names (IsPageSector start) mid now → NamesOnce (IsStagedAt start n) before now
+  staged_asks start n so_far map = once_apart (IsFilledAt start n) (IsPageSector start) (IsStagedAt start n) before mid now
       (λ k inside. (omega (arith, inside.0), inside.1)) (λ k inside. (inside.0, omega (arith, inside.1))) (λ k first second. omega (arith, first.0, second.1))
-      so_far (once_named (IsPageSector map_sector) (IsPageSector map_sector) mid now (λ k inside. inside) map)
+      so_far (once_named (IsPageSector start) (IsPageSector start) mid now (λ k inside. inside) map)
 
   -- and the gate after both
   pub publish_asks : (n : ℕ) → NamesOnce (IsStaged n) before mid → NamesOnce IsGate mid now → NamesOnce (IsOpened n) before now

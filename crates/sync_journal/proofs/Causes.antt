@@ -48,6 +48,20 @@ module _ (a b x y : ℕ) where
     source_still = λ told. calm;
   }
 
+  -- the source failed alone
+  pub source_failed : (result : Result (Unit {0}) CommitFault) → IsErrAnd result (λ e. e ≡ Source) → x < y → b ≡ a → HasCauses a b x y result
+  source_failed (Ok done) is failed calm = absurd is
+  source_failed (Err e) is failed calm = record {
+    device_later = omega (arith, calm);
+    source_later = omega (arith, failed);
+    device = λ told. cc;
+    source = λ told. failed;
+    device_calm = tt;
+    device_still = λ told. calm;
+    source_calm = tt;
+    source_still = λ told. cc;
+  }
+
   -- neither failed
   pub none_failed : b ≡ a → y ≡ x → HasCauses a b x y (Ok (tt {0}))
   none_failed device source = record {

@@ -1,17 +1,13 @@
 -- The pages of the body copied to their homes, one after the other.
-use Rattle.std.proofs.Common.{◌≡◌, ◌≢◌, ◌≤◌, ◌<◌, ◌+◌, ℕ, List, length, get_or, sym, ap, subst, ◌∙◌, ⊎_elim, arith}
+use Rattle.std.proofs.Common.{◌≡◌, ◌≢◌, ◌<◌, ◌+◌, ℕ, List, length, get_or, sym, ap, subst, ◌∙◌, ⊎_elim, arith}
 use Rattle.std.proofs.lemmas.Bool.{cases_eq, cases_lt}
 use Rattle.disk_model.specs.Moments.{Touches}
 use Rattle.disk_model.specs.declared.sector_disk.SectorDisk.{Ghosts}
-use Rattle.sync_journal.specs.Layout.{body_sector, home_sector, home_count, IsPageSector, IsHomeSector}
+use Rattle.sync_journal.specs.Layout.{body_sector, home_sector, IsPageSector, IsHomeSector}
 use Rattle.sync_journal.specs.Map.{AreHomes}
 use Rattle.sync_journal.specs.Runs.{RunsOnDevice}
 use Rattle.sync_journal.specs.Standing.{AreCopied}
 use Rattle.sync_journal.proofs.Runs.{one_more, of_more}
-
--- a home page lies within the device
-pub home_fits : (sectors h : ℕ) → h < home_count sectors → home_sector h + 8 ≤ sectors
-home_fits sectors h below = omega arith
 
 -- two homes at two places are two homes
 pub distinct_homes : (count : ℕ) (homes : List ℕ) (i j : ℕ) → AreHomes count homes → i < length homes → j < length homes → i ≢ j → get_or homes i 0 ≢ get_or homes j 0

@@ -23,10 +23,6 @@ module _ {D : Type 0} (g : Ghosts D) where
   live_at_rest [] d some live = absurd (omega (arith, some))
   live_at_rest (home ∷ homes) d some live = live
 
-  pub rest_live : (homes : List ℕ) (d : D) → 0 < length homes → IsAtRest g homes d → IsLive g homes d
-  rest_live [] d some rest = absurd (omega (arith, some))
-  rest_live (home ∷ homes) d some rest = rest
-
   pub rest_quiet : (homes : List ℕ) (d : D) → homes ≡ [] → IsAtRest g homes d → IsQuiet g d
   rest_quiet homes d none rest = subst (λ live. IsAtRest g live d) none rest
 

@@ -2,13 +2,13 @@
 use Rattle.std.proofs.Common.{◌≡◌, ◌⊎◌, ◌<◌, ◌≤◌, ◌+◌, ℕ, Bool, not, List, [], length, get_or, None, inl, inr, ⊎_elim, sym, subst, arith}
 use Rattle.disk_model.specs.Stop.{Image, Names, NamesOnce}
 use Rattle.disk_model.specs.Moments.{AsksOnly}
-use Rattle.disk_model.proofs.Moments.{asks_named, asks_once, asks_then}
+use Rattle.disk_model.proofs.Moments.{asks_once, asks_then}
 use Rattle.disk_model.proofs.Naming.{once_named, once_apart, once_wider}
 use Rattle.disk_model.specs.declared.sector_disk.SectorDisk.{Ghosts}
 use Rattle.sync_journal.specs.Layout.{IsPageSector}
-use Rattle.sync_journal.specs.Map.{AreHomes, home_rank, home_in}
+use Rattle.sync_journal.specs.Map.{AreHomes, home_rank}
 use Rattle.sync_journal.specs.Journal.{live_homes}
-use Rattle.sync_journal.specs.Turns.{turn_gate, start_of, turn_body, turn_home, turn_map, named_in, IsTurnSector, IsTurnGate, IsTurnPart, IsTurnFilled, IsTurnCopy, IsTurnUsed, IsTurnAsked, IsTurnAskedIn, IsNamedFor}
+use Rattle.sync_journal.specs.Turns.{start_of, turn_body, turn_home, IsTurnSector, IsTurnGate, IsTurnPart, IsTurnCopy, IsTurnUsed, IsTurnAsked, IsTurnAskedIn, IsNamedFor}
 use Rattle.sync_journal.specs.declared.turns.TurnJournal.{TurnJournal}
 use Rattle.sync_journal.proofs.Copies.{distinct_homes}
 use Rattle.sync_journal.proofs.Images.{no_place}
@@ -16,24 +16,9 @@ use Rattle.sync_journal.proofs.InTurn.{start_low, start_high, apart, home_high}
 
 -- Over how often each sector had been asked for, at three moments.
 module _ (before mid now : ℕ → ℕ) (second : Bool) where
-  -- a page more of the body
-  pub filled_more : (j first : ℕ) → first ≡ turn_body second j → NamesOnce (IsTurnFilled second j) before mid → Names (IsPageSector first) mid now
-      → NamesOnce (IsTurnFilled second (j + 1)) before now
-  filled_more j first at so_far page = once_apart (IsTurnFilled second j) (IsPageSector first) (IsTurnFilled second (j + 1)) before mid now
-      (λ k inside. (inside.0, omega (arith, inside.1))) (λ k inside. (omega (arith, inside.0, at), omega (arith, inside.1, at))) (λ k one two. omega (arith, one.1, two.0, at))
-      so_far (once_named (IsPageSector first) (IsPageSector first) mid now (λ k inside. inside) page)
-
-  -- and the map after the body
-  pub part_asks : (n first : ℕ) → first ≡ start_of second → NamesOnce (IsTurnFilled second n) before mid → Names (IsPageSector first) mid now → NamesOnce (IsTurnPart second n) before now
-  part_asks n first at so_far map = once_apart (IsTurnFilled second n) (IsPageSector first) (IsTurnPart second n) before mid now
-      (λ k inside. (omega (arith, inside.0), inside.1)) (λ k inside. (omega (arith, inside.0, at), omega (arith, inside.1, at))) (λ k one two. omega (arith, one.0, two.1, at))
-      so_far (once_named (IsPageSector first) (IsPageSector first) mid now (λ k inside. inside) map)
-
+  -- a map alone
   pub map_asks : (first : ℕ) → first ≡ start_of second → Names (IsPageSector first) before now → NamesOnce (IsTurnPart second 0) before now
   map_asks first at map = once_named (IsTurnPart second 0) (IsPageSector first) before now (λ k inside. (omega (arith, inside.0, at), omega (arith, inside.1, at))) map
-
-  pub body_alone : (n : ℕ) → NamesOnce (IsTurnFilled second n) before now → NamesOnce (IsTurnPart second n) before now
-  body_alone n body = once_wider (IsTurnFilled second n) (IsTurnPart second n) before now (λ k inside. (omega (arith, inside.0), inside.1)) body
 
   -- a page more copied home, or passed over
   pub copy_more : (count : ℕ) (homes but : List ℕ) → AreHomes count homes → (j from : ℕ) → j < length homes → from ≡ turn_body second j
@@ -104,15 +89,6 @@ used_more second live homes pages more k = ⊎_elim (λ gate. inl gate) (⊎_eli
 
 -- A recovery.
 module _ {D : Type 0} (g : Ghosts D) (image : Image) where
-  pub look_gate : (old new : D) → Names (λ k. k ≡ turn_gate) (g.asked old) (g.asked new) → AsksOnly g (IsTurnAskedIn image) old new
-  look_gate old new names = asks_named g (IsTurnAskedIn image) (λ k. k ≡ turn_gate) old new (λ k here. inl here) names
-
-  pub look_map : (second : Bool) (first : ℕ) (old mid new : D) → named_in image ≡ second → first ≡ start_of second → Names (λ k. k ≡ turn_gate) (g.asked old) (g.asked mid)
-      → Names (IsPageSector first) (g.asked mid) (g.asked new) → AsksOnly g (IsTurnAskedIn image) old new
-  look_map second first old mid new gate at names map = asks_then g (IsTurnAskedIn image) old mid new (look_gate old mid names)
-      (asks_named g (IsTurnAskedIn image) (IsPageSector first) mid new
-      (λ k inside. inr (inl (subst (λ b. IsPageSector (start_of b) k) (sym gate) (omega (arith, inside.0, at), omega (arith, inside.1, at))))) map)
-
   pub recovery_asks : (journal : TurnJournal) (old read new : D) → IsNamedFor journal image → AsksOnly g (IsTurnAskedIn image) old read
       → NamesOnce (λ k. (0 < journal.live.count) × IsTurnUsed journal.second (live_homes journal.live) [] k) (g.asked read) (g.asked new) → AsksOnly g (IsTurnAskedIn image) old new
   recovery_asks journal old read new names looks once = asks_then g (IsTurnAskedIn image) old read new looks

@@ -105,6 +105,18 @@ IsReplayed homes k = IsGate k ⊎ IsHomeSector homes k
 abbrev pub IsBodySector : ℕ → ℕ → Type 0
 IsBodySector n k = (first_body_sector ≤ k) × (k < body_sector n)
 
+-- a sector of the journal whose map begins at this one
+abbrev pub IsJournalAt : ℕ → ℕ → Type 0
+IsJournalAt start k = (start ≤ k) × (k < start + 8192)
+
+-- a sector of the first n pages of its body
+abbrev pub IsFilledAt : ℕ → ℕ → ℕ → Type 0
+IsFilledAt start n k = (start + 8 ≤ k) × (k < start + 8 + 8 * n)
+
+-- a sector of its map, or of those pages
+abbrev pub IsStagedAt : ℕ → ℕ → ℕ → Type 0
+IsStagedAt start n k = (start ≤ k) × (k < start + 8 + 8 * n)
+
 -- a sector of the map, or of the first n pages of the body
 abbrev pub IsStaged : ℕ → ℕ → Type 0
 IsStaged n k = (map_sector ≤ k) × (k < body_sector n)

@@ -5,6 +5,7 @@ pub mod Standing
 pub mod Commit
 pub mod Journal
 pub mod OldJournal
+pub mod OldMaps
 pub mod Source
 pub mod Runs
 pub mod Steps

@@ -1,5 +1,6 @@
 -- What a commit does to its source, and when it tells which fault.
-use Rattle.std.specs.Prelude.{ℕ, ◌<◌, ◌≤◌, ◌≡◌, Result, OnOk, IsErrOf}
+use Rattle.std.specs.Prelude.{ℕ, ◌<◌, ◌≤◌, ◌≡◌, List, length, Result, OnOk, IsErrOf}
+use Rattle.sync_journal.specs.Map.{AreHomes}
 use Rattle.sync_journal.specs.declared.faults.CommitFault.{CommitFault}
 use Rattle.sync_journal.specs.declared.faults.CommitFault.TheVariants.{Source, Device}
 use Rattle.sync_journal.specs.declared.source.PageSource.{Ghosts}
@@ -11,6 +12,11 @@ pub record Asks {S : Type 0} (g : Ghosts S) (old new : S) : Type 0 where
   pub same : g.keeps_model new → (k : ℕ) → g.pages new k ≡ g.pages old k
   pub still : (k : ℕ) → g.gives old k → g.gives new k
   pub follows : g.follows old new
+
+-- Pages are given for homes: each is one of so many and named once, and the source gives a page for it.
+pub record GivesFor {S : Type 0} (g : Ghosts S) (limit : ℕ) (homes : List ℕ) (source : S) : Type 0 where
+  pub homes_are : AreHomes limit homes
+  pub gives : (i : ℕ) → i < length homes → g.gives source i
 
 -- A fault is told exactly where the one that it names failed in this call: whatever is told, the other one didn't fail.
 pub record HasCauses (device_before device_now source_before source_now : ℕ) (result : Result (Unit {0}) CommitFault) : Type 0 where

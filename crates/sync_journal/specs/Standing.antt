@@ -1,5 +1,5 @@
 -- What an image stands for: its home pages, but for those that an open journal holds. The format is our own.
-use Rattle.std.specs.Prelude.{ℕ, ◌+◌, ◌<◌, ◌≡◌, ◌⊎◌, Bool, true, List, length, slice_index, Option, Some, None, if◌then◌else◌}
+use Rattle.std.specs.Prelude.{ℕ, ◌+◌, ◌*◌, ◌<◌, ◌≡◌, ◌⊎◌, Bool, true, List, length, slice_index, Option, Some, None, if◌then◌else◌}
 use Rattle.disk_model.specs.Sectors.{part_of, joined}
 use Rattle.disk_model.specs.Stop.{Image}
 use Rattle.sync_journal.specs.Layout.{Layout, layout_2, map_sector, body_at, home_at, home_count_in, body_sector, home_sector, IsGate, IsStaged, IsPageSector}
@@ -62,6 +62,13 @@ AreCopied homes n old new = (j i : ℕ) → j < n → i < 8 → new (home_sector
 -- The body holds the first n of these pages.
 abbrev pub HoldsPages : ℕ → (ℕ → List ℕ) → Image → Type 0
 HoldsPages n pages image = (j i : ℕ) → j < n → i < 8 → image (body_sector j + i) ≡ part_of (pages j) i
+
+-- the same of the journal whose map begins at this sector, and that map
+abbrev pub HoldsAt : ℕ → ℕ → (ℕ → List ℕ) → Image → Type 0
+HoldsAt start n pages image = (j i : ℕ) → j < n → i < 8 → image (start + 8 + 8 * j + i) ≡ part_of (pages j) i
+
+abbrev pub map_at : ℕ → Image → List ℕ
+map_at start image = joined (λ i. image (start + i)) 8
 
 -- a sector of a home that the map of this image names
 abbrev pub IsNamedHome : Image → ℕ → Type 0

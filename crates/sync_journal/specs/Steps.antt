@@ -1,5 +1,5 @@
 -- What the steps of a commit and of a recovery come to on a device, in whichever layout.
-use Rattle.std.specs.Prelude.{ℕ, List, ◌+◌, ◌<◌, ◌≡◌, Result, OnOk, IsErr, IsErrOf}
+use Rattle.std.specs.Prelude.{ℕ, List, ◌+◌, ◌^◌, ◌<◌, ◌≤◌, ◌≡◌, Result, OnOk, IsErr, IsErrOf}
 use Rattle.disk_model.specs.Sectors.{joined}
 use Rattle.disk_model.specs.Stop.{Image, HasCause, Names, NamesOnce}
 use Rattle.disk_model.specs.Moments.{LeavesOnly, AsksOnly, Nothing}
@@ -9,7 +9,7 @@ use Rattle.sync_journal.specs.declared.faults.CommitFault.{CommitFault}
 use Rattle.sync_journal.specs.declared.faults.RecoverFault.{RecoverFault}
 use Rattle.sync_journal.specs.declared.faults.RecoverFault.TheVariants.{Device, BadJournal}
 use Rattle.sync_journal.specs.declared.source.PageSource as Source
-use Rattle.sync_journal.specs.Layout.{IsPageSector}
+use Rattle.sync_journal.specs.Layout.{page_limit, IsPageSector}
 use Rattle.sync_journal.specs.Runs.{RunsOnDevice}
 use Rattle.sync_journal.specs.Source.{Asks, HasCauses}
 
@@ -78,6 +78,11 @@ module _ {D : Type 0} (g : Ghosts D) where
     pub calm : OnOk result (g.failures new ≡ g.failures old)
     pub still : IsErrOf result BadJournal → g.failures new ≡ g.failures old
 
+  -- The device has a store's sectors, and none of it is unsynced.
+  pub record IsSyncedStore (homes : ℕ) (disk : D) : Type 0 where
+    pub room : homes ≤ g.sector_count disk
+    pub synced : g.keeps_model disk → (k : ℕ) → g.unsynced disk k → ⊥
+
   -- A journal is looked at:
   pub record LooksOnly {T : Type 0} (old new : D) (result : Result T RecoverFault) : Type 0 where
     -- nothing is written,
@@ -98,23 +103,33 @@ module _ {D S : Type 0} (g : Ghosts D) (s : Source.Ghosts S) where
     -- and each fault has its cause.
     pub causes : HasCauses (g.failures old) (g.failures new) (s.failures from) (s.failures left) result
 
+  -- The journal that begins at a sector may be filled: the device has it, it has room for so many pages, and a source gives these.
+  pub record MayFill (start count : ℕ) (disk : D) (source : S) : Type 0 where
+    pub room : start + 8192 ≤ g.sector_count disk
+    pub low : start < 2 ^ 32
+    pub few : count ≤ page_limit
+    pub gives : (i : ℕ) → i < count → s.gives source i
+
   -- The pages that a source gives are written to a journal's body:
-  pub record FillsBody (Asked : ℕ → Type 0) (After : Type 0) (old new : D) (left : S) (result : Result (Unit {0}) CommitFault) : Type 0 where
+  pub record FillsBody (Written Asked : ℕ → Type 0) (After : Type 0) (old new : D) (from left : S) (result : Result (Unit {0}) CommitFault) : Type 0 where
     -- it holds them,
     pub body : g.keeps_model new → s.keeps_model left → OnOk result After
-    -- and no sector is asked for twice, nor any but those that they take.
+    -- no sector is asked for twice, nor any but those that they take,
     pub once : NamesOnce Asked (g.asked old) (g.asked new)
+    -- and nothing else is done.
+    pub takes : TakesPages Written old new from left result
+    pub open takes use *
 
   -- The pages that a source gives are written to a journal, with the homes that they are of:
-  pub record FillsJournal (Asked : ℕ → Type 0) (After Mapped : Type 0) (old new : D) (left : S) (result : Result (Unit {0}) CommitFault) : Type 0 where
-    pub fills : FillsBody Asked After old new left result
+  pub record FillsJournal (Written Asked : ℕ → Type 0) (After Mapped : Type 0) (old new : D) (from left : S) (result : Result (Unit {0}) CommitFault) : Type 0 where
+    pub fills : FillsBody Written Asked After old new from left result
     pub open fills use *
     -- its map names these.
     pub map : g.keeps_model new → OnOk result Mapped
 
   -- and all of that is synced:
-  pub record SyncsJournal (Asked : ℕ → Type 0) (After Mapped : Type 0) (old new : D) (left : S) (result : Result (Unit {0}) CommitFault) : Type 0 where
-    pub fills : FillsJournal Asked After Mapped old new left result
+  pub record SyncsJournal (Written Asked : ℕ → Type 0) (After Mapped : Type 0) (old new : D) (from left : S) (result : Result (Unit {0}) CommitFault) : Type 0 where
+    pub fills : FillsJournal Written Asked After Mapped old new from left result
     pub open fills use *
     -- nothing is unsynced then.
     pub synced : g.keeps_model new → OnOk result ((k : ℕ) → g.unsynced new k → ⊥)

@@ -100,10 +100,6 @@ IsTurnOutside sectors k = (k < turn_gate) ⊎ (turn_home (turn_home_count sector
 abbrev pub IsTurnPart : Bool → ℕ → ℕ → Type 0
 IsTurnPart second n k = (start_of second ≤ k) × (k < turn_body second n)
 
--- the first n pages of a journal's body
-abbrev pub IsTurnFilled : Bool → ℕ → ℕ → Type 0
-IsTurnFilled second n k = (turn_body second 0 ≤ k) × (k < turn_body second n)
-
 -- what the first n of these homes are copied from and to, but for those that the other list names
 abbrev pub IsTurnCopy : Bool → List ℕ → List ℕ → ℕ → ℕ → Type 0
 IsTurnCopy second homes but n k = (j : ℕ) × (j < n) × (home_rank but (slice_index homes j) ≡ None)

@@ -8,6 +8,7 @@ ghost use Rattle.disk_model.specs.Sectors.{joined};
 ghost use Rattle.sync_journal.specs.Commit.{IsAtRest, IsSettled, HomesStandAs};
 ghost use Rattle.sync_journal.specs.Journal.{live_homes};
 ghost use Rattle.sync_journal.specs.Committing.{CommitsOne};
+ghost use Rattle.sync_journal.specs.Source.{GivesFor};
 ghost use Rattle.sync_journal.specs.Steps.{SeesHome, MovesHome};
 
 use crate::faults::CommitFault;
@@ -50,9 +51,8 @@ impl Journal {
         source: &mut S,
     ) -> Result<(), CommitFault>
         requires some { 0 < length homes.now }
-        requires homes { AreHomes (home_count (D.sector_count disk.old)) homes.now }
+        requires given { GivesFor S.PageSource (home_count (D.sector_count disk.old)) homes.now source.old }
         requires live { AreHomes (home_count (D.sector_count disk.old)) (live_homes self.old) }
-        requires gives { (i : ℕ) → i < length homes.now → S.gives source.old i }
         requires rest { D.keeps_model disk.old → IsAtRest D.SectorDisk (live_homes self.old) disk.old }
         ensures { CommitsOne D.SectorDisk S.PageSource self.old self.new homes.now disk.old disk.new source.old source.new result }
     {

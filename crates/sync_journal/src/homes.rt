@@ -5,7 +5,7 @@ ghost use Rattle.sync_journal.specs.Gate.{closed_sector};
 ghost use Rattle.sync_journal.specs.Map.{AreHomes};
 ghost use Rattle.sync_journal.specs.Standing.{IsOpenFor, AreCopied, standing_single};
 ghost use Rattle.sync_journal.specs.Commit.{IsSettled, HomesStandAs};
-ghost use Rattle.sync_journal.specs.Steps.{WritesInto, SyncsInto, MovesHome};
+ghost use Rattle.sync_journal.specs.Steps.{IsSyncedStore, WritesInto, SyncsInto, MovesHome};
 
 use crate::gate::close_gate;
 use crate::layout::{BODY, FIRST_HOME, PAGE_SECTORS};
@@ -14,10 +14,9 @@ use disk_model::{DiskFault, SectorDisk};
 
 /// Copies the pages of an open journal to their homes, and then closes the gate.
 pub(crate) fn replay<D: SectorDisk>(disk: &mut D, homes: &[u32]) -> Result<(), DiskFault>
-    requires room { first_home_sector ≤ D.sector_count disk.old }
+    requires on { IsSyncedStore D.SectorDisk first_home_sector disk.old }
     requires homes { AreHomes (home_count (D.sector_count disk.old)) homes.now }
     requires opened { D.keeps_model disk.old → IsOpenFor homes.now (D.content disk.old) }
-    requires synced { D.keeps_model disk.old → (k : ℕ) → D.unsynced disk.old k → ⊥ }
     ensures home { MovesHome D.SectorDisk (IsReplayed homes.now) (IsFinished homes.now) (HomesStandAs (D.sector_count disk.old) (D.content disk.old))
         (IsSettled D.SectorDisk (D.sector_count disk.old) (D.content disk.old) [] disk.new (standing_single (D.content disk.old))) disk.old disk.new result }
     ensures zeros { D.keeps_model disk.new → OnOk result (D.content disk.new gate_sector ≡ closed_sector) }

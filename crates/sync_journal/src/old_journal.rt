@@ -1,11 +1,10 @@
 //! The journal of a store of the layout before, which is only read.
-ghost use Rattle.std.specs.Prelude.{◌≡◌, ◌<◌, ◌≤◌, ◌+◌, ◌*◌, ◌⊎◌, IfOk, OnOk, IsErr};
-ghost use Rattle.disk_model.specs.Moments.{AsksOnly, Nothing};
+ghost use Rattle.std.specs.Prelude.{◌≡◌, ◌<◌, ◌≤◌, ◌+◌, ◌*◌, ◌⊎◌};
 ghost use Rattle.disk_model.specs.Sectors.{joined};
-ghost use Rattle.sync_journal.specs.Layout.{layout_1, layout_2, layout_before, home_at, home_count_in, IsPageSector, IsMapIn};
-ghost use Rattle.sync_journal.specs.Map.{home_rank, IsWithinHomes, ReadsMap};
-ghost use Rattle.sync_journal.specs.Runs.{RunsOnDevice};
-ghost use Rattle.sync_journal.specs.Standing.{standing_in, place_or_home_in, map_in};
+ghost use Rattle.sync_journal.specs.Layout.{layout_1, layout_2, layout_before, home_at, home_count_in, IsPageSector};
+ghost use Rattle.sync_journal.specs.Map.{home_rank};
+ghost use Rattle.sync_journal.specs.OldMaps.{ReadsHomes};
+ghost use Rattle.sync_journal.specs.Standing.{standing_in, place_or_home_in};
 ghost use Rattle.sync_journal.specs.Steps.{SeesHome};
 
 use crate::commits::place;
@@ -139,12 +138,7 @@ fn read_map<D: SectorDisk>(
     homes: &mut [u32; PAGE_LIMIT],
 ) -> Result<Option<usize>, DiskFault>
     requires { (layout_before journals).homes ≤ D.sector_count disk.old }
-    ensures run { RunsOnDevice D.SectorDisk Nothing disk.old disk.new }
-    ensures asks { AsksOnly D.SectorDisk (IsMapIn (layout_before journals)) disk.old disk.new }
-    ensures failed { IsErr result → D.failures disk.old < D.failures disk.new }
-    ensures calm { OnOk result (D.failures disk.new ≡ D.failures disk.old) }
-    ensures few { IfOk result (λ found. IsWithinHomes (layout_before journals).most found) }
-    ensures names { D.keeps_model disk.new → IfOk result (λ found. ReadsMap (layout_before journals).most (home_count_in (layout_before journals) (D.sector_count disk.old)) (map_in (layout_before journals) (D.content disk.old)) homes.new found) }
+    ensures { ReadsHomes D.SectorDisk (layout_before journals) disk.old disk.new homes.new result }
 {
     match journals {
         Journals::Single => read_map_of_1(disk, homes),
@@ -158,12 +152,7 @@ fn read_map_of_1<D: SectorDisk>(
     homes: &mut [u32; PAGE_LIMIT],
 ) -> Result<Option<usize>, DiskFault>
     requires { layout_1.homes ≤ D.sector_count disk.old }
-    ensures run { RunsOnDevice D.SectorDisk Nothing disk.old disk.new }
-    ensures asks { AsksOnly D.SectorDisk (IsMapIn layout_1) disk.old disk.new }
-    ensures failed { IsErr result → D.failures disk.old < D.failures disk.new }
-    ensures calm { OnOk result (D.failures disk.new ≡ D.failures disk.old) }
-    ensures few { IfOk result (λ found. IsWithinHomes layout_1.most found) }
-    ensures names { D.keeps_model disk.new → IfOk result (λ found. ReadsMap layout_1.most (home_count_in layout_1 (D.sector_count disk.old)) (map_in layout_1 (D.content disk.old)) homes.new found) }
+    ensures { ReadsHomes D.SectorDisk layout_1 disk.old disk.new homes.new result }
 {
     let mut map = [0; 512];
     disk.read(MAP, &mut map)?;
@@ -181,12 +170,7 @@ fn read_map_of_2<D: SectorDisk>(
     homes: &mut [u32; PAGE_LIMIT],
 ) -> Result<Option<usize>, DiskFault>
     requires { layout_2.homes ≤ D.sector_count disk.old }
-    ensures run { RunsOnDevice D.SectorDisk Nothing disk.old disk.new }
-    ensures asks { AsksOnly D.SectorDisk (IsMapIn layout_2) disk.old disk.new }
-    ensures failed { IsErr result → D.failures disk.old < D.failures disk.new }
-    ensures calm { OnOk result (D.failures disk.new ≡ D.failures disk.old) }
-    ensures few { IfOk result (λ found. IsWithinHomes layout_2.most found) }
-    ensures names { D.keeps_model disk.new → IfOk result (λ found. ReadsMap layout_2.most (home_count_in layout_2 (D.sector_count disk.old)) (map_in layout_2 (D.content disk.old)) homes.new found) }
+    ensures { ReadsHomes D.SectorDisk layout_2 disk.old disk.new homes.new result }
 {
     let mut map = [0; 4096];
     read_page(disk, MAP, &mut map)?;

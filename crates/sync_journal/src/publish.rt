@@ -1,9 +1,9 @@
 //! Pages that stand in the journal once the gate is open.
-ghost use Rattle.std.specs.Prelude.{◌<◌, ℕ, length};
+ghost use Rattle.std.specs.Prelude.{◌<◌, length};
 ghost use Rattle.sync_journal.specs.Layout.{home_count};
-ghost use Rattle.sync_journal.specs.Map.{AreHomes};
 ghost use Rattle.sync_journal.specs.Commit.{IsQuiet};
 ghost use Rattle.sync_journal.specs.Committing.{Publishes};
+ghost use Rattle.sync_journal.specs.Source.{GivesFor};
 
 use crate::faults::CommitFault;
 use crate::gate::open_gate;
@@ -19,8 +19,7 @@ pub(crate) fn publish<D: SectorDisk, S: PageSource>(
     source: &mut S,
 ) -> Result<(), CommitFault>
     requires some { 0 < length homes.now }
-    requires homes { AreHomes (home_count (D.sector_count disk.old)) homes.now }
-    requires gives { (i : ℕ) → i < length homes.now → S.gives source.old i }
+    requires given { GivesFor S.PageSource (home_count (D.sector_count disk.old)) homes.now source.old }
     requires quiet { D.keeps_model disk.old → IsQuiet D.SectorDisk disk.old }
     ensures { Publishes D.SectorDisk S.PageSource homes.now disk.old disk.new source.old source.new result }
 {

@@ -8,7 +8,7 @@ ghost use Rattle.sync_journal.specs.Standing.{IsAskedIn};
 ghost use Rattle.sync_journal.specs.Commit.{HomesStandAs};
 ghost use Rattle.sync_journal.specs.Stops.{LeftByRecoveries};
 ghost use Rattle.sync_journal.specs.Recovering.{RecoversOne};
-ghost use Rattle.sync_journal.specs.Steps.{LooksOnly};
+ghost use Rattle.sync_journal.specs.Steps.{IsSyncedStore, LooksOnly};
 
 use crate::faults::RecoverFault;
 use crate::gate::is_open_gate;
@@ -41,8 +41,7 @@ pub fn stops_in_a_row<D: SectorDisk>(_disk: &D)
 
 // Recovers a device that has nothing unsynced.
 pub(crate) fn recover_synced<D: SectorDisk>(disk: &mut D) -> Result<(), RecoverFault>
-    requires room { first_home_sector ≤ D.sector_count disk.old }
-    requires synced { D.keeps_model disk.old → (k : ℕ) → D.unsynced disk.old k → ⊥ }
+    requires { IsSyncedStore D.SectorDisk first_home_sector disk.old }
     ensures { RecoversOne D.SectorDisk disk.old disk.new result }
 {
     let mut homes = [0; PAGE_LIMIT];

@@ -2,16 +2,15 @@
 ghost use Rattle.std.specs.Prelude.{◌≡◌, ◌<◌, ◌≤◌, ◌⊎◌, ◌+◌, ℕ, [], length, None, IfOk, IsErrOf};
 ghost use Rattle.disk_model.specs.Moments.{AsksOnly};
 ghost use Rattle.disk_model.specs.Sectors.{joined};
-ghost use Rattle.sync_journal.specs.Layout.{page_limit, IsPageSector};
+ghost use Rattle.sync_journal.specs.Layout.{IsPageSector};
 ghost use Rattle.sync_journal.specs.Gate.{is_open_sector};
 ghost use Rattle.sync_journal.specs.Map.{AreHomes, map_bytes, home_rank};
 ghost use Rattle.sync_journal.specs.Journal.{live_homes};
-ghost use Rattle.sync_journal.specs.Turns.{turn_homes, start_of, turn_home, turn_home_count, turn_home_count as homes_of, named_in, turn_map, turn_stands, turn_standing, IsTurnSector, IsTurnGate, IsTurnHome, IsBadTurn, IsTurnPart, IsTurnFilled, IsTurnCopy, IsTurnAskedIn, HoldsJournal, AreCopiedBut, IsTurnRest};
+ghost use Rattle.sync_journal.specs.Turns.{turn_homes, start_of, turn_home, turn_home_count, turn_home_count as homes_of, named_in, turn_map, turn_stands, turn_standing, IsTurnSector, IsTurnGate, IsTurnHome, IsBadTurn, IsTurnPart, IsTurnCopy, IsTurnAskedIn, HoldsJournal, AreCopiedBut, IsTurnRest};
 ghost use Rattle.sync_journal.specs.Recovering.{RecoversInTurn, IsNamedLive, EmptiesNamed};
 ghost use Rattle.sync_journal.specs.Committing.{CommitsInTurn};
-ghost use Rattle.sync_journal.specs.Steps.{SeesHome, WritesInto, SyncsInto, LooksOnly, FillsBody, FillsJournal};
-ghost use Rattle.sync_journal.specs.Source.{Asks, HasCauses};
-ghost use Rattle.sync_journal.specs.Runs.{RunsOnDevice};
+ghost use Rattle.sync_journal.specs.Steps.{SeesHome, WritesInto, SyncsInto, LooksOnly, IsSyncedStore, MayFill, FillsJournal};
+ghost use Rattle.sync_journal.specs.Source.{GivesFor};
 
 use crate::commits::place;
 use crate::faults::{CommitFault, RecoverFault};
@@ -21,6 +20,7 @@ use crate::layout::{MAX_HOMES, PAGE_LIMIT, PAGE_SECTORS};
 use crate::map::{map_page, read_homes};
 use crate::pages::{copy_page, read_page, write_page};
 use crate::source::PageSource;
+use crate::stage::{MAP_SECTORS, fill_journal};
 use disk_model::{DiskFault, SectorDisk};
 
 /// The gate.
@@ -28,9 +28,6 @@ pub const TURN_GATE: u64 = 16;
 
 /// The first sector of the first home page.
 pub const TURN_HOMES: u64 = 16408;
-
-/// The sectors of a journal's map, behind which its body begins.
-const MAP_SECTORS: u64 = 8;
 
 /// The journal of a store of layout 3: two, in turn.
 #[derive(Debug, Drop)]
@@ -52,9 +49,8 @@ impl TurnJournal {
         source: &mut S,
     ) -> Result<(), CommitFault>
         requires room { turn_homes ≤ D.sector_count disk.old }
-        requires homes { AreHomes (turn_home_count (D.sector_count disk.old)) homes.now }
+        requires given { GivesFor S.PageSource (turn_home_count (D.sector_count disk.old)) homes.now source.old }
         requires live { AreHomes (turn_home_count (D.sector_count disk.old)) (live_homes self.old.live) }
-        requires gives { (i : ℕ) → i < length homes.now → S.gives source.old i }
         requires rest { D.keeps_model disk.old → IsTurnRest D.SectorDisk self.old.second (live_homes self.old.live) disk.old }
         ensures { CommitsInTurn D.SectorDisk S.PageSource self.old self.new homes.now disk.old disk.new source.old source.new result }
     {
@@ -85,10 +81,9 @@ impl TurnJournal {
 
     // A commit of no pages: what was live stands in its homes then, and the journal that the gate names is empty.
     fn finish<D: SectorDisk>(&mut self, disk: &mut D) -> Result<(), DiskFault>
-        requires room { turn_homes ≤ D.sector_count disk.old }
+        requires on { IsSyncedStore D.SectorDisk turn_homes disk.old }
         requires live { AreHomes (turn_home_count (D.sector_count disk.old)) (live_homes self.old.live) }
         requires rest { D.keeps_model disk.old → IsTurnRest D.SectorDisk self.old.second (live_homes self.old.live) disk.old }
-        requires synced { D.keeps_model disk.old → (k : ℕ) → D.unsynced disk.old k → ⊥ }
         ensures { EmptiesNamed D.SectorDisk self.old self.new disk.old disk.new result }
     {
         if self.live.count > 0 {
@@ -139,8 +134,7 @@ fn start(second: bool) -> u64
 
 // Reads the gate and the map of the journal that it names, whose pages are then live.
 pub(crate) fn find_named<D: SectorDisk>(disk: &mut D) -> Result<TurnJournal, RecoverFault>
-    requires room { turn_homes ≤ D.sector_count disk.old }
-    requires synced { D.keeps_model disk.old → (k : ℕ) → D.unsynced disk.old k → ⊥ }
+    requires { IsSyncedStore D.SectorDisk turn_homes disk.old }
     ensures looks { LooksOnly D.SectorDisk disk.old disk.new result }
     ensures asks { D.keeps_model disk.new → AsksOnly D.SectorDisk (IsTurnAskedIn (D.content disk.old)) disk.old disk.new }
     ensures ok { IfOk result (λ journal. IsNamedLive D.SectorDisk disk.old disk.new journal) }
@@ -175,18 +169,11 @@ fn stage_in<D: SectorDisk, S: PageSource>(
     homes: &[u32],
     source: &mut S,
 ) -> Result<(), CommitFault>
-    requires room { turn_homes ≤ D.sector_count disk.old }
-    requires few { length homes.now ≤ page_limit }
-    requires gives { (i : ℕ) → i < length homes.now → S.gives source.old i }
-    ensures fills { FillsJournal D.SectorDisk S.PageSource (IsTurnPart second (length homes.now))
-        (HoldsJournal second (length homes.now) (S.pages source.old) (D.content disk.new)) (turn_map second (D.content disk.new) ≡ map_bytes homes.now) disk.old disk.new source.new result }
-    ensures run { RunsOnDevice D.SectorDisk (IsTurnSector second) disk.old disk.new }
-    ensures asks { Asks S.PageSource source.old source.new }
-    ensures causes { HasCauses (D.failures disk.old) (D.failures disk.new) (S.failures source.old) (S.failures source.new) result }
+    requires { MayFill D.SectorDisk S.PageSource (start_of second) (length homes.now) disk.old source.old }
+    ensures { FillsJournal D.SectorDisk S.PageSource (IsTurnSector second) (IsTurnPart second (length homes.now))
+        (HoldsJournal second (length homes.now) (S.pages source.old) (D.content disk.new)) (turn_map second (D.content disk.new) ≡ map_bytes homes.now) disk.old disk.new source.old source.new result }
 {
-    write_pages(disk, second, homes.len(), source)?;
-    write_page(disk, start(second), &map_page(homes))?;
-    Ok(())
+    fill_journal(disk, start(second), homes, source)
 }
 
 // Writes a map of no pages, and syncs nothing.
@@ -195,30 +182,6 @@ fn clear_map<D: SectorDisk>(disk: &mut D, second: bool) -> Result<(), DiskFault>
     ensures { WritesInto D.SectorDisk (IsTurnSector second) (IsTurnPart second 0) (turn_map second (D.content disk.new) ≡ map_bytes []) disk.old disk.new result }
 {
     write_page(disk, start(second), &map_page(&[]))
-}
-
-// Writes the first pages that the source gives into a journal's body.
-fn write_pages<D: SectorDisk, S: PageSource>(
-    disk: &mut D,
-    second: bool,
-    count: usize,
-    source: &mut S,
-) -> Result<(), CommitFault>
-    requires room { turn_homes ≤ D.sector_count disk.old }
-    requires few { count ≤ page_limit }
-    requires gives { (i : ℕ) → i < count → S.gives source.old i }
-    ensures fills { FillsBody D.SectorDisk S.PageSource (IsTurnFilled second count) (HoldsJournal second count (S.pages source.old) (D.content disk.new)) disk.old disk.new source.new result }
-    ensures run { RunsOnDevice D.SectorDisk (IsTurnSector second) disk.old disk.new }
-    ensures asks { Asks S.PageSource source.old source.new }
-    ensures causes { HasCauses (D.failures disk.old) (D.failures disk.new) (S.failures source.old) (S.failures source.new) result }
-{
-    let body = start(second) + MAP_SECTORS;
-    let mut page = [0; 4096];
-    for j in 0..count {
-        source.page(j, &mut page)?;
-        write_page(disk, body + PAGE_SECTORS * j as u64, &page)?;
-    }
-    Ok(())
 }
 
 // Copies the live pages of a journal to their homes, but those that the list names, and syncs.

@@ -109,11 +109,6 @@ steps (v ∷ vs) rest text h (p ∷ ps) others (n ∷ ns) l e numbers =
     let more = steps vs rest h.0 h.2 ps others ns (omega (arith, l)) one.1 numbers.1 in
     (ap (λ x. x ∷ vs) one.0 ∙ ap (λ t. n ∷ t) more.0, more.1)
 
--- nothing was read, so the first of several words writes no number
-pub no_step : (text : List ℕ) → ((n : ℕ) (rest : List ℕ) → BeginsWith n rest text → ⊥) → (p next : List ℕ) (others : List (List ℕ)) (n : ℕ)
-    → words_of text ≡ p ∷ next ∷ others → IsNumber p n → ⊥
-no_step text none p next others n e h = none n _ (begins_with text p next others n e h)
-
 -- a text with no space has one word alone
 pub one_alone : (word rest text : List ℕ) → text ≡ word ++ 32 ∷ rest → HasNoSpace text → ⊥
 one_alone word rest text e plain = let P : List ℕ → Type 0 = λ t. HasNoSpace t in spaced word (subst P e plain)

@@ -41,14 +41,3 @@ lines_of-open (b ∷ []) h = lines_of-cons b [] (no_newline-first b [] h)
 lines_of-open (b ∷ c ∷ line) h =
     lines_of-cons b (c ∷ line) (no_newline-first b (c ∷ line) h)
     ∙ ap (λ t. onto_line b t) (lines_of-open (c ∷ line) (no_newline-tail b (c ∷ line) h))
-
--- the lines of what was cut are the lines that were ended, and then the last one where it isn't empty
-pub lines_of-cuts : (bytes : List ℕ) (lines : List (List ℕ)) (open_line : List ℕ) → Cuts bytes lines open_line → lines_of bytes ≡ lines ++ last_line open_line
-lines_of-cuts bytes lines open_line h = ap lines_of h.whole ∙ whole lines h.each
-  where
-    whole : (ls : List (List ℕ)) → All HasNoNewline ls → lines_of (flat_map ended ls ++ open_line) ≡ ls ++ last_line open_line
-    whole [] each = lines_of-open open_line h.rest
-    whole (line ∷ ls) each =
-        ap lines_of (append_assoc (line ++ 10 ∷ []) (flat_map ended ls) open_line ∙ append_assoc line (10 ∷ []) (flat_map ended ls ++ open_line))
-        ∙ lines_of-ended line (flat_map ended ls ++ open_line) (each 0 [] (omega arith))
-        ∙ ap (λ t. line ∷ t) (whole ls (λ k d l. each (suc k) d (omega arith)))

@@ -74,7 +74,3 @@ pub no_command : (ws : List (List ℕ)) (r : Option Command) → r ≡ None → 
 no_command ws r e unnamed =
     let P : Option Command → Type 0 = λ t. ReadsWords ws t in
     subst P (sym e) record { found = tt; only = λ command h. absurd (unnamed (form_name command) (begins ws command h)) }
-
--- P of a word of one account from that of the other
-pub at_word : (P : List ℕ → Type 0) (k : ℕ) {xs ys : List (List ℕ)} → xs ≡ ys → P (get_or ys k []) → P (get_or xs k [])
-at_word P k e h = subst P (sym (ap (λ ws. get_or ws k []) e)) h

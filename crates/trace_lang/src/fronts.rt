@@ -5,18 +5,16 @@ ghost use Rattle.vm_types.specs.Width.{byte_count};
 ghost use Rattle.vm_types.specs.declared.width.Width.{Width};
 
 use crate::numerals::{front_digits, parse_number};
+use crate::radices::{DECIMAL, HEXADECIMAL, Radix};
 use crate::words::cut;
 use vm_types::Width;
 
-/// The number that at most `most` digits write before the first space, and what stands after it.
+/// The number that digits write before the first space, no more than there is always room for, and what stands after it.
 #[inline(always)]
-fn short_front(text: &[u8], radix: u32, most: usize) -> Option<(u64, &[u8])>
-    requires low { 2 ≤ radix }
-    requires high { radix ≤ 36 }
-    requires room { radix ^ most ≤ 2 ^ 64 }
-    ensures { IfSome result (λ r. BeginsWithDigits radix r.0 r.1.now text.now) }
+fn short_front(text: &[u8], radix: Radix) -> Option<(u64, &[u8])>
+    ensures { IfSome result (λ r. BeginsWithDigits radix.base r.0 r.1.now text.now) }
 {
-    let (value, at) = front_digits(text, radix, most);
+    let (value, at) = front_digits(text, radix);
     if at > 0 && at < text.len() && text[at] == b' ' {
         Some((value, &text[at + 1..]))
     } else {
@@ -31,7 +29,7 @@ fn any_front(text: &[u8]) -> Option<(u64, &[u8])>
     ensures none { IfNone result ((n : ℕ) (rest : List ℕ) → BeginsWith n rest text.now → ⊥) }
 {
     if let [b'0', b'x', digits @ ..] = text {
-        if let Some(front) = short_front(digits, 16, 16) {
+        if let Some(front) = short_front(digits, HEXADECIMAL) {
             return Some(front);
         }
     }
@@ -46,7 +44,7 @@ pub(crate) fn front_number(text: &[u8]) -> Option<(u64, &[u8])>
     ensures found { IfSome result (λ r. BeginsWith r.0 r.1.now text.now) }
     ensures none { IfNone result ((n : ℕ) (rest : List ℕ) → BeginsWith n rest text.now → ⊥) }
 {
-    match short_front(text, 10, 19) {
+    match short_front(text, DECIMAL) {
         Some(front) => Some(front),
         None => any_front(text),
     }

@@ -8,6 +8,7 @@ mod names;
 mod numerals;
 mod output;
 mod parsing;
+mod radices;
 mod texts;
 mod words;
 

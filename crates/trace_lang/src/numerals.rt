@@ -7,25 +7,24 @@ ghost use Rattle.vm_types.specs.Width.{byte_count};
 ghost use Rattle.vm_types.specs.declared.access.StoredValue.{StoredValue};
 ghost use Rattle.vm_types.specs.declared.width.Width.{Width};
 
+use crate::radices::{DECIMAL, HEXADECIMAL, Radix};
 use fast_float::parse_u64;
 use vm_types::{StoredValue, Width};
 
-/// The number that digits write in a radix, 2 to 36; `None` exactly where there is no digit, a byte is no digit of the radix,
+/// The number that digits write in a radix; `None` exactly where there is no digit, a byte is no digit of the radix,
 /// or the number is 2^64 or more.
 // (inlined, so that each call has its radix as a constant)
 #[inline(always)]
-fn value_of(digits: &[u8], radix: u32) -> Option<u64>
-    requires low { 2 ≤ radix }
-    requires high { radix ≤ 36 }
-    ensures { SomeIff result (IsNumeral radix digits.now × (digits_value radix digits.now < 2 ^ 64)) (digits_value radix digits.now) }
+fn value_of(digits: &[u8], radix: Radix) -> Option<u64>
+    ensures { SomeIff result (IsNumeral radix.base digits.now × (digits_value radix.base digits.now < 2 ^ 64)) (digits_value radix.base digits.now) }
 {
     if digits.is_empty() {
         return None;
     }
     let mut value: u64 = 0;
     for byte in digits {
-        let digit = char::from(*byte).to_digit(radix)?;
-        value = with_digit(value, u64::from(radix), u64::from(digit))?;
+        let digit = char::from(*byte).to_digit(radix.base)?;
+        value = with_digit(value, u64::from(radix.base), u64::from(digit))?;
     }
     Some(value)
 }
@@ -45,42 +44,35 @@ fn with_digit(value: u64, radix: u64, digit: u64) -> Option<u64>
     shifted.checked_add(digit)
 }
 
-/// The number that the digits at the front of a text write, and how many these are: `most` of them at most, for which there is
-/// always room.
+/// The number that the digits at the front of a text write, and how many these are: at most as many as there is always room for.
 #[inline(always)]
-pub(crate) fn front_digits(text: &[u8], radix: u32, most: usize) -> (u64, usize)
-    requires low { 2 ≤ radix }
-    requires high { radix ≤ 36 }
-    requires room { radix ^ most ≤ 2 ^ 64 }
-    ensures count { (result.1 ≤ length text.now) × (result.1 ≤ most) }
-    ensures digits { AllDigits radix (take result.1 text.now) × (result.0 ≡ digits_value radix (take result.1 text.now)) }
+pub(crate) fn front_digits(text: &[u8], radix: Radix) -> (u64, usize)
+    ensures count { (result.1 ≤ length text.now) × (result.1 ≤ radix.most) }
+    ensures digits { AllDigits radix.base (take result.1 text.now) × (result.0 ≡ digits_value radix.base (take result.1 text.now)) }
     // It ends at a byte that is no digit, or for want of more.
-    ensures end { result.1 < length text.now → result.1 < most → radix ≤ digit_value (slice_index text.now result.1) }
+    ensures end { result.1 < length text.now → result.1 < radix.most → radix.base ≤ digit_value (slice_index text.now result.1) }
 {
-    let end = text.len().min(most);
+    let end = text.len().min(radix.most);
     let mut value: u64 = 0;
     for at in 0..end {
-        let Some(digit) = char::from(text[at]).to_digit(radix) else {
+        let Some(digit) = char::from(text[at]).to_digit(radix.base) else {
             return (value, at);
         };
-        value = value * u64::from(radix) + u64::from(digit);
+        value = value * u64::from(radix.base) + u64::from(digit);
     }
     (value, end)
 }
 
-/// The number that at most `most` digits write, for which there is always room.
+/// The number that no more digits write than there is always room for.
 #[inline(always)]
-fn short_numeral(digits: &[u8], radix: u32, most: usize) -> Option<u64>
-    requires low { 2 ≤ radix }
-    requires high { radix ≤ 36 }
-    requires room { radix ^ most ≤ 2 ^ 64 }
-    requires short { length digits.now ≤ most }
-    ensures { SomeIff result (IsNumeral radix digits.now × (digits_value radix digits.now < 2 ^ 64)) (digits_value radix digits.now) }
+fn short_numeral(digits: &[u8], radix: Radix) -> Option<u64>
+    requires short { length digits.now ≤ radix.most }
+    ensures { SomeIff result (IsNumeral radix.base digits.now × (digits_value radix.base digits.now < 2 ^ 64)) (digits_value radix.base digits.now) }
 {
     if digits.is_empty() {
         return None;
     }
-    let (value, count) = front_digits(digits, radix, most);
+    let (value, count) = front_digits(digits, radix);
     if count == digits.len() {
         Some(value)
     } else {
@@ -107,10 +99,10 @@ fn decimal_of(digits: &[u8]) -> Option<u64>
     ensures { SomeIff result (IsNumeral 10 digits.now × (digits_value 10 digits.now < 2 ^ 64)) (digits_value 10 digits.now) }
 {
     match digits.len() {
-        0..=7 => short_numeral(digits, 10, 19),
+        0..=7 => short_numeral(digits, DECIMAL),
         8..=19 => long_decimal(digits),
         // with so many, `parse_u64` counts in 128 bits
-        _ => value_of(digits, 10),
+        _ => value_of(digits, DECIMAL),
     }
 }
 
@@ -120,8 +112,8 @@ fn hexadecimal_of(digits: &[u8]) -> Option<u64>
     ensures { SomeIff result (IsNumeral 16 digits.now × (digits_value 16 digits.now < 2 ^ 64)) (digits_value 16 digits.now) }
 {
     match digits.len() {
-        0..=16 => short_numeral(digits, 16, 16),
-        _ => value_of(digits, 16),
+        0..=16 => short_numeral(digits, HEXADECIMAL),
+        _ => value_of(digits, HEXADECIMAL),
     }
 }
 

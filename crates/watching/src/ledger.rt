@@ -8,12 +8,12 @@ use crate::events::{Content, Event, Refuge, Source};
 use crate::targets::Target;
 use crate::ways::{Way, frame_in, slot_in, top_level};
 use disk_model::SectorDisk;
-use inspection::{FrameView, Holding, Place, Step};
+use inspection::{FrameView, Holding, Mapper, PageEntry, PageView, Place, Step};
 use machine::Machine;
 use std::alloc::{AllocError, Global};
 use std::io::{self, Write};
 use sv39_walk::Pte;
-use vm_types::{FrameNo, PageKey, Pid, SlotNo};
+use vm_types::{FrameNo, PageKey, Pid};
 
 /// What each frame held after the last command, and what was counted since the start.
 #[derive(Drop)]
@@ -32,9 +32,11 @@ struct Held {
     owner: Option<Pid>,
 }
 
-/// What is known of a command whose frames are compared.
-#[derive(Clone, Copy)]
-pub(crate) struct Inquiry<'a> {
+/// A command whose frames are compared.
+#[derive(Drop)]
+pub(crate) struct Inquiry<'a, D, E> {
+    /// The machine after it.
+    pub machine: &'a Machine<D, E>,
     /// The page of an access.
     pub target: Option<&'a Target>,
     /// The frame that the page of an access has as its own now, and had not before.
@@ -74,18 +76,17 @@ impl Ledger {
     /// Compares all frames.
     pub(crate) fn compare_all<W: Write, D: SectorDisk, E: SectorDisk>(
         &mut self,
-        inquiry: &Inquiry<'_>,
-        machine: &Machine<D, E>,
+        inquiry: &Inquiry<'_, D, E>,
         out: &mut W,
     ) -> io::Result<()>
-        requires { IsSoundMachine D.SectorDisk E.SectorDisk machine.now }
+        requires { IsSoundMachine D.SectorDisk E.SectorDisk inquiry.now.machine.now }
     {
         let count = self.frames.len();
         for n in 0..u32::MAX {
             if n as usize >= count {
                 break;
             }
-            self.compare(FrameNo(n), inquiry, machine, out)?;
+            self.compare(FrameNo(n), inquiry, out)?;
         }
         Ok(())
     }
@@ -103,14 +104,16 @@ impl Ledger {
         let way = Way::new(machine, target.pid, target.page);
         let now = way.entry().unwrap_or(Pte(0));
         let inquiry = Inquiry {
+            machine,
             target: Some(target),
             gained: target.gained(now),
             is_asking: true,
             is_watched: self.is_watching,
         };
         let before = self.counts.frames;
-        for frame in changeable(&way, target, machine).iter().copied().flatten() {
-            self.compare(frame, &inquiry, machine, out)?;
+        let behind = frame_behind(target, machine);
+        for frame in changeable(&way, target, behind).iter().copied().flatten() {
+            self.compare(frame, &inquiry, out)?;
         }
         self.count_access(target.entry, now, &before);
         if now != target.entry {
@@ -155,28 +158,29 @@ impl Ledger {
     fn compare<W: Write, D: SectorDisk, E: SectorDisk>(
         &mut self,
         n: FrameNo,
-        inquiry: &Inquiry<'_>,
-        machine: &Machine<D, E>,
+        inquiry: &Inquiry<'_, D, E>,
         out: &mut W,
     ) -> io::Result<()>
-        requires { IsSoundMachine D.SectorDisk E.SectorDisk machine.now }
+        requires { IsSoundMachine D.SectorDisk E.SectorDisk inquiry.now.machine.now }
     {
-        let Some(view) = inspection::frame_view(machine, n) else {
+        let Some(view) = inspection::frame_view(inquiry.machine, n) else {
             return Ok(());
         };
         let Some(was) = self.frames.get(n.0 as usize).copied() else {
             return Ok(());
         };
-        if view == was.view && inquiry.gained != Some(n) {
+        let is_gained = inquiry.gained == Some(n);
+        if view == was.view && !is_gained {
             return Ok(());
         }
-        let held = Held {
-            view,
-            owner: owner_of(machine, n, view.holding),
+        let owner = match view.holding {
+            Holding::Own(page) => pid_of(inspection::next_mapper(inquiry.machine, n, 1, page)),
+            _ => None,
         };
-        if view.holding != was.view.holding || inquiry.gained == Some(n) {
-            self.tell(loss_of(n, &was, inquiry, machine), out)?;
-            self.tell(gain_of(n, &held, inquiry, machine), out)?;
+        let held = Held { view, owner };
+        if view.holding != was.view.holding || is_gained {
+            self.tell(inquiry.loss_of(n, &was), out)?;
+            self.tell(inquiry.gain_of(n, &held), out)?;
         } else {
             self.tell(sharing_of(n, &was, &held), out)?;
         }
@@ -199,59 +203,96 @@ impl Ledger {
     }
 }
 
-/// What a frame lost.
-fn loss_of<D: SectorDisk, E: SectorDisk>(
-    frame: FrameNo,
-    was: &Held,
-    inquiry: &Inquiry<'_>,
-    machine: &Machine<D, E>,
-) -> Option<Event>
-    requires { IsSoundMachine D.SectorDisk E.SectorDisk machine.now }
-{
-    if was.view.holding == Holding::Table {
-        return Some(Event::TableFreed { frame });
+impl<D: SectorDisk, E: SectorDisk> Inquiry<'_, D, E> {
+    /// What a frame lost.
+    fn loss_of(&self, frame: FrameNo, was: &Held) -> Option<Event>
+        requires { IsSoundMachine D.SectorDisk E.SectorDisk self.now.machine.now }
+    {
+        if was.view.holding == Holding::Table {
+            return Some(Event::TableFreed { frame });
+        }
+        let content = content_of(was)?;
+        if !self.is_asking {
+            return Some(Event::Released { frame, content });
+        }
+        let refuge = match content {
+            Content::Own {
+                pid: Some(pid),
+                page,
+            } => refuge_of_own(page, inspection::next_entry(self.machine, pid, page)),
+            Content::Own { pid: None, .. } => Refuge::Slot(None),
+            Content::Page(page) => {
+                self.refuge_of_page(page, inspection::page_view(self.machine, page))
+            }
+        };
+        Some(Event::Evicted {
+            frame,
+            content,
+            refuge,
+        })
     }
-    let content = content_of(was)?;
-    if !inquiry.is_asking {
-        return Some(Event::Released { frame, content });
+
+    /// Where a page of a file or of shared anonymous memory is now whose frame was given up. One that lies in a frame again came back within the
+    /// command: it is the page that was accessed, and was touched then or not.
+    fn refuge_of_page(&self, page: PageKey, now: Option<PageView>) -> Refuge {
+        match now {
+            Some(view) => match view.place {
+                Place::Slot(slot) => Refuge::Slot(Some(slot)),
+                Place::Frame(_) if self.knows_touched(page) => Refuge::Slot(None),
+                Place::Frame(_) | Place::Home => Refuge::Home,
+            },
+            None => Refuge::Home,
+        }
     }
-    let refuge = refuge_of(&content, inquiry, machine);
-    Some(Event::Evicted {
-        frame,
-        content,
-        refuge,
-    })
+
+    /// Whether that page stands behind the page of the access and was touched.
+    fn knows_touched(&self, page: PageKey) -> bool {
+        match self.target {
+            Some(target) => target.knows_touched(page),
+            None => false,
+        }
+    }
+
+    /// What a frame got. Only an access brings a page into one.
+    fn gain_of(&self, frame: FrameNo, held: &Held) -> Option<Event>
+        requires { IsSoundMachine D.SectorDisk E.SectorDisk self.now.machine.now }
+    {
+        if held.view.holding == Holding::Table {
+            let place = if self.is_watched {
+                inspection::place_of_table(self.machine, frame)
+            } else {
+                None
+            };
+            let top = top_level(self.machine);
+            return Some(Event::TableMade { frame, place, top });
+        }
+        let content = content_of(held)?;
+        let target = self.target?;
+        let source = match &content {
+            Content::Own { .. } => source_of_own(target, frame_behind(target, self.machine)),
+            Content::Page(page) => source_of_page(target, *page),
+        };
+        Some(Event::Filled {
+            frame,
+            content,
+            source,
+        })
+    }
 }
 
-/// What a frame got. Only an access brings a page into one.
-fn gain_of<D: SectorDisk, E: SectorDisk>(
-    frame: FrameNo,
-    held: &Held,
-    inquiry: &Inquiry<'_>,
-    machine: &Machine<D, E>,
-) -> Option<Event>
-    requires { IsSoundMachine D.SectorDisk E.SectorDisk machine.now }
-{
-    if held.view.holding == Holding::Table {
-        let place = if inquiry.is_watched {
-            inspection::place_of_table(machine, frame)
-        } else {
-            None
-        };
-        let top = top_level(machine);
-        return Some(Event::TableMade { frame, place, top });
+/// Where the own copy of a page is now whose frame was given up, by the first entry of its process from that page on.
+fn refuge_of_own(page: u64, found: Option<PageEntry>) -> Refuge {
+    match found {
+        Some(found) if found.page.get() == page => Refuge::Slot(slot_in(found.entry)),
+        _ => Refuge::Slot(None),
     }
-    let content = content_of(held)?;
-    let target = inquiry.target?;
-    let source = match &content {
-        Content::Own { .. } => source_of_own(target, machine),
-        Content::Page(page) => source_of_page(target, *page),
-    };
-    Some(Event::Filled {
-        frame,
-        content,
-        source,
-    })
+}
+
+fn pid_of(mapper: Option<Mapper>) -> Option<Pid> {
+    match mapper {
+        Some(mapper) => Some(mapper.pid),
+        None => None,
+    }
 }
 
 /// How many share an own copy now.
@@ -267,19 +308,9 @@ fn sharing_of(frame: FrameNo, was: &Held, held: &Held) -> Option<Event> {
     })
 }
 
-/// The frames that an access of this page can have changed, in the order in which it asks for them.
-fn changeable<D: SectorDisk, E: SectorDisk>(
-    way: &Way,
-    target: &Target,
-    machine: &Machine<D, E>,
-) -> [Option<FrameNo>; 7]
-    requires { IsSoundMachine D.SectorDisk E.SectorDisk machine.now }
-{
+/// The frames that an access of this page can have changed, in the order in which it asks for them. What stands behind the page lies in `behind`.
+fn changeable(way: &Way, target: &Target, behind: Option<FrameNo>) -> [Option<FrameNo>; 7] {
     let [root, second, third, fourth] = way.steps;
-    let behind = match target.behind {
-        Some(behind) => frame_of_page(machine, behind.page),
-        None => None,
-    };
     [
         table_of(root),
         table_of(second),
@@ -298,32 +329,17 @@ fn table_of(step: Option<Step>) -> Option<FrameNo> {
     }
 }
 
-/// The frame that a page of a file or of shared anonymous memory lies in.
-fn frame_of_page<D: SectorDisk, E: SectorDisk>(
+/// The frame that now holds what stands behind the page of an access.
+fn frame_behind<D: SectorDisk, E: SectorDisk>(
+    target: &Target,
     machine: &Machine<D, E>,
-    page: PageKey,
 ) -> Option<FrameNo>
     requires { IsSoundMachine D.SectorDisk E.SectorDisk machine.now }
 {
-    match inspection::page_view(machine, page)?.place {
+    match inspection::page_view(machine, target.behind?.page)?.place {
         Place::Frame(frame) => Some(frame),
         _ => None,
     }
-}
-
-/// A process that has the own copy in a frame.
-fn owner_of<D: SectorDisk, E: SectorDisk>(
-    machine: &Machine<D, E>,
-    frame: FrameNo,
-    holding: Holding,
-) -> Option<Pid>
-    requires { IsSoundMachine D.SectorDisk E.SectorDisk machine.now }
-{
-    let Holding::Own(page) = holding else {
-        return None;
-    };
-    let mapper = inspection::next_mapper(machine, frame, 1, page)?;
-    Some(mapper.pid)
 }
 
 /// The page that a frame holds.
@@ -338,72 +354,15 @@ fn content_of(held: &Held) -> Option<Content> {
     }
 }
 
-/// Where the page of a frame that was given up is now.
-fn refuge_of<D: SectorDisk, E: SectorDisk>(
-    content: &Content,
-    inquiry: &Inquiry<'_>,
-    machine: &Machine<D, E>,
-) -> Refuge
-    requires { IsSoundMachine D.SectorDisk E.SectorDisk machine.now }
-{
-    match content {
-        Content::Own { pid, page } => Refuge::Slot(slot_of_own(machine, *pid, *page)),
-        Content::Page(page) => refuge_of_page(*page, inquiry, machine),
-    }
-}
-
-fn slot_of_own<D: SectorDisk, E: SectorDisk>(
-    machine: &Machine<D, E>,
-    pid: Option<Pid>,
-    page: u64,
-) -> Option<SlotNo>
-    requires { IsSoundMachine D.SectorDisk E.SectorDisk machine.now }
-{
-    let found = inspection::next_entry(machine, pid?, page)?;
-    if found.page.get() == page {
-        slot_in(found.entry)
-    } else {
-        None
-    }
-}
-
-/// The same of a page of a file or of shared anonymous memory. One that lies in a frame again came back within the command: it is the page that was
-/// accessed, and was touched then or not.
-fn refuge_of_page<D: SectorDisk, E: SectorDisk>(
-    page: PageKey,
-    inquiry: &Inquiry<'_>,
-    machine: &Machine<D, E>,
-) -> Refuge
-    requires { IsSoundMachine D.SectorDisk E.SectorDisk machine.now }
-{
-    match inspection::page_view(machine, page) {
-        Some(view) => match view.place {
-            Place::Slot(slot) => Refuge::Slot(Some(slot)),
-            Place::Home => Refuge::Home,
-            Place::Frame(_) if was_touched(inquiry, page) => Refuge::Slot(None),
-            Place::Frame(_) => Refuge::Home,
-        },
-        None => Refuge::Home,
-    }
-}
-
-fn was_touched(inquiry: &Inquiry<'_>, page: PageKey) -> bool {
-    match inquiry.target {
-        Some(target) => target.knows_touched(page),
-        None => false,
-    }
-}
-
-/// What the access gave the process an own copy of.
-fn source_of_own<D: SectorDisk, E: SectorDisk>(target: &Target, machine: &Machine<D, E>) -> Source
-    requires { IsSoundMachine D.SectorDisk E.SectorDisk machine.now }
-{
+/// What the access gave the process an own copy of. What stands behind the page lies in `behind`.
+fn source_of_own(target: &Target, behind: Option<FrameNo>) -> Source {
     if target.entry.is_swapped() {
         return Source::Slot(slot_in(target.entry));
     }
-    let shown = match target.behind {
-        Some(behind) => frame_of_page(machine, behind.page),
-        None => frame_in(target.entry),
+    let shown = if target.behind.is_some() {
+        behind
+    } else {
+        frame_in(target.entry)
     };
     match shown {
         None | Some(FrameNo(0)) => Source::Zeros,

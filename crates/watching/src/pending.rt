@@ -1,6 +1,7 @@
 //! A command, and what it did.
 ghost use Rattle.machine.specs.Machine.{IsSoundMachine};
 
+use crate::counts::{AccessCounts, CallCounts, Counts};
 use crate::ledger::{Inquiry, Ledger};
 use crate::targets::Target;
 use disk_model::SectorDisk;
@@ -26,6 +27,16 @@ pub struct Pending {
     target: Option<Target>,
     /// How many accesses had found a translation kept.
     hits: u64,
+}
+
+/// What a command may have changed.
+#[derive(Clone, Copy)]
+enum Reach<'a> {
+    Nothing,
+    /// The frames that an access of that page can change.
+    Page(&'a Target),
+    /// Any frame.
+    All,
 }
 
 impl Outcome {
@@ -73,57 +84,57 @@ impl Pending {
         requires { IsSoundMachine D.SectorDisk E.SectorDisk machine.now }
     {
         ledger.counts.commands.add();
-        match self.command {
-            Command::Load { .. } => ledger.counts.accesses.loads.add(),
-            Command::Store { .. } => ledger.counts.accesses.stores.add(),
-            Command::Fetch { .. } => ledger.counts.accesses.fetches.add(),
-            Command::PastFaults => return Ok(()),
-            _ => return self.settle_call(outcome, ledger, machine, out),
+        match self.count(outcome, machine.hits(), &mut ledger.counts) {
+            Reach::Nothing => Ok(()),
+            Reach::Page(target) => ledger.compare_access(target, machine, out),
+            Reach::All => {
+                let inquiry = Inquiry {
+                    machine,
+                    target: self.target.as_ref(),
+                    gained: None,
+                    is_asking: self.is_asking(),
+                    is_watched: ledger.is_watching,
+                };
+                ledger.compare_all(&inquiry, out)
+            }
         }
-        self.settle_access(outcome, ledger, machine, out)
     }
 
-    /// What an access did. One that faulted or was refused has changed nothing.
-    fn settle_access<W: Write, D: SectorDisk, E: SectorDisk>(
-        &self,
-        outcome: Outcome,
-        ledger: &mut Ledger,
-        machine: &Machine<D, E>,
-        out: &mut W,
-    ) -> io::Result<()>
-        requires { IsSoundMachine D.SectorDisk E.SectorDisk machine.now }
-    {
-        let accesses = &mut ledger.counts.accesses;
+    /// Counts the command. So many accesses have found a translation kept by now.
+    fn count(&self, outcome: Outcome, hits: u64, counts: &mut Counts) -> Reach<'_> {
+        match self.command {
+            Command::Load { .. } => counts.accesses.loads.add(),
+            Command::Store { .. } => counts.accesses.stores.add(),
+            Command::Fetch { .. } => counts.accesses.fetches.add(),
+            Command::PastFaults => return Reach::Nothing,
+            _ => return self.count_call(outcome, &mut counts.calls),
+        }
+        self.count_access(outcome, hits, &mut counts.accesses)
+    }
+
+    /// What an access came to. One that faulted or was refused has changed nothing.
+    fn count_access(&self, outcome: Outcome, hits: u64, accesses: &mut AccessCounts) -> Reach<'_> {
         match (outcome, &self.target) {
             (Outcome::Refused | Outcome::Halted, _) | (Outcome::Done, None) => accesses
                 .refused
                 .add(),
             (Outcome::Faulted, _) => accesses.faults.add(),
-            (Outcome::Done, Some(_)) if machine.hits() != self.hits => accesses.hits.add(),
-            (Outcome::Done, Some(target)) => return ledger.compare_access(target, machine, out),
+            (Outcome::Done, Some(_)) if hits != self.hits => accesses.hits.add(),
+            (Outcome::Done, Some(target)) => return Reach::Page(target),
             (Outcome::Stalled, _) => {
                 accesses.stalls.add();
-                return ledger.compare_all(&self.inquiry(ledger), machine, out);
+                return Reach::All;
             }
         }
-        Ok(())
+        Reach::Nothing
     }
 
-    /// What a call did. One that was refused has changed nothing.
-    fn settle_call<W: Write, D: SectorDisk, E: SectorDisk>(
-        &self,
-        outcome: Outcome,
-        ledger: &mut Ledger,
-        machine: &Machine<D, E>,
-        out: &mut W,
-    ) -> io::Result<()>
-        requires { IsSoundMachine D.SectorDisk E.SectorDisk machine.now }
-    {
-        let calls = &mut ledger.counts.calls;
+    /// What a call came to. One that was refused has changed nothing.
+    fn count_call(&self, outcome: Outcome, calls: &mut CallCounts) -> Reach<'_> {
         match outcome {
             Outcome::Refused | Outcome::Faulted | Outcome::Halted => {
                 calls.refused.add();
-                return Ok(());
+                return Reach::Nothing;
             }
             Outcome::Stalled => calls.stalled.add(),
             Outcome::Done => {
@@ -132,20 +143,14 @@ impl Pending {
                 }
             }
         }
-        ledger.compare_all(&self.inquiry(ledger), machine, out)
+        Reach::All
     }
 
-    /// What is asked of all frames. Only a spawn, a fork and an access want frames, so only these have others given up.
-    fn inquiry(&self, ledger: &Ledger) -> Inquiry<'_> {
-        let is_asking = match self.command {
+    /// Whether it wants frames, so that others may have been given up: only a spawn, a fork and an access do.
+    fn is_asking(&self) -> bool {
+        match self.command {
             Command::Spawn | Command::Fork { .. } => true,
             _ => self.target.is_some(),
-        };
-        Inquiry {
-            target: self.target.as_ref(),
-            gained: None,
-            is_asking,
-            is_watched: ledger.is_watching,
         }
     }
 }

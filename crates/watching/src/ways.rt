@@ -2,8 +2,10 @@
 ghost use Rattle.std.specs.Prelude.{ℕ, ◌≡◌, ◌<◌, ◌≤◌, ◌^◌, true, false, IfSome, IfNone};
 ghost use Rattle.sv39_walk.specs.Entry.{frame_of, is_swapped};
 ghost use Rattle.inspection.specs.Walks.{IsStepOfSome};
-ghost use Rattle.machine.specs.Machine.{IsSoundMachine};
+ghost use Rattle.machine.specs.Machine.{bits_of, mode_of, IsSoundMachine};
 ghost use Rattle.inspection.specs.Machines.{memory_of};
+ghost use Rattle.vm_types.specs.Limits.{top_level, user_end};
+ghost use Rattle.watching.specs.WaySteps.{StepsFrom, IsWayOf};
 
 use disk_model::SectorDisk;
 use inspection::Step;
@@ -21,6 +23,7 @@ impl Way {
     /// The way to a page of a process; without a step where no such process lives or the machine has halted.
     pub fn new<D: SectorDisk, E: SectorDisk>(machine: &Machine<D, E>, pid: Pid, page: u64) -> Way
         requires { IsSoundMachine D.SectorDisk E.SectorDisk machine.now }
+        ensures { IsWayOf machine.now pid page result.steps }
     {
         let root = inspection::root_step(machine, pid, page);
         let second = step_below(machine, page, root);
@@ -60,7 +63,8 @@ fn step_below<D: SectorDisk, E: SectorDisk>(
 ) -> Option<Step>
     requires sound { IsSoundMachine D.SectorDisk E.SectorDisk machine.now }
     requires step { IfSome step (IsStepOfSome (memory_of machine.now) page) }
-    ensures { IfSome result (IsStepOfSome (memory_of machine.now) page) }
+    ensures some { IfSome result (IsStepOfSome (memory_of machine.now) page) }
+    ensures goes_on { (pid : ℕ) → StepsFrom machine.now pid page step result }
 {
     match step {
         Some(step) => inspection::next_step(machine, page, step),
@@ -83,7 +87,8 @@ pub fn pages_of_entry(level: u32) -> u64
 
 /// The level of a root table.
 pub fn top_level<D, E>(machine: &Machine<D, E>) -> u32
-    ensures { result ≤ 3 }
+    ensures level { result ≡ top_level (bits_of (mode_of machine.now)) }
+    ensures most { result ≤ 3 }
 {
     match machine {
         Machine::Sv39(_) => Sv39::top_level(),
@@ -92,7 +97,9 @@ pub fn top_level<D, E>(machine: &Machine<D, E>) -> u32
 }
 
 /// One past the last user page.
-pub fn user_end<D, E>(machine: &Machine<D, E>) -> u64 {
+pub fn user_end<D, E>(machine: &Machine<D, E>) -> u64
+    ensures { result ≡ user_end (bits_of (mode_of machine.now)) }
+{
     match machine {
         Machine::Sv39(_) => Sv39::user_end(),
         Machine::Sv48(_) => Sv48::user_end(),

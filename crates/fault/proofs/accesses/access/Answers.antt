@@ -62,16 +62,9 @@ returns-in_err-frame-in-Page g c =
     let failed : Result FrameNo Stall = Err stall in
     let M : Core g.row.D.Denot g.row.E.Denot g.row.M.Denot g.M.Levels → Type 0 = λ m. Serves g.D.SectorDisk g.E.SectorDisk m after pid c.in-Page.page attr access failed in
     let P : ℕ → Type 0 = λ x. Serves g.D.SectorDisk g.E.SectorDisk before after pid x attr access failed in
-    let serves = subst P found.page_is (subst M c.find.ensures.same c.in_err-frame-in-Page.ensures.serves) in
+    let serves = subst P found.page_is (subst M c.find.ensures.same c.in_err-frame-in-Page.ensures) in
     reaches_stall g.D.SectorDisk g.E.SectorDisk before after pid addr c.args.width access c.from_residual.result stall c.from_residual.ensures.1 serves.tends
     (λ place walked. found.unwalked walked.root place walked.lives walked.place) (record { seen = seen_at old pid c.in-Page.page attr; fine = found.fine; stalled = serves.stalled })
-
-pub keep_line-requires-clause-user : goal.keep_line-requires-clause-user
-keep_line-requires-clause-user g c =
-    (page_user (picture_of c.args.core.now) c.args.pid c.in-Page.page c.in-Page.attr c.requires.fit c.in-Page.ensures.found.allowed.mapped).1
-
-pub keep_line-requires-clause-way : goal.keep_line-requires-clause-way
-keep_line-requires-clause-way g c = (c.args.pid, c.in_ok-frame-in-Page.ensures.way)
 
 pub returns-in_ok-frame-in-Page : goal.returns-in_ok-frame-in-Page
 returns-in_ok-frame-in-Page g c =
@@ -89,13 +82,12 @@ returns-in_ok-frame-in-Page g c =
     let here : Result FrameNo Stall = Ok frame in
     let M : Core g.row.D.Denot g.row.E.Denot g.row.M.Denot g.M.Levels → Type 0 = λ m. Serves g.D.SectorDisk g.E.SectorDisk m after pid c.in-Page.page attr access here in
     let P : ℕ → Type 0 = λ x. Serves g.D.SectorDisk g.E.SectorDisk before after pid x attr access here in
-    let serves = subst P found.page_is (subst M c.find.ensures.same c.in_ok-frame-in-Page.ensures.serves) in
+    let serves = subst P found.page_is (subst M c.find.ensures.same c.in_ok-frame-in-Page.ensures) in
     let fine = found.fine ∙ ap (λ k. Fine (seen_at old pid k attr)) found.page_is in
     let root = root_live old pid c.requires.lives in
-    let K : Core g.row.D.Denot g.row.E.Denot g.row.M.Denot g.M.Levels → Type 0 = λ m. Reaches g.D.SectorDisk g.E.SectorDisk before m pid addr width access (Ok c.place_in.result) in
     let Q : Phys → Type 0 = λ x. Reaches g.D.SectorDisk g.E.SectorDisk before after pid addr width access (Ok x) in
     let R : ℕ → Type 0 = λ x. x < user_end g.M.Levels.mode in
-    subst K (sym c.keep_line.ensures) (subst Q (sym c.place_in.ensures)
+    subst Q (sym c.place_in.ensures)
     (record {
       tends = serves.tends;
       placed = placed_made old new pid root.0 addr width access attr frame.0 serves.proceeds.fit (serves.proceeds.spaces.root pid ∙ root.1)
@@ -104,4 +96,4 @@ returns-in_ok-frame-in-Page g c =
       granted = λ trusted. grants_made old new pid addr width access attr frame.0 fine (serves.ready trusted);
       counts = serves.counts;
       refusal = tt;
-    }))
+    })

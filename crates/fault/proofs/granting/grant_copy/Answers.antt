@@ -8,7 +8,6 @@ use Rattle.residency.specs.Parts.{is_shared}
 use Rattle.fault.specs.Changes.{copied_frame}
 use Rattle.fault.proofs.Forms.{none_here, behind_of}
 use Rattle.fault.proofs.NoTables.{no_table_then}
-use Rattle.fault.proofs.Rows.{rows_then}
 use Rattle.fault.proofs.Staying.{stands_kept}
 use Rattle.fault.proofs.TablesGiven.{links_no_table}
 use Rattle.fault.specs.Granted.{IsReadyAt}
@@ -24,9 +23,14 @@ use Rattle.fault.proofs.AccessSteps.{proceeds_then, files_read, ok_then, on_ok_t
 use Rattle.fault.proofs.Wanted.{shows_file}
 use Rattle.fault.proofs.granting.grant_copy.Goals as goal
 
-pub cached-requires-clause-inside : goal.cached-requires-clause-inside
-cached-requires-clause-inside g c =
-    page_inside (picture_of c.args.core.now) c.args.spot.now.pid c.args.spot.now.page c.args.attr (File c.args.file_page) c.requires.may.spot.linked c.requires.may.allowed.mapped (ap stands_on c.requires.private) c.requires.may.allowed.inside
+pub cached-requires : goal.cached-requires
+cached-requires g c =
+    record {
+      fit = c.requires.may.spot.linked.fit;
+      store = c.requires.may.store;
+      swap = c.requires.may.swap;
+      inside = page_inside (picture_of c.args.core.now) c.args.spot.now.pid c.args.spot.now.page c.args.attr (File c.args.file_page) c.requires.may.spot.linked c.requires.may.allowed.mapped (ap stands_on c.requires.private) c.requires.may.allowed.inside;
+    }
 
 pub own_frame-requires-clause-page : goal.own_frame-requires-clause-page
 own_frame-requires-clause-page g c =
@@ -43,6 +47,7 @@ own_frame-requires-clause-page g c =
           (files_read g.D.SectorDisk c.args.core.now.store c.cached.new.core.store done.proceeds.reads) c.requires.may.allowed).inside;
       resident = none_here _ (none_same old mid c.args.spot.now.pid c.args.spot.now.page c.args.attr c.requires.may.allowed.mapped now
           (done.keeps.views c.args.spot.now.pid c.args.spot.now.page) c.requires.none);
+      swap = search rules;
     }
 
 pub own_frame-requires-clause-in_memory : goal.own_frame-requires-clause-in_memory
@@ -60,12 +65,9 @@ returns-in_err-cached g c =
     let fit = c.requires.may.spot.linked.fit in
     let stall = c.in_err-cached.field-0.0 in
     let done = c.in_err-cached.ensures in
-    record {
-      serves = serves_stall g.D.SectorDisk g.E.SectorDisk before after pid page c.args.attr Store c.from_residual.result stall c.from_residual.ensures.1
-          (tends_away g.D.SectorDisk g.E.SectorDisk before after pid page Store file shows fit stall done.pages_in done.idle)
-          (stalls_away g.D.SectorDisk g.E.SectorDisk before after pid page Store file shows fit stall done.pages_in done.idle);
-      rows = c.in_err-cached.ensures.pages_in.rows;
-    }
+    serves_stall g.D.SectorDisk g.E.SectorDisk before after pid page c.args.attr Store c.from_residual.result stall c.from_residual.ensures.1
+    (tends_away g.D.SectorDisk g.E.SectorDisk before after pid page Store file shows fit stall done.pages_in done.idle)
+    (stalls_away g.D.SectorDisk g.E.SectorDisk before after pid page Store file shows fit stall done.pages_in done.idle)
 
 pub returns : goal.returns
 returns g c =
@@ -94,30 +96,27 @@ returns g c =
     let now = done.moves.spaces.at pid page ∙ at in
     let made = no_table_then old mid new first.no_table done.no_table in
     record {
-      serves = record {
-        tends = record {
-          proceeds = proceeds_then g.D.SectorDisk g.E.SectorDisk before between after first.proceeds done.moves;
-          brings = brings_on before between pid page file shows g.D.SectorDisk g.E.SectorDisk after first.brings first.keeps done.moves.store done.moves.device done.files.held done.files.files;
-          others = λ q k other. done.others q k other ∙ first.keeps.views q k;
-          slotted = slotted_on old mid pid page new file shows first.slotted done.slotted;
-          calm = calm_then before between pid page file shows (λ n is. (idle n is).0) after Store (owned_calm between after pid page attr at alone done.calm);
-          read = read_then before between pid page file shows after.store asked.may.spot.linked.fit done.moves.store first.read;
-          tables = links_no_table old new pid page made;
-          pointers = made.pointers;
-          asks = asks_copied g.D.SectorDisk g.E.SectorDisk before between pid page Store file shows first.asks first.asks_store after c.in_ok-cached.field-0 (copied_frame mid pid page attr)
-              (copies_cached mid pid page attr c.args.file_page c.in_ok-cached.field-0 asked.private none first.placed) first.asks_later
-              (brought_out old mid pid page file c.in_ok-cached.field-0 shows first.proceeds.room.frames first.only (λ n is. ap (λ (k : Core _ _ _ _). picture_of k) (idle n is).0)) done.moves.store done.asks;
-        };
-        entered = owned_entered mid new pid page attr between.sound done.moves.fit after.sound now alone asked.may.allowed.lets here
-            (λ common. (c.in_ok-cached.field-0.0, behind_of mid attr.backing file c.in_ok-cached.field-0.0 backs first.placed)) done.behind done.others done.files r done.bytes done.entered;
-        ready = λ trusted. ok_then (λ n. IsReadyAt mid new pid page attr Store n.0) (λ n. IsReadyAt old new pid page attr Store n.0) r (λ n. ready_after old mid new pid page attr Store n.0 mapped at first.keeps)
-            (owned_ready mid new pid page attr between.sound done.moves.fit after.sound now alone asked.may.allowed.lets here
-            (λ common. (c.in_ok-cached.field-0.0, behind_of mid attr.backing file c.in_ok-cached.field-0.0 backs first.placed)) done.behind done.others done.files r done.bytes done.entered);
-        counts = on_ok_then _ _ r (counts_then g.D.SectorDisk g.E.SectorDisk before between after first.cause) (counts_done g.D.SectorDisk g.E.SectorDisk between after r done.moves.store done.cause);
-        stalled = stalled_on before between pid page file shows g.D.SectorDisk g.E.SectorDisk after Store r (λ n is. (idle n is).0) first.keeps first.cause.2 first.cause.0 first.cause.1 done.cause
-            (owned_stalled between after pid page attr at alone g.D.SectorDisk g.E.SectorDisk r (linked_then old mid pid page first.proceeds.fit first.proceeds.spaces first.proceeds.tables asked.may.spot.linked) here
-            (λ common. (c.in_ok-cached.field-0.0, behind_of mid attr.backing file c.in_ok-cached.field-0.0 backs first.placed)) done.behind done.moves done.files done.same done.frees done.wanted done.cause done.short
-            done.refuses);
+      tends = record {
+        proceeds = proceeds_then g.D.SectorDisk g.E.SectorDisk before between after first.proceeds done.moves;
+        brings = brings_on before between pid page file shows g.D.SectorDisk g.E.SectorDisk after first.brings first.keeps done.moves.store done.moves.device done.files.held done.files.files;
+        others = λ q k other. done.others q k other ∙ first.keeps.views q k;
+        slotted = slotted_on old mid pid page new file shows first.slotted done.slotted;
+        calm = calm_then before between pid page file shows (λ n is. (idle n is).0) after Store (owned_calm between after pid page attr at alone done.calm);
+        read = read_then before between pid page file shows after.store asked.may.spot.linked.fit done.moves.store first.read;
+        tables = links_no_table old new pid page made;
+        pointers = made.pointers;
+        asks = asks_copied g.D.SectorDisk g.E.SectorDisk before between pid page Store file shows first.asks first.asks_store after c.in_ok-cached.field-0 (copied_frame mid pid page attr)
+            (copies_cached mid pid page attr c.args.file_page c.in_ok-cached.field-0 asked.private none first.placed) first.asks_later
+            (brought_out old mid pid page file c.in_ok-cached.field-0 shows first.proceeds.room.frames first.only (λ n is. ap (λ (k : Core _ _ _ _). picture_of k) (idle n is).0)) done.moves.store done.asks;
       };
-      rows = rows_then (picture_of c.args.core.now) (picture_of c.cached.new.core) (picture_of c.own_frame.new.core) first.proceeds.spaces.root first.rows c.own_frame.ensures.rows;
+      entered = owned_entered mid new pid page attr between.sound done.moves.fit after.sound now alone asked.may.allowed.lets here
+          (λ common. (c.in_ok-cached.field-0.0, behind_of mid attr.backing file c.in_ok-cached.field-0.0 backs first.placed)) done.behind done.others done.files r done.bytes done.entered;
+      ready = λ trusted. ok_then (λ n. IsReadyAt mid new pid page attr Store n.0) (λ n. IsReadyAt old new pid page attr Store n.0) r (λ n. ready_after old mid new pid page attr Store n.0 mapped at first.keeps)
+          (owned_ready mid new pid page attr between.sound done.moves.fit after.sound now alone asked.may.allowed.lets here
+          (λ common. (c.in_ok-cached.field-0.0, behind_of mid attr.backing file c.in_ok-cached.field-0.0 backs first.placed)) done.behind done.others done.files r done.bytes done.entered);
+      counts = on_ok_then _ _ r (counts_then g.D.SectorDisk g.E.SectorDisk before between after first.cause) (counts_done g.D.SectorDisk g.E.SectorDisk between after r done.moves.store done.cause);
+      stalled = stalled_on before between pid page file shows g.D.SectorDisk g.E.SectorDisk after Store r (λ n is. (idle n is).0) first.keeps first.cause.2 first.cause.0 first.cause.1 done.cause
+          (owned_stalled between after pid page attr at alone g.D.SectorDisk g.E.SectorDisk r (linked_then old mid pid page first.proceeds.fit first.proceeds.spaces first.proceeds.tables asked.may.spot.linked) here
+          (λ common. (c.in_ok-cached.field-0.0, behind_of mid attr.backing file c.in_ok-cached.field-0.0 backs first.placed)) done.behind done.moves done.files done.same done.frees done.wanted done.cause done.short
+          done.refuses);
     }

@@ -4,12 +4,22 @@ use Rattle.residency.specs.Picture.{picture_of, is_swapped}
 use Rattle.fault.specs.Asking.{IsSectorOfCopy}
 use Rattle.fault.proofs.Forms.{mapped_page}
 use Rattle.fault.proofs.SwapSteps.{swapped_page}
-use Rattle.fault.specs.SpotServing.{MayServeAt, ServesThere}
+use Rattle.fault.specs.Serving.{Serves}
+use Rattle.fault.specs.SpotServing.{MayServeAt}
 use Rattle.fault.specs.Wants.{ForSlot}
 use Rattle.fault.proofs.Entered.{swapped_entered, swapped_ready, swapped_stalled}
 use Rattle.fault.proofs.Serving.{tends_moved}
 use Rattle.fault.proofs.AccessSteps.{counts_done}
 use Rattle.fault.proofs.granting.grant_linked.Goals as goal
+
+pub swap_in-requires : goal.swap_in-requires
+swap_in-requires g c =
+    record {
+      spot = c.requires.may.spot;
+      attr = c.requires.may.allowed.mapped;
+      away = sym (ap is_swapped c.number_at-was.ensures) ∙ sym c.is_swapped.ensures ∙ c.if-is_swapped.true;
+      swap = c.requires.may.swap;
+    }
 
 pub returns-then-is_swapped : goal.returns-then-is_swapped
 returns-then-is_swapped g c =
@@ -30,16 +40,13 @@ returns-then-is_swapped g c =
     let inside = mapped_page old pid page attr asked.may.spot.linked.fit.granting at in
     let its = swapped_page old pid page attr asked.may.spot.linked.fit inside at away in
     record {
-      serves = record {
-        tends = tends_moved g.D.SectorDisk g.E.SectorDisk before after pid page access None (IsSectorOfCopy old pid page) asked.may.store done.moves done.files done.others done.slotted
-            (λ none. absurd (none (ForSlot away))) (λ k is. inl is) done.asks done.no_table;
-        entered = swapped_entered old new pid page attr access done.moves.fit after.sound now its.not_shared asked.may.allowed.lets r done.entered done.sole;
-        ready = λ trusted. swapped_ready old new pid page attr access done.moves.fit after.sound now its.not_shared asked.may.allowed.lets r at (record { views = done.seen (trusted away); touched = done.files.touched })
-            done.entered done.sole;
-        counts = counts_done g.D.SectorDisk g.E.SectorDisk before after r done.moves.store done.cause;
-        stalled = swapped_stalled g.D.SectorDisk g.E.SectorDisk before after pid page access r done.moves.store done.files done.same inside its.common away done.frees done.cause done.short done.refuses;
-      };
-      rows = c.swap_in.ensures.rows;
+      tends = tends_moved g.D.SectorDisk g.E.SectorDisk before after pid page access None (IsSectorOfCopy old pid page) asked.may.store done.moves done.files done.others done.slotted
+          (λ none. absurd (none (ForSlot away))) (λ k is. inl is) done.asks done.no_table;
+      entered = swapped_entered old new pid page attr access done.moves.fit after.sound now its.not_shared asked.may.allowed.lets r done.entered done.sole;
+      ready = λ trusted. swapped_ready old new pid page attr access done.moves.fit after.sound now its.not_shared asked.may.allowed.lets r at (record { views = done.seen (trusted away); touched = done.files.touched })
+          done.entered done.sole;
+      counts = counts_done g.D.SectorDisk g.E.SectorDisk before after r done.moves.store done.cause;
+      stalled = swapped_stalled g.D.SectorDisk g.E.SectorDisk before after pid page access r done.moves.store done.files done.same inside its.common away done.frees done.cause done.short done.refuses;
     }
 
 pub grant_store-requires-clause-may : goal.grant_store-requires-clause-may
@@ -49,5 +56,5 @@ grant_store-requires-clause-may g c =
 
 pub returns-in-Store : goal.returns-in-Store
 returns-in-Store g c =
-    let P : Access → Type 0 = λ a. ServesThere g.D.SectorDisk g.E.SectorDisk c.args.core.now c.grant_store.new.core c.args.spot.now c.args.attr a c.grant_store.result in
+    let P : Access → Type 0 = λ a. Serves g.D.SectorDisk g.E.SectorDisk c.args.core.now c.grant_store.new.core c.args.spot.now.pid c.args.spot.now.page c.args.attr a c.grant_store.result in
     subst P (sym c.in-Store.is) c.grant_store.ensures

@@ -22,14 +22,11 @@ returns g c =
     let r = c.own_frame.result in
     let at = done.moves.spaces.at pid page ∙ asked.may.allowed.mapped in
     record {
-      serves = record {
-        tends = tends_moved g.D.SectorDisk g.E.SectorDisk before after pid page Store (copied_frame old pid page attr) Nothing asked.may.store done.moves done.files done.others done.slotted
-            (owned_calm before after pid page attr asked.may.allowed.mapped asked.not_shared done.calm) (λ k none. absurd none) done.asks done.no_table;
-        entered = owned_entered old new pid page attr before.sound done.moves.fit after.sound at asked.not_shared asked.may.allowed.lets asked.here asked.in_memory done.behind done.others done.files r done.bytes done.entered;
-        ready = λ trusted. owned_ready old new pid page attr before.sound done.moves.fit after.sound at asked.not_shared asked.may.allowed.lets asked.here asked.in_memory done.behind done.others done.files r done.bytes done.entered;
-        counts = counts_done g.D.SectorDisk g.E.SectorDisk before after r done.moves.store done.cause;
-        stalled = owned_stalled before after pid page attr asked.may.allowed.mapped asked.not_shared g.D.SectorDisk g.E.SectorDisk r asked.may.spot.linked asked.here asked.in_memory done.behind done.moves done.files done.same
-            done.frees done.wanted done.cause done.short done.refuses;
-      };
-      rows = c.own_frame.ensures.rows;
+      tends = tends_moved g.D.SectorDisk g.E.SectorDisk before after pid page Store (copied_frame old pid page attr) Nothing asked.may.store done.moves done.files done.others done.slotted
+          (owned_calm before after pid page attr asked.may.allowed.mapped asked.not_shared done.calm) (λ k none. absurd none) done.asks done.no_table;
+      entered = owned_entered old new pid page attr before.sound done.moves.fit after.sound at asked.not_shared asked.may.allowed.lets asked.here asked.in_memory done.behind done.others done.files r done.bytes done.entered;
+      ready = λ trusted. owned_ready old new pid page attr before.sound done.moves.fit after.sound at asked.not_shared asked.may.allowed.lets asked.here asked.in_memory done.behind done.others done.files r done.bytes done.entered;
+      counts = counts_done g.D.SectorDisk g.E.SectorDisk before after r done.moves.store done.cause;
+      stalled = owned_stalled before after pid page attr asked.may.allowed.mapped asked.not_shared g.D.SectorDisk g.E.SectorDisk r asked.may.spot.linked asked.here asked.in_memory done.behind done.moves done.files done.same
+          done.frees done.wanted done.cause done.short done.refuses;
     }

@@ -1,8 +1,7 @@
-use Rattle.std.proofs.Common.{◌≢◌, ℕ, Ok, sym, ap, ◌∙◌, subst, arith}
+use Rattle.std.proofs.Common.{◌≢◌, ℕ, Ok, sym, ap, ◌∙◌, subst, arith, rules}
 use Rattle.sv39_walk.specs.Entry.{frame_of}
 use Rattle.residency.specs.Picture.{Picture, picture_of, entry}
 use Rattle.fault.proofs.Forms.{mapped_page, used_inside, resident_used, seat_zero, behind_of}
-use Rattle.fault.proofs.Rows.{rows_then}
 use Rattle.fault.proofs.Staying.{stands_kept}
 use Rattle.fault.proofs.Steps.{seen_then}
 use Rattle.fault.specs.Serving.{Serves}
@@ -15,8 +14,14 @@ use Rattle.fault.proofs.AccessSteps.{files_read, counts_then, counts_calm}
 use Rattle.fault.proofs.Wanted.{shows_file}
 use Rattle.fault.proofs.granting.grant_read.Goals as goal
 
-pub regrant-requires-clause-resident : goal.regrant-requires-clause-resident
-regrant-requires-clause-resident g c = λ none. c.if-to_u64-ne0.true (c.to_u64.ensures ∙ c.requires.was ∙ none)
+pub regrant-requires : goal.regrant-requires
+regrant-requires g c =
+    record {
+      spot = c.requires.may.1.spot;
+      attr = c.requires.may.1.allowed.mapped;
+      resident = λ none. c.if-to_u64-ne0.true (c.to_u64.ensures ∙ c.requires.was ∙ none);
+      here = c.requires.here;
+    }
 
 pub frame_number-requires : goal.frame_number-requires
 frame_number-requires g c =
@@ -29,12 +34,23 @@ frame_number-requires g c =
     let most = c.args.core.now.sound.most in
     omega (arith, is, low, most)
 
-pub show_zero-requires-clause-none : goal.show_zero-requires-clause-none
-show_zero-requires-clause-none g c = sym c.requires.was ∙ sym c.to_u64.ensures ∙ c.if-to_u64-ne0.false
+pub show_zero-requires : goal.show_zero-requires
+show_zero-requires g c =
+    record {
+      spot = c.requires.may.1.spot;
+      attr = c.requires.may.1.allowed.mapped;
+      anonymous = search rules;
+      none = sym c.requires.was ∙ sym c.to_u64.ensures ∙ c.if-to_u64-ne0.false;
+    }
 
-pub cached-requires-clause-inside : goal.cached-requires-clause-inside
-cached-requires-clause-inside g c =
-    page_inside (picture_of c.args.core.now) c.args.spot.now.pid c.args.spot.now.page c.args.attr c.in-Some.stored c.requires.may.1.spot.linked c.requires.may.1.allowed.mapped (sym c.stands_on.ensures ∙ c.in-Some.is) c.requires.may.1.allowed.inside
+pub cached-requires : goal.cached-requires
+cached-requires g c =
+    record {
+      fit = c.requires.may.1.spot.linked.fit;
+      store = c.requires.may.1.store;
+      swap = c.requires.may.1.swap;
+      inside = page_inside (picture_of c.args.core.now) c.args.spot.now.pid c.args.spot.now.page c.args.attr c.in-Some.stored c.requires.may.1.spot.linked c.requires.may.1.allowed.mapped (sym c.stands_on.ensures ∙ c.in-Some.is) c.requires.may.1.allowed.inside;
+    }
 
 pub show_cached-requires-clause-spot : goal.show_cached-requires-clause-spot
 show_cached-requires-clause-spot g c =
@@ -72,19 +88,16 @@ returns-then-to_u64-ne0 g c access reads lets =
     let frame = frame_of (entry old pid page) in
     let now = enters.spaces.at pid page ∙ mapped in
     let P : ℕ → Type 0 = λ x. Serves g.D.SectorDisk g.E.SectorDisk before after pid page c.args.attr access (Ok (record { 0 = x })) in
-    record {
-      serves = subst P (sym (c.frame_number.ensures ∙ ap frame_of c.requires.was))
-          (record {
-            tends = tends_entered g.D.SectorDisk g.E.SectorDisk before after pid page access c.requires.may.1.store c.requires.may.1.swap enters files;
-            entered = read_entered old new pid page c.args.attr access frame _ _ _ enters.fit after.sound mapped now (record { views = enters.views; touched = files.touched }) c.regrant.ensures.entry reads
-                lets;
-            ready = λ trusted. read_ready old new pid page c.args.attr access frame _ _ _ enters.fit after.sound mapped now (record { views = enters.views; touched = files.touched }) c.regrant.ensures.entry reads
-                lets;
-            counts = counts_calm g.D.SectorDisk g.E.SectorDisk before after pid page enters.calm;
-            stalled = tt;
-          });
-      rows = c.regrant.ensures.enters.rows;
-    }
+    subst P (sym (c.frame_number.ensures ∙ ap frame_of c.requires.was))
+    (record {
+      tends = tends_entered g.D.SectorDisk g.E.SectorDisk before after pid page access c.requires.may.1.store c.requires.may.1.swap enters files;
+      entered = read_entered old new pid page c.args.attr access frame _ _ _ enters.fit after.sound mapped now (record { views = enters.views; touched = files.touched }) c.regrant.ensures.entry reads
+          lets;
+      ready = λ trusted. read_ready old new pid page c.args.attr access frame _ _ _ enters.fit after.sound mapped now (record { views = enters.views; touched = files.touched }) c.regrant.ensures.entry reads
+          lets;
+      counts = counts_calm g.D.SectorDisk g.E.SectorDisk before after pid page enters.calm;
+      stalled = tt;
+    })
 
 pub returns-in-None : goal.returns-in-None
 returns-in-None g c access reads lets =
@@ -99,16 +112,13 @@ returns-in-None g c access reads lets =
     let files = c.show_zero.ensures.files in
     let now = enters.spaces.at pid page ∙ mapped in
     record {
-      serves = record {
-        tends = tends_entered g.D.SectorDisk g.E.SectorDisk before after pid page access c.requires.may.1.store c.requires.may.1.swap enters files;
-        entered = read_entered old new pid page c.args.attr access 0 _ _ _ enters.fit after.sound mapped now (record { views = enters.views; touched = files.touched }) c.show_zero.ensures.entry reads
-            lets;
-        ready = λ trusted. read_ready old new pid page c.args.attr access 0 _ _ _ enters.fit after.sound mapped now (record { views = enters.views; touched = files.touched }) c.show_zero.ensures.entry reads
-            lets;
-        counts = counts_calm g.D.SectorDisk g.E.SectorDisk before after pid page enters.calm;
-        stalled = tt;
-      };
-      rows = c.show_zero.ensures.enters.rows;
+      tends = tends_entered g.D.SectorDisk g.E.SectorDisk before after pid page access c.requires.may.1.store c.requires.may.1.swap enters files;
+      entered = read_entered old new pid page c.args.attr access 0 _ _ _ enters.fit after.sound mapped now (record { views = enters.views; touched = files.touched }) c.show_zero.ensures.entry reads
+          lets;
+      ready = λ trusted. read_ready old new pid page c.args.attr access 0 _ _ _ enters.fit after.sound mapped now (record { views = enters.views; touched = files.touched }) c.show_zero.ensures.entry reads
+          lets;
+      counts = counts_calm g.D.SectorDisk g.E.SectorDisk before after pid page enters.calm;
+      stalled = tt;
     }
 
 pub returns-in_err-frame-in-Some : goal.returns-in_err-frame-in-Some
@@ -123,12 +133,9 @@ returns-in_err-frame-in-Some g c access reads lets =
     let fit = c.requires.may.1.spot.linked.fit in
     let stall = c.in_err-frame-in-Some.field-0.0 in
     let done = c.in_err-frame-in-Some.ensures in
-    record {
-      serves = serves_stall g.D.SectorDisk g.E.SectorDisk before after pid page c.args.attr access c.from_residual.result stall c.from_residual.ensures.1
-          (tends_away g.D.SectorDisk g.E.SectorDisk before after pid page access stored shows fit stall done.pages_in done.idle)
-          (stalls_away g.D.SectorDisk g.E.SectorDisk before after pid page access stored shows fit stall done.pages_in done.idle);
-      rows = c.in_err-frame-in-Some.ensures.pages_in.rows;
-    }
+    serves_stall g.D.SectorDisk g.E.SectorDisk before after pid page c.args.attr access c.from_residual.result stall c.from_residual.ensures.1
+    (tends_away g.D.SectorDisk g.E.SectorDisk before after pid page access stored shows fit stall done.pages_in done.idle)
+    (stalls_away g.D.SectorDisk g.E.SectorDisk before after pid page access stored shows fit stall done.pages_in done.idle)
 
 pub returns-in_ok-frame-in-Some : goal.returns-in_ok-frame-in-Some
 returns-in_ok-frame-in-Some g c access reads lets =
@@ -152,12 +159,9 @@ returns-in_ok-frame-in-Some g c access reads lets =
     let now = enters.spaces.at pid page ∙ first.proceeds.spaces.at pid page ∙ mapped in
     let seen = seen_then old mid new first.keeps (record { views = enters.views; touched = files.touched }) in
     record {
-      serves = record {
-        tends = tends_shown g.D.SectorDisk g.E.SectorDisk before between pid page access stored shows c.requires.may.1.spot.linked.fit after _ first (λ n at. (idle n at).0) enters files.held files.files;
-        entered = read_entered old new pid page c.args.attr access frame _ _ _ enters.fit after.sound mapped now seen c.show_cached.ensures.entry reads lets;
-        ready = λ trusted. read_ready old new pid page c.args.attr access frame _ _ _ enters.fit after.sound mapped now seen c.show_cached.ensures.entry reads lets;
-        counts = counts_then g.D.SectorDisk g.E.SectorDisk before between after first.cause (counts_calm g.D.SectorDisk g.E.SectorDisk between after pid page enters.calm);
-        stalled = tt;
-      };
-      rows = rows_then (picture_of c.args.core.now) (picture_of c.cached.new.core) (picture_of c.show_cached.new.core) first.proceeds.spaces.root first.rows c.show_cached.ensures.enters.rows;
+      tends = tends_shown g.D.SectorDisk g.E.SectorDisk before between pid page access stored shows c.requires.may.1.spot.linked.fit after _ first (λ n at. (idle n at).0) enters files.held files.files;
+      entered = read_entered old new pid page c.args.attr access frame _ _ _ enters.fit after.sound mapped now seen c.show_cached.ensures.entry reads lets;
+      ready = λ trusted. read_ready old new pid page c.args.attr access frame _ _ _ enters.fit after.sound mapped now seen c.show_cached.ensures.entry reads lets;
+      counts = counts_then g.D.SectorDisk g.E.SectorDisk before between after first.cause (counts_calm g.D.SectorDisk g.E.SectorDisk between after pid page enters.calm);
+      stalled = tt;
     }

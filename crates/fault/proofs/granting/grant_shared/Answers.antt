@@ -3,7 +3,6 @@ use Rattle.vm_types.specs.declared.access.Access.TheVariants.{Store}
 use Rattle.swap.specs.Slots.{slots_of}
 use Rattle.residency.specs.Picture.{picture_of}
 use Rattle.fault.proofs.Forms.{mapped_page, shared_none}
-use Rattle.fault.proofs.Rows.{rows_then}
 use Rattle.fault.proofs.Staying.{stands_kept}
 use Rattle.fault.proofs.Linked.{open_still}
 use Rattle.fault.proofs.Opening.{reads_too}
@@ -14,9 +13,14 @@ use Rattle.fault.proofs.AccessSteps.{files_read, held_marked, counts_then, count
 use Rattle.fault.proofs.Wanted.{shows_file}
 use Rattle.fault.proofs.granting.grant_shared.Goals as goal
 
-pub cached-requires-clause-inside : goal.cached-requires-clause-inside
-cached-requires-clause-inside g c =
-    page_inside (picture_of c.args.core.now) c.args.spot.now.pid c.args.spot.now.page c.args.attr c.args.stored c.requires.may.spot.linked c.requires.may.allowed.mapped c.requires.stands c.requires.may.allowed.inside
+pub cached-requires : goal.cached-requires
+cached-requires g c =
+    record {
+      fit = c.requires.may.spot.linked.fit;
+      store = c.requires.may.store;
+      swap = c.requires.may.swap;
+      inside = page_inside (picture_of c.args.core.now) c.args.spot.now.pid c.args.spot.now.page c.args.attr c.args.stored c.requires.may.spot.linked c.requires.may.allowed.mapped c.requires.stands c.requires.may.allowed.inside;
+    }
 
 pub touch-requires-clause-spot : goal.touch-requires-clause-spot
 touch-requires-clause-spot g c =
@@ -42,12 +46,9 @@ returns-in_err-frame g c =
     let shows = shows_file old pid page c.args.attr c.args.stored mapped c.requires.stands none in
     let stall = c.in_err-frame.field-0.0 in
     let done = c.in_err-frame.ensures in
-    record {
-      serves = serves_stall g.D.SectorDisk g.E.SectorDisk before after pid page c.args.attr Store c.from_residual.result stall c.from_residual.ensures.1
-          (tends_away g.D.SectorDisk g.E.SectorDisk before after pid page Store c.args.stored shows fit stall done.pages_in done.idle)
-          (stalls_away g.D.SectorDisk g.E.SectorDisk before after pid page Store c.args.stored shows fit stall done.pages_in done.idle);
-      rows = c.in_err-frame.ensures.pages_in.rows;
-    }
+    serves_stall g.D.SectorDisk g.E.SectorDisk before after pid page c.args.attr Store c.from_residual.result stall c.from_residual.ensures.1
+    (tends_away g.D.SectorDisk g.E.SectorDisk before after pid page Store c.args.stored shows fit stall done.pages_in done.idle)
+    (stalls_away g.D.SectorDisk g.E.SectorDisk before after pid page Store c.args.stored shows fit stall done.pages_in done.idle)
 
 pub returns : goal.returns
 returns g c =
@@ -74,13 +75,10 @@ returns g c =
     let readable = reads_too new pid page attr enters.fit now c.requires.may.allowed.lets in
     let touched = touched_entry mid new pid page attr stored frame enters.fit after.sound now c.requires.shared c.requires.stands readable c.touch.ensures.entry enters.views marks.others in
     record {
-      serves = record {
-        tends = tends_shown g.D.SectorDisk g.E.SectorDisk before between pid page Store stored shows fit after _ first (λ n at. (idle n at).0) enters
-            (λ q. inl (held_marked mid new stored marks (ap slots_of enters.calm.swap) q)) marks.files;
-        entered = entered_store new pid page attr frame false readable c.touch.ensures.entry (entered_ready Store mid new pid page attr frame (ready_shared mid new pid page attr stored frame c.requires.shared c.requires.stands touched));
-        ready = λ trusted. ready_shared old new pid page attr stored frame c.requires.shared c.requires.stands (touches_after old mid new stored frame first.keeps touched);
-        counts = counts_then g.D.SectorDisk g.E.SectorDisk before between after first.cause (counts_calm g.D.SectorDisk g.E.SectorDisk between after pid page enters.calm);
-        stalled = tt;
-      };
-      rows = rows_then (picture_of c.args.core.now) (picture_of c.cached.new.core) (picture_of c.touch.new.core) first.proceeds.spaces.root first.rows c.touch.ensures.enters.rows;
+      tends = tends_shown g.D.SectorDisk g.E.SectorDisk before between pid page Store stored shows fit after _ first (λ n at. (idle n at).0) enters
+          (λ q. inl (held_marked mid new stored marks (ap slots_of enters.calm.swap) q)) marks.files;
+      entered = entered_store new pid page attr frame false readable c.touch.ensures.entry (entered_ready Store mid new pid page attr frame (ready_shared mid new pid page attr stored frame c.requires.shared c.requires.stands touched));
+      ready = λ trusted. ready_shared old new pid page attr stored frame c.requires.shared c.requires.stands (touches_after old mid new stored frame first.keeps touched);
+      counts = counts_then g.D.SectorDisk g.E.SectorDisk before between after first.cause (counts_calm g.D.SectorDisk g.E.SectorDisk between after pid page enters.calm);
+      stalled = tt;
     }

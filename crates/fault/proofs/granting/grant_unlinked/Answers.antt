@@ -92,7 +92,7 @@ returns g c =
     let inside = mapped_page old pid page attr c.requires.may.fit.granting at in
     let first = c.in_ok-table.ensures in
     let idle = λ (whole : IsWhole old pid page). (first.idle whole).0 in
-    let then = c.grant_linked.ensures.serves in
+    let then = c.grant_linked.ensures in
     let r = c.grant_linked.result in
     record {
       tends = record {

@@ -16,27 +16,25 @@ use Rattle.fault.specs.Changes.{IsThatPage}
 use Rattle.fault.proofs.Asking.{asks_slots_kept}
 use Rattle.fault.proofs.Entering.{beside_around}
 use Rattle.fault.proofs.NoTables.{no_table_freed}
-use Rattle.fault.proofs.OwnSteps.{behind_freed, shown_used, shown_datum, lives_found, whole_found, at_found, spaces_set, tables_set, rows_mid, no_table_own, no_table_shared, rows_own, room_set, others_set, bare_set, slotted_set, files_set, bytes_set, own_set, entry_set, count_set, fit_first, behind_first, role_shared, fit_shared, spaces_shared, tables_shared, rows_shared, room_shared, others_shared, bare_shared, slotted_shared, files_shared, bytes_shared, own_shared, entry_shared, count_shared}
+use Rattle.fault.proofs.OwnSteps.{behind_freed, shown_used, shown_datum, lives_found, whole_found, at_found, spaces_set, tables_set, rows_mid, no_table_own, no_table_shared, room_set, others_set, bare_set, slotted_set, files_set, bytes_set, own_set, entry_set, count_set, fit_first, behind_first, role_shared, fit_shared, spaces_shared, tables_shared, room_shared, others_shared, bare_shared, slotted_shared, files_shared, bytes_shared, own_shared, entry_shared, count_shared}
 use Rattle.fault.proofs.Forms.{used_inside}
-use Rattle.fault.proofs.Rows.{rows_freed}
 use Rattle.fault.proofs.Settling.{forest_mid, root_mid}
 use Rattle.fault.proofs.Slotted.{slotted_frees}
 use Rattle.fault.proofs.Steps.{same_with, moves_freed}
 use Rattle.fault.proofs.owning.copy_page.Goals as goal
 
-pub take_copy-requires-clause-source : goal.take_copy-requires-clause-source
-take_copy-requires-clause-source g c =
+pub take_copy-requires : goal.take_copy-requires
+take_copy-requires g c =
     let old : Picture g.M.Levels.mode = picture_of c.args.core.now in
-    used_inside old.frames c.args.shown.0 c.args.core.now.sound
-    (shown_used old c.args.spot.now.pid c.args.spot.now.page c.args.shown.0 c.args.attr c.args.core.now.sound c.requires.page.stands.linked c.requires.page.mapped c.requires.page.resident c.requires.own c.requires.common)
-
-pub take_copy-requires-clause-in_use : goal.take_copy-requires-clause-in_use
-take_copy-requires-clause-in_use g c =
-    shown_used (picture_of c.args.core.now) c.args.spot.now.pid c.args.spot.now.page c.args.shown.0 c.args.attr c.args.core.now.sound c.requires.page.stands.linked c.requires.page.mapped c.requires.page.resident c.requires.own c.requires.common
-
-pub take_copy-requires-clause-datum : goal.take_copy-requires-clause-datum
-take_copy-requires-clause-datum g c =
-    shown_datum (picture_of c.args.core.now) c.args.spot.now.pid c.args.spot.now.page c.args.shown.0 c.args.attr c.args.core.now.sound c.requires.page.stands.linked c.requires.page.mapped c.requires.page.resident c.requires.own c.requires.common
+    let page = c.requires.page in
+    let in_use = shown_used old c.args.spot.now.pid c.args.spot.now.page c.args.shown.0 c.args.attr c.args.core.now.sound page.stands.linked page.mapped page.resident c.requires.own c.requires.common in
+    record {
+      fit = page.stands.linked.fit;
+      swap = page.swap;
+      source = used_inside old.frames c.args.shown.0 c.args.core.now.sound in_use;
+      in_use = in_use;
+      datum = shown_datum old c.args.spot.now.pid c.args.spot.now.page c.args.shown.0 c.args.attr c.args.core.now.sound page.stands.linked page.mapped page.resident c.requires.own c.requires.common;
+    }
 
 pub set_full-requires-clause-forest : goal.set_full-requires-clause-forest
 set_full-requires-clause-forest g c =
@@ -65,8 +63,8 @@ set_full-requires-clause-table g c =
     let r = c.args.spot.now.root.0 in
     rows_mid old c.args.spot.now.pid c.args.spot.now.page c.args.shown.0 c.args.attr c.args.core.now.sound c.requires.page.stands.linked c.requires.page.mapped c.requires.page.resident c.requires.own c.requires.common mid n r copy c.requires.page.stands.root c.args.spot.now.pid r _ c.args.spot.now.table.0 c.requires.page.stands.root c.requires.page.stands.table
 
-pub set_full-requires-clause-inside : goal.set_full-requires-clause-inside
-set_full-requires-clause-inside g c = c.in_ok-own.ensures.taken.inside
+pub set_full-requires-clause-frame : goal.set_full-requires-clause-frame
+set_full-requires-clause-frame g c = record { inside = c.in_ok-own.ensures.taken.inside; behind = λ common. absurd (false≢true (sym common)) }
 
 pub release-requires : goal.release-requires
 release-requires g c =
@@ -118,7 +116,6 @@ returns-then-is_private g c =
           store = c.set_full.ensures.rest.store ∙ done.rest.store;
           device = (let P : Swap _ → Type 0 = λ s. UsesDevice g.E.SectorDisk c.args.core.now.swap.pages.disk s.pages.disk in subst P (sym c.set_full.ensures.rest.swap) done.device);
         };
-        rows = rows_shared old c.args.spot.now.pid c.args.spot.now.page c.args.shown.0 c.args.attr c.args.core.now.sound c.requires.page.stands.linked c.requires.page.mapped c.requires.page.resident c.requires.own c.requires.common mid n r copy c.requires.page.stands.root set sets beside c.requires.page.not_shared inside private new releases beside';
         no_table = no_table_shared old c.args.spot.now.pid c.args.spot.now.page c.args.shown.0 c.args.attr c.args.core.now.sound c.requires.page.stands.linked c.requires.page.mapped c.requires.page.resident c.requires.own c.requires.common mid n r copy c.requires.page.stands.root set sets beside c.requires.page.not_shared inside private new releases beside';
         files = files_shared old c.args.spot.now.pid c.args.spot.now.page c.args.shown.0 c.args.attr c.args.core.now.sound c.requires.page.stands.linked c.requires.page.mapped c.requires.page.resident c.requires.own c.requires.common mid n r copy c.requires.page.stands.root set sets beside c.requires.page.not_shared inside private new releases beside';
         others = others_shared old c.args.spot.now.pid c.args.spot.now.page c.args.shown.0 c.args.attr c.args.core.now.sound c.requires.page.stands.linked c.requires.page.mapped c.requires.page.resident c.requires.own c.requires.common mid n r copy c.requires.page.stands.root set sets beside c.requires.page.not_shared inside private new releases beside';
@@ -164,7 +161,6 @@ returns-else-is_private g c =
           store = c.set_full.ensures.rest.store ∙ done.rest.store;
           device = (let P : Swap _ → Type 0 = λ s. UsesDevice g.E.SectorDisk c.args.core.now.swap.pages.disk s.pages.disk in subst P (sym c.set_full.ensures.rest.swap) done.device);
         };
-        rows = rows_own old c.args.spot.now.pid c.args.spot.now.page c.args.shown.0 c.args.attr c.args.core.now.sound c.requires.page.stands.linked c.requires.page.mapped c.requires.page.resident c.requires.own c.requires.common mid n r copy c.requires.page.stands.root set sets beside c.requires.page.not_shared inside;
         no_table = no_table_own old c.args.spot.now.pid c.args.spot.now.page c.args.shown.0 c.args.attr c.args.core.now.sound c.requires.page.stands.linked c.requires.page.mapped c.requires.page.resident c.requires.own c.requires.common mid n r copy c.requires.page.stands.root set sets beside c.requires.page.not_shared inside;
         files = files_set old c.args.spot.now.pid c.args.spot.now.page c.args.shown.0 c.args.attr c.args.core.now.sound c.requires.page.stands.linked c.requires.page.mapped c.requires.page.resident c.requires.own c.requires.common mid n r copy c.requires.page.stands.root set sets beside c.requires.page.not_shared inside;
         others = others_set old c.args.spot.now.pid c.args.spot.now.page c.args.shown.0 c.args.attr c.args.core.now.sound c.requires.page.stands.linked c.requires.page.mapped c.requires.page.resident c.requires.own c.requires.common mid n r copy c.requires.page.stands.root set sets beside c.requires.page.not_shared inside;
@@ -196,7 +192,6 @@ returns-in_err-own g c =
           (c.requires.common not_own) x behind;
       keeps = record {
         moves = moves_freed g.E.SectorDisk c.args.core.now c.take_copy.new.core _ done.fit done.swap done.frees done.rest done.device;
-        rows = rows_freed (picture_of c.args.core.now) (picture_of c.take_copy.new.core) _ c.in_err-own.ensures.fit c.in_err-own.ensures.frees;
         no_table = no_table_freed (picture_of c.args.core.now) (picture_of c.take_copy.new.core) _ done.frees;
         files = search rules;
         others = search rules;

@@ -50,12 +50,17 @@ count-requires g c =
     used_inside old.frames c.shown_frame-shown.result.0 c.args.core.now.sound
     (shown_used old c.args.spot.now.pid c.args.spot.now.page c.shown_frame-shown.result.0 c.args.attr c.args.core.now.sound c.requires.page.stands.linked c.requires.page.mapped c.requires.page.resident own_of behind_of)
 
-pub regrant-requires-clause-resident : goal.regrant-requires-clause-resident
-regrant-requires-clause-resident g c =
+pub regrant-requires : goal.regrant-requires
+regrant-requires g c =
     let old : Picture g.M.Levels.mode = picture_of c.args.core.now in
     let e = c.number_at-was.ensures in
     let own = sym (ap is_private e) ∙ sym c.is_private.ensures ∙ c.if-is_private.true in
-    λ none. false≢true (sym (none_common (entry old c.args.spot.now.pid c.args.spot.now.page) (seat_zero (entry old c.args.spot.now.pid c.args.spot.now.page) none)) ∙ own)
+    record {
+      spot = c.requires.page.stands;
+      attr = c.requires.page.mapped;
+      resident = λ none. false≢true (sym (none_common (entry old c.args.spot.now.pid c.args.spot.now.page) (seat_zero (entry old c.args.spot.now.pid c.args.spot.now.page) none)) ∙ own);
+      here = c.requires.page.resident;
+    }
 
 pub returns-then-count-eq1 : goal.returns-then-count-eq1
 returns-then-count-eq1 g c =
@@ -81,8 +86,7 @@ returns-then-count-eq1 g c =
         sole = ap (λ cs. get_or cs c.shown_frame-shown.result.0 0) c.regrant.ensures.enters.calm.frames.counts ∙ ap (count_of old.frames) frame ∙ one;
         behind = λ x not_own. absurd (false≢true (sym not_own ∙ own));
         keeps = record {
-          moves = moves_entered g.E.SectorDisk c.args.core.now c.regrant.new.core c.args.spot.now.pid c.args.spot.now.page c.requires.swap c.regrant.ensures.enters;
-          rows = search rules;
+          moves = moves_entered g.E.SectorDisk c.args.core.now c.regrant.new.core c.args.spot.now.pid c.args.spot.now.page c.requires.page.swap c.regrant.ensures.enters;
           no_table = no_table_calm c.args.core.now c.regrant.new.core c.args.spot.now.pid c.args.spot.now.page c.regrant.ensures.enters.calm;
           files = search rules;
           others = search rules;

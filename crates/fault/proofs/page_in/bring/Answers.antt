@@ -31,7 +31,7 @@ returns-in-Slot g c =
       only = only_of old new page r done.brought;
       proceeds = record {
         fit = done.fit;
-        ready = (let P : FileStore _ → Type 0 = λ s. IsReadyStore g.D.SectorDisk s in subst P (sym done.rest.store) c.requires.store);
+        ready = (let P : FileStore _ → Type 0 = λ s. IsReadyStore g.D.SectorDisk s in subst P (sym done.rest.store) c.requires.may.store);
         swap = done.swap;
         spaces = spaces_of old new page r done.brought done.frees;
         tables = tables_of old new page r done.brought done.frees;
@@ -48,7 +48,7 @@ returns-in-Slot g c =
       read = inl done.rest.store;
       asks = asks_slots_wider g.E.SectorDisk before after None here (IsSectorOfPage old page) (λ k is. inl (c.in-Slot.slot, at, is)) (asks_swap_also g.E.SectorDisk before after None here done.asked);
       asks_store = store_same g.D.SectorDisk (IsSectorOfStoredPage before.store page) before.store after.store done.rest.store;
-      asks_later = no_new_of old new page c.requires.fit (λ k there. no_frame c.in-Slot.slot k (sym at ∙ there)) r done.brought;
+      asks_later = no_new_of old new page c.requires.may.fit (λ k there. no_frame c.in-Slot.slot k (sym at ∙ there)) r done.brought;
       cause = causes_of g.D.SectorDisk g.E.SectorDisk before after r done.rest.store done.cause;
       home = never_store g.D.SectorDisk g.E.SectorDisk _ before after r done.cause;
       frees = done.frees;

@@ -51,7 +51,7 @@ returns-in-File g c =
         reads = done.reads;
         device = done.device;
       };
-      brings = λ kept. brings_home_of g.D.SectorDisk before.store.disk after.store.disk old new c.in-File.page r done.brought done.frees (untouched_home old page c.requires.fit home) done.read;
+      brings = λ kept. brings_home_of g.D.SectorDisk before.store.disk after.store.disk old new c.in-File.page r done.brought done.frees (untouched_home old page c.requires.may.fit home) done.read;
       keeps = seen_of old new page r done.brought done.frees;
       bare = bare_of old new page r done.brought done.frees;
       rows = rows_of old new page r done.brought done.fit done.frees;
@@ -60,7 +60,7 @@ returns-in-File g c =
       read = inr (c.in-File.page, refl, home);
       asks = asks_swap g.E.SectorDisk before after None (IsSectorOfPage old page) done.asked;
       asks_store = asks_wider g.D.SectorDisk (IsSectorOf before.store c.in-File.page) (IsSectorOfStoredPage before.store page) before.store.disk after.store.disk (λ k is. (c.in-File.page, refl, is)) done.asks;
-      asks_later = no_new_of old new page c.requires.fit (λ k at. no_frame k (sym home ∙ at)) r done.brought;
+      asks_later = no_new_of old new page c.requires.may.fit (λ k at. no_frame k (sym home ∙ at)) r done.brought;
       cause = done.cause;
       home = err_always _ r (λ s is. (c.in-File.page, refl, home));
       frees = done.frees;
@@ -85,7 +85,7 @@ returns-in-Object g c =
       only = only_of old new page r done.brought;
       proceeds = record {
         fit = done.fit;
-        ready = (let P : FileStore _ → Type 0 = λ s. IsReadyStore g.D.SectorDisk s in subst P (sym done.rest.store) c.requires.store);
+        ready = (let P : FileStore _ → Type 0 = λ s. IsReadyStore g.D.SectorDisk s in subst P (sym done.rest.store) c.requires.may.store);
         swap = done.swap;
         spaces = spaces_of old new page r done.brought done.frees;
         tables = tables_of old new page r done.brought done.frees;
@@ -93,7 +93,7 @@ returns-in-Object g c =
         reads = reads_none g.D.SectorDisk before.store after.store done.rest.store;
         device = done.device;
       };
-      brings = λ kept. brings_blank_of g.D.SectorDisk before.store.disk after.store.disk old new c.in-Object.page r done.brought done.frees (untouched_home old page c.requires.fit home) done.blank;
+      brings = λ kept. brings_blank_of g.D.SectorDisk before.store.disk after.store.disk old new c.in-Object.page r done.brought done.frees (untouched_home old page c.requires.may.fit home) done.blank;
       keeps = seen_of old new page r done.brought done.frees;
       bare = bare_of old new page r done.brought done.frees;
       rows = rows_of old new page r done.brought done.fit done.frees;
@@ -102,7 +102,7 @@ returns-in-Object g c =
       read = inl done.rest.store;
       asks = asks_swap g.E.SectorDisk before after None (IsSectorOfPage old page) done.asked;
       asks_store = store_same g.D.SectorDisk (IsSectorOfStoredPage before.store page) before.store after.store done.rest.store;
-      asks_later = no_new_of old new page c.requires.fit (λ k at. no_frame k (sym home ∙ at)) r done.brought;
+      asks_later = no_new_of old new page c.requires.may.fit (λ k at. no_frame k (sym home ∙ at)) r done.brought;
       cause = causes_of g.D.SectorDisk g.E.SectorDisk before after r done.rest.store done.cause;
       home = never_store g.D.SectorDisk g.E.SectorDisk _ before after r done.cause;
       frees = done.frees;

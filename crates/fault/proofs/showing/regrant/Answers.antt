@@ -12,14 +12,22 @@ use Rattle.fault.proofs.showing.regrant.Goals as goal
 pub set_full-requires-clause-root : goal.set_full-requires-clause-root
 set_full-requires-clause-root g c = c.requires.spot.linked.fit.rooted.roots c.args.spot.now.pid c.args.spot.now.root.0 c.requires.spot.root
 
-pub set_full-requires-clause-inside : goal.set_full-requires-clause-inside
-set_full-requires-clause-inside g c =
-    let old : Picture g.M.Levels.mode = picture_of c.args.core.now in
-    let is = c.frame_number.ensures ∙ ap frame_of c.number_at-was.ensures in
-    let P : ℕ → Type 0 = λ x. IsFrame old.frames x in
-    subst P (sym is) (used_inside old.frames (frame_of (entry old c.args.spot.now.pid c.args.spot.now.page)) c.args.core.now.sound
-    (resident_used old c.args.spot.now.pid c.args.spot.now.page c.args.attr c.args.core.now.sound c.requires.spot.linked.fit (mapped_page old c.args.spot.now.pid c.args.spot.now.page c.args.attr c.requires.spot.linked.fit.granting c.requires.attr)
-    c.requires.attr c.requires.resident c.requires.here))
+pub set_full-requires-clause-frame : goal.set_full-requires-clause-frame
+set_full-requires-clause-frame g c =
+    record {
+      inside = (let old : Picture g.M.Levels.mode = picture_of c.args.core.now in
+          let is = c.frame_number.ensures ∙ ap frame_of c.number_at-was.ensures in
+          let P : ℕ → Type 0 = λ x. IsFrame old.frames x in
+          subst P (sym is) (used_inside old.frames (frame_of (entry old c.args.spot.now.pid c.args.spot.now.page)) c.args.core.now.sound
+          (resident_used old c.args.spot.now.pid c.args.spot.now.page c.args.attr c.args.core.now.sound c.requires.spot.linked.fit (mapped_page old c.args.spot.now.pid c.args.spot.now.page c.args.attr c.requires.spot.linked.fit.granting c.requires.attr)
+          c.requires.attr c.requires.resident c.requires.here)));
+      behind = λ common.
+          let old : Picture g.M.Levels.mode = picture_of c.args.core.now in
+          let e = c.number_at-was.ensures in
+          let resident = resident_page old c.args.spot.now.pid c.args.spot.now.page c.args.attr c.requires.spot.linked.fit.granting (mapped_page old c.args.spot.now.pid c.args.spot.now.page c.args.attr c.requires.spot.linked.fit.granting c.requires.attr) c.requires.attr c.requires.resident c.requires.here in
+          let P : ℕ → Type 0 = λ x. IsBehind old c.args.attr.backing x in
+          subst P (sym (c.frame_number.ensures ∙ ap frame_of e)) (resident.behind (sym (c.is_private.ensures ∙ ap is_private e) ∙ common));
+    }
 
 pub frame_number-requires : goal.frame_number-requires
 frame_number-requires g c =

@@ -9,10 +9,13 @@ use Rattle.fault.proofs.showing.show_cached.Goals as goal
 pub set_full-requires-clause-root : goal.set_full-requires-clause-root
 set_full-requires-clause-root g c = c.requires.spot.linked.fit.rooted.roots c.args.spot.now.pid c.args.spot.now.root.0 c.requires.spot.root
 
-pub set_full-requires-clause-inside : goal.set_full-requires-clause-inside
-set_full-requires-clause-inside g c =
-    let old : Picture g.M.Levels.mode = picture_of c.args.core.now in
-    used_inside old.frames c.args.cache_frame.0 c.args.core.now.sound (behind_used old c.args.attr.backing c.args.cache_frame.0 c.args.core.now.sound c.requires.spot.linked.fit.places c.requires.behind)
+pub set_full-requires-clause-frame : goal.set_full-requires-clause-frame
+set_full-requires-clause-frame g c =
+    record {
+      inside = (let old : Picture g.M.Levels.mode = picture_of c.args.core.now in
+          used_inside old.frames c.args.cache_frame.0 c.args.core.now.sound (behind_used old c.args.attr.backing c.args.cache_frame.0 c.args.core.now.sound c.requires.spot.linked.fit.places c.requires.behind));
+      behind = λ _. c.requires.behind;
+    }
 
 pub set_full-requires-clause-user : goal.set_full-requires-clause-user
 set_full-requires-clause-user g c = ((c.requires.spot.linked.fit.granting.user c.args.spot.now.pid).user_pages c.args.spot.now.page (ap is_some c.requires.attr)).1

@@ -13,8 +13,12 @@ use Rattle.fault.proofs.showing.show_zero.Goals as goal
 pub set_full-requires-clause-root : goal.set_full-requires-clause-root
 set_full-requires-clause-root g c = c.requires.spot.linked.fit.rooted.roots c.args.spot.now.pid c.args.spot.now.root.0 c.requires.spot.root
 
-pub set_full-requires-clause-inside : goal.set_full-requires-clause-inside
-set_full-requires-clause-inside g c = let least = c.args.core.now.sound.least in omega (arith, least)
+pub set_full-requires-clause-frame : goal.set_full-requires-clause-frame
+set_full-requires-clause-frame g c =
+    record {
+      inside = (let least = c.args.core.now.sound.least in omega (arith, least));
+      behind = λ _. let P : Backing → Type 0 = λ b. IsBehind (picture_of c.args.core.now) b 0 in subst P (sym c.requires.anonymous) refl;
+    }
 
 pub set_full-requires-clause-user : goal.set_full-requires-clause-user
 set_full-requires-clause-user g c = ((c.requires.spot.linked.fit.granting.user c.args.spot.now.pid).user_pages c.args.spot.now.page (ap is_some c.requires.attr)).1

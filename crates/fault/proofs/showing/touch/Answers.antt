@@ -13,18 +13,23 @@ use Rattle.page_tables.specs.Leaves.{IsEntryOver}
 use Rattle.fault.specs.Leaves.{is_touched_behind}
 use Rattle.fault.proofs.Entering.{beside_around, full_entry_now, full_set, full_fit, full_views, full_tables, linked_marked, entry_marked, view_marked, tables_marked}
 use Rattle.fault.proofs.Forms.{used_inside, behind_of, touched_of, behind_used, mapped_page, shared_none, seat_over_common}
-use Rattle.fault.proofs.Rows.{rows_set}
 use Rattle.fault.proofs.Steps.{tables_then}
 use Rattle.fault.proofs.showing.touch.Goals as goal
 
 pub set_full-requires-clause-root : goal.set_full-requires-clause-root
 set_full-requires-clause-root g c = c.requires.spot.linked.fit.rooted.roots c.args.spot.now.pid c.args.spot.now.root.0 c.requires.spot.root
 
-pub set_full-requires-clause-inside : goal.set_full-requires-clause-inside
-set_full-requires-clause-inside g c =
-    let old : Picture g.M.Levels.mode = picture_of c.args.core.now in
-    used_inside old.frames c.args.frame.0 c.args.core.now.sound
-    (behind_used old c.args.attr.backing c.args.frame.0 c.args.core.now.sound c.requires.spot.linked.fit.places (behind_of old c.args.attr.backing c.args.stored c.args.frame.0 c.requires.stands c.requires.cached))
+pub set_full-requires-clause-frame : goal.set_full-requires-clause-frame
+set_full-requires-clause-frame g c =
+    record {
+      inside = (let old : Picture g.M.Levels.mode = picture_of c.args.core.now in
+          used_inside old.frames c.args.frame.0 c.args.core.now.sound
+          (behind_used old c.args.attr.backing c.args.frame.0 c.args.core.now.sound c.requires.spot.linked.fit.places (behind_of old c.args.attr.backing c.args.stored c.args.frame.0 c.requires.stands c.requires.cached)));
+      behind = λ _.
+          let old : Picture g.M.Levels.mode = picture_of c.args.core.now in
+          let mid : Picture g.M.Levels.mode = record old { place = place_of c.mark_dirty.new.self; touched = is_touched c.mark_dirty.new.self } in
+          behind_of mid c.args.attr.backing c.args.stored c.args.frame.0 c.requires.stands (c.mark_dirty.ensures.placed ∙ c.requires.cached);
+    }
 
 pub set_full-requires-clause-user : goal.set_full-requires-clause-user
 set_full-requires-clause-user g c = ((c.requires.spot.linked.fit.granting.user c.args.spot.now.pid).user_pages c.args.spot.now.page (ap is_some c.requires.allowed.mapped)).1
@@ -56,7 +61,6 @@ returns g c =
         spaces = record { root = beside.root; at = beside.at };
         tables = tables_then old mid new (λ q. refl) (tables_marked old mid c.args.stored c.args.frame.0 refl refl (λ q. refl) (λ q k. refl) (λ x. refl) place c.mark_dirty.ensures.touched c.mark_dirty.ensures.others.touched (λ f. refl) c.requires.cached)
             (full_tables mid new c.args.spot.now.pid c.args.spot.now.page r c.args.attr c.args.frame.0 false linked c.requires.spot.root c.requires.allowed.mapped sets beside);
-        rows = rows_set mid new linked.fit c.args.spot.now.root.0 c.args.spot.now.page sets.0 sets.2;
         views = λ q p. full_views mid new c.args.spot.now.pid c.args.spot.now.page r c.args.attr c.args.frame.0 false linked c.requires.spot.root c.requires.allowed.mapped sets beside same q p
             ∙ view_marked old mid c.args.stored c.args.frame.0 refl refl (λ q. refl) (λ q k. refl) (λ x. refl) place c.mark_dirty.ensures.touched c.mark_dirty.ensures.others.touched (λ f. refl) c.requires.cached q p;
         calm = record {

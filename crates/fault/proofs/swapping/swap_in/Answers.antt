@@ -1,6 +1,7 @@
 use Rattle.vm_types.specs.Limits.{top_level}
 use Rattle.std.specs.Prelude.{is_some}
 use Rattle.std.proofs.Common.{◌≡◌, ◌≢◌, ℕ, ◌+◌, ◌*◌, ◌<◌, ◌^◌, inl, Some, None, get_or, refl, sym, ap, ◌∙◌, subst, arith, rules}
+use Rattle.std.proofs.lemmas.Bool.{false≢true}
 use Rattle.frames.specs.declared.role.Role.TheVariants.{Free, Table}
 use Rattle.frames.specs.FrameTable.{IsFrame, IsFull, role_of, with_bytes}
 use Rattle.swap.specs.Slots.{SlotTable, IsInUse, slots_of}
@@ -31,9 +32,8 @@ use Rattle.fault.specs.Changes.{IsThatPage}
 use Rattle.fault.proofs.Asking.{asks_swap}
 use Rattle.fault.proofs.AskedIn.{asks_read}
 use Rattle.fault.proofs.Slotted.{slotted_frees}
-use Rattle.fault.proofs.SwappedIn.{lives_of, whole_of, at_of, slot_set, slot_used, fit_in, spaces_in, tables_in, rows_written, no_table_in, rows_in, room_in, others_in, bare_in, slotted_in, files_in, seen_in, entry_in}
+use Rattle.fault.proofs.SwappedIn.{lives_of, whole_of, at_of, slot_set, slot_used, fit_in, spaces_in, tables_in, rows_written, no_table_in, room_in, others_in, bare_in, slotted_in, files_in, seen_in, entry_in}
 use Rattle.fault.proofs.NoTables.{no_table_freed}
-use Rattle.fault.proofs.Rows.{rows_freed}
 use Rattle.fault.proofs.Settling.{forest_mid, root_mid}
 use Rattle.fault.proofs.Steps.{frees_any, moves_freed, device_then}
 use Rattle.fault.proofs.swapping.swap_in.Goals as goal
@@ -130,7 +130,6 @@ returns-in-Ok g c =
               (device_then g.E.SectorDisk c.args.core.now.swap.pages.disk c.take_own.new.self.swap.pages.disk c.get.new.self.pages.disk done.device
               (record { size = c.get.ensures.size; kept = c.get.ensures.kept; later = c.get.ensures.cause.later }))));
         };
-        rows = rows_in old taken c.args.spot.now.pid c.args.spot.now.page n k r c.args.attr took c.requires.spot.linked lives c.requires.attr c.requires.away number low written changes took.own.takes.kind_set took.own.takes.counted took.own.noted set sets beside t c.release.ensures.releases;
         no_table = no_table_in old taken c.args.spot.now.pid c.args.spot.now.page n k r c.args.attr took c.requires.spot.linked lives c.requires.attr c.requires.away number low written changes took.own.takes.kind_set took.own.takes.counted took.own.noted set sets beside t c.release.ensures.releases;
         files = files_in old taken c.args.spot.now.pid c.args.spot.now.page n k r c.args.attr took c.requires.spot.linked lives c.requires.attr c.requires.away number low written changes took.own.takes.kind_set took.own.takes.counted took.own.noted set sets beside t c.release.ensures.releases;
         others = others_in old taken c.args.spot.now.pid c.args.spot.now.page n k r c.args.attr took c.requires.spot.linked lives c.requires.attr c.requires.away number low written changes took.own.takes.kind_set took.own.takes.counted took.own.noted set sets beside t c.release.ensures.releases;
@@ -252,7 +251,6 @@ returns-in-Err g c =
             (record { store = done.rest.store; roots = done.rest.roots; regions = done.rest.regions })
             (device_then g.E.SectorDisk c.args.core.now.swap.pages.disk c.take_own.new.self.swap.pages.disk c.get.new.self.pages.disk done.device
             (record { size = c.get.ensures.size; kept = c.get.ensures.kept; later = c.get.ensures.cause.later }));
-        rows = rows_freed old new _ (fit_spent took.found new n took.fit changes datum free) frees;
         no_table = no_table_freed old new _ frees;
         files = frees.pages.files;
         others = λ q p other. frees.pages.views q p;
@@ -278,7 +276,6 @@ returns-in_err-frame g c =
       seen = search rules;
       keeps = record {
         moves = moves_freed g.E.SectorDisk c.args.core.now c.take_own.new.self _ done.fit done.swap done.frees done.rest done.device;
-        rows = rows_freed (picture_of c.args.core.now) (picture_of c.take_own.new.self) _ c.in_err-frame.ensures.fit c.in_err-frame.ensures.frees;
         no_table = no_table_freed (picture_of c.args.core.now) (picture_of c.take_own.new.self) _ done.frees;
         files = search rules;
         others = search rules;
@@ -294,6 +291,9 @@ returns-in_err-frame g c =
         cause = search rules;
       };
     }
+
+pub set_full-requires-clause-frame : goal.set_full-requires-clause-frame
+set_full-requires-clause-frame g c = record { inside = search rules; behind = λ common. absurd (false≢true (sym common)) }
 
 pub set_full-requires-clause-user : goal.set_full-requires-clause-user
 set_full-requires-clause-user g c = ((c.requires.spot.linked.fit.granting.user c.args.spot.now.pid).user_pages c.args.spot.now.page (ap is_some c.requires.attr)).1

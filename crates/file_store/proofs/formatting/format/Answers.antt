@@ -36,6 +36,7 @@ returns-then-is_too_large g c =
       too_large = search rules;
       formatted = search rules;
       not_formatted = search rules;
+      spared = λ k mark. stays d Nothing old;
       unwritten = search rules;
       source = search rules;
       causes = search rules;
@@ -84,7 +85,7 @@ returns-in_err-write_unmarked g c =
     unmarked_made d kind Whole old (λ image left. g.met.D.SectorDisk.only_now old image (check.run.kept before) left) mid (check.run.touches before)
     (IsUnmarkedSector kind (total_pages sources)) (unmarked_from kind (total_pages sources)) (IsKindlessStoreOf g.R.Read.remaining sources) (IsKindlessStoreOf g.R.Read.remaining sources) (λ image q. q)
     (λ paired. whole_of_kind g.R.Read.remaining sources kind sectors paired fits.0 fits.1) made (w.fills.run.touches k) (w.last k).epochs)
-    (λ k is. absurd (other.1 is)) (λ k mark. absurd (c.in_ok-check_unmarked.ensures.unmarked (w.fills.run.kept k) mark)) (λ k is. absurd (other.1 is)) (λ is. e.fills.source (ap Err is))
+    (λ k is. absurd (other.1 is)) (λ k mark. absurd (c.in_ok-check_unmarked.ensures.unmarked (w.fills.run.kept k) mark)) (λ k mark. absurd (c.in_ok-check_unmarked.ensures.unmarked (w.fills.run.kept k) mark)) (λ is. e.fills.source (ap Err is))
 
 pub returns-in_err-write_mark : goal.returns-in_err-write_mark
 returns-in_err-write_mark g c =
@@ -116,7 +117,7 @@ returns-in_err-write_mark g c =
     (IsUnmarkedSector kind (total_pages sources)) (unmarked_from kind (total_pages sources)) (IsKindlessStoreOf g.R.Read.remaining sources) (IsKindlessStoreOf g.R.Read.remaining sources) (λ image q. q)
     (λ paired. whole_of_kind g.R.Read.remaining sources kind sectors paired fits.0 fits.1) made (w.fills.run.touches last) (w.last last).kind_behind (w.synced last)
     (store_whole kind g.R.Read.remaining sectors sources (d.content made) (w.written last) fits.0 fits.1) (kindless_moves g.R.Read.remaining sources) new (m.touches k))
-    (λ k is. absurd (when_marking.1.0 is)) (λ k mark. inr refl) (λ k is. absurd (when_marking.1.0 is)) (λ is. absurd (when_marking.1.1 is))
+    (λ k is. absurd (when_marking.1.0 is)) (λ k mark. inr refl) (λ k mark. absurd (c.in_ok-check_unmarked.ensures.unmarked (w.fills.run.kept (m.kept k)) mark)) (λ is. absurd (when_marking.1.1 is))
 
 pub returns : goal.returns
 returns g c =
@@ -161,6 +162,7 @@ returns g c =
       too_large = (λ is. absurd (ok_is_no_err _ _ is), λ large. absurd (known large));
       formatted = λ k is. absurd (ok_is_no_err _ _ is);
       not_formatted = λ k mark. absurd (c.in_ok-check_unmarked.ensures.unmarked (w.fills.run.kept (m.kept k)) mark);
+      spared = λ k mark. absurd (c.in_ok-check_unmarked.ensures.unmarked (w.fills.run.kept (m.kept k)) mark);
       unwritten = λ k. ⊎_elim (λ is. absurd (ok_is_no_err _ _ is)) (λ is. absurd (ok_is_no_err _ _ is));
       source = λ is. absurd (ok_is_no_err _ _ is);
       causes = causes_none _ _ _ (c.in_ok-write_mark.ensures.writes.calm ∙ w.fills.calm ∙ c.in_ok-check_unmarked.ensures.causes.calm);

@@ -11,6 +11,7 @@ pub returns-clause-some : goal.returns-clause-some
 returns-clause-some g c =
     let is = c.in_ok-pid.ensures.found.0 in (
       record {
+        holds = c.requires.holds;
         from = inl (is, c.in_ok-page.ensures.some.from);
         over = c.in_ok-page.ensures.some.over;
         entry = c.entry_number.ensures ∙ sym (entry-of (picture_of c.args.core.now) c.in_ok-pid.pid c.in_ok-root.root.0 c.in_ok-page.page (sym c.in_ok-root.ensures));

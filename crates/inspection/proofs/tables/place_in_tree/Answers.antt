@@ -1,7 +1,7 @@
 use Rattle.vm_types.proofs.Modes.{sizes, user_pages_fit}
 use Rattle.std.proofs.Common.{ℕ, ◌∙◌, subst, arith}
 use Rattle.residency.specs.Picture.{picture_of}
-use Rattle.inspection.specs.Tables.{HaveOneWay, IsOffWay}
+use Rattle.inspection.specs.Tables.{HaveOneWay, IsOffWay, IsOutOf}
 use Rattle.inspection.proofs.Trees.{out_of, passed_more}
 use Rattle.inspection.proofs.tables.place_in_tree.Goals as goal
 
@@ -21,11 +21,13 @@ loop-run-preserved g c =
     let p = picture_of c.args.core.now in
     let first = c.in-Some-next_run.run'.first in
     let off = c.in_default-place_on_way.ensures.none in
-    let O : ℕ → Type 0 = λ x. IsOffWay p c.args.pid x c.args.n.0 in
-    let H : ℕ → Type 0 = λ x. HaveOneWay p c.args.pid x c.way_end-low.result in
-    passed_more p c.args.pid c.args.n.0 c.loop-run.low first c.way_end-low.result c.loop-run.invariant c.in-Some-next_run.ensures.some.none_before
+    let O : ℕ → Type 0 = λ x. IsOffWay p c.in_ok-pid.pid x c.args.n.0 in
+    let H : ℕ → Type 0 = λ x. HaveOneWay p c.in_ok-pid.pid x c.way_end-low.result in
+    passed_more p c.in_ok-pid.pid c.args.n.0 c.loop-run.low first c.way_end-low.result c.loop-run.invariant c.in-Some-next_run.ensures.some.none_before
     (subst O (c.get.ensures.number ∙ c.user_page-page.ensures) off) (subst H c.user_page-page.ensures c.way_end-low.ensures.one_way)
 
 pub returns-clause-none : goal.returns-clause-none
 returns-clause-none g c =
-    out_of (picture_of c.args.core.now) c.args.pid c.args.n.0 c.loop-run.low c.in_default.ensures.none c.loop-run.invariant c.in_default-next_run.ensures.none
+    let T : ℕ → Type 0 = λ x. IsOutOf (picture_of c.args.core.now) x c.args.n.0 in
+    subst T c.in_ok-pid.ensures.found.0
+    (out_of (picture_of c.args.core.now) c.in_ok-pid.pid c.args.n.0 c.loop-run.low c.in_default.ensures.none c.loop-run.invariant c.in_default-next_run.ensures.none)

@@ -1,20 +1,40 @@
 use Rattle.vm_types.proofs.Modes.{sizes}
-use Rattle.std.proofs.Common.{ℕ, ◌+◌, ◌*◌, ◌/◌, ap, arith}
+use Rattle.std.proofs.Common.{ℕ, ◌+◌, ◌*◌, ◌/◌, ap, sym, ◌∙◌, arith, rules}
+use Rattle.std.proofs.lemmas.Bool.Decides.{nat_tests}
 use Rattle.page_tables.proofs.Pages.{span_positive}
 use Rattle.residency.specs.Picture.{picture_of}
-use Rattle.inspection.proofs.Trees.{placed}
+use Rattle.inspection.proofs.Trees.{ended, if_none, passed_on, placed}
 use Rattle.inspection.proofs.tables.place_on_way.Goals as goal
 
-pub overflow_add-level : goal.overflow_add-level
-overflow_add-level g c = let levels = (sizes g.M.Levels.mode).levels.1 in let most = c.in_ok-level.ensures.some.most in omega (arith, most, levels)
+pub returns-in_err-step-2-clause-none : goal.returns-in_err-step-2-clause-none
+returns-in_err-step-2-clause-none g c =
+    let inv = c.loop-n.invariant in
+    let test = sym c.ne.ensures ∙ c.loop-n-test.true in
+    if_none c.from_residual-in_err-step-2.result
+    (ended (picture_of c.args.core.now) c.args.pid c.args.page c.args.n.0 c.loop-n.step inv.stands (λ e. grind (arith, nat_tests, test, e)) inv.passed c.in_err-step-2.ensures.none)
+
+pub loop-n-preserved : goal.loop-n-preserved
+loop-n-preserved g c =
+    let inv = c.loop-n.invariant in
+    let test = sym c.ne.ensures ∙ c.loop-n-test.true in
+    let next = c.in_ok-step-2.ensures.next in
+    record {
+      stands = next.each c.args.pid inv.stands;
+      passed = λ r d lives less.
+          passed_on (picture_of c.args.core.now) c.args.pid c.args.page c.args.n.0 c.loop-n.step inv.stands (λ e. grind (arith, nat_tests, test, e)) inv.passed r d lives
+          (let lower = next.lower in let least = inv.stands.level in omega (arith, less, lower, least));
+    }
+
+pub overflow_add-step : goal.overflow_add-step
+overflow_add-step g c = let levels = (sizes g.M.Levels.mode).levels.1 in let most = c.loop-n.invariant.stands.level in omega (arith, most, levels)
 
 pub span_of-span-requires : goal.span_of-span-requires
-span_of-span-requires g c = let levels = (sizes g.M.Levels.mode).levels.1 in let most = c.in_ok-level.ensures.some.most in omega (arith, most, levels)
+span_of-span-requires g c = let levels = (sizes g.M.Levels.mode).levels.1 in let most = c.loop-n.invariant.stands.level in omega (arith, most, levels)
 
 pub nonzero_div-result : goal.nonzero_div-result
-nonzero_div-result g c = let some = span_positive (c.in_ok-level.level + 1) in omega (arith, some, c.span_of-span.ensures)
+nonzero_div-result g c = let some = span_positive (c.loop-n.step.level + 1) in omega (arith, some, c.span_of-span.ensures)
 
 pub returns-clause-some : goal.returns-clause-some
 returns-clause-some g c =
-    placed (picture_of c.args.core.now) c.args.pid c.args.page c.args.n.0 c.in_ok-level.level (c.args.page / c.span_of-span.result * c.span_of-span.result) c.in_ok-level.ensures.some
-    c.requires.inside (ap (λ (x : ℕ). c.args.page / x * x) c.span_of-span.ensures)
+    placed (picture_of c.args.core.now) c.args.pid c.args.page c.args.n.0 (c.args.page / c.span_of-span.result * c.span_of-span.result) c.loop-n.step c.loop-n.invariant.stands
+    (search rules) c.requires.inside (ap (λ (x : ℕ). c.args.page / x * x) c.span_of-span.ensures)

@@ -1,14 +1,10 @@
-use Rattle.inspection.proofs.Told.{none_if}
+use Rattle.inspection.proofs.Told.{told}
 use Rattle.inspection.proofs.views.place_of_table.Goals as goal
 
-pub returns-in_ok-memory-in-Sv39-clause-some : goal.returns-in_ok-memory-in-Sv39-clause-some
-returns-in_ok-memory-in-Sv39-clause-some g c = rw c.in-Sv39.is (rw (← c.in_ok-memory-in-Sv39.ensures.memory) c.place_of_table.ensures.some)
+pub returns-in_ok-memory-in-Sv39 : goal.returns-in_ok-memory-in-Sv39
+returns-in_ok-memory-in-Sv39 g c =
+    rw c.in-Sv39.is (rw (← c.in_ok-memory-in-Sv39.ensures.memory) (told c.place_of_table.result c.in_ok-memory-in-Sv39.ensures.none.1 c.place_of_table.ensures.some c.place_of_table.ensures.none))
 
-pub returns-in_ok-memory-in-Sv39-clause-none : goal.returns-in_ok-memory-in-Sv39-clause-none
-returns-in_ok-memory-in-Sv39-clause-none g c = none_if _ _ c.place_of_table.result (rw c.in-Sv39.is (rw (← c.in_ok-memory-in-Sv39.ensures.memory) c.place_of_table.ensures.none))
-
-pub returns-in_ok-memory-in-Sv48-clause-some : goal.returns-in_ok-memory-in-Sv48-clause-some
-returns-in_ok-memory-in-Sv48-clause-some g c = rw c.in-Sv48.is (rw (← c.in_ok-memory-in-Sv48.ensures.memory) c.place_of_table-in-Sv48.ensures.some)
-
-pub returns-in_ok-memory-in-Sv48-clause-none : goal.returns-in_ok-memory-in-Sv48-clause-none
-returns-in_ok-memory-in-Sv48-clause-none g c = none_if _ _ c.place_of_table-in-Sv48.result (rw c.in-Sv48.is (rw (← c.in_ok-memory-in-Sv48.ensures.memory) c.place_of_table-in-Sv48.ensures.none))
+pub returns-in_ok-memory-in-Sv48 : goal.returns-in_ok-memory-in-Sv48
+returns-in_ok-memory-in-Sv48 g c =
+    rw c.in-Sv48.is (rw (← c.in_ok-memory-in-Sv48.ensures.memory) (told c.place_of_table-in-Sv48.result c.in_ok-memory-in-Sv48.ensures.none.1 c.place_of_table-in-Sv48.ensures.some c.place_of_table-in-Sv48.ensures.none))

@@ -1,14 +1,10 @@
-use Rattle.inspection.proofs.Told.{none_if}
+use Rattle.inspection.proofs.Told.{told}
 use Rattle.inspection.proofs.views.root_step.Goals as goal
 
-pub returns-in_ok-memory-in-Sv39-clause-some : goal.returns-in_ok-memory-in-Sv39-clause-some
-returns-in_ok-memory-in-Sv39-clause-some g c = rw c.in-Sv39.is (rw (← c.in_ok-memory-in-Sv39.ensures.memory) c.root_step.ensures.some)
+pub returns-in_ok-memory-in-Sv39-clause-tells : goal.returns-in_ok-memory-in-Sv39-clause-tells
+returns-in_ok-memory-in-Sv39-clause-tells g c =
+    rw c.in-Sv39.is (rw (← c.in_ok-memory-in-Sv39.ensures.memory) (told c.root_step.result c.in_ok-memory-in-Sv39.ensures.none.1 c.root_step.ensures.some c.root_step.ensures.none))
 
-pub returns-in_ok-memory-in-Sv39-clause-none : goal.returns-in_ok-memory-in-Sv39-clause-none
-returns-in_ok-memory-in-Sv39-clause-none g c = none_if _ _ c.root_step.result (rw c.in-Sv39.is (rw (← c.in_ok-memory-in-Sv39.ensures.memory) c.root_step.ensures.none))
-
-pub returns-in_ok-memory-in-Sv48-clause-some : goal.returns-in_ok-memory-in-Sv48-clause-some
-returns-in_ok-memory-in-Sv48-clause-some g c = rw c.in-Sv48.is (rw (← c.in_ok-memory-in-Sv48.ensures.memory) c.root_step-in-Sv48.ensures.some)
-
-pub returns-in_ok-memory-in-Sv48-clause-none : goal.returns-in_ok-memory-in-Sv48-clause-none
-returns-in_ok-memory-in-Sv48-clause-none g c = none_if _ _ c.root_step-in-Sv48.result (rw c.in-Sv48.is (rw (← c.in_ok-memory-in-Sv48.ensures.memory) c.root_step-in-Sv48.ensures.none))
+pub returns-in_ok-memory-in-Sv48-clause-tells : goal.returns-in_ok-memory-in-Sv48-clause-tells
+returns-in_ok-memory-in-Sv48-clause-tells g c =
+    rw c.in-Sv48.is (rw (← c.in_ok-memory-in-Sv48.ensures.memory) (told c.root_step-in-Sv48.result c.in_ok-memory-in-Sv48.ensures.none.1 c.root_step-in-Sv48.ensures.some c.root_step-in-Sv48.ensures.none))

@@ -1,13 +1,10 @@
+use Rattle.inspection.proofs.Told.{told}
 use Rattle.inspection.proofs.views.slot_view.Goals as goal
 
-pub returns-in_ok-memory-in-Sv39-clause-holds : goal.returns-in_ok-memory-in-Sv39-clause-holds
-returns-in_ok-memory-in-Sv39-clause-holds g c = rw c.in-Sv39.is (rw (← c.in_ok-memory-in-Sv39.ensures.memory) c.slot_view.ensures.holds)
+pub returns-in_ok-memory-in-Sv39 : goal.returns-in_ok-memory-in-Sv39
+returns-in_ok-memory-in-Sv39 g c =
+    rw c.in-Sv39.is (rw (← c.in_ok-memory-in-Sv39.ensures.memory) (told c.slot_view.result c.in_ok-memory-in-Sv39.ensures.none.1 c.slot_view.ensures.some c.slot_view.ensures.none))
 
-pub returns-in_ok-memory-in-Sv39-clause-shares : goal.returns-in_ok-memory-in-Sv39-clause-shares
-returns-in_ok-memory-in-Sv39-clause-shares g c = rw c.in-Sv39.is (rw (← c.in_ok-memory-in-Sv39.ensures.memory) c.slot_view.ensures.shares)
-
-pub returns-in_ok-memory-in-Sv48-clause-holds : goal.returns-in_ok-memory-in-Sv48-clause-holds
-returns-in_ok-memory-in-Sv48-clause-holds g c = rw c.in-Sv48.is (rw (← c.in_ok-memory-in-Sv48.ensures.memory) c.slot_view-in-Sv48.ensures.holds)
-
-pub returns-in_ok-memory-in-Sv48-clause-shares : goal.returns-in_ok-memory-in-Sv48-clause-shares
-returns-in_ok-memory-in-Sv48-clause-shares g c = rw c.in-Sv48.is (rw (← c.in_ok-memory-in-Sv48.ensures.memory) c.slot_view-in-Sv48.ensures.shares)
+pub returns-in_ok-memory-in-Sv48 : goal.returns-in_ok-memory-in-Sv48
+returns-in_ok-memory-in-Sv48 g c =
+    rw c.in-Sv48.is (rw (← c.in_ok-memory-in-Sv48.ensures.memory) (told c.slot_view-in-Sv48.result c.in_ok-memory-in-Sv48.ensures.none.1 c.slot_view-in-Sv48.ensures.some c.slot_view-in-Sv48.ensures.none))

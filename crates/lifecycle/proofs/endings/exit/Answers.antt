@@ -24,11 +24,11 @@ module _ (mode : ℕ) where
 same_places : {M : Type 0} {m : Levels.Ghosts M} → {D E : Type 0} (a b : Core D E M m) → KeepsBesideMemory a b → (p : PageKey) → (picture_of b).place p ≡ (picture_of a).place p
 same_places a b rest p = ap (λ t. place_of t p) rest.cache
 
-pub forget_row-requires-clause-live : goal.forget_row-requires-clause-live
-forget_row-requires-clause-live g c = ap is_some (c.clear_row.ensures.row.root c.args.pid) ∙ c.requires.live
-
-pub forget_row-requires-clause-bare : goal.forget_row-requires-clause-bare
-forget_row-requires-clause-bare g c = c.clear_row.ensures.row.entries
+pub forget_row-requires : goal.forget_row-requires
+forget_row-requires g c = record {
+  row = record { fit = c.clear_row.ensures.fit; live = ap is_some (c.clear_row.ensures.row.root c.args.pid) ∙ c.requires.live; row = omega (arith, c.user_end-end.ensures.end) };
+  bare = c.clear_row.ensures.row.entries;
+}
 
 pub remove_process-requires-clause-live : goal.remove_process-requires-clause-live
 remove_process-requires-clause-live g c = ap is_some (c.forget_row.ensures.forgets.root c.args.pid ∙ c.clear_row.ensures.row.root c.args.pid) ∙ c.requires.live

@@ -167,8 +167,11 @@ exit-requires-clause-live g c =
     live_same mapped (picture_of c.link_copies.new.core) c.args.child (c.in-Err.ensures.moves.spaces.root c.args.child)
     ∙ live_same (picture_of c.spawn.new.core) mapped c.args.child (c.map_alike.ensures.mapped.root c.args.child) ∙ c.in_ok-spawn.ensures.ok.lives
 
-pub share_pages-requires-clause-awaits : goal.share_pages-requires-clause-awaits
-share_pages-requires-clause-awaits g c =
+pub link_copies-requires : goal.link_copies-requires
+link_copies-requires g c = record { forking = search rules; swap = search rules }
+
+pub share_pages-requires : goal.share_pages-requires
+share_pages-requires g c =
     let old : Picture g.M.Levels.mode = picture_of c.args.core.now in
     let spawned : Picture g.M.Levels.mode = picture_of c.spawn.new.core in
     let mapped : Picture g.M.Levels.mode = picture_of c.map_alike.new.core in
@@ -180,12 +183,15 @@ share_pages-requires-clause-awaits g c =
     let roots = done.moves.spaces.root in
     let at = done.moves.spaces.at in
     record {
-      forking = record {
-        fit = done.moves.fit;
-        parent_lives = live_same mapped mid c.args.parent (roots c.args.parent) ∙ live_same spawned mapped c.args.parent (maps.root c.args.parent) ∙ first.ok.others_live c.args.parent apart ∙ c.requires.live;
-        child_lives = live_same mapped mid c.args.child (roots c.args.child) ∙ live_same spawned mapped c.args.child (maps.root c.args.child) ∙ first.ok.lives;
-        same = λ page. at c.args.child page ∙ maps.same page ∙ sym (at c.args.parent page);
+      awaits = record {
+        forking = record {
+          fit = done.moves.fit;
+          parent_lives = live_same mapped mid c.args.parent (roots c.args.parent) ∙ live_same spawned mapped c.args.parent (maps.root c.args.parent) ∙ first.ok.others_live c.args.parent apart ∙ c.requires.live;
+          child_lives = live_same mapped mid c.args.child (roots c.args.child) ∙ live_same spawned mapped c.args.child (maps.root c.args.child) ∙ first.ok.lives;
+          same = λ page. at c.args.child page ∙ maps.same page ∙ sym (at c.args.parent page);
+        };
+        apart = apart;
+        bare = λ page h least below. done.bare c.args.child page h (maps.bare page h);
       };
-      apart = apart;
-      bare = λ page h least below. done.bare c.args.child page h (maps.bare page h);
+      linked = done.linked;
     }

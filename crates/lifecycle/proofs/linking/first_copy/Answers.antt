@@ -2,24 +2,35 @@ use Rattle.vm_types.proofs.Modes.{user_pages_fit}
 use Rattle.vm_types.specs.Limits.{top_level}
 use Rattle.std.proofs.Common.{◌≡◌, ℕ, inl, inr, ◌+◌, ◌/◌, refl, sym, ap, ◌∙◌, subst, arith}
 use Rattle.std.proofs.lemmas.Bool.{cases_eq, cases_lt}
+use Rattle.page_tables.specs.Entry.{number_of}
 use Rattle.page_tables.specs.Places.{IsTableOf}
 use Rattle.residency.specs.Seats.{seat}
 use Rattle.residency.specs.Picture.{Picture, picture_of, entry}
 use Rattle.residency.proofs.Entries.{entry-of}
 use Rattle.residency.proofs.Start.{seat-none}
-use Rattle.lifecycle.proofs.Passed.{same_table, none_passed}
+use Rattle.lifecycle.proofs.Passed.{same_table, none_passed, page_form}
 use Rattle.lifecycle.proofs.linking.first_copy.Goals as goal
 
 pub table_of-requires-clause-root : goal.table_of-requires-clause-root
 table_of-requires-clause-root g c = c.requires.fit.rooted.roots c.args.pid c.root_of-root.result.0 c.root_of-root.ensures
+
+-- the number at a place is the entry of the page there
+pub decode-requires : goal.decode-requires
+decode-requires g c =
+    let old : Picture g.M.Levels.mode = picture_of c.args.core.now in
+    let same = same_table c.args.start c.loop-page.page c.args.stop c.loop-page.invariant.from c.loop-page-test.true c.requires.one_table in
+    let T : ℕ → Type 0 = λ x. IsTableOf c.args.core.now.frames (top_level g.M.Levels.mode) c.root_of-root.result.0 x c.in-Ok.table.0 in
+    page_form old c.args.pid c.loop-page.page c.number_in.result.0 c.requires.fit.rooted c.requires.live
+    (c.number_in.ensures c.root_of-root.result.0 c.loop-page.page (subst T (sym same) c.in-Ok.ensures.found) refl
+    ∙ sym (entry-of old c.args.pid c.root_of-root.result.0 c.loop-page.page c.root_of-root.ensures))
 
 pub returns-then-is_own-clause-some : goal.returns-then-is_own-clause-some
 returns-then-is_own-clause-some g c =
     let old : Picture g.M.Levels.mode = picture_of c.args.core.now in
     let same = same_table c.args.start c.loop-page.page c.args.stop c.loop-page.invariant.from c.loop-page-test.true c.requires.one_table in
     let T : ℕ → Type 0 = λ x. IsTableOf c.args.core.now.frames (top_level g.M.Levels.mode) c.root_of-root.result.0 x c.in-Ok.table.0 in
-    let is : c.number_in.result.0 ≡ entry old c.args.pid c.loop-page.page =
-    c.number_in.ensures c.root_of-root.result.0 c.loop-page.page (subst T (sym same) c.in-Ok.ensures.found) refl
+    let is : number_of c.decode.result ≡ entry old c.args.pid c.loop-page.page =
+    c.decode.ensures.number ∙ c.number_in.ensures c.root_of-root.result.0 c.loop-page.page (subst T (sym same) c.in-Ok.ensures.found) refl
     ∙ sym (entry-of old c.args.pid c.root_of-root.result.0 c.loop-page.page c.root_of-root.ensures) in
     record {
       row = ap (λ x. x / 512) c.user_page.ensures ∙ same;
@@ -35,8 +46,8 @@ loop-page-preserved g c =
     let k = c.loop-page.invariant in
     let same = same_table c.args.start c.loop-page.page c.args.stop k.from c.loop-page-test.true c.requires.one_table in
     let T : ℕ → Type 0 = λ x. IsTableOf c.args.core.now.frames (top_level g.M.Levels.mode) c.root_of-root.result.0 x c.in-Ok.table.0 in
-    let is : c.number_in.result.0 ≡ entry old c.args.pid c.loop-page.page =
-    c.number_in.ensures c.root_of-root.result.0 c.loop-page.page (subst T (sym same) c.in-Ok.ensures.found) refl
+    let is : number_of c.decode.result ≡ entry old c.args.pid c.loop-page.page =
+    c.decode.ensures.number ∙ c.number_in.ensures c.root_of-root.result.0 c.loop-page.page (subst T (sym same) c.in-Ok.ensures.found) refl
     ∙ sym (entry-of old c.args.pid c.root_of-root.result.0 c.loop-page.page c.root_of-root.ensures) in
     let from = k.from in
     let step = c.next_entry-page.ensures in

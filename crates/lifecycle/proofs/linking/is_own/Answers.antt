@@ -1,17 +1,21 @@
 use Rattle.std.proofs.Common.{sym, ◌∙◌}
-use Rattle.std.proofs.lemmas.Bool.{false≢true}
-use Rattle.residency.proofs.SeatForms.{seat_common}
-use Rattle.lifecycle.proofs.Copies.{own_some, away_some}
+use Rattle.lifecycle.proofs.Copies.{leaf_common, leaf_own, nothing_common, parked_common, parked_own, seat_some, slot_seat}
 use Rattle.lifecycle.proofs.linking.is_own.Goals as goal
 
-pub returns-then-is_private-clause-own : goal.returns-then-is_private-clause-own
-returns-then-is_private-clause-own c is = own_some c.args.number.0 (sym c.is_private.ensures ∙ c.if-is_private.true)
+pub returns-in-None-clause-other : goal.returns-in-None-clause-other
+returns-in-None-clause-other c is = nothing_common c.args.found c.in-None.is
 
-pub returns-then-is_private-clause-other : goal.returns-then-is_private-clause-other
-returns-then-is_private-clause-other c is = absurd (false≢true (sym is ∙ c.if-is_private.true))
+pub returns-in-Leaf : goal.returns-in-Leaf
+returns-in-Leaf c = record {
+  own = λ is. leaf_own c.args.found c.in-Leaf.leaf c.in-Leaf.is (sym c.is_private.ensures ∙ is);
+  other = λ is. leaf_common c.args.found c.in-Leaf.leaf c.in-Leaf.is c.requires (sym c.is_private.ensures ∙ is);
+}
 
-pub returns-else-is_private-clause-own : goal.returns-else-is_private-clause-own
-returns-else-is_private-clause-own c is = away_some c.args.number.0 (sym c.is_private.ensures ∙ c.if-is_private.false) (sym c.is_swapped.ensures ∙ is)
+pub returns-in-Swapped-clause-own : goal.returns-in-Swapped-clause-own
+returns-in-Swapped-clause-own c is = seat_some _ _ (slot_seat c.args.found c.in-Swapped.field-0 c.in-Swapped.is c.requires)
 
-pub returns-else-is_private-clause-other : goal.returns-else-is_private-clause-other
-returns-else-is_private-clause-other c is = seat_common c.args.number.0 (sym c.is_private.ensures ∙ c.if-is_private.false) (sym c.is_swapped.ensures ∙ is)
+pub returns-in-Parked : goal.returns-in-Parked
+returns-in-Parked c = record {
+  own = parked_own c.args.found c.in-Parked.field-0 c.in-Parked.private c.in-Parked.is;
+  other = parked_common c.args.found c.in-Parked.field-0 c.in-Parked.private c.in-Parked.is;
+}

@@ -17,13 +17,13 @@ loop-run-init g c =
       linked = none_wanted old c.args.parent c.args.child 0 16 (λ page from below. low_zero old c.args.parent page c.requires.forking.fit.granting below);
     }
 
-pub link_run-requires-clause-forking : goal.link_run-requires-clause-forking
-link_run-requires-clause-forking g c =
+pub link_run-requires-clause-ready : goal.link_run-requires-clause-ready
+link_run-requires-clause-ready g c =
     let k = c.loop-run.invariant.links in
-    forking_still (picture_of c.args.core.now) (picture_of c.loop-run.core) c.args.parent c.args.child c.requires.forking k.moves.fit k.moves.spaces
-
-pub link_run-requires-clause-swap : goal.link_run-requires-clause-swap
-link_run-requires-clause-swap g c = c.loop-run.invariant.links.moves.swap
+    record {
+      forking = forking_still (picture_of c.args.core.now) (picture_of c.loop-run.core) c.args.parent c.args.child c.requires.forking k.moves.fit k.moves.spaces;
+      swap = k.moves.swap;
+    }
 
 pub link_run-requires-clause-mapped : goal.link_run-requires-clause-mapped
 link_run-requires-clause-mapped g c =

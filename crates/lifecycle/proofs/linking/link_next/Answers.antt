@@ -11,7 +11,7 @@ use Rattle.lifecycle.proofs.Linked.{none_wanted, row_whole}
 use Rattle.lifecycle.proofs.linking.link_next.Goals as goal
 
 pub returns-in-Some-clause-links : goal.returns-in-Some-clause-links
-returns-in-Some-clause-links g c = copies_none g.E.SectorDisk c.args.core.now c.args.parent c.args.child _ c.requires.forking.fit c.requires.swap
+returns-in-Some-clause-links g c = copies_none g.E.SectorDisk c.args.core.now c.args.parent c.args.child _ c.requires.ready.forking.fit c.requires.ready.swap
 
 pub returns-in-Some-clause-next : goal.returns-in-Some-clause-next
 returns-in-Some-clause-next g c = record {
@@ -31,15 +31,15 @@ link_tables-requires-clause-mapped g c =
     let old = picture_of c.args.core.now in
     let P : Option Attr → Type 0 = λ x. IsSome x in
     let copy = c.in-Some-first_copy.ensures.some.copy in
-    subst P (sym (c.requires.forking.same c.in-Some-first_copy.copied))
-    (copied_mapped old c.args.parent c.in-Some-first_copy.copied c.requires.forking.fit.granting copy.0 copy.1)
+    subst P (sym (c.requires.ready.forking.same c.in-Some-first_copy.copied))
+    (copied_mapped old c.args.parent c.in-Some-first_copy.copied c.requires.ready.forking.fit.granting copy.0 copy.1)
 
 pub returns-in_ok-link_tables-clause-links : goal.returns-in_ok-link_tables-clause-links
 returns-in_ok-link_tables-clause-links g c =
     let old = c.args.core.now in
     let new = c.link_tables.new.core in
     copies_done g.E.SectorDisk old new c.args.parent c.args.child _ _
-    (copies_way g.E.SectorDisk old new c.args.parent c.args.child c.in-Some-first_copy.copied _ c.requires.forking.fit c.in-Some-first_copy.ensures.some.copy c.in_ok-link_tables.ensures)
+    (copies_way g.E.SectorDisk old new c.args.parent c.args.child c.in-Some-first_copy.copied _ c.requires.ready.forking.fit c.in-Some-first_copy.ensures.some.copy c.in_ok-link_tables.ensures)
 
 pub returns-in_ok-link_tables-clause-linked : goal.returns-in_ok-link_tables-clause-linked
 returns-in_ok-link_tables-clause-linked g c page from below copy =
@@ -52,7 +52,7 @@ returns-in_err-link_tables-clause-links g c =
     let old = c.args.core.now in
     let new = c.link_tables.new.core in
     copies_stall g.E.SectorDisk old new c.args.parent c.args.child c.in_err-link_tables.field-0.0 c.from_residual.result c.from_residual.ensures.1
-    (copies_way g.E.SectorDisk old new c.args.parent c.args.child c.in-Some-first_copy.copied _ c.requires.forking.fit c.in-Some-first_copy.ensures.some.copy c.in_err-link_tables.ensures)
+    (copies_way g.E.SectorDisk old new c.args.parent c.args.child c.in-Some-first_copy.copied _ c.requires.ready.forking.fit c.in-Some-first_copy.ensures.some.copy c.in_err-link_tables.ensures)
 
 pub returns-in_default-first_copy-clause-links : goal.returns-in_default-first_copy-clause-links
-returns-in_default-first_copy-clause-links g c = copies_none g.E.SectorDisk c.args.core.now c.args.parent c.args.child _ c.requires.forking.fit c.requires.swap
+returns-in_default-first_copy-clause-links g c = copies_none g.E.SectorDisk c.args.core.now c.args.parent c.args.child _ c.requires.ready.forking.fit c.requires.ready.swap

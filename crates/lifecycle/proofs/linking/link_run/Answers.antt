@@ -8,17 +8,17 @@ use Rattle.lifecycle.proofs.linking.link_run.Goals as goal
 pub loop-page-init : goal.loop-page-init
 loop-page-init g c = record {
   from = omega (arith, c.get-page.ensures.number);
-  links = copies_none g.E.SectorDisk c.args.core.now c.args.parent c.args.child tt c.requires.forking.fit c.requires.swap;
+  links = copies_none g.E.SectorDisk c.args.core.now c.args.parent c.args.child tt c.requires.ready.forking.fit c.requires.ready.swap;
   linked = no_row (picture_of c.args.core.now) c.args.parent c.args.child c.args.start c.get-page.result (omega (arith, c.get-page.ensures.number));
 }
 
-pub link_next-requires-clause-forking : goal.link_next-requires-clause-forking
-link_next-requires-clause-forking g c =
+pub link_next-requires-clause-ready : goal.link_next-requires-clause-ready
+link_next-requires-clause-ready g c =
     let k = c.loop-page.invariant.links in
-    forking_still (picture_of c.args.core.now) (picture_of c.loop-page.core) c.args.parent c.args.child c.requires.forking k.moves.fit k.moves.spaces
-
-pub link_next-requires-clause-swap : goal.link_next-requires-clause-swap
-link_next-requires-clause-swap g c = c.loop-page.invariant.links.moves.swap
+    record {
+      forking = forking_still (picture_of c.args.core.now) (picture_of c.loop-page.core) c.args.parent c.args.child c.requires.ready.forking k.moves.fit k.moves.spaces;
+      swap = k.moves.swap;
+    }
 
 pub loop-page-preserved : goal.loop-page-preserved
 loop-page-preserved g c =

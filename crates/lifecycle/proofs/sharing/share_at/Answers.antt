@@ -1,4 +1,5 @@
-use Rattle.std.proofs.Common.{◌≡◌, ℕ, ◌+◌, ◌<◌, ◌≤◌, sym, ap, ◌∙◌, subst, arith}
+use Rattle.std.proofs.Common.{◌≡◌, ℕ, ◌+◌, ◌<◌, ◌≤◌, sym, ap, ◌∙◌, subst, arith, rules}
+use Rattle.page_tables.specs.Entry.{number_of}
 use Rattle.residency.specs.Seats.{seat}
 use Rattle.residency.specs.Picture.{Picture, picture_of, entry}
 use Rattle.residency.proofs.Start.{seat-none}
@@ -6,7 +7,7 @@ use Rattle.ranges.proofs.BetweenEntries.{none_at}
 use Rattle.ranges.proofs.ClearedPlaces.{past}
 use Rattle.lifecycle.specs.ChildShares.{GivesShares}
 use Rattle.lifecycle.proofs.Live.{live_root}
-use Rattle.lifecycle.proofs.Passed.{number_in_row}
+use Rattle.lifecycle.proofs.Passed.{number_in_row, page_form}
 use Rattle.lifecycle.proofs.ShareSteps.{awaits_within, gives_none}
 use Rattle.lifecycle.proofs.sharing.share_at.Goals as goal
 
@@ -14,13 +15,23 @@ use Rattle.lifecycle.proofs.sharing.share_at.Goals as goal
 in_table : (index end : ℕ) → index < end → end ≤ 512 → index < 512
 in_table index end below most = omega arith
 
-pub share_page-requires-clause-number : goal.share_page-requires-clause-number
-share_page-requires-clause-number g c =
+pub decode-before-requires : goal.decode-before-requires
+decode-before-requires g c =
     let old : Picture g.M.Levels.mode = picture_of c.args.core.now in
     let t = c.args.tables.now in
     let q = c.requires in
-    number_in_row old t.parent t.from.0 t.first c.args.index c.number_in-number.result.0 q.awaits.parent_lives q.from.begins
-    (in_table c.args.index c.args.end q.below q.in_table) q.from.place c.number_in-number.ensures
+    page_form old t.parent (t.first + c.args.index) c.number_in.result.0 q.awaits.fit.rooted q.awaits.parent_lives
+    (number_in_row old t.parent t.from.0 t.first c.args.index c.number_in.result.0 q.awaits.parent_lives q.from.begins
+    (in_table c.args.index c.args.end q.below q.in_table) q.from.place c.number_in.ensures)
+
+pub share_page-requires-clause-before : goal.share_page-requires-clause-before
+share_page-requires-clause-before g c =
+    let old : Picture g.M.Levels.mode = picture_of c.args.core.now in
+    let t = c.args.tables.now in
+    let q = c.requires in
+    c.decode-before.ensures.number
+    ∙ number_in_row old t.parent t.from.0 t.first c.args.index c.number_in.result.0 q.awaits.parent_lives q.from.begins
+    (in_table c.args.index c.args.end q.below q.in_table) q.from.place c.number_in.ensures
 
 pub share_page-requires-clause-awaits : goal.share_page-requires-clause-awaits
 share_page-requires-clause-awaits g c =
@@ -39,7 +50,7 @@ share_page-requires-clause-to g c =
     record { place = to.place; begins = to.begins; user = (let user = to.user in omega (arith, user, c.requires.below)) }
 
 pub share_page-requires-clause-own : goal.share_page-requires-clause-own
-share_page-requires-clause-own g c = c.is_own.ensures.own c.if-is_own.true
+share_page-requires-clause-own g c = record { form = search rules; own = c.is_own.ensures.own c.if-is_own.true }
 
 pub returns-then-is_own-clause-gives : goal.returns-then-is_own-clause-gives
 returns-then-is_own-clause-gives g c =
@@ -49,21 +60,8 @@ returns-then-is_own-clause-gives g c =
     let P : ℕ → Type 0 = λ x. GivesShares c.args.core.now c.share_page.new.core t.parent t.child page x in
     subst P next c.share_page.ensures
 
-pub returns-then-to_u64-eq0-clause-next : goal.returns-then-to_u64-eq0-clause-next
-returns-then-to_u64-eq0-clause-next g c =
-    let old : Picture g.M.Levels.mode = picture_of c.args.core.now in
-    let t = c.args.tables.now in
-    let q = c.requires in
-    let r = live_root (old.root t.parent) q.awaits.parent_lives in
-    let next = c.next_place.ensures in
-    record {
-      further = past old t.parent r.0 t.from.0 t.first c.args.index c.args.end c.number_in-number.result.0 q.awaits.fit r.1 (q.from.place r.0 r.1) q.from.begins q.below q.in_table q.from.user
-          c.number_in-number.ensures c.next_place.result (sym c.to_u64.ensures ∙ c.if-to_u64-eq0.true) next.from next.within next.passed next.found;
-      within = next.within;
-    }
-
-pub returns-then-to_u64-eq0-clause-gives : goal.returns-then-to_u64-eq0-clause-gives
-returns-then-to_u64-eq0-clause-gives g c =
+pub returns-in-None : goal.returns-in-None
+returns-in-None g c =
     let old : Picture g.M.Levels.mode = picture_of c.args.core.now in
     let t = c.args.tables.now in
     let q = c.requires in
@@ -71,10 +69,17 @@ returns-then-to_u64-eq0-clause-gives g c =
     let next = c.next_place.ensures in
     let within = next.within in
     let page = t.first + c.args.index in
-    gives_none c.args.core.now t.parent t.child page (t.first + c.next_place.result)
-    (awaits_within old t.parent t.child page (t.first + c.args.end) page (t.first + c.next_place.result) q.awaits (omega arith) (omega (arith, within)))
-    (λ p h least under. ap seat (none_at old t.parent r.0 t.from.0 t.first c.args.index c.next_place.result r.1 (q.from.place r.0 r.1) q.from.begins
-    (omega (arith, within, q.in_table)) next.passed p least under) ∙ seat-none)
+    record {
+      next = record {
+        further = past old t.parent r.0 t.from.0 t.first c.args.index c.args.end c.number_in.result.0 q.awaits.fit r.1 (q.from.place r.0 r.1) q.from.begins q.below q.in_table q.from.user
+            c.number_in.ensures c.next_place.result (sym c.decode-before.ensures.number ∙ ap number_of c.in-None.is) next.from within next.passed next.found;
+        within = within;
+      };
+      gives = gives_none c.args.core.now t.parent t.child page (t.first + c.next_place.result)
+          (awaits_within old t.parent t.child page (t.first + c.args.end) page (t.first + c.next_place.result) q.awaits (omega arith) (omega (arith, within)))
+          (λ p h least under. ap seat (none_at old t.parent r.0 t.from.0 t.first c.args.index c.next_place.result r.1 (q.from.place r.0 r.1) q.from.begins
+          (omega (arith, within, q.in_table)) next.passed p least under) ∙ seat-none);
+    }
 
 -- a page alone
 this : (first index p : ℕ) → first + index ≤ p → p < first + (index + 1) → p ≡ first + index
@@ -85,9 +90,9 @@ returns-clause-gives g c =
     let old : Picture g.M.Levels.mode = picture_of c.args.core.now in
     let t = c.args.tables.now in
     let q = c.requires in
-    let is = number_in_row old t.parent t.from.0 t.first c.args.index c.number_in-number.result.0 q.awaits.parent_lives q.from.begins
-    (in_table c.args.index c.args.end q.below q.in_table) q.from.place c.number_in-number.ensures in
+    let is = number_in_row old t.parent t.from.0 t.first c.args.index c.number_in.result.0 q.awaits.parent_lives q.from.begins
+    (in_table c.args.index c.args.end q.below q.in_table) q.from.place c.number_in.ensures in
     let page = t.first + c.args.index in
     gives_none c.args.core.now t.parent t.child page (t.first + (c.args.index + 1))
     (awaits_within old t.parent t.child page (t.first + c.args.end) page (t.first + (c.args.index + 1)) q.awaits (omega arith) (omega (arith, q.below)))
-    (λ p h least under. ap (λ x. seat (entry old t.parent x)) (this t.first c.args.index p least under) ∙ ap seat (sym is) ∙ c.is_own.ensures.other c.if-is_own.false)
+    (λ p h least under. ap (λ x. seat (entry old t.parent x)) (this t.first c.args.index p least under) ∙ ap seat (sym (c.decode-before.ensures.number ∙ is)) ∙ c.is_own.ensures.other c.if-is_own.false)

@@ -19,9 +19,11 @@ returns-in-Some-clause-next g c = record {
 pub returns-in-Some-clause-gives : goal.returns-in-Some-clause-gives
 returns-in-Some-clause-gives g c =
     gives_none c.args.core.now c.args.parent c.args.child c.args.page c.min.result
-    (awaits_within (picture_of c.args.core.now) c.args.parent c.args.child c.args.page c.args.end c.args.page c.min.result c.requires.awaits (omega arith) (omega (arith, c.min.ensures)))
+    (awaits_within (picture_of c.args.core.now) c.args.parent c.args.child c.args.page c.args.end c.args.page c.min.result c.requires.ready.awaits (omega arith) (omega (arith, c.min.ensures)))
     (λ p h least under. ap seat (c.in-Some.ensures.gap p least (omega (arith, c.min.ensures, under))) ∙ seat-none)
 
-pub share_table-requires-clause-awaits : goal.share_table-requires-clause-awaits
-share_table-requires-clause-awaits g c =
-    awaits_within (picture_of c.args.core.now) c.args.parent c.args.child c.args.page c.args.end c.args.page c.min-stop.result c.requires.awaits (omega arith) (omega (arith, c.min-stop.ensures))
+pub share_table-requires-clause-ready : goal.share_table-requires-clause-ready
+share_table-requires-clause-ready g c = record {
+  awaits = awaits_within (picture_of c.args.core.now) c.args.parent c.args.child c.args.page c.args.end c.args.page c.min-stop.result c.requires.ready.awaits (omega arith) (omega (arith, c.min-stop.ensures));
+  linked = c.requires.ready.linked;
+}

@@ -1,32 +1,8 @@
-use Rattle.std.proofs.Common.{ℕ, ◌+◌, sym, ap, ◌∙◌, subst, rules}
-use Rattle.vm_types.specs.Limits.{top_level}
-use Rattle.page_tables.specs.Entry.{number_of, IsPageEntry}
-use Rattle.page_tables.proofs.Ends.{page_is_entry}
-use Rattle.residency.specs.Seats.{seat}
-use Rattle.residency.specs.Picture.{Picture, picture_of}
-use Rattle.residency.proofs.Entries.{entry-of}
+use Rattle.std.proofs.Common.{rules}
+use Rattle.page_tables.specs.Entry.{number_of}
 use Rattle.lifecycle.proofs.Copies.{seat_names}
-use Rattle.lifecycle.proofs.Live.{live_root}
 use Rattle.lifecycle.proofs.SharedPage.{may_give, forest_raised, table_raised, place_raised, fit_page, shares_page, places_page}
 use Rattle.lifecycle.proofs.sharing.share_page.Goals as goal
-
-pub decode-before-requires : goal.decode-before-requires
-decode-before-requires g c =
-    let old : Picture g.M.Levels.mode = picture_of c.args.core.now in
-    let awaits = c.requires.awaits in
-    let r = live_root (old.root c.args.tables.now.parent) awaits.parent_lives in
-    let P : ℕ → Type 0 = λ x. IsPageEntry x in
-    subst P (sym (c.requires.number ∙ entry-of old c.args.tables.now.parent r.0 (c.args.tables.now.first + c.args.index) r.1))
-    (page_is_entry old.frames (top_level g.M.Levels.mode) r.0 (c.args.tables.now.first + c.args.index) awaits.fit.rooted.forest (awaits.fit.rooted.roots c.args.tables.now.parent r.0 r.1))
-
-pub withdraw_write-shared-requires-clause-before : goal.withdraw_write-shared-requires-clause-before
-withdraw_write-shared-requires-clause-before g c = c.decode-before.ensures.number ∙ c.requires.number
-
-pub withdraw_write-shared-requires-clause-own : goal.withdraw_write-shared-requires-clause-own
-withdraw_write-shared-requires-clause-own g c = record {
-  form = search rules;
-  own = λ none. c.requires.own (ap seat (sym c.decode-before.ensures.number) ∙ none);
-}
 
 pub add_share-requires-clause-may : goal.add_share-requires-clause-may
 add_share-requires-clause-may g c =

@@ -6,7 +6,7 @@ use Rattle.residency.specs.Picture.{picture_of}
 use Rattle.lifecycle.specs.ChildShares.{GivesShares}
 use Rattle.lifecycle.specs.Steps.{IsMappedRow}
 use Rattle.lifecycle.proofs.Runs.{unmapped_before, mapped_inside}
-use Rattle.lifecycle.proofs.ShareSteps.{awaits_rest, gives_no_row, gives_then, gives_unmapped, linked_still}
+use Rattle.lifecycle.proofs.ShareSteps.{awaits_rest, gives_no_row, gives_then, gives_unmapped, ready_rest}
 use Rattle.lifecycle.proofs.sharing.share_pages.Goals as goal
 
 pub loop-run-init : goal.loop-run-init
@@ -19,18 +19,14 @@ loop-run-init g c =
       gives = gives_no_row c.args.core.now c.args.parent c.args.child 16 end 16 c.requires.awaits refl some;
     }
 
-pub share_run-requires-clause-awaits : goal.share_run-requires-clause-awaits
-share_run-requires-clause-awaits g c =
+pub share_run-requires-clause-ready : goal.share_run-requires-clause-ready
+share_run-requires-clause-ready g c =
     let k = c.loop-run.invariant in
     let next = c.in-Some.ensures.some in
     let from = k.from in
     let least = next.from in
-    awaits_rest c.args.core.now c.loop-run.core c.args.parent c.args.child 16 c.loop-run.page (user_end g.M.Levels.mode) c.user_page.result c.in-Some.run'.end c.requires.awaits k.gives
+    ready_rest c.args.core.now c.loop-run.core c.args.parent c.args.child 16 c.loop-run.page (user_end g.M.Levels.mode) c.user_page.result c.in-Some.run'.end c.requires k.gives
     (omega (arith, c.user_page.ensures, least, from)) (omega (arith, c.user_page.ensures, least)) next.high
-
-pub share_run-requires-clause-linked : goal.share_run-requires-clause-linked
-share_run-requires-clause-linked g c =
-    linked_still c.args.core.now c.loop-run.core c.args.parent c.args.child 16 c.loop-run.page c.requires.awaits.apart c.loop-run.invariant.gives c.requires.linked
 
 pub share_run-requires-clause-mapped : goal.share_run-requires-clause-mapped
 share_run-requires-clause-mapped g c =

@@ -1,25 +1,21 @@
 use Rattle.std.proofs.Common.{◌≡◌, ℕ, ◌≤◌, subst, arith}
 use Rattle.lifecycle.specs.ChildShares.{GivesShares}
-use Rattle.lifecycle.proofs.ShareSteps.{awaits_rest, gives_no_row, gives_then, linked_still}
+use Rattle.lifecycle.proofs.ShareSteps.{gives_no_row, gives_then, ready_rest}
 use Rattle.lifecycle.proofs.sharing.share_run.Goals as goal
 
 pub loop-page-init : goal.loop-page-init
 loop-page-init g c = record {
   from = omega (arith, c.get-page.ensures.number);
-  within = omega (arith, c.get-page.ensures.number, c.requires.some);
-  gives = gives_no_row c.args.core.now c.args.parent c.args.child c.args.start c.args.end c.get-page.result c.requires.awaits (omega (arith, c.get-page.ensures.number)) (omega (arith, c.requires.some));
+  within = omega (arith, c.get-page.ensures.number, c.requires.row.some);
+  gives = gives_no_row c.args.core.now c.args.parent c.args.child c.args.start c.args.end c.get-page.result c.requires.ready.awaits (omega (arith, c.get-page.ensures.number)) (omega (arith, c.requires.row.some));
 }
 
-pub share_next-page-requires-clause-awaits : goal.share_next-page-requires-clause-awaits
-share_next-page-requires-clause-awaits g c =
+pub share_next-page-requires-clause-ready : goal.share_next-page-requires-clause-ready
+share_next-page-requires-clause-ready g c =
     let k = c.loop-page.invariant in
     let from = k.from in
-    awaits_rest c.args.core.now c.loop-page.core c.args.parent c.args.child c.args.start c.loop-page.page c.args.end c.user_page.result c.args.end c.requires.awaits k.gives
+    ready_rest c.args.core.now c.loop-page.core c.args.parent c.args.child c.args.start c.loop-page.page c.args.end c.user_page.result c.args.end c.requires.ready k.gives
     (omega (arith, c.user_page.ensures, from)) (omega (arith, c.user_page.ensures)) (omega arith)
-
-pub share_next-page-requires-clause-linked : goal.share_next-page-requires-clause-linked
-share_next-page-requires-clause-linked g c =
-    linked_still c.args.core.now c.loop-page.core c.args.parent c.args.child c.args.start c.loop-page.page c.requires.awaits.apart c.loop-page.invariant.gives c.requires.linked
 
 pub loop-page-preserved : goal.loop-page-preserved
 loop-page-preserved g c =
@@ -35,7 +31,7 @@ loop-page-preserved g c =
     record {
       from = omega (arith, le, from);
       within = step.next.within;
-      gives = gives_then c.args.core.now mid new c.args.parent c.args.child c.args.start c.loop-page.page next c.requires.awaits.fit c.requires.awaits.apart from le k.gives (subst P c.user_page.ensures step.gives);
+      gives = gives_then c.args.core.now mid new c.args.parent c.args.child c.args.start c.loop-page.page next c.requires.ready.awaits.fit c.requires.ready.awaits.apart from le k.gives (subst P c.user_page.ensures step.gives);
     }
 
 pub returns : goal.returns

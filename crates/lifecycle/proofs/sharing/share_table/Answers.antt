@@ -9,8 +9,8 @@ use Rattle.lifecycle.proofs.sharing.share_table.Goals as goal
 
 pub returns-in_default-table_for : goal.returns-in_default-table_for
 returns-in_default-table_for g c =
-    gives_none c.args.core.now c.args.parent c.args.child c.args.start c.args.stop c.requires.awaits
-    (λ p h least under. none_of_row (picture_of c.args.core.now) c.args.parent c.args.child c.args.start p c.requires.linked c.in_default-table_for.ensures.missing
+    gives_none c.args.core.now c.args.parent c.args.child c.args.start c.args.stop c.requires.ready.awaits
+    (λ p h least under. none_of_row (picture_of c.args.core.now) c.args.parent c.args.child c.args.start p c.requires.ready.linked c.in_default-table_for.ensures.missing
     (same_table c.args.start p c.args.stop least under c.requires.one_table) h)
 
 -- where the row of a page begins
@@ -28,7 +28,7 @@ loop-index-init g c =
     record {
       least = omega (arith, index);
       within = omega (arith, get, c.requires.some);
-      gives = gives_no_row c.args.core.now c.args.parent c.args.child c.args.start c.args.stop (c.table_start-first.result + (c.get.result - c.table_start-first.result)) c.requires.awaits index
+      gives = gives_no_row c.args.core.now c.args.parent c.args.child c.args.start c.args.stop (c.table_start-first.result + (c.get.result - c.table_start-first.result)) c.requires.ready.awaits index
           (omega (arith, c.requires.some));
     }
 
@@ -36,7 +36,7 @@ pub share_at-index-requires-clause-awaits : goal.share_at-index-requires-clause-
 share_at-index-requires-clause-awaits g c =
     let k = c.loop-index.invariant in
     let first = c.table_start-first.result in
-    awaits_rest c.args.core.now c.loop-index.core c.args.parent c.args.child c.args.start (first + c.loop-index.index) c.args.stop (first + c.loop-index.index) (first + (c.args.stop - first)) c.requires.awaits k.gives
+    awaits_rest c.args.core.now c.loop-index.core c.args.parent c.args.child c.args.start (first + c.loop-index.index) c.args.stop (first + c.loop-index.index) (first + (c.args.stop - first)) c.requires.ready.awaits k.gives
     k.least (omega arith) (omega (arith, c.table_start-first.ensures, c.requires.some))
 
 pub share_at-index-requires-clause-from : goal.share_at-index-requires-clause-from
@@ -70,7 +70,7 @@ loop-index-preserved g c =
       least = omega (arith, least, further);
       within = step.next.within;
       gives = gives_then c.args.core.now c.loop-index.core c.share_at-index.new.core c.args.parent c.args.child c.args.start (first + c.loop-index.index) (first + c.share_at-index.result)
-          c.requires.awaits.fit c.requires.awaits.apart least (omega (arith, further)) k.gives step.gives;
+          c.requires.ready.awaits.fit c.requires.ready.awaits.apart least (omega (arith, further)) k.gives step.gives;
     }
 
 pub returns : goal.returns

@@ -13,7 +13,7 @@ returns-in-Err-clause-fails g c =
 
 pub returns-clause-lived : goal.returns-clause-lived
 returns-clause-lived g c = λ keeps swap_keeps.
-    let kept = c.run.ensures.keeps.kept keeps in
+    let kept = c.run.ensures.does.keeps.kept keeps in
     let boots = c.in-Ok.ensures.boots in
     ran g.D.SectorDisk g.E.SectorDisk (λ d t image keep le may. g.met.D.SectorDisk.counts_now d t image keep le may) c.args.store c.in-Ok.machine c.run.new.self c.args.commands.now c.run.new.replies kept keeps
     c.in-Ok.ensures.accepts.size (c.in-Ok.ensures.moments.any_moment kept) boots (c.run.ensures.run boots.state boots.shows keeps swap_keeps)

@@ -24,14 +24,17 @@ returns-then-not-covers-clause-same g c = λ s shows.
     ap (is_covered map (a.addr / 4096)) (sym count) ∙ sym c.covers.ensures ∙ c.if-not-covers.true in
     ruled_missing (of_files (picture_of core).touched) map s a.pid p a.addr a.len a.mode (omega arith) c.if-len-eq0.false hole
 
-pub choose-requires-clause-user : goal.choose-requires-clause-user
-choose-requires-clause-user g c =
+pub choose-requires-clause-pages : goal.choose-requires-clause-pages
+choose-requires-clause-pages g c =
     let core = c.args.core.now in
     let a = c.args.call in
     let map = attr_at c.regions-regions.result.now in
     let found = c.in-Some.ensures.found in
     let at : (page : ℕ) → (picture_of core).at a.pid page ≡ map page = λ page. ap (λ pid. (picture_of core).at pid page) (sym found.0) ∙ sym (c.regions-regions.ensures page) in
-    user_map-same g.M.Levels.mode ((picture_of core).at a.pid) map (λ page. sym (at page)) (c.requires.fit.granting.user a.pid)
+    record {
+      user = user_map-same g.M.Levels.mode ((picture_of core).at a.pid) map (λ page. sym (at page)) (c.requires.fit.granting.user a.pid);
+      inside = (touched_within (picture_of core) core.store.directory c.requires.fit (λ f. refl)).page;
+    }
 
 pub returns-in-Async-clause-same : goal.returns-in-Async-clause-same
 returns-in-Async-clause-same g c = λ s shows.
@@ -78,6 +81,3 @@ returns-in-Sync-clause-taken g c =
     let count : c.div_ceil-count.result ≡ page_count a.len = omega (arith, c.div_ceil-count.ensures) in
     taken_of (picture_of core) map a.pid a.addr a.len c.choose.new.list c.choose.result at
     (subst (λ (n : ℕ). IsRulingOn (is_chosen (of_files (picture_of core).touched) map (a.addr / 4096) n) c.choose.new.list c.choose.result) count c.choose.ensures)
-
-pub choose-requires-clause-inside : goal.choose-requires-clause-inside
-choose-requires-clause-inside g c = (touched_within (picture_of c.args.core.now) c.args.core.now.store.directory c.requires.fit (λ f. refl)).page

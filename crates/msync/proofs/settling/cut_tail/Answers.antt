@@ -27,12 +27,12 @@ sound_written t n w held sound =
     IsSound-step n t (with_bytes t n w) sound (with_bytes-others t n w) (IsHeld-above t n sound held) refl refl (sound.counted n held.inside) (IsHeld-not_zero t n held)
 
 pub bytes_mut-requires : goal.bytes_mut-requires
-bytes_mut-requires g c = held_cached c.args.core.now.frames c.args.frame.0 c.requires.inside (c.requires.fit.places.cached (File c.args.page) c.args.frame.0 c.requires.placed)
+bytes_mut-requires g c = held_cached c.args.core.now.frames c.args.frame.0 c.requires.there (c.requires.fit.places.cached (File c.args.page) c.args.frame.0 c.requires.placed)
 
 pub invariant_of-core-clause-sound : goal.invariant_of-core-clause-sound
 invariant_of-core-clause-sound g c =
     sound_written c.args.core.now.frames c.args.frame.0 c.cut_from.new.page
-    (held_cached c.args.core.now.frames c.args.frame.0 c.requires.inside (c.requires.fit.places.cached (File c.args.page) c.args.frame.0 c.requires.placed)) c.args.core.now.sound
+    (held_cached c.args.core.now.frames c.args.frame.0 c.requires.there (c.requires.fit.places.cached (File c.args.page) c.args.frame.0 c.requires.placed)) c.args.core.now.sound
 
 pub invariant_of-core-clause-page_count : goal.invariant_of-core-clause-page_count
 invariant_of-core-clause-page_count g c =

@@ -12,10 +12,13 @@ loop-i-init g c = record {
   settles = settles_none (picture_of c.args.core.now) c.args.spots.now;
 }
 
-pub settle_one-requires-clause-spot : goal.settle_one-requires-clause-spot
-settle_one-requires-clause-spot g c =
+pub settle_one-requires : goal.settle_one-requires
+settle_one-requires g c =
     let kept = c.loop-i.invariant in
-    spot_left (picture_of c.args.core.now) (picture_of c.loop-i.core) c.args.spots.now c.loop-i.i c.requires.spots c.loop-i-test.true kept.settles kept.fit
+    record {
+      fit = kept.fit;
+      lies = spot_left (picture_of c.args.core.now) (picture_of c.loop-i.core) c.args.spots.now c.loop-i.i c.requires.spots c.loop-i-test.true kept.settles kept.fit;
+    }
 
 pub loop-i-preserved : goal.loop-i-preserved
 loop-i-preserved g c =

@@ -1,4 +1,4 @@
-use Rattle.std.proofs.Common.{refl, sym, ◌∙◌, arith}
+use Rattle.std.proofs.Common.{rules, inr, refl, sym, ◌∙◌, arith}
 use Rattle.std.proofs.lemmas.Bool.{false≢true}
 use Rattle.vm_types.specs.declared.object.PageKey.TheVariants.{File}
 use Rattle.swap.specs.Slots.{slots_of}
@@ -14,8 +14,8 @@ set_place-requires-clause-kept g c = λ touched. absurd (false≢true (sym c.cle
 pub release-requires : goal.release-requires
 release-requires g c = (let one = c.requires.fit.places.slotted (File c.args.page) c.args.slot.0 c.requires.placed in omega (arith, one))
 
-pub returns-clause-fit : goal.returns-clause-fit
-returns-clause-fit g c =
+pub returns : goal.returns
+returns g c =
     let old : Picture g.M.Levels.mode = picture_of c.args.core.now in
     let new : Picture g.M.Levels.mode = record old { slots = slots_of c.release.new.self; place = place_of c.set_place.new.self; touched = is_touched c.set_place.new.self } in
     let homes : Homes old new (File c.args.page) c.args.slot.0 = record {
@@ -31,23 +31,9 @@ returns-clause-fit g c =
       now = c.set_place.ensures.touched ∙ c.clean.ensures.untouched;
       rest = λ p ne. c.set_place.ensures.others.touched p ne ∙ c.clean.ensures.others.touched p ne;
     } in
-    fit_homed old new (File c.args.page) c.args.slot.0 c.requires.fit homes
-
-pub returns-clause-settles : goal.returns-clause-settles
-returns-clause-settles g c =
-    let old : Picture g.M.Levels.mode = picture_of c.args.core.now in
-    let new : Picture g.M.Levels.mode = record old { slots = slots_of c.release.new.self; place = place_of c.set_place.new.self; touched = is_touched c.set_place.new.self } in
-    let homes : Homes old new (File c.args.page) c.args.slot.0 = record {
-      was = c.requires.placed;
-      frames = refl;
-      slots = c.release.ensures.releases;
-      root = λ p. refl;
-      at = λ p k. refl;
-      page_of = λ m. refl;
-      files = λ f. refl;
-      placed = c.set_place.ensures.placed;
-      others = λ p ne. c.set_place.ensures.others.places p ne ∙ c.clean.ensures.others.places p ne;
-      now = c.set_place.ensures.touched ∙ c.clean.ensures.untouched;
-      rest = λ p ne. c.set_place.ensures.others.touched p ne ∙ c.clean.ensures.others.touched p ne;
-    } in
-    settles_homed old new c.args.page c.args.slot.0 c.requires.fit homes
+    record {
+      fit = fit_homed old new (File c.args.page) c.args.slot.0 c.requires.fit homes;
+      beside = search rules;
+      swap = inr tt;
+      settles = settles_homed old new c.args.page c.args.slot.0 c.requires.fit homes;
+    }

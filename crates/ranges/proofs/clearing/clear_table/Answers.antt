@@ -9,10 +9,10 @@ use Rattle.ranges.proofs.Pruned.{fit_pruned, clears_pruned, cleared_block, clear
 use Rattle.ranges.proofs.clearing.clear_table.Goals as goal
 
 pub root_of-root-requires : goal.root_of-root-requires
-root_of-root-requires g c = record { live = lives ((picture_of c.args.core.now).root c.args.pid) c.requires.live }
+root_of-root-requires g c = record { live = lives ((picture_of c.args.core.now).root c.args.pid) c.requires.part.live }
 
 pub table_of-requires-clause-root : goal.table_of-requires-clause-root
-table_of-requires-clause-root g c = c.requires.fit.rooted.roots c.args.pid c.root_of-root.result.0 c.root_of-root.ensures
+table_of-requires-clause-root g c = c.requires.part.fit.rooted.roots c.args.pid c.root_of-root.result.0 c.root_of-root.ensures
 
 -- where the row of a page begins
 begins : (start : ℕ) → start / 512 * 512 % 512 ≡ 0
@@ -31,8 +31,8 @@ loop-index-init g c =
     let Q : ℕ → Type 0 = λ x. Clears old old c.args.pid c.args.start x in
     record {
       low = omega (arith, index);
-      high = omega (arith, get, c.requires.some);
-      fit = c.requires.fit;
+      high = omega (arith, get, c.requires.part.some);
+      fit = c.requires.part.fit;
       place = subst P (same_row c.args.start ∙ ap (λ x. x / 512) (sym first)) c.in-Ok.ensures.found;
       root_is = c.root_of-root.ensures;
       clears = subst Q (sym index) (clears_none old c.args.pid c.args.start c.args.start (λ page h least below. absurd (omega (arith, least, below))));
@@ -42,13 +42,16 @@ loop-index-init g c =
     }
 
 pub clear_at-index-requires-clause-row : goal.clear_at-index-requires-clause-row
-clear_at-index-requires-clause-row g c = record { root = c.loop-index.invariant.root_is; place = c.loop-index.invariant.place }
-
-pub clear_at-index-requires-clause-begins : goal.clear_at-index-requires-clause-begins
-clear_at-index-requires-clause-begins g c = ap (λ x. x % 512) c.table_start-first.ensures ∙ begins c.args.start
-
-pub clear_at-index-requires-clause-high : goal.clear_at-index-requires-clause-high
-clear_at-index-requires-clause-high g c = omega (arith, c.table_start-first.ensures, c.requires.some, c.requires.high)
+clear_at-index-requires-clause-row g c =
+    let k = c.loop-index.invariant in
+    let first = c.table_start-first.ensures in
+    record {
+      fit = k.fit;
+      stands = record { root = k.root_is; place = k.place };
+      begins = ap (λ x. x % 512) first ∙ begins c.args.start;
+      in_table = omega (arith, first, c.requires.one_table);
+      high = omega (arith, first, c.requires.part.some, c.requires.part.high);
+    }
 
 pub loop-index-preserved : goal.loop-index-preserved
 loop-index-preserved g c =
@@ -65,7 +68,7 @@ loop-index-preserved g c =
       fit = step.fit;
       place = step.places (c.table_start-first.result / 512) c.in-Ok.table.0 k.place;
       root_is = step.clears.beside.root c.args.pid ∙ k.root_is;
-      clears = clears_then old mid new c.args.pid c.args.start (c.table_start-first.result + c.loop-index.index) (c.table_start-first.result + c.clear_at-index.result) c.requires.fit low
+      clears = clears_then old mid new c.args.pid c.args.start (c.table_start-first.result + c.loop-index.index) (c.table_start-first.result + c.clear_at-index.result) c.requires.part.fit low
           (omega (arith, further)) k.clears step.clears;
       tables = tables_then c.args.core.now.frames c.loop-index.core.frames c.clear_at-index.new.core.frames k.tables step.tables;
       rest = rest_then c.args.core.now c.loop-index.core c.clear_at-index.new.core k.rest step.rest;
@@ -82,12 +85,12 @@ returns g c =
     let new : Picture g.M.Levels.mode = record mid { frames = c.prune.new.memory } in
     let first = c.table_start-first.ensures in
     let high = c.loop-index.invariant.high in
-    let end : c.table_start-first.result + c.loop-index.index ≡ c.args.stop = omega (arith, first, high, c.loop-index-test.false, c.requires.some) in
+    let end : c.table_start-first.result + c.loop-index.index ≡ c.args.stop = omega (arith, first, high, c.loop-index-test.false, c.requires.part.some) in
     let P : ℕ → Type 0 = λ x. Clears old mid c.args.pid c.args.start x in
     let clears : Clears old mid c.args.pid c.args.start c.args.stop = subst P end c.loop-index.invariant.clears in
     record {
       pages = record {
-        clears = clears_then old mid new c.args.pid c.args.start c.args.stop c.args.stop c.requires.fit (omega (arith, c.requires.some)) (omega arith)
+        clears = clears_then old mid new c.args.pid c.args.start c.args.stop c.args.stop c.requires.part.fit (omega (arith, c.requires.part.some)) (omega arith)
             (subst P end c.loop-index.invariant.clears)
             (clears_pruned mid new c.args.pid c.root_of-root.result.0 _ c.loop-index.invariant.fit c.loop-index.core.sound c.loop-index.invariant.root_is
             c.prune.ensures.prunes (same_beside mid c.prune.new.memory) c.args.stop c.args.stop (λ page h least below. absurd (omega (arith, least, below))));
@@ -99,6 +102,6 @@ returns g c =
       cleared = λ low le cleared. cleared_block mid new c.args.pid c.root_of-root.result.0 c.args.start c.loop-index.invariant.fit c.loop-index.core.sound c.loop-index.invariant.root_is
           c.prune.ensures.prunes (same_beside mid c.prune.new.memory) low c.args.stop le
           (cleared_still old mid c.args.pid low c.args.start c.args.stop clears c.loop-index.invariant.tables cleared) clears.gone c.prune.ensures.pruned
-          (user_inside g.M.Levels.mode c.args.start c.args.stop c.requires.some c.requires.high) 1 (omega arith) (inl refl)
+          (user_inside g.M.Levels.mode c.args.start c.args.stop c.requires.part.some c.requires.part.high) 1 (omega arith) (inl refl)
           (λ p from below. in_row_of c.args.start p c.args.stop ((c.args.start / 512 + 1) * 512) from below c.requires.one_table refl);
     }

@@ -6,33 +6,39 @@ use Rattle.ranges.proofs.Emptied.{row_parts}
 use Rattle.ranges.proofs.LastName.{in_row_from, named_without, named_beside, unnamed_without}
 use Rattle.ranges.proofs.forgetting.forget_last.Goals as goal
 
-pub returns-in_default-clause-last : goal.returns-in_default-clause-last
-returns-in_default-clause-last g c = inl (
-  refl,
-  named_without g.M.Levels.mode (picture_of c.args.core.now).at c.args.pid c.args.first c.args.pages c.args.page (c.requires.row.fit.places.inside (Object c.args.page) c.requires.away)
-      (λ k inside. (let parts = row_parts c.args.first c.args.pages k inside in c.in_default.ensures.none k parts.0 parts.1)),
-)
+pub returns-in_default : goal.returns-in_default
+returns-in_default g c = record {
+  fit = c.requires.bare.row.fit;
+  last = inl (
+    refl,
+    named_without g.M.Levels.mode (picture_of c.args.core.now).at c.args.pid c.args.first c.args.pages c.args.page (c.requires.bare.row.fit.places.inside (Object c.args.page) c.requires.away)
+        (λ k inside. (let parts = row_parts c.args.first c.args.pages k inside in c.in_default.ensures.none k parts.0 parts.1)),
+  );
+}
 
-pub returns-clause-last : goal.returns-clause-last
-returns-clause-last g c =
+pub returns : goal.returns
+returns g c =
     let at = (picture_of c.args.core.now).at in
     let some = c.in-Some.ensures.some in
-    elim c.forget_there.ensures.there [
-      | inl same ↦ inl (
-        same.0,
-        named_beside g.M.Levels.mode at c.args.pid c.args.first c.args.pages c.args.page same.1.0 c.in-Some.at same.1.1 (let high = some.1 in let row = c.requires.row.row in let most = (sizes g.M.Levels.mode).most in omega (arith, high, row, most)) same.1.2 same.1.3,
-      )
-      | inr gone ↦ inr (
-        gone.0,
-        gone.1,
-        unnamed_without g.M.Levels.mode at c.args.pid c.args.first c.args.pages c.requires.row.fit.granting.objects c.args.page c.in-Some.at (in_row_from c.args.first c.args.pages c.in-Some.at some.0 some.1) some.2 gone.2,
-      )
-    ]
+    record {
+      fit = c.forget_there.ensures.fit;
+      last = elim c.forget_there.ensures.there [
+        | inl same ↦ inl (
+          same.0,
+          named_beside g.M.Levels.mode at c.args.pid c.args.first c.args.pages c.args.page same.1.0 c.in-Some.at same.1.1 (let high = some.1 in let row = c.requires.bare.row.row in let most = (sizes g.M.Levels.mode).most in omega (arith, high, row, most)) same.1.2 same.1.3,
+        )
+        | inr gone ↦ inr (
+          gone.0,
+          gone.1,
+          unnamed_without g.M.Levels.mode at c.args.pid c.args.first c.args.pages c.requires.bare.row.fit.granting.objects c.args.page c.in-Some.at (in_row_from c.args.first c.args.pages c.in-Some.at some.0 some.1) some.2 gone.2,
+        )
+      ];
+    }
 
-pub forget_there-requires-clause-bare : goal.forget_there-requires-clause-bare
-forget_there-requires-clause-bare g c =
+pub forget_there-requires : goal.forget_there-requires
+forget_there-requires g c =
     let some = c.in-Some.ensures.some in
-    c.requires.bare c.in-Some.at (in_row_from c.args.first c.args.pages c.in-Some.at some.0 some.1)
+    record { fit = c.requires.bare.row.fit; named = some.2; bare = c.requires.bare.bare c.in-Some.at (in_row_from c.args.first c.args.pages c.in-Some.at some.0 some.1) }
 
 pub overflow_add-first : goal.overflow_add-first
-overflow_add-first g c = omega (arith, c.requires.row.row, (sizes g.M.Levels.mode).most)
+overflow_add-first g c = omega (arith, c.requires.bare.row.row, (sizes g.M.Levels.mode).most)

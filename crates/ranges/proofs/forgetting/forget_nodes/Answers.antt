@@ -82,8 +82,9 @@ returns g c =
     }
 
 pub forget_last-requires-clause-bare : goal.forget_last-requires-clause-bare
-forget_last-requires-clause-bare g c page inside =
-    c.loop-node.invariant.more.entries c.args.pid page (pages_inside g.M.Levels.mode c.args.first c.args.pages page c.requires.row.row inside) ∙ c.requires.bare page inside
-
-pub forget_last-requires-clause-row : goal.forget_last-requires-clause-row
-forget_last-requires-clause-row g c = record { fit = c.loop-node.invariant.fit; live = search rules; row = c.requires.row.row }
+forget_last-requires-clause-bare g c =
+    let k = c.loop-node.invariant in
+    record {
+      row = record { fit = k.fit; live = search rules; row = c.requires.row.row };
+      bare = λ page inside. k.more.entries c.args.pid page (pages_inside g.M.Levels.mode c.args.first c.args.pages page c.requires.row.row inside) ∙ c.requires.bare page inside;
+    }

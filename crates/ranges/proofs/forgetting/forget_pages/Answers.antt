@@ -63,14 +63,14 @@ loop-named-preserved g c =
           })
     ]
 
-pub forget_there-requires-clause-bare : goal.forget_there-requires-clause-bare
-forget_there-requires-clause-bare g c =
+pub forget_there-requires : goal.forget_there-requires
+forget_there-requires g c =
     let k = c.loop-named.invariant in
     let n = c.in-Some.named in
     let next = c.in-Some.ensures.some in
     let late : c.args.first ≤ n.at = (let x = k.low in let y = next.from in omega (arith, x, y)) in
     let user : IsPage (top_level g.M.Levels.mode) n.at = (let x = next.within in let y = c.requires.row.row in let fits = user_pages_fit g.M.Levels.mode in omega (arith, x, y, fits)) in
-    k.more.entries c.args.pid n.at user ∙ c.requires.bare n.at (in_row_from c.args.first c.args.pages n.at late next.within)
+    record { fit = k.fit; named = next.here; bare = k.more.entries c.args.pid n.at user ∙ c.requires.bare n.at (in_row_from c.args.first c.args.pages n.at late next.within) }
 
 pub returns : goal.returns
 returns g c =

@@ -7,16 +7,10 @@ use Rattle.ranges.proofs.forgetting.forget_row.Goals as goal
 pub returns-then-count-eq0 : goal.returns-then-count-eq0
 returns-then-count-eq0 g c =
     record {
-      forgets = forgets_none (picture_of c.args.core.now) c.args.pid c.args.first c.args.pages c.requires.fit (c.common_pages-count.ensures.none c.if-count-eq0.true);
-      fit = c.requires.fit;
+      forgets = forgets_none (picture_of c.args.core.now) c.args.pid c.args.first c.args.pages c.requires.row.fit (c.common_pages-count.ensures.none c.if-count-eq0.true);
+      fit = c.requires.row.fit;
       rest = search rules;
     }
 
 pub overflow_add-first : goal.overflow_add-first
-overflow_add-first g c = omega (arith, c.requires.row, (sizes g.M.Levels.mode).most)
-
-pub forget_pages-requires-clause-row : goal.forget_pages-requires-clause-row
-forget_pages-requires-clause-row g c = record { fit = c.requires.fit; live = c.requires.live; row = c.requires.row }
-
-pub forget_nodes-requires-clause-row : goal.forget_nodes-requires-clause-row
-forget_nodes-requires-clause-row g c = record { fit = c.requires.fit; live = c.requires.live; row = c.requires.row }
+overflow_add-first g c = omega (arith, c.requires.row.row, (sizes g.M.Levels.mode).most)

@@ -17,13 +17,13 @@ returns-then-linked-end g c =
     record {
       leaves = record {
         permits = permits_none (picture_of c.args.core.now) c.args.pid c.args.start _ c.args.prot
-            (λ page h from below. next.gap page from (omega (arith, c.requires.some, c.if-linked-end.true, below)));
+            (λ page h from below. next.gap page from (omega (arith, c.requires.row.some, c.if-linked-end.true, below)));
         rooted = c.requires.may.rooted;
         named = c.requires.may.named;
         rest = around-refl c.args.core.now;
         refused = refl;
       };
-      further = c.requires.some;
+      further = c.requires.row.some;
       within = omega arith;
       ends = record {
         linked = c.next_linked-linked.result;

@@ -20,8 +20,8 @@ same_places a b rest p = ap (λ t. place_of t p) rest.cache
 same_count : {M : Type 0} {m : Levels.Ghosts M} → {D E : Type 0} (a b : Core D E M m) → KeepsBesideMemory a b → frame_count b.frames ≡ frame_count a.frames
 same_count a b rest = sym b.node_count ∙ ap CacheTable.cache_frames rest.cache ∙ a.node_count
 
-pub forget_row-requires-clause-bare : goal.forget_row-requires-clause-bare
-forget_row-requires-clause-bare g c = c.clear_row.ensures.row.entries
+pub forget_row-requires : goal.forget_row-requires
+forget_row-requires g c = record { row = record { fit = search rules; live = search rules; row = c.requires.row.row }; bare = c.clear_row.ensures.row.entries }
 
 pub returns : goal.returns
 returns g c =

@@ -40,7 +40,7 @@ returns-in-None g c =
 pub returns : goal.returns
 returns g c =
     record {
-      from = omega (arith, c.requires.some);
+      from = omega (arith, c.requires.row.some);
       within = omega arith;
       passed = λ p from below. no_whole (picture_of c.args.core.now) c.args.pid c.root_of-root.result.0 c.root_of-root.ensures p
           (c.loop-at.invariant.passed p from (omega (arith, c.loop-at-test.false, below)));

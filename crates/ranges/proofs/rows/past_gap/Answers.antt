@@ -16,7 +16,7 @@ span_end-requires g c = let levels = (sizes g.M.Levels.mode).levels.1 in omega (
 pub overflow_sub-last : goal.overflow_sub-last
 overflow_sub-last g c =
     let past = own_past c.args.page c.span_end.result (c.last_table-level.result.0 + 1) c.span_end.ensures in
-    omega (arith, past, c.requires.some, c.min-last.ensures)
+    omega (arith, past, c.requires.row.some, c.min-last.ensures)
 
 pub span_of-span-requires : goal.span_of-span-requires
 span_of-span-requires g c = let levels = (sizes g.M.Levels.mode).levels.1 in omega (arith, c.last_table-level.ensures.range, levels)
@@ -35,8 +35,8 @@ pub next_set-requires-clause-one_table : goal.next_set-requires-clause-one_table
 next_set-requires-clause-one_table g c =
     let k = c.last_table-level.result.0 in
     let last = c.min-last.result - 1 in
-    let is = last_is c.args.page c.args.end c.span_end.result c.min-last.result last (k + 1) c.requires.some c.span_end.ensures c.min-last.ensures (omega arith) in
-    rw (c.span_of-span.ensures, c.get.ensures.number) (search_one_table c.args.page c.args.end c.span_end.result last k c.requires.some c.span_end.ensures is)
+    let is = last_is c.args.page c.args.end c.span_end.result c.min-last.result last (k + 1) c.requires.row.some c.span_end.ensures c.min-last.ensures (omega arith) in
+    rw (c.span_of-span.ensures, c.get.ensures.number) (search_one_table c.args.page c.args.end c.span_end.result last k c.requires.row.some c.span_end.ensures is)
 
 pub overflow_mul-result : goal.overflow_mul-result
 overflow_mul-result g c =
@@ -44,9 +44,9 @@ overflow_mul-result g c =
     let last = c.min-last.result - 1 in
     let levels = (sizes g.M.Levels.mode).levels.1 in
     let most = (sizes g.M.Levels.mode).most in
-    let is = last_is c.args.page c.args.end c.span_end.result c.min-last.result last (k + 1) c.requires.some c.span_end.ensures c.min-last.ensures (omega arith) in
-    let below = last_below c.args.page c.args.end c.span_end.result last k c.requires.some c.span_end.ensures is in
-    let small = next_fits last c.next_set.result k (omega (arith, c.last_table-level.ensures.range, levels)) (omega (arith, below, c.requires.high, most))
+    let is = last_is c.args.page c.args.end c.span_end.result c.min-last.result last (k + 1) c.requires.row.some c.span_end.ensures c.min-last.ensures (omega arith) in
+    let below = last_below c.args.page c.args.end c.span_end.result last k c.requires.row.some c.span_end.ensures is in
+    let small = next_fits last c.next_set.result k (omega (arith, c.last_table-level.ensures.range, levels)) (omega (arith, below, c.requires.row.high, most))
     (rw c.span_of-span.ensures at c.next_set.ensures.within) in
     rw c.span_of-span.ensures (omega (arith, small))
 
@@ -63,15 +63,15 @@ pub returns : goal.returns
 returns g c =
     let k = c.last_table-level.result.0 in
     let last = c.min-last.result - 1 in
-    let is = last_is c.args.page c.args.end c.span_end.result c.min-last.result last (k + 1) c.requires.some c.span_end.ensures c.min-last.ensures (omega arith) in
+    let is = last_is c.args.page c.args.end c.span_end.result c.min-last.result last (k + 1) c.requires.row.some c.span_end.ensures c.min-last.ensures (omega arith) in
     record {
       whole = search rules;
       further = rw c.span_of-span.ensures (past_place c.args.page c.next_set.result c.last_table-level.result.0 (rw (c.span_of-span.ensures, c.get.ensures.number) at c.next_set.ensures.from));
-      passed = rw c.span_of-span.ensures (passed_missing c.args.page c.args.end c.span_end.result last k c.requires.some c.span_end.ensures is
+      passed = rw c.span_of-span.ensures (passed_missing c.args.page c.args.end c.span_end.result last k c.requires.row.some c.span_end.ensures is
           g.M.Levels.mode c.args.memory.now c.args.root.0 c.last_table-level.result.1.0 c.next_set.result c.last_table-level.ensures.last (omega (arith, c.if-level-eq0.false))
           (rw (c.span_of-span.ensures, c.get.ensures.number) at c.next_set.ensures.from) (rw c.span_of-span.ensures at c.next_set.ensures.within)
           (rw (c.span_of-span.ensures, c.get.ensures.number) at c.next_set.ensures.passed));
-      stops = rw c.span_of-span.ensures (stops_past c.args.page c.args.end c.span_end.result last k c.requires.some c.span_end.ensures is
+      stops = rw c.span_of-span.ensures (stops_past c.args.page c.args.end c.span_end.result last k c.requires.row.some c.span_end.ensures is
           g.M.Levels.mode c.args.memory.now c.args.root.0 c.last_table-level.result.1.0 c.next_set.result c.last_table-level.ensures.last (omega (arith, c.if-level-eq0.false))
           (rw (c.span_of-span.ensures, c.get.ensures.number) at c.next_set.ensures.from) (rw c.span_of-span.ensures at c.next_set.ensures.within)
           c.requires.root (rw c.span_of-span.ensures at c.next_set.ensures.found));

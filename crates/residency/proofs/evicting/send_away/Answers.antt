@@ -10,10 +10,10 @@ use Rattle.residency.specs.Seats.{InSlot}
 use Rattle.residency.specs.Picture.{Picture, picture_of, entry, held, bytes_at}
 use Rattle.residency.proofs.Asking.{asks_put, one_put}
 use Rattle.residency.proofs.Leaving.{Leaves, fit_slot, left_spares, unnamed_of}
-use Rattle.residency.proofs.Places.{cases_page}
 use Rattle.residency.proofs.Puts.{fit_put}
 use Rattle.residency.proofs.Putting.{put_spares, fit_unput, with_slots, kept_by, owned_by}
 use Rattle.residency.proofs.Sparing.{forgotten_spares, spares_then, past_unused}
+use Rattle.residency.proofs.Cleaning.{all_touched}
 use Rattle.residency.proofs.evicting.send_away.Goals as goal
 
 held_there : {mode : ℕ} (old new : Picture mode) (p : PageKey) (v k : ℕ) → old.place p ≡ Frame (record { 0 = v }) → new.place p ≡ Slot (record { 0 = k }) → new.slots.bytes k ≡ bytes_of old.frames v → held new p ≡ held old p
@@ -49,14 +49,11 @@ returns-in-Ok g c =
       root = λ pid. refl;
       at_same = λ pid k. refl;
       page_of = λ n. refl;
-      touched = λ p. elim (cases_page p page) [
-        | inl e ↦ ap new.touched e ∙ c.set_place.ensures.touched ∙ ap mid.touched (sym e)
-        | inr ne ↦ c.set_place.ensures.others.touched p ne
-      ];
+      touched = all_touched c.forget_leaves.new.core.cache c.set_place.new.self page c.set_place.ensures.others c.set_place.ensures.touched;
       files = λ f. refl;
     } in
     let filled = fit_put mid put k 0 0 _ fit (with_slots mid t) puts (omega (arith, user_pages_fit g.M.Levels.mode, (sizes g.M.Levels.mode).least)) in
-    let first = forgotten_spares v k old mid c.requires.fit (c.requires.fit.places.cached page v c.requires.placed) ch in
+    let first = forgotten_spares v k old mid c.requires.goes.fit (c.requires.goes.fit.places.cached page v c.requires.placed) ch in
     let puts_counts : (j : ℕ) → j ≢ k → IsInUse mid.slots j → t.count j ≡ mid.slots.count j = λ j ne used. (kept_by mid.slots t k _ puts j used).1 in
     let second = put_spares mid put fit (with_slots mid t) (λ j used. (kept_by mid.slots t k _ puts j used).0) v k puts.others.total puts_counts in
     let third = left_spares put new page v (Slot (record { 0 = k })) (InSlot k) 1 filled leaves clear k (inl (held_there put new page v k was c.set_place.ensures.placed (puts.holds ∙ c.bytes.ensures))) in
@@ -91,7 +88,7 @@ returns-in-Err-Device g c =
       gives = (
         k,
         past_unused c.args.core.now.swap,
-        spares_then v k old mid put (forgotten_spares v k old mid c.requires.fit (c.requires.fit.places.cached c.args.page v c.requires.placed) c.forget_leaves.ensures.changes)
+        spares_then v k old mid put (forgotten_spares v k old mid c.requires.goes.fit (c.requires.goes.fit.places.cached c.args.page v c.requires.placed) c.forget_leaves.ensures.changes)
             (put_spares mid put c.forget_leaves.ensures.fit (with_slots mid t) (λ j used. same.bytes j used) v k same.total (λ j ne used. same.counts j)),
       );
       plain = search rules;
@@ -106,7 +103,7 @@ returns-in-Err-Device g c =
     }
 
 pub forget_leaves-requires-clause-filed : goal.forget_leaves-requires-clause-filed
-forget_leaves-requires-clause-filed g c = c.requires.fit.places.cached c.args.page c.args.victim.0 c.requires.placed
+forget_leaves-requires-clause-filed g c = c.requires.goes.fit.places.cached c.args.page c.args.victim.0 c.requires.placed
 
 pub set_place-requires-clause-free : goal.set_place-requires-clause-free
 set_place-requires-clause-free g c = λ p ne at.
@@ -118,4 +115,4 @@ pub release-requires : goal.release-requires
 release-requires g c =
     let ch = c.forget_leaves.ensures.changes in
     let cache = c.forget_leaves.ensures.fit.places.cached c.args.page c.args.victim.0 (ch.beside.place c.args.page ∙ c.requires.placed) in
-    record { inside = (let e = ch.frames in let inside = c.requires.inside in omega (arith, e, inside)); handed_out = rw cache refl }
+    record { inside = (let e = ch.frames in let inside = c.requires.goes.inside in omega (arith, e, inside)); handed_out = rw cache refl }

@@ -10,8 +10,8 @@ use Rattle.residency.proofs.Putting.{put_spares, fit_unput, with_slots, kept_by,
 use Rattle.residency.proofs.Sparing.{spares_then, past_unused}
 use Rattle.residency.proofs.evicting.send_copies.Goals as goal
 
-pub hand_over-requires-clause-handing : goal.hand_over-requires-clause-handing
-hand_over-requires-clause-handing g c =
+pub hand_over-requires : goal.hand_over-requires
+hand_over-requires g c =
     let old : Picture g.M.Levels.mode = picture_of c.args.core.now in
     let t = slots_of c.put.new.self in
     let put : Picture g.M.Levels.mode = record old { slots = t } in
@@ -19,20 +19,23 @@ hand_over-requires-clause-handing g c =
     let v = c.args.victim.0 in
     let page = old.page_of v in
     let puts = c.in-Ok.ensures.puts in
-    let h = c.requires.fit.counted.1.pages (InFrame v) c.requires.role in
+    let h = c.requires.goes.fit.counted.1.pages (InFrame v) c.requires.role in
     let P : Role → Type 0 = λ r. IsCountFor r (count_of old.frames v) in
-    let count = subst P c.requires.role (c.args.core.now.sound.counted v c.requires.inside) in
+    let count = subst P c.requires.role (c.args.core.now.sound.counted v c.requires.goes.inside) in
     record {
-      share = record {
-        fit = fit_put old put k page 0 _ c.requires.fit (with_slots old t) puts h;
-        owned = owned_by old t k _ c.requires.fit puts;
-        noted = put_noted old put k page 0 _ c.requires.fit (with_slots old t) puts h;
+      ready = search rules;
+      handing = record {
+        share = record {
+          fit = fit_put old put k page 0 _ c.requires.goes.fit (with_slots old t) puts h;
+          owned = owned_by old t k _ c.requires.goes.fit puts;
+          noted = put_noted old put k page 0 _ c.requires.goes.fit (with_slots old t) puts h;
+        };
+        role = c.requires.role;
+        noted = refl;
+        alike = puts.holds ∙ c.bytes.ensures;
+        some = count.0;
+        few = (let one = puts.counted in let most = count.1 in omega (arith, one, most));
       };
-      role = c.requires.role;
-      noted = refl;
-      alike = puts.holds ∙ c.bytes.ensures;
-      some = count.0;
-      few = (let one = puts.counted in let most = count.1 in omega (arith, one, most));
     }
 
 pub returns-in-Ok : goal.returns-in-Ok
@@ -50,7 +53,7 @@ returns-in-Ok g c =
       gives = (
         k,
         (λ used. (let none = puts.was_free in omega (arith, used, none))),
-        spares_then v k old put new (put_spares old put c.requires.fit (with_slots old t) (λ j used. (kept_by old.slots t k _ puts j used).0) v k puts.others.total (λ j ne used. (kept_by old.slots t k _ puts j used).1)) c.hand_over.ensures.spares,
+        spares_then v k old put new (put_spares old put c.requires.goes.fit (with_slots old t) (λ j used. (kept_by old.slots t k _ puts j used).0) v k puts.others.total (λ j ne used. (kept_by old.slots t k _ puts j used).1)) c.hand_over.ensures.spares,
       );
       plain = search rules;
       asked = inr (inl c.requires.role);
@@ -71,11 +74,11 @@ returns-in-Err-Device g c =
     let same = c.in-Err-Device.ensures.same in
     record {
       free = search rules;
-      fit = fit_unput old (record old { slots = t }) c.requires.fit (with_slots old t) c.in-Err-Device.ensures.same;
+      fit = fit_unput old (record old { slots = t }) c.requires.goes.fit (with_slots old t) c.in-Err-Device.ensures.same;
       gives = (
         old.slots.total,
         past_unused c.args.core.now.swap,
-        put_spares old (record old { slots = t }) c.requires.fit (with_slots old t) (λ j used. same.bytes j used) v old.slots.total same.total (λ j ne used. same.counts j),
+        put_spares old (record old { slots = t }) c.requires.goes.fit (with_slots old t) (λ j used. same.bytes j used) v old.slots.total same.total (λ j ne used. same.counts j),
       );
       plain = search rules;
       asked = inr (inl c.requires.role);

@@ -1,19 +1,14 @@
 use Rattle.std.proofs.Common.{ℕ, ◌≡◌, inl, inr, None, refl, sym, ap, ◌∙◌, arith, rules}
-use Rattle.vm_types.specs.declared.object.PageKey.{PageKey}
 use Rattle.frames.specs.declared.role.Role.TheVariants.{Zero, Private, Cache}
 use Rattle.frames.specs.FrameTable.{role_of}
 use Rattle.page_cache.specs.declared.place.Place.TheVariants.{Home}
 use Rattle.page_cache.specs.CacheTable.{place_of, is_touched}
-use Rattle.residency.specs.Picture.{Picture, picture_of, held, bytes_at}
+use Rattle.residency.specs.Picture.{Picture, picture_of}
 use Rattle.residency.specs.Parts.{nowhere}
-use Rattle.residency.proofs.Leaving.{Leaves, fit_home, left_spares, unnamed_of}
-use Rattle.residency.proofs.Places.{cases_page}
+use Rattle.residency.proofs.Leaving.{Leaves, fit_home, left_spares, unnamed_of, home_held}
 use Rattle.residency.proofs.Sparing.{forgotten_spares, spares_then}
+use Rattle.residency.proofs.Cleaning.{all_touched}
 use Rattle.residency.proofs.evicting.send_home.Goals as goal
-
-gone_home : {mode : ℕ} (c : Picture mode) (p : PageKey) → c.place p ≡ Home → held c p ≡ None
-unfolding held
-gone_home c p home = ap (λ x. bytes_at c.frames c.slots x) home
 
 pub returns : goal.returns
 returns g c =
@@ -40,17 +35,14 @@ returns g c =
       root = λ pid. refl;
       at_same = λ pid k. refl;
       page_of = λ n. refl;
-      touched = λ p. elim (cases_page p page) [
-        | inl e ↦ ap new.touched e ∙ c.set_place.ensures.touched ∙ ap mid.touched (sym e)
-        | inr ne ↦ c.set_place.ensures.others.touched p ne
-      ];
+      touched = all_touched c.forget_leaves.new.core.cache c.set_place.new.self page c.set_place.ensures.others c.set_place.ensures.touched;
       files = λ f. refl;
     } in
     record {
       free = free;
       fit = fit_home mid new page v fit leaves untouched clear;
       spares = λ k. spares_then v k old mid new (forgotten_spares v k old mid c.requires.fit (c.requires.fit.places.cached page v c.requires.placed) ch)
-          (left_spares mid new page v Home nowhere 0 fit leaves clear k (inr (gone_home new page c.set_place.ensures.placed, untouched)));
+          (left_spares mid new page v Home nowhere 0 fit leaves clear k (inr (home_held new page c.set_place.ensures.placed, untouched)));
       plain = search rules;
       swap = search rules;
     }

@@ -8,7 +8,7 @@ use Rattle.residency.proofs.leaves.change_in.Goals as goal
 
 pub loop-page-init : goal.loop-page-init
 loop-page-init g c = record {
-  entries = entries_none c.args.search.now.change c.args.search.now.frame.0 c.args.core.now c.requires.fit;
+  entries = entries_none c.args.search.now.change c.args.search.now.frame.0 c.args.core.now c.requires.lives.fit;
   below = omega arith;
   clear = λ k less over. absurd (omega (arith, less));
 }

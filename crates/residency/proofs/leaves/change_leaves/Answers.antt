@@ -36,6 +36,8 @@ returns g c =
       entries = kept.entries;
     }
 
-pub change_of-requires-clause-kinds : goal.change_of-requires-clause-kinds
-change_of-requires-clause-kinds g c =
-    kinds_kept c.args.change c.args.frame.0 c.kinds_of-kinds.result (picture_of c.args.core.now) (picture_of c.loop-pid.core) c.loop-pid.invariant.entries.changes (c.kinds_of-kinds.ensures c.args.change)
+pub change_of-requires-clause-among : goal.change_of-requires-clause-among
+change_of-requires-clause-among g c = record {
+  fit = c.loop-pid.invariant.entries.fit;
+  roots = kinds_kept c.args.change c.args.frame.0 c.kinds_of-kinds.result (picture_of c.args.core.now) (picture_of c.loop-pid.core) c.loop-pid.invariant.entries.changes (c.kinds_of-kinds.ensures c.args.change);
+}

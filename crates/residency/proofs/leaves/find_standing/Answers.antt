@@ -10,7 +10,7 @@ use Rattle.residency.proofs.leaves.find_standing.Goals as goal
 pub returns-then-is_over : goal.returns-then-is_over
 returns-then-is_over g c =
     let core = c.args.core.now in
-    let at = map_read core c.args.process.pid c.requires.number c.args.process.root.0 c.index.result.now c.requires.lives c.index.ensures in
+    let at = map_read core c.args.process.pid c.args.process.number c.args.process.root.0 c.index.result.now c.requires.lives.root c.index.ensures in
     let next = c.in-Some.ensures.some in
     record {
       some = record {
@@ -20,7 +20,7 @@ returns-then-is_over g c =
         before = λ j low less over. elim (cases_lt j c.loop-at.from) [
           | inl passed ↦ c.loop-at.invariant.before j low passed over
           | inr late ↦ next.before j late less
-              (over_stands (picture_of core) c.args.search.now.change c.args.search.now.frame.0 c.args.process.pid j c.index.result.now c.args.page c.requires.fit c.requires.above c.requires.placed at
+              (over_stands (picture_of core) c.args.search.now.change c.args.search.now.frame.0 c.args.process.pid j c.index.result.now c.args.page c.requires.lives.fit c.args.search.now.above c.requires.placed at
               (let u = next.user in omega (arith, less, u, user_pages_fit g.M.Levels.mode)) over)
         ];
       };
@@ -30,7 +30,7 @@ returns-then-is_over g c =
 pub loop-at-preserved : goal.loop-at-preserved
 loop-at-preserved g c =
     let core = c.args.core.now in
-    let at = map_read core c.args.process.pid c.requires.number c.args.process.root.0 c.index.result.now c.requires.lives c.index.ensures in
+    let at = map_read core c.args.process.pid c.args.process.number c.args.process.root.0 c.index.result.now c.requires.lives.root c.index.ensures in
     let next = c.in-Some.ensures.some in
     record {
       low = (let a = c.loop-at.invariant.low in let b = next.from in let n = c.get-from.ensures.number in omega (arith, a, b, n));
@@ -41,7 +41,7 @@ loop-at-preserved g c =
         | inr ne ↦ elim (cases_lt j c.loop-at.from) [
           | inl passed ↦ c.loop-at.invariant.before j low passed over
           | inr late ↦ next.before j late (let n = c.get-from.ensures.number in omega (arith, ne, less, n))
-              (over_stands (picture_of core) c.args.search.now.change c.args.search.now.frame.0 c.args.process.pid j c.index.result.now c.args.page c.requires.fit c.requires.above c.requires.placed at
+              (over_stands (picture_of core) c.args.search.now.change c.args.search.now.frame.0 c.args.process.pid j c.index.result.now c.args.page c.requires.lives.fit c.args.search.now.above c.requires.placed at
               (let u = next.user in let n = c.get-from.ensures.number in omega (arith, less, u, n, user_pages_fit g.M.Levels.mode)) over)
         ]
       ];
@@ -53,10 +53,10 @@ returns g c =
       some = search rules;
       none = λ k low h over.
           let core = c.args.core.now in
-          let at = map_read core c.args.process.pid c.requires.number c.args.process.root.0 c.index.result.now c.requires.lives c.index.ensures in
+          let at = map_read core c.args.process.pid c.args.process.number c.args.process.root.0 c.index.result.now c.requires.lives.root c.index.ensures in
           elim (cases_lt k c.loop-at.from) [
             | inl passed ↦ c.loop-at.invariant.before k low passed over
             | inr late ↦ c.in_default.ensures.none k late
-                (over_stands (picture_of core) c.args.search.now.change c.args.search.now.frame.0 c.args.process.pid k c.index.result.now c.args.page c.requires.fit c.requires.above c.requires.placed at h over)
+                (over_stands (picture_of core) c.args.search.now.change c.args.search.now.frame.0 c.args.process.pid k c.index.result.now c.args.page c.requires.lives.fit c.args.search.now.above c.requires.placed at h over)
           ];
     }

@@ -17,7 +17,7 @@ pub returns-then-not-is_kind-clause-none : goal.returns-then-not-is_kind-clause-
 returns-then-not-is_kind-clause-none g c = λ f page h over.
     let core = c.args.core.now in
     let lives = live_process core c.args.pid c.requires.number c.index.result.now c.index.ensures c.in-Some.root c.in-Some.is in
-    c.is_kind.ensures.other c.if-not-is_kind.true (c.requires.kinds c.args.pid c.in-Some.root.0 page lives h over)
+    c.is_kind.ensures.other c.if-not-is_kind.true (c.requires.among.roots c.args.pid c.in-Some.root.0 page lives h over)
 
 picked : (r : Option ℕ) (P : ℕ → Type 0) → IfSome r P → is_some r ≡ true → (k : ℕ) × P k
 picked None P holds some = absurd (false≢true some)

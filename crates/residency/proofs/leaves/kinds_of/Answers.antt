@@ -13,4 +13,4 @@ pub returns-in-Filed : goal.returns-in-Filed
 returns-in-Filed g c = λ change pid r page root h over.
     let placed = subst (λ (h : Held). Holds (picture_of c.args.core.now) c.args.frame.0 h) c.in-Filed.is c.requires.holds in
     c.kinds_over.ensures r page
-    (over_names (picture_of c.args.core.now) change c.args.frame.0 pid r page c.requires.fit root h (c.requires.fit.places.cached c.in-Filed.field-0 c.args.frame.0 placed) over)
+    (over_names (picture_of c.args.core.now) change c.args.frame.0 pid r page c.requires.has.fit root h (c.requires.has.fit.places.cached c.in-Filed.field-0 c.args.frame.0 placed) over)

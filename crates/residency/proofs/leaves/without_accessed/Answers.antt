@@ -1,23 +1,13 @@
-use Rattle.std.proofs.Common.{◌≡◌, ◌-◌, ◌∙◌, ap, sym, subst, arith}
-use Rattle.sv39_walk.specs.Entry.{is_accessed, is_dirty}
-use Rattle.residency.specs.Leaves.{Drops}
-use Rattle.residency.proofs.Bits.{bit_six, drops_six, six_clear, six_dirty}
+use Rattle.std.proofs.Common.{◌≡◌, ◌-◌, ℕ, sym, subst, arith}
+use Rattle.residency.specs.declared.leaves.Change.TheVariants.{ClearAccessed}
+use Rattle.residency.specs.Leaves.{IsChanged}
+use Rattle.residency.proofs.Bits.{bit_six, drops_six, six_dirty, six_clear}
 use Rattle.residency.proofs.leaves.without_accessed.Goals as goal
 
-pub returns-clause-drops : goal.returns-clause-drops
-returns-clause-drops c =
-    let number : c.without_accessed.result.0 ≡ c.args.leaf.0 - 64 = omega (arith, c.without_accessed.ensures) in
-    subst (λ n. Drops c.args.leaf.0 n) (sym number) (drops_six c.args.leaf.0 (bit_six c.args.leaf.0 c.requires))
-
-pub returns-clause-dirty : goal.returns-clause-dirty
-returns-clause-dirty c =
-    let number : c.without_accessed.result.0 ≡ c.args.leaf.0 - 64 = omega (arith, c.without_accessed.ensures) in
-    ap is_dirty number ∙ six_dirty c.args.leaf.0 (bit_six c.args.leaf.0 c.requires)
-
-pub returns-clause-clear : goal.returns-clause-clear
-returns-clause-clear c =
-    let number : c.without_accessed.result.0 ≡ c.args.leaf.0 - 64 = omega (arith, c.without_accessed.ensures) in
-    ap is_accessed number ∙ six_clear c.args.leaf.0 (bit_six c.args.leaf.0 c.requires)
-
-pub returns-clause-number : goal.returns-clause-number
-returns-clause-number c = (let bit = bit_six c.args.leaf.0 c.requires in omega (arith, bit, c.without_accessed.ensures))
+pub returns : goal.returns
+returns c =
+    let leaf = c.args.leaf.0 in
+    let bit = bit_six leaf c.requires in
+    let number : c.without_accessed.result.0 ≡ leaf - 64 = omega (arith, c.without_accessed.ensures) in
+    let P : ℕ → Type 0 = λ n. IsChanged ClearAccessed leaf n in
+    subst P (sym number) (drops_six leaf bit, six_dirty leaf bit, six_clear leaf bit, omega (arith, bit))

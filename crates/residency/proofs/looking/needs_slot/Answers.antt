@@ -9,6 +9,6 @@ returns-in-Some-clause-other g c = λ needs. elim needs [
   | inr file ↦ (
       let cache = c.args.core.now.cache in
       let same : c.in-Some.page ≡ file.0 = c.requires.fit.places.apart c.in-Some.page file.0 (c.in-Some.ensures.held ∙ sym file.1)
-      (λ home. (let bad : Home ≡ Frame c.args.n = sym home ∙ c.in-Some.ensures.held in (cc))) in
+      (λ home. (let bad : Home ≡ Frame c.args.frame = sym home ∙ c.in-Some.ensures.held in (cc))) in
       c.is_touched.ensures ∙ ap (is_touched cache) same ∙ file.2)
 ]

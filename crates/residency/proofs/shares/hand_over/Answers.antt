@@ -2,22 +2,23 @@ use Rattle.std.proofs.Common.{◌≢◌, ℕ, ◌<◌, length, inl, inr, Some, r
 use Rattle.std.proofs.lemmas.Bool.{cases_eq, false≢true}
 use Rattle.std.proofs.lemmas.List.{get_or_read}
 use Rattle.residency.specs.Seats.{InFrame, seat}
-use Rattle.residency.specs.Picture.{picture_of, entry}
+use Rattle.residency.specs.Picture.{picture_of, entry, is_data}
 use Rattle.residency.specs.Evictions.{IsHanding}
 use Rattle.residency.proofs.Passing.{first_seat, somebody, no_user, hands_none, hands_then}
+use Rattle.residency.proofs.Refusing.{inside_of}
 use Rattle.residency.proofs.shares.hand_over.Goals as goal
 
 pub unreachable-requires : goal.unreachable-requires
 unreachable-requires g c =
     let core = c.args.core.now in
-    let below : c.args.frame.0 < length core.page_of.items = (let n = c.requires.inside in let s = core.page_count in omega (arith, n, s)) in
+    let below : c.args.frame.0 < length core.page_of.items = (let n = inside_of core.frames c.args.frame.0 core.sound (ap is_data c.requires.handing.role) in let s = core.page_count in omega (arith, n, s)) in
     let is = get_or_read core.page_of.items c.args.frame.0 _ below c.index.ensures 0 in
     no_user (picture_of core) c.args.frame.0 c.args.slot.0 _ c.requires.handing (λ range. false≢true (c.in_default.ensures.known.1 (omega (arith, is, range.0), omega (arith, is, range.1))))
 
 pub loop-pid-init : goal.loop-pid-init
 loop-pid-init g c =
     let core = c.args.core.now in
-    let below : c.args.frame.0 < length core.page_of.items = (let n = c.requires.inside in let s = core.page_count in omega (arith, n, s)) in
+    let below : c.args.frame.0 < length core.page_of.items = (let n = inside_of core.frames c.args.frame.0 core.sound (ap is_data c.requires.handing.role) in let s = core.page_count in omega (arith, n, s)) in
     let is = c.in-Some.ensures.found ∙ get_or_read core.page_of.items c.args.frame.0 _ below c.index.ensures 0 in
     let P : ℕ → Type 0 = λ n. IsHanding (picture_of core) c.args.frame.0 c.args.slot.0 n in
     record {

@@ -30,7 +30,7 @@ returns g c =
     let done = c.give_share.ensures in
     let v = c.args.frame.0 in
     let another : count_of c.args.core.now.frames v ≢ 1 = (let a = c.count-alone.ensures in let b = c.if-alone.false in omega (arith, a, b)) in
-    let passed = all_passed old mid new c.args.process.pid c.args.page v c.args.slot.0 c.requires.handing done.fit done.moved (ap slots_of done.swap) done.lowered done.kept (ap (λ ps. slice_index_or ps.items v 0) done.noted) another
+    let passed = all_passed old mid new c.args.process.pid c.args.page v c.args.slot.0 c.requires.hands.handing done.fit done.moved (ap slots_of done.swap) done.lowered done.kept (ap (λ ps. slice_index_or ps.items v 0) done.noted) another
     (with_slots mid (slots_of c.share.new.self)) c.share.ensures.shares in
     record {
       moved = λ is. slot_no_seat c.args.slot.0 v (sym done.moved ∙ is);

@@ -1,4 +1,4 @@
-use Rattle.runner.proofs.Trace.{caused_trace, kept_trace, swap_kept_trace, runs_trace}
+use Rattle.runner.proofs.Trace.{caused_trace, kept_trace, runs_trace}
 use Rattle.runner.proofs.engine.run.Goals as goal
 
 pub returns-clause-caused : goal.returns-clause-caused
@@ -14,9 +14,9 @@ returns-clause-runs g c s shows keeps swap_keeps =
 pub returns-clause-kept : goal.returns-clause-kept
 returns-clause-kept g c =
     let r = c.run_turns.ensures.reads in
-    kept_trace g.D.SectorDisk g.E.SectorDisk c.run_turns.result _ _ (g.R.Read.remaining c.args.reader.now) _ _ _ r.0 r.2
+    (kept_trace g.D.SectorDisk g.E.SectorDisk c.run_turns.result _ _ (g.R.Read.remaining c.args.reader.now) _ _ _ r.0 r.2).0
 
 pub returns-clause-swap_kept : goal.returns-clause-swap_kept
 returns-clause-swap_kept g c =
     let r = c.run_turns.ensures.reads in
-    swap_kept_trace g.D.SectorDisk g.E.SectorDisk c.run_turns.result _ _ (g.R.Read.remaining c.args.reader.now) _ _ _ r.0 r.2
+    (kept_trace g.D.SectorDisk g.E.SectorDisk c.run_turns.result _ _ (g.R.Read.remaining c.args.reader.now) _ _ _ r.0 r.2).1

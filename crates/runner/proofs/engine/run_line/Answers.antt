@@ -1,7 +1,6 @@
 use Rattle.std.proofs.Common.{◌≡◌, ◌≤◌, ℕ, List, [], ◌∷◌, ◌++◌, length, take, refl, sym, ◌∙◌, ap, eqb-true, arith}
 use Rattle.std.proofs.lemmas.List.{take_all}
-use Rattle.runner.proofs.Bytes.{match_both}
-use Rattle.runner.proofs.Progress.{goes_on_by_line, breaks_in_line}
+use Rattle.runner.proofs.Progress.{reads_line}
 use Rattle.runner.proofs.engine.run_line.Goals as goal
 
 no_bytes : (l : List ℕ) → length l ≡ 0 → l ≡ []
@@ -14,21 +13,14 @@ whole_line kept bytes none short =
     let room : length bytes ≤ 257 = omega (arith, short) in
     sym (take_all 257 bytes room) ∙ ap (λ k. take 257 (k ++ bytes)) (sym none)
 
-pub returns-then-bytes-le-MAX_LINE_BYTES-clause-reads : goal.returns-then-bytes-le-MAX_LINE_BYTES-clause-reads
-returns-then-bytes-le-MAX_LINE_BYTES-clause-reads g c =
+pub returns-then-bytes-le-MAX_LINE_BYTES : goal.returns-then-bytes-le-MAX_LINE_BYTES
+returns-then-bytes-le-MAX_LINE_BYTES g c =
     let bytes = c.args.bytes.now in
     let none = no_bytes c.args.line.now (eqb-true (length c.args.line.now) 0 (sym c.is_empty.ensures ∙ c.if-is_empty.true)) in
     let is = whole_line c.args.line.now bytes none c.if-bytes-le-MAX_LINE_BYTES.true in
-    match_both c.end_line.result
-    (goes_on_by_line g.D.SectorDisk g.E.SectorDisk _ _ c.args.line.now bytes c.args.line.now _ _ bytes _ _ c.requires.unbroken is none)
-    (breaks_in_line g.D.SectorDisk g.E.SectorDisk _ _ c.args.line.now bytes c.args.line.now _ _ bytes _ _ c.requires.unbroken is none)
-    c.end_line.ensures.reads
+    reads_line g.D.SectorDisk g.E.SectorDisk c.end_line.result _ _ c.args.line.now bytes c.args.line.now _ _ bytes _ _ c.requires.unbroken is none c.end_line.ensures
 
-pub returns-clause-reads : goal.returns-clause-reads
-returns-clause-reads g c =
-    let bytes = c.args.bytes.now in
-    let is = c.as_slice.ensures ∙ c.extend.ensures in
-    match_both c.end_line-ended.result
-    (goes_on_by_line g.D.SectorDisk g.E.SectorDisk _ _ c.args.line.now c.as_slice.result.now c.clear.new.self _ _ bytes _ _ c.requires.unbroken is c.clear.ensures)
-    (breaks_in_line g.D.SectorDisk g.E.SectorDisk _ _ c.args.line.now c.as_slice.result.now c.clear.new.self _ _ bytes _ _ c.requires.unbroken is c.clear.ensures)
-    c.end_line-ended.ensures.reads
+pub returns : goal.returns
+returns g c =
+    reads_line g.D.SectorDisk g.E.SectorDisk c.end_line-ended.result _ _ c.args.line.now c.as_slice.result.now c.clear.new.self _ _ c.args.bytes.now _ _ c.requires.unbroken
+    (c.as_slice.ensures ∙ c.extend.ensures) c.clear.ensures c.end_line-ended.ensures

@@ -5,7 +5,7 @@ use Rattle.runner.proofs.Progress.{goes_nowhere, goes_on_by_bytes, GoesOn-trans,
 use Rattle.runner.proofs.engine.run_piece.Goals as goal
 
 pub loop-at-init : goal.loop-at-init
-loop-at-init g c = record { room = c.requires.room; sound = c.requires.sound; reads = ([], refl, goes_nowhere g.D.SectorDisk g.E.SectorDisk _) }
+loop-at-init g c = record { going = c.requires; reads = ([], refl, goes_nowhere g.D.SectorDisk g.E.SectorDisk _) }
 
 pub loop-at-preserved : goal.loop-at-preserved
 loop-at-preserved g c =
@@ -14,8 +14,7 @@ loop-at-preserved g c =
     let line = take c.in-Some.at rest ++ 10 ∷ [] in
     let newline = c.in-Some.ensures.newline in
     record {
-      room = c.in-Ok.ensures.room;
-      sound = c.run_line.ensures.sound;
+      going = record { sound = c.run_line.ensures.sound; room = c.in-Ok.ensures.room };
       reads = (
         read.0 ++ line,
         read_line c.args.piece.now read.0 rest c.in-Some.at read.1 newline.0 newline.1,
@@ -23,18 +22,26 @@ loop-at-preserved g c =
       );
     }
 
-pub returns-in-Err-clause-reads : goal.returns-in-Err-clause-reads
-returns-in-Err-clause-reads g c =
+pub returns-in-Err : goal.returns-in-Err
+returns-in-Err g c =
     let read = c.loop-at.invariant.reads in
     let rest = c.loop-at.rest.now in
     let line = take c.in-Some.at rest ++ 10 ∷ [] in
     let newline = c.in-Some.ensures.newline in
-    subst (BreaksOff g.D.SectorDisk g.E.SectorDisk _ _) (sym (read_line c.args.piece.now read.0 rest c.in-Some.at read.1 newline.0 newline.1))
-    (breaks_before g.D.SectorDisk g.E.SectorDisk _ _ _ _ (breaks_after g.D.SectorDisk g.E.SectorDisk _ _ _ read.0 line read.2 c.in-Err.ensures.reads))
+    record {
+      sound = c.run_line.ensures.sound;
+      reads = subst (BreaksOff g.D.SectorDisk g.E.SectorDisk _ _) (sym (read_line c.args.piece.now read.0 rest c.in-Some.at read.1 newline.0 newline.1))
+          (breaks_before g.D.SectorDisk g.E.SectorDisk _ _ _ _ (breaks_after g.D.SectorDisk g.E.SectorDisk _ _ _ read.0 line read.2 c.in-Err.ensures.reads));
+      room = tt;
+    }
 
-pub returns-clause-reads : goal.returns-clause-reads
-returns-clause-reads g c =
+pub returns : goal.returns
+returns g c =
     let read = c.loop-at.invariant.reads in
     let rest = c.loop-at.rest.now in
-    subst (GoesOn g.D.SectorDisk g.E.SectorDisk _ _) (sym read.1)
-    (GoesOn-trans g.D.SectorDisk g.E.SectorDisk _ _ _ read.0 rest read.2 (goes_on_by_bytes g.D.SectorDisk g.E.SectorDisk _ _ _ _ rest _ c.in_default.ensures.none c.extend.ensures))
+    record {
+      sound = c.loop-at.invariant.going.sound;
+      reads = subst (GoesOn g.D.SectorDisk g.E.SectorDisk _ _) (sym read.1)
+          (GoesOn-trans g.D.SectorDisk g.E.SectorDisk _ _ _ read.0 rest read.2 (goes_on_by_bytes g.D.SectorDisk g.E.SectorDisk _ _ _ _ rest _ c.in_default.ensures.none c.extend.ensures));
+      room = c.loop-at.invariant.going.room;
+    }

@@ -1,4 +1,4 @@
-use Rattle.std.proofs.Common.{ℕ, ◌≡◌, inl, true, ◌/◌, ◌%◌, List, refl, sym, ap, ◌∙◌, subst, rules}
+use Rattle.std.proofs.Common.{ℕ, ◌≡◌, inl, true, false, ◌/◌, ◌%◌, List, refl, sym, ap, ◌∙◌, subst, rules}
 use Rattle.fault.specs.Outcome.{Grants, IsRefusal, IsWalked}
 use Rattle.frames.specs.FrameTable.{bytes_of}
 use Rattle.fault.specs.Changes.{KeepsOtherViews}
@@ -34,25 +34,23 @@ pub returns-in-Ok-clause-keeps : goal.returns-in-Ok-clause-keeps
 returns-in-Ok-clause-keeps g c =
     let a = c.args in
     let goes = c.access.ensures.proceeds in
+    let reply = Value a.width c.read_number-value.result in
+    let placed = c.in-Ok.ensures.placed in
     record {
-      accounts = record { room = goes.room; denied = search rules; caused = search rules };
+      accounts = record { sound = search rules; room = goes.room; denied = search rules; caused = search rules };
       others = subst (λ (p : ℕ). KeepsOtherViews (picture_of a.core.now) (picture_of c.access.new.core) p (a.addr / 4096)) c.in-Some.ensures.found.0 c.access.ensures.others;
       reads = goes.reads;
       device = goes.device;
+      asks = subst (λ (p : ℕ). AsksFor g.D.SectorDisk g.E.SectorDisk a.core.now c.access.new.core p a.addr a.kind reply) c.in-Some.ensures.found.0
+          (asks_unstalled g.D.SectorDisk g.E.SectorDisk a.core.now c.access.new.core c.in-Some.pid a.addr a.kind c.access.ensures.read (λ none. (c.access.ensures.calm none).swap) c.access.ensures.slotted c.access.ensures.asks
+          c.access.new.core c.access.ensures.tables c.access.ensures.calm (writes_none a.kind c.access.new.core) reply (λ stall e. cc)
+          (λ done. (placed.root, c.in-Ok.place, placed.lives, placed.place)));
     }
 
 pub returns-in-Ok-clause-walked : goal.returns-in-Ok-clause-walked
 returns-in-Ok-clause-walked g c place walked =
     let a = c.args in
     (c.access.ensures.walked place (subst (λ (p : ℕ). IsWalked (picture_of a.core.now) p a.addr a.width a.kind place) (sym c.in-Some.ensures.found.0) walked)).0
-
-pub returns-in-Ok-clause-asks : goal.returns-in-Ok-clause-asks
-returns-in-Ok-clause-asks g c =
-    let a = c.args in
-    let reply = Value a.width c.read_number-value.result in
-    subst (λ (p : ℕ). AsksFor g.D.SectorDisk g.E.SectorDisk a.core.now c.access.new.core p a.addr a.kind reply) c.in-Some.ensures.found.0
-    (asks_unstalled g.D.SectorDisk g.E.SectorDisk a.core.now c.access.new.core c.in-Some.pid a.addr a.kind c.access.ensures.read (λ none. (c.access.ensures.calm none).swap) c.access.ensures.slotted c.access.ensures.asks
-    c.access.new.core c.access.ensures.tables c.access.ensures.calm (writes_none a.kind c.access.new.core) reply (λ stall e. cc))
 
 pub returns-in-Ok-clause-comes : goal.returns-in-Ok-clause-comes
 returns-in-Ok-clause-comes g c = record {
@@ -87,6 +85,7 @@ returns-in-Err-clause-keeps g c =
     let goes = c.access.ensures.proceeds in
     record {
       accounts = record {
+        sound = search rules;
         room = goes.room;
         denied = subst (λ (r : Answer). is_denial (reply_of r) ≡ true → c.access.new.core ≡ a.core.now) (sym c.refused.ensures)
             (refused_idle g.D.SectorDisk g.E.SectorDisk a.core.now c.access.new.core c.in-Some.pid a.addr a.width a.kind c.in-Err.refusal c.in-Err.ensures.refusal);
@@ -97,20 +96,16 @@ returns-in-Err-clause-keeps g c =
       others = subst (λ (p : ℕ). KeepsOtherViews (picture_of a.core.now) (picture_of c.access.new.core) p (a.addr / 4096)) c.in-Some.ensures.found.0 c.access.ensures.others;
       reads = goes.reads;
       device = goes.device;
+      asks = subst (λ (r : Answer). AsksFor g.D.SectorDisk g.E.SectorDisk a.core.now c.access.new.core a.pid a.addr a.kind (reply_of r)) (sym c.refused.ensures)
+          (subst (λ (p : ℕ). AsksFor g.D.SectorDisk g.E.SectorDisk a.core.now c.access.new.core p a.addr a.kind (reply_of (reply_for c.in-Err.refusal))) c.in-Some.ensures.found.0
+          (asks_refused g.D.SectorDisk g.E.SectorDisk a.core.now c.access.new.core c.in-Some.pid a.addr a.kind c.access.ensures.read (λ none. (c.access.ensures.calm none).swap) c.access.ensures.slotted c.access.ensures.asks
+          c.access.new.core c.access.ensures.tables c.access.ensures.calm (writes_none a.kind c.access.new.core) a.width c.in-Err.refusal c.in-Err.ensures.refusal));
     }
 
 pub returns-in-Err-clause-walked : goal.returns-in-Err-clause-walked
 returns-in-Err-clause-walked g c place walked =
     let a = c.args in
     (c.access.ensures.walked place (subst (λ (p : ℕ). IsWalked (picture_of a.core.now) p a.addr a.width a.kind place) (sym c.in-Some.ensures.found.0) walked)).0
-
-pub returns-in-Err-clause-asks : goal.returns-in-Err-clause-asks
-returns-in-Err-clause-asks g c =
-    let a = c.args in
-    subst (λ (r : Answer). AsksFor g.D.SectorDisk g.E.SectorDisk a.core.now c.access.new.core a.pid a.addr a.kind (reply_of r)) (sym c.refused.ensures)
-    (subst (λ (p : ℕ). AsksFor g.D.SectorDisk g.E.SectorDisk a.core.now c.access.new.core p a.addr a.kind (reply_of (reply_for c.in-Err.refusal))) c.in-Some.ensures.found.0
-    (asks_refused g.D.SectorDisk g.E.SectorDisk a.core.now c.access.new.core c.in-Some.pid a.addr a.kind c.access.ensures.read (λ none. (c.access.ensures.calm none).swap) c.access.ensures.slotted c.access.ensures.asks
-    c.access.new.core c.access.ensures.tables c.access.ensures.calm (writes_none a.kind c.access.new.core) a.width c.in-Err.refusal c.in-Err.ensures.refusal))
 
 pub returns-in-Err-clause-comes : goal.returns-in-Err-clause-comes
 returns-in-Err-clause-comes g c = record {
@@ -134,7 +129,15 @@ returns-in-Err-clause-comes g c = record {
 pub returns-in_default-clause-walked : goal.returns-in_default-clause-walked
 returns-in_default-clause-walked g c place walked = refl
 
-pub returns-in_default-clause-asks : goal.returns-in_default-clause-asks
-returns-in_default-clause-asks g c =
-    asks_unstalled g.D.SectorDisk g.E.SectorDisk c.args.core.now c.args.core.now c.args.pid c.args.addr c.args.kind (inl refl) (λ none. refl) (slotted_same _ _ (picture_of c.args.core.now)) (asks_same g.D.SectorDisk g.E.SectorDisk c.args.core.now c.args.core.now c.args.pid (c.args.addr / 4096) c.args.kind refl refl)
-    c.args.core.now (λ n table. inl table) (λ none. calm_same c.args.core.now c.args.pid (c.args.addr / 4096)) (writes_none c.args.kind c.args.core.now) (Refused ESRCH) (λ stall e. cc)
+pub returns-in_default-clause-keeps : goal.returns-in_default-clause-keeps
+returns-in_default-clause-keeps g c =
+    let a = c.args in
+    record {
+      accounts = search rules;
+      others = search rules;
+      reads = search rules;
+      device = search rules;
+      asks = asks_unstalled g.D.SectorDisk g.E.SectorDisk a.core.now a.core.now a.pid a.addr a.kind (inl refl) (λ none. refl) (slotted_same _ _ (picture_of a.core.now)) (asks_same g.D.SectorDisk g.E.SectorDisk a.core.now a.core.now a.pid (a.addr / 4096) a.kind refl refl)
+          a.core.now (λ n table. inl table) (λ none. calm_same a.core.now a.pid (a.addr / 4096)) (writes_none a.kind a.core.now) (Refused ESRCH) (λ stall e. cc)
+          (λ done. absurd (let never : true ≡ false = done in cc));
+    }

@@ -18,7 +18,7 @@ use Rattle.vm_types.specs.declared.reply.Reply.TheVariants.{Done, Refused}
 use Rattle.vm_types.specs.Access.{with_number}
 use Rattle.vm_types.specs.Width.{byte_count}
 use Rattle.vm_types.specs.Replies.{reply_of}
-use Rattle.spaces.specs.Accesses.{reply_for, AsksFor}
+use Rattle.spaces.specs.Accesses.{reply_for, AsksFor, LetsThrough}
 use Rattle.spaces.specs.Calls.{Comes, IsCaused}
 use Rattle.spaces.specs.Idle.{is_denial}
 use Rattle.spaces.proofs.Asking.{asks_refused, asks_unstalled, no_root, one_end, one_place, writes_none, writes_walked}
@@ -37,33 +37,46 @@ returns-in-Ok-clause-keeps g c =
     let a = c.args in
     let old = picture_of a.core.now in
     let mid = picture_of c.access.new.core in
-    let placed = c.in-Ok.ensures.placed in
-    let here = subst (λ (p : ℕ). IsOpenToStore mid p (a.addr / 4096) placed.seen.attr.backing (c.in-Ok.place.0 / 4096)) c.in-Some.ensures.found.0 placed.usable in
-    let usable = subst (λ (k : ℕ). IsOpenToStore mid a.pid (a.addr / 4096) placed.seen.attr.backing k) (sym c.frame_of-frame.ensures) here in
-    let others = subst (λ (p : ℕ). KeepsOtherViews old mid p (a.addr / 4096)) c.in-Some.ensures.found.0 c.access.ensures.others in
     let goes = c.access.ensures.proceeds in
+    let placed = c.in-Ok.ensures.placed in
+    let n = c.frame_of-frame.result.0 in
+    let found = c.in-Some.ensures.found.0 in
+    let open_there = subst (λ (k : ℕ). IsOpenToStore mid c.in-Some.pid (a.addr / 4096) placed.seen.attr.backing k) (sym c.frame_of-frame.ensures) placed.usable in
+    let usable = subst (λ (p : ℕ). IsOpenToStore mid p (a.addr / 4096) placed.seen.attr.backing n) found open_there in
+    let others = subst (λ (p : ℕ). KeepsOtherViews old mid p (a.addr / 4096)) found c.access.ensures.others in
+    let read = subst (λ (p : ℕ). (c.access.new.core.store ≡ a.core.now.store) ⊎ ReadsHome old p (a.addr / 4096)) found c.access.ensures.read in
+    let slots = subst (λ (p : ℕ). (Wants old p (a.addr / 4096) Accesses.Store → ⊥) → c.access.new.core.swap ≡ a.core.now.swap) found (λ none. (c.access.ensures.calm none).swap) in
+    let slotted = subst (λ (p : ℕ). KeepsSlotted (ShowsFile old p (a.addr / 4096)) (IsThatPage p (a.addr / 4096)) old mid) found c.access.ensures.slotted in
+    let sectors = subst (λ (p : ℕ). AsksForPage g.D.SectorDisk g.E.SectorDisk a.core.now c.access.new.core p (a.addr / 4096) Accesses.Store) found c.access.ensures.asks in
+    let tables = subst (λ (p : ℕ). LinksTables old mid p (a.addr / 4096)) found c.access.ensures.tables in
+    let calm = subst (λ (p : ℕ). (Wants old p (a.addr / 4096) Accesses.Store → ⊥) → IsCalm a.core.now c.access.new.core p (a.addr / 4096)) found c.access.ensures.calm in
+    let written = writes_walked c.access.new.core c.access.new.core _ n n (a.addr % 4096) a.stored c.write_number.new.page refl refl
+    (record { store = refl; swap = refl; cache = refl; roots = refl; regions = refl; page_of = refl }) refl refl refl
+    (c.write_number.ensures
+    ∙ ap (λ (b : List ℕ). with_number b (a.addr % 4096) (byte_count a.stored.width) a.stored.value) c.bytes_mut-page.ensures.value) in
     record {
-      accounts = record { room = room_stored (picture_of a.core.now) (picture_of c.access.new.core) _ c.frame_of-frame.result.0 c.write_number.new.page goes.room refl refl; denied = search rules; caused = search rules };
-      others = others_stored old mid _ a.pid (a.addr / 4096) placed.seen.attr.backing c.frame_of-frame.result.0 c.write_number.new.page c.access.ensures.proceeds.fit
+      accounts = record {
+        sound = record {
+          ready = goes.ready;
+          swap = goes.swap;
+          fit = fit_stored mid _ a.pid (a.addr / 4096) placed.seen.attr.backing n c.write_number.new.page goes.fit usable refl
+              (record { slots = refl; root = λ q. refl; at = λ q k. refl; page_of = λ m. refl; place = λ p. refl; touched = λ p. refl; files = λ f. refl });
+        };
+        room = room_stored old mid _ n c.write_number.new.page goes.room refl refl;
+        denied = search rules;
+        caused = search rules;
+      };
+      others = others_stored old mid _ a.pid (a.addr / 4096) placed.seen.attr.backing n c.write_number.new.page goes.fit
           usable refl (record { slots = refl; root = λ q. refl; at = λ q k. refl; page_of = λ m. refl; place = λ p. refl; touched = λ p. refl; files = λ f. refl })
           others;
       reads = goes.reads;
       device = goes.device;
-    }
-
-pub returns-in-Ok-clause-sound : goal.returns-in-Ok-clause-sound
-returns-in-Ok-clause-sound g c =
-    let a = c.args in
-    let mid = c.access.new.core in
-    let n = c.frame_of-frame.result.0 in
-    let placed = c.in-Ok.ensures.placed in
-    let goes = c.access.ensures.proceeds in
-    let usable = subst (λ (k : ℕ). IsOpenToStore (picture_of mid) c.in-Some.pid (a.addr / 4096) placed.seen.attr.backing k) (sym c.frame_of-frame.ensures) placed.usable in
-    record {
-      ready = goes.ready;
-      swap = goes.swap;
-      fit = fit_stored (picture_of mid) _ c.in-Some.pid (a.addr / 4096) placed.seen.attr.backing n c.write_number.new.page goes.fit usable refl
-          (record { slots = refl; root = λ q. refl; at = λ q k. refl; page_of = λ m. refl; place = λ p. refl; touched = λ p. refl; files = λ f. refl });
+      asks = asks_unstalled g.D.SectorDisk g.E.SectorDisk a.core.now _ a.pid a.addr Accesses.Store read slots
+          (slotted_stored old mid _ a.pid (a.addr / 4096) placed.seen.attr.backing n c.write_number.new.page
+          (ShowsFile old a.pid (a.addr / 4096)) (IsThatPage a.pid (a.addr / 4096)) goes.fit usable refl
+          (record { slots = refl; root = λ q. refl; at = λ q k. refl; page_of = λ m. refl; place = λ p. refl; touched = λ p. refl; files = λ f. refl }) slotted)
+          (record { store = sectors.store; swap = sectors.swap }) c.access.new.core tables calm (inr (n, a.addr % 4096, a.stored, written)) Done (λ stall e. cc)
+          (λ done. subst (λ (p : ℕ). LetsThrough mid p a.addr Accesses.Store) found (placed.root, c.in-Ok.place, placed.lives, placed.place));
     }
 
 pub returns-in-Ok-clause-comes : goal.returns-in-Ok-clause-comes
@@ -93,32 +106,6 @@ returns-in-Ok-clause-walked g c place walked =
     (c.write_number.ensures
     ∙ ap (λ (b : List ℕ). with_number b (a.addr % 4096) (byte_count a.stored.width) a.stored.value) c.bytes_mut-page.ensures.value)
 
-pub returns-in-Ok-clause-asks : goal.returns-in-Ok-clause-asks
-returns-in-Ok-clause-asks g c =
-    let a = c.args in
-    let old = picture_of a.core.now in
-    let read = subst (λ (p : ℕ). (c.access.new.core.store ≡ a.core.now.store) ⊎ ReadsHome old p (a.addr / 4096)) c.in-Some.ensures.found.0
-    c.access.ensures.read in
-    let slots = subst (λ (p : ℕ). (Wants old p (a.addr / 4096) Accesses.Store → ⊥) → c.access.new.core.swap ≡ a.core.now.swap) c.in-Some.ensures.found.0
-    (λ none. (c.access.ensures.calm none).swap) in
-    let mid = picture_of c.access.new.core in
-    let placed = c.in-Ok.ensures.placed in
-    let slotted = subst (λ (p : ℕ). KeepsSlotted (ShowsFile old p (a.addr / 4096)) (IsThatPage p (a.addr / 4096)) old mid) c.in-Some.ensures.found.0 c.access.ensures.slotted in
-    let sectors = subst (λ (p : ℕ). AsksForPage g.D.SectorDisk g.E.SectorDisk a.core.now c.access.new.core p (a.addr / 4096) Accesses.Store) c.in-Some.ensures.found.0 c.access.ensures.asks in
-    let usable = subst (λ (k : ℕ). IsOpenToStore mid c.in-Some.pid (a.addr / 4096) placed.seen.attr.backing k) (sym c.frame_of-frame.ensures) placed.usable in
-    let tables = subst (λ (p : ℕ). LinksTables old mid p (a.addr / 4096)) c.in-Some.ensures.found.0 c.access.ensures.tables in
-    let calm = subst (λ (p : ℕ). (Wants old p (a.addr / 4096) Accesses.Store → ⊥) → IsCalm a.core.now c.access.new.core p (a.addr / 4096)) c.in-Some.ensures.found.0 c.access.ensures.calm in
-    let n = c.frame_of-frame.result.0 in
-    let written = writes_walked c.access.new.core c.access.new.core _ n n (a.addr % 4096) a.stored c.write_number.new.page refl refl
-    (record { store = refl; swap = refl; cache = refl; roots = refl; regions = refl; page_of = refl }) refl refl refl
-    (c.write_number.ensures
-    ∙ ap (λ (b : List ℕ). with_number b (a.addr % 4096) (byte_count a.stored.width) a.stored.value) c.bytes_mut-page.ensures.value) in
-    asks_unstalled g.D.SectorDisk g.E.SectorDisk a.core.now _ a.pid a.addr Accesses.Store read slots
-    (slotted_stored old mid _ c.in-Some.pid (a.addr / 4096) placed.seen.attr.backing c.frame_of-frame.result.0 c.write_number.new.page
-    (ShowsFile old a.pid (a.addr / 4096)) (IsThatPage a.pid (a.addr / 4096)) c.access.ensures.proceeds.fit usable refl
-    (record { slots = refl; root = λ q. refl; at = λ q k. refl; page_of = λ m. refl; place = λ p. refl; touched = λ p. refl; files = λ f. refl }) slotted)
-    (record { store = sectors.store; swap = sectors.swap }) c.access.new.core tables calm (inr (n, a.addr % 4096, a.stored, written)) Done (λ stall e. cc)
-
 pub returns-in-Err-clause-comes : goal.returns-in-Err-clause-comes
 returns-in-Err-clause-comes g c = λ s shows keeps swaps.
     let a = c.args in
@@ -134,6 +121,7 @@ returns-in-Err-clause-keeps g c =
     let goes = c.access.ensures.proceeds in
     record {
       accounts = record {
+        sound = search rules;
         room = goes.room;
         denied = subst (λ (r : Answer). is_denial (reply_of r) ≡ true → c.access.new.core ≡ a.core.now) (sym c.refused.ensures)
             (refused_idle g.D.SectorDisk g.E.SectorDisk a.core.now c.access.new.core c.in-Some.pid a.addr a.stored.width Accesses.Store c.in-Err.refusal c.in-Err.ensures.refusal);
@@ -144,6 +132,10 @@ returns-in-Err-clause-keeps g c =
       others = subst (λ (p : ℕ). KeepsOtherViews (picture_of a.core.now) (picture_of c.access.new.core) p (a.addr / 4096)) c.in-Some.ensures.found.0 c.access.ensures.others;
       reads = goes.reads;
       device = goes.device;
+      asks = subst (λ (r : Answer). AsksFor g.D.SectorDisk g.E.SectorDisk a.core.now c.access.new.core a.pid a.addr Accesses.Store (reply_of r)) (sym c.refused.ensures)
+          (subst (λ (p : ℕ). AsksFor g.D.SectorDisk g.E.SectorDisk a.core.now c.access.new.core p a.addr Accesses.Store (reply_of (reply_for c.in-Err.refusal))) c.in-Some.ensures.found.0
+          (asks_refused g.D.SectorDisk g.E.SectorDisk a.core.now c.access.new.core c.in-Some.pid a.addr Accesses.Store c.access.ensures.read (λ none. (c.access.ensures.calm none).swap) c.access.ensures.slotted c.access.ensures.asks
+          c.access.new.core c.access.ensures.tables c.access.ensures.calm (writes_none Accesses.Store c.access.new.core) a.stored.width c.in-Err.refusal c.in-Err.ensures.refusal));
     }
 
 pub returns-in-Err-clause-walked : goal.returns-in-Err-clause-walked
@@ -152,23 +144,23 @@ returns-in-Err-clause-walked g c place walked =
     let granted = c.access.ensures.walked place (subst (λ (p : ℕ). IsWalked (picture_of a.core.now) p a.addr a.stored.width Accesses.Store place) (sym c.in-Some.ensures.found.0) walked) in
     absurd (one_end c.access.result place c.in-Err.refusal c.in-Err.is granted.1)
 
-pub returns-in-Err-clause-asks : goal.returns-in-Err-clause-asks
-returns-in-Err-clause-asks g c =
-    let a = c.args in
-    subst (λ (r : Answer). AsksFor g.D.SectorDisk g.E.SectorDisk a.core.now c.access.new.core a.pid a.addr Accesses.Store (reply_of r)) (sym c.refused.ensures)
-    (subst (λ (p : ℕ). AsksFor g.D.SectorDisk g.E.SectorDisk a.core.now c.access.new.core p a.addr Accesses.Store (reply_of (reply_for c.in-Err.refusal))) c.in-Some.ensures.found.0
-    (asks_refused g.D.SectorDisk g.E.SectorDisk a.core.now c.access.new.core c.in-Some.pid a.addr Accesses.Store c.access.ensures.read (λ none. (c.access.ensures.calm none).swap) c.access.ensures.slotted c.access.ensures.asks
-    c.access.new.core c.access.ensures.tables c.access.ensures.calm (writes_none Accesses.Store c.access.new.core) a.stored.width c.in-Err.refusal c.in-Err.ensures.refusal))
-
 pub returns-in_default-clause-walked : goal.returns-in_default-clause-walked
 returns-in_default-clause-walked g c place walked =
     let dead : is_live (picture_of c.args.core.now) c.args.pid ≡ false = sym c.live.ensures.known ∙ ap is_some c.in_default.is in
     absurd (no_root (picture_of c.args.core.now) c.args.pid walked.root dead walked.lives)
 
-pub returns-in_default-clause-asks : goal.returns-in_default-clause-asks
-returns-in_default-clause-asks g c =
-    asks_unstalled g.D.SectorDisk g.E.SectorDisk c.args.core.now c.args.core.now c.args.pid c.args.addr Accesses.Store (inl refl) (λ none. refl) (slotted_same _ _ (picture_of c.args.core.now)) (asks_same g.D.SectorDisk g.E.SectorDisk c.args.core.now c.args.core.now c.args.pid (c.args.addr / 4096) Accesses.Store refl refl)
-    c.args.core.now (λ n table. inl table) (λ none. calm_same c.args.core.now c.args.pid (c.args.addr / 4096)) (writes_none Accesses.Store c.args.core.now) (Refused ESRCH) (λ stall e. cc)
+pub returns-in_default-clause-keeps : goal.returns-in_default-clause-keeps
+returns-in_default-clause-keeps g c =
+    let a = c.args in
+    record {
+      accounts = search rules;
+      others = search rules;
+      reads = search rules;
+      device = search rules;
+      asks = asks_unstalled g.D.SectorDisk g.E.SectorDisk a.core.now a.core.now a.pid a.addr Accesses.Store (inl refl) (λ none. refl) (slotted_same _ _ (picture_of a.core.now)) (asks_same g.D.SectorDisk g.E.SectorDisk a.core.now a.core.now a.pid (a.addr / 4096) Accesses.Store refl refl)
+          a.core.now (λ n table. inl table) (λ none. calm_same a.core.now a.pid (a.addr / 4096)) (writes_none Accesses.Store a.core.now) (Refused ESRCH) (λ stall e. cc)
+          (λ done. absurd (let never : true ≡ false = done in cc));
+    }
 
 sound_written : (t : FrameTable) (n : ℕ) (w : List ℕ) → IsHeld t n → IsSound t → IsSound (with_bytes t n w)
 sound_written t n w held sound =

@@ -47,21 +47,22 @@ returns-clause-comes g c = λ s shows reads swaps.
     c.clear_row.ensures.files
 
 pub returns-clause-keeps : goal.returns-clause-keeps
-returns-clause-keeps g c = record {
-  accounts = record { room = room_same c.args.core.now c.clear_row.new.core c.clear_row.ensures.rest.cache; denied = search rules; caused = search rules };
-  devices = search rules;
-}
-
-pub returns-clause-sound : goal.returns-clause-sound
-returns-clause-sound g c =
-    sound_kept c.args.core.now c.clear_row.new.core (room_same c.args.core.now c.clear_row.new.core c.clear_row.ensures.rest.cache) g.D.SectorDisk g.E.SectorDisk
-    c.clear_row.ensures.rest.store c.clear_row.ensures.rest.pages c.clear_row.ensures.fit c.requires.sound
-
-pub returns-clause-takes : goal.returns-clause-takes
-returns-clause-takes g c =
+returns-clause-keeps g c =
+    let old = c.args.core.now in
+    let new = c.clear_row.new.core in
     let cleared = c.clear_row.ensures in
-    subst (λ (p : ℕ). TakesNothing (picture_of c.args.core.now) (picture_of c.clear_row.new.core) p 0 0) c.in-Some.ensures.found.0
-    (takes_cleared c.args.core.now c.clear_row.new.core c.in-Some.pid 0 0 c.requires.sound.fit cleared.fit cleared.rest.roots cleared.tables cleared.rest.cache cleared.others)
+    let room = room_same old new cleared.rest.cache in
+    record {
+      accounts = record {
+        sound = sound_kept old new room g.D.SectorDisk g.E.SectorDisk cleared.rest.store cleared.rest.pages cleared.fit c.requires.sound;
+        room = room;
+        denied = search rules;
+        caused = search rules;
+      };
+      devices = search rules;
+      takes = subst (λ (p : ℕ). TakesNothing (picture_of old) (picture_of new) p 0 0) c.in-Some.ensures.found.0
+          (takes_cleared old new c.in-Some.pid 0 0 c.requires.sound.fit cleared.fit cleared.rest.roots cleared.tables cleared.rest.cache cleared.others);
+    }
 
 pub returns-clause-beside : goal.returns-clause-beside
 returns-clause-beside g c =

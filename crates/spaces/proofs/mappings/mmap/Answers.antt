@@ -1,6 +1,7 @@
 use Rattle.vm_types.proofs.Modes.{sizes}
 use Rattle.std.proofs.Common.{ℕ, ◌*◌, ◌/◌, ◌≡◌, Option, Some, subst, arith, rules}
 use Rattle.regions.specs.RunList.{attr_at}
+use Rattle.fault.specs.Changes.{KeepsRoom}
 use Rattle.ranges.specs.Rows.{without_maps, KeepsNamed, RemapsRow}
 use Rattle.residency.specs.Picture.{picture_of}
 use Rattle.vm_types.specs.declared.region.Attr.{Attr}
@@ -78,31 +79,30 @@ returns-in-Err-clause-comes g c = λ s shows reads swaps.
     c.in-Some.ensures.found.0 c.in-Err.ensures.err)
 
 pub returns-in-Ok-clause-keeps : goal.returns-in-Ok-clause-keeps
-returns-in-Ok-clause-keeps g c = record {
-  accounts = record { room = record { frames = c.remap.ensures.frames; slots = c.remap.ensures.slots.total }; denied = search rules; caused = search rules };
-  devices = c.remap.ensures.devices;
-}
-
-pub returns-in-Ok-clause-sound : goal.returns-in-Ok-clause-sound
-returns-in-Ok-clause-sound g c =
-    sound_kept c.args.core.now c.remap.new.core (record { frames = c.remap.ensures.frames; slots = c.remap.ensures.slots.total }) g.D.SectorDisk g.E.SectorDisk
-    c.remap.ensures.devices.store c.remap.ensures.devices.pages c.remap.ensures.fit c.requires.sound
-
-pub returns-in-Ok-clause-takes : goal.returns-in-Ok-clause-takes
-returns-in-Ok-clause-takes g c =
+returns-in-Ok-clause-keeps g c =
     let a = c.args in
-    let old = picture_of a.core.now in
-    let new = picture_of c.remap.new.core in
+    let old = a.core.now in
+    let new = c.remap.new.core in
     let pid = c.in-Some.pid in
     let first = c.in-Ok.first in
     let pages = c.div_ceil-pages.result in
     let count : pages ≡ page_count a.request.len = omega (arith, c.div_ceil-pages.ensures) in
     let place : first ≡ first * 4096 / 4096 = omega arith in
     let done = c.remap.ensures in
-    subst (λ (p : ℕ). TakesNothing old new p (first * 4096 / 4096) (page_count a.request.len)) c.in-Some.ensures.found.0
-    (subst (λ (n : ℕ). TakesNothing old new pid n (page_count a.request.len)) place
-    (subst (λ (n : ℕ). TakesNothing old new pid first n) count
-    (takes_remapped a.core.now c.remap.new.core pid first pages c.requires.sound.fit done.fit done.roots done.tables done.files done.others)))
+    let room : KeepsRoom (picture_of old) (picture_of new) = record { frames = done.frames; slots = done.slots.total } in
+    record {
+      accounts = record {
+        sound = sound_kept old new room g.D.SectorDisk g.E.SectorDisk done.devices.store done.devices.pages done.fit c.requires.sound;
+        room = room;
+        denied = search rules;
+        caused = search rules;
+      };
+      devices = done.devices;
+      takes = subst (λ (p : ℕ). TakesNothing (picture_of old) (picture_of new) p (first * 4096 / 4096) (page_count a.request.len)) c.in-Some.ensures.found.0
+          (subst (λ (n : ℕ). TakesNothing (picture_of old) (picture_of new) pid n (page_count a.request.len)) place
+          (subst (λ (n : ℕ). TakesNothing (picture_of old) (picture_of new) pid first n) count
+          (takes_remapped old new pid first pages c.requires.sound.fit done.fit done.roots done.tables done.files done.others)));
+    }
 
 pub returns-in-Ok-clause-beside : goal.returns-in-Ok-clause-beside
 returns-in-Ok-clause-beside g c =

@@ -27,7 +27,7 @@ pub replace_into-requires-clause-file_pages : goal.replace_into-requires-clause-
 replace_into-requires-clause-file_pages g c =
     let a = c.args in
     let high = c.in-Some.ensures.user.1 in
-    subst (λ (x : Attr). backing_fits x.backing a.mapping.pages) (sym c.first_attr-attr.ensures.attr) (fits_backing g.M.Levels.mode a.mapping.source _ a.mapping.pages c.requires.mappable.fits (omega (arith, high)))
+    subst (λ (x : Attr). backing_fits x.backing a.mapping.pages) (sym c.first_attr-attr.ensures.attr) (fits_backing g.M.Levels.mode a.mapping.source _ a.mapping.pages c.requires.fits (omega (arith, high)))
 
 pub returns-in-Err-clause-err : goal.returns-in-Err-clause-err
 returns-in-Err-clause-err g c =

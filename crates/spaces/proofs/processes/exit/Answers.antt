@@ -1,5 +1,5 @@
 use Rattle.vm_types.specs.Limits.{user_end}
-use Rattle.std.proofs.Common.{ℕ, subst}
+use Rattle.std.proofs.Common.{ℕ, rules, subst}
 use Rattle.lifecycle.specs.Changes.{RemovesProcess}
 use Rattle.ranges.specs.Rows.{KeepsNamed, without_maps}
 use Rattle.residency.specs.Picture.{picture_of}
@@ -18,15 +18,20 @@ returns-clause-comes g c = λ s shows reads swaps.
     (subst (λ (p : ℕ). KeepsNamed (without_maps (picture_of c.args.core.now).at p 0 (user_end g.M.Levels.mode)) (picture_of c.args.core.now) (picture_of c.exit.new.core)) c.in-Some.ensures.found.0 c.exit.ensures.files)
     (subst (λ (p : ℕ). RemovesProcess (picture_of c.args.core.now) (picture_of c.exit.new.core) p) c.in-Some.ensures.found.0 c.exit.ensures.removed)
 
-pub returns-clause-sound : goal.returns-clause-sound
-returns-clause-sound g c =
-    sound_kept c.args.core.now c.exit.new.core c.exit.ensures.room g.D.SectorDisk g.E.SectorDisk
-    c.exit.ensures.devices.store c.exit.ensures.devices.pages c.exit.ensures.fit c.requires.sound
-
-pub returns-clause-takes : goal.returns-clause-takes
-returns-clause-takes g c =
-    let old = picture_of c.args.core.now in
-    let new = picture_of c.exit.new.core in
+pub returns-clause-keeps : goal.returns-clause-keeps
+returns-clause-keeps g c =
+    let old = c.args.core.now in
+    let new = c.exit.new.core in
+    let ends = c.exit.ensures in
     let end = user_end g.M.Levels.mode in
-    subst (λ (p : ℕ). TakesNothing old new p 0 end) c.in-Some.ensures.found.0
-    (takes_named old new c.in-Some.pid 0 end c.exit.ensures.frames c.exit.ensures.files c.exit.ensures.others)
+    record {
+      accounts = record {
+        sound = sound_kept old new ends.room g.D.SectorDisk g.E.SectorDisk ends.devices.store ends.devices.pages ends.fit c.requires.sound;
+        room = ends.room;
+        denied = search rules;
+        caused = search rules;
+      };
+      devices = ends.devices;
+      takes = subst (λ (p : ℕ). TakesNothing (picture_of old) (picture_of new) p 0 end) c.in-Some.ensures.found.0
+          (takes_named (picture_of old) (picture_of new) c.in-Some.pid 0 end ends.frames ends.files ends.others);
+    }

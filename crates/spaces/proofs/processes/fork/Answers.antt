@@ -36,6 +36,7 @@ returns-in-Err-clause-keeps g c =
     let said = c.fork.ensures in
     record {
       accounts = record {
+        sound = search rules;
         room = said.room;
         denied = search rules;
         caused = store_kept_caused g.D.SectorDisk g.E.SectorDisk c.args.core.now c.fork.new.core c.in-Err.stall said.store said.device.later c.in-Err.ensures.cause;

@@ -1,13 +1,13 @@
 use Rattle.vm_types.specs.Limits.{user_end}
-use Rattle.std.proofs.Common.{◌-◌, ◌≤◌, ◌^◌}
+use Rattle.std.proofs.Common.{◌-◌, ◌≤◌}
 use Rattle.file_store.specs.Store.{files_of}
 use Rattle.spaces.proofs.Guards.{Unguarded}
 use Rattle.spaces.proofs.protections.has_guarded.Given as goal
 
 abbrev pub invariant-loop-run : goal.invariant-loop-run
 invariant-loop-run g l = record {
-  from : l.first ≤ l.page;
-  past : Unguarded g.M.Levels.mode (files_of l.store) l.regions l.first l.page;
+  from : l.fn.range.first ≤ l.page;
+  past : Unguarded g.M.Levels.mode (files_of l.store) l.regions l.fn.range.first l.page;
 }
 
 abbrev pub decreases-loop-run : goal.decreases-loop-run

@@ -53,21 +53,22 @@ returns-in-Err-clause-comes g c = λ s shows reads swaps.
     c.in-Err.errno c.in-Err.ensures.err
 
 pub returns-in-Ok-clause-keeps : goal.returns-in-Ok-clause-keeps
-returns-in-Ok-clause-keeps g c = record {
-  accounts = record { room = room_same c.args.core.now c.reprotect.new.core c.reprotect.ensures.cache; denied = search rules; caused = search rules };
-  devices = search rules;
-}
-
-pub returns-in-Ok-clause-sound : goal.returns-in-Ok-clause-sound
-returns-in-Ok-clause-sound g c =
-    sound_kept c.args.core.now c.reprotect.new.core (room_same c.args.core.now c.reprotect.new.core c.reprotect.ensures.cache) g.D.SectorDisk g.E.SectorDisk
-    c.reprotect.ensures.store (ap (λ (s : Swap _). s.pages) c.reprotect.ensures.swap) c.reprotect.ensures.fit c.requires.sound
-
-pub returns-in-Ok-clause-takes : goal.returns-in-Ok-clause-takes
-returns-in-Ok-clause-takes g c =
+returns-in-Ok-clause-keeps g c =
+    let old = c.args.core.now in
+    let new = c.reprotect.new.core in
     let done = c.reprotect.ensures in
-    subst (λ (p : ℕ). TakesNothing (picture_of c.args.core.now) (picture_of c.reprotect.new.core) p 0 0) c.in-Some.ensures.found.0
-    (takes_rewritten c.args.core.now c.reprotect.new.core c.in-Some.pid 0 0 done.frames done.cache done.others)
+    let room = room_same old new done.cache in
+    record {
+      accounts = record {
+        sound = sound_kept old new room g.D.SectorDisk g.E.SectorDisk done.store (ap (λ (s : Swap _). s.pages) done.swap) done.fit c.requires.sound;
+        room = room;
+        denied = search rules;
+        caused = search rules;
+      };
+      devices = search rules;
+      takes = subst (λ (p : ℕ). TakesNothing (picture_of old) (picture_of new) p 0 0) c.in-Some.ensures.found.0
+          (takes_rewritten old new c.in-Some.pid 0 0 done.frames done.cache done.others);
+    }
 
 pub returns-in-Ok-clause-beside : goal.returns-in-Ok-clause-beside
 returns-in-Ok-clause-beside g c =

@@ -35,7 +35,7 @@ returns-in-Ok-clause-ok g c =
       fine = tested_is g.M.Levels.mode (files_of c.args.store.now) runs c.args.range.first c.args.range.pages c.args.prot None
           (none_holds (is_covered (attr_at runs) c.args.range.first c.args.range.pages) (denies_stores (files_of c.args.store.now) (space_of runs) c.args.range.first c.args.range.pages c.args.prot) _
           covered (sym c.denies_stores.ensures ∙ c.if-denies_stores.false) under);
-      high = covered_inside g.M.Levels.mode (attr_at runs) (attr_at c.protect_into.new.next) c.args.range.first c.args.range.pages (kept c.args.prot) c.in-Ok.ensures.user_after c.requires.some map covered;
+      high = covered_inside g.M.Levels.mode (attr_at runs) (attr_at c.protect_into.new.next) c.args.range.first c.args.range.pages (kept c.args.prot) c.in-Ok.ensures.user_after c.requires map covered;
       map = map;
     }
 

@@ -1,6 +1,7 @@
 use Rattle.std.proofs.Common.{ℕ, ◌+◌, ◌-◌, ◌/◌, ◌%◌, ◌≡◌, ◌≢◌, ◌<◌, ◌≤◌, min, sym, ap, ◌∙◌, subst, arith, rules}
 use Rattle.regions.specs.RunList.{attr_at}
 use Rattle.regions.proofs.PermissionLemmas.{reads_removed, reads_same}
+use Rattle.fault.specs.Changes.{KeepsRoom}
 use Rattle.ranges.specs.Rows.{without_maps, KeepsNamed, RemapsRow}
 use Rattle.residency.specs.Picture.{picture_of}
 use Rattle.vm_types.specs.Checks.{page_count}
@@ -75,36 +76,35 @@ returns-in-Err-clause-comes g c = λ s shows reads swaps.
     runs (subst (λ (p : ℕ). (page : ℕ) → attr_at runs page ≡ old.at p page) c.in-Some.ensures.found.0 c.regions-regions.ensures) pages count many
 
 pub returns-in-Ok-clause-keeps : goal.returns-in-Ok-clause-keeps
-returns-in-Ok-clause-keeps g c = record {
-  accounts = record { room = record { frames = c.remap.ensures.frames; slots = c.remap.ensures.slots.total }; denied = search rules; caused = search rules };
-  devices = c.remap.ensures.devices;
-}
-
-pub returns-in-Ok-clause-sound : goal.returns-in-Ok-clause-sound
-returns-in-Ok-clause-sound g c =
-    sound_kept c.args.core.now c.remap.new.core (record { frames = c.remap.ensures.frames; slots = c.remap.ensures.slots.total }) g.D.SectorDisk g.E.SectorDisk
-    c.remap.ensures.devices.store c.remap.ensures.devices.pages c.remap.ensures.fit c.requires.sound
-
-pub returns-in-Ok-clause-takes : goal.returns-in-Ok-clause-takes
-returns-in-Ok-clause-takes g c =
+returns-in-Ok-clause-keeps g c =
     let a = c.args in
-    let old = picture_of a.core.now in
-    let new = picture_of c.remap.new.core in
+    let old = a.core.now in
+    let new = c.remap.new.core in
     let pid = c.in-Some.pid in
     let first = a.addr / 4096 in
     let pages = c.div_ceil-pages.result in
     let start = c.min-start.result in
     let count : pages ≡ page_count a.len = omega (arith, c.div_ceil-pages.ensures) in
-    let done = c.remap.ensures in
-    let row : without_maps old.at pid first pages ≡ without_maps old.at pid start (c.min-end.result - start) =
+    let row : without_maps (picture_of old).at pid first pages ≡ without_maps (picture_of old).at pid start (c.min-end.result - start) =
     clipped g.M.Levels.mode first pages start (c.min-end.result - start)
     (c.min-start.ensures ∙ ap (λ (n : ℕ). min first n) c.user_end-stop.ensures.end)
     (ap (λ (n : ℕ). n - start) (c.min-end.ensures ∙ ap (λ (n : ℕ). min (first + pages) n) c.user_end-stop.ensures.end))
-    old pid (c.requires.sound.fit.granting.user pid) in
-    subst (λ (p : ℕ). TakesNothing old new p first (page_count a.len)) c.in-Some.ensures.found.0
-    (subst (λ (n : ℕ). TakesNothing old new pid first n) count
-    (takes_remapped a.core.now c.remap.new.core pid first pages c.requires.sound.fit done.fit done.roots done.tables
-    (subst (λ (maps : Maps). KeepsNamed maps old new) (sym row) done.files) done.others))
+    (picture_of old) pid (c.requires.sound.fit.granting.user pid) in
+    let done = c.remap.ensures in
+    let room : KeepsRoom (picture_of old) (picture_of new) = record { frames = done.frames; slots = done.slots.total } in
+    record {
+      accounts = record {
+        sound = sound_kept old new room g.D.SectorDisk g.E.SectorDisk done.devices.store done.devices.pages done.fit c.requires.sound;
+        room = room;
+        denied = search rules;
+        caused = search rules;
+      };
+      devices = done.devices;
+      takes = subst (λ (p : ℕ). TakesNothing (picture_of old) (picture_of new) p first (page_count a.len)) c.in-Some.ensures.found.0
+          (subst (λ (n : ℕ). TakesNothing (picture_of old) (picture_of new) pid first n) count
+          (takes_remapped old new pid first pages c.requires.sound.fit done.fit done.roots done.tables
+          (subst (λ (maps : Maps). KeepsNamed maps (picture_of old) (picture_of new)) (sym row) done.files) done.others));
+    }
 
 pub returns-in-Ok-clause-beside : goal.returns-in-Ok-clause-beside
 returns-in-Ok-clause-beside g c =

@@ -20,7 +20,7 @@ returns-in_err-copy_homes-clause-home g c =
       };
       any_moment = λ keeps. (let before = c.copy_homes.ensures.run.kept keeps in while_copying g.D.SectorDisk c.args.homes.now c.args.disk.now c.copy_homes.new.disk c.copy_homes.new.disk
           (λ image left. g.met.D.SectorDisk.only_now c.args.disk.now image before left)
-          c.requires.homes (c.requires.opened before) (c.requires.synced before) (c.copy_homes.ensures.run.touches keeps));
+          c.requires.homes (c.requires.opened before) (c.requires.on.synced before) (c.copy_homes.ensures.run.touches keeps));
     }
 
 pub returns-clause-home : goal.returns-clause-home
@@ -30,7 +30,7 @@ returns-clause-home g c =
         done = λ keeps. (let mid = c.close_gate.ensures.run.kept keeps in let before = c.copy_homes.ensures.run.kept mid in on_ok_both c.close_gate.result (c.close_gate.ensures.done keeps) (c.close_gate.ensures.synced keeps)
             (λ zeros. settled g.D.SectorDisk c.args.homes.now c.args.disk.now c.copy_homes.new.disk c.close_gate.new.disk
             (λ image left. g.met.D.SectorDisk.only_now c.args.disk.now image before left)
-            c.requires.homes (c.requires.opened before) (c.requires.synced before) (c.copy_homes.ensures.run.touches mid)
+            c.requires.homes (c.requires.opened before) (c.requires.on.synced before) (c.copy_homes.ensures.run.touches mid)
             (c.in_ok-copy_homes.ensures.done mid) (c.in_ok-copy_homes.ensures.synced mid) (c.close_gate.ensures.run.touches keeps) (closed _ zeros)));
         run = one_more g.D.SectorDisk (IsReplayed c.args.homes.now) c.args.disk.now c.copy_homes.new.disk c.close_gate.new.disk
             (of_more g.D.SectorDisk (IsHomeSector c.args.homes.now) (IsReplayed c.args.homes.now) c.args.disk.now c.copy_homes.new.disk (λ k at_home. inr at_home) c.copy_homes.ensures.run)
@@ -42,6 +42,6 @@ returns-clause-home g c =
       };
       any_moment = λ keeps. (let mid = c.close_gate.ensures.run.kept keeps in let before = c.copy_homes.ensures.run.kept mid in while_closing g.D.SectorDisk c.args.homes.now c.args.disk.now c.copy_homes.new.disk c.close_gate.new.disk
           (λ image left. g.met.D.SectorDisk.only_now c.args.disk.now image before left)
-          c.requires.homes (c.requires.opened before) (c.requires.synced before) (c.copy_homes.ensures.run.touches mid)
+          c.requires.homes (c.requires.opened before) (c.requires.on.synced before) (c.copy_homes.ensures.run.touches mid)
           (c.in_ok-copy_homes.ensures.done mid) (c.in_ok-copy_homes.ensures.synced mid) (c.close_gate.ensures.run.touches keeps));
     }

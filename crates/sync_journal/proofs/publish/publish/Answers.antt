@@ -16,9 +16,9 @@ returns-in_err-stage g c =
         outside = search rules;
         any_moment = λ keeps gives. (let before = c.stage.ensures.run.kept keeps in while_staging_either g.D.SectorDisk c.args.homes.now (g.S.PageSource.pages c.args.source.now) c.args.disk.now c.stage.new.disk
             (λ image left. g.met.D.SectorDisk.only_now c.args.disk.now image before left)
-            c.requires.homes (c.requires.quiet before) (c.stage.ensures.run.touches keeps));
+            c.requires.given.homes_are (c.requires.quiet before) (c.stage.ensures.run.touches keeps));
         once = once_wider (IsStaged (length c.args.homes.now)) (IsOpened (length c.args.homes.now)) (g.D.SectorDisk.asked c.args.disk.now) (g.D.SectorDisk.asked c.stage.new.disk)
-            (λ k inside. (omega (arith, inside.0), inside.1)) c.stage.ensures.fills.once;
+            (λ k inside. (omega (arith, inside.0), inside.1)) c.stage.ensures.once;
         takes = record {
           run = staged_run g.D.SectorDisk c.args.disk.now c.stage.new.disk c.stage.ensures.run;
           asks = c.stage.ensures.asks;
@@ -26,10 +26,10 @@ returns-in_err-stage g c =
         };
         source = λ keeps is_source. (let before = c.stage.ensures.run.kept keeps in staged_settled g.D.SectorDisk c.args.homes.now (g.S.PageSource.pages c.args.source.now) c.args.disk.now c.stage.new.disk
             (λ image left. g.met.D.SectorDisk.only_now c.args.disk.now image before left)
-            c.requires.homes (c.requires.quiet before) (c.stage.ensures.run.touches keeps));
+            c.requires.given.homes_are (c.requires.quiet before) (c.stage.ensures.run.touches keeps));
         source_moments = λ keeps is_source. (let before = c.stage.ensures.run.kept keeps in while_staging g.D.SectorDisk c.args.homes.now (g.S.PageSource.pages c.args.source.now) c.args.disk.now c.stage.new.disk
             (λ image left. g.met.D.SectorDisk.only_now c.args.disk.now image before left)
-            c.requires.homes (c.requires.quiet before) (c.stage.ensures.run.touches keeps));
+            c.requires.given.homes_are (c.requires.quiet before) (c.stage.ensures.run.touches keeps));
       };
       map = search rules;
       source_gate = λ keeps is. ⊎_elim (λ inside. absurd (omega (arith, inside.0))) (λ e. e) ((c.stage.ensures.run.touches keeps).content gate_sector);
@@ -45,9 +45,9 @@ returns-in_err-open_gate g c =
         outside = search rules;
         any_moment = λ keeps gives. (let mid = c.open_gate.ensures.run.kept keeps in let before = c.stage.ensures.run.kept mid in while_opening g.D.SectorDisk c.args.homes.now (g.S.PageSource.pages c.args.source.now) c.args.disk.now c.stage.new.disk
             (λ image left. g.met.D.SectorDisk.only_now c.args.disk.now image before left)
-            c.requires.homes (c.requires.quiet before) (c.stage.ensures.run.touches mid)
-            c.open_gate.new.disk (staged.fills.body mid gives) (staged.fills.map mid) (staged.fills.synced mid) (c.open_gate.ensures.run.touches keeps));
-        once = publish_asks (g.D.SectorDisk.asked c.args.disk.now) (g.D.SectorDisk.asked c.stage.new.disk) (g.D.SectorDisk.asked c.open_gate.new.disk) (length c.args.homes.now) c.stage.ensures.fills.once c.open_gate.ensures.once;
+            c.requires.given.homes_are (c.requires.quiet before) (c.stage.ensures.run.touches mid)
+            c.open_gate.new.disk (staged.body mid gives) (staged.map mid) (staged.synced mid) (c.open_gate.ensures.run.touches keeps));
+        once = publish_asks (g.D.SectorDisk.asked c.args.disk.now) (g.D.SectorDisk.asked c.stage.new.disk) (g.D.SectorDisk.asked c.open_gate.new.disk) (length c.args.homes.now) c.stage.ensures.once c.open_gate.ensures.once;
         takes = record {
           run = published_run g.D.SectorDisk c.args.disk.now c.stage.new.disk c.open_gate.new.disk c.stage.ensures.run c.open_gate.ensures.run;
           asks = c.stage.ensures.asks;
@@ -69,21 +69,21 @@ returns g c =
       puts = record {
         ok = λ keeps gives. (let mid = c.open_gate.ensures.run.kept keeps in let before = c.stage.ensures.run.kept mid in opened_settled g.D.SectorDisk c.args.homes.now (g.S.PageSource.pages c.args.source.now) c.args.disk.now c.stage.new.disk
             (λ image left. g.met.D.SectorDisk.only_now c.args.disk.now image before left)
-            c.requires.homes (c.requires.quiet before) (c.stage.ensures.run.touches mid)
-            c.open_gate.new.disk (staged.fills.body mid gives) (staged.fills.map mid) (staged.fills.synced mid) (c.open_gate.ensures.run.touches keeps)
+            c.requires.given.homes_are (c.requires.quiet before) (c.stage.ensures.run.touches mid)
+            c.open_gate.new.disk (staged.body mid gives) (staged.map mid) (staged.synced mid) (c.open_gate.ensures.run.touches keeps)
             (opened.done keeps) (opened.synced keeps) c.requires.some
-            (opened_live g.D.SectorDisk c.args.homes.now c.args.disk.now c.stage.new.disk c.open_gate.new.disk c.requires.homes (staged.fills.map mid) (c.open_gate.ensures.run.touches keeps)
+            (opened_live g.D.SectorDisk c.args.homes.now c.args.disk.now c.stage.new.disk c.open_gate.new.disk c.requires.given.homes_are (staged.map mid) (c.open_gate.ensures.run.touches keeps)
             (opened.done keeps) (opened.synced keeps)));
-        rest = λ keeps. (let mid = c.open_gate.ensures.run.kept keeps in opened_live g.D.SectorDisk c.args.homes.now c.args.disk.now c.stage.new.disk c.open_gate.new.disk c.requires.homes (c.in_ok-stage.ensures.fills.map mid) (c.open_gate.ensures.run.touches keeps)
+        rest = λ keeps. (let mid = c.open_gate.ensures.run.kept keeps in opened_live g.D.SectorDisk c.args.homes.now c.args.disk.now c.stage.new.disk c.open_gate.new.disk c.requires.given.homes_are (c.in_ok-stage.ensures.map mid) (c.open_gate.ensures.run.touches keeps)
             (opened.done keeps) (opened.synced keeps));
         outside = λ keeps k at.
             opened_outside g.D.SectorDisk (g.D.SectorDisk.sector_count c.args.disk.now) c.args.disk.now c.stage.new.disk c.open_gate.new.disk
             (c.stage.ensures.run.touches (c.open_gate.ensures.run.kept keeps)) (c.open_gate.ensures.run.touches keeps) k at;
         any_moment = λ keeps gives. (let mid = c.open_gate.ensures.run.kept keeps in let before = c.stage.ensures.run.kept mid in while_opening g.D.SectorDisk c.args.homes.now (g.S.PageSource.pages c.args.source.now) c.args.disk.now c.stage.new.disk
             (λ image left. g.met.D.SectorDisk.only_now c.args.disk.now image before left)
-            c.requires.homes (c.requires.quiet before) (c.stage.ensures.run.touches mid)
-            c.open_gate.new.disk (staged.fills.body mid gives) (staged.fills.map mid) (staged.fills.synced mid) (c.open_gate.ensures.run.touches keeps));
-        once = publish_asks (g.D.SectorDisk.asked c.args.disk.now) (g.D.SectorDisk.asked c.stage.new.disk) (g.D.SectorDisk.asked c.open_gate.new.disk) (length c.args.homes.now) c.stage.ensures.fills.once c.open_gate.ensures.once;
+            c.requires.given.homes_are (c.requires.quiet before) (c.stage.ensures.run.touches mid)
+            c.open_gate.new.disk (staged.body mid gives) (staged.map mid) (staged.synced mid) (c.open_gate.ensures.run.touches keeps));
+        once = publish_asks (g.D.SectorDisk.asked c.args.disk.now) (g.D.SectorDisk.asked c.stage.new.disk) (g.D.SectorDisk.asked c.open_gate.new.disk) (length c.args.homes.now) c.stage.ensures.once c.open_gate.ensures.once;
         takes = record {
           run = published_run g.D.SectorDisk c.args.disk.now c.stage.new.disk c.open_gate.new.disk c.stage.ensures.run c.open_gate.ensures.run;
           asks = c.stage.ensures.asks;
@@ -93,6 +93,6 @@ returns g c =
         source_moments = λ keeps is. cc;
       };
       map = λ keeps.
-          gate_leaves_map g.D.SectorDisk c.stage.new.disk c.open_gate.new.disk (c.open_gate.ensures.run.touches keeps) ∙ c.in_ok-stage.ensures.fills.map (c.open_gate.ensures.run.kept keeps);
+          gate_leaves_map g.D.SectorDisk c.stage.new.disk c.open_gate.new.disk (c.open_gate.ensures.run.touches keeps) ∙ c.in_ok-stage.ensures.map (c.open_gate.ensures.run.kept keeps);
       source_gate = λ keeps is. cc;
     }

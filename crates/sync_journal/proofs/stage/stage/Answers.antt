@@ -1,68 +1,50 @@
-use Rattle.std.proofs.Common.{◌≡◌, ◌+◌, length, ⊎_elim, ap, ◌∙◌, arith, rules}
+use Rattle.std.proofs.Common.{◌≡◌, length, subst, sym, rules}
 use Rattle.disk_model.specs.Stop.{Image}
-use Rattle.disk_model.proofs.Naming.{once_wider, once_still}
-use Rattle.sync_journal.specs.Layout.{map_sector, body_sector, IsBodySector, IsStaged}
-use Rattle.sync_journal.proofs.Asking.{map_page_asks}
-use Rattle.sync_journal.proofs.Maps.{map_page}
+use Rattle.disk_model.proofs.Naming.{once_still}
+use Rattle.sync_journal.specs.Layout.{IsStaged}
+use Rattle.sync_journal.specs.Map.{map_bytes}
+use Rattle.sync_journal.specs.Standing.{map_of, HoldsPages}
 use Rattle.sync_journal.proofs.stage.stage.Goals as goal
 
-pub returns-clause-fills : goal.returns-clause-fills
-returns-clause-fills g c =
+pub returns-in_err-fill_journal : goal.returns-in_err-fill_journal
+returns-in_err-fill_journal g c =
+    record {
+      fills = record {
+        fills = record { body = search rules; once = c.fill_journal.ensures.once; takes = search rules };
+        map = search rules;
+      };
+      synced = search rules;
+    }
+
+pub returns-in_err-sync : goal.returns-in_err-sync
+returns-in_err-sync g c =
+    let d = g.D.SectorDisk in
+    record {
+      fills = record {
+        fills = record {
+          body = search rules;
+          once = once_still (IsStaged (length c.args.homes.now)) (d.asked c.args.disk.now) (d.asked c.fill_journal.new.disk) (d.asked c.sync.new.self) c.fill_journal.ensures.once c.sync.ensures.asks;
+          takes = search rules;
+        };
+        map = search rules;
+      };
+      synced = search rules;
+    }
+
+pub returns : goal.returns
+returns g c =
+    let d = g.D.SectorDisk in
     let s = c.sync.ensures in
-    let long : length c.map_page.result ≡ 4096 = search rules in
+    let homes = c.args.homes.now in
+    let filled = c.in_ok-fill_journal.ensures in
     record {
       fills = record {
         fills = record {
-          body = λ keeps gives j i below_j below_i. ap (λ (image : Image). image (body_sector j + i)) (s.same keeps)
-              ∙ ⊎_elim (λ inside. absurd (omega (arith, inside.1))) (λ e. e) ((c.write_page.ensures.run.touches (s.kept keeps)).content (body_sector j + i))
-              ∙ c.in_ok-write_body.ensures.fills.body (c.write_page.ensures.run.kept (s.kept keeps)) gives j i below_j below_i;
-          once = once_still (IsStaged (length c.args.homes.now)) (g.D.SectorDisk.asked c.args.disk.now) (g.D.SectorDisk.asked c.write_page.new.disk) (g.D.SectorDisk.asked c.sync.new.self)
-              (map_page_asks (g.D.SectorDisk.asked c.args.disk.now) (g.D.SectorDisk.asked c.write_body.new.disk) (g.D.SectorDisk.asked c.write_page.new.disk) (length c.args.homes.now) c.write_body.ensures.fills.once c.write_page.ensures.asks) c.sync.ensures.asks;
+          body = λ keeps gives. subst (λ (image : Image). HoldsPages (length homes) (g.S.PageSource.pages c.args.source.now) image) (sym (s.same keeps)) (filled.body (s.kept keeps) gives);
+          once = once_still (IsStaged (length homes)) (d.asked c.args.disk.now) (d.asked c.fill_journal.new.disk) (d.asked c.sync.new.self) c.fill_journal.ensures.once s.asks;
+          takes = search rules;
         };
-        map = λ keeps. map_page (g.D.SectorDisk.content c.sync.new.self) c.map_page.result long
-            (λ i below. ap (λ (image : Image). image (map_sector + i)) (s.same keeps) ∙ c.in_ok-write_page.ensures.written (s.kept keeps) i below)
-            ∙ c.map_page.ensures;
-      };
-      synced = search rules;
-    }
-
-pub returns-in_err-write_body-clause-fills : goal.returns-in_err-write_body-clause-fills
-returns-in_err-write_body-clause-fills g c =
-    record {
-      fills = record {
-        fills = record {
-          body = search rules;
-          once = once_wider (IsBodySector (length c.args.homes.now)) (IsStaged (length c.args.homes.now)) (g.D.SectorDisk.asked c.args.disk.now) (g.D.SectorDisk.asked c.write_body.new.disk)
-              (λ k inside. (omega (arith, inside.0), inside.1)) c.write_body.ensures.fills.once;
-        };
-        map = search rules;
-      };
-      synced = search rules;
-    }
-
-pub returns-in_err-write_page-clause-fills : goal.returns-in_err-write_page-clause-fills
-returns-in_err-write_page-clause-fills g c =
-    record {
-      fills = record {
-        fills = record {
-          body = search rules;
-          once = map_page_asks (g.D.SectorDisk.asked c.args.disk.now) (g.D.SectorDisk.asked c.write_body.new.disk) (g.D.SectorDisk.asked c.write_page.new.disk) (length c.args.homes.now) c.write_body.ensures.fills.once c.write_page.ensures.asks;
-        };
-        map = search rules;
-      };
-      synced = search rules;
-    }
-
-pub returns-in_err-sync-clause-fills : goal.returns-in_err-sync-clause-fills
-returns-in_err-sync-clause-fills g c =
-    record {
-      fills = record {
-        fills = record {
-          body = search rules;
-          once = once_still (IsStaged (length c.args.homes.now)) (g.D.SectorDisk.asked c.args.disk.now) (g.D.SectorDisk.asked c.write_page.new.disk) (g.D.SectorDisk.asked c.sync.new.self)
-              (map_page_asks (g.D.SectorDisk.asked c.args.disk.now) (g.D.SectorDisk.asked c.write_body.new.disk) (g.D.SectorDisk.asked c.write_page.new.disk) (length c.args.homes.now) c.write_body.ensures.fills.once c.write_page.ensures.asks) c.sync.ensures.asks;
-        };
-        map = search rules;
+        map = λ keeps. subst (λ (image : Image). map_of image ≡ map_bytes homes) (sym (s.same keeps)) (filled.map (s.kept keeps));
       };
       synced = search rules;
     }

@@ -1,11 +1,7 @@
-use Rattle.std.proofs.Common.{◌≡◌, ◌+◌, ◌*◌, ◌∙◌, ℕ, ap, rules}
-use Rattle.disk_model.specs.Moments.{Touches}
-use Rattle.sync_journal.specs.Layout.{IsPageSector}
-use Rattle.sync_journal.specs.Turns.{turn_home}
-use Rattle.sync_journal.proofs.InTurn.{one_home, copied_more}
-use Rattle.std.proofs.Common.{length, arith}
-use Rattle.disk_model.proofs.Naming.{once_wider}
+use Rattle.std.proofs.Common.{◌+◌, ◌*◌, ◌∙◌, ℕ, ap, rules, length, arith}
 use Rattle.sync_journal.specs.Turns.{IsTurnCopy}
+use Rattle.sync_journal.proofs.InTurn.{one_home, copied_more}
+use Rattle.disk_model.proofs.Naming.{once_wider}
 use Rattle.sync_journal.proofs.TurnAsking.{copy_more, copy_wider}
 use Rattle.sync_journal.proofs.turns.copy_but.Goals as goal
 

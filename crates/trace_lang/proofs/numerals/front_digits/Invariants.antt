@@ -4,7 +4,7 @@ use Rattle.trace_lang.proofs.numerals.front_digits.Given as goal
 
 abbrev pub invariant-loop-at : goal.invariant-loop-at
 invariant-loop-at l = record {
-  digits : AllDigits l.radix (take l.at l.text);
-  value : l.value ≡ digits_value l.radix (take l.at l.text);
-  small : l.value < l.radix ^ l.at;
+  digits : AllDigits l.radix.base (take l.at l.text);
+  value : l.value ≡ digits_value l.radix.base (take l.at l.text);
+  small : l.value < l.radix.base ^ l.at;
 }

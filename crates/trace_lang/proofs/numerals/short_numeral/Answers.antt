@@ -6,5 +6,5 @@ pub returns-else-count-digits : goal.returns-else-count-digits
 returns-else-count-digits c = λ h.
     let front = c.front_digits-value.ensures in
     let end = front.end (omega arith) (omega arith) in
-    let below = digit_below c.args.radix c.args.digits.now c.front_digits-value.result.1 _ refl h.0.1 (omega arith) in
+    let below = digit_below c.args.radix.base c.args.digits.now c.front_digits-value.result.1 _ refl h.0.1 (omega arith) in
     omega (arith, end, below)

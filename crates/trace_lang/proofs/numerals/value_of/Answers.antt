@@ -8,21 +8,21 @@ use Rattle.trace_lang.proofs.numerals.value_of.Goals as goal
 
 pub returns-in_err-digit : goal.returns-in_err-digit
 returns-in_err-digit c = none_reads _ _ c.from_residual.ensures (λ h.
-    c.in_err-digit.ensures.value (digit_below c.args.radix c.args.digits.now c.loop-byte.byte-index _ c.from.ensures h.0.1 c.loop-byte-test.true))
+    c.in_err-digit.ensures.value (digit_below c.args.radix.base c.args.digits.now c.loop-byte.byte-index _ c.from.ensures h.0.1 c.loop-byte-test.true))
 
 pub returns-in_err-value : goal.returns-in_err-value
 returns-in_err-value c = none_reads _ _ c.from_residual-in_err-value.ensures (λ h.
-    digit_past _ _ _ _ _ _ _ _ (value_so_far c.args.radix c.args.digits.now c.loop-byte.byte-index c.loop-byte.value c.requires.low c.loop-byte-test.true c.loop-byte.invariant.value)
+    digit_past _ _ _ _ _ _ _ _ (value_so_far c.args.radix.base c.args.digits.now c.loop-byte.byte-index c.loop-byte.value c.args.radix.low c.loop-byte-test.true c.loop-byte.invariant.value)
     h.1 c.from-in-loop-byte.ensures c.from-in-loop-byte-2.ensures (c.in_ok-digit.ensures.value.1 ∙ ap digit_value c.from.ensures) c.in_err-value.ensures)
 
 pub loop-byte-preserved : goal.loop-byte-preserved
 loop-byte-preserved c =
     let i = c.loop-byte.byte-index in
-    let P : ℕ → Type 0 = λ x. digit_value x < c.args.radix in
+    let P : ℕ → Type 0 = λ x. digit_value x < c.args.radix.base in
     let a = c.in_ok-value.ensures in
     record {
-      digits = digits_more c.args.radix c.args.digits.now i c.loop-byte-test.true c.loop-byte.invariant.digits (subst P c.from.ensures c.in_ok-digit.ensures.value.0);
-      value = next_value c.args.radix c.args.digits.now i c.loop-byte.value _ _ _ _ _ c.loop-byte-test.true c.loop-byte.invariant.value
+      digits = digits_more c.args.radix.base c.args.digits.now i c.loop-byte-test.true c.loop-byte.invariant.digits (subst P c.from.ensures c.in_ok-digit.ensures.value.0);
+      value = next_value c.args.radix.base c.args.digits.now i c.loop-byte.value _ _ _ _ _ c.loop-byte-test.true c.loop-byte.invariant.value
           c.from-in-loop-byte.ensures c.from.ensures c.in_ok-digit.ensures.value.1 c.from-in-loop-byte-2.ensures a.1;
       fits = let P : ℕ → Type 0 = λ x. x < 2 ^ 64 in subst P (sym a.1) a.0;
     }
@@ -30,7 +30,7 @@ loop-byte-preserved c =
 pub returns : goal.returns
 returns c =
     let whole = take_all c.loop-byte.byte-index c.args.digits.now c.loop-byte-test.false in
-    let P : List ℕ → Type 0 = λ ds. AllDigits c.args.radix ds in
+    let P : List ℕ → Type 0 = λ ds. AllDigits c.args.radix.base ds in
     let Q : ℕ → Type 0 = λ x. x < 2 ^ 64 in
-    let e = c.loop-byte.invariant.value ∙ ap (λ ds. digits_value c.args.radix ds) whole in
+    let e = c.loop-byte.invariant.value ∙ ap (λ ds. digits_value c.args.radix.base ds) whole in
     (((not_empty (length c.args.digits.now) _ c.is_empty.ensures c.if-is_empty.false, subst P whole c.loop-byte.invariant.digits), subst Q e c.loop-byte.invariant.fits), e)

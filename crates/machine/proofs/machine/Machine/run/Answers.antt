@@ -54,10 +54,12 @@ loop-i-preserved g c =
 pub returns-clause-does : goal.returns-clause-does
 returns-clause-does g c =
     let every : take c.loop-i.i c.loop-i.replies ≡ c.loop-i.replies = take_all c.loop-i.i c.loop-i.replies (omega (arith, c.loop-i.invariant.lengths)) in
-    let caused = c.loop-i.invariant.caused in
+    let kept = c.loop-i.invariant in
     subst (λ (zs : List Reply). DoesEachAsTold g.D.SectorDisk g.E.SectorDisk c.args.self.now c.loop-i.self zs) every (record {
-      caused = caused;
-      counts = counts g.D.SectorDisk g.E.SectorDisk c.args.self.now (take c.loop-i.i c.loop-i.replies) c.loop-i.self caused;
+      sound = kept.sound;
+      keeps = kept.keeps;
+      caused = kept.caused;
+      counts = counts g.D.SectorDisk g.E.SectorDisk c.args.self.now (take c.loop-i.i c.loop-i.replies) c.loop-i.self kept.caused;
     })
 
 pub returns-clause-run : goal.returns-clause-run

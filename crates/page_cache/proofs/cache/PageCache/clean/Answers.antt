@@ -9,7 +9,7 @@ pub returns-in-Some-clause-untouched : goal.returns-in-Some-clause-untouched
 returns-in-Some-clause-untouched c =
     let touched = c.remove.new.self in
     is_touched-first (cache_table_of (record { frames = c.self.inside.frames; index = c.self.inside.index; touched = touched })) c.args.page (Some c.in-Some.node)
-    (sym c.in-Some.ensures.first) ∙ members-at touched.ranks.items touched.count c.in-Some.node ∙ c.remove.ensures.no_member
+    (sym c.in-Some.ensures.first) ∙ members-at touched.ranks.items touched.count c.in-Some.node ∙ c.remove.ensures.member
 
 pub returns-in-Some-clause-placed : goal.returns-in-Some-clause-placed
 returns-in-Some-clause-placed c = rw (← c.self.view_is) (place_of-marked c.self.inside c.remove.new.self c.args.page)

@@ -1,4 +1,4 @@
-use Rattle.std.proofs.Common.{◌≡◌, ◌+◌, ◌<◌, Some, Ok, Err, Result, OnErr, get_or, inl, inr, sym, ap, ◌∙◌, arith}
+use Rattle.std.proofs.Common.{◌≡◌, ◌+◌, ◌<◌, Some, Ok, Err, Result, OnErr, get_or, inl, inr, sym, ap, ◌∙◌, arith, rules}
 use Rattle.std.proofs.lemmas.Bool.{iff_false}
 use Rattle.vm_types.specs.declared.file.FilePage.{FilePage}
 use Rattle.vm_types.specs.declared.object.PageKey.TheVariants.{File}
@@ -15,8 +15,8 @@ on_err : {A E : Type 0} (r : Result A E) (P : Type 0) → P → OnErr r P
 on_err (Ok x) P p = tt
 on_err (Err e) P p = p
 
-pub returns-in_err-n-clause-too_many : goal.returns-in_err-n-clause-too_many
-returns-in_err-n-clause-too_many c =
+pub returns-in_err-n : goal.returns-in_err-n
+returns-in_err-n c =
     let cache = c.self.inside in
     let set = cache.touched in
     let pages = cache.index.pages.items in
@@ -25,9 +25,10 @@ returns-in_err-n-clause-too_many c =
     let below : c.loop-place.place < set.count = omega (arith, c.len-place-end.ensures) in
     let touched = place_touched cache.frames pages order set.ranks.items set.count c.self.invariant.one c.self.invariant.ordered c.loop-place.place c.in-Some.page below held in
     let unseen = place_unseen cache.frames pages order set.ranks.items set.count c.self.invariant.one c.self.invariant.ordered c.loop-place.place c.in-Some.page below held in
-    on_err c.from_residual.result _ (rw (← c.self.view_is, c.in_err-n.ensures.err) (Overflows-full (cache_table_of cache) c.args.file c.args.first c.args.count c.args.used
+    let full = on_err c.from_residual.result _ (rw (← c.self.view_is, c.in_err-n.ensures.err) (Overflows-full (cache_table_of cache) c.args.file c.args.first c.args.count c.args.used
     (IsAtPlace pages order c.loop-place.place) c.args.list.now c.loop-place.list c.loop-place.n c.in-Some.page c.loop-place.invariant
-    (record { row = (c.is_in_row.ensures).0 c.if-is_in_row.true; touched = touched }) unseen c.in_err-n.ensures.fresh c.in_err-n.ensures.full))
+    (record { row = (c.is_in_row.ensures).0 c.if-is_in_row.true; touched = touched }) unseen c.in_err-n.ensures.fresh c.in_err-n.ensures.full)) in
+    record { gathered = search rules; all = search rules; too_many = full }
 
 pub loop-place-preserved : goal.loop-place-preserved
 loop-place-preserved c =
@@ -62,10 +63,14 @@ loop-place-preserved c =
           (λ p in_row now. elim (more p now) [ inl seen ↦ inl seen | inr e ↦ absurd (none≢some p (sym w.in_default.is ∙ c.filed.ensures ∙ ap filed e)) ]))
     ]
 
-pub returns-clause-all : goal.returns-clause-all
-returns-clause-all c =
+pub returns : goal.returns
+returns c =
     let cache = c.self.inside in
     let set = cache.touched in
-    rw (← c.self.view_is) (λ p in_row.
-    let seen = place_all cache.frames cache.index.pages.items set.order.items set.ranks.items set.count c.self.invariant.one c.self.invariant.ordered p in_row.touched in
-    c.loop-place.invariant.all p in_row (seen.0, omega (arith, seen.1, c.len-place-end.ensures), seen.2))
+    record {
+      gathered = search rules;
+      all = rw (← c.self.view_is) (λ p in_row.
+          let seen = place_all cache.frames cache.index.pages.items set.order.items set.ranks.items set.count c.self.invariant.one c.self.invariant.ordered p in_row.touched in
+          c.loop-place.invariant.all p in_row (seen.0, omega (arith, seen.1, c.len-place-end.ensures), seen.2));
+      too_many = search rules;
+    }

@@ -22,7 +22,7 @@ returns-in_default-clause-untouched c =
 pub invariant_of-self : goal.invariant_of-self
 invariant_of-self c =
     IsWhole-taken c.self.inside c.remove-2.new.self c.remove.new.self c.in-Some.node c.args.page c.self.invariant c.in-Some.ensures.held
-    c.remove-2.ensures.pages c.remove-2.ensures.chained c.remove.ensures.ordered c.remove.ensures.no_member c.remove.ensures.others
+    c.remove-2.ensures.pages c.remove-2.ensures.chained c.remove.ensures.ordered c.remove.ensures.member c.remove.ensures.others
 
 pub returns-clause-was : goal.returns-clause-was
 returns-clause-was c =

@@ -1,15 +1,18 @@
-use Rattle.std.proofs.Common.{get_or, refl, arith}
+use Rattle.std.proofs.Common.{get_or, refl, arith, rules}
 use Rattle.std.proofs.lemmas.List.{get_or_read}
 use Rattle.page_cache.specs.Sets.{HaveSwapped}
 use Rattle.page_cache.proofs.SetLemmas.{inserted}
 use Rattle.page_cache.proofs.node_set.NodeSet.insert.Goals as goal
 
-pub returns-then-rank-self-clause-others : goal.returns-then-rank-self-clause-others
-returns-then-rank-self-clause-others c =
+pub returns-then-rank-self : goal.returns-then-rank-self
+returns-then-rank-self c =
     let set = c.args.self.now in
     let read = get_or_read set.ranks.items c.args.node c.index-rank.result.now c.requires.inside c.index-rank.ensures 0 in
     let swapped : HaveSwapped set.order.items set.ranks.items c.swap.new.self.ranks.items (get_or set.ranks.items c.args.node 0) set.count =
     rw (← read) c.swap.ensures.swapped in
-    rw c.swap.ensures.count
-    ((inserted set.order.items set.ranks.items c.swap.new.self.ranks.items set.count c.args.node set.count c.requires.ordered c.requires.inside (omega arith)
-    swapped refl (omega arith)).1)
+    let both = inserted set.order.items set.ranks.items c.swap.new.self.ranks.items set.count c.args.node set.count c.requires.ordered c.requires.inside (omega arith) swapped refl (omega arith) in
+    record {
+      ordered = search rules;
+      member = rw c.swap.ensures.count (both.0);
+      others = rw c.swap.ensures.count (both.1);
+    }

@@ -8,7 +8,8 @@ pub joins-requires : goal.joins-requires
 joins-requires g c =
     let few : c.self.inside.len ≤ 256 = c.self.invariant.0 in
     let room : length c.self.inside.runs ≡ 256 = c.self.invariant.1 in
-    last_run g.M.Levels.mode c.self.inside.runs c.self.inside.len unused (omega arith) (omega arith) c.self.invariant.2
+    let run = last_run g.M.Levels.mode c.self.inside.runs c.self.inside.len unused (omega arith) (omega arith) c.self.invariant.2 in
+    omega (arith, run.nonempty)
 
 pub returns : goal.returns
 returns g c =

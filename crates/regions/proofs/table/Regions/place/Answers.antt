@@ -24,6 +24,6 @@ returns g c =
       | else-address-ne0-via-else-address-ne0 w ↦
           placed-zero g.M.Levels.mode (attr_at c.args.self.now) c.args.address c.args.pages w.if-address-ne0.false
     ] in
-    c.lowest_gap.ensures.place
+    c.lowest_gap.ensures.found
     ∙ sym (lowest_place-gap g.M.Levels.mode c.args.self.now c.args.pages c.lowest_gap.ensures.maximal c.requires)
     ∙ sym gap

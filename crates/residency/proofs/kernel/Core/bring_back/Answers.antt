@@ -1,18 +1,15 @@
 use Rattle.std.proofs.Common.{◌≡◌, inl, inr, None, refl, sym, ap, ◌∙◌, subst, arith, rules}
-use Rattle.vm_types.specs.declared.object.PageKey.{PageKey}
 use Rattle.frames.specs.declared.role.Role.TheVariants.{Free, Table, Private, Cache}
 use Rattle.frames.specs.FrameTable.{role_of}
 use Rattle.frames.proofs.FrameLemmas.{with_bytes-same}
 use Rattle.swap.specs.Slots.{slots_of, IsSectorOfSlot}
 use Rattle.page_cache.specs.declared.place.Place.TheVariants.{Home, Frame, Slot}
-use Rattle.page_cache.specs.CacheTable.{is_touched}
 use Rattle.residency.specs.Picture.{Picture, picture_of}
 use Rattle.residency.specs.Capacity.{IsShort}
 use Rattle.residency.specs.Steps.{ChangesFrame}
 use Rattle.residency.proofs.Asking.{asks_between, also_asked, one_also}
 use Rattle.residency.proofs.BroughtIn.{frames_written}
-use Rattle.residency.proofs.Obtained.{also_on, comes_back, comes_on, comes_stall, given_back, given_on, seeks_stall}
-use Rattle.residency.proofs.Places.{cases_page}
+use Rattle.residency.proofs.Obtained.{also_on, comes_back, comes_taken, comes_stall, given_back, given_on, seeks_stall}
 use Rattle.residency.proofs.Returning.{leaves_slot, frames_spent}
 use Rattle.residency.proofs.kernel.Core.bring_back.Given.{Over}
 use Rattle.residency.proofs.kernel.Core.bring_back.Goals as goal
@@ -35,25 +32,11 @@ returns-in-Ok-get g c =
           with_bytes-same c.take.new.self frame.0 c.get.new.to (let e = takes.others.frames in let inside = takes.inside in omega (arith, e, inside))
           ∙ c.in-Ok-get.ensures.gives (subst P c.release.ensures.pages keeps)
           ∙ (got.frees.slots slot.0 (omega (arith, was))).0);
-      comes = comes_on got frame takes.inside takes.was_free _ page (record {
-        slots = leaves_slot mid _ page slot.0 (slots_of c.get.new.self) there c.get.ensures.same c.release.ensures.releases (got.fit.places.slotted page slot.0 there);
-        frames = written;
-        above = takes.above;
-        was_free = takes.was_free;
-        kind = takes.kind_set;
-        was_away = λ m at. (let bad : Slot slot ≡ Frame (record { 0 = m }) = sym there ∙ at in (cc));
-        inside = got.fit.places.inside page (λ home. (let bad : Slot slot ≡ Home = sym there ∙ home in (cc)));
-        placed = c.set_place.ensures.placed;
-        others = λ p ne. c.set_place.ensures.others.places p ne;
-        root = λ pid. refl;
-        at = λ pid k. refl;
-        page_of = λ m. refl;
-        touched = λ p. elim (cases_page p page) [
-          | inl is ↦ (let P : PageKey → Type 0 = λ x. is_touched c.set_place.new.self x ≡ is_touched c.obtain.new.core.cache x in subst P (sym is) c.set_place.ensures.touched)
-          | inr ne ↦ c.set_place.ensures.others.touched p ne
-        ];
-        files = λ f. refl;
-      });
+      comes = comes_taken got frame takes.inside takes.was_free _ page takes written takes.kind_set
+          (leaves_slot mid _ page slot.0 (slots_of c.get.new.self) there c.get.ensures.same c.release.ensures.releases (got.fit.places.slotted page slot.0 there))
+          (λ m at. (let bad : Slot slot ≡ Frame (record { 0 = m }) = sym there ∙ at in (cc)))
+          (got.fit.places.inside page (λ home. (let bad : Slot slot ≡ Home = sym there ∙ home in (cc))))
+          c.set_place.ensures.placed c.set_place.ensures.touched c.set_place.ensures.others (λ pid. refl) (λ pid k. refl) (λ m. refl) (λ f. refl);
       rest = search rules;
       asked = also_on got frame takes.inside takes.was_free _ (IsSectorOfSlot slot.0)
           (given_on got frame takes.inside takes.was_free _ written (λ t. (let bad : Cache ≡ Table = sym takes.kind_set ∙ t in (cc))) (λ pid. refl)) asks;

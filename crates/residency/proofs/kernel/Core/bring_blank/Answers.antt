@@ -1,14 +1,12 @@
 use Rattle.std.proofs.Common.{◌≡◌, inl, inr, refl, sym, ◌∙◌, subst, rules}
-use Rattle.vm_types.specs.declared.object.PageKey.{PageKey}
 use Rattle.vm_types.specs.declared.object.PageKey.TheVariants.{Object}
 use Rattle.frames.specs.declared.role.Role.TheVariants.{Free, Table, Cache}
 use Rattle.frames.specs.FrameTable.{zero_bytes}
 use Rattle.vm_types.specs.View.{zero_page}
 use Rattle.page_cache.specs.declared.place.Place.TheVariants.{Home, Frame}
-use Rattle.page_cache.specs.CacheTable.{is_touched}
 use Rattle.residency.specs.Picture.{Picture, picture_of}
-use Rattle.residency.proofs.Obtained.{comes_on, comes_stall, given_on, seeks_on, seeks_stall}
-use Rattle.residency.proofs.Places.{cases_page, named-same}
+use Rattle.residency.proofs.Obtained.{comes_taken, comes_stall, given_on, seeks_on, seeks_stall}
+use Rattle.residency.proofs.Places.{named-same}
 use Rattle.residency.proofs.Returning.{leaves_none}
 use Rattle.residency.proofs.kernel.Core.bring_blank.Goals as goal
 
@@ -26,25 +24,11 @@ returns g c =
     let home = got.frees.home page c.requires.home in
     record {
       blank = takes.zeros ∙ zeros_alike;
-      comes = comes_on got frame takes.inside takes.was_free _ page (record {
-        slots = leaves_none mid _ page home refl;
-        frames = takes.others;
-        above = takes.above;
-        was_free = takes.was_free;
-        kind = takes.kind_set;
-        was_away = λ m at. (let bad : Home ≡ Frame (record { 0 = m }) = sym home ∙ at in (cc));
-        inside = named-same (picture_of c.args.self.now).at mid.at c.args.page.object c.args.page.page got.frees.pages.at ∙ c.requires.named;
-        placed = c.set_place.ensures.placed;
-        others = λ p ne. c.set_place.ensures.others.places p ne;
-        root = λ pid. refl;
-        at = λ pid k. refl;
-        page_of = λ m. refl;
-        touched = λ p. elim (cases_page p page) [
-          | inl is ↦ (let P : PageKey → Type 0 = λ x. is_touched c.set_place.new.self x ≡ is_touched c.obtain.new.core.cache x in subst P (sym is) c.set_place.ensures.touched)
-          | inr ne ↦ c.set_place.ensures.others.touched p ne
-        ];
-        files = λ f. refl;
-      });
+      comes = comes_taken got frame takes.inside takes.was_free _ page takes takes.others takes.kind_set
+          (leaves_none mid _ page home refl)
+          (λ m at. (let bad : Home ≡ Frame (record { 0 = m }) = sym home ∙ at in (cc)))
+          (named-same (picture_of c.args.self.now).at mid.at c.args.page.object c.args.page.page got.frees.pages.at ∙ c.requires.named)
+          c.set_place.ensures.placed c.set_place.ensures.touched c.set_place.ensures.others (λ pid. refl) (λ pid k. refl) (λ m. refl) (λ f. refl);
       seeks = seeks_on got frame takes.inside takes.was_free _ refl refl (record { store = refl; roots = refl; regions = refl })
           (given_on got frame takes.inside takes.was_free _ takes.others (λ t. (let bad : Cache ≡ Table = sym takes.kind_set ∙ t in (cc))) (λ pid. refl));
     }

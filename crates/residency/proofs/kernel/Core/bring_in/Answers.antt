@@ -1,20 +1,17 @@
 use Rattle.std.proofs.Common.{◌≡◌, ◌<◌, inl, inr, None, refl, sym, ap, ◌∙◌, subst, ℕ, rules}
 use Rattle.std.specs.Option.{option_map}
-use Rattle.vm_types.specs.declared.object.PageKey.{PageKey}
 use Rattle.vm_types.specs.declared.object.PageKey.TheVariants.{File}
 use Rattle.file_store.specs.Standing.{AreBounded}
 use Rattle.file_store.specs.Store.{entry_of, files_of}
 use Rattle.frames.specs.declared.role.Role.TheVariants.{Free, Table, Private, Cache}
 use Rattle.frames.specs.FrameTable.{role_of}
 use Rattle.page_cache.specs.declared.place.Place.TheVariants.{Home, Frame}
-use Rattle.page_cache.specs.CacheTable.{is_touched}
 use Rattle.residency.specs.Picture.{Picture, picture_of}
 use Rattle.residency.specs.Capacity.{IsShort}
 use Rattle.residency.specs.Steps.{ChangesFrame}
 use Rattle.residency.proofs.Asking.{asks_store, unasked_store}
 use Rattle.residency.proofs.BroughtIn.{frames_written}
-use Rattle.residency.proofs.Obtained.{asked_on, comes_back, comes_on, comes_stall, given_back, given_on, seeks_stall}
-use Rattle.residency.proofs.Places.{cases_page}
+use Rattle.residency.proofs.Obtained.{asked_on, comes_back, comes_taken, comes_stall, given_back, given_on, seeks_stall}
 use Rattle.residency.proofs.Returning.{leaves_none, frames_spent}
 use Rattle.residency.proofs.kernel.Core.bring_in.Given.{Over}
 use Rattle.residency.proofs.kernel.Core.bring_in.Goals as goal
@@ -30,25 +27,11 @@ returns-in-Ok-read_page g c =
     let written = frames_written c.obtain.new.core.frames c.take.new.self frame.0 c.read_page.new.to takes in
     record {
       read = search rules;
-      comes = comes_on got frame takes.inside takes.was_free _ page (record {
-        slots = leaves_none mid _ page home refl;
-        frames = written;
-        above = takes.above;
-        was_free = takes.was_free;
-        kind = takes.kind_set;
-        was_away = λ m at. (let bad : Home ≡ Frame (record { 0 = m }) = sym home ∙ at in (cc));
-        inside = (c.requires.inside.0, got.frees.pages.files.files c.args.page.file ∙ c.requires.inside.1, c.requires.inside.2);
-        placed = c.set_place.ensures.placed;
-        others = λ p ne. c.set_place.ensures.others.places p ne;
-        root = λ pid. refl;
-        at = λ pid k. refl;
-        page_of = λ m. refl;
-        touched = λ p. elim (cases_page p page) [
-          | inl is ↦ (let P : PageKey → Type 0 = λ x. is_touched c.set_place.new.self x ≡ is_touched c.obtain.new.core.cache x in subst P (sym is) c.set_place.ensures.touched)
-          | inr ne ↦ c.set_place.ensures.others.touched p ne
-        ];
-        files = λ f. ap (λ d. option_map (λ e. e.info) (entry_of d f)) c.in-Ok-read_page.ensures.files;
-      });
+      comes = comes_taken got frame takes.inside takes.was_free _ page takes written takes.kind_set
+          (leaves_none mid _ page home refl)
+          (λ m at. (let bad : Home ≡ Frame (record { 0 = m }) = sym home ∙ at in (cc)))
+          ((c.requires.inside.0, got.frees.pages.files.files c.args.page.file ∙ c.requires.inside.1, c.requires.inside.2))
+          c.set_place.ensures.placed c.set_place.ensures.touched c.set_place.ensures.others (λ pid. refl) (λ pid k. refl) (λ m. refl) (λ f. ap (λ d. option_map (λ e. e.info) (entry_of d f)) c.in-Ok-read_page.ensures.files);
       rest = search rules;
       store = search rules;
       asks = asks_store g.D.SectorDisk c.args.page c.args.self.now.store c.obtain.new.core.store c.read_page.new.self got.rest.store c.read_page.ensures.asks;

@@ -7,11 +7,10 @@ use Rattle.page_cache.specs.declared.place.Place.TheVariants.{Home}
 use Rattle.page_cache.specs.CacheTable.{place_of, is_touched}
 use Rattle.residency.specs.declared.leaves.Change.TheVariants.{Forget}
 use Rattle.residency.specs.Picture.{Picture, picture_of, is_data}
-use Rattle.residency.proofs.Cleaning.{Untouches, all_placed}
+use Rattle.residency.proofs.Cleaning.{Untouches, all_placed, all_touched}
 use Rattle.residency.proofs.Forgotten.{none_over, fit_forgotten, forgets_framed}
 use Rattle.residency.proofs.LeafSteps.{names_over}
 use Rattle.residency.proofs.Leaving.{Leaves}
-use Rattle.residency.proofs.Places.{cases_page}
 use Rattle.residency.proofs.Refusing.{above_of, inside_of}
 use Rattle.residency.proofs.kernel.Core.forget_frame.Goals as goal
 
@@ -65,10 +64,7 @@ returns g c =
       root = λ pid. refl;
       at_same = λ pid k. refl;
       page_of = λ m. refl;
-      touched = λ q. elim (cases_page q key) [
-        | inl e ↦ ap new.touched e ∙ c.set_place.ensures.touched ∙ ap mid.touched (sym e)
-        | inr ne ↦ c.set_place.ensures.others.touched q ne
-      ];
+      touched = all_touched c.clean.new.self c.set_place.new.self key c.set_place.ensures.others c.set_place.ensures.touched;
       files = λ f. refl;
     } in
     record { forgets = forgets_framed old mid new c.args.page n c.requires.fit c.requires.bare c.requires.placed (omega (arith, nonzero)) u leaves; fit = fit_forgotten old mid new c.args.page n c.requires.fit c.requires.bare c.requires.placed (omega (arith, nonzero)) u leaves; rest = search rules }

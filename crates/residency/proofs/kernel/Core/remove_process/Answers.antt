@@ -1,19 +1,21 @@
-use Rattle.std.proofs.Common.{rules, ◌<◌, length, refl, ◌∙◌, arith}
-use Rattle.residency.proofs.Roots.{root-read}
+use Rattle.std.proofs.Common.{rules, ◌≡◌, ◌<◌, ℕ, Some, refl, ◌∙◌, subst, arith}
+use Rattle.residency.specs.Picture.{picture_of}
+use Rattle.residency.proofs.Lives.{live_process}
 use Rattle.residency.proofs.kernel.Core.remove_process.Goals as goal
 
 pub release_root-requires : goal.release_root-requires
 release_root-requires g c =
-    let inside : c.from-place.result < length c.args.self.now.roots.items = omega (arith, c.from-place.ensures, c.get.ensures, c.args.self.now.root_count) in
+    let inside : c.from-place.result < 65 = omega (arith, c.from-place.ensures, c.get.ensures) in
+    let P : ℕ → Type 0 = λ n. (picture_of c.args.self.now).root n ≡ Some c.in-Some.root.0 in
     c.requires.spare c.in-Some.root.0
-    (root-read c.args.self.now.roots.items c.from-place.result c.args.pid c.index.result.now c.in-Some.root
-    (c.from-place.ensures ∙ c.get.ensures.number) inside c.index.ensures c.in-Some.is)
+    (subst P (c.from-place.ensures ∙ c.get.ensures.number) (live_process c.args.self.now c.from-place.result inside c.index.result.now c.index.ensures c.in-Some.root c.in-Some.is))
 
 pub returns-in-Some-clause-exits : goal.returns-in-Some-clause-exits
 returns-in-Some-clause-exits g c =
-    let inside : c.from-place.result < length c.args.self.now.roots.items = omega (arith, c.from-place.ensures, c.get.ensures, c.args.self.now.root_count) in
-    let lived = root-read c.args.self.now.roots.items c.from-place.result c.args.pid c.index.result.now c.in-Some.root
-    (c.from-place.ensures ∙ c.get.ensures.number) inside c.index.ensures c.in-Some.is in (
+    let inside : c.from-place.result < 65 = omega (arith, c.from-place.ensures, c.get.ensures) in
+    let P : ℕ → Type 0 = λ n. (picture_of c.args.self.now).root n ≡ Some c.in-Some.root.0 in
+    let lived =
+    subst P (c.from-place.ensures ∙ c.get.ensures.number) (live_process c.args.self.now c.from-place.result inside c.index.result.now c.index.ensures c.in-Some.root c.in-Some.is) in (
       c.in-Some.root.0,
       record {
         slots = refl;

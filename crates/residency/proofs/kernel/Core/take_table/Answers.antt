@@ -1,16 +1,12 @@
 use Rattle.std.proofs.Common.{ℕ, Option, refl, Some, None, rules}
-use Rattle.frames.specs.FrameTable.{FrameTable}
 use Rattle.residency.specs.Picture.{Picture, picture_of}
 use Rattle.residency.specs.Ages.{GivesForTables}
-use Rattle.residency.specs.Steps.{SameBeside}
 use Rattle.residency.proofs.Asking.{needed_of}
 use Rattle.residency.proofs.Giving.{on_err_same, roles_but, gives_table, table_given, tables_tried}
+use Rattle.residency.proofs.Moves.{same_beside}
 use Rattle.residency.proofs.Obtained.{given, seeks_on, seeks_stall}
 use Rattle.residency.proofs.Returning.{zero_no_table}
 use Rattle.residency.proofs.kernel.Core.take_table.Goals as goal
-
-same_beside : {mode : ℕ} (c : Picture mode) (t : FrameTable) → SameBeside c (record c { frames = t })
-same_beside c t = record { slots = refl; root = λ q. refl; at = λ q k. refl; page_of = λ n. refl; place = λ p. refl; touched = λ p. refl; files = λ f. refl }
 
 pub returns : goal.returns
 returns g c =

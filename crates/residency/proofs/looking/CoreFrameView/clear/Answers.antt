@@ -1,9 +1,8 @@
 use Rattle.std.proofs.Common.{subst, sym, ◌∙◌, arith}
-use Rattle.residency.specs.declared.leaves.Change.TheVariants.{ClearAccessed}
 use Rattle.residency.specs.Picture.{picture_of}
 use Rattle.residency.specs.Calls.{Frees}
 use Rattle.residency.proofs.Giving.{marks_then}
-use Rattle.residency.proofs.Sparing.{changes_frees, frees_then}
+use Rattle.residency.proofs.Sparing.{cleared_frees, frees_then}
 use Rattle.residency.proofs.looking.CoreFrameView.clear.Goals as goal
 
 pub returns-clause-follows : goal.returns-clause-follows
@@ -14,7 +13,7 @@ returns-clause-follows g c =
     let done = c.change_leaves.ensures in
     record {
       kept = done.beside.keep;
-      frees = λ s f. subst (λ k. Frees s new k) (sym done.beside.keep) (frees_then s old new v.keep f (changes_frees ClearAccessed c.args.n old new v.keep c.requires.open done.changes (λ e. (let a = done.above in omega (arith, a, e))) c.requires.evictable.0.1));
+      frees = λ s f. subst (λ k. Frees s new k) (sym done.beside.keep) (frees_then s old new v.keep f (cleared_frees c.args.n old new v.keep c.requires.open done.changes (λ e. (let a = done.above in omega (arith, a, e))) c.requires.evictable.0.1));
       marks = λ s f. marks_then s old new c.args.n f done.changes;
       full = λ full n inside free. full n (let k = done.changes.frames in omega (arith, k, inside)) (sym (done.changes.roles n) ∙ free);
       looked = record { store = done.beside.store; swap = done.beside.swap; cache = done.beside.cache; roots = done.beside.roots; regions = done.beside.regions; refused = done.beside.refused };

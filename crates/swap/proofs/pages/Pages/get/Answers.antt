@@ -3,6 +3,7 @@ use Rattle.std.proofs.lemmas.Result.{on_ok_weaker}
 use Rattle.disk_model.specs.Sectors.{part_of}
 use Rattle.disk_model.specs.Stop.{IsOfPage}
 use Rattle.disk_model.proofs.Moments.{asks_named}
+use Rattle.disk_model.proofs.Naming.{once_named}
 use Rattle.swap.proofs.Written.{gives_written}
 use Rattle.swap.proofs.pages.Pages.get.Goals as goal
 
@@ -18,6 +19,7 @@ returns g c =
       keeps = record {
         asks = asks_named g.D.SectorDisk (IsOfPage (8 * c.args.n)) (IsOfPage (8 * c.from.result)) c.args.self.now.disk c.read_page.new.self
             (λ k inside. subst (λ n. IsOfPage (8 * n) k) c.from.ensures inside) c.read_page.ensures.asks;
+        once = once_named (IsOfPage (8 * c.args.n)) (IsOfPage (8 * c.from.result)) _ _ (λ k inside. subst (λ n. IsOfPage (8 * n) k) c.from.ensures inside) c.read_page.ensures.asks;
         as_written = search rules;
         kept = search rules;
         size = search rules;

@@ -3,6 +3,7 @@ use Rattle.disk_model.specs.Note.{Note}
 use Rattle.disk_model.specs.Stop.{ChangesPage, IsOfPage}
 use Rattle.disk_model.specs.Sectors.{part_of}
 use Rattle.disk_model.proofs.Moments.{asks_named}
+use Rattle.disk_model.proofs.Naming.{once_named}
 use Rattle.swap.specs.Written.{written_in, IsAsWritten}
 use Rattle.swap.proofs.Written.{rows_make, written_lost, written_new, noted-here}
 use Rattle.swap.proofs.pages.Pages.put.Goals as goal
@@ -24,6 +25,7 @@ returns-in_err-write_page g c =
       keeps = record {
         asks = asks_named g.D.SectorDisk (IsOfPage (8 * c.args.n)) (IsOfPage (8 * c.from-2.result)) c.args.self.now.disk c.write_page.new.self
             (λ k inside. subst (λ n. IsOfPage (8 * n) k) c.from-2.ensures inside) c.write_page.ensures.asks;
+        once = once_named (IsOfPage (8 * c.args.n)) (IsOfPage (8 * c.from-2.result)) _ _ (λ k inside. subst (λ n. IsOfPage (8 * n) k) c.from-2.ensures inside) c.write_page.ensures.asks;
         as_written = subst P (sym c.note.ensures)
             (written_lost g.D.SectorDisk c.args.n c.args.self.now.disk c.write_page.new.self (lost c.from.result) c.args.self.now.written.notes c.from.ensures refl c.requires.as_written
             c.write_page.ensures.kept (subst W c.from-2.ensures c.write_page.ensures.others));
@@ -49,6 +51,7 @@ returns g c =
       keeps = record {
         asks = asks_named g.D.SectorDisk (IsOfPage (8 * c.args.n)) (IsOfPage (8 * c.from-2.result)) c.args.self.now.disk c.write_page.new.self
             (λ k inside. subst (λ n. IsOfPage (8 * n) k) c.from-2.ensures inside) c.write_page.ensures.asks;
+        once = once_named (IsOfPage (8 * c.args.n)) (IsOfPage (8 * c.from-2.result)) _ _ (λ k inside. subst (λ n. IsOfPage (8 * n) k) c.from-2.ensures inside) c.write_page.ensures.asks;
         as_written = (let P : List Note → Type 0 = λ x. IsAsWritten g.D.SectorDisk c.write_page.new.self x in subst P (sym c.note-2.ensures) (subst Q (sym c.note.ensures)
             (written_new g.D.SectorDisk c.args.n c.write_page.new.self (lost c.from.result) (wrote c.from-3.result rows) c.args.self.now.written.notes c.args.page.now c.from-3.ensures
             (rows_make rows c.args.page.now c.parts.ensures.len c.told-page c.parts.ensures.each) c.told-page before (subst R c.from-2.ensures c.in_ok-write_page.ensures.written))));

@@ -60,7 +60,7 @@ returns-in_err-publish g c =
       map = search rules;
       synced = search rules;
       asks_device = commit_only g.D.SectorDisk (live_homes c.args.self.now) (length c.args.homes.now) c.args.disk.now c.finish.new.disk c.publish.new.disk
-          c.requires.live.few c.requires.homes.few c.finish.ensures.home.once c.publish.ensures.once;
+          c.requires.live.few c.requires.given.homes_are.few c.finish.ensures.home.once c.publish.ensures.once;
       not_live = λ is. c.in_ok-finish.ensures.not_live;
       source_gate = λ keeps is. e.source_gate keeps (told_was _ _ _ c.from_residual-in_err-publish.ensures.1 is) ∙ c.in_ok-finish.ensures.gate (e.kept keeps);
     }
@@ -88,7 +88,7 @@ returns g c =
       map = c.in_ok-publish.ensures.map;
       synced = λ keeps. (c.in_ok-publish.ensures.rest keeps).synced;
       asks_device = commit_only g.D.SectorDisk (live_homes c.args.self.now) (length c.args.homes.now) c.args.disk.now c.finish.new.disk c.publish.new.disk
-          c.requires.live.few c.requires.homes.few c.finish.ensures.home.once c.publish.ensures.once;
+          c.requires.live.few c.requires.given.homes_are.few c.finish.ensures.home.once c.publish.ensures.once;
       not_live = λ is. cc;
       source_gate = λ keeps is. cc;
     }

@@ -55,7 +55,7 @@ returns-in_err-count g c =
     let new = c.read_map.new.disk in
     let r = c.in_ok-read.ensures in
     let calm = r.cause.calm in
-    let failed = c.in_err-count.ensures.failed refl in
+    let failed = c.in_err-count.ensures.cause.failed refl in
     let asked = IsGateOrMapIn (layout_before c.args.journals) in
     record {
       before = search rules;
@@ -96,7 +96,7 @@ returns-in-Some g c =
       found = λ keeps. open_at layout _ content (opens keeps);
       looks = record {
         run = one_more d Nothing old mid new (no_write d Nothing old mid r.size r.kept r.cause.later r.same r.unsynced r.time) c.read_map.ensures.run;
-        blames = blames_none d old new _ (c.in_ok-count.ensures.calm ∙ r.cause.calm);
+        blames = blames_none d old new _ (c.in_ok-count.ensures.cause.calm ∙ r.cause.calm);
       };
       asks = asks_then d asked old mid new (asks_named d asked (λ k. k ≡ 2) old mid (λ k here. inl here) r.asks)
           (asks_wider d (IsMapIn layout) asked mid new (λ k map. inr map) c.read_map.ensures.asks);
@@ -120,7 +120,7 @@ returns-in-None g c =
       found = λ keeps. tt;
       looks = record {
         run = one_more d Nothing old mid new (no_write d Nothing old mid r.size r.kept r.cause.later r.same r.unsynced r.time) c.read_map.ensures.run;
-        blames = record { device = λ is. cc; calm = tt; still = λ is. c.in_ok-count.ensures.calm ∙ r.cause.calm };
+        blames = record { device = λ is. cc; calm = tt; still = λ is. c.in_ok-count.ensures.cause.calm ∙ r.cause.calm };
       };
       asks = asks_then d asked old mid new (asks_named d asked (λ k. k ≡ 2) old mid (λ k here. inl here) r.asks)
           (asks_wider d (IsMapIn layout) asked mid new (λ k map. inr map) c.read_map.ensures.asks);

@@ -1,4 +1,4 @@
-use Rattle.std.proofs.Common.{◌≡◌, sym, subst, ◌∙◌, rules}
+use Rattle.std.proofs.Common.{sym, subst, ◌∙◌, rules}
 use Rattle.disk_model.specs.Moments.{AsksOnly}
 use Rattle.disk_model.proofs.Moments.{weaker}
 use Rattle.sync_journal.specs.Map.{AreHomes}

@@ -1,4 +1,4 @@
-use Rattle.std.proofs.Common.{[], length, refl, subst, inl, inr, ◌∙◌, arith, rules}
+use Rattle.std.proofs.Common.{[], refl, subst, inl, inr, ◌∙◌, arith, rules}
 use Rattle.disk_model.proofs.Moments.{stays, weaker}
 use Rattle.sync_journal.specs.Journal.{live_homes}
 use Rattle.sync_journal.specs.Turns.{turn_standing, turn_home_count, IsTurnGate, IsTurnSettled, IsTurnUsed}

@@ -1,0 +1,55 @@
+use Rattle.std.proofs.Common.{◌≡◌, ◌+◌, ◌*◌, length, ⊎_elim, ◌∙◌, arith, rules}
+use Rattle.disk_model.proofs.Naming.{once_wider}
+use Rattle.sync_journal.specs.Layout.{IsPageSector, IsFilledAt, IsJournalAt, IsStagedAt}
+use Rattle.sync_journal.proofs.Asking.{staged_asks}
+use Rattle.sync_journal.proofs.Maps.{map_page}
+use Rattle.sync_journal.proofs.Runs.{one_more, of_more}
+use Rattle.sync_journal.proofs.stage.fill_journal.Goals as goal
+
+pub returns-in_err-write_pages : goal.returns-in_err-write_pages
+returns-in_err-write_pages g c =
+    record {
+      fills = record {
+        body = search rules;
+        once = once_wider (IsFilledAt c.args.start (length c.args.homes.now)) (IsStagedAt c.args.start (length c.args.homes.now)) _ _ (λ k inside. (omega (arith, inside.0), inside.1)) c.write_pages.ensures.once;
+        takes = search rules;
+      };
+      map = search rules;
+    }
+
+pub returns-in_err-write_page : goal.returns-in_err-write_page
+returns-in_err-write_page g c =
+    let d = g.D.SectorDisk in
+    record {
+      fills = record {
+        body = search rules;
+        once = staged_asks (d.asked c.args.disk.now) (d.asked c.write_pages.new.disk) (d.asked c.write_page.new.disk) c.args.start (length c.args.homes.now) c.write_pages.ensures.once c.write_page.ensures.asks;
+        takes = record {
+          run = one_more d (IsJournalAt c.args.start) c.args.disk.now c.write_pages.new.disk c.write_page.new.disk c.write_pages.ensures.run
+              (of_more d (IsPageSector c.args.start) (IsJournalAt c.args.start) c.write_pages.new.disk c.write_page.new.disk (λ k inside. (inside.0, omega (arith, inside.1))) c.write_page.ensures.run);
+          asks = search rules;
+          causes = search rules;
+        };
+      };
+      map = search rules;
+    }
+
+pub returns : goal.returns
+returns g c =
+    let d = g.D.SectorDisk in
+    let long : length c.map_page.result ≡ 4096 = search rules in
+    record {
+      fills = record {
+        body = λ keeps gives j i below_j below_i.
+            ⊎_elim (λ inside. absurd (omega (arith, inside.1))) (λ e. e) ((c.write_page.ensures.run.touches keeps).content (c.args.start + 8 + 8 * j + i))
+            ∙ c.in_ok-write_pages.ensures.body (c.write_page.ensures.run.kept keeps) gives j i below_j below_i;
+        once = staged_asks (d.asked c.args.disk.now) (d.asked c.write_pages.new.disk) (d.asked c.write_page.new.disk) c.args.start (length c.args.homes.now) c.write_pages.ensures.once c.write_page.ensures.asks;
+        takes = record {
+          run = one_more d (IsJournalAt c.args.start) c.args.disk.now c.write_pages.new.disk c.write_page.new.disk c.write_pages.ensures.run
+              (of_more d (IsPageSector c.args.start) (IsJournalAt c.args.start) c.write_pages.new.disk c.write_page.new.disk (λ k inside. (inside.0, omega (arith, inside.1))) c.write_page.ensures.run);
+          asks = search rules;
+          causes = search rules;
+        };
+      };
+      map = λ keeps. map_page c.args.start (d.content c.write_page.new.disk) c.map_page.result long (c.in_ok-write_page.ensures.written keeps) ∙ c.map_page.ensures;
+    }

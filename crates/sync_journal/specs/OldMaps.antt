@@ -1,0 +1,20 @@
+-- The map of a layout, which is only read.
+use Rattle.std.specs.Prelude.{ℕ, List, Option, Result, IfOk}
+use Rattle.disk_model.specs.Moments.{AsksOnly}
+use Rattle.disk_model.specs.declared.sector_disk.DiskFault.{DiskFault}
+use Rattle.disk_model.specs.declared.sector_disk.SectorDisk.{Ghosts}
+use Rattle.sync_journal.specs.Layout.{Layout, home_count_in, IsMapIn}
+use Rattle.sync_journal.specs.Map.{IsWithinHomes, ReadsMap}
+use Rattle.sync_journal.specs.Standing.{map_in}
+use Rattle.sync_journal.specs.Steps.{ReadsOnly}
+
+module _ {D : Type 0} (g : Ghosts D) where
+  -- The map of a layout is read:
+  pub record ReadsHomes (layout : Layout) (old new : D) (homes : List ℕ) (result : Result (Option ℕ) DiskFault) : Type 0 where
+    -- it is bad, or it names homes, no more than it has room for;
+    pub few : IfOk result (λ found. IsWithinHomes layout.most found)
+    pub names : g.keeps_model new → IfOk result (λ found. ReadsMap layout.most (home_count_in layout (g.sector_count old)) (map_in layout (g.content old)) homes found)
+    -- and the device is read alone, in no sector but the map's.
+    pub reads : ReadsOnly g old new result
+    pub open reads use *
+    pub asks : AsksOnly g (IsMapIn layout) old new

@@ -1,0 +1,23 @@
+-- What the tables on the way to a page say, one after another.
+use Rattle.std.specs.Prelude.{◌≡◌, ℕ, ◌+◌, ◌<◌, List, Option, None, Some, false, slice_index_or}
+use Rattle.sv39_walk.specs.Entry.{is_pointer}
+use Rattle.residency.specs.Picture.{is_live}
+use Rattle.inspection.specs.Machines.{memory_of, Tells}
+use Rattle.inspection.specs.Walks.{IsStep}
+use Rattle.inspection.specs.declared.walks.Step.{Step}
+use Rattle.machine.specs.declared.machine.Machine.{Machine}
+
+module _ {D E : Type 0} where
+  -- behind a step on the way to a page comes what the next table says, one level lower, or nothing where the way ends
+  abbrev pub StepsFrom : Machine D E → ℕ → ℕ → Option Step → Option Step → Type 0
+  StepsFrom m pid page None next = next ≡ None
+  StepsFrom m pid page (Some step) next =
+      IsStep (memory_of m) pid page step
+      → Tells m (λ s. IsStep (memory_of m) pid page s × (s.level + 1 ≡ step.level)) (0 < step.level → is_pointer step.entry.0 ≡ false) next
+
+  -- The way to a page of a process begins in its root table, if it lives, and goes on to its end.
+  pub record IsWayOf (m : Machine D E) (pid page : ℕ) (steps : List (Option Step)) : Type 0 where
+    pub root : Tells m (IsStep (memory_of m) pid page) (is_live (memory_of m) pid ≡ false) (slice_index_or steps 0 None)
+    pub second : StepsFrom m pid page (slice_index_or steps 0 None) (slice_index_or steps 1 None)
+    pub third : StepsFrom m pid page (slice_index_or steps 1 None) (slice_index_or steps 2 None)
+    pub fourth : StepsFrom m pid page (slice_index_or steps 2 None) (slice_index_or steps 3 None)
