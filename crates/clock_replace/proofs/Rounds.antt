@@ -1,11 +1,7 @@
 -- Rounds of the hand.
-use Rattle.std.proofs.Common.{◌≡◌, inl, inr, ℕ, ◌+◌, ◌-◌, ◌*◌, ◌%◌, ◌<◌, ◌≤◌, ◌==◌, if◌then◌else◌, sym, ap, ◌∙◌, subst, arith, eq-eqb, ne_eqb}
-use Rattle.std.proofs.lemmas.Bool.{cases_eq, cases_lt}
-use Rattle.std.proofs.lemmas.Nat.{mod_below}
+use Rattle.std.proofs.{Common.{◌≡◌, inl, inr, ℕ, ◌+◌, ◌-◌, ◌*◌, ◌%◌, ◌<◌, ◌≤◌, ◌==◌, if◌then◌else◌, sym, ap, ◌∙◌, subst, arith, eq-eqb, ne_eqb}, lemmas.Bool.{cases_eq, cases_lt}, lemmas.Nat.{mod_below}}
 use Rattle.std.proofs.Math.Nat.{mod-eq_of_lt, add-mod_left}
-use Rattle.clock_replace.specs.declared.frame_view.FrameView.{Ghosts}
-use Rattle.clock_replace.specs.Choice.{place, IsPassed, Passes, Chooses, Keeps}
-use Rattle.clock_replace.specs.Look.{Looks, IsChoice, IsPast}
+use Rattle.clock_replace.specs.{declared.frame_view.FrameView.{Ghosts}, Choice.{place, IsPassed, Passes, Chooses, Keeps}, Look.{Looks, IsChoice, IsPast}}
 
 -- a number under three rounds
 pub record Wraps (k total : ℕ) : Type 0 where

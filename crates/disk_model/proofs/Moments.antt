@@ -1,9 +1,6 @@
 -- How runs of device calls go on.
-use Rattle.std.proofs.Common.{inl, inr, ⊎_elim, ◌≡◌, ◌⊎◌, ◌≤◌, ◌+◌, ℕ, refl, sym, ap, subst, ◌∙◌, arith}
-use Rattle.std.proofs.lemmas.Bool.{cases_eq, cases_lt}
-use Rattle.disk_model.specs.Stop.{Image, MayLeave, ChangesOnly, ChangesPage, IsOfPage, Elapses, Names, NamesOnce}
-use Rattle.disk_model.specs.Moments.{Nothing, Touches, LeavesNow, LeavesOnly, AsksOnly}
-use Rattle.disk_model.specs.declared.sector_disk.SectorDisk.{Ghosts}
+use Rattle.std.proofs.{Common.{inl, inr, ⊎_elim, ◌≡◌, ◌⊎◌, ◌≤◌, ◌+◌, ℕ, refl, sym, ap, subst, ◌∙◌, arith}, lemmas.Bool.{cases_eq, cases_lt}}
+use Rattle.disk_model.specs.{Stop.{Image, MayLeave, ChangesOnly, ChangesPage, IsOfPage, Elapses, Names, NamesOnce}, Moments.{Nothing, Touches, LeavesNow, LeavesOnly, AsksOnly}, declared.sector_disk.SectorDisk.{Ghosts}}
 
 -- a sector is of a page or not
 of_page : (n k : ℕ) → IsOfPage n k ⊎ (IsOfPage n k → ⊥)

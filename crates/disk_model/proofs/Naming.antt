@@ -1,6 +1,5 @@
 -- Calls that name sectors, one after another.
-use Rattle.std.proofs.Common.{◌≤◌, ◌<◌, ◌+◌, ◌≡◌, ℕ, inl, inr, ⊎_elim, ap, ◌∙◌, arith}
-use Rattle.std.proofs.lemmas.Bool.{cases_eq}
+use Rattle.std.proofs.{Common.{◌≤◌, ◌<◌, ◌+◌, ◌≡◌, ℕ, inl, inr, ⊎_elim, ap, ◌∙◌, arith}, lemmas.Bool.{cases_eq}}
 use Rattle.disk_model.specs.Stop.{Names, NamesOnce}
 
 -- one of so many sectors from the first on

@@ -1,47 +1,22 @@
 -- Which sectors an access asks for, from step to step.
 use Rattle.vm_types.specs.declared.mode.Levels as Levels
-use Rattle.vm_types.specs.Limits.{top_level}
-use Rattle.std.proofs.Common.{◌≡◌, ◌≢◌, ◌<◌, ℕ, true, inl, inr, ◌⊎◌, Option, Some, None, refl, sym, ap, ◌∙◌, subst, arith}
-use Rattle.std.proofs.lemmas.Bool.{cases_Bool, cases_lt}
-use Rattle.vm_types.specs.declared.access.Access.{Access}
-use Rattle.vm_types.specs.declared.access.Access.TheVariants.{Store}
-use Rattle.vm_types.specs.declared.file.FilePage.{FilePage}
-use Rattle.vm_types.specs.declared.number.FrameNo.{FrameNo}
-use Rattle.vm_types.specs.declared.number.SlotNo.{SlotNo}
-use Rattle.vm_types.specs.declared.object.PageKey.{PageKey}
-use Rattle.vm_types.specs.declared.object.PageKey.TheVariants.{File}
-use Rattle.vm_types.specs.declared.region.Attr.{Attr}
-use Rattle.vm_types.specs.declared.region.Backing.TheVariants.{Private}
-use Rattle.disk_model.specs.declared.sector_disk.SectorDisk.{Ghosts}
-use Rattle.disk_model.specs.Moments.{AsksOnly, Nothing}
+use Rattle.vm_types.specs.{Limits.{top_level}, declared.access.Access.{Access}, declared.access.Access.TheVariants.{Store}, declared.file.FilePage.{FilePage}, declared.number.FrameNo.{FrameNo}, declared.number.SlotNo.{SlotNo}}
+use Rattle.vm_types.specs.{declared.object.PageKey.{PageKey}, declared.object.PageKey.TheVariants.{File}, declared.region.Attr.{Attr}, declared.region.Backing.TheVariants.{Private}}
+use Rattle.std.proofs.{Common.{◌≡◌, ◌≢◌, ◌<◌, ℕ, true, inl, inr, ◌⊎◌, Option, Some, None, refl, sym, ap, ◌∙◌, subst, arith}, lemmas.Bool.{cases_Bool, cases_lt}}
+use Rattle.disk_model.specs.{declared.sector_disk.SectorDisk.{Ghosts}, Moments.{AsksOnly, Nothing}}
 use Rattle.disk_model.proofs.Moments.{asks_none, asks_wider}
-use Rattle.file_store.specs.declared.store.FileStore.{FileStore}
-use Rattle.file_store.specs.Store.{IsSectorOf}
+use Rattle.file_store.specs.{declared.store.FileStore.{FileStore}, Store.{IsSectorOf}}
 use Rattle.frames.specs.FrameTable.{IsFull, frame_count}
 use Rattle.swap.specs.declared.slots.Swap.{Swap}
 use Rattle.swap.proofs.Stack.{inside_of}
 use Rattle.page_tables.specs.Tree.{IsPage}
-use Rattle.page_cache.specs.declared.place.Place.{Place}
-use Rattle.page_cache.specs.declared.place.Place.TheVariants.{Home, Frame, Slot}
-use Rattle.residency.specs.declared.kernel.Core.{Core}
-use Rattle.residency.specs.Seats.{InFrame, InSlot, seat, is_private, is_swapped}
-use Rattle.residency.specs.Picture.{Picture, picture_of, entry, is_data, IsOwned}
-use Rattle.residency.specs.Parts.{IsFit}
-use Rattle.residency.specs.Ages.{GivesForTables, KeepsRolesBut}
-use Rattle.residency.specs.Calls.{KeepsPages}
-use Rattle.residency.specs.Shows.{KeepsFiles}
-use Rattle.residency.proofs.Seats.{holders_none}
-use Rattle.fault.specs.Asking.{HasSwappable, MayAsk, AsksIfFull, AsksNoNew, AsksSlotsIf, IsSectorOfStoredPage, IsSectorOfPage}
-use Rattle.fault.specs.Changes.{IsCalm, KeepsBare, KeepsSlotted, LinksTables, Moves, copied_frame, frame_behind, frame_of_place}
-use Rattle.residency.specs.Ways.{IsWhole}
-use Rattle.fault.proofs.Asking.{asks_slots_any, asks_slots_if, asks_slots_kept, asks_slots_same, asks_slots_then, asks_slots_wider}
-use Rattle.fault.proofs.Forms.{none_common, seat_zero}
-use Rattle.residency.proofs.SeatForms.{seat_common, seat_own}
-use Rattle.fault.proofs.OwnSteps.{shown_common}
-use Rattle.fault.specs.AccessAsking.{IsSectorOfItsSlot, AsksForPage}
-use Rattle.fault.specs.Wants.{LacksTable, RunsOut, ShowsFile, WantsTwo}
-use Rattle.fault.proofs.Linked.{lacks_none}
-use Rattle.fault.proofs.AccessSteps.{keeps_seen}
+use Rattle.page_cache.specs.{declared.place.Place.{Place}, declared.place.Place.TheVariants.{Home, Frame, Slot}}
+use Rattle.residency.specs.{declared.kernel.Core.{Core}, Seats.{InFrame, InSlot, seat, is_private, is_swapped}, Picture.{Picture, picture_of, entry, is_data, IsOwned}, Parts.{IsFit}, Ages.{GivesForTables, KeepsRolesBut}}
+use Rattle.residency.specs.{Calls.{KeepsPages}, Shows.{KeepsFiles}, Ways.{IsWhole}}
+use Rattle.residency.proofs.{Seats.{holders_none}, SeatForms.{seat_common, seat_own}}
+use Rattle.fault.specs.{Asking.{HasSwappable, MayAsk, AsksIfFull, AsksNoNew, AsksSlotsIf, IsSectorOfStoredPage, IsSectorOfPage}, Changes.{IsCalm, KeepsBare, KeepsSlotted, LinksTables, Moves, copied_frame, frame_behind, frame_of_place}}
+use Rattle.fault.specs.{AccessAsking.{IsSectorOfItsSlot, AsksForPage}, Wants.{LacksTable, RunsOut, ShowsFile, WantsTwo}}
+use Rattle.fault.proofs.{Asking.{asks_slots_any, asks_slots_if, asks_slots_kept, asks_slots_same, asks_slots_then, asks_slots_wider}, Forms.{none_common, seat_zero}, OwnSteps.{shown_common}, Linked.{lacks_none}, AccessSteps.{keeps_seen}}
 use Rattle.fault.proofs.Wanted.{cases_frame, whole_or, shows_back}
 
 -- an entry that names a slot as the seat of its page is one of a page that lies in a slot

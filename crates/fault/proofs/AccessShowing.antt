@@ -1,33 +1,17 @@
 -- Memory after an access is a state of the flat model, where memory before it was one.
-use Rattle.std.proofs.Common.{◌≡◌, ◌≢◌, ℕ, inl, inr, ◌⊎◌, true, false, List, Option, Some, None, refl, sym, ap, ◌∙◌, subst, eq-eqb, ne_eqb}
+use Rattle.std.proofs.{Common.{◌≡◌, ◌≢◌, ℕ, inl, inr, ◌⊎◌, true, false, List, Option, Some, None, refl, sym, ap, ◌∙◌, subst, eq-eqb, ne_eqb}, lemmas.Bool.{cases_Bool, cases_eq, false≢true}}
 use Rattle.std.specs.Prelude.{is_some, ◌==◌, ◌&&◌}
-use Rattle.std.proofs.lemmas.Bool.{cases_Bool, cases_eq, false≢true}
-use Rattle.vm_types.specs.declared.file.FilePage.{FilePage}
-use Rattle.vm_types.specs.declared.object.ObjectPage.{ObjectPage}
-use Rattle.vm_types.specs.declared.object.PageKey.{PageKey}
-use Rattle.vm_types.specs.declared.object.PageKey.TheVariants.{File, Object}
-use Rattle.vm_types.specs.declared.region.Backing.{Backing}
-use Rattle.vm_types.specs.declared.region.Backing.TheVariants.{Anon, Private, Shared, Common}
-use Rattle.vm_types.specs.Access.{with_shown_bytes}
-use Rattle.vm_types.specs.State.{State, behind, copy_or_behind, or_zeros, shown, with_view}
-use Rattle.vm_types.specs.View.{View, zero_page}
+use Rattle.vm_types.specs.{declared.file.FilePage.{FilePage}, declared.object.ObjectPage.{ObjectPage}, declared.object.PageKey.{PageKey}, declared.object.PageKey.TheVariants.{File, Object}, declared.region.Backing.{Backing}}
+use Rattle.vm_types.specs.{declared.region.Backing.TheVariants.{Anon, Private, Shared, Common}, Access.{with_shown_bytes}, State.{State, behind, copy_or_behind, or_zeros, shown, with_view}, View.{View, zero_page}}
 use Rattle.disk_model.specs.declared.sector_disk.SectorDisk.{Ghosts}
 use Rattle.file_store.specs.Standing.{IsPageOf, standing_page}
 use Rattle.frames.specs.FrameTable as Frames
 use Rattle.frames.specs.FrameTable.{bytes_of}
 use Rattle.swap.specs.Slots.{SlotTable}
-use Rattle.page_cache.specs.declared.place.Place.{Place}
-use Rattle.page_cache.specs.declared.place.Place.TheVariants.{Home, Frame, Slot}
-use Rattle.residency.specs.Picture.{Picture, view, is_live, held, bytes_at}
-use Rattle.residency.specs.Parts.{IsFit, is_shared}
-use Rattle.residency.specs.Shows.{ShowsPages, object_bytes}
-use Rattle.residency.specs.Steps.{SameBeside}
-use Rattle.residency.proofs.Places.{cases_page}
-use Rattle.residency.proofs.Ways.{by_page}
-use Rattle.fault.specs.Changes.{KeepsSeen, KeepsSpaces}
-use Rattle.fault.specs.Files.{IsBrought, Stays, Leaves, Comes, Blank, BringsPages}
-use Rattle.fault.specs.Shown.{AreBehind, AreOwnOrBehind, AreShown}
-use Rattle.fault.specs.Outcome.{Owns, MarksTouchedIn}
+use Rattle.page_cache.specs.{declared.place.Place.{Place}, declared.place.Place.TheVariants.{Home, Frame, Slot}}
+use Rattle.residency.specs.{Picture.{Picture, view, is_live, held, bytes_at}, Parts.{IsFit, is_shared}, Shows.{ShowsPages, object_bytes}, Steps.{SameBeside}}
+use Rattle.residency.proofs.{Places.{cases_page}, Ways.{by_page}}
+use Rattle.fault.specs.{Changes.{KeepsSeen, KeepsSpaces}, Files.{IsBrought, Stays, Leaves, Comes, Blank, BringsPages}, Shown.{AreBehind, AreOwnOrBehind, AreShown}, Outcome.{Owns, MarksTouchedIn}}
 use Rattle.fault.proofs.Storing.{view_own, views_others, held_own, views_file, held_else, held_written}
 
 -- the processes and the files of a state, without what each process sees and what is touched
@@ -48,18 +32,6 @@ module _ {mode : ℕ} where
 page_of_same : {mode : ℕ} (old new : Picture mode) (p : FilePage) → ((f : ℕ) → new.files f ≡ old.files f) → IsPageOf new.files p.file p.page → IsPageOf old.files p.file p.page
 page_of_same old new p files inside = (inside.0, sym (files p.file) ∙ inside.1, inside.2)
 
-one_file : (p q : FilePage) → File p ≡ File q → p ≡ q
-one_file p q e = (cc)
-
-one_object : (p q : ObjectPage) → Object p ≡ Object q → p ≡ q
-one_object p q e = (cc)
-
-no_object : (p : FilePage) (o : ObjectPage) → File p ≡ Object o → ⊥
-no_object p o e = (cc)
-
-no_file : (o : ObjectPage) (p : FilePage) → Object o ≡ File p → ⊥
-no_file o p e = (cc)
-
 one_list : (v w : List ℕ) → Some v ≡ Some w → v ≡ w
 one_list v w same = (cc)
 
@@ -77,10 +49,10 @@ module _ {mode : ℕ} {D : Type 0} (g : Ghosts D) (before after : D) (W : PageKe
   held_now shows p bytes is (Stays same) = shows.held p bytes (sym same ∙ is)
   held_now shows p bytes is (Leaves none untouched) = let bad : None ≡ Some bytes = sym none ∙ is in (cc)
   held_now shows p bytes is (Comes f read e among here untouched from) =
-      let same : f ≡ p = sym (one_file p f e) in
+      let same : f ≡ p = (cc) in
       let inside = page_of_same old new p brings.files (fit.places.inside (File p) (held_away new (File p) bytes is)) in
       shows.clean p untouched inside ∙ sym (homes p inside) ∙ ap (λ x. standing_page (g.content before) x.file x.page) (sym same) ∙ sym (from kept) ∙ one_list read bytes (sym here ∙ is)
-  held_now shows p bytes is (Blank o e among here untouched) = absurd (no_object p o e)
+  held_now shows p bytes is (Blank o e among here untouched) = (cc)
 
   none_stored : ShowsPages old s → (p : ObjectPage) → old.touched (Object p) ≡ false → s.objects p.object p.page ≡ None
   none_stored shows p untouched = shows.objects p ∙ rw untouched refl
@@ -91,7 +63,7 @@ module _ {mode : ℕ} {D : Type 0} (g : Ghosts D) (before after : D) (W : PageKe
     | inr untouched ↦ ap or_zeros (none_stored shows p untouched) ∙ sym (shows.blank p bytes untouched (sym same ∙ is))
   ]
   object_now shows p bytes is (Leaves none untouched) = let bad : None ≡ Some bytes = sym none ∙ is in (cc)
-  object_now shows p bytes is (Comes f read e among here untouched from) = absurd (no_file p f e)
+  object_now shows p bytes is (Comes f read e among here untouched from) = (cc)
   object_now shows p bytes is (Blank o e among here untouched) = ap or_zeros (none_stored shows p untouched) ∙ one_list zero_page bytes (sym here ∙ is)
 
   stored_now : ShowsPages old s → (p : ObjectPage) (bytes : List ℕ) → s.objects p.object p.page ≡ Some bytes → IsBrought g before after W old new (Object p) → held new (Object p) ≡ Some bytes
@@ -100,7 +72,7 @@ module _ {mode : ℕ} {D : Type 0} (g : Ghosts D) (before after : D) (W : PageKe
     | inr untouched ↦ (let bad : None ≡ Some bytes = sym (none_stored shows p untouched) ∙ is in (cc))
   ]
   stored_now shows p bytes is (Leaves none untouched) = let bad : None ≡ Some bytes = sym (none_stored shows p untouched) ∙ is in (cc)
-  stored_now shows p bytes is (Comes f read e among here untouched from) = absurd (no_file p f e)
+  stored_now shows p bytes is (Comes f read e among here untouched from) = (cc)
   stored_now shows p bytes is (Blank o e among here untouched) = let bad : None ≡ Some bytes = sym (none_stored shows p untouched) ∙ is in (cc)
 
   -- reading file pages changes no file
@@ -158,8 +130,17 @@ own_shown c s b None bytes shows is = behind_shown c s b bytes shows is
 pub bytes_shown : {mode : ℕ} (c : Picture mode) (s : State) (v : View) (bytes : List ℕ) → ShowsFiles c s → AreShown c v bytes → bytes ≡ shown s v
 bytes_shown c s v bytes shows is = own_shown c s v.attr.backing v.own bytes shows is
 
+same_numbers : (a b c d : ℕ) → a ≡ c → b ≡ d → (a == c && b == d) ≡ true
+same_numbers a b c d e f = rw (eq-eqb a c e, eq-eqb b d f) refl
+
+other_numbers : (a b c d : ℕ) → (a ≡ c → b ≡ d → ⊥) → (a == c && b == d) ≡ false
+other_numbers a b c d ne = elim (cases_eq a c) [
+  | inl e ↦ rw (eq-eqb a c e, ne_eqb b d (ne e)) refl
+  | inr other ↦ rw (ne_eqb a c other) refl
+]
+
 same_test : (q p : FilePage) → q ≡ p → (q.file == p.file && q.page == p.page) ≡ true
-same_test q p is = rw (eq-eqb q.file p.file (ap (λ x. x.file) is), eq-eqb q.page p.page (ap (λ x. x.page) is)) refl
+same_test q p is = same_numbers q.file q.page p.file p.page (ap (λ x. x.file) is) (ap (λ x. x.page) is)
 
 abbrev file_page_of : ℕ → ℕ → FilePage
 file_page_of file page = record { file = file; page = page }
@@ -168,16 +149,10 @@ one_page : (q p : FilePage) → q.file ≡ p.file → q.page ≡ p.page → q �
 one_page q p e f = let same : file_page_of q.file q.page ≡ file_page_of p.file p.page = ap (λ x. file_page_of x q.page) e ∙ ap (λ x. file_page_of p.file x) f in same
 
 other_test : (q p : FilePage) → q ≢ p → (q.file == p.file && q.page == p.page) ≡ false
-other_test q p ne = elim (cases_eq q.file p.file) [
-  | inl e ↦ elim (cases_eq q.page p.page) [
-    | inl f ↦ absurd (ne (one_page q p e f))
-    | inr no_page ↦ rw (eq-eqb q.file p.file e, ne_eqb q.page p.page no_page) refl
-  ]
-  | inr no_file ↦ rw (ne_eqb q.file p.file no_file) refl
-]
+other_test q p ne = other_numbers q.file q.page p.file p.page (λ e f. ne (one_page q p e f))
 
 same_object : (q p : ObjectPage) → q ≡ p → (q.object == p.object && q.page == p.page) ≡ true
-same_object q p is = rw (eq-eqb q.object p.object (ap (λ x. x.object) is), eq-eqb q.page p.page (ap (λ x. x.page) is)) refl
+same_object q p is = same_numbers q.object q.page p.object p.page (ap (λ x. x.object) is) (ap (λ x. x.page) is)
 
 abbrev object_page_of : ℕ → ℕ → ObjectPage
 object_page_of object page = record { object = object; page = page }
@@ -187,23 +162,17 @@ one_number q p e f =
     let same : object_page_of q.object q.page ≡ object_page_of p.object p.page = ap (λ x. object_page_of x q.page) e ∙ ap (λ x. object_page_of p.object x) f in same
 
 other_object : (q p : ObjectPage) → q ≢ p → (q.object == p.object && q.page == p.page) ≡ false
-other_object q p ne = elim (cases_eq q.object p.object) [
-  | inl e ↦ elim (cases_eq q.page p.page) [
-    | inl f ↦ absurd (ne (one_number q p e f))
-    | inr no_page ↦ rw (eq-eqb q.object p.object e, ne_eqb q.page p.page no_page) refl
-  ]
-  | inr no_object ↦ rw (ne_eqb q.object p.object no_object) refl
-]
+other_object q p ne = other_numbers q.object q.page p.object p.page (λ e f. ne (one_number q p e f))
 
 cases_file : (q p : FilePage) → (q ≡ p) ⊎ (q ≢ p)
 cases_file q p = elim (cases_page (File q) (File p)) [
-  | inl e ↦ inl (one_file q p e)
+  | inl e ↦ inl (cc)
   | inr ne ↦ inr (λ e. ne (ap (λ x. File x) e))
 ]
 
 cases_object : (q p : ObjectPage) → (q ≡ p) ⊎ (q ≢ p)
 cases_object q p = elim (cases_page (Object q) (Object p)) [
-  | inl e ↦ inl (one_object q p e)
+  | inl e ↦ inl (cc)
   | inr ne ↦ inr (λ e. ne (ap (λ x. Object x) e))
 ]
 
@@ -277,8 +246,8 @@ module _ {mode : ℕ} (old mid new : Picture mode) (s : State) (pid page n : ℕ
   -- A store to a shared page of a file.
   pub shows_shared : (p : FilePage) → MarksTouchedIn old mid (File p) n → ShowsPages new (with_shown_bytes s pid page v (Shared p) w)
   shows_shared p marks =
-      let other : (q : FilePage) → q ≢ p → File q ≢ File p = λ q ne e. ne (one_file q p e) in
-      let object : (o : ObjectPage) → Object o ≢ File p = λ o e. no_file o p e in
+      let other : (q : FilePage) → q ≢ p → File q ≢ File p = λ q ne e. ne (cc) in
+      let object : (o : ObjectPage) → Object o ≢ File p = λ o e. (cc) in
       record {
         live = λ q. files.live q ∙ sym (ap is_some (beside.root q));
         views = λ q k. shows.views q k ∙ sym (marks.views q k) ∙ sym (views_file mid new n w fit marks.held frames beside (File p) marks.place q k);
@@ -307,8 +276,8 @@ module _ {mode : ℕ} (old mid new : Picture mode) (s : State) (pid page n : ℕ
   -- A store to a page of an object.
   pub shows_common : (p : ObjectPage) → MarksTouchedIn old mid (Object p) n → ShowsPages new (with_shown_bytes s pid page v (Common p) w)
   shows_common p marks =
-      let file : (q : FilePage) → File q ≢ Object p = λ q e. no_object q p e in
-      let other : (o : ObjectPage) → o ≢ p → Object o ≢ Object p = λ o ne e. ne (one_object o p e) in
+      let file : (q : FilePage) → File q ≢ Object p = λ q e. (cc) in
+      let other : (o : ObjectPage) → o ≢ p → Object o ≢ Object p = λ o ne e. ne (cc) in
       let touched : (q : FilePage) → s.touched q.file q.page ≡ new.touched (File q) = λ q. shows.touched q ∙ sym (marks.others (File q) (file q)) ∙ sym (beside.touched (File q)) in
       record {
         live = λ q. files.live q ∙ sym (ap is_some (beside.root q));

@@ -1,15 +1,10 @@
 -- What lies in a slot stays there, from step to step of an access, but for what the page shows.
 use Rattle.vm_types.specs.declared.mode.Levels as Levels
-use Rattle.std.proofs.Common.{◌≡◌, ◌≢◌, ℕ, inl, inr, ◌⊎◌, refl, sym, ap, ◌∙◌, subst}
-use Rattle.std.proofs.lemmas.Bool.{cases_eq}
+use Rattle.std.proofs.{Common.{◌≡◌, ◌≢◌, ℕ, inl, inr, ◌⊎◌, refl, sym, ap, ◌∙◌, subst}, lemmas.Bool.{cases_eq}}
 use Rattle.vm_types.specs.declared.object.PageKey.{PageKey}
-use Rattle.residency.specs.declared.kernel.Core.{Core}
-use Rattle.residency.specs.Picture.{Picture, picture_of, is_swapped}
-use Rattle.residency.specs.Calls.{KeepsPages}
-use Rattle.fault.specs.Changes.{IsCalm, IsThatPage, KeepsSlotted}
-use Rattle.fault.specs.Wants.{ShowsFile}
-use Rattle.fault.proofs.AccessSteps.{keeps_seen}
-use Rattle.fault.proofs.Wanted.{shows_back}
+use Rattle.residency.specs.{declared.kernel.Core.{Core}, Picture.{Picture, picture_of, is_swapped}, Calls.{KeepsPages}}
+use Rattle.fault.specs.{Changes.{IsCalm, IsThatPage, KeepsSlotted}, Wants.{ShowsFile}}
+use Rattle.fault.proofs.{AccessSteps.{keeps_seen}, Wanted.{shows_back}}
 
 -- nothing changed
 pub slotted_same : {mode : ℕ} (files : PageKey → Type 0) (own : ℕ → ℕ → Type 0) (c : Picture mode) → KeepsSlotted files own c c

@@ -1,31 +1,16 @@
 -- How the steps of an access follow one another.
 use Rattle.vm_types.specs.declared.mode.Levels as Levels
 use Rattle.std.proofs.Common.{◌≡◌, ◌+◌, ℕ, false, inl, inr, ◌⊎◌, Option, Some, None, Result, Ok, Err, refl, sym, ap, ◌∙◌, subst, arith}
-use Rattle.std.specs.Option.{option_map}
-use Rattle.std.specs.Prelude.{IfOk, IfErr, OnOk}
-use Rattle.vm_types.specs.declared.file.FileInfo.{FileInfo}
-use Rattle.vm_types.specs.declared.object.PageKey.{PageKey}
-use Rattle.vm_types.specs.declared.number.FrameNo.{FrameNo}
-use Rattle.vm_types.specs.declared.refusal.Stall.{Stall}
+use Rattle.std.specs.{Option.{option_map}, Prelude.{IfOk, IfErr, OnOk}}
+use Rattle.vm_types.specs.{declared.file.FileInfo.{FileInfo}, declared.object.PageKey.{PageKey}, declared.number.FrameNo.{FrameNo}, declared.refusal.Stall.{Stall}}
 use Rattle.vm_types.specs.declared.refusal.Stall.TheVariants.{NoFrames, NoSwap, SwapDevice, StoreDevice}
 use Rattle.disk_model.specs.declared.sector_disk.SectorDisk.{Ghosts}
-use Rattle.file_store.specs.declared.directory.Directory.{Directory}
-use Rattle.file_store.specs.declared.directory.Entry.{Entry}
-use Rattle.file_store.specs.declared.store.FileStore.{FileStore}
-use Rattle.file_store.specs.Store.{IsReadyStore, entry_of, files_of}
-use Rattle.page_cache.specs.declared.place.Place.{Place}
-use Rattle.page_cache.specs.declared.place.Place.TheVariants.{Home, Frame, Slot}
+use Rattle.file_store.specs.{declared.directory.Directory.{Directory}, declared.directory.Entry.{Entry}, declared.store.FileStore.{FileStore}, Store.{IsReadyStore, entry_of, files_of}}
+use Rattle.page_cache.specs.{declared.place.Place.{Place}, declared.place.Place.TheVariants.{Home, Frame, Slot}}
 use Rattle.frames.specs.FrameTable.{bytes_of}
-use Rattle.residency.specs.declared.kernel.Core.{Core}
-use Rattle.residency.specs.Picture.{Picture, picture_of, held, bytes_at}
-use Rattle.residency.specs.Calls.{KeepsPages}
-use Rattle.residency.specs.Stalls.{StallCause, HasStallCause, CountsNothing, ReadCause}
-use Rattle.residency.specs.Reading.{ReadsStore}
-use Rattle.residency.specs.Shows.{KeepsFiles}
-use Rattle.fault.specs.Changes.{KeepsSeen, Moves, MarksTouched, IsCalm}
-use Rattle.fault.specs.Files.{IsBrought, Stays, Leaves, Comes, Blank, BringsPages, Proceeds}
-use Rattle.fault.proofs.Steps.{spaces_then, room_then, tables_then, device_then}
-use Rattle.fault.proofs.BroughtIn.{reads_none}
+use Rattle.residency.specs.{declared.kernel.Core.{Core}, Picture.{Picture, picture_of, held, bytes_at}, Calls.{KeepsPages}, Stalls.{StallCause, HasStallCause, CountsNothing, ReadCause}, Reading.{ReadsStore}, Shows.{KeepsFiles}}
+use Rattle.fault.specs.{Changes.{KeepsSeen, Moves, MarksTouched, IsCalm}, Files.{IsBrought, Stays, Leaves, Comes, Blank, BringsPages, Proceeds}}
+use Rattle.fault.proofs.{Steps.{spaces_then, room_then, tables_then, device_then}, BroughtIn.{reads_none}}
 
 pub keeps_seen : {mode : ℕ} (old new : Picture mode) → KeepsPages old new → KeepsSeen old new
 keeps_seen old new pages = record { views = pages.views; touched = pages.files.touched }

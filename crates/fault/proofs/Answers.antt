@@ -1,13 +1,9 @@
 -- What the walk answers at an entry of the lowest level: a leaf that grants the access gives its frame, and nothing else does.
-use Rattle.std.proofs.Common.{◌≡◌, ℕ, ◌+◌, ◌*◌, ◌%◌, ◌<◌, Bool, true, false, ◌&&◌, ◌||◌, not, if◌then◌else◌, Ok, Err, Result, refl, sym, ap, ◌∙◌, arith}
+use Rattle.std.proofs.{Common.{◌≡◌, ℕ, ◌+◌, ◌*◌, ◌%◌, ◌<◌, Bool, true, false, ◌&&◌, ◌||◌, not, if◌then◌else◌, Ok, Err, Result, refl, sym, ap, ◌∙◌, arith}, lemmas.Bool.Decides.{nat_tests}}
 use Rattle.std.specs.Prelude.{nat_le, ◌==◌}
-use Rattle.std.proofs.lemmas.Bool.Decides.{nat_tests}
-use Rattle.vm_types.specs.declared.access.Access.{Access}
-use Rattle.vm_types.specs.declared.number.Phys.{Phys}
-use Rattle.sv39_walk.specs.declared.translation.WalkFault.{WalkFault}
-use Rattle.sv39_walk.specs.declared.translation.WalkFault.TheVariants.{Invalid, Reserved, TooDeep, Outside, Misaligned, Denied, NotAccessed, NotDirty}
-use Rattle.sv39_walk.specs.Entry.{is_valid, is_user, is_accessed, is_dirty, is_reserved, is_leaf, frame_of, grants}
-use Rattle.sv39_walk.specs.Walk.{page_of, frame_in, is_store, answer_of}
+use Rattle.vm_types.specs.{declared.access.Access.{Access}, declared.number.Phys.{Phys}}
+use Rattle.sv39_walk.specs.{declared.translation.WalkFault.{WalkFault}, declared.translation.WalkFault.TheVariants.{Invalid, Reserved, TooDeep, Outside, Misaligned, Denied, NotAccessed, NotDirty}}
+use Rattle.sv39_walk.specs.{Entry.{is_valid, is_user, is_accessed, is_dirty, is_reserved, is_leaf, frame_of, grants}, Walk.{page_of, frame_in, is_store, answer_of}}
 use Rattle.fault.specs.Granted.{IsOpenLeaf}
 
 guard : (b : Bool) (f : WalkFault) (r : Result Phys WalkFault) (p : Phys) → (if not b then Err f else r) ≡ Ok p → (b ≡ true) × (r ≡ Ok p)

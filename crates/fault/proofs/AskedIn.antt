@@ -1,29 +1,18 @@
 -- Which sectors a call asks for that brings a page into memory, and which a later one may.
 use Rattle.vm_types.specs.declared.mode.Levels as Levels
-use Rattle.std.proofs.Common.{◌≡◌, ◌≢◌, ℕ, ◌⊎◌, inl, inr, Option, Some, None, Result, Ok, Err, refl, sym, ap, ◌∙◌, arith}
+use Rattle.std.proofs.{Common.{◌≡◌, ◌≢◌, ℕ, ◌⊎◌, inl, inr, Option, Some, None, Result, Ok, Err, refl, sym, ap, ◌∙◌, subst, arith}, lemmas.Bool.{cases_eq}}
 use Rattle.std.specs.Prelude.{IfOk}
-use Rattle.std.proofs.lemmas.Bool.{cases_eq}
-use Rattle.vm_types.specs.declared.object.PageKey.{PageKey}
-use Rattle.vm_types.specs.declared.number.FrameNo.{FrameNo}
-use Rattle.vm_types.specs.declared.refusal.Stall.{Stall}
-use Rattle.disk_model.specs.declared.sector_disk.SectorDisk.{Ghosts}
-use Rattle.disk_model.specs.Moments.{AsksOnly}
+use Rattle.vm_types.specs.{declared.object.PageKey.{PageKey}, declared.number.FrameNo.{FrameNo}, declared.refusal.Stall.{Stall}}
+use Rattle.disk_model.specs.{declared.sector_disk.SectorDisk.{Ghosts}, Moments.{AsksOnly}}
 use Rattle.disk_model.proofs.Moments.{asks_none, asks_wider, asks_then}
 use Rattle.frames.specs.FrameTable.{IsFull}
-use Rattle.file_store.specs.declared.store.FileStore.{FileStore}
-use Rattle.page_cache.specs.declared.place.Place.{Place}
-use Rattle.page_cache.specs.declared.place.Place.TheVariants.{Home, Frame, Slot}
-use Rattle.swap.specs.declared.slots.Swap.{Swap}
-use Rattle.swap.specs.Slots.{IsSectorOfSlot, IsSectorOfFreeSlot}
-use Rattle.residency.specs.declared.kernel.Core.{Core}
-use Rattle.residency.specs.Picture.{Picture, picture_of, is_data}
-use Rattle.residency.specs.Parts.{IsFit}
-use Rattle.residency.specs.Calls.{Frees, ObtainsCached, AsksSwap}
-use Rattle.residency.specs.Steps.{BringsIn}
-use Rattle.residency.proofs.Homing.{one_slot}
-use Rattle.residency.proofs.Places.{cases_page, one_frame}
-use Rattle.fault.specs.Asking.{HasSwappable, MayAsk, AsksNoNew, IsSectorOfPage}
-use Rattle.fault.proofs.Asking.{asks_swap, no_new_frees}
+use Rattle.file_store.specs.{declared.store.FileStore.{FileStore}, Store.{IsReadyStore}}
+use Rattle.page_cache.specs.{declared.place.Place.{Place}, declared.place.Place.TheVariants.{Home, Frame, Slot}}
+use Rattle.swap.specs.{declared.slots.Swap.{Swap}, Slots.{IsSectorOfSlot, IsSectorOfFreeSlot}}
+use Rattle.residency.specs.{declared.kernel.Core.{Core}, Picture.{Picture, picture_of, is_data}, Parts.{IsFit}, AskedFrames.{ComesIn, IsRefused, UsesSwap}, Calls.{Frees, KeepsRest, ObtainsCached, AsksSwap}, Steps.{BringsIn}}
+use Rattle.residency.proofs.{Homing.{one_slot}, Places.{cases_page, one_frame}}
+use Rattle.fault.specs.{Asking.{HasSwappable, MayAsk, AsksIfFull, AsksNoNew, IsSectorOfPage, IsSectorOfStoredPage}, Files.{BringsFiles}, PagingIn.{PagesIn}}
+use Rattle.fault.proofs.{Asking.{asks_swap, no_new_frees}, BroughtIn.{keeps_in, only_in, placed_in, reads_none, causes_of, never_store, refused_but}}
 
 -- a frame was asked for, and then a slot read
 module _ {M : Type 0} {m : Levels.Ghosts M} {D E : Type 0} (h : Ghosts E) where
@@ -91,3 +80,41 @@ module _ {mode : ℕ} (old new : Picture mode) (page : PageKey) (fit : IsFit old
   pub no_new_of : (r : Result FrameNo Stall) → IfOk r (λ n. ObtainsCached old new page n.0) → IfOk r (λ n. AsksNoNew old new (Some n) (IsSectorOfPage old page))
   no_new_of (Ok n) obtains = no_new_came n obtains
   no_new_of (Err s) obtains = tt
+
+-- such a page was brought in, or wasn't, and nothing read from the store
+module _ {M : Type 0} {m : Levels.Ghosts M} {D E : Type 0} (g : Ghosts D) (h : Ghosts E) {before after : Core D E M m} {page : PageKey} {r : Result FrameNo Stall} where
+  pub pages_in_beside : IsFit (picture_of before) → IsReadyStore g before.store → ((k : FrameNo) → (picture_of before).place page ≢ Frame k) → ComesIn before after page r → KeepsRest before after
+      → {also : ℕ → Type 0} → UsesSwap h before after also r → IsRefused h before after None r → AsksIfFull h before after None (IsSectorOfPage (picture_of before) page)
+      → BringsFiles g h (λ p. p ≡ page) before after → PagesIn g h before after page r
+  pages_in_beside fit store away comes rest uses refused asks brings =
+      let keeps = keeps_in comes in
+      let P : FileStore D → Type 0 = λ s. IsReadyStore g s in
+      record {
+        placed = placed_in comes;
+        only = only_in comes;
+        proceeds = record {
+          fit = comes.fit;
+          ready = subst P (sym rest.store) store;
+          swap = uses.swap;
+          spaces = keeps.spaces;
+          tables = keeps.tables;
+          room = keeps.room;
+          reads = reads_none g before.store after.store rest.store;
+          device = uses.device;
+        };
+        brings = brings;
+        keeps = keeps.seen;
+        bare = keeps.bare;
+        rows = keeps.rows;
+        no_table = keeps.no_table;
+        slotted = keeps.slotted;
+        read = inl rest.store;
+        asks = asks;
+        asks_store = store_same g (IsSectorOfStoredPage before.store page) before.store after.store rest.store;
+        asks_later = no_new_of (picture_of before) (picture_of after) page fit away r comes.brought;
+        cause = causes_of g h before after r rest.store refused.cause;
+        home = never_store g h _ before after r refused.cause;
+        frees = comes.frees;
+        refuses = refused_but _ r refused.refuses;
+        short = refused.short;
+      }

@@ -1,32 +1,15 @@
 -- An access goes on after the file page of its page was brought into a frame.
 use Rattle.vm_types.specs.declared.mode.Levels as Levels
-use Rattle.vm_types.specs.Limits.{top_level}
+use Rattle.vm_types.specs.{Limits.{top_level}, declared.access.Access.{Access}, declared.object.PageKey.{PageKey}, declared.number.FrameNo.{FrameNo}, declared.refusal.Stall.{Stall}, declared.refusal.Stall.TheVariants.{StoreDevice}}
 use Rattle.std.proofs.Common.{◌≡◌, ◌≢◌, ◌≤◌, ℕ, false, inl, inr, ◌⊎◌, None, Result, Ok, Err, refl, sym, ◌∙◌, subst, arith}
 use Rattle.std.specs.Prelude.{IfErr}
-use Rattle.vm_types.specs.declared.access.Access.{Access}
-use Rattle.vm_types.specs.declared.object.PageKey.{PageKey}
-use Rattle.vm_types.specs.declared.number.FrameNo.{FrameNo}
-use Rattle.vm_types.specs.declared.refusal.Stall.{Stall}
-use Rattle.vm_types.specs.declared.refusal.Stall.TheVariants.{StoreDevice}
 use Rattle.disk_model.specs.declared.sector_disk.SectorDisk.{Ghosts}
 use Rattle.file_store.specs.declared.store.FileStore.{FileStore}
 use Rattle.page_tables.specs.Tree.{missing_of}
 use Rattle.page_cache.specs.declared.place.Place.TheVariants.{Frame}
-use Rattle.residency.specs.declared.kernel.Core.{Core}
-use Rattle.residency.specs.Picture.{Picture, picture_of, held}
-use Rattle.residency.specs.Parts.{IsFit}
-use Rattle.residency.specs.Calls.{Frees, Refuses, UsesDevice}
-use Rattle.residency.specs.Stalls.{HasStallCause, ReadCause}
-use Rattle.residency.specs.Capacity.{IsShort}
-use Rattle.residency.specs.Shows.{KeepsFiles}
-use Rattle.fault.specs.Changes.{IsLinked, IsCalm, KeepsSeen, KeepsSpaces, KeepsTables}
-use Rattle.fault.specs.Files.{BringsPages, BringsFiles, IsInStore}
-use Rattle.fault.proofs.Steps.{seen_then}
-use Rattle.fault.specs.Outcome.{IsStalled}
-use Rattle.fault.specs.Wants.{ShowsFile, Wants, ReadsHome}
-use Rattle.fault.proofs.Keeping.{nowhere_keeps}
-use Rattle.fault.proofs.AccessSteps.{brings_after, brings_then, cause_then, no_store}
-use Rattle.fault.proofs.Wanted.{page_there, there_or, reads_home}
+use Rattle.residency.specs.{declared.kernel.Core.{Core}, Picture.{Picture, picture_of, held}, Parts.{IsFit}, Calls.{Frees, Refuses, UsesDevice}, Stalls.{HasStallCause, ReadCause}, Capacity.{IsShort}, Shows.{KeepsFiles}}
+use Rattle.fault.specs.{Changes.{IsLinked, IsCalm, KeepsSeen, KeepsSpaces, KeepsTables}, Files.{BringsPages, BringsFiles, IsInStore}, Outcome.{IsStalled}, Wants.{ShowsFile, Wants, ReadsHome}}
+use Rattle.fault.proofs.{Steps.{seen_then}, Keeping.{nowhere_keeps}, AccessSteps.{brings_after, brings_then, cause_then, no_store}, Wanted.{page_there, there_or, reads_home}}
 
 none_left : (m n : ℕ) → m ≤ n → n ≡ 0 → m ≡ 0
 none_left m n low none = omega (arith, low, none)

@@ -2,126 +2,96 @@
 use Rattle.vm_types.specs.declared.mode.Levels as Levels
 use Rattle.std.proofs.Common.{◌≡◌, ◌≢◌, ℕ, false, inl, inr, ◌⊎◌, Option, Some, None, Result, Ok, Err, refl, sym, ap, ◌∙◌, subst, arith}
 use Rattle.std.specs.Prelude.{IfOk, IfErr, OnErr}
-use Rattle.vm_types.specs.declared.file.FilePage.{FilePage}
-use Rattle.vm_types.specs.declared.object.ObjectPage.{ObjectPage}
-use Rattle.vm_types.specs.declared.object.PageKey.{PageKey}
-use Rattle.vm_types.specs.declared.object.PageKey.TheVariants.{File, Object}
-use Rattle.vm_types.specs.View.{zero_page}
-use Rattle.vm_types.specs.declared.number.FrameNo.{FrameNo}
-use Rattle.vm_types.specs.declared.refusal.Stall.{Stall}
-use Rattle.vm_types.specs.declared.refusal.Stall.TheVariants.{NoFrames, NoSwap, SwapDevice, StoreDevice}
-use Rattle.disk_model.specs.declared.sector_disk.SectorDisk.{Ghosts}
-use Rattle.disk_model.specs.Moments.{Touches, Nothing}
+use Rattle.vm_types.specs.{declared.file.FilePage.{FilePage}, declared.object.ObjectPage.{ObjectPage}, declared.object.PageKey.{PageKey}, declared.object.PageKey.TheVariants.{File, Object}, View.{zero_page}}
+use Rattle.vm_types.specs.{declared.number.FrameNo.{FrameNo}, declared.refusal.Stall.{Stall}, declared.refusal.Stall.TheVariants.{NoFrames, NoSwap, SwapDevice, StoreDevice}}
+use Rattle.disk_model.specs.{declared.sector_disk.SectorDisk.{Ghosts}, Moments.{Touches, Nothing}}
 use Rattle.file_store.specs.declared.store.FileStore.{FileStore}
 use Rattle.frames.specs.FrameTable.{IsFull, bytes_of, role_of}
 use Rattle.page_cache.specs.declared.place.Place.TheVariants.{Home, Frame, Slot}
-use Rattle.residency.specs.declared.kernel.Core.{Core}
-use Rattle.residency.specs.Ages.{KeepsRolesBut}
-use Rattle.residency.specs.Picture.{Picture, held, bytes_at}
-use Rattle.residency.specs.Parts.{IsFit}
-use Rattle.residency.specs.Calls.{Frees, ObtainsCached}
-use Rattle.residency.specs.Stalls.{StallCause, HasStallCause, ReadCause, HasReadCause}
-use Rattle.residency.specs.Reading.{ReadsStore, IsRead}
-use Rattle.residency.proofs.BroughtIn.{fit_brought, trees_brought, entries_brought, views_brought, held_else, held_here}
-use Rattle.residency.proofs.Places.{cases_page}
-use Rattle.fault.specs.Changes.{AddsNoTable, KeepsSpaces, KeepsTables, KeepsRows, KeepsRoom, KeepsSeen, KeepsBare, KeepsSlotted}
-use Rattle.fault.specs.Files.{IsBrought, Stays, Leaves, Comes, Blank, BringsPages}
-use Rattle.fault.proofs.NoTables.{no_table_then, no_table_freed, no_table_trees}
-use Rattle.fault.proofs.Rows.{rows_then, rows_freed, rows_trees}
-use Rattle.fault.proofs.Slotted.{slotted_then, slotted_frees}
+use Rattle.residency.specs.{declared.kernel.Core.{Core}, Ages.{KeepsRolesBut}, AskedFrames.{ComesIn}, Picture.{Picture, picture_of, held, bytes_at}, Parts.{IsFit}, Calls.{Frees, ObtainsCached}}
+use Rattle.residency.specs.{Stalls.{StallCause, HasStallCause, ReadCause, HasReadCause}, Reading.{ReadsStore, IsRead}}
+use Rattle.residency.proofs.{BroughtIn.{trees_brought, entries_brought, views_brought, held_else, held_here}, Places.{cases_page}}
+use Rattle.fault.specs.{Changes.{AddsNoTable, KeepsSpaces, KeepsTables, KeepsRows, KeepsRoom, KeepsSeen, KeepsBare, KeepsSlotted}, Files.{IsBrought, Stays, Leaves, Comes, Blank, BringsPages}}
+use Rattle.fault.proofs.{NoTables.{no_table_then, no_table_freed, no_table_trees}, Rows.{rows_then, rows_freed, rows_trees}, Slotted.{slotted_then, slotted_frees}}
 use Rattle.fault.proofs.Steps.{spaces_then, room_then, seen_then, tables_then, bare_then, tables_same, spaces_freed, room_freed, seen_freed, tables_freed, bare_freed}
 
--- a frame was obtained, and the page of a file or an object brought into it
-module _ {mode : ℕ} (old new : Picture mode) (page : PageKey) (n : ℕ) (obtains : ObtainsCached old new page n) where
-  abbrev found : Picture mode
-  found = obtains.found
+module _ {mode : ℕ} where
+  -- A page of a file or an object was brought into a frame, or frames were given up in vain: what stays as it was.
+  pub record KeepsBut (old new : Picture mode) (page : PageKey) : Type 0 where
+    pub spaces : KeepsSpaces old new
+    pub tables : KeepsTables old new
+    pub room : KeepsRoom old new
+    pub seen : KeepsSeen old new
+    pub bare : KeepsBare old new
+    pub rows : KeepsRows old new
+    pub no_table : AddsNoTable old new
+    pub slotted : KeepsSlotted (λ p. p ≡ page) (λ q p. ⊥) old new
 
-  spaces_came : KeepsSpaces old new
-  spaces_came = spaces_then old found new (spaces_freed old found _ obtains.frees) (record { root = obtains.brings.root; at = obtains.brings.at })
-
-  tables_came : KeepsTables old new
-  tables_came = tables_then old found new obtains.frees.pages.root (tables_freed old found _ obtains.frees)
-      (tables_same found new (λ pid r p e. (trees_brought found new page n obtains.fit obtains.brings).missing r p (obtains.fit.rooted.roots pid r e)))
-
-  rows_came : KeepsRows old new
-  rows_came = rows_then old found new obtains.frees.pages.root (rows_freed old found _ obtains.fit obtains.frees)
-      (rows_trees found new obtains.fit (trees_brought found new page n obtains.fit obtains.brings))
-
-  no_table_came : AddsNoTable old new
-  no_table_came = no_table_then old found new (no_table_freed old found _ obtains.frees) (no_table_trees found new (trees_brought found new page n obtains.fit obtains.brings))
-
-  only_came : IsFull old.frames ⊎ KeepsRolesBut old new n
-  only_came = elim obtains.needed [
-    | inl full ↦ inl full
-    | inr same ↦ inr (λ k ne. obtains.brings.frames.roles k ne ∙ ap (λ (c : Picture mode). role_of c.frames k) same)
-  ]
-
-  room_came : KeepsRoom old new
-  room_came = room_then old found new (room_freed old found _ obtains.frees) (record { frames = obtains.brings.frames.frames; slots = obtains.brings.slots.total })
-
-  seen_came : KeepsSeen old new
-  seen_came = seen_then old found new (seen_freed old found _ obtains.frees)
-      (record { views = views_brought found new page n obtains.fit obtains.brings; touched = obtains.brings.touched })
-
-  bare_came : KeepsBare old new
-  bare_came = bare_then old found new (bare_freed old found _ obtains.frees) (λ q p h none. entries_brought found new page n obtains.fit obtains.brings q p ∙ none)
-
-  slotted_came : KeepsSlotted (λ p. p ≡ page) (λ q p. ⊥) old new
-  slotted_came = slotted_then (λ p. p ≡ page) (λ q p. ⊥) old found new (slotted_frees (λ p. p ≡ page) (λ q p. ⊥) old found _ obtains.frees) (record {
-    file_pages = λ p k at. elim (cases_page p page) [
-      | inl is ↦ inl is
-      | inr ne ↦ inr (obtains.brings.others p ne ∙ at)
-    ];
-    copies = λ q p h away. inr (entries_brought found new page n obtains.fit obtains.brings q p);
-  })
-
-  fit_came : IsFit new
-  fit_came = fit_brought found new page n obtains.fit obtains.brings
-
-  files_came : (f : ℕ) → new.files f ≡ old.files f
-  files_came f = obtains.brings.files f ∙ obtains.frees.pages.files.files f
-
--- an outcome of either kind
 module _ {mode : ℕ} (old new : Picture mode) (page : PageKey) where
-  pub spaces_of : (r : Result FrameNo Stall) → IfOk r (λ n. ObtainsCached old new page n.0) → OnErr r (Frees old new None) → KeepsSpaces old new
-  spaces_of (Ok n) obtains frees = spaces_came old new page n.0 obtains
-  spaces_of (Err s) obtains frees = spaces_freed old new None frees
+  module _ (n : ℕ) (obtains : ObtainsCached old new page n) where
+    keeps_came : KeepsBut old new page
+    keeps_came =
+        let found : Picture mode = obtains.found in
+        let frees = obtains.frees in
+        let trees = trees_brought found new page n obtains.fit obtains.brings in
+        let entries = entries_brought found new page n obtains.fit obtains.brings in
+        record {
+          spaces = spaces_then old found new (spaces_freed old found _ frees) (record { root = obtains.brings.root; at = obtains.brings.at });
+          tables = tables_then old found new frees.pages.root (tables_freed old found _ frees) (tables_same found new (λ pid r p e. trees.missing r p (obtains.fit.rooted.roots pid r e)));
+          room = room_then old found new (room_freed old found _ frees) (record { frames = obtains.brings.frames.frames; slots = obtains.brings.slots.total });
+          seen = seen_then old found new (seen_freed old found _ frees) (record { views = views_brought found new page n obtains.fit obtains.brings; touched = obtains.brings.touched });
+          bare = bare_then old found new (bare_freed old found _ frees) (λ q p h none. entries q p ∙ none);
+          rows = rows_then old found new frees.pages.root (rows_freed old found _ obtains.fit frees) (rows_trees found new obtains.fit trees);
+          no_table = no_table_then old found new (no_table_freed old found _ frees) (no_table_trees found new trees);
+          slotted = slotted_then (λ p. p ≡ page) (λ q p. ⊥) old found new (slotted_frees (λ p. p ≡ page) (λ q p. ⊥) old found _ frees) (record {
+            file_pages = λ p k at. elim (cases_page p page) [
+              | inl is ↦ inl is
+              | inr ne ↦ inr (obtains.brings.others p ne ∙ at)
+            ];
+            copies = λ q p h away. inr (entries q p);
+          });
+        }
 
-  pub tables_of : (r : Result FrameNo Stall) → IfOk r (λ n. ObtainsCached old new page n.0) → OnErr r (Frees old new None) → KeepsTables old new
-  tables_of (Ok n) obtains frees = tables_came old new page n.0 obtains
-  tables_of (Err s) obtains frees = tables_freed old new None frees
+    only_came : IsFull old.frames ⊎ KeepsRolesBut old new n
+    only_came = elim obtains.needed [
+      | inl full ↦ inl full
+      | inr same ↦ inr (λ k ne. obtains.brings.frames.roles k ne ∙ ap (λ (c : Picture mode). role_of c.frames k) same)
+    ]
 
-  pub rows_of : (r : Result FrameNo Stall) → IfOk r (λ n. ObtainsCached old new page n.0) → IsFit new → OnErr r (Frees old new None) → KeepsRows old new
-  rows_of (Ok n) obtains fit frees = rows_came old new page n.0 obtains
-  rows_of (Err s) obtains fit frees = rows_freed old new None fit frees
+    files_came : (f : ℕ) → new.files f ≡ old.files f
+    files_came f = obtains.brings.files f ∙ obtains.frees.pages.files.files f
 
-  pub no_table_of : (r : Result FrameNo Stall) → IfOk r (λ n. ObtainsCached old new page n.0) → OnErr r (Frees old new None) → AddsNoTable old new
-  no_table_of (Ok n) obtains frees = no_table_came old new page n.0 obtains
-  no_table_of (Err s) obtains frees = no_table_freed old new None frees
+  -- an outcome of either kind
+  keeps_of : (r : Result FrameNo Stall) → IfOk r (λ n. ObtainsCached old new page n.0) → IsFit new → OnErr r (Frees old new None) → KeepsBut old new page
+  keeps_of (Ok n) obtains fit frees = keeps_came n.0 obtains
+  keeps_of (Err s) obtains fit frees = record {
+    spaces = spaces_freed old new None frees;
+    tables = tables_freed old new None frees;
+    room = room_freed old new None frees;
+    seen = seen_freed old new None frees;
+    bare = bare_freed old new None frees;
+    rows = rows_freed old new None fit frees;
+    no_table = no_table_freed old new None frees;
+    slotted = slotted_frees (λ p. p ≡ page) (λ q p. ⊥) old new None frees;
+  }
 
-  pub only_of : (r : Result FrameNo Stall) → IfOk r (λ n. ObtainsCached old new page n.0) → IfOk r (λ n. IsFull old.frames ⊎ KeepsRolesBut old new n.0)
-  only_of (Ok n) obtains = only_came old new page n.0 obtains
+  only_of : (r : Result FrameNo Stall) → IfOk r (λ n. ObtainsCached old new page n.0) → IfOk r (λ n. IsFull old.frames ⊎ KeepsRolesBut old new n.0)
+  only_of (Ok n) obtains = only_came n.0 obtains
   only_of (Err s) obtains = tt
 
-  pub room_of : (r : Result FrameNo Stall) → IfOk r (λ n. ObtainsCached old new page n.0) → OnErr r (Frees old new None) → KeepsRoom old new
-  room_of (Ok n) obtains frees = room_came old new page n.0 obtains
-  room_of (Err s) obtains frees = room_freed old new None frees
-
-  pub seen_of : (r : Result FrameNo Stall) → IfOk r (λ n. ObtainsCached old new page n.0) → OnErr r (Frees old new None) → KeepsSeen old new
-  seen_of (Ok n) obtains frees = seen_came old new page n.0 obtains
-  seen_of (Err s) obtains frees = seen_freed old new None frees
-
-  pub bare_of : (r : Result FrameNo Stall) → IfOk r (λ n. ObtainsCached old new page n.0) → OnErr r (Frees old new None) → KeepsBare old new
-  bare_of (Ok n) obtains frees = bare_came old new page n.0 obtains
-  bare_of (Err s) obtains frees = bare_freed old new None frees
-
-  pub slotted_of : (r : Result FrameNo Stall) → IfOk r (λ n. ObtainsCached old new page n.0) → OnErr r (Frees old new None) → KeepsSlotted (λ p. p ≡ page) (λ q p. ⊥) old new
-  slotted_of (Ok n) obtains frees = slotted_came old new page n.0 obtains
-  slotted_of (Err s) obtains frees = slotted_frees (λ p. p ≡ page) (λ q p. ⊥) old new None frees
-
-  pub placed_of : (r : Result FrameNo Stall) → IfOk r (λ n. ObtainsCached old new page n.0) → IfOk r (λ n. new.place page ≡ Frame n)
+  placed_of : (r : Result FrameNo Stall) → IfOk r (λ n. ObtainsCached old new page n.0) → IfOk r (λ n. new.place page ≡ Frame n)
   placed_of (Ok n) obtains = obtains.brings.placed
   placed_of (Err s) obtains = tt
+
+module _ {M : Type 0} {m : Levels.Ghosts M} {D E : Type 0} {before after : Core D E M m} {page : PageKey} {r : Result FrameNo Stall} (comes : ComesIn before after page r) where
+  pub keeps_in : KeepsBut (picture_of before) (picture_of after) page
+  keeps_in = keeps_of (picture_of before) (picture_of after) page r comes.brought comes.fit comes.frees
+
+  pub only_in : IfOk r (λ n. IsFull before.frames ⊎ KeepsRolesBut (picture_of before) (picture_of after) n.0)
+  only_in = only_of (picture_of before) (picture_of after) page r comes.brought
+
+  pub placed_in : IfOk r (λ n. (picture_of after).place page ≡ Frame n)
+  placed_in = placed_of (picture_of before) (picture_of after) page r comes.brought
 
 module _ {D : Type 0} (g : Ghosts D) where
   touches_none : (d : D) → Touches g Nothing d d

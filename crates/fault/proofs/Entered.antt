@@ -1,40 +1,17 @@
 -- A page whose entry was set, or that came back from its slot, grants what its region lets be done.
 use Rattle.vm_types.specs.declared.mode.Levels as Levels
-use Rattle.vm_types.specs.Limits.{top_level}
+use Rattle.vm_types.specs.{Limits.{top_level}, declared.access.Access.{Access}, declared.access.Access.TheVariants.{Load, Store, Fetch}, declared.number.FrameNo.{FrameNo}, declared.refusal.Stall.{Stall}, declared.region.Attr.{Attr}}
+use Rattle.vm_types.specs.Verdict.{lets}
 use Rattle.std.proofs.Common.{◌≡◌, ◌≢◌, ℕ, Bool, true, false, Some, None, Result, Ok, Err, refl, subst}
 use Rattle.std.specs.Prelude.{IfOk, IfErr, OnErr}
-use Rattle.vm_types.specs.declared.access.Access.{Access}
-use Rattle.vm_types.specs.declared.access.Access.TheVariants.{Load, Store, Fetch}
-use Rattle.vm_types.specs.declared.number.FrameNo.{FrameNo}
-use Rattle.vm_types.specs.declared.refusal.Stall.{Stall}
-use Rattle.vm_types.specs.declared.region.Attr.{Attr}
-use Rattle.vm_types.specs.Verdict.{lets}
 use Rattle.disk_model.specs.declared.sector_disk.SectorDisk.{Ghosts}
 use Rattle.frames.specs.FrameTable.{bytes_of, count_of, IsSound}
-use Rattle.residency.specs.declared.kernel.Core.{Core}
-use Rattle.residency.specs.Picture.{Picture, picture_of, entry, is_private, is_swapped}
-use Rattle.residency.specs.Parts.{IsFit, is_shared}
-use Rattle.residency.specs.Calls.{Frees, Refuses}
-use Rattle.residency.specs.Stalls.{HasStallCause}
-use Rattle.residency.specs.Capacity.{IsShort}
-use Rattle.residency.specs.Shows.{KeepsFiles}
-use Rattle.page_tables.specs.Leaves.{IsEntryOver}
-use Rattle.page_tables.specs.Tree.{IsPage}
-use Rattle.fault.specs.Leaves.{IsFullEntry}
-use Rattle.fault.specs.Changes.{KeepsSeen, KeepsViews}
-use Rattle.fault.proofs.BroughtIn.{cause_of}
+use Rattle.residency.specs.{declared.kernel.Core.{Core}, Picture.{Picture, picture_of, entry, is_private, is_swapped}, Parts.{IsFit, is_shared}, Calls.{Frees, Refuses}, Stalls.{HasStallCause}, Capacity.{IsShort}, Shows.{KeepsFiles}}
+use Rattle.page_tables.specs.{Leaves.{IsEntryOver}, Tree.{IsPage}}
+use Rattle.fault.specs.{Leaves.{IsFullEntry}, Changes.{KeepsSeen, KeepsViews}, Granted.{IsEntered, IsReadyAt}, Outcome.{IsStalled, seen_at}, Shown.{AreShown}, Wants.{ForSlot}}
+use Rattle.fault.proofs.{BroughtIn.{cause_of}, Forms.{mapped_page, over_here}, OwnSteps.{full_own}, Keeping.{away_keeps}, Opening.{reads_too}, Ready.{shown_there}}
+use Rattle.fault.proofs.{Settled.{readable, ready_read, entered_read, entered_store, entered_ready, ready_own, owned_entry, ready_after}, AccessSteps.{ok_from, no_store}}
 use Rattle.page_tables.proofs.Bits.{over_some}
-use Rattle.fault.proofs.Forms.{mapped_page, over_here}
-use Rattle.fault.proofs.OwnSteps.{full_own}
-use Rattle.fault.specs.Granted.{IsEntered, IsReadyAt}
-use Rattle.fault.specs.Outcome.{IsStalled, seen_at}
-use Rattle.fault.specs.Shown.{AreShown}
-use Rattle.fault.specs.Wants.{ForSlot}
-use Rattle.fault.proofs.Keeping.{away_keeps}
-use Rattle.fault.proofs.Opening.{reads_too}
-use Rattle.fault.proofs.Ready.{shown_there}
-use Rattle.fault.proofs.Settled.{readable, ready_read, entered_read, entered_store, entered_ready, ready_own, owned_entry, ready_after}
-use Rattle.fault.proofs.AccessSteps.{ok_from, no_store}
 
 -- a page that is to be read
 module _ {mode : ℕ} (old new : Picture mode) (pid page : ℕ) (a : Attr) (access : Access) (n : ℕ) (private write stored : Bool) (fit : IsFit new) (sound : IsSound new.frames) (was : old.at pid page ≡ Some a)
@@ -68,15 +45,9 @@ module _ {mode : ℕ} (new : Picture mode) (pid page : ℕ) (a : Attr) (fit : Is
       ready_own new new pid page a n alone
       (owned_entry new new pid page a n fit sound now alone (reads_too new pid page a fit now allowed) (stores allowed) own_shown (λ q k other. refl) (λ p. refl))
 
-  load_ne : Load ≢ Store
-  load_ne e = (cc)
-
-  fetch_ne : Fetch ≢ Store
-  fetch_ne e = (cc)
-
   self_entered : (access : Access) → lets access a.prot ≡ true → IsEntered new pid page a access n
-  self_entered Load allowed = entered_read Load new pid page a n true _ _ load_ne allowed full (entered_ready Load new new pid page a n (self_ready Load allowed))
-  self_entered Fetch allowed = entered_read Fetch new pid page a n true _ _ fetch_ne allowed full (entered_ready Fetch new new pid page a n (self_ready Fetch allowed))
+  self_entered Load allowed = entered_read Load new pid page a n true _ _ (λ e. (cc)) allowed full (entered_ready Load new new pid page a n (self_ready Load allowed))
+  self_entered Fetch allowed = entered_read Fetch new pid page a n true _ _ (λ e. (cc)) allowed full (entered_ready Fetch new new pid page a n (self_ready Fetch allowed))
   self_entered Store allowed =
       entered_store new pid page a n true (reads_too new pid page a fit now allowed) (stores allowed) (entered_ready Store new new pid page a n (self_ready Store allowed))
 

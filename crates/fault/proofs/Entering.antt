@@ -1,34 +1,17 @@
 -- The fullest entry of a page set where no table is missing.
 use Rattle.vm_types.specs.declared.mode.Levels as Levels
-use Rattle.vm_types.specs.Limits.{top_level}
+use Rattle.vm_types.specs.{Limits.{top_level}, declared.object.PageKey.{PageKey}, declared.region.Attr.{Attr}, Verdict.{is_past_end}}
 use Rattle.std.proofs.Common.{◌≡◌, ◌≢◌, ℕ, inl, Bool, true, false, Some, [], get_or, sym, ap, ◌∙◌, subst}
-use Rattle.vm_types.specs.declared.object.PageKey.{PageKey}
-use Rattle.vm_types.specs.declared.region.Attr.{Attr}
-use Rattle.vm_types.specs.Verdict.{is_past_end}
 use Rattle.sv39_walk.specs.Entry.{frame_of}
-use Rattle.page_tables.specs.Tree.{IsPage, missing_of, page_entry}
-use Rattle.page_tables.specs.Change.{SetsEntry}
+use Rattle.page_tables.specs.{Tree.{IsPage, missing_of, page_entry}, Change.{SetsEntry}}
 use Rattle.file_store.specs.Store.{files_of}
-use Rattle.page_cache.specs.declared.place.Place.TheVariants.{Home, Frame}
-use Rattle.page_cache.specs.CacheTable.{place_of, is_touched}
+use Rattle.page_cache.specs.{declared.place.Place.TheVariants.{Home, Frame}, CacheTable.{place_of, is_touched}}
 use Rattle.swap.specs.Slots.{slots_of}
-use Rattle.residency.specs.declared.kernel.Core.{Core}
-use Rattle.residency.specs.Seats.{seat}
-use Rattle.residency.specs.Picture.{Picture, picture_of, entry, view, own_in, root_in, attr_where}
-use Rattle.residency.specs.Parts.{IsFit, IsBehind, is_shared, nowhere}
-use Rattle.residency.specs.Shows.{KeepsFiles}
-use Rattle.residency.specs.Steps.{SameBeside, SetsPage}
-use Rattle.residency.proofs.BroughtIn.{fit_touched}
-use Rattle.residency.proofs.Entries.{entry-same}
-use Rattle.residency.proofs.Granting.{entry_for-same}
-use Rattle.residency.proofs.Moves.{behind_kept, view_kept}
-use Rattle.residency.proofs.Setting.{fit_set, set_views, set_held}
-use Rattle.residency.proofs.TableSteps.{sets_page, rooted_set}
-use Rattle.fault.specs.Leaves.{IsFullEntry}
-use Rattle.fault.specs.Changes.{IsLinked, Enters, KeepsTables, KeepsViews}
+use Rattle.residency.specs.{declared.kernel.Core.{Core}, Seats.{seat}, Picture.{Picture, picture_of, entry, view, own_in, root_in, attr_where}, Parts.{IsFit, IsBehind, is_shared, nowhere}, Shows.{KeepsFiles}, Steps.{SameBeside, SetsPage}}
 use Rattle.residency.specs.Ways.{KeepsAround}
-use Rattle.fault.proofs.Forms.{full_entry, full_dirty_sound, mapped_page}
-use Rattle.fault.proofs.Steps.{tables_same}
+use Rattle.residency.proofs.{BroughtIn.{fit_touched}, Entries.{entry-same}, Granting.{entry_for-same}, Moves.{behind_kept, view_kept}, Setting.{fit_set, set_views, set_held}, TableSteps.{sets_page, rooted_set}}
+use Rattle.fault.specs.{Leaves.{IsFullEntry}, declared.spot.Spot.{Spot}, Changes.{IsLinked, StandsAt, Enters, KeepsTables, KeepsViews}, FramesShown.{SetsFull, ShowsFully}}
+use Rattle.fault.proofs.{Forms.{full_entry, full_dirty_sound, mapped_page}, Steps.{tables_same}}
 
 -- what a call leaves that changes frames and the count of refused requests alone
 pub beside_around : {M : Type 0} {m : Levels.Ghosts M} → {D E : Type 0} (old new : Core D E M m) → KeepsAround old new → SameBeside (picture_of old) (picture_of new)
@@ -102,6 +85,19 @@ module _ {M : Type 0} {m : Levels.Ghosts M} {D E : Type 0} where
           place = beside.place;
           others = (full_set o n pid page r a frame private linked lives at sets beside).others;
         };
+      }
+
+-- the same of a page at its place, and the files stay
+module _ {M : Type 0} {m : Levels.Ghosts M} {D E : Type 0} {old new : Core D E M m} {spot : Spot} {a : Attr} {frame : ℕ} {private : Bool} (stands : StandsAt (picture_of old) spot)
+    (at : (picture_of old).at spot.pid spot.page ≡ Some a) (set : SetsFull old new spot a frame private) where
+  pub shows_set : seat set.sets.0 ≡ seat (entry (picture_of old) spot.pid spot.page) → (private ≡ true → is_shared a.backing ≡ false) → (private ≡ false → IsBehind (picture_of old) a.backing frame)
+      → is_past_end (picture_of old).files a.backing ≡ false → ShowsFully old new spot a frame private
+  shows_set same alone behind inside =
+      let beside = beside_around old new set.rest in
+      record {
+        enters = enters_set old new spot.pid spot.page spot.root.0 a frame private stands.linked stands.root at set.sets set.rest set.not_refused same alone behind inside;
+        files = full_files (picture_of old) (picture_of new) spot.pid spot.page spot.root.0 a frame private stands.linked stands.root at set.sets beside;
+        entry = full_entry_now (picture_of old) (picture_of new) spot.pid spot.page spot.root.0 a frame private stands.linked stands.root at set.sets beside;
       }
 
 -- A file page that lies in a frame was touched.

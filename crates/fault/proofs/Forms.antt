@@ -1,29 +1,17 @@
 -- The fullest entry of a page fits it, and the frame of a page with an entry is in use.
 use Rattle.vm_types.proofs.Modes.{user_pages_fit}
-use Rattle.vm_types.specs.Limits.{top_level}
-use Rattle.std.proofs.Common.{◌≡◌, ◌≢◌, ℕ, inl, inr, Bool, true, false, Option, Some, None, length, refl, sym, ap, ◌∙◌, subst, arith, eqb-true}
+use Rattle.vm_types.specs.{Limits.{top_level}, declared.object.PageKey.{PageKey}, declared.object.PageKey.TheVariants.{File, Object}, declared.region.Attr.{Attr}, Attributes.{stands_on}, declared.region.Backing.{Backing}}
+use Rattle.vm_types.specs.{declared.region.Backing.TheVariants.{Anon, Private, Shared, Common}, Verdict.{is_past_end}}
+use Rattle.std.proofs.{Common.{◌≡◌, ◌≢◌, ℕ, inl, inr, Bool, true, false, Option, Some, None, length, refl, sym, ap, ◌∙◌, subst, arith, eqb-true}, lemmas.Bool.{cases_Bool, cases_lt, false≢true}, lemmas.List.{get_or_past}}
 use Rattle.std.specs.Prelude.{◌&&◌}
-use Rattle.std.proofs.lemmas.Bool.{cases_Bool, cases_lt, false≢true}
-use Rattle.std.proofs.lemmas.List.{get_or_past}
-use Rattle.vm_types.specs.declared.object.PageKey.{PageKey}
-use Rattle.vm_types.specs.declared.object.PageKey.TheVariants.{File, Object}
-use Rattle.vm_types.specs.declared.region.Attr.{Attr}
-use Rattle.vm_types.specs.Attributes.{stands_on}
-use Rattle.vm_types.specs.declared.region.Backing.{Backing}
-use Rattle.vm_types.specs.declared.region.Backing.TheVariants.{Anon, Private, Shared, Common}
 use Rattle.vm_types.specs.Permission as Permission
-use Rattle.vm_types.specs.Verdict.{is_past_end}
 use Rattle.frames.specs.declared.role.Role.TheVariants as Role
 use Rattle.frames.specs.FrameTable.{FrameTable, IsFrame, IsSound, role_of, count_of}
 use Rattle.sv39_walk.specs.Entry.{is_valid, is_dirty, frame_of, has_bit}
-use Rattle.page_tables.specs.Tree.{IsPage}
+use Rattle.page_tables.specs.{Tree.{IsPage}, Leaves.{IsLeaf, IsEntryOver, is_barred}}
 use Rattle.page_cache.specs.declared.place.Place.TheVariants.{Home, Frame}
-use Rattle.residency.specs.Seats.{InFrame, InSlot, seat, is_private, is_swapped}
-use Rattle.residency.specs.Picture.{Picture, entry}
-use Rattle.residency.specs.Parts.{IsGranting, IsEntryFor, Nothing, Resident, Away, IsResident, IsBehind, IsWithin, HasPlaces, IsFit, is_shared}
-use Rattle.residency.proofs.SeatForms.{seat_own, seat_common, seat_away}
-use Rattle.residency.proofs.Start.{seat-none}
-use Rattle.page_tables.specs.Leaves.{IsLeaf, IsEntryOver, is_barred}
+use Rattle.residency.specs.{Seats.{InFrame, InSlot, seat, is_private, is_swapped}, Picture.{Picture, entry}, Parts.{IsGranting, IsEntryFor, Nothing, Resident, Away, IsResident, IsBehind, IsWithin, HasPlaces, IsFit, is_shared}}
+use Rattle.residency.proofs.{SeatForms.{seat_own, seat_common, seat_away}, Start.{seat-none}}
 use Rattle.fault.specs.Leaves.{IsFullEntry, is_touched_behind, full_write}
 use Rattle.page_tables.proofs.Bits.{parked_invalid, parked_framed}
 

@@ -1,32 +1,14 @@
 -- Which frame an access keeps while it asks for another.
-use Rattle.vm_types.specs.Limits.{top_level}
-use Rattle.std.proofs.Common.{◌≡◌, ◌≢◌, ℕ, inl, inr, true, false, Some, None, refl, sym, ap, ◌∙◌}
-use Rattle.std.proofs.lemmas.Bool.{cases_Bool}
-use Rattle.vm_types.specs.declared.access.Access.{Access}
-use Rattle.vm_types.specs.declared.access.Access.TheVariants.{Store}
-use Rattle.vm_types.specs.declared.number.FrameNo.{FrameNo}
-use Rattle.vm_types.specs.declared.object.PageKey.{PageKey}
-use Rattle.vm_types.specs.declared.object.PageKey.TheVariants.{File, Object}
-use Rattle.vm_types.specs.declared.region.Attr.{Attr}
-use Rattle.vm_types.specs.declared.region.Backing.{Backing}
-use Rattle.vm_types.specs.declared.region.Backing.TheVariants.{Anon, Private, Shared, Common}
-use Rattle.vm_types.specs.Attributes.{stands_on}
+use Rattle.vm_types.specs.{Limits.{top_level}, declared.access.Access.{Access}, declared.access.Access.TheVariants.{Store}, declared.number.FrameNo.{FrameNo}, declared.object.PageKey.{PageKey}}
+use Rattle.vm_types.specs.{declared.object.PageKey.TheVariants.{File, Object}, declared.region.Attr.{Attr}, declared.region.Backing.{Backing}, declared.region.Backing.TheVariants.{Anon, Private, Shared, Common}, Attributes.{stands_on}}
+use Rattle.std.proofs.{Common.{◌≡◌, ◌≢◌, ℕ, inl, inr, true, false, Some, None, refl, sym, ap, ◌∙◌}, lemmas.Bool.{cases_Bool}}
 use Rattle.frames.specs.FrameTable.{bytes_of}
 use Rattle.page_tables.specs.Tree.{IsPage}
-use Rattle.page_cache.specs.declared.place.Place.{Place}
-use Rattle.page_cache.specs.declared.place.Place.TheVariants.{Home, Frame, Slot}
-use Rattle.residency.specs.Seats.{InFrame, InSlot, seat, is_private, is_swapped}
-use Rattle.residency.specs.Picture.{Picture, entry}
-use Rattle.residency.specs.Parts.{IsFit, IsBehind, is_shared}
-use Rattle.residency.specs.Calls.{Frees}
-use Rattle.fault.specs.Changes.{IsLinked, KeepsSeen, KeepsSpaces, KeepsTables, KeepsViews, copied_frame, shown_frame}
-use Rattle.residency.specs.Ways.{IsWhole}
-use Rattle.fault.proofs.Forms.{mapped_page}
+use Rattle.page_cache.specs.{declared.place.Place.{Place}, declared.place.Place.TheVariants.{Home, Frame, Slot}}
+use Rattle.residency.specs.{Seats.{InFrame, InSlot, seat, is_private, is_swapped}, Picture.{Picture, entry}, Parts.{IsFit, IsBehind, is_shared}, Calls.{Frees}, Ways.{IsWhole}}
+use Rattle.fault.specs.{Changes.{IsLinked, KeepsSeen, KeepsSpaces, KeepsTables, KeepsViews, copied_frame, shown_frame}, Wants.{HoldsShown, KeepsOwnFrame, ShowsFile}}
+use Rattle.fault.proofs.{Forms.{mapped_page}, OwnSteps.{shown_own, shown_behind}, Staying.{linked_kept}, Settled.{none_same}}
 use Rattle.residency.proofs.SeatForms.{seat_own, seat_common, seat_away}
-use Rattle.fault.proofs.OwnSteps.{shown_own, shown_behind}
-use Rattle.fault.proofs.Staying.{linked_kept}
-use Rattle.fault.specs.Wants.{HoldsShown, KeepsOwnFrame, ShowsFile}
-use Rattle.fault.proofs.Settled.{none_same}
 
 one_attr : (a b : Attr) → Some a ≡ Some b → a ≡ b
 one_attr a b e = (cc)

@@ -6,6 +6,7 @@ pub mod TablesLinked
 pub mod TablesGiven
 pub mod Forms
 pub mod Entering
+pub mod Aside
 pub mod BroughtIn
 pub mod Settling
 pub mod SwapSteps
@@ -35,3 +36,4 @@ pub mod Storing
 pub mod AccessShowing
 pub mod AccessAsking
 pub mod Serving
+pub mod Served

@@ -1,44 +1,17 @@
 -- An access goes on after the tables on its way were linked.
 use Rattle.vm_types.specs.declared.mode.Levels as Levels
-use Rattle.vm_types.specs.Limits.{top_level}
-use Rattle.std.proofs.Common.{◌≡◌, ℕ, inl, inr, ◌⊎◌, true, false, None, Some, Result, refl, sym, ap, ◌∙◌, subst}
+use Rattle.vm_types.specs.{Limits.{top_level}, declared.access.Access.{Access}, declared.object.PageKey.{PageKey}, declared.object.PageKey.TheVariants.{File}, declared.number.FrameNo.{FrameNo}, declared.refusal.Stall.{Stall}}
+use Rattle.vm_types.specs.{declared.region.Attr.{Attr}, declared.region.Backing.{Backing}, declared.region.Backing.TheVariants.{Anon, Private, Shared, Common}, Files.{is_past_end_of}, Verdict.{is_past_end}}
+use Rattle.std.proofs.{Common.{◌≡◌, ℕ, inl, inr, ◌⊎◌, true, false, None, Some, Result, refl, sym, ap, ◌∙◌, subst}, lemmas.Bool.{false≢true}}
 use Rattle.std.specs.Prelude.{IfOk, IfErr}
-use Rattle.std.proofs.lemmas.Bool.{false≢true}
-use Rattle.vm_types.specs.declared.access.Access.{Access}
-use Rattle.vm_types.specs.declared.object.PageKey.{PageKey}
-use Rattle.vm_types.specs.declared.object.PageKey.TheVariants.{File}
-use Rattle.vm_types.specs.declared.number.FrameNo.{FrameNo}
-use Rattle.vm_types.specs.declared.refusal.Stall.{Stall}
-use Rattle.vm_types.specs.declared.region.Attr.{Attr}
-use Rattle.vm_types.specs.declared.region.Backing.{Backing}
-use Rattle.vm_types.specs.declared.region.Backing.TheVariants.{Anon, Private, Shared, Common}
-use Rattle.vm_types.specs.Files.{is_past_end_of}
-use Rattle.vm_types.specs.Verdict.{is_past_end}
 use Rattle.disk_model.specs.declared.sector_disk.SectorDisk.{Ghosts}
 use Rattle.file_store.specs.declared.store.FileStore.{FileStore}
 use Rattle.page_tables.specs.Tree.{IsPage}
 use Rattle.page_tables.proofs.Ends.{page_entry-missing}
-use Rattle.residency.specs.declared.kernel.Core.{Core}
-use Rattle.residency.specs.Ages.{GivesForTables}
-use Rattle.residency.specs.Seats.{is_swapped}
-use Rattle.residency.specs.Picture.{Picture, picture_of, entry}
-use Rattle.residency.specs.Calls.{KeepsPages, Refuses}
-use Rattle.residency.specs.Stalls.{StallCause}
-use Rattle.residency.specs.Capacity.{IsShort}
+use Rattle.residency.specs.{declared.kernel.Core.{Core}, Ages.{GivesForTables}, Seats.{is_swapped}, Picture.{Picture, picture_of, entry}, Calls.{KeepsPages, Refuses}, Stalls.{StallCause}, Capacity.{IsShort}, Ways.{IsWhole}}
 use Rattle.residency.proofs.Entries.{entry-of}
-use Rattle.fault.specs.Changes.{IsCalm, KeepsBare, LinksTables, Moves}
-use Rattle.residency.specs.Ways.{IsWhole}
-use Rattle.fault.specs.Files.{BringsPages, BringsFiles}
-use Rattle.fault.proofs.BroughtIn.{cause_of}
-use Rattle.fault.proofs.Forms.{none_here, seat_zero}
-use Rattle.fault.proofs.Steps.{seen_then}
-use Rattle.fault.specs.Found.{IsOpenTo}
-use Rattle.fault.specs.Granted.{IsReadyAt}
-use Rattle.fault.specs.Outcome.{IsStalled}
-use Rattle.fault.specs.Wants.{LacksTable, ShowsFile, Wants, ForTable, ReadsHome}
-use Rattle.fault.proofs.Keeping.{unlinked_keeps}
-use Rattle.fault.proofs.Settled.{ready_after}
-use Rattle.fault.proofs.AccessSteps.{keeps_seen, brings_after, cause_then, ok_then, stall_then, no_store}
+use Rattle.fault.specs.{Changes.{IsCalm, KeepsBare, LinksTables, Moves}, Files.{BringsPages, BringsFiles}, Found.{IsOpenTo}, Granted.{IsReadyAt}, Outcome.{IsStalled}, Wants.{LacksTable, ShowsFile, Wants, ForTable, ReadsHome}}
+use Rattle.fault.proofs.{BroughtIn.{cause_of}, Forms.{none_here, seat_zero}, Steps.{seen_then}, Keeping.{unlinked_keeps}, Settled.{ready_after}, AccessSteps.{keeps_seen, brings_after, cause_then, ok_then, stall_then, no_store}}
 use Rattle.fault.proofs.Wanted.{whole_or, shows_back}
 
 past_still : {mode : ℕ} (old new : Picture mode) (b : Backing) → ((f : ℕ) → new.files f ≡ old.files f) → is_past_end old.files b ≡ false → is_past_end new.files b ≡ false

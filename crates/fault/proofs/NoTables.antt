@@ -1,18 +1,10 @@
 -- Steps by which no frame comes to be a table.
-use Rattle.vm_types.specs.Limits.{top_level}
-use Rattle.std.proofs.Common.{◌≡◌, ◌<◌, ℕ, ◌⊎◌, Option, inl, inr, get_or, sym, ap, ◌∙◌, subst}
-use Rattle.std.proofs.lemmas.Bool.{cases_eq}
-use Rattle.vm_types.specs.declared.number.FrameNo.{FrameNo}
-use Rattle.frames.specs.declared.role.Role.TheVariants.{Free, Table}
-use Rattle.frames.specs.FrameTable.{FrameTable, IsFull, frame_count, role_of}
-use Rattle.page_tables.specs.Tree.{IsTable}
-use Rattle.page_tables.specs.Change.{SetsEntry}
+use Rattle.vm_types.specs.{Limits.{top_level}, declared.number.FrameNo.{FrameNo}}
+use Rattle.std.proofs.{Common.{◌≡◌, ◌<◌, ℕ, ◌⊎◌, Option, inl, inr, get_or, sym, ap, ◌∙◌, subst}, lemmas.Bool.{cases_eq}}
+use Rattle.frames.specs.{declared.role.Role.TheVariants.{Free, Table}, FrameTable.{FrameTable, IsFull, frame_count, role_of}}
+use Rattle.page_tables.specs.{Tree.{IsTable}, Change.{SetsEntry}}
 use Rattle.page_tables.proofs.Data.{KeepsTrees}
-use Rattle.residency.specs.declared.kernel.Core.{Core}
-use Rattle.residency.specs.Ages.{GivesForTables}
-use Rattle.residency.specs.Calls.{Frees}
-use Rattle.residency.specs.Evictions.{Spares}
-use Rattle.residency.specs.Picture.{Picture, picture_of}
+use Rattle.residency.specs.{declared.kernel.Core.{Core}, Ages.{GivesForTables}, Calls.{Frees}, Evictions.{Spares}, Picture.{Picture, picture_of}}
 use Rattle.vm_types.specs.declared.mode.Levels as Levels
 use Rattle.fault.specs.Changes.{AddsNoTable, IsCalm}
 

@@ -1,16 +1,11 @@
 -- Entries over frames grant what the permission lets be done.
-use Rattle.std.proofs.Common.{◌≡◌, ℕ, Bool, true, false, ◌||◌, not, Option, Some, refl, ◌∙◌, subst}
+use Rattle.std.proofs.{Common.{◌≡◌, ℕ, Bool, true, false, ◌||◌, not, Option, Some, refl, ◌∙◌, subst}, lemmas.Bool.{false≢true}}
 use Rattle.std.specs.Prelude.{IfSome}
-use Rattle.std.proofs.lemmas.Bool.{false≢true}
-use Rattle.vm_types.specs.declared.access.Access.TheVariants.{Load, Store, Fetch}
-use Rattle.vm_types.specs.declared.permission.Prot.{Prot}
-use Rattle.vm_types.specs.declared.region.Attr.{Attr}
+use Rattle.vm_types.specs.{declared.access.Access.TheVariants.{Load, Store, Fetch}, declared.permission.Prot.{Prot}, declared.region.Attr.{Attr}, Verdict.{lets}}
 use Rattle.vm_types.specs.Permission as Permission
-use Rattle.vm_types.specs.Verdict.{lets}
 use Rattle.regions.specs.Permission.{ReadsToo}
 use Rattle.page_tables.specs.Leaves.{IsEntryOver}
-use Rattle.residency.specs.Picture.{Picture}
-use Rattle.residency.specs.Parts.{IsFit}
+use Rattle.residency.specs.{Picture.{Picture}, Parts.{IsFit}}
 use Rattle.fault.specs.Granted.{IsOpenLeaf}
 
 first_bar : (r x : Bool) → r ≡ true → not (r || x) ≡ false

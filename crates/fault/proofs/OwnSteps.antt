@@ -1,43 +1,20 @@
 -- A frame of its own given to a page, with the bytes that it showed.
-use Rattle.vm_types.specs.Limits.{top_level}
-use Rattle.std.proofs.Common.{◌≡◌, ◌≢◌, ℕ, inl, inr, Bool, true, false, Some, get_or, refl, sym, ap, ◌∙◌, subst, eq-eqb, ne_eqb}
-use Rattle.std.specs.Prelude.{◌&&◌, ◌==◌}
-use Rattle.std.proofs.lemmas.Bool.{cases_Bool}
-use Rattle.vm_types.specs.declared.object.PageKey.{PageKey}
-use Rattle.vm_types.specs.declared.object.PageKey.TheVariants.{File, Object}
-use Rattle.vm_types.specs.declared.region.Attr.{Attr}
-use Rattle.vm_types.specs.declared.region.Backing.{Backing}
+use Rattle.vm_types.specs.declared.mode.Levels as Levels
+use Rattle.vm_types.specs.{Limits.{top_level}, declared.object.PageKey.{PageKey}, declared.object.PageKey.TheVariants.{File, Object}, declared.region.Attr.{Attr}, declared.region.Backing.{Backing}, Permission.{can_write}}
+use Rattle.std.proofs.{Common.{◌≡◌, ◌≢◌, ℕ, inl, inr, Bool, true, false, Some, get_or, refl, sym, ap, ◌∙◌, subst, eq-eqb, ne_eqb}, lemmas.Bool.{cases_Bool}}
+use Rattle.std.specs.Prelude.{◌&&◌, ◌==◌, option_map}
 use Rattle.vm_types.specs.declared.region.Backing.TheVariants as Backings
-use Rattle.vm_types.specs.Permission.{can_write}
-use Rattle.vm_types.specs.Verdict.{is_past_end}
-use Rattle.frames.specs.declared.role.Role.TheVariants.{Free, Table, Private}
-use Rattle.frames.specs.FrameTable.{IsSound, bytes_of, role_of, count_of, Releases}
+use Rattle.disk_model.specs.declared.sector_disk.SectorDisk.{Ghosts}
+use Rattle.frames.specs.{declared.role.Role.TheVariants.{Free, Table, Private}, FrameTable.{IsFrame, IsSound, bytes_of, role_of, count_of, Releases}}
 use Rattle.sv39_walk.specs.Entry.{frame_of}
-use Rattle.page_tables.specs.Tree.{IsPage, missing_of}
-use Rattle.page_tables.specs.Change.{SetsEntry}
+use Rattle.page_tables.specs.{Tree.{IsPage}, Leaves.{IsEntryOver}}
 use Rattle.page_cache.specs.declared.place.Place.TheVariants.{Frame}
-use Rattle.residency.specs.Seats.{Seat, InFrame, InSlot, seat, is_private, is_swapped}
-use Rattle.std.specs.Prelude.{option_map}
-use Rattle.residency.specs.Calls.{Frees}
-use Rattle.residency.specs.Picture.{Picture, entry, view, view_of, bytes_in}
-use Rattle.residency.specs.Parts.{IsFit, IsFitBut, IsBehind, is_shared}
-use Rattle.residency.specs.Shows.{KeepsFiles}
+use Rattle.residency.specs.{declared.kernel.Core.{Core}, Seats.{Seat, InFrame, InSlot, is_private, is_swapped}, Calls.{Frees}, Picture.{Picture, picture_of, entry, view, view_of, bytes_in}, Parts.{IsFit, IsFitBut, IsBehind}}
 use Rattle.residency.specs.Steps.{SameBeside}
-use Rattle.residency.proofs.Callers.{shown_stays}
-use Rattle.residency.proofs.Evicted.{fit_released}
-use Rattle.residency.proofs.Handed.{release_spares, same}
-use Rattle.residency.proofs.Sparing.{missing_ends}
-use Rattle.residency.proofs.Taking.{trees_changed}
-use Rattle.page_tables.specs.Leaves.{IsEntryOver}
-use Rattle.fault.specs.Leaves.{IsFullEntry}
-use Rattle.fault.specs.Changes.{AddsNoTable, IsLinked, KeepsSpaces, KeepsTables, KeepsRows, KeepsRoom, KeepsOtherViews, KeepsOtherBare, KeepsSlotted, IsThatPage, TakesCopy, frame_of_place, frame_behind, shown_frame, is_sole}
-use Rattle.fault.proofs.Forms.{mapped_page, behind_used, behind_datum, own_role}
-use Rattle.residency.proofs.SeatForms.{seat_own, seat_common}
-use Rattle.fault.proofs.NoTables.{no_table_then, no_table_freed, no_table_spared, no_table_trees, no_table_set}
-use Rattle.fault.proofs.Rows.{rows_then, rows_freed, rows_changed}
-use Rattle.fault.proofs.Settling.{settled_first, settled_moved, settled_others, settled_views, settled_view, settled_held, settled_missing, settled_room, settled_full, settled_bytes, settled_count}
-use Rattle.fault.proofs.Slotted.{slotted_then, slotted_frees, slotted_but, slotted_same}
-use Rattle.fault.proofs.Steps.{spaces_then, spaces_freed, room_then, room_freed, tables_then, tables_freed, tables_same}
+use Rattle.residency.proofs.{Callers.{shown_stays}, Evicted.{fit_released}, Handed.{release_spares, same}, SeatForms.{seat_own, seat_common}}
+use Rattle.fault.specs.{declared.spot.Spot.{Spot}, Leaves.{IsFullEntry}, Changes.{IsLinked, TakesCopy, frame_of_place, frame_behind, shown_frame, is_sole}, OwnFrames.{IsOwnable}}
+use Rattle.fault.proofs.{Aside.{KeepsAside, aside_then, aside_released}, Forms.{mapped_page, behind_used, behind_datum, own_role, used_inside}}
+use Rattle.fault.proofs.Settling.{HasFrame, GivesFrame, fit_given, fit_seated, entry_given, bytes_given, count_given, view_given, aside_given}
 
 some_attr : (a b : Attr) → Some a ≡ Some b → a ≡ b
 some_attr a b e = (cc)
@@ -49,19 +26,6 @@ seat_number (InSlot k) = 0
 one_number : (m n : ℕ) → InFrame m ≡ InFrame n → m ≡ n
 unfolding seat_number
 one_number m n e = ap seat_number e
-
-pub keeps_files_then : {mode : ℕ} (a b c : Picture mode) → KeepsFiles a b → KeepsFiles b c → KeepsFiles a c
-keeps_files_then a b c p q = record {
-  held = λ x. elim (q.held x) [
-    | inl later ↦ elim (p.held x) [
-      | inl first ↦ inl (later ∙ first)
-      | inr home ↦ inr (later ∙ home.0, home.1)
-    ]
-    | inr home ↦ inr (home.0, sym (p.touched x) ∙ home.1)
-  ];
-  touched = λ x. q.touched x ∙ p.touched x;
-  files = λ f. q.files f ∙ p.files f;
-}
 
 behind_is : {mode : ℕ} (c : Picture mode) (b : Backing) (n : ℕ) → IsBehind c b n → frame_behind c b ≡ n
 behind_is c Backings.Anon n behind = sym behind
@@ -103,9 +67,6 @@ own_view c pid page a at own =
     ∙ ap (λ o. view_of (Some (bytes_of c.frames (frame_of (entry c pid page)))) o) at
 
 -- whether the process is the only one to have its private frame
-pub sole_when : {mode : ℕ} (c : Picture mode) (e : ℕ) → is_private e ≡ true → count_of c.frames (frame_of e) ≡ 1 → is_sole c e ≡ true
-sole_when c e private one = rw (private, eq-eqb (count_of c.frames (frame_of e)) 1 one) refl
-
 pub common_when : {mode : ℕ} (c : Picture mode) (e : ℕ) → is_private e ≡ false → is_sole c e ≡ false
 common_when c e common = rw common refl
 
@@ -122,185 +83,128 @@ full_own c a n e one writable full =
     let Q : Bool → Type 0 = λ x. IsEntryOver e a.prot n true true x in
     subst Q both (subst P both full)
 
--- the frame m holds what the page shows
-module _ {mode : ℕ} (old : Picture mode) (pid page m : ℕ) (a : Attr) (sound : IsSound old.frames) (linked : IsLinked old pid page) (at : old.at pid page ≡ Some a)
-    (resident : is_swapped (entry old pid page) ≡ false) (own : is_private (entry old pid page) ≡ true → frame_of (entry old pid page) ≡ m)
-    (common : is_private (entry old pid page) ≡ false → IsBehind old a.backing m) where
+module _ {mode : ℕ} where
+  -- The frame m holds what the page shows.
+  pub record IsShownFrame (old : Picture mode) (pid page m : ℕ) (a : Attr) : Type 0 where
+    pub sound : IsSound old.frames
+    pub linked : IsLinked old pid page
+    pub at : old.at pid page ≡ Some a
+    pub resident : is_swapped (entry old pid page) ≡ false
+    pub own : is_private (entry old pid page) ≡ true → frame_of (entry old pid page) ≡ m
+    pub common : is_private (entry old pid page) ≡ false → IsBehind old a.backing m
+
+module _ {M : Type 0} {m : Levels.Ghosts M} {D E : Type 0} {h : Ghosts E} {core : Core D E M m} {spot : Spot} {a : Attr} (page : IsOwnable h core spot a) where
+  abbrev was : ℕ
+  was = entry (picture_of core) spot.pid spot.page
+
+  pub ownable_frame : (n : ℕ) → (is_private was ≡ true → frame_of was ≡ n) → (is_private was ≡ false → IsBehind (picture_of core) a.backing n) → IsShownFrame (picture_of core) spot.pid spot.page n a
+  ownable_frame n own common = record { sound = core.sound; linked = page.stands.linked; at = page.mapped; resident = page.resident; own = own; common = common }
+
+  -- the one that the code reads off the entry
+  pub frame_shown : (is_private was ≡ false → (n : ℕ) × IsBehind (picture_of core) a.backing n) → {e n : ℕ} → e ≡ was → n ≡ shown_frame (picture_of core) e a.backing → IsShownFrame (picture_of core) spot.pid spot.page n a
+  frame_shown in_memory is shown =
+      let here = shown ∙ ap (λ x. shown_frame (picture_of core) x a.backing) is in
+      let P : ℕ → Type 0 = λ x. IsBehind (picture_of core) a.backing x in
+      ownable_frame _ (λ own. sym (here ∙ shown_own (picture_of core) was a.backing own)) (λ common. subst P (sym here) (shown_behind (picture_of core) was a.backing common (in_memory common)))
+
+module _ {mode : ℕ} where
+  -- The page shows the bytes of the frame m in the frame n, which its process alone has.
+  pub record IsCopied (old new : Picture mode) (pid page m n : ℕ) (a : Attr) : Type 0 where
+    pub aside : KeepsAside old new pid page
+    pub own : view new pid page ≡ Some (record { attr = a; own = Some (bytes_of old.frames m) })
+    pub bytes : bytes_of new.frames n ≡ bytes_of old.frames m
+    pub entered : IsEntryOver (entry new pid page) a.prot n true true true
+    pub sole : count_of new.frames n ≡ 1
+
+module _ {mode : ℕ} {old : Picture mode} {pid page m : ℕ} {a : Attr} (shows : IsShownFrame old pid page m a) where
   here : IsPage (top_level mode) page
-  here = mapped_page old pid page a linked.fit.granting at
+  here = mapped_page old pid page a shows.linked.fit.granting shows.at
+
+  own_kind : is_private (entry old pid page) ≡ true → role_of old.frames m ≡ Private
+  own_kind private = ap (role_of old.frames) (sym (shows.own private)) ∙ own_role old pid page shows.linked.fit here private
 
   pub shown_used : role_of old.frames m ≢ Free
   shown_used = elim (cases_Bool (is_private (entry old pid page))) [
-    | inl private ↦ (λ free. let bad : Private ≡ Free = sym (own_role old pid page linked.fit here private) ∙ ap (role_of old.frames) (own private) ∙ free in (cc))
-    | inr not_own ↦ behind_used old a.backing m sound linked.fit.places (common not_own)
+    | inl private ↦ (λ free. let bad : Private ≡ Free = sym (own_kind private) ∙ free in (cc))
+    | inr not_own ↦ behind_used old a.backing m shows.sound shows.linked.fit.places (shows.common not_own)
   ]
 
   pub shown_datum : role_of old.frames m ≢ Table
   shown_datum = elim (cases_Bool (is_private (entry old pid page))) [
-    | inl private ↦ (λ table. let bad : Private ≡ Table = sym (own_role old pid page linked.fit here private) ∙ ap (role_of old.frames) (own private) ∙ table in (cc))
-    | inr not_own ↦ behind_datum old a.backing m sound linked.fit.places (common not_own)
+    | inl private ↦ (λ table. let bad : Private ≡ Table = sym (own_kind private) ∙ table in (cc))
+    | inr not_own ↦ behind_datum old a.backing m shows.sound shows.linked.fit.places (shows.common not_own)
   ]
 
-  module _ (mid : Picture mode) (n r : ℕ) (copy : TakesCopy old mid n page m) (lives : old.root pid ≡ Some r) where
-    abbrev found : Picture mode
-    found = copy.found
+  pub shown_inside : IsFrame old.frames m
+  shown_inside = used_inside old.frames m shows.sound shown_used
 
-    entry_found : entry found pid page ≡ entry old pid page
-    entry_found = copy.frees.entries pid page here
-        (shown_stays old (old.at pid page) a.backing (entry old pid page) m (linked.fit.granting.entries pid page here) (λ b is. ap (λ x. x.backing) (some_attr b a (sym is ∙ at)))
-        own (λ not_own not_away. common not_own) resident)
+  module _ {mid : Picture mode} {n r : ℕ} (copy : TakesCopy old mid n page m) (lives : old.root pid ≡ Some r) where
+    pub copy_frame : HasFrame old copy.found mid (Some (record { 0 = m })) pid page r n a
+    copy_frame = record {
+      linked = shows.linked;
+      lives = lives;
+      at = shows.at;
+      frees = copy.frees;
+      fit = copy.fit;
+      stays = copy.frees.entries pid page here
+          (shown_stays old (old.at pid page) a.backing (entry old pid page) m (shows.linked.fit.granting.entries pid page here) (λ b is. ap (λ x. x.backing) (some_attr b a (sym is ∙ shows.at)))
+          shows.own (λ not_own not_away. shows.common not_own) shows.resident);
+      changes = copy.changes;
+      role = copy.role;
+      one = copy.count;
+      noted = copy.noted;
+    }
 
-    pub lives_found : found.root pid ≡ Some r
-    lives_found = copy.frees.pages.root pid ∙ lives
+    apart : m ≢ n
+    apart e = shown_used (sym (copy.frees.kept_role m refl) ∙ ap (role_of copy.found.frames) e ∙ copy.changes.was_free)
 
-    pub whole_found : missing_of found.frames (top_level mode) r page ≡ 0
-    whole_found = copy.frees.missing pid r page lives ∙ linked.whole r lives
-
-    pub at_found : found.at pid page ≡ Some a
-    at_found = copy.frees.pages.at pid page ∙ at
-
-    datum_mid : role_of mid.frames n ≢ Table
-    datum_mid t = let bad : Private ≡ Table = sym copy.role ∙ t in (cc)
-
-    pub rows_mid : KeepsRows old mid
-    rows_mid = rows_then old found mid copy.frees.pages.root (rows_freed old found _ copy.fit copy.frees) (rows_changed found mid n copy.fit copy.changes datum_mid)
-
-    kept_role : role_of found.frames m ≡ role_of old.frames m
-    kept_role = copy.frees.kept_role m refl
-
-    pub apart : m ≢ n
-    apart e = shown_used (sym kept_role ∙ ap (role_of found.frames) e ∙ copy.changes.was_free)
-
-    module _ (set : Picture mode) (sets : (number : ℕ) × IsFullEntry mid a n true number × SetsEntry mid.frames set.frames (top_level mode) r page number) (beside : SameBeside mid set)
-        (alone : is_shared a.backing ≡ false) (inside : is_past_end found.files a.backing ≡ false) where
-      pub spaces_set : KeepsSpaces old set
-      spaces_set = spaces_then old found set (spaces_freed old found _ copy.frees) (record { root = λ q. beside.root q ∙ copy.changes.root q; at = λ q p. beside.at q p ∙ copy.changes.at q p })
-
-      pub tables_set : KeepsTables old set
-      tables_set = tables_then old found set copy.frees.pages.root (tables_freed old found _ copy.frees)
-          (tables_same found set (settled_missing found mid pid page r n a copy.fit copy.changes copy.role copy.count copy.noted lives_found whole_found at_found set sets beside alone inside))
-
-      pub no_table_own : AddsNoTable old set
-      no_table_own =
-          no_table_then old found set (no_table_freed old found _ copy.frees)
-          (no_table_then found mid set (no_table_trees found mid (trees_changed found mid n copy.fit copy.changes datum_mid)) (no_table_set mid set r page sets.0 sets.2))
-
-      pub room_set : KeepsRoom old set
-      room_set = room_then old found set (room_freed old found _ copy.frees) (record {
-        frames = settled_room found mid pid page r n a copy.fit copy.changes copy.role copy.count copy.noted lives_found whole_found at_found set sets beside alone inside;
-        slots = ap (λ s. s.total) beside.slots ∙ ap (λ s. s.total) copy.changes.slots;
-      })
-
-      pub others_set : KeepsOtherViews old set pid page
-      others_set q p other =
-          settled_views found mid pid page r n a copy.fit copy.changes copy.role copy.count copy.noted lives_found whole_found at_found set sets beside alone inside q p other
-          ∙ copy.frees.pages.views q p
-
-      pub bare_set : KeepsOtherBare old set pid page
-      bare_set q p h other none =
-          settled_others found mid pid page r n a copy.fit copy.changes copy.role copy.count copy.noted lives_found whole_found at_found set sets beside alone inside q p h other
-          ∙ copy.frees.entries q p h (inl none) ∙ none
-
-      pub slotted_set : KeepsSlotted (λ p. ⊥) (IsThatPage pid page) old set
-      slotted_set = slotted_then (λ p. ⊥) (IsThatPage pid page) old found set (slotted_frees (λ p. ⊥) (IsThatPage pid page) old found _ copy.frees)
-          (slotted_but (λ p. ⊥) found set pid page (λ p. beside.place p ∙ copy.changes.place p)
-          (settled_others found mid pid page r n a copy.fit copy.changes copy.role copy.count copy.noted lives_found whole_found at_found set sets beside alone inside))
-
-      pub files_set : KeepsFiles old set
-      files_set = keeps_files_then old found set copy.frees.pages.files (record {
-        held = λ p. inl (settled_held found mid pid page r n a copy.fit copy.changes copy.role copy.count copy.noted lives_found whole_found at_found set sets beside alone inside p);
-        touched = λ p. beside.touched p ∙ copy.changes.touched p;
-        files = λ f. beside.files f ∙ copy.changes.files f;
-      })
-
-      pub bytes_set : bytes_of set.frames n ≡ bytes_of old.frames m
-      bytes_set = settled_bytes found mid pid page r n a copy.fit copy.changes copy.role copy.count copy.noted lives_found whole_found at_found set sets beside alone inside ∙ copy.copied
-
-      pub own_set : view set pid page ≡ Some (record { attr = a; own = Some (bytes_of old.frames m) })
-      own_set = settled_view found mid pid page r n a copy.fit copy.changes copy.role copy.count copy.noted lives_found whole_found at_found set sets beside alone inside
-          ∙ ap (λ w. Some (record { attr = a; own = Some w })) copy.copied
-
-      pub entry_set : can_write a.prot ≡ true → IsEntryOver (entry set pid page) a.prot n true true true
-      entry_set writable = full_own mid a n (entry set pid page) copy.count writable
-          (settled_full found mid pid page r n a copy.fit copy.changes copy.role copy.count copy.noted lives_found whole_found at_found set sets beside alone inside)
-
-      pub count_set : count_of set.frames n ≡ 1
-      count_set = settled_count found mid pid page r n a copy.fit copy.changes copy.role copy.count copy.noted lives_found whole_found at_found set sets beside alone inside
+    module _ {set : Picture mode} (gives : GivesFrame old mid set page r n a) where
+      pub copied_given : can_write a.prot ≡ true → IsCopied old set pid page m n a
+      copied_given writable = record {
+        aside = aside_given copy_frame gives;
+        own = view_given copy_frame gives ∙ ap (λ w. Some (record { attr = a; own = Some w })) copy.copied;
+        bytes = bytes_given copy_frame gives ∙ copy.copied;
+        entered = full_own mid a n (entry set pid page) copy.count writable (entry_given copy_frame gives);
+        sole = count_given copy_frame gives;
+      }
 
       -- it had no frame of its own
       pub fit_first : is_private (entry old pid page) ≡ false → IsFit set
-      fit_first not_own = settled_first found mid pid page r n a copy.fit copy.changes copy.role copy.count copy.noted lives_found whole_found at_found set sets beside alone inside
-          (ap seat entry_found ∙ seat_common (entry old pid page) not_own resident)
+      fit_first not_own = fit_given copy_frame gives (seat_common (entry old pid page) not_own shows.resident)
 
       kept_bytes : bytes_of set.frames m ≡ bytes_of old.frames m
       kept_bytes =
-          let not_table : role_of mid.frames m ≢ Table = λ t. shown_datum (sym kept_role ∙ sym (copy.changes.frames.roles m apart) ∙ t) in
-          sets.2.kept.bytes m not_table ∙ copy.changes.frames.bytes m apart ∙ copy.frees.kept_bytes m refl shown_datum
+          let not_table : role_of mid.frames m ≢ Table = λ t. shown_datum (sym (copy.frees.kept_role m refl) ∙ sym (copy.changes.frames.roles m apart) ∙ t) in
+          gives.sets.2.kept.bytes m not_table ∙ copy.changes.frames.bytes m apart ∙ copy.frees.kept_bytes m refl shown_datum
 
       pub behind_first : is_private (entry old pid page) ≡ false → (x : ℕ) → IsBehind old a.backing x → IsBehind set a.backing x × (bytes_of set.frames x ≡ bytes_of old.frames x)
       behind_first not_own x behind =
-          let is : x ≡ m = sym (behind_is old a.backing x behind) ∙ behind_is old a.backing m (common not_own) in (
-            behind_stays old set a.backing x m behind is (λ p there. beside.place p ∙ copy.changes.place p ∙ copy.frees.kept_place p m refl there),
+          let is : x ≡ m = sym (behind_is old a.backing x behind) ∙ behind_is old a.backing m (shows.common not_own) in (
+            behind_stays old set a.backing x m behind is (λ p there. gives.beside.place p ∙ copy.changes.place p ∙ copy.frees.kept_place p m refl there),
             (let P : ℕ → Type 0 = λ y. bytes_of set.frames y ≡ bytes_of old.frames y in subst P (sym is) kept_bytes),
           )
 
       -- it shared one, and gives its share back
       module _ (private : is_private (entry old pid page) ≡ true) where
-        from : seat (entry found pid page) ≡ Some (InFrame m)
-        from = ap seat entry_found ∙ seat_own (entry old pid page) private ∙ ap (λ i. Some (InFrame i)) (own private)
-
-        other_seat : InFrame m ≢ InFrame n
-        other_seat e = apart (one_number m n e)
-
-        fit_moved' : IsFitBut set (InFrame m) 1 0
-        fit_moved' = settled_moved found mid pid page r n a copy.fit copy.changes copy.role copy.count copy.noted lives_found whole_found at_found set sets beside alone inside (InFrame m) from other_seat
+        fit_set : IsFitBut set (InFrame m) 1 0
+        fit_set = fit_seated copy_frame gives (InFrame m) (seat_own (entry old pid page) private ∙ ap (λ i. Some (InFrame i)) (shows.own private)) (λ e. apart (one_number m n e))
 
         pub role_shared : role_of set.frames m ≡ Private
-        role_shared = ap (λ rs. get_or rs m Free) sets.2.kept.roles ∙ copy.changes.frames.roles m apart ∙ kept_role
-            ∙ ap (role_of old.frames) (sym (own private)) ∙ own_role old pid page linked.fit here private
+        role_shared = ap (λ rs. get_or rs m Free) gives.sets.2.kept.roles ∙ copy.changes.frames.roles m apart ∙ copy.frees.kept_role m refl ∙ own_kind private
 
-        module _ (new : Picture mode) (releases : Releases set.frames new.frames m) (beside' : SameBeside set new) where
+        module _ {new : Picture mode} (releases : Releases set.frames new.frames m) (beside : SameBeside set new) where
           pub fit_shared : IsFit new
-          fit_shared = fit_released set new m 0 fit_moved' role_shared releases beside'
+          fit_shared = fit_released set new m 0 fit_set role_shared releases beside
 
-          pub spaces_shared : KeepsSpaces old new
-          spaces_shared = spaces_then old set new spaces_set (record { root = beside'.root; at = beside'.at })
-
-          pub tables_shared : KeepsTables old new
-          tables_shared = tables_then old set new spaces_set.root tables_set (tables_same set new (λ q x p e. missing_ends set new x p ((release_spares set new m 0 fit_moved' role_shared releases beside').ends q x p e)))
-
-          pub no_table_shared : AddsNoTable old new
-          no_table_shared = no_table_then old set new no_table_own (no_table_spared m 0 set new (release_spares set new m 0 fit_moved' role_shared releases beside'))
-
-          pub room_shared : KeepsRoom old new
-          room_shared = room_then old set new room_set (record { frames = releases.others.frames; slots = ap (λ s. s.total) beside'.slots })
-
-          pub others_shared : KeepsOtherViews old new pid page
-          others_shared q p other = (release_spares set new m 0 fit_moved' role_shared releases beside').pages.views q p ∙ others_set q p other
-
-          pub bare_shared : KeepsOtherBare old new pid page
-          bare_shared q p h other none = same set new m 0 fit_moved' role_shared releases beside' q p ∙ bare_set q p h other none
-
-          pub slotted_shared : KeepsSlotted (λ p. ⊥) (IsThatPage pid page) old new
-          slotted_shared = slotted_then (λ p. ⊥) (IsThatPage pid page) old set new slotted_set
-              (slotted_same (λ p. ⊥) (IsThatPage pid page) set new beside'.place (λ q p h. same set new m 0 fit_moved' role_shared releases beside' q p))
-
-          pub files_shared : KeepsFiles old new
-          files_shared = keeps_files_then old set new files_set (release_spares set new m 0 fit_moved' role_shared releases beside').pages.files
-
-          other_frame : n ≢ m
-          other_frame e = apart (sym e)
-
-          pub bytes_shared : bytes_of new.frames n ≡ bytes_of old.frames m
-          bytes_shared = releases.others.bytes n other_frame ∙ bytes_set
-
-          pub own_shared : view new pid page ≡ Some (record { attr = a; own = Some (bytes_of old.frames m) })
-          own_shared = (release_spares set new m 0 fit_moved' role_shared releases beside').pages.views pid page ∙ own_set
-
-          pub entry_shared : can_write a.prot ≡ true → IsEntryOver (entry new pid page) a.prot n true true true
-          entry_shared writable =
+          pub copied_shared : can_write a.prot ≡ true → IsCopied old new pid page m n a
+          copied_shared writable =
+              let first = copied_given writable in
+              let other : n ≢ m = λ e. apart (sym e) in
               let P : ℕ → Type 0 = λ e. IsEntryOver e a.prot n true true true in
-              subst P (sym (same set new m 0 fit_moved' role_shared releases beside' pid page)) (entry_set writable)
-
-          pub count_shared : count_of new.frames n ≡ 1
-          count_shared = releases.others.counts n other_frame ∙ count_set
+              record {
+                aside = aside_then first.aside (aside_released set new m fit_set role_shared releases beside);
+                own = (release_spares set new m 0 fit_set role_shared releases beside).pages.views pid page ∙ first.own;
+                bytes = releases.others.bytes n other ∙ first.bytes;
+                entered = subst P (sym (same set new m 0 fit_set role_shared releases beside pid page)) first.entered;
+                sole = releases.others.counts n other ∙ first.sole;
+              }

@@ -2,31 +2,14 @@
 use Rattle.vm_types.specs.declared.mode.Levels as Levels
 use Rattle.std.proofs.Common.{◌≡◌, ℕ, true, false, Some, Result, Ok, Err, refl}
 use Rattle.std.specs.Prelude.{IfOk, IfErr, OnErr}
-use Rattle.vm_types.specs.declared.access.Access.TheVariants.{Store}
-use Rattle.vm_types.specs.declared.number.FrameNo.{FrameNo}
-use Rattle.vm_types.specs.declared.refusal.Stall.{Stall}
-use Rattle.vm_types.specs.declared.region.Attr.{Attr}
-use Rattle.vm_types.specs.Permission.{can_write}
+use Rattle.vm_types.specs.{declared.access.Access.TheVariants.{Store}, declared.number.FrameNo.{FrameNo}, declared.refusal.Stall.{Stall}, declared.region.Attr.{Attr}, Permission.{can_write}}
 use Rattle.disk_model.specs.declared.sector_disk.SectorDisk.{Ghosts}
 use Rattle.frames.specs.FrameTable.{bytes_of, IsSound}
-use Rattle.residency.specs.declared.kernel.Core.{Core}
-use Rattle.residency.specs.Picture.{Picture, picture_of, entry, is_private, is_swapped}
-use Rattle.residency.specs.Parts.{IsFit, IsBehind, is_shared}
-use Rattle.residency.specs.Calls.{Frees, Refuses}
-use Rattle.residency.specs.Stalls.{HasStallCause}
-use Rattle.residency.specs.Capacity.{IsShort}
+use Rattle.residency.specs.{declared.kernel.Core.{Core}, Picture.{Picture, picture_of, entry, is_private, is_swapped}, Parts.{IsFit, IsBehind, is_shared}, Calls.{Frees, Refuses}, Stalls.{HasStallCause}, Capacity.{IsShort}}
 use Rattle.residency.specs.Shows.{KeepsFiles}
 use Rattle.page_tables.specs.Leaves.{IsEntryOver}
-use Rattle.fault.specs.Changes.{IsCalm, IsLinked, KeepsViews, KeepsOtherViews, Moves, copied_frame, is_sole, shown_bytes}
-use Rattle.fault.proofs.BroughtIn.{cause_of}
-use Rattle.fault.specs.Granted.{IsEntered, IsReadyAt}
-use Rattle.fault.specs.Outcome.{IsStalled}
-use Rattle.fault.specs.Wants.{Wants, ForStore}
-use Rattle.fault.proofs.Keeping.{copy_keeps}
-use Rattle.fault.proofs.Opening.{reads_too}
-use Rattle.fault.proofs.Settled.{entered_store, entered_ready, ready_own, owned_entry, copy_shown}
-use Rattle.fault.proofs.AccessSteps.{ok_from, no_store}
-use Rattle.fault.proofs.Wanted.{sole_there}
+use Rattle.fault.specs.{Changes.{IsCalm, IsLinked, KeepsViews, KeepsOtherViews, Moves, copied_frame, is_sole, shown_bytes}, Granted.{IsEntered, IsReadyAt}, Outcome.{IsStalled}, Wants.{Wants, ForStore}}
+use Rattle.fault.proofs.{BroughtIn.{cause_of}, Keeping.{copy_keeps}, Opening.{reads_too}, Settled.{entered_store, entered_ready, ready_own, owned_entry, copy_shown}, AccessSteps.{ok_from, no_store}, Wanted.{sole_there}}
 
 module _ {mode : ℕ} (old new : Picture mode) (pid page : ℕ) (a : Attr) (sound : IsSound old.frames) (fit : IsFit new) (sound' : IsSound new.frames) (now : new.at pid page ≡ Some a)
     (alone : is_shared a.backing ≡ false) (writable : can_write a.prot ≡ true) (here : is_swapped (entry old pid page) ≡ false)

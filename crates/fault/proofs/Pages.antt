@@ -1,29 +1,14 @@
 -- Pages of files and objects behind mapped pages.
-use Rattle.vm_types.specs.Limits.{widest_end}
-use Rattle.vm_types.proofs.Modes.{sizes}
-use Rattle.std.proofs.Common.{◌≡◌, ◌≢◌, ℕ, ◌*◌, ◌<◌, ◌≤◌, true, false, Option, Some, None, refl, sym, ap, ◌∙◌, subst, arith, eq-eqb}
+use Rattle.vm_types.specs.{Limits.{widest_end}, declared.file.FileInfo.{FileInfo}, declared.file.FilePage.{FilePage}, declared.object.ObjectPage.{ObjectPage}, declared.object.PageKey.{PageKey}}
+use Rattle.vm_types.specs.{declared.object.PageKey.TheVariants.{File, Object}, declared.region.Attr.{Attr}, declared.region.Backing.{Backing}, declared.region.Backing.TheVariants.{Anon, Private, Shared, Common}, Attributes.{stands_on}}
+use Rattle.vm_types.specs.{Objects.{is_object_page, names}, Files.{Files, is_past_end_of}, Verdict.{is_past_end}}
+use Rattle.vm_types.proofs.{Modes.{sizes}, Naming.{named-at}}
+use Rattle.std.proofs.{Common.{◌≡◌, ◌≢◌, ℕ, ◌*◌, ◌<◌, ◌≤◌, true, false, Option, Some, None, refl, sym, ap, ◌∙◌, subst, arith, eq-eqb}, lemmas.Bool.{false≢true}, lemmas.Bool.Decides.{nat_tests}}
 use Rattle.std.specs.Prelude.{nat_le}
-use Rattle.std.proofs.lemmas.Bool.{false≢true}
-use Rattle.std.proofs.lemmas.Bool.Decides.{nat_tests}
-use Rattle.vm_types.specs.declared.file.FileInfo.{FileInfo}
-use Rattle.vm_types.specs.declared.file.FilePage.{FilePage}
-use Rattle.vm_types.specs.declared.object.ObjectPage.{ObjectPage}
-use Rattle.vm_types.specs.declared.object.PageKey.{PageKey}
-use Rattle.vm_types.specs.declared.object.PageKey.TheVariants.{File, Object}
-use Rattle.vm_types.specs.declared.region.Attr.{Attr}
-use Rattle.vm_types.specs.declared.region.Backing.{Backing}
-use Rattle.vm_types.specs.declared.region.Backing.TheVariants.{Anon, Private, Shared, Common}
-use Rattle.vm_types.specs.Attributes.{stands_on}
-use Rattle.vm_types.specs.Objects.{is_object_page, names}
-use Rattle.vm_types.specs.Files.{Files, is_past_end_of}
-use Rattle.vm_types.specs.Verdict.{is_past_end}
-use Rattle.vm_types.proofs.Naming.{named-at}
 use Rattle.file_store.specs.Standing.{IsPageOf}
-use Rattle.residency.specs.Picture.{Picture}
-use Rattle.residency.specs.Parts.{IsPageFor}
+use Rattle.residency.specs.{Picture.{Picture}, Parts.{IsPageFor}}
 use Rattle.fault.specs.Changes.{IsLinked}
-use Rattle.fault.proofs.Ready.{same_key}
-use Rattle.fault.proofs.Verdicts.{page_user}
+use Rattle.fault.proofs.{Ready.{same_key}, Verdicts.{page_user}}
 
 begins_below : (m n : ℕ) → nat_le n m ≡ false → m < n
 begins_below m n h = grind (arith, nat_tests)

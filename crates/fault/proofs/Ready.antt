@@ -1,28 +1,17 @@
 -- What the frame of a page holds where the page's entry names one, and what an access may do with it.
-use Rattle.vm_types.specs.Limits.{top_level}
-use Rattle.std.proofs.Common.{◌≡◌, ◌≢◌, ℕ, inl, inr, ◌⊎◌, true, false, Option, Some, None, List, refl, sym, ap, ◌∙◌, subst}
-use Rattle.std.proofs.lemmas.Bool.{cases_Bool, false≢true}
+use Rattle.vm_types.specs.{Limits.{top_level}, declared.object.PageKey.{PageKey}, declared.object.PageKey.TheVariants.{File, Object}, declared.region.Attr.{Attr}, declared.region.Backing.{Backing}}
+use Rattle.vm_types.specs.{declared.region.Backing.TheVariants.{Anon, Private, Shared, Common}, Attributes.{stands_on}, View.{zero_page}}
+use Rattle.std.proofs.{Common.{◌≡◌, ◌≢◌, ℕ, inl, inr, ◌⊎◌, true, false, Option, Some, None, List, refl, sym, ap, ◌∙◌, subst}, lemmas.Bool.{cases_Bool, false≢true}}
 use Rattle.std.specs.Prelude.{option_map}
-use Rattle.vm_types.specs.declared.object.PageKey.{PageKey}
-use Rattle.vm_types.specs.declared.object.PageKey.TheVariants.{File, Object}
-use Rattle.vm_types.specs.declared.region.Attr.{Attr}
-use Rattle.vm_types.specs.declared.region.Backing.{Backing}
-use Rattle.vm_types.specs.declared.region.Backing.TheVariants.{Anon, Private, Shared, Common}
-use Rattle.vm_types.specs.Attributes.{stands_on}
-use Rattle.vm_types.specs.View.{zero_page}
 use Rattle.frames.specs.FrameTable.{FrameTable, bytes_of, IsFrame, IsHeld, IsSound, is_handed_out, zero_bytes}
 use Rattle.swap.specs.Slots.{SlotTable}
 use Rattle.sv39_walk.specs.Entry.{has_bit, is_valid, can_write, is_dirty, frame_of}
 use Rattle.page_tables.specs.Tree.{IsPage}
 use Rattle.page_cache.specs.declared.place.Place.TheVariants.{Frame}
-use Rattle.residency.specs.Seats.{seat, is_private, is_swapped}
-use Rattle.residency.specs.Picture.{Picture, entry, own_in, bytes_in, view, view_of}
-use Rattle.residency.specs.Parts.{IsFit, IsResident, IsBehind, is_shared}
-use Rattle.fault.specs.Changes.{KeepsSeen}
+use Rattle.residency.specs.{Seats.{seat, is_private, is_swapped}, Picture.{Picture, entry, own_in, bytes_in, view, view_of}, Parts.{IsFit, IsResident, IsBehind, is_shared}}
+use Rattle.fault.specs.{Changes.{KeepsSeen}, Shown.{AreBehind, AreOwnOrBehind, AreShown, IsSoleOwner}, Outcome.{Reads, MarksTouchedIn, Owns, seen_at}}
 use Rattle.fault.proofs.Forms.{resident_page, resident_used, own_role, used_inside}
 use Rattle.residency.proofs.SeatForms.{seat_own, seat_common}
-use Rattle.fault.specs.Shown.{AreBehind, AreOwnOrBehind, AreShown, IsSoleOwner}
-use Rattle.fault.specs.Outcome.{Reads, MarksTouchedIn, Owns, seen_at}
 
 pub zero_same : zero_bytes ≡ zero_page
 unfolding zero_bytes zero_page

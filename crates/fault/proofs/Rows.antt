@@ -1,23 +1,12 @@
 -- The entries of a row stand in the table in which they stood.
-use Rattle.vm_types.specs.Limits.{top_level}
+use Rattle.vm_types.specs.{Limits.{top_level}, declared.number.FrameNo.{FrameNo}}
 use Rattle.std.proofs.Common.{◌≡◌, ◌≢◌, ℕ, ◌*◌, ◌/◌, Option, Some, sym, ap, ◌∙◌, subst, arith}
-use Rattle.vm_types.specs.declared.number.FrameNo.{FrameNo}
-use Rattle.frames.specs.declared.role.Role.TheVariants.{Table}
-use Rattle.frames.specs.FrameTable.{role_of}
+use Rattle.frames.specs.{declared.role.Role.TheVariants.{Table}, FrameTable.{role_of}}
 use Rattle.page_tables.specs.Tree.{IsTable, last_table}
-use Rattle.page_tables.proofs.Data.{KeepsTrees}
-use Rattle.page_tables.proofs.Ends.{missing_of-is}
-use Rattle.page_tables.proofs.Places.{row_same}
-use Rattle.page_tables.proofs.Ways.{ends}
-use Rattle.residency.specs.Picture.{Picture}
-use Rattle.residency.specs.Parts.{IsFit}
-use Rattle.residency.specs.Calls.{Frees}
-use Rattle.residency.specs.Steps.{ChangesFrame}
+use Rattle.page_tables.proofs.{Data.{KeepsTrees}, Ends.{missing_of-is}, Places.{row_same}, Ways.{ends}}
+use Rattle.residency.specs.{Picture.{Picture}, Parts.{IsFit}, Calls.{Frees}, Steps.{ChangesFrame}}
 use Rattle.residency.proofs.Taking.{trees_changed}
 use Rattle.fault.specs.Changes.{KeepsRows}
-
-pub rows_none : {mode : ℕ} (c : Picture mode) → KeepsRows c c
-rows_none c pid r row n e is = is
 
 pub rows_then : {mode : ℕ} (a b c : Picture mode) → ((pid : ℕ) → b.root pid ≡ a.root pid) → KeepsRows a b → KeepsRows b c → KeepsRows a c
 rows_then a b c roots p q pid r row n e is = q pid r row n (roots pid ∙ e) (p pid r row n e is)

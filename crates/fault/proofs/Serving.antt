@@ -2,39 +2,20 @@
 use Rattle.vm_types.specs.declared.mode.Levels as Levels
 use Rattle.std.proofs.Common.{◌≡◌, ◌/◌, ℕ, false, inl, ◌⊎◌, Option, None, Result, Ok, Err, refl, ◌∙◌}
 use Rattle.std.specs.Prelude.{IsErrAnd}
-use Rattle.vm_types.specs.declared.access.Access.{Access}
-use Rattle.vm_types.specs.declared.number.FrameNo.{FrameNo}
-use Rattle.vm_types.specs.declared.number.Phys.{Phys}
-use Rattle.vm_types.specs.declared.object.PageKey.{PageKey}
-use Rattle.vm_types.specs.declared.refusal.Stall.{Stall}
-use Rattle.vm_types.specs.declared.region.Attr.{Attr}
+use Rattle.vm_types.specs.{declared.access.Access.{Access}, declared.number.FrameNo.{FrameNo}, declared.number.Phys.{Phys}, declared.object.PageKey.{PageKey}, declared.refusal.Stall.{Stall}, declared.region.Attr.{Attr}}
 use Rattle.vm_types.specs.declared.width.Width.{Width}
 use Rattle.disk_model.specs.declared.sector_disk.SectorDisk.{Ghosts}
 use Rattle.file_store.specs.Store.{IsReadyStore}
 use Rattle.frames.specs.FrameTable.{IsFull}
 use Rattle.swap.specs.Slots.{IsReady}
 use Rattle.page_cache.specs.declared.place.Place.TheVariants.{Frame}
-use Rattle.residency.specs.declared.kernel.Core.{Core}
-use Rattle.residency.specs.Picture.{Picture, picture_of, held}
-use Rattle.residency.specs.Parts.{IsFit}
-use Rattle.residency.specs.Shows.{KeepsFiles}
-use Rattle.fault.specs.Asking.{AsksIfFull}
-use Rattle.fault.specs.Changes.{AddsNoTable, Enters, IsCalm, IsThatPage, KeepsOtherViews, KeepsSlotted, Moves}
-use Rattle.fault.specs.PagingIn.{PagesIn}
-use Rattle.fault.proofs.NoTables.{no_table_calm, no_table_none, no_table_then}
-use Rattle.fault.proofs.Steps.{moves_entered, moves_none}
-use Rattle.fault.proofs.TablesGiven.{links_no_table}
-use Rattle.fault.specs.AccessAsking.{IsSectorOfItsSlot}
-use Rattle.fault.specs.declared.refusal.AccessRefusal.{AccessRefusal}
-use Rattle.fault.specs.declared.refusal.AccessRefusal.TheVariants as Refusal
-use Rattle.fault.specs.Outcome.{IsStalled, IsWalked, Stalls}
-use Rattle.fault.specs.Serving.{Reaches, Serves, Tends}
-use Rattle.fault.specs.Wants.{ShowsFile, Wants}
-use Rattle.fault.proofs.AccessAsking.{asks_brought, asks_calm, asks_less, asks_same, asks_still, now_out}
-use Rattle.fault.proofs.Brought.{brings_on, brings_wider, calm_then, read_then, stalled_away}
-use Rattle.fault.proofs.AccessSlotted.{slotted_brought, slotted_calm, slotted_on, slotted_own, slotted_same}
-use Rattle.fault.proofs.AccessSteps.{brings_none, proceeds_moves, proceeds_then}
+use Rattle.residency.specs.{declared.kernel.Core.{Core}, Picture.{Picture, picture_of, held}, Parts.{IsFit}, Shows.{KeepsFiles}}
+use Rattle.fault.specs.{Asking.{AsksIfFull}, Changes.{AddsNoTable, Enters, IsCalm, IsThatPage, KeepsOtherViews, KeepsSlotted, Moves}, PagingIn.{PagesIn}, AccessAsking.{IsSectorOfItsSlot}, declared.refusal.AccessRefusal.{AccessRefusal}}
+use Rattle.fault.specs.{Outcome.{IsStalled, IsWalked, Stalls}, Serving.{Reaches, Serves, Tends}, Wants.{ShowsFile, Wants}}
+use Rattle.fault.proofs.{NoTables.{no_table_calm, no_table_none, no_table_then}, Steps.{moves_entered, moves_none}, TablesGiven.{links_no_table}, AccessAsking.{asks_brought, asks_calm, asks_less, asks_same, asks_still, now_out}}
+use Rattle.fault.proofs.{Brought.{brings_on, brings_wider, calm_then, read_then, stalled_away}, AccessSlotted.{slotted_brought, slotted_calm, slotted_on, slotted_own, slotted_same}, AccessSteps.{brings_none, proceeds_moves, proceeds_then}}
 use Rattle.fault.proofs.Wanted.{calm_same, page_there, refused_as, stalled_as}
+use Rattle.fault.specs.declared.refusal.AccessRefusal.TheVariants as Refusal
 
 module _ {M : Type 0} {m : Levels.Ghosts M} {D E : Type 0} (g : Ghosts D) (h : Ghosts E) where
   -- nothing changed

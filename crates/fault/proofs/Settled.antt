@@ -1,36 +1,19 @@
 -- What an entry that was set for a page makes of the page.
-use Rattle.std.proofs.Common.{◌≡◌, ◌≢◌, ℕ, inl, inr, true, false, Bool, Option, Some, None, List, refl, sym, ap, ◌∙◌, subst}
+use Rattle.std.proofs.{Common.{◌≡◌, ◌≢◌, ℕ, inl, inr, true, false, Bool, Option, Some, None, List, refl, sym, ap, ◌∙◌, subst}, lemmas.Bool.{cases_Bool, false≢true}}
 use Rattle.std.specs.Prelude.{option_map}
-use Rattle.std.proofs.lemmas.Bool.{cases_Bool, false≢true}
-use Rattle.vm_types.specs.declared.access.Access.{Access}
-use Rattle.vm_types.specs.declared.access.Access.TheVariants.{Load, Store, Fetch}
-use Rattle.vm_types.specs.declared.object.PageKey.{PageKey}
-use Rattle.vm_types.specs.declared.object.PageKey.TheVariants.{File, Object}
-use Rattle.vm_types.specs.declared.region.Attr.{Attr}
-use Rattle.vm_types.specs.declared.region.Backing.{Backing}
-use Rattle.vm_types.specs.declared.region.Backing.TheVariants.{Anon, Private, Shared, Common}
-use Rattle.vm_types.specs.Attributes.{stands_on}
+use Rattle.vm_types.specs.{declared.access.Access.{Access}, declared.access.Access.TheVariants.{Load, Store, Fetch}, declared.object.PageKey.{PageKey}, declared.object.PageKey.TheVariants.{File, Object}, declared.region.Attr.{Attr}}
+use Rattle.vm_types.specs.{declared.region.Backing.{Backing}, declared.region.Backing.TheVariants.{Anon, Private, Shared, Common}, Attributes.{stands_on}, View.{View}, Verdict.{lets}}
 use Rattle.vm_types.specs.Permission as Permission
-use Rattle.vm_types.specs.View.{View}
-use Rattle.vm_types.specs.Verdict.{lets}
 use Rattle.frames.specs.FrameTable.{bytes_of, IsSound}
 use Rattle.sv39_walk.specs.Entry.{frame_of}
-use Rattle.residency.specs.Seats.{Seat, seat, is_private, is_swapped}
-use Rattle.residency.specs.Picture.{Picture, entry, own_in, bytes_in, view}
-use Rattle.residency.specs.Parts.{IsFit, IsBehind, is_shared}
+use Rattle.residency.specs.{Seats.{Seat, seat, is_private, is_swapped}, Picture.{Picture, entry, own_in, bytes_in, view}, Parts.{IsFit, IsBehind, is_shared}}
 use Rattle.page_tables.specs.Leaves.{IsEntryOver}
-use Rattle.fault.specs.Changes.{KeepsSeen, KeepsOtherViews, frame_of_place, frame_behind, shown_bytes}
-use Rattle.page_tables.proofs.Bits.{over_some}
-use Rattle.fault.proofs.Forms.{mapped_page, over_here}
-use Rattle.residency.proofs.SeatForms.{seat_common}
-use Rattle.fault.proofs.OwnSteps.{shown_own, shown_common}
-use Rattle.fault.proofs.Steps.{seen_then}
-use Rattle.fault.specs.Shown.{AreBehind, AreOwnOrBehind, AreShown}
-use Rattle.fault.specs.Granted.{IsEntered, IsReadyAt}
+use Rattle.fault.specs.{Changes.{KeepsSeen, KeepsOtherViews, frame_of_place, frame_behind, shown_bytes}, Shown.{AreBehind, AreOwnOrBehind, AreShown}, Granted.{IsEntered, IsReadyAt}}
 use Rattle.fault.specs.Outcome.{Reads, MarksTouchedIn, Owns, IsReadyToStore, IsFrameFor, seen_at}
-use Rattle.fault.proofs.Opening.{opens_load, opens_fetch, opens_store}
-use Rattle.fault.proofs.Verdicts.{ready_open}
+use Rattle.page_tables.proofs.Bits.{over_some}
+use Rattle.fault.proofs.{Forms.{mapped_page, over_here}, OwnSteps.{shown_own, shown_common}, Steps.{seen_then}, Opening.{opens_load, opens_fetch, opens_store}, Verdicts.{ready_open}}
 use Rattle.fault.proofs.Ready.{same_key, zero_same, view-mapped, own_in-private, own_in-none, reads, touches, owns}
+use Rattle.residency.proofs.SeatForms.{seat_common}
 
 pub one_view : (v w : View) → Some v ≡ Some w → v ≡ w
 one_view v w same = (cc)

@@ -1,13 +1,9 @@
 -- What lies in a slot stays there over the steps of a call.
 use Rattle.vm_types.specs.declared.mode.Levels as Levels
-use Rattle.vm_types.specs.Limits.{top_level}
+use Rattle.vm_types.specs.{Limits.{top_level}, declared.object.PageKey.{PageKey}, declared.number.FrameNo.{FrameNo}}
 use Rattle.std.proofs.Common.{◌≡◌, ◌≢◌, ◌⊎◌, ℕ, inl, inr, Option, ap, ◌∙◌}
-use Rattle.vm_types.specs.declared.object.PageKey.{PageKey}
-use Rattle.vm_types.specs.declared.number.FrameNo.{FrameNo}
 use Rattle.page_tables.specs.Tree.{IsPage}
-use Rattle.residency.specs.declared.kernel.Core.{Core}
-use Rattle.residency.specs.Picture.{Picture, picture_of, entry, is_swapped}
-use Rattle.residency.specs.Calls.{Frees}
+use Rattle.residency.specs.{declared.kernel.Core.{Core}, Picture.{Picture, picture_of, entry, is_swapped}, Calls.{Frees}}
 use Rattle.residency.proofs.Ways.{by_page}
 use Rattle.fault.specs.Changes.{KeepsSlotted, IsCalm, IsThatPage}
 

@@ -1,39 +1,19 @@
 -- A process starts, and pages are mapped for which nothing stands.
 use Rattle.vm_types.proofs.Modes.{sizes}
-use Rattle.vm_types.specs.Limits.{top_level}
-use Rattle.std.proofs.Common.{true, ◌≡◌, ◌≢◌, ℕ, inl, inr, ◌⊎◌, ◌<◌, ◌≤◌, List, Option, Some, None, refl, sym, ap, ◌∙◌, subst, arith}
+use Rattle.vm_types.specs.{Limits.{top_level}, declared.object.ObjectPage.{ObjectPage}, declared.object.PageKey.{PageKey}, declared.object.PageKey.TheVariants.{Object}, Objects.{is_named}, declared.region.Attr.{Attr}, Rows.{IsUserMap}}
+use Rattle.std.proofs.{Common.{true, ◌≡◌, ◌≢◌, ℕ, inl, inr, ◌⊎◌, ◌<◌, ◌≤◌, List, Option, Some, None, refl, sym, ap, ◌∙◌, subst, arith}, lemmas.Bool.{cases_eq, false≢true}}
 use Rattle.std.specs.Prelude.{IsSome}
-use Rattle.std.proofs.lemmas.Bool.{cases_eq, false≢true}
-use Rattle.vm_types.specs.declared.object.ObjectPage.{ObjectPage}
-use Rattle.vm_types.specs.declared.object.PageKey.{PageKey}
-use Rattle.vm_types.specs.declared.object.PageKey.TheVariants.{Object}
-use Rattle.vm_types.specs.Objects.{is_named}
-use Rattle.vm_types.specs.declared.region.Attr.{Attr}
-use Rattle.vm_types.specs.Rows.{IsUserMap}
-use Rattle.frames.specs.declared.role.Role.TheVariants.{Table}
-use Rattle.frames.specs.FrameTable.{FrameTable, role_of, count_of}
+use Rattle.frames.specs.{declared.role.Role.TheVariants.{Table}, FrameTable.{FrameTable, role_of, count_of}}
 use Rattle.swap.specs.Slots.{SlotTable}
 use Rattle.sv39_walk.specs.Entry.{frame_of}
-use Rattle.page_tables.specs.Change.{AddsTable}
-use Rattle.page_tables.specs.Tree.{IsPage, IsTable, Points, IsForest, IsRoot, IsSpare, IsBelowRoot, missing_of, page_entry}
-use Rattle.page_tables.proofs.Ends.{missing_of-is, page_entry-missing}
-use Rattle.page_tables.proofs.Linking.{empty_last}
-use Rattle.regions.specs.declared.run.Run.{Run}
-use Rattle.regions.specs.Permission.{IsReadableMap}
-use Rattle.regions.specs.RunList.{attr_at}
+use Rattle.page_tables.specs.{Change.{AddsTable}, Tree.{IsPage, IsTable, Points, IsForest, IsRoot, IsSpare, IsBelowRoot, missing_of, page_entry}}
+use Rattle.page_tables.proofs.{Ends.{missing_of-is, page_entry-missing}, Linking.{empty_last}}
+use Rattle.regions.specs.{declared.run.Run.{Run}, Permission.{IsReadableMap}, RunList.{attr_at}}
 use Rattle.page_cache.specs.declared.place.Place.TheVariants.{Home}
-use Rattle.residency.specs.Seats.{Seat, InFrame, InSlot, seat}
-use Rattle.residency.specs.Picture.{Picture, entry, IsOwned, count_in, page_in}
-use Rattle.residency.specs.Parts.{AreObjects, IsRootedBut, IsUsed, AsRoot, OnWay, IsMapped, IsEntryFor, Nothing, IsCountedBut, IsFitBut, IsFit, nowhere}
-use Rattle.residency.specs.Calls.{ObtainsTable}
-use Rattle.residency.specs.Steps.{SameBeside, KeepsShares, Spawns, Remaps}
-use Rattle.residency.proofs.Entries.{entry-of, entry-same, entries_kept}
-use Rattle.residency.proofs.Granting.{KeepsBehind, entry_for-same, user_map-same, readable-same}
-use Rattle.residency.proofs.Linked.{shares_taken, fit_same, loose_table, rooted_taken}
-use Rattle.residency.proofs.Places.{objects-same, named-more, places_same, places_renamed, dirty_same}
-use Rattle.residency.proofs.Rooted.{used_kept}
-use Rattle.residency.proofs.Seats.{counted_same}
-use Rattle.residency.proofs.Start.{entry-dead}
+use Rattle.residency.specs.{Seats.{Seat, InFrame, InSlot, seat}, Picture.{Picture, entry, IsOwned, count_in, page_in}}
+use Rattle.residency.specs.{Parts.{AreObjects, IsRootedBut, IsUsed, AsRoot, OnWay, IsMapped, IsEntryFor, Nothing, IsCountedBut, IsFitBut, IsFit, nowhere}, Calls.{ObtainsTable}, Steps.{SameBeside, KeepsShares, Spawns, Remaps}}
+use Rattle.residency.proofs.{Entries.{entry-of, entry-same, entries_kept}, Granting.{KeepsBehind, entry_for-same, user_map-same, readable-same}, Linked.{shares_taken, fit_same, loose_table, rooted_taken}}
+use Rattle.residency.proofs.{Places.{objects-same, named-more, places_same, places_renamed, dirty_same}, Rooted.{used_kept}, Seats.{counted_same}, Start.{entry-dead}}
 
 number_or : Option ℕ → ℕ
 number_or None = 0

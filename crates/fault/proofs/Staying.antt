@@ -1,10 +1,7 @@
 -- A page on whose way no table is missing stays so.
-use Rattle.std.proofs.Common.{◌≢◌, ℕ, None, sym, ◌∙◌, arith}
-use Rattle.residency.specs.Picture.{Picture}
-use Rattle.residency.specs.Parts.{IsFit}
-use Rattle.fault.specs.declared.spot.Spot.{Spot}
-use Rattle.fault.specs.Changes.{IsLinked, KeepsRows, KeepsSpaces, KeepsTables, StandsAt}
-use Rattle.residency.specs.Ways.{IsWhole}
+use Rattle.std.proofs.Common.{ℕ, sym, ◌∙◌, arith}
+use Rattle.residency.specs.{Picture.{Picture}, Parts.{IsFit}}
+use Rattle.fault.specs.{declared.spot.Spot.{Spot}, Changes.{IsLinked, KeepsRows, KeepsSpaces, KeepsTables, StandsAt}}
 
 -- no process came or went, and no table came to be missing
 pub linked_kept : {mode : ℕ} (old new : Picture mode) (pid page : ℕ) → IsLinked old pid page → IsFit new → KeepsSpaces old new → KeepsTables old new → IsLinked new pid page
@@ -17,10 +14,6 @@ linked_kept old new pid page linked fit spaces tables = record {
       let none = linked.whole r was in
       omega (arith, less, none));
 }
-
--- its tables were made
-pub linked_now : {mode : ℕ} (old new : Picture mode) (pid page : ℕ) → old.root pid ≢ None → IsFit new → KeepsSpaces old new → IsWhole new pid page → IsLinked new pid page
-linked_now old new pid page lives fit spaces whole = record { fit = fit; lives = λ none. lives (sym (spaces.root pid) ∙ none); whole = whole }
 
 -- and its entry stands where it stood
 pub stands_kept : {mode : ℕ} (old new : Picture mode) (spot : Spot) → StandsAt old spot → IsFit new → KeepsSpaces old new → KeepsTables old new → KeepsRows old new → StandsAt new spot

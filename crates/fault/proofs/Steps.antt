@@ -1,22 +1,13 @@
 -- How the steps of a call follow one another.
 use Rattle.vm_types.specs.declared.mode.Levels as Levels
-use Rattle.vm_types.specs.Limits.{top_level}
+use Rattle.vm_types.specs.{Limits.{top_level}, declared.refusal.Stall.{Stall}, declared.refusal.Stall.TheVariants.{NoFrames, NoSwap, SwapDevice, StoreDevice}, declared.number.FrameNo.{FrameNo}}
 use Rattle.std.proofs.Common.{◌≡◌, ◌+◌, ℕ, inl, inr, Option, Some, None, Result, Ok, Err, refl, sym, ap, ◌∙◌, subst, arith}
 use Rattle.std.specs.Prelude.{IsErrAnd}
-use Rattle.vm_types.specs.declared.refusal.Stall.{Stall}
-use Rattle.vm_types.specs.declared.refusal.Stall.TheVariants.{NoFrames, NoSwap, SwapDevice, StoreDevice}
 use Rattle.disk_model.specs.declared.sector_disk.SectorDisk.{Ghosts}
-use Rattle.vm_types.specs.declared.number.FrameNo.{FrameNo}
 use Rattle.frames.specs.FrameTable.{FrameTable}
 use Rattle.page_tables.specs.Tree.{missing_of}
-use Rattle.swap.specs.declared.slots.Swap.{Swap}
-use Rattle.swap.specs.Slots.{IsReady, slots_of}
-use Rattle.residency.specs.declared.kernel.Core.{Core}
-use Rattle.residency.specs.Picture.{Picture, picture_of, entry}
-use Rattle.residency.specs.Parts.{IsFit}
-use Rattle.residency.specs.Calls.{Frees, IsStaying, KeepsRest, UsesDevice}
-use Rattle.residency.specs.Stalls.{StallCause, HasStallCause}
-use Rattle.residency.specs.Steps.{SameBeside}
+use Rattle.swap.specs.{declared.slots.Swap.{Swap}, Slots.{IsReady, slots_of}}
+use Rattle.residency.specs.{declared.kernel.Core.{Core}, Picture.{Picture, picture_of, entry}, Parts.{IsFit}, Calls.{Frees, IsStaying, KeepsRest, UsesDevice}, Stalls.{StallCause, HasStallCause}, Steps.{SameBeside}}
 use Rattle.fault.specs.Changes.{KeepsTables, KeepsBare, KeepsSpaces, KeepsRoom, KeepsSeen, Enters, Moves}
 
 pub spaces_then : {mode : ℕ} (a b c : Picture mode) → KeepsSpaces a b → KeepsSpaces b c → KeepsSpaces a c

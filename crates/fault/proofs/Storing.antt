@@ -1,29 +1,16 @@
 -- Bytes written to the frame that the access of a store was given.
-use Rattle.vm_types.specs.Limits.{top_level}
+use Rattle.vm_types.specs.{Limits.{top_level}, declared.object.PageKey.{PageKey}, declared.region.Attr.{Attr}, View.{View}}
 use Rattle.std.proofs.Common.{◌≡◌, ◌≢◌, ℕ, inl, inr, ◌⊎◌, true, List, Option, Some, None, sym, ap, ◌∙◌, subst, arith}
-use Rattle.vm_types.specs.declared.object.PageKey.{PageKey}
-use Rattle.vm_types.specs.declared.region.Attr.{Attr}
-use Rattle.vm_types.specs.View.{View}
-use Rattle.frames.specs.declared.role.Role.TheVariants.{Table, Private, Cache}
-use Rattle.frames.specs.FrameTable.{FrameTable, bytes_of, role_of, IsHeld, with_bytes}
+use Rattle.frames.specs.{declared.role.Role.TheVariants.{Table, Private, Cache}, FrameTable.{FrameTable, bytes_of, role_of, IsHeld, with_bytes}}
 use Rattle.frames.proofs.FrameLemmas.{with_bytes-same}
 use Rattle.sv39_walk.specs.Entry.{frame_of}
 use Rattle.page_tables.specs.Tree.{IsPage}
 use Rattle.page_cache.specs.declared.place.Place.TheVariants.{Home, Frame}
-use Rattle.residency.specs.Seats.{Seat, InFrame, InSlot, seat, is_private, is_seat, holders_at}
-use Rattle.residency.specs.Picture.{Picture, entry, own_in, view, view_of, held, bytes_at, bytes_in, IsOwned}
-use Rattle.residency.specs.Parts.{IsFit, nowhere}
-use Rattle.residency.specs.Shows.{KeepsFiles}
-use Rattle.residency.specs.Steps.{SameBeside}
-use Rattle.residency.proofs.Counts.{count-sole}
-use Rattle.residency.proofs.Evicted.{seat_number}
-use Rattle.residency.proofs.Seats.{seat-same, off-none}
-use Rattle.residency.proofs.Setting.{each_view, view_seated, held_same, entries_written, fit_written, bytes_else}
+use Rattle.residency.specs.{Seats.{Seat, InFrame, InSlot, seat, is_private, is_seat, holders_at}, Picture.{Picture, entry, own_in, view, view_of, held, bytes_at, bytes_in, IsOwned}, Parts.{IsFit, nowhere}, Steps.{SameBeside}}
+use Rattle.residency.proofs.{Counts.{count-sole}, Evicted.{seat_number}, Seats.{seat-same, off-none}, Setting.{each_view, view_seated, held_same, entries_written, fit_written, bytes_else}, SeatForms.{seat_own}}
 use Rattle.fault.proofs.Forms as Forms
-use Rattle.residency.proofs.SeatForms.{seat_own}
 use Rattle.fault.specs.Shown.{IsSoleOwner}
-use Rattle.fault.proofs.Ready.{view-mapped, own_in-private}
-use Rattle.fault.proofs.Settled.{one_view}
+use Rattle.fault.proofs.{Ready.{view-mapped, own_in-private}, Settled.{one_view}}
 
 attr_in : (own : Option (List ℕ)) (o : Option Attr) (v : View) → view_of own o ≡ Some v → o ≡ Some v.attr
 attr_in own None v is = let bad : None ≡ Some v = is in (cc)
@@ -124,13 +111,6 @@ module _ {mode : ℕ} (old new : Picture mode) (n : ℕ) (w : List ℕ) (fit : I
     pub held_own : (p : PageKey) → held new p ≡ held old p
     held_own p = same_held own_data p (λ m at is. (
         let bad : Private ≡ Cache = sym (own_role pid page sole) ∙ ap (role_of old.frames) (sym is) ∙ fit.places.cached p m at in (cc)))
-
-    pub files_own : KeepsFiles old new
-    files_own = record {
-      held = λ p. inl (held_own p);
-      touched = beside.touched;
-      files = beside.files;
-    }
 
   -- the frame of a file page
   module _ (p : PageKey) (at : old.place p ≡ Frame (record { 0 = n })) where

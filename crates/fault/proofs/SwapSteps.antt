@@ -1,37 +1,20 @@
 -- A page's own copy read from its slot into a frame.
-use Rattle.vm_types.specs.Limits.{top_level}
-use Rattle.std.proofs.Common.{◌≡◌, ◌≢◌, ℕ, inl, inr, ◌*◌, true, false, List, Option, Some, refl, sym, ap, ◌∙◌, subst, arith}
-use Rattle.std.proofs.lemmas.Bool.{cases_Bool, false≢true}
-use Rattle.vm_types.specs.declared.number.FrameNo.{FrameNo}
-use Rattle.vm_types.specs.declared.region.Attr.{Attr}
-use Rattle.frames.specs.declared.role.Role.TheVariants.{Table, Private}
-use Rattle.frames.specs.FrameTable.{FrameTable, count_of, SameButFor, Takes, with_bytes, Releases}
+use Rattle.vm_types.specs.{Limits.{top_level}, declared.region.Attr.{Attr}, Permission.{can_write}}
+use Rattle.std.proofs.{Common.{◌≡◌, ◌≢◌, ℕ, inl, inr, ◌*◌, true, false, List, Option, Some, refl, sym, ap, ◌∙◌, subst, arith}, lemmas.Bool.{cases_Bool, false≢true}}
+use Rattle.frames.specs.{declared.role.Role.TheVariants.{Private}, FrameTable.{FrameTable, count_of, SameButFor, Takes, with_bytes, Releases}}
 use Rattle.frames.proofs.FrameLemmas.{with_bytes-others}
 use Rattle.std.specs.Prelude.{◌&&◌, ◌==◌, ◌≤◌}
-use Rattle.vm_types.specs.Permission.{can_write}
 use Rattle.disk_model.specs.declared.sector_disk.SectorDisk.{Ghosts}
-use Rattle.swap.specs.declared.slots.Swap.{Swap}
-use Rattle.swap.specs.declared.pages.Pages.{Pages}
-use Rattle.swap.specs.Written.{IsAsWritten}
-use Rattle.page_tables.specs.Leaves.{IsEntryOver}
+use Rattle.swap.specs.{declared.slots.Swap.{Swap}, declared.pages.Pages.{Pages}, Written.{IsAsWritten}, Slots.{SlotTable, IsReady, slots_of}}
+use Rattle.page_tables.specs.{Leaves.{IsEntryOver}, Tree.{IsPage}}
 use Rattle.fault.specs.Leaves.{IsFullEntry}
-use Rattle.swap.specs.Slots.{SlotTable, IsReady, slots_of}
 use Rattle.sv39_walk.specs.Entry.{is_valid, has_bit}
-use Rattle.page_tables.specs.Tree.{IsPage}
-use Rattle.residency.specs.Seats.{Seat, is_swapped}
-use Rattle.residency.specs.Picture.{Picture, entry}
-use Rattle.residency.specs.Parts.{IsFit, IsEntryFor, Nothing, Resident, Away, IsSwapped}
-use Rattle.residency.specs.Calls.{ObtainsOwn}
-use Rattle.residency.specs.Steps.{TakesOwn, ChangesFrame}
-use Rattle.residency.proofs.Taking.{changes_taken, entries_changed}
+use Rattle.residency.specs.{Seats.{is_swapped}, Picture.{Picture, entry}, Parts.{IsFit, IsEntryFor, Nothing, Resident, Away, IsSwapped}, Steps.{TakesOwn, ChangesFrame}}
 use Rattle.residency.proofs.SeatForms.{bit_clear}
 
 zero_here : is_swapped 0 ≡ false
 unfolding has_bit
 zero_here = refl
-
-some_seat : (x y : Seat) → Some x ≡ Some y → x ≡ y
-some_seat x y e = (cc)
 
 not_shared_away : {mode : ℕ} (c : Picture mode) (attr : Option Attr) (a : Attr) (e : ℕ) → attr ≡ Some a → is_swapped e ≡ true → e ≢ 0 → IsEntryFor c attr e → IsSwapped c a e
 not_shared_away c attr a e at away some (Nothing none) = absurd (some none)
@@ -70,33 +53,12 @@ own_spent old taken new n w takes releases =
       counts = λ m ne. releases.others.counts m ne ∙ written.counts m ne;
     }
 
--- a page in a slot keeps its entry while a frame is taken
-pub entry_taken : {mode : ℕ} {keep : Option FrameNo} (old taken : Picture mode) (pid page n : ℕ) (obtains : ObtainsOwn old taken keep n page) → IsPage (top_level mode) page → is_swapped (entry old pid page) ≡ true → entry taken pid page ≡ entry old pid page
-entry_taken old taken pid page n obtains h away =
-    entries_changed obtains.found taken n obtains.fit (changes_taken obtains.found taken n page obtains.own) (λ t. (let bad : Private ≡ Table = sym obtains.own.takes.kind_set ∙ t in (cc))) pid page
-    ∙ obtains.frees.entries pid page h (inr (inl away))
-
--- the frame that was taken was written
-pub changes_written : {mode : ℕ} (found taken : Picture mode) (n page : ℕ) → TakesOwn found taken n page → (t : SlotTable) → t ≡ taken.slots → (w : List ℕ)
-    → ChangesFrame found (record taken { slots = t; frames = with_bytes taken.frames n w }) n
-changes_written found taken n page own t slots w = record {
-  slots = slots ∙ own.slots;
-  frames = own_written found.frames taken.frames n w own.takes;
-  was_free = own.takes.was_free;
-  others = own.others;
-  root = own.root;
-  at = own.at;
-  place = own.place;
-  touched = own.touched;
-  files = own.files;
-}
-
--- and given back
-pub changes_spent : {mode : ℕ} (found taken : Picture mode) (n page : ℕ) → TakesOwn found taken n page → (t : SlotTable) → t ≡ taken.slots → (w : List ℕ) (u : FrameTable) → Releases (with_bytes taken.frames n w) u n
+-- a frame that was taken for a page changed further, and no slot
+pub changes_further : {mode : ℕ} {found taken : Picture mode} {n page : ℕ} → TakesOwn found taken n page → (t : SlotTable) → t ≡ taken.slots → (u : FrameTable) → SameButFor n found.frames u
     → ChangesFrame found (record taken { slots = t; frames = u }) n
-changes_spent found taken n page own t slots w u releases = record {
+changes_further own t slots u frames = record {
   slots = slots ∙ own.slots;
-  frames = own_spent found.frames taken.frames u n w own.takes releases;
+  frames = frames;
   was_free = own.takes.was_free;
   others = own.others;
   root = own.root;

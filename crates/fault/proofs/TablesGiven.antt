@@ -1,22 +1,12 @@
 -- What tables taken and linked take of memory.
 use Rattle.vm_types.specs.Limits.{top_level}
-use Rattle.std.proofs.Common.{◌≡◌, ◌≢◌, ◌-◌, ◌≤◌, ℕ, zero, suc, inl, inr, Option, Some, None, get_or, sym, ap, ◌∙◌, subst, arith}
-use Rattle.std.proofs.lemmas.Bool.{cases_eq}
-use Rattle.frames.specs.declared.role.Role.TheVariants.{Free}
-use Rattle.frames.specs.FrameTable.{FrameTable, frame_count, role_of}
-use Rattle.page_tables.specs.Change.{LinksTable}
-use Rattle.page_tables.specs.Tree.{IsBelowRoot, Points, Way, last_table, missing_of}
-use Rattle.page_tables.proofs.Ways.{ends}
-use Rattle.page_tables.proofs.Ends.{way_forth}
-use Rattle.residency.specs.Ages.{Same, GivesForTables, KeepsRoles, KeepsRolesBut}
-use Rattle.residency.specs.Picture.{Picture, entry}
-use Rattle.residency.specs.Calls.{Frees, ObtainsTable}
-use Rattle.residency.specs.Steps.{SameBeside}
-use Rattle.residency.proofs.Aging.{gives_then}
-use Rattle.residency.proofs.Entries.{entry-same}
-use Rattle.residency.proofs.Linked.{loose_table}
+use Rattle.std.proofs.{Common.{◌≡◌, ◌≢◌, ◌-◌, ◌≤◌, ℕ, zero, suc, inl, inr, Option, Some, None, get_or, sym, ap, ◌∙◌, subst, arith}, lemmas.Bool.{cases_eq}}
+use Rattle.frames.specs.{declared.role.Role.TheVariants.{Free}, FrameTable.{FrameTable, frame_count, role_of}}
+use Rattle.page_tables.specs.{Change.{LinksTable}, Tree.{IsBelowRoot, Points, Way, last_table, missing_of}}
+use Rattle.page_tables.proofs.{Ways.{ends}, Ends.{way_forth}}
+use Rattle.residency.specs.{Ages.{Same, GivesForTables, KeepsRoles, KeepsRolesBut}, Picture.{Picture, entry}, Calls.{Frees, ObtainsTable}, Steps.{SameBeside}, Ways.{IsWhole}}
+use Rattle.residency.proofs.{Aging.{gives_then}, Entries.{entry-same}, Linked.{loose_table}}
 use Rattle.fault.specs.Changes.{AddsNoTable, IsTableOnWay, LinksTables}
-use Rattle.residency.specs.Ways.{IsWhole}
 use Rattle.fault.proofs.NoTables.{table_before}
 
 -- a table on the way to a page that is not the root
@@ -62,7 +52,7 @@ still_wanted old new pid root page frees lives missing whole =
     missing (sym (frees.missing pid root page lives) ∙ whole root (frees.pages.root pid ∙ lives))
 
 -- a frame was obtained, taken for a table, and linked on the way to a page
-module _ {mode : ℕ} (old taken new : Picture mode) (pid root page table : ℕ) (obtains : ObtainsTable old taken table) (lives : old.root pid ≡ Some root)
+module _ {mode : ℕ} {old taken new : Picture mode} {pid root page table : ℕ} (obtains : ObtainsTable old taken table) (lives : old.root pid ≡ Some root)
     (links : LinksTable taken.frames new.frames (top_level mode) root page table) (beside : SameBeside taken new) where
   lives_taken : taken.root pid ≡ Some root
   lives_taken = obtains.beside.root pid ∙ obtains.frees.pages.root pid ∙ lives

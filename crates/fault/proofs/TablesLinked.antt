@@ -1,32 +1,19 @@
 -- A table linked: what every process and file sees stays.
-use Rattle.vm_types.specs.Limits.{top_level}
-use Rattle.std.proofs.Common.{◌≡◌, ◌≢◌, ◌≤◌, ℕ, inl, inr, Some, Option, get_or, sym, ap, ◌∙◌, subst, arith}
+use Rattle.vm_types.specs.{Limits.{top_level}, declared.region.Attr.{Attr}}
+use Rattle.std.proofs.{Common.{◌≡◌, ◌≢◌, ◌≤◌, ℕ, inl, inr, Some, Option, get_or, sym, ap, ◌∙◌, subst, arith}, lemmas.Bool.{cases_eq}}
 use Rattle.std.specs.Prelude.{IsSome}
-use Rattle.std.proofs.lemmas.Bool.{cases_eq}
-use Rattle.vm_types.specs.declared.region.Attr.{Attr}
-use Rattle.frames.specs.declared.role.Role.{Role}
-use Rattle.frames.specs.declared.role.Role.TheVariants.{Free, Table, Private, Cache}
-use Rattle.frames.specs.FrameTable.{FrameTable, role_of, bytes_of}
-use Rattle.page_tables.specs.Change.{LinksTable}
-use Rattle.page_tables.specs.Tree.{IsRoot, missing_of}
-use Rattle.residency.specs.Seats.{Seat, InFrame, InSlot, seat}
-use Rattle.residency.specs.Picture.{Picture, entry, bytes_in, IsOwned}
-use Rattle.residency.specs.Parts.{IsFit, IsMapped}
-use Rattle.residency.specs.Calls.{KeepsPages, ObtainsTable}
-use Rattle.residency.specs.Steps.{SameBeside}
-use Rattle.residency.proofs.Entries.{entry-same}
-use Rattle.residency.proofs.Linked.{loose_table, fit_linked}
-use Rattle.residency.proofs.Setting.{each_view, view_seated, held_same}
-use Rattle.residency.proofs.Shown.{keeps_then}
+use Rattle.frames.specs.{declared.role.Role.{Role}, declared.role.Role.TheVariants.{Free, Table, Private, Cache}, FrameTable.{FrameTable, role_of, bytes_of}}
+use Rattle.page_tables.specs.{Change.{LinksTable}, Tree.{missing_of}}
+use Rattle.residency.specs.{Seats.{Seat, InFrame, InSlot, seat}, Picture.{Picture, entry, bytes_in, IsOwned}, Parts.{IsFit, IsMapped}, Calls.{KeepsPages, ObtainsTable}, Steps.{SameBeside}}
+use Rattle.residency.proofs.{Entries.{entry-same}, Linked.{loose_table, fit_linked}, Setting.{each_view, view_seated, held_same}, Shown.{keeps_then}}
 use Rattle.fault.specs.Changes.{KeepsTables, KeepsBare, KeepsSlotted, KeepsRoom, KeepsSpaces}
-use Rattle.fault.proofs.Slotted.{slotted_then, slotted_frees, slotted_same}
-use Rattle.fault.proofs.Steps.{tables_then, bare_then, tables_freed, bare_freed, room_freed, room_then, spaces_freed, spaces_then}
+use Rattle.fault.proofs.{Slotted.{slotted_then, slotted_frees, slotted_same}, Steps.{tables_then, bare_then, tables_freed, bare_freed, room_freed, room_then, spaces_freed, spaces_then}}
 
 not_free : (t : FrameTable) (n m : ℕ) (r : Role) → role_of t n ≡ Free → role_of t m ≡ r → r ≢ Free → m ≢ n
 not_free t n m r free is ne e = ne (sym is ∙ ap (role_of t) e ∙ free)
 
 -- a frame was obtained, taken for a table, and linked on the way to a mapped page
-module _ {mode : ℕ} (old taken new : Picture mode) (pid root page table : ℕ) (obtains : ObtainsTable old taken table) (lives : old.root pid ≡ Some root)
+module _ {mode : ℕ} {old taken new : Picture mode} {pid root page table : ℕ} (obtains : ObtainsTable old taken table) (lives : old.root pid ≡ Some root)
     (links : LinksTable taken.frames new.frames (top_level mode) root page table) (beside : SameBeside taken new) where
   abbrev found : Picture mode
   found = obtains.found
@@ -54,9 +41,6 @@ module _ {mode : ℕ} (old taken new : Picture mode) (pid root page table : ℕ)
   ne_table : (q r : ℕ) → found.root q ≡ Some r → r ≢ table
   ne_table q r e is = loose q (obtains.beside.root q ∙ e ∙ ap (λ x. Some x) is)
 
-  pub is_root_taken : IsRoot (top_level mode) taken.frames root
-  is_root_taken = obtains.adds.roots root (fit.rooted.roots pid root lives_found)
-
   bytes_linked : (n : ℕ) (r : Role) → role_of found.frames n ≡ r → r ≢ Free → r ≢ Table → bytes_of new.frames n ≡ bytes_of found.frames n
   bytes_linked n r is free table' =
       let ne = not_free found.frames table n r obtains.adds.takes.was_free is free in
@@ -66,20 +50,8 @@ module _ {mode : ℕ} (old taken new : Picture mode) (pid root page table : ℕ)
   entries_linked q p = entry-same found new q p (beside_found.root q) (λ x e.
       links.entries x p (ne_table q x e) (obtains.adds.roots x (fit.rooted.roots q x e)) ∙ obtains.adds.entries x p (fit.rooted.roots q x e))
 
-  private_free : Private ≢ Free
-  private_free e = (cc)
-
-  private_table : Private ≢ Table
-  private_table e = (cc)
-
-  cache_free : Cache ≢ Free
-  cache_free e = (cc)
-
-  cache_table : Cache ≢ Table
-  cache_table e = (cc)
-
   seat_bytes : (z : Seat) → IsOwned found z → bytes_in new.frames new.slots z ≡ bytes_in found.frames found.slots z
-  seat_bytes (InFrame n) is = bytes_linked n Private is private_free private_table
+  seat_bytes (InFrame n) is = bytes_linked n Private is (λ e. (cc)) (λ e. (cc))
   seat_bytes (InSlot k) is = ap (λ t. t.bytes k) beside_found.slots
 
   pub pages_linked : KeepsPages old new
@@ -89,7 +61,7 @@ module _ {mode : ℕ} (old taken new : Picture mode) (pid root page table : ℕ)
     views = λ q p. each_view found new fit.granting beside_found.at q p (λ h. view_seated found new q p (beside_found.at q p) (ap seat (entries_linked q p))
         (λ z is. seat_bytes z (fit.counted.1.named q p z h is)));
     files = record {
-      held = λ p. inl (held_same found new p (beside_found.place p) beside_found.slots (λ m at. bytes_linked m Cache (fit.places.cached p m at) cache_free cache_table));
+      held = λ p. inl (held_same found new p (beside_found.place p) beside_found.slots (λ m at. bytes_linked m Cache (fit.places.cached p m at) (λ e. (cc)) (λ e. (cc))));
       touched = beside_found.touched;
       files = beside_found.files;
     };

@@ -1,14 +1,11 @@
 -- Memory is the same where its frames are.
 use Rattle.vm_types.specs.declared.mode.Levels as Levels
-use Rattle.std.proofs.Common.{◌≡◌, ◌<◌, length, sym, ap, subst}
-use Rattle.std.proofs.Props.{props}
-use Rattle.file_store.specs.Store.{files_of}
-use Rattle.file_store.specs.Standing.{AreBounded}
+use Rattle.std.proofs.{Common.{◌≡◌, ◌<◌, length, sym, ap, subst}, Props.{props}}
+use Rattle.file_store.specs.{Store.{files_of}, Standing.{AreBounded}}
 use Rattle.frames.specs.FrameTable.{FrameTable, IsSound, frame_count}
 use Rattle.page_cache.specs.CacheTable as CacheTable
 use Rattle.swap.specs.Slots.{slots_of}
-use Rattle.residency.specs.declared.kernel.Core.{Core}
-use Rattle.residency.specs.Sound.{IsSound-prop, AreBounded-prop}
+use Rattle.residency.specs.{declared.kernel.Core.{Core}, Sound.{IsSound-prop, AreBounded-prop}}
 
 module _ {M : Type 0} {m : Levels.Ghosts M} {D E : Type 0} (c : Core D E M m) where
   -- what is always so of it

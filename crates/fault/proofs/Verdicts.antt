@@ -1,41 +1,19 @@
 -- An entry that grants an access gives its place, and the walk finds no other.
-use Rattle.vm_types.specs.Limits.{user_end, top_level}
+use Rattle.vm_types.specs.{Limits.{user_end, top_level}, declared.access.Access.{Access}, declared.access.Access.TheVariants.{Load, Store, Fetch}, declared.number.Phys.{Phys}, declared.object.PageKey.TheVariants.{File, Object}}
+use Rattle.vm_types.specs.{declared.region.Attr.{Attr}, declared.region.Backing.{Backing}, declared.region.Backing.TheVariants.{Anon, Private, Shared, Common}, declared.width.Width.{Width}, declared.refusal.Code.{Code}}
+use Rattle.vm_types.specs.{declared.refusal.Code.TheVariants.{SegvMaperr, SegvAccerr, BusAdrerr}, Attributes.{stands_on}, Files.{Files}, Verdict.{Fine, Faults, lets, is_past_end, page_verdict}, View.{View}, Width.{byte_count}}
 use Rattle.vm_types.proofs.Modes.{user_pages_fit}
-use Rattle.std.proofs.Common.{◌≡◌, ℕ, inl, inr, ◌+◌, ◌*◌, ◌/◌, ◌%◌, ◌<◌, ◌≤◌, true, false, Option, Some, None, Ok, refl, sym, ap, ◌∙◌, subst, arith, eq-eqb}
+use Rattle.std.proofs.{Common.{◌≡◌, ℕ, inl, inr, ◌+◌, ◌*◌, ◌/◌, ◌%◌, ◌<◌, ◌≤◌, true, false, Option, Some, None, Ok, refl, sym, ap, ◌∙◌, subst, arith, eq-eqb}, lemmas.Bool.{false≢true}}
 use Rattle.std.specs.Prelude.{IsSome, is_some, ◌⊎◌}
-use Rattle.std.proofs.lemmas.Bool.{false≢true}
-use Rattle.vm_types.specs.declared.access.Access.{Access}
-use Rattle.vm_types.specs.declared.access.Access.TheVariants.{Load, Store, Fetch}
-use Rattle.vm_types.specs.declared.number.Phys.{Phys}
-use Rattle.vm_types.specs.declared.object.PageKey.TheVariants.{File, Object}
-use Rattle.vm_types.specs.declared.region.Attr.{Attr}
-use Rattle.vm_types.specs.declared.region.Backing.{Backing}
-use Rattle.vm_types.specs.declared.region.Backing.TheVariants.{Anon, Private, Shared, Common}
-use Rattle.vm_types.specs.declared.width.Width.{Width}
-use Rattle.vm_types.specs.declared.refusal.Code.{Code}
-use Rattle.vm_types.specs.declared.refusal.Code.TheVariants.{SegvMaperr, SegvAccerr, BusAdrerr}
-use Rattle.vm_types.specs.Attributes.{stands_on}
-use Rattle.vm_types.specs.Files.{Files}
-use Rattle.vm_types.specs.Verdict.{Fine, Faults, lets, is_past_end, page_verdict}
-use Rattle.vm_types.specs.View.{View}
-use Rattle.vm_types.specs.Width.{byte_count}
 use Rattle.frames.specs.FrameTable.{frame_count, bytes_of, IsSound}
-use Rattle.sv39_walk.specs.Entry.{is_valid, frame_of, grants}
-use Rattle.sv39_walk.specs.Walk.{translated, answer_of}
+use Rattle.sv39_walk.specs.{Entry.{is_valid, frame_of, grants}, Walk.{translated, answer_of}}
 use Rattle.page_tables.specs.Tree.{IsPage}
-use Rattle.residency.specs.Picture.{Picture, is_live, entry, own_in, view}
-use Rattle.residency.specs.Parts.{IsFit, IsEntryFor, Nothing, Resident, Away, IsLeafFor, is_shared}
-use Rattle.residency.proofs.Entries.{entry-of}
-use Rattle.residency.proofs.Moves.{view-none}
-use Rattle.fault.specs.declared.finding.Way.{Way}
-use Rattle.fault.specs.Found.{IsOpenTo, IsWayTo, IsFineAt, IsUnwalked}
-use Rattle.fault.specs.Changes.{KeepsSeen}
-use Rattle.fault.specs.Shown.{AreShown}
-use Rattle.fault.specs.Outcome.{verdict_of, seen_at, Owns, IsReadyToStore, IsReadyFor, IsOpenToStore, IsFrameFor, IsPlaced, Grants}
-use Rattle.fault.specs.Granted.{IsOpenLeaf, IsEntered, IsReadyAt}
-use Rattle.fault.proofs.Answers.{Places, answer-ok, answer-places}
+use Rattle.residency.specs.{Picture.{Picture, is_live, entry, own_in, view}, Parts.{IsFit, IsEntryFor, Nothing, Resident, Away, IsLeafFor, is_shared}}
+use Rattle.residency.proofs.{Entries.{entry-of}, Moves.{view-none}}
+use Rattle.fault.specs.{declared.finding.Way.{Way}, Found.{IsOpenTo, IsWayTo, IsFineAt, IsUnwalked}, Changes.{KeepsSeen}, Shown.{AreShown}}
+use Rattle.fault.specs.{Outcome.{verdict_of, seen_at, Owns, IsReadyToStore, IsReadyFor, IsOpenToStore, IsFrameFor, IsPlaced, Grants}, Granted.{IsOpenLeaf, IsEntered, IsReadyAt}}
+use Rattle.fault.proofs.{Answers.{Places, answer-ok, answer-places}, Ready.{valid_zero, valid_some, valid_here, resident, shown_there, view-mapped, reads, touches, owns}}
 use Rattle.memory.proofs.Walks.{translated-entry}
-use Rattle.fault.proofs.Ready.{valid_zero, valid_some, valid_here, resident, shown_there, view-mapped, reads, touches, owns}
 
 -- user pages alone are mapped
 pub page_user : {mode : ℕ} (c : Picture mode) (pid page : ℕ) (a : Attr) → IsFit c → c.at pid page ≡ Some a → (16 ≤ page) × (page < user_end mode)

@@ -1,39 +1,18 @@
 -- When an access wants a frame, or the page from its home.
 use Rattle.vm_types.specs.declared.mode.Levels as Levels
-use Rattle.vm_types.specs.Limits.{top_level}
-use Rattle.std.specs.Prelude.{IfErr, IsErrAnd}
-use Rattle.std.proofs.Common.{◌≡◌, ◌≢◌, ℕ, Result, Ok, Err, inl, inr, ◌⊎◌, true, false, Option, Some, None, is_some, refl, sym, ap, ◌∙◌, subst}
-use Rattle.std.proofs.lemmas.Bool.{cases_eq, cases_Bool, false≢true}
-use Rattle.vm_types.specs.declared.access.Access.{Access}
-use Rattle.vm_types.specs.declared.access.Access.TheVariants.{Store}
-use Rattle.vm_types.specs.declared.object.PageKey.{PageKey}
-use Rattle.vm_types.specs.declared.object.PageKey.TheVariants.{File}
-use Rattle.vm_types.specs.declared.number.FrameNo.{FrameNo}
-use Rattle.vm_types.specs.declared.number.Phys.{Phys}
-use Rattle.vm_types.specs.declared.refusal.Code.{Code}
-use Rattle.vm_types.specs.declared.refusal.Stall.{Stall}
-use Rattle.vm_types.specs.declared.region.Attr.{Attr}
-use Rattle.vm_types.specs.declared.width.Width.{Width}
-use Rattle.vm_types.specs.Attributes.{stands_on}
-use Rattle.vm_types.specs.Verdict.{Verdict, Fine, Faults}
+use Rattle.vm_types.specs.{Limits.{top_level}, declared.access.Access.{Access}, declared.access.Access.TheVariants.{Store}, declared.object.PageKey.{PageKey}, declared.object.PageKey.TheVariants.{File}, declared.number.FrameNo.{FrameNo}}
+use Rattle.vm_types.specs.{declared.number.Phys.{Phys}, declared.refusal.Code.{Code}, declared.refusal.Stall.{Stall}, declared.region.Attr.{Attr}, declared.width.Width.{Width}, Attributes.{stands_on}, Verdict.{Verdict, Fine, Faults}}
 use Rattle.vm_types.specs.View.{View}
+use Rattle.std.specs.Prelude.{IfErr, IsErrAnd}
+use Rattle.std.proofs.{Common.{◌≡◌, ◌≢◌, ℕ, Result, Ok, Err, inl, inr, ◌⊎◌, true, false, Option, Some, None, is_some, refl, sym, ap, ◌∙◌, subst}, lemmas.Bool.{cases_eq, cases_Bool, false≢true}}
 use Rattle.disk_model.specs.declared.sector_disk.SectorDisk.{Ghosts}
-use Rattle.sv39_walk.specs.Walk.{translated}
-use Rattle.sv39_walk.specs.declared.translation.WalkFault.{WalkFault}
+use Rattle.sv39_walk.specs.{Walk.{translated}, declared.translation.WalkFault.{WalkFault}}
 use Rattle.page_tables.specs.Tree.{missing_of}
-use Rattle.page_cache.specs.declared.place.Place.{Place}
-use Rattle.page_cache.specs.declared.place.Place.TheVariants.{Home, Frame, Slot}
-use Rattle.residency.specs.declared.kernel.Core.{Core}
-use Rattle.residency.specs.Seats.{seat}
-use Rattle.residency.specs.Picture.{Picture, entry}
-use Rattle.residency.specs.Parts.{IsFit, is_shared}
-use Rattle.fault.specs.Changes.{IsCalm, KeepsSeen, is_sole}
-use Rattle.residency.specs.Ways.{IsWhole}
-use Rattle.fault.specs.Files.{IsInStore}
-use Rattle.fault.specs.declared.refusal.AccessRefusal.{AccessRefusal}
-use Rattle.fault.specs.declared.refusal.AccessRefusal.TheVariants as Refusal
-use Rattle.fault.specs.Wants.{LacksTable, ShowsFile, Wants, ForFile, ForStore, ReadsHome}
+use Rattle.page_cache.specs.{declared.place.Place.{Place}, declared.place.Place.TheVariants.{Home, Frame, Slot}}
+use Rattle.residency.specs.{declared.kernel.Core.{Core}, Seats.{seat}, Picture.{Picture, entry}, Parts.{IsFit, is_shared}, Ways.{IsWhole}}
+use Rattle.fault.specs.{Changes.{IsCalm, KeepsSeen, is_sole}, Files.{IsInStore}, declared.refusal.AccessRefusal.{AccessRefusal}, Wants.{LacksTable, ShowsFile, Wants, ForFile, ForStore, ReadsHome}}
 use Rattle.fault.specs.Outcome.{verdict_of, IsPlaced, IsWalked, IsStalled, Stalls, IsRefusal}
+use Rattle.fault.specs.declared.refusal.AccessRefusal.TheVariants as Refusal
 use Rattle.fault.proofs.Settled.{none_same}
 
 pub cases_frame : (place : Place) → ((n : FrameNo) × (place ≡ Frame n)) ⊎ ((n : FrameNo) → place ≢ Frame n)

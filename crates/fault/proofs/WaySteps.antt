@@ -3,19 +3,13 @@ use Rattle.vm_types.specs.declared.mode.Levels as Levels
 use Rattle.std.proofs.Common.{◌≡◌, inl, None, Result, Ok, Err, refl, sym, ◌∙◌, subst}
 use Rattle.std.specs.Prelude.{IfOk, IsErrAnd, OnOk}
 use Rattle.vm_types.specs.declared.refusal.Stall.{Stall}
-use Rattle.disk_model.specs.declared.sector_disk.SectorDisk.{Ghosts}
-use Rattle.disk_model.specs.Moments.{Nothing}
+use Rattle.disk_model.specs.{declared.sector_disk.SectorDisk.{Ghosts}, Moments.{Nothing}}
 use Rattle.frames.specs.FrameTable.{IsFull}
 use Rattle.swap.specs.Slots.{IsReady}
-use Rattle.residency.specs.declared.kernel.Core.{Core}
-use Rattle.residency.specs.Picture.{Picture, picture_of}
-use Rattle.residency.specs.Parts.{IsFit}
-use Rattle.residency.proofs.Aging.{gives_same, gives_then}
-use Rattle.residency.proofs.Shown.{keeps_then}
+use Rattle.residency.specs.{declared.kernel.Core.{Core}, Picture.{Picture, picture_of}, Parts.{IsFit}}
+use Rattle.residency.proofs.{Aging.{gives_same, gives_then}, Shown.{keeps_then}}
 use Rattle.fault.specs.WaysLinked.{TakesForTables}
-use Rattle.fault.proofs.Asking.{no_new_same, no_new_then, asks_slots_if, asks_slots_same, asks_slots_then}
-use Rattle.fault.proofs.NoTables.{full_stays}
-use Rattle.fault.proofs.Steps.{moves_none, moves_then, bare_then, stall_then}
+use Rattle.fault.proofs.{Asking.{no_new_same, no_new_then, asks_slots_if, asks_slots_same, asks_slots_then}, NoTables.{full_stays}, Steps.{moves_none, moves_then, bare_then, stall_then}}
 
 module _ {M : Type 0} {m : Levels.Ghosts M} {D E : Type 0} (h : Ghosts E) where
   -- none was taken

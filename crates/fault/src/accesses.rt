@@ -48,7 +48,7 @@ pub fn access<D: SectorDisk, E: SectorDisk, M: Levels>(
         Finding::Place(place) => Ok(place),
         Finding::Fault(code) => Err(AccessRefusal::Fault(fault(access, code, addr))),
         Finding::Page(page, attr, way) => {
-            let frame = grant(core, pid, page, attr, way, access)?;
+            let frame = grant(core, pid, page, &attr, way, access)?;
             Ok(place_in(frame, addr))
         }
     }

@@ -33,13 +33,13 @@ pub(crate) fn grant<D: SectorDisk, E: SectorDisk, M: Levels>(
     core: &mut Core<D, E, M>,
     pid: Pid,
     page: Vpn,
-    attr: Attr,
+    attr: &Attr,
     way: Way,
     access: Access,
 ) -> Result<FrameNo, Stall>
-    requires may { MayServe D.SectorDisk E.SectorDisk core.old pid page attr access }
+    requires may { MayServe D.SectorDisk E.SectorDisk core.old pid page attr.now access }
     requires way { IsWayTo (picture_of core.old) pid page way }
-    ensures { Serves D.SectorDisk E.SectorDisk core.old core.new pid page attr access result }
+    ensures { Serves D.SectorDisk E.SectorDisk core.old core.new pid page attr.now access result }
 {
     match way.table {
         Some(table) => {
@@ -61,11 +61,11 @@ fn grant_unlinked<D: SectorDisk, E: SectorDisk, M: Levels>(
     core: &mut Core<D, E, M>,
     pid: Pid,
     page: Vpn,
-    attr: Attr,
+    attr: &Attr,
     access: Access,
 ) -> Result<FrameNo, Stall>
-    requires may { MayServe D.SectorDisk E.SectorDisk core.old pid page attr access }
-    ensures { Serves D.SectorDisk E.SectorDisk core.old core.new pid page attr access result }
+    requires may { MayServe D.SectorDisk E.SectorDisk core.old pid page attr.now access }
+    ensures { Serves D.SectorDisk E.SectorDisk core.old core.new pid page attr.now access result }
 {
     let table = link_tables(core, pid, page)?;
     let root = root_of(core, pid);
@@ -82,11 +82,11 @@ fn grant_unlinked<D: SectorDisk, E: SectorDisk, M: Levels>(
 fn grant_linked<D: SectorDisk, E: SectorDisk, M: Levels>(
     core: &mut Core<D, E, M>,
     spot: &Spot,
-    attr: Attr,
+    attr: &Attr,
     access: Access,
 ) -> Result<FrameNo, Stall>
-    requires may { MayServeAt D.SectorDisk E.SectorDisk core.old spot.now attr access }
-    ensures { Serves D.SectorDisk E.SectorDisk core.old core.new spot.now.pid spot.now.page attr access result }
+    requires may { MayServeAt D.SectorDisk E.SectorDisk core.old spot.now attr.now access }
+    ensures { Serves D.SectorDisk E.SectorDisk core.old core.new spot.now.pid spot.now.page attr.now access result }
 {
     let was = number_at(core, spot);
     if was.is_swapped() {
@@ -102,13 +102,13 @@ fn grant_linked<D: SectorDisk, E: SectorDisk, M: Levels>(
 fn grant_read<D: SectorDisk, E: SectorDisk, M: Levels>(
     core: &mut Core<D, E, M>,
     spot: &Spot,
-    attr: Attr,
+    attr: &Attr,
     was: Pte,
 ) -> Result<FrameNo, Stall>
-    requires may { (access : Access) × MayServeAt D.SectorDisk E.SectorDisk core.old spot.now attr access }
+    requires may { (access : Access) × MayServeAt D.SectorDisk E.SectorDisk core.old spot.now attr.now access }
     requires was { was.0 ≡ entry (picture_of core.old) spot.now.pid spot.now.page }
     requires here { is_swapped (entry (picture_of core.old) spot.now.pid spot.now.page) ≡ false }
-    ensures { (access : Access) → access ≢ Store → lets access attr.prot ≡ true → Serves D.SectorDisk E.SectorDisk core.old core.new spot.now.pid spot.now.page attr access result }
+    ensures { (access : Access) → access ≢ Store → lets access attr.now.prot ≡ true → Serves D.SectorDisk E.SectorDisk core.old core.new spot.now.pid spot.now.page attr.now access result }
 {
     if was.to_u64() != 0 {
         regrant(core, spot, attr);
@@ -120,7 +120,7 @@ fn grant_read<D: SectorDisk, E: SectorDisk, M: Levels>(
             Ok(ZERO_PAGE)
         }
         Some(stored) => {
-            let frame = cached(core, stored)?;
+            let frame = cached(core, &stored)?;
             show_cached(core, spot, attr, frame);
             Ok(frame)
         }
@@ -131,13 +131,13 @@ fn grant_read<D: SectorDisk, E: SectorDisk, M: Levels>(
 fn grant_store<D: SectorDisk, E: SectorDisk, M: Levels>(
     core: &mut Core<D, E, M>,
     spot: &Spot,
-    attr: Attr,
+    attr: &Attr,
     was: Pte,
 ) -> Result<FrameNo, Stall>
-    requires may { MayServeAt D.SectorDisk E.SectorDisk core.old spot.now attr Store }
+    requires may { MayServeAt D.SectorDisk E.SectorDisk core.old spot.now attr.now Store }
     requires was { was.0 ≡ entry (picture_of core.old) spot.now.pid spot.now.page }
     requires here { is_swapped (entry (picture_of core.old) spot.now.pid spot.now.page) ≡ false }
-    ensures { Serves D.SectorDisk E.SectorDisk core.old core.new spot.now.pid spot.now.page attr Store result }
+    ensures { Serves D.SectorDisk E.SectorDisk core.old core.new spot.now.pid spot.now.page attr.now Store result }
 {
     match attr.backing {
         Backing::Anon => grant_own(core, spot, attr),
@@ -148,9 +148,9 @@ fn grant_store<D: SectorDisk, E: SectorDisk, M: Levels>(
                 grant_copy(core, spot, attr, file_page)
             }
         }
-        Backing::Shared(file_page) => grant_shared(core, spot, attr, PageKey::File(file_page)),
+        Backing::Shared(file_page) => grant_shared(core, spot, attr, &PageKey::File(file_page)),
         Backing::Common(object_page) => {
-            grant_shared(core, spot, attr, PageKey::Object(object_page))
+            grant_shared(core, spot, attr, &PageKey::Object(object_page))
         }
     }
 }
@@ -159,13 +159,13 @@ fn grant_store<D: SectorDisk, E: SectorDisk, M: Levels>(
 fn grant_own<D: SectorDisk, E: SectorDisk, M: Levels>(
     core: &mut Core<D, E, M>,
     spot: &Spot,
-    attr: Attr,
+    attr: &Attr,
 ) -> Result<FrameNo, Stall>
-    requires may { MayServeAt D.SectorDisk E.SectorDisk core.old spot.now attr Store }
+    requires may { MayServeAt D.SectorDisk E.SectorDisk core.old spot.now attr.now Store }
     requires here { is_swapped (entry (picture_of core.old) spot.now.pid spot.now.page) ≡ false }
-    requires not_shared { is_shared attr.backing ≡ false }
-    requires in_memory { is_private (entry (picture_of core.old) spot.now.pid spot.now.page) ≡ false → (n : ℕ) × IsBehind (picture_of core.old) attr.backing n }
-    ensures { Serves D.SectorDisk E.SectorDisk core.old core.new spot.now.pid spot.now.page attr Store result }
+    requires not_shared { is_shared attr.now.backing ≡ false }
+    requires in_memory { is_private (entry (picture_of core.old) spot.now.pid spot.now.page) ≡ false → (n : ℕ) × IsBehind (picture_of core.old) attr.now.backing n }
+    ensures { Serves D.SectorDisk E.SectorDisk core.old core.new spot.now.pid spot.now.page attr.now Store result }
 {
     own_frame(core, spot, attr)
 }
@@ -174,15 +174,15 @@ fn grant_own<D: SectorDisk, E: SectorDisk, M: Levels>(
 fn grant_copy<D: SectorDisk, E: SectorDisk, M: Levels>(
     core: &mut Core<D, E, M>,
     spot: &Spot,
-    attr: Attr,
+    attr: &Attr,
     file_page: FilePage,
 ) -> Result<FrameNo, Stall>
-    requires may { MayServeAt D.SectorDisk E.SectorDisk core.old spot.now attr Store }
-    requires private { attr.backing ≡ Private file_page }
+    requires may { MayServeAt D.SectorDisk E.SectorDisk core.old spot.now attr.now Store }
+    requires private { attr.now.backing ≡ Private file_page }
     requires none { seat (entry (picture_of core.old) spot.now.pid spot.now.page) ≡ None }
-    ensures { Serves D.SectorDisk E.SectorDisk core.old core.new spot.now.pid spot.now.page attr Store result }
+    ensures { Serves D.SectorDisk E.SectorDisk core.old core.new spot.now.pid spot.now.page attr.now Store result }
 {
-    cached(core, PageKey::File(file_page))?;
+    cached(core, &PageKey::File(file_page))?;
     own_frame(core, spot, attr)
 }
 
@@ -190,13 +190,13 @@ fn grant_copy<D: SectorDisk, E: SectorDisk, M: Levels>(
 fn grant_shared<D: SectorDisk, E: SectorDisk, M: Levels>(
     core: &mut Core<D, E, M>,
     spot: &Spot,
-    attr: Attr,
-    stored: PageKey,
+    attr: &Attr,
+    stored: &PageKey,
 ) -> Result<FrameNo, Stall>
-    requires may { MayServeAt D.SectorDisk E.SectorDisk core.old spot.now attr Store }
-    requires shared { is_shared attr.backing ≡ true }
-    requires stands { stands_on attr.backing ≡ Some stored }
-    ensures { Serves D.SectorDisk E.SectorDisk core.old core.new spot.now.pid spot.now.page attr Store result }
+    requires may { MayServeAt D.SectorDisk E.SectorDisk core.old spot.now attr.now Store }
+    requires shared { is_shared attr.now.backing ≡ true }
+    requires stands { stands_on attr.now.backing ≡ Some stored.now }
+    ensures { Serves D.SectorDisk E.SectorDisk core.old core.new spot.now.pid spot.now.page attr.now Store result }
 {
     let frame = cached(core, stored)?;
     touch(core, spot, attr, stored, frame);

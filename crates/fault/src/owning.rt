@@ -28,12 +28,12 @@ use vm_types::{Attr, Backing, FrameNo, Levels, PageKey, Stall, Vpn};
 pub(crate) fn own_frame<D, E: SectorDisk, M: Levels>(
     core: &mut Core<D, E, M>,
     spot: &Spot,
-    attr: Attr,
+    attr: &Attr,
 ) -> Result<FrameNo, Stall>
-    requires page { IsOwnable E.SectorDisk core.old spot.now attr }
+    requires page { IsOwnable E.SectorDisk core.old spot.now attr.now }
     requires in_memory { is_private (entry (picture_of core.old) spot.now.pid spot.now.page) ≡ false
-        → (n : ℕ) × IsBehind (picture_of core.old) attr.backing n }
-    ensures { MakesSole E.SectorDisk core.old core.new spot.now.pid spot.now.page attr result }
+        → (n : ℕ) × IsBehind (picture_of core.old) attr.now.backing n }
+    ensures { MakesSole E.SectorDisk core.old core.new spot.now.pid spot.now.page attr.now result }
 {
     let was = number_at(core, spot);
     let shown = shown_frame(core, was, attr.backing);
@@ -48,15 +48,15 @@ pub(crate) fn own_frame<D, E: SectorDisk, M: Levels>(
 fn copy_page<D, E: SectorDisk, M: Levels>(
     core: &mut Core<D, E, M>,
     spot: &Spot,
-    attr: Attr,
+    attr: &Attr,
     was: Pte,
     shown: FrameNo,
 ) -> Result<FrameNo, Stall>
-    requires page { IsOwnable E.SectorDisk core.old spot.now attr }
+    requires page { IsOwnable E.SectorDisk core.old spot.now attr.now }
     requires was { was.0 ≡ entry (picture_of core.old) spot.now.pid spot.now.page }
     requires own { is_private (entry (picture_of core.old) spot.now.pid spot.now.page) ≡ true → frame_of (entry (picture_of core.old) spot.now.pid spot.now.page) ≡ shown.0 }
-    requires common { is_private (entry (picture_of core.old) spot.now.pid spot.now.page) ≡ false → IsBehind (picture_of core.old) attr.backing shown.0 }
-    ensures { CopiesPage E.SectorDisk core.old core.new spot.now.pid spot.now.page attr shown result }
+    requires common { is_private (entry (picture_of core.old) spot.now.pid spot.now.page) ≡ false → IsBehind (picture_of core.old) attr.now.backing shown.0 }
+    ensures { CopiesPage E.SectorDisk core.old core.new spot.now.pid spot.now.page attr.now shown result }
 {
     let own = take_copy(core, shown, spot.page)?;
     set_full(core, spot, attr, own, true);

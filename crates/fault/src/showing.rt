@@ -29,9 +29,9 @@ pub(crate) const ZERO_PAGE: FrameNo = FrameNo(0);
 
 /// Shows the zero page at an anonymous page that has no entry. Its leaf is without W and D (RISC-V Privileged Specification,
 /// "Sv39 page table entry"): each store asks for a frame first.
-pub(crate) fn show_zero<D, E, M: Levels>(core: &mut Core<D, E, M>, spot: &Spot, attr: Attr)
-    requires { IsBlank (picture_of core.old) spot.now attr }
-    ensures { ShowsFrame core.old core.new spot.now attr 0 false false false }
+pub(crate) fn show_zero<D, E, M: Levels>(core: &mut Core<D, E, M>, spot: &Spot, attr: &Attr)
+    requires { IsBlank (picture_of core.old) spot.now attr.now }
+    ensures { ShowsFrame core.old core.new spot.now attr.now 0 false false false }
 {
     set_full(core, spot, attr, ZERO_PAGE, false);
 }
@@ -42,15 +42,15 @@ pub(crate) fn show_zero<D, E, M: Levels>(core: &mut Core<D, E, M>, spot: &Spot, 
 pub(crate) fn show_cached<D, E, M: Levels>(
     core: &mut Core<D, E, M>,
     spot: &Spot,
-    attr: Attr,
+    attr: &Attr,
     cache_frame: FrameNo,
 )
     requires spot { StandsAt (picture_of core.old) spot.now }
-    requires attr { (picture_of core.old).at spot.now.pid spot.now.page ≡ Some attr }
-    requires behind { IsBehind (picture_of core.old) attr.backing cache_frame.0 }
-    requires inside { is_past_end (picture_of core.old).files attr.backing ≡ false }
+    requires attr { (picture_of core.old).at spot.now.pid spot.now.page ≡ Some attr.now }
+    requires behind { IsBehind (picture_of core.old) attr.now.backing cache_frame.0 }
+    requires inside { is_past_end (picture_of core.old).files attr.now.backing ≡ false }
     requires none { seat (entry (picture_of core.old) spot.now.pid spot.now.page) ≡ None }
-    ensures { ShowsFully core.old core.new spot.now attr cache_frame.0 false }
+    ensures { ShowsFully core.old core.new spot.now attr.now cache_frame.0 false }
 {
     set_full(core, spot, attr, cache_frame, false);
 }
@@ -58,9 +58,9 @@ pub(crate) fn show_cached<D, E, M: Levels>(
 /// Gives a page that lies in a frame the entry that allows all that its permission and the sharing of its frame
 /// do: W over a frame that nobody else has and over that of a shared page, D there where the file page is touched
 /// (RISC-V Privileged Specification, "Sv39 page table entry").
-pub(crate) fn regrant<D, E, M: Levels>(core: &mut Core<D, E, M>, spot: &Spot, attr: Attr)
-    requires { LiesInFrame (picture_of core.old) spot.now attr }
-    ensures { let was = entry (picture_of core.old) spot.now.pid spot.now.page in ShowsFully core.old core.new spot.now attr (frame_of was) (is_private was) }
+pub(crate) fn regrant<D, E, M: Levels>(core: &mut Core<D, E, M>, spot: &Spot, attr: &Attr)
+    requires { LiesInFrame (picture_of core.old) spot.now attr.now }
+    ensures { let was = entry (picture_of core.old) spot.now.pid spot.now.page in ShowsFully core.old core.new spot.now attr.now (frame_of was) (is_private was) }
 {
     let was = number_at(core, spot);
     set_full(core, spot, attr, was.frame_number(), was.is_private());
@@ -71,18 +71,18 @@ pub(crate) fn regrant<D, E, M: Levels>(core: &mut Core<D, E, M>, spot: &Spot, at
 pub(crate) fn touch<D, E, M: Levels>(
     core: &mut Core<D, E, M>,
     spot: &Spot,
-    attr: Attr,
-    stored: PageKey,
+    attr: &Attr,
+    stored: &PageKey,
     frame: FrameNo,
 )
     requires spot { StandsAt (picture_of core.old) spot.now }
-    requires allowed { IsOpenTo (picture_of core.old) spot.now.pid spot.now.page Store attr }
-    requires shared { is_shared attr.backing ≡ true }
-    requires stands { stands_on attr.backing ≡ Some stored }
-    requires cached { (picture_of core.old).place stored ≡ Frame frame }
-    ensures { TouchesPage core.old core.new spot.now attr stored frame.0 }
+    requires allowed { IsOpenTo (picture_of core.old) spot.now.pid spot.now.page Store attr.now }
+    requires shared { is_shared attr.now.backing ≡ true }
+    requires stands { stands_on attr.now.backing ≡ Some stored.now }
+    requires cached { (picture_of core.old).place stored.now ≡ Frame frame }
+    ensures { TouchesPage core.old core.new spot.now attr.now stored.now frame.0 }
 {
-    core.cache.mark_dirty(stored);
+    core.cache.mark_dirty(*stored);
     set_full(core, spot, attr, frame, false);
 }
 
@@ -91,7 +91,7 @@ pub(crate) fn touch<D, E, M: Levels>(
 pub(crate) fn set_full<D, E, M: Levels>(
     core: &mut Core<D, E, M>,
     spot: &Spot,
-    attr: Attr,
+    attr: &Attr,
     frame: FrameNo,
     private: bool,
 )
@@ -99,9 +99,9 @@ pub(crate) fn set_full<D, E, M: Levels>(
     requires root { IsRoot (top_level M.mode) core.old.frames spot.now.root.0 }
     requires user { spot.now.page < user_end M.mode }
     requires table { IsTableOf core.old.frames (top_level M.mode) spot.now.root.0 (spot.now.page / table_entries) spot.now.table.0 }
-    requires frame { MayShow (picture_of core.old) attr.backing frame.0 private }
-    requires readable { can_write attr.prot ≡ true → can_read attr.prot ≡ true }
-    ensures { SetsFull core.old core.new spot.now attr frame.0 private }
+    requires frame { MayShow (picture_of core.old) attr.now.backing frame.0 private }
+    requires readable { can_write attr.now.prot ≡ true → can_read attr.now.prot ≡ true }
+    ensures { SetsFull core.old core.new spot.now attr.now frame.0 private }
 {
     let grant = full_grant(core, attr, frame, private);
     let entry = entry_over(attr.prot, grant);
@@ -111,15 +111,15 @@ pub(crate) fn set_full<D, E, M: Levels>(
 // What the fullest entry of a page over a frame allows.
 fn full_grant<D, E, M: Levels>(
     core: &Core<D, E, M>,
-    attr: Attr,
+    attr: &Attr,
     frame: FrameNo,
     private: bool,
 ) -> Grant
-    requires { MayShow (picture_of core.now) attr.backing frame.0 private }
+    requires { MayShow (picture_of core.now) attr.now.backing frame.0 private }
     ensures frame { result.frame ≡ frame }
     ensures private { result.private ≡ private }
-    ensures write { result.write ≡ full_write (picture_of core.now) attr frame.0 private }
-    ensures dirty { result.dirty ≡ full_dirty (picture_of core.now) attr frame.0 private }
+    ensures write { result.write ≡ full_write (picture_of core.now) attr.now frame.0 private }
+    ensures dirty { result.dirty ≡ full_dirty (picture_of core.now) attr.now frame.0 private }
 {
     let writable = attr.prot.is_writable();
     let (write, dirty) = if private {

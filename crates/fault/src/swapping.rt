@@ -16,10 +16,10 @@ use vm_types::{Attr, FrameNo, Levels, Stall};
 pub(crate) fn swap_in<D, E: SectorDisk, M: Levels>(
     core: &mut Core<D, E, M>,
     spot: &Spot,
-    attr: Attr,
+    attr: &Attr,
 ) -> Result<FrameNo, Stall>
-    requires { LiesInSlot E.SectorDisk core.old spot.now attr }
-    ensures { SwapsIn E.SectorDisk core.old core.new spot.now.pid spot.now.page attr result }
+    requires { LiesInSlot E.SectorDisk core.old spot.now attr.now }
+    ensures { SwapsIn E.SectorDisk core.old core.new spot.now.pid spot.now.page attr.now result }
 {
     let Entry::Swapped(slot) = decode(number_at(core, spot)) else {
         unreachable!();

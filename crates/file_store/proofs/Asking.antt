@@ -1,22 +1,16 @@
 -- Which sectors calls ask for.
 use Rattle.std.proofs.Common.{◌≡◌, ℕ, inl, inr, subst}
 use Rattle.vm_types.specs.declared.file.FilePage.{FilePage}
-use Rattle.disk_model.specs.Stop.{Image}
-use Rattle.disk_model.specs.Moments.{AsksOnly}
+use Rattle.disk_model.specs.{Stop.{Image, Names}, Moments.{AsksOnly}, declared.sector_disk.SectorDisk.{Ghosts}}
 use Rattle.disk_model.proofs.Moments.{asks_wider, asks_then}
-use Rattle.disk_model.specs.declared.sector_disk.SectorDisk.{Ghosts}
-use Rattle.sync_journal.specs.Layout.{IsPageSector}
-use Rattle.sync_journal.specs.Kinds.{journal_stands, IsStoreAsked}
-use Rattle.file_store.specs.declared.store.FileStore.{FileStore}
-use Rattle.file_store.specs.Standing.{IsHeadIn, IsAskedToOpen}
-use Rattle.file_store.specs.Versions.{version_of}
-use Rattle.file_store.specs.Store.{home_of, IsSectorOf}
+use Rattle.sync_journal.specs.{Layout.{IsPageSector}, Kinds.{journal_stands, IsStoreAsked}}
+use Rattle.file_store.specs.{declared.store.FileStore.{FileStore}, Standing.{IsHeadIn, IsAskedToOpen}, Versions.{version_of}, Store.{home_of, IsSectorOf}}
 
 module _ {D : Type 0} (g : Ghosts D) where
   -- a page by its home
-  pub page_asks : (store : FileStore D) (p : FilePage) (home : ℕ) (new : D) → home ≡ home_of store.directory p
-      → AsksOnly g (IsPageSector (journal_stands store.journal home)) store.disk new → AsksOnly g (IsSectorOf store p) store.disk new
-  page_asks store p home new is asks = subst (λ h. AsksOnly g (IsPageSector (journal_stands store.journal h)) store.disk new) is asks
+  pub page_once : (store : FileStore D) (p : FilePage) (home : ℕ) (new : D) → home ≡ home_of store.directory p
+      → Names (IsPageSector (journal_stands store.journal home)) (g.asked store.disk) (g.asked new) → Names (IsSectorOf store p) (g.asked store.disk) (g.asked new)
+  page_once store p home new is names = subst (λ h. Names (IsPageSector (journal_stands store.journal h)) (g.asked store.disk) (g.asked new)) is names
 
   -- mark and directory alone
   pub head_asks : (image : Image) (old new : D) → AsksOnly g (IsHeadIn (version_of image)) old new → AsksOnly g (IsAskedToOpen image) old new

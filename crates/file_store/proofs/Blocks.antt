@@ -1,20 +1,10 @@
 -- A store of layout 3, made from sync to sync.
-use Rattle.std.proofs.Common.{◌≡◌, ◌⊎◌, ◌≤◌, ℕ, ⊎_elim, inl, inr, Result, Ok, Err, OnOk, sym, ◌∙◌, arith}
+use Rattle.std.proofs.{Common.{◌≡◌, ◌⊎◌, ◌≤◌, ℕ, ⊎_elim, inl, inr, Result, Ok, Err, OnOk, sym, ◌∙◌, arith}, lemmas.Result.{on_ok_weaker}}
 use Rattle.std.specs.Prelude.{IsErrAnd}
-use Rattle.std.proofs.lemmas.Result.{on_ok_weaker}
-use Rattle.disk_model.specs.Stop.{Image}
-use Rattle.disk_model.specs.Moments.{Touches}
-use Rattle.disk_model.specs.declared.sector_disk.SectorDisk.{Ghosts}
+use Rattle.disk_model.specs.{Stop.{Image}, Moments.{Touches}, declared.sector_disk.SectorDisk.{Ghosts}}
 use Rattle.disk_model.proofs.Moments.{then, wider}
-use Rattle.sync_journal.specs.declared.store_journal.Journals.TheVariants.{Single, Paired}
-use Rattle.sync_journal.specs.declared.store_journal.Journals.{Journals}
-use Rattle.sync_journal.specs.Kinds.{kind_of}
-use Rattle.sync_journal.specs.Blocks.{LeavesInBlocks}
-use Rattle.file_store.specs.Layout.{turn_mark, IsMark}
-use Rattle.file_store.specs.Format.{IsFrom, IsKindSector, IsMarkSector}
-use Rattle.file_store.specs.Blocks.{MakesByBlocks, KindBehind, KindLast}
-use Rattle.file_store.specs.Making.{WritesKindLast}
-use Rattle.file_store.specs.Blocks.MakesByBlocks.{Unmarked, OfKind, Marked}
+use Rattle.sync_journal.specs.{declared.store_journal.Journals.TheVariants.{Single, Paired}, declared.store_journal.Journals.{Journals}, Kinds.{kind_of}, Blocks.{LeavesInBlocks}}
+use Rattle.file_store.specs.{Layout.{turn_mark, IsMark}, Format.{IsFrom, IsKindSector, IsMarkSector}, Blocks.{MakesByBlocks, KindBehind, KindLast}, Making.{WritesKindLast}, Blocks.MakesByBlocks.{Unmarked, OfKind, Marked}}
 
 pub single_paired : ◌≡◌ {A = Journals} Single Paired → ⊥
 single_paired e = cc

@@ -3,8 +3,7 @@ use Rattle.std.proofs.Common.{◌≡◌, ◌⊎◌, inl, inr, Result, Ok, Err, r
 use Rattle.std.specs.Prelude.{IsErrAnd, OnErr}
 use Rattle.sync_journal.specs.declared.faults.RecoverFault.{RecoverFault}
 use Rattle.sync_journal.specs.declared.faults.RecoverFault.TheVariants.{Device as RecoverDevice, BadJournal as RecoverBadJournal}
-use Rattle.file_store.specs.declared.faults.OpenFault.TheVariants.{BadJournal}
-use Rattle.file_store.specs.Faults.{open_fault}
+use Rattle.file_store.specs.{declared.faults.OpenFault.TheVariants.{BadJournal}, Faults.{open_fault}}
 
 pub journal_from : (r : RecoverFault) → BadJournal ≡ open_fault r → r ≡ RecoverBadJournal
 journal_from RecoverDevice e = cc

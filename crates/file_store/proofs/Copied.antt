@@ -1,29 +1,14 @@
 -- How pages go on being copied, and how it ends.
 use Rattle.std.proofs.Common.{◌≡◌, ◌<◌, ◌≤◌, ℕ, Result, Ok, Err, ⊎_elim, inl, inr, refl, sym, ap, subst, ◌∙◌, arith}
 use Rattle.std.specs.Prelude.{IsErrAnd}
-use Rattle.disk_model.specs.Stop.{Image}
-use Rattle.disk_model.specs.Moments.{AsksOnly, Nothing}
-use Rattle.disk_model.specs.declared.sector_disk.SectorDisk.{Ghosts}
+use Rattle.disk_model.specs.{Stop.{Image}, Moments.{AsksOnly, Nothing}, declared.sector_disk.SectorDisk.{Ghosts}}
 use Rattle.disk_model.proofs.Moments.{asks_then, asks_wider}
-use Rattle.sync_journal.specs.declared.store_journal.Journals.{Journals}
-use Rattle.sync_journal.specs.Layout.{layout_before, home_count_in}
-use Rattle.sync_journal.specs.Kinds.{kind_home_count}
-use Rattle.sync_journal.specs.Runs.{RunsOnDevice}
-use Rattle.file_store.specs.declared.faults.OpenFault.{OpenFault}
-use Rattle.file_store.specs.declared.faults.OpenFault.TheVariants.{Device as OpenDevice, BadLayout, BadJournal}
-use Rattle.file_store.specs.declared.faults.UpgradeFault.{UpgradeFault}
-use Rattle.file_store.specs.declared.faults.UpgradeFault.TheVariants.{OldDevice, NewDevice}
-use Rattle.file_store.specs.declared.old_store.OldStore.{OldStore}
-use Rattle.file_store.specs.Directory.{home_end, IsSoundDirectory}
-use Rattle.file_store.specs.Faults.{old_fault}
-use Rattle.file_store.specs.Making.{Makes}
-use Rattle.file_store.specs.Opened.{LooksAt}
-use Rattle.file_store.specs.Store.{entry_of}
-use Rattle.file_store.specs.Upgrade.{IsOldStore, IsOldHead, IsOldFile, IsOldAsked, HasUpgradeCauses}
+use Rattle.sync_journal.specs.{declared.store_journal.Journals.{Journals}, Layout.{layout_before, home_count_in}, Kinds.{kind_home_count}, Runs.{RunsOnDevice}}
+use Rattle.file_store.specs.{declared.faults.OpenFault.{OpenFault}, declared.faults.UpgradeFault.{UpgradeFault}, declared.faults.UpgradeFault.TheVariants.{OldDevice, NewDevice}, declared.old_store.OldStore.{OldStore}}
+use Rattle.file_store.specs.{Directory.{home_end, IsSoundDirectory}, Faults.{old_fault}, Making.{Makes}, Opened.{LooksAt}, Store.{entry_of}, Upgrade.{IsOldStore, IsOldHead, IsOldFile, IsOldAsked, HasUpgradeCauses}}
 use Rattle.file_store.specs.Upgraded.{IsCopiable, CopiesPages}
-use Rattle.file_store.proofs.Causes.{is_this, same_Err}
-use Rattle.file_store.proofs.Looking.{ok_is_no_err}
-use Rattle.file_store.proofs.Openings.{content_is}
+use Rattle.file_store.specs.declared.faults.OpenFault.TheVariants.{Device as OpenDevice, BadLayout, BadJournal}
+use Rattle.file_store.proofs.{Causes.{is_this, same_Err}, Looking.{ok_is_no_err}, Openings.{content_is}}
 
 old_no_new : ◌≡◌ {A = UpgradeFault} OldDevice NewDevice → ⊥
 old_no_new e = cc

@@ -1,17 +1,12 @@
 -- Entries as bytes, and the sector that they make.
 use Rattle.std.proofs.Common.{◌≡◌, ℕ, ◌+◌, ◌-◌, ◌*◌, ◌/◌, ◌%◌, ◌<◌, ◌≤◌, ⊎_elim, cond, eqb, List, [], ◌++◌, length, get_or, take, drop, Option, Some, None, refl, sym, ap, ◌∙◌, arith}
-use Rattle.std.proofs.lemmas.Bool.{cases_lt, cases_Bool, cond-true, cond-false, cond_both, eq-eqb, ne_eqb}
-use Rattle.std.proofs.lemmas.List.{get_or-take, get_or-drop, get_or_append_left, get_or-append_right, get_or_past, length-take-le}
-use Rattle.std.specs.Option.{option_map}
+use Rattle.std.proofs.{lemmas.Bool.{cases_lt, cases_Bool, cond-true, cond-false, cond_both, eq-eqb, ne_eqb}, lemmas.List.{get_or-take, get_or-drop, get_or_append_left, get_or-append_right, get_or_past, length-take-le}}
 use Rattle.std.proofs.lemmas.Option.{slice_get_past}
-use Rattle.byteorder.specs.Endian.{little_bytes}
-use Rattle.byteorder.specs.Numbers.{little_number-reads_back}
+use Rattle.std.specs.Option.{option_map}
+use Rattle.byteorder.specs.{Endian.{little_bytes}, Numbers.{little_number-reads_back}}
 use borrow.Rule.Slice.PartMut.{put_mid, post_of}
 use Rattle.sync_journal.proofs.Maps.{same_number}
-use Rattle.file_store.specs.declared.directory.Entry.{Entry}
-use Rattle.file_store.specs.Directory.{word_of, length_of, decoded, IsZero, entry_bytes, entry_in}
-use Rattle.file_store.specs.declared.sources.FileSource.{FileSource}
-use Rattle.file_store.specs.Format.{info_of, first_home, entry_given}
+use Rattle.file_store.specs.{declared.directory.Entry.{Entry}, Directory.{word_of, length_of, decoded, IsZero, entry_bytes, entry_in}, declared.sources.FileSource.{FileSource}, Format.{info_of, first_home, entry_given}}
 use Rattle.file_store.proofs.Entries.{entry_in-inside, entry_in-outside}
 use Rattle.disk_model.proofs.Pages.{length_put}
 

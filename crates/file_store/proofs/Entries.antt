@@ -1,12 +1,8 @@
 -- Directory sectors, entry by entry.
-use Rattle.std.proofs.Common.{◌≡◌, ℕ, ◌+◌, ◌<◌, ◌≤◌, ⊎_elim, List, length, get_or, take, set, Option, Some, None, sym, subst, ◌∙◌, arith}
+use Rattle.std.proofs.{Common.{◌≡◌, ℕ, ◌+◌, ◌<◌, ◌≤◌, ⊎_elim, List, length, get_or, take, set, Option, Some, None, sym, subst, ◌∙◌, arith}, lemmas.Bool.{cases_eq, cases_lt}}
+use Rattle.std.proofs.{lemmas.List.{get_or-take, get_or-set_same, get_or-set_other, get_or_past, length-take-le}, lemmas.Option.{none-some}, lemmas.Bool.Decides.{nat_tests}}
 use Rattle.std.specs.Prelude.{IfSome, ◌^◌}
-use Rattle.std.proofs.lemmas.Bool.{cases_eq, cases_lt}
-use Rattle.std.proofs.lemmas.List.{get_or-take, get_or-set_same, get_or-set_other, get_or_past, length-take-le}
-use Rattle.std.proofs.lemmas.Option.{none-some}
-use Rattle.std.proofs.lemmas.Bool.Decides.{nat_tests}
-use Rattle.file_store.specs.declared.directory.Entry.{Entry}
-use Rattle.file_store.specs.Directory.{decoded, entry_in, entry_bytes, IsZero, home_end, IsHomeOf, IsBadDirectory, IsSoundDirectory, AreGood, AreEntries}
+use Rattle.file_store.specs.{declared.directory.Entry.{Entry}, Directory.{decoded, entry_in, entry_bytes, IsZero, home_end, IsHomeOf, IsBadDirectory, IsSoundDirectory, AreGood, AreEntries}}
 use Rattle.file_store.specs.Directory.IsBadDirectory.{NotZero, Outside, Overlap}
 
 pub entry_in-inside : (sector : List ℕ) (f : ℕ) → f < 64 → entry_in sector f ≡ decoded (entry_bytes sector f)
@@ -19,9 +15,6 @@ entry_in-outside sector f le = grind (arith, nat_tests)
 
 pub below_64 : (sector : List ℕ) (f : ℕ) (e : Entry) → entry_in sector f ≡ Some e → f < 64
 below_64 sector f e is = ⊎_elim (λ lt. lt) (λ le. absurd (none-some e (sym (entry_in-outside sector f le) ∙ is))) (cases_lt f 64)
-
-pub good_none : (homes : ℕ) (sector : List ℕ) → AreGood homes sector 0
-good_none homes sector = record { zero = λ f lt is. absurd (omega (arith, lt)); within = λ f e lt is. absurd (omega (arith, lt)); apart = λ f g h a b less lt. absurd (omega (arith, lt)) }
 
 pub entries_none : (sector : List ℕ) (entries : List (Option Entry)) → AreEntries sector entries 0
 entries_none sector entries = record { each = λ f lt. absurd (omega (arith, lt)) }

@@ -1,6 +1,5 @@
 -- Pages of zeros whose front is read from a source.
-use Rattle.std.proofs.Common.{◌≡◌, ℕ, ◌-◌, ◌≤◌, List, [], ◌++◌, length, drop, replicate, Option, Some, None, refl, sym, ap, ◌∙◌, arith}
-use Rattle.std.proofs.lemmas.List.{take_all, take_at, drop_at, length-append, drop-replicate}
+use Rattle.std.proofs.{Common.{◌≡◌, ℕ, ◌-◌, ◌≤◌, List, [], ◌++◌, length, drop, replicate, Option, Some, None, refl, sym, ap, ◌∙◌, arith}, lemmas.List.{take_all, take_at, drop_at, length-append, drop-replicate}}
 use Rattle.std.proofs.lemmas.Option.{none-some, same_Some}
 use Rattle.std.specs.Io.KnownBytes.{Consumes}
 use Rattle.file_store.specs.Layout.{padded_page}

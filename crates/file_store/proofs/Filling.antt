@@ -2,14 +2,8 @@
 use Rattle.std.proofs.Common.{◌≡◌, ◌<◌, ℕ, Result, Ok, Err, ⊎_elim, inl, inr, refl, sym, ap, subst, ◌∙◌, arith}
 use Rattle.std.specs.Prelude.{IsErrAnd}
 use Rattle.disk_model.specs.declared.sector_disk.SectorDisk.{Ghosts}
-use Rattle.file_store.specs.declared.faults.FormatFault.{FormatFault}
-use Rattle.file_store.specs.declared.faults.FormatFault.TheVariants.{Source, Device}
-use Rattle.file_store.specs.Making.{Makes, HasFormatCauses, FillsHomes}
-use Rattle.file_store.proofs.Causes.{is_this, same_Err}
-use Rattle.file_store.proofs.Looking.{ok_is_no_err}
-
-source_no_device : ◌≡◌ {A = FormatFault} Source Device → ⊥
-source_no_device e = cc
+use Rattle.file_store.specs.{declared.faults.FormatFault.{FormatFault}, declared.faults.FormatFault.TheVariants.{Source, Device}, Making.{Makes, HasFormatCauses, FillsHomes}}
+use Rattle.file_store.proofs.{Causes.{is_this, same_Err}, Looking.{ok_is_no_err}}
 
 device_no_source : ◌≡◌ {A = FormatFault} Device Source → ⊥
 device_no_source e = cc

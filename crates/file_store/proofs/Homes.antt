@@ -1,18 +1,10 @@
 -- The homes of pages.
-use Rattle.std.proofs.Common.{◌≡◌, ℕ, ◌+◌, ◌*◌, ◌<◌, ◌≤◌, ⊎_elim, Option, Some, None, refl, sym, ap, subst, ◌∙◌, arith}
+use Rattle.std.proofs.{Common.{◌≡◌, ℕ, ◌+◌, ◌*◌, ◌<◌, ◌≤◌, ⊎_elim, Option, Some, None, refl, sym, ap, subst, ◌∙◌, arith}, lemmas.Bool.{cases_eq, cases_lt}, lemmas.Option.{none-some, same_Some}}
 use Rattle.std.specs.Option.{option_map}
-use Rattle.std.proofs.lemmas.Bool.{cases_eq, cases_lt}
-use Rattle.std.proofs.lemmas.Option.{none-some, same_Some}
-use Rattle.sync_journal.specs.Kinds.{kind_home_count}
-use Rattle.sync_journal.specs.declared.store_journal.Journals.{Journals}
-use Rattle.vm_types.specs.declared.file.FileInfo.{FileInfo}
-use Rattle.vm_types.specs.declared.file.FilePage.{FilePage}
-use Rattle.file_store.specs.declared.directory.Entry.{Entry}
-use Rattle.file_store.specs.declared.directory.Directory.{Directory}
-use Rattle.file_store.specs.Directory.{IsHomeOf, IsSoundDirectory}
-use Rattle.file_store.specs.Standing.{IsPageOf}
-use Rattle.file_store.specs.Store.{entry_of, entry_home, home_of, inside_in, inside_named, IsEntryPage}
-use Rattle.file_store.specs.Layout.{bytes_inside}
+use Rattle.sync_journal.specs.{Kinds.{kind_home_count}, declared.store_journal.Journals.{Journals}}
+use Rattle.vm_types.specs.{declared.file.FileInfo.{FileInfo}, declared.file.FilePage.{FilePage}}
+use Rattle.file_store.specs.{declared.directory.Entry.{Entry}, declared.directory.Directory.{Directory}, Directory.{IsHomeOf, IsSoundDirectory}, Standing.{IsPageOf}}
+use Rattle.file_store.specs.{Store.{entry_of, entry_home, home_of, inside_in, inside_named, IsEntryPage}, Layout.{bytes_inside}}
 
 -- facts of an entry
 pub entry_behind : (entry : Option Entry) (info : FileInfo) → option_map (λ e. e.info) entry ≡ Some info → (e : Entry) × (entry ≡ Some e) × (e.info ≡ info)

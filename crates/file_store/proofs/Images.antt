@@ -1,24 +1,13 @@
 -- What images stand for.
-use Rattle.std.proofs.Common.{◌≡◌, ℕ, ◌+◌, ◌<◌, ◌≤◌, ⊎_elim, inl, inr, Bool, true, false, List, get_or, Option, Some, None, refl, sym, ap, subst, ◌∙◌, arith}
+use Rattle.std.proofs.{Common.{◌≡◌, ℕ, ◌+◌, ◌<◌, ◌≤◌, ⊎_elim, inl, inr, Bool, true, false, List, get_or, Option, Some, None, refl, sym, ap, subst, ◌∙◌, arith}, lemmas.Slice.Eq.{bytes_eq-Decides}}
 use Rattle.std.specs.Str.{bytes_eq}
-use Rattle.std.proofs.lemmas.Slice.Eq.{bytes_eq-Decides}
-use Rattle.disk_model.specs.Stop.{Image}
-use Rattle.sync_journal.specs.Layout.{layout_before}
-use Rattle.sync_journal.specs.Map.{IsBadMap, map_count, place_among, home_in}
-use Rattle.sync_journal.specs.Standing.{standing_under}
-use Rattle.sync_journal.specs.Turns.{named_in, turn_map, turn_stands}
-use Rattle.sync_journal.specs.Kinds.{turn_kind, is_kind, kind_when, kind_of, kind_homes, kind_home, kind_standing, IsKindBad, IsKindClosed, IsKindOutside, StoreStandsAs}
-use Rattle.sync_journal.proofs.Changes.{closed_not_bad}
-use Rattle.sync_journal.specs.declared.store_journal.Journals.{Journals}
+use Rattle.disk_model.specs.{Stop.{Image}, Sectors.{joined}}
+use Rattle.sync_journal.specs.{Layout.{layout_before}, Map.{IsBadMap, map_count, place_among, home_in}, Standing.{standing_under}, Turns.{named_in, turn_map, turn_stands}}
+use Rattle.sync_journal.specs.{Kinds.{turn_kind, is_kind, kind_when, kind_of, kind_homes, kind_home, kind_standing, IsKindBad, IsKindClosed, IsKindOutside, StoreStandsAs}, declared.store_journal.Journals.{Journals}}
 use Rattle.sync_journal.specs.declared.store_journal.Journals.TheVariants.{Single, Paired}
-use Rattle.file_store.specs.declared.directory.Entry.{Entry}
-use Rattle.file_store.specs.declared.version.Version.{Version}
-use Rattle.file_store.specs.declared.version.Version.TheVariants.{One, Two, Three}
-use Rattle.disk_model.specs.Sectors.{joined}
-use Rattle.file_store.specs.Layout.{IsMark, mark, turn_mark, padded_page, bytes_inside}
-use Rattle.file_store.specs.Versions.{version_at, version_before, version_of, homes_of, home_pages_of, directory_of, mark_of}
-use Rattle.file_store.specs.Format.{IsFrom, IsLayoutSector, IsUnmarkedSector}
-use Rattle.file_store.specs.Directory.{entry_in, decoded, IsBadDirectory, AreGood}
+use Rattle.sync_journal.proofs.Changes.{closed_not_bad}
+use Rattle.file_store.specs.{declared.directory.Entry.{Entry}, declared.version.Version.{Version}, declared.version.Version.TheVariants.{One, Two, Three}, Layout.{IsMark, mark, turn_mark, padded_page, bytes_inside}}
+use Rattle.file_store.specs.{Versions.{version_at, version_before, version_of, homes_of, home_pages_of, directory_of, mark_of}, Format.{IsFrom, IsLayoutSector, IsUnmarkedSector}, Directory.{entry_in, decoded, IsBadDirectory, AreGood}}
 use Rattle.file_store.specs.Standing.{standing, IsBadJournal, IsBadLayoutIn, IsBadLayout, listed_entry, info_at, directory_entry, file_info, page_standing, standing_page, StandsFor, StandsAs}
 use Rattle.file_store.specs.Standing.IsBadLayoutIn.{TooSmall, Unmarked, BadDirectory}
 use Rattle.disk_model.proofs.Pieces.{joined-same}

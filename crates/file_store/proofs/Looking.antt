@@ -1,23 +1,12 @@
 -- A look at a layout: one call after another.
-use Rattle.std.proofs.Common.{◌≡◌, ◌<◌, ℕ, Result, Ok, Err, inl, sym, ap, subst, ◌∙◌, arith}
+use Rattle.std.proofs.{Common.{◌≡◌, ◌<◌, ℕ, Result, Ok, Err, inl, sym, ap, subst, ◌∙◌, arith}, lemmas.Result.{on_ok_weaker, on_err_weaker}}
 use Rattle.std.specs.Prelude.{IsErrAnd}
-use Rattle.std.proofs.lemmas.Result.{on_ok_weaker, on_err_weaker}
-use Rattle.disk_model.specs.Stop.{Image}
-use Rattle.disk_model.specs.Moments.{AsksOnly, Nothing}
+use Rattle.disk_model.specs.{Stop.{Image}, Moments.{AsksOnly, Nothing, Touches}, declared.sector_disk.SectorDisk.{Ghosts}}
 use Rattle.disk_model.proofs.Moments.{asks_then, asks_wider}
-use Rattle.disk_model.specs.declared.sector_disk.SectorDisk.{Ghosts}
-use Rattle.sync_journal.specs.declared.store_journal.Journals.{Journals}
-use Rattle.sync_journal.specs.declared.store_journal.Journals.TheVariants.{Paired}
-use Rattle.sync_journal.specs.Kinds.{kind_of}
-use Rattle.sync_journal.specs.Runs.{RunsOnDevice}
+use Rattle.sync_journal.specs.{declared.store_journal.Journals.{Journals}, declared.store_journal.Journals.TheVariants.{Paired}, Kinds.{kind_of}, Runs.{RunsOnDevice}}
 use Rattle.sync_journal.proofs.Runs.{one_more}
-use Rattle.file_store.specs.declared.faults.OpenFault.{OpenFault}
-use Rattle.file_store.specs.declared.version.Version.{Version}
-use Rattle.file_store.specs.Opened.{LooksFor}
-use Rattle.file_store.specs.Standing.{IsHeadIn}
-use Rattle.file_store.specs.Versions.{version_at, version_of, directory_of}
-use Rattle.file_store.proofs.Causes.{is_this, same_Err}
-use Rattle.file_store.proofs.Openings.{directory_asked}
+use Rattle.file_store.specs.{declared.faults.OpenFault.{OpenFault}, declared.version.Version.{Version}, Opened.{LooksFor}, Standing.{IsHeadIn}, Versions.{version_at, version_of, directory_of}}
+use Rattle.file_store.proofs.{Causes.{is_this, same_Err}, Openings.{content_is, directory_asked}}
 
 pub ok_is_no_err : {T E : Type 0} (x : T) (e : E) → ◌≡◌ {A = Result T E} (Ok x) (Err e) → ⊥
 ok_is_no_err x e is = cc
@@ -55,9 +44,10 @@ module _ {D : Type 0} (g : Ghosts D) where
   }
 
   -- mark and kind are asked for, and then the directory
-  pub head_asked : (kind : Journals) (version : Version) (image : Image) (old mark mid new : D) → (kind ≡ Paired → kind_of image ≡ Paired) → version ≡ version_at kind
-      → AsksOnly g (λ k. k < 2) old mark → AsksOnly g (λ k. k < 2) mark mid → AsksOnly g (λ k. k ≡ directory_of version) mid new → AsksOnly g (IsHeadIn (version_of image)) old new
-  head_asked kind version image old mark mid new paired is first second third =
-      let W : ℕ → Type 0 = IsHeadIn (version_of image) in
+  pub head_asked : (kind : Journals) (version : Version) (old mark mid new : D) → Touches g Nothing old mark → (kind ≡ Paired → kind_of (g.content mark) ≡ Paired) → version ≡ version_at kind
+      → AsksOnly g (λ k. k < 2) old mark → AsksOnly g (λ k. k < 2) mark mid → AsksOnly g (λ k. k ≡ directory_of version) mid new → AsksOnly g (IsHeadIn (version_of (g.content old))) old new
+  head_asked kind version old mark mid new reads paired is first second third =
+      let W : ℕ → Type 0 = IsHeadIn (version_of (g.content old)) in
+      let image = g.content old in
       asks_then g W old mid new (asks_wider g (λ s. s < 2) W old mid (λ s low. inl low) (asks_then g (λ s. s < 2) old mark mid first second))
-      (asks_wider g (λ s. s ≡ directory_of version) W mid new (λ s at. directory_asked kind image s paired (at ∙ ap directory_of is)) third)
+      (asks_wider g (λ s. s ≡ directory_of version) W mid new (λ s at. directory_asked kind image s (λ e. sym (ap (λ (held : Image). kind_of held) (content_is g old mark reads)) ∙ paired e) (at ∙ ap directory_of is)) third)

@@ -1,27 +1,13 @@
 -- How a new store comes about: a look at the mark, then all but the mark, written and synced, and then the mark.
 use Rattle.std.proofs.Common.{◌≡◌, ◌⊎◌, ◌≤◌, ℕ, List, Result, Err, Option, inl, inr, ⊎_elim, sym, ap, subst}
 use Rattle.std.specs.Prelude.{IsErrAnd, IsErrOf}
-use Rattle.disk_model.specs.Stop.{Image, MayLeave}
-use Rattle.disk_model.specs.Moments.{Nothing, Touches, AsksOnly, LeavesOnly}
-use Rattle.disk_model.specs.declared.sector_disk.SectorDisk.{Ghosts}
+use Rattle.disk_model.specs.{Stop.{Image, MayLeave}, Moments.{Nothing, Touches, AsksOnly, LeavesOnly}, declared.sector_disk.SectorDisk.{Ghosts}}
 use Rattle.disk_model.proofs.Moments.{then, wider, asks_wider}
-use Rattle.sync_journal.specs.declared.store_journal.Journals.{Journals}
-use Rattle.sync_journal.specs.declared.store_journal.Journals.TheVariants.{Paired}
-use Rattle.sync_journal.specs.Kinds.{kind_of}
-use Rattle.sync_journal.specs.Runs.{RunsOnDevice}
-use Rattle.file_store.specs.declared.faults.FormatFault.{FormatFault}
-use Rattle.file_store.specs.declared.faults.FormatFault.TheVariants.{TooLarge, Formatted, Source, Device}
-use Rattle.file_store.specs.declared.sources.FileSource.{FileSource}
-use Rattle.file_store.specs.Blocks.{MakesByBlocks, KindBehind, KindLast}
-use Rattle.file_store.specs.Blocks.MakesByBlocks.{Unmarked}
-use Rattle.file_store.specs.Format.{total_pages, IsFrom, IsMarkSector, IsStoreSector, IsTooLarge, HasReader, IsStoreOf}
-use Rattle.file_store.specs.Formatted.{FormatsStore}
-use Rattle.file_store.specs.Layout.{turn_mark, IsMark}
-use Rattle.file_store.specs.Making.{Makes, HasFormatCauses}
-use Rattle.file_store.specs.Versions.{version_of, mark_of}
-use Rattle.file_store.proofs.Blocks.{behind_more, last_more, first_epoch, made_last, made_marked}
-use Rattle.file_store.proofs.Causes.{is_this, same_Err}
-use Rattle.file_store.proofs.Formats.{while_unmarked, while_marking}
+use Rattle.sync_journal.specs.{declared.store_journal.Journals.{Journals}, declared.store_journal.Journals.TheVariants.{Paired}, Kinds.{kind_of}, Runs.{RunsOnDevice}}
+use Rattle.file_store.specs.{declared.faults.FormatFault.{FormatFault}, declared.faults.FormatFault.TheVariants.{TooLarge, Formatted, Source, Device}, declared.sources.FileSource.{FileSource}, Blocks.{MakesByBlocks, KindBehind, KindLast}}
+use Rattle.file_store.specs.{Blocks.MakesByBlocks.{Unmarked}, Format.{total_pages, IsFrom, IsMarkSector, IsStoreSector, IsTooLarge, HasReader, IsStoreOf}, Formatted.{FormatsStore}, Layout.{turn_mark, IsMark}}
+use Rattle.file_store.specs.{Making.{Makes, HasFormatCauses}, Versions.{version_of, mark_of}}
+use Rattle.file_store.proofs.{Blocks.{behind_more, last_more, first_epoch, made_last, made_marked}, Causes.{is_this, same_Err}, Formats.{while_unmarked, while_marking}}
 
 module _ {D : Type 0} (g : Ghosts D) (kind : Journals) (Whole : Journals → Image → Type 0) (old : D) where
   -- every image of a stop lacks the mark or is whole, of layout 3 also one that spoils whole blocks

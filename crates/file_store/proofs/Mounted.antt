@@ -1,27 +1,13 @@
 -- What an opening leaves: a look at the head of the store, and then its journal.
-use Rattle.std.proofs.Common.{◌≡◌, ◌<◌, ◌≤◌, ℕ, Err, inl, refl, ⊎_elim, sym, ap, subst, ◌∙◌, arith}
-use Rattle.disk_model.specs.Stop.{Image, MayLeave}
-use Rattle.disk_model.specs.Moments.{Nothing, Touches, AsksOnly}
-use Rattle.disk_model.specs.declared.sector_disk.SectorDisk.{Ghosts}
+use Rattle.std.proofs.Common.{◌≡◌, ◌<◌, ℕ, Result, Err, inl, refl, ⊎_elim, sym, ap, subst, ◌∙◌, arith}
+use Rattle.disk_model.specs.{Stop.{Image, MayLeave}, Moments.{Nothing, Touches, AsksOnly}, declared.sector_disk.SectorDisk.{Ghosts}}
 use Rattle.disk_model.proofs.Moments.{then}
-use Rattle.sync_journal.specs.declared.faults.RecoverFault.{RecoverFault}
+use Rattle.sync_journal.specs.{declared.faults.RecoverFault.{RecoverFault}, declared.store_journal.Journals.{Journals}, declared.store_journal.StoreJournal.{StoreJournal}}
+use Rattle.sync_journal.specs.{Kinds.{kind_of, IsBadStore, IsStoreClosed, IsStoreRecovered, StoreStandsAs}, Recovering.{RecoversEither}, Runs.{RunsOnDevice}}
 use Rattle.sync_journal.specs.declared.faults.RecoverFault.TheVariants.{Device as RecoverDevice, BadJournal as RecoverBadJournal}
-use Rattle.sync_journal.specs.declared.store_journal.Journals.{Journals}
-use Rattle.sync_journal.specs.declared.store_journal.Journals.TheVariants.{Paired}
-use Rattle.sync_journal.specs.Blocks.{RecoversInBlocks}
-use Rattle.sync_journal.specs.Kinds.{kind_of, IsBadStore, IsStoreAsked, IsStoreClosed, IsStoreRecovered, StoreStandsAs, KeepsStore}
-use Rattle.sync_journal.specs.Runs.{RunsOnDevice}
-use Rattle.sync_journal.proofs.Runs.{read_only}
-use Rattle.sync_journal.proofs.InKinds.{while_reading, same_store}
-use Rattle.file_store.specs.declared.faults.OpenFault.{OpenFault}
-use Rattle.file_store.specs.Faults.{open_fault}
-use Rattle.file_store.specs.Opened.{LooksFor, Mounts}
-use Rattle.file_store.specs.Resume.{IsRefusedFor}
-use Rattle.file_store.specs.Standing.{IsBadLayout, IsHeadIn}
-use Rattle.file_store.specs.Versions.{version_of}
-use Rattle.file_store.proofs.Asking.{head_asks, opening_asks}
-use Rattle.file_store.proofs.Causes.{journal_from, fault_cases, same_Err}
-use Rattle.file_store.proofs.Openings.{content_is, recovery_leaves, reads_by_blocks, opens_by_blocks}
+use Rattle.sync_journal.proofs.{Runs.{read_only}, InKinds.{while_reading, same_store}}
+use Rattle.file_store.specs.{declared.faults.OpenFault.{OpenFault}, Faults.{open_fault}, Opened.{LooksFor, Mounts}, Resume.{IsRefusedFor}, Standing.{IsBadLayout, IsHeadIn}, Versions.{version_of}}
+use Rattle.file_store.proofs.{Asking.{head_asks, opening_asks}, Causes.{journal_from, fault_cases, same_Err}, Openings.{content_is, recovery_leaves, reads_by_blocks, opens_by_blocks}}
 
 module _ {D : Type 0} (g : Ghosts D) where
   -- mark, kind or directory can't be read, or are bad
@@ -33,6 +19,7 @@ module _ {D : Type 0} (g : Ghosts D) where
     bad_journal = λ k is. absurd (looks.no_journal (ap Err is));
     layout_first = λ k is. absurd (looks.no_journal (ap Err is));
     unwritten = λ k other. looks.run.touches k;
+    bad_unwritten = λ k bad. looks.run.touches k;
   }
 
   module _ (old read : D) (head : RunsOnDevice g Nothing old read) where
@@ -40,16 +27,20 @@ module _ {D : Type 0} (g : Ghosts D) where
     pub journal_refuses : (r : RecoverFault) (new : D) → g.failures read ≡ g.failures old → (g.keeps_model new → g.keeps_model read)
         → (g.keeps_model read → IsBadLayout (g.sector_count old) (g.content old) → ⊥) → (r ≡ RecoverDevice → g.failures read < g.failures new)
         → (r ≡ RecoverBadJournal → g.failures new ≡ g.failures read) → (g.keeps_model new → r ≡ RecoverBadJournal → IsBadStore (g.sector_count read) (g.content read))
-        → (g.keeps_model new → r ≡ RecoverBadJournal → Touches g Nothing read new) → IsRefusedFor g old (open_fault r) new
-    journal_refuses r new calm kept good device still bad unwritten = record {
+        → (g.keeps_model new → IsBadStore (g.sector_count read) (g.content read) → Touches g Nothing read new) → IsRefusedFor g old (open_fault r) new
+    journal_refuses r new calm kept good device still bad bad_unwritten = record {
       device = λ is. ⊎_elim (λ fault. (let more = device fault in omega (arith, more, calm))) (λ fault. absurd (let other = sym (ap open_fault fault) ∙ is in cc)) (fault_cases r);
       calm = λ other. ⊎_elim (λ fault. absurd (other (ap open_fault fault))) (λ fault. still fault ∙ calm) (fault_cases r);
       bad_layout = λ k is. absurd (⊎_elim (λ fault. (let other = sym (ap open_fault fault) ∙ is in cc)) (λ fault. (let other = sym (ap open_fault fault) ∙ is in cc)) (fault_cases r));
       bad_journal = λ k is. subst (λ (n : ℕ). IsBadStore n (g.content old)) head.size
           (subst (λ (image : Image). IsBadStore (g.sector_count read) image) (content_is g old read (head.touches (kept k))) (bad k (journal_from r (sym is))));
       layout_first = λ k is. good (kept k);
-      unwritten = λ k other. ⊎_elim (λ fault. absurd (other (ap open_fault fault))) (λ fault. then g Nothing old read new (head.touches (kept k)) (unwritten k fault)) (fault_cases r);
+      unwritten = λ k other. ⊎_elim (λ fault. absurd (other (ap open_fault fault))) (λ fault. then g Nothing old read new (head.touches (kept k)) (bad_unwritten k (bad k fault))) (fault_cases r);
+      bad_unwritten = λ k is. then g Nothing old read new (head.touches (kept k)) (bad_unwritten k (⊎_elim (λ layout. absurd (good (kept k) layout)) (λ journal. bad_read (kept k) journal) is));
     }
+      where
+        bad_read : g.keeps_model read → IsBadStore (g.sector_count old) (g.content old) → IsBadStore (g.sector_count read) (g.content read)
+        bad_read k is = subst (λ (n : ℕ). IsBadStore n (g.content read)) (sym head.size) (subst (λ (image : Image). IsBadStore (g.sector_count old) image) (sym (content_is g old read (head.touches k))) is)
 
     module _ (only_now : g.keeps_model old → (image : Image) → g.left_since old (g.moment old) image → MayLeave (g.content old) (g.unsynced old) image)
         (asked : g.keeps_model read → AsksOnly g (IsHeadIn (version_of (g.content old))) old read) where
@@ -68,27 +59,21 @@ module _ {D : Type 0} (g : Ghosts D) where
       }
 
       -- and then a recovery
-      pub mounts : (new : D) (journals : Journals) → (g.keeps_model read → kind_of (g.content old) ≡ journals)
-          → g.sector_count new ≡ g.sector_count read → (g.keeps_model new → g.keeps_model read) → g.failures read ≤ g.failures new
-          → (g.keeps_model new → AsksOnly g (IsStoreAsked (g.content read)) read new)
-          → (g.keeps_model new → Touches g (IsStoreRecovered (g.content read) (g.sector_count read)) read new)
-          → (g.keeps_model new → IsStoreClosed (g.content read) → Touches g Nothing read new)
-          → (g.keeps_model new → ((k : ℕ) → g.unsynced read k → ⊥) → KeepsStore g read new)
-          → (g.keeps_model new → journals ≡ Paired → RecoversInBlocks g (StoreStandsAs (g.sector_count read) (g.content read)) read new) → Mounts g old new
-      mounts new journals kind size kept later asks touches closed moments blocks = record {
-        size = size ∙ head.size;
-        kept = λ k. head.kept (kept k);
-        later = let first = head.later in omega (arith, first, later);
-        asks = λ k. opening_asks g (g.content old) old read new (same k) (asked (kept k)) (asks k);
+      pub mounts : (new : D) (journals : Journals) → (g.keeps_model read → kind_of (g.content old) ≡ journals) → {r : Result StoreJournal RecoverFault} → RecoversEither g journals read new r → Mounts g old new
+      mounts new journals kind e = record {
+        size = e.size ∙ head.size;
+        kept = λ k. head.kept (e.kept k);
+        later = omega (arith, head.later, e.later);
+        asks = λ k. opening_asks g (g.content old) old read new (same k) (asked (e.kept k)) (e.asks k);
         touches = λ k.
             let W : ℕ → Type 0 = IsStoreRecovered (g.content old) (g.sector_count old) in
-            then g W old read new (read_only g W old read (head.touches (kept k)))
+            then g W old read new (read_only g W old read (head.touches (e.kept k)))
             (subst (λ (n : ℕ). Touches g (IsStoreRecovered (g.content old) n) read new) head.size
-            (subst (λ (image : Image). Touches g (IsStoreRecovered image (g.sector_count read)) read new) (same k) (touches k)));
-        closed_unwritten = λ k is. then g Nothing old read new (head.touches (kept k)) (closed k (subst (λ (image : Image). IsStoreClosed image) (sym (same k)) is));
-        any_moment = λ k. recovery_leaves g old read new head.size (only_now (head.kept (kept k))) (head.touches (kept k)) (moments k);
-        blocks = λ k synced paired. opens_by_blocks g old read new head.size synced (head.touches (kept k)) (blocks k (sym (kind (kept k)) ∙ paired));
+            (subst (λ (image : Image). Touches g (IsStoreRecovered image (g.sector_count read)) read new) (same k) (e.touches k)));
+        closed_unwritten = λ k is. then g Nothing old read new (head.touches (e.kept k)) (e.closed_unwritten k (subst (λ (image : Image). IsStoreClosed image) (sym (same k)) is));
+        any_moment = λ k. recovery_leaves g old read new head.size (only_now (head.kept (e.kept k))) (head.touches (e.kept k)) (e.any_moment k);
+        blocks = λ k synced paired. opens_by_blocks g old read new head.size synced (head.touches (e.kept k)) (e.blocks k (sym (kind (e.kept k)) ∙ paired));
       }
         where
           same : g.keeps_model new → g.content read ≡ g.content old
-          same k = content_is g old read (head.touches (kept k))
+          same k = content_is g old read (head.touches (e.kept k))

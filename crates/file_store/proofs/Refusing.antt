@@ -1,25 +1,12 @@
 -- Why an upgrade is refused.
 use Rattle.std.proofs.Common.{◌≡◌, ◌⊎◌, ◌≤◌, ℕ, Result, Err, inl, inr, refl, ⊎_elim, sym, ap, subst, ◌∙◌, arith}
 use Rattle.std.specs.Prelude.{IsErrAnd, IsErrOf}
-use Rattle.disk_model.specs.Stop.{Image}
-use Rattle.disk_model.specs.Moments.{Nothing, Touches, AsksOnly}
-use Rattle.disk_model.specs.declared.sector_disk.SectorDisk.{Ghosts}
-use Rattle.sync_journal.specs.declared.store_journal.Journals.{Journals}
-use Rattle.sync_journal.specs.Runs.{RunsOnDevice}
-use Rattle.file_store.specs.declared.directory.Directory.{Directory}
-use Rattle.file_store.specs.declared.faults.OpenFault.{OpenFault}
-use Rattle.file_store.specs.declared.faults.OpenFault.TheVariants.{Device, BadLayout, BadJournal}
-use Rattle.file_store.specs.declared.faults.UpgradeFault.{UpgradeFault}
-use Rattle.file_store.specs.declared.faults.UpgradeFault.TheVariants.{OldDevice, OldLayout, OldJournal, NewDevice, NewSmall, Formatted}
-use Rattle.file_store.specs.Faults.{old_fault}
-use Rattle.file_store.specs.Layout.{IsMark}
-use Rattle.file_store.specs.Standing.{IsBadOldLayout, IsBadOldJournal}
-use Rattle.file_store.specs.Store.{entry_of}
-use Rattle.file_store.specs.Upgrade.{old_entry, IsTooSmall, IsOldAsked, IsUpgradeSector, IsUpgradeOf, HasUpgradeCauses}
-use Rattle.file_store.specs.Upgrade.IsTooSmall.{FewSectors, FewHomes}
-use Rattle.file_store.specs.Upgraded.{HasRoomFor, HasCheckCauses, UpgradesStore}
-use Rattle.file_store.proofs.Causes.{is_this, same_Err}
-use Rattle.file_store.proofs.Marking.{LeavesNoPart}
+use Rattle.disk_model.specs.{Stop.{Image}, Moments.{Nothing, Touches, AsksOnly}, declared.sector_disk.SectorDisk.{Ghosts}}
+use Rattle.sync_journal.specs.{declared.store_journal.Journals.{Journals}, Runs.{RunsOnDevice}}
+use Rattle.file_store.specs.{declared.directory.Directory.{Directory}, declared.faults.OpenFault.{OpenFault}, declared.faults.OpenFault.TheVariants.{Device, BadLayout, BadJournal}, declared.faults.UpgradeFault.{UpgradeFault}}
+use Rattle.file_store.specs.{declared.faults.UpgradeFault.TheVariants.{OldDevice, OldLayout, OldJournal, NewDevice, NewSmall, Formatted}, Faults.{old_fault}, Layout.{IsMark}, Standing.{IsBadOldLayout, IsBadOldJournal}, Store.{entry_of}}
+use Rattle.file_store.specs.{Upgrade.{old_entry, IsTooSmall, IsOldAsked, IsUpgradeSector, IsUpgradeOf, HasUpgradeCauses}, Upgrade.IsTooSmall.{FewSectors, FewHomes}, Upgraded.{HasRoomFor, HasCheckCauses, UpgradesStore}}
+use Rattle.file_store.proofs.{Causes.{is_this, same_Err}, Marking.{LeavesNoPart}}
 
 -- what a fault of the old store is not
 pub of_old : (f : OpenFault) → (old_fault f ≡ NewSmall → ⊥) × (old_fault f ≡ Formatted → ⊥)

@@ -1,20 +1,12 @@
 -- What taking a store up leaves: a look at its head, and then its journal.
-use Rattle.std.proofs.Common.{◌≡◌, ℕ, sym, subst, ◌∙◌, arith}
-use Rattle.disk_model.specs.Stop.{Image, MayLeave}
-use Rattle.disk_model.specs.Moments.{Nothing, Touches, AsksOnly}
-use Rattle.disk_model.specs.declared.sector_disk.SectorDisk.{Ghosts}
+use Rattle.std.proofs.Common.{◌≡◌, ℕ, Result, sym, subst, ◌∙◌, arith}
+use Rattle.disk_model.specs.{Stop.{Image, MayLeave}, Moments.{Nothing, Touches, AsksOnly}, declared.sector_disk.SectorDisk.{Ghosts}}
 use Rattle.disk_model.proofs.Moments.{then}
-use Rattle.sync_journal.specs.Kinds.{kind_of, IsStoreAsked, IsStoreClosed, KeepsStore}
-use Rattle.sync_journal.specs.Resuming.{IsKindResumed, IsStoreResumed}
-use Rattle.sync_journal.specs.Runs.{RunsOnDevice}
-use Rattle.sync_journal.specs.declared.store_journal.Journals.{Journals}
-use Rattle.sync_journal.proofs.Runs.{read_only}
-use Rattle.sync_journal.proofs.InKinds.{while_reading}
-use Rattle.file_store.specs.Resume.{Resumes}
-use Rattle.file_store.specs.Standing.{IsHeadIn}
-use Rattle.file_store.specs.Versions.{version_of}
-use Rattle.file_store.proofs.Asking.{head_asks, opening_asks}
-use Rattle.file_store.proofs.Openings.{content_is, recovery_leaves, files_stand}
+use Rattle.sync_journal.specs.{Kinds.{kind_of, IsStoreClosed, KeepsStore}, Resuming.{IsKindResumed, IsStoreResumed, TakesUp}, Runs.{RunsOnDevice}, declared.faults.RecoverFault.{RecoverFault}, declared.store_journal.Journals.{Journals}}
+use Rattle.sync_journal.specs.declared.store_journal.StoreJournal.{StoreJournal}
+use Rattle.sync_journal.proofs.{Runs.{read_only}, InKinds.{while_reading}}
+use Rattle.file_store.specs.{Resume.{Resumes}, Standing.{IsHeadIn}, Versions.{version_of}}
+use Rattle.file_store.proofs.{Asking.{head_asks, opening_asks}, Openings.{content_is, recovery_leaves, files_stand}}
 
 module _ {D : Type 0} (g : Ghosts D) (old read : D) (head : RunsOnDevice g Nothing old read)
     (only_now : g.keeps_model old → (image : Image) → g.left_since old (g.moment old) image → MayLeave (g.content old) (g.unsynced old) image)
@@ -37,27 +29,25 @@ module _ {D : Type 0} (g : Ghosts D) (old read : D) (head : RunsOnDevice g Nothi
   }
 
   -- and then the journal
-  module _ (new : D) (journals : Journals) (kind : g.keeps_model read → kind_of (g.content old) ≡ journals) (run : RunsOnDevice g (IsKindResumed journals (g.sector_count read)) read new)
-      (asks : g.keeps_model new → AsksOnly g (IsStoreAsked (g.content read)) read new)
-      (closed : g.keeps_model new → IsStoreClosed (g.content read) → Touches g Nothing read new) (moments : g.keeps_model new → KeepsStore g read new) where
+  module _ (new : D) (journals : Journals) (kind : g.keeps_model read → kind_of (g.content old) ≡ journals) {r : Result StoreJournal RecoverFault} (e : TakesUp g journals read new r) where
     same : g.keeps_model new → g.content read ≡ g.content old
-    same k = content_is g old read (head.touches (run.kept k))
+    same k = content_is g old read (head.touches (e.run.kept k))
 
     all : g.keeps_model new → KeepsStore g old new
-    all k = recovery_leaves g old read new head.size (only_now (head.kept (run.kept k))) (head.touches (run.kept k)) (λ still. moments k) (synced (head.kept (run.kept k)))
+    all k = recovery_leaves g old read new head.size (only_now (head.kept (e.run.kept k))) (head.touches (e.run.kept k)) (λ still. e.any_moment k) (synced (head.kept (e.run.kept k)))
 
     pub resumes : Resumes g old new
     resumes = record {
-      size = run.size ∙ head.size;
-      kept = λ k. head.kept (run.kept k);
-      later = omega (arith, head.later, run.later);
-      asks = λ k. opening_asks g (g.content old) old read new (same k) (asked (run.kept k)) (asks k);
+      size = e.run.size ∙ head.size;
+      kept = λ k. head.kept (e.run.kept k);
+      later = let more = e.run.later in omega (arith, head.later, more);
+      asks = λ k. opening_asks g (g.content old) old read new (same k) (asked (e.run.kept k)) (e.asks k);
       touches = λ k.
           let W : ℕ → Type 0 = IsStoreResumed (g.content old) (g.sector_count old) in
-          then g W old read new (read_only g W old read (head.touches (run.kept k)))
-          (subst (λ b. Touches g (IsKindResumed b (g.sector_count old)) read new) (sym (kind (run.kept k)))
-          (subst (λ (n : ℕ). Touches g (IsKindResumed journals n) read new) head.size (run.touches k)));
-      closed_unwritten = λ k is. then g Nothing old read new (head.touches (run.kept k)) (closed k (subst (λ (image : Image). IsStoreClosed image) (sym (same k)) is));
+          then g W old read new (read_only g W old read (head.touches (e.run.kept k)))
+          (subst (λ b. Touches g (IsKindResumed b (g.sector_count old)) read new) (sym (kind (e.run.kept k)))
+          (subst (λ (n : ℕ). Touches g (IsKindResumed journals n) read new) head.size (e.run.touches k)));
+      closed_unwritten = λ k is. then g Nothing old read new (head.touches (e.run.kept k)) (e.closed_unwritten k (subst (λ (image : Image). IsStoreClosed image) (sym (same k)) is));
       homes_moment = all;
       any_moment = λ k. files_stand g old new (g.sector_count old) (g.content old) (λ files pages stood. stood) (all k);
     }

@@ -1,11 +1,7 @@
 -- Rows worked by hand: where the parts of layout 3 lie, and which layout an image has.
 use Rattle.std.proofs.Common.{◌≡◌, ◌≢◌, ℕ, true, false, List, replicate, slice_index, refl, ap, arith}
-use Rattle.sync_journal.specs.Turns.{start_of, turn_body}
-use Rattle.sync_journal.specs.Kinds.{turn_kind, is_kind, kind_home, kind_home_count}
-use Rattle.sync_journal.specs.declared.store_journal.Journals.TheVariants.{Single, Paired}
-use Rattle.file_store.specs.declared.version.Version.TheVariants.{Two, Three}
-use Rattle.file_store.specs.Layout.{mark, turn_mark}
-use Rattle.file_store.specs.Versions.{version_of}
+use Rattle.sync_journal.specs.{Turns.{start_of, turn_body}, Kinds.{turn_kind, is_kind, kind_home, kind_home_count}, declared.store_journal.Journals.TheVariants.{Single, Paired}}
+use Rattle.file_store.specs.{declared.version.Version.TheVariants.{Two, Three}, Layout.{mark, turn_mark}, Versions.{version_of}}
 
 -- the parts follow one another
 first_body : turn_body false 0 ≡ 32

@@ -1,9 +1,7 @@
 -- Stops in a row.
 use Rattle.std.proofs.Common.{ℕ, zero, suc, sym, subst}
-use Rattle.disk_model.specs.Stop.{Image}
-use Rattle.disk_model.specs.declared.sector_disk.SectorDisk.{Ghosts}
-use Rattle.file_store.specs.Standing.{StandsAs}
-use Rattle.file_store.specs.Stops.{Opens, LeftInARow}
+use Rattle.disk_model.specs.{Stop.{Image}, declared.sector_disk.SectorDisk.{Ghosts}}
+use Rattle.file_store.specs.{Standing.{StandsAs}, Stops.{Opens, LeftInARow}}
 
 -- what stands for what stood before
 pub stands_as_again : (sectors : ℕ) (first content image : Image) → StandsAs sectors first content → StandsAs sectors content image → StandsAs sectors first image

@@ -1,9 +1,6 @@
 -- The pages of several files.
-use Rattle.std.proofs.Common.{◌≡◌, ℕ, zero, suc, ◌+◌, ◌<◌, ◌≤◌, List, [], ◌∷◌, length, get_or, drop, set, refl, sym, ap, arith}
-use Rattle.std.proofs.lemmas.List.{drop-set-lt}
-use Rattle.file_store.specs.declared.sources.FileSource.{FileSource}
-use Rattle.file_store.specs.Layout.{pages_of_length}
-use Rattle.file_store.specs.Format.{total_pages}
+use Rattle.std.proofs.{Common.{◌≡◌, ℕ, zero, suc, ◌+◌, ◌<◌, ◌≤◌, List, [], ◌∷◌, length, get_or, drop, set, refl, sym, ap, arith}, lemmas.List.{drop-set-lt}}
+use Rattle.file_store.specs.{declared.sources.FileSource.{FileSource}, Layout.{pages_of_length}, Format.{total_pages}}
 
 -- the rest of the files from file f on: it and those behind it
 pub total_pages-rest : {R : Type 0} (sources : List (FileSource R)) (f : ℕ) (source : FileSource R) → f < length sources → source ≡ get_or sources f source

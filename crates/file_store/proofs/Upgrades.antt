@@ -2,34 +2,18 @@
 use Rattle.std.specs.Option.{option_map}
 use Rattle.std.proofs.Common.{◌≡◌, ◌≢◌, ◌⊎◌, ◌+◌, ◌*◌, ◌<◌, ◌≤◌, ℕ, List, Option, Some, None, inl, inr, ⊎_elim, refl, sym, ap, subst, ◌∙◌, arith}
 use Rattle.vm_types.specs.declared.file.FileInfo.{FileInfo}
-use Rattle.disk_model.specs.Stop.{Image}
-use Rattle.disk_model.specs.Sectors.{joined, part_of}
+use Rattle.disk_model.specs.{Stop.{Image}, Sectors.{joined, part_of}}
 use Rattle.disk_model.proofs.Pieces.{joined-same, joined_parts}
-use Rattle.sync_journal.specs.Layout.{layout_before}
-use Rattle.sync_journal.specs.Kinds.{kind_of, kind_homes, kind_home, kind_home_count, kind_standing, IsKindBad, IsKindClosed}
-use Rattle.sync_journal.specs.Standing.{standing_in}
-use Rattle.sync_journal.specs.declared.store_journal.Journals.{Journals}
+use Rattle.sync_journal.specs.{Layout.{layout_before}, Kinds.{kind_of, kind_homes, kind_home, kind_home_count, kind_standing, IsKindBad, IsKindClosed}, Standing.{standing_in}, declared.store_journal.Journals.{Journals}}
 use Rattle.sync_journal.specs.declared.store_journal.Journals.TheVariants.{Single, Paired}
-use Rattle.file_store.specs.Versions.{version_at, version_before, version_of, home_pages_of, directory_of, mark_of}
-use Rattle.file_store.specs.declared.directory.Entry.{Entry}
-use Rattle.file_store.specs.declared.faults.OpenFault.{OpenFault}
-use Rattle.file_store.specs.declared.faults.OpenFault.TheVariants.{Device, BadLayout, BadJournal}
-use Rattle.file_store.specs.declared.faults.UpgradeFault.TheVariants.{OldLayout}
-use Rattle.file_store.specs.Faults.{old_fault}
-use Rattle.file_store.specs.Layout.{turn_mark, pages_of_length, bytes_inside, padded_page}
-use Rattle.file_store.specs.Directory.{entry_in, home_end, IsHomeOf, IsBadDirectory, IsSoundDirectory}
-use Rattle.file_store.specs.Directory.IsBadDirectory.{NotZero, Outside, Overlap}
-use Rattle.file_store.specs.Format.{IsFrom, IsTableSector, HasTables, HoldsPage}
+use Rattle.file_store.specs.{Versions.{version_at, version_before, version_of, home_pages_of, directory_of, mark_of}, declared.directory.Entry.{Entry}, declared.faults.OpenFault.{OpenFault}}
+use Rattle.file_store.specs.{declared.faults.OpenFault.TheVariants.{Device, BadLayout, BadJournal}, declared.faults.UpgradeFault.TheVariants.{OldLayout}, Faults.{old_fault}, Layout.{turn_mark, pages_of_length, bytes_inside, padded_page}}
+use Rattle.file_store.specs.{Directory.{entry_in, home_end, IsHomeOf, IsBadDirectory, IsSoundDirectory}, Directory.IsBadDirectory.{NotZero, Outside, Overlap}, Format.{IsFrom, IsTableSector, HasTables, HoldsPage}}
 use Rattle.file_store.specs.Standing.{IsBadLayoutIn, IsBadLayout, IsBadJournal, IsBadOldLayout, IsPageOf, standing, listed_entry, info_at, file_info, page_standing_in, page_standing, standing_page_at, standing_page}
 use Rattle.file_store.specs.Standing.IsBadLayoutIn.{TooSmall, Unmarked, BadDirectory}
-use Rattle.file_store.specs.Upgrade.{old_directory, old_entry, IsTooSmall, IsCopiedSector, IsUpgradeSector, IsEntrySector, IsUnmarkedUpgrade, IsKindlessUpgrade, HoldsOldFiles, IsUpgradeOf}
-use Rattle.file_store.proofs.Blocks.{single_paired}
-use Rattle.file_store.proofs.Formats.{home_stays}
-use Rattle.file_store.specs.Upgrade.IsTooSmall.{FewSectors, FewHomes}
-use Rattle.file_store.proofs.Homes.{entry_behind, one_file}
-use Rattle.file_store.proofs.Images.{sector_kind, kind_closed, kind_not_bad, homes_same, homes_behind, directory_inside, layout_low}
-use Rattle.file_store.proofs.NewStores.{empty_closed, empty_moves}
-use Rattle.file_store.proofs.Pieces.{trimmed-trimmed, length-trimmed}
+use Rattle.file_store.specs.{Upgrade.{old_directory, old_entry, IsTooSmall, IsCopiedSector, IsUpgradeSector, IsEntrySector, IsUnmarkedUpgrade, IsKindlessUpgrade, HoldsOldFiles, IsUpgradeOf}, Upgrade.IsTooSmall.{FewSectors, FewHomes}}
+use Rattle.file_store.proofs.{Blocks.{single_paired}, Formats.{home_stays}, Homes.{entry_behind, one_file}, Images.{sector_kind, kind_closed, kind_not_bad, homes_same, homes_behind, directory_inside, layout_low}}
+use Rattle.file_store.proofs.{NewStores.{empty_closed, empty_moves}, Pieces.{trimmed-trimmed, length-trimmed}}
 
 -- the homes of a file are homes
 pub entry_from : (kind : Journals) (entry : Option Entry) (k : ℕ) → IsEntrySector kind entry k → kind_homes kind ≤ k

@@ -1,5 +1,5 @@
 -- What a look at a layout tells, and what an opening makes of it.
-use Rattle.std.specs.Prelude.{ℕ, ◌<◌, ◌≤◌, ◌≡◌, false, List, [], Result, OnOk, OnErr, IsErrOf}
+use Rattle.std.specs.Prelude.{ℕ, ◌<◌, ◌≤◌, ◌≡◌, ◌⊎◌, false, List, [], Result, OnOk, OnErr, IsErrOf}
 use Rattle.disk_model.specs.Stop.{Image}
 use Rattle.disk_model.specs.Moments.{Touches, AsksOnly, Nothing, LeavesOnly, LeavesNow}
 use Rattle.disk_model.specs.declared.sector_disk.SectorDisk.{Ghosts}
@@ -132,11 +132,13 @@ module _ {D : Type 0} (g : Ghosts D) where
     -- `Device` comes only where it failed, and any other only where it did not,
     pub device : fault ≡ Device → g.failures old < g.failures new
     pub err_calm : (fault ≡ Device → ⊥) → g.failures new ≡ g.failures old
-    -- `BadLayout` and `BadJournal` only where the image is so, a bad layout before a bad journal, and nothing was written then.
+    -- `BadLayout` and `BadJournal` only where the image is so, a bad layout before a bad journal, and nothing was written then,
     pub bad_layout : g.keeps_model new → fault ≡ BadLayout → IsBadLayout (g.sector_count old) (g.content old)
     pub bad_journal : g.keeps_model new → fault ≡ BadJournal → IsBadJournalOf (g.sector_count old) (g.content old)
     pub layout_first : g.keeps_model new → fault ≡ BadJournal → IsBadLayout (g.sector_count old) (g.content old) → ⊥
     pub unwritten : g.keeps_model new → (fault ≡ Device → ⊥) → Touches g Nothing old new
+    -- nor where the image is so and the device failed before that was seen.
+    pub bad_unwritten : g.keeps_model new → IsBadLayout (g.sector_count old) (g.content old) ⊎ IsBadJournalOf (g.sector_count old) (g.content old) → Touches g Nothing old new
     -- Every image of a stop at any moment of the call stands as one of an opening does,
     pub err_moment : g.keeps_model new → ((k : ℕ) → g.unsynced old k → ⊥) → LeavesOnly g old new (StandsAs (g.sector_count old) (g.content old))
     pub err_in_a_row : g.keeps_model new → ((k : ℕ) → g.unsynced old k → ⊥) → (first : Image) → StandsAs (g.sector_count old) first (g.content old)

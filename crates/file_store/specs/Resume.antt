@@ -1,6 +1,6 @@
 -- A store of which nothing is unsynced, taken up as it stands: of layout 3 nothing is written, and the pages that stand in the journal that the
 -- gate names stay there.
-use Rattle.std.specs.Prelude.{ℕ, ◌<◌, ◌≤◌, ◌≡◌}
+use Rattle.std.specs.Prelude.{ℕ, ◌<◌, ◌≤◌, ◌≡◌, ◌⊎◌}
 use Rattle.disk_model.specs.Moments.{Nothing, Touches, AsksOnly, LeavesNow, LeavesOnly}
 use Rattle.disk_model.specs.declared.sector_disk.SectorDisk.{Ghosts}
 use Rattle.sync_journal.specs.Kinds.{kind_homes, kind_home_count, journal_kind, store_live, IsStoreClosed, IsStoreRest, StoreStandsAs, KeepsStore}
@@ -57,7 +57,7 @@ module _ {D : Type 0} (g : Ghosts D) where
     pub found : IsFound old new journal
 
   -- `Device` comes only where the device failed, `BadLayout` and `BadJournal` only where it didn't and the image is so, a bad layout before a bad
-  -- journal; nothing is written then.
+  -- journal; nothing is written then, nor where the image is so and the device fails.
   pub record IsRefusedFor (old : D) (fault : OpenFault) (new : D) : Type 0 where
     pub device : fault ≡ Device → g.failures old < g.failures new
     pub calm : (fault ≡ Device → ⊥) → g.failures new ≡ g.failures old
@@ -65,3 +65,4 @@ module _ {D : Type 0} (g : Ghosts D) where
     pub bad_journal : g.keeps_model new → fault ≡ BadJournal → IsBadJournalOf (g.sector_count old) (g.content old)
     pub layout_first : g.keeps_model new → fault ≡ BadJournal → IsBadLayout (g.sector_count old) (g.content old) → ⊥
     pub unwritten : g.keeps_model new → (fault ≡ Device → ⊥) → Touches g Nothing old new
+    pub bad_unwritten : g.keeps_model new → IsBadLayout (g.sector_count old) (g.content old) ⊎ IsBadJournalOf (g.sector_count old) (g.content old) → Touches g Nothing old new

@@ -14,7 +14,7 @@ use Rattle.vm_types.specs.declared.file.FilePage.{FilePage}
 use Rattle.file_store.specs.Layout.{bytes_inside, padded_page}
 use Rattle.file_store.specs.Directory.{IsSoundDirectory}
 use Rattle.file_store.specs.Standing.{directory_entry, standing, standing_page, IsBadLayout, IsBadJournal}
-use Rattle.disk_model.specs.Stop.{Image, HasCause}
+use Rattle.disk_model.specs.Stop.{Image, HasCause, Names}
 use Rattle.disk_model.specs.Moments.{Touches, AsksOnly, Nothing, LeavesNow}
 use Rattle.disk_model.specs.Sectors.{part_of}
 
@@ -103,8 +103,9 @@ module _ {D : Type 0} (g : Ghosts D) where
       pub size : g.sector_count new.disk ≡ g.sector_count old.disk
       pub kept : g.keeps_model new.disk → g.keeps_model old.disk
       pub touches : g.keeps_model new.disk → Touches g Nothing old.disk new.disk
-      -- no sector is asked for but those in which the page stands,
+      -- no sector is asked for but those in which the page stands, and each of them once,
       pub asks : AsksOnly g (IsSectorOf old p) old.disk new.disk
+      pub once : Names (IsSectorOf old p) (g.asked old.disk) (g.asked new.disk)
       -- and an error is told exactly where the device failed.
       pub cause : HasCause (g.failures old.disk) (g.failures new.disk) result
 

@@ -1,9 +1,6 @@
 -- What a change of one frame does to the chain of free frames.
-use Rattle.std.proofs.Common.{◌≡◌, ◌≢◌, ℕ, ◌<◌, inl, inr, List, [], ◌∷◌, refl, sym, ap, ◌∙◌, arith}
-use Rattle.std.proofs.lemmas.Bool.{cases_eq}
-use Rattle.frames.specs.declared.role.Role.TheVariants.{Free}
-use Rattle.frames.specs.FrameTable.{FrameTable, bytes_of, role_of, IsFrame, IsFull, SameButFor}
-use Rattle.frames.specs.Chain.{next_of, IsAbsent, IsOn, IsChain, IsChained}
+use Rattle.std.proofs.{Common.{◌≡◌, ◌≢◌, ℕ, ◌<◌, inl, inr, List, [], ◌∷◌, refl, sym, ap, ◌∙◌, arith}, lemmas.Bool.{cases_eq}}
+use Rattle.frames.specs.{declared.role.Role.TheVariants.{Free}, FrameTable.{FrameTable, bytes_of, role_of, IsFrame, IsFull, SameButFor}, Chain.{next_of, IsAbsent, IsOn, IsChain, IsChained}}
 
 -- a frame that isn't free is on no chain
 absent : (t : FrameTable) (n : ℕ) → role_of t n ≢ Free → (ns : List ℕ) (first : ℕ) → IsChain t first ns → IsAbsent n ns

@@ -1,11 +1,8 @@
 -- What a change of one frame leaves, and what keeps memory sound.
-use Rattle.std.proofs.Common.{◌≡◌, ◌≢◌, ℕ, zero, suc, inl, inr, ◌+◌, ◌<◌, true, List, [], length, get_or, refl, sym, ap, ◌∙◌, subst, arith, length-set, get_or-set_same, get_or-set_other}
-use Rattle.std.specs.Prelude.{slice_set, replicate, ◌-◌}
-use Rattle.std.specs.List.{CopiedTo, SameBelow, SameFrom}
-use Rattle.std.proofs.lemmas.Bool.{cases_eq, cases_lt, false≢true}
+use Rattle.std.proofs.{Common.{◌≡◌, ◌≢◌, ℕ, zero, suc, inl, inr, ◌+◌, ◌<◌, true, List, [], length, get_or, refl, sym, ap, ◌∙◌, subst, arith, length-set, get_or-set_same, get_or-set_other}, lemmas.Bool.{cases_eq, cases_lt, false≢true}}
 use Rattle.std.proofs.lemmas.List.{length-replicate, ext_get_or}
-use Rattle.frames.specs.declared.role.Role.{Role}
-use Rattle.frames.specs.declared.role.Role.TheVariants.{Free, Zero, Table, Private, Cache}
+use Rattle.std.specs.{Prelude.{slice_set, replicate, ◌-◌}, List.{CopiedTo, SameBelow, SameFrom}}
+use Rattle.frames.specs.{declared.role.Role.{Role}, declared.role.Role.TheVariants.{Free, Zero, Table, Private, Cache}}
 use Rattle.frames.specs.FrameTable.{FrameTable, bytes_of, role_of, count_of, IsFrame, IsHeld, IsSound, IsCountFor, SameButFor, is_handed_out, zero_bytes, with_bytes}
 
 -- the zero page has 4,096 bytes

@@ -1,11 +1,8 @@
 -- Memory while it is made: pushing one more table.
-use Rattle.std.proofs.Common.{◌≡◌, ℕ, ◌+◌, ◌-◌, ◌<◌, ◌≤◌, ◌⊎◌, inl, inr, List, [], ◌∷◌, ◌++◌, length, get_or, refl, sym, ap, ◌∙◌, arith}
-use Rattle.std.proofs.lemmas.Bool.{cases_eq, cases_lt}
+use Rattle.std.proofs.{Common.{◌≡◌, ℕ, ◌+◌, ◌-◌, ◌<◌, ◌≤◌, ◌⊎◌, inl, inr, List, [], ◌∷◌, ◌++◌, length, get_or, refl, sym, ap, ◌∙◌, arith}, lemmas.Bool.{cases_eq, cases_lt}}
 use Rattle.std.proofs.lemmas.List.{length_push, get_or_push, get_or_append_left, get_or_past}
-use Rattle.frames.specs.declared.role.Role.{Role}
-use Rattle.frames.specs.declared.role.Role.TheVariants.{Free, Zero, Table}
-use Rattle.frames.specs.FrameTable.{FrameTable, frame_count, bytes_of, role_of, count_of, IsFrame, IsSound, IsCountFor, IsHeld, Releases, is_handed_out, zero_bytes}
-use Rattle.frames.specs.Chain.{IsChained, IsAllTables}
+use Rattle.frames.specs.{declared.role.Role.{Role}, declared.role.Role.TheVariants.{Free, Zero, Table}}
+use Rattle.frames.specs.{FrameTable.{FrameTable, frame_count, bytes_of, role_of, count_of, IsFrame, IsSound, IsCountFor, IsHeld, Releases, is_handed_out, zero_bytes}, Chain.{IsChained, IsAllTables}}
 
 -- the zero page and then tables, n of all
 pub record IsMade (t : FrameTable) (n : ℕ) : Type 0 where

@@ -2,10 +2,8 @@
 use Rattle.vm_types.specs.declared.mode.Levels as Levels
 use Rattle.vm_types.specs.Limits.{top_level, user_end}
 use Rattle.std.proofs.Common.{◌≡◌, ◌≢◌, ◌⊎◌, ℕ, ◌/◌, ◌<◌, ◌≤◌, Some, inl, inr, sym, ◌∙◌, arith}
-use Rattle.page_tables.specs.Tree.{IsPage, page_entry}
-use Rattle.page_tables.specs.Places.{IsTableOf}
-use Rattle.residency.specs.Picture.{Picture, entry}
-use Rattle.residency.specs.Parts.{IsGranting}
+use Rattle.page_tables.specs.{Tree.{IsPage, page_entry}, Places.{IsTableOf}}
+use Rattle.residency.specs.{Picture.{Picture, entry}, Parts.{IsGranting}}
 use Rattle.residency.proofs.Entries.{entry-of}
 use Rattle.ranges.proofs.Emptied.{none_here, unmapped_zero}
 

@@ -2,16 +2,12 @@
 use Rattle.vm_types.specs.Limits.{top_level}
 use Rattle.std.proofs.Common.{◌≡◌, ℕ, suc, ◌-◌, ◌<◌, true, sym, ap, ◌∙◌, subst, arith}
 use Rattle.frames.specs.FrameTable.{FrameTable}
-use Rattle.sv39_walk.specs.Entry.{entry_at, frame_of, is_pointer}
-use Rattle.sv39_walk.specs.Walk.{index_of}
+use Rattle.sv39_walk.specs.{Entry.{entry_at, frame_of, is_pointer}, Walk.{index_of}}
 use Rattle.page_tables.specs.Tree.{IsTable, Points, Way, last_table, page_entry}
-use Rattle.page_tables.proofs.Ends.{last_is, last_entry-is, missing_of-is, page_entry-whole}
-use Rattle.page_tables.proofs.Ways.{next_table}
-use Rattle.residency.specs.Picture.{Picture}
-use Rattle.residency.specs.Parts.{IsFit}
+use Rattle.page_tables.proofs.{Ends.{last_is, last_entry-is, missing_of-is, page_entry-whole}, Ways.{next_table}}
+use Rattle.residency.specs.{Picture.{Picture}, Parts.{IsFit}}
 use Rattle.residency.proofs.Entries.{entry-of}
-use Rattle.inspection.specs.Walks.{IsEntryOf, IsStep}
-use Rattle.inspection.specs.declared.walks.Step.{Step}
+use Rattle.inspection.specs.{Walks.{IsEntryOf, IsStep}, declared.walks.Step.{Step}}
 
 -- the entry of the lowest table on a way is the page's
 pub last_entry : (t : FrameTable) (top root page n : ℕ) → Way t top root page (top - 0) n → page_entry t top root page ≡ entry_at t n (index_of page 0)

@@ -1,14 +1,9 @@
 -- Ways to pages: which tables they go through, and which pages have one way.
-use Rattle.std.proofs.Common.{◌≡◌, ℕ, zero, suc, ◌+◌, ◌-◌, ◌*◌, ◌/◌, ◌^◌, ◌<◌, ◌≤◌, true, false, inl, inr, sym, ap, ◌∙◌, subst, arith}
-use Rattle.std.proofs.lemmas.Bool.{cases_eq, cases_lt, false≢true}
-use Rattle.std.proofs.Math.Nat.{mul-div_cancel, div-mul-le_self}
+use Rattle.std.proofs.{Common.{◌≡◌, ℕ, zero, suc, ◌+◌, ◌-◌, ◌*◌, ◌/◌, ◌^◌, ◌<◌, ◌≤◌, true, false, inl, inr, sym, ap, ◌∙◌, subst, arith}, lemmas.Bool.{cases_eq, cases_lt, false≢true}, Math.Nat.{mul-div_cancel, div-mul-le_self}}
 use Rattle.frames.specs.FrameTable.{FrameTable}
-use Rattle.sv39_walk.specs.Entry.{entry_at, frame_of, is_pointer}
-use Rattle.sv39_walk.specs.Walk.{index_of}
+use Rattle.sv39_walk.specs.{Entry.{entry_at, frame_of, is_pointer}, Walk.{index_of}}
 use Rattle.page_tables.specs.Tree.{IsForest, IsOnWay, IsPage, IsTable, Points, Way, last_table, missing_of}
-use Rattle.page_tables.proofs.Ends.{missing_of-is}
-use Rattle.page_tables.proofs.Pages.{fields_same, span_positive}
-use Rattle.page_tables.proofs.Ways.{ends}
+use Rattle.page_tables.proofs.{Ends.{missing_of-is}, Pages.{fields_same, span_positive}, Ways.{ends}}
 
 -- two ways to a page that are as long lead to one table
 pub one_table : (t : FrameTable) (top root page d n n' : ℕ) → Way t top root page d n → Way t top root page d n' → n ≡ n'

@@ -1,20 +1,13 @@
 -- A process without a page has those of another.
-use Rattle.vm_types.specs.Limits.{top_level}
-use Rattle.std.proofs.Common.{◌≡◌, ◌≢◌, ◌==◌, if◌then◌else◌, eq-eqb, ne_eqb, ℕ, inl, inr, List, Option, Some, None, refl, sym, ap, ◌∙◌}
-use Rattle.std.proofs.lemmas.Bool.{cases_eq}
-use Rattle.vm_types.specs.Objects.{names, uses}
-use Rattle.vm_types.specs.declared.region.Attr.{Attr}
+use Rattle.vm_types.specs.{Limits.{top_level}, Objects.{names, uses}, declared.region.Attr.{Attr}}
+use Rattle.std.proofs.{Common.{◌≡◌, ◌≢◌, ◌==◌, if◌then◌else◌, eq-eqb, ne_eqb, ℕ, inl, inr, List, Option, Some, None, refl, sym, ap, ◌∙◌}, lemmas.Bool.{cases_eq}}
 use Rattle.frames.specs.FrameTable.{bytes_of}
 use Rattle.page_tables.specs.Tree.{IsPage}
-use Rattle.regions.specs.declared.run.Run.{Run}
-use Rattle.regions.specs.RunList.{attr_at}
-use Rattle.residency.specs.Seats.{Seat, InFrame, InSlot, seat}
-use Rattle.residency.specs.Picture.{Picture, entry, view, view_of, own_in, bytes_in}
-use Rattle.residency.specs.Parts.{AreObjects, IsFit, IsEntryFor, Nothing, Resident, Away}
-use Rattle.residency.specs.Steps.{Remaps}
-use Rattle.residency.proofs.Granting.{user_map-same, readable-same}
-use Rattle.residency.proofs.Setting.{view_seated, held_same}
+use Rattle.regions.specs.{declared.run.Run.{Run}, RunList.{attr_at}}
+use Rattle.residency.specs.{Seats.{Seat, InFrame, InSlot, seat}, Picture.{Picture, entry, view, view_of, own_in, bytes_in}, Parts.{AreObjects, IsFit}, Steps.{Remaps}}
+use Rattle.residency.proofs.{Granting.{user_map-same, readable-same}, Setting.{view_seated, held_same}}
 use Rattle.fault.proofs.Spawning.{entries_remapped, fit_mapped}
+use Rattle.ranges.proofs.Emptied.{unmapped_zero}
 use Rattle.lifecycle.specs.Changes.{MapsAlike}
 
 unmapped_in : (own : Option (List ℕ)) (attr : Option Attr) → view_of own attr ≡ None → attr ≡ None
@@ -26,14 +19,9 @@ pub unmapped_view : {mode : ℕ} (c : Picture mode) (pid page : ℕ) → view c 
 unfolding view
 unmapped_view c pid page none = unmapped_in (own_in c.frames c.slots (entry c pid page)) (c.at pid page) none
 
-bare_for : {mode : ℕ} (c : Picture mode) (attr : Option Attr) (e : ℕ) → attr ≡ None → IsEntryFor c attr e → e ≡ 0
-bare_for c attr e none (Nothing is) = is
-bare_for c attr e none (Resident a at resident) = absurd (let bad : None ≡ Some a = sym none ∙ at in (cc))
-bare_for c attr e none (Away a at away) = absurd (let bad : None ≡ Some a = sym none ∙ at in (cc))
-
 -- a page that isn't mapped has no entry
 pub bare_page : {mode : ℕ} (c : Picture mode) (pid page : ℕ) → IsFit c → c.at pid page ≡ None → IsPage (top_level mode) page → entry c pid page ≡ 0
-bare_page c pid page fit none h = bare_for c (c.at pid page) (entry c pid page) none (fit.granting.entries pid page h)
+bare_page c pid page fit none h = unmapped_zero c (c.at pid page) (entry c pid page) (fit.granting.entries pid page h) none
 
 -- what the step leaves
 module _ {mode : ℕ} where

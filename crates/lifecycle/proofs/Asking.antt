@@ -1,16 +1,11 @@
 -- Which sectors of swap's device a process that comes asks for.
 use Rattle.vm_types.specs.declared.mode.Levels as Levels
 use Rattle.std.proofs.Common.{◌≡◌, ℕ, None, ap}
-use Rattle.disk_model.specs.declared.sector_disk.SectorDisk.{Ghosts}
-use Rattle.disk_model.specs.Moments.{Nothing}
+use Rattle.disk_model.specs.{declared.sector_disk.SectorDisk.{Ghosts}, Moments.{Nothing}}
 use Rattle.frames.specs.FrameTable.{role_of}
 use Rattle.page_cache.specs.CacheTable.{place_of, is_touched}
 use Rattle.swap.specs.Slots.{slots_of}
-use Rattle.residency.specs.declared.kernel.Core.{Core}
-use Rattle.residency.specs.Picture.{Picture, picture_of}
-use Rattle.residency.specs.Parts.{IsFit}
-use Rattle.residency.specs.Calls.{ObtainsTable, KeepsBesideProcesses}
-use Rattle.residency.specs.Steps.{Spawns}
+use Rattle.residency.specs.{declared.kernel.Core.{Core}, Picture.{Picture, picture_of}, Parts.{IsFit}, Calls.{ObtainsTable, KeepsBesideProcesses}, Steps.{Spawns}}
 use Rattle.fault.specs.Asking.{AsksNoNew, AsksSlots, AsksSlotsIf}
 use Rattle.fault.proofs.Asking.{no_new_then, no_new_held, no_new_taken, asks_slots_if, asks_slots_kept, asks_slots_then}
 

@@ -1,34 +1,20 @@
 -- The seats that entries name, and the pages of one table.
-use Rattle.vm_types.specs.Limits.{top_level}
-use Rattle.std.proofs.Common.{◌≡◌, ◌≢◌, ◌⊎◌, ℕ, inl, inr, Bool, true, false, Option, Some, None, refl, sym, ap, ◌∙◌, subst}
+use Rattle.vm_types.specs.{Limits.{top_level}, declared.number.FrameNo.{FrameNo}, declared.number.SlotNo.{SlotNo}, declared.region.Attr.{Attr}}
+use Rattle.std.proofs.{Common.{◌≡◌, ◌≢◌, ◌⊎◌, ℕ, inl, inr, Bool, true, false, Option, Some, None, refl, sym, ap, ◌∙◌, subst}, lemmas.Bool.{cases_Bool, false≢true}}
 use Rattle.std.specs.Prelude.{IsSome}
-use Rattle.std.proofs.lemmas.Bool.{cases_Bool, false≢true}
-use Rattle.vm_types.specs.declared.number.FrameNo.{FrameNo}
-use Rattle.vm_types.specs.declared.number.SlotNo.{SlotNo}
-use Rattle.vm_types.specs.declared.region.Attr.{Attr}
 use Rattle.frames.specs.FrameTable.{FrameTable}
 use Rattle.sv39_walk.specs.Entry.{is_valid, has_bit, frame_of}
-use Rattle.page_tables.specs.declared.forms.Entry.{Entry}
-use Rattle.page_tables.specs.declared.forms.Entry.TheVariants.{Leaf, Swapped, Parked}
+use Rattle.page_tables.specs.{declared.forms.Entry.{Entry}, declared.forms.Entry.TheVariants.{Leaf, Swapped, Parked}, Entry.{number_of, IsEntry}, Tree.{IsPage}}
 use Rattle.page_tables.specs.declared.forms.Entry.TheVariants as Entries
-use Rattle.page_tables.specs.Entry.{number_of, IsEntry}
-use Rattle.page_tables.specs.Tree.{IsPage}
 use Rattle.memory.specs.Notes.{NamesNoMore}
-use Rattle.residency.specs.Seats.{Seat, InFrame, InSlot, seat, is_private, is_swapped}
-use Rattle.residency.specs.Picture.{Picture, entry}
-use Rattle.residency.specs.Parts.{IsEntryFor, Nothing, Resident, Away, IsGranting, IsMapped}
-use Rattle.residency.proofs.Start.{seat-none, no_bit}
+use Rattle.residency.specs.{Seats.{Seat, InFrame, InSlot, seat, is_private, is_swapped}, Picture.{Picture, entry}, Parts.{IsEntryFor, Nothing, Resident, Away, IsGranting, IsMapped}}
+use Rattle.residency.proofs.{Start.{seat-none, no_bit}, SeatForms.{seat_own, seat_common, away_seat}}
 use Rattle.page_tables.proofs.Bits.{parked_private, parked_framed}
-use Rattle.residency.proofs.SeatForms.{seat_own, seat_common, seat_away, away_seat}
 use Rattle.ranges.proofs.Returning.{not_away, no_seat}
 
 -- an entry that names a frame as the process's own names a seat
 pub own_some : (e : ℕ) → is_private e ≡ true → seat e ≢ None
 own_some e own none = let bad : Some (InFrame (frame_of e)) ≡ None = sym (seat_own e own) ∙ none in (cc)
-
--- and so does that of a page in a slot
-pub away_some : (e : ℕ) → is_private e ≡ false → is_swapped e ≡ true → seat e ≢ None
-away_some e common away none = let bad : Some (InSlot (frame_of e)) ≡ None = sym (seat_away e common away) ∙ none in (cc)
 
 pub seat_some : (o : Option Seat) (y : Seat) → o ≡ Some y → o ≢ None
 seat_some o y is none = let bad : None ≡ Some y = sym none ∙ is in (cc)
@@ -81,15 +67,6 @@ framed_own entry form other some = elim (cases_Bool (is_private (number_of entry
 
 pub nothing_common : (entry : Entry) → entry ≡ Entries.None → seat (number_of entry) ≡ None
 nothing_common entry is = ap (λ x. seat (number_of x)) is ∙ seat-none
-
--- a page that isn't mapped has no copy
-unmapped_for : {mode : ℕ} (c : Picture mode) (attr : Option Attr) (e : ℕ) → IsEntryFor c attr e → attr ≡ None → seat e ≡ None
-unmapped_for c attr e (Nothing none) gone = ap seat none ∙ seat-none
-unmapped_for c attr e (Resident a is resident) gone = let bad : None ≡ Some a = sym gone ∙ is in (cc)
-unmapped_for c attr e (Away a is away) gone = let bad : None ≡ Some a = sym gone ∙ is in (cc)
-
-pub unmapped_none : {mode : ℕ} (c : Picture mode) (pid page : ℕ) → IsGranting c → IsPage (top_level mode) page → c.at pid page ≡ None → seat (entry c pid page) ≡ None
-unmapped_none c pid page granting h gone = unmapped_for c (c.at pid page) (entry c pid page) (granting.entries pid page h) gone
 
 -- a page with a copy of its own is mapped
 copied_for : {mode : ℕ} (c : Picture mode) (attr : Option Attr) (e : ℕ) → IsEntryFor c attr e → seat e ≢ None → IsSome attr

@@ -2,18 +2,13 @@
 use Rattle.vm_types.specs.declared.mode.Levels as Levels
 use Rattle.std.proofs.Common.{◌≡◌, ℕ, inl, None, Result, Ok, Err, refl, sym, ap, ◌∙◌, subst}
 use Rattle.std.specs.Prelude.{IsErrAnd, is_some}
-use Rattle.vm_types.specs.declared.number.FrameNo.{FrameNo}
-use Rattle.vm_types.specs.declared.refusal.Stall.{Stall}
+use Rattle.vm_types.specs.{declared.number.FrameNo.{FrameNo}, declared.refusal.Stall.{Stall}}
 use Rattle.disk_model.specs.declared.sector_disk.SectorDisk.{Ghosts}
 use Rattle.swap.specs.Slots.{IsReady}
-use Rattle.residency.specs.declared.kernel.Core.{Core}
-use Rattle.residency.specs.Picture.{Picture, picture_of}
-use Rattle.residency.specs.Parts.{IsFit}
-use Rattle.fault.specs.Changes.{KeepsSpaces}
-use Rattle.fault.specs.WaysLinked.{MakesWhole}
+use Rattle.residency.specs.{declared.kernel.Core.{Core}, Picture.{Picture, picture_of}, Parts.{IsFit}}
+use Rattle.fault.specs.{Changes.{KeepsSpaces}, WaysLinked.{MakesWhole}}
 use Rattle.fault.proofs.WaySteps.{takes_none, takes_then, takes_done, takes_stall}
-use Rattle.lifecycle.specs.Steps.{HasCopy, HasTablesForCopies}
-use Rattle.lifecycle.specs.TablesForCopies.{IsForking, LinksForCopies}
+use Rattle.lifecycle.specs.{Steps.{HasCopy, HasTablesForCopies}, TablesForCopies.{IsForking, LinksForCopies}}
 use Rattle.lifecycle.proofs.Linked.{copy_stays, lacks_before, links_one, links_then}
 
 module _ {M : Type 0} {m : Levels.Ghosts M} {D E : Type 0} (h : Ghosts E) where

@@ -1,31 +1,16 @@
 -- A process comes that is a copy of another.
 use Rattle.vm_types.proofs.Modes.{user_pages_fit}
-use Rattle.vm_types.specs.Limits.{user_end, top_level}
-use Rattle.std.proofs.Common.{◌≡◌, ◌≢◌, ℕ, inl, inr, ◌⊎◌, ◌<◌, ◌≤◌, true, false, List, Option, Some, None, is_some, refl, sym, ap, ◌∙◌, subst, arith}
+use Rattle.vm_types.specs.{Limits.{user_end, top_level}, Capacity.{has_own}, declared.region.Attr.{Attr}, declared.refusal.Stall.{Stall}}
+use Rattle.std.proofs.{Common.{◌≡◌, ◌≢◌, ℕ, inl, inr, ◌⊎◌, ◌<◌, ◌≤◌, true, false, List, Option, Some, None, is_some, refl, sym, ap, ◌∙◌, subst, arith}, lemmas.Bool.{cases_eq, cases_lt, cases_Bool, false≢true}}
 use Rattle.std.specs.Prelude.{option_map, IfErr, IsErrAnd, Result, Ok, Err}
-use Rattle.std.proofs.lemmas.Bool.{cases_eq, cases_lt, cases_Bool, false≢true}
-use Rattle.vm_types.specs.Capacity.{has_own}
-use Rattle.vm_types.specs.declared.region.Attr.{Attr}
-use Rattle.vm_types.specs.declared.refusal.Stall.{Stall}
 use Rattle.page_tables.specs.Tree.{IsPage, missing_of}
 use Rattle.sv39_walk.specs.Entry.{is_valid, can_write, has_bit, frame_of}
-use Rattle.residency.specs.Seats.{Seat, InFrame, InSlot, seat, is_private, is_swapped}
-use Rattle.residency.specs.Picture.{Picture, is_live, entry, view, view_of, own_in, bytes_in}
-use Rattle.residency.specs.Parts.{IsFit, IsGranting}
-use Rattle.residency.specs.Calls.{KeepsPages}
-use Rattle.residency.specs.Capacity.{IsShort}
-use Rattle.residency.specs.Shows.{KeepsFiles}
-use Rattle.residency.proofs.LeafSteps.{cases_attr}
-use Rattle.residency.proofs.Moves.{view-none}
-use Rattle.residency.proofs.Start.{seat-none}
+use Rattle.residency.specs.{Seats.{InFrame, InSlot, seat, is_private, is_swapped}, Picture.{Picture, is_live, entry, view, view_of, own_in, bytes_in}, Parts.{IsFit, IsGranting}, Calls.{KeepsPages}, Capacity.{IsShort}, Shows.{KeepsFiles}}
+use Rattle.residency.proofs.{LeafSteps.{cases_attr}, Moves.{view-none}, Start.{seat-none}}
 use Rattle.fault.specs.Changes.{KeepsBare, KeepsRoom, KeepsTables}
 use Rattle.fault.proofs.Steps.{room_then}
-use Rattle.lifecycle.specs.Shares.{without_write, lowered_entry, given_entry, Weakens, SharesRow}
-use Rattle.lifecycle.proofs.Weaker.{weaker_leaf, unchanged, weaker_seat}
-use Rattle.lifecycle.specs.Changes.{AddsProcess, RemovesProcess, KeepsProcesses, MapsAlike, TakesRoot, SharesCopies, KeepsBareOfOthers, IsShortToFork}
-use Rattle.lifecycle.proofs.Alike.{bare_page}
-use Rattle.lifecycle.proofs.Keeping.{live_same, files_then}
-use Rattle.lifecycle.proofs.Shortage.{short_alike}
+use Rattle.lifecycle.specs.{Shares.{without_write, lowered_entry, given_entry, SharesRow}, Changes.{AddsProcess, RemovesProcess, KeepsProcesses, MapsAlike, TakesRoot, SharesCopies, KeepsBareOfOthers, IsShortToFork}}
+use Rattle.lifecycle.proofs.{Copies.{seat_some}, Weaker.{seat_lowered, weakened}, Alike.{bare_page}, Keeping.{live_same, files_then}, Shortage.{short_alike}}
 
 -- Before any page is shared: the child lives, mapped as the parent is, without an entry, and every other process is as it was.
 module _ {mode : ℕ} where
@@ -80,18 +65,6 @@ past_none c pid page granting out = elim (cases_attr (c.at pid page)) [
   | inr some ↦ absurd (out ((granting.user pid).user_pages page some))
 ]
 
-weakened : (e : ℕ) → Weakens e (without_write e)
-weakened e = elim (cases_Bool (is_valid e)) [
-  | inr invalid ↦ rw invalid (unchanged e (λ valid. absurd (false≢true (sym invalid ∙ valid))))
-  | inl valid ↦ elim (cases_Bool (can_write e)) [
-    | inl write ↦ rw (valid, write) (weaker_leaf e valid write)
-    | inr none ↦ rw (valid, none) (unchanged e (λ valid. none))
-  ]
-]
-
-some_seat : (e : ℕ) (x : Seat) → seat e ≡ Some x → seat e ≢ None
-some_seat e x is none = let bad : Some x ≡ None = sym is ∙ none in (cc)
-
 -- The entries p of the parent and k of the child for a page of which the parent had e.
 module _ (e p k : ℕ) (lowered : p ≡ lowered_entry e) (given : k ≡ given_entry e) where
   own_page : is_private e ≡ true → p ≡ without_write e
@@ -101,10 +74,7 @@ module _ (e p k : ℕ) (lowered : p ≡ lowered_entry e) (given : k ≡ given_en
   other_page common = lowered ∙ rw common refl
 
   seat_page : seat p ≡ seat e
-  seat_page = elim (cases_Bool (is_private e)) [
-    | inl own ↦ ap seat (own_page own) ∙ weaker_seat e (without_write e) (weakened e)
-    | inr common ↦ ap seat (other_page common)
-  ]
+  seat_page = ap seat lowered ∙ seat_lowered e
 
   pub one_shared : seat p ≢ None → k ≡ p
   one_shared some = elim (cases_Bool (is_private e)) [
@@ -117,9 +87,9 @@ module _ (e p k : ℕ) (lowered : p ≡ lowered_entry e) (given : k ≡ given_en
 
   pub one_bare : seat p ≡ None → k ≡ 0
   one_bare none = elim (cases_Bool (is_private e)) [
-    | inl own ↦ absurd (some_seat e (InFrame (frame_of e)) (rw own refl) (sym seat_page ∙ none))
+    | inl own ↦ absurd (seat_some (seat e) (InFrame (frame_of e)) (rw own refl) (sym seat_page ∙ none))
     | inr common ↦ elim (cases_Bool (is_swapped e)) [
-      | inl away ↦ absurd (some_seat e (InSlot (frame_of e)) (rw (common, away) refl) (sym seat_page ∙ none))
+      | inl away ↦ absurd (seat_some (seat e) (InSlot (frame_of e)) (rw (common, away) refl) (sym seat_page ∙ none))
       | inr here ↦ given ∙ rw (common, here) refl
     ]
   ]

@@ -1,43 +1,21 @@
 -- A process goes of which no page has an entry or a table.
 use Rattle.vm_types.specs.declared.mode.Levels as Levels
-use Rattle.vm_types.specs.Limits.{user_end, top_level}
-use Rattle.std.proofs.Common.{◌≡◌, ◌≢◌, ℕ, zero, suc, inl, inr, ◌⊎◌, ◌≤◌, ◌<◌, ◌^◌, Option, Some, None, true, false, refl, sym, ap, ◌∙◌, subst, arith, eq-eqb, ne_eqb}
+use Rattle.vm_types.specs.{Limits.{user_end, top_level}, declared.object.ObjectPage.{ObjectPage}, declared.object.PageKey.TheVariants.{Object}, declared.region.Attr.{Attr}, Objects.{names, is_named}, Rows.{in_row}}
+use Rattle.std.proofs.{Common.{◌≡◌, ◌≢◌, ℕ, zero, suc, inl, inr, ◌⊎◌, ◌≤◌, ◌<◌, ◌^◌, Option, Some, None, true, false, refl, sym, ap, ◌∙◌, subst, arith, eq-eqb, ne_eqb}, lemmas.Bool.{cases_eq, cases_Bool, false≢true}}
 use Rattle.std.specs.Prelude.{is_some, IsSome, ◌*◌}
 use Rattle.vm_types.proofs.Modes.{user_pages_fit, sizes}
-use Rattle.std.proofs.lemmas.Bool.{cases_eq, cases_Bool, false≢true}
-use Rattle.vm_types.specs.declared.object.ObjectPage.{ObjectPage}
-use Rattle.vm_types.specs.declared.object.PageKey.TheVariants.{Object}
-use Rattle.vm_types.specs.declared.region.Attr.{Attr}
-use Rattle.vm_types.specs.Objects.{names, is_named}
-use Rattle.vm_types.specs.Rows.{in_row}
 use Rattle.page_cache.specs.declared.place.Place.TheVariants.{Home}
 use Rattle.disk_model.specs.declared.sector_disk.SectorDisk.{Ghosts}
-use Rattle.frames.specs.declared.role.Role.{Role}
-use Rattle.frames.specs.declared.role.Role.TheVariants.{Free, Table, Private, Cache}
-use Rattle.frames.specs.FrameTable.{FrameTable, bytes_of, role_of}
-use Rattle.sv39_walk.specs.Entry.{entry_at, is_pointer, frame_of}
-use Rattle.sv39_walk.specs.Walk.{index_of}
+use Rattle.frames.specs.{declared.role.Role.{Role}, declared.role.Role.TheVariants.{Free, Table, Private, Cache}, FrameTable.{FrameTable, bytes_of, role_of}}
+use Rattle.sv39_walk.specs.{Entry.{entry_at, is_pointer, frame_of}, Walk.{index_of}}
 use Rattle.page_tables.specs.Tree.{IsPage, IsTable, Points, IsSpare, Way, IsBelowRoot, last_table, missing_of}
-use Rattle.page_tables.proofs.Ways.{cases_bool, only_way, last_table-stop}
-use Rattle.page_tables.proofs.Ends.{way_forth, missing_of-is, last_entry-is}
-use Rattle.page_tables.proofs.Fields.{root_field}
+use Rattle.page_tables.proofs.{Ways.{cases_bool, only_way, last_table-stop}, Ends.{way_forth, missing_of-is, last_entry-is}, Fields.{root_field}}
 use Rattle.swap.specs.Slots.{SlotTable, IsReady}
-use Rattle.residency.specs.declared.kernel.Core.{Core}
-use Rattle.residency.specs.Seats.{Seat, InFrame, InSlot, seat}
-use Rattle.residency.specs.Picture.{Picture, picture_of, view, bytes_in, IsOwned}
-use Rattle.residency.specs.Parts.{IsFit, IsUsed, AsRoot, OnWay}
-use Rattle.residency.specs.Steps.{Exits}
-use Rattle.residency.specs.Shows.{KeepsFiles}
-use Rattle.residency.proofs.Exiting.{entries_left, fit_left}
-use Rattle.residency.proofs.Moves.{view-none}
-use Rattle.residency.proofs.Setting.{view_seated, held_same}
-use Rattle.residency.proofs.LeafSteps.{cases_attr}
-use Rattle.fault.proofs.SwapSteps.{ready_released}
-use Rattle.fault.proofs.Spawning.{one_some}
-use Rattle.ranges.proofs.Emptied.{row_out}
-use Rattle.ranges.proofs.Named.{named-imp}
-use Rattle.ranges.specs.Rows.{KeepsNamed, RemapsRow, without_maps}
-use Rattle.ranges.specs.Steps.{KeepsDevices, KeepsEntriesOfOthers, ReturnsTables, LosesSlots, IsMappedBeside, IsWithoutTables}
+use Rattle.residency.specs.{declared.kernel.Core.{Core}, Seats.{Seat, InFrame, InSlot, seat}, Picture.{Picture, picture_of, view, bytes_in, IsOwned}, Parts.{IsFit, IsUsed, AsRoot, OnWay}, Steps.{Exits}, Shows.{KeepsFiles}}
+use Rattle.residency.proofs.{Exiting.{entries_left, fit_left}, Moves.{view-none}, Setting.{view_seated, held_same}, LeafSteps.{cases_attr}}
+use Rattle.fault.proofs.{SwapSteps.{ready_released}, Spawning.{one_some}}
+use Rattle.ranges.proofs.{Emptied.{row_out}, Named.{named-imp}, Forgotten.{IsRowRemapped}}
+use Rattle.ranges.specs.{Rows.{KeepsNamed, without_maps}, Steps.{KeepsDevices, KeepsEntriesOfOthers, LosesSlots, IsMappedBeside, IsWithoutTables}}
 use Rattle.lifecycle.specs.Changes.{RemovesProcess, FreesTables, TakesNoFrame}
 use Rattle.lifecycle.proofs.Keeping.{live_same}
 
@@ -164,15 +142,14 @@ module _ {mode : ℕ} where
     pub files : KeepsNamed (without_maps old.at pid 0 (user_end mode)) old new
 
 -- All pages of a process were cleared, and then it was removed.
-module _ {mode : ℕ} (first old new : Picture mode) (pid r : ℕ) (begun : IsFit first) (fit : IsFit old) (row : RemapsRow first old pid 0 (user_end mode) (first.at pid))
-    (beside : KeepsEntriesOfOthers first old pid) (returned : ReturnsTables first old pid) (bare : IsWithoutTables old pid 0 (user_end mode))
-    (slots : LosesSlots first old pid 0 (user_end mode)) (keeps : KeepsNamed (without_maps first.at pid 0 (user_end mode)) first old) (exits : Exits old new pid r) where
+module _ {mode : ℕ} (first old new : Picture mode) (pid r : ℕ) (begun : IsFit first) (was : IsRowRemapped first old pid 0 (user_end mode) (first.at pid))
+    (bare : IsWithoutTables old pid 0 (user_end mode)) (exits : Exits old new pid r) where
   -- what others name is named still
   named_left : (p : ObjectPage) → old.place (Object p) ≢ Home → is_named new.at p.object p.page ≡ true
   named_left p away = elim (cases_Bool (is_named (without_maps first.at pid 0 (user_end mode)) p.object p.page)) [
-    | inr none ↦ absurd (away (keeps.gone p none))
+    | inr none ↦ absurd (away (was.files.gone p none))
     | inl is ↦ named-imp (without_maps first.at pid 0 (user_end mode)) new.at p.object p.page (λ q k here. elim (cases_eq q pid) [
-      | inr ne ↦ ap (λ a. names a p.object p.page) (exits.at q k ne ∙ row.others_at q k ne) ∙ (let was : names (first.at q k) p.object p.page ≡ true = rw (ne_eqb q pid ne) at here in was)
+      | inr ne ↦ ap (λ a. names a p.object p.page) (exits.at q k ne ∙ was.row.others_at q k ne) ∙ (let was : names (first.at q k) p.object p.page ≡ true = rw (ne_eqb q pid ne) at here in was)
       | inl e ↦ absurd (none_beyond p q k e here)
     ]) is
   ] where
@@ -189,20 +166,20 @@ module _ {mode : ℕ} (first old new : Picture mode) (pid r : ℕ) (begun : IsFi
       unmapped_named p (Some a) is none = none refl
 
   was_root : first.root pid ≡ Some r
-  was_root = sym (row.root pid) ∙ exits.lived
+  was_root = sym (was.row.root pid) ∙ exits.lived
 
   -- a table on the way from its root to one of its pages is no table any more
   below_gone : (page d n : ℕ) → Way first.frames (top_level mode) r page (suc d) n → IsTable old.frames n → ⊥
-  below_gone page d n way table = elim (used_apart old pid r fit exits.lived bare n (bare n table)) [
-    | inl is ↦ (begun.rooted.roots is.0 n (sym (row.root is.0) ∙ is.1)).unlinked way.0 _ way.2
+  below_gone page d n way table = elim (used_apart old pid r was.fit exits.lived bare n (bare n table)) [
+    | inl is ↦ (begun.rooted.roots is.0 n (sym (was.row.root is.0) ∙ is.1)).unlinked way.0 _ way.2
     | inr on ↦ (
         let q = on.0 in
         let x = on.1 in
         let below = on.5 in
-        let was : first.root q ≡ Some x = sym (row.root q) ∙ on.4 in
-        let there = way_back mode first.frames old.frames returned.pointers x on.2 (suc below.0) n below.2 in
-        let ends = only_way first.frames (top_level mode) begun.rooted.forest x on.2 r page (begun.rooted.roots q x was).unlinked (begun.rooted.roots pid r was_root).unlinked (suc below.0) (suc d) n there way in
-        other_root old pid r fit exits.lived bare q x on.3 on.4 ends.1)
+        let lived : first.root q ≡ Some x = sym (was.row.root q) ∙ on.4 in
+        let there = way_back mode first.frames old.frames was.returned.pointers x on.2 (suc below.0) n below.2 in
+        let ends = only_way first.frames (top_level mode) begun.rooted.forest x on.2 r page (begun.rooted.roots q x lived).unlinked (begun.rooted.roots pid r was_root).unlinked (suc below.0) (suc d) n there way in
+        other_root old pid r was.fit exits.lived bare q x on.3 on.4 ends.1)
   ]
 
   role_same : (m : ℕ) → m ≢ r → role_of new.frames m ≡ role_of old.frames m
@@ -216,53 +193,53 @@ module _ {mode : ℕ} (first old new : Picture mode) (pid r : ℕ) (begun : IsFi
 
   own_freed : (page d n : ℕ) → Way first.frames (top_level mode) r page d n → role_of new.frames n ≡ Free
   own_freed page zero n way = ap (role_of new.frames) way ∙ exits.free
-  own_freed page (suc d) n way = free_kept n (elim (returned.tables n (begun.rooted.forest.onto_tables way.0 _ n way.2)) [
+  own_freed page (suc d) n way = free_kept n (elim (was.returned.tables n (begun.rooted.forest.onto_tables way.0 _ n way.2)) [
     | inl still ↦ absurd (below_gone page d n way still)
     | inr back ↦ back.0
   ])
 
   pub ended : IsEnded first new pid
   ended =
-      let left = process_removed old new pid r fit exits in
+      let left = process_removed old new pid r was.fit exits in
       record {
-        fit = fit_left old new pid r fit exits named_left;
+        fit = fit_left old new pid r was.fit exits named_left;
         removed = record {
           gone = left.gone;
           pages = left.pages;
-          others_live = λ q ne. left.others_live q ne ∙ live_same first old q (row.root q);
-          others = λ q page ne. left.others q page ne ∙ row.others q page ne;
+          others_live = λ q ne. left.others_live q ne ∙ live_same first old q (was.row.root q);
+          others = λ q page ne. left.others q page ne ∙ was.row.others q page ne;
         };
-        others = λ q page h ne. entries_left old new pid r fit exits q page ∙ beside q page h ne;
+        others = λ q page h ne. entries_left old new pid r was.fit exits q page ∙ was.others q page h ne;
         tables = record {
           own = λ x page n e on. (
               let W : ℕ → Type 0 = λ y. Way first.frames (top_level mode) y page on.0 n in
               own_freed page on.0 n (subst W (one_some x r (sym e ∙ was_root)) on.2));
-          others = λ n table. elim (returned.tables n table) [
+          others = λ n table. elim (was.returned.tables n table) [
             | inr back ↦ (let under = back.1.3 in inr (back.1.0, back.1.1, back.1.2, (suc under.0, (omega (arith, under.1)), under.2)))
             | inl still ↦ elim (cases_eq n r) [
               | inl is ↦ inr (r, 0, was_root, (0, (omega arith), is))
               | inr ne ↦ inl (record { inside = rw exits.frames.frames still.inside; role = role_same n ne ∙ still.role })
             ]
           ];
-          free = λ n e. free_kept n (returned.free n e);
+          free = λ n e. free_kept n (was.returned.free n e);
         };
         slots = record {
-          total = ap (λ t. t.total) exits.slots ∙ slots.total;
-          fewer = (let P : SlotTable → Type 0 = λ t. (k : ℕ) → t.count k ≤ first.slots.count k in subst P (sym exits.slots) slots.fewer);
-          kept = λ k none no_object. ap (λ t. t.count k) exits.slots ∙ slots.kept k none no_object;
-          bytes = (let P : SlotTable → Type 0 = λ t. (k : ℕ) → 0 < t.count k → t.bytes k ≡ first.slots.bytes k in subst P (sym exits.slots) slots.bytes);
+          total = ap (λ t. t.total) exits.slots ∙ was.slots.total;
+          fewer = (let P : SlotTable → Type 0 = λ t. (k : ℕ) → t.count k ≤ first.slots.count k in subst P (sym exits.slots) was.slots.fewer);
+          kept = λ k none no_object. ap (λ t. t.count k) exits.slots ∙ was.slots.kept k (λ page h least below. none page h least (omega (arith, below))) no_object;
+          bytes = (let P : SlotTable → Type 0 = λ t. (k : ℕ) → 0 < t.count k → t.bytes k ≡ first.slots.bytes k in subst P (sym exits.slots) was.slots.bytes);
         };
         files = record {
-          touched = λ p lasting. exits.touched p ∙ keeps.touched p lasting;
-          place = λ p lasting. exits.place p ∙ keeps.place p lasting;
-          gone = λ p none. exits.place (Object p) ∙ keeps.gone p none;
-          files = λ f. exits.files f ∙ keeps.files f;
-          held = λ p lasting. elim (keeps.held p lasting) [
-            | inl same ↦ elim ((files_ended old new pid r fit exits).held p) [
+          touched = λ p lasting. exits.touched p ∙ was.files.touched p lasting;
+          place = λ p lasting. exits.place p ∙ was.files.place p lasting;
+          gone = λ p none. exits.place (Object p) ∙ was.files.gone p none;
+          files = λ f. exits.files f ∙ was.files.files f;
+          held = λ p lasting. elim (was.files.held p lasting) [
+            | inl same ↦ elim ((files_ended old new pid r was.fit exits).held p) [
               | inl now ↦ inl (now ∙ same)
-              | inr home ↦ inr (home.0, sym (keeps.touched p lasting) ∙ home.1)
+              | inr home ↦ inr (home.0, sym (was.files.touched p lasting) ∙ home.1)
             ]
-            | inr home ↦ elim ((files_ended old new pid r fit exits).held p) [
+            | inr home ↦ elim ((files_ended old new pid r was.fit exits).held p) [
               | inl now ↦ inr (now ∙ home.0, home.1)
               | inr gone ↦ inr (gone.0, home.1)
             ]

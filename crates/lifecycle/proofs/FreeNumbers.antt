@@ -1,9 +1,7 @@
 -- The least free number, one number at a time.
 use Rattle.std.proofs.Common.{◌≡◌, ℕ, zero, suc, ◌+◌, ◌-◌, ◌<◌, Bool, true, false, Option, Some, None, refl, arith}
-use Rattle.std.specs.Prelude.{is_some}
-use Rattle.std.specs.Option.{option_map}
-use Rattle.vm_types.specs.declared.number.FrameNo.{FrameNo}
-use Rattle.vm_types.specs.Processes.{least_free_from}
+use Rattle.std.specs.{Prelude.{is_some}, Option.{option_map}}
+use Rattle.vm_types.specs.{declared.number.FrameNo.{FrameNo}, Processes.{least_free_from}}
 use Rattle.residency.specs.Picture.{number_of_frame}
 
 -- whether a process lives, by its root

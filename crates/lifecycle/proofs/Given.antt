@@ -1,25 +1,14 @@
 -- One page given to the child.
-use Rattle.vm_types.specs.Limits.{top_level}
-use Rattle.std.proofs.Common.{◌≡◌, ◌≢◌, ℕ, inl, inr, ◌⊎◌, ◌+◌, ◌<◌, ◌≤◌, true, false, Option, Some, None, get_or, refl, sym, ap, ◌∙◌, subst, arith}
+use Rattle.vm_types.specs.{Limits.{top_level}, declared.region.Attr.{Attr}}
+use Rattle.std.proofs.{Common.{◌≡◌, ◌≢◌, ℕ, inl, inr, ◌⊎◌, ◌+◌, ◌<◌, ◌≤◌, true, false, Option, Some, None, get_or, refl, sym, ap, ◌∙◌, subst, arith}, lemmas.Bool.{cases_Bool}}
 use Rattle.std.specs.Prelude.{option_map}
-use Rattle.std.proofs.lemmas.Bool.{cases_Bool}
-use Rattle.vm_types.specs.declared.region.Attr.{Attr}
 use Rattle.frames.specs.declared.role.Role.TheVariants.{Free, Table, Private}
 use Rattle.sv39_walk.specs.Entry.{is_valid, frame_of}
-use Rattle.page_tables.specs.Change.{SetsEntry, KeepsFrames}
-use Rattle.page_tables.specs.Tree.{IsPage}
-use Rattle.residency.specs.Seats.{Seat, InFrame, InSlot, seat, is_private, is_swapped}
-use Rattle.residency.specs.Picture.{Picture, entry, view, view_of, own_in, bytes_in, IsOwned, count_in, page_in}
-use Rattle.residency.specs.Parts.{IsRootedBut, IsEntryFor, IsFit, IsFitBut, nowhere}
+use Rattle.page_tables.specs.{Change.{SetsEntry, KeepsFrames}, Tree.{IsPage}}
+use Rattle.residency.specs.{Seats.{Seat, InFrame, InSlot, seat, is_private, is_swapped}, Picture.{Picture, entry, view, view_of, own_in, bytes_in, IsOwned, count_in, page_in}, Parts.{IsRootedBut, IsEntryFor, IsFit, IsFitBut, nowhere}}
 use Rattle.residency.specs.Steps.{SameBeside, SetsPage}
-use Rattle.residency.proofs.Granting.{entry_for-same, granting_changed}
-use Rattle.residency.proofs.Moves.{behind_kept, owned_forth, owned_back, count_kept, page_kept}
-use Rattle.residency.proofs.Places.{places_same, dirty_changed}
-use Rattle.residency.proofs.Seats.{cases_seat, counted_filled, off-none}
-use Rattle.residency.proofs.Setting.{other_views, set_held}
-use Rattle.residency.proofs.Start.{seat-none}
-use Rattle.residency.proofs.TableSteps.{sets_page, rooted_set}
-use Rattle.residency.proofs.SeatForms.{seat_own}
+use Rattle.residency.proofs.{Granting.{entry_for-same, granting_changed}, Moves.{behind_kept, owned_forth, owned_back, count_kept, page_kept}, Places.{places_same, dirty_changed}, Seats.{cases_seat, counted_filled, off-none}}
+use Rattle.residency.proofs.{Setting.{other_views, set_held}, Start.{seat-none}, TableSteps.{sets_page, rooted_set}, SeatForms.{seat_own}}
 use Rattle.fault.proofs.Steps.{tables_same, tables_then, room_then}
 use Rattle.ranges.proofs.ClearedPages.{but_memory, but_then}
 use Rattle.lifecycle.specs.Shares.{lowered_entry, given_entry, Withdraws, RaisesSeat, SharesRow}

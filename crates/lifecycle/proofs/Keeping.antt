@@ -1,16 +1,10 @@
 -- What steps keep of the processes and of the files.
-use Rattle.std.proofs.Common.{◌≡◌, ℕ, inl, inr, Option, Some, None, false, refl, sym, ap, ◌∙◌, subst}
-use Rattle.vm_types.specs.declared.object.PageKey.{PageKey}
+use Rattle.std.proofs.{Common.{◌≡◌, ℕ, inl, inr, Option, Some, None, false, refl, sym, ap, ◌∙◌, subst}, lemmas.Bool.{false≢true}}
+use Rattle.vm_types.specs.{declared.object.PageKey.{PageKey}, declared.number.FrameNo.{FrameNo}}
 use Rattle.std.specs.Prelude.{is_some}
-use Rattle.std.proofs.lemmas.Bool.{false≢true}
-use Rattle.vm_types.specs.declared.number.FrameNo.{FrameNo}
-use Rattle.frames.specs.declared.role.Role.TheVariants.{Free, Private}
-use Rattle.frames.specs.FrameTable.{FrameTable, frame_count, role_of}
+use Rattle.frames.specs.{declared.role.Role.TheVariants.{Free, Private}, FrameTable.{FrameTable, frame_count, role_of}}
 use Rattle.page_tables.specs.Tree.{Points}
-use Rattle.residency.specs.Picture.{Picture, is_live, entry}
-use Rattle.residency.specs.Calls.{KeepsPages, Frees}
-use Rattle.residency.specs.Ages.{Same, GivesForTables}
-use Rattle.residency.specs.Shows.{KeepsFiles}
+use Rattle.residency.specs.{Picture.{Picture, is_live, entry}, Calls.{KeepsPages, Frees}, Ages.{Same, GivesForTables}, Shows.{KeepsFiles}}
 use Rattle.lifecycle.specs.Changes.{KeepsProcesses, TakesNoCopy}
 
 -- whether a process lives

@@ -1,6 +1,5 @@
 pub mod Copies
 pub mod Linked
-pub mod Runs
 pub mod Weaker
 pub mod Raised
 pub mod Given

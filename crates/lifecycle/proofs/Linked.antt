@@ -1,22 +1,15 @@
 -- How the steps of the first pass follow one another.
-use Rattle.vm_types.specs.Limits.{top_level}
-use Rattle.std.proofs.Common.{◌≡◌, ℕ, suc, inl, inr, ◌<◌, ◌≤◌, ◌/◌, List, Option, Some, None, Result, Ok, Err, OnErr, refl, sym, ap, ◌∙◌, arith}
+use Rattle.vm_types.specs.{Limits.{top_level}, declared.region.Attr.{Attr}, View.{View}}
+use Rattle.std.proofs.{Common.{◌≡◌, ℕ, suc, inl, inr, ◌<◌, ◌≤◌, ◌/◌, List, Option, Some, None, Result, Ok, Err, OnErr, refl, sym, ap, ◌∙◌, arith}, lemmas.Bool.{cases_lt}}
 use Rattle.std.specs.Prelude.{IsSome, option_map}
-use Rattle.std.proofs.lemmas.Bool.{cases_lt}
-use Rattle.vm_types.specs.declared.region.Attr.{Attr}
-use Rattle.vm_types.specs.View.{View}
-use Rattle.residency.specs.Seats.{Seat, seat}
-use Rattle.residency.specs.Picture.{Picture, entry, view, view_of, own_in, bytes_in}
-use Rattle.residency.specs.Parts.{IsGranting}
-use Rattle.residency.specs.Calls.{KeepsPages}
-use Rattle.residency.specs.Ages.{GivesForTables}
+use Rattle.residency.specs.{Seats.{Seat, seat}, Picture.{Picture, entry, view, view_of, own_in, bytes_in}, Parts.{IsGranting}, Calls.{KeepsPages}, Ages.{GivesForTables}, Ways.{IsWhole}}
 use Rattle.residency.proofs.Start.{seat-none}
+use Rattle.page_tables.specs.Tree.{IsPage}
 use Rattle.page_tables.proofs.Ends.{way_forth}
 use Rattle.fault.specs.Changes.{IsTableOnWay, KeepsTables, LinksTables}
-use Rattle.residency.specs.Ways.{IsWhole}
 use Rattle.ranges.proofs.Gaps.{missing_same}
 use Rattle.lifecycle.specs.Steps.{HasCopy, HasTablesForCopies, HasTablesFrom, LacksTableForCopy, LinksCopies}
-use Rattle.lifecycle.proofs.Copies.{copied_mapped, unmapped_none}
+use Rattle.lifecycle.proofs.Copies.{copied_mapped}
 
 pub on_err : {T E : Type 0} (result : Result T E) (X : Type 0) → X → OnErr result X
 on_err (Ok v) X x = tt
@@ -64,10 +57,6 @@ whole_kept old new pid page root tables whole r e =
     let less = tables pid r page was in
     omega (arith, none, less)
 
--- a row without pages wants no tables
-pub no_row : {mode : ℕ} (c : Picture mode) (parent child low high : ℕ) → high ≤ low → HasTablesFrom c parent child low high
-no_row c parent child low high over page from below copy = let none : ⊥ = omega arith in absurd none
-
 -- what the pages of a row want is there still
 pub still_there : {mode : ℕ} (old new : Picture mode) (parent child low high : ℕ) → IsGranting new → KeepsPages old new → KeepsTables old new
     → HasTablesFrom old parent child low high → HasTablesFrom new parent child low high
@@ -86,15 +75,12 @@ pub lacks_before : {mode : ℕ} (old new : Picture mode) (parent child : ℕ) �
 lacks_before old new parent child granting keeps tables lacks =
     (lacks.0, copy_kept old new parent lacks.0 granting keeps lacks.1, λ whole. lacks.2 (whole_kept old new child lacks.0 keeps.root tables whole))
 
--- pages that aren't mapped want no tables
-pub unmapped_wants : {mode : ℕ} (c : Picture mode) (parent child low high : ℕ) → IsGranting c → ((page : ℕ) → low ≤ page → page < high → c.at parent page ≡ None) → HasTablesFrom c parent child low high
-unmapped_wants c parent child low high granting none page from below copy = absurd (copy.1 (unmapped_none c parent page granting copy.0 (none page from below)))
-
--- nor do those past the last mapped one
-pub all_rows : {mode : ℕ} (c : Picture mode) (parent child end : ℕ) → IsGranting c → ((page : ℕ) → end ≤ page → c.at parent page ≡ None) → HasTablesFrom c parent child 0 end → HasTablesForCopies c parent child
-all_rows c parent child end granting none has page copy = elim (cases_lt page end) [
+-- where those past an end have no entries, what the pages before it want is all
+pub all_rows : {mode : ℕ} (c : Picture mode) (parent child end : ℕ) → ((page : ℕ) → IsPage (top_level mode) page → end ≤ page → entry c parent page ≡ 0) → HasTablesFrom c parent child 0 end
+    → HasTablesForCopies c parent child
+all_rows c parent child end none has page copy = elim (cases_lt page end) [
   | inl below ↦ has page (omega arith) below copy
-  | inr past ↦ absurd (copy.1 (unmapped_none c parent page granting copy.0 (none page past)))
+  | inr past ↦ absurd (copy.1 (ap seat (none page copy.0 past) ∙ seat-none))
 ]
 
 -- pages without entries want no tables

@@ -1,25 +1,15 @@
 -- The entry of a process's own page is set to a weaker one.
 use Rattle.vm_types.specs.Limits.{top_level}
-use Rattle.std.proofs.Common.{◌≡◌, ◌≢◌, ℕ, true, Some, None, get_or, sym, ap, ◌∙◌}
-use Rattle.std.proofs.lemmas.Bool.{false≢true}
+use Rattle.std.proofs.{Common.{◌≡◌, ◌≢◌, ℕ, true, Some, None, get_or, sym, ap, ◌∙◌}, lemmas.Bool.{false≢true}}
 use Rattle.frames.specs.declared.role.Role.TheVariants.{Free}
 use Rattle.sv39_walk.specs.Entry.{is_valid, frame_of}
-use Rattle.page_tables.specs.Change.{SetsEntry}
-use Rattle.page_tables.specs.Tree.{IsPage}
+use Rattle.page_tables.specs.{Change.{SetsEntry}, Tree.{IsPage}}
 use Rattle.page_tables.proofs.Places.{row_stays}
-use Rattle.residency.specs.Seats.{InFrame, seat, is_private}
-use Rattle.residency.specs.Picture.{Picture, entry}
-use Rattle.residency.specs.Parts.{IsRootedBut, IsEntryFor, IsFit, nowhere}
-use Rattle.residency.specs.Steps.{SameBeside, SetsPage}
-use Rattle.residency.proofs.Granting.{entry_for-same}
-use Rattle.residency.proofs.Moves.{behind_kept}
-use Rattle.residency.proofs.Setting.{fit_set, set_views, set_held}
-use Rattle.residency.proofs.TableSteps.{sets_page, rooted_set}
-use Rattle.residency.proofs.SeatForms.{seat_own}
+use Rattle.residency.specs.{Seats.{InFrame, seat, is_private}, Picture.{Picture, entry}, Parts.{IsRootedBut, IsEntryFor, IsFit, nowhere}, Steps.{SameBeside, SetsPage}}
+use Rattle.residency.proofs.{Granting.{entry_for-same}, Moves.{behind_kept}, Setting.{fit_set, set_views, set_held}, TableSteps.{sets_page, rooted_set}, SeatForms.{seat_own}}
 use Rattle.fault.proofs.Steps.{tables_same}
 use Rattle.lifecycle.specs.Shares.{IsTableFor, Weakens, Withdraws}
-use Rattle.lifecycle.proofs.Given.{set_counts}
-use Rattle.lifecycle.proofs.Weaker.{weaker_for, weaker_seat, weaker_lowered, leaf_own}
+use Rattle.lifecycle.proofs.{Given.{set_counts}, Weaker.{weaker_for, weaker_seat, weaker_lowered, leaf_own}}
 
 -- an entry was set
 pub places_set : {mode : ℕ} (old new : Picture mode) (m r page number : ℕ) → IsRootedBut old m → ((pid : ℕ) → new.root pid ≡ old.root pid)

@@ -1,12 +1,9 @@
 -- Places of a table that are passed over.
 use Rattle.vm_types.specs.Limits.{top_level}
-use Rattle.std.proofs.Common.{◌≡◌, ℕ, true, Some, ◌+◌, ◌*◌, ◌/◌, ◌%◌, ◌<◌, ◌≤◌, sym, ◌∙◌, subst, arith}
-use Rattle.page_tables.specs.Entry.{IsPageEntry}
-use Rattle.page_tables.specs.Places.{IsTableOf}
-use Rattle.page_tables.specs.Tree.{page_entry}
+use Rattle.std.proofs.Common.{◌≡◌, ℕ, true, ◌+◌, ◌*◌, ◌/◌, ◌%◌, ◌<◌, ◌≤◌, sym, ◌∙◌, subst, arith}
+use Rattle.page_tables.specs.{Entry.{IsPageEntry}, Places.{IsTableOf}, Tree.{page_entry}}
 use Rattle.page_tables.proofs.Ends.{page_is_entry}
-use Rattle.residency.specs.Picture.{Picture, entry, is_live}
-use Rattle.residency.specs.Parts.{IsRootedBut}
+use Rattle.residency.specs.{Picture.{Picture, entry, is_live}, Parts.{IsRootedBut}}
 use Rattle.residency.proofs.Entries.{entry-of}
 use Rattle.ranges.proofs.BetweenEntries.{place_at, row_at}
 use Rattle.lifecycle.specs.Shares.{IsTableFor}
@@ -14,16 +11,6 @@ use Rattle.lifecycle.proofs.Live.{live_root}
 
 pub same_table : (start page stop : ℕ) → start ≤ page → page < stop → stop ≤ (start / 512 + 1) * 512 → page / 512 ≡ start / 512
 same_table start page stop from below end = omega arith
-
--- their pages have no entries
-pub none_passed : {mode : ℕ} (c : Picture mode) (pid r start stop n low high : ℕ) → c.root pid ≡ Some r → IsTableOf c.frames (top_level mode) r (start / 512) n
-    → stop ≤ (start / 512 + 1) * 512 → start ≤ low → high ≤ stop
-    → ((root p : ℕ) → IsTableOf c.frames (top_level mode) root (p / 512) n → low ≤ p → p < high → page_entry c.frames (top_level mode) root p ≡ 0)
-    → (p : ℕ) → low ≤ p → p < high → entry c pid p ≡ 0
-none_passed {mode = mode} c pid r start stop n low high root place one_table least most passed p from below =
-    let T : ℕ → Type 0 = λ x. IsTableOf c.frames (top_level mode) r x n in
-    let row = same_table start p stop (omega (arith, least, from)) (omega (arith, below, most)) one_table in
-    entry-of c pid r p root ∙ passed r p (subst T (sym row) place) from below
 
 -- the table of a row is that of each of its pages
 pub in_row : {mode : ℕ} (c : Picture mode) (pid n first index : ℕ) → first % 512 ≡ 0 → index < 512 → IsTableFor c pid (first / 512) n → IsTableFor c pid ((first + index) / 512) n

@@ -1,35 +1,17 @@
 -- One more shares a frame or a slot, for which no entry names it yet: no process sees that.
-use Rattle.vm_types.specs.Limits.{top_level}
-use Rattle.std.proofs.Common.{◌≡◌, ◌≢◌, ℕ, inl, inr, ◌<◌, ◌≤◌, true, [], Option, Some, get_or, refl, sym, ap, ◌∙◌, subst, arith}
-use Rattle.std.proofs.lemmas.Bool.{cases_eq, false≢true}
-use Rattle.vm_types.specs.declared.object.PageKey.TheVariants.{File, Object}
-use Rattle.vm_types.specs.declared.object.PageKey.{PageKey}
-use Rattle.vm_types.specs.declared.region.Attr.{Attr}
-use Rattle.vm_types.specs.declared.region.Backing.{Backing}
+use Rattle.vm_types.specs.{Limits.{top_level}, declared.object.PageKey.TheVariants.{File, Object}, declared.object.PageKey.{PageKey}, declared.region.Attr.{Attr}, declared.region.Backing.{Backing}}
+use Rattle.std.proofs.{Common.{◌≡◌, ◌≢◌, ℕ, inl, inr, ◌<◌, ◌≤◌, true, [], Option, Some, get_or, refl, sym, ap, ◌∙◌, subst, arith}, lemmas.Bool.{cases_eq, false≢true}}
 use Rattle.vm_types.specs.declared.region.Backing.TheVariants as Backings
-use Rattle.frames.specs.declared.role.Role.TheVariants.{Free, Table, Private}
-use Rattle.frames.specs.FrameTable.{FrameTable, bytes_of, role_of, count_of, Shares}
+use Rattle.frames.specs.{declared.role.Role.TheVariants.{Free, Table, Private}, FrameTable.{FrameTable, bytes_of, role_of, count_of, Shares}}
 use Rattle.swap.specs.Slots.{SlotTable, IsInUse}
 use Rattle.swap.specs.Slots as Slots
 use Rattle.sv39_walk.specs.Entry.{is_valid, can_write, frame_of}
-use Rattle.page_tables.proofs.Data.{KeepsTrees, data_shared}
-use Rattle.page_tables.proofs.Places.{row_same}
-use Rattle.page_cache.specs.declared.place.Place.{Place}
-use Rattle.page_cache.specs.declared.place.Place.TheVariants.{Home, Frame, Slot}
-use Rattle.residency.specs.Seats.{Seat, InFrame, InSlot, seat, is_private}
-use Rattle.residency.specs.Picture.{Picture, entry, held, bytes_at, bytes_in, IsOwned, count_in, page_in}
-use Rattle.residency.specs.Parts.{IsEntryFor, Nothing, Resident, Away, IsBehind, IsGranting, IsFit, IsFitBut, nowhere}
-use Rattle.residency.specs.Steps.{SameBeside}
-use Rattle.residency.proofs.Entries.{entries_kept}
-use Rattle.residency.proofs.Granting.{KeepsBehind, past_end-same, user_map-same, readable-same, granting_same}
-use Rattle.residency.proofs.Moves.{behind_kept}
-use Rattle.residency.proofs.Places.{places_same, dirty_same}
-use Rattle.residency.proofs.Puts.{SameButSlots}
-use Rattle.residency.proofs.Putting.{with_slots}
-use Rattle.residency.proofs.Rooted.{rooted_same, rooted_frames}
-use Rattle.residency.proofs.Seats.{counted_shared}
-use Rattle.residency.proofs.Setting.{each_view, view_seated, held_same}
-use Rattle.residency.proofs.SeatForms.{seat_own}
+use Rattle.page_tables.proofs.{Data.{KeepsTrees, data_shared}, Places.{row_same}}
+use Rattle.page_cache.specs.{declared.place.Place.{Place}, declared.place.Place.TheVariants.{Home, Frame, Slot}}
+use Rattle.residency.specs.{Seats.{Seat, InFrame, InSlot, seat, is_private}, Picture.{Picture, entry, held, bytes_at, bytes_in, IsOwned, count_in, page_in}}
+use Rattle.residency.specs.{Parts.{IsEntryFor, Nothing, Resident, Away, IsBehind, IsGranting, IsFit, IsFitBut, nowhere}, Steps.{SameBeside}}
+use Rattle.residency.proofs.{Entries.{entries_kept}, Granting.{KeepsBehind, past_end-same, user_map-same, readable-same, granting_same}, Moves.{behind_kept}, Places.{places_same, dirty_same}, Puts.{SameButSlots}, Putting.{with_slots}}
+use Rattle.residency.proofs.{Rooted.{rooted_same, rooted_frames}, Seats.{counted_shared}, Setting.{each_view, view_seated, held_same}, SeatForms.{seat_own}}
 use Rattle.fault.proofs.Steps.{same_with, tables_same}
 use Rattle.lifecycle.specs.Shares.{IsUnwritten, RaisesSeat}
 

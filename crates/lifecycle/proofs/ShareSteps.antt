@@ -4,13 +4,10 @@ use Rattle.vm_types.specs.Limits.{top_level}
 use Rattle.std.proofs.Common.{◌≡◌, ◌≢◌, ℕ, inr, ◌<◌, ◌≤◌, None, refl, sym, ap, ◌∙◌, arith}
 use Rattle.std.specs.Prelude.{is_some}
 use Rattle.page_tables.specs.Tree.{IsPage}
-use Rattle.residency.specs.declared.kernel.Core.{Core}
-use Rattle.residency.specs.Seats.{seat}
-use Rattle.residency.specs.Picture.{Picture, picture_of, entry}
-use Rattle.residency.specs.Parts.{IsFit}
+use Rattle.residency.specs.{declared.kernel.Core.{Core}, Seats.{seat}, Picture.{Picture, picture_of, entry}, Parts.{IsFit}}
+use Rattle.residency.proofs.Start.{seat-none}
 use Rattle.ranges.proofs.ClearedPages.{rest-refl, rest_then}
 use Rattle.lifecycle.specs.ChildShares.{AwaitsShares, GivesShares, IsReadyForShares}
-use Rattle.lifecycle.proofs.Copies.{unmapped_none}
 use Rattle.lifecycle.proofs.SharedRows.{shares_none, shares_then, seats_kept, tables_shared}
 
 -- fewer pages are awaited too
@@ -30,11 +27,10 @@ module _ {M : Type 0} {m : Levels.Ghosts M} {D E : Type 0} where
     keeps = record { fit = awaits.fit; places = λ q row n at. at; rest = rest-refl core; refused = refl };
   }
 
-  -- nor where no page is mapped
-  pub gives_unmapped : (core : Core D E M m) (parent child low high : ℕ) → AwaitsShares (picture_of core) parent child low high
-      → ((p : ℕ) → low ≤ p → p < high → (picture_of core).at parent p ≡ None) → GivesShares core core parent child low high
-  gives_unmapped core parent child low high awaits none =
-      gives_none core parent child low high awaits (λ p h least under. unmapped_none (picture_of core) parent p awaits.fit.granting h (none p least under))
+  -- nor where it has no entry
+  pub gives_bare : (core : Core D E M m) (parent child low high : ℕ) → AwaitsShares (picture_of core) parent child low high
+      → ((p : ℕ) → IsPage (top_level m.mode) p → low ≤ p → p < high → entry (picture_of core) parent p ≡ 0) → GivesShares core core parent child low high
+  gives_bare core parent child low high awaits none = gives_none core parent child low high awaits (λ p h least under. ap seat (none p h least under) ∙ seat-none)
 
   -- nor of no page at all
   pub gives_no_row : (core : Core D E M m) (parent child low high page : ℕ) → AwaitsShares (picture_of core) parent child low high → page ≡ low → low ≤ high → GivesShares core core parent child low page

@@ -4,25 +4,19 @@ use Rattle.vm_types.specs.Limits.{top_level}
 use Rattle.vm_types.proofs.Modes.{user_pages_fit}
 use Rattle.std.proofs.Common.{◌≡◌, ℕ, inl, ◌/◌, ◌%◌, ◌+◌, ◌<◌, Some, refl, sym, ap, ◌∙◌, arith}
 use Rattle.frames.specs.FrameTable.{FrameTable}
-use Rattle.page_tables.specs.Change.{SetsEntry}
-use Rattle.page_tables.specs.Entry.{number_of}
-use Rattle.page_tables.specs.Places.{IsTableOf}
-use Rattle.page_tables.specs.Tree.{IsPage, IsForest, IsRoot, IsTable}
-use Rattle.page_tables.specs.declared.forms.Entry.{Entry}
-use Rattle.residency.specs.declared.kernel.Core.{Core}
-use Rattle.residency.specs.Seats.{Seat, seat}
-use Rattle.residency.specs.Picture.{Picture, picture_of, entry}
-use Rattle.residency.specs.Parts.{IsFit, IsFitBut}
+use Rattle.page_tables.specs.{Change.{SetsEntry}, Entry.{number_of}, Places.{IsTableOf}, Tree.{IsPage, IsForest, IsRoot, IsTable}, declared.forms.Entry.{Entry}}
+use Rattle.residency.specs.{declared.kernel.Core.{Core}, Seats.{Seat, seat}, Picture.{Picture, picture_of, entry}, Parts.{IsFit, IsFitBut}}
 use Rattle.residency.proofs.Start.{seat-none}
-use Rattle.ranges.proofs.BetweenEntries.{place_at}
-use Rattle.ranges.proofs.ClearedPages.{same_beside}
-use Rattle.lifecycle.specs.Shares.{IsTableFor, MayShare, RaisesSeat, SharesRow}
-use Rattle.lifecycle.specs.ChildShares.{AddsShare, AwaitsShares, HoldsEntries, WithdrawsWrite}
-use Rattle.lifecycle.proofs.Given.{fit_shared, shares_one}
-use Rattle.lifecycle.proofs.Live.{live_root, some_of}
-use Rattle.lifecycle.proofs.Lowered.{places_set}
-use Rattle.lifecycle.proofs.Passed.{in_row}
-use Rattle.lifecycle.proofs.Sharers.{may_share, unwritten_all}
+use Rattle.ranges.proofs.{BetweenEntries.{place_at}, ClearedPages.{same_beside}}
+use Rattle.lifecycle.specs.{Shares.{IsTableFor, MayShare, RaisesSeat, SharesRow}, ChildShares.{AddsShare, AwaitsShares, HoldsEntries, WithdrawsWrite}}
+use Rattle.lifecycle.proofs.{Given.{fit_shared, shares_one}, Live.{live_root, some_of}, Lowered.{places_set}, Passed.{in_row}, Sharers.{may_share, unwritten_all}}
+
+-- what the child's share of one page comes to
+module _ {mode : ℕ} where
+  pub record IsPageShared (old new : Picture mode) (parent child page : ℕ) : Type 0 where
+    pub fit : IsFit new
+    pub shares : SharesRow old new parent child page (page + 1)
+    pub places : (q row n : ℕ) → IsTableFor old q row n → IsTableFor new q row n
 
 module _ {M : Type 0} {m : Levels.Ghosts M} {D E : Type 0} (was low : Core D E M m) (parent child first index to : ℕ) (after : Entry) (below : index < 512)
     (awaits : AwaitsShares (picture_of was) parent child (first + index) (first + index + 1)) (holds : HoldsEntries (picture_of was) child first (index + 1) to)
@@ -71,14 +65,14 @@ module _ {M : Type 0} {m : Levels.Ghosts M} {D E : Type 0} (was low : Core D E M
     place_mid : IsTableOf mid.frames (top_level m.mode) lives.0 ((first + index) / 512) to
     place_mid = raised.rows child lives.0 ((first + index) / 512) to root_low (withdraws.places child ((first + index) / 512) to place lives.0 root_low)
 
-    pub forest_raised : IsForest mid.frames
-    forest_raised = fit.rooted.forest
-
-    pub table_raised : IsTable mid.frames to
-    table_raised = place_mid.table
-
-    pub place_raised : (r p : ℕ) × IsRoot (top_level m.mode) mid.frames r × IsPage (top_level m.mode) p × IsTableOf mid.frames (top_level m.mode) r (p / 512) to × (p % 512 ≡ index)
-    place_raised = (lives.0, first + index, fit.rooted.roots child lives.0 root, h, place_mid, place_at first index holds.begins below)
+    -- its table is one still, in which the page stands
+    pub placed_raised : IsForest mid.frames × IsTable mid.frames to
+        × ((r : ℕ) × (p : ℕ) × IsRoot (top_level m.mode) mid.frames r × IsPage (top_level m.mode) p × IsTableOf mid.frames (top_level m.mode) r (p / 512) to × (p % 512 ≡ index))
+    placed_raised = (
+      fit.rooted.forest,
+      place_mid.table,
+      (lives.0, first + index, fit.rooted.roots child lives.0 root, h, place_mid, place_at first index holds.begins below),
+    )
 
     -- the child's entry is set
     module _ (t : FrameTable) (set : (r p : ℕ) → IsRoot (top_level m.mode) mid.frames r → IsPage (top_level m.mode) p → IsTableOf mid.frames (top_level m.mode) r (p / 512) to → p % 512 ≡ index
@@ -89,18 +83,16 @@ module _ {M : Type 0} {m : Levels.Ghosts M} {D E : Type 0} (was low : Core D E M
       sets : SetsEntry mid.frames t (top_level m.mode) lives.0 (first + index) (number_of after)
       sets = set lives.0 (first + index) (fit.rooted.roots child lives.0 root) h place_mid (place_at first index holds.begins below)
 
-      pub fit_page : IsFit new
-      fit_page = fit_shared (picture_of was) (picture_of low) (picture_of mid) new parent child lives.0 (first + index) (number_of after) shared.0 fit h awaits.apart withdraws.withdrawn shared.1 raised bare
-          (awaits.same (first + index)) root sets (same_beside (picture_of mid) t)
-
-      pub shares_page : SharesRow (picture_of was) new parent child (first + index) (first + index + 1)
-      shares_page = shares_one (picture_of was) (picture_of low) (picture_of mid) new parent child lives.0 (first + index) (number_of after) shared.0 fit h awaits.apart withdraws.withdrawn shared.1 raised bare
-          (awaits.same (first + index)) root sets (same_beside (picture_of mid) t)
-
       raised_place : (q row n : ℕ) → IsTableFor (picture_of low) q row n → IsTableFor (picture_of mid) q row n
       raised_place q row n at r is = (
           let before : (picture_of low).root q ≡ Some r = sym (raised.beside.root q) ∙ is in
           raised.rows q r row n before (at r before))
 
-      pub places_page : (q row n : ℕ) → IsTableFor (picture_of was) q row n → IsTableFor new q row n
-      places_page q row n at = places_set (picture_of mid) new 0 lives.0 (first + index) (number_of after) fit.rooted (λ q. refl) sets q row n (raised_place q row n (withdraws.places q row n at))
+      pub page_shared : IsPageShared (picture_of was) new parent child (first + index)
+      page_shared = record {
+        fit = fit_shared (picture_of was) (picture_of low) (picture_of mid) new parent child lives.0 (first + index) (number_of after) shared.0 fit h awaits.apart withdraws.withdrawn shared.1 raised bare
+            (awaits.same (first + index)) root sets (same_beside (picture_of mid) t);
+        shares = shares_one (picture_of was) (picture_of low) (picture_of mid) new parent child lives.0 (first + index) (number_of after) shared.0 fit h awaits.apart withdraws.withdrawn shared.1 raised bare
+            (awaits.same (first + index)) root sets (same_beside (picture_of mid) t);
+        places = λ q row n at. places_set (picture_of mid) new 0 lives.0 (first + index) (number_of after) fit.rooted (λ q. refl) sets q row n (raised_place q row n (withdraws.places q row n at));
+      }

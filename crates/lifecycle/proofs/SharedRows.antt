@@ -1,24 +1,15 @@
 -- Rows of pages given to the child, one after the other.
 use Rattle.vm_types.specs.Limits.{top_level}
-use Rattle.std.proofs.Common.{◌≡◌, ◌≢◌, ℕ, inl, inr, ◌⊎◌, ◌<◌, ◌/◌, ◌≤◌, Option, Some, None, refl, sym, ap, ◌∙◌, arith}
+use Rattle.std.proofs.{Common.{◌≡◌, ◌≢◌, ℕ, inl, inr, ◌⊎◌, ◌<◌, ◌/◌, ◌≤◌, Option, Some, None, refl, sym, ap, ◌∙◌, arith}, lemmas.Bool.{cases_lt}}
 use Rattle.std.specs.Prelude.{option_map}
-use Rattle.std.proofs.lemmas.Bool.{cases_lt}
 use Rattle.page_tables.specs.Tree.{IsPage}
 use Rattle.swap.specs.Slots.{IsInUse}
-use Rattle.residency.specs.Seats.{Seat, InSlot, seat}
-use Rattle.residency.specs.Picture.{Picture, entry, bytes_in}
-use Rattle.residency.specs.Parts.{IsFit}
+use Rattle.residency.specs.{Seats.{InSlot, seat}, Picture.{Picture, entry, bytes_in}, Parts.{IsFit}, Ways.{IsWhole}}
 use Rattle.residency.proofs.Start.{seat-none}
-use Rattle.fault.proofs.Forms.{none_common, none_here}
-use Rattle.fault.proofs.Steps.{tables_same, tables_then, room_then}
-use Rattle.residency.specs.Ways.{IsWhole}
-use Rattle.ranges.proofs.ClearedPages.{but_then}
-use Rattle.ranges.proofs.Returning.{same_but-refl}
-use Rattle.lifecycle.specs.Steps.{HasTablesForCopies}
-use Rattle.lifecycle.specs.Shares.{lowered_entry, given_entry, SharesRow}
-use Rattle.lifecycle.proofs.Given.{view_alike}
-use Rattle.lifecycle.proofs.Linked.{whole_kept, row_whole}
-use Rattle.lifecycle.proofs.Weaker.{seat_lowered}
+use Rattle.fault.proofs.{Forms.{none_common, none_here}, Steps.{tables_same, tables_then, room_then}}
+use Rattle.ranges.proofs.{ClearedPages.{but_then, one_page}, Returning.{same_but-refl}}
+use Rattle.lifecycle.specs.{Steps.{HasTablesForCopies}, Shares.{lowered_entry, given_entry, SharesRow}}
+use Rattle.lifecycle.proofs.{Given.{view_alike}, Linked.{whole_kept, row_whole}, Weaker.{seat_lowered}}
 
 lowered_none : (e : ℕ) → seat e ≡ None → e ≡ lowered_entry e
 lowered_none e none = let common = none_common e none in rw common refl
@@ -47,9 +38,6 @@ shares_none c parent child low high same bare none = record {
   pointers = λ n i m p. p;
   bytes = λ k used. refl;
 }
-
-one_page : {mode : ℕ} (c : Picture mode) (pid p q : ℕ) (y : Seat) → IsFit c → IsPage (top_level mode) p → IsPage (top_level mode) q → seat (entry c pid p) ≡ Some y → seat (entry c pid q) ≡ Some y → p ≡ q
-one_page c pid p q y fit hp hq here there = sym (fit.counted.1.noted pid p y hp here) ∙ fit.counted.1.noted pid q y hq there
 
 -- one row after the other
 module _ {mode : ℕ} (a b c : Picture mode) (parent child low mid high : ℕ) (fit : IsFit a) (apart : parent ≢ child) (le : low ≤ mid) (le' : mid ≤ high)

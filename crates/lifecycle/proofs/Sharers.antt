@@ -1,28 +1,13 @@
 -- Who shares a seat: fewer than there are processes, where one has no entry, and nobody who may store to it.
-use Rattle.vm_types.specs.Limits.{top_level}
-use Rattle.std.proofs.Common.{◌≡◌, ℕ, zero, suc, inl, inr, ◌⊎◌, ◌+◌, ◌<◌, ◌≤◌, Bool, true, false, Option, Some, None, refl, sym, ap, ◌∙◌, subst, arith}
-use Rattle.std.proofs.lemmas.Bool.{cases_eq, cases_Bool, false≢true}
-use Rattle.vm_types.specs.Counting.{count_below}
-use Rattle.vm_types.specs.declared.region.Attr.{Attr}
+use Rattle.vm_types.specs.{Limits.{top_level}, Counting.{count_below}, declared.region.Attr.{Attr}}
+use Rattle.std.proofs.{Common.{◌≡◌, ℕ, zero, suc, inl, inr, ◌⊎◌, ◌+◌, ◌<◌, ◌≤◌, Bool, true, false, Option, Some, None, refl, sym, ap, ◌∙◌, subst, arith}, lemmas.Bool.{cases_eq, cases_Bool, false≢true}}
 use Rattle.sv39_walk.specs.Entry.{is_valid, can_write, frame_of}
 use Rattle.page_tables.specs.Tree.{IsPage}
-use Rattle.residency.specs.Seats.{Seat, InFrame, seat, is_seat, holders_at}
-use Rattle.residency.specs.Picture.{Picture, entry, count_in, page_in}
-use Rattle.residency.specs.Parts.{IsEntryFor, Nothing, Resident, Away, IsFit, nowhere}
-use Rattle.residency.proofs.Counts.{count-sole}
-use Rattle.residency.proofs.Evicted.{seat_number}
-use Rattle.residency.proofs.Seats.{off-none, seat-same}
-use Rattle.residency.proofs.Start.{entry-dead, seat-none}
-use Rattle.residency.proofs.SeatForms.{seat_own}
-use Rattle.lifecycle.proofs.Given.{some_seat}
+use Rattle.residency.specs.{Seats.{Seat, InFrame, seat, is_seat, holders_at}, Picture.{Picture, entry, count_in, page_in}, Parts.{IsEntryFor, Nothing, Resident, Away, IsFit, nowhere}}
+use Rattle.residency.proofs.{Counts.{count-sole}, Evicted.{seat_number}, Seats.{off-none}, Start.{entry-dead, seat-none}, SeatForms.{seat_own}}
+use Rattle.ranges.proofs.Sharing.{sits, sits_none}
+use Rattle.lifecycle.proofs.{Given.{some_seat}, Weaker.{leaf_own}}
 use Rattle.lifecycle.specs.Shares.{IsUnwritten}
-use Rattle.lifecycle.proofs.Weaker.{leaf_own}
-
-sits : (o : Option Seat) (y : Seat) → o ≡ Some y → is_seat o y ≡ true
-sits o y e = ap (λ z. is_seat z y) e ∙ seat-same y
-
-sits_none : (o : Option Seat) (y : Seat) → o ≡ None → is_seat o y ≡ false
-sits_none o y e = ap (λ z. is_seat z y) e
 
 step_most : (f : ℕ → Bool) (n : ℕ) → count_below f (suc n) ≤ count_below f n + 1
 unfolding count_below

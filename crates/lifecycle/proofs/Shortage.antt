@@ -1,20 +1,10 @@
 -- Why there was no copy of a process, told by the processes before the call.
-use Rattle.std.proofs.Common.{◌≡◌, ◌≢◌, ℕ, zero, suc, inl, inr, ◌+◌, ◌*◌, ◌/◌, ◌<◌, ◌^◌, Bool, true, false, if◌then◌else◌, Option, Some, None, is_some, List, refl, sym, ap, ◌∙◌, subst, arith}
-use Rattle.std.proofs.Math.Path.{fun_ext}
-use Rattle.std.proofs.lemmas.Bool.{cases_eq}
-use Rattle.vm_types.specs.Capacity.{used_rows, tables_below, tables_of, has_own, object_page_limit}
-use Rattle.vm_types.specs.Limits.{top_level, table_entries, user_end, object_limit}
-use Rattle.vm_types.specs.declared.object.PageKey.TheVariants.{File, Object}
-use Rattle.vm_types.specs.Counting.{any_below, count_below, sum_below}
-use Rattle.vm_types.specs.View.{View}
-use Rattle.vm_types.specs.declared.region.Attr.{Attr}
-use Rattle.vm_types.specs.declared.refusal.Stall.{Stall}
-use Rattle.vm_types.specs.declared.refusal.Stall.TheVariants.{NoFrames, NoSwap, SwapDevice, StoreDevice}
+use Rattle.std.proofs.{Common.{◌≡◌, ◌≢◌, ℕ, zero, suc, inl, inr, ◌+◌, ◌*◌, ◌/◌, ◌<◌, ◌^◌, Bool, true, false, if◌then◌else◌, Option, Some, None, is_some, List, refl, sym, ap, ◌∙◌, subst, arith}, Math.Path.{fun_ext}, lemmas.Bool.{cases_eq}}
+use Rattle.vm_types.specs.{Capacity.{used_rows, tables_below, tables_of, has_own, object_page_limit}, Limits.{top_level, table_entries, user_end, object_limit}, declared.object.PageKey.TheVariants.{File, Object}}
+use Rattle.vm_types.specs.{Counting.{any_below, count_below, sum_below}, View.{View}, declared.region.Attr.{Attr}, declared.refusal.Stall.{Stall}, declared.refusal.Stall.TheVariants.{NoFrames, NoSwap, SwapDevice, StoreDevice}}
 use Rattle.vm_types.specs.declared.object.PageKey.{PageKey}
-use Rattle.residency.specs.Picture.{Picture, is_live, entry, view, view_of, own_in}
-use Rattle.residency.specs.Capacity.{IsShort, tables_over, copies_over, touched_file, stored_object}
-use Rattle.residency.proofs.Counts.{count-same}
-use Rattle.residency.proofs.Tables.{sum-below}
+use Rattle.residency.specs.{Picture.{Picture, is_live, entry, view, view_of, own_in}, Capacity.{IsShort, tables_over, copies_over, touched_file, stored_object}}
+use Rattle.residency.proofs.{Counts.{count-same}, Tables.{sum-below}}
 use Rattle.fault.specs.Changes.{KeepsRoom}
 use Rattle.lifecycle.specs.Changes.{KeepsProcesses, IsShortToFork}
 

@@ -1,26 +1,14 @@
 -- A fork that stalls: what it took of memory is given back.
-use Rattle.vm_types.specs.Limits.{top_level, user_end}
-use Rattle.std.proofs.Common.{◌≡◌, ◌≢◌, ℕ, suc, inl, inr, ◌⊎◌, ◌+◌, Option, Some, None, refl, sym, ap, ◌∙◌, subst, arith}
-use Rattle.std.proofs.lemmas.Bool.{cases_eq}
-use Rattle.vm_types.specs.declared.object.PageKey.{PageKey}
-use Rattle.vm_types.specs.declared.object.PageKey.TheVariants.{Object}
-use Rattle.vm_types.specs.declared.refusal.Stall.{Stall}
-use Rattle.frames.specs.declared.role.Role.{Role}
-use Rattle.frames.specs.declared.role.Role.TheVariants.{Free, Zero, Table, Private, Cache}
-use Rattle.frames.specs.FrameTable.{role_of, count_of, IsCountFor, IsFull, IsSound}
+use Rattle.vm_types.specs.{Limits.{top_level, user_end}, declared.object.PageKey.{PageKey}, declared.object.PageKey.TheVariants.{Object}, declared.refusal.Stall.{Stall}}
+use Rattle.std.proofs.{Common.{◌≡◌, ◌≢◌, ℕ, suc, inl, inr, ◌⊎◌, ◌+◌, Option, Some, None, refl, sym, ap, ◌∙◌, subst, arith}, lemmas.Bool.{cases_eq}}
+use Rattle.frames.specs.{declared.role.Role.{Role}, declared.role.Role.TheVariants.{Free, Zero, Table, Private, Cache}, FrameTable.{role_of, count_of, IsCountFor, IsFull, IsSound}}
 use Rattle.page_tables.specs.Tree.{IsPage, IsTable}
-use Rattle.residency.specs.Seats.{InFrame, InSlot, seat, holders_at, off}
-use Rattle.residency.specs.Picture.{Picture, entry, page_in}
-use Rattle.residency.specs.Parts.{IsFit, nowhere}
-use Rattle.residency.specs.Calls.{Frees, Refuses}
-use Rattle.residency.specs.Ages.{GivesForTables, KeepsRoles}
-use Rattle.residency.proofs.Seats.{holders_none, off-none}
-use Rattle.residency.proofs.Start.{seat-none}
+use Rattle.residency.specs.{Seats.{InFrame, InSlot, seat, holders_at, off}, Picture.{Picture, entry, page_in}, Parts.{IsFit, nowhere}, Calls.{Frees, Refuses}, Ages.{GivesForTables, KeepsRoles}}
+use Rattle.residency.proofs.{Seats.{holders_none, off-none}, Start.{seat-none}}
 use Rattle.fault.specs.Changes.{KeepsRoom, IsTableOnWay}
 use Rattle.fault.proofs.Forms.{used_inside}
 use Rattle.ranges.specs.Steps.{KeepsEntriesOfOthers, LosesSlots}
-use Rattle.lifecycle.specs.Steps.{HasCopy, LacksTableForCopy}
-use Rattle.lifecycle.specs.Changes.{FreesTables, StallsToFork}
+use Rattle.lifecycle.specs.{Steps.{HasCopy, LacksTableForCopy}, Changes.{FreesTables, StallsToFork}}
 
 -- no frame was to be had for the root
 pub stalls_first : {mode : ℕ} (old new : Picture mode) (parent child : ℕ) (stall : Stall) → old.root child ≡ None → IsFit new → Frees old new None

@@ -1,29 +1,14 @@
 -- A process comes.
 use Rattle.vm_types.proofs.Modes.{user_pages_fit}
 use Rattle.vm_types.specs.Limits.{top_level}
-use Rattle.std.proofs.Common.{◌≡◌, ◌≢◌, ℕ, inl, inr, None, sym, ap, ◌∙◌, subst, arith}
+use Rattle.std.proofs.{Common.{◌≡◌, ◌≢◌, ℕ, inl, inr, None, sym, ap, ◌∙◌, subst, arith}, lemmas.Bool.{cases_eq}}
 use Rattle.std.specs.Prelude.{is_some}
-use Rattle.std.proofs.lemmas.Bool.{cases_eq}
-use Rattle.frames.specs.declared.role.Role.{Role}
-use Rattle.frames.specs.declared.role.Role.TheVariants.{Free, Table, Private, Cache}
-use Rattle.frames.specs.FrameTable.{role_of, bytes_of, frame_count}
+use Rattle.frames.specs.{declared.role.Role.{Role}, declared.role.Role.TheVariants.{Free, Table, Private, Cache}, FrameTable.{role_of, bytes_of, frame_count}}
 use Rattle.page_tables.specs.Tree.{IsPage, missing_of, page_entry}
-use Rattle.residency.specs.Seats.{Seat, InFrame, InSlot, seat}
-use Rattle.residency.specs.Picture.{Picture, entry, view, bytes_in, IsOwned}
-use Rattle.residency.specs.Parts.{IsFit}
-use Rattle.residency.specs.Calls.{ObtainsTable}
-use Rattle.residency.specs.Steps.{Spawns}
-use Rattle.residency.specs.Shows.{KeepsFiles}
-use Rattle.residency.specs.Ages.{GivesForTables, KeepsRolesBut}
-use Rattle.residency.proofs.Aging.{gives_then}
-use Rattle.residency.proofs.Start.{entry-dead}
-use Rattle.residency.proofs.Entries.{entry-same}
-use Rattle.residency.proofs.LeafSteps.{cases_attr}
-use Rattle.fault.proofs.Spawning.{bare_started}
-use Rattle.residency.proofs.Moves.{view-none}
-use Rattle.residency.proofs.Setting.{view_seated, held_same}
+use Rattle.residency.specs.{Seats.{Seat, InFrame, InSlot, seat}, Picture.{Picture, entry, view, bytes_in, IsOwned}, Parts.{IsFit}, Calls.{ObtainsTable}, Steps.{Spawns}, Shows.{KeepsFiles}, Ages.{GivesForTables, KeepsRolesBut}}
+use Rattle.residency.proofs.{Aging.{gives_then}, Start.{entry-dead}, Entries.{entry-same}, LeafSteps.{cases_attr}, Moves.{view-none}, Setting.{view_seated, held_same}}
+use Rattle.fault.proofs.{Spawning.{bare_started}, Steps.{bare_freed}}
 use Rattle.fault.specs.Changes.{KeepsBare, KeepsRoom}
-use Rattle.fault.proofs.Steps.{bare_freed}
 use Rattle.lifecycle.specs.Changes.{AddsProcess, TakesRoot, TakesNoCopy}
 use Rattle.lifecycle.proofs.Keeping.{live_same, files_then, no_copy_freed, gives_alike}
 

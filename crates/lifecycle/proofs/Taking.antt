@@ -1,24 +1,15 @@
 -- What a process that comes takes of memory: its tables, and what was given up for them.
-use Rattle.vm_types.specs.Limits.{user_end, top_level}
-use Rattle.std.proofs.Common.{◌≡◌, ◌≢◌, ℕ, suc, inl, inr, ◌⊎◌, true, false, ◌&&◌, Some, None, refl, sym, ap, ◌∙◌, subst, arith}
-use Rattle.std.proofs.lemmas.Bool.{cases_eq, cases_Bool, false≢true}
-use Rattle.vm_types.specs.declared.object.PageKey.{PageKey}
+use Rattle.vm_types.specs.{Limits.{user_end, top_level}, declared.object.PageKey.{PageKey}}
+use Rattle.std.proofs.{Common.{◌≡◌, ◌≢◌, ℕ, suc, inl, inr, ◌⊎◌, true, false, ◌&&◌, Some, None, refl, sym, ap, ◌∙◌, subst, arith}, lemmas.Bool.{cases_eq, cases_Bool, false≢true}}
 use Rattle.frames.specs.FrameTable.{FrameTable, IsFull}
 use Rattle.sv39_walk.specs.Entry.{is_valid, is_accessed}
 use Rattle.page_tables.specs.Tree.{IsTable}
 use Rattle.page_tables.proofs.Ends.{way_forth}
-use Rattle.residency.specs.Seats.{seat, is_private}
-use Rattle.residency.specs.Picture.{Picture, entry, is_data}
-use Rattle.residency.specs.Ages.{Ages, Same, Cleared, Left, IsGiven, GivesForTables}
-use Rattle.residency.proofs.Aging.{ages_map, gives_then}
-use Rattle.residency.proofs.Start.{seat-none}
+use Rattle.residency.specs.{Seats.{seat, is_private}, Picture.{Picture, entry, is_data}, Ages.{Ages, Same, Cleared, Left, IsGiven, GivesForTables}}
+use Rattle.residency.proofs.{Aging.{ages_map, gives_then}, Start.{seat-none}, SeatForms.{seat_own, seat_common}}
 use Rattle.fault.specs.Changes.{IsTableOnWay}
-use Rattle.residency.proofs.SeatForms.{seat_own, seat_common}
-use Rattle.lifecycle.specs.Steps.{HasCopy, LinksCopies}
-use Rattle.lifecycle.specs.Shares.{SharesRow}
-use Rattle.lifecycle.specs.Changes.{TakesRoot, MapsAlike, ForksEntries, TakesTables}
-use Rattle.lifecycle.proofs.Copying.{IsReadied, lowered, given}
-use Rattle.lifecycle.proofs.Keeping.{gives_alike}
+use Rattle.lifecycle.specs.{Steps.{HasCopy, LinksCopies}, Shares.{SharesRow}, Changes.{TakesRoot, MapsAlike, ForksEntries, TakesTables}}
+use Rattle.lifecycle.proofs.{Copying.{IsReadied, lowered, given}, Keeping.{gives_alike}}
 
 valid_of : (e : ℕ) → (is_valid e && is_accessed e) ≡ true → is_valid e ≡ true
 valid_of e both = elim (cases_Bool (is_valid e)) [

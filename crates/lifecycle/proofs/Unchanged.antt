@@ -1,31 +1,11 @@
 -- A process whose pages are those of another ends: nothing is named by it alone.
-use Rattle.vm_types.specs.Limits.{user_end}
-use Rattle.std.proofs.Common.{◌≡◌, ◌≢◌, ℕ, inl, inr, ◌⊎◌, true, false, None, Some, Option, refl, sym, ap, ◌∙◌, arith, ne_eqb}
-use Rattle.std.specs.Prelude.{is_some}
-use Rattle.std.proofs.lemmas.Bool.{cases_eq, cases_Bool, false≢true}
-use Rattle.vm_types.specs.declared.object.ObjectPage.{ObjectPage}
-use Rattle.vm_types.specs.declared.object.PageKey.{PageKey}
-use Rattle.vm_types.specs.declared.object.PageKey.TheVariants.{File, Object}
-use Rattle.vm_types.specs.Objects.{names, is_named}
-use Rattle.page_cache.specs.declared.place.Place.{Place}
-use Rattle.page_cache.specs.declared.place.Place.TheVariants.{Home, Frame, Slot}
-use Rattle.residency.specs.Picture.{Picture, is_live, held, bytes_at}
-use Rattle.residency.specs.Parts.{IsFit}
-use Rattle.residency.specs.Shows.{KeepsFiles}
+use Rattle.vm_types.specs.{Limits.{user_end}, declared.object.ObjectPage.{ObjectPage}, declared.object.PageKey.{PageKey}, declared.object.PageKey.TheVariants.{File, Object}, Objects.{names, is_named}}
+use Rattle.std.proofs.{Common.{◌≡◌, ◌≢◌, ℕ, inl, inr, ◌⊎◌, true, false, Some, refl, sym, ap, ◌∙◌, arith, ne_eqb}, lemmas.Bool.{cases_eq, cases_Bool, false≢true}}
+use Rattle.page_cache.specs.declared.place.Place.TheVariants.{Home}
+use Rattle.residency.specs.{Picture.{Picture}, Parts.{IsFit}, Shows.{KeepsFiles}}
+use Rattle.ranges.proofs.{LastName.{away_or}, Outlived.{held_home}}
 use Rattle.ranges.specs.Rows.{KeepsNamed, IsLasting, without_maps}
 use Rattle.vm_types.proofs.Naming.{named-at, named-where}
-
-root_of : (o : Option ℕ) → is_some o ≡ true → (r : ℕ) × (o ≡ Some r)
-root_of None is = absurd (false≢true is)
-root_of (Some r) is = (r, refl)
-
-pub parent_root : {mode : ℕ} (c : Picture mode) (pid : ℕ) → is_live c pid ≡ true → (r : ℕ) × (c.root pid ≡ Some r)
-parent_root c pid lives = root_of (c.root pid) lives
-
-home_or : (x : Place) → (x ≡ Home) ⊎ (x ≢ Home)
-home_or Home = inl refl
-home_or (Frame n) = inr (λ e. (cc))
-home_or (Slot k) = inr (λ e. (cc))
 
 module _ {mode : ℕ} (mid new : Picture mode) (parent child r : ℕ) (apart : parent ≢ child) (lives : mid.root parent ≡ Some r) (fit : IsFit mid) (fit' : IsFit new)
     (same : (page : ℕ) → mid.at child page ≡ mid.at parent page) (keeps : KeepsNamed (without_maps mid.at child 0 (user_end mode)) mid new) where
@@ -50,7 +30,7 @@ module _ {mode : ℕ} (mid new : Picture mode) (parent child r : ℕ) (apart : p
   lasting_or (Object p) = elim (cases_Bool (is_named (without_maps mid.at child 0 (user_end mode)) p.object p.page)) [
     | inl t ↦ inl t
     | inr f ↦ inr (
-      elim (home_or (mid.place (Object p))) [
+      elim (away_or (mid.place (Object p))) [
         | inl home ↦ home
         | inr away ↦ absurd (false≢true (sym f ∙ lasts p (fit.places.inside (Object p) away)))
       ],
@@ -69,10 +49,6 @@ module _ {mode : ℕ} (mid new : Picture mode) (parent child r : ℕ) (apart : p
     | inl t ↦ absurd (fit.dirty.held p t home)
     | inr f ↦ f
   ]
-
-  held_home : (c : Picture mode) (p : PageKey) → c.place p ≡ Home → held c p ≡ None
-  unfolding held
-  held_home c p home = ap (λ x. bytes_at c.frames c.slots x) home
 
   pub files_unchanged : KeepsFiles mid new
   files_unchanged = record {

@@ -1,17 +1,10 @@
 -- An entry without W.
 use Rattle.std.specs.Prelude.{◌&&◌}
-use Rattle.std.proofs.Common.{◌≡◌, ◌≢◌, ℕ, ◌+◌, ◌-◌, ◌*◌, ◌/◌, ◌%◌, ◌^◌, inl, inr, ◌==◌, Bool, true, false, Option, refl, sym, ap, ◌∙◌, subst, arith, eqb-true}
-use Rattle.std.proofs.lemmas.Bool.{cases_Bool, false≢true, and_parts}
-use Rattle.vm_types.specs.declared.number.FrameNo.{FrameNo}
-use Rattle.sv39_walk.specs.declared.pte.Pte.{Pte}
-use Rattle.sv39_walk.specs.Entry.{has_bit, is_valid, can_write, is_leaf, frame_of}
-use Rattle.page_tables.specs.Entry.{number_of}
-use Rattle.page_tables.specs.declared.forms.Entry.{Entry}
-use Rattle.page_tables.specs.declared.forms.Entry.TheVariants.{None, Leaf, Swapped, Parked}
-use Rattle.vm_types.specs.declared.region.Attr.{Attr}
-use Rattle.residency.specs.Seats.{is_private, seat}
-use Rattle.residency.specs.Picture.{Picture}
-use Rattle.residency.specs.Parts.{IsEntryFor, Nothing, Resident, Away}
+use Rattle.std.proofs.{Common.{◌≡◌, ◌≢◌, ℕ, ◌+◌, ◌-◌, ◌*◌, ◌/◌, ◌%◌, ◌^◌, inl, inr, ◌==◌, Bool, true, false, Option, refl, sym, ap, ◌∙◌, subst, arith, eqb-true}, lemmas.Bool.{cases_Bool, false≢true, and_parts}}
+use Rattle.vm_types.specs.{declared.number.FrameNo.{FrameNo}, declared.region.Attr.{Attr}}
+use Rattle.sv39_walk.specs.{declared.pte.Pte.{Pte}, Entry.{has_bit, is_valid, can_write, is_leaf, frame_of}}
+use Rattle.page_tables.specs.{Entry.{number_of}, declared.forms.Entry.{Entry}, declared.forms.Entry.TheVariants.{None, Leaf, Swapped, Parked}}
+use Rattle.residency.specs.{Seats.{is_private, seat}, Picture.{Picture}, Parts.{IsEntryFor, Nothing, Resident, Away}}
 use Rattle.residency.proofs.Start.{no_bit}
 use Rattle.lifecycle.specs.Shares.{Weakens, without_write, lowered_entry}
 

@@ -4,7 +4,6 @@ use Rattle.vm_types.specs.Limits.{top_level}
 use Rattle.page_tables.specs.Tree.{IsPage, IsTable}
 use Rattle.residency.specs.Seats.{seat}
 use Rattle.residency.specs.Picture.{Picture, entry}
-use Rattle.residency.specs.Parts.{IsMapped}
 use Rattle.fault.specs.Changes.{IsTableOnWay}
 use Rattle.residency.specs.Ways.{IsWhole}
 
@@ -38,8 +37,3 @@ module _ {mode : ℕ} where
 pub record AdvancesTo (from end next : ℕ) : Type 0 where
   pub further : from < next
   pub within : next ≤ end
-
--- every page from one up to, not including, another is mapped
-module _ {mode : ℕ} where
-  abbrev pub IsMappedRow : Picture mode → ℕ → ℕ → ℕ → Type 0
-  IsMappedRow c pid low high = (page : ℕ) → low ≤ page → page < high → IsMapped c pid page

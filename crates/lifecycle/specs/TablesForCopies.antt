@@ -9,8 +9,7 @@ use Rattle.residency.specs.declared.kernel.Core.{Core}
 use Rattle.residency.specs.Picture.{Picture, picture_of, is_live}
 use Rattle.residency.specs.Parts.{IsFit}
 use Rattle.fault.specs.WaysLinked.{TakesForTables}
-use Rattle.ranges.specs.Steps.{IsStepEnd}
-use Rattle.lifecycle.specs.Steps.{AdvancesTo, HasCopy, HasTablesForCopies, LacksTableForCopy, LinksCopies}
+use Rattle.lifecycle.specs.Steps.{HasCopy, HasTablesForCopies, LacksTableForCopy, LinksCopies}
 
 module _ {mode : ℕ} where
   -- In a fork, memory is fit, and both processes live, with the same pages.
@@ -19,12 +18,6 @@ module _ {mode : ℕ} where
     pub parent_lives : is_live c parent ≡ true
     pub child_lives : is_live c child ≡ true
     pub same : (page : ℕ) → c.at child page ≡ c.at parent page
-
-  -- A step of the pass goes on at a page past the first, which is that of the next table, or the end.
-  pub record StepsOn (c : Picture mode) (pid page end next : ℕ) : Type 0 where
-    pub advances : AdvancesTo page end next
-    pub open advances use *
-    pub end_of_step : IsStepEnd c pid page end next
 
   -- The page is one of the same table, and its process has a copy of it.
   pub record IsFirstCopy (c : Picture mode) (pid start page : ℕ) : Type 0 where

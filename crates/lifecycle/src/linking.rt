@@ -1,20 +1,19 @@
 //! The child's tables.
-ghost use Rattle.std.specs.Prelude.{◌≡◌, ◌≢◌, ℕ, ◌+◌, ◌*◌, ◌/◌, ◌<◌, ◌≤◌, true, false, Option, None, OnOk, IfOk, IfSome, IfNone};
+ghost use Rattle.std.specs.Prelude.{◌≡◌, ◌≢◌, ℕ, ◌+◌, ◌*◌, ◌/◌, ◌<◌, ◌≤◌, true, false, Option, None, OnOk, IfSome, IfNone};
 ghost use Rattle.vm_types.specs.Limits.{user_end, table_entries};
 ghost use Rattle.page_tables.specs.Entry.{number_of, IsEntry};
 ghost use Rattle.residency.specs.Seats.{seat};
 ghost use Rattle.residency.specs.Picture.{picture_of, entry, is_live};
 ghost use Rattle.residency.specs.Parts.{IsFit};
 ghost use Rattle.residency.specs.Ways.{IsWhole};
-ghost use Rattle.ranges.specs.WaysPassed.{IsUserRow};
-ghost use Rattle.lifecycle.specs.TablesForCopies.{IsFirstCopy, LinksForCopies, MakesReady, MayLink, StepsOn};
-ghost use Rattle.lifecycle.specs.Steps.{HasTablesFrom, IsMappedRow};
+ghost use Rattle.lifecycle.specs.TablesForCopies.{IsFirstCopy, LinksForCopies, MakesReady, MayLink};
+ghost use Rattle.lifecycle.specs.Steps.{HasTablesFrom};
 
 use disk_model::SectorDisk;
 use fault::link_tables;
 use memory::{number_in, table_of};
 use page_tables::{Entry, decode};
-use ranges::{gap_end, next_entry, table_end, user_page};
+use ranges::{linked_part, next_entry, user_page};
 use residency::{Core, root_of};
 use sv39_walk::TABLE_ENTRIES;
 use vm_types::{Levels, Pid, Stall, USER_START, Vpn};
@@ -36,58 +35,33 @@ pub(crate) fn link_copies<D, E: SectorDisk, M: Levels>(
     ensures { MakesReady E.SectorDisk core.old core.new parent child result }
 {
     let mut page = USER_START;
-    while let Some(run) = core.regions(parent).next_run(page) {
-        link_run(core, parent, child, user_page::<M>(run.first), run.end)?;
-        page = run.end;
+    while let Some(part) = linked_part(core, parent, page) {
+        link_part(core, parent, child, part.first, part.end)?;
+        page = part.end;
     }
     Ok(())
 }
 
-/// Makes the child's tables for the pages from `start` up to, not including, `end`, all of which the parent has mapped: no
-/// other page is looked at.
-fn link_run<D, E: SectorDisk, M: Levels>(
+/// Makes the child's tables for the pages from `start` up to, not including, `stop`, whose entries of the parent's stand in one
+/// table: those on the way to the first of which the parent has a copy.
+fn link_part<D, E: SectorDisk, M: Levels>(
     core: &mut Core<D, E, M>,
     parent: Pid,
     child: Pid,
     start: Vpn,
-    end: u64,
+    stop: u64,
 ) -> Result<(), Stall>
     requires ready { MayLink E.SectorDisk core.old parent child }
-    requires mapped { IsMappedRow (picture_of core.old) parent start end }
-    requires high { end ≤ user_end M.mode }
+    requires whole { IsWhole (picture_of core.old) parent start }
+    requires one_table { stop ≤ (start / table_entries + 1) * table_entries }
+    requires high { stop ≤ user_end M.mode }
     ensures links { LinksForCopies E.SectorDisk core.old core.new parent child result }
-    ensures linked { OnOk result (HasTablesFrom (picture_of core.new) parent child start end) }
+    ensures linked { OnOk result (HasTablesFrom (picture_of core.new) parent child start stop) }
 {
-    let mut page = start.get();
-    while page < end {
-        page = link_next(core, parent, child, user_page::<M>(page), end)?;
-    }
-    Ok(())
-}
-
-/// Makes the child's tables for the pages of one table of the parent, from `page` on, as far as `end`; the result is the first
-/// page past them. Where a table of the parent is missing, the pages of the missing one are passed over.
-fn link_next<D, E: SectorDisk, M: Levels>(
-    core: &mut Core<D, E, M>,
-    parent: Pid,
-    child: Pid,
-    page: Vpn,
-    end: u64,
-) -> Result<u64, Stall>
-    requires ready { MayLink E.SectorDisk core.old parent child }
-    requires row { IsUserRow M.mode page end }
-    ensures links { LinksForCopies E.SectorDisk core.old core.new parent child result }
-    ensures linked { IfOk result (HasTablesFrom (picture_of core.new) parent child page) }
-    ensures next { IfOk result (StepsOn (picture_of core.old) parent page end) }
-{
-    if let Some(gap) = gap_end(core, parent, page) {
-        return Ok(end.min(gap));
-    }
-    let stop = end.min(table_end(page));
-    if let Some(copied) = first_copy(core, parent, page, stop) {
+    if let Some(copied) = first_copy(core, parent, start, stop) {
         link_tables(core, child, copied)?;
     }
-    Ok(stop)
+    Ok(())
 }
 
 /// The first page from `start` up to, not including, `stop` of which a live process has a copy of its own. The entries of

@@ -1,21 +1,19 @@
 //! The parent's own pages, given to the child.
-ghost use Rattle.std.specs.Prelude.{◌≡◌, ℕ, ◌+◌, ◌*◌, ◌/◌, ◌<◌, ◌≤◌, true, IfSome, IfNone};
+ghost use Rattle.std.specs.Prelude.{◌≡◌, ◌+◌, ◌*◌, ◌/◌, ◌<◌, ◌≤◌, true, IfSome, IfNone};
 ghost use Rattle.vm_types.specs.Limits.{user_start, user_end, table_entries};
 ghost use Rattle.page_tables.specs.Entry.{number_of};
 ghost use Rattle.residency.specs.Picture.{picture_of, entry, is_live};
 ghost use Rattle.residency.specs.Parts.{IsFit};
 ghost use Rattle.residency.specs.Ways.{IsWhole};
-ghost use Rattle.ranges.specs.WaysPassed.{IsUserRow};
-ghost use Rattle.lifecycle.specs.Steps.{AdvancesTo, IsMappedRow};
+ghost use Rattle.lifecycle.specs.Steps.{AdvancesTo};
 ghost use Rattle.lifecycle.specs.Shares.{IsTableFor};
-ghost use Rattle.lifecycle.specs.TablesForCopies.{StepsOn};
 ghost use Rattle.lifecycle.specs.ChildShares.{AwaitsShares, GivesShares, HoldsEntries, IsOwnEntry, IsReadyForShares};
 
 use crate::linking::is_own;
 use crate::withdrawing::{Tables, add_share, withdraw_write};
 use memory::{number_in, set_in, table_of};
 use page_tables::{Entry, decode};
-use ranges::{gap_end, next_place, table_end, table_start, user_page};
+use ranges::{linked_part, next_place, table_start};
 use residency::{Core, root_of};
 use vm_types::{FrameNo, Levels, Pid, USER_START, Vpn};
 
@@ -29,52 +27,10 @@ pub(crate) fn share_pages<D, E, M: Levels>(core: &mut Core<D, E, M>, parent: Pid
     ensures { GivesShares core.old core.new parent child user_start (user_end M.mode) }
 {
     let mut page = USER_START;
-    while let Some(run) = core.regions(parent).next_run(page) {
-        share_run(core, parent, child, user_page::<M>(run.first), run.end);
-        page = run.end;
+    while let Some(part) = linked_part(core, parent, page) {
+        share_table(core, parent, child, part.first, part.end);
+        page = part.end;
     }
-}
-
-/// Gives the child its shares of the pages from `start` up to, not including, `end`, all of which the parent has mapped: no
-/// other page is looked at.
-fn share_run<D, E, M: Levels>(
-    core: &mut Core<D, E, M>,
-    parent: Pid,
-    child: Pid,
-    start: Vpn,
-    end: u64,
-)
-    requires ready { IsReadyForShares (picture_of core.old) parent child start end }
-    requires mapped { IsMappedRow (picture_of core.old) parent start end }
-    requires row { IsUserRow M.mode start end }
-    ensures { GivesShares core.old core.new parent child start end }
-{
-    let mut page = start.get();
-    while page < end {
-        page = share_next(core, parent, child, user_page::<M>(page), end);
-    }
-}
-
-/// Gives the child its shares of the pages of one table of the parent, from `page` on, as far as `end`; the result is the first
-/// page past them. Where a table of the parent is missing, the pages of the missing one are passed over.
-fn share_next<D, E, M: Levels>(
-    core: &mut Core<D, E, M>,
-    parent: Pid,
-    child: Pid,
-    page: Vpn,
-    end: u64,
-) -> u64
-    requires ready { IsReadyForShares (picture_of core.old) parent child page end }
-    requires row { IsUserRow M.mode page end }
-    ensures next { StepsOn (picture_of core.old) parent page end result }
-    ensures gives { GivesShares core.old core.new parent child page result }
-{
-    if let Some(gap) = gap_end(core, parent, page) {
-        return end.min(gap);
-    }
-    let stop = end.min(table_end(page));
-    share_table(core, parent, child, page, stop);
-    stop
 }
 
 /// Gives the child its shares of the pages from `start` up to, not including, `stop`. Their entries stand in one table of the

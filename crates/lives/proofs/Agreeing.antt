@@ -2,12 +2,7 @@
 use Rattle.std.proofs.Common.{ℕ, zero, suc, ◌≡◌, Bool, true, false, if◌then◌else◌, List, [], ◌∷◌, refl, sym, ◌∙◌}
 use Rattle.disk_model.specs.Stop.{Image}
 use Rattle.file_store.specs.Standing.{IsPageOf, StandsFor}
-use Rattle.vm_types.specs.Files.{Files}
-use Rattle.vm_types.specs.Msync.{Ruling, Refuses, Passes, Takes, touched_in}
-use Rattle.vm_types.specs.Prefix.{Event, is_msync, may_have_taken, after_event, after_msyncs}
-use Rattle.vm_types.specs.State.{State}
-use Rattle.vm_types.specs.Step.{ruling, takes}
-use Rattle.vm_types.specs.View.{Pages}
+use Rattle.vm_types.specs.{Files.{Files}, Msync.{Ruling, Refuses, Passes, Takes, touched_in}, Prefix.{Event, is_msync, may_have_taken, after_event, after_msyncs}, State.{State}, Step.{ruling, takes}, View.{Pages}}
 
 -- the same bytes in each page of these files
 abbrev pub Agree : Files → Pages → Pages → Type 0

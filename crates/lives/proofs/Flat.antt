@@ -1,15 +1,9 @@
 -- A chain of commands as a run of the flat model.
 use Rattle.std.proofs.Common.{ℕ, zero, suc, ◌≡◌, List, [], ◌∷◌, refl, sym, subst}
 use Rattle.disk_model.specs.declared.sector_disk.SectorDisk.{Ghosts}
-use Rattle.vm_types.specs.declared.command.Command.{Command}
-use Rattle.vm_types.specs.declared.reply.Reply.{Reply}
-use Rattle.vm_types.specs.Prefix.{Event}
-use Rattle.vm_types.specs.Run.{Run, Step}
-use Rattle.vm_types.specs.Stalls.{Causes}
-use Rattle.vm_types.specs.State.{State}
-use Rattle.machine.specs.Chain.{Chain, after}
+use Rattle.vm_types.specs.{declared.command.Command.{Command}, declared.reply.Reply.{Reply}, Prefix.{Event}, Run.{Run, Step}, Stalls.{Causes}, State.{State}}
+use Rattle.machine.specs.{Chain.{Chain, after}, declared.machine.Machine.{Machine}}
 use Rattle.machine.proofs.Face.{face}
-use Rattle.machine.specs.declared.machine.Machine.{Machine}
 use Rattle.lives.specs.Flat.{machine_causes, causes_in}
 
 -- a run whose commands are counted from one number on, or from the next

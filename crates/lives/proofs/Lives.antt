@@ -1,20 +1,9 @@
 -- What lives leave.
 use Rattle.std.proofs.Common.{ℕ, ◌≡◌, ◌≤◌, inl, inr, ⊎_elim, List, [], ◌∷◌, ◌++◌, length, refl, sym, ◌∙◌, subst, arith}
-use Rattle.disk_model.specs.Moments.{LeavesOnly}
-use Rattle.disk_model.specs.Stop.{Image, MayLeave}
-use Rattle.disk_model.specs.declared.sector_disk.SectorDisk.{Ghosts}
+use Rattle.disk_model.specs.{Moments.{LeavesOnly}, Stop.{Image, MayLeave}, declared.sector_disk.SectorDisk.{Ghosts}}
 use Rattle.file_store.specs.Standing.{StandsAs, StandsFor}
-use Rattle.vm_types.specs.declared.command.Command.{Command}
-use Rattle.vm_types.specs.declared.reply.Reply.{Reply}
-use Rattle.vm_types.specs.Files.{Files}
-use Rattle.vm_types.specs.Prefix.{Event, acknowledged, after_msyncs, IsPrefixHolding}
-use Rattle.vm_types.specs.State.{State}
-use Rattle.vm_types.specs.View.{Pages}
-use Rattle.machine.specs.Boot.{Boots}
-use Rattle.machine.specs.Chain.{Chain, Runs, after}
-use Rattle.machine.specs.Engine.{StandsForSome}
-use Rattle.machine.specs.Machine.{store_of}
-use Rattle.machine.specs.declared.machine.Machine.{Machine}
+use Rattle.vm_types.specs.{declared.command.Command.{Command}, declared.reply.Reply.{Reply}, Files.{Files}, Prefix.{Event, acknowledged, after_msyncs, IsPrefixHolding}, State.{State}, View.{Pages}}
+use Rattle.machine.specs.{Boot.{Boots}, Chain.{Chain, Runs, after}, Engine.{StandsForSome}, Machine.{store_of}, declared.machine.Machine.{Machine}}
 use Rattle.lives.specs.Lives.{Life, IsLeftBy, StopsEarly, StopsLater, Lives, LeftInLives, HoldsLives, RanSince}
 use Rattle.lives.proofs.Agreeing.{agree_msyncs, same_files, same_pages, stands_for_same}
 

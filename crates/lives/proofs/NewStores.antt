@@ -1,20 +1,11 @@
 -- The stores that `format` and an upgrade make.
-use Rattle.std.proofs.Common.{ℕ, ◌≡◌, ◌⊎◌, ⊎_elim, inl, inr, List, Option, refl, subst}
-use Rattle.std.proofs.lemmas.Bool.{cases_Bool}
-use Rattle.std.proofs.lemmas.Slice.Eq.{bytes_eq-Decides}
+use Rattle.std.proofs.{Common.{ℕ, ◌≡◌, ◌⊎◌, ⊎_elim, inl, inr, List, Option, refl, subst}, lemmas.Bool.{cases_Bool}, lemmas.Slice.Eq.{bytes_eq-Decides}}
 use Rattle.std.specs.Str.{bytes_eq}
 use Rattle.disk_model.specs.Stop.{Image}
-use Rattle.file_store.specs.declared.sources.FileSource.{FileSource}
-use Rattle.file_store.specs.Format.{IsStoreOf, IsStoreIfMarked}
-use Rattle.sync_journal.specs.Kinds.{kind_of, kind_standing, IsKindBad}
-use Rattle.sync_journal.specs.declared.store_journal.Journals.{Journals}
-use Rattle.sync_journal.specs.declared.store_journal.Journals.TheVariants.{Single, Paired}
-use Rattle.file_store.specs.Versions.{version_at, version_of, mark_of}
-use Rattle.file_store.specs.Standing.{IsBadLayout, OldStandsFor, StandsFor, StandsForIn, standing_page}
-use Rattle.file_store.specs.Standing.IsBadLayoutIn.{Unmarked}
-use Rattle.file_store.specs.Upgrade.{IsUpgradeOf, IsUpgradeIfMarked}
-use Rattle.vm_types.specs.Files.{Files}
-use Rattle.vm_types.specs.View.{Pages}
+use Rattle.file_store.specs.{declared.sources.FileSource.{FileSource}, Format.{IsStoreOf, IsStoreIfMarked}, Versions.{version_at, version_of, mark_of}, Standing.{IsBadLayout, OldStandsFor, StandsFor, StandsForIn, standing_page}}
+use Rattle.file_store.specs.{Standing.IsBadLayoutIn.{Unmarked}, Upgrade.{IsUpgradeOf, IsUpgradeIfMarked}}
+use Rattle.sync_journal.specs.{Kinds.{kind_of, kind_standing, IsKindBad}, declared.store_journal.Journals.{Journals}, declared.store_journal.Journals.TheVariants.{Single, Paired}}
+use Rattle.vm_types.specs.{Files.{Files}, View.{Pages}}
 use Rattle.lives.specs.Formatted.{StandsForSources}
 
 pub stands_for_sources : {R : Type 0} (journals : Journals) (remaining : R → Option (List ℕ)) (sectors : ℕ) (sources : List (FileSource R)) (image : Image)

@@ -1,7 +1,6 @@
 -- Two lives with an msync each.
 use Rattle.std.proofs.Common.{ℕ, zero, suc, ◌≡◌, ◌≤◌, ◌⊎◌, ◌↔◌, inl, inr, ⊎_elim, true, [], ◌∷◌, refl, sym, ap, ◌∙◌, subst, arith}
-use Rattle.vm_types.specs.Prefix.{Event, is_msync, is_done, after_event, after_msyncs, acknowledged, IsPrefixHolding}
-use Rattle.vm_types.specs.View.{Pages}
+use Rattle.vm_types.specs.{Prefix.{Event, is_msync, is_done, after_event, after_msyncs, acknowledged, IsPrefixHolding}, View.{Pages}}
 use Rattle.lives.specs.Lives.{IsLeftBy, stopped_in_first, stopped_in_second}
 
 -- one msync, taken

@@ -2,40 +2,16 @@
 use Rattle.vm_types.specs.declared.mode.Levels as Levels
 use Rattle.std.proofs.Common.{ℕ, ◌≡◌, ◌≢◌, Bool, true, false, not, if◌then◌else◌, List, refl, sym, ap, ◌∙◌, subst}
 use Rattle.disk_model.specs.declared.sector_disk.SectorDisk.{Ghosts}
-use Rattle.residency.specs.Calls.{UsesDevice}
-use Rattle.residency.specs.Reading.{ReadsStore}
-use Rattle.residency.specs.Picture.{picture_of, is_live}
-use Rattle.residency.specs.declared.kernel.Core.{Core}
+use Rattle.residency.specs.{Calls.{UsesDevice}, Reading.{ReadsStore}, Picture.{picture_of, is_live}, declared.kernel.Core.{Core}}
 use Rattle.ranges.specs.Steps.{KeepsDevices}
-use Rattle.spaces.specs.Accesses.{KeepsToPage}
+use Rattle.spaces.specs.{Accesses.{KeepsToPage}, Ranges.{GivesPagesBack}, Idle.{is_denial, is_idle}}
 use Rattle.spaces.specs.Calls as Calls
-use Rattle.spaces.specs.Ranges.{GivesPagesBack}
-use Rattle.spaces.specs.Idle.{is_denial, is_idle}
-use Rattle.vm_types.specs.declared.access.Access.{Access}
-use Rattle.vm_types.specs.declared.access.StoredValue.{StoredValue}
-use Rattle.vm_types.specs.declared.command.Command.{Command}
-use Rattle.vm_types.specs.declared.refusal.Errno.{Errno}
-use Rattle.vm_types.specs.declared.refusal.Errno.TheVariants.{EIO, ESRCH, EBADF, EAGAIN, ENOMEM, EACCES, EEXIST, EINVAL, ENOSPC, EOVERFLOW}
-use Rattle.vm_types.specs.declared.refusal.Fault.{Fault}
-use Rattle.vm_types.specs.declared.region.Backing.{Backing}
-use Rattle.vm_types.specs.declared.region.Backing.TheVariants.{Anon, Private, Shared, Common}
-use Rattle.vm_types.specs.declared.reply.Answer.{Answer}
+use Rattle.vm_types.specs.{declared.access.Access.{Access}, declared.access.StoredValue.{StoredValue}, declared.command.Command.{Command}, declared.refusal.Errno.{Errno}, declared.refusal.Errno.TheVariants.{EIO, ESRCH}}
+use Rattle.vm_types.specs.{declared.refusal.Fault.{Fault}, declared.region.Backing.{Backing}, declared.region.Backing.TheVariants.{Anon}, declared.reply.Answer.{Answer}, declared.reply.Reply.{Reply}}
+use Rattle.vm_types.specs.{declared.reply.Reply.TheVariants.{Process, Address, Done, Value, Faulted, Refused, Stalled, Halted}, declared.width.Width.{Width}, Access.{with_shown_bytes}, History.{Past}, Replies.{reply_of}}
+use Rattle.vm_types.specs.{Prefix.{is_io_error}, State.{State}, Step.{Outcome, outcome, answers, load_outcome, store_outcome, fetch_outcome, past_after, ruling, takes}, Verdict.{Verdict, Fine, Faults}, View.{View}}
 use Rattle.vm_types.specs.declared.reply.Answer.TheVariants as Answers
-use Rattle.vm_types.specs.declared.reply.Reply.{Reply}
-use Rattle.vm_types.specs.declared.reply.Reply.TheVariants.{Process, Address, Done, Value, Faulted, Refused, Stalled, Halted}
-use Rattle.vm_types.specs.declared.width.Width.{Width}
-use Rattle.vm_types.specs.Access.{with_shown_bytes}
-use Rattle.vm_types.specs.History.{Past}
-use Rattle.vm_types.specs.Replies.{reply_of}
-use Rattle.vm_types.specs.Prefix.{is_io_error}
-use Rattle.vm_types.specs.State.{State}
-use Rattle.vm_types.specs.Step.{Outcome, outcome, answers, load_outcome, store_outcome, fetch_outcome, past_after, ruling, takes}
-use Rattle.vm_types.specs.Verdict.{Verdict, Fine, Faults}
-use Rattle.vm_types.specs.View.{View}
-use Rattle.machine.specs.Engine.{EngineMeets}
-use Rattle.machine.specs.declared.engine.Engine.{Engine}
-use Rattle.machine.specs.Accesses.{Accesses}
-use Rattle.machine.specs.EngineCommands.{EngineCarriesOut}
+use Rattle.machine.specs.{Engine.{EngineMeets}, declared.engine.Engine.{Engine}, Accesses.{Accesses}, EngineCommands.{EngineCarriesOut}}
 use Rattle.machine.proofs.Flat.{OnlyNow, is_running, keeps_all, read_meets, shows_core, unread, unswapped}
 
 -- only the answer that refuses is a refusal
@@ -51,15 +27,7 @@ refused_so Answers.Halted errno e = absurd (let never : Halted ≡ Refused errno
 
 not_failed : (errno : Errno) → errno ≢ EIO → is_io_error errno ≡ false
 not_failed EIO other = absurd (other refl)
-not_failed ESRCH other = refl
-not_failed EBADF other = refl
-not_failed EAGAIN other = refl
-not_failed ENOMEM other = refl
-not_failed EACCES other = refl
-not_failed EEXIST other = refl
-not_failed EINVAL other = refl
-not_failed ENOSPC other = refl
-not_failed EOVERFLOW other = refl
+not_failed errno other = refl
 
 -- a refusal, but for a failure of the store, tells that the command was not begun
 is_denied : (reply : Reply) (errno : Errno) → reply ≡ Refused errno → errno ≢ EIO → is_denial reply ≡ true
@@ -75,9 +43,7 @@ fetch_live s addr pid (Fine view) = refl
 
 bytes_live : (s : State) (pid page q : ℕ) (view : View) (backing : Backing) (bytes : List ℕ) → (with_shown_bytes s pid page view backing bytes).live q ≡ s.live q
 bytes_live s pid page q view Anon bytes = refl
-bytes_live s pid page q view (Private p) bytes = refl
-bytes_live s pid page q view (Shared p) bytes = refl
-bytes_live s pid page q view (Common p) bytes = refl
+bytes_live s pid page q view backing bytes = refl
 
 pub store_live : (s : State) (pid addr q : ℕ) (value : StoredValue) (v : Verdict) → (store_outcome s pid addr value v).state.live q ≡ s.live q
 store_live s pid addr q value (Faults code) = refl

@@ -1,48 +1,32 @@
 -- What a boot leaves, from what the store's opening says.
 use Rattle.vm_types.specs.declared.mode.Levels as Levels
-use Rattle.std.proofs.Common.{ℕ, ◌*◌, ◌≡◌, ◌<◌, ◌≤◌, ◌⊎◌, inl, inr, ⊎_elim, false, List, Some, None, is_some, [], refl, sym, ap, ◌∙◌, subst, arith}
+use Rattle.std.proofs.Common.{ℕ, ◌*◌, ◌≡◌, ◌<◌, ◌≤◌, ◌⊎◌, inl, inr, ⊎_elim, false, List, Some, None, is_some, [], refl, sym, ap, ◌∙◌, subst, arith, rules}
 use Rattle.std.specs.Option.{option_map}
-use Rattle.disk_model.specs.Moments.{LeavesNow, LeavesOnly, Touches, AsksOnly, Nothing}
-use Rattle.disk_model.specs.Stop.{Image, MayLeave}
-use Rattle.disk_model.specs.declared.sector_disk.SectorDisk.{Ghosts}
+use Rattle.disk_model.specs.{Moments.{LeavesNow, LeavesOnly, Touches, AsksOnly, Nothing}, Stop.{Image, MayLeave}, declared.sector_disk.SectorDisk.{Ghosts}}
 use Rattle.disk_model.proofs.Moments.{started, stays, asks_none}
-use Rattle.file_store.specs.Standing.{StandsFor, StandsAs, IsBadLayout, IsBadJournal, IsAskedToOpen, file_info, standing_page}
-use Rattle.file_store.specs.Store.{IsReadyStore}
+use Rattle.file_store.specs.{Standing.{StandsFor, StandsAs, IsBadLayout, IsBadJournal, IsAskedToOpen, file_info, standing_page}, Store.{IsReadyStore}, declared.faults.OpenFault.{OpenFault}, declared.store.FileStore.{FileStore}}
 use Rattle.file_store.specs.Store as Stores
-use Rattle.file_store.specs.declared.faults.OpenFault.{OpenFault}
 use Rattle.file_store.specs.declared.faults.OpenFault.TheVariants.{Device as StoreDevice, BadLayout as StoreLayout, BadJournal as StoreJournal}
-use Rattle.file_store.specs.declared.store.FileStore.{FileStore}
 use Rattle.file_store.proofs.Outside.{left_outside}
 use Rattle.page_cache.specs.declared.place.Place.TheVariants.{Home}
-use Rattle.vm_types.specs.declared.object.PageKey.{PageKey}
-use Rattle.vm_types.specs.declared.object.PageKey.TheVariants.{File, Object}
-use Rattle.residency.specs.Calls.{IsStart}
-use Rattle.residency.specs.Picture.{Picture, picture_of, view, held}
-use Rattle.residency.specs.Shows.{ShowsPages}
+use Rattle.vm_types.specs.{declared.object.PageKey.{PageKey}, declared.object.PageKey.TheVariants.{File, Object}, State.{State}}
+use Rattle.residency.specs.{Calls.{IsStart}, Picture.{Picture, picture_of, view, held}, Shows.{ShowsPages}}
 use Rattle.sync_journal.specs.Kinds.{StoreStandsAs, IsOutsideOf, IsStoreRecovered}
 use Rattle.swap.specs.Slots.{slots_of}
-use Rattle.vm_types.specs.State.{State}
-use Rattle.machine.specs.declared.boot.BootFault.TheVariants.{Frames, Slots, OutOfMemory, Device, BadLayout, BadJournal}
-use Rattle.machine.specs.declared.config.Config.{Config}
-use Rattle.machine.specs.declared.engine.Engine.{Engine}
-use Rattle.machine.specs.Boot.{HasBadFrames, HasBadSlots, BootAccepts, BootLeaves, BootRefuses}
-use Rattle.machine.specs.EngineBoot.{EngineBoots}
-use Rattle.machine.specs.Fault.{boot_fault}
+use Rattle.machine.specs.{declared.boot.BootFault.TheVariants.{Frames, Slots, OutOfMemory, Device, BadLayout, BadJournal}, declared.config.Config.{Config}, declared.engine.Engine.{Engine}}
+use Rattle.machine.specs.{Boot.{HasBadFrames, HasBadSlots, BootAccepts, BootLeaves, BootRefuses}, EngineBoot.{EngineBoots}, Fault.{boot_fault}}
 
 pub was_layout : (fault : OpenFault) → boot_fault fault ≡ BadLayout → fault ≡ StoreLayout
-was_layout StoreDevice e = cc
 was_layout StoreLayout e = refl
-was_layout StoreJournal e = cc
+was_layout fault e = cc
 
 pub was_journal : (fault : OpenFault) → boot_fault fault ≡ BadJournal → fault ≡ StoreJournal
-was_journal StoreDevice e = cc
-was_journal StoreLayout e = cc
 was_journal StoreJournal e = refl
+was_journal fault e = cc
 
 was_device : (fault : OpenFault) → boot_fault fault ≡ Device → fault ≡ StoreDevice
 was_device StoreDevice e = refl
-was_device StoreLayout e = cc
-was_device StoreJournal e = cc
+was_device fault e = cc
 
 -- once the store is opened, the sizes were fine
 pub sized : (fault : OpenFault) → (boot_fault fault ≡ Frames) ⊎ (boot_fault fault ≡ Slots) → ⊥
@@ -101,45 +85,11 @@ module _ {D : Type 0} (g : Ghosts D) where
 
   -- too few frames, or too many
   pub refuses_frames : (config : Config) (n : ℕ) (store : D) → HasBadFrames config → BootRefuses g config n store Frames store
-  refuses_frames config n store bad = record {
-    bad_frames = λ _. bad;
-    only_frames = λ _. refl;
-    bad_slots = λ e. absurd (let never : Frames ≡ Slots = e in cc);
-    only_slots = λ fine _. absurd (fine bad);
-    device = λ e. absurd (let never : Frames ≡ Device = e in cc);
-    err_calm = λ _. refl;
-    bad_layout = λ _ e. absurd (let never : Frames ≡ BadLayout = e in cc);
-    bad_journal = λ _ e. absurd (let never : Frames ≡ BadJournal = e in cc);
-    layout_first = λ _ e _. (let never : Frames ≡ BadJournal = e in cc);
-    unasked = λ _. refl;
-    unwritten = λ _ _. stays g Nothing store;
-    asks = λ _. asks_none g _ store store (λ k. refl);
-    outside = λ _ k _. refl;
-    err_size = refl;
-    err_kept = λ keeps. keeps;
-    err_later = omega arith;
-  }
+  refuses_frames config n store bad = search (rules, stays, asks_none)
 
   -- too many slots
   pub refuses_slots : (config : Config) (n : ℕ) (store : D) → (HasBadFrames config → ⊥) → HasBadSlots config n → BootRefuses g config n store Slots store
-  refuses_slots config n store fine bad = record {
-    bad_frames = λ e. absurd (let never : Slots ≡ Frames = e in cc);
-    only_frames = λ few. absurd (fine few);
-    bad_slots = λ _. bad;
-    only_slots = λ _ _. refl;
-    device = λ e. absurd (let never : Slots ≡ Device = e in cc);
-    err_calm = λ _. refl;
-    bad_layout = λ _ e. absurd (let never : Slots ≡ BadLayout = e in cc);
-    bad_journal = λ _ e. absurd (let never : Slots ≡ BadJournal = e in cc);
-    layout_first = λ _ e _. (let never : Slots ≡ BadJournal = e in cc);
-    unasked = λ _. refl;
-    unwritten = λ _ _. stays g Nothing store;
-    asks = λ _. asks_none g _ store store (λ k. refl);
-    outside = λ _ k _. refl;
-    err_size = refl;
-    err_kept = λ keeps. keeps;
-    err_later = omega arith;
-  }
+  refuses_slots config n store fine bad = search (rules, stays, asks_none)
 
   -- what an opening leaves outside the homes
   same_outside : (entry : D) (store : FileStore D) → IsOpened entry store → g.keeps_model store.disk
@@ -149,40 +99,12 @@ module _ {D : Type 0} (g : Ghosts D) where
   -- a store that was opened, of which a machine is made
   pub accepts : (config : Config) (n : ℕ) (entry : D) (store : FileStore D) → (HasBadFrames config → ⊥) → (HasBadSlots config n → ⊥) → IsOpened entry store
       → BootAccepts g config n entry store.disk
-  accepts config n entry store frames slots opened = record {
-    frames = frames;
-    slots = slots;
-    layout = opened.layout;
-    journal = opened.journal;
-    size = opened.size;
-    kept = opened.kept;
-    later = opened.later;
-    calm = opened.calm;
-    asks = opened.asks;
-    outside = same_outside entry store opened;
-  }
+  accepts config n entry store frames slots opened = let outside = same_outside entry store opened in search rules
 
   -- or not, for want of memory
   pub refuses_memory : (config : Config) (n : ℕ) (entry : D) (store : FileStore D) → (HasBadFrames config → ⊥) → (HasBadSlots config n → ⊥) → IsOpened entry store
       → BootRefuses g config n entry OutOfMemory store.disk
-  refuses_memory config n entry store frames slots opened = record {
-    bad_frames = λ e. absurd (let never : OutOfMemory ≡ Frames = e in cc);
-    only_frames = λ few. absurd (frames few);
-    bad_slots = λ e. absurd (let never : OutOfMemory ≡ Slots = e in cc);
-    only_slots = λ _ many. absurd (slots many);
-    device = λ e. absurd (let never : OutOfMemory ≡ Device = e in cc);
-    err_calm = λ _. opened.calm;
-    bad_layout = λ _ e. absurd (let never : OutOfMemory ≡ BadLayout = e in cc);
-    bad_journal = λ _ e. absurd (let never : OutOfMemory ≡ BadJournal = e in cc);
-    layout_first = λ _ e _. (let never : OutOfMemory ≡ BadJournal = e in cc);
-    unasked = λ either. absurd (⊎_elim (λ e. (let never : OutOfMemory ≡ Frames = e in cc)) (λ e. (let never : OutOfMemory ≡ Slots = e in cc)) either);
-    unwritten = λ _ either. absurd (⊎_elim (λ e. (let never : OutOfMemory ≡ BadLayout = e in cc)) (λ e. (let never : OutOfMemory ≡ BadJournal = e in cc)) either);
-    asks = opened.asks;
-    outside = same_outside entry store opened;
-    err_size = opened.size;
-    err_kept = opened.kept;
-    err_later = opened.later;
-  }
+  refuses_memory config n entry store frames slots opened = let outside = same_outside entry store opened in search rules
 
   -- what the opening of a store says that gives up
   pub record IsUnopened (entry : D) (fault : OpenFault) (left : D) : Type 0 where

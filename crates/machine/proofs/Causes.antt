@@ -1,19 +1,12 @@
 -- What the result of an msync comes from.
 use Rattle.vm_types.specs.declared.mode.Levels as Levels
 use Rattle.std.proofs.Common.{◌≡◌, ◌≢◌, ◌<◌, ◌≤◌, true, false, refl, sym, ap, ◌∙◌, subst, arith}
-use Rattle.disk_model.specs.declared.sector_disk.SectorDisk.{Ghosts}
-use Rattle.disk_model.specs.declared.ghost_data.Count.{Count}
-use Rattle.residency.specs.declared.kernel.Core.{Core}
-use Rattle.residency.specs.Stalls.{ReadCause}
-use Rattle.spaces.specs.Calls.{IsCaused}
-use Rattle.spaces.specs.Idle.{names_store, names_swap, refused_count}
-use Rattle.vm_types.specs.declared.refusal.Errno.TheVariants.{EIO}
-use Rattle.vm_types.specs.declared.refusal.Stall.{Stall}
-use Rattle.vm_types.specs.declared.refusal.Stall.TheVariants.{SwapDevice}
-use Rattle.vm_types.specs.declared.reply.Answer.{Answer}
-use Rattle.vm_types.specs.declared.reply.Answer.TheVariants.{Process, Address, Done, Value, Faulted, Refused, Stalled, Halted}
+use Rattle.disk_model.specs.{declared.sector_disk.SectorDisk.{Ghosts}, declared.ghost_data.Count.{Count}}
+use Rattle.residency.specs.{declared.kernel.Core.{Core}, Stalls.{ReadCause}}
+use Rattle.spaces.specs.{Calls.{IsCaused}, Idle.{names_store, names_swap, refused_count}}
+use Rattle.vm_types.specs.{declared.refusal.Errno.TheVariants.{EIO}, declared.refusal.Stall.{Stall}, declared.refusal.Stall.TheVariants.{SwapDevice}, declared.reply.Answer.{Answer}}
+use Rattle.vm_types.specs.{declared.reply.Answer.TheVariants.{Process, Address, Done, Value, Faulted, Refused, Stalled, Halted}, Replies.{reply_of}}
 use Rattle.vm_types.specs.declared.reply.Reply.TheVariants as Reply
-use Rattle.vm_types.specs.Replies.{reply_of}
 use Rattle.machine.proofs.Accesses.{refused_so}
 
 -- only the answer that stalls is a stall
@@ -29,14 +22,8 @@ stalled_so Halted stall e = absurd (let never : Reply.Halted ≡ Reply.Stalled s
 
 -- a stall for the swap device refused no frame
 none_refused : (a : Answer) → ((stall : Stall) → a ≡ Stalled stall → stall ≡ SwapDevice) → refused_count (reply_of a) ≡ 0
-none_refused (Process pid) only = refl
-none_refused (Address addr) only = refl
-none_refused Done only = refl
-none_refused (Value width value) only = refl
-none_refused (Faulted fault) only = refl
-none_refused (Refused errno) only = refl
 none_refused (Stalled stall) only = rw (only stall refl) refl
-none_refused Halted only = refl
+none_refused a only = refl
 
 -- what names the store is no answer that doesn't
 failure_named : (a : Answer) → names_store (reply_of a) ≡ false → a ≢ Refused EIO

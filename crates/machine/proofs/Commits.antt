@@ -1,47 +1,25 @@
 -- msync on a machine.
 use Rattle.vm_types.specs.declared.mode.Levels as Levels
-use Rattle.std.proofs.Common.{ℕ, ◌≡◌, ◌<◌, ◌≤◌, ◌⊎◌, inl, inr, ⊎_elim, ◌∷◌, [], Bool, true, false, not, ◌==◌, ◌%◌, ◌/◌, if◌then◌else◌, nat_lt, List, Option, Some, None, is_some, refl, sym, ap, ◌∙◌, subst}
-use Rattle.disk_model.specs.Moments.{LeavesOnly}
-use Rattle.disk_model.specs.Stop.{Image, MayLeave}
-use Rattle.disk_model.specs.declared.sector_disk.SectorDisk.{Ghosts}
+use Rattle.std.proofs.Common.{ℕ, ◌≡◌, ◌<◌, ◌≤◌, ◌⊎◌, inl, inr, ⊎_elim, ◌∷◌, [], Bool, true, false, not, ◌==◌, ◌%◌, ◌/◌, if◌then◌else◌, nat_lt, List, Option, Some, None, is_some, refl, sym, ap, ◌∙◌, subst, rules}
+use Rattle.disk_model.specs.{Moments.{LeavesOnly}, Stop.{Image, MayLeave}, declared.sector_disk.SectorDisk.{Ghosts}}
 use Rattle.disk_model.proofs.Moments.{weaker, holds_now}
-use Rattle.file_store.specs.Commit.{StandsForEither}
-use Rattle.file_store.specs.Standing.{StandsFor}
+use Rattle.file_store.specs.{Commit.{StandsForEither}, Standing.{StandsFor}}
 use Rattle.frames.specs.FrameTable.{frame_count}
 use Rattle.swap.specs.Slots.{slots_of}
-use Rattle.residency.specs.Calls.{UsesDevice}
-use Rattle.residency.specs.Picture.{picture_of}
-use Rattle.residency.specs.Shows.{ShowsPages}
-use Rattle.residency.specs.declared.kernel.Core.{Core}
+use Rattle.residency.specs.{Calls.{UsesDevice}, Picture.{picture_of}, Shows.{ShowsPages}, declared.kernel.Core.{Core}}
 use Rattle.fault.specs.Changes.{KeepsRoom}
 use Rattle.ranges.specs.Steps.{KeepsDevices}
 use Rattle.spaces.specs.Calls as Calls
 use Rattle.spaces.specs.Idle.{is_denial, is_idle}
 use Rattle.msync.specs.Shows as Syncing
 use Rattle.msync.specs.Core.{KeepsMemory, GivesBack, Commits, Acknowledged, Failed, Unread}
-use Rattle.vm_types.specs.declared.command.Command.{Command}
-use Rattle.vm_types.specs.declared.command.Command.TheVariants.{Msync}
-use Rattle.vm_types.specs.declared.command.MsyncMode.{MsyncMode}
-use Rattle.vm_types.specs.declared.command.MsyncMode.TheVariants.{Sync, Async}
-use Rattle.vm_types.specs.declared.refusal.Errno.{Errno}
-use Rattle.vm_types.specs.declared.refusal.Errno.TheVariants.{ESRCH, EIO, EINVAL, ENOMEM, ENOSPC}
-use Rattle.vm_types.specs.declared.refusal.Stall.{Stall}
-use Rattle.vm_types.specs.declared.refusal.Stall.TheVariants.{SwapDevice}
-use Rattle.vm_types.specs.declared.reply.Reply.{Reply}
-use Rattle.vm_types.specs.declared.reply.Reply.TheVariants.{Done, Refused, Stalled}
-use Rattle.vm_types.specs.Checks.{Check, first_of, pages_from}
-use Rattle.vm_types.specs.Msync.{Ruling, Refuses, Passes, Takes, or_else, row_ruling, msync_ruling, touched_count, committed}
-use Rattle.vm_types.specs.Prefix.{is_io_error, may_have_taken}
-use Rattle.vm_types.specs.Rows.{is_covered}
-use Rattle.vm_types.specs.Run.{Answers, Fails, Stalls}
-use Rattle.vm_types.specs.Stalls.{is_success}
-use Rattle.vm_types.specs.State.{State, IsRunning, halted}
-use Rattle.vm_types.specs.Step.{noted, outcome, msync_outcome, ruling, commit_of, commits, takes}
-use Rattle.vm_types.specs.View.{Pages, attrs_of}
-use Rattle.machine.specs.declared.engine.Engine.{Engine}
-use Rattle.machine.specs.Engine.{stands_in, MayStand, HoldsIn, StandsForSome, EngineShows, EngineMeets}
-use Rattle.machine.proofs.Flat.{with_past, OnlyNow, is_running, shows_core, answered, unread, keeps_all}
-use Rattle.machine.proofs.Steps.{outcome_keeps, commit_takes}
+use Rattle.vm_types.specs.{declared.command.Command.{Command}, declared.command.Command.TheVariants.{Msync}, declared.command.MsyncMode.{MsyncMode}, declared.command.MsyncMode.TheVariants.{Sync, Async}, declared.refusal.Errno.{Errno}}
+use Rattle.vm_types.specs.{declared.refusal.Errno.TheVariants.{ESRCH, EIO, EINVAL, ENOMEM, ENOSPC}, declared.refusal.Stall.{Stall}, declared.refusal.Stall.TheVariants.{SwapDevice}, declared.reply.Reply.{Reply}}
+use Rattle.vm_types.specs.{declared.reply.Reply.TheVariants.{Done, Refused, Stalled}, Checks.{Check, first_of, pages_from}, Msync.{Ruling, Refuses, Passes, Takes, or_else, row_ruling, msync_ruling, touched_count, committed}}
+use Rattle.vm_types.specs.{Prefix.{is_io_error, may_have_taken}, Rows.{is_covered}, Run.{Answers, Fails, Stalls}, Stalls.{is_success}, State.{State, IsRunning, halted}}
+use Rattle.vm_types.specs.{Step.{noted, outcome, msync_outcome, ruling, commit_of, commits, takes}, View.{Pages, attrs_of}}
+use Rattle.machine.specs.{declared.engine.Engine.{Engine}, Engine.{stands_in, MayStand, HoldsIn, StandsForSome, EngineShows, EngineMeets}}
+use Rattle.machine.proofs.{Flat.{with_past, OnlyNow, is_running, shows_core, answered, unread, keeps_all}, Steps.{outcome_keeps, commit_takes}}
 
 -- no check returns EIO
 abbrev IsNoFailure : Option Errno → Type 0
@@ -99,9 +77,8 @@ never_fails s pid addr len mode e = ruled_so s (msync_ruling s pid addr len mode
 
 -- what it returns, where it makes pages durable
 done_of : (s : State) (r : Ruling) (after : Pages) → commit_of s r ≡ Some after → (msync_outcome s r).reply ≡ Done
-done_of s (Refuses errno) after e = absurd (let k : None ≡ Some after = e in cc)
-done_of s Passes after e = absurd (let k : None ≡ Some after = e in cc)
 done_of s (Takes pid first count) after e = refl
+done_of s r after e = absurd (cc)
 
 -- where it makes none durable, the state stays
 stays_of : (s : State) (r : Ruling) → commit_of s r ≡ None → ((msync_outcome s r).state ≡ s) × (takes s r s.durable ≡ s.durable)
@@ -119,12 +96,6 @@ never_idle s pid addr len mode reply after commit taken idle =
     cc
 
 -- it stalls for the swap device alone
-done_no_stall : (stall : Stall) → Done ≡ Stalled stall → ⊥
-done_no_stall stall e = cc
-
-refused_no_stall : (errno : Errno) (stall : Stall) → Refused errno ≡ Stalled stall → ⊥
-refused_no_stall errno stall e = cc
-
 stall_is : (stall : Stall) → Stalled SwapDevice ≡ Stalled stall → SwapDevice ≡ stall
 stall_is stall e = cc
 
@@ -178,7 +149,7 @@ module _ {M : Type 0} {levels : Levels.Ghosts M} {D E : Type 0} (g : Ghosts D) (
           past = shows.past ∙ sym all.past;
           stands = λ k c may. (t.durable, subst (λ (o : Option (List Pages)). stands_in o t.durable t.durable) (sym goes_on) refl, now.stands k c may);
         };
-        capacity = λ stall e. absurd (done_no_stall stall (sym done ∙ e));
+        capacity = λ stall e. absurd (let never : Done ≡ Stalled stall = sym done ∙ e in cc);
         room = room;
         size = made.size;
         swap_size = device.size;
@@ -194,17 +165,7 @@ module _ {M : Type 0} {levels : Levels.Ghosts M} {D E : Type 0} (g : Ghosts D) (
       → KeepsMemory old.core core → (t : State) × EngineMeets g h old (engine true) s t x reply
   commit_failed counts_now back failed grew memory =
       let t = halted s after in
-      let pages : ShowsPages (picture_of old.core) t = record {
-        live = shows.pages.live;
-        views = shows.pages.views;
-        files = shows.pages.files;
-        touched = shows.pages.touched;
-        objects = shows.pages.objects;
-        blank = shows.pages.blank;
-        held = shows.pages.held;
-        same_mode = shows.pages.same_mode;
-        clean = shows.pages.clean;
-      } in
+      let pages : ShowsPages (picture_of old.core) t = search rules in
       let meets : EngineMeets g h old (engine true) s t x reply = record {
         step = Fails after run commit grew failed refl;
         shows = record {
@@ -217,7 +178,7 @@ module _ {M : Type 0} {levels : Levels.Ghosts M} {D E : Type 0} (g : Ghosts D) (
               (holds_now g old.core.store.disk core.store.disk (StandsForEither n s.files s.durable after)
               (λ m i le ml. counts_now core.store.disk m i k le ml) (made.either k back) c may));
         };
-        capacity = λ stall e. absurd (refused_no_stall EIO stall (sym failed ∙ e));
+        capacity = λ stall e. absurd (let never : Refused EIO ≡ Stalled stall = sym failed ∙ e in cc);
         room = room;
         size = made.size;
         swap_size = device.size;

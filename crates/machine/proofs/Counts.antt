@@ -1,19 +1,11 @@
 -- What the replies of a run say of devices and frames, counted.
-use Rattle.std.proofs.Common.{ℕ, ◌+◌, ◌≡◌, ◌≤◌, ◌<◌, Bool, true, false, if◌then◌else◌, List, [], ◌∷◌, refl, ◌∙◌, subst, sym, sum_by, arith}
-use Rattle.std.proofs.lemmas.List.Sums.{sum_by-cons}
+use Rattle.std.proofs.{Common.{ℕ, ◌+◌, ◌≡◌, ◌≤◌, ◌<◌, Bool, true, false, if◌then◌else◌, List, [], ◌∷◌, refl, ◌∙◌, subst, sym, sum_by, arith}, lemmas.List.Sums.{sum_by-cons}}
 use Rattle.disk_model.specs.declared.sector_disk.SectorDisk.{Ghosts}
-use Rattle.vm_types.specs.declared.refusal.Errno.{Errno}
-use Rattle.vm_types.specs.declared.refusal.Errno.TheVariants.{ESRCH, EIO, EBADF, EAGAIN, ENOMEM, EACCES, EEXIST, EINVAL, ENOSPC, EOVERFLOW}
-use Rattle.vm_types.specs.declared.refusal.Stall.{Stall}
-use Rattle.vm_types.specs.declared.refusal.Stall.TheVariants.{NoFrames, NoSwap, SwapDevice, StoreDevice}
-use Rattle.vm_types.specs.declared.reply.Reply.{Reply}
-use Rattle.vm_types.specs.declared.reply.Reply.TheVariants.{Process, Address, Done, Value, Faulted, Refused, Stalled, Halted, Past}
+use Rattle.vm_types.specs.{declared.refusal.Errno.{Errno}, declared.refusal.Errno.TheVariants.{EIO}, declared.refusal.Stall.{Stall}, declared.refusal.Stall.TheVariants.{SwapDevice, StoreDevice}, declared.reply.Reply.{Reply}}
+use Rattle.vm_types.specs.declared.reply.Reply.TheVariants.{Refused, Stalled}
 use Rattle.spaces.specs.Idle.{names_store, names_swap, refused_count}
-use Rattle.machine.specs.Chain.{Caused}
-use Rattle.machine.specs.Counts.{failed_count, swap_failed_count, Counts}
-use Rattle.machine.specs.Machine.{store_of, swap_of}
+use Rattle.machine.specs.{Chain.{Caused}, Counts.{failed_count, swap_failed_count, Counts}, Machine.{store_of, swap_of}, declared.machine.Machine.{Machine}}
 use Rattle.machine.proofs.Face.{HasCause, cause_of}
-use Rattle.machine.specs.declared.machine.Machine.{Machine}
 
 not_counted : (b : Bool) (n : ℕ) → n ≡ (if b then 1 else 0) → n ≡ 0 → b ≡ false
 not_counted false n is none = refl
@@ -23,54 +15,29 @@ module _ {D E : Type 0} (g : Ghosts D) (h : Ghosts E) where
   refused_failed : (old new : Machine D E) (errno : Errno) → HasCause g h old new (Refused errno)
       → g.failures (store_of old) + failed_count (Refused errno) ≤ g.failures (store_of new)
   refused_failed old new EIO is = let less : g.failures (store_of old) < g.failures (store_of new) = is.failed refl in omega (arith, less)
-  refused_failed old new ESRCH is = omega (arith, is.later)
-  refused_failed old new EBADF is = omega (arith, is.later)
-  refused_failed old new EAGAIN is = omega (arith, is.later)
-  refused_failed old new ENOMEM is = omega (arith, is.later)
-  refused_failed old new EACCES is = omega (arith, is.later)
-  refused_failed old new EEXIST is = omega (arith, is.later)
-  refused_failed old new EINVAL is = omega (arith, is.later)
-  refused_failed old new ENOSPC is = omega (arith, is.later)
-  refused_failed old new EOVERFLOW is = omega (arith, is.later)
+  refused_failed old new errno is = omega (arith, is.later)
 
   stall_failed : (old new : Machine D E) (stall : Stall) → HasCause g h old new (Stalled stall)
       → g.failures (store_of old) + failed_count (Stalled stall) ≤ g.failures (store_of new)
   stall_failed old new StoreDevice is = let less : g.failures (store_of old) < g.failures (store_of new) = is.stalled refl in omega (arith, less)
-  stall_failed old new NoFrames is = omega (arith, is.later)
-  stall_failed old new NoSwap is = omega (arith, is.later)
-  stall_failed old new SwapDevice is = omega (arith, is.later)
+  stall_failed old new stall is = omega (arith, is.later)
 
   failed_once : (old new : Machine D E) (reply : Reply) → HasCause g h old new reply
       → g.failures (store_of old) + failed_count reply ≤ g.failures (store_of new)
   failed_once old new (Refused errno) is = refused_failed old new errno is
   failed_once old new (Stalled stall) is = stall_failed old new stall is
-  failed_once old new (Process pid) is = omega (arith, is.later)
-  failed_once old new (Address addr) is = omega (arith, is.later)
-  failed_once old new Done is = omega (arith, is.later)
-  failed_once old new (Value width value) is = omega (arith, is.later)
-  failed_once old new (Faulted fault) is = omega (arith, is.later)
-  failed_once old new Halted is = omega (arith, is.later)
-  failed_once old new (Past past) is = omega (arith, is.later)
+  failed_once old new reply is = omega (arith, is.later)
 
   swap_stall_failed : (old new : Machine D E) (stall : Stall) → HasCause g h old new (Stalled stall)
       → h.failures (swap_of old) + swap_failed_count (Stalled stall) ≤ h.failures (swap_of new)
   swap_stall_failed old new SwapDevice is =
       let less : h.failures (swap_of old) < h.failures (swap_of new) = is.swap_stalled refl in omega (arith, less)
-  swap_stall_failed old new NoFrames is = omega (arith, is.swap_later)
-  swap_stall_failed old new NoSwap is = omega (arith, is.swap_later)
-  swap_stall_failed old new StoreDevice is = omega (arith, is.swap_later)
+  swap_stall_failed old new stall is = omega (arith, is.swap_later)
 
   swap_failed_once : (old new : Machine D E) (reply : Reply) → HasCause g h old new reply
       → h.failures (swap_of old) + swap_failed_count reply ≤ h.failures (swap_of new)
   swap_failed_once old new (Stalled stall) is = swap_stall_failed old new stall is
-  swap_failed_once old new (Refused errno) is = omega (arith, is.swap_later)
-  swap_failed_once old new (Process pid) is = omega (arith, is.swap_later)
-  swap_failed_once old new (Address addr) is = omega (arith, is.swap_later)
-  swap_failed_once old new Done is = omega (arith, is.swap_later)
-  swap_failed_once old new (Value width value) is = omega (arith, is.swap_later)
-  swap_failed_once old new (Faulted fault) is = omega (arith, is.swap_later)
-  swap_failed_once old new Halted is = omega (arith, is.swap_later)
-  swap_failed_once old new (Past past) is = omega (arith, is.swap_later)
+  swap_failed_once old new reply is = omega (arith, is.swap_later)
 
   -- where the reply doesn't name the store
   calm_once : (old new : Machine D E) (reply : Reply) → HasCause g h old new reply → failed_count reply ≡ 0

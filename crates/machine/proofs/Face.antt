@@ -1,19 +1,10 @@
 -- What the words on machines say, whatever the mode.
-use Rattle.std.proofs.Common.{◌+◌, ◌≡◌, ◌≤◌, ◌<◌, true, false, is_some, refl, ap}
-use Rattle.disk_model.specs.Moments.{LeavesNow, LeavesOnly}
-use Rattle.disk_model.specs.declared.sector_disk.SectorDisk.{Ghosts}
+use Rattle.std.proofs.Common.{◌+◌, ◌≡◌, ◌≤◌, ◌<◌, true, false, is_some, ap, rules}
+use Rattle.disk_model.specs.{Moments.{LeavesNow, LeavesOnly}, declared.sector_disk.SectorDisk.{Ghosts}}
 use Rattle.spaces.specs.Idle.{is_idle, names_store, names_swap, refused_count}
-use Rattle.vm_types.specs.declared.command.Command.{Command}
-use Rattle.vm_types.specs.declared.refusal.Errno.TheVariants.{EIO}
-use Rattle.vm_types.specs.declared.refusal.Stall.TheVariants.{SwapDevice, StoreDevice}
-use Rattle.vm_types.specs.declared.reply.Reply.{Reply}
-use Rattle.vm_types.specs.declared.reply.Reply.TheVariants.{Refused, Stalled}
-use Rattle.vm_types.specs.Run.{Step}
-use Rattle.vm_types.specs.Stalls.{Causes}
-use Rattle.vm_types.specs.State.{State}
-use Rattle.machine.specs.Engine.{MayStand, HoldsIn, StandsForSome}
-use Rattle.machine.specs.declared.machine.Machine.{Machine}
-use Rattle.machine.specs.declared.machine.Machine.TheVariants.{Sv39, Sv48}
+use Rattle.vm_types.specs.{declared.command.Command.{Command}, declared.refusal.Errno.TheVariants.{EIO}, declared.refusal.Stall.TheVariants.{SwapDevice, StoreDevice}, declared.reply.Reply.{Reply}}
+use Rattle.vm_types.specs.{declared.reply.Reply.TheVariants.{Refused, Stalled}, Run.{Step}, Stalls.{Causes}, State.{State}}
+use Rattle.machine.specs.{Engine.{MayStand, HoldsIn, StandsForSome}, declared.machine.Machine.{Machine}, declared.machine.Machine.TheVariants.{Sv39, Sv48}}
 use Rattle.machine.specs.Machine.{store_of, swap_of, halted_of, past_of, refused_of, mode_of, bits_of, KeepsSizes, IsCausedBetween, Shows, Meets, IsReadable}
 
 module _ {D E : Type 0} (g : Ghosts D) (h : Ghosts E) where
@@ -56,30 +47,15 @@ module _ {D E : Type 0} (g : Ghosts D) (h : Ghosts E) where
         → LeavesOnly g (store_of old) (store_of new) (StandsForSome (g.sector_count (store_of old)) s.files (HoldsIn s command reply))
 
   pub face : (old new : Machine D E) (s t : State) (command : Command) (reply : Reply) → Meets g h old new s t command reply → IsMet old new s t command reply
-  face (Sv39 old) (Sv39 new) s t command reply meets = record {
-    step = meets.step;
-    shows = meets.shows;
-    room = record { frames = meets.room.frames; slots = meets.room.slots; mode = refl };
-    size = meets.size;
-    swap_size = meets.swap_size;
-    kept = meets.kept;
-    swap_kept = meets.swap_kept;
-    idle = λ e. let keeps = meets.idle e in (ap (λ store. store.disk) keeps.store, ap (λ pages. pages.disk) keeps.pages);
-    moments = meets.moments;
-  }
-  face (Sv48 old) (Sv48 new) s t command reply meets = record {
-    step = meets.step;
-    shows = meets.shows;
-    room = record { frames = meets.room.frames; slots = meets.room.slots; mode = refl };
-    size = meets.size;
-    swap_size = meets.swap_size;
-    kept = meets.kept;
-    swap_kept = meets.swap_kept;
-    idle = λ e. let keeps = meets.idle e in (ap (λ store. store.disk) keeps.store, ap (λ pages. pages.disk) keeps.pages);
-    moments = meets.moments;
-  }
-  face (Sv39 old) (Sv48 new) s t command reply meets = absurd meets
-  face (Sv48 old) (Sv39 new) s t command reply meets = absurd meets
+  face (Sv39 old) (Sv39 new) s t command reply meets =
+      let idle : is_idle s command reply ≡ true → (store_of (Sv39 new) ≡ store_of (Sv39 old)) × (swap_of (Sv39 new) ≡ swap_of (Sv39 old)) = λ e.
+      let keeps = meets.idle e in (ap (λ store. store.disk) keeps.store, ap (λ pages. pages.disk) keeps.pages) in
+      search rules
+  face (Sv48 old) (Sv48 new) s t command reply meets =
+      let idle : is_idle s command reply ≡ true → (store_of (Sv48 new) ≡ store_of (Sv48 old)) × (swap_of (Sv48 new) ≡ swap_of (Sv48 old)) = λ e.
+      let keeps = meets.idle e in (ap (λ store. store.disk) keeps.store, ap (λ pages. pages.disk) keeps.pages) in
+      search rules
+  face old new s t command reply meets = absurd meets
 
   -- what a reply comes from
   pub record HasCause (old new : Machine D E) (reply : Reply) : Type 0 where
@@ -93,25 +69,12 @@ module _ {D E : Type 0} (g : Ghosts D) (h : Ghosts E) where
     pub swap_stalled : reply ≡ Stalled SwapDevice → h.failures (swap_of old) < h.failures (swap_of new)
 
   pub cause_of : (old new : Machine D E) (reply : Reply) → IsCausedBetween g h old new reply → HasCause old new reply
-  cause_of (Sv39 old) (Sv39 new) reply is = record {
-    later = is.later;
-    swap_later = is.swap_later;
-    calm = is.calm;
-    swap_calm = is.swap_calm;
-    counted = is.counted;
-    failed = is.failed;
-    stalled = λ e. (is.stalled StoreDevice e).1;
-    swap_stalled = λ e. (is.stalled SwapDevice e).2;
-  }
-  cause_of (Sv48 old) (Sv48 new) reply is = record {
-    later = is.later;
-    swap_later = is.swap_later;
-    calm = is.calm;
-    swap_calm = is.swap_calm;
-    counted = is.counted;
-    failed = is.failed;
-    stalled = λ e. (is.stalled StoreDevice e).1;
-    swap_stalled = λ e. (is.stalled SwapDevice e).2;
-  }
-  cause_of (Sv39 old) (Sv48 new) reply is = absurd is
-  cause_of (Sv48 old) (Sv39 new) reply is = absurd is
+  cause_of (Sv39 old) (Sv39 new) reply is =
+      let stalled : reply ≡ Stalled StoreDevice → g.failures (store_of (Sv39 old)) < g.failures (store_of (Sv39 new)) = λ e. (is.stalled StoreDevice e).1 in
+      let swap_stalled : reply ≡ Stalled SwapDevice → h.failures (swap_of (Sv39 old)) < h.failures (swap_of (Sv39 new)) = λ e. (is.stalled SwapDevice e).2 in
+      search rules
+  cause_of (Sv48 old) (Sv48 new) reply is =
+      let stalled : reply ≡ Stalled StoreDevice → g.failures (store_of (Sv48 old)) < g.failures (store_of (Sv48 new)) = λ e. (is.stalled StoreDevice e).1 in
+      let swap_stalled : reply ≡ Stalled SwapDevice → h.failures (swap_of (Sv48 old)) < h.failures (swap_of (Sv48 new)) = λ e. (is.stalled SwapDevice e).2 in
+      search rules
+  cause_of old new reply is = absurd is

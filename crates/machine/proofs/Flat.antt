@@ -1,53 +1,25 @@
 -- Commands that write nothing to the store.
 use Rattle.vm_types.specs.declared.mode.Levels as Levels
-use Rattle.std.proofs.Common.{ℕ, ◌/◌, ◌≡◌, inl, Bool, true, false, List, Option, Some, None, is_some, refl, sym, ap, ◌∙◌, subst, inr, ⊎_elim, arith}
-use Rattle.disk_model.specs.Moments.{LeavesNow, LeavesOnly, Touches, Nothing}
-use Rattle.disk_model.specs.Stop.{Image, MayLeave}
-use Rattle.disk_model.specs.declared.sector_disk.SectorDisk.{Ghosts}
+use Rattle.std.proofs.Common.{ℕ, ◌/◌, ◌≡◌, inl, Bool, true, false, List, Option, Some, None, is_some, refl, sym, ap, ◌∙◌, subst, inr, ⊎_elim, arith, rules}
+use Rattle.disk_model.specs.{Moments.{LeavesNow, LeavesOnly, Touches, Nothing}, Stop.{Image, MayLeave}, declared.sector_disk.SectorDisk.{Ghosts}}
 use Rattle.disk_model.proofs.Moments.{stays, started, goes_on, still_leaves, asks_none}
-use Rattle.file_store.specs.Standing.{StandsFor}
-use Rattle.file_store.specs.declared.store.FileStore.{FileStore}
+use Rattle.file_store.specs.{Standing.{StandsFor}, declared.store.FileStore.{FileStore}}
 use Rattle.frames.specs.FrameTable.{frame_count}
 use Rattle.swap.specs.Slots.{slots_of}
-use Rattle.residency.specs.Calls.{UsesDevice}
-use Rattle.residency.specs.Reading.{ReadsStore}
-use Rattle.residency.specs.Picture.{Picture, picture_of}
-use Rattle.residency.specs.Shows.{ShowsPages}
-use Rattle.residency.specs.declared.kernel.Core.{Core}
-use Rattle.fault.proofs.Asking.{asks_slots_same}
+use Rattle.residency.specs.{Calls.{UsesDevice}, Reading.{ReadsStore}, Picture.{Picture, picture_of}, Shows.{ShowsPages}, declared.kernel.Core.{Core}}
+use Rattle.fault.proofs.{Asking.{asks_slots_same}, AccessAsking.{asks_same}, AccessSlotted.{slotted_same}, Wanted.{calm_same}}
 use Rattle.fault.specs.Changes.{KeepsRoom}
 use Rattle.ranges.specs.Steps.{KeepsDevices}
-use Rattle.fault.proofs.AccessAsking.{asks_same}
-use Rattle.fault.proofs.AccessSlotted.{slotted_same}
-use Rattle.fault.proofs.Wanted.{calm_same}
 use Rattle.msync.specs.Shows as Syncing
 use Rattle.msync.proofs.SettledPages.{settles_nothing}
-use Rattle.spaces.proofs.Asking.{writes_none}
-use Rattle.spaces.proofs.Returning.{takes_none}
-use Rattle.spaces.specs.Accesses.{AsksFor}
+use Rattle.spaces.proofs.{Asking.{writes_none}, Returning.{takes_none}}
+use Rattle.spaces.specs.{Accesses.{AsksFor}, Idle.{is_idle}}
 use Rattle.spaces.specs.Calls as Calls
-use Rattle.spaces.specs.Idle.{is_idle}
-use Rattle.vm_types.specs.declared.access.Access.{Access}
+use Rattle.vm_types.specs.{declared.access.Access.{Access}, declared.command.Command.{Command}, declared.command.Command.TheVariants.{Spawn, Fork, Exit, Mmap, Munmap, Mprotect, Dontneed, Msync, Load, Store, Fetch, PastFaults}}
+use Rattle.vm_types.specs.{declared.refusal.Stall.{Stall}, declared.reply.Reply.{Reply}, declared.reply.Reply.TheVariants.{Done, Halted}, Checks.{page_count}, Files.{Files}, Limits.{user_end}, History.{Past}, Run.{Answers, Stalls, Stays}}
+use Rattle.vm_types.specs.{Stalls.{MayStall}, State.{State, IsRunning}, Step.{outcome, noted, past_after, ruling, takes}, View.{Pages}}
 use Rattle.vm_types.specs.declared.access.Access.TheVariants as Kinds
-use Rattle.vm_types.specs.declared.command.Command.{Command}
-use Rattle.vm_types.specs.declared.command.Command.TheVariants.{Spawn, Fork, Exit, Mmap, Munmap, Mprotect, Dontneed, Msync, Load, Store, Fetch, PastFaults}
-use Rattle.vm_types.specs.declared.refusal.Stall.{Stall}
-use Rattle.vm_types.specs.declared.refusal.Stall.TheVariants.{StoreDevice}
-use Rattle.vm_types.specs.declared.reply.Reply.{Reply}
-use Rattle.vm_types.specs.declared.reply.Reply.TheVariants.{Done, Halted}
-use Rattle.vm_types.specs.Checks.{page_count}
-use Rattle.vm_types.specs.Files.{Files}
-use Rattle.vm_types.specs.Limits.{user_end}
-use Rattle.vm_types.specs.History.{Past}
-use Rattle.vm_types.specs.Run.{Answers, Stalls, Stays}
-use Rattle.vm_types.specs.Stalls.{MayStall}
-use Rattle.vm_types.specs.State.{State, IsRunning}
-use Rattle.vm_types.specs.Step.{outcome, noted, past_after, ruling, takes}
-use Rattle.vm_types.specs.View.{Pages}
-use Rattle.machine.specs.Engine.{stands_in, MayStand, HoldsIn, StandsForSome, EngineShows, EngineMeets}
-use Rattle.machine.specs.Accesses.{Accesses}
-use Rattle.machine.specs.declared.engine.Engine.{Engine}
-use Rattle.machine.proofs.Outcomes.{never_stalls}
+use Rattle.machine.specs.{Engine.{stands_in, MayStand, HoldsIn, StandsForSome, EngineShows, EngineMeets}, Accesses.{Accesses}, declared.engine.Engine.{Engine}}
 use Rattle.machine.proofs.Steps.{outcome_keeps, past_stalled}
 
 running_of : (o : Option (List Pages)) → is_some o ≡ false → o ≡ None
@@ -58,45 +30,33 @@ halted_of : (o : Option (List Pages)) → is_some o ≡ true → (ends : List Pa
 halted_of None e = cc
 halted_of (Some x) e = (x, refl)
 
--- a halted machine asks for nothing
-no_stall : (stall : Stall) → Halted ≡ Reply.Stalled stall → ⊥
-no_stall stall e = cc
-
-no_process : (pid : ℕ) → Halted ≡ Reply.Process pid → ⊥
-no_process pid e = cc
-
 same_stall : (stall other : Stall) → Reply.Stalled stall ≡ Reply.Stalled other → stall ≡ other
 same_stall stall other e = cc
 
+-- a halted machine asks for nothing
 halted_asks : {M : Type 0} {levels : Levels.Ghosts M} {D E : Type 0} (g : Ghosts D) (h : Ghosts E) (c : Core D E M levels) (pid addr : ℕ) (access : Access) → AsksFor g h c c pid addr access Halted
-halted_asks g h c pid addr access = record { wanted = λ stall e. absurd (no_stall stall e); refused = λ stall e. absurd (no_stall stall e); home = λ e. absurd (no_stall StoreDevice e); read = inl refl; slots = λ none. refl; slotted = slotted_same _ _ (picture_of c); granted = c; tables = λ n table. inl table; calm = λ none. calm_same c pid (addr / 4096); writes = writes_none access c; grants = λ done unstalled. absurd (let never : true ≡ false = done in cc); sectors = asks_same g h c c pid (addr / 4096) access refl refl }
+halted_asks g h c pid addr access = record {
+  wanted = search rules;
+  refused = search rules;
+  home = search rules;
+  read = inl refl;
+  slots = λ none. refl;
+  slotted = slotted_same _ _ (picture_of c);
+  granted = c;
+  tables = λ n table. inl table;
+  calm = λ none. calm_same c pid (addr / 4096);
+  writes = writes_none access c;
+  grants = search rules;
+  sectors = asks_same g h c c pid (addr / 4096) access refl refl;
+}
 
 module _ {M : Type 0} {levels : Levels.Ghosts M} {D E : Type 0} (g : Ghosts D) (h : Ghosts E) where
   pub halted_accesses : (c : Core D E M levels) (command : Command) → Accesses g h c c command Halted
   halted_accesses c (Load pid addr width) = (halted_asks g h c pid addr Kinds.Load, λ place walked. refl)
   halted_accesses c (Fetch pid addr) = (halted_asks g h c pid addr Kinds.Fetch, λ place walked. refl)
   halted_accesses c (Store pid addr stored) = (halted_asks g h c pid addr Kinds.Store, λ place walked done. absurd (let never : Halted ≡ Done = done in cc))
-  halted_accesses c Spawn = (
-    record {
-      root = λ pid e. absurd (no_process pid e);
-      gives = λ pid e. absurd (no_process pid e);
-      tried = λ stall e. absurd (no_stall stall e);
-      still = λ stall e. absurd (no_stall stall e);
-      full = λ stall e. absurd (no_stall stall e);
-      refuses = λ stall e. absurd (no_stall stall e);
-    },
-    refl,
-    asks_slots_same h c c None Nothing refl,
-  )
-  halted_accesses c (Fork pid) = (
-    record {
-      entries = λ child e. absurd (no_process child e);
-      tables = λ child e. absurd (no_process child e);
-      stalls = λ stall e. absurd (no_stall stall e);
-    },
-    refl,
-    asks_slots_same h c c None Nothing refl,
-  )
+  halted_accesses c Spawn = (search rules, refl, asks_slots_same h c c None Nothing refl)
+  halted_accesses c (Fork pid) = (search rules, refl, asks_slots_same h c c None Nothing refl)
   halted_accesses c (Exit pid) = takes_none (picture_of c) pid 0 (user_end levels.mode)
   halted_accesses c (Mmap pid addr len prot source placing) = (takes_none (picture_of c) pid 0 (page_count len), λ page user out. refl)
   halted_accesses c (Munmap pid addr len) = (takes_none (picture_of c) pid (addr / 4096) (page_count len), λ page user out. refl)
@@ -219,7 +179,7 @@ module _ {M : Type 0} {levels : Levels.Ghosts M} {D E : Type 0} (g : Ghosts D) (
             past = kept_past ∙ ap (past_after command reply) (shows.past ∙ sym all.past);
             stands = moved t kept;
           };
-          capacity = λ stall e. absurd (never_stalls s command stall (sym answer ∙ e));
+          capacity = λ stall e. absurd (all.answers stall (sym answer ∙ e));
           room = room;
           size = reads.size;
           swap_size = device.size;
@@ -283,7 +243,7 @@ module _ {M : Type 0} {levels : Levels.Ghosts M} {D E : Type 0} (g : Ghosts D) (
       let meets : EngineMeets g h old old s s command Halted = record {
         step = Stays ends.0 ends.1 refl refl;
         shows = shows;
-        capacity = λ stall e. absurd (no_stall stall e);
+        capacity = λ stall e. absurd (cc);
         room = record { frames = refl; slots = refl };
         size = refl;
         swap_size = refl;

@@ -5,7 +5,6 @@ pub mod Commits
 pub mod Counts
 pub mod Face
 pub mod Flat
-pub mod Outcomes
 pub mod Prefixes
 pub mod Runs
 pub mod Steps

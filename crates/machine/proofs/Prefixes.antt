@@ -1,17 +1,8 @@
 -- The prefixes of the msyncs, command after command.
 use Rattle.std.proofs.Common.{ℕ, zero, suc, ◌+◌, ◌≡◌, ◌≤◌, ◌⊎◌, inl, inr, Bool, true, false, if◌then◌else◌, List, [], ◌∷◌, Some, None, refl, sym, ap, ◌∙◌, arith, add-one, add-zero}
-use Rattle.vm_types.specs.declared.command.Command.{Command}
-use Rattle.vm_types.specs.declared.command.Command.TheVariants.{Spawn, Fork, Exit, Mmap, Munmap, Mprotect, Dontneed, Msync, Load, Store, Fetch, PastFaults}
-use Rattle.vm_types.specs.declared.refusal.Errno.TheVariants.{EIO}
-use Rattle.vm_types.specs.declared.reply.Reply.{Reply}
-use Rattle.vm_types.specs.declared.reply.Reply.TheVariants.{Refused, Halted}
-use Rattle.vm_types.specs.Msync.{Ruling, Refuses, Passes, Takes, msync_ruling}
-use Rattle.vm_types.specs.Prefix.{Event, is_msync, is_done, may_have_taken, after_event, after_msyncs, this_or_further, acknowledged, IsPrefixHolding}
-use Rattle.vm_types.specs.Run.{Step, Answers, Fails, Stalls, Stays}
-use Rattle.vm_types.specs.Stalls.{Causes}
-use Rattle.vm_types.specs.State.{State, IsRunning}
-use Rattle.vm_types.specs.Step.{outcome, msync_outcome, ruling, takes, commits}
-use Rattle.vm_types.specs.View.{Pages}
+use Rattle.vm_types.specs.{declared.command.Command.{Command}, declared.command.Command.TheVariants.{Msync}, declared.refusal.Errno.TheVariants.{EIO}, declared.reply.Reply.{Reply}, declared.reply.Reply.TheVariants.{Refused, Halted}}
+use Rattle.vm_types.specs.{Msync.{Ruling, Refuses, Passes, Takes, msync_ruling}, Prefix.{Event, is_msync, is_done, may_have_taken, after_event, after_msyncs, this_or_further, acknowledged, IsPrefixHolding}}
+use Rattle.vm_types.specs.{Run.{Step, Answers, Fails, Stalls, Stays}, Stalls.{Causes}, State.{State, IsRunning}, Step.{outcome, msync_outcome, ruling, takes, commits}, View.{Pages}}
 use Rattle.machine.proofs.Steps.{outcome_keeps, commit_takes}
 use Rattle.machine.specs.Chain.{event}
 
@@ -33,18 +24,8 @@ msync_event s (Takes pid first count) reply d e = rw e refl
 
 answered_event : (s : State) (command : Command) (reply : Reply) (d : Pages) → reply ≡ (outcome s command).reply
     → after_event (event s command reply) d ≡ takes s (ruling s command) d
-answered_event s (Fork pid) reply d e = either_way (may_have_taken reply) d
-answered_event s (Exit pid) reply d e = either_way (may_have_taken reply) d
-answered_event s (Fetch pid addr) reply d e = either_way (may_have_taken reply) d
-answered_event s Spawn reply d e = either_way (may_have_taken reply) d
-answered_event s (Mmap pid addr len prot source placing) reply d e = either_way (may_have_taken reply) d
-answered_event s (Munmap pid addr len) reply d e = either_way (may_have_taken reply) d
-answered_event s (Mprotect pid addr len prot) reply d e = either_way (may_have_taken reply) d
-answered_event s (Dontneed pid addr len) reply d e = either_way (may_have_taken reply) d
-answered_event s PastFaults reply d e = either_way (may_have_taken reply) d
 answered_event s (Msync pid addr len mode) reply d e = msync_event s (msync_ruling s pid addr len mode) reply d e
-answered_event s (Load pid addr width) reply d e = either_way (may_have_taken reply) d
-answered_event s (Store pid addr value) reply d e = either_way (may_have_taken reply) d
+answered_event s command reply d e = either_way (may_have_taken reply) d
 
 -- The commit of the command failed: what it leaves is before it or after it.
 pub record Failed (s : State) (command : Command) (reply : Reply) (t : State) : Type 0 where
@@ -94,18 +75,8 @@ after_zero d [] = refl
 after_zero d (e ∷ es) = refl
 
 not_msync : (s : State) (command : Command) (reply : Reply) (d : Pages) → is_msync command ≡ false → after_event (event s command reply) d ≡ d
-not_msync s (Fork pid) reply d e = either_way (may_have_taken reply) d
-not_msync s (Exit pid) reply d e = either_way (may_have_taken reply) d
-not_msync s (Fetch pid addr) reply d e = either_way (may_have_taken reply) d
-not_msync s Spawn reply d e = either_way (may_have_taken reply) d
-not_msync s (Mmap pid addr len prot source placing) reply d e = either_way (may_have_taken reply) d
-not_msync s (Munmap pid addr len) reply d e = either_way (may_have_taken reply) d
-not_msync s (Mprotect pid addr len prot) reply d e = either_way (may_have_taken reply) d
-not_msync s (Dontneed pid addr len) reply d e = either_way (may_have_taken reply) d
-not_msync s PastFaults reply d e = either_way (may_have_taken reply) d
 not_msync s (Msync pid addr len mode) reply d e = cc
-not_msync s (Load pid addr width) reply d e = either_way (may_have_taken reply) d
-not_msync s (Store pid addr value) reply d e = either_way (may_have_taken reply) d
+not_msync s command reply d e = either_way (may_have_taken reply) d
 
 -- one more msync in front
 one_more : (s : State) (command : Command) (reply : Reply) (d : Pages) (events : List Event) (i : ℕ)

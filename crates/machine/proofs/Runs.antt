@@ -1,20 +1,10 @@
 -- A chain of commands, and what a stop in it leaves.
 use Rattle.std.proofs.Common.{ℕ, zero, suc, ◌≡◌, ◌≤◌, ◌⊎◌, inl, inr, ⊎_elim, true, List, [], ◌∷◌, ◌++◌, Option, Some, None, refl, sym, ap, ◌∙◌, subst, arith}
-use Rattle.disk_model.specs.Stop.{Image, MayLeave}
-use Rattle.disk_model.specs.declared.sector_disk.SectorDisk.{Ghosts}
-use Rattle.vm_types.specs.declared.command.Command.{Command}
-use Rattle.vm_types.specs.declared.reply.Reply.{Reply}
-use Rattle.vm_types.specs.Files.{Files}
-use Rattle.vm_types.specs.Prefix.{Event, after_event, acknowledged, IsPrefixHolding, may_have_taken}
-use Rattle.vm_types.specs.State.{State, IsRunning}
-use Rattle.vm_types.specs.Step.{ruling, takes}
+use Rattle.disk_model.specs.{Stop.{Image, MayLeave}, declared.sector_disk.SectorDisk.{Ghosts}}
+use Rattle.vm_types.specs.{declared.command.Command.{Command}, declared.reply.Reply.{Reply}, Files.{Files}, Prefix.{Event, after_event, acknowledged, IsPrefixHolding, may_have_taken}, State.{State, IsRunning}, Step.{ruling, takes}}
 use Rattle.vm_types.specs.View.{Pages}
-use Rattle.machine.specs.Chain.{event, Caused, Chain, after, Runs}
-use Rattle.machine.specs.Engine.{IsOneOf, stands_in, MayStand, HoldsIn, StandsForSome}
-use Rattle.machine.specs.Machine.{store_of, KeepsSizes, IsCausedBetween, Shows, Meets}
-use Rattle.machine.specs.declared.machine.Machine.{Machine}
-use Rattle.machine.proofs.Face.{causes, shown, face}
-use Rattle.machine.proofs.Prefixes.{step_files, Failed, goes_on_or_fails, halted_stays, failed_event, prefix_here, prefix_more, prefix_from_start, prefix_during, failed_before, failed_after, halted_event}
+use Rattle.machine.specs.{Chain.{event, Caused, Chain, after, Runs}, Engine.{IsOneOf, stands_in, MayStand, HoldsIn, StandsForSome}, Machine.{store_of, KeepsSizes, IsCausedBetween, Shows, Meets}, declared.machine.Machine.{Machine}}
+use Rattle.machine.proofs.{Face.{causes, shown, face}, Prefixes.{step_files, Failed, goes_on_or_fails, halted_stays, failed_event, prefix_here, prefix_more, prefix_from_start, prefix_during, failed_before, failed_after, halted_event}}
 
 -- the same image stands for contents of which Q holds
 pub some_more : (sectors : ℕ) (files : Files) (P Q : Pages → Type 0) (c : Image) → ((p : Pages) → P p → Q p) → StandsForSome sectors files P c → StandsForSome sectors files Q c
@@ -44,20 +34,14 @@ module _ {D E : Type 0} (g : Ghosts D) (h : Ghosts E) where
       → Chain g h old s commands replies events new t → g.keeps_model (store_of new) → g.keeps_model (store_of old)
   chain_kept old s [] [] [] new t c k = subst (λ (m : Machine D E). g.keeps_model (store_of m)) c.0 k
   chain_kept old s (x ∷ xs) (r ∷ rs) (e ∷ es) new t c k = (face g h old c.0 s c.1 x r c.3).kept (chain_kept c.0 c.1 xs rs es new t c.4 k)
-  chain_kept old s [] [] (e ∷ es) new t c k = absurd c
-  chain_kept old s [] (r ∷ rs) es new t c k = absurd c
-  chain_kept old s (x ∷ xs) [] es new t c k = absurd c
-  chain_kept old s (x ∷ xs) (r ∷ rs) [] new t c k = absurd c
+  chain_kept old s commands replies events new t c k = absurd c
 
   -- a chain keeps the numbers of frames and slots
   pub chain_room : (old : Machine D E) (s : State) (commands : List Command) (replies : List Reply) (events : List Event) (new : Machine D E) (t : State)
       → Chain g h old s commands replies events new t → KeepsSizes old new
   chain_room old s [] [] [] new t c = subst (λ (m : Machine D E). KeepsSizes old m) (sym c.0) (room_none old)
   chain_room old s (x ∷ xs) (r ∷ rs) (e ∷ es) new t c = room_then old c.0 new (face g h old c.0 s c.1 x r c.3).room (chain_room c.0 c.1 xs rs es new t c.4)
-  chain_room old s [] [] (e ∷ es) new t c = absurd c
-  chain_room old s [] (r ∷ rs) es new t c = absurd c
-  chain_room old s (x ∷ xs) [] es new t c = absurd c
-  chain_room old s (x ∷ xs) (r ∷ rs) [] new t c = absurd c
+  chain_room old s commands replies events new t c = absurd c
 
   -- from a halted state nothing but its ends may stand
   pub halted_leaves : (n : ℕ) (files : Files) (ends : List Pages) (old : Machine D E) (s : State) (commands : List Command) (replies : List Reply) (events : List Event) (new : Machine D E) (t : State)
@@ -85,10 +69,7 @@ module _ {D E : Type 0} (g : Ghosts D) (h : Ghosts E) where
       only_ends s x r ends is q hold =
           ⊎_elim (λ stand. subst (λ (o : Option (List Pages)). stands_in o s.durable q) is stand)
           (λ t. absurd (let k : Some ends ≡ None = sym is ∙ t.0 in cc)) hold
-  halted_leaves n files ends old s [] [] (e ∷ es) new t c keeps is f size m image le left = absurd c
-  halted_leaves n files ends old s [] (r ∷ rs) es new t c keeps is f size m image le left = absurd c
-  halted_leaves n files ends old s (x ∷ xs) [] es new t c keeps is f size m image le left = absurd c
-  halted_leaves n files ends old s (x ∷ xs) (r ∷ rs) [] new t c keeps is f size m image le left = absurd c
+  halted_leaves n files ends old s commands replies events new t c keeps is f size m image le left = absurd c
 
   -- while it runs, what stands is what some of the msyncs left
   pub running_leaves : (n : ℕ) (files : Files) (old : Machine D E) (s : State) (commands : List Command) (replies : List Reply) (events : List Event) (new : Machine D E) (t : State)
@@ -136,10 +117,7 @@ module _ {D E : Type 0} (g : Ghosts D) (h : Ghosts E) where
       ended s x r u es failed q one =
           ⊎_elim (λ e. prefix_here s.durable (event s x r ∷ es) q e)
           (λ rest. ⊎_elim (λ e. prefix_during s x r s.durable es q (e ∙ failed_event s x r u failed)) (λ none. absurd none) rest) one
-  running_leaves n files old s [] [] (e ∷ es) new t c keeps run f size m image le left = absurd c
-  running_leaves n files old s [] (r ∷ rs) es new t c keeps run f size m image le left = absurd c
-  running_leaves n files old s (x ∷ xs) [] es new t c keeps run f size m image le left = absurd c
-  running_leaves n files old s (x ∷ xs) (r ∷ rs) [] new t c keeps run f size m image le left = absurd c
+  running_leaves n files old s commands replies events new t c keeps run f size m image le left = absurd c
 
   -- once it has halted, nothing is acknowledged
   pub none_after : (ends : List Pages) (old : Machine D E) (s : State) (commands : List Command) (replies : List Reply) (events : List Event) (new : Machine D E) (t : State)
@@ -150,10 +128,7 @@ module _ {D E : Type 0} (g : Ghosts D) (h : Ghosts E) where
       let stays = halted_stays (causes g h old c.0) s x r c.1 ends (face g h old c.0 s c.1 x r c.3).step is in
       let rest = none_after ends c.0 c.1 xs rs es new t c.4 (ap (λ (y : State). y.ends) stays.1 ∙ is) k in
       subst (λ (first : Event). acknowledged (first ∷ es) (suc k) ≡ 0) (sym c.2) (halted_event s x r es k stays.0 rest)
-  none_after ends old s [] [] (e ∷ es) new t c is k = absurd c
-  none_after ends old s [] (r ∷ rs) es new t c is k = absurd c
-  none_after ends old s (x ∷ xs) [] es new t c is k = absurd c
-  none_after ends old s (x ∷ xs) (r ∷ rs) [] new t c is k = absurd c
+  none_after ends old s commands replies events new t c is k = absurd c
 
   after_start : (old : Machine D E) (s : State) (commands : List Command) (replies : List Reply) (events : List Event) (new : Machine D E) (t : State)
       → (c : Chain g h old s commands replies events new t) → after g h old s commands replies events new t c zero ≡ old
@@ -201,10 +176,7 @@ module _ {D E : Type 0} (g : Ghosts D) (h : Ghosts E) where
   halted_since n files ends old s (x ∷ xs) (r ∷ rs) (e ∷ es) new t c keeps is f size only_now shows (suc k) image left =
       let stays = halted_stays (causes g h old c.0) s x r c.1 ends (face g h old c.0 s c.1 x r c.3).step is in
       halted_since n files ends c.0 c.1 xs rs es new t c.4 keeps (ap (λ (y : State). y.ends) stays.1 ∙ is) (ap (λ (y : State). y.files) stays.1 ∙ f) ((face g h old c.0 s c.1 x r c.3).size ∙ size) only_now (face g h old c.0 s c.1 x r c.3).shows k image left
-  halted_since n files ends old s [] [] (e ∷ es) new t c keeps is f size only_now shows (suc k) image left = absurd c
-  halted_since n files ends old s [] (r ∷ rs) es new t c keeps is f size only_now shows (suc k) image left = absurd c
-  halted_since n files ends old s (x ∷ xs) [] es new t c keeps is f size only_now shows (suc k) image left = absurd c
-  halted_since n files ends old s (x ∷ xs) (r ∷ rs) [] new t c keeps is f size only_now shows (suc k) image left = absurd c
+  halted_since n files ends old s commands replies events new t c keeps is f size only_now shows k image left = absurd c
 
   -- every stop leaves a prefix of the msyncs
   pub leaves_prefix : (n : ℕ) (files : Files) (old : Machine D E) (s : State) (commands : List Command) (replies : List Reply) (events : List Event) (new : Machine D E) (t : State)
@@ -237,10 +209,7 @@ module _ {D E : Type 0} (g : Ghosts D) (h : Ghosts E) where
       ended s x r u es k failed q none one =
           ⊎_elim (λ e. failed_before s x r es k q failed.answer none e)
           (λ rest. ⊎_elim (λ e. failed_after s x r es k q none (e ∙ failed_event s x r u failed)) (λ nothing. absurd nothing) rest) one
-  leaves_prefix n files old s [] [] (e ∷ es) new t c keeps run f size only_now shows (suc k) image left = absurd c
-  leaves_prefix n files old s [] (r ∷ rs) es new t c keeps run f size only_now shows (suc k) image left = absurd c
-  leaves_prefix n files old s (x ∷ xs) [] es new t c keeps run f size only_now shows (suc k) image left = absurd c
-  leaves_prefix n files old s (x ∷ xs) (r ∷ rs) [] new t c keeps run f size only_now shows (suc k) image left = absurd c
+  leaves_prefix n files old s commands replies events new t c keeps run f size only_now shows k image left = absurd c
 
   -- one command more
   pub chain_more : (old : Machine D E) (s : State) (commands : List Command) (replies : List Reply) (events : List Event) (mid : Machine D E) (u : State) (new : Machine D E) (t : State) (x : Command) (r : Reply)
@@ -254,10 +223,7 @@ module _ {D E : Type 0} (g : Ghosts D) (h : Ghosts E) where
     (refl, refl),
   )
   chain_more old s (y ∷ ys) (q ∷ qs) (e ∷ es) mid u new t x r c meets = (c.0, c.1, c.2, c.3, chain_more c.0 c.1 ys qs es mid u new t x r c.4 meets)
-  chain_more old s [] [] (e ∷ es) mid u new t x r c meets = absurd c
-  chain_more old s [] (q ∷ qs) es mid u new t x r c meets = absurd c
-  chain_more old s (y ∷ ys) [] es mid u new t x r c meets = absurd c
-  chain_more old s (y ∷ ys) (q ∷ qs) [] mid u new t x r c meets = absurd c
+  chain_more old s commands replies events mid u new t x r c meets = absurd c
 
   pub ran_more : (old mid new : Machine D E) (s : State) (commands : List Command) (replies : List Reply) (x : Command) (r : Reply)
       → RanSoFar old mid s commands replies → ((u : State) → Shows g h mid u → (t : State) × Meets g h mid new u t x r)

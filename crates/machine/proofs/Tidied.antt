@@ -1,15 +1,8 @@
 -- A state that memory shows has no bytes of a page that nobody names: such a page lies nowhere.
-use Rattle.std.proofs.Common.{◌≡◌, ℕ, inl, inr, Option, refl, sym, ap, ◌∙◌}
-use Rattle.std.proofs.lemmas.Bool.{cases_Bool, false≢true}
+use Rattle.std.proofs.{Common.{◌≡◌, ℕ, inl, inr, Option, refl, sym, ap, ◌∙◌}, lemmas.Bool.{cases_Bool, false≢true}}
 use Rattle.std.specs.Prelude.{option_map}
-use Rattle.vm_types.specs.declared.object.ObjectPage.{ObjectPage}
-use Rattle.vm_types.specs.declared.object.PageKey.TheVariants.{Object}
-use Rattle.vm_types.specs.Objects.{is_named, maps_of, names}
-use Rattle.vm_types.specs.State.{State}
-use Rattle.vm_types.specs.View.{View}
-use Rattle.residency.specs.Parts.{IsFit}
-use Rattle.residency.specs.Picture.{Picture}
-use Rattle.residency.specs.Shows.{ShowsPages}
+use Rattle.vm_types.specs.{declared.object.ObjectPage.{ObjectPage}, declared.object.PageKey.TheVariants.{Object}, Objects.{is_named, maps_of, names}, State.{State}, View.{View}}
+use Rattle.residency.specs.{Parts.{IsFit}, Picture.{Picture}, Shows.{ShowsPages}}
 use Rattle.ranges.proofs.Named.{named-alike}
 use Rattle.spaces.proofs.Pages.{attrs_seen}
 use Rattle.machine.specs.Tidy.{IsTidy}

@@ -1,20 +1,13 @@
 -- What a line is to the tables: the leaf of its page, at which the walk ends.
-use Rattle.std.proofs.Common.{◌≡◌, ◌≢◌, ℕ, zero, suc, ◌+◌, ◌-◌, ◌<◌, true, false, refl, sym, ap, ◌∙◌, subst, arith}
+use Rattle.std.proofs.{Common.{◌≡◌, ◌≢◌, ℕ, zero, suc, ◌+◌, ◌-◌, ◌<◌, true, false, refl, sym, ap, ◌∙◌, subst, arith}, lemmas.Bool.{false≢true}, lemmas.Bool.Decides.{nat_tests}}
 use Rattle.std.specs.Prelude.{Bool, ◌&&◌, nat_lt}
-use Rattle.std.proofs.lemmas.Bool.{false≢true}
-use Rattle.std.proofs.lemmas.Bool.Decides.{nat_tests}
-use Rattle.vm_types.specs.Limits.{top_level, user_end}
+use Rattle.vm_types.specs.{Limits.{top_level, user_end}, declared.access.Access.{Access}}
 use Rattle.vm_types.proofs.Modes.{user_pages_fit}
 use Rattle.frames.specs.FrameTable.{FrameTable, frame_count}
-use Rattle.sv39_walk.specs.Entry.{has_bit, is_valid, entry_at, frame_of}
-use Rattle.sv39_walk.specs.Walk.{index_of, leads_on, last_of}
+use Rattle.sv39_walk.specs.{Entry.{has_bit, is_valid, entry_at, frame_of}, Walk.{index_of, leads_on, last_of}}
 use Rattle.sv39_walk.proofs.Way.{last_of-zero, last_of-next}
 use Rattle.page_tables.specs.Tree.{IsTable, IsPage, Points, IsForest, IsRoot, Way, page_entry}
-use Rattle.vm_types.specs.declared.access.Access.{Access}
-use Rattle.memory.specs.declared.buffer.TranslationBuffer.{TranslationBuffer}
-use Rattle.memory.specs.Lines.{IsCoherent, IsLine, leaf_lets}
-use Rattle.memory.specs.Kept.{LinesAreLeaves, IsLeafOf}
-use Rattle.memory.specs.Notes.{IsNumberOf}
+use Rattle.memory.specs.{declared.buffer.TranslationBuffer.{TranslationBuffer}, Lines.{IsCoherent, IsLine, leaf_lets}, Kept.{LinesAreLeaves, IsLeafOf}, Notes.{IsNumberOf}}
 use Rattle.memory.proofs.Numbers.{is_number, of_number}
 
 invalid_zero : is_valid 0 ≡ false

@@ -1,47 +1,25 @@
 -- Which changes of memory bring no page to name a frame.
-use Rattle.std.proofs.Common.{◌≡◌, ◌≢◌, ℕ, suc, ◌-◌, ◌/◌, ◌%◌, ◌<◌, ◌⊎◌, inl, inr, Result, Ok, Err, get_or, length, true, false, refl, sym, ap, ◌∙◌, subst, arith}
+use Rattle.std.proofs.{Common.{◌≡◌, ◌≢◌, ℕ, suc, ◌-◌, ◌/◌, ◌%◌, ◌<◌, ◌⊎◌, inl, inr, Result, Ok, Err, get_or, length, true, false, refl, sym, ap, ◌∙◌, subst, arith}, lemmas.Bool.{cases_eq}}
 use Rattle.std.specs.Prelude.{IfOk, OnErr}
-use Rattle.std.proofs.lemmas.Bool.{cases_eq}
-use Rattle.vm_types.specs.Limits.{top_level, user_end}
-use Rattle.vm_types.proofs.Modes.{sizes}
-use Rattle.vm_types.specs.declared.number.FrameNo.{FrameNo}
-use Rattle.vm_types.specs.declared.number.NoFree.{NoFree}
-use Rattle.frames.specs.declared.role.Role.{Role}
-use Rattle.frames.specs.declared.role.Role.TheVariants.{Free, Table}
-use Rattle.frames.specs.FrameTable.{FrameTable, frame_count, role_of, SameButFor, Takes, Releases, IsFresh}
-use Rattle.sv39_walk.specs.Entry.{is_private, is_swapped, entry_at, frame_of}
-use Rattle.sv39_walk.specs.Walk.{index_of}
-use Rattle.page_tables.specs.Tree.{IsTable, Points, IsForest, IsRoot, IsSpare, Way, last_table, page_entry}
-use Rattle.page_tables.specs.Places.{IsTableOf}
-use Rattle.page_tables.specs.Change.{SetsEntry, LinksTable, Prunes}
-use Rattle.page_tables.proofs.Ways.{ends, index_of-lt, only_way}
-use Rattle.page_tables.proofs.Ends.{way_forth}
-use Rattle.page_tables.proofs.Keeping.{empty_not_linking, zeros_empty}
-use Rattle.memory.specs.declared.notes.Notes.{Notes}
-use Rattle.memory.specs.Notes.{IsNumberOf, NamesFrame, NamesNoMore, AreNoted, Covers, no_note}
-use Rattle.memory.proofs.Keeping.{number_stays, free_is_no_table, released_role, is_table, not_below, not_last, way_along}
-use Rattle.memory.proofs.Leaves.{is_page, root_table}
-use Rattle.memory.proofs.Numbers.{is_number, of_number}
-
-turned : (old new : FrameTable) (n : ℕ) → SameButFor n old new → SameButFor n new old
-turned old new n same = record {
-  frames = sym same.frames;
-  bytes = λ m ne. sym (same.bytes m ne);
-  roles = λ m ne. sym (same.roles m ne);
-  counts = λ m ne. sym (same.counts m ne);
-}
+use Rattle.vm_types.specs.{Limits.{top_level, user_end}, declared.number.FrameNo.{FrameNo}, declared.number.NoFree.{NoFree}}
+use Rattle.frames.specs.{declared.role.Role.{Role}, declared.role.Role.TheVariants.{Free, Table}, FrameTable.{FrameTable, frame_count, role_of, SameButFor, Takes, Releases}}
+use Rattle.sv39_walk.specs.{Entry.{is_private, is_swapped, entry_at, frame_of}, Walk.{index_of}}
+use Rattle.page_tables.specs.{Tree.{Points, IsForest, IsRoot, IsSpare, Way, last_table, page_entry}, Places.{IsTableOf}, Change.{SetsEntry, LinksTable, Prunes}}
+use Rattle.page_tables.proofs.{Ways.{ends, index_of-lt, only_way}, Ends.{way_forth}, Setting.{others_turned}, Keeping.{empty_not_linking, zeros_empty}}
+use Rattle.memory.specs.{declared.notes.Notes.{Notes}, Notes.{IsNumberOf, NamesFrame, NamesNoMore, AreNoted, Covers, no_note}}
+use Rattle.memory.proofs.{Keeping.{number_moved, number_stays, own, free_is_no_table, released_role, is_table, not_below, not_last, way_along}, Leaves.{is_page, root_table}, Numbers.{is_number, of_number}}
 
 -- a frame changed that is no table, before or afterwards
 pub data_back : (old new : FrameTable) (n : ℕ) → SameButFor n old new → role_of old n ≢ Table → role_of new n ≢ Table
     → (mode root page number : ℕ) → IsNumberOf mode new root page number → IsNumberOf mode old root page number
 data_back old new n same before after =
-    number_stays new old n (turned old new n same) (λ i h table. absurd (after table.role)) (λ i m p. before p.table.role)
+    number_stays new old n (others_turned old new n same) (λ i h table. absurd (after table.role)) (λ i m p. before p.table.role)
 
 -- a frame that was taken is filled with zeros
 pub taken_back : (old new : FrameTable) (n : ℕ) (kind : Role) → Takes old new kind n
     → (mode root page number : ℕ) → IsNumberOf mode new root page number → IsNumberOf mode old root page number
 taken_back old new n kind takes =
-    number_stays new old n (turned old new n takes.others) (λ i h table. zeros_empty new n takes.zeros i h)
+    number_stays new old n (others_turned old new n takes.others) (λ i h table. zeros_empty new n takes.zeros i h)
     (λ i m p. free_is_no_table (role_of old n) takes.was_free p.table.role)
 
 -- a frame of data that was given back
@@ -54,7 +32,7 @@ released_back old new n releases other =
 pub dropped_back : (old new : FrameTable) (n : ℕ) → SameButFor n old new → IsSpare old n → role_of new n ≡ Free
     → (mode root page number : ℕ) → IsNumberOf mode new root page number → IsNumberOf mode old root page number
 dropped_back old new n same spare gone =
-    number_stays new old n (turned old new n same) (λ i h table. absurd (free_is_no_table (role_of new n) gone table.role))
+    number_stays new old n (others_turned old new n same) (λ i h table. absurd (free_is_no_table (role_of new n) gone table.role))
     (empty_not_linking old n spare.empty)
 
 -- A change in the tree of one root: the numbers of other roots hang on tables that are not in it.
@@ -63,8 +41,7 @@ module _ (mode : ℕ) (old new : FrameTable) (root : ℕ) (forest : IsForest old
   own_back : (r p e : ℕ) → IsNumberOf mode new r p e → r ≡ root → (IsRoot (top_level mode) old r → page_entry new (top_level mode) r p ≡ page_entry old (top_level mode) r p)
       → IsNumberOf mode old r p e
   own_back r p e l same entries =
-      let R : ℕ → Type 0 = λ x. IsRoot (top_level mode) old x in
-      let here : IsRoot (top_level mode) old r = subst R (sym same) is_root in
+      let here = own mode old new root forest is_root r same in
       of_number mode old r p e forest here l.inside (sym (entries here) ∙ is_number mode new r p e l) l.some
 
   -- the entry of a page was set
@@ -75,15 +52,8 @@ module _ (mode : ℕ) (old new : FrameTable) (root : ℕ) (forest : IsForest old
         let unlinked = (sets.unlinked r).1 l.unlinked in
         let way = way_forth new old (λ a i b. (sets.pointers a i b).1) (top_level mode) r p (top_level mode) l.lowest l.way in
         let apart = not_last mode old new root forest is_root r p unlinked ne l.lowest (top_level mode) way q in
-        record {
-          lowest = l.lowest;
-          inside = l.inside;
-          unlinked = unlinked;
-          way = way;
-          table = is_table new old l.lowest (sym sets.kept.frames) (sym sets.kept.roles) l.table;
-          here = sym (sets.others l.lowest (index_of p 0) (index_of-lt p 0) (inl apart)) ∙ l.here;
-          some = l.some;
-        })
+        number_moved mode new old r p e l unlinked way (is_table new old l.lowest (sym sets.kept.frames) (sym sets.kept.roles) l.table)
+        (sym (sets.others l.lowest (index_of p 0) (index_of-lt p 0) (inl apart))))
   ]
 
   -- a table was linked
@@ -101,15 +71,8 @@ module _ (mode : ℕ) (old new : FrameTable) (root : ℕ) (forest : IsForest old
         λ x d k w point. (links.pointers x _ k (far k (suc d) (x, w, point))).1 point in
         let way = way_along new old (top_level mode) r p points (top_level mode) l.lowest l.way in
         let apart = not_last mode old new root forest is_root r p unlinked other l.lowest (top_level mode) way q in
-        record {
-          lowest = l.lowest;
-          inside = l.inside;
-          unlinked = unlinked;
-          way = way;
-          table = is_table new old l.lowest (sym links.kept.frames) (sym links.kept.roles) l.table;
-          here = sym (links.others l.lowest (index_of p 0) (index_of-lt p 0) apart) ∙ l.here;
-          some = l.some;
-        })
+        number_moved mode new old r p e l unlinked way (is_table new old l.lowest (sym links.kept.frames) (sym links.kept.roles) l.table)
+        (sym (links.others l.lowest (index_of p 0) (index_of-lt p 0) apart)))
   ]
 
   -- tables without entries were released
@@ -123,15 +86,8 @@ module _ (mode : ℕ) (old new : FrameTable) (root : ℕ) (forest : IsForest old
           | inl on ↦ absurd (not_below mode old new root forest is_root r p unlinked ne l.lowest (top_level mode) way q _ on.2)
           | inr same ↦ same
         ] in
-        record {
-          lowest = l.lowest;
-          inside = l.inside;
-          unlinked = unlinked;
-          way = way;
-          table = prunes.kept.tables l.lowest l.table;
-          here = sym (same (index_of p 0) (index_of-lt p 0)) ∙ l.here;
-          some = l.some;
-        })
+        number_moved mode new old r p e l unlinked way (prunes.kept.tables l.lowest l.table)
+        (sym (same (index_of p 0) (index_of-lt p 0))))
   ]
 
 -- a page that named the frame before, where its number was there
@@ -217,29 +173,3 @@ noted_place mode old new root q number table index notes forest is_root sets row
     noted_entry mode old new root q number notes notes forest is_root sets refl refl
     (λ some framed common few now small. is.covers now root q (frame_of number) (names some framed common root q is_root small row at) (let a = is.count in omega (arith, a, few)))
     (λ n r p covers. covers) is
-
--- memory as it is made has no table but frame 0, at most
-zero_table : (t : FrameTable) (count n : ℕ) → IsFresh t count → IsTable t n → n ≡ 0
-zero_table t count n fresh table = elim (cases_eq n 0) [
-  | inl e ↦ e
-  | inr ne ↦ absurd (free_is_no_table (role_of t n) (fresh.free n (omega (arith, ne)) table.inside) table.role)
-]
-
--- so the only way of a root is to itself, where a table points
-fresh_way : (t : FrameTable) (count top r p d n : ℕ) → IsFresh t count → IsTable t n → Way t top r p (suc d) n → (a : ℕ) × (i : ℕ) × Points t a i r
-fresh_way t count top r p d n fresh table w =
-    let P : ℕ → Type 0 = λ x. Points t w.0 (index_of p (top - d)) x in
-    let root : r ≡ 0 = zero_table t count r fresh (root_table t top r p (suc d) n w table) in
-    (w.0, index_of p (top - d), subst P (zero_table t count n fresh table ∙ sym root) w.2)
-
--- and the notes that it is made with are those of no page
-pub noted_fresh : (mode : ℕ) (t : FrameTable) (count : ℕ) (notes : Notes) → IsFresh t count → length notes.each.items ≡ count → AreNoted mode t notes
-noted_fresh mode t count notes fresh all = record {
-  count = all ∙ sym fresh.frames;
-  covers = λ whole r p n names inside. absurd (
-      let l = names.is in
-      let levels : top_level mode ≡ suc (top_level mode - 1) = (let s = (sizes mode).levels in omega (arith, s)) in
-      let W : ℕ → Type 0 = λ d. Way t (top_level mode) r p d l.lowest in
-      let point = fresh_way t count (top_level mode) r p (top_level mode - 1) l.lowest fresh l.table (subst W levels l.way) in
-      l.unlinked point.0 point.1 point.2);
-}

@@ -1,13 +1,10 @@
 -- What the tree of a root says of a page, as the number at the end of the page's way.
-use Rattle.std.proofs.Common.{◌≡◌, ◌≢◌, ℕ, ◌-◌, ◌<◌, inl, inr, sym, ap, ◌∙◌, subst, arith}
-use Rattle.std.proofs.lemmas.Bool.{cases_eq}
+use Rattle.std.proofs.{Common.{◌≡◌, ◌≢◌, ℕ, ◌-◌, ◌<◌, inl, inr, sym, ap, ◌∙◌, subst, arith}, lemmas.Bool.{cases_eq}}
 use Rattle.vm_types.specs.Limits.{top_level, user_end}
 use Rattle.frames.specs.FrameTable.{FrameTable}
-use Rattle.sv39_walk.specs.Entry.{entry_at}
-use Rattle.sv39_walk.specs.Walk.{index_of}
+use Rattle.sv39_walk.specs.{Entry.{entry_at}, Walk.{index_of}}
 use Rattle.page_tables.specs.Tree.{IsForest, IsRoot, Way, last_table, missing_of, page_entry}
-use Rattle.page_tables.proofs.Ways.{ends, last_table-zero}
-use Rattle.page_tables.proofs.Ends.{last_from_way, missing_of-is, last_entry-is, page_entry-whole, page_entry-missing}
+use Rattle.page_tables.proofs.{Ways.{ends, last_table-zero}, Ends.{last_from_way, missing_of-is, last_entry-is, page_entry-whole, page_entry-missing}}
 use Rattle.memory.specs.Notes.{IsNumberOf}
 
 -- the number is what the tree says of the page

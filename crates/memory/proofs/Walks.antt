@@ -1,22 +1,16 @@
 -- The walk reads what the tables say of a page.
-use Rattle.vm_types.specs.Limits.{user_end, top_level}
-use Rattle.vm_types.specs.declared.number.Phys.{Phys}
-use Rattle.std.proofs.Common.{◌≡◌, ℕ, zero, suc, inl, inr, ◌≢◌, ◌+◌, ◌*◌, ◌-◌, ◌/◌, ◌%◌, ◌^◌, ◌<◌, Bool, true, false, ◌&&◌, ◌||◌, not, if◌then◌else◌, Result, Ok, Err, refl, sym, ap, ◌∙◌, subst, arith}
-use Rattle.std.specs.Prelude.{nat_lt, nat_le, ◌==◌, IsErr}
-use Rattle.std.proofs.lemmas.Bool.{cases_eq}
+use Rattle.vm_types.specs.{Limits.{user_end, top_level}, declared.number.Phys.{Phys}, declared.access.Access.{Access}}
+use Rattle.std.proofs.{Common.{◌≡◌, ℕ, zero, suc, inl, inr, ◌≢◌, ◌+◌, ◌*◌, ◌-◌, ◌/◌, ◌%◌, ◌^◌, ◌<◌, Bool, true, false, ◌&&◌, ◌||◌, not, if◌then◌else◌, Result, Ok, Err, refl, sym, ap, ◌∙◌, subst, arith}, lemmas.Bool.{cases_eq}}
 use Rattle.std.proofs.lemmas.Bool.Decides.{nat_tests}
-use Rattle.vm_types.specs.declared.access.Access.{Access}
+use Rattle.std.specs.Prelude.{nat_lt, nat_le, ◌==◌, IsErr}
 use Rattle.frames.specs.FrameTable.{FrameTable, frame_count}
-use Rattle.sv39_walk.specs.declared.translation.WalkFault.{WalkFault}
-use Rattle.sv39_walk.specs.declared.translation.WalkFault.TheVariants.{Invalid, TooDeep, Misaligned, Denied, NotAccessed, NotDirty, Outside, Reserved}
-use Rattle.sv39_walk.specs.Entry.{has_bit, entry_at, frame_of, is_pointer, is_valid, is_reserved, is_leaf, is_user, is_accessed, is_dirty, grants}
-use Rattle.sv39_walk.specs.Walk.{page_of, index_of, leads_on, last_of, frame_in, is_store, answer_of, translated}
+use Rattle.sv39_walk.specs.{declared.translation.WalkFault.{WalkFault}, declared.translation.WalkFault.TheVariants.{Invalid, TooDeep, Misaligned, Denied, NotAccessed, NotDirty, Outside, Reserved}}
+use Rattle.sv39_walk.specs.{Entry.{has_bit, entry_at, frame_of, is_pointer, is_valid, is_reserved, is_leaf, is_user, is_accessed, is_dirty, grants}, Walk.{page_of, index_of, leads_on, last_of, frame_in, is_store, answer_of, translated}}
 use Rattle.memory.specs.Lines.{leaf_lets}
 use Rattle.memory.proofs.Looks.{canonical}
 use Rattle.sv39_walk.proofs.Way.{last_of-zero, last_of-stop, last_of-next}
 use Rattle.page_tables.specs.Tree.{IsTable, IsForest, IsRoot, last_table, last_entry, missing_of, page_entry}
-use Rattle.page_tables.proofs.Ways.{last_table-zero, last_table-next, last_table-stop, cases_bool, next_table}
-use Rattle.page_tables.proofs.Ends.{missing_of-is, last_entry-is, page_entry-whole, page_entry-missing}
+use Rattle.page_tables.proofs.{Ways.{last_table-zero, last_table-next, last_table-stop, cases_bool, next_table}, Ends.{missing_of-is, last_entry-is, page_entry-whole, page_entry-missing}}
 
 below_true : (m n : ℕ) → m < n → nat_lt m n ≡ true
 below_true m n h = grind (arith, nat_tests)

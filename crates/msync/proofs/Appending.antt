@@ -1,11 +1,8 @@
 -- ListsTouched of file pages to which others are appended, each once.
-use Rattle.std.proofs.Common.{ℕ, ◌≡◌, ◌<◌, ◌≤◌, ◌==◌, ◌⊎◌, ⊎_elim, Bool, true, List, [], Result, Ok, Err, refl, sym, ap, ◌∙◌, arith, eq-eqb}
-use Rattle.std.specs.Prelude.{IfOk}
-use Rattle.std.specs.Result.{OnErr}
-use Rattle.std.proofs.lemmas.Bool.{cases_lt}
-use Rattle.std.proofs.lemmas.Bool.Decides.{nat_tests}
-use Rattle.vm_types.specs.declared.file.FilePage.{FilePage}
-use Rattle.vm_types.specs.Attributes.{file_page_eq}
+use Rattle.std.proofs.{Common.{ℕ, ◌≡◌, ◌<◌, ◌≤◌, ◌⊎◌, ⊎_elim, Bool, true, List, [], Result, Ok, Err, refl, sym, ap, ◌∙◌, subst, arith}, lemmas.Bool.{cases_lt}}
+use Rattle.std.specs.{Prelude.{IfOk}, Result.{OnErr}}
+use Rattle.vm_types.specs.{declared.file.FilePage.{FilePage}, declared.object.PageKey.TheVariants.{File}, Attributes.{file_page_eq}}
+use Rattle.page_cache.proofs.NodeLemmas.{same_page as pages_same}
 use Rattle.msync.specs.Choice.{chosen_page, Appends, OverflowsRow, ListsTouched}
 
 -- nothing passes
@@ -83,16 +80,7 @@ listed a x y n f = record {
 -- equal pages
 pub same_page : (a b : FilePage) → file_page_eq a b ≡ true → a ≡ b
 same_page a b e =
-    let file : a.file ≡ b.file = grind (arith, nat_tests) in
-    let page : a.page ≡ b.page = grind (arith, nat_tests) in
-    ap (λ (f : ℕ). let p : FilePage = record { file = f; page = a.page } in p) file
-    ∙ ap (λ (k : ℕ). let p : FilePage = record { file = b.file; page = k } in p) page
-
-pub is_itself : (a b : FilePage) → a ≡ b → file_page_eq a b ≡ true
-is_itself a b e =
-    let file : (a.file == b.file) ≡ true = eq-eqb _ _ (ap (λ (p : FilePage). p.file) e) in
-    let page : (a.page == b.page) ≡ true = eq-eqb _ _ (ap (λ (p : FilePage). p.page) e) in
-    rw file page
+    let same = pages_same (File a) (File b) e in (cc)
 
 -- a fact that stands at an error
 pub on_err : {T E P : Type 0} (r : Result T E) → P → OnErr r P
@@ -126,8 +114,4 @@ lists_none a x f = record {
 }
 
 pub lists_same : (a c : FilePage → Bool) (y : List FilePage) (n : ℕ) → ((p : FilePage) → a p ≡ c p) → ListsTouched a y n → ListsTouched c y n
-lists_same a c y n same f = record {
-  each = λ i less. sym (same (chosen_page y i)) ∙ f.each i less;
-  once = f.once;
-  all = λ p e. f.all p (same p ∙ e);
-}
+lists_same a c y n same f = let alike : a ≡ c = λ t p. same p t in subst (λ (passes : FilePage → Bool). ListsTouched passes y n) alike f

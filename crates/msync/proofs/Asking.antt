@@ -1,20 +1,12 @@
 -- Which sectors are asked for, from one page that is read up to the whole call.
 use Rattle.std.proofs.Common.{◌≡◌, ◌<◌, ◌≤◌, ℕ, List, length, take, sym, ◌∙◌, subst, arith}
-use Rattle.disk_model.specs.Moments.{AsksOnly}
-use Rattle.disk_model.specs.declared.sector_disk.SectorDisk.{Ghosts}
+use Rattle.disk_model.specs.{Moments.{AsksOnly}, declared.sector_disk.SectorDisk.{Ghosts}}
 use Rattle.disk_model.proofs.Moments.{asks_wider}
 use Rattle.swap.specs.Slots.{IsSectorOfSlot}
-use Rattle.vm_types.specs.declared.file.FilePage.{FilePage}
-use Rattle.vm_types.specs.declared.object.PageKey.TheVariants.{File}
-use Rattle.vm_types.specs.declared.number.SlotNo.{SlotNo}
+use Rattle.vm_types.specs.{declared.file.FilePage.{FilePage}, declared.object.PageKey.TheVariants.{File}, declared.number.SlotNo.{SlotNo}}
 use Rattle.residency.specs.Picture.{Picture}
-use Rattle.msync.specs.Asking.{IsSectorOfFilePage, IsSectorListed, IsSectorTaken}
-use Rattle.msync.specs.Choice.{Chosen, chosen_of, chosen_page, AreTaken}
-use Rattle.msync.specs.Spots.{spot_at, place_at, IsSectorThere, IsSectorOfSpots, HasSpots}
-use Rattle.msync.specs.declared.chosen.Residence.{Residence}
-use Rattle.msync.specs.declared.chosen.Residence.TheVariants.{Framed, Slotted}
-use Rattle.msync.specs.declared.chosen.Ruling.TheVariants.{Takes}
-use Rattle.msync.specs.declared.chosen.Spot.{Spot}
+use Rattle.msync.specs.{Asking.{IsSectorOfFilePage, IsSectorListed, IsSectorTaken}, Choice.{Chosen, chosen_of, chosen_page, AreTaken}, Spots.{spot_at, place_at, IsSectorThere, IsSectorOfSpots, HasSpots}}
+use Rattle.msync.specs.{declared.chosen.Residence.{Residence}, declared.chosen.Residence.TheVariants.{Framed, Slotted}, declared.chosen.Ruling.TheVariants.{Takes}, declared.chosen.Spot.{Spot}}
 use Rattle.msync.proofs.Committing.{front_length, front_same}
 
 -- where a page lies there, and there is a slot, it lies in that one

@@ -4,10 +4,7 @@ use Rattle.std.proofs.Common.{[], get_or, ap, ◌∙◌}
 use Rattle.file_store.specs.Store.{files_of}
 use Rattle.page_cache.specs.CacheTable.{place_of, is_touched}
 use Rattle.swap.specs.Slots.{slots_of}
-use Rattle.residency.specs.declared.kernel.Core.{Core}
-use Rattle.residency.specs.Picture.{picture_of, attr_where, root_in}
-use Rattle.residency.specs.Leaves.{KeepsAllButFrames}
-use Rattle.residency.specs.Steps.{SameBeside}
+use Rattle.residency.specs.{declared.kernel.Core.{Core}, Picture.{picture_of, attr_where, root_in}, Leaves.{KeepsAllButFrames}, Steps.{SameBeside}}
 
 module _ {M : Type 0} {m : Levels.Ghosts M} {D E : Type 0} where
   pub same_beside : (old new : Core D E M m) → KeepsAllButFrames old new → SameBeside (picture_of old) (picture_of new)

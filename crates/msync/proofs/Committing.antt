@@ -1,69 +1,30 @@
 -- A commit of the touched pages of a row, as the flat model sees it.
 use Rattle.vm_types.specs.declared.mode.Levels as Levels
-use Rattle.std.proofs.Common.{ℕ, zero, suc, inl, inr, ◌⊎◌, ◌-◌, ◌*◌, ◌≡◌, ◌≢◌, ◌<◌, ◌≤◌, ◌&&◌, ◌++◌, not, Bool, true, false, min, List, [], ◌∷◌, length, take, replicate, slice_get, Option, Some, None, Result, Err, refl, sym, ap, ◌∙◌, subst, arith, get_or-take}
-use Rattle.std.specs.Option.{option_map}
-use Rattle.std.specs.Prelude.{is_some, IsErrOf}
-use Rattle.std.proofs.lemmas.Bool.{cases_Bool}
-use Rattle.std.proofs.lemmas.List.{length-take-le}
+use Rattle.std.proofs.Common.{ℕ, inl, inr, ◌⊎◌, ◌-◌, ◌*◌, ◌≡◌, ◌≢◌, ◌<◌, ◌≤◌, ◌&&◌, ◌++◌, not, true, false, min, List, length, take, replicate, slice_get, Option, Some, None, Result, Err, refl, sym, ap, ◌∙◌, subst, arith, rules, get_or-take}
+use Rattle.std.proofs.{lemmas.Bool.{cases_Bool}, lemmas.List.{length-take-le}, lemmas.Option.{get_or_from_slice_get, slice_get-get_or, slice_get_within}, Math.Bool.{and-true, and-false}}
+use Rattle.std.specs.{Option.{option_map}, Prelude.{is_some, IsErrOf}}
 use Rattle.sv39_walk.specs.Entry.{frame_of}
-use Rattle.disk_model.specs.Moments.{LeavesNow, LeavesOnly}
-use Rattle.disk_model.specs.declared.sector_disk.SectorDisk.{Ghosts}
-use Rattle.file_store.specs.declared.directory.Directory.{Directory}
-use Rattle.file_store.specs.declared.store.FileStore.{FileStore}
-use Rattle.file_store.specs.Commit.{ArePages, Changes, StandsForEither, cut_page}
+use Rattle.disk_model.specs.{Moments.{LeavesNow, LeavesOnly}, declared.sector_disk.SectorDisk.{Ghosts}}
+use Rattle.file_store.specs.{declared.directory.Directory.{Directory}, declared.store.FileStore.{FileStore}, Commit.{ArePages, Changes, StandsForEither, cut_page}, Standing.{StandsFor, IsPageOf}, Store.{entry_of}}
 use Rattle.file_store.specs.Layout.{padded_page as store_trimmed}
-use Rattle.file_store.specs.Standing.{StandsFor, IsPageOf}
-use Rattle.file_store.specs.Store.{entry_of}
-use Rattle.sync_journal.specs.Source.{HasCauses}
-use Rattle.sync_journal.specs.declared.faults.CommitFault.{CommitFault}
-use Rattle.sync_journal.specs.declared.faults.CommitFault.TheVariants.{Source, Device}
-use Rattle.frames.specs.declared.role.Role.TheVariants.{Private, Cache}
-use Rattle.frames.specs.FrameTable.{FrameTable}
+use Rattle.sync_journal.specs.{Source.{HasCauses}, declared.faults.CommitFault.{CommitFault}, declared.faults.CommitFault.TheVariants.{Source, Device}}
+use Rattle.frames.specs.{declared.role.Role.TheVariants.{Private, Cache}, FrameTable.{FrameTable}}
 use Rattle.swap.specs.Slots.{SlotTable}
 use Rattle.page_cache.specs.declared.place.Place.TheVariants.{Home, Frame, Slot}
-use Rattle.vm_types.specs.declared.command.Command.TheVariants.{Msync}
-use Rattle.vm_types.specs.declared.command.MsyncMode.{MsyncMode}
-use Rattle.vm_types.specs.declared.file.FileInfo.{FileInfo}
-use Rattle.vm_types.specs.declared.file.FilePage.{FilePage}
-use Rattle.vm_types.specs.declared.object.ObjectPage.{ObjectPage}
-use Rattle.vm_types.specs.declared.object.PageKey.{PageKey}
-use Rattle.vm_types.specs.declared.object.PageKey.TheVariants.{File, Object}
-use Rattle.vm_types.specs.declared.number.SlotNo.{SlotNo}
-use Rattle.vm_types.specs.declared.refusal.Errno.TheVariants.{EIO}
-use Rattle.vm_types.specs.declared.refusal.Stall.TheVariants.{SwapDevice}
-use Rattle.vm_types.specs.declared.reply.Reply.{Reply}
-use Rattle.vm_types.specs.declared.reply.Reply.TheVariants.{Done, Refused, Stalled}
-use Rattle.vm_types.specs.Files.{Files, inside_of, cut, trimmed}
-use Rattle.vm_types.specs.Msync.{touched_in, committed, synced}
+use Rattle.vm_types.specs.{declared.command.Command.TheVariants.{Msync}, declared.command.MsyncMode.{MsyncMode}, declared.file.FileInfo.{FileInfo}, declared.file.FilePage.{FilePage}, declared.object.ObjectPage.{ObjectPage}}
+use Rattle.vm_types.specs.{declared.object.PageKey.{PageKey}, declared.object.PageKey.TheVariants.{File, Object}, declared.number.SlotNo.{SlotNo}, declared.refusal.Errno.TheVariants.{EIO}, declared.refusal.Stall.TheVariants.{SwapDevice}}
+use Rattle.vm_types.specs.{declared.reply.Reply.{Reply}, declared.reply.Reply.TheVariants.{Done, Refused, Stalled}, Files.{Files, inside_of, cut, trimmed}, Msync.{touched_in, committed, synced}, State.{State}}
+use Rattle.vm_types.specs.{Step.{msync_outcome, commit_of, commits}, View.{Pages}}
 use Rattle.vm_types.specs.Msync as Flat
-use Rattle.vm_types.specs.State.{State}
-use Rattle.vm_types.specs.Step.{msync_outcome, commit_of, commits}
-use Rattle.vm_types.specs.View.{Pages}
-use Rattle.residency.specs.declared.kernel.Core.{Core}
-use Rattle.residency.specs.Seats.{InFrame}
-use Rattle.residency.specs.Picture.{Picture, picture_of, entry, held, is_private}
-use Rattle.residency.specs.Parts.{IsFit}
-use Rattle.residency.specs.Shows.{ShowsPages}
-use Rattle.msync.specs.Choice.{Chosen, chosen_page, ListsTouched, TakesSame, IsListedPage, IsAway}
-use Rattle.msync.specs.declared.chosen.Residence.{Residence}
-use Rattle.msync.specs.declared.chosen.Residence.TheVariants.{Framed, Slotted}
-use Rattle.msync.specs.declared.chosen.Spot.{Spot}
-use Rattle.msync.specs.Core.{KeepsMemory, IsEnd, Acknowledged, Failed, Unread, Commits}
-use Rattle.msync.specs.Spots.{spot_at, place_at, bytes_there, IsSlotted, HasSlot, AreSpots, HasSpots}
-use Rattle.msync.specs.Settling.{settled_place, settled_in, Settles, LosesDirtyOnly, ComesHome, SettlesMemory, SettlesPlaces}
-use Rattle.msync.specs.Shows.{IsSoundCore, CoreShows}
+use Rattle.residency.specs.{declared.kernel.Core.{Core}, Seats.{InFrame}, Picture.{Picture, picture_of, entry, held, is_private}, Parts.{IsFit}, Shows.{ShowsPages}}
+use Rattle.msync.specs.{Choice.{Chosen, chosen_page, first_page, ListsTouched, TakesSame, IsListedPage, IsAway}, declared.chosen.Residence.{Residence}, declared.chosen.Residence.TheVariants.{Framed, Slotted}, declared.chosen.Spot.{Spot}}
+use Rattle.msync.specs.{Core.{KeepsMemory, IsEnd, Acknowledged, Failed, Unread, Commits}, Spots.{spot_at, place_at, bytes_there, IsSlotted, HasSlot, AreSpots, HasSpots}}
+use Rattle.msync.specs.{Settling.{settled_place, settled_in, Settles, LosesDirtyOnly, ComesHome, SettlesMemory, SettlesPlaces}, Shows.{IsSoundCore, CoreShows}}
 use Rattle.msync.proofs.SettledPages.{one_file, held_spot, cases_listed}
 
 -- what stands at a place of a list
 some_get : (xs : List FilePage) (i : ℕ) (p : FilePage) → slice_get xs i ≡ Some p → (i < length xs) × (p ≡ chosen_page xs i)
-some_get [] i p e = cc
-some_get (x ∷ xs) zero p e = (omega arith, (let k : p ≡ x = cc in k))
-some_get (x ∷ xs) (suc i) p e = let r = some_get xs i p e in (omega (arith, r.0), r.1)
-
-get_some : (xs : List FilePage) (i : ℕ) → i < length xs → slice_get xs i ≡ Some (chosen_page xs i)
-get_some [] i less = absurd (omega arith)
-get_some (x ∷ xs) zero less = refl
-get_some (x ∷ xs) (suc i) less = get_some xs i (omega arith)
+some_get xs i p e = (slice_get_within xs i p e, sym (get_or_from_slice_get xs i p first_page e))
 
 -- the pages of a commit, as they stand at the front of the list
 pub fits : {mode : ℕ} (c : Picture mode) (chosen : Chosen) → IsListedPage c chosen → chosen.count ≤ length chosen.list
@@ -73,7 +34,7 @@ pub front_length : (chosen : Chosen) → chosen.count ≤ length chosen.list →
 front_length chosen fit = length-take-le chosen.count chosen.list fit
 
 pub front_same : (chosen : Chosen) (i : ℕ) → i < chosen.count → chosen_page (take chosen.count chosen.list) i ≡ chosen_page chosen.list i
-front_same chosen i less = get_or-take chosen.count chosen.list i (record { file = 0; page = 0 }) less
+front_same chosen i less = get_or-take chosen.count chosen.list i first_page less
 
 pub front_touched : {mode : ℕ} (c : Picture mode) (chosen : Chosen) → IsListedPage c chosen → (i : ℕ) → i < length (take chosen.count chosen.list)
     → c.touched (File (chosen_page (take chosen.count chosen.list) i)) ≡ true
@@ -145,10 +106,6 @@ taken_page s pid first count f k before taken = rw taken refl
 left_page : (s : State) (pid first count f k : ℕ) (before : Pages) → touched_in s pid first count f k ≡ false → committed s pid first count before f k ≡ before f k
 left_page s pid first count f k before left = rw left refl
 
-cases_taken : (b : Bool) → (b ≡ true) ⊎ (b ≡ false)
-cases_taken true = inl refl
-cases_taken false = inr refl
-
 no_home : (at : Residence) → Home ≢ place_at at
 no_home (Framed n) e = (cc)
 no_home (Slotted k) e = (cc)
@@ -196,11 +153,11 @@ module _ {mode : ℕ} (c : Picture mode) (s : State) (pid first count : ℕ) (pa
         let q = chosen_page pages i in
         subst (λ (x : FilePage). committed s pid first count before x.file x.page ≡ cut_page (s.files x.file) x.page (bytes_there c.frames c.slots (spot_at list i).at)) (sym r.1)
         (taken_page s pid first count q.file q.page before (lists.each i r.0) ∙ cut_at i r.0);
-    others = λ f k none. elim (cases_taken (touched_in s pid first count f k)) [
+    others = λ f k none. elim (cases_Bool (touched_in s pid first count f k)) [
       | inr left ↦ left_page s pid first count f k before left
       | inl taken ↦ (
           let r = lists.all (record { file = f; page = k }) taken in
-          absurd (none r.0 (chosen_page pages r.0) (get_some pages r.0 r.1) (ap (λ (x : FilePage). x.file) r.2) (ap (λ (x : FilePage). x.page) r.2)))
+          absurd (none r.0 (chosen_page pages r.0) (slice_get-get_or pages r.0 first_page r.1) (ap (λ (x : FilePage). x.file) r.2) (ap (λ (x : FilePage). x.page) r.2)))
     ];
   }
 
@@ -219,26 +176,18 @@ module _ {mode : ℕ} (c : Picture mode) (s : State) (pid first count : ℕ) (pa
 
   module _ (new : Picture mode) (settles : Settles c new list (length list)) where
     touched_now : (p : FilePage) → (s.touched p.file p.page && not (touched_in s pid first count p.file p.page)) ≡ new.touched (File p)
-    touched_now p = elim (cases_taken (touched_in s pid first count p.file p.page)) [
+    touched_now p = elim (cases_Bool (touched_in s pid first count p.file p.page)) [
       | inl taken ↦ (
           let r = listed_place p taken in
           let clean : new.touched (File p) ≡ false = ap (λ q. new.touched (File q)) (sym r.2) ∙ settles.cleaned r.0 r.1 in
-          rw taken (and_false (s.touched p.file p.page) ∙ sym clean))
+          rw taken (and-false (s.touched p.file p.page) ∙ sym clean))
       | inr left ↦ (
           let same : new.touched (File p) ≡ c.touched (File p) = settles.untouched (File p) (not_listed p left) in
-          rw left (and_true (s.touched p.file p.page) ∙ shows.touched p ∙ sym same))
+          rw left (and-true (s.touched p.file p.page) ∙ shows.touched p ∙ sym same))
     ]
-      where
-        and_false : (a : Bool) → (a && false) ≡ false
-        and_false true = refl
-        and_false false = refl
-
-        and_true : (a : Bool) → (a && true) ≡ a
-        and_true true = refl
-        and_true false = refl
 
     held_now : (p : FilePage) (bytes : List ℕ) → held new (File p) ≡ Some bytes → committed s pid first count s.volatile p.file p.page ≡ bytes
-    held_now p bytes here = elim (cases_taken (touched_in s pid first count p.file p.page)) [
+    held_now p bytes here = elim (cases_Bool (touched_in s pid first count p.file p.page)) [
       | inl taken ↦ (
           let r = listed_place p taken in
           let x = spot_at list r.0 in
@@ -269,7 +218,7 @@ module _ {mode : ℕ} (c : Picture mode) (s : State) (pid first count : ℕ) (pa
       blank = λ o bytes untouched is. shows.blank o bytes (sym (settles.untouched (Object o) (none_object o)) ∙ untouched) (sym (settles.kept (Object o) (none_object o)) ∙ is);
       held = held_now;
       same_mode = shows.same_mode;
-      clean = λ p untouched inside. elim (cases_taken (touched_in s pid first count p.file p.page)) [
+      clean = λ p untouched inside. elim (cases_Bool (touched_in s pid first count p.file p.page)) [
         | inl taken ↦ taken_page s pid first count p.file p.page s.volatile taken ∙ sym (taken_page s pid first count p.file p.page s.durable taken)
         | inr left ↦ left_page s pid first count p.file p.page s.volatile left
             ∙ shows.clean p (sym (settles.untouched (File p) (not_listed p left)) ∙ untouched) (inside.0, sym (settles.files p.file) ∙ inside.1, inside.2)
@@ -394,64 +343,50 @@ module _ {D : Type 0} (g : Ghosts D) where
     pub either : g.keeps_model new.disk → model → LeavesNow g old.disk (StandsFor n files before) → LeavesOnly g old.disk new.disk (StandsForEither n files before after)
 
 module _ {M : Type 0} {m : Levels.Ghosts M} {D E : Type 0} (g : Ghosts D) (h : Ghosts E) where
-  -- a commit that came to some end
-  commit_ended : (model : Type 0) (old new : Core D E M m) (s : State) (after : Pages) (pid addr len : ℕ) (mode : MsyncMode) (reply : Reply) (chosen : Chosen) → CoreShows g old s
-      → (same : TakesSame s pid addr len mode chosen) → commits s (Msync pid addr len mode) ≡ Some after
-      → StoreCommits g model (g.sector_count old.store.disk) s.files s.durable (committed s pid same.first same.count s.durable) old.store new.store
-      → IsEnd g h model old new s (Msync pid addr len mode) reply → Commits g h model old new s after (Msync pid addr len mode) reply
-  commit_ended model old new s after pid addr len mode reply chosen shows same takes store end =
-      let taken = committed s pid same.first same.count s.durable in
-      let done : Commits g h model old new s taken (Msync pid addr len mode) reply = record {
-        end = end;
-        directory = store.directory;
-        size = store.size;
-        kept = store.kept;
-        either = λ k m. store.either k m (shows.stands (store.kept k));
-      } in
-      subst (λ (x : Pages). Commits g h model old new s x (Msync pid addr len mode) reply) (after_is s after pid addr len mode chosen same takes) done
+  module _ (model : Type 0) (old new : Core D E M m) (s : State) (after : Pages) (pid addr len : ℕ) (mode : MsyncMode) (chosen : Chosen) (shows : CoreShows g old s)
+      (same : TakesSame s pid addr len mode chosen) (takes : commits s (Msync pid addr len mode) ≡ Some after)
+      (store : StoreCommits g model (g.sector_count old.store.disk) s.files s.durable (committed s pid same.first same.count s.durable) old.store new.store) where
+    -- a commit that came to some end
+    commit_ended : (reply : Reply) → IsEnd g h model old new s (Msync pid addr len mode) reply → Commits g h model old new s after (Msync pid addr len mode) reply
+    commit_ended reply end =
+        let done : Commits g h model old new s (committed s pid same.first same.count s.durable) (Msync pid addr len mode) reply = record {
+          end = end;
+          directory = store.directory;
+          size = store.size;
+          kept = store.kept;
+          either = λ k m. store.either k m (shows.stands (store.kept k));
+        } in
+        subst (λ (x : Pages). Commits g h model old new s x (Msync pid addr len mode) reply) (after_is s after pid addr len mode chosen same takes) done
 
-  pub commit_done : (model : Type 0) (old new : Core D E M m) (s : State) (after : Pages) (pid addr len : ℕ) (mode : MsyncMode) (chosen : Chosen) → CoreShows g old s
-      → (same : TakesSame s pid addr len mode chosen) → commits s (Msync pid addr len mode) ≡ Some after
-      → StoreCommits g model (g.sector_count old.store.disk) s.files s.durable (committed s pid same.first same.count s.durable) old.store new.store
-      → (g.keeps_model new.store.disk → model → LeavesNow g old.store.disk (StandsFor (g.sector_count old.store.disk) s.files s.durable)
-      → LeavesNow g new.store.disk (StandsFor (g.sector_count old.store.disk) s.files (committed s pid same.first same.count s.durable)))
-      → ShowsPages (picture_of new) (synced s pid same.first same.count) → IsSoundCore g h new
-      → Commits g h model old new s after (Msync pid addr len mode) Done
-  commit_done model old new s after pid addr len mode chosen shows same takes store ok pages sound =
-      let taken = committed s pid same.first same.count s.durable in
-      let t = synced s pid same.first same.count in
-      let t_is : t ≡ (msync_outcome s (Flat.msync_ruling s pid addr len mode)).state = sym (ap (λ (r : Flat.Ruling). (msync_outcome s r).state) same.ruling) in
-      let now : model → CoreShows g new t = λ m. record {
-        pages = pages;
-        stands = λ k c may. subst (λ (x : ℕ). StandsFor x s.files taken c) (sym store.size) (ok k m (shows.stands (store.kept k)) c may);
-      } in
-      let P : State → Type 0 = λ x. model → CoreShows g new x in
-      commit_ended model old new s after pid addr len mode Done chosen shows same takes store
-      (Acknowledged refl (subst (λ (x : State). ShowsPages (picture_of new) x) t_is pages) (subst P t_is now) sound)
+    pub commit_done : (g.keeps_model new.store.disk → model → LeavesNow g old.store.disk (StandsFor (g.sector_count old.store.disk) s.files s.durable)
+        → LeavesNow g new.store.disk (StandsFor (g.sector_count old.store.disk) s.files (committed s pid same.first same.count s.durable)))
+        → ShowsPages (picture_of new) (synced s pid same.first same.count) → IsSoundCore g h new
+        → Commits g h model old new s after (Msync pid addr len mode) Done
+    commit_done ok pages sound =
+        let t = synced s pid same.first same.count in
+        let t_is : t ≡ (msync_outcome s (Flat.msync_ruling s pid addr len mode)).state = sym (ap (λ (r : Flat.Ruling). (msync_outcome s r).state) same.ruling) in
+        let now : model → CoreShows g new t = λ m. record {
+          pages = pages;
+          stands = λ k c may. subst (λ (x : ℕ). StandsFor x s.files t.durable c) (sym store.size) (ok k m (shows.stands (store.kept k)) c may);
+        } in
+        let P : State → Type 0 = λ x. model → CoreShows g new x in
+        commit_ended Done (Acknowledged refl (subst (λ (x : State). ShowsPages (picture_of new) x) t_is pages) (subst P t_is now) sound)
 
-  pub commit_failed : (model : Type 0) (old new : Core D E M m) (s : State) (after : Pages) (pid addr len : ℕ) (mode : MsyncMode) (chosen : Chosen) → CoreShows g old s
-      → (same : TakesSame s pid addr len mode chosen) → commits s (Msync pid addr len mode) ≡ Some after → KeepsMemory old new
-      → StoreCommits g model (g.sector_count old.store.disk) s.files s.durable (committed s pid same.first same.count s.durable) old.store new.store
-      → g.failures old.store.disk < g.failures new.store.disk → Commits g h model old new s after (Msync pid addr len mode) (Refused EIO)
-  commit_failed model old new s after pid addr len mode chosen shows same takes memory store grew =
-      commit_ended model old new s after pid addr len mode (Refused EIO) chosen shows same takes store (Failed refl grew memory)
+    pub commit_failed : KeepsMemory old new → g.failures old.store.disk < g.failures new.store.disk → Commits g h model old new s after (Msync pid addr len mode) (Refused EIO)
+    commit_failed memory grew = commit_ended (Refused EIO) (Failed refl grew memory)
 
-  pub commit_unread : (model : Type 0) (old new : Core D E M m) (s : State) (after : Pages) (pid addr len : ℕ) (mode : MsyncMode) (chosen : Chosen) → CoreShows g old s
-      → (same : TakesSame s pid addr len mode chosen) → commits s (Msync pid addr len mode) ≡ Some after → KeepsMemory old new
-      → StoreCommits g model (g.sector_count old.store.disk) s.files s.durable (committed s pid same.first same.count s.durable) old.store new.store
-      → h.failures old.swap.pages.disk < h.failures new.swap.pages.disk → ShowsPages (picture_of new) s → IsSoundCore g h new
-      → (g.keeps_model new.store.disk → LeavesNow g old.store.disk (StandsFor (g.sector_count old.store.disk) s.files s.durable)
-      → LeavesNow g new.store.disk (StandsFor (g.sector_count old.store.disk) s.files s.durable))
-      → (g.keeps_model new.store.disk → LeavesNow g old.store.disk (StandsFor (g.sector_count old.store.disk) s.files s.durable)
-      → LeavesOnly g old.store.disk new.store.disk (StandsFor (g.sector_count old.store.disk) s.files s.durable))
-      → Commits g h model old new s after (Msync pid addr len mode) (Stalled SwapDevice)
-  commit_unread model old new s after pid addr len mode chosen shows same takes memory store grew pages sound now moments =
-      let still : CoreShows g new s = record {
-        pages = pages;
-        stands = λ k c may. subst (λ (x : ℕ). StandsFor x s.files s.durable c) (sym store.size) (now k (shows.stands (store.kept k)) c may);
-      } in
-      commit_ended model old new s after pid addr len mode (Stalled SwapDevice) chosen shows same takes store
-      (Unread refl grew memory still sound (λ k. moments k (shows.stands (store.kept k))))
+    pub commit_unread : KeepsMemory old new → h.failures old.swap.pages.disk < h.failures new.swap.pages.disk → ShowsPages (picture_of new) s → IsSoundCore g h new
+        → (g.keeps_model new.store.disk → LeavesNow g old.store.disk (StandsFor (g.sector_count old.store.disk) s.files s.durable)
+        → LeavesNow g new.store.disk (StandsFor (g.sector_count old.store.disk) s.files s.durable))
+        → (g.keeps_model new.store.disk → LeavesNow g old.store.disk (StandsFor (g.sector_count old.store.disk) s.files s.durable)
+        → LeavesOnly g old.store.disk new.store.disk (StandsFor (g.sector_count old.store.disk) s.files s.durable))
+        → Commits g h model old new s after (Msync pid addr len mode) (Stalled SwapDevice)
+    commit_unread memory grew pages sound now moments =
+        let still : CoreShows g new s = record {
+          pages = pages;
+          stands = λ k c may. subst (λ (x : ℕ). StandsFor x s.files s.durable c) (sym store.size) (now k (shows.stands (store.kept k)) c may);
+        } in
+        commit_ended (Stalled SwapDevice) (Unread refl grew memory still sound (λ k. moments k (shows.stands (store.kept k))))
 
   -- the same under a stronger premise
   end_under : (model more : Type 0) (old new : Core D E M m) (s : State) (pid addr len : ℕ) (mode : MsyncMode) (reply : Reply) → (more → model)
@@ -462,10 +397,4 @@ module _ {M : Type 0} {m : Levels.Ghosts M} {D E : Type 0} (g : Ghosts D) (h : G
 
   pub commits_under : (model more : Type 0) (old new : Core D E M m) (s : State) (after : Pages) (pid addr len : ℕ) (mode : MsyncMode) (reply : Reply) → (more → model)
       → Commits g h model old new s after (Msync pid addr len mode) reply → Commits g h more old new s after (Msync pid addr len mode) reply
-  commits_under model more old new s after pid addr len mode reply from c = record {
-    end = end_under model more old new s pid addr len mode reply from c.end;
-    directory = c.directory;
-    size = c.size;
-    kept = c.kept;
-    either = λ k m. c.either k (from m);
-  }
+  commits_under model more old new s after pid addr len mode reply from c = let end = end_under model more old new s pid addr len mode reply from c.end in search rules

@@ -1,16 +1,9 @@
 -- What is gathered from the cache, as it is appended.
-use Rattle.std.proofs.Common.{ℕ, ◌+◌, ◌≡◌, ◌<◌, ◌≤◌, ◌==◌, ◌&&◌, ⊎_elim, true, false, leb, ltb, if◌then◌else◌, List, refl, sym, ap, ◌∙◌, arith}
-use Rattle.std.proofs.lemmas.Bool.{cases_lt}
-use Rattle.std.proofs.lemmas.Bool.Decides.{nat_tests}
-use Rattle.vm_types.specs.Limits.{file_page_limit}
-use Rattle.vm_types.specs.declared.file.FilePage.{FilePage}
-use Rattle.vm_types.specs.declared.object.PageKey.TheVariants.{File}
-use Rattle.vm_types.specs.declared.region.Backing.TheVariants.{Shared}
-use Rattle.page_cache.specs.CacheTable.{CacheTable, is_touched}
-use Rattle.page_cache.specs.Gathering.{IsTouchedIn, Gathers, HasAll}
+use Rattle.std.proofs.{Common.{ℕ, ◌+◌, ◌≡◌, ◌<◌, ◌≤◌, ◌==◌, ◌&&◌, ⊎_elim, true, false, leb, ltb, if◌then◌else◌, List, refl, sym, ap, ◌∙◌, arith}, lemmas.Bool.{cases_lt, and_parts, and_from}, lemmas.Bool.Decides.{nat_tests}}
+use Rattle.vm_types.specs.{Limits.{file_page_limit}, declared.file.FilePage.{FilePage}, declared.object.PageKey.TheVariants.{File}, declared.region.Backing.TheVariants.{Shared}}
+use Rattle.page_cache.specs.{CacheTable.{CacheTable, is_touched}, Gathering.{IsTouchedIn, Gathers, HasAll}}
 use Rattle.page_cache.specs.Gathering as Cache
 use Rattle.msync.specs.Choice.{of_files, chosen_page, in_file_row, is_taken_behind, AreInFiles, Appends, OverflowsRow}
-use Rattle.msync.proofs.Walking.{both_true, and_true}
 
 -- a touched page of a row, or of the front of it, by tests
 behind : (t : CacheTable) (first : FilePage) (count front : ℕ) (p : FilePage) → front ≤ count → IsTouchedIn t first.file first.page front p → is_taken_behind (of_files (is_touched t)) (Shared first) count p ≡ true
@@ -20,7 +13,7 @@ behind t first count front p less in_row =
     let high = in_row.row.2 in
     let file : (p.file == first.file) ≡ true = grind (arith, nat_tests) in
     let row : (leb first.page p.page && ltb p.page (first.page + count)) ≡ true = grind (arith, nat_tests) in
-    and_true (is_touched t (File p)) (in_file_row first count p) in_row.touched (and_true (p.file == first.file) (leb first.page p.page && ltb p.page (first.page + count)) file row)
+    and_from (is_touched t (File p)) (in_file_row first count p) in_row.touched (and_from (p.file == first.file) (leb first.page p.page && ltb p.page (first.page + count)) file row)
 
 -- The front of a row reaches as far as files do.
 abbrev pub Reaches : ℕ → ℕ → ℕ → Type 0
@@ -29,8 +22,8 @@ Reaches first count front = (k : ℕ) → k < file_page_limit → k < first + co
 in_row_of : (t : CacheTable) (first : FilePage) (count front : ℕ) (p : FilePage) → AreInFiles (of_files (is_touched t)) → Reaches first.page count front
     → is_taken_behind (of_files (is_touched t)) (Shared first) count p ≡ true → IsTouchedIn t first.file first.page front p
 in_row_of t first count front p inside reaches e =
-    let a = both_true (is_touched t (File p)) (in_file_row first count p) e in
-    let d = both_true (p.file == first.file) (leb first.page p.page && ltb p.page (first.page + count)) a.1 in
+    let a = and_parts (is_touched t (File p)) (in_file_row first count p) e in
+    let d = and_parts (p.file == first.file) (leb first.page p.page && ltb p.page (first.page + count)) a.1 in
     let file = d.0 in
     let row = d.1 in
     let same : p.file ≡ first.file = grind (arith, nat_tests) in

@@ -1,36 +1,17 @@
 -- How an msync is judged, as the flat model sees it.
-use Rattle.std.proofs.Common.{ℕ, zero, suc, ◌+◌, ◌/◌, ◌%◌, ◌≡◌, ◌≢◌, ◌<◌, ◌^◌, ◌==◌, ◌&&◌, not, Bool, true, false, nat_lt, List, [], ◌∷◌, length, Option, Some, None, refl, sym, ap, ◌∙◌, arith}
-use Rattle.std.specs.Option.{option_map}
-use Rattle.std.specs.Prelude.{is_some}
+use Rattle.std.proofs.{Common.{ℕ, zero, suc, ◌+◌, ◌/◌, ◌%◌, ◌≡◌, ◌≢◌, ◌<◌, ◌^◌, ◌==◌, ◌&&◌, not, Bool, true, false, nat_lt, List, [], ◌∷◌, length, Option, Some, None, refl, sym, ap, ◌∙◌, arith}, lemmas.Bool.{and_parts}}
 use Rattle.std.proofs.lemmas.Bool.Decides.{nat_tests}
-use Rattle.vm_types.specs.declared.command.MsyncMode.{MsyncMode}
-use Rattle.vm_types.specs.declared.command.MsyncMode.TheVariants.{Sync}
-use Rattle.vm_types.specs.declared.file.FileInfo.{FileInfo}
-use Rattle.vm_types.specs.declared.file.FilePage.{FilePage}
-use Rattle.vm_types.specs.declared.object.PageKey.TheVariants.{File}
-use Rattle.vm_types.specs.declared.refusal.Errno.TheVariants.{ENOMEM}
-use Rattle.vm_types.specs.declared.region.Attr.{Attr}
-use Rattle.vm_types.specs.Checks.{first_of, page_count, pages_from}
-use Rattle.vm_types.specs.Counting.{any_below}
-use Rattle.vm_types.specs.Msync.{shares, touched_in, touched_count, msync_ruling, row_ruling, or_else}
+use Rattle.std.specs.Option.{option_map}
+use Rattle.vm_types.specs.{declared.command.MsyncMode.{MsyncMode}, declared.command.MsyncMode.TheVariants.{Sync}, declared.file.FileInfo.{FileInfo}, declared.file.FilePage.{FilePage}, declared.object.PageKey.TheVariants.{File}}
+use Rattle.vm_types.specs.{declared.refusal.Errno.TheVariants.{ENOMEM}, declared.region.Attr.{Attr}, Checks.{first_of, page_count, pages_from}, Counting.{any_below}}
+use Rattle.vm_types.specs.{Msync.{shares, touched_in, touched_count, msync_ruling, row_ruling, or_else}, Rows.{is_covered}, State.{State}, View.{View, attrs_of}}
 use Rattle.vm_types.specs.Msync as Flat
-use Rattle.vm_types.specs.Rows.{is_covered}
-use Rattle.vm_types.specs.State.{State}
-use Rattle.vm_types.specs.View.{View, attrs_of}
-use Rattle.file_store.specs.declared.directory.Directory.{Directory}
-use Rattle.file_store.specs.declared.directory.Entry.{Entry}
-use Rattle.file_store.specs.Store.{entry_of}
-use Rattle.regions.specs.declared.run.Run.{Run}
-use Rattle.regions.specs.RunList.{attr_at}
-use Rattle.residency.specs.Picture.{Picture, entry, is_live, attr_where, own_in, view_of, view}
-use Rattle.residency.specs.Parts.{IsFit}
-use Rattle.residency.specs.Shows.{ShowsPages}
-use Rattle.msync.specs.declared.chosen.Ruling.{Ruling}
-use Rattle.msync.specs.declared.chosen.Ruling.TheVariants.{Refuses, Passes, Takes}
+use Rattle.file_store.specs.{declared.directory.Directory.{Directory}, declared.directory.Entry.{Entry}, Store.{entry_of}}
+use Rattle.residency.specs.{Picture.{Picture, entry, is_live, own_in, view_of, view}, Parts.{IsFit}, Shows.{ShowsPages}}
+use Rattle.residency.proofs.Counts.{any-same}
+use Rattle.msync.specs.{declared.chosen.Ruling.{Ruling}, declared.chosen.Ruling.TheVariants.{Refuses, Passes, Takes}}
 use Rattle.msync.specs.Choice.{of_files, chosen_page, shares_page, is_shared_in, is_chosen, OverflowsRow, ListsTouched, IsRulingOn, RulesSame, AreListed, AreTaken}
-use Rattle.msync.proofs.Appending.{lists_same}
-use Rattle.msync.proofs.Totals.{total, IsWithin, at_least, exactly}
-use Rattle.msync.proofs.Walking.{both_true}
+use Rattle.msync.proofs.{Appending.{lists_same}, Totals.{total, IsWithin, at_least, exactly}}
 
 -- a process, and what its pages are
 pub record IsProcess (touched : FilePage → Bool) (map : ℕ → Option Attr) (s : State) (pid : ℕ) : Type 0 where
@@ -55,42 +36,29 @@ view-shares : {mode : ℕ} (c : Picture mode) (pid page : ℕ) (p : FilePage) �
 unfolding view
 view-shares c pid page p = shares_in_view (own_in c.frames c.slots (entry c pid page)) (c.at pid page) p
 
-pub the_process : {mode : ℕ} (c : Picture mode) (map : ℕ → Option Attr) (s : State) (pid : ℕ) (r : Bool) → ShowsPages c s → r ≡ is_live c pid → r ≡ true
-    → ((page : ℕ) → c.at pid page ≡ map page) → IsProcess (of_files c.touched) map s pid
-the_process c map s pid r shows is live at = record {
-  live = shows.live pid ∙ sym is ∙ live;
-  attrs = λ page. ap (λ (o : Option View). option_map (λ (v : View). v.attr) o) (shows.views pid page) ∙ view-attr c pid page ∙ at page;
-  shared = λ page p. ap (λ (o : Option View). shares o p.file p.page) (shows.views pid page) ∙ view-shares c pid page p ∙ ap (λ (o : Option Attr). shares_page o p) (at page);
+pub the_process : {mode : ℕ} (c : Picture mode) (map : ℕ → Option Attr) (s : State) (pid : ℕ) → ShowsPages c s → is_live c pid ≡ true
+    → ((page : ℕ) → map page ≡ c.at pid page) → IsProcess (of_files c.touched) map s pid
+the_process c map s pid shows live at = record {
+  live = shows.live pid ∙ live;
+  attrs = λ page. ap (λ (o : Option View). option_map (λ (v : View). v.attr) o) (shows.views pid page) ∙ view-attr c pid page ∙ sym (at page);
+  shared = λ page p. ap (λ (o : Option View). shares o p.file p.page) (shows.views pid page) ∙ view-shares c pid page p ∙ ap (λ (o : Option Attr). shares_page o p) (sym (at page));
   marked = shows.touched;
 }
 
--- what the pages of a live process are
-pub at_where : (o : Option ℕ) (runs : List Run) (page : ℕ) → is_some o ≡ true → attr_where o runs page ≡ attr_at runs page
-at_where None runs page live = cc
-at_where (Some r) runs page live = refl
-
-pub no_process : {mode : ℕ} (c : Picture mode) (s : State) (pid : ℕ) (r : Bool) → ShowsPages c s → r ≡ is_live c pid → r ≡ false → s.live pid ≡ false
-no_process c s pid r shows is dead = shows.live pid ∙ sym is ∙ dead
-
 -- what the flat model takes
-any_same : (a b : ℕ → Bool) (n : ℕ) → ((k : ℕ) → a k ≡ b k) → any_below a n ≡ any_below b n
-unfolding any_below
-any_same a b zero same = refl
-any_same a b (suc n) same = rw (same n) (rw (any_same a b n same) refl)
-
 module _ (touched : FilePage → Bool) (map : ℕ → Option Attr) (s : State) (pid : ℕ) (p : IsProcess touched map s pid) where
   pub taken_is_chosen : (first count : ℕ) (page : FilePage) → is_chosen touched map first count page ≡ touched_in s pid first count page.file page.page
   taken_is_chosen first count page =
       sym (
       ap (λ (t : Bool). t && any_below (λ i. shares (s.views pid (first + i)) page.file page.page) count) (p.marked page)
       ∙ ap (λ (t : Bool). touched page && t)
-      (any_same (λ i. shares (s.views pid (first + i)) page.file page.page) (λ i. shares_page (map (first + i)) page) count (λ k. p.shared (first + k) page))
+      (any-same (λ i. shares (s.views pid (first + i)) page.file page.page) (λ i. shares_page (map (first + i)) page) count (λ k. p.shared (first + k) page))
       )
 
   taken_within : (first count : ℕ) → IsWithin touched 64 (2 ^ 20) → IsWithin (λ page. touched_in s pid first count page.file page.page) 64 (2 ^ 20)
   taken_within first count within = record {
-    file = λ page e. within.file page (both_true (touched page) (is_shared_in map first count page) (taken_is_chosen first count page ∙ e)).0;
-    page = λ page e. within.page page (both_true (touched page) (is_shared_in map first count page) (taken_is_chosen first count page ∙ e)).0;
+    file = λ page e. within.file page (and_parts (touched page) (is_shared_in map first count page) (taken_is_chosen first count page ∙ e)).0;
+    page = λ page e. within.page page (and_parts (touched page) (is_shared_in map first count page) (taken_is_chosen first count page ∙ e)).0;
   }
 
   total_of : (first count : ℕ) → touched_count s pid first count ≡ total (λ page. touched_in s pid first count page.file page.page) 64 (2 ^ 20)
@@ -124,9 +92,6 @@ module _ (touched : FilePage → Bool) (map : ℕ → Option Attr) (s : State) (
   covered_of first (suc count) = rw (p.attrs (first + count)) (rw (covered_of first count) refl)
 
   -- the checks that pass
-  count_from : (addr len : ℕ) → addr % 4096 ≡ 0 → pages_from addr len ≡ page_count len
-  count_from addr len e = omega arith
-
   ruling_after : (addr len : ℕ) (mode : MsyncMode) → addr % 4096 ≡ 0 → len ≢ 0
       → msync_ruling s pid addr len mode
       ≡ or_else (first_of ((not (is_covered (attrs_of (s.views pid)) (addr / 4096) (page_count len)), ENOMEM) ∷ []))
@@ -135,20 +100,17 @@ module _ (touched : FilePage → Bool) (map : ℕ → Option Attr) (s : State) (
       let live = p.live in
       let a : (addr % 4096 == 0) ≡ true = grind (arith, nat_tests) in
       let n : (len == 0) ≡ false = grind (arith, nat_tests) in
-      rw live (rw a (rw n (rw (count_from addr len aligned) refl)))
+      let count : pages_from addr len ≡ page_count len = omega arith in
+      rw (live, a, n, count) refl
 
   pub ruled_missing : (addr len : ℕ) (mode : MsyncMode) → addr % 4096 ≡ 0 → len ≢ 0
       → is_covered map (addr / 4096) (page_count len) ≡ false → msync_ruling s pid addr len mode ≡ Flat.Refuses ENOMEM
-  ruled_missing addr len mode aligned some hole =
-      let e = covered_of (addr / 4096) (page_count len) ∙ hole in
-      ruling_after addr len mode aligned some ∙ rw e refl
+  ruled_missing addr len mode aligned some hole = ruling_after addr len mode aligned some ∙ rw (covered_of (addr / 4096) (page_count len) ∙ hole) refl
 
   pub ruled_row : (addr len : ℕ) (mode : MsyncMode) → addr % 4096 ≡ 0 → len ≢ 0
       → is_covered map (addr / 4096) (page_count len) ≡ true
       → msync_ruling s pid addr len mode ≡ row_ruling s pid (addr / 4096) (page_count len) mode
-  ruled_row addr len mode aligned some covered =
-      let e = covered_of (addr / 4096) (page_count len) ∙ covered in
-      ruling_after addr len mode aligned some ∙ rw e refl
+  ruled_row addr len mode aligned some covered = ruling_after addr len mode aligned some ∙ rw (covered_of (addr / 4096) (page_count len) ∙ covered) refl
 
   pub ruled_sync : (addr len : ℕ) (list : List FilePage) (r : Ruling) → IsWithin touched 64 (2 ^ 20) → addr % 4096 ≡ 0 → len ≢ 0
       → is_covered map (addr / 4096) (page_count len) ≡ true
@@ -179,7 +141,7 @@ listed_of c map first count list (Takes taken) room choice = record {
   some = choice.0;
   few = choice.1;
   room = room;
-  touched = λ i less. (both_true (c.touched (File (chosen_page list i))) (is_shared_in map first count (chosen_page list i)) (choice.2.each i less)).0;
+  touched = λ i less. (and_parts (c.touched (File (chosen_page list i))) (is_shared_in map first count (chosen_page list i)) (choice.2.each i less)).0;
   once = choice.2.once;
 }
 
@@ -187,14 +149,14 @@ listed_of c map first count list (Takes taken) room choice = record {
 chosen_same : (touched : FilePage → Bool) (a b : ℕ → Option Attr) (first count : ℕ) (page : FilePage) → ((k : ℕ) → a k ≡ b k) → is_chosen touched a first count page ≡ is_chosen touched b first count page
 chosen_same touched a b first count page same =
     ap (λ (t : Bool). touched page && t)
-    (any_same (λ i. shares_page (a (first + i)) page) (λ i. shares_page (b (first + i)) page) count (λ k. ap (λ (o : Option Attr). shares_page o page) (same (first + k))))
+    (any-same (λ i. shares_page (a (first + i)) page) (λ i. shares_page (b (first + i)) page) count (λ k. ap (λ (o : Option Attr). shares_page o page) (same (first + k))))
 
-pub taken_of : {mode : ℕ} (c : Picture mode) (map : ℕ → Option Attr) (pid addr len : ℕ) (list : List FilePage) (r : Ruling) → ((page : ℕ) → c.at pid page ≡ map page)
+pub taken_of : {mode : ℕ} (c : Picture mode) (map : ℕ → Option Attr) (pid addr len : ℕ) (list : List FilePage) (r : Ruling) → ((page : ℕ) → map page ≡ c.at pid page)
     → IsRulingOn (is_chosen (of_files c.touched) map (addr / 4096) (page_count len)) list r → AreTaken c pid addr len list r
 taken_of c map pid addr len list (Refuses errno) same choice = tt
 taken_of c map pid addr len list Passes same choice = tt
 taken_of c map pid addr len list (Takes taken) same choice = λ i less.
-    chosen_same (of_files c.touched) (c.at pid) map (addr / 4096) (page_count len) (chosen_page list i) same ∙ choice.2.each i less
+    sym (chosen_same (of_files c.touched) map (c.at pid) (addr / 4096) (page_count len) (chosen_page list i) same) ∙ choice.2.each i less
 
 -- touched pages are pages of files, of which there are 64, of fewer than 2 ^ 32 bytes
 in_file : (d : Directory) (f : ℕ) (o : Option Entry) (info : FileInfo) → entry_of d f ≡ o → option_map (λ e. e.info) o ≡ Some info → (f < 64) × (info.length < 2 ^ 32)

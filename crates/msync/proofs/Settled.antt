@@ -1,26 +1,14 @@
 -- A file page in a frame is settled: its tail is cut, no leaf over it has D, and it is touched no more.
 use Rattle.std.proofs.Common.{◌≡◌, ◌≢◌, ℕ, inl, inr, ◌&&◌, true, List, Some, sym, ap, ◌∙◌, subst}
-use Rattle.vm_types.specs.declared.file.FilePage.{FilePage}
-use Rattle.vm_types.specs.declared.object.PageKey.{PageKey}
-use Rattle.vm_types.specs.declared.object.PageKey.TheVariants.{File}
-use Rattle.vm_types.specs.Files.{trimmed}
-use Rattle.frames.specs.declared.role.Role.{Role}
-use Rattle.frames.specs.declared.role.Role.TheVariants.{Table, Private, Cache}
-use Rattle.frames.specs.FrameTable.{frame_count, role_of, bytes_of, IsFrame, with_bytes}
+use Rattle.vm_types.specs.{declared.file.FilePage.{FilePage}, declared.object.PageKey.{PageKey}, declared.object.PageKey.TheVariants.{File}, Files.{trimmed}}
+use Rattle.frames.specs.{declared.role.Role.{Role}, declared.role.Role.TheVariants.{Table, Private, Cache}, FrameTable.{frame_count, role_of, bytes_of, IsFrame, with_bytes}}
 use Rattle.frames.proofs.FrameLemmas.{with_bytes-others, with_bytes-same}
 use Rattle.sv39_walk.specs.Entry.{is_valid, is_dirty, frame_of}
 use Rattle.page_cache.specs.declared.place.Place.TheVariants.{Home, Frame}
-use Rattle.residency.specs.declared.leaves.Change.TheVariants.{ClearDirty}
-use Rattle.residency.specs.Seats.{Seat, InFrame, InSlot, seat}
-use Rattle.residency.specs.Picture.{Picture, entry, view, held, bytes_at, bytes_in, IsOwned}
-use Rattle.residency.specs.Parts.{IsFit, nowhere}
-use Rattle.residency.specs.Leaves.{IsChanged, ChangesLeaves}
+use Rattle.residency.specs.{declared.leaves.Change.TheVariants.{ClearDirty}, Seats.{Seat, InFrame, InSlot, seat}, Picture.{Picture, entry, view, held, bytes_at, bytes_in, IsOwned}, Parts.{IsFit, nowhere}, Leaves.{IsChanged, ChangesLeaves}}
 use Rattle.residency.specs.Steps.{SameBeside}
-use Rattle.residency.proofs.Bits.{leaf_dirty}
-use Rattle.residency.proofs.Setting.{fit_written, entries_written, bytes_else, view_seated, each_view, held_same}
-use Rattle.msync.specs.Spots.{framed_at}
-use Rattle.msync.specs.Settling.{ClearsLeaf, SettlesOne}
-use Rattle.residency.proofs.Cleaning.{Untouches, entries_untouched, views_untouched, held_untouched}
+use Rattle.residency.proofs.{Bits.{leaf_dirty}, Setting.{fit_written, entries_written, bytes_else, view_seated, each_view, held_same}, Cleaning.{Untouches, entries_untouched, views_untouched, held_untouched}}
+use Rattle.msync.specs.{Spots.{framed_at}, Settling.{ClearsLeaf, SettlesOne}}
 
 pub held_framed : {mode : ℕ} (c : Picture mode) (p : PageKey) (n : ℕ) → c.place p ≡ Frame (record { 0 = n }) → held c p ≡ Some (bytes_of c.frames n)
 unfolding held

@@ -1,28 +1,15 @@
 -- Pages are settled one after the other.
 use Rattle.vm_types.specs.declared.mode.Levels as Levels
-use Rattle.std.proofs.Common.{◌≡◌, ◌≢◌, ℕ, zero, suc, inl, inr, ◌⊎◌, ◌+◌, ◌-◌, ◌<◌, false, List, length, Some, refl, sym, ap, ◌∙◌, subst, arith}
-use Rattle.std.proofs.lemmas.Bool.{cases_eq, false≢true}
-use Rattle.std.proofs.lemmas.Option.{same_Some}
-use Rattle.vm_types.specs.declared.file.FilePage.{FilePage}
-use Rattle.vm_types.specs.declared.object.PageKey.{PageKey}
-use Rattle.vm_types.specs.declared.object.PageKey.TheVariants.{File}
-use Rattle.vm_types.specs.Files.{inside_of, cut, trimmed}
+use Rattle.std.proofs.{Common.{◌≡◌, ◌≢◌, ℕ, zero, suc, inl, inr, ◌⊎◌, ◌+◌, ◌-◌, ◌<◌, false, List, length, Some, refl, sym, ap, ◌∙◌, subst, arith}, lemmas.Bool.{cases_eq, false≢true}, lemmas.Option.{same_Some}}
+use Rattle.vm_types.specs.{declared.file.FilePage.{FilePage}, declared.object.PageKey.{PageKey}, declared.object.PageKey.TheVariants.{File}, Files.{inside_of, cut, trimmed}}
 use Rattle.frames.specs.FrameTable.{frame_count, bytes_of}
-use Rattle.swap.specs.declared.slots.Swap.{Swap}
-use Rattle.swap.specs.Slots.{slots_of, IsReady}
-use Rattle.swap.specs.Written.{IsAsWritten}
+use Rattle.swap.specs.{declared.slots.Swap.{Swap}, Slots.{slots_of, IsReady}, Written.{IsAsWritten}}
 use Rattle.swap.specs.declared.pages.Pages.{Pages as Swap_pages}
 use Rattle.disk_model.specs.declared.sector_disk.SectorDisk.{Ghosts}
 use Rattle.sv39_walk.specs.Entry.{is_dirty}
-use Rattle.residency.specs.declared.kernel.Core.{Core}
-use Rattle.residency.specs.Picture.{Picture, entry, held, bytes_at}
-use Rattle.residency.specs.Parts.{IsFit, HasPlaces}
-use Rattle.residency.proofs.Bits.{bit_seven, seven_clear}
-use Rattle.residency.proofs.Places.{cases_page}
-use Rattle.msync.specs.declared.chosen.Residence.{Residence}
-use Rattle.msync.specs.declared.chosen.Residence.TheVariants.{Framed, Slotted}
-use Rattle.msync.specs.declared.chosen.Spot.{Spot}
-use Rattle.msync.specs.Spots.{spot_at, place_at, bytes_there, IsThere, IsSpot, AreSpots}
+use Rattle.residency.specs.{declared.kernel.Core.{Core}, Picture.{Picture, entry, held, bytes_at}, Parts.{IsFit, HasPlaces}}
+use Rattle.residency.proofs.{Bits.{bit_seven, seven_clear}, Places.{cases_page}}
+use Rattle.msync.specs.{declared.chosen.Residence.{Residence}, declared.chosen.Residence.TheVariants.{Framed, Slotted}, declared.chosen.Spot.{Spot}, Spots.{spot_at, place_at, bytes_there, IsThere, IsSpot, AreSpots}}
 use Rattle.msync.specs.Settling.{KeepsBesidePages, LosesDirty, ClearsLeaf, IsFrameIn, settled_place, settled_in, settled_bytes, SettlesOne, Settles, SettlesMemory}
 
 lost_clean : (e e' : ℕ) → LosesDirty e e' → is_dirty e' ≡ false

@@ -1,12 +1,7 @@
 -- A touched file page lies in a frame or in a slot.
-use Rattle.std.proofs.Common.{◌≡◌, ◌≢◌, ℕ, inl, inr, List, length, Option, Some, None, refl, sym, ◌∙◌, arith}
-use Rattle.std.proofs.lemmas.Bool.{cases_lt}
-use Rattle.std.proofs.lemmas.List.{get_or_past}
-use Rattle.frames.specs.declared.role.Role.TheVariants.{Free, Cache}
-use Rattle.frames.specs.FrameTable.{FrameTable, frame_count, role_of, IsFrame, IsSound}
-use Rattle.swap.specs.declared.slots.Swap.{Swap}
-use Rattle.swap.specs.Slots.{slots_of, or_none, IsInUse}
-use Rattle.swap.specs.Written.{written_in}
+use Rattle.std.proofs.{Common.{◌≡◌, ◌≢◌, ℕ, inl, inr, List, length, Option, Some, None, refl, sym, ◌∙◌, arith}, lemmas.Bool.{cases_lt}, lemmas.List.{get_or_past}}
+use Rattle.frames.specs.{declared.role.Role.TheVariants.{Free, Cache}, FrameTable.{FrameTable, frame_count, role_of, IsFrame, IsSound}}
+use Rattle.swap.specs.{declared.slots.Swap.{Swap}, Slots.{slots_of, or_none, IsInUse}, Written.{written_in}}
 
 pub cache_inside : (t : FrameTable) (n : ℕ) → IsSound t → role_of t n ≡ Cache → IsFrame t n
 cache_inside t n sound cache = elim (cases_lt n (frame_count t)) [

@@ -79,7 +79,7 @@ is_shared_in map first count page = any_below (λ i. shares_page (map (first + i
 abbrev pub is_chosen : (FilePage → Bool) → (ℕ → Option Attr) → ℕ → ℕ → FilePage → Bool
 is_chosen touched map first count page = touched page && is_shared_in map first count page
 
--- Behind the first used places of a list stand the file pages that pass and aren't among those, each once.
+-- After the first used places of a list stand the file pages that pass and aren't among those, each once.
 pub record Appends (passes : FilePage → Bool) (old new : List FilePage) (used now : ℕ) : Type 0 where
   pub order : used ≤ now
   pub few : now ≤ msync_pages

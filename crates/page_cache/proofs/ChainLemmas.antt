@@ -1,11 +1,9 @@
 -- What a change of one node does to the chains of all buckets.
-use Rattle.std.proofs.Common.{◌≡◌, ◌≢◌, ℕ, zero, suc, ◌+◌, ◌<◌, ◌≤◌, Bool, true, false, eqb, List, length, replicate, get_or, Option, Some, None, refl, sym, ap, ◌∙◌, subst, inl, inr, arith, set, length-set, get_or-set_same, get_or-set_other}
-use Rattle.std.proofs.lemmas.Bool.{cases_eq, cases_lt, cases_order, both_ways, true≢false, eqb-true, eq-eqb, false_from_ne_true}
-use Rattle.std.proofs.lemmas.List.{length-replicate, get_or-replicate}
+use Rattle.std.proofs.Common.{◌≡◌, ◌≢◌, ℕ, ◌+◌, ◌<◌, ◌≤◌, Bool, true, false, eqb, List, length, replicate, get_or, Option, Some, None, refl, sym, ap, ◌∙◌, subst, inl, inr, arith, set, length-set, get_or-set_same, get_or-set_other}
+use Rattle.std.proofs.{lemmas.Bool.{cases_eq, cases_lt, cases_order, both_ways, true≢false, eqb-true, eq-eqb, false_from_ne_true}, lemmas.List.{length-replicate, get_or-replicate}}
 use Rattle.vm_types.specs.declared.object.PageKey.{PageKey}
-use Rattle.page_cache.specs.Nodes.{page_at, holds}
-use Rattle.page_cache.specs.Chains.{bucket_of, is_in_bucket, IsNext, IsLinkOf, AreChained, IsSeat, IsEmptyIndex}
-use Rattle.page_cache.proofs.NodeLemmas.{page_at-emptied, page_at-within, holds-false}
+use Rattle.page_cache.specs.{Nodes.{page_at, holds}, Chains.{bucket_of, is_in_bucket, IsNext, IsLinkOf, AreChained, IsSeat, IsEmptyIndex}}
+use Rattle.page_cache.proofs.NodeLemmas.{page_at-emptied, page_at-within, holds-false, unheld_at}
 
 -- a node holds a page of one bucket
 pub bucket-one : (mask b d : ℕ) (held : Option PageKey) → is_in_bucket mask b held ≡ true → is_in_bucket mask d held ≡ true → b ≡ d
@@ -299,18 +297,12 @@ passed-none pages mask low n page next before m below = elim (cases_lt m low) [
       (ap (is_in_bucket mask (bucket_of mask page)) e ∙ bucket-own mask page))
 ]
 
--- nodes that hold nothing
-none_at : (n k : ℕ) → page_at (replicate n None) k ≡ None
-none_at zero k = refl
-none_at (suc n) zero = refl
-none_at (suc n) (suc k) = none_at n k
-
 pub IsEmptyIndex-made : (pages : List (Option PageKey)) (links : List ℕ) (mask nodes : ℕ) → nodes ≤ 131072 → pages ≡ replicate nodes None
     → links ≡ replicate (mask + 1 + nodes) nodes → IsEmptyIndex pages links mask nodes
 IsEmptyIndex-made pages links mask nodes few empty ends =
     let count : length pages ≡ nodes = ap length empty ∙ length-replicate nodes None in
     let nothing : (b m : ℕ) → is_in_bucket mask b (page_at pages m) ≡ false =
-    λ b m. ap (λ (xs : List (Option PageKey)). is_in_bucket mask b (page_at xs m)) empty ∙ ap (is_in_bucket mask b) (none_at nodes m) in
+    λ b m. ap (λ (xs : List (Option PageKey)). is_in_bucket mask b (page_at xs m)) empty ∙ ap (is_in_bucket mask b) (unheld_at nodes m) in
     record {
       chained = record {
         few = rw count few;

@@ -1,19 +1,10 @@
 -- What a call leaves of the cache: whole again, and the same but for one page.
-use Rattle.std.proofs.Common.{◌≡◌, ◌≢◌, ℕ, ◌<◌, false, List, length, get_or, Option, Some, None, refl, sym, ap, ◌∙◌, inl, inr, set, length-set, get_or-set_same, get_or-set_other}
-use Rattle.std.proofs.lemmas.Bool.{cases_eq, both_ways, false_from_ne_true}
+use Rattle.std.proofs.{Common.{◌≡◌, ◌≢◌, ℕ, ◌<◌, false, List, length, get_or, Option, Some, None, refl, sym, ap, ◌∙◌, inl, inr, set, length-set, get_or-set_same, get_or-set_other}, lemmas.Bool.{cases_eq, both_ways, false_from_ne_true}}
+use Rattle.std.proofs.lemmas.Option.{none-some, same_Some}
 use Rattle.vm_types.specs.declared.object.PageKey.{PageKey}
-use Rattle.page_cache.specs.declared.place.Place.TheVariants.{Home}
-use Rattle.page_cache.specs.declared.index.Index.{Index}
-use Rattle.page_cache.specs.declared.node_set.NodeSet.{NodeSet}
-use Rattle.page_cache.specs.declared.cache.PageCache.TheInside.{Inside}
-use Rattle.page_cache.specs.Nodes.{page_at, first_node, IsOneToOne}
-use Rattle.page_cache.specs.Chains.{AreChained}
-use Rattle.page_cache.specs.Sets.{is_member, members, IsOrdered, SameMembersBut}
-use Rattle.page_cache.specs.CacheTable.{CacheTable, place_in, place_of, SameButForPage}
-use Rattle.page_cache.specs.Inside.{cache_table_of, IsWholeCache}
-use Rattle.page_cache.proofs.NodeLemmas.{none≢some, first_node-of, IsOneToOne-removed, IsOneToOne-inserted}
-use Rattle.page_cache.proofs.SetLemmas.{members-at}
-use Rattle.page_cache.proofs.TableLemmas.{some-same, place_of-first, place_of-held, place_in-held, SameButFor-marks, SameButFor-set}
+use Rattle.page_cache.specs.{declared.place.Place.TheVariants.{Home}, declared.index.Index.{Index}, declared.node_set.NodeSet.{NodeSet}, declared.cache.PageCache.TheInside.{Inside}, Nodes.{page_at, first_node, IsOneToOne}}
+use Rattle.page_cache.specs.{Chains.{AreChained}, Sets.{is_member, members, IsOrdered, SameMembersBut}, CacheTable.{CacheTable, place_in, place_of, SameButForPage}, Inside.{cache_table_of, IsWholeCache}}
+use Rattle.page_cache.proofs.{NodeLemmas.{first_node-of, IsOneToOne-removed, IsOneToOne-inserted}, SetLemmas.{members-at}, TableLemmas.{place_of-first, place_of-held, place_in-held, SameButFor-marks, SameButFor-set}}
 
 -- nodes but one are marked as they were
 pub marks_same : (old : List ℕ) (old_count : ℕ) (new : List ℕ) (new_count node : ℕ) → SameMembersBut node old old_count new new_count
@@ -75,7 +66,7 @@ IsWhole-given c index touched node page whole inside home pages chained ordered 
       ordered = ordered;
       nodes = same.nodes ∙ whole.nodes ∙ sym nodes;
       touched_held = λ m member none. elim (cases_eq m node) [
-        | inl e ↦ none≢some page (sym none ∙ ap (λ (xs : List (Option PageKey)). page_at xs m) pages ∙ ap (page_at (set c.index.pages.items node (Some page))) e
+        | inl e ↦ none-some page (sym none ∙ ap (λ (xs : List (Option PageKey)). page_at xs m) pages ∙ ap (page_at (set c.index.pages.items node (Some page))) e
             ∙ get_or-set_same c.index.pages.items node (Some page) None inside)
         | inr other ↦ whole.touched_held m (sym (same.others m other) ∙ member)
             (sym (get_or-set_other c.index.pages.items node m (Some page) None other) ∙ ap (λ (xs : List (Option PageKey)). page_at xs m) (sym pages) ∙ none)
@@ -101,7 +92,7 @@ pub SameButFor-given : (c : Inside) (index : Index) (touched : NodeSet) (node : 
     → SameButForPage page (cache_table_of c) (cache_table_of (record { frames = c.frames; index = index; touched = touched }))
 SameButFor-given c index touched node page free pages same =
     rw pages (SameButFor-set c.frames c.index.pages.items (members c.touched.ranks.items c.touched.count) (members touched.ranks.items touched.count) page node (Some page)
-    (λ p ne held. none≢some p (sym free ∙ held)) (λ p ne held. ne (sym (some-same page p held)))
+    (λ p ne held. none-some p (sym free ∙ held)) (λ p ne held. ne (sym (same_Some page p held)))
     (marks_same c.touched.ranks.items c.touched.count touched.ranks.items touched.count node same))
 
 pub SameButFor-taken : (c : Inside) (index : Index) (touched : NodeSet) (node : ℕ) (page : PageKey) → page_at c.index.pages.items node ≡ Some page
@@ -110,7 +101,7 @@ pub SameButFor-taken : (c : Inside) (index : Index) (touched : NodeSet) (node : 
     → SameButForPage page (cache_table_of c) (cache_table_of (record { frames = c.frames; index = index; touched = touched }))
 SameButFor-taken c index touched node page held pages same =
     rw pages (SameButFor-set c.frames c.index.pages.items (members c.touched.ranks.items c.touched.count) (members touched.ranks.items touched.count) page node None
-    (λ p ne e. ne (sym (some-same page p (sym held ∙ e)))) (λ p ne e. none≢some p e)
+    (λ p ne e. ne (sym (same_Some page p (sym held ∙ e)))) (λ p ne e. none-some p e)
     (marks_same c.touched.ranks.items c.touched.count touched.ranks.items touched.count node same))
 
 pub SameButFor-marked : (c : Inside) (touched : NodeSet) (node : ℕ) (page : PageKey) → page_at c.index.pages.items node ≡ Some page

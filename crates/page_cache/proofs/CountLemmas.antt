@@ -1,6 +1,6 @@
 -- How many numbers below a limit pass a test, by a list of those that do.
 use Rattle.std.proofs.Common.{◌≡◌, ◌≢◌, ℕ, zero, suc, ◌+◌, ◌<◌, ◌≤◌, Bool, true, false, not, ◌&&◌, eqb, refl, sym, ap, ◌∙◌, inl, inr, arith}
-use Rattle.std.proofs.lemmas.Bool.{cases_eq, cases_lt, cases_Bool, both_ways, and_parts, not-true, eqb-false, eq-eqb, ne_eqb, false_from_ne_true, or_left, or_right}
+use Rattle.std.proofs.lemmas.Bool.{cases_eq, cases_lt, cases_Bool, and_parts, not-true, eqb-false, eq-eqb, ne_eqb, false_from_ne_true, or_left, or_right}
 use Rattle.vm_types.specs.Counting.{any_below, count_below}
 
 -- all that pass but one
@@ -84,8 +84,7 @@ count-at_most (suc m) f passes c all =
     let other : found.0 ≢ m = λ e. eqb-false k (f m) (not-true (eqb k (f m)) parts.1) (sym found.2 ∙ ap f e) in
     (found.0, omega (arith, found.1), found.2)
     ) in
-    let less = count-at_most m f (without passes (f m)) c rest in
-    omega (arith, less, without-less passes (f m) c)
+    omega (arith, count-at_most m f (without passes (f m)) c rest, without-less passes (f m) c)
 
 pub any_below-none : (passes : ℕ → Bool) (n : ℕ) → ((i : ℕ) → i < n → passes i ≡ false) → any_below passes n ≡ false
 unfolding any_below

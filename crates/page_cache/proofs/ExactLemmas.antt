@@ -1,14 +1,9 @@
 -- A gathered list has as many entries as its row has fresh pages.
 use Rattle.std.proofs.Common.{◌≡◌, ◌≢◌, ℕ, ◌+◌, ◌-◌, ◌<◌, ◌≤◌, ◌↔◌, Bool, true, false, not, cond, ltb, List, refl, sym, ap, ◌∙◌, inl, inr, arith, Result, Ok, Err, IsErr, IfOk, OnErr}
 use Rattle.std.proofs.lemmas.Bool.{cases_lt, cases_Bool, both_ways, and_parts, and_from, not-true, not_from_false, false≢true, lt-ltb, le-ltb}
-use Rattle.vm_types.specs.declared.file.FilePage.{FilePage}
-use Rattle.vm_types.specs.declared.object.PageKey.TheVariants.{File}
-use Rattle.vm_types.specs.Attributes.{file_page_eq}
-use Rattle.page_cache.specs.declared.place.TooMany.{TooMany}
-use Rattle.page_cache.specs.CacheTable.{CacheTable, is_touched}
-use Rattle.page_cache.specs.Gathering.{IsTouchedIn, index_entry, IsListed, is_listed, is_fresh, fresh_count, Gathers, HasAll, Overflows}
-use Rattle.page_cache.proofs.NodeLemmas.{same_file_page, same_file_page_true}
-use Rattle.page_cache.proofs.CountLemmas.{count-at_least, count-at_most, any_below-none, any_below-at}
+use Rattle.vm_types.specs.{declared.file.FilePage.{FilePage}, declared.object.PageKey.TheVariants.{File}, Attributes.{file_page_eq}}
+use Rattle.page_cache.specs.{declared.place.TooMany.{TooMany}, CacheTable.{CacheTable, is_touched}, Gathering.{IsTouchedIn, index_entry, IsListed, is_listed, is_fresh, fresh_count, Gathers, HasAll, Overflows}}
+use Rattle.page_cache.proofs.{NodeLemmas.{same_file_page, same_file_page_true}, CountLemmas.{count-at_least, count-at_most, any_below-none, any_below-at}}
 
 pub is_listed-false : (list : List FilePage) (n : ℕ) (page : FilePage) → (IsListed list n page → ⊥) → is_listed list n page ≡ false
 is_listed-false list n page absent =

@@ -1,27 +1,19 @@
 -- The first node that holds a page, before and after one node was changed.
-use Rattle.std.proofs.Common.{◌≡◌, ◌≢◌, ℕ, zero, suc, ◌+◌, ◌<◌, true, false, eqb, List, [], ◌∷◌, length, Option, Some, None, refl, sym, ap, ◌∙◌, subst, inl, inr, arith, set, get_or-set_same, get_or-set_other}
-use Rattle.std.proofs.lemmas.Bool.{cases_eq, cases_Bool, cases_lt, both_ways, true≢false, and_parts, and_from, eqb-true, eq-eqb, false_from_ne_true}
-use Rattle.std.proofs.lemmas.List.{get_or_past}
-use Rattle.vm_types.specs.declared.file.FilePage.{FilePage}
-use Rattle.vm_types.specs.declared.object.ObjectPage.{ObjectPage}
-use Rattle.vm_types.specs.declared.object.PageKey.{PageKey}
-use Rattle.vm_types.specs.declared.object.PageKey.TheVariants.{File, Object}
+use Rattle.std.proofs.Common.{◌≡◌, ◌≢◌, ℕ, zero, suc, ◌+◌, ◌<◌, true, false, eqb, List, [], ◌∷◌, length, Option, Some, None, refl, sym, ap, ap₂, ◌∙◌, subst, inl, inr, arith, replicate, set, get_or-set_same, get_or-set_other}
+use Rattle.std.proofs.{lemmas.Bool.{cases_eq, cases_Bool, cases_lt, both_ways, true≢false, and_parts, and_from, eqb-true, eq-eqb, false_from_ne_true}, lemmas.List.{get_or_past}, lemmas.Option.{none-some}}
+use Rattle.vm_types.specs.{declared.file.FilePage.{FilePage}, declared.object.ObjectPage.{ObjectPage}, declared.object.PageKey.{PageKey}, declared.object.PageKey.TheVariants.{File, Object}}
 use Rattle.vm_types.specs.Attributes.{file_page_eq, object_page_eq, page_key_eq}
 use Rattle.page_cache.specs.Nodes.{page_at, holds, next_number, first_node, IsOneToOne}
 
 pub same_file_page : (a b : FilePage) → file_page_eq a b ≡ true → a ≡ b
 same_file_page a b e =
     let parts = and_parts (eqb a.file b.file) (eqb a.page b.page) e in
-    let files = eqb-true a.file b.file parts.0 in
-    let pages = eqb-true a.page b.page parts.1 in
-    ap (λ (f : ℕ). let r : FilePage = record { file = f; page = a.page } in r) files ∙ ap (λ (k : ℕ). let r : FilePage = record { file = b.file; page = k } in r) pages
+    ap₂ (λ (f k : ℕ). let r : FilePage = record { file = f; page = k } in r) (eqb-true a.file b.file parts.0) (eqb-true a.page b.page parts.1)
 
 same_object_page : (a b : ObjectPage) → object_page_eq a b ≡ true → a ≡ b
 same_object_page a b e =
     let parts = and_parts (eqb a.object b.object) (eqb a.page b.page) e in
-    let objects = eqb-true a.object b.object parts.0 in
-    let pages = eqb-true a.page b.page parts.1 in
-    ap (λ (o : ℕ). let r : ObjectPage = record { object = o; page = a.page } in r) objects ∙ ap (λ (k : ℕ). let r : ObjectPage = record { object = b.object; page = k } in r) pages
+    ap₂ (λ (o k : ℕ). let r : ObjectPage = record { object = o; page = k } in r) (eqb-true a.object b.object parts.0) (eqb-true a.page b.page parts.1)
 
 pub same_page : (a b : PageKey) → page_key_eq a b ≡ true → a ≡ b
 same_page (File a) (File b) e = ap (λ (p : FilePage). File p) (same_file_page a b e)
@@ -49,23 +41,26 @@ holds-false page held ne = false_from_ne_true (holds page held) (λ e. ne (holds
 pub false-holds : (page : PageKey) (held : Option PageKey) → holds page held ≡ false → held ≢ Some page
 false-holds page held no_page e = both_ways (holds page held) no_page (true-holds page held e)
 
-pub none≢some : {A : Type 0} (x : A) → None ≢ Some x
-none≢some x e = cc
+-- nodes that hold nothing
+pub unheld_at : (n k : ℕ) → page_at (replicate n None) k ≡ None
+unheld_at zero k = refl
+unheld_at (suc n) zero = refl
+unheld_at (suc n) (suc k) = unheld_at n k
 
 -- a node that holds a page is one of them
 pub page_at-within : (pages : List (Option PageKey)) (n : ℕ) (page : PageKey) → page_at pages n ≡ Some page → n < length pages
 page_at-within pages n page e = elim (cases_lt n (length pages)) [
   | inl below ↦ below
-  | inr past ↦ absurd (none≢some page (sym (get_or_past pages n None past) ∙ e))
+  | inr past ↦ absurd (none-some page (sym (get_or_past pages n None past) ∙ e))
 ]
 
 pub next_number-some : (o : Option ℕ) (n : ℕ) → next_number o ≡ Some n → (k : ℕ) × (o ≡ Some k) × (n ≡ k + 1)
-next_number-some None n e = absurd (none≢some n e)
+next_number-some None n e = absurd (none-some n e)
 next_number-some (Some k) n e = (k, refl, (cc))
 
 pub next_number-none : (o : Option ℕ) → next_number o ≡ None → o ≡ None
 next_number-none None e = refl
-next_number-none (Some k) e = absurd (none≢some (k + 1) (sym e))
+next_number-none (Some k) e = absurd (none-some (k + 1) (sym e))
 
 -- the first node is found where the ones before it hold other pages
 pub first_node-found : (pages : List (Option PageKey)) (page : PageKey) (n : ℕ) → holds page (page_at pages n) ≡ true
@@ -84,7 +79,7 @@ first_node-none (held ∷ rest) page all = rw (all 0 (omega arith), first_node-n
 
 pub first_node-holds : (pages : List (Option PageKey)) (page : PageKey) (n : ℕ) → first_node pages page ≡ Some n → holds page (page_at pages n) ≡ true
 unfolding first_node
-first_node-holds [] page n e = absurd (none≢some n e)
+first_node-holds [] page n e = absurd (none-some n e)
 first_node-holds (held ∷ rest) page n e = elim (cases_Bool (holds page held)) [
   | inl here ↦ (let first : Some 0 ≡ Some n = rw here at e in
       let zero_is : 0 ≡ n = cc in
@@ -104,7 +99,7 @@ pub first_node-no_node : (pages : List (Option PageKey)) (page : PageKey) → fi
 unfolding first_node
 first_node-no_node [] page e m = refl
 first_node-no_node (held ∷ rest) page e m = elim (cases_Bool (holds page held)) [
-  | inl here ↦ (let first : Some 0 ≡ None = rw here at e in absurd (none≢some 0 (sym first)))
+  | inl here ↦ (let first : Some 0 ≡ None = rw here at e in absurd (none-some 0 (sym first)))
   | inr other ↦ (let later : next_number (first_node rest page) ≡ None = rw other at e in at_each rest page held other (first_node-no_node rest page (next_number-none (first_node rest page) later)) m)
 ]
 
@@ -132,7 +127,7 @@ pub IsOneToOne-removed : (pages : List (Option PageKey)) (n : ℕ) → IsOneToOn
 IsOneToOne-removed pages n one =
     let before : (m : ℕ) (page : PageKey) → page_at (set pages n None) m ≡ Some page → page_at pages m ≡ Some page =
     λ m page e. elim (cases_eq m n) [
-      | inl same ↦ absurd (none≢some page (sym (page_at-emptied pages n) ∙ ap (page_at (set pages n None)) (sym same) ∙ e))
+      | inl same ↦ absurd (none-some page (sym (page_at-emptied pages n) ∙ ap (page_at (set pages n None)) (sym same) ∙ e))
       | inr other ↦ sym (get_or-set_other pages n m None None other) ∙ e
     ]
     in
@@ -163,6 +158,6 @@ IsOneToOne-inserted pages n page one nowhere inside =
 pub first_node-removed : (pages : List (Option PageKey)) (n : ℕ) (page : PageKey) → IsOneToOne pages → page_at pages n ≡ Some page → first_node (set pages n None) page ≡ None
 first_node-removed pages n page one held =
     first_node-none (set pages n None) page (λ m below. holds-false page (page_at (set pages n None) m) (λ e. elim (cases_eq m n) [
-      | inl same ↦ none≢some page (sym (page_at-emptied pages n) ∙ ap (page_at (set pages n None)) (sym same) ∙ e)
+      | inl same ↦ none-some page (sym (page_at-emptied pages n) ∙ ap (page_at (set pages n None)) (sym same) ∙ e)
       | inr other ↦ other (one.apart m n page (sym (get_or-set_other pages n m None None other) ∙ e) held)
     ]))

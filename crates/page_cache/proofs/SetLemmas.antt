@@ -1,6 +1,5 @@
 -- What the calls on a set of nodes do to its order, its ranks and its members.
-use Rattle.std.proofs.Common.{◌≡◌, ◌≢◌, ℕ, zero, suc, ◌+◌, ◌<◌, ◌≤◌, ◌⊎◌, true, false, ltb, List, [], ◌∷◌, length, get_or, refl, sym, ap, ◌∙◌, inl, inr, arith, map}
-use Rattle.std.proofs.lemmas.Bool.{cases_eq, cases_lt, both_ways, lt-ltb, le-ltb}
+use Rattle.std.proofs.{Common.{◌≡◌, ◌≢◌, ℕ, zero, suc, ◌+◌, ◌<◌, ◌≤◌, ◌⊎◌, true, false, ltb, List, [], ◌∷◌, length, get_or, refl, sym, ap, ◌∙◌, inl, inr, arith, map}, lemmas.Bool.{cases_eq, cases_lt, both_ways, lt-ltb, le-ltb}}
 use Rattle.std.proofs.lemmas.List.{get_or_past, get_or_default}
 use Rattle.page_cache.specs.Sets.{is_member, members, IsOrdered, HaveSwapped, SameMembersBut}
 

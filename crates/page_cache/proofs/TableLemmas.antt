@@ -1,18 +1,10 @@
 -- Places and touched pages, by the nodes that hold them.
-use Rattle.std.proofs.Common.{◌≡◌, ◌≢◌, ℕ, zero, suc, ◌+◌, ◌-◌, ◌<◌, ◌≤◌, ◌⊎◌, Bool, false, List, length, get_or, Option, Some, None, IfSome, IfNone, refl, sym, ap, ◌∙◌, subst, inl, inr, arith, set, length-set, replicate}
-use Rattle.std.proofs.lemmas.Bool.{false≢true, cases_Bool, cases_lt, both_ways, lt-ltb, le-ltb}
-use Rattle.std.proofs.lemmas.List.{length-replicate}
-use Rattle.vm_types.specs.declared.object.PageKey.{PageKey}
-use Rattle.vm_types.specs.declared.number.FrameNo.{FrameNo}
-use Rattle.vm_types.specs.declared.number.SlotNo.{SlotNo}
-use Rattle.vm_types.specs.Attributes.{page_key_eq}
-use Rattle.page_cache.specs.declared.place.Place.{Place}
-use Rattle.page_cache.specs.declared.place.Place.TheVariants.{Home, Frame, Slot}
-use Rattle.page_cache.specs.declared.cache.PageCache.TheInside.{Inside}
-use Rattle.page_cache.specs.Nodes.{page_at, first_node, IsOneToOne}
-use Rattle.page_cache.specs.CacheTable.{CacheTable, cache_frames, slot_count, place_in, place_of, is_marked, is_touched, IsInside, IsSoundCache, IsNewCache, SameButForPage}
-use Rattle.page_cache.specs.Inside.{cache_table_of, IsWholeCache}
-use Rattle.page_cache.proofs.NodeLemmas.{same_page, same_page_true, holds-true, false-holds, none≢some, page_at-within, first_node-holds, first_node-no_node, first_node-none, first_node-of, first_node-kept}
+use Rattle.std.proofs.Common.{◌≡◌, ◌≢◌, ℕ, ◌+◌, ◌-◌, ◌<◌, ◌≤◌, ◌⊎◌, Bool, false, List, length, get_or, Option, Some, None, IfSome, IfNone, refl, sym, ap, ◌∙◌, subst, inl, inr, arith, set, length-set, replicate}
+use Rattle.std.proofs.{lemmas.Bool.{false≢true, cases_Bool, cases_lt, both_ways, lt-ltb, le-ltb}, lemmas.List.{length-replicate}, lemmas.Option.{none-some, same_Some}}
+use Rattle.vm_types.specs.{declared.object.PageKey.{PageKey}, Attributes.{page_key_eq}}
+use Rattle.page_cache.specs.{declared.place.Place.{Place}, declared.place.Place.TheVariants.{Home, Frame, Slot}, declared.cache.PageCache.TheInside.{Inside}, Nodes.{page_at, first_node, IsOneToOne}}
+use Rattle.page_cache.specs.{CacheTable.{CacheTable, cache_frames, place_in, place_of, is_marked, is_touched, IsInside, IsSoundCache, IsNewCache, SameButForPage}, Inside.{cache_table_of, IsWholeCache}}
+use Rattle.page_cache.proofs.NodeLemmas.{same_page, same_page_true, holds-true, false-holds, page_at-within, first_node-holds, first_node-no_node, first_node-none, first_node-of, first_node-kept, unheld_at}
 
 -- two file pages are one or not
 pub cases_page : (p q : PageKey) → (p ≡ q) ⊎ (p ≢ q)
@@ -20,9 +12,6 @@ cases_page p q = elim (cases_Bool (page_key_eq p q)) [
   | inl e ↦ inl (same_page p q e)
   | inr ne ↦ inr (λ e. both_ways (page_key_eq p q) ne (ap (page_key_eq p) (sym e) ∙ same_page_true p))
 ]
-
-pub some-same : {A : Type 0} (x y : A) → Some x ≡ Some y → x ≡ y
-some-same x y e = cc
 
 -- a page is found at a node or nowhere
 pub cases_node : (pages : List (Option PageKey)) (page : PageKey) → ((n : ℕ) × (first_node pages page ≡ Some n) × (page_at pages n ≡ Some page))
@@ -42,45 +31,28 @@ place_in-slot frames n above = rw (le-ltb n frames above) refl
 pub place_in-slot_at : (frames n : ℕ) → place_in frames (Some (frames + n)) ≡ Slot (record { 0 = n })
 place_in-slot_at frames n = place_in-slot frames (frames + n) (omega arith) ∙ ap (λ (k : ℕ). Slot (record { 0 = k })) (omega arith)
 
-frame≢home : (n : FrameNo) → Frame n ≢ Home
-frame≢home n e = cc
-
-slot≢home : (n : SlotNo) → Slot n ≢ Home
-slot≢home n e = cc
-
-frame≢slot : (n : FrameNo) (m : SlotNo) → Frame n ≢ Slot m
-frame≢slot n m e = cc
-
-frame-same : (m n : ℕ) → Frame (record { 0 = m }) ≡ Frame (record { 0 = n }) → m ≡ n
-frame-same m n e =
-    let a : FrameNo = record { 0 = m } in
-    let b : FrameNo = record { 0 = n } in
-    let same : a ≡ b = cc in
-    ap (λ (f : FrameNo). f.0) same
-
-slot-same : (m n : ℕ) → Slot (record { 0 = m }) ≡ Slot (record { 0 = n }) → m ≡ n
-slot-same m n e =
-    let a : SlotNo = record { 0 = m } in
-    let b : SlotNo = record { 0 = n } in
-    let same : a ≡ b = cc in
-    ap (λ (s : SlotNo). s.0) same
+-- the number of a place
+abbrev number_in : Place → ℕ
+number_in Home = 0
+number_in (Frame n) = n.0
+number_in (Slot n) = n.0
 
 pub place_in-held : (frames n : ℕ) → place_in frames (Some n) ≢ Home
 place_in-held frames n e = elim (cases_lt n frames) [
-  | inl below ↦ absurd (frame≢home (record { 0 = n }) (sym (place_in-frame frames n below) ∙ e))
-  | inr above ↦ absurd (slot≢home (record { 0 = n - frames }) (sym (place_in-slot frames n above) ∙ e))
+  | inl below ↦ (let bad : Frame (record { 0 = n }) ≡ Home = sym (place_in-frame frames n below) ∙ e in (cc))
+  | inr above ↦ (let bad : Slot (record { 0 = n - frames }) ≡ Home = sym (place_in-slot frames n above) ∙ e in (cc))
 ]
 
 -- nodes are places one to one
 pub place_in-one : (frames m n : ℕ) → place_in frames (Some m) ≡ place_in frames (Some n) → m ≡ n
 place_in-one frames m n e = elim (cases_lt m frames) [
   | inl m_below ↦ elim (cases_lt n frames) [
-    | inl n_below ↦ frame-same m n (sym (place_in-frame frames m m_below) ∙ e ∙ place_in-frame frames n n_below)
-    | inr n_above ↦ absurd (frame≢slot (record { 0 = m }) (record { 0 = n - frames }) (sym (place_in-frame frames m m_below) ∙ e ∙ place_in-slot frames n n_above))
+    | inl n_below ↦ ap number_in (sym (place_in-frame frames m m_below) ∙ e ∙ place_in-frame frames n n_below)
+    | inr n_above ↦ (let bad : Frame (record { 0 = m }) ≡ Slot (record { 0 = n - frames }) = sym (place_in-frame frames m m_below) ∙ e ∙ place_in-slot frames n n_above in (cc))
   ]
   | inr m_above ↦ elim (cases_lt n frames) [
-    | inl n_below ↦ absurd (frame≢slot (record { 0 = n }) (record { 0 = m - frames }) (sym (place_in-frame frames n n_below) ∙ sym e ∙ place_in-slot frames m m_above))
-    | inr n_above ↦ (let same = slot-same (m - frames) (n - frames) (sym (place_in-slot frames m m_above) ∙ e ∙ place_in-slot frames n n_above) in omega arith)
+    | inl n_below ↦ (let bad : Frame (record { 0 = n }) ≡ Slot (record { 0 = m - frames }) = sym (place_in-frame frames n n_below) ∙ sym e ∙ place_in-slot frames m m_above in (cc))
+    | inr n_above ↦ (let same : m - frames ≡ n - frames = ap number_in (sym (place_in-slot frames m m_above) ∙ e ∙ place_in-slot frames n n_above) in omega arith)
   ]
 ]
 
@@ -112,7 +84,7 @@ held_at t n place (Some page) one is e = place_of-held t page n one (sym e) ∙ 
 
 pub none_at : (t : CacheTable) (n : ℕ) (place : Place) (held : Option PageKey) → place_in t.frames (Some n) ≡ place → held ≡ page_at t.pages n
     → IfNone held ((page : PageKey) → place_of t page ≢ place)
-none_at t n place None is e = λ page there. none≢some page (e ∙ page_at-place t page n (there ∙ sym is))
+none_at t n place None is e = λ page there. none-some page (e ∙ page_at-place t page n (there ∙ sym is))
 none_at t n place (Some page) is e = tt
 
 -- one page was changed at one node: other pages are found where they were, and other nodes are marked as they were
@@ -136,7 +108,7 @@ pub SameButFor-marks : (frames : ℕ) (pages : List (Option PageKey)) (before af
     → SameButForPage page (record { frames = frames; pages = pages; touched = before }) (record { frames = frames; pages = pages; touched = after })
 SameButFor-marks frames pages before after page n held marks =
     SameButFor-node (record { frames = frames; pages = pages; touched = before }) (record { frames = frames; pages = pages; touched = after }) page n refl refl
-    (λ p ne. refl) (λ p ne e. ne (sym (some-same page p (sym held ∙ e)))) marks
+    (λ p ne. refl) (λ p ne e. ne (sym (same_Some page p (sym held ∙ e)))) marks
 
 -- the node holds the page or nothing, before and after
 pub SameButFor-set : (frames : ℕ) (pages : List (Option PageKey)) (before after : List Bool) (page : PageKey) (n : ℕ) (now : Option PageKey)
@@ -146,11 +118,6 @@ pub SameButFor-set : (frames : ℕ) (pages : List (Option PageKey)) (before afte
 SameButFor-set frames pages before after page n now was is marks =
     SameButFor-node (record { frames = frames; pages = pages; touched = before }) (record { frames = frames; pages = set pages n now; touched = after }) page n refl
     (length-set pages n now) (λ p ne. first_node-kept pages n now p (was p ne) (is p ne)) was marks
-
-empty_at : (n m : ℕ) → page_at (replicate n None) m ≡ None
-empty_at zero m = refl
-empty_at (suc n) zero = refl
-empty_at (suc n) (suc m) = empty_at n m
 
 -- what is true of every cache
 pub IsSound-whole : (c : Inside) → IsWholeCache c → IsSoundCache (cache_table_of c)
@@ -164,7 +131,7 @@ IsSound-whole c whole = record {
   ];
   apart = λ p q same held. elim (cases_node c.index.pages.items p) [
     | inl found ↦ (let there = place_of-first (cache_table_of c) p (Some found.0) found.1 in
-        some-same p q (sym found.2 ∙ page_at-place (cache_table_of c) q found.0 (sym same ∙ there)))
+        same_Some p q (sym found.2 ∙ page_at-place (cache_table_of c) q found.0 (sym same ∙ there)))
     | inr none ↦ absurd (held (place_of-first (cache_table_of c) p None none.0))
   ];
   touched_held = λ page touched home. elim (cases_node c.index.pages.items page) [
@@ -183,7 +150,7 @@ pub IsFresh-empty : (t : CacheTable) (slots : ℕ) → t.pages ≡ replicate (t.
 IsFresh-empty t slots empty =
     let nodes : length t.pages ≡ t.frames + slots = ap length empty ∙ length-replicate (t.frames + slots) None in
     let nowhere : (page : PageKey) → first_node t.pages page ≡ None =
-    λ page. rw empty (first_node-none (replicate (t.frames + slots) None) page (λ m below. rw (empty_at (t.frames + slots) m) refl)) in
+    λ page. rw empty (first_node-none (replicate (t.frames + slots) None) page (λ m below. rw (unheld_at (t.frames + slots) m) refl)) in
     record {
       frames_are = refl;
       slots_are = omega arith;
@@ -194,11 +161,10 @@ IsFresh-empty t slots empty =
 pub IsSound-fresh : (t : CacheTable) (frames slots : ℕ) → 8 ≤ frames → frames ≤ 65536 → slots ≤ 65536 → IsNewCache t frames slots → IsSoundCache t
 IsSound-fresh t frames slots least most most_slots fresh =
     let count : cache_frames t ≡ frames = fresh.frames_are in
-    let places : slot_count t ≡ slots = fresh.slots_are in
     record {
       least_frames = omega (arith, count, least);
       most_frames = omega (arith, count, most);
-      most_slots = omega (arith, places, most_slots);
+      most_slots = omega (arith, fresh.slots_are, most_slots);
       inside = λ page. (let P : Place → Type 0 = λ place. IsInside t place in subst P (sym (fresh.at_home page)) tt);
       apart = λ p q e away. absurd (away (fresh.at_home p));
       touched_held = λ page touched. absurd (false≢true (sym (fresh.untouched page) ∙ touched));

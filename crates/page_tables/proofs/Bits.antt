@@ -1,13 +1,10 @@
 -- The bits of the entries that this crate writes.
-use Rattle.std.proofs.Common.{◌≡◌, ◌≢◌, ℕ, inl, inr, ◌+◌, ◌*◌, ◌/◌, ◌%◌, ◌^◌, ◌<◌, ◌≤◌, Bool, true, false, refl, sym, ap, ◌∙◌, subst, arith, eq-eqb, ne_eqb}
-use Rattle.std.proofs.lemmas.Bool.{cases_Bool, false≢true}
+use Rattle.std.proofs.{Common.{◌≡◌, ◌≢◌, ℕ, inl, inr, ◌+◌, ◌*◌, ◌/◌, ◌%◌, ◌^◌, ◌<◌, ◌≤◌, Bool, true, false, refl, sym, ap, ◌∙◌, subst, arith, eq-eqb, ne_eqb}, lemmas.Bool.{cases_Bool, false≢true}}
 use Rattle.std.specs.Prelude.{◌||◌, ◌&&◌, not, ◌==◌}
 use Rattle.vm_types.specs.declared.permission.Prot.{Prot}
 use Rattle.vm_types.specs.Permission as Permission
 use Rattle.sv39_walk.specs.Entry.{has_bit, is_valid, can_read, can_execute, is_private, high_bits, frame_of}
-use Rattle.page_tables.specs.Entry.{number_of}
-use Rattle.page_tables.specs.declared.forms.Entry.TheVariants.{Parked}
-use Rattle.page_tables.specs.Leaves.{IsLeaf, IsEntryOver, is_barred, weight, leaf_number}
+use Rattle.page_tables.specs.{Entry.{number_of}, declared.forms.Entry.TheVariants.{Parked}, Leaves.{IsLeaf, IsEntryOver, is_barred, weight, leaf_number}}
 
 bit_is : (e k : ℕ) (b : Bool) → e / 2 ^ k % 2 ≡ weight b 1 → has_bit e k ≡ b
 unfolding has_bit
@@ -22,7 +19,12 @@ weight-le : (b : Bool) → weight b 1 ≤ 1
 weight-le true = omega arith
 weight-le false = omega arith
 
-module _ (f p d x w r e : ℕ) (is : e ≡ f * 1024 + p * 256 + d * 128 + x * 8 + w * 4 + r * 2 + 81) (p1 : p ≤ 1) (d1 : d ≤ 1) (x1 : x ≤ 1) (w1 : w ≤ 1) (r1 : r ≤ 1) where
+-- a number as a sum of bits
+record IsSum (f p d x w r e : ℕ) : Type 0 where
+  is : e ≡ f * 1024 + p * 256 + d * 128 + x * 8 + w * 4 + r * 2 + 81
+  few : (p ≤ 1) × (d ≤ 1) × (x ≤ 1) × (w ≤ 1) × (r ≤ 1)
+
+module _ (f p d x w r e : ℕ) (s : IsSum f p d x w r e) where
   bit_0 : e / 2 ^ 0 % 2 ≡ 1
   bit_0 = let h : e / 1 % 2 ≡ 1 = omega arith in h
 
@@ -67,61 +69,41 @@ reserved_form true r high reads none = rw (reads refl, none) refl
 reserved_form false r high reads none = rw none refl
 
 module _ (prot : Prot) (f : ℕ) (private write stored : Bool) where
-  -- the number as a sum of bits
-  sum : leaf_number prot f private write stored
-      ≡ f * 1024 + weight private 1 * 256 + weight stored 1 * 128 + weight (Permission.can_execute prot) 1 * 8 + weight write 1 * 4 + weight (Permission.can_read prot) 1 * 2 + 81
+  sum : IsSum f (weight private 1) (weight stored 1) (weight (Permission.can_execute prot) 1) (weight write 1) (weight (Permission.can_read prot) 1) (leaf_number prot f private write stored)
   unfolding leaf_number
   sum =
-      let p = weight-one private 256 in
-      let d = weight-one stored 128 in
-      let x = weight-one (Permission.can_execute prot) 8 in
-      let w = weight-one write 4 in
       let r = weight-one (Permission.can_read prot) 2 in
-      omega (arith, p, d, x, w, r)
+      record {
+        is = omega (arith, weight-one private 256, weight-one stored 128, weight-one (Permission.can_execute prot) 8, weight-one write 4, r);
+        few = (weight-le private, weight-le stored, weight-le (Permission.can_execute prot), weight-le write, weight-le (Permission.can_read prot));
+      }
 
   pub leaf_frame : f < 2 ^ 32 → frame_of (leaf_number prot f private write stored) ≡ f
   unfolding frame_of
-  leaf_frame small =
-      frame_bits f (weight private 1) (weight stored 1) (weight (Permission.can_execute prot) 1) (weight write 1) (weight (Permission.can_read prot) 1) (leaf_number prot f private write stored)
-      sum (weight-le private) (weight-le stored) (weight-le (Permission.can_execute prot)) (weight-le write) (weight-le (Permission.can_read prot)) small
+  leaf_frame small = frame_bits _ _ _ _ _ _ _ sum small
 
   pub leaf_high : f < 2 ^ 32 → high_bits (leaf_number prot f private write stored) ≡ 0
   unfolding high_bits
-  leaf_high small =
-      no_high_bits f (weight private 1) (weight stored 1) (weight (Permission.can_execute prot) 1) (weight write 1) (weight (Permission.can_read prot) 1) (leaf_number prot f private write stored)
-      sum (weight-le private) (weight-le stored) (weight-le (Permission.can_execute prot)) (weight-le write) (weight-le (Permission.can_read prot)) small
+  leaf_high small = no_high_bits _ _ _ _ _ _ _ sum small
 
   pub leaf_private : is_private (leaf_number prot f private write stored) ≡ private
-  leaf_private =
-      bit_is (leaf_number prot f private write stored) 8 private
-      (bit_8 f (weight private 1) (weight stored 1) (weight (Permission.can_execute prot) 1) (weight write 1) (weight (Permission.can_read prot) 1) (leaf_number prot f private write stored)
-      sum (weight-le private) (weight-le stored) (weight-le (Permission.can_execute prot)) (weight-le write) (weight-le (Permission.can_read prot)))
+  leaf_private = bit_is (leaf_number prot f private write stored) 8 private (bit_8 _ _ _ _ _ _ _ sum)
 
   pub is_leaf_number : f < 2 ^ 32 → (write ≡ true → Permission.can_read prot ≡ true) → is_barred prot ≡ false → IsLeaf (leaf_number prot f private write stored) prot write stored
   is_leaf_number small reads useful =
       let e = leaf_number prot f private write stored in
-      let p = weight private 1 in
-      let d = weight stored 1 in
-      let x = weight (Permission.can_execute prot) 1 in
-      let w = weight write 1 in
-      let r = weight (Permission.can_read prot) 1 in
-      let p1 = weight-le private in
-      let d1 = weight-le stored in
-      let x1 = weight-le (Permission.can_execute prot) in
-      let w1 = weight-le write in
-      let r1 = weight-le (Permission.can_read prot) in
-      let can_r = bit_is e 1 (Permission.can_read prot) (bit_1 f p d x w r e sum p1 d1 x1 w1 r1) in
-      let can_w = bit_is e 2 write (bit_2 f p d x w r e sum p1 d1 x1 w1 r1) in
-      let can_x = bit_is e 3 (Permission.can_execute prot) (bit_3 f p d x w r e sum p1 d1 x1 w1 r1) in
+      let can_r = bit_is e 1 (Permission.can_read prot) (bit_1 _ _ _ _ _ _ _ sum) in
+      let can_w = bit_is e 2 write (bit_2 _ _ _ _ _ _ _ sum) in
+      let can_x = bit_is e 3 (Permission.can_execute prot) (bit_3 _ _ _ _ _ _ _ sum) in
       record {
-        valid = bit_is e 0 true (bit_0 f p d x w r e sum p1 d1 x1 w1 r1);
+        valid = bit_is e 0 true (bit_0 _ _ _ _ _ _ _ sum);
         reads = can_r;
         writes = can_w;
         executes = can_x;
-        user = bit_is e 4 true (bit_4 f p d x w r e sum p1 d1 x1 w1 r1);
-        global = bit_is e 5 false (bit_5 f p d x w r e sum p1 d1 x1 w1 r1);
-        accessed = bit_is e 6 true (bit_6 f p d x w r e sum p1 d1 x1 w1 r1);
-        dirty = bit_is e 7 stored (bit_7 f p d x w r e sum p1 d1 x1 w1 r1);
+        user = bit_is e 4 true (bit_4 _ _ _ _ _ _ _ sum);
+        global = bit_is e 5 false (bit_5 _ _ _ _ _ _ _ sum);
+        accessed = bit_is e 6 true (bit_6 _ _ _ _ _ _ _ sum);
+        dirty = bit_is e 7 stored (bit_7 _ _ _ _ _ _ _ sum);
         leaf = ap (λ y. y || can_execute e) can_r ∙ ap (λ y. Permission.can_read prot || y) can_x ∙ not_barred prot useful;
         unreserved = ap (λ y. (y && not (can_read e)) || not (high_bits e == 0)) can_w
             ∙ ap (λ y. (write && not y) || not (high_bits e == 0)) can_r

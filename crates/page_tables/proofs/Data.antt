@@ -1,15 +1,11 @@
 -- What leaves all trees: frames that are no tables, however they are taken, shared, written and given back. And a
 -- table without entries that is given back, which leaves all trees but its own.
-use Rattle.std.proofs.Common.{◌≡◌, ◌≢◌, ℕ, inl, inr, ◌<◌, List, get_or, sym, ap, ◌∙◌, arith}
+use Rattle.std.proofs.{Common.{◌≡◌, ◌≢◌, ℕ, inl, inr, ◌<◌, List, get_or, sym, ap, ◌∙◌, arith}, lemmas.Bool.{cases_eq}}
 use Rattle.std.specs.Prelude.{◌↔◌}
-use Rattle.std.proofs.lemmas.Bool.{cases_eq}
-use Rattle.frames.specs.declared.role.Role.{Role}
-use Rattle.frames.specs.declared.role.Role.TheVariants.{Free, Table}
-use Rattle.frames.specs.FrameTable.{FrameTable, role_of, count_of, SameButFor, Takes, Shares, Releases, with_bytes}
+use Rattle.frames.specs.{declared.role.Role.{Role}, declared.role.Role.TheVariants.{Free, Table}, FrameTable.{FrameTable, role_of, count_of, SameButFor, Shares, Releases, with_bytes}}
 use Rattle.frames.proofs.FrameLemmas.{with_bytes-others}
 use Rattle.page_tables.specs.Tree.{IsTable, IsForest, IsUnlinked, IsRoot, IsSpare, missing_of, page_entry}
-use Rattle.page_tables.proofs.Ends.{SameTrees, turned, root_same, missing_same, entry_same}
-use Rattle.page_tables.proofs.Keeping.{keeps_tables, not_linked, not_linking, empty_not_linking, same_trees, forest_kept}
+use Rattle.page_tables.proofs.{Ends.{SameTrees, turned, root_same, missing_same, entry_same}, Keeping.{keeps_tables, not_linked, not_linking, empty_not_linking, same_trees, forest_kept}}
 
 -- all trees are as they were
 pub record KeepsTrees (old new : FrameTable) (top : ℕ) : Type 0 where
@@ -41,8 +37,8 @@ data_changed old new top n forest same before after =
     let kept = keeps_tables n old new same after in
     let free = not_linked old n forest before in
     let linking = not_linking old n before in
-    let forest' = forest_kept n old new forest free linking kept in
-    let trees = same_trees n old new forest free linking kept in
+    let forest' = forest_kept n old new linking kept forest free in
+    let trees = same_trees n old new linking kept in
     let forth : (m : ℕ) → IsTable old m → IsTable new m = λ m table. kept.tables m (λ e. before (ap (role_of old) (sym e) ∙ table.role)) table in
     let back : (m : ℕ) → IsTable new m → IsTable old m = λ m table. (kept.back m table).1 in
     record {
@@ -56,28 +52,26 @@ data_changed old new top n forest same before after =
       missing = λ r p is_root. missing_same old new forest forest' trees top r p is_root.table (forth r is_root.table);
     }
 
-free_is_no_table : (r : Role) → r ≡ Free → r ≢ Table
+pub free_is_no_table : (r : Role) → r ≡ Free → r ≢ Table
 free_is_no_table r e f = let bad : Free ≡ Table = sym e ∙ f in (cc)
-
--- a frame taken for another use than a table
-pub data_taken : (old new : FrameTable) (top n : ℕ) (kind : Role) → IsForest old → Takes old new kind n → kind ≢ Table → KeepsTrees old new top
-data_taken old new top n kind forest takes other =
-    data_changed old new top n forest takes.others (free_is_no_table (role_of old n) takes.was_free) (λ e. other (sym takes.kind_set ∙ e))
 
 -- one more shares a frame
 pub data_shared : (old new : FrameTable) (top n : ℕ) → IsForest old → Shares old new n → role_of old n ≢ Table → KeepsTrees old new top
 data_shared old new top n forest shares other =
     data_changed old new top n forest shares.others other (λ e. other (ap (λ rs. get_or rs n Free) (sym shares.roles_kept) ∙ e))
 
+-- a frame of data that was given back is no table
+pub released_role : (old new : FrameTable) (n : ℕ) → Releases old new n → role_of old n ≢ Table → role_of new n ≢ Table
+released_role old new n releases other = elim (cases_eq (count_of old n) 1) [
+  | inl one ↦ free_is_no_table (role_of new n) (releases.freed one)
+  | inr more ↦ (
+      let shared : 1 < count_of old n = omega (arith, releases.lowered, more) in
+      λ e. other (ap (λ rs. get_or rs n Free) (sym (releases.role_kept shared)) ∙ e))
+]
+
 -- one less shares a frame
 pub data_released : (old new : FrameTable) (top n : ℕ) → IsForest old → Releases old new n → role_of old n ≢ Table → KeepsTrees old new top
-data_released old new top n forest releases other =
-    data_changed old new top n forest releases.others other (elim (cases_eq (count_of old n) 1) [
-      | inl one ↦ free_is_no_table (role_of new n) (releases.freed one)
-      | inr more ↦ (
-          let shared : 1 < count_of old n = omega (arith, releases.lowered, more) in
-          λ e. other (ap (λ rs. get_or rs n Free) (sym (releases.role_kept shared)) ∙ e))
-    ])
+data_released old new top n forest releases other = data_changed old new top n forest releases.others other (released_role old new n releases other)
 
 -- bytes of a frame written
 pub data_written : (t : FrameTable) (top n : ℕ) (w : List ℕ) → IsForest t → role_of t n ≢ Table → KeepsTrees t (with_bytes t n w) top
@@ -89,8 +83,8 @@ pub root_released : (old new : FrameTable) (top n : ℕ) → IsForest old → Is
 root_released old new top n forest spare same gone =
     let kept = keeps_tables n old new same (free_is_no_table (role_of new n) gone) in
     let linking = empty_not_linking old n spare.empty in
-    let forest' = forest_kept n old new forest spare.unlinked linking kept in
-    let trees = same_trees n old new forest spare.unlinked linking kept in
+    let forest' = forest_kept n old new linking kept forest spare.unlinked in
+    let trees = same_trees n old new linking kept in
     record {
       forest = forest';
       same = trees;

@@ -1,15 +1,10 @@
 -- Where ways end, and what they have in common in two memories.
-use Rattle.std.proofs.Common.{◌≡◌, ◌≢◌, ℕ, zero, suc, ◌+◌, ◌-◌, ◌<◌, ◌≤◌, inl, inr, true, false, refl, sym, ap, ◌∙◌, subst, arith}
-use Rattle.std.proofs.lemmas.Bool.{cases_eq, false≢true}
-use Rattle.std.proofs.lemmas.Bool.Decides.{nat_tests}
+use Rattle.std.proofs.{Common.{◌≡◌, ◌≢◌, ℕ, zero, suc, ◌+◌, ◌-◌, ◌<◌, ◌≤◌, inl, inr, true, false, refl, sym, ap, ◌∙◌, subst, arith}, lemmas.Bool.{cases_eq, false≢true}, lemmas.Bool.Decides.{nat_tests}}
 use Rattle.std.specs.Prelude.{◌==◌}
 use Rattle.frames.specs.FrameTable.{FrameTable}
-use Rattle.sv39_walk.specs.Entry.{entry_at, frame_of, has_bit, is_pointer, is_valid}
-use Rattle.sv39_walk.specs.Walk.{index_of}
-use Rattle.page_tables.specs.Tree.{IsTable, Points, IsForest, IsRoot, last_table, last_entry, missing_of, page_entry, Way}
+use Rattle.sv39_walk.specs.{Entry.{entry_at, frame_of, has_bit, is_pointer, is_valid}, Walk.{index_of}}
+use Rattle.page_tables.specs.{Tree.{IsTable, Points, IsForest, IsRoot, last_table, last_entry, missing_of, page_entry, Way}, Entry.{IsPageEntry}, declared.forms.Entry.TheVariants.{None}}
 use Rattle.page_tables.proofs.Ways.{cases_bool, ends, index_of-lt, last_at-stop, last_table-next, last_table-stop, last_table-zero}
-use Rattle.page_tables.specs.Entry.{IsPageEntry}
-use Rattle.page_tables.specs.declared.forms.Entry.TheVariants.{None}
 
 -- the way from a table on the way
 pub last_from_way : (t : FrameTable) (top root page d n level : ℕ) → d + level ≡ top → Way t top root page d n
@@ -123,8 +118,7 @@ page_is_entry t top root page forest is_root = elim (cases_eq (missing_of t top 
         | inr is_entry ↦ is_entry
       ] in
       subst P (sym (page_entry-whole t top root page whole ∙ entry)) here)
-  | inr ne ↦ (let P : ℕ → Type 0 = λ x. IsPageEntry x in
-      subst P (sym (page_entry-missing t top root page ne)) (record { entry = None; form = tt; is = refl }))
+  | inr ne ↦ rw (page_entry-missing t top root page ne) (record { entry = None; form = tt; is = refl })
 ]
 
 invalid_zero : is_valid 0 ≡ false

@@ -1,25 +1,13 @@
 -- What leaves all trees: changes of frames that are no tables, a table taken, a table without links given back.
-use Rattle.std.proofs.Common.{◌≡◌, ◌≢◌, ℕ, zero, suc, ◌+◌, ◌*◌, inl, inr, List, get_or, drop, refl, sym, ap, ◌∙◌, subst, arith}
-use Rattle.std.proofs.lemmas.Bool.{cases_eq, cases_lt, false≢true}
-use Rattle.std.proofs.lemmas.List.{get_or-drop, get_or_past}
-use Rattle.byteorder.specs.Endian.{little_from}
-use Rattle.frames.specs.declared.role.Role.TheVariants.{Free, Zero, Table}
-use Rattle.frames.specs.FrameTable.{FrameTable, frame_count, bytes_of, role_of, IsFrame, SameButFor, IsSound, IsFresh, Takes, zero_bytes}
+use Rattle.std.proofs.{Common.{◌≡◌, ◌≢◌, ℕ, inl, inr, refl, sym, ap, ◌∙◌, subst, arith}, lemmas.Bool.{cases_eq, cases_lt, false≢true}, lemmas.List.{get_or_past}}
+use Rattle.frames.specs.{declared.role.Role.TheVariants.{Free, Zero, Table}, FrameTable.{FrameTable, frame_count, bytes_of, role_of, SameButFor, IsSound, IsFresh, Takes, zero_bytes}}
 use Rattle.frames.proofs.FrameLemmas.{zero_bytes-at}
-use Rattle.sv39_walk.specs.Entry.{entry_at, frame_of, is_pointer}
-use Rattle.sv39_walk.specs.Walk.{index_of}
+use Rattle.sv39_walk.specs.{Entry.{entry_at, is_pointer}, Walk.{index_of}}
 use Rattle.sv39_walk.proofs.Entries.{is_pointer-zero}
-use Rattle.page_tables.specs.Entry.{IsSoftware}
-use Rattle.page_tables.specs.declared.forms.Entry.TheVariants.{None}
-use Rattle.page_tables.specs.Tree.{IsTable, Points, IsForest, IsUnlinked, IsRoot, IsEmptyTable, IsSpare, last_entry, missing_of, page_entry}
-use Rattle.page_tables.specs.Change.{AddsTable}
-use Rattle.std.specs.Prelude.{◌↔◌, Result, Ok, Err, IfOk}
-use Rattle.vm_types.specs.declared.number.FrameNo.{FrameNo}
-use Rattle.vm_types.specs.declared.number.NoFree.{NoFree}
-use Rattle.page_tables.proofs.Ways.{index_of-lt}
-use Rattle.page_tables.proofs.Setting.{entry_at-bytes}
-use Rattle.page_tables.proofs.Ends.{SameTrees, turned, root_same, missing_same, entry_same, last_entry-is}
-use Rattle.page_tables.proofs.Linking.{empty_last}
+use Rattle.page_tables.specs.{Entry.{IsSoftware}, declared.forms.Entry.TheVariants.{None}, Tree.{IsTable, Points, IsForest, IsUnlinked, IsRoot, IsEmptyTable, IsSpare, last_entry, missing_of, page_entry}, Change.{AddsTable}}
+use Rattle.std.specs.Prelude.{Result, Ok, Err, IfOk}
+use Rattle.vm_types.specs.{declared.number.FrameNo.{FrameNo}, declared.number.NoFree.{NoFree}}
+use Rattle.page_tables.proofs.{Ways.{index_of-lt}, Setting.{entry_at-bytes, others_turned, points_moved}, Ends.{SameTrees, turned, root_same, missing_same, entry_same, last_entry-is}, EmptyBytes.{entries_zero}, Linking.{empty_last}}
 
 -- tables are the same but for one frame that is no table afterwards
 pub record KeepsTables (gone : ℕ) (old new : FrameTable) : Type 0 where
@@ -27,10 +15,10 @@ pub record KeepsTables (gone : ℕ) (old new : FrameTable) : Type 0 where
   pub back : (n : ℕ) → IsTable new n → (n ≢ gone) × IsTable old n
   pub bytes : (n : ℕ) → n ≢ gone → IsTable old n → bytes_of new n ≡ bytes_of old n
 
-table_moved : (old new : FrameTable) (n m : ℕ) → SameButFor n old new → m ≢ n → IsTable old m → IsTable new m
+pub table_moved : (old new : FrameTable) (n m : ℕ) → SameButFor n old new → m ≢ n → IsTable old m → IsTable new m
 table_moved old new n m same ne table = record { inside = rw same.frames table.inside; role = same.roles m ne ∙ table.role }
 
-table_moved_back : (old new : FrameTable) (n m : ℕ) → SameButFor n old new → m ≢ n → IsTable new m → IsTable old m
+pub table_moved_back : (old new : FrameTable) (n m : ℕ) → SameButFor n old new → m ≢ n → IsTable new m → IsTable old m
 table_moved_back old new n m same ne table = record { inside = rw (← same.frames) table.inside; role = sym (same.roles m ne) ∙ table.role }
 
 -- a frame changed, and is no table afterwards: private and cached pages are taken, shared, written and released so
@@ -54,8 +42,7 @@ not_linking t n ne i b p = ne p.table.role
 pub empty_not_linking : (t : FrameTable) (n : ℕ) → IsEmptyTable t n → (i b : ℕ) → Points t n i b → ⊥
 empty_not_linking t n empty i b p = false≢true (sym is_pointer-zero ∙ ap is_pointer (sym (empty i p.index)) ∙ p.pointer)
 
-module _ (gone : ℕ) (old new : FrameTable) (forest : IsForest old) (unlinked : IsUnlinked old gone) (linking : (i b : ℕ) → Points old gone i b → ⊥)
-    (kept : KeepsTables gone old new) where
+module _ (gone : ℕ) (old new : FrameTable) (linking : (i b : ℕ) → Points old gone i b → ⊥) (kept : KeepsTables gone old new) where
   entry_kept : (n i : ℕ) → n ≢ gone → IsTable old n → entry_at new n i ≡ entry_at old n i
   entry_kept n i ne table = entry_at-bytes old new n i (kept.bytes n ne table)
 
@@ -63,100 +50,70 @@ module _ (gone : ℕ) (old new : FrameTable) (forest : IsForest old) (unlinked :
   same_trees = record {
     forth = λ a i b p. (
         let ne : a ≢ gone = λ e. linking i b (let P : ℕ → Type 0 = λ x. Points old x i b in subst P e p) in
-        let same = entry_kept a i ne p.table in
-        record { table = kept.tables a ne p.table; index = p.index; pointer = ap is_pointer same ∙ p.pointer; target = ap frame_of same ∙ p.target });
-    back = λ a i b p. (
-        let there = kept.back a p.table in
-        let same = entry_kept a i there.0 there.1 in
-        record { table = there.1; index = p.index; pointer = ap is_pointer (sym same) ∙ p.pointer; target = ap frame_of (sym same) ∙ p.target });
+        points_moved old new a i b (kept.tables a ne p.table) (entry_kept a i ne p.table) p);
+    back = λ a i b p. (let there = kept.back a p.table in points_moved new old a i b there.1 (sym (entry_kept a i there.0 there.1)) p);
     entries = λ n i h table table'. entry_kept n i (kept.back n table').0 table;
   }
 
-  -- all tables are trees as before
-  pub forest_kept : IsForest new
-  forest_kept = record {
-    onto_tables = λ a i b p. (
-        let q = same_trees.back a i b p in
-        kept.tables b (λ e. unlinked a i (let P : ℕ → Type 0 = λ x. Points old a i x in subst P e q)) (forest.onto_tables a i b q));
-    one_way = λ a i b j m p q. forest.one_way a i b j m (same_trees.back a i m p) (same_trees.back b j m q);
-    normal = λ n i table h. (
-        let there = kept.back n table in
-        let P : ℕ → Type 0 = λ x. IsSoftware x in subst P (sym (entry_kept n i there.0 there.1)) (forest.normal n i there.1 h));
-  }
+  module _ (forest : IsForest old) (unlinked : IsUnlinked old gone) where
+    -- all tables are trees as before
+    pub forest_kept : IsForest new
+    forest_kept = record {
+      onto_tables = λ a i b p. (
+          let q = same_trees.back a i b p in
+          kept.tables b (λ e. unlinked a i (let P : ℕ → Type 0 = λ x. Points old a i x in subst P e q)) (forest.onto_tables a i b q));
+      one_way = λ a i b j m p q. forest.one_way a i b j m (same_trees.back a i m p) (same_trees.back b j m q);
+      normal = λ n i table h. (
+          let there = kept.back n table in
+          let P : ℕ → Type 0 = λ x. IsSoftware x in subst P (sym (entry_kept n i there.0 there.1)) (forest.normal n i there.1 h));
+    }
 
-  -- every root but that one, with all its pages
-  pub root_kept : (top r : ℕ) → r ≢ gone → IsRoot top old r → IsRoot top new r
-  root_kept top r ne is_root = root_same old new forest forest_kept same_trees top r (kept.tables r ne is_root.table) is_root
+    -- every root but that one, with all its pages
+    pub root_kept : (top r : ℕ) → r ≢ gone → IsRoot top old r → IsRoot top new r
+    root_kept top r ne is_root = root_same old new forest forest_kept same_trees top r (kept.tables r ne is_root.table) is_root
 
-  pub entry_kept_at : (top r p : ℕ) → r ≢ gone → IsRoot top old r → page_entry new top r p ≡ page_entry old top r p
-  entry_kept_at top r p ne is_root = entry_same old new forest forest_kept same_trees top r p is_root.table (kept.tables r ne is_root.table)
+    pub entry_kept_at : (top r p : ℕ) → r ≢ gone → IsRoot top old r → page_entry new top r p ≡ page_entry old top r p
+    entry_kept_at top r p ne is_root = entry_same old new forest forest_kept same_trees top r p is_root.table (kept.tables r ne is_root.table)
 
-  pub missing_kept_at : (top r p : ℕ) → r ≢ gone → IsRoot top old r → missing_of new top r p ≡ missing_of old top r p
-  missing_kept_at top r p ne is_root = missing_same old new forest forest_kept same_trees top r p is_root.table (kept.tables r ne is_root.table)
-
-zero_from : (i n : ℕ) (xs : List ℕ) → ((k : ℕ) → get_or xs k 0 ≡ 0) → little_from i n xs ≡ 0
-zero_from i zero xs z = refl
-zero_from i (suc n) xs z = let rest : little_from (suc i) n xs ≡ 0 = zero_from (suc i) n xs z in rw (z i, rest)
+    pub missing_kept_at : (top r p : ℕ) → r ≢ gone → IsRoot top old r → missing_of new top r p ≡ missing_of old top r p
+    missing_kept_at top r p ne is_root = missing_same old new forest forest_kept same_trees top r p is_root.table (kept.tables r ne is_root.table)
 
 -- a table of zeros has no entry
 pub zeros_empty : (t : FrameTable) (n : ℕ) → bytes_of t n ≡ zero_bytes → IsEmptyTable t n
-unfolding entry_at
-zeros_empty t n zeros i h = rw zeros (zero_from 0 8 (drop (8 * i) zero_bytes) (λ k. get_or-drop (8 * i) zero_bytes k 0 ∙ zero_bytes-at (8 * i + k)))
+zeros_empty t n zeros = entries_zero t n (λ k _. rw zeros (zero_bytes-at k))
 
 -- a table that was taken: all trees are as before, and it is in none of them
-module _ (n : ℕ) (old new : FrameTable) (forest : IsForest old) (same : SameButFor n old new) (inside : IsFrame old n) (was : role_of old n ≢ Table)
-    (now : role_of new n ≡ Table) (zeros : bytes_of new n ≡ zero_bytes) where
-  empty_now : IsEmptyTable new n
-  empty_now = zeros_empty new n zeros
+module _ (old new : FrameTable) (n : ℕ) (forest : IsForest old) (takes : Takes old new Table n) where
+  was : role_of old n ≢ Table
+  was e = let bad : Free ≡ Table = sym takes.was_free ∙ e in (cc)
 
-  pub trees_taken : SameTrees old new
-  trees_taken = record {
-    forth = λ a i b p. (
-        let ne : a ≢ n = λ e. was (ap (role_of old) (sym e) ∙ p.table.role) in
-        let entry = entry_at-bytes old new a i (same.bytes a ne) in
-        record { table = table_moved old new n a same ne p.table; index = p.index; pointer = ap is_pointer entry ∙ p.pointer; target = ap frame_of entry ∙ p.target });
-    back = λ a i b p. (
-        let ne : a ≢ n = λ e. empty_not_linking new n empty_now i b (let P : ℕ → Type 0 = λ x. Points new x i b in subst P e p) in
-        let entry = entry_at-bytes old new a i (same.bytes a ne) in
-        record { table = table_moved_back old new n a same ne p.table; index = p.index; pointer = ap is_pointer (sym entry) ∙ p.pointer; target = ap frame_of (sym entry) ∙ p.target });
-    entries = λ m i h table table'. entry_at-bytes old new m i (same.bytes m (λ e. was (ap (role_of old) (sym e) ∙ table.role)));
-  }
+  empty_now : IsEmptyTable new n
+  empty_now = zeros_empty new n takes.zeros
+
+  turned_kept : KeepsTables n new old
+  turned_kept = keeps_tables n new old (others_turned old new n takes.others) was
+
+  pub same_taken : SameTrees old new
+  same_taken = turned new old (same_trees n new old (empty_not_linking new n empty_now) turned_kept)
 
   table_taken : (m : ℕ) → IsTable old m → IsTable new m
-  table_taken m table = table_moved old new n m same (λ e. was (ap (role_of old) (sym e) ∙ table.role)) table
+  table_taken m table = (turned_kept.back m table).1
 
-  pub forest_taken : IsForest new
+  forest_taken : IsForest new
   forest_taken = record {
-    onto_tables = λ a i b p. table_taken b (forest.onto_tables a i b (trees_taken.back a i b p));
-    one_way = λ a i b j m p q. forest.one_way a i b j m (trees_taken.back a i m p) (trees_taken.back b j m q);
+    onto_tables = λ a i b p. table_taken b (forest.onto_tables a i b (same_taken.back a i b p));
+    one_way = λ a i b j m p q. forest.one_way a i b j m (same_taken.back a i m p) (same_taken.back b j m q);
     normal = λ m i table h. elim (cases_eq m n) [
       | inl e ↦ (let P : ℕ → Type 0 = λ x. IsSoftware (entry_at new x i) in let Q : ℕ → Type 0 = λ x. IsSoftware x in
           subst P (sym e) (subst Q (sym (empty_now i h)) (inr (record { entry = None; form = tt; is = refl }))))
-      | inr ne ↦ (let P : ℕ → Type 0 = λ x. IsSoftware x in
-          subst P (sym (entry_at-bytes old new m i (same.bytes m ne))) (forest.normal m i (table_moved_back old new n m same ne table) h))
+      | inr ne ↦ rw (entry_at-bytes old new m i (takes.others.bytes m ne)) (forest.normal m i (turned_kept.tables m ne table) h)
     ];
   }
 
-  pub root_taken : (top r : ℕ) → IsRoot top old r → IsRoot top new r
-  root_taken top r is_root = root_same old new forest forest_taken trees_taken top r (table_taken r is_root.table) is_root
-
-  -- and so was every root but the table
-  pub root_before : (top r : ℕ) → r ≢ n → IsRoot top new r → IsRoot top old r
-  root_before top r ne is_root = root_same new old forest_taken forest (turned old new trees_taken) top r (table_moved_back old new n r same ne is_root.table) is_root
-
-  pub unlinked_taken : (m : ℕ) → IsUnlinked old m ↔ IsUnlinked new m
-  unlinked_taken m = (λ free a i p. free a i (trees_taken.back a i m p), λ free a i p. free a i (trees_taken.forth a i m p))
-
-  pub entry_taken : (top r p : ℕ) → IsRoot top old r → page_entry new top r p ≡ page_entry old top r p
-  entry_taken top r p is_root = entry_same old new forest forest_taken trees_taken top r p is_root.table (table_taken r is_root.table)
-
-  pub missing_taken : (top r p : ℕ) → IsRoot top old r → missing_of new top r p ≡ missing_of old top r p
-  missing_taken top r p is_root = missing_same old new forest forest_taken trees_taken top r p is_root.table (table_taken r is_root.table)
-
-  pub spare_taken : IsSpare new n
+  spare_taken : IsSpare new n
   spare_taken = record {
-    table = record { inside = rw same.frames inside; role = now };
-    unlinked = λ a i p. was (forest.onto_tables a i n (trees_taken.back a i n p)).role;
+    table = record { inside = rw takes.others.frames takes.inside; role = takes.kind_set };
+    unlinked = λ a i p. was (forest.onto_tables a i n (same_taken.back a i n p)).role;
     empty = empty_now;
   }
 
@@ -183,18 +140,20 @@ no_tables t none = record {
 -- a table taken by the call on frames
 pub adds_table : (old new : FrameTable) (top n : ℕ) → IsForest old → Takes old new Table n → AddsTable old new top n
 adds_table old new top n forest takes =
-    let was : role_of old n ≢ Table = λ e. (let bad : Free ≡ Table = sym takes.was_free ∙ e in (cc)) in
+    let forest' = forest_taken old new n forest takes in
+    let trees = same_taken old new n forest takes in
+    let tables = table_taken old new n forest takes in
     record {
       takes = takes;
-      forest = forest_taken n old new forest takes.others takes.inside was takes.kind_set takes.zeros;
-      spare = spare_taken n old new forest takes.others takes.inside was takes.kind_set takes.zeros;
-      root = spare_root top new n (spare_taken n old new forest takes.others takes.inside was takes.kind_set takes.zeros);
-      apart = λ m table e. was (ap (role_of old) (sym e) ∙ table.role);
-      roots = root_taken n old new forest takes.others takes.inside was takes.kind_set takes.zeros top;
-      were_roots = root_before n old new forest takes.others takes.inside was takes.kind_set takes.zeros top;
-      unlinked = unlinked_taken n old new forest takes.others takes.inside was takes.kind_set takes.zeros;
-      entries = entry_taken n old new forest takes.others takes.inside was takes.kind_set takes.zeros top;
-      missing = missing_taken n old new forest takes.others takes.inside was takes.kind_set takes.zeros top;
+      forest = forest';
+      spare = spare_taken old new n forest takes;
+      root = spare_root top new n (spare_taken old new n forest takes);
+      apart = λ m table e. was old new n forest takes (ap (role_of old) (sym e) ∙ table.role);
+      roots = λ r is_root. root_same old new forest forest' trees top r (tables r is_root.table) is_root;
+      were_roots = λ r ne is_root. root_same new old forest' forest (turned old new trees) top r ((turned_kept old new n forest takes).tables r ne is_root.table) is_root;
+      unlinked = λ m. (λ free a i p. free a i (trees.back a i m p), λ free a i p. free a i (trees.forth a i m p));
+      entries = λ r p is_root. entry_same old new forest forest' trees top r p is_root.table (tables r is_root.table);
+      missing = λ r p is_root. missing_same old new forest forest' trees top r p is_root.table (tables r is_root.table);
     }
 
 -- memory as it is made holds no table

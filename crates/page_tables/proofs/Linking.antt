@@ -1,15 +1,10 @@
 -- A table without entries that one more pointer leads to, read both ways: linked, and unlinked again.
-use Rattle.std.proofs.Common.{◌≡◌, ◌≢◌, ℕ, zero, suc, ◌+◌, ◌-◌, ◌<◌, ◌≤◌, ◌⊎◌, inl, inr, true, false, sym, ap, ◌∙◌, subst, arith}
-use Rattle.std.proofs.lemmas.Bool.{cases_eq}
+use Rattle.std.proofs.{Common.{◌≡◌, ◌≢◌, ℕ, zero, suc, ◌+◌, ◌-◌, ◌<◌, ◌≤◌, ◌⊎◌, inl, inr, true, false, sym, ap, ◌∙◌, subst, arith}, lemmas.Bool.{cases_eq}}
 use Rattle.frames.specs.FrameTable.{FrameTable}
-use Rattle.sv39_walk.specs.Entry.{entry_at, frame_of, is_pointer}
-use Rattle.sv39_walk.specs.Walk.{index_of}
+use Rattle.sv39_walk.specs.{Entry.{entry_at, frame_of, is_pointer}, Walk.{index_of}}
 use Rattle.sv39_walk.proofs.Entries.{is_pointer-zero}
-use Rattle.page_tables.specs.Entry.{IsSoftware}
-use Rattle.page_tables.specs.Tree.{IsTable, Points, IsForest, IsUnlinked, IsRoot, IsEmptyTable, IsSpare, last_table, last_entry, missing_of, page_entry, Way}
-use Rattle.page_tables.specs.Change.{ChangesEntry, LinksTable}
-use Rattle.page_tables.proofs.Ways.{EndsAt, ends, only_way, index_of-lt, last_table-stop, last_table-zero}
-use Rattle.page_tables.proofs.Ends.{last_is, last_from_way, way_forth, missing_of-is, last_entry-is, page_entry-same, page_entry-whole, page_entry-missing}
+use Rattle.page_tables.specs.{Entry.{IsSoftware}, Tree.{IsTable, Points, IsForest, IsUnlinked, IsRoot, IsEmptyTable, IsSpare, last_table, last_entry, missing_of, page_entry, Way}, Change.{ChangesEntry, LinksTable}}
+use Rattle.page_tables.proofs.{Ways.{EndsAt, ends, only_way, index_of-lt, last_table-stop, last_table-zero}, Ends.{last_is, last_from_way, way_forth, missing_of-is, last_entry-is, page_entry-same, page_entry-whole, page_entry-missing}}
 use Rattle.page_tables.proofs.Setting.{other_entries, cases_place, at_place, table_forth, table_back, points_forth, points_back, elsewhere, kept_frames}
 
 -- `big` is `small` with entry i of table n pointing to the empty table m
@@ -74,29 +69,23 @@ module _ (small big : FrameTable) (n i m top root page k : ℕ) (linked : Linked
             }))
       ]
 
+  hit_entry : (r p : ℕ) → Hits small big top root n i m k r p → last_entry big top r p ≡ 0
+  hit_entry r p hit = last_entry-is big top r p ∙ ap (λ x. entry_at big x.1 (index_of p x.0)) hit.in_big ∙ linked.empty (index_of p k) (index_of-lt p k)
+
+  missing_missed : (r p : ℕ) → Misses small big top r p → missing_of big top r p ≡ missing_of small top r p
+  missing_missed r p miss = missing_of-is big top r p ∙ ap (λ x. x.0) miss.last ∙ sym (missing_of-is small top r p)
+
   -- entries of pages are the same
   pub link_entries : (r p : ℕ) → IsTable small r → IsUnlinked big r → page_entry big top r p ≡ page_entry small top r p
   link_entries r p table free = elim (link_cases r p table free) [
     | inl hit ↦ (
         let absent : missing_of small top r p ≢ 0 = λ e. (let level = sym (ap (λ x. x.0) hit.in_small) ∙ sym (missing_of-is small top r p) ∙ e in absurd (omega arith)) in
-        big_entry r p hit ∙ sym (page_entry-missing small top r p absent))
-    | inr miss ↦ page_entry-same small big top r p (missing_of-is big top r p ∙ ap (λ x. x.0) miss.last ∙ sym (missing_of-is small top r p)) miss.entry
+        elim (cases_eq (missing_of big top r p) 0) [
+          | inl e ↦ page_entry-whole big top r p e ∙ hit_entry r p hit ∙ sym (page_entry-missing small top r p absent)
+          | inr ne ↦ page_entry-missing big top r p ne ∙ sym (page_entry-missing small top r p absent)
+        ])
+    | inr miss ↦ page_entry-same small big top r p (missing_missed r p miss) miss.entry
   ]
-    where
-      last_of_big : (r p : ℕ) → Hits small big top root n i m k r p → last_entry big top r p ≡ 0
-      last_of_big r p hit = last_entry-is big top r p ∙ ap (λ x. entry_at big x.1 (index_of p x.0)) hit.in_big ∙ linked.empty (index_of p k) (index_of-lt p k)
-
-      big_entry : (r p : ℕ) → Hits small big top root n i m k r p → page_entry big top r p ≡ 0
-      big_entry r p hit = elim (cases_eq (missing_of big top r p) 0) [
-        | inl e ↦ page_entry-whole big top r p e ∙ last_of_big r p hit
-        | inr ne ↦ page_entry-missing big top r p ne
-      ]
-
-  pub hit_entry : (r p : ℕ) → Hits small big top root n i m k r p → last_entry big top r p ≡ 0
-  hit_entry r p hit = last_entry-is big top r p ∙ ap (λ x. entry_at big x.1 (index_of p x.0)) hit.in_big ∙ linked.empty (index_of p k) (index_of-lt p k)
-
-  missing_missed : (r p : ℕ) → Misses small big top r p → missing_of big top r p ≡ missing_of small top r p
-  missing_missed r p miss = missing_of-is big top r p ∙ ap (λ x. x.0) miss.last ∙ sym (missing_of-is small top r p)
 
   pub missing_other : (r p : ℕ) → r ≢ root → IsTable small r → IsUnlinked big r → missing_of big top r p ≡ missing_of small top r p
   missing_other r p ne table free = elim (link_cases r p table free) [
@@ -199,8 +188,7 @@ module _ (old new : FrameTable) (top root page m e : ℕ) (forest : IsForest old
     ];
     normal = λ a j t h. elim (cases_place a j (last_table old page top root).1 (index_of page (last_table old page top root).0)) [
       | inl here ↦ inl (ap is_pointer (at_place new a j _ _ here.0 here.1 ∙ change.changed) ∙ pointer)
-      | inr other ↦ (let P : ℕ → Type 0 = λ x. IsSoftware x in
-          subst P (sym (other_entries old new _ _ e change a j h other)) (forest.normal a j (table_back old new _ _ e change a t) h))
+      | inr other ↦ rw (other_entries old new _ _ e change a j h other) (forest.normal a j (table_back old new _ _ e change a t) h)
     ];
   }
 
@@ -223,9 +211,6 @@ module _ (old new : FrameTable) (top root page m e : ℕ) (forest : IsForest old
 
   below : (last_table old page top root).0 - 1 < top
   below = omega (arith, above, end.least)
-
-  next_level : suc ((last_table old page top root).0 - 1) ≡ (last_table old page top root).0
-  next_level = omega (arith, above)
 
   way : Way new top root page (top - ((last_table old page top root).0 - 1)) m
   way =
@@ -263,8 +248,7 @@ module _ (old new : FrameTable) (top root page m e : ℕ) (forest : IsForest old
     ends = ap (λ x. x.1) last_now;
     lowered = (
         let now = missing_of-is new top root page ∙ ap (λ x. x.0) last_now in
-        let was = missing_of-is old top root page in
-        omega (arith, now, was, above));
+        omega (arith, now, missing_of-is old top root page, above));
     entries = λ r p ne root'. link_entries old new _ _ m top root page _ linked forest forest_after root_free below way r p root'.table (free_after r ne root'.unlinked);
     missing = λ r p other ne root'. missing_other old new _ _ m top root page _ linked forest forest_after root_free below way r p other root'.table (free_after r ne root'.unlinked);
   }

@@ -1,18 +1,12 @@
 -- Which tables are left after those without entries on one way were given back: each lies on the way to a page that is needed.
-use Rattle.std.proofs.Common.{◌≡◌, ◌≢◌, ℕ, zero, suc, ◌+◌, ◌-◌, ◌*◌, ◌/◌, ◌%◌, ◌^◌, ◌<◌, ◌≤◌, ◌⊎◌, inl, inr, true, false, refl, sym, ap, ◌∙◌, subst, arith}
-use Rattle.std.proofs.lemmas.Bool.{cases_eq, false≢true}
-use Rattle.std.proofs.lemmas.Nat.{pow-add}
+use Rattle.std.proofs.{Common.{◌≡◌, ◌≢◌, ℕ, zero, suc, ◌+◌, ◌-◌, ◌*◌, ◌/◌, ◌%◌, ◌^◌, ◌<◌, ◌≤◌, ◌⊎◌, inl, inr, true, false, refl, sym, ap, ◌∙◌, subst, arith}, lemmas.Bool.{cases_eq, false≢true}, lemmas.Nat.{pow-add}}
 use Rattle.std.proofs.Math.Nat.{div-lt_iff_lt-mul, mul-div_cancel}
 use Rattle.frames.specs.FrameTable.{FrameTable}
-use Rattle.sv39_walk.specs.Entry.{entry_at, frame_of, is_pointer}
-use Rattle.sv39_walk.specs.Walk.{index_of}
-use Rattle.page_tables.specs.Tree.{IsPage, IsTable, Points, IsForest, IsRoot, last_table, missing_of, last_entry, page_entry, Way, IsBelowRoot}
-use Rattle.page_tables.specs.Change.{Prunes, IsPruned}
-use Rattle.page_tables.proofs.Pages.{fields_same, span_positive, place_above, field_is}
-use Rattle.page_tables.proofs.Spans.{last_most, missing_in_place}
-use Rattle.page_tables.proofs.Ways.{EndsAt, ends, cases_bool, only_way}
-use Rattle.page_tables.proofs.Ends.{last_is, last_from_way, missing_of-is, last_entry-is, page_entry-whole}
-use Rattle.page_tables.proofs.Tight.{still_linked}
+use Rattle.sv39_walk.specs.{Entry.{entry_at, frame_of, is_pointer}, Walk.{index_of}}
+use Rattle.page_tables.specs.{Tree.{IsPage, IsTable, Points, IsForest, IsRoot, IsUnlinked, last_table, missing_of, last_entry, page_entry, Way, IsBelowRoot}, Change.{Prunes, IsPruned}}
+use Rattle.page_tables.proofs.{Pages.{fields_same, span_positive, place_above, field_is}, Spans.{last_most, missing_in_place}, Ways.{EndsAt, ends, cases_bool, only_way, way_pointed}}
+use Rattle.page_tables.proofs.Ends.{last_is, last_from_way, way_forth, missing_of-is, last_entry-is, page_entry-whole}
+pub use Rattle.page_tables.proofs.Tight.{stay_way}
 
 -- a table with an entry has one somewhere
 found : (t : FrameTable) (n k : ℕ) → ((i : ℕ) → i < k → entry_at t n i ≡ 0) ⊎ ((i : ℕ) × (i < k) × (entry_at t n i ≢ 0))
@@ -44,15 +38,7 @@ above_end : (t : FrameTable) (top r page d m : ℕ) → d ≤ top → Way t top 
 above_end t top r page d m le w =
     let sum : d + (top - d) ≡ top = omega (arith, le) in
     let from : (last_table t page top r).0 ≡ (last_table t page (top - d) m).0 = ap (λ x. x.0) (last_from_way t top r page d m (top - d) sum w) in
-    let most = last_most t page (top - d) m in
-    omega (arith, from, most, le)
-
--- the way to a table that stays
-pub stay_way : (old new : FrameTable) (top r page : ℕ) → IsForest old → Prunes old new top r page → (x p d m : ℕ) → IsTable new m → Way old top x p d m → Way new top x p d m
-stay_way old new top r page forest prunes x p zero m t w = w
-stay_way old new top r page forest prunes x p (suc d) m t w =
-    let q = still_linked old new top r page forest prunes w.0 (index_of p (top - d)) m w.2 t in
-    (w.0, stay_way old new top r page forest prunes x p d w.0 q.table w.1, q)
+    omega (arith, from, last_most t page (top - d) m, le)
 
 -- the page in the place of entry i of the table of level k on the way to a page, the first one there
 page_at : ℕ → ℕ → ℕ → ℕ
@@ -95,13 +81,11 @@ module _ (top : ℕ) (old new : FrameTable) (r page : ℕ) (forest : IsForest ol
   root_now = prunes.roots r is_root
 
   was_way : (p d m : ℕ) → Way new top r p d m → Way old top r p d m
-  was_way p zero m w = w
-  was_way p (suc d) m w = (w.0, was_way p d w.0 w.1, prunes.pointers w.0 (index_of p (top - d)) m w.2)
+  was_way p = way_forth new old prunes.pointers top r p
 
   -- a table below another one is no root
   not_root : (p d m : ℕ) → 0 < d → Way new top r p d m → m ≢ r
-  not_root p zero m lt w e = omega arith
-  not_root p (suc d) m lt w e = root_now.unlinked w.0 (index_of p (top - d)) (let P : ℕ → Type 0 = λ x. Points new w.0 (index_of p (top - d)) x in subst P e w.2)
+  not_root p d m lt w e = way_pointed new top r p d m lt w (let P : ℕ → Type 0 = λ x. IsUnlinked new x in subst P (sym e) root_now.unlinked)
 
   abbrev k : ℕ
   k = (last_table new page top r).0
@@ -129,10 +113,8 @@ module _ (top : ℕ) (old new : FrameTable) (r page : ℕ) (forest : IsForest ol
   block_below above = elim size [
     | inl one ↦ omega (arith, one, above)
     | inr gap ↦ (
-        let least = end.least in
         let was = above_end old top r page (top - k) L (omega arith) (was_way page (top - k) L end.way) in
-        let is = missing_of-is old top r page in
-        omega (arith, gap, was, is, least))
+        omega (arith, gap, was, missing_of-is old top r page, end.least))
   ]
 
   -- a table below the root on the way to a page of the block isn't below the block
@@ -141,11 +123,10 @@ module _ (top : ℕ) (old new : FrameTable) (r page : ℕ) (forest : IsForest ol
     | inl one ↦ omega (arith, one, below)
     | inr gap ↦ (
         let end_p = above_end old top r p (suc d) m (omega (arith, below)) w in
-        let is = missing_of-is old top r p in
         let some : missing_of old top r page ≢ 0 = λ z. omega (arith, z, gap, positive) in
         let P : ℕ → Type 0 = λ x. page / 512 ^ x ≡ p / 512 ^ x in
         let there = missing_in_place old top r page p some (subst P gap (sym same)) in
-        omega (arith, gap, end_p, is, there))
+        omega (arith, gap, end_p, missing_of-is old top r p, there))
   ]
 
   -- m is a table below the root on the way to the page, and entry i of the last table on it is set

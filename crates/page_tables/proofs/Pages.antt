@@ -1,7 +1,5 @@
 -- A page's number is known by its fields.
-use Rattle.std.proofs.Common.{◌≡◌, ℕ, zero, suc, ◌+◌, ◌-◌, ◌*◌, ◌/◌, ◌%◌, ◌^◌, ◌<◌, ◌≤◌, refl, sym, ap, ◌∙◌, arith}
-use Rattle.std.proofs.Math.Nat.{div-div-eq-div-mul, pow-suc, pow-succ', div-lt_iff_lt-mul, div-mul-le_self}
-use Rattle.std.proofs.lemmas.Nat.{le-div}
+use Rattle.std.proofs.{Common.{◌≡◌, ℕ, zero, suc, ◌+◌, ◌-◌, ◌*◌, ◌/◌, ◌%◌, ◌^◌, ◌<◌, ◌≤◌, refl, sym, ap, ◌∙◌, arith}, Math.Nat.{div-div-eq-div-mul, pow-suc, pow-succ', div-lt_iff_lt-mul, div-mul-le_self}, lemmas.Nat.{le-div}}
 use Rattle.sv39_walk.specs.Walk.{index_of}
 
 pub index_of-suc : (p k : ℕ) → index_of p (suc k) ≡ index_of (p / 512) k
@@ -10,7 +8,7 @@ index_of-suc p k = rw (pow-succ' 512 k, ← div-div-eq-div-mul p 512 (512 ^ k))
 
 pub index_of-zero : (p : ℕ) → index_of p 0 ≡ p % 512
 unfolding index_of
-index_of-zero p = let one : p / 1 ≡ p = omega arith in ap (λ x. x % 512) one
+index_of-zero p = omega arith
 
 below : (p x y : ℕ) → p < y → y ≡ 512 * x → p / 512 < x
 below p x y h e = omega arith
@@ -77,13 +75,10 @@ below_place p n k lt = (div-lt_iff_lt-mul (span_positive k)).0 lt
 
 pub place_from : (p q k : ℕ) → p ≤ q → p / 512 ^ k ≤ q / 512 ^ k
 place_from p q k le =
-    let low = div-mul-le_self p (512 ^ k) in
-    le-div (p / 512 ^ k) q (512 ^ k) (span_positive k) (omega (arith, low, le))
+    le-div (p / 512 ^ k) q (512 ^ k) (span_positive k) (omega (arith, div-mul-le_self p (512 ^ k), le))
 
 -- pages up to the end of a span lie in it
 pub same_place : (start page stop k : ℕ) → start ≤ page → page < stop → stop ≤ (start / 512 ^ k + 1) * 512 ^ k → page / 512 ^ k ≡ start / 512 ^ k
 same_place start page stop k from below le =
     let lt : page < (start / 512 ^ k + 1) * 512 ^ k = omega (arith, below, le) in
-    let high = place_below page (start / 512 ^ k + 1) k lt in
-    let low = place_from start page k from in
-    omega (arith, high, low)
+    omega (arith, place_below page (start / 512 ^ k + 1) k lt, place_from start page k from)

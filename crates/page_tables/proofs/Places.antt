@@ -1,14 +1,9 @@
 -- The pages of one row have one lowest table.
 use Rattle.std.proofs.Common.{◌≡◌, ℕ, zero, suc, inl, inr, ◌*◌, ◌/◌, ◌%◌, refl, sym, ap, ◌∙◌, subst, arith}
 use Rattle.frames.specs.FrameTable.{FrameTable}
-use Rattle.sv39_walk.specs.Entry.{entry_at, is_pointer, frame_of}
-use Rattle.sv39_walk.specs.Walk.{index_of}
-use Rattle.page_tables.specs.Tree.{IsTable, IsForest, IsRoot, last_table, page_entry}
-use Rattle.page_tables.specs.Change.{SetsEntry}
-use Rattle.page_tables.specs.Places.{IsTableOf}
-use Rattle.page_tables.proofs.Pages.{index_of-suc}
-use Rattle.page_tables.proofs.Ways.{ends, cases_bool, last_table-next, last_table-stop, last_table-zero}
-use Rattle.page_tables.proofs.Ends.{SameTrees, same_last, missing_of-is, last_entry-is, page_entry-whole}
+use Rattle.sv39_walk.specs.{Entry.{entry_at, is_pointer, frame_of}, Walk.{index_of}}
+use Rattle.page_tables.specs.{Tree.{IsTable, IsForest, IsRoot, last_table, page_entry}, Change.{SetsEntry}, Places.{IsTableOf}}
+use Rattle.page_tables.proofs.{Pages.{index_of-suc, index_of-zero}, Ways.{ends, cases_bool, last_table-next, last_table-stop, last_table-zero}, Ends.{SameTrees, same_last, missing_of-is, last_entry-is, page_entry-whole}}
 use Rattle.page_tables.proofs.Setting.{at_place}
 
 same_above : (p q k : ℕ) → p / 512 ≡ q / 512 → index_of p (suc k) ≡ index_of q (suc k)
@@ -26,10 +21,6 @@ last_in_row t p q (suc level) r same =
       | inr stop ↦ last_table-stop t q level r (ap is_pointer here ∙ stop) ∙ sym (last_table-stop t p level r stop)
     ]
 
-pub index_low : (page : ℕ) → index_of page 0 ≡ page % 512
-unfolding index_of
-index_low page = omega arith
-
 -- where the way to a page ends at level 0 is the table of its row
 pub found_at : (t : FrameTable) (top root page n : ℕ) → IsTable t n → (last_table t page top root).0 ≡ 0 → (last_table t page top root).1 ≡ n
     → IsTableOf t top root (page / 512) n
@@ -44,31 +35,29 @@ pub entry_in_row : (t : FrameTable) (top root page n : ℕ) → IsTableOf t top 
 entry_in_row t top root page n row =
     let whole = row.whole page refl in
     page_entry-whole t top root page whole ∙ last_entry-is t top root page
-    ∙ at_place t _ _ n (page % 512) (row.last page refl) (ap (index_of page) (sym (missing_of-is t top root page) ∙ whole) ∙ index_low page)
+    ∙ at_place t _ _ n (page % 512) (row.last page refl) (ap (index_of page) (sym (missing_of-is t top root page) ∙ whole) ∙ index_of-zero page)
 
--- a row keeps its table when an entry of a page is set
-pub row_stays : (old new : FrameTable) (top root page e : ℕ) → SetsEntry old new top root page e → (r row n : ℕ) → IsRoot top old r
+-- where the ways end as they did, a row keeps its table
+row_moved : (old new : FrameTable) (top r row n : ℕ) → IsForest new → IsTable new r → ((p : ℕ) → last_table new p top r ≡ last_table old p top r)
     → IsTableOf old top r row n → IsTableOf new top r row n
-row_stays old new top root page e sets r row n is_root old_row =
+row_moved old new top r row n forest table moved old_row =
     let first : row * 512 / 512 ≡ row = omega arith in
-    let end = ends new top r (row * 512) sets.forest (sets.roots r is_root).table in
-    let P : ℕ → Type 0 = λ x. IsTable new x in
-    record {
-      table = subst P (ap (λ x. x.1) (sets.ends r (row * 512) is_root.table) ∙ old_row.last (row * 512) first) end.table;
-      whole = λ p same. missing_of-is new top r p ∙ ap (λ x. x.0) (sets.ends r p is_root.table) ∙ sym (missing_of-is old top r p) ∙ old_row.whole p same;
-      last = λ p same. ap (λ x. x.1) (sets.ends r p is_root.table) ∙ old_row.last p same;
-    }
-
--- and when frames change that are in no tree
-pub row_same : (old new : FrameTable) → IsForest old → IsForest new → SameTrees old new → (top r row n : ℕ) → IsTable old r → IsTable new r
-    → IsTableOf old top r row n → IsTableOf new top r row n
-row_same old new forest forest' same top r row n table table' old_row =
-    let moved : (p : ℕ) → last_table new p top r ≡ last_table old p top r = λ p. (same_last old new forest forest' same top r p table table').0 in
-    let first : row * 512 / 512 ≡ row = omega arith in
-    let end = ends new top r (row * 512) forest' table' in
+    let end = ends new top r (row * 512) forest table in
     let P : ℕ → Type 0 = λ x. IsTable new x in
     record {
       table = subst P (ap (λ x. x.1) (moved (row * 512)) ∙ old_row.last (row * 512) first) end.table;
       whole = λ p same. missing_of-is new top r p ∙ ap (λ x. x.0) (moved p) ∙ sym (missing_of-is old top r p) ∙ old_row.whole p same;
       last = λ p same. ap (λ x. x.1) (moved p) ∙ old_row.last p same;
     }
+
+-- as when an entry of a page is set
+pub row_stays : (old new : FrameTable) (top root page e : ℕ) → SetsEntry old new top root page e → (r row n : ℕ) → IsRoot top old r
+    → IsTableOf old top r row n → IsTableOf new top r row n
+row_stays old new top root page e sets r row n is_root =
+    row_moved old new top r row n sets.forest (sets.roots r is_root).table (λ p. sets.ends r p is_root.table)
+
+-- and when frames change that are in no tree
+pub row_same : (old new : FrameTable) → IsForest old → IsForest new → SameTrees old new → (top r row n : ℕ) → IsTable old r → IsTable new r
+    → IsTableOf old top r row n → IsTableOf new top r row n
+row_same old new forest forest' same top r row n table table' =
+    row_moved old new top r row n forest' table' (λ p. (same_last old new forest forest' same top r p table table').0)

@@ -1,25 +1,11 @@
 -- A table without entries unlinked and given back.
-use Rattle.std.proofs.Common.{◌≡◌, ◌≢◌, ℕ, zero, suc, ◌+◌, ◌-◌, ◌<◌, ◌⊎◌, inl, inr, false, refl, sym, ap, ◌∙◌, subst, arith}
-use Rattle.std.proofs.lemmas.Bool.{cases_eq, cases_lt}
-use Rattle.frames.specs.declared.role.Role.TheVariants.{Free, Table}
-use Rattle.frames.specs.FrameTable.{FrameTable, role_of, SameButFor}
+use Rattle.std.proofs.{Common.{◌≡◌, ◌≢◌, ℕ, suc, ◌+◌, ◌-◌, ◌<◌, ◌⊎◌, inl, inr, false, refl, sym, ap, ◌∙◌, subst, arith}, lemmas.Bool.{cases_eq, cases_lt}}
+use Rattle.frames.specs.{declared.role.Role.TheVariants.{Free, Table}, FrameTable.{FrameTable, role_of, SameButFor}}
 use Rattle.sv39_walk.specs.Entry.{entry_at, frame_of, is_pointer}
-use Rattle.sv39_walk.specs.Walk.{index_of}
 use Rattle.sv39_walk.proofs.Entries.{is_pointer-zero}
-use Rattle.page_tables.specs.Entry.{IsSoftware}
-use Rattle.page_tables.specs.declared.forms.Entry.TheVariants.{None}
-use Rattle.page_tables.specs.Tree.{IsTable, Points, IsForest, IsUnlinked, IsRoot, IsEmptyTable, last_table, missing_of, Way}
-use Rattle.page_tables.specs.Change.{ChangesEntry, Prunes}
-use Rattle.page_tables.proofs.Ways.{EndsAt, ends}
-use Rattle.page_tables.proofs.Ends.{SameTrees, turned, root_same, missing_of-is, way_forth}
-use Rattle.page_tables.proofs.Setting.{other_entries, cases_place, at_place, table_forth, table_back, points_forth, points_back, elsewhere}
-use Rattle.page_tables.proofs.Linking.{Linked, link_cases, link_entries, root_down, root_up}
-use Rattle.page_tables.proofs.Keeping.{KeepsTables, keeps_tables, empty_not_linking, same_trees, forest_kept, root_kept, entry_kept_at, missing_kept_at}
-
--- a table at the end of a way of some length is pointed to
-way_pointed : (t : FrameTable) (top root page d m : ℕ) → 0 < d → Way t top root page d m → IsUnlinked t m → ⊥
-way_pointed t top root page zero m some w free = omega arith
-way_pointed t top root page (suc d) m some w free = free w.0 (index_of page (top - d)) w.2
+use Rattle.page_tables.specs.{Entry.{IsSoftware}, declared.forms.Entry.TheVariants.{None}, Tree.{IsTable, Points, IsForest, IsUnlinked, IsRoot, IsEmptyTable, last_table, missing_of, Way}, Change.{ChangesEntry, Prunes}}
+use Rattle.page_tables.proofs.{Ways.{EndsAt, ends, way_pointed}, Ends.{SameTrees, turned, root_same, missing_of-is, way_forth}, Setting.{other_entries, cases_place, at_place, table_forth, table_back, points_forth, points_back, elsewhere}}
+use Rattle.page_tables.proofs.{Linking.{Linked, link_cases, link_entries, root_down, root_up}, Keeping.{KeepsTables, keeps_tables, empty_not_linking, same_trees, forest_kept, root_kept, entry_kept_at, missing_kept_at}}
 
 -- a table without entries points to no table, itself neither
 pub empty_apart : (t : FrameTable) (n i m : ℕ) → Points t n i m → IsEmptyTable t m → n ≡ m → ⊥
@@ -44,10 +30,8 @@ module _ (old new : FrameTable) (top root page n i m k : ℕ) (forest : IsForest
     onto_tables = λ a j b p. table_forth old mid n i 0 change b (forest.onto_tables a j b (to_old a j b p));
     one_way = λ a j b l x p q. forest.one_way a j b l x (to_old a j x p) (to_old b l x q);
     normal = λ a j t h. elim (cases_place a j n i) [
-      | inl here ↦ (let P : ℕ → Type 0 = λ x. IsSoftware x in
-          subst P (sym (at_place mid a j n i here.0 here.1 ∙ change.changed)) (inr (record { entry = None; form = tt; is = refl })))
-      | inr other ↦ (let P : ℕ → Type 0 = λ x. IsSoftware x in
-          subst P (sym (other_entries old mid n i 0 change a j h other)) (forest.normal a j (table_back old mid n i 0 change a t) h))
+      | inl here ↦ rw (at_place mid a j n i here.0 here.1 ∙ change.changed) (inr (record { entry = None; form = tt; is = refl }))
+      | inr other ↦ rw (other_entries old mid n i 0 change a j h other) (forest.normal a j (table_back old mid n i 0 change a t) h)
     ];
   }
 
@@ -100,7 +84,7 @@ module _ (old new : FrameTable) (top root page n i m k : ℕ) (forest : IsForest
   root_mid r root' = root_down mid old n i m top root page k linked forest_mid forest is_root.unlinked below end.way change.changed r (table_forth old mid n i 0 change r root'.table) root'
 
   same : SameTrees mid new
-  same = same_trees m mid new forest_mid free_mid linking kept
+  same = same_trees m mid new linking kept
 
   -- what nothing points to any more, but the table that is gone, nothing pointed to before
   unlinked_back : (x : ℕ) → IsTable new x → IsUnlinked new x → IsUnlinked old x
@@ -112,7 +96,7 @@ module _ (old new : FrameTable) (top root page n i m k : ℕ) (forest : IsForest
   root_old : (r : ℕ) → IsRoot top new r → IsRoot top old r
   root_old r root' =
       let t = (kept.back r root'.table).1 in
-      let forest' = forest_kept m mid new forest_mid free_mid linking kept in
+      let forest' = forest_kept m mid new linking kept forest_mid free_mid in
       root_up mid old n i m top root page k linked forest_mid forest is_root.unlinked below end.way r (unlinked_back r root'.table root'.unlinked)
       (root_same new mid forest' forest_mid (turned mid new same) top r t root')
 
@@ -143,7 +127,7 @@ module _ (old new : FrameTable) (top root page n i m k : ℕ) (forest : IsForest
           counts = λ x role. released.counts x (λ e. role (ap (role_of old) e ∙ table.role)) ∙ change.others.counts x (λ e. role (ap (role_of old) e ∙ on.table.role));
           tables = λ x t. table_back old mid n i 0 change x (kept.back x t).1;
         };
-        forest = forest_kept m mid new forest_mid free_mid linking kept;
+        forest = forest_kept m mid new linking kept forest_mid free_mid;
         gone = λ x t. elim (cases_eq x m) [
           | inl e ↦ inr (
             ap (role_of new) e ∙ free,
@@ -157,10 +141,10 @@ module _ (old new : FrameTable) (top root page n i m k : ℕ) (forest : IsForest
               same.entries x j h (kept.back x t).1 t ∙ other_entries old mid n i 0 change x j h (inl ne))
         ];
         pointers = λ a j b p. to_old a j b (same.back a j b p);
-        roots = λ r root'. root_kept m mid new forest_mid free_mid linking kept top r (other_root r root') (root_mid r root');
+        roots = λ r root'. root_kept m mid new linking kept forest_mid free_mid top r (other_root r root') (root_mid r root');
         were_roots = root_old;
         unlinked = λ x t. (λ unlinked a j p. unlinked a j (to_old a j x (same.back a j x p)), unlinked_back x t);
-        entries = λ r p root'. entry_kept_at m mid new forest_mid free_mid linking kept top r p (other_root r root') (root_mid r root')
+        entries = λ r p root'. entry_kept_at m mid new linking kept forest_mid free_mid top r p (other_root r root') (root_mid r root')
             ∙ sym (link_entries mid old n i m top root page k linked forest_mid forest is_root.unlinked below end.way r p (table_forth old mid n i 0 change r root'.table) root'.unlinked);
       }
 
@@ -168,7 +152,7 @@ module _ (old new : FrameTable) (top root page n i m k : ℕ) (forest : IsForest
   missing_up =
       let table = table_forth old mid n i 0 change root is_root.table in
       let old_missing = missing_of-is old top root page ∙ ap (λ x. x.0) last in
-      missing_kept_at m mid new forest_mid free_mid linking kept top root page (other_root root is_root) (root_mid root is_root)
+      missing_kept_at m mid new linking kept forest_mid free_mid top root page (other_root root is_root) (root_mid root is_root)
       ∙ elim (link_cases mid old n i m top root page k linked forest_mid forest is_root.unlinked below end.way root page table is_root.unlinked) [
         | inl hit ↦ missing_of-is mid top root page ∙ ap (λ x. x.0) hit.in_small ∙ (let more : suc k ≡ missing_of old top root page + 1 = omega (arith, old_missing) in more)
         | inr miss ↦ (

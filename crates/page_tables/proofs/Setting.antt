@@ -1,16 +1,9 @@
 -- One entry of a page set: no pointer before, no pointer after.
-use Rattle.std.proofs.Common.{◌≡◌, ◌≢◌, ℕ, ◌-◌, ◌<◌, ◌≤◌, ◌⊎◌, inl, inr, false, get_or, refl, sym, ap, ◌∙◌, subst, arith}
-use Rattle.std.proofs.lemmas.Bool.{cases_eq, false≢true}
-use Rattle.frames.specs.declared.role.Role.TheVariants.{Free}
-use Rattle.frames.specs.FrameTable.{FrameTable, bytes_of, role_of}
-use Rattle.sv39_walk.specs.Entry.{entry_at, frame_of, is_pointer}
-use Rattle.sv39_walk.specs.Walk.{index_of}
-use Rattle.page_tables.specs.Entry.{IsSoftware}
-use Rattle.page_tables.specs.Tree.{IsTable, Points, IsForest, IsUnlinked, IsRoot, last_table, last_entry, missing_of, IsPage, Way}
-use Rattle.page_tables.specs.Change.{ChangesEntry, KeepsFrames, SetsEntry}
-use Rattle.page_tables.proofs.Ways.{EndsAt, ends, only_way, index_of-lt}
-use Rattle.page_tables.proofs.Ends.{last_is, way_forth, missing_of-is, last_entry-is, page_entry-same, page_entry-whole}
-use Rattle.page_tables.proofs.Pages.{page_from_fields}
+use Rattle.std.proofs.{Common.{◌≡◌, ◌≢◌, ℕ, ◌-◌, ◌<◌, ◌≤◌, ◌⊎◌, inl, inr, false, get_or, refl, sym, ap, ◌∙◌, subst, arith}, lemmas.Bool.{cases_eq, false≢true}}
+use Rattle.frames.specs.{declared.role.Role.TheVariants.{Free}, FrameTable.{FrameTable, bytes_of, role_of, SameButFor}}
+use Rattle.sv39_walk.specs.{Entry.{entry_at, frame_of, is_pointer}, Walk.{index_of}}
+use Rattle.page_tables.specs.{Entry.{IsSoftware}, Tree.{IsTable, Points, IsForest, IsUnlinked, IsRoot, last_table, last_entry, missing_of, IsPage, Way}, Change.{ChangesEntry, KeepsFrames, SetsEntry}}
+use Rattle.page_tables.proofs.{Ways.{EndsAt, ends, only_way, index_of-lt}, Ends.{last_is, way_forth, missing_of-is, last_entry-is, page_entry-same, page_entry-whole}, Pages.{page_from_fields}}
 
 -- an entry reads the bytes of its frame alone
 pub entry_at-bytes : (old new : FrameTable) (n i : ℕ) → bytes_of new n ≡ bytes_of old n → entry_at new n i ≡ entry_at old n i
@@ -44,16 +37,18 @@ table_forth old new n i e change m table = record { inside = rw change.others.fr
 pub table_back : (old new : FrameTable) (n i e : ℕ) → ChangesEntry old new n i e → (m : ℕ) → IsTable new m → IsTable old m
 table_back old new n i e change m table = record { inside = rw (← change.others.frames) table.inside; role = ap (λ rs. get_or rs m Free) (sym change.roles) ∙ table.role }
 
+-- an entry that is as it was points where it pointed
+pub points_moved : (old new : FrameTable) (a j b : ℕ) → IsTable new a → entry_at new a j ≡ entry_at old a j → Points old a j b → Points new a j b
+points_moved old new a j b table same p = record { table = table; index = p.index; pointer = ap is_pointer same ∙ p.pointer; target = ap frame_of same ∙ p.target }
+
 -- a pointer at another place
 pub points_forth : (old new : FrameTable) (n i e : ℕ) → ChangesEntry old new n i e → (a j b : ℕ) → (a ≢ n) ⊎ (j ≢ i) → Points old a j b → Points new a j b
 points_forth old new n i e change a j b other p =
-    let same = other_entries old new n i e change a j p.index other in
-    record { table = table_forth old new n i e change a p.table; index = p.index; pointer = ap is_pointer same ∙ p.pointer; target = ap frame_of same ∙ p.target }
+    points_moved old new a j b (table_forth old new n i e change a p.table) (other_entries old new n i e change a j p.index other) p
 
 pub points_back : (old new : FrameTable) (n i e : ℕ) → ChangesEntry old new n i e → (a j b : ℕ) → (a ≢ n) ⊎ (j ≢ i) → Points new a j b → Points old a j b
 points_back old new n i e change a j b other p =
-    let same = other_entries old new n i e change a j p.index other in
-    record { table = table_back old new n i e change a p.table; index = p.index; pointer = ap is_pointer (sym same) ∙ p.pointer; target = ap frame_of (sym same) ∙ p.target }
+    points_moved new old a j b (table_back old new n i e change a p.table) (sym (other_entries old new n i e change a j p.index other)) p
 
 -- no pointer is there
 pub elsewhere : (t : FrameTable) (n i : ℕ) → is_pointer (entry_at t n i) ≡ false → (a j b : ℕ) → Points t a j b → (a ≢ n) ⊎ (j ≢ i)
@@ -61,6 +56,14 @@ elsewhere t n i off a j b p = elim (cases_place a j n i) [
   | inl here ↦ absurd (false≢true (sym off ∙ ap is_pointer (sym (at_place t a j n i here.0 here.1)) ∙ p.pointer))
   | inr other ↦ other
 ]
+
+pub others_turned : (old new : FrameTable) (n : ℕ) → SameButFor n old new → SameButFor n new old
+others_turned old new n same = record {
+  frames = sym same.frames;
+  bytes = λ m ne. sym (same.bytes m ne);
+  roles = λ m ne. sym (same.roles m ne);
+  counts = λ m ne. sym (same.counts m ne);
+}
 
 pub kept_frames : (old new : FrameTable) (n i e : ℕ) → IsTable old n → ChangesEntry old new n i e → KeepsFrames old new
 kept_frames old new n i e table change = record {
@@ -109,8 +112,7 @@ module _ (old new : FrameTable) (top root page n e : ℕ) (forest : IsForest old
     one_way = λ a i b j m p q. forest.one_way a i b j m (back a i m p) (back b j m q);
     normal = λ a j t h. elim (cases_place a j n (index_of page 0)) [
       | inl here ↦ (let P : ℕ → Type 0 = λ x. IsSoftware x in subst P (sym (at_place new a j n (index_of page 0) here.0 here.1 ∙ change.changed)) software)
-      | inr other ↦ (let P : ℕ → Type 0 = λ x. IsSoftware x in
-          subst P (sym (other_entries old new n (index_of page 0) e change a j h other)) (forest.normal a j (table_back old new n (index_of page 0) e change a t) h))
+      | inr other ↦ rw (other_entries old new n (index_of page 0) e change a j h other) (forest.normal a j (table_back old new n (index_of page 0) e change a t) h)
     ];
   }
 
@@ -199,12 +201,7 @@ module _ (old new : FrameTable) (top root page n e : ℕ) (forest : IsForest old
   -- the change undone
   undone : ChangesEntry new old n (index_of page 0) (entry_at old n (index_of page 0))
   undone = record {
-    others = record {
-      frames = sym change.others.frames;
-      bytes = λ m ne. sym (change.others.bytes m ne);
-      roles = λ m ne. sym (change.others.roles m ne);
-      counts = λ m ne. sym (change.others.counts m ne);
-    };
+    others = others_turned old new n change.others;
     roles = sym change.roles;
     counts = sym change.counts;
     changed = refl;

@@ -1,14 +1,10 @@
 -- The pages in the place of one entry of a table: the ways to them, and what is missing there.
-use Rattle.std.proofs.Common.{◌≡◌, ◌≢◌, ℕ, zero, suc, ◌+◌, ◌-◌, ◌*◌, ◌/◌, ◌%◌, ◌^◌, ◌<◌, ◌≤◌, ◌⊎◌, inl, inr, false, refl, sym, ap, ◌∙◌, arith}
-use Rattle.std.proofs.lemmas.Bool.{cases_eq}
-use Rattle.std.proofs.Math.Nat.{mul-div_cancel}
+use Rattle.std.proofs.{Common.{◌≡◌, ◌≢◌, ℕ, zero, suc, ◌+◌, ◌-◌, ◌*◌, ◌/◌, ◌%◌, ◌^◌, ◌<◌, ◌≤◌, ◌⊎◌, inl, inr, false, refl, sym, ap, ◌∙◌, arith}, lemmas.Bool.{cases_eq}, Math.Nat.{mul-div_cancel}}
 use Rattle.frames.specs.FrameTable.{FrameTable}
-use Rattle.sv39_walk.specs.Entry.{entry_at, frame_of, is_pointer}
-use Rattle.sv39_walk.specs.Walk.{index_of}
+use Rattle.sv39_walk.specs.{Entry.{entry_at, frame_of, is_pointer}, Walk.{index_of}}
 use Rattle.sv39_walk.proofs.Entries.{is_pointer-zero}
 use Rattle.page_tables.specs.Tree.{IsRoot, last_table, missing_of}
-use Rattle.page_tables.proofs.Ways.{cases_bool, last_table-next, last_table-stop, last_table-zero, last_at-next, last_at-stop}
-use Rattle.page_tables.proofs.Ends.{missing_of-is, last_entry-is}
+use Rattle.page_tables.proofs.{Ways.{cases_bool, last_table-next, last_table-stop, last_table-zero, last_at-next, last_at-stop}, Ends.{missing_of-is, last_entry-is}}
 use Rattle.page_tables.proofs.Pages.{fields_same, span_positive, place_above, same_span_above, field_is, place_below, below_place, place_from}
 
 -- a way from a level on ends at that level or below it
@@ -16,8 +12,7 @@ pub last_most : (t : FrameTable) (page level n : ℕ) → (last_table t page lev
 last_most t page zero n = rw (last_table-zero t page n) (omega arith)
 last_most t page (suc level) n = elim (cases_bool (is_pointer (entry_at t n (index_of page (suc level))))) [
   | inl pointer ↦ (
-      let rest = last_most t page level (frame_of (entry_at t n (index_of page (suc level)))) in
-      rw (last_table-next t page level n pointer) (omega (arith, rest)))
+      rw (last_table-next t page level n pointer) (omega (arith, last_most t page level (frame_of (entry_at t n (index_of page (suc level)))))))
   | inr stop ↦ rw (last_table-stop t page level n stop) (omega arith)
 ]
 
@@ -30,8 +25,7 @@ way_same t p q (suc level) n k m last same = elim (cases_bool (is_pointer (entry
       let next = frame_of (entry_at t n (index_of p (suc level))) in
       let rest : last_table t p level next ≡ (k, m) = sym (last_table-next t p level n pointer) ∙ last in
       let e : (last_table t p level next).0 ≡ k = ap (λ x. x.0) rest in
-      let most = last_most t p level next in
-      let place : index_of p (suc level) ≡ index_of q (suc level) = fields_same p q (k + 1) (suc level) (omega (arith, e, most)) same in
+      let place : index_of p (suc level) ≡ index_of q (suc level) = fields_same p q (k + 1) (suc level) (omega (arith, e, last_most t p level next)) same in
       let here : entry_at t n (index_of q (suc level)) ≡ entry_at t n (index_of p (suc level)) = ap (entry_at t n) (sym place) in
       last_table-next t q level n (ap is_pointer here ∙ pointer) ∙ ap (λ x. last_table t q level (frame_of x)) here ∙ way_same t p q level next k m rest same)
   | inr stop ↦ ap (λ x. last_table t q x.0 x.1) (sym (last_table-stop t p level n stop) ∙ last)
@@ -49,8 +43,7 @@ module _ (t : FrameTable) (top r page k n : ℕ) (last : last_table t page top r
         let next = frame_of (entry_at t n (index_of page k)) in
         let again : last_table t page k n ≡ (k, n) = sym (way_same t page page top r k n last refl) ∙ last in
         let e : (last_table t page (k - 1) next).0 ≡ k = ap (λ x. x.0) (sym (last_at-next t page k n some pointer) ∙ again) in
-        let most = last_most t page (k - 1) next in
-        absurd (omega (arith, e, most, some)))
+        absurd (omega (arith, e, last_most t page (k - 1) next, some)))
     | inr stop ↦ stop
   ]
 
@@ -67,12 +60,10 @@ module _ (t : FrameTable) (top r page k n : ℕ) (last : last_table t page top r
         let next = frame_of (entry_at t n (index_of p k)) in
         let e : missing_of t top r p ≡ (last_table t p (k - 1) next).0 =
         missing_of-is t top r p ∙ ap (λ x. x.0) (way_same t page p top r k n last same ∙ last_at-next t p k n some pointer) in
-        let most = last_most t p (k - 1) next in
-        omega (arith, e, most, some))
+        omega (arith, e, last_most t p (k - 1) next, some))
     | inr stop ↦ (
         let ends = stops_where p same stop in
-        let missing = missing_where p same stop in
-        let bare = root.bare p (λ e. omega (arith, e, missing, some)) in
+        let bare = root.bare p (λ e. omega (arith, e, missing_where p same stop, some)) in
         absurd (set (sym (ap (λ x. entry_at t x.1 (index_of p x.0)) ends) ∙ sym (last_entry-is t top r p) ∙ bare)))
   ]
 

@@ -1,9 +1,7 @@
 -- Ways from roots to tables.
-use Rattle.std.proofs.Common.{◌≡◌, ℕ, zero, suc, ◌-◌, ◌<◌, ◌≤◌, ◌⊎◌, inl, inr, Bool, true, false, refl, sym, ap, ◌∙◌, subst, arith}
-use Rattle.std.proofs.lemmas.Bool.{cases_eq}
+use Rattle.std.proofs.{Common.{◌≡◌, ℕ, zero, suc, ◌-◌, ◌<◌, ◌≤◌, ◌⊎◌, inl, inr, Bool, true, false, refl, sym, ap, ◌∙◌, subst, arith}, lemmas.Bool.{cases_eq}}
 use Rattle.frames.specs.FrameTable.{FrameTable}
-use Rattle.sv39_walk.specs.Entry.{entry_at, frame_of, is_pointer}
-use Rattle.sv39_walk.specs.Walk.{index_of}
+use Rattle.sv39_walk.specs.{Entry.{entry_at, frame_of, is_pointer}, Walk.{index_of}}
 use Rattle.page_tables.specs.Tree.{IsTable, Points, IsForest, IsUnlinked, Way, last_table}
 
 -- a field of a page's number is under 512
@@ -29,6 +27,11 @@ only_way t top forest r p r' p' free free' (suc d) (suc d') b w w' =
         | inr ne ↦ up.2 k (omega arith)
       ],
     )
+
+-- a table at the end of a way of some length is pointed to
+pub way_pointed : (t : FrameTable) (top root page d m : ℕ) → 0 < d → Way t top root page d m → IsUnlinked t m → ⊥
+way_pointed t top root page zero m some w free = omega arith
+way_pointed t top root page (suc d) m some w free = free w.0 (index_of page (top - d)) w.2
 
 -- one step of last_table
 pub last_table-next : (t : FrameTable) (page level n : ℕ) → is_pointer (entry_at t n (index_of page (suc level))) ≡ true

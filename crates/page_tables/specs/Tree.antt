@@ -95,11 +95,3 @@ pub record IsSpare (t : FrameTable) (n : ℕ) : Type 0 where
   pub table : IsTable t n
   pub unlinked : IsUnlinked t n
   pub empty : IsEmptyTable t n
-
--- no table that is pointed to is without entries
-abbrev pub IsTight : FrameTable → Type 0
-IsTight t = (n i m : ℕ) → Points t n i m → IsEmptyTable t m → ⊥
-
--- but those on the way to that page
-abbrev pub IsTightBut : FrameTable → ℕ → ℕ → ℕ → Type 0
-IsTightBut t top root page = (n i m : ℕ) → Points t n i m → IsEmptyTable t m → IsOnWay t top root page m

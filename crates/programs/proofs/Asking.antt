@@ -1,26 +1,13 @@
 -- What is asked of a device where a file is shown.
-use Rattle.std.proofs.Common.{◌≡◌, ℕ, ◌<◌, ◌+◌, ◌*◌, List, [], Option, Some, sym, ap, subst, ◌∙◌, inl, inr, arith}
-use Rattle.std.proofs.lemmas.Option.{same_Some}
+use Rattle.std.proofs.{Common.{◌≡◌, ℕ, ◌<◌, ◌+◌, ◌*◌, List, [], Option, Some, sym, ap, subst, ◌∙◌, inl, inr, arith}, lemmas.Option.{same_Some}}
 use Rattle.std.specs.Option.{option_map}
-use Rattle.disk_model.specs.Stop.{Image}
-use Rattle.disk_model.specs.Moments.{Touches, Nothing, AsksOnly, LeavesNow, LeavesOnly}
+use Rattle.disk_model.specs.{Stop.{Image}, Moments.{Touches, Nothing, AsksOnly, LeavesNow, LeavesOnly}, declared.sector_disk.SectorDisk.{Ghosts}}
 use Rattle.disk_model.proofs.Moments.{asks_then, asks_wider, then}
-use Rattle.disk_model.specs.declared.sector_disk.SectorDisk.{Ghosts}
 use Rattle.vm_types.specs.declared.file.FileInfo.{FileInfo}
-use Rattle.sync_journal.specs.Layout.{IsPageSector}
-use Rattle.sync_journal.specs.Map.{place_among, home_rank}
-use Rattle.sync_journal.specs.Standing.{place_or_home}
-use Rattle.sync_journal.specs.Turns.{turn_stands}
-use Rattle.sync_journal.specs.Kinds.{is_kind, kind_when, kind_of, kind_home, journal_kind, journal_stands, store_live, IsStoreRecovered}
-use Rattle.sync_journal.specs.declared.store_journal.Journals.{Journals}
-use Rattle.sync_journal.specs.declared.store_journal.StoreJournal.{StoreJournal}
-use Rattle.sync_journal.specs.declared.store_journal.StoreJournal.TheVariants.{One, InTurn}
-use Rattle.file_store.proofs.Images.{same_head, entry_same}
-use Rattle.file_store.proofs.Outside.{left_outside}
-use Rattle.file_store.specs.declared.directory.Directory.{Directory}
-use Rattle.file_store.specs.declared.directory.Entry.{Entry}
-use Rattle.file_store.specs.declared.store.FileStore.{FileStore}
-use Rattle.file_store.specs.Standing.{IsAskedToOpen, IsPageOf, StandsAs, directory_entry}
+use Rattle.sync_journal.specs.{Layout.{IsPageSector}, Map.{place_among, home_rank}, Standing.{place_or_home}, Turns.{turn_stands}, Kinds.{is_kind, kind_when, kind_of, kind_home, journal_kind, journal_stands, store_live, IsStoreRecovered}}
+use Rattle.sync_journal.specs.{declared.store_journal.Journals.{Journals}, declared.store_journal.StoreJournal.{StoreJournal}, declared.store_journal.StoreJournal.TheVariants.{One, InTurn}}
+use Rattle.file_store.proofs.{Images.{same_head, entry_same}, Outside.{left_outside}}
+use Rattle.file_store.specs.{declared.directory.Directory.{Directory}, declared.directory.Entry.{Entry}, declared.store.FileStore.{FileStore}, Standing.{IsAskedToOpen, IsPageOf, StandsAs, directory_entry}}
 use Rattle.file_store.specs.Store.{IsReadyStore, IsSectorOf, entry_of, files_of, entry_home, home_of}
 use Rattle.programs.proofs.Copies.{has_entry, same_content, still_stands}
 use Rattle.programs.specs.Showing.{IsAskedToShow, IsInHomesOf, IsSectorOfFile, KeepsImage, KeepsToFile, OnlyReads}

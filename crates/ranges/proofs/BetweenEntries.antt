@@ -1,8 +1,7 @@
 -- Pages of one table, and those without an entry among them that a search passed over.
 use Rattle.vm_types.specs.Limits.{top_level}
 use Rattle.std.proofs.Common.{◌≡◌, ℕ, ◌+◌, ◌*◌, ◌/◌, ◌%◌, ◌<◌, ◌≤◌, Some, ◌∙◌, subst, arith}
-use Rattle.page_tables.specs.Tree.{IsPage, page_entry}
-use Rattle.page_tables.specs.Places.{IsTableOf}
+use Rattle.page_tables.specs.{Tree.{IsPage, page_entry}, Places.{IsTableOf}}
 use Rattle.residency.specs.Picture.{Picture, entry}
 use Rattle.residency.proofs.Entries.{entry-of}
 
@@ -13,14 +12,20 @@ same_table start page stop from below end = omega arith
 pub end_from : (start page stop : ℕ) → start ≤ page → stop ≤ (start / 512 + 1) * 512 → stop ≤ (page / 512 + 1) * 512
 end_from start page stop from end = omega arith
 
+pub none_passed : {mode : ℕ} (c : Picture mode) (pid r n start low high stop : ℕ) → c.root pid ≡ Some r → IsTableOf c.frames (top_level mode) r (start / 512) n
+    → start ≤ low → high ≤ stop → stop ≤ (start / 512 + 1) * 512
+    → ((root p : ℕ) → IsTableOf c.frames (top_level mode) root (p / 512) n → low ≤ p → p < high → page_entry c.frames (top_level mode) root p ≡ 0)
+    → (page : ℕ) → low ≤ page → page < high → entry c pid page ≡ 0
+none_passed {mode = mode} c pid r n start low high stop root row from within end passed page least below =
+    let same = same_table start page stop (omega (arith, from, least)) (omega (arith, below, within)) end in
+    let P : ℕ → Type 0 = λ x. IsTableOf c.frames (top_level mode) r x n in
+    entry-of c pid r page root ∙ passed r page (subst P same row) least below
+
 pub none_between : {mode : ℕ} (c : Picture mode) (pid r n start low high stop : ℕ) → c.root pid ≡ Some r → IsTableOf c.frames (top_level mode) r (start / 512) n
     → start ≤ low → high ≤ stop → stop ≤ (start / 512 + 1) * 512
     → ((root p : ℕ) → IsTableOf c.frames (top_level mode) root (p / 512) n → low ≤ p → p < high → page_entry c.frames (top_level mode) root p ≡ 0)
     → (page : ℕ) → IsPage (top_level mode) page → low ≤ page → page < high → entry c pid page ≡ 0
-none_between {mode = mode} c pid r n start low high stop root row from within end passed page h least below =
-    let same = same_table start page stop (omega (arith, from, least)) (omega (arith, below, within)) end in
-    let P : ℕ → Type 0 = λ x. IsTableOf c.frames (top_level mode) r x n in
-    entry-of c pid r page root ∙ passed r page (subst P same row) least below
+none_between c pid r n start low high stop root row from within end passed page h = none_passed c pid r n start low high stop root row from within end passed page
 
 -- a page of the row that begins with page first: its place, and its table
 pub place_at : (first index : ℕ) → first % 512 ≡ 0 → index < 512 → (first + index) % 512 ≡ index

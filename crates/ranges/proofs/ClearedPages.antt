@@ -1,75 +1,32 @@
 -- Pages without entries.
 use Rattle.vm_types.specs.declared.mode.Levels as Levels
 use Rattle.vm_types.specs.Limits.{top_level}
-use Rattle.std.proofs.Common.{◌≡◌, ◌≢◌, ℕ, suc, inl, inr, ◌⊎◌, ◌+◌, ◌<◌, ◌≤◌, true, Option, Some, None, get_or, refl, sym, ap, ◌∙◌, arith}
-use Rattle.std.proofs.lemmas.Bool.{cases_lt, false≢true}
+use Rattle.std.proofs.{Common.{◌≡◌, ◌≢◌, ℕ, suc, inl, inr, ◌⊎◌, ◌+◌, ◌<◌, ◌≤◌, true, Option, Some, None, get_or, refl, sym, ap, ◌∙◌, arith, rules}, lemmas.Bool.{cases_eq, cases_lt, false≢true}}
 use Rattle.std.specs.Prelude.{◌↔◌}
-use Rattle.frames.specs.declared.role.Role.TheVariants.{Free}
-use Rattle.frames.specs.FrameTable.{FrameTable, role_of}
+use Rattle.frames.specs.{declared.role.Role.TheVariants.{Free}, FrameTable.{FrameTable, role_of}}
 use Rattle.sv39_walk.specs.Entry.{is_valid}
-use Rattle.page_tables.specs.Tree.{IsPage, IsTable}
-use Rattle.page_tables.proofs.Ends.{way_forth}
-use Rattle.page_tables.specs.Places.{IsTableOf}
-use Rattle.page_tables.proofs.Places.{row_stays}
-use Rattle.page_tables.specs.Change.{KeepsFrames, SetsEntry}
-use Rattle.residency.specs.declared.kernel.Core.{Core}
-use Rattle.residency.specs.Seats.{Seat, InSlot, seat}
-use Rattle.residency.specs.Picture.{Picture, entry}
-use Rattle.residency.specs.Parts.{IsRootedBut, IsFit, Nothing, nowhere}
-use Rattle.residency.specs.Steps.{SameBeside, SetsPage}
-use Rattle.residency.proofs.Bits.{valid_zero}
-use Rattle.residency.proofs.Evicted.{seat_number}
-use Rattle.residency.proofs.Setting.{fit_set, other_views, set_held}
-use Rattle.residency.proofs.Start.{seat-none}
-use Rattle.residency.proofs.TableSteps.{sets_page, rooted_set}
-use Rattle.ranges.specs.Steps.{IsBeside, KeepsBesideMemory, SameButMemory, SameTables, ReturnsTables, ReturnsSlots, Clears, LacksHolder, ReturnsSeat}
-use Rattle.ranges.proofs.Returning.{same_but-refl}
-use Rattle.ranges.proofs.Sharing.{fit_emptied, owned_emptied}
+use Rattle.page_tables.specs.{Tree.{IsPage, IsTable}, Places.{IsTableOf}, Change.{KeepsFrames, SetsEntry}}
+use Rattle.page_tables.proofs.{Ends.{way_forth}, Places.{row_stays}}
+use Rattle.residency.specs.{declared.kernel.Core.{Core}, Seats.{Seat, InSlot, seat}, Picture.{Picture, entry}, Parts.{IsRootedBut, IsFit, Nothing, nowhere}, Steps.{SameBeside, SetsPage}}
+use Rattle.residency.proofs.{Bits.{valid_zero}, Evicted.{seat_number}, Setting.{fit_set, other_views, set_held}, Start.{seat-none}, TableSteps.{sets_page, rooted_set}}
+use Rattle.ranges.specs.Steps.{IsBeside, KeepsBesideMemory, SameButMemory, SameTables, ReturnsTables, ReturnsRowTables, ReturnsSlots, Clears, LacksHolder, ReturnsSeat}
+use Rattle.ranges.proofs.{Returning.{same_but-refl}, Sharing.{fit_emptied, owned_emptied}}
 
 -- another memory beside the same regions and places
 pub same_beside : {mode : ℕ} (c : Picture mode) (t : FrameTable) → SameBeside c (record c { frames = t })
-same_beside c t = record {
-  slots = refl;
-  root = λ q. refl;
-  at = λ q page. refl;
-  page_of = λ n. refl;
-  place = λ p. refl;
-  touched = λ p. refl;
-  files = λ f. refl;
-}
+same_beside c t = search rules
 
 pub but_memory : {mode : ℕ} (a b : Picture mode) → SameBeside a b → SameButMemory a b
-but_memory a b beside = record {
-  root = beside.root;
-  at = beside.at;
-  page_of = beside.page_of;
-  place = beside.place;
-  touched = beside.touched;
-  files = beside.files;
-}
+but_memory a b beside = search rules
 
 pub but_then : {mode : ℕ} (a b c : Picture mode) → SameButMemory a b → SameButMemory b c → SameButMemory a c
-but_then a b c one two = record {
-  root = λ q. two.root q ∙ one.root q;
-  at = λ q page. two.at q page ∙ one.at q page;
-  page_of = λ n. two.page_of n ∙ one.page_of n;
-  place = λ p. two.place p ∙ one.place p;
-  touched = λ p. two.touched p ∙ one.touched p;
-  files = λ f. two.files f ∙ one.files f;
-}
+but_then a b c one two = search rules
 
 pub rest-refl : {M : Type 0} {m : Levels.Ghosts M} → {D E : Type 0} (c : Core D E M m) → KeepsBesideMemory c c
 rest-refl c = record { store = refl; pages = refl; cache = refl; roots = refl; regions = refl; page_of = refl }
 
 pub rest_then : {M : Type 0} {m : Levels.Ghosts M} → {D E : Type 0} (a b c : Core D E M m) → KeepsBesideMemory a b → KeepsBesideMemory b c → KeepsBesideMemory a c
-rest_then a b c one two = record {
-  store = two.store ∙ one.store;
-  pages = two.pages ∙ one.pages;
-  cache = two.cache ∙ one.cache;
-  roots = two.roots ∙ one.roots;
-  regions = two.regions ∙ one.regions;
-  page_of = two.page_of ∙ one.page_of;
-}
+rest_then a b c one two = search rules
 
 pub tables-refl : (t : FrameTable) → SameTables t t
 tables-refl t = record { tables = λ n. (λ x. x, λ x. x); pointers = λ n i m. (λ p. p, λ p. p) }
@@ -80,21 +37,42 @@ tables_then a b c one two = record {
   pointers = λ n i m. (λ p. (two.pointers n i m).0 ((one.pointers n i m).0 p), λ p. (one.pointers n i m).1 ((two.pointers n i m).1 p));
 }
 
-pub returned-refl : {mode : ℕ} (c : Picture mode) (pid : ℕ) → ReturnsTables c c pid
-returned-refl c pid = record { tables = λ n table. inl table; free = λ n e. e; copies = λ n e. e; pointers = λ n i m p. p }
-
 module _ {mode : ℕ} where
-  pub returned_then : (a b c : Picture mode) (pid : ℕ) → SameButMemory a b → ReturnsTables a b pid → ReturnsTables b c pid → ReturnsTables a c pid
-  returned_then a b c pid beside one two = record {
+  -- what was given back for pages of a row was for pages of a longer one
+  pub returned_wider : (a b : Picture mode) (pid low high low' high' : ℕ) → ((p : ℕ) → low ≤ p → p < high → (low' ≤ p) × (p < high'))
+      → ReturnsRowTables a b pid low high → ReturnsRowTables a b pid low' high'
+  returned_wider a b pid low high low' high' wider one = record {
+    tables = λ n table. elim (one.tables n table) [
+      | inl still ↦ inl still
+      | inr gone ↦ (let on = gone.1 in let at = wider on.1 on.4 on.5 in inr (gone.0, (on.0, on.1, on.2, on.3, at.0, at.1)))
+    ];
+    free = one.free;
+    copies = one.copies;
+    pointers = one.pointers;
+  }
+
+  pub returned_any : (a b : Picture mode) (pid low high : ℕ) → ReturnsRowTables a b pid low high → ReturnsTables a b pid
+  returned_any a b pid low high one = record {
+    tables = λ n table. elim (one.tables n table) [
+      | inl still ↦ inl still
+      | inr gone ↦ (let on = gone.1 in inr (gone.0, (on.0, on.1, on.2, on.3)))
+    ];
+    free = one.free;
+    copies = one.copies;
+    pointers = one.pointers;
+  }
+
+  pub returned_then : (a b c : Picture mode) (pid low high : ℕ) → SameButMemory a b → ReturnsRowTables a b pid low high → ReturnsRowTables b c pid low high
+      → ReturnsRowTables a c pid low high
+  returned_then a b c pid low high beside one two = record {
     tables = λ n table. elim (one.tables n table) [
       | inr gone ↦ inr (two.free n gone.0, gone.1)
       | inl still ↦ elim (two.tables n still) [
         | inl now ↦ inl now
         | inr gone ↦ (
-            let below = gone.1.3 in
-            let root : a.root pid ≡ Some gone.1.0 = sym (beside.root pid) ∙ gone.1.2 in
-            let way = way_forth b.frames a.frames one.pointers (top_level mode) gone.1.0 gone.1.1 (suc below.0) n below.2 in
-            inr (gone.0, (gone.1.0, gone.1.1, root, (below.0, below.1, way))))
+            let on = gone.1 in
+            let way = way_forth b.frames a.frames one.pointers (top_level mode) on.0 on.1 (suc on.3.0) n on.3.2 in
+            inr (gone.0, (on.0, on.1, sym (beside.root pid) ∙ on.2, (on.3.0, on.3.1, way), on.4, on.5)))
       ]
     ];
     free = λ n e. two.free n (one.free n e);
@@ -102,28 +80,41 @@ module _ {mode : ℕ} where
     pointers = λ n i m p. one.pointers n i m (two.pointers n i m p);
   }
 
--- no own copy in a slot
-pub slots_none : {mode : ℕ} (old new : Picture mode) (pid low high : ℕ) → new.slots ≡ old.slots
-    → ((page : ℕ) → IsPage (top_level mode) page → low ≤ page → page < high → entry old pid page ≡ 0) → ReturnsSlots old new pid low high
-slots_none old new pid low high same none = record {
-  total = ap (λ t. t.total) same;
-  fewer = λ k. (let e = ap (λ t. t.count k) same in omega (arith, e));
-  given = λ k page h least below is. (let bad : None ≡ Some (InSlot k) = sym (ap seat (none page h least below) ∙ seat-none) ∙ is in (cc));
-  kept = λ k other. ap (λ t. t.count k) same;
-  bytes = λ k used. ap (λ t. t.bytes k) same;
-}
-
 -- pages that had no entries
 pub clears_none : {mode : ℕ} (c : Picture mode) (pid low high : ℕ) → ((page : ℕ) → IsPage (top_level mode) page → low ≤ page → page < high → entry c pid page ≡ 0) → Clears c c pid low high
 clears_none c pid low high none = record {
   beside = same_but-refl c;
-  returned = returned-refl c pid;
-  slots = slots_none c c pid low high refl none;
+  returned = record { tables = λ n table. inl table; free = λ n e. e; copies = λ n e. e; pointers = λ n i m p. p };
+  slots = record {
+    total = refl;
+    fewer = λ k. omega arith;
+    given = λ k page h least below is. (let bad : None ≡ Some (InSlot k) = sym (ap seat (none page h least below) ∙ seat-none) ∙ is in (cc));
+    kept = λ k other. refl;
+    bytes = λ k used. refl;
+  };
   gone = none;
   kept = λ q page h out. refl;
   views = λ q page out. refl;
   held = λ p. refl;
 }
+
+-- a page is beside a row of a process or in it, and not both
+pub by_row : (pid low high q page : ℕ) → IsBeside pid low high q page ⊎ ((q ≡ pid) × (low ≤ page) × (page < high))
+by_row pid low high q page = elim (cases_eq q pid) [
+  | inr ne ↦ inl (inl ne)
+  | inl is ↦ elim (cases_lt page low) [
+    | inl before ↦ inl (inr (inl before))
+    | inr from ↦ elim (cases_lt page high) [
+      | inl below ↦ inr (is, from, below)
+      | inr past ↦ inl (inr (inr past))
+    ]
+  ]
+]
+
+pub not_beside : (pid low high q page : ℕ) → IsBeside pid low high q page → q ≡ pid → low ≤ page → page < high → ⊥
+not_beside pid low high q page (inl ne) is from below = ne is
+not_beside pid low high q page (inr (inl before)) is from below = omega (arith, before, from)
+not_beside pid low high q page (inr (inr past)) is from below = omega (arith, past, below)
 
 pub out_front : (pid low mid high q page : ℕ) → mid ≤ high → IsBeside pid low high q page → IsBeside pid low mid q page
 out_front pid low mid high q page le (inl ne) = inl ne
@@ -135,9 +126,9 @@ out_back pid low mid high q page le (inl ne) = inl ne
 out_back pid low mid high q page le (inr (inl below)) = inr (inl (omega (arith, le, below)))
 out_back pid low mid high q page le (inr (inr above)) = inr (inr above)
 
--- a process has a slot at one page at most
-pub one_page : {mode : ℕ} (c : Picture mode) (pid k p q : ℕ) → IsFit c → IsPage (top_level mode) p → IsPage (top_level mode) q → seat (entry c pid p) ≡ Some (InSlot k) → seat (entry c pid q) ≡ Some (InSlot k) → p ≡ q
-one_page c pid k p q fit hp hq here there = sym (fit.counted.1.noted pid p (InSlot k) hp here) ∙ fit.counted.1.noted pid q (InSlot k) hq there
+-- a process has a seat at one page at most
+pub one_page : {mode : ℕ} (c : Picture mode) (pid p q : ℕ) (y : Seat) → IsFit c → IsPage (top_level mode) p → IsPage (top_level mode) q → seat (entry c pid p) ≡ Some y → seat (entry c pid q) ≡ Some y → p ≡ q
+one_page c pid p q y fit hp hq here there = sym (fit.counted.1.noted pid p y hp here) ∙ fit.counted.1.noted pid q y hq there
 
 slots_then : {mode : ℕ} (a b c : Picture mode) (pid low mid high : ℕ) → IsFit a → low ≤ mid → mid ≤ high
     → ((page : ℕ) → IsPage (top_level mode) page → mid ≤ page → page < high → entry b pid page ≡ entry a pid page)
@@ -149,11 +140,11 @@ slots_then a b c pid low mid high fit le le' same one two = record {
     | inl front ↦ (
         let first = one.given k page h least front is in
         let second : c.slots.count k ≡ b.slots.count k = two.kept k (λ q hq from under there.
-        (let p : page ≡ q = one_page a pid k page q fit h hq is (sym (ap seat (same q hq from under)) ∙ there) in omega (arith, p, front, from))) in
+        (let p : page ≡ q = one_page a pid page q (InSlot k) fit h hq is (sym (ap seat (same q hq from under)) ∙ there) in omega (arith, p, front, from))) in
         omega (arith, first, second))
     | inr back ↦ (
         let first : b.slots.count k ≡ a.slots.count k = one.kept k (λ q hq from under there.
-        (let p : page ≡ q = one_page a pid k page q fit h hq is there in omega (arith, p, back, under))) in
+        (let p : page ≡ q = one_page a pid page q (InSlot k) fit h hq is there in omega (arith, p, back, under))) in
         let second = two.given k page h back below (ap seat (same page h back below) ∙ is) in
         omega (arith, first, second))
   ];
@@ -168,7 +159,9 @@ slots_then a b c pid low mid high fit le le' same one two = record {
 pub clears_then : {mode : ℕ} (a b c : Picture mode) (pid low mid high : ℕ) → IsFit a → low ≤ mid → mid ≤ high → Clears a b pid low mid → Clears b c pid mid high → Clears a c pid low high
 clears_then a b c pid low mid high fit le le' one two = record {
   beside = but_then a b c one.beside two.beside;
-  returned = returned_then a b c pid one.beside one.returned two.returned;
+  returned = returned_then a b c pid low high one.beside
+      (returned_wider a b pid low mid low high (λ p least below. (least, omega (arith, below, le'))) one.returned)
+      (returned_wider b c pid mid high low high (λ p least below. (omega (arith, le, least), below)) two.returned);
   slots = slots_then a b c pid low mid high fit le le' (λ page h from below. one.kept pid page h (inr (inr from))) one.slots two.slots;
   gone = λ page h least below. elim (cases_lt page mid) [
     | inl front ↦ two.kept pid page h (inr (inl front)) ∙ one.gone page h least front

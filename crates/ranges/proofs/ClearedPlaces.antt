@@ -1,96 +1,94 @@
 -- A page without its entry, which stood at a place of a lowest table.
-use Rattle.vm_types.specs.Limits.{top_level, user_end}
-use Rattle.std.proofs.Common.{◌≡◌, ◌≢◌, ℕ, inl, inr, ◌+◌, ◌/◌, ◌%◌, ◌<◌, ◌≤◌, Some, sym, ◌∙◌, subst, arith}
-use Rattle.std.proofs.lemmas.Bool.{cases_eq}
+use Rattle.vm_types.specs.Limits.{top_level}
+use Rattle.std.proofs.{Common.{◌≡◌, ◌≢◌, ℕ, inl, inr, ◌+◌, ◌/◌, ◌%◌, ◌<◌, ◌≤◌, sym, ◌∙◌, subst, arith}, lemmas.Bool.{cases_eq}}
 use Rattle.frames.specs.FrameTable.{FrameTable}
-use Rattle.page_tables.specs.Change.{SetsEntry}
-use Rattle.page_tables.specs.Entry.{IsPageEntry}
-use Rattle.page_tables.specs.Tree.{IsPage, IsRoot, page_entry}
-use Rattle.page_tables.specs.Places.{IsTableOf}
+use Rattle.page_tables.specs.{Change.{SetsEntry}, Entry.{IsPageEntry}, Tree.{IsPage, IsRoot, page_entry}, Places.{IsTableOf}}
 use Rattle.page_tables.proofs.Ends.{page_is_entry}
-use Rattle.residency.specs.Seats.{seat}
-use Rattle.residency.specs.Picture.{Picture, entry}
-use Rattle.residency.specs.Parts.{IsFit}
+use Rattle.residency.specs.{Seats.{seat}, Picture.{Picture, entry}}
 use Rattle.residency.proofs.Entries.{entry-of}
-use Rattle.ranges.specs.Steps.{Clears, LacksHolder, ReturnsSeat, SameTables}
-use Rattle.ranges.proofs.BetweenEntries.{place_at, row_at, none_at}
-use Rattle.ranges.proofs.ClearedPages.{same_beside, clears_none, lacks_out, tables_page, places_page, clears_page}
-use Rattle.ranges.proofs.Gaps.{user_inside}
+use Rattle.ranges.specs.{declared.rows.TableRow.{TableRow}, RowsCleared.{HoldsPlaces}, Steps.{Clears, LacksHolder, ReturnsSeat, SameTables}}
+use Rattle.ranges.proofs.{BetweenEntries.{place_at, row_at}, ClearedPages.{same_beside, lacks_out, tables_page, places_page, clears_page}, Gaps.{user_inside}}
 
--- The page of place `index` in the row that begins with page `first`, whose entry is the number e.
-module _ {mode : ℕ} (old : Picture mode) (pid r n first index end e : ℕ) (fit : IsFit old) (root : old.root pid ≡ Some r)
-    (row : IsTableOf old.frames (top_level mode) r (first / 512) n) (begins : first % 512 ≡ 0) (below : index < end) (in_table : end ≤ 512)
-    (high : first + end ≤ user_end mode)
-    (reads : (root page : ℕ) → IsTableOf old.frames (top_level mode) root (page / 512) n → page % 512 ≡ index → e ≡ page_entry old.frames (top_level mode) root page) where
+-- The place after one without an entry, from which on a search goes, is a later one.
+pub past : {mode : ℕ} (c : Picture mode) (r n first index end e next : ℕ) → IsTableOf c.frames (top_level mode) r (first / 512) n → first % 512 ≡ 0 → index < end → end ≤ 512
+    → ((root page : ℕ) → IsTableOf c.frames (top_level mode) root (page / 512) n → page % 512 ≡ index → e ≡ page_entry c.frames (top_level mode) root page) → e ≡ 0 → index ≤ next
+    → ((root p : ℕ) → IsTableOf c.frames (top_level mode) root (p / 512) n → p % 512 ≡ next → next < end → page_entry c.frames (top_level mode) root p ≢ 0) → index < next
+past {mode = mode} c r n first index end e next row begins below in_table reads none from found = elim (cases_eq index next) [
+  | inl same ↦ (
+      let place : index < 512 = omega (arith, below, in_table) in
+      let at = place_at first index begins place in
+      let P : ℕ → Type 0 = λ x. IsTableOf c.frames (top_level mode) r x n in
+      let table = subst P (row_at first index begins place) row in
+      absurd (found r (first + index) table (at ∙ same) (omega (arith, below, same)) (sym (reads r (first + index) table at) ∙ none)))
+  | inr ne ↦ omega (arith, from, ne)
+]
+
+-- what the page at a place of a table row without its entry comes to
+module _ {mode : ℕ} where
+  pub record IsTakenOut (old new : Picture mode) (row : TableRow) (index : ℕ) : Type 0 where
+    pub clears : Clears old new row.pid (row.first + index) (row.first + (index + 1))
+    pub tables : SameTables old.frames new.frames
+    pub places : (q m : ℕ) → IsTableOf old.frames (top_level mode) row.root.0 q m → IsTableOf new.frames (top_level mode) row.root.0 q m
+
+-- The page of place `index` of a table row, whose entry is the number e.
+module _ {mode : ℕ} (old : Picture mode) (row : TableRow) (index end e : ℕ) (holds : HoldsPlaces old row end) (below : index < end)
+    (reads : (root page : ℕ) → IsTableOf old.frames (top_level mode) root (page / 512) row.table.0 → page % 512 ≡ index → e ≡ page_entry old.frames (top_level mode) root page) where
   abbrev page : ℕ
-  page = first + index
+  page = row.first + index
 
   place : index < 512
-  place = omega (arith, below, in_table)
+  place = let most = holds.in_table in omega (arith, below, most)
 
   at : page % 512 ≡ index
-  at = place_at first index begins place
+  at = place_at row.first index holds.begins place
 
-  table : IsTableOf old.frames (top_level mode) r (page / 512) n
-  table = let P : ℕ → Type 0 = λ x. IsTableOf old.frames (top_level mode) r x n in subst P (row_at first index begins place) row
+  table : IsTableOf old.frames (top_level mode) row.root.0 (page / 512) row.table.0
+  table = let P : ℕ → Type 0 = λ x. IsTableOf old.frames (top_level mode) row.root.0 x row.table.0 in subst P (row_at row.first index holds.begins place) holds.place
 
   inside : IsPage (top_level mode) page
-  inside = user_inside mode page (first + end) (omega (arith, below)) high
+  inside = user_inside mode page (row.first + end) (omega (arith, below)) holds.high
 
-  is : e ≡ entry old pid page
-  is = reads r page table at ∙ sym (entry-of old pid r page root)
+  is : e ≡ entry old row.pid page
+  is = reads row.root.0 page table at ∙ sym (entry-of old row.pid row.root.0 page holds.root)
 
-  is_root : IsRoot (top_level mode) old.frames r
-  is_root = fit.rooted.roots pid r root
+  is_root : IsRoot (top_level mode) old.frames row.root.0
+  is_root = holds.fit.rooted.roots row.pid row.root.0 holds.root
 
   pub form_at : IsPageEntry e
   form_at = let P : ℕ → Type 0 = λ x. IsPageEntry x in
-      subst P (sym (reads r page table at)) (page_is_entry old.frames (top_level mode) r page fit.rooted.forest is_root)
+      subst P (sym (reads row.root.0 page table at)) (page_is_entry old.frames (top_level mode) row.root.0 page holds.fit.rooted.forest is_root)
 
-  pub placed_at : (root page : ℕ) × IsRoot (top_level mode) old.frames root × IsPage (top_level mode) page × IsTableOf old.frames (top_level mode) root (page / 512) n × (page % 512 ≡ index)
-  placed_at = (r, page, is_root, inside, table, at)
-
-  -- the place had none, nor had those after it up to the next
-  module _ (next : ℕ) (none : e ≡ 0) (from : index ≤ next) (within : next ≤ end)
-      (passed : (root p : ℕ) → IsTableOf old.frames (top_level mode) root (p / 512) n → index ≤ p % 512 → p % 512 < next → page_entry old.frames (top_level mode) root p ≡ 0)
-      (found : (root p : ℕ) → IsTableOf old.frames (top_level mode) root (p / 512) n → p % 512 ≡ next → next < end → page_entry old.frames (top_level mode) root p ≢ 0) where
-    pub past : index < next
-    past = elim (cases_eq index next) [
-      | inl same ↦ absurd (found r page table (at ∙ same) (omega (arith, below, same)) (sym (reads r page table at) ∙ none))
-      | inr ne ↦ omega (arith, from, ne)
-    ]
-
-    pub clears_passed : Clears old old pid page (first + next)
-    clears_passed = clears_none old pid page (first + next)
-        (λ p h least under. none_at old pid r n first index next root row begins (omega (arith, within, in_table)) passed p least under)
+  pub placed_at : (root page : ℕ) × IsRoot (top_level mode) old.frames root × IsPage (top_level mode) page × IsTableOf old.frames (top_level mode) root (page / 512) row.table.0 × (page % 512 ≡ index)
+  placed_at = (row.root.0, page, is_root, inside, table, at)
 
   -- it was taken out
   module _ (t : FrameTable)
-      (set : (root page : ℕ) → IsRoot (top_level mode) old.frames root → IsPage (top_level mode) page → IsTableOf old.frames (top_level mode) root (page / 512) n → page % 512 ≡ index
+      (set : (root page : ℕ) → IsRoot (top_level mode) old.frames root → IsPage (top_level mode) page → IsTableOf old.frames (top_level mode) root (page / 512) row.table.0 → page % 512 ≡ index
       → SetsEntry old.frames t (top_level mode) root page 0) where
     abbrev mid : Picture mode
     mid = record old { frames = t }
 
-    sets : SetsEntry old.frames t (top_level mode) r page 0
-    sets = set r page is_root inside table at
+    sets : SetsEntry old.frames t (top_level mode) row.root.0 page 0
+    sets = set row.root.0 page is_root inside table at
 
     pub lacks_at : LacksHolder mid (seat e)
     lacks_at = let P : ℕ → Type 0 = λ x. LacksHolder mid (seat x) in
-        subst P (sym is) (lacks_out old mid pid r page fit root inside sets (same_beside old t))
+        subst P (sym is) (lacks_out old mid row.pid row.root.0 page holds.fit holds.root inside sets (same_beside old t))
 
     -- and the share of what it named was given back
     module _ (new : Picture mode) (gives : ReturnsSeat mid new (seat e)) where
-      given : ReturnsSeat mid new (seat (entry old pid page))
+      given : ReturnsSeat mid new (seat (entry old row.pid page))
       given = let P : ℕ → Type 0 = λ x. ReturnsSeat mid new (seat x) in subst P is gives
 
-      pub clears_at : Clears old new pid page (first + (index + 1))
+      clears_at : Clears old new row.pid page (row.first + (index + 1))
       clears_at =
-          let next : page + 1 ≡ first + (index + 1) = omega arith in
-          let P : ℕ → Type 0 = λ x. Clears old new pid page x in
-          subst P next (clears_page old mid pid r page fit root inside sets (same_beside old t) new given)
+          let next : page + 1 ≡ row.first + (index + 1) = omega arith in
+          let P : ℕ → Type 0 = λ x. Clears old new row.pid page x in
+          subst P next (clears_page old mid row.pid row.root.0 page holds.fit holds.root inside sets (same_beside old t) new given)
 
-      pub tables_at : SameTables old.frames new.frames
-      tables_at = tables_page old mid pid r page fit root inside sets (same_beside old t) new given
-
-      pub places_at : (row m : ℕ) → IsTableOf old.frames (top_level mode) r row m → IsTableOf new.frames (top_level mode) r row m
-      places_at = places_page old mid pid r page fit root inside sets (same_beside old t) new given
+      pub taken_at : IsTakenOut old new row index
+      taken_at = record {
+        clears = clears_at;
+        tables = tables_page old mid row.pid row.root.0 page holds.fit holds.root inside sets (same_beside old t) new given;
+        places = places_page old mid row.pid row.root.0 page holds.fit holds.root inside sets (same_beside old t) new given;
+      }

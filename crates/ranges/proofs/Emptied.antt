@@ -1,19 +1,14 @@
 -- Rows without entries: what the processes see.
-use Rattle.vm_types.specs.Limits.{user_end, top_level}
+use Rattle.vm_types.specs.{Limits.{user_end, top_level}, declared.region.Attr.{Attr}, Rows.{in_row}}
 use Rattle.vm_types.proofs.Modes.{sizes, user_pages_fit}
-use Rattle.std.proofs.Common.{◌≡◌, ℕ, inl, inr, ◌⊎◌, ◌+◌, ◌<◌, ◌≤◌, true, false, List, Option, Some, None, refl, sym, ap, ◌∙◌, arith}
-use Rattle.std.specs.Prelude.{leb, ltb, is_some, option_map}
-use Rattle.std.proofs.lemmas.Bool.{cases_lt, cases_Bool, and_parts, and_cases, leb-true, leb-false, ltb-true, ltb-false}
-use Rattle.vm_types.specs.declared.region.Attr.{Attr}
-use Rattle.vm_types.specs.Rows.{in_row}
+use Rattle.std.proofs.{Common.{◌≡◌, ℕ, inl, inr, ◌⊎◌, ◌+◌, ◌<◌, ◌≤◌, true, false, List, Option, Some, None, refl, sym, ap, ◌∙◌, arith}, lemmas.Bool.Decides.{nat_tests}}
+use Rattle.std.proofs.lemmas.Bool.{cases_lt, cases_Bool, and_parts, and_cases, leb-true, leb-false, ltb-true, ltb-false, false≢true}
+use Rattle.std.specs.Prelude.{leb, ltb, is_some, max, option_map}
 use Rattle.page_tables.specs.Tree.{IsPage}
-use Rattle.residency.specs.Seats.{InSlot, seat}
-use Rattle.residency.specs.Picture.{Picture, entry, own_in, view_of, view, bytes_in}
-use Rattle.residency.specs.Parts.{IsEntryFor, Nothing, Resident, Away, IsUsed, AsRoot, OnWay, IsGranting, IsFit}
+use Rattle.residency.specs.{Seats.{InSlot, seat}, Picture.{Picture, entry, own_in, view_of, view, bytes_in}, Parts.{IsEntryFor, Nothing, Resident, Away, IsUsed, AsRoot, OnWay, IsGranting, IsFit}, Shows.{KeepsFiles}}
 use Rattle.residency.proofs.Start.{seat-none}
-use Rattle.residency.specs.Shows.{KeepsFiles}
-use Rattle.ranges.specs.Rows.{plain, RemapsRow}
-use Rattle.ranges.specs.Steps.{IsBeside, ReturnsSlots, Clears, IsMappedBeside, IsWithoutTables, IsCleared}
+use Rattle.ranges.specs.{Rows.{plain, RemapsRow}, Steps.{IsBeside, ReturnsRowTables, ReturnsSlots, Clears, IsMappedBeside, IsWithoutTables, IsCleared}}
+use Rattle.ranges.proofs.ClearedPages.{by_row, not_beside, returned_wider}
 
 view_plain : (own : Option (List ℕ)) (o : Option Attr) → own ≡ None → view_of own o ≡ option_map plain o
 view_plain own None none = refl
@@ -53,109 +48,88 @@ row_out first pages page e = elim (and_cases (leb first page) (ltb page (first +
   | inr high ↦ inr (ltb-false page (first + pages) high)
 ]
 
+-- a page between two is one of the row
+pub in_row_from : (first pages k : ℕ) → first ≤ k → k < first + pages → in_row first pages k ≡ true
+in_row_from first pages k low high = grind (arith, nat_tests)
+
 -- the user pages of a row are pages of the tree
 pub pages_inside : (mode first pages page : ℕ) → first + pages ≤ user_end mode → in_row first pages page ≡ true → IsPage (top_level mode) page
 pages_inside mode first pages page row e = let parts = row_parts first pages page e in let fits = user_pages_fit mode in omega (arith, parts, row, fits)
 
+-- what the pages of a row come to, once they are cleared
+module _ {mode : ℕ} where
+  pub record IsRowCleared (old new : Picture mode) (pid first pages : ℕ) : Type 0 where
+    pub row : RemapsRow old new pid first pages (old.at pid)
+    pub files : KeepsFiles old new
+    pub returned : ReturnsRowTables old new pid first (first + pages)
+    pub none_left : IsWithoutTables new pid first (first + pages)
+    pub slots : ReturnsSlots old new pid first (first + pages)
+
 -- the pages from low to high are the user pages of a row
 module _ {mode : ℕ} (old new : Picture mode) (pid first pages low high : ℕ) (fit : IsFit old) (granting : IsGranting new) (clears : Clears old new pid low high)
-    (row : first + pages ≤ user_end mode) (start : low ≤ high) (begins : (low ≡ first) ⊎ ((low ≡ 16) × (first < 16))) (reaches : first + pages ≤ high)
-    (ends : (high ≡ low) ⊎ (high ≡ first + pages)) where
+    (row : first + pages ≤ user_end mode) (begins : low ≡ max first 16) (ends : high ≡ max low (first + pages)) where
   entry_gone : (page : ℕ) → in_row first pages page ≡ true → entry new pid page ≡ 0
   entry_gone page e =
       let at = row_parts first pages page e in
       elim (cases_lt page low) [
-        | inl before ↦ low_zero new pid page granting (elim begins [
-          | inl is ↦ absurd (omega (arith, is, before, at.0))
-          | inr is ↦ (let l = is.0 in omega (arith, before, l))
-        ])
-        | inr from ↦ (
-            let h : IsPage (top_level mode) page = (let fits = user_pages_fit mode in omega (arith, at.1, row, fits)) in
-            clears.gone page h from (omega (arith, at.1, reaches)))
+        | inl before ↦ low_zero new pid page granting (omega (arith, begins, before, at))
+        | inr from ↦ clears.gone page (pages_inside mode first pages page row e) from (omega (arith, at, ends))
       ]
+
+  inside_row : (page : ℕ) → low ≤ page → page < high → (first ≤ page) × (page < first + pages)
+  inside_row page from below = (omega (arith, begins, from), omega (arith, from, below, ends))
 
   beside_row : (page : ℕ) → in_row first pages page ≡ false → IsBeside pid low high pid page
-  beside_row page e = elim (row_out first pages page e) [
-    | inl below ↦ inr (inl (elim begins [
-      | inl is ↦ omega (arith, is, below)
-      | inr is ↦ (let l = is.0 in let f = is.1 in omega (arith, below, l, f))
-    ]))
-    | inr above ↦ elim ends [
-      | inl none ↦ elim (cases_lt page low) [
-        | inl lower ↦ inr (inl lower)
-        | inr upper ↦ inr (inr (omega (arith, upper, none)))
-      ]
-      | inr is ↦ inr (inr (omega (arith, above, is)))
-    ]
+  beside_row page e = elim (by_row pid low high pid page) [
+    | inl out ↦ out
+    | inr inside ↦ (let at = inside_row page inside.1 inside.2 in absurd (false≢true (sym e ∙ in_row_from first pages page at.0 at.1)))
   ]
-
-  pub remaps_cleared : RemapsRow old new pid first pages (old.at pid)
-  remaps_cleared = record {
-    root = clears.beside.root;
-    at = λ page. clears.beside.at pid page;
-    others_at = λ q page ne. clears.beside.at q page;
-    entries = entry_gone;
-    kept = λ page h e. clears.kept pid page h (beside_row page e);
-    views = λ page. elim (cases_Bool (in_row first pages page)) [
-      | inl e ↦ rw e (view-bare new pid page (entry_gone page e) ∙ ap (option_map plain) (clears.beside.at pid page))
-      | inr e ↦ rw e (clears.views pid page (beside_row page e))
-    ];
-    others = λ q page ne. clears.views q page (inl ne);
-  }
-
-  pub files_cleared : KeepsFiles old new
-  files_cleared = record { held = λ p. inl (clears.held p); touched = clears.beside.touched; files = clears.beside.files }
 
   seated_inside : (k page : ℕ) → first ≤ page → page < first + pages → seat (entry old pid page) ≡ Some (InSlot k) → low ≤ page
   seated_inside k page from below is = elim (cases_lt page low) [
     | inr inside ↦ inside
     | inl before ↦ (
-        let under : page < 16 = elim begins [
-          | inl e ↦ absurd (omega (arith, e, before, from))
-          | inr e ↦ (let l = e.0 in omega (arith, before, l))
-        ] in
-        let none : seat (entry old pid page) ≡ None = ap seat (low_zero old pid page fit.granting under) ∙ seat-none in
+        let none : seat (entry old pid page) ≡ None = ap seat (low_zero old pid page fit.granting (omega (arith, begins, before, from))) ∙ seat-none in
         let bad : None ≡ Some (InSlot k) = sym none ∙ is in (cc))
   ]
 
-  inside_row : (page : ℕ) → low ≤ page → page < high → (first ≤ page) × (page < first + pages)
-  inside_row page from below = (
-    elim begins [
-      | inl e ↦ omega (arith, e, from)
-      | inr e ↦ (let l = e.0 in let f = e.1 in omega (arith, l, f, from))
-    ],
-    elim ends [
-      | inl none ↦ absurd (omega (arith, none, from, below))
-      | inr e ↦ omega (arith, e, below)
-    ],
-  )
-
-  pub slots_cleared : ReturnsSlots old new pid first (first + pages)
-  slots_cleared = record {
-    total = clears.slots.total;
-    fewer = clears.slots.fewer;
-    given = λ k page h from below is. clears.slots.given k page h (seated_inside k page from below is) (omega (arith, below, reaches)) is;
-    kept = λ k other. clears.slots.kept k (λ page h from below. (let row' = inside_row page from below in other page h row'.0 row'.1));
-    bytes = clears.slots.bytes;
-  }
-
-  pub tables_cleared : IsCleared new pid low high → IsWithoutTables new pid first (first + pages)
-  tables_cleared cleared m table = by_use (cleared.tables m table)
+  none_left : IsCleared new pid low high → IsWithoutTables new pid first (first + pages)
+  none_left cleared m table = by_use (cleared.tables m table)
     where
       beside_it : (q p : ℕ) → IsMappedBeside new pid low high q p → IsBeside pid first (first + pages) q p
-      beside_it q p here = elim here.1 [
-        | inl ne ↦ inl ne
-        | inr side ↦ elim side [
-          | inl below ↦ (
-              let user = ((granting.user q).user_pages p here.0).0 in
-              inr (inl (elim begins [
-                | inl e ↦ omega (arith, e, below)
-                | inr e ↦ (let l = e.0 in absurd (omega (arith, below, l, user)))
-              ])))
-          | inr past ↦ inr (inr (omega (arith, past, reaches)))
-        ]
+      beside_it q p here = elim (by_row pid first (first + pages) q p) [
+        | inl out ↦ out
+        | inr inside ↦ (
+            let user = ((granting.user q).user_pages p here.0).0 in
+            absurd (not_beside pid low high q p here.1 inside.0 (omega (arith, begins, inside, user)) (omega (arith, inside, ends))))
       ]
 
       by_use : IsUsed new (IsMappedBeside new pid low high) m → IsUsed new (IsMappedBeside new pid first (first + pages)) m
       by_use (AsRoot q is) = AsRoot q is
       by_use (OnWay q x p is here below) = OnWay q x p is (here.0, beside_it q p here) below
+
+  pub row_cleared : IsCleared new pid low high → IsRowCleared old new pid first pages
+  row_cleared cleared = record {
+    row = record {
+      root = clears.beside.root;
+      at = λ page. clears.beside.at pid page;
+      others_at = λ q page ne. clears.beside.at q page;
+      entries = entry_gone;
+      kept = λ page h e. clears.kept pid page h (beside_row page e);
+      views = λ page. elim (cases_Bool (in_row first pages page)) [
+        | inl e ↦ rw e (view-bare new pid page (entry_gone page e) ∙ ap (option_map plain) (clears.beside.at pid page))
+        | inr e ↦ rw e (clears.views pid page (beside_row page e))
+      ];
+      others = λ q page ne. clears.views q page (inl ne);
+    };
+    files = record { held = λ p. inl (clears.held p); touched = clears.beside.touched; files = clears.beside.files };
+    returned = returned_wider old new pid low high first (first + pages) inside_row clears.returned;
+    none_left = none_left cleared;
+    slots = record {
+      total = clears.slots.total;
+      fewer = clears.slots.fewer;
+      given = λ k page h from below is. clears.slots.given k page h (seated_inside k page from below is) (omega (arith, below, ends)) is;
+      kept = λ k other. clears.slots.kept k (λ page h from below. (let row' = inside_row page from below in other page h row'.0 row'.1));
+      bytes = clears.slots.bytes;
+    };
+  }

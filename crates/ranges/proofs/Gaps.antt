@@ -2,17 +2,12 @@
 use Rattle.vm_types.specs.Limits.{top_level, user_end}
 use Rattle.vm_types.proofs.Modes.{user_pages_fit}
 use Rattle.std.proofs.Common.{◌≡◌, ◌≢◌, ℕ, ◌+◌, ◌*◌, ◌/◌, ◌^◌, ◌≤◌, ◌<◌, Some, sym, ap, ◌∙◌, subst, arith}
-use Rattle.std.specs.Prelude.{min, max, Option, None, is_some, true}
-use Rattle.std.proofs.lemmas.Bool.{false≢true}
+use Rattle.std.specs.Prelude.{min, max, Option, None}
 use Rattle.frames.specs.FrameTable.{FrameTable}
 use Rattle.page_tables.specs.Tree.{IsPage, missing_of}
-use Rattle.page_tables.proofs.Ends.{missing_of-is, page_entry-missing}
-use Rattle.page_tables.proofs.Pages.{same_place}
-use Rattle.page_tables.proofs.Places.{last_in_row}
-use Rattle.page_tables.proofs.Spans.{missing_in_place}
-use Rattle.residency.specs.Picture.{Picture, entry}
+use Rattle.page_tables.proofs.{Ends.{missing_of-is, page_entry-missing}, Pages.{same_place}, Places.{last_in_row}, Spans.{missing_in_place}}
+use Rattle.residency.specs.{Picture.{Picture, entry}, Ways.{IsWhole}}
 use Rattle.residency.proofs.Entries.{entry-of}
-use Rattle.residency.specs.Ways.{IsWhole}
 
 -- on the way to pages of one lowest table as many are missing
 module _ (mode : ℕ) where
@@ -39,10 +34,6 @@ in_span_of start page stop end k from below le is = same_place start page stop k
 -- a user page is one of the tree
 pub user_inside : (mode page end : ℕ) → page < end → end ≤ user_end mode → IsPage (top_level mode) page
 user_inside mode page end some high = let fits = user_pages_fit mode in omega (arith, some, high, fits)
-
--- a live process has a root table
-pub lives : (o : Option ℕ) → is_some o ≡ true → o ≢ None
-lives o live none = false≢true (sym (ap is_some none) ∙ live)
 
 number_or : Option ℕ → ℕ
 number_or None = 0

@@ -1,28 +1,15 @@
 -- Whether a page of an object is named by others than a row, and what forgetting those leaves that aren't.
 use Rattle.vm_types.specs.declared.mode.Levels as Levels
-use Rattle.vm_types.specs.Limits.{widest_end}
-use Rattle.std.proofs.Common.{◌≡◌, ◌≢◌, ℕ, inl, inr, ◌⊎◌, ◌+◌, ◌<◌, ◌≤◌, true, false, Option, Some, None, refl, sym, ap, ◌∙◌, subst, arith, eqb-true, eq-eqb, ne_eqb, ◌==◌}
+use Rattle.vm_types.specs.{Limits.{widest_end}, declared.object.ObjectPage.{ObjectPage}, declared.object.PageKey.{PageKey}, declared.object.PageKey.TheVariants.{Object}, declared.region.Attr.{Attr}, declared.region.Backing.{Backing}}
+use Rattle.vm_types.specs.{declared.region.Backing.TheVariants.{Anon, Private, Shared, Common}, Objects.{Maps, names, is_named, is_object_page}, Rows.{in_row}}
+use Rattle.std.proofs.Common.{◌≡◌, ◌≢◌, ℕ, inl, inr, ◌⊎◌, ◌+◌, ◌<◌, ◌≤◌, true, false, Option, Some, None, refl, sym, ap, ◌∙◌, subst, arith, eqb-true, eq-eqb, ne_eqb, rules, ◌==◌}
 use Rattle.std.proofs.lemmas.Bool.{cases_eq, cases_lt, cases_Bool, false≢true, and_parts}
-use Rattle.vm_types.specs.declared.object.ObjectPage.{ObjectPage}
-use Rattle.vm_types.specs.declared.object.PageKey.{PageKey}
-use Rattle.vm_types.specs.declared.object.PageKey.TheVariants.{Object}
-use Rattle.vm_types.specs.declared.region.Attr.{Attr}
-use Rattle.vm_types.specs.declared.region.Backing.{Backing}
-use Rattle.vm_types.specs.declared.region.Backing.TheVariants.{Anon, Private, Shared, Common}
-use Rattle.vm_types.specs.Objects.{Maps, names, is_named, is_object_page}
-use Rattle.vm_types.specs.Rows.{in_row}
-use Rattle.page_cache.specs.declared.place.Place.{Place}
-use Rattle.page_cache.specs.declared.place.Place.TheVariants.{Home, Frame, Slot}
-use Rattle.residency.specs.declared.kernel.Core.{Core}
-use Rattle.residency.specs.Calls.{KeepsBesidePlaces}
-use Rattle.residency.specs.Picture.{Picture, entry}
-use Rattle.residency.specs.Parts.{IsFit, AreObjects}
-use Rattle.residency.specs.Steps.{Forgets, HasNoEntry}
+use Rattle.page_cache.specs.{declared.place.Place.{Place}, declared.place.Place.TheVariants.{Home, Frame, Slot}}
+use Rattle.residency.specs.{declared.kernel.Core.{Core}, Calls.{KeepsBesidePlaces}, Picture.{Picture, entry}, Parts.{IsFit, AreObjects}, Steps.{Forgets, HasNoEntry}}
 use Rattle.residency.proofs.Places.{cases_page, named-same, named_by}
 use Rattle.ranges.specs.Rows.{IsBareRow, IsLasting, ForgetsMore, ForgetsRow, node_of, without_maps}
-use Rattle.ranges.proofs.Emptied.{row_parts, row_out}
+use Rattle.ranges.proofs.{Emptied.{row_parts}, Named.{named-imp}}
 use Rattle.vm_types.proofs.Naming.{named-at, named-where}
-use Rattle.ranges.proofs.Named.{named-imp}
 
 module _ (mode : ℕ) (at : Maps) (pid first pages : ℕ) where
   beside_same : (q k : ℕ) → (q ≢ pid) ⊎ (in_row first pages k ≡ false) → without_maps at pid first pages q k ≡ at q k
@@ -108,41 +95,43 @@ slot_or (Slot j) k = elim (cases_eq j.0 k) [
 pub more_then : {mode : ℕ} (a b c : Picture mode) (pid first pages : ℕ) (p : ObjectPage) → IsFit b → ForgetsMore a b pid first pages → Forgets b c p
     → is_named (without_maps a.at pid first pages) p.object p.page ≡ false → ForgetsMore a c pid first pages
 more_then a b c pid first pages p fit more forgets unnamed = record {
-  root = λ q. forgets.root q ∙ more.root q;
-  at = λ q page. forgets.at q page ∙ more.at q page;
-  page_of = λ n. forgets.page_of n ∙ more.page_of n;
+  frees = record {
+    root = λ q. forgets.root q ∙ more.root q;
+    at = λ q page. forgets.at q page ∙ more.at q page;
+    page_of = λ n. forgets.page_of n ∙ more.page_of n;
+    entries = λ q page h. forgets.entries q page h ∙ more.entries q page h;
+    views = λ q page. forgets.views q page ∙ more.views q page;
+    frames = forgets.frames ∙ more.frames;
+    roles = λ n. elim (forgets.roles n) [
+      | inl same ↦ elim (more.roles n) [
+        | inl e ↦ inl (same ∙ e)
+        | inr gone ↦ inr (same ∙ gone.0, gone.1)
+      ]
+      | inr free ↦ (
+          let cache = fit.places.cached (Object p) n free.1 in
+          elim (more.roles n) [
+            | inl e ↦ inr (free.0, sym e ∙ cache)
+            | inr gone ↦ inr (free.0, gone.1)
+          ])
+    ];
+    pointers = λ n i m. (λ x. (forgets.pointers n i m).0 ((more.pointers n i m).0 x), λ x. (more.pointers n i m).1 ((forgets.pointers n i m).1 x));
+    total = forgets.total ∙ more.total;
+    fewer = λ k. (let before = more.fewer k in elim (slot_or (b.place (Object p)) k) [
+      | inl is ↦ (let none = forgets.left k is in omega (arith, none))
+      | inr ne ↦ (let same = forgets.counts k ne in omega (arith, same, before))
+    ]);
+    counts = λ k none. forgets.counts k (λ at. elim (more.place (Object p)) [
+      | inl e ↦ none p (sym e ∙ at)
+      | inr home ↦ (let bad : Home ≡ Slot (record { 0 = k }) = sym home ∙ at in (cc))
+    ]) ∙ more.counts k none;
+    bytes = λ k used. (
+        let was : 0 < b.slots.count k = elim (slot_or (b.place (Object p)) k) [
+          | inl is ↦ absurd (let none = forgets.left k is in omega (arith, none, used))
+          | inr ne ↦ (let same = forgets.counts k ne in omega (arith, same, used))
+        ] in
+        forgets.bytes k used ∙ more.bytes k was);
+  };
   files = λ f. forgets.files f ∙ more.files f;
-  entries = λ q page h. forgets.entries q page h ∙ more.entries q page h;
-  views = λ q page. forgets.views q page ∙ more.views q page;
-  frames = forgets.frames ∙ more.frames;
-  roles = λ n. elim (forgets.roles n) [
-    | inl same ↦ elim (more.roles n) [
-      | inl e ↦ inl (same ∙ e)
-      | inr gone ↦ inr (same ∙ gone.0, gone.1)
-    ]
-    | inr free ↦ (
-        let cache = fit.places.cached (Object p) n free.1 in
-        elim (more.roles n) [
-          | inl e ↦ inr (free.0, sym e ∙ cache)
-          | inr gone ↦ inr (free.0, gone.1)
-        ])
-  ];
-  pointers = λ n i m. (λ x. (forgets.pointers n i m).0 ((more.pointers n i m).0 x), λ x. (more.pointers n i m).1 ((forgets.pointers n i m).1 x));
-  total = forgets.total ∙ more.total;
-  fewer = λ k. (let before = more.fewer k in elim (slot_or (b.place (Object p)) k) [
-    | inl is ↦ (let none = forgets.left k is in omega (arith, none))
-    | inr ne ↦ (let same = forgets.counts k ne in omega (arith, same, before))
-  ]);
-  counts = λ k none. forgets.counts k (λ at. elim (more.place (Object p)) [
-    | inl e ↦ none p (sym e ∙ at)
-    | inr home ↦ (let bad : Home ≡ Slot (record { 0 = k }) = sym home ∙ at in (cc))
-  ]) ∙ more.counts k none;
-  bytes = λ k used. (
-      let was : 0 < b.slots.count k = elim (slot_or (b.place (Object p)) k) [
-        | inl is ↦ absurd (let none = forgets.left k is in omega (arith, none, used))
-        | inr ne ↦ (let same = forgets.counts k ne in omega (arith, same, used))
-      ] in
-      forgets.bytes k used ∙ more.bytes k was);
   place = λ q. elim (cases_page q (Object p)) [
     | inl e ↦ inr (ap c.place e ∙ forgets.placed)
     | inr ne ↦ elim (more.place q) [
@@ -158,16 +147,6 @@ more_then a b c pid first pages p fit more forgets unnamed = record {
       let before = more.lasting q is in
       (forgets.others q ne ∙ before.0, forgets.rest q ne ∙ before.1, forgets.held q ne ∙ before.2));
 }
-
--- a page between two is one of the row
-pub in_row_from : (first pages k : ℕ) → first ≤ k → k < first + pages → in_row first pages k ≡ true
-in_row_from first pages k low high = elim (cases_Bool (in_row first pages k)) [
-  | inl t ↦ t
-  | inr f ↦ elim (row_out first pages k f) [
-    | inl below ↦ absurd (omega (arith, low, below))
-    | inr past ↦ absurd (omega (arith, high, past))
-  ]
-]
 
 -- what the maps of a row leave hangs on the maps
 pub without_same : (f g : Maps) (pid first pages : ℕ) (p : ObjectPage) → ((q k : ℕ) → g q k ≡ f q k)
@@ -215,7 +194,7 @@ module _ {mode : ℕ} (a b : Picture mode) (pid first pages frames node : ℕ) (
         ])
   ]
 
-away_or : (x : Place) → (x ≡ Home) ⊎ (x ≢ Home)
+pub away_or : (x : Place) → (x ≡ Home) ⊎ (x ≢ Home)
 away_or Home = inl refl
 away_or (Frame n) = inr (λ e. (cc))
 away_or (Slot k) = inr (λ e. (cc))
@@ -224,18 +203,7 @@ away_or (Slot k) = inr (λ e. (cc))
 forgets_when : {mode : ℕ} (a b : Picture mode) (pid first pages : ℕ) → ForgetsMore a b pid first pages
     → ((p : ObjectPage) → is_named (without_maps a.at pid first pages) p.object p.page ≡ false → b.place (Object p) ≡ Home) → ForgetsRow a b pid first pages
 forgets_when a b pid first pages more home = record {
-  root = more.root;
-  at = more.at;
-  page_of = more.page_of;
-  entries = more.entries;
-  views = more.views;
-  frames = more.frames;
-  roles = more.roles;
-  pointers = more.pointers;
-  total = more.total;
-  fewer = more.fewer;
-  counts = more.counts;
-  bytes = more.bytes;
+  frees = more.frees;
   keeps = record {
     touched = λ p is. (more.lasting p is).1;
     place = λ p is. (more.lasting p is).0;
@@ -297,18 +265,7 @@ module _ {mode : ℕ} where
   pub forgets_none : (a : Picture mode) (pid first pages : ℕ) → IsFit a
       → ((k object page : ℕ) → first ≤ k → k < first + pages → names (a.at pid k) object page ≡ false) → ForgetsRow a a pid first pages
   forgets_none a pid first pages fit none = record {
-    root = λ q. refl;
-    at = λ q page. refl;
-    page_of = λ n. refl;
-    entries = λ q page h. refl;
-    views = λ q page. refl;
-    frames = refl;
-    roles = λ n. inl refl;
-    pointers = λ n i m. (λ x. x, λ x. x);
-    total = refl;
-    fewer = λ k. omega arith;
-    counts = λ k none. refl;
-    bytes = λ k used. refl;
+    frees = search rules;
     keeps = record {
       touched = λ p is. refl;
       place = λ p is. refl;
@@ -370,12 +327,4 @@ module _ {mode : ℕ} (a b c : Picture mode) (pid first pages from k : ℕ) (p :
   ]
 
 pub rest_then : {M : Type 0} {m : Levels.Ghosts M} → {D E : Type 0} (a b c : Core D E M m) → KeepsBesidePlaces a b → KeepsBesidePlaces b c → KeepsBesidePlaces a c
-rest_then a b c p q = record {
-  store = q.store ∙ p.store;
-  pages = q.pages ∙ p.pages;
-  roots = q.roots ∙ p.roots;
-  regions = q.regions ∙ p.regions;
-  clock = q.clock ∙ p.clock;
-  page_of = q.page_of ∙ p.page_of;
-  refused = q.refused ∙ p.refused;
-}
+rest_then a b c p q = search rules

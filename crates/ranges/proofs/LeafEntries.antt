@@ -1,7 +1,6 @@
 -- The entries of pages that get another permission.
-use Rattle.std.proofs.Common.{◌≡◌, ◌≢◌, ℕ, Bool, true, false, inl, inr, refl, sym, ap, ◌∙◌}
+use Rattle.std.proofs.{Common.{◌≡◌, ◌≢◌, ℕ, Bool, true, false, inl, inr, refl, sym, ap, ◌∙◌}, lemmas.Bool.{cases_Bool, and_parts, false≢true}}
 use Rattle.std.specs.Prelude.{◌&&◌, ◌||◌, not}
-use Rattle.std.proofs.lemmas.Bool.{cases_Bool, and_parts, false≢true}
 use Rattle.vm_types.specs.declared.permission.Prot.{Prot}
 use Rattle.vm_types.specs.Permission as Permission
 use Rattle.sv39_walk.specs.Entry.{has_bit, is_valid, can_read, can_write, can_execute, is_dirty, frame_of}

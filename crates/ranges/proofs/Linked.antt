@@ -5,9 +5,7 @@ use Rattle.std.specs.Prelude.{min}
 use Rattle.frames.specs.FrameTable.{FrameTable}
 use Rattle.sv39_walk.specs.Entry.{entry_at}
 use Rattle.page_tables.specs.Tree.{IsRoot, last_table, missing_of}
-use Rattle.page_tables.proofs.Ends.{missing_of-is}
-use Rattle.page_tables.proofs.Pages.{place_above, below_place, place_from, same_place}
-use Rattle.page_tables.proofs.Spans.{missing_as_far, fewer_past}
+use Rattle.page_tables.proofs.{Ends.{missing_of-is}, Pages.{place_above, below_place, same_place}, Spans.{missing_as_far, fewer_past}}
 use Rattle.ranges.specs.Steps.{IsPastGap}
 
 -- a page that isn't before the first one past a place is past it
@@ -38,9 +36,6 @@ module _ (page end own last k : ℕ) (before : page < end) (is_own : own ≡ (pa
   same_table = same_place page last own (k + 1) last_from (omega (arith, is_last)) (omega (arith, is_own))
 
   -- the places are those of one table
-  pub search_order : page / 512 ^ k + 1 ≤ last / 512 ^ k + 1
-  search_order = let le = place_from page last k last_from in omega (arith, le)
-
   pub search_table : last / 512 ^ k + 1 ≤ (page / 512 ^ (k + 1) + 1) * 512
   search_table =
       let up = place_above last k in

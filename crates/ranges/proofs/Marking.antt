@@ -1,26 +1,15 @@
 -- Objects are marked one after the other.
 use Rattle.vm_types.specs.declared.mode.Levels as Levels
 use Rattle.std.proofs.Common.{◌≡◌, ◌≢◌, ℕ, zero, suc, ◌+◌, ◌-◌, ◌<◌, ◌≤◌, inl, inr, ◌⊎◌, Bool, true, false, Option, Some, None, List, get_or, refl, sym, ap, ◌∙◌, arith, eq-eqb, ne_eqb}
+use Rattle.std.proofs.{lemmas.List.{get_or_past, get_or-replicate, length-replicate}, lemmas.Bool.Decides.{nat_tests}, lemmas.Bool.{cases_Bool, cases_eq, cases_lt, false≢true}}
 use Rattle.std.specs.Prelude.{replicate}
-use Rattle.std.proofs.lemmas.List.{get_or_past, get_or-replicate, length-replicate}
-use Rattle.std.proofs.lemmas.Bool.Decides.{nat_tests}
-use Rattle.std.proofs.lemmas.Bool.{cases_Bool, cases_eq, cases_lt, false≢true}
-use Rattle.vm_types.specs.Limits.{named_limit, widest_end}
-use Rattle.vm_types.specs.declared.region.Attr.{Attr}
-use Rattle.vm_types.specs.declared.region.Backing.{Backing}
-use Rattle.vm_types.specs.declared.region.Backing.TheVariants.{Anon, Private, Shared, Common}
-use Rattle.vm_types.specs.Attributes.{attr_after, backing_after}
-use Rattle.vm_types.specs.Counting.{any_below}
-use Rattle.vm_types.specs.Objects.{Maps, uses, is_of_object, is_used, least_from}
-use Rattle.vm_types.specs.Rows.{removed, in_row}
-use Rattle.regions.specs.declared.run.Run.{Run}
-use Rattle.regions.specs.RunList.{IsNextRun}
-use Rattle.residency.specs.declared.kernel.Core.{Core}
-use Rattle.residency.specs.Picture.{picture_of, attr_where}
-use Rattle.residency.specs.Parts.{IsFit}
-use Rattle.ranges.specs.Numbers.{Marks, IsUsedBetween, IsUsedBy}
-use Rattle.ranges.specs.Rows.{without_maps}
+use Rattle.vm_types.specs.{Limits.{named_limit, widest_end}, declared.region.Attr.{Attr}, declared.region.Backing.{Backing}, declared.region.Backing.TheVariants.{Anon, Private, Shared, Common}, Attributes.{attr_after, backing_after}}
+use Rattle.vm_types.specs.{Counting.{any_below}, Objects.{Maps, uses, is_of_object, is_used, least_from}, Rows.{removed, in_row}}
+use Rattle.regions.specs.{declared.run.Run.{Run}, RunList.{IsNextRun}}
+use Rattle.residency.specs.{declared.kernel.Core.{Core}, Picture.{picture_of, attr_where}, Parts.{IsFit}}
+use Rattle.ranges.specs.{Numbers.{Marks, IsUsedBetween, IsUsedBy}, Rows.{without_maps}}
 use Rattle.vm_types.proofs.Naming.{any-at, any-where}
+use Rattle.ranges.proofs.Emptied.{in_row_from}
 
 pub marks_none : (some : ℕ → Type 0) (xs : List Bool) → ((o : ℕ) → some o → ⊥) → Marks some xs xs
 marks_none some xs none = record { room = refl; kept = λ o e. e; all = λ o low is. absurd (none o is); only = λ o e. inl e }
@@ -68,26 +57,23 @@ run_uses map run k o at = ap (λ x. uses x o) at ∙ of_uses run.attr.backing (k
 pub none_uses : (map : ℕ → Option Attr) (k o : ℕ) → map k ≡ None → uses (map k) o ≡ true → ⊥
 none_uses map k o none is = false≢true (sym (ap (λ x. uses x o) none) ∙ is)
 
+pub low_out : (first pages k : ℕ) → 0 ≤ k → k < first → in_row first pages k ≡ false
+low_out first pages k from low = grind (arith, nat_tests)
+
+pub high_out : (first pages k : ℕ) → first + pages ≤ k → k < widest_end → in_row first pages k ≡ false
+high_out first pages k past high = grind (arith, nat_tests)
+
 -- what a process has, but for the row
 pub mine : (at : Maps) (pid q first pages : ℕ) → q ≡ pid → (o : ℕ) → IsUsedBy (without_maps at pid first pages) q o
     → IsUsedBetween (at q) 0 first o ⊎ IsUsedBetween (at q) (first + pages) widest_end o
 mine at pid q first pages same o (k, high, is) = elim (cases_lt k first) [
-  | inl low ↦ inl (k, omega arith, low, out_of k (out_low k low) is)
+  | inl low ↦ inl (k, omega arith, low, out_of k (low_out first pages k (omega arith) low) is)
   | inr late ↦ elim (cases_lt k (first + pages)) [
-    | inl within ↦ absurd (false≢true (sym (in_of k (in_row_is k late within)) ∙ is))
-    | inr past ↦ inr (k, past, high, out_of k (out_high k past) is)
+    | inl within ↦ absurd (false≢true (sym (in_of k (in_row_from first pages k late within)) ∙ is))
+    | inr past ↦ inr (k, past, high, out_of k (high_out first pages k past high) is)
   ]
 ]
   where
-    out_low : (k : ℕ) → k < first → in_row first pages k ≡ false
-    out_low k low = grind (arith, nat_tests)
-
-    out_high : (k : ℕ) → first + pages ≤ k → in_row first pages k ≡ false
-    out_high k past = grind (arith, nat_tests)
-
-    in_row_is : (k : ℕ) → first ≤ k → k < first + pages → in_row first pages k ≡ true
-    in_row_is k low high = grind (arith, nat_tests)
-
     out_of : (k : ℕ) → in_row first pages k ≡ false → uses (without_maps at pid first pages q k) o ≡ true → uses (at q k) o ≡ true
     out_of k out is = (let e : without_maps at pid first pages q k ≡ at q k = rw (eq-eqb q pid same, out) (ap (λ x. at x k) (sym same)) in ap (λ x. uses x o) (sym e) ∙ is)
 
@@ -98,12 +84,6 @@ pub mine_back : (at : Maps) (pid q first pages from end : ℕ) → q ≡ pid →
     → IsUsedBy (without_maps at pid first pages) q o
 mine_back at pid q first pages from end same out small o (k, low, high, is) =
     (k, omega (arith, high, small), (let e : without_maps at pid first pages q k ≡ at q k = rw (eq-eqb q pid same, out k low high) (ap (λ x. at x k) (sym same)) in ap (λ x. uses x o) e ∙ is))
-
-pub low_out : (first pages k : ℕ) → 0 ≤ k → k < first → in_row first pages k ≡ false
-low_out first pages k from low = grind (arith, nat_tests)
-
-pub high_out : (first pages k : ℕ) → first + pages ≤ k → k < widest_end → in_row first pages k ≡ false
-high_out first pages k past high = grind (arith, nat_tests)
 
 -- and what any other has
 pub theirs : (at : Maps) (pid q first pages : ℕ) → q ≢ pid → (o : ℕ) → IsUsedBy (without_maps at pid first pages) q o → IsUsedBetween (at q) 0 widest_end o

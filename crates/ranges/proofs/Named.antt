@@ -1,14 +1,7 @@
 -- What processes name hangs on what stands behind their pages, and on no permission.
-use Rattle.vm_types.specs.Limits.{widest_end}
-use Rattle.std.proofs.Common.{◌≡◌, ℕ, true, Option, Some, None, refl, sym, ◌∙◌, inl, inr}
+use Rattle.vm_types.specs.{Limits.{widest_end}, declared.permission.Prot.{Prot}, declared.region.Attr.{Attr}, Attributes.{with_prot}, Counting.{any_below}, Objects.{Maps, names, uses, is_named}, Rows.{in_row, protected}}
+use Rattle.std.proofs.{Common.{◌≡◌, ℕ, true, Option, Some, None, refl, sym, ◌∙◌, inl, inr}, lemmas.Bool.{cases_Bool}}
 use Rattle.std.specs.Prelude.{option_map}
-use Rattle.std.proofs.lemmas.Bool.{cases_Bool}
-use Rattle.vm_types.specs.declared.permission.Prot.{Prot}
-use Rattle.vm_types.specs.declared.region.Attr.{Attr}
-use Rattle.vm_types.specs.Attributes.{with_prot}
-use Rattle.vm_types.specs.Counting.{any_below}
-use Rattle.vm_types.specs.Objects.{Maps, names, uses, is_named}
-use Rattle.vm_types.specs.Rows.{in_row, protected}
 use Rattle.residency.specs.Parts.{AreObjects}
 use Rattle.residency.proofs.Counts.{any-same, any-more}
 

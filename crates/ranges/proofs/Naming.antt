@@ -1,14 +1,7 @@
 -- Which pages of a run name a page of an object.
-use Rattle.std.proofs.Common.{◌≡◌, ℕ, ◌-◌, ◌<◌, ◌≤◌, true, false, Option, Some, None, refl, sym, ap, ◌∙◌, eqb-true, eq-eqb, ◌==◌}
-use Rattle.std.proofs.lemmas.Bool.{false≢true, and_parts, and_from}
-use Rattle.vm_types.specs.declared.object.ObjectPage.{ObjectPage}
-use Rattle.vm_types.specs.declared.object.PageKey.{PageKey}
-use Rattle.vm_types.specs.declared.object.PageKey.TheVariants.{File, Object}
-use Rattle.vm_types.specs.declared.region.Attr.{Attr}
-use Rattle.vm_types.specs.declared.region.Backing.{Backing}
-use Rattle.vm_types.specs.declared.region.Backing.TheVariants.{Anon, Private, Shared, Common}
-use Rattle.vm_types.specs.Attributes.{attr_after, backing_after, stands_on}
-use Rattle.vm_types.specs.Objects.{names, is_object_page}
+use Rattle.std.proofs.{Common.{◌≡◌, ℕ, ◌-◌, ◌<◌, ◌≤◌, true, false, Option, Some, None, refl, sym, ap, ◌∙◌, eqb-true, eq-eqb, ◌==◌}, lemmas.Bool.{false≢true, and_parts, and_from}}
+use Rattle.vm_types.specs.{declared.object.ObjectPage.{ObjectPage}, declared.object.PageKey.{PageKey}, declared.object.PageKey.TheVariants.{File, Object}, declared.region.Attr.{Attr}, declared.region.Backing.{Backing}}
+use Rattle.vm_types.specs.{declared.region.Backing.TheVariants.{Anon, Private, Shared, Common}, Attributes.{attr_after, backing_after, stands_on}, Objects.{names, is_object_page}}
 use Rattle.regions.specs.declared.run.Run.{Run}
 use Rattle.residency.specs.Leaves.{IsPageOver}
 use Rattle.ranges.specs.Rows.{is_common}

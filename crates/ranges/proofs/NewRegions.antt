@@ -1,33 +1,20 @@
 -- A process gets other regions.
-use Rattle.vm_types.specs.Limits.{top_level}
-use Rattle.std.proofs.Common.{◌≡◌, ℕ, inl, inr, ◌+◌, ◌<◌, true, false, Option, Some, refl, sym, ap, ◌∙◌, subst, arith, ◌⊎◌, ◌≢◌, None, eq-eqb, ne_eqb}
-use Rattle.std.specs.Prelude.{IsSome, option_map}
-use Rattle.std.proofs.lemmas.Bool.{cases_eq, cases_Bool}
-use Rattle.vm_types.specs.declared.object.ObjectPage.{ObjectPage}
-use Rattle.vm_types.specs.declared.object.PageKey.{PageKey}
-use Rattle.vm_types.specs.declared.object.PageKey.TheVariants.{Object}
-use Rattle.vm_types.specs.Objects.{is_named}
-use Rattle.page_cache.specs.declared.place.Place.TheVariants.{Home}
-use Rattle.vm_types.specs.declared.region.Attr.{Attr}
+use Rattle.vm_types.specs.{Limits.{top_level}, declared.object.ObjectPage.{ObjectPage}, declared.object.PageKey.{PageKey}, declared.object.PageKey.TheVariants.{Object}, Objects.{is_named}, declared.region.Attr.{Attr}}
 use Rattle.vm_types.specs.Rows.{in_row, IsUserMap}
+use Rattle.std.proofs.{Common.{◌≡◌, ℕ, inl, inr, ◌+◌, ◌<◌, true, false, Option, Some, refl, sym, ap, ◌∙◌, subst, arith, ◌⊎◌, ◌≢◌, None, eq-eqb, ne_eqb}, lemmas.Bool.{cases_eq, cases_Bool}}
+use Rattle.std.specs.Prelude.{IsSome, option_map}
+use Rattle.page_cache.specs.declared.place.Place.TheVariants.{Home}
 use Rattle.frames.specs.FrameTable.{FrameTable, role_of, count_of, bytes_of}
 use Rattle.swap.specs.Slots.{SlotTable}
 use Rattle.sv39_walk.specs.Entry.{frame_of}
 use Rattle.page_tables.specs.Tree.{IsPage, IsTable, IsForest, IsRoot, Points, page_entry}
 use Rattle.regions.specs.Permission.{IsReadableMap}
-use Rattle.residency.specs.Seats.{Seat, InFrame, InSlot, seat}
-use Rattle.residency.specs.Picture.{Picture, entry, view, held, bytes_in, IsOwned, count_in, page_in}
-use Rattle.residency.specs.Parts.{AreObjects, IsEntryFor, Nothing, IsUsed, IsMapped, IsRootedBut, IsFit, nowhere}
+use Rattle.residency.specs.{Seats.{Seat, InFrame, InSlot, seat}, Picture.{Picture, entry, view, held, bytes_in, IsOwned, count_in, page_in}, Parts.{AreObjects, IsEntryFor, Nothing, IsUsed, IsMapped, IsRootedBut, IsFit, nowhere}}
 use Rattle.residency.specs.Steps.{Remaps}
-use Rattle.residency.proofs.Entries.{entries_kept}
-use Rattle.residency.proofs.Granting.{KeepsBehind, entry_for-same, user_map-same, readable-same}
-use Rattle.residency.proofs.Places.{objects-same, named-more, places_renamed, dirty_same}
-use Rattle.residency.proofs.Rooted.{used_kept}
-use Rattle.residency.proofs.Seats.{counted_same}
+use Rattle.residency.proofs.{Entries.{entries_kept}, Granting.{KeepsBehind, entry_for-same, user_map-same, readable-same}, Places.{objects-same, named-more, places_renamed, dirty_same}, Rooted.{used_kept}, Seats.{counted_same}}
 use Rattle.residency.proofs.Setting.{view_seated, held_same}
-use Rattle.ranges.specs.Rows.{plain, KeepsNamed, RemapsRow, with_map, without_maps}
-use Rattle.ranges.specs.Steps.{IsBeside, KeepsEntriesOfOthers, ReturnsTables, LosesSlots, IsMappedBeside, IsWithoutTables}
-use Rattle.ranges.proofs.Emptied.{row_parts, view-bare}
+use Rattle.ranges.specs.{Rows.{plain, RemapsRow, with_map, without_maps}, Steps.{IsBeside, IsMappedBeside, IsWithoutTables}}
+use Rattle.ranges.proofs.{ClearedPages.{not_beside}, Emptied.{row_parts, view-bare}, Forgotten.{IsRowRemapped}}
 
 -- Frames and slots are for what they were, and are shared as they were.
 module _ {mode : ℕ} where
@@ -55,9 +42,26 @@ module _ {mode : ℕ} (old new : Picture mode) (same : SameSeats old new) where
   pages_on sp (InFrame n) is = same.page_of n
   pages_on sp (InSlot k) is = refl
 
+-- other regions of a process want the tables that there are
+pub rooted_regions : {mode : ℕ} (old new : Picture mode) (pid : ℕ) → IsRootedBut old 0 → Remaps old new pid
+    → ((m : ℕ) → IsTable old.frames m → (m ≡ 0) ⊎ IsUsed old (IsMapped new) m) → IsRootedBut new 0
+rooted_regions {mode = mode} old new pid rooted remaps used =
+    let was : (q r : ℕ) → new.root q ≡ Some r → old.root q ≡ Some r = λ q r e. sym (remaps.root q) ∙ e in
+    record {
+      forest = (let P : FrameTable → Type 0 = λ t. IsForest t in subst P (sym remaps.frames) rooted.forest);
+      roots = λ q r e. (let P : FrameTable → Type 0 = λ t. IsRoot (top_level mode) t r in subst P (sym remaps.frames) (rooted.roots q r (was q r e)));
+      apart = λ p q r e f. rooted.apart p q r (was p r e) (was q r f);
+      numbers = λ q r e. rooted.numbers q r (was q r e);
+      used = λ m table. elim (used m (let P : FrameTable → Type 0 = λ t. IsTable t m in subst P remaps.frames table)) [
+        | inl z ↦ inl z
+        | inr o ↦ inr (used_kept old new (IsMapped new) (IsMapped new) m
+            (λ a i b p. (let P : FrameTable → Type 0 = λ t. Points t a i b in subst P (sym remaps.frames) p)) remaps.root (λ q p some. some) o)
+      ];
+    }
+
 -- the memory is the same
 module _ {mode : ℕ} (old new : Picture mode) (pid : ℕ) (fit : IsFit old) (remaps : Remaps old new pid) where
-  pub entries_remapped : (q page : ℕ) → entry new q page ≡ entry old q page
+  entries_remapped : (q page : ℕ) → entry new q page ≡ entry old q page
   entries_remapped = entries_kept old new 0 fit.rooted (λ r p is_root. ap (λ t. page_entry t (top_level mode) r p) remaps.frames) remaps.root
 
   seats : SameSeats old new
@@ -72,22 +76,7 @@ module _ {mode : ℕ} (old new : Picture mode) (pid : ℕ) (fit : IsFit old) (re
   behind : KeepsBehind old new
   behind = record { place = λ p x e. remaps.place p ∙ e; files = remaps.files }
 
-  table_back : (m : ℕ) → IsTable new.frames m → IsTable old.frames m
-  table_back m table = let P : FrameTable → Type 0 = λ t. IsTable t m in subst P remaps.frames table
-
-  rooted_remapped : ((m : ℕ) → IsTable old.frames m → IsUsed old (IsMapped new) m) → IsRootedBut new 0
-  rooted_remapped used =
-      let was : (q r : ℕ) → new.root q ≡ Some r → old.root q ≡ Some r = λ q r e. sym (remaps.root q) ∙ e in
-      record {
-        forest = (let P : FrameTable → Type 0 = λ t. IsForest t in subst P (sym remaps.frames) fit.rooted.forest);
-        roots = λ q r e. (let P : FrameTable → Type 0 = λ t. IsRoot (top_level mode) t r in subst P (sym remaps.frames) (fit.rooted.roots q r (was q r e)));
-        apart = λ p q r e f. fit.rooted.apart p q r (was p r e) (was q r f);
-        numbers = λ q r e. fit.rooted.numbers q r (was q r e);
-        used = λ m table. inr (used_kept old new (IsMapped new) (IsMapped new) m
-            (λ a i b p. (let P : FrameTable → Type 0 = λ t. Points t a i b in subst P (sym remaps.frames) p)) remaps.root (λ q p some. some) (used m (table_back m table)));
-      }
-
-  pub fit_remapped : IsUserMap mode (new.at pid) → IsReadableMap (new.at pid) → AreObjects new.at → ((p : ObjectPage) → old.place (Object p) ≢ Home → is_named new.at p.object p.page ≡ true) → ((page : ℕ) → IsPage (top_level mode) page → IsEntryFor old (new.at pid page) (entry old pid page))
+  fit_remapped : IsUserMap mode (new.at pid) → IsReadableMap (new.at pid) → AreObjects new.at → ((p : ObjectPage) → old.place (Object p) ≢ Home → is_named new.at p.object p.page ≡ true) → ((page : ℕ) → IsPage (top_level mode) page → IsEntryFor old (new.at pid page) (entry old pid page))
       → ((m : ℕ) → IsTable old.frames m → IsUsed old (IsMapped new) m) → IsFit new
   fit_remapped user readable objects named fits used = record {
     counted = (
@@ -95,7 +84,7 @@ module _ {mode : ℕ} (old new : Picture mode) (pid : ℕ) (fit : IsFit old) (re
       counted_same mode (entry old) (entry new) (IsOwned old) (IsOwned new) (count_in old) (count_in new) (page_in old fit.counted.0) (page_in new fit.counted.0)
           (λ q p h. ap seat (entries_remapped q p)) nowhere 0 fit.counted.1 (owned_on old new seats) (owned_before old new seats) (counts_on old new seats) (pages_on old new seats fit.counted.0),
     );
-    rooted = rooted_remapped used;
+    rooted = rooted_regions old new pid fit.rooted remaps (λ m table. inr (used m table));
     granting = record {
       entries = λ q page h. elim (cases_eq q pid) [
         | inl is ↦ (
@@ -127,32 +116,30 @@ module _ {mode : ℕ} (old new : Picture mode) (pid : ℕ) (fit : IsFit old) (re
   bytes_remapped (InSlot k) = ap (λ t. t.bytes k) remaps.slots
 
   -- a page that has the attributes that it had is seen as before
-  pub view_remapped : (q page : ℕ) → new.at q page ≡ old.at q page → view new q page ≡ view old q page
+  view_remapped : (q page : ℕ) → new.at q page ≡ old.at q page → view new q page ≡ view old q page
   view_remapped q page at = view_seated old new q page at (ap seat (entries_remapped q page)) (λ z is. bytes_remapped z)
 
-  pub held_remapped : (p : PageKey) → held new p ≡ held old p
+  held_remapped : (p : PageKey) → held new p ≡ held old p
   held_remapped p = held_same old new p (remaps.place p) remaps.slots (λ n here. ap (λ t. bytes_of t n) remaps.frames)
 
 -- a row was cleared, and then the process got regions that are new there alone
-module _ {mode : ℕ} (old mid new : Picture mode) (pid first pages : ℕ) (map : ℕ → Option Attr) (fit : IsFit mid) (row : RemapsRow old mid pid first pages (old.at pid))
+module _ {mode : ℕ} (old mid new : Picture mode) (pid first pages : ℕ) (map : ℕ → Option Attr) (was : IsRowRemapped old mid pid first pages (old.at pid))
     (remaps : Remaps mid new pid) (at : (page : ℕ) → new.at pid page ≡ map page)
     (others : (page : ℕ) → in_row first pages page ≡ false → map page ≡ old.at pid page) where
+  abbrev row : RemapsRow old mid pid first pages (old.at pid)
+  row = was.row
+
   at_mid : (page : ℕ) → in_row first pages page ≡ false → new.at pid page ≡ mid.at pid page
   at_mid page e = at page ∙ others page e ∙ sym (row.at page)
 
   same_entry : (q page : ℕ) → entry new q page ≡ entry mid q page
-  same_entry = entries_remapped mid new pid fit remaps
+  same_entry = entries_remapped mid new pid was.fit remaps
 
   out_of_row : (page : ℕ) → IsBeside pid first (first + pages) pid page → in_row first pages page ≡ false
   out_of_row page out = elim (cases_Bool (in_row first pages page)) [
     | inr e ↦ e
-    | inl e ↦ absurd (inside_not page e out)
+    | inl e ↦ (let parts = row_parts first pages page e in absurd (not_beside pid first (first + pages) pid page out refl parts.0 parts.1))
   ]
-    where
-      inside_not : (k : ℕ) → in_row first pages k ≡ true → IsBeside pid first (first + pages) pid k → ⊥
-      inside_not k e (inl ne) = ne refl
-      inside_not k e (inr (inl below)) = (let parts = row_parts first pages k e in omega (arith, parts.0, below))
-      inside_not k e (inr (inr past)) = (let parts = row_parts first pages k e in omega (arith, parts.1, past))
 
   -- a page beside the row is mapped as it was
   mapped_on : (q page : ℕ) → IsMappedBeside mid pid first (first + pages) q page → IsMapped new q page
@@ -183,67 +170,62 @@ module _ {mode : ℕ} (old mid new : Picture mode) (pid first pages : ℕ) (map 
     ]
   ]
 
-  pub fit_row : IsWithoutTables mid pid first (first + pages) → IsUserMap mode map → IsReadableMap map → AreObjects (with_map old.at pid map)
-      → ((p : ObjectPage) → is_named (without_maps old.at pid first pages) p.object p.page ≡ false → mid.place (Object p) ≡ Home) → IsFit new
-  fit_row none_left user readable objects gone =
-      fit_remapped mid new pid fit remaps (user_map-same mode map (new.at pid) at user) (readable-same map (new.at pid) at readable)
+  fit_row : IsWithoutTables mid pid first (first + pages) → IsUserMap mode map → IsReadableMap map → AreObjects (with_map old.at pid map) → IsFit new
+  fit_row none_left user readable objects =
+      fit_remapped mid new pid was.fit remaps (user_map-same mode map (new.at pid) at user) (readable-same map (new.at pid) at readable)
       (objects-same (with_map old.at pid map) new.at with_new objects)
       (λ p away. elim (cases_Bool (is_named (without_maps old.at pid first pages) p.object p.page)) [
         | inl is ↦ named-more (without_maps old.at pid first pages) new.at p.object p.page without_more is
-        | inr is ↦ absurd (away (gone p is))
+        | inr is ↦ absurd (away (was.files.gone p is))
       ])
       (λ page h. elim (cases_Bool (in_row first pages page)) [
         | inl e ↦ Nothing (row.entries page e)
-        | inr e ↦ (let Q : Option Attr → Type 0 = λ a. IsEntryFor mid a (entry mid pid page) in subst Q (sym (at_mid page e)) (fit.granting.entries pid page h))
+        | inr e ↦ (let Q : Option Attr → Type 0 = λ a. IsEntryFor mid a (entry mid pid page) in subst Q (sym (at_mid page e)) (was.fit.granting.entries pid page h))
       ])
       (λ m table. used_kept mid mid (IsMappedBeside mid pid first (first + pages)) (IsMapped new) m (λ a i b p. p) (λ q. refl) mapped_on (none_left m table))
 
-  pub others_row : KeepsEntriesOfOthers old mid pid → KeepsEntriesOfOthers old new pid
-  others_row same q page h ne = same_entry q page ∙ same q page h ne
-
-  pub tables_row : ReturnsTables old mid pid → ReturnsTables old new pid
-  tables_row returned = record {
-    tables = λ n table. elim (returned.tables n table) [
-      | inl still ↦ inl (let P : FrameTable → Type 0 = λ t. IsTable t n in subst P (sym remaps.frames) still)
-      | inr gone ↦ inr (ap (λ t. role_of t n) remaps.frames ∙ gone.0, gone.1)
-    ];
-    free = λ n e. ap (λ t. role_of t n) remaps.frames ∙ returned.free n e;
-    copies = λ n e. returned.copies n (sym (ap (λ t. role_of t n) remaps.frames) ∙ e);
-    pointers = λ n i m p. returned.pointers n i m (let P : FrameTable → Type 0 = λ t. Points t n i m in subst P remaps.frames p);
-  }
-
-  pub slots_row : LosesSlots old mid pid first (first + pages) → LosesSlots old new pid first (first + pages)
-  slots_row returned = record {
-    total = ap (λ t. t.total) remaps.slots ∙ returned.total;
-    fewer = λ k. (let e = ap (λ t. t.count k) remaps.slots in let f = returned.fewer k in omega (arith, e, f));
-    kept = λ k other none. ap (λ t. t.count k) remaps.slots ∙ returned.kept k other none;
-    bytes = λ k used. ap (λ t. t.bytes k) remaps.slots ∙ returned.bytes k (let e = ap (λ t. t.count k) remaps.slots in omega (arith, e, used));
-  }
-
-  pub row_remapped : RemapsRow old new pid first pages map
-  row_remapped = record {
-    root = λ q. remaps.root q ∙ row.root q;
-    at = at;
-    others_at = λ q page ne. remaps.others q page ne ∙ row.others_at q page ne;
-    entries = λ page e. same_entry pid page ∙ row.entries page e;
-    kept = λ page h e. same_entry pid page ∙ row.kept page h e;
-    views = λ page. elim (cases_Bool (in_row first pages page)) [
-      | inl e ↦ rw e (view-bare new pid page (same_entry pid page ∙ row.entries page e) ∙ ap (option_map plain) (at page))
-      | inr e ↦ (
-          let before = rw e at (row.views page) in
-          rw e (view_remapped mid new pid fit remaps pid page (at_mid page e) ∙ before))
-    ];
-    others = λ q page ne. view_remapped mid new pid fit remaps q page (remaps.others q page ne) ∙ row.others q page ne;
-  }
-
-  pub files_row : KeepsNamed (without_maps old.at pid first pages) old mid → KeepsNamed (without_maps old.at pid first pages) old new
-  files_row keeps = record {
-    touched = λ p lasting. remaps.touched p ∙ keeps.touched p lasting;
-    place = λ p lasting. remaps.place p ∙ keeps.place p lasting;
-    gone = λ p is. remaps.place (Object p) ∙ keeps.gone p is;
-    files = λ f. remaps.files f ∙ keeps.files f;
-    held = λ p lasting. elim (keeps.held p lasting) [
-      | inl same ↦ inl (held_remapped mid new pid fit remaps p ∙ same)
-      | inr home ↦ inr (held_remapped mid new pid fit remaps p ∙ home.0, home.1)
-    ];
+  pub row_remapped : IsWithoutTables mid pid first (first + pages) → IsUserMap mode map → IsReadableMap map → AreObjects (with_map old.at pid map)
+      → IsRowRemapped old new pid first pages map
+  row_remapped none_left user readable objects = record {
+    row = record {
+      root = λ q. remaps.root q ∙ row.root q;
+      at = at;
+      others_at = λ q page ne. remaps.others q page ne ∙ row.others_at q page ne;
+      entries = λ page e. same_entry pid page ∙ row.entries page e;
+      kept = λ page h e. same_entry pid page ∙ row.kept page h e;
+      views = λ page. elim (cases_Bool (in_row first pages page)) [
+        | inl e ↦ rw e (view-bare new pid page (same_entry pid page ∙ row.entries page e) ∙ ap (option_map plain) (at page))
+        | inr e ↦ (
+            let before = rw e at (row.views page) in
+            rw e (view_remapped mid new pid was.fit remaps pid page (at_mid page e) ∙ before))
+      ];
+      others = λ q page ne. view_remapped mid new pid was.fit remaps q page (remaps.others q page ne) ∙ row.others q page ne;
+    };
+    others = λ q page h ne. same_entry q page ∙ was.others q page h ne;
+    returned = record {
+      tables = λ n table. elim (was.returned.tables n table) [
+        | inl still ↦ inl (let P : FrameTable → Type 0 = λ t. IsTable t n in subst P (sym remaps.frames) still)
+        | inr gone ↦ inr (ap (λ t. role_of t n) remaps.frames ∙ gone.0, gone.1)
+      ];
+      free = λ n e. ap (λ t. role_of t n) remaps.frames ∙ was.returned.free n e;
+      copies = λ n e. was.returned.copies n (sym (ap (λ t. role_of t n) remaps.frames) ∙ e);
+      pointers = λ n i m p. was.returned.pointers n i m (let P : FrameTable → Type 0 = λ t. Points t n i m in subst P remaps.frames p);
+    };
+    slots = record {
+      total = ap (λ t. t.total) remaps.slots ∙ was.slots.total;
+      fewer = λ k. (let e = ap (λ t. t.count k) remaps.slots in let f = was.slots.fewer k in omega (arith, e, f));
+      kept = λ k other none. ap (λ t. t.count k) remaps.slots ∙ was.slots.kept k other none;
+      bytes = λ k used. ap (λ t. t.bytes k) remaps.slots ∙ was.slots.bytes k (let e = ap (λ t. t.count k) remaps.slots in omega (arith, e, used));
+    };
+    files = record {
+      touched = λ p lasting. remaps.touched p ∙ was.files.touched p lasting;
+      place = λ p lasting. remaps.place p ∙ was.files.place p lasting;
+      gone = λ p is. remaps.place (Object p) ∙ was.files.gone p is;
+      files = λ f. remaps.files f ∙ was.files.files f;
+      held = λ p lasting. elim (was.files.held p lasting) [
+        | inl same ↦ inl (held_remapped mid new pid was.fit remaps p ∙ same)
+        | inr home ↦ inr (held_remapped mid new pid was.fit remaps p ∙ home.0, home.1)
+      ];
+    };
+    fit = fit_row none_left user readable objects;
   }

@@ -1,25 +1,15 @@
 -- The state that memory shows once pages are mapped no more: the objects that no page names have no bytes.
-use Rattle.std.proofs.Common.{◌≡◌, ◌≢◌, ℕ, inl, inr, ◌⊎◌, Bool, true, false, List, Option, Some, None, refl, sym, ap, ◌∙◌}
+use Rattle.std.proofs.{Common.{◌≡◌, ◌≢◌, ℕ, inl, inr, ◌⊎◌, Bool, true, false, List, Option, Some, None, refl, sym, ap, ◌∙◌}, lemmas.Bool.{cases_Bool}}
 use Rattle.std.specs.Prelude.{is_some}
-use Rattle.std.proofs.lemmas.Bool.{cases_Bool}
-use Rattle.vm_types.specs.declared.object.ObjectPage.{ObjectPage}
-use Rattle.vm_types.specs.declared.object.PageKey.{PageKey}
-use Rattle.vm_types.specs.declared.object.PageKey.TheVariants.{File, Object}
-use Rattle.vm_types.specs.Capacity.{held_count}
-use Rattle.vm_types.specs.Objects.{Maps, is_named, named_objects}
-use Rattle.vm_types.specs.State.{State}
+use Rattle.vm_types.specs.{declared.object.ObjectPage.{ObjectPage}, declared.object.PageKey.{PageKey}, declared.object.PageKey.TheVariants.{File, Object}, Capacity.{held_count}, Objects.{Maps, is_named, named_objects}, State.{State}}
 use Rattle.vm_types.specs.View.{View}
 use Rattle.frames.specs.FrameTable.{FrameTable}
 use Rattle.swap.specs.Slots.{SlotTable}
-use Rattle.page_cache.specs.declared.place.Place.{Place}
-use Rattle.page_cache.specs.declared.place.Place.TheVariants.{Home, Frame, Slot}
-use Rattle.residency.specs.Picture.{Picture, view, is_live, held, bytes_at}
-use Rattle.residency.specs.Capacity.{copies_over, touched_file, stored_object}
-use Rattle.residency.specs.Parts.{IsFit}
-use Rattle.residency.specs.Shows.{ShowsPages, object_bytes}
+use Rattle.page_cache.specs.{declared.place.Place.{Place}, declared.place.Place.TheVariants.{Home, Frame, Slot}}
+use Rattle.residency.specs.{Picture.{Picture, view, is_live, held, bytes_at}, Capacity.{copies_over, touched_file, stored_object}, Parts.{IsFit}, Shows.{ShowsPages, object_bytes}}
 use Rattle.ranges.specs.Rows.{KeepsNamed}
 
-held_home : {mode : ℕ} (c : Picture mode) (p : PageKey) → c.place p ≡ Home → held c p ≡ None
+pub held_home : {mode : ℕ} (c : Picture mode) (p : PageKey) → c.place p ≡ Home → held c p ≡ None
 unfolding held
 held_home c p home = ap (bytes_at c.frames c.slots) home
 

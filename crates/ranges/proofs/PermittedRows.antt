@@ -1,58 +1,28 @@
 -- Rows of pages that get another permission: one page after the other.
 use Rattle.vm_types.specs.declared.mode.Levels as Levels
-use Rattle.vm_types.specs.Limits.{top_level}
-use Rattle.std.proofs.Common.{◌≡◌, ◌≢◌, ℕ, inl, inr, ◌⊎◌, ◌+◌, ◌<◌, ◌≤◌, ◌↔◌, Bool, true, false, Option, Some, get_or, refl, sym, ap, ◌∙◌, subst, arith}
-use Rattle.std.proofs.lemmas.Bool.{cases_eq, cases_lt, cases_Bool, false≢true}
-use Rattle.vm_types.specs.declared.permission.Prot.{Prot}
-use Rattle.vm_types.specs.declared.region.Attr.{Attr}
-use Rattle.vm_types.specs.declared.object.PageKey.TheVariants.{File, Object}
-use Rattle.vm_types.specs.declared.region.Backing.{Backing}
-use Rattle.frames.specs.declared.role.Role.TheVariants.{Free, Private}
-use Rattle.frames.specs.FrameTable.{FrameTable, frame_count, role_of, IsFrame, IsSound}
+use Rattle.vm_types.specs.{Limits.{top_level}, declared.permission.Prot.{Prot}, declared.region.Attr.{Attr}, declared.object.PageKey.TheVariants.{File, Object}, declared.region.Backing.{Backing}}
+use Rattle.std.proofs.{Common.{◌≡◌, ◌≢◌, ℕ, inl, inr, ◌⊎◌, ◌+◌, ◌<◌, ◌≤◌, ◌↔◌, Bool, true, false, Option, Some, get_or, refl, sym, ap, ◌∙◌, subst, arith, rules}, lemmas.Bool.{cases_eq, cases_lt, cases_Bool, false≢true}}
+use Rattle.frames.specs.{declared.role.Role.TheVariants.{Free, Private}, FrameTable.{FrameTable, frame_count, role_of, IsFrame, IsSound}}
 use Rattle.sv39_walk.specs.Entry.{frame_of}
-use Rattle.page_tables.specs.Change.{KeepsFrames, SetsEntry}
-use Rattle.page_tables.specs.Tree.{IsPage}
-use Rattle.page_tables.specs.Places.{IsTableOf}
+use Rattle.page_tables.specs.{Change.{KeepsFrames, SetsEntry}, Tree.{IsPage}, Places.{IsTableOf}}
 use Rattle.page_tables.proofs.Places.{row_stays}
-use Rattle.residency.specs.Seats.{InFrame}
-use Rattle.residency.specs.Parts.{IsRootedBut, IsBehind, IsEntryFor, HasPlaces, IsFit}
+use Rattle.residency.specs.{Seats.{InFrame}, Parts.{IsRootedBut, IsBehind, IsEntryFor, HasPlaces, IsFit}, Picture.{Picture, entry, is_private, is_swapped}, declared.kernel.Core.{Core}, Steps.{SameBeside, SetsPage}, Ways.{KeepsAround}}
 use Rattle.residency.specs.Parts as Parts
-use Rattle.residency.specs.Picture.{Picture, entry, is_private, is_swapped}
-use Rattle.residency.specs.declared.kernel.Core.{Core}
-use Rattle.residency.specs.Steps.{SameBeside, SetsPage}
-use Rattle.residency.proofs.TableSteps.{sets_page, rooted_set}
+use Rattle.residency.proofs.{TableSteps.{sets_page, rooted_set}, SeatForms.{seat_own}}
 use Rattle.ranges.specs.Leaves.{TakesStores, IsPermittedEntry, Permits, Empty, Away, Kept, NamesFrames, PermitsRow}
-use Rattle.residency.specs.Ways.{KeepsAround}
-use Rattle.residency.proofs.SeatForms.{seat_own}
-use Rattle.ranges.proofs.Sharing.{inside_memory, private_used, cache_used}
-use Rattle.ranges.proofs.ClearedPages.{out_front, out_back, other_page}
+use Rattle.ranges.proofs.{Sharing.{inside_memory, private_used, cache_used}, ClearedPages.{out_front, out_back, other_page}}
 
 pub beside-refl : {mode : ℕ} (c : Picture mode) → SameBeside c c
 beside-refl c = record { slots = refl; root = λ q. refl; at = λ q page. refl; page_of = λ n. refl; place = λ p. refl; touched = λ p. refl; files = λ f. refl }
 
 pub beside_then : {mode : ℕ} (a b c : Picture mode) → SameBeside a b → SameBeside b c → SameBeside a c
-beside_then a b c one two = record {
-  slots = two.slots ∙ one.slots;
-  root = λ q. two.root q ∙ one.root q;
-  at = λ q page. two.at q page ∙ one.at q page;
-  page_of = λ n. two.page_of n ∙ one.page_of n;
-  place = λ p. two.place p ∙ one.place p;
-  touched = λ p. two.touched p ∙ one.touched p;
-  files = λ f. two.files f ∙ one.files f;
-}
+beside_then a b c one two = search rules
 
 pub around-refl : {M : Type 0} {m : Levels.Ghosts M} → {D E : Type 0} (c : Core D E M m) → KeepsAround c c
 around-refl c = record { store = refl; swap = refl; cache = refl; roots = refl; regions = refl; page_of = refl }
 
 pub around_then : {M : Type 0} {m : Levels.Ghosts M} → {D E : Type 0} (a b c : Core D E M m) → KeepsAround a b → KeepsAround b c → KeepsAround a c
-around_then a b c one two = record {
-  store = two.store ∙ one.store;
-  swap = two.swap ∙ one.swap;
-  cache = two.cache ∙ one.cache;
-  roots = two.roots ∙ one.roots;
-  regions = two.regions ∙ one.regions;
-  page_of = two.page_of ∙ one.page_of;
-}
+around_then a b c one two = search rules
 
 frames-refl : (t : FrameTable) → KeepsFrames t t
 frames-refl t = record { frames = refl; roles = refl; counts = refl; bytes = λ n other. refl }
@@ -114,22 +84,24 @@ permits_then a b c pid low mid high prot le le' one two = record {
   ];
 }
 
+-- what another permission for one page comes to
+module _ {mode : ℕ} where
+  pub record IsPagePermitted (old new : Picture mode) (pid r page : ℕ) (prot : Prot) : Type 0 where
+    pub permits : PermitsRow old new pid page (page + 1) prot
+    pub rooted : IsRootedBut new 0
+    pub named : NamesFrames new pid
+    pub places : (row n : ℕ) → IsTableOf old.frames (top_level mode) r row n → IsTableOf new.frames (top_level mode) r row n
+
 -- the entry of a page was set to one of that permission
 module _ {mode : ℕ} (old new : Picture mode) (pid r page number : ℕ) (prot : Prot) (rooted : IsRootedBut old 0) (root : old.root pid ≡ Some r) (h : IsPage (top_level mode) page)
     (sets : SetsEntry old.frames new.frames (top_level mode) r page number) (beside : SameBeside old new) where
   page_permitted : SetsPage old new pid page number
   page_permitted = sets_page old new 0 pid r page number rooted root h sets beside
 
-  pub rooted_permitted : IsRootedBut new 0
-  rooted_permitted = rooted_set old new 0 r page number rooted sets beside
-
-  pub places_permitted : (row n : ℕ) → IsTableOf old.frames (top_level mode) r row n → IsTableOf new.frames (top_level mode) r row n
-  places_permitted row n = row_stays old.frames new.frames (top_level mode) r page number sets r row n (rooted.roots pid r root)
-
   module _ (writable : Bool) (some : entry old pid page ≢ 0) (here : is_swapped (entry old pid page) ≡ false) (stores : (writable ≡ true) ↔ TakesStores old.frames (old.at pid page) prot (entry old pid page))
       (is : IsPermittedEntry prot writable (entry old pid page) number) where
-    pub named_permitted : NamesFrames old pid → NamesFrames new pid
-    named_permitted named p h' used framed = elim (cases_eq p page) [
+    names_still : NamesFrames old pid → NamesFrames new pid
+    names_still named p h' used framed = elim (cases_eq p page) [
       | inl e ↦ (
           let there : IsFrame old.frames (frame_of (entry old pid page)) = named page h some here in
           let frame : frame_of (entry new pid p) ≡ frame_of (entry old pid page) = ap (λ x. frame_of (entry new pid x)) e ∙ ap frame_of page_permitted.changed ∙ is.over.names in
@@ -142,16 +114,21 @@ module _ {mode : ℕ} (old new : Picture mode) (pid r page number : ℕ) (prot :
           rw (same, count) there)
     ]
 
-    pub permits_set : PermitsRow old new pid page (page + 1) prot
-    permits_set = record {
-      beside = beside;
-      memory = sets.kept;
-      kept = λ q k hk out. page_permitted.others q k hk (other_page pid page q k out);
-      changed = λ k hk low high. (
-          let at : page ≡ k = omega arith in
-          let P : ℕ → Type 0 = λ x. Permits old.frames (old.at pid x) prot (entry old pid x) (entry new pid x) in
-          let Q : ℕ → Type 0 = λ x. Permits old.frames (old.at pid page) prot (entry old pid page) x in
-          subst P at (subst Q (sym page_permitted.changed) (Kept some here writable stores is)));
+    pub permits_set : NamesFrames old pid → IsPagePermitted old new pid r page prot
+    permits_set named = record {
+      permits = record {
+        beside = beside;
+        memory = sets.kept;
+        kept = λ q k hk out. page_permitted.others q k hk (other_page pid page q k out);
+        changed = λ k hk low high. (
+            let at : page ≡ k = omega arith in
+            let P : ℕ → Type 0 = λ x. Permits old.frames (old.at pid x) prot (entry old pid x) (entry new pid x) in
+            let Q : ℕ → Type 0 = λ x. Permits old.frames (old.at pid page) prot (entry old pid page) x in
+            subst P at (subst Q (sym page_permitted.changed) (Kept some here writable stores is)));
+      };
+      rooted = rooted_set old new 0 r page number rooted sets beside;
+      named = names_still named;
+      places = λ row n. row_stays old.frames new.frames (top_level mode) r page number sets r row n (rooted.roots pid r root);
     }
 
 behind_inside : {mode : ℕ} (c : Picture mode) (b : Backing) (n : ℕ) → IsSound c.frames → HasPlaces c → IsBehind c b n → IsFrame c.frames n

@@ -1,28 +1,17 @@
 -- Tables without entries given back.
-use Rattle.vm_types.specs.Limits.{top_level}
-use Rattle.std.proofs.Common.{◌≡◌, ◌≢◌, ℕ, suc, inl, inr, ◌⊎◌, ◌-◌, ◌/◌, ◌^◌, ◌<◌, ◌≤◌, Option, Some, refl, sym, ap, ◌∙◌, subst, arith}
-use Rattle.std.specs.Prelude.{IsSome}
-use Rattle.std.proofs.lemmas.Bool.{cases_eq, cases_lt}
-use Rattle.vm_types.specs.declared.region.Attr.{Attr}
-use Rattle.frames.specs.declared.role.Role.{Role}
-use Rattle.frames.specs.declared.role.Role.TheVariants.{Free, Zero, Table, Private, Cache}
-use Rattle.frames.specs.FrameTable.{FrameTable, IsFrame, role_of, IsSound}
+use Rattle.vm_types.specs.{Limits.{top_level}, declared.region.Attr.{Attr}}
+use Rattle.std.proofs.{Common.{◌≡◌, ◌≢◌, ℕ, suc, inl, inr, ◌⊎◌, ◌+◌, ◌-◌, ◌*◌, ◌/◌, ◌^◌, ◌<◌, ◌≤◌, Option, Some, refl, sym, ap, ◌∙◌, subst, arith}, lemmas.Bool.{cases_lt}}
+use Rattle.std.specs.Prelude.{IsSome, max, min}
+use Rattle.frames.specs.{declared.role.Role.{Role}, declared.role.Role.TheVariants.{Free, Zero, Table, Private, Cache}, FrameTable.{FrameTable, IsFrame, role_of, IsSound}}
 use Rattle.sv39_walk.specs.Walk.{index_of}
-use Rattle.page_tables.specs.Tree.{IsPage, IsTable, IsForest, IsRoot, last_table, Way, IsBelowRoot, missing_of, page_entry}
-use Rattle.page_tables.specs.Change.{Prunes, IsPruned}
-use Rattle.page_tables.proofs.Ways.{ends, only_way}
-use Rattle.page_tables.proofs.Ends.{missing_of-is}
-use Rattle.page_tables.proofs.Needed.{stay_way, still_used}
-use Rattle.residency.specs.Seats.{Seat, InFrame, InSlot, seat}
-use Rattle.residency.specs.Picture.{Picture, entry, bytes_in, IsOwned}
-use Rattle.residency.specs.Parts.{IsEntryFor, Nothing, Resident, Away, IsUsed, AsRoot, OnWay, IsMapped, IsRootedBut, IsFit, nowhere}
+use Rattle.page_tables.specs.{Tree.{IsPage, IsTable, IsForest, IsRoot, last_table, Way, IsBelowRoot, missing_of, page_entry}, Change.{Prunes, IsPruned}}
+use Rattle.page_tables.proofs.{Ways.{ends, only_way}, Ends.{missing_of-is}, Needed.{stay_way, still_used}}
+use Rattle.swap.specs.Slots.{SlotTable}
+use Rattle.residency.specs.{Seats.{Seat, InFrame, InSlot, seat}, Picture.{Picture, entry, bytes_in, IsOwned}, Parts.{IsEntryFor, Nothing, Resident, Away, IsUsed, AsRoot, OnWay, IsMapped, IsRootedBut, IsFit, nowhere}}
 use Rattle.residency.specs.Steps.{SameBeside, KeepsShares}
-use Rattle.residency.proofs.Entries.{entries_kept, entry-of}
-use Rattle.residency.proofs.Linked.{fit_same}
-use Rattle.residency.proofs.Rooted.{used_kept}
-use Rattle.residency.proofs.Setting.{view_seated, each_view, held_same}
-use Rattle.ranges.specs.Steps.{IsBeside, SameTables, Clears, IsMappedBeside, IsWithoutTables, IsCleared}
-use Rattle.ranges.proofs.ClearedPages.{but_memory, slots_none}
+use Rattle.residency.proofs.{Entries.{entries_kept, entry-of}, Linked.{fit_same}, Rooted.{used_kept}, Setting.{view_seated, each_view, held_same}}
+use Rattle.ranges.specs.{RowsCleared.{IsPartOf}, Steps.{IsBeside, SameTables, Clears, IsMappedBeside, IsWithoutTables, IsCleared, IsStepEnd}}
+use Rattle.ranges.proofs.{ClearedPages.{but_memory, but_then, by_row, clears_none, not_beside, returned_then}, Gaps.{gap_none, in_span_of, one_some, step_gap, user_inside}, Linked.{own_past}}
 use Rattle.ranges.proofs.Sharing.{inside_memory, private_data, cache_data}
 
 cases_table : (r : Role) → (r ≡ Table) ⊎ (r ≢ Table)
@@ -119,25 +108,32 @@ module _ {mode : ℕ} (old new : Picture mode) (pid r start : ℕ) (fit : IsFit 
   seat_bytes (InFrame n) is = prunes.kept.bytes n (private_data (role_of old.frames n) is)
   seat_bytes (InSlot k) is = ap (λ t. t.bytes k) beside.slots
 
-  pub clears_pruned : (low high : ℕ) → ((page : ℕ) → IsPage (top_level mode) page → low ≤ page → page < high → entry old pid page ≡ 0) → Clears old new pid low high
-  clears_pruned low high none = record {
-    beside = but_memory old new beside;
-    returned = record {
+  -- pages that had lost their entries before have none after it
+  pub clears_pruned : (first : Picture mode) (low high : ℕ) → low ≤ start → start < high → Clears first old pid low high → Clears first new pid low high
+  clears_pruned first low high le lt clears = record {
+    beside = but_then first old new clears.beside (but_memory old new beside);
+    returned = returned_then first old new pid low high clears.beside clears.returned (record {
       tables = λ n table. elim (prunes.gone n table) [
         | inl still ↦ inl still
-        | inr gone ↦ inr (gone.0, (r, start, root, gone.1))
+        | inr gone ↦ inr (gone.0, (r, start, root, gone.1, le, lt))
       ];
       free = λ n e. prunes.kept.roles n (free_no_table (role_of old.frames n) e) ∙ e;
       copies = shares.was_private;
       pointers = prunes.pointers;
+    });
+    slots = record {
+      total = ap (λ t. t.total) beside.slots ∙ clears.slots.total;
+      fewer = (let P : SlotTable → Type 0 = λ t. (k : ℕ) → t.count k ≤ first.slots.count k in subst P (sym beside.slots) clears.slots.fewer);
+      given = λ k page h least below is. ap (λ t. t.count k + 1) beside.slots ∙ clears.slots.given k page h least below is;
+      kept = λ k other. ap (λ t. t.count k) beside.slots ∙ clears.slots.kept k other;
+      bytes = (let P : SlotTable → Type 0 = λ t. (k : ℕ) → 0 < t.count k → t.bytes k ≡ first.slots.bytes k in subst P (sym beside.slots) clears.slots.bytes);
     };
-    slots = slots_none old new pid low high beside.slots none;
-    gone = λ p h least below. same_pruned pid p ∙ none p h least below;
-    kept = λ q p h out. same_pruned q p;
+    gone = λ p h least below. same_pruned pid p ∙ clears.gone p h least below;
+    kept = λ q p h out. same_pruned q p ∙ clears.kept q p h out;
     views = λ q p out. each_view old new fit.granting beside.at q p (λ h. view_seated old new q p (beside.at q p) (ap seat (same_pruned q p))
-        (λ z is. seat_bytes z (fit.counted.1.named q p z h is)));
+        (λ z is. seat_bytes z (fit.counted.1.named q p z h is))) ∙ clears.views q p out;
     held = λ p. held_same old new p (beside.place p) beside.slots
-        (λ n at. prunes.kept.bytes n (cache_data (role_of old.frames n) (fit.places.cached p n at)));
+        (λ n at. prunes.kept.bytes n (cache_data (role_of old.frames n) (fit.places.cached p n at))) ∙ clears.held p;
   }
 
   -- where the pages from low on, as far as `start`, were cleared before, and those from there on have no entries
@@ -149,12 +145,9 @@ module _ {mode : ℕ} (old new : Picture mode) (pid r start : ℕ) (fit : IsFit 
     ]
 
     beside_now : (p : ℕ) → IsPage (top_level mode) p → entry new pid p ≢ 0 → IsBeside pid low stop pid p
-    beside_now p h some = elim (cases_lt p low) [
-      | inl below ↦ inr (inl below)
-      | inr from ↦ elim (cases_lt p stop) [
-        | inl inside ↦ absurd (some (none_now p h from inside))
-        | inr past ↦ inr (inr past)
-      ]
+    beside_now p h some = elim (by_row pid low stop pid p) [
+      | inl out ↦ out
+      | inr inside ↦ absurd (some (none_now p h inside.1 inside.2))
     ]
 
     some_now : (p : ℕ) → IsPage (top_level mode) p → entry new pid p ≢ 0 → IsMappedBeside new pid low stop pid p
@@ -165,20 +158,11 @@ module _ {mode : ℕ} (old new : Picture mode) (pid r start : ℕ) (fit : IsFit 
 
     -- a page of another process, or of none of those that were cleared now
     kept_page : (q p : ℕ) → IsMappedBeside old pid low start q p → IsMappedBeside new pid low stop q p ⊎ ((q ≡ pid) × (start ≤ p) × (p < stop))
-    kept_page q p here = elim (cases_eq q pid) [
-      | inr ne ↦ inl (mapped_still old new beside q p here.0, inl ne)
-      | inl is ↦ elim (cases_lt p start) [
-        | inl before ↦ elim here.1 [
-          | inl ne ↦ absurd (ne is)
-          | inr side ↦ elim side [
-            | inl lower ↦ inl (mapped_still old new beside q p here.0, inr (inl lower))
-            | inr past ↦ absurd (omega (arith, past, before))
-          ]
-        ]
-        | inr from ↦ elim (cases_lt p stop) [
-          | inl inside ↦ inr (is, from, inside)
-          | inr past ↦ inl (mapped_still old new beside q p here.0, inr (inr past))
-        ]
+    kept_page q p here = elim (by_row pid low stop q p) [
+      | inl out ↦ inl (mapped_still old new beside q p here.0, out)
+      | inr inside ↦ elim (cases_lt p start) [
+        | inl before ↦ absurd (not_beside pid low start q p here.1 inside.0 inside.1 before)
+        | inr from ↦ inr (inside.0, from, inside.2)
       ]
     ]
 
@@ -236,21 +220,56 @@ module _ {mode : ℕ} (old new : Picture mode) (pid r start : ℕ) (fit : IsFit 
       pub cleared_block : IsCleared new pid low stop
       cleared_block = record { none = none_now; tables = tables_block }
 
+-- what a step over the pages of a missing table comes to
+module _ {mode : ℕ} where
+  pub record PassesMissing (old new : Picture mode) (pid start end stop : ℕ) : Type 0 where
+    pub clears : Clears old new pid start stop
+    pub fit : IsFit new
+    pub cleared : (low : ℕ) → low ≤ start → IsCleared old pid low start → IsCleared new pid low stop
+    pub further : start < stop
+    pub ends : IsStepEnd old pid start end stop
+
+-- k tables are missing on the way to its first page, and those above them that had no entries were given back
+module _ {mode : ℕ} (old new : Picture mode) (pid r start end stop gap k : ℕ) (part : IsPartOf old pid start end) (sound : IsSound old.frames) (root : old.root pid ≡ Some r)
+    (prunes : Prunes old.frames new.frames (top_level mode) r start) (beside : SameBeside old new) (pruned : IsPruned new.frames (top_level mode) r start)
+    (missing : missing_of old.frames (top_level mode) r start ≡ k) (lacks : k ≢ 0) (at : gap ≡ (start / 512 ^ k + 1) * 512 ^ k) (is : stop ≡ min end gap) where
+  in_span : (p : ℕ) → start ≤ p → p < stop → p / 512 ^ k ≡ start / 512 ^ k
+  in_span p from below = in_span_of start p stop gap k from below (omega (arith, is)) at
+
+  none_there : (p : ℕ) → IsPage (top_level mode) p → start ≤ p → p < stop → entry old pid p ≡ 0
+  none_there p h from below = gap_none old pid r root k start p missing lacks (sym (in_span p from below))
+
+  some_passed : start < stop
+  some_passed = let past = own_past start gap k at in omega (arith, part.some, past, is)
+
+  pub passes_missing : PassesMissing old new pid start end stop
+  passes_missing = record {
+    clears = clears_pruned old new pid r start part.fit sound root prunes beside old start stop (omega arith) some_passed (clears_none old pid start stop none_there);
+    fit = fit_pruned old new pid r start part.fit sound root prunes beside;
+    cleared = λ low le cleared. cleared_block old new pid r start part.fit sound root prunes beside low stop le cleared none_there pruned
+        (user_inside mode start end part.some part.high) k (omega (arith, lacks)) (inr (sym missing)) in_span;
+    further = some_passed;
+    ends = λ x lives. (
+        let same = ap (λ y. missing_of old.frames (top_level mode) y start) (sym (one_some r x (sym root ∙ lives))) ∙ missing in
+        let P : ℕ → Type 0 = λ m. stop ≡ min end ((start / 512 ^ max 1 m + 1) * 512 ^ max 1 m) in
+        subst P (sym same) (step_gap start end stop gap k lacks at is));
+  }
+
 -- no page was cleared yet
 pub cleared_none : {mode : ℕ} (c : Picture mode) (pid page : ℕ) → IsFit c → IsSound c.frames → IsCleared c pid page page
 cleared_none c pid page fit sound = record {
   none = λ k h least below. absurd (omega (arith, least, below));
   tables = λ m table. elim (fit.rooted.used m table) [
     | inl z ↦ (let bad : Zero ≡ Table = sym sound.zero_role ∙ ap (role_of c.frames) (sym z) ∙ table.role in (cc))
-    | inr o ↦ used_kept c c (IsMapped c) (IsMappedBeside c pid page page) m (λ a i b p. p) (λ q. refl) (λ q k some. (some, beside_none q k)) o
+    | inr o ↦ used_kept c c (IsMapped c) (IsMappedBeside c pid page page) m (λ a i b p. p) (λ q. refl) (λ q k some. (
+      some,
+      elim (by_row pid page page q k) [
+        | inl out ↦ out
+        | inr inside ↦ absurd (omega (arith, inside))
+      ],
+    )) o
   ];
 }
-  where
-    beside_none : (q k : ℕ) → IsBeside pid page page q k
-    beside_none q k = elim (cases_lt k page) [
-      | inl below ↦ inr (inl below)
-      | inr past ↦ inr (inr past)
-    ]
 
 -- pages that were cleared before stay so while those from `start` on are
 pub cleared_still : {mode : ℕ} (a b : Picture mode) (pid low start stop : ℕ) → Clears a b pid start stop → SameTables a.frames b.frames → IsCleared a pid low start → IsCleared b pid low start

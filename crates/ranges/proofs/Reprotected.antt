@@ -1,46 +1,23 @@
 -- A row of pages with another permission, and the regions that say so.
-use Rattle.vm_types.specs.Limits.{user_end, top_level}
+use Rattle.vm_types.specs.{Limits.{user_end, top_level}, Objects.{names, uses}, declared.object.PageKey.{PageKey}, declared.object.PageKey.TheVariants.{Object}, declared.permission.Prot.{Prot}, declared.region.Attr.{Attr}}
+use Rattle.vm_types.specs.{Attributes.{backing_fits, with_prot}, Ranges.{permitted}, Rows.{in_row, protected, IsUserMap}}
 use Rattle.vm_types.proofs.Modes.{user_pages_fit}
-use Rattle.std.proofs.Common.{◌≡◌, ℕ, inl, inr, ◌⊎◌, ◌+◌, ◌<◌, ◌≤◌, ◌^◌, ◌↔◌, Bool, true, false, List, Option, Some, None, get_or, refl, sym, ap, ◌∙◌, subst, arith}
-use Rattle.std.specs.Prelude.{IsSome, IfSome, leb, ltb, option_map, if◌then◌else◌}
-use Rattle.std.proofs.lemmas.Bool.{cases_eq, cases_lt, cases_Bool, and_from, le-leb, lt-ltb, false≢true}
-use Rattle.vm_types.specs.Objects.{names, uses}
-use Rattle.vm_types.specs.declared.object.PageKey.{PageKey}
-use Rattle.vm_types.specs.declared.object.PageKey.TheVariants.{Object}
-use Rattle.ranges.proofs.Named.{named-alike, objects-alike, names-protected, uses-protected}
-use Rattle.vm_types.specs.declared.permission.Prot.{Prot}
-use Rattle.vm_types.specs.declared.region.Attr.{Attr}
-use Rattle.vm_types.specs.Attributes.{backing_fits, with_prot}
-use Rattle.vm_types.specs.Ranges.{permitted}
-use Rattle.vm_types.specs.Rows.{in_row, protected, IsUserMap}
-use Rattle.frames.specs.declared.role.Role.TheVariants.{Free, Table}
-use Rattle.frames.specs.FrameTable.{FrameTable, role_of, count_of, bytes_of}
+use Rattle.std.proofs.{Common.{◌≡◌, ℕ, inl, inr, ◌+◌, ◌<◌, ◌≤◌, ◌^◌, ◌↔◌, Bool, true, false, List, Option, Some, None, get_or, refl, sym, ap, ◌∙◌, subst, arith}, lemmas.Bool.{cases_eq, cases_lt, cases_Bool, false≢true}}
+use Rattle.std.specs.Prelude.{IsSome, IfSome, max, option_map, if◌then◌else◌}
+use Rattle.ranges.proofs.{Named.{named-alike, objects-alike, names-protected, uses-protected}, ClearedPages.{by_row, not_valid}, Emptied.{in_row_from, row_parts, none_here, low_zero, pages_inside}, LeafEntries.{allowed, here_still}}
+use Rattle.ranges.proofs.{NewRegions.{SameSeats, rooted_regions, owned_on, owned_before, counts_on, pages_on}, Sharing.{private_data, cache_data}}
+use Rattle.frames.specs.{declared.role.Role.TheVariants.{Free, Table}, FrameTable.{FrameTable, role_of, count_of, bytes_of}}
 use Rattle.sv39_walk.specs.Entry.{is_valid, is_dirty, frame_of}
-use Rattle.page_tables.specs.Tree.{IsPage, IsTable, IsForest, IsRoot, Points, page_entry}
+use Rattle.page_tables.specs.Tree.{IsPage, page_entry}
 use Rattle.page_cache.specs.declared.place.Place.TheVariants.{Frame}
 use Rattle.regions.specs.Permission.{ReadsToo, IsReadableMap}
 use Rattle.regions.proofs.PermissionLemmas.{reads_protected}
-use Rattle.residency.specs.Seats.{Seat, InFrame, InSlot, seat}
-use Rattle.residency.specs.Picture.{Picture, entry, is_private, is_swapped, own_in, bytes_in, view_of, view, IsOwned, count_in, page_in}
-use Rattle.residency.specs.Parts.{is_shared, IsBehind, IsRootedBut, IsEntryFor, IsResident, IsMapped, IsFit, nowhere}
+use Rattle.residency.specs.{Seats.{Seat, InFrame, InSlot, seat}, Picture.{Picture, entry, is_private, is_swapped, own_in, bytes_in, view_of, view, IsOwned, count_in, page_in}}
+use Rattle.residency.specs.{Parts.{is_shared, IsBehind, IsRootedBut, IsEntryFor, IsResident, IsMapped, IsFit, nowhere}, Steps.{Remaps}}
 use Rattle.residency.specs.Parts as Parts
-use Rattle.residency.specs.Steps.{Remaps}
-use Rattle.residency.proofs.Entries.{entries_kept}
-use Rattle.residency.proofs.Granting.{KeepsBehind, entry_for-same, user_map-same, readable-same}
-use Rattle.residency.proofs.Places.{places_renamed}
-use Rattle.residency.proofs.Rooted.{used_kept}
-use Rattle.residency.proofs.Seats.{counted_same}
-use Rattle.residency.proofs.Moves.{view-none}
-use Rattle.residency.proofs.Setting.{view_seated, held_same}
-use Rattle.residency.proofs.SeatForms.{seat_own, seat_common}
-use Rattle.ranges.specs.Leaves.{is_mapped_shared, TakesStores, IsPermittedEntry, Permits, Empty, Away, Kept, PermitsRow}
-use Rattle.ranges.specs.Rows.{ReprotectsRow}
-use Rattle.ranges.specs.Steps.{IsBeside, KeepsEntriesOfOthers}
-use Rattle.ranges.proofs.ClearedPages.{not_valid}
-use Rattle.ranges.proofs.Emptied.{row_parts, none_here, low_zero}
-use Rattle.ranges.proofs.LeafEntries.{allowed, here_still}
-use Rattle.ranges.proofs.NewRegions.{SameSeats, owned_on, owned_before, counts_on, pages_on}
-use Rattle.ranges.proofs.Sharing.{private_data, cache_data}
+use Rattle.residency.proofs.{Entries.{entries_kept}, Granting.{KeepsBehind, entry_for-same, user_map-same, readable-same}, Places.{places_renamed}, Rooted.{used_kept}, Seats.{counted_same}, Moves.{view-none}}
+use Rattle.residency.proofs.{Setting.{view_seated, held_same}, SeatForms.{seat_own, seat_common}}
+use Rattle.ranges.specs.{Leaves.{is_mapped_shared, TakesStores, IsPermittedEntry, Permits, Empty, Away, Kept, PermitsRow}, Rows.{ReprotectsRow}, Steps.{IsBeside, KeepsEntriesOfOthers}}
 
 mapped_before : (o : Option Attr) (prot : Prot) (b : Bool) → IsSome (if b then option_map (with_prot prot) o else o) → IsSome o
 mapped_before None prot true some = some
@@ -161,13 +138,19 @@ some_protected None prot false some = some
 some_protected (Some a) prot true some = refl
 some_protected (Some a) prot false some = refl
 
+-- what another permission for a row comes to
+module _ {mode : ℕ} where
+  pub record IsRowReprotected (old new : Picture mode) (pid first pages : ℕ) (prot : Prot) : Type 0 where
+    pub row : ReprotectsRow old new pid first pages prot
+    pub others : KeepsEntriesOfOthers old new pid
+    pub fit : IsFit new
+
 -- The pages from low to high, which are the user pages of a row, have entries of that permission; then the process got
 -- the regions.
 module _ {mode : ℕ} (old mid new : Picture mode) (pid first pages low high : ℕ) (prot : Prot) (fit : IsFit old) (permits : PermitsRow old mid pid low high prot)
     (rooted : IsRootedBut mid 0) (remaps : Remaps mid new pid)
     (at : (page : ℕ) → new.at pid page ≡ protected (old.at pid) first pages prot page) (reads : ReadsToo prot)
-    (row : first + pages ≤ user_end mode) (begins : (low ≡ first) ⊎ ((low ≡ 16) × (first < 16))) (reaches : first + pages ≤ high)
-    (ends : (high ≡ low) ⊎ (high ≡ first + pages)) where
+    (row : first + pages ≤ user_end mode) (begins : low ≡ max first 16) (ends : high ≡ max low (first + pages)) where
   role : (m : ℕ) → role_of new.frames m ≡ role_of old.frames m
   role m = ap (λ t. role_of t m) remaps.frames ∙ ap (λ rs. get_or rs m Free) permits.memory.roles
 
@@ -209,23 +192,11 @@ module _ {mode : ℕ} (old mid new : Picture mode) (pid first pages low high : �
       let P : ℕ → Type 0 = λ x. Permits old.frames (old.at pid page) prot (entry old pid page) x in
       subst P (sym (same_entry pid page)) (permits.changed page h least below)
 
-  by_row : (q page : ℕ) → IsBeside pid low high q page ⊎ ((q ≡ pid) × (low ≤ page) × (page < high))
-  by_row q page = elim (cases_eq q pid) [
-    | inl is ↦ elim (cases_lt page low) [
-      | inl before ↦ inl (inr (inl before))
-      | inr from ↦ elim (cases_lt page high) [
-        | inl below ↦ inr (is, from, below)
-        | inr past ↦ inl (inr (inr past))
-      ]
-    ]
-    | inr ne ↦ inl (inl ne)
-  ]
-
   seats : SameSeats old new
   seats = record { roles = role; counts = count; slots = slots; page_of = page_of; place = place }
 
   seat_here : (q page : ℕ) → IsPage (top_level mode) page → seat (entry new q page) ≡ seat (entry old q page)
-  seat_here q page h = elim (by_row q page) [
+  seat_here q page h = elim (by_row pid low high q page) [
     | inl out ↦ ap seat (kept q page h out)
     | inr here ↦ (
         let P : ℕ → Type 0 = λ x. seat (entry new x page) ≡ seat (entry old x page) in
@@ -236,16 +207,7 @@ module _ {mode : ℕ} (old mid new : Picture mode) (pid first pages low high : �
   at_row page e = at page ∙ (rw e refl)
 
   in_here : (page : ℕ) → low ≤ page → page < high → in_row first pages page ≡ true
-  in_here page from below =
-      let above : first ≤ page = elim begins [
-        | inl is ↦ omega (arith, is, from)
-        | inr is ↦ (let l = is.0 in let f = is.1 in omega (arith, l, f, from))
-      ] in
-      let under : page < first + pages = elim ends [
-        | inl none ↦ absurd (omega (arith, none, from, below))
-        | inr is ↦ omega (arith, is, below)
-      ] in
-      and_from (leb first page) (ltb page (first + pages)) (le-leb first page above) (lt-ltb page (first + pages) under)
+  in_here page from below = in_row_from first pages page (omega (arith, begins, from)) (omega (arith, from, below, ends))
 
   low_unmapped : (page : ℕ) → page < 16 → old.at pid page ≡ None
   low_unmapped page under =
@@ -257,11 +219,8 @@ module _ {mode : ℕ} (old mid new : Picture mode) (pid first pages low high : �
       elim out [
         | inl ne ↦ absurd (ne refl)
         | inr side ↦ elim side [
-          | inl before ↦ elim begins [
-            | inl is ↦ absurd (omega (arith, is, before, parts.0))
-            | inr is ↦ (let l = is.0 in omega (arith, l, before))
-          ]
-          | inr past ↦ absurd (omega (arith, past, reaches, parts.1))
+          | inl before ↦ omega (arith, begins, before, parts)
+          | inr past ↦ omega (arith, past, ends, parts)
         ]
       ]
 
@@ -295,7 +254,7 @@ module _ {mode : ℕ} (old mid new : Picture mode) (pid first pages low high : �
       (fit.granting.entries q page h)
 
   fits : (q page : ℕ) → IsPage (top_level mode) page → IsEntryFor new (new.at q page) (entry new q page)
-  fits q page h = elim (by_row q page) [
+  fits q page h = elim (by_row pid low high q page) [
     | inl out ↦ rw (at_beside q page out, kept q page h out) (fits_still_here q page h)
     | inr here ↦ (
         let P : ℕ → Type 0 = λ x. IsEntryFor new (new.at x page) (entry new x page) in
@@ -318,7 +277,7 @@ module _ {mode : ℕ} (old mid new : Picture mode) (pid first pages low high : �
 
   dirty_still : (q page : ℕ) (p : PageKey) → IsPage (top_level mode) page → is_valid (entry new q page) ≡ true → is_private (entry new q page) ≡ false → is_dirty (entry new q page) ≡ true
       → new.place p ≡ Frame (record { 0 = frame_of (entry new q page) }) → new.touched p ≡ true
-  dirty_still q page p h valid common dirty there = elim (by_row q page) [
+  dirty_still q page p h valid common dirty there = elim (by_row pid low high q page) [
     | inl out ↦ (
         let e = kept q page h out in
         touched p ∙ fit.dirty.dirty q page p h (sym (ap is_valid e) ∙ valid) (sym (ap is_private e) ∙ common) (sym (ap is_dirty e) ∙ dirty)
@@ -347,21 +306,12 @@ module _ {mode : ℕ} (old mid new : Picture mode) (pid first pages low high : �
   ]
 
   rooted_new : IsRootedBut new 0
-  rooted_new =
-      let was : (q r : ℕ) → new.root q ≡ Some r → mid.root q ≡ Some r = λ q r e. sym (remaps.root q) ∙ e in
-      record {
-        forest = (let P : FrameTable → Type 0 = λ t. IsForest t in subst P (sym remaps.frames) rooted.forest);
-        roots = λ q r e. (let P : FrameTable → Type 0 = λ t. IsRoot (top_level mode) t r in subst P (sym remaps.frames) (rooted.roots q r (was q r e)));
-        apart = λ p q r e f. rooted.apart p q r (was p r e) (was q r f);
-        numbers = λ q r e. rooted.numbers q r (was q r e);
-        used = λ m table. elim (rooted.used m (let P : FrameTable → Type 0 = λ t. IsTable t m in subst P remaps.frames table)) [
-          | inl z ↦ inl z
-          | inr o ↦ inr (used_kept mid new (IsMapped mid) (IsMapped new) m
-              (λ a i b p. (let P : FrameTable → Type 0 = λ t. Points t a i b in subst P (sym remaps.frames) p)) remaps.root mapped_on o)
-        ];
-      }
+  rooted_new = rooted_regions mid new pid rooted remaps (λ m table. elim (rooted.used m table) [
+    | inl z ↦ inl z
+    | inr o ↦ inr (used_kept mid mid (IsMapped mid) (IsMapped new) m (λ a i b p. p) (λ q. refl) mapped_on o)
+  ])
 
-  pub fit_reprotected : IsFit new
+  fit_reprotected : IsFit new
   fit_reprotected = record {
     counted = (
       fit.counted.0,
@@ -408,12 +358,9 @@ module _ {mode : ℕ} (old mid new : Picture mode) (pid first pages low high : �
         view-none new q page (at_beside q page out ∙ none) ∙ sym (view-none old q page none))
   ]
 
-  page_here : (page : ℕ) → in_row first pages page ≡ true → IsPage (top_level mode) page
-  page_here page e = let under = (row_parts first pages page e).1 in let fits = user_pages_fit mode in omega (arith, under, row, fits)
-
   view_here : (page : ℕ) → in_row first pages page ≡ true → view new pid page ≡ option_map (permitted prot) (view old pid page)
   view_here page e =
-      let h = page_here page e in
+      let h = pages_inside mode first pages page row e in
       view-is new pid page ∙ ap (λ o. view_of (own_in new.frames new.slots (entry new pid page)) o) (at_row page e)
       ∙ view_permitted prot (old.at pid page) (own_in old.frames old.slots (entry old pid page)) (own_in new.frames new.slots (entry new pid page))
       (own_kept old new (seat (entry old pid page)) (seat (entry new pid page)) (seat_here pid page h) (own_bytes pid page h))
@@ -421,36 +368,37 @@ module _ {mode : ℕ} (old mid new : Picture mode) (pid first pages low high : �
 
   permits_here : (page : ℕ) → in_row first pages page ≡ true → Permits old.frames (old.at pid page) prot (entry old pid page) (entry new pid page)
   permits_here page e =
-      let h = page_here page e in
-      elim (by_row pid page) [
+      let h = pages_inside mode first pages page row e in
+      elim (by_row pid low high pid page) [
         | inl out ↦ Empty (entry_none page h out e) (kept pid page h out ∙ entry_none page h out e)
         | inr here ↦ changed page h here.1 here.2
       ]
 
   out_of_row : (page : ℕ) → in_row first pages page ≡ false → IsBeside pid low high pid page
-  out_of_row page e = elim (by_row pid page) [
+  out_of_row page e = elim (by_row pid low high pid page) [
     | inl out ↦ out
     | inr here ↦ absurd (false≢true (sym e ∙ in_here page here.1 here.2))
   ]
 
-  pub others_reprotected : KeepsEntriesOfOthers old new pid
-  others_reprotected q page h ne = kept q page h (inl ne)
-
-  pub row_reprotected : ReprotectsRow old new pid first pages prot
-  row_reprotected = record {
-    root = root;
-    at = at;
-    others_at = λ q page ne. remaps.others q page ne ∙ permits.beside.at q page;
-    views = λ page. elim (cases_Bool (in_row first pages page)) [
-      | inl e ↦ rw e (view_here page e)
-      | inr e ↦ rw e (view_beside pid page (out_of_row page e))
-    ];
-    entries = permits_here;
-    kept = λ page h e. kept pid page h (out_of_row page e);
-    others = λ q page ne. view_beside q page (inl ne);
-    files = record {
-      held = λ p. inl (held_same old new p (place p) slots (λ n here. bytes n (cache_data (role_of old.frames n) (fit.places.cached p n here))));
-      touched = touched;
-      files = files;
+  pub reprotected_row : IsRowReprotected old new pid first pages prot
+  reprotected_row = record {
+    row = record {
+      root = root;
+      at = at;
+      others_at = λ q page ne. remaps.others q page ne ∙ permits.beside.at q page;
+      views = λ page. elim (cases_Bool (in_row first pages page)) [
+        | inl e ↦ rw e (view_here page e)
+        | inr e ↦ rw e (view_beside pid page (out_of_row page e))
+      ];
+      entries = permits_here;
+      kept = λ page h e. kept pid page h (out_of_row page e);
+      others = λ q page ne. view_beside q page (inl ne);
+      files = record {
+        held = λ p. inl (held_same old new p (place p) slots (λ n here. bytes n (cache_data (role_of old.frames n) (fit.places.cached p n here))));
+        touched = touched;
+        files = files;
+      };
     };
+    others = λ q page h ne. kept q page h (inl ne);
+    fit = fit_reprotected;
   }

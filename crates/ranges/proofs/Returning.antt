@@ -1,29 +1,15 @@
 -- The share of a frame or of a slot given back, which an entry named before: nobody who keeps it sees a change.
-use Rattle.vm_types.specs.Limits.{top_level}
-use Rattle.std.proofs.Common.{◌≡◌, ◌≢◌, ℕ, inl, inr, ◌+◌, ◌<◌, ◌≤◌, ◌^◌, true, false, Option, Some, None, refl, sym, ap, ◌∙◌, subst, arith}
-use Rattle.std.proofs.lemmas.Bool.{cases_eq, cases_Bool}
-use Rattle.vm_types.specs.declared.object.PageKey.{PageKey}
-use Rattle.vm_types.specs.declared.number.SlotNo.{SlotNo}
-use Rattle.frames.specs.declared.role.Role.TheVariants.{Free, Private, Cache}
-use Rattle.frames.specs.FrameTable.{FrameTable, role_of, Releases}
+use Rattle.vm_types.specs.{Limits.{top_level}, declared.object.PageKey.{PageKey}, declared.number.SlotNo.{SlotNo}}
+use Rattle.std.proofs.{Common.{◌≡◌, ◌≢◌, ℕ, inl, inr, ◌+◌, ◌<◌, ◌≤◌, ◌^◌, true, false, Option, Some, None, refl, sym, ap, ◌∙◌, subst, arith}, lemmas.Bool.{cases_eq, cases_Bool}}
+use Rattle.frames.specs.{declared.role.Role.TheVariants.{Free, Private, Cache}, FrameTable.{FrameTable, role_of, Releases}}
 use Rattle.swap.specs.Slots.{SlotTable}
 use Rattle.swap.specs.Slots as Slots
 use Rattle.sv39_walk.specs.Entry.{frame_of}
-use Rattle.page_tables.proofs.Data.{KeepsTrees, data_released}
-use Rattle.page_tables.proofs.Places.{row_same}
-use Rattle.page_tables.specs.declared.forms.Entry.{Entry}
-use Rattle.page_tables.specs.declared.forms.Entry.TheVariants.{Swapped}
-use Rattle.page_tables.specs.Entry.{number_of, IsEntry}
+use Rattle.page_tables.proofs.{Data.{KeepsTrees, data_released}, Places.{row_same}}
+use Rattle.page_tables.specs.{declared.forms.Entry.{Entry}, declared.forms.Entry.TheVariants.{Swapped}, Entry.{number_of, IsEntry}}
 use Rattle.page_cache.specs.declared.place.Place.TheVariants.{Frame}
-use Rattle.residency.specs.Seats.{Seat, InFrame, InSlot, seat, is_private, is_swapped}
-use Rattle.residency.specs.Picture.{Picture, IsOwned}
-use Rattle.residency.specs.Parts.{IsFit, IsFitBut}
-use Rattle.residency.specs.Steps.{SameBeside}
-use Rattle.residency.proofs.Evicted.{fit_released}
-use Rattle.residency.proofs.Handed.{same, release_spares}
-use Rattle.residency.proofs.Putting.{with_slots}
-use Rattle.residency.proofs.Setting.{held_same}
-use Rattle.residency.proofs.SlotReleased.{fit_slot_released}
+use Rattle.residency.specs.{Seats.{Seat, InFrame, InSlot, seat, is_private, is_swapped}, Picture.{Picture, IsOwned}, Parts.{IsFit, IsFitBut}, Steps.{SameBeside}}
+use Rattle.residency.proofs.{Evicted.{fit_released}, Handed.{same, release_spares}, Putting.{with_slots}, Setting.{held_same}, SlotReleased.{fit_slot_released}}
 use Rattle.residency.proofs.SeatForms.{seat_own, seat_common, swapped_form, away_seat, views_given, held_given}
 use Rattle.ranges.specs.Steps.{SameButMemory, LacksHolder, ReturnsSeat}
 use Rattle.ranges.proofs.Sharing.{private_data}

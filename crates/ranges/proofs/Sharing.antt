@@ -1,25 +1,12 @@
 -- What gives back the share of a frame or of a slot, or takes an entry out: counts, and slots.
 use Rattle.vm_types.specs.Limits.{top_level}
-use Rattle.std.proofs.Common.{◌≡◌, ◌≢◌, ℕ, inl, inr, ◌+◌, ◌<◌, true, false, Option, Some, None, refl, sym, ap, ◌∙◌, subst, arith}
-use Rattle.std.proofs.lemmas.Bool.{cases_lt, false≢true}
-use Rattle.std.proofs.lemmas.List.{get_or_past}
-use Rattle.frames.specs.declared.role.Role.{Role}
-use Rattle.frames.specs.declared.role.Role.TheVariants.{Free, Table, Private, Cache}
-use Rattle.frames.specs.FrameTable.{FrameTable, frame_count, role_of, IsFrame, IsHeld, IsSound}
+use Rattle.std.proofs.{Common.{◌≡◌, ◌≢◌, ℕ, inl, inr, ◌+◌, ◌<◌, true, false, Option, Some, None, refl, sym, ap, ◌∙◌, subst, arith}, lemmas.Bool.{cases_lt, false≢true}, lemmas.List.{get_or_past}}
+use Rattle.frames.specs.{declared.role.Role.{Role}, declared.role.Role.TheVariants.{Free, Table, Private, Cache}, FrameTable.{FrameTable, frame_count, role_of, IsFrame, IsHeld, IsSound}}
 use Rattle.sv39_walk.specs.Entry.{is_valid, frame_of}
 use Rattle.page_tables.specs.Tree.{IsPage}
-use Rattle.residency.specs.Seats.{Seat, InFrame, seat, is_seat, holders_at, off, AreCounted, OthersSame}
-use Rattle.residency.specs.Picture.{Picture, entry, IsOwned, count_in, page_in}
-use Rattle.residency.specs.Parts.{IsRootedBut, IsFitBut, Nothing, nowhere}
-use Rattle.residency.specs.Steps.{SetsPage}
-use Rattle.residency.proofs.Bits.{valid_zero}
-use Rattle.residency.proofs.Counts.{count-same, count-one}
-use Rattle.residency.proofs.Granting.{granting_changed}
-use Rattle.residency.proofs.Moves.{behind_kept, owned_forth, owned_back, count_kept, page_kept}
-use Rattle.residency.proofs.Places.{places_same, dirty_changed}
-use Rattle.residency.proofs.Seats.{cases_seat, seat-same, seat-other, off-none}
-use Rattle.residency.proofs.Start.{seat-none}
-use Rattle.residency.proofs.Ways.{by_page}
+use Rattle.residency.specs.{Seats.{Seat, InFrame, seat, is_seat, holders_at, off, AreCounted, OthersSame}, Picture.{Picture, entry, IsOwned, count_in, page_in}, Parts.{IsRootedBut, IsFitBut, Nothing, nowhere}, Steps.{SetsPage}}
+use Rattle.residency.proofs.{Bits.{valid_zero}, Counts.{count-same, count-one}, Granting.{granting_changed}, Moves.{behind_kept, owned_forth, owned_back, count_kept, page_kept}, Places.{places_same, dirty_changed}}
+use Rattle.residency.proofs.{Seats.{cases_seat, seat-same, seat-other, off-none}, Start.{seat-none}, Ways.{by_page}}
 
 -- a frame of some use is one of memory
 pub inside_memory : (t : FrameTable) (n : ℕ) → IsSound t → role_of t n ≢ Free → IsFrame t n
@@ -43,13 +30,13 @@ cache_data r p t = let bad : Cache ≡ Table = sym p ∙ t in (cc)
 pub held_private : (t : FrameTable) (n : ℕ) → IsFrame t n → role_of t n ≡ Private → IsHeld t n
 held_private t n inside private = record { inside = inside; handed_out = rw private refl }
 
-sits : (o : Option Seat) (y : Seat) → o ≡ Some y → is_seat o y ≡ true
+pub sits : (o : Option Seat) (y : Seat) → o ≡ Some y → is_seat o y ≡ true
 sits o y e = ap (λ z. is_seat z y) e ∙ seat-same y
 
 sits_not : (o : Option Seat) (x y : Seat) → o ≡ Some x → x ≢ y → is_seat o y ≡ false
 sits_not o x y e ne = ap (λ z. is_seat z y) e ∙ seat-other x y ne
 
-sits_none : (o : Option Seat) (y : Seat) → o ≡ None → is_seat o y ≡ false
+pub sits_none : (o : Option Seat) (y : Seat) → o ≡ None → is_seat o y ≡ false
 sits_none o y e = ap (λ z. is_seat z y) e
 
 off-here : (x : Seat) (d : ℕ) → off x d x ≡ d

@@ -1,10 +1,8 @@
 -- Entries that name the frame that they named.
 use Rattle.std.proofs.Common.{◌≡◌, ◌≢◌, ℕ, ◌/◌, ◌%◌, Bool, false, sym, ◌∙◌}
-use Rattle.vm_types.specs.Limits.{top_level, table_entries}
-use Rattle.vm_types.specs.declared.permission.Prot.{Prot}
+use Rattle.vm_types.specs.{Limits.{top_level, table_entries}, declared.permission.Prot.{Prot}}
 use Rattle.frames.specs.FrameTable.{FrameTable}
-use Rattle.page_tables.specs.Tree.{IsForest, page_entry}
-use Rattle.page_tables.specs.Places.{IsTableOf}
+use Rattle.page_tables.specs.{Tree.{IsForest, page_entry}, Places.{IsTableOf}}
 use Rattle.memory.specs.Notes.{NamesNoMore}
 use Rattle.memory.proofs.Numbers.{of_number}
 use Rattle.residency.specs.Picture.{is_swapped}

@@ -100,10 +100,10 @@ module _ {mode : ℕ} where
   abbrev pub IsBareRow : Picture mode → ℕ → ℕ → ℕ → Type 0
   IsBareRow c pid first pages = (page : ℕ) → in_row first pages page ≡ true → entry c pid page ≡ 0
 
--- Pages of objects that only the row of one process names are at home now, and their frames and slots are free. Nothing else changed:
--- every entry is as it was, and every page is seen as it was but for what stands behind those of the row.
+-- Pages of objects went home, and their frames and slots are free. Nothing else changed: every entry is as it was, and every page is
+-- seen as it was but for what stands behind those that name them.
 module _ {mode : ℕ} where
-  pub record ForgetsRow (old new : Picture mode) (pid first pages : ℕ) : Type 0 where
+  pub record FreesPlaces (old new : Picture mode) : Type 0 where
     pub root : (q : ℕ) → new.root q ≡ old.root q
     pub at : (q page : ℕ) → new.at q page ≡ old.at q page
     pub page_of : (n : ℕ) → new.page_of n ≡ old.page_of n
@@ -116,24 +116,20 @@ module _ {mode : ℕ} where
     pub fewer : (k : ℕ) → new.slots.count k ≤ old.slots.count k
     pub counts : (k : ℕ) → ((p : ObjectPage) → old.place (Object p) ≢ Slot (record { 0 = k })) → new.slots.count k ≡ old.slots.count k
     pub bytes : (k : ℕ) → IsInUse new.slots k → new.slots.bytes k ≡ old.slots.bytes k
+
+-- Those are the pages of objects that only the row of one process names, and no others.
+module _ {mode : ℕ} where
+  pub record ForgetsRow (old new : Picture mode) (pid first pages : ℕ) : Type 0 where
+    pub frees : FreesPlaces old new
+    pub open frees use *
     pub keeps : KeepsNamed (without_maps old.at pid first pages) old new
 
 -- Pages of objects that only the row names, some of them, are at home now; nothing else changed.
 module _ {mode : ℕ} where
   pub record ForgetsMore (old new : Picture mode) (pid first pages : ℕ) : Type 0 where
-    pub root : (q : ℕ) → new.root q ≡ old.root q
-    pub at : (q page : ℕ) → new.at q page ≡ old.at q page
-    pub page_of : (n : ℕ) → new.page_of n ≡ old.page_of n
+    pub frees : FreesPlaces old new
+    pub open frees use *
     pub files : (f : ℕ) → new.files f ≡ old.files f
-    pub entries : (q page : ℕ) → IsPage (top_level mode) page → entry new q page ≡ entry old q page
-    pub views : (q page : ℕ) → view new q page ≡ view old q page
-    pub frames : frame_count new.frames ≡ frame_count old.frames
-    pub roles : (n : ℕ) → (role_of new.frames n ≡ role_of old.frames n) ⊎ ((role_of new.frames n ≡ Free) × (role_of old.frames n ≡ Cache))
-    pub pointers : (n i m : ℕ) → Points old.frames n i m ↔ Points new.frames n i m
-    pub total : new.slots.total ≡ old.slots.total
-    pub fewer : (k : ℕ) → new.slots.count k ≤ old.slots.count k
-    pub counts : (k : ℕ) → ((p : ObjectPage) → old.place (Object p) ≢ Slot (record { 0 = k })) → new.slots.count k ≡ old.slots.count k
-    pub bytes : (k : ℕ) → IsInUse new.slots k → new.slots.bytes k ≡ old.slots.bytes k
     pub place : (p : PageKey) → (new.place p ≡ old.place p) ⊎ (new.place p ≡ Home)
     pub lasting : (p : PageKey) → IsLasting (without_maps old.at pid first pages) p → (new.place p ≡ old.place p) × (new.touched p ≡ old.touched p) × (held new p ≡ held old p)
 

@@ -10,7 +10,7 @@ use Rattle.residency.specs.Parts.{IsFit}
 use Rattle.residency.specs.Shows.{KeepsFiles}
 use Rattle.ranges.specs.declared.rows.TableRow.{TableRow}
 use Rattle.ranges.specs.Rows.{RemapsRow}
-use Rattle.ranges.specs.Steps.{KeepsBesideMemory, KeepsEntriesOfOthers, SameTables, ReturnsSeat, ReturnsTables, ReturnsSlots, Clears, IsWithoutTables, IsCleared, IsStepEnd}
+use Rattle.ranges.specs.Steps.{KeepsBesideMemory, KeepsEntriesOfOthers, SameTables, ReturnsSeat, ReturnsTables, ReturnsRowTables, ReturnsSlots, Clears, IsWithoutTables, IsCleared, IsStepEnd}
 
 -- the entry of a page of the row's process stands in the row's table
 module _ {mode : ℕ} where
@@ -92,8 +92,9 @@ module _ {M : Type 0} {m : Levels.Ghosts M} {D E : Type 0} where
     -- its pages stay mapped, without entries and own copies, and every other page is as it was, with the same entry;
     pub row : RemapsRow (picture_of old) (picture_of new) pid first pages ((picture_of old).at pid)
     pub others : KeepsEntriesOfOthers (picture_of old) (picture_of new) pid
-    -- the tables that were there for these pages alone are free, and of a slot one share for each own copy is given back;
+    -- the tables that were there for these pages alone are free, and no others, and of a slot one share for each own copy is given back;
     pub tables : ReturnsTables (picture_of old) (picture_of new) pid
+    pub row_tables : ReturnsRowTables (picture_of old) (picture_of new) pid first (first + pages)
     pub none_left : IsWithoutTables (picture_of new) pid first (first + pages)
     pub slots : ReturnsSlots (picture_of old) (picture_of new) pid first (first + pages)
     -- memory is fit, every file has the bytes that it had, and nothing but frames and the share counts of slots changes.

@@ -8,7 +8,7 @@ use Rattle.residency.specs.declared.kernel.Core.{Core}
 use Rattle.residency.specs.Picture.{Picture, picture_of, is_live}
 use Rattle.residency.specs.Parts.{IsFit}
 use Rattle.ranges.specs.Rows.{IsBareRow, KeepsNamed, RemapsRow, without_maps}
-use Rattle.ranges.specs.Steps.{KeepsDevices, KeepsEntriesOfOthers, ReturnsTables, LosesSlots}
+use Rattle.ranges.specs.Steps.{KeepsDevices, KeepsEntriesOfOthers, ReturnsTables, ReturnsRowTables, LosesSlots}
 
 -- those are pages of a live process, in memory that is fit
 module _ {mode : ℕ} where
@@ -30,8 +30,9 @@ module _ {M : Type 0} {m : Levels.Ghosts M} {D E : Type 0} where
     pub others : KeepsEntriesOfOthers (picture_of old) (picture_of new) pid
     -- pages of objects that only the row named are forgotten, and all others of files and objects are where they were;
     pub files : KeepsNamed (without_maps (picture_of old).at pid first pages) (picture_of old) (picture_of new)
-    -- tables of that process alone are given back, and of slots the shares of the row and those that held such objects;
+    -- tables of that process alone are given back, on the ways to the row, and of slots the shares of the row and those that held such objects;
     pub tables : ReturnsTables (picture_of old) (picture_of new) pid
+    pub row_tables : ReturnsRowTables (picture_of old) (picture_of new) pid first (first + pages)
     pub slots : LosesSlots (picture_of old) (picture_of new) pid first (first + pages)
     -- memory is fit and as large as it was, neither device is asked, and no process comes or goes.
     pub fit : IsFit (picture_of new)

@@ -66,6 +66,16 @@ module _ {mode : ℕ} where
     pub copies : (n : ℕ) → role_of new.frames n ≡ Private → role_of old.frames n ≡ Private
     pub pointers : (n i m : ℕ) → Points new.frames n i m → Points old.frames n i m
 
+-- The same, and each table that was given back lay on the way to one of the pages from low up to, not including, high.
+module _ {mode : ℕ} where
+  pub record ReturnsRowTables (old new : Picture mode) (pid low high : ℕ) : Type 0 where
+    pub tables : (n : ℕ) → IsTable old.frames n → IsTable new.frames n
+        ⊎ ((role_of new.frames n ≡ Free)
+        × ((r : ℕ) × (page : ℕ) × (old.root pid ≡ Some r) × IsBelowRoot old.frames (top_level mode) r page n × (low ≤ page) × (page < high)))
+    pub free : (n : ℕ) → role_of old.frames n ≡ Free → role_of new.frames n ≡ Free
+    pub copies : (n : ℕ) → role_of new.frames n ≡ Private → role_of old.frames n ≡ Private
+    pub pointers : (n i m : ℕ) → Points new.frames n i m → Points old.frames n i m
+
 -- Of slots, the shares were given back that a process's own copies of the pages from low up to, not including, high had, one
 -- for each. No other slot has another share count, and each slot that is still in use has its bytes.
 module _ {mode : ℕ} where
@@ -91,7 +101,7 @@ module _ {mode : ℕ} where
 module _ {mode : ℕ} where
   pub record Clears (old new : Picture mode) (pid low high : ℕ) : Type 0 where
     pub beside : SameButMemory old new
-    pub returned : ReturnsTables old new pid
+    pub returned : ReturnsRowTables old new pid low high
     pub slots : ReturnsSlots old new pid low high
     pub gone : (page : ℕ) → IsPage (top_level mode) page → low ≤ page → page < high → entry new pid page ≡ 0
     pub kept : (q page : ℕ) → IsPage (top_level mode) page → IsBeside pid low high q page → entry new q page ≡ entry old q page

@@ -1,14 +1,14 @@
 //! Rows of pages, and the tables that their entries stand in.
 ghost use Rattle.std.specs.Prelude.{◌≡◌, ◌≢◌, ℕ, ◌<◌, ◌≤◌, ◌+◌, ◌*◌, ◌/◌, ◌^◌, true, IfNone, IfSome};
 ghost use Rattle.vm_types.specs.Limits.{top_level, user_start, user_end, table_entries};
-ghost use Rattle.page_tables.specs.Tree.{IsForest, IsRoot};
+ghost use Rattle.page_tables.specs.Tree.{IsForest, IsPage, IsRoot};
 ghost use Rattle.regions.specs.RunList.{attr_at};
 ghost use Rattle.residency.specs.Picture.{picture_of, is_live, entry};
-ghost use Rattle.residency.specs.Parts.{IsRootedBut};
+ghost use Rattle.residency.specs.Parts.{IsFit, IsRootedBut};
 ghost use Rattle.residency.specs.Ways.{IsWhole};
 ghost use Rattle.ranges.specs.Rows.{IsUnmapped, IsNextPart};
 ghost use Rattle.ranges.specs.Steps.{IsGapEnd};
-ghost use Rattle.ranges.specs.WaysPassed.{FindsLinked, IsUserRow, PassesGap};
+ghost use Rattle.ranges.specs.WaysPassed.{FindsLinked, FindsPart, IsUserRow, PassesGap};
 
 use crate::entries::next_set;
 use memory::{Memory, last_table};
@@ -19,9 +19,9 @@ use vm_types::{FrameNo, Levels, Pid, Vpn};
 
 /// Pages of a row, from a mapped one up to, not including, `end`.
 #[derive(Clone, Copy)]
-pub(crate) struct Part {
-    pub(crate) first: Vpn,
-    pub(crate) end: u64,
+pub struct Part {
+    pub first: Vpn,
+    pub end: u64,
 }
 
 /// A row of 512 pages of a process whose entries stand in one lowest table of the tree of `root`. It begins with the page `first`.
@@ -124,6 +124,27 @@ pub(crate) fn next_linked<D, E, M: Levels>(
         }
     }
     end
+}
+
+/// The next pages of a live process from `page` on that one run maps and whose entries stand in one lowest table; `None` where
+/// none are left. The pages before them have no entry: what isn't mapped costs nothing, and a run the tables that it meets.
+pub fn linked_part<D, E, M: Levels>(core: &Core<D, E, M>, pid: Pid, page: u64) -> Option<Part>
+    requires fit { IsFit (picture_of core.now) }
+    requires live { is_live (picture_of core.now) pid ≡ true }
+    ensures none { IfNone result ((p : ℕ) → IsPage (top_level M.mode) p → page ≤ p → entry (picture_of core.now) pid p ≡ 0) }
+    ensures some { IfSome result (λ part. FindsPart (picture_of core.now) pid page part.first part.end) }
+{
+    let mut at = page;
+    while let Some(run) = core.regions(pid).next_run(at) {
+        let linked = next_linked(core, pid, user_page::<M>(run.first), run.end);
+        if linked < run.end {
+            let first = user_page::<M>(linked);
+            let end = run.end.min(table_end(first));
+            return Some(Part { first, end });
+        }
+        at = run.end;
+    }
+    None
 }
 
 /// Where a table is missing on the way to a page, the next page on whose way fewer are, or the first one past those whose way

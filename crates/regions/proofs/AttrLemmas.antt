@@ -1,11 +1,6 @@
 -- Attributes of pages that follow one another, and the test whether two are equal.
-use Rattle.std.proofs.Common.{◌≡◌, ℕ, ◌+◌, ◌≤◌, true, ◌==◌, refl, ap, ap₂, subst, add_assoc, add-zero, eqb-true, eq-eqb, arith}
-use Rattle.std.proofs.lemmas.Bool.{and_parts, and_from}
-use Rattle.vm_types.specs.declared.file.FilePage.{FilePage}
-use Rattle.vm_types.specs.declared.object.ObjectPage.{ObjectPage}
-use Rattle.vm_types.specs.declared.region.Attr.{Attr}
-use Rattle.vm_types.specs.declared.region.Backing.{Backing}
-use Rattle.vm_types.specs.declared.region.Backing.TheVariants.{Anon, Private, Shared, Common}
+use Rattle.std.proofs.{Common.{◌≡◌, ℕ, ◌+◌, ◌≤◌, true, ◌==◌, refl, ap, ap₂, subst, add_assoc, add-zero, eqb-true, eq-eqb, arith}, lemmas.Bool.{and_parts, and_from}}
+use Rattle.vm_types.specs.{declared.file.FilePage.{FilePage}, declared.object.ObjectPage.{ObjectPage}, declared.region.Attr.{Attr}, declared.region.Backing.{Backing}, declared.region.Backing.TheVariants.{Anon, Private, Shared, Common}}
 use Rattle.vm_types.specs.Attributes.{backing_after, attr_after, backing_fits, file_page_eq, object_page_eq, backing_eq, attr_eq}
 
 backing_after-add : (b : Backing) (i j : ℕ) → backing_after (backing_after b i) j ≡ backing_after b (i + j)

@@ -1,42 +1,10 @@
 -- The runs from the first one on that ends behind a page: a search by halves finds them, and each look-up from the page
 -- on needs no others.
 use Rattle.std.proofs.Common.{◌≡◌, ℕ, zero, suc, ◌^◌, ◌<◌, ◌≤◌, ⊎_elim, max, min, Bool, true, false, not, if◌then◌else◌, ◌&&◌, leb, ltb, refl, sym, ◌∙◌, ap, ap₂, subst, arith, List, [], ◌∷◌, length, drop, get_or, Option, Some, None, leb-true, leb-false, le-leb, lt-ltb}
-use Rattle.std.specs.List.{slice_get}
-use Rattle.std.specs.List.Sorted.{IsNonDecreasingBy, IsPartitionPoint}
+use Rattle.std.specs.{List.{slice_get}, List.Sorted.{IsNonDecreasingBy, IsPartitionPoint}}
 use Rattle.vm_types.specs.declared.region.Attr.{Attr}
-use Rattle.regions.specs.declared.run.Run.{Run}
-use Rattle.regions.specs.Run.{IsRun, attr_in, cut_run, run_between}
-use Rattle.regions.specs.RunList.{run_or_else, attr_at, IsMaximal}
-use Rattle.regions.specs.Search.{first_part, gap_from, is_clear, run_or, runs_behind}
-use Rattle.regions.proofs.RunLemmas.{widest_run, attr_in-above, leb-no, lt_or_le, ltb-no, or_else-none}
-use Rattle.regions.proofs.ListLemmas.{attr_at-before}
-
--- the ends rise
-
-module _ (mode : ℕ) where
-  ends_after : (from : ℕ) (runs : List Run) (k : ℕ) (d : Run) → IsMaximal mode from runs → k < length runs → from ≤ (get_or runs k d).end
-  ends_after from [] k d m h = absurd (omega arith)
-  ends_after from (run ∷ runs) zero d m h =
-      let low : from ≤ run.first = m.0 in
-      let some : run.first < run.end = m.1.nonempty in
-      omega arith
-  ends_after from (run ∷ runs) (suc k) d m h =
-      let low : from ≤ run.first = m.0 in
-      let some : run.first < run.end = m.1.nonempty in
-      let rest : run.end ≤ (get_or runs k d).end = ends_after run.end runs k d m.3 (omega arith) in
-      omega arith
-
-module _ (mode : ℕ) where
-  rise : (from : ℕ) (runs : List Run) (i j : ℕ) (d : Run) → IsMaximal mode from runs → i ≤ j → j < length runs → (get_or runs i d).end ≤ (get_or runs j d).end
-  rise from [] i j d m a h = absurd (omega arith)
-  rise from (run ∷ runs) zero zero d m a h = omega arith
-  rise from (run ∷ runs) zero (suc j) d m a h = ends_after mode run.end runs j d m.3 (omega arith)
-  rise from (run ∷ runs) (suc i) zero d m a h = absurd (omega arith)
-  rise from (run ∷ runs) (suc i) (suc j) d m a h = rise run.end runs i j d m.3 (omega arith) (omega arith)
-
-module _ (mode : ℕ) where
-  pub ends_rise : (from : ℕ) (runs : List Run) → IsMaximal mode from runs → IsNonDecreasingBy (λ run. run.end) runs
-  ends_rise from runs m = λ i j d a h. rise mode from runs i j d m a h
+use Rattle.regions.specs.{declared.run.Run.{Run}, Run.{IsRun, attr_in, cut_run, run_between}, RunList.{run_or_else, attr_at, IsMaximal}, Search.{first_part, gap_from, is_clear, run_or, runs_behind}}
+use Rattle.regions.proofs.{RunLemmas.{widest_run, attr_in-above, leb-no, lt_or_le, ltb-no, or_else-none}, ListLemmas.{attr_at-before}}
 
 -- what the search by halves leaves
 
@@ -70,110 +38,117 @@ abbrev pub Looked : ℕ → ℕ → List Run → Option Run → Type 0
 Looked mode page runs None = Ends page runs
 Looked mode page runs (Some run) = Tells mode page runs run
 
--- a run that ends at the page or before it tells nothing
-
-module _ (mode : ℕ) (page : ℕ) (run : Run) (runs : List Run) (h : run.end ≤ page) where
-  at_passed : attr_at (run ∷ runs) page ≡ attr_at runs page
-  at_passed = ap (λ (o : Option Attr). run_or_else o (attr_at runs page)) (attr_in-above run page h)
-
-  part_passed : first_part page (run ∷ runs) ≡ first_part page runs
-  part_passed =
-      ap (λ (b : Bool). run_or (if b then Some (cut_run None run (max run.first page) (min run.end (2 ^ 35))) else None) (first_part page runs))
-      (ltb-no (max run.first page) (min run.end (2 ^ 35)) (omega arith))
-
-  and_not : (b : Bool) → not (b && false) ≡ true
-  and_not true = refl
-  and_not false = refl
-
-  clear_passed : (end : ℕ) → is_clear page end (run ∷ runs) ≡ is_clear page end runs
-  clear_passed end =
-      ap (λ (b : Bool). not (ltb run.first end && b) && is_clear page end runs) (ltb-no page run.end h)
-      ∙ ap (λ (b : Bool). b && is_clear page end runs) (and_not (ltb run.first end))
-
-  passed : (first : Option Run) → Looked mode page runs first → Looked mode page (run ∷ runs) first
-  passed None l =
-      record { at = at_passed ∙ l.at; part = part_passed ∙ l.part; clear = λ end. clear_passed end ∙ l.clear end }
-  passed (Some other) l =
-      record {
-        is_run = l.is_run;
-        at = at_passed ∙ l.at;
-        part = part_passed ∙ l.part;
-        clear = λ end. clear_passed end ∙ l.clear end;
-      }
-
--- the first that ends behind it tells all
-
 module _ (mode : ℕ) where
+  -- the ends rise
+
+  ends_after : (from : ℕ) (runs : List Run) (k : ℕ) (d : Run) → IsMaximal mode from runs → k < length runs → from ≤ (get_or runs k d).end
+  ends_after from [] k d m h = absurd (omega arith)
+  ends_after from (run ∷ runs) zero d m h = omega arith
+  ends_after from (run ∷ runs) (suc k) d m h = omega (arith, ends_after run.end runs k d m.3 (omega arith))
+
+  rise : (from : ℕ) (runs : List Run) (i j : ℕ) (d : Run) → IsMaximal mode from runs → i ≤ j → j < length runs → (get_or runs i d).end ≤ (get_or runs j d).end
+  rise from [] i j d m a h = absurd (omega arith)
+  rise from (run ∷ runs) zero zero d m a h = omega arith
+  rise from (run ∷ runs) zero (suc j) d m a h = ends_after run.end runs j d m.3 (omega arith)
+  rise from (run ∷ runs) (suc i) zero d m a h = absurd (omega arith)
+  rise from (run ∷ runs) (suc i) (suc j) d m a h = rise run.end runs i j d m.3 (omega arith) (omega arith)
+
+  pub ends_rise : (from : ℕ) (runs : List Run) → IsMaximal mode from runs → IsNonDecreasingBy (λ run. run.end) runs
+  ends_rise from runs m = λ i j d a h. rise from runs i j d m a h
+
+  -- a run that ends at the page or before it tells nothing
+
+  module _ (page : ℕ) (run : Run) (runs : List Run) (h : run.end ≤ page) where
+    at_passed : attr_at (run ∷ runs) page ≡ attr_at runs page
+    at_passed = ap (λ (o : Option Attr). run_or_else o (attr_at runs page)) (attr_in-above run page h)
+
+    part_passed : first_part page (run ∷ runs) ≡ first_part page runs
+    part_passed =
+        ap (λ (b : Bool). run_or (if b then Some (cut_run None run (max run.first page) (min run.end (2 ^ 35))) else None) (first_part page runs))
+        (ltb-no (max run.first page) (min run.end (2 ^ 35)) (omega arith))
+
+    and_not : (b : Bool) → not (b && false) ≡ true
+    and_not true = refl
+    and_not false = refl
+
+    clear_passed : (end : ℕ) → is_clear page end (run ∷ runs) ≡ is_clear page end runs
+    clear_passed end =
+        ap (λ (b : Bool). not (ltb run.first end && b) && is_clear page end runs) (ltb-no page run.end h)
+        ∙ ap (λ (b : Bool). b && is_clear page end runs) (and_not (ltb run.first end))
+
+    passed : (first : Option Run) → Looked mode page runs first → Looked mode page (run ∷ runs) first
+    passed None l =
+        record { at = at_passed ∙ l.at; part = part_passed ∙ l.part; clear = λ end. clear_passed end ∙ l.clear end }
+    passed (Some other) l =
+        record {
+          is_run = l.is_run;
+          at = at_passed ∙ l.at;
+          part = part_passed ∙ l.part;
+          clear = λ end. clear_passed end ∙ l.clear end;
+        }
+
+  -- the first that ends behind it tells all
+
   clear_later : (from page end : ℕ) (runs : List Run) → IsMaximal mode from runs → end ≤ from → is_clear page end runs ≡ true
   clear_later from page end [] m h = refl
   clear_later from page end (run ∷ runs) m h =
-      let low : from ≤ run.first = m.0 in
-      let some : run.first < run.end = m.1.nonempty in
       ap (λ (b : Bool). not (b && ltb page run.end) && is_clear page end runs) (ltb-no run.first end (omega arith))
       ∙ clear_later run.end page end runs m.3 (omega arith)
 
-module _ (mode : ℕ) (page : ℕ) (run : Run) (runs : List Run) (is_run : IsRun mode run) (rest : IsMaximal mode run.end runs) (h : page < run.end) where
-  part_here : first_part page (run ∷ runs) ≡ run_between page (2 ^ 35) None run
-  part_here =
-      let high : run.end ≤ 2 ^ 35 = widest_run mode run is_run in
-      let some : run.first < run.end = is_run.nonempty in
-      let inside : ltb (max run.first page) (min run.end (2 ^ 35)) ≡ true = lt-ltb (max run.first page) (min run.end (2 ^ 35)) (omega arith) in
-      ap (λ (b : Bool). run_or (if b then Some (cut_run None run (max run.first page) (min run.end (2 ^ 35))) else None) (first_part page runs)) inside
-      ∙ sym (ap (λ (b : Bool). if b then Some (cut_run None run (max run.first page) (min run.end (2 ^ 35))) else None) inside)
+  module _ (page : ℕ) (run : Run) (runs : List Run) (is_run : IsRun mode run) (rest : IsMaximal mode run.end runs) (h : page < run.end) where
+    part_here : first_part page (run ∷ runs) ≡ run_between page (2 ^ 35) None run
+    part_here =
+        let high : run.end ≤ 2 ^ 35 = widest_run mode run is_run in
+        let inside : ltb (max run.first page) (min run.end (2 ^ 35)) ≡ true = lt-ltb (max run.first page) (min run.end (2 ^ 35)) (omega arith) in
+        ap (λ (b : Bool). run_or (if b then Some (cut_run None run (max run.first page) (min run.end (2 ^ 35))) else None) (first_part page runs)) inside
+        ∙ sym (ap (λ (b : Bool). if b then Some (cut_run None run (max run.first page) (min run.end (2 ^ 35))) else None) inside)
 
-  clear_here : (end : ℕ) → is_clear page end (run ∷ runs) ≡ leb end run.first
-  clear_here end =
-      let some : run.first < run.end = is_run.nonempty in
-      ap (λ (b : Bool). not (ltb run.first end && b) && is_clear page end runs) (lt-ltb page run.end h)
-      ∙ ⊎_elim
-      (λ (a : run.first < end).
-      ap (λ (b : Bool). not (b && true) && is_clear page end runs) (lt-ltb run.first end a) ∙ sym (leb-no end run.first a))
-      (λ (a : end ≤ run.first).
-      ap (λ (b : Bool). not (b && true) && is_clear page end runs) (ltb-no run.first end a)
-      ∙ clear_later mode run.end page end runs rest (omega arith)
-      ∙ sym (le-leb end run.first a))
-      (lt_or_le run.first end)
+    clear_here : (end : ℕ) → is_clear page end (run ∷ runs) ≡ leb end run.first
+    clear_here end =
+        ap (λ (b : Bool). not (ltb run.first end && b) && is_clear page end runs) (lt-ltb page run.end h)
+        ∙ ⊎_elim
+        (λ (a : run.first < end).
+        ap (λ (b : Bool). not (b && true) && is_clear page end runs) (lt-ltb run.first end a) ∙ sym (leb-no end run.first a))
+        (λ (a : end ≤ run.first).
+        ap (λ (b : Bool). not (b && true) && is_clear page end runs) (ltb-no run.first end a)
+        ∙ clear_later run.end page end runs rest (omega arith)
+        ∙ sym (le-leb end run.first a))
+        (lt_or_le run.first end)
 
-  here : Looked mode page (run ∷ runs) (Some run)
-  here =
-      record {
-        is_run = is_run;
-        at = ap (λ (o : Option Attr). run_or_else (attr_in run page) o) (attr_at-before mode run.end runs page rest h) ∙ or_else-none (attr_in run page);
-        part = part_here;
-        clear = clear_here;
-      }
+    here : Looked mode page (run ∷ runs) (Some run)
+    here =
+        record {
+          is_run = is_run;
+          at = ap (λ (o : Option Attr). run_or_else (attr_in run page) o) (attr_at-before mode run.end runs page rest h) ∙ or_else-none (attr_in run page);
+          part = part_here;
+          clear = clear_here;
+        }
 
-module _ (mode : ℕ) where
   look_test : (page : ℕ) (run : Run) (runs : List Run) (b : Bool) → leb run.end page ≡ b → IsRun mode run → IsMaximal mode run.end runs → Looked mode page runs (slice_get (runs_behind page runs) 0) → Looked mode page (run ∷ runs) (slice_get (if b then runs_behind page runs else run ∷ runs) 0)
-  look_test page run runs true e r m l = passed mode page run runs (leb-true run.end page e) (slice_get (runs_behind page runs) 0) l
-  look_test page run runs false e r m l = here mode page run runs r m (leb-false run.end page e)
+  look_test page run runs true e r m l = passed page run runs (leb-true run.end page e) (slice_get (runs_behind page runs) 0) l
+  look_test page run runs false e r m l = here page run runs r m (leb-false run.end page e)
 
-module _ (mode : ℕ) where
   pub looked : (from page : ℕ) (runs : List Run) → IsMaximal mode from runs → Looked mode page runs (slice_get (runs_behind page runs) 0)
   looked from page [] m = record { at = refl; part = refl; clear = λ end. refl }
   looked from page (run ∷ runs) m =
-      look_test mode page run runs (leb run.end page) refl m.1 m.3 (looked run.end page runs m.3)
+      look_test page run runs (leb run.end page) refl m.1 m.3 (looked run.end page runs m.3)
 
--- as a caller has the first of them
-module _ (mode : ℕ) where
+  -- as a caller has the first of them
   pub first_tells : (page : ℕ) (runs behind : List Run) (first : Option Run) → IsMaximal mode 16 runs → behind ≡ runs_behind page runs → first ≡ slice_get behind 0 → Looked mode page runs first
   first_tells page runs behind first m e f =
-      subst (λ (o : Option Run). Looked mode page runs o) (sym (f ∙ ap (λ (l : List Run). slice_get l 0) e)) (looked mode 16 page runs m)
+      subst (λ (o : Option Run). Looked mode page runs o) (sym (f ∙ ap (λ (l : List Run). slice_get l 0) e)) (looked 16 page runs m)
 
--- the first page from this one on that isn't mapped: the runs that end before it don't matter
+  -- the first page from this one on that isn't mapped: the runs that end before it don't matter
 
-module _ (mode : ℕ) where
   gap_test : (page : ℕ) (run : Run) (runs : List Run) (b : Bool) → leb run.end page ≡ b → IsRun mode run → gap_from page (runs_behind page runs) ≡ gap_from page runs → gap_from page (if b then runs_behind page runs else run ∷ runs) ≡ gap_from page (run ∷ runs)
   gap_test page run runs true e r same =
       let ends : run.end ≤ page = leb-true run.end page e in
-      let some : run.first < run.end = r.nonempty in
       let before : max page run.end ≡ page = omega arith in
       same
       ∙ sym (ap₂ (λ (b : Bool) (n : ℕ). if b then page else gap_from n runs) (ltb-no page run.first (omega arith)) before)
   gap_test page run runs false e r same = refl
 
-module _ (mode : ℕ) where
   pub gap_behind : (from page : ℕ) (runs : List Run) → IsMaximal mode from runs → gap_from page (runs_behind page runs) ≡ gap_from page runs
   gap_behind from page [] m = refl
   gap_behind from page (run ∷ runs) m =
-      gap_test mode page run runs (leb run.end page) refl m.1 (gap_behind run.end page runs m.3)
+      gap_test page run runs (leb run.end page) refl m.1 (gap_behind run.end page runs m.3)

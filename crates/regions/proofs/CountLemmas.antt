@@ -1,16 +1,8 @@
 -- A maximal list is as long as its map has runs.
-use Rattle.std.proofs.Common.{◌≡◌, ◌≢◌, ℕ, zero, suc, ◌+◌, ◌-◌, ◌<◌, ◌≤◌, ⊎_elim, Bool, true, false, not, if◌then◌else◌, ◌&&◌, refl, sym, ◌∙◌, ap, ap₂, arith, List, [], ◌∷◌, length, Option, Some, None, eq-eqb}
-use Rattle.std.proofs.lemmas.Bool.{cases_eq}
-use Rattle.vm_types.specs.Limits.{user_end}
-use Rattle.vm_types.specs.declared.region.Attr.{Attr}
-use Rattle.vm_types.specs.Attributes.{attr_after, attr_eq}
-use Rattle.vm_types.specs.Runs.{begins, begins_run, runs_below, run_count}
-use Rattle.regions.specs.declared.run.Run.{Run}
-use Rattle.regions.specs.Run.{IsRun, joins}
-use Rattle.regions.specs.RunList.{run_or_else, attr_at, joins_first, IsMaximal, end_of}
-use Rattle.regions.proofs.AttrLemmas.{attr_after-add, attr_after-zero, attr_eq-same}
-use Rattle.regions.proofs.RunLemmas.{lt_or_le, attr_in-inside, attr_in-below, attr_in-above}
-use Rattle.regions.proofs.ListLemmas.{end_of-from, end_of-user, attr_at-before}
+use Rattle.std.proofs.{Common.{◌≡◌, ◌≢◌, ℕ, zero, suc, ◌+◌, ◌-◌, ◌<◌, ◌≤◌, ⊎_elim, Bool, true, false, not, if◌then◌else◌, refl, sym, ◌∙◌, ap, ap₂, arith, List, [], ◌∷◌, length, Option, Some, None}, lemmas.Bool.{cases_eq}}
+use Rattle.vm_types.specs.{Limits.{user_end}, declared.region.Attr.{Attr}, Attributes.{attr_after, attr_eq}, Runs.{begins, begins_run, runs_below, run_count}}
+use Rattle.regions.specs.{declared.run.Run.{Run}, Run.{IsRun}, RunList.{run_or_else, attr_at, joins_first, IsMaximal, end_of}}
+use Rattle.regions.proofs.{AttrLemmas.{attr_after-add, attr_eq-same}, RunLemmas.{lt_or_le, attr_in-inside, attr_in-below, attr_in-above}, ListLemmas.{end_of-from, end_of-user, attr_at-before}, WalkLemmas.{not_merged}}
 
 -- the page before
 abbrev before_of : (ℕ → Option Attr) → ℕ → Option Attr
@@ -42,169 +34,140 @@ module _ (mode : ℕ) where
   unfolding run_count
   run_count-same map other h = runs_below-same map other (user_end mode) (λ k _. h k)
 
-nothing_before : (page : ℕ) → before_of (λ _. None) page ≡ None
-nothing_before zero = refl
-nothing_before (suc page) = refl
+  nothing_before : (page : ℕ) → before_of (λ _. None) page ≡ None
+  nothing_before zero = refl
+  nothing_before (suc page) = refl
 
-begins_at_none : (before here : Option Attr) → here ≡ None → begins before here ≡ false
-begins_at_none before here e = ap (λ (o : Option Attr). begins before o) e
+  begins_at_none : (before here : Option Attr) → here ≡ None → begins before here ≡ false
+  begins_at_none before here e = ap (λ (o : Option Attr). begins before o) e
 
-begins_after_none : (before here : Option Attr) (attr : Attr) → before ≡ None → here ≡ Some attr → begins before here ≡ true
-begins_after_none before here attr b e = ap₂ (λ (x y : Option Attr). begins x y) b e
+  begins_after_none : (before here : Option Attr) (attr : Attr) → before ≡ None → here ≡ Some attr → begins before here ≡ true
+  begins_after_none before here attr b e = ap₂ (λ (x y : Option Attr). begins x y) b e
 
-begins_going_on : (before here : Option Attr) (attr next : Attr) → before ≡ Some attr → here ≡ Some next → attr_after attr 1 ≡ next → begins before here ≡ false
-begins_going_on before here attr next b e s =
-    ap₂ (λ (x y : Option Attr). begins x y) b e ∙ ap not (attr_eq-same (attr_after attr 1) next s)
+  begins_going_on : (before here : Option Attr) (attr next : Attr) → before ≡ Some attr → here ≡ Some next → attr_after attr 1 ≡ next → begins before here ≡ false
+  begins_going_on before here attr next b e s =
+      ap₂ (λ (x y : Option Attr). begins x y) b e ∙ ap not (attr_eq-same (attr_after attr 1) next s)
 
-begins_anew : (before here : Option Attr) (attr next : Attr) → before ≡ Some attr → here ≡ Some next → attr_eq (attr_after attr 1) next ≡ false → begins before here ≡ true
-begins_anew before here attr next b e s = ap₂ (λ (x y : Option Attr). begins x y) b e ∙ ap not s
+  begins_anew : (before here : Option Attr) (attr next : Attr) → before ≡ Some attr → here ≡ Some next → attr_eq (attr_after attr 1) next ≡ false → begins before here ≡ true
+  begins_anew before here attr next b e s = ap₂ (λ (x y : Option Attr). begins x y) b e ∙ ap not s
 
-module _ (mode : ℕ) (run : Run) (runs : List Run) (r : IsRun mode run) (rest : IsMaximal mode run.end runs) where
-  some_run : run.first < run.end
-  some_run = r.nonempty
+  module _ (run : Run) (runs : List Run) (r : IsRun mode run) (rest : IsMaximal mode run.end runs) where
+    at_below : (page : ℕ) → page < run.first → attr_at (run ∷ runs) page ≡ None
+    at_below page h =
+        ap (λ (o : Option Attr). run_or_else o (attr_at runs page)) (attr_in-below run page h)
+        ∙ attr_at-before mode run.end runs page rest (omega arith)
 
-  at_below : (page : ℕ) → page < run.first → attr_at (run ∷ runs) page ≡ None
-  at_below page h =
-      ap (λ (o : Option Attr). run_or_else o (attr_at runs page)) (attr_in-below run page h)
-      ∙ attr_at-before mode run.end runs page rest (let s : run.first < run.end = r.nonempty in omega arith)
+    rest_below : (page : ℕ) → page < run.end → attr_at runs page ≡ None
+    rest_below page h = attr_at-before mode run.end runs page rest h
 
-  rest_below : (page : ℕ) → page < run.end → attr_at runs page ≡ None
-  rest_below page h = attr_at-before mode run.end runs page rest h
+    at_inside : (page : ℕ) → run.first ≤ page → page < run.end → attr_at (run ∷ runs) page ≡ Some (attr_after run.attr (page - run.first))
+    at_inside page a b = ap (λ (o : Option Attr). run_or_else o (attr_at runs page)) (attr_in-inside run page a b)
 
-  at_inside : (page : ℕ) → run.first ≤ page → page < run.end → attr_at (run ∷ runs) page ≡ Some (attr_after run.attr (page - run.first))
-  at_inside page a b = ap (λ (o : Option Attr). run_or_else o (attr_at runs page)) (attr_in-inside run page a b)
+    at_above : (page : ℕ) → run.end ≤ page → attr_at (run ∷ runs) page ≡ attr_at runs page
+    at_above page h = ap (λ (o : Option Attr). run_or_else o (attr_at runs page)) (attr_in-above run page h)
 
-  at_above : (page : ℕ) → run.end ≤ page → attr_at (run ∷ runs) page ≡ attr_at runs page
-  at_above page h = ap (λ (o : Option Attr). run_or_else o (attr_at runs page)) (attr_in-above run page h)
+    begins_first : begins_run (attr_at (run ∷ runs)) run.first ≡ true
+    begins_first =
+        begins_run-is (attr_at (run ∷ runs)) run.first
+        ∙ begins_after_none (before_of (attr_at (run ∷ runs)) run.first) (attr_at (run ∷ runs) run.first) (attr_after run.attr (run.first - run.first))
+        (before_same (attr_at (run ∷ runs)) (λ _. None) run.first (λ k h. at_below k h) ∙ nothing_before run.first)
+        (at_inside run.first (omega arith) r.nonempty)
 
-  begins_first : begins_run (attr_at (run ∷ runs)) run.first ≡ true
-  begins_first =
-      let s : run.first < run.end = r.nonempty in
-      begins_run-is (attr_at (run ∷ runs)) run.first
-      ∙ begins_after_none (before_of (attr_at (run ∷ runs)) run.first) (attr_at (run ∷ runs) run.first) (attr_after run.attr (run.first - run.first))
-      (before_same (attr_at (run ∷ runs)) (λ _. None) run.first (λ k h. at_below k h) ∙ nothing_before run.first)
-      (at_inside run.first (omega arith) s)
+    rest_first : begins_run (attr_at runs) run.first ≡ false
+    rest_first =
+        begins_run-is (attr_at runs) run.first
+        ∙ begins_at_none (before_of (attr_at runs) run.first) (attr_at runs run.first) (rest_below run.first r.nonempty)
 
-  rest_first : begins_run (attr_at runs) run.first ≡ false
-  rest_first =
-      begins_run-is (attr_at runs) run.first
-      ∙ begins_at_none (before_of (attr_at runs) run.first) (attr_at runs run.first) (rest_below run.first r.nonempty)
+    inside_same : (page : ℕ) → run.first ≤ page → suc page < run.end → begins_run (attr_at (run ∷ runs)) (suc page) ≡ begins_run (attr_at runs) (suc page)
+    inside_same page a b =
+        let d : (page - run.first) + 1 ≡ suc page - run.first = omega arith in
+        begins_going_on (attr_at (run ∷ runs) page) (attr_at (run ∷ runs) (suc page)) (attr_after run.attr (page - run.first)) (attr_after run.attr (suc page - run.first))
+        (at_inside page a (omega arith)) (at_inside (suc page) (omega arith) b)
+        (attr_after-add run.attr (page - run.first) 1 ∙ ap (λ (n : ℕ). attr_after run.attr n) d)
+        ∙ sym (begins_at_none (attr_at runs page) (attr_at runs (suc page)) (rest_below (suc page) b))
 
-  inside_same : (page : ℕ) → run.first ≤ page → suc page < run.end → begins_run (attr_at (run ∷ runs)) (suc page) ≡ begins_run (attr_at runs) (suc page)
-  inside_same page a b =
-      let d : (page - run.first) + 1 ≡ suc page - run.first = omega arith in
-      begins_going_on (attr_at (run ∷ runs) page) (attr_at (run ∷ runs) (suc page)) (attr_after run.attr (page - run.first)) (attr_after run.attr (suc page - run.first))
-      (at_inside page a (omega arith)) (at_inside (suc page) (omega arith) b)
-      (attr_after-add run.attr (page - run.first) 1 ∙ ap (λ (n : ℕ). attr_after run.attr n) d)
-      ∙ sym (begins_at_none (attr_at runs page) (attr_at runs (suc page)) (rest_below (suc page) b))
+    -- at the page past the run
+    end_none : (page : ℕ) → run.first ≤ page → suc page ≡ run.end → attr_at runs (suc page) ≡ None → begins_run (attr_at (run ∷ runs)) (suc page) ≡ begins_run (attr_at runs) (suc page)
+    end_none page a e none =
+        begins_at_none (attr_at (run ∷ runs) page) (attr_at (run ∷ runs) (suc page)) (at_above (suc page) (omega arith) ∙ none)
+        ∙ sym (begins_at_none (attr_at runs page) (attr_at runs (suc page)) none)
 
-  -- at the page past the run
-  end_none : (page : ℕ) → run.first ≤ page → suc page ≡ run.end → attr_at runs (suc page) ≡ None → begins_run (attr_at (run ∷ runs)) (suc page) ≡ begins_run (attr_at runs) (suc page)
-  end_none page a e none =
-      begins_at_none (attr_at (run ∷ runs) page) (attr_at (run ∷ runs) (suc page)) (at_above (suc page) (omega arith) ∙ none)
-      ∙ sym (begins_at_none (attr_at runs page) (attr_at runs (suc page)) none)
+    end_some : (page : ℕ) (next : Attr) → run.first ≤ page → suc page ≡ run.end → attr_at runs (suc page) ≡ Some next → attr_eq (attr_after run.attr (run.end - run.first)) next ≡ false → begins_run (attr_at (run ∷ runs)) (suc page) ≡ begins_run (attr_at runs) (suc page)
+    end_some page next a e some differs =
+        let d : (page - run.first) + 1 ≡ run.end - run.first = omega arith in
+        let after : attr_after (attr_after run.attr (page - run.first)) 1 ≡ attr_after run.attr (run.end - run.first) =
+        attr_after-add run.attr (page - run.first) 1 ∙ ap (λ (n : ℕ). attr_after run.attr n) d in
+        begins_anew (attr_at (run ∷ runs) page) (attr_at (run ∷ runs) (suc page)) (attr_after run.attr (page - run.first)) next
+        (at_inside page a (omega arith)) (at_above (suc page) (omega arith) ∙ some)
+        (ap (λ (x : Attr). attr_eq x next) after ∙ differs)
+        ∙ sym (begins_after_none (attr_at runs page) (attr_at runs (suc page)) next (rest_below page (omega arith)) some)
 
-  end_some : (page : ℕ) (next : Attr) → run.first ≤ page → suc page ≡ run.end → attr_at runs (suc page) ≡ Some next → attr_eq (attr_after run.attr (run.end - run.first)) next ≡ false → begins_run (attr_at (run ∷ runs)) (suc page) ≡ begins_run (attr_at runs) (suc page)
-  end_some page next a e some differs =
-      let d : (page - run.first) + 1 ≡ run.end - run.first = omega arith in
-      let after : attr_after (attr_after run.attr (page - run.first)) 1 ≡ attr_after run.attr (run.end - run.first) =
-      attr_after-add run.attr (page - run.first) 1 ∙ ap (λ (n : ℕ). attr_after run.attr n) d in
-      begins_anew (attr_at (run ∷ runs) page) (attr_at (run ∷ runs) (suc page)) (attr_after run.attr (page - run.first)) next
-      (at_inside page a (omega arith)) (at_above (suc page) (omega arith) ∙ some)
-      (ap (λ (x : Attr). attr_eq x next) after ∙ differs)
-      ∙ sym (begins_after_none (attr_at runs page) (attr_at runs (suc page)) next (rest_below page (omega arith)) some)
+    above_same : (page : ℕ) → run.end ≤ page → begins_run (attr_at (run ∷ runs)) (suc page) ≡ begins_run (attr_at runs) (suc page)
+    above_same page h =
+        ap₂ (λ (x y : Option Attr). begins x y) (at_above page h) (at_above (suc page) (omega arith))
 
-  above_same : (page : ℕ) → run.end ≤ page → begins_run (attr_at (run ∷ runs)) (suc page) ≡ begins_run (attr_at runs) (suc page)
-  above_same page h =
-      ap₂ (λ (x y : Option Attr). begins x y) (at_above page h) (at_above (suc page) (omega arith))
+    below_same : (page : ℕ) → page < run.first → begins_run (attr_at (run ∷ runs)) page ≡ begins_run (attr_at runs) page
+    below_same page h =
+        begins_run-same (attr_at (run ∷ runs)) (attr_at runs) page (λ k l. at_below k (omega arith) ∙ sym (rest_below k (omega arith)))
 
-  below_same : (page : ℕ) → page < run.first → begins_run (attr_at (run ∷ runs)) page ≡ begins_run (attr_at runs) page
-  below_same page h =
-      let s : run.first < run.end = r.nonempty in
-      begins_run-same (attr_at (run ∷ runs)) (attr_at runs) page (λ k l. at_below k (omega arith) ∙ sym (rest_below k (omega arith)))
-
-differs_at : (run next : Run) → joins run next ≡ false → run.end ≡ next.first → attr_eq (attr_after run.attr (run.end - run.first)) next.attr ≡ false
-differs_at run next j e =
-    sym (ap (λ (b : Bool). b && attr_eq (attr_after run.attr (run.end - run.first)) next.attr) (eq-eqb run.end next.first e)) ∙ j
-
-module _ (mode : ℕ) where
   end_same : (run : Run) (runs : List Run) → IsRun mode run → IsMaximal mode run.end runs → joins_first run runs ≡ false → (page : ℕ) → run.first ≤ page → suc page ≡ run.end → begins_run (attr_at (run ∷ runs)) (suc page) ≡ begins_run (attr_at runs) (suc page)
-  end_same run [] r rest j page a e = end_none mode run [] r rest page a e refl
-  end_same run (next ∷ runs) r rest j page a e =
-      let low : run.end ≤ next.first = rest.0 in
-      let some : next.first < next.end = rest.1.nonempty in
-      ⊎_elim
-      (λ (b : suc page < next.first). end_none mode run (next ∷ runs) r rest page a e (at_below mode next runs rest.1 rest.3 (suc page) b))
-      (λ (b : next.first ≤ suc page).
-      let same : run.end ≡ next.first = omega arith in
-      let zero_on : suc page - next.first ≡ 0 = omega arith in
-      end_some mode run (next ∷ runs) r rest page next.attr a e
-      (at_inside mode next runs rest.1 rest.3 (suc page) b (omega arith) ∙ ap (λ (n : ℕ). Some (attr_after next.attr n)) zero_on ∙ ap (λ (x : Attr). Some x) (attr_after-zero next.attr))
-      (differs_at run next j same))
-      (lt_or_le (suc page) next.first)
+  end_same run runs r rest j page a e = by_next (attr_at runs (suc page)) refl where
+    by_next : (o : Option Attr) → attr_at runs (suc page) ≡ o → begins_run (attr_at (run ∷ runs)) (suc page) ≡ begins_run (attr_at runs) (suc page)
+    by_next None is = end_none run runs r rest page a e is
+    by_next (Some next) is = end_some run runs r rest page next a e is (not_merged mode run runs next rest j (ap (attr_at runs) (sym e) ∙ is))
 
--- but at its first page, a run adds no beginning
-module _ (mode : ℕ) where
+  -- but at its first page, a run adds no beginning
   others_same : (run : Run) (runs : List Run) → IsRun mode run → IsMaximal mode run.end runs → joins_first run runs ≡ false → (page : ℕ) → page ≢ run.first → begins_run (attr_at (run ∷ runs)) page ≡ begins_run (attr_at runs) page
   others_same run runs r rest j zero n =
-      let low : 16 ≤ run.first = r.low in
-      below_same mode run runs r rest zero (omega arith)
+      below_same run runs r rest zero (omega arith)
   others_same run runs r rest j (suc page) n =
       ⊎_elim
-      (λ (a : suc page < run.first). below_same mode run runs r rest (suc page) a)
+      (λ (a : suc page < run.first). below_same run runs r rest (suc page) a)
       (λ (a : run.first ≤ suc page). ⊎_elim
-      (λ (b : suc page < run.end). inside_same mode run runs r rest page (omega arith) b)
+      (λ (b : suc page < run.end). inside_same run runs r rest page (omega arith) b)
       (λ (b : run.end ≤ suc page). ⊎_elim
-      (λ (c : page < run.end). end_same mode run runs r rest j page (let s : run.first < run.end = r.nonempty in omega arith) (omega arith))
-      (λ (c : run.end ≤ page). above_same mode run runs r rest page c)
+      (λ (c : page < run.end). end_same run runs r rest j page (omega arith) (omega arith))
+      (λ (c : run.end ≤ page). above_same run runs r rest page c)
       (lt_or_le page run.end))
       (lt_or_le (suc page) run.end))
       (lt_or_le (suc page) run.first)
 
-module _ (mode : ℕ) where
   count_low : (run : Run) (runs : List Run) → IsRun mode run → IsMaximal mode run.end runs → (end : ℕ) → end ≤ run.first → runs_below (attr_at (run ∷ runs)) end ≡ runs_below (attr_at runs) end
   count_low run runs r rest end h =
-      let s : run.first < run.end = r.nonempty in
-      runs_below-same (attr_at (run ∷ runs)) (attr_at runs) end (λ k l. at_below mode run runs r rest k (omega arith) ∙ sym (rest_below mode run runs r rest k (omega arith)))
+      runs_below-same (attr_at (run ∷ runs)) (attr_at runs) end (λ k l. at_below run runs r rest k (omega arith) ∙ sym (rest_below run runs r rest k (omega arith)))
 
-one_more : (b : Bool) (n k : ℕ) → n ≡ k + 1 → (if b then n + 1 else n) ≡ (if b then k + 1 else k) + 1
-one_more true n k e = ap (λ (x : ℕ). x + 1) e
-one_more false n k e = e
+  one_more : (b : Bool) (n k : ℕ) → n ≡ k + 1 → (if b then n + 1 else n) ≡ (if b then k + 1 else k) + 1
+  one_more true n k e = ap (λ (x : ℕ). x + 1) e
+  one_more false n k e = e
 
-module _ (mode : ℕ) where
   pub count_high : (run : Run) (runs : List Run) → IsRun mode run → IsMaximal mode run.end runs → joins_first run runs ≡ false → (end : ℕ) → run.first < end → runs_below (attr_at (run ∷ runs)) end ≡ runs_below (attr_at runs) end + 1
   unfolding runs_below
   count_high run runs r rest j zero h = absurd (omega arith)
   count_high run runs r rest j (suc page) h =
       ⊎_elim
       (λ (e : page ≡ run.first).
-      let first : begins_run (attr_at (run ∷ runs)) page ≡ true = ap (λ (n : ℕ). begins_run (attr_at (run ∷ runs)) n) e ∙ begins_first mode run runs r rest in
-      let none : begins_run (attr_at runs) page ≡ false = ap (λ (n : ℕ). begins_run (attr_at runs) n) e ∙ rest_first mode run runs r rest in
+      let first : begins_run (attr_at (run ∷ runs)) page ≡ true = ap (λ (n : ℕ). begins_run (attr_at (run ∷ runs)) n) e ∙ begins_first run runs r rest in
+      let none : begins_run (attr_at runs) page ≡ false = ap (λ (n : ℕ). begins_run (attr_at runs) n) e ∙ rest_first run runs r rest in
       ap (λ (b : Bool). if b then runs_below (attr_at (run ∷ runs)) page + 1 else runs_below (attr_at (run ∷ runs)) page) first
-      ∙ ap (λ (n : ℕ). n + 1) (count_low mode run runs r rest page (omega arith))
+      ∙ ap (λ (n : ℕ). n + 1) (count_low run runs r rest page (omega arith))
       ∙ sym (ap (λ (b : Bool). (if b then runs_below (attr_at runs) page + 1 else runs_below (attr_at runs) page) + 1) none))
       (λ (n : page ≡ run.first → ⊥).
-      ap (λ (b : Bool). if b then runs_below (attr_at (run ∷ runs)) page + 1 else runs_below (attr_at (run ∷ runs)) page) (others_same mode run runs r rest j page n)
+      ap (λ (b : Bool). if b then runs_below (attr_at (run ∷ runs)) page + 1 else runs_below (attr_at (run ∷ runs)) page) (others_same run runs r rest j page n)
       ∙ one_more (begins_run (attr_at runs) page) (runs_below (attr_at (run ∷ runs)) page) (runs_below (attr_at runs) page) (count_high run runs r rest j page (omega arith)))
       (cases_eq page run.first)
 
-count_nothing : (end : ℕ) → runs_below (attr_at []) end ≡ 0
-unfolding runs_below
-count_nothing zero = refl
-count_nothing (suc zero) = refl
-count_nothing (suc (suc page)) = count_nothing (suc page)
+  count_nothing : (end : ℕ) → runs_below (attr_at []) end ≡ 0
+  unfolding runs_below
+  count_nothing zero = refl
+  count_nothing (suc zero) = refl
+  count_nothing (suc (suc page)) = count_nothing (suc page)
 
-module _ (mode : ℕ) where
   pub runs_below-maximal : (from : ℕ) (runs : List Run) (end : ℕ) → IsMaximal mode from runs → end_of from runs ≤ end → runs_below (attr_at runs) end ≡ length runs
   runs_below-maximal from [] end m h = count_nothing end
   runs_below-maximal from (run ∷ runs) end m h =
-      let some : run.first < run.end = m.1.nonempty in
       let rest : run.end ≤ end_of run.end runs = end_of-from mode run.end runs m.3 in
-      let here : runs_below (attr_at (run ∷ runs)) end ≡ runs_below (attr_at runs) end + 1 = count_high mode run runs m.1 m.3 m.2 end (omega arith) in
-      let others : runs_below (attr_at runs) end ≡ length runs = runs_below-maximal run.end runs end m.3 h in
-      omega arith
+      omega (arith, count_high run runs m.1 m.3 m.2 end (omega arith), runs_below-maximal run.end runs end m.3 h)
 
-module _ (mode : ℕ) where
   pub run_count-maximal : (runs : List Run) → IsMaximal mode 16 runs → run_count mode (attr_at runs) ≡ length runs
   unfolding run_count
-  run_count-maximal runs m = runs_below-maximal mode 16 runs (user_end mode) m (end_of-user mode runs m)
+  run_count-maximal runs m = runs_below-maximal 16 runs (user_end mode) m (end_of-user mode runs m)

@@ -9,6 +9,5 @@ pub mod PasteLemmas
 pub mod PushLemmas
 pub mod ResultLemmas
 pub mod WalkLemmas
-pub mod RowLemmas
 pub mod PermissionLemmas
 pub mod StandLemmas

@@ -1,11 +1,7 @@
 -- The maps that the rebuilt lists stand for, and how long their beginnings are.
 use Rattle.std.proofs.Common.{◌≡◌, ℕ, ◌-◌, ◌^◌, ◌<◌, ◌≤◌, ◌⊎◌, inl, inr, ⊎_elim, max, Bool, if◌then◌else◌, ◌&&◌, leb, ltb, refl, sym, ◌∙◌, ap, arith, List, [], Option, Some, None, option_map}
-use Rattle.vm_types.specs.declared.permission.Prot.{Prot}
-use Rattle.vm_types.specs.declared.region.Attr.{Attr}
-use Rattle.vm_types.specs.Attributes.{attr_after, with_prot}
-use Rattle.regions.specs.declared.run.Run.{Run}
-use Rattle.regions.specs.Run.{IsRun, attr_in}
-use Rattle.regions.specs.RunList.{run_or_else, attr_at, IsMaximal, end_of, pushed, pasted, list_removed, list_protected, list_replaced}
+use Rattle.vm_types.specs.{declared.permission.Prot.{Prot}, declared.region.Attr.{Attr}, Attributes.{attr_after, with_prot}}
+use Rattle.regions.specs.{declared.run.Run.{Run}, Run.{IsRun, attr_in}, RunList.{run_or_else, attr_at, IsMaximal, end_of, pushed, pasted, list_removed, list_protected, list_replaced}}
 use Rattle.regions.proofs.RunLemmas.{lt_or_le, row_inside, row_below, row_above, attr_in-inside, attr_in-below, attr_in-above, or_else-none, clipped, clipped-inside, clipped-below, clipped-above, changed-none}
 use Rattle.regions.proofs.ListLemmas.{end_of-widest, attr_at-behind, end_of-pushed, maximal-pushed, attr_at-pushed, Pasted, pasted-is}
 
@@ -31,125 +27,102 @@ module _ (mode : ℕ) where
       let e : end_of 16 runs ≤ 2 ^ 35 = end_of-widest mode runs m in
       attr_at-behind mode 16 runs page m (omega arith)
 
-row_none : (first end page : ℕ) (x o : Option Attr) → (page < first) ⊎ (end ≤ page) → (if leb first page && ltb page end then x else o) ≡ o
-row_none first end page x o h =
-    ⊎_elim (λ a. ap (λ (b : Bool). if b then x else o) (row_below first end page a)) (λ a. ap (λ (b : Bool). if b then x else o) (row_above first end page a)) h
+  row_none : (first end page : ℕ) (x o : Option Attr) → (page < first) ⊎ (end ≤ page) → (if leb first page && ltb page end then x else o) ≡ o
+  row_none first end page x o h =
+      ⊎_elim (λ a. ap (λ (b : Bool). if b then x else o) (row_below first end page a)) (λ a. ap (λ (b : Bool). if b then x else o) (row_above first end page a)) h
 
-row_some : (first end page : ℕ) (x o : Option Attr) → first ≤ page → page < end → (if leb first page && ltb page end then x else o) ≡ x
-row_some first end page x o a b = ap (λ (c : Bool). if c then x else o) (row_inside first end page a b)
+  row_some : (first end page : ℕ) (x o : Option Attr) → first ≤ page → page < end → (if leb first page && ltb page end then x else o) ≡ x
+  row_some first end page x o a b = ap (λ (c : Bool). if c then x else o) (row_inside first end page a b)
 
--- the three parts of a page's place
-three_parts : (first end page : ℕ) (x o front middle back : Option Attr) → first ≤ end →
-    (page < first → front ≡ o) → (first ≤ page → front ≡ None) →
-    (page < first → middle ≡ None) → (first ≤ page → page < end → run_or_else middle None ≡ x) → (end ≤ page → middle ≡ None) →
-    (page < end → back ≡ None) → (end ≤ page → back ≡ o) →
-    run_or_else back (run_or_else middle front) ≡ (if leb first page && ltb page end then x else o)
-three_parts first end page x o front middle back h f1 f2 m1 m2 m3 b1 b2 =
-    ⊎_elim
-    (λ (a : page < first).
-    let eb : back ≡ None = b1 (omega arith) in
-    let em : middle ≡ None = m1 a in
-    let ef : front ≡ o = f1 a in
-    rw (row_none first end page x o (inl a)) (rw (eb, em) ef))
-    (λ (a : first ≤ page). ⊎_elim
-    (λ (b : page < end).
-    let eb : back ≡ None = b1 b in
-    let ef : front ≡ None = f2 a in
-    rw (row_some first end page x o a b) (rw (eb, ef) (m2 a b)))
-    (λ (b : end ≤ page).
-    let eb : back ≡ o = b2 b in
-    let em : middle ≡ None = m3 b in
-    let ef : front ≡ None = f2 a in
-    rw (row_none first end page x o (inr b)) (rw (eb, em, ef) (or_else-none o)))
-    (lt_or_le page end))
-    (lt_or_le page first)
+  -- the three parts of a page's place
+  three_parts : (first end page : ℕ) (x o front middle back : Option Attr) → first ≤ end →
+      (page < first → front ≡ o) → (first ≤ page → front ≡ None) →
+      (page < first → middle ≡ None) → (first ≤ page → page < end → run_or_else middle None ≡ x) → (end ≤ page → middle ≡ None) →
+      (page < end → back ≡ None) → (end ≤ page → back ≡ o) →
+      run_or_else back (run_or_else middle front) ≡ (if leb first page && ltb page end then x else o)
+  three_parts first end page x o front middle back h f1 f2 m1 m2 m3 b1 b2 =
+      ⊎_elim
+      (λ (a : page < first). rw (row_none first end page x o (inl a), b1 (omega arith), m1 a) (f1 a))
+      (λ (a : first ≤ page). ⊎_elim
+      (λ (b : page < end). rw (row_some first end page x o a b, b1 b, f2 a) (m2 a b))
+      (λ (b : end ≤ page). rw (row_none first end page x o (inr b), b2 b, m3 b, f2 a) (or_else-none o))
+      (lt_or_le page end))
+      (lt_or_le page first)
 
-module _ (mode : ℕ) (runs : List Run) (m : IsMaximal mode 16 runs) (first end : ℕ) (h : first ≤ end) where
-  pub front_is : Pasted mode 0 first None [] runs (pasted 0 first None [] runs)
-  front_is = pasted-is mode 0 first 16 None [] runs tt (omega arith) m
+  module _ (runs : List Run) (m : IsMaximal mode 16 runs) (first end : ℕ) (h : first ≤ end) where
+    pub front_is : Pasted mode 0 first None [] runs (pasted 0 first None [] runs)
+    front_is = pasted-is mode 0 first 16 None [] runs tt (omega arith) m
 
-  pub front_at : (page : ℕ) → attr_at (pasted 0 first None [] runs) page ≡ run_or_else (clipped 0 first None page (attr_at runs page)) None
-  front_at page = front_is.at page
+    pub front_at : (page : ℕ) → attr_at (pasted 0 first None [] runs) page ≡ run_or_else (clipped 0 first None page (attr_at runs page)) None
+    front_at page = front_is.at page
 
-  pub front_end : end_of 16 (pasted 0 first None [] runs) ≤ max 16 first
-  front_end = front_is.end
+    pub front_end_low : end_of 16 (pasted 0 first None [] runs) ≤ max first 16
+    front_end_low = omega (arith, front_is.end)
 
-  pub front_end_low : end_of 16 (pasted 0 first None [] runs) ≤ max first 16
-  front_end_low = let e : end_of 16 (pasted 0 first None [] runs) ≤ max 16 first = front_is.end in omega arith
+    pub front_end_high : end_of 16 (pasted 0 first None [] runs) ≤ max end 16
+    front_end_high = omega (arith, front_is.end)
 
-  pub front_end_high : end_of 16 (pasted 0 first None [] runs) ≤ max end 16
-  front_end_high = let e : end_of 16 (pasted 0 first None [] runs) ≤ max 16 first = front_is.end in omega arith
+    pub removed_is : Pasted mode end (2 ^ 35) None (pasted 0 first None [] runs) runs (list_removed runs first end)
+    removed_is = pasted-is mode end (2 ^ 35) 16 None (pasted 0 first None [] runs) runs front_is.maximal front_end_high m
 
-  pub removed_is : Pasted mode end (2 ^ 35) None (pasted 0 first None [] runs) runs (list_removed runs first end)
-  removed_is = pasted-is mode end (2 ^ 35) 16 None (pasted 0 first None [] runs) runs front_is.maximal front_end_high m
+    pub removed_at : (page : ℕ) → attr_at (list_removed runs first end) page ≡ (if leb first page && ltb page end then None else attr_at runs page)
+    removed_at page =
+        removed_is.at page
+        ∙ ap (λ (o : Option Attr). run_or_else (clipped end (2 ^ 35) None page (attr_at runs page)) o) (front_at page)
+        ∙ three_parts first end page None (attr_at runs page) (run_or_else (clipped 0 first None page (attr_at runs page)) None) None (clipped end (2 ^ 35) None page (attr_at runs page)) h
+        (λ a. clip_front first page (attr_at runs page) a) (λ a. clip_no_front first page (attr_at runs page) a)
+        (λ _. refl) (λ _ _. refl) (λ _. refl)
+        (λ a. clipped-below end (2 ^ 35) None page (attr_at runs page) a)
+        (λ a. clip_back end page (attr_at runs page) a (attr_at-high runs m page))
 
-  pub removed_at : (page : ℕ) → attr_at (list_removed runs first end) page ≡ (if leb first page && ltb page end then None else attr_at runs page)
-  removed_at page =
-      removed_is.at page
-      ∙ ap (λ (o : Option Attr). run_or_else (clipped end (2 ^ 35) None page (attr_at runs page)) o) (front_at page)
-      ∙ three_parts first end page None (attr_at runs page) (run_or_else (clipped 0 first None page (attr_at runs page)) None) None (clipped end (2 ^ 35) None page (attr_at runs page)) h
-      (λ a. clip_front first page (attr_at runs page) a) (λ a. clip_no_front first page (attr_at runs page) a)
-      (λ _. refl) (λ _ _. refl) (λ _. refl)
-      (λ a. clipped-below end (2 ^ 35) None page (attr_at runs page) a)
-      (λ a. clip_back end page (attr_at runs page) a (attr_at-high mode runs m page))
+    pub middle_is : (prot : Prot) → Pasted mode first end (Some prot) (pasted 0 first None [] runs) runs (pasted first end (Some prot) (pasted 0 first None [] runs) runs)
+    middle_is prot = pasted-is mode first end 16 (Some prot) (pasted 0 first None [] runs) runs front_is.maximal front_end_low m
 
-  pub middle_is : (prot : Prot) → Pasted mode first end (Some prot) (pasted 0 first None [] runs) runs (pasted first end (Some prot) (pasted 0 first None [] runs) runs)
-  middle_is prot = pasted-is mode first end 16 (Some prot) (pasted 0 first None [] runs) runs front_is.maximal front_end_low m
+    pub middle_end : (prot : Prot) → end_of 16 (pasted first end (Some prot) (pasted 0 first None [] runs) runs) ≤ max end 16
+    middle_end prot = omega (arith, front_is.end, (middle_is prot).end)
 
-  pub middle_end : (prot : Prot) → end_of 16 (pasted first end (Some prot) (pasted 0 first None [] runs) runs) ≤ max end 16
-  middle_end prot =
-      let e : end_of 16 (pasted first end (Some prot) (pasted 0 first None [] runs) runs) ≤ max (end_of 16 (pasted 0 first None [] runs)) end = (middle_is prot).end in
-      let f : end_of 16 (pasted 0 first None [] runs) ≤ max 16 first = front_is.end in
-      omega arith
+    pub protected_is : (prot : Prot) → Pasted mode end (2 ^ 35) None (pasted first end (Some prot) (pasted 0 first None [] runs) runs) runs (list_protected runs first end prot)
+    protected_is prot = pasted-is mode end (2 ^ 35) 16 None (pasted first end (Some prot) (pasted 0 first None [] runs) runs) runs (middle_is prot).maximal (middle_end prot) m
 
-  pub protected_is : (prot : Prot) → Pasted mode end (2 ^ 35) None (pasted first end (Some prot) (pasted 0 first None [] runs) runs) runs (list_protected runs first end prot)
-  protected_is prot = pasted-is mode end (2 ^ 35) 16 None (pasted first end (Some prot) (pasted 0 first None [] runs) runs) runs (middle_is prot).maximal (middle_end prot) m
+    pub protected_at : (prot : Prot) (page : ℕ) → attr_at (list_protected runs first end prot) page ≡ (if leb first page && ltb page end then option_map (with_prot prot) (attr_at runs page) else attr_at runs page)
+    protected_at prot page =
+        (protected_is prot).at page
+        ∙ ap (λ (o : Option Attr). run_or_else (clipped end (2 ^ 35) None page (attr_at runs page)) o)
+        ((middle_is prot).at page ∙ ap (λ (o : Option Attr). run_or_else (clipped first end (Some prot) page (attr_at runs page)) o) (front_at page))
+        ∙ three_parts first end page (option_map (with_prot prot) (attr_at runs page)) (attr_at runs page) (run_or_else (clipped 0 first None page (attr_at runs page)) None) (clipped first end (Some prot) page (attr_at runs page)) (clipped end (2 ^ 35) None page (attr_at runs page)) h
+        (λ a. clip_front first page (attr_at runs page) a) (λ a. clip_no_front first page (attr_at runs page) a)
+        (λ a. clipped-below first end (Some prot) page (attr_at runs page) a)
+        (λ a b. or_else-none (clipped first end (Some prot) page (attr_at runs page)) ∙ clipped-inside first end (Some prot) page (attr_at runs page) a b)
+        (λ a. clipped-above first end (Some prot) page (attr_at runs page) a)
+        (λ a. clipped-below end (2 ^ 35) None page (attr_at runs page) a)
+        (λ a. clip_back end page (attr_at runs page) a (attr_at-high runs m page))
 
-  pub protected_at : (prot : Prot) (page : ℕ) → attr_at (list_protected runs first end prot) page ≡ (if leb first page && ltb page end then option_map (with_prot prot) (attr_at runs page) else attr_at runs page)
-  protected_at prot page =
-      (protected_is prot).at page
-      ∙ ap (λ (o : Option Attr). run_or_else (clipped end (2 ^ 35) None page (attr_at runs page)) o)
-      ((middle_is prot).at page ∙ ap (λ (o : Option Attr). run_or_else (clipped first end (Some prot) page (attr_at runs page)) o) (front_at page))
-      ∙ three_parts first end page (option_map (with_prot prot) (attr_at runs page)) (attr_at runs page) (run_or_else (clipped 0 first None page (attr_at runs page)) None) (clipped first end (Some prot) page (attr_at runs page)) (clipped end (2 ^ 35) None page (attr_at runs page)) h
-      (λ a. clip_front first page (attr_at runs page) a) (λ a. clip_no_front first page (attr_at runs page) a)
-      (λ a. clipped-below first end (Some prot) page (attr_at runs page) a)
-      (λ a b. or_else-none (clipped first end (Some prot) page (attr_at runs page)) ∙ clipped-inside first end (Some prot) page (attr_at runs page) a b)
-      (λ a. clipped-above first end (Some prot) page (attr_at runs page) a)
-      (λ a. clipped-below end (2 ^ 35) None page (attr_at runs page) a)
-      (λ a. clip_back end page (attr_at runs page) a (attr_at-high mode runs m page))
+  module _ (runs : List Run) (m : IsMaximal mode 16 runs) (run : Run) (r : IsRun mode run) where
+    pub replaced_front : Pasted mode 0 run.first None [] runs (pasted 0 run.first None [] runs)
+    replaced_front = front_is runs m run.first run.end (let s : run.first < run.end = r.nonempty in omega arith)
 
-module _ (mode : ℕ) (runs : List Run) (m : IsMaximal mode 16 runs) (run : Run) (r : IsRun mode run) where
-  pub replaced_front : Pasted mode 0 run.first None [] runs (pasted 0 run.first None [] runs)
-  replaced_front = front_is mode runs m run.first run.end (let s : run.first < run.end = r.nonempty in omega arith)
+    pub replaced_behind : end_of 16 (pasted 0 run.first None [] runs) ≤ run.first
+    replaced_behind = omega (arith, replaced_front.end)
 
-  pub replaced_behind : end_of 16 (pasted 0 run.first None [] runs) ≤ run.first
-  replaced_behind =
-      let e : end_of 16 (pasted 0 run.first None [] runs) ≤ max 16 run.first = replaced_front.end in
-      let l : 16 ≤ run.first = r.low in
-      omega arith
+    pub replaced_maximal : IsMaximal mode 16 (pushed (pasted 0 run.first None [] runs) run)
+    replaced_maximal = maximal-pushed mode 16 (pasted 0 run.first None [] runs) run replaced_front.maximal replaced_behind r
 
-  pub replaced_maximal : IsMaximal mode 16 (pushed (pasted 0 run.first None [] runs) run)
-  replaced_maximal = maximal-pushed mode 16 (pasted 0 run.first None [] runs) run replaced_front.maximal replaced_behind r
+    pub replaced_end : end_of 16 (pushed (pasted 0 run.first None [] runs) run) ≤ max run.end 16
+    replaced_end = omega (arith, end_of-pushed 16 (pasted 0 run.first None [] runs) run)
 
-  pub replaced_end : end_of 16 (pushed (pasted 0 run.first None [] runs) run) ≤ max run.end 16
-  replaced_end =
-      let e : end_of 16 (pushed (pasted 0 run.first None [] runs) run) ≡ run.end = end_of-pushed 16 (pasted 0 run.first None [] runs) run in
-      omega arith
+    pub replaced_is : Pasted mode run.end (2 ^ 35) None (pushed (pasted 0 run.first None [] runs) run) runs (list_replaced runs run)
+    replaced_is = pasted-is mode run.end (2 ^ 35) 16 None (pushed (pasted 0 run.first None [] runs) run) runs replaced_maximal replaced_end m
 
-  pub replaced_is : Pasted mode run.end (2 ^ 35) None (pushed (pasted 0 run.first None [] runs) run) runs (list_replaced runs run)
-  replaced_is = pasted-is mode run.end (2 ^ 35) 16 None (pushed (pasted 0 run.first None [] runs) run) runs replaced_maximal replaced_end m
-
-  pub replaced_at : (page : ℕ) → attr_at (list_replaced runs run) page ≡ (if leb run.first page && ltb page run.end then Some (attr_after run.attr (page - run.first)) else attr_at runs page)
-  replaced_at page =
-      let s : run.first < run.end = r.nonempty in
-      replaced_is.at page
-      ∙ ap (λ (o : Option Attr). run_or_else (clipped run.end (2 ^ 35) None page (attr_at runs page)) o)
-      (attr_at-pushed mode 16 (pasted 0 run.first None [] runs) run page replaced_front.maximal replaced_behind r
-      ∙ ap (λ (o : Option Attr). run_or_else (attr_in run page) o) (replaced_front.at page))
-      ∙ three_parts run.first run.end page (Some (attr_after run.attr (page - run.first))) (attr_at runs page) (run_or_else (clipped 0 run.first None page (attr_at runs page)) None) (attr_in run page) (clipped run.end (2 ^ 35) None page (attr_at runs page)) (omega arith)
-      (λ a. clip_front run.first page (attr_at runs page) a) (λ a. clip_no_front run.first page (attr_at runs page) a)
-      (λ a. attr_in-below run page a)
-      (λ a b. or_else-none (attr_in run page) ∙ attr_in-inside run page a b)
-      (λ a. attr_in-above run page a)
-      (λ a. clipped-below run.end (2 ^ 35) None page (attr_at runs page) a)
-      (λ a. clip_back run.end page (attr_at runs page) a (attr_at-high mode runs m page))
+    pub replaced_at : (page : ℕ) → attr_at (list_replaced runs run) page ≡ (if leb run.first page && ltb page run.end then Some (attr_after run.attr (page - run.first)) else attr_at runs page)
+    replaced_at page =
+        replaced_is.at page
+        ∙ ap (λ (o : Option Attr). run_or_else (clipped run.end (2 ^ 35) None page (attr_at runs page)) o)
+        (attr_at-pushed mode 16 (pasted 0 run.first None [] runs) run page replaced_front.maximal replaced_behind r
+        ∙ ap (λ (o : Option Attr). run_or_else (attr_in run page) o) (replaced_front.at page))
+        ∙ three_parts run.first run.end page (Some (attr_after run.attr (page - run.first))) (attr_at runs page) (run_or_else (clipped 0 run.first None page (attr_at runs page)) None) (attr_in run page) (clipped run.end (2 ^ 35) None page (attr_at runs page)) (omega arith)
+        (λ a. clip_front run.first page (attr_at runs page) a) (λ a. clip_no_front run.first page (attr_at runs page) a)
+        (λ a. attr_in-below run page a)
+        (λ a b. or_else-none (attr_in run page) ∙ attr_in-inside run page a b)
+        (λ a. attr_in-above run page a)
+        (λ a. clipped-below run.end (2 ^ 35) None page (attr_at runs page) a)
+        (λ a. clip_back run.end page (attr_at runs page) a (attr_at-high runs m page))

@@ -1,13 +1,7 @@
 -- Maps in which a page that may be written may be read as well, and that the calls on rows keep them so.
-use Rattle.std.proofs.Common.{◌≡◌, ℕ, Bool, true, false, refl, sym, ap, ◌∙◌, subst, if◌then◌else◌, Option, Some, None, IfSome}
+use Rattle.std.proofs.{Common.{◌≡◌, ℕ, Bool, true, false, refl, sym, ap, ◌∙◌, subst, if◌then◌else◌, Option, Some, None, IfSome}, lemmas.Bool.{false≢true}, lemmas.Nat.{and_or_self}}
 use Rattle.std.specs.Prelude.{◌-◌, ◌==◌, option_map}
-use Rattle.std.proofs.lemmas.Bool.{false≢true}
-use Rattle.std.proofs.lemmas.Nat.{and_or_self}
-use Rattle.vm_types.specs.declared.permission.Prot.{Prot}
-use Rattle.vm_types.specs.declared.region.Attr.{Attr}
-use Rattle.vm_types.specs.Attributes.{attr_after, with_prot}
-use Rattle.vm_types.specs.Permission.{can_write, kept}
-use Rattle.vm_types.specs.Rows.{in_row, replaced, removed, protected}
+use Rattle.vm_types.specs.{declared.permission.Prot.{Prot}, declared.region.Attr.{Attr}, Attributes.{attr_after, with_prot}, Permission.{can_write, kept}, Rows.{in_row, replaced, removed, protected}}
 use Rattle.regions.specs.Permission.{ReadsToo, IsReadableMap}
 
 -- a permission as pages keep it
@@ -31,9 +25,6 @@ either false x y rx ry = ry
 changed : (prot : Prot) (o : Option Attr) → ReadsToo prot → Reads (option_map (with_prot prot) o)
 changed prot None r = tt
 changed prot (Some attr) r = r
-
-pub reads_empty : (map : ℕ → Option Attr) → ((page : ℕ) → map page ≡ None) → IsReadableMap map
-reads_empty map empty page = subst (λ (o : Option Attr). Reads o) (sym (empty page)) tt
 
 pub reads_same : (map other : ℕ → Option Attr) → ((page : ℕ) → other page ≡ map page) → IsReadableMap map → IsReadableMap other
 reads_same map other same r page = subst (λ (o : Option Attr). Reads o) (sym (same page)) (r page)

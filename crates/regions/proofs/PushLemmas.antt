@@ -1,21 +1,13 @@
 -- The table's array when a run is put behind the others.
 use Rattle.std.proofs.Common.{◌≡◌, ℕ, zero, suc, ◌-◌, ◌<◌, ◌≤◌, Bool, true, false, if◌then◌else◌, refl, sym, ◌∙◌, ap, subst, arith, List, [], ◌∷◌, length, take, set, get_or, true≢false}
 use Rattle.vm_types.specs.declared.region.Backing.TheVariants.{Anon}
-use Rattle.regions.specs.declared.run.Run.{Run}
-use Rattle.regions.specs.Run.{IsRun, joins, merged}
-use Rattle.regions.specs.RunList.{IsMaximal, joins_last, pushed}
+use Rattle.regions.specs.{declared.run.Run.{Run}, Run.{IsRun, joins, merged}, RunList.{IsMaximal, joins_last, pushed}}
 
 pub joins_last-take : (runs : List Run) (k : ℕ) (d next : Run) → k < length runs → joins_last (take (suc k) runs) next ≡ joins (get_or runs k d) next
 joins_last-take [] k d next h = absurd (omega arith)
 joins_last-take (run ∷ runs) zero d next h = refl
 joins_last-take (run ∷ []) (suc k) d next h = absurd (omega arith)
 joins_last-take (run ∷ (other ∷ runs)) (suc k) d next h = joins_last-take (other ∷ runs) k d next (omega arith)
-
-module _ (mode : ℕ) where
-  pub run_at : (from : ℕ) (runs : List Run) (k : ℕ) (d : Run) → k < length runs → IsMaximal mode from (take (suc k) runs) → IsRun mode (get_or runs k d)
-  run_at from [] k d h m = absurd (omega arith)
-  run_at from (run ∷ runs) zero d h m = m.1
-  run_at from (run ∷ runs) (suc k) d h m = run_at run.end runs k d (omega arith) m.3
 
 pub merged_at : (runs : List Run) (k : ℕ) (d next : Run) → k < length runs → joins (get_or runs k d) next ≡ true → take (suc k) (set runs k (merged (get_or runs k d) next)) ≡ pushed (take (suc k) runs) next
 merged_at [] k d next h e = absurd (omega arith)
@@ -48,11 +40,6 @@ pub joins_last-is : (runs : List Run) (n : ℕ) (d next : Run) → 0 < n → n �
 joins_last-is runs n d next a b =
     ap (λ (k : ℕ). joins_last (take k runs) next) (sym (less_one n a)) ∙ joins_last-take runs (n - 1) d next (omega arith)
 
-module _ (mode : ℕ) where
-  pub last_run : (runs : List Run) (n : ℕ) (d : Run) → 0 < n → n ≤ length runs → IsMaximal mode 16 (take n runs) → IsRun mode (get_or runs (n - 1) d)
-  last_run runs n d a b m =
-      run_at mode 16 runs (n - 1) d (omega arith) (subst (λ (k : ℕ). IsMaximal mode 16 (take k runs)) (sym (less_one n a)) m)
-
 pub merged_last : (runs : List Run) (n : ℕ) (d next : Run) → 0 < n → n ≤ length runs → joins_last (take n runs) next ≡ true → take n (set runs (n - 1) (merged (get_or runs (n - 1) d) next)) ≡ pushed (take n runs) next
 merged_last runs n d next a b e =
     let e2 : joins (get_or runs (n - 1) d) next ≡ true = sym (joins_last-is runs n d next a b) ∙ e in
@@ -65,3 +52,13 @@ some_last runs (suc n) next e = omega arith
 -- the filler of the array, past the runs
 abbrev pub unused : Run
 unused = record { first = 0; end = 0; attr = record { prot = record { 0 = 0 }; backing = Anon } }
+
+module _ (mode : ℕ) where
+  pub run_at : (from : ℕ) (runs : List Run) (k : ℕ) (d : Run) → k < length runs → IsMaximal mode from (take (suc k) runs) → IsRun mode (get_or runs k d)
+  run_at from [] k d h m = absurd (omega arith)
+  run_at from (run ∷ runs) zero d h m = m.1
+  run_at from (run ∷ runs) (suc k) d h m = run_at run.end runs k d (omega arith) m.3
+
+  pub last_run : (runs : List Run) (n : ℕ) (d : Run) → 0 < n → n ≤ length runs → IsMaximal mode 16 (take n runs) → IsRun mode (get_or runs (n - 1) d)
+  last_run runs n d a b m =
+      run_at 16 runs (n - 1) d (omega arith) (subst (λ (k : ℕ). IsMaximal mode 16 (take k runs)) (sym (less_one n a)) m)

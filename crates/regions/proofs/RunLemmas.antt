@@ -1,15 +1,9 @@
 -- One run: the pages of it, of two merged, and of a part.
 use Rattle.std.proofs.Common.{◌≡◌, ℕ, ◌+◌, ◌-◌, ◌^◌, ◌<◌, ◌≤◌, ◌⊎◌, inl, inr, ⊎_elim, max, min, Bool, true, false, if◌then◌else◌, ◌==◌, ◌&&◌, leb, ltb, refl, sym, ◌∙◌, ap, subst, arith, Option, Some, None, option_map, eqb-true, le-leb, lt-ltb}
-use Rattle.std.proofs.lemmas.Bool.{and_parts}
-use Rattle.std.proofs.lemmas.Bool.Decides.{leb_tells, nat_tests}
-use Rattle.vm_types.specs.Limits.{user_end}
+use Rattle.std.proofs.{lemmas.Bool.{and_parts}, lemmas.Bool.Decides.{leb_tells, nat_tests}}
 use Rattle.vm_types.proofs.Modes.{sizes}
-use Rattle.vm_types.specs.declared.permission.Prot.{Prot}
-use Rattle.vm_types.specs.declared.region.Attr.{Attr}
-use Rattle.vm_types.specs.Attributes.{attr_after, backing_after, attr_eq, backing_fits}
-use Rattle.regions.specs.declared.run.Run.{Run}
-use Rattle.regions.specs.Run.{IsRun, attr_in, joins, merged, changed_run, cut_run}
-use Rattle.regions.specs.RunList.{run_or_else}
+use Rattle.vm_types.specs.{declared.permission.Prot.{Prot}, declared.region.Attr.{Attr}, Attributes.{attr_after, backing_after, attr_eq, backing_fits}}
+use Rattle.regions.specs.{declared.run.Run.{Run}, Run.{IsRun, attr_in, joins, merged, changed_run, cut_run}, RunList.{run_or_else}}
 use Rattle.regions.proofs.AttrLemmas.{attr_after-add, backing_fits-after, backing_fits-merged, backing_fits-less, attr_eq-true}
 
 -- where a page lies
@@ -78,36 +72,13 @@ joins-true run next e =
       goes_on = attr_eq-true (attr_after run.attr (run.end - run.first)) next.attr parts.1;
     }
 
--- a run ends where user pages of any mode end
-module _ (mode : ℕ) where
-  pub widest_run : (run : Run) → IsRun mode run → run.end ≤ 2 ^ 35
-  widest_run run r = omega (arith, r.high, (sizes mode).most)
-
-module _ (mode : ℕ) where
-  pub merged-run : (run next : Run) → IsRun mode run → IsRun mode next → Joins run next → IsRun mode (merged run next)
-  merged-run run next r n j =
-      let t : run.end ≡ next.first = j.touches in
-      let a : run.first < run.end = r.nonempty in
-      let b : next.first < next.end = n.nonempty in
-      let split : (run.end - run.first) + (next.end - next.first) ≡ next.end - run.first = omega arith in
-      let fits : backing_fits (backing_after run.attr.backing (run.end - run.first)) (next.end - next.first) =
-      subst (λ (x : Attr). backing_fits x.backing (next.end - next.first)) (sym j.goes_on) n.file_pages in
-      record {
-        low = r.low;
-        nonempty = omega arith;
-        high = n.high;
-        file_pages = subst (λ (m : ℕ). backing_fits run.attr.backing m) split (backing_fits-merged run.attr.backing (run.end - run.first) (next.end - next.first) fits);
-      }
-
 after_merged : (run next : Run) (page : ℕ) → run.first < run.end → Joins run next → run.end ≤ page → attr_after next.attr (page - next.first) ≡ attr_after run.attr (page - run.first)
 after_merged run next page r j h =
-    let t : run.end ≡ next.first = j.touches in
     let d : (run.end - run.first) + (page - next.first) ≡ page - run.first = omega arith in
     ap (λ (a : Attr). attr_after a (page - next.first)) (sym j.goes_on) ∙ attr_after-add run.attr (run.end - run.first) (page - next.first) ∙ ap (λ (m : ℕ). attr_after run.attr m) d
 
 pub attr_in-merged : (run next : Run) (page : ℕ) → run.first < run.end → next.first < next.end → Joins run next → attr_in (merged run next) page ≡ run_or_else (attr_in next page) (attr_in run page)
 attr_in-merged run next page r n j =
-    let t : run.end ≡ next.first = j.touches in
     elim (side run page) [
       | below h ↦ rw (attr_in-below (merged run next) page h, attr_in-below next page (omega arith), attr_in-below run page h)
       | inside l h ↦ rw (attr_in-inside (merged run next) page l (omega arith), attr_in-below next page (omega arith), attr_in-inside run page l h)
@@ -158,25 +129,6 @@ pub record IsPart (mode : ℕ) (low high : ℕ) (run part : Run) : Type 0 where
   pub end : part.end ≤ run.end
   pub within : part.end ≤ high
 
-module _ (mode : ℕ) where
-  pub cut-run : (low high : ℕ) (prot : Option Prot) (run : Run) → IsRun mode run → max run.first low < min run.end high → IsPart mode low high run (cut_run prot run (max run.first low) (min run.end high))
-  cut-run low high prot run r h =
-      let low_ok : 16 ≤ run.first = r.low in
-      let high_ok : run.end ≤ user_end mode = r.high in
-      let fits : backing_fits run.attr.backing ((max run.first low - run.first) + (min run.end high - max run.first low)) =
-      backing_fits-less run.attr.backing ((max run.first low - run.first) + (min run.end high - max run.first low)) (run.end - run.first) (omega arith) r.file_pages in
-      record {
-        is_run = record {
-          low = omega arith;
-          nonempty = h;
-          high = omega arith;
-          file_pages = backing_fits-after run.attr.backing (max run.first low - run.first) (min run.end high - max run.first low) fits;
-        };
-        first = refl;
-        end = omega arith;
-        within = omega arith;
-      }
-
 clipped_outside : (low high : ℕ) (prot : Option Prot) (run : Run) (page : ℕ) → (page < max run.first low) ⊎ (min run.end high ≤ page) → clipped low high prot page (attr_in run page) ≡ None
 clipped_outside low high prot run page h =
     ⊎_elim
@@ -192,7 +144,6 @@ clipped_outside low high prot run page h =
 
 cut_inside : (low high : ℕ) (prot : Option Prot) (run : Run) (page : ℕ) → max run.first low ≤ page → page < min run.end high → attr_in (cut_run prot run (max run.first low) (min run.end high)) page ≡ clipped low high prot page (attr_in run page)
 cut_inside low high prot run page a b =
-    let m : ℕ = max run.first low in
     let d : (max run.first low - run.first) + (page - max run.first low) ≡ page - run.first = omega arith in
     let left : attr_in (cut_run prot run (max run.first low) (min run.end high)) page ≡ Some (changed_run prot (attr_after (attr_after run.attr (max run.first low - run.first)) (page - max run.first low))) =
     attr_in-inside (cut_run prot run (max run.first low) (min run.end high)) page a b in
@@ -220,3 +171,36 @@ clipped-empty low high prot run page h =
     (λ (a : page < max run.first low). clipped_outside low high prot run page (inl a))
     (λ (a : max run.first low ≤ page). clipped_outside low high prot run page (inr (omega arith)))
     (lt_or_le page (max run.first low))
+
+module _ (mode : ℕ) where
+  -- a run ends where user pages of any mode end
+  pub widest_run : (run : Run) → IsRun mode run → run.end ≤ 2 ^ 35
+  widest_run run r = omega (arith, r.high, (sizes mode).most)
+
+  pub merged-run : (run next : Run) → IsRun mode run → IsRun mode next → Joins run next → IsRun mode (merged run next)
+  merged-run run next r n j =
+      let split : (run.end - run.first) + (next.end - next.first) ≡ next.end - run.first = omega arith in
+      let fits : backing_fits (backing_after run.attr.backing (run.end - run.first)) (next.end - next.first) =
+      subst (λ (x : Attr). backing_fits x.backing (next.end - next.first)) (sym j.goes_on) n.file_pages in
+      record {
+        low = r.low;
+        nonempty = omega arith;
+        high = n.high;
+        file_pages = subst (λ (m : ℕ). backing_fits run.attr.backing m) split (backing_fits-merged run.attr.backing (run.end - run.first) (next.end - next.first) fits);
+      }
+
+  pub cut-run : (low high : ℕ) (prot : Option Prot) (run : Run) → IsRun mode run → max run.first low < min run.end high → IsPart mode low high run (cut_run prot run (max run.first low) (min run.end high))
+  cut-run low high prot run r h =
+      let fits : backing_fits run.attr.backing ((max run.first low - run.first) + (min run.end high - max run.first low)) =
+      backing_fits-less run.attr.backing ((max run.first low - run.first) + (min run.end high - max run.first low)) (run.end - run.first) (omega arith) r.file_pages in
+      record {
+        is_run = record {
+          low = omega arith;
+          nonempty = h;
+          high = omega arith;
+          file_pages = backing_fits-after run.attr.backing (max run.first low - run.first) (min run.end high - max run.first low) fits;
+        };
+        first = refl;
+        end = omega arith;
+        within = omega arith;
+      }

@@ -1,86 +1,34 @@
 -- The first page that stands on a page of a file or an object: found along the runs, and said of their map.
 use Rattle.std.proofs.Common.{IfSome, IfNone, IsSome, ◌≡◌, ℕ, zero, suc, ◌+◌, ◌-◌, ◌<◌, ◌≤◌, ◌⊎◌, inl, inr, Bool, true, false, if◌then◌else◌, ◌&&◌, ◌==◌, leb, ltb, refl, sym, ◌∙◌, ap, ap₂, subst, arith, List, [], ◌∷◌, length, get_or, Option, Some, None, leb-true, leb-false, ltb-true, le-leb, lt-ltb, eqb-true, eq-eqb}
-use Rattle.std.proofs.lemmas.Bool.{and_parts}
-use Rattle.std.proofs.lemmas.Option.{same_Some}
-use Rattle.vm_types.specs.declared.file.FilePage.{FilePage}
-use Rattle.vm_types.specs.declared.object.ObjectPage.{ObjectPage}
-use Rattle.vm_types.specs.declared.object.PageKey.{PageKey}
-use Rattle.vm_types.specs.declared.object.PageKey.TheVariants.{File, Object}
-use Rattle.vm_types.specs.declared.region.Attr.{Attr}
-use Rattle.vm_types.specs.declared.region.Backing.{Backing}
-use Rattle.vm_types.specs.declared.region.Backing.TheVariants.{Anon, Private, Shared, Common}
-use Rattle.vm_types.specs.Attributes.{file_page_after, object_page_after, backing_after, attr_after, stands_on}
-use Rattle.regions.specs.declared.run.Run.{Run}
-use Rattle.regions.specs.Run.{IsRun}
-use Rattle.regions.specs.RunList.{run_or_else, attr_at, IsMaximal}
-use Rattle.regions.specs.Search.{first_on, from_or, pages_between, run_pages_from, page_further, page_on, runs_behind, StandsOn, IsFirstOn}
-use Rattle.regions.proofs.RunLemmas.{Side, below, inside, above, side, leb-no, attr_in-inside, attr_in-below, attr_in-above}
-use Rattle.regions.proofs.ListLemmas.{attr_at-before, first_or_rest}
-
--- each run that the search by halves leaves is one
-
-module _ (mode : ℕ) where
-  behind_test : (page : ℕ) (run : Run) (runs : List Run) (k : ℕ) (d : Run) (b : Bool) → IsRun mode run → ((i : ℕ) → i < length runs → IsRun mode (get_or runs i d))
-      → (k < length (runs_behind page runs) → IsRun mode (get_or (runs_behind page runs) k d))
-      → k < length (if b then runs_behind page runs else run ∷ runs) → IsRun mode (get_or (if b then runs_behind page runs else run ∷ runs) k d)
-  behind_test page run runs k d true r all rest h = rest h
-  behind_test page run runs zero d false r all rest h = r
-  behind_test page run runs (suc k) d false r all rest h = all k (omega arith)
-
-module _ (mode : ℕ) where
-  run_at : (from : ℕ) (runs : List Run) (k : ℕ) (d : Run) → IsMaximal mode from runs → k < length runs → IsRun mode (get_or runs k d)
-  run_at from [] k d m h = absurd (omega arith)
-  run_at from (run ∷ runs) zero d m h = m.1
-  run_at from (run ∷ runs) (suc k) d m h = run_at run.end runs k d m.3 (omega arith)
-
-module _ (mode : ℕ) where
-  pub behind_run : (from page : ℕ) (runs : List Run) (k : ℕ) (d : Run) → IsMaximal mode from runs → k < length (runs_behind page runs) → IsRun mode (get_or (runs_behind page runs) k d)
-  behind_run from page [] k d m h = absurd (omega arith)
-  behind_run from page (run ∷ runs) k d m h =
-      behind_test mode page run runs k d (leb run.end page) m.1 (λ i less. run_at mode run.end runs i d m.3 less) (λ less. behind_run run.end page runs k d m.3 less) h
+use Rattle.std.proofs.{lemmas.Bool.{and_parts}, lemmas.Option.{same_Some}}
+use Rattle.vm_types.specs.{declared.file.FilePage.{FilePage}, declared.object.ObjectPage.{ObjectPage}, declared.object.PageKey.{PageKey}, declared.object.PageKey.TheVariants.{File, Object}, declared.region.Attr.{Attr}}
+use Rattle.vm_types.specs.{declared.region.Backing.{Backing}, declared.region.Backing.TheVariants.{Anon, Private, Shared, Common}, Attributes.{file_page_after, object_page_after, backing_after, attr_after, stands_on}}
+use Rattle.regions.specs.{declared.run.Run.{Run}, Run.{IsRun}, RunList.{run_or_else, attr_at, IsMaximal}, Search.{first_on, from_or, pages_between, run_pages_from, page_further, page_on, runs_behind, StandsOn, IsFirstOn}}
+use Rattle.regions.proofs.{RunLemmas.{Side, below, inside, above, side, leb-no, attr_in-inside, attr_in-below, attr_in-above}, ListLemmas.{attr_at-before, first_or_rest}}
 
 -- how far on a page of a file or an object is
 
-file_far : (q p : FilePage) (n : ℕ) (t : Bool) → ((q.file == p.file) && leb q.page p.page) ≡ t → (if t then Some (p.page - q.page) else None) ≡ Some n → file_page_after q n ≡ p
-file_far q p n true e is =
-    let a = and_parts (q.file == p.file) (leb q.page p.page) e in
-    let low : q.page ≤ p.page = leb-true q.page p.page a.1 in
-    let page : q.page + n ≡ p.page = omega (arith, low, same_Some (p.page - q.page) n is) in
-    ap₂ (λ (f k : ℕ). let r : FilePage = record { file = f; page = k } in r) (eqb-true q.file p.file a.0) page
-file_far q p n false e is = cc
+far : (q p i j n : ℕ) (t : Bool) → ((q == p) && leb i j) ≡ t → (if t then Some (j - i) else None) ≡ Some n → (q ≡ p) × (i + n ≡ j)
+far q p i j n true e is =
+    let a = and_parts (q == p) (leb i j) e in
+    (eqb-true q p a.0, omega (arith, leb-true i j a.1, same_Some (j - i) n is))
+far q p i j n false e is = cc
 
-object_far : (q p : ObjectPage) (n : ℕ) (t : Bool) → ((q.object == p.object) && leb q.page p.page) ≡ t → (if t then Some (p.page - q.page) else None) ≡ Some n → object_page_after q n ≡ p
-object_far q p n true e is =
-    let a = and_parts (q.object == p.object) (leb q.page p.page) e in
-    let low : q.page ≤ p.page = leb-true q.page p.page a.1 in
-    let page : q.page + n ≡ p.page = omega (arith, low, same_Some (p.page - q.page) n is) in
-    ap₂ (λ (o k : ℕ). let r : ObjectPage = record { object = o; page = k } in r) (eqb-true q.object p.object a.0) page
-object_far q p n false e is = cc
+file_far : (q p : FilePage) (n : ℕ) → pages_between (File q) (File p) ≡ Some n → Some (File (file_page_after q n)) ≡ Some (File p)
+file_far q p n is =
+    let a = far q.file p.file q.page p.page n _ refl is in
+    ap₂ (λ (f k : ℕ). let r : FilePage = record { file = f; page = k } in Some (File r)) a.0 a.1
 
 far_on : (b : Backing) (key : PageKey) (n : ℕ) → run_pages_from (stands_on b) key ≡ Some n → stands_on (backing_after b n) ≡ Some key
 far_on Anon key n is = cc
-far_on (Private q) (File p) n is = ap (λ (x : FilePage). Some (File x)) (file_far q p n ((q.file == p.file) && leb q.page p.page) refl is)
+far_on (Private q) (File p) n is = file_far q p n is
 far_on (Private q) (Object p) n is = cc
-far_on (Shared q) (File p) n is = ap (λ (x : FilePage). Some (File x)) (file_far q p n ((q.file == p.file) && leb q.page p.page) refl is)
+far_on (Shared q) (File p) n is = file_far q p n is
 far_on (Shared q) (Object p) n is = cc
 far_on (Common q) (File p) n is = cc
-far_on (Common q) (Object p) n is = ap (λ (x : ObjectPage). Some (Object x)) (object_far q p n ((q.object == p.object) && leb q.page p.page) refl is)
-
-file_near : (q : FilePage) (n : ℕ) → pages_between (File q) (File (file_page_after q n)) ≡ Some n
-file_near q n =
-    let far : q.page + n - q.page ≡ n = omega arith in
-    rw (eq-eqb q.file q.file refl, le-leb q.page (q.page + n) (omega arith)) (ap (λ (k : ℕ). Some k) far)
-
-object_near : (q : ObjectPage) (n : ℕ) → pages_between (Object q) (Object (object_page_after q n)) ≡ Some n
-object_near q n =
-    let far : q.page + n - q.page ≡ n = omega arith in
-    rw (eq-eqb q.object q.object refl, le-leb q.page (q.page + n) (omega arith)) (ap (λ (k : ℕ). Some k) far)
-
-near_on : (b : Backing) (key : PageKey) (n : ℕ) → stands_on (backing_after b n) ≡ Some key → run_pages_from (stands_on b) key ≡ Some n
-near_on Anon key n is = cc
-near_on (Private q) key n is = subst (λ (x : PageKey). pages_between (File q) x ≡ Some n) (same_Some (File (file_page_after q n)) key is) (file_near q n)
-near_on (Shared q) key n is = subst (λ (x : PageKey). pages_between (File q) x ≡ Some n) (same_Some (File (file_page_after q n)) key is) (file_near q n)
-near_on (Common q) key n is = subst (λ (x : PageKey). pages_between (Object q) x ≡ Some n) (same_Some (Object (object_page_after q n)) key is) (object_near q n)
+far_on (Common q) (Object p) n is =
+    let a = far q.object p.object q.page p.page n _ refl is in
+    ap₂ (λ (o k : ℕ). let r : ObjectPage = record { object = o; page = k } in Some (Object r)) a.0 a.1
 
 -- what a run's test finds
 
@@ -102,6 +50,17 @@ on_some key run k is =
     let t = further_some run (run_pages_from (stands_on run.attr.backing) key) k is in
     (t.0, t.1, far_on run.attr.backing key (k - run.first) t.2)
 
+near : (q i n : ℕ) → (if (q == q) && leb i (i + n) then Some (i + n - i) else None) ≡ Some n
+near q i n =
+    let far : i + n - i ≡ n = omega arith in
+    rw (eq-eqb q q refl, le-leb i (i + n) (omega arith)) (ap (λ (k : ℕ). Some k) far)
+
+near_on : (b : Backing) (key : PageKey) (n : ℕ) → stands_on (backing_after b n) ≡ Some key → run_pages_from (stands_on b) key ≡ Some n
+near_on Anon key n is = cc
+near_on (Private q) key n is = subst (λ (x : PageKey). pages_between (File q) x ≡ Some n) (same_Some (File (file_page_after q n)) key is) (near q.file q.page n)
+near_on (Shared q) key n is = subst (λ (x : PageKey). pages_between (File q) x ≡ Some n) (same_Some (File (file_page_after q n)) key is) (near q.file q.page n)
+near_on (Common q) key n is = subst (λ (x : PageKey). pages_between (Object q) x ≡ Some n) (same_Some (Object (object_page_after q n)) key is) (near q.object q.page n)
+
 pub on_is : (key : PageKey) (run : Run) (k : ℕ) → run.first ≤ k → k < run.end → stands_on (attr_after run.attr (k - run.first)).backing ≡ Some key → page_on key run ≡ Some k
 on_is key run k low high is =
     let at : run.first + (k - run.first) ≡ k = omega (arith, low) in
@@ -109,99 +68,11 @@ on_is key run k low high is =
     ∙ ap (λ (b : Bool). if b then Some (run.first + (k - run.first)) else None) (lt-ltb (k - run.first) (run.end - run.first) (omega (arith, low, high)))
     ∙ ap (λ (n : ℕ). Some n) at
 
--- a page of the first run or of the others
-
-one_side : (run : Run) (runs : List Run) (key : PageKey) (j : ℕ) → StandsOn (attr_at (run ∷ runs)) key j → Side run j → (page_on key run ≡ Some j) ⊎ StandsOn (attr_at runs) key j
-one_side run runs key j s (below h) =
-    inr (record { attr = s.attr; mapped = sym (ap (λ (o : Option Attr). run_or_else o (attr_at runs j)) (attr_in-below run j h)) ∙ s.mapped; on = s.on })
-one_side run runs key j s (inside low high) =
-    let here : Some (attr_after run.attr (j - run.first)) ≡ Some s.attr = sym (ap (λ (o : Option Attr). run_or_else o (attr_at runs j)) (attr_in-inside run j low high)) ∙ s.mapped in
-    let same : attr_after run.attr (j - run.first) ≡ s.attr = same_Some (attr_after run.attr (j - run.first)) s.attr here in
-    inl (on_is key run j low high (ap (λ (a : Attr). stands_on a.backing) same ∙ s.on))
-one_side run runs key j s (above h) =
-    inr (record { attr = s.attr; mapped = sym (ap (λ (o : Option Attr). run_or_else o (attr_at runs j)) (attr_in-above run j h)) ∙ s.mapped; on = s.on })
-
-stands_side : (run : Run) (runs : List Run) (key : PageKey) (j : ℕ) → StandsOn (attr_at (run ∷ runs)) key j → (page_on key run ≡ Some j) ⊎ StandsOn (attr_at runs) key j
-stands_side run runs key j s = one_side run runs key j s (side run j)
-
-module _ (mode : ℕ) where
-  stands_later : (run : Run) (runs : List Run) (key : PageKey) (j : ℕ) → IsMaximal mode run.end runs → StandsOn (attr_at runs) key j → StandsOn (attr_at (run ∷ runs)) key j
-  stands_later run runs key j m s = elim (first_or_rest mode run runs j m) [
-    | inl none ↦ record { attr = s.attr; mapped = ap (λ (o : Option Attr). run_or_else o (attr_at runs j)) none ∙ s.mapped; on = s.on }
-    | inr none ↦ (let bad : None ≡ Some s.attr = sym none ∙ s.mapped in (cc))
-  ]
-
 -- the first, or none
 
 abbrev pub IsFirstOrNone : ℕ → (ℕ → Option Attr) → ℕ → PageKey → Option ℕ → Type 0
 IsFirstOrNone mode map low key None = (k : ℕ) → low ≤ k → StandsOn map key k → ⊥
 IsFirstOrNone mode map low key (Some k) = IsFirstOn mode map low key k
-
--- no page of the run counts: the others tell
-module _ (mode : ℕ) where
-  others_tell : (run : Run) (runs : List Run) (low : ℕ) (key : PageKey) (o : Option ℕ) → IsMaximal mode run.end runs → ((j : ℕ) → page_on key run ≡ Some j → j < low)
-      → IsFirstOrNone mode (attr_at runs) low key o → IsFirstOrNone mode (attr_at (run ∷ runs)) low key o
-  others_tell run runs low key None m early is = λ k h s. elim (stands_side run runs key k s) [
-    | inl here ↦ (let e = early k here in omega (arith, e, h))
-    | inr later ↦ is k h later
-  ]
-  others_tell run runs low key (Some k) m early is = record {
-    from = is.from;
-    above = is.above;
-    user = is.user;
-    stands = stands_later mode run runs key k m is.stands;
-    before = λ j h less s. elim (stands_side run runs key j s) [
-      | inl here ↦ (let e = early j here in omega (arith, e, h))
-      | inr later ↦ is.before j h less later
-    ];
-  }
-
-module _ (mode : ℕ) where
-  here_first : (run : Run) (runs : List Run) (low : ℕ) (key : PageKey) (k : ℕ) → IsRun mode run → IsMaximal mode run.end runs → page_on key run ≡ Some k → low ≤ k → IsFirstOn mode (attr_at (run ∷ runs)) low key k
-  here_first run runs low key k r m is h =
-      let at = on_some key run k is in
-      record {
-        from = h;
-        above = (let a = r.low in let b = at.0 in omega (arith, a, b));
-        user = (let a = r.high in let b = at.1 in omega (arith, a, b));
-        stands = record {
-          attr = attr_after run.attr (k - run.first);
-          mapped = ap (λ (o : Option Attr). run_or_else o (attr_at runs k)) (attr_in-inside run k at.0 at.1);
-          on = at.2;
-        };
-        before = λ j from less s. elim (side run j) [
-          | below b ↦ (
-              let early : attr_at runs j ≡ None = attr_at-before mode run.end runs j m (let n = r.nonempty in omega (arith, b, n)) in
-              let bad : None ≡ Some s.attr = sym early ∙ sym (ap (λ (o : Option Attr). run_or_else o (attr_at runs j)) (attr_in-below run j b)) ∙ s.mapped in
-              (cc))
-          | inside low' high' ↦ (
-              let same = same_Some (attr_after run.attr (j - run.first)) s.attr (sym (ap (λ (o : Option Attr). run_or_else o (attr_at runs j)) (attr_in-inside run j low' high')) ∙ s.mapped) in
-              let also = on_is key run j low' high' (ap (λ (a : Attr). stands_on a.backing) same ∙ s.on) in
-              let e : j ≡ k = same_Some j k (sym also ∙ is) in
-              omega (arith, e, less))
-          | above a ↦ (let b = at.1 in omega (arith, a, b, less))
-        ];
-      }
-
-module _ (mode : ℕ) where
-  first_case : (run : Run) (runs : List Run) (low : ℕ) (key : PageKey) (o : Option ℕ) (k : ℕ) (b : Bool) → leb low k ≡ b → IsRun mode run → IsMaximal mode run.end runs → page_on key run ≡ Some k
-      → IsFirstOrNone mode (attr_at runs) low key o → IsFirstOrNone mode (attr_at (run ∷ runs)) low key (if b then Some k else o)
-  first_case run runs low key o k true e r m is rest = here_first mode run runs low key k r m is (leb-true low k e)
-  first_case run runs low key o k false e r m is rest =
-      others_tell mode run runs low key o m
-      (λ j here. (let same : j ≡ k = same_Some j k (sym here ∙ is) in let less : k < low = leb-false low k e in omega (arith, same, less)))
-      rest
-
-module _ (mode : ℕ) where
-  first_cases : (run : Run) (runs : List Run) (low : ℕ) (key : PageKey) (o x : Option ℕ) → IsRun mode run → IsMaximal mode run.end runs → page_on key run ≡ x
-      → IsFirstOrNone mode (attr_at runs) low key o → IsFirstOrNone mode (attr_at (run ∷ runs)) low key (from_or low x o)
-  first_cases run runs low key o None r m is rest = others_tell mode run runs low key o m (λ j here. (let bad : None ≡ Some j = sym is ∙ here in (cc))) rest
-  first_cases run runs low key o (Some k) r m is rest = first_case mode run runs low key o k (leb low k) refl r m is rest
-
-module _ (mode : ℕ) where
-  pub first_on-is : (from low : ℕ) (key : PageKey) (runs : List Run) → IsMaximal mode from runs → IsFirstOrNone mode (attr_at runs) low key (first_on low key runs)
-  first_on-is from low key [] m = λ k h s. (let bad : None ≡ Some s.attr = s.mapped in (cc))
-  first_on-is from low key (run ∷ runs) m = first_cases mode run runs low key (first_on low key runs) (page_on key run) m.1 m.3 refl (first_on-is run.end low key runs m.3)
 
 -- the runs that end before it don't matter
 
@@ -233,3 +104,105 @@ none_some (Some k) P some = tt
 pub none_from : (r : Option ℕ) (P : Type 0) → P → IfNone r P
 none_from None P is = is
 none_from (Some k) P is = tt
+
+module _ (mode : ℕ) where
+  -- each run that the search by halves leaves is one
+
+  behind_test : (page : ℕ) (run : Run) (runs : List Run) (k : ℕ) (d : Run) (b : Bool) → IsRun mode run → ((i : ℕ) → i < length runs → IsRun mode (get_or runs i d))
+      → (k < length (runs_behind page runs) → IsRun mode (get_or (runs_behind page runs) k d))
+      → k < length (if b then runs_behind page runs else run ∷ runs) → IsRun mode (get_or (if b then runs_behind page runs else run ∷ runs) k d)
+  behind_test page run runs k d true r all rest h = rest h
+  behind_test page run runs zero d false r all rest h = r
+  behind_test page run runs (suc k) d false r all rest h = all k (omega arith)
+
+  run_at : (from : ℕ) (runs : List Run) (k : ℕ) (d : Run) → IsMaximal mode from runs → k < length runs → IsRun mode (get_or runs k d)
+  run_at from [] k d m h = absurd (omega arith)
+  run_at from (run ∷ runs) zero d m h = m.1
+  run_at from (run ∷ runs) (suc k) d m h = run_at run.end runs k d m.3 (omega arith)
+
+  pub behind_run : (from page : ℕ) (runs : List Run) (k : ℕ) (d : Run) → IsMaximal mode from runs → k < length (runs_behind page runs) → IsRun mode (get_or (runs_behind page runs) k d)
+  behind_run from page [] k d m h = absurd (omega arith)
+  behind_run from page (run ∷ runs) k d m h =
+      behind_test page run runs k d (leb run.end page) m.1 (λ i less. run_at run.end runs i d m.3 less) (λ less. behind_run run.end page runs k d m.3 less) h
+
+  -- a page of the first run or of the others
+
+  one_side : (run : Run) (runs : List Run) (key : PageKey) (j : ℕ) → StandsOn (attr_at (run ∷ runs)) key j → Side run j → (page_on key run ≡ Some j) ⊎ StandsOn (attr_at runs) key j
+  one_side run runs key j s (below h) =
+      inr (record { attr = s.attr; mapped = sym (ap (λ (o : Option Attr). run_or_else o (attr_at runs j)) (attr_in-below run j h)) ∙ s.mapped; on = s.on })
+  one_side run runs key j s (inside low high) =
+      let here : Some (attr_after run.attr (j - run.first)) ≡ Some s.attr = sym (ap (λ (o : Option Attr). run_or_else o (attr_at runs j)) (attr_in-inside run j low high)) ∙ s.mapped in
+      let same : attr_after run.attr (j - run.first) ≡ s.attr = same_Some (attr_after run.attr (j - run.first)) s.attr here in
+      inl (on_is key run j low high (ap (λ (a : Attr). stands_on a.backing) same ∙ s.on))
+  one_side run runs key j s (above h) =
+      inr (record { attr = s.attr; mapped = sym (ap (λ (o : Option Attr). run_or_else o (attr_at runs j)) (attr_in-above run j h)) ∙ s.mapped; on = s.on })
+
+  stands_side : (run : Run) (runs : List Run) (key : PageKey) (j : ℕ) → StandsOn (attr_at (run ∷ runs)) key j → (page_on key run ≡ Some j) ⊎ StandsOn (attr_at runs) key j
+  stands_side run runs key j s = one_side run runs key j s (side run j)
+
+  stands_later : (run : Run) (runs : List Run) (key : PageKey) (j : ℕ) → IsMaximal mode run.end runs → StandsOn (attr_at runs) key j → StandsOn (attr_at (run ∷ runs)) key j
+  stands_later run runs key j m s = elim (first_or_rest mode run runs j m) [
+    | inl none ↦ record { attr = s.attr; mapped = ap (λ (o : Option Attr). run_or_else o (attr_at runs j)) none ∙ s.mapped; on = s.on }
+    | inr none ↦ (let bad : None ≡ Some s.attr = sym none ∙ s.mapped in (cc))
+  ]
+
+  -- no page of the run counts: the others tell
+  others_tell : (run : Run) (runs : List Run) (low : ℕ) (key : PageKey) (o : Option ℕ) → IsMaximal mode run.end runs → ((j : ℕ) → page_on key run ≡ Some j → j < low)
+      → IsFirstOrNone mode (attr_at runs) low key o → IsFirstOrNone mode (attr_at (run ∷ runs)) low key o
+  others_tell run runs low key None m early is = λ k h s. elim (stands_side run runs key k s) [
+    | inl here ↦ (let e = early k here in omega (arith, e, h))
+    | inr later ↦ is k h later
+  ]
+  others_tell run runs low key (Some k) m early is = record {
+    from = is.from;
+    above = is.above;
+    user = is.user;
+    stands = stands_later run runs key k m is.stands;
+    before = λ j h less s. elim (stands_side run runs key j s) [
+      | inl here ↦ (let e = early j here in omega (arith, e, h))
+      | inr later ↦ is.before j h less later
+    ];
+  }
+
+  here_first : (run : Run) (runs : List Run) (low : ℕ) (key : PageKey) (k : ℕ) → IsRun mode run → IsMaximal mode run.end runs → page_on key run ≡ Some k → low ≤ k → IsFirstOn mode (attr_at (run ∷ runs)) low key k
+  here_first run runs low key k r m is h =
+      let at = on_some key run k is in
+      record {
+        from = h;
+        above = (let a = r.low in let b = at.0 in omega (arith, a, b));
+        user = (let a = r.high in let b = at.1 in omega (arith, a, b));
+        stands = record {
+          attr = attr_after run.attr (k - run.first);
+          mapped = ap (λ (o : Option Attr). run_or_else o (attr_at runs k)) (attr_in-inside run k at.0 at.1);
+          on = at.2;
+        };
+        before = λ j from less s. elim (side run j) [
+          | below b ↦ (
+              let early : attr_at runs j ≡ None = attr_at-before mode run.end runs j m (let n = r.nonempty in omega (arith, b, n)) in
+              let bad : None ≡ Some s.attr = sym early ∙ sym (ap (λ (o : Option Attr). run_or_else o (attr_at runs j)) (attr_in-below run j b)) ∙ s.mapped in
+              (cc))
+          | inside low' high' ↦ (
+              let same = same_Some (attr_after run.attr (j - run.first)) s.attr (sym (ap (λ (o : Option Attr). run_or_else o (attr_at runs j)) (attr_in-inside run j low' high')) ∙ s.mapped) in
+              let also = on_is key run j low' high' (ap (λ (a : Attr). stands_on a.backing) same ∙ s.on) in
+              let e : j ≡ k = same_Some j k (sym also ∙ is) in
+              omega (arith, e, less))
+          | above a ↦ (let b = at.1 in omega (arith, a, b, less))
+        ];
+      }
+
+  first_case : (run : Run) (runs : List Run) (low : ℕ) (key : PageKey) (o : Option ℕ) (k : ℕ) (b : Bool) → leb low k ≡ b → IsRun mode run → IsMaximal mode run.end runs → page_on key run ≡ Some k
+      → IsFirstOrNone mode (attr_at runs) low key o → IsFirstOrNone mode (attr_at (run ∷ runs)) low key (if b then Some k else o)
+  first_case run runs low key o k true e r m is rest = here_first run runs low key k r m is (leb-true low k e)
+  first_case run runs low key o k false e r m is rest =
+      others_tell run runs low key o m
+      (λ j here. (let same : j ≡ k = same_Some j k (sym here ∙ is) in let less : k < low = leb-false low k e in omega (arith, same, less)))
+      rest
+
+  first_cases : (run : Run) (runs : List Run) (low : ℕ) (key : PageKey) (o x : Option ℕ) → IsRun mode run → IsMaximal mode run.end runs → page_on key run ≡ x
+      → IsFirstOrNone mode (attr_at runs) low key o → IsFirstOrNone mode (attr_at (run ∷ runs)) low key (from_or low x o)
+  first_cases run runs low key o None r m is rest = others_tell run runs low key o m (λ j here. (let bad : None ≡ Some j = sym is ∙ here in (cc))) rest
+  first_cases run runs low key o (Some k) r m is rest = first_case run runs low key o k (leb low k) refl r m is rest
+
+  pub first_on-is : (from low : ℕ) (key : PageKey) (runs : List Run) → IsMaximal mode from runs → IsFirstOrNone mode (attr_at runs) low key (first_on low key runs)
+  first_on-is from low key [] m = λ k h s. (let bad : None ≡ Some s.attr = s.mapped in (cc))
+  first_on-is from low key (run ∷ runs) m = first_cases run runs low key (first_on low key runs) (page_on key run) m.1 m.3 refl (first_on-is run.end low key runs m.3)

@@ -1,16 +1,10 @@
 -- What is public of a list's map: where it is mapped, and what a walk over its runs finds.
 use Rattle.std.proofs.Common.{◌≡◌, ℕ, ◌+◌, ◌-◌, ◌^◌, ◌<◌, ◌≤◌, ◌&&◌, eq-eqb, ⊎_elim, max, min, Bool, true, false, if◌then◌else◌, ltb, refl, sym, ◌∙◌, ap, subst, arith, List, [], ◌∷◌, Option, Some, None, IsSome, IfSome, IfNone, ltb-true, ltb-false}
-use Rattle.vm_types.specs.Limits.{user_end}
-use Rattle.vm_types.specs.declared.region.Attr.{Attr}
-use Rattle.vm_types.specs.Attributes.{attr_after, attr_eq, backing_fits}
-use Rattle.vm_types.specs.Rows.{IsUserMap}
-use Rattle.regions.specs.declared.run.Run.{Run}
-use Rattle.regions.specs.Run.{IsRun, attr_in, cut_run}
-use Rattle.regions.specs.RunList.{run_or_else, attr_at, joins_first, IsMaximal, IsNextRun}
-use Rattle.regions.specs.Search.{first_part, run_or}
+use Rattle.std.proofs.lemmas.Option.{same_Some}
+use Rattle.vm_types.specs.{Limits.{user_end}, declared.region.Attr.{Attr}, Attributes.{attr_after, attr_eq, backing_fits}, Rows.{IsUserMap}}
+use Rattle.regions.specs.{declared.run.Run.{Run}, Run.{IsRun, attr_in, cut_run}, RunList.{run_or_else, attr_at, joins_first, IsMaximal, IsNextRun}, Search.{first_part, run_or}}
 use Rattle.regions.proofs.AttrLemmas.{attr_after-add, attr_after-zero, backing_fits-after, backing_fits-less}
-use Rattle.regions.proofs.RunLemmas.{widest_run, lt_or_le, attr_in-inside, attr_in-below, attr_in-above, attr_in-cut, clipped-inside, changed-none, IsPart, cut-run}
-use Rattle.regions.proofs.ListLemmas.{attr_at-before}
+use Rattle.regions.proofs.{RunLemmas.{widest_run, lt_or_le, attr_in-inside, attr_in-below, attr_in-above, attr_in-cut, clipped-inside, changed-none, IsPart, cut-run}, ListLemmas.{attr_at-before}}
 
 -- only user pages are mapped
 
@@ -20,44 +14,6 @@ IsUserAttr mode page o = (IsSome o → (16 ≤ page) × (page < user_end mode)) 
 some_none : IsSome {T = Attr} None → ⊥
 some_none h = cc
 
-module _ (mode : ℕ) where
-  user_none : (page : ℕ) → IsUserAttr mode page None
-  user_none page = (λ h. absurd (some_none h), tt)
-
-module _ (mode : ℕ) where
-  user_inside : (run : Run) (page : ℕ) → IsRun mode run → run.first ≤ page → page < run.end → IsUserAttr mode page (Some (attr_after run.attr (page - run.first)))
-  user_inside run page r a b =
-      let low : 16 ≤ run.first = r.low in
-      let high : run.end ≤ user_end mode = r.high in
-      let fits : backing_fits run.attr.backing ((page - run.first) + 1) = backing_fits-less run.attr.backing ((page - run.first) + 1) (run.end - run.first) (omega arith) r.file_pages in
-      (λ _. (omega arith, omega arith), backing_fits-after run.attr.backing (page - run.first) 1 fits)
-
-module _ (mode : ℕ) where
-  user_in : (run : Run) (page : ℕ) → IsRun mode run → IsUserAttr mode page (attr_in run page)
-  user_in run page r =
-      ⊎_elim
-      (λ (a : page < run.first). subst (λ (o : Option Attr). IsUserAttr mode page o) (sym (attr_in-below run page a)) (user_none mode page))
-      (λ (a : run.first ≤ page). ⊎_elim
-      (λ (b : page < run.end). subst (λ (o : Option Attr). IsUserAttr mode page o) (sym (attr_in-inside run page a b)) (user_inside mode run page r a b))
-      (λ (b : run.end ≤ page). subst (λ (o : Option Attr). IsUserAttr mode page o) (sym (attr_in-above run page b)) (user_none mode page))
-      (lt_or_le page run.end))
-      (lt_or_le page run.first)
-
-module _ (mode : ℕ) where
-  user_or : (page : ℕ) (a b : Option Attr) → IsUserAttr mode page a → IsUserAttr mode page b → IsUserAttr mode page (run_or_else a b)
-  user_or page None b ha hb = hb
-  user_or page (Some x) b ha hb = ha
-
-module _ (mode : ℕ) where
-  user_at : (from : ℕ) (runs : List Run) (page : ℕ) → IsMaximal mode from runs → IsUserAttr mode page (attr_at runs page)
-  user_at from [] page m = user_none mode page
-  user_at from (run ∷ runs) page m =
-      user_or mode page (attr_in run page) (attr_at runs page) (user_in mode run page m.1) (user_at run.end runs page m.3)
-
-module _ (mode : ℕ) where
-  pub user_map : (runs : List Run) → IsMaximal mode 16 runs → IsUserMap mode (attr_at runs)
-  user_map runs m = record { user_pages = λ page. (user_at mode 16 runs page m).0; file_pages = λ page. (user_at mode 16 runs page m).1 }
-
 -- a walk's next run
 
 -- whether the part is the next run of the map, or no page is mapped from the page on
@@ -65,41 +21,61 @@ abbrev pub IsNextOrNone : ℕ → (ℕ → Option Attr) → ℕ → Option Run �
 IsNextOrNone mode map page None = (k : ℕ) → page ≤ k → map k ≡ None
 IsNextOrNone mode map page (Some run) = IsNextRun mode map page run
 
-some_attr : (a b : Attr) → Some a ≡ Some b → a ≡ b
-some_attr a b e = cc
-
-none_attr : (a : Attr) → None ≡ Some a → ⊥
-none_attr a e = cc
-
--- where a run of the list ends, the next doesn't go on with it
 module _ (mode : ℕ) where
-  not_merged : (run : Run) (runs : List Run) (attr : Attr) → IsMaximal mode run.end runs → joins_first run runs ≡ false → attr_at runs run.end ≡ Some attr
+  user_none : (page : ℕ) → IsUserAttr mode page None
+  user_none page = (λ h. absurd (some_none h), tt)
+
+  user_inside : (run : Run) (page : ℕ) → IsRun mode run → run.first ≤ page → page < run.end → IsUserAttr mode page (Some (attr_after run.attr (page - run.first)))
+  user_inside run page r a b =
+      let fits : backing_fits run.attr.backing ((page - run.first) + 1) = backing_fits-less run.attr.backing ((page - run.first) + 1) (run.end - run.first) (omega arith) r.file_pages in
+      (λ _. (omega arith, omega arith), backing_fits-after run.attr.backing (page - run.first) 1 fits)
+
+  user_in : (run : Run) (page : ℕ) → IsRun mode run → IsUserAttr mode page (attr_in run page)
+  user_in run page r =
+      ⊎_elim
+      (λ (a : page < run.first). subst (λ (o : Option Attr). IsUserAttr mode page o) (sym (attr_in-below run page a)) (user_none page))
+      (λ (a : run.first ≤ page). ⊎_elim
+      (λ (b : page < run.end). subst (λ (o : Option Attr). IsUserAttr mode page o) (sym (attr_in-inside run page a b)) (user_inside run page r a b))
+      (λ (b : run.end ≤ page). subst (λ (o : Option Attr). IsUserAttr mode page o) (sym (attr_in-above run page b)) (user_none page))
+      (lt_or_le page run.end))
+      (lt_or_le page run.first)
+
+  user_or : (page : ℕ) (a b : Option Attr) → IsUserAttr mode page a → IsUserAttr mode page b → IsUserAttr mode page (run_or_else a b)
+  user_or page None b ha hb = hb
+  user_or page (Some x) b ha hb = ha
+
+  user_at : (from : ℕ) (runs : List Run) (page : ℕ) → IsMaximal mode from runs → IsUserAttr mode page (attr_at runs page)
+  user_at from [] page m = user_none page
+  user_at from (run ∷ runs) page m =
+      user_or page (attr_in run page) (attr_at runs page) (user_in run page m.1) (user_at run.end runs page m.3)
+
+  pub user_map : (runs : List Run) → IsMaximal mode 16 runs → IsUserMap mode (attr_at runs)
+  user_map runs m = record { user_pages = λ page. (user_at 16 runs page m).0; file_pages = λ page. (user_at 16 runs page m).1 }
+
+  -- where a run of the list ends, the next doesn't go on with it
+  pub not_merged : (run : Run) (runs : List Run) (attr : Attr) → IsMaximal mode run.end runs → joins_first run runs ≡ false → attr_at runs run.end ≡ Some attr
       → attr_eq (attr_after run.attr (run.end - run.first)) attr ≡ false
-  not_merged run [] attr rest apart there = absurd (none_attr attr there)
+  not_merged run [] attr rest apart there = (let bad : None ≡ Some attr = there in (cc))
   not_merged run (next ∷ runs) attr rest apart there =
       ⊎_elim
-      (λ (behind : run.end < next.first). absurd (none_attr attr (sym (attr_at-before mode next.first (next ∷ runs) run.end (omega arith, rest.1, rest.2, rest.3) behind) ∙ there)))
+      (λ (behind : run.end < next.first). (let bad : None ≡ Some attr = sym (attr_at-before mode next.first (next ∷ runs) run.end (omega arith, rest.1, rest.2, rest.3) behind) ∙ there in (cc)))
       (λ (here : next.first ≤ run.end).
-      let low : run.end ≤ next.first = rest.0 in
       let some : next.first < next.end = rest.1.nonempty in
-      let e : run.end ≡ next.first = omega (arith, low, here) in
+      let e : run.end ≡ next.first = omega (arith, rest.0, here) in
       let none : run.end - next.first ≡ 0 = omega (arith, e) in
       let is : attr_in next run.end ≡ Some next.attr =
       attr_in-inside next run.end here (omega (arith, e, some)) ∙ ap (λ (n : ℕ). Some (attr_after next.attr n)) none ∙ ap (λ (a : Attr). Some a) (attr_after-zero next.attr) in
-      let same : next.attr ≡ attr = some_attr next.attr attr (sym (ap (λ (o : Option Attr). run_or_else o (attr_at runs run.end)) is) ∙ there) in
+      let same : next.attr ≡ attr = same_Some next.attr attr (sym (ap (λ (o : Option Attr). run_or_else o (attr_at runs run.end)) is) ∙ there) in
       let P : Bool → Type 0 = λ b. (b && attr_eq (attr_after run.attr (run.end - run.first)) next.attr) ≡ false in
       let Q : Attr → Type 0 = λ a. attr_eq (attr_after run.attr (run.end - run.first)) a ≡ false in
       subst Q same (subst P (eq-eqb run.end next.first e) apart))
       (lt_or_le run.end next.first)
 
-module _ (mode : ℕ) where
   next_here : (page : ℕ) (run : Run) (runs : List Run) → IsRun mode run → joins_first run runs ≡ false → IsMaximal mode run.end runs → max run.first page < min run.end (2 ^ 35) → IsNextRun mode (attr_at (run ∷ runs)) page (cut_run None run (max run.first page) (min run.end (2 ^ 35)))
   next_here page run runs r apart rest h =
       let part : IsPart mode page (2 ^ 35) run (cut_run None run (max run.first page) (min run.end (2 ^ 35))) = cut-run mode page (2 ^ 35) None run r h in
       let high : run.end ≤ 2 ^ 35 = widest_run mode run r in
-      let top : run.end ≤ user_end mode = r.high in
       let low : 16 ≤ run.first = r.low in
-      let some : run.first < run.end = r.nonempty in
       record {
         from = omega arith;
         low = omega arith;
@@ -123,10 +99,9 @@ module _ (mode : ℕ) where
             let long : attr_after (attr_after run.attr (max run.first page - run.first)) (min run.end (2 ^ 35) - max run.first page) ≡ attr_after run.attr (run.end - run.first) =
             attr_after-add run.attr (max run.first page - run.first) (min run.end (2 ^ 35) - max run.first page) ∙ ap (attr_after run.attr) count in
             let P : Attr → Type 0 = λ a. attr_eq a attr ≡ false in
-            subst P (sym long) (not_merged mode run runs attr rest apart at_end);
+            subst P (sym long) (not_merged run runs attr rest apart at_end);
       }
 
-module _ (mode : ℕ) where
   next_later : (page : ℕ) (run : Run) (runs : List Run) (next : Option Run) → run.end ≤ page → IsNextOrNone mode (attr_at runs) page next → IsNextOrNone mode (attr_at (run ∷ runs)) page next
   next_later page run runs None h n = λ k a. ap (λ (o : Option Attr). run_or_else o (attr_at runs k)) (attr_in-above run k (omega arith)) ∙ n k a
   next_later page run runs (Some next) h n =
@@ -139,32 +114,25 @@ module _ (mode : ℕ) where
         none_before = λ k a b. ap (λ (o : Option Attr). run_or_else o (attr_at runs k)) (attr_in-above run k (omega arith)) ∙ n.none_before k a b;
         mapped = λ k a b. ap (λ (o : Option Attr). run_or_else o (attr_at runs k)) (attr_in-above run k (omega arith)) ∙ n.mapped k a b;
         ends = λ attr there. (
-            let some : next.first < next.end = n.nonempty in
             n.ends attr (sym (ap (λ (o : Option Attr). run_or_else o (attr_at runs next.end)) (attr_in-above run next.end (omega arith))) ∙ there));
       }
 
-module _ (mode : ℕ) where
   next_test : (page : ℕ) (run : Run) (runs : List Run) (b : Bool) → ltb (max run.first page) (min run.end (2 ^ 35)) ≡ b → IsRun mode run → joins_first run runs ≡ false → IsMaximal mode run.end runs → IsNextOrNone mode (attr_at runs) page (first_part page runs) → IsNextOrNone mode (attr_at (run ∷ runs)) page (run_or (if b then Some (cut_run None run (max run.first page) (min run.end (2 ^ 35))) else None) (first_part page runs))
-  next_test page run runs true e r apart rest n = next_here mode page run runs r apart rest (ltb-true (max run.first page) (min run.end (2 ^ 35)) e)
+  next_test page run runs true e r apart rest n = next_here page run runs r apart rest (ltb-true (max run.first page) (min run.end (2 ^ 35)) e)
   next_test page run runs false e r apart rest n =
       let empty : min run.end (2 ^ 35) ≤ max run.first page = ltb-false (max run.first page) (min run.end (2 ^ 35)) e in
       let high : run.end ≤ 2 ^ 35 = widest_run mode run r in
-      let top : run.end ≤ user_end mode = r.high in
-      let some : run.first < run.end = r.nonempty in
-      next_later mode page run runs (first_part page runs) (omega arith) n
+      next_later page run runs (first_part page runs) (omega arith) n
 
-module _ (mode : ℕ) where
   pub first_part-is : (from page : ℕ) (runs : List Run) → IsMaximal mode from runs → IsNextOrNone mode (attr_at runs) page (first_part page runs)
   first_part-is from page [] m = λ k a. refl
   first_part-is from page (run ∷ runs) m =
-      next_test mode page run runs (ltb (max run.first page) (min run.end (2 ^ 35))) refl m.1 m.2 m.3 (first_part-is run.end page runs m.3)
+      next_test page run runs (ltb (max run.first page) (min run.end (2 ^ 35))) refl m.1 m.2 m.3 (first_part-is run.end page runs m.3)
 
-module _ (mode : ℕ) where
   pub next_none : (map : ℕ → Option Attr) (page : ℕ) (o : Option Run) → IsNextOrNone mode map page o → IfNone o ((k : ℕ) → page ≤ k → map k ≡ None)
   next_none map page None n = n
   next_none map page (Some run) n = tt
 
-module _ (mode : ℕ) where
   pub next_some : (map : ℕ → Option Attr) (page : ℕ) (o : Option Run) → IsNextOrNone mode map page o → IfSome o (λ run. IsNextRun mode map page run)
   next_some map page None n = tt
   next_some map page (Some run) n = n

@@ -1,13 +1,8 @@
 -- Frames given up one after the other, and what becomes of entries then.
-use Rattle.std.proofs.Common.{◌≡◌, ℕ, ◌<◌, inl, inr, true, Option, Some, None, refl, sym, ap, ◌∙◌, subst}
-use Rattle.std.proofs.lemmas.Bool.{false≢true}
-use Rattle.frames.specs.declared.role.Role.TheVariants.{Free, Table}
-use Rattle.frames.specs.FrameTable.{IsFull}
+use Rattle.std.proofs.{Common.{◌≡◌, ℕ, ◌<◌, inl, inr, true, Option, Some, None, refl, sym, ap, ◌∙◌, subst}, lemmas.Bool.{false≢true}}
+use Rattle.frames.specs.{declared.role.Role.TheVariants.{Free, Table}, FrameTable.{IsFull}}
 use Rattle.sv39_walk.specs.Entry.{frame_of}
-use Rattle.residency.specs.declared.leaves.Change.{Change}
-use Rattle.residency.specs.declared.leaves.Change.TheVariants.{Forget, ClearAccessed}
-use Rattle.residency.specs.Picture.{Picture, entry, is_data}
-use Rattle.residency.specs.Leaves.{concerns, Drops}
+use Rattle.residency.specs.{declared.leaves.Change.{Change}, declared.leaves.Change.TheVariants.{Forget, ClearAccessed}, Picture.{Picture, entry, is_data}, Leaves.{concerns, Drops}}
 use Rattle.residency.specs.Ages.{Ages, Same, Cleared, Left, LeavesFrame, IsGiven, GivesNone, GivesForTables}
 use Rattle.residency.proofs.Bits.{some_framed, framed, changed_once}
 

@@ -1,31 +1,18 @@
 -- When swap is asked, from the frame that is tried up to the calls that take one.
 use Rattle.vm_types.specs.declared.mode.Levels as Levels
-use Rattle.vm_types.specs.Limits.{top_level}
-use Rattle.std.proofs.Common.{◌≡◌, ◌≢◌, ℕ, ◌⊎◌, inl, inr, true, Option, refl, sym, ap, ◌∙◌, subst, arith}
-use Rattle.std.proofs.lemmas.Bool.{cases_eq}
-use Rattle.vm_types.specs.declared.number.FrameNo.{FrameNo}
-use Rattle.disk_model.specs.declared.sector_disk.SectorDisk.{Ghosts}
-use Rattle.disk_model.specs.Moments.{AsksOnly, Nothing}
+use Rattle.vm_types.specs.{Limits.{top_level}, declared.number.FrameNo.{FrameNo}, declared.file.FilePage.{FilePage}}
+use Rattle.std.proofs.Common.{◌≡◌, ◌≢◌, ℕ, ◌⊎◌, inl, inr, Option, refl, sym, ap, ◌∙◌, subst}
+use Rattle.disk_model.specs.{declared.sector_disk.SectorDisk.{Ghosts}, Moments.{AsksOnly, Nothing}}
 use Rattle.disk_model.proofs.Moments.{asks_none, asks_wider, asks_then}
-use Rattle.vm_types.specs.declared.file.FilePage.{FilePage}
-use Rattle.file_store.specs.declared.store.FileStore.{FileStore}
-use Rattle.file_store.specs.Store.{IsSectorOf}
-use Rattle.frames.specs.declared.role.Role.TheVariants.{Free, Table}
-use Rattle.frames.specs.FrameTable.{frame_count, role_of, IsFrame, IsFull, SameButFor}
-use Rattle.swap.specs.declared.slots.Swap.{Swap}
-use Rattle.swap.specs.declared.pages.Pages.{Pages}
-use Rattle.swap.specs.Slots.{slots_of, IsSectorOfSlot, IsSectorOfFreeSlot}
+use Rattle.file_store.specs.{declared.store.FileStore.{FileStore}, Store.{IsSectorOf}}
+use Rattle.frames.specs.{declared.role.Role.TheVariants.{Free, Table}, FrameTable.{role_of, IsFrame, IsFull, SameButFor}}
+use Rattle.swap.specs.{declared.slots.Swap.{Swap}, declared.pages.Pages.{Pages}, Slots.{slots_of, IsSectorOfSlot, IsSectorOfFreeSlot}}
 use Rattle.swap.specs.Slots as Slots
 use Rattle.page_cache.specs.CacheTable.{place_of, is_touched}
 use Rattle.page_tables.proofs.Data.{KeepsTrees, data_changed}
-use Rattle.residency.specs.declared.kernel.Core.{Core}
-use Rattle.residency.specs.Picture.{Picture, picture_of, entry, is_data}
-use Rattle.residency.specs.Parts.{IsFit}
-use Rattle.residency.specs.Ages.{Ages, GivesFrame, WantsFrame}
-use Rattle.residency.specs.Calls.{Frees, NeedsSlot, GivesToSwap, AsksSwap, AsksSwapAlso, AsksOneSlot}
+use Rattle.residency.specs.{declared.kernel.Core.{Core}, Picture.{Picture, picture_of, is_data}, Parts.{IsFit}, Ages.{GivesFrame, WantsFrame}, Calls.{Frees, NeedsSlot, GivesToSwap, AsksSwap, AsksSwapAlso, AsksOneSlot}}
 use Rattle.residency.specs.Evictions.{IsEvictable, ClearsMarks, Looked, GivesUp}
-use Rattle.residency.proofs.Entries.{entries_kept}
-use Rattle.residency.proofs.Giving.{frame_given}
+use Rattle.residency.proofs.{Entries.{entries_kept}, Giving.{frame_given, gives_kept, one_given}}
 
 or_more : {A B : Type 0} → A ⊎ ⊥ → A ⊎ B
 or_more (inl is) = inl is
@@ -35,14 +22,6 @@ or_more (inr none) = absurd none
 pub needed_of : {M : Type 0} {m : Levels.Ghosts M} → {D E : Type 0} (old found : Core D E M m) → IsFull old.frames ⊎ (found ≡ old) → IsFull old.frames ⊎ (picture_of found ≡ picture_of old)
 needed_of old found (inl full) = inl full
 needed_of old found (inr same) = inr (ap picture_of same)
-
-module _ {mode : ℕ} where
-  -- the frame that is free then was the one given up
-  one_given : (old found : Picture mode) (v n : ℕ) → frame_count found.frames ≡ frame_count old.frames → IsFull old.frames → GivesFrame old found v → IsFrame found.frames n → role_of found.frames n ≡ Free → v ≡ n
-  one_given old found v n count full gives inside free = elim (cases_eq n v) [
-    | inl e ↦ sym e
-    | inr ne ↦ absurd (full n (omega (arith, count, inside)) (sym (gives.roles n ne) ∙ free))
-  ]
 
 module _ {M : Type 0} {m : Levels.Ghosts M} {D E : Type 0} where
   -- a frame that needs a slot after a look needed one before
@@ -155,14 +134,7 @@ module _ {mode : ℕ} where
       → ((pid : ℕ) → new.root pid ≡ found.root pid) → GivesFrame old found n → GivesFrame old new n
   gives_taken old found new n fit same free datum root gives =
       let trees : KeepsTrees found.frames new.frames (top_level mode) = data_changed found.frames new.frames (top_level mode) n fit.rooted.forest same (λ t. (let bad : Free ≡ Table = sym free ∙ t in (cc))) datum in
-      let entries = entries_kept found new 0 fit.rooted trees.entries root in
-      record {
-        roles = λ k ne. same.roles k ne ∙ gives.roles k ne;
-        entries = λ pid page h. (
-            let P : ℕ → Type 0 = λ e. Ages (λ k. (k ≡ n) × (is_data (role_of old.frames k) ≡ true)) (entry old pid page) e in
-            subst P (sym (entries pid page)) (gives.entries pid page h));
-        pointers = λ a i b points. trees.same.forth a i b (gives.pointers a i b points);
-      }
+      gives_kept old found new n same.roles (entries_kept found new 0 fit.rooted trees.entries root) trees.same.forth gives
 
 -- the store was asked for one page
 module _ {D : Type 0} (g : Ghosts D) where

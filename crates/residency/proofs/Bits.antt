@@ -1,21 +1,13 @@
 -- Bits cleared in entries, and which entries a change is for.
-use Rattle.std.proofs.Common.{◌≡◌, ◌≢◌, ℕ, ◌-◌, ◌/◌, ◌%◌, ◌^◌, ◌==◌, Bool, true, false, not, ◌&&◌, if◌then◌else◌, Some, None, Option, inl, inr, refl, ap, sym, ◌∙◌, subst, arith, ne_eqb, ◌*◌, ◌+◌}
-use Rattle.std.proofs.lemmas.Bool.{cases_Bool, false≢true, and_parts}
-use Rattle.std.proofs.lemmas.Bool.Decides.{nat_tests}
+use Rattle.std.proofs.Common.{◌≡◌, ◌≢◌, ℕ, ◌-◌, ◌/◌, ◌%◌, ◌^◌, ◌==◌, true, false, not, if◌then◌else◌, Some, None, Option, inl, inr, refl, ap, sym, ◌∙◌, subst, arith, ne_eqb, ◌*◌, ◌+◌}
+use Rattle.std.proofs.{lemmas.Bool.{cases_Bool, false≢true, and_parts, and_right, not-true}, lemmas.Bool.Decides.{nat_tests}}
 use Rattle.vm_types.specs.declared.region.Attr.{Attr}
 use Rattle.frames.specs.FrameTable.{count_of}
-use Rattle.sv39_walk.specs.declared.pte.Pte.{Pte}
-use Rattle.sv39_walk.specs.Entry.{has_bit, is_valid, is_accessed, is_dirty, frame_of}
-use Rattle.page_tables.specs.declared.forms.Entry.{Entry}
-use Rattle.page_tables.specs.declared.forms.Entry.TheVariants.{Leaf, Swapped, Parked}
+use Rattle.sv39_walk.specs.{declared.pte.Pte.{Pte}, Entry.{has_bit, is_valid, is_accessed, is_dirty, frame_of}}
+use Rattle.page_tables.specs.{declared.forms.Entry.{Entry}, declared.forms.Entry.TheVariants.{Leaf, Swapped, Parked}, Entry.{number_of}}
 use Rattle.page_tables.specs.declared.forms.Entry.TheVariants as Entries
-use Rattle.page_tables.specs.Entry.{number_of}
-use Rattle.residency.specs.declared.leaves.Change.{Change}
-use Rattle.residency.specs.declared.leaves.Change.TheVariants.{Forget, ClearAccessed, ClearDirty}
-use Rattle.residency.specs.Seats.{InFrame, seat, is_private, is_swapped}
-use Rattle.residency.specs.Picture.{Picture}
-use Rattle.residency.specs.Parts.{IsEntryFor, Nothing, Resident, Away, IsResident, IsBehind}
-use Rattle.residency.specs.Leaves.{Drops, concerns, IsChanged}
+use Rattle.residency.specs.{declared.leaves.Change.{Change}, declared.leaves.Change.TheVariants.{Forget, ClearAccessed, ClearDirty}, Seats.{InFrame, seat, is_private, is_swapped}, Picture.{Picture}}
+use Rattle.residency.specs.{Parts.{IsEntryFor, Nothing, Resident, Away, IsResident, IsBehind}, Leaves.{Drops, concerns, IsChanged}}
 use Rattle.residency.proofs.Start.{seat-none}
 
 bit_same : (e d k : ℕ) → e / 2 ^ k % 2 ≡ d / 2 ^ k % 2 → has_bit e k ≡ has_bit d k
@@ -86,10 +78,6 @@ valid_leaf (Swapped slot) v = absurd (false≢true (sym (even (slot.0 * 1024 + 2
 valid_leaf (Parked frame true) v = absurd (false≢true (sym (even (frame.0 * 1024 + 260) (omega arith)) ∙ v))
 valid_leaf (Parked frame false) v = absurd (false≢true (sym (even (frame.0 * 1024 + 4) (omega arith)) ∙ v))
 
-not_true : (a : Bool) → not a ≡ true → a ≡ false
-not_true true h = absurd (false≢true h)
-not_true false h = refl
-
 pub leaf_accessed : (e : ℕ) → concerns ClearAccessed e ≡ true → (is_valid e ≡ true) × (is_accessed e ≡ true)
 leaf_accessed e = and_parts (is_valid e) (is_accessed e)
 
@@ -99,11 +87,17 @@ leaf_dirty e = and_parts (is_valid e) (is_dirty e)
 valid_some : (e : ℕ) → is_valid e ≡ true → e ≢ 0
 valid_some e valid none = false≢true (sym valid_zero ∙ sym (ap is_valid none) ∙ valid)
 
+pub not_swapped : (e : ℕ) → (is_valid e ≡ false → has_bit e 1 ≡ false) → is_swapped e ≡ false
+not_swapped e framed = elim (cases_Bool (is_valid e)) [
+  | inl t ↦ rw t refl
+  | inr f ↦ rw (f, framed f) refl
+]
+
 -- an entry that a change is for names a frame
 pub some_framed : (change : Change) (e : ℕ) → concerns change e ≡ true → (e ≢ 0) × (is_swapped e ≡ false)
 some_framed Forget e h =
     let parts = and_parts (not (e == 0)) (not (is_swapped e)) h in
-    (λ none. false≢true (sym (not_true (e == 0) parts.0) ∙ (let z : (e == 0) ≡ true = rw none refl in z)), not_true (is_swapped e) parts.1)
+    (λ none. false≢true (sym (not-true (e == 0) parts.0) ∙ (let z : (e == 0) ≡ true = rw none refl in z)), not-true (is_swapped e) parts.1)
 some_framed ClearAccessed e h = let v = leaf_accessed e h in (valid_some e v.0, rw v.0 refl)
 some_framed ClearDirty e h = let v = leaf_dirty e h in (valid_some e v.0, rw v.0 refl)
 
@@ -119,14 +113,8 @@ resident_of c attr e (Away a at away) some not_away = absurd (false≢true (sym 
 -- a changed entry isn't changed again
 pub changed_once : (change : Change) (e e' : ℕ) → IsChanged change e e' → concerns change e' ≡ false
 changed_once Forget e e' none = rw none refl
-changed_once ClearAccessed e e' c = elim (cases_Bool (is_valid e')) [
-  | inl t ↦ rw (t, c.2) refl
-  | inr f ↦ rw f refl
-]
-changed_once ClearDirty e e' c = elim (cases_Bool (is_valid e')) [
-  | inl t ↦ rw (t, c.2) refl
-  | inr f ↦ rw f refl
-]
+changed_once ClearAccessed e e' c = and_right (is_valid e') (is_accessed e') c.2
+changed_once ClearDirty e e' c = and_right (is_valid e') (is_dirty e') c.2
 
 seat_valid : (e : ℕ) → is_valid e ≡ true → seat e ≡ (if is_private e then Some (InFrame (frame_of e)) else None)
 seat_valid e valid = elim (cases_Bool (is_private e)) [

@@ -1,35 +1,17 @@
 -- A file page comes into a free frame, and is touched there.
-use Rattle.vm_types.specs.Limits.{top_level}
-use Rattle.std.proofs.Common.{◌≡◌, ◌≢◌, ℕ, inl, inr, ◌<◌, List, true, false, Option, Some, refl, sym, ap, ◌∙◌, subst, arith}
-use Rattle.std.proofs.lemmas.Bool.{cases_eq, false≢true}
-use Rattle.vm_types.specs.declared.object.PageKey.{PageKey}
-use Rattle.vm_types.specs.declared.object.PageKey.TheVariants.{File, Object}
-use Rattle.vm_types.specs.declared.region.Attr.{Attr}
-use Rattle.vm_types.specs.declared.region.Backing.{Backing}
+use Rattle.vm_types.specs.{Limits.{top_level}, declared.object.PageKey.{PageKey}, declared.object.PageKey.TheVariants.{File, Object}, declared.region.Attr.{Attr}, declared.region.Backing.{Backing}}
+use Rattle.std.proofs.{Common.{◌≡◌, ◌≢◌, ℕ, inl, inr, ◌<◌, List, true, false, Option, Some, refl, sym, ap, ◌∙◌, arith}, lemmas.Bool.{cases_eq, false≢true}}
 use Rattle.vm_types.specs.declared.region.Backing.TheVariants.{Anon, Private as PrivateOf, Shared as SharedOf, Common as CommonOf}
-use Rattle.frames.specs.declared.role.Role.TheVariants.{Free, Table, Private, Cache}
-use Rattle.frames.specs.FrameTable.{FrameTable, bytes_of, role_of, SameButFor, Takes, with_bytes}
+use Rattle.frames.specs.{declared.role.Role.TheVariants.{Free, Table, Private, Cache}, FrameTable.{FrameTable, bytes_of, role_of, SameButFor, Takes, with_bytes}}
 use Rattle.frames.proofs.FrameLemmas.{with_bytes-others}
 use Rattle.sv39_walk.specs.Entry.{is_valid, frame_of}
 use Rattle.page_tables.specs.Tree.{IsPage}
 use Rattle.page_tables.proofs.Data.{KeepsTrees, data_changed}
 use Rattle.page_cache.specs.declared.place.Place.TheVariants.{Home, Frame, Slot}
-use Rattle.residency.specs.Seats.{Seat, InFrame, InSlot, seat, is_private, is_swapped}
-use Rattle.residency.specs.Picture.{Picture, entry, view, held, bytes_at, bytes_in, IsOwned, count_in, page_in}
-use Rattle.residency.specs.Parts.{IsFit, IsEntryFor, Nothing, Resident, Away, IsBehind, HasPlaces, IsDirtySound, nowhere}
-use Rattle.residency.specs.Steps.{BringsIn}
-use Rattle.residency.proofs.Entries.{entries_kept}
-use Rattle.residency.proofs.Granting.{granting_same}
-use Rattle.residency.proofs.Moves.{shares_same, fit_kept}
-use Rattle.residency.proofs.Places.{cases_page, one_frame}
-use Rattle.residency.proofs.Placed.{places_replaced, dirty_replaced}
-use Rattle.residency.proofs.Rooted.{rooted_same, rooted_frames}
-use Rattle.residency.proofs.Seats.{counted_same}
-use Rattle.residency.proofs.Setting.{view_seated, each_view, held_by}
-use Rattle.residency.proofs.Bits.{valid_zero}
-
-valid_stays : (e : ℕ) → is_valid e ≡ true → is_swapped e ≡ false
-valid_stays e valid = rw valid refl
+use Rattle.residency.specs.{Seats.{Seat, InFrame, InSlot, seat, is_private, is_swapped}, Picture.{Picture, entry, view, held, bytes_at, bytes_in, IsOwned, count_in, page_in}}
+use Rattle.residency.specs.{Parts.{IsFit, IsEntryFor, Nothing, Resident, Away, IsBehind, HasPlaces, IsDirtySound, nowhere}, Steps.{BringsIn}}
+use Rattle.residency.proofs.{Entries.{entries_kept}, Granting.{granting_same}, Moves.{shares_same, fit_kept, counted_on}, Places.{cases_page, one_frame}, Placed.{places_replaced, dirty_replaced}, Rooted.{rooted_same, rooted_frames}}
+use Rattle.residency.proofs.{Setting.{view_seated, each_view, held_by}, Bits.{valid_zero}}
 
 -- a frame that was taken and written, as the other frames see it
 pub frames_written : (old mid : FrameTable) (n : ℕ) (w : List ℕ) → Takes old mid Cache n → SameButFor n old (with_bytes mid n w)
@@ -52,11 +34,11 @@ module _ {mode : ℕ} (old new : Picture mode) (page : PageKey) (n : ℕ) (fit :
   cache_ne : (m : ℕ) → role_of old.frames m ≡ Cache → m ≢ n
   cache_ne m cache = not_there m (λ free. (let bad : Cache ≡ Free = sym cache ∙ free in (cc)))
 
-  trees : KeepsTrees old.frames new.frames (top_level mode)
-  trees = data_changed old.frames new.frames (top_level mode) n fit.rooted.forest brings.frames (λ t. (let bad : Free ≡ Table = sym brings.was_free ∙ t in (cc))) (λ t. (let bad : Cache ≡ Table = sym brings.kind ∙ t in (cc)))
+  pub trees_brought : KeepsTrees old.frames new.frames (top_level mode)
+  trees_brought = data_changed old.frames new.frames (top_level mode) n fit.rooted.forest brings.frames (λ t. (let bad : Free ≡ Table = sym brings.was_free ∙ t in (cc))) (λ t. (let bad : Cache ≡ Table = sym brings.kind ∙ t in (cc)))
 
-  same : (pid k : ℕ) → entry new pid k ≡ entry old pid k
-  same = entries_kept old new 0 fit.rooted trees.entries brings.root
+  pub entries_brought : (pid k : ℕ) → entry new pid k ≡ entry old pid k
+  entries_brought = entries_kept old new 0 fit.rooted trees_brought.entries brings.root
 
   -- another file page is where it was
   framed : (p : PageKey) (m : ℕ) → old.place p ≡ Frame (record { 0 = m }) → p ≢ page
@@ -141,10 +123,10 @@ module _ {mode : ℕ} (old new : Picture mode) (page : PageKey) (n : ℕ) (fit :
   resident_ne : (pid k : ℕ) (a : Option Attr) → IsEntryFor old a (entry old pid k) → is_valid (entry old pid k) ≡ true → is_private (entry old pid k) ≡ false → frame_of (entry old pid k) ≢ n
   resident_ne pid k a (Nothing none) valid common = absurd (false≢true (sym (ap is_valid none ∙ valid_zero) ∙ valid))
   resident_ne pid k a (Resident b at res) valid common = behind_ne b.backing (frame_of (entry old pid k)) (res.behind common)
-  resident_ne pid k a (Away b at away) valid common = absurd (false≢true (sym (valid_stays (entry old pid k) valid) ∙ away.swapped))
+  resident_ne pid k a (Away b at away) valid common = absurd (false≢true (sym (let here : is_swapped (entry old pid k) ≡ false = rw valid refl in here) ∙ away.swapped))
 
   dirtied : IsDirtySound new
-  dirtied = dirty_replaced old new page fit.dirty brings.others (λ p ne. brings.touched p) (λ pid k h. same pid k)
+  dirtied = dirty_replaced old new page fit.dirty brings.others (λ p ne. brings.touched p) (λ pid k h. entries_brought pid k)
       (λ pid k h valid common dirty there. (
       let number = one_frame n (frame_of (entry old pid k)) (sym brings.placed ∙ there) in
       absurd (resident_ne pid k (old.at pid k) (fit.granting.entries pid k h) valid common number)))
@@ -152,30 +134,20 @@ module _ {mode : ℕ} (old new : Picture mode) (page : PageKey) (n : ℕ) (fit :
 
   pub fit_brought : IsFit new
   fit_brought = record {
-    counted = (
-      fit.counted.0,
-      counted_same mode (entry old) (entry new) (IsOwned old) (IsOwned new) (count_in old) (count_in new) (page_in old fit.counted.0) (page_in new fit.counted.0)
-          (λ q p h. ap seat (same q p)) nowhere 0 fit.counted.1 forth back counts pages,
-    );
-    rooted = rooted_same old new 0 fit.rooted trees brings.root brings.at;
+    counted = counted_on old new nowhere 0 fit.counted (λ q p h. ap seat (entries_brought q p)) forth back counts pages;
+    rooted = rooted_same old new 0 fit.rooted trees_brought brings.root brings.at;
     granting = granting_same old new fit.granting (record { place = λ p m at. brings.others p (framed p m at) ∙ at; files = brings.files })
-        (λ pid k h own one. brings.frames.counts (frame_of (entry old pid k)) (own_ne pid k h own) ∙ one) brings.at (λ pid k h. same pid k);
+        (λ pid k h own one. brings.frames.counts (frame_of (entry old pid k)) (own_ne pid k h own) ∙ one) brings.at (λ pid k h. entries_brought pid k);
     places = placed;
     dirty = dirtied;
   }
-
-  pub trees_brought : KeepsTrees old.frames new.frames (top_level mode)
-  trees_brought = trees
-
-  pub entries_brought : (pid k : ℕ) → entry new pid k ≡ entry old pid k
-  entries_brought = same
 
   seat_bytes : (z : Seat) → IsOwned old z → bytes_in new.frames new.slots z ≡ bytes_in old.frames old.slots z
   seat_bytes (InFrame m) is = brings.frames.bytes m (private_ne m is)
   seat_bytes (InSlot k) is = brings.slots.bytes k (is.1 page) is.0
 
   pub views_brought : (q p : ℕ) → view new q p ≡ view old q p
-  views_brought q p = each_view old new fit.granting brings.at q p (λ h. view_seated old new q p (brings.at q p) (ap seat (same q p))
+  views_brought q p = each_view old new fit.granting brings.at q p (λ h. view_seated old new q p (brings.at q p) (ap seat (entries_brought q p))
       (λ z is. seat_bytes z (fit.counted.1.named q p z h is)))
 
   -- another file page has the bytes that it had, and this one those of the frame

@@ -1,14 +1,8 @@
 -- What a call knows of its page after a frame was asked for.
-use Rattle.std.proofs.Common.{◌≡◌, ◌≢◌, ℕ, inl, inr, ◌⊎◌, true, false, Option, Some, sym, ◌∙◌, subst}
-use Rattle.std.proofs.lemmas.Bool.{cases_Bool}
-use Rattle.vm_types.specs.declared.region.Attr.{Attr}
-use Rattle.vm_types.specs.declared.region.Backing.{Backing}
-use Rattle.vm_types.specs.declared.region.Backing.TheVariants.{Anon, Private, Shared, Common}
+use Rattle.std.proofs.{Common.{◌≡◌, ℕ, inl, inr, ◌⊎◌, true, false, Option, Some, sym, ◌∙◌, subst}, lemmas.Bool.{cases_Bool}}
+use Rattle.vm_types.specs.{declared.region.Attr.{Attr}, declared.region.Backing.{Backing}, declared.region.Backing.TheVariants.{Anon, Private, Shared, Common}}
 use Rattle.sv39_walk.specs.Entry.{frame_of}
-use Rattle.residency.specs.Seats.{is_private, is_swapped}
-use Rattle.residency.specs.Picture.{Picture, entry}
-use Rattle.residency.specs.Parts.{IsEntryFor, Nothing, Resident, Away, IsBehind}
-use Rattle.residency.specs.Calls.{IsStaying}
+use Rattle.residency.specs.{Seats.{is_private, is_swapped}, Picture.{Picture}, Parts.{IsEntryFor, Nothing, Resident, Away, IsBehind}, Calls.{IsStaying}}
 use Rattle.residency.proofs.Places.{one_frame}
 
 -- the frame behind a page is one

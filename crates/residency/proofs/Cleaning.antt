@@ -1,24 +1,13 @@
 -- A page of a file or an object in a frame, of which no entry says D, is touched no more.
-use Rattle.vm_types.specs.Limits.{top_level}
-use Rattle.std.proofs.Common.{◌≡◌, ◌≢◌, ℕ, inl, inr, ◌<◌, false, sym, ap, ◌∙◌, subst, refl}
-use Rattle.std.proofs.lemmas.Bool.{false≢true}
-use Rattle.vm_types.specs.declared.object.PageKey.{PageKey}
+use Rattle.vm_types.specs.{Limits.{top_level}, declared.object.PageKey.{PageKey}}
+use Rattle.std.proofs.{Common.{◌≡◌, ◌≢◌, ℕ, inl, inr, false, sym, ap, ◌∙◌, refl}, lemmas.Bool.{false≢true}}
 use Rattle.frames.specs.FrameTable.{bytes_of}
 use Rattle.sv39_walk.specs.Entry.{frame_of}
 use Rattle.page_tables.specs.Tree.{page_entry}
 use Rattle.page_cache.specs.CacheTable as CacheTable
 use Rattle.page_cache.specs.declared.place.Place.TheVariants.{Frame, Slot}
-use Rattle.residency.specs.declared.leaves.Change.TheVariants.{ClearDirty}
-use Rattle.residency.specs.Seats.{Seat, InFrame, InSlot, seat}
-use Rattle.residency.specs.Picture.{Picture, entry, view, held, bytes_in}
-use Rattle.residency.specs.Parts.{IsFit, nowhere}
-use Rattle.residency.specs.Leaves.{IsClear}
-use Rattle.residency.proofs.Entries.{entries_kept}
-use Rattle.residency.proofs.Moves.{shares_same, fit_kept}
-use Rattle.residency.proofs.Places.{cases_page, one_frame}
-use Rattle.residency.proofs.Placed.{dirty_replaced}
-use Rattle.residency.proofs.Rooted.{rooted_frames}
-use Rattle.residency.proofs.Setting.{view_seated, held_same}
+use Rattle.residency.specs.{declared.leaves.Change.TheVariants.{ClearDirty}, Seats.{Seat, InFrame, InSlot, seat}, Picture.{Picture, entry, view, held, bytes_in}, Parts.{IsFit, nowhere}, Leaves.{IsClear}}
+use Rattle.residency.proofs.{Entries.{entries_kept}, Moves.{shares_same, fit_kept}, Places.{cases_page, one_frame}, Placed.{dirty_replaced}, Rooted.{rooted_frames}, Setting.{view_seated, held_same}}
 
 -- nothing but the touched set changed
 module _ {mode : ℕ} where

@@ -3,23 +3,13 @@ use Rattle.vm_types.specs.Limits.{top_level}
 use Rattle.std.proofs.Common.{◌≡◌, ◌≢◌, ℕ, Option, Some, None, refl, ap, ◌∙◌}
 use Rattle.frames.specs.FrameTable.{FrameTable}
 use Rattle.page_tables.specs.Tree.{IsRoot, page_entry}
-use Rattle.residency.specs.Picture.{Picture, entry_under, entry}
-use Rattle.residency.specs.Parts.{IsRootedBut}
+use Rattle.residency.specs.{Picture.{Picture, entry_under, entry}, Parts.{IsRootedBut}}
 
 module _ (mode : ℕ) where
   entry_in-same : (t t' : FrameTable) (r : Option ℕ) (page : ℕ) → ((x : ℕ) → r ≡ Some x → page_entry t' (top_level mode) x page ≡ page_entry t (top_level mode) x page)
       → entry_under mode t' r page ≡ entry_under mode t r page
   entry_in-same t t' None page same = refl
   entry_in-same t t' (Some x) page same = same x refl
-
--- the trees and the roots are as they were
-module _ {mode : ℕ} where
-  pub entries_kept : (old new : Picture mode) (n : ℕ) → IsRootedBut old n → ((r p : ℕ) → IsRoot (top_level mode) old.frames r → page_entry new.frames (top_level mode) r p ≡ page_entry old.frames (top_level mode) r p)
-      → ((pid : ℕ) → new.root pid ≡ old.root pid) → (pid page : ℕ) → entry new pid page ≡ entry old pid page
-  unfolding entry
-  entries_kept old new n rooted same roots pid page =
-      ap (λ r. entry_under mode new.frames r page) (roots pid)
-      ∙ entry_in-same mode old.frames new.frames (old.root pid) page (λ x e. same x page (rooted.roots pid x e))
 
 -- the entry of a page of a live process
 module _ {mode : ℕ} where
@@ -34,6 +24,12 @@ module _ {mode : ℕ} where
   unfolding entry
   entry-same old new pid page root same =
       ap (λ r. entry_under mode new.frames r page) root ∙ entry_in-same mode old.frames new.frames (old.root pid) page same
+
+-- the trees and the roots are as they were
+module _ {mode : ℕ} where
+  pub entries_kept : (old new : Picture mode) (n : ℕ) → IsRootedBut old n → ((r p : ℕ) → IsRoot (top_level mode) old.frames r → page_entry new.frames (top_level mode) r p ≡ page_entry old.frames (top_level mode) r p)
+      → ((pid : ℕ) → new.root pid ≡ old.root pid) → (pid page : ℕ) → entry new pid page ≡ entry old pid page
+  entries_kept old new n rooted same roots pid page = entry-same old new pid page (roots pid) (λ x e. same x page (rooted.roots pid x e))
 
 -- the trees but that of one root, which no process has
 pub entries_but : {mode : ℕ} (old new : Picture mode) (n : ℕ) → IsRootedBut old n → ((pid : ℕ) → old.root pid ≢ Some n)

@@ -1,28 +1,13 @@
 -- A frame loses a share to a slot, and a page of a file leaves its frame.
 use Rattle.vm_types.specs.Limits.{top_level}
-use Rattle.std.proofs.Common.{◌≡◌, ◌≢◌, ℕ, inl, inr, ◌⊎◌, ◌<◌, Option, Some, None, get_or, refl, sym, ap, ◌∙◌, subst, arith}
-use Rattle.std.proofs.lemmas.Bool.{cases_eq}
-use Rattle.frames.specs.declared.role.Role.TheVariants.{Free, Table, Private, Cache}
-use Rattle.frames.specs.FrameTable.{role_of, count_of, Releases}
+use Rattle.std.proofs.{Common.{◌≡◌, ◌≢◌, ℕ, inl, inr, ◌⊎◌, ◌<◌, Some, None, get_or, refl, sym, ap, ◌∙◌, subst, arith}, lemmas.Bool.{cases_eq}}
+use Rattle.frames.specs.{declared.role.Role.TheVariants.{Free, Table, Private, Cache}, FrameTable.{role_of, count_of, Releases}}
 use Rattle.swap.specs.Slots.{SlotTable}
 use Rattle.sv39_walk.specs.Entry.{frame_of}
 use Rattle.page_tables.specs.Tree.{IsPage}
 use Rattle.page_tables.proofs.Data.{data_released}
-use Rattle.residency.specs.Seats.{Seat, InFrame, InSlot, seat}
-use Rattle.residency.specs.Picture.{Picture, entry, IsOwned, count_in, page_in}
-use Rattle.residency.specs.Parts.{IsRootedBut, IsFitBut, nowhere}
-use Rattle.residency.specs.Steps.{SameBeside}
-use Rattle.residency.proofs.Entries.{entries_kept}
-use Rattle.residency.proofs.Seats.{counted_released, not_alone}
-use Rattle.residency.proofs.Granting.{granting_kept}
-use Rattle.residency.proofs.Places.{places_same, dirty_same}
-use Rattle.residency.proofs.Rooted.{rooted_same}
-use Rattle.residency.proofs.Moves.{behind_kept}
-use Rattle.residency.proofs.Start.{entry-dead, seat-none}
-
-pub cases_some : (o : Option ℕ) → (o ≡ None) ⊎ ((r : ℕ) × (o ≡ Some r))
-cases_some None = inl refl
-cases_some (Some r) = inr (r, refl)
+use Rattle.residency.specs.{Seats.{Seat, InFrame, InSlot, seat}, Picture.{Picture, entry, IsOwned, count_in, page_in}, Parts.{IsRootedBut, IsFitBut, nowhere}, Steps.{SameBeside}}
+use Rattle.residency.proofs.{Entries.{entries_kept}, Seats.{counted_released, not_alone}, Granting.{granting_kept}, Places.{places_same, dirty_same}, Rooted.{rooted_same}, Moves.{behind_kept}, Start.{entry-dead, seat-none, cases_some}}
 
 -- only a live process has own copies
 pub seat_number : {mode : ℕ} (c : Picture mode) (m pid page : ℕ) (z : Seat) → IsRootedBut c m → seat (entry c pid page) ≡ Some z → pid < 65
@@ -47,9 +32,6 @@ module _ {mode : ℕ} (old new : Picture mode) (n m : ℕ) (fit : IsFitBut old (
   shared_frame pid k h is = not_alone mode (entry old) (entry old) (IsOwned old) (IsOwned old) (count_in old) (count_in old) (page_in old fit.counted.0) (page_in old fit.counted.0) (λ q p h'. refl) (InFrame n) fit.counted.1 pid k h
       (seat_number old m pid k (InFrame n) fit.rooted is) is
 
-  frame_ne : (j : ℕ) → InFrame j ≢ InFrame n → j ≢ n
-  frame_ne j ne e = ne (ap (λ i. InFrame i) e)
-
   forth : (z : Seat) → (z ≢ InFrame n) ⊎ (1 < count_in old z) → IsOwned old z → IsOwned new z
   forth (InFrame j) why is = elim (cases_eq j n) [
     | inl e ↦ elim why [
@@ -68,7 +50,7 @@ module _ {mode : ℕ} (old new : Picture mode) (n m : ℕ) (fit : IsFitBut old (
   back (InSlot j) is = ((let P : SlotTable → Type 0 = λ t. 0 < t.count j in subst P beside.slots is.0), λ p e. is.1 p (beside.place p ∙ e))
 
   counts : (z : Seat) → z ≢ InFrame n → IsOwned old z → count_in new z ≡ count_in old z
-  counts (InFrame j) ne is = releases.others.counts j (frame_ne j ne)
+  counts (InFrame j) ne is = releases.others.counts j (λ e. ne (ap (λ i. InFrame i) e))
   counts (InSlot j) ne is = ap (λ t. t.count j) beside.slots
 
   pages : (z : Seat) → IsOwned old z → page_in new fit.counted.0 z ≡ page_in old fit.counted.0 z

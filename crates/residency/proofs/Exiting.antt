@@ -1,32 +1,15 @@
 -- A process goes.
-use Rattle.vm_types.specs.Limits.{top_level}
-use Rattle.std.proofs.Common.{true, ◌≡◌, ◌≢◌, ℕ, zero, suc, inl, inr, Option, Some, None, refl, sym, ap, ◌∙◌, subst, arith}
+use Rattle.vm_types.specs.{Limits.{top_level}, declared.object.ObjectPage.{ObjectPage}, declared.object.PageKey.TheVariants.{Object}, Objects.{is_named}, declared.region.Attr.{Attr}}
+use Rattle.std.proofs.{Common.{true, ◌≡◌, ◌≢◌, ℕ, zero, suc, inl, inr, Option, Some, None, refl, sym, ap, ◌∙◌, subst, arith}, lemmas.Bool.{cases_eq, false≢true}, lemmas.Option.{same_Some}}
 use Rattle.std.specs.Prelude.{IsSome}
-use Rattle.std.proofs.lemmas.Bool.{cases_eq, false≢true}
-use Rattle.std.proofs.lemmas.Option.{same_Some}
 use Rattle.vm_types.proofs.Modes.{sizes}
-use Rattle.vm_types.specs.declared.object.ObjectPage.{ObjectPage}
-use Rattle.vm_types.specs.declared.object.PageKey.TheVariants.{Object}
-use Rattle.vm_types.specs.Objects.{is_named}
-use Rattle.vm_types.specs.declared.region.Attr.{Attr}
-use Rattle.frames.specs.declared.role.Role.TheVariants.{Free, Table}
-use Rattle.frames.specs.FrameTable.{FrameTable, role_of}
+use Rattle.frames.specs.{declared.role.Role.TheVariants.{Free, Table}, FrameTable.{FrameTable, role_of}}
 use Rattle.sv39_walk.specs.Entry.{frame_of}
 use Rattle.page_tables.specs.Tree.{Points, Way, IsEmptyTable, IsSpare, missing_of, page_entry}
-use Rattle.page_tables.proofs.Data.{DropsTree, root_released}
-use Rattle.page_tables.proofs.Ends.{way_forth, missing_of-is, page_entry-missing}
-use Rattle.page_tables.proofs.Linking.{empty_last}
-use Rattle.page_tables.proofs.Keeping.{empty_not_linking}
+use Rattle.page_tables.proofs.{Data.{DropsTree, root_released}, Ends.{way_forth, missing_of-is, page_entry-missing}, Linking.{empty_last}, Keeping.{empty_not_linking}}
 use Rattle.page_cache.specs.declared.place.Place.TheVariants.{Home}
-use Rattle.residency.specs.Seats.{InFrame, seat}
-use Rattle.residency.specs.Picture.{Picture, entry, is_data}
-use Rattle.residency.specs.Parts.{IsRootedBut, IsUsed, AsRoot, OnWay, IsMapped, Nothing, IsFit, nowhere}
-use Rattle.residency.specs.Steps.{KeepsShares, Exits}
-use Rattle.residency.proofs.Entries.{entry-of, entry-same}
-use Rattle.residency.proofs.Granting.{entry_for-same, user_map-same, readable-same}
-use Rattle.residency.proofs.Moves.{counted_kept, shares_but}
-use Rattle.residency.proofs.Places.{objects-fewer, places_renamed, dirty_same}
-use Rattle.residency.proofs.Start.{entry-dead}
+use Rattle.residency.specs.{Seats.{InFrame, seat}, Picture.{Picture, entry, is_data}, Parts.{IsRootedBut, IsUsed, AsRoot, OnWay, IsMapped, Nothing, IsFit, nowhere}, Steps.{KeepsShares, Exits}}
+use Rattle.residency.proofs.{Entries.{entry-of, entry-same}, Granting.{entry_for-same, user_map-same, readable-same}, Moves.{counted_kept, shares_but}, Places.{objects-fewer, places_renamed, dirty_same}, Start.{entry-dead}}
 
 -- no way leads on from a root without entries
 module _ (mode : ℕ) where
@@ -53,9 +36,7 @@ module _ {mode : ℕ} (old new : Picture mode) (pid r : ℕ) (fit : IsFit old) (
 
   pub entries_left : (q page : ℕ) → entry new q page ≡ entry old q page
   entries_left q page = elim (cases_eq q pid) [
-    | inl is ↦ (
-        let P : ℕ → Type 0 = λ x. entry new x page ≡ entry old x page in
-        subst P (sym is) (entry-dead new pid page exits.gone ∙ sym (entry-of old pid r page exits.lived ∙ spare_entry mode old.frames r page exits.spare)))
+    | inl is ↦ rw is (entry-dead new pid page exits.gone ∙ sym (entry-of old pid r page exits.lived ∙ spare_entry mode old.frames r page exits.spare))
     | inr ne ↦ entry-same old new q page (exits.others q ne) (λ x e. drops.entries x page (other_root q x ne e) (fit.rooted.roots q x e))
   ]
 

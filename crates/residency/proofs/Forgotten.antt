@@ -1,31 +1,16 @@
 -- A page of an object that no entry is over is at home, and its frame or slot is free.
-use Rattle.vm_types.specs.Limits.{top_level}
-use Rattle.std.proofs.Common.{◌≡◌, ◌≢◌, ℕ, inl, inr, ◌<◌, true, false, Some, None, refl, sym, ap, ◌∙◌, subst, arith, eq-eqb, eqb-true, ◌==◌}
-use Rattle.std.proofs.lemmas.Bool.{cases_eq, and_from}
-use Rattle.vm_types.specs.declared.object.ObjectPage.{ObjectPage}
-use Rattle.vm_types.specs.declared.object.PageKey.{PageKey}
-use Rattle.vm_types.specs.declared.object.PageKey.TheVariants.{File, Object}
-use Rattle.vm_types.specs.declared.region.Backing.{Backing}
-use Rattle.vm_types.specs.declared.region.Backing.TheVariants.{Anon, Private as PrivateOf, Shared as SharedOf, Common as CommonOf}
-use Rattle.vm_types.specs.Attributes.{stands_on}
+use Rattle.vm_types.specs.{Limits.{top_level}, declared.object.ObjectPage.{ObjectPage}, declared.object.PageKey.{PageKey}, declared.object.PageKey.TheVariants.{File, Object}, declared.region.Backing.{Backing}, Attributes.{stands_on}}
 use Rattle.vm_types.specs.Objects.{names, is_object_page}
+use Rattle.std.proofs.{Common.{◌≡◌, ◌≢◌, ℕ, inl, inr, ◌<◌, true, false, Some, refl, sym, ap, ◌∙◌, subst, arith, eq-eqb}, lemmas.Bool.{cases_eq, and_from}, lemmas.Option.{same_Some}}
+use Rattle.vm_types.specs.declared.region.Backing.TheVariants.{Anon, Private as PrivateOf, Shared as SharedOf, Common as CommonOf}
 use Rattle.frames.specs.FrameTable.{FrameTable, frame_count, role_of}
 use Rattle.sv39_walk.specs.Entry.{frame_of}
 use Rattle.page_tables.specs.Tree.{IsPage, Points}
 use Rattle.page_cache.specs.declared.place.Place.TheVariants.{Home, Frame, Slot}
-use Rattle.residency.specs.declared.leaves.Change.{Change}
-use Rattle.residency.specs.declared.leaves.Change.TheVariants.{Forget, ClearDirty}
-use Rattle.residency.specs.Seats.{is_private, is_swapped}
-use Rattle.residency.specs.Picture.{Picture, entry, held}
-use Rattle.residency.specs.Parts.{IsFit, nowhere}
-use Rattle.residency.specs.Leaves.{IsOver}
+use Rattle.residency.specs.{declared.leaves.Change.{Change}, declared.leaves.Change.TheVariants.{Forget, ClearDirty}, Seats.{is_private, is_swapped}, Picture.{Picture, entry}, Parts.{IsFit, nowhere}, Leaves.{IsOver}}
 use Rattle.residency.specs.Steps.{Forgets, HasNoEntry}
-use Rattle.residency.proofs.Bits.{some_framed}
-use Rattle.residency.proofs.Cleaning.{Untouches, fit_untouched, views_untouched, held_untouched, entries_untouched}
-use Rattle.residency.proofs.Homing.{Homes, one_slot, fit_homed, same, views, held_else}
-use Rattle.residency.proofs.LeafSteps.{over_resident, over_backed}
-use Rattle.residency.proofs.Leaving.{Leaves, unnamed_of, fit_home, left_spares, same_left, trees_left, held_left, home_held}
-use Rattle.std.proofs.lemmas.Option.{same_Some}
+use Rattle.residency.proofs.{Bits.{some_framed}, Cleaning.{Untouches, fit_untouched, views_untouched, held_untouched, entries_untouched}, Homing.{Homes, one_slot, fit_homed, same, views, held_else}, LeafSteps.{over_resident, over_backed}}
+use Rattle.residency.proofs.Leaving.{Leaves, unnamed_of, fit_home, left_spares, same as same_left, trees as trees_left, held_other as held_left, home_held}
 
 object_alike : (p q : ObjectPage) → Object p ≡ Object q → (p.object ≡ q.object) × (p.page ≡ q.page)
 object_alike p q e = (cc, cc)

@@ -1,25 +1,13 @@
 -- What is told of frames that are given up for others, from what was done to one.
-use Rattle.vm_types.specs.Limits.{top_level}
-use Rattle.std.proofs.Common.{◌≡◌, ℕ, ◌⊎◌, inl, inr, true, Option, Some, None, refl, sym, ap, ◌∙◌, subst, arith}
-use Rattle.std.specs.declared.result.Result.{Result}
-use Rattle.std.specs.declared.result.Result.TheVariants.{Ok, Err}
-use Rattle.std.specs.Prelude.{OnErr}
-use Rattle.std.proofs.lemmas.Bool.{cases_eq, false≢true}
-use Rattle.vm_types.specs.declared.number.FrameNo.{FrameNo}
-use Rattle.frames.specs.declared.role.Role.TheVariants.{Free, Table}
-use Rattle.frames.specs.FrameTable.{role_of, IsFrame, IsFull}
-use Rattle.page_tables.specs.Change.{AddsTable}
+use Rattle.vm_types.specs.{Limits.{top_level}, declared.number.FrameNo.{FrameNo}}
+use Rattle.std.proofs.{Common.{◌≡◌, ◌≢◌, ℕ, ◌⊎◌, inl, inr, true, Option, Some, None, refl, sym, ap, ◌∙◌, subst, arith}, lemmas.Bool.{cases_eq, false≢true}}
+use Rattle.std.specs.{declared.result.Result.{Result}, declared.result.Result.TheVariants.{Ok, Err}, Prelude.{OnErr}}
+use Rattle.frames.specs.{declared.role.Role.TheVariants.{Free, Table}, FrameTable.{frame_count, role_of, IsFrame, IsFull}}
+use Rattle.page_tables.specs.{Change.{AddsTable}, Tree.{Points}}
 use Rattle.page_tables.proofs.Tight.{same_taken}
-use Rattle.residency.specs.declared.leaves.Change.TheVariants.{ClearAccessed}
-use Rattle.residency.specs.Picture.{Picture, entry, is_data}
-use Rattle.residency.specs.Parts.{IsFit}
-use Rattle.residency.specs.Steps.{SameBeside}
-use Rattle.residency.specs.Calls.{Frees}
-use Rattle.residency.specs.Evictions.{GivesUp, ClearsMarks}
-use Rattle.residency.specs.Leaves.{ChangesLeaves}
-use Rattle.residency.specs.Ages.{Ages, Same, Cleared, GivesFrame, GivesNone, GivesForTables, IsGiven, KeepsRoles, KeepsRolesBut}
-use Rattle.residency.proofs.Aging.{ages_map, ages_then}
-use Rattle.residency.proofs.Entries.{entries_kept}
+use Rattle.residency.specs.{declared.leaves.Change.TheVariants.{ClearAccessed}, Picture.{Picture, entry, is_data}, Parts.{IsFit}, Steps.{SameBeside}, Calls.{Frees}, Evictions.{GivesUp, ClearsMarks}, Leaves.{ChangesLeaves}}
+use Rattle.residency.specs.Ages.{Same, Cleared, GivesFrame, GivesNone, GivesForTables, IsGiven, KeepsRoles, KeepsRolesBut}
+use Rattle.residency.proofs.{Aging.{ages_map, ages_then}, Entries.{entries_kept}}
 
 -- what is so however a call ended
 pub on_err_same : {T E : Type 0} (Q : Type 0) (r : Result T E) → Q → OnErr r Q
@@ -56,6 +44,15 @@ frame_given old mid new v marks gives datum =
       pointers = λ n i m points. gives.2.pointers n i m (marks.pointers n i m points);
     }
 
+-- and then no other use, no entry and no pointer to a table changed
+pub gives_kept : {mode : ℕ} (old found new : Picture mode) (n : ℕ) → ((m : ℕ) → m ≢ n → role_of new.frames m ≡ role_of found.frames m) → ((pid page : ℕ) → entry new pid page ≡ entry found pid page)
+    → ((a i m : ℕ) → Points found.frames a i m → Points new.frames a i m) → GivesFrame old found n → GivesFrame old new n
+gives_kept old found new n roles entries pointers gives = record {
+  roles = λ m ne. roles m ne ∙ gives.roles m ne;
+  entries = λ pid page h. rw (entries pid page) (gives.entries pid page h);
+  pointers = λ a i m points. pointers a i m (gives.pointers a i m points);
+}
+
 -- a frame was tried for a table in vain
 pub tables_tried : {mode : ℕ} (old new : Picture mode) (keep : Option FrameNo) (v : ℕ) → Frees old new keep → GivesFrame old new v → KeepsRoles old new → IsFull new.frames → GivesForTables old new (Some v)
 tables_tried old new keep v frees gives still full = record {
@@ -67,15 +64,19 @@ tables_tried old new keep v frees gives still full = record {
   needed = inl full;
 }
 
--- the frame that is taken then is the one that was given up, where any was
 module _ {mode : ℕ} where
+  -- the frame that is free then was the one given up
+  pub one_given : (old found : Picture mode) (v n : ℕ) → frame_count found.frames ≡ frame_count old.frames → IsFull old.frames → GivesFrame old found v → IsFrame found.frames n → role_of found.frames n ≡ Free → v ≡ n
+  one_given old found v n count full gives inside free = elim (cases_eq n v) [
+    | inl e ↦ sym e
+    | inr ne ↦ absurd (full n (omega (arith, count, inside)) (sym (gives.roles n ne) ∙ free))
+  ]
+
+  -- the frame that is taken then is the one that was given up, where any was
   pub frame_taken : (old found : Picture mode) (keep : Option FrameNo) (v n : ℕ) → Frees old found keep → GivesFrame old found v → IsFull old.frames ⊎ (found ≡ old) → IsFrame found.frames n
       → role_of found.frames n ≡ Free → GivesFrame old found n
   frame_taken old found keep v n frees gives needed inside free = elim needed [
-    | inl full ↦ elim (cases_eq n v) [
-      | inl e ↦ (let P : ℕ → Type 0 = λ k. GivesFrame old found k in subst P (sym e) gives)
-      | inr ne ↦ absurd (full n (let same = frees.count in omega (arith, same, inside)) (sym (gives.roles n ne) ∙ free))
-    ]
+    | inl full ↦ (let P : ℕ → Type 0 = λ k. GivesFrame old found k in subst P (one_given old found v n frees.count full gives inside free) gives)
     | inr same ↦ (let P : Picture mode → Type 0 = λ c. GivesFrame old c n in subst P (sym same) (frame_none old n))
   ]
 
@@ -95,13 +96,7 @@ module _ {mode : ℕ} (old found new : Picture mode) (n : ℕ) (fit : IsFit foun
   entries_same = entries_kept found new 0 fit.rooted adds.entries beside.root
 
   pub gives_table : GivesFrame old new n
-  gives_table = record {
-    roles = roles_but;
-    entries = λ pid page h. (
-        let P : ℕ → Type 0 = λ e. Ages (λ m. (m ≡ n) × (is_data (role_of old.frames m) ≡ true)) (entry old pid page) e in
-        subst P (sym (entries_same pid page)) (gives.entries pid page h));
-    pointers = λ a i m points. (same_taken found.frames new.frames n fit.rooted.forest adds.takes).forth a i m (gives.pointers a i m points);
-  }
+  gives_table = gives_kept old found new n adds.takes.others.roles entries_same (same_taken found.frames new.frames n fit.rooted.forest adds.takes).forth gives
 
   given_table : (m : ℕ) → (m ≡ n) × (is_data (role_of old.frames m) ≡ true) → IsGiven old new None m
   given_table m given = (given.1, inl (ap is_data (ap (role_of new.frames) given.0 ∙ adds.takes.kind_set)))
@@ -137,10 +132,7 @@ module _ {mode : ℕ} (old found new : Picture mode) (n : ℕ) (fit : IsFit foun
       )
       | inr ne ↦ inl (roles_but m ne)
     ];
-    entries = λ pid page h. (
-        let P : ℕ → Type 0 = λ e. Ages (IsGiven old new None) (entry old pid page) e in
-        subst P (sym (entries_same pid page))
-        (ages_map (λ m. (m ≡ n) × (is_data (role_of old.frames m) ≡ true)) (IsGiven old new None) (entry old pid page) (entry found pid page) given_table (gives.entries pid page h)));
+    entries = λ pid page h. rw (entries_same pid page) (ages_map (λ m. (m ≡ n) × (is_data (role_of old.frames m) ≡ true)) (IsGiven old new None) (entry old pid page) (entry found pid page) given_table (gives.entries pid page h));
     pointers = gives_table.pointers;
     needed = elim needed [
       | inl full ↦ inl (full_table full)

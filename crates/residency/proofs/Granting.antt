@@ -1,24 +1,15 @@
 -- Grants: what each step does to what entries let be done.
-use Rattle.vm_types.specs.Limits.{top_level}
-use Rattle.std.proofs.Common.{◌≡◌, ◌≢◌, ℕ, inl, inr, true, Option, refl, sym, ap, ◌∙◌, subst}
+use Rattle.vm_types.specs.{Limits.{top_level}, declared.object.PageKey.{PageKey}, declared.object.PageKey.TheVariants.{File, Object}, declared.region.Attr.{Attr}, declared.region.Backing.{Backing}}
+use Rattle.vm_types.specs.{declared.region.Backing.TheVariants.{Anon, Private, Shared, Common}, Files.{is_past_end_of}, Rows.{IsUserMap}, Verdict.{is_past_end}}
+use Rattle.std.proofs.Common.{◌≡◌, ◌≢◌, ℕ, true, Option, refl, ap, ◌∙◌, subst}
 use Rattle.std.specs.Prelude.{IsSome, ◌⊎◌}
-use Rattle.vm_types.specs.declared.object.PageKey.{PageKey}
-use Rattle.vm_types.specs.declared.object.PageKey.TheVariants.{File, Object}
-use Rattle.vm_types.specs.declared.region.Attr.{Attr}
-use Rattle.vm_types.specs.declared.region.Backing.{Backing}
-use Rattle.vm_types.specs.declared.region.Backing.TheVariants.{Anon, Private, Shared, Common}
-use Rattle.vm_types.specs.Files.{is_past_end_of}
-use Rattle.vm_types.specs.Rows.{IsUserMap}
-use Rattle.vm_types.specs.Verdict.{is_past_end}
 use Rattle.frames.specs.FrameTable.{count_of}
 use Rattle.sv39_walk.specs.Entry.{can_write, frame_of}
 use Rattle.page_tables.specs.Tree.{IsPage}
 use Rattle.page_cache.specs.declared.place.Place.TheVariants.{Frame}
 use Rattle.regions.specs.Permission.{IsReadableMap}
-use Rattle.residency.proofs.Places.{objects-same}
-use Rattle.residency.proofs.Ways.{by_page}
-use Rattle.residency.specs.Picture.{Picture, entry, is_private}
-use Rattle.residency.specs.Parts.{IsGranting, IsEntryFor, Nothing, Resident, Away, IsResident, IsBehind}
+use Rattle.residency.proofs.{Places.{objects-same}, Ways.{each_page}}
+use Rattle.residency.specs.{Picture.{Picture, entry, is_private}, Parts.{IsGranting, IsEntryFor, Nothing, Resident, Away, IsResident, IsBehind}}
 
 -- no page leaves the frame that it lies in, and the files are the same
 module _ {mode : ℕ} where
@@ -73,20 +64,25 @@ module _ (mode : ℕ) where
 pub readable-same : (f g : ℕ → Option Attr) → ((page : ℕ) → g page ≡ f page) → IsReadableMap f → IsReadableMap g
 readable-same f g same readable page = rw (same page) (readable page)
 
+-- the regions are as they were
+pub granting_by : {mode : ℕ} (old new : Picture mode) → IsGranting old → ((pid page : ℕ) → new.at pid page ≡ old.at pid page)
+    → ((pid page : ℕ) → IsPage (top_level mode) page → IsEntryFor new (old.at pid page) (entry new pid page)) → IsGranting new
+granting_by {mode} old new granting at entries = record {
+  entries = λ pid page h. rw (at pid page) (entries pid page h);
+  user = λ pid. user_map-same mode (old.at pid) (new.at pid) (at pid) (granting.user pid);
+  readable = λ pid. readable-same (old.at pid) (new.at pid) (at pid) (granting.readable pid);
+  objects = objects-same old.at new.at at granting.objects;
+}
+
 -- all entries and regions are as they were, and a writable frame of one process is still that
 module _ {mode : ℕ} where
   pub granting_kept : (old new : Picture mode) → IsGranting old → KeepsBehind old new
       → ((pid page : ℕ) → IsPage (top_level mode) page → is_private (entry old pid page) ≡ true → can_write (entry old pid page) ≡ true
       → count_of old.frames (frame_of (entry old pid page)) ≡ 1 → count_of new.frames (frame_of (entry old pid page)) ≡ 1)
       → ((pid page : ℕ) → new.at pid page ≡ old.at pid page) → ((pid page : ℕ) → IsPage (top_level mode) page → entry new pid page ≡ entry old pid page) → IsGranting new
-  granting_kept old new granting kept count at same = record {
-    entries = λ pid page h. (
-        let here = entry_for-same old new (old.at pid page) (entry old pid page) kept (λ private write one. count pid page h private write one) (granting.entries pid page h) in
-        rw (at pid page, same pid page h) here);
-    user = λ pid. user_map-same mode (old.at pid) (new.at pid) (at pid) (granting.user pid);
-    readable = λ pid. readable-same (old.at pid) (new.at pid) (at pid) (granting.readable pid);
-    objects = objects-same old.at new.at at granting.objects;
-  }
+  granting_kept old new granting kept count at same = granting_by old new granting at (λ pid page h.
+      let here = entry_for-same old new (old.at pid page) (entry old pid page) kept (λ private write one. count pid page h private write one) (granting.entries pid page h) in
+      rw (same pid page h) here)
 
 -- all entries and regions are as they were
 module _ {mode : ℕ} where
@@ -103,17 +99,6 @@ module _ {mode : ℕ} where
       → count_of old.frames (frame_of (entry old q p)) ≡ 1 → count_of new.frames (frame_of (entry old q p)) ≡ 1)
       → ((q p : ℕ) → new.at q p ≡ old.at q p) → ((q p : ℕ) → IsPage (top_level mode) p → (q ≢ pid) ⊎ (p ≢ page) → entry new q p ≡ entry old q p)
       → IsEntryFor new (old.at pid page) (entry new pid page) → IsGranting new
-  granting_changed old new pid page granting kept count at same here = record {
-    entries = λ q p h. elim (by_page q p pid page) [
-      | inl e ↦ (
-          let P : ℕ → Type 0 = λ x. IsEntryFor new (old.at x page) (entry new x page) in
-          let Q : ℕ → Type 0 = λ x. IsEntryFor new (old.at q x) (entry new q x) in
-          rw (at q p) (subst Q (sym e.1) (subst P (sym e.0) here)))
-      | inr other ↦ (
-          let there = entry_for-same old new (old.at q p) (entry old q p) kept (λ private write one. count q p h private one) (granting.entries q p h) in
-          rw (at q p, same q p h other) there)
-    ];
-    user = λ q. user_map-same mode (old.at q) (new.at q) (at q) (granting.user q);
-    readable = λ q. readable-same (old.at q) (new.at q) (at q) (granting.readable q);
-    objects = objects-same old.at new.at at granting.objects;
-  }
+  granting_changed old new pid page granting kept count at same here = granting_by old new granting at (λ q p h. each_page (λ x y. IsEntryFor new (old.at x y) (entry new x y)) q p pid page here (λ other. (
+      let there = entry_for-same old new (old.at q p) (entry old q p) kept (λ private write one. count q p h private one) (granting.entries q p h) in
+      rw (same q p h other) there)))

@@ -1,22 +1,11 @@
 -- A share handed over shows nothing.
-use Rattle.vm_types.specs.Limits.{top_level}
-use Rattle.std.proofs.Common.{◌≡◌, ◌≢◌, ℕ, inl, inr, ◌⊎◌, ◌<◌, true, [], Option, Some, None, get_or, refl, sym, ap, ◌∙◌, arith}
-use Rattle.std.proofs.lemmas.Bool.{cases_eq}
-use Rattle.vm_types.specs.declared.object.PageKey.{PageKey}
-use Rattle.frames.specs.declared.role.Role.TheVariants.{Free, Table, Private, Cache}
-use Rattle.frames.specs.FrameTable.{role_of, count_of, Releases}
+use Rattle.vm_types.specs.{Limits.{top_level}, declared.object.PageKey.{PageKey}}
+use Rattle.std.proofs.{Common.{◌≡◌, ℕ, inl, inr, ◌⊎◌, true, [], Some, get_or, sym, ap, ◌∙◌, arith}, lemmas.Bool.{cases_eq}}
+use Rattle.frames.specs.{declared.role.Role.TheVariants.{Free, Table, Private, Cache}, FrameTable.{role_of, count_of, Releases}}
 use Rattle.page_tables.specs.Tree.{IsPage}
-use Rattle.page_tables.proofs.Data.{KeepsTrees, data_released}
-use Rattle.page_tables.proofs.Ends.{same_last}
-use Rattle.residency.specs.Seats.{Seat, InFrame, InSlot, seat}
-use Rattle.residency.specs.Picture.{Picture, entry, held, is_data, bytes_in}
-use Rattle.residency.specs.Parts.{IsFitBut}
-use Rattle.residency.specs.Steps.{SameBeside}
-use Rattle.residency.specs.Ages.{Same}
-use Rattle.residency.specs.Evictions.{Spares}
-use Rattle.residency.proofs.Entries.{entries_kept}
-use Rattle.residency.proofs.Evicted.{shared_frame}
-use Rattle.residency.proofs.Setting.{view_seated, each_view, held_same}
+use Rattle.page_tables.proofs.{Data.{KeepsTrees, data_released}, Ends.{same_last}}
+use Rattle.residency.specs.{Seats.{Seat, InFrame, InSlot, seat}, Picture.{Picture, entry, held, is_data, bytes_in}, Parts.{IsFitBut}, Steps.{SameBeside}, Ages.{Same}, Evictions.{Spares}}
+use Rattle.residency.proofs.{Entries.{entries_kept}, Evicted.{shared_frame}, Setting.{view_seated, each_view, held_same}}
 
 -- a share of a frame was given back, whose entry had been moved away
 module _ {mode : ℕ} (old new : Picture mode) (n k : ℕ) (fit : IsFitBut old (InFrame n) 1 0) (own : role_of old.frames n ≡ Private) (releases : Releases old.frames new.frames n) (beside : SameBeside old new) where

@@ -1,34 +1,14 @@
 -- An own copy handed over to a slot.
-use Rattle.vm_types.specs.Limits.{top_level}
-use Rattle.std.proofs.Common.{◌≡◌, ◌≢◌, ℕ, inl, inr, ◌⊎◌, ◌+◌, ◌*◌, ◌/◌, ◌%◌, ◌^◌, ◌<◌, true, false, [], Option, Some, None, get_or, refl, sym, ap, ◌∙◌, subst, arith, ne_eqb}
-use Rattle.std.proofs.lemmas.Bool.{cases_eq, cases_Bool, false≢true}
-use Rattle.vm_types.specs.declared.region.Attr.{Attr}
-use Rattle.frames.specs.declared.role.Role.TheVariants.{Free, Table, Private}
-use Rattle.frames.specs.FrameTable.{bytes_of, role_of, count_of, Releases}
+use Rattle.vm_types.specs.{Limits.{top_level}, declared.region.Attr.{Attr}}
+use Rattle.std.proofs.{Common.{◌≡◌, ◌≢◌, ℕ, inl, inr, ◌⊎◌, ◌+◌, ◌*◌, ◌/◌, ◌%◌, ◌^◌, ◌<◌, true, false, [], Option, Some, None, get_or, refl, sym, ap, ◌∙◌, arith, ne_eqb}, lemmas.Bool.{cases_eq, cases_Bool, false≢true}}
+use Rattle.frames.specs.{declared.role.Role.TheVariants.{Free, Table, Private}, FrameTable.{bytes_of, role_of, count_of, Releases}}
 use Rattle.sv39_walk.specs.Entry.{is_valid, frame_of, has_bit}
-use Rattle.page_tables.specs.Change.{SetsEntry}
-use Rattle.page_tables.specs.Tree.{IsPage, missing_of}
+use Rattle.page_tables.specs.{Change.{SetsEntry}, Tree.{IsPage, missing_of}}
 use Rattle.page_tables.proofs.Ends.{page_entry-missing}
-use Rattle.residency.specs.Seats.{Seat, InFrame, InSlot, seat, is_private, is_swapped}
-use Rattle.residency.specs.Picture.{Picture, entry, view, held, bytes_in}
-use Rattle.residency.specs.Parts.{IsEntryFor, Nothing, Resident, Away, IsFitBut, IsFit}
-use Rattle.residency.specs.Steps.{SameBeside, SetsPage}
-use Rattle.residency.specs.declared.leaves.Change.TheVariants.{Forget}
-use Rattle.residency.specs.Leaves.{concerns}
-use Rattle.residency.specs.Ages.{Ages, Same, Left}
-use Rattle.residency.specs.Evictions.{HasShare, Spares}
-use Rattle.residency.proofs.Entries.{entry-of}
-use Rattle.residency.proofs.TableSteps.{sets_page, rooted_set}
-use Rattle.residency.proofs.Moves.{fit_moved, views_moved}
-use Rattle.residency.proofs.Evicted.{fit_released, seat_number}
-use Rattle.residency.proofs.Handed.{release_spares, same}
-use Rattle.residency.proofs.LeafSteps.{last_set}
-use Rattle.residency.proofs.Setting.{each_view, set_held}
-use Rattle.residency.proofs.Sparing.{spares_then}
-use Rattle.residency.proofs.Ways.{by_page}
-use Rattle.residency.proofs.Granting.{past_end-same}
-use Rattle.residency.proofs.Start.{seat-none, no_bit}
-use Rattle.residency.proofs.Bits.{bit_clear}
+use Rattle.residency.specs.{Seats.{Seat, InFrame, InSlot, seat, is_private, is_swapped}, Picture.{Picture, entry, view, bytes_in}, Parts.{IsEntryFor, Nothing, Resident, Away, IsFitBut, IsFit}, Steps.{SameBeside, SetsPage}}
+use Rattle.residency.specs.{declared.leaves.Change.TheVariants.{Forget}, Leaves.{concerns}, Ages.{Ages, Same, Left}, Evictions.{HasShare, Spares}}
+use Rattle.residency.proofs.{Entries.{entry-of}, TableSteps.{sets_page, rooted_set}, Moves.{fit_moved, views_moved}, Evicted.{fit_released, seat_number}, Handed.{release_spares, same}, LeafSteps.{last_set}, Setting.{each_view, set_held}}
+use Rattle.residency.proofs.{Sparing.{spares_then}, Ways.{each_page}, Granting.{past_end-same}, Start.{seat-none, no_bit}, Bits.{bit_clear, not_swapped}}
 
 -- the number of a page in slot k
 pub record IsAway (e k : ℕ) : Type 0 where
@@ -76,14 +56,11 @@ own_region c new a e e' k (Resident b at res) own away files = Away b at (record
   not_shared = res.private own;
 })
 
-slot_no_frame : (k n : ℕ) → Some (InSlot k) ≡ Some (InFrame n) → ⊥
-slot_no_frame k n e = (cc)
-
 frame_seat : (e n : ℕ) → seat e ≡ Some (InFrame n) → is_private e ≡ true
 frame_seat e n is = elim (cases_Bool (is_private e)) [
   | inl t ↦ t
   | inr f ↦ (let rest = rw f at is in elim (cases_Bool (is_swapped e)) [
-    | inl t ↦ (let bad : Some (InSlot (frame_of e)) ≡ Some (InFrame n) = rw t at rest in absurd (slot_no_frame (frame_of e) n bad))
+    | inl t ↦ (let bad : Some (InSlot (frame_of e)) ≡ Some (InFrame n) = rw t at rest in (cc))
     | inr g ↦ (let bad : None ≡ Some (InFrame n) = rw g at rest in (cc))
   ])
 ]
@@ -100,10 +77,7 @@ seat_frame e n is = (let own = frame_seat e n is in let there : Some (InFrame (f
 own_not_swapped : {mode : ℕ} (c : Picture mode) (a : Option Attr) (e : ℕ) → IsEntryFor c a e → is_private e ≡ true → is_swapped e ≡ false
 own_not_swapped c a e (Nothing none) own = absurd (false≢true (sym (ap is_private none ∙ no_bit) ∙ own))
 own_not_swapped c a e (Away b at is) own = absurd (false≢true (sym is.common ∙ own))
-own_not_swapped c a e (Resident b at res) own = elim (cases_Bool (is_valid e)) [
-  | inl t ↦ rw t refl
-  | inr f ↦ (let b1 = res.framed f in rw (f, b1) refl)
-]
+own_not_swapped c a e (Resident b at res) own = not_swapped e res.framed
 
 -- The entry that named a private frame names slot k, and the frame lost a share.
 module _ {mode : ℕ} (old mid new : Picture mode) (k pid r page n number : ℕ) (share : HasShare old k page) (root : old.root pid ≡ Some r) (h : IsPage (top_level mode) page)
@@ -120,9 +94,6 @@ module _ {mode : ℕ} (old mid new : Picture mode) (k pid r page n number : ℕ)
       (λ e. (cc)) share.owned share.noted
       (own_region old mid (old.at pid page) (entry old pid page) number k (share.fit.granting.entries pid page h) (frame_seat (entry old pid page) n from) away beside.files)
       (λ valid. absurd (false≢true (sym away.invalid ∙ valid))) (rooted_set old mid 0 r page number share.fit.rooted sets beside)
-
-  handed : IsFit new
-  handed = fit_released mid new n 0 moved (ap (λ rs. get_or rs n Free) sets.kept.roles ∙ was) releases beside'
 
   views_mid : bytes_in old.frames old.slots (InSlot k) ≡ bytes_in old.frames old.slots (InFrame n) → (q p : ℕ) → IsPage (top_level mode) p → view mid q p ≡ view old q p
   views_mid alike = views_moved old mid (InFrame n) (InSlot k) 0 pid page number share.fit set_page h (seat_number old 0 pid page (InFrame n) share.fit.rooted from) from (away_seat number k away)
@@ -164,37 +135,14 @@ module _ {mode : ℕ} (old mid new : Picture mode) (k pid r page n number : ℕ)
     counts = λ m ne. ap (λ cs. get_or cs m 0) sets.kept.counts;
     bytes = λ m ne used. sets.kept.bytes m used;
     ends = λ q x p e. last_set mode old.frames mid.frames r page number share.fit.rooted.forest sets x p (share.fit.rooted.roots q x e).table;
-    entries = λ q p h' stays. elim (by_page q p pid page) [
-      | inl e ↦ (
-          let P : ℕ → Type 0 = λ x. (entry old x p ≡ 0) ⊎ ((is_swapped (entry old x p) ≡ true) ⊎ (frame_of (entry old x p) ≢ n)) in
-          let Q : ℕ → Type 0 = λ x. (entry old pid x ≡ 0) ⊎ ((is_swapped (entry old pid x) ≡ true) ⊎ (frame_of (entry old pid x) ≢ n)) in
-          absurd (not_here (subst Q e.1 (subst P e.0 stays)) here_frame here_resident))
-      | inr other ↦ set_page.others q p h' other
-    ];
-    ages = λ q p h'. elim (by_page q p pid page) [
-      | inl e ↦ (
-          let P : ℕ → Type 0 = λ x. Ages (λ m. m ≡ n) (entry old x p) (entry mid x p) in
-          let Q : ℕ → Type 0 = λ x. Ages (λ m. m ≡ n) (entry old pid x) (entry mid pid x) in
-          subst P (sym e.0) (subst Q (sym e.1) here_ages))
-      | inr other ↦ Same (set_page.others q p h' other)
-    ];
+    entries = λ q p h' stays. each_page (λ x y. (entry old x y ≡ 0) ⊎ ((is_swapped (entry old x y) ≡ true) ⊎ (frame_of (entry old x y) ≢ n)) → entry mid x y ≡ entry old x y) q p pid page
+        (λ here. absurd (not_here here here_frame here_resident)) (λ other here. set_page.others q p h' other) stays;
+    ages = λ q p h'. each_page (λ x y. Ages (λ m. m ≡ n) (entry old x y) (entry mid x y)) q p pid page here_ages (λ other. Same (set_page.others q p h' other));
     pointers = λ a i m. (sets.pointers a i m).0;
     slots = λ j ne used. (ap (λ t. t.bytes j) beside.slots, ap (λ t. t.count j) beside.slots);
     total = ap (λ t. t.total) beside.slots;
     place = λ p ne. beside.place p;
   }
-
-  given_spares : bytes_in old.frames old.slots (InSlot k) ≡ bytes_in old.frames old.slots (InFrame n) → Spares n k old new
-  given_spares alike = spares_then n k old mid new (hand_spares alike) (release_spares mid new n k moved (ap (λ rs. get_or rs n Free) sets.kept.roles ∙ was) releases beside')
-
-  still : (q p : ℕ) → entry new q p ≡ entry mid q p
-  still = same mid new n k moved (ap (λ rs. get_or rs n Free) sets.kept.roles ∙ was) releases beside'
-
-  given_seat : seat (entry new pid page) ≡ Some (InSlot k)
-  given_seat = ap seat (still pid page) ∙ ap seat set_page.changed ∙ away_seat number k away
-
-  given_others : (q : ℕ) → q ≢ pid → entry new q page ≡ entry old q page
-  given_others q ne = still q page ∙ set_page.others q page h (inl ne)
 
   given_kept : 1 < count_of old.frames n → (role_of new.frames n ≡ role_of old.frames n) × (bytes_of new.frames n ≡ bytes_of old.frames n)
   given_kept more =
@@ -206,4 +154,12 @@ module _ {mode : ℕ} (old mid new : Picture mode) (k pid r page n number : ℕ)
   pub all_given : bytes_in old.frames old.slots (InSlot k) ≡ bytes_in old.frames old.slots (InFrame n)
       → IsFit new × Spares n k old new × (seat (entry new pid page) ≡ Some (InSlot k)) × ((q : ℕ) → q ≢ pid → entry new q page ≡ entry old q page)
       × (1 < count_of old.frames n → (role_of new.frames n ≡ role_of old.frames n) × (bytes_of new.frames n ≡ bytes_of old.frames n))
-  all_given alike = (handed, given_spares alike, given_seat, given_others, given_kept)
+  all_given alike =
+      let own = ap (λ rs. get_or rs n Free) sets.kept.roles ∙ was in
+      let still = same mid new n k moved own releases beside' in (
+        fit_released mid new n 0 moved own releases beside',
+        spares_then n k old mid new (hand_spares alike) (release_spares mid new n k moved own releases beside'),
+        ap seat (still pid page) ∙ ap seat set_page.changed ∙ away_seat number k away,
+        λ q ne. still q page ∙ set_page.others q page h (inl ne),
+        given_kept,
+      )

@@ -1,49 +1,24 @@
 -- Entries over one frame changed: what stays, and where such entries stand.
 use Rattle.vm_types.specs.declared.mode.Levels as Levels
-use Rattle.vm_types.specs.Limits.{user_end, top_level}
-use Rattle.std.proofs.Common.{◌≡◌, ◌≢◌, ℕ, inl, inr, ◌⊎◌, ◌+◌, ◌-◌, ◌<◌, ◌≤◌, true, false, List, [], Option, Some, None, get_or, refl, sym, ap, ◌∙◌, subst, arith, ne_eqb}
-use Rattle.std.specs.Prelude.{IsSome, IfNone, is_some, option_map}
-use Rattle.std.proofs.lemmas.Bool.{cases_eq, cases_Bool, false≢true}
-use Rattle.std.proofs.lemmas.Option.{same_Some}
-use Rattle.vm_types.specs.declared.object.PageKey.{PageKey}
-use Rattle.vm_types.specs.declared.number.FrameNo.{FrameNo}
-use Rattle.vm_types.specs.declared.region.Attr.{Attr}
-use Rattle.vm_types.specs.declared.region.Backing.{Backing}
-use Rattle.vm_types.specs.declared.region.Backing.TheVariants as Backings
-use Rattle.vm_types.specs.declared.object.PageKey.TheVariants.{File, Object}
+use Rattle.vm_types.specs.{Limits.{user_end, top_level}, declared.object.PageKey.{PageKey}, declared.region.Attr.{Attr}, declared.region.Backing.{Backing}, declared.object.PageKey.TheVariants.{File, Object}}
 use Rattle.vm_types.specs.Attributes.{backing_after, stands_on}
-use Rattle.frames.specs.declared.role.Role.TheVariants.{Free, Zero, Table, Private, Cache}
-use Rattle.frames.specs.FrameTable.{FrameTable, role_of}
-use Rattle.sv39_walk.specs.Entry.{is_valid, is_dirty, is_pointer, frame_of, entry_at}
-use Rattle.sv39_walk.specs.Walk.{index_of}
-use Rattle.page_tables.specs.Change.{SetsEntry}
-use Rattle.page_tables.specs.Tree.{IsPage, IsTable, IsForest, missing_of, last_table}
-use Rattle.page_tables.proofs.Ends.{way_forth, last_is, page_entry-missing}
-use Rattle.page_tables.proofs.Ways.{ends, index_of-lt}
-use Rattle.regions.specs.declared.run.Run.{Run}
-use Rattle.regions.specs.RunList.{attr_at}
-use Rattle.regions.specs.Search.{StandsOn}
+use Rattle.std.proofs.{Common.{◌≡◌, ℕ, inl, inr, ◌⊎◌, ◌-◌, ◌<◌, ◌≤◌, true, false, List, [], Option, Some, None, get_or, refl, sym, ap, ◌∙◌, subst, arith, ne_eqb}, lemmas.Bool.{cases_eq, cases_Bool, false≢true}, lemmas.Option.{same_Some}}
+use Rattle.std.specs.Prelude.{IsSome, IfNone, is_some}
+use Rattle.vm_types.specs.declared.region.Backing.TheVariants as Backings
+use Rattle.frames.specs.{declared.role.Role.TheVariants.{Free, Zero, Table, Private, Cache}, FrameTable.{FrameTable, role_of}}
+use Rattle.sv39_walk.specs.{Entry.{is_valid, is_dirty, is_pointer, frame_of, entry_at}, Walk.{index_of}}
+use Rattle.page_tables.specs.{Change.{SetsEntry}, Tree.{IsPage, IsTable, IsForest, missing_of, last_table}}
+use Rattle.page_tables.proofs.{Ends.{way_forth, last_is, page_entry-missing}, Ways.{ends, index_of-lt}}
+use Rattle.regions.specs.{declared.run.Run.{Run}, RunList.{attr_at}, Search.{StandsOn}}
 use Rattle.page_cache.specs.declared.place.Place.TheVariants.{Home, Frame}
-use Rattle.residency.specs.declared.leaves.Change.{Change}
-use Rattle.residency.specs.declared.leaves.Change.TheVariants.{Forget, ClearAccessed, ClearDirty}
-use Rattle.residency.specs.Seats.{InFrame, seat, is_private}
-use Rattle.residency.specs.declared.kernel.Core.{Core}
-use Rattle.residency.specs.Picture.{Picture, picture_of, attr_where, root_in, number_of_frame, entry}
+use Rattle.residency.specs.{declared.leaves.Change.{Change}, declared.leaves.Change.TheVariants.{Forget, ClearAccessed, ClearDirty}, Seats.{InFrame, seat, is_private}, declared.kernel.Core.{Core}}
+use Rattle.residency.specs.{Picture.{Picture, picture_of, attr_where, entry}, Parts.{IsResident, IsBehind, IsFit, AsRoot, OnWay, nowhere}, Steps.{SameBeside, SetsPage}}
+use Rattle.residency.specs.{Leaves.{concerns, IsOver, IsChanged, ChangesLeaves, KeepsAllButFrames, AreKinds, IsPageOver, key_after}, LeafChanges.{ChangesEntries}}
 use Rattle.memory.specs.Notes.{NamesFrame}
 use Rattle.memory.proofs.Numbers.{is_number, of_number}
-use Rattle.residency.specs.Parts.{IsResident, IsBehind, IsFit, AsRoot, OnWay, nowhere}
-use Rattle.residency.specs.Steps.{SameBeside, SetsPage}
-use Rattle.residency.specs.Leaves.{concerns, IsOver, IsChanged, ChangesLeaves, KeepsAllButFrames, AreKinds, IsPageOver, key_after}
-use Rattle.residency.specs.LeafChanges.{ChangesEntries}
-use Rattle.residency.proofs.Bits.{some_framed, resident_of, changed_once, seat_changed, for_changed, valid_zero, leaf_accessed}
-use Rattle.residency.proofs.Entries.{entry-of}
-use Rattle.residency.proofs.Granting.{entry_for-same}
-use Rattle.residency.proofs.Moves.{behind_kept}
+use Rattle.residency.proofs.{Bits.{some_framed, resident_of, changed_once, seat_changed, for_changed, valid_zero, leaf_accessed}, Entries.{entry-of}, Granting.{entry_for-same}, Moves.{behind_kept}, Setting.{fit_set, set_views}}
+use Rattle.residency.proofs.{Start.{entry-dead, cases_some}, TableSteps.{sets_page, rooted_set}, Ways.{begins_table, each_page}}
 pub use Rattle.residency.proofs.Moves.{cases_attr}
-use Rattle.residency.proofs.Setting.{fit_set, set_views}
-use Rattle.residency.proofs.Start.{entry-dead}
-use Rattle.residency.proofs.TableSteps.{sets_page, rooted_set}
-use Rattle.residency.proofs.Ways.{by_page, begins_table}
 
 -- where an entry was set, each way ends where it ended
 module _ (mode : ℕ) where
@@ -118,21 +93,11 @@ module _ {mode : ℕ} where
 pub over_lives : {mode : ℕ} (c : Picture mode) (change : Change) (n pid k : ℕ) → c.root pid ≡ None → IsOver c change n pid k → ⊥
 over_lives c change n pid k dead over = (some_framed change (entry c pid k) over.concerned).0 (entry-dead c pid k dead)
 
-cases_root : (o : Option ℕ) → (o ≡ None) ⊎ ((r : ℕ) × (o ≡ Some r))
-cases_root None = inl refl
-cases_root (Some r) = inr (r, refl)
-
 pub over_number : {mode : ℕ} (c : Picture mode) (change : Change) (n pid k : ℕ) → IsFit c → IsOver c change n pid k → (1 ≤ pid) × (pid ≤ 64)
-over_number c change n pid k fit over = elim (cases_root (c.root pid)) [
+over_number c change n pid k fit over = elim (cases_some (c.root pid)) [
   | inl dead ↦ absurd (over_lives c change n pid k dead over)
   | inr lives ↦ fit.rooted.numbers pid lives.0 lives.1
 ]
-
-pub dead_at : (roots : List (Option FrameNo)) (pid : ℕ) (o : Option FrameNo) → get_or roots pid None ≡ o → o ≡ None → root_in roots pid ≡ None
-dead_at roots pid o is none = ap (λ x. option_map number_of_frame x) (is ∙ none)
-
-pub lives_at : (roots : List (Option FrameNo)) (pid : ℕ) (o : Option FrameNo) (r : FrameNo) → get_or roots pid None ≡ o → o ≡ Some r → root_in roots pid ≡ Some r.0
-lives_at roots pid o r is some = ap (λ x. option_map number_of_frame x) (is ∙ some)
 
 pub if_none : {T : Type 0} (o : Option T) (P : Type 0) → IfNone o P → is_some o ≡ false → P
 if_none None P is none = is
@@ -155,13 +120,10 @@ over_stands c change n pid k runs p fit above placed at h over =
     let res = over_resident c change n pid k fit h over in
     record { attr = res.0; mapped = sym (at k) ∙ res.1; on = over_backed c change n pid k fit h over p res.0 above placed res.1 }
 
-at_where : (r : Option ℕ) (runs : List Run) (page root : ℕ) → r ≡ Some root → attr_where r runs page ≡ attr_at runs page
-at_where r runs page root is = ap (λ x. attr_where x runs page) is
-
 pub map_of : {M : Type 0} {m : Levels.Ghosts M} → {D E : Type 0} (c : Core D E M m) (pid root : ℕ) (runs : List Run) → (picture_of c).root pid ≡ Some root → get_or c.regions.items pid [] ≡ runs
     → (page : ℕ) → (picture_of c).at pid page ≡ attr_at runs page
 map_of c pid root runs live same page =
-    at_where (root_in c.roots.items pid) (get_or c.regions.items pid []) page root live ∙ ap (λ (rs : List Run). attr_at rs page) same
+    ap (λ x. attr_where x (get_or c.regions.items pid []) page) live ∙ ap (λ (rs : List Run). attr_at rs page) same
 
 -- One entry over the frame was changed.
 module _ {mode : ℕ} (old new : Picture mode) (change : Change) (n pid r page number : ℕ) (fit : IsFit old) (root : old.root pid ≡ Some r) (h : IsPage (top_level mode) page) (over : IsOver old change n pid page)
@@ -196,14 +158,8 @@ module _ {mode : ℕ} (old new : Picture mode) (change : Change) (n pid r page n
     views = set_views old new pid page number 0 nowhere 0 fit one_page h seat_here;
     ends = λ q x p e. last_set mode old.frames new.frames r page number fit.rooted.forest sets x p (fit.rooted.roots q x e).table;
     pointers = λ m i t. (sets.pointers m i t).0;
-    entries = λ q p h'. elim (by_page q p pid page) [
-      | inl e ↦ (
-          let P : ℕ → Type 0 = λ x. IsOver old change n x p × IsChanged change (entry old x p) (entry new x p) in
-          let Q : ℕ → Type 0 = λ x. IsOver old change n pid x × IsChanged change (entry old pid x) (entry new pid x) in
-          let R : ℕ → Type 0 = λ x. IsChanged change (entry old pid page) x in
-          inr (subst P (sym e.0) (subst Q (sym e.1) (over, subst R (sym one_page.changed) changed))))
-      | inr other ↦ inl (one_page.others q p h' other)
-    ];
+    entries = λ q p h'. each_page (λ x y. (entry new x y ≡ entry old x y) ⊎ (IsOver old change n x y × IsChanged change (entry old x y) (entry new x y))) q p pid page
+        (inr (over, (let R : ℕ → Type 0 = λ x. IsChanged change (entry old pid page) x in subst R (sym one_page.changed) changed))) (λ other. inl (one_page.others q p h' other));
   }
 
   -- memory is fit, and nothing else changed, and that page has no such entry now

@@ -1,35 +1,17 @@
 -- A page of a file leaves its frame, for home or for a slot.
-use Rattle.vm_types.specs.Limits.{top_level}
-use Rattle.std.proofs.Common.{◌≡◌, ◌≢◌, ℕ, inl, inr, ◌⊎◌, ◌<◌, true, false, Option, Some, None, refl, sym, ap, ◌∙◌, subst, arith, ne_eqb}
-use Rattle.std.proofs.lemmas.Bool.{cases_eq, cases_Bool, false≢true}
-use Rattle.vm_types.specs.declared.object.PageKey.{PageKey}
-use Rattle.vm_types.specs.declared.object.PageKey.TheVariants.{File, Object}
-use Rattle.vm_types.specs.declared.region.Attr.{Attr}
-use Rattle.vm_types.specs.declared.region.Backing.{Backing}
+use Rattle.vm_types.specs.{Limits.{top_level}, declared.object.PageKey.{PageKey}, declared.object.PageKey.TheVariants.{File, Object}, declared.region.Attr.{Attr}, declared.region.Backing.{Backing}}
+use Rattle.std.proofs.{Common.{◌≡◌, ◌≢◌, ℕ, inl, inr, ◌⊎◌, ◌<◌, true, false, Option, None, refl, sym, ap, ◌∙◌, subst, ne_eqb}, lemmas.Bool.{cases_eq, false≢true}}
 use Rattle.vm_types.specs.declared.region.Backing.TheVariants.{Anon, Private as PrivateOf, Shared as SharedOf, Common as CommonOf}
-use Rattle.frames.specs.declared.role.Role.TheVariants.{Free, Table, Private, Cache}
-use Rattle.frames.specs.FrameTable.{role_of, SameButFor}
+use Rattle.frames.specs.{declared.role.Role.TheVariants.{Free, Table, Private, Cache}, FrameTable.{FrameTable, role_of, SameButFor}}
+use Rattle.page_cache.specs.{CacheTable.{CacheTable, SameButForPage, place_of, is_touched}, declared.place.Place.{Place}, declared.place.Place.TheVariants.{Home, Frame, Slot}}
 use Rattle.swap.specs.Slots.{SlotTable}
-use Rattle.sv39_walk.specs.Entry.{is_valid, frame_of, has_bit}
+use Rattle.sv39_walk.specs.Entry.{frame_of}
 use Rattle.page_tables.specs.Tree.{IsPage}
-use Rattle.page_tables.proofs.Data.{KeepsTrees, data_changed}
-use Rattle.page_tables.proofs.Ends.{same_last}
-use Rattle.page_cache.specs.declared.place.Place.{Place}
-use Rattle.page_cache.specs.declared.place.Place.TheVariants.{Home, Frame, Slot}
-use Rattle.residency.specs.Seats.{Seat, InFrame, InSlot, seat, is_private, is_swapped}
-use Rattle.residency.specs.declared.leaves.Change.TheVariants.{Forget}
-use Rattle.residency.specs.Leaves.{IsClear}
-use Rattle.residency.specs.Ages.{Same}
-use Rattle.residency.specs.Evictions.{Spares}
-use Rattle.residency.specs.Picture.{Picture, entry, held, is_data, bytes_in, IsOwned, count_in, page_in, bytes_at}
-use Rattle.residency.specs.Parts.{IsCountedBut, IsRootedBut, IsGranting, IsEntryFor, Nothing, Resident, Away, IsResident, IsBehind, IsFitBut, IsFit, nowhere, HasPlaces, IsDirtySound}
-use Rattle.residency.proofs.Entries.{entries_kept}
-use Rattle.residency.proofs.Seats.{counted_left, counted_same}
-use Rattle.residency.proofs.Granting.{past_end-same, user_map-same, readable-same}
-use Rattle.residency.proofs.Places.{cases_page, one_frame, objects-same, one_slot}
-use Rattle.residency.proofs.Placed.{places_replaced, dirty_replaced}
-use Rattle.residency.proofs.Rooted.{rooted_same}
-use Rattle.residency.proofs.Setting.{view_seated, each_view, held_by}
+use Rattle.page_tables.proofs.{Data.{KeepsTrees, data_changed}, Ends.{same_last}}
+use Rattle.residency.specs.{Seats.{Seat, InFrame, InSlot, seat, is_private, is_swapped}, declared.leaves.Change.TheVariants.{Forget}, Leaves.{IsClear}, Ages.{Same}, Evictions.{Spares}}
+use Rattle.residency.specs.{Picture.{Picture, entry, held, is_data, IsOwned, count_in, page_in, bytes_at}, Parts.{IsCountedBut, IsEntryFor, Nothing, Resident, Away, IsResident, IsBehind, IsFitBut, IsFit, nowhere, HasPlaces, IsDirtySound}}
+use Rattle.residency.proofs.{Entries.{entries_kept}, Seats.{counted_left}, Granting.{past_end-same, granting_by}, Places.{cases_page, one_frame, one_slot}, Placed.{places_replaced, dirty_replaced}, Rooted.{rooted_same}}
+use Rattle.residency.proofs.{Setting.{view_seated, each_view, held_by}, Moves.{counted_on, bytes_same}, Cleaning.{all_touched}, Bits.{not_swapped}}
 use Rattle.residency.proofs.Evicted.{seat_number as seat_below}
 
 slot_seat : (j i : ℕ) → InSlot j ≡ InSlot i → j ≡ i
@@ -51,6 +33,25 @@ module _ {mode : ℕ} where
     pub touched : (p : PageKey) → new.touched p ≡ old.touched p
     pub files : (f : ℕ) → new.files f ≡ old.files f
 
+-- its frame was given back, and its place set
+pub leaves_frame : {mode : ℕ} (c : Picture mode) (t : FrameTable) (a b : CacheTable) (page : PageKey) (v : ℕ) (at : Place) → place_of a page ≡ Frame (record { 0 = v }) → v ≢ 0 → place_of b page ≡ at
+    → SameButForPage page a b → is_touched b page ≡ is_touched a page → SameButFor v c.frames t → role_of t v ≡ Free
+    → Leaves (record c { place = place_of a; touched = is_touched a }) (record c { frames = t; place = place_of b; touched = is_touched b }) page v at
+leaves_frame c t a b page v at was above placed others touched frames free = record {
+  was = was;
+  above = above;
+  placed = placed;
+  others = others.places;
+  frames = frames;
+  free = free;
+  slots = refl;
+  root = λ pid. refl;
+  at_same = λ pid k. refl;
+  page_of = λ n. refl;
+  touched = all_touched a b page others touched;
+  files = λ f. refl;
+}
+
 -- a page at home is held nowhere
 pub home_held : {mode : ℕ} (c : Picture mode) (p : PageKey) → c.place p ≡ Home → held c p ≡ None
 unfolding held
@@ -66,13 +67,13 @@ module _ {mode : ℕ} (old new : Picture mode) (page : PageKey) (v : ℕ) (at : 
   cache : role_of old.frames v ≡ Cache
   cache = fit.places.cached page v leaves.was
 
-  trees : KeepsTrees old.frames new.frames (top_level mode)
+  pub trees : KeepsTrees old.frames new.frames (top_level mode)
   trees =
       let cache_table : Cache ≢ Table = λ e. (cc) in
       let free_table : Free ≢ Table = λ e. (cc) in
       data_changed old.frames new.frames (top_level mode) v fit.rooted.forest leaves.frames (λ e. cache_table (sym cache ∙ e)) (λ e. free_table (sym leaves.free ∙ e))
 
-  same : (pid k : ℕ) → IsPage (top_level mode) k → entry new pid k ≡ entry old pid k
+  pub same : (pid k : ℕ) → IsPage (top_level mode) k → entry new pid k ≡ entry old pid k
   same pid k h = entries_kept old new 0 fit.rooted trees.entries leaves.root pid k
 
   private_ne : (n : ℕ) → role_of old.frames n ≡ Private → n ≢ v
@@ -83,12 +84,6 @@ module _ {mode : ℕ} (old new : Picture mode) (page : PageKey) (v : ℕ) (at : 
   behind_left (PrivateOf p) n ne is = leaves.others (File p) (λ e. ne (one_frame v n (sym leaves.was ∙ ap old.place (sym e) ∙ is))) ∙ is
   behind_left (SharedOf p) n ne is = leaves.others (File p) (λ e. ne (one_frame v n (sym leaves.was ∙ ap old.place (sym e) ∙ is))) ∙ is
   behind_left (CommonOf p) n ne is = leaves.others (Object p) (λ e. ne (one_frame v n (sym leaves.was ∙ ap old.place (sym e) ∙ is))) ∙ is
-
-  not_swapped : (e : ℕ) → (is_valid e ≡ false → has_bit e 1 ≡ false) → is_swapped e ≡ false
-  not_swapped e framed = elim (cases_Bool (is_valid e)) [
-    | inl t ↦ rw t refl
-    | inr f ↦ rw (f, framed f) refl
-  ]
 
   other : (pid k : ℕ) {a : Attr} → IsPage (top_level mode) k → IsResident old a (entry old pid k) → is_private (entry old pid k) ≡ false → frame_of (entry old pid k) ≢ v
   unfolding frame_of
@@ -120,25 +115,8 @@ module _ {mode : ℕ} (old new : Picture mode) (page : PageKey) (v : ℕ) (at : 
   slot_of-same : (j : ℕ) → new.slots.count j ≡ old.slots.count j
   slot_of-same j = ap (λ t. t.count j) leaves.slots
 
-  granting_left : IsGranting new
-  granting_left = record {
-    entries = λ pid k h. (let e = entry_left pid k (old.at pid k) h (fit.granting.entries pid k h) in rw (leaves.at_same pid k, same pid k h) e);
-    user = λ pid. user_map-same mode (old.at pid) (new.at pid) (leaves.at_same pid) (fit.granting.user pid);
-    readable = λ pid. readable-same (old.at pid) (new.at pid) (leaves.at_same pid) (fit.granting.readable pid);
-    objects = objects-same old.at new.at leaves.at_same fit.granting.objects;
-  }
-
-  roles : (n : ℕ) → n ≢ v → role_of new.frames n ≡ role_of old.frames n
-  roles n ne = leaves.frames.roles n ne
-
-  cache_ne : (n : ℕ) → role_of new.frames n ≡ Cache → n ≢ v
-  cache_ne n is e = let bad : Cache ≡ Free = sym is ∙ ap (role_of new.frames) e ∙ leaves.free in (cc)
-
   frame_other : (p : PageKey) (n : ℕ) → p ≢ page → old.place p ≡ Frame (record { 0 = n }) → n ≢ v
   frame_other p n ne is e = ne (fit.places.apart p page (is ∙ ap (λ i. Frame (record { 0 = i })) e ∙ sym leaves.was) (λ home. (let bad : Home ≡ Frame (record { 0 = n }) = sym home ∙ is in (cc))))
-
-  rooted_left : IsRootedBut new 0
-  rooted_left = rooted_same old new 0 fit.rooted trees leaves.root leaves.at_same
 
   frame_page : (sp : ℕ → ℕ) (z : Seat) → page_in new sp z ≡ page_in old sp z
   frame_page sp (InFrame n) = leaves.page_of n
@@ -148,12 +126,6 @@ module _ {mode : ℕ} (old new : Picture mode) (page : PageKey) (v : ℕ) (at : 
   count_left (InFrame n) is = leaves.frames.counts n (private_ne n is)
   count_left (InSlot j) is = slot_of-same j
 
-  free_private : role_of new.frames v ≢ Private
-  free_private is = let bad : Free ≡ Private = sym leaves.free ∙ is in (cc)
-
-  no_slot : (p : PageKey) (j : ℕ) → p ≢ page → new.place p ≡ Slot (record { 0 = j }) → old.place p ≡ Slot (record { 0 = j })
-  no_slot p j ne is = sym (leaves.others p ne) ∙ is
-
   some_old : (j : ℕ) → 0 < new.slots.count j → 0 < old.slots.count j
   some_old j some = let P : SlotTable → Type 0 = λ t. 0 < t.count j in subst P leaves.slots some
 
@@ -161,17 +133,17 @@ module _ {mode : ℕ} (old new : Picture mode) (page : PageKey) (v : ℕ) (at : 
   some_new j some = let P : SlotTable → Type 0 = λ t. 0 < t.count j in subst P (sym leaves.slots) some
 
   forth : (z : Seat) → ((j : ℕ) → z ≡ InSlot j → at ≢ Slot (record { 0 = j })) → IsOwned old z → IsOwned new z
-  forth (InFrame n) other is = roles n (private_ne n is) ∙ is
+  forth (InFrame n) other is = leaves.frames.roles n (private_ne n is) ∙ is
   forth (InSlot j) other own = (
     some_new j own.0,
     λ p e. elim (cases_page p page) [
       | inl ip ↦ other j refl (sym leaves.placed ∙ ap new.place (sym ip) ∙ e)
-      | inr np ↦ own.1 p (no_slot p j np e)
+      | inr np ↦ own.1 p (sym (leaves.others p np) ∙ e)
     ],
   )
 
   back : (z : Seat) → IsOwned new z → IsOwned old z
-  back (InFrame n) is = sym (roles n (λ e. free_private (ap (role_of new.frames) (sym e) ∙ is))) ∙ is
+  back (InFrame n) is = sym (leaves.frames.roles n (λ e. (let bad : Free ≡ Private = sym leaves.free ∙ ap (role_of new.frames) (sym e) ∙ is in (cc)))) ∙ is
   back (InSlot j) is = (
     some_old j is.0,
     λ p e. elim (cases_page p page) [
@@ -188,8 +160,10 @@ module _ {mode : ℕ} (old new : Picture mode) (page : PageKey) (v : ℕ) (at : 
     at = leaves.at_same;
     files = leaves.files;
     cached = λ n is. absurd (no_frame n (sym leaves.placed ∙ is));
-    cached_else = λ p n ne is. roles n (frame_other p n ne is) ∙ fit.places.cached p n is;
-    held = λ n is. (let ne = cache_ne n is in inr ((λ e. ne (one_frame v n (sym leaves.was ∙ e))), sym (roles n ne) ∙ is));
+    cached_else = λ p n ne is. leaves.frames.roles n (frame_other p n ne is) ∙ fit.places.cached p n is;
+    held = λ n is. (
+        let ne : n ≢ v = λ e. (let bad : Cache ≡ Free = sym is ∙ ap (role_of new.frames) e ∙ leaves.free in (cc)) in
+        inr ((λ e. ne (one_frame v n (sym leaves.was ∙ e))), sym (leaves.frames.roles n ne) ∙ is));
     slotted = λ j is. slot_of-same j ∙ slot j (sym leaves.placed ∙ is);
     slotted_else = λ p j ne is. slot_of-same j;
     used = λ j some. elim (fit.places.used j (some_old j some)) [
@@ -212,27 +186,14 @@ module _ {mode : ℕ} (old new : Picture mode) (page : PageKey) (v : ℕ) (at : 
       → ((n : ℕ) → at ≢ Frame (record { 0 = n })) → ((q : PageKey) → at ≡ old.place q → old.place q ≡ Home) → (old.touched page ≡ true → at ≢ Home) → IsFit new
   fit_by counted slot decide no_frame clash home = record {
     counted = counted;
-    rooted = rooted_left;
-    granting = granting_left;
+    rooted = rooted_same old new 0 fit.rooted trees leaves.root leaves.at_same;
+    granting = granting_by old new fit.granting leaves.at_same (λ pid k h. (let e = entry_left pid k (old.at pid k) h (fit.granting.entries pid k h) in rw (same pid k h) e));
     places = places_left (λ j e. (slot j e).0) decide no_frame clash;
     dirty = dirty_left (λ j e. (slot j e).1) home no_frame;
   }
 
-  own_bytes : (z : Seat) → IsOwned old z → bytes_in new.frames new.slots z ≡ bytes_in old.frames old.slots z
-  own_bytes (InFrame n) is = leaves.frames.bytes n (private_ne n is)
-  own_bytes (InSlot j) is = ap (λ t. t.bytes j) leaves.slots
-
-  held_other : (p : PageKey) → p ≢ page → held new p ≡ held old p
+  pub held_other : (p : PageKey) → p ≢ page → held new p ≡ held old p
   held_other p ne = held_by old new p (leaves.others p ne) (λ m there. leaves.frames.bytes m (frame_other p m ne there)) (λ k there. ap (λ t. t.bytes k) leaves.slots)
-
-  pub same_left : (pid k : ℕ) → IsPage (top_level mode) k → entry new pid k ≡ entry old pid k
-  same_left = same
-
-  pub trees_left : KeepsTrees old.frames new.frames (top_level mode)
-  trees_left = trees
-
-  pub held_left : (p : PageKey) → p ≢ page → held new p ≡ held old p
-  held_left = held_other
 
   -- nobody sees it, where its bytes are kept or it was untouched
   pub left_spares : (k : ℕ) → (held new page ≡ held old page) ⊎ ((held new page ≡ None) × (old.touched page ≡ false)) → Spares v k old new
@@ -241,7 +202,7 @@ module _ {mode : ℕ} (old new : Picture mode) (page : PageKey) (v : ℕ) (at : 
       root = leaves.root;
       at = leaves.at_same;
       views = λ pid p. each_view old new fit.granting leaves.at_same pid p (λ h. view_seated old new pid p (leaves.at_same pid p) (ap seat (same pid p h))
-          (λ z is. own_bytes z (fit.counted.1.named pid p z h is)));
+          (λ z is. bytes_same old new leaves.slots (λ n own. leaves.frames.bytes n (private_ne n own)) z (fit.counted.1.named pid p z h is)));
       files = record {
         held = λ p. elim (cases_page p page) [
           | inl e ↦ (let P : PageKey → Type 0 = λ q. (held new q ≡ held old q) ⊎ ((held new q ≡ None) × (old.touched q ≡ false)) in subst P (sym e) bytes)
@@ -252,7 +213,7 @@ module _ {mode : ℕ} (old new : Picture mode) (page : PageKey) (v : ℕ) (at : 
       };
     };
     count = leaves.frames.frames;
-    roles = roles;
+    roles = leaves.frames.roles;
     role = inr (leaves.free, ap is_data cache);
     counts = leaves.frames.counts;
     bytes = λ n ne used. leaves.frames.bytes n ne;
@@ -272,13 +233,10 @@ module _ {mode : ℕ} (old new : Picture mode) (page : PageKey) (v : ℕ) where
   -- An untouched page went home.
   pub fit_home : IsFit old → Leaves old new page v Home → old.touched page ≡ false
       → Unnamed → IsFit new
-  fit_home fit leaves untouched unnamed = fit_by old new page v Home nowhere 0 fit leaves unnamed (
-    fit.counted.0,
-    counted_same mode (entry old) (entry new) (IsOwned old) (IsOwned new) (count_in old) (count_in new) (page_in old fit.counted.0) (page_in new fit.counted.0)
-        (λ q p h. ap seat (same old new page v Home nowhere 0 fit leaves unnamed q p h)) nowhere 0 fit.counted.1
-        (λ z. forth old new page v Home nowhere 0 fit leaves unnamed z (λ j e home. (cc))) (back old new page v Home nowhere 0 fit leaves unnamed)
-        (count_left old new page v Home nowhere 0 fit leaves unnamed) (λ z is. frame_page old new page v Home nowhere 0 fit leaves unnamed fit.counted.0 z),
-  )
+  fit_home fit leaves untouched unnamed = fit_by old new page v Home nowhere 0 fit leaves unnamed
+      (counted_on old new nowhere 0 fit.counted (λ q p h. ap seat (same old new page v Home nowhere 0 fit leaves unnamed q p h))
+      (λ z. forth old new page v Home nowhere 0 fit leaves unnamed z (λ j e home. (cc))) (back old new page v Home nowhere 0 fit leaves unnamed)
+      (count_left old new page v Home nowhere 0 fit leaves unnamed) (λ z is. frame_page old new page v Home nowhere 0 fit leaves unnamed fit.counted.0 z))
       (λ j e. absurd ((cc))) (λ j. inr (λ e. (cc))) (λ n e. (cc)) (λ q e. sym e) (λ t. absurd (false≢true (sym untouched ∙ t)))
 
   module _ (k : ℕ) where

@@ -1,24 +1,12 @@
 -- A table taken and linked.
-use Rattle.vm_types.specs.Limits.{top_level}
-use Rattle.std.proofs.Common.{◌≡◌, ◌≢◌, ◌-◌, ◌≤◌, ℕ, suc, inl, inr, Some, Option, get_or, refl, sym, ap, ◌∙◌, subst, arith}
+use Rattle.vm_types.specs.{Limits.{top_level}, declared.region.Attr.{Attr}}
+use Rattle.std.proofs.{Common.{◌≡◌, ◌≢◌, ◌-◌, ◌≤◌, ℕ, suc, inl, inr, Some, Option, get_or, refl, sym, ap, ◌∙◌, subst, arith}, lemmas.Bool.{cases_eq}}
 use Rattle.std.specs.Prelude.{IsSome}
-use Rattle.std.proofs.lemmas.Bool.{cases_eq}
-use Rattle.vm_types.specs.declared.region.Attr.{Attr}
-use Rattle.frames.specs.declared.role.Role.TheVariants.{Free, Table}
-use Rattle.frames.specs.FrameTable.{FrameTable, role_of}
-use Rattle.page_tables.specs.Change.{AddsTable, LinksTable}
-use Rattle.page_tables.specs.Tree.{IsPage, IsTable, Points, Way, IsBelowRoot, last_table}
-use Rattle.page_tables.proofs.Ways.{EndsAt, ends}
-use Rattle.residency.specs.Seats.{Seat}
-use Rattle.residency.specs.Picture.{Picture, entry, is_data}
-use Rattle.residency.specs.Parts.{IsRootedBut, OnWay, IsMapped, IsFitBut, IsFit, nowhere}
-use Rattle.residency.specs.Steps.{SameBeside, KeepsShares}
-use Rattle.residency.proofs.Entries.{entries_kept, entries_but}
-use Rattle.residency.proofs.Rooted.{used_kept}
-use Rattle.residency.proofs.Places.{dirty_same}
-use Rattle.residency.proofs.Moves.{fit_kept, shares_but}
-use Rattle.residency.proofs.TableSteps.{shares_kept}
-use Rattle.page_tables.proofs.Tight.{same_taken}
+use Rattle.frames.specs.{declared.role.Role.TheVariants.{Free, Table}, FrameTable.{FrameTable, role_of}}
+use Rattle.page_tables.specs.{Change.{AddsTable, LinksTable}, Tree.{IsPage, IsTable, Points, Way, IsBelowRoot, last_table}}
+use Rattle.page_tables.proofs.{Ways.{EndsAt, ends}, Tight.{same_taken}}
+use Rattle.residency.specs.{Seats.{Seat}, Picture.{Picture, entry, is_data}, Parts.{IsRootedBut, OnWay, IsMapped, IsFitBut, IsFit, nowhere}, Steps.{SameBeside, KeepsShares}}
+use Rattle.residency.proofs.{Entries.{entries_kept, entries_but}, Rooted.{used_kept, rooted_by}, Places.{dirty_same}, Moves.{fit_kept, shares_but}, TableSteps.{shares_kept}}
 
 -- a table taken
 pub shares_taken : (old new : FrameTable) (top n : ℕ) → AddsTable old new top n → KeepsShares old new
@@ -40,23 +28,16 @@ maps old new beside pid page some = let P : Option Attr → Type 0 = λ x. IsSom
 
 -- a table taken, in no tree yet
 pub rooted_taken : {mode : ℕ} (old new : Picture mode) (n : ℕ) → IsRootedBut old 0 → role_of old.frames 0 ≢ Table → AddsTable old.frames new.frames (top_level mode) n → SameBeside old new → IsRootedBut new n
-rooted_taken old new n rooted zero_page adds beside =
-    let was : (pid r : ℕ) → new.root pid ≡ Some r → old.root pid ≡ Some r = λ pid r e. sym (beside.root pid) ∙ e in
-    record {
-      forest = adds.forest;
-      roots = λ pid r e. adds.roots r (rooted.roots pid r (was pid r e));
-      apart = λ p q r e f. rooted.apart p q r (was p r e) (was q r f);
-      numbers = λ pid r e. rooted.numbers pid r (was pid r e);
-      used = λ m table. elim (cases_eq m n) [
-        | inl e ↦ inl e
-        | inr ne ↦ (
-            let there : IsTable old.frames m = record { inside = rw (← adds.takes.others.frames) table.inside; role = sym (adds.takes.others.roles m ne) ∙ table.role } in
-            elim (rooted.used m there) [
-              | inl z ↦ absurd (zero_page (ap (role_of old.frames) (sym z) ∙ there.role))
-              | inr o ↦ inr (used_kept old new (IsMapped old) (IsMapped new) m (same_taken old.frames new.frames n rooted.forest adds.takes).forth beside.root (maps old new beside) o)
-            ])
-      ];
-    }
+rooted_taken old new n rooted zero_page adds beside = rooted_by old new 0 n rooted beside.root adds.forest (λ pid r e. adds.roots r (rooted.roots pid r e))
+    (λ m table. elim (cases_eq m n) [
+      | inl e ↦ inl e
+      | inr ne ↦ (
+          let there : IsTable old.frames m = record { inside = rw (← adds.takes.others.frames) table.inside; role = sym (adds.takes.others.roles m ne) ∙ table.role } in
+          elim (rooted.used m there) [
+            | inl z ↦ absurd (zero_page (ap (role_of old.frames) (sym z) ∙ there.role))
+            | inr o ↦ inr (used_kept old new (IsMapped old) (IsMapped new) m (same_taken old.frames new.frames n rooted.forest adds.takes).forth beside.root (maps old new beside) o)
+          ])
+    ])
 
 module _ (mode : ℕ) where
   at_level : (t : FrameTable) (root page m level : ℕ) → level ≤ top_level mode → Way t (top_level mode) root page (top_level mode - level) m → m ≢ root → IsBelowRoot t (top_level mode) root page m
@@ -79,25 +60,19 @@ module _ {mode : ℕ} where
   pub rooted_linked : (old new : Picture mode) (pid root page table : ℕ) → IsRootedBut old table → ((q : ℕ) → old.root q ≢ Some table) → ((a i : ℕ) → Points old.frames a i table → ⊥) → old.root pid ≡ Some root → IsMapped old pid page
       → LinksTable old.frames new.frames (top_level mode) root page table → SameBeside old new → IsRootedBut new 0
   rooted_linked old new pid root page table rooted loose unlinked lives mapped links beside =
-      let was : (q r : ℕ) → new.root q ≡ Some r → old.root q ≡ Some r = λ q r e. sym (beside.root q) ∙ e in
       let ne : (r q : ℕ) → old.root q ≡ Some r → r ≢ table = λ r q e is. loose q (e ∙ ap (λ x. Some x) is) in
       let stays = links.roots root (ne root pid lives) (rooted.roots pid root lives) in
       let end = ends new.frames (top_level mode) root page links.forest stays.table in
-      record {
-        forest = links.forest;
-        roots = λ q r e. links.roots r (ne r q (was q r e)) (rooted.roots q r (was q r e));
-        apart = λ p q r e f. rooted.apart p q r (was p r e) (was q r f);
-        numbers = λ q r e. rooted.numbers q r (was q r e);
-        used = λ m is_table. elim (cases_eq m table) [
-          | inl e ↦ inr (OnWay pid root page (beside.root pid ∙ lives) (maps old new beside pid page mapped) (last_below mode new.frames root page m end (links.ends ∙ sym e) (λ is. ne root pid lives (sym is ∙ e))))
-          | inr ne' ↦ (
-              let there : IsTable old.frames m = record { inside = rw (← links.kept.frames) is_table.inside; role = ap (λ rs. get_or rs m Free) (sym links.kept.roles) ∙ is_table.role } in
-              elim (rooted.used m there) [
-                | inl z ↦ absurd (ne' z)
-                | inr o ↦ inr (used_kept old new (IsMapped old) (IsMapped new) m (λ a i b p. (links.pointers a i b (λ e. unlinked a i (let P : ℕ → Type 0 = λ x. Points old.frames a i x in subst P e p))).0 p) beside.root (maps old new beside) o)
-              ])
-        ];
-      }
+      rooted_by old new table 0 rooted beside.root links.forest (λ q r e. links.roots r (ne r q e) (rooted.roots q r e))
+      (λ m is_table. elim (cases_eq m table) [
+        | inl e ↦ inr (OnWay pid root page (beside.root pid ∙ lives) (maps old new beside pid page mapped) (last_below mode new.frames root page m end (links.ends ∙ sym e) (λ is. ne root pid lives (sym is ∙ e))))
+        | inr ne' ↦ (
+            let there : IsTable old.frames m = record { inside = rw (← links.kept.frames) is_table.inside; role = ap (λ rs. get_or rs m Free) (sym links.kept.roles) ∙ is_table.role } in
+            elim (rooted.used m there) [
+              | inl z ↦ absurd (ne' z)
+              | inr o ↦ inr (used_kept old new (IsMapped old) (IsMapped new) m (λ a i b p. (links.pointers a i b (λ e. unlinked a i (let P : ℕ → Type 0 = λ x. Points old.frames a i x in subst P e p))).0 p) beside.root (maps old new beside) o)
+            ])
+      ])
 
 -- a table was taken, and linked on the way to a mapped page
 module _ {mode : ℕ} where

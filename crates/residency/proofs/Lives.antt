@@ -1,13 +1,11 @@
 -- What is read of a process by its number.
 use Rattle.vm_types.specs.declared.mode.Levels as Levels
-use Rattle.std.proofs.Common.{◌≡◌, ℕ, ◌<◌, List, [], Option, Some, None, get_or, sym, arith}
-use Rattle.std.proofs.lemmas.List.{get_or_read}
+use Rattle.std.proofs.{Common.{◌≡◌, ℕ, ◌<◌, List, [], Option, Some, None, get_or, sym, ap, ◌∙◌, arith}, lemmas.List.{get_or_read}}
+use Rattle.std.specs.Prelude.{option_map}
 use Rattle.vm_types.specs.declared.number.FrameNo.{FrameNo}
-use Rattle.regions.specs.declared.run.Run.{Run}
-use Rattle.regions.specs.RunList.{attr_at}
-use Rattle.residency.specs.declared.kernel.Core.{Core}
-use Rattle.residency.specs.Picture.{picture_of}
-use Rattle.residency.proofs.LeafSteps.{dead_at, lives_at, map_of}
+use Rattle.regions.specs.{declared.run.Run.{Run}, RunList.{attr_at}}
+use Rattle.residency.specs.{declared.kernel.Core.{Core}, Picture.{picture_of, number_of_frame}}
+use Rattle.residency.proofs.LeafSteps.{map_of}
 
 module _ {M : Type 0} {m : Levels.Ghosts M} {D E : Type 0} (c : Core D E M m) (pid : ℕ) (number : pid < 65) where
   -- its root table
@@ -16,10 +14,10 @@ module _ {M : Type 0} {m : Levels.Ghosts M} {D E : Type 0} (c : Core D E M m) (p
     at = sym (get_or_read c.roots.items pid r (let count = c.root_count in omega (arith, number, count)) read None)
 
     pub dead_process : r ≡ None → (picture_of c).root pid ≡ None
-    dead_process none = dead_at c.roots.items pid r at none
+    dead_process none = ap (λ x. option_map number_of_frame x) (at ∙ none)
 
     pub live_process : (root : FrameNo) → r ≡ Some root → (picture_of c).root pid ≡ Some root.0
-    live_process root some = lives_at c.roots.items pid r root at some
+    live_process root some = ap (λ x. option_map number_of_frame x) (at ∙ some)
 
   -- its regions
   pub map_read : (root : ℕ) (runs : List Run) → (picture_of c).root pid ≡ Some root → runs ≡ get_or c.regions.items pid runs → (page : ℕ) → (picture_of c).at pid page ≡ attr_at runs page

@@ -1,23 +1,14 @@
 -- An own copy goes from one seat to another: the steps for one process.
-use Rattle.vm_types.specs.Limits.{top_level}
-use Rattle.std.proofs.Common.{◌≡◌, ◌≢◌, ℕ, inl, inr, ◌⊎◌, ◌<◌, true, false, Option, Some, None, refl, sym, ap, ◌∙◌, subst}
+use Rattle.vm_types.specs.{Limits.{top_level}, declared.object.PageKey.{PageKey}, declared.region.Attr.{Attr}}
+use Rattle.std.proofs.{Common.{◌≡◌, ◌≢◌, ℕ, inl, inr, ◌⊎◌, ◌<◌, true, false, Option, Some, None, refl, sym, ap, ◌∙◌, subst}, lemmas.Bool.{false≢true}}
 use Rattle.std.specs.Prelude.{option_map, IsSome}
-use Rattle.vm_types.specs.declared.object.PageKey.{PageKey}
-use Rattle.vm_types.specs.declared.region.Attr.{Attr}
-use Rattle.frames.specs.declared.role.Role.TheVariants.{Table, Private}
-use Rattle.frames.specs.FrameTable.{FrameTable, bytes_of, role_of, SameButFor}
+use Rattle.frames.specs.{declared.role.Role.TheVariants.{Table, Private}, FrameTable.{FrameTable, bytes_of, role_of, SameButFor}}
 use Rattle.swap.specs.Slots.{SlotTable}
 use Rattle.sv39_walk.specs.Entry.{is_valid, is_dirty, frame_of}
 use Rattle.page_tables.specs.Tree.{IsPage}
-use Rattle.residency.specs.Seats.{Seat, InFrame, InSlot, seat, is_private}
-use Rattle.residency.specs.Picture.{Picture, entry, view, view_of, own_in, bytes_in, IsOwned, count_in, page_in, is_data}
-use Rattle.residency.specs.Parts.{IsRootedBut, IsEntryFor, IsCountedBut, IsFitBut, IsDirtySound}
-use Rattle.residency.specs.Steps.{SameBeside, KeepsShares, SetsPage}
-use Rattle.residency.proofs.Seats.{counted_same, counted_moved}
-use Rattle.residency.proofs.Granting.{KeepsBehind, granting_same, granting_changed}
-use Rattle.residency.proofs.Places.{places_same, dirty_changed}
-use Rattle.residency.proofs.Ways.{by_page}
-use Rattle.std.proofs.lemmas.Bool.{false≢true}
+use Rattle.residency.specs.{Seats.{Seat, InFrame, InSlot, seat, is_private}, Picture.{Picture, entry, view, view_of, own_in, bytes_in, IsOwned, count_in, page_in, is_data}}
+use Rattle.residency.specs.{Parts.{IsRootedBut, IsEntryFor, IsCountedBut, IsFitBut, IsDirtySound}, Steps.{SameBeside, KeepsShares, SetsPage}}
+use Rattle.residency.proofs.{Seats.{counted_same, counted_put, seat-other}, Granting.{KeepsBehind, granting_same, granting_changed}, Places.{places_same, dirty_changed}, Ways.{each_page}}
 use Rattle.page_cache.specs.declared.place.Place.TheVariants.{Frame}
 
 -- but for frames all is as it was
@@ -46,6 +37,12 @@ shares_but old new n same before after = record {
   counts = λ m e. same.counts m (data_ne old n m before (ap is_data e));
 }
 
+-- no entry names another seat, and each seat has its count and its page
+pub counted_on : {mode : ℕ} (old new : Picture mode) (x : Seat) (d : ℕ) (counted : IsCountedBut old x d) → ((q p : ℕ) → IsPage (top_level mode) p → seat (entry new q p) ≡ seat (entry old q p)) → ((z : Seat) → IsOwned old z → IsOwned new z)
+    → ((z : Seat) → IsOwned new z → IsOwned old z) → ((z : Seat) → IsOwned old z → count_in new z ≡ count_in old z) → ((z : Seat) → IsOwned old z → page_in new counted.0 z ≡ page_in old counted.0 z) → IsCountedBut new x d
+counted_on {mode} old new x d counted same forth back counts pages =
+    (counted.0, counted_same mode (entry old) (entry new) (IsOwned old) (IsOwned new) (count_in old) (count_in new) (page_in old counted.0) (page_in new counted.0) same x d counted.1 forth back counts pages)
+
 -- Own copies have their seats, and pages of files and objects their places, as before.
 module _ {mode : ℕ} (old new : Picture mode) (shares : KeepsShares old.frames new.frames) (slots : new.slots ≡ old.slots) (page_of : (n : ℕ) → new.page_of n ≡ old.page_of n)
     (place : (p : PageKey) → new.place p ≡ old.place p) where
@@ -66,11 +63,7 @@ module _ {mode : ℕ} (old new : Picture mode) (shares : KeepsShares old.frames 
   pages sp (InSlot k) = refl
 
   pub counted_kept : (x : Seat) (d : ℕ) → ((q p : ℕ) → IsPage (top_level mode) p → seat (entry new q p) ≡ seat (entry old q p)) → IsCountedBut old x d → IsCountedBut new x d
-  counted_kept x d same counted = (
-    counted.0,
-    counted_same mode (entry old) (entry new) (IsOwned old) (IsOwned new) (count_in old) (count_in new) (page_in old counted.0) (page_in new counted.0)
-        same x d counted.1 forth back counts (λ z is. pages counted.0 z),
-  )
+  counted_kept x d same counted = counted_on old new x d counted same forth back counts (λ z is. pages counted.0 z)
 
   -- and no entry changed
   pub fit_kept : (x : Seat) (d m m' : ℕ) → IsFitBut old x d m → ((q p : ℕ) → new.at q p ≡ old.at q p) → ((f : ℕ) → new.files f ≡ old.files f)
@@ -119,10 +112,11 @@ pub bytes_same : {mode : ℕ} (old new : Picture mode) → new.slots ≡ old.slo
 bytes_same old new slots frames (InFrame n) is = frames n is
 bytes_same old new slots frames (InSlot k) is = ap (λ t. t.bytes k) slots
 
-own_same : {mode : ℕ} (old new : Picture mode) (o : Option Seat) → ((z : Seat) → o ≡ Some z → bytes_in new.frames new.slots z ≡ bytes_in old.frames old.slots z)
-    → option_map (bytes_in new.frames new.slots) o ≡ option_map (bytes_in old.frames old.slots) o
-own_same old new None each = refl
-own_same old new (Some z) each = ap (λ b. Some b) (each z refl)
+-- a page whose own copy lies in the same seat, with the same bytes, is seen as before
+pub own_kept : {mode : ℕ} (old new : Picture mode) (o o' : Option Seat) → o' ≡ o → ((z : Seat) → o ≡ Some z → bytes_in new.frames new.slots z ≡ bytes_in old.frames old.slots z)
+    → option_map (bytes_in new.frames new.slots) o' ≡ option_map (bytes_in old.frames old.slots) o
+own_kept old new None o' e each = ap (λ x. option_map (bytes_in new.frames new.slots) x) e
+own_kept old new (Some z) o' e each = ap (λ x. option_map (bytes_in new.frames new.slots) x) e ∙ ap (λ b. Some b) (each z refl)
 
 -- The entry of the page was set.
 module _ {mode : ℕ} (old new : Picture mode) (pid page number m : ℕ) (sets : SetsPage old new pid page number) (for : IsEntryFor new (old.at pid page) number) (rooted : IsRootedBut new m)
@@ -150,9 +144,9 @@ module _ {mode : ℕ} (old new : Picture mode) (x y : Seat) (m pid page number :
   pub fit_moved : IsFitBut new x 1 m
   fit_moved = set_by old new pid page number m sets for rooted (λ p valid common bit at. absurd (parked valid common)) y x 1 1 fit (
     fit.counted.0,
-    counted_moved mode (entry old) (entry new) (IsOwned old) (IsOwned new) (count_in old) (count_in new) (page_in old fit.counted.0) (page_in new fit.counted.0)
-        x y pid page fit.counted.1 (owned_forth old new sets.beside sets.shares) (owned_back old new sets.beside sets.shares) (count_kept old new sets.beside sets.shares)
-        (λ z is. page_kept old new fit.counted.0 sets.beside z) has noted h below from now apart sets.others,
+    counted_put mode (entry old) (entry new) (IsOwned old) (IsOwned new) (count_in old) (count_in new) (page_in old fit.counted.0) (page_in new fit.counted.0)
+        (Some x) x y 1 pid page fit.counted.1 (owned_forth old new sets.beside sets.shares) (owned_back old new sets.beside sets.shares) (count_kept old new sets.beside sets.shares)
+        (λ z is. page_kept old new fit.counted.0 sets.beside z) has noted h below from now (seat-other x y apart) sets.others (λ z. refl),
   )
 
   -- nobody sees it, where both seats have the same bytes
@@ -160,12 +154,6 @@ module _ {mode : ℕ} (old new : Picture mode) (x y : Seat) (m pid page number :
   views_moved same q p h' =
       let stays : (z : Seat) → IsOwned old z → bytes_in new.frames new.slots z ≡ bytes_in old.frames old.slots z =
       bytes_same old new sets.beside.slots (λ n is. sets.bytes n (λ t. (let bad : Private ≡ Table = sym is ∙ t in (cc)))) in
-      view_kept old new q p (sets.beside.at q p) (elim (by_page q p pid page) [
-        | inl e ↦ (
-            let P : ℕ → Type 0 = λ a. own_in new.frames new.slots (entry new a p) ≡ own_in old.frames old.slots (entry old a p) in
-            let Q : ℕ → Type 0 = λ a. own_in new.frames new.slots (entry new pid a) ≡ own_in old.frames old.slots (entry old pid a) in
-            subst P (sym e.0) (subst Q (sym e.1) (own_at new (entry new pid page) y now ∙ ap (λ b. Some b) (stays y has ∙ same) ∙ sym (own_at old (entry old pid page) x from))))
-        | inr away ↦ (
-            ap (λ e. own_in new.frames new.slots e) (sets.others q p h' away)
-            ∙ own_same old new (seat (entry old q p)) (λ z is. stays z (fit.counted.1.named q p z h' is)))
-      ])
+      view_kept old new q p (sets.beside.at q p) (each_page (λ a b. own_in new.frames new.slots (entry new a b) ≡ own_in old.frames old.slots (entry old a b)) q p pid page
+      (own_at new (entry new pid page) y now ∙ ap (λ b. Some b) (stays y has ∙ same) ∙ sym (own_at old (entry old pid page) x from))
+      (λ away. ap (λ e. own_in new.frames new.slots e) (sets.others q p h' away) ∙ own_kept old new (seat (entry old q p)) (seat (entry old q p)) refl (λ z is. stays z (fit.counted.1.named q p z h' is))))

@@ -2,31 +2,15 @@
 use Rattle.vm_types.specs.declared.mode.Levels as Levels
 use Rattle.std.proofs.Common.{◌≡◌, ◌≢◌, ℕ, ◌⊎◌, Option, None, Result, Ok, Err, sym, ap, ◌∙◌, subst}
 use Rattle.std.specs.Prelude.{IsErrAnd}
-use Rattle.vm_types.specs.declared.number.FrameNo.{FrameNo}
-use Rattle.vm_types.specs.declared.object.PageKey.{PageKey}
-use Rattle.vm_types.specs.declared.refusal.Stall.{Stall}
-use Rattle.disk_model.specs.declared.sector_disk.SectorDisk.{Ghosts}
-use Rattle.disk_model.specs.Moments.{AsksOnly}
-use Rattle.frames.specs.declared.role.Role.TheVariants.{Free, Table, Cache}
-use Rattle.frames.specs.FrameTable.{role_of, IsFrame, SameButFor, FrameTable, Takes}
-use Rattle.swap.specs.declared.slots.Swap.{Swap}
-use Rattle.swap.specs.Slots.{IsReady, IsSectorOfSlot}
-use Rattle.residency.specs.declared.kernel.Core.{Core}
-use Rattle.residency.specs.Picture.{Picture, picture_of}
-use Rattle.residency.specs.Ages.{GivesFrame}
-use Rattle.residency.specs.AskedFrames.{ComesIn, Obtains, SeeksFrame}
-use Rattle.residency.specs.Calls.{AsksSwap, AsksSwapAlso, KeepsRest, UsesDevice}
-use Rattle.residency.specs.Steps.{BringsIn, ChangesFrame, LeavesSlot}
-use Rattle.residency.proofs.Asking.{also_taken, asked_taken, gives_taken, needed_of, wants_taken, wants_tried}
-use Rattle.residency.proofs.BroughtIn.{fit_brought}
-use Rattle.residency.proofs.Giving.{frame_taken}
-use Rattle.residency.proofs.Returning.{frees_spent}
-use Rattle.residency.proofs.Sparing.{frees_then}
-use Rattle.residency.proofs.Taking.{fit_spent}
-use Rattle.page_cache.specs.declared.place.Place.TheVariants.{Frame}
-use Rattle.page_cache.specs.CacheTable.{place_of, is_touched, SameButForPage}
-use Rattle.residency.specs.Parts.{IsPageFor}
+use Rattle.vm_types.specs.{declared.number.FrameNo.{FrameNo}, declared.object.PageKey.{PageKey}, declared.refusal.Stall.{Stall}}
+use Rattle.disk_model.specs.{declared.sector_disk.SectorDisk.{Ghosts}, Moments.{AsksOnly}}
+use Rattle.frames.specs.{declared.role.Role.TheVariants.{Free, Table, Cache}, FrameTable.{role_of, IsFrame, IsFull, SameButFor, FrameTable, Takes}}
+use Rattle.swap.specs.{declared.slots.Swap.{Swap}, Slots.{IsReady, IsSectorOfSlot}}
+use Rattle.residency.specs.{declared.kernel.Core.{Core}, Picture.{Picture, picture_of}, Ages.{GivesFrame}, AskedFrames.{ComesIn, Obtains, SeeksFrame}, Calls.{AsksSwap, AsksSwapAlso, KeepsRest, UsesDevice}}
+use Rattle.residency.specs.{Views.{AsksClock, ChoosesByClock, TurnsClock}, Steps.{BringsIn, ChangesFrame, LeavesSlot}, Parts.{IsPageFor}}
+use Rattle.residency.proofs.{Asking.{also_taken, asked_taken, gives_taken, needed_of, wants_taken, wants_tried}, BroughtIn.{fit_brought}, Giving.{frame_taken, one_given}, Returning.{frees_spent}, Sparing.{frees_then}, Taking.{fit_spent}}
 use Rattle.residency.proofs.Cleaning.{all_touched}
+use Rattle.page_cache.specs.{declared.place.Place.TheVariants.{Frame}, CacheTable.{place_of, is_touched, SameButForPage}}
 
 module _ {M : Type 0} {m : Levels.Ghosts M} {D E : Type 0} {h : Ghosts E} {old found : Core D E M m} {keep : Option FrameNo} {v : FrameNo} (got : Obtains h old found keep (Ok v))
     (n : FrameNo) (inside : IsFrame found.frames n.0) (free : role_of found.frames n.0 ≡ Free) where
@@ -50,14 +34,30 @@ module _ {M : Type 0} {m : Levels.Ghosts M} {D E : Type 0} {h : Ghosts E} {old f
       → AsksSwapAlso h old new keep also
   also_on new also taken more = also_taken h old found new keep n.0 also got.needed got.frees inside free taken more got.asked
 
+  -- the clock chose it, where none was free
+  pub chosen : IsFull old.frames → AsksClock old keep (Ok n) found.clock
+  chosen full =
+      let same = one_given (picture_of old) (picture_of found) v.0 n.0 got.frees.count full got.gives inside free in
+      let P : ℕ → Type 0 = λ k. AsksClock old keep (Ok (record { 0 = k })) found.clock in
+      subst P same (got.turns full)
+
+  pub clock_on : (new : Core D E M m) → new.clock ≡ found.clock → new.looks ≡ found.looks → TurnsClock old new keep (Ok n)
+  clock_on new clock looks = record {
+    stands = λ some. clock ∙ got.stands some;
+    turns = λ full. rw clock (chosen full);
+    looks = rw looks got.looks;
+  }
+
   -- it was put to use
-  pub seeks_on : (new : Core D E M m) → new.swap ≡ found.swap → new.refused ≡ found.refused → KeepsRest found new
+  pub seeks_on : (new : Core D E M m) → new.swap ≡ found.swap → new.refused ≡ found.refused → KeepsRest found new → new.clock ≡ found.clock → new.looks ≡ found.looks
       → (GivesFrame (picture_of old) (picture_of found) n.0 → GivesFrame (picture_of old) (picture_of new) n.0) → SeeksFrame h old new keep (Ok n)
-  seeks_on new swap refused rest taken =
+  unfolding ChoosesByClock
+  seeks_on new swap refused rest clock looks taken =
       let P : Swap E → Type 0 = λ s. IsReady h s × UsesDevice h old.swap.pages.disk s.pages.disk × ((slot : ℕ) × AsksOnly h (λ k. IsSectorOfSlot slot k ⊎ ⊥) old.swap.pages.disk s.pages.disk) in
       let uses = subst P (sym swap) (got.swap, got.device, got.one) in
       record {
         rest = record { store = rest.store ∙ got.rest.store; roots = rest.roots ∙ got.rest.roots; regions = rest.regions ∙ got.rest.regions };
+        clock = clock_on new clock looks;
         asked = asked_on new swap taken;
         uses = record { swap = uses.0; device = uses.1; one = uses.2 };
         refused = record { refuses = tt; short = tt; cause = (ap (λ r. r.number) refused ∙ got.cause.0, ap (λ (s : Swap E). h.failures s.pages.disk) swap ∙ got.cause.1) };
@@ -109,10 +109,11 @@ module _ {M : Type 0} {m : Levels.Ghosts M} {D E : Type 0} {h : Ghosts E} {old f
 -- none was had
 module _ {M : Type 0} {m : Levels.Ghosts M} {D E : Type 0} {h : Ghosts E} {old new : Core D E M m} {stall : Stall} where
   pub seeks_stall : {keep : Option FrameNo} (r : Result FrameNo Stall) → IsErrAnd r (λ e. e ≡ stall) → Obtains h old new keep (Err stall) → SeeksFrame h old new keep r
+  unfolding ChoosesByClock
   seeks_stall (Ok x) is got = absurd is
   seeks_stall {keep} (Err e) is got =
-      let P : Stall → Type 0 = λ s. SeeksFrame h {T = FrameNo} old new keep (Err s) in
-      subst P (sym is) (record { rest = got.rest; asked = got.asked; uses = got.uses; refused = got.refused })
+      let P : Stall → Type 0 = λ s. SeeksFrame h old new keep (Err s) in
+      subst P (sym is) (record { rest = got.rest; clock = got.clock; asked = got.asked; uses = got.uses; refused = got.refused })
 
   pub comes_stall : (page : PageKey) (r : Result FrameNo Stall) → IsErrAnd r (λ e. e ≡ stall) → Obtains h old new None (Err stall) → ComesIn old new page r
   comes_stall page (Ok x) is got = absurd is

@@ -1,25 +1,14 @@
 -- The shares of a private frame, passed on to a slot one after the other.
 use Rattle.vm_types.specs.declared.mode.Levels as Levels
-use Rattle.vm_types.specs.Limits.{user_end, top_level}
-use Rattle.std.proofs.Common.{◌≡◌, ◌≢◌, ℕ, ◌+◌, ◌<◌, ◌≤◌, true, false, inl, inr, ◌⊎◌, Option, Some, None, is_some, refl, sym, ap, ◌∙◌, subst, arith}
-use Rattle.vm_types.specs.declared.region.Attr.{Attr}
+use Rattle.vm_types.specs.{Limits.{user_end, top_level}, declared.region.Attr.{Attr}}
+use Rattle.std.proofs.{Common.{◌≡◌, ◌≢◌, ℕ, ◌+◌, ◌<◌, ◌≤◌, true, false, inl, inr, Option, Some, None, is_some, refl, sym, ap, ◌∙◌, subst, arith}, lemmas.Bool.{false≢true}}
 use Rattle.frames.specs.FrameTable.{role_of, count_of, bytes_of}
-use Rattle.std.proofs.lemmas.Bool.{false≢true}
 use Rattle.disk_model.specs.declared.sector_disk.SectorDisk.{Ghosts}
 use Rattle.swap.specs.Slots.{SharesSlot, IsReady}
 use Rattle.page_tables.specs.Tree.{IsPage}
-use Rattle.residency.specs.Seats.{Seat, InFrame, InSlot, seat, holders_at}
-use Rattle.residency.specs.Picture.{Picture, picture_of, entry, IsOwned}
-use Rattle.residency.specs.Parts.{IsFit, IsRootedBut, IsEntryFor, Nothing, Resident, Away}
-use Rattle.residency.specs.declared.kernel.Core.{Core}
-use Rattle.residency.specs.Evictions.{IsHanding, Spares}
-use Rattle.residency.specs.Handovers.{HandsShares, PassesShare}
-use Rattle.residency.proofs.Evicted.{seat_number, cases_some}
-use Rattle.residency.proofs.Putting.{has_shared, share_spares}
-use Rattle.residency.proofs.Puts.{SameButSlots}
-use Rattle.residency.proofs.Seats.{holders_none}
-use Rattle.residency.proofs.Sparing.{spares_none, spares_then}
-use Rattle.residency.proofs.Start.{seat-none, entry-dead}
+use Rattle.residency.specs.{Seats.{Seat, InFrame, InSlot, seat, holders_at}, Picture.{Picture, picture_of, entry, IsOwned}, Parts.{IsFit, IsRootedBut, IsEntryFor, Nothing, Resident, Away}, declared.kernel.Core.{Core}}
+use Rattle.residency.specs.{Evictions.{IsHanding, Spares}, Handovers.{HandsShares, PassesShare}}
+use Rattle.residency.proofs.{Evicted.{seat_number}, Putting.{has_shared, share_spares}, Puts.{SameButSlots}, Seats.{holders_none}, Sparing.{spares_none, spares_then}, Start.{seat-none, entry-dead, cases_some}}
 
 seat_mapped : {mode : ℕ} (c : Picture mode) (a : Option Attr) (e : ℕ) (z : Seat) → IsEntryFor c a e → seat e ≡ Some z → is_some a ≡ true
 seat_mapped c a e z (Nothing none) is = let bad : None ≡ Some z = sym (ap seat none ∙ seat-none) ∙ is in (cc)
@@ -83,15 +72,12 @@ module _ {mode : ℕ} (old mid new : Picture mode) (pid page v k : ℕ) (handing
       few = (let f = handing.few in let l = lowered in let c = ap (λ t. count_of t v) same.frames in let s = ap (λ t. t.count k) slots in let r = shares.raised in omega (arith, f, l, c, s, r));
     }
 
-    passed_spares : Spares v k mid new
-    passed_spares = share_spares mid new k page fit same owned at shares v
-
     pub all_passed : IsHanding new v k page × Spares v k mid new
-    all_passed = (passed, passed_spares)
+    all_passed = (passed, share_spares mid new k page fit same owned at shares v)
 
 module _ {M : Type 0} {m : Levels.Ghosts M} {D E : Type 0} (g : Ghosts E) where
   pub hands_none : (n k : ℕ) (c : Core D E M m) → IsReady g c.swap → HandsShares g n k c c
-  hands_none n k c ready = record { spares = spares_none n k (picture_of c); ready = ready; pages = refl; plain = record { store = refl; roots = refl; regions = refl; refused = refl; looks = refl } }
+  hands_none n k c ready = record { spares = spares_none n k (picture_of c); ready = ready; pages = refl; plain = record { store = refl; roots = refl; regions = refl; clock = refl; refused = refl; looks = refl } }
 
   pub hands_then : (n k : ℕ) (a b c : Core D E M m) → HandsShares g n k a b → HandsShares g n k b c → HandsShares g n k a c
   hands_then n k a b c one two = record {
@@ -102,6 +88,7 @@ module _ {M : Type 0} {m : Levels.Ghosts M} {D E : Type 0} (g : Ghosts E) where
       store = two.plain.store ∙ one.plain.store;
       roots = two.plain.roots ∙ one.plain.roots;
       regions = two.plain.regions ∙ one.plain.regions;
+      clock = two.plain.clock ∙ one.plain.clock;
       refused = two.plain.refused ∙ one.plain.refused;
       looks = two.plain.looks ∙ one.plain.looks;
     };

@@ -1,15 +1,11 @@
 -- One page of a file or an object is elsewhere, or touched otherwise, and every other one is as it was.
-use Rattle.vm_types.specs.Limits.{top_level}
-use Rattle.std.proofs.Common.{◌≡◌, ◌≢◌, ◌⊎◌, ◌<◌, ℕ, inl, inr, true, false, sym, ap, ◌∙◌, subst}
-use Rattle.vm_types.specs.declared.object.PageKey.{PageKey}
-use Rattle.frames.specs.declared.role.Role.TheVariants.{Cache}
-use Rattle.frames.specs.FrameTable.{role_of}
+use Rattle.vm_types.specs.{Limits.{top_level}, declared.object.PageKey.{PageKey}}
+use Rattle.std.proofs.Common.{◌≡◌, ◌≢◌, ◌⊎◌, ◌<◌, ℕ, inl, inr, true, false, sym, ap, ◌∙◌}
+use Rattle.frames.specs.{declared.role.Role.TheVariants.{Cache}, FrameTable.{role_of}}
 use Rattle.sv39_walk.specs.Entry.{is_valid, is_dirty, frame_of}
 use Rattle.page_tables.specs.Tree.{IsPage}
 use Rattle.page_cache.specs.declared.place.Place.TheVariants.{Home, Frame, Slot}
-use Rattle.residency.specs.Seats.{InSlot}
-use Rattle.residency.specs.Picture.{Picture, entry, is_private, IsOwned}
-use Rattle.residency.specs.Parts.{IsPageFor, HasPlaces, IsDirtySound}
+use Rattle.residency.specs.{Seats.{InSlot}, Picture.{Picture, entry, is_private, IsOwned}, Parts.{IsPageFor, HasPlaces, IsDirtySound}}
 use Rattle.residency.proofs.Places.{cases_page, page_for-same}
 
 module _ {mode : ℕ} where
@@ -62,9 +58,7 @@ places_replaced old new page places to = record {
     ]
   ];
   inside = λ p away. elim (cases_page p page) [
-    | inl e ↦ (
-        let P : PageKey → Type 0 = λ q. IsPageFor new q in
-        subst P (sym e) (page_for-same old new page to.at to.files (to.inside (λ home. away (ap new.place e ∙ home)))))
+    | inl e ↦ rw e (page_for-same old new page to.at to.files (to.inside (λ home. away (ap new.place e ∙ home))))
     | inr ne ↦ page_for-same old new p to.at to.files (places.inside p (λ home. away (to.others p ne ∙ home)))
   ];
 }

@@ -1,26 +1,15 @@
 -- Places and dirty bits: what each step does to where file pages are, and to which are touched.
-use Rattle.vm_types.specs.Limits.{top_level, widest_end}
+use Rattle.vm_types.specs.{Limits.{top_level, widest_end}, declared.file.FilePage.{FilePage}, declared.object.ObjectPage.{ObjectPage}, declared.object.PageKey.{PageKey}, declared.object.PageKey.TheVariants.{File, Object}}
+use Rattle.vm_types.specs.{declared.region.Attr.{Attr}, Counting.{any_below}, Objects.{Maps, names, uses, is_named}}
 use Rattle.std.specs.Prelude.{◌⊎◌}
-use Rattle.std.proofs.lemmas.Bool.{cases_eq, false≢true}
-use Rattle.std.proofs.Common.{◌≡◌, ◌≢◌, ◌<◌, ℕ, inl, inr, true, false, Option, None, sym, ap, ◌∙◌, subst}
-use Rattle.vm_types.specs.declared.file.FilePage.{FilePage}
-use Rattle.vm_types.specs.declared.object.ObjectPage.{ObjectPage}
-use Rattle.vm_types.specs.declared.object.PageKey.{PageKey}
-use Rattle.vm_types.specs.declared.object.PageKey.TheVariants.{File, Object}
-use Rattle.vm_types.specs.declared.region.Attr.{Attr}
-use Rattle.vm_types.specs.Counting.{any_below}
-use Rattle.vm_types.specs.Objects.{Maps, names, uses, is_named}
-use Rattle.frames.specs.declared.role.Role.TheVariants.{Cache}
-use Rattle.frames.specs.FrameTable.{role_of}
+use Rattle.std.proofs.{lemmas.Bool.{cases_eq, false≢true}, Common.{◌≡◌, ◌≢◌, ◌<◌, ℕ, inl, inr, true, false, Option, None, sym, ap, ◌∙◌, subst}}
+use Rattle.frames.specs.{declared.role.Role.TheVariants.{Cache}, FrameTable.{role_of}}
 use Rattle.sv39_walk.specs.Entry.{is_valid, is_dirty, frame_of}
 use Rattle.page_tables.specs.Tree.{IsPage}
-use Rattle.page_cache.specs.declared.place.Place.{Place}
-use Rattle.page_cache.specs.declared.place.Place.TheVariants.{Home, Frame, Slot}
-use Rattle.residency.specs.Picture.{Picture, entry, is_private}
-use Rattle.residency.specs.Parts.{AreObjects, IsPageFor, HasPlaces, IsDirtySound}
+use Rattle.page_cache.specs.{declared.place.Place.{Place}, declared.place.Place.TheVariants.{Home, Frame, Slot}}
+use Rattle.residency.specs.{Picture.{Picture, entry, is_private}, Parts.{AreObjects, IsPageFor, HasPlaces, IsDirtySound}}
 use Rattle.swap.specs.Slots.{SlotTable}
-use Rattle.residency.proofs.Counts.{any-same, any-more, any-found}
-use Rattle.residency.proofs.Ways.{by_page}
+use Rattle.residency.proofs.{Counts.{any-same, any-more, any-found}, Ways.{by_page}}
 
 abbrev pub record_of : ℕ → ℕ → FilePage
 record_of file page = record { file = file; page = page }

@@ -1,20 +1,13 @@
 -- A slot was taken: nothing names it yet.
-use Rattle.vm_types.specs.Limits.{top_level}
-use Rattle.std.proofs.Common.{◌≡◌, ◌≢◌, ℕ, inl, inr, ◌⊎◌, ◌<◌, ◌==◌, if◌then◌else◌, List, refl, sym, ap, ◌∙◌, arith, eq-eqb, ne_eqb}
-use Rattle.std.proofs.lemmas.Bool.{cases_eq}
-use Rattle.vm_types.specs.declared.object.PageKey.{PageKey}
+use Rattle.vm_types.specs.{Limits.{top_level}, declared.object.PageKey.{PageKey}}
+use Rattle.std.proofs.{Common.{◌≡◌, ◌≢◌, ℕ, inl, inr, ◌⊎◌, ◌<◌, ◌==◌, if◌then◌else◌, List, refl, sym, ap, ◌∙◌, arith, eq-eqb, ne_eqb}, lemmas.Bool.{cases_eq}}
 use Rattle.frames.specs.FrameTable.{role_of, count_of}
-use Rattle.swap.specs.Slots.{Puts}
+use Rattle.swap.specs.Slots.{Puts, IsInUse}
 use Rattle.sv39_walk.specs.Entry.{frame_of}
 use Rattle.page_tables.specs.Tree.{IsPage}
 use Rattle.page_cache.specs.declared.place.Place.TheVariants.{Slot}
-use Rattle.residency.specs.Seats.{Seat, InFrame, InSlot, seat}
-use Rattle.residency.specs.Picture.{Picture, entry, IsOwned, count_in, page_in}
-use Rattle.residency.specs.Parts.{IsCountedBut, IsFitBut, nowhere}
-use Rattle.residency.proofs.Seats.{counted_fresh}
-use Rattle.residency.proofs.Granting.{granting_same}
-use Rattle.residency.proofs.Places.{page_for-same, dirty_same}
-use Rattle.residency.proofs.Rooted.{rooted_frames}
+use Rattle.residency.specs.{Seats.{Seat, InFrame, InSlot, seat}, Picture.{Picture, entry, IsOwned, count_in, page_in}, Parts.{IsCountedBut, IsFitBut, nowhere}}
+use Rattle.residency.proofs.{Seats.{counted_fresh}, Granting.{granting_same}, Places.{page_for-same, dirty_same}, Rooted.{rooted_frames}}
 
 -- nothing but slots changed
 module _ {mode : ℕ} where
@@ -27,6 +20,24 @@ module _ {mode : ℕ} where
     pub touched : (p : PageKey) → new.touched p ≡ old.touched p
     pub files : (f : ℕ) → new.files f ≡ old.files f
     pub entries : (pid page : ℕ) → entry new pid page ≡ entry old pid page
+
+-- Own copies have their seats and pages as before, by what is known of slots.
+module _ {mode : ℕ} (old new : Picture mode) (same : SameButSlots old new) where
+  pub slots_forth : (z : Seat) → ((j : ℕ) → z ≡ InSlot j → IsInUse old.slots j → IsInUse new.slots j) → IsOwned old z → IsOwned new z
+  slots_forth (InFrame n) used is = ap (λ t. role_of t n) same.frames ∙ is
+  slots_forth (InSlot j) used is = (used j refl is.0, λ p e. is.1 p (sym (same.place p) ∙ e))
+
+  pub slots_back : (z : Seat) → ((j : ℕ) → z ≡ InSlot j → IsInUse new.slots j → IsInUse old.slots j) → IsOwned new z → IsOwned old z
+  slots_back (InFrame n) used is = sym (ap (λ t. role_of t n) same.frames) ∙ is
+  slots_back (InSlot j) used is = (used j refl is.0, λ p e. is.1 p (same.place p ∙ e))
+
+  pub slots_counts : (z : Seat) → ((j : ℕ) → z ≡ InSlot j → new.slots.count j ≡ old.slots.count j) → count_in new z ≡ count_in old z
+  slots_counts (InFrame n) counts = ap (λ t. count_of t n) same.frames
+  slots_counts (InSlot j) counts = counts j refl
+
+  pub slots_pages : (sp sp' : ℕ → ℕ) (z : Seat) → ((j : ℕ) → z ≡ InSlot j → sp' j ≡ sp j) → page_in new sp' z ≡ page_in old sp z
+  slots_pages sp sp' (InFrame n) pages = same.page_of n
+  slots_pages sp sp' (InSlot j) pages = pages j refl
 
 -- The counts are right for the new slots, each page of a file or an object has its slot as before, and no other slot came into use but for own copies.
 unfoldable pub fit_slots : {mode : ℕ} (old new : Picture mode) (x x' : Seat) (d d' m : ℕ) → IsFitBut old x d m → SameButSlots old new → IsCountedBut new x' d'
@@ -64,24 +75,8 @@ module _ {mode : ℕ} (old new : Picture mode) (k page m : ℕ) (bytes : List �
   slot_ne : (z : Seat) (j : ℕ) → z ≡ InSlot j → z ≢ InSlot k → j ≢ k
   slot_ne z j is ne e = ne (is ∙ ap (λ i. InSlot i) e)
 
-  forth : (z : Seat) → z ≢ InSlot k → IsOwned old z → IsOwned new z
-  forth (InFrame n) ne is = ap (λ t. role_of t n) same.frames ∙ is
-  forth (InSlot j) ne is =
-      (let c = puts.others.counts j (slot_ne (InSlot j) j refl ne) in (let some = is.0 in omega (arith, c, some)), λ p e. is.1 p (sym (same.place p) ∙ e))
-
-  back : (z : Seat) → z ≢ InSlot k → IsOwned new z → IsOwned old z
-  back (InFrame n) ne is = sym (ap (λ t. role_of t n) same.frames) ∙ is
-  back (InSlot j) ne is =
-      (let c = puts.others.counts j (slot_ne (InSlot j) j refl ne) in (let some = is.0 in omega (arith, c, some)), λ p e. is.1 p (same.place p ∙ e))
-
-  counts : (z : Seat) → z ≢ InSlot k → IsOwned old z → count_in new z ≡ count_in old z
-  counts (InFrame n) ne is = ap (λ t. count_of t n) same.frames
-  counts (InSlot j) ne is = puts.others.counts j (slot_ne (InSlot j) j refl ne)
-
-  pages : (z : Seat) → z ≢ InSlot k → IsOwned old z → page_in new (slot_pages fit.counted.0 k page) z ≡ page_in old fit.counted.0 z
-  unfolding slot_pages
-  pages (InFrame n) ne is = same.page_of n
-  pages (InSlot j) ne is = rw (ne_eqb j k (slot_ne (InSlot j) j refl ne)) refl
+  same_count : (z : Seat) → z ≢ InSlot k → (j : ℕ) → z ≡ InSlot j → new.slots.count j ≡ old.slots.count j
+  same_count z ne j is = puts.others.counts j (slot_ne z j is ne)
 
   pub fit_put : IsFitBut new (InSlot k) 1 m
   unfolding slot_pages
@@ -89,7 +84,10 @@ module _ {mode : ℕ} (old new : Picture mode) (k page m : ℕ) (bytes : List �
     slot_pages fit.counted.0 k page,
     counted_fresh mode (entry old) (entry new) (IsOwned old) (IsOwned new) (count_in old) (count_in new)
         (page_in old fit.counted.0) (page_in new (slot_pages fit.counted.0 k page)) (λ q p h'. ap seat (same.entries q p)) (InSlot k) nowhere page fit.counted.1
-        (λ is. (let some = is.0 in let none = puts.was_free in omega (arith, some, none))) forth back counts pages puts.counted (rw (eq-eqb k k refl) refl) h,
+        (λ is. (let some = is.0 in let none = puts.was_free in omega (arith, some, none)))
+        (λ z ne. slots_forth old new same z (λ j is used. (let c = same_count z ne j is in omega (arith, c, used)))) (λ z ne. slots_back old new same z (λ j is used. (let c = same_count z ne j is in omega (arith, c, used))))
+        (λ z ne own. slots_counts old new same z (same_count z ne)) (λ z ne own. slots_pages old new same fit.counted.0 (slot_pages fit.counted.0 k page) z (λ j is. (rw (ne_eqb j k (slot_ne z j is ne)) refl)))
+        puts.counted (rw (eq-eqb k k refl) refl) h,
   )
       (λ p j there. puts.others.counts j (λ e. no_file p (there ∙ ap (λ i. Slot (record { 0 = i })) e)))
       (λ j some. elim (cases_eq j k) [

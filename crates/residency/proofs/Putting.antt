@@ -1,20 +1,13 @@
 -- A slot was taken, or was not to be had: what is seen stays.
-use Rattle.vm_types.specs.Limits.{top_level}
-use Rattle.std.proofs.Common.{◌≡◌, ◌≢◌, ℕ, inl, inr, ◌<◌, List, Option, Some, None, refl, sym, ap, ◌∙◌, subst, arith}
-use Rattle.std.proofs.lemmas.Bool.{cases_eq}
-use Rattle.vm_types.specs.declared.object.PageKey.{PageKey}
+use Rattle.vm_types.specs.{Limits.{top_level}, declared.object.PageKey.{PageKey}}
+use Rattle.std.proofs.{Common.{◌≡◌, ◌≢◌, ℕ, inl, inr, ◌<◌, List, refl, sym, ap, ◌∙◌, subst, arith}, lemmas.Bool.{cases_eq}}
 use Rattle.frames.specs.FrameTable.{FrameTable, frame_count, role_of, count_of, bytes_of}
 use Rattle.swap.specs.Slots.{SlotTable, IsInUse, Same, Puts, SharesSlot}
 use Rattle.page_tables.specs.Tree.{Points, last_table}
 use Rattle.page_cache.specs.declared.place.Place.TheVariants.{Slot}
-use Rattle.residency.specs.Seats.{Seat, InFrame, InSlot, seat}
-use Rattle.residency.specs.Picture.{Picture, entry, held, bytes_in, IsOwned, count_in, page_in}
-use Rattle.residency.specs.Parts.{IsFit, nowhere}
+use Rattle.residency.specs.{Seats.{Seat, InFrame, InSlot, seat}, Picture.{Picture, entry, held, bytes_in, IsOwned, count_in, page_in}, Parts.{IsFit, nowhere}, Evictions.{HasShare, Spares}}
 use Rattle.residency.specs.Ages.{Same as SameAge}
-use Rattle.residency.specs.Evictions.{HasShare, Spares}
-use Rattle.residency.proofs.Puts.{SameButSlots, fit_slots}
-use Rattle.residency.proofs.Seats.{counted_same, counted_shared}
-use Rattle.residency.proofs.Setting.{view_seated, each_view, held_by}
+use Rattle.residency.proofs.{Puts.{SameButSlots, slots_forth, slots_back, slots_counts, slots_pages, fit_slots}, Seats.{counted_shared}, Setting.{view_seated, each_view, held_by}, Moves.{counted_on}}
 
 pub with_slots : {mode : ℕ} (c : Picture mode) (t : SlotTable) → SameButSlots c (record c { slots = t })
 unfolding entry
@@ -63,35 +56,12 @@ module _ {mode : ℕ} (old new : Picture mode) (fit : IsFit old) (same : SameBut
 
 -- no slot was taken
 module _ {mode : ℕ} (old new : Picture mode) (fit : IsFit old) (same : SameButSlots old new) (slots : Same old.slots new.slots) where
-  in_use : (j : ℕ) → IsInUse old.slots j → IsInUse new.slots j
-  in_use j used = let c = slots.counts j in omega (arith, c, used)
-
-  was_used : (j : ℕ) → IsInUse new.slots j → IsInUse old.slots j
-  was_used j used = let c = slots.counts j in omega (arith, c, used)
-
-  forth : (z : Seat) → IsOwned old z → IsOwned new z
-  forth (InFrame n) is = ap (λ t. role_of t n) same.frames ∙ is
-  forth (InSlot j) is = (in_use j is.0, λ p e. is.1 p (sym (same.place p) ∙ e))
-
-  back : (z : Seat) → IsOwned new z → IsOwned old z
-  back (InFrame n) is = sym (ap (λ t. role_of t n) same.frames) ∙ is
-  back (InSlot j) is = (was_used j is.0, λ p e. is.1 p (same.place p ∙ e))
-
-  counts : (z : Seat) → IsOwned old z → count_in new z ≡ count_in old z
-  counts (InFrame n) is = ap (λ t. count_of t n) same.frames
-  counts (InSlot j) is = slots.counts j
-
-  pages : (z : Seat) → IsOwned old z → page_in new fit.counted.0 z ≡ page_in old fit.counted.0 z
-  pages (InFrame n) is = same.page_of n
-  pages (InSlot j) is = refl
-
   pub fit_unput : IsFit new
-  fit_unput = fit_slots old new nowhere nowhere 0 0 0 fit same (
-    fit.counted.0,
-    counted_same mode (entry old) (entry new) (IsOwned old) (IsOwned new) (count_in old) (count_in new) (page_in old fit.counted.0) (page_in new fit.counted.0)
-        (λ q p h. ap seat (same.entries q p)) nowhere 0 fit.counted.1 forth back counts pages,
-  )
-      (λ p j there. slots.counts j) (λ j some. inl (was_used j some))
+  fit_unput = fit_slots old new nowhere nowhere 0 0 0 fit same
+      (counted_on old new nowhere 0 fit.counted (λ q p h. ap seat (same.entries q p))
+      (λ z. slots_forth old new same z (λ j is used. (let c = slots.counts j in omega (arith, c, used)))) (λ z. slots_back old new same z (λ j is used. (let c = slots.counts j in omega (arith, c, used))))
+      (λ z own. slots_counts old new same z (λ j is. slots.counts j)) (λ z own. slots_pages old new same fit.counted.0 fit.counted.0 z (λ j is. refl)))
+      (λ p j there. slots.counts j) (λ j some. inl (let c = slots.counts j in omega (arith, c, some)))
 
 -- one more shares a slot that holds own copies
 module _ {mode : ℕ} (old new : Picture mode) (k page : ℕ) (fit : IsFit old) (same : SameButSlots old new) (own : IsOwned old (InSlot k)) (noted : fit.counted.0 k ≡ page) (shares : SharesSlot old.slots new.slots k) where
@@ -108,20 +78,7 @@ module _ {mode : ℕ} (old new : Picture mode) (k page : ℕ) (fit : IsFit old) 
   ]
 
   forth_shared : (z : Seat) → IsOwned old z → IsOwned new z
-  forth_shared (InFrame n) is = ap (λ t. role_of t n) same.frames ∙ is
-  forth_shared (InSlot j) is = (more_used j is.0, λ p e. is.1 p (sym (same.place p) ∙ e))
-
-  back_shared : (z : Seat) → IsOwned new z → IsOwned old z
-  back_shared (InFrame n) is = sym (ap (λ t. role_of t n) same.frames) ∙ is
-  back_shared (InSlot j) is = (were_used j is.0, λ p e. is.1 p (same.place p ∙ e))
-
-  counts_shared : (z : Seat) → z ≢ InSlot k → IsOwned old z → count_in new z ≡ count_in old z
-  counts_shared (InFrame n) ne is = ap (λ t. count_of t n) same.frames
-  counts_shared (InSlot j) ne is = shares.others.counts j (λ e. ne (ap (λ i. InSlot i) e))
-
-  pages_shared : (z : Seat) → IsOwned old z → page_in new fit.counted.0 z ≡ page_in old fit.counted.0 z
-  pages_shared (InFrame n) is = same.page_of n
-  pages_shared (InSlot j) is = refl
+  forth_shared z = slots_forth old new same z (λ j is. more_used j)
 
   pub has_shared : HasShare new k page
   unfolding fit_slots
@@ -129,7 +86,9 @@ module _ {mode : ℕ} (old new : Picture mode) (k page : ℕ) (fit : IsFit old) 
     fit = fit_slots old new nowhere (InSlot k) 0 1 0 fit same (
       fit.counted.0,
       counted_shared mode (entry old) (entry new) (IsOwned old) (IsOwned new) (count_in old) (count_in new) (page_in old fit.counted.0) (page_in new fit.counted.0)
-          (λ q p h. ap seat (same.entries q p)) (InSlot k) nowhere fit.counted.1 forth_shared back_shared counts_shared pages_shared shares.raised,
+          (λ q p h. ap seat (same.entries q p)) (InSlot k) nowhere fit.counted.1 forth_shared (λ z. slots_back old new same z (λ j is. were_used j))
+          (λ z ne own. slots_counts old new same z (λ j is. shares.others.counts j (λ e. ne (is ∙ ap (λ i. InSlot i) e))))
+          (λ z own. slots_pages old new same fit.counted.0 fit.counted.0 z (λ j is. refl)) shares.raised,
     )
         (λ p j there. shares.others.counts j (λ is. own.1 p (there ∙ ap (λ i. Slot (record { 0 = i })) is))) (λ j some. inl (were_used j some));
     owned = forth_shared (InSlot k) own;

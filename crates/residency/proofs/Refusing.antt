@@ -1,24 +1,20 @@
 -- Why no frame may be given up.
-use Rattle.std.proofs.Common.{◌≡◌, ◌≢◌, ℕ, zero, suc, ◌<◌, inl, inr, ◌⊎◌, true, Option, refl, sym, ap, ◌∙◌, subst, arith}
-use Rattle.std.proofs.lemmas.Bool.{cases_eq, cases_lt, cases_Bool, false≢true}
-use Rattle.std.proofs.lemmas.List.{get_or_past}
-use Rattle.vm_types.specs.declared.object.PageKey.{PageKey}
-use Rattle.vm_types.specs.declared.number.FrameNo.{FrameNo}
-use Rattle.frames.specs.declared.role.Role.{Role}
-use Rattle.frames.specs.declared.role.Role.TheVariants.{Free, Zero, Table, Private, Cache}
-use Rattle.frames.specs.FrameTable.{FrameTable, IsSound, IsFrame, frame_count, role_of}
+use Rattle.std.proofs.{Common.{◌≡◌, ◌≢◌, ℕ, zero, suc, ◌<◌, inl, inr, ◌⊎◌, true, Option, length, refl, sym, ap, ◌∙◌, subst, arith}, lemmas.Bool.{cases_eq, cases_lt, cases_Bool, false≢true}, lemmas.List.{get_or_past}}
+use Rattle.vm_types.specs.{declared.object.PageKey.{PageKey}, declared.number.FrameNo.{FrameNo}}
+use Rattle.frames.specs.{declared.role.Role.{Role}, declared.role.Role.TheVariants.{Free, Zero, Table, Private, Cache}, FrameTable.{FrameTable, IsSound, IsFrame, role_of}}
 use Rattle.swap.specs.Slots.{SlotTable, IsInUse, IsSwapFull}
 use Rattle.page_cache.specs.declared.place.Place.TheVariants.{Home, Frame}
-use Rattle.residency.specs.Picture.{Picture, is_data}
-use Rattle.residency.specs.Parts.{IsFit}
-use Rattle.residency.specs.Calls.{IsSpareable, NeedsSlot}
-use Rattle.residency.specs.Evictions.{IsEvictable}
+use Rattle.residency.specs.{Picture.{Picture, is_data}, Parts.{IsFit}, Calls.{IsSpareable, NeedsSlot}, Evictions.{IsEvictable}}
+
+-- a frame in use is one
+pub used_inside : (t : FrameTable) (n : ℕ) → IsSound t → role_of t n ≢ Free → IsFrame t n
+used_inside t n sound used = elim (cases_lt n (length t.roles)) [
+  | inl low ↦ (let roles = sound.all_roles in omega (arith, low, roles))
+  | inr past ↦ absurd (used (get_or_past t.roles n Free past))
+]
 
 pub inside_of : (t : FrameTable) (n : ℕ) → IsSound t → is_data (role_of t n) ≡ true → IsFrame t n
-inside_of t n sound used = elim (cases_lt n (frame_count t)) [
-  | inl inside ↦ inside
-  | inr past ↦ (let all = sound.all_roles in absurd (false≢true (sym (ap is_data (get_or_past t.roles n Free (omega (arith, all, past)))) ∙ used)))
-]
+inside_of t n sound used = used_inside t n sound (λ free. false≢true (sym (ap is_data free) ∙ used))
 
 pub above_of : (t : FrameTable) (n : ℕ) → IsSound t → is_data (role_of t n) ≡ true → n ≢ 0
 above_of t n sound used none = false≢true (sym (ap is_data (ap (role_of t) none ∙ sound.zero_role)) ∙ used)

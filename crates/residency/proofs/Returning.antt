@@ -1,21 +1,13 @@
 -- A frame asked for in vain, and a slot left.
-use Rattle.vm_types.specs.Limits.{top_level}
-use Rattle.std.proofs.Common.{◌≡◌, ◌≢◌, ℕ, inl, inr, List, None, sym, ap, ◌∙◌, subst, arith}
-use Rattle.std.proofs.lemmas.Bool.{cases_eq}
-use Rattle.vm_types.specs.declared.object.PageKey.{PageKey}
-use Rattle.frames.specs.declared.role.Role.TheVariants.{Free, Zero, Table, Cache}
-use Rattle.frames.specs.FrameTable.{FrameTable, IsSound, role_of, SameButFor, Takes, Releases, with_bytes}
+use Rattle.vm_types.specs.{Limits.{top_level}, declared.object.PageKey.{PageKey}, declared.file.FileInfo.{FileInfo}}
+use Rattle.std.proofs.{Common.{◌≡◌, ◌≢◌, ℕ, inl, inr, List, Option, None, refl, sym, ap, ◌∙◌, subst, arith}, lemmas.Bool.{cases_eq}}
+use Rattle.frames.specs.{declared.role.Role.TheVariants.{Free, Zero, Table, Cache}, FrameTable.{FrameTable, IsSound, role_of, Takes, Releases, with_bytes}}
 use Rattle.swap.specs.Slots.{SlotTable}
 use Rattle.swap.specs.Slots as Slots
 use Rattle.page_tables.proofs.Ends.{same_last}
 use Rattle.page_cache.specs.declared.place.Place.TheVariants.{Home, Slot}
-use Rattle.residency.specs.Picture.{Picture}
-use Rattle.residency.specs.Parts.{IsFit}
-use Rattle.residency.specs.Calls.{Frees}
-use Rattle.residency.specs.Steps.{LeavesSlot, ChangesFrame}
-use Rattle.residency.proofs.BroughtIn.{frames_written}
-use Rattle.residency.proofs.Taking.{trees_changed, entries_changed, views_changed, held_changed}
-use Rattle.residency.proofs.Places.{one_slot}
+use Rattle.residency.specs.{Picture.{Picture}, Parts.{IsFit}, Calls.{Frees}, Steps.{LeavesSlot, ChangesFrame}}
+use Rattle.residency.proofs.{BroughtIn.{frames_written}, Taking.{trees_changed, entries_changed, views_changed, held_changed}, Places.{one_slot}}
 
 -- the slot of a file page lost its only share
 pub leaves_slot : {mode : ℕ} (old new : Picture mode) (page : PageKey) (k : ℕ) (t : SlotTable) → old.place page ≡ Slot (record { 0 = k }) → t ≡ old.slots → Slots.ReleasesSlot t new.slots k → old.slots.count k ≡ 1
@@ -43,15 +35,26 @@ leaves_none old new page home same = record {
   bytes = λ k ne used. ap (λ s. s.bytes k) same;
 }
 
--- a frame was taken, written, and given back
-pub frames_spent : (old mid new : FrameTable) (n : ℕ) (w : List ℕ) → Takes old mid Cache n → Releases (with_bytes mid n w) new n → SameButFor n old new
-frames_spent old mid new n w takes releases =
-    let written = frames_written old mid n w takes in
+-- a frame was taken, written, and given back, and of memory nothing else is otherwise
+pub all_spent : {mode : ℕ} (found : Picture mode) (mid new : FrameTable) (slots : SlotTable) (files : ℕ → Option FileInfo) (n : ℕ) (w : List ℕ) → Takes found.frames mid Cache n → Releases (with_bytes mid n w) new n
+    → slots ≡ found.slots → ((f : ℕ) → files f ≡ found.files f) → ChangesFrame found (record found { slots = slots; frames = new; files = files }) n
+all_spent found mid new slots files n w takes releases same kept =
+    let written = frames_written found.frames mid n w takes in
     record {
-      frames = releases.others.frames ∙ written.frames;
-      bytes = λ m ne. releases.others.bytes m ne ∙ written.bytes m ne;
-      roles = λ m ne. releases.others.roles m ne ∙ written.roles m ne;
-      counts = λ m ne. releases.others.counts m ne ∙ written.counts m ne;
+      slots = same;
+      frames = record {
+        frames = releases.others.frames ∙ written.frames;
+        bytes = λ m ne. releases.others.bytes m ne ∙ written.bytes m ne;
+        roles = λ m ne. releases.others.roles m ne ∙ written.roles m ne;
+        counts = λ m ne. releases.others.counts m ne ∙ written.counts m ne;
+      };
+      was_free = takes.was_free;
+      others = λ m ne. refl;
+      root = λ pid. refl;
+      at = λ pid k. refl;
+      place = λ p. refl;
+      touched = λ p. refl;
+      files = kept;
     }
 
 module _ {mode : ℕ} where

@@ -1,23 +1,15 @@
 -- Which seat an entry has by its form, and what a share that is given back leaves of all bytes.
-use Rattle.std.proofs.Common.{◌≡◌, ◌≢◌, ℕ, inl, inr, ◌+◌, ◌*◌, ◌<◌, ◌^◌, true, false, List, Option, Some, None, refl, sym, ap, ◌∙◌, subst, arith}
-use Rattle.std.proofs.lemmas.Bool.{cases_eq, cases_Bool, false≢true}
-use Rattle.vm_types.specs.declared.object.PageKey.{PageKey}
-use Rattle.vm_types.specs.declared.number.SlotNo.{SlotNo}
+use Rattle.std.proofs.{Common.{◌≡◌, ℕ, inl, inr, ◌+◌, ◌*◌, ◌<◌, ◌^◌, true, false, Some, None, refl, sym, ap, ◌∙◌, arith}, lemmas.Bool.{cases_eq, cases_Bool, false≢true}}
+use Rattle.vm_types.specs.{declared.object.PageKey.{PageKey}, declared.number.SlotNo.{SlotNo}}
 use Rattle.frames.specs.FrameTable.{bytes_of}
 use Rattle.swap.specs.Slots.{IsInUse}
 use Rattle.swap.specs.Slots as Slots
 use Rattle.sv39_walk.specs.Entry.{frame_of, is_valid, has_bit}
-use Rattle.page_tables.specs.declared.forms.Entry.{Entry}
-use Rattle.page_tables.specs.declared.forms.Entry.TheVariants.{Leaf, Swapped, Parked}
+use Rattle.page_tables.specs.{declared.forms.Entry.{Entry}, declared.forms.Entry.TheVariants.{Leaf, Swapped, Parked}, Entry.{number_of, IsEntry}}
 use Rattle.page_tables.specs.declared.forms.Entry.TheVariants as Entries
-use Rattle.page_tables.specs.Entry.{number_of, IsEntry}
 use Rattle.page_tables.proofs.Bits.{parked_framed}
-use Rattle.residency.specs.Seats.{Seat, InFrame, InSlot, seat, is_private, is_swapped}
-use Rattle.residency.specs.Picture.{Picture, entry, view, held, bytes_in, IsOwned}
-use Rattle.residency.specs.Parts.{IsFitBut}
-use Rattle.residency.proofs.Handing.{away_number}
-use Rattle.residency.proofs.Puts.{SameButSlots}
-use Rattle.residency.proofs.Setting.{each_view, view_seated, held_by}
+use Rattle.residency.specs.{Seats.{Seat, InFrame, InSlot, seat, is_private, is_swapped}, Picture.{Picture, view, held, bytes_in, IsOwned}, Parts.{IsFitBut}}
+use Rattle.residency.proofs.{Handing.{away_number}, Puts.{SameButSlots}, Setting.{each_view, view_seated, held_by}}
 
 pub seat_own : (e : ℕ) → is_private e ≡ true → seat e ≡ Some (InFrame (frame_of e))
 seat_own e own = rw own refl

@@ -1,10 +1,8 @@
 -- Counts of seats: what each step does to them.
 use Rattle.vm_types.specs.Limits.{top_level}
-use Rattle.std.proofs.Common.{if◌then◌else◌, ◌≡◌, ◌≢◌, ℕ, inl, inr, ◌+◌, ◌<◌, ◌⊎◌, true, false, Option, Some, None, refl, sym, ap, ◌∙◌, subst, arith, eq-eqb, ne_eqb}
-use Rattle.std.proofs.lemmas.Bool.{cases_eq, cases_Bool, false≢true}
+use Rattle.std.proofs.{Common.{if◌then◌else◌, ◌≡◌, ◌≢◌, ℕ, inl, inr, ◌+◌, ◌<◌, ◌⊎◌, true, false, Option, Some, None, refl, sym, ap, ◌∙◌, subst, arith, eq-eqb, ne_eqb}, lemmas.Bool.{cases_eq, cases_Bool, false≢true}}
 use Rattle.page_tables.specs.Tree.{IsPage}
-use Rattle.residency.proofs.Ways.{by_page}
-use Rattle.residency.proofs.Counts.{count-same, count-none, count-one, count-positive}
+use Rattle.residency.proofs.{Ways.{by_page, each_page}, Counts.{count-same, count-none, count-one, count-positive}}
 use Rattle.residency.specs.Seats.{Seat, InFrame, InSlot, seat, same_seat, is_seat, holders_at, off, AreCounted, OthersSame}
 
 pub cases_seat : (x y : Seat) → (x ≡ y) ⊎ (x ≢ y)
@@ -74,13 +72,8 @@ module _ (mode : ℕ) (old new : ℕ → ℕ → ℕ) (owned owned' : Seat → T
 
   still : (z : Seat) (p : ℕ) → z ≢ y → is_seat o z ≡ false → IsPage (top_level mode) p → holders_at new p z ≡ holders_at old p z
   unfolding holders_at
-  still z p ne none h' = count-same (λ q. is_seat (seat (new q p)) z) (λ q. is_seat (seat (old q p)) z) 65 (λ q. elim (by_page q p pid k) [
-    | inl e ↦ (
-        let P : ℕ → Type 0 = λ a. is_seat (seat (new a p)) z ≡ is_seat (seat (old a p)) z in
-        let Q : ℕ → Type 0 = λ a. is_seat (seat (new pid a)) z ≡ is_seat (seat (old pid a)) z in
-        subst P (sym e.0) (subst Q (sym e.1) (sits_not (seat (new pid k)) y z to (λ e. ne (sym e)) ∙ sym (was_at z ∙ none))))
-    | inr away ↦ ap (λ e. is_seat (seat e) z) (others q p h' away)
-  ])
+  still z p ne none h' = count-same (λ q. is_seat (seat (new q p)) z) (λ q. is_seat (seat (old q p)) z) 65 (λ q. each_page (λ a b. is_seat (seat (new a b)) z ≡ is_seat (seat (old a b)) z) q p pid k
+      (sits_not (seat (new pid k)) y z to (λ e. ne (sym e)) ∙ sym (was_at z ∙ none)) (λ away. ap (λ e. is_seat (seat e) z) (others q p h' away)))
 
   now_at : (q p : ℕ) (z : Seat) → (q ≡ pid) × (p ≡ k) → seat (new q p) ≡ Some z → y ≡ z
   now_at q p z e is = some_seat y z (sym to ∙ ap seat (sym (ap (λ v. new v p) e.0 ∙ ap (λ v. new pid v) e.1)) ∙ is)
@@ -113,7 +106,7 @@ module _ (mode : ℕ) (old new : ℕ → ℕ → ℕ) (owned owned' : Seat → T
             ])
       ]
 
-  counted_put : AreCounted mode new owned' count' page' x d
+  pub counted_put : AreCounted mode new owned' count' page' x d
   counted_put = record {
     counts = λ z now. (let was = back z now in let c = counts z was in let here = counts_here z was in rw (pages z was) (omega (arith, c, here)));
     pages = λ z now. (let was = back z now in let P : ℕ → Type 0 = λ v. IsPage (top_level mode) v in subst P (sym (pages z was)) (counted.pages z was));
@@ -128,15 +121,6 @@ module _ (mode : ℕ) (old new : ℕ → ℕ → ℕ) (owned owned' : Seat → T
           pages z (counted.named q p z h' was) ∙ counted.noted q p z h' was)
     ];
   }
-
--- it named seat x before, whose count was right
-module _ (mode : ℕ) (old new : ℕ → ℕ → ℕ) (owned owned' : Seat → Type 0) (count count' page page' : Seat → ℕ) (x y : Seat) (pid k : ℕ)
-    (counted : AreCounted mode old owned count page y 1) (forth : (z : Seat) → owned z → owned' z) (back : (z : Seat) → owned' z → owned z)
-    (counts : (z : Seat) → owned z → count' z ≡ count z) (pages : (z : Seat) → owned z → page' z ≡ page z)
-    (has : owned y) (noted : page y ≡ k) (h : IsPage (top_level mode) k) (below : pid < 65) (from : seat (old pid k) ≡ Some x) (to : seat (new pid k) ≡ Some y) (apart : x ≢ y)
-    (others : OthersSame mode old new pid k) where
-  pub counted_moved : AreCounted mode new owned' count' page' x 1
-  counted_moved = counted_put mode old new owned owned' count count' page page' (Some x) x y 1 pid k counted forth back counts pages has noted h below from to (seat-other x y apart) others (λ z. refl)
 
 -- it named none before
 module _ (mode : ℕ) (old new : ℕ → ℕ → ℕ) (owned owned' : Seat → Type 0) (count count' page page' : Seat → ℕ) (y : Seat) (pid k : ℕ)
@@ -160,10 +144,7 @@ off-none x y = elim (cases_seat x y) [
 
 by_one : (x z : Seat) (n n' : Seat → ℕ) → n' x ≡ n x + 1 → (z ≢ x → n' z ≡ n z) → n' z ≡ n z + off x 1 z
 by_one x z n n' more same = elim (cases_seat z x) [
-  | inl e ↦ (
-      let P : Seat → Type 0 = λ v. n' v ≡ n v + off x 1 v in
-      let here = off-here x 1 in
-      subst P (sym e) (omega (arith, more, here)))
+  | inl e ↦ (let here = off-here x 1 in rw e (omega (arith, more, here)))
   | inr ne ↦ (let s = same ne in let none = off-other x 1 z (λ e. ne (sym e)) in omega (arith, s, none))
 ]
 
@@ -213,8 +194,7 @@ module _ (mode : ℕ) (old new : ℕ → ℕ → ℕ) (owned owned' : Seat → T
           | inl e ↦ (
               let none : holders_at new (page' x) x ≡ 0 = unnamed x x' 0 counted fresh (page' x) (let P : ℕ → Type 0 = λ v. IsPage (top_level mode) v in subst P (sym noted) h) in
               let here = off-here x 1 in
-              let P : Seat → Type 0 = λ v. count' v ≡ holders_at new (page' v) v + off x 1 v in
-              subst P (sym e) (omega (arith, one, none, here)))
+              rw e (omega (arith, one, none, here)))
           | inr ne ↦ (
               let was = back z ne now in
               let here = counted.counts z was in
@@ -261,9 +241,7 @@ module _ (mode : ℕ) (old new : ℕ → ℕ → ℕ) (owned owned' : Seat → T
       (λ q p z h is. (
       let has = counted.named q p z h is in
       elim (cases_seat z x) [
-        | inl e ↦ (
-            let P : Seat → Type 0 = λ v. 1 < count v in
-            forth z (inr (subst P (sym e) (not_alone x counted q p h (below q p z h is) (is ∙ ap (λ v. Some v) e)))) has)
+        | inl e ↦ forth z (inr (rw e (not_alone x counted q p h (below q p z h is) (is ∙ ap (λ v. Some v) e)))) has
         | inr ne ↦ forth z (inl ne) has
       ]))
 

@@ -1,34 +1,17 @@
 -- One page's entry set, and what is seen then.
 use Rattle.vm_types.proofs.Modes.{user_pages_fit}
-use Rattle.vm_types.specs.Limits.{top_level}
-use Rattle.std.proofs.Common.{◌≡◌, ◌≢◌, ℕ, inl, inr, ◌⊎◌, ◌<◌, true, false, List, Option, Some, None, refl, sym, ap, ◌∙◌, subst, arith}
-use Rattle.std.specs.Prelude.{option_map}
-use Rattle.vm_types.specs.declared.object.PageKey.{PageKey}
-use Rattle.frames.specs.declared.role.Role.{Role}
-use Rattle.frames.specs.declared.role.Role.TheVariants.{Table, Private, Cache}
-use Rattle.frames.specs.FrameTable.{FrameTable, bytes_of, role_of, with_bytes}
+use Rattle.vm_types.specs.{Limits.{top_level}, declared.object.PageKey.{PageKey}}
+use Rattle.std.proofs.Common.{◌≡◌, ◌≢◌, ℕ, inl, inr, ◌⊎◌, ◌<◌, true, false, List, Some, None, refl, sym, ap, ◌∙◌, subst, arith}
+use Rattle.frames.specs.{declared.role.Role.{Role}, declared.role.Role.TheVariants.{Table, Private, Cache}, FrameTable.{FrameTable, bytes_of, role_of, with_bytes}}
 use Rattle.frames.proofs.FrameLemmas.{with_bytes-others}
 use Rattle.sv39_walk.specs.Entry.{is_valid, is_dirty, frame_of}
 use Rattle.page_tables.specs.Tree.{IsPage}
 use Rattle.page_tables.proofs.Data.{KeepsTrees, data_written}
-use Rattle.page_cache.specs.declared.place.Place.{Place}
-use Rattle.page_cache.specs.declared.place.Place.TheVariants.{Home, Frame, Slot}
-use Rattle.residency.specs.Seats.{Seat, seat, is_private}
-use Rattle.residency.specs.Picture.{Picture, entry, view, held, bytes_at, bytes_in, IsOwned, count_in, page_in}
-use Rattle.residency.specs.Parts.{IsRootedBut, IsGranting, IsEntryFor, IsFitBut, nowhere}
+use Rattle.page_cache.specs.{declared.place.Place.{Place}, declared.place.Place.TheVariants.{Home, Frame, Slot}}
+use Rattle.residency.specs.{Seats.{Seat, seat, is_private}, Picture.{Picture, entry, view, held, bytes_at, bytes_in, IsOwned, count_in, page_in}, Parts.{IsRootedBut, IsGranting, IsEntryFor, IsFitBut, nowhere}}
 use Rattle.residency.specs.Steps.{SameBeside, KeepsShares, SetsPage}
-use Rattle.residency.proofs.Entries.{entries_kept}
-use Rattle.residency.proofs.Linked.{fit_same}
-use Rattle.residency.proofs.Moves.{cases_attr, owned_forth, owned_back, count_kept, page_kept, view_kept, view-none, counted_kept, bytes_same, set_by}
-use Rattle.residency.proofs.Rooted.{rooted_same}
-use Rattle.residency.proofs.Seats.{counted_filled, off-none}
-use Rattle.residency.proofs.Ways.{by_page}
-
--- a page whose own copy lies in the same seat, with the same bytes, is seen as before
-own_kept : {mode : ℕ} (old new : Picture mode) (o o' : Option Seat) → o' ≡ o → ((z : Seat) → o ≡ Some z → bytes_in new.frames new.slots z ≡ bytes_in old.frames old.slots z)
-    → option_map (bytes_in new.frames new.slots) o' ≡ option_map (bytes_in old.frames old.slots) o
-own_kept old new None o' e each = ap (λ x. option_map (bytes_in new.frames new.slots) x) e
-own_kept old new (Some z) o' e each = ap (λ x. option_map (bytes_in new.frames new.slots) x) e ∙ ap (λ b. Some b) (each z refl)
+use Rattle.residency.proofs.{Entries.{entries_kept}, Linked.{fit_same}, Moves.{cases_attr, own_kept, owned_forth, owned_back, count_kept, page_kept, view_kept, view-none, counted_kept, bytes_same, set_by}, Rooted.{rooted_same}}
+use Rattle.residency.proofs.{Seats.{counted_filled, off-none}, Ways.{each_page}}
 
 pub view_seated : {mode : ℕ} (old new : Picture mode) (q p : ℕ) → new.at q p ≡ old.at q p → seat (entry new q p) ≡ seat (entry old q p)
     → ((z : Seat) → seat (entry old q p) ≡ Some z → bytes_in new.frames new.slots z ≡ bytes_in old.frames old.slots z) → view new q p ≡ view old q p
@@ -67,13 +50,7 @@ module _ {mode : ℕ} (old new : Picture mode) (pid page number m : ℕ) (sets :
   -- it names the seat that it named, or none as before
   module _ (same : seat number ≡ seat (entry old pid page)) where
     pub seats_set : (q p : ℕ) → IsPage (top_level mode) p → seat (entry new q p) ≡ seat (entry old q p)
-    seats_set q p h' = elim (by_page q p pid page) [
-      | inl e ↦ (
-          let P : ℕ → Type 0 = λ x. seat (entry new x p) ≡ seat (entry old x p) in
-          let Q : ℕ → Type 0 = λ x. seat (entry new pid x) ≡ seat (entry old pid x) in
-          subst P (sym e.0) (subst Q (sym e.1) (ap seat sets.changed ∙ same)))
-      | inr other ↦ ap seat (sets.others q p h' other)
-    ]
+    seats_set q p h' = each_page (λ x y. seat (entry new x y) ≡ seat (entry old x y)) q p pid page (ap seat sets.changed ∙ same) (λ other. ap seat (sets.others q p h' other))
 
     pub fit_set : (x : Seat) (d : ℕ) → IsFitBut old x d m → IsFitBut new x d m
     fit_set x d fit = set_by old new pid page number m sets for rooted dirty x x d d fit
@@ -99,14 +76,8 @@ module _ {mode : ℕ} (old new : Picture mode) (pid page number m : ℕ) (x : Se
       (λ z is. seat_bytes z (fit.counted.1.named q p z h is)))
 
   pub set_views : IsPage (top_level mode) page → seat number ≡ seat (entry old pid page) → (q p : ℕ) → view new q p ≡ view old q p
-  set_views h same q p = elim (by_page q p pid page) [
-    | inl e ↦ (
-        let P : ℕ → Type 0 = λ a. view new a p ≡ view old a p in
-        let Q : ℕ → Type 0 = λ a. view new pid a ≡ view old pid a in
-        subst P (sym e.0) (subst Q (sym e.1) (view_seated old new pid page (sets.beside.at pid page) (ap seat sets.changed ∙ same)
-        (λ z is. seat_bytes z (fit.counted.1.named pid page z h is)))))
-    | inr other ↦ other_views q p other
-  ]
+  set_views h same q p = each_page (λ a b. view new a b ≡ view old a b) q p pid page
+      (view_seated old new pid page (sets.beside.at pid page) (ap seat sets.changed ∙ same) (λ z is. seat_bytes z (fit.counted.1.named pid page z h is))) (other_views q p)
 
   pub set_held : (p : PageKey) → held new p ≡ held old p
   set_held p = held_same old new p (sets.beside.place p) sets.beside.slots

@@ -1,16 +1,9 @@
 -- Where no frame is to be had, memory is full of tables.
-use Rattle.std.proofs.Common.{◌≡◌, ℕ, zero, suc, inl, inr, ◌+◌, ◌<◌, ◌≤◌, Bool, true, false, ◌||◌, ◌==◌, Option, Some, None, refl, ap, arith, eq-eqb, ne_eqb}
-use Rattle.std.proofs.lemmas.Bool.{cases_eq, cases_Bool, or_left, or_right}
-use Rattle.vm_types.specs.declared.number.FrameNo.{FrameNo}
-use Rattle.vm_types.specs.declared.refusal.Stall.TheVariants.{NoFrames}
-use Rattle.vm_types.specs.Counting.{count_below}
-use Rattle.frames.specs.declared.role.Role.{Role}
-use Rattle.frames.specs.declared.role.Role.TheVariants.{Free, Zero, Table, Private, Cache}
-use Rattle.frames.specs.FrameTable.{FrameTable, frame_count, role_of, IsFrame, IsSound}
-use Rattle.residency.specs.Picture.{Picture, is_data}
-use Rattle.residency.specs.Calls.{IsToKeep, Refuses}
-use Rattle.residency.specs.Capacity.{is_table, table_frames}
-use Rattle.residency.proofs.Counts.{count-all}
+use Rattle.std.proofs.{Common.{◌≡◌, ℕ, zero, suc, inl, inr, ◌+◌, ◌≤◌, Bool, true, false, ◌||◌, ◌==◌, Option, Some, None, refl, ap, arith, eq-eqb, ne_eqb}, lemmas.Bool.{cases_eq, cases_lt, cases_Bool, or_left, or_right}}
+use Rattle.vm_types.specs.{declared.number.FrameNo.{FrameNo}, declared.refusal.Stall.TheVariants.{NoFrames}, Counting.{count_below}}
+use Rattle.frames.specs.{declared.role.Role.{Role}, declared.role.Role.TheVariants.{Free, Zero, Table, Private, Cache}, FrameTable.{FrameTable, frame_count, role_of, IsFrame, IsSound}}
+use Rattle.residency.specs.{Picture.{Picture, is_data}, Calls.{IsToKeep, Refuses}, Capacity.{is_table, table_frames}}
+use Rattle.residency.proofs.Counts.{count-all, count-none, count-one, count-kept}
 
 count-or : (f g : ℕ → Bool) (n : ℕ) → count_below (λ k. f k || g k) n ≤ count_below f n + count_below g n
 unfolding count_below
@@ -23,18 +16,13 @@ count-or f g (suc n) = let rest = count-or f g n in elim (cases_Bool (f n)) [
   ]
 ]
 
-count-before : (x n : ℕ) → n ≤ x → count_below (λ k. k == x) n ≡ 0
-unfolding count_below
-count-before x zero le = refl
-count-before x (suc n) le = let rest = count-before x n (omega (arith, le)) in rw (ne_eqb n x (λ e. (omega (arith, e, le)))) (omega (arith, rest))
-
 count-point : (x n : ℕ) → count_below (λ k. k == x) n ≤ 1
-unfolding count_below
-count-point x zero = omega arith
-count-point x (suc n) = elim (cases_eq n x) [
-  | inl e ↦ (let none = count-before x n (omega (arith, e)) in rw (eq-eqb n x e) (omega (arith, none)))
-  | inr ne ↦ (let rest = count-point x n in rw (ne_eqb n x ne) (omega (arith, rest)))
-]
+count-point x n =
+    let none = count-none (λ k. false) n (λ k. refl) in
+    elim (cases_lt x n) [
+      | inl lt ↦ (let one = count-one (λ k. k == x) (λ k. false) x n lt (eq-eqb x x refl) refl (λ k ne. ne_eqb k x ne) in omega (arith, one, none))
+      | inr le ↦ (let same = count-kept (λ k. k == x) (λ k. false) x x refl (λ k ne. ne_eqb k x ne) n (omega (arith, le)) in omega (arith, same, none))
+    ]
 
 abbrev kept_number : Option FrameNo → ℕ
 kept_number None = 0

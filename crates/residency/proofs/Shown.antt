@@ -1,12 +1,7 @@
 -- A state that memory shows is shown after frames were given up.
-use Rattle.std.proofs.Common.{ℕ, ◌≡◌, inl, inr, Some, None, is_some, refl, sym, ap, ◌∙◌}
-use Rattle.std.proofs.lemmas.Bool.{cases_Bool, false≢true}
-use Rattle.vm_types.specs.declared.object.ObjectPage.{ObjectPage}
-use Rattle.vm_types.specs.declared.object.PageKey.TheVariants.{File, Object}
-use Rattle.vm_types.specs.State.{State}
-use Rattle.residency.specs.Picture.{Picture}
-use Rattle.residency.specs.Calls.{KeepsPages}
-use Rattle.residency.specs.Shows.{ShowsPages, KeepsFiles, object_bytes}
+use Rattle.std.proofs.{Common.{ℕ, ◌≡◌, inl, inr, Some, None, is_some, refl, sym, ap, ◌∙◌}, lemmas.Bool.{cases_Bool, false≢true}}
+use Rattle.vm_types.specs.{declared.object.ObjectPage.{ObjectPage}, declared.object.PageKey.TheVariants.{File, Object}, State.{State}}
+use Rattle.residency.specs.{Picture.{Picture}, Calls.{KeepsPages}, Shows.{ShowsPages, KeepsFiles, object_bytes}}
 
 pub object-kept : {mode : ℕ} (old new : Picture mode) (p : ObjectPage) → KeepsFiles old new → object_bytes new p ≡ object_bytes old p
 object-kept old new p keeps = elim (cases_Bool (old.touched (Object p))) [

@@ -1,63 +1,39 @@
 -- A slot loses a share, after an entry was moved away from it.
-use Rattle.std.proofs.Common.{◌≡◌, ◌≢◌, ℕ, inl, inr, ◌⊎◌, ◌+◌, ◌<◌, refl, sym, ap, ◌∙◌, subst, arith}
-use Rattle.std.proofs.lemmas.Bool.{cases_eq}
+use Rattle.std.proofs.{Common.{◌≡◌, ◌≢◌, ℕ, inl, inr, ◌⊎◌, ◌+◌, ◌<◌, refl, sym, ap, ◌∙◌, subst, arith}, lemmas.Bool.{cases_eq}}
 use Rattle.vm_types.specs.declared.object.PageKey.{PageKey}
-use Rattle.frames.specs.FrameTable.{role_of, count_of}
 use Rattle.swap.specs.Slots.{ReleasesSlot}
 use Rattle.page_cache.specs.declared.place.Place.TheVariants.{Slot}
-use Rattle.residency.specs.Seats.{Seat, InFrame, InSlot, seat}
-use Rattle.residency.specs.Picture.{Picture, entry, IsOwned, count_in, page_in}
-use Rattle.residency.specs.Parts.{IsFitBut, nowhere}
-use Rattle.residency.proofs.Seats.{counted_released}
-use Rattle.residency.proofs.Puts.{SameButSlots, fit_slots}
-use Rattle.residency.proofs.Evicted.{seat_number}
+use Rattle.residency.specs.{Seats.{Seat, InSlot, seat}, Picture.{Picture, entry, IsOwned, count_in, page_in}, Parts.{IsFitBut, nowhere}}
+use Rattle.residency.proofs.{Seats.{counted_released}, Puts.{SameButSlots, slots_forth, slots_back, slots_counts, slots_pages, fit_slots}, Evicted.{seat_number}}
 
 module _ {mode : ℕ} (old new : Picture mode) (k m : ℕ) (fit : IsFitBut old (InSlot k) 1 m) (has : IsOwned old (InSlot k)) (same : SameButSlots old new) (releases : ReleasesSlot old.slots new.slots k) where
   no_file : (p : PageKey) (j : ℕ) → j ≡ k → old.place p ≡ Slot (record { 0 = j }) → ⊥
   no_file p j is e = has.1 p (e ∙ ap (λ i. Slot (record { 0 = i })) is)
 
-  slot_ne : (j : ℕ) → InSlot j ≢ InSlot k → j ≢ k
-  slot_ne j ne e = ne (ap (λ i. InSlot i) e)
-
   more : (j : ℕ) → j ≡ k → new.slots.count j + 1 ≡ old.slots.count j
   more j is = let P : ℕ → Type 0 = λ i. new.slots.count i + 1 ≡ old.slots.count i in subst P (sym is) releases.lowered
 
   forth : (z : Seat) → (z ≢ InSlot k) ⊎ (1 < count_in old z) → IsOwned old z → IsOwned new z
-  forth (InFrame n) why is = ap (λ t. role_of t n) same.frames ∙ is
-  forth (InSlot j) why is = (
-    elim (cases_eq j k) [
-      | inl e ↦ elim why [
-        | inl ne ↦ absurd (slot_ne j ne e)
-        | inr some ↦ (let less = more j e in omega (arith, less, some))
-      ]
-      | inr ne ↦ (let c = releases.others.counts j ne in let some = is.0 in omega (arith, c, some))
-    ],
-    λ p e. is.1 p (sym (same.place p) ∙ e),
-  )
+  forth z why = slots_forth old new same z (λ j is used. elim (cases_eq j k) [
+    | inl e ↦ elim why [
+      | inl ne ↦ absurd (ne (is ∙ ap (λ i. InSlot i) e))
+      | inr some ↦ (let less = more j e in let c = ap (count_in old) is in omega (arith, less, some, c))
+    ]
+    | inr ne ↦ (let c = releases.others.counts j ne in omega (arith, c, used))
+  ])
 
   back : (z : Seat) → IsOwned new z → IsOwned old z
-  back (InFrame n) is = sym (ap (λ t. role_of t n) same.frames) ∙ is
-  back (InSlot j) is = (
-    elim (cases_eq j k) [
-      | inl e ↦ (let less = more j e in omega (arith, less))
-      | inr ne ↦ (let c = releases.others.counts j ne in let some = is.0 in omega (arith, c, some))
-    ],
-    λ p e. is.1 p (same.place p ∙ e),
-  )
-
-  counts : (z : Seat) → z ≢ InSlot k → IsOwned old z → count_in new z ≡ count_in old z
-  counts (InFrame n) ne is = ap (λ t. count_of t n) same.frames
-  counts (InSlot j) ne is = releases.others.counts j (slot_ne j ne)
-
-  pages : (z : Seat) → IsOwned old z → page_in new fit.counted.0 z ≡ page_in old fit.counted.0 z
-  pages (InFrame n) is = same.page_of n
-  pages (InSlot j) is = refl
+  back z = slots_back old new same z (λ j is used. elim (cases_eq j k) [
+    | inl e ↦ (let less = more j e in omega (arith, less))
+    | inr ne ↦ (let c = releases.others.counts j ne in omega (arith, c, used))
+  ])
 
   pub fit_slot_released : IsFitBut new nowhere 0 m
   fit_slot_released = fit_slots old new (InSlot k) nowhere 1 0 m fit same (
     fit.counted.0,
     counted_released mode (entry old) (entry new) (IsOwned old) (IsOwned new) (count_in old) (count_in new)
-        (page_in old fit.counted.0) (page_in new fit.counted.0) (λ q p h. ap seat (same.entries q p)) (InSlot k) nowhere fit.counted.1 has forth back counts pages releases.lowered
+        (page_in old fit.counted.0) (page_in new fit.counted.0) (λ q p h. ap seat (same.entries q p)) (InSlot k) nowhere fit.counted.1 has forth back
+        (λ z ne own. slots_counts old new same z (λ j is. releases.others.counts j (λ e. ne (is ∙ ap (λ i. InSlot i) e)))) (λ z own. slots_pages old new same fit.counted.0 fit.counted.0 z (λ j is. refl)) releases.lowered
         (λ q p z h is. seat_number old m q p z fit.rooted is),
   )
       (λ p j there. releases.others.counts j (λ is. no_file p j is there))

@@ -1,40 +1,19 @@
 -- Steps of an eviction, one after another.
-use Rattle.vm_types.specs.Limits.{top_level}
-use Rattle.std.proofs.Common.{◌≡◌, ◌≢◌, ℕ, ◌<◌, inl, inr, ◌⊎◌, true, Option, Some, get_or, length, refl, sym, ap, ◌∙◌, subst, arith}
-use Rattle.std.proofs.lemmas.Bool.{cases_eq, false≢true}
-use Rattle.vm_types.specs.declared.number.FrameNo.{FrameNo}
-use Rattle.frames.specs.declared.role.Role.{Role}
-use Rattle.frames.specs.declared.role.Role.TheVariants.{Free, Table, Cache}
-use Rattle.frames.specs.FrameTable.{role_of}
+use Rattle.vm_types.specs.{Limits.{top_level}, declared.number.FrameNo.{FrameNo}}
+use Rattle.std.proofs.{Common.{◌≡◌, ◌≢◌, ℕ, ◌<◌, inl, inr, ◌⊎◌, true, Option, get_or, length, refl, sym, ap, ◌∙◌, subst, arith}, lemmas.Bool.{cases_eq, false≢true}, lemmas.List.{get_or_past}}
+use Rattle.frames.specs.{declared.role.Role.TheVariants.{Free, Table, Cache}, FrameTable.{role_of}}
 use Rattle.sv39_walk.specs.Entry.{frame_of}
-use Rattle.std.proofs.lemmas.List.{get_or_past}
-use Rattle.swap.specs.declared.slots.Swap.{Swap}
-use Rattle.swap.specs.Slots.{IsInUse, slots_of}
+use Rattle.swap.specs.{declared.slots.Swap.{Swap}, Slots.{IsInUse, slots_of}}
 use Rattle.page_cache.specs.declared.place.Place.TheVariants.{Home, Frame, Slot}
 use Rattle.page_tables.specs.Tree.{IsPage, missing_of, last_table}
 use Rattle.page_tables.proofs.Ends.{missing_of-is}
-use Rattle.residency.specs.declared.leaves.Change.{Change}
-use Rattle.residency.specs.declared.leaves.Change.TheVariants.{Forget, ClearAccessed}
-use Rattle.residency.specs.Seats.{is_swapped}
-use Rattle.residency.specs.Picture.{Picture, entry, held, is_data}
-use Rattle.residency.specs.Parts.{IsFit}
-use Rattle.residency.specs.Ages.{Ages, Same, Cleared, Left}
-use Rattle.residency.specs.Calls.{Frees, KeepsPages, IsToKeep, IsStaying}
-use Rattle.residency.specs.Evictions.{Spares, GivesUp}
-use Rattle.residency.specs.Leaves.{ChangesLeaves, IsChanged, IsOver}
-use Rattle.residency.proofs.Aging.{ages_then}
-use Rattle.residency.proofs.Bits.{some_framed}
-use Rattle.residency.proofs.LeafSteps.{over_common}
-use Rattle.residency.proofs.Places.{one_frame}
-use Rattle.residency.proofs.Shown.{keeps_then}
-use Rattle.residency.proofs.Setting.{held_same}
-
-no_data : (r : Role) → r ≡ Free → is_data r ≡ true → ⊥
-no_data r free datum = false≢true (sym (ap is_data free) ∙ datum)
+use Rattle.residency.specs.{declared.leaves.Change.{Change}, declared.leaves.Change.TheVariants.{Forget, ClearAccessed}, Seats.{is_swapped}, Picture.{Picture, entry, is_data}, Parts.{IsFit}, Ages.{Ages, Same, Cleared, Left}}
+use Rattle.residency.specs.{Calls.{Frees, KeepsPages, IsToKeep, IsStaying}, Evictions.{Spares, GivesUp}, Leaves.{ChangesLeaves, IsChanged, IsOver}}
+use Rattle.residency.proofs.{Aging.{ages_then}, Bits.{some_framed}, LeafSteps.{over_common}, Places.{one_frame}, Shown.{keeps_then}, Setting.{held_same}}
 
 stays_free : {mode : ℕ} (v : ℕ) (a b : Picture mode) → (role_of b.frames v ≡ role_of a.frames v) ⊎ ((role_of b.frames v ≡ Free) × (is_data (role_of a.frames v) ≡ true)) → is_data (role_of b.frames v) ≡ true → role_of b.frames v ≡ role_of a.frames v
 stays_free v a b (inl same) datum = same
-stays_free v a b (inr gone) datum = absurd (no_data (role_of b.frames v) gone.0 datum)
+stays_free v a b (inr gone) datum = absurd (false≢true (sym (ap is_data gone.0) ∙ datum))
 
 module _ {mode : ℕ} where
   pub missing_ends : (old new : Picture mode) (r page : ℕ) → last_table new.frames page (top_level mode) r ≡ last_table old.frames page (top_level mode) r → missing_of new.frames (top_level mode) r page ≡ missing_of old.frames (top_level mode) r page

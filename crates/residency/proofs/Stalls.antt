@@ -1,43 +1,20 @@
 -- Why no frame was to be had, told by what processes see and files are touched.
-use Rattle.vm_types.specs.Limits.{user_end, object_limit}
-use Rattle.std.proofs.Common.{◌≡◌, ◌≢◌, ℕ, inl, inr, ◌*◌, ◌^◌, ◌<◌, ◌≤◌, true, Option, Some, None, is_some, length, List, refl, sym, ap, ◌∙◌, subst, arith}
+use Rattle.vm_types.specs.{Limits.{user_end, object_limit}, declared.number.FrameNo.{FrameNo}, Attributes.{backing_fits}, Objects.{names, uses, is_object_page, is_of_object}, declared.object.ObjectPage.{ObjectPage}}
+use Rattle.vm_types.specs.{declared.object.PageKey.TheVariants.{File, Object}, declared.region.Attr.{Attr}, declared.region.Backing.{Backing}, declared.refusal.Stall.{Stall}}
+use Rattle.vm_types.specs.{declared.refusal.Stall.TheVariants.{NoFrames, NoSwap, SwapDevice, StoreDevice}, Capacity.{has_own, object_page_limit}}
+use Rattle.std.proofs.{Common.{◌≡◌, ◌≢◌, ℕ, inl, inr, ◌^◌, ◌<◌, ◌≤◌, true, Option, Some, None, is_some, List, refl, sym, ap, ◌∙◌, subst, arith}, lemmas.Bool.{and_parts, eqb-true, false≢true}}
 use Rattle.std.specs.Prelude.{option_map, IfSome, ◌==◌}
-use Rattle.std.proofs.lemmas.Bool.{cases_lt, and_parts, eqb-true, false≢true}
-use Rattle.std.proofs.lemmas.List.{get_or_past}
-use Rattle.vm_types.specs.declared.number.FrameNo.{FrameNo}
-use Rattle.vm_types.specs.Attributes.{backing_fits}
-use Rattle.vm_types.specs.Objects.{names, uses, is_object_page, is_of_object}
-use Rattle.vm_types.specs.declared.object.ObjectPage.{ObjectPage}
-use Rattle.vm_types.specs.declared.object.PageKey.TheVariants.{File, Object}
-use Rattle.vm_types.specs.declared.region.Attr.{Attr}
-use Rattle.vm_types.specs.declared.region.Backing.{Backing}
 use Rattle.vm_types.specs.declared.region.Backing.TheVariants.{Anon, Private as PrivateOf, Shared as SharedOf, Common as CommonOf}
 use Rattle.page_cache.specs.declared.place.Place.TheVariants.{Home}
-use Rattle.vm_types.specs.declared.refusal.Stall.{Stall}
-use Rattle.vm_types.specs.declared.refusal.Stall.TheVariants.{NoFrames, NoSwap, SwapDevice, StoreDevice}
-use Rattle.vm_types.specs.Capacity.{has_own, object_page_limit}
 use Rattle.file_store.specs.Standing.{IsPageOf}
-use Rattle.frames.specs.declared.role.Role.{Role}
-use Rattle.frames.specs.declared.role.Role.TheVariants.{Free, Zero, Table, Private}
-use Rattle.frames.specs.FrameTable.{FrameTable, IsFrame, IsSound, IsCountFor, role_of, count_of}
-use Rattle.residency.specs.Seats.{Seat, seat}
-use Rattle.residency.specs.Picture.{Picture, entry, view, is_live, bytes_in, own_in, view_of}
-use Rattle.residency.specs.Parts.{IsFit, IsEntryFor, Nothing, Resident, Away, IsMapped, IsUsed, AsRoot, OnWay}
-use Rattle.residency.specs.Calls.{Refuses}
+use Rattle.frames.specs.{declared.role.Role.{Role}, declared.role.Role.TheVariants.{Free, Zero, Table, Private}, FrameTable.{IsSound, IsCountFor, role_of, count_of}}
+use Rattle.residency.specs.{Seats.{Seat, seat}, Picture.{Picture, entry, view, is_live, bytes_in, own_in, view_of}, Parts.{IsFit, IsEntryFor, Nothing, Resident, Away, IsMapped, IsUsed, AsRoot, OnWay}, Calls.{Refuses}}
 use Rattle.residency.specs.Capacity.{IsShort, table_frames, tables_over}
-use Rattle.residency.proofs.Start.{seat-none}
-use Rattle.residency.proofs.Short.{few_frames}
-use Rattle.residency.proofs.Tables.{tables_counted}
-use Rattle.residency.proofs.Held.{more_held}
-use Rattle.residency.proofs.Places.{named_by}
+use Rattle.residency.proofs.{Start.{seat-none}, Short.{few_frames}, Tables.{tables_counted}, Held.{more_held}, Places.{named_by}, Refusing.{used_inside}}
 
-some_at : (own : Option (List ℕ)) (o : Option Attr) → is_some (view_of own o) ≡ true → is_some o ≡ true
-some_at own None e = e
-some_at own (Some a) e = refl
-
-some_view : (own : Option (List ℕ)) (o : Option Attr) → is_some o ≡ true → is_some (view_of own o) ≡ true
-some_view own None e = e
-some_view own (Some a) e = refl
+some_same : (own : Option (List ℕ)) (o : Option Attr) → is_some (view_of own o) ≡ is_some o
+some_same own None = refl
+some_same own (Some a) = refl
 
 own_at : (own : Option (List ℕ)) (o : Option Attr) → has_own (view_of own o) ≡ true → is_some o ≡ true
 own_at own None e = e
@@ -45,12 +22,6 @@ own_at own (Some a) e = refl
 
 owns : (own : Option (List ℕ)) (o : Option Attr) (a : Attr) → o ≡ Some a → is_some own ≡ true → has_own (view_of own o) ≡ true
 owns own o a e some = rw e some
-
-used_inside : (t : FrameTable) (n : ℕ) → IsSound t → role_of t n ≢ Free → IsFrame t n
-used_inside t n sound used = elim (cases_lt n (length t.roles)) [
-  | inl low ↦ (let roles = sound.all_roles in omega (arith, low, roles))
-  | inr past ↦ absurd (used (get_or_past t.roles n Free past))
-]
 
 used_where : (a : Option Attr) (object page : ℕ) → names a object page ≡ true → uses a object ≡ true
 used_where None object page is = is
@@ -71,13 +42,9 @@ page_where (Some a) object page is fits = page_backing a.backing is fits where
   page_backing (CommonOf p) is fits = let same : p.page ≡ page = eqb-true p.page page (and_parts (p.object == object) (p.page == page) is).1 in omega (arith, same, fits)
 
 module _ {mode : ℕ} (c : Picture mode) (fit : IsFit c) (sound : IsSound c.frames) (few : (f k : ℕ) → IsPageOf c.files f k → (f < 64) × (k < 2 ^ 20)) where
-  mapped : (pid page : ℕ) → is_some (view c pid page) ≡ true → is_some (c.at pid page) ≡ true
+  seen : (pid page : ℕ) → is_some (view c pid page) ≡ is_some (c.at pid page)
   unfolding view
-  mapped pid page some = some_at (own_in c.frames c.slots (entry c pid page)) (c.at pid page) some
-
-  seen : (pid page : ℕ) → is_some (c.at pid page) ≡ true → is_some (view c pid page) ≡ true
-  unfolding view
-  seen pid page some = some_view (own_in c.frames c.slots (entry c pid page)) (c.at pid page) some
+  seen pid page = some_same (own_in c.frames c.slots (entry c pid page)) (c.at pid page)
 
   user : (pid page : ℕ) → is_some (c.at pid page) ≡ true → page < user_end mode
   user pid page some = ((fit.granting.user pid).user_pages page some).1
@@ -88,7 +55,7 @@ module _ {mode : ℕ} (c : Picture mode) (fit : IsFit c) (sound : IsSound c.fram
 
   used_too : (n : ℕ) → IsUsed c (IsMapped c) n → IsUsed c (λ pid page. is_some (view c pid page) ≡ true) n
   used_too n (AsRoot pid e) = AsRoot pid e
-  used_too n (OnWay pid r page e is way) = OnWay pid r page e (seen pid page is) way
+  used_too n (OnWay pid r page e is way) = OnWay pid r page e (seen pid page ∙ is) way
 
   used : (n : ℕ) → role_of c.frames n ≡ Table → IsUsed c (λ pid page. is_some (view c pid page) ≡ true) n
   used n table = elim (fit.rooted.used n (record { inside = used_inside c.frames n sound (λ free. (let bad : Table ≡ Free = sym table ∙ free in (cc))); role = table })) [
@@ -100,7 +67,7 @@ module _ {mode : ℕ} (c : Picture mode) (fit : IsFit c) (sound : IsSound c.fram
   number pid r e = let n = fit.rooted.numbers pid r e in omega (arith, n)
 
   counted : table_frames c.frames ≤ tables_over mode (is_live c) (view c)
-  counted = tables_counted c (is_live c) (view c) number (λ pid r e. ap (λ o. is_some o) e) (λ pid page some. user pid page (mapped pid page some)) used
+  counted = tables_counted c (is_live c) (view c) number (λ pid r e. ap (λ o. is_some o) e) (λ pid page some. user pid page (sym (seen pid page) ∙ some)) used
 
   seated : (pid page : ℕ) (z : Seat) (e : ℕ) → seat e ≡ Some z → entry c pid page ≡ e → IsEntryFor c (c.at pid page) e → has_own (view c pid page) ≡ true
   unfolding view

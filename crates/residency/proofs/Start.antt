@@ -1,20 +1,12 @@
 -- Memory as it is made.
-use Rattle.std.proofs.Common.{◌≡◌, ◌≢◌, ℕ, inl, inr, ◌⊎◌, false, Option, Some, None, refl, sym, ap, ◌∙◌, subst, arith}
+use Rattle.std.proofs.{Common.{◌≡◌, ◌≢◌, ℕ, inl, inr, ◌⊎◌, false, Option, Some, None, refl, sym, ap, ◌∙◌, subst, arith}, lemmas.Bool.{cases_eq, cases_lt, false≢true}, lemmas.List.{get_or_past}}
 use Rattle.std.specs.Prelude.{IsSome}
-use Rattle.std.proofs.lemmas.Bool.{cases_eq, cases_lt, false≢true}
-use Rattle.std.proofs.lemmas.List.{get_or_past}
-use Rattle.vm_types.specs.Objects.{names, uses}
-use Rattle.vm_types.specs.declared.object.PageKey.{PageKey}
-use Rattle.vm_types.specs.declared.region.Attr.{Attr}
-use Rattle.frames.specs.declared.role.Role.TheVariants.{Free, Zero, Table, Private, Cache}
-use Rattle.frames.specs.FrameTable.{FrameTable, frame_count, role_of, IsSound, IsFresh}
+use Rattle.vm_types.specs.{Objects.{names, uses}, declared.object.PageKey.{PageKey}, declared.region.Attr.{Attr}}
+use Rattle.frames.specs.{declared.role.Role.TheVariants.{Free, Zero, Table, Private, Cache}, FrameTable.{FrameTable, frame_count, role_of, IsSound, IsFresh}, declared.role.Role.{Role}}
 use Rattle.sv39_walk.specs.Entry.{has_bit}
 use Rattle.page_tables.proofs.Keeping.{fresh_forest}
 use Rattle.page_cache.specs.declared.place.Place.TheVariants.{Home, Frame, Slot}
-use Rattle.residency.specs.Picture.{Picture, entry, is_private, entry_under, IsOwned}
-use Rattle.residency.specs.Seats.{Seat, InFrame, InSlot, seat}
-use Rattle.residency.specs.Parts.{IsFit, Nothing}
-use Rattle.frames.specs.declared.role.Role.{Role}
+use Rattle.residency.specs.{Picture.{Picture, entry, is_private, entry_under, IsOwned}, Seats.{Seat, InFrame, InSlot, seat}, Parts.{IsFit, Nothing}}
 
 pub no_bit : is_private 0 ≡ false
 unfolding has_bit
@@ -28,6 +20,10 @@ module _ {mode : ℕ} where
   pub entry-dead : (c : Picture mode) (pid page : ℕ) → c.root pid ≡ None → entry c pid page ≡ 0
   unfolding entry
   entry-dead c pid page dead = ap (λ r. entry_under mode c.frames r page) dead
+
+pub cases_some : (o : Option ℕ) → (o ≡ None) ⊎ ((r : ℕ) × (o ≡ Some r))
+cases_some None = inl refl
+cases_some (Some r) = inr (r, refl)
 
 -- the roles of memory of which no frame was handed out
 fresh_role : (t : FrameTable) (count n : ℕ) → IsSound t → IsFresh t count → (role_of t n ≡ Free) ⊎ (role_of t n ≡ Zero)

@@ -1,17 +1,11 @@
 -- Steps that change tables alone.
-use Rattle.vm_types.specs.Limits.{top_level}
+use Rattle.vm_types.specs.{Limits.{top_level}, declared.region.Attr.{Attr}}
 use Rattle.std.proofs.Common.{◌≡◌, ℕ, inl, inr, Some, Option, get_or, sym, ap, ◌∙◌, subst}
 use Rattle.std.specs.Prelude.{IsSome}
-use Rattle.vm_types.specs.declared.region.Attr.{Attr}
-use Rattle.frames.specs.declared.role.Role.TheVariants.{Free}
-use Rattle.frames.specs.FrameTable.{FrameTable, role_of}
-use Rattle.page_tables.specs.Change.{SetsEntry, KeepsFrames}
-use Rattle.page_tables.specs.Tree.{IsPage, IsTable}
-use Rattle.residency.specs.Picture.{Picture}
-use Rattle.residency.specs.Parts.{IsRootedBut, IsMapped}
-use Rattle.residency.specs.Steps.{SameBeside, KeepsShares, SetsPage}
-use Rattle.residency.proofs.Entries.{entry-of, entry-same}
-use Rattle.residency.proofs.Rooted.{used_kept}
+use Rattle.frames.specs.{declared.role.Role.TheVariants.{Free}, FrameTable.{FrameTable, role_of}}
+use Rattle.page_tables.specs.{Change.{SetsEntry, KeepsFrames}, Tree.{IsPage, IsTable}}
+use Rattle.residency.specs.{Picture.{Picture}, Parts.{IsRootedBut, IsMapped}, Steps.{SameBeside, KeepsShares, SetsPage}}
+use Rattle.residency.proofs.{Entries.{entry-of, entry-same}, Rooted.{used_kept, rooted_by}}
 
 -- a call that writes bytes of tables alone
 pub shares_kept : (old new : FrameTable) → KeepsFrames old new → KeepsShares old new
@@ -41,18 +35,11 @@ sets_page old new m pid r page number rooted root h sets beside = record {
 -- an entry set
 pub rooted_set : {mode : ℕ} (old new : Picture mode) (n root page number : ℕ) → IsRootedBut old n → SetsEntry old.frames new.frames (top_level mode) root page number
     → SameBeside old new → IsRootedBut new n
-rooted_set old new n root page number rooted sets beside =
-    let was : (pid r : ℕ) → new.root pid ≡ Some r → old.root pid ≡ Some r = λ pid r e. sym (beside.root pid) ∙ e in
-    record {
-      forest = sets.forest;
-      roots = λ pid r e. sets.roots r (rooted.roots pid r (was pid r e));
-      apart = λ p q r e f. rooted.apart p q r (was p r e) (was q r f);
-      numbers = λ pid r e. rooted.numbers pid r (was pid r e);
-      used = λ m is_table. (
-          let there : IsTable old.frames m = record { inside = rw (← sets.kept.frames) is_table.inside; role = ap (λ rs. get_or rs m Free) (sym sets.kept.roles) ∙ is_table.role } in
-          elim (rooted.used m there) [
-            | inl z ↦ inl z
-            | inr o ↦ inr (used_kept old new (IsMapped old) (IsMapped new) m (λ a i b p. (sets.pointers a i b).0 p) beside.root
-                (λ pid k some. (let P : Option Attr → Type 0 = λ x. IsSome x in subst P (sym (beside.at pid k)) some)) o)
-          ]);
-    }
+rooted_set old new n root page number rooted sets beside = rooted_by old new n n rooted beside.root sets.forest (λ pid r e. sets.roots r (rooted.roots pid r e))
+    (λ m is_table. (
+    let there : IsTable old.frames m = record { inside = rw (← sets.kept.frames) is_table.inside; role = ap (λ rs. get_or rs m Free) (sym sets.kept.roles) ∙ is_table.role } in
+    elim (rooted.used m there) [
+      | inl z ↦ inl z
+      | inr o ↦ inr (used_kept old new (IsMapped old) (IsMapped new) m (λ a i b p. (sets.pointers a i b).0 p) beside.root
+          (λ pid k some. (let P : Option Attr → Type 0 = λ x. IsSome x in subst P (sym (beside.at pid k)) some)) o)
+    ]))

@@ -1,24 +1,13 @@
 -- A frame taken for a process's own, and a frame given back that no entry names.
-use Rattle.vm_types.specs.Limits.{top_level}
-use Rattle.std.proofs.Common.{◌≡◌, ◌≢◌, ℕ, inl, inr, ◌<◌, refl, sym, ap, ◌∙◌, subst}
-use Rattle.std.proofs.lemmas.Bool.{cases_eq}
-use Rattle.vm_types.specs.declared.object.PageKey.{PageKey}
-use Rattle.frames.specs.declared.role.Role.TheVariants.{Free, Table, Private, Cache}
-use Rattle.frames.specs.FrameTable.{role_of, count_of}
+use Rattle.vm_types.specs.{Limits.{top_level}, declared.object.PageKey.{PageKey}}
+use Rattle.std.proofs.{Common.{◌≡◌, ◌≢◌, ℕ, inl, inr, ◌<◌, refl, sym, ap, ◌∙◌, subst}, lemmas.Bool.{cases_eq}}
+use Rattle.frames.specs.{declared.role.Role.TheVariants.{Free, Table, Private, Cache}, FrameTable.{role_of, count_of}}
 use Rattle.swap.specs.Slots.{SlotTable}
 use Rattle.sv39_walk.specs.Entry.{frame_of}
 use Rattle.page_tables.specs.Tree.{IsPage}
 use Rattle.page_tables.proofs.Data.{KeepsTrees, data_changed}
-use Rattle.residency.specs.Seats.{Seat, InFrame, InSlot, seat}
-use Rattle.residency.specs.Picture.{Picture, entry, view, held, bytes_in, IsOwned, count_in, page_in}
-use Rattle.residency.specs.Parts.{IsCountedBut, IsFit, IsFitBut, nowhere}
-use Rattle.residency.specs.Steps.{TakesOwn, ChangesFrame}
-use Rattle.residency.proofs.Entries.{entries_kept}
-use Rattle.residency.proofs.Granting.{granting_same}
-use Rattle.residency.proofs.Places.{places_same, dirty_same}
-use Rattle.residency.proofs.Rooted.{rooted_same}
-use Rattle.residency.proofs.Seats.{counted_same, counted_fresh}
-use Rattle.residency.proofs.Setting.{view_seated, each_view, held_same}
+use Rattle.residency.specs.{Seats.{Seat, InFrame, InSlot, seat}, Picture.{Picture, entry, view, held, IsOwned, count_in, page_in}, Parts.{IsCountedBut, IsFit, IsFitBut, nowhere}, Steps.{TakesOwn, ChangesFrame}}
+use Rattle.residency.proofs.{Entries.{entries_kept}, Granting.{granting_same}, Places.{places_same, dirty_same}, Rooted.{rooted_same}, Seats.{counted_fresh}, Setting.{view_seated, each_view, held_same}, Moves.{counted_on, bytes_same}}
 
 seat_frame : Seat → ℕ
 seat_frame (InFrame n) = n
@@ -53,13 +42,9 @@ module _ {mode : ℕ} (old new : Picture mode) (n : ℕ) (fit : IsFit old) (chan
   pub entries_changed : (q p : ℕ) → entry new q p ≡ entry old q p
   entries_changed = entries_kept old new 0 fit.rooted trees_changed.entries changes.root
 
-  seat_bytes : (z : Seat) → IsOwned old z → bytes_in new.frames new.slots z ≡ bytes_in old.frames old.slots z
-  seat_bytes (InFrame m) is = changes.frames.bytes m (private_ne m is)
-  seat_bytes (InSlot k) is = ap (λ t. t.bytes k) changes.slots
-
   pub views_changed : (q p : ℕ) → view new q p ≡ view old q p
   views_changed q p = each_view old new fit.granting changes.at q p (λ h. view_seated old new q p (changes.at q p) (ap seat (entries_changed q p))
-      (λ z is. seat_bytes z (fit.counted.1.named q p z h is)))
+      (λ z is. bytes_same old new changes.slots (λ m own. changes.frames.bytes m (private_ne m own)) z (fit.counted.1.named q p z h is)))
 
   pub held_changed : (p : PageKey) → held new p ≡ held old p
   held_changed p = held_same old new p (changes.place p) changes.slots (λ m at. changes.frames.bytes m (cache_ne m (fit.places.cached p m at)))
@@ -117,9 +102,5 @@ module _ {mode : ℕ} (old new : Picture mode) (n : ℕ) (fit : IsFit old) (chan
   pub fit_spent : role_of new.frames n ≡ Free → IsFit new
   fit_spent free =
       let not_owned : (z : Seat) → IsOwned new z → z ≢ InFrame n = λ z is e. (let owned = subst (IsOwned new) e is in let bad : Private ≡ Free = sym owned ∙ free in (cc)) in
-      fit_by nowhere 0 (λ c. (let bad : Free ≡ Cache = sym free ∙ c in (cc))) (
-        fit.counted.0,
-        counted_same mode (entry old) (entry new) (IsOwned old) (IsOwned new) (count_in old) (count_in new) (page_in old fit.counted.0) (page_in new fit.counted.0)
-            (λ q p h. ap seat (entries_changed q p)) nowhere 0 fit.counted.1 forth (λ z is. back z (not_owned z is) is)
-            (λ z is. counts z (owned_ne z is) is) (λ z is. pages z (owned_ne z is) is),
-      )
+      fit_by nowhere 0 (λ c. (let bad : Free ≡ Cache = sym free ∙ c in (cc)))
+      (counted_on old new nowhere 0 fit.counted (λ q p h. ap seat (entries_changed q p)) forth (λ z is. back z (not_owned z is) is) (λ z is. counts z (owned_ne z is) is) (λ z is. pages z (owned_ne z is) is))

@@ -1,6 +1,6 @@
 -- What asking for a frame comes to.
 use Rattle.vm_types.specs.declared.mode.Levels as Levels
-use Rattle.std.specs.Prelude.{◌≡◌, ◌≢◌, ◌⊎◌, ◌≤◌, ◌+◌, ◌*◌, ℕ, Option, None, Result, IfOk, IfErr, OnOk, OnErr}
+use Rattle.std.specs.Prelude.{◌≡◌, ◌≢◌, ◌⊎◌, ℕ, Option, None, Result, IfOk, IfErr, OnOk, OnErr}
 use Rattle.vm_types.specs.State.{State}
 use Rattle.vm_types.specs.View.{zero_page}
 use Rattle.vm_types.specs.declared.file.FilePage.{FilePage}
@@ -13,7 +13,7 @@ use Rattle.vm_types.specs.declared.refusal.Stall.TheVariants.{StoreDevice}
 use Rattle.disk_model.specs.declared.sector_disk.SectorDisk.{Ghosts}
 use Rattle.disk_model.specs.Moments.{AsksOnly, Nothing}
 use Rattle.file_store.specs.Store.{IsReadyStore, IsSectorOf}
-use Rattle.frames.specs.FrameTable.{frame_count, bytes_of, IsFull}
+use Rattle.frames.specs.FrameTable.{bytes_of, IsFull}
 use Rattle.swap.specs.Slots.{IsReady, IsSectorOfSlot}
 use Rattle.residency.specs.declared.kernel.Core.{Core}
 use Rattle.residency.specs.Picture.{picture_of}
@@ -24,6 +24,7 @@ use Rattle.residency.specs.Capacity.{IsShort}
 use Rattle.residency.specs.Reading.{IsRead, ReadsStore}
 use Rattle.residency.specs.Shows.{ShowsPages}
 use Rattle.residency.specs.Stalls.{HasReadCause, HasStallCause}
+use Rattle.residency.specs.Views.{ChoosesByClock, TurnsClock}
 
 module _ {M : Type 0} {m : Levels.Ghosts M} {D E : Type 0} where
   -- A page of a file or an object is wanted in a frame:
@@ -58,15 +59,17 @@ module _ {M : Type 0} {m : Levels.Ghosts M} {D E : Type 0} (h : Ghosts E) where
     -- the frame that is returned is free, and none but it was given up;
     pub free : IfOk result (λ n. IsFreeFrame new.frames n.0)
     pub gives : IfOk result (λ n. GivesFrame (picture_of old) (picture_of new) n.0)
-    -- memory is fit, no process and no file sees a change, each frame was looked at twice at most,
+    -- memory is fit, no process and no file sees a change,
     pub fit : IsFit (picture_of new)
     pub frees : Frees (picture_of old) (picture_of new) keep
     pub shows : (s : State) → ShowsPages (picture_of old) s → ShowsPages (picture_of new) s
     pub rest : KeepsRest old new
-    pub looks : new.looks.number ≤ old.looks.number + 2 * frame_count old.frames
     -- and nothing is done where one was free;
     pub idle : (IsFull old.frames → ⊥) → new ≡ old
     pub needed : IsFull old.frames ⊎ (new ≡ old)
+    -- else the clock chose it, which looked at each frame twice at most;
+    pub clock : TurnsClock old new keep result
+    pub open clock use *
     -- swap is asked for a free slot alone, where the frame's page has to be put into one;
     pub asked : AsksSwap h old new keep
     pub uses : UsesSwap old new Nothing result
@@ -79,9 +82,11 @@ module _ {M : Type 0} {m : Levels.Ghosts M} {D E : Type 0} (h : Ghosts E) where
     pub open refused use *
 
   -- A frame is obtained so, and put to use:
-  pub record SeeksFrame {T : Type 0} (old new : Core D E M m) (keep : Option FrameNo) (result : Result T Stall) : Type 0 where
+  pub record SeeksFrame (old new : Core D E M m) (keep : Option FrameNo) (result : Result FrameNo Stall) : Type 0 where
     -- all but memory and swap is as it was,
     pub rest : KeepsRest old new
+    -- the clock chose it, where none was free,
+    pub clock : ChoosesByClock old new keep result
     -- swap is asked for a free slot alone, where the page of a frame has to be put into one,
     pub asked : AsksSwap h old new keep
     pub uses : UsesSwap old new Nothing result
@@ -133,6 +138,8 @@ module _ {M : Type 0} {m : Levels.Ghosts M} {D E : Type 0} (h : Ghosts E) where
     pub comes : ComesIn old new page result
     pub open comes use *
     pub rest : KeepsRest old new
+    -- the clock chose the frame, where none was free,
+    pub clock : TurnsClock old new None result
     -- swap is asked for that slot, and for a free one, where the page of a frame has to be put into one,
     pub asked : AsksSwapAlso h old new None (IsSectorOfSlot slot.0)
     pub uses : UsesSwap old new (IsSectorOfSlot slot.0) result
@@ -149,6 +156,8 @@ module _ {M : Type 0} {m : Levels.Ghosts M} {D : Type 0} (g : Ghosts D) {E : Typ
     pub comes : ComesIn old new (File page) result
     pub open comes use *
     pub rest : KeepsBesideFiles old new
+    -- the clock chose the frame, where none was free,
+    pub clock : TurnsClock old new None result
     -- the store's device is asked for its sectors alone, and nothing is written,
     pub store : IsReadyStore g new.store
     pub asks : AsksOnly g (IsSectorOf old.store page) old.store.disk new.store.disk

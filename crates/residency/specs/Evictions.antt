@@ -1,6 +1,6 @@
 -- What the steps of an eviction leave.
 use Rattle.vm_types.specs.declared.mode.Levels as Levels
-use Rattle.std.specs.Prelude.{◌≡◌, ◌≢◌, ℕ, ◌+◌, ◌*◌, ◌<◌, ◌≤◌, ◌⊎◌, true, Some, Option, Result, IfOk, IfErr, OnOk, OnErr}
+use Rattle.std.specs.Prelude.{◌≡◌, ◌≢◌, ℕ, ◌+◌, ◌<◌, ◌≤◌, ◌⊎◌, true, Some, Option, Result, IfErr, OnOk, OnErr}
 use Rattle.vm_types.specs.Limits.{top_level}
 use Rattle.vm_types.specs.declared.object.PageKey.{PageKey}
 use Rattle.vm_types.specs.declared.number.FrameNo.{FrameNo}
@@ -10,7 +10,6 @@ use Rattle.disk_model.specs.declared.sector_disk.SectorDisk.{Ghosts}
 use Rattle.disk_model.specs.Moments.{AsksOnly, Nothing}
 use Rattle.frames.specs.declared.role.Role.TheVariants.{Free, Table, Private}
 use Rattle.frames.specs.FrameTable.{frame_count, bytes_of, role_of, count_of, IsFrame}
-use Rattle.frames.specs.FrameTable as Frames
 use Rattle.sv39_walk.specs.Entry.{frame_of}
 use Rattle.swap.specs.Slots.{slots_of, IsInUse, IsSwapFull, IsReady, IsSectorOfFreeSlot}
 use Rattle.page_cache.specs.declared.place.Place.TheVariants.{Frame}
@@ -20,7 +19,7 @@ use Rattle.residency.specs.declared.leaves.Change.TheVariants.{ClearAccessed}
 use Rattle.residency.specs.Seats.{InSlot, is_swapped}
 use Rattle.residency.specs.Picture.{Picture, picture_of, entry, IsOwned, is_data}
 use Rattle.residency.specs.Parts.{IsFit, IsFitBut}
-use Rattle.residency.specs.Calls.{AsksOneSlot, Frees, KeepsPages, IsSpareable, NeedsSlot, UsesDevice}
+use Rattle.residency.specs.Calls.{AsksOneSlot, KeepsPages, IsSpareable, NeedsSlot, UsesDevice}
 use Rattle.residency.specs.Leaves.{HasEntryOver}
 use Rattle.residency.specs.Ages.{Ages, KeepsRoles}
 use Rattle.residency.specs.Stalls.{HasStallCause}
@@ -93,27 +92,14 @@ module _ {M : Type 0} {m : Levels.Ghosts M} {D E : Type 0} where
     pub regions : new.regions ≡ old.regions
     pub refused : new.refused ≡ old.refused
 
-  -- the store, the processes and the counts for contracts alone are as they were
+  -- the store, the processes, the clock and the counts for contracts alone are as they were
   pub record KeepsPlain (old new : Core D E M m) : Type 0 where
     pub store : new.store ≡ old.store
     pub roots : new.roots ≡ old.roots
     pub regions : new.regions ≡ old.regions
+    pub clock : new.clock ≡ old.clock
     pub refused : new.refused ≡ old.refused
     pub looks : new.looks ≡ old.looks
-
-  -- A frame is looked for that may be given up, but not this one:
-  pub record FindsVictim {R : Type 0} (old new : Core D E M m) (keep : Option FrameNo) (result : Result FrameNo R) : Type 0 where
-    -- it is returned, or there is none;
-    pub found : IfOk result (λ n. IsEvictable (picture_of new) keep n.0)
-    pub none : OnErr result ((n : ℕ) → IsFrame new.frames n → IsEvictable (picture_of new) keep n → ⊥)
-    -- memory is fit, no page is seen otherwise, marks of accesses alone were cleared, no frame came free,
-    pub fit : IsFit (picture_of new)
-    pub frees : Frees (picture_of old) (picture_of new) keep
-    pub marks : ClearsMarks (picture_of old) (picture_of new)
-    pub looked : Looked old new
-    pub full : Frames.IsFull old.frames → Frames.IsFull new.frames
-    -- and each frame was looked at twice at most.
-    pub looks : new.looks.number ≤ old.looks.number + 2 * frame_count old.frames
 
   -- The page of a frame goes home:
   pub record SendsHome (old new : Core D E M m) (victim : ℕ) : Type 0 where

@@ -6,7 +6,8 @@ ghost use Rattle.residency.specs.Picture.{picture_of};
 ghost use Rattle.residency.specs.Parts.{IsFit};
 ghost use Rattle.residency.specs.Calls.{IsSpareable, NeedsSlot};
 ghost use Rattle.residency.specs.LeafChanges.{HasData};
-ghost use Rattle.residency.specs.Evictions.{FindsVictim, IsAccessed, IsEvictable};
+ghost use Rattle.residency.specs.Evictions.{IsAccessed, IsEvictable};
+ghost use Rattle.residency.specs.Views.{FindsVictim};
 
 use crate::kernel::Core;
 use crate::leaves::{Change, change_leaves, has_leaf};

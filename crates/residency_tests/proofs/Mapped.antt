@@ -1,12 +1,7 @@
 -- What the pages of the process name.
-use Rattle.std.proofs.Common.{◌≡◌, ◌≢◌, ℕ, ◌+◌, ◌-◌, ◌≤◌, ◌==◌, ◌&&◌, Bool, true, false, inl, inr, Option, Some, None, refl, sym, ap, ◌∙◌, arith, eqb-true}
+use Rattle.std.proofs.{Common.{◌≡◌, ◌≢◌, ℕ, ◌+◌, ◌-◌, ◌≤◌, ◌==◌, ◌&&◌, Bool, true, false, inl, inr, Option, Some, None, refl, sym, ap, ◌∙◌, arith, eqb-true}, lemmas.Bool.{cases_eq, false≢true}, lemmas.Bool.Decides.{nat_tests}}
 use Rattle.std.specs.Prelude.{if◌then◌else◌, leb, ltb}
-use Rattle.std.proofs.lemmas.Bool.{cases_eq, false≢true}
-use Rattle.std.proofs.lemmas.Bool.Decides.{nat_tests}
-use Rattle.vm_types.specs.declared.region.Attr.{Attr}
-use Rattle.vm_types.specs.Attributes.{attr_after}
-use Rattle.vm_types.specs.Objects.{Maps, names, uses}
-use Rattle.vm_types.specs.Rows.{in_row, replaced}
+use Rattle.vm_types.specs.{declared.region.Attr.{Attr}, Attributes.{attr_after}, Objects.{Maps, names, uses}, Rows.{in_row, replaced}}
 use Rattle.residency.specs.Parts.{AreObjects}
 use Rattle.residency_tests.specs.Process.{shared_first, own_first, private_first, common_first, plain, mapped}
 

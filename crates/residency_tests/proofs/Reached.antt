@@ -2,17 +2,11 @@
 use Rattle.vm_types.specs.declared.mode.Levels as Levels
 use Rattle.std.proofs.Common.{◌≡◌, ℕ, false, List, [], None, ap}
 use Rattle.std.specs.Prelude.{slice_index_or}
-use Rattle.vm_types.specs.declared.access.Access.{Access}
+use Rattle.vm_types.specs.{declared.access.Access.{Access}, declared.object.PageKey.TheVariants.{File, Object}, declared.region.Backing.{Backing}, declared.region.Backing.TheVariants.{Anon, Private, Shared, Common}}
 use Rattle.vm_types.specs.declared.access.Access.TheVariants as Accesses
-use Rattle.vm_types.specs.declared.object.PageKey.TheVariants.{File, Object}
-use Rattle.vm_types.specs.declared.region.Backing.{Backing}
-use Rattle.vm_types.specs.declared.region.Backing.TheVariants.{Anon, Private, Shared, Common}
 use Rattle.frames.specs.FrameTable.{IsFrame, IsHeld, with_bytes}
 use Rattle.sv39_walk.specs.Walk.{is_store}
-use Rattle.residency.specs.Parts.{IsFit}
-use Rattle.residency.specs.declared.kernel.Core.{Core}
-use Rattle.residency.specs.Picture.{Picture, picture_of, attr_where}
-use Rattle.residency.specs.Steps.{SameBeside}
+use Rattle.residency.specs.{Parts.{IsFit}, declared.kernel.Core.{Core}, Picture.{Picture, picture_of, attr_where}, Steps.{SameBeside}}
 use Rattle.fault.specs.Outcome.{IsFrameFor, IsOpenToStore}
 use Rattle.fault.proofs.Storing.{fit_own, fit_file}
 

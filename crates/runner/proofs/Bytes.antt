@@ -1,9 +1,7 @@
 -- Beginnings and ends of lists of bytes.
 use Rattle.std.proofs.Common.{◌≡◌, ℕ, ◌+◌, ◌<◌, ◌≤◌, ◌-◌, min, List, [], ◌∷◌, ◌++◌, length, take, drop, sym, ap, ◌∙◌, arith, append_assoc, get_or, Option, MatchResult, Result, Ok, Err}
-use Rattle.std.proofs.lemmas.List.{take_all, take_more, take_min, take_rest, take-append-drop}
-use Rattle.std.proofs.Math.Seq.{take-add, take-append-add}
+use Rattle.std.proofs.{lemmas.List.{take_all, take_more, take_min, take_rest, take-append-drop}, Math.Seq.{take-add, take-append-add}, KnownBytes.{Appends-trans}}
 use Rattle.std.specs.Io.KnownBytes.{Appends}
-use Rattle.std.proofs.KnownBytes.{Appends-trans}
 use Rattle.runner.specs.Bytes.{WritesBeginning}
 
 -- a line of at most 257 bytes goes on by as many as there is room for

@@ -1,20 +1,12 @@
 -- How the engine goes on, line after line.
-use Rattle.std.proofs.Common.{◌≡◌, ◌≢◌, ℕ, ◌≤◌, List, [], ◌∷◌, ◌++◌, length, take, refl, sym, ap, subst, ◌∙◌, append_assoc, append-nil, inl, inr, arith, Option, Result}
-use Rattle.std.proofs.lemmas.List.{take_all, length-take-le, take-append-le}
-use Rattle.std.proofs.lemmas.List.Elements.{All-nil}
-use Rattle.std.proofs.lemmas.Bool.{cases_lt}
+use Rattle.std.proofs.{Common.{◌≡◌, ◌≢◌, ℕ, ◌≤◌, List, [], ◌∷◌, ◌++◌, length, take, refl, sym, ap, subst, ◌∙◌, append_assoc, append-nil, inl, inr, arith, Option, Result}, lemmas.List.{take_all, length-take-le, take-append-le}}
+use Rattle.std.proofs.{lemmas.List.Elements.{All-nil}, lemmas.Bool.{cases_lt}, KnownBytes.{Appends-trans, Appends-nil}}
 use Rattle.std.specs.Io.KnownBytes.{Appends}
-use Rattle.std.proofs.KnownBytes.{Appends-trans, Appends-nil}
 use Rattle.disk_model.specs.declared.sector_disk.SectorDisk.{Ghosts}
 use Rattle.machine.specs.declared.machine.Machine.{Machine}
 use Rattle.trace_lang.specs.Lines.{HasNoNewline}
-use Rattle.runner.specs.Bytes.{WritesBeginning}
-use Rattle.runner.specs.Session.{Answers}
-use Rattle.runner.specs.Progress.{Stage, stage, HoldsOpenLine, Advances, ReadsAll, Breaks, GoesOn, BreaksOff, TakesBytes}
-use Rattle.runner.specs.declared.output_buffer.WriteFault.{WriteFault}
-use Rattle.runner.proofs.Bytes.{match_both}
-use Rattle.runner.proofs.Lines.{Cuts-trans, Cuts-none, Cuts-bytes, Cuts-newline}
-use Rattle.runner.proofs.Session.{answers_line, CarriesOut-one, CarriesOut-append}
+use Rattle.runner.specs.{Bytes.{WritesBeginning}, Session.{Answers}, Progress.{Stage, stage, HoldsOpenLine, Advances, ReadsAll, Breaks, GoesOn, BreaksOff, TakesBytes}, declared.output_buffer.WriteFault.{WriteFault}}
+use Rattle.runner.proofs.{Bytes.{match_both}, Lines.{Cuts-trans, Cuts-none, Cuts-bytes, Cuts-newline}, Session.{answers_line, CarriesOut-one, CarriesOut-append}}
 
 -- the buffer goes on as the line does
 pub kept_bytes : (line bytes : List ℕ) → take 257 (take 257 line ++ bytes) ≡ take 257 (line ++ bytes)
@@ -169,7 +161,7 @@ module _ {D E : Type 0} (g : Ghosts D) (h : Ghosts E) where
       breaks_later old mid new bytes more open_line first (q first.rest first.kept)
 
   -- A whole line with its newline, by what the newline does where the line is held. The line may stand in the buffer, or in the
-  -- bytes behind an empty buffer.
+  -- bytes after an empty buffer.
   pub reads_line : (r : Result (Unit {0}) WriteFault) (old new : Machine D E) (kept line cleared pending more bytes : List ℕ) (held held_then : Option (List ℕ))
       → HasNoNewline bytes → line ≡ take 257 (kept ++ bytes) → cleared ≡ []
       → TakesBytes g h r (stage old line pending held) (stage new [] more held_then) (10 ∷ [])

@@ -1,22 +1,12 @@
 -- From the lines that were carried out to a run of the machine.
 use Rattle.std.proofs.Common.{◌≡◌, ℕ, List, [], ◌∷◌, ◌++◌, refl, sym, ap, subst, ◌∙◌, Option, inl, inr}
 use Rattle.std.specs.Io.KnownBytes.{Consumes}
-use Rattle.disk_model.specs.Stop.{Image, MayLeave}
-use Rattle.disk_model.specs.declared.sector_disk.SectorDisk.{Ghosts}
-use Rattle.vm_types.specs.declared.command.Command.{Command}
-use Rattle.vm_types.specs.declared.reply.Reply.{Reply}
-use Rattle.vm_types.specs.Prefix.{Event}
-use Rattle.vm_types.specs.State.{State}
-use Rattle.machine.specs.declared.machine.Machine.{Machine}
-use Rattle.machine.specs.Machine.{store_of, swap_of, Shows, Meets}
-use Rattle.machine.specs.Chain.{event, Caused, Chain, Runs}
-use Rattle.machine.proofs.Face.{readable, face}
-use Rattle.machine.proofs.Runs.{chain_room, leaves_prefix}
+use Rattle.disk_model.specs.{Stop.{Image, MayLeave}, declared.sector_disk.SectorDisk.{Ghosts}}
+use Rattle.vm_types.specs.{declared.command.Command.{Command}, declared.reply.Reply.{Reply}, Prefix.{Event}, State.{State}}
+use Rattle.machine.specs.{declared.machine.Machine.{Machine}, Machine.{store_of, swap_of, Shows, Meets}, Chain.{event, Caused, Chain, Runs}}
+use Rattle.machine.proofs.{Face.{readable, face}, Runs.{chain_room, leaves_prefix}}
 use Rattle.trace_lang.specs.Lines.{lines_of}
-use Rattle.runner.specs.declared.engine.RunEnd.{RunEnd}
-use Rattle.runner.specs.declared.engine.RunEnd.TheVariants.{Done, ReadFault, WriteFault}
-use Rattle.runner.specs.Session.{Obeys, Rejects, CarriesOut, Answered}
-use Rattle.runner.specs.Progress.{stage, EndsSo}
+use Rattle.runner.specs.{declared.engine.RunEnd.{RunEnd}, declared.engine.RunEnd.TheVariants.{Done, ReadFault, WriteFault}, Session.{Obeys, Rejects, CarriesOut, Answered}, Progress.{stage, EndsSo}}
 use Rattle.runner.specs.Trace.{Streams, streams, EndsTrace, CausedTrace, RunsTrace}
 
 module _ {D E : Type 0} (g : Ghosts D) (h : Ghosts E) where

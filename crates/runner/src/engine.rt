@@ -91,7 +91,7 @@ fn newline_in(bytes: &[u8]) -> Option<usize>
     memchr(b'\n', bytes)
 }
 
-// Goes on by bytes that end the open line, and by the newline behind them. A line that stands whole in them is run where it
+// Goes on by bytes that end the open line, and by the newline after them. A line that stands whole in them is run where it
 // stands.
 fn run_line<W: Write, D: SectorDisk, E: SectorDisk>(
     bytes: &[u8],

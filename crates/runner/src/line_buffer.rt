@@ -48,7 +48,7 @@ impl LineBuffer {
         self.len == 0
     }
 
-    /// Goes on by bytes. Those behind the line's first 257 are dropped.
+    /// Goes on by bytes. Those after the line's first 257 are dropped.
     pub fn extend(&mut self, bytes: &[u8])
         ensures { self.new ≡ take 257 (self.old ++ bytes.now) }
     {

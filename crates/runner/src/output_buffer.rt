@@ -102,7 +102,7 @@ impl OutputBuffer {
     }
 }
 
-// Writes the text behind the first `len` bytes, and returns where it ends.
+// Writes the text after the first `len` bytes, and returns where it ends.
 fn append(bytes: &mut [u8; 34816], len: usize, text: &[u8]) -> usize
     requires { len + length text.now ≤ 34816 }
     ensures bytes { take result bytes.new ≡ take len bytes.old ++ text.now }

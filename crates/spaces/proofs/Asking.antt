@@ -1,32 +1,20 @@
 -- What an access asks for.
 use Rattle.vm_types.specs.declared.mode.Levels as Levels
-use Rattle.std.proofs.Common.{ℕ, ◌≡◌, ◌≢◌, ◌⊎◌, ◌/◌, true, false, Some, is_some, List, Result, Ok, Err, inl, refl, sym, ap, ◌∙◌, subst}
-use Rattle.disk_model.specs.declared.sector_disk.SectorDisk.{Ghosts}
-use Rattle.fault.specs.declared.refusal.AccessRefusal.{AccessRefusal}
+use Rattle.std.proofs.Common.{ℕ, ◌≡◌, ◌≢◌, ◌⊎◌, ◌/◌, true, false, Some, is_some, List, Result, Ok, Err, inl, refl, sym, ap, ◌∙◌, subst, rules}
+use Rattle.disk_model.specs.{Moments.{AsksOnly}, declared.sector_disk.SectorDisk.{Ghosts}}
+use Rattle.file_store.specs.declared.store.FileStore.{FileStore}
+use Rattle.swap.specs.declared.slots.Swap.{Swap}
+use Rattle.msync.specs.Shows.{IsSoundCore}
+use Rattle.fault.proofs.Serving.{tends_none}
+use Rattle.fault.specs.{declared.refusal.AccessRefusal.{AccessRefusal}, Serving.{Reaches, Tends}, Outcome.{IsRefusal}, Wants.{ReadsHome, RefusesAccess, ShowsFile}, Changes.{KeepsSlotted, IsThatPage}}
 use Rattle.fault.specs.declared.refusal.AccessRefusal.TheVariants as Refusal
-use Rattle.fault.specs.AccessAsking.{AsksForPage}
-use Rattle.fault.specs.Outcome.{IsRefusal}
 use Rattle.frames.specs.FrameTable.{bytes_of, with_bytes}
-use Rattle.fault.specs.Wants.{Wants, ReadsHome, RefusesAccess, ShowsFile}
-use Rattle.residency.specs.declared.kernel.Core.{Core}
-use Rattle.fault.specs.Changes.{IsCalm, KeepsSlotted, IsThatPage, LinksTables}
-use Rattle.residency.specs.Ways.{KeepsAround}
-use Rattle.residency.specs.Picture.{Picture, picture_of, is_live}
-use Rattle.vm_types.specs.declared.access.Access.{Access}
-use Rattle.vm_types.specs.declared.access.Access.TheVariants.{Load, Store, Fetch}
-use Rattle.vm_types.specs.declared.access.StoredValue.{StoredValue}
-use Rattle.vm_types.specs.declared.number.Phys.{Phys}
-use Rattle.vm_types.specs.declared.refusal.Stall.{Stall}
-use Rattle.vm_types.specs.declared.refusal.Stall.TheVariants.{StoreDevice}
-use Rattle.vm_types.specs.declared.reply.Reply.{Reply}
-use Rattle.vm_types.specs.declared.reply.Reply.TheVariants.{Faulted, Stalled}
-use Rattle.vm_types.specs.declared.width.Width.{Width}
-use Rattle.vm_types.specs.Access.{with_number}
-use Rattle.vm_types.specs.Replies.{reply_of}
-use Rattle.vm_types.specs.Width.{byte_count}
-use Rattle.spaces.specs.Accesses.{reply_for, AsksFor, LetsThrough, MayWrite, WritesNumber}
-use Rattle.spaces.specs.Idle.{is_denial}
-use Rattle.spaces.proofs.Refusals.{no_stall, same_stall}
+use Rattle.residency.specs.{declared.kernel.Core.{Core}, Ways.{KeepsAround}, Picture.{Picture, picture_of, is_live}}
+use Rattle.vm_types.specs.{declared.access.Access.{Access}, declared.access.Access.TheVariants.{Load, Store, Fetch}, declared.access.StoredValue.{StoredValue}, declared.number.Phys.{Phys}, declared.refusal.Errno.TheVariants.{ESRCH}}
+use Rattle.vm_types.specs.{declared.refusal.Stall.{Stall}, declared.refusal.Stall.TheVariants.{StoreDevice}, declared.reply.Reply.{Reply}, declared.reply.Reply.TheVariants.{Faulted, Refused, Stalled}, declared.width.Width.{Width}}
+use Rattle.vm_types.specs.{Access.{with_number}, Replies.{reply_of}, Width.{byte_count}}
+use Rattle.spaces.specs.{Accesses.{reply_for, AsksFor, KeepsToPage, LetsThrough, MayWrite, WritesNumber}, Idle.{is_denial}}
+use Rattle.spaces.proofs.Refusals.{no_stall, same_stall, refused_idle, refused_caused}
 
 -- nothing was written
 pub writes_none : {M : Type 0} {m : Levels.Ghosts M} → {D E : Type 0} (access : Access) (c : Core D E M m) → MayWrite access c c
@@ -34,48 +22,73 @@ writes_none Load c = refl
 writes_none Store c = inl refl
 writes_none Fetch c = refl
 
-module _ {M : Type 0} {m : Levels.Ghosts M} {D E : Type 0} (g : Ghosts D) (h : Ghosts E) (old new : Core D E M m) (pid addr : ℕ) (access : Access) (read : (new.store ≡ old.store) ⊎ ReadsHome (picture_of old) pid (addr / 4096))
-    (slots : (Wants (picture_of old) pid (addr / 4096) access → ⊥) → new.swap ≡ old.swap)
-    (slotted : KeepsSlotted (ShowsFile (picture_of old) pid (addr / 4096)) (IsThatPage pid (addr / 4096)) (picture_of old) (picture_of new)) (sectors : AsksForPage g h old new pid (addr / 4096) access)
-    (granted : Core D E M m) (tables : LinksTables (picture_of old) (picture_of granted) pid (addr / 4096)) (calm : (Wants (picture_of old) pid (addr / 4096) access → ⊥) → IsCalm old granted pid (addr / 4096))
-    (writes : MayWrite access granted new) where
-  pub asks_unstalled : (reply : Reply) → ((stall : Stall) → reply ≡ Stalled stall → ⊥) → (is_denial reply ≡ false → LetsThrough (picture_of granted) pid addr access)
+asks_as : {D : Type 0} (g : Ghosts D) (W : ℕ → Type 0) (old mid new : D) → new ≡ mid → AsksOnly g W old mid → AsksOnly g W old new
+asks_as g W old mid new same asks = subst (AsksOnly g W old) (sym same) asks
+
+module _ {M : Type 0} {m : Levels.Ghosts M} {D E : Type 0} (g : Ghosts D) (h : Ghosts E) (old mid : Core D E M m) (pid addr : ℕ) (access : Access) (tends : Tends g h old mid pid (addr / 4096) access) where
+  -- an access that doesn't stall, after which a store may have written a number
+  pub asks_unstalled : (new : Core D E M m) → new.store ≡ mid.store → new.swap ≡ mid.swap
+      → KeepsSlotted (ShowsFile (picture_of old) pid (addr / 4096)) (IsThatPage pid (addr / 4096)) (picture_of old) (picture_of new) → MayWrite access mid new
+      → (reply : Reply) → ((stall : Stall) → reply ≡ Stalled stall → ⊥) → (is_denial reply ≡ false → LetsThrough (picture_of mid) pid addr access)
       → AsksFor g h old new pid addr access reply
-  asks_unstalled reply none grants = record {
+  asks_unstalled new store swap slotted writes reply none grants = record {
     wanted = λ stall e. absurd (none stall e);
     refused = λ stall e. absurd (none stall e);
     home = λ e. absurd (none StoreDevice e);
-    read = read;
-    slots = slots;
+    read = subst (λ (x : FileStore D). (x ≡ old.store) ⊎ ReadsHome (picture_of old) pid (addr / 4096)) (sym store) tends.read;
+    slots = λ calm. swap ∙ (tends.calm calm).swap;
     slotted = slotted;
-    granted = granted;
-    tables = tables;
-    calm = calm;
+    granted = mid;
+    tables = tends.tables;
+    calm = tends.calm;
     writes = writes;
     grants = λ done unstalled. grants done;
-    sectors = sectors;
+    sectors = record {
+      store = asks_as g _ old.store.disk mid.store.disk new.store.disk (ap (λ (x : FileStore D). x.disk) store) tends.asks.store;
+      swap = asks_as h _ old.swap.pages.disk mid.swap.pages.disk new.swap.pages.disk (ap (λ (x : Swap E). x.pages.disk) swap) tends.asks.swap;
+    };
   }
 
   -- an access without a place
-  pub asks_refused : (width : Width) (refusal : AccessRefusal) → IsRefusal g h old new pid addr width access refusal
-      → AsksFor g h old new pid addr access (reply_of (reply_for refusal))
-  asks_refused width (Refusal.Fault fault) is = asks_unstalled (Faulted fault) (no_stall fault) (λ done. absurd (let never : true ≡ false = done in cc))
+  pub asks_refused : (width : Width) (refusal : AccessRefusal) → IsRefusal g h old mid pid addr width access refusal
+      → AsksFor g h old mid pid addr access (reply_of (reply_for refusal))
+  asks_refused width (Refusal.Fault fault) is =
+      asks_unstalled mid refl refl tends.slotted (writes_none access mid) (Faulted fault) (no_stall fault) (λ done. absurd (let never : true ≡ false = done in cc))
   asks_refused width (Refusal.Stall stall) is = record {
     wanted = λ other e. is.stalled.wanted;
     refused = λ other e. (
-        let P : Stall → Type 0 = λ x. x ≢ StoreDevice → RefusesAccess (picture_of new) pid (addr / 4096) access x in
+        let P : Stall → Type 0 = λ x. x ≢ StoreDevice → RefusesAccess (picture_of mid) pid (addr / 4096) access x in
         subst P (same_stall stall other e) is.stalled.refused);
     home = λ e. is.stalled.home (same_stall stall StoreDevice e);
-    read = read;
-    slots = slots;
-    slotted = slotted;
-    granted = granted;
-    tables = tables;
-    calm = calm;
-    writes = writes;
+    read = tends.read;
+    slots = λ calm. (tends.calm calm).swap;
+    slotted = tends.slotted;
+    granted = mid;
+    tables = tends.tables;
+    calm = tends.calm;
+    writes = writes_none access mid;
     grants = λ done unstalled. absurd (unstalled stall refl);
-    sectors = sectors;
+    sectors = tends.asks;
   }
+
+module _ {M : Type 0} {m : Levels.Ghosts M} {D E : Type 0} (g : Ghosts D) (h : Ghosts E) where
+  -- where there is no place
+  pub keeps_refused : (old new : Core D E M m) (pid addr : ℕ) (width : Width) (access : Access) (r : Result Phys AccessRefusal) (refusal : AccessRefusal)
+      → Reaches g h old new pid addr width access r → IsRefusal g h old new pid addr width access refusal → KeepsToPage g h old new pid addr access (reply_of (reply_for refusal))
+  keeps_refused old new pid addr width access r refusal reached is =
+      let goes = reached.proceeds in
+      let idle = refused_idle g h old new pid addr width access refusal is in
+      let caused = refused_caused g h old new pid addr width access refusal goes.reads.failures goes.device.later is in
+      let asks = asks_refused g h old new pid addr access reached.tends width refusal is in
+      search rules
+
+  -- and where there is no process
+  pub keeps_dead : (core : Core D E M m) (pid addr : ℕ) (access : Access) → IsSoundCore g h core → KeepsToPage g h core core pid addr access (Refused ESRCH)
+  keeps_dead core pid addr access sound =
+      let tends = tends_none g h core pid (addr / 4096) access sound.fit sound.ready sound.swap in
+      let asks = asks_unstalled g h core core pid addr access tends core refl refl tends.slotted (writes_none access core) (Refused ESRCH) (λ stall e. cc)
+      (λ done. absurd (let never : true ≡ false = done in cc)) in
+      search rules
 
 -- the tables of no process grant nothing
 pub no_root : {mode : ℕ} (c : Picture mode) (pid root : ℕ) → is_live c pid ≡ false → c.root pid ≡ Some root → ⊥

@@ -1,22 +1,12 @@
 -- What a call of the flat model comes to in a state that memory shows.
 use Rattle.vm_types.specs.declared.mode.Levels as Levels
-use Rattle.std.proofs.Common.{ℕ, ◌≡◌, ◌≢◌, ◌==◌, Bool, true, false, if◌then◌else◌, List, Option, Some, None, ⊎_elim, refl, sym, ap, ◌∙◌, subst, arith}
-use Rattle.std.proofs.lemmas.Bool.Decides.{nat_tests}
+use Rattle.std.proofs.{Common.{ℕ, ◌≡◌, ◌≢◌, ◌==◌, Bool, true, false, if◌then◌else◌, List, Option, Some, None, ⊎_elim, refl, sym, ap, ◌∙◌, subst, arith}, lemmas.Bool.Decides.{nat_tests}}
 use Rattle.disk_model.specs.declared.sector_disk.SectorDisk.{Ghosts}
 use Rattle.ranges.proofs.Outlived.{shows_named}
 use Rattle.ranges.specs.Rows.{KeepsNamed}
-use Rattle.residency.specs.declared.kernel.Core.{Core}
-use Rattle.residency.specs.Parts.{IsFit}
-use Rattle.residency.specs.Picture.{Picture, picture_of, is_live, view}
-use Rattle.residency.specs.Shows.{ShowsPages, KeepsFiles}
+use Rattle.residency.specs.{declared.kernel.Core.{Core}, Parts.{IsFit}, Picture.{Picture, picture_of, is_live, view}, Shows.{ShowsPages, KeepsFiles}}
 use Rattle.residency.proofs.Shown.{object-kept}
-use Rattle.vm_types.specs.declared.command.Command.{Command}
-use Rattle.vm_types.specs.declared.object.PageKey.TheVariants.{File, Object}
-use Rattle.vm_types.specs.declared.reply.Reply.{Reply}
-use Rattle.vm_types.specs.Objects.{Maps, named_objects}
-use Rattle.vm_types.specs.State.{State}
-use Rattle.vm_types.specs.Step.{Outcome, outcome, answers}
-use Rattle.vm_types.specs.View.{View}
+use Rattle.vm_types.specs.{declared.command.Command.{Command}, declared.object.PageKey.TheVariants.{File, Object}, declared.reply.Reply.{Reply}, Objects.{Maps, named_objects}, State.{State}, Step.{Outcome, outcome, answers}, View.{View}}
 use Rattle.spaces.specs.Calls.{Comes, Does}
 
 module _ {M : Type 0} {m : Levels.Ghosts M} {D E : Type 0} (g : Ghosts D) (h : Ghosts E) (old new : Core D E M m) (s : State) (command : Command) (reply : Reply) where

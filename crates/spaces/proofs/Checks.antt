@@ -1,7 +1,6 @@
--- Lists of checks, put one behind the other.
+-- Lists of checks, put one after the other.
 use Rattle.std.proofs.Common.{◌≡◌, ◌++◌, Bool, true, false, if◌then◌else◌, List, [], ◌∷◌, Some, None, refl}
-use Rattle.vm_types.specs.declared.refusal.Errno.{Errno}
-use Rattle.vm_types.specs.Checks.{Check, first_of}
+use Rattle.vm_types.specs.{declared.refusal.Errno.{Errno}, Checks.{Check, first_of}}
 
 pub first_of-append : (xs ys : List Check) → first_of xs ≡ None → first_of (xs ++ ys) ≡ first_of ys
 first_of-append [] ys e = refl

@@ -1,50 +1,17 @@
 -- Shared pages of files that may only be read, by a walk over the runs.
-use Rattle.std.proofs.Common.{ℕ, zero, suc, ◌+◌, ◌-◌, ◌≡◌, ◌<◌, ◌≤◌, ⊎_elim, ◌==◌, ◌&&◌, ◌||◌, Bool, true, false, List, Option, Some, None, option_map, refl, sym, ap, ◌∙◌, subst, arith}
-use Rattle.std.proofs.lemmas.Bool.Decides.{nat_tests}
-use Rattle.regions.specs.declared.run.Run.{Run}
-use Rattle.regions.specs.RunList.{attr_at, IsNextRun}
+use Rattle.std.proofs.Common.{ℕ, ◌+◌, ◌-◌, ◌≡◌, ◌<◌, ◌≤◌, ⊎_elim, ◌&&◌, Bool, true, false, List, Option, Some, None, option_map, refl, sym, ap, ◌∙◌, arith}
+use Rattle.regions.specs.{declared.run.Run.{Run}, RunList.{attr_at, IsNextRun}}
 use Rattle.regions.proofs.RunLemmas.{lt_or_le}
-use Rattle.vm_types.specs.declared.region.Attr.{Attr}
-use Rattle.vm_types.specs.declared.region.Backing.{Backing}
-use Rattle.vm_types.specs.declared.region.Backing.TheVariants.{Anon, Private, Shared, Common}
-use Rattle.vm_types.specs.Attributes.{attr_after, backing_after}
-use Rattle.vm_types.specs.Counting.{any_below}
-use Rattle.vm_types.specs.Files.{Files}
-use Rattle.vm_types.specs.declared.permission.Prot.{Prot}
-use Rattle.vm_types.specs.Permission.{can_write}
-use Rattle.vm_types.specs.Ranges.{denies_stores, is_guarded, is_guarded_page}
-use Rattle.vm_types.specs.View.{View, attrs_of}
+use Rattle.vm_types.specs.{declared.region.Attr.{Attr}, declared.region.Backing.{Backing}, declared.region.Backing.TheVariants.{Anon, Shared}, Attributes.{attr_after, backing_after}, Counting.{any_below}, Files.{Files}}
+use Rattle.vm_types.specs.{declared.permission.Prot.{Prot}, Permission.{can_write}, Ranges.{denies_stores, is_guarded, is_guarded_page}, View.{View, attrs_of}}
+use Rattle.vm_types.proofs.Naming.{any-at}
+use Rattle.page_cache.proofs.CountLemmas.{any_below-none}
 use Rattle.ranges.specs.Rows.{plain}
 use Rattle.spaces.specs.Space.{space_of}
 
-none_guarded : (passes : ℕ → Bool) (n : ℕ) → ((i : ℕ) → i < n → passes i ≡ false) → any_below passes n ≡ false
-unfolding any_below
-none_guarded passes zero none = refl
-none_guarded passes (suc n) none = rw (none n (omega arith)) (none_guarded passes n (λ i less. none i (omega arith)))
-
-or_true : (b : Bool) → (b || true) ≡ true
-or_true true = refl
-or_true false = refl
-
-one_guarded : (passes : ℕ → Bool) (i n : ℕ) → i < n → passes i ≡ true → any_below passes n ≡ true
-unfolding any_below
-one_guarded passes i zero less e = absurd (omega arith)
-one_guarded passes i (suc n) less e =
-    elim (i == n) as (λ (b : Bool). (i == n) ≡ b → (passes n || any_below passes n) ≡ true) [
-      | true ↦ λ same.
-          let k : i ≡ n = grind (arith, nat_tests) in
-          let here : passes n ≡ true = subst (λ (j : ℕ). passes j ≡ true) k e in
-          rw here refl
-      | false ↦ λ other.
-          let k : i < n = grind (arith, nat_tests) in
-          rw (one_guarded passes i n k e) (or_true (passes n))
-    ] refl
-
 guarded_after : (files : Files) (backing : Backing) (count : ℕ) → is_guarded files (backing_after backing count) ≡ is_guarded files backing
 guarded_after files Anon count = refl
-guarded_after files (Private page) count = refl
-guarded_after files (Shared page) count = refl
-guarded_after files (Common page) count = refl
+guarded_after files backing count = refl
 
 module _ (mode : ℕ) (files : Files) (runs : List Run) where
   -- no page from the first up to, not including, the last is guarded
@@ -64,18 +31,18 @@ module _ (mode : ℕ) (files : Files) (runs : List Run) where
   before_run first page run past next k low high =
       ⊎_elim (λ (a : k < page). past.none k low a) (λ (b : page ≤ k). missing k (next.none_before k b high)) (lt_or_le k page)
 
-  -- the walk ends behind the row
+  -- the walk ends after the row
   pub none_in_row : (first pages page : ℕ) (run : Run) → Unguarded first page → IsNextRun mode (attr_at runs) page run → first + pages ≤ run.first
       → false ≡ any_below (λ i. is_guarded_page files (space_of runs (first + i))) pages
   none_in_row first pages page run past next behind =
-      sym (none_guarded (λ i. is_guarded_page files (space_of runs (first + i))) pages
+      sym (any_below-none (λ i. is_guarded_page files (space_of runs (first + i))) pages
       (λ i less. before_run first page run past next (first + i) (omega arith) (omega arith)))
 
   -- or no page is mapped any more
   pub none_to_the_end : (first pages page : ℕ) → Unguarded first page → ((k : ℕ) → page ≤ k → attr_at runs k ≡ None)
       → false ≡ any_below (λ i. is_guarded_page files (space_of runs (first + i))) pages
   none_to_the_end first pages page past none =
-      sym (none_guarded (λ i. is_guarded_page files (space_of runs (first + i))) pages
+      sym (any_below-none (λ i. is_guarded_page files (space_of runs (first + i))) pages
       (λ i less. ⊎_elim (λ (a : first + i < page). past.none (first + i) (omega arith) a) (λ (b : page ≤ first + i). missing (first + i) (none (first + i) b)) (lt_or_le (first + i) page)))
 
   -- or a run of the row is guarded
@@ -86,7 +53,7 @@ module _ (mode : ℕ) (files : Files) (runs : List Run) where
       let same : first + (run.first - first) ≡ run.first = omega arith in
       let here : is_guarded_page files (space_of runs (first + (run.first - first))) ≡ true =
       ap (λ (n : ℕ). is_guarded_page files (space_of runs n)) same ∙ of_run run run.first (next.mapped run.first (omega arith) next.nonempty) ∙ e in
-      sym (one_guarded (λ i. is_guarded_page files (space_of runs (first + i))) (run.first - first) pages (omega arith) here)
+      sym (any-at (λ i. is_guarded_page files (space_of runs (first + i))) pages (run.first - first) (omega arith) here)
 
 -- whether a page is guarded is asked of its attributes alone
 abbrev is_guarded_attr : Files → Option Attr → Bool

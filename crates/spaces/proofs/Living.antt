@@ -1,40 +1,21 @@
 -- spawn, fork and exit of the flat model in a state that memory shows.
 use Rattle.vm_types.specs.declared.mode.Levels as Levels
-use Rattle.vm_types.specs.Limits.{user_end}
-use Rattle.std.proofs.Common.{ℕ, ◌≡◌, ◌≢◌, ◌+◌, ◌≤◌, ◌==◌, ◌&&◌, ◌||◌, not, Bool, true, false, if◌then◌else◌, Option, Some, None, refl, sym, ap, ◌∙◌, subst, arith}
-use Rattle.std.proofs.lemmas.Bool.Decides.{nat_tests}
+use Rattle.vm_types.specs.{Limits.{user_end}, declared.command.Command.{Command}, declared.command.Command.TheVariants.{Spawn, Fork, Exit}, declared.refusal.Errno.TheVariants.{EAGAIN}, declared.refusal.Stall.{Stall}}
+use Rattle.vm_types.specs.{declared.refusal.Stall.TheVariants.{NoFrames, NoSwap, SwapDevice, StoreDevice}, declared.reply.Reply.TheVariants.{Process, Done, Refused, Stalled}, Objects.{Maps, named_objects}}
+use Rattle.vm_types.specs.{Processes.{least_free_from, least_free_pid, with_process, without_process, without_space}, Capacity.{table_count, tables_of}, Stalls.{is_success, is_open_to, cause_of, needs_frames, reads_swap}, State.{State}}
+use Rattle.vm_types.specs.{Step.{Outcome, outcome, spawn_outcome, fork_outcome, exit_outcome}, View.{View}}
+use Rattle.std.proofs.{Common.{ℕ, ◌≡◌, ◌≢◌, ◌+◌, ◌≤◌, ◌==◌, ◌&&◌, ◌||◌, not, Bool, true, false, if◌then◌else◌, Option, Some, None, refl, sym, ap, ◌∙◌, subst, arith}, lemmas.Bool.Decides.{nat_tests}}
 use Rattle.disk_model.specs.declared.sector_disk.SectorDisk.{Ghosts}
 use Rattle.file_store.specs.declared.store.FileStore.{FileStore}
 use Rattle.frames.specs.FrameTable.{frame_count}
 use Rattle.lifecycle.specs.Changes.{AddsProcess, RemovesProcess, KeepsProcesses, IsShortToFork}
 use Rattle.fault.specs.Changes.{KeepsRoom}
-use Rattle.residency.specs.Stalls.{StallCause, ReadCause}
+use Rattle.residency.specs.{Stalls.{StallCause, ReadCause}, Capacity.{IsShort}, Parts.{IsFit}, declared.kernel.Core.{Core}, Picture.{Picture, picture_of, is_live, view}, Shows.{ShowsPages, KeepsFiles}}
 use Rattle.ranges.proofs.Outlived.{shows_named}
 use Rattle.ranges.specs.Rows.{KeepsNamed, without_maps}
-use Rattle.residency.specs.Capacity.{IsShort}
-use Rattle.residency.specs.Parts.{IsFit}
-use Rattle.residency.specs.declared.kernel.Core.{Core}
-use Rattle.residency.specs.Picture.{Picture, picture_of, is_live, view}
-use Rattle.residency.specs.Shows.{ShowsPages, KeepsFiles}
-use Rattle.vm_types.specs.declared.command.Command.{Command}
-use Rattle.vm_types.specs.declared.command.Command.TheVariants.{Spawn, Fork, Exit}
-use Rattle.vm_types.specs.declared.refusal.Errno.TheVariants.{EAGAIN}
-use Rattle.vm_types.specs.declared.refusal.Stall.{Stall}
-use Rattle.vm_types.specs.declared.refusal.Stall.TheVariants.{NoFrames, NoSwap, SwapDevice, StoreDevice}
-use Rattle.vm_types.specs.declared.reply.Reply.TheVariants.{Process, Done, Refused, Stalled}
-use Rattle.vm_types.specs.Objects.{Maps, named_objects}
-use Rattle.vm_types.specs.Processes.{least_free_from, least_free_pid, with_process, without_process, without_space}
-use Rattle.vm_types.specs.Capacity.{table_count, tables_of}
-use Rattle.vm_types.specs.Stalls.{is_success, is_open_to, cause_of, needs_frames, reads_swap}
-use Rattle.vm_types.specs.State.{State}
-use Rattle.vm_types.specs.Step.{Outcome, outcome, spawn_outcome, fork_outcome, exit_outcome}
-use Rattle.vm_types.specs.View.{View}
 use Rattle.swap.specs.Slots.{slots_of}
 use Rattle.spaces.specs.Calls.{Comes, Stalls, FallsShort, IsCaused, causes}
-use Rattle.spaces.proofs.Calls.{does, does_answer, shows_with, pages_of}
-use Rattle.spaces.proofs.Pages.{views_seen, maps_gone}
-use Rattle.spaces.proofs.Refusals.{stall_caused}
-use Rattle.spaces.proofs.Short.{falls_short, falls_short_to_fork, least_below, tables_added}
+use Rattle.spaces.proofs.{Calls.{does, does_answer, shows_with, pages_of}, Pages.{views_seen, maps_gone}, Refusals.{stall_caused}, Short.{falls_short, falls_short_to_fork, least_below, tables_added}}
 
 -- a test of all numbers, where one is decided
 lives_with : (pid q : ℕ) (b : Bool) (seen : ℕ → Bool) → seen pid ≡ true → (q ≢ pid → b ≡ seen q) → (q == pid || b) ≡ seen q
@@ -103,10 +84,8 @@ stalled g h old new s command stall o cause e fine frames swaps short shows =
 
 -- the stall says of the store's device that it was left alone
 stall_read : {M : Type 0} {m : Levels.Ghosts M} → {D E : Type 0} (g : Ghosts D) (h : Ghosts E) (old new : Core D E M m) (stall : Stall) → new.store ≡ old.store → StallCause h old new stall → ReadCause g h old new stall
-stall_read g h old new NoFrames same cause = (cause.0, ap (λ (t : FileStore _). g.failures t.disk) same, cause.1)
-stall_read g h old new NoSwap same cause = (cause.0, ap (λ (t : FileStore _). g.failures t.disk) same, cause.1)
-stall_read g h old new SwapDevice same cause = (cause.0, ap (λ (t : FileStore _). g.failures t.disk) same, cause.1)
 stall_read g h old new StoreDevice same cause = absurd cause
+stall_read g h old new stall same cause = (cause.0, ap (λ (t : FileStore _). g.failures t.disk) same, cause.1)
 
 -- so it is told what the stall came from
 pub store_kept_caused : {M : Type 0} {m : Levels.Ghosts M} → {D E : Type 0} (g : Ghosts D) (h : Ghosts E) (old new : Core D E M m) (stall : Stall) → new.store ≡ old.store

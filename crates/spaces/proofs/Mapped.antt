@@ -2,55 +2,27 @@
 use Rattle.vm_types.specs.declared.mode.Levels as Levels
 use Rattle.std.proofs.Common.{ℕ, ◌-◌, ◌*◌, ◌≡◌, ◌==◌, ◌++◌, not, Bool, true, false, if◌then◌else◌, List, [], ◌∷◌, Option, Some, None, is_none, option_map, refl, sym, ap, ◌∙◌, subst, mul_comm}
 use Rattle.disk_model.specs.declared.sector_disk.SectorDisk.{Ghosts}
-use Rattle.regions.specs.declared.run.Run.{Run}
-use Rattle.regions.specs.Permission.{IsReadableMap}
-use Rattle.regions.specs.RunList.{attr_at}
+use Rattle.regions.specs.{declared.run.Run.{Run}, Permission.{IsReadableMap}, RunList.{attr_at}}
 use Rattle.regions.proofs.PermissionLemmas.{reads_kept, reads_replaced, reads_same}
 use Rattle.ranges.specs.Rows.{plain, without_maps, KeepsNamed, RemapsRow}
-use Rattle.residency.specs.declared.kernel.Core.{Core}
-use Rattle.residency.specs.Picture.{Picture, picture_of, is_live, view}
-use Rattle.residency.specs.Parts.{IsFit}
-use Rattle.residency.specs.Shows.{ShowsPages}
-use Rattle.vm_types.specs.declared.command.Command.TheVariants.{Mmap}
-use Rattle.vm_types.specs.declared.command.MapSource.{MapSource}
-use Rattle.vm_types.specs.declared.command.Placing.{Placing}
-use Rattle.vm_types.specs.declared.command.Placing.TheVariants.{Hint, Fixed, NoReplace}
-use Rattle.vm_types.specs.declared.permission.Prot.{Prot}
-use Rattle.vm_types.specs.declared.refusal.Errno.{Errno}
-use Rattle.vm_types.specs.declared.refusal.Errno.TheVariants.{ESRCH, ENOMEM, EEXIST}
-use Rattle.vm_types.specs.declared.region.Attr.{Attr}
-use Rattle.vm_types.specs.declared.reply.Reply.TheVariants.{Address, Refused}
-use Rattle.vm_types.specs.Attributes.{attr_after}
-use Rattle.vm_types.specs.Checks.{first_of, page_count}
-use Rattle.vm_types.specs.Files.{Files}
-use Rattle.vm_types.specs.Mapping.{mmap_errno, mmap_place, place_for, is_taken, first_attr, attr_for, has_too_many_runs, mapped, with_mapping}
-use Rattle.vm_types.specs.Objects.{Maps, maps_of, free_object, named_objects}
-use Rattle.vm_types.specs.Placement.{placed, is_free}
-use Rattle.vm_types.specs.Ranges.{without_pages}
-use Rattle.vm_types.specs.Rows.{in_row, replaced}
-use Rattle.vm_types.specs.Runs.{run_count}
-use Rattle.vm_types.specs.State.{State}
-use Rattle.vm_types.specs.Step.{outcome, mmap_outcome}
+use Rattle.residency.specs.{declared.kernel.Core.{Core}, Picture.{Picture, picture_of, is_live, view}, Parts.{IsFit}, Shows.{ShowsPages}}
+use Rattle.vm_types.specs.{declared.command.Command.TheVariants.{Mmap}, declared.command.MapSource.{MapSource}, declared.command.Placing.{Placing}, declared.command.Placing.TheVariants.{Hint, NoReplace}, declared.permission.Prot.{Prot}}
+use Rattle.vm_types.specs.{declared.refusal.Errno.{Errno}, declared.refusal.Errno.TheVariants.{ESRCH, ENOMEM, EEXIST}, declared.region.Attr.{Attr}, declared.reply.Reply.TheVariants.{Address, Refused}, Attributes.{attr_after}}
+use Rattle.vm_types.specs.{Checks.{first_of, page_count}, Files.{Files}, Mapping.{mmap_errno, mmap_place, place_for, is_taken, first_attr, attr_for, has_too_many_runs, mapped, with_mapping}}
+use Rattle.vm_types.specs.{Objects.{Maps, maps_of, free_object, named_objects}, Placement.{placed, is_free}, Ranges.{without_pages}, Rows.{in_row, replaced}, Runs.{run_count}, State.{State}, Step.{outcome, mmap_outcome}}
 use Rattle.vm_types.specs.View.{View, attrs_of}
-use Rattle.spaces.specs.Calls.{Comes}
-use Rattle.spaces.specs.Mappings.{mmap_asked_checks, attr_there, passes_runs, place_checks, MapsPages}
-use Rattle.spaces.specs.Space.{space_of}
-use Rattle.spaces.proofs.Calls.{does, does_answer, shows_row}
-use Rattle.spaces.proofs.Checks.{first_of-append, first_of-some}
-use Rattle.spaces.proofs.Pages.{attrs_as_runs, maps_without}
+use Rattle.spaces.specs.{Calls.{Comes}, Mappings.{mmap_asked_checks, attr_there, passes_runs, place_checks, MapsPages}, Space.{space_of}}
+use Rattle.spaces.proofs.{Calls.{does, does_answer, shows_row}, Checks.{first_of-append, first_of-some}, Pages.{attrs_as_runs, maps_without}}
 
 -- the place and its checks ask for attributes alone
 module _ (mode : ℕ) (a b : ℕ → Option View) (same : attrs_of a ≡ attrs_of b) where
   place_same : (placing : Placing) (addr pages : ℕ) → place_for mode placing a addr pages ≡ place_for mode placing b addr pages
   place_same Hint addr pages = ap (λ (m : ℕ → Option Attr). placed mode m addr pages) same
-  place_same Fixed addr pages = refl
-  place_same NoReplace addr pages = refl
+  place_same placing addr pages = refl
 
   taken_same : (placing : Placing) (pages : ℕ) (place : Option ℕ) → is_taken placing a pages place ≡ is_taken placing b pages place
-  taken_same Hint pages place = refl
-  taken_same Fixed pages place = refl
-  taken_same NoReplace pages None = refl
   taken_same NoReplace pages (Some first) = ap (λ (m : ℕ → Option Attr). not (is_free m first pages)) same
+  taken_same placing pages place = refl
 
   many_same : (pages : ℕ) (attr : ℕ → Attr) (place : Option ℕ) → passes_runs mode a pages attr place ≡ passes_runs mode b pages attr place
   many_same pages attr None = refl
@@ -88,9 +60,6 @@ module _ {M : Type 0} {m : Levels.Ghosts M} {D E : Type 0} (g : Ghosts D) (h : G
   refuses errno e =
       does_answer g h old old s (Mmap pid addr len prot source placing) (Refused errno) shows
       (ap (λ (r : Option Errno). mmap_outcome s pid len prot source r (mmap_place s pid addr len placing)) e)
-
-  pub refused_dead : is_live (picture_of old) pid ≡ false → Comes g h old old s (Mmap pid addr len prot source placing) (Refused ESRCH)
-  refused_dead dead = let e : s.live pid ≡ false = shows.live pid ∙ dead in refuses ESRCH (rw e refl)
 
   module _ (live : is_live (picture_of old) pid ≡ true) where
     abbrev flat_checks : Option ℕ → List Rattle.vm_types.specs.Checks.Check

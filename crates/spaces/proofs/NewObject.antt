@@ -1,22 +1,12 @@
 -- The pages of a new object are named by the mapping alone.
-use Rattle.std.proofs.Common.{◌≡◌, ℕ, zero, suc, inl, inr, ◌⊎◌, ◌+◌, ◌-◌, ◌<◌, ◌≤◌, ◌==◌, ◌&&◌, Bool, true, false, Option, Some, None, IsSome, is_some, refl, sym, ap, ◌∙◌, subst, arith, eqb-true, eq-eqb, ne_eqb}
+use Rattle.std.proofs.Common.{◌≡◌, ℕ, zero, suc, inl, inr, ◌⊎◌, ◌+◌, ◌-◌, ◌<◌, ◌≤◌, ◌==◌, Bool, true, false, Option, Some, None, IsSome, is_some, refl, sym, ap, ◌∙◌, subst, arith, eqb-true, eq-eqb, ne_eqb}
+use Rattle.std.proofs.{lemmas.Bool.{and_parts, cases_Bool, cases_eq, false≢true, true≢false}, lemmas.Bool.Decides.{nat_tests}}
 use Rattle.std.specs.Prelude.{if◌then◌else◌}
-use Rattle.std.proofs.lemmas.Bool.{cases_Bool, cases_eq, false≢true, true≢false}
-use Rattle.std.proofs.lemmas.Bool.Decides.{nat_tests}
-use Rattle.vm_types.specs.Limits.{named_limit, object_limit, user_end, widest_end}
-use Rattle.vm_types.specs.declared.command.MapSource.{MapSource}
-use Rattle.vm_types.specs.declared.command.MapSource.TheVariants.{Anon, Private, Shared, Common}
-use Rattle.vm_types.specs.declared.permission.Prot.{Prot}
-use Rattle.vm_types.specs.declared.region.Attr.{Attr}
-use Rattle.vm_types.specs.declared.region.Backing.{Backing}
+use Rattle.vm_types.specs.{Limits.{named_limit, object_limit, user_end, widest_end}, declared.command.MapSource.{MapSource}, declared.command.MapSource.TheVariants.{Common}, declared.permission.Prot.{Prot}, declared.region.Attr.{Attr}}
+use Rattle.vm_types.specs.{declared.region.Backing.{Backing}, Attributes.{attr_after}, Mapping.{first_attr}, Objects.{Maps, names, uses, is_used, is_object_page, is_of_object, least_from, free_object}}
+use Rattle.vm_types.specs.{Rows.{in_row, removed, replaced, IsUserMap}, Runs.{run_count}}
 use Rattle.vm_types.specs.declared.region.Backing.TheVariants as Backings
-use Rattle.vm_types.specs.Attributes.{attr_after}
-use Rattle.vm_types.specs.Mapping.{first_attr}
-use Rattle.vm_types.specs.Objects.{Maps, names, uses, is_used, is_object_page, is_of_object, least_from, free_object}
-use Rattle.vm_types.specs.Rows.{in_row, removed, replaced, IsUserMap}
-use Rattle.vm_types.specs.Runs.{run_count}
-use Rattle.vm_types.proofs.Modes.{sizes}
-use Rattle.vm_types.proofs.NewObjects.{free-unused, least-clear}
+use Rattle.vm_types.proofs.{Modes.{sizes}, NewObjects.{free-unused, least-clear}}
 use Rattle.residency.specs.Parts.{AreObjects}
 use Rattle.residency.proofs.Places.{objects-fewer}
 use Rattle.ranges.specs.Rows.{with_map, without_maps}
@@ -76,16 +66,9 @@ new_unused mode at pid first pages none user few =
       | inr f ↦ f
     ])
 
-both_are : (a b : Bool) → (a && b) ≡ true → (a ≡ true) × (b ≡ true)
-both_are true true e = (refl, refl)
-both_are true false e = absurd (false≢true e)
-both_are false b e = absurd (false≢true e)
-
 names_of : (b : Backing) (o page : ℕ) → is_object_page b o page ≡ true → is_of_object b o ≡ true
-names_of Backings.Anon o page e = e
-names_of (Backings.Private p) o page e = e
-names_of (Backings.Shared p) o page e = e
-names_of (Backings.Common p) o page e = (both_are (p.object == o) (p.page == page) e).0
+names_of (Backings.Common p) o page e = (and_parts (p.object == o) (p.page == page) e).0
+names_of b o page e = e
 
 -- what names a page of an object uses it
 names_uses : (a : Option Attr) (o page : ℕ) → names a o page ≡ true → uses a o ≡ true
@@ -94,16 +77,12 @@ names_uses (Some attr) o page e = names_of attr.backing o page e
 
 -- the object and the page of a page of the mapping
 new_used : (source : MapSource) (prot : Prot) (n i o : ℕ) → uses (Some (attr_after (first_attr source prot n) i)) o ≡ true → (source ≡ Common) × (n ≡ o)
-new_used Anon prot n i o e = absurd (false≢true e)
-new_used (Private file offset) prot n i o e = absurd (false≢true e)
-new_used (Shared file offset) prot n i o e = absurd (false≢true e)
 new_used Common prot n i o e = (refl, eqb-true n o e)
+new_used source prot n i o e = absurd (false≢true e)
 
 new_named : (source : MapSource) (prot : Prot) (n i o page : ℕ) → names (Some (attr_after (first_attr source prot n) i)) o page ≡ true → i ≡ page
-new_named Anon prot n i o page e = absurd (false≢true e)
-new_named (Private file offset) prot n i o page e = absurd (false≢true e)
-new_named (Shared file offset) prot n i o page e = absurd (false≢true e)
-new_named Common prot n i o page e = let same = eqb-true (0 + i) page (both_are (n == o) (0 + i == page) e).1 in omega (arith, same)
+new_named Common prot n i o page e = let same = eqb-true (0 + i) page (and_parts (n == o) (0 + i == page) e).1 in omega (arith, same)
+new_named source prot n i o page e = absurd (false≢true e)
 
 some_used : (a : Option Attr) (o : ℕ) → uses a o ≡ true → IsSome a
 some_used None o e = absurd (false≢true e)

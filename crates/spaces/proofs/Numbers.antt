@@ -1,14 +1,10 @@
 -- The numbers of processes, and how many runs each has.
 use Rattle.vm_types.specs.declared.mode.Levels as Levels
-use Rattle.std.proofs.Common.{◌≡◌, ℕ, ◌<◌, ◌≤◌, Option, Some, None, IsSome, List, [], refl, ◌∙◌, arith}
-use Rattle.std.proofs.lemmas.Bool.{false≢true}
+use Rattle.std.proofs.{Common.{◌≡◌, ℕ, ◌<◌, ◌≤◌, Option, Some, None, IsSome, List, [], refl, ◌∙◌, arith}, lemmas.Bool.{false≢true}}
 use Rattle.vm_types.specs.Runs.{run_count}
-use Rattle.regions.specs.declared.run.Run.{Run}
-use Rattle.regions.specs.RunList.{attr_at}
+use Rattle.regions.specs.{declared.run.Run.{Run}, RunList.{attr_at}}
 use Rattle.regions.proofs.CountLemmas.{run_count-same, run_count-maximal}
-use Rattle.residency.specs.declared.kernel.Core.{Core}
-use Rattle.residency.specs.Picture.{picture_of, attr_where}
-use Rattle.residency.specs.Parts.{IsFit}
+use Rattle.residency.specs.{declared.kernel.Core.{Core}, Picture.{picture_of, attr_where}, Parts.{IsFit}}
 
 unmapped : (o : Option ℕ) (runs : List Run) (k : ℕ) → ((r : ℕ) → o ≡ Some r → ⊥) → attr_where o runs k ≡ None
 unmapped None runs k none = refl

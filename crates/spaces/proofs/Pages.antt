@@ -1,20 +1,8 @@
 -- The pages of a process by memory, by its runs and in the flat model.
-use Rattle.vm_types.specs.Limits.{user_end}
-use Rattle.std.proofs.Common.{ℕ, ◌≡◌, ◌==◌, inl, inr, Bool, true, false, if◌then◌else◌, IsSome, List, Option, Some, None, option_map, refl, sym, ap, ◌∙◌, arith}
-use Rattle.std.proofs.lemmas.Bool.{cases_lt}
-use Rattle.std.proofs.lemmas.Bool.Decides.{nat_tests}
-use Rattle.regions.specs.declared.run.Run.{Run}
-use Rattle.regions.specs.RunList.{attr_at}
-use Rattle.residency.specs.Picture.{Picture, entry, own_in, view, view_of}
-use Rattle.residency.specs.Parts.{IsFit}
-use Rattle.residency.specs.Shows.{ShowsPages}
-use Rattle.vm_types.specs.declared.region.Attr.{Attr}
-use Rattle.vm_types.specs.State.{State}
-use Rattle.vm_types.specs.View.{View, attrs_of}
-use Rattle.vm_types.specs.Objects.{maps_of}
-use Rattle.vm_types.specs.Processes.{without_space}
-use Rattle.vm_types.specs.Ranges.{without_pages, unmapped}
-use Rattle.vm_types.specs.Rows.{in_row, removed}
+use Rattle.vm_types.specs.{Limits.{user_end}, declared.region.Attr.{Attr}, State.{State}, View.{View, attrs_of}, Objects.{maps_of}, Processes.{without_space}, Ranges.{without_pages, unmapped}, Rows.{in_row, removed}}
+use Rattle.std.proofs.{Common.{ℕ, ◌≡◌, ◌==◌, inl, inr, Bool, true, false, if◌then◌else◌, IsSome, List, Option, Some, None, option_map, refl, sym, ap, ◌∙◌, arith}, lemmas.Bool.{cases_lt}, lemmas.Bool.Decides.{nat_tests}}
+use Rattle.regions.specs.{declared.run.Run.{Run}, RunList.{attr_at}}
+use Rattle.residency.specs.{Picture.{Picture, entry, own_in, view, view_of}, Parts.{IsFit}, Shows.{ShowsPages}}
 use Rattle.ranges.specs.Rows.{plain, without_maps}
 use Rattle.spaces.specs.Space.{space_of}
 

@@ -1,13 +1,8 @@
 -- Where a mapping goes, and whether its place is free.
-use Rattle.vm_types.specs.Limits.{user_end}
-use Rattle.std.proofs.Common.{ℕ, zero, suc, ◌+◌, ◌-◌, ◌/◌, ◌≡◌, ◌<◌, ◌≤◌, ◌==◌, ◌&&◌, not, leb, Bool, true, false, if◌then◌else◌, Option, Some, None, refl, sym, ◌∙◌, subst, arith}
-use Rattle.std.proofs.lemmas.Bool.Decides.{nat_tests}
-use Rattle.regions.specs.declared.run.Run.{Run}
-use Rattle.regions.specs.RunList.{IsNextRun}
+use Rattle.vm_types.specs.{Limits.{user_end}, declared.region.Attr.{Attr}, Attributes.{attr_after}, Placement.{is_free, is_place, lowest_from, lowest_place, placed}}
+use Rattle.std.proofs.{Common.{ℕ, zero, suc, ◌+◌, ◌-◌, ◌/◌, ◌≡◌, ◌<◌, ◌≤◌, ◌==◌, ◌&&◌, not, leb, Bool, true, false, if◌then◌else◌, Option, Some, None, refl, sym, ◌∙◌, subst, arith}, lemmas.Bool.Decides.{nat_tests}}
+use Rattle.regions.specs.{declared.run.Run.{Run}, RunList.{IsNextRun}}
 use Rattle.regions.proofs.SearchLemmas.{is_free-all, is_free-at, is_place-is}
-use Rattle.vm_types.specs.declared.region.Attr.{Attr}
-use Rattle.vm_types.specs.Attributes.{attr_after}
-use Rattle.vm_types.specs.Placement.{is_free, is_place, lowest_from, lowest_place, placed}
 
 -- a place lies in the user pages
 module _ (mode : ℕ) where
@@ -52,7 +47,7 @@ module _ (mode : ℕ) where
   pub placed_inside : (map : ℕ → Option Attr) (addr pages first : ℕ) → placed mode map addr pages ≡ Some first → (16 ≤ first) × (first + pages ≤ user_end mode)
   placed_inside map addr pages first e = let inside = hinted_inside mode map addr pages first e in (inside.low, inside.high)
 
--- the place is free where the first run from it on begins behind it
+-- the place is free where the first run from it on begins after it
 not_true : (b : Bool) → (b ≡ true → ⊥) → b ≡ false
 not_true true h = absurd (h refl)
 not_true false h = refl

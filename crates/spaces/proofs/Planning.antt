@@ -1,23 +1,11 @@
 -- The checks of a mapping's place, decided one after the other.
 use Rattle.vm_types.proofs.Modes.{sizes}
-use Rattle.vm_types.specs.Limits.{user_end}
-use Rattle.std.proofs.Common.{ℕ, ◌≡◌, ◌<◌, ◌≤◌, Bool, true, false, nat_lt, List, [], ◌∷◌, Option, Some, None, refl, sym, ap, ◌∙◌, arith}
-use Rattle.std.proofs.lemmas.Bool.Decides.{nat_tests}
-use Rattle.regions.specs.declared.run.Run.{Run}
-use Rattle.regions.specs.RunList.{attr_at}
-use Rattle.vm_types.specs.declared.command.MapSource.{MapSource}
-use Rattle.vm_types.specs.declared.command.MapSource.TheVariants.{Anon, Private, Shared, Common}
-use Rattle.vm_types.specs.declared.command.Placing.{Placing}
-use Rattle.vm_types.specs.declared.refusal.Errno.TheVariants.{ENOMEM, EEXIST}
-use Rattle.vm_types.specs.declared.region.Attr.{Attr}
-use Rattle.vm_types.specs.Attributes.{backing_fits}
-use Rattle.vm_types.specs.Checks.{first_of}
-use Rattle.vm_types.specs.Mapping.{place_for, is_taken, first_backing}
-use Rattle.vm_types.specs.Rows.{replaced}
-use Rattle.vm_types.specs.Runs.{run_count}
+use Rattle.vm_types.specs.{Limits.{user_end}, declared.command.MapSource.{MapSource}, declared.command.MapSource.TheVariants.{Anon, Private, Shared, Common}, declared.command.Placing.{Placing}}
+use Rattle.vm_types.specs.{declared.refusal.Errno.TheVariants.{ENOMEM, EEXIST}, declared.region.Attr.{Attr}, Attributes.{backing_fits}, Checks.{first_of}, Mapping.{place_for, is_taken, first_backing}, Rows.{replaced}, Runs.{run_count}}
 use Rattle.vm_types.specs.View.{View}
-use Rattle.spaces.specs.Mappings.{place_checks, passes_runs, FitsFile}
-use Rattle.spaces.specs.Space.{space_of}
+use Rattle.std.proofs.{Common.{ℕ, ◌≡◌, ◌<◌, ◌≤◌, Bool, true, false, nat_lt, List, [], ◌∷◌, Option, Some, None, refl, sym, ap, ◌∙◌, arith}, lemmas.Bool.Decides.{nat_tests}}
+use Rattle.regions.specs.{declared.run.Run.{Run}, RunList.{attr_at}}
+use Rattle.spaces.specs.{Mappings.{place_checks, passes_runs, FitsFile}, Space.{space_of}}
 use Rattle.spaces.proofs.Pages.{attrs_same}
 
 taken_first : (a b : Bool) → a ≡ true → first_of ((a, EEXIST) ∷ (b, ENOMEM) ∷ []) ≡ Some EEXIST

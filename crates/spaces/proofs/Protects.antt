@@ -1,37 +1,17 @@
 -- mprotect of the flat model in a state that memory shows.
 use Rattle.vm_types.specs.declared.mode.Levels as Levels
-use Rattle.vm_types.specs.Limits.{user_end}
+use Rattle.vm_types.specs.{Limits.{user_end}, declared.command.Command.TheVariants.{Mprotect}, declared.permission.Prot.{Prot}, declared.refusal.Errno.{Errno}, declared.refusal.Errno.TheVariants.{ENOMEM, EACCES}}
+use Rattle.vm_types.specs.{declared.region.Attr.{Attr}, declared.reply.Reply.TheVariants.{Done, Refused}, Attributes.{with_prot}, Checks.{first_of, page_count, pages_from}, Files.{Files}, Permission.{kept}}
+use Rattle.vm_types.specs.{Ranges.{permitted, reprotected, denies_stores, row_checks}, Rows.{in_row, IsUserMap, is_covered, protected}, Runs.{run_count}, State.{State}, Step.{Outcome, outcome, refused_or, protect_outcome}}
+use Rattle.vm_types.specs.View.{View, attrs_of}
 use Rattle.std.proofs.Common.{ℕ, zero, suc, ◌+◌, ◌/◌, ◌%◌, ◌≡◌, ◌≢◌, ◌<◌, ◌≤◌, ◌==◌, ◌&&◌, not, Bool, true, false, if◌then◌else◌, nat_lt, List, [], ◌∷◌, Option, Some, None, is_some, option_map, refl, sym, ap, ◌∙◌, arith}
 use Rattle.std.proofs.lemmas.Bool.Decides.{nat_tests}
 use Rattle.disk_model.specs.declared.sector_disk.SectorDisk.{Ghosts}
-use Rattle.regions.specs.declared.run.Run.{Run}
-use Rattle.regions.specs.RunList.{attr_at}
+use Rattle.regions.specs.{declared.run.Run.{Run}, RunList.{attr_at}}
 use Rattle.ranges.specs.Rows.{ReprotectsRow}
-use Rattle.residency.specs.declared.kernel.Core.{Core}
-use Rattle.residency.specs.Picture.{picture_of, is_live, view}
-use Rattle.residency.specs.Shows.{ShowsPages}
-use Rattle.vm_types.specs.declared.command.Command.TheVariants.{Mprotect}
-use Rattle.vm_types.specs.declared.permission.Prot.{Prot}
-use Rattle.vm_types.specs.declared.refusal.Errno.{Errno}
-use Rattle.vm_types.specs.declared.refusal.Errno.TheVariants.{ENOMEM, EACCES}
-use Rattle.vm_types.specs.declared.region.Attr.{Attr}
-use Rattle.vm_types.specs.declared.reply.Reply.TheVariants.{Done, Refused}
-use Rattle.vm_types.specs.Attributes.{with_prot}
-use Rattle.vm_types.specs.Checks.{first_of, page_count, pages_from}
-use Rattle.vm_types.specs.Files.{Files}
-use Rattle.vm_types.specs.Permission.{kept}
-use Rattle.vm_types.specs.Ranges.{permitted, reprotected, denies_stores, row_checks}
-use Rattle.vm_types.specs.Rows.{in_row, IsUserMap, is_covered, protected}
-use Rattle.vm_types.specs.Runs.{run_count}
-use Rattle.vm_types.specs.State.{State}
-use Rattle.vm_types.specs.Step.{Outcome, outcome, refused_or, protect_outcome}
-use Rattle.vm_types.specs.View.{View, attrs_of}
-use Rattle.spaces.specs.Calls.{Comes}
-use Rattle.spaces.specs.Protections.{permit_checks, IsPermitted}
-use Rattle.spaces.specs.Space.{space_of}
-use Rattle.spaces.proofs.Calls.{does, does_answer, with_pages, shows_pages}
-use Rattle.spaces.proofs.Guards.{denies_same}
-use Rattle.spaces.proofs.Pages.{attrs_as_runs, attrs_same}
+use Rattle.residency.specs.{declared.kernel.Core.{Core}, Picture.{picture_of, is_live, view}, Shows.{ShowsPages}}
+use Rattle.spaces.specs.{Calls.{Comes}, Protections.{permit_checks, IsPermitted}, Space.{space_of}}
+use Rattle.spaces.proofs.{Calls.{does, does_answer, with_pages, shows_pages}, Guards.{denies_same}, Pages.{attrs_as_runs, attrs_same}}
 
 -- a row of mapped pages lies in the user pages
 pub covered_last : (map : ℕ → Option Attr) (first count : ℕ) → is_covered map first (suc count) ≡ true → is_some (map (first + count)) ≡ true

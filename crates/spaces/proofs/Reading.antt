@@ -1,50 +1,23 @@
 -- Loads and fetches of the flat model in a state that memory shows.
 use Rattle.vm_types.specs.declared.mode.Levels as Levels
-use Rattle.std.proofs.Common.{ℕ, ◌%◌, ◌≡◌, true, false, if◌then◌else◌, List, refl, sym, ap, ◌∙◌, subst, arith}
+use Rattle.std.proofs.Common.{ℕ, ◌/◌, ◌%◌, ◌≡◌, true, false, if◌then◌else◌, List, Result, Ok, refl, sym, ap, ◌∙◌, subst, arith}
+use Rattle.std.specs.Prelude.{IfOk}
 use Rattle.disk_model.specs.declared.sector_disk.SectorDisk.{Ghosts}
-use Rattle.fault.specs.declared.refusal.AccessRefusal.{AccessRefusal}
+use Rattle.fault.specs.{declared.refusal.AccessRefusal.{AccessRefusal}, Outcome.{Grants, Reads, IsFrameFor, IsReadyFor, IsRefusal, verdict_of}, Serving.{Reaches}, Changes.{KeepsSeen}, Files.{Proceeds, BringsFiles}}
 use Rattle.fault.specs.declared.refusal.AccessRefusal.TheVariants as Refusal
 use Rattle.fault.proofs.AccessShowing.{ShowsFiles, shows_files, shows_kept, bytes_shown}
-use Rattle.fault.specs.Outcome.{Reads, IsFrameFor, IsRefusal, verdict_of}
 use Rattle.frames.specs.FrameTable.{IsFrame, bytes_of}
-use Rattle.fault.specs.Changes.{KeepsSeen}
-use Rattle.fault.specs.Files.{Proceeds, BringsFiles}
-use Rattle.residency.specs.Capacity.{IsShort}
-use Rattle.residency.specs.Stalls.{ReadCause}
-use Rattle.residency.specs.declared.kernel.Core.{Core}
-use Rattle.residency.specs.Picture.{Picture, picture_of, is_live}
-use Rattle.residency.specs.Parts.{IsFit}
-use Rattle.residency.specs.Shows.{ShowsPages}
+use Rattle.residency.specs.{Capacity.{IsShort}, Stalls.{ReadCause}, declared.kernel.Core.{Core}, Picture.{Picture, picture_of, is_live}, Parts.{IsFit}, Shows.{ShowsPages}}
 use Rattle.sv39_walk.specs.Walk.{is_store}
 use Rattle.msync.specs.Shows.{CoreShows}
-use Rattle.vm_types.specs.declared.access.Access.{Access}
+use Rattle.vm_types.specs.{declared.access.Access.{Access}, declared.command.Command.{Command}, declared.command.Command.TheVariants.{Load, Fetch}, declared.number.Phys.{Phys}, declared.object.PageKey.{PageKey}}
+use Rattle.vm_types.specs.{declared.refusal.Code.{Code}, declared.refusal.Fault.{Fault}, declared.refusal.Stall.{Stall}, declared.refusal.Stall.TheVariants.{NoFrames, NoSwap, SwapDevice, StoreDevice}, declared.region.Backing.{Backing}}
+use Rattle.vm_types.specs.{declared.reply.Reply.{Reply}, declared.reply.Reply.TheVariants.{Value, Faulted, Stalled, Refused}, declared.refusal.Errno.TheVariants.{ESRCH}, declared.width.Width.{Width}}
+use Rattle.vm_types.specs.{declared.width.Width.TheVariants.{Four}, Access.{loaded}, Capacity.{table_count}, Stalls.{is_success, is_open_to, cause_of, needs_frames, reads_files, reads_swap}, Replies.{reply_of}, State.{State, shown}}
+use Rattle.vm_types.specs.{Step.{Outcome, outcome, answers, judged, load_outcome, fetch_outcome}, Verdict.{Verdict, Fine, Faults, fault_of}, View.{View}, Width.{byte_count}}
 use Rattle.vm_types.specs.declared.access.Access.TheVariants as Accesses
-use Rattle.vm_types.specs.declared.command.Command.{Command}
-use Rattle.vm_types.specs.declared.command.Command.TheVariants.{Load, Fetch}
-use Rattle.vm_types.specs.declared.object.PageKey.{PageKey}
-use Rattle.vm_types.specs.declared.refusal.Code.{Code}
-use Rattle.vm_types.specs.declared.refusal.Fault.{Fault}
-use Rattle.vm_types.specs.declared.refusal.Stall.{Stall}
-use Rattle.vm_types.specs.declared.refusal.Stall.TheVariants.{NoFrames, NoSwap, SwapDevice, StoreDevice}
-use Rattle.vm_types.specs.declared.region.Backing.{Backing}
-use Rattle.vm_types.specs.declared.reply.Reply.TheVariants.{Value, Faulted, Stalled, Refused}
-use Rattle.vm_types.specs.declared.refusal.Errno.TheVariants.{ESRCH}
-use Rattle.vm_types.specs.declared.width.Width.{Width}
-use Rattle.vm_types.specs.declared.width.Width.TheVariants.{Four}
-use Rattle.vm_types.specs.Access.{loaded}
-use Rattle.vm_types.specs.Capacity.{table_count}
-use Rattle.vm_types.specs.Stalls.{is_success, is_open_to, cause_of, needs_frames, reads_files, reads_swap}
-use Rattle.vm_types.specs.Replies.{reply_of}
-use Rattle.vm_types.specs.State.{State}
-use Rattle.vm_types.specs.Step.{Outcome, outcome, answers, judged, load_outcome, fetch_outcome}
-use Rattle.vm_types.specs.Verdict.{Verdict, Fine, Faults, fault_of}
-use Rattle.vm_types.specs.View.{View}
-use Rattle.vm_types.specs.Width.{byte_count}
-use Rattle.spaces.specs.Accesses.{reply_for}
-use Rattle.spaces.specs.Calls.{Comes, Stalls, causes}
-use Rattle.spaces.proofs.Calls.{does, does_answer}
-use Rattle.spaces.proofs.Short.{falls_short}
-use Rattle.spaces.proofs.Shown.{judged_is, homes}
+use Rattle.spaces.specs.{Accesses.{reply_for, CarriesRead}, Calls.{Comes, Stalls, causes}}
+use Rattle.spaces.proofs.{Calls.{does, does_answer}, Short.{falls_short}, Shown.{judged_is, homes}}
 
 -- the frame of a load or a fetch is one of memory's
 pub open_read : {mode : ℕ} (kind : Access) (c : Picture mode) (pid page : ℕ) (b : Backing) (n : ℕ) → is_store kind ≡ false → IsFrameFor kind c pid page b n → IsFrame c.frames n
@@ -88,18 +61,7 @@ module _ {M : Type 0} {m : Levels.Ghosts M} {D E : Type 0} (g : Ghosts D) (h : G
   refused (Refusal.Stall stall) is shows same = stalls stall is.seen is.fine is.stalled.cause is.stalled.short (same is.stalled.keeps)
 
 module _ {M : Type 0} {m : Levels.Ghosts M} {D E : Type 0} (g : Ghosts D) (h : Ghosts E) (old new : Core D E M m) (W : PageKey → Type 0) (s : State) (shows : CoreShows g old s)
-    (keeps : g.keeps_model new.store.disk) (swaps : h.keeps_model new.swap.pages.disk) (goes : Proceeds g h old new) (brings : BringsFiles g h W old new)
-    (pid addr : ℕ) (live : is_live (picture_of old) pid ≡ true) where
-  load_is : (width : Width) (v : Verdict) → verdict_of (picture_of old) pid addr width Accesses.Load ≡ v → outcome s (Load pid addr width) ≡ load_outcome s addr width v
-  load_is width v e =
-      live_outcome (picture_of old) s pid (load_outcome s addr width (judged s pid addr width Accesses.Load)) (answers s (Refused ESRCH)) shows.pages live
-      ∙ ap (load_outcome s addr width) (judged_is old s shows.pages pid addr width Accesses.Load ∙ e)
-
-  fetch_is : (v : Verdict) → verdict_of (picture_of old) pid addr Four Accesses.Fetch ≡ v → outcome s (Fetch pid addr) ≡ fetch_outcome s addr v
-  fetch_is v e =
-      live_outcome (picture_of old) s pid (fetch_outcome s addr (judged s pid addr Four Accesses.Fetch)) (answers s (Refused ESRCH)) shows.pages live
-      ∙ ap (fetch_outcome s addr) (judged_is old s shows.pages pid addr Four Accesses.Fetch ∙ e)
-
+    (keeps : g.keeps_model new.store.disk) (swaps : h.keeps_model new.swap.pages.disk) (goes : Proceeds g h old new) (brings : BringsFiles g h W old new) where
   pub same : KeepsSeen (picture_of old) (picture_of new) → ShowsPages (picture_of new) s
   same kept =
       shows_kept g old.store.disk new.store.disk W (picture_of old) (picture_of new) s goes.fit (brings swaps) goes.spaces keeps
@@ -110,30 +72,67 @@ module _ {M : Type 0} {m : Levels.Ghosts M} {D E : Type 0} (g : Ghosts D) (h : G
       shows_files g old.store.disk new.store.disk W (picture_of old) (picture_of new) s goes.fit (brings swaps) goes.spaces keeps
       (homes g old new s shows goes.reads keeps) shows.pages
 
-  pub loads : (width : Width) (v : View) (n value : ℕ) → verdict_of (picture_of old) pid addr width Accesses.Load ≡ Fine v → Reads (picture_of old) (picture_of new) v n
-      → value ≡ loaded (bytes_of new.frames n) (addr % 4096) (byte_count width) → Comes g h old new s (Load pid addr width) (Value width value)
-  loads width v n value fine read is =
-      does g h old new s (Load pid addr width) (Value width value) (load_outcome s addr width (Fine v)) (load_is width (Fine v) fine)
-      (ap (Value width) (is ∙ ap (λ (b : List ℕ). loaded b (addr % 4096) (byte_count width)) (bytes_shown (picture_of new) s v (bytes_of new.frames n) files read.shown)))
-      (same read.keeps)
+-- what a read of a number comes to
+abbrev read_outcome : State → ℕ → Width → Access → Verdict → Outcome
+read_outcome s addr width kind (Faults code) = answers s (Faulted (fault_of kind code addr))
+read_outcome s addr width kind (Fine view) = answers s (Value width (loaded (shown s view) (addr % 4096) (byte_count width)))
 
-  pub fetches : (v : View) (n value : ℕ) → verdict_of (picture_of old) pid addr Four Accesses.Fetch ≡ Fine v → Reads (picture_of old) (picture_of new) v n
-      → value ≡ loaded (bytes_of new.frames n) (addr % 4096) (byte_count Four) → Comes g h old new s (Fetch pid addr) (Value Four value)
-  fetches v n value fine read is =
-      does g h old new s (Fetch pid addr) (Value Four value) (fetch_outcome s addr (Fine v)) (fetch_is (Fine v) fine)
-      (ap (Value Four) (is ∙ ap (λ (b : List ℕ). loaded b (addr % 4096) (byte_count Four)) (bytes_shown (picture_of new) s v (bytes_of new.frames n) files read.shown)))
-      (same read.keeps)
+loads_so : (s : State) (addr : ℕ) (width : Width) (v : Verdict) → load_outcome s addr width v ≡ read_outcome s addr width Accesses.Load v
+loads_so s addr width (Faults code) = refl
+loads_so s addr width (Fine view) = refl
 
-  pub load_refused : (width : Width) (refusal : AccessRefusal) → IsRefusal g h old new pid addr width Accesses.Load refusal
-      → Comes g h old new s (Load pid addr width) (reply_of (reply_for refusal))
-  load_refused width refusal is =
-      refused g h old new s pid addr width Accesses.Load (Load pid addr width) (λ v e. ap (λ (o : Outcome). is_success o.reply) (load_is width (Fine v) e))
-      (λ v e. ap (λ (o : Outcome). table_count o.state) (load_is width (Fine v) e))
-      (λ code e. load_is width (Faults code) e) refl refl refl goes.fit refusal is shows.pages same
+fetches_so : (s : State) (addr : ℕ) (v : Verdict) → fetch_outcome s addr v ≡ read_outcome s addr Four Accesses.Fetch v
+fetches_so s addr (Faults code) = refl
+fetches_so s addr (Fine view) = refl
 
-  pub fetch_refused : (refusal : AccessRefusal) → IsRefusal g h old new pid addr Four Accesses.Fetch refusal
-      → Comes g h old new s (Fetch pid addr) (reply_of (reply_for refusal))
-  fetch_refused refusal is =
-      refused g h old new s pid addr Four Accesses.Fetch (Fetch pid addr) (λ v e. ap (λ (o : Outcome). is_success o.reply) (fetch_is (Fine v) e))
-      (λ v e. ap (λ (o : Outcome). table_count o.state) (fetch_is (Fine v) e))
-      (λ code e. fetch_is (Faults code) e) refl refl refl goes.fit refusal is shows.pages same
+reads_ready : {mode : ℕ} (kind : Access) (old new : Picture mode) (pid page : ℕ) (v : View) (n : ℕ) → is_store kind ≡ false → IsReadyFor kind old new pid page v n → Reads old new v n
+reads_ready Accesses.Load old new pid page v n e ready = ready
+reads_ready Accesses.Store old new pid page v n e ready = cc
+reads_ready Accesses.Fetch old new pid page v n e ready = ready
+
+module _ {M : Type 0} {m : Levels.Ghosts M} {D E : Type 0} (g : Ghosts D) (h : Ghosts E) (old new : Core D E M m) (pid addr : ℕ) (width : Width) (kind : Access) where
+  -- the command reads a number of that width and kind at the address
+  record IsRead (s : State) (command : Command) : Type 0 where
+    is : (v : Verdict) → verdict_of (picture_of old) pid addr width kind ≡ v → outcome s command ≡ read_outcome s addr width kind v
+    frames : needs_frames command ≡ true
+    files : reads_files command ≡ true
+    swaps : reads_swap s command ≡ true
+
+  -- what comes of each such command comes of a load and of a fetch
+  carries : is_live (picture_of old) pid ≡ true → (reply : Reply)
+      → ((s : State) (command : Command) → CoreShows g old s → g.keeps_model new.store.disk → h.keeps_model new.swap.pages.disk → IsRead s command → Comes g h old new s command reply)
+      → CarriesRead g h old new pid addr width kind reply
+  carries live reply comes = record {
+    load = λ is s shows keeps swaps.
+        let loaded : (v : Verdict) → verdict_of (picture_of old) pid addr width kind ≡ v → outcome s (Load pid addr width) ≡ read_outcome s addr width kind v = λ v.
+        subst (λ (k : Access). verdict_of (picture_of old) pid addr width k ≡ v → outcome s (Load pid addr width) ≡ read_outcome s addr width k v) (sym is)
+        (λ e. live_outcome (picture_of old) s pid (load_outcome s addr width (judged s pid addr width Accesses.Load)) (answers s (Refused ESRCH)) shows.pages live
+        ∙ ap (load_outcome s addr width) (judged_is old s shows.pages pid addr width Accesses.Load ∙ e) ∙ loads_so s addr width v) in
+        comes s (Load pid addr width) shows (keeps refl) (swaps refl) (record { is = loaded; frames = refl; files = refl; swaps = refl });
+    fetch = λ is four s shows keeps swaps.
+        let fetched : (v : Verdict) → verdict_of (picture_of old) pid addr width kind ≡ v → outcome s (Fetch pid addr) ≡ read_outcome s addr width kind v = λ v.
+        subst (λ (k : Access). verdict_of (picture_of old) pid addr width k ≡ v → outcome s (Fetch pid addr) ≡ read_outcome s addr width k v) (sym is)
+        (subst (λ (w : Width). verdict_of (picture_of old) pid addr w Accesses.Fetch ≡ v → outcome s (Fetch pid addr) ≡ read_outcome s addr w Accesses.Fetch v) (sym four)
+        (λ e. live_outcome (picture_of old) s pid (fetch_outcome s addr (judged s pid addr Four Accesses.Fetch)) (answers s (Refused ESRCH)) shows.pages live
+        ∙ ap (fetch_outcome s addr) (judged_is old s shows.pages pid addr Four Accesses.Fetch ∙ e) ∙ fetches_so s addr v)) in
+        comes s (Fetch pid addr) shows (keeps refl) (swaps refl) (record { is = fetched; frames = refl; files = refl; swaps = refl });
+  }
+
+  module _ (r : Result Phys AccessRefusal) (reached : Reaches g h old new pid addr width kind r) (live : is_live (picture_of old) pid ≡ true) where
+    -- a number was read
+    pub reads : is_store kind ≡ false → (place : Phys) → r ≡ Ok place → (value : ℕ) → value ≡ loaded (bytes_of new.frames (place.0 / 4096)) (addr % 4096) (byte_count width)
+        → CarriesRead g h old new pid addr width kind (Value width value)
+    reads no_store place is value is_value = carries live (Value width value) (λ s command shows keeps swaps read.
+        let granted : Grants (picture_of old) (picture_of new) pid addr width kind place = subst (λ x. IfOk x (Grants (picture_of old) (picture_of new) pid addr width kind)) is (reached.granted (λ away. swaps)) in
+        let ready = reads_ready kind (picture_of old) (picture_of new) pid (addr / 4096) granted.seen (place.0 / 4096) no_store granted.ready in
+        does g h old new s command (Value width value) (read_outcome s addr width kind (Fine granted.seen)) (read.is (Fine granted.seen) granted.fine)
+        (ap (Value width) (is_value ∙ ap (λ (b : List ℕ). loaded b (addr % 4096) (byte_count width))
+        (bytes_shown (picture_of new) s granted.seen (bytes_of new.frames (place.0 / 4096)) (files g h old new _ s shows keeps swaps reached.proceeds reached.brings) ready.shown)))
+        (same g h old new _ s shows keeps swaps reached.proceeds reached.brings ready.keeps))
+
+    -- or it was not
+    pub read_refused : (refusal : AccessRefusal) → IsRefusal g h old new pid addr width kind refusal → CarriesRead g h old new pid addr width kind (reply_of (reply_for refusal))
+    read_refused refusal is = carries live (reply_of (reply_for refusal)) (λ s command shows keeps swaps read.
+        refused g h old new s pid addr width kind command (λ v e. ap (λ (o : Outcome). is_success o.reply) (read.is (Fine v) e)) (λ v e. ap (λ (o : Outcome). table_count o.state) (read.is (Fine v) e))
+        (λ code e. read.is (Faults code) e) read.frames read.files read.swaps reached.proceeds.fit refusal is shows.pages
+        (same g h old new _ s shows keeps swaps reached.proceeds reached.brings))

@@ -1,33 +1,18 @@
 -- What an access without a place says of devices and frames.
 use Rattle.vm_types.specs.declared.mode.Levels as Levels
-use Rattle.std.proofs.Common.{ℕ, ◌≡◌, ◌≤◌, ◌+◌, true, false, ap, subst, arith}
+use Rattle.std.proofs.Common.{ℕ, ◌≡◌, ◌≤◌, ◌+◌, true, false, ap, subst, arith, rules}
 use Rattle.disk_model.specs.declared.sector_disk.SectorDisk.{Ghosts}
 use Rattle.fault.specs.declared.refusal.AccessRefusal.{AccessRefusal}
 use Rattle.fault.specs.declared.refusal.AccessRefusal.TheVariants as Refusal
 use Rattle.fault.specs.Outcome as Faults
-use Rattle.residency.specs.declared.kernel.Core.{Core}
-use Rattle.residency.specs.Stalls.{ReadCause}
-use Rattle.vm_types.specs.declared.access.Access.{Access}
-use Rattle.vm_types.specs.declared.refusal.Errno.TheVariants.{EIO}
-use Rattle.vm_types.specs.declared.refusal.Fault.{Fault}
-use Rattle.vm_types.specs.declared.refusal.Stall.{Stall}
-use Rattle.vm_types.specs.declared.refusal.Stall.TheVariants.{NoFrames, NoSwap, SwapDevice, StoreDevice}
-use Rattle.vm_types.specs.declared.reply.Reply.TheVariants.{Faulted, Refused, Stalled}
-use Rattle.vm_types.specs.declared.width.Width.{Width}
-use Rattle.vm_types.specs.Replies.{reply_of}
-use Rattle.spaces.specs.Accesses.{reply_for}
-use Rattle.spaces.specs.Calls.{IsCaused}
-use Rattle.spaces.specs.Idle.{is_denial, refused_by, stalls_store, stalls_swap}
+use Rattle.residency.specs.{declared.kernel.Core.{Core}, Stalls.{ReadCause}}
+use Rattle.vm_types.specs.{declared.access.Access.{Access}, declared.refusal.Fault.{Fault}, declared.refusal.Stall.{Stall}, declared.refusal.Stall.TheVariants.{NoFrames, NoSwap, SwapDevice, StoreDevice}}
+use Rattle.vm_types.specs.{declared.reply.Reply.TheVariants.{Faulted, Stalled}, declared.width.Width.{Width}, Replies.{reply_of}}
+use Rattle.spaces.specs.{Accesses.{reply_for}, Calls.{IsCaused}, Idle.{is_denial, refused_by, stalls_store, stalls_swap}}
 
--- a fault is no stall and no failure, nor is a stall a failure
-no_failure : (fault : Fault) → Faulted fault ≡ Refused EIO → ⊥
-no_failure fault e = cc
-
+-- a fault is no stall
 pub no_stall : (fault : Fault) (stall : Stall) → Faulted fault ≡ Stalled stall → ⊥
 no_stall fault stall e = cc
-
-stall_no_failure : (stall : Stall) → Stalled stall ≡ Refused EIO → ⊥
-stall_no_failure stall e = cc
 
 pub same_stall : (a b : Stall) → Stalled a ≡ Stalled b → a ≡ b
 same_stall a b e = cc
@@ -41,17 +26,13 @@ module _ {M : Type 0} {m : Levels.Ghosts M} {D E : Type 0} (g : Ghosts D) (h : G
 
   calm : (old new : Core D E M m) (stall : Stall) → ReadCause g h old new stall → stalls_store stall ≡ false
       → g.failures new.store.disk ≡ g.failures old.store.disk
-  calm old new NoFrames cause other = cause.1
-  calm old new NoSwap cause other = cause.1
-  calm old new SwapDevice cause other = cause.1
   calm old new StoreDevice cause other = absurd (let never : true ≡ false = other in cc)
+  calm old new stall cause other = cause.1
 
   swap_calm : (old new : Core D E M m) (stall : Stall) → ReadCause g h old new stall → stalls_swap stall ≡ false
       → h.failures new.swap.pages.disk ≡ h.failures old.swap.pages.disk
-  swap_calm old new NoFrames cause other = cause.2
-  swap_calm old new NoSwap cause other = cause.2
   swap_calm old new SwapDevice cause other = absurd (let never : true ≡ false = other in cc)
-  swap_calm old new StoreDevice cause other = cause.2
+  swap_calm old new stall cause other = cause.2
 
   -- a stall comes of what it names
   pub stall_caused : (old new : Core D E M m) (stall : Stall) → g.failures old.store.disk ≤ g.failures new.store.disk
@@ -62,7 +43,7 @@ module _ {M : Type 0} {m : Levels.Ghosts M} {D E : Type 0} (g : Ghosts D) (h : G
     calm = λ other. calm old new stall cause other;
     swap_calm = λ other. swap_calm old new stall cause other;
     counted = counted old new stall cause;
-    failed = λ e. absurd (stall_no_failure stall e);
+    failed = search rules;
     stalled = λ other e. subst (λ (x : Stall). ReadCause g h old new x) (same_stall stall other e) cause;
   }
 
@@ -81,7 +62,7 @@ module _ {M : Type 0} {m : Levels.Ghosts M} {D E : Type 0} (g : Ghosts D) (h : G
       calm = λ named. ap (λ (c : Core D E M m). g.failures c.store.disk) is.3;
       swap_calm = λ named. ap (λ (c : Core D E M m). h.failures c.swap.pages.disk) is.3;
       counted = let same : new.refused.number ≡ old.refused.number = ap (λ (c : Core D E M m). c.refused.number) is.3 in omega (arith, same);
-      failed = λ e. absurd (no_failure fault e);
+      failed = search rules;
       stalled = λ stall e. absurd (no_stall fault stall e);
     }
     refused_caused (Refusal.Stall stall) later swap_later is = stall_caused old new stall later swap_later is.stalled.cause

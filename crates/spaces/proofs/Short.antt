@@ -1,24 +1,13 @@
 -- Where memory or slots are short of what processes see, they fall short of what a state needs.
 use Rattle.lifecycle.proofs.Shortage.{tables_alike}
-use Rattle.std.proofs.Common.{ℕ, zero, suc, ◌≡◌, ◌≢◌, inl, inr, ◌+◌, ◌<◌, ◌≤◌, ◌==◌, ◌||◌, Bool, false, if◌then◌else◌, Option, Some, is_some, refl, sym, ap, ◌∙◌, arith, eq-eqb, ne_eqb}
-use Rattle.std.proofs.lemmas.Bool.{cases_eq, cases_Bool}
+use Rattle.std.proofs.{Common.{ℕ, zero, suc, ◌≡◌, ◌≢◌, inl, inr, ◌+◌, ◌<◌, ◌≤◌, ◌==◌, ◌||◌, Bool, false, if◌then◌else◌, Option, Some, is_some, refl, sym, ap, ◌∙◌, arith, eq-eqb, ne_eqb}, lemmas.Bool.{cases_eq, cases_Bool}}
 use Rattle.frames.specs.FrameTable.{frame_count}
 use Rattle.lifecycle.specs.Changes.{IsShortToFork}
 use Rattle.ranges.proofs.Outlived.{held_shown}
-use Rattle.residency.specs.Capacity.{tables_over, IsShort}
-use Rattle.residency.specs.Parts.{IsFit}
-use Rattle.residency.specs.Picture.{Picture, is_live, view}
-use Rattle.residency.specs.Shows.{ShowsPages}
+use Rattle.residency.specs.{Capacity.{tables_over, IsShort}, Parts.{IsFit}, Picture.{Picture, is_live, view}, Shows.{ShowsPages}}
 use Rattle.residency.proofs.Tables.{sum-below}
-use Rattle.vm_types.specs.Capacity.{tables_of, table_count}
-use Rattle.vm_types.specs.Counting.{sum_below}
-use Rattle.vm_types.specs.declared.command.Command.{Command}
-use Rattle.vm_types.specs.declared.refusal.Stall.{Stall}
-use Rattle.vm_types.specs.declared.refusal.Stall.TheVariants.{NoFrames, NoSwap, SwapDevice, StoreDevice}
-use Rattle.vm_types.specs.Processes.{least_free_from, with_process}
-use Rattle.vm_types.specs.State.{State}
-use Rattle.vm_types.specs.Step.{outcome}
-use Rattle.vm_types.specs.View.{View}
+use Rattle.vm_types.specs.{Capacity.{tables_of, table_count}, Counting.{sum_below}, declared.command.Command.{Command}, declared.refusal.Stall.{Stall}, declared.refusal.Stall.TheVariants.{NoFrames, NoSwap, SwapDevice, StoreDevice}}
+use Rattle.vm_types.specs.{Processes.{least_free_from, with_process}, State.{State}, Step.{outcome}, View.{View}}
 use Rattle.spaces.specs.Calls.{FallsShort}
 
 -- the tables of the processes of memory are those of the state that it shows

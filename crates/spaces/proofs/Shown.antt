@@ -2,21 +2,11 @@
 use Rattle.vm_types.specs.declared.mode.Levels as Levels
 use Rattle.std.proofs.Common.{ℕ, ◌≡◌, inr, Option, refl, ap, ◌∙◌}
 use Rattle.disk_model.specs.declared.sector_disk.SectorDisk.{Ghosts}
-use Rattle.residency.specs.Reading.{ReadsStore}
+use Rattle.residency.specs.{Reading.{ReadsStore}, declared.kernel.Core.{Core}, Picture.{picture_of}, Shows.{ShowsPages}}
 use Rattle.fault.specs.Outcome.{verdict_of}
 use Rattle.fault.proofs.AccessShowing.{IsHomeDurable}
-use Rattle.residency.specs.declared.kernel.Core.{Core}
-use Rattle.residency.specs.Picture.{picture_of}
-use Rattle.residency.specs.Shows.{ShowsPages}
 use Rattle.msync.specs.Shows.{CoreShows}
-use Rattle.vm_types.specs.declared.access.Access.{Access}
-use Rattle.vm_types.specs.declared.width.Width.{Width}
-use Rattle.vm_types.specs.Files.{Files}
-use Rattle.vm_types.specs.State.{State}
-use Rattle.vm_types.specs.Step.{judged}
-use Rattle.vm_types.specs.Verdict.{verdict}
-use Rattle.vm_types.specs.View.{View}
-use Rattle.vm_types.specs.Width.{byte_count}
+use Rattle.vm_types.specs.{declared.access.Access.{Access}, declared.width.Width.{Width}, Files.{Files}, State.{State}, Step.{judged}, Verdict.{verdict}, View.{View}, Width.{byte_count}}
 use Rattle.spaces.proofs.Pages.{views_seen}
 
 pub judged_is : {M : Type 0} {m : Levels.Ghosts M} → {D E : Type 0} (old : Core D E M m) (s : State) → ShowsPages (picture_of old) s → (pid addr : ℕ) (width : Width) (kind : Access)

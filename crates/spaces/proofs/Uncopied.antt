@@ -1,30 +1,15 @@
 -- dontneed of the flat model in a state that memory shows.
 use Rattle.vm_types.specs.declared.mode.Levels as Levels
-use Rattle.vm_types.specs.Limits.{user_end}
-use Rattle.std.proofs.Common.{ℕ, zero, suc, ◌+◌, ◌/◌, ◌%◌, ◌≡◌, ◌≢◌, ◌<◌, ◌≤◌, ◌==◌, not, Bool, true, false, if◌then◌else◌, List, [], ◌∷◌, Option, Some, None, option_map, refl, sym, ap, ◌∙◌, arith}
-use Rattle.std.proofs.lemmas.Bool.Decides.{nat_tests}
+use Rattle.vm_types.specs.{Limits.{user_end}, declared.command.Command.TheVariants.{Dontneed}, declared.refusal.Errno.{Errno}, declared.refusal.Errno.TheVariants.{ENOMEM}, declared.region.Attr.{Attr}}
+use Rattle.vm_types.specs.{declared.reply.Reply.TheVariants.{Done, Refused}, Checks.{first_of, page_count, pages_from}, Ranges.{covered_checks, uncopied, without_own}, Rows.{in_row, IsUserMap, is_covered}, State.{State}}
+use Rattle.vm_types.specs.{Step.{Outcome, outcome, refused_or, uncopy_outcome}, View.{View}}
+use Rattle.std.proofs.{Common.{ℕ, zero, suc, ◌+◌, ◌/◌, ◌%◌, ◌≡◌, ◌≢◌, ◌<◌, ◌≤◌, ◌==◌, not, Bool, true, false, if◌then◌else◌, List, [], ◌∷◌, Option, Some, None, option_map, refl, sym, ap, ◌∙◌, arith}, lemmas.Bool.Decides.{nat_tests}}
 use Rattle.disk_model.specs.declared.sector_disk.SectorDisk.{Ghosts}
-use Rattle.regions.specs.declared.run.Run.{Run}
-use Rattle.regions.specs.RunList.{attr_at}
+use Rattle.regions.specs.{declared.run.Run.{Run}, RunList.{attr_at}}
 use Rattle.ranges.specs.Rows.{plain, remapped, RemapsRow}
-use Rattle.residency.specs.declared.kernel.Core.{Core}
-use Rattle.residency.specs.Picture.{Picture, picture_of, is_live, entry, own_in, view, view_of}
-use Rattle.residency.specs.Shows.{ShowsPages, KeepsFiles}
-use Rattle.vm_types.specs.declared.command.Command.TheVariants.{Dontneed}
-use Rattle.vm_types.specs.declared.refusal.Errno.{Errno}
-use Rattle.vm_types.specs.declared.refusal.Errno.TheVariants.{ENOMEM}
-use Rattle.vm_types.specs.declared.region.Attr.{Attr}
-use Rattle.vm_types.specs.declared.reply.Reply.TheVariants.{Done, Refused}
-use Rattle.vm_types.specs.Checks.{first_of, page_count, pages_from}
-use Rattle.vm_types.specs.Ranges.{covered_checks, uncopied, without_own}
-use Rattle.vm_types.specs.Rows.{in_row, IsUserMap, is_covered}
-use Rattle.vm_types.specs.State.{State}
-use Rattle.vm_types.specs.Step.{Outcome, outcome, refused_or, uncopy_outcome}
-use Rattle.vm_types.specs.View.{View}
+use Rattle.residency.specs.{declared.kernel.Core.{Core}, Picture.{Picture, picture_of, is_live, entry, own_in, view, view_of}, Shows.{ShowsPages, KeepsFiles}}
 use Rattle.spaces.specs.Calls.{Comes}
-use Rattle.spaces.proofs.Calls.{does, does_answer, with_pages, shows_pages}
-use Rattle.spaces.proofs.Pages.{attrs_by_runs}
-use Rattle.spaces.proofs.Protects.{count_from, covered_last}
+use Rattle.spaces.proofs.{Calls.{does, does_answer, with_pages, shows_pages}, Pages.{attrs_by_runs}, Protects.{count_from, covered_last}}
 
 -- a row of mapped pages lies in the user pages
 module _ (mode : ℕ) where

@@ -1,35 +1,17 @@
 -- munmap of the flat model in a state that memory shows.
 use Rattle.vm_types.specs.declared.mode.Levels as Levels
-use Rattle.vm_types.specs.Limits.{user_end}
+use Rattle.vm_types.specs.{Limits.{user_end}, declared.command.Command.TheVariants.{Munmap}, declared.refusal.Errno.{Errno}, declared.refusal.Errno.TheVariants.{ESRCH, EINVAL, ENOMEM}, declared.region.Attr.{Attr}}
+use Rattle.vm_types.specs.{declared.reply.Reply.TheVariants.{Done, Refused}, Checks.{first_of, page_count, pages_from}, Objects.{Maps, maps_of, named_objects}, Ranges.{munmap_checks, unmapped, without_pages, without_row}}
+use Rattle.vm_types.specs.{Rows.{in_row, removed, IsUserMap}, Runs.{run_count}, State.{State}, Step.{Outcome, refused_or}, View.{View, attrs_of}}
 use Rattle.std.proofs.Common.{ℕ, ◌+◌, ◌-◌, ◌/◌, ◌%◌, ◌≡◌, ◌≢◌, ◌<◌, ◌≤◌, ◌==◌, ◌||◌, not, Bool, true, false, min, if◌then◌else◌, nat_lt, List, [], ◌∷◌, Option, Some, None, IsSome, option_map, inl, inr, ◌⊎◌, refl, sym, ap, ◌∙◌, subst, arith, eq-eqb, ne_eqb}
-use Rattle.std.proofs.lemmas.Bool.{cases_eq}
-use Rattle.std.proofs.lemmas.Bool.Decides.{nat_tests}
+use Rattle.std.proofs.{lemmas.Bool.{cases_eq}, lemmas.Bool.Decides.{nat_tests}}
 use Rattle.disk_model.specs.declared.sector_disk.SectorDisk.{Ghosts}
-use Rattle.regions.specs.declared.run.Run.{Run}
-use Rattle.regions.specs.RunList.{attr_at}
+use Rattle.regions.specs.{declared.run.Run.{Run}, RunList.{attr_at}}
 use Rattle.ranges.specs.Rows.{plain, remapped, with_map, without_maps, KeepsNamed, RemapsRow}
-use Rattle.residency.specs.declared.kernel.Core.{Core}
-use Rattle.residency.specs.Picture.{Picture, picture_of, is_live, entry, own_in, view, view_of}
+use Rattle.residency.specs.{declared.kernel.Core.{Core}, Picture.{Picture, picture_of, is_live, entry, own_in, view, view_of}, Parts.{AreObjects, IsFit}, Shows.{ShowsPages}}
 use Rattle.residency.proofs.Places.{objects-fewer}
-use Rattle.residency.specs.Parts.{AreObjects, IsFit}
-use Rattle.residency.specs.Shows.{ShowsPages}
-use Rattle.vm_types.specs.declared.command.Command.TheVariants.{Munmap}
-use Rattle.vm_types.specs.declared.refusal.Errno.{Errno}
-use Rattle.vm_types.specs.declared.refusal.Errno.TheVariants.{ESRCH, EINVAL, ENOMEM}
-use Rattle.vm_types.specs.declared.region.Attr.{Attr}
-use Rattle.vm_types.specs.declared.reply.Reply.TheVariants.{Done, Refused}
-use Rattle.vm_types.specs.Checks.{first_of, page_count, pages_from}
-use Rattle.vm_types.specs.Objects.{Maps, maps_of, named_objects}
-use Rattle.vm_types.specs.Ranges.{munmap_checks, unmapped, without_pages, without_row}
-use Rattle.vm_types.specs.Rows.{in_row, removed, IsUserMap}
-use Rattle.vm_types.specs.Runs.{run_count}
-use Rattle.vm_types.specs.State.{State}
-use Rattle.vm_types.specs.Step.{Outcome, refused_or}
-use Rattle.vm_types.specs.View.{View, attrs_of}
 use Rattle.spaces.specs.Calls.{Comes}
-use Rattle.spaces.proofs.Calls.{does, does_answer, shows_row}
-use Rattle.spaces.proofs.Pages.{attrs_by_runs, maps_without}
-use Rattle.spaces.proofs.Protects.{count_from}
+use Rattle.spaces.proofs.{Calls.{does, does_answer, shows_row}, Pages.{attrs_by_runs, maps_without}, Protects.{count_from}}
 
 none_if : (o : Option Attr) → (IsSome o → ⊥) → o ≡ None
 none_if None h = refl

@@ -1,57 +1,26 @@
 -- Stores of the flat model in a state that memory shows.
 use Rattle.vm_types.specs.declared.mode.Levels as Levels
-use Rattle.std.proofs.Common.{ℕ, ◌/◌, ◌%◌, ◌≡◌, ◌&&◌, Bool, true, false, not, if◌then◌else◌, inl, inr, List, Option, Some, None, is_some, refl, sym, ap, ◌∙◌, subst, arith}
+use Rattle.std.proofs.{Common.{ℕ, ◌/◌, ◌%◌, ◌≡◌, ◌&&◌, Bool, true, false, not, if◌then◌else◌, inl, inr, List, Option, Some, None, is_some, refl, sym, ap, ◌∙◌, subst, arith}, lemmas.Bool.Decides.{nat_tests}}
 use Rattle.std.specs.Prelude.{◌==◌}
-use Rattle.std.proofs.lemmas.Bool.Decides.{nat_tests}
 use Rattle.disk_model.specs.declared.sector_disk.SectorDisk.{Ghosts}
-use Rattle.fault.specs.declared.refusal.AccessRefusal.{AccessRefusal}
-use Rattle.fault.specs.Changes.{KeepsRoom, KeepsOtherViews, KeepsSlotted}
-use Rattle.fault.specs.Files.{Proceeds, BringsFiles}
-use Rattle.fault.specs.Outcome.{IsReadyToStore, IsOpenToStore, IsRefusal, verdict_of}
-use Rattle.fault.proofs.Ready.{view-mapped, own_in-none}
-use Rattle.fault.proofs.Settled.{one_view}
-use Rattle.fault.proofs.AccessShowing.{ShowsFiles, bytes_shown, shows_own, shows_shared, shows_common}
-use Rattle.fault.proofs.Storing.{view-attr, fit_own, fit_file, views_others, views_file, entries_own, entries_file}
-use Rattle.fault.proofs.Forms.{mapped_page, shared_none}
+use Rattle.fault.specs.{declared.refusal.AccessRefusal.{AccessRefusal}, Changes.{KeepsRoom, KeepsOtherViews, KeepsSlotted}, Files.{Proceeds, BringsFiles}, Outcome.{IsReadyToStore, IsOpenToStore, IsRefusal, verdict_of}}
+use Rattle.fault.proofs.{Ready.{view-mapped, own_in-none}, Settled.{one_view}, AccessShowing.{ShowsFiles, bytes_shown, shows_own, shows_shared, shows_common}}
+use Rattle.fault.proofs.{Storing.{view-attr, fit_own, fit_file, views_others, views_file, entries_own, entries_file}, Forms.{mapped_page, shared_none}}
 use Rattle.frames.proofs.FrameLemmas.{with_bytes-others}
 use Rattle.frames.specs.FrameTable as Frames
 use Rattle.frames.specs.FrameTable.{bytes_of, IsHeld}
-use Rattle.residency.specs.declared.kernel.Core.{Core}
-use Rattle.residency.specs.Parts.{IsFit, is_shared}
-use Rattle.residency.specs.Picture.{Picture, picture_of, is_live, entry, own_in, view, held, bytes_at}
-use Rattle.residency.specs.Shows.{ShowsPages}
-use Rattle.residency.specs.Steps.{SameBeside}
+use Rattle.residency.specs.{declared.kernel.Core.{Core}, Parts.{IsFit, is_shared}, Picture.{Picture, picture_of, is_live, entry, own_in, view, held, bytes_at}, Shows.{ShowsPages}, Steps.{SameBeside}}
 use Rattle.page_cache.specs.declared.place.Place.TheVariants.{Frame}
 use Rattle.msync.specs.Shows.{CoreShows}
 use Rattle.swap.specs.Slots.{SlotTable}
-use Rattle.vm_types.specs.declared.access.Access.{Access}
+use Rattle.vm_types.specs.{declared.access.Access.{Access}, declared.access.StoredValue.{StoredValue}, declared.command.Command.TheVariants.{Store}, declared.refusal.Code.TheVariants.{BusAdraln, SegvAccerr, BusAdrerr}}
+use Rattle.vm_types.specs.{declared.refusal.Errno.TheVariants.{ESRCH}, declared.object.PageKey.{PageKey}, declared.object.PageKey.TheVariants.{File, Object}, declared.region.Backing.{Backing}}
+use Rattle.vm_types.specs.{declared.region.Backing.TheVariants.{Anon, Private, Shared, Common}, declared.reply.Reply.TheVariants.{Done, Refused}, declared.width.Width.{Width}, Access.{with_number, with_shown_bytes}, Files.{Files}}
+use Rattle.vm_types.specs.{Capacity.{table_count}, Stalls.{is_success}, Replies.{reply_of}, State.{State, shown, copy_or_behind, with_view}, Step.{Outcome, outcome, answers, judged, store_outcome}}
+use Rattle.vm_types.specs.{Verdict.{Verdict, Fine, Faults, lets, is_past_end, page_verdict}, View.{View}, Width.{byte_count}}
 use Rattle.vm_types.specs.declared.access.Access.TheVariants as Accesses
-use Rattle.vm_types.specs.declared.access.StoredValue.{StoredValue}
-use Rattle.vm_types.specs.declared.command.Command.TheVariants.{Store}
-use Rattle.vm_types.specs.declared.refusal.Code.TheVariants.{BusAdraln, SegvAccerr, BusAdrerr}
-use Rattle.vm_types.specs.declared.refusal.Errno.TheVariants.{ESRCH}
-use Rattle.vm_types.specs.declared.object.PageKey.{PageKey}
-use Rattle.vm_types.specs.declared.object.PageKey.TheVariants.{File, Object}
-use Rattle.vm_types.specs.declared.region.Backing.{Backing}
-use Rattle.vm_types.specs.declared.region.Backing.TheVariants.{Anon, Private, Shared, Common}
-use Rattle.vm_types.specs.declared.reply.Reply.TheVariants.{Done, Refused}
-use Rattle.vm_types.specs.declared.width.Width.{Width}
-use Rattle.vm_types.specs.Access.{with_number, with_shown_bytes}
-use Rattle.vm_types.specs.Files.{Files}
-use Rattle.vm_types.specs.Capacity.{table_count}
-use Rattle.vm_types.specs.Stalls.{is_success}
-use Rattle.vm_types.specs.Replies.{reply_of}
-use Rattle.vm_types.specs.State.{State, shown, copy_or_behind, with_view}
-use Rattle.vm_types.specs.Step.{Outcome, outcome, answers, judged, store_outcome}
-use Rattle.vm_types.specs.Verdict.{Verdict, Fine, Faults, lets, is_past_end, page_verdict}
-use Rattle.vm_types.specs.View.{View}
-use Rattle.vm_types.specs.Width.{byte_count}
-use Rattle.spaces.specs.Accesses.{reply_for}
-use Rattle.spaces.specs.Calls.{Comes}
-use Rattle.spaces.proofs.Calls.{does}
-use Rattle.spaces.proofs.Reading.{live_outcome, refused, same, files}
-use Rattle.spaces.proofs.Short.{tables_kept}
-use Rattle.spaces.proofs.Shown.{judged_is}
+use Rattle.spaces.specs.{Accesses.{reply_for}, Calls.{Comes}}
+use Rattle.spaces.proofs.{Calls.{does}, Reading.{live_outcome, refused, same, files}, Short.{tables_kept}, Shown.{judged_is}}
 
 -- the page of an access that is fine
 fine_page : (files : Files) (o : Option View) (kind : Access) (v : View) → page_verdict files o kind ≡ Fine v → o ≡ Some v
@@ -134,9 +103,7 @@ slotted_stored old mid new pid page b n w files own fit usable frames beside slo
 -- that frame was handed out
 pub open_held : {mode : ℕ} (c : Picture mode) (pid page : ℕ) (b : Backing) (n : ℕ) → IsOpenToStore c pid page b n → IsHeld c.frames n
 open_held c pid page Anon n usable = usable.0
-open_held c pid page (Private p) n usable = usable.0
-open_held c pid page (Shared p) n usable = usable.0
-open_held c pid page (Common p) n usable = usable.0
+open_held c pid page b n usable = usable.0
 
 -- and memory is as large as it was
 pub room_stored : {mode : ℕ} (old mid new : Picture mode) (n : ℕ) (w : List ℕ) → KeepsRoom old mid → new.frames ≡ Frames.with_bytes mid.frames n w → new.slots ≡ mid.slots → KeepsRoom old new
@@ -192,11 +159,11 @@ module _ {M : Type 0} {m : Levels.Ghosts M} {D E : Type 0} (g : Ghosts D) (h : G
   store_refused refusal is =
       refused g h old mid s pid addr value.width Accesses.Store (Store pid addr value) (λ v e. ap (λ (o : Outcome). is_success o.reply) (store_is (Fine v) e))
       tables_still (λ code e. store_is (Faults code) e) refl refl refl goes.fit refusal is shows.pages
-      (same g h old mid W s shows keeps swaps goes brings pid addr live)
+      (same g h old mid W s shows keeps swaps goes brings)
 
   module _ (v : View) (fine : verdict_of (picture_of old) pid addr value.width Accesses.Store ≡ Fine v) (n : ℕ) where
     now : ShowsFiles (picture_of mid) s
-    now = files g h old mid W s shows keeps swaps goes brings pid addr live
+    now = files g h old mid W s shows keeps swaps goes brings
 
     -- the bytes that are written over are those that the page shows
     shown_there : (b : Backing) → v.attr.backing ≡ b → IsReadyToStore (picture_of old) (picture_of mid) pid (addr / 4096) v b n

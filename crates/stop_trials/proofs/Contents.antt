@@ -2,14 +2,9 @@
 use Rattle.std.proofs.Common.{◌≡◌, ◌<◌, ◌*◌, ℕ, List, [], take, Option, Some, None, refl, sym, ap, ◌∙◌, arith}
 use Rattle.std.specs.Option.{option_map, unwrap_or}
 use Rattle.vm_types.specs.declared.file.FileInfo.{FileInfo}
-use Rattle.disk_model.specs.Stop.{Image}
-use Rattle.disk_model.specs.declared.sector_disk.SectorDisk.{Ghosts}
-use Rattle.disk_model.specs.Sectors.{joined}
+use Rattle.disk_model.specs.{Stop.{Image}, declared.sector_disk.SectorDisk.{Ghosts}, Sectors.{joined}}
 use Rattle.disk_model.proofs.Pieces.{joined-same}
-use Rattle.file_store.specs.declared.store.FileStore.{FileStore}
-use Rattle.file_store.specs.Layout.{pages_of_length}
-use Rattle.file_store.specs.Standing.{IsBadLayout, IsBadJournal, IsPageOf, StandsAs, bytes_of_pages, file_info, standing_file, standing_page}
-use Rattle.file_store.specs.Store.{IsReadyStore, files_of}
+use Rattle.file_store.specs.{declared.store.FileStore.{FileStore}, Layout.{pages_of_length}, Standing.{IsBadLayout, IsBadJournal, IsPageOf, StandsAs, bytes_of_pages, file_info, standing_file, standing_page}, Store.{IsReadyStore, files_of}}
 use Rattle.stop_trials.specs.Standing.{standing_bytes, standing_contents}
 
 -- the bytes of a file of these pages, none where there is none

@@ -1,9 +1,6 @@
 -- What calls of a stopping device tell of earlier ones.
-use Rattle.std.proofs.Common.{◌≡◌, ℕ, suc, ◌+◌, false, Option, Some, None, is_some, Result, Ok, Err, is_err, OnOk, ap, refl, arith, sym, ◌∙◌}
-use Rattle.std.proofs.lemmas.Bool.{false≢true}
-use Rattle.stop_trials.specs.declared.stopping.Event.{Event}
-use Rattle.stop_trials.specs.declared.stopping.Event.TheVariants.{Write}
-use Rattle.stop_trials.specs.Stopping.{Plan, stopped_in, plan_after_event, plan_after_writes}
+use Rattle.std.proofs.{Common.{◌≡◌, ℕ, suc, ◌+◌, false, Option, Some, None, is_some, Result, Ok, Err, is_err, OnOk, ap, refl, arith, sym, ◌∙◌}, lemmas.Bool.{false≢true}}
+use Rattle.stop_trials.specs.{declared.stopping.Event.{Event}, declared.stopping.Event.TheVariants.{Write}, Stopping.{Plan, stopped_in, plan_after_event, plan_after_writes}}
 
 -- what a call that didn't fail ensures
 pub when_ok : {T E : Type 0} (r : Result T E) (P : Type 0) → OnOk r P → is_err r ≡ false → P

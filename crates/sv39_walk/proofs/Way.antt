@@ -1,8 +1,7 @@
 -- One step on the way to a page.
 use Rattle.std.proofs.Common.{◌≡◌, ℕ, zero, suc, ◌-◌, ◌<◌, true, false, refl, arith}
 use Rattle.frames.specs.FrameTable.{FrameTable}
-use Rattle.sv39_walk.specs.Entry.{entry_at, frame_of}
-use Rattle.sv39_walk.specs.Walk.{last_of, leads_on, index_of}
+use Rattle.sv39_walk.specs.{Entry.{entry_at, frame_of}, Walk.{last_of, leads_on, index_of}}
 
 -- at the lowest level
 pub last_of-zero : (t : FrameTable) (page table : ℕ) → last_of t page 0 table ≡ (0, entry_at t table (index_of page 0))

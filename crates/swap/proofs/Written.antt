@@ -1,11 +1,7 @@
 -- What a device holds where pages were written.
-use Rattle.std.proofs.Common.{◌≡◌, ◌≢◌, ℕ, inl, inr, ◌+◌, ◌*◌, ◌<◌, List, [], ◌∷◌, Some, None, length, get_or, refl, sym, ap, subst, ◌∙◌, arith, eq-eqb, ne_eqb}
-use Rattle.std.proofs.lemmas.Bool.{cases_eq}
-use Rattle.disk_model.specs.Note.{Note}
-use Rattle.disk_model.specs.Stop.{Image, ChangesPage}
-use Rattle.disk_model.specs.Sectors.{part_of}
+use Rattle.std.proofs.{Common.{◌≡◌, ◌≢◌, ℕ, inl, inr, ◌+◌, ◌*◌, ◌<◌, List, [], ◌∷◌, Some, None, length, get_or, refl, sym, ap, subst, ◌∙◌, arith, eq-eqb, ne_eqb}, lemmas.Bool.{cases_eq}}
+use Rattle.disk_model.specs.{Note.{Note}, Stop.{Image, ChangesPage}, Sectors.{part_of}, declared.sector_disk.SectorDisk.{Ghosts}}
 use Rattle.disk_model.proofs.Pieces.{joined-same, joined_parts}
-use Rattle.disk_model.specs.declared.sector_disk.SectorDisk.{Ghosts}
 use Rattle.swap.specs.Written.{page_of_rows, written_in, image_page, IsAsWritten}
 
 pub rows_make : (rows : List (List ℕ)) (page : List ℕ) → length rows ≡ 8 → length page ≡ 4096

@@ -1,17 +1,10 @@
 -- Which sectors the parts of a commit and of a recovery ask for.
-use Rattle.std.proofs.Common.{◌≡◌, ◌⊎◌, ◌<◌, ◌≤◌, ◌+◌, ◌*◌, ℕ, true, List, length, get_or, inl, inr, ⊎_elim, refl, sym, subst, arith}
-use Rattle.std.proofs.lemmas.Bool.{cases_eq}
-use Rattle.disk_model.specs.Stop.{Image, Names, NamesOnce}
-use Rattle.disk_model.specs.Moments.{AsksOnly}
-use Rattle.disk_model.proofs.Moments.{asks_named, asks_once, asks_then}
-use Rattle.disk_model.proofs.Naming.{once_named, once_apart}
-use Rattle.disk_model.specs.declared.sector_disk.SectorDisk.{Ghosts}
-use Rattle.sync_journal.specs.Layout.{page_limit, gate_sector, map_sector, body_sector, home_sector, IsPageSector, IsGate, IsFilledAt, IsStagedAt, IsStaged, IsOpened, IsCopied, IsFinished, IsCommitted}
-use Rattle.sync_journal.specs.Gate.{is_open}
-use Rattle.sync_journal.specs.Map.{AreHomes}
-use Rattle.sync_journal.specs.Standing.{IsOpenFor, IsAskedIn}
-use Rattle.sync_journal.specs.Commit.{AsksInTwo}
-use Rattle.sync_journal.proofs.Copies.{distinct_homes}
+use Rattle.std.proofs.{Common.{◌≡◌, ◌⊎◌, ◌<◌, ◌≤◌, ◌+◌, ◌*◌, ℕ, true, List, [], length, inl, inr, ⊎_elim, refl, sym, subst, arith}, lemmas.Bool.{cases_eq}}
+use Rattle.disk_model.specs.{Stop.{Image, Names, NamesOnce}, Moments.{AsksOnly}, declared.sector_disk.SectorDisk.{Ghosts}}
+use Rattle.disk_model.proofs.{Moments.{asks_named, asks_once, asks_then}, Naming.{once_named, once_apart}}
+use Rattle.sync_journal.specs.Layout.{page_limit, gate_sector, map_sector, first_body_sector, first_home_sector, body_sector, home_sector, IsPageSector, IsGate, IsFilledAt, IsStagedAt, IsStaged, IsOpened, IsFinished, IsCommitted}
+use Rattle.sync_journal.specs.{Gate.{is_open}, Standing.{IsOpenFor, IsAskedIn, IsCopyFrom}, Commit.{AsksInTwo}}
+use Rattle.sync_journal.proofs.Copies.{in_copied}
 
 -- Over how often each sector had been asked for, at three moments.
 module _ (before mid now : ℕ → ℕ) where
@@ -41,44 +34,13 @@ module _ (before mid now : ℕ → ℕ) where
       (λ k inside. (omega (arith, inside.0), inside.1)) (λ k gate. (omega (arith, gate), omega (arith, gate))) (λ k first gate. omega (arith, first.0, gate))
       stages opens
 
-  -- a page of the body is copied home
-  pub copy_asks : (count : ℕ) (homes : List ℕ) → AreHomes count homes → (j from to : ℕ) → j < length homes → from ≡ body_sector j → to ≡ home_sector (get_or homes j 0)
-      → NamesOnce (IsCopied homes j) before mid → NamesOnce (λ k. IsPageSector from k ⊎ IsPageSector to k) mid now → NamesOnce (IsCopied homes (j + 1)) before now
-  copy_asks count homes are j from to below source target so_far page =
-      once_apart (IsCopied homes j) (λ k. IsPageSector from k ⊎ IsPageSector to k) (IsCopied homes (j + 1)) before mid now earlier next apart so_far page
-    where
-      earlier : (k : ℕ) → IsCopied homes j k → IsCopied homes (j + 1) k
-      earlier k = ⊎_elim (λ body. inl (body.0, omega (arith, body.1))) (λ home. inr (home.0, omega (arith, home.1), home.2))
-
-      next : (k : ℕ) → IsPageSector from k ⊎ IsPageSector to k → IsCopied homes (j + 1) k
-      next k = ⊎_elim
-          (λ body. inl (omega (arith, body.0, source), omega (arith, body.1, source)))
-          (λ home. inr (j, omega arith, (omega (arith, home.0, target), omega (arith, home.1, target))))
-
-      far : (k h : ℕ) → k < body_sector j → home_sector h ≤ k → ⊥
-      far k h body home = (let few = are.few in omega (arith, body, home, few, below))
-
-      two : (k i : ℕ) → i < j → IsPageSector (home_sector (get_or homes i 0)) k → IsPageSector (home_sector (get_or homes j 0)) k → ⊥
-      two k i less first second = distinct_homes count homes i j are (omega (arith, less, below)) below (λ e. omega (arith, e, less))
-          (omega (arith, first.0, first.1, second.0, second.1))
-
-      apart : (k : ℕ) → IsCopied homes j k → IsPageSector from k ⊎ IsPageSector to k → ⊥
-      apart k was is = ⊎_elim
-          (λ body. ⊎_elim (λ from_body. omega (arith, body.1, from_body.0, source)) (λ to_home. far k (get_or homes j 0) body.1 (omega (arith, to_home.0, target))) is)
-          (λ home. ⊎_elim
-          (λ from_body. (let few = are.few in let low = home.2.0 in omega (arith, low, from_body.1, source, few, below)))
-          (λ to_home. two k home.0 home.1 home.2 (omega (arith, to_home.0, target), omega (arith, to_home.1, target))) is)
-          was
-
   -- the gate after the homes
-  pub finish_asks : (homes : List ℕ) → length homes ≤ page_limit → NamesOnce (IsCopied homes (length homes)) before mid → NamesOnce IsGate mid now → NamesOnce (IsFinished homes) before now
-  finish_asks homes few copies closes = once_apart (IsCopied homes (length homes)) IsGate (IsFinished homes) before mid now
-      (λ k copied. inr copied) (λ k gate. inl gate)
-      (λ k copied gate. ⊎_elim (λ body. (let low = body.0 in omega (arith, low, gate))) (λ home. (let low = home.2.0 in omega (arith, low, gate))) copied)
+  pub finish_asks : (homes : List ℕ) → length homes ≤ page_limit → NamesOnce (IsCopyFrom first_body_sector first_home_sector homes [] (length homes)) before mid → NamesOnce IsGate mid now
+      → NamesOnce (IsFinished homes) before now
+  finish_asks homes few copies closes = once_apart (IsCopyFrom first_body_sector first_home_sector homes [] (length homes)) IsGate (IsFinished homes) before mid now
+      (λ k copy. inr (in_copied homes (length homes) k copy)) (λ k gate. inl gate)
+      (λ k copy gate. ⊎_elim (λ page. (let low = page.0 in omega (arith, low, gate))) (λ home. (let low = home.0 in omega (arith, low, gate))) copy.3)
       copies closes
-
-pub more_copied : (homes : List ℕ) (n m : ℕ) → n ≤ m → (k : ℕ) → IsCopied homes n k → IsCopied homes m k
-more_copied homes n m more k = ⊎_elim (λ body. inl (body.0, omega (arith, body.1, more))) (λ home. inr (home.0, omega (arith, home.1, more), home.2))
 
 -- what is asked for to finish a commit is what a commit may ask for
 pub in_finish : (homes : List ℕ) (k : ℕ) → length homes ≤ page_limit → IsFinished homes k → IsCommitted homes k

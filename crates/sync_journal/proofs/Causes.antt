@@ -1,13 +1,10 @@
 -- Which fault a commit tells, and what a source was asked for.
 use Rattle.std.proofs.Common.{◌≡◌, ◌<◌, ℕ, Result, Ok, Err, refl, ap, sym, subst, ◌∙◌, arith}
 use Rattle.std.specs.Prelude.{IsErr, IsErrAnd, IsErrOf}
-use Rattle.sync_journal.specs.Source.{Asks, HasCauses}
-use Rattle.sync_journal.specs.declared.faults.CommitFault.{CommitFault}
-use Rattle.sync_journal.specs.declared.faults.CommitFault.TheVariants.{Source, Device}
-use Rattle.sync_journal.specs.declared.source.PageSource.{Ghosts}
+use Rattle.sync_journal.specs.{Source.{Asks, HasCauses}, declared.faults.CommitFault.{CommitFault}, declared.faults.CommitFault.TheVariants.{Source, Device}, declared.source.PageSource.{Ghosts}, Committing.{PutsPages}, Runs.{RunsOnDevice}}
+use Rattle.sync_journal.specs.{Steps.{BlamesJournal}, declared.faults.RecoverFault.{RecoverFault}}
 use Rattle.disk_model.specs.declared.sector_disk.SectorDisk.{Ghosts as DiskGhosts}
-use Rattle.sync_journal.specs.Steps.{BlamesJournal}
-use Rattle.sync_journal.specs.declared.faults.RecoverFault.{RecoverFault}
+use Rattle.disk_model.specs.{Stop.{Image}, Moments.{LeavesOnly}}
 use Rattle.sync_journal.specs.declared.faults.RecoverFault.TheVariants.{Device as DeviceFailed, BadJournal}
 
 -- nothing was asked for
@@ -74,6 +71,22 @@ module _ (a b x y : ℕ) where
     source_calm = source;
     source_still = λ told. source;
   }
+
+-- Pages that were not put, since the device failed.
+pub puts_failed : {D S : Type 0} {g : DiskGhosts D} {s : Ghosts S} {Either Before : Image → Type 0} {Written Outside : ℕ → Type 0} {Once After Rest Back : Type 0} {old new : D} {from left : S}
+    → (result : Result (Unit {0}) CommitFault) → IsErrAnd result (λ e. e ≡ Device) → (g.keeps_model new → s.keeps_model left → LeavesOnly g old new Either) → Once → RunsOnDevice g Written old new
+    → Asks s from left → g.failures old < g.failures new → s.failures left ≡ s.failures from → PutsPages g s Either Before Written Outside Once After Rest Back old new from left result
+puts_failed (Ok done) is any_moment once run asks failed calm = absurd is
+puts_failed (Err e) is any_moment once run asks failed calm = record {
+  ok = λ keeps given. tt;
+  rest = λ keeps. tt;
+  outside = λ keeps. tt;
+  any_moment = any_moment;
+  once = once;
+  takes = record { run = run; asks = asks; causes = device_failed _ _ _ _ (Err e) is failed calm };
+  source = λ keeps told. absurd (not_source (Err e) is told);
+  source_moments = λ keeps told. absurd (not_source (Err e) is told);
+}
 
 -- what a recovery tells
 pub is_error : {T E : Type 0} (result : Result T E) (P : E → Type 0) → IsErrAnd result P → IsErr result

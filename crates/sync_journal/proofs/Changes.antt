@@ -1,9 +1,8 @@
 -- What a commit changes, and what a closed gate means: for those who call a commit.
 use Rattle.std.proofs.Common.{◌≡◌, ℕ, true, false, sym, ◌∙◌}
 use Rattle.disk_model.specs.Stop.{Image}
-use Rattle.sync_journal.specs.Gate.{is_open}
-use Rattle.sync_journal.specs.Standing.{IsBadSingle}
+use Rattle.sync_journal.specs.{Gate.{is_open}, Standing.{IsBadSingle}}
 
--- the journal behind a closed gate isn't bad
+-- the journal after a closed gate isn't bad
 pub closed_not_bad : (sectors : ℕ) (image : Image) → is_open image ≡ false → IsBadSingle sectors image → ⊥
 closed_not_bad sectors image closed bad = let e : true ≡ false = sym bad.gate ∙ closed in cc

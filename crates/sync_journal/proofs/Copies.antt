@@ -1,12 +1,8 @@
--- The pages of the body copied to their homes, one after the other.
-use Rattle.std.proofs.Common.{◌≡◌, ◌≢◌, ◌<◌, ◌+◌, ℕ, List, length, get_or, sym, ap, subst, ◌∙◌, ⊎_elim, arith}
-use Rattle.std.proofs.lemmas.Bool.{cases_eq, cases_lt}
-use Rattle.disk_model.specs.Moments.{Touches}
-use Rattle.disk_model.specs.declared.sector_disk.SectorDisk.{Ghosts}
-use Rattle.sync_journal.specs.Layout.{body_sector, home_sector, IsPageSector, IsHomeSector}
-use Rattle.sync_journal.specs.Map.{AreHomes}
-use Rattle.sync_journal.specs.Runs.{RunsOnDevice}
-use Rattle.sync_journal.specs.Standing.{AreCopied}
+-- The pages of a body copied to their homes, one after the other.
+use Rattle.std.proofs.{Common.{◌≡◌, ◌≢◌, ◌⊎◌, ◌<◌, ◌≤◌, ◌+◌, ◌*◌, ℕ, List, [], length, get_or, None, inl, inr, sym, ap, subst, ◌∙◌, ⊎_elim, arith}, lemmas.Bool.{cases_eq, cases_lt}}
+use Rattle.disk_model.specs.{Stop.{NamesOnce}, Moments.{Touches}, declared.sector_disk.SectorDisk.{Ghosts}}
+use Rattle.disk_model.proofs.Naming.{once_apart, once_wider}
+use Rattle.sync_journal.specs.{Layout.{page_limit, first_body_sector, first_home_sector, IsPageSector, IsHomeFrom, IsCopied}, Map.{AreHomes, home_rank}, Runs.{RunsOnDevice}, Standing.{IsCopyFrom, AreCopiedFrom}}
 use Rattle.sync_journal.proofs.Runs.{one_more, of_more}
 
 -- two homes at two places are two homes
@@ -16,51 +12,65 @@ distinct_homes count homes i j are below_i below_j other = ⊎_elim
     (λ ge. λ same. are.distinct j i (omega arith) below_i (sym same))
     (cases_lt i j)
 
-module _ {D : Type 0} (g : Ghosts D) (count : ℕ) (homes : List ℕ) (are : AreHomes count homes) where
-  -- a page of the body stays while homes are written
-  pub body_stays : (j i : ℕ) (old new : D) → j < length homes → i < 8 → Touches g (IsHomeSector homes) old new
-      → g.content new (body_sector j + i) ≡ g.content old (body_sector j + i)
-  body_stays j i old new below_j below_i run =
-      let few = are.few in
-      ⊎_elim (λ at_home. absurd (omega (arith, few, at_home.2.0))) (λ same. same) (run.content (body_sector j + i))
+-- The body begins at one sector, and the homes, which lie after it, at another.
+module _ (body first : ℕ) (after : body + 8 * page_limit ≤ first) (count : ℕ) (homes but : List ℕ) (are : AreHomes count homes) where
+  -- a page more is copied home, or passed over
+  pub copy_more : (before mid now : ℕ → ℕ) (j : ℕ) → j < length homes → NamesOnce (IsCopyFrom body first homes but j) before mid
+      → NamesOnce (λ k. (home_rank but (get_or homes j 0) ≡ None) × (IsPageSector (body + 8 * j) k ⊎ IsPageSector (first + 8 * get_or homes j 0) k)) mid now
+      → NamesOnce (IsCopyFrom body first homes but (j + 1)) before now
+  copy_more before mid now j below = once_apart (IsCopyFrom body first homes but j) Here (IsCopyFrom body first homes but (j + 1)) before mid now
+      (λ k was. (was.0, omega (arith, was.1), was.2, was.3)) (λ k is. (j, omega arith, is.0, is.1)) two
+    where
+      Here : ℕ → Type 0
+      Here k = (home_rank but (get_or homes j 0) ≡ None) × (IsPageSector (body + 8 * j) k ⊎ IsPageSector (first + 8 * get_or homes j 0) k)
 
-  -- a home stays while another is written
-  pub home_stays : (j n i : ℕ) (old new : D) → j < length homes → n < length homes → j ≢ n → i < 8
-      → Touches g (IsPageSector (home_sector (get_or homes n 0))) old new
-      → g.content new (home_sector (get_or homes j 0) + i) ≡ g.content old (home_sector (get_or homes j 0) + i)
-  home_stays j n i old new below_j below_n other below_i run =
-      let apart = distinct_homes count homes j n are below_j below_n other in
-      ⊎_elim (λ at_home. absurd (apart (omega (arith, at_home.0, at_home.1)))) (λ same. same) (run.content (home_sector (get_or homes j 0) + i))
+      two : (k : ℕ) → IsCopyFrom body first homes but j k → Here k → ⊥
+      two k was is =
+          let few = are.few in
+          let less = was.1 in
+          ⊎_elim
+          (λ page. ⊎_elim (λ page'. omega (arith, page.1, page'.0, less)) (λ home'. omega (arith, page.1, home'.0, few, below, less, after)) is.1)
+          (λ home. ⊎_elim (λ page'. omega (arith, home.0, page'.1, few, below, after))
+          (λ home'. distinct_homes count homes was.0 j are (omega (arith, less, below)) below (λ e. omega (arith, e, less)) (omega (arith, home.0, home.1, home'.0, home'.1))) is.1)
+          was.3
 
-  -- one home more
-  pub copied_more : (n : ℕ) (old mid new : D) → n < length homes
-      → Touches g (IsHomeSector homes) old mid → AreCopied homes n (g.content old) (g.content mid)
-      → Touches g (IsPageSector (home_sector (get_or homes n 0))) mid new
-      → ((i : ℕ) → i < 8 → g.content new (home_sector (get_or homes n 0) + i) ≡ g.content mid (body_sector n + i))
-      → AreCopied homes (n + 1) (g.content old) (g.content new)
-  copied_more n old mid new below_n first so_far second here = λ j i below_j below_i. ⊎_elim
-      (λ same. let at : AreCopiedAt n i = here i below_i ∙ body_stays n i old mid below_n below_i first in subst (λ m. AreCopiedAt m i) (sym same) at)
-      (λ other. home_stays j n i mid new (omega arith) below_n other below_i second ∙ so_far j i (omega arith) below_i)
+  -- and its home holds it
+  pub copied_more : {D : Type 0} (g : Ghosts D) (n : ℕ) (old mid new : D) → n < length homes
+      → Touches g (IsHomeFrom first homes) old mid → AreCopiedFrom body first homes but n (g.content old) (g.content mid)
+      → Touches g (IsPageSector (first + 8 * get_or homes n 0)) mid new
+      → (home_rank but (get_or homes n 0) ≡ None → (i : ℕ) → i < 8 → g.content new (first + 8 * get_or homes n 0 + i) ≡ g.content mid (body + 8 * n + i))
+      → AreCopiedFrom body first homes but (n + 1) (g.content old) (g.content new)
+  copied_more g n old mid new below_n run so_far last here = λ j i below_j left below_i. ⊎_elim
+      (λ same. subst (λ m. Copied m i) (sym same)
+      (here (ap (λ m. home_rank but (get_or homes m 0)) (sym same) ∙ left) i below_i ∙ body_stays i below_i))
+      (λ other. home_stays j i (omega (arith, below_j, other, below_n)) other below_i ∙ so_far j i (omega (arith, below_j, other)) left below_i)
       (cases_eq j n)
     where
-      AreCopiedAt : ℕ → ℕ → Type 0
-      AreCopiedAt j i = g.content new (home_sector (get_or homes j 0) + i) ≡ g.content old (body_sector j + i)
+      Copied : ℕ → ℕ → Type 0
+      Copied j i = g.content new (first + 8 * get_or homes j 0 + i) ≡ g.content old (body + 8 * j + i)
 
-  -- a run that wrote one home is one that wrote homes
-  pub one_home : (j to : ℕ) (old mid new : D) → j < length homes → to ≡ home_sector (get_or homes j 0)
-      → RunsOnDevice g (IsHomeSector homes) old mid → RunsOnDevice g (IsPageSector to) mid new → RunsOnDevice g (IsHomeSector homes) old new
-  one_home j to old mid new below at so_far more = one_more g (IsHomeSector homes) old mid new so_far
-      (of_more g (IsPageSector to) (IsHomeSector homes) mid new (λ k inside. (j, below, (omega (arith, inside.0, at), omega (arith, inside.1, at)))) more)
+      body_stays : (i : ℕ) → i < 8 → g.content mid (body + 8 * n + i) ≡ g.content old (body + 8 * n + i)
+      body_stays i below_i =
+          let few = are.few in
+          ⊎_elim (λ at_home. absurd (omega (arith, few, after, below_n, below_i, at_home.2.0))) (λ same. same) (run.content (body + 8 * n + i))
 
-  -- the next home copied
-  pub one_copied : (n from to : ℕ) (old mid new : D) → n < length homes → from ≡ body_sector n → to ≡ home_sector (get_or homes n 0)
-      → (g.keeps_model new → g.keeps_model mid)
-      → (g.keeps_model mid → Touches g (IsHomeSector homes) old mid)
-      → (g.keeps_model mid → AreCopied homes n (g.content old) (g.content mid))
-      → (g.keeps_model new → Touches g (IsPageSector to) mid new)
-      → (g.keeps_model new → (i : ℕ) → i < 8 → g.content new (to + i) ≡ g.content mid (from + i))
-      → g.keeps_model new → AreCopied homes (n + 1) (g.content old) (g.content new)
-  one_copied n from to old mid new below at_body at_home kept first so_far second here keeps =
-      copied_more n old mid new below (first (kept keeps)) (so_far (kept keeps))
-      (subst (λ t. Touches g (IsPageSector t) mid new) at_home (second keeps))
-      (λ i inside. ap (λ t. g.content new (t + i)) (sym at_home) ∙ here keeps i inside ∙ ap (λ f. g.content mid (f + i)) at_body)
+      home_stays : (j i : ℕ) → j < length homes → j ≢ n → i < 8 → g.content new (first + 8 * get_or homes j 0 + i) ≡ g.content mid (first + 8 * get_or homes j 0 + i)
+      home_stays j i below_j other below_i =
+          let away = distinct_homes count homes j n are below_j below_n other in
+          ⊎_elim (λ at_home. absurd (away (omega (arith, at_home.0, at_home.1, below_i)))) (λ same. same) (last.content (first + 8 * get_or homes j 0 + i))
+
+-- a run that wrote one home is one that wrote homes
+pub one_home : {D : Type 0} (g : Ghosts D) (first : ℕ) (homes : List ℕ) (j : ℕ) (old mid new : D) → j < length homes
+    → RunsOnDevice g (IsHomeFrom first homes) old mid → RunsOnDevice g (IsPageSector (first + 8 * get_or homes j 0)) mid new → RunsOnDevice g (IsHomeFrom first homes) old new
+one_home g first homes j old mid new below so_far more = one_more g (IsHomeFrom first homes) old mid new so_far
+    (of_more g (IsPageSector (first + 8 * get_or homes j 0)) (IsHomeFrom first homes) mid new (λ k inside. (j, below, inside)) more)
+
+-- some of the copies are among all of them
+pub copy_all : (body first : ℕ) (homes but : List ℕ) (n : ℕ) → n ≤ length homes → (before now : ℕ → ℕ)
+    → NamesOnce (IsCopyFrom body first homes but n) before now → NamesOnce (IsCopyFrom body first homes but (length homes)) before now
+copy_all body first homes but n more before now = once_wider (IsCopyFrom body first homes but n) (IsCopyFrom body first homes but (length homes)) before now
+    (λ k was. (was.0, omega (arith, was.1, more), was.2, was.3))
+
+-- what is copied from and to where all of it is
+pub in_copied : (homes : List ℕ) (n k : ℕ) → IsCopyFrom first_body_sector first_home_sector homes [] n k → IsCopied homes n k
+in_copied homes n k was = ⊎_elim (λ page. inl (omega (arith, page.0), omega (arith, page.1, was.1))) (λ home. inr (was.0, was.1, home)) was.3

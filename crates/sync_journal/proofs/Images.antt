@@ -1,15 +1,12 @@
 -- What images stand for.
-use Rattle.std.proofs.Common.{◌≡◌, ◌≢◌, ◌⊎◌, ◌<◌, ◌+◌, ℕ, zero, suc, Bool, true, false, List, length, get_or, Option, Some, None, if◌then◌else◌, ◌==◌, refl, sym, ap, subst, ◌∙◌, ⊎_elim, arith, add-one}
+use Rattle.std.proofs.Common.{◌≡◌, ◌≢◌, ◌⊎◌, ◌<◌, ◌+◌, ℕ, zero, suc, Bool, true, false, List, [], length, get_or, Option, Some, None, if◌then◌else◌, ◌==◌, refl, sym, ap, subst, ◌∙◌, ⊎_elim, arith, add-one}
+use Rattle.std.proofs.{lemmas.Bool.{cases_eq, eqb-true, eqb-false, eq-eqb}, lemmas.Bool.Decides.{nat_tests}}
 use Rattle.std.specs.Prelude.{IfSome}
-use Rattle.std.proofs.lemmas.Bool.{cases_eq, eqb-true, eqb-false, eq-eqb}
-use Rattle.std.proofs.lemmas.Bool.Decides.{nat_tests}
 use Rattle.disk_model.specs.Stop.{Image}
-use Rattle.sync_journal.specs.Layout.{Layout, layout_2, gate_sector, body_sector, home_at, home_sector, home_count, IsHomeSector, IsOutside}
-use Rattle.sync_journal.specs.Gate.{is_open}
+use Rattle.sync_journal.specs.{Layout.{Layout, layout_2, gate_sector, first_body_sector, first_home_sector, body_sector, home_at, home_sector, home_count, IsHomeSector, IsOutside}, Gate.{is_open}}
 use Rattle.sync_journal.specs.Map.{place_among, home_rank, map_count, home_in, AreHomes, IsBadMap}
+use Rattle.sync_journal.specs.{Standing.{place_or_home_in, place_or_home, map_in, map_of, standing_under, standing_in, standing_single, StandsForPages, IsOpenIn, IsOpenFor, AreCopiedFrom}, Commit.{IsKept}}
 use Rattle.sync_journal.proofs.Maps.{same_map}
-use Rattle.sync_journal.specs.Standing.{place_or_home_in, place_or_home, map_in, map_of, standing_under, standing_in, standing_single, StandsForPages, IsOpenIn, IsOpenFor, AreCopied}
-use Rattle.sync_journal.specs.Commit.{IsKept}
 
 -- maps that name the same homes have them at the same places
 pub place_same : (f g : ℕ → ℕ) (h n : ℕ) → ((j : ℕ) → j < n → f j ≡ g j) → place_among f h n ≡ place_among g h n
@@ -107,7 +104,7 @@ not_at_home homes h i below none at_home = none at_home.0 at_home.1 (omega (arit
 pub outside_homes : (sectors : ℕ) (homes : List ℕ) (k : ℕ) → AreHomes (home_count sectors) homes → IsOutside sectors k → IsHomeSector homes k → ⊥
 outside_homes sectors homes k are outside at_home =
     let inside : get_or homes at_home.0 0 < home_count sectors = are.inside at_home.0 at_home.1 in
-    ⊎_elim (λ front. omega (arith, front, at_home.2.0)) (λ behind. omega (arith, behind, inside, at_home.2.1)) outside
+    ⊎_elim (λ front. omega (arith, front, at_home.2.0)) (λ after. omega (arith, after, inside, at_home.2.1)) outside
 
 module _ (sectors : ℕ) (homes : List ℕ) (are : AreHomes (home_count sectors) homes) (content : Image) (opens : IsOpenFor homes content) where
   -- an image with the gate open, and the content but for homes that the body holds
@@ -120,7 +117,7 @@ module _ (sectors : ℕ) (homes : List ℕ) (are : AreHomes (home_count sectors)
   }
     where
       outside_gate : (k : ℕ) → IsOutside sectors k → k ≢ gate_sector
-      outside_gate k outside e = ⊎_elim (λ front. omega (arith, front, e)) (λ behind. omega (arith, behind, e)) outside
+      outside_gate k outside e = ⊎_elim (λ front. omega (arith, front, e)) (λ after. omega (arith, after, e)) outside
 
       maps : map_of image ≡ map_of content
       maps = same_map image content (λ k from below. ⊎_elim (λ at_home. absurd (omega (arith, below, at_home.2.0))) (λ e. e) (same k (omega (arith, from))))
@@ -136,7 +133,7 @@ module _ (sectors : ℕ) (homes : List ℕ) (are : AreHomes (home_count sectors)
           ∙ sym (standing_open homes content h i opens)
 
   -- an image with the gate closed, and the content but for the homes, which hold what the body held
-  pub closed_kept : (image : Image) → is_open image ≡ false → AreCopied homes (length homes) content image
+  pub closed_kept : (image : Image) → is_open image ≡ false → AreCopiedFrom first_body_sector first_home_sector homes [] (length homes) content image
       → ((k : ℕ) → k ≢ gate_sector → IsHomeSector homes k ⊎ (image k ≡ content k))
       → IsKept sectors content (StandsForPages (standing_single content)) image
   closed_kept image gate copied same = record {
@@ -149,8 +146,8 @@ module _ (sectors : ℕ) (homes : List ℕ) (are : AreHomes (home_count sectors)
       never opened = let e : true ≡ false = sym opened ∙ gate in cc
 
       outside_gate : (k : ℕ) → IsOutside sectors k → k ≢ gate_sector
-      outside_gate k outside e = ⊎_elim (λ front. omega (arith, front, e)) (λ behind. omega (arith, behind, e)) outside
+      outside_gate k outside e = ⊎_elim (λ front. omega (arith, front, e)) (λ after. omega (arith, after, e)) outside
 
       here : (h i : ℕ) → i < 8 → (o : Option ℕ) → Means (λ j. get_or homes j 0) h (length homes) o → image (home_sector h + i) ≡ content (place_or_home h o + i)
       here h i below None none = ⊎_elim (λ at_home. absurd (not_at_home homes h i below none at_home)) (λ e. e) (same (home_sector h + i) (omega arith))
-      here h i below (Some j) found = ap (λ home. image (home_sector home + i)) (sym found.1) ∙ copied j i found.0 below
+      here h i below (Some j) found = ap (λ home. image (home_sector home + i)) (sym found.1) ∙ copied j i found.0 (no_place (λ k. get_or [] k 0) (get_or homes j 0)) below

@@ -1,24 +1,13 @@
 -- Each layout's words said in the words of both.
-use Rattle.std.proofs.Common.{◌≡◌, ◌⊎◌, ℕ, Bool, true, false, List, Result, Ok, Err, OnOk, refl, sym, ap, subst, ◌∙◌, ⊎_elim, inl, inr, arith, ◌+◌, not, Some}
-use Rattle.disk_model.specs.Stop.{Image, MayLeave}
-use Rattle.disk_model.specs.Moments.{Nothing, Touches, LeavesOnly}
+use Rattle.std.proofs.Common.{◌≡◌, ℕ, Bool, true, false, List, Result, Ok, Err, OnOk, refl, sym, ap, subst, ◌∙◌, ⊎_elim, inl, inr, arith, ◌+◌, not, Some}
+use Rattle.disk_model.specs.{Stop.{Image, MayLeave}, Moments.{Nothing, Touches, LeavesOnly}, declared.sector_disk.SectorDisk.{Ghosts}}
 use Rattle.disk_model.proofs.Moments.{started, goes_on, weaker, joined}
-use Rattle.disk_model.specs.declared.sector_disk.SectorDisk.{Ghosts}
-use Rattle.sync_journal.specs.Standing.{standing_single, StandsForPages}
-use Rattle.sync_journal.specs.Commit.{changed, StandsForEitherPages, IsKept, IsAtRest, IsSettled}
-use Rattle.sync_journal.specs.Journal.{live_homes}
+use Rattle.sync_journal.specs.{Standing.{standing_single, StandsForPages}, Commit.{changed, StandsForEitherPages, IsKept, IsAtRest, IsSettled}, Journal.{live_homes}}
 use Rattle.sync_journal.specs.Turns.{turn_standing, TurnStandsFor, TurnStandsForEither, IsTurnKept, IsTurnRest, IsTurnSettled, turn_home, turn_home_count, named_in, map_rank, stands_under, IsBadUnder, IsTurnSector, IsTurnCommitted, IsTurnOutside, IsTurnRecovered}
 use Rattle.sync_journal.specs.Kinds.{is_kind, kind_when, kind_of, kind_standing, IsKindBad, IsKindOutside, store_standing, StoreStandsFor, StoreStandsForEither, IsStoreKept, IsStoreRest, IsStoreSettled, StoreStandsAs, KeepsStore}
-use Rattle.sync_journal.specs.declared.journal.Journal.{Journal}
-use Rattle.sync_journal.specs.declared.turns.TurnJournal.{TurnJournal}
-use Rattle.sync_journal.specs.declared.store_journal.Journals.{Journals}
-use Rattle.sync_journal.specs.declared.store_journal.Journals.TheVariants.{Single, Paired}
-use Rattle.sync_journal.specs.declared.store_journal.StoreJournal.{StoreJournal}
-use Rattle.sync_journal.specs.declared.store_journal.StoreJournal.TheVariants.{One, InTurn}
-use Rattle.sync_journal.proofs.Since.{changed_same}
-use Rattle.sync_journal.specs.Layout.{IsOutside}
-use Rattle.sync_journal.specs.Map.{AreHomes}
-use Rattle.sync_journal.proofs.Rests.{rest_read}
+use Rattle.sync_journal.specs.{declared.journal.Journal.{Journal}, declared.turns.TurnJournal.{TurnJournal}, declared.store_journal.Journals.{Journals}, declared.store_journal.Journals.TheVariants.{Single, Paired}}
+use Rattle.sync_journal.specs.{declared.store_journal.StoreJournal.{StoreJournal}, declared.store_journal.StoreJournal.TheVariants.{One, InTurn}, Layout.{IsOutside}, Map.{AreHomes}}
+use Rattle.sync_journal.proofs.{Since.{changed_same}, Rests.{rest_read}}
 
 -- A store of layout 2.
 module _ (sectors : ℕ) (content : Image) (was : kind_of content ≡ Single) where

@@ -1,25 +1,13 @@
 -- Two journals in turn: what images stand for, and the moments of a commit.
-use Rattle.std.proofs.Common.{◌≡◌, ◌≢◌, ◌⊎◌, ◌≤◌, ◌<◌, ◌+◌, ℕ, Bool, true, false, not, List, [], length, take, get_or, Option, Some, None, refl, sym, ap, subst, ◌∙◌, ⊎_elim, inl, inr, arith}
-use Rattle.std.proofs.lemmas.Bool.{cases_eq, cases_lt}
+use Rattle.std.proofs.{Common.{◌≡◌, ◌⊎◌, ◌≤◌, ◌<◌, ◌+◌, ℕ, Bool, true, false, not, List, [], length, take, get_or, Option, Some, None, refl, sym, ap, subst, ◌∙◌, ⊎_elim, inl, inr, arith}, lemmas.Bool.{cases_lt}}
 use Rattle.std.proofs.lemmas.List.{length-take-le, get_or-take}
-use Rattle.disk_model.specs.Stop.{Image, MayLeave}
-use Rattle.disk_model.specs.Moments.{Touches, LeavesOnly, Nothing}
+use Rattle.disk_model.specs.{Stop.{Image, MayLeave}, Moments.{Touches, LeavesOnly, Nothing}, Sectors.{part_of, joined}, declared.sector_disk.SectorDisk.{Ghosts}}
 use Rattle.disk_model.proofs.Moments.{started, goes_on, weaker, wider, then, joined as joins}
 use Rattle.disk_model.proofs.Pieces.{joined-same, joined_parts}
-use Rattle.disk_model.specs.Sectors.{part_of, joined}
-use Rattle.disk_model.specs.declared.sector_disk.SectorDisk.{Ghosts}
-use Rattle.sync_journal.specs.Gate.{is_open_sector}
-use Rattle.sync_journal.specs.Map.{map_bytes, place_among, home_rank, map_count, home_in, AreHomes, IsBadMap}
-use Rattle.sync_journal.specs.Commit.{sector_or, changed}
-use Rattle.sync_journal.specs.Turns.{turn_gate, turn_homes, start_of, turn_body, turn_home, turn_home_count, named_in, turn_map, map_rank, turn_stands, stands_under, turn_standing, IsBadUnder, IsBadTurn, IsTurnSector, IsTurnGate, IsGateBlock, IsTurnHome, IsTurnStaged, IsTurnCommitted, IsTurnOutside, TurnStandsFor, TurnStandsForEither, IsTurnKept, TurnsStandAs, HoldsJournal, AreCopiedBut, KeepsTurns, IsTurnRest, IsTurnSettled}
-use Rattle.sync_journal.proofs.Maps.{counted, named}
-use Rattle.sync_journal.proofs.Images.{Means, no_place, place_means, place_same}
-use Rattle.sync_journal.proofs.Phases.{not_bad}
-use Rattle.sync_journal.specs.Layout.{IsPageSector}
-use Rattle.sync_journal.specs.Runs.{RunsOnDevice}
-use Rattle.sync_journal.specs.Blocks.{IsSameBlock, LeavesInBlocks, CommitsInBlocks, RecoversInBlocks}
-use Rattle.sync_journal.proofs.Runs.{one_more, of_more}
-use Rattle.sync_journal.proofs.Copies.{distinct_homes}
+use Rattle.sync_journal.specs.{Gate.{is_open_sector}, Map.{map_bytes, place_among, home_rank, map_count, home_in, AreHomes, IsBadMap}, Commit.{sector_or, changed}}
+use Rattle.sync_journal.specs.Turns.{turn_gate, turn_homes, start_of, turn_body, turn_home, turn_home_count, named_in, turn_map, map_rank, turn_stands, stands_under, turn_standing, IsBadUnder, IsBadTurn, IsTurnSector, IsTurnGate, IsGateBlock, IsTurnHome, IsTurnStaged, IsTurnOutside, TurnStandsFor, TurnStandsForEither, IsTurnKept, TurnsStandAs, HoldsJournal, AreCopiedBut, KeepsTurns, IsTurnRest, IsTurnSettled}
+use Rattle.sync_journal.specs.{Layout.{IsPageSector}, Blocks.{IsSameBlock, LeavesInBlocks, CommitsInBlocks, RecoversInBlocks}}
+use Rattle.sync_journal.proofs.{Maps.{counted, named}, Images.{Means, no_place, place_means, place_same}, Phases.{not_bad}}
 
 -- where the journals lie
 pub start_low : (b : Bool) → 24 ≤ start_of b
@@ -66,16 +54,16 @@ home_high second k high inside = let end = start_high second in omega (arith, hi
 outside_home : (sectors : ℕ) (live : List ℕ) (k : ℕ) → AreHomes (turn_home_count sectors) live → IsTurnOutside sectors k → IsTurnHome live k → ⊥
 outside_home sectors live k are outside at_home =
     let inside : get_or live at_home.0 0 < turn_home_count sectors = are.inside at_home.0 at_home.1 in
-    ⊎_elim (λ front. omega (arith, front, at_home.2.0)) (λ behind. omega (arith, behind, inside, at_home.2.1)) outside
+    ⊎_elim (λ front. omega (arith, front, at_home.2.0)) (λ after. omega (arith, after, inside, at_home.2.1)) outside
 
 outside_turn : (sectors : ℕ) (second : Bool) (k : ℕ) → IsTurnOutside sectors k → IsTurnSector second k → ⊥
 outside_turn sectors second k outside inside =
     let low = start_low second in
     let high = start_high second in
-    ⊎_elim (λ front. omega (arith, front, inside.0, low)) (λ behind. omega (arith, behind, inside.1, high)) outside
+    ⊎_elim (λ front. omega (arith, front, inside.0, low)) (λ after. omega (arith, after, inside.1, high)) outside
 
 outside_gate : (sectors k : ℕ) → IsTurnOutside sectors k → IsGateBlock k → ⊥
-outside_gate sectors k outside e = ⊎_elim (λ front. omega (arith, front, e.0)) (λ behind. omega (arith, behind, e.1)) outside
+outside_gate sectors k outside e = ⊎_elim (λ front. omega (arith, front, e.0)) (λ after. omega (arith, after, e.1)) outside
 
 -- the gate lies in its block
 at_gate : (k : ℕ) → k ≡ turn_gate → IsGateBlock k
@@ -214,40 +202,6 @@ module _ (sectors : ℕ) (second : Bool) (live : List ℕ) (are : AreHomes (turn
           (λ names. let kept = after_kept image names same in record { stands = inr kept.stands; journal = kept.journal; outside = kept.outside })
           (which second (named_in image))
 
--- The pages of a journal copied home, one after the other.
-module _ {D : Type 0} (g : Ghosts D) (second : Bool) (sectors : ℕ) (homes but : List ℕ) (are : AreHomes (turn_home_count sectors) homes) where
-  -- a run that wrote one home is one that wrote homes
-  pub one_home : (j : ℕ) (old mid new : D) → j < length homes → RunsOnDevice g (IsTurnHome homes) old mid → RunsOnDevice g (IsPageSector (turn_home (get_or homes j 0))) mid new
-      → RunsOnDevice g (IsTurnHome homes) old new
-  one_home j old mid new below so_far more = one_more g (IsTurnHome homes) old mid new so_far
-      (of_more g (IsPageSector (turn_home (get_or homes j 0))) (IsTurnHome homes) mid new (λ k inside. (j, below, inside)) more)
-
-  -- the next page copied, or passed over
-  pub copied_more : (n from : ℕ) (old mid new : D) → n < length homes → from ≡ turn_body second n
-      → Touches g (IsTurnHome homes) old mid → AreCopiedBut second homes but n (g.content old) (g.content mid)
-      → Touches g (IsPageSector (turn_home (get_or homes n 0))) mid new
-      → (home_rank but (get_or homes n 0) ≡ None → (i : ℕ) → i < 8 → g.content new (turn_home (get_or homes n 0) + i) ≡ g.content mid (from + i))
-      → AreCopiedBut second homes but (n + 1) (g.content old) (g.content new)
-  copied_more n from old mid new below_n at first so_far last here = λ j i below_j left below_i. ⊎_elim
-      (λ same. subst (λ m. Copied m i) (sym same)
-      (here (ap (λ m. home_rank but (get_or homes m 0)) (sym same) ∙ left) i below_i ∙ ap (λ f. g.content mid (f + i)) at ∙ body_stays n i below_n below_i))
-      (λ other. home_stays j i (omega (arith, below_j, other, below_n)) other below_i ∙ so_far j i (omega (arith, below_j, other)) left below_i)
-      (cases_eq j n)
-    where
-      Copied : ℕ → ℕ → Type 0
-      Copied j i = g.content new (turn_home (get_or homes j 0) + i) ≡ g.content old (turn_body second j + i)
-
-      body_stays : (j i : ℕ) → j < length homes → i < 8 → g.content mid (turn_body second j + i) ≡ g.content old (turn_body second j + i)
-      body_stays j i below_j below_i =
-          let few = are.few in
-          let high = start_high second in
-          ⊎_elim (λ at_home. absurd (omega (arith, few, high, below_j, below_i, at_home.2.0))) (λ same. same) (first.content (turn_body second j + i))
-
-      home_stays : (j i : ℕ) → j < length homes → j ≢ n → i < 8 → g.content new (turn_home (get_or homes j 0) + i) ≡ g.content mid (turn_home (get_or homes j 0) + i)
-      home_stays j i below_j other below_i =
-          let away = distinct_homes (turn_home_count sectors) homes j n are below_j below_n other in
-          ⊎_elim (λ at_home. absurd (away (omega (arith, at_home.0, at_home.1, below_i)))) (λ same. same) (last.content (turn_home (get_or homes j 0) + i))
-
 -- A journal's map and body stay while homes are written.
 pub map_stays : {D : Type 0} (g : Ghosts D) (second : Bool) (live : List ℕ) (old new : D) → Touches g (IsTurnHome live) old new
     → turn_map second (g.content new) ≡ turn_map second (g.content old)
@@ -358,12 +312,6 @@ module _ {D : Type 0} (g : Ghosts D) (second : Bool) (live : List ℕ) (old mid 
     while_preparing_either = weaker g old mid Before Either
         (λ image kept. record { stands = inl kept.stands; journal = kept.journal; outside = kept.outside }) while_preparing
 
-    pub staged_blocks_either : LeavesInBlocks g (IsTurnStaged second live) Either old mid
-    staged_blocks_either = let blocks = staged_blocks in record {
-      writes = blocks.writes;
-      each = λ d wrote image may. (let kept = blocks.each d wrote image may in record { stands = inl kept.stands; journal = kept.journal; outside = kept.outside });
-    }
-
     module _ (new : D) (q : NamesOther g second live homes old mid new) where
       -- the other journal is named, and nothing is unsynced
       module _ (gate : named_in (g.content new) ≡ not second) (size : g.sector_count new ≡ g.sector_count old) (new_synced : (k : ℕ) → g.unsynced new k → ⊥) where
@@ -420,54 +368,6 @@ module _ {D : Type 0} (g : Ghosts D) (second : Bool) (live : List ℕ) (old mid 
             outside = here.outside;
             left = λ image may. after image (λ k. ⊎_elim (λ u. absurd (new_synced k u)) (λ e. e) (may.kept k));
           }
-
--- The runs of which a commit is made, over a journal at rest.
-module _ {D : Type 0} (g : Ghosts D) (second : Bool) (live : List ℕ) (old : D)
-    (only_now : g.keeps_model old → (image : Image) → g.left_since old (g.moment old) image → MayLeave (g.content old) (g.unsynced old) image)
-    (are : AreHomes (turn_home_count (g.sector_count old)) live) (rest : g.keeps_model old → IsTurnRest g second live old) where
-  -- the other journal is staged
-  pub is_staged : (mid : D) → RunsOnDevice g (IsTurnSector (not second)) old mid → g.keeps_model mid → IsPrepared g second live old mid
-  is_staged mid stages keeps = record {
-    only_now = only_now (stages.kept keeps);
-    are = are;
-    rest = rest (stages.kept keeps);
-    run = wider g (IsTurnSector (not second)) (IsTurnStaged second live) old mid (λ k inside. inl inside) (stages.touches keeps);
-  }
-
-  -- and what is live copied
-  pub is_prepared : (staged mid : D) → RunsOnDevice g (IsTurnSector (not second)) old staged → RunsOnDevice g (IsTurnHome live) staged mid → g.keeps_model mid → IsPrepared g second live old mid
-  is_prepared staged mid stages copies keeps =
-      let before = stages.kept (copies.kept keeps) in
-      record { only_now = only_now before; are = are; rest = rest before; run = prepared g second live old staged mid (stages.touches (copies.kept keeps)) (copies.touches keeps) }
-
-  -- and then the other journal named
-  pub is_named : (homes : List ℕ) (staged mid new : D) → AreHomes (turn_home_count (g.sector_count old)) homes → RunsOnDevice g (IsTurnSector (not second)) old staged → RunsOnDevice g (IsTurnHome live) staged mid
-      → RunsOnDevice g IsTurnGate mid new → (g.keeps_model staged → turn_map (not second) (g.content staged) ≡ map_bytes homes)
-      → (g.keeps_model mid → AreCopiedBut second live homes (length live) (g.content staged) (g.content mid)) → (g.keeps_model mid → (k : ℕ) → g.unsynced mid k → ⊥)
-      → g.keeps_model new → NamesOther g second live homes old mid new
-  is_named homes staged mid new homes_are stages copies names map copied synced keeps =
-      let end = names.kept keeps in
-      let at = copies.kept end in
-      record {
-        are = homes_are;
-        map = map_stays g (not second) live staged mid (copies.touches end) ∙ map at;
-        copied = copied_since g second live homes old staged mid are.few (stages.touches at) (copied end);
-        synced = synced end;
-        names = names.touches keeps;
-      }
-
--- the sectors that they write
-module _ {D : Type 0} (g : Ghosts D) (second : Bool) (live : List ℕ) (old staged : D) (stages : RunsOnDevice g (IsTurnSector (not second)) old staged) where
-  pub staged_run : RunsOnDevice g (IsTurnCommitted second live) old staged
-  staged_run = of_more g (IsTurnSector (not second)) (IsTurnCommitted second live) old staged (λ k inside. inr (inl inside)) stages
-
-  pub prepared_run : (mid : D) → RunsOnDevice g (IsTurnHome live) staged mid → RunsOnDevice g (IsTurnCommitted second live) old mid
-  prepared_run mid copies = one_more g (IsTurnCommitted second live) old staged mid staged_run
-      (of_more g (IsTurnHome live) (IsTurnCommitted second live) staged mid (λ k home. inr (inr home)) copies)
-
-  pub named_run : (mid new : D) → RunsOnDevice g (IsTurnHome live) staged mid → RunsOnDevice g IsTurnGate mid new → RunsOnDevice g (IsTurnCommitted second live) old new
-  named_run mid new copies names = one_more g (IsTurnCommitted second live) old mid new (prepared_run mid copies)
-      (of_more g IsTurnGate (IsTurnCommitted second live) mid new (λ k gate. inl gate) names)
 
 -- where a page stands between two commits
 pub page_stands : {D : Type 0} (g : Ghosts D) (second : Bool) (live : List ℕ) (d : D) (h first : ℕ) → IsTurnRest g second live d → first ≡ turn_stands second h (home_rank live h)

@@ -15,6 +15,7 @@ pub mod Sectors
 pub mod Since
 pub mod InTurn
 pub mod TurnAsking
+pub mod TurnSteps
 pub mod InKinds
 pub mod Resuming
 pub mod TurnRecoveries

@@ -2,15 +2,11 @@
 use Rattle.std.proofs.Common.{◌≡◌, ◌⊎◌, ◌≤◌, ◌<◌, ◌+◌, ◌-◌, ◌*◌, ◌^◌, ℕ, zero, suc, List, [], ◌∷◌, ◌++◌, length, take, drop, get_or, replicate, refl, sym, ap, ◌∙◌, ⊎_elim, inl, inr, arith, drop-drop, lit<}
 use Rattle.std.proofs.lemmas.List.{get_or-take, get_or-drop, drop-replicate}
 use Rattle.std.specs.List.{flat_map}
-use Rattle.byteorder.specs.Endian.{little_number, little_bytes}
-use Rattle.byteorder.specs.Numbers.{little_number-reads_back}
+use Rattle.byteorder.specs.{Endian.{little_number, little_bytes}, Numbers.{little_number-reads_back}}
 use borrow.Rule.Slice.PartMut.{put_mid}
-use Rattle.disk_model.specs.Stop.{Image}
-use Rattle.disk_model.specs.Sectors.{joined, part_of}
+use Rattle.disk_model.specs.{Stop.{Image}, Sectors.{joined, part_of}}
 use Rattle.disk_model.proofs.Pieces.{joined-same, joined_parts}
-use Rattle.sync_journal.specs.Layout.{layout_1, map_sector, first_body_sector}
-use Rattle.sync_journal.specs.Standing.{map_at, map_in, map_of}
-use Rattle.sync_journal.specs.Map.{map_count, home_in, map_bytes, HasNoHome, HasHomeTwice, IsBadMap}
+use Rattle.sync_journal.specs.{Layout.{layout_1, map_sector, first_body_sector}, Standing.{map_at, map_in, map_of}, Map.{map_count, home_in, map_bytes, HasNoHome, HasHomeTwice, IsBadMap}}
 
 -- the map of layout 1 is one sector
 pub one_sector : (image : Image) → map_in layout_1 image ≡ image map_sector
@@ -25,17 +21,17 @@ same_map new old same = joined-same 8 (λ i. new (map_sector + i)) (λ i. old (m
 pub map_page : (start : ℕ) (image : Image) (page : List ℕ) → length page ≡ 4096 → ((i : ℕ) → i < 8 → image (start + i) ≡ part_of page i) → map_at start image ≡ page
 map_page start image page long holds = joined-same 8 (λ i. image (start + i)) (part_of page) holds ∙ joined_parts page long
 
--- a part written behind the first four bytes
+-- a part written after the first four bytes
 pub overwritten : (a b c d k e : ℕ) (part old buf dst : List ℕ) → buf ≡ a ∷ b ∷ c ∷ d ∷ drop 4 old → dst ≡ part → 4 + k ≡ e
     → put_mid 4 k buf dst ≡ a ∷ b ∷ c ∷ d ∷ (part ++ drop e old)
-overwritten a b c d k e part old buf dst front behind ends =
+overwritten a b c d k e part old buf dst front after ends =
     ap (λ bytes. put_mid 4 k bytes dst) front
-    ∙ ap (λ bytes. a ∷ b ∷ c ∷ d ∷ (bytes ++ drop k (drop 4 old))) behind
+    ∙ ap (λ bytes. a ∷ b ∷ c ∷ d ∷ (bytes ++ drop k (drop 4 old))) after
     ∙ ap (λ bytes. a ∷ b ∷ c ∷ d ∷ (part ++ bytes)) (drop-drop k 4 old ∙ ap (λ j. drop j old) ends)
 
--- behind the homes a map is zero
-pub zeros_behind : (n : ℕ) → drop {A = ℕ} (4 + 4 * n) (replicate 4096 0) ≡ replicate (4092 - 4 * n) 0
-zeros_behind n = let rest : 4096 - (4 + 4 * n) ≡ 4092 - 4 * n = omega arith in
+-- after the homes a map is zero
+pub zeros_after : (n : ℕ) → drop {A = ℕ} (4 + 4 * n) (replicate 4096 0) ≡ replicate (4092 - 4 * n) 0
+zeros_after n = let rest : 4096 - (4 + 4 * n) ≡ 4092 - 4 * n = omega arith in
     drop-replicate (4 + 4 * n) 4096 0 ∙ ap (λ j. replicate j 0) rest
 
 -- four bytes are one number
@@ -47,7 +43,7 @@ same_number xs ys same =
     let third = same 3 (lit< tt) in
     cc
 
--- a number read from the part of the map behind its count
+-- a number read from the part of the map after its count
 pub number_at : (e k : ℕ) (map : List ℕ) → 4 * k + 4 ≤ e → little_number 4 (drop (4 * k) (take e (drop 4 map))) ≡ home_in map k
 number_at e k map inside = same_number (drop (4 * k) (take e (drop 4 map))) (drop (4 + 4 * k) map) byte
   where

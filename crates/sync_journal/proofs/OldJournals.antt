@@ -1,17 +1,10 @@
 -- What gate and map of a store of the layout before say.
-use Rattle.std.proofs.Common.{◌≡◌, ◌≤◌, ◌<◌, ◌+◌, ℕ, true, false, List, [], ◌++◌, length, take, get_or, Option, Some, None, sym, ap, subst, ◌∙◌, arith}
+use Rattle.std.proofs.{Common.{◌≡◌, ◌≤◌, ◌<◌, ◌+◌, ℕ, true, false, List, [], ◌++◌, length, take, get_or, Option, Some, None, sym, ap, subst, ◌∙◌, arith}, lemmas.List.{length-take-le, get_or-take, take-append-le, get_or_append_left}}
 use Rattle.std.specs.Prelude.{MatchOption}
-use Rattle.std.proofs.lemmas.List.{length-take-le, get_or-take, take-append-le, get_or_append_left}
 use Rattle.disk_model.specs.Stop.{Image}
-use Rattle.sync_journal.specs.Layout.{Layout, layout_before, home_count_in}
-use Rattle.sync_journal.specs.declared.store_journal.Journals.{Journals}
-use Rattle.sync_journal.specs.declared.store_journal.Journals.TheVariants.{Single, Paired}
-use Rattle.sync_journal.specs.Gate.{is_open}
-use Rattle.sync_journal.specs.Map.{home_rank, map_count, home_in, IsBadMap, AreFewHomes, AreNamed, ReadsMap}
-use Rattle.sync_journal.specs.Standing.{place_or_home_in, standing_in, map_in, IsBadJournalIn, IsOpenIn}
-use Rattle.sync_journal.specs.OldJournal.{StandsAsListed}
-use Rattle.sync_journal.proofs.Images.{no_place, closed_place, open_place}
-use Rattle.sync_journal.proofs.Phases.{not_bad}
+use Rattle.sync_journal.specs.{Layout.{Layout, layout_before, home_count_in}, declared.store_journal.Journals.{Journals}, declared.store_journal.Journals.TheVariants.{Single, Paired}, Gate.{is_open}}
+use Rattle.sync_journal.specs.{Map.{home_rank, map_count, home_in, IsBadMap, AreFewHomes, AreNamed, ReadsMap}, Standing.{place_or_home_in, standing_in, map_in, IsBadJournalIn, IsOpenIn}, OldJournal.{StandsAsListed}}
+use Rattle.sync_journal.proofs.{Images.{no_place, closed_place, open_place}, Phases.{not_bad}}
 
 pub closed_at : (layout : Layout) (image : Image) → is_open image ≡ false → StandsAsListed layout [] image
 closed_at layout image closed = record {
@@ -25,7 +18,7 @@ open_at layout homes image opens = record { at = λ h. open_place layout homes i
 pub stands_there : (layout : Layout) (homes : List ℕ) (image : Image) (h i : ℕ) → StandsAsListed layout homes image → image (place_or_home_in layout h (home_rank homes h) + i) ≡ standing_in layout image h i
 stands_there layout homes image h i stands = ap (λ first. image (first + i)) (sym (stands.at h))
 
--- the first numbers of a list, read from the map behind an open gate
+-- the first numbers of a list, read from the map after an open gate
 pub named_opens : (layout : Layout) (limit count : ℕ) (homes : List ℕ) (image : Image) → is_open image ≡ true → AreNamed layout.most limit (map_in layout image) homes count
     → count ≤ length homes → IsOpenIn layout (take count homes) image
 named_opens layout limit count homes image gate are room =

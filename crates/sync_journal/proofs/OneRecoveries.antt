@@ -1,28 +1,12 @@
 -- A recovery of one journal: a sync, a look at gate and map, and a replay.
-use Rattle.std.proofs.Common.{◌≡◌, ℕ, true, false, List, [], ⊎_elim, if◌then◌else◌, Result, Ok, Err, OnOk, sym, ap, subst, ◌∙◌, arith}
-use Rattle.std.proofs.lemmas.Result.{on_ok_weaker}
+use Rattle.std.proofs.{Common.{◌≡◌, ℕ, true, false, List, [], ⊎_elim, if◌then◌else◌, Result, Ok, Err, OnOk, sym, ap, subst, ◌∙◌, arith}, lemmas.Result.{on_ok_weaker}}
 use Rattle.std.specs.Prelude.{IsErr, IsErrOf}
-use Rattle.disk_model.specs.Stop.{Image, MayLeave}
-use Rattle.disk_model.specs.Moments.{AsksOnly, Nothing}
+use Rattle.disk_model.specs.{Stop.{Image, MayLeave}, Moments.{AsksOnly, Nothing}, declared.sector_disk.DiskFault.{DiskFault}, declared.sector_disk.SectorDisk.{Ghosts}}
 use Rattle.disk_model.proofs.Moments.{then as and_then, asks_none, asks_then}
-use Rattle.disk_model.specs.declared.sector_disk.DiskFault.{DiskFault}
-use Rattle.disk_model.specs.declared.sector_disk.SectorDisk.{Ghosts}
-use Rattle.sync_journal.specs.Layout.{gate_sector, home_count, IsFinished, IsJournalSector, IsRecovered, IsReplayed}
-use Rattle.sync_journal.specs.Gate.{closed_gate, closed_sector, is_open}
-use Rattle.sync_journal.specs.Map.{AreHomes}
-use Rattle.sync_journal.specs.Runs.{RunsOnDevice}
-use Rattle.sync_journal.specs.Standing.{map_of, standing_single, IsAskedIn, IsBadSingle, IsOpenFor}
-use Rattle.sync_journal.specs.Commit.{HomesStandAs, KeepsHomes, IsSettled}
-use Rattle.sync_journal.specs.Steps.{BlamesJournal, MovesHome}
-use Rattle.sync_journal.specs.Recovering.{RecoversOne}
-use Rattle.sync_journal.specs.declared.faults.RecoverFault.{RecoverFault}
-use Rattle.sync_journal.specs.declared.faults.RecoverFault.TheVariants.{BadJournal}
-use Rattle.sync_journal.proofs.Asking.{replay_asks}
-use Rattle.sync_journal.proofs.Runs.{one_more, of_more, read_only, replayed}
-use Rattle.sync_journal.proofs.Changes.{closed_not_bad}
-use Rattle.sync_journal.proofs.InTurn.{none_are}
-use Rattle.sync_journal.proofs.Phases.{not_bad, staged_settled}
-use Rattle.sync_journal.proofs.Replays.{if_ok}
+use Rattle.sync_journal.specs.{Layout.{gate_sector, home_count, IsFinished, IsJournalSector, IsRecovered, IsReplayed}, Gate.{closed_gate, closed_sector, is_open}, Map.{AreHomes}, Runs.{RunsOnDevice}}
+use Rattle.sync_journal.specs.{Standing.{map_of, standing_single, IsAskedIn, IsBadSingle, IsOpenFor}, Commit.{HomesStandAs, KeepsHomes, IsSettled}, Steps.{BlamesJournal, MovesHome}, Recovering.{RecoversOne}}
+use Rattle.sync_journal.specs.{declared.faults.RecoverFault.{RecoverFault}, declared.faults.RecoverFault.TheVariants.{BadJournal}}
+use Rattle.sync_journal.proofs.{Asking.{replay_asks}, Runs.{one_more, of_more, read_only, replayed}, Changes.{closed_not_bad}, InTurn.{none_are}, Phases.{not_bad, staged_settled}, Replays.{if_ok}}
 use Rattle.sync_journal.proofs.Recoveries.{read_same, while_reading, while_replaying, settled_since, bad_since, bad_still, since_first}
 
 module _ {D : Type 0} (g : Ghosts D) (old read : D) (only_now : g.keeps_model old → (image : Image) → g.left_since old (g.moment old) image → MayLeave (g.content old) (g.unsynced old) image)

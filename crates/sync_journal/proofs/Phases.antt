@@ -1,25 +1,17 @@
 -- The moments of a commit's own part: the pages and the map staged, and the gate opened.
 use Rattle.std.proofs.Common.{◌≡◌, ◌≢◌, ◌⊎◌, ◌≤◌, ◌<◌, ◌+◌, ◌^◌, ℕ, true, false, List, [], length, get_or, Option, Some, None, refl, sym, ap, ◌∙◌, ⊎_elim, inl, inr, arith}
-use Rattle.disk_model.specs.Stop.{Image, MayLeave}
-use Rattle.disk_model.specs.Moments.{Touches, LeavesOnly}
+use Rattle.disk_model.specs.{Stop.{Image, MayLeave}, Moments.{Touches, LeavesOnly}, declared.sector_disk.SectorDisk.{Ghosts}}
 use Rattle.disk_model.proofs.Moments.{started, goes_on, weaker}
-use Rattle.disk_model.specs.declared.sector_disk.SectorDisk.{Ghosts}
-use Rattle.sync_journal.specs.Layout.{gate_sector, home_sector, body_sector, home_count, IsGate, IsJournalSector, IsOutside}
-use Rattle.sync_journal.specs.Gate.{is_open, is_open_sector}
-use Rattle.sync_journal.specs.Map.{map_bytes, home_rank, map_count, home_in, AreFewHomes, AreHomes, IsBadMap}
-use Rattle.sync_journal.specs.Standing.{place_or_home, map_of, standing_single, StandsForPages, IsOpenFor, HoldsPages}
-use Rattle.sync_journal.specs.Commit.{sector_or, changed, StandsForEitherPages, IsKept, IsQuiet, IsLive, IsSettled}
-use Rattle.sync_journal.proofs.Maps.{counted, named, same_map}
-use Rattle.sync_journal.proofs.Images.{Means, place_means, standing_closed, standing_open}
-use Rattle.sync_journal.proofs.Replays.{open_or_closed}
-use Rattle.sync_journal.proofs.Rests.{live_at_rest}
+use Rattle.sync_journal.specs.{Layout.{gate_sector, home_sector, body_sector, home_count, IsGate, IsJournalSector, IsOutside}, Gate.{is_open, is_open_sector}, Map.{map_bytes, home_rank, map_count, home_in, AreFewHomes, AreHomes, IsBadMap}}
+use Rattle.sync_journal.specs.{Standing.{place_or_home, map_of, standing_single, StandsForPages, IsOpenFor, HoldsPages}, Commit.{sector_or, changed, StandsForEitherPages, IsKept, IsQuiet, IsLive, IsSettled}}
+use Rattle.sync_journal.proofs.{Maps.{counted, named, same_map}, Images.{Means, place_means, standing_closed, standing_open}, Replays.{open_or_closed}, Rests.{live_at_rest}}
 
 -- the sectors outside are neither the gate nor the journal's
 pub not_gate : (sectors k : ℕ) → IsOutside sectors k → k ≢ gate_sector
-not_gate sectors k outside e = ⊎_elim (λ front. omega (arith, front, e)) (λ behind. omega (arith, behind, e)) outside
+not_gate sectors k outside e = ⊎_elim (λ front. omega (arith, front, e)) (λ after. omega (arith, after, e)) outside
 
 pub not_journal : (sectors k : ℕ) → IsOutside sectors k → IsJournalSector k → ⊥
-not_journal sectors k outside inside = ⊎_elim (λ front. omega (arith, front, inside.0)) (λ behind. omega (arith, behind, inside.1)) outside
+not_journal sectors k outside inside = ⊎_elim (λ front. omega (arith, front, inside.0)) (λ after. omega (arith, after, inside.1)) outside
 
 -- staging and opening leave the sectors outside
 pub opened_outside : {D : Type 0} (g : Ghosts D) (sectors : ℕ) (old staged opened : D) → Touches g IsJournalSector old staged → Touches g IsGate staged opened

@@ -1,11 +1,8 @@
 -- The moments of a recovery: a look at gate and map, and a replay.
 use Rattle.std.proofs.Common.{◌≡◌, ℕ, [], refl, sym, subst, ◌∙◌, ⊎_elim}
-use Rattle.disk_model.specs.Stop.{Image, MayLeave}
-use Rattle.disk_model.specs.Moments.{Nothing, Touches, LeavesOnly}
+use Rattle.disk_model.specs.{Stop.{Image, MayLeave}, Moments.{Nothing, Touches, LeavesOnly}, declared.sector_disk.SectorDisk.{Ghosts}}
 use Rattle.disk_model.proofs.Moments.{started, goes_on, joined, weaker}
-use Rattle.disk_model.specs.declared.sector_disk.SectorDisk.{Ghosts}
-use Rattle.sync_journal.specs.Standing.{standing_single, StandsForPages, IsBadSingle}
-use Rattle.sync_journal.specs.Commit.{IsKept, IsSettled, HomesStandAs, KeepsHomes}
+use Rattle.sync_journal.specs.{Standing.{standing_single, StandsForPages, IsBadSingle}, Commit.{IsKept, IsSettled, HomesStandAs, KeepsHomes}}
 
 -- an image of the same sectors stands for the same
 pub same_kept : (sectors : ℕ) (content image : Image) → image ≡ content → IsKept sectors content (StandsForPages (standing_single content)) image

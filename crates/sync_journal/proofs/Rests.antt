@@ -1,18 +1,9 @@
 -- What a device holds between two commits.
 use Rattle.std.proofs.Common.{◌≡◌, ◌<◌, ◌+◌, ℕ, List, [], ◌∷◌, length, take, get_or, sym, ap, subst, ◌∙◌, ⊎_elim, arith}
-use Rattle.disk_model.specs.declared.sector_disk.SectorDisk.{Ghosts}
-use Rattle.sync_journal.specs.Map.{home_rank}
-use Rattle.sync_journal.specs.Standing.{standing_single, place_or_home, IsOpenFor}
-use Rattle.disk_model.specs.Stop.{Image}
-use Rattle.disk_model.specs.Moments.{Touches, Nothing}
-use Rattle.sync_journal.specs.Gate.{is_open}
-use Rattle.sync_journal.proofs.Sectors.{same_content}
-use Rattle.disk_model.specs.Sectors.{joined}
+use Rattle.disk_model.specs.{declared.sector_disk.SectorDisk.{Ghosts}, Stop.{Image}, Moments.{Touches, Nothing}, Sectors.{joined}}
+use Rattle.sync_journal.specs.{Map.{home_rank}, Standing.{standing_single, place_or_home, IsOpenFor}, Gate.{is_open}, Commit.{IsQuiet, IsLive, IsAtRest}, Journal.{live_homes}, declared.journal.Journal.{Journal}}
+use Rattle.sync_journal.proofs.{Sectors.{same_content}, Images.{no_place, standing_closed, standing_open}}
 use Rattle.disk_model.proofs.Pieces.{joined-same}
-use Rattle.sync_journal.proofs.Images.{no_place, standing_closed, standing_open}
-use Rattle.sync_journal.specs.Commit.{IsQuiet, IsLive, IsAtRest}
-use Rattle.sync_journal.specs.Journal.{live_homes}
-use Rattle.sync_journal.specs.declared.journal.Journal.{Journal}
 
 -- a journal of no pages is not live
 pub none_live : (journal : Journal) → journal.count ≡ 0 → live_homes journal ≡ []

@@ -1,17 +1,9 @@
 -- The journal of a store taken up as it stands.
 use Rattle.std.proofs.Common.{◌≡◌, ℕ, Bool, List, refl, sym, ap, subst, ◌∙◌, ⊎_elim}
-use Rattle.disk_model.specs.Stop.{Image}
-use Rattle.disk_model.specs.Moments.{Nothing, Touches}
-use Rattle.disk_model.specs.declared.sector_disk.SectorDisk.{Ghosts}
-use Rattle.sync_journal.specs.Journal.{live_homes}
-use Rattle.sync_journal.specs.Turns.{turn_standing, IsTurnRest, IsTurnSettled}
-use Rattle.sync_journal.specs.Kinds.{kind_of, store_standing, IsKindBad, IsBadStore, IsStoreSettled}
-use Rattle.sync_journal.specs.declared.turns.TurnJournal.{TurnJournal}
-use Rattle.sync_journal.specs.declared.store_journal.Journals.{Journals}
-use Rattle.sync_journal.specs.declared.store_journal.Journals.TheVariants.{Paired}
-use Rattle.sync_journal.specs.declared.store_journal.StoreJournal.TheVariants.{InTurn}
-use Rattle.sync_journal.proofs.InTurn.{turn_same, good_before}
-use Rattle.sync_journal.proofs.InKinds.{two_before, two_settled}
+use Rattle.disk_model.specs.{Stop.{Image}, Moments.{Nothing, Touches}, declared.sector_disk.SectorDisk.{Ghosts}}
+use Rattle.sync_journal.specs.{Journal.{live_homes}, Turns.{turn_standing, IsTurnRest, IsTurnSettled}, Kinds.{kind_of, store_standing, IsKindBad, IsBadStore, IsStoreSettled}, declared.turns.TurnJournal.{TurnJournal}}
+use Rattle.sync_journal.specs.{declared.store_journal.Journals.{Journals}, declared.store_journal.Journals.TheVariants.{Paired}, declared.store_journal.StoreJournal.TheVariants.{InTurn}}
+use Rattle.sync_journal.proofs.{InTurn.{turn_same, good_before}, InKinds.{two_before, two_settled}}
 
 -- a journal that is bad in the words of its layout
 pub bad_of : (journals : Journals) (sectors : ℕ) (content : Image) → kind_of content ≡ journals → IsKindBad journals sectors content → IsBadStore sectors content

@@ -1,12 +1,8 @@
 -- How runs of device calls go on.
 use Rattle.std.proofs.Common.{◌≡◌, ◌⊎◌, ◌≤◌, ◌<◌, ◌+◌, ℕ, List, get_or, ◌∙◌, inl, inr, ⊎_elim, arith}
-use Rattle.disk_model.specs.Moments.{Touches, Nothing}
-use Rattle.disk_model.specs.Stop.{ChangesOnly, ChangesPage, IsOfPage, Elapses}
-use Rattle.disk_model.proofs.Moments.{wider, then, after_write, after_page, after_none}
-use Rattle.disk_model.specs.declared.sector_disk.SectorDisk.{Ghosts}
-use Rattle.sync_journal.specs.Layout.{IsGate, IsJournalSector, IsReplayed, IsPublished, IsCommitted, IsRecovered, home_count, home_sector}
-use Rattle.sync_journal.specs.Map.{AreHomes}
-use Rattle.sync_journal.specs.Runs.{RunsOnDevice}
+use Rattle.disk_model.specs.{Moments.{Touches, Nothing}, Stop.{ChangesPage, IsOfPage, Elapses}, declared.sector_disk.SectorDisk.{Ghosts}}
+use Rattle.disk_model.proofs.Moments.{wider, then, after_page, after_none}
+use Rattle.sync_journal.specs.{Layout.{IsGate, IsJournalSector, IsReplayed, IsPublished, IsCommitted, IsRecovered, home_count, home_sector}, Map.{AreHomes}, Runs.{RunsOnDevice}}
 
 home_ends : (count h k : ℕ) → h < count → k < home_sector h + 8 → k < home_sector count
 home_ends count h k below inside = omega arith
@@ -43,26 +39,13 @@ module _ {D : Type 0} (g : Ghosts D) where
     touches = λ h. after_none g W old new (same h) (marks h) (time h);
   }
 
-  -- a sync behind a run
+  -- a sync after a run
   pub and_no_write : (W : ℕ → Type 0) (old mid new : D) → RunsOnDevice g W old mid → g.sector_count new ≡ g.sector_count mid
       → (g.keeps_model new → g.keeps_model mid) → g.failures mid ≤ g.failures new → (g.keeps_model new → g.content new ≡ g.content mid)
       → (g.keeps_model new → (k : ℕ) → g.unsynced new k → g.unsynced mid k)
       → (g.keeps_model new → Elapses (g.moment mid) (g.moment new) (g.left_since mid) (g.left_since new) (g.content new) (g.unsynced new))
       → RunsOnDevice g W old new
   and_no_write W old mid new run size kept later same marks time = one_more W old mid new run (no_write W mid new size kept later same marks time)
-
-  -- a write to a sector of W
-  pub one_write : (W : ℕ → Type 0) (n : ℕ) (old new : D) → W n → g.sector_count new ≡ g.sector_count old → (g.keeps_model new → g.keeps_model old)
-      → g.failures old ≤ g.failures new → (g.keeps_model new → ChangesOnly n (g.content old) (g.content new))
-      → (g.keeps_model new → (k : ℕ) → g.unsynced new k → g.unsynced old k ⊎ (k ≡ n))
-      → (g.keeps_model new → Elapses (g.moment old) (g.moment new) (g.left_since old) (g.left_since new) (g.content new) (g.unsynced new))
-      → RunsOnDevice g W old new
-  one_write W n old new here size kept later changes marks time = record {
-    size = size;
-    kept = kept;
-    later = later;
-    touches = λ h. after_write g W n old new here (changes h) (marks h) (time h);
-  }
 
   -- a page written to sectors of W
   pub one_page : (W : ℕ → Type 0) (n : ℕ) (old new : D) → ((k : ℕ) → IsOfPage n k → W k) → g.sector_count new ≡ g.sector_count old → (g.keeps_model new → g.keeps_model old)

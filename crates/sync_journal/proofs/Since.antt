@@ -1,12 +1,8 @@
 -- A commit's own part, seen from before the homes of a live journal were written.
 use Rattle.std.proofs.Common.{◌≡◌, ℕ, List, [], ap, subst, ◌∙◌, ⊎_elim, inl, inr}
-use Rattle.disk_model.specs.Stop.{Image}
-use Rattle.disk_model.specs.Moments.{LeavesOnly}
+use Rattle.disk_model.specs.{Stop.{Image}, Moments.{LeavesOnly}, declared.sector_disk.SectorDisk.{Ghosts}}
 use Rattle.disk_model.proofs.Moments.{joined, weaker}
-use Rattle.disk_model.specs.declared.sector_disk.SectorDisk.{Ghosts}
-use Rattle.sync_journal.specs.Map.{home_rank}
-use Rattle.sync_journal.specs.Standing.{standing_single, StandsForPages}
-use Rattle.sync_journal.specs.Commit.{sector_or, changed, StandsForEitherPages, IsKept, IsSettled}
+use Rattle.sync_journal.specs.{Map.{home_rank}, Standing.{standing_single, StandsForPages}, Commit.{sector_or, changed, StandsForEitherPages, IsKept, IsSettled}}
 use Rattle.sync_journal.proofs.Changes.{closed_not_bad}
 
 -- a commit changes the same in the same pages

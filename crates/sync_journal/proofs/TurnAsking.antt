@@ -1,54 +1,16 @@
 -- Which sectors two journals in turn ask for.
-use Rattle.std.proofs.Common.{◌≡◌, ◌⊎◌, ◌<◌, ◌≤◌, ◌+◌, ℕ, Bool, not, List, [], length, get_or, None, inl, inr, ⊎_elim, sym, subst, arith}
-use Rattle.disk_model.specs.Stop.{Image, Names, NamesOnce}
-use Rattle.disk_model.specs.Moments.{AsksOnly}
-use Rattle.disk_model.proofs.Moments.{asks_once, asks_then}
-use Rattle.disk_model.proofs.Naming.{once_named, once_apart, once_wider}
-use Rattle.disk_model.specs.declared.sector_disk.SectorDisk.{Ghosts}
-use Rattle.sync_journal.specs.Layout.{IsPageSector}
-use Rattle.sync_journal.specs.Map.{AreHomes, home_rank}
-use Rattle.sync_journal.specs.Journal.{live_homes}
-use Rattle.sync_journal.specs.Turns.{start_of, turn_body, turn_home, IsTurnSector, IsTurnGate, IsTurnPart, IsTurnCopy, IsTurnUsed, IsTurnAsked, IsTurnAskedIn, IsNamedFor}
+use Rattle.std.proofs.Common.{◌≡◌, ◌⊎◌, ◌<◌, ◌≤◌, ℕ, Bool, not, List, [], length, get_or, inl, inr, ⊎_elim, sym, subst, arith}
+use Rattle.disk_model.specs.{Stop.{Image, Names, NamesOnce}, Moments.{AsksOnly}, declared.sector_disk.SectorDisk.{Ghosts}}
+use Rattle.disk_model.proofs.{Moments.{asks_once, asks_then}, Naming.{once_named, once_apart, once_wider}}
+use Rattle.sync_journal.specs.{Layout.{IsPageSector}, Journal.{live_homes}, Turns.{start_of, turn_body, turn_home, IsTurnSector, IsTurnGate, IsTurnPart, IsTurnCopy, IsTurnUsed, IsTurnAsked, IsTurnAskedIn, IsNamedFor}}
 use Rattle.sync_journal.specs.declared.turns.TurnJournal.{TurnJournal}
-use Rattle.sync_journal.proofs.Copies.{distinct_homes}
-use Rattle.sync_journal.proofs.Images.{no_place}
-use Rattle.sync_journal.proofs.InTurn.{start_low, start_high, apart, home_high}
+use Rattle.sync_journal.proofs.{Images.{no_place}, InTurn.{start_low, apart, home_high}}
 
 -- Over how often each sector had been asked for, at three moments.
-module _ (before mid now : ℕ → ℕ) (second : Bool) where
+module _ (before now : ℕ → ℕ) (second : Bool) where
   -- a map alone
   pub map_asks : (first : ℕ) → first ≡ start_of second → Names (IsPageSector first) before now → NamesOnce (IsTurnPart second 0) before now
   map_asks first at map = once_named (IsTurnPart second 0) (IsPageSector first) before now (λ k inside. (omega (arith, inside.0, at), omega (arith, inside.1, at))) map
-
-  -- a page more copied home, or passed over
-  pub copy_more : (count : ℕ) (homes but : List ℕ) → AreHomes count homes → (j from : ℕ) → j < length homes → from ≡ turn_body second j
-      → NamesOnce (IsTurnCopy second homes but j) before mid
-      → NamesOnce (λ k. (home_rank but (get_or homes j 0) ≡ None) × (IsPageSector from k ⊎ IsPageSector (turn_home (get_or homes j 0)) k)) mid now
-      → NamesOnce (IsTurnCopy second homes but (j + 1)) before now
-  copy_more count homes but are j from below at so_far page = once_apart (IsTurnCopy second homes but j) Here (IsTurnCopy second homes but (j + 1)) before mid now earlier next two so_far page
-    where
-      Here : ℕ → Type 0
-      Here k = (home_rank but (get_or homes j 0) ≡ None) × (IsPageSector from k ⊎ IsPageSector (turn_home (get_or homes j 0)) k)
-
-      earlier : (k : ℕ) → IsTurnCopy second homes but j k → IsTurnCopy second homes but (j + 1) k
-      earlier k was = (was.0, omega (arith, was.1), was.2, was.3)
-
-      next : (k : ℕ) → Here k → IsTurnCopy second homes but (j + 1) k
-      next k is = (j, omega arith, is.0, ⊎_elim (λ body. inl (omega (arith, body.0, at), omega (arith, body.1, at))) (λ home. inr home) is.1)
-
-      two : (k : ℕ) → IsTurnCopy second homes but j k → Here k → ⊥
-      two k was is =
-          let few = are.few in
-          let high = start_high second in
-          let less = was.1 in
-          ⊎_elim
-          (λ body. ⊎_elim (λ body'. omega (arith, body.1, body'.0, at, less)) (λ home'. omega (arith, body.1, home'.0, few, below, less, high)) is.1)
-          (λ home. ⊎_elim (λ body'. omega (arith, home.0, body'.1, at, few, below, high))
-          (λ home'. distinct_homes count homes was.0 j are (omega (arith, less, below)) below (λ e. omega (arith, e, less)) (omega (arith, home.0, home.1, home'.0, home'.1))) is.1)
-          was.3
-
-pub copy_wider : (second : Bool) (homes but : List ℕ) (n m : ℕ) → n ≤ m → (k : ℕ) → IsTurnCopy second homes but n k → IsTurnCopy second homes but m k
-copy_wider second homes but n m more k was = (was.0, omega (arith, was.1, more), was.2, was.3)
 
 -- A commit to these homes over the live ones.
 module _ (second : Bool) (live homes : List ℕ) (few : length live ≤ 1023) (fits : length homes ≤ 1023) where

@@ -1,25 +1,12 @@
 -- A recovery of two journals in turn: a sync and a look, and then a commit of no pages.
 use Rattle.std.proofs.Common.{◌≡◌, ℕ, true, false, [], inl, inr, Result, Ok, Err, OnOk, sym, subst, ◌∙◌}
 use Rattle.std.specs.Prelude.{IfOk, IsErr, IsErrOf}
-use Rattle.disk_model.specs.Stop.{Image, MayLeave}
-use Rattle.disk_model.specs.Moments.{AsksOnly, Nothing, Touches}
+use Rattle.disk_model.specs.{Stop.{Image, MayLeave}, Moments.{AsksOnly, Nothing, Touches}, declared.sector_disk.DiskFault.{DiskFault}, declared.sector_disk.SectorDisk.{Ghosts}}
 use Rattle.disk_model.proofs.Moments.{asks_none, asks_then}
-use Rattle.disk_model.specs.declared.sector_disk.DiskFault.{DiskFault}
-use Rattle.disk_model.specs.declared.sector_disk.SectorDisk.{Ghosts}
-use Rattle.sync_journal.specs.Journal.{live_homes}
-use Rattle.sync_journal.specs.Map.{AreHomes}
-use Rattle.sync_journal.specs.Runs.{RunsOnDevice}
-use Rattle.sync_journal.specs.Turns.{turn_home_count, turn_standing, IsBadTurn, IsNamedFor, IsTurnAskedIn, IsTurnCommitted, IsTurnRecovered, IsTurnSettled, KeepsTurns}
-use Rattle.sync_journal.specs.Recovering.{IsNamedLive, EmptiesNamed, RecoversInTurn}
-use Rattle.sync_journal.specs.Steps.{BlamesJournal}
-use Rattle.sync_journal.specs.declared.faults.RecoverFault.{RecoverFault}
-use Rattle.sync_journal.specs.declared.faults.RecoverFault.TheVariants.{BadJournal}
+use Rattle.sync_journal.specs.{Journal.{live_homes}, Map.{AreHomes}, Runs.{RunsOnDevice}, Turns.{turn_home_count, turn_standing, IsBadTurn, IsNamedFor, IsTurnAskedIn, IsTurnCommitted, IsTurnRecovered, IsTurnSettled, KeepsTurns}}
+use Rattle.sync_journal.specs.{Recovering.{IsNamedLive, EmptiesNamed, RecoversInTurn}, Steps.{BlamesJournal}, declared.faults.RecoverFault.{RecoverFault}, declared.faults.RecoverFault.TheVariants.{BadJournal}}
 use Rattle.sync_journal.specs.declared.turns.TurnJournal.{TurnJournal}
-use Rattle.sync_journal.proofs.Runs.{one_more, of_more}
-use Rattle.sync_journal.proofs.InTurn.{same_read, while_looking, while_copying, blocks_since, good_before, turn_since}
-use Rattle.sync_journal.proofs.InKinds.{recovered_sector}
-use Rattle.sync_journal.proofs.TurnAsking.{recovery_asks}
-use Rattle.sync_journal.proofs.Replays.{if_ok}
+use Rattle.sync_journal.proofs.{Runs.{one_more, of_more}, InTurn.{same_read, while_looking, while_copying, blocks_since, good_before, turn_since}, InKinds.{recovered_sector}, TurnAsking.{recovery_asks}, Replays.{if_ok}}
 
 -- What a look after a sync finds stood before the sync.
 module _ {D : Type 0} (g : Ghosts D) (old mid read : D) (syncs : RunsOnDevice g Nothing old mid) (looks : RunsOnDevice g Nothing mid read) where

@@ -27,7 +27,7 @@ module _ {D : Type 0} (g : Ghosts D) where
     pub each : (d : D) → Touches g W old d → (image : Image) → MayLeaveBlocks (g.content d) (g.unsynced d) image → P image
 
   -- A commit up to its first sync, or beyond that: then first the journal that is not named and homes that the named one covers,
-  -- and behind a sync the gate.
+  -- and after a sync the gate.
   abbrev pub CommitsInBlocks : Bool → List ℕ → (Image → Type 0) → D → D → Type 0
   CommitsInBlocks second live P old new = LeavesInBlocks (IsTurnStaged second live) P old new
       ⊎ ((mid : D) × LeavesInBlocks (IsTurnStaged second live) P old mid × LeavesInBlocks IsTurnGate P mid new)

@@ -87,7 +87,7 @@ IsKindAsked Paired image k = IsTurnAskedIn image k
 abbrev pub IsStoreAsked : Image → ℕ → Type 0
 IsStoreAsked image k = IsKindAsked (kind_of image) image k
 
--- what lies outside the gate, the journals and the homes of a store whose device holds this image: mark, kind, directory, and what lies behind the last home page
+-- what lies outside the gate, the journals and the homes of a store whose device holds this image: mark, kind, directory, and what lies after the last home page
 abbrev pub IsOutsideOf : Image → ℕ → ℕ → Type 0
 IsOutsideOf image sectors k = IsKindOutside (kind_of image) sectors k
 

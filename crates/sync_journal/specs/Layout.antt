@@ -82,9 +82,16 @@ home_count sectors = min ((sectors - first_home_sector) / 8) home_limit
 abbrev pub IsPageSector : ℕ → ℕ → Type 0
 IsPageSector first k = (first ≤ k) × (k < first + 8)
 
+-- how many home pages a device of so many sectors has if the first begins at this one
+abbrev pub homes_from : ℕ → ℕ → ℕ
+homes_from first sectors = min ((sectors - first) / 8) home_limit
+
 -- a sector of one of these homes
+abbrev pub IsHomeFrom : ℕ → List ℕ → ℕ → Type 0
+IsHomeFrom first homes k = (j : ℕ) × (j < length homes) × IsPageSector (first + 8 * slice_index homes j) k
+
 abbrev pub IsHomeSector : List ℕ → ℕ → Type 0
-IsHomeSector homes k = (j : ℕ) × (j < length homes) × IsPageSector (home_sector (slice_index homes j)) k
+IsHomeSector homes k = IsHomeFrom first_home_sector homes k
 
 -- the gate
 abbrev pub IsGate : ℕ → Type 0
@@ -149,6 +156,6 @@ IsCommitted homes k = IsPublished k ⊎ IsHomeSector homes k
 abbrev pub IsRecovered : ℕ → ℕ → Type 0
 IsRecovered sectors k = IsGate k ⊎ ((first_home_sector ≤ k) × (k < home_sector (home_count sectors)))
 
--- the layout mark, the directory, and what lies behind the last home page
+-- the layout mark, the directory, and what lies after the last home page
 abbrev pub IsOutside : ℕ → ℕ → Type 0
 IsOutside sectors k = (k < gate_sector) ⊎ (home_sector (home_count sectors) ≤ k)

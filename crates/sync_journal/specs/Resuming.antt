@@ -55,8 +55,9 @@ module _ {D : Type 0} (g : Ghosts D) where
     pub ok : IfOk result (λ journal. IsJournalResumed journals old new journal)
     -- and every image of a stop at any moment of the call stands for the same pages;
     pub any_moment : g.keeps_model new → KeepsStore g old new
-    -- of one journal gate and homes alone are written, of two in turn nothing, nor where no page stands in a journal;
+    -- of one journal gate and homes alone are written, of two in turn nothing, nor where the journal is bad or no page stands in it;
     pub run : RunsOnDevice g (IsKindResumed journals (g.sector_count old)) old new
+    pub bad_unwritten : g.keeps_model new → IsBadStore (g.sector_count old) (g.content old) → Touches g Nothing old new
     pub closed_unwritten : g.keeps_model new → IsStoreClosed (g.content old) → Touches g Nothing old new
     -- what is looked at and copied alone is asked for;
     pub asks : g.keeps_model new → AsksOnly g (IsStoreAsked (g.content old)) old new

@@ -4,7 +4,7 @@ use Rattle.disk_model.specs.Sectors.{part_of, joined}
 use Rattle.disk_model.specs.Stop.{Image}
 use Rattle.sync_journal.specs.Layout.{Layout, layout_2, map_sector, body_at, home_at, home_count_in, body_sector, home_sector, IsGate, IsStaged, IsPageSector}
 use Rattle.sync_journal.specs.Gate.{is_open}
-use Rattle.sync_journal.specs.Map.{map_count, home_in, place_among, IsBadMap}
+use Rattle.sync_journal.specs.Map.{map_count, home_in, place_among, home_rank, IsBadMap}
 
 module _ (layout : Layout) where
   -- where home page h stands if the map names it at this place
@@ -55,9 +55,16 @@ IsOpenFor homes image = IsOpenIn layout_2 homes image
 pub record StandsForPages (pages : ℕ → ℕ → List ℕ) (image : Image) : Type 0 where
   pub each : (h i : ℕ) → i < 8 → standing_single image h i ≡ pages h i
 
--- The first n homes hold what the body held.
-abbrev pub AreCopied : List ℕ → ℕ → Image → Image → Type 0
-AreCopied homes n old new = (j i : ℕ) → j < n → i < 8 → new (home_sector (slice_index homes j) + i) ≡ old (body_sector j + i)
+-- what the first n of these homes are copied from and to, where a body begins at one sector and the homes at another, but for
+-- those that the other list names
+abbrev pub IsCopyFrom : ℕ → ℕ → List ℕ → List ℕ → ℕ → ℕ → Type 0
+IsCopyFrom body first homes but n k = (j : ℕ) × (j < n) × (home_rank but (slice_index homes j) ≡ None)
+    × (IsPageSector (body + 8 * j) k ⊎ IsPageSector (first + 8 * slice_index homes j) k)
+
+-- The first n of these homes hold what that body held, but for those that the other list names.
+abbrev pub AreCopiedFrom : ℕ → ℕ → List ℕ → List ℕ → ℕ → Image → Image → Type 0
+AreCopiedFrom body first homes but n old new = (j i : ℕ) → j < n → home_rank but (slice_index homes j) ≡ None → i < 8
+    → new (first + 8 * slice_index homes j + i) ≡ old (body + 8 * j + i)
 
 -- The body holds the first n of these pages.
 abbrev pub HoldsPages : ℕ → (ℕ → List ℕ) → Image → Type 0

@@ -1,15 +1,16 @@
 -- What the steps of a commit and of a recovery come to on a device, in whichever layout.
-use Rattle.std.specs.Prelude.{ℕ, List, ◌+◌, ◌^◌, ◌<◌, ◌≤◌, ◌≡◌, Result, OnOk, IsErr, IsErrOf}
+use Rattle.std.specs.Prelude.{ℕ, List, ◌+◌, ◌*◌, ◌^◌, ◌<◌, ◌≤◌, ◌≡◌, Result, OnOk, IsErr, IsErrOf}
 use Rattle.disk_model.specs.Sectors.{joined}
 use Rattle.disk_model.specs.Stop.{Image, HasCause, Names, NamesOnce}
-use Rattle.disk_model.specs.Moments.{LeavesOnly, AsksOnly, Nothing}
+use Rattle.disk_model.specs.Moments.{LeavesOnly, Nothing}
 use Rattle.disk_model.specs.declared.sector_disk.DiskFault.{DiskFault}
 use Rattle.disk_model.specs.declared.sector_disk.SectorDisk.{Ghosts}
 use Rattle.sync_journal.specs.declared.faults.CommitFault.{CommitFault}
 use Rattle.sync_journal.specs.declared.faults.RecoverFault.{RecoverFault}
 use Rattle.sync_journal.specs.declared.faults.RecoverFault.TheVariants.{Device, BadJournal}
 use Rattle.sync_journal.specs.declared.source.PageSource as Source
-use Rattle.sync_journal.specs.Layout.{page_limit, IsPageSector}
+use Rattle.sync_journal.specs.Layout.{page_limit, homes_from, IsPageSector}
+use Rattle.sync_journal.specs.Map.{AreHomes}
 use Rattle.sync_journal.specs.Runs.{RunsOnDevice}
 use Rattle.sync_journal.specs.Source.{Asks, HasCauses}
 
@@ -37,10 +38,10 @@ module _ {D : Type 0} (g : Ghosts D) where
     pub page : g.keeps_model new → OnOk result (to ≡ bytes)
     -- the journal stands as it did,
     pub rest : g.keeps_model new → Rest
-    -- and the device is read alone, in no sector but those in which that page stands.
+    -- and the device is read alone, each sector in which that page stands once.
     pub reads : ReadsOnly old new result
     pub open reads use *
-    pub asks : AsksOnly g Asked old new
+    pub asks : Names Asked (g.asked old) (g.asked new)
 
   -- Sectors are written:
   pub record WritesInto {T E : Type 0} (Written Asked : ℕ → Type 0) (After : Type 0) (old new : D) (result : Result T E) : Type 0 where
@@ -61,6 +62,13 @@ module _ {D : Type 0} (g : Ghosts D) where
     pub open writes use *
     -- nothing is unsynced then.
     pub synced : g.keeps_model new → OnOk result ((k : ℕ) → g.unsynced new k → ⊥)
+
+  -- The pages of a body, which begins at one sector, may be copied to homes that begin at another: they lie after it, and the device has
+  -- each of them.
+  pub record MayCopyHome (body first : ℕ) (homes : List ℕ) (disk : D) : Type 0 where
+    pub after : body + 8 * page_limit ≤ first
+    pub low : first < 2 ^ 32
+    pub are : AreHomes (homes_from first (g.sector_count disk)) homes
 
   -- What stands in a journal alone is copied home:
   pub record MovesHome {T E : Type 0} (Written Asked : ℕ → Type 0) (Stays : Image → Type 0) (After : Type 0) (old new : D) (result : Result T E) : Type 0 where

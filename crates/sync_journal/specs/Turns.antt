@@ -5,7 +5,8 @@ use Rattle.disk_model.specs.Sectors.{part_of, joined}
 use Rattle.disk_model.specs.Stop.{Image}
 use Rattle.disk_model.specs.Moments.{LeavesNow, LeavesOnly}
 use Rattle.disk_model.specs.declared.sector_disk.SectorDisk.{Ghosts}
-use Rattle.sync_journal.specs.Layout.{page_limit, home_limit, IsPageSector}
+use Rattle.sync_journal.specs.Layout.{page_limit, home_limit, IsPageSector, IsHomeFrom}
+use Rattle.sync_journal.specs.Standing.{IsCopyFrom, AreCopiedFrom}
 use Rattle.sync_journal.specs.Gate.{is_open_sector}
 use Rattle.sync_journal.specs.Map.{map_count, home_in, place_among, home_rank, IsBadMap}
 use Rattle.sync_journal.specs.Journal.{live_homes}
@@ -82,7 +83,7 @@ IsGateBlock k = IsPageSector turn_gate k
 
 -- a sector of one of these homes
 abbrev pub IsTurnHome : List ℕ → ℕ → Type 0
-IsTurnHome homes k = (j : ℕ) × (j < length homes) × IsPageSector (turn_home (slice_index homes j)) k
+IsTurnHome homes k = IsHomeFrom turn_homes homes k
 
 -- what the first sync of a commit makes durable: the journal that is not named, and homes that the named one covers
 abbrev pub IsTurnStaged : Bool → List ℕ → ℕ → Type 0
@@ -92,7 +93,7 @@ IsTurnStaged second homes k = IsTurnSector (not second) k ⊎ IsTurnHome homes k
 abbrev pub IsTurnCommitted : Bool → List ℕ → ℕ → Type 0
 IsTurnCommitted second homes k = IsTurnGate k ⊎ IsTurnStaged second homes k
 
--- the layout mark, the directory, and what lies behind the last home page
+-- the layout mark, the directory, and what lies after the last home page
 abbrev pub IsTurnOutside : ℕ → ℕ → Type 0
 IsTurnOutside sectors k = (k < turn_gate) ⊎ (turn_home (turn_home_count sectors) ≤ k)
 
@@ -102,8 +103,7 @@ IsTurnPart second n k = (start_of second ≤ k) × (k < turn_body second n)
 
 -- what the first n of these homes are copied from and to, but for those that the other list names
 abbrev pub IsTurnCopy : Bool → List ℕ → List ℕ → ℕ → ℕ → Type 0
-IsTurnCopy second homes but n k = (j : ℕ) × (j < n) × (home_rank but (slice_index homes j) ≡ None)
-    × (IsPageSector (turn_body second j) k ⊎ IsPageSector (turn_home (slice_index homes j)) k)
+IsTurnCopy second homes but n k = IsCopyFrom (start_of second + 8) turn_homes homes but n k
 
 -- what a commit to these homes over the live ones asks for: the gate, as much of the journal that is not named as it fills,
 -- and what is copied home
@@ -152,8 +152,7 @@ HoldsJournal second n pages image = (j i : ℕ) → j < n → i < 8 → image (t
 
 -- The first n of these homes hold what a journal's body held, but for those that the other list names.
 abbrev pub AreCopiedBut : Bool → List ℕ → List ℕ → ℕ → Image → Image → Type 0
-AreCopiedBut second homes but n old new = (j i : ℕ) → j < n → home_rank but (slice_index homes j) ≡ None → i < 8
-    → new (turn_home (slice_index homes j) + i) ≡ old (turn_body second j + i)
+AreCopiedBut second homes but n old new = AreCopiedFrom (start_of second + 8) turn_homes homes but n old new
 
 -- The image's gate names the journal, and its map the live homes.
 pub record IsNamedFor (journal : TurnJournal) (image : Image) : Type 0 where

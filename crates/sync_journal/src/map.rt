@@ -1,5 +1,5 @@
 //! The journal map: which homes the pages of the body belong to.
-ghost use Rattle.std.specs.Prelude.{◌≡◌, ◌<◌, ◌≤◌, ◌⊎◌, ◌+◌, ◌*◌, ◌++◌, ℕ, length, take, drop, slice_index, MatchOption};
+ghost use Rattle.std.specs.Prelude.{◌≡◌, ◌<◌, ◌≤◌, ◌⊎◌, ◌+◌, ◌*◌, ◌++◌, ℕ, length, take, drop, slice_index, MatchOption, replicate};
 ghost use Rattle.std.specs.Bool.{OnTrue, OnFalse};
 ghost use Rattle.std.specs.List.{flat_map};
 ghost use Rattle.sync_journal.specs.Layout.{page_limit};
@@ -18,11 +18,11 @@ pub(crate) fn map_page(homes: &[u32]) -> [u8; 4096]
     map
 }
 
-// Writes the count and the homes over the front of a map.
-fn write_map(map: &mut [u8], homes: &[u32])
+/// Writes the map of these homes over zeros.
+pub(crate) fn write_map(map: &mut [u8; 4096], homes: &[u32])
     requires few { length homes.now ≤ page_limit }
-    requires room { length map.old ≡ 4096 }
-    ensures { map.new ≡ (little_bytes 4 (length homes.now) ++ flat_map (little_bytes 4) homes.now) ++ drop (4 + 4 * length homes.now) map.old }
+    requires blank { map.old ≡ replicate 4096 0 }
+    ensures { map.new ≡ map_bytes homes.now }
 {
     LittleEndian::write_u32(map, homes.len() as u32);
     LittleEndian::write_u32_into(homes, &mut map[4..4 + 4 * homes.len()]);
@@ -47,7 +47,7 @@ pub(crate) fn read_homes(map: &[u8], limit: u64, homes: &mut [u32]) -> Option<us
     }
 }
 
-// Fills `homes` with the first numbers behind the count.
+// Fills `homes` with the first numbers after the count.
 fn read_numbers(map: &[u8], homes: &mut [u32])
     requires { 4 + 4 * length homes.old ≤ length map.now }
     ensures { (j : ℕ) → j < length homes.new → slice_index homes.new j ≡ home_in map.now j }

@@ -16,7 +16,7 @@ use crate::pages::read_page;
 use crate::store_journal::Journals;
 use disk_model::{DiskFault, SectorDisk};
 
-/// The first sector of the journal body of layout 1, behind one sector of map.
+/// The first sector of the journal body of layout 1, after one sector of map.
 const OLD_BODY: u64 = 4;
 
 /// The first sector of the first home page of layout 1.
@@ -110,7 +110,7 @@ impl OldJournal {
 // The first sector of the body of the layout before.
 fn body_before(journals: Journals) -> u64
     ensures is { result ≡ (layout_before journals).body }
-    ensures behind { result + 8 * (layout_before journals).most ≤ (layout_before journals).homes }
+    ensures after { result + 8 * (layout_before journals).most ≤ (layout_before journals).homes }
     ensures small { result ≤ 11 }
 {
     match journals {

@@ -46,9 +46,9 @@ pub fn read_page<D: SectorDisk>(
     disk.read_page(first, to)
 }
 
-/// Copies the eight sectors from `from` on to those from `to` on, which lie behind them.
+/// Copies the eight sectors from `from` on to those from `to` on, which lie after them.
 pub(crate) fn copy_page<D: SectorDisk>(disk: &mut D, from: u64, to: u64) -> Result<(), DiskFault>
-    requires behind { from + 8 ≤ to }
+    requires after { from + 8 ≤ to }
     requires room { to + 8 ≤ D.sector_count disk.old }
     requires fits { to < 2 ^ 60 }
     ensures { WritesInto D.SectorDisk (IsPageSector to) (λ k. IsPageSector from k ⊎ IsPageSector to k)

@@ -7,12 +7,12 @@ ghost use Rattle.sync_journal.specs.Steps.{MayFill, FillsBody, FillsJournal, Syn
 
 use crate::faults::CommitFault;
 use crate::layout::{MAP, PAGE_SECTORS};
-use crate::map::map_page;
+use crate::map::write_map;
 use crate::pages::write_page;
 use crate::source::PageSource;
 use disk_model::SectorDisk;
 
-/// The sectors of a journal's map, behind which its body begins.
+/// The sectors of a journal's map, after which its body begins.
 pub(crate) const MAP_SECTORS: u64 = 8;
 
 /// Writes the pages that the source gives into the body of the one journal and the homes into its map, and syncs.
@@ -43,7 +43,9 @@ pub(crate) fn fill_journal<D: SectorDisk, S: PageSource>(
         (map_at start (D.content disk.new) ≡ map_bytes homes.now) disk.old disk.new source.old source.new result }
 {
     write_pages(disk, start, homes.len(), source)?;
-    write_page(disk, start, &map_page(homes))?;
+    let mut map = [0; 4096];
+    write_map(&mut map, homes);
+    write_page(disk, start, &map)?;
     Ok(())
 }
 

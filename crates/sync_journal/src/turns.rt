@@ -15,10 +15,11 @@ ghost use Rattle.sync_journal.specs.Source.{GivesFor};
 use crate::commits::place;
 use crate::faults::{CommitFault, RecoverFault};
 use crate::gate::{is_open_gate, open_bytes};
+use crate::homes::copy_homes;
 use crate::journal::Journal;
 use crate::layout::{MAX_HOMES, PAGE_LIMIT, PAGE_SECTORS};
 use crate::map::{map_page, read_homes};
-use crate::pages::{copy_page, read_page, write_page};
+use crate::pages::{read_page, write_page};
 use crate::source::PageSource;
 use crate::stage::{MAP_SECTORS, fill_journal};
 use disk_model::{DiskFault, SectorDisk};
@@ -195,43 +196,13 @@ fn prepare<D: SectorDisk>(
     ensures { SyncsInto D.SectorDisk (IsTurnHome (live_homes live.now)) (IsTurnCopy second (live_homes live.now) but.now (length (live_homes live.now)))
         (AreCopiedBut second (live_homes live.now) but.now (length (live_homes live.now)) (D.content disk.old) (D.content disk.new)) disk.old disk.new result }
 {
-    copy_but(disk, second, live.live(), but)?;
-    disk.sync()
-}
-
-fn copy_but<D: SectorDisk>(
-    disk: &mut D,
-    second: bool,
-    homes: &[u32],
-    but: &[u32],
-) -> Result<(), DiskFault>
-    requires { AreHomes (turn_home_count (D.sector_count disk.old)) homes.now }
-    ensures { WritesInto D.SectorDisk (IsTurnHome homes.now) (IsTurnCopy second homes.now but.now (length homes.now))
-        (AreCopiedBut second homes.now but.now (length homes.now) (D.content disk.old) (D.content disk.new)) disk.old disk.new result }
-{
-    let body = start(second) + MAP_SECTORS;
-    for j in 0..homes.len() {
-        copy_unless(disk, body + PAGE_SECTORS * j as u64, homes[j], but)?;
-    }
-    Ok(())
-}
-
-// Copies a page home, where the list doesn't name it.
-fn copy_unless<D: SectorDisk>(
-    disk: &mut D,
-    from: u64,
-    home: u32,
-    but: &[u32],
-) -> Result<(), DiskFault>
-    requires source { from + 8 ≤ turn_homes }
-    requires home { home < turn_home_count (D.sector_count disk.old) }
-    ensures { WritesInto D.SectorDisk (IsPageSector (turn_home home)) (λ k. (home_rank but.now home ≡ None) × (IsPageSector from k ⊎ IsPageSector (turn_home home) k))
-        (home_rank but.now home ≡ None → (i : ℕ) → i < 8 → D.content disk.new (turn_home home + i) ≡ D.content disk.old (from + i)) disk.old disk.new result }
-{
-    if place(but, home).is_none() {
-        copy_page(disk, from, TURN_HOMES + PAGE_SECTORS * u64::from(home))?;
-    }
-    Ok(())
+    copy_homes(
+        disk,
+        start(second) + MAP_SECTORS,
+        TURN_HOMES,
+        live.live(),
+        but,
+    )
 }
 
 // What the gate holds that names a journal.

@@ -1,15 +1,9 @@
 -- Plans that grow by a call.
 use Rattle.std.proofs.Common.{ℕ, zero, suc, ◌+◌, ◌<◌, ◌≤◌, ◌≡◌, ◌≢◌, ◌⊎◌, Bool, true, false, ◌&&◌, ◌||◌, ◌==◌, if◌then◌else◌, IsTrue, List, Option, Some, None, slice_get, length, inl, inr, ⊎_elim, refl, sym, ap, subst, ◌∙◌, arith, eq-eqb, ne_eqb}
+use Rattle.std.proofs.{lemmas.Bool.{cases_eq, cases_lt, cases_Bool, false≢true, lt-ltb, le-leb, lt-leb}, lemmas.Option.{slice_get-get_or}, Math.ListN.{get_or}, Math.Path.{fun_ext}}
 use Rattle.std.specs.Prelude.{ltb}
-use Rattle.std.proofs.lemmas.Bool.{cases_eq, cases_lt, cases_Bool, false≢true, lt-ltb, le-leb, lt-leb}
-use Rattle.std.proofs.lemmas.Option.{slice_get-get_or}
-use Rattle.std.proofs.Math.ListN.{get_or}
-use Rattle.std.proofs.Math.Path.{fun_ext}
-use Rattle.disk_model.specs.Sectors.{part_of}
-use Rattle.disk_model.specs.Stop.{Image, MayLeave, ChangesOnly, ChangesPage, IsOfPage, Elapses}
-use Rattle.sync_plans.specs.declared.call.Call.{Call}
-use Rattle.sync_plans.specs.Plans.{row, is_of_page, writes_to, page_bytes, written_bytes, is_sync_call, is_left_unsynced, IsLeftUnsynced, image_after, is_written}
-use Rattle.sync_plans.specs.Device.{PlanLeftSince, Lists, NamesPage}
+use Rattle.disk_model.specs.{Sectors.{part_of}, Stop.{Image, MayLeave, ChangesOnly, ChangesPage, IsOfPage, Elapses}}
+use Rattle.sync_plans.specs.{declared.call.Call.{Call}, Plans.{row, is_of_page, writes_to, page_bytes, written_bytes, is_sync_call, is_left_unsynced, IsLeftUnsynced, image_after, is_written}, Device.{PlanLeftSince, Lists, NamesPage}}
 
 -- sectors of a page
 pub in_page : (first n : ℕ) → IsOfPage first n → is_of_page first n ≡ true

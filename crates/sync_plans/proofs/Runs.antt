@@ -1,32 +1,17 @@
 -- A store that is opened, and then committed to.
-use Rattle.std.proofs.Common.{ℕ, ◌≡◌, List, [], Option, Result, inl, inr, ⊎_elim, refl, sym, ap, subst, ◌∙◌}
-use Rattle.std.proofs.lemmas.Result.{IfErr-weaker}
-use Rattle.std.proofs.Math.Path.{fun_ext}
-use Rattle.std.specs.Prelude.{IfErr}
-use Rattle.std.specs.Option.{option_map}
+use Rattle.std.proofs.{Common.{ℕ, ◌≡◌, List, [], Option, Result, inl, inr, ⊎_elim, refl, sym, ap, subst, ◌∙◌}, lemmas.Result.{IfErr-weaker}, Math.Path.{fun_ext}}
+use Rattle.std.specs.{Prelude.{IfErr}, Option.{option_map}}
 use Rattle.sync_journal.specs.Commit.{IsAtRest as IsJournalAtRest}
-use Rattle.sync_journal.specs.Map.{home_rank, place_among}
-use Rattle.sync_journal.specs.Turns.{stands_under}
-use Rattle.sync_journal.specs.Kinds.{is_kind, kind_when, store_live, IsKindOutside, IsOutsideOf, IsStoreRest}
-use Rattle.sync_journal.specs.declared.store_journal.StoreJournal.{StoreJournal}
+use Rattle.sync_journal.specs.{Map.{home_rank, place_among}, Turns.{stands_under}, Kinds.{is_kind, kind_when, store_live, IsKindOutside, IsOutsideOf, IsStoreRest}, declared.store_journal.StoreJournal.{StoreJournal}}
 use Rattle.sync_journal.specs.declared.store_journal.StoreJournal.TheVariants.{One, InTurn}
-use Rattle.file_store.specs.declared.store.FileStore.{FileStore}
-use Rattle.file_store.specs.Store.{files_of, IsStoreAtRest, PutsHomesOrNone}
-use Rattle.file_store.specs.declared.directory.Directory.{Directory}
-use Rattle.disk_model.specs.Stop.{Image}
-use Rattle.disk_model.specs.Moments.{LeavesOnly, LeavesNow}
-use Rattle.disk_model.specs.declared.sector_disk.SectorDisk.{Ghosts}
+use Rattle.file_store.specs.{declared.store.FileStore.{FileStore}, Store.{files_of, IsStoreAtRest, PutsHomesOrNone}, declared.directory.Directory.{Directory}}
+use Rattle.file_store.specs.{Standing.{StandsFor, StandsAs, IsBadLayout, IsBadJournal, file_info, standing_page}, Commit.{StandsForEither}, declared.faults.OpenFault.{OpenFault}, Resume.{IsResumed, IsRefusedFor}}
+use Rattle.disk_model.specs.{Stop.{Image}, Moments.{LeavesOnly, LeavesNow}, declared.sector_disk.SectorDisk.{Ghosts}}
 use Rattle.disk_model.proofs.Moments.{weaker, joined}
-use Rattle.vm_types.specs.declared.file.FileInfo.{FileInfo}
-use Rattle.vm_types.specs.declared.file.FilePage.{FilePage}
-use Rattle.file_store.specs.Standing.{StandsFor, StandsAs, IsBadLayout, IsBadJournal, file_info, standing_page}
-use Rattle.file_store.specs.Commit.{StandsForEither}
+use Rattle.vm_types.specs.{declared.file.FileInfo.{FileInfo}, declared.file.FilePage.{FilePage}}
 use Rattle.file_store.proofs.Images.{bad_layout_moves, same_head, stands_for_itself}
-use Rattle.file_store.specs.declared.faults.OpenFault.{OpenFault}
 use Rattle.file_store.specs.declared.faults.OpenFault.TheVariants.{Device as OpenDevice, BadLayout as OpenBadLayout, BadJournal as OpenBadJournal}
-use Rattle.file_store.specs.Resume.{IsResumed, IsRefusedFor}
-use Rattle.sync_plans.specs.declared.requests.Refusal.{Refusal}
-use Rattle.sync_plans.specs.declared.requests.Refusal.TheVariants.{Device, BadLayout, BadJournal, BadPages, ReadOnly}
+use Rattle.sync_plans.specs.{declared.requests.Refusal.{Refusal}, declared.requests.Refusal.TheVariants.{Device, BadLayout, BadJournal, BadPages, ReadOnly}}
 use Rattle.sync_plans.specs.Requests.{IsKindEmpty, IsClosed, IsStore, KeepsOutside, HasLayout, RefusesImage, RefusesOn}
 
 module _ {D : Type 0} (g : Ghosts D) (sectors : ℕ) (files : ℕ → Option FileInfo) (before : ℕ → ℕ → List ℕ) (old mid : D) (left : LeavesNow g old (StandsFor sectors files before)) where

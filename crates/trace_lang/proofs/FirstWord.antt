@@ -1,19 +1,10 @@
 -- Words that are read off the front of a text.
 use Rattle.std.proofs.Common.{◌≡◌, ◌≢◌, ◌==◌, if◌then◌else◌, Bool, true, false, lit<, ℕ, suc, ◌+◌, ◌-◌, ◌<◌, ◌≤◌, ◌^◌, eqb, List, [], ◌∷◌, ◌++◌, length, get_or, take, drop, codes, inr, refl, sym, ◌∙◌, ap, subst, arith}
-use Rattle.std.proofs.Math.Seq.{split_at}
-use Rattle.std.proofs.lemmas.List.{take_rest, length-take-le}
-use Rattle.std.proofs.lemmas.List.Splits.{slice_split_none, slice_split_at}
-use Rattle.std.specs.List.{join_with_byte}
-use Rattle.std.specs.Str.Parse.{AllDigits, digits_value}
-use Rattle.trace_lang.specs.Grammar.{HasNoSpace, IsMode, IsNumber, IsPermission, letter_or_dash}
-use Rattle.trace_lang.specs.Words.{words_of, BeginsWith, BeginsWithDigits}
-use Rattle.trace_lang.proofs.OneNumber.{number_no_space, one_number}
-use Rattle.trace_lang.proofs.Spaces.{no_cut, no_space-cons, words_joined}
-use Rattle.vm_types.specs.declared.command.MsyncMode.{MsyncMode}
-use Rattle.vm_types.specs.declared.command.MsyncMode.TheVariants.{Sync, Async}
-use Rattle.vm_types.specs.Width.{byte_count}
-use Rattle.vm_types.specs.declared.width.Width.{Width}
-use Rattle.vm_types.specs.declared.width.Width.TheVariants.{One, Two, Four, Eight}
+use Rattle.std.proofs.{Math.Seq.{split_at}, lemmas.List.{take_rest, length-take-le}, lemmas.List.Splits.{slice_split_none, slice_split_at}}
+use Rattle.std.specs.{List.{join_with_byte}, Str.Parse.{AllDigits, digits_value}}
+use Rattle.trace_lang.specs.{Grammar.{HasNoSpace, IsMode, IsNumber, IsPermission, letter_or_dash}, Words.{words_of, BeginsWith, BeginsWithDigits}}
+use Rattle.trace_lang.proofs.{OneNumber.{number_no_space, one_number}, Spaces.{no_cut, no_space-cons, words_joined}}
+use Rattle.vm_types.specs.{declared.command.MsyncMode.{MsyncMode}, declared.command.MsyncMode.TheVariants.{Sync, Async}, Width.{byte_count}, declared.width.Width.{Width}, declared.width.Width.TheVariants.{One, Two, Four, Eight}}
 use Rattle.vm_types.specs.declared.permission.Prot.{Prot}
 
 -- a text that is cut at a space; the last part is how `&text[at + 1..]` reads

@@ -1,6 +1,7 @@
 mod Radix
 mod Hex
 mod Places
+mod Sources
 mod Spaces
 mod OneName
 mod OneCommand

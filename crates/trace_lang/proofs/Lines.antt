@@ -1,6 +1,5 @@
 -- Lines that are cut piece by piece are the lines of the whole.
-use Rattle.std.proofs.Common.{◌≡◌, ◌≢◌, ℕ, suc, true, false, eqb, eqb-true, List, [], ◌∷◌, ◌++◌, All, flat_map, refl, sym, ◌∙◌, ap, append_assoc, if◌then◌else◌, arith}
-use Rattle.std.proofs.lemmas.List.Concat.{flat_map-append}
+use Rattle.std.proofs.{Common.{◌≡◌, ◌≢◌, ℕ, suc, true, false, eqb, eqb-true, List, [], ◌∷◌, ◌++◌, All, flat_map, refl, sym, ◌∙◌, ap, append_assoc, if◌then◌else◌, arith}, lemmas.List.Concat.{flat_map-append}}
 use Rattle.std.proofs.lemmas.List.Elements.{All-append}
 use Rattle.trace_lang.specs.Lines.{Cuts, HasNoNewline, ended, last_line, lines_of, onto_line}
 

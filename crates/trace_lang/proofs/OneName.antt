@@ -1,17 +1,9 @@
 -- A word is one name at most.
 use Rattle.std.proofs.Common.{◌≡◌, ℕ, List, get_or, ◌+◌, ◌*◌, ◌==◌, if◌then◌else◌, Option, Some, refl, sym, ◌∙◌, ap}
-use Rattle.trace_lang.specs.Grammar.{IsForm}
-use Rattle.trace_lang.specs.Names.{name_text}
-use Rattle.trace_lang.specs.declared.names.Name.{Name}
-use Rattle.trace_lang.specs.declared.names.Name.TheVariants.{Spawn, Fork, Exit, Mmap, Munmap, Mprotect, Dontneed, Msync, Load, Store, Fetch, Faults}
-use Rattle.vm_types.specs.declared.access.StoredValue.{StoredValue}
-use Rattle.vm_types.specs.declared.command.Command.{Command}
+use Rattle.trace_lang.specs.{Grammar.{IsForm}, Names.{name_text}, declared.names.Name.{Name}, declared.names.Name.TheVariants.{Spawn, Fork, Exit, Mmap, Munmap, Mprotect, Dontneed, Msync, Load, Store, Fetch, Faults}}
+use Rattle.vm_types.specs.{declared.access.StoredValue.{StoredValue}, declared.command.Command.{Command}, declared.command.MapSource.{MapSource}, declared.command.MsyncMode.{MsyncMode}, declared.command.Placing.{Placing}}
+use Rattle.vm_types.specs.{declared.permission.Prot.{Prot}, declared.width.Width.{Width}}
 use Rattle.vm_types.specs.declared.command.Command.TheVariants as command
-use Rattle.vm_types.specs.declared.command.MapSource.{MapSource}
-use Rattle.vm_types.specs.declared.command.MsyncMode.{MsyncMode}
-use Rattle.vm_types.specs.declared.command.Placing.{Placing}
-use Rattle.vm_types.specs.declared.permission.Prot.{Prot}
-use Rattle.vm_types.specs.declared.width.Width.{Width}
 
 -- a number of the first two bytes, by which all names differ
 abbrev key : List ℕ → ℕ

@@ -1,7 +1,6 @@
 -- A word writes one number at most, and no space stands in it.
 use Rattle.std.proofs.Common.{◌≡◌, ◌≢◌, ℕ, zero, suc, ◌<◌, ◌≤◌, List, [], ◌∷◌, drop, inl, inr, sym, ◌∙◌, ap, subst, arith}
-use Rattle.std.specs.Char.{digit_value}
-use Rattle.std.specs.Str.Parse.{AllDigits, digits_value}
+use Rattle.std.specs.{Char.{digit_value}, Str.Parse.{AllDigits, digits_value}}
 use Rattle.trace_lang.specs.Grammar.{HasNoSpace, IsHexadecimal, IsNumber}
 use Rattle.trace_lang.proofs.Spaces.{no_space-cons}
 

@@ -1,16 +1,10 @@
 -- The words of a line are what stands between its spaces.
-use Rattle.std.proofs.Common.{◌≡◌, ◌≢◌, ℕ, zero, suc, ◌<◌, ◌≤◌, Bool, true, false, eqb, eqb-true, List, [], ◌∷◌, length, get_or, All, length-append, refl, sym, ◌∙◌, ap, subst, inl, inr, arith}
-use Rattle.std.proofs.lemmas.Bool.{cases_eq}
-use Rattle.std.specs.List.{onto_first, join_with_byte}
+use Rattle.std.proofs.{Common.{◌≡◌, ◌≢◌, ℕ, zero, suc, ◌<◌, ◌≤◌, Bool, true, false, eqb, eqb-true, List, [], ◌∷◌, length, get_or, All, length-append, refl, sym, ◌∙◌, ap, subst, inl, inr, arith}, lemmas.Bool.{cases_eq}}
 use Rattle.std.proofs.lemmas.List.Splits.{slice_split-cons_yes, slice_split-cons_no, slice_split_none, slice_split_at, join_with_byte-slice_split}
-use Rattle.trace_lang.specs.Grammar.{HasNoSpace, IsBack, IsCommand, IsForm, IsPlacing, IsSource, IsWords}
-use Rattle.trace_lang.specs.Words.{words_of}
-use Rattle.vm_types.specs.declared.command.Command.{Command}
-use Rattle.vm_types.specs.declared.command.Command.TheVariants.{Spawn, Fork, Exit, Mmap, Munmap, Mprotect, Dontneed, Msync, Load, Store, Fetch, PastFaults}
-use Rattle.vm_types.specs.declared.command.MapSource.{MapSource}
-use Rattle.vm_types.specs.declared.command.MapSource.TheVariants.{Anon, Private, Shared, Common}
-use Rattle.vm_types.specs.declared.command.Placing.{Placing}
-use Rattle.vm_types.specs.declared.command.Placing.TheVariants.{Hint, Fixed, NoReplace}
+use Rattle.std.specs.List.{onto_first, join_with_byte}
+use Rattle.trace_lang.specs.{Grammar.{HasNoSpace, IsBack, IsCommand, IsForm, IsPlacing, IsSource, IsWords}, Words.{words_of}}
+use Rattle.vm_types.specs.{declared.command.Command.{Command}, declared.command.Command.TheVariants.{Spawn, Fork, Exit, Mmap, Munmap, Mprotect, Dontneed, Msync, Load, Store, Fetch, PastFaults}, declared.command.MapSource.{MapSource}}
+use Rattle.vm_types.specs.{declared.command.MapSource.TheVariants.{Anon, Private, Shared, Common}, declared.command.Placing.{Placing}, declared.command.Placing.TheVariants.{Hint, Fixed, NoReplace}}
 
 other_byte : (b : ℕ) → b ≢ 32 → eqb b 32 ≡ false
 other_byte b h = elim (eqb b 32) as (λ v. eqb b 32 ≡ v → v ≡ false) [ true ↦ (λ e. absurd (h (eqb-true b 32 e))) | false ↦ (λ e. refl) ] refl

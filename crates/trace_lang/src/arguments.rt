@@ -1,11 +1,13 @@
 //! Permissions, sources and modes as lines write them.
-ghost use Rattle.std.specs.Prelude.{◌≡◌, ◌≢◌, ℕ, ◌∷◌, Bool, map, codes, IfSome};
+ghost use Rattle.std.specs.Prelude.{◌≡◌, ◌≢◌, ℕ, [], ◌∷◌, Bool, Option, Some, map, IfSome};
 ghost use Rattle.trace_lang.specs.Grammar.{IsBack, IsMode, IsNumber, IsPermission, IsPlacing, letter_or_dash};
+ghost use Rattle.trace_lang.specs.Names.{IsInFile, ReadsAfter, source_text};
 ghost use Rattle.vm_types.specs.declared.command.MapSource.{MapSource};
 ghost use Rattle.vm_types.specs.declared.command.MsyncMode.{MsyncMode};
 ghost use Rattle.vm_types.specs.declared.command.Placing.{Placing};
 ghost use Rattle.vm_types.specs.declared.permission.Prot.{Prot};
 
+use crate::names::{SourceName, source_name_of};
 use crate::numerals::parse_number;
 use bitflags::Flags;
 use vm_types::{MapSource, MsyncMode, Placing, Prot};
@@ -47,67 +49,68 @@ fn placing_of(words: &[&[u8]]) -> Option<Placing>
 {
     match words {
         [] => Some(Placing::Hint),
-        [b"fixed"] => Some(Placing::Fixed),
-        [b"noreplace"] => Some(Placing::NoReplace),
+        [word] => firmness_of(word),
         _ => None,
     }
 }
 
-/// Anonymous pages, by the words behind `anon`.
-fn anon_of(end: &[&[u8]]) -> Option<(MapSource, Placing)>
-    ensures found { IfSome result (λ back. IsBack (codes "anon" ∷ map (λ w. w.now) end.now) back.0 back.1) }
-    ensures only { (placing : Placing) → IsPlacing (map (λ w. w.now) end.now) placing → result ≡ Some (MapSource.Anon, placing) }
+/// How firmly the address is asked for by the only word at the end.
+fn firmness_of(word: &[u8]) -> Option<Placing>
+    ensures found { IfSome result (λ placing. IsPlacing (word.now ∷ []) placing) }
+    ensures only { (placing : Placing) → IsPlacing (word.now ∷ []) placing → result ≡ Some placing }
 {
-    let placing = placing_of(end)?;
-    Some((MapSource::Anon, placing))
+    if word == b"fixed".as_slice() {
+        Some(Placing::Fixed)
+    } else if word == b"noreplace".as_slice() {
+        Some(Placing::NoReplace)
+    } else {
+        None
+    }
 }
 
-/// Shared anonymous pages, by the words behind `common`.
-fn common_of(end: &[&[u8]]) -> Option<(MapSource, Placing)>
-    ensures found { IfSome result (λ back. IsBack (codes "common" ∷ map (λ w. w.now) end.now) back.0 back.1) }
-    ensures only { (placing : Placing) → IsPlacing (map (λ w. w.now) end.now) placing → result ≡ Some (MapSource.Common, placing) }
+/// A file, where in it, and how firmly the address is asked for, by the words after `private` or `shared`.
+fn in_file(words: &[&[u8]]) -> Option<(u64, u64, Placing)>
+    ensures found { IfSome result (λ read. IsInFile (map (λ w. w.now) words.now) read.0 read.1 read.2) }
+    ensures only { (file offset : ℕ) (placing : Placing) → IsInFile (map (λ w. w.now) words.now) file offset placing → result ≡ Some (file, offset, placing) }
 {
-    let placing = placing_of(end)?;
-    Some((MapSource::Common, placing))
-}
-
-/// Private pages of a file, by the words behind `private`.
-fn private_of(file: &[u8], offset: &[u8], end: &[&[u8]]) -> Option<(MapSource, Placing)>
-    ensures found { IfSome result (λ back. IsBack (codes "private" ∷ file.now ∷ offset.now ∷ map (λ w. w.now) end.now) back.0 back.1) }
-    ensures only { (number at : ℕ) (placing : Placing) → IsNumber file.now number → IsNumber offset.now at → IsPlacing (map (λ w. w.now) end.now) placing
-        → result ≡ Some (MapSource.Private number at, placing) }
-{
+    let [file, offset, end @ ..] = words else {
+        return None;
+    };
     let file = parse_number(file)?;
     let offset = parse_number(offset)?;
     let placing = placing_of(end)?;
-    Some((MapSource::Private { file, offset }, placing))
+    Some((file, offset, placing))
 }
 
-/// Shared pages of a file, by the words behind `shared`.
-fn shared_of(file: &[u8], offset: &[u8], end: &[&[u8]]) -> Option<(MapSource, Placing)>
-    ensures found { IfSome result (λ back. IsBack (codes "shared" ∷ file.now ∷ offset.now ∷ map (λ w. w.now) end.now) back.0 back.1) }
-    ensures only { (number at : ℕ) (placing : Placing) → IsNumber file.now number → IsNumber offset.now at → IsPlacing (map (λ w. w.now) end.now) placing
-        → result ≡ Some (MapSource.Shared number at, placing) }
+/// What a mapping of a source of that name stands on, and how firmly its address is asked for, by the words after the name.
+fn after_name(name: SourceName, words: &[&[u8]]) -> Option<(MapSource, Placing)>
+    ensures found { IfSome result (λ back. IsBack (source_text name ∷ map (λ w. w.now) words.now) back.0 back.1) }
+    ensures only { ReadsAfter name (map (λ w. w.now) words.now) result }
 {
-    let file = parse_number(file)?;
-    let offset = parse_number(offset)?;
-    let placing = placing_of(end)?;
-    Some((MapSource::Shared { file, offset }, placing))
+    match name {
+        SourceName::Anon => Some((MapSource::Anon, placing_of(words)?)),
+        SourceName::Common => Some((MapSource::Common, placing_of(words)?)),
+        SourceName::Private => {
+            let (file, offset, placing) = in_file(words)?;
+            Some((MapSource::Private { file, offset }, placing))
+        }
+        SourceName::Shared => {
+            let (file, offset, placing) = in_file(words)?;
+            Some((MapSource::Shared { file, offset }, placing))
+        }
+    }
 }
 
-/// What a mapping is to stand on, and how firmly its address is asked for, by the words behind its permission; `None`
+/// What a mapping is to stand on, and how firmly its address is asked for, by the words after its permission; `None`
 /// exactly where they say nothing of the kind.
 pub(crate) fn back_of(words: &[&[u8]]) -> Option<(MapSource, Placing)>
     ensures found { IfSome result (λ back. IsBack (map (λ w. w.now) words.now) back.0 back.1) }
     ensures only { (source : MapSource) (placing : Placing) → IsBack (map (λ w. w.now) words.now) source placing → result ≡ Some (source, placing) }
 {
-    match words {
-        [b"anon", end @ ..] => anon_of(end),
-        [b"common", end @ ..] => common_of(end),
-        [b"private", file, offset, end @ ..] => private_of(file, offset, end),
-        [b"shared", file, offset, end @ ..] => shared_of(file, offset, end),
-        _ => None,
-    }
+    let [word, end @ ..] = words else {
+        return None;
+    };
+    after_name(source_name_of(word)?, end)
 }
 
 /// Whether an msync is to wait; `None` exactly where the word says nothing of the kind.

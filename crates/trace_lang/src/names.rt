@@ -1,5 +1,5 @@
 //! The names of commands, which are the first words of lines.
-ghost use Rattle.trace_lang.specs.Names.{SaysName};
+ghost use Rattle.trace_lang.specs.Names.{SaysName, SaysSource};
 
 /// The name of a form.
 #[derive(Clone, Copy)]
@@ -61,5 +61,31 @@ pub(crate) fn name_of(word: &[u8]) -> Option<Name>
             None
         },
         _ => None,
+    }
+}
+
+/// The name of what a mapping stands on.
+#[derive(Clone, Copy)]
+pub(crate) enum SourceName {
+    Anon,
+    Common,
+    Private,
+    Shared,
+}
+
+/// The name of a source that a word is; `None` exactly where it is none.
+pub(crate) fn source_name_of(word: &[u8]) -> Option<SourceName>
+    ensures { SaysSource word.now result }
+{
+    if word == b"anon".as_slice() {
+        Some(SourceName::Anon)
+    } else if word == b"common".as_slice() {
+        Some(SourceName::Common)
+    } else if word == b"private".as_slice() {
+        Some(SourceName::Private)
+    } else if word == b"shared".as_slice() {
+        Some(SourceName::Shared)
+    } else {
+        None
     }
 }

@@ -1,9 +1,6 @@
 -- Who names a page of an object: some process at some page, as the two searches of `is_named` find it.
-use Rattle.std.proofs.Common.{◌≡◌, ℕ, zero, suc, ◌<◌, ◌||◌, Bool, true, false, refl, sym, ap, ◌∙◌, arith, inl, inr}
-use Rattle.std.proofs.lemmas.Bool.{cases_Bool, cases_eq, false≢true}
-use Rattle.vm_types.specs.Counting.{any_below}
-use Rattle.vm_types.specs.Limits.{widest_end}
-use Rattle.vm_types.specs.Objects.{Maps, names, is_named}
+use Rattle.std.proofs.{Common.{◌≡◌, ℕ, zero, suc, ◌<◌, ◌||◌, Bool, true, false, refl, sym, ap, ◌∙◌, arith, inl, inr}, lemmas.Bool.{cases_Bool, cases_eq, false≢true}}
+use Rattle.vm_types.specs.{Counting.{any_below}, Limits.{widest_end}, Objects.{Maps, names, is_named}}
 
 -- a search finds what is there
 pub any-at : (f : ℕ → Bool) (n k : ℕ) → k < n → f k ≡ true → any_below f n ≡ true

@@ -1,16 +1,10 @@
 -- The number of a new object is one that no process uses, since processes have fewer runs than there are numbers to try.
 use Rattle.std.proofs.Common.{◌≡◌, ◌≢◌, ℕ, zero, suc, inl, inr, ◌+◌, ◌*◌, ◌<◌, ◌≤◌, ◌^◌, Bool, true, false, not, ◌||◌, ◌==◌, Option, Some, None, refl, sym, ap, ◌∙◌, arith, eqb-true, eq-eqb, ne_eqb}
 use Rattle.std.proofs.lemmas.Bool.{cases_eq, cases_lt, cases_Bool, false≢true, true≢false, and_parts}
-use Rattle.vm_types.specs.declared.region.Attr.{Attr}
-use Rattle.vm_types.specs.declared.region.Backing.{Backing}
-use Rattle.vm_types.specs.declared.region.Backing.TheVariants.{Anon, Private, Shared, Common}
-use Rattle.vm_types.specs.Attributes.{attr_after, backing_after, backing_eq}
-use Rattle.vm_types.specs.Counting.{any_below, count_below, sum_below}
-use Rattle.vm_types.specs.Limits.{named_limit, object_limit, user_end, widest_end}
-use Rattle.vm_types.specs.Objects.{Maps, uses, is_of_object, is_used, least_from, free_object}
+use Rattle.vm_types.specs.{declared.region.Attr.{Attr}, declared.region.Backing.{Backing}, declared.region.Backing.TheVariants.{Anon, Private, Shared, Common}, Attributes.{attr_after, backing_after, backing_eq}}
+use Rattle.vm_types.specs.{Counting.{any_below, count_below, sum_below}, Limits.{named_limit, object_limit, user_end, widest_end}, Objects.{Maps, uses, is_of_object, is_used, least_from, free_object}}
 use Rattle.vm_types.specs.Runs.{begins, begins_run, runs_below, run_count}
-use Rattle.vm_types.proofs.Modes.{sizes}
-use Rattle.vm_types.proofs.Naming.{any-at}
+use Rattle.vm_types.proofs.{Modes.{sizes}, Naming.{any-at}}
 
 least-below : (passes : ℕ → Bool) (n count : ℕ) → least_from passes n count ≤ n + count
 unfolding least_from

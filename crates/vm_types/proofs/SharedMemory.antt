@@ -1,23 +1,11 @@
 -- Shared anonymous memory as processes see it: a store of one is seen by the others, a fork shares and doesn't copy, what another process
 -- still names stays, and a new object shows zeros.
-use Rattle.std.proofs.Common.{◌≡◌, ℕ, zero, suc, inl, inr, ◌<◌, ◌≤◌, ◌||◌, Bool, true, false, List, Option, Some, None, refl, sym, ap, ◌∙◌, eq-eqb}
-use Rattle.std.proofs.lemmas.Bool.{cases_Bool, false≢true, and_parts}
-use Rattle.vm_types.specs.declared.object.ObjectPage.{ObjectPage}
-use Rattle.vm_types.specs.declared.region.Attr.{Attr}
-use Rattle.vm_types.specs.declared.region.Backing.{Backing}
-use Rattle.vm_types.specs.declared.region.Backing.TheVariants.{Anon, Private, Shared, Common}
-use Rattle.vm_types.specs.Access.{with_shown_bytes}
-use Rattle.vm_types.specs.Counting.{any_below}
-use Rattle.vm_types.specs.Limits.{user_end, widest_end}
-use Rattle.vm_types.specs.Mapping.{new_object, with_mapping}
-use Rattle.vm_types.specs.Objects.{Maps, maps_of, names, uses, is_object_page, is_of_object, is_named, is_used, named_objects, with_object, free_object}
-use Rattle.vm_types.specs.Processes.{forked}
-use Rattle.vm_types.specs.Ranges.{without_row}
-use Rattle.vm_types.specs.Runs.{run_count}
-use Rattle.vm_types.specs.State.{State, behind, copy_or_behind, or_zeros, shown}
-use Rattle.vm_types.specs.View.{View, zero_page}
-use Rattle.vm_types.proofs.Naming.{any-at}
-use Rattle.vm_types.proofs.NewObjects.{free-unused}
+use Rattle.std.proofs.{Common.{◌≡◌, ℕ, zero, suc, inl, inr, ◌<◌, ◌≤◌, ◌||◌, Bool, true, false, List, Option, Some, None, refl, sym, ap, ◌∙◌, eq-eqb}, lemmas.Bool.{cases_Bool, false≢true, and_parts}}
+use Rattle.vm_types.specs.{declared.object.ObjectPage.{ObjectPage}, declared.region.Attr.{Attr}, declared.region.Backing.{Backing}, declared.region.Backing.TheVariants.{Anon, Private, Shared, Common}, Access.{with_shown_bytes}}
+use Rattle.vm_types.specs.{Counting.{any_below}, Limits.{user_end, widest_end}, Mapping.{new_object, with_mapping}}
+use Rattle.vm_types.specs.{Objects.{Maps, maps_of, names, uses, is_object_page, is_of_object, is_named, is_used, named_objects, with_object, free_object}, Processes.{forked}, Ranges.{without_row}, Runs.{run_count}}
+use Rattle.vm_types.specs.{State.{State, behind, copy_or_behind, or_zeros, shown}, View.{View, zero_page}}
+use Rattle.vm_types.proofs.{Naming.{any-at}, NewObjects.{free-unused}}
 
 -- a page of an object shows the object's bytes
 pub shows-object : (s : State) (v : View) (p : ObjectPage) → v.own ≡ None → v.attr.backing ≡ Common p → shown s v ≡ or_zeros (s.objects p.object p.page)

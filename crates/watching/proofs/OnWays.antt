@@ -1,12 +1,10 @@
 -- How the way to a page goes on.
 use Rattle.std.proofs.Common.{◌≡◌, ℕ, ◌+◌, Option, Some, None}
 use Rattle.std.specs.Prelude.{IfSome}
-use Rattle.inspection.specs.Machines.{memory_of, Tells}
-use Rattle.inspection.specs.Walks.{IsNextStep, IsStep, IsStepOfSome}
-use Rattle.inspection.specs.declared.walks.Step.{Step}
+use Rattle.inspection.specs.{Machines.{memory_of, Tells}, Walks.{IsNextStep, IsStep, IsStepOfSome}, declared.walks.Step.{Step}}
 use Rattle.machine.specs.declared.machine.Machine.{Machine}
 
--- what is told behind a step of some process is so of each that has it
+-- what is told after a step of some process is so of each that has it
 pub goes_on : {D E : Type 0} (m : Machine D E) (pid page : ℕ) (step : Step) (N : Type 0) (next : Option Step) → Tells m (IsStepOfSome (memory_of m) page) N next
     → IfSome next (IsNextStep (memory_of m) page step) → IsStep (memory_of m) pid page step
     → Tells m (λ s. IsStep (memory_of m) pid page s × (s.level + 1 ≡ step.level)) N next

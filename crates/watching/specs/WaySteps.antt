@@ -8,7 +8,7 @@ use Rattle.inspection.specs.declared.walks.Step.{Step}
 use Rattle.machine.specs.declared.machine.Machine.{Machine}
 
 module _ {D E : Type 0} where
-  -- behind a step on the way to a page comes what the next table says, one level lower, or nothing where the way ends
+  -- after a step on the way to a page comes what the next table says, one level lower, or nothing where the way ends
   abbrev pub StepsFrom : Machine D E → ℕ → ℕ → Option Step → Option Step → Type 0
   StepsFrom m pid page None next = next ≡ None
   StepsFrom m pid page (Some step) next =

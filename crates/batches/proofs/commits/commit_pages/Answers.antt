@@ -1,5 +1,4 @@
-use Rattle.std.proofs.Common.{◌≡◌, inl, sym, ◌∙◌, rules}
-use Rattle.std.proofs.lemmas.Result.{IfErr-weaker}
+use Rattle.std.proofs.{Common.{◌≡◌, inl, sym, ◌∙◌, rules}, lemmas.Result.{IfErr-weaker}}
 use Rattle.disk_model.proofs.Moments.{started}
 use Rattle.file_store.specs.Commit.{StandsForEither}
 use Rattle.batches.specs.declared.commits.BatchFault.TheVariants.{Device, BadPages, ReadOnly}

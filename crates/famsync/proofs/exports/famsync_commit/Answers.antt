@@ -1,8 +1,7 @@
 use Rattle.std.proofs.Common.{length, inl, sym, subst}
 use Rattle.disk_model.specs.Stop.{Image}
 use Rattle.file_store.specs.Standing.{StandsFor}
-use Rattle.sync_plans.specs.Pages.{lent_page}
-use Rattle.sync_plans.specs.Plans.{row}
+use Rattle.sync_plans.specs.{Pages.{lent_page}, Plans.{row}}
 use Rattle.sync_plans.proofs.Theorem.{nothing_listed}
 use Rattle.famsync.proofs.exports.famsync_commit.Goals as goal
 

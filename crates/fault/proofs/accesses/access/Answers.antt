@@ -1,17 +1,9 @@
-use Rattle.vm_types.specs.Limits.{user_end}
+use Rattle.vm_types.specs.{Limits.{user_end}, Verdict.{Fine}, declared.number.FrameNo.{FrameNo}, declared.number.Phys.{Phys}, declared.refusal.Stall.{Stall}}
 use Rattle.std.proofs.Common.{ℕ, refl, Ok, Err, Result, ◌/◌, ◌<◌, sym, ap, ◌∙◌, subst}
-use Rattle.vm_types.specs.Verdict.{Fine}
-use Rattle.vm_types.specs.declared.number.FrameNo.{FrameNo}
-use Rattle.vm_types.specs.declared.number.Phys.{Phys}
-use Rattle.vm_types.specs.declared.refusal.Stall.{Stall}
-use Rattle.residency.specs.declared.kernel.Core.{Core}
-use Rattle.residency.specs.Picture.{picture_of}
+use Rattle.residency.specs.{declared.kernel.Core.{Core}, Picture.{picture_of}}
 use Rattle.fault.specs.declared.refusal.AccessRefusal.TheVariants as Refusal
-use Rattle.fault.specs.Outcome.{seen_at}
-use Rattle.fault.specs.Serving.{Reaches, Serves}
-use Rattle.fault.proofs.Serving.{reaches_stall, tends_none}
-use Rattle.fault.proofs.Verdicts.{placed_made, grants_made, page_user}
-use Rattle.fault.proofs.Wanted.{root_live, walked_same, no_walk}
+use Rattle.fault.specs.{Outcome.{seen_at}, Serving.{Reaches, Serves}}
+use Rattle.fault.proofs.{Serving.{reaches_stall, tends_none}, Verdicts.{placed_made, grants_made, page_user}, Wanted.{root_live, walked_same, no_walk}}
 use Rattle.fault.proofs.accesses.access.Goals as goal
 
 pub returns-in-Place : goal.returns-in-Place

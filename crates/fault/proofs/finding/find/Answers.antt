@@ -1,19 +1,11 @@
-use Rattle.vm_types.specs.Limits.{top_level}
+use Rattle.vm_types.specs.{Limits.{top_level}, declared.number.FrameNo.{FrameNo}, declared.number.Phys.{Phys}, Width.{byte_count}, Verdict.{Faults, page_verdict}}
 use Rattle.std.specs.Prelude.{IsErr, IfSome, MatchOption}
-use Rattle.vm_types.specs.declared.number.FrameNo.{FrameNo}
-use Rattle.vm_types.specs.declared.number.Phys.{Phys}
-use Rattle.sv39_walk.specs.declared.translation.WalkFault.{WalkFault}
-use Rattle.std.proofs.Common.{◌≡◌, ◌%◌, Option, Some, None, Result, Ok, refl, sym, ap, ◌∙◌, subst}
-use Rattle.std.proofs.lemmas.Bool.{false≢true}
-use Rattle.vm_types.specs.Width.{byte_count}
-use Rattle.vm_types.specs.Verdict.{Faults, page_verdict}
+use Rattle.sv39_walk.specs.{declared.translation.WalkFault.{WalkFault}, Walk.{translated}}
+use Rattle.std.proofs.{Common.{◌≡◌, ◌%◌, Option, Some, None, Result, Ok, refl, sym, ap, ◌∙◌, subst}, lemmas.Bool.{false≢true}}
 use Rattle.residency.specs.Picture.{picture_of, view}
 use Rattle.frames.specs.FrameTable.{FrameTable}
 use Rattle.fault.specs.Found.{IsOpenTo}
-use Rattle.fault.proofs.Verdicts.{grants_found, finds_fine, finds_fault, verdict-outside}
-use Rattle.sv39_walk.specs.Walk.{translated}
-use Rattle.fault.proofs.Unchanged.{same_frames}
-use Rattle.fault.proofs.Wanted.{one_root, root_lives}
+use Rattle.fault.proofs.{Verdicts.{grants_found, finds_fine, finds_fault, verdict-outside}, Unchanged.{same_frames}, Wanted.{one_root, root_lives}}
 use Rattle.fault.proofs.finding.find.Goals as goal
 
 err_not_ok : (r : Result Phys WalkFault) (p : Phys) → IsErr r → r ≡ Ok p → ⊥

@@ -1,79 +1,44 @@
 use Rattle.std.proofs.Common.{ap, ◌∙◌, rules}
-use Rattle.vm_types.specs.declared.access.Access.TheVariants.{Store}
-use Rattle.vm_types.specs.declared.object.PageKey.TheVariants.{File}
-use Rattle.vm_types.specs.Attributes.{stands_on}
-use Rattle.residency.specs.declared.kernel.Core.{Core}
-use Rattle.residency.specs.Picture.{Picture, picture_of}
-use Rattle.residency.specs.Parts.{is_shared}
-use Rattle.fault.specs.Changes.{copied_frame}
-use Rattle.fault.proofs.Forms.{none_here, behind_of}
-use Rattle.fault.proofs.NoTables.{no_table_then}
-use Rattle.fault.proofs.Staying.{stands_kept}
-use Rattle.fault.proofs.TablesGiven.{links_no_table}
-use Rattle.fault.specs.Granted.{IsReadyAt}
-use Rattle.fault.proofs.AccessAsking.{asks_copied, brought_out, copies_cached}
-use Rattle.fault.proofs.Brought.{linked_then, read_then, calm_then, brings_on, stalled_on}
-use Rattle.fault.proofs.Linked.{open_still}
-use Rattle.fault.proofs.Owned.{owned_ready, owned_entered, owned_calm, owned_stalled}
-use Rattle.fault.proofs.Pages.{page_inside}
-use Rattle.fault.proofs.Serving.{tends_away, stalls_away, serves_stall}
-use Rattle.fault.proofs.Settled.{none_same, ready_after}
-use Rattle.fault.proofs.AccessSlotted.{slotted_on}
-use Rattle.fault.proofs.AccessSteps.{proceeds_then, files_read, ok_then, on_ok_then, counts_then, counts_done}
-use Rattle.fault.proofs.Wanted.{shows_file}
+use Rattle.vm_types.specs.{declared.access.Access.TheVariants.{Store}, declared.object.PageKey.TheVariants.{File}, Attributes.{stands_on}}
+use Rattle.residency.specs.{declared.kernel.Core.{Core}, Picture.{picture_of}, Parts.{is_shared}}
+use Rattle.fault.specs.{Changes.{copied_frame}, Granted.{IsReadyAt}}
+use Rattle.fault.proofs.{Forms.{none_here, behind_of}, NoTables.{no_table_then}, TablesGiven.{links_no_table}, AccessAsking.{asks_copied, brought_out, copies_cached}, Brought.{linked_then, read_then, calm_then, brings_on, stalled_on}}
+use Rattle.fault.proofs.{Owned.{owned_ready, owned_entered, owned_calm, owned_stalled}, Served.{may_bring, shows_at, serves_away, stands_brought, open_brought, none_brought}, Settled.{ready_after}, AccessSlotted.{slotted_on}}
+use Rattle.fault.proofs.AccessSteps.{proceeds_then, ok_then, on_ok_then, counts_then, counts_done}
 use Rattle.fault.proofs.granting.grant_copy.Goals as goal
 
 pub cached-requires : goal.cached-requires
-cached-requires g c =
-    record {
-      fit = c.requires.may.spot.linked.fit;
-      store = c.requires.may.store;
-      swap = c.requires.may.swap;
-      inside = page_inside (picture_of c.args.core.now) c.args.spot.now.pid c.args.spot.now.page c.args.attr (File c.args.file_page) c.requires.may.spot.linked c.requires.may.allowed.mapped (ap stands_on c.requires.private) c.requires.may.allowed.inside;
-    }
+cached-requires g c = may_bring c.requires.may (ap stands_on c.requires.private)
 
 pub own_frame-requires-clause-page : goal.own_frame-requires-clause-page
 own_frame-requires-clause-page g c =
-    let old : Picture g.M.Levels.mode = picture_of c.args.core.now in
-    let mid : Picture g.M.Levels.mode = picture_of c.cached.new.core in
     let done = c.in_ok-cached.ensures.pages_in in
-    let now = done.proceeds.spaces.at c.args.spot.now.pid c.args.spot.now.page ∙ c.requires.may.allowed.mapped in
+    let its = open_brought c.requires.may done in
     record {
-      stands = stands_kept old mid c.args.spot.now c.requires.may.spot done.proceeds.fit done.proceeds.spaces done.proceeds.tables done.rows;
-      mapped = now;
+      stands = stands_brought c.requires.may done;
+      mapped = its.mapped;
       writable = search rules;
       not_shared = ap is_shared c.requires.private;
-      inside = (open_still old mid c.args.spot.now.pid c.args.spot.now.page Store c.args.attr done.proceeds.spaces.at
-          (files_read g.D.SectorDisk c.args.core.now.store c.cached.new.core.store done.proceeds.reads) c.requires.may.allowed).inside;
-      resident = none_here _ (none_same old mid c.args.spot.now.pid c.args.spot.now.page c.args.attr c.requires.may.allowed.mapped now
-          (done.keeps.views c.args.spot.now.pid c.args.spot.now.page) c.requires.none);
+      inside = its.inside;
+      resident = none_here _ (none_brought c.requires.may done c.requires.none);
       swap = search rules;
     }
 
 pub own_frame-requires-clause-in_memory : goal.own_frame-requires-clause-in_memory
 own_frame-requires-clause-in_memory g c common =
-    (c.in_ok-cached.field-0.0, behind_of (picture_of c.cached.new.core) c.args.attr.backing (File c.args.file_page) c.in_ok-cached.field-0.0 (ap stands_on c.requires.private) c.in_ok-cached.ensures.pages_in.placed)
+    (c.in_ok-cached.field-0.0, behind_of (picture_of c.cached.new.core) c.args.attr.now.backing (File c.args.file_page) c.in_ok-cached.field-0.0 (ap stands_on c.requires.private) c.in_ok-cached.ensures.pages_in.placed)
 
 pub returns-in_err-cached : goal.returns-in_err-cached
 returns-in_err-cached g c =
-    let pid = c.args.spot.now.pid in
-    let page = c.args.spot.now.page in
-    let before = c.args.core.now in
-    let after = c.cached.new.core in
-    let file = File c.args.file_page in
-    let shows = shows_file (picture_of before) pid page c.args.attr file c.requires.may.allowed.mapped (ap stands_on c.requires.private) c.requires.none in
-    let fit = c.requires.may.spot.linked.fit in
-    let stall = c.in_err-cached.field-0.0 in
+    let shows = shows_at c.requires.may (ap stands_on c.requires.private) c.requires.none in
     let done = c.in_err-cached.ensures in
-    serves_stall g.D.SectorDisk g.E.SectorDisk before after pid page c.args.attr Store c.from_residual.result stall c.from_residual.ensures.1
-    (tends_away g.D.SectorDisk g.E.SectorDisk before after pid page Store file shows fit stall done.pages_in done.idle)
-    (stalls_away g.D.SectorDisk g.E.SectorDisk before after pid page Store file shows fit stall done.pages_in done.idle)
+    serves_away c.requires.may shows c.in_err-cached.field-0.0 done.pages_in done.idle Store c.from_residual.result c.from_residual.ensures.1
 
 pub returns : goal.returns
 returns g c =
     let pid = c.args.spot.now.pid in
     let page = c.args.spot.now.page in
-    let attr = c.args.attr in
+    let attr = c.args.attr.now in
     let file = File c.args.file_page in
     let before = c.args.core.now in
     let between = c.cached.new.core in
@@ -85,13 +50,13 @@ returns g c =
     let mapped = asked.may.allowed.mapped in
     let alone = ap is_shared asked.private in
     let backs = ap stands_on asked.private in
-    let shows = shows_file old pid page attr file mapped backs asked.none in
+    let shows = shows_at asked.may backs asked.none in
     let idle = c.in_ok-cached.ensures.idle in
     let first = c.in_ok-cached.ensures.pages_in in
     let done = c.own_frame.ensures in
     let r = c.own_frame.result in
     let at = first.proceeds.spaces.at pid page ∙ mapped in
-    let none = none_same old mid pid page attr mapped at (first.keeps.views pid page) asked.none in
+    let none = none_brought asked.may first asked.none in
     let here = none_here _ none in
     let now = done.moves.spaces.at pid page ∙ at in
     let made = no_table_then old mid new first.no_table done.no_table in

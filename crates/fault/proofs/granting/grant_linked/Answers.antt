@@ -1,15 +1,8 @@
 use Rattle.std.proofs.Common.{inl, None, sym, ap, ◌∙◌, subst}
 use Rattle.vm_types.specs.declared.access.Access.{Access}
 use Rattle.residency.specs.Picture.{picture_of, is_swapped}
-use Rattle.fault.specs.Asking.{IsSectorOfCopy}
-use Rattle.fault.proofs.Forms.{mapped_page}
-use Rattle.fault.proofs.SwapSteps.{swapped_page}
-use Rattle.fault.specs.Serving.{Serves}
-use Rattle.fault.specs.SpotServing.{MayServeAt}
-use Rattle.fault.specs.Wants.{ForSlot}
-use Rattle.fault.proofs.Entered.{swapped_entered, swapped_ready, swapped_stalled}
-use Rattle.fault.proofs.Serving.{tends_moved}
-use Rattle.fault.proofs.AccessSteps.{counts_done}
+use Rattle.fault.specs.{Asking.{IsSectorOfCopy}, Serving.{Serves}, SpotServing.{MayServeAt}, Wants.{ForSlot}}
+use Rattle.fault.proofs.{Forms.{mapped_page}, SwapSteps.{swapped_page}, Entered.{swapped_entered, swapped_ready, swapped_stalled}, Serving.{tends_moved}, AccessSteps.{counts_done}}
 use Rattle.fault.proofs.granting.grant_linked.Goals as goal
 
 pub swap_in-requires : goal.swap_in-requires
@@ -25,7 +18,7 @@ pub returns-then-is_swapped : goal.returns-then-is_swapped
 returns-then-is_swapped g c =
     let pid = c.args.spot.now.pid in
     let page = c.args.spot.now.page in
-    let attr = c.args.attr in
+    let attr = c.args.attr.now in
     let access = c.args.access in
     let before = c.args.core.now in
     let after = c.swap_in.new.core in
@@ -51,10 +44,10 @@ returns-then-is_swapped g c =
 
 pub grant_store-requires-clause-may : goal.grant_store-requires-clause-may
 grant_store-requires-clause-may g c =
-    let P : Access → Type 0 = λ a. MayServeAt g.D.SectorDisk g.E.SectorDisk c.args.core.now c.args.spot.now c.args.attr a in
+    let P : Access → Type 0 = λ a. MayServeAt g.D.SectorDisk g.E.SectorDisk c.args.core.now c.args.spot.now c.args.attr.now a in
     subst P c.in-Store.is c.requires.may
 
 pub returns-in-Store : goal.returns-in-Store
 returns-in-Store g c =
-    let P : Access → Type 0 = λ a. Serves g.D.SectorDisk g.E.SectorDisk c.args.core.now c.grant_store.new.core c.args.spot.now.pid c.args.spot.now.page c.args.attr a c.grant_store.result in
+    let P : Access → Type 0 = λ a. Serves g.D.SectorDisk g.E.SectorDisk c.args.core.now c.grant_store.new.core c.args.spot.now.pid c.args.spot.now.page c.args.attr.now a c.grant_store.result in
     subst P (sym c.in-Store.is) c.grant_store.ensures

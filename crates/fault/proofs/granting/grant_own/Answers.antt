@@ -3,16 +3,14 @@ use Rattle.disk_model.specs.Moments.{Nothing}
 use Rattle.vm_types.specs.declared.access.Access.TheVariants.{Store}
 use Rattle.residency.specs.Picture.{picture_of}
 use Rattle.fault.specs.Changes.{copied_frame}
-use Rattle.fault.proofs.Owned.{owned_ready, owned_entered, owned_calm, owned_stalled}
-use Rattle.fault.proofs.Serving.{tends_moved}
-use Rattle.fault.proofs.AccessSteps.{counts_done}
+use Rattle.fault.proofs.{Owned.{owned_ready, owned_entered, owned_calm, owned_stalled}, Serving.{tends_moved}, AccessSteps.{counts_done}}
 use Rattle.fault.proofs.granting.grant_own.Goals as goal
 
 pub returns : goal.returns
 returns g c =
     let pid = c.args.spot.now.pid in
     let page = c.args.spot.now.page in
-    let attr = c.args.attr in
+    let attr = c.args.attr.now in
     let before = c.args.core.now in
     let after = c.own_frame.new.core in
     let old = picture_of before in

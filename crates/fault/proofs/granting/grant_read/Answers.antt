@@ -1,17 +1,9 @@
 use Rattle.std.proofs.Common.{◌≢◌, ℕ, Ok, sym, ap, ◌∙◌, subst, arith, rules}
 use Rattle.sv39_walk.specs.Entry.{frame_of}
 use Rattle.residency.specs.Picture.{Picture, picture_of, entry}
-use Rattle.fault.proofs.Forms.{mapped_page, used_inside, resident_used, seat_zero, behind_of}
-use Rattle.fault.proofs.Staying.{stands_kept}
-use Rattle.fault.proofs.Steps.{seen_then}
+use Rattle.fault.proofs.{Forms.{mapped_page, used_inside, resident_used, seat_zero, behind_of}, Steps.{seen_then}, Entered.{read_ready, read_entered}}
+use Rattle.fault.proofs.{Served.{may_bring, shows_at, serves_entered, serves_away, stands_brought, open_brought, none_brought}, Serving.{tends_shown}, AccessSteps.{counts_then, counts_calm}}
 use Rattle.fault.specs.Serving.{Serves}
-use Rattle.fault.proofs.Entered.{read_ready, read_entered}
-use Rattle.fault.proofs.Linked.{open_still}
-use Rattle.fault.proofs.Pages.{page_inside}
-use Rattle.fault.proofs.Serving.{tends_entered, tends_away, stalls_away, serves_stall, tends_shown}
-use Rattle.fault.proofs.Settled.{none_same}
-use Rattle.fault.proofs.AccessSteps.{files_read, counts_then, counts_calm}
-use Rattle.fault.proofs.Wanted.{shows_file}
 use Rattle.fault.proofs.granting.grant_read.Goals as goal
 
 pub regrant-requires : goal.regrant-requires
@@ -29,8 +21,8 @@ frame_number-requires g c =
     let is = ap frame_of c.requires.was in
     let some : entry old c.args.spot.now.pid c.args.spot.now.page ≢ 0 = λ none. c.if-to_u64-ne0.true (c.to_u64.ensures ∙ c.requires.was ∙ none) in
     let low = used_inside old.frames (frame_of (entry old c.args.spot.now.pid c.args.spot.now.page)) c.args.core.now.sound
-    (resident_used old c.args.spot.now.pid c.args.spot.now.page c.args.attr c.args.core.now.sound c.requires.may.1.spot.linked.fit
-    (mapped_page old c.args.spot.now.pid c.args.spot.now.page c.args.attr c.requires.may.1.spot.linked.fit.granting c.requires.may.1.allowed.mapped) c.requires.may.1.allowed.mapped some c.requires.here) in
+    (resident_used old c.args.spot.now.pid c.args.spot.now.page c.args.attr.now c.args.core.now.sound c.requires.may.1.spot.linked.fit
+    (mapped_page old c.args.spot.now.pid c.args.spot.now.page c.args.attr.now c.requires.may.1.spot.linked.fit.granting c.requires.may.1.allowed.mapped) c.requires.may.1.allowed.mapped some c.requires.here) in
     let most = c.args.core.now.sound.most in
     omega (arith, is, low, most)
 
@@ -44,98 +36,35 @@ show_zero-requires g c =
     }
 
 pub cached-requires : goal.cached-requires
-cached-requires g c =
-    record {
-      fit = c.requires.may.1.spot.linked.fit;
-      store = c.requires.may.1.store;
-      swap = c.requires.may.1.swap;
-      inside = page_inside (picture_of c.args.core.now) c.args.spot.now.pid c.args.spot.now.page c.args.attr c.in-Some.stored c.requires.may.1.spot.linked c.requires.may.1.allowed.mapped (sym c.stands_on.ensures ∙ c.in-Some.is) c.requires.may.1.allowed.inside;
-    }
+cached-requires g c = may_bring c.requires.may.1 (sym c.stands_on.ensures ∙ c.in-Some.is)
 
 pub show_cached-requires-clause-spot : goal.show_cached-requires-clause-spot
-show_cached-requires-clause-spot g c =
-    let done = c.in_ok-frame-in-Some.ensures.pages_in in
-    stands_kept (picture_of c.args.core.now) (picture_of c.cached.new.core) c.args.spot.now c.requires.may.1.spot done.proceeds.fit done.proceeds.spaces done.proceeds.tables done.rows
+show_cached-requires-clause-spot g c = stands_brought c.requires.may.1 c.in_ok-frame-in-Some.ensures.pages_in
 
 pub show_cached-requires-clause-behind : goal.show_cached-requires-clause-behind
 show_cached-requires-clause-behind g c =
-    behind_of (picture_of c.cached.new.core) c.args.attr.backing c.in-Some.stored c.in_ok-frame-in-Some.frame.0 (sym c.stands_on.ensures ∙ c.in-Some.is) c.in_ok-frame-in-Some.ensures.pages_in.placed
+    behind_of (picture_of c.cached.new.core) c.args.attr.now.backing c.in-Some.stored c.in_ok-frame-in-Some.frame.0 (sym c.stands_on.ensures ∙ c.in-Some.is) c.in_ok-frame-in-Some.ensures.pages_in.placed
 
 pub show_cached-requires-clause-inside : goal.show_cached-requires-clause-inside
-show_cached-requires-clause-inside g c =
-    let done = c.in_ok-frame-in-Some.ensures.pages_in in
-    (open_still (picture_of c.args.core.now) (picture_of c.cached.new.core) c.args.spot.now.pid c.args.spot.now.page c.requires.may.0 c.args.attr done.proceeds.spaces.at
-    (files_read g.D.SectorDisk c.args.core.now.store c.cached.new.core.store done.proceeds.reads) c.requires.may.1.allowed).inside
+show_cached-requires-clause-inside g c = (open_brought c.requires.may.1 c.in_ok-frame-in-Some.ensures.pages_in).inside
 
 pub show_cached-requires-clause-none : goal.show_cached-requires-clause-none
 show_cached-requires-clause-none g c =
-    let done = c.in_ok-frame-in-Some.ensures.pages_in in
-    none_same (picture_of c.args.core.now) (picture_of c.cached.new.core) c.args.spot.now.pid c.args.spot.now.page c.args.attr c.requires.may.1.allowed.mapped
-    (done.proceeds.spaces.at c.args.spot.now.pid c.args.spot.now.page ∙ c.requires.may.1.allowed.mapped) (done.keeps.views c.args.spot.now.pid c.args.spot.now.page)
-    (seat_zero _ (sym c.requires.was ∙ sym c.to_u64.ensures ∙ c.if-to_u64-ne0.false))
+    none_brought c.requires.may.1 c.in_ok-frame-in-Some.ensures.pages_in (seat_zero _ (sym c.requires.was ∙ sym c.to_u64.ensures ∙ c.if-to_u64-ne0.false))
 
 pub returns-then-to_u64-ne0 : goal.returns-then-to_u64-ne0
 returns-then-to_u64-ne0 g c access reads lets =
-    let pid = c.args.spot.now.pid in
-    let page = c.args.spot.now.page in
-    let before = c.args.core.now in
-    let after = c.regrant.new.core in
-    let old = picture_of before in
-    let new = picture_of after in
-    let mapped = c.requires.may.1.allowed.mapped in
-    let enters = c.regrant.ensures.enters in
-    let files = c.regrant.ensures.files in
-    let frame = frame_of (entry old pid page) in
-    let now = enters.spaces.at pid page ∙ mapped in
-    let P : ℕ → Type 0 = λ x. Serves g.D.SectorDisk g.E.SectorDisk before after pid page c.args.attr access (Ok (record { 0 = x })) in
-    subst P (sym (c.frame_number.ensures ∙ ap frame_of c.requires.was))
-    (record {
-      tends = tends_entered g.D.SectorDisk g.E.SectorDisk before after pid page access c.requires.may.1.store c.requires.may.1.swap enters files;
-      entered = read_entered old new pid page c.args.attr access frame _ _ _ enters.fit after.sound mapped now (record { views = enters.views; touched = files.touched }) c.regrant.ensures.entry reads
-          lets;
-      ready = λ trusted. read_ready old new pid page c.args.attr access frame _ _ _ enters.fit after.sound mapped now (record { views = enters.views; touched = files.touched }) c.regrant.ensures.entry reads
-          lets;
-      counts = counts_calm g.D.SectorDisk g.E.SectorDisk before after pid page enters.calm;
-      stalled = tt;
-    })
+    let P : ℕ → Type 0 = λ x. Serves g.D.SectorDisk g.E.SectorDisk c.args.core.now c.regrant.new.core c.args.spot.now.pid c.args.spot.now.page c.args.attr.now access (Ok (record { 0 = x })) in
+    subst P (sym (c.frame_number.ensures ∙ ap frame_of c.requires.was)) (serves_entered c.requires.may.1 c.regrant.ensures access reads lets)
 
 pub returns-in-None : goal.returns-in-None
-returns-in-None g c access reads lets =
-    let pid = c.args.spot.now.pid in
-    let page = c.args.spot.now.page in
-    let before = c.args.core.now in
-    let after = c.show_zero.new.core in
-    let old = picture_of before in
-    let new = picture_of after in
-    let mapped = c.requires.may.1.allowed.mapped in
-    let enters = c.show_zero.ensures.enters in
-    let files = c.show_zero.ensures.files in
-    let now = enters.spaces.at pid page ∙ mapped in
-    record {
-      tends = tends_entered g.D.SectorDisk g.E.SectorDisk before after pid page access c.requires.may.1.store c.requires.may.1.swap enters files;
-      entered = read_entered old new pid page c.args.attr access 0 _ _ _ enters.fit after.sound mapped now (record { views = enters.views; touched = files.touched }) c.show_zero.ensures.entry reads
-          lets;
-      ready = λ trusted. read_ready old new pid page c.args.attr access 0 _ _ _ enters.fit after.sound mapped now (record { views = enters.views; touched = files.touched }) c.show_zero.ensures.entry reads
-          lets;
-      counts = counts_calm g.D.SectorDisk g.E.SectorDisk before after pid page enters.calm;
-      stalled = tt;
-    }
+returns-in-None g c access reads lets = serves_entered c.requires.may.1 c.show_zero.ensures access reads lets
 
 pub returns-in_err-frame-in-Some : goal.returns-in_err-frame-in-Some
 returns-in_err-frame-in-Some g c access reads lets =
-    let pid = c.args.spot.now.pid in
-    let page = c.args.spot.now.page in
-    let before = c.args.core.now in
-    let after = c.cached.new.core in
-    let stored = c.in-Some.stored in
-    let none = seat_zero _ (sym c.requires.was ∙ sym c.to_u64.ensures ∙ c.if-to_u64-ne0.false) in
-    let shows = shows_file (picture_of before) pid page c.args.attr stored c.requires.may.1.allowed.mapped (sym c.stands_on.ensures ∙ c.in-Some.is) none in
-    let fit = c.requires.may.1.spot.linked.fit in
-    let stall = c.in_err-frame-in-Some.field-0.0 in
+    let shows = shows_at c.requires.may.1 (sym c.stands_on.ensures ∙ c.in-Some.is) (seat_zero _ (sym c.requires.was ∙ sym c.to_u64.ensures ∙ c.if-to_u64-ne0.false)) in
     let done = c.in_err-frame-in-Some.ensures in
-    serves_stall g.D.SectorDisk g.E.SectorDisk before after pid page c.args.attr access c.from_residual.result stall c.from_residual.ensures.1
-    (tends_away g.D.SectorDisk g.E.SectorDisk before after pid page access stored shows fit stall done.pages_in done.idle)
-    (stalls_away g.D.SectorDisk g.E.SectorDisk before after pid page access stored shows fit stall done.pages_in done.idle)
+    serves_away c.requires.may.1 shows c.in_err-frame-in-Some.field-0.0 done.pages_in done.idle access c.from_residual.result c.from_residual.ensures.1
 
 pub returns-in_ok-frame-in-Some : goal.returns-in_ok-frame-in-Some
 returns-in_ok-frame-in-Some g c access reads lets =
@@ -149,8 +78,7 @@ returns-in_ok-frame-in-Some g c access reads lets =
     let new = picture_of after in
     let stored = c.in-Some.stored in
     let mapped = c.requires.may.1.allowed.mapped in
-    let none = seat_zero _ (sym c.requires.was ∙ sym c.to_u64.ensures ∙ c.if-to_u64-ne0.false) in
-    let shows = shows_file old pid page c.args.attr stored mapped (sym c.stands_on.ensures ∙ c.in-Some.is) none in
+    let shows = shows_at c.requires.may.1 (sym c.stands_on.ensures ∙ c.in-Some.is) (seat_zero _ (sym c.requires.was ∙ sym c.to_u64.ensures ∙ c.if-to_u64-ne0.false)) in
     let idle = c.in_ok-frame-in-Some.ensures.idle in
     let first = c.in_ok-frame-in-Some.ensures.pages_in in
     let enters = c.show_cached.ensures.enters in
@@ -160,8 +88,8 @@ returns-in_ok-frame-in-Some g c access reads lets =
     let seen = seen_then old mid new first.keeps (record { views = enters.views; touched = files.touched }) in
     record {
       tends = tends_shown g.D.SectorDisk g.E.SectorDisk before between pid page access stored shows c.requires.may.1.spot.linked.fit after _ first (λ n at. (idle n at).0) enters files.held files.files;
-      entered = read_entered old new pid page c.args.attr access frame _ _ _ enters.fit after.sound mapped now seen c.show_cached.ensures.entry reads lets;
-      ready = λ trusted. read_ready old new pid page c.args.attr access frame _ _ _ enters.fit after.sound mapped now seen c.show_cached.ensures.entry reads lets;
+      entered = read_entered old new pid page c.args.attr.now access frame _ _ _ enters.fit after.sound mapped now seen c.show_cached.ensures.entry reads lets;
+      ready = λ trusted. read_ready old new pid page c.args.attr.now access frame _ _ _ enters.fit after.sound mapped now seen c.show_cached.ensures.entry reads lets;
       counts = counts_then g.D.SectorDisk g.E.SectorDisk before between after first.cause (counts_calm g.D.SectorDisk g.E.SectorDisk between after pid page enters.calm);
       stalled = tt;
     }

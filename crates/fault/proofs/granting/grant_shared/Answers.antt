@@ -2,60 +2,36 @@ use Rattle.std.proofs.Common.{false, inl, ap, ◌∙◌}
 use Rattle.vm_types.specs.declared.access.Access.TheVariants.{Store}
 use Rattle.swap.specs.Slots.{slots_of}
 use Rattle.residency.specs.Picture.{picture_of}
-use Rattle.fault.proofs.Forms.{mapped_page, shared_none}
-use Rattle.fault.proofs.Staying.{stands_kept}
-use Rattle.fault.proofs.Linked.{open_still}
-use Rattle.fault.proofs.Opening.{reads_too}
-use Rattle.fault.proofs.Pages.{page_inside}
-use Rattle.fault.proofs.Serving.{tends_away, stalls_away, serves_stall, tends_shown}
-use Rattle.fault.proofs.Settled.{entered_store, entered_ready, ready_shared, touched_entry, touches_after}
-use Rattle.fault.proofs.AccessSteps.{files_read, held_marked, counts_then, counts_calm}
-use Rattle.fault.proofs.Wanted.{shows_file}
+use Rattle.fault.proofs.{Forms.{mapped_page, shared_none}, Opening.{reads_too}, Served.{may_bring, shows_at, serves_away, stands_brought, open_brought}, Serving.{tends_shown}}
+use Rattle.fault.proofs.{Settled.{entered_store, entered_ready, ready_shared, touched_entry, touches_after}, AccessSteps.{held_marked, counts_then, counts_calm}}
 use Rattle.fault.proofs.granting.grant_shared.Goals as goal
 
 pub cached-requires : goal.cached-requires
-cached-requires g c =
-    record {
-      fit = c.requires.may.spot.linked.fit;
-      store = c.requires.may.store;
-      swap = c.requires.may.swap;
-      inside = page_inside (picture_of c.args.core.now) c.args.spot.now.pid c.args.spot.now.page c.args.attr c.args.stored c.requires.may.spot.linked c.requires.may.allowed.mapped c.requires.stands c.requires.may.allowed.inside;
-    }
+cached-requires g c = may_bring c.requires.may c.requires.stands
 
 pub touch-requires-clause-spot : goal.touch-requires-clause-spot
-touch-requires-clause-spot g c =
-    let done = c.in_ok-frame.ensures.pages_in in
-    stands_kept (picture_of c.args.core.now) (picture_of c.cached.new.core) c.args.spot.now c.requires.may.spot done.proceeds.fit done.proceeds.spaces done.proceeds.tables done.rows
+touch-requires-clause-spot g c = stands_brought c.requires.may c.in_ok-frame.ensures.pages_in
 
 pub touch-requires-clause-allowed : goal.touch-requires-clause-allowed
-touch-requires-clause-allowed g c =
-    let done = c.in_ok-frame.ensures.pages_in in
-    open_still (picture_of c.args.core.now) (picture_of c.cached.new.core) c.args.spot.now.pid c.args.spot.now.page Store c.args.attr done.proceeds.spaces.at
-    (files_read g.D.SectorDisk c.args.core.now.store c.cached.new.core.store done.proceeds.reads) c.requires.may.allowed
+touch-requires-clause-allowed g c = open_brought c.requires.may c.in_ok-frame.ensures.pages_in
 
 pub returns-in_err-frame : goal.returns-in_err-frame
 returns-in_err-frame g c =
+    let granting = c.requires.may.spot.linked.fit.granting in
+    let mapped = c.requires.may.allowed.mapped in
     let pid = c.args.spot.now.pid in
     let page = c.args.spot.now.page in
-    let before = c.args.core.now in
-    let after = c.cached.new.core in
-    let old = picture_of before in
-    let fit = c.requires.may.spot.linked.fit in
-    let mapped = c.requires.may.allowed.mapped in
-    let none = shared_none old pid page c.args.attr fit.granting mapped (mapped_page old pid page c.args.attr fit.granting mapped) c.requires.shared in
-    let shows = shows_file old pid page c.args.attr c.args.stored mapped c.requires.stands none in
-    let stall = c.in_err-frame.field-0.0 in
+    let old = picture_of c.args.core.now in
+    let none = shared_none old pid page c.args.attr.now granting mapped (mapped_page old pid page c.args.attr.now granting mapped) c.requires.shared in
     let done = c.in_err-frame.ensures in
-    serves_stall g.D.SectorDisk g.E.SectorDisk before after pid page c.args.attr Store c.from_residual.result stall c.from_residual.ensures.1
-    (tends_away g.D.SectorDisk g.E.SectorDisk before after pid page Store c.args.stored shows fit stall done.pages_in done.idle)
-    (stalls_away g.D.SectorDisk g.E.SectorDisk before after pid page Store c.args.stored shows fit stall done.pages_in done.idle)
+    serves_away c.requires.may (shows_at c.requires.may c.requires.stands none) c.in_err-frame.field-0.0 done.pages_in done.idle Store c.from_residual.result c.from_residual.ensures.1
 
 pub returns : goal.returns
 returns g c =
     let pid = c.args.spot.now.pid in
     let page = c.args.spot.now.page in
-    let attr = c.args.attr in
-    let stored = c.args.stored in
+    let attr = c.args.attr.now in
+    let stored = c.args.stored.now in
     let before = c.args.core.now in
     let between = c.cached.new.core in
     let after = c.touch.new.core in
@@ -65,7 +41,7 @@ returns g c =
     let fit = c.requires.may.spot.linked.fit in
     let mapped = c.requires.may.allowed.mapped in
     let none = shared_none old pid page attr fit.granting mapped (mapped_page old pid page attr fit.granting mapped) c.requires.shared in
-    let shows = shows_file old pid page attr stored mapped c.requires.stands none in
+    let shows = shows_at c.requires.may c.requires.stands none in
     let idle = c.in_ok-frame.ensures.idle in
     let first = c.in_ok-frame.ensures.pages_in in
     let enters = c.touch.ensures.enters in

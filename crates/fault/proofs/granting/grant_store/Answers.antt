@@ -1,8 +1,6 @@
-use Rattle.std.proofs.Common.{refl, sym, ap, ◌∙◌, subst}
-use Rattle.std.proofs.lemmas.Bool.{false≢true}
+use Rattle.std.proofs.{Common.{refl, sym, ap, ◌∙◌, subst}, lemmas.Bool.{false≢true}}
 use Rattle.vm_types.specs.declared.region.Backing.{Backing}
-use Rattle.residency.specs.Picture.{picture_of, is_private}
-use Rattle.residency.specs.Parts.{IsBehind}
+use Rattle.residency.specs.{Picture.{picture_of, is_private}, Parts.{IsBehind}}
 use Rattle.fault.proofs.granting.grant_store.Goals as goal
 
 pub grant_own-requires-clause-in_memory : goal.grant_own-requires-clause-in_memory

@@ -3,17 +3,10 @@ use Rattle.std.specs.Prelude.{IsSome}
 use Rattle.vm_types.specs.declared.region.Attr.{Attr}
 use Rattle.disk_model.specs.Moments.{Nothing}
 use Rattle.frames.specs.FrameTable.{IsFull}
-use Rattle.residency.specs.Picture.{picture_of}
-use Rattle.residency.specs.Ways.{IsWhole}
-use Rattle.fault.proofs.Forms.{mapped_page}
-use Rattle.fault.proofs.TablesGiven.{links_on}
+use Rattle.residency.specs.{Picture.{picture_of}, Ways.{IsWhole}}
+use Rattle.fault.proofs.{Forms.{mapped_page}, TablesGiven.{links_on}, AccessAsking.{asks_less, asks_back, tables_out}, Linked.{open_still, calm_back, read_back, away_back, ready_back, brings_back, stalled_back, stalled_tables}}
+use Rattle.fault.proofs.{Serving.{serves_stall}, AccessSlotted.{slotted_none, slotted_back}, AccessSteps.{proceeds_moves, proceeds_after, brings_none, on_ok_then, counts_then}, Wanted.{root_live, root_lives, whole_or}}
 use Rattle.fault.specs.Wants.{ForTable, LacksTable, ShowsFile}
-use Rattle.fault.proofs.AccessAsking.{asks_less, asks_back, tables_out}
-use Rattle.fault.proofs.Linked.{open_still, calm_back, read_back, away_back, ready_back, brings_back, stalled_back, stalled_tables}
-use Rattle.fault.proofs.Serving.{serves_stall}
-use Rattle.fault.proofs.AccessSlotted.{slotted_none, slotted_back}
-use Rattle.fault.proofs.AccessSteps.{proceeds_moves, proceeds_after, brings_none, on_ok_then, counts_then}
-use Rattle.fault.proofs.Wanted.{root_live, root_lives, whole_or}
 use Rattle.fault.proofs.granting.grant_unlinked.Goals as goal
 
 pub link_tables-requires-clause-live : goal.link_tables-requires-clause-live
@@ -43,7 +36,7 @@ grant_linked-requires g c =
         };
         store = search rules;
         swap = done.moves.swap;
-        allowed = open_still (picture_of c.args.core.now) (picture_of c.link_tables.new.core) c.args.pid c.args.page c.args.access c.args.attr done.pages.at done.pages.files.files c.requires.may.allowed;
+        allowed = open_still (picture_of c.args.core.now) (picture_of c.link_tables.new.core) c.args.pid c.args.page c.args.access c.args.attr.now done.pages.at done.pages.files.files c.requires.may.allowed;
       };
     }
 
@@ -61,7 +54,7 @@ returns-in_err-table g c =
       | inl whole ↦ absurd (done.idle whole).1
       | inr lacks ↦ lacks
     ]) in
-    serves_stall g.D.SectorDisk g.E.SectorDisk before after pid page c.args.attr c.args.access c.from_residual.result c.in_err-table.field-0.0 c.from_residual.ensures.1
+    serves_stall g.D.SectorDisk g.E.SectorDisk before after pid page c.args.attr.now c.args.access c.from_residual.result c.in_err-table.field-0.0 c.from_residual.ensures.1
     (record {
       proceeds = proceeds_moves g.D.SectorDisk g.E.SectorDisk before after c.requires.may.store done.moves;
       brings = λ kept. brings_none g.D.SectorDisk before.store.disk after.store.disk (ShowsFile old pid page) old new done.pages.files.held done.pages.files.files;
@@ -81,7 +74,7 @@ pub returns : goal.returns
 returns g c =
     let pid = c.args.pid in
     let page = c.args.page in
-    let attr = c.args.attr in
+    let attr = c.args.attr.now in
     let access = c.args.access in
     let before = c.args.core.now in
     let between = c.link_tables.new.core in

@@ -1,16 +1,10 @@
 use Rattle.std.proofs.Common.{◌≡◌, inl, inr, None, sym, ◌∙◌, rules}
 use Rattle.disk_model.specs.Moments.{Nothing}
-use Rattle.frames.specs.declared.role.Role.TheVariants.{Free, Private}
-use Rattle.frames.specs.FrameTable.{IsFull}
+use Rattle.frames.specs.{declared.role.Role.TheVariants.{Free, Private}, FrameTable.{IsFull}}
 use Rattle.regions.proofs.ResultLemmas.{on_err}
-use Rattle.residency.specs.Picture.{Picture, picture_of}
-use Rattle.residency.specs.Ways.{IsWhole}
-use Rattle.fault.proofs.Steps.{same_with, moves_freed, bare_freed}
-use Rattle.fault.proofs.Slotted.{slotted_frees}
-use Rattle.fault.proofs.TablesLinked.{pages_linked, bare_linked, slotted_linked, tables_linked, spaces_linked, room_linked, fit_after, no_copy_linked, missing_taken}
-use Rattle.fault.proofs.TablesGiven.{still_wanted, links_none, gives_linked, links_linked}
-use Rattle.fault.proofs.Asking.{no_new_frees, no_new_linked, asks_slots_if, asks_swap}
-use Rattle.fault.proofs.NoTables.{full_stays}
+use Rattle.residency.specs.{Picture.{Picture, picture_of}, Ways.{IsWhole}}
+use Rattle.fault.proofs.{Steps.{same_with, moves_freed, bare_freed}, Slotted.{slotted_frees}, TablesLinked.{pages_linked, bare_linked, slotted_linked, tables_linked, spaces_linked, room_linked, fit_after, no_copy_linked, missing_taken}}
+use Rattle.fault.proofs.{TablesGiven.{still_wanted, links_none, gives_linked, links_linked}, Asking.{no_new_frees, no_new_linked, asks_slots_if, asks_swap}, NoTables.{full_stays}}
 use Rattle.fault.proofs.linking.link_one.Goals as goal
 
 pub link_table-requires-clause-root : goal.link_table-requires-clause-root
@@ -29,53 +23,45 @@ returns-clause-links g c =
     let old : Picture g.M.Levels.mode = picture_of c.args.core.now in
     let taken : Picture g.M.Levels.mode = picture_of c.take_table.new.self in
     let new : Picture g.M.Levels.mode = record taken { frames = c.link_table.new.memory } in
-    let took = c.in_ok-table.ensures.taken in
     let done = c.in_ok-table.ensures in
+    let took = done.taken in
+    let lives = c.requires.lives in
     let links = c.link_table.ensures.links in
     let beside = same_with taken c.link_table.new.memory in
-    let n = c.in_ok-table.table.0 in
-    let gives = gives_linked old taken new c.args.way.now.pid c.args.way.now.root.0 c.args.way.now.page n took c.requires.lives links beside done.gives in
+    let gives = gives_linked took lives links beside done.gives in
     record {
       takes = record {
         moves = record {
-          fit = fit_after old taken new c.args.way.now.pid c.args.way.now.root.0 c.args.way.now.page n took c.requires.lives links beside c.requires.mapped;
+          fit = fit_after took lives links beside c.requires.mapped;
           swap = done.swap;
-          spaces = spaces_linked old taken new c.args.way.now.pid c.args.way.now.root.0 c.args.way.now.page n took c.requires.lives links beside;
-          tables = tables_linked old taken new c.args.way.now.pid c.args.way.now.root.0 c.args.way.now.page n took c.requires.lives links beside;
-          room = room_linked old taken new c.args.way.now.pid c.args.way.now.root.0 c.args.way.now.page n took c.requires.lives links beside;
+          spaces = spaces_linked took lives links beside;
+          tables = tables_linked took lives links beside;
+          room = room_linked took lives links beside;
           store = done.rest.store;
           device = done.device;
         };
-        pages = pages_linked (picture_of c.args.core.now) taken (record taken { frames = c.link_table.new.memory }) c.args.way.now.pid c.args.way.now.root.0 c.args.way.now.page c.in_ok-table.table.0 c.in_ok-table.ensures.taken c.requires.lives
-            c.link_table.ensures.links (same_with taken c.link_table.new.memory);
-        bare = bare_linked (picture_of c.args.core.now) taken (record taken { frames = c.link_table.new.memory }) c.args.way.now.pid c.args.way.now.root.0 c.args.way.now.page c.in_ok-table.table.0 c.in_ok-table.ensures.taken c.requires.lives
-            c.link_table.ensures.links (same_with taken c.link_table.new.memory);
+        pages = pages_linked took lives links beside;
+        bare = bare_linked took lives links beside;
         gives = gives;
         tried = search rules;
-        no_copy = no_copy_linked (picture_of c.args.core.now) taken (record taken { frames = c.link_table.new.memory }) c.args.way.now.pid c.args.way.now.root.0 c.args.way.now.page c.in_ok-table.table.0 c.in_ok-table.ensures.taken c.requires.lives
-            c.link_table.ensures.links (same_with taken c.link_table.new.memory);
+        no_copy = no_copy_linked took lives links beside;
         asks = asks_slots_if g.E.SectorDisk (IsFull c.link_table.new.memory) c.args.core.now c.take_table.new.self None Nothing (full_stays old new None gives)
             (asks_swap g.E.SectorDisk c.args.core.now c.take_table.new.self None Nothing done.asked);
-        asks_later = no_new_linked (picture_of c.args.core.now) taken c.in_ok-table.table.0 c.requires.fit c.in_ok-table.ensures.taken (record taken { frames = c.link_table.new.memory })
-            c.link_table.ensures.links.kept (same_with taken c.link_table.new.memory);
+        asks_later = no_new_linked old taken c.in_ok-table.table.0 c.requires.fit took new links.kept beside;
         full = search rules;
         refuses = search rules;
         short = search rules;
         cause = search rules;
       };
-      tables = links_linked (picture_of c.args.core.now) taken (record taken { frames = c.link_table.new.memory }) c.args.way.now.pid c.args.way.now.root.0 c.args.way.now.page c.in_ok-table.table.0 c.in_ok-table.ensures.taken c.requires.lives
-          c.link_table.ensures.links (same_with taken c.link_table.new.memory) c.in_ok-table.ensures.gives c.in_ok-table.ensures.only;
-      slotted = slotted_linked (picture_of c.args.core.now) taken (record taken { frames = c.link_table.new.memory }) c.args.way.now.pid c.args.way.now.root.0 c.args.way.now.page c.in_ok-table.table.0 c.in_ok-table.ensures.taken c.requires.lives
-          c.link_table.ensures.links (same_with taken c.link_table.new.memory);
+      tables = links_linked took lives links beside done.gives done.only;
+      slotted = slotted_linked took lives links beside;
       wanted = search rules;
     }
 
 pub returns-clause-lowered : goal.returns-clause-lowered
 returns-clause-lowered g c =
-    let taken : Picture g.M.Levels.mode = picture_of c.take_table.new.self in
-    c.link_table.ensures.links.lowered
-    ∙ missing_taken (picture_of c.args.core.now) taken (record taken { frames = c.link_table.new.memory }) c.args.way.now.pid c.args.way.now.root.0 c.args.way.now.page c.in_ok-table.table.0 c.in_ok-table.ensures.taken c.requires.lives
-    c.link_table.ensures.links (same_with taken c.link_table.new.memory)
+    let links = c.link_table.ensures.links in
+    links.lowered ∙ missing_taken c.in_ok-table.ensures.taken c.requires.lives links (same_with (picture_of c.take_table.new.self) c.link_table.new.memory)
 
 pub returns-in_err-table-clause-links : goal.returns-in_err-table-clause-links
 returns-in_err-table-clause-links g c =
@@ -86,23 +72,23 @@ returns-in_err-table-clause-links g c =
       takes = record {
         moves = moves_freed g.E.SectorDisk c.args.core.now c.take_table.new.self _ done.fit done.swap done.frees done.rest done.device;
         pages = search rules;
-        bare = bare_freed (picture_of c.args.core.now) (picture_of c.take_table.new.self) _ c.in_err-table.ensures.frees;
+        bare = bare_freed old new _ done.frees;
         gives = search rules;
         tried = search rules;
-        no_copy = λ n is. elim (c.in_err-table.ensures.frees.roles n) [
+        no_copy = λ n is. elim (done.frees.roles n) [
           | inl same ↦ sym same ∙ is
           | inr freed ↦ (let bad : Free ≡ Private = sym freed.0 ∙ is in (cc))
         ];
         asks = asks_slots_if g.E.SectorDisk (IsFull c.take_table.new.self.frames) c.args.core.now c.take_table.new.self None Nothing (λ full. done.full)
             (asks_swap g.E.SectorDisk c.args.core.now c.take_table.new.self None Nothing done.asked);
-        asks_later = no_new_frees (picture_of c.args.core.now) (picture_of c.take_table.new.self) None c.in_err-table.ensures.frees c.requires.fit;
+        asks_later = no_new_frees old new None done.frees c.requires.fit;
         full = search rules;
         refuses = search rules;
         short = search rules;
         cause = search rules;
       };
-      tables = links_none (picture_of c.args.core.now) (picture_of c.take_table.new.self) c.args.way.now.pid c.args.way.now.page done.frees.count done.still;
-      slotted = slotted_frees (λ p. ⊥) (λ q p. ⊥) (picture_of c.args.core.now) (picture_of c.take_table.new.self) _ c.in_err-table.ensures.frees;
+      tables = links_none old new c.args.way.now.pid c.args.way.now.page done.frees.count done.still;
+      slotted = slotted_frees (λ p. ⊥) (λ q p. ⊥) old new _ done.frees;
       wanted = on_err c.from_residual.result (IsWhole new c.args.way.now.pid c.args.way.now.page → ⊥)
-          (still_wanted old new c.args.way.now.pid c.args.way.now.root.0 c.args.way.now.page c.in_err-table.ensures.frees c.requires.lives c.requires.missing);
+          (still_wanted old new c.args.way.now.pid c.args.way.now.root.0 c.args.way.now.page done.frees c.requires.lives c.requires.missing);
     }

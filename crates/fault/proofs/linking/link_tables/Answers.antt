@@ -1,14 +1,10 @@
-use Rattle.vm_types.specs.Limits.{top_level}
+use Rattle.vm_types.specs.{Limits.{top_level}, declared.region.Attr.{Attr}}
 use Rattle.page_tables.specs.Tree.{missing_of}
 use Rattle.std.proofs.Common.{◌≡◌, ℕ, inl, Option, Some, refl, sym, ◌∙◌, subst, arith, rules}
 use Rattle.std.specs.Prelude.{IsSome}
-use Rattle.vm_types.specs.declared.region.Attr.{Attr}
 use Rattle.regions.proofs.ResultLemmas.{on_err}
-use Rattle.residency.specs.Picture.{picture_of}
-use Rattle.residency.specs.Ways.{IsWhole}
-use Rattle.fault.proofs.Slotted.{slotted_then, slotted_same}
-use Rattle.fault.proofs.TablesGiven.{links_then}
-use Rattle.fault.proofs.WaySteps.{takes_none, takes_then, takes_done, takes_stall, nothing_on, nothing_if}
+use Rattle.residency.specs.{Picture.{picture_of}, Ways.{IsWhole}}
+use Rattle.fault.proofs.{Slotted.{slotted_then, slotted_same}, TablesGiven.{links_then}, WaySteps.{takes_none, takes_then, takes_done, takes_stall, nothing_on, nothing_if}}
 use Rattle.fault.proofs.linking.link_tables.Goals as goal
 
 pub table_of-requires-clause-root : goal.table_of-requires-clause-root

@@ -2,10 +2,8 @@ use Rattle.std.proofs.Common.{◌≢◌, Some, refl, sym, ap, ◌∙◌, subst, 
 use Rattle.disk_model.specs.Moments.{Nothing}
 use Rattle.frames.specs.FrameTable.{FrameTable, IsFrame, bytes_of, role_of, count_of}
 use Rattle.frames.proofs.FrameLemmas.{with_bytes-others, with_bytes-same}
-use Rattle.residency.specs.Picture.{Picture, picture_of}
-use Rattle.residency.specs.Steps.{ChangesFrame}
-use Rattle.fault.proofs.Asking.{asks_swap}
-use Rattle.fault.proofs.SwapSteps.{own_written}
+use Rattle.residency.specs.{Picture.{Picture, picture_of}, Steps.{ChangesFrame}}
+use Rattle.fault.proofs.{Asking.{asks_swap}, SwapSteps.{own_written, changes_further}}
 use Rattle.fault.proofs.owning.take_copy.Goals as goal
 
 pub fill-requires-clause-source : goal.fill-requires-clause-source
@@ -32,17 +30,7 @@ returns g c =
         found = found;
         fit = took.fit;
         frees = took.frees;
-        changes = subst P (sym c.fill.ensures) (record {
-          slots = took.own.slots;
-          frames = own_written found.frames taken.frames n w took.own.takes;
-          was_free = took.own.takes.was_free;
-          others = took.own.others;
-          root = took.own.root;
-          at = took.own.at;
-          place = took.own.place;
-          touched = took.own.touched;
-          files = took.own.files;
-        });
+        changes = subst P (sym c.fill.ensures) (changes_further took.own taken.slots refl _ (own_written found.frames taken.frames n w took.own.takes));
         inside = (let Q : FrameTable → Type 0 = λ t. IsFrame t n in let same = (with_bytes-others taken.frames n w).frames in subst Q (sym c.fill.ensures) (omega (arith, same, inside)));
         role = ap (λ t. role_of t n) c.fill.ensures ∙ took.own.takes.kind_set;
         count = ap (λ t. count_of t n) c.fill.ensures ∙ took.own.takes.counted;

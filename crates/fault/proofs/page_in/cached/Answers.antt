@@ -1,18 +1,13 @@
 use Rattle.std.proofs.Common.{Some, None, inl, inr, refl, rules, arith}
 use Rattle.residency.specs.Picture.{picture_of}
 use Rattle.fault.specs.Asking.{IsSectorOfPage, IsSectorOfStoredPage}
-use Rattle.fault.proofs.Asking.{no_new_same, asks_slots_same}
-use Rattle.fault.proofs.AskedIn.{store_same}
-use Rattle.fault.proofs.BroughtIn.{reads_none, brings_none}
-use Rattle.fault.proofs.NoTables.{no_table_none}
-use Rattle.fault.proofs.Slotted.{slotted_same}
-use Rattle.fault.proofs.Steps.{device_none}
+use Rattle.fault.proofs.{Asking.{no_new_same, asks_slots_same}, AskedIn.{store_same}, BroughtIn.{reads_none, brings_none}, NoTables.{no_table_none}, Slotted.{slotted_same}, Steps.{device_none}}
 use Rattle.fault.proofs.page_in.cached.Goals as goal
 
 pub returns-in-Frame-clause-pages_in : goal.returns-in-Frame-clause-pages_in
 returns-in-Frame-clause-pages_in g c =
     let core = c.args.core.now in
-    let page = c.args.page in
+    let page = c.args.page.now in
     record {
       placed = search rules;
       only = inr (λ n ne. refl);

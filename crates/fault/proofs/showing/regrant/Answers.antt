@@ -2,11 +2,9 @@ use Rattle.std.specs.Prelude.{is_some}
 use Rattle.std.proofs.Common.{ℕ, Bool, sym, ap, ◌∙◌, subst, arith}
 use Rattle.frames.specs.FrameTable.{IsFrame}
 use Rattle.sv39_walk.specs.Entry.{frame_of}
-use Rattle.residency.specs.Picture.{Picture, picture_of, entry, is_private}
-use Rattle.residency.specs.Parts.{IsBehind}
+use Rattle.residency.specs.{Picture.{Picture, picture_of, entry, is_private}, Parts.{IsBehind}}
 use Rattle.fault.specs.Leaves.{IsFullEntry}
-use Rattle.fault.proofs.Entering.{beside_around, full_entry_now, full_files, enters_set}
-use Rattle.fault.proofs.Forms.{mapped_page, used_inside, resident_used, resident_page, seat_kept}
+use Rattle.fault.proofs.{Entering.{shows_set}, Forms.{mapped_page, used_inside, resident_used, resident_page, seat_kept}}
 use Rattle.fault.proofs.showing.regrant.Goals as goal
 
 pub set_full-requires-clause-root : goal.set_full-requires-clause-root
@@ -19,13 +17,13 @@ set_full-requires-clause-frame g c =
           let is = c.frame_number.ensures ∙ ap frame_of c.number_at-was.ensures in
           let P : ℕ → Type 0 = λ x. IsFrame old.frames x in
           subst P (sym is) (used_inside old.frames (frame_of (entry old c.args.spot.now.pid c.args.spot.now.page)) c.args.core.now.sound
-          (resident_used old c.args.spot.now.pid c.args.spot.now.page c.args.attr c.args.core.now.sound c.requires.spot.linked.fit (mapped_page old c.args.spot.now.pid c.args.spot.now.page c.args.attr c.requires.spot.linked.fit.granting c.requires.attr)
+          (resident_used old c.args.spot.now.pid c.args.spot.now.page c.args.attr.now c.args.core.now.sound c.requires.spot.linked.fit (mapped_page old c.args.spot.now.pid c.args.spot.now.page c.args.attr.now c.requires.spot.linked.fit.granting c.requires.attr)
           c.requires.attr c.requires.resident c.requires.here)));
       behind = λ common.
           let old : Picture g.M.Levels.mode = picture_of c.args.core.now in
           let e = c.number_at-was.ensures in
-          let resident = resident_page old c.args.spot.now.pid c.args.spot.now.page c.args.attr c.requires.spot.linked.fit.granting (mapped_page old c.args.spot.now.pid c.args.spot.now.page c.args.attr c.requires.spot.linked.fit.granting c.requires.attr) c.requires.attr c.requires.resident c.requires.here in
-          let P : ℕ → Type 0 = λ x. IsBehind old c.args.attr.backing x in
+          let resident = resident_page old c.args.spot.now.pid c.args.spot.now.page c.args.attr.now c.requires.spot.linked.fit.granting (mapped_page old c.args.spot.now.pid c.args.spot.now.page c.args.attr.now c.requires.spot.linked.fit.granting c.requires.attr) c.requires.attr c.requires.resident c.requires.here in
+          let P : ℕ → Type 0 = λ x. IsBehind old c.args.attr.now.backing x in
           subst P (sym (c.frame_number.ensures ∙ ap frame_of e)) (resident.behind (sym (c.is_private.ensures ∙ ap is_private e) ∙ common));
     }
 
@@ -34,7 +32,7 @@ frame_number-requires g c =
     let old : Picture g.M.Levels.mode = picture_of c.args.core.now in
     let is = ap frame_of c.number_at-was.ensures in
     let low = used_inside old.frames (frame_of (entry old c.args.spot.now.pid c.args.spot.now.page)) c.args.core.now.sound
-    (resident_used old c.args.spot.now.pid c.args.spot.now.page c.args.attr c.args.core.now.sound c.requires.spot.linked.fit (mapped_page old c.args.spot.now.pid c.args.spot.now.page c.args.attr c.requires.spot.linked.fit.granting c.requires.attr)
+    (resident_used old c.args.spot.now.pid c.args.spot.now.page c.args.attr.now c.args.core.now.sound c.requires.spot.linked.fit (mapped_page old c.args.spot.now.pid c.args.spot.now.page c.args.attr.now c.requires.spot.linked.fit.granting c.requires.attr)
     c.requires.attr c.requires.resident c.requires.here) in
     let most = c.args.core.now.sound.most in
     omega (arith, is, low, most)
@@ -45,23 +43,20 @@ set_full-requires-clause-user g c = ((c.requires.spot.linked.fit.granting.user c
 pub returns : goal.returns
 returns g c =
     let old : Picture g.M.Levels.mode = picture_of c.args.core.now in
+    let pid = c.args.spot.now.pid in
+    let page = c.args.spot.now.page in
+    let a = c.args.attr.now in
+    let was = entry old pid page in
+    let granting = c.requires.spot.linked.fit.granting in
     let sets = c.set_full.ensures.sets in
-    let e = c.number_at-was.ensures in
-    let own = c.is_private.ensures ∙ ap is_private e in
-    let is = c.frame_number.ensures ∙ ap frame_of e in
-    let resident = resident_page old c.args.spot.now.pid c.args.spot.now.page c.args.attr c.requires.spot.linked.fit.granting (mapped_page old c.args.spot.now.pid c.args.spot.now.page c.args.attr c.requires.spot.linked.fit.granting c.requires.attr) c.requires.attr c.requires.resident c.requires.here in
-    let new : Picture g.M.Levels.mode = picture_of c.set_full.new.core in
-    let full = full_entry_now old new c.args.spot.now.pid c.args.spot.now.page c.args.spot.now.root.0 c.args.attr c.frame_number.result.0 c.is_private.result c.requires.spot.linked c.requires.spot.root c.requires.attr c.set_full.ensures.sets (beside_around c.args.core.now c.set_full.new.core c.set_full.ensures.rest) in
-    let now = entry new c.args.spot.now.pid c.args.spot.now.page in
-    let P : ℕ → Type 0 = λ x. IsFullEntry old c.args.attr x c.is_private.result now in
-    let Q : Bool → Type 0 = λ x. IsFullEntry old c.args.attr (frame_of (entry old c.args.spot.now.pid c.args.spot.now.page)) x now in
-    record {
-      enters = enters_set c.args.core.now c.set_full.new.core c.args.spot.now.pid c.args.spot.now.page c.args.spot.now.root.0 c.args.attr c.frame_number.result.0 c.is_private.result c.requires.spot.linked c.requires.spot.root c.requires.attr
-          sets c.set_full.ensures.rest c.set_full.ensures.not_refused
-          (seat_kept (entry old c.args.spot.now.pid c.args.spot.now.page) sets.0 c.args.attr c.frame_number.result.0 c.is_private.result _ _ sets.1 own (λ _. is) c.requires.here)
-          (λ p. resident.private (sym own ∙ p))
-          (λ common. let P : ℕ → Type 0 = λ x. IsBehind old c.args.attr.backing x in subst P (sym is) (resident.behind (sym own ∙ common))) resident.inside;
-      files = full_files (picture_of c.args.core.now) (picture_of c.set_full.new.core) c.args.spot.now.pid c.args.spot.now.page c.args.spot.now.root.0 c.args.attr c.frame_number.result.0 c.is_private.result c.requires.spot.linked
-          c.requires.spot.root c.requires.attr c.set_full.ensures.sets (beside_around c.args.core.now c.set_full.new.core c.set_full.ensures.rest);
-      entry = subst Q (c.is_private.ensures ∙ ap is_private e) (subst P (c.frame_number.ensures ∙ ap frame_of e) full);
-    }
+    let own = c.is_private.ensures ∙ ap is_private c.number_at-was.ensures in
+    let is = c.frame_number.ensures ∙ ap frame_of c.number_at-was.ensures in
+    let resident = resident_page old pid page a granting (mapped_page old pid page a granting c.requires.attr) c.requires.attr c.requires.resident c.requires.here in
+    let B : ℕ → Type 0 = λ x. IsBehind old a.backing x in
+    let shows = shows_set c.requires.spot c.requires.attr c.set_full.ensures
+    (seat_kept was sets.0 a c.frame_number.result.0 c.is_private.result _ _ sets.1 own (λ _. is) c.requires.here)
+    (λ p. resident.private (sym own ∙ p)) (λ common. subst B (sym is) (resident.behind (sym own ∙ common))) resident.inside in
+    let now = entry (picture_of c.set_full.new.core) pid page in
+    let P : ℕ → Type 0 = λ x. IsFullEntry old a x c.is_private.result now in
+    let Q : Bool → Type 0 = λ x. IsFullEntry old a (frame_of was) x now in
+    record { enters = shows.enters; files = shows.files; entry = subst Q own (subst P is shows.entry) }

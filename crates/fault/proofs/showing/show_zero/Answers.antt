@@ -1,13 +1,9 @@
 use Rattle.std.specs.Prelude.{is_some}
-use Rattle.std.proofs.Common.{false, refl, sym, ap, ◌∙◌, subst, arith}
-use Rattle.std.proofs.lemmas.Bool.{false≢true}
-use Rattle.vm_types.specs.declared.region.Backing.{Backing}
-use Rattle.vm_types.specs.Verdict.{is_past_end}
-use Rattle.residency.specs.Picture.{Picture, picture_of, entry}
-use Rattle.residency.specs.Parts.{IsBehind}
+use Rattle.std.proofs.{Common.{false, refl, sym, ap, ◌∙◌, subst, arith}, lemmas.Bool.{false≢true}}
+use Rattle.vm_types.specs.{declared.region.Backing.{Backing}, Verdict.{is_past_end}}
+use Rattle.residency.specs.{Picture.{Picture, picture_of, entry}, Parts.{IsBehind}}
 use Rattle.fault.specs.Leaves.{IsFullEntry}
-use Rattle.fault.proofs.Entering.{beside_around, full_entry_now, full_files, enters_set}
-use Rattle.fault.proofs.Forms.{seat_over_common, seat_zero}
+use Rattle.fault.proofs.{Entering.{shows_set}, Forms.{seat_over_common, seat_zero}}
 use Rattle.fault.proofs.showing.show_zero.Goals as goal
 
 pub set_full-requires-clause-root : goal.set_full-requires-clause-root
@@ -27,16 +23,9 @@ pub returns : goal.returns
 returns g c =
     let old : Picture g.M.Levels.mode = picture_of c.args.core.now in
     let sets = c.set_full.ensures.sets in
-    let new : Picture g.M.Levels.mode = picture_of c.set_full.new.core in
-    let full = full_entry_now old new c.args.spot.now.pid c.args.spot.now.page c.args.spot.now.root.0 c.args.attr 0 false c.requires.spot.linked c.requires.spot.root c.requires.attr c.set_full.ensures.sets (beside_around c.args.core.now c.set_full.new.core c.set_full.ensures.rest) in
-    let P : Backing → Type 0 = λ b. IsFullEntry old (record { prot = c.args.attr.prot; backing = b }) 0 false (entry new c.args.spot.now.pid c.args.spot.now.page) in
-    record {
-      enters = enters_set c.args.core.now c.set_full.new.core c.args.spot.now.pid c.args.spot.now.page c.args.spot.now.root.0 c.args.attr 0 false c.requires.spot.linked c.requires.spot.root c.requires.attr
-          sets c.set_full.ensures.rest c.set_full.ensures.not_refused
-          (seat_over_common sets.0 c.args.attr 0 _ _ sets.1 ∙ sym (seat_zero (entry old c.args.spot.now.pid c.args.spot.now.page) c.requires.none))
-          (λ own. absurd (false≢true own)) (λ _. let P : Backing → Type 0 = λ b. IsBehind old b 0 in subst P (sym c.requires.anonymous) refl)
-          (ap (λ b. is_past_end old.files b) c.requires.anonymous);
-      files = full_files (picture_of c.args.core.now) (picture_of c.set_full.new.core) c.args.spot.now.pid c.args.spot.now.page c.args.spot.now.root.0 c.args.attr 0 false c.requires.spot.linked
-          c.requires.spot.root c.requires.attr c.set_full.ensures.sets (beside_around c.args.core.now c.set_full.new.core c.set_full.ensures.rest);
-      entry = subst P c.requires.anonymous full;
-    }
+    let shows = shows_set c.requires.spot c.requires.attr c.set_full.ensures
+    (seat_over_common sets.0 c.args.attr.now 0 _ _ sets.1 ∙ sym (seat_zero (entry old c.args.spot.now.pid c.args.spot.now.page) c.requires.none))
+    (λ own. absurd (false≢true own)) (λ _. let P : Backing → Type 0 = λ b. IsBehind old b 0 in subst P (sym c.requires.anonymous) refl)
+    (ap (λ b. is_past_end old.files b) c.requires.anonymous) in
+    let P : Backing → Type 0 = λ b. IsFullEntry old (record { prot = c.args.attr.now.prot; backing = b }) 0 false (entry (picture_of c.set_full.new.core) c.args.spot.now.pid c.args.spot.now.page) in
+    record { enters = shows.enters; files = shows.files; entry = subst P c.requires.anonymous shows.entry }

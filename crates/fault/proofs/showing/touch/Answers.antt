@@ -1,19 +1,14 @@
-use Rattle.std.specs.Prelude.{is_some}
-use Rattle.std.proofs.Common.{◌≡◌, Bool, true, false, inl, inr, refl, sym, ap, ◌∙◌, subst}
-use Rattle.std.proofs.lemmas.Bool.{false≢true}
-use Rattle.std.specs.Prelude.{◌&&◌}
-use Rattle.vm_types.specs.declared.object.PageKey.{PageKey}
-use Rattle.vm_types.specs.Permission.{can_write}
+use Rattle.std.specs.Prelude.{is_some, ◌&&◌}
+use Rattle.std.proofs.{Common.{◌≡◌, Bool, true, false, inl, inr, refl, sym, ap, ◌∙◌, subst}, lemmas.Bool.{false≢true}}
+use Rattle.vm_types.specs.{declared.object.PageKey.{PageKey}, Permission.{can_write}}
 use Rattle.page_cache.specs.CacheTable.{place_of, is_touched}
 use Rattle.frames.specs.declared.role.Role.TheVariants.{Table, Cache}
-use Rattle.residency.specs.Picture.{Picture, picture_of, entry}
-use Rattle.residency.specs.Parts.{is_shared}
+use Rattle.residency.specs.{Picture.{Picture, picture_of, entry}, Parts.{is_shared}}
 use Rattle.residency.proofs.Places.{cases_page}
 use Rattle.page_tables.specs.Leaves.{IsEntryOver}
 use Rattle.fault.specs.Leaves.{is_touched_behind}
 use Rattle.fault.proofs.Entering.{beside_around, full_entry_now, full_set, full_fit, full_views, full_tables, linked_marked, entry_marked, view_marked, tables_marked}
-use Rattle.fault.proofs.Forms.{used_inside, behind_of, touched_of, behind_used, mapped_page, shared_none, seat_over_common}
-use Rattle.fault.proofs.Steps.{tables_then}
+use Rattle.fault.proofs.{Forms.{used_inside, behind_of, touched_of, behind_used, mapped_page, shared_none, seat_over_common}, Steps.{tables_then}}
 use Rattle.fault.proofs.showing.touch.Goals as goal
 
 pub set_full-requires-clause-root : goal.set_full-requires-clause-root
@@ -24,11 +19,11 @@ set_full-requires-clause-frame g c =
     record {
       inside = (let old : Picture g.M.Levels.mode = picture_of c.args.core.now in
           used_inside old.frames c.args.frame.0 c.args.core.now.sound
-          (behind_used old c.args.attr.backing c.args.frame.0 c.args.core.now.sound c.requires.spot.linked.fit.places (behind_of old c.args.attr.backing c.args.stored c.args.frame.0 c.requires.stands c.requires.cached)));
+          (behind_used old c.args.attr.now.backing c.args.frame.0 c.args.core.now.sound c.requires.spot.linked.fit.places (behind_of old c.args.attr.now.backing c.args.stored.now c.args.frame.0 c.requires.stands c.requires.cached)));
       behind = λ _.
           let old : Picture g.M.Levels.mode = picture_of c.args.core.now in
           let mid : Picture g.M.Levels.mode = record old { place = place_of c.mark_dirty.new.self; touched = is_touched c.mark_dirty.new.self } in
-          behind_of mid c.args.attr.backing c.args.stored c.args.frame.0 c.requires.stands (c.mark_dirty.ensures.placed ∙ c.requires.cached);
+          behind_of mid c.args.attr.now.backing c.args.stored.now c.args.frame.0 c.requires.stands (c.mark_dirty.ensures.placed ∙ c.requires.cached);
     }
 
 pub set_full-requires-clause-user : goal.set_full-requires-clause-user
@@ -39,30 +34,30 @@ returns g c =
     let old : Picture g.M.Levels.mode = picture_of c.args.core.now in
     let mid : Picture g.M.Levels.mode = record old { place = place_of c.mark_dirty.new.self; touched = is_touched c.mark_dirty.new.self } in
     let new : Picture g.M.Levels.mode = picture_of c.set_full.new.core in
-    let place : (p : PageKey) → mid.place p ≡ old.place p = λ p. elim (cases_page p c.args.stored) [ inl is ↦ ap mid.place is ∙ c.mark_dirty.ensures.placed ∙ sym (ap old.place is) | inr ne ↦ c.mark_dirty.ensures.others.places p ne ] in
-    let linked = linked_marked old mid c.args.stored c.args.frame.0 refl refl (λ q. refl) (λ q k. refl) (λ x. refl) place c.mark_dirty.ensures.touched c.mark_dirty.ensures.others.touched (λ f. refl) c.requires.cached c.args.spot.now.pid c.args.spot.now.page c.requires.spot.linked in
+    let place : (p : PageKey) → mid.place p ≡ old.place p = λ p. elim (cases_page p c.args.stored.now) [ inl is ↦ ap mid.place is ∙ c.mark_dirty.ensures.placed ∙ sym (ap old.place is) | inr ne ↦ c.mark_dirty.ensures.others.places p ne ] in
+    let linked = linked_marked old mid c.args.stored.now c.args.frame.0 refl refl (λ q. refl) (λ q k. refl) (λ x. refl) place c.mark_dirty.ensures.touched c.mark_dirty.ensures.others.touched (λ f. refl) c.requires.cached c.args.spot.now.pid c.args.spot.now.page c.requires.spot.linked in
     let beside = beside_around _ c.set_full.new.core c.set_full.ensures.rest in
     let sets = c.set_full.ensures.sets in
     let r = c.args.spot.now.root.0 in
     let rest = c.set_full.ensures.rest in
-    let none = shared_none mid c.args.spot.now.pid c.args.spot.now.page c.args.attr linked.fit.granting c.requires.allowed.mapped (mapped_page mid c.args.spot.now.pid c.args.spot.now.page c.args.attr linked.fit.granting c.requires.allowed.mapped) c.requires.shared in
-    let same = seat_over_common sets.0 c.args.attr c.args.frame.0 _ _ sets.1 ∙ sym none in
-    let full = full_entry_now mid new c.args.spot.now.pid c.args.spot.now.page r c.args.attr c.args.frame.0 false linked c.requires.spot.root c.requires.allowed.mapped sets beside in
-    let cw = can_write c.args.attr.prot in
-    let write : (is_shared c.args.attr.backing && cw) ≡ true = ap (λ t. t && cw) c.requires.shared ∙ c.requires.allowed.lets in
-    let stored : (is_touched_behind mid c.args.attr.backing && cw) ≡ true = ap (λ t. t && cw) (touched_of mid c.args.attr.backing c.args.stored c.requires.shared c.requires.stands) ∙ ap (λ t. t && cw) c.mark_dirty.ensures.touched ∙ c.requires.allowed.lets in
+    let none = shared_none mid c.args.spot.now.pid c.args.spot.now.page c.args.attr.now linked.fit.granting c.requires.allowed.mapped (mapped_page mid c.args.spot.now.pid c.args.spot.now.page c.args.attr.now linked.fit.granting c.requires.allowed.mapped) c.requires.shared in
+    let same = seat_over_common sets.0 c.args.attr.now c.args.frame.0 _ _ sets.1 ∙ sym none in
+    let full = full_entry_now mid new c.args.spot.now.pid c.args.spot.now.page r c.args.attr.now c.args.frame.0 false linked c.requires.spot.root c.requires.allowed.mapped sets beside in
+    let cw = can_write c.args.attr.now.prot in
+    let write : (is_shared c.args.attr.now.backing && cw) ≡ true = ap (λ t. t && cw) c.requires.shared ∙ c.requires.allowed.lets in
+    let stored : (is_touched_behind mid c.args.attr.now.backing && cw) ≡ true = ap (λ t. t && cw) (touched_of mid c.args.attr.now.backing c.args.stored.now c.requires.shared c.requires.stands) ∙ ap (λ t. t && cw) c.mark_dirty.ensures.touched ∙ c.requires.allowed.lets in
     let now = entry new c.args.spot.now.pid c.args.spot.now.page in
-    let P : Bool → Type 0 = λ x. IsEntryOver now c.args.attr.prot c.args.frame.0 false x (is_touched_behind mid c.args.attr.backing && cw) in
-    let Q : Bool → Type 0 = λ x. IsEntryOver now c.args.attr.prot c.args.frame.0 false true x in
+    let P : Bool → Type 0 = λ x. IsEntryOver now c.args.attr.now.prot c.args.frame.0 false x (is_touched_behind mid c.args.attr.now.backing && cw) in
+    let Q : Bool → Type 0 = λ x. IsEntryOver now c.args.attr.now.prot c.args.frame.0 false true x in
     record {
       enters = record {
-        fit = full_fit mid new c.args.spot.now.pid c.args.spot.now.page r c.args.attr c.args.frame.0 false linked c.requires.spot.root c.requires.allowed.mapped sets beside same
-            (λ own. absurd (false≢true own)) (λ _. behind_of mid c.args.attr.backing c.args.stored c.args.frame.0 c.requires.stands (place c.args.stored ∙ c.requires.cached)) c.requires.allowed.inside;
+        fit = full_fit mid new c.args.spot.now.pid c.args.spot.now.page r c.args.attr.now c.args.frame.0 false linked c.requires.spot.root c.requires.allowed.mapped sets beside same
+            (λ own. absurd (false≢true own)) (λ _. behind_of mid c.args.attr.now.backing c.args.stored.now c.args.frame.0 c.requires.stands (place c.args.stored.now ∙ c.requires.cached)) c.requires.allowed.inside;
         spaces = record { root = beside.root; at = beside.at };
-        tables = tables_then old mid new (λ q. refl) (tables_marked old mid c.args.stored c.args.frame.0 refl refl (λ q. refl) (λ q k. refl) (λ x. refl) place c.mark_dirty.ensures.touched c.mark_dirty.ensures.others.touched (λ f. refl) c.requires.cached)
-            (full_tables mid new c.args.spot.now.pid c.args.spot.now.page r c.args.attr c.args.frame.0 false linked c.requires.spot.root c.requires.allowed.mapped sets beside);
-        views = λ q p. full_views mid new c.args.spot.now.pid c.args.spot.now.page r c.args.attr c.args.frame.0 false linked c.requires.spot.root c.requires.allowed.mapped sets beside same q p
-            ∙ view_marked old mid c.args.stored c.args.frame.0 refl refl (λ q. refl) (λ q k. refl) (λ x. refl) place c.mark_dirty.ensures.touched c.mark_dirty.ensures.others.touched (λ f. refl) c.requires.cached q p;
+        tables = tables_then old mid new (λ q. refl) (tables_marked old mid c.args.stored.now c.args.frame.0 refl refl (λ q. refl) (λ q k. refl) (λ x. refl) place c.mark_dirty.ensures.touched c.mark_dirty.ensures.others.touched (λ f. refl) c.requires.cached)
+            (full_tables mid new c.args.spot.now.pid c.args.spot.now.page r c.args.attr.now c.args.frame.0 false linked c.requires.spot.root c.requires.allowed.mapped sets beside);
+        views = λ q p. full_views mid new c.args.spot.now.pid c.args.spot.now.page r c.args.attr.now c.args.frame.0 false linked c.requires.spot.root c.requires.allowed.mapped sets beside same q p
+            ∙ view_marked old mid c.args.stored.now c.args.frame.0 refl refl (λ q. refl) (λ q k. refl) (λ x. refl) place c.mark_dirty.ensures.touched c.mark_dirty.ensures.others.touched (λ f. refl) c.requires.cached q p;
         calm = record {
           store = rest.store;
           swap = rest.swap;
@@ -70,14 +65,14 @@ returns g c =
           frames = sets.2.kept;
           pointers = λ n i m points. (sets.2.pointers n i m).0 points;
           place = λ p. beside.place p ∙ place p;
-          others = λ q p h other. (full_set mid new c.args.spot.now.pid c.args.spot.now.page r c.args.attr c.args.frame.0 false linked c.requires.spot.root c.requires.allowed.mapped sets beside).others q p h other
-              ∙ entry_marked old mid c.args.stored c.args.frame.0 refl refl (λ q. refl) (λ q k. refl) (λ x. refl) place c.mark_dirty.ensures.touched c.mark_dirty.ensures.others.touched (λ f. refl) c.requires.cached q p;
+          others = λ q p h other. (full_set mid new c.args.spot.now.pid c.args.spot.now.page r c.args.attr.now c.args.frame.0 false linked c.requires.spot.root c.requires.allowed.mapped sets beside).others q p h other
+              ∙ entry_marked old mid c.args.stored.now c.args.frame.0 refl refl (λ q. refl) (λ q k. refl) (λ x. refl) place c.mark_dirty.ensures.touched c.mark_dirty.ensures.others.touched (λ f. refl) c.requires.cached q p;
         };
       };
       touches = record {
         place = λ p. beside.place p ∙ place p;
         bytes = λ p n at. sets.2.kept.bytes n.0 (λ t. (let bad : Cache ≡ Table = sym (c.requires.spot.linked.fit.places.cached p n.0 at) ∙ t in (cc)));
-        touched = beside.touched c.args.stored ∙ c.mark_dirty.ensures.touched;
+        touched = beside.touched c.args.stored.now ∙ c.mark_dirty.ensures.touched;
         others = λ p ne. beside.touched p ∙ c.mark_dirty.ensures.others.touched p ne;
         files = λ f. beside.files f;
       };

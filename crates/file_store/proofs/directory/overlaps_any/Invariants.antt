@@ -1,6 +1,5 @@
 use Rattle.std.proofs.Common.{◌≡◌, ℕ, ◌<◌, get_or, Some, None}
-use Rattle.file_store.specs.declared.directory.Entry.{Entry}
-use Rattle.file_store.specs.Directory.{IsHomeOf}
+use Rattle.file_store.specs.{declared.directory.Entry.{Entry}, Directory.{IsHomeOf}}
 use Rattle.file_store.proofs.directory.overlaps_any.Given as goal
 
 abbrev pub invariant-loop-other : goal.invariant-loop-other

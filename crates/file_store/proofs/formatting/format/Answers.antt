@@ -1,20 +1,10 @@
-use Rattle.std.proofs.Common.{◌≡◌, ◌≤◌, ℕ, Err, inl, inr, refl, ◌∙◌, sym, ap, subst, ⊎_elim, arith, rules}
-use Rattle.std.proofs.lemmas.Bool.{false≢true}
+use Rattle.std.proofs.{Common.{◌≡◌, ◌≤◌, ℕ, Err, inl, inr, refl, ◌∙◌, sym, ap, subst, ⊎_elim, arith, rules}, lemmas.Bool.{false≢true}}
 use Rattle.disk_model.proofs.Moments.{stays}
 use Rattle.sync_journal.specs.declared.store_journal.Journals.{Journals}
-use Rattle.disk_model.specs.Moments.{Nothing}
-use Rattle.disk_model.specs.Stop.{Image}
-use Rattle.file_store.specs.declared.faults.FormatFault.TheVariants.{Device}
-use Rattle.file_store.specs.Format.{total_pages, IsTooLarge, IsMarkSector, IsUnmarkedSector, IsStoreSector, IsStoreOf, IsKindlessStoreOf}
-use Rattle.file_store.proofs.Causes.{same_Err}
-use Rattle.file_store.proofs.Filling.{causes_later, causes_device, causes_none}
-use Rattle.file_store.proofs.Formats.{kindless_moves, whole_of_kind, marked_whole, store_whole}
-use Rattle.file_store.proofs.Images.{unmarked_from}
-use Rattle.file_store.proofs.Looking.{ok_is_no_err}
-use Rattle.file_store.proofs.Making.{makes_more, makes_of}
-use Rattle.file_store.specs.Versions.{version_of, mark_of}
-use Rattle.file_store.proofs.Marking.{LeavesNoPart, nothing_made, unmarked_made, marked_made, looked_makes, when_looking, when_filling, when_marking, format_refused}
-use Rattle.file_store.proofs.NewStores.{store_fits}
+use Rattle.disk_model.specs.{Moments.{Nothing}, Stop.{Image}}
+use Rattle.file_store.specs.{declared.faults.FormatFault.TheVariants.{Device}, Format.{total_pages, IsTooLarge, IsMarkSector, IsUnmarkedSector, IsStoreSector, IsStoreOf, IsKindlessStoreOf}, Versions.{version_of, mark_of}}
+use Rattle.file_store.proofs.{Causes.{same_Err}, Filling.{causes_later, causes_device, causes_none}, Formats.{kindless_moves, whole_of_kind, marked_whole, store_whole}, Images.{unmarked_from}, Looking.{ok_is_no_err}}
+use Rattle.file_store.proofs.{Making.{makes_more, makes_of}, Marking.{LeavesNoPart, nothing_made, unmarked_made, marked_made, looked_makes, when_looking, when_filling, when_marking, format_refused}, NewStores.{store_fits}}
 use Rattle.file_store.proofs.formatting.format.Goals as goal
 
 pub returns-then-is_too_large : goal.returns-then-is_too_large

@@ -1,8 +1,6 @@
 use Rattle.std.proofs.Common.{◌≡◌, ◌≤◌, ◌+◌, ◌*◌, min, ℕ, List, Some, drop, length}
 use Rattle.std.specs.Prelude.{IsSome}
-use Rattle.file_store.specs.Format.{info_of, told_by, reader_tells, IsHomesBetween, HoldsSourcePages}
-use Rattle.file_store.specs.Layout.{pages_of_length}
-use Rattle.file_store.specs.Making.{Makes}
+use Rattle.file_store.specs.{Format.{info_of, told_by, reader_tells, IsHomesBetween, HoldsSourcePages}, Layout.{pages_of_length}, Making.{Makes}}
 use Rattle.file_store.proofs.formatting.write_file.Given as goal
 
 abbrev pub invariant-loop-k : goal.invariant-loop-k

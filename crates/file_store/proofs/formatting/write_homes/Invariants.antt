@@ -1,6 +1,5 @@
 use Rattle.std.proofs.Common.{◌≡◌, ◌+◌, drop, length}
-use Rattle.file_store.specs.Format.{total_pages, IsHomesBetween, HoldsFiles, AreWhole}
-use Rattle.file_store.specs.Making.{Makes}
+use Rattle.file_store.specs.{Format.{total_pages, IsHomesBetween, HoldsFiles, AreWhole}, Making.{Makes}}
 use Rattle.file_store.proofs.formatting.write_homes.Given as goal
 
 abbrev pub invariant-loop-f : goal.invariant-loop-f

@@ -3,14 +3,8 @@ use Rattle.std.specs.Prelude.{IfErr}
 use Rattle.disk_model.specs.Stop.{Image}
 use Rattle.sync_journal.specs.Kinds.{kind_of, kind_homes, kind_home_count, IsBadStore}
 use Rattle.sync_journal.proofs.InKinds.{settled_since}
-use Rattle.file_store.specs.Faults.{open_fault}
-use Rattle.file_store.specs.Directory.{IsSoundDirectory}
-use Rattle.file_store.specs.Resume.{IsRefusedFor}
-use Rattle.file_store.specs.Store.{entry_of}
-use Rattle.file_store.proofs.Causes.{is_this}
-use Rattle.file_store.proofs.Images.{same_head, entry_same}
-use Rattle.file_store.proofs.Mounted.{head_refuses, journal_refuses, mounts_head, mounts}
-use Rattle.file_store.proofs.Openings.{content_is}
+use Rattle.file_store.specs.{Faults.{open_fault}, Directory.{IsSoundDirectory}, Resume.{IsRefusedFor}, Store.{entry_of}}
+use Rattle.file_store.proofs.{Causes.{is_this}, Images.{same_head, entry_same}, Mounted.{head_refuses, journal_refuses, mounts_head, mounts}, Openings.{content_is}}
 use Rattle.file_store.proofs.opening.mount.Goals as goal
 
 -- mark, kind or directory can't be read, or are bad
@@ -35,9 +29,8 @@ recover-requires-clause-kind g c = λ k.
 
 pub returns-in_err-journal-clause-run : goal.returns-in_err-journal-clause-run
 returns-in_err-journal-clause-run g c =
-    let e = c.recover.ensures in
     mounts g.D.SectorDisk c.args.disk.now c.read_head.new.disk c.read_head.ensures.looks.run (λ k image left. g.met.D.SectorDisk.only_now c.args.disk.now image k left) c.read_head.ensures.asks
-    c.recover.new.disk c.in_ok-found.found.0 c.in_ok-found.ensures.found.kind e.size e.kept e.later e.asks e.touches e.closed_unwritten e.any_moment e.blocks
+    c.recover.new.disk c.in_ok-found.found.0 c.in_ok-found.ensures.found.kind c.recover.ensures
 
 pub returns-in_err-journal-clause-err : goal.returns-in_err-journal-clause-err
 returns-in_err-journal-clause-err g c =
@@ -46,13 +39,12 @@ returns-in_err-journal-clause-err g c =
     let r = c.in_err-journal.field-0.0 in
     subst (λ r. IfErr r (λ fault. IsRefusedFor d c.args.disk.now fault c.recover.new.disk)) (sym (is_this c.from_residual-in_err-journal.result (open_fault r) c.from_residual-in_err-journal.ensures.1))
     (journal_refuses d c.args.disk.now c.read_head.new.disk c.read_head.ensures.looks.run r c.recover.new.disk c.in_ok-found.ensures.looks.calm e.kept c.in_ok-found.ensures.found.good
-    (λ is. e.device (ap Err is)) (λ is. e.still (ap Err is)) (λ k is. e.bad k (ap Err is)) (λ k is. e.bad_unwritten k (e.bad k (ap Err is))))
+    (λ is. e.device (ap Err is)) (λ is. e.still (ap Err is)) (λ k is. e.bad k (ap Err is)) e.bad_unwritten)
 
 pub returns-clause-run : goal.returns-clause-run
 returns-clause-run g c =
-    let e = c.recover.ensures in
     mounts g.D.SectorDisk c.args.disk.now c.read_head.new.disk c.read_head.ensures.looks.run (λ k image left. g.met.D.SectorDisk.only_now c.args.disk.now image k left) c.read_head.ensures.asks
-    c.recover.new.disk c.in_ok-found.found.0 c.in_ok-found.ensures.found.kind e.size e.kept e.later e.asks e.touches e.closed_unwritten e.any_moment e.blocks
+    c.recover.new.disk c.in_ok-found.found.0 c.in_ok-found.ensures.found.kind c.recover.ensures
 
 pub returns-clause-ok : goal.returns-clause-ok
 returns-clause-ok g c =

@@ -1,9 +1,6 @@
 use Rattle.std.proofs.Common.{◌≡◌, ℕ, List, ap, subst, ◌∙◌, rules}
-use Rattle.file_store.specs.Versions.{home_pages_of, directory_of}
-use Rattle.file_store.specs.Directory.{IsBadDirectory, IsSoundDirectory, AreGood}
-use Rattle.file_store.specs.Store.{entry_of}
-use Rattle.file_store.proofs.Entries.{good_is_sound}
-use Rattle.file_store.proofs.Images.{good_not_kind}
+use Rattle.file_store.specs.{Versions.{home_pages_of, directory_of}, Directory.{IsBadDirectory, IsSoundDirectory, AreGood}, Store.{entry_of}}
+use Rattle.file_store.proofs.{Entries.{good_is_sound}, Images.{good_not_kind}}
 use Rattle.file_store.proofs.opening.read_directory.Goals as goal
 
 pub returns-in_err-directory-clause-looks : goal.returns-in_err-directory-clause-looks

@@ -1,17 +1,10 @@
 use Rattle.std.proofs.Common.{◌≡◌, ◌<◌, ◌≤◌, ℕ, ⊎_elim, sym, ap, subst, ◌∙◌}
-use Rattle.disk_model.specs.Stop.{Image}
-use Rattle.disk_model.specs.Moments.{Nothing}
-use Rattle.sync_journal.specs.declared.store_journal.Journals.TheVariants.{Paired}
-use Rattle.sync_journal.specs.Kinds.{kind_of, kind_homes}
+use Rattle.disk_model.specs.{Stop.{Image}, Moments.{Nothing}}
+use Rattle.sync_journal.specs.{declared.store_journal.Journals.TheVariants.{Paired}, Kinds.{kind_of, kind_homes}}
 use Rattle.sync_journal.proofs.Runs.{one_more}
-use Rattle.file_store.specs.Directory.{IsBadDirectory, IsSoundDirectory, AreGood}
-use Rattle.file_store.specs.Versions.{version_at, home_pages_of, directory_of, mark_of}
-use Rattle.file_store.specs.Standing.{IsBadLayout, IsBadLayoutIn, listed_entry}
-use Rattle.file_store.specs.Store.{entry_of}
+use Rattle.file_store.specs.{Directory.{IsBadDirectory, IsSoundDirectory, AreGood}, Versions.{version_at, home_pages_of, directory_of, mark_of}, Standing.{IsBadLayout, IsBadLayoutIn, listed_entry}, Store.{entry_of}}
 use Rattle.file_store.specs.Standing.IsBadLayoutIn.{TooSmall, BadDirectory}
-use Rattle.file_store.proofs.Images.{homes_same, other_kind, bad_as_claimed, layout_is_good_in}
-use Rattle.file_store.proofs.Looking.{looks_found, looks_error, looks_later, head_asked}
-use Rattle.file_store.proofs.Openings.{content_is, kind_found, kind_sound}
+use Rattle.file_store.proofs.{Images.{homes_same, other_kind, bad_as_claimed, layout_is_good_in}, Looking.{looks_found, looks_error, looks_later, head_asked}, Openings.{content_is, kind_found, kind_sound}}
 use Rattle.file_store.proofs.opening.read_head.Goals as goal
 
 pub returns-in_err-journals-clause-looks : goal.returns-in_err-journals-clause-looks
@@ -99,22 +92,12 @@ returns-clause-found g c =
 
 pub returns-clause-asks : goal.returns-clause-asks
 returns-clause-asks g c = λ k.
-    let d = g.D.SectorDisk in
-    let old = c.args.disk.now in
-    let mid = c.check_kind.new.disk in
-    let content = d.content old in
     let k1 = c.read_directory.ensures.looks.run.kept k in
-    let first = content_is d old c.read_mark.new.disk (c.read_mark.ensures.looks.run.touches (c.check_kind.ensures.looks.run.kept k1)) in
-    head_asked d c.in_ok-journals.journals c.of_kind.result content old c.read_mark.new.disk mid c.read_directory.new.disk
-    (λ e. sym (ap (λ (image : Image). kind_of image) first) ∙ c.in_ok-check_kind.ensures.kind k1 e) c.of_kind.ensures c.read_mark.ensures.asks c.check_kind.ensures.asks c.read_directory.ensures.asks
+    head_asked g.D.SectorDisk c.in_ok-journals.journals c.of_kind.result c.args.disk.now c.read_mark.new.disk c.check_kind.new.disk c.read_directory.new.disk
+    (c.read_mark.ensures.looks.run.touches (c.check_kind.ensures.looks.run.kept k1)) (c.in_ok-check_kind.ensures.kind k1) c.of_kind.ensures c.read_mark.ensures.asks c.check_kind.ensures.asks c.read_directory.ensures.asks
 
 pub returns-in_err-directory-clause-asks : goal.returns-in_err-directory-clause-asks
 returns-in_err-directory-clause-asks g c = λ k.
-    let d = g.D.SectorDisk in
-    let old = c.args.disk.now in
-    let mid = c.check_kind.new.disk in
-    let content = d.content old in
     let k1 = c.read_directory.ensures.looks.run.kept k in
-    let first = content_is d old c.read_mark.new.disk (c.read_mark.ensures.looks.run.touches (c.check_kind.ensures.looks.run.kept k1)) in
-    head_asked d c.in_ok-journals.journals c.of_kind.result content old c.read_mark.new.disk mid c.read_directory.new.disk
-    (λ e. sym (ap (λ (image : Image). kind_of image) first) ∙ c.in_ok-check_kind.ensures.kind k1 e) c.of_kind.ensures c.read_mark.ensures.asks c.check_kind.ensures.asks c.read_directory.ensures.asks
+    head_asked g.D.SectorDisk c.in_ok-journals.journals c.of_kind.result c.args.disk.now c.read_mark.new.disk c.check_kind.new.disk c.read_directory.new.disk
+    (c.read_mark.ensures.looks.run.touches (c.check_kind.ensures.looks.run.kept k1)) (c.in_ok-check_kind.ensures.kind k1) c.of_kind.ensures c.read_mark.ensures.asks c.check_kind.ensures.asks c.read_directory.ensures.asks

@@ -1,9 +1,6 @@
-use Rattle.std.proofs.Common.{◌≡◌, ◌≤◌, ℕ, sym, subst, ◌∙◌, arith, rules}
-use Rattle.std.proofs.lemmas.Bool.{false≢true}
+use Rattle.std.proofs.{Common.{◌≡◌, ◌≤◌, ℕ, sym, subst, ◌∙◌, arith, rules}, lemmas.Bool.{false≢true}}
 use Rattle.disk_model.specs.Stop.{Image}
-use Rattle.file_store.specs.Versions.{homes_of, home_pages_of, directory_of, mark_of}
-use Rattle.file_store.specs.Directory.{IsBadDirectory}
-use Rattle.file_store.specs.Standing.IsBadLayoutIn.{Unmarked, BadDirectory}
+use Rattle.file_store.specs.{Versions.{homes_of, home_pages_of, directory_of, mark_of}, Directory.{IsBadDirectory}, Standing.IsBadLayoutIn.{Unmarked, BadDirectory}}
 use Rattle.file_store.proofs.Openings.{good_when}
 use Rattle.file_store.proofs.opening.read_layout.Goals as goal
 

@@ -1,19 +1,10 @@
 use Rattle.std.proofs.Common.{◌≡◌, ◌≤◌, ℕ, Err, ⊎_elim, sym, ap, subst, ◌∙◌}
 use Rattle.std.specs.Prelude.{IfErr}
 use Rattle.disk_model.specs.Stop.{Image}
-use Rattle.sync_journal.specs.Kinds.{kind_of, kind_homes, kind_home_count, store_live, IsBadStore}
-use Rattle.sync_journal.specs.Map.{AreHomes}
-use Rattle.sync_journal.specs.Resuming.{IsLiveAsNamed}
+use Rattle.sync_journal.specs.{Kinds.{kind_of, kind_homes, kind_home_count, store_live, IsBadStore}, Map.{AreHomes}, Resuming.{IsLiveAsNamed}}
 use Rattle.sync_journal.proofs.InKinds.{settled_since}
-use Rattle.file_store.specs.Faults.{open_fault}
-use Rattle.file_store.specs.Directory.{IsSoundDirectory}
-use Rattle.file_store.specs.Resume.{IsRefusedFor}
-use Rattle.file_store.specs.Store.{entry_of}
-use Rattle.file_store.proofs.Causes.{is_this}
-use Rattle.file_store.proofs.Mounted.{head_refuses, journal_refuses}
-use Rattle.file_store.proofs.Images.{same_head, entry_same, stands_kept}
-use Rattle.file_store.proofs.Openings.{content_is}
-use Rattle.file_store.proofs.Resumes.{resumes_head, resumes}
+use Rattle.file_store.specs.{Faults.{open_fault}, Directory.{IsSoundDirectory}, Resume.{IsRefusedFor}, Store.{entry_of}}
+use Rattle.file_store.proofs.{Causes.{is_this}, Mounted.{head_refuses, journal_refuses}, Images.{same_head, entry_same, stands_kept}, Openings.{content_is}, Resumes.{resumes_head, resumes}}
 use Rattle.file_store.proofs.resuming.take_up.Goals as goal
 
 -- mark, kind or directory can't be read, or are bad
@@ -47,17 +38,15 @@ pub returns-in_err-journal-clause-run : goal.returns-in_err-journal-clause-run
 returns-in_err-journal-clause-run g c =
     let old = c.args.disk.now in
     let head = c.read_head.ensures in
-    let e = c.resume.ensures in
     resumes g.D.SectorDisk old c.read_head.new.disk head.looks.run (λ k image left. g.met.D.SectorDisk.only_now old image k left) c.requires.synced head.asks
-    c.resume.new.disk c.in_ok-found.found.0 c.in_ok-found.ensures.found.kind e.run e.asks e.closed_unwritten e.any_moment
+    c.resume.new.disk c.in_ok-found.found.0 c.in_ok-found.ensures.found.kind c.resume.ensures
 
 pub returns-clause-run : goal.returns-clause-run
 returns-clause-run g c =
     let old = c.args.disk.now in
     let head = c.read_head.ensures in
-    let e = c.resume.ensures in
     resumes g.D.SectorDisk old c.read_head.new.disk head.looks.run (λ k image left. g.met.D.SectorDisk.only_now old image k left) c.requires.synced head.asks
-    c.resume.new.disk c.in_ok-found.found.0 c.in_ok-found.ensures.found.kind e.run e.asks e.closed_unwritten e.any_moment
+    c.resume.new.disk c.in_ok-found.found.0 c.in_ok-found.ensures.found.kind c.resume.ensures
 
 pub returns-in_err-journal-clause-err : goal.returns-in_err-journal-clause-err
 returns-in_err-journal-clause-err g c =
@@ -66,7 +55,7 @@ returns-in_err-journal-clause-err g c =
     let r = c.in_err-journal.field-0.0 in
     subst (λ r. IfErr r (λ fault. IsRefusedFor d c.args.disk.now fault c.resume.new.disk)) (sym (is_this c.from_residual-in_err-journal.result (open_fault r) c.from_residual-in_err-journal.ensures.1))
     (journal_refuses d c.args.disk.now c.read_head.new.disk c.read_head.ensures.looks.run r c.resume.new.disk c.in_ok-found.ensures.looks.calm c.resume.ensures.run.kept c.in_ok-found.ensures.found.good
-    (λ is. e.device (ap Err is)) (λ is. e.still (ap Err is)) (λ k is. e.bad k (ap Err is)) (λ k is. e.unwritten k (ap Err is)))
+    (λ is. e.device (ap Err is)) (λ is. e.still (ap Err is)) (λ k is. e.bad k (ap Err is)) c.resume.ensures.bad_unwritten)
 
 pub returns-clause-ok : goal.returns-clause-ok
 returns-clause-ok g c =

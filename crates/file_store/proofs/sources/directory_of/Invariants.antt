@@ -1,6 +1,5 @@
 use Rattle.std.proofs.Common.{◌≡◌, ◌+◌, ◌*◌, ◌<◌, ◌≤◌, ℕ, drop, length, get_or}
-use Rattle.file_store.specs.Directory.{decoded, entry_bytes}
-use Rattle.file_store.specs.Format.{total_pages, entry_given}
+use Rattle.file_store.specs.{Directory.{decoded, entry_bytes}, Format.{total_pages, entry_given}}
 use Rattle.file_store.proofs.sources.directory_of.Given as goal
 
 abbrev pub invariant-loop-f : goal.invariant-loop-f

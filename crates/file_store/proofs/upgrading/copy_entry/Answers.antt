@@ -1,7 +1,5 @@
 use Rattle.std.proofs.Common.{Option, sym, subst, ◌∙◌}
-use Rattle.file_store.specs.declared.directory.Entry.{Entry}
-use Rattle.file_store.specs.Upgrade.{IsEntrySector, IsOldEntry}
-use Rattle.file_store.specs.Upgraded.{CopiesPages}
+use Rattle.file_store.specs.{declared.directory.Entry.{Entry}, Upgrade.{IsEntrySector, IsOldEntry}, Upgraded.{CopiesPages}}
 use Rattle.file_store.proofs.upgrading.copy_entry.Goals as goal
 
 pub returns-in-Some-clause-copies : goal.returns-in-Some-clause-copies

@@ -1,22 +1,10 @@
-use Rattle.std.proofs.Common.{◌≡◌, ◌+◌, ◌*◌, ◌<◌, Some, refl, sym, ap, subst, ◌∙◌, ⊎_elim, arith}
-use Rattle.std.proofs.lemmas.Bool.{cases_eq}
-use Rattle.disk_model.specs.Stop.{Image}
-use Rattle.disk_model.specs.Moments.{Nothing}
-use Rattle.disk_model.specs.Sectors.{part_of}
-use Rattle.disk_model.proofs.Moments.{asks_then, asks_wider}
-use Rattle.sync_journal.specs.Layout.{layout_before, home_count_in, IsPageSector}
-use Rattle.sync_journal.specs.Standing.{standing_in}
-use Rattle.sync_journal.specs.Kinds.{kind_home}
+use Rattle.std.proofs.{Common.{◌≡◌, ◌+◌, ◌*◌, ◌<◌, Some, refl, sym, ap, subst, ◌∙◌, ⊎_elim, arith}, lemmas.Bool.{cases_eq}}
+use Rattle.disk_model.specs.{Stop.{Image}, Moments.{Nothing}, Sectors.{part_of}}
+use Rattle.disk_model.proofs.Moments.{asks_named, asks_then, asks_wider}
+use Rattle.sync_journal.specs.{Layout.{layout_before, home_count_in, IsPageSector}, Standing.{standing_in}, Kinds.{kind_home}}
 use Rattle.sync_journal.proofs.Runs.{one_more}
-use Rattle.file_store.specs.Layout.{pages_of_length}
-use Rattle.file_store.specs.Format.{HoldsPage}
-use Rattle.file_store.specs.Standing.{page_standing_in}
-use Rattle.file_store.specs.Upgrade.{IsOldStore, IsFileSector, IsOldPage, old_place}
-use Rattle.file_store.specs.Faults.{old_fault}
-use Rattle.file_store.proofs.Causes.{same_Err}
-use Rattle.file_store.proofs.Copied.{copies_unread, copies_unwritten}
-use Rattle.file_store.proofs.Making.{makes_more, makes_page}
-use Rattle.file_store.proofs.Openings.{content_is}
+use Rattle.file_store.specs.{Layout.{pages_of_length}, Format.{HoldsPage}, Standing.{page_standing_in}, Upgrade.{IsOldStore, IsFileSector, IsOldPage, old_place}, Faults.{old_fault}}
+use Rattle.file_store.proofs.{Causes.{same_Err}, Copied.{copies_unread, copies_unwritten}, Making.{makes_more, makes_page}, Openings.{content_is}}
 use Rattle.file_store.proofs.upgrading.copy_file.Goals as goal
 
 pub read_page-requires-clause-home : goal.read_page-requires-clause-home
@@ -50,7 +38,7 @@ loop-k-preserved g c =
           let same = content_is d c.args.old.now c.loop-k.old (inv.old_run.touches was) in
           asks_then d (IsOldPage c.args.journals old entry (c.loop-k.k + 1)) c.args.old.now c.loop-k.old c.read_page.new.disk
           (asks_wider d (IsOldPage c.args.journals old entry c.loop-k.k) (IsOldPage c.args.journals old entry (c.loop-k.k + 1)) c.args.old.now c.loop-k.old (λ s at. (at.0, omega (arith, at.1), at.2)) (inv.asks_old was))
-          (asks_wider d (IsPageSector (old_place c.args.store.now.journal.journals (d.content c.loop-k.old) (entry.first + c.loop-k.k))) (IsOldPage c.args.journals old entry (c.loop-k.k + 1)) c.loop-k.old c.read_page.new.disk
+          (asks_named d (IsOldPage c.args.journals old entry (c.loop-k.k + 1)) (IsPageSector (old_place c.args.store.now.journal.journals (d.content c.loop-k.old) (entry.first + c.loop-k.k))) c.loop-k.old c.read_page.new.disk
           (λ s at. (
             c.loop-k.k,
             omega arith,
@@ -95,7 +83,7 @@ returns-in_err-read_page-clause-copies g c =
     let same = content_is d c.args.old.now c.loop-k.old (inv.old_run.touches was) in
     asks_then d W c.args.old.now c.loop-k.old c.read_page.new.disk
     (asks_wider d (IsOldPage c.args.journals old entry c.loop-k.k) W c.args.old.now c.loop-k.old (λ s at. (at.0, omega (arith, at.1, below), at.2)) (inv.asks_old was))
-    (asks_wider d (IsPageSector (old_place c.args.store.now.journal.journals (d.content c.loop-k.old) (entry.first + c.loop-k.k))) W c.loop-k.old c.read_page.new.disk
+    (asks_named d W (IsPageSector (old_place c.args.store.now.journal.journals (d.content c.loop-k.old) (entry.first + c.loop-k.k))) c.loop-k.old c.read_page.new.disk
     (λ s at. (
       c.loop-k.k,
       below,
@@ -122,7 +110,7 @@ returns-in_err-write_page-clause-copies g c =
     let same = content_is d c.args.old.now c.loop-k.old (inv.old_run.touches was) in
     asks_then d W c.args.old.now c.loop-k.old c.read_page.new.disk
     (asks_wider d (IsOldPage c.args.journals old entry c.loop-k.k) W c.args.old.now c.loop-k.old (λ s at. (at.0, omega (arith, at.1, below), at.2)) (inv.asks_old was))
-    (asks_wider d (IsPageSector (old_place c.args.store.now.journal.journals (d.content c.loop-k.old) (entry.first + c.loop-k.k))) W c.loop-k.old c.read_page.new.disk
+    (asks_named d W (IsPageSector (old_place c.args.store.now.journal.journals (d.content c.loop-k.old) (entry.first + c.loop-k.k))) c.loop-k.old c.read_page.new.disk
     (λ s at. (
       c.loop-k.k,
       below,

@@ -1,8 +1,7 @@
 use Rattle.std.proofs.Common.{◌≡◌}
 use Rattle.disk_model.specs.Moments.{AsksOnly, Nothing}
 use Rattle.sync_journal.specs.Runs.{RunsOnDevice}
-use Rattle.file_store.specs.Making.{Makes}
-use Rattle.file_store.specs.Upgrade.{IsOldPage, IsFileSector, HoldsOldPages}
+use Rattle.file_store.specs.{Making.{Makes}, Upgrade.{IsOldPage, IsFileSector, HoldsOldPages}}
 use Rattle.file_store.proofs.upgrading.copy_file.Given as goal
 
 abbrev pub invariant-loop-k : goal.invariant-loop-k

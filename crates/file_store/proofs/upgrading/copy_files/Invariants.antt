@@ -1,9 +1,7 @@
 use Rattle.std.proofs.Common.{◌≡◌}
 use Rattle.disk_model.specs.Moments.{AsksOnly, Nothing}
 use Rattle.sync_journal.specs.Runs.{RunsOnDevice}
-use Rattle.file_store.specs.Making.{Makes}
-use Rattle.file_store.specs.Store.{entry_of}
-use Rattle.file_store.specs.Upgrade.{IsOldFile, IsFilesSector, HoldsOldFiles}
+use Rattle.file_store.specs.{Making.{Makes}, Store.{entry_of}, Upgrade.{IsOldFile, IsFilesSector, HoldsOldFiles}}
 use Rattle.file_store.proofs.upgrading.copy_files.Given as goal
 
 abbrev pub invariant-loop-f : goal.invariant-loop-f

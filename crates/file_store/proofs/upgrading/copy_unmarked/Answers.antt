@@ -1,17 +1,9 @@
 use Rattle.std.proofs.Common.{ℕ, List, inl, inr, refl, subst, ◌+◌, ⊎_elim, ◌∙◌, arith, rules}
-use Rattle.sync_journal.specs.Kinds.{kind_home}
-use Rattle.file_store.specs.Format.{IsFrom, IsTableSector, IsLayoutSector, HasHead, HasTables}
-use Rattle.file_store.specs.Store.{entry_of}
-use Rattle.file_store.specs.Upgrade.{IsFilesSector, IsCopiedSector, IsKindlessUpgrade}
-use Rattle.file_store.proofs.Making.{makes_more, makes_of}
-use Rattle.file_store.proofs.Images.{homes_behind, layout_low}
-use Rattle.disk_model.proofs.Moments.{wider}
-use Rattle.sync_journal.specs.declared.store_journal.Journals.TheVariants.{Paired}
-use Rattle.file_store.proofs.Blocks.{none_on, last_then}
-use Rattle.file_store.proofs.Copied.{copies_done, copies_error, copies_unwritten}
-use Rattle.file_store.proofs.Formats.{table_between}
-use Rattle.file_store.proofs.Looking.{ok_is_no_err}
+use Rattle.sync_journal.specs.{Kinds.{kind_home}, declared.store_journal.Journals.TheVariants.{Paired}}
+use Rattle.file_store.specs.{Format.{IsFrom, IsTableSector, IsLayoutSector, HasHead, HasTables}, Store.{entry_of}, Upgrade.{IsFilesSector, IsCopiedSector, IsKindlessUpgrade}}
+use Rattle.file_store.proofs.{Making.{makes_more, makes_of}, Images.{homes_behind, layout_low}, Blocks.{none_on, last_then}, Copied.{copies_done, copies_error, copies_unwritten}, Formats.{table_between}, Looking.{ok_is_no_err}}
 use Rattle.file_store.proofs.Upgrades.{entry_from, kindless_upgrade}
+use Rattle.disk_model.proofs.Moments.{wider}
 use Rattle.file_store.proofs.upgrading.copy_unmarked.Goals as goal
 
 pub returns-in_err-copy_files-clause-copies : goal.returns-in_err-copy_files-clause-copies

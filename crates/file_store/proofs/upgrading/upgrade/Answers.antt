@@ -1,25 +1,12 @@
 use Rattle.std.proofs.Common.{◌≡◌, ◌≤◌, ◌<◌, ℕ, Err, Some, refl, inl, inr, ⊎_elim, sym, ap, subst, ◌∙◌}
-use Rattle.disk_model.specs.Stop.{Image}
-use Rattle.disk_model.specs.Moments.{Nothing, AsksOnly}
+use Rattle.disk_model.specs.{Stop.{Image}, Moments.{Nothing, AsksOnly}}
 use Rattle.disk_model.proofs.Moments.{stays, asks_none, asks_then, asks_wider}
-use Rattle.sync_journal.specs.declared.store_journal.Journals.{Journals}
-use Rattle.sync_journal.specs.Kinds.{kind_home_count}
-use Rattle.sync_journal.specs.Layout.{layout_before, home_count_in}
+use Rattle.sync_journal.specs.{declared.store_journal.Journals.{Journals}, Kinds.{kind_home_count}, Layout.{layout_before, home_count_in}}
 use Rattle.sync_journal.proofs.Runs.{one_more}
-use Rattle.file_store.specs.declared.directory.Entry.{Entry}
-use Rattle.file_store.specs.declared.faults.UpgradeFault.TheVariants.{NewDevice}
-use Rattle.file_store.specs.Directory.{home_end, IsSoundDirectory}
-use Rattle.file_store.specs.Faults.{old_fault}
-use Rattle.file_store.specs.Format.{IsMarkSector}
-use Rattle.file_store.specs.Store.{entry_of}
-use Rattle.file_store.specs.Upgrade.{old_entry, IsOldStore, IsUnmarkedUpgrade, IsKindlessUpgrade, IsUpgradeOf, IsCopiedSector, IsUpgradeSector, IsOldHead, IsOldAsked}
-use Rattle.file_store.specs.Versions.{version_of, mark_of}
-use Rattle.file_store.proofs.Causes.{same_Err}
-use Rattle.file_store.proofs.Copied.{causes_after, causes_before, causes_none, causes_marking, copied_old_asked}
-use Rattle.file_store.proofs.Formats.{marked_whole}
-use Rattle.file_store.proofs.Looking.{ok_is_no_err}
-use Rattle.file_store.proofs.Marking.{LeavesNoPart, nothing_made, unmarked_made, marked_made}
-use Rattle.file_store.proofs.Openings.{content_is}
+use Rattle.file_store.specs.{declared.directory.Entry.{Entry}, declared.faults.UpgradeFault.TheVariants.{NewDevice}, Directory.{home_end, IsSoundDirectory}, Faults.{old_fault}, Format.{IsMarkSector}, Store.{entry_of}}
+use Rattle.file_store.specs.{Upgrade.{old_entry, IsOldStore, IsUnmarkedUpgrade, IsKindlessUpgrade, IsUpgradeOf, IsCopiedSector, IsUpgradeSector, IsOldHead, IsOldAsked}, Versions.{version_of, mark_of}}
+use Rattle.file_store.proofs.{Causes.{same_Err}, Copied.{causes_after, causes_before, causes_none, causes_marking, copied_old_asked}, Formats.{marked_whole}, Looking.{ok_is_no_err}}
+use Rattle.file_store.proofs.{Marking.{LeavesNoPart, nothing_made, unmarked_made, marked_made}, Openings.{content_is}}
 use Rattle.file_store.proofs.Refusing.{of_old, broken_from, when_checking, when_copying, when_marking, room_is_not_small, causes_checked, upgrade_refused}
 use Rattle.file_store.proofs.Upgrades.{kindless_upgrade_moves, upgraded_of_kind, copied_from, copied_asked, layout_from, old_fault_cases, too_small, upgrade_whole, entries_fit}
 use Rattle.file_store.proofs.upgrading.upgrade.Goals as goal

@@ -1,6 +1,5 @@
 use Rattle.vm_types.specs.Limits.{user_end}
-use Rattle.std.proofs.Common.{inl, inr, refl, sym, ◌∙◌, arith}
-use Rattle.std.proofs.lemmas.Bool.{cases_lt, false≢true}
+use Rattle.std.proofs.{Common.{inl, inr, refl, sym, ◌∙◌, arith}, lemmas.Bool.{cases_lt, false≢true}}
 use Rattle.ranges.proofs.Gaps.{user_inside}
 use Rattle.residency.specs.Picture.{picture_of}
 use Rattle.residency.proofs.Entries.{entry-of}

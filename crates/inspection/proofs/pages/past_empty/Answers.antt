@@ -1,7 +1,6 @@
 use Rattle.vm_types.specs.Limits.{top_level}
 use Rattle.std.proofs.Common.{◌≡◌, ◌≢◌, ℕ, ◌/◌, ◌<◌, ◌≤◌, subst, arith}
-use Rattle.page_tables.specs.Places.{IsTableOf}
-use Rattle.page_tables.specs.Tree.{page_entry}
+use Rattle.page_tables.specs.{Places.{IsTableOf}, Tree.{page_entry}}
 use Rattle.residency.specs.Picture.{picture_of}
 use Rattle.ranges.proofs.BetweenEntries.{none_between}
 use Rattle.inspection.proofs.Entries.{some_at}

@@ -1,6 +1,5 @@
 use Rattle.vm_types.proofs.Modes.{sizes}
-use Rattle.std.proofs.Common.{ℕ, ◌+◌, ◌*◌, ◌/◌, ap, sym, ◌∙◌, arith, rules}
-use Rattle.std.proofs.lemmas.Bool.Decides.{nat_tests}
+use Rattle.std.proofs.{Common.{ℕ, ◌+◌, ◌*◌, ◌/◌, ap, sym, ◌∙◌, arith, rules}, lemmas.Bool.Decides.{nat_tests}}
 use Rattle.page_tables.proofs.Pages.{span_positive}
 use Rattle.residency.specs.Picture.{picture_of}
 use Rattle.inspection.proofs.Trees.{ended, if_none, passed_on, placed}

@@ -1,27 +1,15 @@
-use Rattle.vm_types.specs.Limits.{user_end}
-use Rattle.std.proofs.Common.{◌≡◌, true, ◌≢◌, ℕ, inl, [], None, refl, sym, ap, ◌∙◌, subst, rules}
+use Rattle.vm_types.specs.{Limits.{user_end}, declared.object.PageKey.{PageKey}}
+use Rattle.std.proofs.{Common.{◌≡◌, true, ◌≢◌, ℕ, inl, [], None, refl, sym, ap, ◌∙◌, subst, rules}, lemmas.Bool.{false≢true}}
 use Rattle.std.specs.Prelude.{slice_index_or}
-use Rattle.std.proofs.lemmas.Bool.{false≢true}
-use Rattle.vm_types.specs.declared.object.PageKey.{PageKey}
 use Rattle.frames.specs.FrameTable.{frame_count, role_of}
 use Rattle.page_cache.specs.CacheTable.{place_of}
-use Rattle.swap.specs.declared.slots.Swap.{Swap}
-use Rattle.swap.specs.declared.pages.Pages.{Pages}
-use Rattle.swap.specs.Slots.{slots_of}
-use Rattle.residency.specs.Picture.{Picture, picture_of, attr_where, is_live}
-use Rattle.residency.specs.Calls.{UsesDevice}
+use Rattle.swap.specs.{declared.slots.Swap.{Swap}, declared.pages.Pages.{Pages}, Slots.{slots_of}}
+use Rattle.residency.specs.{Picture.{Picture, picture_of, attr_where, is_live}, Calls.{UsesDevice}}
 use Rattle.residency.proofs.Aging.{gives_then}
-use Rattle.fault.proofs.Steps.{device_then}
-use Rattle.fault.proofs.SwapSteps.{ready_released}
+use Rattle.fault.proofs.{Steps.{device_then}, SwapSteps.{ready_released}}
 use Rattle.lifecycle.specs.Changes.{IsShortToFork, StallsToFork}
-use Rattle.lifecycle.proofs.Unchanged.{parent_root, files_unchanged, places_unchanged}
-use Rattle.lifecycle.proofs.Keeping.{dead_root, live_same, files_then}
-use Rattle.lifecycle.proofs.Ending.{ready_ended}
-use Rattle.lifecycle.proofs.Returned.{no_copy_taken}
-use Rattle.lifecycle.proofs.Shortage.{short_before}
-use Rattle.lifecycle.proofs.Copying.{readied, short_readied, unmade, copied, copies_shared, bare_shared, tables_kept, as_stall}
-use Rattle.lifecycle.proofs.Taking.{gives_mapped, tables_mid, entries_forked, tables_taken}
-use Rattle.lifecycle.proofs.Stalling.{stalls_first, stalls_later}
+use Rattle.lifecycle.proofs.{Live.{live_root}, Unchanged.{files_unchanged, places_unchanged}, Keeping.{dead_root, live_same, files_then}, Ending.{ready_ended}, Returned.{no_copy_taken}, Shortage.{short_before}}
+use Rattle.lifecycle.proofs.{Copying.{readied, short_readied, unmade, copied, copies_shared, bare_shared, tables_kept, as_stall}, Taking.{gives_mapped, tables_mid, entries_forked, tables_taken}, Stalling.{stalls_first, stalls_later}}
 use Rattle.lifecycle.proofs.Asking.{asks_forked}
 use Rattle.lifecycle.proofs.forking.fork.Goals as goal
 
@@ -79,7 +67,7 @@ returns-in-Err g c =
     let roots = done.moves.spaces.root in
     let gives = gives_mapped old spawned mapped mid c.args.parent c.args.child first.taken.0 first.gives first.taken.1 frames places maps roots done.tables in
     let alone : (page : ℕ) → mid.at c.args.child page ≡ mid.at c.args.parent page = λ page. done.moves.spaces.at c.args.child page ∙ maps.same page ∙ sym (done.moves.spaces.at c.args.parent page) in
-    let root = parent_root mid c.args.parent parent_lives in
+    let root = live_root (mid.root c.args.parent) parent_lives in
     let unchanged = files_unchanged mid new c.args.parent c.args.child root.0 apart root.1 done.moves.fit c.exit.ensures.fit alone c.exit.ensures.files in
     record {
       ok = search rules;
@@ -166,9 +154,6 @@ exit-requires-clause-live g c =
     let mapped : Picture g.M.Levels.mode = picture_of c.map_alike.new.core in
     live_same mapped (picture_of c.link_copies.new.core) c.args.child (c.in-Err.ensures.moves.spaces.root c.args.child)
     ∙ live_same (picture_of c.spawn.new.core) mapped c.args.child (c.map_alike.ensures.mapped.root c.args.child) ∙ c.in_ok-spawn.ensures.ok.lives
-
-pub link_copies-requires : goal.link_copies-requires
-link_copies-requires g c = record { forking = search rules; swap = search rules }
 
 pub share_pages-requires : goal.share_pages-requires
 share_pages-requires g c =

@@ -1,14 +1,11 @@
 use Rattle.vm_types.proofs.Modes.{user_pages_fit}
 use Rattle.vm_types.specs.Limits.{top_level}
-use Rattle.std.proofs.Common.{◌≡◌, ℕ, inl, inr, ◌+◌, ◌/◌, refl, sym, ap, ◌∙◌, subst, arith}
-use Rattle.std.proofs.lemmas.Bool.{cases_eq, cases_lt}
-use Rattle.page_tables.specs.Entry.{number_of}
-use Rattle.page_tables.specs.Places.{IsTableOf}
-use Rattle.residency.specs.Seats.{seat}
-use Rattle.residency.specs.Picture.{Picture, picture_of, entry}
-use Rattle.residency.proofs.Entries.{entry-of}
-use Rattle.residency.proofs.Start.{seat-none}
-use Rattle.lifecycle.proofs.Passed.{same_table, none_passed, page_form}
+use Rattle.std.proofs.{Common.{◌≡◌, ℕ, inl, inr, ◌+◌, ◌/◌, refl, sym, ap, ◌∙◌, subst, arith}, lemmas.Bool.{cases_eq, cases_lt}}
+use Rattle.page_tables.specs.{Entry.{number_of}, Places.{IsTableOf}}
+use Rattle.residency.specs.{Seats.{seat}, Picture.{Picture, picture_of, entry}}
+use Rattle.residency.proofs.{Entries.{entry-of}, Start.{seat-none}}
+use Rattle.ranges.proofs.BetweenEntries.{none_passed}
+use Rattle.lifecycle.proofs.Passed.{same_table, page_form}
 use Rattle.lifecycle.proofs.linking.first_copy.Goals as goal
 
 pub table_of-requires-clause-root : goal.table_of-requires-clause-root
@@ -59,8 +56,8 @@ loop-page-preserved g c =
         | inl before ↦ k.none page least before
         | inr over ↦ elim (cases_eq page c.loop-page.page) [
           | inl e ↦ ap (λ x. seat (entry old c.args.pid x)) e ∙ ap seat (sym is) ∙ c.is_own.ensures.other c.if-is_own.false
-          | inr ne ↦ ap seat (none_passed old c.args.pid c.root_of-root.result.0 c.args.start c.args.stop c.in-Ok.table.0 (c.loop-page.page + 1) c.next_entry-page.result
-              c.root_of-root.ensures c.in-Ok.ensures.found c.requires.one_table (omega (arith, from)) within step.passed page (omega (arith, over, ne)) below) ∙ seat-none
+          | inr ne ↦ ap seat (none_passed old c.args.pid c.root_of-root.result.0 c.in-Ok.table.0 c.args.start (c.loop-page.page + 1) c.next_entry-page.result c.args.stop
+              c.root_of-root.ensures c.in-Ok.ensures.found (omega (arith, from)) within c.requires.one_table step.passed page (omega (arith, over, ne)) below) ∙ seat-none
         ]
       ];
     }

@@ -1,15 +1,14 @@
 use Rattle.vm_types.specs.Limits.{user_end}
 use Rattle.std.proofs.Common.{◌-◌, Ok}
 use Rattle.residency.specs.Picture.{picture_of}
-use Rattle.lifecycle.specs.Steps.{HasTablesFrom}
-use Rattle.lifecycle.specs.TablesForCopies.{LinksForCopies}
+use Rattle.lifecycle.specs.{Steps.{HasTablesFrom}, TablesForCopies.{LinksForCopies}}
 use Rattle.lifecycle.proofs.linking.link_copies.Given as goal
 
-abbrev pub invariant-loop-run : goal.invariant-loop-run
-invariant-loop-run g l = record {
+abbrev pub invariant-loop-part : goal.invariant-loop-part
+invariant-loop-part g l = record {
   links : LinksForCopies g.E.SectorDisk {T = Unit {0}} l.fn.core l.core l.parent l.child (Ok tt);
   linked : HasTablesFrom (picture_of l.core) l.parent l.child 0 l.page;
 }
 
-abbrev pub decreases-loop-run : goal.decreases-loop-run
-decreases-loop-run g l = user_end g.M.Levels.mode - l.page
+abbrev pub decreases-loop-part : goal.decreases-loop-part
+decreases-loop-part g l = user_end g.M.Levels.mode - l.page

@@ -1,6 +1,5 @@
-use Rattle.std.proofs.Common.{◌≡◌, ◌+◌, ◌-◌, inl, inr, Some, true, false, sym, ap, ◌∙◌, arith}
+use Rattle.std.proofs.{Common.{◌≡◌, ◌+◌, ◌-◌, inl, inr, Some, true, false, sym, ap, ◌∙◌, arith}, lemmas.Bool.{cases_lt, false≢true}}
 use Rattle.std.specs.Prelude.{is_some}
-use Rattle.std.proofs.lemmas.Bool.{cases_lt, false≢true}
 use Rattle.vm_types.specs.Processes.{least_free_from}
 use Rattle.residency.specs.Picture.{picture_of, is_live}
 use Rattle.lifecycle.proofs.FreeNumbers.{some_number, least-here, least-next, least-none}
@@ -14,9 +13,6 @@ returns-then-is_none-clause-least g c =
     let free : live c.in-Some.pid ≡ false = ap is_some (sym c.root.ensures) ∙ some_number c.root.result ∙ c.if-is_none.ensures in
     ap (λ n. Some n) c.in-Some.ensures.found
     ∙ sym (c.loop-pid.invariant.2 ∙ least-here live number (65 - number) (omega (arith, high)) (ap live (sym c.in-Some.ensures.found) ∙ free))
-
-pub returns-then-is_none-clause-free : goal.returns-then-is_none-clause-free
-returns-then-is_none-clause-free g c = ap is_some (sym c.root.ensures) ∙ some_number c.root.result ∙ c.if-is_none.ensures
 
 pub loop-pid-preserved : goal.loop-pid-preserved
 loop-pid-preserved g c =

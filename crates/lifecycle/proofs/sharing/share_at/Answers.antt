@@ -1,14 +1,10 @@
-use Rattle.std.proofs.Common.{◌≡◌, ℕ, ◌+◌, ◌<◌, ◌≤◌, sym, ap, ◌∙◌, subst, arith, rules}
+use Rattle.std.proofs.Common.{◌≡◌, ℕ, ◌+◌, ◌<◌, ◌≤◌, sym, ap, ◌∙◌, subst, arith}
 use Rattle.page_tables.specs.Entry.{number_of}
-use Rattle.residency.specs.Seats.{seat}
-use Rattle.residency.specs.Picture.{Picture, picture_of, entry}
+use Rattle.residency.specs.{Seats.{seat}, Picture.{Picture, picture_of, entry}}
 use Rattle.residency.proofs.Start.{seat-none}
-use Rattle.ranges.proofs.BetweenEntries.{none_at}
-use Rattle.ranges.proofs.ClearedPlaces.{past}
+use Rattle.ranges.proofs.{BetweenEntries.{none_at}, ClearedPlaces.{past}}
 use Rattle.lifecycle.specs.ChildShares.{GivesShares}
-use Rattle.lifecycle.proofs.Live.{live_root}
-use Rattle.lifecycle.proofs.Passed.{number_in_row, page_form}
-use Rattle.lifecycle.proofs.ShareSteps.{awaits_within, gives_none}
+use Rattle.lifecycle.proofs.{Live.{live_root}, Passed.{number_in_row, page_form}, ShareSteps.{awaits_within, gives_none}}
 use Rattle.lifecycle.proofs.sharing.share_at.Goals as goal
 
 -- a place of the table
@@ -24,33 +20,24 @@ decode-before-requires g c =
     (number_in_row old t.parent t.from.0 t.first c.args.index c.number_in.result.0 q.awaits.parent_lives q.from.begins
     (in_table c.args.index c.args.end q.below q.in_table) q.from.place c.number_in.ensures)
 
-pub share_page-requires-clause-before : goal.share_page-requires-clause-before
-share_page-requires-clause-before g c =
+pub share_page-requires : goal.share_page-requires
+share_page-requires g c =
     let old : Picture g.M.Levels.mode = picture_of c.args.core.now in
     let t = c.args.tables.now in
     let q = c.requires in
-    c.decode-before.ensures.number
-    ∙ number_in_row old t.parent t.from.0 t.first c.args.index c.number_in.result.0 q.awaits.parent_lives q.from.begins
-    (in_table c.args.index c.args.end q.below q.in_table) q.from.place c.number_in.ensures
-
-pub share_page-requires-clause-awaits : goal.share_page-requires-clause-awaits
-share_page-requires-clause-awaits g c =
-    let t = c.args.tables.now in
+    let from = q.from in
+    let to = q.to in
     let page = t.first + c.args.index in
-    awaits_within (picture_of c.args.core.now) t.parent t.child page (t.first + c.args.end) page (page + 1) c.requires.awaits (omega arith) (omega (arith, c.requires.below))
-
-pub share_page-requires-clause-from : goal.share_page-requires-clause-from
-share_page-requires-clause-from g c =
-    let from = c.requires.from in
-    record { place = from.place; begins = from.begins; user = (let user = from.user in omega (arith, user, c.requires.below)) }
-
-pub share_page-requires-clause-to : goal.share_page-requires-clause-to
-share_page-requires-clause-to g c =
-    let to = c.requires.to in
-    record { place = to.place; begins = to.begins; user = (let user = to.user in omega (arith, user, c.requires.below)) }
-
-pub share_page-requires-clause-own : goal.share_page-requires-clause-own
-share_page-requires-clause-own g c = record { form = search rules; own = c.is_own.ensures.own c.if-is_own.true }
+    record {
+      awaits = awaits_within old t.parent t.child page (t.first + c.args.end) page (page + 1) q.awaits (omega arith) (omega (arith, q.below));
+      from = record { place = from.place; begins = from.begins; user = (let user = from.user in omega (arith, user, q.below)) };
+      to = record { place = to.place; begins = to.begins; user = (let user = to.user in omega (arith, user, q.below)) };
+      in_table = in_table c.args.index c.args.end q.below q.in_table;
+      before = c.decode-before.ensures.number
+          ∙ number_in_row old t.parent t.from.0 t.first c.args.index c.number_in.result.0 q.awaits.parent_lives from.begins
+          (in_table c.args.index c.args.end q.below q.in_table) from.place c.number_in.ensures;
+      own = record { form = c.decode-before.ensures.form; own = c.is_own.ensures.own c.if-is_own.true };
+    }
 
 pub returns-then-is_own-clause-gives : goal.returns-then-is_own-clause-gives
 returns-then-is_own-clause-gives g c =
@@ -71,8 +58,8 @@ returns-in-None g c =
     let page = t.first + c.args.index in
     record {
       next = record {
-        further = past old t.parent r.0 t.from.0 t.first c.args.index c.args.end c.number_in.result.0 q.awaits.fit r.1 (q.from.place r.0 r.1) q.from.begins q.below q.in_table q.from.user
-            c.number_in.ensures c.next_place.result (sym c.decode-before.ensures.number ∙ ap number_of c.in-None.is) next.from within next.passed next.found;
+        further = past old r.0 t.from.0 t.first c.args.index c.args.end c.number_in.result.0 c.next_place.result (q.from.place r.0 r.1) q.from.begins q.below q.in_table
+            c.number_in.ensures (sym c.decode-before.ensures.number ∙ ap number_of c.in-None.is) next.from next.found;
         within = within;
       };
       gives = gives_none c.args.core.now t.parent t.child page (t.first + c.next_place.result)

@@ -1,10 +1,8 @@
-use Rattle.std.proofs.Common.{◌≡◌, ℕ, ◌+◌, ◌-◌, ◌*◌, ◌/◌, ◌%◌, sym, ap, ◌∙◌, subst, arith}
+use Rattle.vm_types.specs.Limits.{user_end}
+use Rattle.std.proofs.Common.{◌≡◌, ℕ, ◌+◌, ◌-◌, ◌*◌, ◌/◌, ◌%◌, ◌≤◌, sym, ap, ◌∙◌, subst, arith}
 use Rattle.residency.specs.Picture.{picture_of}
-use Rattle.lifecycle.specs.ChildShares.{GivesShares}
-use Rattle.lifecycle.specs.Shares.{IsTableFor}
-use Rattle.lifecycle.proofs.Passed.{same_table}
-use Rattle.lifecycle.proofs.ShareSteps.{awaits_rest, gives_none, gives_no_row, gives_then}
-use Rattle.lifecycle.proofs.SharedRows.{none_of_row}
+use Rattle.lifecycle.specs.{ChildShares.{GivesShares}, Shares.{IsTableFor}}
+use Rattle.lifecycle.proofs.{Passed.{same_table}, ShareSteps.{awaits_rest, gives_none, gives_no_row, gives_then}, SharedRows.{none_of_row}}
 use Rattle.lifecycle.proofs.sharing.share_table.Goals as goal
 
 pub returns-in_default-table_for : goal.returns-in_default-table_for
@@ -32,31 +30,23 @@ loop-index-init g c =
           (omega (arith, c.requires.some));
     }
 
-pub share_at-index-requires-clause-awaits : goal.share_at-index-requires-clause-awaits
-share_at-index-requires-clause-awaits g c =
+pub share_at-index-requires : goal.share_at-index-requires
+share_at-index-requires g c =
     let k = c.loop-index.invariant in
     let first = c.table_start-first.result in
-    awaits_rest c.args.core.now c.loop-index.core c.args.parent c.args.child c.args.start (first + c.loop-index.index) c.args.stop (first + c.loop-index.index) (first + (c.args.stop - first)) c.requires.ready.awaits k.gives
-    k.least (omega arith) (omega (arith, c.table_start-first.ensures, c.requires.some))
-
-pub share_at-index-requires-clause-from : goal.share_at-index-requires-clause-from
-share_at-index-requires-clause-from g c =
-    let row : c.args.start / 512 ≡ c.table_start-first.result / 512 = same_row c.args.start ∙ ap (λ x. x / 512) (sym c.table_start-first.ensures) in
+    let is = c.table_start-first.ensures in
+    let row : c.args.start / 512 ≡ first / 512 = same_row c.args.start ∙ ap (λ x. x / 512) (sym is) in
+    let at : first % 512 ≡ 0 = ap (λ x. x % 512) is ∙ begins c.args.start in
+    let user : first + (c.args.stop - first) ≤ user_end g.M.Levels.mode = omega (arith, is, c.requires.some, c.requires.high) in
     let P : ℕ → Type 0 = λ x. IsTableFor (picture_of c.args.core.now) c.args.parent x c.in-Some.from.0 in
+    let Q : ℕ → Type 0 = λ x. IsTableFor (picture_of c.args.core.now) c.args.child x c.in-Some-table_for.to.0 in
     record {
-      place = c.loop-index.invariant.gives.places c.args.parent (c.table_start-first.result / 512) c.in-Some.from.0 (subst P row c.in-Some.ensures.found);
-      begins = ap (λ x. x % 512) c.table_start-first.ensures ∙ begins c.args.start;
-      user = omega (arith, c.table_start-first.ensures, c.requires.some, c.requires.high);
-    }
-
-pub share_at-index-requires-clause-to : goal.share_at-index-requires-clause-to
-share_at-index-requires-clause-to g c =
-    let row : c.args.start / 512 ≡ c.table_start-first.result / 512 = same_row c.args.start ∙ ap (λ x. x / 512) (sym c.table_start-first.ensures) in
-    let P : ℕ → Type 0 = λ x. IsTableFor (picture_of c.args.core.now) c.args.child x c.in-Some-table_for.to.0 in
-    record {
-      place = c.loop-index.invariant.gives.places c.args.child (c.table_start-first.result / 512) c.in-Some-table_for.to.0 (subst P row c.in-Some-table_for.ensures.found);
-      begins = ap (λ x. x % 512) c.table_start-first.ensures ∙ begins c.args.start;
-      user = omega (arith, c.table_start-first.ensures, c.requires.some, c.requires.high);
+      awaits = awaits_rest c.args.core.now c.loop-index.core c.args.parent c.args.child c.args.start (first + c.loop-index.index) c.args.stop (first + c.loop-index.index) (first + (c.args.stop - first))
+          c.requires.ready.awaits k.gives k.least (omega arith) (omega (arith, is, c.requires.some));
+      from = record { place = k.gives.places c.args.parent (first / 512) c.in-Some.from.0 (subst P row c.in-Some.ensures.found); begins = at; user = user };
+      to = record { place = k.gives.places c.args.child (first / 512) c.in-Some-table_for.to.0 (subst Q row c.in-Some-table_for.ensures.found); begins = at; user = user };
+      below = c.loop-index-test.true;
+      in_table = omega (arith, is, c.requires.one_table);
     }
 
 pub loop-index-preserved : goal.loop-index-preserved

@@ -2,13 +2,9 @@ use Rattle.std.proofs.Common.{None, ap, ◌∙◌, rules}
 use Rattle.disk_model.specs.Moments.{Nothing}
 use Rattle.regions.proofs.ResultLemmas.{on_err}
 use Rattle.residency.specs.Picture.{Picture, picture_of, root_in}
-use Rattle.fault.proofs.Spawning.{fit_started}
-use Rattle.fault.proofs.Steps.{bare_freed, room_freed}
-use Rattle.fault.proofs.Asking.{no_new_frees, asks_swap}
+use Rattle.fault.proofs.{Spawning.{fit_started}, Steps.{bare_freed, room_freed}, Asking.{no_new_frees, asks_swap}}
 use Rattle.lifecycle.specs.Changes.{KeepsProcesses}
-use Rattle.lifecycle.proofs.Keeping.{dead_root, pages_kept, no_copy_freed}
-use Rattle.lifecycle.proofs.Starting.{process_added, root_taken, root_given, bare_kept, no_copy, files_kept, room_kept}
-use Rattle.lifecycle.proofs.Asking.{asks_process, no_new_spawned}
+use Rattle.lifecycle.proofs.{Keeping.{dead_root, pages_kept, no_copy_freed}, Starting.{process_added, root_taken, root_given, bare_kept, no_copy, files_kept, room_kept}, Asking.{asks_process, no_new_spawned}}
 use Rattle.lifecycle.proofs.starts.spawn.Goals as goal
 
 pub add_process-requires : goal.add_process-requires
@@ -18,37 +14,31 @@ add_process-requires g c = record {
 
 pub returns : goal.returns
 returns g c =
+    let old : Picture g.M.Levels.mode = picture_of c.args.core.now in
+    let mid : Picture g.M.Levels.mode = picture_of c.take_table.new.self in
+    let new : Picture g.M.Levels.mode = picture_of c.add_process.new.self in
+    let n = c.in_ok-root.root.0 in
+    let root = c.in_ok-root.ensures in
+    let spawns = c.add_process.ensures.spawns in
     record {
-      ok = process_added (picture_of c.args.core.now) (picture_of c.take_table.new.self) (picture_of c.add_process.new.self) c.args.pid c.in_ok-root.root.0
-          c.in_ok-root.ensures.taken c.add_process.ensures.spawns;
-      taken = (
-        c.in_ok-root.root.0,
-        root_taken (picture_of c.args.core.now) (picture_of c.take_table.new.self) (picture_of c.add_process.new.self) c.args.pid c.in_ok-root.root.0
-            c.in_ok-root.ensures.taken c.add_process.ensures.spawns c.in_ok-root.ensures.only,
-      );
-      gives = root_given (picture_of c.args.core.now) (picture_of c.take_table.new.self) (picture_of c.add_process.new.self) c.args.pid c.in_ok-root.root.0
-          c.in_ok-root.ensures.taken c.add_process.ensures.spawns c.in_ok-root.ensures.gives;
-      bare = bare_kept (picture_of c.args.core.now) (picture_of c.take_table.new.self) (picture_of c.add_process.new.self) c.args.pid c.in_ok-root.root.0
-          c.in_ok-root.ensures.taken c.add_process.ensures.spawns;
+      ok = process_added old mid new c.args.pid n root.taken spawns;
+      taken = (n, root_taken old mid new c.args.pid n root.taken spawns root.only);
+      gives = root_given old mid new c.args.pid n root.taken spawns root.gives;
+      bare = bare_kept old mid new c.args.pid n root.taken spawns;
       keeps = record {
-        fit = fit_started (picture_of c.args.core.now) (picture_of c.take_table.new.self) (picture_of c.add_process.new.self) c.args.pid c.in_ok-root.root.0
-            c.in_ok-root.ensures.taken c.add_process.ensures.spawns;
-        room = room_kept (picture_of c.args.core.now) (picture_of c.take_table.new.self) (picture_of c.add_process.new.self) c.args.pid c.in_ok-root.root.0
-            c.in_ok-root.ensures.taken c.add_process.ensures.spawns;
+        fit = fit_started old mid new c.args.pid n root.taken spawns;
+        room = room_kept old mid new c.args.pid n root.taken spawns;
         swap = search rules;
         device = search rules;
         store = search rules;
-        files = files_kept (picture_of c.args.core.now) (picture_of c.take_table.new.self) (picture_of c.add_process.new.self) c.args.pid c.in_ok-root.root.0
-            c.in_ok-root.ensures.taken c.add_process.ensures.spawns;
-        copies = no_copy (picture_of c.args.core.now) (picture_of c.take_table.new.self) (picture_of c.add_process.new.self) c.args.pid c.in_ok-root.root.0
-            c.in_ok-root.ensures.taken c.add_process.ensures.spawns;
+        files = files_kept old mid new c.args.pid n root.taken spawns;
+        copies = no_copy old mid new c.args.pid n root.taken spawns;
         err = search rules;
         cause = search rules;
       };
       asks = asks_process g.E.SectorDisk c.args.core.now c.take_table.new.self c.add_process.new.self c.add_process.ensures.rest
-          (asks_swap g.E.SectorDisk c.args.core.now c.take_table.new.self None Nothing c.in_ok-root.ensures.asked);
-      asks_later = no_new_spawned (picture_of c.args.core.now) (picture_of c.take_table.new.self) (picture_of c.add_process.new.self) c.args.pid c.in_ok-root.root.0 c.requires.fit
-          c.in_ok-root.ensures.taken c.add_process.ensures.spawns;
+          (asks_swap g.E.SectorDisk c.args.core.now c.take_table.new.self None Nothing root.asked);
+      asks_later = no_new_spawned old mid new c.args.pid n c.requires.fit root.taken spawns;
       full = search rules;
       still = search rules;
       tried = search rules;
@@ -65,20 +55,20 @@ returns-in_err-root g c =
       ok = search rules;
       taken = search rules;
       gives = search rules;
-      bare = bare_freed (picture_of c.args.core.now) (picture_of c.take_table.new.self) _ c.in_err-root.ensures.frees;
+      bare = bare_freed old new _ c.in_err-root.ensures.frees;
       keeps = record {
         fit = search rules;
-        room = room_freed (picture_of c.args.core.now) (picture_of c.take_table.new.self) _ c.in_err-root.ensures.frees;
+        room = room_freed old new _ c.in_err-root.ensures.frees;
         swap = search rules;
         device = search rules;
         store = search rules;
         files = c.in_err-root.ensures.frees.pages.files;
-        copies = no_copy_freed (picture_of c.args.core.now) (picture_of c.take_table.new.self) _ c.in_err-root.ensures.frees;
+        copies = no_copy_freed old new _ c.in_err-root.ensures.frees;
         err = on_err c.from_residual.result (KeepsProcesses old new) (pages_kept old new c.in_err-root.ensures.frees.pages);
         cause = search rules;
       };
       asks = asks_swap g.E.SectorDisk c.args.core.now c.take_table.new.self None Nothing c.in_err-root.ensures.asked;
-      asks_later = no_new_frees (picture_of c.args.core.now) (picture_of c.take_table.new.self) None c.in_err-root.ensures.frees c.requires.fit;
+      asks_later = no_new_frees old new None c.in_err-root.ensures.frees c.requires.fit;
       full = search rules;
       still = search rules;
       tried = search rules;

@@ -1,18 +1,13 @@
 use Rattle.std.proofs.Common.{◌≡◌, ◌<◌, ℕ, sym, ◌∙◌, subst, arith, rules}
-use Rattle.frames.specs.declared.role.Role.TheVariants.{Private}
-use Rattle.frames.specs.FrameTable.{IsFrame, role_of, count_of, Shares}
+use Rattle.frames.specs.{declared.role.Role.TheVariants.{Private}, FrameTable.{IsFrame, role_of, count_of, Shares}}
 use Rattle.swap.specs.Slots.{slots_of}
 use Rattle.sv39_walk.specs.Entry.{frame_of}
 use Rattle.page_tables.specs.Entry.{number_of}
-use Rattle.residency.specs.Seats.{Seat, InFrame, InSlot}
-use Rattle.residency.specs.Picture.{Picture, picture_of}
-use Rattle.residency.specs.Parts.{IsFitBut}
+use Rattle.residency.specs.{Seats.{Seat, InFrame, InSlot}, Picture.{Picture, picture_of}, Parts.{IsFitBut}}
 use Rattle.residency.proofs.SeatForms.{seat_own}
 use Rattle.ranges.proofs.Sharing.{inside_memory, private_used}
 use Rattle.lifecycle.specs.Shares.{RaisesSeat}
-use Rattle.lifecycle.proofs.Copies.{framed_own, slot_seat}
-use Rattle.lifecycle.proofs.Given.{some_seat}
-use Rattle.lifecycle.proofs.Raised.{fit_frame, raises_frame, fit_slot, raises_slot}
+use Rattle.lifecycle.proofs.{Copies.{framed_own, slot_seat}, Given.{some_seat}, Raised.{fit_frame, raises_frame, fit_slot, raises_slot}}
 use Rattle.lifecycle.proofs.withdrawing.add_share.Goals as goal
 
 pub share-requires-clause-in_use : goal.share-requires-clause-in_use

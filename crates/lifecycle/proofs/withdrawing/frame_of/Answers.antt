@@ -1,7 +1,6 @@
 use Rattle.std.proofs.Common.{sym, ap, ◌∙◌, subst}
 use Rattle.sv39_walk.specs.Entry.{frame_of}
-use Rattle.page_tables.specs.Entry.{number_of, IsEntry}
-use Rattle.page_tables.specs.declared.forms.Entry.{Entry}
+use Rattle.page_tables.specs.{Entry.{number_of, IsEntry}, declared.forms.Entry.{Entry}}
 use Rattle.page_tables.proofs.Bits.{parked_frame}
 use Rattle.lifecycle.proofs.Copies.{own_framed}
 use Rattle.lifecycle.proofs.withdrawing.frame_of.Goals as goal

@@ -2,16 +2,10 @@ use Rattle.vm_types.proofs.Modes.{user_pages_fit}
 use Rattle.std.proofs.Common.{◌≡◌, ◌≢◌, ℕ, ◌+◌, true, None, refl, sym, ap, ◌∙◌, subst, arith, rules}
 use Rattle.sv39_walk.specs.Entry.{is_valid}
 use Rattle.page_tables.specs.Entry.{number_of}
-use Rattle.residency.specs.Seats.{seat}
-use Rattle.residency.specs.Picture.{Picture, picture_of, entry}
-use Rattle.ranges.proofs.BetweenEntries.{place_at}
-use Rattle.ranges.proofs.ClearedPages.{same_beside}
+use Rattle.residency.specs.{Seats.{seat}, Picture.{Picture, picture_of, entry}}
+use Rattle.ranges.proofs.{BetweenEntries.{place_at}, ClearedPages.{same_beside}}
 use Rattle.lifecycle.specs.Shares.{Weakens}
-use Rattle.lifecycle.proofs.Copies.{seat_names}
-use Rattle.lifecycle.proofs.Live.{live_root}
-use Rattle.lifecycle.proofs.Passed.{in_row}
-use Rattle.lifecycle.proofs.Weaker.{weaker_seat}
-use Rattle.lifecycle.proofs.Lowered.{fit_lowered, withdraws, places_set}
+use Rattle.lifecycle.proofs.{Copies.{seat_names}, Live.{live_root}, Passed.{in_row}, Weaker.{weaker_seat}, Lowered.{fit_lowered, withdraws, places_set}}
 use Rattle.lifecycle.proofs.withdrawing.withdraw_write.Goals as goal
 
 pub returns : goal.returns

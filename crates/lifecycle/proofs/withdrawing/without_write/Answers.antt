@@ -1,7 +1,6 @@
 use Rattle.std.proofs.Common.{◌≡◌, ◌-◌, true, sym, ap, ◌∙◌, subst, arith}
 use Rattle.sv39_walk.specs.Entry.{is_valid, is_leaf, can_write}
-use Rattle.page_tables.specs.Entry.{IsEntry, number_of}
-use Rattle.page_tables.specs.declared.forms.Entry.{Entry}
+use Rattle.page_tables.specs.{Entry.{IsEntry, number_of}, declared.forms.Entry.{Entry}}
 use Rattle.lifecycle.specs.Shares.{Weakens}
 use Rattle.lifecycle.proofs.Weaker.{weaker_leaf, weaker_other, still_leaf}
 use Rattle.lifecycle.proofs.withdrawing.without_write.Goals as goal

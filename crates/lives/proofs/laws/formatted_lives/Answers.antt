@@ -1,5 +1,4 @@
-use Rattle.lives.proofs.Lives.{lives_leave}
-use Rattle.lives.proofs.NewStores.{stands_for_sources}
+use Rattle.lives.proofs.{Lives.{lives_leave}, NewStores.{stands_for_sources}}
 use Rattle.lives.proofs.laws.formatted_lives.Goals as goal
 
 pub returns : goal.returns

@@ -1,5 +1,4 @@
-use Rattle.lives.proofs.Lives.{lives_leave}
-use Rattle.lives.proofs.NewStores.{upgrade_stands}
+use Rattle.lives.proofs.{Lives.{lives_leave}, NewStores.{upgrade_stands}}
 use Rattle.lives.proofs.laws.upgraded_lives.Goals as goal
 
 pub returns : goal.returns

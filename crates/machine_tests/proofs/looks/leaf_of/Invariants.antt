@@ -1,5 +1,4 @@
-use Rattle.inspection.specs.Machines.{memory_of}
-use Rattle.inspection.specs.Walks.{IsStepOfSome}
+use Rattle.inspection.specs.{Machines.{memory_of}, Walks.{IsStepOfSome}}
 use Rattle.machine_tests.proofs.looks.leaf_of.Given as goal
 
 abbrev pub invariant-loop-step : goal.invariant-loop-step

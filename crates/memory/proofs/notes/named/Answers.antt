@@ -1,7 +1,6 @@
 use Rattle.std.proofs.Common.{◌≡◌, ◌+◌, ◌*◌, ◌/◌, ◌%◌, ◌^◌, ℕ, true, false, inl, inr, refl, sym, ap, ◌∙◌, subst, arith, eq-eqb, ne_eqb}
 use Rattle.sv39_walk.specs.Entry.{has_bit, frame_of, is_private, is_swapped}
-use Rattle.page_tables.specs.Entry.{IsEntry, number_of}
-use Rattle.page_tables.specs.declared.forms.Entry.{Entry}
+use Rattle.page_tables.specs.{Entry.{IsEntry, number_of}, declared.forms.Entry.{Entry}}
 use Rattle.page_tables.proofs.Bits.{parked_frame, parked_private}
 use Rattle.memory.proofs.notes.named.Goals as goal
 

@@ -1,9 +1,7 @@
-use Rattle.std.proofs.Common.{◌≡◌, ◌<◌, ◌≤◌, ◌⊎◌, ℕ, Option, Some, None, inl, inr, refl, sym, subst, arith, length}
+use Rattle.std.proofs.{Common.{◌≡◌, ◌<◌, ◌≤◌, ◌⊎◌, ℕ, Option, Some, None, inl, inr, refl, sym, subst, arith, length}, lemmas.List.{get_or_read}}
 use Rattle.std.specs.Prelude.{IfSome, IsSome}
-use Rattle.std.proofs.lemmas.List.{get_or_read}
 use Rattle.frames.specs.FrameTable.{FrameTable, frame_count}
-use Rattle.memory.specs.declared.notes.Note.{Note}
-use Rattle.memory.specs.Notes.{Covers, NamesFrame, no_note}
+use Rattle.memory.specs.{declared.notes.Note.{Note}, Notes.{Covers, NamesFrame, no_note}}
 use Rattle.memory.proofs.notes.page_over.Goals as goal
 
 if_page : (o : Option ℕ) (n : ℕ) (P : ℕ → Type 0) → IfSome o (λ k. k ≡ n) → (IsSome o → P n) → IfSome o P

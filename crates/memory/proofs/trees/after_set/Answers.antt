@@ -1,5 +1,4 @@
-use Rattle.memory.proofs.Keeping.{fewer_page, kept_set}
-use Rattle.memory.proofs.Noting.{noted_set}
+use Rattle.memory.proofs.{Keeping.{fewer_page, kept_set}, Noting.{noted_set}}
 use Rattle.memory.proofs.trees.after_set.Goals as goal
 
 pub returns-clause-lines : goal.returns-clause-lines

@@ -1,10 +1,7 @@
 use Rattle.std.proofs.Common.{◌≡◌, ◌/◌, ◌%◌, sym, ap, subst}
 use Rattle.vm_types.specs.Limits.{top_level}
 use Rattle.frames.specs.FrameTable.{FrameTable}
-use Rattle.page_tables.specs.Tree.{IsForest, IsRoot}
-use Rattle.page_tables.specs.Places.{IsTableOf}
-use Rattle.page_tables.specs.Entry.{number_of}
-use Rattle.page_tables.specs.Change.{SetsEntry}
+use Rattle.page_tables.specs.{Tree.{IsForest, IsRoot}, Places.{IsTableOf}, Entry.{number_of}, Change.{SetsEntry}}
 use Rattle.memory.proofs.Leaves.{is_page}
 use Rattle.memory.proofs.trees.set_at.Goals as goal
 

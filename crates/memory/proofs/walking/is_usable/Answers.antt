@@ -1,7 +1,5 @@
-use Rattle.std.proofs.Common.{◌≡◌, true, sym, ◌∙◌, arith}
+use Rattle.std.proofs.{Common.{◌≡◌, true, sym, ◌∙◌, arith}, lemmas.Bool.{false≢true}, lemmas.Bool.Decides.{nat_tests}}
 use Rattle.std.specs.Prelude.{nat_lt}
-use Rattle.std.proofs.lemmas.Bool.{false≢true}
-use Rattle.std.proofs.lemmas.Bool.Decides.{nat_tests}
 use Rattle.frames.specs.FrameTable.{frame_count}
 use Rattle.memory.proofs.Walks.{refused}
 use Rattle.memory.proofs.walking.is_usable.Goals as goal

@@ -1,14 +1,10 @@
-use Rattle.std.proofs.Common.{◌≡◌, ◌≢◌, ◌%◌, ◌⊎◌, ℕ, inl, inr, rules, sym, ◌∙◌, subst, arith}
+use Rattle.std.proofs.{Common.{◌≡◌, ◌≢◌, ◌%◌, ◌⊎◌, ℕ, inl, inr, rules, sym, ◌∙◌, subst, arith}, lemmas.Bool.{cases_eq}, lemmas.Nat.Bits.{bit_at-zero}}
 use Rattle.std.specs.Int.{bit_at}
-use Rattle.std.proofs.lemmas.Bool.{cases_eq}
-use Rattle.std.proofs.lemmas.Nat.Bits.{bit_at-zero}
 use Rattle.vm_types.specs.Limits.{top_level}
 use Rattle.frames.specs.FrameTable.{FrameTable}
-use Rattle.page_tables.specs.Tree.{IsForest, IsRoot}
-use Rattle.page_tables.specs.Change.{SetsEntry}
+use Rattle.page_tables.specs.{Tree.{IsForest, IsRoot}, Change.{SetsEntry}}
 use Rattle.memory.specs.Notes.{HasKind, IsNumberOf, NamesFrame}
-use Rattle.memory.proofs.Noting.{set_back}
-use Rattle.memory.proofs.Numbers.{is_number}
+use Rattle.memory.proofs.{Noting.{set_back}, Numbers.{is_number}}
 use Rattle.memory_tests.proofs.notes.show_for_a_moment.Goals as goal
 
 no_kind : (kinds root : ℕ) → kinds ≡ 0 → HasKind kinds root → ⊥

@@ -1,8 +1,7 @@
 use Rattle.vm_types.specs.Limits.{top_level}
 use Rattle.vm_types.proofs.Modes.{user_pages_fit}
 use Rattle.std.proofs.Common.{rules, arith, ◌/◌, ◌%◌, sym, ap}
-use Rattle.page_tables.specs.Places.{IsTableOf}
-use Rattle.page_tables.specs.Tree.{IsPage}
+use Rattle.page_tables.specs.{Places.{IsTableOf}, Tree.{IsPage}}
 use Rattle.memory_tests.proofs.trees.clear.Goals as goal
 
 pub set_in-requires-clause-placed : goal.set_in-requires-clause-placed

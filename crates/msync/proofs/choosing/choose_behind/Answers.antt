@@ -1,12 +1,9 @@
 use Rattle.std.proofs.Common.{◌≤◌, sym, subst, arith}
-use Rattle.std.specs.Prelude.{IfOk}
-use Rattle.std.specs.Result.{OnErr}
+use Rattle.std.specs.{Prelude.{IfOk}, Result.{OnErr}}
 use Rattle.vm_types.specs.declared.region.Backing.{Backing}
-use Rattle.page_cache.specs.CacheTable.{is_touched}
-use Rattle.page_cache.specs.Gathering.{Gathers, HasAll}
+use Rattle.page_cache.specs.{CacheTable.{is_touched}, Gathering.{Gathers, HasAll}}
 use Rattle.msync.specs.Choice.{of_files, is_taken_behind, Appends, OverflowsRow}
-use Rattle.msync.proofs.Appending.{both_ok, map_err}
-use Rattle.msync.proofs.Gathering.{Reaches, gathered, overflown}
+use Rattle.msync.proofs.{Appending.{both_ok, map_err}, Gathering.{Reaches, gathered, overflown}}
 use Rattle.msync.proofs.choosing.choose_behind.Goals as goal
 
 pub returns-in-Shared-clause-ok : goal.returns-in-Shared-clause-ok

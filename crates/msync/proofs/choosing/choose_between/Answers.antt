@@ -2,8 +2,7 @@ use Rattle.std.proofs.Common.{ℕ, ◌≡◌, ◌-◌, arith, subst}
 use Rattle.regions.specs.RunList.{attr_at}
 use Rattle.page_cache.specs.CacheTable.{is_touched}
 use Rattle.msync.specs.Choice.{of_files, is_chosen, is_taken_behind, Appends, OverflowsRow}
-use Rattle.msync.proofs.Appending.{on_err}
-use Rattle.msync.proofs.Walking.{walk_start, walk_on, walk_over, walk_end}
+use Rattle.msync.proofs.{Appending.{on_err}, Walking.{walk_start, walk_on, walk_over, walk_end}}
 use Rattle.msync.proofs.choosing.choose_between.Goals as goal
 
 pub loop-page-init : goal.loop-page-init
@@ -25,8 +24,8 @@ loop-page-preserved g c =
     record {
       from = omega (arith, next.from, next.nonempty);
       to = omega arith;
-      chosen = walk_on g.M.Levels.mode touched map c.args.first c.loop-page.page stop run c.args.list.now c.loop-page.list c.choose_behind.new.list c.loop-page.count c.in_ok-count.count
-          next c.loop-page.invariant.from (omega (arith, next.from, next.nonempty)) (omega arith) c.loop-page.invariant.chosen step;
+      chosen = walk_on g.M.Levels.mode touched map c.args.first c.loop-page.page stop run next c.loop-page.invariant.from (omega arith) c.args.list.now c.loop-page.list
+          c.choose_behind.new.list c.loop-page.count c.in_ok-count.count (omega (arith, next.from, next.nonempty)) c.loop-page.invariant.chosen step;
     }
 
 pub returns-in_default-clause-ok : goal.returns-in_default-clause-ok
@@ -46,8 +45,8 @@ returns-in_err-count-clause-too_many g c =
     let count : c.saturating_sub-pages.result ≡ stop - run.first = omega (arith, c.saturating_sub-pages.ensures) in
     let step = subst (λ (n : ℕ). OverflowsRow (is_taken_behind touched run.attr.backing n) c.loop-page.list c.loop-page.count) count c.in_err-count.ensures.too_many in
     on_err c.from_residual.result
-    (walk_over g.M.Levels.mode touched map c.args.first c.loop-page.page stop c.args.end run c.args.list.now c.loop-page.list c.loop-page.count
-    next c.loop-page.invariant.from c.loop-page.invariant.to (omega arith) (omega arith) c.loop-page.invariant.chosen step)
+    (walk_over g.M.Levels.mode touched map c.args.first c.loop-page.page stop run next c.loop-page.invariant.from (omega arith) c.args.end c.args.list.now c.loop-page.list c.loop-page.count
+    c.loop-page.invariant.to (omega arith) c.loop-page.invariant.chosen step)
 
 pub returns-clause-ok : goal.returns-clause-ok
 returns-clause-ok g c =

@@ -1,25 +1,14 @@
-use Rattle.std.proofs.Common.{inl, inr, length, take, refl, sym, ◌∙◌, subst, rules}
+use Rattle.std.proofs.Common.{◌≡◌, ◌≢◌, ◌⊎◌, inl, inr, length, take, refl, sym, ◌∙◌, subst, rules}
 use Rattle.disk_model.specs.Moments.{LeavesNow, AsksOnly}
-use Rattle.file_store.specs.declared.store.FileStore.{FileStore}
-use Rattle.file_store.specs.Standing.{StandsFor}
-use Rattle.file_store.specs.Store.{IsReadyStore}
+use Rattle.file_store.specs.{declared.store.FileStore.{FileStore}, Standing.{StandsFor}, Store.{IsReadyStore}}
 use Rattle.swap.specs.Slots.{slots_of}
 use Rattle.swap.specs.declared.pages.Pages.{Pages as Swap_pages}
-use Rattle.sync_journal.specs.Kinds.{IsStoreUsed}
-use Rattle.sync_journal.specs.declared.faults.CommitFault.TheVariants.{Source}
-use Rattle.vm_types.specs.Msync.{committed}
-use Rattle.vm_types.specs.declared.refusal.Stall.TheVariants.{SwapDevice}
-use Rattle.residency.specs.Picture.{picture_of, entry}
-use Rattle.residency.specs.Parts.{IsFit}
-use Rattle.residency.specs.Shows.{ShowsPages}
-use Rattle.msync.specs.Asking.{IsSectorListed}
-use Rattle.msync.specs.Choice.{chosen_of, IsAway}
-use Rattle.msync.specs.Shows.{IsSoundCore}
-use Rattle.msync.specs.Settling.{Settles}
-use Rattle.msync.specs.Spots.{AreSpots, HasSlot}
+use Rattle.sync_journal.specs.{Kinds.{IsStoreUsed}, declared.faults.CommitFault.TheVariants.{Source}}
+use Rattle.vm_types.specs.{Msync.{committed}, declared.refusal.Stall.{Stall}, declared.refusal.Stall.TheVariants.{SwapDevice}, declared.reply.Answer.TheVariants.{Stalled}}
+use Rattle.residency.specs.{Picture.{picture_of}, Parts.{IsFit}, Shows.{ShowsPages}}
+use Rattle.msync.specs.{Asking.{IsSectorListed}, Choice.{chosen_of, IsAway}, Shows.{IsSoundCore}, Settling.{Settles, SettlesMemory}, Spots.{AreSpots, HasSlot}}
 use Rattle.msync.proofs.Committing.{fits, are_pages, are_spots, front_lists, changes, synced_shows, memory_synced, away_of, err_is, device_failed, source_failed, store_same, commit_done, commit_failed, commit_unread, StoreCommits}
-use Rattle.msync.proofs.Asking.{asks_listed}
-use Rattle.msync.proofs.SettledPages.{ready_shared}
+use Rattle.msync.proofs.{Asking.{asks_listed}, SettledPages.{ready_shared, settles_nothing}}
 use Rattle.msync.proofs.msyncs.commit.Goals as goal
 
 pub commit-requires-clause-pages : goal.commit-requires-clause-pages
@@ -61,6 +50,14 @@ returns-in-Ok g c =
       swap = ready_shared g.E.SectorDisk source new.swap (reads.ready c.requires.sound.swap) beside.pages c.settle.ensures.settles.slots;
       fit = c.settle.ensures.fit;
     } in
+    let memory = memory_synced (picture_of old) (picture_of new) ch list c.requires.sound.fit c.requires.listed spots settles in
+    let apart : (new.swap ≡ old.swap) ⊎ IsAway (picture_of old) ch = elim c.settle.ensures.swap [
+      | inl same ↦ elim reads.only [
+        | inl was ↦ inl (same ∙ was)
+        | inr has ↦ inr (away has)
+      ]
+      | inr has ↦ inr (away has)
+    ] in
     record {
       commits = λ s after pid addr len mode shows takes same.
           let taken = committed s pid same.first same.count s.durable in
@@ -84,30 +81,7 @@ returns-in-Ok g c =
           (subst P (sym beside.store) commits_to)
           (subst Q (sym beside.store) (λ k m now. done.ok k (model m) s.files s.durable taken now change))
           (synced_shows (picture_of old) s pid same.first same.count front list c.requires.sound.fit shows.pages spots lists (picture_of new) settles) sound;
-      ends = record {
-        fit = sound.fit;
-        frames = search rules;
-        slots = search rules;
-        memory = memory_synced (picture_of old) (picture_of new) ch list c.requires.sound.fit c.requires.listed spots settles;
-        ready = λ other. sound;
-        size = search rules;
-        kept = search rules;
-        swap = sound.swap;
-        device = search rules;
-        away = elim c.settle.ensures.swap [
-          | inl same ↦ elim reads.only [
-            | inl was ↦ inl (same ∙ was)
-            | inr has ↦ inr (away has)
-          ]
-          | inr has ↦ inr (away has)
-        ];
-        later = search rules;
-        cause = search rules;
-        calm = search rules;
-        stalled = search rules;
-        still = search rules;
-        refused = search rules;
-      };
+      ends = search rules;
       asks_store =
           let P : FileStore g.row.D.Denot → Type 0 = λ x. AsksOnly g.D.SectorDisk (IsStoreUsed old.store.journal) old.store.disk x.disk in
           subst P (sym beside.store) done.asks_device;
@@ -118,7 +92,6 @@ returns-in-Ok g c =
     }
 
 pub returns-in-Err-Device : goal.returns-in-Err-Device
-unfolding entry
 returns-in-Err-Device g c =
     let old = c.args.core.now in
     let ch = chosen_of c.args.list.now c.args.count in
@@ -130,6 +103,12 @@ returns-in-Err-Device g c =
     let reads = done.asks.follows.2 in
     let source = c.commit.new.source.swap.now in
     let away : HasSlot list → IsAway (picture_of old) ch = λ has. away_of (picture_of old) ch list few spots has in
+    let memory : SettlesMemory (picture_of old) _ = store_same (λ x. SettlesMemory (picture_of old) x) (picture_of old) (slots_of old.swap) (slots_of source) old.store.directory c.commit.new.self.directory
+    reads.slots done.files (settles_nothing (picture_of old)) in
+    let apart : (source ≡ old.swap) ⊎ IsAway (picture_of old) ch = elim reads.only [
+      | inl same ↦ inl same
+      | inr has ↦ inr (away has)
+    ] in
     let fit : IsFit _ = store_same IsFit (picture_of old) (slots_of old.swap) (slots_of source) old.store.directory c.commit.new.self.directory reads.slots done.files c.requires.sound.fit in
     record {
       commits = λ s after pid addr len mode shows takes same.
@@ -140,37 +119,16 @@ returns-in-Err-Device g c =
           let model : M → HasSlot c.commit.new.source.spots.now → g.E.SectorDisk.keeps_model source.pages.disk =
           λ m has. m (away (subst (λ l. HasSlot l) done.asks.follows.1 has)) in
           commit_failed g.D.SectorDisk g.E.SectorDisk M old _ s after pid addr len mode ch shows same takes
-          (record { directory = done.files; slots = reads.slots; frames = refl; cache = refl; roots = refl; regions = refl; page_of = refl; clock = refl; refused = refl })
           (record { directory = done.files; size = done.size; kept = done.kept; either = λ k m now. done.any_moment k (model m) s.files s.durable taken now change })
+          (record { directory = done.files; slots = reads.slots; frames = refl; cache = refl; roots = refl; regions = refl; page_of = refl; clock = refl; refused = refl })
           (device_failed _ _ _ _ c.in-Err-Device.field-0 c.in-Err-Device.field-0-is done.causes);
-      ends = record {
-        fit = fit;
-        frames = search rules;
-        slots = search rules;
-        memory = record { roles = λ n. refl; entries = λ pid page h. inl refl; places = λ p. inl refl };
-        ready = search rules;
-        size = search rules;
-        kept = search rules;
-        swap = search rules;
-        device = search rules;
-        away = elim reads.only [
-          | inl same ↦ inl same
-          | inr has ↦ inr (away has)
-        ];
-        later = search rules;
-        cause = search rules;
-        calm = search rules;
-        stalled = search rules;
-        still = search rules;
-        refused = search rules;
-      };
+      ends = search rules;
       asks_store = search rules;
       asks_slots = asks_listed g.E.SectorDisk (picture_of old) ch list old.swap.pages.disk source.pages.disk few spots reads.asks;
       answers = search rules;
     }
 
 pub returns-in-Err-Source : goal.returns-in-Err-Source
-unfolding entry
 returns-in-Err-Source g c =
     let old = c.args.core.now in
     let ch = chosen_of c.args.list.now c.args.count in
@@ -182,7 +140,14 @@ returns-in-Err-Source g c =
     let reads = done.asks.follows.2 in
     let source = c.commit.new.source.swap.now in
     let away : HasSlot list → IsAway (picture_of old) ch = λ has. away_of (picture_of old) ch list few spots has in
+    let memory : SettlesMemory (picture_of old) _ = store_same (λ x. SettlesMemory (picture_of old) x) (picture_of old) (slots_of old.swap) (slots_of source) old.store.directory c.commit.new.self.directory
+    reads.slots done.files (settles_nothing (picture_of old)) in
+    let apart : (source ≡ old.swap) ⊎ IsAway (picture_of old) ch = elim reads.only [
+      | inl same ↦ inl same
+      | inr has ↦ inr (away has)
+    ] in
     let fit : IsFit _ = store_same IsFit (picture_of old) (slots_of old.swap) (slots_of source) old.store.directory c.commit.new.self.directory reads.slots done.files c.requires.sound.fit in
+    let still : ((stall : Stall) → Stalled SwapDevice ≢ Stalled stall) → g.E.SectorDisk.failures source.pages.disk ≡ g.E.SectorDisk.failures old.swap.pages.disk = λ none. absurd (none SwapDevice refl) in
     let failed = err_is c.in-Err-Source.field-0 Source c.in-Err-Source.field-0-is in
     let sound : IsSoundCore g.D.SectorDisk g.E.SectorDisk _ = record { ready = done.ready_after_source failed; swap = reads.ready c.requires.sound.swap; fit = fit } in
     record {
@@ -194,32 +159,12 @@ returns-in-Err-Source g c =
           let model : M → HasSlot c.commit.new.source.spots.now → g.E.SectorDisk.keeps_model source.pages.disk =
           λ m has. m (away (subst (λ l. HasSlot l) done.asks.follows.1 has)) in
           commit_unread g.D.SectorDisk g.E.SectorDisk M old _ s after pid addr len mode ch shows same takes
-          (record { directory = done.files; slots = reads.slots; frames = refl; cache = refl; roots = refl; regions = refl; page_of = refl; clock = refl; refused = refl })
           (record { directory = done.files; size = done.size; kept = done.kept; either = λ k m now. done.any_moment k (model m) s.files s.durable taken now change })
+          (record { directory = done.files; slots = reads.slots; frames = refl; cache = refl; roots = refl; regions = refl; page_of = refl; clock = refl; refused = refl })
           (source_failed _ _ _ _ c.in-Err-Source.field-0 c.in-Err-Source.field-0-is done.causes)
           (store_same (λ x. ShowsPages x s) (picture_of old) (slots_of old.swap) (slots_of source) old.store.directory c.commit.new.self.directory reads.slots done.files shows.pages) sound
           (λ k now. done.source_now k failed s.files s.durable now) (λ k now. done.source k failed s.files s.durable now);
-      ends = record {
-        fit = fit;
-        frames = search rules;
-        slots = search rules;
-        memory = record { roles = λ n. refl; entries = λ pid page h. inl refl; places = λ p. inl refl };
-        ready = λ other. sound;
-        size = search rules;
-        kept = search rules;
-        swap = search rules;
-        device = search rules;
-        away = elim reads.only [
-          | inl same ↦ inl same
-          | inr has ↦ inr (away has)
-        ];
-        later = search rules;
-        cause = search rules;
-        calm = search rules;
-        stalled = search rules;
-        still = λ none. absurd (none SwapDevice refl);
-        refused = search rules;
-      };
+      ends = search rules;
       asks_store = search rules;
       asks_slots = asks_listed g.E.SectorDisk (picture_of old) ch list old.swap.pages.disk source.pages.disk few spots reads.asks;
       answers = search rules;

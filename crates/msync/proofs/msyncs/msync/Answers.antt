@@ -1,28 +1,14 @@
 use Rattle.std.proofs.Common.{rules}
 use Rattle.msync.specs.Choice.{chosen_of, chosen_page, IsAway, TakesAway}
-use Rattle.msync.proofs.Asking.{asks_taken}
-use Rattle.msync.proofs.Committing.{takes_some, commits_under}
-use Rattle.msync.proofs.Ends.{ends_nothing, ends_under}
+use Rattle.msync.proofs.{Asking.{asks_taken}, Committing.{takes_some, commits_under}, Ends.{ends_nothing, ends_under}}
 use Rattle.residency.specs.Picture.{picture_of}
 use Rattle.msync.proofs.msyncs.msync.Goals as goal
 
 pub returns-in-Refuses : goal.returns-in-Refuses
-returns-in-Refuses g c = record {
-  passes = search rules;
-  commits = search rules;
-  ends = ends_nothing g.D.SectorDisk g.E.SectorDisk _ c.args.core.now _ c.requires.sound (λ is. search rules) (λ stall is. search rules);
-  asks = search rules;
-  unasked = search rules;
-}
+returns-in-Refuses g c = search (rules, ends_nothing)
 
 pub returns-in-Passes : goal.returns-in-Passes
-returns-in-Passes g c = record {
-  passes = search rules;
-  commits = search rules;
-  ends = ends_nothing g.D.SectorDisk g.E.SectorDisk _ c.args.core.now _ c.requires.sound (λ is. search rules) (λ stall is. search rules);
-  asks = search rules;
-  unasked = search rules;
-}
+returns-in-Passes g c = search (rules, ends_nothing)
 
 pub returns-in-Takes : goal.returns-in-Takes
 returns-in-Takes g c =

@@ -1,7 +1,6 @@
 use Rattle.std.proofs.Common.{◌≡◌, ◌<◌, ℕ, List, refl, sym, ap, ◌∙◌, arith}
 use Rattle.vm_types.specs.declared.object.PageKey.TheVariants.{File}
-use Rattle.frames.specs.declared.role.Role.TheVariants.{Cache}
-use Rattle.frames.specs.FrameTable.{FrameTable, role_of, IsFrame, IsHeld, IsSound, with_bytes, is_handed_out}
+use Rattle.frames.specs.{declared.role.Role.TheVariants.{Cache}, FrameTable.{FrameTable, role_of, IsFrame, IsHeld, IsSound, with_bytes, is_handed_out}}
 use Rattle.frames.proofs.FrameLemmas.{with_bytes-others, IsSound-step, IsHeld-above, IsHeld-not_zero}
 use Rattle.residency.specs.Picture.{Picture, picture_of}
 use Rattle.msync.proofs.Settled.{fit_cut}

@@ -1,8 +1,6 @@
 use Rattle.std.proofs.Common.{◌≡◌, ◌⊎◌}
-use Rattle.residency.specs.Picture.{picture_of}
-use Rattle.residency.specs.Parts.{IsFit}
-use Rattle.msync.specs.Spots.{HasSlot}
-use Rattle.msync.specs.Settling.{KeepsBesidePages, Settles}
+use Rattle.residency.specs.{Picture.{picture_of}, Parts.{IsFit}}
+use Rattle.msync.specs.{Spots.{HasSlot}, Settling.{KeepsBesidePages, Settles}}
 use Rattle.msync.proofs.settling.settle.Given as goal
 
 abbrev pub invariant-loop-i : goal.invariant-loop-i

@@ -2,9 +2,8 @@ use Rattle.std.proofs.Common.{inl, refl, ap, ◌∙◌, arith}
 use Rattle.vm_types.specs.declared.object.PageKey.TheVariants.{File}
 use Rattle.page_cache.specs.CacheTable.{place_of, is_touched}
 use Rattle.residency.specs.Picture.{Picture, picture_of, is_data}
-use Rattle.msync.proofs.Beside.{same_beside}
+use Rattle.msync.proofs.{Beside.{same_beside}, Settled.{frames_cut, settles_framed}}
 use Rattle.residency.proofs.Cleaning.{Untouches, fit_untouched, all_placed}
-use Rattle.msync.proofs.Settled.{frames_cut, settles_framed}
 use Rattle.msync.proofs.settling.settle_in_frame.Goals as goal
 
 pub change_leaves-requires-clause-inside : goal.change_leaves-requires-clause-inside

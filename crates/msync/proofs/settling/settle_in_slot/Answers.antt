@@ -1,5 +1,4 @@
-use Rattle.std.proofs.Common.{rules, inr, refl, sym, ◌∙◌, arith}
-use Rattle.std.proofs.lemmas.Bool.{false≢true}
+use Rattle.std.proofs.{Common.{rules, inr, refl, sym, ◌∙◌, arith}, lemmas.Bool.{false≢true}}
 use Rattle.vm_types.specs.declared.object.PageKey.TheVariants.{File}
 use Rattle.swap.specs.Slots.{slots_of}
 use Rattle.page_cache.specs.CacheTable.{place_of, is_touched}

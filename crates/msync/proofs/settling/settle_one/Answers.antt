@@ -1,8 +1,6 @@
 use Rattle.std.proofs.Common.{sym, subst}
 use Rattle.residency.specs.Picture.{picture_of}
-use Rattle.msync.specs.declared.chosen.Residence.{Residence}
-use Rattle.msync.specs.declared.chosen.Spot.{Spot}
-use Rattle.msync.specs.Settling.{IsSettleable, SettlesPage}
+use Rattle.msync.specs.{declared.chosen.Residence.{Residence}, declared.chosen.Spot.{Spot}, Settling.{IsSettleable, SettlesPage}}
 use Rattle.msync.proofs.settling.settle_one.Goals as goal
 
 pub settle_in_frame-requires : goal.settle_in_frame-requires

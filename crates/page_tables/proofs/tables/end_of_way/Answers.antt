@@ -1,11 +1,8 @@
 use Rattle.vm_types.specs.Limits.{top_level}
 use Rattle.std.proofs.Common.{◌≡◌, ◌-◌, ◌+◌, ◌<◌, false, inr, refl, sym, ap, ◌∙◌, arith, rules}
-use Rattle.sv39_walk.specs.Entry.{entry_at, is_pointer, is_valid}
-use Rattle.sv39_walk.specs.Walk.{index_of}
+use Rattle.sv39_walk.specs.{Entry.{entry_at, is_pointer, is_valid}, Walk.{index_of}}
 use Rattle.page_tables.specs.Tree.{last_table}
-use Rattle.page_tables.proofs.Ends.{valid_points}
-use Rattle.page_tables.proofs.Ways.{last_table-zero, last_at-next, last_at-stop}
-use Rattle.page_tables.proofs.tables.end_of_way.Given.{Over}
+use Rattle.page_tables.proofs.{Ends.{valid_points}, Ways.{last_table-zero, last_at-next, last_at-stop}, tables.end_of_way.Given.{Over}}
 use Rattle.page_tables.proofs.tables.end_of_way.Goals as goal
 
 stopped : (g : Over) (c : goal.Then-not-is_valid g) → (c.loop-level.level, c.loop-level.table.0) ≡ last_table c.args.frames.now c.args.page (top_level g.M.Levels.mode) c.args.root.0

@@ -1,7 +1,6 @@
 use Rattle.vm_types.specs.Limits.{top_level}
 use Rattle.std.proofs.Common.{◌≡◌, ◌≢◌, sym, ap, ◌∙◌, arith}
-use Rattle.sv39_walk.specs.Entry.{entry_at}
-use Rattle.sv39_walk.specs.Walk.{index_of}
+use Rattle.sv39_walk.specs.{Entry.{entry_at}, Walk.{index_of}}
 use Rattle.page_tables.specs.Tree.{last_table, missing_of}
 use Rattle.page_tables.proofs.Ends.{missing_of-is, last_entry-is, page_entry-missing, page_entry-whole}
 use Rattle.page_tables.proofs.tables.entry_number.Goals as goal

@@ -1,8 +1,7 @@
 use Rattle.vm_types.specs.Limits.{top_level}
 use Rattle.std.proofs.Common.{ap, ◌∙◌}
 use Rattle.sv39_walk.specs.Walk.{index_of}
-use Rattle.page_tables.specs.Tree.{last_table}
-use Rattle.page_tables.specs.Change.{ChangesEntry}
+use Rattle.page_tables.specs.{Tree.{last_table}, Change.{ChangesEntry}}
 use Rattle.page_tables.proofs.Linking.{links}
 use Rattle.page_tables.proofs.tables.link_table.Goals as goal
 

@@ -1,7 +1,6 @@
 use Rattle.vm_types.specs.Limits.{top_level}
 use Rattle.std.proofs.Common.{◌-◌}
-use Rattle.page_tables.specs.Tree.{IsForest, IsRoot, missing_of}
-use Rattle.page_tables.specs.Change.{Prunes}
+use Rattle.page_tables.specs.{Tree.{IsForest, IsRoot, missing_of}, Change.{Prunes}}
 use Rattle.page_tables.proofs.tables.prune.Given as goal
 
 abbrev pub invariant-loop-root : goal.invariant-loop-root

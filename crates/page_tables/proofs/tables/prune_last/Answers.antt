@@ -1,11 +1,7 @@
 use Rattle.vm_types.specs.Limits.{top_level}
 use Rattle.std.proofs.Common.{◌≡◌, ℕ, ◌+◌, ◌<◌, sym, ap, ◌∙◌, subst, arith}
-use Rattle.page_tables.specs.Tree.{Points, last_table, missing_of}
-use Rattle.page_tables.specs.Change.{Prunes}
-use Rattle.page_tables.proofs.Ends.{missing_of-is}
-use Rattle.page_tables.proofs.Linking.{pair}
-use Rattle.page_tables.proofs.Pruning.{empty_apart, otherwise, prunes, missing_up}
-use Rattle.page_tables.proofs.tables.prune_last.Given.{Over}
+use Rattle.page_tables.specs.{Tree.{Points, last_table, missing_of}, Change.{Prunes}}
+use Rattle.page_tables.proofs.{Ends.{missing_of-is}, Linking.{pair}, Pruning.{empty_apart, otherwise, prunes, missing_up}, tables.prune_last.Given.{Over}}
 use Rattle.page_tables.proofs.tables.prune_last.Goals as goal
 
 pub returns-then-table-root-clause-in_levels : goal.returns-then-table-root-clause-in_levels

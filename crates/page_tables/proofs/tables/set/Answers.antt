@@ -2,11 +2,8 @@ use Rattle.vm_types.specs.Limits.{top_level}
 use Rattle.vm_types.proofs.Modes.{user_pages_fit}
 use Rattle.std.proofs.Common.{inr, refl, sym, ap, ◌∙◌, arith}
 use Rattle.sv39_walk.specs.Walk.{index_of}
-use Rattle.page_tables.specs.Tree.{last_table}
-use Rattle.page_tables.specs.Entry.{number_of, IsSoftware}
-use Rattle.page_tables.specs.Change.{ChangesEntry}
-use Rattle.page_tables.proofs.Numbers.{number_of-not_pointer}
-use Rattle.page_tables.proofs.Setting.{sets}
+use Rattle.page_tables.specs.{Tree.{last_table}, Entry.{number_of, IsSoftware}, Change.{ChangesEntry}}
+use Rattle.page_tables.proofs.{Numbers.{number_of-not_pointer}, Setting.{sets}}
 use Rattle.page_tables.proofs.tables.set.Goals as goal
 
 pub returns-clause-sets : goal.returns-clause-sets

@@ -1,10 +1,7 @@
 use Rattle.std.proofs.Common.{inr, refl, ◌∙◌}
 use Rattle.sv39_walk.specs.Walk.{index_of}
-use Rattle.page_tables.specs.Entry.{number_of, IsSoftware}
-use Rattle.page_tables.specs.Change.{ChangesEntry}
-use Rattle.page_tables.proofs.Numbers.{number_of-not_pointer}
-use Rattle.page_tables.proofs.Places.{index_low}
-use Rattle.page_tables.proofs.Setting.{sets, kept_frames}
+use Rattle.page_tables.specs.{Entry.{number_of, IsSoftware}, Change.{ChangesEntry}}
+use Rattle.page_tables.proofs.{Numbers.{number_of-not_pointer}, Pages.{index_of-zero}, Setting.{sets, kept_frames}}
 use Rattle.page_tables.proofs.tables.set_in.Goals as goal
 
 pub returns-clause-sets : goal.returns-clause-sets
@@ -13,7 +10,7 @@ returns-clause-sets c top root page is_root small row is =
     let leaf = number_of-not_pointer c.args.entry c.requires.form in
     let software : IsSoftware (number_of c.args.entry) = inr (record { entry = c.args.entry; form = c.requires.form; is = refl }) in
     let change : ChangesEntry t c.write_entry.new.frames c.args.table.0 (index_of page 0) (number_of c.args.entry) =
-    rw (index_low page ∙ is, ← c.encode.ensures) c.write_entry.ensures.change in
+    rw (index_of-zero page ∙ is, ← c.encode.ensures) c.write_entry.ensures.change in
     sets t c.write_entry.new.frames top root page c.args.table.0 (number_of c.args.entry) c.requires.forest is_root
     (row.whole page refl) (row.last page refl) software leaf change small
 

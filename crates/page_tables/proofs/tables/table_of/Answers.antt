@@ -1,8 +1,7 @@
 use Rattle.vm_types.specs.Limits.{top_level}
 use Rattle.std.proofs.Common.{◌≡◌, sym, ap, ◌∙◌, arith}
 use Rattle.page_tables.specs.Tree.{last_table}
-use Rattle.page_tables.proofs.Ends.{missing_of-is}
-use Rattle.page_tables.proofs.Places.{found_at}
+use Rattle.page_tables.proofs.{Ends.{missing_of-is}, Places.{found_at}}
 use Rattle.page_tables.proofs.tables.table_of.Goals as goal
 
 pub returns-then-level-gt0-clause-missing : goal.returns-then-level-gt0-clause-missing

@@ -1,9 +1,6 @@
-use Rattle.std.proofs.Common.{◌≡◌, ◌+◌, ◌*◌, ◌/◌, ◌<◌, ◌≤◌, ◌++◌, sym, ap, subst, ◌∙◌, take, drop, arith, rules}
-use Rattle.std.proofs.KnownBytes.{Appends-trans}
-use Rattle.std.proofs.lemmas.List.{take-append-drop}
+use Rattle.std.proofs.{Common.{◌≡◌, ◌+◌, ◌*◌, ◌/◌, ◌<◌, ◌≤◌, ◌++◌, sym, ap, subst, ◌∙◌, take, drop, arith, rules}, KnownBytes.{Appends-trans}, lemmas.List.{take-append-drop}}
 use Rattle.std.specs.Io.KnownBytes.{Appends}
-use Rattle.programs.proofs.Asking.{reads_more}
-use Rattle.programs.proofs.Copies.{begins_more, next_piece, all_pages}
+use Rattle.programs.proofs.{Asking.{reads_more}, Copies.{begins_more, next_piece, all_pages}}
 use Rattle.programs.proofs.showing.copy_file.Goals as goal
 
 pub returns-in-Err-clause-reads : goal.returns-in-Err-clause-reads

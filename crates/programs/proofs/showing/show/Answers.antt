@@ -1,6 +1,5 @@
 use Rattle.std.proofs.Common.{refl, sym, ap, ◌∙◌, subst, Err, rules}
-use Rattle.programs.proofs.Asking.{keeps_image, keeps_unopened}
-use Rattle.programs.proofs.Copies.{same_open, opened_bytes, opened_info}
+use Rattle.programs.proofs.{Asking.{keeps_image, keeps_unopened}, Copies.{same_open, opened_bytes, opened_info}}
 use Rattle.programs.specs.Showing.{KeepsImage, RefusesToShow}
 use Rattle.programs.proofs.showing.show.Goals as goal
 

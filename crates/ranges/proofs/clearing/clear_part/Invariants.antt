@@ -1,6 +1,5 @@
 use Rattle.std.proofs.Common.{ℕ, ◌≡◌, ◌-◌, ◌≤◌}
-use Rattle.residency.specs.Parts.{IsFit}
-use Rattle.residency.specs.Picture.{picture_of}
+use Rattle.residency.specs.{Parts.{IsFit}, Picture.{picture_of}}
 use Rattle.ranges.specs.Steps.{KeepsBesideMemory, Clears, IsCleared}
 use Rattle.ranges.proofs.clearing.clear_part.Given as goal
 

@@ -1,6 +1,6 @@
-use Rattle.std.proofs.Common.{◌≡◌, ◌-◌, ◌≤◌, ◌⊎◌}
-use Rattle.residency.specs.Parts.{IsFit}
-use Rattle.residency.specs.Picture.{picture_of}
+use Rattle.std.proofs.Common.{◌≡◌, ◌-◌, ◌≤◌}
+use Rattle.std.specs.Prelude.{max}
+use Rattle.residency.specs.{Parts.{IsFit}, Picture.{picture_of}}
 use Rattle.ranges.specs.Steps.{KeepsBesideMemory, Clears, IsCleared}
 use Rattle.ranges.proofs.clearing.clear_row.Given as goal
 
@@ -8,7 +8,7 @@ abbrev pub invariant-loop-part : goal.invariant-loop-part
 invariant-loop-part g l = record {
   fit : IsFit (picture_of l.core);
   low : l.initial.page ≤ l.page;
-  high : (l.page ≡ l.initial.page) ⊎ (l.page ≤ l.end);
+  high : l.page ≤ max l.initial.page l.end;
   clears : Clears (picture_of l.initial.core) (picture_of l.core) l.pid l.initial.page l.page;
   cleared : IsCleared (picture_of l.core) l.pid l.initial.page l.page;
   rest : KeepsBesideMemory l.initial.core l.core;

@@ -3,13 +3,8 @@ use Rattle.std.proofs.Common.{◌≡◌, ℕ, ◌+◌, ◌-◌, ◌*◌, ◌/◌
 use Rattle.page_tables.specs.Places.{IsTableOf}
 use Rattle.residency.specs.Picture.{Picture, picture_of}
 use Rattle.ranges.specs.Steps.{Clears}
-use Rattle.ranges.proofs.ClearedPages.{same_beside, rest-refl, rest_then, tables-refl, tables_then, clears_none, clears_then}
-use Rattle.ranges.proofs.Gaps.{in_row_of, user_inside, lives}
-use Rattle.ranges.proofs.Pruned.{fit_pruned, clears_pruned, cleared_block, cleared_still}
+use Rattle.ranges.proofs.{ClearedPages.{same_beside, rest-refl, rest_then, tables-refl, tables_then, clears_none, clears_then}, Gaps.{in_row_of, user_inside}, Pruned.{fit_pruned, clears_pruned, cleared_block, cleared_still}}
 use Rattle.ranges.proofs.clearing.clear_table.Goals as goal
-
-pub root_of-root-requires : goal.root_of-root-requires
-root_of-root-requires g c = record { live = lives ((picture_of c.args.core.now).root c.args.pid) c.requires.part.live }
 
 pub table_of-requires-clause-root : goal.table_of-requires-clause-root
 table_of-requires-clause-root g c = c.requires.part.fit.rooted.roots c.args.pid c.root_of-root.result.0 c.root_of-root.ensures
@@ -83,25 +78,23 @@ returns g c =
     let old : Picture g.M.Levels.mode = picture_of c.args.core.now in
     let mid : Picture g.M.Levels.mode = picture_of c.loop-index.core in
     let new : Picture g.M.Levels.mode = record mid { frames = c.prune.new.memory } in
-    let first = c.table_start-first.ensures in
-    let high = c.loop-index.invariant.high in
-    let end : c.table_start-first.result + c.loop-index.index ≡ c.args.stop = omega (arith, first, high, c.loop-index-test.false, c.requires.part.some) in
+    let r = c.root_of-root.result.0 in
+    let k = c.loop-index.invariant in
+    let part = c.requires.part in
+    let high = k.high in
+    let end : c.table_start-first.result + c.loop-index.index ≡ c.args.stop = omega (arith, c.table_start-first.ensures, high, c.loop-index-test.false, part.some) in
     let P : ℕ → Type 0 = λ x. Clears old mid c.args.pid c.args.start x in
-    let clears : Clears old mid c.args.pid c.args.start c.args.stop = subst P end c.loop-index.invariant.clears in
+    let clears : Clears old mid c.args.pid c.args.start c.args.stop = subst P end k.clears in
+    let same = same_beside mid c.prune.new.memory in
     record {
       pages = record {
-        clears = clears_then old mid new c.args.pid c.args.start c.args.stop c.args.stop c.requires.part.fit (omega (arith, c.requires.part.some)) (omega arith)
-            (subst P end c.loop-index.invariant.clears)
-            (clears_pruned mid new c.args.pid c.root_of-root.result.0 _ c.loop-index.invariant.fit c.loop-index.core.sound c.loop-index.invariant.root_is
-            c.prune.ensures.prunes (same_beside mid c.prune.new.memory) c.args.stop c.args.stop (λ page h least below. absurd (omega (arith, least, below))));
-        fit = fit_pruned mid new c.args.pid c.root_of-root.result.0 _ c.loop-index.invariant.fit c.loop-index.core.sound c.loop-index.invariant.root_is
-            c.prune.ensures.prunes (same_beside mid c.prune.new.memory);
+        clears = clears_pruned mid new c.args.pid r c.args.start k.fit c.loop-index.core.sound k.root_is c.prune.ensures.prunes same old c.args.start c.args.stop (omega arith) part.some clears;
+        fit = fit_pruned mid new c.args.pid r c.args.start k.fit c.loop-index.core.sound k.root_is c.prune.ensures.prunes same;
         rest = search rules;
         refused = search rules;
       };
-      cleared = λ low le cleared. cleared_block mid new c.args.pid c.root_of-root.result.0 c.args.start c.loop-index.invariant.fit c.loop-index.core.sound c.loop-index.invariant.root_is
-          c.prune.ensures.prunes (same_beside mid c.prune.new.memory) low c.args.stop le
-          (cleared_still old mid c.args.pid low c.args.start c.args.stop clears c.loop-index.invariant.tables cleared) clears.gone c.prune.ensures.pruned
-          (user_inside g.M.Levels.mode c.args.start c.args.stop c.requires.part.some c.requires.part.high) 1 (omega arith) (inl refl)
+      cleared = λ low le cleared. cleared_block mid new c.args.pid r c.args.start k.fit c.loop-index.core.sound k.root_is c.prune.ensures.prunes same low c.args.stop le
+          (cleared_still old mid c.args.pid low c.args.start c.args.stop clears k.tables cleared) clears.gone c.prune.ensures.pruned
+          (user_inside g.M.Levels.mode c.args.start c.args.stop part.some part.high) 1 (omega arith) (inl refl)
           (λ p from below. in_row_of c.args.start p c.args.stop ((c.args.start / 512 + 1) * 512) from below c.requires.one_table refl);
     }

@@ -1,11 +1,8 @@
 use Rattle.std.proofs.Common.{◌≡◌, ℕ, ap, ◌∙◌, subst, arith, rules}
-use Rattle.frames.specs.declared.role.Role.TheVariants.{Private}
-use Rattle.frames.specs.FrameTable.{Releases, role_of}
+use Rattle.frames.specs.{declared.role.Role.TheVariants.{Private}, FrameTable.{Releases, role_of}}
 use Rattle.sv39_walk.specs.Entry.{frame_of}
-use Rattle.residency.specs.Seats.{InFrame, seat}
-use Rattle.residency.specs.Picture.{Picture, picture_of}
-use Rattle.ranges.proofs.Returning.{lacks_some, frame_seat, fit_frame, gives_frame}
-use Rattle.ranges.proofs.Sharing.{inside_memory, private_used, held_private}
+use Rattle.residency.specs.{Seats.{InFrame, seat}, Picture.{Picture, picture_of}}
+use Rattle.ranges.proofs.{Returning.{lacks_some, frame_seat, fit_frame, gives_frame}, Sharing.{inside_memory, private_used, held_private}}
 use Rattle.ranges.proofs.clearing.give_back_frame.Goals as goal
 
 pub frame_number-requires : goal.frame_number-requires

@@ -1,7 +1,6 @@
 use Rattle.std.proofs.Common.{rules}
 use Rattle.swap.specs.Slots.{slots_of}
-use Rattle.residency.specs.Seats.{InSlot, seat}
-use Rattle.residency.specs.Picture.{Picture, picture_of}
+use Rattle.residency.specs.{Seats.{InSlot, seat}, Picture.{Picture, picture_of}}
 use Rattle.ranges.proofs.Returning.{lacks_some, lacks_none, slot_of, not_away, no_seat, gives_none, fit_slot, gives_slot}
 use Rattle.ranges.proofs.clearing.give_back_slot.Goals as goal
 

@@ -1,17 +1,9 @@
 use Rattle.std.proofs.Common.{◌≡◌, ℕ, ◌+◌, ◌<◌, inl, inr, true, Some, None, sym, ap, ◌∙◌, subst, arith, rules}
-use Rattle.vm_types.specs.Objects.{is_named}
-use Rattle.vm_types.specs.declared.object.ObjectPage.{ObjectPage}
-use Rattle.vm_types.specs.declared.object.PageKey.TheVariants.{Object}
-use Rattle.page_cache.specs.declared.place.Place.{Place}
-use Rattle.page_cache.specs.declared.place.Place.TheVariants.{Home, Frame, Slot}
-use Rattle.page_cache.specs.CacheTable.{CacheTable, cache_frames, slot_count, IsInside}
-use Rattle.residency.specs.declared.kernel.Core.{Core}
-use Rattle.residency.specs.Calls.{KeepsBesidePlaces}
-use Rattle.residency.specs.Picture.{Picture, picture_of}
+use Rattle.vm_types.specs.{Objects.{is_named}, declared.object.ObjectPage.{ObjectPage}, declared.object.PageKey.TheVariants.{Object}}
+use Rattle.page_cache.specs.{declared.place.Place.{Place}, declared.place.Place.TheVariants.{Home, Frame, Slot}, CacheTable.{CacheTable, cache_frames, slot_count, IsInside}}
+use Rattle.residency.specs.{declared.kernel.Core.{Core}, Calls.{KeepsBesidePlaces}, Picture.{Picture, picture_of}}
 use Rattle.ranges.specs.Rows.{ForgetsMore, node_of, without_maps}
-use Rattle.ranges.proofs.Emptied.{pages_inside}
-use Rattle.ranges.proofs.LastName.{same_without, more_then, gone_none, gone_named, gone_forgot, forgets_all, rest_then}
-use Rattle.ranges.proofs.forgetting.forget_nodes.Goals.{in-Some, in_default}
+use Rattle.ranges.proofs.{Emptied.{pages_inside}, LastName.{same_without, more_then, gone_none, gone_named, gone_forgot, forgets_all, rest_then}, forgetting.forget_nodes.Goals.{in-Some, in_default}}
 use Rattle.ranges.proofs.forgetting.forget_nodes.Goals as goal
 
 -- a node of a place is one of the nodes

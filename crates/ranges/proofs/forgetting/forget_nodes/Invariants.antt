@@ -1,11 +1,7 @@
 use Rattle.std.proofs.Common.{◌≡◌, true, Some, ℕ, ◌<◌}
-use Rattle.vm_types.specs.Objects.{is_named}
-use Rattle.vm_types.specs.declared.object.ObjectPage.{ObjectPage}
-use Rattle.vm_types.specs.declared.object.PageKey.TheVariants.{Object}
+use Rattle.vm_types.specs.{Objects.{is_named}, declared.object.ObjectPage.{ObjectPage}, declared.object.PageKey.TheVariants.{Object}}
 use Rattle.page_cache.specs.CacheTable.{cache_frames}
-use Rattle.residency.specs.Calls.{KeepsBesidePlaces}
-use Rattle.residency.specs.Parts.{IsFit}
-use Rattle.residency.specs.Picture.{picture_of}
+use Rattle.residency.specs.{Calls.{KeepsBesidePlaces}, Parts.{IsFit}, Picture.{picture_of}}
 use Rattle.ranges.specs.Rows.{ForgetsMore, node_of, without_maps}
 use Rattle.ranges.proofs.forgetting.forget_nodes.Given as goal
 

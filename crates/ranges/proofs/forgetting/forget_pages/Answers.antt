@@ -1,19 +1,12 @@
-use Rattle.vm_types.specs.Limits.{widest_end, top_level}
+use Rattle.vm_types.specs.{Limits.{widest_end, top_level}, Objects.{is_named, names}, declared.object.ObjectPage.{ObjectPage}, declared.object.PageKey.TheVariants.{Object}}
 use Rattle.vm_types.proofs.Modes.{sizes, user_pages_fit}
-use Rattle.std.proofs.Common.{◌≡◌, ◌⊎◌, ℕ, ◌+◌, ◌<◌, ◌≤◌, inl, inr, true, sym, ap, ◌∙◌, subst, arith}
-use Rattle.std.proofs.lemmas.Bool.{cases_lt, false≢true}
-use Rattle.vm_types.specs.Objects.{is_named, names}
-use Rattle.vm_types.specs.declared.object.ObjectPage.{ObjectPage}
-use Rattle.vm_types.specs.declared.object.PageKey.TheVariants.{Object}
+use Rattle.std.proofs.{Common.{◌≡◌, ◌⊎◌, ℕ, ◌+◌, ◌<◌, ◌≤◌, inl, inr, true, sym, ap, ◌∙◌, subst, arith}, lemmas.Bool.{cases_lt, false≢true}}
 use Rattle.page_tables.specs.Tree.{IsPage}
 use Rattle.page_cache.specs.declared.place.Place.TheVariants.{Home}
-use Rattle.residency.specs.declared.kernel.Core.{Core}
-use Rattle.residency.specs.Calls.{KeepsBesidePlaces}
-use Rattle.residency.specs.Picture.{Picture, picture_of}
-use Rattle.residency.specs.Steps.{Forgets}
+use Rattle.residency.specs.{declared.kernel.Core.{Core}, Calls.{KeepsBesidePlaces}, Picture.{Picture, picture_of}, Steps.{Forgets}}
 use Rattle.residency.proofs.Places.{cases_page}
 use Rattle.ranges.specs.Rows.{ForgetsMore, without_maps}
-use Rattle.ranges.proofs.LastName.{in_row_from, named_beside, unnamed_without, same_without, more_then, looked_at, forgets_row, rest_then}
+use Rattle.ranges.proofs.{Emptied.{in_row_from}, LastName.{named_beside, unnamed_without, same_without, more_then, looked_at, forgets_row, rest_then}}
 use Rattle.ranges.proofs.forgetting.forget_pages.Goals as goal
 
 stays_home : {mode : ℕ} (b c : Picture mode) (p : ObjectPage) → Forgets b c p → (q : ObjectPage) → b.place (Object q) ≡ Home → c.place (Object q) ≡ Home

@@ -1,12 +1,7 @@
-use Rattle.vm_types.specs.Limits.{user_end}
+use Rattle.vm_types.specs.{Limits.{user_end}, Objects.{is_named, names}, declared.object.ObjectPage.{ObjectPage}, declared.object.PageKey.TheVariants.{Object}}
 use Rattle.std.proofs.Common.{◌≡◌, ◌⊎◌, true, ℕ, ◌-◌, ◌<◌, ◌≤◌}
-use Rattle.vm_types.specs.Objects.{is_named, names}
-use Rattle.vm_types.specs.declared.object.ObjectPage.{ObjectPage}
-use Rattle.vm_types.specs.declared.object.PageKey.TheVariants.{Object}
 use Rattle.page_cache.specs.declared.place.Place.TheVariants.{Home}
-use Rattle.residency.specs.Calls.{KeepsBesidePlaces}
-use Rattle.residency.specs.Parts.{IsFit}
-use Rattle.residency.specs.Picture.{picture_of}
+use Rattle.residency.specs.{Calls.{KeepsBesidePlaces}, Parts.{IsFit}, Picture.{picture_of}}
 use Rattle.ranges.specs.Rows.{ForgetsMore, without_maps}
 use Rattle.ranges.proofs.forgetting.forget_pages.Given as goal
 

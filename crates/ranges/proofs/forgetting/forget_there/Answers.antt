@@ -1,15 +1,7 @@
-use Rattle.std.proofs.Common.{inl, inr, refl, ap, ◌∙◌, ◌≡◌, arith}
+use Rattle.std.proofs.Common.{ap, ◌∙◌, ◌≡◌, arith}
 use Rattle.residency.specs.Picture.{picture_of, entry}
-use Rattle.ranges.proofs.Emptied.{row_parts}
-use Rattle.ranges.proofs.LastName.{in_row_from, bare_last}
+use Rattle.ranges.proofs.{Emptied.{in_row_from, row_parts}, LastName.{bare_last}}
 use Rattle.ranges.proofs.forgetting.forget_there.Goals as goal
-
-pub returns-then-not-is_named_beside-clause-there : goal.returns-then-not-is_named_beside-clause-there
-returns-then-not-is_named_beside-clause-there g c =
-    inr (c.forget.ensures.forgets, c.forget.ensures.rest, c.is_named_beside.ensures.none c.if-not-is_named_beside.true)
-
-pub returns-else-not-is_named_beside-clause-there : goal.returns-else-not-is_named_beside-clause-there
-returns-else-not-is_named_beside-clause-there g c = inl (refl, c.is_named_beside.ensures.some c.if-not-is_named_beside.false)
 
 pub forget-requires-clause-bare : goal.forget-requires-clause-bare
 forget-requires-clause-bare g c =

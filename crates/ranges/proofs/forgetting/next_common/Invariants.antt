@@ -1,6 +1,5 @@
-use Rattle.vm_types.specs.Limits.{user_end}
+use Rattle.vm_types.specs.{Limits.{user_end}, Objects.{names}}
 use Rattle.std.proofs.Common.{◌≡◌, false, ℕ, ◌-◌, ◌<◌, ◌≤◌}
-use Rattle.vm_types.specs.Objects.{names}
 use Rattle.residency.specs.Picture.{picture_of}
 use Rattle.ranges.proofs.forgetting.next_common.Given as goal
 

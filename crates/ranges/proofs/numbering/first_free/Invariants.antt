@@ -1,6 +1,5 @@
 use Rattle.std.proofs.Common.{◌≡◌, ◌-◌, false, get_or}
-use Rattle.vm_types.specs.Limits.{named_limit}
-use Rattle.vm_types.specs.Objects.{least_from}
+use Rattle.vm_types.specs.{Limits.{named_limit}, Objects.{least_from}}
 use Rattle.ranges.proofs.numbering.first_free.Given as goal
 
 abbrev pub invariant-loop-n : goal.invariant-loop-n

@@ -1,11 +1,7 @@
-use Rattle.std.proofs.Common.{ℕ, inl, inr, false, get_or, sym, ◌∙◌, subst, arith}
-use Rattle.std.proofs.lemmas.List.{length-replicate}
-use Rattle.std.proofs.lemmas.Bool.{cases_eq, false≢true}
-use Rattle.vm_types.specs.Limits.{named_limit}
+use Rattle.std.proofs.{Common.{ℕ, inl, inr, false, get_or, sym, ◌∙◌, subst, arith}, lemmas.List.{length-replicate}, lemmas.Bool.{cases_eq, false≢true}}
+use Rattle.vm_types.specs.{Limits.{named_limit}, Objects.{is_used}}
 use Rattle.residency.specs.Picture.{picture_of}
-use Rattle.vm_types.specs.Objects.{is_used}
-use Rattle.ranges.specs.Numbers.{IsUsedBy}
-use Rattle.ranges.specs.Rows.{without_maps}
+use Rattle.ranges.specs.{Numbers.{IsUsedBy}, Rows.{without_maps}}
 use Rattle.ranges.proofs.Marking.{least_same, used_same, clear_list, nobody}
 use Rattle.ranges.proofs.numbering.free_object.Goals as goal
 

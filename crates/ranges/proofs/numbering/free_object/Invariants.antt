@@ -1,8 +1,7 @@
 use Rattle.std.proofs.Common.{◌≡◌, ◌≤◌, ◌<◌, ℕ, true, false, length, get_or}
 use Rattle.vm_types.specs.Limits.{named_limit}
 use Rattle.residency.specs.Picture.{picture_of}
-use Rattle.ranges.specs.Numbers.{IsUsedBy}
-use Rattle.ranges.specs.Rows.{without_maps}
+use Rattle.ranges.specs.{Numbers.{IsUsedBy}, Rows.{without_maps}}
 use Rattle.ranges.proofs.numbering.free_object.Given as goal
 
 abbrev pub invariant-loop-number : goal.invariant-loop-number

@@ -1,10 +1,8 @@
 use Rattle.vm_types.proofs.Modes.{sizes}
-use Rattle.vm_types.specs.Limits.{widest_end}
+use Rattle.vm_types.specs.{Limits.{widest_end}, Objects.{Maps}}
 use Rattle.std.proofs.Common.{◌≡◌, ◌≢◌, ◌+◌, ℕ, inl, inr, sym, ◌∙◌, subst, arith}
-use Rattle.vm_types.specs.Objects.{Maps}
 use Rattle.residency.specs.Picture.{picture_of}
-use Rattle.ranges.specs.Numbers.{IsUsedBetween, IsUsedBy}
-use Rattle.ranges.specs.Rows.{without_maps}
+use Rattle.ranges.specs.{Numbers.{IsUsedBetween, IsUsedBy}, Rows.{without_maps}}
 use Rattle.ranges.proofs.Marking.{marks_then, marks_alike, mine, mine_back, low_out, high_out, theirs, theirs_back}
 use Rattle.ranges.proofs.numbering.mark_process.Goals as goal
 

@@ -1,7 +1,6 @@
 use Rattle.std.proofs.Common.{ℕ, ◌+◌, ◌*◌, ◌/◌, inl, inr, refl, sym, ap, ◌∙◌, subst, arith}
 use Rattle.std.specs.Prelude.{min}
-use Rattle.residency.specs.Picture.{Picture, picture_of}
-use Rattle.residency.specs.Ways.{IsWhole}
+use Rattle.residency.specs.{Picture.{Picture, picture_of}, Ways.{IsWhole}}
 use Rattle.ranges.specs.Leaves.{PermitsRow}
 use Rattle.ranges.proofs.PermittedRows.{around-refl, permits_none, permits_then}
 use Rattle.ranges.proofs.permitting.permit_next.Goals as goal

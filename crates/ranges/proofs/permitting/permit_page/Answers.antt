@@ -5,10 +5,7 @@ use Rattle.page_tables.specs.Entry.{number_of}
 use Rattle.residency.specs.Picture.{Picture, picture_of, entry, is_swapped}
 use Rattle.residency.proofs.Entries.{entry-of}
 use Rattle.ranges.specs.Leaves.{TakesStores, IsPermittedEntry}
-use Rattle.ranges.proofs.ClearedPages.{same_beside}
-use Rattle.ranges.proofs.PermittedRows.{around-refl, permits_none, permits_same, rooted_permitted, places_permitted, named_permitted, permits_set}
-use Rattle.ranges.proofs.StillNamed.{names_still}
-use Rattle.ranges.proofs.permitting.permit_page.Given.{Over}
+use Rattle.ranges.proofs.{ClearedPages.{same_beside}, PermittedRows.{around-refl, permits_none, permits_same, permits_set}, StillNamed.{names_still}, permitting.permit_page.Given.{Over}}
 use Rattle.ranges.proofs.permitting.permit_page.Goals as goal
 
 -- what the page's entry was
@@ -99,17 +96,12 @@ pub returns : goal.returns
 returns g c =
     let old : Picture g.M.Levels.mode = picture_of c.args.core.now in
     let new : Picture g.M.Levels.mode = record old { frames = c.set_in.new.memory } in
+    let row = c.args.row.now in
+    let q = c.requires in
+    let sets = c.set_in.ensures.sets row.root.0 c.args.page (q.may.rooted.roots row.pid row.root.0 q.row.root) q.inside q.row.place (ap (λ x. x % 512) (sym c.get.ensures.number)) in
+    let done = permits_set old new row.pid row.root.0 c.args.page (number_of c.permitted.result) c.args.prot q.may.rooted q.row.root q.inside sets (same_beside old c.set_in.new.memory)
+    c.takes_stores-writable.result (some g c) (here g c) (stores g c) (becomes g c) q.may.named in
     record {
-      leaf = record {
-        permits = permits_set old new c.args.row.now.pid c.args.row.now.root.0 c.args.page (number_of c.permitted.result) c.args.prot c.requires.may.rooted c.requires.row.root
-            c.requires.inside (c.set_in.ensures.sets c.args.row.now.root.0 c.args.page (c.requires.may.rooted.roots c.args.row.now.pid c.args.row.now.root.0 c.requires.row.root) c.requires.inside c.requires.row.place (ap (λ x. x % 512) (sym c.get.ensures.number))) (same_beside old c.set_in.new.memory) c.takes_stores-writable.result (some g c) (here g c) (stores g c) (becomes g c);
-        rooted = rooted_permitted old new c.args.row.now.pid c.args.row.now.root.0 c.args.page (number_of c.permitted.result) c.args.prot c.requires.may.rooted c.requires.row.root
-            c.requires.inside (c.set_in.ensures.sets c.args.row.now.root.0 c.args.page (c.requires.may.rooted.roots c.args.row.now.pid c.args.row.now.root.0 c.requires.row.root) c.requires.inside c.requires.row.place (ap (λ x. x % 512) (sym c.get.ensures.number))) (same_beside old c.set_in.new.memory);
-        named = named_permitted old new c.args.row.now.pid c.args.row.now.root.0 c.args.page (number_of c.permitted.result) c.args.prot c.requires.may.rooted c.requires.row.root
-            c.requires.inside (c.set_in.ensures.sets c.args.row.now.root.0 c.args.page (c.requires.may.rooted.roots c.args.row.now.pid c.args.row.now.root.0 c.requires.row.root) c.requires.inside c.requires.row.place (ap (λ x. x % 512) (sym c.get.ensures.number))) (same_beside old c.set_in.new.memory) c.takes_stores-writable.result (some g c) (here g c) (stores g c) (becomes g c) c.requires.may.named;
-        rest = search rules;
-        refused = search rules;
-      };
-      places = places_permitted old new c.args.row.now.pid c.args.row.now.root.0 c.args.page (number_of c.permitted.result) c.args.prot c.requires.may.rooted c.requires.row.root
-          c.requires.inside (c.set_in.ensures.sets c.args.row.now.root.0 c.args.page (c.requires.may.rooted.roots c.args.row.now.pid c.args.row.now.root.0 c.requires.row.root) c.requires.inside c.requires.row.place (ap (λ x. x % 512) (sym c.get.ensures.number))) (same_beside old c.set_in.new.memory);
+      leaf = record { permits = done.permits; rooted = done.rooted; named = done.named; rest = search rules; refused = search rules };
+      places = done.places;
     }

@@ -1,23 +1,13 @@
 use Rattle.vm_types.specs.Limits.{top_level}
-use Rattle.std.specs.Prelude.{is_some}
 use Rattle.std.proofs.Common.{◌≡◌, ℕ, ◌+◌, ◌/◌, ◌<◌, ◌≤◌, refl, sym, ap, ◌∙◌, subst, arith}
 use Rattle.residency.specs.Picture.{Picture, picture_of}
 use Rattle.ranges.specs.Leaves.{PermitsRow}
-use Rattle.page_tables.specs.Places.{IsTableOf}
-use Rattle.page_tables.specs.Tree.{page_entry}
-use Rattle.ranges.proofs.BetweenEntries.{same_table, end_from, none_between}
-use Rattle.ranges.proofs.PermittedRows.{around-refl, around_then, permits_none, permits_then}
-use Rattle.ranges.proofs.Gaps.{user_inside, lives}
+use Rattle.page_tables.specs.{Places.{IsTableOf}, Tree.{page_entry}}
+use Rattle.ranges.proofs.{BetweenEntries.{same_table, end_from, none_between}, PermittedRows.{around-refl, around_then, permits_none, permits_then}, Gaps.{user_inside}}
 use Rattle.ranges.proofs.permitting.permit_table.Goals as goal
-
-pub root_of-root-requires : goal.root_of-root-requires
-root_of-root-requires g c = record { live = lives ((picture_of c.args.core.now).root c.args.pid) c.requires.may.live }
 
 pub table_of-requires-clause-root : goal.table_of-requires-clause-root
 table_of-requires-clause-root g c = c.requires.may.rooted.roots c.args.pid c.root_of-root.result.0 c.root_of-root.ensures
-
-pub next_entry-page-requires-clause-table : goal.next_entry-page-requires-clause-table
-next_entry-page-requires-clause-table g c = c.in-Ok.ensures.found.table
 
 pub loop-page-init : goal.loop-page-init
 loop-page-init g c =
@@ -40,19 +30,12 @@ loop-page-init g c =
       refused = refl;
     }
 
-pub permit_page-requires-clause-may : goal.permit_page-requires-clause-may
-permit_page-requires-clause-may g c =
-    record { live = ap is_some c.loop-page.invariant.root_is; rooted = c.loop-page.invariant.rooted; named = c.loop-page.invariant.named; reads = c.requires.may.reads }
-
 pub permit_page-requires-clause-row : goal.permit_page-requires-clause-row
 permit_page-requires-clause-row g c =
     let k = c.loop-page.invariant in
     let same = same_table c.args.start c.loop-page.page c.args.stop k.low c.loop-page-test.true c.requires.one_table in
     let P : ℕ → Type 0 = λ x. IsTableOf c.loop-page.core.frames (top_level g.M.Levels.mode) c.root_of-root.result.0 x c.in-Ok.table.0 in
     record { root = k.root_is; place = subst P (same ∙ ap (λ x. x / 512) (sym c.user_page.ensures)) k.place }
-
-pub next_entry-page-requires-in-loop-page-clause-table : goal.next_entry-page-requires-in-loop-page-clause-table
-next_entry-page-requires-in-loop-page-clause-table g c = (c.permit_page.ensures.places (c.args.start / 512) c.in-Ok.table.0 c.loop-page.invariant.place).table
 
 pub next_entry-page-requires-in-loop-page-clause-one_table : goal.next_entry-page-requires-in-loop-page-clause-one_table
 next_entry-page-requires-in-loop-page-clause-one_table g c =

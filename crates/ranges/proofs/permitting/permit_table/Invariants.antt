@@ -1,8 +1,6 @@
 use Rattle.vm_types.specs.Limits.{top_level}
 use Rattle.std.proofs.Common.{◌≡◌, ◌-◌, ◌/◌, ◌≤◌, Some}
-use Rattle.residency.specs.Ways.{KeepsAround}
-use Rattle.residency.specs.Parts.{IsRootedBut}
-use Rattle.residency.specs.Picture.{picture_of}
+use Rattle.residency.specs.{Ways.{KeepsAround}, Parts.{IsRootedBut}, Picture.{picture_of}}
 use Rattle.ranges.specs.Leaves.{NamesFrames, PermitsRow}
 use Rattle.page_tables.specs.Places.{IsTableOf}
 use Rattle.ranges.proofs.permitting.permit_table.Given as goal

@@ -1,24 +1,11 @@
 use Rattle.vm_types.proofs.Modes.{sizes}
-use Rattle.std.proofs.Common.{◌≡◌, ℕ, ◌+◌, ◌<◌, ◌≤◌, ◌⊎◌, inl, inr, refl, sym, ap, ◌∙◌, subst, arith, rules}
-use Rattle.std.specs.Prelude.{is_some, max}
-use Rattle.std.proofs.lemmas.Bool.{cases_lt}
+use Rattle.std.proofs.Common.{ℕ, ◌≤◌, refl, sym, ◌∙◌, subst, arith, rules}
 use Rattle.frames.specs.FrameTable.{FrameTable}
 use Rattle.page_tables.specs.Change.{KeepsFrames}
 use Rattle.residency.specs.Picture.{Picture, picture_of}
 use Rattle.ranges.specs.Leaves.{PermitsRow}
-use Rattle.ranges.proofs.PermittedRows.{around-refl, around_then, permits_none, permits_then, named_entries}
-use Rattle.ranges.proofs.Reprotected.{fit_reprotected, row_reprotected, others_reprotected}
+use Rattle.ranges.proofs.{PermittedRows.{around-refl, around_then, permits_none, permits_then, named_entries}, Reprotected.{reprotected_row}}
 use Rattle.ranges.proofs.permitting.reprotect.Goals as goal
-
-begins : (low first : ℕ) → low ≡ max first 16 → (low ≡ first) ⊎ ((low ≡ 16) × (first < 16))
-begins low first is = elim (cases_lt first 16) [
-  | inl less ↦ inr (omega arith, less)
-  | inr more ↦ inl (omega arith)
-]
-
-ends : (low high end : ℕ) → end ≤ high → (high ≡ low) ⊎ (high ≤ end) → (high ≡ low) ⊎ (high ≡ end)
-ends low high end reaches (inl is) = inl is
-ends low high end reaches (inr le) = inr (omega arith)
 
 pub loop-page-init : goal.loop-page-init
 loop-page-init g c =
@@ -27,15 +14,11 @@ loop-page-init g c =
       rooted = c.requires.fit.rooted;
       named = named_entries old c.args.pid c.args.core.now.sound c.requires.fit;
       low = omega arith;
-      high = inl refl;
+      high = omega arith;
       permits = permits_none old c.args.pid _ _ c.args.prot (λ page h least below. absurd (omega (arith, least, below)));
       rest = around-refl c.args.core.now;
       refused = refl;
     }
-
-pub permit_next-page-requires-clause-may : goal.permit_next-page-requires-clause-may
-permit_next-page-requires-clause-may g c =
-    record { live = ap is_some (c.loop-page.invariant.permits.beside.root c.args.pid) ∙ c.requires.live; rooted = c.loop-page.invariant.rooted; named = c.loop-page.invariant.named; reads = c.requires.reads }
 
 pub loop-page-preserved : goal.loop-page-preserved
 loop-page-preserved g c =
@@ -51,7 +34,7 @@ loop-page-preserved g c =
       rooted = next.rooted;
       named = next.named;
       low = omega (arith, low, further);
-      high = inr next.within;
+      high = omega (arith, next.within);
       permits = permits_then old mid new c.args.pid c.max-page.result c.loop-page.page c.permit_next-page.result c.args.prot low further k.permits
           (subst P c.user_page.ensures next.permits);
       rest = around_then c.args.core.now c.loop-page.core c.permit_next-page.new.core k.rest next.rest;
@@ -67,19 +50,14 @@ returns g c =
     let mid : Picture g.M.Levels.mode = picture_of c.loop-page.core in
     let new : Picture g.M.Levels.mode = picture_of c.remap.new.self in
     let k = c.loop-page.invariant in
+    let low = k.low in
+    let high = k.high in
+    let done = reprotected_row old mid new c.args.pid c.args.first c.args.pages c.max-page.result c.loop-page.page c.args.prot c.requires.fit k.permits k.rooted
+    c.remap.ensures.remaps (λ page. c.remap.ensures.at page ∙ c.requires.map page) c.requires.reads c.requires.row c.max-page.ensures (omega (arith, c.loop-page-test.false, low, high)) in
     record {
-      row = row_reprotected old mid new c.args.pid c.args.first c.args.pages c.max-page.result c.loop-page.page c.args.prot c.requires.fit k.permits k.rooted
-          c.remap.ensures.remaps (λ page. c.remap.ensures.at page ∙ c.requires.map page) c.requires.reads c.requires.row
-          (begins c.max-page.result c.args.first c.max-page.ensures) c.loop-page-test.false
-          (ends c.max-page.result c.loop-page.page (c.args.first + c.args.pages) c.loop-page-test.false k.high);
-      others = others_reprotected old mid new c.args.pid c.args.first c.args.pages c.max-page.result c.loop-page.page c.args.prot c.requires.fit k.permits k.rooted
-          c.remap.ensures.remaps (λ page. c.remap.ensures.at page ∙ c.requires.map page) c.requires.reads c.requires.row
-          (begins c.max-page.result c.args.first c.max-page.ensures) c.loop-page-test.false
-          (ends c.max-page.result c.loop-page.page (c.args.first + c.args.pages) c.loop-page-test.false k.high);
-      fit = fit_reprotected old mid new c.args.pid c.args.first c.args.pages c.max-page.result c.loop-page.page c.args.prot c.requires.fit k.permits k.rooted
-          c.remap.ensures.remaps (λ page. c.remap.ensures.at page ∙ c.requires.map page) c.requires.reads c.requires.row
-          (begins c.max-page.result c.args.first c.max-page.ensures) c.loop-page-test.false
-          (ends c.max-page.result c.loop-page.page (c.args.first + c.args.pages) c.loop-page-test.false k.high);
+      row = done.row;
+      others = done.others;
+      fit = done.fit;
       frames = subst (λ (t : FrameTable). KeepsFrames c.args.core.now.frames t) (sym c.remap.ensures.rest.frames) c.loop-page.invariant.permits.memory;
       store = search rules;
       swap = search rules;

@@ -1,7 +1,6 @@
-use Rattle.std.proofs.Common.{◌≡◌, ◌-◌, ◌≤◌, ◌⊎◌}
-use Rattle.residency.specs.Ways.{KeepsAround}
-use Rattle.residency.specs.Parts.{IsRootedBut}
-use Rattle.residency.specs.Picture.{picture_of}
+use Rattle.std.proofs.Common.{◌≡◌, ◌-◌, ◌≤◌}
+use Rattle.std.specs.Prelude.{max}
+use Rattle.residency.specs.{Ways.{KeepsAround}, Parts.{IsRootedBut}, Picture.{picture_of}}
 use Rattle.ranges.specs.Leaves.{NamesFrames, PermitsRow}
 use Rattle.ranges.proofs.permitting.reprotect.Given as goal
 
@@ -10,7 +9,7 @@ invariant-loop-page g l = record {
   rooted : IsRootedBut (picture_of l.core) 0;
   named : NamesFrames (picture_of l.core) l.pid;
   low : l.initial.page ≤ l.page;
-  high : (l.page ≡ l.initial.page) ⊎ (l.page ≤ l.end);
+  high : l.page ≤ max l.initial.page l.end;
   permits : PermitsRow (picture_of l.initial.core) (picture_of l.core) l.pid l.initial.page l.page l.prot;
   rest : KeepsAround l.initial.core l.core;
   refused : l.core.refused ≡ l.initial.core.refused;

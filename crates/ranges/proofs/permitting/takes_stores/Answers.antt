@@ -1,15 +1,7 @@
-use Rattle.std.proofs.Common.{sym, ap, ◌∙◌, arith}
-use Rattle.std.proofs.lemmas.Bool.{eqb-true, eq-eqb, false≢true}
+use Rattle.std.proofs.{Common.{sym, ap, ◌∙◌}, lemmas.Bool.{eqb-true, eq-eqb, false≢true}}
 use Rattle.frames.specs.FrameTable.{count_of}
 use Rattle.ranges.specs.Leaves.{is_mapped_shared}
 use Rattle.ranges.proofs.permitting.takes_stores.Goals as goal
-
-pub returns-then-not-is_writable : goal.returns-then-not-is_writable
-returns-then-not-is_writable g c =
-    (λ it. absurd (false≢true it), λ takes. absurd (false≢true (sym c.if-not-is_writable.true ∙ c.is_writable.ensures ∙ takes.permitted)))
-
-pub frame_number-requires : goal.frame_number-requires
-frame_number-requires g c = let n = c.requires.named in omega (arith, n, c.args.core.now.sound.most)
 
 pub returns-then-is_private : goal.returns-then-is_private
 returns-then-is_private g c =

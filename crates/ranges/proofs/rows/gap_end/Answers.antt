@@ -1,21 +1,11 @@
 use Rattle.vm_types.specs.Limits.{top_level}
 use Rattle.vm_types.proofs.Modes.{sizes}
-use Rattle.std.proofs.Common.{◌≡◌, ◌≢◌, ℕ, ◌+◌, ◌*◌, ◌/◌, ◌<◌, ◌^◌, sym, ap, ◌∙◌, subst, arith}
+use Rattle.std.proofs.Common.{◌≡◌, ◌≢◌, ℕ, ◌+◌, ◌*◌, ◌/◌, ◌^◌, refl, sym, ap, ◌∙◌, subst, arith}
 use Rattle.residency.specs.Picture.{picture_of}
 use Rattle.page_tables.specs.Tree.{missing_of}
 use Rattle.page_tables.proofs.Ends.{missing_of-is}
-use Rattle.ranges.proofs.Gaps.{gap_none, in_span_of, lives, one_some}
-use Rattle.ranges.proofs.Linked.{past_place}
+use Rattle.ranges.proofs.{Gaps.{gap_none, in_span_of, is_whole, one_some}, Linked.{own_past}}
 use Rattle.ranges.proofs.rows.gap_end.Goals as goal
-
-end_by : (page end m k : ℕ) → m ≡ k → k ≢ 0 → end ≡ (page / 512 ^ k + 1) * 512 ^ k → (m ≢ 0) × (end ≡ (page / 512 ^ m + 1) * 512 ^ m)
-end_by page end m k is some at = let P : ℕ → Type 0 = λ x. (x ≢ 0) × (end ≡ (page / 512 ^ x + 1) * 512 ^ x) in subst P (sym is) (some, at)
-
-past_page : (page end k : ℕ) → end ≡ (page / 512 ^ k + 1) * 512 ^ k → page < end
-past_page page end k is = let past = past_place page (page / 512 ^ k + 1) k (omega arith) in omega (arith, is, past)
-
-pub root_of-root-requires : goal.root_of-root-requires
-root_of-root-requires g c = record { live = lives ((picture_of c.args.core.now).root c.args.pid) c.requires.live }
 
 pub last_table-missing-requires-clause-root : goal.last_table-missing-requires-clause-root
 last_table-missing-requires-clause-root g c = c.requires.rooted.roots c.args.pid c.root_of-root.result.0 c.root_of-root.ensures
@@ -24,14 +14,13 @@ pub span_end-requires : goal.span_end-requires
 span_end-requires g c = let levels = (sizes g.M.Levels.mode).levels.1 in omega (arith, c.last_table-missing.ensures.range, levels)
 
 pub returns-then-missing-eq0-clause-whole : goal.returns-then-missing-eq0-clause-whole
-returns-then-missing-eq0-clause-whole g c r e =
-    let t = c.args.core.now.frames in
-    let is = one_some c.root_of-root.result.0 r (sym c.root_of-root.ensures ∙ e) in
-    ap (λ x. missing_of t (top_level g.M.Levels.mode) x c.args.page) (sym is) ∙ missing_of-is t (top_level g.M.Levels.mode) c.root_of-root.result.0 c.args.page
-    ∙ sym (ap (λ x. x.0) c.last_table-missing.ensures.last) ∙ c.if-missing-eq0.true
+returns-then-missing-eq0-clause-whole g c =
+    let r = c.root_of-root.result.0 in
+    let missing = missing_of-is c.args.core.now.frames (top_level g.M.Levels.mode) r c.args.page ∙ sym (ap (λ x. x.0) c.last_table-missing.ensures.last) in
+    is_whole (picture_of c.args.core.now) c.args.pid r c.root_of-root.ensures c.args.page c.args.page refl (missing ∙ c.if-missing-eq0.true)
 
 pub returns-clause-further : goal.returns-clause-further
-returns-clause-further g c = past_page c.args.page c.span_end.result c.last_table-missing.result.0 c.span_end.ensures
+returns-clause-further g c = own_past c.args.page c.span_end.result c.last_table-missing.result.0 c.span_end.ensures
 
 pub returns-clause-gap : goal.returns-clause-gap
 returns-clause-gap g c p from below =
@@ -45,5 +34,6 @@ returns-clause-end g c r e =
     let t = c.args.core.now.frames in
     let is = one_some c.root_of-root.result.0 r (sym c.root_of-root.ensures ∙ e) in
     let missing = missing_of-is t (top_level g.M.Levels.mode) c.root_of-root.result.0 c.args.page ∙ sym (ap (λ x. x.0) c.last_table-missing.ensures.last) in
-    end_by c.args.page c.span_end.result (missing_of t (top_level g.M.Levels.mode) r c.args.page) c.last_table-missing.result.0
-    (ap (λ x. missing_of t (top_level g.M.Levels.mode) x c.args.page) (sym is) ∙ missing) c.if-missing-eq0.false c.span_end.ensures
+    let same = ap (λ x. missing_of t (top_level g.M.Levels.mode) x c.args.page) (sym is) ∙ missing in
+    let P : ℕ → Type 0 = λ x. (x ≢ 0) × (c.span_end.result ≡ (c.args.page / 512 ^ x + 1) * 512 ^ x) in
+    subst P (sym same) (c.if-missing-eq0.false, c.span_end.ensures)

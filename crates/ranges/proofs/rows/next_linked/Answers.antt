@@ -1,11 +1,7 @@
-use Rattle.std.proofs.Common.{inl, inr, arith}
-use Rattle.std.proofs.lemmas.Bool.{cases_lt}
+use Rattle.std.proofs.{Common.{inl, inr, arith}, lemmas.Bool.{cases_lt}}
 use Rattle.residency.specs.Picture.{picture_of}
-use Rattle.ranges.proofs.Gaps.{lives, no_whole, no_entry, is_whole}
+use Rattle.ranges.proofs.Gaps.{no_whole, no_entry, is_whole}
 use Rattle.ranges.proofs.rows.next_linked.Goals as goal
-
-pub root_of-root-requires : goal.root_of-root-requires
-root_of-root-requires g c = record { live = lives ((picture_of c.args.core.now).root c.args.pid) c.requires.live }
 
 pub past_gap-requires-clause-root : goal.past_gap-requires-clause-root
 past_gap-requires-clause-root g c = c.requires.rooted.roots c.args.pid c.root_of-root.result.0 c.root_of-root.ensures

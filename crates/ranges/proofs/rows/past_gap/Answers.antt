@@ -2,8 +2,7 @@ use Rattle.vm_types.specs.Limits.{top_level}
 use Rattle.vm_types.proofs.Modes.{sizes}
 use Rattle.std.proofs.Common.{◌≡◌, ℕ, ◌+◌, ◌-◌, ◌*◌, ◌/◌, ◌^◌, ◌<◌, sym, ap, ◌∙◌, arith, rules}
 use Rattle.std.specs.Prelude.{min}
-use Rattle.page_tables.proofs.Pages.{span_positive}
-use Rattle.page_tables.proofs.Ends.{missing_of-is}
+use Rattle.page_tables.proofs.{Pages.{span_positive}, Ends.{missing_of-is}}
 use Rattle.ranges.proofs.Linked.{past_place, own_past, next_fits, last_below, search_one_table, passed_missing, stops_past}
 use Rattle.ranges.proofs.rows.past_gap.Goals as goal
 

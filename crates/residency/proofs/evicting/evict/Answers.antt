@@ -1,7 +1,6 @@
 use Rattle.std.proofs.Common.{inl, rules}
 use Rattle.swap.specs.Slots.{slots_of}
-use Rattle.residency.proofs.Asking.{asks_same}
-use Rattle.residency.proofs.Sparing.{past_unused}
+use Rattle.residency.proofs.{Asking.{asks_same}, Sparing.{past_unused}}
 use Rattle.residency.proofs.evicting.evict.Goals as goal
 
 pub returns-else-is_touched : goal.returns-else-is_touched

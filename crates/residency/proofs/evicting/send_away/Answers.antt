@@ -1,19 +1,12 @@
 use Rattle.vm_types.proofs.Modes.{sizes, user_pages_fit}
 use Rattle.std.proofs.Common.{◌≡◌, ◌≢◌, ℕ, inl, inr, Some, refl, sym, ap, ◌∙◌, subst, arith, rules}
-use Rattle.frames.specs.declared.role.Role.TheVariants.{Private, Cache}
+use Rattle.frames.specs.{declared.role.Role.TheVariants.{Private, Cache}, FrameTable.{bytes_of}}
 use Rattle.vm_types.specs.declared.object.PageKey.{PageKey}
-use Rattle.frames.specs.FrameTable.{bytes_of}
 use Rattle.swap.specs.Slots.{SlotTable, slots_of, IsInUse}
-use Rattle.page_cache.specs.declared.place.Place.TheVariants.{Frame, Slot}
-use Rattle.page_cache.specs.CacheTable.{place_of, is_touched}
-use Rattle.residency.specs.Seats.{InSlot}
-use Rattle.residency.specs.Picture.{Picture, picture_of, entry, held, bytes_at}
-use Rattle.residency.proofs.Asking.{asks_put, one_put}
-use Rattle.residency.proofs.Leaving.{Leaves, fit_slot, left_spares, unnamed_of}
-use Rattle.residency.proofs.Puts.{fit_put}
-use Rattle.residency.proofs.Putting.{put_spares, fit_unput, with_slots, kept_by, owned_by}
+use Rattle.page_cache.specs.{declared.place.Place.TheVariants.{Frame, Slot}, CacheTable.{place_of, is_touched}}
+use Rattle.residency.specs.{Seats.{InSlot}, Picture.{Picture, picture_of, entry, held, bytes_at}}
+use Rattle.residency.proofs.{Asking.{asks_put, one_put}, Leaving.{leaves_frame, fit_slot, left_spares, unnamed_of}, Puts.{fit_put}, Putting.{put_spares, fit_unput, with_slots, kept_by, owned_by}}
 use Rattle.residency.proofs.Sparing.{forgotten_spares, spares_then, past_unused}
-use Rattle.residency.proofs.Cleaning.{all_touched}
 use Rattle.residency.proofs.evicting.send_away.Goals as goal
 
 held_there : {mode : ℕ} (old new : Picture mode) (p : PageKey) (v k : ℕ) → old.place p ≡ Frame (record { 0 = v }) → new.place p ≡ Slot (record { 0 = k }) → new.slots.bytes k ≡ bytes_of old.frames v → held new p ≡ held old p
@@ -38,20 +31,8 @@ returns-in-Ok g c =
     let was = ch.beside.place page ∙ c.requires.placed in
     let cache = fit.places.cached page v was in
     let free = c.release.ensures.alone (λ own. (let bad : Private ≡ Cache = sym own ∙ cache in (cc))) in
-    let leaves : Leaves put new page v (Slot (record { 0 = k })) = record {
-      was = was;
-      above = (let a = c.forget_leaves.ensures.above in λ zero. omega (arith, a, zero));
-      placed = c.set_place.ensures.placed;
-      others = c.set_place.ensures.others.places;
-      frames = c.release.ensures.change.others;
-      free = free;
-      slots = refl;
-      root = λ pid. refl;
-      at_same = λ pid k. refl;
-      page_of = λ n. refl;
-      touched = all_touched c.forget_leaves.new.core.cache c.set_place.new.self page c.set_place.ensures.others c.set_place.ensures.touched;
-      files = λ f. refl;
-    } in
+    let above : v ≢ 0 = λ zero. (let a = c.forget_leaves.ensures.above in omega (arith, a, zero)) in
+    let leaves = leaves_frame put c.release.new.self c.forget_leaves.new.core.cache c.set_place.new.self page v (Slot (record { 0 = k })) was above c.set_place.ensures.placed c.set_place.ensures.others c.set_place.ensures.touched c.release.ensures.change.others free in
     let filled = fit_put mid put k 0 0 _ fit (with_slots mid t) puts (omega (arith, user_pages_fit g.M.Levels.mode, (sizes g.M.Levels.mode).least)) in
     let first = forgotten_spares v k old mid c.requires.goes.fit (c.requires.goes.fit.places.cached page v c.requires.placed) ch in
     let puts_counts : (j : ℕ) → j ≢ k → IsInUse mid.slots j → t.count j ≡ mid.slots.count j = λ j ne used. (kept_by mid.slots t k _ puts j used).1 in

@@ -1,13 +1,8 @@
-use Rattle.std.proofs.Common.{ℕ, ◌≡◌, inl, inr, None, refl, sym, ap, ◌∙◌, arith, rules}
-use Rattle.frames.specs.declared.role.Role.TheVariants.{Zero, Private, Cache}
-use Rattle.frames.specs.FrameTable.{role_of}
-use Rattle.page_cache.specs.declared.place.Place.TheVariants.{Home}
-use Rattle.page_cache.specs.CacheTable.{place_of, is_touched}
-use Rattle.residency.specs.Picture.{Picture, picture_of}
-use Rattle.residency.specs.Parts.{nowhere}
-use Rattle.residency.proofs.Leaving.{Leaves, fit_home, left_spares, unnamed_of, home_held}
-use Rattle.residency.proofs.Sparing.{forgotten_spares, spares_then}
-use Rattle.residency.proofs.Cleaning.{all_touched}
+use Rattle.std.proofs.Common.{◌≡◌, ◌≢◌, inr, refl, sym, ap, ◌∙◌, arith, rules}
+use Rattle.frames.specs.{declared.role.Role.TheVariants.{Zero, Private, Cache}, FrameTable.{role_of}}
+use Rattle.page_cache.specs.{declared.place.Place.TheVariants.{Home}, CacheTable.{place_of, is_touched}}
+use Rattle.residency.specs.{Picture.{Picture, picture_of}, Parts.{nowhere}}
+use Rattle.residency.proofs.{Leaving.{leaves_frame, fit_home, left_spares, unnamed_of, home_held}, Sparing.{forgotten_spares, spares_then}}
 use Rattle.residency.proofs.evicting.send_home.Goals as goal
 
 pub returns : goal.returns
@@ -24,20 +19,8 @@ returns g c =
     let was = ch.beside.place page ∙ c.requires.placed in
     let cache = fit.places.cached page v was in
     let free = c.release.ensures.alone (λ own. (let bad : Private ≡ Cache = sym own ∙ cache in (cc))) in
-    let leaves : Leaves mid new page v Home = record {
-      was = was;
-      above = λ zero. (let bad : Zero ≡ Cache = sym c.args.core.now.sound.zero_role ∙ sym (ap (role_of c.args.core.now.frames) zero) ∙ sym (ch.roles v) ∙ cache in (cc));
-      placed = c.set_place.ensures.placed;
-      others = c.set_place.ensures.others.places;
-      frames = c.release.ensures.change.others;
-      free = free;
-      slots = refl;
-      root = λ pid. refl;
-      at_same = λ pid k. refl;
-      page_of = λ n. refl;
-      touched = all_touched c.forget_leaves.new.core.cache c.set_place.new.self page c.set_place.ensures.others c.set_place.ensures.touched;
-      files = λ f. refl;
-    } in
+    let above : v ≢ 0 = λ zero. (let bad : Zero ≡ Cache = sym c.args.core.now.sound.zero_role ∙ sym (ap (role_of c.args.core.now.frames) zero) ∙ sym (ch.roles v) ∙ cache in (cc)) in
+    let leaves = leaves_frame mid c.release.new.self c.forget_leaves.new.core.cache c.set_place.new.self page v Home was above c.set_place.ensures.placed c.set_place.ensures.others c.set_place.ensures.touched c.release.ensures.change.others free in
     record {
       free = free;
       fit = fit_home mid new page v fit leaves untouched clear;

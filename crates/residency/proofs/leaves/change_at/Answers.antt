@@ -1,11 +1,8 @@
 use Rattle.vm_types.proofs.Modes.{user_pages_fit}
 use Rattle.std.proofs.Common.{◌≡◌, ℕ, refl, ap, sym, ◌∙◌, subst, arith}
 use Rattle.page_tables.specs.Entry.{number_of}
-use Rattle.residency.specs.Picture.{Picture, picture_of, entry}
-use Rattle.residency.specs.Leaves.{concerns, IsChanged}
-use Rattle.residency.proofs.Entries.{entry-of}
-use Rattle.residency.proofs.LeafSteps.{over_whole, one_changed}
-use Rattle.residency.proofs.Moves.{same_beside}
+use Rattle.residency.specs.{Picture.{Picture, picture_of, entry}, Leaves.{concerns, IsChanged}}
+use Rattle.residency.proofs.{Entries.{entry-of}, LeafSteps.{over_whole, one_changed}, Moves.{same_beside}}
 use Rattle.residency.proofs.leaves.change_at.Goals as goal
 
 pub entry-requires-clause-root : goal.entry-requires-clause-root

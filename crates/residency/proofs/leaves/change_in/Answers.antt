@@ -1,8 +1,6 @@
 use Rattle.vm_types.proofs.Modes.{user_pages_fit}
-use Rattle.std.proofs.Common.{ℕ, inl, inr, subst, arith}
-use Rattle.std.proofs.lemmas.Bool.{cases_eq, cases_lt}
-use Rattle.residency.specs.Picture.{picture_of}
-use Rattle.residency.specs.Leaves.{IsOver}
+use Rattle.std.proofs.{Common.{ℕ, inl, inr, subst, arith}, lemmas.Bool.{cases_eq, cases_lt}}
+use Rattle.residency.specs.{Picture.{picture_of}, Leaves.{IsOver}}
 use Rattle.residency.proofs.LeafSteps.{entries_none, entries_then, still_clear}
 use Rattle.residency.proofs.leaves.change_in.Goals as goal
 

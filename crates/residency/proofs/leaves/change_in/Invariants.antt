@@ -1,8 +1,6 @@
 use Rattle.vm_types.specs.Limits.{user_end}
 use Rattle.std.proofs.Common.{ℕ, ◌-◌, ◌<◌, ◌≤◌}
-use Rattle.residency.specs.Picture.{picture_of}
-use Rattle.residency.specs.Leaves.{IsOver}
-use Rattle.residency.specs.LeafChanges.{ChangesEntries}
+use Rattle.residency.specs.{Picture.{picture_of}, Leaves.{IsOver}, LeafChanges.{ChangesEntries}}
 use Rattle.residency.proofs.leaves.change_in.Given as goal
 
 abbrev pub invariant-loop-page : goal.invariant-loop-page

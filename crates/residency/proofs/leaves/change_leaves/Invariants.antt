@@ -1,9 +1,7 @@
 use Rattle.vm_types.specs.Limits.{top_level}
 use Rattle.std.proofs.Common.{ℕ, ◌<◌}
 use Rattle.page_tables.specs.Tree.{IsPage}
-use Rattle.residency.specs.Picture.{picture_of}
-use Rattle.residency.specs.Leaves.{IsOver}
-use Rattle.residency.specs.LeafChanges.{ChangesEntries}
+use Rattle.residency.specs.{Picture.{picture_of}, Leaves.{IsOver}, LeafChanges.{ChangesEntries}}
 use Rattle.residency.proofs.leaves.change_leaves.Given as goal
 
 abbrev pub invariant-loop-pid : goal.invariant-loop-pid

@@ -1,11 +1,7 @@
 use Rattle.std.proofs.Common.{◌≡◌, true, refl}
-use Rattle.page_tables.specs.declared.forms.Entry.{Entry}
-use Rattle.page_tables.specs.declared.forms.Entry.TheVariants.{Leaf}
-use Rattle.page_tables.specs.Entry.{number_of}
+use Rattle.page_tables.specs.{declared.forms.Entry.{Entry}, declared.forms.Entry.TheVariants.{Leaf}, Entry.{number_of}}
 use Rattle.sv39_walk.specs.declared.pte.Pte.{Pte}
-use Rattle.residency.specs.declared.leaves.Change.{Change}
-use Rattle.residency.specs.declared.leaves.Change.TheVariants.{Forget, ClearAccessed, ClearDirty}
-use Rattle.residency.specs.Leaves.{concerns, IsChanged}
+use Rattle.residency.specs.{declared.leaves.Change.{Change}, declared.leaves.Change.TheVariants.{Forget, ClearAccessed, ClearDirty}, Leaves.{concerns, IsChanged}}
 use Rattle.residency.proofs.Bits.{valid_leaf, leaf_accessed, leaf_dirty}
 use Rattle.residency.proofs.leaves.changed.Goals as goal
 

@@ -1,10 +1,7 @@
 use Rattle.vm_types.proofs.Modes.{user_pages_fit}
-use Rattle.std.proofs.Common.{ℕ, [], length, sym, arith, inl, inr, ◌<◌, subst, rules}
-use Rattle.std.proofs.lemmas.Bool.{cases_eq, cases_lt}
-use Rattle.residency.specs.Picture.{picture_of}
-use Rattle.residency.specs.Leaves.{IsOver}
-use Rattle.residency.proofs.LeafSteps.{over_stands}
-use Rattle.residency.proofs.Lives.{map_read}
+use Rattle.std.proofs.{Common.{ℕ, arith, inl, inr, subst, rules}, lemmas.Bool.{cases_eq, cases_lt}}
+use Rattle.residency.specs.{Picture.{picture_of}, Leaves.{IsOver}}
+use Rattle.residency.proofs.{LeafSteps.{over_stands}, Lives.{map_read}}
 use Rattle.residency.proofs.leaves.find_standing.Goals as goal
 
 pub returns-then-is_over : goal.returns-then-is_over

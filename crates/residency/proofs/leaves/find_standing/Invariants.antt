@@ -1,7 +1,6 @@
 use Rattle.vm_types.specs.Limits.{user_end}
 use Rattle.std.proofs.Common.{ℕ, ◌-◌, ◌<◌, ◌≤◌}
-use Rattle.residency.specs.Picture.{picture_of}
-use Rattle.residency.specs.Leaves.{IsOver}
+use Rattle.residency.specs.{Picture.{picture_of}, Leaves.{IsOver}}
 use Rattle.residency.proofs.leaves.find_standing.Given as goal
 
 abbrev pub invariant-loop-at : goal.invariant-loop-at

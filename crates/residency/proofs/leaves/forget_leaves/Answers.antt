@@ -1,10 +1,7 @@
 use Rattle.vm_types.proofs.Modes.{user_pages_fit}
 use Rattle.std.proofs.Common.{sym, subst, arith, rules}
 use Rattle.frames.specs.FrameTable.{FrameTable}
-use Rattle.residency.specs.Picture.{Picture, picture_of}
-use Rattle.residency.specs.Parts.{IsFit}
-use Rattle.residency.specs.declared.leaves.Change.TheVariants.{Forget}
-use Rattle.residency.specs.Leaves.{ChangesLeaves, IsClear}
+use Rattle.residency.specs.{Picture.{Picture, picture_of}, Parts.{IsFit}, declared.leaves.Change.TheVariants.{Forget}, Leaves.{ChangesLeaves, IsClear}}
 use Rattle.residency.proofs.LeafSteps.{names_over}
 use Rattle.residency.proofs.leaves.forget_leaves.Goals as goal
 

@@ -1,9 +1,7 @@
 use Rattle.vm_types.specs.Limits.{top_level}
-use Rattle.std.proofs.Common.{ℕ, inl, inr, subst, arith}
-use Rattle.std.proofs.lemmas.Bool.{cases_eq, false≢true}
+use Rattle.std.proofs.{Common.{ℕ, inl, inr, subst, arith}, lemmas.Bool.{cases_eq, false≢true}}
 use Rattle.page_tables.specs.Tree.{IsPage}
-use Rattle.residency.specs.Picture.{picture_of}
-use Rattle.residency.specs.Leaves.{IsOver}
+use Rattle.residency.specs.{Picture.{picture_of}, Leaves.{IsOver}}
 use Rattle.residency.proofs.LeafSteps.{over_number}
 use Rattle.residency.proofs.leaves.has_leaf.Goals as goal
 

@@ -1,10 +1,8 @@
 use Rattle.vm_types.proofs.Modes.{user_pages_fit}
 use Rattle.std.specs.Prelude.{IfSome}
-use Rattle.std.proofs.Common.{◌≡◌, ◌<◌, ℕ, true, Option, Some, None, is_some, length, sym, ◌∙◌, arith}
-use Rattle.std.proofs.lemmas.Bool.{false≢true}
+use Rattle.std.proofs.{Common.{◌≡◌, ℕ, true, Option, Some, None, is_some, sym, ◌∙◌, arith}, lemmas.Bool.{false≢true}}
 use Rattle.residency.specs.Picture.{picture_of}
-use Rattle.residency.proofs.LeafSteps.{over_lives, if_none}
-use Rattle.residency.proofs.Lives.{dead_process, live_process}
+use Rattle.residency.proofs.{LeafSteps.{over_lives, if_none}, Lives.{dead_process, live_process}}
 use Rattle.residency.proofs.leaves.has_leaf_in.Goals as goal
 
 pub returns-in_default-clause-none : goal.returns-in_default-clause-none

@@ -1,8 +1,6 @@
-use Rattle.std.proofs.Common.{◌≡◌, ap, sym, ◌∙◌, eq-eqb}
-use Rattle.std.proofs.lemmas.Bool.{false≢true, eqb-true}
+use Rattle.std.proofs.{Common.{◌≡◌, ap, sym, ◌∙◌, eq-eqb}, lemmas.Bool.{false≢true, eqb-true}}
 use Rattle.sv39_walk.specs.Entry.{frame_of}
-use Rattle.residency.specs.Picture.{picture_of, entry}
-use Rattle.residency.specs.Leaves.{concerns}
+use Rattle.residency.specs.{Picture.{picture_of, entry}, Leaves.{concerns}}
 use Rattle.residency.proofs.Entries.{entry-of}
 use Rattle.residency.proofs.leaves.is_over.Goals as goal
 

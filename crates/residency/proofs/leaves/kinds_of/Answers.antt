@@ -1,8 +1,5 @@
-use Rattle.std.proofs.Common.{◌%◌, subst, arith}
-use Rattle.std.proofs.lemmas.Nat.Bits.{bit_at_ones}
-use Rattle.residency.specs.Picture.{picture_of}
-use Rattle.residency.specs.declared.leaves.Held.{Held}
-use Rattle.residency.specs.Leaves.{Holds}
+use Rattle.std.proofs.{Common.{◌%◌, subst, arith}, lemmas.Nat.Bits.{bit_at_ones}}
+use Rattle.residency.specs.{Picture.{picture_of}, declared.leaves.Held.{Held}, Leaves.{Holds}}
 use Rattle.residency.proofs.LeafSteps.{over_names}
 use Rattle.residency.proofs.leaves.kinds_of.Goals as goal
 

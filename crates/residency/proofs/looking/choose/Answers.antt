@@ -1,22 +1,13 @@
-use Rattle.std.proofs.Common.{Option, sym, subst, arith, rules}
-use Rattle.std.specs.declared.result.Result.{Result}
-use Rattle.std.specs.declared.result.Result.TheVariants.{Ok, Err}
-use Rattle.std.specs.Prelude.{IfOk, OnErr}
+use Rattle.std.proofs.{Common.{Option, refl, sym, subst, arith, rules}, lemmas.Result.{IfOk-weaker}}
+use Rattle.std.specs.{declared.result.Result.{Result}, declared.result.Result.TheVariants.{Ok, Err}, Prelude.{IfOk, OnErr}}
 use Rattle.vm_types.specs.declared.number.FrameNo.{FrameNo}
-use Rattle.residency.specs.Picture.{picture_of}
-use Rattle.residency.specs.Calls.{Frees}
-use Rattle.residency.specs.Evictions.{IsEvictable}
-use Rattle.residency.proofs.Giving.{marks_none}
-use Rattle.residency.proofs.Sparing.{frees_none}
+use Rattle.residency.specs.{Picture.{picture_of}, Calls.{Frees}, Evictions.{IsEvictable}}
+use Rattle.residency.proofs.{Giving.{marks_none}, Sparing.{frees_none}}
 use Rattle.residency.proofs.looking.choose.Goals as goal
 
 both : {T E : Type 0} (r : Result T E) (P : T → Type 0) (Q R : Type 0) → IfOk r P → OnErr r Q → ((n : T) → P n → R) → (Q → R) → R
 both (Ok n) P Q R ok err f h = f n ok
 both (Err e) P Q R ok err f h = h err
-
-ok_then : {T E : Type 0} (r : Result T E) (P P' : T → Type 0) → IfOk r P → ((n : T) → P n → P' n) → IfOk r P'
-ok_then (Ok n) P P' ok f = f n ok
-ok_then (Err e) P P' ok f = ok
 
 err_then : {T E : Type 0} (r : Result T E) (P Q R : Type 0) → OnErr r P → OnErr r Q → (P → Q → R) → OnErr r R
 err_then (Ok n) P Q R p q f = p
@@ -29,9 +20,9 @@ returns g c =
     let old = picture_of c.args.core.now in
     let now = picture_of c.victim-choice.new.view in
     record {
-      found = ok_then c.victim-choice.result _ _ v.chooses (λ n ch. (
+      found = IfOk-weaker c.victim-choice.result _ _ (λ n ch. (
           let P : Option FrameNo → Type 0 = λ k. IsEvictable now k n.0 in
-          subst P follows.kept ((ch.passes.evictable n.0).1 ch.evictable)));
+          subst P follows.kept ((ch.passes.evictable n.0).1 ch.evictable))) v.chooses;
       none = err_then c.victim-choice.result _ _ _ v.none v.kept (λ none passes n inside ev. (
           let P : Option FrameNo → Type 0 = λ k. IsEvictable now k n in
           none n (let t = passes.total in omega (arith, t, inside)) ((passes.evictable n).0 (subst P (sym follows.kept) ev))));
@@ -40,5 +31,6 @@ returns g c =
       marks = follows.marks old (marks_none old);
       looked = search rules;
       full = follows.full;
+      clock = record { asked = _; left = c.victim-choice.new.view; same = refl; keeps = refl; round = v };
       looks = search rules;
     }

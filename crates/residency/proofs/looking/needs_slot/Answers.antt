@@ -1,6 +1,5 @@
 use Rattle.std.proofs.Common.{◌≡◌, inl, inr, sym, ap, ◌∙◌}
-use Rattle.page_cache.specs.declared.place.Place.TheVariants.{Home, Frame}
-use Rattle.page_cache.specs.CacheTable.{is_touched}
+use Rattle.page_cache.specs.{declared.place.Place.TheVariants.{Home, Frame}, CacheTable.{is_touched}}
 use Rattle.residency.proofs.looking.needs_slot.Goals as goal
 
 pub returns-in-Some-clause-other : goal.returns-in-Some-clause-other

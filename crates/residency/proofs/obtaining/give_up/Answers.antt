@@ -1,20 +1,11 @@
 use Rattle.std.proofs.Common.{ℕ, ◌≡◌, inl, sym, ◌∙◌, arith, rules}
-use Rattle.std.specs.declared.result.Result.{Result}
-use Rattle.std.specs.declared.result.Result.TheVariants.{Ok, Err}
-use Rattle.std.specs.Prelude.{IfErr, IsErrAnd}
-use Rattle.vm_types.specs.declared.refusal.Stall.{Stall}
-use Rattle.vm_types.specs.declared.refusal.Stall.TheVariants.{NoFrames, NoSwap, SwapDevice}
+use Rattle.std.specs.{declared.result.Result.{Result}, declared.result.Result.TheVariants.{Ok, Err}, Prelude.{Option, IfErr, IsErrAnd, MatchResult}}
+use Rattle.vm_types.specs.declared.mode.Levels as Levels
+use Rattle.vm_types.specs.{declared.number.FrameNo.{FrameNo}, declared.refusal.Stall.{Stall}, declared.refusal.Stall.TheVariants.{NoFrames, NoSwap, SwapDevice}}
+use Rattle.clock_replace.specs.declared.clock.Clock.{Clock}
+use Rattle.residency.specs.{declared.kernel.Core.{Core}, Views.{AsksClock, TurnsFor}, Picture.{Picture, picture_of}, Ages.{GivesFrame}, Calls.{Refuses}, Capacity.{IsShort}}
 use Rattle.frames.specs.FrameTable.{FrameTable, frame_count, role_of, IsFull}
-use Rattle.residency.specs.Picture.{Picture, picture_of}
-use Rattle.residency.specs.Ages.{GivesFrame}
-use Rattle.residency.specs.Calls.{Refuses}
-use Rattle.residency.specs.Capacity.{IsShort}
-use Rattle.residency.proofs.Asking.{asked_tried, one_tried}
-use Rattle.residency.proofs.Giving.{on_err_same, frame_given}
-use Rattle.residency.proofs.Shown.{shows_kept}
-use Rattle.residency.proofs.Sparing.{frees_then, gives_frees}
-use Rattle.residency.proofs.Stalls.{short_of}
-use Rattle.residency.proofs.Refusing.{inside_of, above_of, all_need, no_slot_free}
+use Rattle.residency.proofs.{Asking.{asked_tried, one_tried}, Giving.{on_err_same, frame_given}, Shown.{shows_kept}, Sparing.{frees_then, gives_frees}, Stalls.{short_of}, Refusing.{inside_of, above_of, all_need, no_slot_free}}
 use Rattle.residency.proofs.obtaining.give_up.Goals as goal
 
 -- frames of which none is free and each keeps its use
@@ -26,6 +17,11 @@ short_swap : {mode : ℕ} {T : Type 0} (c : Picture mode) (stall : Stall) (r : R
 unfolding IsShort
 short_swap c stall (Ok x) is swap = absurd is
 short_swap c stall (Err e) is swap = rw (is, swap) tt
+
+turns_swap : {M : Type 0} {m : Levels.Ghosts M} {D E : Type 0} (old : Core D E M m) (keep : Option FrameNo) (clock : Clock) (stall : Stall) (r : Result FrameNo Stall) → IsErrAnd r (λ e. e ≡ stall) → stall ≡ SwapDevice
+    → (tried : FrameNo) × AsksClock old keep (Ok tried) clock → MatchResult r (λ n. AsksClock old keep (Ok n) clock) (TurnsFor old keep clock)
+turns_swap old keep clock stall (Ok x) is swap tried = absurd is
+turns_swap old keep clock stall (Err e) is swap tried = rw (is, swap) tried
 
 pub evict-requires-clause-inside : goal.evict-requires-clause-inside
 evict-requires-clause-inside g c = inside_of c.choose-choice.new.core.frames c.in-Ok.victim.0 c.choose-choice.new.core.sound c.in-Ok.ensures.found.0.0
@@ -47,13 +43,17 @@ returns-in_err-evict-in-Ok g c =
       frees = frees;
       shows = λ s. shows_kept old new s frees.pages;
       rest = search rules;
-      looks = search rules;
       idle = λ some. absurd (some c.requires.full);
       needed = inl c.requires.full;
+      clock = record {
+        stands = λ some. absurd (some c.requires.full);
+        turns = λ full. turns_swap c.args.core.now c.args.keep c.evict.new.core.clock _ c.from_residual.result c.from_residual.ensures.1 c.in_err-evict-in-Ok.ensures.fault (c.in-Ok.victim, rw c.evict.ensures.plain.clock c.in-Ok.ensures.clock);
+        looks = search rules;
+      };
       asked = asked_tried g.E.SectorDisk c.args.core.now c.choose-choice.new.core _ c.args.keep v found.marks found.looked may gives c.evict.ensures.asks c.evict.ensures.asked c.requires.full;
       uses = search rules;
       full = on_err_same (IsFull new.frames) c.from_residual.result (full_still mid.frames new.frames gives.2.count c.in_err-evict-in-Ok.ensures.still (found.full c.requires.full));
-      still = search rules;
+      still = on_err_same _ c.from_residual.result (λ n. c.in_err-evict-in-Ok.ensures.still n ∙ found.marks.roles n);
       tried = on_err_same ((v : ℕ) × GivesFrame old new v) c.from_residual.result (v, frame_given old mid new v found.marks gives may.0.0);
       refused = record { refuses = search rules; short = short_swap new _ c.from_residual.result c.from_residual.ensures.1 c.in_err-evict-in-Ok.ensures.fault; cause = search rules };
     }
@@ -77,9 +77,9 @@ returns-in_ok-evict-in-Ok g c =
       frees = frees;
       shows = λ s. shows_kept old new s frees.pages;
       rest = search rules;
-      looks = search rules;
       idle = λ some. absurd (some c.requires.full);
       needed = inl c.requires.full;
+      clock = record { stands = λ some. absurd (some c.requires.full); turns = λ full. rw c.evict.ensures.plain.clock c.in-Ok.ensures.clock; looks = search rules };
       asked = asked_tried g.E.SectorDisk c.args.core.now c.choose-choice.new.core _ c.args.keep v found.marks found.looked may gives c.evict.ensures.asks c.evict.ensures.asked c.requires.full;
       uses = record { swap = search rules; device = search rules; one = one_tried g.E.SectorDisk c.args.core.now c.choose-choice.new.core c.evict.new.core found.looked.swap c.in_ok-evict-in-Ok.ensures.one };
       full = tt;
@@ -108,9 +108,9 @@ returns-then-has_spareable g c =
       frees = found.frees;
       shows = λ s. shows_kept (picture_of c.args.core.now) now s found.frees.pages;
       rest = search rules;
-      looks = found.looks;
       idle = λ some. absurd (some c.requires.full);
       needed = inl c.requires.full;
+      clock = record { stands = λ some. absurd (some c.requires.full); turns = λ full. (_, c.in-Err.ensures.clock); looks = found.looks };
       asked = inl found.looked.swap;
       uses = search rules;
       full = found.full c.requires.full;
@@ -132,9 +132,9 @@ returns-else-has_spareable g c =
       frees = found.frees;
       shows = λ s. shows_kept (picture_of c.args.core.now) now s found.frees.pages;
       rest = search rules;
-      looks = found.looks;
       idle = λ some. absurd (some c.requires.full);
       needed = inl c.requires.full;
+      clock = record { stands = λ some. absurd (some c.requires.full); turns = λ full. (_, c.in-Err.ensures.clock); looks = found.looks };
       asked = inl found.looked.swap;
       uses = search rules;
       full = found.full c.requires.full;

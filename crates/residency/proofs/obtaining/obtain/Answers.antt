@@ -1,9 +1,11 @@
-use Rattle.std.proofs.Common.{refl, rules}
+use Rattle.std.proofs.Common.{refl, arith, rules}
+use Rattle.residency.specs.Calls.{IsFreeFrame}
 use Rattle.residency.proofs.Asking.{asks_same}
 use Rattle.residency.proofs.obtaining.obtain.Goals as goal
 
 pub returns-in-Some : goal.returns-in-Some
 returns-in-Some g c =
+    let free : IsFreeFrame c.args.core.now.frames c.in-Some.n.0 = search rules in
     record {
       free = search rules;
       gives = search rules;
@@ -11,9 +13,9 @@ returns-in-Some g c =
       frees = search rules;
       shows = search rules;
       rest = search rules;
-      looks = search rules;
       idle = search rules;
       needed = search rules;
+      clock = record { stands = λ some. refl; turns = λ full. absurd (full c.in-Some.n.0 free.inside free.free); looks = omega arith };
       asked = search rules;
       uses = record {
         swap = search rules;

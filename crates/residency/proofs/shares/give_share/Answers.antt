@@ -1,13 +1,8 @@
 use Rattle.vm_types.proofs.Modes.{user_pages_fit}
-use Rattle.std.proofs.Common.{ℕ, ◌≡◌, ◌+◌, ◌*◌, ◌^◌, ◌<◌, rules, get_or, inl, inr, refl, ap, sym, ◌∙◌, arith}
-use Rattle.std.proofs.lemmas.Bool.{cases_lt}
-use Rattle.std.proofs.lemmas.List.{get_or_past}
-use Rattle.frames.specs.declared.role.Role.TheVariants.{Free, Private}
-use Rattle.frames.specs.FrameTable.{frame_count, role_of}
-use Rattle.residency.specs.Seats.{InFrame}
-use Rattle.residency.specs.Picture.{Picture, picture_of}
-use Rattle.residency.proofs.Handing.{seat_whole, away_number, all_given}
-use Rattle.residency.proofs.Moves.{same_beside}
+use Rattle.std.proofs.Common.{◌≡◌, ◌+◌, ◌*◌, ◌^◌, ◌<◌, rules, get_or, refl, ap, ◌∙◌, arith}
+use Rattle.frames.specs.{declared.role.Role.TheVariants.{Free, Private}, FrameTable.{role_of}}
+use Rattle.residency.specs.{Seats.{InFrame}, Picture.{Picture, picture_of, is_data}}
+use Rattle.residency.proofs.{Handing.{seat_whole, away_number, all_given}, Moves.{same_beside}, Refusing.{inside_of}}
 use Rattle.residency.proofs.shares.give_share.Goals as goal
 
 pub set-requires-clause-root : goal.set-requires-clause-root
@@ -21,10 +16,7 @@ release-requires g c =
     let role : role_of c.args.core.now.frames c.args.frame.0 ≡ Private =
     c.requires.share.fit.counted.1.named c.args.process.pid c.args.page (InFrame c.args.frame.0) (omega (arith, c.requires.has.user, user_pages_fit g.M.Levels.mode)) c.requires.has.from in
     let same : role_of c.set.new.memory c.args.frame.0 ≡ Private = ap (λ rs. get_or rs c.args.frame.0 Free) c.set.ensures.sets.kept.roles ∙ role in
-    let inside : c.args.frame.0 < frame_count c.args.core.now.frames = elim (cases_lt c.args.frame.0 (frame_count c.args.core.now.frames)) [
-      | inl lt ↦ lt
-      | inr past ↦ (let all = c.args.core.now.sound.all_roles in let bad : Free ≡ Private = sym (get_or_past c.args.core.now.frames.roles c.args.frame.0 Free (omega (arith, all, past))) ∙ role in (cc))
-    ] in
+    let inside = inside_of c.args.core.now.frames c.args.frame.0 c.args.core.now.sound (ap is_data role) in
     record { inside = (let frames = c.set.ensures.sets.kept.frames in rw frames inside); handed_out = rw same refl }
 
 pub returns : goal.returns
@@ -43,7 +35,7 @@ returns g c =
       kept = given.4;
       spares = given.1;
       others = given.3;
-      plain = record { store = refl; roots = refl; regions = refl; refused = refl; looks = refl };
+      plain = record { store = refl; roots = refl; regions = refl; clock = refl; refused = refl; looks = refl };
       swap = refl;
       noted = refl;
     }

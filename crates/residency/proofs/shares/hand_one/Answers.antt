@@ -1,9 +1,6 @@
-use Rattle.std.proofs.Common.{◌<◌, None, length, sym, ap, ◌∙◌, arith}
-use Rattle.residency.specs.Seats.{InFrame, seat}
-use Rattle.residency.specs.Picture.{picture_of}
-use Rattle.residency.proofs.Entries.{entry-of}
-use Rattle.residency.proofs.Passing.{dead_seat, passes_none}
-use Rattle.residency.proofs.Lives.{dead_process, live_process}
+use Rattle.std.proofs.Common.{sym, ap, ◌∙◌}
+use Rattle.residency.specs.{Seats.{InFrame, seat}, Picture.{picture_of}}
+use Rattle.residency.proofs.{Entries.{entry-of}, Passing.{dead_seat, passes_none}, Lives.{dead_process, live_process}}
 use Rattle.residency.proofs.shares.hand_one.Goals as goal
 
 pub returns-in_default : goal.returns-in_default

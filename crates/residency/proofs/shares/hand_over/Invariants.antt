@@ -1,8 +1,5 @@
 use Rattle.std.proofs.Common.{◌≢◌, ℕ, ◌<◌, Some}
-use Rattle.residency.specs.Seats.{InFrame, seat}
-use Rattle.residency.specs.Picture.{picture_of, entry}
-use Rattle.residency.specs.Evictions.{IsHanding}
-use Rattle.residency.specs.Handovers.{HandsShares}
+use Rattle.residency.specs.{Seats.{InFrame, seat}, Picture.{picture_of, entry}, Evictions.{IsHanding}, Handovers.{HandsShares}}
 use Rattle.residency.proofs.shares.hand_over.Given as goal
 
 abbrev pub invariant-loop-pid : goal.invariant-loop-pid

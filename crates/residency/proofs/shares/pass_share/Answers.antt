@@ -1,11 +1,8 @@
-use Rattle.std.proofs.Common.{slice_index_or, ◌≢◌, sym, ap, ◌∙◌, arith, rules}
-use Rattle.std.proofs.lemmas.Bool.{false≢true}
+use Rattle.std.proofs.{Common.{slice_index_or, ◌≢◌, sym, ap, ◌∙◌, arith, rules}, lemmas.Bool.{false≢true}}
 use Rattle.frames.specs.FrameTable.{count_of}
 use Rattle.swap.specs.Slots.{slots_of}
 use Rattle.residency.specs.Picture.{Picture, picture_of, entry}
-use Rattle.residency.proofs.Passing.{all_passed, slot_no_seat}
-use Rattle.residency.proofs.Putting.{with_slots}
-use Rattle.residency.proofs.Sparing.{spares_then}
+use Rattle.residency.proofs.{Passing.{all_passed, slot_no_seat}, Putting.{with_slots}, Sparing.{spares_then}}
 use Rattle.residency.proofs.shares.pass_share.Goals as goal
 
 pub returns-then-alone : goal.returns-then-alone
@@ -38,5 +35,5 @@ returns g c =
       free = λ t. absurd (false≢true t);
       handing = λ f. passed.0;
       others = done.others;
-      hands = record { spares = spares_then v c.args.slot.0 old mid new done.spares passed.1; ready = search rules; pages = search rules; plain = record { store = done.plain.store; roots = done.plain.roots; regions = done.plain.regions; refused = done.plain.refused; looks = done.plain.looks } };
+      hands = record { spares = spares_then v c.args.slot.0 old mid new done.spares passed.1; ready = search rules; pages = search rules; plain = record { store = done.plain.store; roots = done.plain.roots; regions = done.plain.regions; clock = done.plain.clock; refused = done.plain.refused; looks = done.plain.looks } };
     }

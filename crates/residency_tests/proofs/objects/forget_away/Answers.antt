@@ -1,6 +1,5 @@
-use Rattle.std.proofs.Common.{◌≡◌, ℕ, inl, inr, true, Option, sym, ap, ◌∙◌, subst}
+use Rattle.std.proofs.{Common.{◌≡◌, ℕ, inl, inr, true, Option, sym, ap, ◌∙◌, subst}, lemmas.Bool.{cases_eq}}
 use Rattle.std.specs.Prelude.{IfSome}
-use Rattle.std.proofs.lemmas.Bool.{cases_eq}
 use Rattle.vm_types.specs.Objects.{names}
 use Rattle.residency.specs.Picture.{Picture, picture_of, entry}
 use Rattle.residency.proofs.Start.{entry-dead}

@@ -1,5 +1,4 @@
-use Rattle.std.proofs.Common.{length, subst, sym, ◌∙◌}
-use Rattle.std.proofs.lemmas.Bool.{eqb-false}
+use Rattle.std.proofs.{Common.{length, subst, sym, ◌∙◌}, lemmas.Bool.{eqb-false}}
 use Rattle.runner.specs.Session.{Answers}
 use Rattle.runner.proofs.Ends.{runs_last}
 use Rattle.runner.proofs.engine.answer_last.Goals as goal

@@ -1,5 +1,4 @@
-use Rattle.std.proofs.Common.{◌≡◌, ◌≤◌, ℕ, List, [], ◌∷◌, ◌++◌, length, take, refl, sym, ◌∙◌, ap, eqb-true, arith}
-use Rattle.std.proofs.lemmas.List.{take_all}
+use Rattle.std.proofs.{Common.{◌≡◌, ◌≤◌, ℕ, List, [], ◌∷◌, ◌++◌, length, take, refl, sym, ◌∙◌, ap, eqb-true, arith}, lemmas.List.{take_all}}
 use Rattle.runner.proofs.Progress.{reads_line}
 use Rattle.runner.proofs.engine.run_line.Goals as goal
 
@@ -7,7 +6,7 @@ no_bytes : (l : List ℕ) → length l ≡ 0 → l ≡ []
 no_bytes [] e = refl
 no_bytes (b ∷ l) e = absurd (omega (arith, e))
 
--- behind an empty buffer the line is these bytes
+-- after an empty buffer the line is these bytes
 whole_line : (kept bytes : List ℕ) → kept ≡ [] → length bytes ≤ 256 → bytes ≡ take 257 (kept ++ bytes)
 whole_line kept bytes none short =
     let room : length bytes ≤ 257 = omega (arith, short) in

@@ -1,29 +1,12 @@
-use Rattle.std.proofs.Common.{ℕ, ◌<◌, ◌≡◌, ◌⊎◌, inl, inr, true, false, is_some, ◌/◌, ◌%◌, List, refl, sym, ap, ◌∙◌, subst, rules, arith}
+use Rattle.std.proofs.Common.{ℕ, ◌<◌, ◌≡◌, inr, false, is_some, ◌/◌, ◌%◌, List, refl, sym, ap, ◌∙◌, subst, rules, arith}
 use Rattle.frames.specs.FrameTable.{FrameTable, IsHeld, IsSound, with_bytes}
 use Rattle.frames.proofs.FrameLemmas.{IsHeld-above, IsHeld-not_zero, IsSound-step, with_bytes-others}
-use Rattle.fault.specs.AccessAsking.{AsksForPage}
-use Rattle.fault.specs.Outcome.{Grants, IsReadyToStore, IsOpenToStore, IsRefusal, IsWalked}
-use Rattle.fault.specs.Wants.{Wants, ReadsHome, ShowsFile}
-use Rattle.fault.proofs.AccessAsking.{asks_same}
-use Rattle.fault.proofs.AccessSlotted.{slotted_same}
-use Rattle.fault.proofs.Wanted.{calm_same}
-use Rattle.fault.specs.Changes.{IsCalm, KeepsOtherViews, KeepsSlotted, IsThatPage, LinksTables}
+use Rattle.fault.specs.{Changes.{IsThatPage}, Outcome.{Grants, IsReadyToStore, IsOpenToStore, IsWalked}, Serving.{Tends}, Wants.{ShowsFile}}
 use Rattle.residency.specs.Picture.{picture_of, is_live}
 use Rattle.vm_types.specs.declared.access.Access.TheVariants as Accesses
-use Rattle.vm_types.specs.declared.command.Command.TheVariants.{Store}
-use Rattle.vm_types.specs.declared.number.Phys.{Phys}
-use Rattle.vm_types.specs.declared.refusal.Errno.TheVariants.{ESRCH}
-use Rattle.vm_types.specs.declared.reply.Answer.{Answer}
-use Rattle.vm_types.specs.declared.reply.Reply.TheVariants.{Done, Refused}
-use Rattle.vm_types.specs.Access.{with_number}
-use Rattle.vm_types.specs.Width.{byte_count}
-use Rattle.vm_types.specs.Replies.{reply_of}
-use Rattle.spaces.specs.Accesses.{reply_for, AsksFor, LetsThrough}
-use Rattle.spaces.specs.Calls.{Comes, IsCaused}
-use Rattle.spaces.specs.Idle.{is_denial}
-use Rattle.spaces.proofs.Asking.{asks_refused, asks_unstalled, no_root, one_end, one_place, writes_none, writes_walked}
-use Rattle.spaces.proofs.Calls.{found_lives}
-use Rattle.spaces.proofs.Refusals.{refused_idle, refused_caused}
+use Rattle.vm_types.specs.{declared.command.Command.TheVariants.{Store}, declared.number.Phys.{Phys}, declared.reply.Answer.{Answer}, declared.reply.Reply.TheVariants.{Done}, Access.{with_number}, Width.{byte_count}, Replies.{reply_of}}
+use Rattle.spaces.specs.{Accesses.{KeepsToPage, LetsThrough}, Calls.{Comes}}
+use Rattle.spaces.proofs.{Asking.{asks_unstalled, keeps_dead, keeps_refused, no_root, one_end, one_place, writes_walked}, Calls.{found_lives}}
 use Rattle.spaces.proofs.Writing.{fit_stored, open_held, others_stored, room_stored, slotted_stored, store_refused, stores}
 use Rattle.spaces.proofs.accesses.store.Goals as goal
 
@@ -37,19 +20,14 @@ returns-in-Ok-clause-keeps g c =
     let a = c.args in
     let old = picture_of a.core.now in
     let mid = picture_of c.access.new.core in
-    let goes = c.access.ensures.proceeds in
+    let found = c.in-Some.ensures.found.0 in
+    let tends = subst (λ (p : ℕ). Tends g.D.SectorDisk g.E.SectorDisk a.core.now c.access.new.core p (a.addr / 4096) Accesses.Store) found c.access.ensures.tends in
+    let goes = tends.proceeds in
     let placed = c.in-Ok.ensures.placed in
     let n = c.frame_of-frame.result.0 in
-    let found = c.in-Some.ensures.found.0 in
-    let open_there = subst (λ (k : ℕ). IsOpenToStore mid c.in-Some.pid (a.addr / 4096) placed.seen.attr.backing k) (sym c.frame_of-frame.ensures) placed.usable in
-    let usable = subst (λ (p : ℕ). IsOpenToStore mid p (a.addr / 4096) placed.seen.attr.backing n) found open_there in
-    let others = subst (λ (p : ℕ). KeepsOtherViews old mid p (a.addr / 4096)) found c.access.ensures.others in
-    let read = subst (λ (p : ℕ). (c.access.new.core.store ≡ a.core.now.store) ⊎ ReadsHome old p (a.addr / 4096)) found c.access.ensures.read in
-    let slots = subst (λ (p : ℕ). (Wants old p (a.addr / 4096) Accesses.Store → ⊥) → c.access.new.core.swap ≡ a.core.now.swap) found (λ none. (c.access.ensures.calm none).swap) in
-    let slotted = subst (λ (p : ℕ). KeepsSlotted (ShowsFile old p (a.addr / 4096)) (IsThatPage p (a.addr / 4096)) old mid) found c.access.ensures.slotted in
-    let sectors = subst (λ (p : ℕ). AsksForPage g.D.SectorDisk g.E.SectorDisk a.core.now c.access.new.core p (a.addr / 4096) Accesses.Store) found c.access.ensures.asks in
-    let tables = subst (λ (p : ℕ). LinksTables old mid p (a.addr / 4096)) found c.access.ensures.tables in
-    let calm = subst (λ (p : ℕ). (Wants old p (a.addr / 4096) Accesses.Store → ⊥) → IsCalm a.core.now c.access.new.core p (a.addr / 4096)) found c.access.ensures.calm in
+    let backing = placed.seen.attr.backing in
+    let open_there = subst (λ (k : ℕ). IsOpenToStore mid c.in-Some.pid (a.addr / 4096) backing k) (sym c.frame_of-frame.ensures) placed.usable in
+    let usable = subst (λ (p : ℕ). IsOpenToStore mid p (a.addr / 4096) backing n) found open_there in
     let written = writes_walked c.access.new.core c.access.new.core _ n n (a.addr % 4096) a.stored c.write_number.new.page refl refl
     (record { store = refl; swap = refl; cache = refl; roots = refl; regions = refl; page_of = refl }) refl refl refl
     (c.write_number.ensures
@@ -59,23 +37,23 @@ returns-in-Ok-clause-keeps g c =
         sound = record {
           ready = goes.ready;
           swap = goes.swap;
-          fit = fit_stored mid _ a.pid (a.addr / 4096) placed.seen.attr.backing n c.write_number.new.page goes.fit usable refl
+          fit = fit_stored mid _ a.pid (a.addr / 4096) backing n c.write_number.new.page goes.fit usable refl
               (record { slots = refl; root = λ q. refl; at = λ q k. refl; page_of = λ m. refl; place = λ p. refl; touched = λ p. refl; files = λ f. refl });
         };
         room = room_stored old mid _ n c.write_number.new.page goes.room refl refl;
         denied = search rules;
         caused = search rules;
       };
-      others = others_stored old mid _ a.pid (a.addr / 4096) placed.seen.attr.backing n c.write_number.new.page goes.fit
+      others = others_stored old mid _ a.pid (a.addr / 4096) backing n c.write_number.new.page goes.fit
           usable refl (record { slots = refl; root = λ q. refl; at = λ q k. refl; page_of = λ m. refl; place = λ p. refl; touched = λ p. refl; files = λ f. refl })
-          others;
+          tends.others;
       reads = goes.reads;
       device = goes.device;
-      asks = asks_unstalled g.D.SectorDisk g.E.SectorDisk a.core.now _ a.pid a.addr Accesses.Store read slots
-          (slotted_stored old mid _ a.pid (a.addr / 4096) placed.seen.attr.backing n c.write_number.new.page
+      asks = asks_unstalled g.D.SectorDisk g.E.SectorDisk a.core.now c.access.new.core a.pid a.addr Accesses.Store tends _ refl refl
+          (slotted_stored old mid _ a.pid (a.addr / 4096) backing n c.write_number.new.page
           (ShowsFile old a.pid (a.addr / 4096)) (IsThatPage a.pid (a.addr / 4096)) goes.fit usable refl
-          (record { slots = refl; root = λ q. refl; at = λ q k. refl; page_of = λ m. refl; place = λ p. refl; touched = λ p. refl; files = λ f. refl }) slotted)
-          (record { store = sectors.store; swap = sectors.swap }) c.access.new.core tables calm (inr (n, a.addr % 4096, a.stored, written)) Done (λ stall e. cc)
+          (record { slots = refl; root = λ q. refl; at = λ q k. refl; page_of = λ m. refl; place = λ p. refl; touched = λ p. refl; files = λ f. refl }) tends.slotted)
+          (inr (n, a.addr % 4096, a.stored, written)) Done (λ stall e. cc)
           (λ done. subst (λ (p : ℕ). LetsThrough mid p a.addr Accesses.Store) found (placed.root, c.in-Ok.place, placed.lives, placed.place));
     }
 
@@ -109,34 +87,19 @@ returns-in-Ok-clause-walked g c place walked =
 pub returns-in-Err-clause-comes : goal.returns-in-Err-clause-comes
 returns-in-Err-clause-comes g c = λ s shows keeps swaps.
     let a = c.args in
-    let refusal = subst (λ (p : ℕ). IsRefusal g.D.SectorDisk g.E.SectorDisk a.core.now c.access.new.core p a.addr a.stored.width Accesses.Store c.in-Err.refusal) c.in-Some.ensures.found.0
-    c.in-Err.ensures.refusal in
-    subst (λ (r : Answer). Comes g.D.SectorDisk g.E.SectorDisk a.core.now c.access.new.core s (Store a.pid a.addr a.stored) (reply_of r)) (sym c.refused.ensures)
-    (store_refused g.D.SectorDisk g.E.SectorDisk a.core.now c.access.new.core _ s shows (keeps refl) (swaps refl) c.requires.sound.fit c.access.ensures.proceeds c.access.ensures.brings
-    a.pid a.addr (found_lives (picture_of a.core.now) c.in-Some.pid a.pid c.in-Some.ensures.found) a.stored c.in-Err.refusal refusal)
+    let new = c.access.new.core in
+    subst (λ (p : ℕ). Comes g.D.SectorDisk g.E.SectorDisk a.core.now new s (Store p a.addr a.stored) (reply_of c.refused.result)) c.in-Some.ensures.found.0
+    (subst (λ (r : Answer). Comes g.D.SectorDisk g.E.SectorDisk a.core.now new s (Store c.in-Some.pid a.addr a.stored) (reply_of r)) (sym c.refused.ensures)
+    (store_refused g.D.SectorDisk g.E.SectorDisk a.core.now new _ s shows (keeps refl) (swaps refl) c.requires.sound.fit c.access.ensures.proceeds c.access.ensures.brings
+    c.in-Some.pid a.addr c.in-Some.ensures.found.1 a.stored c.in-Err.refusal c.in-Err.ensures.refusal))
 
 pub returns-in-Err-clause-keeps : goal.returns-in-Err-clause-keeps
 returns-in-Err-clause-keeps g c =
     let a = c.args in
-    let goes = c.access.ensures.proceeds in
-    record {
-      accounts = record {
-        sound = search rules;
-        room = goes.room;
-        denied = subst (λ (r : Answer). is_denial (reply_of r) ≡ true → c.access.new.core ≡ a.core.now) (sym c.refused.ensures)
-            (refused_idle g.D.SectorDisk g.E.SectorDisk a.core.now c.access.new.core c.in-Some.pid a.addr a.stored.width Accesses.Store c.in-Err.refusal c.in-Err.ensures.refusal);
-        caused = subst (λ (r : Answer). IsCaused g.D.SectorDisk g.E.SectorDisk a.core.now c.access.new.core (reply_of r)) (sym c.refused.ensures)
-            (refused_caused g.D.SectorDisk g.E.SectorDisk a.core.now c.access.new.core c.in-Some.pid a.addr a.stored.width Accesses.Store c.in-Err.refusal
-            goes.reads.failures goes.device.later c.in-Err.ensures.refusal);
-      };
-      others = subst (λ (p : ℕ). KeepsOtherViews (picture_of a.core.now) (picture_of c.access.new.core) p (a.addr / 4096)) c.in-Some.ensures.found.0 c.access.ensures.others;
-      reads = goes.reads;
-      device = goes.device;
-      asks = subst (λ (r : Answer). AsksFor g.D.SectorDisk g.E.SectorDisk a.core.now c.access.new.core a.pid a.addr Accesses.Store (reply_of r)) (sym c.refused.ensures)
-          (subst (λ (p : ℕ). AsksFor g.D.SectorDisk g.E.SectorDisk a.core.now c.access.new.core p a.addr Accesses.Store (reply_of (reply_for c.in-Err.refusal))) c.in-Some.ensures.found.0
-          (asks_refused g.D.SectorDisk g.E.SectorDisk a.core.now c.access.new.core c.in-Some.pid a.addr Accesses.Store c.access.ensures.read (λ none. (c.access.ensures.calm none).swap) c.access.ensures.slotted c.access.ensures.asks
-          c.access.new.core c.access.ensures.tables c.access.ensures.calm (writes_none Accesses.Store c.access.new.core) a.stored.width c.in-Err.refusal c.in-Err.ensures.refusal));
-    }
+    let new = c.access.new.core in
+    subst (λ (p : ℕ). KeepsToPage g.D.SectorDisk g.E.SectorDisk a.core.now new p a.addr Accesses.Store (reply_of c.refused.result)) c.in-Some.ensures.found.0
+    (subst (λ (r : Answer). KeepsToPage g.D.SectorDisk g.E.SectorDisk a.core.now new c.in-Some.pid a.addr Accesses.Store (reply_of r)) (sym c.refused.ensures)
+    (keeps_refused g.D.SectorDisk g.E.SectorDisk a.core.now new c.in-Some.pid a.addr a.stored.width Accesses.Store c.access.result c.in-Err.refusal c.access.ensures c.in-Err.ensures.refusal))
 
 pub returns-in-Err-clause-walked : goal.returns-in-Err-clause-walked
 returns-in-Err-clause-walked g c place walked =
@@ -150,17 +113,7 @@ returns-in_default-clause-walked g c place walked =
     absurd (no_root (picture_of c.args.core.now) c.args.pid walked.root dead walked.lives)
 
 pub returns-in_default-clause-keeps : goal.returns-in_default-clause-keeps
-returns-in_default-clause-keeps g c =
-    let a = c.args in
-    record {
-      accounts = search rules;
-      others = search rules;
-      reads = search rules;
-      device = search rules;
-      asks = asks_unstalled g.D.SectorDisk g.E.SectorDisk a.core.now a.core.now a.pid a.addr Accesses.Store (inl refl) (λ none. refl) (slotted_same _ _ (picture_of a.core.now)) (asks_same g.D.SectorDisk g.E.SectorDisk a.core.now a.core.now a.pid (a.addr / 4096) Accesses.Store refl refl)
-          a.core.now (λ n table. inl table) (λ none. calm_same a.core.now a.pid (a.addr / 4096)) (writes_none Accesses.Store a.core.now) (Refused ESRCH) (λ stall e. cc)
-          (λ done. absurd (let never : true ≡ false = done in cc));
-    }
+returns-in_default-clause-keeps g c = keeps_dead g.D.SectorDisk g.E.SectorDisk c.args.core.now c.args.pid c.args.addr Accesses.Store c.requires.sound
 
 sound_written : (t : FrameTable) (n : ℕ) (w : List ℕ) → IsHeld t n → IsSound t → IsSound (with_bytes t n w)
 sound_written t n w held sound =

@@ -1,5 +1,4 @@
-use Rattle.std.proofs.Common.{◌≤◌, ℕ, inl, inr, sym, subst, arith}
-use Rattle.std.proofs.lemmas.Bool.{cases_eq, cases_lt}
+use Rattle.std.proofs.{Common.{◌≤◌, ℕ, inl, inr, sym, subst, arith}, lemmas.Bool.{cases_eq, cases_lt}}
 use Rattle.vm_types.specs.Runs.{run_count}
 use Rattle.residency.specs.Picture.{picture_of}
 use Rattle.spaces.proofs.Numbers.{no_runs}

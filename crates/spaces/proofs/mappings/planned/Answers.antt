@@ -2,12 +2,8 @@ use Rattle.vm_types.proofs.Modes.{sizes}
 use Rattle.std.proofs.Common.{ℕ, ◌<◌, ◌≤◌, ◌≡◌, sym, subst, arith}
 use Rattle.regions.specs.RunList.{attr_at}
 use Rattle.residency.specs.Picture.{picture_of}
-use Rattle.vm_types.specs.declared.region.Attr.{Attr}
-use Rattle.vm_types.specs.Attributes.{backing_fits}
-use Rattle.vm_types.specs.Rows.{replaced}
-use Rattle.vm_types.specs.Runs.{run_count}
-use Rattle.spaces.specs.Mappings.{attr_there}
-use Rattle.spaces.specs.Space.{space_of}
+use Rattle.vm_types.specs.{declared.region.Attr.{Attr}, Attributes.{backing_fits}, Rows.{replaced}, Runs.{run_count}}
+use Rattle.spaces.specs.{Mappings.{attr_there}, Space.{space_of}}
 use Rattle.spaces.proofs.Planning.{taken_place, many_runs, fine_place, fits_backing}
 use Rattle.spaces.proofs.mappings.planned.Goals as goal
 

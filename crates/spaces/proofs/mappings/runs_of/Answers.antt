@@ -1,5 +1,4 @@
-use Rattle.std.proofs.Common.{◌≤◌, ℕ, is_some, ap, ◌∙◌, subst, arith}
-use Rattle.std.proofs.lemmas.Bool.{false≢true}
+use Rattle.std.proofs.{Common.{◌≤◌, ℕ, is_some, ap, ◌∙◌, subst, arith}, lemmas.Bool.{false≢true}}
 use Rattle.vm_types.specs.Runs.{run_count}
 use Rattle.regions.specs.RunList.{attr_at}
 use Rattle.regions.proofs.CountLemmas.{run_count-same}

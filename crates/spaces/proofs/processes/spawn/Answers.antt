@@ -2,9 +2,7 @@ use Rattle.std.proofs.Common.{None, refl, rules}
 use Rattle.disk_model.specs.Moments.{Nothing}
 use Rattle.fault.proofs.Asking.{asks_slots_same}
 use Rattle.residency.specs.Picture.{picture_of}
-use Rattle.vm_types.specs.declared.refusal.Errno.TheVariants.{EAGAIN}
-use Rattle.spaces.proofs.Taking.{spawn_refused_takes, spawned_takes, spawn_stalled_takes}
-use Rattle.spaces.proofs.Living.{spawn_refused, spawns, spawn_stalls, store_kept_caused}
+use Rattle.spaces.proofs.{Taking.{spawned_takes, spawn_stalled_takes}, Living.{spawn_refused, spawns, spawn_stalls, store_kept_caused}}
 use Rattle.spaces.proofs.processes.spawn.Goals as goal
 
 pub returns-in_default-clause-comes : goal.returns-in_default-clause-comes
@@ -24,19 +22,8 @@ returns-in-Err-clause-comes g c = λ s shows reads swaps.
 pub returns-in-Err-clause-keeps : goal.returns-in-Err-clause-keeps
 returns-in-Err-clause-keeps g c =
     let said = c.spawn.ensures in
-    record {
-      accounts = record {
-        sound = search rules;
-        room = said.room;
-        denied = search rules;
-        caused = store_kept_caused g.D.SectorDisk g.E.SectorDisk c.args.core.now c.spawn.new.core c.in-Err.stall said.store said.device.later c.in-Err.ensures.cause;
-      };
-      store = said.store;
-      device = said.device;
-    }
-
-pub returns-in_default-clause-takes : goal.returns-in_default-clause-takes
-returns-in_default-clause-takes g c = spawn_refused_takes (picture_of c.args.core.now) (picture_of c.args.core.now) EAGAIN
+    let caused = store_kept_caused g.D.SectorDisk g.E.SectorDisk c.args.core.now c.spawn.new.core c.in-Err.stall said.store said.device.later c.in-Err.ensures.cause in
+    search rules
 
 pub returns-in-Ok-clause-takes : goal.returns-in-Ok-clause-takes
 returns-in-Ok-clause-takes g c =

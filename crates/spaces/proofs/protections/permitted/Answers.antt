@@ -1,10 +1,5 @@
-use Rattle.std.proofs.Common.{ℕ, ◌≡◌, ◌<◌, ◌≤◌, true, false, nat_lt, None, sym, ◌∙◌, subst, arith}
-use Rattle.std.proofs.lemmas.Bool.Decides.{nat_tests}
-use Rattle.vm_types.specs.declared.permission.Prot.{Prot}
-use Rattle.vm_types.specs.Permission.{kept}
-use Rattle.vm_types.specs.Ranges.{denies_stores}
-use Rattle.vm_types.specs.Rows.{is_covered, protected}
-use Rattle.vm_types.specs.Runs.{run_count}
+use Rattle.std.proofs.{Common.{ℕ, ◌≡◌, ◌<◌, ◌≤◌, true, false, nat_lt, None, sym, ◌∙◌, subst, arith}, lemmas.Bool.Decides.{nat_tests}}
+use Rattle.vm_types.specs.{declared.permission.Prot.{Prot}, Permission.{kept}, Ranges.{denies_stores}, Rows.{is_covered, protected}, Runs.{run_count}}
 use Rattle.file_store.specs.Store.{files_of}
 use Rattle.regions.specs.RunList.{attr_at}
 use Rattle.spaces.specs.Space.{space_of}

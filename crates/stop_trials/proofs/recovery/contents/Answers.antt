@@ -1,6 +1,5 @@
 use Rattle.std.proofs.Common.{◌≡◌, ◌++◌, ℕ, List, refl, sym, ap, ◌∙◌, arith}
-use Rattle.disk_model.specs.Stop.{Image}
-use Rattle.disk_model.specs.Sectors.{joined}
+use Rattle.disk_model.specs.{Stop.{Image}, Sectors.{joined}}
 use Rattle.disk_model.proofs.Pieces.{joined-none, joined-more}
 use Rattle.programs.proofs.Copies.{same_content}
 use Rattle.stop_trials.specs.Standing.{standing_bytes}

@@ -1,10 +1,5 @@
-use Rattle.std.proofs.Common.{◌≡◌, ◌<◌, ℕ, zero, suc, List, [], ◌∷◌, get_or, Some, length, sym, ap, ◌∙◌, ⊎_elim, arith}
-use Rattle.std.proofs.lemmas.Bool.{cases_eq, false≢true}
-use Rattle.std.proofs.lemmas.Option.{same_Some}
-use Rattle.std.specs.List.{slice_get}
-use Rattle.std.specs.Option.{option_map}
-use Rattle.std.specs.declared.alloc.Global.{Global}
-use Rattle.std.specs.declared.vec.Vec.{Vec}
+use Rattle.std.proofs.{Common.{◌≡◌, ◌<◌, ℕ, zero, suc, List, [], ◌∷◌, get_or, Some, length, sym, ap, ◌∙◌, ⊎_elim, arith}, lemmas.Bool.{cases_eq, false≢true}, lemmas.Option.{same_Some}}
+use Rattle.std.specs.{List.{slice_get}, Option.{option_map}, declared.alloc.Global.{Global}, declared.vec.Vec.{Vec}}
 use Rattle.stop_trials.specs.Standing.{state_after}
 use Rattle.stop_trials.proofs.standing.msyncs_standing.Goals as goal
 

@@ -1,7 +1,6 @@
 use Rattle.std.proofs.Common.{◌<◌, ◌+◌, ◌∙◌, ℕ, Option, get_or, sym, subst, arith}
 use Rattle.std.specs.Prelude.{IfSome}
-use Rattle.sync_journal.proofs.Images.{no_place, named_next, other_next, within_more}
-use Rattle.sync_journal.proofs.commits.place.Goals.{then-homes-j, else-homes-j}
+use Rattle.sync_journal.proofs.{Images.{no_place, named_next, other_next, within_more}, commits.place.Goals.{then-homes-j, else-homes-j}}
 use Rattle.sync_journal.proofs.commits.place.Goals as goal
 
 pub loop-j-init : goal.loop-j-init

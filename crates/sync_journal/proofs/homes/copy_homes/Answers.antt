@@ -1,6 +1,6 @@
 use Rattle.std.proofs.Common.{length, rules}
 use Rattle.disk_model.proofs.Naming.{once_still}
-use Rattle.sync_journal.specs.Layout.{IsCopied}
+use Rattle.sync_journal.specs.Standing.{IsCopyFrom}
 use Rattle.sync_journal.proofs.Runs.{and_no_write}
 use Rattle.sync_journal.proofs.homes.copy_homes.Goals as goal
 
@@ -10,8 +10,8 @@ returns g c =
       writes = record {
         done = search rules;
         run = search (and_no_write, c.copy_each.ensures.run, c.sync.ensures);
-        once = once_still (IsCopied c.args.homes.now (length c.args.homes.now)) (g.D.SectorDisk.asked c.args.disk.now) (g.D.SectorDisk.asked c.copy_each.new.disk) (g.D.SectorDisk.asked c.sync.new.self)
-            c.copy_each.ensures.once c.sync.ensures.asks;
+        once = once_still (IsCopyFrom c.args.body c.args.first c.args.homes.now c.args.but.now (length c.args.homes.now)) (g.D.SectorDisk.asked c.args.disk.now)
+            (g.D.SectorDisk.asked c.copy_each.new.disk) (g.D.SectorDisk.asked c.sync.new.self) c.copy_each.ensures.once c.sync.ensures.asks;
         failed = search rules;
         calm = search rules;
       };

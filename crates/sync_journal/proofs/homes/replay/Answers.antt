@@ -1,10 +1,7 @@
-use Rattle.std.proofs.Common.{length, inl, inr, rules}
+use Rattle.std.proofs.Common.{[], length, inl, inr, rules}
 use Rattle.disk_model.proofs.Naming.{once_wider}
-use Rattle.sync_journal.specs.Layout.{IsGate, IsHomeSector, IsReplayed, IsCopied, IsFinished}
-use Rattle.sync_journal.proofs.Asking.{finish_asks}
-use Rattle.sync_journal.proofs.Gates.{closed}
-use Rattle.sync_journal.proofs.Runs.{one_more, of_more}
-use Rattle.sync_journal.proofs.Replays.{while_copying, while_closing, settled, on_ok_both}
+use Rattle.sync_journal.specs.{Layout.{IsGate, IsHomeSector, IsReplayed, IsFinished}, Standing.{IsCopyFrom}}
+use Rattle.sync_journal.proofs.{Copies.{in_copied}, Asking.{finish_asks}, Gates.{closed}, Runs.{one_more, of_more}, Replays.{while_copying, while_closing, settled, on_ok_both}}
 use Rattle.sync_journal.proofs.homes.replay.Goals as goal
 
 pub returns-in_err-copy_homes-clause-home : goal.returns-in_err-copy_homes-clause-home
@@ -13,8 +10,8 @@ returns-in_err-copy_homes-clause-home g c =
       writes = record {
         done = search rules;
         run = of_more g.D.SectorDisk (IsHomeSector c.args.homes.now) (IsReplayed c.args.homes.now) c.args.disk.now c.copy_homes.new.disk (λ k at_home. inr at_home) c.copy_homes.ensures.run;
-        once = once_wider (IsCopied c.args.homes.now (length c.args.homes.now)) (IsFinished c.args.homes.now) (g.D.SectorDisk.asked c.args.disk.now) (g.D.SectorDisk.asked c.copy_homes.new.disk)
-            (λ k copied. inr copied) c.copy_homes.ensures.once;
+        once = once_wider (IsCopyFrom 11 8195 c.args.homes.now [] (length c.args.homes.now)) (IsFinished c.args.homes.now) (g.D.SectorDisk.asked c.args.disk.now) (g.D.SectorDisk.asked c.copy_homes.new.disk)
+            (λ k copied. inr (in_copied c.args.homes.now (length c.args.homes.now) k copied)) c.copy_homes.ensures.once;
         failed = search rules;
         calm = search rules;
       };

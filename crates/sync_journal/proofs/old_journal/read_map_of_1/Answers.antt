@@ -1,8 +1,6 @@
-use Rattle.std.proofs.Common.{ap, sym, length, ◌≡◌, ◌∙◌, arith, rules}
-use Rattle.std.proofs.lemmas.List.{length-take-le}
+use Rattle.std.proofs.{Common.{ap, sym, length, ◌≡◌, ◌∙◌, arith, rules}, lemmas.List.{length-take-le}}
 use Rattle.sync_journal.specs.Layout.{layout_1, home_count_in}
-use Rattle.sync_journal.proofs.Maps.{one_sector}
-use Rattle.sync_journal.proofs.OldJournals.{reads_map}
+use Rattle.sync_journal.proofs.{Maps.{one_sector}, OldJournals.{reads_map}}
 use Rattle.sync_journal.proofs.old_journal.read_map_of_1.Goals as goal
 
 pub returns : goal.returns

@@ -1,8 +1,7 @@
 use Rattle.std.proofs.Common.{◌⊎◌, inl, rules}
 use Rattle.disk_model.proofs.Naming.{once_named}
 use Rattle.sync_journal.specs.Layout.{IsPageSector}
-use Rattle.sync_journal.proofs.Asking.{page_copied}
-use Rattle.sync_journal.proofs.Runs.{one_more, no_write, one_page}
+use Rattle.sync_journal.proofs.{Asking.{page_copied}, Runs.{one_more, no_write, one_page}}
 use Rattle.sync_journal.proofs.pages.copy_page.Goals as goal
 
 pub returns-in_err-read_page : goal.returns-in_err-read_page
@@ -28,7 +27,7 @@ returns g c =
       run = one_more d (IsPageSector c.args.to) old read c.write_page.new.self (no_write d _ old read r.size r.kept r.cause.later r.same r.unsynced r.time)
           (one_page d _ c.args.to read c.write_page.new.self (λ k inside. inside) w.size w.kept w.cause.later w.others w.unsynced w.time);
       once = page_copied (g.D.SectorDisk.asked c.args.disk.now) (g.D.SectorDisk.asked c.read_page.new.self) (g.D.SectorDisk.asked c.write_page.new.self)
-          c.args.from c.args.to c.requires.behind c.read_page.ensures.asks c.write_page.ensures.asks;
+          c.args.from c.args.to c.requires.after c.read_page.ensures.asks c.write_page.ensures.asks;
       failed = search rules;
       calm = search rules;
     }

@@ -1,9 +1,7 @@
 use Rattle.std.proofs.Common.{length, refl, ⊎_elim, ◌∙◌, arith, rules}
 use Rattle.disk_model.proofs.Naming.{once_wider}
 use Rattle.sync_journal.specs.Layout.{gate_sector, IsStaged, IsOpened}
-use Rattle.sync_journal.proofs.Asking.{publish_asks}
-use Rattle.sync_journal.proofs.Causes.{not_source, told_on, device_failed, none_failed}
-use Rattle.sync_journal.proofs.Runs.{staged_run, published_run}
+use Rattle.sync_journal.proofs.{Asking.{publish_asks}, Causes.{not_source, told_on, puts_failed, none_failed}, Runs.{staged_run, published_run}}
 use Rattle.sync_journal.proofs.Phases.{while_staging, while_staging_either, staged_settled, while_opening, opened_settled, opened_live, opened_outside, gate_leaves_map}
 use Rattle.sync_journal.proofs.publish.publish.Goals as goal
 
@@ -38,25 +36,17 @@ returns-in_err-stage g c =
 pub returns-in_err-open_gate : goal.returns-in_err-open_gate
 returns-in_err-open_gate g c =
     let staged = c.in_ok-stage.ensures in
+    let before = staged.causes.device_calm in
+    let failed = c.in_err-open_gate.ensures.failed refl in
     record {
-      puts = record {
-        ok = search rules;
-        rest = search rules;
-        outside = search rules;
-        any_moment = λ keeps gives. (let mid = c.open_gate.ensures.run.kept keeps in let before = c.stage.ensures.run.kept mid in while_opening g.D.SectorDisk c.args.homes.now (g.S.PageSource.pages c.args.source.now) c.args.disk.now c.stage.new.disk
-            (λ image left. g.met.D.SectorDisk.only_now c.args.disk.now image before left)
-            c.requires.given.homes_are (c.requires.quiet before) (c.stage.ensures.run.touches mid)
-            c.open_gate.new.disk (staged.body mid gives) (staged.map mid) (staged.synced mid) (c.open_gate.ensures.run.touches keeps));
-        once = publish_asks (g.D.SectorDisk.asked c.args.disk.now) (g.D.SectorDisk.asked c.stage.new.disk) (g.D.SectorDisk.asked c.open_gate.new.disk) (length c.args.homes.now) c.stage.ensures.once c.open_gate.ensures.once;
-        takes = record {
-          run = published_run g.D.SectorDisk c.args.disk.now c.stage.new.disk c.open_gate.new.disk c.stage.ensures.run c.open_gate.ensures.run;
-          asks = c.stage.ensures.asks;
-          causes = (let calm = c.in_ok-stage.ensures.causes in let failed = c.in_err-open_gate.ensures.failed refl in let before = calm.device_calm in
-              device_failed (g.D.SectorDisk.failures c.args.disk.now) (g.D.SectorDisk.failures c.open_gate.new.disk) (g.S.PageSource.failures c.args.source.now) (g.S.PageSource.failures c.stage.new.source) _ c.from_residual-in_err-open_gate.ensures.1 (omega (arith, failed, before)) calm.source_calm);
-        };
-        source = λ keeps is. absurd (not_source _ c.from_residual-in_err-open_gate.ensures.1 is);
-        source_moments = λ keeps is. absurd (not_source _ c.from_residual-in_err-open_gate.ensures.1 is);
-      };
+      puts = puts_failed _ c.from_residual-in_err-open_gate.ensures.1
+          (λ keeps gives. (let mid = c.open_gate.ensures.run.kept keeps in let before = c.stage.ensures.run.kept mid in while_opening g.D.SectorDisk c.args.homes.now (g.S.PageSource.pages c.args.source.now) c.args.disk.now c.stage.new.disk
+          (λ image left. g.met.D.SectorDisk.only_now c.args.disk.now image before left)
+          c.requires.given.homes_are (c.requires.quiet before) (c.stage.ensures.run.touches mid)
+          c.open_gate.new.disk (staged.body mid gives) (staged.map mid) (staged.synced mid) (c.open_gate.ensures.run.touches keeps)))
+          (publish_asks (g.D.SectorDisk.asked c.args.disk.now) (g.D.SectorDisk.asked c.stage.new.disk) (g.D.SectorDisk.asked c.open_gate.new.disk) (length c.args.homes.now) c.stage.ensures.once c.open_gate.ensures.once)
+          (published_run g.D.SectorDisk c.args.disk.now c.stage.new.disk c.open_gate.new.disk c.stage.ensures.run c.open_gate.ensures.run)
+          c.stage.ensures.asks (omega (arith, failed, before)) staged.causes.source_calm;
       map = search rules;
       source_gate = λ keeps is. absurd (not_source _ c.from_residual-in_err-open_gate.ensures.1 is);
     }

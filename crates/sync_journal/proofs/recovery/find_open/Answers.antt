@@ -1,9 +1,6 @@
 use Rattle.std.proofs.Common.{length, ap, sym, subst, ◌∙◌}
 use Rattle.disk_model.specs.Stop.{Image}
-use Rattle.sync_journal.specs.Layout.{home_count}
-use Rattle.sync_journal.specs.Gate.{is_open_sector}
-use Rattle.sync_journal.specs.Map.{IsBadMap}
-use Rattle.sync_journal.specs.Standing.{map_of}
+use Rattle.sync_journal.specs.{Layout.{home_count}, Gate.{is_open_sector}, Map.{IsBadMap}, Standing.{map_of}}
 use Rattle.sync_journal.proofs.Asking.{gate_asks, map_asks}
 use Rattle.sync_journal.proofs.recovery.find_open.Goals as goal
 

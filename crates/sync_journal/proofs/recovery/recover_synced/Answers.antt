@@ -1,13 +1,6 @@
-use Rattle.std.proofs.Common.{ℕ, Option, Result, Ok, take, if◌then◌else◌, refl, ap, sym, subst, ◌∙◌, arith, rules}
-use Rattle.std.proofs.lemmas.List.{length-take-le}
-use Rattle.sync_journal.specs.Layout.{gate_sector, home_count}
-use Rattle.sync_journal.specs.Gate.{closed_sector}
-use Rattle.sync_journal.specs.Map.{AreHomes}
-use Rattle.sync_journal.specs.Recovery.{GivesHomes, Finds}
-use Rattle.sync_journal.proofs.Recoveries.{settled_since}
-use Rattle.sync_journal.specs.declared.faults.RecoverFault.{RecoverFault}
-use Rattle.sync_journal.proofs.Causes.{told_was, is_error, not_bad_device, blames_device, blames_on, blames_none}
-use Rattle.sync_journal.proofs.OneRecoveries.{looked, closed_there, replays}
+use Rattle.std.proofs.{Common.{ℕ, Option, Result, Ok, take, if◌then◌else◌, refl, ap, sym, subst, ◌∙◌, arith, rules}, lemmas.List.{length-take-le}}
+use Rattle.sync_journal.specs.{Layout.{gate_sector, home_count}, Gate.{closed_sector}, Map.{AreHomes}, Recovery.{GivesHomes, Finds}, declared.faults.RecoverFault.{RecoverFault}}
+use Rattle.sync_journal.proofs.{Recoveries.{settled_since}, Causes.{told_was, is_error, not_bad_device, blames_device, blames_on, blames_none}, OneRecoveries.{looked, closed_there, replays}}
 use Rattle.sync_journal.proofs.recovery.recover_synced.Goals as goal
 
 pub slice_bounds-homes-end : goal.slice_bounds-homes-end

@@ -1,9 +1,7 @@
 use Rattle.std.proofs.Common.{◌≡◌, ◌+◌, ◌*◌, length, ⊎_elim, ◌∙◌, arith, rules}
 use Rattle.disk_model.proofs.Naming.{once_wider}
 use Rattle.sync_journal.specs.Layout.{IsPageSector, IsFilledAt, IsJournalAt, IsStagedAt}
-use Rattle.sync_journal.proofs.Asking.{staged_asks}
-use Rattle.sync_journal.proofs.Maps.{map_page}
-use Rattle.sync_journal.proofs.Runs.{one_more, of_more}
+use Rattle.sync_journal.proofs.{Asking.{staged_asks}, Maps.{map_page}, Runs.{one_more, of_more}}
 use Rattle.sync_journal.proofs.stage.fill_journal.Goals as goal
 
 pub returns-in_err-write_pages : goal.returns-in_err-write_pages
@@ -37,7 +35,7 @@ returns-in_err-write_page g c =
 pub returns : goal.returns
 returns g c =
     let d = g.D.SectorDisk in
-    let long : length c.map_page.result ≡ 4096 = search rules in
+    let long : length c.write_map.new.map ≡ 4096 = search rules in
     record {
       fills = record {
         body = λ keeps gives j i below_j below_i.
@@ -51,5 +49,5 @@ returns g c =
           causes = search rules;
         };
       };
-      map = λ keeps. map_page c.args.start (d.content c.write_page.new.disk) c.map_page.result long (c.in_ok-write_page.ensures.written keeps) ∙ c.map_page.ensures;
+      map = λ keeps. map_page c.args.start (d.content c.write_page.new.disk) c.write_map.new.map long (c.in_ok-write_page.ensures.written keeps) ∙ c.write_map.ensures;
     }

@@ -1,9 +1,7 @@
 use Rattle.std.proofs.Common.{◌≡◌, length, subst, sym, rules}
 use Rattle.disk_model.specs.Stop.{Image}
 use Rattle.disk_model.proofs.Naming.{once_still}
-use Rattle.sync_journal.specs.Layout.{IsStaged}
-use Rattle.sync_journal.specs.Map.{map_bytes}
-use Rattle.sync_journal.specs.Standing.{map_of, HoldsPages}
+use Rattle.sync_journal.specs.{Layout.{IsStaged}, Map.{map_bytes}, Standing.{map_of, HoldsPages}}
 use Rattle.sync_journal.proofs.stage.stage.Goals as goal
 
 pub returns-in_err-fill_journal : goal.returns-in_err-fill_journal

@@ -1,9 +1,6 @@
 use Rattle.std.proofs.Common.{◌≡◌, length}
 use Rattle.disk_model.specs.Stop.{NamesOnce}
-use Rattle.sync_journal.specs.Layout.{IsJournalAt, IsFilledAt}
-use Rattle.sync_journal.specs.Runs.{RunsOnDevice}
-use Rattle.sync_journal.specs.Standing.{HoldsAt}
-use Rattle.sync_journal.specs.Source.{Asks}
+use Rattle.sync_journal.specs.{Layout.{IsJournalAt, IsFilledAt}, Runs.{RunsOnDevice}, Standing.{HoldsAt}, Source.{Asks}}
 use Rattle.sync_journal.proofs.stage.write_pages.Given as goal
 
 abbrev pub invariant-loop-j : goal.invariant-loop-j

@@ -1,11 +1,7 @@
-use Rattle.std.proofs.Common.{◌≡◌, length, ◌∙◌, arith, rules}
-use Rattle.sync_journal.specs.Layout.{IsPageSector}
-use Rattle.sync_journal.specs.Turns.{IsTurnSector}
-use Rattle.std.proofs.lemmas.Result.{on_ok_weaker}
-use Rattle.sync_journal.proofs.Runs.{of_more}
-use Rattle.sync_journal.proofs.InTurn.{map_written}
+use Rattle.std.proofs.{Common.{◌≡◌, length, ◌∙◌, arith, rules}, lemmas.Result.{on_ok_weaker}}
+use Rattle.sync_journal.specs.{Layout.{IsPageSector}, Turns.{IsTurnSector}}
+use Rattle.sync_journal.proofs.{Runs.{of_more}, InTurn.{map_written}, TurnAsking.{map_asks}}
 use Rattle.sync_journal.proofs.turns.clear_map.Goals as goal
-use Rattle.sync_journal.proofs.TurnAsking.{map_asks}
 
 pub returns : goal.returns
 returns g c =
@@ -16,7 +12,7 @@ returns g c =
           (c.write_page.ensures.written keeps);
       run = of_more g.D.SectorDisk (IsPageSector c.start.result) (IsTurnSector c.args.second) c.args.disk.now c.write_page.new.disk
           (λ k inside. (omega (arith, inside.0, c.start.ensures.is), omega (arith, inside.1, c.start.ensures.is))) c.write_page.ensures.run;
-      once = map_asks (g.D.SectorDisk.asked c.args.disk.now) (g.D.SectorDisk.asked c.args.disk.now) (g.D.SectorDisk.asked c.write_page.new.disk) c.args.second
+      once = map_asks (g.D.SectorDisk.asked c.args.disk.now) (g.D.SectorDisk.asked c.write_page.new.disk) c.args.second
           c.start.result c.start.ensures.is c.write_page.ensures.asks;
       failed = search rules;
       calm = search rules;

@@ -1,11 +1,7 @@
-use Rattle.std.proofs.Common.{◌≡◌, ℕ, length, take, ⊎_elim, ap, sym, subst, ◌∙◌, arith, rules}
-use Rattle.std.proofs.lemmas.List.{length-take-le, get_or-take}
+use Rattle.std.proofs.{Common.{◌≡◌, ℕ, length, take, ⊎_elim, ap, sym, subst, ◌∙◌, arith, rules}, lemmas.List.{length-take-le, get_or-take}}
 use Rattle.disk_model.specs.Stop.{Image}
-use Rattle.sync_journal.specs.Gate.{is_open_sector}
-use Rattle.sync_journal.specs.Map.{IsBadMap, AreHomes, map_count, home_in}
-use Rattle.sync_journal.specs.Turns.{turn_home_count, turn_map, named_in, IsBadUnder}
-use Rattle.sync_journal.proofs.InTurn.{named_rest, map_read}
-use Rattle.sync_journal.proofs.Sectors.{same_content}
+use Rattle.sync_journal.specs.{Gate.{is_open_sector}, Map.{IsBadMap, AreHomes, map_count, home_in}, Turns.{turn_home_count, turn_map, named_in, IsBadUnder}}
+use Rattle.sync_journal.proofs.{InTurn.{named_rest, map_read}, Sectors.{same_content}}
 use Rattle.sync_journal.proofs.turns.find_named.Goals as goal
 
 pub returns-in-Some-clause-ok : goal.returns-in-Some-clause-ok

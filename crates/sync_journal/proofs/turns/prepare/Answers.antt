@@ -1,39 +1,19 @@
-use Rattle.std.proofs.Common.{length, subst, rules}
-use Rattle.disk_model.specs.Stop.{NamesOnce}
-use Rattle.disk_model.proofs.Naming.{once_still}
-use Rattle.sync_journal.specs.Journal.{live_homes}
-use Rattle.sync_journal.specs.Runs.{RunsOnDevice}
-use Rattle.sync_journal.specs.Turns.{IsTurnHome, IsTurnCopy}
-use Rattle.sync_journal.proofs.Runs.{and_no_write}
+use Rattle.std.proofs.Common.{◌+◌, ℕ, List, length, arith, sym, subst}
+use Rattle.sync_journal.specs.{Map.{AreHomes}, Journal.{live_homes}, Turns.{turn_homes, turn_home_count, IsTurnHome}, Standing.{IsCopyFrom, AreCopiedFrom}, Steps.{SyncsInto}}
 use Rattle.sync_journal.proofs.turns.prepare.Goals as goal
+
+pub copy_homes-requires : goal.copy_homes-requires
+copy_homes-requires g c = record {
+  after = omega (arith, c.start.ensures.inside);
+  low = omega arith;
+  are = subst (AreHomes (turn_home_count (g.D.SectorDisk.sector_count c.args.disk.now))) (sym c.live.ensures) c.requires;
+}
 
 pub returns : goal.returns
 returns g c =
-    let run = subst (λ homes. RunsOnDevice g.D.SectorDisk (IsTurnHome homes) c.args.disk.now c.copy_but.new.disk) c.live.ensures c.copy_but.ensures.run in
-    record {
-      writes = record {
-        done = search rules;
-        run = search (and_no_write, run, c.sync.ensures);
-        once = once_still (IsTurnCopy c.args.second (live_homes c.args.live.now) c.args.but.now (length (live_homes c.args.live.now))) (g.D.SectorDisk.asked c.args.disk.now)
-            (g.D.SectorDisk.asked c.copy_but.new.disk) (g.D.SectorDisk.asked c.sync.new.self)
-            (subst (λ homes. NamesOnce (IsTurnCopy c.args.second homes c.args.but.now (length homes)) (g.D.SectorDisk.asked c.args.disk.now) (g.D.SectorDisk.asked c.copy_but.new.disk))
-            c.live.ensures c.copy_but.ensures.once) c.sync.ensures.asks;
-        failed = search rules;
-        calm = search rules;
-      };
-      synced = search rules;
-    }
-
-pub returns-in_err-copy_but : goal.returns-in_err-copy_but
-returns-in_err-copy_but g c =
-    record {
-      writes = record {
-        done = search rules;
-        run = search rules;
-        once = subst (λ homes. NamesOnce (IsTurnCopy c.args.second homes c.args.but.now (length homes)) (g.D.SectorDisk.asked c.args.disk.now) (g.D.SectorDisk.asked c.copy_but.new.disk))
-            c.live.ensures c.copy_but.ensures.once;
-        failed = search rules;
-        calm = search rules;
-      };
-      synced = search rules;
-    }
+    let d = g.D.SectorDisk in
+    let old = c.args.disk.now in
+    let new = c.copy_homes.new.disk in
+    let Copies : ℕ → List ℕ → Type 0 = λ s homes. SyncsInto d (IsTurnHome homes) (IsCopyFrom (s + 8) turn_homes homes c.args.but.now (length homes))
+    (AreCopiedFrom (s + 8) turn_homes homes c.args.but.now (length homes) (d.content old) (d.content new)) old new c.copy_homes.result in
+    subst (λ s. Copies s (live_homes c.args.live.now)) c.start.ensures.is (subst (λ homes. Copies c.start.result homes) c.live.ensures c.copy_homes.ensures)

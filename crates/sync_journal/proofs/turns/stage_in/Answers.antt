@@ -1,8 +1,5 @@
 use Rattle.std.proofs.Common.{◌≡◌, length, subst, arith}
-use Rattle.sync_journal.specs.Layout.{IsJournalAt, IsStagedAt}
-use Rattle.sync_journal.specs.Map.{map_bytes}
-use Rattle.sync_journal.specs.Standing.{map_at, HoldsAt}
-use Rattle.sync_journal.specs.Steps.{FillsJournal}
+use Rattle.sync_journal.specs.{Layout.{IsJournalAt, IsStagedAt}, Map.{map_bytes}, Standing.{map_at, HoldsAt}, Steps.{FillsJournal}}
 use Rattle.sync_journal.proofs.turns.stage_in.Goals as goal
 
 pub fill_journal-requires : goal.fill_journal-requires

@@ -1,10 +1,7 @@
 use Rattle.std.proofs.Common.{[], ap, OnOk, IfErr}
 use Rattle.file_store.specs.Standing.{IsPageOf, file_info}
-use Rattle.sync_plans.specs.Requests.{IsStore, RefusesImage}
-use Rattle.sync_plans.specs.Pages.{lent_page}
-use Rattle.sync_plans.specs.PlanDisk.{pages_of}
-use Rattle.sync_plans.proofs.Runs.{refuses_image}
-use Rattle.sync_plans.proofs.Theorem.{stands_now, as_given}
+use Rattle.sync_plans.specs.{Requests.{IsStore, RefusesImage}, Pages.{lent_page}, PlanDisk.{pages_of}}
+use Rattle.sync_plans.proofs.{Runs.{refuses_image}, Theorem.{stands_now, as_given}}
 use Rattle.sync_plans.proofs.planning.read_page.Goals as goal
 
 pub returns-clause-page : goal.returns-clause-page

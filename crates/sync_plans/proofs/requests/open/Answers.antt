@@ -1,8 +1,7 @@
 use Rattle.std.proofs.Common.{inl, inr, refl, sym, subst}
 use Rattle.disk_model.specs.Moments.{LeavesOnly}
 use Rattle.disk_model.proofs.Moments.{weaker}
-use Rattle.file_store.specs.Standing.{StandsFor}
-use Rattle.file_store.specs.Commit.{StandsForEither}
+use Rattle.file_store.specs.{Standing.{StandsFor}, Commit.{StandsForEither}}
 use Rattle.sync_plans.specs.Requests.{OpensStore}
 use Rattle.sync_plans.proofs.Runs.{is_closed, while_opening}
 use Rattle.sync_plans.proofs.requests.open.Goals as goal

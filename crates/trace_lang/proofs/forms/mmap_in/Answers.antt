@@ -1,15 +1,8 @@
 use Rattle.trace_lang.specs.declared.names.Name.TheVariants as name
-use Rattle.trace_lang.proofs.FirstWord.{cut_words, front_words, one_word_of, steps, begins_with}
-use Rattle.trace_lang.proofs.Spaces.{back_some, back_words}
-use Rattle.trace_lang.specs.Words.{words_of}
-use Rattle.trace_lang.proofs.OneCommand.{first, unread, stands}
-use Rattle.trace_lang.proofs.Nothing.{none≢some}
+use Rattle.trace_lang.proofs.{FirstWord.{cut_words, front_words, one_word_of, steps, begins_with}, Spaces.{back_some, back_words}, OneCommand.{first, unread, stands}, Nothing.{none≢some}}
+use Rattle.trace_lang.specs.{Words.{words_of}, Grammar.{IsPermission, IsBack}}
 use Rattle.std.proofs.Common.{◌≡◌, ℕ, List, [], ◌∷◌, codes, Some, drop, length, arith, refl, sym, ◌∙◌, ap, subst}
-use Rattle.vm_types.specs.declared.command.Command.TheVariants.{Mmap}
-use Rattle.vm_types.specs.declared.command.MapSource.{MapSource}
-use Rattle.vm_types.specs.declared.command.Placing.{Placing}
-use Rattle.vm_types.specs.declared.permission.Prot.{Prot}
-use Rattle.trace_lang.specs.Grammar.{IsPermission, IsBack}
+use Rattle.vm_types.specs.{declared.command.Command.TheVariants.{Mmap}, declared.command.MapSource.{MapSource}, declared.command.Placing.{Placing}, declared.permission.Prot.{Prot}}
 use Rattle.trace_lang.proofs.forms.mmap_in.Goals as goal
 
 same_mmap : (p q a b l m : ℕ) (t u : Prot) (x y : MapSource × Placing) → p ∷ a ∷ l ∷ [] ≡ q ∷ b ∷ m ∷ [] → Some t ≡ Some u → Some x ≡ Some y

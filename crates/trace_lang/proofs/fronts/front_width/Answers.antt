@@ -1,7 +1,5 @@
 use Rattle.std.proofs.Common.{◌≡◌, ℕ, List, ◌⊎◌, inl, inr}
-use Rattle.vm_types.specs.Width.{byte_count}
-use Rattle.vm_types.specs.declared.width.Width.{Width}
-use Rattle.vm_types.specs.declared.width.Width.TheVariants.{One, Two, Four, Eight}
+use Rattle.vm_types.specs.{Width.{byte_count}, declared.width.Width.{Width}, declared.width.Width.TheVariants.{One, Two, Four, Eight}}
 use Rattle.trace_lang.specs.Words.{BeginsWith}
 use Rattle.trace_lang.proofs.FirstWord.{front_words, step}
 use Rattle.trace_lang.proofs.fronts.front_width.Goals as goal

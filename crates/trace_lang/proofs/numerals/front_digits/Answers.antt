@@ -1,6 +1,5 @@
-use Rattle.std.proofs.Common.{◌≡◌, ℕ, ◌+◌, ◌*◌, ◌^◌, ◌<◌, length, refl, sym, ◌∙◌, subst, arith}
+use Rattle.std.proofs.{Common.{◌≡◌, ℕ, ◌+◌, ◌*◌, ◌^◌, ◌<◌, length, refl, sym, ◌∙◌, subst, arith}, lemmas.Int.Digits.{digits_more}}
 use Rattle.std.specs.Char.{digit_value}
-use Rattle.std.proofs.lemmas.Int.Digits.{digits_more}
 use Rattle.trace_lang.proofs.Radix.{next_value, next_small, next_fits}
 use Rattle.trace_lang.proofs.numerals.front_digits.Goals as goal
 

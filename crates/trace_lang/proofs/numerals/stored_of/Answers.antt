@@ -1,8 +1,6 @@
 use Rattle.std.proofs.Common.{◌≡◌, ℕ, ◌<◌, ◌^◌, ◌*◌, Option, Some, None, IfSome, IsSome, sym, ◌∙◌, ap, subst}
 use denote.Struct.Props.{props}
-use Rattle.vm_types.specs.Width.{byte_count}
-use Rattle.vm_types.specs.declared.access.StoredValue.{StoredValue}
-use Rattle.vm_types.specs.declared.width.Width.{Width}
+use Rattle.vm_types.specs.{Width.{byte_count}, declared.access.StoredValue.{StoredValue}, declared.width.Width.{Width}}
 use Rattle.trace_lang.proofs.numerals.stored_of.Goals as goal
 
 abbrev made : (w : Width) (v : ℕ) → v < 2 ^ (8 * byte_count w) → StoredValue

@@ -1,8 +1,5 @@
-use Rattle.std.proofs.Common.{ℕ, ◌<◌, ◌^◌, List, length, sym, ◌∙◌, ap, subst}
-use Rattle.std.specs.Char.{digit_value}
-use Rattle.std.specs.Str.Parse.{AllDigits, digits_value}
-use Rattle.std.proofs.lemmas.Int.Digits.{digits_more}
-use Rattle.std.proofs.lemmas.List.{take_all}
+use Rattle.std.proofs.{Common.{ℕ, ◌<◌, ◌^◌, List, length, sym, ◌∙◌, ap, subst}, lemmas.Int.Digits.{digits_more}, lemmas.List.{take_all}}
+use Rattle.std.specs.{Char.{digit_value}, Str.Parse.{AllDigits, digits_value}}
 use Rattle.trace_lang.proofs.Radix.{not_empty, none_reads, digit_below, value_so_far, next_value, digit_past}
 use Rattle.trace_lang.proofs.numerals.value_of.Goals as goal
 

@@ -1,6 +1,4 @@
-use Rattle.std.proofs.Common.{ℕ, ◌<◌, eqb, length, sym, ◌∙◌, subst, rules, tests}
-use Rattle.std.proofs.lemmas.Iterator.Consumers.{YieldsList-turn, YieldsList-end}
-use Rattle.std.proofs.lemmas.Iterator.Splits.{YieldsList-from_slice_split}
+use Rattle.std.proofs.{Common.{ℕ, ◌<◌, eqb, length, sym, ◌∙◌, subst, rules, tests}, lemmas.Iterator.Consumers.{YieldsList-turn, YieldsList-end}, lemmas.Iterator.Splits.{YieldsList-from_slice_split}}
 use Rattle.trace_lang.specs.Words.{words_of}
 use Rattle.trace_lang.proofs.words.split_words.Goals as goal
 

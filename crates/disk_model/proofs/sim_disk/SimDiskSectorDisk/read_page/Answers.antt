@@ -1,12 +1,7 @@
-use Rattle.std.proofs.Common.{◌≡◌, ◌<◌, ◌+◌, ◌*◌, ◌-◌, length, ⊎_elim, sym, ap, subst, ◌∙◌, arith, rules}
-use Rattle.std.proofs.lemmas.Bool.{cases_eq}
+use Rattle.std.proofs.{Common.{◌≡◌, ◌<◌, ◌+◌, ◌*◌, ◌-◌, length, ⊎_elim, sym, ap, subst, ◌∙◌, arith, rules}, lemmas.Bool.{cases_eq}}
 use borrow.Rule.Slice.PartMut.{put_mid}
-use Rattle.disk_model.specs.Stop.{Image, Names, IsOfPage}
-use Rattle.disk_model.specs.Sectors.{part_of}
-use Rattle.disk_model.specs.Asked.{times_named}
-use Rattle.disk_model.specs.SimDisk.{sector_of, IsUnsynced, moment_of, LeftSince, disk_counts, after_reads}
-use Rattle.disk_model.proofs.Pages.{more_time, carried_by_read, put_here, put_there, length_put}
-use Rattle.disk_model.proofs.Counts.{last_read, next_read}
+use Rattle.disk_model.specs.{Stop.{Image, Names, IsOfPage}, Sectors.{part_of}, Asked.{times_named}, SimDisk.{sector_of, IsUnsynced, moment_of, LeftSince, disk_counts, after_reads}}
+use Rattle.disk_model.proofs.{Pages.{more_time, carried_by_read, put_here, put_there, length_put}, Counts.{last_read, next_read}}
 use Rattle.disk_model.proofs.sim_disk.SimDiskSectorDisk.read_page.Goals as goal
 
 pub returns-in_err-get-clause-keeps : goal.returns-in_err-get-clause-keeps

@@ -1,11 +1,7 @@
-use Rattle.std.proofs.Common.{◌≡◌, ◌+◌, ⊎_elim, sym, ap, subst, ◌∙◌, arith, rules, if◌then◌else◌, replicate}
-use Rattle.std.proofs.lemmas.Bool.{cases_eq, false≢true}
-use Rattle.disk_model.specs.Sectors.{part_of}
-use Rattle.disk_model.specs.SimDisk.{DiskCounts, sector_of, asked_of, disk_counts, after_write, after_writes, left_by_write}
-use Rattle.disk_model.proofs.Naming.{names_next}
-use Rattle.disk_model.proofs.Counts.{one_write}
+use Rattle.std.proofs.{Common.{◌≡◌, ◌+◌, ⊎_elim, sym, ap, subst, ◌∙◌, arith, rules, if◌then◌else◌, replicate}, lemmas.Bool.{cases_eq, false≢true}}
+use Rattle.disk_model.specs.{Sectors.{part_of}, SimDisk.{DiskCounts, sector_of, asked_of, disk_counts, after_write, after_writes, left_by_write}}
+use Rattle.disk_model.proofs.{Naming.{names_next}, Counts.{one_write}, sim_disk.SimDiskSectorDisk.write_page.Goals.{then-is_err, else-is_err}}
 use Rattle.disk_model.proofs.sim_disk.SimDiskSectorDisk.write_page.Goals as goal
-use Rattle.disk_model.proofs.sim_disk.SimDiskSectorDisk.write_page.Goals.{then-is_err, else-is_err}
 
 pub loop-i-preserved : goal.loop-i-preserved
 loop-i-preserved c =

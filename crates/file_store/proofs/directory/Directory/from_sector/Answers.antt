@@ -1,6 +1,4 @@
-use Rattle.std.proofs.Common.{◌≡◌, ◌≢◌, ◌<◌, ◌+◌, ⊎_elim, None, get_or, set, take, length, length-set, sym, ap, ◌∙◌, subst, arith, get_or-set_same, get_or-set_other}
-use Rattle.std.proofs.lemmas.List.{length-take-le}
-use Rattle.std.proofs.lemmas.Bool.{cases_eq}
+use Rattle.std.proofs.{Common.{◌≡◌, ◌≢◌, ◌<◌, ◌+◌, ⊎_elim, None, get_or, set, take, length, length-set, sym, ap, ◌∙◌, subst, arith, get_or-set_same, get_or-set_other}, lemmas.List.{length-take-le}, lemmas.Bool.{cases_eq}}
 use Rattle.file_store.specs.Directory.{entry_in, AreGood, AreEntries}
 use Rattle.file_store.proofs.Entries.{entries_all, entries_front, entries_more, fits_in}
 use Rattle.file_store.proofs.directory.Directory.from_sector.Goals as goal

@@ -1,9 +1,7 @@
-use Rattle.std.proofs.Common.{◌≡◌, ◌+◌, ◌-◌, ◌++◌, List, length, take, drop, cond, ℕ, refl, sym, ap, ◌∙◌, rules}
-use Rattle.std.proofs.lemmas.Bool.{cond-true, cond-false}
+use Rattle.std.proofs.{Common.{◌≡◌, ◌+◌, ◌-◌, ◌++◌, List, length, take, drop, cond, ℕ, refl, sym, ap, ◌∙◌, rules}, lemmas.Bool.{cond-true, cond-false}}
 use borrow.Rule.Slice.PartMut.{post_of}
 use Rattle.byteorder.specs.Endian.{little_bytes}
-use Rattle.file_store.proofs.Encoded.{encoded}
-use Rattle.file_store.proofs.directory.Entry.encode.Goals.{then-self, else-self}
+use Rattle.file_store.proofs.{Encoded.{encoded}, directory.Entry.encode.Goals.{then-self, else-self}}
 use Rattle.file_store.proofs.directory.Entry.encode.Goals as goal
 
 pub returns-clause-entry : goal.returns-clause-entry

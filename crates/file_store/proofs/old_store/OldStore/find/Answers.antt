@@ -1,16 +1,9 @@
 use Rattle.std.proofs.Common.{◌≡◌, ◌≤◌, ◌⊎◌, ℕ, Err, inl, inr, sym, ap, subst, ◌∙◌, rules}
 use Rattle.disk_model.specs.Stop.{Image}
 use Rattle.disk_model.proofs.Moments.{asks_then, asks_wider}
-use Rattle.sync_journal.specs.Layout.{layout_before, IsGateOrMapIn}
-use Rattle.sync_journal.specs.OldJournal.{old_homes, StandsAsListed}
-use Rattle.file_store.specs.declared.faults.OpenFault.TheVariants.{BadLayout}
-use Rattle.file_store.specs.Faults.{open_fault}
-use Rattle.file_store.specs.Standing.{IsHeadIn, IsBadLayoutIn, IsBadOldJournal, listed_entry}
-use Rattle.file_store.specs.Store.{entry_of}
-use Rattle.file_store.specs.Versions.{version_before, homes_of, directory_of}
-use Rattle.file_store.proofs.Causes.{journal_from, is_this, same_Err}
-use Rattle.file_store.proofs.Images.{homes_before}
-use Rattle.file_store.proofs.Openings.{content_is, old_sound}
+use Rattle.sync_journal.specs.{Layout.{layout_before, IsGateOrMapIn}, OldJournal.{old_homes, StandsAsListed}}
+use Rattle.file_store.specs.{declared.faults.OpenFault.TheVariants.{BadLayout}, Faults.{open_fault}, Standing.{IsHeadIn, IsBadLayoutIn, IsBadOldJournal, listed_entry}, Store.{entry_of}, Versions.{version_before, homes_of, directory_of}}
+use Rattle.file_store.proofs.{Causes.{journal_from, is_this, same_Err}, Images.{homes_before}, Openings.{content_is, old_sound}}
 use Rattle.file_store.proofs.old_store.OldStore.find.Goals as goal
 
 pub returns-in_err-directory-clause-bad_layout : goal.returns-in_err-directory-clause-bad_layout

@@ -1,6 +1,5 @@
 use Rattle.std.proofs.Common.{rules}
-use Rattle.file_store.proofs.Images.{stands_kept}
-use Rattle.file_store.proofs.Openings.{files_stand, files_by_blocks}
+use Rattle.file_store.proofs.{Images.{stands_kept}, Openings.{files_stand, files_by_blocks}}
 use Rattle.file_store.proofs.store.FileStore.open.Goals as goal
 
 pub returns-in-Ok : goal.returns-in-Ok
@@ -45,6 +44,7 @@ returns-in-Err g c =
       bad_journal = err.bad_journal;
       layout_first = err.layout_first;
       unwritten = err.unwritten;
+      bad_unwritten = err.bad_unwritten;
       err_moment = λ k synced. files_stand d disk c.mount.new.disk sectors (d.content disk) (λ files pages stood. stood) (run.any_moment k synced);
       err_in_a_row = λ k synced first was. files_stand d disk c.mount.new.disk sectors first was (run.any_moment k synced);
       err_blocks = λ k synced paired first was. files_by_blocks d disk c.mount.new.disk sectors first was (run.blocks k synced paired);

@@ -1,11 +1,9 @@
 use Rattle.std.proofs.Common.{◌<◌, sym, ap, subst, ◌∙◌, rules}
 use Rattle.sync_journal.specs.Kinds.{journal_kind, kind_home_count}
-use Rattle.file_store.specs.Standing.{standing}
-use Rattle.file_store.specs.Store.{entry_of}
+use Rattle.file_store.specs.{Standing.{standing}, Store.{entry_of, IsSectorOf}}
 use Rattle.disk_model.specs.Sectors.{joined}
-use Rattle.file_store.proofs.Asking.{page_asks}
-use Rattle.file_store.proofs.Homes.{entry_page, home_inside, home_of-entry}
-use Rattle.file_store.proofs.Images.{page_read}
+use Rattle.disk_model.proofs.Moments.{asks_named}
+use Rattle.file_store.proofs.{Asking.{page_once}, Homes.{entry_page, home_inside, home_of-entry}, Images.{page_read}}
 use Rattle.file_store.proofs.store.FileStore.read_page.Goals as goal
 
 pub home_of-requires : goal.home_of-requires
@@ -29,7 +27,9 @@ returns-in_err-read g c = record {
   size = search rules;
   kept = search rules;
   touches = search rules;
-  asks = page_asks g.D.SectorDisk c.args.self.now c.args.page c.home_of.result c.read.new.disk c.home_of.ensures c.read.ensures.asks;
+  asks = asks_named g.D.SectorDisk (IsSectorOf c.args.self.now c.args.page) _ c.args.self.now.disk c.read.new.disk (λ k at. at)
+      (page_once g.D.SectorDisk c.args.self.now c.args.page c.home_of.result c.read.new.disk c.home_of.ensures c.read.ensures.asks);
+  once = page_once g.D.SectorDisk c.args.self.now c.args.page c.home_of.result c.read.new.disk c.home_of.ensures c.read.ensures.asks;
   cause = search rules;
 }
 
@@ -50,6 +50,8 @@ returns g c = record {
   size = search rules;
   kept = search rules;
   touches = search rules;
-  asks = page_asks g.D.SectorDisk c.args.self.now c.args.page c.home_of.result c.read.new.disk c.home_of.ensures c.read.ensures.asks;
+  asks = asks_named g.D.SectorDisk (IsSectorOf c.args.self.now c.args.page) _ c.args.self.now.disk c.read.new.disk (λ k at. at)
+      (page_once g.D.SectorDisk c.args.self.now c.args.page c.home_of.result c.read.new.disk c.home_of.ensures c.read.ensures.asks);
+  once = page_once g.D.SectorDisk c.args.self.now c.args.page c.home_of.result c.read.new.disk c.home_of.ensures c.read.ensures.asks;
   cause = search rules;
 }

@@ -1,5 +1,4 @@
-use Rattle.std.proofs.Common.{◌≡◌, None, Some, length, slice_get, refl, sym, ap, ◌∙◌}
-use Rattle.std.proofs.lemmas.Option.{MatchOption-at_none, slice_get_past, slice_get_read}
+use Rattle.std.proofs.{Common.{◌≡◌, None, Some, length, slice_get, refl, sym, ap, ◌∙◌}, lemmas.Option.{MatchOption-at_none, slice_get_past, slice_get_read}}
 use Rattle.file_store.specs.Store.{entry_of, inside_named}
 use Rattle.file_store.proofs.Homes.{inside_of-entry, inside_of-none, inside_of-past}
 use Rattle.file_store.proofs.trimmed.Trimmed.inside.Goals as goal

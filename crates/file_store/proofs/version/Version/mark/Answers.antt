@@ -1,8 +1,6 @@
 use Rattle.std.proofs.Common.{sym, ap}
 use Rattle.sync_journal.specs.Kinds.{turn_kind}
-use Rattle.file_store.specs.Layout.{mark, old_mark}
-use Rattle.file_store.specs.Versions.{mark_of}
-use Rattle.file_store.specs.declared.version.Version.{Version}
+use Rattle.file_store.specs.{Layout.{mark, old_mark}, Versions.{mark_of}, declared.version.Version.{Version}}
 use Rattle.file_store.proofs.version.Version.mark.Goals as goal
 
 pub returns-in-One : goal.returns-in-One

@@ -1,5 +1,4 @@
-use Rattle.frames.specs.Chain.{IsAllTables}
-use Rattle.frames.specs.FrameTable.{IsSound}
+use Rattle.frames.specs.{Chain.{IsAllTables}, FrameTable.{IsSound}}
 use Rattle.frames.proofs.memory.Frames.new.Given as goal
 
 -- the frames from n on are free

@@ -1,5 +1,4 @@
-use Rattle.std.proofs.Common.{refl, sym}
-use Rattle.std.proofs.lemmas.Bool.{false≢true}
+use Rattle.std.proofs.{Common.{refl, sym}, lemmas.Bool.{false≢true}}
 use Rattle.frames.specs.Inside.{table_of}
 use Rattle.frames.proofs.ChainLemmas.{IsChained-none, IsChained-first}
 use Rattle.frames.proofs.memory.Frames.next_free.Goals as goal

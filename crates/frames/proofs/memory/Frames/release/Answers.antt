@@ -1,7 +1,5 @@
-use Rattle.std.proofs.Common.{rules, ◌-◌, ◌<◌, arith, length, get_or-set_same, sym, ◌∙◌}
-use Rattle.std.proofs.lemmas.List.{get_or_read}
-use Rattle.frames.specs.Inside.{table_of}
-use Rattle.frames.specs.FrameTable.{role_of}
+use Rattle.std.proofs.{Common.{rules, ◌-◌, ◌<◌, arith, length, get_or-set_same, sym, ◌∙◌}, lemmas.List.{get_or_read}}
+use Rattle.frames.specs.{Inside.{table_of}, FrameTable.{role_of}}
 use Rattle.frames.proofs.Calls.{freed, alone_count}
 use Rattle.frames.proofs.memory.Frames.release.Goals as goal
 

@@ -1,10 +1,6 @@
-use Rattle.std.proofs.Common.{[], refl, ◌∙◌, ap, arith}
-use Rattle.std.proofs.lemmas.Bool.{false≢true}
-use Rattle.std.proofs.lemmas.List.{get_or_read}
-use Rattle.frames.specs.Inside.{table_of}
-use Rattle.frames.specs.Chain.{next_of}
-use Rattle.frames.proofs.ChainLemmas.{IsChained-none, IsChained-first}
-use Rattle.frames.proofs.Calls.{taken, Takes-taken}
+use Rattle.std.proofs.{Common.{[], refl, ◌∙◌, ap, arith}, lemmas.Bool.{false≢true}, lemmas.List.{get_or_read}}
+use Rattle.frames.specs.{Inside.{table_of}, Chain.{next_of}}
+use Rattle.frames.proofs.{ChainLemmas.{IsChained-none, IsChained-first}, Calls.{taken, Takes-taken}}
 use Rattle.frames.proofs.memory.Frames.take.Goals as goal
 
 pub returns-then-n-eq0-clause-none_free : goal.returns-then-n-eq0-clause-none_free

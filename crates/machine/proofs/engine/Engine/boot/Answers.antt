@@ -1,8 +1,8 @@
 use Rattle.std.proofs.Common.{inl, inr, ⊎_elim, refl, sym, subst, arith}
 use Rattle.machine.proofs.Boots.{fine_frames, fine_slots, still, boots, accepts, refuses_frames, refuses_slots, refuses_memory, refuses_store, IsOpened, IsUnopened}
+use Rattle.machine.proofs.engine.Engine.boot.Goals.{then-config-gt-MAX_SLOTS-via-then-config-gt-MAX_SLOTS, then-config-gt-MAX_SLOTS-via-else-config-gt-MAX_SLOTS+then-from-sectors}
 use Rattle.machine.specs.Boot.{HasBadSlots}
 use Rattle.machine.proofs.engine.Engine.boot.Goals as goal
-use Rattle.machine.proofs.engine.Engine.boot.Goals.{then-config-gt-MAX_SLOTS-via-then-config-gt-MAX_SLOTS, then-config-gt-MAX_SLOTS-via-else-config-gt-MAX_SLOTS+then-from-sectors}
 
 pub returns-then-config-lt-MIN_FRAMES-clause-refuses : goal.returns-then-config-lt-MIN_FRAMES-clause-refuses
 returns-then-config-lt-MIN_FRAMES-clause-refuses g c =

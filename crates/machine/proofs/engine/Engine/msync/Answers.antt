@@ -1,10 +1,6 @@
 use Rattle.std.proofs.Common.{◌≡◌, true, false, rules, sym, ap, ◌∙◌}
-use Rattle.vm_types.specs.declared.refusal.Errno.TheVariants.{EIO}
-use Rattle.vm_types.specs.declared.reply.Answer.TheVariants.{Refused}
-use Rattle.vm_types.specs.Replies.{reply_of}
-use Rattle.machine.proofs.Commits.{msync_meets}
-use Rattle.machine.proofs.Causes.{msync_caused}
-use Rattle.machine.proofs.Accesses.{refused_so}
+use Rattle.vm_types.specs.{declared.refusal.Errno.TheVariants.{EIO}, declared.reply.Answer.TheVariants.{Refused}, Replies.{reply_of}}
+use Rattle.machine.proofs.{Commits.{msync_meets}, Causes.{msync_caused}, Accesses.{refused_so}}
 use Rattle.machine.proofs.engine.Engine.msync.Goals as goal
 
 pub returns : goal.returns

@@ -1,7 +1,6 @@
 use Rattle.std.proofs.Common.{sym, ap, subst, ◌∙◌}
 use Rattle.std.specs.Prelude.{is_some}
-use Rattle.vm_types.specs.declared.reply.Reply.{Reply}
-use Rattle.vm_types.specs.declared.reply.Reply.TheVariants.{Past}
+use Rattle.vm_types.specs.{declared.reply.Reply.{Reply}, declared.reply.Reply.TheVariants.{Past}}
 use Rattle.machine.specs.EngineCommands.{EngineCarriesOut}
 use Rattle.residency.specs.Picture.{picture_of}
 use Rattle.machine.proofs.Tidied.{tidied}

@@ -1,12 +1,7 @@
-use Rattle.std.proofs.Common.{◌≡◌, ◌+◌, ◌++◌, ◌∷◌, [], ◌<◌, List, length, take, set, refl, sym, ◌∙◌, ap, subst, arith, length-set, take_all}
-use Rattle.std.proofs.lemmas.List.{take_more, take_more_set}
-use Rattle.vm_types.specs.declared.command.Command.{Command}
-use Rattle.vm_types.specs.declared.reply.Reply.{Reply}
-use Rattle.machine.specs.Chain.{Caused}
-use Rattle.machine.specs.Commands.{DoesEachAsTold}
-use Rattle.machine.proofs.Counts.{counts}
-use Rattle.machine.proofs.Face.{readable}
-use Rattle.machine.proofs.Runs.{all_ran, caused_more, ran_more, room_then, RanSoFar}
+use Rattle.std.proofs.{Common.{◌≡◌, ◌+◌, ◌++◌, ◌∷◌, [], ◌<◌, List, length, take, set, refl, sym, ◌∙◌, ap, subst, arith, length-set, take_all}, lemmas.List.{take_more, take_more_set}}
+use Rattle.vm_types.specs.{declared.command.Command.{Command}, declared.reply.Reply.{Reply}}
+use Rattle.machine.specs.{Chain.{Caused}, Commands.{DoesEachAsTold}}
+use Rattle.machine.proofs.{Counts.{counts}, Face.{readable}, Runs.{all_ran, caused_more, ran_more, room_then, RanSoFar}}
 use Rattle.machine.proofs.machine.Machine.run.Goals as goal
 
 pub loop-i-init : goal.loop-i-init

@@ -1,8 +1,6 @@
 use Rattle.std.proofs.Common.{length, take, ◌≡◌}
 use Rattle.vm_types.specs.State.{State}
-use Rattle.machine.specs.Chain.{Caused}
-use Rattle.machine.specs.Commands.{KeepsModelsAndRoom}
-use Rattle.machine.specs.Machine.{store_of, swap_of, IsSoundMachine, Shows}
+use Rattle.machine.specs.{Chain.{Caused}, Commands.{KeepsModelsAndRoom}, Machine.{store_of, swap_of, IsSoundMachine, Shows}}
 use Rattle.machine.proofs.Runs.{RanSoFar}
 use Rattle.machine.proofs.machine.Machine.run.Given as goal
 

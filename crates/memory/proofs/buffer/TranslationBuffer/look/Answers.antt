@@ -1,5 +1,4 @@
-use Rattle.std.proofs.Common.{rules, ◌≡◌, ℕ, ◌%◌, Some, None, sym, ap, ◌∙◌, slice_index_or, length, arith}
-use Rattle.std.proofs.lemmas.List.{get_or_default}
+use Rattle.std.proofs.{Common.{rules, ◌≡◌, ℕ, ◌%◌, Some, None, sym, ap, ◌∙◌, slice_index_or, length, arith}, lemmas.List.{get_or_default}}
 use Rattle.memory.specs.Lines.{line_at}
 use Rattle.memory.proofs.Looks.{agrees, kept_here}
 use Rattle.memory.proofs.buffer.TranslationBuffer.look.Goals as goal

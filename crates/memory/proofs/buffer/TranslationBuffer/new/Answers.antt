@@ -1,7 +1,5 @@
-use Rattle.std.proofs.Common.{◌%◌, None, Option, ap, arith}
-use Rattle.std.proofs.lemmas.List.{get_or-replicate}
-use Rattle.memory.specs.Lines.{leaf_for}
-use Rattle.memory.specs.declared.line.Line.{Line}
+use Rattle.std.proofs.{Common.{◌%◌, None, Option, ap, arith}, lemmas.List.{get_or-replicate}}
+use Rattle.memory.specs.{Lines.{leaf_for}, declared.line.Line.{Line}}
 use Rattle.memory.proofs.buffer.TranslationBuffer.new.Goals as goal
 
 pub returns : goal.returns

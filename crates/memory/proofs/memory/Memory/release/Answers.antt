@@ -1,5 +1,4 @@
-use Rattle.memory.proofs.Keeping.{kept_data, released_leaf}
-use Rattle.memory.proofs.Noting.{noted_data, released_back}
+use Rattle.memory.proofs.{Keeping.{kept_data, released_leaf}, Noting.{noted_data, released_back}}
 use Rattle.memory.proofs.memory.Memory.release.Goals as goal
 
 pub invariant_of-self : goal.invariant_of-self

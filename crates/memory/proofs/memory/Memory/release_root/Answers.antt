@@ -1,9 +1,7 @@
 use Rattle.std.proofs.Common.{◌≡◌, sym, subst, ◌∙◌}
-use Rattle.frames.specs.FrameTable.{FrameTable}
-use Rattle.frames.specs.declared.role.Role.TheVariants.{Private, Table}
+use Rattle.frames.specs.{FrameTable.{FrameTable}, declared.role.Role.TheVariants.{Private, Table}}
 use Rattle.page_tables.specs.Tree.{IsSpare}
-use Rattle.memory.proofs.Keeping.{dropped_leaf, kept_by, no_more}
-use Rattle.memory.proofs.Noting.{dropped_back, noted_by}
+use Rattle.memory.proofs.{Keeping.{dropped_leaf, kept_by, no_more}, Noting.{dropped_back, noted_by}}
 use Rattle.memory.proofs.memory.Memory.release_root.Goals as goal
 
 pub invariant_of-self : goal.invariant_of-self

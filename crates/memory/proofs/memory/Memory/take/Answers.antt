@@ -1,5 +1,4 @@
-use Rattle.memory.proofs.Keeping.{kept_taken}
-use Rattle.memory.proofs.Noting.{noted_taken}
+use Rattle.memory.proofs.{Keeping.{kept_taken}, Noting.{noted_taken}}
 use Rattle.memory.proofs.memory.Memory.take.Goals as goal
 
 pub invariant_of-self : goal.invariant_of-self

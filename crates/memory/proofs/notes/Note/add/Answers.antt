@@ -1,7 +1,5 @@
-use Rattle.std.proofs.Common.{◌≡◌, ◌*◌, ◌^◌, ◌%◌, bit_or, ℕ, inl, inr, refl, sym, ◌∙◌, subst, arith, eqb-true}
+use Rattle.std.proofs.{Common.{◌≡◌, ◌*◌, ◌^◌, ◌%◌, bit_or, ℕ, inl, inr, refl, sym, ◌∙◌, subst, arith, eqb-true}, lemmas.Bool.{cases_eq}, lemmas.Nat.Bits.{bit_at-zero, bit_at_set_same, bit_at_set_other}}
 use Rattle.std.specs.Int.{bit_at, w64}
-use Rattle.std.proofs.lemmas.Bool.{cases_eq}
-use Rattle.std.proofs.lemmas.Nat.Bits.{bit_at-zero, bit_at_set_same, bit_at_set_other}
 use Rattle.memory.proofs.notes.Note.add.Goals as goal
 use Rattle.memory.proofs.notes.Note.add.Goals.{then-self-eq0, else-self-eq0}
 
@@ -23,8 +21,7 @@ returns-then-same-clause-kept c = λ r p h. record {
   page_is = elim c.if-self-eq0.branch [
     | then-self-eq0 w ↦ (
         let none : bit_at 0 (r % 64) ≡ 1 = subst (λ (k : ℕ). bit_at k (r % 64) ≡ 1) w.if-self-eq0.true h.kind in
-        let zero = bit_at-zero (r % 64) in
-        absurd (omega (arith, none, zero)))
+        absurd (omega (arith, none, bit_at-zero (r % 64))))
     | else-self-eq0 w ↦ (
         let same : c.args.self.page ≡ c.get-page.result = eqb-true c.args.self.page c.get-page.result (sym w.same-is ∙ c.if-same.true) in
         elim h.page_is [

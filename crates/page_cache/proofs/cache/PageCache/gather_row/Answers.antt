@@ -1,8 +1,7 @@
 use Rattle.std.proofs.Common.{◌+◌, ◌<◌, inl, inr, arith}
 use Rattle.vm_types.specs.declared.file.FilePage.{FilePage}
-use Rattle.page_cache.proofs.GatherLemmas.{IsPart-skip, IsPart-pushed, row_more, row_touched, row_untouched}
+use Rattle.page_cache.proofs.{GatherLemmas.{IsPart-skip, IsPart-pushed, row_more, row_touched, row_untouched}, cache.PageCache.gather_row.Goals.{then-is_touched+in_ok-n, else-is_touched}}
 use Rattle.page_cache.proofs.cache.PageCache.gather_row.Goals as goal
-use Rattle.page_cache.proofs.cache.PageCache.gather_row.Goals.{then-is_touched+in_ok-n, else-is_touched}
 
 pub loop-offset-preserved : goal.loop-offset-preserved
 loop-offset-preserved c =

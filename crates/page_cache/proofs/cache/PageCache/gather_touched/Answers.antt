@@ -1,15 +1,9 @@
-use Rattle.std.proofs.Common.{◌≡◌, ◌+◌, ◌<◌, Some, Ok, Err, Result, OnErr, get_or, inl, inr, sym, ap, ◌∙◌, arith, rules}
-use Rattle.std.proofs.lemmas.Bool.{iff_false}
-use Rattle.vm_types.specs.declared.file.FilePage.{FilePage}
-use Rattle.vm_types.specs.declared.object.PageKey.TheVariants.{File}
-use Rattle.page_cache.specs.Nodes.{page_at}
-use Rattle.page_cache.specs.Inside.{cache_table_of}
-use Rattle.page_cache.proofs.NodeLemmas.{none≢some}
-use Rattle.page_cache.proofs.TableLemmas.{some-same}
-use Rattle.page_cache.specs.Gathering.{filed}
+use Rattle.std.proofs.{Common.{◌≡◌, ◌+◌, ◌<◌, Some, Ok, Err, Result, OnErr, get_or, inl, inr, sym, ap, ◌∙◌, arith, rules}, lemmas.Bool.{iff_false}, lemmas.Option.{none-some, same_Some}}
+use Rattle.vm_types.specs.{declared.file.FilePage.{FilePage}, declared.object.PageKey.TheVariants.{File}}
+use Rattle.page_cache.specs.{Nodes.{page_at}, Inside.{cache_table_of}, Gathering.{filed}}
 use Rattle.page_cache.proofs.GatherLemmas.{filed-some, IsAtPlace, Overflows-full, IsPart-skip, IsPart-pushed, place_touched, place_unseen, place_wider, place_more, place_all}
-use Rattle.page_cache.proofs.cache.PageCache.gather_touched.Goals as goal
 use Rattle.page_cache.proofs.cache.PageCache.gather_touched.Goals.{in-Some+then-is_in_row+in_ok-n, in-Some+else-is_in_row, in_default}
+use Rattle.page_cache.proofs.cache.PageCache.gather_touched.Goals as goal
 
 on_err : {A E : Type 0} (r : Result A E) (P : Type 0) → P → OnErr r P
 on_err (Ok x) P p = tt
@@ -45,7 +39,7 @@ loop-place-preserved c =
       | in-Some+then-is_in_row+in_ok-n w ↦ (let held : page_at pages (get_or order place 0) ≡ Some (File w.in-Some.page) = sym there ∙ filed-some c.page.result w.in-Some.page (sym c.filed.ensures ∙ w.in-Some.is) in
           rw (w.list-is, w.n-is) (IsPart-pushed (cache_table_of cache) c.args.file c.args.first c.args.count c.args.used (IsAtPlace pages order place) (IsAtPlace pages order (place + 1))
           c.args.list.now c.loop-place.list w.push_fresh.new.list c.loop-place.n w.in_ok-n.n w.in-Some.page c.loop-place.invariant wider (place, omega arith, held)
-          (λ p in_row now. elim (more p now) [ inl seen ↦ inl seen | inr e ↦ inr (sym (some-same w.in-Some.page p (sym w.in-Some.is ∙ c.filed.ensures ∙ ap filed e))) ])
+          (λ p in_row now. elim (more p now) [ inl seen ↦ inl seen | inr e ↦ inr (sym (same_Some w.in-Some.page p (sym w.in-Some.is ∙ c.filed.ensures ∙ ap filed e))) ])
           (record {
             row = (w.is_in_row.ensures).0 w.if-is_in_row.true;
             touched = place_touched cache.frames pages order set.ranks.items set.count c.self.invariant.one c.self.invariant.ordered place w.in-Some.page below held;
@@ -56,11 +50,11 @@ loop-place-preserved c =
           (IsAtPlace pages order place) (IsAtPlace pages order (place + 1)) c.args.list.now c.loop-place.list c.loop-place.n c.loop-place.invariant wider
           (λ p in_row now. elim (more p now) [
             | inl seen ↦ inl seen
-            | inr e ↦ absurd (iff_false w.is_in_row.ensures w.if-is_in_row.false (rw (some-same w.in-Some.page p (sym w.in-Some.is ∙ c.filed.ensures ∙ ap filed e)) in_row.row))
+            | inr e ↦ absurd (iff_false w.is_in_row.ensures w.if-is_in_row.false (rw (same_Some w.in-Some.page p (sym w.in-Some.is ∙ c.filed.ensures ∙ ap filed e)) in_row.row))
           ]))
       | in_default w ↦ rw (w.list-is, w.n-is) (IsPart-skip (cache_table_of cache) c.args.file c.args.first c.args.count c.args.used
           (IsAtPlace pages order place) (IsAtPlace pages order (place + 1)) c.args.list.now c.loop-place.list c.loop-place.n c.loop-place.invariant wider
-          (λ p in_row now. elim (more p now) [ inl seen ↦ inl seen | inr e ↦ absurd (none≢some p (sym w.in_default.is ∙ c.filed.ensures ∙ ap filed e)) ]))
+          (λ p in_row now. elim (more p now) [ inl seen ↦ inl seen | inr e ↦ absurd (none-some p (sym w.in_default.is ∙ c.filed.ensures ∙ ap filed e)) ]))
     ]
 
 pub returns : goal.returns

@@ -1,14 +1,8 @@
 use Rattle.std.proofs.Common.{◌≡◌, ◌≢◌, ℕ, ◌+◌, ◌<◌, length, set, Some, None, sym, ◌∙◌, arith}
 use Rattle.vm_types.specs.declared.object.PageKey.{PageKey}
-use Rattle.page_cache.specs.declared.place.Place.TheVariants.{Home}
-use Rattle.page_cache.specs.declared.index.Index.{Index}
-use Rattle.page_cache.specs.declared.cache.PageCache.TheInside.{Inside}
-use Rattle.page_cache.specs.CacheTable.{CacheTable, cache_frames, slot_count, place_in, place_of}
-use Rattle.page_cache.specs.Nodes.{page_at, first_node}
-use Rattle.page_cache.specs.Inside.{cache_table_of, IsWholeCache}
-use Rattle.page_cache.proofs.SetLemmas.{members-at}
-use Rattle.page_cache.proofs.TableLemmas.{is_touched-first, place_of-first}
-use Rattle.page_cache.proofs.Changes.{nothing_held, unmarked, same_set, given-placed, IsWhole-given, SameButFor-given}
+use Rattle.page_cache.specs.{declared.place.Place.TheVariants.{Home}, declared.index.Index.{Index}, declared.cache.PageCache.TheInside.{Inside}, CacheTable.{CacheTable, cache_frames, slot_count, place_in, place_of}}
+use Rattle.page_cache.specs.{Nodes.{page_at, first_node}, Inside.{cache_table_of, IsWholeCache}}
+use Rattle.page_cache.proofs.{SetLemmas.{members-at}, TableLemmas.{is_touched-first, place_of-first}, Changes.{nothing_held, unmarked, same_set, given-placed, IsWhole-given, SameButFor-given}}
 use Rattle.page_cache.proofs.cache.PageCache.hold.Goals as goal
 
 -- what the caller keeps, of the fields

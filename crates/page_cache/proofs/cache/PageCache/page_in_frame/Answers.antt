@@ -1,6 +1,5 @@
 use Rattle.std.proofs.Common.{◌<◌}
-use Rattle.page_cache.specs.declared.place.Place.TheVariants.{Frame}
-use Rattle.page_cache.specs.Inside.{cache_table_of}
+use Rattle.page_cache.specs.{declared.place.Place.TheVariants.{Frame}, Inside.{cache_table_of}}
 use Rattle.page_cache.proofs.TableLemmas.{held_at, none_at, place_in-frame}
 use Rattle.page_cache.proofs.cache.PageCache.page_in_frame.Goals as goal
 

@@ -1,10 +1,6 @@
 use Rattle.std.proofs.Common.{◌≡◌, Some, None, sym, ◌∙◌}
-use Rattle.page_cache.specs.Inside.{cache_table_of}
-use Rattle.page_cache.specs.Nodes.{first_node}
-use Rattle.page_cache.proofs.NodeLemmas.{first_node-removed}
-use Rattle.page_cache.proofs.SetLemmas.{members-at}
-use Rattle.page_cache.proofs.TableLemmas.{is_touched-first, place_of-first}
-use Rattle.page_cache.proofs.Changes.{IsWhole-taken, SameButFor-taken}
+use Rattle.page_cache.specs.{Inside.{cache_table_of}, Nodes.{first_node}}
+use Rattle.page_cache.proofs.{NodeLemmas.{first_node-removed}, SetLemmas.{members-at}, TableLemmas.{is_touched-first, place_of-first}, Changes.{IsWhole-taken, SameButFor-taken}}
 use Rattle.page_cache.proofs.cache.PageCache.take_out.Goals as goal
 
 pub returns-in_default-clause-was : goal.returns-in_default-clause-was

@@ -1,9 +1,6 @@
-use Rattle.std.proofs.Common.{◌≡◌, ◌+◌, true, arith}
-use Rattle.std.proofs.lemmas.List.{get_or_read}
-use Rattle.page_cache.specs.Nodes.{page_at}
-use Rattle.page_cache.specs.Chains.{is_in_bucket}
-use Rattle.page_cache.proofs.NodeLemmas.{page_at-within}
-use Rattle.page_cache.proofs.ChainLemmas.{bucket-own, IsChained-removed}
+use Rattle.std.proofs.{Common.{◌≡◌, ◌+◌, true, arith}, lemmas.List.{get_or_read}}
+use Rattle.page_cache.specs.{Nodes.{page_at}, Chains.{is_in_bucket}}
+use Rattle.page_cache.proofs.{NodeLemmas.{page_at-within}, ChainLemmas.{bucket-own, IsChained-removed}}
 use Rattle.page_cache.proofs.index.Index.remove.Goals as goal
 
 pub returns-clause-chained : goal.returns-clause-chained

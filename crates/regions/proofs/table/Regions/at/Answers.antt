@@ -1,29 +1,24 @@
 use Rattle.std.proofs.Common.{◌∙◌, ap, sym, Some, None}
 use Rattle.regions.specs.RunList.{attr_at}
-use Rattle.regions.proofs.BehindLemmas.{Ends, Tells, first_tells}
-use Rattle.regions.proofs.WalkLemmas.{user_map}
+use Rattle.regions.proofs.{BehindLemmas.{first_tells}, WalkLemmas.{user_map}}
 use Rattle.regions.proofs.table.Regions.at.Goals as goal
 
 pub returns-in_err-run-clause-value : goal.returns-in_err-run-clause-value
 returns-in_err-run-clause-value g c =
-    let ends : Ends c.get-page.result c.args.self.now =
-    first_tells g.M.Levels.mode c.get-page.result c.args.self.now c.runs_behind.result.now None c.runs_behind.ensures.maximal c.runs_behind.ensures.found c.in_err-run.ensures.value in
-    c.from_residual.ensures ∙ sym ends.at ∙ ap (attr_at c.args.self.now) c.get-page.ensures.number
+    c.from_residual.ensures ∙ sym (first_tells g.M.Levels.mode _ _ _ None c.runs_behind.ensures.maximal c.runs_behind.ensures.found c.in_err-run.ensures.value).at
+    ∙ ap (attr_at c.args.self.now) c.get-page.ensures.number
 
 pub returns-in_err-run-clause-user : goal.returns-in_err-run-clause-user
 returns-in_err-run-clause-user g c = user_map g.M.Levels.mode c.args.self.now c.runs_behind.ensures.maximal
 
 pub at-requires : goal.at-requires
 at-requires g c =
-    let tells : Tells g.M.Levels.mode c.get-page.result c.args.self.now c.in_ok-run.run'.now =
-    first_tells g.M.Levels.mode c.get-page.result c.args.self.now c.runs_behind.result.now (Some c.in_ok-run.run'.now) c.runs_behind.ensures.maximal c.runs_behind.ensures.found c.in_ok-run.ensures.value in
-    tells.is_run
+    (first_tells g.M.Levels.mode _ _ _ (Some c.in_ok-run.run'.now) c.runs_behind.ensures.maximal c.runs_behind.ensures.found c.in_ok-run.ensures.value).is_run
 
 pub returns-clause-value : goal.returns-clause-value
 returns-clause-value g c =
-    let tells : Tells g.M.Levels.mode c.get-page.result c.args.self.now c.in_ok-run.run'.now =
-    first_tells g.M.Levels.mode c.get-page.result c.args.self.now c.runs_behind.result.now (Some c.in_ok-run.run'.now) c.runs_behind.ensures.maximal c.runs_behind.ensures.found c.in_ok-run.ensures.value in
-    c.at.ensures ∙ sym tells.at ∙ ap (attr_at c.args.self.now) c.get-page.ensures.number
+    c.at.ensures ∙ sym (first_tells g.M.Levels.mode _ _ _ (Some c.in_ok-run.run'.now) c.runs_behind.ensures.maximal c.runs_behind.ensures.found c.in_ok-run.ensures.value).at
+    ∙ ap (attr_at c.args.self.now) c.get-page.ensures.number
 
 pub returns-clause-user : goal.returns-clause-user
 returns-clause-user g c = user_map g.M.Levels.mode c.args.self.now c.runs_behind.ensures.maximal

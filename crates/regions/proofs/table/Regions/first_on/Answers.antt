@@ -1,6 +1,5 @@
 use Rattle.std.proofs.Common.{ℕ, Option, sym, subst}
-use Rattle.regions.specs.RunList.{attr_at}
-use Rattle.regions.specs.Search.{IsFirstOn}
+use Rattle.regions.specs.{RunList.{attr_at}, Search.{IsFirstOn}}
 use Rattle.regions.proofs.StandLemmas.{IsFirstOrNone, first_on-is, some_on, none_some, none_from}
 use Rattle.regions.proofs.table.Regions.first_on.Goals as goal
 

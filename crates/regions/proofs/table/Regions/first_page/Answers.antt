@@ -1,22 +1,15 @@
 use Rattle.std.proofs.Common.{◌<◌, ◌∙◌, List, ap, length, get_or, sym, subst, arith}
-use Rattle.vm_types.specs.declared.region.Backing.TheVariants.{Anon}
-use Rattle.regions.specs.declared.run.Run.{Run}
-use Rattle.regions.specs.Run.{IsRun}
-use Rattle.regions.specs.Search.{first_on}
-use Rattle.regions.proofs.StandLemmas.{behind_run, on_behind}
+use Rattle.regions.specs.{declared.run.Run.{Run}, Run.{IsRun}, Search.{first_on}}
+use Rattle.regions.proofs.{PushLemmas.{unused}, StandLemmas.{behind_run, on_behind}}
 use Rattle.regions.proofs.table.Regions.first_page.Goals as goal
 
 pub loop-run-init : goal.loop-run-init
 loop-run-init g c = ap (λ (l : List Run). first_on c.args.low c.args.key l) c.runs_behind-run-items.ensures.found ∙ on_behind c.args.low c.args.key c.args.self.now
 
-none : Run
-none = record { first = 0; end = 0; attr = record { prot = record { 0 = 0 }; backing = Anon } }
-
 pub page_on-requires : goal.page_on-requires
-unfolding none
 page_on-requires g c =
-    let P : List Run → Type 0 = λ l. c.loop-run.run-index < length l → IsRun g.M.Levels.mode (get_or l c.loop-run.run-index none) in
+    let P : List Run → Type 0 = λ l. c.loop-run.run-index < length l → IsRun g.M.Levels.mode (get_or l c.loop-run.run-index unused) in
     let run = subst P (sym c.runs_behind-run-items.ensures.found)
-    (behind_run g.M.Levels.mode 16 c.args.low c.args.self.now c.loop-run.run-index none c.runs_behind-run-items.ensures.maximal)
+    (behind_run g.M.Levels.mode 16 c.args.low c.args.self.now c.loop-run.run-index unused c.runs_behind-run-items.ensures.maximal)
     c.loop-run-test.true in
     omega (arith, run.nonempty)

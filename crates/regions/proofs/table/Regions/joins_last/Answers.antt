@@ -1,20 +1,15 @@
-use Rattle.std.proofs.Common.{◌≡◌, ◌≤◌, List, length, sym, ◌∙◌, ap, arith}
-use Rattle.regions.specs.declared.run.Run.{Run}
-use Rattle.regions.specs.RunList.{joins_last}
+use Rattle.std.proofs.Common.{List, sym, ◌∙◌, ap, arith}
+use Rattle.regions.specs.{declared.run.Run.{Run}, RunList.{joins_last}}
 use Rattle.regions.proofs.PushLemmas.{joins_last-is, last_run, unused}
 use Rattle.regions.proofs.table.Regions.joins_last.Goals as goal
 
 pub joins-requires : goal.joins-requires
 joins-requires g c =
-    let few : c.self.inside.len ≤ 256 = c.self.invariant.0 in
-    let room : length c.self.inside.runs ≡ 256 = c.self.invariant.1 in
     let run = last_run g.M.Levels.mode c.self.inside.runs c.self.inside.len unused (omega arith) (omega arith) c.self.invariant.2 in
     omega (arith, run.nonempty)
 
 pub returns : goal.returns
 returns g c =
-    let few : c.self.inside.len ≤ 256 = c.self.invariant.0 in
-    let room : length c.self.inside.runs ≡ 256 = c.self.invariant.1 in
     c.joins.ensures
     ∙ sym (joins_last-is c.self.inside.runs c.self.inside.len unused c.args.next (omega arith) (omega arith))
     ∙ ap (λ (l : List Run). joins_last l c.args.next) c.self.view_is

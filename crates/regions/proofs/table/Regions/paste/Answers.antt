@@ -1,11 +1,7 @@
 use Rattle.std.proofs.Common.{◌≡◌, ◌≤◌, ◌+◌, sym, ◌∙◌, ap, subst, List, length, refl, drop}
-use Rattle.regions.specs.declared.run.Run.{Run}
-use Rattle.regions.specs.RunList.{pasted, pushed}
-use Rattle.regions.proofs.PasteLemmas.{Pending, long_part, pasted_none, pasted_some, pending_none, pending_some}
-use Rattle.regions.proofs.PushLemmas.{unused}
-use Rattle.regions.proofs.ResultLemmas.{on_err}
+use Rattle.regions.specs.{declared.run.Run.{Run}, RunList.{pasted, pushed}}
+use Rattle.regions.proofs.{PasteLemmas.{Pending, long_part, pasted_none, pasted_some, pending_none, pending_some}, PushLemmas.{unused}, ResultLemmas.{on_err}, table.Regions.paste.Goals.{in-Some+in_ok-push, in_default}}
 use Rattle.regions.proofs.table.Regions.paste.Goals as goal
-use Rattle.regions.proofs.table.Regions.paste.Goals.{in-Some+in_ok-push, in_default}
 
 pub loop-run-init : goal.loop-run-init
 loop-run-init g c = record {

@@ -1,17 +1,15 @@
-use Rattle.vm_types.specs.Limits.{user_end}
-use Rattle.std.proofs.Common.{◌≡◌, ◌/◌, ◌≤◌, ◌+◌, true, sym, ◌∙◌, arith}
+use Rattle.std.proofs.Common.{◌≡◌, ◌/◌, ◌≤◌, true, sym, ◌∙◌, arith}
 use Rattle.vm_types.specs.Placement.{is_place, lowest_place, placed}
 use Rattle.regions.specs.RunList.{attr_at}
 use Rattle.regions.proofs.SearchLemmas.{IsPlace, is_place-is, lowest_place-gap, placed-hint, placed-zero, placed-taken, some_from}
-use Rattle.regions.proofs.table.Regions.place.Goals as goal
 use Rattle.regions.proofs.table.Regions.place.Goals.{else-address-ne0-via-then-address-ne0+else-is_place, else-address-ne0-via-else-address-ne0}
+use Rattle.regions.proofs.table.Regions.place.Goals as goal
 
 pub returns-then-is_place : goal.returns-then-is_place
 returns-then-is_place g c =
     let e : is_place g.M.Levels.mode (attr_at c.args.self.now) c.args.pages (c.args.address / 4096) ≡ true = sym c.is_place.ensures ∙ c.if-is_place.true in
     let place : IsPlace g.M.Levels.mode (attr_at c.args.self.now) c.args.pages (c.args.address / 4096) = is_place-is g.M.Levels.mode (attr_at c.args.self.now) c.args.pages (c.args.address / 4096) e in
     let low : 16 ≤ c.args.address / 4096 = place.low in
-    let high : c.args.address / 4096 + c.args.pages ≤ user_end g.M.Levels.mode = place.high in
     some_from c.new.result (c.args.address / 4096) c.new.ensures.found (c.new.ensures.known.1 (low, omega arith))
     ∙ sym (placed-hint g.M.Levels.mode (attr_at c.args.self.now) c.args.address c.args.pages c.if-address-ne0.true e)
 

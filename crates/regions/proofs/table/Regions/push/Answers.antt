@@ -1,11 +1,6 @@
-use Rattle.std.proofs.Common.{◌≡◌, ℕ, suc, ◌+◌, ◌-◌, ◌<◌, ◌≤◌, true, false, List, length, take, set, get_or, sym, ◌∙◌, ap, subst, arith, add-one}
-use Rattle.std.proofs.Common.{length-set}
-use Rattle.std.proofs.lemmas.List.{length-take-le}
-use Rattle.regions.specs.declared.run.Run.{Run}
-use Rattle.regions.specs.Run.{merged}
-use Rattle.regions.specs.RunList.{end_of, IsMaximal, joins_last, pushed}
-use Rattle.regions.proofs.ListLemmas.{maximal-pushed}
-use Rattle.regions.proofs.PushLemmas.{added_at, merged_last, length_added, some_last, unused}
+use Rattle.std.proofs.{Common.{◌≡◌, ℕ, ◌+◌, ◌-◌, ◌<◌, ◌≤◌, true, false, List, length, take, set, get_or, sym, ◌∙◌, ap, subst, arith, add-one, length-set}, lemmas.List.{length-take-le}}
+use Rattle.regions.specs.{declared.run.Run.{Run}, Run.{merged}, RunList.{end_of, IsMaximal, joins_last, pushed}}
+use Rattle.regions.proofs.{ListLemmas.{maximal-pushed}, PushLemmas.{added_at, merged_last, length_added, some_last, unused}}
 use Rattle.regions.proofs.table.Regions.push.Goals as goal
 
 -- the runs with the new one behind
@@ -14,14 +9,11 @@ behind_them old now next e h = subst (λ (l : List Run). end_of 16 l ≤ next.fi
 
 pub invariant_of-self : goal.invariant_of-self
 invariant_of-self g c =
-    let runs : List Run = c.self.inside.runs in
-    let few : c.self.inside.len ≤ 256 = c.self.invariant.0 in
-    let room : length c.self.inside.runs ≡ 256 = c.self.invariant.1 in
     let goes_on : joins_last (take c.self.inside.len c.self.inside.runs) c.args.next ≡ true =
     ap (λ (l : List Run). joins_last l c.args.next) c.self.view_is ∙ sym c.joins_last.ensures ∙ c.if-joins_last.true in
     let some : 0 < c.self.inside.len = some_last c.self.inside.runs c.self.inside.len c.args.next goes_on in (
-      few,
-      length-set c.self.inside.runs (c.self.inside.len - 1) (merged (get_or c.self.inside.runs (c.self.inside.len - 1) unused) c.args.next) ∙ room,
+      c.self.invariant.0,
+      length-set c.self.inside.runs (c.self.inside.len - 1) (merged (get_or c.self.inside.runs (c.self.inside.len - 1) unused) c.args.next) ∙ c.self.invariant.1,
       subst (λ (l : List Run). IsMaximal g.M.Levels.mode 16 l)
           (sym (merged_last c.self.inside.runs c.self.inside.len unused c.args.next some (omega arith) goes_on))
           (maximal-pushed g.M.Levels.mode 16 (take c.self.inside.len c.self.inside.runs) c.args.next c.self.invariant.2 (behind_them _ _ c.args.next c.self.view_is c.requires.behind) c.requires.run),
@@ -29,8 +21,6 @@ invariant_of-self g c =
 
 pub returns-then-joins_last-clause-ok : goal.returns-then-joins_last-clause-ok
 returns-then-joins_last-clause-ok g c =
-    let few : c.self.inside.len ≤ 256 = c.self.invariant.0 in
-    let room : length c.self.inside.runs ≡ 256 = c.self.invariant.1 in
     let goes_on : joins_last (take c.self.inside.len c.self.inside.runs) c.args.next ≡ true =
     ap (λ (l : List Run). joins_last l c.args.next) c.self.view_is ∙ sym c.joins_last.ensures ∙ c.if-joins_last.true in
     let some : 0 < c.self.inside.len = some_last c.self.inside.runs c.self.inside.len c.args.next goes_on in
@@ -39,32 +29,24 @@ returns-then-joins_last-clause-ok g c =
 
 pub returns-then-self-eq-RUNS-clause-err : goal.returns-then-self-eq-RUNS-clause-err
 returns-then-self-eq-RUNS-clause-err g c =
-    let room : length c.self.inside.runs ≡ 256 = c.self.invariant.1 in
     let full : length (take c.self.inside.len c.self.inside.runs) ≡ c.self.inside.len = length-take-le c.self.inside.len c.self.inside.runs (omega arith) in
-    let seen : length (take c.self.inside.len c.self.inside.runs) ≡ length c.args.self.now = ap (λ (l : List Run). length l) c.self.view_is in
-    let more : length (pushed c.args.self.now c.args.next) ≡ suc (length c.args.self.now) =
-    length_added c.args.self.now c.args.next (sym c.joins_last.ensures ∙ c.if-joins_last.false) in
-    omega arith
+    omega (arith, full, ap (λ (l : List Run). length l) c.self.view_is, length_added c.args.self.now c.args.next (sym c.joins_last.ensures ∙ c.if-joins_last.false))
 
 pub invariant_of-self-2 : goal.invariant_of-self-2
 invariant_of-self-2 g c =
-    let few : c.self.inside.len ≤ 256 = c.self.invariant.0 in
-    let room : length c.self.inside.runs ≡ 256 = c.self.invariant.1 in
     let ends : joins_last (take c.self.inside.len c.self.inside.runs) c.args.next ≡ false =
     ap (λ (l : List Run). joins_last l c.args.next) c.self.view_is ∙ sym c.joins_last.ensures ∙ c.if-joins_last.false in
     let more : take (c.self.inside.len + 1) (set c.self.inside.runs c.self.inside.len c.args.next) ≡ pushed (take c.self.inside.len c.self.inside.runs) c.args.next =
     ap (λ (k : ℕ). take k (set c.self.inside.runs c.self.inside.len c.args.next)) (add-one c.self.inside.len)
     ∙ added_at c.self.inside.runs c.self.inside.len c.args.next (omega arith) ends in (
       omega arith,
-      length-set c.self.inside.runs c.self.inside.len c.args.next ∙ room,
+      length-set c.self.inside.runs c.self.inside.len c.args.next ∙ c.self.invariant.1,
       subst (λ (l : List Run). IsMaximal g.M.Levels.mode 16 l) (sym more)
           (maximal-pushed g.M.Levels.mode 16 (take c.self.inside.len c.self.inside.runs) c.args.next c.self.invariant.2 (behind_them _ _ c.args.next c.self.view_is c.requires.behind) c.requires.run),
     )
 
 pub returns-clause-ok : goal.returns-clause-ok
 returns-clause-ok g c =
-    let few : c.self.inside.len ≤ 256 = c.self.invariant.0 in
-    let room : length c.self.inside.runs ≡ 256 = c.self.invariant.1 in
     let ends : joins_last (take c.self.inside.len c.self.inside.runs) c.args.next ≡ false =
     ap (λ (l : List Run). joins_last l c.args.next) c.self.view_is ∙ sym c.joins_last.ensures ∙ c.if-joins_last.false in
     ap (λ (k : ℕ). take k (set c.self.inside.runs c.self.inside.len c.args.next)) (add-one c.self.inside.len)

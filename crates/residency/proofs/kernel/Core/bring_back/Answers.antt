@@ -1,17 +1,11 @@
-use Rattle.std.proofs.Common.{◌≡◌, inl, inr, None, refl, sym, ap, ◌∙◌, subst, arith, rules}
+use Rattle.std.proofs.Common.{◌≡◌, None, refl, sym, ap, ◌∙◌, subst, arith, rules}
 use Rattle.frames.specs.declared.role.Role.TheVariants.{Free, Table, Private, Cache}
-use Rattle.frames.specs.FrameTable.{role_of}
 use Rattle.frames.proofs.FrameLemmas.{with_bytes-same}
 use Rattle.swap.specs.Slots.{slots_of, IsSectorOfSlot}
 use Rattle.page_cache.specs.declared.place.Place.TheVariants.{Home, Frame, Slot}
-use Rattle.residency.specs.Picture.{Picture, picture_of}
-use Rattle.residency.specs.Capacity.{IsShort}
-use Rattle.residency.specs.Steps.{ChangesFrame}
-use Rattle.residency.proofs.Asking.{asks_between, also_asked, one_also}
-use Rattle.residency.proofs.BroughtIn.{frames_written}
-use Rattle.residency.proofs.Obtained.{also_on, comes_back, comes_taken, comes_stall, given_back, given_on, seeks_stall}
-use Rattle.residency.proofs.Returning.{leaves_slot, frames_spent}
-use Rattle.residency.proofs.kernel.Core.bring_back.Given.{Over}
+use Rattle.residency.specs.{Picture.{Picture, picture_of}, Capacity.{IsShort}, Views.{ChoosesByClock}}
+use Rattle.residency.proofs.{Asking.{asks_between, also_asked, one_also}, BroughtIn.{frames_written}, Obtained.{also_on, chosen, clock_on, comes_back, comes_taken, comes_stall, given_back, given_on, seeks_stall}}
+use Rattle.residency.proofs.Returning.{leaves_slot, all_spent}
 use Rattle.residency.proofs.kernel.Core.bring_back.Goals as goal
 
 pub returns-in-Ok-get : goal.returns-in-Ok-get
@@ -38,48 +32,34 @@ returns-in-Ok-get g c =
           (got.fit.places.inside page (λ home. (let bad : Slot slot ≡ Home = sym there ∙ home in (cc))))
           c.set_place.ensures.placed c.set_place.ensures.touched c.set_place.ensures.others (λ pid. refl) (λ pid k. refl) (λ m. refl) (λ f. refl);
       rest = search rules;
+      clock = clock_on got frame takes.inside takes.was_free _ refl refl;
       asked = also_on got frame takes.inside takes.was_free _ (IsSectorOfSlot slot.0)
           (given_on got frame takes.inside takes.was_free _ written (λ t. (let bad : Cache ≡ Table = sym takes.kind_set ∙ t in (cc))) (λ pid. refl)) asks;
       uses = record { swap = search rules; device = search rules; one = one_also g.E.SectorDisk c.args.self.now c.obtain.new.core c.release.new.self (IsSectorOfSlot slot.0) got.one asks };
       refused = search rules;
     }
 
--- what is left of memory where the read failed
-abbrev emptied : (g : Over) (c : goal.After-self-in-Err-1 g) → Picture g.M.Levels.mode
-emptied g c = record (picture_of c.obtain.new.core) { slots = slots_of c.get.new.self; frames = c.release-in-Err.new.self }
-
-spent : (g : Over) (c : goal.After-self-in-Err-1 g) → ChangesFrame (picture_of c.obtain.new.core) (emptied g c) c.in-Ok.frame.0
-spent g c = record {
-  slots = c.get.ensures.same;
-  frames = frames_spent c.obtain.new.core.frames c.take.new.self c.release-in-Err.new.self c.in-Ok.frame.0 c.get.new.to c.in-Ok.ensures.taken c.release-in-Err.ensures.change;
-  was_free = c.in-Ok.ensures.taken.was_free;
-  others = λ m ne. refl;
-  root = λ pid. refl;
-  at = λ pid k. refl;
-  place = λ p. refl;
-  touched = λ p. refl;
-  files = λ f. refl;
-}
-
-freed : (g : Over) (c : goal.After-self-in-Err-1 g) → role_of c.release-in-Err.new.self c.in-Ok.frame.0 ≡ Free
-freed g c = c.release-in-Err.ensures.alone (λ own. (let bad : Cache ≡ Private = sym c.in-Ok.ensures.taken.kind_set ∙ own in (cc)))
-
 pub returns-in-Err : goal.returns-in-Err
 unfolding IsShort
 returns-in-Err g c =
+    let mid : Picture g.M.Levels.mode = picture_of c.obtain.new.core in
     let got = c.in_ok-obtain.ensures in
     let frame = c.in-Ok.frame in
     let takes = c.in-Ok.ensures.taken in
+    let spent = all_spent mid c.take.new.self c.release-in-Err.new.self (slots_of c.get.new.self) mid.files frame.0 c.get.new.to takes c.release-in-Err.ensures.change c.get.ensures.same (λ f. refl) in
+    let freed = c.release-in-Err.ensures.alone (λ own. (let bad : Cache ≡ Private = sym takes.kind_set ∙ own in (cc))) in
     record {
       same = search rules;
-      comes = comes_back got frame takes.inside takes.was_free _ c.args.page _ (spent g c) (freed g c);
+      comes = comes_back got frame takes.inside takes.was_free _ c.args.page _ spent freed;
       rest = search rules;
-      asked = also_on got frame takes.inside takes.was_free _ (IsSectorOfSlot c.args.slot.0) (given_back got frame takes.inside takes.was_free (emptied g c) (spent g c) (freed g c)) c.get.ensures.asks;
+      clock = record { stands = got.stands; turns = λ full. (frame, chosen got frame takes.inside takes.was_free full); looks = got.looks };
+      asked = also_on got frame takes.inside takes.was_free _ (IsSectorOfSlot c.args.slot.0) (given_back got frame takes.inside takes.was_free _ spent freed) c.get.ensures.asks;
       uses = search rules;
       refused = record { refuses = search rules; short = tt; cause = search rules };
     }
 
 pub returns-in_err-obtain : goal.returns-in_err-obtain
+unfolding ChoosesByClock
 returns-in_err-obtain g c =
     let got = c.in_err-obtain.ensures in
     let stalls = seeks_stall c.from_residual.result c.from_residual.ensures.1 got in
@@ -87,6 +67,7 @@ returns-in_err-obtain g c =
       same = search rules;
       comes = comes_stall c.args.page c.from_residual.result c.from_residual.ensures.1 got;
       rest = got.rest;
+      clock = stalls.clock;
       asked = also_asked g.E.SectorDisk c.args.self.now c.obtain.new.core None (IsSectorOfSlot c.args.slot.0) got.asked;
       uses = record { swap = got.swap; device = got.device; one = search rules };
       refused = stalls.refused;

@@ -1,13 +1,9 @@
-use Rattle.std.proofs.Common.{◌≡◌, inl, inr, refl, sym, ◌∙◌, subst, rules}
-use Rattle.vm_types.specs.declared.object.PageKey.TheVariants.{Object}
-use Rattle.frames.specs.declared.role.Role.TheVariants.{Free, Table, Cache}
-use Rattle.frames.specs.FrameTable.{zero_bytes}
-use Rattle.vm_types.specs.View.{zero_page}
+use Rattle.std.proofs.Common.{◌≡◌, refl, sym, ◌∙◌, rules}
+use Rattle.vm_types.specs.{declared.object.PageKey.TheVariants.{Object}, View.{zero_page}}
+use Rattle.frames.specs.{declared.role.Role.TheVariants.{Free, Table, Cache}, FrameTable.{zero_bytes}}
 use Rattle.page_cache.specs.declared.place.Place.TheVariants.{Home, Frame}
 use Rattle.residency.specs.Picture.{Picture, picture_of}
-use Rattle.residency.proofs.Obtained.{comes_taken, comes_stall, given_on, seeks_on, seeks_stall}
-use Rattle.residency.proofs.Places.{named-same}
-use Rattle.residency.proofs.Returning.{leaves_none}
+use Rattle.residency.proofs.{Obtained.{comes_taken, comes_stall, given_on, seeks_on, seeks_stall}, Places.{named-same}, Returning.{leaves_none}}
 use Rattle.residency.proofs.kernel.Core.bring_blank.Goals as goal
 
 zeros_alike : zero_bytes ≡ zero_page
@@ -29,7 +25,7 @@ returns g c =
           (λ m at. (let bad : Home ≡ Frame (record { 0 = m }) = sym home ∙ at in (cc)))
           (named-same (picture_of c.args.self.now).at mid.at c.args.page.object c.args.page.page got.frees.pages.at ∙ c.requires.named)
           c.set_place.ensures.placed c.set_place.ensures.touched c.set_place.ensures.others (λ pid. refl) (λ pid k. refl) (λ m. refl) (λ f. refl);
-      seeks = seeks_on got frame takes.inside takes.was_free _ refl refl (record { store = refl; roots = refl; regions = refl })
+      seeks = seeks_on got frame takes.inside takes.was_free _ refl refl (record { store = refl; roots = refl; regions = refl }) refl refl
           (given_on got frame takes.inside takes.was_free _ takes.others (λ t. (let bad : Cache ≡ Table = sym takes.kind_set ∙ t in (cc))) (λ pid. refl));
     }
 

@@ -1,19 +1,12 @@
-use Rattle.std.proofs.Common.{◌≡◌, ◌<◌, inl, inr, None, refl, sym, ap, ◌∙◌, subst, ℕ, rules}
+use Rattle.std.proofs.Common.{◌≡◌, ◌<◌, refl, sym, ap, ◌∙◌, subst, ℕ, rules}
 use Rattle.std.specs.Option.{option_map}
 use Rattle.vm_types.specs.declared.object.PageKey.TheVariants.{File}
-use Rattle.file_store.specs.Standing.{AreBounded}
-use Rattle.file_store.specs.Store.{entry_of, files_of}
+use Rattle.file_store.specs.{Standing.{AreBounded}, Store.{entry_of, files_of}}
 use Rattle.frames.specs.declared.role.Role.TheVariants.{Free, Table, Private, Cache}
-use Rattle.frames.specs.FrameTable.{role_of}
 use Rattle.page_cache.specs.declared.place.Place.TheVariants.{Home, Frame}
-use Rattle.residency.specs.Picture.{Picture, picture_of}
-use Rattle.residency.specs.Capacity.{IsShort}
-use Rattle.residency.specs.Steps.{ChangesFrame}
-use Rattle.residency.proofs.Asking.{asks_store, unasked_store}
-use Rattle.residency.proofs.BroughtIn.{frames_written}
-use Rattle.residency.proofs.Obtained.{asked_on, comes_back, comes_taken, comes_stall, given_back, given_on, seeks_stall}
-use Rattle.residency.proofs.Returning.{leaves_none, frames_spent}
-use Rattle.residency.proofs.kernel.Core.bring_in.Given.{Over}
+use Rattle.residency.specs.{Picture.{Picture, picture_of}, Capacity.{IsShort}, Views.{ChoosesByClock}}
+use Rattle.residency.proofs.{Asking.{asks_store, unasked_store}, BroughtIn.{frames_written}, Obtained.{asked_on, chosen, clock_on, comes_back, comes_taken, comes_stall, given_back, given_on, seeks_stall}}
+use Rattle.residency.proofs.Returning.{leaves_none, all_spent}
 use Rattle.residency.proofs.kernel.Core.bring_in.Goals as goal
 
 pub returns-in-Ok-read_page : goal.returns-in-Ok-read_page
@@ -33,6 +26,7 @@ returns-in-Ok-read_page g c =
           ((c.requires.inside.0, got.frees.pages.files.files c.args.page.file ∙ c.requires.inside.1, c.requires.inside.2))
           c.set_place.ensures.placed c.set_place.ensures.touched c.set_place.ensures.others (λ pid. refl) (λ pid k. refl) (λ m. refl) (λ f. ap (λ d. option_map (λ e. e.info) (entry_of d f)) c.in-Ok-read_page.ensures.files);
       rest = search rules;
+      clock = clock_on got frame takes.inside takes.was_free _ refl refl;
       store = search rules;
       asks = asks_store g.D.SectorDisk c.args.page c.args.self.now.store c.obtain.new.core.store c.read_page.new.self got.rest.store c.read_page.ensures.asks;
       reads = search rules;
@@ -44,40 +38,24 @@ returns-in-Ok-read_page g c =
       cause = search rules;
     }
 
--- what is left of memory where the read failed
-abbrev emptied : (g : Over) (c : goal.After-self-in-Err-1 g) → Picture g.M.Levels.mode
-emptied g c = record (picture_of c.obtain.new.core) { files = files_of c.read_page.new.self; frames = c.release.new.self }
-
-spent : (g : Over) (c : goal.After-self-in-Err-1 g) → ChangesFrame (picture_of c.obtain.new.core) (emptied g c) c.in-Ok.frame.0
-spent g c = record {
-  slots = refl;
-  frames = frames_spent c.obtain.new.core.frames c.take.new.self c.release.new.self c.in-Ok.frame.0 c.read_page.new.to c.in-Ok.ensures.taken c.release.ensures.change;
-  was_free = c.in-Ok.ensures.taken.was_free;
-  others = λ m ne. refl;
-  root = λ pid. refl;
-  at = λ pid k. refl;
-  place = λ p. refl;
-  touched = λ p. refl;
-  files = λ f. ap (λ d. option_map (λ e. e.info) (entry_of d f)) c.in-Err.ensures.files;
-}
-
-freed : (g : Over) (c : goal.After-self-in-Err-1 g) → role_of c.release.new.self c.in-Ok.frame.0 ≡ Free
-freed g c = c.release.ensures.alone (λ own. (let bad : Cache ≡ Private = sym c.in-Ok.ensures.taken.kind_set ∙ own in (cc)))
-
 pub returns-in-Err : goal.returns-in-Err
 unfolding IsShort
 returns-in-Err g c =
+    let mid : Picture g.M.Levels.mode = picture_of c.obtain.new.core in
     let got = c.in_ok-obtain.ensures in
     let frame = c.in-Ok.frame in
     let takes = c.in-Ok.ensures.taken in
+    let spent = all_spent mid c.take.new.self c.release.new.self mid.slots (files_of c.read_page.new.self) frame.0 c.read_page.new.to takes c.release.ensures.change refl (λ f. ap (λ d. option_map (λ e. e.info) (entry_of d f)) c.in-Err.ensures.files) in
+    let freed = c.release.ensures.alone (λ own. (let bad : Cache ≡ Private = sym takes.kind_set ∙ own in (cc))) in
     record {
       read = tt;
-      comes = comes_back got frame takes.inside takes.was_free _ (File c.args.page) _ (spent g c) (freed g c);
+      comes = comes_back got frame takes.inside takes.was_free _ (File c.args.page) _ spent freed;
       rest = search rules;
+      clock = record { stands = got.stands; turns = λ full. (frame, chosen got frame takes.inside takes.was_free full); looks = got.looks };
       store = search rules;
       asks = asks_store g.D.SectorDisk c.args.page c.args.self.now.store c.obtain.new.core.store c.read_page.new.self got.rest.store c.read_page.ensures.asks;
       reads = search rules;
-      asked = asked_on got frame takes.inside takes.was_free _ refl (given_back got frame takes.inside takes.was_free (emptied g c) (spent g c) (freed g c));
+      asked = asked_on got frame takes.inside takes.was_free _ refl (given_back got frame takes.inside takes.was_free _ spent freed);
       uses = record { swap = got.swap; device = got.device; one = tt };
       refuses = λ other. other refl;
       unread = λ other. absurd (other refl);
@@ -86,6 +64,7 @@ returns-in-Err g c =
     }
 
 pub returns-in_err-obtain : goal.returns-in_err-obtain
+unfolding ChoosesByClock
 returns-in_err-obtain g c =
     let got = c.in_err-obtain.ensures in
     let stalls = seeks_stall c.from_residual.result c.from_residual.ensures.1 got in
@@ -93,6 +72,7 @@ returns-in_err-obtain g c =
       read = search rules;
       comes = comes_stall (File c.args.page) c.from_residual.result c.from_residual.ensures.1 got;
       rest = search rules;
+      clock = stalls.clock;
       store = search rules;
       asks = unasked_store g.D.SectorDisk c.args.page c.args.self.now.store c.obtain.new.core.store got.rest.store;
       reads = search rules;

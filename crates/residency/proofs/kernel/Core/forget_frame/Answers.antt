@@ -1,17 +1,10 @@
 use Rattle.vm_types.proofs.Modes.{user_pages_fit}
-use Rattle.std.proofs.Common.{◌≡◌, ◌≢◌, inl, inr, refl, sym, ap, ◌∙◌, subst, arith, rules}
+use Rattle.std.proofs.Common.{◌≡◌, ◌≢◌, refl, sym, ap, ◌∙◌, subst, arith, rules}
 use Rattle.vm_types.specs.declared.object.PageKey.TheVariants.{Object}
-use Rattle.frames.specs.declared.role.Role.TheVariants.{Zero, Private, Cache}
-use Rattle.frames.specs.FrameTable.{FrameTable, IsHeld, SameButFor, role_of}
-use Rattle.page_cache.specs.declared.place.Place.TheVariants.{Home}
-use Rattle.page_cache.specs.CacheTable.{place_of, is_touched}
-use Rattle.residency.specs.declared.leaves.Change.TheVariants.{Forget}
-use Rattle.residency.specs.Picture.{Picture, picture_of, is_data}
-use Rattle.residency.proofs.Cleaning.{Untouches, all_placed, all_touched}
-use Rattle.residency.proofs.Forgotten.{none_over, fit_forgotten, forgets_framed}
-use Rattle.residency.proofs.LeafSteps.{names_over}
-use Rattle.residency.proofs.Leaving.{Leaves}
-use Rattle.residency.proofs.Refusing.{above_of, inside_of}
+use Rattle.frames.specs.{declared.role.Role.TheVariants.{Zero, Private, Cache}, FrameTable.{FrameTable, IsHeld, SameButFor, role_of}}
+use Rattle.page_cache.specs.{declared.place.Place.TheVariants.{Home}, CacheTable.{place_of, is_touched}}
+use Rattle.residency.specs.{declared.leaves.Change.TheVariants.{Forget}, Picture.{Picture, picture_of, is_data}}
+use Rattle.residency.proofs.{Cleaning.{Untouches, all_placed}, Forgotten.{none_over, fit_forgotten, forgets_framed}, LeafSteps.{names_over}, Leaving.{leaves_frame}, Refusing.{above_of, inside_of}}
 use Rattle.residency.proofs.kernel.Core.forget_frame.Goals as goal
 
 pub forget_pages-requires-clause-inside : goal.forget_pages-requires-clause-inside
@@ -53,18 +46,7 @@ returns g c =
       now = c.clean.ensures.untouched;
       others = c.clean.ensures.others.touched;
     } in
-    let leaves : Leaves mid new key n Home = record {
-      was = c.clean.ensures.placed ∙ c.requires.placed;
-      above = nonzero;
-      placed = c.set_place.ensures.placed;
-      others = c.set_place.ensures.others.places;
-      frames = subst (λ (t : FrameTable). SameButFor n t c.release.new.self) c.forget_pages.ensures.same c.release.ensures.change.others;
-      free = c.release.ensures.alone (λ own. (let bad : Private ≡ Cache = sym own ∙ ap (λ (t : FrameTable). role_of t n) c.forget_pages.ensures.same ∙ cache in (cc)));
-      slots = refl;
-      root = λ pid. refl;
-      at_same = λ pid k. refl;
-      page_of = λ m. refl;
-      touched = all_touched c.clean.new.self c.set_place.new.self key c.set_place.ensures.others c.set_place.ensures.touched;
-      files = λ f. refl;
-    } in
+    let frames = subst (λ (t : FrameTable). SameButFor n t c.release.new.self) c.forget_pages.ensures.same c.release.ensures.change.others in
+    let free = c.release.ensures.alone (λ own. (let bad : Private ≡ Cache = sym own ∙ ap (λ (t : FrameTable). role_of t n) c.forget_pages.ensures.same ∙ cache in (cc))) in
+    let leaves = leaves_frame old c.release.new.self c.clean.new.self c.set_place.new.self key n Home (c.clean.ensures.placed ∙ c.requires.placed) nonzero c.set_place.ensures.placed c.set_place.ensures.others c.set_place.ensures.touched frames free in
     record { forgets = forgets_framed old mid new c.args.page n c.requires.fit c.requires.bare c.requires.placed (omega (arith, nonzero)) u leaves; fit = fit_forgotten old mid new c.args.page n c.requires.fit c.requires.bare c.requires.placed (omega (arith, nonzero)) u leaves; rest = search rules }

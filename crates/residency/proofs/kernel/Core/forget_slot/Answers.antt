@@ -3,8 +3,7 @@ use Rattle.vm_types.specs.declared.object.PageKey.TheVariants.{Object}
 use Rattle.swap.specs.Slots.{slots_of}
 use Rattle.page_cache.specs.CacheTable.{place_of, is_touched}
 use Rattle.residency.specs.Picture.{Picture, picture_of}
-use Rattle.residency.proofs.Forgotten.{fit_forgotten_slot, forgets_slotted}
-use Rattle.residency.proofs.Homing.{Homes}
+use Rattle.residency.proofs.{Forgotten.{fit_forgotten_slot, forgets_slotted}, Homing.{Homes}}
 use Rattle.residency.proofs.kernel.Core.forget_slot.Goals as goal
 
 pub release-requires : goal.release-requires

@@ -1,10 +1,7 @@
 use Rattle.std.proofs.Common.{◌≡◌, sym, ◌<◌, length, refl, ◌∙◌, arith, get_or-set_same, get_or-set_other, ℕ, rules}
 use Rattle.frames.specs.declared.role.Role.TheVariants.{Table, Private}
-use Rattle.residency.specs.Picture.{picture_of}
-use Rattle.residency.specs.Ages.{WantsFrame}
-use Rattle.residency.proofs.Asking.{needed_of, wants_tried}
-use Rattle.residency.proofs.Giving.{on_err_same}
-use Rattle.residency.proofs.Obtained.{given, given_on, seeks_on, seeks_stall}
+use Rattle.residency.specs.{Picture.{picture_of}, Ages.{WantsFrame}}
+use Rattle.residency.proofs.{Asking.{needed_of, wants_tried}, Giving.{on_err_same}, Obtained.{given, given_on, seeks_on, seeks_stall}}
 use Rattle.residency.proofs.kernel.Core.take_own.Goals as goal
 
 pub returns : goal.returns
@@ -33,7 +30,7 @@ returns g c =
           files = λ f. refl;
         };
       };
-      seeks = seeks_on got own takes.inside takes.was_free _ refl refl (record { store = refl; roots = refl; regions = refl })
+      seeks = seeks_on got own takes.inside takes.was_free _ refl refl (record { store = refl; roots = refl; regions = refl }) refl refl
           (given_on got own takes.inside takes.was_free _ takes.others (λ t. (let bad : Private ≡ Table = sym takes.kind_set ∙ t in (cc))) (λ pid. refl));
       fit = tt;
       frees = tt;

@@ -1,6 +1,4 @@
-use Rattle.std.proofs.Common.{◌≤◌, ◌+◌, ◌++◌, length, take, ap, ◌∙◌, arith}
-use Rattle.std.proofs.lemmas.List.{length-take-le}
-use Rattle.std.proofs.lemmas.Slice.{take-put_mid}
+use Rattle.std.proofs.{Common.{◌≤◌, ◌+◌, ◌++◌, length, take, ap, ◌∙◌, arith}, lemmas.List.{length-take-le}, lemmas.Slice.{take-put_mid}}
 use Rattle.runner.proofs.Bytes.{extended}
 use Rattle.runner.proofs.line_buffer.LineBuffer.extend.Goals as goal
 

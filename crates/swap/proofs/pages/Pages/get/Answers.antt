@@ -1,9 +1,6 @@
-use Rattle.std.proofs.Common.{◌≡◌, ◌+◌, ◌*◌, ◌<◌, ℕ, subst, rules}
-use Rattle.std.proofs.lemmas.Result.{on_ok_weaker}
-use Rattle.disk_model.specs.Sectors.{part_of}
-use Rattle.disk_model.specs.Stop.{IsOfPage}
-use Rattle.disk_model.proofs.Moments.{asks_named}
-use Rattle.disk_model.proofs.Naming.{once_named}
+use Rattle.std.proofs.{Common.{◌≡◌, ◌+◌, ◌*◌, ◌<◌, ℕ, subst, rules}, lemmas.Result.{on_ok_weaker}}
+use Rattle.disk_model.specs.{Sectors.{part_of}, Stop.{IsOfPage}}
+use Rattle.disk_model.proofs.{Moments.{asks_named}, Naming.{once_named}}
 use Rattle.swap.proofs.Written.{gives_written}
 use Rattle.swap.proofs.pages.Pages.get.Goals as goal
 

@@ -1,5 +1,4 @@
-use Rattle.std.proofs.Common.{◌≡◌, ℕ, replicate, length, ap, ◌∙◌, arith}
-use Rattle.std.proofs.lemmas.List.{length-replicate}
+use Rattle.std.proofs.{Common.{◌≡◌, ℕ, replicate, length, ap, ◌∙◌, arith}, lemmas.List.{length-replicate}}
 use Rattle.swap.proofs.Stack.{stack_made, sound_zeros}
 use Rattle.swap.proofs.share_counts.ShareCounts.new.Goals as goal
 

@@ -1,5 +1,4 @@
-use Rattle.std.proofs.Common.{◌≡◌, ◌<◌, ◌-◌, ℕ, List, Option, set, take, length, get_or, sym, subst, arith, vec_len}
-use Rattle.std.proofs.lemmas.List.{length-set}
+use Rattle.std.proofs.{Common.{◌≡◌, ◌<◌, ◌-◌, ℕ, List, Option, set, take, length, get_or, sym, subst, arith, vec_len}, lemmas.List.{length-set}}
 use Rattle.std.specs.Option.{IfNone}
 use Rattle.swap.specs.Counts.{count_at, IsStack}
 use Rattle.swap.proofs.Stack.{none_free, stack_taken, sound_set}

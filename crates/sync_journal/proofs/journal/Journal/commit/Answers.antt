@@ -1,31 +1,18 @@
 use Rattle.std.proofs.Common.{length, refl, sym, subst, ◌∙◌, rules}
-use Rattle.sync_journal.specs.Layout.{IsOutside}
-use Rattle.sync_journal.proofs.Rests.{live_at_rest}
-use Rattle.sync_journal.specs.Journal.{live_homes}
-use Rattle.sync_journal.proofs.Asking.{finish_only, commit_only, in_one, in_two}
-use Rattle.sync_journal.proofs.Causes.{calm_first, told_on, told_was, not_source, device_failed, asks_nothing}
-use Rattle.sync_journal.proofs.Runs.{finished_run, committed_run}
+use Rattle.sync_journal.specs.{Layout.{IsOutside}, Journal.{live_homes}}
+use Rattle.sync_journal.proofs.{Rests.{live_at_rest}, Asking.{finish_only, commit_only, in_one, in_two}, Causes.{calm_first, told_on, told_was, not_source, puts_failed, asks_nothing}, Runs.{finished_run, committed_run}}
 use Rattle.sync_journal.proofs.Since.{either_of, both_either, both_before, settled_before, settled_after}
 use Rattle.sync_journal.proofs.journal.Journal.commit.Goals as goal
 
 pub returns-in_err-finish : goal.returns-in_err-finish
 returns-in_err-finish g c =
     record {
-      puts = record {
-        ok = search rules;
-        rest = search rules;
-        outside = search rules;
-        any_moment = λ keeps gives.
-            either_of g.D.SectorDisk c.args.disk.now c.finish.new.disk _ (c.finish.ensures.home.any_moment keeps);
-        once = in_one g.D.SectorDisk (live_homes c.args.self.now) (length c.args.homes.now) c.args.disk.now c.finish.new.disk c.finish.ensures.home.once;
-        takes = record {
-          run = finished_run g.D.SectorDisk (live_homes c.args.self.now) c.args.disk.now c.finish.new.disk c.finish.ensures.home.run;
-          asks = asks_nothing g.S.PageSource c.args.source.now (g.met.S.PageSource.stays c.args.source.now);
-          causes = device_failed (g.D.SectorDisk.failures c.args.disk.now) (g.D.SectorDisk.failures c.finish.new.disk) (g.S.PageSource.failures c.args.source.now) (g.S.PageSource.failures c.args.source.now) _ c.from_residual.ensures.1 (c.in_err-finish.ensures.home.failed refl) refl;
-        };
-        source = λ keeps is. absurd (not_source _ c.from_residual.ensures.1 is);
-        source_moments = λ keeps is. absurd (not_source _ c.from_residual.ensures.1 is);
-      };
+      puts = puts_failed _ c.from_residual.ensures.1
+          (λ keeps gives.
+          either_of g.D.SectorDisk c.args.disk.now c.finish.new.disk _ (c.finish.ensures.home.any_moment keeps))
+          (in_one g.D.SectorDisk (live_homes c.args.self.now) (length c.args.homes.now) c.args.disk.now c.finish.new.disk c.finish.ensures.home.once)
+          (finished_run g.D.SectorDisk (live_homes c.args.self.now) c.args.disk.now c.finish.new.disk c.finish.ensures.home.run)
+          (asks_nothing g.S.PageSource c.args.source.now (g.met.S.PageSource.stays c.args.source.now)) (c.in_err-finish.ensures.home.failed refl) refl;
       live = search rules;
       map = search rules;
       synced = search rules;

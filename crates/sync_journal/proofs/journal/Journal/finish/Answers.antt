@@ -1,10 +1,7 @@
 use Rattle.std.proofs.Common.{[], refl, arith, rules}
-use Rattle.disk_model.proofs.Moments.{stays}
-use Rattle.disk_model.proofs.Naming.{once_none}
-use Rattle.sync_journal.specs.Layout.{IsJournalSector, IsFinished}
-use Rattle.sync_journal.specs.Journal.{live_homes}
-use Rattle.sync_journal.proofs.Phases.{while_staging, staged_settled}
-use Rattle.sync_journal.proofs.Rests.{rest_quiet, none_live}
+use Rattle.disk_model.proofs.{Moments.{stays}, Naming.{once_none}}
+use Rattle.sync_journal.specs.{Layout.{IsJournalSector, IsFinished}, Journal.{live_homes}}
+use Rattle.sync_journal.proofs.{Phases.{while_staging, staged_settled}, Rests.{rest_quiet, none_live}}
 use Rattle.sync_journal.proofs.journal.Journal.finish.Goals as goal
 
 pub returns-else-self-gt0-clause-home : goal.returns-else-self-gt0-clause-home

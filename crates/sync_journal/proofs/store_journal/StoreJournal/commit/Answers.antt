@@ -1,19 +1,10 @@
-use Rattle.std.proofs.Common.{[], refl, ap, sym, subst, ◌∙◌}
-use Rattle.std.proofs.lemmas.Result.{on_ok_weaker}
-use Rattle.disk_model.specs.Stop.{Image}
-use Rattle.disk_model.specs.Moments.{AsksOnly}
+use Rattle.std.proofs.{Common.{[], refl, ap, sym, subst, ◌∙◌}, lemmas.Result.{on_ok_weaker}}
+use Rattle.disk_model.specs.{Stop.{Image}, Moments.{AsksOnly}}
 use Rattle.disk_model.proofs.Moments.{weaker, asks_once}
-use Rattle.sync_journal.specs.Map.{AreHomes}
-use Rattle.sync_journal.specs.Commit.{changed}
-use Rattle.sync_journal.specs.Journal.{live_homes}
-use Rattle.sync_journal.specs.Turns.{IsTurnUsed, IsTurnAsked}
-use Rattle.sync_journal.specs.Blocks.{CommitsInBlocks}
-use Rattle.sync_journal.specs.Kinds.{journal_kind, store_live, store_standing, kind_home_count, IsKindOutside, IsStoreCommitted, IsStoreUsed, AsksEachOnce, StoreStandsForEither, IsStoreKept}
-use Rattle.sync_journal.specs.Runs.{RunsOnDevice}
+use Rattle.sync_journal.specs.{Map.{AreHomes}, Commit.{changed}, Journal.{live_homes}, Turns.{IsTurnUsed, IsTurnAsked}, Blocks.{CommitsInBlocks}}
+use Rattle.sync_journal.specs.{Kinds.{journal_kind, store_live, store_standing, kind_home_count, IsKindOutside, IsStoreCommitted, IsStoreUsed, AsksEachOnce, StoreStandsForEither, IsStoreKept}, Runs.{RunsOnDevice}}
 use Rattle.sync_journal.specs.declared.turns.TurnJournal.{TurnJournal}
-use Rattle.sync_journal.proofs.Replays.{on_ok_both}
-use Rattle.sync_journal.proofs.InTurn.{commits_weaker, none_are}
-use Rattle.sync_journal.proofs.TurnAsking.{used_more}
+use Rattle.sync_journal.proofs.{Replays.{on_ok_both}, InTurn.{commits_weaker, none_are}, TurnAsking.{used_more}}
 use Rattle.sync_journal.proofs.InKinds.{one_same, one_as_before, one_either, one_changed, one_settled, one_rest, one_alone, two_as_before, two_before, two_either, two_changed, two_settled, two_rest, same_turns}
 use Rattle.sync_journal.proofs.store_journal.StoreJournal.commit.Goals as goal
 

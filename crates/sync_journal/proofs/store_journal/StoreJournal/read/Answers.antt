@@ -1,8 +1,6 @@
 use Rattle.std.proofs.Common.{◌≡◌, OnOk, ap, sym, subst, ◌∙◌}
-use Rattle.disk_model.specs.Moments.{AsksOnly}
-use Rattle.disk_model.specs.Sectors.{joined}
-use Rattle.sync_journal.specs.Layout.{IsPageSector}
-use Rattle.sync_journal.specs.Kinds.{journal_kind, journal_stands, kind_standing}
+use Rattle.disk_model.specs.{Stop.{Names}, Sectors.{joined}}
+use Rattle.sync_journal.specs.{Layout.{IsPageSector}, Kinds.{journal_kind, journal_stands, kind_standing}}
 use Rattle.sync_journal.proofs.InKinds.{store_rest_read}
 use Rattle.sync_journal.proofs.store_journal.StoreJournal.read.Goals as goal
 
@@ -18,7 +16,7 @@ returns-in-One g c =
           (sym ((c.requires.rest (e.kept keeps)).kind ∙ ap journal_kind is)) (e.page keeps);
       rest = λ keeps. store_rest_read d old new (e.touches keeps) e.size c.args.self.now (c.requires.rest (e.kept keeps));
       reads = e.reads;
-      asks = subst (λ j. AsksOnly d (IsPageSector (journal_stands j c.args.home)) old new) (sym is) e.asks;
+      asks = subst (λ j. Names (IsPageSector (journal_stands j c.args.home)) (d.asked old) (d.asked new)) (sym is) e.asks;
     }
 
 pub returns-in-InTurn : goal.returns-in-InTurn
@@ -33,5 +31,5 @@ returns-in-InTurn g c =
           (sym ((c.requires.rest (e.kept keeps)).kind ∙ ap journal_kind is)) (e.page keeps);
       rest = λ keeps. store_rest_read d old new (e.touches keeps) e.size c.args.self.now (c.requires.rest (e.kept keeps));
       reads = e.reads;
-      asks = subst (λ j. AsksOnly d (IsPageSector (journal_stands j c.args.home)) old new) (sym is) e.asks;
+      asks = subst (λ j. Names (IsPageSector (journal_stands j c.args.home)) (d.asked old) (d.asked new)) (sym is) e.asks;
     }

@@ -1,10 +1,6 @@
 use Rattle.std.proofs.Common.{refl, sym, ◌∙◌, rules}
-use Rattle.sync_journal.specs.Commit.{HomesStandAs}
-use Rattle.sync_journal.specs.Turns.{TurnsStandAs}
-use Rattle.sync_journal.specs.declared.store_journal.Journals.TheVariants.{Single, Paired}
-use Rattle.sync_journal.proofs.InTurn.{recovers_weaker}
-use Rattle.sync_journal.proofs.InKinds.{one_same, one_settled, one_as_before, two_as_before, two_before, two_settled, single_alone}
-use Rattle.sync_journal.proofs.KindRecoveries.{recovers_kind}
+use Rattle.sync_journal.specs.{Commit.{HomesStandAs}, Turns.{TurnsStandAs}, declared.store_journal.Journals.TheVariants.{Single, Paired}}
+use Rattle.sync_journal.proofs.{InTurn.{recovers_weaker}, InKinds.{one_same, one_settled, one_as_before, two_as_before, two_before, two_settled, single_alone}, KindRecoveries.{recovers_kind}}
 use Rattle.sync_journal.proofs.store_journal.StoreJournal.recover.Goals as goal
 
 pub returns-in_err-recover-in-Single : goal.returns-in_err-recover-in-Single

@@ -1,16 +1,8 @@
 use Rattle.std.proofs.Common.{sym, subst, ◌∙◌, rules}
 use Rattle.disk_model.specs.Moments.{AsksOnly}
 use Rattle.disk_model.proofs.Moments.{weaker}
-use Rattle.sync_journal.specs.Map.{AreHomes}
-use Rattle.sync_journal.specs.Journal.{live_homes}
-use Rattle.sync_journal.specs.Kinds.{kind_home_count, IsKindAsked, IsKindClosed}
-use Rattle.sync_journal.specs.Runs.{RunsOnDevice}
-use Rattle.sync_journal.specs.Resuming.{IsKindResumed}
-use Rattle.sync_journal.specs.declared.store_journal.Journals.TheVariants.{Single, Paired}
-use Rattle.sync_journal.proofs.Causes.{told_was}
-use Rattle.sync_journal.proofs.InTurn.{none_are}
-use Rattle.sync_journal.proofs.InKinds.{one_same, one_settled, one_as_before, while_reading}
-use Rattle.sync_journal.proofs.Resuming.{bad_of, of_bad, looked_synced, two_looked, two_good}
+use Rattle.sync_journal.specs.{Map.{AreHomes}, Journal.{live_homes}, Kinds.{kind_home_count, IsKindAsked, IsKindClosed}, Runs.{RunsOnDevice}, Resuming.{IsKindResumed}, declared.store_journal.Journals.TheVariants.{Single, Paired}}
+use Rattle.sync_journal.proofs.{Causes.{told_was}, InTurn.{none_are}, InKinds.{one_same, one_settled, one_as_before, while_reading}, Resuming.{bad_of, of_bad, looked_synced, two_looked, two_good}}
 use Rattle.sync_journal.proofs.store_journal.StoreJournal.resume.Goals as goal
 
 -- of one journal
@@ -36,6 +28,7 @@ returns-in_ok-recover_synced-in-Single g c =
       };
       any_moment = λ keeps. weaker d old new _ _ (one_as_before n image (c.requires.kind (e.kept keeps) ∙ is)) (e.any_moment keeps (c.requires.synced (e.kept keeps)));
       run = subst (λ b. RunsOnDevice d (IsKindResumed b n) old new) (sym is) e.run;
+      bad_unwritten = λ keeps bad. e.bad_unwritten keeps (of_bad Single n image (c.requires.kind (e.kept keeps) ∙ is) bad);
       closed_unwritten = λ keeps closed. e.closed_unwritten keeps (subst (λ b. IsKindClosed b image) (c.requires.kind (e.kept keeps) ∙ is) closed);
       asks = λ keeps. subst (λ b. AsksOnly d (IsKindAsked b image) old new) (sym (c.requires.kind (e.kept keeps) ∙ is)) (e.asks keeps);
       err = record { device = λ told. cc; still = λ told. cc; bad = λ keeps told. cc; unwritten = λ keeps told. cc };
@@ -54,6 +47,7 @@ returns-in_err-recover_synced-in-Single g c =
       ok = search rules;
       any_moment = λ keeps. weaker d old new _ _ (one_as_before n image (c.requires.kind (e.kept keeps) ∙ is)) (e.any_moment keeps (c.requires.synced (e.kept keeps)));
       run = subst (λ b. RunsOnDevice d (IsKindResumed b n) old new) (sym is) e.run;
+      bad_unwritten = λ keeps bad. e.bad_unwritten keeps (of_bad Single n image (c.requires.kind (e.kept keeps) ∙ is) bad);
       closed_unwritten = λ keeps closed. e.closed_unwritten keeps (subst (λ b. IsKindClosed b image) (c.requires.kind (e.kept keeps) ∙ is) closed);
       asks = λ keeps. subst (λ b. AsksOnly d (IsKindAsked b image) old new) (sym (c.requires.kind (e.kept keeps) ∙ is)) (e.asks keeps);
       err = record {
@@ -79,6 +73,7 @@ returns-in_err-journal-in-Paired g c =
       ok = search rules;
       any_moment = λ keeps. while_reading d old new new (run.touches keeps) (λ image left. g.met.D.SectorDisk.only_now old image (run.kept keeps) left) (c.requires.synced (run.kept keeps));
       run = subst (λ b. RunsOnDevice d (IsKindResumed b n) old new) (sym is) run;
+      bad_unwritten = λ keeps bad. run.touches keeps;
       closed_unwritten = λ keeps closed. run.touches keeps;
       asks = λ keeps. subst (λ b. AsksOnly d (IsKindAsked b image) old new) (sym (c.requires.kind (run.kept keeps) ∙ is)) (e.asks keeps);
       err = record {
@@ -112,6 +107,7 @@ returns-in_ok-journal-in-Paired g c =
       };
       any_moment = λ keeps. while_reading d old new new (run.touches keeps) (λ image left. g.met.D.SectorDisk.only_now old image (run.kept keeps) left) (c.requires.synced (run.kept keeps));
       run = subst (λ b. RunsOnDevice d (IsKindResumed b n) old new) (sym is) run;
+      bad_unwritten = λ keeps bad. run.touches keeps;
       closed_unwritten = λ keeps closed. run.touches keeps;
       asks = λ keeps. subst (λ b. AsksOnly d (IsKindAsked b image) old new) (sym (c.requires.kind (run.kept keeps) ∙ is)) (done.asks keeps);
       err = record { device = λ told. cc; still = λ told. cc; bad = λ keeps told. cc; unwritten = λ keeps told. cc };

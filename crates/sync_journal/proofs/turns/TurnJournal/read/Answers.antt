@@ -1,12 +1,7 @@
-use Rattle.std.proofs.Common.{◌∙◌, subst, rules}
-use Rattle.std.proofs.lemmas.Result.{on_ok_weaker}
-use Rattle.disk_model.proofs.Moments.{asks_named}
-use Rattle.sync_journal.specs.Layout.{IsPageSector}
-use Rattle.sync_journal.specs.Map.{home_rank}
-use Rattle.sync_journal.specs.Journal.{live_homes}
-use Rattle.sync_journal.specs.Turns.{turn_stands}
-use Rattle.sync_journal.proofs.InTurn.{page_stands}
-use Rattle.sync_journal.proofs.InKinds.{turn_rest_read}
+use Rattle.std.proofs.{Common.{◌∙◌, subst, rules}, lemmas.Result.{on_ok_weaker}}
+use Rattle.disk_model.specs.Stop.{Names}
+use Rattle.sync_journal.specs.{Layout.{IsPageSector}, Journal.{live_homes}}
+use Rattle.sync_journal.proofs.{InTurn.{page_stands}, InKinds.{turn_rest_read}}
 use Rattle.sync_journal.proofs.turns.TurnJournal.read.Goals as goal
 
 pub returns : goal.returns
@@ -19,6 +14,5 @@ returns g c =
       rest = λ keeps. turn_rest_read g.D.SectorDisk c.args.disk.now c.read_page.new.disk (c.read_page.ensures.touches keeps) c.read_page.ensures.size c.args.self.now.second
           (live_homes c.args.self.now.live) (c.requires.rest (c.read_page.ensures.kept keeps));
       reads = search rules;
-      asks = asks_named g.D.SectorDisk (IsPageSector (turn_stands c.args.self.now.second c.args.home (home_rank (live_homes c.args.self.now.live) c.args.home))) (IsPageSector c.stands_at.result) c.args.disk.now c.read_page.new.disk
-          (λ k inside. subst (λ first. IsPageSector first k) c.stands_at.ensures.at inside) c.read_page.ensures.asks;
+      asks = subst (λ first. Names (IsPageSector first) (g.D.SectorDisk.asked c.args.disk.now) (g.D.SectorDisk.asked c.read_page.new.disk)) c.stands_at.ensures.at c.read_page.ensures.asks;
     }

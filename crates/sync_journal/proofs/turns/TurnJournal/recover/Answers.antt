@@ -2,10 +2,7 @@ use Rattle.std.proofs.Common.{refl, ◌∙◌, arith, rules}
 use Rattle.disk_model.specs.Moments.{Nothing}
 use Rattle.disk_model.proofs.Moments.{asks_none}
 use Rattle.sync_journal.specs.Turns.{IsTurnAskedIn}
-use Rattle.sync_journal.proofs.Runs.{no_write, one_more}
-use Rattle.sync_journal.proofs.InTurn.{recovered, bad_before}
-use Rattle.sync_journal.proofs.Causes.{told_was, is_error, not_bad_device, blames_device, blames_on, blames_none}
-use Rattle.sync_journal.proofs.TurnRecoveries.{named_since, asks_since, looked, emptied}
+use Rattle.sync_journal.proofs.{Runs.{no_write, one_more}, InTurn.{recovered, bad_before}, Causes.{told_was, is_error, not_bad_device, blames_device, blames_on, blames_none}, TurnRecoveries.{named_since, asks_since, looked, emptied}}
 use Rattle.sync_journal.proofs.turns.TurnJournal.recover.Goals as goal
 
 pub returns-in_err-sync : goal.returns-in_err-sync

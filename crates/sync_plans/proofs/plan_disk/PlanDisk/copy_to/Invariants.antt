@@ -1,6 +1,5 @@
 use Rattle.std.proofs.Common.{◌≡◌, ◌<◌, ℕ, Some, length, slice_get}
-use Rattle.sync_plans.specs.declared.call.Call.{Call}
-use Rattle.sync_plans.specs.Plans.{row}
+use Rattle.sync_plans.specs.{declared.call.Call.{Call}, Plans.{row}}
 use Rattle.sync_plans.proofs.plan_disk.PlanDisk.copy_to.Given as goal
 
 abbrev pub invariant-loop-i : goal.invariant-loop-i

@@ -1,6 +1,5 @@
 use Rattle.std.proofs.Common.{◌≡◌, ◌-◌}
-use Rattle.sync_plans.specs.Plans.{row, image_after}
-use Rattle.sync_plans.specs.PlanDisk.{pages_of}
+use Rattle.sync_plans.specs.{Plans.{row, image_after}, PlanDisk.{pages_of}}
 use Rattle.sync_plans.proofs.plan_disk.PlanDisk.held.Given as goal
 
 -- no later call writes the sector

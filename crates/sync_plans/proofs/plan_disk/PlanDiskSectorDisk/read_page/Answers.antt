@@ -1,5 +1,4 @@
-use Rattle.std.proofs.Common.{◌≡◌, ◌<◌, ◌+◌, ◌*◌, ◌-◌, length, ⊎_elim, sym, ap, subst, ◌∙◌, arith, rules}
-use Rattle.std.proofs.lemmas.Bool.{cases_eq}
+use Rattle.std.proofs.{Common.{◌≡◌, ◌<◌, ◌+◌, ◌*◌, ◌-◌, length, ⊎_elim, sym, ap, subst, ◌∙◌, arith, rules}, lemmas.Bool.{cases_eq}}
 use borrow.Rule.Slice.PartMut.{put_mid}
 use Rattle.disk_model.specs.Sectors.{part_of}
 use Rattle.disk_model.proofs.Pages.{put_here, put_there, length_put}

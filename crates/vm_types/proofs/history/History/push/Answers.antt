@@ -1,7 +1,5 @@
-use Rattle.std.proofs.Common.{arith, ap, sym, ◌∙◌, ◌≡◌, ◌<◌, ◌≤◌, ◌∷◌, [], ◌++◌, length, ℕ, ◌+◌, ◌-◌, List, drop, take, replicate, suc, slice_set, length-set, length-take-le, drop-set-lt, drop-drop}
-use Rattle.std.proofs.lemmas.List.{take_more_set}
-use Rattle.vm_types.specs.Blank.{blank}
-use Rattle.vm_types.specs.declared.refusal.Fault.{Fault}
+use Rattle.std.proofs.{Common.{arith, ap, sym, ◌∙◌, ◌≡◌, ◌<◌, ◌≤◌, ◌∷◌, [], ◌++◌, length, ℕ, ◌+◌, ◌-◌, List, drop, take, replicate, suc, slice_set, length-set, length-take-le, drop-set-lt, drop-drop}, lemmas.List.{take_more_set}}
+use Rattle.vm_types.specs.{Blank.{blank}, declared.refusal.Fault.{Fault}}
 use Rattle.vm_types.proofs.history.History.push.Goals as goal
 
 -- a place less to be filled
