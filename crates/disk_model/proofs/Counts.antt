@@ -1,5 +1,5 @@
 -- What a device counts over sectors that are read or written in a row.
-use Rattle.std.proofs.Common.{◌≡◌, ◌<◌, ◌+◌, ◌-◌, ℕ, suc, Bool, true, false, if◌then◌else◌, ap, ◌∙◌, arith}
+use Rattle.disk_model.proofs.Names.{◌≡◌, ◌<◌, ◌+◌, ◌-◌, ℕ, suc, Bool, true, false, if◌then◌else◌, ap, ◌∙◌, arith}
 use Rattle.disk_model.specs.SimDisk.{DiskCounts, fails_next, after_read, after_reads, after_write, after_writes}
 
 -- the first read decides how it goes on

@@ -1,3 +1,4 @@
+mod Names
 pub mod Naming
 pub mod Moments
 pub mod Pages

@@ -1,5 +1,5 @@
 -- How runs of device calls go on.
-use Rattle.std.proofs.{Common.{inl, inr, ⊎_elim, ◌≡◌, ◌⊎◌, ◌≤◌, ◌+◌, ℕ, refl, sym, ap, subst, ◌∙◌, arith}, lemmas.Bool.{cases_eq, cases_lt}}
+use Rattle.disk_model.proofs.Names.{inl, inr, ⊎_elim, ◌≡◌, ◌⊎◌, ◌≤◌, ◌+◌, ℕ, refl, sym, ap, subst, ◌∙◌, arith, cases_eq, cases_lt}
 use Rattle.disk_model.specs.{Stop.{Image, MayLeave, ChangesOnly, ChangesPage, IsOfPage, Elapses, Names, NamesOnce}, Moments.{Nothing, Touches, LeavesNow, LeavesOnly, AsksOnly}, declared.sector_disk.SectorDisk.{Ghosts}}
 
 -- a sector is of a page or not

@@ -1,5 +1,5 @@
 -- Calls that name sectors, one after another.
-use Rattle.std.proofs.{Common.{◌≤◌, ◌<◌, ◌+◌, ◌≡◌, ℕ, inl, inr, ⊎_elim, ap, ◌∙◌, arith}, lemmas.Bool.{cases_eq}}
+use Rattle.disk_model.proofs.Names.{◌≤◌, ◌<◌, ◌+◌, ◌≡◌, ℕ, inl, inr, ⊎_elim, ap, ◌∙◌, arith, cases_eq}
 use Rattle.disk_model.specs.Stop.{Names, NamesOnce}
 
 -- one of so many sectors from the first on

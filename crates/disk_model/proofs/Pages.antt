@@ -1,8 +1,6 @@
 -- A page written sector by sector.
-use Rattle.std.proofs.{Common.{◌≡◌, ◌≤◌, ◌<◌, ◌+◌, ◌*◌, ℕ, zero, suc, List, [], length, take, drop, get_or, inl, inr, ⊎_elim, sym, ap, subst, ◌∙◌, arith, drop-drop, refl, length-append, length-take, length-drop}, lemmas.Bool.{cases_eq}}
-use Rattle.std.proofs.{lemmas.List.{drop-take, drop_at, length-take-le}, lemmas.Slice.{take-put_mid, take-put_mid_below, put_mid-paste}}
-use Rattle.std.specs.Simd.{first_chunks}
-use borrow.Rule.Slice.PartMut.{put_mid}
+use Rattle.disk_model.proofs.Names.{◌≡◌, ◌≤◌, ◌<◌, ◌+◌, ◌*◌, ℕ, zero, suc, List, [], length, take, drop, get_or, inl, inr, ⊎_elim, sym, ap, subst, ◌∙◌, arith, drop-drop, refl, length-append, length-take, length-drop, cases_eq, drop-take}
+use Rattle.disk_model.proofs.Names.{drop_at, length-take-le, take-put_mid, take-put_mid_below, put_mid-paste, first_chunks, put_mid}
 use Rattle.disk_model.specs.{Stop.{Image, MayLeave, ChangesOnly, Elapses}, Sectors.{part_of}}
 
 -- no time passes

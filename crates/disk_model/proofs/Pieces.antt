@@ -1,5 +1,5 @@
 -- Pages as their sectors, one after another.
-use Rattle.std.proofs.{Common.{◌≡◌, ℕ, zero, suc, ◌+◌, ◌*◌, ◌<◌, List, [], ◌++◌, length, take, refl, sym, ap, ◌∙◌, arith, add-one}, lemmas.List.{take_all}, Math.Seq.{take-add}}
+use Rattle.disk_model.proofs.Names.{◌≡◌, ℕ, zero, suc, ◌+◌, ◌*◌, ◌<◌, List, [], ◌++◌, length, take, refl, sym, ap, ◌∙◌, arith, add-one, take_all, take-add}
 use Rattle.disk_model.specs.Sectors.{joined, part_of}
 
 pub joined-none : (pieces : ℕ → List ℕ) → joined pieces 0 ≡ []

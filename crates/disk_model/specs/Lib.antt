@@ -2,6 +2,7 @@ pub mod Sectors
 pub mod Stop
 pub mod Moments
 pub mod Note
+pub mod Tally
 pub mod Asked
 pub mod Plan
 pub mod SimDisk

@@ -5,33 +5,6 @@ ghost use Rattle.disk_model.specs.Note.{Note};
 
 use std::marker::{Model, PhantomData};
 
-/// How often something has happened.
-#[derive(Drop)]
-pub struct Count {
-    marker: PhantomData<u8>,
-    pub ghost number: { ℕ },
-}
-
-impl Model for Count {
-    ghost also_owns = { λ _. ftrue };
-}
-
-impl Count {
-    /// It has not happened yet.
-    pub fn new() -> Count
-        ensures { result.number ≡ 0 }
-    {
-        Count {
-            marker: PhantomData,
-        }
-    }
-
-    /// It has happened once more.
-    pub fn raise(&mut self)
-        ensures { self.new.number ≡ self.old.number + 1 }
-    {}
-}
-
 /// What has been noted, the newest first.
 #[derive(Drop)]
 pub struct Log {
@@ -57,4 +30,35 @@ impl Log {
     pub fn note(&mut self, _numbers: &[u64], _rows: &[[u8; 512]], _marks: &[bool])
         ensures { self.new.notes ≡ (_numbers.now, _rows.now, _marks.now) ∷ self.old.notes }
     {}
+}
+
+/// How often something has happened.
+#[derive(Drop)]
+pub struct Count {
+    log: Log,
+}
+
+impl Model for Count {
+    ghost use Rattle.std.specs.Prelude.{length};
+    ghost use Rattle.disk_model.specs.Tally.{Tally};
+
+    ghost Value = { Tally };
+
+    ghost view = { λ c. record { number = length c.log.notes } };
+}
+
+impl Count {
+    /// It has not happened yet.
+    pub fn new() -> Count
+        ensures { result.number ≡ 0 }
+    {
+        Count { log: Log::new() }
+    }
+
+    /// It has happened once more.
+    pub fn raise(&mut self)
+        ensures { self.new.number ≡ self.old.number + 1 }
+    {
+        self.log.note(&[], &[], &[]);
+    }
 }

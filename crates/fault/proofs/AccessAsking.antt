@@ -1,23 +1,12 @@
 -- Which sectors an access asks for, from step to step.
+use Rattle.fault.proofs.Names.{top_level, Access, Store, FilePage, FrameNo, SlotNo, PageKey, File, Attr, ◌≡◌, ◌≢◌, ◌<◌, ℕ, true, inl, inr, ◌⊎◌, Option, Some, None, refl, sym, ap, ◌∙◌, subst, arith, cases_Bool, cases_lt, Ghosts, AsksOnly}
+use Rattle.fault.proofs.Names.{Nothing, asks_none, asks_wider, FileStore, IsSectorOf, IsFull, frame_count, Swap, inside_of, IsPage, Place, Home, Frame, Slot, Core, InFrame, InSlot, seat, is_private, is_swapped, Picture, picture_of, entry}
+use Rattle.fault.proofs.Names.{is_data, IsOwned, IsFit, GivesForTables, KeepsRolesBut, KeepsPages, KeepsFiles, IsWhole, holders_none, seat_common, seat_own}
 use Rattle.vm_types.specs.declared.mode.Levels as Levels
-use Rattle.vm_types.specs.{Limits.{top_level}, declared.access.Access.{Access}, declared.access.Access.TheVariants.{Store}, declared.file.FilePage.{FilePage}, declared.number.FrameNo.{FrameNo}, declared.number.SlotNo.{SlotNo}}
-use Rattle.vm_types.specs.{declared.object.PageKey.{PageKey}, declared.object.PageKey.TheVariants.{File}, declared.region.Attr.{Attr}, declared.region.Backing.TheVariants.{Private}}
-use Rattle.std.proofs.{Common.{◌≡◌, ◌≢◌, ◌<◌, ℕ, true, inl, inr, ◌⊎◌, Option, Some, None, refl, sym, ap, ◌∙◌, subst, arith}, lemmas.Bool.{cases_Bool, cases_lt}}
-use Rattle.disk_model.specs.{declared.sector_disk.SectorDisk.{Ghosts}, Moments.{AsksOnly, Nothing}}
-use Rattle.disk_model.proofs.Moments.{asks_none, asks_wider}
-use Rattle.file_store.specs.{declared.store.FileStore.{FileStore}, Store.{IsSectorOf}}
-use Rattle.frames.specs.FrameTable.{IsFull, frame_count}
-use Rattle.swap.specs.declared.slots.Swap.{Swap}
-use Rattle.swap.proofs.Stack.{inside_of}
-use Rattle.page_tables.specs.Tree.{IsPage}
-use Rattle.page_cache.specs.{declared.place.Place.{Place}, declared.place.Place.TheVariants.{Home, Frame, Slot}}
-use Rattle.residency.specs.{declared.kernel.Core.{Core}, Seats.{InFrame, InSlot, seat, is_private, is_swapped}, Picture.{Picture, picture_of, entry, is_data, IsOwned}, Parts.{IsFit}, Ages.{GivesForTables, KeepsRolesBut}}
-use Rattle.residency.specs.{Calls.{KeepsPages}, Shows.{KeepsFiles}, Ways.{IsWhole}}
-use Rattle.residency.proofs.{Seats.{holders_none}, SeatForms.{seat_common, seat_own}}
+use Rattle.vm_types.specs.declared.region.Backing.TheVariants.{Private}
 use Rattle.fault.specs.{Asking.{HasSwappable, MayAsk, AsksIfFull, AsksNoNew, AsksSlotsIf, IsSectorOfStoredPage, IsSectorOfPage}, Changes.{IsCalm, KeepsBare, KeepsSlotted, LinksTables, Moves, copied_frame, frame_behind, frame_of_place}}
-use Rattle.fault.specs.{AccessAsking.{IsSectorOfItsSlot, AsksForPage}, Wants.{LacksTable, RunsOut, ShowsFile, WantsTwo}}
-use Rattle.fault.proofs.{Asking.{asks_slots_any, asks_slots_if, asks_slots_kept, asks_slots_same, asks_slots_then, asks_slots_wider}, Forms.{none_common, seat_zero}, OwnSteps.{shown_common}, Linked.{lacks_none}, AccessSteps.{keeps_seen}}
-use Rattle.fault.proofs.Wanted.{cases_frame, whole_or, shows_back}
+use Rattle.fault.{specs.{AccessAsking.{IsSectorOfItsSlot, AsksForPage}, Wants.{LacksTable, RunsOut, ShowsFile, WantsTwo}}, proofs.Asking.{asks_slots_any, asks_slots_if, asks_slots_kept, asks_slots_same, asks_slots_then, asks_slots_wider}}
+use Rattle.fault.proofs.{Forms.{none_common, seat_zero}, OwnSteps.{shown_common}, Linked.{lacks_none}, AccessSteps.{keeps_seen}, Wanted.{cases_frame, whole_or, shows_back}}
 
 -- an entry that names a slot as the seat of its page is one of a page that lies in a slot
 away_of : (e k : ℕ) → seat e ≡ Some (InSlot k) → is_swapped e ≡ true
@@ -118,8 +107,7 @@ brought_out old mid pid page p n shows count (inr only) idle now = elim (cases_f
       away = away;
       last = n.0;
       full = λ k inside ne free. (
-          let P : ℕ → Type 0 = λ i. k < i in
-          now k (subst P (sym count) inside) (only k ne ∙ free));
+          now k (subst (λ (i : ℕ). k < i) (sym count) inside) (only k ne ∙ free));
     });
   }
 ]

@@ -1,18 +1,11 @@
 -- Memory after an access is a state of the flat model, where memory before it was one.
-use Rattle.std.proofs.{Common.{◌≡◌, ◌≢◌, ℕ, inl, inr, ◌⊎◌, true, false, List, Option, Some, None, refl, sym, ap, ◌∙◌, subst, eq-eqb, ne_eqb}, lemmas.Bool.{cases_Bool, cases_eq, false≢true}}
-use Rattle.std.specs.Prelude.{is_some, ◌==◌, ◌&&◌}
-use Rattle.vm_types.specs.{declared.file.FilePage.{FilePage}, declared.object.ObjectPage.{ObjectPage}, declared.object.PageKey.{PageKey}, declared.object.PageKey.TheVariants.{File, Object}, declared.region.Backing.{Backing}}
-use Rattle.vm_types.specs.{declared.region.Backing.TheVariants.{Anon, Private, Shared, Common}, Access.{with_shown_bytes}, State.{State, behind, copy_or_behind, or_zeros, shown, with_view}, View.{View, zero_page}}
-use Rattle.disk_model.specs.declared.sector_disk.SectorDisk.{Ghosts}
-use Rattle.file_store.specs.Standing.{IsPageOf, standing_page}
-use Rattle.frames.specs.FrameTable as Frames
-use Rattle.frames.specs.FrameTable.{bytes_of}
-use Rattle.swap.specs.Slots.{SlotTable}
-use Rattle.page_cache.specs.{declared.place.Place.{Place}, declared.place.Place.TheVariants.{Home, Frame, Slot}}
-use Rattle.residency.specs.{Picture.{Picture, view, is_live, held, bytes_at}, Parts.{IsFit, is_shared}, Shows.{ShowsPages, object_bytes}, Steps.{SameBeside}}
-use Rattle.residency.proofs.{Places.{cases_page}, Ways.{by_page}}
+use Rattle.fault.proofs.Names.{◌≡◌, ◌≢◌, ℕ, inl, inr, ◌⊎◌, true, false, List, Option, Some, None, refl, sym, ap, ◌∙◌, subst, eq-eqb, ne_eqb, cases_Bool, cases_eq, false≢true, same_Some, is_some, ◌==◌, ◌&&◌, FilePage, ObjectPage, PageKey}
+use Rattle.fault.proofs.Names.{File, Object, Backing, Anon, Shared, Common, with_shown_bytes, State, behind, copy_or_behind, or_zeros, shown, with_view, View, zero_page, Ghosts, IsPageOf, standing_page, bytes_of, SlotTable, Place, Home}
+use Rattle.fault.proofs.Names.{Frame, Slot, Picture, view, is_live, held, bytes_at, IsFit, is_shared, ShowsPages, object_bytes, SameBeside, cases_page, by_page}
+use Rattle.vm_types.specs.declared.region.Backing.TheVariants.{Private}
 use Rattle.fault.specs.{Changes.{KeepsSeen, KeepsSpaces}, Files.{IsBrought, Stays, Leaves, Comes, Blank, BringsPages}, Shown.{AreBehind, AreOwnOrBehind, AreShown}, Outcome.{Owns, MarksTouchedIn}}
 use Rattle.fault.proofs.Storing.{view_own, views_others, held_own, views_file, held_else, held_written}
+use Rattle.frames.specs.FrameTable as Frames
 
 -- the processes and the files of a state, without what each process sees and what is touched
 module _ {mode : ℕ} where
@@ -32,9 +25,6 @@ module _ {mode : ℕ} where
 page_of_same : {mode : ℕ} (old new : Picture mode) (p : FilePage) → ((f : ℕ) → new.files f ≡ old.files f) → IsPageOf new.files p.file p.page → IsPageOf old.files p.file p.page
 page_of_same old new p files inside = (inside.0, sym (files p.file) ∙ inside.1, inside.2)
 
-one_list : (v w : List ℕ) → Some v ≡ Some w → v ≡ w
-one_list v w same = (cc)
-
 held_away : {mode : ℕ} (c : Picture mode) (p : PageKey) (bytes : List ℕ) → held c p ≡ Some bytes → c.place p ≢ Home
 unfolding held
 held_away c p bytes is home = let bad : None ≡ Some bytes = sym (ap (bytes_at c.frames c.slots) home) ∙ is in (cc)
@@ -51,7 +41,7 @@ module _ {mode : ℕ} {D : Type 0} (g : Ghosts D) (before after : D) (W : PageKe
   held_now shows p bytes is (Comes f read e among here untouched from) =
       let same : f ≡ p = (cc) in
       let inside = page_of_same old new p brings.files (fit.places.inside (File p) (held_away new (File p) bytes is)) in
-      shows.clean p untouched inside ∙ sym (homes p inside) ∙ ap (λ x. standing_page (g.content before) x.file x.page) (sym same) ∙ sym (from kept) ∙ one_list read bytes (sym here ∙ is)
+      shows.clean p untouched inside ∙ sym (homes p inside) ∙ ap (λ x. standing_page (g.content before) x.file x.page) (sym same) ∙ sym (from kept) ∙ same_Some read bytes (sym here ∙ is)
   held_now shows p bytes is (Blank o e among here untouched) = (cc)
 
   none_stored : ShowsPages old s → (p : ObjectPage) → old.touched (Object p) ≡ false → s.objects p.object p.page ≡ None
@@ -64,7 +54,7 @@ module _ {mode : ℕ} {D : Type 0} (g : Ghosts D) (before after : D) (W : PageKe
   ]
   object_now shows p bytes is (Leaves none untouched) = let bad : None ≡ Some bytes = sym none ∙ is in (cc)
   object_now shows p bytes is (Comes f read e among here untouched from) = (cc)
-  object_now shows p bytes is (Blank o e among here untouched) = ap or_zeros (none_stored shows p untouched) ∙ one_list zero_page bytes (sym here ∙ is)
+  object_now shows p bytes is (Blank o e among here untouched) = ap or_zeros (none_stored shows p untouched) ∙ same_Some zero_page bytes (sym here ∙ is)
 
   stored_now : ShowsPages old s → (p : ObjectPage) (bytes : List ℕ) → s.objects p.object p.page ≡ Some bytes → IsBrought g before after W old new (Object p) → held new (Object p) ≡ Some bytes
   stored_now shows p bytes is (Stays same) = elim (cases_Bool (old.touched (Object p))) [
@@ -223,9 +213,8 @@ module _ {mode : ℕ} (old mid new : Picture mode) (s : State) (pid page n : ℕ
 
   pub shows_own : is_shared v.attr.backing ≡ false → Owns old mid pid page v n → ShowsPages new (with_shown_bytes s pid page v v.attr.backing w)
   shows_own private owns =
-      let P : State → Type 0 = λ x. ShowsPages new x in
       let touched : (p : FilePage) → s.touched p.file p.page ≡ new.touched (File p) = λ p. shows.touched p ∙ sym (owns.touched (File p)) ∙ sym (beside.touched (File p)) in
-      subst P (sym (state_own s pid page v w v.attr.backing private)) (record {
+      subst (λ (x : State). ShowsPages new x) (sym (state_own s pid page v w v.attr.backing private)) (record {
         live = λ q. files.live q ∙ sym (ap is_some (beside.root q));
         views = λ q k. elim (by_page q k pid page) [
           | inl e ↦ (
@@ -261,7 +250,7 @@ module _ {mode : ℕ} (old mid new : Picture mode) (s : State) (pid page n : ℕ
             (sym (held_else mid new n w fit marks.held frames beside (File p) marks.place (Object o) (object o)) ∙ is);
         held = λ q bytes there. elim (cases_file q p) [
           | inl is ↦ rw (same_test q p is)
-              (one_list w bytes (sym (held_written mid new n w fit marks.held frames beside (File p) marks.place) ∙ ap (λ x. held new (File x)) (sym is) ∙ there))
+              (same_Some w bytes (sym (held_written mid new n w fit marks.held frames beside (File p) marks.place) ∙ ap (λ x. held new (File x)) (sym is) ∙ there))
           | inr ne ↦ rw (other_test q p ne)
               (files.held q bytes (sym (held_else mid new n w fit marks.held frames beside (File p) marks.place (File q) (other q ne)) ∙ there))
         ];

@@ -1,15 +1,7 @@
 -- Which sectors of swap's device the steps of a call ask for.
 use Rattle.vm_types.specs.declared.mode.Levels as Levels
-use Rattle.std.proofs.{Common.{◌≡◌, ◌⊎◌, ◌<◌, ℕ, inl, inr, true, false, Option, None, get_or, refl, sym, ap, ◌∙◌, subst, arith}, lemmas.Bool.{cases_eq}}
-use Rattle.vm_types.specs.{declared.object.PageKey.{PageKey}, declared.number.FrameNo.{FrameNo}}
-use Rattle.disk_model.specs.{declared.sector_disk.SectorDisk.{Ghosts}, Moments.{Nothing}}
-use Rattle.disk_model.proofs.Moments.{asks_wider, asks_then}
-use Rattle.frames.specs.{declared.role.Role.TheVariants.{Free, Private}, FrameTable.{role_of, IsFull}}
-use Rattle.page_tables.specs.Change.{KeepsFrames}
-use Rattle.page_cache.specs.{declared.place.Place.{Place}, declared.place.Place.TheVariants.{Home, Frame, Slot}}
-use Rattle.swap.specs.Slots.{IsSectorOfFreeSlot}
-use Rattle.residency.specs.{declared.kernel.Core.{Core}, Picture.{Picture, picture_of, is_data}, Parts.{IsFit}, Calls.{IsSpareable, NeedsSlot, Frees, ObtainsTable, AsksSwap, AsksSwapAlso, GivesToSwap}, Steps.{SameBeside}}
-use Rattle.residency.proofs.Asking.{asks_same, asks_between}
+use Rattle.fault.proofs.Names.{◌≡◌, ◌⊎◌, ◌<◌, ℕ, inl, inr, true, false, Option, None, get_or, refl, sym, ap, ◌∙◌, subst, arith, cases_eq, PageKey, FrameNo, Ghosts, Nothing, asks_wider, asks_then, Free, Private, role_of, IsFull, KeepsFrames}
+use Rattle.fault.proofs.Names.{Place, Home, Frame, Slot, IsSectorOfFreeSlot, Core, Picture, picture_of, is_data, IsFit, IsSpareable, NeedsSlot, Frees, ObtainsTable, AsksSwap, AsksSwapAlso, GivesToSwap, SameBeside, asks_same, asks_between}
 use Rattle.fault.specs.Asking.{HasSwappable, MayAsk, AsksIfFull, AsksNoNew, AsksSlotsIf}
 
 -- what a call may ask for, by the steps of it

@@ -1,17 +1,58 @@
--- A page whose entry was set, or that came back from its slot, grants what its region lets be done.
+-- A page that got a frame of its own, whose entry was set, or that came back from its slot grants what its region lets be done.
+use Rattle.fault.proofs.Names.{◌≡◌, ℕ, true, false, Some, Result, Ok, Err, refl, ◌≢◌, Bool, None, subst, IfOk, IfErr, OnErr, Store, Load, Fetch, FrameNo, Stall, Attr, can_write, top_level, Access, lets, Ghosts, bytes_of, IsSound, count_of}
+use Rattle.residency.specs.Picture.{is_private, is_swapped}
 use Rattle.vm_types.specs.declared.mode.Levels as Levels
-use Rattle.vm_types.specs.{Limits.{top_level}, declared.access.Access.{Access}, declared.access.Access.TheVariants.{Load, Store, Fetch}, declared.number.FrameNo.{FrameNo}, declared.refusal.Stall.{Stall}, declared.region.Attr.{Attr}}
-use Rattle.vm_types.specs.Verdict.{lets}
-use Rattle.std.proofs.Common.{◌≡◌, ◌≢◌, ℕ, Bool, true, false, Some, None, Result, Ok, Err, refl, subst}
-use Rattle.std.specs.Prelude.{IfOk, IfErr, OnErr}
-use Rattle.disk_model.specs.declared.sector_disk.SectorDisk.{Ghosts}
-use Rattle.frames.specs.FrameTable.{bytes_of, count_of, IsSound}
-use Rattle.residency.specs.{declared.kernel.Core.{Core}, Picture.{Picture, picture_of, entry, is_private, is_swapped}, Parts.{IsFit, is_shared}, Calls.{Frees, Refuses}, Stalls.{HasStallCause}, Capacity.{IsShort}, Shows.{KeepsFiles}}
-use Rattle.page_tables.specs.{Leaves.{IsEntryOver}, Tree.{IsPage}}
-use Rattle.fault.specs.{Leaves.{IsFullEntry}, Changes.{KeepsSeen, KeepsViews}, Granted.{IsEntered, IsReadyAt}, Outcome.{IsStalled, seen_at}, Shown.{AreShown}, Wants.{ForSlot}}
-use Rattle.fault.proofs.{BroughtIn.{cause_of}, Forms.{mapped_page, over_here}, OwnSteps.{full_own}, Keeping.{away_keeps}, Opening.{reads_too}, Ready.{shown_there}}
-use Rattle.fault.proofs.{Settled.{readable, ready_read, entered_read, entered_store, entered_ready, ready_own, owned_entry, ready_after}, AccessSteps.{ok_from, no_store}}
-use Rattle.page_tables.proofs.Bits.{over_some}
+use Rattle.fault.specs.{Changes.{IsCalm, IsLinked, KeepsViews, KeepsOtherViews, Moves, copied_frame, is_sole, shown_bytes, KeepsSeen}, Granted.{IsEntered, IsReadyAt}, Outcome.{IsStalled, seen_at}, Wants.{Wants, ForStore, ForSlot}}
+use Rattle.fault.{specs.{Leaves.{IsFullEntry}, Shown.{AreShown}}, proofs.{AccessSteps.{cause_of, no_store}, Wanted.{copy_keeps, away_keeps, sole_there}}}
+use Rattle.fault.proofs.{Settled.{reads_too, entered_store, entered_ready, ready_own, owned_entry, copy_shown, readable, ready_read, entered_read, ready_after}, Forms.{mapped_page, over_here}, OwnSteps.{full_own}, Ready.{shown_there}}
+use Rattle.fault.proofs.{Names.{Core, Picture, picture_of, entry, IsFit, IsBehind, is_shared, Frees, Refuses, HasStallCause, IsShort, KeepsFiles, IsEntryOver, IsPage, over_some}, Steps.{seen_none}}
+
+module _ {mode : ℕ} (old new : Picture mode) (pid page : ℕ) (a : Attr) (sound : IsSound old.frames) (fit : IsFit new) (sound' : IsSound new.frames) (now : new.at pid page ≡ Some a)
+    (alone : is_shared a.backing ≡ false) (writable : can_write a.prot ≡ true) (here : is_swapped (entry old pid page) ≡ false)
+    (memory : is_private (entry old pid page) ≡ false → (m : ℕ) × IsBehind old a.backing m)
+    (stays : (m : ℕ) → is_private (entry old pid page) ≡ false → IsBehind old a.backing m → IsBehind new a.backing m × (bytes_of new.frames m ≡ bytes_of old.frames m))
+    (others : KeepsOtherViews old new pid page) (files : KeepsFiles old new) where
+  one_ready : (n : FrameNo) → bytes_of new.frames n.0 ≡ shown_bytes old pid page a → IsEntryOver (entry new pid page) a.prot n.0 true true true → IsReadyAt old new pid page a Store n.0
+  one_ready n bytes over =
+      ready_own old new pid page a n.0 alone
+      (owned_entry old new pid page a n.0 fit sound' now alone (reads_too new pid page a fit now writable) over
+      (copy_shown old new pid page a (bytes_of new.frames n.0) sound here memory stays bytes) others files.touched)
+
+  pub owned_ready : (r : Result FrameNo Stall) → IfOk r (λ n. bytes_of new.frames n.0 ≡ shown_bytes old pid page a) → IfOk r (λ n. IsEntryOver (entry new pid page) a.prot n.0 true true true)
+      → IfOk r (λ n. IsReadyAt old new pid page a Store n.0)
+  owned_ready (Ok n) bytes over = one_ready n bytes over
+  owned_ready (Err s) bytes over = tt
+
+  pub owned_entered : (r : Result FrameNo Stall) → IfOk r (λ n. bytes_of new.frames n.0 ≡ shown_bytes old pid page a) → IfOk r (λ n. IsEntryOver (entry new pid page) a.prot n.0 true true true)
+      → IfOk r (λ n. IsEntered new pid page a Store n.0)
+  owned_entered (Ok n) bytes over = entered_store new pid page a n.0 true (reads_too new pid page a fit now writable) over (entered_ready Store old new pid page a n.0 (one_ready n bytes over))
+  owned_entered (Err s) bytes over = tt
+
+module _ {M : Type 0} {m : Levels.Ghosts M} {D E : Type 0} (old new : Core D E M m) (pid page : ℕ) (a : Attr) (was : (picture_of old).at pid page ≡ Some a) (alone : is_shared a.backing ≡ false) where
+  -- where no frame is wanted the page has its own
+  pub owned_calm : (is_sole (picture_of old) (entry (picture_of old) pid page) ≡ true → IsCalm old new pid page) → (Wants (picture_of old) pid page Store → ⊥) → IsCalm old new pid page
+  owned_calm calm none = calm (sole_there (picture_of old) pid page a was alone none)
+
+  module _ (g : Ghosts D) (h : Ghosts E) where
+    pub owned_stalled : (r : Result FrameNo Stall) → IsLinked (picture_of old) pid page → is_swapped (entry (picture_of old) pid page) ≡ false
+        → (is_private (entry (picture_of old) pid page) ≡ false → (n : ℕ) × IsBehind (picture_of old) a.backing n)
+        → ((n : ℕ) → is_private (entry (picture_of old) pid page) ≡ false → IsBehind (picture_of old) a.backing n → IsBehind (picture_of new) a.backing n × (bytes_of new.frames n ≡ bytes_of old.frames n))
+        → Moves h old new → KeepsFiles (picture_of old) (picture_of new) → OnErr r (KeepsViews (picture_of old) (picture_of new))
+        → OnErr r (Frees (picture_of old) (picture_of new) (copied_frame (picture_of old) pid page a)) → OnErr r (is_sole (picture_of old) (entry (picture_of old) pid page) ≡ false) → HasStallCause h old new r
+        → IfErr r (IsShort (picture_of new)) → IfErr r (Refuses (picture_of new) (copied_frame (picture_of old) pid page a)) → IfErr r (IsStalled g h old new pid page Store)
+    owned_stalled (Ok n) linked here memory stays moves files views frees several cause short refuses = tt
+    owned_stalled (Err s) linked here memory stays moves files views frees several cause short refuses = record {
+      keeps = record { views = views; touched = files.touched };
+      cause = cause_of g h old new s moves.store cause;
+      short = short;
+      refused = λ other. record {
+        keep = copied_frame (picture_of old) pid page a;
+        keeps = copy_keeps (picture_of old) (picture_of new) pid page a linked was alone here memory stays moves.fit moves.spaces moves.tables views frees;
+        refuses = refuses;
+      };
+      wanted = ForStore a refl was alone several;
+      home = λ is. absurd (no_store h old new s cause is);
+    }
 
 -- a page that is to be read
 module _ {mode : ℕ} (old new : Picture mode) (pid page : ℕ) (a : Attr) (access : Access) (n : ℕ) (private write stored : Bool) (fit : IsFit new) (sound : IsSound new.frames) (was : old.at pid page ≡ Some a)
@@ -22,16 +63,12 @@ module _ {mode : ℕ} (old new : Picture mode) (pid page : ℕ) (a : Attr) (acce
   pub read_entered : IsEntered new pid page a access n
   read_entered = entered_read access new pid page a n private write stored other allowed over (entered_ready access old new pid page a n read_ready)
 
-keeps_all : {mode : ℕ} (c : Picture mode) → KeepsSeen c c
-keeps_all c = record { views = λ q k. refl; touched = λ p. refl }
-
 -- a page that came back from its slot
 module _ {mode : ℕ} (new : Picture mode) (pid page : ℕ) (a : Attr) (fit : IsFit new) (sound : IsSound new.frames) (now : new.at pid page ≡ Some a) (alone : is_shared a.backing ≡ false) (n : ℕ)
     (full : IsFullEntry new a n true (entry new pid page)) (one : count_of new.frames n ≡ 1) where
   own_shown : AreShown new (seen_at new pid page a) (bytes_of new.frames n)
   own_shown =
-      let P : ℕ → Type 0 = λ x. AreShown new (seen_at new pid page a) (bytes_of new.frames x) in
-      subst P full.names
+      subst (λ (x : ℕ). AreShown new (seen_at new pid page a) (bytes_of new.frames x)) full.names
       (shown_there new pid page a fit sound (mapped_page new pid page a fit.granting now) now (over_some (entry new pid page) a.prot n true _ _ full)
       (over_here (entry new pid page) a n true _ _ full))
 
@@ -39,8 +76,8 @@ module _ {mode : ℕ} (new : Picture mode) (pid page : ℕ) (a : Attr) (fit : Is
   stores allowed = full_own new a n (entry new pid page) one allowed full
 
   self_ready : (access : Access) → lets access a.prot ≡ true → IsReadyAt new new pid page a access n
-  self_ready Load allowed = readable new new pid page a n true _ _ fit sound now now (keeps_all new) full
-  self_ready Fetch allowed = readable new new pid page a n true _ _ fit sound now now (keeps_all new) full
+  self_ready Load allowed = readable new new pid page a n true _ _ fit sound now now (seen_none new) full
+  self_ready Fetch allowed = readable new new pid page a n true _ _ fit sound now now (seen_none new) full
   self_ready Store allowed =
       ready_own new new pid page a n alone
       (owned_entry new new pid page a n fit sound now alone (reads_too new pid page a fit now allowed) (stores allowed) own_shown (λ q k other. refl) (λ p. refl))
@@ -54,19 +91,13 @@ module _ {mode : ℕ} (new : Picture mode) (pid page : ℕ) (a : Attr) (fit : Is
 module _ {mode : ℕ} (old new : Picture mode) (pid page : ℕ) (a : Attr) (access : Access) (fit : IsFit new) (sound : IsSound new.frames) (now : new.at pid page ≡ Some a) (alone : is_shared a.backing ≡ false)
     (allowed : lets access a.prot ≡ true) where
   pub swapped_entered : (r : Result FrameNo Stall) → IfOk r (λ n. IsFullEntry new a n.0 true (entry new pid page)) → IfOk r (λ n. count_of new.frames n.0 ≡ 1) → IfOk r (λ n. IsEntered new pid page a access n.0)
-  swapped_entered r full one =
-      let P : FrameNo → Type 0 = λ n. IsFullEntry new a n.0 true (entry new pid page) in
-      let R : FrameNo → Type 0 = λ n. count_of new.frames n.0 ≡ 1 in
-      let Q : FrameNo → Type 0 = λ n. IsEntered new pid page a access n.0 in
-      ok_from P R Q r (λ n f o. self_entered new pid page a fit sound now alone n.0 f o access allowed) full one
+  swapped_entered (Ok n) full one = self_entered new pid page a fit sound now alone n.0 full one access allowed
+  swapped_entered (Err s) full one = tt
 
   pub swapped_ready : (r : Result FrameNo Stall) → old.at pid page ≡ Some a → KeepsSeen old new → IfOk r (λ n. IsFullEntry new a n.0 true (entry new pid page)) → IfOk r (λ n. count_of new.frames n.0 ≡ 1)
       → IfOk r (λ n. IsReadyAt old new pid page a access n.0)
-  swapped_ready r was keeps full one =
-      let P : FrameNo → Type 0 = λ n. IsFullEntry new a n.0 true (entry new pid page) in
-      let R : FrameNo → Type 0 = λ n. count_of new.frames n.0 ≡ 1 in
-      let Q : FrameNo → Type 0 = λ n. IsReadyAt old new pid page a access n.0 in
-      ok_from P R Q r (λ n f o. ready_after old new new pid page a access n.0 was now keeps (self_ready new pid page a fit sound now alone n.0 f o access allowed)) full one
+  swapped_ready (Ok n) was keeps full one = ready_after old new new pid page a access n.0 was now keeps (self_ready new pid page a fit sound now alone n.0 full one access allowed)
+  swapped_ready (Err s) was keeps full one = tt
 
 -- or stayed there
 module _ {M : Type 0} {m : Levels.Ghosts M} {D E : Type 0} (g : Ghosts D) (h : Ghosts E) (old new : Core D E M m) (pid page : ℕ) (access : Access) where

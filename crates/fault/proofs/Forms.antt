@@ -1,19 +1,12 @@
 -- The fullest entry of a page fits it, and the frame of a page with an entry is in use.
-use Rattle.vm_types.proofs.Modes.{user_pages_fit}
-use Rattle.vm_types.specs.{Limits.{top_level}, declared.object.PageKey.{PageKey}, declared.object.PageKey.TheVariants.{File, Object}, declared.region.Attr.{Attr}, Attributes.{stands_on}, declared.region.Backing.{Backing}}
-use Rattle.vm_types.specs.{declared.region.Backing.TheVariants.{Anon, Private, Shared, Common}, Verdict.{is_past_end}}
-use Rattle.std.proofs.{Common.{◌≡◌, ◌≢◌, ℕ, inl, inr, Bool, true, false, Option, Some, None, length, refl, sym, ap, ◌∙◌, subst, arith, eqb-true}, lemmas.Bool.{cases_Bool, cases_lt, false≢true}, lemmas.List.{get_or_past}}
-use Rattle.std.specs.Prelude.{◌&&◌}
+use Rattle.fault.proofs.Names.{user_pages_fit, top_level, PageKey, File, Object, Attr, stands_on, Backing, Anon, Shared, Common, is_past_end, ◌≡◌, ◌≢◌, ℕ, inl, inr, Bool, true, false, Option, Some, None, length, refl, sym, ap, ◌∙◌, subst}
+use Rattle.fault.proofs.Names.{arith, eqb-true, cases_Bool, cases_lt, false≢true, get_or_past, same_Some, ◌&&◌, FrameTable, IsFrame, IsSound, role_of, count_of, is_valid, is_dirty, frame_of, has_bit, IsPage, IsLeaf, IsEntryOver, is_barred}
+use Rattle.fault.proofs.Names.{Home, Frame, InFrame, InSlot, seat, is_private, is_swapped, Picture, entry, IsGranting, IsEntryFor, Resident, Away, IsResident, IsBehind, IsWithin, HasPlaces, IsFit, is_shared, seat_own, seat_common}
+use Rattle.residency.specs.Parts.{Nothing}
+use Rattle.vm_types.specs.declared.region.Backing.TheVariants.{Private}
 use Rattle.vm_types.specs.Permission as Permission
 use Rattle.frames.specs.declared.role.Role.TheVariants as Role
-use Rattle.frames.specs.FrameTable.{FrameTable, IsFrame, IsSound, role_of, count_of}
-use Rattle.sv39_walk.specs.Entry.{is_valid, is_dirty, frame_of, has_bit}
-use Rattle.page_tables.specs.{Tree.{IsPage}, Leaves.{IsLeaf, IsEntryOver, is_barred}}
-use Rattle.page_cache.specs.declared.place.Place.TheVariants.{Home, Frame}
-use Rattle.residency.specs.{Seats.{InFrame, InSlot, seat, is_private, is_swapped}, Picture.{Picture, entry}, Parts.{IsGranting, IsEntryFor, Nothing, Resident, Away, IsResident, IsBehind, IsWithin, HasPlaces, IsFit, is_shared}}
-use Rattle.residency.proofs.{SeatForms.{seat_own, seat_common, seat_away}, Start.{seat-none}}
-use Rattle.fault.specs.Leaves.{IsFullEntry, is_touched_behind, full_write}
-use Rattle.page_tables.proofs.Bits.{parked_invalid, parked_framed}
+use Rattle.fault.{specs.Leaves.{IsFullEntry, is_touched_behind, full_write}, proofs.Names.{seat_away, seat-none, parked_invalid, parked_framed}}
 
 and_left : (a b : Bool) → (a && b) ≡ true → a ≡ true
 and_left true b e = refl
@@ -89,9 +82,6 @@ full_entry c attr a frame private e at full alone behind inside = Resident a at 
   ];
 })
 
-same_key : (p q : PageKey) → Some p ≡ Some q → p ≡ q
-same_key p q e = cc
-
 touched_there : {mode : ℕ} (c : Picture mode) (b : Backing) (frame : ℕ) (p : PageKey) → HasPlaces c → IsBehind c b frame → is_touched_behind c b ≡ true
     → c.place p ≡ Frame (record { 0 = frame }) → c.touched p ≡ true
 touched_there c Anon frame p places behind touched here = absurd (false≢true touched)
@@ -119,14 +109,11 @@ used_inside t n sound used = elim (cases_lt n (length t.roles)) [
   | inr past ↦ absurd (used (get_or_past t.roles n Role.Free past))
 ]
 
-some_same : (attr : Option Attr) (a b : Attr) → attr ≡ Some a → attr ≡ Some b → a ≡ b
-some_same attr a b e f = let both : Some a ≡ Some b = sym e ∙ f in (cc)
-
 is_resident : {mode : ℕ} (c : Picture mode) (attr : Option Attr) (a : Attr) (e : ℕ) → attr ≡ Some a → e ≢ 0 → is_swapped e ≡ false → IsEntryFor c attr e → IsResident c a e
 is_resident c attr a e at some here (Nothing none) = absurd (some none)
 is_resident c attr a e at some here (Away b is away) = absurd (false≢true (sym here ∙ away.swapped))
 is_resident c attr a e at some here (Resident b is resident) =
-    let P : Attr → Type 0 = λ x. IsResident c x e in subst P (some_same attr b a is at) resident
+    let P : Attr → Type 0 = λ x. IsResident c x e in subst P (same_Some b a (sym is ∙ at)) resident
 
 -- what the entry of a page says that lies in a frame
 pub resident_page : {mode : ℕ} (c : Picture mode) (pid page : ℕ) (a : Attr) → IsGranting c → IsPage (top_level mode) page → c.at pid page ≡ Some a → entry c pid page ≢ 0 → is_swapped (entry c pid page) ≡ false
@@ -135,15 +122,15 @@ resident_page c pid page a granting h at some here = is_resident c (c.at pid pag
 
 pub behind_of : {mode : ℕ} (c : Picture mode) (b : Backing) (p : PageKey) (n : ℕ) → stands_on b ≡ Some p → c.place p ≡ Frame (record { 0 = n }) → IsBehind c b n
 behind_of c Anon p n is at = (cc)
-behind_of c (Private q) p n is at = ap c.place (same_key (File q) p is) ∙ at
-behind_of c (Shared q) p n is at = ap c.place (same_key (File q) p is) ∙ at
-behind_of c (Common q) p n is at = ap c.place (same_key (Object q) p is) ∙ at
+behind_of c (Private q) p n is at = ap c.place (same_Some (File q) p is) ∙ at
+behind_of c (Shared q) p n is at = ap c.place (same_Some (File q) p is) ∙ at
+behind_of c (Common q) p n is at = ap c.place (same_Some (Object q) p is) ∙ at
 
 pub touched_of : {mode : ℕ} (c : Picture mode) (b : Backing) (p : PageKey) → is_shared b ≡ true → stands_on b ≡ Some p → is_touched_behind c b ≡ c.touched p
 touched_of c Anon p shared is = absurd (false≢true shared)
 touched_of c (Private q) p shared is = absurd (false≢true shared)
-touched_of c (Shared q) p shared is = ap c.touched (same_key (File q) p is)
-touched_of c (Common q) p shared is = ap c.touched (same_key (Object q) p is)
+touched_of c (Shared q) p shared is = ap c.touched (same_Some (File q) p is)
+touched_of c (Common q) p shared is = ap c.touched (same_Some (Object q) p is)
 
 pub behind_used : {mode : ℕ} (c : Picture mode) (b : Backing) (n : ℕ) → IsSound c.frames → HasPlaces c → IsBehind c b n → role_of c.frames n ≢ Role.Free
 behind_used c Anon n sound places behind free =
@@ -198,10 +185,9 @@ seat_zero e none = ap seat none ∙ seat-none
 shared_seat : {mode : ℕ} (c : Picture mode) (attr : Option Attr) (a : Attr) (e : ℕ) → attr ≡ Some a → is_shared a.backing ≡ true → IsEntryFor c attr e → seat e ≡ None
 shared_seat c attr a e at shared (Nothing none) = seat_zero e none
 shared_seat c attr a e at shared (Away b is away) =
-    let P : Attr → Type 0 = λ x. is_shared x.backing ≡ false in absurd (false≢true (sym (subst P (some_same attr b a is at) away.not_shared) ∙ shared))
+    let P : Attr → Type 0 = λ x. is_shared x.backing ≡ false in absurd (false≢true (sym (subst P (same_Some b a (sym is ∙ at)) away.not_shared) ∙ shared))
 shared_seat c attr a e at shared (Resident b is resident) =
-    let P : Attr → Type 0 = λ x. is_shared x.backing ≡ true in
-    let there = subst P (some_same attr a b at is) shared in
+    let there = subst (λ (x : Attr). is_shared x.backing ≡ true) (same_Some a b (sym at ∙ is)) shared in
     elim (cases_Bool (is_private e)) [
       | inl own ↦ absurd (false≢true (sym (resident.private own) ∙ there))
       | inr common ↦ elim (cases_Bool (is_valid e)) [

@@ -1,18 +1,80 @@
--- An access goes on after the tables on its way were linked.
+-- An access goes on after the tables on its way were linked, or after the file page of its page was brought into a frame.
+use Rattle.fault.proofs.Names.{top_level, Access, PageKey, FrameNo, Stall, StoreDevice, File, Attr, Backing, Anon, Shared, Common, is_past_end_of, is_past_end, ◌≡◌, ◌≢◌, ℕ, false, inl, inr, ◌⊎◌, None, Result, Ok, Err, refl, sym, ◌∙◌, subst}
+use Rattle.fault.proofs.Names.{true, Some, ap, false≢true, IfErr, IfOk, Ghosts, FileStore, IsPage, Frame, Core, Picture, picture_of, held, entry, IsFit, Frees, Refuses, UsesDevice, KeepsPages, HasStallCause, ReadCause, StallCause, IsShort}
+use Rattle.vm_types.specs.declared.region.Backing.TheVariants.{Private}
 use Rattle.vm_types.specs.declared.mode.Levels as Levels
-use Rattle.vm_types.specs.{Limits.{top_level}, declared.access.Access.{Access}, declared.object.PageKey.{PageKey}, declared.object.PageKey.TheVariants.{File}, declared.number.FrameNo.{FrameNo}, declared.refusal.Stall.{Stall}}
-use Rattle.vm_types.specs.{declared.region.Attr.{Attr}, declared.region.Backing.{Backing}, declared.region.Backing.TheVariants.{Anon, Private, Shared, Common}, Files.{is_past_end_of}, Verdict.{is_past_end}}
-use Rattle.std.proofs.{Common.{◌≡◌, ℕ, inl, inr, ◌⊎◌, true, false, None, Some, Result, refl, sym, ap, ◌∙◌, subst}, lemmas.Bool.{false≢true}}
-use Rattle.std.specs.Prelude.{IfOk, IfErr}
-use Rattle.disk_model.specs.declared.sector_disk.SectorDisk.{Ghosts}
-use Rattle.file_store.specs.declared.store.FileStore.{FileStore}
-use Rattle.page_tables.specs.Tree.{IsPage}
-use Rattle.page_tables.proofs.Ends.{page_entry-missing}
-use Rattle.residency.specs.{declared.kernel.Core.{Core}, Ages.{GivesForTables}, Seats.{is_swapped}, Picture.{Picture, picture_of, entry}, Calls.{KeepsPages, Refuses}, Stalls.{StallCause}, Capacity.{IsShort}, Ways.{IsWhole}}
-use Rattle.residency.proofs.Entries.{entry-of}
-use Rattle.fault.specs.{Changes.{IsCalm, KeepsBare, LinksTables, Moves}, Files.{BringsPages, BringsFiles}, Found.{IsOpenTo}, Granted.{IsReadyAt}, Outcome.{IsStalled}, Wants.{LacksTable, ShowsFile, Wants, ForTable, ReadsHome}}
-use Rattle.fault.proofs.{BroughtIn.{cause_of}, Forms.{none_here, seat_zero}, Steps.{seen_then}, Keeping.{unlinked_keeps}, Settled.{ready_after}, AccessSteps.{keeps_seen, brings_after, cause_then, ok_then, stall_then, no_store}}
-use Rattle.fault.proofs.Wanted.{whole_or, shows_back}
+use Rattle.fault.specs.{Changes.{IsCalm, KeepsSeen, KeepsSpaces, KeepsBare, LinksTables, Moves}, Files.{BringsPages, BringsFiles, IsInStore}, Outcome.{IsStalled}, Wants.{ShowsFile, Wants, ReadsHome, LacksTable, ForTable}, Found.{IsOpenTo}}
+use Rattle.fault.{specs.Granted.{IsReadyAt}, proofs.{Steps.{seen_then, files_same}, Wanted.{nowhere_keeps, unlinked_keeps, page_there, there_or, reads_home, whole_or, shows_back}}}
+use Rattle.fault.proofs.{Names.{GivesForTables, is_swapped, IsWhole, page_entry-missing, entry-of}, AccessSteps.{brings_after, brings_then, cause_then, no_store, cause_of, keeps_seen}, Forms.{none_here, seat_zero}, Settled.{ready_after}}
+
+-- The file page of its page was brought into a frame.
+module _ {M : Type 0} {m : Levels.Ghosts M} {D E : Type 0} (old mid : Core D E M m) (pid page : ℕ) (p : PageKey) (shows : ShowsFile (picture_of old) pid page p) where
+  only : (q : PageKey) → q ≡ p → ShowsFile (picture_of old) pid page q
+  only q is = let P : PageKey → Type 0 = λ x. ShowsFile (picture_of old) pid page x in subst P (sym is) shows
+
+  pub read_then : (new : FileStore D) → IsFit (picture_of old) → new ≡ mid.store → (mid.store ≡ old.store) ⊎ IsInStore (picture_of old) p
+      → (new ≡ old.store) ⊎ ReadsHome (picture_of old) pid page
+  read_then new fit same (inl e) = inl (same ∙ e)
+  read_then new fit same (inr home) = inr (reads_home (picture_of old) pid page p fit shows home)
+
+  module _ (idle : (n : FrameNo) → (picture_of old).place p ≡ Frame n → mid ≡ old) where
+    pub wants_then : (access : Access) → Wants (picture_of mid) pid page access → Wants (picture_of old) pid page access
+    wants_then access wants = elim (there_or (picture_of old) pid page access p shows) [
+      | inl there ↦ (let P : Core D E M m → Type 0 = λ k. Wants (picture_of k) pid page access in subst P (idle there.0 there.1) wants)
+      | inr away ↦ away
+    ]
+
+    pub calm_then : (new : Core D E M m) (access : Access) → ((Wants (picture_of mid) pid page access → ⊥) → IsCalm mid new pid page)
+        → (Wants (picture_of old) pid page access → ⊥) → IsCalm old new pid page
+    calm_then new access calm none =
+        let there = page_there (picture_of old) pid page access p shows none in
+        subst (λ (k : Core D E M m). IsCalm k new pid page) (idle there.0 there.1) (calm (λ wants. none (wants_then access wants)))
+
+  module _ (g : Ghosts D) (h : Ghosts E) where
+    pub brings_wider : BringsFiles g h (λ q. q ≡ p) old mid → BringsFiles g h (ShowsFile (picture_of old) pid page) old mid
+    brings_wider brings kept =
+        let W : PageKey → Type 0 = λ q. q ≡ p in
+        brings_after g old.store.disk mid.store.disk W (ShowsFile (picture_of old) pid page) (picture_of old) (picture_of old) (picture_of mid) only (files_same (picture_of old)) (brings kept)
+
+    -- no other came after it
+    pub brings_on : (new : Core D E M m) → BringsFiles g h (λ q. q ≡ p) old mid → KeepsSeen (picture_of old) (picture_of mid) → new.store ≡ mid.store → UsesDevice h mid.swap.pages.disk new.swap.pages.disk
+        → ((q : PageKey) → (held (picture_of new) q ≡ held (picture_of mid) q) ⊎ ((held (picture_of new) q ≡ None) × ((picture_of mid).touched q ≡ false)))
+        → ((f : ℕ) → (picture_of new).files f ≡ (picture_of mid).files f) → BringsFiles g h (ShowsFile (picture_of old) pid page) old new
+    brings_on new brings keeps same device each files kept =
+        let W : PageKey → Type 0 = λ q. q ≡ p in
+        let V = ShowsFile (picture_of old) pid page in
+        subst (λ (s : FileStore D). BringsPages g old.store.disk s.disk V (picture_of old) (picture_of new)) (sym same)
+        (brings_then g old.store.disk mid.store.disk W V (picture_of old) (picture_of mid) (picture_of new) only keeps.touched (brings (device.kept kept)) each files)
+
+    -- it wasn't brought
+    pub stalled_away : (access : Access) (stall : Stall) → IsFit (picture_of old) → KeepsSeen (picture_of old) (picture_of mid) → ((n : FrameNo) → (picture_of old).place p ≡ Frame n → ⊥)
+        → ReadCause g h old mid stall → IsShort (picture_of mid) stall → (stall ≡ StoreDevice → IsInStore (picture_of old) p) → KeepsSpaces (picture_of old) (picture_of mid) → Frees (picture_of old) (picture_of mid) None
+        → (stall ≢ StoreDevice → Refuses (picture_of mid) None stall) → IsStalled g h old mid pid page access stall
+    stalled_away access stall fit keeps never cause short home spaces frees refuses = record {
+      keeps = keeps;
+      cause = cause;
+      short = short;
+      refused = λ other. record { keep = None; keeps = nowhere_keeps (picture_of old) (picture_of mid) pid page access p shows spaces.at keeps frees never; refuses = refuses other };
+      wanted = (elim (there_or (picture_of old) pid page access p shows) [
+        | inl there ↦ absurd (never there.0 there.1)
+        | inr away ↦ away
+      ]);
+      home = λ device. reads_home (picture_of old) pid page p fit shows (home device);
+    }
+
+    -- or a frame was refused afterwards
+    pub stalled_on : (new : Core D E M m) (access : Access) (r : Result FrameNo Stall) → ((n : FrameNo) → (picture_of old).place p ≡ Frame n → mid ≡ old) → KeepsSeen (picture_of old) (picture_of mid)
+        → h.failures mid.swap.pages.disk ≡ h.failures old.swap.pages.disk → mid.refused.number ≡ old.refused.number → g.failures mid.store.disk ≡ g.failures old.store.disk
+        → HasStallCause h mid new r → IfErr r (IsStalled g h mid new pid page access) → IfErr r (IsStalled g h old new pid page access)
+    stalled_on new access (Ok n) idle keeps swap_calm same calm cause stalled = tt
+    stalled_on new access (Err s) idle keeps swap_calm same calm cause stalled = record {
+      keeps = seen_then (picture_of old) (picture_of mid) (picture_of new) keeps stalled.keeps;
+      cause = cause_then g h old mid new s swap_calm same calm stalled.cause;
+      short = stalled.short;
+      refused = stalled.refused;
+      wanted = wants_then idle access stalled.wanted;
+      home = λ is. absurd (no_store h mid new s cause is);
+    }
 
 past_still : {mode : ℕ} (old new : Picture mode) (b : Backing) → ((f : ℕ) → new.files f ≡ old.files f) → is_past_end old.files b ≡ false → is_past_end new.files b ≡ false
 past_still old new Anon files e = e
@@ -47,9 +109,7 @@ module _ {M : Type 0} {m : Levels.Ghosts M} {D E : Type 0} (old mid : Core D E M
 
   pub calm_back : (new : Core D E M m) (access : Access) → ((Wants (picture_of mid) pid page access → ⊥) → IsCalm mid new pid page) → (Wants (picture_of old) pid page access → ⊥) → IsCalm old new pid page
   calm_back new access calm none = elim (whole_or (picture_of old) pid page lives) [
-    | inl whole ↦ (
-        let P : Core D E M m → Type 0 = λ k. IsCalm k new pid page in
-        subst P (idle whole) (calm (λ wants. none (wants_back access wants))))
+    | inl whole ↦ subst (λ (k : Core D E M m). IsCalm k new pid page) (idle whole) (calm (λ wants. none (wants_back access wants)))
     | inr lacks ↦ absurd (none (ForTable lacks))
   ]
 
@@ -89,35 +149,28 @@ module _ {M : Type 0} {m : Levels.Ghosts M} {D E : Type 0} (old mid : Core D E M
 
   pub ready_back : (new : Picture m.mode) (a : Attr) (access : Access) (r : Result FrameNo Stall) → (picture_of old).at pid page ≡ Some a
       → IfOk r (λ n. IsReadyAt (picture_of mid) new pid page a access n.0) → IfOk r (λ n. IsReadyAt (picture_of old) new pid page a access n.0)
-  ready_back new a access r was ready =
-      let P : FrameNo → Type 0 = λ n. IsReadyAt (picture_of mid) new pid page a access n.0 in
-      let Q : FrameNo → Type 0 = λ n. IsReadyAt (picture_of old) new pid page a access n.0 in
-      ok_then P Q r (λ n. ready_after (picture_of old) (picture_of mid) new pid page a access n.0 was (pages.at pid page ∙ was) (keeps_seen (picture_of old) (picture_of mid) pages)) ready
+  ready_back new a access (Ok n) was ready = ready_after (picture_of old) (picture_of mid) new pid page a access n.0 was (pages.at pid page ∙ was) (keeps_seen (picture_of old) (picture_of mid) pages) ready
+  ready_back new a access (Err s) was ready = tt
 
   module _ (g : Ghosts D) (h : Ghosts E) (moves : Moves h old mid) where
     pub brings_back : (new : Core D E M m) → BringsFiles g h (ShowsFile (picture_of mid) pid page) mid new → BringsFiles g h (ShowsFile (picture_of old) pid page) old new
     brings_back new brings kept =
         let W = ShowsFile (picture_of mid) pid page in
         let V = ShowsFile (picture_of old) pid page in
-        let P : FileStore D → Type 0 = λ s. BringsPages g s.disk new.store.disk V (picture_of old) (picture_of new) in
-        subst P moves.store
+        subst (λ (s : FileStore D). BringsPages g s.disk new.store.disk V (picture_of old) (picture_of new)) moves.store
         (brings_after g mid.store.disk new.store.disk W V (picture_of old) (picture_of mid) (picture_of new) shows_before pages.files (brings kept))
 
-    one_stalled : IsWhole (picture_of mid) pid page → GivesForTables (picture_of old) (picture_of mid) None → LinksTables (picture_of old) (picture_of mid) pid page → (new : Core D E M m) (access : Access) (stall : Stall) → mid.refused.number ≡ old.refused.number → h.failures mid.swap.pages.disk ≡ h.failures old.swap.pages.disk
-        → IsStalled g h mid new pid page access stall → IsStalled g h old new pid page access stall
-    one_stalled linked gives tables new access stall same swap_calm stalled = record {
+    pub stalled_back : IsWhole (picture_of mid) pid page → GivesForTables (picture_of old) (picture_of mid) None → LinksTables (picture_of old) (picture_of mid) pid page → (new : Core D E M m) (access : Access) (r : Result FrameNo Stall) → mid.refused.number ≡ old.refused.number → h.failures mid.swap.pages.disk ≡ h.failures old.swap.pages.disk
+        → IfErr r (IsStalled g h mid new pid page access) → IfErr r (IsStalled g h old new pid page access)
+    stalled_back linked gives tables new access (Ok n) same swap_calm stalled = tt
+    stalled_back linked gives tables new access (Err s) same swap_calm stalled = record {
       keeps = seen_then (picture_of old) (picture_of mid) (picture_of new) (keeps_seen (picture_of old) (picture_of mid) pages) stalled.keeps;
-      cause = cause_then g h old mid new stall swap_calm same (ap (λ s. g.failures s.disk) moves.store) stalled.cause;
+      cause = cause_then g h old mid new s swap_calm same (ap (λ s. g.failures s.disk) moves.store) stalled.cause;
       short = stalled.short;
       refused = stalled.refused;
       wanted = wants_back access stalled.wanted;
       home = λ device. home_back linked gives tables (stalled.home device);
     }
-
-    pub stalled_back : IsWhole (picture_of mid) pid page → GivesForTables (picture_of old) (picture_of mid) None → LinksTables (picture_of old) (picture_of mid) pid page → (new : Core D E M m) (access : Access) (r : Result FrameNo Stall) → mid.refused.number ≡ old.refused.number → h.failures mid.swap.pages.disk ≡ h.failures old.swap.pages.disk
-        → IfErr r (IsStalled g h mid new pid page access) → IfErr r (IsStalled g h old new pid page access)
-    stalled_back linked gives tables new access r same swap_calm stalled =
-        stall_then (IsStalled g h mid new pid page access) (IsStalled g h old new pid page access) r (λ s. one_stalled linked gives tables new access s same swap_calm) stalled
 
     -- no frame was had for a table
     pub stalled_tables : (access : Access) (stall : Stall) → StallCause h old mid stall → IsShort (picture_of mid) stall → Refuses (picture_of mid) None stall → (IsWhole (picture_of mid) pid page → ⊥)

@@ -1,23 +1,12 @@
 -- A frame of its own given to a page, with the bytes that it showed.
-use Rattle.vm_types.specs.declared.mode.Levels as Levels
-use Rattle.vm_types.specs.{Limits.{top_level}, declared.object.PageKey.{PageKey}, declared.object.PageKey.TheVariants.{File, Object}, declared.region.Attr.{Attr}, declared.region.Backing.{Backing}, Permission.{can_write}}
-use Rattle.std.proofs.{Common.{◌≡◌, ◌≢◌, ℕ, inl, inr, Bool, true, false, Some, get_or, refl, sym, ap, ◌∙◌, subst, eq-eqb, ne_eqb}, lemmas.Bool.{cases_Bool}}
-use Rattle.std.specs.Prelude.{◌&&◌, ◌==◌, option_map}
-use Rattle.vm_types.specs.declared.region.Backing.TheVariants as Backings
-use Rattle.disk_model.specs.declared.sector_disk.SectorDisk.{Ghosts}
-use Rattle.frames.specs.{declared.role.Role.TheVariants.{Free, Table, Private}, FrameTable.{IsFrame, IsSound, bytes_of, role_of, count_of, Releases}}
-use Rattle.sv39_walk.specs.Entry.{frame_of}
-use Rattle.page_tables.specs.{Tree.{IsPage}, Leaves.{IsEntryOver}}
-use Rattle.page_cache.specs.declared.place.Place.TheVariants.{Frame}
-use Rattle.residency.specs.{declared.kernel.Core.{Core}, Seats.{Seat, InFrame, InSlot, is_private, is_swapped}, Calls.{Frees}, Picture.{Picture, picture_of, entry, view, view_of, bytes_in}, Parts.{IsFit, IsFitBut, IsBehind}}
-use Rattle.residency.specs.Steps.{SameBeside}
-use Rattle.residency.proofs.{Callers.{shown_stays}, Evicted.{fit_released}, Handed.{release_spares, same}, SeatForms.{seat_own, seat_common}}
+use Rattle.fault.proofs.Names.{top_level, PageKey, File, Object, Attr, Backing, can_write, ◌≡◌, ◌≢◌, ℕ, inl, inr, Bool, true, false, Some, get_or, refl, sym, ap, ◌∙◌, subst, eq-eqb, ne_eqb, cases_Bool, same_Some, ◌&&◌, ◌==◌, option_map}
+use Rattle.fault.proofs.Names.{Ghosts, Free, Table, Private, IsFrame, IsSound, bytes_of, role_of, count_of, Releases, frame_of, IsPage, IsEntryOver, Frame, Core, Seat, InFrame, InSlot, is_private, is_swapped, Frees, Picture, picture_of}
+use Rattle.fault.proofs.Names.{entry, view, view_of, bytes_in, IsFit, IsFitBut, IsBehind, SameBeside, shown_stays, fit_released, release_spares, same, seat_own, seat_common}
 use Rattle.fault.specs.{declared.spot.Spot.{Spot}, Leaves.{IsFullEntry}, Changes.{IsLinked, TakesCopy, frame_of_place, frame_behind, shown_frame, is_sole}, OwnFrames.{IsOwnable}}
-use Rattle.fault.proofs.{Aside.{KeepsAside, aside_then, aside_released}, Forms.{mapped_page, behind_used, behind_datum, own_role, used_inside}}
-use Rattle.fault.proofs.Settling.{HasFrame, GivesFrame, fit_given, fit_seated, entry_given, bytes_given, count_given, view_given, aside_given}
-
-some_attr : (a b : Attr) → Some a ≡ Some b → a ≡ b
-some_attr a b e = (cc)
+use Rattle.fault.proofs.Settling.{KeepsAside, aside_then, aside_released, HasFrame, GivesFrame, fit_given, fit_seated, entry_given, bytes_given, count_given, view_given, aside_given}
+use Rattle.fault.proofs.Forms.{mapped_page, behind_used, behind_datum, own_role, used_inside}
+use Rattle.vm_types.specs.declared.mode.Levels as Levels
+use Rattle.vm_types.specs.declared.region.Backing.TheVariants as Backings
 
 seat_number : Seat → ℕ
 seat_number (InFrame n) = n
@@ -56,8 +45,7 @@ shown_common c e b common = rw common refl
 -- the frame that a page shows stands behind it, where it has none of its own
 pub shown_behind : {mode : ℕ} (c : Picture mode) (e : ℕ) (b : Backing) → is_private e ≡ false → ((n : ℕ) × IsBehind c b n) → IsBehind c b (shown_frame c e b)
 shown_behind c e b common there =
-    let P : ℕ → Type 0 = λ x. IsBehind c b x in
-    subst P (sym (shown_common c e b common ∙ behind_is c b there.0 there.1)) there.1
+    subst (λ (x : ℕ). IsBehind c b x) (sym (shown_common c e b common ∙ behind_is c b there.0 there.1)) there.1
 
 pub own_view : {mode : ℕ} (c : Picture mode) (pid page : ℕ) (a : Attr) → c.at pid page ≡ Some a → is_private (entry c pid page) ≡ true
     → view c pid page ≡ Some (record { attr = a; own = Some (bytes_of c.frames (frame_of (entry c pid page))) })
@@ -79,9 +67,8 @@ several_when c e many = elim (cases_Bool (is_private e)) [
 pub full_own : {mode : ℕ} (c : Picture mode) (a : Attr) (n e : ℕ) → count_of c.frames n ≡ 1 → can_write a.prot ≡ true → IsFullEntry c a n true e → IsEntryOver e a.prot n true true true
 full_own c a n e one writable full =
     let both : ((count_of c.frames n == 1) && can_write a.prot) ≡ true = ap (λ x. x && can_write a.prot) (eq-eqb (count_of c.frames n) 1 one) ∙ writable in
-    let P : Bool → Type 0 = λ x. IsEntryOver e a.prot n true x ((count_of c.frames n == 1) && can_write a.prot) in
     let Q : Bool → Type 0 = λ x. IsEntryOver e a.prot n true true x in
-    subst Q both (subst P both full)
+    subst Q both (subst (λ (x : Bool). IsEntryOver e a.prot n true x ((count_of c.frames n == 1) && can_write a.prot)) both full)
 
 module _ {mode : ℕ} where
   -- The frame m holds what the page shows.
@@ -147,7 +134,7 @@ module _ {mode : ℕ} {old : Picture mode} {pid page m : ℕ} {a : Attr} (shows 
       frees = copy.frees;
       fit = copy.fit;
       stays = copy.frees.entries pid page here
-          (shown_stays old (old.at pid page) a.backing (entry old pid page) m (shows.linked.fit.granting.entries pid page here) (λ b is. ap (λ x. x.backing) (some_attr b a (sym is ∙ shows.at)))
+          (shown_stays old (old.at pid page) a.backing (entry old pid page) m (shows.linked.fit.granting.entries pid page here) (λ b is. ap (λ x. x.backing) (same_Some b a (sym is ∙ shows.at)))
           shows.own (λ not_own not_away. shows.common not_own) shows.resident);
       changes = copy.changes;
       role = copy.role;
@@ -200,11 +187,10 @@ module _ {mode : ℕ} {old : Picture mode} {pid page m : ℕ} {a : Attr} (shows 
           copied_shared writable =
               let first = copied_given writable in
               let other : n ≢ m = λ e. apart (sym e) in
-              let P : ℕ → Type 0 = λ e. IsEntryOver e a.prot n true true true in
               record {
                 aside = aside_then first.aside (aside_released set new m fit_set role_shared releases beside);
                 own = (release_spares set new m 0 fit_set role_shared releases beside).pages.views pid page ∙ first.own;
                 bytes = releases.others.bytes n other ∙ first.bytes;
-                entered = subst P (sym (same set new m 0 fit_set role_shared releases beside pid page)) first.entered;
+                entered = subst (λ (e : ℕ). IsEntryOver e a.prot n true true true) (sym (same set new m 0 fit_set role_shared releases beside pid page)) first.entered;
                 sole = releases.others.counts n other ∙ first.sole;
               }

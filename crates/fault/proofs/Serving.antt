@@ -1,21 +1,14 @@
--- What is left of an access to a page, told from its steps.
+-- What is left of an access to a page, told from its steps, in each way of serving it.
+use Rattle.fault.proofs.Names.{◌≡◌, ◌/◌, ℕ, false, inl, ◌⊎◌, Option, None, Result, Ok, Err, refl, ◌∙◌, ◌≢◌, Bool, true, Some, subst, IsErrAnd, Access, FrameNo, Phys, PageKey, Stall, Attr, Width, Store, stands_on, lets, Ghosts, IsReadyStore}
+use Rattle.fault.proofs.Names.{IsFull, IsReady, Frame, Core, Picture, picture_of, held, entry, IsFit, KeepsFiles, seat}
 use Rattle.vm_types.specs.declared.mode.Levels as Levels
-use Rattle.std.proofs.Common.{◌≡◌, ◌/◌, ℕ, false, inl, ◌⊎◌, Option, None, Result, Ok, Err, refl, ◌∙◌}
-use Rattle.std.specs.Prelude.{IsErrAnd}
-use Rattle.vm_types.specs.{declared.access.Access.{Access}, declared.number.FrameNo.{FrameNo}, declared.number.Phys.{Phys}, declared.object.PageKey.{PageKey}, declared.refusal.Stall.{Stall}, declared.region.Attr.{Attr}}
-use Rattle.vm_types.specs.declared.width.Width.{Width}
-use Rattle.disk_model.specs.declared.sector_disk.SectorDisk.{Ghosts}
-use Rattle.file_store.specs.Store.{IsReadyStore}
-use Rattle.frames.specs.FrameTable.{IsFull}
-use Rattle.swap.specs.Slots.{IsReady}
-use Rattle.page_cache.specs.declared.place.Place.TheVariants.{Frame}
-use Rattle.residency.specs.{declared.kernel.Core.{Core}, Picture.{Picture, picture_of, held}, Parts.{IsFit}, Shows.{KeepsFiles}}
-use Rattle.fault.specs.{Asking.{AsksIfFull}, Changes.{AddsNoTable, Enters, IsCalm, IsThatPage, KeepsOtherViews, KeepsSlotted, Moves}, PagingIn.{PagesIn}, AccessAsking.{IsSectorOfItsSlot}, declared.refusal.AccessRefusal.{AccessRefusal}}
-use Rattle.fault.specs.{Outcome.{IsStalled, IsWalked, Stalls}, Serving.{Reaches, Serves, Tends}, Wants.{ShowsFile, Wants}}
-use Rattle.fault.proofs.{NoTables.{no_table_calm, no_table_none, no_table_then}, Steps.{moves_entered, moves_none}, TablesGiven.{links_no_table}, AccessAsking.{asks_brought, asks_calm, asks_less, asks_same, asks_still, now_out}}
-use Rattle.fault.proofs.{Brought.{brings_on, brings_wider, calm_then, read_then, stalled_away}, AccessSlotted.{slotted_brought, slotted_calm, slotted_on, slotted_own, slotted_same}, AccessSteps.{brings_none, proceeds_moves, proceeds_then}}
-use Rattle.fault.proofs.Wanted.{calm_same, page_there, refused_as, stalled_as}
 use Rattle.fault.specs.declared.refusal.AccessRefusal.TheVariants as Refusal
+use Rattle.fault.specs.{Asking.{AsksIfFull}, Changes.{AddsNoTable, Enters, IsCalm, IsThatPage, KeepsOtherViews, KeepsSlotted, Moves, StandsAt}, PagingIn.{PagesIn, MayBring}, AccessAsking.{IsSectorOfItsSlot}}
+use Rattle.fault.specs.{declared.refusal.AccessRefusal.{AccessRefusal}, Outcome.{IsStalled, IsWalked, Stalls}, Serving.{Reaches, Serves, Tends}, Wants.{ShowsFile, Wants}, declared.spot.Spot.{Spot}, Found.{IsOpenTo}}
+use Rattle.fault.{specs.{FramesShown.{ShowsFrame}, SpotServing.{MayServeAt}}, proofs.{Steps.{no_table_calm, no_table_none, no_table_then, moves_entered, moves_none, stands_kept, slotted_calm, files_same}, WaySteps.{links_no_table}}}
+use Rattle.fault.proofs.{AccessAsking.{asks_brought, asks_calm, asks_less, asks_same, asks_still, now_out}, Linked.{brings_on, brings_wider, calm_then, read_then, stalled_away, open_still}}
+use Rattle.fault.proofs.{AccessSlotted.{slotted_brought, slotted_on, slotted_own, slotted_same}, AccessSteps.{brings_none, proceeds_moves, proceeds_then, counts_calm, files_read}}
+use Rattle.fault.proofs.{Wanted.{calm_same, page_there, shows_file, page_inside, err_is}, Entered.{read_ready, read_entered}, Settled.{none_same}}
 
 module _ {M : Type 0} {m : Levels.Ghosts M} {D E : Type 0} (g : Ghosts D) (h : Ghosts E) where
   -- nothing changed
@@ -24,7 +17,7 @@ module _ {M : Type 0} {m : Levels.Ghosts M} {D E : Type 0} (g : Ghosts D) (h : G
       let c : Picture m.mode = picture_of core in
       record {
         proceeds = proceeds_moves g h core core store (moves_none h core fit swap);
-        brings = λ kept. brings_none g core.store.disk core.store.disk (ShowsFile c pid page) c c (λ p. inl refl) (λ f. refl);
+        brings = λ kept. brings_none g core.store.disk core.store.disk (ShowsFile c pid page) c c (files_same c);
         others = λ q k other. refl;
         slotted = slotted_same (ShowsFile c pid page) (IsThatPage pid page) c;
         calm = λ none. calm_same core pid page;
@@ -39,7 +32,7 @@ module _ {M : Type 0} {m : Levels.Ghosts M} {D E : Type 0} (g : Ghosts D) (h : G
       → Tends g h old new pid page access
   tends_entered old new pid page access store swap enters files = record {
     proceeds = proceeds_moves g h old new store (moves_entered h old new pid page swap enters);
-    brings = λ kept. brings_none g old.store.disk new.store.disk (ShowsFile (picture_of old) pid page) (picture_of old) (picture_of new) files.held files.files;
+    brings = λ kept. brings_none g old.store.disk new.store.disk (ShowsFile (picture_of old) pid page) (picture_of old) (picture_of new) files;
     others = λ q k other. enters.views q k;
     slotted = slotted_calm (ShowsFile (picture_of old) pid page) old new pid page enters.calm;
     calm = λ none. enters.calm;
@@ -56,7 +49,7 @@ module _ {M : Type 0} {m : Levels.Ghosts M} {D E : Type 0} (g : Ghosts D) (h : G
       → AddsNoTable (picture_of old) (picture_of new) → Tends g h old new pid page access
   tends_moved old new pid page access keep few store moves files others slotted calm less asks none = record {
     proceeds = proceeds_moves g h old new store moves;
-    brings = λ kept. brings_none g old.store.disk new.store.disk (ShowsFile (picture_of old) pid page) (picture_of old) (picture_of new) files.held files.files;
+    brings = λ kept. brings_none g old.store.disk new.store.disk (ShowsFile (picture_of old) pid page) (picture_of old) (picture_of new) files;
     others = others;
     slotted = slotted_own (picture_of old) (picture_of new) pid page slotted;
     calm = calm;
@@ -108,24 +101,60 @@ module _ {M : Type 0} {m : Levels.Ghosts M} {D E : Type 0} (g : Ghosts D) (h : G
   -- what is returned of a stall
   pub serves_stall : (old new : Core D E M m) (pid page : ℕ) (attr : Attr) (access : Access) (r : Result FrameNo Stall) (stall : Stall) → IsErrAnd r (λ e. e ≡ stall) → Tends g h old new pid page access
       → IsStalled g h old new pid page access stall → Serves g h old new pid page attr access r
-  serves_stall old new pid page attr access (Ok n) stall is tends stalled = absurd is
-  serves_stall old new pid page attr access (Err e) stall is tends stalled = record {
-    tends = tends;
-    entered = tt;
-    ready = λ trusted. tt;
-    counts = tt;
-    stalled = stalled_as g h old new pid page access (Err e) stall is stalled;
-  }
+  serves_stall old new pid page attr access r stall is tends stalled =
+      subst (Serves g h old new pid page attr access) (err_is r stall is) (record { tends = tends; entered = tt; ready = λ trusted. tt; counts = tt; stalled = stalled })
 
   pub reaches_stall : (old new : Core D E M m) (pid addr : ℕ) (width : Width) (access : Access) (r : Result Phys AccessRefusal) (stall : Stall) → IsErrAnd r (λ e. e ≡ Refusal.Stall stall)
       → Tends g h old new pid (addr / 4096) access → ((place : Phys) → IsWalked (picture_of old) pid addr width access place → ⊥) → Stalls g h old new pid addr width access stall
       → Reaches g h old new pid addr width access r
-  reaches_stall old new pid addr width access (Ok place) stall is tends never stalls = absurd is
-  reaches_stall old new pid addr width access (Err e) stall is tends never stalls = record {
-    tends = tends;
-    placed = tt;
-    walked = λ place walked. absurd (never place walked);
-    granted = λ trusted. tt;
-    counts = tt;
-    refusal = refused_as g h old new pid addr width access (Err e) stall is stalls;
+  reaches_stall old new pid addr width access r stall is tends never stalls =
+      subst (Reaches g h old new pid addr width access) (err_is r (Refusal.Stall stall) is)
+      (record { tends = tends; placed = tt; walked = λ place walked. absurd (never place walked); granted = λ trusted. tt; counts = tt; refusal = stalls })
+
+module _ {M : Type 0} {m : Levels.Ghosts M} {D E : Type 0} {g : Ghosts D} {h : Ghosts E} {before : Core D E M m} {spot : Spot} {attr : Attr} {other : Access} (may : MayServeAt g h before spot attr other) where
+  pub may_bring : {p : PageKey} → stands_on attr.backing ≡ Some p → MayBring g h before p
+  may_bring {p = p} stands = record {
+    fit = may.spot.linked.fit;
+    store = may.store;
+    swap = may.swap;
+    inside = page_inside (picture_of before) spot.pid spot.page attr p may.spot.linked may.allowed.mapped stands may.allowed.inside;
   }
+
+  pub shows_at : {p : PageKey} → stands_on attr.backing ≡ Some p → seat (entry (picture_of before) spot.pid spot.page) ≡ None → ShowsFile (picture_of before) spot.pid spot.page p
+  shows_at {p = p} stands none = shows_file (picture_of before) spot.pid spot.page attr p may.allowed.mapped stands none
+
+  -- the page's entry was made over a frame that was there
+  pub serves_entered : {after : Core D E M m} {frame : ℕ} {private write dirty : Bool} → ShowsFrame before after spot attr frame private write dirty → (access : Access) → access ≢ Store
+      → lets access attr.prot ≡ true → Serves g h before after spot.pid spot.page attr access (Ok (record { 0 = frame }))
+  serves_entered {after = after} {frame = frame} shows access reads lets =
+      let old = picture_of before in
+      let new = picture_of after in
+      let enters = shows.enters in
+      let mapped = may.allowed.mapped in
+      let now = enters.spaces.at spot.pid spot.page ∙ mapped in
+      record {
+        tends = tends_entered g h before after spot.pid spot.page access may.store may.swap enters shows.files;
+        entered = read_entered old new spot.pid spot.page attr access frame _ _ _ enters.fit after.sound mapped now (record { views = enters.views; touched = shows.files.touched }) shows.entry reads lets;
+        ready = λ trusted. read_ready old new spot.pid spot.page attr access frame _ _ _ enters.fit after.sound mapped now (record { views = enters.views; touched = shows.files.touched }) shows.entry reads lets;
+        counts = counts_calm g h before after spot.pid spot.page enters.calm;
+        stalled = tt;
+      }
+
+  -- the page of a file or an object that it shows wasn't to be had
+  pub serves_away : {after : Core D E M m} {p : PageKey} → ShowsFile (picture_of before) spot.pid spot.page p → (stall : Stall) → PagesIn g h before after p (Err stall)
+      → ((n : FrameNo) → (picture_of before).place p ≡ Frame n → (after ≡ before) × ⊥) → (access : Access) (r : Result FrameNo Stall) → IsErrAnd r (λ e. e ≡ stall)
+      → Serves g h before after spot.pid spot.page attr access r
+  serves_away {after = after} {p = p} shows stall first idle access r is = serves_stall g h before after spot.pid spot.page attr access r stall is
+      (tends_away g h before after spot.pid spot.page access p shows may.spot.linked.fit stall first idle)
+      (stalls_away g h before after spot.pid spot.page access p shows may.spot.linked.fit stall first idle)
+
+  -- it was brought in: the page is mapped as it was, and lies nowhere else
+  module _ {after : Core D E M m} {p : PageKey} {r : Result FrameNo Stall} (first : PagesIn g h before after p r) where
+    pub stands_brought : StandsAt (picture_of after) spot
+    stands_brought = stands_kept (picture_of before) (picture_of after) spot may.spot first.proceeds.fit first.proceeds.spaces first.proceeds.tables first.rows
+
+    pub open_brought : IsOpenTo (picture_of after) spot.pid spot.page other attr
+    open_brought = open_still (picture_of before) (picture_of after) spot.pid spot.page other attr first.proceeds.spaces.at (files_read g before.store after.store first.proceeds.reads) may.allowed
+
+    pub none_brought : seat (entry (picture_of before) spot.pid spot.page) ≡ None → seat (entry (picture_of after) spot.pid spot.page) ≡ None
+    none_brought none = none_same (picture_of before) (picture_of after) spot.pid spot.page attr may.allowed.mapped open_brought.mapped (first.keeps.views spot.pid spot.page) none

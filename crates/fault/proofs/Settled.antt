@@ -1,19 +1,51 @@
 -- What an entry that was set for a page makes of the page.
-use Rattle.std.proofs.{Common.{◌≡◌, ◌≢◌, ℕ, inl, inr, true, false, Bool, Option, Some, None, List, refl, sym, ap, ◌∙◌, subst}, lemmas.Bool.{cases_Bool, false≢true}}
-use Rattle.std.specs.Prelude.{option_map}
-use Rattle.vm_types.specs.{declared.access.Access.{Access}, declared.access.Access.TheVariants.{Load, Store, Fetch}, declared.object.PageKey.{PageKey}, declared.object.PageKey.TheVariants.{File, Object}, declared.region.Attr.{Attr}}
-use Rattle.vm_types.specs.{declared.region.Backing.{Backing}, declared.region.Backing.TheVariants.{Anon, Private, Shared, Common}, Attributes.{stands_on}, View.{View}, Verdict.{lets}}
+use Rattle.fault.proofs.Names.{◌≡◌, ℕ, Bool, true, false, ◌||◌, not, Option, Some, refl, ◌∙◌, subst, ◌≢◌, inl, inr, None, List, sym, ap, false≢true, cases_Bool, same_Some, IfSome, option_map, Load, Store, Fetch, Prot, Attr, lets, Access}
+use Rattle.fault.proofs.Names.{PageKey, File, Object, Backing, Anon, Shared, Common, stands_on, View, ReadsToo, IsEntryOver, IsLeaf, Picture, entry, own_in, bytes_in, view, IsFit, IsBehind, is_shared, Seat, seat, is_private, is_swapped}
+use Rattle.vm_types.specs.declared.region.Backing.TheVariants.{Private}
 use Rattle.vm_types.specs.Permission as Permission
-use Rattle.frames.specs.FrameTable.{bytes_of, IsSound}
-use Rattle.sv39_walk.specs.Entry.{frame_of}
-use Rattle.residency.specs.{Seats.{Seat, seat, is_private, is_swapped}, Picture.{Picture, entry, own_in, bytes_in, view}, Parts.{IsFit, IsBehind, is_shared}}
-use Rattle.page_tables.specs.Leaves.{IsEntryOver}
-use Rattle.fault.specs.{Changes.{KeepsSeen, KeepsOtherViews, frame_of_place, frame_behind, shown_bytes}, Shown.{AreBehind, AreOwnOrBehind, AreShown}, Granted.{IsEntered, IsReadyAt}}
-use Rattle.fault.specs.Outcome.{Reads, MarksTouchedIn, Owns, IsReadyToStore, IsFrameFor, seen_at}
-use Rattle.page_tables.proofs.Bits.{over_some}
-use Rattle.fault.proofs.{Forms.{mapped_page, over_here}, OwnSteps.{shown_own, shown_common}, Steps.{seen_then}, Opening.{opens_load, opens_fetch, opens_store}, Verdicts.{ready_open}}
-use Rattle.fault.proofs.Ready.{same_key, zero_same, view-mapped, own_in-private, own_in-none, reads, touches, owns}
-use Rattle.residency.proofs.SeatForms.{seat_common}
+use Rattle.fault.specs.{Granted.{IsOpenLeaf, IsEntered, IsReadyAt}, Changes.{KeepsSeen, KeepsOtherViews, frame_of_place, frame_behind, shown_bytes}, Shown.{AreBehind, AreOwnOrBehind, AreShown}}
+use Rattle.fault.{specs.Outcome.{Reads, MarksTouchedIn, Owns, IsReadyToStore, IsFrameFor, seen_at}, proofs.{Forms.{mapped_page, over_here}, OwnSteps.{shown_own, shown_common}, Steps.{seen_then}}}
+use Rattle.fault.proofs.{Names.{bytes_of, IsSound, frame_of, grants, is_dirty, is_store, over_some, seat_common}, Ready.{ready_open, zero_same, view-mapped, own_in-private, own_in-none, reads, touches, owns}}
+
+first_bar : (r x : Bool) → r ≡ true → not (r || x) ≡ false
+first_bar true x e = refl
+first_bar false x e = absurd (false≢true e)
+
+second_bar : (r x : Bool) → x ≡ true → not (r || x) ≡ false
+second_bar true true e = refl
+second_bar false true e = refl
+second_bar r false e = absurd (false≢true e)
+
+opened : {access : Access} {e : ℕ} {prot : Prot} {write stored : Bool} → IsLeaf e prot write stored → grants access e ≡ true → (is_store access ≡ true → is_dirty e ≡ true) → IsOpenLeaf access e
+opened leaf granted dirty = record {
+  valid = leaf.valid;
+  sound = leaf.unreserved;
+  leaf = leaf.leaf;
+  user = leaf.user;
+  grants = granted;
+  accessed = leaf.accessed;
+  dirty = dirty;
+}
+
+pub opens_load : (e : ℕ) (prot : Prot) (n : ℕ) (private write stored : Bool) → IsEntryOver e prot n private write stored → lets Load prot ≡ true → IsOpenLeaf Load e
+opens_load e prot n private write stored over allowed =
+    let leaf = over.leaf (first_bar (Permission.can_read prot) (Permission.can_execute prot) allowed) in
+    opened leaf (leaf.reads ∙ allowed) (λ store. absurd (false≢true store))
+
+pub opens_fetch : (e : ℕ) (prot : Prot) (n : ℕ) (private write stored : Bool) → IsEntryOver e prot n private write stored → lets Fetch prot ≡ true → IsOpenLeaf Fetch e
+opens_fetch e prot n private write stored over allowed =
+    let leaf = over.leaf (second_bar (Permission.can_read prot) (Permission.can_execute prot) allowed) in
+    opened leaf (leaf.executes ∙ allowed) (λ store. absurd (false≢true store))
+
+pub opens_store : (e : ℕ) (prot : Prot) (n : ℕ) (private : Bool) → IsEntryOver e prot n private true true → Permission.can_read prot ≡ true → IsOpenLeaf Store e
+opens_store e prot n private over readable =
+    let leaf = over.leaf (first_bar (Permission.can_read prot) (Permission.can_execute prot) readable) in
+    opened leaf leaf.writes (λ store. leaf.dirty)
+
+-- a page that may be written may be read
+pub reads_too : {mode : ℕ} (c : Picture mode) (pid page : ℕ) (a : Attr) → IsFit c → c.at pid page ≡ Some a → Permission.can_write a.prot ≡ true → Permission.can_read a.prot ≡ true
+reads_too c pid page a fit mapped =
+    let P : Option Attr → Type 0 = λ o. IfSome o (λ attr. ReadsToo attr.prot) in subst P mapped (fit.granting.readable pid page)
 
 pub one_view : (v w : View) → Some v ≡ Some w → v ≡ w
 one_view v w same = (cc)
@@ -42,9 +74,8 @@ readable old new pid page a n private write stored fit sound was now keeps over 
     let some = over_some (entry new pid page) a.prot n private write stored over in
     let here = over_here (entry new pid page) a n private write stored over in
     let is = reads old new pid page a fit sound (mapped_page new pid page a fit.granting now) now some here keeps in
-    let P : View → Type 0 = λ v. Reads old new v (frame_of (entry new pid page)) in
     let Q : ℕ → Type 0 = λ x. Reads old new (seen_at old pid page a) x in
-    subst Q over.names (subst P (seen_same old new pid page a was now (keeps.views pid page)) is)
+    subst Q over.names (subst (λ (v : View). Reads old new v (frame_of (entry new pid page))) (seen_same old new pid page a was now (keeps.views pid page)) is)
 
 pub ready_read : {mode : ℕ} (access : Access) (old new : Picture mode) (pid page : ℕ) (a : Attr) (n : ℕ) → access ≢ Store → Reads old new (seen_at old pid page a) n → IsReadyAt old new pid page a access n
 ready_read Load old new pid page a n other reads = reads
@@ -74,8 +105,8 @@ to_shared : {mode : ℕ} (old new : Picture mode) (pid page : ℕ) (v : View) (b
     → IsReadyToStore old new pid page v b n
 to_shared old new pid page v Anon p n shared is touched = absurd (false≢true shared)
 to_shared old new pid page v (Private q) p n shared is touched = absurd (false≢true shared)
-to_shared old new pid page v (Shared q) p n shared is touched = let P : PageKey → Type 0 = λ x. MarksTouchedIn old new x n in subst P (sym (same_key (File q) p is)) touched
-to_shared old new pid page v (Common q) p n shared is touched = let P : PageKey → Type 0 = λ x. MarksTouchedIn old new x n in subst P (sym (same_key (Object q) p is)) touched
+to_shared old new pid page v (Shared q) p n shared is touched = let P : PageKey → Type 0 = λ x. MarksTouchedIn old new x n in subst P (sym (same_Some (File q) p is)) touched
+to_shared old new pid page v (Common q) p n shared is touched = let P : PageKey → Type 0 = λ x. MarksTouchedIn old new x n in subst P (sym (same_Some (Object q) p is)) touched
 
 pub ready_shared : {mode : ℕ} (old new : Picture mode) (pid page : ℕ) (a : Attr) (p : PageKey) (n : ℕ) → is_shared a.backing ≡ true → stands_on a.backing ≡ Some p → MarksTouchedIn old new p n
     → IsReadyAt old new pid page a Store n
@@ -100,10 +131,9 @@ reads_after old mid new v w n keeps e reads = record {
 
 owns_after : {mode : ℕ} (old mid new : Picture mode) (pid page : ℕ) (v w : View) (n : ℕ) → KeepsSeen old mid → v ≡ w → Owns mid new pid page v n → Owns old new pid page w n
 owns_after old mid new pid page v w n keeps e own =
-    let P : View → Type 0 = λ x. AreShown new x (bytes_of new.frames n) in
     record {
       own = (let Q : View → Type 0 = λ x. view new pid page ≡ Some (record x { own = Some (bytes_of new.frames n) }) in subst Q e own.own);
-      shown = subst P e own.shown;
+      shown = subst (λ (x : View). AreShown new x (bytes_of new.frames n)) e own.shown;
       others = λ q k other. own.others q k other ∙ keeps.views q k;
       touched = λ p. own.touched p ∙ keeps.touched p;
       held = own.held;
@@ -163,8 +193,7 @@ pub touched_entry : {mode : ℕ} (old new : Picture mode) (pid page : ℕ) (a : 
 touched_entry old new pid page a p n fit sound now shared is readable over views others =
     let opens = opens_store (entry new pid page) a.prot n false over readable in
     let h = mapped_page new pid page a fit.granting now in
-    let P : ℕ → Type 0 = λ x. MarksTouchedIn old new p x in
-    subst P over.names (touches old new pid page a p fit sound h now opens.valid (opens.dirty refl) shared is views others)
+    subst (λ (x : ℕ). MarksTouchedIn old new p x) over.names (touches old new pid page a p fit sound h now opens.valid (opens.dirty refl) shared is views others)
 
 -- any other page of which it does
 pub owned_entry : {mode : ℕ} (old new : Picture mode) (pid page : ℕ) (a : Attr) (n : ℕ) → IsFit new → IsSound new.frames → new.at pid page ≡ Some a
@@ -174,7 +203,6 @@ pub owned_entry : {mode : ℕ} (old new : Picture mode) (pid page : ℕ) (a : At
 owned_entry old new pid page a n fit sound now private readable over shown others touched =
     let opens = opens_store (entry new pid page) a.prot n true over readable in
     let h = mapped_page new pid page a fit.granting now in
-    let P : ℕ → Type 0 = λ x. Owns old new pid page (seen_at old pid page a) x in
     let Q : ℕ → Type 0 = λ x. AreShown new (seen_at old pid page a) (bytes_of new.frames x) in
-    subst P over.names
+    subst (λ (x : ℕ). Owns old new pid page (seen_at old pid page a) x) over.names
     (owns old new pid page a (own_in old.frames old.slots (entry old pid page)) fit sound h now opens.valid opens.grants private (subst Q (sym over.names) shown) others touched)

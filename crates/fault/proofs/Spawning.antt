@@ -1,19 +1,10 @@
 -- A process starts, and pages are mapped for which nothing stands.
-use Rattle.vm_types.proofs.Modes.{sizes}
-use Rattle.vm_types.specs.{Limits.{top_level}, declared.object.ObjectPage.{ObjectPage}, declared.object.PageKey.{PageKey}, declared.object.PageKey.TheVariants.{Object}, Objects.{is_named}, declared.region.Attr.{Attr}, Rows.{IsUserMap}}
-use Rattle.std.proofs.{Common.{true, ◌≡◌, ◌≢◌, ℕ, inl, inr, ◌⊎◌, ◌<◌, ◌≤◌, List, Option, Some, None, refl, sym, ap, ◌∙◌, subst, arith}, lemmas.Bool.{cases_eq, false≢true}}
-use Rattle.std.specs.Prelude.{IsSome}
-use Rattle.frames.specs.{declared.role.Role.TheVariants.{Table}, FrameTable.{FrameTable, role_of, count_of}}
-use Rattle.swap.specs.Slots.{SlotTable}
-use Rattle.sv39_walk.specs.Entry.{frame_of}
-use Rattle.page_tables.specs.{Change.{AddsTable}, Tree.{IsPage, IsTable, Points, IsForest, IsRoot, IsSpare, IsBelowRoot, missing_of, page_entry}}
-use Rattle.page_tables.proofs.{Ends.{missing_of-is, page_entry-missing}, Linking.{empty_last}}
-use Rattle.regions.specs.{declared.run.Run.{Run}, Permission.{IsReadableMap}, RunList.{attr_at}}
-use Rattle.page_cache.specs.declared.place.Place.TheVariants.{Home}
-use Rattle.residency.specs.{Seats.{Seat, InFrame, InSlot, seat}, Picture.{Picture, entry, IsOwned, count_in, page_in}}
-use Rattle.residency.specs.{Parts.{AreObjects, IsRootedBut, IsUsed, AsRoot, OnWay, IsMapped, IsEntryFor, Nothing, IsCountedBut, IsFitBut, IsFit, nowhere}, Calls.{ObtainsTable}, Steps.{SameBeside, KeepsShares, Spawns, Remaps}}
-use Rattle.residency.proofs.{Entries.{entry-of, entry-same, entries_kept}, Granting.{KeepsBehind, entry_for-same, user_map-same, readable-same}, Linked.{shares_taken, fit_same, loose_table, rooted_taken}}
-use Rattle.residency.proofs.{Places.{objects-same, named-more, places_same, places_renamed, dirty_same}, Rooted.{used_kept}, Seats.{counted_same}, Start.{entry-dead}}
+use Rattle.fault.proofs.Names.{sizes, top_level, ObjectPage, PageKey, Object, is_named, Attr, IsUserMap, true, ◌≡◌, ◌≢◌, ℕ, inl, inr, ◌⊎◌, ◌<◌, ◌≤◌, List, Option, Some, None, refl, sym, ap, ◌∙◌, subst, arith, cases_eq, false≢true, IsSome}
+use Rattle.fault.proofs.Names.{Table, FrameTable, role_of, count_of, SlotTable, frame_of, AddsTable, IsPage, IsTable, Points, IsForest, IsRoot, IsSpare, IsBelowRoot, missing_of, page_entry, missing_of-is, page_entry-missing, empty_last}
+use Rattle.fault.proofs.Names.{Run, IsReadableMap, attr_at, Home, Seat, InFrame, InSlot, seat, Picture, entry, IsOwned, count_in, page_in, AreObjects, IsRootedBut, IsUsed, AsRoot, OnWay, IsMapped, IsEntryFor, IsCountedBut, IsFitBut, IsFit}
+use Rattle.fault.proofs.Names.{nowhere, ObtainsTable, SameBeside, KeepsShares, Spawns, Remaps, entry-of, entry-same, entries_kept, KeepsBehind, entry_for-same, user_map-same, readable-same, shares_taken, fit_same, loose_table, rooted_taken}
+use Rattle.fault.proofs.Names.{objects-same, named-more, places_same, places_renamed, dirty_same, used_kept, counted_same, entry-dead}
+use Rattle.residency.specs.Parts.{Nothing}
 
 number_or : Option ℕ → ℕ
 number_or None = 0
@@ -92,9 +83,8 @@ module _ {mode : ℕ} (old new : Picture mode) (pid n : ℕ) (fit : IsFitBut old
   used_spawned m (AsRoot q is) = AsRoot q (spawns.others q (was_other q m is) ∙ is)
   used_spawned m (OnWay q r page is here below) =
       let ne = was_other q r is in
-      let P : Option Attr → Type 0 = λ x. IsSome x in
       let Q : FrameTable → Type 0 = λ t. IsBelowRoot t (top_level mode) r page m in
-      OnWay q r page (spawns.others q ne ∙ is) (subst P (sym (spawns.at q page ne)) here) (subst Q (sym spawns.frames) below)
+      OnWay q r page (spawns.others q ne ∙ is) (subst (λ (x : Option Attr). IsSome x) (sym (spawns.at q page ne)) here) (subst Q (sym spawns.frames) below)
 
   rooted_spawned : IsRootedBut new 0
   rooted_spawned = record {
@@ -118,8 +108,7 @@ module _ {mode : ℕ} (old new : Picture mode) (pid n : ℕ) (fit : IsFitBut old
       | inr there ↦ fit.rooted.numbers q r there.1
     ];
     used = λ m table. (
-        let P : FrameTable → Type 0 = λ t. IsTable t m in
-        elim (fit.rooted.used m (subst P spawns.frames table)) [
+        elim (fit.rooted.used m (subst (λ (t : FrameTable). IsTable t m) spawns.frames table)) [
           | inl is ↦ inr (AsRoot pid (spawns.lives ∙ ap (λ x. Some x) (sym is)))
           | inr o ↦ inr (used_spawned m o)
         ]);
@@ -204,8 +193,7 @@ module _ {mode : ℕ} (old new : Picture mode) (pid : ℕ) (fit : IsFit old) (re
     apart = λ p q r e f. fit.rooted.apart p q r (lived p r e) (lived q r f);
     numbers = λ q r e. fit.rooted.numbers q r (lived q r e);
     used = λ m table. (
-        let P : FrameTable → Type 0 = λ t. IsTable t m in
-        elim (fit.rooted.used m (subst P remaps.frames table)) [
+        elim (fit.rooted.used m (subst (λ (t : FrameTable). IsTable t m) remaps.frames table)) [
           | inl is ↦ inl is
           | inr o ↦ inr (used_kept old new (IsMapped new) (IsMapped new) m
               (λ a i b p. (let Q : FrameTable → Type 0 = λ t. Points t a i b in subst Q (sym remaps.frames) p)) remaps.root (λ q page some. some) (used m o))
@@ -224,8 +212,7 @@ module _ {mode : ℕ} (old new : Picture mode) (pid : ℕ) (fit : IsFit old) (re
             | inl is ↦ (
                 let here = entry_for-same old new (new.at pid page) (entry old pid page) behind_remapped
                 (λ private write one. same_count (frame_of (entry old pid page)) ∙ one) (fits page h) in
-                let P : ℕ → Type 0 = λ x. IsEntryFor new (new.at x page) (entry old x page) in
-                rw (entries_remapped q page) (subst P (sym is) here))
+                rw (entries_remapped q page) (subst (λ (x : ℕ). IsEntryFor new (new.at x page) (entry old x page)) (sym is) here))
             | inr ne ↦ (
                 let there = entry_for-same old new (old.at q page) (entry old q page) behind_remapped
                 (λ private write one. same_count (frame_of (entry old q page)) ∙ one) (fit.granting.entries q page h) in

@@ -1,16 +1,9 @@
 -- Bytes written to the frame that the access of a store was given.
-use Rattle.vm_types.specs.{Limits.{top_level}, declared.object.PageKey.{PageKey}, declared.region.Attr.{Attr}, View.{View}}
-use Rattle.std.proofs.Common.{◌≡◌, ◌≢◌, ℕ, inl, inr, ◌⊎◌, true, List, Option, Some, None, sym, ap, ◌∙◌, subst, arith}
-use Rattle.frames.specs.{declared.role.Role.TheVariants.{Table, Private, Cache}, FrameTable.{FrameTable, bytes_of, role_of, IsHeld, with_bytes}}
-use Rattle.frames.proofs.FrameLemmas.{with_bytes-same}
-use Rattle.sv39_walk.specs.Entry.{frame_of}
-use Rattle.page_tables.specs.Tree.{IsPage}
-use Rattle.page_cache.specs.declared.place.Place.TheVariants.{Home, Frame}
-use Rattle.residency.specs.{Seats.{Seat, InFrame, InSlot, seat, is_private, is_seat, holders_at}, Picture.{Picture, entry, own_in, view, view_of, held, bytes_at, bytes_in, IsOwned}, Parts.{IsFit, nowhere}, Steps.{SameBeside}}
-use Rattle.residency.proofs.{Counts.{count-sole}, Evicted.{seat_number}, Seats.{seat-same, off-none}, Setting.{each_view, view_seated, held_same, entries_written, fit_written, bytes_else}, SeatForms.{seat_own}}
+use Rattle.fault.proofs.Names.{top_level, PageKey, Attr, View, ◌≡◌, ◌≢◌, ℕ, inl, inr, ◌⊎◌, true, List, Option, Some, None, sym, ap, ◌∙◌, subst, arith, Table, Private, Cache, FrameTable, bytes_of, role_of, IsHeld, with_bytes}
+use Rattle.fault.proofs.Names.{with_bytes-same, frame_of, IsPage, Home, Frame, Seat, InFrame, InSlot, seat, is_private, is_seat, holders_at, Picture, entry, own_in, view, view_of, held, bytes_at, bytes_in, IsOwned, IsFit, nowhere}
+use Rattle.fault.proofs.Names.{SameBeside, count-sole, seat_number, seat-same, off-none, each_view, view_seated, held_same, entries_written, fit_written, bytes_else, seat_own}
 use Rattle.fault.proofs.Forms as Forms
-use Rattle.fault.specs.Shown.{IsSoleOwner}
-use Rattle.fault.proofs.{Ready.{view-mapped, own_in-private}, Settled.{one_view}}
+use Rattle.fault.{specs.Shown.{IsSoleOwner}, proofs.{Ready.{view-mapped, own_in-private}, Settled.{one_view}}}
 
 attr_in : (own : Option (List ℕ)) (o : Option Attr) (v : View) → view_of own o ≡ Some v → o ≡ Some v.attr
 attr_in own None v is = let bad : None ≡ Some v = is in (cc)
@@ -101,8 +94,7 @@ module _ {mode : ℕ} (old new : Picture mode) (n : ℕ) (w : List ℕ) (fit : I
 
     pub views_others : (q k : ℕ) → (q ≢ pid) ⊎ (k ≢ page) → view new q k ≡ view old q k
     views_others q k other = same_view own_data q k (λ h z is e. (
-        let P : Seat → Type 0 = λ x. seat (entry old q k) ≡ Some x in
-        let both = sole_page old pid page n q k fit sole h (subst P e is) in
+        let both = sole_page old pid page n q k fit sole h (subst (λ (x : Seat). seat (entry old q k) ≡ Some x) e is) in
         elim other [
           | inl ne ↦ ne both.0
           | inr ne ↦ ne both.1
@@ -125,8 +117,7 @@ module _ {mode : ℕ} (old new : Picture mode) (n : ℕ) (w : List ℕ) (fit : I
 
     owned_else : (z : Seat) → IsOwned old z → z ≢ InFrame n
     owned_else z owned e =
-        let P : Seat → Type 0 = λ x. IsOwned old x in
-        let bad : Private ≡ Cache = sym (subst P e owned) ∙ fit.places.cached p n at in (cc)
+        let bad : Private ≡ Cache = sym (subst (λ (x : Seat). IsOwned old x) e owned) ∙ fit.places.cached p n at in (cc)
 
     pub views_file : (q k : ℕ) → view new q k ≡ view old q k
     views_file q k = same_view file_data q k (λ h z is. owned_else z (fit.counted.1.named q k z h is))

@@ -1,19 +1,76 @@
--- When an access wants a frame, or the page from its home.
+-- When an access wants a frame, which frame it keeps meanwhile, and when it wants the page from its home.
+use Rattle.fault.proofs.Names.{top_level, widest_end, Access, Store, FrameNo, PageKey, File, Object, Attr, Backing, Anon, Shared, Common, stands_on, Phys, Code, Width, Verdict, Fine, Faults, is_past_end, View, FileInfo, FilePage}
+use Rattle.fault.proofs.Names.{ObjectPage, is_object_page, names, Files, is_past_end_of, ◌≡◌, ◌≢◌, ℕ, inl, inr, true, false, Some, None, refl, sym, ap, ◌∙◌, Result, Ok, Err, ◌⊎◌, Option, subst, ◌*◌, ◌<◌, ◌≤◌, arith, eq-eqb, cases_Bool}
+use Rattle.fault.proofs.Names.{cases_eq, false≢true, nat_tests, same_Some, bytes_of, IsPage, missing_of, Place, Home, Frame, Slot, InFrame, InSlot, seat, is_private, is_swapped, Picture, entry, IsFit, IsBehind, is_shared, IsPageFor, Frees}
+use Rattle.std.proofs.Common.{is_some}
+use Rattle.vm_types.specs.declared.region.Backing.TheVariants.{Private}
 use Rattle.vm_types.specs.declared.mode.Levels as Levels
-use Rattle.vm_types.specs.{Limits.{top_level}, declared.access.Access.{Access}, declared.access.Access.TheVariants.{Store}, declared.object.PageKey.{PageKey}, declared.object.PageKey.TheVariants.{File}, declared.number.FrameNo.{FrameNo}}
-use Rattle.vm_types.specs.{declared.number.Phys.{Phys}, declared.refusal.Code.{Code}, declared.refusal.Stall.{Stall}, declared.region.Attr.{Attr}, declared.width.Width.{Width}, Attributes.{stands_on}, Verdict.{Verdict, Fine, Faults}}
-use Rattle.vm_types.specs.View.{View}
-use Rattle.std.specs.Prelude.{IfErr, IsErrAnd}
-use Rattle.std.proofs.{Common.{◌≡◌, ◌≢◌, ℕ, Result, Ok, Err, inl, inr, ◌⊎◌, true, false, Option, Some, None, is_some, refl, sym, ap, ◌∙◌, subst}, lemmas.Bool.{cases_eq, cases_Bool, false≢true}}
-use Rattle.disk_model.specs.declared.sector_disk.SectorDisk.{Ghosts}
-use Rattle.sv39_walk.specs.{Walk.{translated}, declared.translation.WalkFault.{WalkFault}}
-use Rattle.page_tables.specs.Tree.{missing_of}
-use Rattle.page_cache.specs.{declared.place.Place.{Place}, declared.place.Place.TheVariants.{Home, Frame, Slot}}
-use Rattle.residency.specs.{declared.kernel.Core.{Core}, Seats.{seat}, Picture.{Picture, entry}, Parts.{IsFit, is_shared}, Ways.{IsWhole}}
-use Rattle.fault.specs.{Changes.{IsCalm, KeepsSeen, is_sole}, Files.{IsInStore}, declared.refusal.AccessRefusal.{AccessRefusal}, Wants.{LacksTable, ShowsFile, Wants, ForFile, ForStore, ReadsHome}}
-use Rattle.fault.specs.Outcome.{verdict_of, IsPlaced, IsWalked, IsStalled, Stalls, IsRefusal}
-use Rattle.fault.specs.declared.refusal.AccessRefusal.TheVariants as Refusal
-use Rattle.fault.proofs.Settled.{none_same}
+use Rattle.fault.specs.{Changes.{IsLinked, KeepsSeen, KeepsSpaces, KeepsTables, KeepsViews, copied_frame, shown_frame, IsCalm, is_sole}, Wants.{HoldsShown, KeepsOwnFrame, ShowsFile, LacksTable, Wants, ForFile, ForStore, ReadsHome}}
+use Rattle.fault.{specs.{Files.{IsInStore}, Outcome.{verdict_of, IsPlaced, IsWalked}}, proofs.{Forms.{mapped_page}, OwnSteps.{shown_own, shown_behind}, Steps.{linked_kept}, Settled.{none_same}, Ready.{page_user, behind_place}}}
+use Rattle.fault.proofs.{Names.{IsWhole, Core, seat_own, seat_common, seat_away, IsErrAnd, nat_le, Ghosts, translated, WalkFault, sizes, named-at, IsPageOf}, AccessSteps.{untouched_home}}
+
+-- none while a table is missing
+pub unlinked_keeps : {mode : ℕ} (c : Picture mode) (pid page : ℕ) (access : Access) → (IsWhole c pid page → ⊥) → KeepsOwnFrame c pid page access None
+unlinked_keeps c pid page access never n copies = never copies.whole
+
+away_unshown : {mode : ℕ} (c : Picture mode) (e k n : ℕ) (b : Backing) → seat e ≡ Some (InSlot k) → HoldsShown c e b n → ⊥
+away_unshown c e k n b away (inl own) = let bad : Some (InSlot k) ≡ Some (InFrame n) = sym away ∙ own in (cc)
+away_unshown c e k n b away (inr none) = let bad : Some (InSlot k) ≡ None = sym away ∙ none.0 in (cc)
+
+-- nor while the own copy lies in a slot
+pub away_keeps : {mode : ℕ} (old new : Picture mode) (pid page : ℕ) (access : Access) → IsPage (top_level mode) page → is_private (entry old pid page) ≡ false → is_swapped (entry old pid page) ≡ true
+    → Frees old new None → KeepsOwnFrame new pid page access None
+away_keeps old new pid page access h common away frees n copies =
+    away_unshown new (entry new pid page) _ n.0 copies.attr.backing (ap seat (frees.entries pid page h (inr (inl away))) ∙ seat_away (entry old pid page) common away) copies.shown
+
+away_stays : {mode : ℕ} (old new : Picture mode) (p : PageKey) (place : Place) → old.place p ≡ place → Frees old new None → ((n : FrameNo) → old.place p ≡ Frame n → ⊥) → (n : FrameNo) → new.place p ≢ Frame n
+away_stays old new p Home at frees never n there = let bad : Home ≡ Frame n = sym (frees.home p at) ∙ there in (cc)
+away_stays old new p (Slot k) at frees never n there = let bad : Slot k ≡ Frame n = sym (frees.slotted p k.0 at) ∙ there in (cc)
+away_stays old new p (Frame m) at frees never n there = never m at
+
+nowhere_unshown : {mode : ℕ} (c : Picture mode) (e n : ℕ) (b : Backing) (p : PageKey) → seat e ≡ None → stands_on b ≡ Some p → ((m : FrameNo) → c.place p ≢ Frame m) → HoldsShown c e b n → ⊥
+nowhere_unshown c e n b p none is never (inl own) = let bad : None ≡ Some (InFrame n) = sym none ∙ own in (cc)
+nowhere_unshown c e n b p none is never (inr behind) = never (record { 0 = n }) (behind_place c b p n is behind.1)
+
+-- nor while the file page that the page shows lies in none
+pub nowhere_keeps : {mode : ℕ} (old new : Picture mode) (pid page : ℕ) (access : Access) (p : PageKey) → ShowsFile old pid page p → ((q k : ℕ) → new.at q k ≡ old.at q k) → KeepsSeen old new → Frees old new None
+    → ((n : FrameNo) → old.place p ≡ Frame n → ⊥) → KeepsOwnFrame new pid page access None
+nowhere_keeps old new pid page access p shows at keeps frees never n copies =
+    let now = at pid page ∙ shows.mapped in
+    let same : copies.attr ≡ shows.attr = same_Some copies.attr shows.attr (sym copies.mapped ∙ now) in
+    nowhere_unshown new (entry new pid page) n.0 copies.attr.backing p (none_same old new pid page shows.attr shows.mapped now (keeps.views pid page) shows.none)
+    (ap (λ (a : Attr). stands_on a.backing) same ∙ shows.behind) (away_stays old new p (old.place p) refl frees never) copies.shown
+
+-- a store that is to copy the frame whose bytes its page shows keeps that one
+module _ {mode : ℕ} (old new : Picture mode) (pid page : ℕ) (a : Attr) (linked : IsLinked old pid page) (was : old.at pid page ≡ Some a) (alone : is_shared a.backing ≡ false)
+    (here : is_swapped (entry old pid page) ≡ false) (memory : is_private (entry old pid page) ≡ false → (n : ℕ) × IsBehind old a.backing n)
+    (stays : (n : ℕ) → is_private (entry old pid page) ≡ false → IsBehind old a.backing n → IsBehind new a.backing n × (bytes_of new.frames n ≡ bytes_of old.frames n))
+    (fit : IsFit new) (spaces : KeepsSpaces old new) (tables : KeepsTables old new) (views : KeepsViews old new) (frees : Frees old new (copied_frame old pid page a)) where
+  held_own : is_private (entry old pid page) ≡ true → HoldsShown new (entry new pid page) a.backing (shown_frame old (entry old pid page) a.backing)
+  held_own own =
+      let names = shown_own old (entry old pid page) a.backing own in
+      let h = mapped_page old pid page a linked.fit.granting was in
+      inl (ap seat (frees.entries pid page h (inr (inr (inr (sym names))))) ∙ seat_own (entry old pid page) own ∙ ap (λ (n : ℕ). Some (InFrame n)) (sym names))
+
+  held_behind : is_private (entry old pid page) ≡ false → HoldsShown new (entry new pid page) a.backing (shown_frame old (entry old pid page) a.backing)
+  held_behind common =
+      inr (
+        none_same old new pid page a was (spaces.at pid page ∙ was) (views pid page) (seat_common (entry old pid page) common here),
+        (stays (shown_frame old (entry old pid page) a.backing) common (shown_behind old (entry old pid page) a.backing common (memory common))).0,
+      )
+
+  pub copy_keeps : KeepsOwnFrame new pid page Store (copied_frame old pid page a)
+  copy_keeps = record {
+    attr = a;
+    stores = refl;
+    mapped = spaces.at pid page ∙ was;
+    not_shared = alone;
+    whole = (linked_kept old new pid page linked fit spaces tables).whole;
+    shown = (elim (cases_Bool (is_private (entry old pid page))) [
+      | inl own ↦ held_own own
+      | inr common ↦ held_behind common
+    ]);
+  }
 
 pub cases_frame : (place : Place) → ((n : FrameNo) × (place ≡ Frame n)) ⊎ ((n : FrameNo) → place ≢ Frame n)
 cases_frame (Frame m) = inl (m, refl)
@@ -51,14 +108,11 @@ pub root_lives : (o : Option ℕ) → is_some o ≡ true → o ≢ None
 root_lives None e none = false≢true e
 root_lives (Some r) e none = (let bad : None ≡ Some r = sym none in (cc))
 
-pub one_root : (r s : ℕ) → Some r ≡ Some s → r ≡ s
-one_root r s same = (cc)
-
 -- a table is missing, or none
 module _ {mode : ℕ} where
   pub whole_or : (c : Picture mode) (pid page : ℕ) → ((r : ℕ) × (c.root pid ≡ Some r)) → IsWhole c pid page ⊎ LacksTable c pid page
   whole_or c pid page root = elim (cases_eq (missing_of c.frames (top_level mode) root.0 page) 0) [
-    | inl whole ↦ inl (λ r at. ap (λ x. missing_of c.frames (top_level mode) x page) (one_root r root.0 (sym at ∙ root.1)) ∙ whole)
+    | inl whole ↦ inl (λ r at. ap (λ x. missing_of c.frames (top_level mode) x page) (same_Some r root.0 (sym at ∙ root.1)) ∙ whole)
     | inr missing ↦ inr (record { root = root.0; lives = root.1; missing = missing })
   ]
 
@@ -84,18 +138,10 @@ sole_there c pid page a mapped private none = elim (cases_Bool (is_sole c (entry
   | inr several ↦ absurd (none (ForStore a refl mapped private several))
 ]
 
--- a page at home isn't touched
-untouched_home : {mode : ℕ} (c : Picture mode) (p : PageKey) → IsFit c → c.place p ≡ Home → c.touched p ≡ false
-untouched_home c p fit home = elim (cases_Bool (c.touched p)) [
-  | inl touched ↦ absurd (fit.dirty.held p touched home)
-  | inr clean ↦ clean
-]
-
 pub reads_home : {mode : ℕ} (c : Picture mode) (pid page : ℕ) (p : PageKey) → IsFit c → ShowsFile c pid page p → IsInStore c p → ReadsHome c pid page
 reads_home c pid page p fit shows (f, is, home) =
-    let P : PageKey → Type 0 = λ x. ShowsFile c pid page x in
     let at_home = ap c.place (sym is) ∙ home in
-    record { file = f; shows = subst P is shows; untouched = untouched_home c (File f) fit at_home; home = inl at_home }
+    record { file = f; shows = subst (λ (x : PageKey). ShowsFile c pid page x) is shows; untouched = untouched_home c (File f) fit at_home; home = inl at_home }
 
 -- nothing changed
 pub calm_same : {M : Type 0} {m : Levels.Ghosts M} → {D E : Type 0} (c : Core D E M m) (pid page : ℕ) → IsCalm c c pid page
@@ -120,7 +166,7 @@ module _ {mode : ℕ} where
   pub walked_same : (c : Picture mode) (pid addr : ℕ) (width : Width) (access : Access) (p q : Phys) → IsPlaced c c pid addr width access p
       → IsWalked c pid addr width access q → p ≡ q
   walked_same c pid addr width access p q placed walked =
-      one_place p q (sym placed.place ∙ ap (λ r. translated (top_level mode) c.frames r addr access) (one_root placed.root walked.root (sym placed.lives ∙ walked.lives)) ∙ walked.place)
+      one_place p q (sym placed.place ∙ ap (λ r. translated (top_level mode) c.frames r addr access) (same_Some placed.root walked.root (sym placed.lives ∙ walked.lives)) ∙ walked.place)
 
 faults_fine : (v : Verdict) (code : Code) (seen : View) → v ≡ Faults code → v ≡ Fine seen → ⊥
 faults_fine v code seen faults fine = let bad : Faults code ≡ Fine seen = sym faults ∙ fine in (cc)
@@ -130,15 +176,42 @@ pub no_walk : {mode : ℕ} (c : Picture mode) (pid addr : ℕ) (width : Width) (
     → IsWalked c pid addr width access q → ⊥
 no_walk c pid addr width access code q faults walked = faults_fine (verdict_of c pid addr width access) code walked.seen faults walked.fine
 
--- the stall of a call below
-pub refused_as : {M : Type 0} {m : Levels.Ghosts M} {D E : Type 0} (g : Ghosts D) (h : Ghosts E) (old new : Core D E M m) (pid addr : ℕ) (width : Width) (access : Access) (r : Result Phys AccessRefusal) (stall : Stall)
-    → IsErrAnd r (λ e. e ≡ Refusal.Stall stall) → Stalls g h old new pid addr width access stall → IfErr r (IsRefusal g h old new pid addr width access)
-refused_as g h old new pid addr width access (Ok place) stall is stalls = tt
-refused_as g h old new pid addr width access (Err e) stall is stalls =
-    let P : AccessRefusal → Type 0 = λ x. IsRefusal g h old new pid addr width access x in subst P (sym is) stalls
+-- a call that hands on an error returns that
+pub err_is : {T E : Type 0} (r : Result T E) (e : E) → IsErrAnd r (λ x. x ≡ e) → Err e ≡ r
+err_is (Ok x) e is = absurd is
+err_is (Err x) e is = ap (λ y. Err y) (sym is)
 
-pub stalled_as : {M : Type 0} {m : Levels.Ghosts M} {D E : Type 0} (g : Ghosts D) (h : Ghosts E) (old new : Core D E M m) (pid page : ℕ) (access : Access) (r : Result FrameNo Stall) (stall : Stall)
-    → IsErrAnd r (λ e. e ≡ stall) → IsStalled g h old new pid page access stall → IfErr r (IsStalled g h old new pid page access)
-stalled_as g h old new pid page access (Ok n) stall is stalled = tt
-stalled_as g h old new pid page access (Err e) stall is stalled =
-    let P : Stall → Type 0 = λ x. IsStalled g h old new pid page access x in subst P (sym is) stalled
+begins_below : (m n : ℕ) → nat_le n m ≡ false → m < n
+begins_below m n h = grind (arith, nat_tests)
+
+begins_inside : (o : Option FileInfo) (k : ℕ) → is_past_end_of o k ≡ false → (info : FileInfo) × (o ≡ Some info) × (4096 * k < info.length)
+begins_inside None k inside = absurd (false≢true (sym inside))
+begins_inside (Some info) k inside = (info, refl, begins_below (4096 * k) info.length inside)
+
+-- a file page that isn't past the end is one of its file's
+inside_file : (files : Files) (p : FilePage) → is_past_end_of (files p.file) p.page ≡ false → IsPageOf files p.file p.page
+inside_file files p inside = begins_inside (files p.file) p.page inside
+
+names_itself : (p : ObjectPage) (b : Backing) → b ≡ Common p → is_object_page b p.object p.page ≡ true
+names_itself p b is = ap (λ x. is_object_page x p.object p.page) is ∙ rw (eq-eqb p.object p.object refl, eq-eqb p.page p.page refl) refl
+
+-- what stands behind a mapped page that isn't past the end of its file can be brought in
+page_for : {mode : ℕ} (c : Picture mode) (pid page : ℕ) (a : Attr) (b : Backing) (p : PageKey) → pid < 65 → page < widest_end → c.at pid page ≡ Some a → a.backing ≡ b → stands_on b ≡ Some p
+    → is_past_end c.files b ≡ false → IsPageFor c p
+page_for c pid page a Anon p low high mapped backed is inside = let bad : None ≡ Some p = is in (cc)
+page_for c pid page a (Private q) p low high mapped backed is inside =
+    let P : PageKey → Type 0 = λ x. IsPageFor c x in subst P (same_Some (File q) p is) (inside_file c.files q inside)
+page_for c pid page a (Shared q) p low high mapped backed is inside =
+    let P : PageKey → Type 0 = λ x. IsPageFor c x in subst P (same_Some (File q) p is) (inside_file c.files q inside)
+page_for c pid page a (Common q) p low high mapped backed is inside =
+    subst (λ (x : PageKey). IsPageFor c x) (same_Some (Object q) p is)
+    (named-at c.at q.object q.page pid page low high (ap (λ x. names x q.object q.page) mapped ∙ names_itself q a.backing backed))
+
+low_number : (pid : ℕ) → pid ≤ 64 → pid < 65
+low_number pid low = omega (arith, low)
+
+pub page_inside : {mode : ℕ} (c : Picture mode) (pid page : ℕ) (a : Attr) (p : PageKey) → IsLinked c pid page → c.at pid page ≡ Some a → stands_on a.backing ≡ Some p → is_past_end c.files a.backing ≡ false → IsPageFor c p
+page_inside {mode = mode} c pid page a p linked mapped is inside =
+    let root = some_of (c.root pid) linked.lives in
+    let high = (page_user c pid page a linked.fit mapped).1 in
+    page_for c pid page a a.backing p (low_number pid (linked.fit.rooted.numbers pid root.0 root.1).1) (omega (arith, high, (sizes mode).most)) mapped refl is inside

@@ -56,7 +56,8 @@ pub(crate) fn grant<D: SectorDisk, E: SectorDisk, M: Levels>(
     }
 }
 
-/// Of a page on whose way a table may be missing.
+/// Of a page on whose way a table may be missing. (never inlined: what it does once its tables are made stands in it a second time)
+#[inline(never)]
 fn grant_unlinked<D: SectorDisk, E: SectorDisk, M: Levels>(
     core: &mut Core<D, E, M>,
     pid: Pid,
@@ -79,6 +80,7 @@ fn grant_unlinked<D: SectorDisk, E: SectorDisk, M: Levels>(
 }
 
 /// Of a page on whose way no table is missing.
+#[inline(always)]
 fn grant_linked<D: SectorDisk, E: SectorDisk, M: Levels>(
     core: &mut Core<D, E, M>,
     spot: &Spot,
@@ -99,6 +101,7 @@ fn grant_linked<D: SectorDisk, E: SectorDisk, M: Levels>(
 }
 
 /// Makes the entry of a page that doesn't lie in a slot grant loads or fetches, as its permission has them. `was` is what it was.
+#[inline(always)]
 fn grant_read<D: SectorDisk, E: SectorDisk, M: Levels>(
     core: &mut Core<D, E, M>,
     spot: &Spot,

@@ -1,9 +1,5 @@
 -- Which sectors calls ask for.
-use Rattle.std.proofs.Common.{◌≡◌, ℕ, inl, inr, subst}
-use Rattle.vm_types.specs.declared.file.FilePage.{FilePage}
-use Rattle.disk_model.specs.{Stop.{Image, Names}, Moments.{AsksOnly}, declared.sector_disk.SectorDisk.{Ghosts}}
-use Rattle.disk_model.proofs.Moments.{asks_wider, asks_then}
-use Rattle.sync_journal.specs.{Layout.{IsPageSector}, Kinds.{journal_stands, IsStoreAsked}}
+use Rattle.file_store.proofs.Names.{◌≡◌, ℕ, inl, inr, subst, FilePage, Image, Names, AsksOnly, Ghosts, asks_wider, asks_then, IsPageSector, journal_stands, IsStoreAsked}
 use Rattle.file_store.specs.{declared.store.FileStore.{FileStore}, Standing.{IsHeadIn, IsAskedToOpen}, Versions.{version_of}, Store.{home_of, IsSectorOf}}
 
 module _ {D : Type 0} (g : Ghosts D) where

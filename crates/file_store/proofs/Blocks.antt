@@ -1,9 +1,5 @@
 -- A store of layout 3, made from sync to sync.
-use Rattle.std.proofs.{Common.{◌≡◌, ◌⊎◌, ◌≤◌, ℕ, ⊎_elim, inl, inr, Result, Ok, Err, OnOk, sym, ◌∙◌, arith}, lemmas.Result.{on_ok_weaker}}
-use Rattle.std.specs.Prelude.{IsErrAnd}
-use Rattle.disk_model.specs.{Stop.{Image}, Moments.{Touches}, declared.sector_disk.SectorDisk.{Ghosts}}
-use Rattle.disk_model.proofs.Moments.{then, wider}
-use Rattle.sync_journal.specs.{declared.store_journal.Journals.TheVariants.{Single, Paired}, declared.store_journal.Journals.{Journals}, Kinds.{kind_of}, Blocks.{LeavesInBlocks}}
+use Rattle.file_store.proofs.Names.{◌≡◌, ◌⊎◌, ◌≤◌, ℕ, ⊎_elim, inl, inr, Result, Ok, Err, OnOk, sym, ◌∙◌, arith, on_ok_weaker, IsErrAnd, Image, Touches, Ghosts, then, wider, Single, Paired, Journals, kind_of, LeavesInBlocks}
 use Rattle.file_store.specs.{Layout.{turn_mark, IsMark}, Format.{IsFrom, IsKindSector, IsMarkSector}, Blocks.{MakesByBlocks, KindBehind, KindLast}, Making.{WritesKindLast}, Blocks.MakesByBlocks.{Unmarked, OfKind, Marked}}
 
 pub single_paired : ◌≡◌ {A = Journals} Single Paired → ⊥

@@ -1,7 +1,5 @@
 -- What the faults of the calls below say.
-use Rattle.std.proofs.Common.{◌≡◌, ◌⊎◌, inl, inr, Result, Ok, Err, refl, ap}
-use Rattle.std.specs.Prelude.{IsErrAnd, OnErr}
-use Rattle.sync_journal.specs.declared.faults.RecoverFault.{RecoverFault}
+use Rattle.file_store.proofs.Names.{◌≡◌, ◌⊎◌, inl, inr, Result, Ok, Err, refl, ap, IsErrAnd, OnErr, RecoverFault}
 use Rattle.sync_journal.specs.declared.faults.RecoverFault.TheVariants.{Device as RecoverDevice, BadJournal as RecoverBadJournal}
 use Rattle.file_store.specs.{declared.faults.OpenFault.TheVariants.{BadJournal}, Faults.{open_fault}}
 

@@ -1,15 +1,10 @@
 -- What a commit makes of the files.
-use Rattle.std.proofs.Common.{◌≡◌, ◌≢◌, ℕ, zero, suc, ◌+◌, ◌*◌, ◌<◌, ◌≤◌, ◌⊎◌, ⊎_elim, inl, inr, List, map, length, get_or, take, slice_get, slice_index, Option, Some, None, cond, false, eqb, refl, sym, ap, subst, ◌∙◌, arith}
-use Rattle.std.proofs.{lemmas.Bool.{cases_eq, cases_lt, eq-eqb}, lemmas.Bool.Decides.{nat_tests}, lemmas.List.{length-take-le, get_or-take, length-map, get_or-map}, lemmas.Grind.{same_number_lists}}
-use Rattle.std.proofs.lemmas.Option.{same_Some, slice_get-get_or, slice_get_within}
-use Rattle.disk_model.specs.{Stop.{Image}, Sectors.{part_of}}
-use Rattle.sync_journal.specs.{Kinds.{kind_home_count, StoreStandsFor, StoreStandsForEither, IsStoreKept}, Map.{place_among, AreHomes}, Commit.{changed, sector_or}, declared.store_journal.Journals.{Journals}}
-use Rattle.vm_types.specs.{declared.file.FileInfo.{FileInfo}, declared.file.FilePage.{FilePage}}
+use Rattle.file_store.proofs.Names.{◌≡◌, ◌≢◌, ℕ, zero, suc, ◌+◌, ◌*◌, ◌<◌, ◌≤◌, ◌⊎◌, ⊎_elim, inl, inr, List, map, length, get_or, take, slice_get, slice_index, Option, Some, None, cond, false, eqb, refl, sym, ap, subst, ◌∙◌, arith}
+use Rattle.file_store.proofs.Names.{cases_eq, cases_lt, eq-eqb, nat_tests, length-take-le, get_or-take, length-map, get_or-map, same_number_lists, same_Some, slice_get-get_or, slice_get_within, Image, part_of, kind_home_count}
+use Rattle.file_store.proofs.Names.{StoreStandsFor, StoreStandsForEither, IsStoreKept, place_among, AreHomes, changed, sector_or, Journals, FileInfo, FilePage, joined-same, joined_parts}
 use Rattle.file_store.specs.{declared.directory.Entry.{Entry}, declared.directory.Directory.{Directory}, Layout.{padded_page, bytes_inside}, Directory.{IsSoundDirectory, IsHomeOf}}
 use Rattle.file_store.specs.{Standing.{IsPageOf, StandsFor, standing, directory_entry, page_standing, standing_page}, Store.{entry_of, home_of, homes_of_pages, inside_named, inside_at, IsEntryPage, PutsHomes, PutsHomesOrNone}}
-use Rattle.file_store.specs.Commit.{cut_page, ArePages, Changes, StandsForEither}
-use Rattle.disk_model.proofs.Pieces.{joined-same, joined_parts}
-use Rattle.file_store.proofs.{Pieces.{trimmed-trimmed, length-trimmed}, Homes.{entry_behind, home_of-entry, is_home, one_file, one_page, home_inside, inside_of-entry}}
+use Rattle.file_store.{specs.Commit.{cut_page, ArePages, Changes, StandsForEither}, proofs.{Pieces.{trimmed-trimmed, length-trimmed}, Homes.{entry_behind, home_of-entry, is_home, one_file, one_page, home_inside, inside_of-entry}}}
 use Rattle.file_store.proofs.Images.{SameHead, same_head, entry_same, info_same, bad_layout_moves, stands_kept}
 
 eqb-ne : (m n : ℕ) → m ≢ n → eqb m n ≡ false

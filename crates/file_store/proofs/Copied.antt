@@ -1,11 +1,8 @@
 -- How pages go on being copied, and how it ends.
-use Rattle.std.proofs.Common.{◌≡◌, ◌<◌, ◌≤◌, ℕ, Result, Ok, Err, ⊎_elim, inl, inr, refl, sym, ap, subst, ◌∙◌, arith}
-use Rattle.std.specs.Prelude.{IsErrAnd}
-use Rattle.disk_model.specs.{Stop.{Image}, Moments.{AsksOnly, Nothing}, declared.sector_disk.SectorDisk.{Ghosts}}
-use Rattle.disk_model.proofs.Moments.{asks_then, asks_wider}
-use Rattle.sync_journal.specs.{declared.store_journal.Journals.{Journals}, Layout.{layout_before, home_count_in}, Kinds.{kind_home_count}, Runs.{RunsOnDevice}}
-use Rattle.file_store.specs.{declared.faults.OpenFault.{OpenFault}, declared.faults.UpgradeFault.{UpgradeFault}, declared.faults.UpgradeFault.TheVariants.{OldDevice, NewDevice}, declared.old_store.OldStore.{OldStore}}
-use Rattle.file_store.specs.{Directory.{home_end, IsSoundDirectory}, Faults.{old_fault}, Making.{Makes}, Opened.{LooksAt}, Store.{entry_of}, Upgrade.{IsOldStore, IsOldHead, IsOldFile, IsOldAsked, HasUpgradeCauses}}
+use Rattle.file_store.proofs.Names.{◌≡◌, ◌+◌, ◌<◌, ◌≤◌, ℕ, Result, Ok, Err, ⊎_elim, inl, inr, refl, sym, ap, subst, ◌∙◌, arith, IsErrAnd, Image, Names, AsksOnly, Nothing, Ghosts, asks_named, asks_then, asks_wider, Journals, layout_before}
+use Rattle.file_store.proofs.Names.{home_count_in, IsPageSector, kind_home_count, RunsOnDevice}
+use Rattle.file_store.specs.{declared.directory.Entry.{Entry}, declared.faults.OpenFault.{OpenFault}, declared.faults.UpgradeFault.{UpgradeFault}, declared.faults.UpgradeFault.TheVariants.{OldDevice, NewDevice}, declared.old_store.OldStore.{OldStore}}
+use Rattle.file_store.specs.{Directory.{home_end, IsSoundDirectory}, Faults.{old_fault}, Making.{Makes}, Opened.{LooksAt}, Store.{entry_of}, Upgrade.{IsOldStore, IsOldHead, IsOldFile, IsOldPage, IsOldAsked, HasUpgradeCauses, old_place}}
 use Rattle.file_store.specs.Upgraded.{IsCopiable, CopiesPages}
 use Rattle.file_store.specs.declared.faults.OpenFault.TheVariants.{Device as OpenDevice, BadLayout, BadJournal}
 use Rattle.file_store.proofs.{Causes.{is_this, same_Err}, Looking.{ok_is_no_err}, Openings.{content_is}}
@@ -76,6 +73,19 @@ copied_old_asked g kind old read new same head files =
     let W : ℕ → Type 0 = IsOldAsked kind (g.content old) in
     asks_then g W old read new (asks_wider g (IsOldHead kind) W old read (λ k at. inl at) head)
     (asks_wider g (IsOldFile kind (g.content read)) W read new (λ k at. inr (subst (λ (i : Image). IsOldFile kind i k) same at)) files)
+
+-- a file's pages, and one more where it stands
+pub page_asked : {D : Type 0} (g : Ghosts D) (kind was : Journals) (e : Entry) (k more : ℕ) (old mid new : D) → k < more → was ≡ kind → g.content mid ≡ g.content old
+    → AsksOnly g (IsOldPage kind (g.content old) e k) old mid → Names (IsPageSector (old_place was (g.content mid) (e.first + k))) (g.asked mid) (g.asked new)
+    → AsksOnly g (IsOldPage kind (g.content old) e more) old new
+page_asked g kind was e k more old mid new less is same asks page =
+    let W : ℕ → Type 0 = IsOldPage kind (g.content old) e more in
+    asks_then g W old mid new (asks_wider g (IsOldPage kind (g.content old) e k) W old mid (λ s at. (at.0, omega (arith, at.1, less), at.2)) asks)
+    (asks_named g W (IsPageSector (old_place was (g.content mid) (e.first + k))) mid new (λ s at. (
+      k,
+      less,
+      subst (λ (image : Image). IsPageSector (old_place kind image (e.first + k)) s) same (subst (λ b. IsPageSector (old_place b (g.content mid) (e.first + k)) s) is at),
+    )) page)
 
 module _ {D E : Type 0} (g : Ghosts D) (h : Ghosts E) where
   -- what was known of the store is known of it still where it is only read

@@ -1,7 +1,7 @@
 -- Directory sectors, entry by entry.
-use Rattle.std.proofs.{Common.{◌≡◌, ℕ, ◌+◌, ◌<◌, ◌≤◌, ⊎_elim, List, length, get_or, take, set, Option, Some, None, sym, subst, ◌∙◌, arith}, lemmas.Bool.{cases_eq, cases_lt}}
-use Rattle.std.proofs.{lemmas.List.{get_or-take, get_or-set_same, get_or-set_other, get_or_past, length-take-le}, lemmas.Option.{none-some}, lemmas.Bool.Decides.{nat_tests}}
-use Rattle.std.specs.Prelude.{IfSome, ◌^◌}
+use Rattle.file_store.proofs.Names.{◌≡◌, ℕ, ◌+◌, ◌<◌, ◌≤◌, ⊎_elim, List, length, get_or, take, set, Option, Some, None, sym, subst, ◌∙◌, arith, cases_eq, cases_lt, get_or-take, get_or-set_same, get_or-set_other, get_or_past, length-take-le}
+use Rattle.file_store.proofs.Names.{none-some, nat_tests, IfSome}
+use Rattle.std.specs.Prelude.{◌^◌}
 use Rattle.file_store.specs.{declared.directory.Entry.{Entry}, Directory.{decoded, entry_in, entry_bytes, IsZero, home_end, IsHomeOf, IsBadDirectory, IsSoundDirectory, AreGood, AreEntries}}
 use Rattle.file_store.specs.Directory.IsBadDirectory.{NotZero, Outside, Overlap}
 

@@ -1,9 +1,6 @@
 -- Pages of zeros whose front is read from a source.
-use Rattle.std.proofs.{Common.{◌≡◌, ℕ, ◌-◌, ◌≤◌, List, [], ◌++◌, length, drop, replicate, Option, Some, None, refl, sym, ap, ◌∙◌, arith}, lemmas.List.{take_all, take_at, drop_at, length-append, drop-replicate}}
-use Rattle.std.proofs.lemmas.Option.{none-some, same_Some}
-use Rattle.std.specs.Io.KnownBytes.{Consumes}
-use Rattle.file_store.specs.Layout.{padded_page}
-use Rattle.file_store.proofs.Pieces.{trimmed-trimmed}
+use Rattle.file_store.proofs.Names.{◌≡◌, ℕ, ◌-◌, ◌≤◌, List, [], ◌++◌, length, drop, replicate, Option, Some, None, refl, sym, ap, ◌∙◌, arith, take_all, take_at, drop_at, length-append, drop-replicate, none-some, same_Some, Consumes}
+use Rattle.file_store.{specs.Layout.{padded_page}, proofs.Pieces.{trimmed-trimmed}}
 
 -- the front of what is told, and zeros
 pub trimmed_front : (n : ℕ) (given rest : List ℕ) → length given ≡ n → n ≤ 4096 → given ++ drop n (replicate 4096 0) ≡ padded_page n (given ++ rest)

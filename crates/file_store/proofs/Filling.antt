@@ -1,9 +1,6 @@
 -- How homes go on being filled, and how it ends.
-use Rattle.std.proofs.Common.{◌≡◌, ◌<◌, ℕ, Result, Ok, Err, ⊎_elim, inl, inr, refl, sym, ap, subst, ◌∙◌, arith}
-use Rattle.std.specs.Prelude.{IsErrAnd}
-use Rattle.disk_model.specs.declared.sector_disk.SectorDisk.{Ghosts}
-use Rattle.file_store.specs.{declared.faults.FormatFault.{FormatFault}, declared.faults.FormatFault.TheVariants.{Source, Device}, Making.{Makes, HasFormatCauses, FillsHomes}}
-use Rattle.file_store.proofs.{Causes.{is_this, same_Err}, Looking.{ok_is_no_err}}
+use Rattle.file_store.proofs.Names.{◌≡◌, ◌<◌, ℕ, Result, Ok, Err, ⊎_elim, inl, inr, refl, sym, ap, subst, ◌∙◌, arith, IsErrAnd, Ghosts}
+use Rattle.file_store.{specs.{declared.faults.FormatFault.{FormatFault}, declared.faults.FormatFault.TheVariants.{Source, Device}, Making.{Makes, HasFormatCauses, FillsHomes}}, proofs.{Causes.{is_this, same_Err}, Looking.{ok_is_no_err}}}
 
 device_no_source : ◌≡◌ {A = FormatFault} Device Source → ⊥
 device_no_source e = cc

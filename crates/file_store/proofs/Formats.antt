@@ -1,8 +1,6 @@
 -- What a stop leaves while a store is made: all but the mark is written and synced, and then the mark.
-use Rattle.std.proofs.Common.{◌≡◌, ◌⊎◌, ◌+◌, ◌<◌, ◌≤◌, ℕ, ⊎_elim, inl, inr, List, length, Option, sym, ap, subst, ◌∙◌, arith}
-use Rattle.disk_model.specs.{Stop.{Image, MayLeave}, Moments.{Touches, LeavesOnly}, declared.sector_disk.SectorDisk.{Ghosts}}
-use Rattle.disk_model.proofs.Moments.{started, goes_on}
-use Rattle.sync_journal.specs.{Kinds.{kind_of, kind_homes, kind_home, kind_home_count}, declared.store_journal.Journals.{Journals}, declared.store_journal.Journals.TheVariants.{Single, Paired}}
+use Rattle.file_store.proofs.Names.{◌≡◌, ◌⊎◌, ◌+◌, ◌<◌, ◌≤◌, ℕ, ⊎_elim, inl, inr, List, length, Option, sym, ap, subst, ◌∙◌, arith, Image, MayLeave, Touches, LeavesOnly, Ghosts, started, goes_on, kind_of, kind_homes, kind_home}
+use Rattle.file_store.proofs.Names.{kind_home_count, Journals, Single, Paired}
 use Rattle.file_store.specs.{declared.sources.FileSource.{FileSource}, Layout.{turn_mark, IsMark, bytes_inside}, Versions.{version_at, version_of, mark_of}}
 use Rattle.file_store.specs.Format.{total_pages, first_home, page_given, IsFrom, IsMarkSector, IsTableSector, IsDirectoryOf, HoldsFiles, HasTables, IsStoreOf, IsUnmarkedStoreOf, IsKindlessStoreOf}
 use Rattle.file_store.proofs.{Images.{sector_kind, is_some_mark}, NewStores.{cut_moves, unmarked_moves, store_if_marked}, Blocks.{single_paired}}

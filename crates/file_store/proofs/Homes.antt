@@ -1,8 +1,5 @@
 -- The homes of pages.
-use Rattle.std.proofs.{Common.{◌≡◌, ℕ, ◌+◌, ◌*◌, ◌<◌, ◌≤◌, ⊎_elim, Option, Some, None, refl, sym, ap, subst, ◌∙◌, arith}, lemmas.Bool.{cases_eq, cases_lt}, lemmas.Option.{none-some, same_Some}}
-use Rattle.std.specs.Option.{option_map}
-use Rattle.sync_journal.specs.{Kinds.{kind_home_count}, declared.store_journal.Journals.{Journals}}
-use Rattle.vm_types.specs.{declared.file.FileInfo.{FileInfo}, declared.file.FilePage.{FilePage}}
+use Rattle.file_store.proofs.Names.{◌≡◌, ℕ, ◌+◌, ◌*◌, ◌<◌, ◌≤◌, ⊎_elim, Option, Some, None, refl, sym, ap, subst, ◌∙◌, arith, cases_eq, cases_lt, none-some, same_Some, option_map, kind_home_count, Journals, FileInfo, FilePage}
 use Rattle.file_store.specs.{declared.directory.Entry.{Entry}, declared.directory.Directory.{Directory}, Directory.{IsHomeOf, IsSoundDirectory}, Standing.{IsPageOf}}
 use Rattle.file_store.specs.{Store.{entry_of, entry_home, home_of, inside_in, inside_named, IsEntryPage}, Layout.{bytes_inside}}
 

@@ -1,3 +1,4 @@
+mod Names
 pub mod Entries
 pub mod Pieces
 pub mod Reading

@@ -1,10 +1,6 @@
 -- A look at a layout: one call after another.
-use Rattle.std.proofs.{Common.{◌≡◌, ◌<◌, ℕ, Result, Ok, Err, inl, sym, ap, subst, ◌∙◌, arith}, lemmas.Result.{on_ok_weaker, on_err_weaker}}
-use Rattle.std.specs.Prelude.{IsErrAnd}
-use Rattle.disk_model.specs.{Stop.{Image}, Moments.{AsksOnly, Nothing, Touches}, declared.sector_disk.SectorDisk.{Ghosts}}
-use Rattle.disk_model.proofs.Moments.{asks_then, asks_wider}
-use Rattle.sync_journal.specs.{declared.store_journal.Journals.{Journals}, declared.store_journal.Journals.TheVariants.{Paired}, Kinds.{kind_of}, Runs.{RunsOnDevice}}
-use Rattle.sync_journal.proofs.Runs.{one_more}
+use Rattle.file_store.proofs.Names.{◌≡◌, ◌<◌, ℕ, Result, Ok, Err, inl, sym, ap, subst, ◌∙◌, arith, on_ok_weaker, on_err_weaker, IsErrAnd, Image, AsksOnly, Nothing, Touches, Ghosts, asks_then, asks_wider, Journals, Paired, kind_of}
+use Rattle.file_store.proofs.Names.{RunsOnDevice, one_more}
 use Rattle.file_store.specs.{declared.faults.OpenFault.{OpenFault}, declared.version.Version.{Version}, Opened.{LooksFor}, Standing.{IsHeadIn}, Versions.{version_at, version_of, directory_of}}
 use Rattle.file_store.proofs.{Causes.{is_this, same_Err}, Openings.{content_is, directory_asked}}
 

@@ -1,9 +1,6 @@
 -- How the parts of making a store go on.
-use Rattle.std.proofs.Common.{◌≡◌, ◌⊎◌, ◌≤◌, ◌<◌, ℕ, Result, OnOk, sym, subst, ◌∙◌, arith}
-use Rattle.std.specs.Prelude.{IsErr}
-use Rattle.disk_model.specs.{Stop.{ChangesOnly, Elapses, Names}, declared.sector_disk.SectorDisk.{Ghosts}}
-use Rattle.disk_model.proofs.Moments.{then, wider, after_write, after_none, asks_then, asks_wider, asks_named, asks_none}
-use Rattle.sync_journal.specs.{Layout.{IsPageSector}, Runs.{RunsOnDevice}}
+use Rattle.file_store.proofs.Names.{◌≡◌, ◌⊎◌, ◌≤◌, ◌<◌, ℕ, Result, OnOk, sym, subst, ◌∙◌, arith, IsErr, ChangesOnly, Elapses, Names, Ghosts, then, wider, after_write, after_none, asks_then, asks_wider, asks_named, asks_none, IsPageSector}
+use Rattle.file_store.proofs.Names.{RunsOnDevice}
 use Rattle.file_store.specs.Making.{Makes, WritesTo, WritesSynced}
 
 module _ {D : Type 0} (g : Ghosts D) where

@@ -1,9 +1,6 @@
 -- How a new store comes about: a look at the mark, then all but the mark, written and synced, and then the mark.
-use Rattle.std.proofs.Common.{◌≡◌, ◌⊎◌, ◌≤◌, ℕ, List, Result, Err, Option, inl, inr, ⊎_elim, sym, ap, subst}
-use Rattle.std.specs.Prelude.{IsErrAnd, IsErrOf}
-use Rattle.disk_model.specs.{Stop.{Image, MayLeave}, Moments.{Nothing, Touches, AsksOnly, LeavesOnly}, declared.sector_disk.SectorDisk.{Ghosts}}
-use Rattle.disk_model.proofs.Moments.{then, wider, asks_wider}
-use Rattle.sync_journal.specs.{declared.store_journal.Journals.{Journals}, declared.store_journal.Journals.TheVariants.{Paired}, Kinds.{kind_of}, Runs.{RunsOnDevice}}
+use Rattle.file_store.proofs.Names.{◌≡◌, ◌⊎◌, ◌≤◌, ℕ, List, Result, Err, Option, inl, inr, ⊎_elim, sym, ap, subst, IsErrAnd, IsErrOf, Image, MayLeave, Nothing, Touches, AsksOnly, LeavesOnly, Ghosts, then, wider, asks_wider, Journals}
+use Rattle.file_store.proofs.Names.{Paired, kind_of, RunsOnDevice}
 use Rattle.file_store.specs.{declared.faults.FormatFault.{FormatFault}, declared.faults.FormatFault.TheVariants.{TooLarge, Formatted, Source, Device}, declared.sources.FileSource.{FileSource}, Blocks.{MakesByBlocks, KindBehind, KindLast}}
 use Rattle.file_store.specs.{Blocks.MakesByBlocks.{Unmarked}, Format.{total_pages, IsFrom, IsMarkSector, IsStoreSector, IsTooLarge, HasReader, IsStoreOf}, Formatted.{FormatsStore}, Layout.{turn_mark, IsMark}}
 use Rattle.file_store.specs.{Making.{Makes, HasFormatCauses}, Versions.{version_of, mark_of}}

@@ -1,11 +1,7 @@
 -- What an opening leaves: a look at the head of the store, and then its journal.
-use Rattle.std.proofs.Common.{◌≡◌, ◌<◌, ℕ, Result, Err, inl, refl, ⊎_elim, sym, ap, subst, ◌∙◌, arith}
-use Rattle.disk_model.specs.{Stop.{Image, MayLeave}, Moments.{Nothing, Touches, AsksOnly}, declared.sector_disk.SectorDisk.{Ghosts}}
-use Rattle.disk_model.proofs.Moments.{then}
-use Rattle.sync_journal.specs.{declared.faults.RecoverFault.{RecoverFault}, declared.store_journal.Journals.{Journals}, declared.store_journal.StoreJournal.{StoreJournal}}
-use Rattle.sync_journal.specs.{Kinds.{kind_of, IsBadStore, IsStoreClosed, IsStoreRecovered, StoreStandsAs}, Recovering.{RecoversEither}, Runs.{RunsOnDevice}}
+use Rattle.file_store.proofs.Names.{◌≡◌, ◌<◌, ℕ, Result, Err, inl, refl, ⊎_elim, sym, ap, subst, ◌∙◌, arith, Image, MayLeave, Nothing, Touches, AsksOnly, Ghosts, then, RecoverFault, Journals, StoreJournal, kind_of, IsBadStore}
+use Rattle.file_store.proofs.Names.{IsStoreClosed, IsStoreRecovered, StoreStandsAs, RecoversEither, RunsOnDevice, read_only, while_reading, same_store}
 use Rattle.sync_journal.specs.declared.faults.RecoverFault.TheVariants.{Device as RecoverDevice, BadJournal as RecoverBadJournal}
-use Rattle.sync_journal.proofs.{Runs.{read_only}, InKinds.{while_reading, same_store}}
 use Rattle.file_store.specs.{declared.faults.OpenFault.{OpenFault}, Faults.{open_fault}, Opened.{LooksFor, Mounts}, Resume.{IsRefusedFor}, Standing.{IsBadLayout, IsHeadIn}, Versions.{version_of}}
 use Rattle.file_store.proofs.{Asking.{head_asks, opening_asks}, Causes.{journal_from, fault_cases, same_Err}, Openings.{content_is, recovery_leaves, reads_by_blocks, opens_by_blocks}}
 

@@ -1,18 +1,11 @@
 -- The directory and the homes of a new store.
-use Rattle.std.proofs.Common.{◌≡◌, ℕ, zero, suc, ◌+◌, ◌*◌, ◌%◌, ◌<◌, ◌≤◌, ⊎_elim, Bool, true, false, List, [], ◌∷◌, ◌++◌, length, drop, slice_get, Option, Some, None, Result, Ok, Err, OnOk, refl, sym, ap, subst, ◌∙◌, arith}
-use Rattle.std.proofs.{lemmas.Bool.{cases_lt}, lemmas.Slice.Eq.{bytes_eq-Decides}, lemmas.Option.{none-some, same_Some, slice_get_within, slice_get_cases}}
-use Rattle.std.specs.Option.{option_map}
-use Rattle.vm_types.specs.declared.file.FileInfo.{FileInfo}
-use Rattle.disk_model.specs.{Stop.{Image}, Sectors.{part_of, joined}}
-use Rattle.sync_journal.specs.{Gate.{closed_sector}, Turns.{turn_map}, Map.{map_count}, Kinds.{turn_kind, is_kind, kind_when, kind_of, kind_homes, kind_home, kind_home_count, kind_standing, IsKindBad, IsKindClosed}}
-use Rattle.sync_journal.specs.{declared.store_journal.Journals.{Journals}, declared.store_journal.Journals.TheVariants.{Single, Paired}}
-use Rattle.sync_journal.proofs.Gates.{closed}
+use Rattle.file_store.proofs.Names.{◌≡◌, ℕ, zero, suc, ◌+◌, ◌*◌, ◌%◌, ◌<◌, ◌≤◌, ⊎_elim, Bool, true, false, List, [], ◌∷◌, ◌++◌, length, drop, slice_get, Option, Some, None, Result, Ok, Err, OnOk, refl, sym, ap, subst, ◌∙◌, arith, cases_lt}
+use Rattle.file_store.proofs.Names.{bytes_eq-Decides, none-some, same_Some, slice_get_within, slice_get_cases, option_map, FileInfo, Image, part_of, joined, closed_sector, turn_map, map_count, turn_kind, is_kind, kind_when, kind_of}
+use Rattle.file_store.proofs.Names.{kind_homes, kind_home, kind_home_count, kind_standing, IsKindBad, IsKindClosed, Journals, Single, Paired, closed, joined-same, joined_parts}
 use Rattle.file_store.specs.{declared.directory.Entry.{Entry}, declared.sources.FileSource.{FileSource}, Layout.{pages_of_length, bytes_inside, padded_page}, Directory.{AreGood}}
-use Rattle.file_store.specs.{Standing.{IsBadLayoutIn, standing, listed_entry, info_at, directory_entry, page_standing, standing_page}, Versions.{version_at, version_of, homes_of, home_pages_of, directory_of, mark_of}}
-use Rattle.file_store.specs.Format.{page_told, page_given, info_of, files_given, total_pages, told_by, first_home, entry_given, HoldsPage, HoldsCut, IsEmptyJournal, HasHead, HasTables, IsTooLarge, IsDirectoryOf, IsUnmarkedStoreOf, IsStoreOf}
-use Rattle.file_store.specs.Format.IsTooLarge.{TooFewSectors, TooManyPages}
-use Rattle.disk_model.proofs.Pieces.{joined-same, joined_parts}
-use Rattle.file_store.proofs.{Pieces.{trimmed-trimmed, length-trimmed}, Images.{sector_kind, kind_closed, kind_not_bad, homes_same, homes_behind, directory_inside, layout_is_good_in}}
+use Rattle.file_store.specs.{Standing.{IsBadLayoutIn, standing, listed_entry, info_at, directory_entry, page_standing, standing_page}, Versions.{version_at, version_of, homes_of, home_pages_of, directory_of, mark_of}, Format.{page_told}}
+use Rattle.file_store.specs.Format.{page_given, info_of, files_given, total_pages, told_by, first_home, entry_given, HoldsPage, HoldsCut, IsEmptyJournal, HasHead, HasTables, IsTooLarge, IsDirectoryOf, IsUnmarkedStoreOf, IsStoreOf}
+use Rattle.file_store.{specs.Format.IsTooLarge.{TooFewSectors, TooManyPages}, proofs.{Pieces.{trimmed-trimmed, length-trimmed}, Images.{sector_kind, kind_closed, kind_not_bad, homes_same, homes_behind, directory_inside, layout_is_good_in}}}
 
 -- where a list goes on
 pub slice_get-drop : {A : Type 0} → (list : List A) (n : ℕ) → slice_get (drop n list) 0 ≡ slice_get list n

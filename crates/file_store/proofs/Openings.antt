@@ -1,13 +1,9 @@
 -- What opening leaves meanwhile.
-use Rattle.std.proofs.Common.{◌≡◌, ◌≤◌, ℕ, false, List, Option, Result, Ok, Err, OnOk, inl, inr, refl, ⊎_elim, sym, ap, subst, ◌∙◌, arith}
-use Rattle.disk_model.specs.{Stop.{Image, MayLeave}, Moments.{Nothing, Touches, LeavesOnly}, declared.sector_disk.SectorDisk.{Ghosts}}
-use Rattle.disk_model.proofs.Moments.{weaker, then}
-use Rattle.sync_journal.specs.{Kinds.{StoreStandsAs, KeepsStore, is_kind, kind_when, kind_of, kind_home_count}, Blocks.{MayLeaveBlocks, LeavesInBlocks, RecoversInBlocks}, Layout.{layout_before, home_count_in}}
-use Rattle.sync_journal.specs.{declared.store_journal.Journals.{Journals}, declared.store_journal.Journals.TheVariants.{Single, Paired}}
-use Rattle.sync_journal.proofs.{InTurn.{blocks_weaker, commits_weaker}, InKinds.{while_reading, while_recovering, same_store}}
+use Rattle.file_store.proofs.Names.{◌≡◌, ◌≤◌, ℕ, false, List, Option, Result, Ok, Err, OnOk, inl, inr, refl, ⊎_elim, sym, ap, subst, ◌∙◌, arith, Image, MayLeave, Nothing, Touches, LeavesOnly, Ghosts, weaker, then, StoreStandsAs, KeepsStore}
+use Rattle.file_store.proofs.Names.{is_kind, kind_when, kind_of, kind_home_count, MayLeaveBlocks, LeavesInBlocks, RecoversInBlocks, layout_before, home_count_in, Journals, Single, Paired, blocks_weaker, commits_weaker, while_reading}
+use Rattle.file_store.proofs.Names.{while_recovering, same_store}
 use Rattle.file_store.specs.{declared.version.Version.{Version}, declared.directory.Entry.{Entry}, Versions.{version_at, version_before, version_of, homes_of, home_pages_of, directory_of, mark_of}, Directory.{IsSoundDirectory, AreGood}}
-use Rattle.file_store.specs.{Blocks.{OpensByBlocks}, Standing.{StandsAs, IsHeadIn, IsBadLayoutIn}}
-use Rattle.file_store.proofs.{Images.{sector_kind, stands_kept, layout_is_good_in}, Reading.{same_content}, Stops.{stands_as_again}}
+use Rattle.file_store.{specs.{Blocks.{OpensByBlocks}, Standing.{StandsAs, IsHeadIn, IsBadLayoutIn}}, proofs.{Images.{sector_kind, stands_kept, layout_is_good_in}, Reading.{same_content}, Stops.{stands_as_again}}}
 
 -- what was found of the kind: where the mark claims layout 3 it was read, and otherwise sector 1 holds a directory
 pub kind_found : (kind : Journals) (image : Image) (sector : List ℕ) → (kind ≡ Paired → kind_of image ≡ Paired) → is_kind sector ≡ false → sector ≡ image (directory_of (version_at kind)) → kind_of image ≡ kind

@@ -1,7 +1,5 @@
 -- An opening leaves what lies outside the gate, the journals and the homes.
-use Rattle.std.proofs.Common.{◌≡◌, ℕ, ⊎_elim, arith}
-use Rattle.disk_model.specs.{Stop.{Image}, Moments.{Touches}, declared.sector_disk.SectorDisk.{Ghosts}}
-use Rattle.sync_journal.specs.{Kinds.{kind_of, IsKindRecovered, IsKindOutside, IsStoreRecovered, IsOutsideOf}, declared.store_journal.Journals.{Journals}, declared.store_journal.Journals.TheVariants.{Single, Paired}}
+use Rattle.file_store.proofs.Names.{◌≡◌, ℕ, ⊎_elim, arith, Image, Touches, Ghosts, kind_of, IsKindRecovered, IsKindOutside, IsStoreRecovered, IsOutsideOf, Journals, Single, Paired}
 
 not_recovered : (kind : Journals) (sectors k : ℕ) → IsKindOutside kind sectors k → IsKindRecovered kind sectors k → ⊥
 not_recovered Single sectors k outside written = ⊎_elim

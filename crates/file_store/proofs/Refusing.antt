@@ -1,8 +1,5 @@
 -- Why an upgrade is refused.
-use Rattle.std.proofs.Common.{◌≡◌, ◌⊎◌, ◌≤◌, ℕ, Result, Err, inl, inr, refl, ⊎_elim, sym, ap, subst, ◌∙◌, arith}
-use Rattle.std.specs.Prelude.{IsErrAnd, IsErrOf}
-use Rattle.disk_model.specs.{Stop.{Image}, Moments.{Nothing, Touches, AsksOnly}, declared.sector_disk.SectorDisk.{Ghosts}}
-use Rattle.sync_journal.specs.{declared.store_journal.Journals.{Journals}, Runs.{RunsOnDevice}}
+use Rattle.file_store.proofs.Names.{◌≡◌, ◌⊎◌, ◌≤◌, ℕ, Result, Err, inl, inr, refl, ⊎_elim, sym, ap, subst, ◌∙◌, arith, IsErrAnd, IsErrOf, Image, Nothing, Touches, AsksOnly, Ghosts, Journals, RunsOnDevice}
 use Rattle.file_store.specs.{declared.directory.Directory.{Directory}, declared.faults.OpenFault.{OpenFault}, declared.faults.OpenFault.TheVariants.{Device, BadLayout, BadJournal}, declared.faults.UpgradeFault.{UpgradeFault}}
 use Rattle.file_store.specs.{declared.faults.UpgradeFault.TheVariants.{OldDevice, OldLayout, OldJournal, NewDevice, NewSmall, Formatted}, Faults.{old_fault}, Layout.{IsMark}, Standing.{IsBadOldLayout, IsBadOldJournal}, Store.{entry_of}}
 use Rattle.file_store.specs.{Upgrade.{old_entry, IsTooSmall, IsOldAsked, IsUpgradeSector, IsUpgradeOf, HasUpgradeCauses}, Upgrade.IsTooSmall.{FewSectors, FewHomes}, Upgraded.{HasRoomFor, HasCheckCauses, UpgradesStore}}

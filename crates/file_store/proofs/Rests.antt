@@ -1,9 +1,6 @@
 -- A store that a commit has left.
-use Rattle.std.proofs.Common.{◌≡◌, ℕ, ◌≤◌, ◌∙◌, Result, Ok, Err, OnOk, List, sym, subst}
-use Rattle.disk_model.specs.declared.sector_disk.SectorDisk.{Ghosts}
-use Rattle.sync_journal.specs.{Kinds.{kind_homes, kind_home_count, journal_kind, store_live, IsOutsideOf, IsStoreRest}, Map.{AreHomes}, declared.store_journal.StoreJournal.{StoreJournal}}
-use Rattle.file_store.specs.{declared.store.FileStore.{FileStore}, Directory.{IsSoundDirectory}, Store.{IsReadyStore, entry_of}}
-use Rattle.file_store.proofs.Images.{same_head, entry_same}
+use Rattle.file_store.proofs.Names.{◌≡◌, ℕ, ◌≤◌, ◌∙◌, Result, Ok, Err, OnOk, List, sym, subst, Ghosts, kind_homes, kind_home_count, journal_kind, store_live, IsOutsideOf, IsStoreRest, AreHomes, StoreJournal}
+use Rattle.file_store.{specs.{declared.store.FileStore.{FileStore}, Directory.{IsSoundDirectory}, Store.{IsReadyStore, entry_of}}, proofs.Images.{same_head, entry_same}}
 
 module _ {D : Type 0} (g : Ghosts D) where
   -- the journal is live with these homes, and the rest of the store is as it was

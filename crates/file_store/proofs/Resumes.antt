@@ -1,12 +1,7 @@
 -- What taking a store up leaves: a look at its head, and then its journal.
-use Rattle.std.proofs.Common.{◌≡◌, ℕ, Result, sym, subst, ◌∙◌, arith}
-use Rattle.disk_model.specs.{Stop.{Image, MayLeave}, Moments.{Nothing, Touches, AsksOnly}, declared.sector_disk.SectorDisk.{Ghosts}}
-use Rattle.disk_model.proofs.Moments.{then}
-use Rattle.sync_journal.specs.{Kinds.{kind_of, IsStoreClosed, KeepsStore}, Resuming.{IsKindResumed, IsStoreResumed, TakesUp}, Runs.{RunsOnDevice}, declared.faults.RecoverFault.{RecoverFault}, declared.store_journal.Journals.{Journals}}
-use Rattle.sync_journal.specs.declared.store_journal.StoreJournal.{StoreJournal}
-use Rattle.sync_journal.proofs.{Runs.{read_only}, InKinds.{while_reading}}
-use Rattle.file_store.specs.{Resume.{Resumes}, Standing.{IsHeadIn}, Versions.{version_of}}
-use Rattle.file_store.proofs.{Asking.{head_asks, opening_asks}, Openings.{content_is, recovery_leaves, files_stand}}
+use Rattle.file_store.proofs.Names.{◌≡◌, ℕ, Result, sym, subst, ◌∙◌, arith, Image, MayLeave, Nothing, Touches, AsksOnly, Ghosts, then, kind_of, IsStoreClosed, KeepsStore, IsKindResumed, IsStoreResumed, TakesUp, RunsOnDevice, RecoverFault}
+use Rattle.file_store.proofs.Names.{Journals, StoreJournal, read_only, while_reading}
+use Rattle.file_store.{specs.{Resume.{Resumes}, Standing.{IsHeadIn}, Versions.{version_of}}, proofs.{Asking.{head_asks, opening_asks}, Openings.{content_is, recovery_leaves, files_stand}}}
 
 module _ {D : Type 0} (g : Ghosts D) (old read : D) (head : RunsOnDevice g Nothing old read)
     (only_now : g.keeps_model old → (image : Image) → g.left_since old (g.moment old) image → MayLeave (g.content old) (g.unsynced old) image)

@@ -1,6 +1,5 @@
 -- Rows worked by hand: where the parts of layout 3 lie, and which layout an image has.
-use Rattle.std.proofs.Common.{◌≡◌, ◌≢◌, ℕ, true, false, List, replicate, slice_index, refl, ap, arith}
-use Rattle.sync_journal.specs.{Turns.{start_of, turn_body}, Kinds.{turn_kind, is_kind, kind_home, kind_home_count}, declared.store_journal.Journals.TheVariants.{Single, Paired}}
+use Rattle.file_store.proofs.Names.{◌≡◌, ◌≢◌, ℕ, true, false, List, replicate, slice_index, refl, ap, arith, start_of, turn_body, turn_kind, is_kind, kind_home, kind_home_count, Single, Paired}
 use Rattle.file_store.specs.{declared.version.Version.TheVariants.{Two, Three}, Layout.{mark, turn_mark}, Versions.{version_of}}
 
 -- the parts follow one another

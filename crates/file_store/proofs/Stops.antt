@@ -1,6 +1,5 @@
 -- Stops in a row.
-use Rattle.std.proofs.Common.{ℕ, zero, suc, sym, subst}
-use Rattle.disk_model.specs.{Stop.{Image}, declared.sector_disk.SectorDisk.{Ghosts}}
+use Rattle.file_store.proofs.Names.{ℕ, zero, suc, sym, subst, Image, Ghosts}
 use Rattle.file_store.specs.{Standing.{StandsAs}, Stops.{Opens, LeftInARow}}
 
 -- what stands for what stood before

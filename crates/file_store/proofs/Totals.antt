@@ -1,5 +1,5 @@
 -- The pages of several files.
-use Rattle.std.proofs.{Common.{◌≡◌, ℕ, zero, suc, ◌+◌, ◌<◌, ◌≤◌, List, [], ◌∷◌, length, get_or, drop, set, refl, sym, ap, arith}, lemmas.List.{drop-set-lt}}
+use Rattle.file_store.proofs.Names.{◌≡◌, ℕ, zero, suc, ◌+◌, ◌<◌, ◌≤◌, List, [], ◌∷◌, length, get_or, drop, set, refl, sym, ap, arith, drop-set-lt}
 use Rattle.file_store.specs.{declared.sources.FileSource.{FileSource}, Layout.{pages_of_length}, Format.{total_pages}}
 
 -- the rest of the files from file f on: it and those behind it

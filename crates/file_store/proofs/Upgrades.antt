@@ -1,11 +1,6 @@
 -- A store made anew in the next layout.
-use Rattle.std.specs.Option.{option_map}
-use Rattle.std.proofs.Common.{◌≡◌, ◌≢◌, ◌⊎◌, ◌+◌, ◌*◌, ◌<◌, ◌≤◌, ℕ, List, Option, Some, None, inl, inr, ⊎_elim, refl, sym, ap, subst, ◌∙◌, arith}
-use Rattle.vm_types.specs.declared.file.FileInfo.{FileInfo}
-use Rattle.disk_model.specs.{Stop.{Image}, Sectors.{joined, part_of}}
-use Rattle.disk_model.proofs.Pieces.{joined-same, joined_parts}
-use Rattle.sync_journal.specs.{Layout.{layout_before}, Kinds.{kind_of, kind_homes, kind_home, kind_home_count, kind_standing, IsKindBad, IsKindClosed}, Standing.{standing_in}, declared.store_journal.Journals.{Journals}}
-use Rattle.sync_journal.specs.declared.store_journal.Journals.TheVariants.{Single, Paired}
+use Rattle.file_store.proofs.Names.{option_map, ◌≡◌, ◌≢◌, ◌⊎◌, ◌+◌, ◌*◌, ◌<◌, ◌≤◌, ℕ, List, Option, Some, None, inl, inr, ⊎_elim, refl, sym, ap, subst, ◌∙◌, arith, FileInfo, Image, joined, part_of, joined-same, joined_parts, layout_before}
+use Rattle.file_store.proofs.Names.{kind_of, kind_homes, kind_home, kind_home_count, kind_standing, IsKindBad, IsKindClosed, standing_in, Journals, Single, Paired}
 use Rattle.file_store.specs.{Versions.{version_at, version_before, version_of, home_pages_of, directory_of, mark_of}, declared.directory.Entry.{Entry}, declared.faults.OpenFault.{OpenFault}}
 use Rattle.file_store.specs.{declared.faults.OpenFault.TheVariants.{Device, BadLayout, BadJournal}, declared.faults.UpgradeFault.TheVariants.{OldLayout}, Faults.{old_fault}, Layout.{turn_mark, pages_of_length, bytes_inside, padded_page}}
 use Rattle.file_store.specs.{Directory.{entry_in, home_end, IsHomeOf, IsBadDirectory, IsSoundDirectory}, Directory.IsBadDirectory.{NotZero, Outside, Overlap}, Format.{IsFrom, IsTableSector, HasTables, HoldsPage}}

@@ -1,14 +1,8 @@
 -- What a change of one frame leaves, and what keeps memory sound.
-use Rattle.std.proofs.{Common.{◌≡◌, ◌≢◌, ℕ, zero, suc, inl, inr, ◌+◌, ◌<◌, true, List, [], length, get_or, refl, sym, ap, ◌∙◌, subst, arith, length-set, get_or-set_same, get_or-set_other}, lemmas.Bool.{cases_eq, cases_lt, false≢true}}
-use Rattle.std.proofs.lemmas.List.{length-replicate, ext_get_or}
+use Rattle.std.proofs.{Common.{◌≡◌, ◌≢◌, ℕ, zero, suc, inl, inr, ◌+◌, ◌<◌, List, [], length, get_or, refl, sym, ap, ◌∙◌, subst, arith, length-set, get_or-set_same, get_or-set_other}, lemmas.Bool.{cases_eq, cases_lt, false≢true}}
+use Rattle.std.proofs.lemmas.List.{ext_get_or}
 use Rattle.std.specs.{Prelude.{slice_set, replicate, ◌-◌}, List.{CopiedTo, SameBelow, SameFrom}}
-use Rattle.frames.specs.{declared.role.Role.{Role}, declared.role.Role.TheVariants.{Free, Zero, Table, Private, Cache}}
-use Rattle.frames.specs.FrameTable.{FrameTable, bytes_of, role_of, count_of, IsFrame, IsHeld, IsSound, IsCountFor, SameButFor, is_handed_out, zero_bytes, with_bytes}
-
--- the zero page has 4,096 bytes
-pub length-zero_bytes : length zero_bytes ≡ 4096
-unfolding zero_bytes
-length-zero_bytes = length-replicate {A = ℕ} 4096 0
+use Rattle.frames.specs.{declared.role.Role.{Role}, declared.role.Role.TheVariants.{Free, Zero}, FrameTable.{FrameTable, bytes_of, role_of, count_of, IsFrame, IsHeld, IsSound, IsCountFor, SameButFor, is_handed_out, zero_bytes, with_bytes}}
 
 replicate-at : (n k : ℕ) → get_or {A = ℕ} (replicate {A = ℕ} n 0) k 0 ≡ 0
 replicate-at zero k = refl
@@ -32,18 +26,6 @@ with_bytes-others t n w = record {
 -- the frame that was written
 pub with_bytes-same : (t : FrameTable) (n : ℕ) (w : List ℕ) → IsFrame t n → bytes_of (with_bytes t n w) n ≡ w
 with_bytes-same t n w h = get_or-set_same t.bytes n w [] h
-
--- the share count alone of one frame
-abbrev pub with_count : FrameTable → ℕ → ℕ → FrameTable
-with_count t n c = record t { counts = slice_set t.counts n c }
-
-pub with_count-others : (t : FrameTable) (n c : ℕ) → SameButFor n t (with_count t n c)
-with_count-others t n c = record {
-  frames = refl;
-  bytes = λ m ne. refl;
-  roles = λ m ne. refl;
-  counts = λ m ne. get_or-set_other t.counts n m c 0 ne;
-}
 
 -- all of one frame
 abbrev pub with_frame : FrameTable → ℕ → List ℕ → Role → ℕ → FrameTable
@@ -90,17 +72,6 @@ IsHeld-not_free t n held e = false≢true (sym (ap is_handed_out e) ∙ held.han
 
 pub IsHeld-not_zero : (t : FrameTable) (n : ℕ) → IsHeld t n → role_of t n ≢ Zero
 IsHeld-not_zero t n held e = false≢true (sym (ap is_handed_out e) ∙ held.handed_out)
-
-handed_out_count : (r : Role) (c : ℕ) → is_handed_out r ≡ true → IsCountFor r c → 0 < c
-handed_out_count Free c e h = absurd (false≢true e)
-handed_out_count Zero c e h = absurd (false≢true e)
-handed_out_count Table c e h = omega arith
-handed_out_count Private c e h = omega arith
-handed_out_count Cache c e h = omega arith
-
--- somebody has it
-pub IsHeld-count : (t : FrameTable) (n : ℕ) → IsSound t → IsHeld t n → 0 < count_of t n
-IsHeld-count t n sound held = handed_out_count (role_of t n) (count_of t n) held.handed_out (sound.counted n held.inside)
 
 -- what the copy of one item within a list leaves
 pub copied_item : (xs ys : List (List ℕ)) (from to n : ℕ) → n ≡ 1 → from < length xs → to < length xs → length ys ≡ length xs

@@ -1,11 +1,5 @@
 -- The pages of a process, by its runs and its entries.
-use Rattle.vm_types.specs.declared.mode.Levels as Levels
-use Rattle.vm_types.specs.Limits.{top_level, user_end}
-use Rattle.std.proofs.Common.{◌≡◌, ◌≢◌, ◌⊎◌, ℕ, ◌/◌, ◌<◌, ◌≤◌, Some, inl, inr, sym, ◌∙◌, arith}
-use Rattle.page_tables.specs.{Tree.{IsPage, page_entry}, Places.{IsTableOf}}
-use Rattle.residency.specs.{Picture.{Picture, entry}, Parts.{IsGranting}}
-use Rattle.residency.proofs.Entries.{entry-of}
-use Rattle.ranges.proofs.Emptied.{none_here, unmapped_zero}
+use Rattle.inspection.proofs.Names.{top_level, user_end, ◌≡◌, ◌≢◌, ◌⊎◌, ℕ, ◌/◌, ◌<◌, ◌≤◌, Some, inl, inr, sym, ◌∙◌, arith, IsPage, page_entry, IsTableOf, Picture, entry, IsGranting, entry-of, none_here, unmapped_zero}
 
 module _ {mode : ℕ} where
   -- pages beside the user pages have no entry

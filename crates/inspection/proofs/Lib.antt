@@ -1,3 +1,4 @@
+mod Names
 mod Entries
 mod Mappers
 mod Steps

@@ -1,10 +1,6 @@
 -- The first page over a frame, process by process.
-use Rattle.vm_types.specs.Limits.{top_level}
-use Rattle.std.proofs.{Common.{◌≡◌, ℕ, ◌≤◌, ◌<◌, ◌≢◌, true, false, refl, sym, ◌∙◌, subst, inl, inr, arith}, lemmas.Bool.{cases_eq}, lemmas.Bool.Decides.{nat_tests}}
-use Rattle.std.specs.Prelude.{◌==◌, if◌then◌else◌}
+use Rattle.inspection.proofs.Names.{top_level, ◌≡◌, ℕ, ◌≤◌, ◌<◌, ◌≢◌, true, false, refl, sym, ◌∙◌, subst, inl, inr, arith, cases_eq, nat_tests, ◌==◌, if◌then◌else◌, IsOver, Picture, IsPage}
 use Rattle.residency.specs.declared.leaves.Change.TheVariants as Kinds
-use Rattle.residency.specs.{Leaves.{IsOver}, Picture.{Picture, entry}}
-use Rattle.page_tables.specs.Tree.{IsPage}
 use Rattle.inspection.specs.{Frames.{IsBefore, IsAtOrAfter, IsMapper}, declared.frame_views.Mapper.{Mapper}}
 
 low_here : (number pid page low : ℕ) → low ≡ (if number == pid then page else 0) → number ≡ pid → low ≡ page

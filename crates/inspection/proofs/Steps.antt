@@ -1,12 +1,6 @@
 -- One step on the way to a page leads to the next.
-use Rattle.vm_types.specs.Limits.{top_level}
-use Rattle.std.proofs.Common.{◌≡◌, ℕ, suc, ◌-◌, ◌<◌, true, sym, ap, ◌∙◌, subst, arith}
-use Rattle.frames.specs.FrameTable.{FrameTable}
-use Rattle.sv39_walk.specs.{Entry.{entry_at, frame_of, is_pointer}, Walk.{index_of}}
-use Rattle.page_tables.specs.Tree.{IsTable, Points, Way, last_table, page_entry}
-use Rattle.page_tables.proofs.{Ends.{last_is, last_entry-is, missing_of-is, page_entry-whole}, Ways.{next_table}}
-use Rattle.residency.specs.{Picture.{Picture}, Parts.{IsFit}}
-use Rattle.residency.proofs.Entries.{entry-of}
+use Rattle.inspection.proofs.Names.{top_level, ◌≡◌, ℕ, suc, ◌-◌, ◌<◌, true, sym, ap, ◌∙◌, subst, arith, FrameTable, entry_at, frame_of, is_pointer, index_of, IsTable, Points, Way, last_table, page_entry, last_is, last_entry-is}
+use Rattle.inspection.proofs.Names.{missing_of-is, page_entry-whole, next_table, Picture, IsFit, entry-of}
 use Rattle.inspection.specs.{Walks.{IsEntryOf, IsStep}, declared.walks.Step.{Step}}
 
 -- the entry of the lowest table on a way is the page's

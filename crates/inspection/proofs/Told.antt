@@ -1,7 +1,5 @@
 -- What a look into memory tells is told of the machine that has it.
-use Rattle.std.proofs.{Common.{◌≡◌, ℕ, Bool, Option, Some, None, true, false, refl, sym, subst}, lemmas.Bool.{false≢true}}
-use Rattle.std.specs.Prelude.{IfNone, IfSome}
-use Rattle.machine.specs.{Machine.{halted_of}, declared.machine.Machine.{Machine}}
+use Rattle.inspection.proofs.Names.{◌≡◌, ℕ, Bool, Option, Some, None, true, false, refl, sym, subst, false≢true, IfNone, IfSome, halted_of, Machine}
 use Rattle.inspection.specs.{Machines.{memory_of, Tells}, Walks.{IsStepOfSome}, declared.walks.Step.{Step}}
 
 runs : (halted : Bool) → (halted ≡ true → ⊥) → halted ≡ false

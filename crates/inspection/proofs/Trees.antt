@@ -1,15 +1,7 @@
 -- Tables in the trees of processes.
-use Rattle.vm_types.specs.Limits.{top_level}
-use Rattle.std.proofs.{Common.{◌≡◌, ◌≢◌, ℕ, suc, ◌+◌, ◌-◌, ◌*◌, ◌/◌, ◌%◌, ◌^◌, ◌<◌, ◌≤◌, Option, Some, None, true, false, inl, inr, refl, sym, ap, ◌∙◌, subst, arith}, lemmas.Bool.{cases_lt, false≢true}, Math.Nat.{mul-mod_left}}
-use Rattle.std.specs.Prelude.{is_some, IfNone}
-use Rattle.frames.specs.{declared.role.Role.TheVariants.{Table}, FrameTable.{role_of}}
-use Rattle.sv39_walk.specs.{Entry.{entry_at, is_pointer}, Walk.{index_of}}
-use Rattle.page_tables.specs.Tree.{IsOnWay, IsPage, IsTable, Way, missing_of}
-use Rattle.residency.specs.{Picture.{Picture}, Parts.{AsRoot, OnWay, IsMapped, IsRootedBut, IsUsed}}
-use Rattle.ranges.proofs.Gaps.{in_row_of, in_span_of, one_some}
-use Rattle.ranges.specs.Steps.{IsGapEnd}
-use Rattle.inspection.specs.{Tables.{HaveOneWay, IsOffWay, IsOutOf, IsPlaceOf}, Walks.{IsStep}, declared.walks.Step.{Step}}
-use Rattle.inspection.proofs.Ways.{first_inside, goes_on, one_gap, one_row, one_table, same_first, way_within}
+use Rattle.inspection.proofs.Names.{top_level, ◌≡◌, ◌≢◌, ℕ, suc, ◌+◌, ◌-◌, ◌*◌, ◌/◌, ◌%◌, ◌^◌, ◌<◌, ◌≤◌, Option, Some, None, true, false, inl, inr, refl, sym, ap, ◌∙◌, subst, arith, cases_lt, false≢true, mul-mod_left, is_some, IfNone}
+use Rattle.inspection.proofs.Names.{Table, role_of, entry_at, is_pointer, index_of, IsOnWay, IsPage, IsTable, Way, missing_of, Picture, AsRoot, OnWay, IsMapped, IsRootedBut, IsUsed, in_row_of, in_span_of, one_some, IsGapEnd}
+use Rattle.inspection.{specs.{Tables.{HaveOneWay, IsOffWay, IsOutOf, IsPlaceOf}, Walks.{IsStep}, declared.walks.Step.{Step}}, proofs.Ways.{first_inside, goes_on, one_gap, one_row, one_table, same_first, way_within}}
 
 module _ {mode : ℕ} (c : Picture mode) (pid page n : ℕ) (step : Step) (is : IsStep c pid page step) (other : n ≢ step.table.0)
     (passed : (r d : ℕ) → c.root pid ≡ Some r → d < top_level mode - step.level → Way c.frames (top_level mode) r page d n → ⊥) where

@@ -1,9 +1,6 @@
 -- Ways to pages: which tables they go through, and which pages have one way.
-use Rattle.std.proofs.{Common.{◌≡◌, ℕ, zero, suc, ◌+◌, ◌-◌, ◌*◌, ◌/◌, ◌^◌, ◌<◌, ◌≤◌, true, false, inl, inr, sym, ap, ◌∙◌, subst, arith}, lemmas.Bool.{cases_eq, cases_lt, false≢true}, Math.Nat.{mul-div_cancel, div-mul-le_self}}
-use Rattle.frames.specs.FrameTable.{FrameTable}
-use Rattle.sv39_walk.specs.{Entry.{entry_at, frame_of, is_pointer}, Walk.{index_of}}
-use Rattle.page_tables.specs.Tree.{IsForest, IsOnWay, IsPage, IsTable, Points, Way, last_table, missing_of}
-use Rattle.page_tables.proofs.{Ends.{missing_of-is}, Pages.{fields_same, span_positive}, Ways.{ends}}
+use Rattle.inspection.proofs.Names.{◌≡◌, ℕ, zero, suc, ◌+◌, ◌-◌, ◌*◌, ◌/◌, ◌^◌, ◌<◌, ◌≤◌, true, false, inl, inr, sym, ap, ◌∙◌, subst, arith, cases_eq, cases_lt, false≢true, mul-div_cancel, div-mul-le_self, FrameTable, entry_at, frame_of}
+use Rattle.inspection.proofs.Names.{is_pointer, index_of, IsForest, IsOnWay, IsPage, IsTable, Points, Way, last_table, missing_of, missing_of-is, fields_same, span_positive, ends}
 
 -- two ways to a page that are as long lead to one table
 pub one_table : (t : FrameTable) (top root page d n n' : ℕ) → Way t top root page d n → Way t top root page d n' → n ≡ n'

@@ -1,5 +1,11 @@
 //! Numbers as lines write them.
+use std::process::Abort;
 use trace_lang::parse_number;
+
+/// Sees that a text is that number, or none.
+fn expect(rt: &impl Abort, text: &[u8], want: Option<u64>) {
+    assert_eq!(rt; parse_number(text), want, "at {text:?}");
+}
 
 #[test]
 fn numbers_are_read(rt: HostRuntime) {
@@ -13,7 +19,7 @@ fn numbers_are_read(rt: HostRuntime) {
         (b"18446744073709551615", u64::MAX),
         (b"0xffffffffffffffff", u64::MAX),
     ] {
-        assert_eq!(rt; parse_number(text), Some(number), "at {text:?}");
+        expect(&rt, text, Some(number));
     }
     for text in [
         b"".as_slice(),
@@ -29,6 +35,6 @@ fn numbers_are_read(rt: HostRuntime) {
         b"18446744073709551616",
         b"0x10000000000000000",
     ] {
-        assert_eq!(rt; parse_number(text), None, "at {text:?}");
+        expect(&rt, text, None);
     }
 }

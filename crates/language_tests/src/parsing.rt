@@ -1,12 +1,27 @@
 //! Lines, and the commands that they stand for.
+use std::process::Abort;
 use trace_lang::{BadLine, parse_line};
 use vm_types::{Command, MapSource, MsyncMode, Placing, Prot, StoredValue, Width};
+
+/// Sees that a line is read so.
+fn expect(rt: &impl Abort, line: &[u8], want: Result<Command, BadLine>) {
+    assert_eq!(rt; parse_line(line), want, "at {line:?}");
+}
 
 fn load(addr: u64, width: Width) -> Result<Command, BadLine> {
     Ok(Command::Load {
         pid: 1,
         addr,
         width,
+    })
+}
+
+fn sync(mode: MsyncMode) -> Result<Command, BadLine> {
+    Ok(Command::Msync {
+        pid: 1,
+        addr: 0x10000,
+        len: 12288,
+        mode,
     })
 }
 
@@ -32,42 +47,27 @@ fn protection(addr: u64, len: u64, prot: Prot) -> Result<Command, BadLine> {
 
 #[test]
 fn each_form_is_read(rt: HostRuntime) {
-    assert_eq!(rt; parse_line(b"spawn"), Ok(Command::Spawn));
-    assert_eq!(rt; parse_line(b"faults"), Ok(Command::PastFaults));
-    assert_eq!(rt; parse_line(b"fork 1"), Ok(Command::Fork { pid: 1 }));
-    assert_eq!(rt; parse_line(b"exit 0x07"), Ok(Command::Exit { pid: 7 }));
     let fetch = Command::Fetch {
         pid: 1,
         addr: 0x20002,
     };
-    assert_eq!(rt; parse_line(b"fetch 1 0x20002"), Ok(fetch));
-    assert_eq!(rt;
-        parse_line(b"load 1 0x10ff8 8"),
-        load(0x10ff8, Width::Eight)
-    );
-    assert_eq!(rt;
-        parse_line(b"load 1 0x10000 0x08"),
-        load(0x10000, Width::Eight)
-    );
-    assert_eq!(rt;
-        parse_line(b"load 1 18446744073709551615 0x1"),
-        load(u64::MAX, Width::One)
-    );
-    assert_eq!(rt;
-        parse_line(b"load 1 0xAbCdEf 1"),
-        load(0xabcdef, Width::One)
-    );
-    for (line, mode) in [
-        (b"msync 1 0x10000 12288 sync".as_slice(), MsyncMode::Sync),
-        (b"msync 1 0x10000 12288 async".as_slice(), MsyncMode::Async),
+    for (line, want) in [
+        (b"spawn".as_slice(), Ok(Command::Spawn)),
+        (b"faults", Ok(Command::PastFaults)),
+        (b"fork 1", Ok(Command::Fork { pid: 1 })),
+        (b"exit 0x07", Ok(Command::Exit { pid: 7 })),
+        (b"fetch 1 0x20002", Ok(fetch)),
+        (b"load 1 0x10ff8 8", load(0x10ff8, Width::Eight)),
+        (b"load 1 0x10000 0x08", load(0x10000, Width::Eight)),
+        (
+            b"load 1 18446744073709551615 0x1",
+            load(u64::MAX, Width::One),
+        ),
+        (b"load 1 0xAbCdEf 1", load(0xabcdef, Width::One)),
+        (b"msync 1 0x10000 12288 sync", sync(MsyncMode::Sync)),
+        (b"msync 1 0x10000 12288 async", sync(MsyncMode::Async)),
     ] {
-        let msync = Command::Msync {
-            pid: 1,
-            addr: 0x10000,
-            len: 12288,
-            mode,
-        };
-        assert_eq!(rt; parse_line(line), Ok(msync));
+        expect(&rt, line, want);
     }
 }
 
@@ -97,7 +97,7 @@ fn stores_are_read_with_each_width(rt: HostRuntime) {
             addr: 0x10000,
             stored,
         };
-        assert_eq!(rt; parse_line(line), Ok(store), "at {line:?}");
+        expect(&rt, line, Ok(store));
     }
 }
 
@@ -174,11 +174,7 @@ fn mappings_are_read_with_each_source_and_placing(rt: HostRuntime) {
             Placing::Fixed,
         ),
     ] {
-        assert_eq!(rt;
-            parse_line(line),
-            mapping(prot, source, placing),
-            "at {line:?}"
-        );
+        expect(&rt, line, mapping(prot, source, placing));
     }
 }
 
@@ -189,25 +185,29 @@ fn changes_of_mappings_are_read(rt: HostRuntime) {
         addr: 0x21000,
         len: 0x3000,
     };
-    assert_eq!(rt; parse_line(b"munmap 1 0x21000 0x3000"), Ok(removal));
     let giving_up = Command::Dontneed {
         pid: 1,
         addr: 0x21000,
         len: 0x3000,
     };
-    assert_eq!(rt; parse_line(b"dontneed 1 0x21000 0x3000"), Ok(giving_up));
-    assert_eq!(rt;
-        parse_line(b"mprotect 1 0x20001 0x1000 r--"),
-        protection(0x20001, 0x1000, Prot::READ)
-    );
-    assert_eq!(rt;
-        parse_line(b"mprotect 1 0x20000 0 r--"),
-        protection(0x20000, 0, Prot::READ)
-    );
-    assert_eq!(rt;
-        parse_line(b"mprotect 1 0x10000 4096 rw-"),
-        protection(0x10000, 4096, Prot::READ | Prot::WRITE)
-    );
+    for (line, want) in [
+        (b"munmap 1 0x21000 0x3000".as_slice(), Ok(removal)),
+        (b"dontneed 1 0x21000 0x3000", Ok(giving_up)),
+        (
+            b"mprotect 1 0x20001 0x1000 r--",
+            protection(0x20001, 0x1000, Prot::READ),
+        ),
+        (
+            b"mprotect 1 0x20000 0 r--",
+            protection(0x20000, 0, Prot::READ),
+        ),
+        (
+            b"mprotect 1 0x10000 4096 rw-",
+            protection(0x10000, 4096, Prot::READ | Prot::WRITE),
+        ),
+    ] {
+        expect(&rt, line, want);
+    }
 }
 
 /// A line has at most 256 bytes.
@@ -290,12 +290,12 @@ fn other_lines_are_bad(rt: HostRuntime) {
         b"faults ",
         b"faults 1",
     ] {
-        assert_eq!(rt; parse_line(line), Err(BadLine), "at {line:?}");
+        expect(&rt, line, Err(BadLine));
     }
     let mut line = [b'0'; 257];
     line[..9].copy_from_slice(b"load 1 0x");
     line[249..256].copy_from_slice(b"10000 1");
-    assert_eq!(rt; parse_line(&line[..256]), load(0x10000, Width::One));
+    expect(&rt, &line[..256], load(0x10000, Width::One));
     line[249..].copy_from_slice(b"010000 1");
-    assert_eq!(rt; parse_line(&line), Err(BadLine));
+    expect(&rt, &line, Err(BadLine));
 }

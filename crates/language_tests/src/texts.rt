@@ -3,10 +3,19 @@ use std::process::Abort;
 use trace_lang::{answer_text, bad_line_text, history_text, reply_text};
 use vm_types::{Answer, Code, Errno, Fault, History, Pid, Reply, Stall, Width};
 
+/// Ends the test where the text isn't the one that is wanted.
+fn same(rt: &impl Abort, text: &[u8], want: &[u8]) {
+    assert_eq!(rt; text, want);
+}
+
 fn expect(rt: &impl Abort, reply: Reply, want: &[u8]) {
     let mut out = [0; 1024];
     let len = reply_text(&reply, &mut out);
-    assert_eq!(rt; &out[..len], want);
+    same(rt, &out[..len], want);
+}
+
+fn value(width: Width, value: u64) -> Reply {
+    Reply::Value { width, value }
 }
 
 #[test]
@@ -14,56 +23,34 @@ fn each_reply_has_its_text(rt: HostRuntime) {
     let Some(pid) = Pid::new(64) else {
         return assert!(rt; false);
     };
-    expect(&rt, Reply::Process(pid), b"pid 64\n");
-    expect(&rt, Reply::Address(0x10000), b"addr 0x10000\n");
-    expect(&rt, Reply::Address(0), b"addr 0x0\n");
-    expect(&rt, Reply::Done, b"ok\n");
-    expect(
-        &rt,
-        Reply::Value {
-            width: Width::One,
-            value: 0,
-        },
-        b"value 0x00\n",
-    );
-    expect(
-        &rt,
-        Reply::Value {
-            width: Width::Four,
-            value: 0x11223344,
-        },
-        b"value 0x11223344\n",
-    );
-    expect(
-        &rt,
-        Reply::Value {
-            width: Width::Eight,
-            value: 0xab,
-        },
-        b"value 0x00000000000000ab\n",
-    );
     let misaligned = Fault {
         cause: 4,
         code: Code::BusAdraln,
         addr: 0x20004,
     };
-    expect(
-        &rt,
-        Reply::Faulted(misaligned),
-        b"fault 4 BUS_ADRALN 0x20004\n",
-    );
     let unmapped = Fault {
         cause: 13,
         code: Code::SegvMaperr,
         addr: 0xffff_ffff_ffff_ffff,
     };
-    expect(
-        &rt,
-        Reply::Faulted(unmapped),
-        b"fault 13 SEGV_MAPERR 0xffffffffffffffff\n",
-    );
-    expect(&rt, Reply::Halted, b"halted\n");
-    assert_eq!(rt; bad_line_text(), b"bad line\n".as_slice());
+    for (reply, want) in [
+        (Reply::Process(pid), b"pid 64\n".as_slice()),
+        (Reply::Address(0x10000), b"addr 0x10000\n"),
+        (Reply::Address(0), b"addr 0x0\n"),
+        (Reply::Done, b"ok\n"),
+        (value(Width::One, 0), b"value 0x00\n"),
+        (value(Width::Four, 0x11223344), b"value 0x11223344\n"),
+        (value(Width::Eight, 0xab), b"value 0x00000000000000ab\n"),
+        (Reply::Faulted(misaligned), b"fault 4 BUS_ADRALN 0x20004\n"),
+        (
+            Reply::Faulted(unmapped),
+            b"fault 13 SEGV_MAPERR 0xffffffffffffffff\n",
+        ),
+        (Reply::Halted, b"halted\n"),
+    ] {
+        expect(&rt, reply, want);
+    }
+    same(&rt, bad_line_text(), b"bad line\n");
     // A reply that is no history, as a machine hands it out.
     let past_the_end = Fault {
         cause: 13,
@@ -72,7 +59,7 @@ fn each_reply_has_its_text(rt: HostRuntime) {
     };
     let mut out = [0; 1024];
     let len = answer_text(&Answer::Faulted(past_the_end), &mut out);
-    assert_eq!(rt; &out[..len], b"fault 13 BUS_ADRERR 0x12000\n".as_slice());
+    same(&rt, &out[..len], b"fault 13 BUS_ADRERR 0x12000\n");
 }
 
 #[test]
@@ -123,7 +110,7 @@ fn a_history_has_a_line_for_each_fault(rt: HostRuntime) {
     let want = b"faults 2\npast 1 13 SEGV_MAPERR 0x0\npast 1 6 BUS_ADRALN 0x20001\n".as_slice();
     let mut out = [0; 1024];
     let len = history_text(&history, &mut out);
-    assert_eq!(rt; &out[..len], want);
+    same(&rt, &out[..len], want);
     expect(&rt, Reply::Past(history), want);
     expect(&rt, Reply::Past(History::new()), b"faults 0\n");
 }

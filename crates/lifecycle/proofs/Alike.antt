@@ -1,13 +1,6 @@
 -- A process without a page has those of another.
-use Rattle.vm_types.specs.{Limits.{top_level}, Objects.{names, uses}, declared.region.Attr.{Attr}}
-use Rattle.std.proofs.{Common.{◌≡◌, ◌≢◌, ◌==◌, if◌then◌else◌, eq-eqb, ne_eqb, ℕ, inl, inr, List, Option, Some, None, refl, sym, ap, ◌∙◌}, lemmas.Bool.{cases_eq}}
-use Rattle.frames.specs.FrameTable.{bytes_of}
-use Rattle.page_tables.specs.Tree.{IsPage}
-use Rattle.regions.specs.{declared.run.Run.{Run}, RunList.{attr_at}}
-use Rattle.residency.specs.{Seats.{Seat, InFrame, InSlot, seat}, Picture.{Picture, entry, view, view_of, own_in, bytes_in}, Parts.{AreObjects, IsFit}, Steps.{Remaps}}
-use Rattle.residency.proofs.{Granting.{user_map-same, readable-same}, Setting.{view_seated, held_same}}
-use Rattle.fault.proofs.Spawning.{entries_remapped, fit_mapped}
-use Rattle.ranges.proofs.Emptied.{unmapped_zero}
+use Rattle.lifecycle.proofs.Names.{top_level, names, uses, Attr, ◌≡◌, ◌≢◌, ◌==◌, if◌then◌else◌, eq-eqb, ne_eqb, ℕ, inl, inr, List, Option, Some, None, refl, sym, ap, ◌∙◌, cases_eq, bytes_of, IsPage, Run, attr_at, Seat, InFrame, InSlot}
+use Rattle.lifecycle.proofs.Names.{seat, Picture, entry, view, view_of, own_in, bytes_in, AreObjects, IsFit, Remaps, user_map-same, readable-same, view_seated, held_same, entries_remapped, fit_mapped, unmapped_zero}
 use Rattle.lifecycle.specs.Changes.{MapsAlike}
 
 unmapped_in : (own : Option (List ℕ)) (attr : Option Attr) → view_of own attr ≡ None → attr ≡ None

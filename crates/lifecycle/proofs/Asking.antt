@@ -1,13 +1,8 @@
 -- Which sectors of swap's device a process that comes asks for.
 use Rattle.vm_types.specs.declared.mode.Levels as Levels
-use Rattle.std.proofs.Common.{◌≡◌, ℕ, None, ap}
-use Rattle.disk_model.specs.{declared.sector_disk.SectorDisk.{Ghosts}, Moments.{Nothing}}
-use Rattle.frames.specs.FrameTable.{role_of}
-use Rattle.page_cache.specs.CacheTable.{place_of, is_touched}
-use Rattle.swap.specs.Slots.{slots_of}
-use Rattle.residency.specs.{declared.kernel.Core.{Core}, Picture.{Picture, picture_of}, Parts.{IsFit}, Calls.{ObtainsTable, KeepsBesideProcesses}, Steps.{Spawns}}
-use Rattle.fault.specs.Asking.{AsksNoNew, AsksSlots, AsksSlotsIf}
-use Rattle.fault.proofs.Asking.{no_new_then, no_new_held, no_new_taken, asks_slots_if, asks_slots_kept, asks_slots_then}
+use Rattle.lifecycle.proofs.Names.{◌≡◌, ℕ, None, ap, Ghosts, role_of, place_of, is_touched, slots_of, Core, Picture, picture_of, IsFit, ObtainsTable, KeepsBesideProcesses, Spawns, AsksNoNew, AsksSlots, AsksSlotsIf, no_new_then, no_new_held}
+use Rattle.lifecycle.proofs.Names.{no_new_taken, asks_slots_if, asks_slots_kept, asks_slots_then}
+use Rattle.disk_model.specs.Moments.{Nothing}
 
 -- a frame was taken for a table, which is the root of a process that was made
 pub no_new_spawned : {mode : ℕ} (old mid new : Picture mode) (pid n : ℕ) → IsFit old → ObtainsTable old mid n → Spawns mid new pid n → AsksNoNew old new None Nothing

@@ -1,15 +1,9 @@
 -- How the steps of the first pass add up.
 use Rattle.vm_types.specs.declared.mode.Levels as Levels
-use Rattle.std.proofs.Common.{◌≡◌, ℕ, inl, None, Result, Ok, Err, refl, sym, ap, ◌∙◌, subst}
-use Rattle.std.specs.Prelude.{IsErrAnd, is_some}
-use Rattle.vm_types.specs.{declared.number.FrameNo.{FrameNo}, declared.refusal.Stall.{Stall}}
-use Rattle.disk_model.specs.declared.sector_disk.SectorDisk.{Ghosts}
-use Rattle.swap.specs.Slots.{IsReady}
-use Rattle.residency.specs.{declared.kernel.Core.{Core}, Picture.{Picture, picture_of}, Parts.{IsFit}}
-use Rattle.fault.specs.{Changes.{KeepsSpaces}, WaysLinked.{MakesWhole}}
-use Rattle.fault.proofs.WaySteps.{takes_none, takes_then, takes_done, takes_stall}
-use Rattle.lifecycle.specs.{Steps.{HasCopy, HasTablesForCopies}, TablesForCopies.{IsForking, LinksForCopies}}
-use Rattle.lifecycle.proofs.Linked.{copy_stays, lacks_before, links_one, links_then}
+use Rattle.lifecycle.proofs.Names.{◌≡◌, ℕ, inl, None, Ok, refl, sym, ap, ◌∙◌, subst, IsErrAnd, is_some, FrameNo, Stall, Ghosts, IsReady, Core, Picture, picture_of, IsFit, KeepsSpaces, MakesWhole, takes_none, takes_then, takes_done}
+use Rattle.lifecycle.proofs.Names.{takes_stall}
+use Rattle.std.proofs.Common.{Result, Err}
+use Rattle.lifecycle.{specs.{Steps.{HasCopy, HasTablesForCopies}, TablesForCopies.{IsForking, LinksForCopies}}, proofs.Linked.{copy_stays, lacks_before, links_one, links_then}}
 
 module _ {M : Type 0} {m : Levels.Ghosts M} {D E : Type 0} (h : Ghosts E) where
   -- nothing was done
@@ -43,8 +37,7 @@ module _ {M : Type 0} {m : Levels.Ghosts M} {D E : Type 0} (h : Ghosts E) where
   idle_then : (a b c : Core D E M m) (parent child : ℕ) → (HasTablesForCopies (picture_of a) parent child → b ≡ a) → (HasTablesForCopies (picture_of b) parent child → c ≡ b) → HasTablesForCopies (picture_of a) parent child → c ≡ a
   idle_then a b c parent child first second has =
       let same = first has in
-      let P : Core D E M m → Type 0 = λ x. HasTablesForCopies (picture_of x) parent child in
-      second (subst P (sym same) has) ∙ same
+      second (subst (λ (x : Core D E M m). HasTablesForCopies (picture_of x) parent child) (sym same) has) ∙ same
 
   -- one step after another
   pub copies_then : {S T : Type 0} (a b c : Core D E M m) (parent child : ℕ) (x : S) (r : Result T Stall) → LinksForCopies h a b parent child (Ok x) → LinksForCopies h b c parent child r

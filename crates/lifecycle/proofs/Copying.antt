@@ -1,14 +1,9 @@
 -- A process comes that is a copy of another.
-use Rattle.vm_types.proofs.Modes.{user_pages_fit}
-use Rattle.vm_types.specs.{Limits.{user_end, top_level}, Capacity.{has_own}, declared.region.Attr.{Attr}, declared.refusal.Stall.{Stall}}
-use Rattle.std.proofs.{Common.{◌≡◌, ◌≢◌, ℕ, inl, inr, ◌⊎◌, ◌<◌, ◌≤◌, true, false, List, Option, Some, None, is_some, refl, sym, ap, ◌∙◌, subst, arith}, lemmas.Bool.{cases_eq, cases_lt, cases_Bool, false≢true}}
-use Rattle.std.specs.Prelude.{option_map, IfErr, IsErrAnd, Result, Ok, Err}
-use Rattle.page_tables.specs.Tree.{IsPage, missing_of}
-use Rattle.sv39_walk.specs.Entry.{is_valid, can_write, has_bit, frame_of}
-use Rattle.residency.specs.{Seats.{InFrame, InSlot, seat, is_private, is_swapped}, Picture.{Picture, is_live, entry, view, view_of, own_in, bytes_in}, Parts.{IsFit, IsGranting}, Calls.{KeepsPages}, Capacity.{IsShort}, Shows.{KeepsFiles}}
-use Rattle.residency.proofs.{LeafSteps.{cases_attr}, Moves.{view-none}, Start.{seat-none}}
-use Rattle.fault.specs.Changes.{KeepsBare, KeepsRoom, KeepsTables}
-use Rattle.fault.proofs.Steps.{room_then}
+use Rattle.lifecycle.proofs.Names.{user_pages_fit, user_end, top_level, has_own, Attr, Stall, ◌≡◌, ◌≢◌, ℕ, inl, inr, ◌⊎◌, ◌<◌, ◌≤◌, true, false, List, Option, Some, None, refl, sym, ap, ◌∙◌, subst, arith, cases_eq, cases_lt, cases_Bool}
+use Rattle.lifecycle.proofs.Names.{false≢true, option_map, IfErr, IsErrAnd, Result, Err, IsPage, missing_of, is_valid, can_write, has_bit, frame_of, InFrame, InSlot, seat, is_private, is_swapped, Picture, is_live, entry, view, view_of}
+use Rattle.lifecycle.proofs.Names.{own_in, bytes_in, IsFit, IsGranting, KeepsPages, IsShort, KeepsFiles, cases_attr, view-none, seat-none, KeepsBare, KeepsRoom, KeepsTables, room_then}
+use Rattle.std.proofs.Common.{is_some}
+use Rattle.std.specs.Prelude.{Ok}
 use Rattle.lifecycle.specs.{Shares.{without_write, lowered_entry, given_entry, SharesRow}, Changes.{AddsProcess, RemovesProcess, KeepsProcesses, MapsAlike, TakesRoot, SharesCopies, KeepsBareOfOthers, IsShortToFork}}
 use Rattle.lifecycle.proofs.{Copies.{seat_some}, Weaker.{seat_lowered, weakened}, Alike.{bare_page}, Keeping.{live_same, files_then}, Shortage.{short_alike}}
 
@@ -130,11 +125,11 @@ module _ {mode : ℕ} (old mid : Picture mode) (parent child : ℕ) (ready : IsR
   pub unmade : (new : Picture mode) → RemovesProcess mid new child → KeepsProcesses old new
   unmade new removed = record {
     live = λ q. elim (cases_eq q child) [
-      | inl is ↦ (let P : ℕ → Type 0 = λ x. is_live new x ≡ is_live old x in subst P (sym is) (removed.gone ∙ sym ready.dead))
+      | inl is ↦ subst (λ (x : ℕ). is_live new x ≡ is_live old x) (sym is) (removed.gone ∙ sym ready.dead)
       | inr ne ↦ removed.others_live q ne ∙ ready.others_live q ne
     ];
     views = λ q page. elim (cases_eq q child) [
-      | inl is ↦ (let P : ℕ → Type 0 = λ x. view new x page ≡ view old x page in subst P (sym is) (removed.pages page ∙ sym (ready.unmapped page)))
+      | inl is ↦ subst (λ (x : ℕ). view new x page ≡ view old x page) (sym is) (removed.pages page ∙ sym (ready.unmapped page))
       | inr ne ↦ removed.others q page ne ∙ ready.others q page ne
     ];
   }
@@ -186,10 +181,7 @@ module _ {mode : ℕ} (old mid : Picture mode) (parent child : ℕ) (ready : IsR
 
     pub bare_shared : KeepsBareOfOthers old new child
     bare_shared q page h ne none = elim (cases_eq q parent) [
-      | inl is ↦ (
-          let P : ℕ → Type 0 = λ x. entry new x page ≡ 0 in
-          let Q : ℕ → Type 0 = λ x. entry old x page ≡ 0 in
-          subst P (sym is) (lowered page h ∙ ap lowered_entry (ready.kept_bare parent page h (subst Q is none)) ∙ zero_lowered))
+      | inl is ↦ subst (λ (x : ℕ). entry new x page ≡ 0) (sym is) (lowered page h ∙ ap lowered_entry (ready.kept_bare parent page h (subst (λ (x : ℕ). entry old x page ≡ 0) is none)) ∙ zero_lowered)
       | inr other ↦ shares.others q page h (inl (other, ne)) ∙ ready.kept_bare q page h none
     ]
 
@@ -214,6 +206,5 @@ module _ {mode : ℕ} where
       let other : q ≢ child = λ is. false≢true (sym dead ∙ ap (is_live old) (sym is) ∙ ap (λ o. is_some o) e) in
       let there : mapped.root q ≡ Some r = roots q ∙ takes.others q other ∙ e in
       let first : missing_of mapped.frames (top_level mode) r page ≡ missing_of old.frames (top_level mode) r page = ap (λ t. missing_of t (top_level mode) r page) frames ∙ takes.missing q r page e in
-      let second = one q r page there in
       let third = two q r page (roots' q ∙ there) in
-      omega (arith, first, second, third)
+      omega (arith, first, one q r page there, third)

@@ -1,23 +1,12 @@
 -- A process goes of which no page has an entry or a table.
 use Rattle.vm_types.specs.declared.mode.Levels as Levels
-use Rattle.vm_types.specs.{Limits.{user_end, top_level}, declared.object.ObjectPage.{ObjectPage}, declared.object.PageKey.TheVariants.{Object}, declared.region.Attr.{Attr}, Objects.{names, is_named}, Rows.{in_row}}
-use Rattle.std.proofs.{Common.{◌≡◌, ◌≢◌, ℕ, zero, suc, inl, inr, ◌⊎◌, ◌≤◌, ◌<◌, ◌^◌, Option, Some, None, true, false, refl, sym, ap, ◌∙◌, subst, arith, eq-eqb, ne_eqb}, lemmas.Bool.{cases_eq, cases_Bool, false≢true}}
-use Rattle.std.specs.Prelude.{is_some, IsSome, ◌*◌}
-use Rattle.vm_types.proofs.Modes.{user_pages_fit, sizes}
-use Rattle.page_cache.specs.declared.place.Place.TheVariants.{Home}
-use Rattle.disk_model.specs.declared.sector_disk.SectorDisk.{Ghosts}
-use Rattle.frames.specs.{declared.role.Role.{Role}, declared.role.Role.TheVariants.{Free, Table, Private, Cache}, FrameTable.{FrameTable, bytes_of, role_of}}
-use Rattle.sv39_walk.specs.{Entry.{entry_at, is_pointer, frame_of}, Walk.{index_of}}
-use Rattle.page_tables.specs.Tree.{IsPage, IsTable, Points, IsSpare, Way, IsBelowRoot, last_table, missing_of}
-use Rattle.page_tables.proofs.{Ways.{cases_bool, only_way, last_table-stop}, Ends.{way_forth, missing_of-is, last_entry-is}, Fields.{root_field}}
-use Rattle.swap.specs.Slots.{SlotTable, IsReady}
-use Rattle.residency.specs.{declared.kernel.Core.{Core}, Seats.{Seat, InFrame, InSlot, seat}, Picture.{Picture, picture_of, view, bytes_in, IsOwned}, Parts.{IsFit, IsUsed, AsRoot, OnWay}, Steps.{Exits}, Shows.{KeepsFiles}}
-use Rattle.residency.proofs.{Exiting.{entries_left, fit_left}, Moves.{view-none}, Setting.{view_seated, held_same}, LeafSteps.{cases_attr}}
-use Rattle.fault.proofs.{SwapSteps.{ready_released}, Spawning.{one_some}}
-use Rattle.ranges.proofs.{Emptied.{row_out}, Named.{named-imp}, Forgotten.{IsRowRemapped}}
-use Rattle.ranges.specs.{Rows.{KeepsNamed, without_maps}, Steps.{KeepsDevices, KeepsEntriesOfOthers, LosesSlots, IsMappedBeside, IsWithoutTables}}
-use Rattle.lifecycle.specs.Changes.{RemovesProcess, FreesTables, TakesNoFrame}
-use Rattle.lifecycle.proofs.Keeping.{live_same}
+use Rattle.lifecycle.proofs.Names.{user_end, top_level, ObjectPage, Object, Attr, names, is_named, in_row, ◌≡◌, ◌≢◌, ℕ, zero, suc, inl, inr, ◌⊎◌, ◌≤◌, ◌<◌, ◌^◌, Option, Some, None, true, false, refl, sym, ap, ◌∙◌, subst, arith, eq-eqb}
+use Rattle.lifecycle.proofs.Names.{ne_eqb, cases_eq, cases_Bool, false≢true, is_some, IsSome, user_pages_fit, sizes, Home, Ghosts, Role, Free, Table, Private, Cache, FrameTable, bytes_of, role_of, entry_at, is_pointer, frame_of, index_of}
+use Rattle.lifecycle.proofs.Names.{IsPage, IsTable, Points, IsSpare, Way, IsBelowRoot, last_table, missing_of, cases_bool, only_way, last_table-stop, way_forth, missing_of-is, last_entry-is, root_field, SlotTable, IsReady, Core, Seat}
+use Rattle.lifecycle.proofs.Names.{InFrame, InSlot, seat, Picture, picture_of, view, bytes_in, IsOwned, IsFit, IsUsed, AsRoot, OnWay, Exits, KeepsFiles, entries_left, fit_left, view-none, view_seated, held_same, cases_attr, ready_released}
+use Rattle.lifecycle.proofs.Names.{one_some, row_out, named-imp, IsRowRemapped, KeepsNamed, without_maps, KeepsDevices, KeepsEntriesOfOthers, LosesSlots, IsMappedBeside, IsWithoutTables}
+use Rattle.std.specs.Prelude.{◌*◌}
+use Rattle.lifecycle.{specs.Changes.{RemovesProcess, FreesTables, TakesNoFrame}, proofs.Keeping.{live_same}}
 
 -- a way ends at the root whose entry is no pointer
 stops_at : (t : FrameTable) (p top r : ℕ) → 0 < top → is_pointer (entry_at t r (index_of p top)) ≡ false → last_table t p top r ≡ (top, r)
@@ -51,8 +40,7 @@ module _ {mode : ℕ} (c : Picture mode) (pid r : ℕ) (fit : IsFit c) (root : c
         let page = on.2 in
         let below = on.5 in
         let one = fit.rooted.forest.one_way below.2.0 _ r i m below.2.2 p in
-        let W : ℕ → Type 0 = λ y. Way c.frames (top_level mode) x page below.0 y in
-        let way : Way c.frames (top_level mode) x page below.0 r = subst W one.0 below.2.1 in
+        let way : Way c.frames (top_level mode) x page below.0 r = subst (λ (y : ℕ). Way c.frames (top_level mode) x page below.0 y) one.0 below.2.1 in
         let ends = only_way c.frames (top_level mode) fit.rooted.forest x page r page (fit.rooted.roots q x on.4).unlinked (fit.rooted.roots pid r root).unlinked below.0 0 r way refl in
         other_root q x on.3 on.4 ends.1)
   ]
@@ -100,8 +88,7 @@ module _ {mode : ℕ} (old new : Picture mode) (pid r : ℕ) (fit : IsFit old) (
   others_seen q page ne = elim (cases_attr (old.at q page)) [
     | inl none ↦ view-none new q page (exits.at q page ne ∙ none) ∙ sym (view-none old q page none)
     | inr some ↦ (
-        let user = ((fit.granting.user q).user_pages page some).1 in
-        let h : IsPage (top_level mode) page = omega (arith, user, user_pages_fit mode) in
+        let h : IsPage (top_level mode) page = omega (arith, ((fit.granting.user q).user_pages page some).1, user_pages_fit mode) in
         view_seated old new q page (exits.at q page ne) (ap seat (entries_left old new pid r fit exits q page))
         (λ z is. seat_bytes z (fit.counted.1.named q page z h is)))
   ]
@@ -212,8 +199,7 @@ module _ {mode : ℕ} (first old new : Picture mode) (pid r : ℕ) (begun : IsFi
         others = λ q page h ne. entries_left old new pid r was.fit exits q page ∙ was.others q page h ne;
         tables = record {
           own = λ x page n e on. (
-              let W : ℕ → Type 0 = λ y. Way first.frames (top_level mode) y page on.0 n in
-              own_freed page on.0 n (subst W (one_some x r (sym e ∙ was_root)) on.2));
+              own_freed page on.0 n (subst (λ (y : ℕ). Way first.frames (top_level mode) y page on.0 n) (one_some x r (sym e ∙ was_root)) on.2));
           others = λ n table. elim (was.returned.tables n table) [
             | inr back ↦ (let under = back.1.3 in inr (back.1.0, back.1.1, back.1.2, (suc under.0, (omega (arith, under.1)), under.2)))
             | inl still ↦ elim (cases_eq n r) [
@@ -225,9 +211,9 @@ module _ {mode : ℕ} (first old new : Picture mode) (pid r : ℕ) (begun : IsFi
         };
         slots = record {
           total = ap (λ t. t.total) exits.slots ∙ was.slots.total;
-          fewer = (let P : SlotTable → Type 0 = λ t. (k : ℕ) → t.count k ≤ first.slots.count k in subst P (sym exits.slots) was.slots.fewer);
+          fewer = subst (λ (t : SlotTable). (k : ℕ) → t.count k ≤ first.slots.count k) (sym exits.slots) was.slots.fewer;
           kept = λ k none no_object. ap (λ t. t.count k) exits.slots ∙ was.slots.kept k (λ page h least below. none page h least (omega (arith, below))) no_object;
-          bytes = (let P : SlotTable → Type 0 = λ t. (k : ℕ) → 0 < t.count k → t.bytes k ≡ first.slots.bytes k in subst P (sym exits.slots) was.slots.bytes);
+          bytes = subst (λ (t : SlotTable). (k : ℕ) → 0 < t.count k → t.bytes k ≡ first.slots.bytes k) (sym exits.slots) was.slots.bytes;
         };
         files = record {
           touched = λ p lasting. exits.touched p ∙ was.files.touched p lasting;

@@ -1,8 +1,6 @@
 -- The least free number, one number at a time.
-use Rattle.std.proofs.Common.{◌≡◌, ℕ, zero, suc, ◌+◌, ◌-◌, ◌<◌, Bool, true, false, Option, Some, None, refl, arith}
-use Rattle.std.specs.{Prelude.{is_some}, Option.{option_map}}
-use Rattle.vm_types.specs.{declared.number.FrameNo.{FrameNo}, Processes.{least_free_from}}
-use Rattle.residency.specs.Picture.{number_of_frame}
+use Rattle.lifecycle.proofs.Names.{◌≡◌, ℕ, zero, suc, ◌+◌, ◌-◌, ◌<◌, Bool, true, false, Option, Some, None, refl, arith, is_some, FrameNo, least_free_from, number_of_frame}
+use Rattle.std.specs.Option.{option_map}
 
 -- whether a process lives, by its root
 pub some_number : (o : Option FrameNo) → is_some (option_map number_of_frame o) ≡ is_some o

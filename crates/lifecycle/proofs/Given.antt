@@ -1,20 +1,9 @@
 -- One page given to the child.
-use Rattle.vm_types.specs.{Limits.{top_level}, declared.region.Attr.{Attr}}
-use Rattle.std.proofs.{Common.{◌≡◌, ◌≢◌, ℕ, inl, inr, ◌⊎◌, ◌+◌, ◌<◌, ◌≤◌, true, false, Option, Some, None, get_or, refl, sym, ap, ◌∙◌, subst, arith}, lemmas.Bool.{cases_Bool}}
-use Rattle.std.specs.Prelude.{option_map}
-use Rattle.frames.specs.declared.role.Role.TheVariants.{Free, Table, Private}
-use Rattle.sv39_walk.specs.Entry.{is_valid, frame_of}
-use Rattle.page_tables.specs.{Change.{SetsEntry, KeepsFrames}, Tree.{IsPage}}
-use Rattle.residency.specs.{Seats.{Seat, InFrame, InSlot, seat, is_private, is_swapped}, Picture.{Picture, entry, view, view_of, own_in, bytes_in, IsOwned, count_in, page_in}, Parts.{IsRootedBut, IsEntryFor, IsFit, IsFitBut, nowhere}}
-use Rattle.residency.specs.Steps.{SameBeside, SetsPage}
-use Rattle.residency.proofs.{Granting.{entry_for-same, granting_changed}, Moves.{behind_kept, owned_forth, owned_back, count_kept, page_kept}, Places.{places_same, dirty_changed}, Seats.{cases_seat, counted_filled, off-none}}
-use Rattle.residency.proofs.{Setting.{other_views, set_held}, Start.{seat-none}, TableSteps.{sets_page, rooted_set}, SeatForms.{seat_own}}
-use Rattle.fault.proofs.Steps.{tables_same, tables_then, room_then}
-use Rattle.ranges.proofs.ClearedPages.{but_memory, but_then}
+use Rattle.lifecycle.proofs.Names.{top_level, Attr, ◌≡◌, ◌≢◌, ℕ, inl, inr, ◌⊎◌, ◌+◌, ◌<◌, ◌≤◌, true, false, Option, Some, None, get_or, refl, sym, ap, ◌∙◌, subst, arith, cases_Bool, same_Some, option_map, Free, Table, Private, is_valid}
+use Rattle.lifecycle.proofs.Names.{frame_of, SetsEntry, KeepsFrames, IsPage, Seat, InFrame, InSlot, seat, is_private, is_swapped, Picture, entry, view, view_of, own_in, bytes_in, IsOwned, count_in, page_in, IsRootedBut, IsEntryFor, IsFit}
+use Rattle.lifecycle.proofs.Names.{IsFitBut, nowhere, SameBeside, SetsPage, entry_for-same, granting_changed, behind_kept, owned_forth, owned_back, count_kept, page_kept, places_same, dirty_changed, cases_seat, counted_filled, off-none}
+use Rattle.lifecycle.proofs.Names.{other_views, set_held, seat-none, sets_page, rooted_set, seat_own, tables_same, tables_then, room_then, but_memory, but_then}
 use Rattle.lifecycle.specs.Shares.{lowered_entry, given_entry, Withdraws, RaisesSeat, SharesRow}
-
-pub some_seat : (x y : Seat) → Some x ≡ Some y → x ≡ y
-some_seat x y e = (cc)
 
 -- tables alone were written
 pub set_counts : {mode : ℕ} (old new : Picture mode) → new.slots ≡ old.slots → KeepsFrames old.frames new.frames → (z : Seat) → count_in new z ≡ count_in old z
@@ -48,11 +37,9 @@ module _ {mode : ℕ} (old new : Picture mode) (parent child page e : ℕ) (y : 
 
   for : IsEntryFor new (old.at child page) e
   for =
-      let P : ℕ → Type 0 = λ x. IsEntryFor old (old.at parent page) x in
-      let Q : Option Attr → Type 0 = λ a. IsEntryFor old a e in
       entry_for-same old new (old.at child page) e (behind_kept old new sets.beside)
       (λ private write one. sets.shares.counts (frame_of e) (fit.counted.1.named parent page (InFrame (frame_of e)) h (ap seat source ∙ seat_own e private)) ∙ one)
-      (subst Q (sym alike) (subst P source (fit.granting.entries parent page h)))
+      (subst (λ (a : Option Attr). IsEntryFor old a e) (sym alike) (subst (λ (x : ℕ). IsEntryFor old (old.at parent page) x) source (fit.granting.entries parent page h)))
 
   not_common : is_valid e ≡ true → is_private e ≡ false → ⊥
   not_common valid common = let none : seat e ≡ None = rw (common, valid) refl in let bad : None ≡ Some y = sym none ∙ is in (cc)
@@ -69,7 +56,7 @@ module _ {mode : ℕ} (old new : Picture mode) (parent child page e : ℕ) (y : 
     rooted = rooted;
     granting = granting_changed old new child page fit.granting (behind_kept old new sets.beside)
         (λ q p h' private one. sets.shares.counts (frame_of (entry old q p)) (fit.counted.1.named q p (InFrame (frame_of (entry old q p))) h' (rw private refl)) ∙ one)
-        sets.beside.at sets.others (let P : ℕ → Type 0 = λ x. IsEntryFor new (old.at child page) x in subst P (sym sets.changed) for);
+        sets.beside.at sets.others (subst (λ (x : ℕ). IsEntryFor new (old.at child page) x) (sym sets.changed) for);
     places = places_same old new fit.places sets.beside.place sets.beside.at sets.beside.files sets.beside.slots sets.shares.cache sets.shares.was_cache;
     dirty = dirty_changed old new child page fit.dirty sets.beside.place sets.beside.touched sets.others
         (λ p valid common bit here. absurd (not_common (sym (ap is_valid sets.changed) ∙ valid) (sym (ap is_private sets.changed) ∙ common)));
@@ -131,11 +118,9 @@ module _ {mode : ℕ} (old low mid new : Picture mode) (parent child r page e : 
     room = room_then old mid new (room_then old low mid withdraws.room raises.room) (record { frames = sets.kept.frames; slots = ap (λ t. t.total) beside.slots });
     roles = λ n. ap (λ rs. get_or rs n Free) sets.kept.roles ∙ raises.roles n ∙ withdraws.roles n;
     lowered = λ p h' least under. (
-        let P : ℕ → Type 0 = λ x. entry new parent x ≡ lowered_entry (entry old parent x) in
-        subst P (sym (this p least under)) (page_set.others parent page h (inl apart) ∙ source ∙ withdraws.lowered));
+        subst (λ (x : ℕ). entry new parent x ≡ lowered_entry (entry old parent x)) (sym (this p least under)) (page_set.others parent page h (inl apart) ∙ source ∙ withdraws.lowered));
     given = λ p h' least under. (
-        let P : ℕ → Type 0 = λ x. entry new child x ≡ given_entry (entry old parent x) in
-        subst P (sym (this p least under)) (page_set.changed ∙ to_given));
+        subst (λ (x : ℕ). entry new child x ≡ given_entry (entry old parent x)) (sym (this p least under)) (page_set.changed ∙ to_given));
     others = λ q p h' other. elim other [
       | inl ne ↦ page_set.others q p h' (inl ne.1) ∙ raises.entries q p ∙ withdraws.sets.others q p h' (inl ne.0)
       | inr far ↦ page_set.others q p h' (inr (out p far)) ∙ raises.entries q p ∙ withdraws.sets.others q p h' (inr (out p far))
@@ -153,16 +138,14 @@ module _ {mode : ℕ} (old low mid new : Picture mode) (parent child r page e : 
         (tables_then old low mid withdraws.sets.beside.root withdraws.tables raises.tables)
         (tables_same mid new (λ q x p lives. sets.missing x p (fit.rooted.roots q x lives)));
     raised = λ z p h' least under there. (
-        let P : Seat → Type 0 = λ x. count_in new x ≡ count_in old x + 1 in
         let at : seat (entry old parent page) ≡ Some z = ap (λ x. seat (entry old parent x)) (sym (this p least under)) ∙ there in
         let c = counts y in let r = raises.raised in let w = withdraws.counts y in
-        subst P (some_seat y z (sym was_named ∙ at)) (omega (arith, c, r, w)));
+        subst (λ (x : Seat). count_in new x ≡ count_in old x + 1) (same_Some y z (sym was_named ∙ at)) (omega (arith, c, r, w)));
     kept = λ z none. counts z ∙ raises.others z (λ same. none page h (omega arith) (omega arith) (was_named ∙ ap (λ x. Some x) (sym same))) ∙ withdraws.counts z;
     no_fewer = λ z. elim (cases_seat z y) [
       | inl same ↦ (
-          let P : Seat → Type 0 = λ x. count_in old x ≤ count_in new x in
           let c = counts y in let r = raises.raised in let w = withdraws.counts y in
-          subst P (sym same) (omega (arith, c, r, w)))
+          subst (λ (x : Seat). count_in old x ≤ count_in new x) (sym same) (omega (arith, c, r, w)))
       | inr ne ↦ (let c = counts z in let o = raises.others z ne in let w = withdraws.counts z in omega (arith, c, o, w))
     ];
     pointers = λ n i m p. (sets.pointers n i m).0 (raises.pointers n i m (withdraws.pointers n i m p));

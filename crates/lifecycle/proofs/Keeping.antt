@@ -1,10 +1,6 @@
 -- What steps keep of the processes and of the files.
-use Rattle.std.proofs.{Common.{◌≡◌, ℕ, inl, inr, Option, Some, None, false, refl, sym, ap, ◌∙◌, subst}, lemmas.Bool.{false≢true}}
-use Rattle.vm_types.specs.{declared.object.PageKey.{PageKey}, declared.number.FrameNo.{FrameNo}}
-use Rattle.std.specs.Prelude.{is_some}
-use Rattle.frames.specs.{declared.role.Role.TheVariants.{Free, Private}, FrameTable.{FrameTable, frame_count, role_of}}
-use Rattle.page_tables.specs.Tree.{Points}
-use Rattle.residency.specs.{Picture.{Picture, is_live, entry}, Calls.{KeepsPages, Frees}, Ages.{Same, GivesForTables}, Shows.{KeepsFiles}}
+use Rattle.lifecycle.proofs.Names.{◌≡◌, ℕ, inl, inr, Option, Some, None, false, refl, sym, ap, ◌∙◌, subst, false≢true, PageKey, FrameNo, is_some, Free, Private, FrameTable, frame_count, role_of, Points, Picture, is_live, entry, KeepsPages}
+use Rattle.lifecycle.proofs.Names.{Frees, Same, GivesForTables, KeepsFiles, keeps_files_then}
 use Rattle.lifecycle.specs.Changes.{KeepsProcesses, TakesNoCopy}
 
 -- whether a process lives
@@ -20,17 +16,7 @@ pages_kept old new pages = record { live = λ pid. live_same old new pid (pages.
 
 -- the files after one step and another
 pub files_then : {mode : ℕ} (a b c : Picture mode) → KeepsFiles a b → KeepsFiles b c → KeepsFiles a c
-files_then a b c p q = record {
-  held = λ f. elim (q.held f) [
-    | inl e ↦ elim (p.held f) [
-      | inl e' ↦ inl (e ∙ e')
-      | inr home ↦ inr (e ∙ home.0, home.1)
-    ]
-    | inr home ↦ inr (home.0, sym (p.touched f) ∙ home.1)
-  ];
-  touched = λ f. q.touched f ∙ p.touched f;
-  files = λ f. q.files f ∙ p.files f;
-}
+files_then a b c p q = keeps_files_then a b c p q
 
 -- a frame that is given up is no process's own
 pub no_copy_freed : {mode : ℕ} (old new : Picture mode) (keep : Option FrameNo) → Frees old new keep → TakesNoCopy old.frames new.frames
@@ -46,6 +32,6 @@ gives_alike old new frames entries places = record {
   count = ap frame_count frames;
   roles = λ n. inl (ap (λ t. role_of t n) frames);
   entries = λ q page h. Same (entries q page);
-  pointers = λ n i m points. (let P : FrameTable → Type 0 = λ t. Points t n i m in subst P (sym frames) points);
+  pointers = λ n i m points. subst (λ (t : FrameTable). Points t n i m) (sym frames) points;
   needed = inr (record { roles = λ n held. ap (λ t. role_of t n) frames; entries = λ q page h. entries q page; places = places });
 }

@@ -1,19 +1,7 @@
 -- How the steps of the first pass follow one another.
-use Rattle.vm_types.specs.{Limits.{top_level}, declared.region.Attr.{Attr}, View.{View}}
-use Rattle.std.proofs.{Common.{◌≡◌, ℕ, suc, inl, inr, ◌<◌, ◌≤◌, ◌/◌, List, Option, Some, None, Result, Ok, Err, OnErr, refl, sym, ap, ◌∙◌, arith}, lemmas.Bool.{cases_lt}}
-use Rattle.std.specs.Prelude.{IsSome, option_map}
-use Rattle.residency.specs.{Seats.{Seat, seat}, Picture.{Picture, entry, view, view_of, own_in, bytes_in}, Parts.{IsGranting}, Calls.{KeepsPages}, Ages.{GivesForTables}, Ways.{IsWhole}}
-use Rattle.residency.proofs.Start.{seat-none}
-use Rattle.page_tables.specs.Tree.{IsPage}
-use Rattle.page_tables.proofs.Ends.{way_forth}
-use Rattle.fault.specs.Changes.{IsTableOnWay, KeepsTables, LinksTables}
-use Rattle.ranges.proofs.Gaps.{missing_same}
-use Rattle.lifecycle.specs.Steps.{HasCopy, HasTablesForCopies, HasTablesFrom, LacksTableForCopy, LinksCopies}
-use Rattle.lifecycle.proofs.Copies.{copied_mapped}
-
-pub on_err : {T E : Type 0} (result : Result T E) (X : Type 0) → X → OnErr result X
-on_err (Ok v) X x = tt
-on_err (Err e) X x = x
+use Rattle.lifecycle.proofs.Names.{top_level, Attr, View, ◌≡◌, ℕ, suc, inl, inr, ◌<◌, ◌≤◌, ◌/◌, List, Option, Some, None, refl, sym, ap, ◌∙◌, arith, cases_lt, IsSome, option_map, Seat, seat, Picture, entry, view, view_of, own_in, bytes_in}
+use Rattle.lifecycle.proofs.Names.{IsGranting, KeepsPages, GivesForTables, IsWhole, seat-none, IsPage, way_forth, IsTableOnWay, KeepsTables, LinksTables, missing_same}
+use Rattle.lifecycle.{specs.Steps.{HasCopy, HasTablesForCopies, HasTablesFrom, LacksTableForCopy, LinksCopies}, proofs.Copies.{copied_mapped}}
 
 own_of : Option View → Option (List ℕ)
 own_of None = None
@@ -53,9 +41,7 @@ copy_stays old new pid page granting keeps copy = copy_seen old new pid page gra
 pub whole_kept : {mode : ℕ} (old new : Picture mode) (pid page : ℕ) → ((q : ℕ) → new.root q ≡ old.root q) → KeepsTables old new → IsWhole old pid page → IsWhole new pid page
 whole_kept old new pid page root tables whole r e =
     let was : old.root pid ≡ Some r = sym (root pid) ∙ e in
-    let none = whole r was in
-    let less = tables pid r page was in
-    omega (arith, none, less)
+    omega (arith, whole r was, tables pid r page was)
 
 -- what the pages of a row want is there still
 pub still_there : {mode : ℕ} (old new : Picture mode) (parent child low high : ℕ) → IsGranting new → KeepsPages old new → KeepsTables old new
@@ -92,8 +78,7 @@ module _ {mode : ℕ} where
   pub row_whole : (c : Picture mode) (pid page other : ℕ) → page / 512 ≡ other / 512 → IsWhole c pid page → IsWhole c pid other
   row_whole c pid page other same whole r e = missing_same mode c.frames page other r same ∙ whole r e
 
--- a table on the way to a page is on that way still
-module _ {mode : ℕ} where
+  -- a table on the way to a page is on that way still
   way_kept : (old new : Picture mode) (tried : Option ℕ) (pid page n : ℕ) → GivesForTables old new tried → KeepsPages old new
       → IsTableOnWay old pid page n → IsTableOnWay new pid page n
   way_kept old new tried pid page n gives keeps way =

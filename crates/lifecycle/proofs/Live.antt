@@ -1,6 +1,5 @@
 -- A live process has a root table.
-use Rattle.std.proofs.{Common.{◌≡◌, ◌≢◌, ℕ, true, Option, Some, None, refl}, lemmas.Bool.{false≢true}}
-use Rattle.std.specs.Prelude.{is_some}
+use Rattle.lifecycle.proofs.Names.{◌≡◌, ◌≢◌, ℕ, true, Option, Some, None, refl, false≢true, is_some}
 
 pub live_root : (o : Option ℕ) → is_some o ≡ true → (r : ℕ) × (o ≡ Some r)
 live_root None live = absurd (false≢true live)

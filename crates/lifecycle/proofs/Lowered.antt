@@ -1,15 +1,7 @@
 -- The entry of a process's own page is set to a weaker one.
-use Rattle.vm_types.specs.Limits.{top_level}
-use Rattle.std.proofs.{Common.{◌≡◌, ◌≢◌, ℕ, true, Some, None, get_or, sym, ap, ◌∙◌}, lemmas.Bool.{false≢true}}
-use Rattle.frames.specs.declared.role.Role.TheVariants.{Free}
-use Rattle.sv39_walk.specs.Entry.{is_valid, frame_of}
-use Rattle.page_tables.specs.{Change.{SetsEntry}, Tree.{IsPage}}
-use Rattle.page_tables.proofs.Places.{row_stays}
-use Rattle.residency.specs.{Seats.{InFrame, seat, is_private}, Picture.{Picture, entry}, Parts.{IsRootedBut, IsEntryFor, IsFit, nowhere}, Steps.{SameBeside, SetsPage}}
-use Rattle.residency.proofs.{Granting.{entry_for-same}, Moves.{behind_kept}, Setting.{fit_set, set_views, set_held}, TableSteps.{sets_page, rooted_set}, SeatForms.{seat_own}}
-use Rattle.fault.proofs.Steps.{tables_same}
-use Rattle.lifecycle.specs.Shares.{IsTableFor, Weakens, Withdraws}
-use Rattle.lifecycle.proofs.{Given.{set_counts}, Weaker.{weaker_for, weaker_seat, weaker_lowered, leaf_own}}
+use Rattle.lifecycle.proofs.Names.{top_level, ◌≡◌, ◌≢◌, ℕ, true, Some, None, get_or, sym, ap, ◌∙◌, false≢true, Free, is_valid, frame_of, SetsEntry, IsPage, row_stays, InFrame, seat, is_private, Picture, entry, IsRootedBut, IsEntryFor}
+use Rattle.lifecycle.proofs.Names.{IsFit, nowhere, SameBeside, SetsPage, entry_for-same, behind_kept, fit_set, set_views, set_held, sets_page, rooted_set, seat_own, tables_same}
+use Rattle.lifecycle.{specs.Shares.{IsTableFor, Weakens, Withdraws}, proofs.{Given.{set_counts}, Weaker.{weaker_for, weaker_seat, weaker_lowered, leaf_own}}}
 
 -- an entry was set
 pub places_set : {mode : ℕ} (old new : Picture mode) (m r page number : ℕ) → IsRootedBut old m → ((pid : ℕ) → new.root pid ≡ old.root pid)

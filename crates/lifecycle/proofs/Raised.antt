@@ -1,18 +1,11 @@
 -- One more shares a frame or a slot, for which no entry names it yet: no process sees that.
-use Rattle.vm_types.specs.{Limits.{top_level}, declared.object.PageKey.TheVariants.{File, Object}, declared.object.PageKey.{PageKey}, declared.region.Attr.{Attr}, declared.region.Backing.{Backing}}
-use Rattle.std.proofs.{Common.{◌≡◌, ◌≢◌, ℕ, inl, inr, ◌<◌, ◌≤◌, true, [], Option, Some, get_or, refl, sym, ap, ◌∙◌, subst, arith}, lemmas.Bool.{cases_eq, false≢true}}
+use Rattle.lifecycle.proofs.Names.{top_level, File, Object, PageKey, Attr, Backing, ◌≡◌, ◌≢◌, ℕ, inl, inr, ◌<◌, ◌≤◌, true, [], Option, Some, get_or, refl, sym, ap, ◌∙◌, subst, arith, cases_eq, false≢true, Free, Table, Private, FrameTable}
+use Rattle.lifecycle.proofs.Names.{bytes_of, role_of, count_of, Shares, SlotTable, IsInUse, is_valid, can_write, frame_of, KeepsTrees, data_shared, row_same, Place, Home, Frame, Slot, Seat, InFrame, InSlot, seat, is_private, Picture, entry}
+use Rattle.lifecycle.proofs.Names.{held, bytes_at, bytes_in, IsOwned, count_in, page_in, IsEntryFor, Nothing, Resident, Away, IsBehind, IsGranting, IsFit, IsFitBut, nowhere, SameBeside, entries_kept, KeepsBehind, past_end-same}
+use Rattle.lifecycle.proofs.Names.{user_map-same, readable-same, granting_same, behind_kept, places_same, dirty_same, SameButSlots, with_slots, rooted_same, rooted_frames, counted_shared, each_view, view_seated, held_same, seat_own}
+use Rattle.lifecycle.proofs.Names.{same_with, tables_same}
 use Rattle.vm_types.specs.declared.region.Backing.TheVariants as Backings
-use Rattle.frames.specs.{declared.role.Role.TheVariants.{Free, Table, Private}, FrameTable.{FrameTable, bytes_of, role_of, count_of, Shares}}
-use Rattle.swap.specs.Slots.{SlotTable, IsInUse}
 use Rattle.swap.specs.Slots as Slots
-use Rattle.sv39_walk.specs.Entry.{is_valid, can_write, frame_of}
-use Rattle.page_tables.proofs.{Data.{KeepsTrees, data_shared}, Places.{row_same}}
-use Rattle.page_cache.specs.{declared.place.Place.{Place}, declared.place.Place.TheVariants.{Home, Frame, Slot}}
-use Rattle.residency.specs.{Seats.{Seat, InFrame, InSlot, seat, is_private}, Picture.{Picture, entry, held, bytes_at, bytes_in, IsOwned, count_in, page_in}}
-use Rattle.residency.specs.{Parts.{IsEntryFor, Nothing, Resident, Away, IsBehind, IsGranting, IsFit, IsFitBut, nowhere}, Steps.{SameBeside}}
-use Rattle.residency.proofs.{Entries.{entries_kept}, Granting.{KeepsBehind, past_end-same, user_map-same, readable-same, granting_same}, Moves.{behind_kept}, Places.{places_same, dirty_same}, Puts.{SameButSlots}, Putting.{with_slots}}
-use Rattle.residency.proofs.{Rooted.{rooted_same, rooted_frames}, Seats.{counted_shared}, Setting.{each_view, view_seated, held_same}, SeatForms.{seat_own}}
-use Rattle.fault.proofs.Steps.{same_with, tables_same}
 use Rattle.lifecycle.specs.Shares.{IsUnwritten, RaisesSeat}
 
 behind-same : {mode : ℕ} (old new : Picture mode) (b : Backing) (n : ℕ) → KeepsBehind old new → IsBehind old b n → IsBehind new b n
@@ -140,13 +133,13 @@ module _ {mode : ℕ} (old : Picture mode) (k : ℕ) (fit : IsFit old) (own : Is
 
   more : (j : ℕ) → old.slots.count j ≤ t.count j
   more j = elim (cases_eq j k) [
-    | inl e ↦ (let P : ℕ → Type 0 = λ i. old.slots.count i ≤ t.count i in subst P (sym e) (let r = shares.raised in omega (arith, r)))
+    | inl e ↦ subst (λ (i : ℕ). old.slots.count i ≤ t.count i) (sym e) (let r = shares.raised in omega (arith, r))
     | inr ne ↦ (let c = shares.others.counts j ne in omega (arith, c))
   ]
 
   used_before : (j : ℕ) → 0 < t.count j → 0 < old.slots.count j
   used_before j used = elim (cases_eq j k) [
-    | inl e ↦ (let P : ℕ → Type 0 = λ i. 0 < old.slots.count i in subst P (sym e) own.0)
+    | inl e ↦ subst (λ (i : ℕ). 0 < old.slots.count i) (sym e) own.0
     | inr ne ↦ (let c = shares.others.counts j ne in omega (arith, c, used))
   ]
 

@@ -1,12 +1,6 @@
 -- Where tables, own copies and pages of objects were given back and nothing else, no frame is taken.
-use Rattle.std.proofs.{Common.{◌≡◌, ℕ, inl, inr, ◌⊎◌, refl, sym, ap, ◌∙◌}, lemmas.Bool.{cases_Bool}}
-use Rattle.vm_types.specs.{declared.object.PageKey.{PageKey}, declared.object.PageKey.TheVariants.{File, Object}, Objects.{Maps, is_named}}
-use Rattle.frames.specs.{declared.role.Role.{Role}, declared.role.Role.TheVariants.{Free, Zero, Table, Private, Cache}, FrameTable.{FrameTable, role_of, IsSound}}
-use Rattle.page_tables.specs.Tree.{IsTable}
-use Rattle.page_cache.specs.declared.place.Place.TheVariants.{Home, Frame}
-use Rattle.residency.specs.{Picture.{Picture}, Parts.{IsFit, IsMapped, IsUsed, AsRoot, OnWay}}
-use Rattle.fault.proofs.Forms.{used_inside}
-use Rattle.ranges.specs.{Rows.{KeepsNamed}, Steps.{ReturnsTables}}
+use Rattle.lifecycle.proofs.Names.{◌≡◌, ℕ, inl, inr, ◌⊎◌, refl, sym, ap, ◌∙◌, cases_Bool, PageKey, File, Object, Maps, is_named, Role, Free, Zero, Table, Private, Cache, FrameTable, role_of, IsSound, IsTable, Home, Frame, Picture, IsFit}
+use Rattle.lifecycle.proofs.Names.{IsMapped, IsUsed, AsRoot, OnWay, used_inside, KeepsNamed, ReturnsTables}
 use Rattle.lifecycle.specs.Changes.{TakesNoCopy, TakesNoFrame}
 
 module _ {mode : ℕ} (old new : Picture mode) (pid : ℕ) (fit : IsFit old) (fit' : IsFit new) (sound : IsSound old.frames) (sound' : IsSound new.frames)

@@ -1,14 +1,7 @@
 -- How the steps of the second pass add up.
 use Rattle.vm_types.specs.declared.mode.Levels as Levels
-use Rattle.vm_types.specs.Limits.{top_level}
-use Rattle.std.proofs.Common.{◌≡◌, ◌≢◌, ℕ, inr, ◌<◌, ◌≤◌, None, refl, sym, ap, ◌∙◌, arith}
-use Rattle.std.specs.Prelude.{is_some}
-use Rattle.page_tables.specs.Tree.{IsPage}
-use Rattle.residency.specs.{declared.kernel.Core.{Core}, Seats.{seat}, Picture.{Picture, picture_of, entry}, Parts.{IsFit}}
-use Rattle.residency.proofs.Start.{seat-none}
-use Rattle.ranges.proofs.ClearedPages.{rest-refl, rest_then}
-use Rattle.lifecycle.specs.ChildShares.{AwaitsShares, GivesShares, IsReadyForShares}
-use Rattle.lifecycle.proofs.SharedRows.{shares_none, shares_then, seats_kept, tables_shared}
+use Rattle.lifecycle.proofs.Names.{top_level, ◌≡◌, ◌≢◌, ℕ, inr, ◌<◌, ◌≤◌, None, refl, sym, ap, ◌∙◌, arith, is_some, IsPage, Core, seat, Picture, picture_of, entry, IsFit, seat-none, rest-refl, rest_then}
+use Rattle.lifecycle.{specs.ChildShares.{AwaitsShares, GivesShares, IsReadyForShares}, proofs.SharedRows.{shares_none, shares_then, seats_kept, tables_shared}}
 
 -- fewer pages are awaited too
 pub awaits_within : {mode : ℕ} (c : Picture mode) (parent child low high from stop : ℕ) → AwaitsShares c parent child low high → low ≤ from → stop ≤ high → AwaitsShares c parent child from stop

@@ -1,13 +1,7 @@
 -- The steps on one page, whose entry of the parent names a seat, together.
 use Rattle.vm_types.specs.declared.mode.Levels as Levels
-use Rattle.vm_types.specs.Limits.{top_level}
-use Rattle.vm_types.proofs.Modes.{user_pages_fit}
-use Rattle.std.proofs.Common.{◌≡◌, ℕ, inl, ◌/◌, ◌%◌, ◌+◌, ◌<◌, Some, refl, sym, ap, ◌∙◌, arith}
-use Rattle.frames.specs.FrameTable.{FrameTable}
-use Rattle.page_tables.specs.{Change.{SetsEntry}, Entry.{number_of}, Places.{IsTableOf}, Tree.{IsPage, IsForest, IsRoot, IsTable}, declared.forms.Entry.{Entry}}
-use Rattle.residency.specs.{declared.kernel.Core.{Core}, Seats.{Seat, seat}, Picture.{Picture, picture_of, entry}, Parts.{IsFit, IsFitBut}}
-use Rattle.residency.proofs.Start.{seat-none}
-use Rattle.ranges.proofs.{BetweenEntries.{place_at}, ClearedPages.{same_beside}}
+use Rattle.lifecycle.proofs.Names.{top_level, user_pages_fit, ◌≡◌, ℕ, inl, ◌/◌, ◌%◌, ◌+◌, ◌<◌, Some, refl, sym, ap, ◌∙◌, arith, FrameTable, SetsEntry, number_of, IsTableOf, IsPage, IsForest, IsRoot, IsTable, Entry, Core, Seat, seat}
+use Rattle.lifecycle.proofs.Names.{Picture, picture_of, entry, IsFit, IsFitBut, seat-none, place_at, same_beside}
 use Rattle.lifecycle.specs.{Shares.{IsTableFor, MayShare, RaisesSeat, SharesRow}, ChildShares.{AddsShare, AwaitsShares, HoldsEntries, WithdrawsWrite}}
 use Rattle.lifecycle.proofs.{Given.{fit_shared, shares_one}, Live.{live_root, some_of}, Lowered.{places_set}, Passed.{in_row}, Sharers.{may_share, unwritten_all}}
 

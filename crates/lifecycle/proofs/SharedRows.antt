@@ -1,15 +1,7 @@
 -- Rows of pages given to the child, one after the other.
-use Rattle.vm_types.specs.Limits.{top_level}
-use Rattle.std.proofs.{Common.{◌≡◌, ◌≢◌, ℕ, inl, inr, ◌⊎◌, ◌<◌, ◌/◌, ◌≤◌, Option, Some, None, refl, sym, ap, ◌∙◌, arith}, lemmas.Bool.{cases_lt}}
-use Rattle.std.specs.Prelude.{option_map}
-use Rattle.page_tables.specs.Tree.{IsPage}
-use Rattle.swap.specs.Slots.{IsInUse}
-use Rattle.residency.specs.{Seats.{InSlot, seat}, Picture.{Picture, entry, bytes_in}, Parts.{IsFit}, Ways.{IsWhole}}
-use Rattle.residency.proofs.Start.{seat-none}
-use Rattle.fault.proofs.{Forms.{none_common, none_here}, Steps.{tables_same, tables_then, room_then}}
-use Rattle.ranges.proofs.{ClearedPages.{but_then, one_page}, Returning.{same_but-refl}}
-use Rattle.lifecycle.specs.{Steps.{HasTablesForCopies}, Shares.{lowered_entry, given_entry, SharesRow}}
-use Rattle.lifecycle.proofs.{Given.{view_alike}, Linked.{whole_kept, row_whole}, Weaker.{seat_lowered}}
+use Rattle.lifecycle.proofs.Names.{top_level, ◌≡◌, ◌≢◌, ℕ, inl, inr, ◌⊎◌, ◌<◌, ◌/◌, ◌≤◌, Option, Some, None, refl, sym, ap, ◌∙◌, arith, cases_lt, option_map, IsPage, IsInUse, InSlot, seat, Picture, entry, bytes_in, IsFit, IsWhole}
+use Rattle.lifecycle.proofs.Names.{seat-none, none_common, none_here, tables_same, tables_then, room_then, but_then, one_page, same_but-refl}
+use Rattle.lifecycle.{specs.{Steps.{HasTablesForCopies}, Shares.{lowered_entry, given_entry, SharesRow}}, proofs.{Given.{view_alike}, Linked.{whole_kept, row_whole}, Weaker.{seat_lowered}}}
 
 lowered_none : (e : ℕ) → seat e ≡ None → e ≡ lowered_entry e
 lowered_none e none = let common = none_common e none in rw common refl
@@ -85,9 +77,8 @@ module _ {mode : ℕ} (a b c : Picture mode) (parent child low mid high : ℕ) (
     tables = tables_then a b c one.beside.root one.tables two.tables;
     raised = λ y p h least under is. elim (cases_lt p mid) [
       | inl front ↦ (
-          let first = one.raised y p h least front is in
           let second = two.kept y (λ q hq from below there. (let e : p ≡ q = one_page a parent p q y fit h hq is (sym (ap seat (above q hq from)) ∙ there) in omega (arith, e, front, from))) in
-          omega (arith, first, second))
+          omega (arith, one.raised y p h least front is, second))
       | inr back ↦ (
           let first = one.kept y (λ q hq from below there. (let e : p ≡ q = one_page a parent p q y fit h hq is there in omega (arith, e, back, below))) in
           let second = two.raised y p h back under (ap seat (above p h back) ∙ is) in

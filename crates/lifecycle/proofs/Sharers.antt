@@ -1,13 +1,8 @@
 -- Who shares a seat: fewer than there are processes, where one has no entry, and nobody who may store to it.
-use Rattle.vm_types.specs.{Limits.{top_level}, Counting.{count_below}, declared.region.Attr.{Attr}}
-use Rattle.std.proofs.{Common.{◌≡◌, ℕ, zero, suc, inl, inr, ◌⊎◌, ◌+◌, ◌<◌, ◌≤◌, Bool, true, false, Option, Some, None, refl, sym, ap, ◌∙◌, subst, arith}, lemmas.Bool.{cases_eq, cases_Bool, false≢true}}
-use Rattle.sv39_walk.specs.Entry.{is_valid, can_write, frame_of}
-use Rattle.page_tables.specs.Tree.{IsPage}
-use Rattle.residency.specs.{Seats.{Seat, InFrame, seat, is_seat, holders_at}, Picture.{Picture, entry, count_in, page_in}, Parts.{IsEntryFor, Nothing, Resident, Away, IsFit, nowhere}}
-use Rattle.residency.proofs.{Counts.{count-sole}, Evicted.{seat_number}, Seats.{off-none}, Start.{entry-dead, seat-none}, SeatForms.{seat_own}}
-use Rattle.ranges.proofs.Sharing.{sits, sits_none}
-use Rattle.lifecycle.proofs.{Given.{some_seat}, Weaker.{leaf_own}}
-use Rattle.lifecycle.specs.Shares.{IsUnwritten}
+use Rattle.lifecycle.proofs.Names.{top_level, count_below, Attr, ◌≡◌, ℕ, zero, suc, inl, inr, ◌+◌, ◌<◌, ◌≤◌, Bool, true, false, Option, Some, None, refl, sym, ap, ◌∙◌, subst, arith, cases_eq, cases_Bool, false≢true, same_Some, is_valid}
+use Rattle.lifecycle.proofs.Names.{can_write, frame_of, IsPage, Seat, InFrame, seat, is_seat, holders_at, Picture, entry, count_in, page_in, IsEntryFor, Nothing, Resident, Away, IsFit, nowhere, count-most, count-sole, seat_number, off-none}
+use Rattle.lifecycle.proofs.Names.{cases_some, entry-dead, seat-none, seat_own, sits, sits_none}
+use Rattle.lifecycle.{specs.Shares.{IsUnwritten}, proofs.Weaker.{leaf_own}}
 
 step_most : (f : ℕ → Bool) (n : ℕ) → count_below f (suc n) ≤ count_below f n + 1
 unfolding count_below
@@ -20,19 +15,11 @@ step_none : (f : ℕ → Bool) (n : ℕ) → f n ≡ false → count_below f (su
 unfolding count_below
 step_none f n e = rw e (omega arith)
 
-nothing_below : (f : ℕ → Bool) → count_below f 0 ≡ 0
-unfolding count_below
-nothing_below f = refl
-
-count_most : (f : ℕ → Bool) (n : ℕ) → count_below f n ≤ n
-count_most f zero = omega (arith, nothing_below f)
-count_most f (suc n) = omega (arith, step_most f n, count_most f n)
-
 -- one number doesn't pass
 count_but : (f : ℕ → Bool) (x n : ℕ) → x < n → f x ≡ false → count_below f n + 1 ≤ n
 count_but f x zero below none = absurd (omega arith)
 count_but f x (suc n) below none = elim (cases_eq n x) [
-  | inl e ↦ omega (arith, step_none f n (ap f e ∙ none), count_most f n)
+  | inl e ↦ omega (arith, step_none f n (ap f e ∙ none), count-most f n)
   | inr ne ↦ omega (arith, step_most f n, count_but f x n (omega arith) none)
 ]
 
@@ -44,13 +31,9 @@ count_but_two f x y (suc n) apart below none none' = elim (cases_eq n y) [
   | inr ne ↦ omega (arith, step_most f n, count_but_two f x y n apart (omega arith) none none')
 ]
 
-dead_or_live : (o : Option ℕ) → (o ≡ None) ⊎ ((r : ℕ) × (o ≡ Some r))
-dead_or_live None = inl refl
-dead_or_live (Some r) = inr (r, refl)
-
 -- there is no process 0
 no_process : {mode : ℕ} (c : Picture mode) (page : ℕ) → IsFit c → seat (entry c 0 page) ≡ None
-no_process c page fit = elim (dead_or_live (c.root 0)) [
+no_process c page fit = elim (cases_some (c.root 0)) [
   | inl dead ↦ ap seat (entry-dead c 0 page dead) ∙ seat-none
   | inr lives ↦ absurd (let number = fit.rooted.numbers 0 lives.0 lives.1 in omega (arith, number.0))
 ]
@@ -58,21 +41,15 @@ no_process c page fit = elim (dead_or_live (c.root 0)) [
 -- the share count of a seat is the number of those who have it at its page
 counted_at : {mode : ℕ} (c : Picture mode) (pid page : ℕ) (y : Seat) → IsFit c → IsPage (top_level mode) page → seat (entry c pid page) ≡ Some y → count_in c y ≡ holders_at (entry c) page y
 counted_at c pid page y fit h is =
-    let owned = fit.counted.1.named pid page y h is in
-    let at = fit.counted.1.noted pid page y h is in
-    let here = fit.counted.1.counts y owned in
-    let none = off-none nowhere y in
-    let P : ℕ → Type 0 = λ x. holders_at (entry c) (page_in c fit.counted.0 y) y ≡ holders_at (entry c) x y in
-    let there = subst P at refl in
-    omega (arith, here, none, there)
+    let there = subst (λ (x : ℕ). holders_at (entry c) (page_in c fit.counted.0 y) y ≡ holders_at (entry c) x y) (fit.counted.1.noted pid page y h is) refl in
+    omega (arith, fit.counted.1.counts y (fit.counted.1.named pid page y h is), off-none nowhere y, there)
 
 -- one more may share a seat of a page of which a process has no copy
 pub may_share : {mode : ℕ} (c : Picture mode) (pid page child : ℕ) (y : Seat) → IsFit c → IsPage (top_level mode) page → seat (entry c pid page) ≡ Some y → 0 < child → child ≤ 64 → seat (entry c child page) ≡ None → count_in c y < 64
 unfolding holders_at
 may_share c pid page child y fit h is some low none =
-    let count = counted_at c pid page y fit h is in
     let few = count_but_two (λ q. is_seat (seat (entry c q page)) y) 0 child 65 some (omega (arith, low)) (sits_none (seat (entry c 0 page)) y (no_process c page fit)) (sits_none (seat (entry c child page)) y none) in
-    omega (arith, count, few)
+    omega (arith, counted_at c pid page y fit h is, few)
 
 -- the process whose leaf lets stores through to a seat is the only one to have it
 sole_holder : {mode : ℕ} (c : Picture mode) (q k pid page : ℕ) (y : Seat) → IsFit c → IsPage (top_level mode) k → IsPage (top_level mode) page → seat (entry c q k) ≡ Some y → seat (entry c pid page) ≡ Some y → count_in c y ≡ 1 → (q ≡ pid) × (k ≡ page)
@@ -90,9 +67,8 @@ written c attr e y (Nothing none) is valid write = let bad : None ≡ Some y = s
 written c attr e y (Away a at away) is valid write = absurd (false≢true (sym (let z : Rattle.residency.specs.Seats.is_swapped e ≡ false = rw valid refl in z) ∙ away.swapped))
 written c attr e y (Resident a at resident) is valid write =
     let private = leaf_own e valid (λ none. (let bad : None ≡ Some y = sym none ∙ is in (cc))) in
-    let frame : InFrame (frame_of e) ≡ y = some_seat (InFrame (frame_of e)) y (sym (seat_own e private) ∙ is) in
-    let P : Seat → Type 0 = λ z. count_in c z ≡ 1 in
-    subst P frame ((resident.leaf valid).sole private write)
+    let frame : InFrame (frame_of e) ≡ y = same_Some (InFrame (frame_of e)) y (sym (seat_own e private) ∙ is) in
+    subst (λ (z : Seat). count_in c z ≡ 1) frame ((resident.leaf valid).sole private write)
 
 -- no leaf lets a store through to a seat, where that of one page doesn't
 pub unwritten_all : {mode : ℕ} (c : Picture mode) (pid page e : ℕ) (y : Seat) → IsFit c → IsPage (top_level mode) page → entry c pid page ≡ e → seat e ≡ Some y → (is_valid e ≡ true → can_write e ≡ false) → IsUnwritten c y

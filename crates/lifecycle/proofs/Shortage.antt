@@ -1,11 +1,8 @@
 -- Why there was no copy of a process, told by the processes before the call.
-use Rattle.std.proofs.{Common.{◌≡◌, ◌≢◌, ℕ, zero, suc, inl, inr, ◌+◌, ◌*◌, ◌/◌, ◌<◌, ◌^◌, Bool, true, false, if◌then◌else◌, Option, Some, None, is_some, List, refl, sym, ap, ◌∙◌, subst, arith}, Math.Path.{fun_ext}, lemmas.Bool.{cases_eq}}
-use Rattle.vm_types.specs.{Capacity.{used_rows, tables_below, tables_of, has_own, object_page_limit}, Limits.{top_level, table_entries, user_end, object_limit}, declared.object.PageKey.TheVariants.{File, Object}}
-use Rattle.vm_types.specs.{Counting.{any_below, count_below, sum_below}, View.{View}, declared.region.Attr.{Attr}, declared.refusal.Stall.{Stall}, declared.refusal.Stall.TheVariants.{NoFrames, NoSwap, SwapDevice, StoreDevice}}
-use Rattle.vm_types.specs.declared.object.PageKey.{PageKey}
-use Rattle.residency.specs.{Picture.{Picture, is_live, entry, view, view_of, own_in}, Capacity.{IsShort, tables_over, copies_over, touched_file, stored_object}}
-use Rattle.residency.proofs.{Counts.{count-same}, Tables.{sum-below}}
-use Rattle.fault.specs.Changes.{KeepsRoom}
+use Rattle.lifecycle.proofs.Names.{◌≡◌, ◌≢◌, ℕ, zero, suc, inl, inr, ◌+◌, ◌*◌, ◌/◌, ◌<◌, ◌^◌, Bool, true, false, if◌then◌else◌, Option, Some, None, List, refl, sym, ap, ◌∙◌, subst, arith, fun_ext, cases_eq, used_rows, tables_below}
+use Rattle.lifecycle.proofs.Names.{tables_of, has_own, object_page_limit, top_level, table_entries, user_end, object_limit, File, Object, any_below, count_below, sum_below, View, Attr, Stall, NoFrames, NoSwap, SwapDevice, StoreDevice}
+use Rattle.lifecycle.proofs.Names.{PageKey, Picture, is_live, entry, view, view_of, own_in, IsShort, tables_over, copies_over, touched_file, stored_object, count-same, sum-below, KeepsRoom}
+use Rattle.std.proofs.Common.{is_some}
 use Rattle.lifecycle.specs.Changes.{KeepsProcesses, IsShortToFork}
 
 -- one summand is that much more
@@ -14,14 +11,12 @@ unfolding sum_below
 sum-more f g x d zero below here others = absurd (omega arith)
 sum-more f g x d (suc n) below here others = elim (cases_eq n x) [
   | inl e ↦ (
-      let P : ℕ → Type 0 = λ y. f y ≡ g y + d in
-      let here_n : f n ≡ g n + d = subst P (sym e) here in
+      let here_n : f n ≡ g n + d = subst (λ (y : ℕ). f y ≡ g y + d) (sym e) here in
       let rest : sum_below f n ≡ sum_below g n = sum-below f g x n (omega (arith, e)) others in
       omega (arith, here_n, rest))
   | inr ne ↦ (
       let rest = sum-more f g x d n (omega (arith, below, ne)) here others in
-      let same = others n ne in
-      omega (arith, rest, same))
+      omega (arith, rest, others n ne))
 ]
 
 -- the tables of a process are told by which pages are mapped
@@ -35,15 +30,12 @@ module _ (mode : ℕ) where
   below_alike : (a b : ℕ → Option View) (level : ℕ) → ((page : ℕ) → is_some (a page) ≡ is_some (b page)) → tables_below mode a level ≡ tables_below mode b level
   below_alike a b zero same = refl
   below_alike a b (suc level) same =
-      let here = rows_alike a b (table_entries ^ suc level) (user_end mode / table_entries ^ suc level) same in
-      let rest = below_alike a b level same in
-      omega (arith, here, rest)
+      omega (arith, rows_alike a b (table_entries ^ suc level) (user_end mode / table_entries ^ suc level) same, below_alike a b level same)
 
   pub tables_alike : (a b : ℕ → Option View) → ((page : ℕ) → is_some (a page) ≡ is_some (b page)) → tables_of mode a ≡ tables_of mode b
   tables_alike a b same = let below = below_alike a b (top_level mode) same in omega (arith, below)
 
--- the tables of all processes with one more
-module _ (mode : ℕ) where
+  -- the tables of all processes with one more
   tables_more : (live live' : ℕ → Bool) (views views' : ℕ → ℕ → Option View) (pid d : ℕ) → pid < 65 → live pid ≡ false → live' pid ≡ true → tables_of mode (views' pid) ≡ d
       → ((q : ℕ) → q ≢ pid → live' q ≡ live q) → ((q page : ℕ) → q ≢ pid → views' q page ≡ views q page) → tables_over mode live' views' ≡ tables_over mode live views + d
   unfolding tables_over
@@ -52,8 +44,7 @@ module _ (mode : ℕ) where
       (let z : d ≡ 0 + d = omega arith in rw (dead, lives) (here ∙ z))
       (λ q ne. ap (λ b. if b then tables_of mode (views' q) else 0) (others q ne) ∙ ap (λ v. if live q then tables_of mode v else 0) (fun_ext (λ page. same q page ne)))
 
--- own copies and touched pages are told by which pages have one
-module _ (mode : ℕ) where
+  -- own copies and touched pages are told by which pages have one
   copies_alike : (views views' : ℕ → ℕ → Option View) (touched touched' stored stored' : ℕ → ℕ → Bool) → ((q page : ℕ) → has_own (views' q page) ≡ has_own (views q page))
       → ((f k : ℕ) → touched' f k ≡ touched f k) → ((o k : ℕ) → stored' o k ≡ stored o k) → copies_over mode views' touched' stored' ≡ copies_over mode views touched stored
   unfolding copies_over
@@ -75,12 +66,10 @@ module _ {mode : ℕ} where
       let live : is_live new ≡ is_live old = fun_ext keeps.live in
       let views : view new ≡ view old = fun_ext (λ q. fun_ext (keeps.views q)) in
       let same : tables_over mode (is_live new) (view new) ≡ tables_over mode (is_live old) (view old) = ap (λ l. tables_over mode l (view new)) live ∙ ap (tables_over mode (is_live old)) views in
-      let frames = room.frames in
-      omega (arith, frames, same, short)
+      omega (arith, room.frames, same, short)
   short_before old new parent NoSwap keeps room touched short =
       let same = copies_alike mode (view old) (view new) (touched_file old) (touched_file new) (stored_object old) (stored_object new) (λ q page. ap has_own (keeps.views q page)) (λ f k. touched (File (record { file = f; page = k }))) (λ o k. touched (Object (record { object = o; page = k }))) in
-      let slots = room.slots in
-      omega (arith, slots, same, short)
+      omega (arith, room.slots, same, short)
   short_before old new parent SwapDevice keeps room touched short = tt
   short_before old new parent StoreDevice keeps room touched short = tt
 
@@ -103,7 +92,7 @@ module _ {mode : ℕ} (old new : Picture mode) (parent child : ℕ) (apart : par
 
   owned : (q page : ℕ) → has_own (view new q page) ≡ has_own (view old q page)
   owned q page = elim (cases_eq q child) [
-    | inl is ↦ (let P : ℕ → Type 0 = λ x. has_own (view new x page) ≡ has_own (view old x page) in subst P (sym is) (none page ∙ sym (was_none page)))
+    | inl is ↦ subst (λ (x : ℕ). has_own (view new x page) ≡ has_own (view old x page)) (sym is) (none page ∙ sym (was_none page))
     | inr ne ↦ ap has_own (others q page ne)
   ]
 
@@ -111,11 +100,9 @@ module _ {mode : ℕ} (old new : Picture mode) (parent child : ℕ) (apart : par
   unfolding IsShort IsShortToFork
   short_alike NoFrames short =
       let all = tables_more mode (is_live old) (is_live new) (view old) (view new) child (tables_of mode (view old parent)) below dead lives tables_here others_live others in
-      let frames = room.frames in
-      omega (arith, frames, all, short)
+      omega (arith, room.frames, all, short)
   short_alike NoSwap short =
       let all = copies_alike mode (view old) (view new) (touched_file old) (touched_file new) (stored_object old) (stored_object new) owned (λ f k. touched (File (record { file = f; page = k }))) (λ o k. touched (Object (record { object = o; page = k }))) in
-      let slots = room.slots in
-      omega (arith, slots, all, short)
+      omega (arith, room.slots, all, short)
   short_alike SwapDevice short = tt
   short_alike StoreDevice short = tt

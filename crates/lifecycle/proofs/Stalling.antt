@@ -1,13 +1,7 @@
 -- A fork that stalls: what it took of memory is given back.
-use Rattle.vm_types.specs.{Limits.{top_level, user_end}, declared.object.PageKey.{PageKey}, declared.object.PageKey.TheVariants.{Object}, declared.refusal.Stall.{Stall}}
-use Rattle.std.proofs.{Common.{◌≡◌, ◌≢◌, ℕ, suc, inl, inr, ◌⊎◌, ◌+◌, Option, Some, None, refl, sym, ap, ◌∙◌, subst, arith}, lemmas.Bool.{cases_eq}}
-use Rattle.frames.specs.{declared.role.Role.{Role}, declared.role.Role.TheVariants.{Free, Zero, Table, Private, Cache}, FrameTable.{role_of, count_of, IsCountFor, IsFull, IsSound}}
-use Rattle.page_tables.specs.Tree.{IsPage, IsTable}
-use Rattle.residency.specs.{Seats.{InFrame, InSlot, seat, holders_at, off}, Picture.{Picture, entry, page_in}, Parts.{IsFit, nowhere}, Calls.{Frees, Refuses}, Ages.{GivesForTables, KeepsRoles}}
-use Rattle.residency.proofs.{Seats.{holders_none, off-none}, Start.{seat-none}}
-use Rattle.fault.specs.Changes.{KeepsRoom, IsTableOnWay}
-use Rattle.fault.proofs.Forms.{used_inside}
-use Rattle.ranges.specs.Steps.{KeepsEntriesOfOthers, LosesSlots}
+use Rattle.lifecycle.proofs.Names.{top_level, user_end, PageKey, Object, Stall, ◌≡◌, ◌≢◌, ℕ, suc, inl, inr, ◌⊎◌, ◌+◌, Option, Some, None, refl, sym, ap, ◌∙◌, subst, arith, cases_eq, Role, Free, Zero, Table, Private, Cache, role_of}
+use Rattle.lifecycle.proofs.Names.{count_of, IsCountFor, IsFull, IsSound, IsPage, IsTable, InFrame, InSlot, seat, holders_at, off, Picture, entry, page_in, IsFit, nowhere, Frees, Refuses, GivesForTables, KeepsRoles, holders_none, off-none}
+use Rattle.lifecycle.proofs.Names.{seat-none, KeepsRoom, IsTableOnWay, used_inside, KeepsEntriesOfOthers, LosesSlots}
 use Rattle.lifecycle.specs.{Steps.{HasCopy, LacksTableForCopy}, Changes.{FreesTables, StallsToFork}}
 
 -- no frame was to be had for the root
@@ -15,9 +9,7 @@ pub stalls_first : {mode : ℕ} (old new : Picture mode) (parent child : ℕ) (s
     → (tried : Option ℕ) × GivesForTables old new tried → KeepsRoles old new → IsFull new.frames → Refuses new None stall → StallsToFork old new parent child stall
 stalls_first old new parent child stall dead fit frees gives still full refuses =
     let was_table : (n : ℕ) → IsTable new.frames n → IsTable old.frames n = λ n table. (
-    let low = table.inside in
-    let count = frees.count in
-    record { inside = omega (arith, low, count); role = sym (still n) ∙ table.role }) in
+    record { inside = omega (arith, table.inside, frees.count); role = sym (still n) ∙ table.role }) in
     record {
       asked = new;
       fit = fit;
@@ -37,11 +29,8 @@ stalls_first old new parent child stall dead fit frees gives still full refuses 
     }
 
 private_or : (r : Role) → (r ≡ Private) ⊎ (r ≢ Private)
-private_or Free = inr (λ e. (cc))
-private_or Zero = inr (λ e. (cc))
-private_or Table = inr (λ e. (cc))
 private_or Private = inl refl
-private_or Cache = inr (λ e. (cc))
+private_or r = inr (λ e. (cc))
 
 -- A process without entries went, and its tables with it.
 module _ {mode : ℕ} (old new : Picture mode) (pid : ℕ) (fit : IsFit old) (fit' : IsFit new) (sound : IsSound old.frames) (sound' : IsSound new.frames) (tables : FreesTables old new pid)
@@ -61,11 +50,9 @@ module _ {mode : ℕ} (old new : Picture mode) (pid : ℕ) (fit : IsFit old) (fi
           | inr ne ↦ other (fit'.counted.1.named q page (InFrame n) h (ap seat (others q page h ne) ∙ there))
         ]) in
         let count : count_of old.frames n ≡ holders_at (entry old) page (InFrame n) + off nowhere 0 (InFrame n) = fit.counted.1.counts (InFrame n) is in
-        let zero = off-none nowhere (InFrame n) in
-        let P : Role → Type 0 = λ r. IsCountFor r (count_of old.frames n) in
         let used = used_inside old.frames n sound (λ free. (let bad : Private ≡ Free = sym is ∙ free in (cc))) in
-        let some = (subst P is (sound.counted n used)).0 in
-        omega (arith, none, count, zero, some))
+        let some = (subst (λ (r : Role). IsCountFor r (count_of old.frames n)) is (sound.counted n used)).0 in
+        omega (arith, none, count, off-none nowhere (InFrame n), some))
   ]
 
   by_role : (n : ℕ) (kind : Role) → role_of old.frames n ≡ kind → (role_of new.frames n ≡ kind) ⊎ ((role_of new.frames n ≡ Free) × IsTable old.frames n)
@@ -89,10 +76,7 @@ module _ {mode : ℕ} (old new : Picture mode) (pid : ℕ) (fit : IsFit old) (fi
 
   still_table : (n : ℕ) → IsTable new.frames n → IsTable old.frames n
   still_table n table = elim (roles_left n) [
-    | inl same ↦ (
-        let low = table.inside in
-        let count = room.frames in
-        record { inside = omega (arith, low, count); role = sym same ∙ table.role })
+    | inl same ↦ record { inside = omega (arith, table.inside, room.frames); role = sym same ∙ table.role }
     | inr freed ↦ freed.1
   ]
 

@@ -1,16 +1,8 @@
 -- A process comes.
-use Rattle.vm_types.proofs.Modes.{user_pages_fit}
-use Rattle.vm_types.specs.Limits.{top_level}
-use Rattle.std.proofs.{Common.{◌≡◌, ◌≢◌, ℕ, inl, inr, None, sym, ap, ◌∙◌, subst, arith}, lemmas.Bool.{cases_eq}}
-use Rattle.std.specs.Prelude.{is_some}
-use Rattle.frames.specs.{declared.role.Role.{Role}, declared.role.Role.TheVariants.{Free, Table, Private, Cache}, FrameTable.{role_of, bytes_of, frame_count}}
-use Rattle.page_tables.specs.Tree.{IsPage, missing_of, page_entry}
-use Rattle.residency.specs.{Seats.{Seat, InFrame, InSlot, seat}, Picture.{Picture, entry, view, bytes_in, IsOwned}, Parts.{IsFit}, Calls.{ObtainsTable}, Steps.{Spawns}, Shows.{KeepsFiles}, Ages.{GivesForTables, KeepsRolesBut}}
-use Rattle.residency.proofs.{Aging.{gives_then}, Start.{entry-dead}, Entries.{entry-same}, LeafSteps.{cases_attr}, Moves.{view-none}, Setting.{view_seated, held_same}}
-use Rattle.fault.proofs.{Spawning.{bare_started}, Steps.{bare_freed}}
-use Rattle.fault.specs.Changes.{KeepsBare, KeepsRoom}
-use Rattle.lifecycle.specs.Changes.{AddsProcess, TakesRoot, TakesNoCopy}
-use Rattle.lifecycle.proofs.Keeping.{live_same, files_then, no_copy_freed, gives_alike}
+use Rattle.lifecycle.proofs.Names.{user_pages_fit, top_level, ◌≡◌, ◌≢◌, ℕ, inl, inr, None, sym, ap, ◌∙◌, subst, arith, cases_eq, is_some, Role, Free, Table, Private, Cache, role_of, bytes_of, frame_count, IsPage, missing_of, page_entry}
+use Rattle.lifecycle.proofs.Names.{Seat, InFrame, InSlot, seat, Picture, entry, view, bytes_in, IsOwned, IsFit, ObtainsTable, Spawns, KeepsFiles, GivesForTables, KeepsRolesBut, gives_then, entry-dead, entry-same, cases_attr, view-none}
+use Rattle.lifecycle.proofs.Names.{view_seated, held_same, bare_started, bare_freed, KeepsBare, KeepsRoom}
+use Rattle.lifecycle.{specs.Changes.{AddsProcess, TakesRoot, TakesNoCopy}, proofs.Keeping.{live_same, files_then, no_copy_freed, gives_alike}}
 
 -- A frame was obtained and taken for a table, and that is the root of a process that was made.
 module _ {mode : ℕ} (old mid new : Picture mode) (pid n : ℕ) (obtains : ObtainsTable old mid n) (spawns : Spawns mid new pid n) where
@@ -49,8 +41,7 @@ module _ {mode : ℕ} (old mid new : Picture mode) (pid n : ℕ) (obtains : Obta
       others_found at = elim (cases_attr (found.at q p)) [
         | inl none ↦ view-none new q p (at ∙ none) ∙ sym (view-none found q p none)
         | inr some ↦ (
-            let user = ((fit.granting.user q).user_pages p some).1 in
-            let h : IsPage (top_level mode) p = omega (arith, user, user_pages_fit mode) in
+            let h : IsPage (top_level mode) p = omega (arith, ((fit.granting.user q).user_pages p some).1, user_pages_fit mode) in
             view_seated found new q p at (ap seat (entries_same q p ne)) (λ z is. seat_bytes z (fit.counted.1.named q p z h is)))
       ]
 
@@ -81,9 +72,7 @@ module _ {mode : ℕ} (old mid new : Picture mode) (pid n : ℕ) (obtains : Obta
   -- the process has no entry, and it had none
   entries_spawned : (q p : ℕ) → entry new q p ≡ entry mid q p
   entries_spawned q p = elim (cases_eq q pid) [
-    | inl is ↦ (
-        let P : ℕ → Type 0 = λ x. entry new x p ≡ entry mid x p in
-        subst P (sym is) (bare_started old mid new pid n obtains spawns p ∙ sym (entry-dead mid pid p spawns.was_free)))
+    | inl is ↦ subst (λ (x : ℕ). entry new x p ≡ entry mid x p) (sym is) (bare_started old mid new pid n obtains spawns p ∙ sym (entry-dead mid pid p spawns.was_free))
     | inr ne ↦ entry-same mid new q p (spawns.others q ne) (λ x e. ap (λ t. page_entry t (top_level mode) x p) spawns.frames)
   ]
 

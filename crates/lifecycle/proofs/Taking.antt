@@ -1,15 +1,8 @@
 -- What a process that comes takes of memory: its tables, and what was given up for them.
-use Rattle.vm_types.specs.{Limits.{user_end, top_level}, declared.object.PageKey.{PageKey}}
-use Rattle.std.proofs.{Common.{◌≡◌, ◌≢◌, ℕ, suc, inl, inr, ◌⊎◌, true, false, ◌&&◌, Some, None, refl, sym, ap, ◌∙◌, subst, arith}, lemmas.Bool.{cases_eq, cases_Bool, false≢true}}
-use Rattle.frames.specs.FrameTable.{FrameTable, IsFull}
-use Rattle.sv39_walk.specs.Entry.{is_valid, is_accessed}
-use Rattle.page_tables.specs.Tree.{IsTable}
-use Rattle.page_tables.proofs.Ends.{way_forth}
-use Rattle.residency.specs.{Seats.{seat, is_private}, Picture.{Picture, entry, is_data}, Ages.{Ages, Same, Cleared, Left, IsGiven, GivesForTables}}
-use Rattle.residency.proofs.{Aging.{ages_map, gives_then}, Start.{seat-none}, SeatForms.{seat_own, seat_common}}
-use Rattle.fault.specs.Changes.{IsTableOnWay}
-use Rattle.lifecycle.specs.{Steps.{HasCopy, LinksCopies}, Shares.{SharesRow}, Changes.{TakesRoot, MapsAlike, ForksEntries, TakesTables}}
-use Rattle.lifecycle.proofs.{Copying.{IsReadied, lowered, given}, Keeping.{gives_alike}}
+use Rattle.lifecycle.proofs.Names.{user_end, top_level, PageKey, ◌≡◌, ◌≢◌, ℕ, suc, inl, inr, ◌⊎◌, true, false, Some, None, refl, sym, ap, ◌∙◌, subst, arith, cases_eq, cases_Bool, false≢true, FrameTable, IsFull, is_valid, is_accessed}
+use Rattle.lifecycle.proofs.Names.{IsTable, way_forth, seat, Picture, entry, is_data, Ages, Same, Cleared, Left, IsGiven, GivesForTables, ages_map, gives_then, seat-none, seat_common, IsTableOnWay, none_common}
+use Rattle.std.proofs.Common.{◌&&◌}
+use Rattle.lifecycle.{specs.{Steps.{HasCopy, LinksCopies}, Shares.{SharesRow}, Changes.{TakesRoot, MapsAlike, ForksEntries, TakesTables}}, proofs.{Copying.{IsReadied, lowered, given}, Keeping.{gives_alike}}}
 
 valid_of : (e : ℕ) → (is_valid e && is_accessed e) ≡ true → is_valid e ≡ true
 valid_of e both = elim (cases_Bool (is_valid e)) [
@@ -17,20 +10,14 @@ valid_of e both = elim (cases_Bool (is_valid e)) [
   | inr invalid ↦ absurd (false≢true (let none : (is_valid e && is_accessed e) ≡ false = rw invalid refl in sym none ∙ both))
 ]
 
-common_of : (e : ℕ) → seat e ≡ None → is_private e ≡ false
-common_of e none = elim (cases_Bool (is_private e)) [
-  | inl own ↦ absurd (let bad : Some _ ≡ None = sym (seat_own e own) ∙ none in (cc))
-  | inr common ↦ common
-]
-
 -- a page without an own copy has none after frames were given up
 aged_none : (g : ℕ → Type 0) (e e' : ℕ) → seat e ≡ None → Ages g e e' → seat e' ≡ None
 aged_none g e e' none (Same is) = ap seat is ∙ none
 aged_none g e e' none (Cleared at changed) =
     let valid : is_valid e' ≡ true = changed.0.valid ∙ valid_of e at in
-    seat_common e' (changed.0.private ∙ common_of e none) (rw valid refl)
+    seat_common e' (changed.0.private ∙ none_common e none) (rw valid refl)
 aged_none g e e' none (Left at gone leaves) = elim leaves [
-  | inl own ↦ absurd (false≢true (sym (common_of e none) ∙ own.0))
+  | inl own ↦ absurd (false≢true (sym (none_common e none) ∙ own.0))
   | inr bare ↦ ap seat bare.1 ∙ seat-none
 ]
 
@@ -49,11 +36,8 @@ module _ {mode : ℕ} (old spawned mapped mid : Picture mode) (parent child n : 
 
   table_before : (m : ℕ) → m ≢ n → IsTable mapped.frames m → IsTable old.frames m
   table_before m ne table =
-      let P : FrameTable → Type 0 = λ t. IsTable t m in
-      let there : IsTable spawned.frames m = subst P frames table in
-      let low = there.inside in
-      let count = takes.frames in
-      record { inside = omega (arith, low, count); role = sym (takes.roles m ne) ∙ there.role }
+      let there : IsTable spawned.frames m = subst (λ (t : FrameTable). IsTable t m) frames table in
+      record { inside = omega (arith, there.inside, takes.frames); role = sym (takes.roles m ne) ∙ there.role }
 
   -- each table was one, or is the child's
   pub tables_mid : (m : ℕ) → IsTable mid.frames m
@@ -95,9 +79,7 @@ module _ {mode : ℕ} (old mid new : Picture mode) (parent child : ℕ) (gives :
 
   table_shared : (n : ℕ) → IsTable new.frames n → IsTable mid.frames n
   table_shared n table =
-      let low = table.inside in
-      let count = shares.room.frames in
-      record { inside = omega (arith, low, count); role = sym (shares.roles n) ∙ table.role }
+      record { inside = omega (arith, table.inside, shares.room.frames); role = sym (shares.roles n) ∙ table.role }
 
   on_way : (page n : ℕ) → IsTableOnWay mid child page n → IsTableOnWay new child page n
   on_way page n on =

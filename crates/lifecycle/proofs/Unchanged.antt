@@ -1,11 +1,6 @@
 -- A process whose pages are those of another ends: nothing is named by it alone.
-use Rattle.vm_types.specs.{Limits.{user_end}, declared.object.ObjectPage.{ObjectPage}, declared.object.PageKey.{PageKey}, declared.object.PageKey.TheVariants.{File, Object}, Objects.{names, is_named}}
-use Rattle.std.proofs.{Common.{◌≡◌, ◌≢◌, ℕ, inl, inr, ◌⊎◌, true, false, Some, refl, sym, ap, ◌∙◌, arith, ne_eqb}, lemmas.Bool.{cases_eq, cases_Bool, false≢true}}
-use Rattle.page_cache.specs.declared.place.Place.TheVariants.{Home}
-use Rattle.residency.specs.{Picture.{Picture}, Parts.{IsFit}, Shows.{KeepsFiles}}
-use Rattle.ranges.proofs.{LastName.{away_or}, Outlived.{held_home}}
-use Rattle.ranges.specs.Rows.{KeepsNamed, IsLasting, without_maps}
-use Rattle.vm_types.proofs.Naming.{named-at, named-where}
+use Rattle.lifecycle.proofs.Names.{user_end, ObjectPage, PageKey, File, Object, names, is_named, ◌≡◌, ◌≢◌, ℕ, inl, inr, ◌⊎◌, true, false, Some, refl, sym, ap, ◌∙◌, arith, ne_eqb, cases_eq, cases_Bool, false≢true, Home, Picture, IsFit}
+use Rattle.lifecycle.proofs.Names.{KeepsFiles, home_held, away_or, KeepsNamed, IsLasting, without_maps, named-at, named-where}
 
 module _ {mode : ℕ} (mid new : Picture mode) (parent child r : ℕ) (apart : parent ≢ child) (lives : mid.root parent ≡ Some r) (fit : IsFit mid) (fit' : IsFit new)
     (same : (page : ℕ) → mid.at child page ≡ mid.at parent page) (keeps : KeepsNamed (without_maps mid.at child 0 (user_end mode)) mid new) where
@@ -54,7 +49,7 @@ module _ {mode : ℕ} (mid new : Picture mode) (parent child r : ℕ) (apart : p
   files_unchanged = record {
     held = λ p. elim (lasting_or p) [
       | inl last ↦ keeps.held p last
-      | inr homes ↦ inl (held_home new p homes.1 ∙ sym (held_home mid p homes.0))
+      | inr homes ↦ inl (home_held new p homes.1 ∙ sym (home_held mid p homes.0))
     ];
     touched = λ p. elim (lasting_or p) [
       | inl last ↦ keeps.touched p last

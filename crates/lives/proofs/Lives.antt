@@ -4,8 +4,7 @@ use Rattle.disk_model.specs.{Moments.{LeavesOnly}, Stop.{Image, MayLeave}, decla
 use Rattle.file_store.specs.Standing.{StandsAs, StandsFor}
 use Rattle.vm_types.specs.{declared.command.Command.{Command}, declared.reply.Reply.{Reply}, Files.{Files}, Prefix.{Event, acknowledged, after_msyncs, IsPrefixHolding}, State.{State}, View.{Pages}}
 use Rattle.machine.specs.{Boot.{Boots}, Chain.{Chain, Runs, after}, Engine.{StandsForSome}, Machine.{store_of}, declared.machine.Machine.{Machine}}
-use Rattle.lives.specs.Lives.{Life, IsLeftBy, StopsEarly, StopsLater, Lives, LeftInLives, HoldsLives, RanSince}
-use Rattle.lives.proofs.Agreeing.{agree_msyncs, same_files, same_pages, stands_for_same}
+use Rattle.lives.{specs.Lives.{Life, IsLeftBy, StopsEarly, StopsLater, Lives, LeftInLives, HoldsLives, RanSince}, proofs.Agreeing.{agree_msyncs, same_files, same_pages, stands_for_same}}
 
 module _ {D E : Type 0} (g : Ghosts D) (h : Ghosts E) where
   stops_early : (sectors : ℕ) (files : Files) (before : Pages) (life : Life) (first last : Image) → StandsFor sectors files before first

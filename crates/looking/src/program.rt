@@ -1,9 +1,12 @@
 //! The program that runs traces and shows what lies inside.
 ghost use Rattle.std.specs.Prelude.{◌≤◌, IfOk};
+ghost use Rattle.machine.specs.Machine.{IsSoundMachine};
 
 use crate::viewer::Viewer;
-use disk_model::{FileContents, Unknown};
+use disk_model::{FileContents, SectorDisk, Unknown};
+use machine::Machine;
 use programs::{ProgramFault, boot_image, held_places, report, run_words, status_of};
+use std::alloc::Global;
 use std::fs::{File, Files};
 use std::io::{BufWriter, Read, Write};
 
@@ -42,11 +45,26 @@ fn look_image<
     let words = run_words(rt.alloc(), words)?;
     let _places = held_places(rt)?;
     let mut machine = boot_image::<C, K, R>(rt, &words)?;
-    let mut viewer = Viewer::new(rt.alloc(), &machine)?;
-    let mut out = match BufWriter::with_capacity(rt.alloc(), WRITE_BYTES, writer) {
+    let outcome = look_over(rt.alloc(), &mut machine, reader, writer);
+    let _store = machine.into_store();
+    outcome
+}
+
+/// Runs the trace on a machine that has just started.
+fn look_over<'a, D: SectorDisk, E: SectorDisk, I: Read, O: Write>(
+    alloc: Global,
+    machine: &mut Machine<D, E>,
+    reader: &mut I,
+    writer: &mut O,
+) -> Result<u8, ProgramFault<'a>>
+    requires { IsSoundMachine D.SectorDisk E.SectorDisk machine.old }
+    ensures { IfOk result (λ status. status ≤ 3) }
+{
+    let mut viewer = Viewer::new(alloc, machine)?;
+    let mut out = match BufWriter::with_capacity(alloc, WRITE_BYTES, writer) {
         Ok(out) => out,
         Err(_) => return Err(ProgramFault::OutOfMemory),
     };
-    let end = viewer.take_all(reader, &mut machine, &mut out);
-    status_of(end, &machine)
+    let end = viewer.take_all(reader, machine, &mut out);
+    status_of(end, machine)
 }

@@ -93,24 +93,59 @@ enum Words<'a> {
 /// The question that stands behind the `?` of a line. Its words are parted by one space each, and its numbers are written as those of a command.
 pub(crate) fn question_in(text: &[u8]) -> Result<Question, Misasked> {
     let (name, words) = parted(text);
-    let (form, question) = match name {
-        b"walk" => (Form::Walk, walk_of(words)),
-        b"tables" => (
-            Form::Tables,
-            process_of(words).map(|pid| Question::Tables { pid }),
-        ),
-        b"maps" => (
-            Form::Maps,
-            process_of(words).map(|pid| Question::Maps { pid }),
-        ),
-        b"frames" => (Form::Frames, frames_of(words)),
-        b"slots" => (Form::Slots, alone(words, Question::Slots)),
-        b"tlb" => (Form::Buffer, alone(words, Question::Buffer)),
-        b"counts" => (Form::Counts, alone(words, Question::Counts)),
-        b"watch" => (Form::Watch, watch_of(words)),
-        _ => return Err(Misasked::Unknown),
+    let Some(form) = form_named(name) else {
+        return Err(Misasked::Unknown);
     };
-    question.ok_or(Misasked::Words(form))
+    question_of(form, words).ok_or(Misasked::Words(form))
+}
+
+/// The form whose first word that is.
+fn form_named(name: &[u8]) -> Option<Form> {
+    match name.len() {
+        3 if name == b"tlb".as_slice() => Some(Form::Buffer),
+        4 => if name == b"walk".as_slice() {
+            Some(Form::Walk)
+        } else if name == b"maps".as_slice() {
+            Some(Form::Maps)
+        } else {
+            None
+        },
+        5 => if name == b"slots".as_slice() {
+            Some(Form::Slots)
+        } else if name == b"watch".as_slice() {
+            Some(Form::Watch)
+        } else {
+            None
+        },
+        6 => if name == b"tables".as_slice() {
+            Some(Form::Tables)
+        } else if name == b"frames".as_slice() {
+            Some(Form::Frames)
+        } else if name == b"counts".as_slice() {
+            Some(Form::Counts)
+        } else {
+            None
+        },
+        _ => None,
+    }
+}
+
+/// The question of that form with these words.
+fn question_of(form: Form, words: Words<'_>) -> Option<Question> {
+    match form {
+        Form::Walk => walk_of(words),
+        Form::Tables => Some(Question::Tables {
+            pid: process_of(words)?,
+        }),
+        Form::Maps => Some(Question::Maps {
+            pid: process_of(words)?,
+        }),
+        Form::Frames => frames_of(words),
+        Form::Slots => alone(words, Question::Slots),
+        Form::Buffer => alone(words, Question::Buffer),
+        Form::Counts => alone(words, Question::Counts),
+        Form::Watch => watch_of(words),
+    }
 }
 
 /// The first word of a text and those behind it.
@@ -165,9 +200,14 @@ fn alone(words: Words<'_>, question: Question) -> Option<Question> {
 }
 
 fn watch_of(words: Words<'_>) -> Option<Question> {
-    match words {
-        Words::One(b"on") => Some(Question::Watch(true)),
-        Words::One(b"off") => Some(Question::Watch(false)),
-        _ => None,
+    let Words::One(word) = words else {
+        return None;
+    };
+    if word == b"on".as_slice() {
+        Some(Question::Watch(true))
+    } else if word == b"off".as_slice() {
+        Some(Question::Watch(false))
+    } else {
+        None
     }
 }

@@ -1,29 +1,16 @@
 -- Calls, each in the cases that its contract has; the faults of accesses are kept.
 use Rattle.vm_types.specs.declared.mode.Levels as Levels
-use Rattle.std.proofs.Common.{ℕ, ◌≡◌, ◌≢◌, Bool, true, false, not, if◌then◌else◌, List, refl, sym, ap, ◌∙◌, subst}
-use Rattle.disk_model.specs.declared.sector_disk.SectorDisk.{Ghosts}
-use Rattle.residency.specs.{Calls.{UsesDevice}, Reading.{ReadsStore}, Picture.{picture_of, is_live}, declared.kernel.Core.{Core}}
-use Rattle.ranges.specs.Steps.{KeepsDevices}
-use Rattle.spaces.specs.{Accesses.{KeepsToPage}, Ranges.{GivesPagesBack}, Idle.{is_denial, is_idle}}
+use Rattle.machine.proofs.Names.{ℕ, ◌≡◌, ◌≢◌, Bool, true, false, not, if◌then◌else◌, List, refl, sym, ap, ◌∙◌, subst, Ghosts, UsesDevice, ReadsStore, picture_of, is_live, Core, KeepsDevices, KeepsToPage, GivesPagesBack, is_denial, is_idle}
+use Rattle.machine.proofs.Names.{Access, StoredValue, Command, Errno, EIO, ESRCH, Fault, Backing, Anon, Answer, Reply, Faulted, Refused, Stalled, Width, with_shown_bytes, Past, reply_of, is_io_error, State, Outcome, outcome, answers}
+use Rattle.machine.proofs.Names.{load_outcome, store_outcome, fetch_outcome, past_after, ruling, takes, Verdict, Fine, Faults, View}
 use Rattle.spaces.specs.Calls as Calls
-use Rattle.vm_types.specs.{declared.access.Access.{Access}, declared.access.StoredValue.{StoredValue}, declared.command.Command.{Command}, declared.refusal.Errno.{Errno}, declared.refusal.Errno.TheVariants.{EIO, ESRCH}}
-use Rattle.vm_types.specs.{declared.refusal.Fault.{Fault}, declared.region.Backing.{Backing}, declared.region.Backing.TheVariants.{Anon}, declared.reply.Answer.{Answer}, declared.reply.Reply.{Reply}}
-use Rattle.vm_types.specs.{declared.reply.Reply.TheVariants.{Process, Address, Done, Value, Faulted, Refused, Stalled, Halted}, declared.width.Width.{Width}, Access.{with_shown_bytes}, History.{Past}, Replies.{reply_of}}
-use Rattle.vm_types.specs.{Prefix.{is_io_error}, State.{State}, Step.{Outcome, outcome, answers, load_outcome, store_outcome, fetch_outcome, past_after, ruling, takes}, Verdict.{Verdict, Fine, Faults}, View.{View}}
 use Rattle.vm_types.specs.declared.reply.Answer.TheVariants as Answers
-use Rattle.machine.specs.{Engine.{EngineMeets}, declared.engine.Engine.{Engine}, Accesses.{Accesses}, EngineCommands.{EngineCarriesOut}}
-use Rattle.machine.proofs.Flat.{OnlyNow, is_running, keeps_all, read_meets, shows_core, unread, unswapped}
+use Rattle.machine.{specs.{Engine.{EngineMeets}, declared.engine.Engine.{Engine}, Accesses.{Accesses}, EngineCommands.{EngineCarriesOut}}, proofs.Flat.{OnlyNow, is_running, keeps_all, read_meets, shows_core, unread, unswapped}}
 
 -- only the answer that refuses is a refusal
 pub refused_so : (a : Answer) (errno : Errno) → reply_of a ≡ Refused errno → a ≡ Answers.Refused errno
-refused_so (Answers.Process pid) errno e = absurd (let never : Process pid ≡ Refused errno = e in cc)
-refused_so (Answers.Address addr) errno e = absurd (let never : Address addr ≡ Refused errno = e in cc)
-refused_so Answers.Done errno e = absurd (let never : Done ≡ Refused errno = e in cc)
-refused_so (Answers.Value width value) errno e = absurd (let never : Value width value ≡ Refused errno = e in cc)
-refused_so (Answers.Faulted fault) errno e = absurd (let never : Faulted fault ≡ Refused errno = e in cc)
 refused_so (Answers.Refused other) errno e = let same : Refused other ≡ Refused errno = e in cc
-refused_so (Answers.Stalled stall) errno e = absurd (let never : Stalled stall ≡ Refused errno = e in cc)
-refused_so Answers.Halted errno e = absurd (let never : Halted ≡ Refused errno = e in cc)
+refused_so a errno e = absurd (cc)
 
 not_failed : (errno : Errno) → errno ≢ EIO → is_io_error errno ≡ false
 not_failed EIO other = absurd (other refl)

@@ -1,18 +1,11 @@
 -- What a boot leaves, from what the store's opening says.
 use Rattle.vm_types.specs.declared.mode.Levels as Levels
-use Rattle.std.proofs.Common.{ℕ, ◌*◌, ◌≡◌, ◌<◌, ◌≤◌, ◌⊎◌, inl, inr, ⊎_elim, false, List, Some, None, is_some, [], refl, sym, ap, ◌∙◌, subst, arith, rules}
+use Rattle.machine.proofs.Names.{ℕ, ◌*◌, ◌≡◌, ◌≤◌, ◌⊎◌, inl, inr, ⊎_elim, false, List, Some, None, is_some, [], refl, sym, ap, ◌∙◌, subst, arith, rules, LeavesOnly, Image, MayLeave, Ghosts, started, stays, asks_none, OpensFrom}
+use Rattle.machine.proofs.Names.{RefusesToOpen, StandsFor, StandsAs, file_info, standing_page, OpenFault, FileStore, left_outside, Home, PageKey, File, Object, State, IsStart, Picture, picture_of, view, held, ShowsPages, IsOutsideOf}
+use Rattle.machine.proofs.Names.{slots_of}
 use Rattle.std.specs.Option.{option_map}
-use Rattle.disk_model.specs.{Moments.{LeavesNow, LeavesOnly, Touches, AsksOnly, Nothing}, Stop.{Image, MayLeave}, declared.sector_disk.SectorDisk.{Ghosts}}
-use Rattle.disk_model.proofs.Moments.{started, stays, asks_none}
-use Rattle.file_store.specs.{Standing.{StandsFor, StandsAs, IsBadLayout, IsBadJournal, IsAskedToOpen, file_info, standing_page}, Store.{IsReadyStore}, declared.faults.OpenFault.{OpenFault}, declared.store.FileStore.{FileStore}}
 use Rattle.file_store.specs.Store as Stores
 use Rattle.file_store.specs.declared.faults.OpenFault.TheVariants.{Device as StoreDevice, BadLayout as StoreLayout, BadJournal as StoreJournal}
-use Rattle.file_store.proofs.Outside.{left_outside}
-use Rattle.page_cache.specs.declared.place.Place.TheVariants.{Home}
-use Rattle.vm_types.specs.{declared.object.PageKey.{PageKey}, declared.object.PageKey.TheVariants.{File, Object}, State.{State}}
-use Rattle.residency.specs.{Calls.{IsStart}, Picture.{Picture, picture_of, view, held}, Shows.{ShowsPages}}
-use Rattle.sync_journal.specs.Kinds.{StoreStandsAs, IsOutsideOf, IsStoreRecovered}
-use Rattle.swap.specs.Slots.{slots_of}
 use Rattle.machine.specs.{declared.boot.BootFault.TheVariants.{Frames, Slots, OutOfMemory, Device, BadLayout, BadJournal}, declared.config.Config.{Config}, declared.engine.Engine.{Engine}}
 use Rattle.machine.specs.{Boot.{HasBadFrames, HasBadSlots, BootAccepts, BootLeaves, BootRefuses}, EngineBoot.{EngineBoots}, Fault.{boot_fault}}
 
@@ -52,20 +45,6 @@ pub fine_slots : (config : Config) (n slots sectors : ℕ) → config.slots ≤ 
 fine_slots config n slots sectors most same all room bad = ⊎_elim (λ many. omega (arith, many, most)) (λ short. omega (arith, short, same, all, room)) bad
 
 module _ {D : Type 0} (g : Ghosts D) where
-  -- what the opening of a store says
-  pub record IsOpened (entry : D) (store : FileStore D) : Type 0 where
-    pub ready : IsReadyStore g store
-    pub size : g.sector_count store.disk ≡ g.sector_count entry
-    pub layout : g.keeps_model store.disk → IsBadLayout (g.sector_count entry) (g.content entry) → ⊥
-    pub journal : g.keeps_model store.disk → IsBadJournal (g.sector_count entry) (g.content entry) → ⊥
-    pub leaves : g.keeps_model store.disk → LeavesNow g store.disk (StandsAs (g.sector_count entry) (g.content entry))
-    pub homes : g.keeps_model store.disk → LeavesNow g store.disk (StoreStandsAs (g.sector_count entry) (g.content entry))
-    pub kept : g.keeps_model store.disk → g.keeps_model entry
-    pub later : g.failures entry ≤ g.failures store.disk
-    pub calm : g.failures store.disk ≡ g.failures entry
-    pub asks : g.keeps_model store.disk → AsksOnly g (IsAskedToOpen (g.content entry)) entry store.disk
-    pub moments : BootLeaves g entry store.disk
-
   -- no time passed, and nothing is unsynced
   pub unmoved : (d : D) → ((c : Image) → g.left_since d (g.moment d) c → MayLeave (g.content d) (g.unsynced d) c)
       → ((k : ℕ) → g.unsynced d k → ⊥) → (first : Image) → StandsAs (g.sector_count d) first (g.content d)
@@ -76,12 +55,16 @@ module _ {D : Type 0} (g : Ghosts D) where
       let same : c ≡ g.content d = λ i k. ⊎_elim (λ u. absurd (synced k u)) (λ (e : c k ≡ g.content d k). e) (may.kept k) i in
       subst (StandsAs (g.sector_count d) first) (sym same) stands)
 
-  -- what a stop leaves of a device that was not asked
+  -- what a stop leaves of a device that was not asked,
   pub still : (d : D) → (g.keeps_model d → (c : Image) → g.left_since d (g.moment d) c → MayLeave (g.content d) (g.unsynced d) c) → BootLeaves g d d
   still d only_now = record {
     any_moment = λ keeps synced. unmoved d (only_now keeps) synced (g.content d) (λ files pages stands. stands);
     in_a_row = λ keeps synced first stands. unmoved d (only_now keeps) synced first stands;
   }
+
+  -- and of one whose store was opened
+  pub opened_leaves : (entry : D) (store : FileStore D) → OpensFrom g entry store → BootLeaves g entry store.disk
+  opened_leaves entry store opened = record { any_moment = opened.any_moment; in_a_row = opened.in_a_row }
 
   -- too few frames, or too many
   pub refuses_frames : (config : Config) (n : ℕ) (store : D) → HasBadFrames config → BootRefuses g config n store Frames store
@@ -92,36 +75,22 @@ module _ {D : Type 0} (g : Ghosts D) where
   refuses_slots config n store fine bad = search (rules, stays, asks_none)
 
   -- what an opening leaves outside the homes
-  same_outside : (entry : D) (store : FileStore D) → IsOpened entry store → g.keeps_model store.disk
+  same_outside : (entry : D) (store : FileStore D) → OpensFrom g entry store → g.keeps_model store.disk
       → (k : ℕ) → IsOutsideOf (g.content entry) (g.sector_count entry) k → g.content store.disk k ≡ g.content entry k
   same_outside entry store opened keeps = (opened.homes keeps (g.content store.disk) (record { kept = λ k. inr refl })).outside
 
   -- a store that was opened, of which a machine is made
-  pub accepts : (config : Config) (n : ℕ) (entry : D) (store : FileStore D) → (HasBadFrames config → ⊥) → (HasBadSlots config n → ⊥) → IsOpened entry store
+  pub accepts : (config : Config) (n : ℕ) (entry : D) (store : FileStore D) → (HasBadFrames config → ⊥) → (HasBadSlots config n → ⊥) → OpensFrom g entry store
       → BootAccepts g config n entry store.disk
   accepts config n entry store frames slots opened = let outside = same_outside entry store opened in search rules
 
   -- or not, for want of memory
-  pub refuses_memory : (config : Config) (n : ℕ) (entry : D) (store : FileStore D) → (HasBadFrames config → ⊥) → (HasBadSlots config n → ⊥) → IsOpened entry store
+  pub refuses_memory : (config : Config) (n : ℕ) (entry : D) (store : FileStore D) → (HasBadFrames config → ⊥) → (HasBadSlots config n → ⊥) → OpensFrom g entry store
       → BootRefuses g config n entry OutOfMemory store.disk
   refuses_memory config n entry store frames slots opened = let outside = same_outside entry store opened in search rules
 
-  -- what the opening of a store says that gives up
-  pub record IsUnopened (entry : D) (fault : OpenFault) (left : D) : Type 0 where
-    pub size : g.sector_count left ≡ g.sector_count entry
-    pub kept : g.keeps_model left → g.keeps_model entry
-    pub later : g.failures entry ≤ g.failures left
-    pub device : fault ≡ StoreDevice → g.failures entry < g.failures left
-    pub calm : (fault ≡ StoreDevice → ⊥) → g.failures left ≡ g.failures entry
-    pub layout : g.keeps_model left → fault ≡ StoreLayout → IsBadLayout (g.sector_count entry) (g.content entry)
-    pub journal : g.keeps_model left → fault ≡ StoreJournal → IsBadJournal (g.sector_count entry) (g.content entry)
-    pub first : g.keeps_model left → fault ≡ StoreJournal → IsBadLayout (g.sector_count entry) (g.content entry) → ⊥
-    pub unwritten : g.keeps_model left → (fault ≡ StoreDevice → ⊥) → Touches g Nothing entry left
-    pub asks : g.keeps_model left → AsksOnly g (IsAskedToOpen (g.content entry)) entry left
-    pub touches : g.keeps_model left → Touches g (IsStoreRecovered (g.content entry) (g.sector_count entry)) entry left
-
   -- a store that can't be opened
-  pub refuses_store : (config : Config) (n : ℕ) (entry : D) (fault : OpenFault) (left : D) → (HasBadFrames config → ⊥) → (HasBadSlots config n → ⊥) → IsUnopened entry fault left
+  pub refuses_store : (config : Config) (n : ℕ) (entry : D) (fault : OpenFault) (left : D) → (HasBadFrames config → ⊥) → (HasBadSlots config n → ⊥) → RefusesToOpen g entry fault left
       → BootRefuses g config n entry (boot_fault fault) left
   refuses_store config n entry fault left frames slots unopened = record {
     bad_frames = λ e. absurd (sized fault (inl e));
@@ -129,37 +98,37 @@ module _ {D : Type 0} (g : Ghosts D) where
     bad_slots = λ e. absurd (sized fault (inr e));
     only_slots = λ _ many. absurd (slots many);
     device = λ e. unopened.device (was_device fault e);
-    err_calm = λ other. unopened.calm (λ e. other (ap boot_fault e));
-    bad_layout = λ keeps e. unopened.layout keeps (was_layout fault e);
-    bad_journal = λ keeps e. unopened.journal keeps (was_journal fault e);
-    layout_first = λ keeps e. unopened.first keeps (was_journal fault e);
+    err_calm = λ other. unopened.err_calm (λ e. other (ap boot_fault e));
+    bad_layout = λ keeps e. unopened.bad_layout keeps (was_layout fault e);
+    bad_journal = λ keeps e. unopened.bad_journal keeps (was_journal fault e);
+    layout_first = λ keeps e. unopened.layout_first keeps (was_journal fault e);
     unasked = λ either. absurd (sized fault either);
     unwritten = λ keeps either. unopened.unwritten keeps (no_device fault either);
-    asks = unopened.asks;
-    outside = λ keeps. left_outside g (g.sector_count entry) (g.content entry) entry left (unopened.touches keeps);
-    err_size = unopened.size;
-    err_kept = unopened.kept;
-    err_later = unopened.later;
+    asks = unopened.err_asks;
+    outside = λ keeps. left_outside g (g.sector_count entry) (g.content entry) entry left (unopened.err_touches keeps);
+    err_size = unopened.err_size;
+    err_kept = unopened.err_kept;
+    err_later = unopened.err_later;
   }
 
   -- the image at entry stands for its own files and pages
-  at_entry : (entry : D) (store : FileStore D) → IsOpened entry store → g.keeps_model store.disk
+  at_entry : (entry : D) (store : FileStore D) → OpensFrom g entry store → g.keeps_model store.disk
       → StandsFor (g.sector_count entry) (file_info (g.content entry)) (standing_page (g.content entry)) (g.content entry)
   at_entry entry store opened keeps = record {
-    layout = opened.layout keeps;
-    journal = opened.journal keeps;
+    layout = opened.good_layout keeps;
+    journal = opened.good_journal keeps;
     facts = λ f. refl;
     same = λ f k is. refl;
   }
 
   -- and so does the device as it was opened
-  at_opened : (entry : D) (store : FileStore D) → IsOpened entry store → g.keeps_model store.disk
+  at_opened : (entry : D) (store : FileStore D) → OpensFrom g entry store → g.keeps_model store.disk
       → StandsFor (g.sector_count entry) (file_info (g.content entry)) (standing_page (g.content entry)) (g.content store.disk)
   at_opened entry store opened keeps =
-      opened.leaves keeps (g.content store.disk) (record { kept = λ k. inr refl }) _ _ (at_entry entry store opened keeps)
+      opened.now keeps (g.content store.disk) (record { kept = λ k. inr refl }) _ _ (at_entry entry store opened keeps)
 
   -- the directory is that of the image at entry
-  pub same_files : (entry : D) (store : FileStore D) → IsOpened entry store → g.keeps_model store.disk
+  pub same_files : (entry : D) (store : FileStore D) → OpensFrom g entry store → g.keeps_model store.disk
       → (f : ℕ) → Stores.files_of store f ≡ file_info (g.content entry) f
   same_files entry store opened keeps f =
       ap (option_map (λ e. e.info)) ((opened.ready.at_rest keeps).directory f) ∙ (at_opened entry store opened keeps).facts f
@@ -190,11 +159,11 @@ module _ {M : Type 0} {levels : Levels.Ghosts M} {D E : Type 0} (g : Ghosts D) (
     ends = None;
   }
 
-  stands_at_start : (entry : D) (m : Engine D E M levels) → IsOpened g entry m.core.store → g.keeps_model m.core.store.disk
+  stands_at_start : (entry : D) (m : Engine D E M levels) → OpensFrom g entry m.core.store → g.keeps_model m.core.store.disk
       → StandsFor (g.sector_count entry) (Stores.files_of m.core.store) (standing_page (g.content entry)) (g.content entry)
   stands_at_start entry m opened keeps = record {
-    layout = opened.layout keeps;
-    journal = opened.journal keeps;
+    layout = opened.good_layout keeps;
+    journal = opened.good_journal keeps;
     facts = λ f. sym (same_files g entry m.core.store opened keeps f);
     same = λ f k is. refl;
   }
@@ -212,7 +181,7 @@ module _ {M : Type 0} {levels : Levels.Ghosts M} {D E : Type 0} (g : Ghosts D) (
     clean = λ p e inside. refl;
   }
 
-  pub boots : (entry : D) (m : Engine D E M levels) (frames slots : ℕ) → m.halted ≡ false → m.past ≡ [] → IsOpened g entry m.core.store → IsStart m.core frames slots → EngineBoots g h entry m
+  pub boots : (entry : D) (m : Engine D E M levels) (frames slots : ℕ) → m.halted ≡ false → m.past ≡ [] → OpensFrom g entry m.core.store → IsStart m.core frames slots → EngineBoots g h entry m
   boots entry m frames slots goes bare opened fresh = record {
     state = start m (g.content entry);
     shows = record {
@@ -223,7 +192,7 @@ module _ {M : Type 0} {levels : Levels.Ghosts M} {D E : Type 0} (g : Ghosts D) (
         standing_page (g.content entry),
         refl,
         subst (λ (n : ℕ). StandsFor n (Stores.files_of m.core.store) (standing_page (g.content entry)) c) (sym opened.size)
-            (opened.leaves keeps c may (Stores.files_of m.core.store) (standing_page (g.content entry)) (stands_at_start entry m opened keeps)),
+            (opened.now keeps c may (Stores.files_of m.core.store) (standing_page (g.content entry)) (stands_at_start entry m opened keeps)),
       );
     };
     fresh = subst (λ (n : ℕ). IsStart m.core n (slots_of m.core.swap).total) (sym fresh.fresh.frames)

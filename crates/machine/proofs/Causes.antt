@@ -1,24 +1,14 @@
 -- What the result of an msync comes from.
 use Rattle.vm_types.specs.declared.mode.Levels as Levels
-use Rattle.std.proofs.Common.{◌≡◌, ◌≢◌, ◌<◌, ◌≤◌, true, false, refl, sym, ap, ◌∙◌, subst, arith}
-use Rattle.disk_model.specs.{declared.sector_disk.SectorDisk.{Ghosts}, declared.ghost_data.Count.{Count}}
-use Rattle.residency.specs.{declared.kernel.Core.{Core}, Stalls.{ReadCause}}
-use Rattle.spaces.specs.{Calls.{IsCaused}, Idle.{names_store, names_swap, refused_count}}
-use Rattle.vm_types.specs.{declared.refusal.Errno.TheVariants.{EIO}, declared.refusal.Stall.{Stall}, declared.refusal.Stall.TheVariants.{SwapDevice}, declared.reply.Answer.{Answer}}
-use Rattle.vm_types.specs.{declared.reply.Answer.TheVariants.{Process, Address, Done, Value, Faulted, Refused, Stalled, Halted}, Replies.{reply_of}}
+use Rattle.machine.proofs.Names.{◌≡◌, ◌≢◌, ◌<◌, ◌≤◌, true, false, refl, sym, ap, ◌∙◌, subst, arith, Ghosts, Tally, Core, ReadCause, IsCaused, names_store, names_swap, refused_count, EIO, Stall, SwapDevice, Answer, reply_of}
+use Rattle.vm_types.specs.declared.reply.Answer.TheVariants.{Refused, Stalled}
 use Rattle.vm_types.specs.declared.reply.Reply.TheVariants as Reply
 use Rattle.machine.proofs.Accesses.{refused_so}
 
 -- only the answer that stalls is a stall
 stalled_so : (a : Answer) (stall : Stall) → reply_of a ≡ Reply.Stalled stall → a ≡ Stalled stall
-stalled_so (Process pid) stall e = absurd (let never : Reply.Process pid ≡ Reply.Stalled stall = e in cc)
-stalled_so (Address addr) stall e = absurd (let never : Reply.Address addr ≡ Reply.Stalled stall = e in cc)
-stalled_so Done stall e = absurd (let never : Reply.Done ≡ Reply.Stalled stall = e in cc)
-stalled_so (Value width value) stall e = absurd (let never : Reply.Value width value ≡ Reply.Stalled stall = e in cc)
-stalled_so (Faulted fault) stall e = absurd (let never : Reply.Faulted fault ≡ Reply.Stalled stall = e in cc)
-stalled_so (Refused errno) stall e = absurd (let never : Reply.Refused errno ≡ Reply.Stalled stall = e in cc)
 stalled_so (Stalled other) stall e = let same : Reply.Stalled other ≡ Reply.Stalled stall = e in cc
-stalled_so Halted stall e = absurd (let never : Reply.Halted ≡ Reply.Stalled stall = e in cc)
+stalled_so a stall e = absurd (cc)
 
 -- a stall for the swap device refused no frame
 none_refused : (a : Answer) → ((stall : Stall) → a ≡ Stalled stall → stall ≡ SwapDevice) → refused_count (reply_of a) ≡ 0
@@ -39,7 +29,7 @@ unstalled a only calm stall is =
 module _ {M : Type 0} {levels : Levels.Ghosts M} {D E : Type 0} (g : Ghosts D) (h : Ghosts E) where
   stall_cause : (old new : Core D E M levels) (stall : Stall) → stall ≡ SwapDevice → new.refused ≡ old.refused → g.failures new.store.disk ≡ g.failures old.store.disk
       → h.failures old.swap.pages.disk < h.failures new.swap.pages.disk → ReadCause g h old new stall
-  stall_cause old new stall is refused calm grew = subst (ReadCause g h old new) (sym is) (ap (λ (c : Count). c.number) refused, calm, grew)
+  stall_cause old new stall is refused calm grew = subst (ReadCause g h old new) (sym is) (ap (λ (c : Tally). c.number) refused, calm, grew)
 
   pub msync_caused : (old new : Core D E M levels) (a : Answer) → g.failures old.store.disk ≤ g.failures new.store.disk
       → h.failures old.swap.pages.disk ≤ h.failures new.swap.pages.disk
@@ -53,7 +43,7 @@ module _ {M : Type 0} {levels : Levels.Ghosts M} {D E : Type 0} (g : Ghosts D) (
     swap_later = swap_later;
     calm = λ names. calm (failure_named a names);
     swap_calm = λ names. still (unstalled a (λ stall is. (stalled stall is).0) names);
-    counted = omega (arith, ap (λ (c : Count). c.number) refused, none_refused a (λ stall is. (stalled stall is).0));
+    counted = omega (arith, ap (λ (c : Tally). c.number) refused, none_refused a (λ stall is. (stalled stall is).0));
     failed = λ r. cause (refused_so a EIO r);
     stalled = λ stall r.
         let is = stalled_so a stall r in

@@ -1,23 +1,12 @@
 -- msync on a machine.
 use Rattle.vm_types.specs.declared.mode.Levels as Levels
-use Rattle.std.proofs.Common.{ℕ, ◌≡◌, ◌<◌, ◌≤◌, ◌⊎◌, inl, inr, ⊎_elim, ◌∷◌, [], Bool, true, false, not, ◌==◌, ◌%◌, ◌/◌, if◌then◌else◌, nat_lt, List, Option, Some, None, is_some, refl, sym, ap, ◌∙◌, subst, rules}
-use Rattle.disk_model.specs.{Moments.{LeavesOnly}, Stop.{Image, MayLeave}, declared.sector_disk.SectorDisk.{Ghosts}}
-use Rattle.disk_model.proofs.Moments.{weaker, holds_now}
-use Rattle.file_store.specs.{Commit.{StandsForEither}, Standing.{StandsFor}}
-use Rattle.frames.specs.FrameTable.{frame_count}
-use Rattle.swap.specs.Slots.{slots_of}
-use Rattle.residency.specs.{Calls.{UsesDevice}, Picture.{picture_of}, Shows.{ShowsPages}, declared.kernel.Core.{Core}}
-use Rattle.fault.specs.Changes.{KeepsRoom}
-use Rattle.ranges.specs.Steps.{KeepsDevices}
+use Rattle.machine.proofs.Names.{ℕ, ◌≡◌, ◌<◌, ◌≤◌, ◌⊎◌, inl, inr, ⊎_elim, ◌∷◌, [], Bool, true, false, not, ◌==◌, ◌%◌, ◌/◌, if◌then◌else◌, nat_lt, List, Option, Some, None, is_some, refl, sym, ap, ◌∙◌, subst, rules, LeavesOnly, Image}
+use Rattle.machine.proofs.Names.{MayLeave, Ghosts, weaker, holds_now, StandsForEither, StandsFor, frame_count, slots_of, UsesDevice, picture_of, ShowsPages, Core, KeepsRoom, KeepsDevices, is_denial, is_idle, KeepsMemory, GivesBack, Commits}
+use Rattle.machine.proofs.Names.{Acknowledged, Failed, Unread, Command, Msync, MsyncMode, Sync, Async, Errno, ESRCH, EIO, EINVAL, ENOMEM, ENOSPC, Stall, SwapDevice, Reply, Done, Refused, Stalled, Check, first_of, pages_from, Ruling}
+use Rattle.machine.proofs.Names.{Refuses, Passes, Takes, or_else, row_ruling, msync_ruling, touched_count, committed, is_io_error, may_have_taken, is_covered, Step, Answers, Fails, Stalls, is_success, State, IsRunning, halted, noted}
+use Rattle.machine.proofs.Names.{outcome, msync_outcome, ruling, commit_of, commits, takes, Pages, attrs_of}
 use Rattle.spaces.specs.Calls as Calls
-use Rattle.spaces.specs.Idle.{is_denial, is_idle}
 use Rattle.msync.specs.Shows as Syncing
-use Rattle.msync.specs.Core.{KeepsMemory, GivesBack, Commits, Acknowledged, Failed, Unread}
-use Rattle.vm_types.specs.{declared.command.Command.{Command}, declared.command.Command.TheVariants.{Msync}, declared.command.MsyncMode.{MsyncMode}, declared.command.MsyncMode.TheVariants.{Sync, Async}, declared.refusal.Errno.{Errno}}
-use Rattle.vm_types.specs.{declared.refusal.Errno.TheVariants.{ESRCH, EIO, EINVAL, ENOMEM, ENOSPC}, declared.refusal.Stall.{Stall}, declared.refusal.Stall.TheVariants.{SwapDevice}, declared.reply.Reply.{Reply}}
-use Rattle.vm_types.specs.{declared.reply.Reply.TheVariants.{Done, Refused, Stalled}, Checks.{Check, first_of, pages_from}, Msync.{Ruling, Refuses, Passes, Takes, or_else, row_ruling, msync_ruling, touched_count, committed}}
-use Rattle.vm_types.specs.{Prefix.{is_io_error, may_have_taken}, Rows.{is_covered}, Run.{Answers, Fails, Stalls}, Stalls.{is_success}, State.{State, IsRunning, halted}}
-use Rattle.vm_types.specs.{Step.{noted, outcome, msync_outcome, ruling, commit_of, commits, takes}, View.{Pages, attrs_of}}
 use Rattle.machine.specs.{declared.engine.Engine.{Engine}, Engine.{stands_in, MayStand, HoldsIn, StandsForSome, EngineShows, EngineMeets}}
 use Rattle.machine.proofs.{Flat.{with_past, OnlyNow, is_running, shows_core, answered, unread, keeps_all}, Steps.{outcome_keeps, commit_takes}}
 
@@ -99,6 +88,14 @@ never_idle s pid addr len mode reply after commit taken idle =
 stall_is : (stall : Stall) → Stalled SwapDevice ≡ Stalled stall → SwapDevice ≡ stall
 stall_is stall e = cc
 
+is_false : (b : Bool) → (b ≡ true → ⊥) → b ≡ false
+is_false true never = absurd (never refl)
+is_false false never = refl
+
+is_true : (b : Bool) → (b ≡ false → ⊥) → b ≡ true
+is_true true never = refl
+is_true false never = absurd (never refl)
+
 none_or_some : (o : Option Pages) → (o ≡ None) ⊎ ((after : Pages) × (o ≡ Some after))
 none_or_some None = inl refl
 none_or_some (Some after) = inr (after, refl)
@@ -135,30 +132,40 @@ module _ {M : Type 0} {levels : Levels.Ghosts M} {D E : Type 0} (g : Ghosts D) (
   during taken back k = weaker g old.core.store.disk core.store.disk (StandsForEither n s.files s.durable after) (StandsForSome n s.files (HoldsIn s x reply))
       (λ c either. holds_either n s x reply after c run commit taken either) (made.either k back)
 
+  -- what is the same however it ends
+  met : (halts : Bool) (t : State) → Step (Calls.causes g h old.core core) s x reply t → EngineShows g h (engine halts) t
+      → ((stall : Stall) → reply ≡ Stalled stall → Calls.FallsShort (frame_count core.frames) (slots_of core.swap).total s x stall) → is_denial reply ≡ false
+      → (g.keeps_model core.store.disk → LeavesOnly g old.core.store.disk core.store.disk (StandsForSome n s.files (HoldsIn s x reply)))
+      → (t : State) × EngineMeets g h old (engine halts) s t x reply
+  met halts t step shown capacity taken moments =
+      let meets : EngineMeets g h old (engine halts) s t x reply = record {
+        step = step;
+        shows = shown;
+        capacity = capacity;
+        room = room;
+        size = made.size;
+        swap_size = device.size;
+        kept = made.kept;
+        swap_kept = device.kept;
+        idle = λ e. absurd (never_idle s pid addr len mode reply after commit taken e);
+        moments = moments;
+      } in
+      (t, meets)
+
   -- the commit was made
   commit_done : GivesBack g h old.core core pid addr len → reply ≡ Done → Syncing.CoreShows g core (outcome s x).state → (t : State) × EngineMeets g h old (engine false) s t x reply
   commit_done back done now =
       let t = noted x reply (outcome s x).state in
       let all = outcome_keeps s x in
       let goes_on : IsRunning t = all.ends ∙ run in
-      let meets : EngineMeets g h old (engine false) s t x reply = record {
-        step = Answers run (done ∙ sym (done_of s (ruling s x) after commit)) refl;
-        shows = record {
-          pages = with_past (picture_of core) (outcome s x).state _ now.pages;
-          running = ap is_some goes_on;
-          past = shows.past ∙ sym all.past;
-          stands = λ k c may. (t.durable, subst (λ (o : Option (List Pages)). stands_in o t.durable t.durable) (sym goes_on) refl, now.stands k c may);
-        };
-        capacity = λ stall e. absurd (let never : Done ≡ Stalled stall = sym done ∙ e in cc);
-        room = room;
-        size = made.size;
-        swap_size = device.size;
-        kept = made.kept;
-        swap_kept = device.kept;
-        idle = λ e. absurd (never_idle s pid addr len mode reply after commit (ap is_denial done) e);
-        moments = during (ap may_have_taken done) back;
-      } in
-      (t, meets)
+      met false t (Answers run (done ∙ sym (done_of s (ruling s x) after commit)) refl)
+      (record {
+        pages = with_past (picture_of core) (outcome s x).state _ now.pages;
+        running = ap is_some goes_on;
+        past = shows.past ∙ sym all.past;
+        stands = λ k c may. (t.durable, subst (λ (o : Option (List Pages)). stands_in o t.durable t.durable) (sym goes_on) refl, now.stands k c may);
+      })
+      (λ stall e. absurd (let never : Done ≡ Stalled stall = sym done ∙ e in cc)) (ap is_denial done) (during (ap may_have_taken done) back)
 
   -- the store failed in it
   commit_failed : CountsNow g → GivesBack g h old.core core pid addr len → reply ≡ Refused EIO → g.failures old.core.store.disk < g.failures core.store.disk
@@ -166,53 +173,35 @@ module _ {M : Type 0} {levels : Levels.Ghosts M} {D E : Type 0} (g : Ghosts D) (
   commit_failed counts_now back failed grew memory =
       let t = halted s after in
       let pages : ShowsPages (picture_of old.core) t = search rules in
-      let meets : EngineMeets g h old (engine true) s t x reply = record {
-        step = Fails after run commit grew failed refl;
-        shows = record {
-          pages = rw (memory.frames, memory.slots, memory.cache, memory.roots, memory.regions, memory.page_of, memory.directory) pages;
-          running = refl;
-          past = shows.past;
-          stands = λ k c may.
-              subst (λ (sectors : ℕ). StandsForSome sectors s.files (MayStand t) c) (sym made.size)
-              (⊎_elim (λ b. (s.durable, inl refl, b)) (λ a. (after, inr (inl refl), a))
-              (holds_now g old.core.store.disk core.store.disk (StandsForEither n s.files s.durable after)
-              (λ m i le ml. counts_now core.store.disk m i k le ml) (made.either k back) c may));
-        };
-        capacity = λ stall e. absurd (let never : Refused EIO ≡ Stalled stall = sym failed ∙ e in cc);
-        room = room;
-        size = made.size;
-        swap_size = device.size;
-        kept = made.kept;
-        swap_kept = device.kept;
-        idle = λ e. absurd (never_idle s pid addr len mode reply after commit (ap is_denial failed) e);
-        moments = during (ap may_have_taken failed) back;
-      } in
-      (t, meets)
+      met true t (Fails after run commit grew failed refl)
+      (record {
+        pages = rw (memory.frames, memory.slots, memory.cache, memory.roots, memory.regions, memory.page_of, memory.directory) pages;
+        running = refl;
+        past = shows.past;
+        stands = λ k c may.
+            subst (λ (sectors : ℕ). StandsForSome sectors s.files (MayStand t) c) (sym made.size)
+            (⊎_elim (λ b. (s.durable, inl refl, b)) (λ a. (after, inr (inl refl), a))
+            (holds_now g old.core.store.disk core.store.disk (StandsForEither n s.files s.durable after)
+            (λ m i le ml. counts_now core.store.disk m i k le ml) (made.either k back) c may));
+      })
+      (λ stall e. absurd (let never : Refused EIO ≡ Stalled stall = sym failed ∙ e in cc)) (ap is_denial failed) (during (ap may_have_taken failed) back)
 
   -- a slot couldn't be read
   commit_unread : reply ≡ Stalled SwapDevice → h.failures old.core.swap.pages.disk < h.failures core.swap.pages.disk → Syncing.CoreShows g core s
       → (g.keeps_model core.store.disk → LeavesOnly g old.core.store.disk core.store.disk (StandsFor n s.files s.durable)) → (t : State) × EngineMeets g h old (engine false) s t x reply
   commit_unread stalled grew now only =
       let durable : stands_in s.ends s.durable s.durable = subst (λ (o : Option (List Pages)). stands_in o s.durable s.durable) (sym run) refl in
-      let meets : EngineMeets g h old (engine false) s s x reply = record {
-        step = Stalls SwapDevice run
-            (record {
-              otherwise = ap is_success (done_of s (ruling s x) after commit);
-              open_to = ap is_some commit;
-              cause = grew;
-            }) stalled refl;
-        shows = record { pages = now.pages; running = ap is_some run; past = shows.past; stands = λ k c may. (s.durable, durable, now.stands k c may) };
-        capacity = λ stall e. subst (Calls.FallsShort (frame_count core.frames) (slots_of core.swap).total s x) (stall_is stall (sym stalled ∙ e)) tt;
-        room = room;
-        size = made.size;
-        swap_size = device.size;
-        kept = made.kept;
-        swap_kept = device.kept;
-        idle = λ e. absurd (never_idle s pid addr len mode reply after commit (ap is_denial stalled) e);
-        moments = λ k. weaker g old.core.store.disk core.store.disk (StandsFor n s.files s.durable) (StandsForSome n s.files (HoldsIn s x reply))
-            (λ c stands. (s.durable, inl durable, stands)) (only k);
-      } in
-      (s, meets)
+      met false s
+      (Stalls SwapDevice run
+      (record {
+        otherwise = ap is_success (done_of s (ruling s x) after commit);
+        open_to = ap is_some commit;
+        cause = grew;
+      }) stalled refl)
+      (record { pages = now.pages; running = ap is_some run; past = shows.past; stands = λ k c may. (s.durable, durable, now.stands k c may) })
+      (λ stall e. subst (Calls.FallsShort (frame_count core.frames) (slots_of core.swap).total s x) (stall_is stall (sym stalled ∙ e)) tt) (ap is_denial stalled)
+      (λ k. weaker g old.core.store.disk core.store.disk (StandsFor n s.files s.durable) (StandsForSome n s.files (HoldsIn s x reply))
+      (λ c stands. (s.durable, inl durable, stands)) (only k))
 
 module _ {M : Type 0} {levels : Levels.Ghosts M} {D E : Type 0} (g : Ghosts D) (h : Ghosts E) where
   -- what is said of an msync, in a state that memory shows
@@ -222,32 +211,16 @@ module _ {M : Type 0} {levels : Levels.Ghosts M} {D E : Type 0} (g : Ghosts D) (
         → Commits g h (GivesBack g h old core pid addr len) old core s after (Msync pid addr len mode) reply
     pub back : (after : Pages) → commits s (Msync pid addr len mode) ≡ Some after → GivesBack g h old core pid addr len
 
-  -- returning EIO, it halts the machine
-  pub msync_halts : (counts_now : CountsNow g) (old : Engine D E M levels) (core : Core D E M levels) (s : State) (pid addr len : ℕ) (mode : MsyncMode) (reply : Reply)
+  -- returning EIO, it halts the machine; returning anything else, it leaves it running
+  pub msync_meets : (only_now : OnlyNow g) (counts_now : CountsNow g) (old : Engine D E M levels) (core : Core D E M levels) (stops : Bool) (s : State) (pid addr len : ℕ) (mode : MsyncMode) (reply : Reply)
       → EngineShows g h old s → old.halted ≡ false → KeepsRoom (picture_of old.core) (picture_of core) → UsesDevice h old.core.swap.pages.disk core.swap.pages.disk
       → (Syncing.CoreShows g old.core s → Msynced old.core core s pid addr len mode reply)
-      → reply ≡ Refused EIO → (t : State) × EngineMeets g h old (record { core = core; halted = true; past = old.past; sync_room = tt; region_room = tt }) s t (Msync pid addr len mode) reply
-  msync_halts counts_now old core s pid addr len mode reply shows live room device said e =
+      → (stops ≡ true → reply ≡ Refused EIO) → (stops ≡ false → reply ≡ Refused EIO → ⊥)
+      → (t : State) × EngineMeets g h old (record { core = core; halted = stops; past = old.past; sync_room = tt; region_room = tt }) s t (Msync pid addr len mode) reply
+  msync_meets only_now counts_now old core stops s pid addr len mode reply shows live room device said halts otherwise =
       let x = Msync pid addr len mode in
-      let run = is_running g h old s shows live in
-      let told = said (shows_core g h old s shows run) in
-      ⊎_elim (λ none. absurd (never_fails s pid addr len mode (sym (told.passes none).0 ∙ e)))
-      (λ (some : (after : Pages) × (commits s x ≡ Some after)).
-      let made = told.commits_so some.0 some.1 in
-      elim made.end as (λ _. (t : State) × EngineMeets g h old (record { core = core; halted = true; past = old.past; sync_room = tt; region_room = tt }) s t x reply) [
-        | Acknowledged done pages now sound ↦ absurd (let never : Done ≡ Refused EIO = sym done ∙ e in cc)
-        | Failed failed grew memory ↦ commit_failed g h old core s pid addr len mode reply some.0 shows run room device some.1 made counts_now (told.back some.0 some.1) e grew memory
-        | Unread stalled grew memory now sound only ↦ absurd (let never : Stalled SwapDevice ≡ Refused EIO = sym stalled ∙ e in cc)
-      ])
-      (none_or_some (commits s x))
-
-  -- returning anything else, it leaves the machine running
-  pub msync_goes_on : (only_now : OnlyNow g) (old : Engine D E M levels) (core : Core D E M levels) (s : State) (pid addr len : ℕ) (mode : MsyncMode) (reply : Reply)
-      → EngineShows g h old s → old.halted ≡ false → KeepsRoom (picture_of old.core) (picture_of core) → UsesDevice h old.core.swap.pages.disk core.swap.pages.disk
-      → (Syncing.CoreShows g old.core s → Msynced old.core core s pid addr len mode reply)
-      → (reply ≡ Refused EIO → ⊥) → (t : State) × EngineMeets g h old (record { core = core; halted = false; past = old.past; sync_room = tt; region_room = tt }) s t (Msync pid addr len mode) reply
-  msync_goes_on only_now old core s pid addr len mode reply shows live room device said otherwise =
-      let x = Msync pid addr len mode in
+      let P : Bool → Type 0 = λ b. (t : State) × EngineMeets g h old (record { core = core; halted = b; past = old.past; sync_room = tt; region_room = tt }) s t x reply in
+      let goes_on : (reply ≡ Refused EIO → ⊥) → P false → P stops = λ never meets. subst P (sym (is_false stops (λ e. never (halts e)))) meets in
       let run = is_running g h old s shows live in
       let told = said (shows_core g h old s shows run) in
       ⊎_elim (λ none.
@@ -256,23 +229,17 @@ module _ {M : Type 0} {levels : Levels.Ghosts M} {D E : Type 0} (g : Ghosts D) (
       let pages : ShowsPages (picture_of core) (outcome s x).state =
       subst (λ (t : State). ShowsPages (picture_of core) t) (sym stays.0) (subst (λ (o : Core D E M levels). ShowsPages (picture_of o) s) (sym same) shows.pages) in
       let keeps : KeepsDevices old.core core = keeps_all g h old.core core same in
-      answered g h only_now old core false old.past s x reply shows live refl stays.1 refl (unread g old.core.store core.store keeps.store) device (λ _. keeps) room (Calls.Does (told.passes none).0 pages))
+      goes_on (λ e. never_fails s pid addr len mode (sym (told.passes none).0 ∙ e))
+      (answered g h only_now old core false old.past s x reply shows live refl stays.1 refl (unread g old.core.store core.store keeps.store) device (λ _. keeps) room (Calls.Does (told.passes none).0 pages)))
       (λ (some : (after : Pages) × (commits s x ≡ Some after)).
       let made = told.commits_so some.0 some.1 in
-      elim made.end as (λ _. (t : State) × EngineMeets g h old (record { core = core; halted = false; past = old.past; sync_room = tt; region_room = tt }) s t x reply) [
-        | Acknowledged done pages now sound ↦ commit_done g h old core s pid addr len mode reply some.0 shows run room device some.1 made (told.back some.0 some.1) done (now (told.back some.0 some.1))
-        | Failed failed grew memory ↦ absurd (otherwise failed)
-        | Unread stalled grew memory now sound only ↦ commit_unread g h old core s pid addr len mode reply some.0 shows run room device some.1 made stalled grew now only
+      let back = told.back some.0 some.1 in
+      elim made.end as (λ _. P stops) [
+        | Acknowledged done pages now sound ↦ goes_on (λ e. (let never : Done ≡ Refused EIO = sym done ∙ e in cc))
+            (commit_done g h old core s pid addr len mode reply some.0 shows run room device some.1 made back done (now back))
+        | Failed failed grew memory ↦ subst P (sym (is_true stops (λ e. otherwise e failed)))
+            (commit_failed g h old core s pid addr len mode reply some.0 shows run room device some.1 made counts_now back failed grew memory)
+        | Unread stalled grew memory now sound only ↦ goes_on (λ e. (let never : Stalled SwapDevice ≡ Refused EIO = sym stalled ∙ e in cc))
+            (commit_unread g h old core s pid addr len mode reply some.0 shows run room device some.1 made stalled grew now only)
       ])
       (none_or_some (commits s x))
-
-  -- either way
-  pub msync_meets : (only_now : OnlyNow g) (counts_now : CountsNow g) (old : Engine D E M levels) (core : Core D E M levels) (stops : Bool) (s : State) (pid addr len : ℕ) (mode : MsyncMode) (reply : Reply)
-      → EngineShows g h old s → old.halted ≡ false → KeepsRoom (picture_of old.core) (picture_of core) → UsesDevice h old.core.swap.pages.disk core.swap.pages.disk
-      → (Syncing.CoreShows g old.core s → Msynced old.core core s pid addr len mode reply)
-      → (stops ≡ true → reply ≡ Refused EIO) → (stops ≡ false → reply ≡ Refused EIO → ⊥)
-      → (t : State) × EngineMeets g h old (record { core = core; halted = stops; past = old.past; sync_room = tt; region_room = tt }) s t (Msync pid addr len mode) reply
-  msync_meets only_now counts_now old core true s pid addr len mode reply shows live room device said failed otherwise =
-      msync_halts counts_now old core s pid addr len mode reply shows live room device said (failed refl)
-  msync_meets only_now counts_now old core false s pid addr len mode reply shows live room device said failed otherwise =
-      msync_goes_on only_now old core s pid addr len mode reply shows live room device said (otherwise refl)

@@ -1,11 +1,7 @@
 -- What the replies of a run say of devices and frames, counted.
-use Rattle.std.proofs.{Common.{ℕ, ◌+◌, ◌≡◌, ◌≤◌, ◌<◌, Bool, true, false, if◌then◌else◌, List, [], ◌∷◌, refl, ◌∙◌, subst, sym, sum_by, arith}, lemmas.List.Sums.{sum_by-cons}}
-use Rattle.disk_model.specs.declared.sector_disk.SectorDisk.{Ghosts}
-use Rattle.vm_types.specs.{declared.refusal.Errno.{Errno}, declared.refusal.Errno.TheVariants.{EIO}, declared.refusal.Stall.{Stall}, declared.refusal.Stall.TheVariants.{SwapDevice, StoreDevice}, declared.reply.Reply.{Reply}}
-use Rattle.vm_types.specs.declared.reply.Reply.TheVariants.{Refused, Stalled}
-use Rattle.spaces.specs.Idle.{names_store, names_swap, refused_count}
-use Rattle.machine.specs.{Chain.{Caused}, Counts.{failed_count, swap_failed_count, Counts}, Machine.{store_of, swap_of}, declared.machine.Machine.{Machine}}
-use Rattle.machine.proofs.Face.{HasCause, cause_of}
+use Rattle.machine.proofs.Names.{ℕ, ◌+◌, ◌≡◌, ◌≤◌, ◌<◌, Bool, true, false, if◌then◌else◌, List, [], ◌∷◌, refl, ◌∙◌, subst, sym, sum_by, arith, sum_by-cons, Ghosts, Errno, EIO, Stall, SwapDevice, StoreDevice, Reply, Refused, Stalled}
+use Rattle.machine.proofs.Names.{names_store, names_swap, refused_count}
+use Rattle.machine.{specs.{Chain.{Caused}, Counts.{failed_count, swap_failed_count, Counts}, Machine.{store_of, swap_of}, declared.machine.Machine.{Machine}}, proofs.Face.{HasCause, cause_of}}
 
 not_counted : (b : Bool) (n : ℕ) → n ≡ (if b then 1 else 0) → n ≡ 0 → b ≡ false
 not_counted false n is none = refl

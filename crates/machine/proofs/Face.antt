@@ -1,9 +1,6 @@
 -- What the words on machines say, whatever the mode.
-use Rattle.std.proofs.Common.{◌+◌, ◌≡◌, ◌≤◌, ◌<◌, true, false, is_some, ap, rules}
-use Rattle.disk_model.specs.{Moments.{LeavesNow, LeavesOnly}, declared.sector_disk.SectorDisk.{Ghosts}}
-use Rattle.spaces.specs.Idle.{is_idle, names_store, names_swap, refused_count}
-use Rattle.vm_types.specs.{declared.command.Command.{Command}, declared.refusal.Errno.TheVariants.{EIO}, declared.refusal.Stall.TheVariants.{SwapDevice, StoreDevice}, declared.reply.Reply.{Reply}}
-use Rattle.vm_types.specs.{declared.reply.Reply.TheVariants.{Refused, Stalled}, Run.{Step}, Stalls.{Causes}, State.{State}}
+use Rattle.machine.proofs.Names.{◌+◌, ◌≡◌, ◌≤◌, ◌<◌, true, false, is_some, ap, rules, LeavesNow, LeavesOnly, Ghosts, is_idle, names_store, names_swap, refused_count, Command, EIO, SwapDevice, StoreDevice, Reply, Refused, Stalled, Step}
+use Rattle.machine.proofs.Names.{Causes, State}
 use Rattle.machine.specs.{Engine.{MayStand, HoldsIn, StandsForSome}, declared.machine.Machine.{Machine}, declared.machine.Machine.TheVariants.{Sv39, Sv48}}
 use Rattle.machine.specs.Machine.{store_of, swap_of, halted_of, past_of, refused_of, mode_of, bits_of, KeepsSizes, IsCausedBetween, Shows, Meets, IsReadable}
 

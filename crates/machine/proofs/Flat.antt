@@ -1,26 +1,13 @@
 -- Commands that write nothing to the store.
 use Rattle.vm_types.specs.declared.mode.Levels as Levels
-use Rattle.std.proofs.Common.{ℕ, ◌/◌, ◌≡◌, inl, Bool, true, false, List, Option, Some, None, is_some, refl, sym, ap, ◌∙◌, subst, inr, ⊎_elim, arith, rules}
-use Rattle.disk_model.specs.{Moments.{LeavesNow, LeavesOnly, Touches, Nothing}, Stop.{Image, MayLeave}, declared.sector_disk.SectorDisk.{Ghosts}}
-use Rattle.disk_model.proofs.Moments.{stays, started, goes_on, still_leaves, asks_none}
-use Rattle.file_store.specs.{Standing.{StandsFor}, declared.store.FileStore.{FileStore}}
-use Rattle.frames.specs.FrameTable.{frame_count}
-use Rattle.swap.specs.Slots.{slots_of}
-use Rattle.residency.specs.{Calls.{UsesDevice}, Reading.{ReadsStore}, Picture.{Picture, picture_of}, Shows.{ShowsPages}, declared.kernel.Core.{Core}}
-use Rattle.fault.proofs.{Asking.{asks_slots_same}, AccessAsking.{asks_same}, AccessSlotted.{slotted_same}, Wanted.{calm_same}}
-use Rattle.fault.specs.Changes.{KeepsRoom}
-use Rattle.ranges.specs.Steps.{KeepsDevices}
+use Rattle.machine.proofs.Names.{ℕ, ◌/◌, ◌≡◌, inl, Bool, true, false, List, Option, Some, None, is_some, refl, sym, ap, ◌∙◌, subst, inr, ⊎_elim, arith, rules, LeavesNow, LeavesOnly, Touches, Nothing, Image, MayLeave, Ghosts, stays, started}
+use Rattle.machine.proofs.Names.{goes_on, still_leaves, asks_none, StandsFor, FileStore, frame_count, slots_of, UsesDevice, ReadsStore, Picture, picture_of, ShowsPages, Core, asks_slots_same, asks_same, slotted_same, calm_same, KeepsRoom}
+use Rattle.machine.proofs.Names.{KeepsDevices, settles_nothing, writes_none, takes_none, AsksFor, is_idle, Access, Command, Spawn, Fork, Exit, Mmap, Munmap, Mprotect, Dontneed, Msync, Load, Store, Fetch, PastFaults, Stall, Reply, Done}
+use Rattle.machine.proofs.Names.{Halted, page_count, Files, user_end, Past, Answers, Stalls, Stays, MayStall, State, IsRunning, outcome, noted, past_after, ruling, takes, Pages}
 use Rattle.msync.specs.Shows as Syncing
-use Rattle.msync.proofs.SettledPages.{settles_nothing}
-use Rattle.spaces.proofs.{Asking.{writes_none}, Returning.{takes_none}}
-use Rattle.spaces.specs.{Accesses.{AsksFor}, Idle.{is_idle}}
 use Rattle.spaces.specs.Calls as Calls
-use Rattle.vm_types.specs.{declared.access.Access.{Access}, declared.command.Command.{Command}, declared.command.Command.TheVariants.{Spawn, Fork, Exit, Mmap, Munmap, Mprotect, Dontneed, Msync, Load, Store, Fetch, PastFaults}}
-use Rattle.vm_types.specs.{declared.refusal.Stall.{Stall}, declared.reply.Reply.{Reply}, declared.reply.Reply.TheVariants.{Done, Halted}, Checks.{page_count}, Files.{Files}, Limits.{user_end}, History.{Past}, Run.{Answers, Stalls, Stays}}
-use Rattle.vm_types.specs.{Stalls.{MayStall}, State.{State, IsRunning}, Step.{outcome, noted, past_after, ruling, takes}, View.{Pages}}
 use Rattle.vm_types.specs.declared.access.Access.TheVariants as Kinds
-use Rattle.machine.specs.{Engine.{stands_in, MayStand, HoldsIn, StandsForSome, EngineShows, EngineMeets}, Accesses.{Accesses}, declared.engine.Engine.{Engine}}
-use Rattle.machine.proofs.Steps.{outcome_keeps, past_stalled}
+use Rattle.machine.{specs.{Engine.{stands_in, MayStand, HoldsIn, StandsForSome, EngineShows, EngineMeets}, Accesses.{Accesses}, declared.engine.Engine.{Engine}}, proofs.Steps.{outcome_keeps, past_stalled}}
 
 running_of : (o : Option (List Pages)) → is_some o ≡ false → o ≡ None
 running_of None e = refl

@@ -1,3 +1,4 @@
+mod Names
 pub mod Accesses
 pub mod Boots
 pub mod Causes

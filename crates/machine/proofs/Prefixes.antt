@@ -1,10 +1,8 @@
 -- The prefixes of the msyncs, command after command.
-use Rattle.std.proofs.Common.{ℕ, zero, suc, ◌+◌, ◌≡◌, ◌≤◌, ◌⊎◌, inl, inr, Bool, true, false, if◌then◌else◌, List, [], ◌∷◌, Some, None, refl, sym, ap, ◌∙◌, arith, add-one, add-zero}
-use Rattle.vm_types.specs.{declared.command.Command.{Command}, declared.command.Command.TheVariants.{Msync}, declared.refusal.Errno.TheVariants.{EIO}, declared.reply.Reply.{Reply}, declared.reply.Reply.TheVariants.{Refused, Halted}}
-use Rattle.vm_types.specs.{Msync.{Ruling, Refuses, Passes, Takes, msync_ruling}, Prefix.{Event, is_msync, is_done, may_have_taken, after_event, after_msyncs, this_or_further, acknowledged, IsPrefixHolding}}
-use Rattle.vm_types.specs.{Run.{Step, Answers, Fails, Stalls, Stays}, Stalls.{Causes}, State.{State, IsRunning}, Step.{outcome, msync_outcome, ruling, takes, commits}, View.{Pages}}
-use Rattle.machine.proofs.Steps.{outcome_keeps, commit_takes}
-use Rattle.machine.specs.Chain.{event}
+use Rattle.machine.proofs.Names.{ℕ, zero, suc, ◌+◌, ◌≡◌, ◌≤◌, ◌⊎◌, inl, inr, Bool, true, false, if◌then◌else◌, List, [], ◌∷◌, Some, None, refl, sym, ap, ◌∙◌, arith, add-one, add-zero, Command, Msync, EIO, Reply, Refused, Halted, Ruling}
+use Rattle.machine.proofs.Names.{Refuses, Passes, Takes, msync_ruling, Event, is_msync, is_done, may_have_taken, after_event, after_msyncs, this_or_further, acknowledged, IsPrefixHolding, Step, Answers, Fails, Stalls, Stays, Causes, State}
+use Rattle.machine.proofs.Names.{IsRunning, outcome, msync_outcome, ruling, takes, commits, Pages}
+use Rattle.machine.{specs.Chain.{event}, proofs.Steps.{outcome_keeps, commit_takes}}
 
 pub step_files : (causes : Causes) (s : State) (command : Command) (reply : Reply) (t : State) → Step causes s command reply t → t.files ≡ s.files
 step_files causes s command reply t (Answers run r e) = ap (λ (x : State). x.files) e ∙ (outcome_keeps s command).files

@@ -1,8 +1,6 @@
 -- A chain of commands, and what a stop in it leaves.
-use Rattle.std.proofs.Common.{ℕ, zero, suc, ◌≡◌, ◌≤◌, ◌⊎◌, inl, inr, ⊎_elim, true, List, [], ◌∷◌, ◌++◌, Option, Some, None, refl, sym, ap, ◌∙◌, subst, arith}
-use Rattle.disk_model.specs.{Stop.{Image, MayLeave}, declared.sector_disk.SectorDisk.{Ghosts}}
-use Rattle.vm_types.specs.{declared.command.Command.{Command}, declared.reply.Reply.{Reply}, Files.{Files}, Prefix.{Event, after_event, acknowledged, IsPrefixHolding, may_have_taken}, State.{State, IsRunning}, Step.{ruling, takes}}
-use Rattle.vm_types.specs.View.{Pages}
+use Rattle.machine.proofs.Names.{ℕ, zero, suc, ◌≡◌, ◌≤◌, ◌⊎◌, inl, inr, ⊎_elim, true, List, [], ◌∷◌, ◌++◌, Option, Some, None, refl, sym, ap, ◌∙◌, subst, arith, Image, MayLeave, Ghosts, Command, Reply, Files, Event, after_event}
+use Rattle.machine.proofs.Names.{acknowledged, IsPrefixHolding, may_have_taken, State, IsRunning, ruling, takes, Pages}
 use Rattle.machine.specs.{Chain.{event, Caused, Chain, after, Runs}, Engine.{IsOneOf, stands_in, MayStand, HoldsIn, StandsForSome}, Machine.{store_of, KeepsSizes, IsCausedBetween, Shows, Meets}, declared.machine.Machine.{Machine}}
 use Rattle.machine.proofs.{Face.{causes, shown, face}, Prefixes.{step_files, Failed, goes_on_or_fails, halted_stays, failed_event, prefix_here, prefix_more, prefix_from_start, prefix_during, failed_before, failed_after, halted_event}}
 

@@ -1,11 +1,8 @@
 -- What a step of the flat model leaves of files and durable pages.
-use Rattle.std.proofs.Common.{ℕ, ◌≡◌, ◌/◌, ◌==◌, Bool, true, false, if◌then◌else◌, List, Option, Some, None, refl, rules}
-use Rattle.vm_types.specs.{declared.access.StoredValue.{StoredValue}, declared.command.Command.{Command}, declared.command.Command.TheVariants.{Spawn, Fork, Exit, Mmap, Munmap, Mprotect, Dontneed, Msync, Load, Store, Fetch, PastFaults}}
-use Rattle.vm_types.specs.{declared.command.MapSource.{MapSource}, declared.permission.Prot.{Prot}, declared.refusal.Errno.{Errno}, declared.refusal.Errno.TheVariants.{ESRCH}, declared.region.Backing.{Backing}}
-use Rattle.vm_types.specs.{declared.region.Backing.TheVariants.{Anon}, declared.refusal.Stall.{Stall}, declared.reply.Reply.TheVariants.{Done, Refused, Stalled}, declared.width.Width.{Width}, Access.{with_shown_bytes}, History.{Past}}
-use Rattle.vm_types.specs.{Msync.{Ruling, Refuses, Passes, Takes, msync_ruling, committed}, State.{State}}
-use Rattle.vm_types.specs.Step.{Outcome, outcome, answers, refused_or, spawn_outcome, fork_outcome, fetch_outcome, mmap_outcome, msync_outcome, load_outcome, store_outcome, past_after, ruling, takes, commit_of}
-use Rattle.vm_types.specs.{Checks.{first_of, pages_from}, Processes.{least_free_pid}, Ranges.{munmap_checks, asked_checks, row_checks, covered_checks}, Mapping.{mmap_errno, mmap_place}, Verdict.{Verdict, Fine, Faults}, View.{View, Pages}}
+use Rattle.machine.proofs.Names.{ℕ, ◌≡◌, ◌/◌, ◌==◌, Bool, true, false, if◌then◌else◌, List, Option, Some, None, refl, rules, StoredValue, Command, Spawn, Fork, Exit, Mmap, Munmap, Mprotect, Dontneed, Msync, Load, Store, Fetch, PastFaults}
+use Rattle.machine.proofs.Names.{MapSource, Prot, Errno, ESRCH, Backing, Anon, Stall, Done, Refused, Stalled, Width, with_shown_bytes, Past, Ruling, Refuses, Passes, Takes, msync_ruling, committed, State, Outcome, outcome, answers}
+use Rattle.machine.proofs.Names.{refused_or, spawn_outcome, fork_outcome, fetch_outcome, mmap_outcome, msync_outcome, load_outcome, store_outcome, past_after, ruling, takes, commit_of, first_of, pages_from, least_free_pid, munmap_checks}
+use Rattle.machine.proofs.Names.{asked_checks, row_checks, covered_checks, mmap_errno, mmap_place, Verdict, Fine, Faults, View, Pages}
 
 -- What a command comes to: an answer, with the same files, running or halted as before, and these durable pages.
 pub record Keeps (s : State) (x : Outcome) (durable : Pages) : Type 0 where

@@ -1,10 +1,5 @@
 -- A state that memory shows has no bytes of a page that nobody names: such a page lies nowhere.
-use Rattle.std.proofs.{Common.{◌≡◌, ℕ, inl, inr, Option, refl, sym, ap, ◌∙◌}, lemmas.Bool.{cases_Bool, false≢true}}
-use Rattle.std.specs.Prelude.{option_map}
-use Rattle.vm_types.specs.{declared.object.ObjectPage.{ObjectPage}, declared.object.PageKey.TheVariants.{Object}, Objects.{is_named, maps_of, names}, State.{State}, View.{View}}
-use Rattle.residency.specs.{Parts.{IsFit}, Picture.{Picture}, Shows.{ShowsPages}}
-use Rattle.ranges.proofs.Named.{named-alike}
-use Rattle.spaces.proofs.Pages.{attrs_seen}
+use Rattle.machine.proofs.Names.{◌≡◌, ℕ, inl, inr, Option, refl, sym, ap, ◌∙◌, cases_Bool, false≢true, option_map, ObjectPage, Object, is_named, maps_of, names, State, View, IsFit, Picture, ShowsPages, named-alike, attrs_seen}
 use Rattle.machine.specs.Tidy.{IsTidy}
 
 maps_seen : {mode : ℕ} (c : Picture mode) (s : State) → ShowsPages c s → (pid page : ℕ) → maps_of s.views pid page ≡ c.at pid page

@@ -1,23 +1,15 @@
 -- Which changes of memory leave a leaf where it was.
-use Rattle.std.proofs.{Common.{◌≡◌, ◌≢◌, ℕ, zero, suc, ◌-◌, ◌<◌, ◌⊎◌, inl, inr, Some, None, Result, Ok, Err, get_or, refl, sym, ap, ◌∙◌, subst, arith}, lemmas.Bool.{cases_eq, false≢true}, lemmas.Option.{same_Some}}
-use Rattle.std.specs.Prelude.{IfOk, OnErr}
-use Rattle.vm_types.specs.{declared.number.FrameNo.{FrameNo}, declared.number.NoFree.{NoFree}, Limits.{top_level}}
-use Rattle.frames.specs.{declared.role.Role.{Role}, declared.role.Role.TheVariants.{Free, Table}, FrameTable.{FrameTable, frame_count, role_of, SameButFor, Takes, Releases}}
-use Rattle.sv39_walk.specs.{Entry.{is_pointer, entry_at, frame_of}, Walk.{index_of}}
-use Rattle.sv39_walk.proofs.Entries.{is_pointer-zero}
-use Rattle.page_tables.specs.{Tree.{IsTable, Points, IsForest, IsRoot, IsSpare, IsUnlinked, Way, last_table, page_entry}, Change.{SetsEntry, LinksTable, Prunes}}
-use Rattle.page_tables.proofs.{Ways.{ends, index_of-lt, only_way}, Ends.{way_forth}, Keeping.{empty_not_linking, table_moved, table_moved_back, zeros_empty}, Setting.{cases_place, entry_at-bytes, points_moved}}
-use Rattle.vm_types.proofs.Modes.{sizes}
+use Rattle.memory.proofs.Names.{◌≡◌, ◌≢◌, ℕ, zero, suc, ◌-◌, ◌<◌, ◌⊎◌, inl, inr, Some, None, Result, Ok, Err, get_or, refl, sym, ap, ◌∙◌, subst, arith, cases_eq, false≢true, same_Some, IfOk, OnErr, FrameNo, NoFree, top_level, Role, Free}
+use Rattle.memory.proofs.Names.{Table, FrameTable, frame_count, role_of, SameButFor, Takes, Releases, is_pointer, entry_at, frame_of, index_of, is_pointer-zero, IsTable, Points, IsForest, IsRoot, IsSpare, IsUnlinked, Way, last_table}
+use Rattle.memory.proofs.Names.{page_entry, SetsEntry, LinksTable, Prunes, ends, index_of-lt, only_way, way_forth, empty_not_linking, table_moved, table_moved_back, zeros_empty, cases_place, entry_at-bytes, points_moved, sizes}
 pub use Rattle.page_tables.proofs.Data.{free_is_no_table, released_role}
-use Rattle.memory.specs.{declared.buffer.TranslationBuffer.{TranslationBuffer}, Lines.{line_at, line_place}, Kept.{IsLeafOf, LinesAreLeaves}, Notes.{IsNumberOf}}
-use Rattle.memory.proofs.Leaves.{as_leaf, as_number, is_page, root_table, is_entry, of_entry}
+use Rattle.memory.{specs.{declared.buffer.TranslationBuffer.{TranslationBuffer}, Lines.{line_at, line_place}, Kept.{IsLeafOf, LinesAreLeaves}, Notes.{IsNumberOf}}, proofs.Leaves.{as_leaf, as_number, is_page, root_table, is_entry, of_entry}}
 
 -- the same way, over tables still, to the same entry
 carried : (mode : ℕ) (old new : FrameTable) (root page leaf : ℕ) (l : IsLeafOf mode old root page leaf) → frame_count new ≡ frame_count old → IsUnlinked new root
     → Way new (top_level mode) root page (top_level mode) l.lowest → IsTable new l.lowest
     → entry_at new l.lowest (index_of page 0) ≡ entry_at old l.lowest (index_of page 0) → IsLeafOf mode new root page leaf
 carried mode old new root page leaf l frames unlinked way table entry =
-    let T : ℕ → Type 0 = λ n. frame_of leaf < n in
     record {
       lowest = l.lowest;
       inside = l.inside;
@@ -26,7 +18,7 @@ carried mode old new root page leaf l frames unlinked way table entry =
       table = table;
       here = entry ∙ l.here;
       valid = l.valid;
-      target = subst T (sym frames) l.target;
+      target = subst (λ (n : ℕ). frame_of leaf < n) (sym frames) l.target;
     }
 
 -- the same of any number
@@ -45,8 +37,7 @@ stays_on mode old new root page leaf l forth = way_forth old new forth (top_leve
 first_pointer : (t : FrameTable) (top root page d n : ℕ) → Way t top root page d n → 0 < d → (x : ℕ) × (y : ℕ) × Points t root x y
 first_pointer t top root page zero n w some = absurd (omega arith)
 first_pointer t top root page (suc zero) n w some =
-    let P : ℕ → Type 0 = λ z. Points t z (index_of page (top - 0)) n in
-    (index_of page (top - 0), n, subst P w.1 w.2)
+    (index_of page (top - 0), n, subst (λ (z : ℕ). Points t z (index_of page (top - 0)) n) w.1 w.2)
 first_pointer t top root page (suc (suc d)) n w some = first_pointer t top root page (suc d) w.0 w.1 (omega arith)
 
 -- One frame changed, which had no entry if it was a table, and which points nowhere afterwards.
@@ -54,8 +45,7 @@ module _ (old new : FrameTable) (n : ℕ) (same : SameButFor n old new) (idle : 
     (silent : (i m : ℕ) → Points new n i m → ⊥) where
   apart : (m i : ℕ) → i < 512 → IsTable old m → entry_at old m i ≢ 0 → m ≢ n
   apart m i h table some e =
-      let P : ℕ → Type 0 = λ x. IsTable old x in
-      some (ap (λ (x : ℕ). entry_at old x i) e ∙ idle i h (subst P e table))
+      some (ap (λ (x : ℕ). entry_at old x i) e ∙ idle i h (subst (λ (x : ℕ). IsTable old x) e table))
 
   pointed : (m i k : ℕ) → Points old m i k → entry_at old m i ≢ 0
   pointed m i k p z = false≢true (sym is_pointer-zero ∙ ap is_pointer (sym z) ∙ p.pointer)
@@ -125,8 +115,7 @@ module _ (mode : ℕ) (old new : FrameTable) (root : ℕ) (forest : IsForest old
   not_last r p unlinked ne x d w q same =
       let end = ends old (top_level mode) root q forest is_root.table in
       let d' : ℕ = top_level mode - (last_table old q (top_level mode) root).0 in
-      let W : ℕ → Type 0 = λ z. Way old (top_level mode) root q d' z in
-      not_below r p unlinked ne x d w q d' (subst W (sym same) end.way)
+      not_below r p unlinked ne x d w q d' (subst (λ (z : ℕ). Way old (top_level mode) root q d' z) (sym same) end.way)
 
   pub own : (r : ℕ) → r ≡ root → IsRoot (top_level mode) old r
   own r same = let R : ℕ → Type 0 = λ x. IsRoot (top_level mode) old x in subst R (sym same) is_root
@@ -134,8 +123,7 @@ module _ (mode : ℕ) (old new : FrameTable) (root : ℕ) (forest : IsForest old
   own_leaf : (r p e : ℕ) → IsForest new → IsRoot (top_level mode) new r → frame_count new ≡ frame_count old
       → page_entry new (top_level mode) r p ≡ page_entry old (top_level mode) r p → IsLeafOf mode old r p e → IsLeafOf mode new r p e
   own_leaf r p e forest' now frames entry l =
-      let T : ℕ → Type 0 = λ n. frame_of e < n in
-      of_entry mode new r p e forest' now l.inside (entry ∙ is_entry mode old r p e l) l.valid (subst T (sym frames) l.target)
+      of_entry mode new r p e forest' now l.inside (entry ∙ is_entry mode old r p e l) l.valid (subst (λ (n : ℕ). frame_of e < n) (sym frames) l.target)
 
   -- the entry of a page was set
   pub set_leaf : (q number : ℕ) → SetsEntry old new (top_level mode) root q number → (r p e : ℕ) → IsLeafOf mode old r p e → (r ≢ root) ⊎ (p ≢ q) → IsLeafOf mode new r p e
@@ -158,11 +146,9 @@ module _ (mode : ℕ) (old new : FrameTable) (root : ℕ) (forest : IsForest old
     | inr other ↦ (
         let some : 0 < top_level mode = omega (arith, (sizes mode).levels) in
         let first = first_pointer old (top_level mode) r p (top_level mode) l.lowest l.way some in
-        let F : ℕ → Type 0 = λ x. Points old x first.0 first.1 in
-        let ne : r ≢ table = λ z. empty_not_linking old table spare.empty first.0 first.1 (subst F z first.2) in
+        let ne : r ≢ table = λ z. empty_not_linking old table spare.empty first.0 first.1 (subst (λ (x : ℕ). Points old x first.0 first.1) z first.2) in
         let forth : (a i b : ℕ) → Points old a i b → Points new a i b = λ a i b points.
-        let B : ℕ → Type 0 = λ x. Points old a i x in
-        (links.pointers a i b (λ z. spare.unlinked a i (subst B z points))).0 points in
+        (links.pointers a i b (λ z. spare.unlinked a i (subst (λ (x : ℕ). Points old a i x) z points))).0 points in
         carried mode old new r p e l links.kept.frames ((links.unlinked r ne).0 l.unlinked) (stays_on mode old new r p e l forth)
         (is_table old new l.lowest links.kept.frames links.kept.roles l.table)
         (links.others l.lowest (index_of p 0) (index_of-lt p 0) (not_last r p l.unlinked other l.lowest (top_level mode) l.way q)))

@@ -1,14 +1,8 @@
 -- What a line is to the tables: the leaf of its page, at which the walk ends.
-use Rattle.std.proofs.{Common.{◌≡◌, ◌≢◌, ℕ, zero, suc, ◌+◌, ◌-◌, ◌<◌, true, false, refl, sym, ap, ◌∙◌, subst, arith}, lemmas.Bool.{false≢true}, lemmas.Bool.Decides.{nat_tests}}
-use Rattle.std.specs.Prelude.{Bool, ◌&&◌, nat_lt}
-use Rattle.vm_types.specs.{Limits.{top_level, user_end}, declared.access.Access.{Access}}
-use Rattle.vm_types.proofs.Modes.{user_pages_fit}
-use Rattle.frames.specs.FrameTable.{FrameTable, frame_count}
-use Rattle.sv39_walk.specs.{Entry.{has_bit, is_valid, entry_at, frame_of}, Walk.{index_of, leads_on, last_of}}
-use Rattle.sv39_walk.proofs.Way.{last_of-zero, last_of-next}
-use Rattle.page_tables.specs.Tree.{IsTable, IsPage, Points, IsForest, IsRoot, Way, page_entry}
-use Rattle.memory.specs.{declared.buffer.TranslationBuffer.{TranslationBuffer}, Lines.{IsCoherent, IsLine, leaf_lets}, Kept.{LinesAreLeaves, IsLeafOf}, Notes.{IsNumberOf}}
-use Rattle.memory.proofs.Numbers.{is_number, of_number}
+use Rattle.memory.proofs.Names.{◌≡◌, ◌≢◌, ℕ, zero, suc, ◌+◌, ◌-◌, ◌<◌, true, false, refl, sym, ap, ◌∙◌, subst, arith, false≢true, nat_tests, nat_lt, top_level, user_end, Access, user_pages_fit, FrameTable, frame_count, has_bit, is_valid}
+use Rattle.memory.proofs.Names.{entry_at, frame_of, index_of, leads_on, last_of, last_of-zero, last_of-next, IsTable, IsPage, Points, IsForest, IsRoot, Way, page_entry}
+use Rattle.std.specs.Prelude.{Bool, ◌&&◌}
+use Rattle.memory.{specs.{declared.buffer.TranslationBuffer.{TranslationBuffer}, Lines.{IsCoherent, IsLine, leaf_lets}, Kept.{LinesAreLeaves, IsLeafOf}, Notes.{IsNumberOf}}, proofs.Numbers.{is_number, of_number}}
 
 invalid_zero : is_valid 0 ≡ false
 unfolding has_bit

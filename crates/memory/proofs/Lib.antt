@@ -1,3 +1,4 @@
+mod Names
 pub mod Looks
 pub mod Leaves
 pub mod Numbers

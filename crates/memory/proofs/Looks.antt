@@ -1,9 +1,7 @@
 -- What a line says of a walk.
-use Rattle.std.proofs.{Common.{ℕ, ◌/◌, ◌%◌, ◌^◌, ◌≡◌, ◌<◌, Bool, true, false, ◌&&◌, ◌||◌, not, ◌==◌, nat_le, if◌then◌else◌, Ok, Some, Option, inl, inr, refl, sym, ap, ◌∙◌, subst, arith}, lemmas.Bool.Decides.{nat_tests}}
-use Rattle.vm_types.specs.{Limits.{top_level, user_end}, declared.access.Access.{Access}}
-use Rattle.vm_types.proofs.Modes.{two_modes}
-use Rattle.frames.specs.FrameTable.{FrameTable, frame_count}
-use Rattle.sv39_walk.specs.{Entry.{is_valid, is_user, is_accessed, is_dirty, is_reserved, is_leaf, frame_of, grants}, Walk.{is_canonical, is_store, last_of, translated, answer_of, frame_in}}
+use Rattle.memory.proofs.Names.{ℕ, ◌/◌, ◌%◌, ◌^◌, ◌≡◌, ◌<◌, Bool, true, false, ◌&&◌, ◌||◌, not, if◌then◌else◌, Ok, Some, Option, inl, inr, refl, sym, ap, ◌∙◌, subst, arith, nat_tests, top_level, user_end, Access, two_modes, FrameTable}
+use Rattle.memory.proofs.Names.{frame_count, is_valid, is_user, is_accessed, is_dirty, is_reserved, is_leaf, frame_of, grants, is_canonical, is_store, last_of, translated, answer_of, frame_in}
+use Rattle.std.proofs.Common.{◌==◌, nat_le}
 use Rattle.memory.specs.{Lines.{Agrees, Gives, IsLine, leaf_lets, address_in, leaf_for}, declared.line.Line.{Line}, declared.buffer.TranslationBuffer.{TranslationBuffer}}
 
 canonical_three : (addr : ℕ) → addr / 4096 < 2 ^ 26 → is_canonical 2 addr ≡ true

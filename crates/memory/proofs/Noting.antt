@@ -1,11 +1,7 @@
 -- Which changes of memory bring no page to name a frame.
-use Rattle.std.proofs.{Common.{◌≡◌, ◌≢◌, ℕ, suc, ◌-◌, ◌/◌, ◌%◌, ◌<◌, ◌⊎◌, inl, inr, Result, Ok, Err, get_or, length, true, false, refl, sym, ap, ◌∙◌, subst, arith}, lemmas.Bool.{cases_eq}}
-use Rattle.std.specs.Prelude.{IfOk, OnErr}
-use Rattle.vm_types.specs.{Limits.{top_level, user_end}, declared.number.FrameNo.{FrameNo}, declared.number.NoFree.{NoFree}}
-use Rattle.frames.specs.{declared.role.Role.{Role}, declared.role.Role.TheVariants.{Free, Table}, FrameTable.{FrameTable, frame_count, role_of, SameButFor, Takes, Releases}}
-use Rattle.sv39_walk.specs.{Entry.{is_private, is_swapped, entry_at, frame_of}, Walk.{index_of}}
-use Rattle.page_tables.specs.{Tree.{Points, IsForest, IsRoot, IsSpare, Way, last_table, page_entry}, Places.{IsTableOf}, Change.{SetsEntry, LinksTable, Prunes}}
-use Rattle.page_tables.proofs.{Ways.{ends, index_of-lt, only_way}, Ends.{way_forth}, Setting.{others_turned}, Keeping.{empty_not_linking, zeros_empty}}
+use Rattle.memory.proofs.Names.{◌≡◌, ◌≢◌, ℕ, suc, ◌-◌, ◌/◌, ◌%◌, ◌<◌, ◌⊎◌, inl, inr, Result, Ok, Err, get_or, length, true, false, refl, sym, ap, ◌∙◌, subst, arith, cases_eq, IfOk, OnErr, top_level, user_end, FrameNo, NoFree, Role, Free}
+use Rattle.memory.proofs.Names.{Table, FrameTable, frame_count, role_of, SameButFor, Takes, Releases, is_private, is_swapped, entry_at, frame_of, index_of, Points, IsForest, IsRoot, IsSpare, Way, last_table, page_entry, IsTableOf}
+use Rattle.memory.proofs.Names.{SetsEntry, LinksTable, Prunes, ends, index_of-lt, only_way, way_forth, others_turned, empty_not_linking, zeros_empty}
 use Rattle.memory.specs.{declared.notes.Notes.{Notes}, Notes.{IsNumberOf, NamesFrame, NamesNoMore, AreNoted, Covers, no_note}}
 use Rattle.memory.proofs.{Keeping.{number_moved, number_stays, own, free_is_no_table, released_role, is_table, not_below, not_last, way_along}, Leaves.{is_page, root_table}, Numbers.{is_number, of_number}}
 

@@ -1,11 +1,6 @@
 -- What the tree of a root says of a page, as the number at the end of the page's way.
-use Rattle.std.proofs.{Common.{◌≡◌, ◌≢◌, ℕ, ◌-◌, ◌<◌, inl, inr, sym, ap, ◌∙◌, subst, arith}, lemmas.Bool.{cases_eq}}
-use Rattle.vm_types.specs.Limits.{top_level, user_end}
-use Rattle.frames.specs.FrameTable.{FrameTable}
-use Rattle.sv39_walk.specs.{Entry.{entry_at}, Walk.{index_of}}
-use Rattle.page_tables.specs.Tree.{IsForest, IsRoot, Way, last_table, missing_of, page_entry}
-use Rattle.page_tables.proofs.{Ways.{ends, last_table-zero}, Ends.{last_from_way, missing_of-is, last_entry-is, page_entry-whole, page_entry-missing}}
-use Rattle.memory.specs.Notes.{IsNumberOf}
+use Rattle.memory.proofs.Names.{◌≡◌, ◌≢◌, ℕ, ◌-◌, ◌<◌, inl, inr, sym, ap, ◌∙◌, subst, arith, cases_eq, top_level, user_end, FrameTable, entry_at, index_of, IsForest, IsRoot, Way, last_table, missing_of, page_entry, ends, last_table-zero}
+use Rattle.memory.{specs.Notes.{IsNumberOf}, proofs.Names.{last_from_way, missing_of-is, last_entry-is, page_entry-whole, page_entry-missing}}
 
 -- the number is what the tree says of the page
 pub is_number : (mode : ℕ) (t : FrameTable) (root page number : ℕ) → IsNumberOf mode t root page number → page_entry t (top_level mode) root page ≡ number
@@ -26,13 +21,12 @@ of_number mode t root page number forest is_root small is some =
     let n : ℕ = (last_table t page (top_level mode) root).1 in
     let level : (last_table t page (top_level mode) root).0 ≡ 0 = sym (missing_of-is t (top_level mode) root page) ∙ whole in
     let end = ends t (top_level mode) root page forest is_root.table in
-    let W : ℕ → Type 0 = λ k. Way t (top_level mode) root page k n in
     let all : top_level mode - (last_table t page (top_level mode) root).0 ≡ top_level mode = omega (arith, level) in
     record {
       lowest = n;
       inside = small;
       unlinked = is_root.unlinked;
-      way = subst W all end.way;
+      way = subst (λ (k : ℕ). Way t (top_level mode) root page k n) all end.way;
       table = end.table;
       here = sym (page_entry-whole t (top_level mode) root page whole ∙ last_entry-is t (top_level mode) root page ∙ ap (λ k. entry_at t n (index_of page k)) level) ∙ is;
       some = some;

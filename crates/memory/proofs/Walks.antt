@@ -1,16 +1,9 @@
 -- The walk reads what the tables say of a page.
-use Rattle.vm_types.specs.{Limits.{user_end, top_level}, declared.number.Phys.{Phys}, declared.access.Access.{Access}}
-use Rattle.std.proofs.{Common.{◌≡◌, ℕ, zero, suc, inl, inr, ◌≢◌, ◌+◌, ◌*◌, ◌-◌, ◌/◌, ◌%◌, ◌^◌, ◌<◌, Bool, true, false, ◌&&◌, ◌||◌, not, if◌then◌else◌, Result, Ok, Err, refl, sym, ap, ◌∙◌, subst, arith}, lemmas.Bool.{cases_eq}}
-use Rattle.std.proofs.lemmas.Bool.Decides.{nat_tests}
-use Rattle.std.specs.Prelude.{nat_lt, nat_le, ◌==◌, IsErr}
-use Rattle.frames.specs.FrameTable.{FrameTable, frame_count}
-use Rattle.sv39_walk.specs.{declared.translation.WalkFault.{WalkFault}, declared.translation.WalkFault.TheVariants.{Invalid, TooDeep, Misaligned, Denied, NotAccessed, NotDirty, Outside, Reserved}}
-use Rattle.sv39_walk.specs.{Entry.{has_bit, entry_at, frame_of, is_pointer, is_valid, is_reserved, is_leaf, is_user, is_accessed, is_dirty, grants}, Walk.{page_of, index_of, leads_on, last_of, frame_in, is_store, answer_of, translated}}
-use Rattle.memory.specs.Lines.{leaf_lets}
-use Rattle.memory.proofs.Looks.{canonical}
-use Rattle.sv39_walk.proofs.Way.{last_of-zero, last_of-stop, last_of-next}
-use Rattle.page_tables.specs.Tree.{IsTable, IsForest, IsRoot, last_table, last_entry, missing_of, page_entry}
-use Rattle.page_tables.proofs.{Ways.{last_table-zero, last_table-next, last_table-stop, cases_bool, next_table}, Ends.{missing_of-is, last_entry-is, page_entry-whole, page_entry-missing}}
+use Rattle.memory.proofs.Names.{user_end, top_level, Phys, Access, ◌≡◌, ℕ, zero, suc, inl, inr, ◌≢◌, ◌+◌, ◌*◌, ◌-◌, ◌/◌, ◌%◌, ◌^◌, ◌<◌, Bool, true, false, ◌&&◌, ◌||◌, not, if◌then◌else◌, Result, Ok, Err, refl, sym, ap, ◌∙◌, subst, arith}
+use Rattle.memory.proofs.Names.{cases_eq, nat_tests, nat_lt, nat_le, ◌==◌, IsErr, FrameTable, frame_count, WalkFault, Invalid, TooDeep, Misaligned, Denied, NotAccessed, NotDirty, Outside, Reserved, has_bit, entry_at, frame_of, is_pointer}
+use Rattle.memory.proofs.Names.{is_valid, is_reserved, is_leaf, is_user, is_accessed, is_dirty, grants, page_of, index_of, leads_on, last_of, frame_in, is_store, answer_of, translated, last_of-zero, last_of-stop, last_of-next, IsTable}
+use Rattle.memory.proofs.Names.{IsForest, IsRoot, last_table, last_entry, missing_of, page_entry, last_table-zero, last_table-next, last_table-stop, cases_bool, next_table, missing_of-is, last_entry-is, page_entry-whole, page_entry-missing}
+use Rattle.memory.{specs.Lines.{leaf_lets}, proofs.Looks.{canonical}}
 
 below_true : (m n : ℕ) → m < n → nat_lt m n ≡ true
 below_true m n h = grind (arith, nat_tests)
@@ -106,9 +99,7 @@ refused count addr access e bad =
 pub missing_fault : (mode : ℕ) (t : FrameTable) (root page addr : ℕ) (access : Access) → IsForest t → IsRoot (top_level mode) t root → page < user_end mode
     → missing_of t (top_level mode) root page ≢ 0 → addr / 4096 ≡ page → IsErr (translated (top_level mode) t root addr access)
 missing_fault mode t root page addr access forest is_root small missing at =
-    let P : ℕ → Type 0 = λ p. p < user_end mode in
-    let E : Result Phys WalkFault → Type 0 = λ r. IsErr r in
-    let is = translated-entry mode t root addr access forest is_root (subst P (sym at) small)
+    let is = translated-entry mode t root addr access forest is_root (subst (λ (p : ℕ). p < user_end mode) (sym at) small)
     ∙ ap (answer_of (frame_count t) addr access 0) (ap (page_entry t (top_level mode) root) at ∙ page_entry-missing t (top_level mode) root page missing)
     ∙ answer-nothing (frame_count t) addr access 0 in
-    subst E (sym is) refl
+    subst (λ (r : Result Phys WalkFault). IsErr r) (sym is) refl

@@ -98,6 +98,7 @@ pub fn set_at<M: Levels>(
 }
 
 /// The same, and a leaf is kept at once, so that the next walk to the page finds its line.
+#[inline(always)]
 pub fn set_kept<M: Levels>(
     memory: &mut Memory<M>,
     root: FrameNo,

@@ -1,8 +1,5 @@
 -- ListsTouched of file pages to which others are appended, each once.
-use Rattle.std.proofs.{Common.{ℕ, ◌≡◌, ◌<◌, ◌≤◌, ◌⊎◌, ⊎_elim, Bool, true, List, [], Result, Ok, Err, refl, sym, ap, ◌∙◌, subst, arith}, lemmas.Bool.{cases_lt}}
-use Rattle.std.specs.{Prelude.{IfOk}, Result.{OnErr}}
-use Rattle.vm_types.specs.{declared.file.FilePage.{FilePage}, declared.object.PageKey.TheVariants.{File}, Attributes.{file_page_eq}}
-use Rattle.page_cache.proofs.NodeLemmas.{same_page as pages_same}
+use Rattle.msync.proofs.Names.{ℕ, ◌≡◌, ◌<◌, ◌≤◌, ◌⊎◌, ⊎_elim, Bool, true, List, [], Result, Ok, Err, refl, sym, ap, ◌∙◌, subst, arith, cases_lt, IfOk, FilePage}
 use Rattle.msync.specs.Choice.{chosen_page, Appends, OverflowsRow, ListsTouched}
 
 -- nothing passes
@@ -77,25 +74,10 @@ listed a x y n f = record {
   all = f.all;
 }
 
--- equal pages
-pub same_page : (a b : FilePage) → file_page_eq a b ≡ true → a ≡ b
-same_page a b e =
-    let same = pages_same (File a) (File b) e in (cc)
-
--- a fact that stands at an error
-pub on_err : {T E P : Type 0} (r : Result T E) → P → OnErr r P
-on_err (Ok x) p = tt
-on_err (Err e) p = p
-
 -- one that follows from two on the value
 pub both_ok : {T E : Type 0} (P Q R : T → Type 0) (r : Result T E) → ((x : T) → P x → Q x → R x) → IfOk r P → IfOk r Q → IfOk r R
 both_ok P Q R (Ok x) f p q = f x p q
 both_ok P Q R (Err e) f p q = tt
-
--- and one that follows from it
-pub map_err : {T E P Q : Type 0} (r : Result T E) → (P → Q) → OnErr r P → OnErr r Q
-map_err (Ok x) f h = tt
-map_err (Err e) f h = f h
 
 -- from an empty list on the old one doesn't matter
 pub over_none : (a : FilePage → Bool) (x : List FilePage) → OverflowsRow a x 0 → OverflowsRow a [] 0

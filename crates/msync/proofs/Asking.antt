@@ -1,13 +1,7 @@
 -- Which sectors are asked for, from one page that is read up to the whole call.
-use Rattle.std.proofs.Common.{◌≡◌, ◌<◌, ◌≤◌, ℕ, List, length, take, sym, ◌∙◌, subst, arith}
-use Rattle.disk_model.specs.{Moments.{AsksOnly}, declared.sector_disk.SectorDisk.{Ghosts}}
-use Rattle.disk_model.proofs.Moments.{asks_wider}
-use Rattle.swap.specs.Slots.{IsSectorOfSlot}
-use Rattle.vm_types.specs.{declared.file.FilePage.{FilePage}, declared.object.PageKey.TheVariants.{File}, declared.number.SlotNo.{SlotNo}}
-use Rattle.residency.specs.Picture.{Picture}
+use Rattle.msync.proofs.Names.{◌≡◌, ◌<◌, ◌≤◌, ℕ, List, length, take, sym, ◌∙◌, subst, arith, AsksOnly, Ghosts, asks_wider, IsSectorOfSlot, FilePage, File, SlotNo, Picture}
 use Rattle.msync.specs.{Asking.{IsSectorOfFilePage, IsSectorListed, IsSectorTaken}, Choice.{Chosen, chosen_of, chosen_page, AreTaken}, Spots.{spot_at, place_at, IsSectorThere, IsSectorOfSpots, HasSpots}}
-use Rattle.msync.specs.{declared.chosen.Residence.{Residence}, declared.chosen.Residence.TheVariants.{Framed, Slotted}, declared.chosen.Ruling.TheVariants.{Takes}, declared.chosen.Spot.{Spot}}
-use Rattle.msync.proofs.Committing.{front_length, front_same}
+use Rattle.msync.{specs.{declared.chosen.Residence.{Residence}, declared.chosen.Residence.TheVariants.{Framed, Slotted}, declared.chosen.Ruling.TheVariants.{Takes}, declared.chosen.Spot.{Spot}}, proofs.Committing.{front_length, front_same}}
 
 -- where a page lies there, and there is a slot, it lies in that one
 slot_there : {mode : ℕ} (c : Picture mode) (page : FilePage) (at : Residence) (k : ℕ) → c.place (File page) ≡ place_at at → IsSectorThere at k → IsSectorOfFilePage c page k
@@ -21,8 +15,7 @@ listed_sector c chosen list k fit spots is =
     let i = is.0 in
     let below : i < length (take chosen.count chosen.list) = (let less = is.1 in omega (arith, less, spots.count)) in
     let front : i < chosen.count = omega (arith, below, front_length chosen fit) in
-    let P : FilePage → Type 0 = λ p. IsSectorOfFilePage c p k in
-    (i, front, subst P (spots.same i below ∙ front_same chosen i front) (slot_there c (spot_at list i).page (spot_at list i).at k (spots.spots i below).placed is.2))
+    (i, front, subst (λ (p : FilePage). IsSectorOfFilePage c p k) (spots.same i below ∙ front_same chosen i front) (slot_there c (spot_at list i).page (spot_at list i).at k (spots.spots i below).placed is.2))
 
 module _ {E : Type 0} (h : Ghosts E) where
   -- one page was read

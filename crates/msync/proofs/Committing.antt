@@ -1,26 +1,16 @@
 -- A commit of the touched pages of a row, as the flat model sees it.
 use Rattle.vm_types.specs.declared.mode.Levels as Levels
-use Rattle.std.proofs.Common.{ℕ, inl, inr, ◌⊎◌, ◌-◌, ◌*◌, ◌≡◌, ◌≢◌, ◌<◌, ◌≤◌, ◌&&◌, ◌++◌, not, true, false, min, List, length, take, replicate, slice_get, Option, Some, None, Result, Err, refl, sym, ap, ◌∙◌, subst, arith, rules, get_or-take}
-use Rattle.std.proofs.{lemmas.Bool.{cases_Bool}, lemmas.List.{length-take-le}, lemmas.Option.{get_or_from_slice_get, slice_get-get_or, slice_get_within}, Math.Bool.{and-true, and-false}}
-use Rattle.std.specs.{Option.{option_map}, Prelude.{is_some, IsErrOf}}
-use Rattle.sv39_walk.specs.Entry.{frame_of}
-use Rattle.disk_model.specs.{Moments.{LeavesNow, LeavesOnly}, declared.sector_disk.SectorDisk.{Ghosts}}
-use Rattle.file_store.specs.{declared.directory.Directory.{Directory}, declared.store.FileStore.{FileStore}, Commit.{ArePages, Changes, StandsForEither, cut_page}, Standing.{StandsFor, IsPageOf}, Store.{entry_of}}
+use Rattle.msync.proofs.Names.{ℕ, inl, inr, ◌⊎◌, ◌-◌, ◌*◌, ◌≡◌, ◌≢◌, ◌<◌, ◌≤◌, ◌&&◌, ◌++◌, not, true, false, min, List, length, take, replicate, slice_get, Option, Some, None, Result, Err, refl, sym, ap, ◌∙◌, subst, arith, rules}
+use Rattle.msync.proofs.Names.{get_or-take, cases_Bool, length-take-le, get_or_from_slice_get, slice_get-get_or, slice_get_within, and-true, and-false, option_map, is_some, IsErrOf, frame_of, LeavesNow, LeavesOnly, Ghosts, Directory}
+use Rattle.msync.proofs.Names.{FileStore, ArePages, Changes, StandsForEither, cut_page, StandsFor, IsPageOf, entry_of, HasCauses, CommitFault, Source, Device, Private, Cache, FrameTable, SlotTable, Home, Frame, Slot, Msync, MsyncMode}
+use Rattle.msync.proofs.Names.{FileInfo, FilePage, ObjectPage, PageKey, File, Object, SlotNo, EIO, SwapDevice, Reply, Done, Refused, Files, inside_of, cut, trimmed, touched_in, committed, synced, State, msync_outcome, commit_of, commits}
+use Rattle.msync.proofs.Names.{Pages, Core, InFrame, Picture, picture_of, entry, held, is_private, IsFit, ShowsPages}
+use Rattle.vm_types.specs.declared.reply.Reply.TheVariants.{Stalled}
 use Rattle.file_store.specs.Layout.{padded_page as store_trimmed}
-use Rattle.sync_journal.specs.{Source.{HasCauses}, declared.faults.CommitFault.{CommitFault}, declared.faults.CommitFault.TheVariants.{Source, Device}}
-use Rattle.frames.specs.{declared.role.Role.TheVariants.{Private, Cache}, FrameTable.{FrameTable}}
-use Rattle.swap.specs.Slots.{SlotTable}
-use Rattle.page_cache.specs.declared.place.Place.TheVariants.{Home, Frame, Slot}
-use Rattle.vm_types.specs.{declared.command.Command.TheVariants.{Msync}, declared.command.MsyncMode.{MsyncMode}, declared.file.FileInfo.{FileInfo}, declared.file.FilePage.{FilePage}, declared.object.ObjectPage.{ObjectPage}}
-use Rattle.vm_types.specs.{declared.object.PageKey.{PageKey}, declared.object.PageKey.TheVariants.{File, Object}, declared.number.SlotNo.{SlotNo}, declared.refusal.Errno.TheVariants.{EIO}, declared.refusal.Stall.TheVariants.{SwapDevice}}
-use Rattle.vm_types.specs.{declared.reply.Reply.{Reply}, declared.reply.Reply.TheVariants.{Done, Refused, Stalled}, Files.{Files, inside_of, cut, trimmed}, Msync.{touched_in, committed, synced}, State.{State}}
-use Rattle.vm_types.specs.{Step.{msync_outcome, commit_of, commits}, View.{Pages}}
 use Rattle.vm_types.specs.Msync as Flat
-use Rattle.residency.specs.{declared.kernel.Core.{Core}, Seats.{InFrame}, Picture.{Picture, picture_of, entry, held, is_private}, Parts.{IsFit}, Shows.{ShowsPages}}
 use Rattle.msync.specs.{Choice.{Chosen, chosen_page, first_page, ListsTouched, TakesSame, IsListedPage, IsAway}, declared.chosen.Residence.{Residence}, declared.chosen.Residence.TheVariants.{Framed, Slotted}, declared.chosen.Spot.{Spot}}
 use Rattle.msync.specs.{Core.{KeepsMemory, IsEnd, Acknowledged, Failed, Unread, Commits}, Spots.{spot_at, place_at, bytes_there, IsSlotted, HasSlot, AreSpots, HasSpots}}
-use Rattle.msync.specs.{Settling.{settled_place, settled_in, Settles, LosesDirtyOnly, ComesHome, SettlesMemory, SettlesPlaces}, Shows.{IsSoundCore, CoreShows}}
-use Rattle.msync.proofs.SettledPages.{one_file, held_spot, cases_listed}
+use Rattle.msync.{specs.{Settling.{settled_place, settled_in, Settles, LosesDirtyOnly, ComesHome, SettlesMemory, SettlesPlaces}, Shows.{IsSoundCore, CoreShows}}, proofs.SettledPages.{one_file, held_spot, cases_listed}}
 
 -- what stands at a place of a list
 some_get : (xs : List FilePage) (i : ℕ) (p : FilePage) → slice_get xs i ≡ Some p → (i < length xs) × (p ≡ chosen_page xs i)
@@ -60,19 +50,17 @@ are_pages c chosen fit listed =
           let touched = ap (λ q. c.touched (File q)) r.1 ∙ front_touched c chosen listed i r.0 in
           fit.places.inside (File p) (fit.dirty.held (File p) touched);
       distinct = λ i j p less at_i at_j.
-          let a = some_get front i p at_i in
           let b = some_get front j p at_j in
-          front_once c chosen listed i j less b.0 (sym a.1 ∙ b.1);
+          front_once c chosen listed i j less b.0 (sym (some_get front i p at_i).1 ∙ b.1);
     }
 
 -- they lie in their spots, each once
 pub are_spots : {mode : ℕ} (c : Picture mode) (chosen : Chosen) (list : List Spot) → IsListedPage c chosen → HasSpots c (take chosen.count chosen.list) list → AreSpots c list
 are_spots c chosen list listed spots =
-    let front = take chosen.count chosen.list in
     record {
       each = λ i less. spots.spots i (omega (arith, spots.count));
       once = λ i j less high e.
-          let below : j < length front = omega (arith, spots.count) in
+          let below : j < length (take chosen.count chosen.list) = omega (arith, spots.count) in
           front_once c chosen listed i j less below (sym (spots.same i (omega arith)) ∙ e ∙ spots.same j below);
     }
 
@@ -131,8 +119,7 @@ module _ {mode : ℕ} (c : Picture mode) (s : State) (pid first count : ℕ) (pa
   file_at : (i : ℕ) → i < length pages → IsPageOf c.files (chosen_page pages i).file (chosen_page pages i).page
   file_at i less =
       let x = spot_at list i in
-      let P : FilePage → Type 0 = λ p. IsPageOf c.files p.file p.page in
-      subst P (spots.same i less) (fit.places.inside (File x.page) (λ home. no_home x.at (sym home ∙ (spots.spots i less).placed)))
+      subst (λ (p : FilePage). IsPageOf c.files p.file p.page) (spots.same i less) (fit.places.inside (File x.page) (λ home. no_home x.at (sym home ∙ (spots.spots i less).placed)))
 
   cut_at : (i : ℕ) → i < length pages
       → trimmed s.files (chosen_page pages i).file (chosen_page pages i).page (s.volatile (chosen_page pages i).file (chosen_page pages i).page)
@@ -142,8 +129,7 @@ module _ {mode : ℕ} (c : Picture mode) (s : State) (pid first count : ℕ) (pa
       let w = bytes_there c.frames c.slots (spot_at list i).at in
       let at = file_at i less in
       let file : s.files p.file ≡ Some at.0 = shows.files p.file ∙ at.1 in
-      let P : Option FileInfo → Type 0 = λ o. cut (inside_of o p.page) w ≡ cut_page o p.page w in
-      ap (trimmed s.files p.file p.page) (bytes_at i less) ∙ subst P (sym file) (same_cut at.0 p.page w (spots.whole i less))
+      ap (trimmed s.files p.file p.page) (bytes_at i less) ∙ subst (λ (o : Option FileInfo). cut (inside_of o p.page) w ≡ cut_page o p.page w) (sym file) (same_cut at.0 p.page w (spots.whole i less))
 
   -- what the store makes of the durable pages is what the flat model does
   pub changes : (before : Pages) → Changes s.files pages (λ i. bytes_there c.frames c.slots (spot_at list i).at) before (committed s pid first count before)
@@ -165,8 +151,7 @@ module _ {mode : ℕ} (c : Picture mode) (s : State) (pid first count : ℕ) (pa
   not_listed : (p : FilePage) → touched_in s pid first count p.file p.page ≡ false → (i : ℕ) → i < length list → File (spot_at list i).page ≢ File p
   not_listed p left i less same =
       let below : i < length pages = omega (arith, spots.count) in
-      let P : FilePage → Type 0 = λ q. touched_in s pid first count q.file q.page ≡ true in
-      let bad : true ≡ false = sym (subst P (sym (spots.same i below) ∙ one_file (spot_at list i).page p same) (lists.each i below)) ∙ left in (cc)
+      let bad : true ≡ false = sym (subst (λ (q : FilePage). touched_in s pid first count q.file q.page ≡ true) (sym (spots.same i below) ∙ one_file (spot_at list i).page p same) (lists.each i below)) ∙ left in (cc)
 
   -- one that is taken has its place in the list
   listed_place : (p : FilePage) → touched_in s pid first count p.file p.page ≡ true → (i : ℕ) × (i < length list) × ((spot_at list i).page ≡ p)
@@ -182,8 +167,7 @@ module _ {mode : ℕ} (c : Picture mode) (s : State) (pid first count : ℕ) (pa
           let clean : new.touched (File p) ≡ false = ap (λ q. new.touched (File q)) (sym r.2) ∙ settles.cleaned r.0 r.1 in
           rw taken (and-false (s.touched p.file p.page) ∙ sym clean))
       | inr left ↦ (
-          let same : new.touched (File p) ≡ c.touched (File p) = settles.untouched (File p) (not_listed p left) in
-          rw left (and-true (s.touched p.file p.page) ∙ shows.touched p ∙ sym same))
+          rw left (and-true (s.touched p.file p.page) ∙ shows.touched p ∙ sym (settles.untouched (File p) (not_listed p left))))
     ]
 
     held_now : (p : FilePage) (bytes : List ℕ) → held new (File p) ≡ Some bytes → committed s pid first count s.volatile p.file p.page ≡ bytes
@@ -195,12 +179,10 @@ module _ {mode : ℕ} (c : Picture mode) (s : State) (pid first count : ℕ) (pa
           let is : settled_in c.files c.frames x.page x.at ≡ Some bytes = sym (settles.settled r.0 r.1) ∙ ap (λ q. held new (File q)) r.2 ∙ here in
           let cut_is = from_settled c.files c.frames c.slots x.page x.at bytes is in
           let P : FilePage → Type 0 = λ q. s.volatile q.file q.page ≡ bytes_there c.frames c.slots x.at in
-          let Q : FilePage → Type 0 = λ q. trimmed c.files q.file q.page (bytes_there c.frames c.slots x.at) ≡ bytes in
-          let volatile : s.volatile p.file p.page ≡ bytes_there c.frames c.slots x.at = subst P (sym (spots.same r.0 below) ∙ r.2) (bytes_at r.0 below) in
           taken_page s pid first count p.file p.page s.volatile taken
-          ∙ ap (trimmed s.files p.file p.page) volatile
+          ∙ ap (trimmed s.files p.file p.page) (subst P (sym (spots.same r.0 below) ∙ r.2) (bytes_at r.0 below))
           ∙ ap (λ (o : Option FileInfo). cut (inside_of o p.page) (bytes_there c.frames c.slots x.at)) (shows.files p.file)
-          ∙ subst Q r.2 cut_is)
+          ∙ subst (λ (q : FilePage). trimmed c.files q.file q.page (bytes_there c.frames c.slots x.at) ≡ bytes) r.2 cut_is)
       | inr left ↦ left_page s pid first count p.file p.page s.volatile left ∙ shows.held p bytes (sym (settles.kept (File p) (not_listed p left)) ∙ here)
     ]
 
@@ -330,9 +312,7 @@ module _ {mode : ℕ} where
 -- what holds of memory holds of it with the same slots and files
 pub store_same : {mode : ℕ} (P : Picture mode → Type 0) (c : Picture mode) (t t' : SlotTable) (d d' : Directory) → t' ≡ t → d' ≡ d → P (with_store c t d) → P (with_store c t' d')
 store_same P c t t' d d' slots files p =
-    let Q : SlotTable → Type 0 = λ x. P (with_store c x d) in
-    let R : Directory → Type 0 = λ x. P (with_store c t' x) in
-    subst R (sym files) (subst Q (sym slots) p)
+    subst (λ (x : Directory). P (with_store c t' x)) (sym files) (subst (λ (x : SlotTable). P (with_store c x d)) (sym slots) p)
 
 module _ {D : Type 0} (g : Ghosts D) where
   -- what the store's commit says of these contents, as long as its source kept its model
@@ -369,8 +349,7 @@ module _ {M : Type 0} {m : Levels.Ghosts M} {D E : Type 0} (g : Ghosts D) (h : G
           pages = pages;
           stands = λ k c may. subst (λ (x : ℕ). StandsFor x s.files t.durable c) (sym store.size) (ok k m (shows.stands (store.kept k)) c may);
         } in
-        let P : State → Type 0 = λ x. model → CoreShows g new x in
-        commit_ended Done (Acknowledged refl (subst (λ (x : State). ShowsPages (picture_of new) x) t_is pages) (subst P t_is now) sound)
+        commit_ended Done (Acknowledged refl (subst (λ (x : State). ShowsPages (picture_of new) x) t_is pages) (subst (λ (x : State). model → CoreShows g new x) t_is now) sound)
 
     pub commit_failed : KeepsMemory old new → g.failures old.store.disk < g.failures new.store.disk → Commits g h model old new s after (Msync pid addr len mode) (Refused EIO)
     commit_failed memory grew = commit_ended (Refused EIO) (Failed refl grew memory)

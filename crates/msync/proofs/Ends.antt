@@ -1,11 +1,8 @@
 -- How the ends of a commit are those of an msync.
 use Rattle.vm_types.specs.declared.mode.Levels as Levels
-use Rattle.std.proofs.Common.{◌≡◌, ◌⊎◌, inl, inr, rules}
-use Rattle.vm_types.specs.{declared.refusal.Errno.TheVariants.{EIO}, declared.refusal.Stall.{Stall}, declared.reply.Answer.{Answer}, declared.reply.Answer.TheVariants.{Refused, Stalled}}
-use Rattle.disk_model.specs.declared.sector_disk.SectorDisk.{Ghosts}
-use Rattle.residency.specs.{declared.kernel.Core.{Core}, Picture.{picture_of}}
-use Rattle.msync.specs.{SyncEnds.{EndsCommit}, Shows.{IsSoundCore}}
-use Rattle.msync.proofs.SettledPages.{settles_nothing}
+use Rattle.msync.proofs.Names.{◌≡◌, ◌⊎◌, inl, inr, rules, EIO, Stall, Answer, Stalled, Ghosts, Core, picture_of}
+use Rattle.vm_types.specs.declared.reply.Answer.TheVariants.{Refused}
+use Rattle.msync.{specs.{SyncEnds.{EndsCommit}, Shows.{IsSoundCore}}, proofs.SettledPages.{settles_nothing}}
 
 either : (few many A : Type 0) → (few → many) → A ⊎ few → A ⊎ many
 either few many A more (inl a) = inl a

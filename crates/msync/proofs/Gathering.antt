@@ -1,7 +1,6 @@
 -- What is gathered from the cache, as it is appended.
-use Rattle.std.proofs.{Common.{ℕ, ◌+◌, ◌≡◌, ◌<◌, ◌≤◌, ◌==◌, ◌&&◌, ⊎_elim, true, false, leb, ltb, if◌then◌else◌, List, refl, sym, ap, ◌∙◌, arith}, lemmas.Bool.{cases_lt, and_parts, and_from}, lemmas.Bool.Decides.{nat_tests}}
-use Rattle.vm_types.specs.{Limits.{file_page_limit}, declared.file.FilePage.{FilePage}, declared.object.PageKey.TheVariants.{File}, declared.region.Backing.TheVariants.{Shared}}
-use Rattle.page_cache.specs.{CacheTable.{CacheTable, is_touched}, Gathering.{IsTouchedIn, Gathers, HasAll}}
+use Rattle.msync.proofs.Names.{ℕ, ◌+◌, ◌≡◌, ◌<◌, ◌≤◌, ◌==◌, ◌&&◌, ⊎_elim, true, false, leb, ltb, if◌then◌else◌, List, refl, sym, ap, ◌∙◌, arith, cases_lt, and_parts, and_from, nat_tests, file_page_limit, FilePage, File, Shared, CacheTable}
+use Rattle.msync.proofs.Names.{is_touched, IsTouchedIn, Gathers, HasAll}
 use Rattle.page_cache.specs.Gathering as Cache
 use Rattle.msync.specs.Choice.{of_files, chosen_page, in_file_row, is_taken_behind, AreInFiles, Appends, OverflowsRow}
 

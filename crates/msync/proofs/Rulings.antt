@@ -1,14 +1,8 @@
 -- How an msync is judged, as the flat model sees it.
-use Rattle.std.proofs.{Common.{ℕ, zero, suc, ◌+◌, ◌/◌, ◌%◌, ◌≡◌, ◌≢◌, ◌<◌, ◌^◌, ◌==◌, ◌&&◌, not, Bool, true, false, nat_lt, List, [], ◌∷◌, length, Option, Some, None, refl, sym, ap, ◌∙◌, arith}, lemmas.Bool.{and_parts}}
-use Rattle.std.proofs.lemmas.Bool.Decides.{nat_tests}
-use Rattle.std.specs.Option.{option_map}
-use Rattle.vm_types.specs.{declared.command.MsyncMode.{MsyncMode}, declared.command.MsyncMode.TheVariants.{Sync}, declared.file.FileInfo.{FileInfo}, declared.file.FilePage.{FilePage}, declared.object.PageKey.TheVariants.{File}}
-use Rattle.vm_types.specs.{declared.refusal.Errno.TheVariants.{ENOMEM}, declared.region.Attr.{Attr}, Checks.{first_of, page_count, pages_from}, Counting.{any_below}}
-use Rattle.vm_types.specs.{Msync.{shares, touched_in, touched_count, msync_ruling, row_ruling, or_else}, Rows.{is_covered}, State.{State}, View.{View, attrs_of}}
+use Rattle.msync.proofs.Names.{ℕ, zero, suc, ◌+◌, ◌/◌, ◌%◌, ◌≡◌, ◌≢◌, ◌<◌, ◌^◌, ◌==◌, ◌&&◌, not, Bool, true, false, nat_lt, List, [], ◌∷◌, length, Option, Some, None, refl, sym, ap, ◌∙◌, arith, and_parts, nat_tests, option_map, MsyncMode}
+use Rattle.msync.proofs.Names.{Sync, FileInfo, FilePage, File, ENOMEM, Attr, first_of, page_count, pages_from, any_below, shares, touched_in, touched_count, msync_ruling, row_ruling, or_else, is_covered, State, View, attrs_of, Directory}
+use Rattle.msync.proofs.Names.{Entry, entry_of, Picture, entry, is_live, own_in, view_of, view, IsFit, ShowsPages, any-same}
 use Rattle.vm_types.specs.Msync as Flat
-use Rattle.file_store.specs.{declared.directory.Directory.{Directory}, declared.directory.Entry.{Entry}, Store.{entry_of}}
-use Rattle.residency.specs.{Picture.{Picture, entry, is_live, own_in, view_of, view}, Parts.{IsFit}, Shows.{ShowsPages}}
-use Rattle.residency.proofs.Counts.{any-same}
 use Rattle.msync.specs.{declared.chosen.Ruling.{Ruling}, declared.chosen.Ruling.TheVariants.{Refuses, Passes, Takes}}
 use Rattle.msync.specs.Choice.{of_files, chosen_page, shares_page, is_shared_in, is_chosen, OverflowsRow, ListsTouched, IsRulingOn, RulesSame, AreListed, AreTaken}
 use Rattle.msync.proofs.{Appending.{lists_same}, Totals.{total, IsWithin, at_least, exactly}}
@@ -97,11 +91,10 @@ module _ (touched : FilePage → Bool) (map : ℕ → Option Attr) (s : State) (
       ≡ or_else (first_of ((not (is_covered (attrs_of (s.views pid)) (addr / 4096) (page_count len)), ENOMEM) ∷ []))
       (row_ruling s pid (addr / 4096) (page_count len) mode)
   ruling_after addr len mode aligned some =
-      let live = p.live in
       let a : (addr % 4096 == 0) ≡ true = grind (arith, nat_tests) in
       let n : (len == 0) ≡ false = grind (arith, nat_tests) in
       let count : pages_from addr len ≡ page_count len = omega arith in
-      rw (live, a, n, count) refl
+      rw (p.live, a, n, count) refl
 
   pub ruled_missing : (addr len : ℕ) (mode : MsyncMode) → addr % 4096 ≡ 0 → len ≢ 0
       → is_covered map (addr / 4096) (page_count len) ≡ false → msync_ruling s pid addr len mode ≡ Flat.Refuses ENOMEM
@@ -120,16 +113,14 @@ module _ (touched : FilePage → Bool) (map : ℕ → Option Attr) (s : State) (
       let many : nat_lt 1023 (touched_count s pid (addr / 4096) (page_count len)) ≡ true = grind (arith, nat_tests, n) in
       ruled_row addr len Sync aligned some covered ∙ rw many (ap Flat.Refuses (sym choice.0))
   ruled_sync addr len list Passes within aligned some covered choice =
-      let n = count_of (addr / 4096) (page_count len) [] 0 within choice in
-      ruled_row addr len Sync aligned some covered ∙ rw n refl
+      ruled_row addr len Sync aligned some covered ∙ rw (count_of (addr / 4096) (page_count len) [] 0 within choice) refl
   ruled_sync addr len list (Takes taken) within aligned some covered choice =
-      let n = count_of (addr / 4096) (page_count len) list taken within choice.2 in
       let few : nat_lt 1023 taken ≡ false = (let small = choice.1 in grind (arith, nat_tests)) in
       let any : (taken == 0) ≡ false = (let some_chosen = choice.0 in grind (arith, nat_tests)) in
       record {
         first = addr / 4096;
         count = page_count len;
-        ruling = ruled_row addr len Sync aligned some covered ∙ rw n (rw few (rw any refl));
+        ruling = ruled_row addr len Sync aligned some covered ∙ rw (count_of (addr / 4096) (page_count len) list taken within choice.2) (rw few (rw any refl));
         lists = same_lists (addr / 4096) (page_count len) list taken choice.2;
       }
 
@@ -171,6 +162,5 @@ touched_within c d fit files = record {
   page = λ p e. (
       let at = fit.places.inside (File p) (fit.dirty.held (File p) e) in
       let small = (in_file d p.file (entry_of d p.file) at.0 refl (sym (files p.file) ∙ at.1)).1 in
-      let inside = at.2 in
-      omega (arith, small, inside));
+      omega (arith, small, at.2));
 }

@@ -1,13 +1,7 @@
 -- A file page in a frame is settled: its tail is cut, no leaf over it has D, and it is touched no more.
-use Rattle.std.proofs.Common.{◌≡◌, ◌≢◌, ℕ, inl, inr, ◌&&◌, true, List, Some, sym, ap, ◌∙◌, subst}
-use Rattle.vm_types.specs.{declared.file.FilePage.{FilePage}, declared.object.PageKey.{PageKey}, declared.object.PageKey.TheVariants.{File}, Files.{trimmed}}
-use Rattle.frames.specs.{declared.role.Role.{Role}, declared.role.Role.TheVariants.{Table, Private, Cache}, FrameTable.{frame_count, role_of, bytes_of, IsFrame, with_bytes}}
-use Rattle.frames.proofs.FrameLemmas.{with_bytes-others, with_bytes-same}
-use Rattle.sv39_walk.specs.Entry.{is_valid, is_dirty, frame_of}
-use Rattle.page_cache.specs.declared.place.Place.TheVariants.{Home, Frame}
-use Rattle.residency.specs.{declared.leaves.Change.TheVariants.{ClearDirty}, Seats.{Seat, InFrame, InSlot, seat}, Picture.{Picture, entry, view, held, bytes_at, bytes_in, IsOwned}, Parts.{IsFit, nowhere}, Leaves.{IsChanged, ChangesLeaves}}
-use Rattle.residency.specs.Steps.{SameBeside}
-use Rattle.residency.proofs.{Bits.{leaf_dirty}, Setting.{fit_written, entries_written, bytes_else, view_seated, each_view, held_same}, Cleaning.{Untouches, entries_untouched, views_untouched, held_untouched}}
+use Rattle.msync.proofs.Names.{◌≡◌, ◌≢◌, ℕ, inl, inr, ◌&&◌, true, List, Some, sym, ap, ◌∙◌, subst, FilePage, PageKey, File, trimmed, Role, Table, Private, Cache, frame_count, role_of, bytes_of, IsFrame, with_bytes, with_bytes-others}
+use Rattle.msync.proofs.Names.{with_bytes-same, is_valid, is_dirty, frame_of, Home, Frame, ClearDirty, Seat, InFrame, InSlot, seat, Picture, entry, view, held, bytes_at, bytes_in, IsOwned, IsFit, nowhere, IsChanged, ChangesLeaves}
+use Rattle.msync.proofs.Names.{SameBeside, leaf_dirty, fit_written, entries_written, bytes_else, view_seated, each_view, held_same, Untouches, entries_untouched, views_untouched, held_untouched}
 use Rattle.msync.specs.{Spots.{framed_at}, Settling.{ClearsLeaf, SettlesOne}}
 
 pub held_framed : {mode : ℕ} (c : Picture mode) (p : PageKey) (n : ℕ) → c.place p ≡ Frame (record { 0 = n }) → held c p ≡ Some (bytes_of c.frames n)

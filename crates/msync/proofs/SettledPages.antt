@@ -1,14 +1,8 @@
 -- Pages are settled one after the other.
 use Rattle.vm_types.specs.declared.mode.Levels as Levels
-use Rattle.std.proofs.{Common.{◌≡◌, ◌≢◌, ℕ, zero, suc, inl, inr, ◌⊎◌, ◌+◌, ◌-◌, ◌<◌, false, List, length, Some, refl, sym, ap, ◌∙◌, subst, arith}, lemmas.Bool.{cases_eq, false≢true}, lemmas.Option.{same_Some}}
-use Rattle.vm_types.specs.{declared.file.FilePage.{FilePage}, declared.object.PageKey.{PageKey}, declared.object.PageKey.TheVariants.{File}, Files.{inside_of, cut, trimmed}}
-use Rattle.frames.specs.FrameTable.{frame_count, bytes_of}
-use Rattle.swap.specs.{declared.slots.Swap.{Swap}, Slots.{slots_of, IsReady}, Written.{IsAsWritten}}
+use Rattle.msync.proofs.Names.{◌≡◌, ◌≢◌, ℕ, zero, suc, inl, inr, ◌⊎◌, ◌+◌, ◌-◌, ◌<◌, false, List, length, Some, refl, sym, ap, ◌∙◌, subst, arith, rules, below_more, cases_eq, false≢true, same_Some, FilePage, PageKey, File, inside_of, cut}
+use Rattle.msync.proofs.Names.{trimmed, frame_count, bytes_of, Swap, slots_of, IsReady, IsAsWritten, Ghosts, is_dirty, Core, Picture, entry, held, bytes_at, IsFit, HasPlaces, bit_seven, seven_clear, cases_page}
 use Rattle.swap.specs.declared.pages.Pages.{Pages as Swap_pages}
-use Rattle.disk_model.specs.declared.sector_disk.SectorDisk.{Ghosts}
-use Rattle.sv39_walk.specs.Entry.{is_dirty}
-use Rattle.residency.specs.{declared.kernel.Core.{Core}, Picture.{Picture, entry, held, bytes_at}, Parts.{IsFit, HasPlaces}}
-use Rattle.residency.proofs.{Bits.{bit_seven, seven_clear}, Places.{cases_page}}
 use Rattle.msync.specs.{declared.chosen.Residence.{Residence}, declared.chosen.Residence.TheVariants.{Framed, Slotted}, declared.chosen.Spot.{Spot}, Spots.{spot_at, place_at, bytes_there, IsThere, IsSpot, AreSpots}}
 use Rattle.msync.specs.Settling.{KeepsBesidePages, LosesDirty, ClearsLeaf, IsFrameIn, settled_place, settled_in, settled_bytes, SettlesOne, Settles, SettlesMemory}
 
@@ -57,9 +51,8 @@ settled_same : {mode : ℕ} (a b : Picture mode) (p : FilePage) (at : Residence)
     → settled_in b.files b.frames p at ≡ settled_in a.files a.frames p at
 settled_same a b p (Slotted k) files was now same = refl
 settled_same a b p (Framed n) files was now same =
-    let bytes : bytes_of b.frames n.0 ≡ bytes_of a.frames n.0 = same_Some _ _ (sym (held_spot b (File p) (Framed n) now) ∙ same ∙ held_spot a (File p) (Framed n) was) in
     ap (λ info. Some (cut (inside_of info p.page) (bytes_of b.frames n.0))) (files p.file)
-    ∙ ap (λ (w : List ℕ). Some (trimmed a.files p.file p.page w)) bytes
+    ∙ ap (λ (w : List ℕ). Some (trimmed a.files p.file p.page w)) (same_Some _ _ (sym (held_spot b (File p) (Framed n) now) ∙ same ∙ held_spot a (File p) (Framed n) was))
 
 still_there : {mode : ℕ} (a b : Picture mode) (p : PageKey) (at : Residence) → HasPlaces b → frame_count b.frames ≡ frame_count a.frames → b.place p ≡ place_at at → IsThere a.frames a.slots at → IsThere b.frames b.slots at
 still_there a b p (Framed n) places frames now there = omega (arith, frames, there)
@@ -85,34 +78,6 @@ module _ {mode : ℕ} (a b : Picture mode) (list : List Spot) (i : ℕ) (spots :
     earlier : (p : PageKey) → ((j : ℕ) → j < i + 1 → File (spot_at list j).page ≢ p) → (j : ℕ) → j < i → File (spot_at list j).page ≢ p
     earlier p none j below = none j (omega arith)
 
-    cases_last : (j : ℕ) → j < i + 1 → (j < i) ⊎ (j ≡ i)
-    cases_last j below = elim (cases_eq j i) [
-      | inl e ↦ inr e
-      | inr ne ↦ inl (omega arith)
-    ]
-
-    placed : (j : ℕ) → j < i + 1 → c.place (File (spot_at list j).page) ≡ settled_place (spot_at list j).at
-    placed j below = elim (cases_last j below) [
-      | inl low ↦ one.elsewhere (File (spot_at list j).page) (apart j low) ∙ settles.placed j low
-      | inr e ↦ (let P : ℕ → Type 0 = λ k. c.place (File (spot_at list k).page) ≡ settled_place (spot_at list k).at in subst P (sym e) one.placed)
-    ]
-
-    cleaned : (j : ℕ) → j < i + 1 → c.touched (File (spot_at list j).page) ≡ false
-    cleaned j below = elim (cases_last j below) [
-      | inl low ↦ one.untouched (File (spot_at list j).page) (apart j low) ∙ settles.cleaned j low
-      | inr e ↦ (let P : ℕ → Type 0 = λ k. c.touched (File (spot_at list k).page) ≡ false in subst P (sym e) one.cleaned)
-    ]
-
-    settled : (j : ℕ) → j < i + 1 → held c (File (spot_at list j).page) ≡ settled_bytes a (spot_at list j)
-    settled j below = elim (cases_last j below) [
-      | inl low ↦ one.kept (File (spot_at list j).page) (apart j low) ∙ settles.settled j low
-      | inr e ↦ (
-          let x = spot_at list i in
-          let P : ℕ → Type 0 = λ k. held c (File (spot_at list k).page) ≡ settled_bytes a (spot_at list k) in
-          subst P (sym e)
-          (one.settled ∙ settled_same a b x.page x.at settles.files (spots.each i less).placed (spot_left fit).placed (settles.kept (File x.page) apart)))
-    ]
-
     pub settles_more : Settles a c list (i + 1)
     settles_more = record {
       frames = one.frames ∙ settles.frames;
@@ -123,21 +88,25 @@ module _ {mode : ℕ} (a b : Picture mode) (list : List Spot) (i : ℕ) (spots :
       entries = λ q p h. elim (one.entries q p h) [
         | inl same ↦ elim (settles.entries q p h) [
           | inl was ↦ inl (same ∙ was)
-          | inr lost ↦ inr (let P : ℕ → Type 0 = λ e. ClearsLeaf (IsFrameIn list) (entry a q p) e in subst P (sym same) lost)
+          | inr lost ↦ inr (subst (λ (e : ℕ). ClearsLeaf (IsFrameIn list) (entry a q p) e) (sym same) lost)
         ]
         | inr lost ↦ elim (settles.entries q p h) [
           | inl was ↦ inr (
-              let P : ℕ → Type 0 = λ e. ClearsLeaf (IsFrameIn list) e (entry c q p) in
-              subst P was (record { leaf = lost.leaf; frame = (i, less, lost.frame); loses = lost.loses }))
+              subst (λ (e : ℕ). ClearsLeaf (IsFrameIn list) e (entry c q p)) was (record { leaf = lost.leaf; frame = (i, less, lost.frame); loses = lost.loses }))
           | inr before ↦ absurd (false≢true (sym (lost_clean (entry a q p) (entry b q p) before.loses) ∙ lost.loses.had))
         ]
       ];
       files = λ f. one.files f ∙ settles.files f;
-      placed = placed;
+      placed = below_more (λ j. c.place (File (spot_at list j).page) ≡ settled_place (spot_at list j).at) i
+          (λ j low. one.elsewhere (File (spot_at list j).page) (apart j low) ∙ settles.placed j low) one.placed;
       elsewhere = λ p none. one.elsewhere p (other p none) ∙ settles.elsewhere p (earlier p none);
-      cleaned = cleaned;
+      cleaned = below_more (λ j. c.touched (File (spot_at list j).page) ≡ false) i
+          (λ j low. one.untouched (File (spot_at list j).page) (apart j low) ∙ settles.cleaned j low) one.cleaned;
       untouched = λ p none. one.untouched p (other p none) ∙ settles.untouched p (earlier p none);
-      settled = settled;
+      settled = (
+          let x = spot_at list i in
+          below_more (λ j. held c (File (spot_at list j).page) ≡ settled_bytes a (spot_at list j)) i (λ j low. one.kept (File (spot_at list j).page) (apart j low) ∙ settles.settled j low)
+          (one.settled ∙ settled_same a b x.page x.at settles.files (spots.each i less).placed (spot_left fit).placed (settles.kept (File x.page) apart)));
       kept = λ p none. one.kept p (other p none) ∙ settles.kept p (earlier p none);
     }
 
@@ -160,22 +129,13 @@ module _ {M : Type 0} {m : Levels.Ghosts M} {D E : Type 0} where
   beside_none c = record { store = refl; pages = refl; roots = refl; regions = refl; page_of = refl; clock = refl; refused = refl }
 
   pub beside_then : (a b c : Core D E M m) → KeepsBesidePages a b → KeepsBesidePages b c → KeepsBesidePages a c
-  beside_then a b c f g = record {
-    store = g.store ∙ f.store;
-    pages = g.pages ∙ f.pages;
-    roots = g.roots ∙ f.roots;
-    regions = g.regions ∙ f.regions;
-    page_of = g.page_of ∙ f.page_of;
-    clock = g.clock ∙ f.clock;
-    refused = g.refused ∙ f.refused;
-  }
+  beside_then a b c f g = search rules
 
 -- slots of which shares changed alone may be put and got
 pub ready_shared : {E : Type 0} (h : Ghosts E) (old new : Swap E) → IsReady h old → new.pages ≡ old.pages → (slots_of new).total ≡ (slots_of old).total → IsReady h new
 ready_shared {E = E} h old new ready pages total = record {
   room = (
       let size = ap (λ p. h.sector_count p.disk) pages in
-      let room = ready.room in
-      omega (arith, size, room, total));
-  as_written = (let P : Swap_pages E → Type 0 = λ p. IsAsWritten h p.disk p.written.notes in subst P (sym pages) ready.as_written);
+      omega (arith, size, ready.room, total));
+  as_written = subst (λ (p : Swap_pages E). IsAsWritten h p.disk p.written.notes) (sym pages) ready.as_written;
 }

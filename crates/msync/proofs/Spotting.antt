@@ -1,7 +1,6 @@
 -- A touched file page lies in a frame or in a slot.
-use Rattle.std.proofs.{Common.{◌≡◌, ◌≢◌, ℕ, inl, inr, List, length, Option, Some, None, refl, sym, ◌∙◌, arith}, lemmas.Bool.{cases_lt}, lemmas.List.{get_or_past}}
-use Rattle.frames.specs.{declared.role.Role.TheVariants.{Free, Cache}, FrameTable.{FrameTable, frame_count, role_of, IsFrame, IsSound}}
-use Rattle.swap.specs.{declared.slots.Swap.{Swap}, Slots.{slots_of, or_none, IsInUse}, Written.{written_in}}
+use Rattle.msync.proofs.Names.{◌≡◌, ◌≢◌, ℕ, inl, inr, List, length, Option, Some, None, refl, sym, ◌∙◌, arith, cases_lt, get_or_past, Free, Cache, FrameTable, frame_count, role_of, IsFrame, IsSound, Swap, slots_of, or_none, IsInUse}
+use Rattle.msync.proofs.Names.{written_in}
 
 pub cache_inside : (t : FrameTable) (n : ℕ) → IsSound t → role_of t n ≡ Cache → IsFrame t n
 cache_inside t n sound cache = elim (cases_lt n (frame_count t)) [

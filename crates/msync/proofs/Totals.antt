@@ -1,10 +1,6 @@
 -- How many file pages pass, over all files, and lists of them without doubles.
-use Rattle.std.proofs.{Common.{ℕ, zero, suc, ◌+◌, ◌≡◌, ◌≢◌, ◌<◌, ◌≤◌, ◌&&◌, ⊎_elim, not, Bool, true, false, refl, sym, ap, ◌∙◌, arith}, lemmas.Bool.{cases_eq, both_ways, and_parts, not-true, false_from_ne_true}}
-use Rattle.std.proofs.Math.Bool.{and-true, and-false}
-use Rattle.vm_types.specs.{declared.file.FilePage.{FilePage}, Attributes.{file_page_eq}, Counting.{count_below, sum_below}}
-use Rattle.page_cache.proofs.NodeLemmas.{same_file_page_true}
-use Rattle.residency.proofs.Counts.{count-same, count-none, count-one, sum-one}
-use Rattle.msync.proofs.Appending.{same_page}
+use Rattle.msync.proofs.Names.{ℕ, zero, suc, ◌+◌, ◌≡◌, ◌≢◌, ◌<◌, ◌≤◌, ◌&&◌, ⊎_elim, not, Bool, true, false, sym, ap, ◌∙◌, arith, cases_eq, both_ways, and_parts, not-true, false_from_ne_true, and-true, and-false, FilePage, file_page_eq}
+use Rattle.msync.proofs.Names.{count_below, sum_below, same_file_page, same_file_page_true, count-same, count-none, count-one, sum-none, sum-one}
 
 abbrev page_of : ℕ → ℕ → FilePage
 page_of file page = record { file = file; page = page }
@@ -21,15 +17,10 @@ total passes files pages = sum_below (in_file passes pages) files
 abbrev without : (FilePage → Bool) → FilePage → FilePage → Bool
 without passes gone page = passes page && not (file_page_eq gone page)
 
-no_sum : (q : ℕ → ℕ) (n : ℕ) → ((j : ℕ) → q j ≡ 0) → sum_below q n ≡ 0
-unfolding sum_below
-no_sum q zero none = refl
-no_sum q (suc n) none = omega (arith, none n, no_sum q n none)
-
 -- without a page that passes there is one fewer
 elsewhere : (passes : FilePage → Bool) (gone page : FilePage) → gone ≢ page → passes page ≡ without passes gone page
 elsewhere passes gone page other =
-    let differs : file_page_eq gone page ≡ false = false_from_ne_true (file_page_eq gone page) (λ e. other (same_page gone page e)) in
+    let differs : file_page_eq gone page ≡ false = false_from_ne_true (file_page_eq gone page) (λ e. other (same_file_page gone page e)) in
     sym (ap (λ b. passes page && not b) differs ∙ and-true (passes page))
 
 gone_itself : (passes : FilePage → Bool) (gone : FilePage) → without passes gone gone ≡ false
@@ -67,11 +58,10 @@ at_least passes files pages at zero within each once = omega arith
 at_least passes files pages at (suc n) within each once =
     let gone = at n in
     let here = each n (omega arith) in
-    let one = fewer passes gone files pages here (within.file gone here) (within.page gone here) in
     let rest = at_least (without passes gone) files pages at n (fewer_within passes gone files pages within)
     (λ i less. still passes gone (at i) (each i (omega arith)) (once i n less (omega arith)))
     (λ i j less high. once i j less (omega arith)) in
-    omega (arith, one, rest)
+    omega (arith, fewer passes gone files pages here (within.file gone here) (within.page gone here), rest)
 
 -- and one that has all of them is as long
 pub exactly : (passes : FilePage → Bool) (files pages : ℕ) (at : ℕ → FilePage) (n : ℕ) → IsWithin passes files pages
@@ -79,14 +69,12 @@ pub exactly : (passes : FilePage → Bool) (files pages : ℕ) (at : ℕ → Fil
     → ((page : FilePage) → passes page ≡ true → (i : ℕ) × (i < n) × (at i ≡ page)) → total passes files pages ≡ n
 unfolding total
 exactly passes files pages at zero within each once all =
-    no_sum (in_file passes pages) files (λ f. count-none (λ k. passes (page_of f k)) pages (λ k. false_from_ne_true (passes (page_of f k)) (λ e.
-    let r = all (page_of f k) e in
-    let less = r.1 in
+    sum-none (in_file passes pages) files (λ f. count-none (λ k. passes (page_of f k)) pages (λ k. false_from_ne_true (passes (page_of f k)) (λ e.
+    let less = (all (page_of f k) e).1 in
     absurd (omega arith))))
 exactly passes files pages at (suc n) within each once all =
     let gone = at n in
     let here = each n (omega arith) in
-    let one = fewer passes gone files pages here (within.file gone here) (within.page gone here) in
     let rest = exactly (without passes gone) files pages at n (fewer_within passes gone files pages within)
     (λ i less. still passes gone (at i) (each i (omega arith)) (once i n less (omega arith)))
     (λ i j less high. once i j less (omega arith))
@@ -98,4 +86,4 @@ exactly passes files pages at (suc n) within each once all =
     (ap (λ q. file_page_eq gone q) (sym (sym (ap at last) ∙ r.2)) ∙ same_file_page_true gone)))
     (λ (other : r.0 ≢ n). (r.0, omega (arith, r.1), r.2))
     (cases_eq r.0 n)) in
-    omega (arith, one, rest)
+    omega (arith, fewer passes gone files pages here (within.file gone here) (within.page gone here), rest)

@@ -1,10 +1,7 @@
 -- The touched pages behind a row of pages, run by run.
-use Rattle.std.proofs.{Common.{ℕ, ◌+◌, ◌-◌, ◌≡◌, ◌<◌, ◌≤◌, ◌==◌, ◌&&◌, ◌⊎◌, inl, inr, Bool, true, leb, ltb, List, Option, None, sym, ap, ◌∙◌, arith}, lemmas.Bool.{cases_lt, and_parts, and_from, both_ways}, lemmas.Bool.Decides.{nat_tests}}
-use Rattle.regions.specs.{declared.run.Run.{Run}, RunList.{IsNextRun}}
-use Rattle.vm_types.specs.{declared.file.FilePage.{FilePage}, declared.region.Attr.{Attr}, declared.region.Backing.{Backing}, declared.region.Backing.TheVariants.{Shared}, Attributes.{backing_after}, Msync.{is_shared_page}}
-use Rattle.vm_types.proofs.Naming.{any-at, any-where}
-use Rattle.msync.specs.Choice.{stands_behind, is_taken_behind, shares_page, is_shared_in, is_chosen, Appends, OverflowsRow}
-use Rattle.msync.proofs.Appending.{nothing, in_turn, renamed, over}
+use Rattle.msync.proofs.Names.{ℕ, ◌+◌, ◌-◌, ◌≡◌, ◌<◌, ◌≤◌, ◌==◌, ◌&&◌, ◌⊎◌, inl, inr, Bool, true, leb, ltb, List, Option, None, sym, ap, ◌∙◌, arith, cases_lt, and_parts, and_from, both_ways, nat_tests, Run, IsNextRun, FilePage, Attr}
+use Rattle.msync.proofs.Names.{Backing, Shared, backing_after, is_shared_page, any-at, any-where}
+use Rattle.msync.{specs.Choice.{stands_behind, is_taken_behind, shares_page, is_shared_in, is_chosen, Appends, OverflowsRow}, proofs.Appending.{nothing, in_turn, renamed, over}}
 
 -- a page of a row that shares a touched page of a file
 chosen_at : (touched : FilePage → Bool) (map : ℕ → Option Attr) (first n k : ℕ) (p : FilePage) → touched p ≡ true → k < n → shares_page (map (first + k)) p ≡ true

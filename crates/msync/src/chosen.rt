@@ -2,7 +2,7 @@
 use vm_types::{Errno, FilePage, FrameNo, MsyncMode, SlotNo};
 
 /// What an msync is asked for: the `len` bytes of a process from `addr` on.
-#[derive(Clone, Copy, Debug, PartialEq, Eq)]
+#[derive(Clone, Copy)]
 pub(crate) struct SyncCall {
     pub pid: u64,
     pub addr: u64,
@@ -11,7 +11,7 @@ pub(crate) struct SyncCall {
 }
 
 /// How an msync is judged.
-#[derive(Clone, Copy, Debug, PartialEq, Eq)]
+#[derive(Clone, Copy)]
 pub(crate) enum Ruling {
     /// It is refused.
     Refuses(Errno),
@@ -22,7 +22,7 @@ pub(crate) enum Ruling {
 }
 
 /// Where a touched page lies, which isn't at home.
-#[derive(Clone, Copy, Debug, PartialEq, Eq)]
+#[derive(Clone, Copy)]
 pub(crate) enum Residence {
     /// In that frame.
     Framed(FrameNo),
@@ -31,7 +31,7 @@ pub(crate) enum Residence {
 }
 
 /// A file page and where it lies.
-#[derive(Clone, Copy, Debug, PartialEq, Eq)]
+#[derive(Clone, Copy)]
 pub(crate) struct Spot {
     pub page: FilePage,
     pub at: Residence,

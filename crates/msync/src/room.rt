@@ -4,7 +4,7 @@ use std::marker::Model;
 use vm_types::{FilePage, FrameNo, MSYNC_PAGES};
 
 /// Room for one msync after the other.
-#[derive(Debug, Drop)]
+#[derive(Drop)]
 pub struct SyncRoom {
     pub(crate) pages: PageRoom,
     pub(crate) spots: SpotRoom,
@@ -33,7 +33,7 @@ impl SyncRoom {
 }
 
 /// Room for the pages that an msync takes.
-#[derive(Debug, Drop)]
+#[derive(Drop)]
 pub(crate) struct PageRoom {
     list: [FilePage; MSYNC_PAGES],
 }
@@ -51,7 +51,7 @@ impl PageRoom {
 }
 
 /// Room for the places that they lie in.
-#[derive(Debug, Drop)]
+#[derive(Drop)]
 pub(crate) struct SpotRoom {
     list: [Spot; MSYNC_PAGES],
 }

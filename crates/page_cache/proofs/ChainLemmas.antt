@@ -2,8 +2,7 @@
 use Rattle.std.proofs.Common.{◌≡◌, ◌≢◌, ℕ, ◌+◌, ◌<◌, ◌≤◌, Bool, true, false, eqb, List, length, replicate, get_or, Option, Some, None, refl, sym, ap, ◌∙◌, subst, inl, inr, arith, set, length-set, get_or-set_same, get_or-set_other}
 use Rattle.std.proofs.{lemmas.Bool.{cases_eq, cases_lt, cases_order, both_ways, true≢false, eqb-true, eq-eqb, false_from_ne_true}, lemmas.List.{length-replicate, get_or-replicate}}
 use Rattle.vm_types.specs.declared.object.PageKey.{PageKey}
-use Rattle.page_cache.specs.{Nodes.{page_at, holds}, Chains.{bucket_of, is_in_bucket, IsNext, IsLinkOf, AreChained, IsSeat, IsEmptyIndex}}
-use Rattle.page_cache.proofs.NodeLemmas.{page_at-emptied, page_at-within, holds-false, unheld_at}
+use Rattle.page_cache.{specs.{Nodes.{page_at, holds}, Chains.{bucket_of, is_in_bucket, IsNext, IsLinkOf, AreChained, IsSeat, IsEmptyIndex}}, proofs.NodeLemmas.{page_at-emptied, page_at-within, holds-false, unheld_at}}
 
 -- a node holds a page of one bucket
 pub bucket-one : (mask b d : ℕ) (held : Option PageKey) → is_in_bucket mask b held ≡ true → is_in_bucket mask d held ≡ true → b ≡ d
@@ -79,213 +78,182 @@ link-before old new r mask b low at same other (inr next) =
 still : (old new : List (Option PageKey)) (r mask b m : ℕ) → SameButAt r old new → m ≢ r → (t : Bool) → is_in_bucket mask b (page_at old m) ≡ t → is_in_bucket mask b (page_at new m) ≡ t
 still old new r mask b m same other t e = ap (is_in_bucket mask b) (same m other) ∙ e
 
--- the node r gives up its page: the link that led to it leads to the next of its bucket
+-- what a link leads to, where node r alone changed: it leads to another one, and passes r only where that isn't of its bucket now
+moved : (old new : List (Option PageKey)) (r mask d low low2 n : ℕ) → SameButAt r old new → length new ≡ length old → low ≤ low2 → low2 ≤ n → n ≢ r
+    → (low2 ≤ r → r < n → is_in_bucket mask d (page_at new r) ≡ false) → IsNext old mask d low n → IsNext new mask d low2 n
+moved old new r mask d low low2 n same size more least apart passes next = record {
+  within = rw size next.within;
+  least = least;
+  there = λ below. still old new r mask d n same apart true (next.there (rw size at below));
+  passed = λ m above below. elim (cases_eq m r) [
+    | inl e ↦ ap (λ (k : ℕ). is_in_bucket mask d (page_at new k)) e ∙ passes (omega arith) (omega arith)
+    | inr other ↦ still old new r mask d m same other false (next.passed m (omega arith) below)
+  ];
+}
+
 module _ (old : List (Option PageKey)) (links : List ℕ) (mask b r at : ℕ) (chained : AreChained old links mask) (within : b ≤ mask)
-    (held : is_in_bucket mask b (page_at old r) ≡ true) (seat : IsSeat old links mask b r at) (from : r ≤ get_or links at 0) where
+    (seat : IsSeat old links mask b r at) (from : r ≤ get_or links at 0) where
   seat-next : IsNext old mask b seat.low (get_or links at 0)
   seat-next = chained.link b seat.low at within seat.link
-
-  own-next : IsNext old mask b (r + 1) (get_or links (mask + 1 + r) 0)
-  own-next = chained.link b (r + 1) (mask + 1 + r) within (inr (r, refl, refl, held))
-
-  inside : r < length old
-  inside = bucket-inside old mask b r held
-
-  -- the link leads to r itself
-  leads : get_or links at 0 ≡ r
-  leads = elim (cases_lt r (get_or links at 0)) [
-    | inl more ↦ absurd (both_ways (is_in_bucket mask b (page_at old r)) (seat-next.passed r seat.before more) held)
-    | inr le ↦ omega arith
-  ]
-
-  same : SameButAt r old (set old r None)
-  same m other = get_or-set_other old r m None None other
-
-  emptied : (d m : ℕ) → m ≡ r → is_in_bucket mask d (page_at (set old r None) m) ≡ false
-  emptied d m e = ap (λ (k : ℕ). is_in_bucket mask d (page_at (set old r None) k)) e ∙ ap (is_in_bucket mask d) (page_at-emptied old r)
-
-  cleared : (d m : ℕ) → is_in_bucket mask d (page_at old m) ≡ false → is_in_bucket mask d (page_at (set old r None) m) ≡ false
-  cleared d m no_page = elim (cases_eq m r) [
-    | inl e ↦ emptied d m e
-    | inr other ↦ still old (set old r None) r mask d m same other false no_page
-  ]
-
-  -- the link of r itself is no link any more
-  not_own : (d low at2 : ℕ) → d ≤ mask → IsLinkOf (set old r None) mask d low at2 → at2 ≢ mask + 1 + r
-  not_own d low at2 within2 (inl own) e = omega (arith, own.0, e)
-  not_own d low at2 within2 (inr next) e =
-      let self : next.0 ≡ r = omega (arith, next.1, e) in
-      both_ways (is_in_bucket mask d (page_at (set old r None) next.0)) (emptied d next.0 self) next.3
 
   at-inside : at < length links
   at-inside = link-inside old links mask b seat.low at chained within seat.link
 
-  removed-at : IsNext (set old r None) mask b seat.low (get_or links (mask + 1 + r) 0)
-  removed-at = record {
-    within = rw (length-set old r None) own-next.within;
-    least = omega (arith, own-next.least, seat.before);
-    there = λ below. still old (set old r None) r mask b (get_or links (mask + 1 + r) 0) same (λ e. (omega (arith, own-next.least))) true
-        (own-next.there (rw (length-set old r None) at below));
-    passed = λ m above below. elim (cases_lt m r) [
-      | inl less ↦ cleared b m (seat-next.passed m above (rw leads less))
-      | inr ge ↦ elim (cases_eq m r) [
-        | inl e ↦ emptied b m e
-        | inr other ↦ cleared b m (own-next.passed m (omega arith) below)
-      ]
-    ];
-  }
-
-  removed-other : (d low at2 : ℕ) → d ≤ mask → IsLinkOf old mask d low at2 → at2 ≢ at → IsNext (set old r None) mask d low (get_or links at2 0)
-  removed-other d low at2 within2 link apart =
-      let next = chained.link d low at2 within2 link in
-      let elsewhere : get_or links at2 0 ≢ r = λ e. (
-      let there : is_in_bucket mask d (page_at old r) ≡ true = subst (λ (k : ℕ). is_in_bucket mask d (page_at old k) ≡ true) e (next.there (rw e inside)) in
-      let bucket = bucket-one mask d b (page_at old r) there held in
-      let link2 : IsLinkOf old mask b low at2 = subst (λ (k : ℕ). IsLinkOf old mask k low at2) bucket link in
-      let one = links-one old mask b r seat.low at low at2 seat.link link2 seat.before (omega (arith, next.least, e))
-      (λ j above below. seat-next.passed j above (rw leads below))
-      (λ j above below. subst (λ (k : ℕ). is_in_bucket mask k (page_at old j) ≡ false) bucket (next.passed j above (rw e below))) in
-      apart (sym one.0)
-      ) in
-      record {
-        within = rw (length-set old r None) next.within;
-        least = next.least;
-        there = λ below. still old (set old r None) r mask d (get_or links at2 0) same elsewhere true (next.there (rw (length-set old r None) at below));
-        passed = λ m above below. cleared d m (next.passed m above below);
-      }
-
-  pub IsChained-removed : AreChained (set old r None) (set links at (get_or links (mask + 1 + r) 0)) mask
-  IsChained-removed = record {
-    few = rw (length-set old r None) chained.few;
-    count = rw (length-set links at (get_or links (mask + 1 + r) 0), length-set old r None) chained.count;
-    link = λ d low at2 within2 link.
-        let before = link-before old (set old r None) r mask d low at2 same (not_own d low at2 within2 link) link in
-        elim (cases_eq at2 at) [
-          | inl e ↦ (let link2 : IsLinkOf old mask d low at = subst (λ (k : ℕ). IsLinkOf old mask d low k) e before in
-              let one = link-one old mask b d seat.low at low within within2 seat.link link2 in
-              rw (e, get_or-set_same links at (get_or links (mask + 1 + r) 0) 0 at-inside, ← one.0, ← one.1) removed-at)
-          | inr apart ↦ rw (get_or-set_other links at at2 (get_or links (mask + 1 + r) 0) 0 apart) (removed-other d low at2 within2 before apart)
-        ];
-  }
-
--- the node r, which holds nothing, is given a page of the bucket: it stands between the link and what that led to
-module _ (old : List (Option PageKey)) (links : List ℕ) (mask b r at : ℕ) (page : PageKey) (chained : AreChained old links mask) (within : b ≤ mask)
-    (free : page_at old r ≡ None) (inside : r < length old) (bucket : bucket_of mask page ≡ b)
-    (seat : IsSeat old links mask b r at) (from : r ≤ get_or links at 0) where
-  seat-next2 : IsNext old mask b seat.low (get_or links at 0)
-  seat-next2 = chained.link b seat.low at within seat.link
-
-  unheld : (d : ℕ) → is_in_bucket mask d (page_at old r) ≡ false
-  unheld d = ap (is_in_bucket mask d) free
-
-  -- the link leads past r
-  beyond : r < get_or links at 0
-  beyond = elim (cases_eq r (get_or links at 0)) [
-    | inl e ↦ absurd (both_ways (is_in_bucket mask b (page_at old r)) (unheld b)
-        (subst (λ (k : ℕ). is_in_bucket mask b (page_at old k) ≡ true) (sym e) (seat-next2.there (rw (← e) inside))))
-    | inr other ↦ omega arith
-  ]
-
-  same2 : SameButAt r old (set old r (Some page))
-  same2 m other = get_or-set_other old r m (Some page) None other
-
-  filled : (d : ℕ) → is_in_bucket mask d (page_at (set old r (Some page)) r) ≡ eqb (bucket_of mask page) d
-  filled d = ap (is_in_bucket mask d) (get_or-set_same old r (Some page) None inside)
-
-  filled-own : is_in_bucket mask b (page_at (set old r (Some page)) r) ≡ true
-  filled-own = filled b ∙ eq-eqb (bucket_of mask page) b bucket
-
-  filled-one : (d : ℕ) → is_in_bucket mask d (page_at (set old r (Some page)) r) ≡ true → b ≡ d
-  filled-one d here = bucket-one mask b d (page_at (set old r (Some page)) r) filled-own here
-
-  at-inside2 : at < length links
-  at-inside2 = link-inside old links mask b seat.low at chained within seat.link
-
-  not_own2 : at ≢ mask + 1 + r
-  not_own2 e = own_link seat.link where
-    own_link : IsLinkOf old mask b seat.low at → ⊥
-    own_link (inl own) = omega (arith, own.0)
-    own_link (inr next) = (let self : next.0 ≡ r = omega (arith, next.1) in
-        both_ways (is_in_bucket mask b (page_at old next.0)) (ap (λ (k : ℕ). is_in_bucket mask b (page_at old k)) self ∙ unheld b) next.3)
-
-  inserted-own : IsNext (set old r (Some page)) mask b (r + 1) (get_or links at 0)
-  inserted-own = record {
-    within = rw (length-set old r (Some page)) seat-next2.within;
-    least = omega (arith, beyond);
-    there = λ below. still old (set old r (Some page)) r mask b (get_or links at 0) same2 (λ e. (omega (arith, beyond))) true
-        (seat-next2.there (rw (length-set old r (Some page)) at below));
-    passed = λ m above below. still old (set old r (Some page)) r mask b m same2 (λ e. (omega arith)) false
-        (seat-next2.passed m (omega (arith, seat.before)) below);
-  }
-
-  inserted-at : IsNext (set old r (Some page)) mask b seat.low r
-  inserted-at = record {
-    within = rw (length-set old r (Some page)) (omega arith);
-    least = seat.before;
-    there = λ below. filled-own;
-    passed = λ m above below. still old (set old r (Some page)) r mask b m same2 (λ e. (omega arith)) false
-        (seat-next2.passed m above (omega (arith, beyond)));
-  }
-
-  inserted-other : (d low at2 : ℕ) → d ≤ mask → IsLinkOf old mask d low at2 → at2 ≢ at → IsNext (set old r (Some page)) mask d low (get_or links at2 0)
-  inserted-other d low at2 within2 link apart =
-      let next = chained.link d low at2 within2 link in
-      let elsewhere : get_or links at2 0 ≢ r = λ e. (
-      let there : is_in_bucket mask d (page_at old r) ≡ true = subst (λ (k : ℕ). is_in_bucket mask d (page_at old k) ≡ true) e (next.there (rw e inside)) in
-      both_ways (is_in_bucket mask d (page_at old r)) (unheld d) there
-      ) in
-      let not_passed : low ≤ r → r < get_or links at2 0 → b ≢ d = λ above below same_bucket. (
-      let link2 : IsLinkOf old mask b low at2 = subst (λ (k : ℕ). IsLinkOf old mask k low at2) (sym same_bucket) link in
+  -- a link of the bucket that passes none of its nodes before r is this one
+  sole : (d low at2 n : ℕ) → IsLinkOf old mask d low at2 → IsNext old mask d low n → b ≡ d → low ≤ r → r ≤ n → at2 ≡ at
+  sole d low at2 n link next bucket above below =
+      let link2 : IsLinkOf old mask b low at2 = subst (λ (k : ℕ). IsLinkOf old mask k low at2) (sym bucket) link in
       let one = links-one old mask b r seat.low at low at2 seat.link link2 seat.before above
-      (λ j low_j below_j. seat-next2.passed j low_j (omega (arith, beyond)))
-      (λ j low_j below_j. subst (λ (k : ℕ). is_in_bucket mask k (page_at old j) ≡ false) (sym same_bucket) (next.passed j low_j (omega arith))) in
-      apart (sym one.0)
-      ) in
-      record {
-        within = rw (length-set old r (Some page)) next.within;
-        least = next.least;
-        there = λ below. still old (set old r (Some page)) r mask d (get_or links at2 0) same2 elsewhere true (next.there (rw (length-set old r (Some page)) at below));
-        passed = λ m above below. elim (cases_eq m r) [
-          | inl e ↦ (let above_r : low ≤ r = omega arith in
-              let below_r : r < get_or links at2 0 = omega arith in
-              let here : is_in_bucket mask d (page_at (set old r (Some page)) r) ≡ false =
-              false_from_ne_true (is_in_bucket mask d (page_at (set old r (Some page)) r)) (λ held. not_passed above_r below_r (filled-one d held)) in
-              ap (λ (k : ℕ). is_in_bucket mask d (page_at (set old r (Some page)) k)) e ∙ here)
-          | inr other ↦ still old (set old r (Some page)) r mask d m same2 other false (next.passed m above below)
-        ];
-      }
+      (λ j low_j below_j. seat-next.passed j low_j (omega arith))
+      (λ j low_j below_j. subst (λ (k : ℕ). is_in_bucket mask k (page_at old j) ≡ false) (sym bucket) (next.passed j low_j (omega arith))) in
+      sym one.0
 
-  abbrev inserted_links : List ℕ
-  inserted_links = set (set links (mask + 1 + r) (get_or links at 0)) at r
+  -- the node r gives up its page: the link that led to it leads to the next of its bucket
+  module _ (held : is_in_bucket mask b (page_at old r) ≡ true) where
+    inside : r < length old
+    inside = bucket-inside old mask b r held
 
-  own-inside : mask + 1 + r < length links
-  own-inside = omega (arith, chained.count)
+    -- the link leads to r itself
+    leads : get_or links at 0 ≡ r
+    leads = elim (cases_lt r (get_or links at 0)) [
+      | inl more ↦ absurd (both_ways (is_in_bucket mask b (page_at old r)) (seat-next.passed r seat.before more) held)
+      | inr le ↦ omega arith
+    ]
 
-  pub IsChained-inserted : AreChained (set old r (Some page)) inserted_links mask
-  IsChained-inserted = record {
-    few = rw (length-set old r (Some page)) chained.few;
-    count = rw (length-set (set links (mask + 1 + r) (get_or links at 0)) at r, length-set links (mask + 1 + r) (get_or links at 0), length-set old r (Some page)) chained.count;
-    link = λ d low at2 within2 link.
-        elim (cases_eq at2 at) [
-          | inl e ↦ (let ne : at2 ≢ mask + 1 + r = λ own. not_own2 (sym e ∙ own) in
-              let before = link-before old (set old r (Some page)) r mask d low at2 same2 ne link in
-              let link2 : IsLinkOf old mask d low at = subst (λ (k : ℕ). IsLinkOf old mask d low k) e before in
-              let one = link-one old mask b d seat.low at low within within2 seat.link link2 in
-              let in_all : at < length (set links (mask + 1 + r) (get_or links at 0)) = rw (length-set links (mask + 1 + r) (get_or links at 0)) at-inside2 in
-              rw (e, get_or-set_same (set links (mask + 1 + r) (get_or links at 0)) at r 0 in_all, ← one.0, ← one.1) inserted-at)
-          | inr apart ↦ rw (get_or-set_other (set links (mask + 1 + r) (get_or links at 0)) at at2 r 0 apart) (elim (cases_eq at2 (mask + 1 + r)) [
-            | inl own ↦ rw (own, get_or-set_same links (mask + 1 + r) (get_or links at 0) 0 own-inside) (own_link d low within2 (subst (λ (k : ℕ). IsLinkOf (set old r (Some page)) mask d low k) own link))
-            | inr ne ↦ rw (get_or-set_other links (mask + 1 + r) at2 (get_or links at 0) 0 ne)
-                (inserted-other d low at2 within2 (link-before old (set old r (Some page)) r mask d low at2 same2 ne link) apart)
-          ])
-        ];
-  } where
-    own_link : (d low : ℕ) → d ≤ mask → IsLinkOf (set old r (Some page)) mask d low (mask + 1 + r) → IsNext (set old r (Some page)) mask d low (get_or links at 0)
-    own_link d low within2 (inl own) = absurd (omega (arith, own.0))
-    own_link d low within2 (inr next) = (let self : next.0 ≡ r = omega (arith, next.1) in
-        let here : is_in_bucket mask d (page_at (set old r (Some page)) r) ≡ true = subst (λ (k : ℕ). is_in_bucket mask d (page_at (set old r (Some page)) k) ≡ true) self next.3 in
-        let start : low ≡ r + 1 = omega (arith, next.2) in
-        rw (start, ← filled-one d here) inserted-own)
+    same : SameButAt r old (set old r None)
+    same m other = get_or-set_other old r m None None other
+
+    emptied : (d m : ℕ) → m ≡ r → is_in_bucket mask d (page_at (set old r None) m) ≡ false
+    emptied d m e = ap (λ (k : ℕ). is_in_bucket mask d (page_at (set old r None) k)) e ∙ ap (is_in_bucket mask d) (page_at-emptied old r)
+
+    -- the link of r itself is no link any more
+    not_own : (d low at2 : ℕ) → d ≤ mask → IsLinkOf (set old r None) mask d low at2 → at2 ≢ mask + 1 + r
+    not_own d low at2 within2 (inl own) e = omega (arith, own.0, e)
+    not_own d low at2 within2 (inr next) e =
+        let self : next.0 ≡ r = omega (arith, next.1, e) in
+        both_ways (is_in_bucket mask d (page_at (set old r None) next.0)) (emptied d next.0 self) next.3
+
+    removed-at : IsNext (set old r None) mask b seat.low (get_or links (mask + 1 + r) 0)
+    removed-at =
+        let next = chained.link b (r + 1) (mask + 1 + r) within (inr (r, refl, refl, held)) in
+        let own : IsNext (set old r None) mask b (r + 1) (get_or links (mask + 1 + r) 0) =
+        moved old (set old r None) r mask b (r + 1) (r + 1) (get_or links (mask + 1 + r) 0) same (length-set old r None) (omega arith) next.least (λ e. (omega (arith, next.least))) (λ above below. emptied b r refl) next in
+        record {
+          within = own.within;
+          least = omega (arith, next.least, seat.before);
+          there = own.there;
+          passed = λ m above below. elim (cases_lt m r) [
+            | inl less ↦ still old (set old r None) r mask b m same (λ e. (omega arith)) false (seat-next.passed m above (rw leads less))
+            | inr ge ↦ elim (cases_eq m r) [
+              | inl e ↦ emptied b m e
+              | inr other ↦ own.passed m (omega arith) below
+            ]
+          ];
+        }
+
+    removed-other : (d low at2 : ℕ) → d ≤ mask → IsLinkOf old mask d low at2 → at2 ≢ at → IsNext (set old r None) mask d low (get_or links at2 0)
+    removed-other d low at2 within2 link apart =
+        let next = chained.link d low at2 within2 link in
+        let elsewhere : get_or links at2 0 ≢ r = λ e. (
+        let there : is_in_bucket mask d (page_at old r) ≡ true = subst (λ (k : ℕ). is_in_bucket mask d (page_at old k) ≡ true) e (next.there (rw e inside)) in
+        apart (sole d low at2 (get_or links at2 0) link next (bucket-one mask b d (page_at old r) held there) (omega (arith, next.least, e)) (omega (arith, e)))
+        ) in
+        moved old (set old r None) r mask d low low (get_or links at2 0) same (length-set old r None) (omega arith) next.least elsewhere (λ above below. emptied d r refl) next
+
+    pub IsChained-removed : AreChained (set old r None) (set links at (get_or links (mask + 1 + r) 0)) mask
+    IsChained-removed = record {
+      few = rw (length-set old r None) chained.few;
+      count = rw (length-set links at (get_or links (mask + 1 + r) 0), length-set old r None) chained.count;
+      link = λ d low at2 within2 link.
+          let before = link-before old (set old r None) r mask d low at2 same (not_own d low at2 within2 link) link in
+          elim (cases_eq at2 at) [
+            | inl e ↦ (let link2 : IsLinkOf old mask d low at = subst (λ (k : ℕ). IsLinkOf old mask d low k) e before in
+                let one = link-one old mask b d seat.low at low within within2 seat.link link2 in
+                rw (e, get_or-set_same links at (get_or links (mask + 1 + r) 0) 0 at-inside, ← one.0, ← one.1) removed-at)
+            | inr apart ↦ rw (get_or-set_other links at at2 (get_or links (mask + 1 + r) 0) 0 apart) (removed-other d low at2 within2 before apart)
+          ];
+    }
+
+  -- the node r, which holds nothing, is given a page of the bucket: it stands between the link and what that led to
+  module _ (page : PageKey) (free : page_at old r ≡ None) (inside2 : r < length old) (bucket : bucket_of mask page ≡ b) where
+    unheld : (d : ℕ) → is_in_bucket mask d (page_at old r) ≡ false
+    unheld d = ap (is_in_bucket mask d) free
+
+    -- the link leads past r
+    beyond : r < get_or links at 0
+    beyond = elim (cases_eq r (get_or links at 0)) [
+      | inl e ↦ absurd (both_ways (is_in_bucket mask b (page_at old r)) (unheld b)
+          (subst (λ (k : ℕ). is_in_bucket mask b (page_at old k) ≡ true) (sym e) (seat-next.there (rw (← e) inside2))))
+      | inr other ↦ omega arith
+    ]
+
+    same2 : SameButAt r old (set old r (Some page))
+    same2 m other = get_or-set_other old r m (Some page) None other
+
+    filled-own : is_in_bucket mask b (page_at (set old r (Some page)) r) ≡ true
+    filled-own = ap (is_in_bucket mask b) (get_or-set_same old r (Some page) None inside2) ∙ eq-eqb (bucket_of mask page) b bucket
+
+    filled-one : (d : ℕ) → is_in_bucket mask d (page_at (set old r (Some page)) r) ≡ true → b ≡ d
+    filled-one d here = bucket-one mask b d (page_at (set old r (Some page)) r) filled-own here
+
+    not_own2 : at ≢ mask + 1 + r
+    not_own2 e = own_link seat.link where
+      own_link : IsLinkOf old mask b seat.low at → ⊥
+      own_link (inl own) = omega (arith, own.0)
+      own_link (inr next) = (let self : next.0 ≡ r = omega (arith, next.1) in
+          both_ways (is_in_bucket mask b (page_at old next.0)) (ap (λ (k : ℕ). is_in_bucket mask b (page_at old k)) self ∙ unheld b) next.3)
+
+    inserted-own : IsNext (set old r (Some page)) mask b (r + 1) (get_or links at 0)
+    inserted-own =
+        moved old (set old r (Some page)) r mask b seat.low (r + 1) (get_or links at 0) same2 (length-set old r (Some page)) (omega (arith, seat.before)) (omega (arith, beyond))
+        (λ e. (omega (arith, beyond))) (λ above below. absurd (omega arith)) seat-next
+
+    inserted-at : IsNext (set old r (Some page)) mask b seat.low r
+    inserted-at = record {
+      within = rw (length-set old r (Some page)) (omega arith);
+      least = seat.before;
+      there = λ below. filled-own;
+      passed = λ m above below. still old (set old r (Some page)) r mask b m same2 (λ e. (omega arith)) false
+          (seat-next.passed m above (omega (arith, beyond)));
+    }
+
+    inserted-other : (d low at2 : ℕ) → d ≤ mask → IsLinkOf old mask d low at2 → at2 ≢ at → IsNext (set old r (Some page)) mask d low (get_or links at2 0)
+    inserted-other d low at2 within2 link apart =
+        let next = chained.link d low at2 within2 link in
+        moved old (set old r (Some page)) r mask d low low (get_or links at2 0) same2 (length-set old r (Some page)) (omega arith) next.least
+        (λ e. both_ways (is_in_bucket mask d (page_at old r)) (unheld d) (subst (λ (k : ℕ). is_in_bucket mask d (page_at old k) ≡ true) e (next.there (rw e inside2))))
+        (λ above below. false_from_ne_true (is_in_bucket mask d (page_at (set old r (Some page)) r))
+        (λ held. apart (sole d low at2 (get_or links at2 0) link next (filled-one d held) above (omega arith)))) next
+
+    abbrev inserted_links : List ℕ
+    inserted_links = set (set links (mask + 1 + r) (get_or links at 0)) at r
+
+    pub IsChained-inserted : AreChained (set old r (Some page)) inserted_links mask
+    IsChained-inserted = record {
+      few = rw (length-set old r (Some page)) chained.few;
+      count = rw (length-set (set links (mask + 1 + r) (get_or links at 0)) at r, length-set links (mask + 1 + r) (get_or links at 0), length-set old r (Some page)) chained.count;
+      link = λ d low at2 within2 link.
+          elim (cases_eq at2 at) [
+            | inl e ↦ (let ne : at2 ≢ mask + 1 + r = λ own. not_own2 (sym e ∙ own) in
+                let before = link-before old (set old r (Some page)) r mask d low at2 same2 ne link in
+                let link2 : IsLinkOf old mask d low at = subst (λ (k : ℕ). IsLinkOf old mask d low k) e before in
+                let one = link-one old mask b d seat.low at low within within2 seat.link link2 in
+                let in_all : at < length (set links (mask + 1 + r) (get_or links at 0)) = rw (length-set links (mask + 1 + r) (get_or links at 0)) at-inside in
+                rw (e, get_or-set_same (set links (mask + 1 + r) (get_or links at 0)) at r 0 in_all, ← one.0, ← one.1) inserted-at)
+            | inr apart ↦ rw (get_or-set_other (set links (mask + 1 + r) (get_or links at 0)) at at2 r 0 apart) (elim (cases_eq at2 (mask + 1 + r)) [
+              | inl own ↦ (let own-inside : mask + 1 + r < length links = omega (arith, chained.count) in
+                  rw (own, get_or-set_same links (mask + 1 + r) (get_or links at 0) 0 own-inside) (own_link d low within2 (subst (λ (k : ℕ). IsLinkOf (set old r (Some page)) mask d low k) own link)))
+              | inr ne ↦ rw (get_or-set_other links (mask + 1 + r) at2 (get_or links at 0) 0 ne)
+                  (inserted-other d low at2 within2 (link-before old (set old r (Some page)) r mask d low at2 same2 ne link) apart)
+            ])
+          ];
+    } where
+      own_link : (d low : ℕ) → d ≤ mask → IsLinkOf (set old r (Some page)) mask d low (mask + 1 + r) → IsNext (set old r (Some page)) mask d low (get_or links at 0)
+      own_link d low within2 (inl own) = absurd (omega (arith, own.0))
+      own_link d low within2 (inr next) = (let self : next.0 ≡ r = omega (arith, next.1) in
+          let here : is_in_bucket mask d (page_at (set old r (Some page)) r) ≡ true = subst (λ (k : ℕ). is_in_bucket mask d (page_at (set old r (Some page)) k) ≡ true) self next.3 in
+          let start : low ≡ r + 1 = omega (arith, next.2) in
+          rw (start, ← filled-one d here) inserted-own)
 
 -- what a link passes does not hold a page of its bucket
 pub passed-none : (pages : List (Option PageKey)) (mask low n : ℕ) (page : PageKey) → IsNext pages mask (bucket_of mask page) low n

@@ -1,9 +1,6 @@
 -- What leaves all trees: frames that are no tables, however they are taken, shared, written and given back. And a
 -- table without entries that is given back, which leaves all trees but its own.
-use Rattle.std.proofs.{Common.{◌≡◌, ◌≢◌, ℕ, inl, inr, ◌<◌, List, get_or, sym, ap, ◌∙◌, arith}, lemmas.Bool.{cases_eq}}
-use Rattle.std.specs.Prelude.{◌↔◌}
-use Rattle.frames.specs.{declared.role.Role.{Role}, declared.role.Role.TheVariants.{Free, Table}, FrameTable.{FrameTable, role_of, count_of, SameButFor, Shares, Releases, with_bytes}}
-use Rattle.frames.proofs.FrameLemmas.{with_bytes-others}
+use Rattle.page_tables.proofs.Names.{◌≡◌, ◌≢◌, ℕ, inl, inr, ◌<◌, List, get_or, sym, ap, ◌∙◌, arith, cases_eq, ◌↔◌, Role, Free, Table, FrameTable, role_of, count_of, SameButFor, Shares, Releases, with_bytes, with_bytes-others}
 use Rattle.page_tables.specs.Tree.{IsTable, IsForest, IsUnlinked, IsRoot, IsSpare, missing_of, page_entry}
 use Rattle.page_tables.proofs.{Ends.{SameTrees, turned, root_same, missing_same, entry_same}, Keeping.{keeps_tables, not_linked, not_linking, empty_not_linking, same_trees, forest_kept}}
 

@@ -1,8 +1,5 @@
 -- A table has no entry exactly where its bytes are zeros.
-use Rattle.std.proofs.{Common.{◌≡◌, ℕ, zero, suc, inl, inr, ◌+◌, ◌*◌, ◌/◌, ◌%◌, ◌<◌, ◌≤◌, List, get_or, drop, refl, sym, ap, ◌∙◌, arith}, lemmas.Bool.{cases_eq}, lemmas.List.{get_or-drop}}
-use Rattle.byteorder.specs.Endian.{little_from}
-use Rattle.frames.specs.FrameTable.{FrameTable, bytes_of}
-use Rattle.sv39_walk.specs.Entry.{entry_at}
+use Rattle.page_tables.proofs.Names.{◌≡◌, ℕ, zero, suc, inl, inr, ◌+◌, ◌*◌, ◌/◌, ◌%◌, ◌<◌, ◌≤◌, List, get_or, drop, refl, sym, ap, ◌∙◌, arith, cases_eq, get_or-drop, little_from, FrameTable, bytes_of, entry_at}
 use Rattle.page_tables.specs.Tree.{IsEmptyTable}
 
 -- a number whose bytes are zeros is 0

@@ -1,9 +1,7 @@
 -- Where ways end, and what they have in common in two memories.
-use Rattle.std.proofs.{Common.{◌≡◌, ◌≢◌, ℕ, zero, suc, ◌+◌, ◌-◌, ◌<◌, ◌≤◌, inl, inr, true, false, refl, sym, ap, ◌∙◌, subst, arith}, lemmas.Bool.{cases_eq, false≢true}, lemmas.Bool.Decides.{nat_tests}}
-use Rattle.std.specs.Prelude.{◌==◌}
-use Rattle.frames.specs.FrameTable.{FrameTable}
-use Rattle.sv39_walk.specs.{Entry.{entry_at, frame_of, has_bit, is_pointer, is_valid}, Walk.{index_of}}
-use Rattle.page_tables.specs.{Tree.{IsTable, Points, IsForest, IsRoot, last_table, last_entry, missing_of, page_entry, Way}, Entry.{IsPageEntry}, declared.forms.Entry.TheVariants.{None}}
+use Rattle.page_tables.proofs.Names.{◌≡◌, ◌≢◌, ℕ, zero, suc, ◌+◌, ◌-◌, ◌<◌, ◌≤◌, ◌⊎◌, inl, inr, true, false, refl, sym, ap, ◌∙◌, subst, arith, ne_eqb, cases_eq, false≢true, FrameTable, entry_at, frame_of, has_bit, is_pointer, is_valid}
+use Rattle.page_tables.proofs.Names.{index_of}
+use Rattle.page_tables.specs.{Tree.{IsTable, Points, EndsWay, IsForest, IsRoot, last_table, last_entry, missing_of, page_entry, Way}, Entry.{IsPageEntry}, declared.forms.Entry.TheVariants.{None}}
 use Rattle.page_tables.proofs.Ways.{cases_bool, ends, index_of-lt, last_at-stop, last_table-next, last_table-stop, last_table-zero}
 
 -- the way from a table on the way
@@ -44,12 +42,9 @@ pub page_entry-whole : (t : FrameTable) (top root page : ℕ) → missing_of t t
 unfolding page_entry
 page_entry-whole t top root page e = rw e
 
-nonzero_test : (n : ℕ) → n ≢ 0 → (n == 0) ≡ false
-nonzero_test n ne = grind (arith, nat_tests)
-
 pub page_entry-missing : (t : FrameTable) (top root page : ℕ) → missing_of t top root page ≢ 0 → page_entry t top root page ≡ 0
 unfolding page_entry
-page_entry-missing t top root page ne = rw (nonzero_test _ ne)
+page_entry-missing t top root page ne = rw (ne_eqb _ 0 ne)
 
 -- equal ends and equal last entries make equal entries
 pub page_entry-same : (old new : FrameTable) (top root page : ℕ) → missing_of new top root page ≡ missing_of old top root page
@@ -120,6 +115,35 @@ page_is_entry t top root page forest is_root = elim (cases_eq (missing_of t top 
       subst P (sym (page_entry-whole t top root page whole ∙ entry)) here)
   | inr ne ↦ rw (page_entry-missing t top root page ne) (record { entry = None; form = tt; is = refl })
 ]
+
+-- a way that was gone to its end
+pub ends_way : (t : FrameTable) (top root page l n m : ℕ) → (l, n) ≡ last_table t page top root → l ≤ top → top ≤ 3 → IsTable t n
+    → (n ≡ root) ⊎ ((l < top) × Points t m (index_of page (l + 1)) n) → EndsWay t top root page l n m
+ends_way t top root page l n m e in_levels few table parent = record {
+  level = ap (λ p. p.0) e;
+  missing = ap (λ p. p.0) e ∙ sym (missing_of-is t top root page);
+  in_levels = in_levels;
+  few = few;
+  table = ap (λ p. p.1) e;
+  is_table = table;
+  parent = parent;
+}
+
+-- at the lowest level there is no more to go
+pub way_done : (t : FrameTable) (top root page l n m : ℕ) → l ≤ 0 → last_table t page l n ≡ last_table t page top root → top ≤ 3 → IsTable t n
+    → (n ≡ root) ⊎ ((l < top) × Points t m (index_of page (l + 1)) n) → EndsWay t top root page 0 n m
+way_done t top root page zero n m low e few table parent = ends_way t top root page 0 n m (sym (last_table-zero t page n) ∙ e) (omega arith) few table parent
+way_done t top root page (suc l) n m low e few table parent = absurd (omega (arith, low))
+
+-- the number of a page where its way ends
+pub entry_missing : (t : FrameTable) (top root page l n m : ℕ) → EndsWay t top root page l n m → 0 < l → page_entry t top root page ≡ 0
+entry_missing t top root page l n m way some = page_entry-missing t top root page (λ none. omega (arith, way.missing, none, some))
+
+pub entry_there : (t : FrameTable) (top root page l n m : ℕ) → EndsWay t top root page l n m → l ≤ 0 → page_entry t top root page ≡ entry_at t n (index_of page 0)
+entry_there t top root page l n m way low =
+    let zero : l ≡ 0 = omega (arith, low) in
+    page_entry-whole t top root page (sym way.missing ∙ zero) ∙ last_entry-is t top root page
+    ∙ ap (λ x. entry_at t x (index_of page (last_table t page top root).0)) (sym way.table) ∙ ap (λ x. entry_at t n (index_of page x)) (sym way.level ∙ zero)
 
 invalid_zero : is_valid 0 ≡ false
 unfolding has_bit

@@ -1,12 +1,7 @@
 -- What leaves all trees: changes of frames that are no tables, a table taken, a table without links given back.
-use Rattle.std.proofs.{Common.{◌≡◌, ◌≢◌, ℕ, inl, inr, refl, sym, ap, ◌∙◌, subst, arith}, lemmas.Bool.{cases_eq, cases_lt, false≢true}, lemmas.List.{get_or_past}}
-use Rattle.frames.specs.{declared.role.Role.TheVariants.{Free, Zero, Table}, FrameTable.{FrameTable, frame_count, bytes_of, role_of, SameButFor, IsSound, IsFresh, Takes, zero_bytes}}
-use Rattle.frames.proofs.FrameLemmas.{zero_bytes-at}
-use Rattle.sv39_walk.specs.{Entry.{entry_at, is_pointer}, Walk.{index_of}}
-use Rattle.sv39_walk.proofs.Entries.{is_pointer-zero}
+use Rattle.page_tables.proofs.Names.{◌≡◌, ◌≢◌, ℕ, inl, inr, refl, sym, ap, ◌∙◌, subst, arith, cases_eq, cases_lt, false≢true, get_or_past, Free, Zero, Table, FrameTable, frame_count, bytes_of, role_of, SameButFor, IsSound, IsFresh, Takes}
+use Rattle.page_tables.proofs.Names.{zero_bytes, zero_bytes-at, entry_at, is_pointer, index_of, is_pointer-zero, Result, Ok, Err, IfOk, FrameNo, NoFree}
 use Rattle.page_tables.specs.{Entry.{IsSoftware}, declared.forms.Entry.TheVariants.{None}, Tree.{IsTable, Points, IsForest, IsUnlinked, IsRoot, IsEmptyTable, IsSpare, last_entry, missing_of, page_entry}, Change.{AddsTable}}
-use Rattle.std.specs.Prelude.{Result, Ok, Err, IfOk}
-use Rattle.vm_types.specs.{declared.number.FrameNo.{FrameNo}, declared.number.NoFree.{NoFree}}
 use Rattle.page_tables.proofs.{Ways.{index_of-lt}, Setting.{entry_at-bytes, others_turned, points_moved}, Ends.{SameTrees, turned, root_same, missing_same, entry_same, last_entry-is}, EmptyBytes.{entries_zero}, Linking.{empty_last}}
 
 -- tables are the same but for one frame that is no table afterwards

@@ -1,3 +1,4 @@
+mod Names
 pub mod Ways
 pub mod EntryBytes
 pub mod EmptyBytes

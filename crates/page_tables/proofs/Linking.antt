@@ -1,9 +1,6 @@
 -- A table without entries that one more pointer leads to, read both ways: linked, and unlinked again.
-use Rattle.std.proofs.{Common.{◌≡◌, ◌≢◌, ℕ, zero, suc, ◌+◌, ◌-◌, ◌<◌, ◌≤◌, ◌⊎◌, inl, inr, true, false, sym, ap, ◌∙◌, subst, arith}, lemmas.Bool.{cases_eq}}
-use Rattle.frames.specs.FrameTable.{FrameTable}
-use Rattle.sv39_walk.specs.{Entry.{entry_at, frame_of, is_pointer}, Walk.{index_of}}
-use Rattle.sv39_walk.proofs.Entries.{is_pointer-zero}
-use Rattle.page_tables.specs.{Entry.{IsSoftware}, Tree.{IsTable, Points, IsForest, IsUnlinked, IsRoot, IsEmptyTable, IsSpare, last_table, last_entry, missing_of, page_entry, Way}, Change.{ChangesEntry, LinksTable}}
+use Rattle.page_tables.proofs.Names.{◌≡◌, ◌≢◌, ℕ, zero, suc, ◌+◌, ◌-◌, ◌<◌, ◌≤◌, ◌⊎◌, inl, inr, true, false, sym, ap, ◌∙◌, subst, arith, cases_eq, FrameTable, entry_at, frame_of, is_pointer, index_of, is_pointer-zero}
+use Rattle.page_tables.specs.{Tree.{IsTable, Points, IsForest, IsUnlinked, IsRoot, IsEmptyTable, IsSpare, last_table, last_entry, missing_of, page_entry, Way}, Change.{ChangesEntry, LinksTable}}
 use Rattle.page_tables.proofs.{Ways.{EndsAt, ends, only_way, index_of-lt, last_table-stop, last_table-zero}, Ends.{last_is, last_from_way, way_forth, missing_of-is, last_entry-is, page_entry-same, page_entry-whole, page_entry-missing}}
 use Rattle.page_tables.proofs.Setting.{other_entries, cases_place, at_place, table_forth, table_back, points_forth, points_back, elsewhere, kept_frames}
 

@@ -1,8 +1,6 @@
 -- Which tables are left after those without entries on one way were given back: each lies on the way to a page that is needed.
-use Rattle.std.proofs.{Common.{◌≡◌, ◌≢◌, ℕ, zero, suc, ◌+◌, ◌-◌, ◌*◌, ◌/◌, ◌%◌, ◌^◌, ◌<◌, ◌≤◌, ◌⊎◌, inl, inr, true, false, refl, sym, ap, ◌∙◌, subst, arith}, lemmas.Bool.{cases_eq, false≢true}, lemmas.Nat.{pow-add}}
-use Rattle.std.proofs.Math.Nat.{div-lt_iff_lt-mul, mul-div_cancel}
-use Rattle.frames.specs.FrameTable.{FrameTable}
-use Rattle.sv39_walk.specs.{Entry.{entry_at, frame_of, is_pointer}, Walk.{index_of}}
+use Rattle.page_tables.proofs.Names.{◌≡◌, ◌≢◌, ℕ, zero, suc, ◌+◌, ◌-◌, ◌*◌, ◌/◌, ◌%◌, ◌^◌, ◌<◌, ◌≤◌, ◌⊎◌, inl, inr, true, false, refl, sym, ap, ◌∙◌, subst, arith, cases_eq, false≢true, pow-add, div-lt_iff_lt-mul, mul-div_cancel, FrameTable}
+use Rattle.page_tables.proofs.Names.{entry_at, frame_of, is_pointer, index_of}
 use Rattle.page_tables.specs.{Tree.{IsPage, IsTable, Points, IsForest, IsRoot, IsUnlinked, last_table, missing_of, last_entry, page_entry, Way, IsBelowRoot}, Change.{Prunes, IsPruned}}
 use Rattle.page_tables.proofs.{Pages.{fields_same, span_positive, place_above, field_is}, Spans.{last_most, missing_in_place}, Ways.{EndsAt, ends, cases_bool, only_way, way_pointed}}
 use Rattle.page_tables.proofs.Ends.{last_is, last_from_way, way_forth, missing_of-is, last_entry-is, page_entry-whole}

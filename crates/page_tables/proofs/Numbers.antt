@@ -1,7 +1,5 @@
 -- The numbers of entries.
-use Rattle.std.proofs.{Common.{◌≡◌, ℕ, ◌+◌, ◌*◌, ◌/◌, ◌%◌, Bool, true, false, refl, sym, ap, ◌∙◌, arith}, lemmas.Bool.{false≢true}}
-use Rattle.std.specs.Prelude.{◌&&◌}
-use Rattle.sv39_walk.specs.Entry.{has_bit, is_valid, is_leaf, is_pointer}
+use Rattle.page_tables.proofs.Names.{◌≡◌, ℕ, ◌+◌, ◌*◌, ◌/◌, ◌%◌, Bool, true, false, refl, sym, ap, ◌∙◌, arith, false≢true, ◌&&◌, has_bit, is_valid, is_leaf, is_pointer}
 use Rattle.page_tables.specs.{declared.forms.Entry.{Entry}, declared.forms.Entry.TheVariants.{None, Leaf, Swapped, Parked}, Entry.{number_of, IsEntry, IsPageEntry}}
 
 even : (n : ℕ) → n % 2 ≡ 0 → is_valid n ≡ false

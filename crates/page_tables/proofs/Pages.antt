@@ -1,6 +1,5 @@
 -- A page's number is known by its fields.
-use Rattle.std.proofs.{Common.{◌≡◌, ℕ, zero, suc, ◌+◌, ◌-◌, ◌*◌, ◌/◌, ◌%◌, ◌^◌, ◌<◌, ◌≤◌, refl, sym, ap, ◌∙◌, arith}, Math.Nat.{div-div-eq-div-mul, pow-suc, pow-succ', div-lt_iff_lt-mul, div-mul-le_self}, lemmas.Nat.{le-div}}
-use Rattle.sv39_walk.specs.Walk.{index_of}
+use Rattle.page_tables.proofs.Names.{◌≡◌, ℕ, zero, suc, ◌+◌, ◌-◌, ◌*◌, ◌/◌, ◌%◌, ◌^◌, ◌<◌, ◌≤◌, refl, sym, ap, ◌∙◌, arith, div-div-eq-div-mul, pow-suc, pow-succ', div-lt_iff_lt-mul, div-mul-le_self, le-div, index_of}
 
 pub index_of-suc : (p k : ℕ) → index_of p (suc k) ≡ index_of (p / 512) k
 unfolding index_of

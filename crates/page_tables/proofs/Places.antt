@@ -1,10 +1,7 @@
 -- The pages of one row have one lowest table.
-use Rattle.std.proofs.Common.{◌≡◌, ℕ, zero, suc, inl, inr, ◌*◌, ◌/◌, ◌%◌, refl, sym, ap, ◌∙◌, subst, arith}
-use Rattle.frames.specs.FrameTable.{FrameTable}
-use Rattle.sv39_walk.specs.{Entry.{entry_at, is_pointer, frame_of}, Walk.{index_of}}
-use Rattle.page_tables.specs.{Tree.{IsTable, IsForest, IsRoot, last_table, page_entry}, Change.{SetsEntry}, Places.{IsTableOf}}
-use Rattle.page_tables.proofs.{Pages.{index_of-suc, index_of-zero}, Ways.{ends, cases_bool, last_table-next, last_table-stop, last_table-zero}, Ends.{SameTrees, same_last, missing_of-is, last_entry-is, page_entry-whole}}
-use Rattle.page_tables.proofs.Setting.{at_place}
+use Rattle.page_tables.proofs.Names.{◌≡◌, ℕ, zero, suc, inl, inr, ◌≤◌, ◌*◌, ◌/◌, ◌%◌, refl, sym, ap, ◌∙◌, subst, arith, FrameTable, entry_at, is_pointer, frame_of, index_of}
+use Rattle.page_tables.{specs.{Tree.{EndsWay, IsTable, IsForest, IsRoot, last_table, page_entry}, Change.{SetsEntry}, Places.{IsTableOf}}, proofs.Pages.{index_of-suc, index_of-zero}}
+use Rattle.page_tables.proofs.{Ways.{ends, cases_bool, last_table-next, last_table-stop, last_table-zero}, Ends.{SameTrees, same_last, missing_of-is, last_entry-is, page_entry-whole}, Setting.{at_place}}
 
 same_above : (p q k : ℕ) → p / 512 ≡ q / 512 → index_of p (suc k) ≡ index_of q (suc k)
 same_above p q k same = index_of-suc p k ∙ ap (λ x. index_of x k) same ∙ sym (index_of-suc q k)
@@ -22,12 +19,11 @@ last_in_row t p q (suc level) r same =
     ]
 
 -- where the way to a page ends at level 0 is the table of its row
-pub found_at : (t : FrameTable) (top root page n : ℕ) → IsTable t n → (last_table t page top root).0 ≡ 0 → (last_table t page top root).1 ≡ n
-    → IsTableOf t top root (page / 512) n
-found_at t top root page n table level is = record {
-  table = table;
-  whole = λ p same. missing_of-is t top root p ∙ ap (λ x. x.0) (last_in_row t page p top root (sym same)) ∙ level;
-  last = λ p same. ap (λ x. x.1) (last_in_row t page p top root (sym same)) ∙ is;
+pub found_at : (t : FrameTable) (top root page l n m : ℕ) → EndsWay t top root page l n m → l ≤ 0 → IsTableOf t top root (page / 512) n
+found_at t top root page l n m way low = record {
+  table = way.is_table;
+  whole = λ p same. missing_of-is t top root p ∙ ap (λ x. x.0) (last_in_row t page p top root (sym same)) ∙ sym way.level ∙ (omega (arith, low));
+  last = λ p same. ap (λ x. x.1) (last_in_row t page p top root (sym same)) ∙ sym way.table;
 }
 
 -- the entry of a page stands in the table of its row

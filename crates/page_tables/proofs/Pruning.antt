@@ -1,9 +1,6 @@
 -- A table without entries unlinked and given back.
-use Rattle.std.proofs.{Common.{◌≡◌, ◌≢◌, ℕ, suc, ◌+◌, ◌-◌, ◌<◌, ◌⊎◌, inl, inr, false, refl, sym, ap, ◌∙◌, subst, arith}, lemmas.Bool.{cases_eq, cases_lt}}
-use Rattle.frames.specs.{declared.role.Role.TheVariants.{Free, Table}, FrameTable.{FrameTable, role_of, SameButFor}}
-use Rattle.sv39_walk.specs.Entry.{entry_at, frame_of, is_pointer}
-use Rattle.sv39_walk.proofs.Entries.{is_pointer-zero}
-use Rattle.page_tables.specs.{Entry.{IsSoftware}, declared.forms.Entry.TheVariants.{None}, Tree.{IsTable, Points, IsForest, IsUnlinked, IsRoot, IsEmptyTable, last_table, missing_of, Way}, Change.{ChangesEntry, Prunes}}
+use Rattle.page_tables.proofs.Names.{◌≡◌, ◌≢◌, ℕ, suc, ◌+◌, ◌-◌, ◌<◌, ◌⊎◌, inl, inr, false, refl, sym, ap, ◌∙◌, subst, arith, cases_eq, cases_lt, Free, Table, FrameTable, role_of, SameButFor, entry_at, frame_of, is_pointer, is_pointer-zero}
+use Rattle.page_tables.specs.{declared.forms.Entry.TheVariants.{None}, Tree.{IsTable, Points, IsForest, IsUnlinked, IsRoot, IsEmptyTable, last_table, missing_of, Way}, Change.{ChangesEntry, Prunes}}
 use Rattle.page_tables.proofs.{Ways.{EndsAt, ends, way_pointed}, Ends.{SameTrees, turned, root_same, missing_of-is, way_forth}, Setting.{other_entries, cases_place, at_place, table_forth, table_back, points_forth, points_back, elsewhere}}
 use Rattle.page_tables.proofs.{Linking.{Linked, link_cases, link_entries, root_down, root_up}, Keeping.{KeepsTables, keeps_tables, empty_not_linking, same_trees, forest_kept, root_kept, entry_kept_at, missing_kept_at}}
 

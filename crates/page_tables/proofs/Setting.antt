@@ -1,7 +1,6 @@
 -- One entry of a page set: no pointer before, no pointer after.
-use Rattle.std.proofs.{Common.{◌≡◌, ◌≢◌, ℕ, ◌-◌, ◌<◌, ◌≤◌, ◌⊎◌, inl, inr, false, get_or, refl, sym, ap, ◌∙◌, subst, arith}, lemmas.Bool.{cases_eq, false≢true}}
-use Rattle.frames.specs.{declared.role.Role.TheVariants.{Free}, FrameTable.{FrameTable, bytes_of, role_of, SameButFor}}
-use Rattle.sv39_walk.specs.{Entry.{entry_at, frame_of, is_pointer}, Walk.{index_of}}
+use Rattle.page_tables.proofs.Names.{◌≡◌, ◌≢◌, ℕ, ◌-◌, ◌<◌, ◌≤◌, ◌⊎◌, inl, inr, false, get_or, refl, sym, ap, ◌∙◌, subst, arith, cases_eq, false≢true, Free, FrameTable, bytes_of, role_of, SameButFor, entry_at, frame_of, is_pointer}
+use Rattle.page_tables.proofs.Names.{index_of}
 use Rattle.page_tables.specs.{Entry.{IsSoftware}, Tree.{IsTable, Points, IsForest, IsUnlinked, IsRoot, last_table, last_entry, missing_of, IsPage, Way}, Change.{ChangesEntry, KeepsFrames, SetsEntry}}
 use Rattle.page_tables.proofs.{Ways.{EndsAt, ends, only_way, index_of-lt}, Ends.{last_is, way_forth, missing_of-is, last_entry-is, page_entry-same, page_entry-whole}, Pages.{page_from_fields}}
 

@@ -1,10 +1,7 @@
 -- The pages in the place of one entry of a table: the ways to them, and what is missing there.
-use Rattle.std.proofs.{Common.{◌≡◌, ◌≢◌, ℕ, zero, suc, ◌+◌, ◌-◌, ◌*◌, ◌/◌, ◌%◌, ◌^◌, ◌<◌, ◌≤◌, ◌⊎◌, inl, inr, false, refl, sym, ap, ◌∙◌, arith}, lemmas.Bool.{cases_eq}, Math.Nat.{mul-div_cancel}}
-use Rattle.frames.specs.FrameTable.{FrameTable}
-use Rattle.sv39_walk.specs.{Entry.{entry_at, frame_of, is_pointer}, Walk.{index_of}}
-use Rattle.sv39_walk.proofs.Entries.{is_pointer-zero}
-use Rattle.page_tables.specs.Tree.{IsRoot, last_table, missing_of}
-use Rattle.page_tables.proofs.{Ways.{cases_bool, last_table-next, last_table-stop, last_table-zero, last_at-next, last_at-stop}, Ends.{missing_of-is, last_entry-is}}
+use Rattle.page_tables.proofs.Names.{◌≡◌, ◌≢◌, ℕ, zero, suc, ◌+◌, ◌-◌, ◌*◌, ◌/◌, ◌%◌, ◌^◌, ◌<◌, ◌≤◌, ◌⊎◌, inl, inr, false, refl, sym, ap, ◌∙◌, arith, cases_eq, mul-div_cancel, FrameTable, entry_at, frame_of, is_pointer, index_of}
+use Rattle.page_tables.proofs.Names.{is_pointer-zero}
+use Rattle.page_tables.{specs.Tree.{IsRoot, last_table, missing_of}, proofs.{Ways.{cases_bool, last_table-next, last_table-stop, last_table-zero, last_at-next, last_at-stop}, Ends.{missing_of-is, last_entry-is}}}
 use Rattle.page_tables.proofs.Pages.{fields_same, span_positive, place_above, same_span_above, field_is, place_below, below_place, place_from}
 
 -- a way from a level on ends at that level or below it

@@ -1,9 +1,6 @@
 -- What stays of the trees where tables without entries were given back.
-use Rattle.std.proofs.{Common.{◌≡◌, ℕ, zero, suc, ◌-◌, inl, inr, refl, sym, ap, ◌∙◌, subst}, lemmas.Bool.{false≢true}}
-use Rattle.frames.specs.{declared.role.Role.TheVariants.{Free, Table}, FrameTable.{FrameTable, role_of}}
-use Rattle.sv39_walk.specs.{Entry.{entry_at, frame_of, is_pointer}, Walk.{index_of}}
-use Rattle.page_tables.specs.{Tree.{IsTable, Points, IsUnlinked, IsForest, Way}, Change.{Prunes}}
-use Rattle.page_tables.proofs.{Ways.{cases_bool}, Linking.{pair}}
+use Rattle.page_tables.proofs.Names.{◌≡◌, ℕ, zero, suc, ◌-◌, inl, inr, refl, sym, ap, ◌∙◌, subst, false≢true, Free, Table, FrameTable, role_of, entry_at, frame_of, is_pointer, index_of}
+use Rattle.page_tables.{specs.{Tree.{IsTable, Points, IsUnlinked, IsForest, Way}, Change.{Prunes}}, proofs.{Ways.{cases_bool}, Linking.{pair}}}
 pub use Rattle.page_tables.proofs.Keeping.{same_taken}
 
 module _ (old new : FrameTable) (top root page : ℕ) (forest : IsForest old) (prunes : Prunes old new top root page) where

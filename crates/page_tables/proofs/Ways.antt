@@ -1,7 +1,5 @@
 -- Ways from roots to tables.
-use Rattle.std.proofs.{Common.{◌≡◌, ℕ, zero, suc, ◌-◌, ◌<◌, ◌≤◌, ◌⊎◌, inl, inr, Bool, true, false, refl, sym, ap, ◌∙◌, subst, arith}, lemmas.Bool.{cases_eq}}
-use Rattle.frames.specs.FrameTable.{FrameTable}
-use Rattle.sv39_walk.specs.{Entry.{entry_at, frame_of, is_pointer}, Walk.{index_of}}
+use Rattle.page_tables.proofs.Names.{◌≡◌, ℕ, zero, suc, ◌-◌, ◌<◌, ◌≤◌, ◌⊎◌, inl, inr, Bool, true, false, refl, sym, ap, ◌∙◌, subst, arith, cases_eq, FrameTable, entry_at, frame_of, is_pointer, index_of}
 use Rattle.page_tables.specs.Tree.{IsTable, Points, IsForest, IsUnlinked, Way, last_table}
 
 -- a field of a page's number is under 512

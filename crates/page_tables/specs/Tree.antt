@@ -54,10 +54,15 @@ last_table t page (suc level) n =
     let e = entry_at t n (index_of page (suc level)) in
     if is_pointer e then last_table t page level (frame_of e) else (suc level, n)
 
+-- how many tables are missing on the way to a page
+unfoldable pub missing_of : FrameTable → ℕ → ℕ → ℕ → ℕ
+missing_of t top root page = (last_table t page top root).0
+
 -- The way to a page from the root of a tree of that many levels above the lowest was gone to its end: it ends
 pub record EndsWay (t : FrameTable) (top root page l n m : ℕ) : Type 0 where
-  -- at that level, which is one of the tree's, at most three above the lowest,
+  -- at that level, which is how many tables are missing and one of the tree's, at most three above the lowest,
   pub level : l ≡ (last_table t page top root).0
+  pub missing : l ≡ missing_of t top root page
   pub in_levels : l ≤ top
   pub few : top ≤ 3
   -- in that table,
@@ -65,10 +70,6 @@ pub record EndsWay (t : FrameTable) (top root page l n m : ℕ) : Type 0 where
   pub is_table : IsTable t n
   -- which is the root, or the one that the table before it points to
   pub parent : (n ≡ root) ⊎ ((l < top) × Points t m (index_of page (l + 1)) n)
-
--- how many tables are missing on the way to a page
-unfoldable pub missing_of : FrameTable → ℕ → ℕ → ℕ → ℕ
-missing_of t top root page = (last_table t page top root).0
 
 -- the entry that ends the way
 unfoldable pub last_entry : FrameTable → ℕ → ℕ → ℕ → ℕ

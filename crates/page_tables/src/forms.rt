@@ -6,7 +6,7 @@ use sv39_walk::Pte;
 use vm_types::{FrameNo, SlotNo};
 
 /// What a table says of a page.
-#[derive(Clone, Copy, Debug, PartialEq, Eq)]
+#[derive(Clone, Copy)]
 pub enum Entry {
     /// Nothing.
     None,

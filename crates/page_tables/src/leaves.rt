@@ -9,7 +9,7 @@ use sv39_walk::Pte;
 use vm_types::{FrameNo, Prot};
 
 /// Where a page lies, and what an entry for it allows beside what its permission says.
-#[derive(Clone, Copy, Debug, PartialEq, Eq)]
+#[derive(Clone, Copy)]
 pub struct Grant {
     /// The frame.
     pub frame: FrameNo,

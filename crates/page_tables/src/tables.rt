@@ -43,7 +43,7 @@ pub fn entry_number<M: Levels>(frames: &Frames, root: FrameNo, page: Vpn) -> Pte
     requires root { IsRoot (top_level M.mode) frames.now root.0 }
     ensures { result.0 ≡ page_entry frames.now (top_level M.mode) root.0 page }
 {
-    let (level, table, _) = end_of_way::<M>(frames, root, page.get());
+    let (level, table, _) = end_of_way::<M>(frames, root, page);
     if level > 0 {
         return Pte::from_u64(0);
     }
@@ -57,7 +57,7 @@ pub fn missing_tables<M: Levels>(frames: &Frames, root: FrameNo, page: Vpn) -> u
     ensures missing { result ≡ missing_of frames.now (top_level M.mode) root.0 page }
     ensures range { result ≤ top_level M.mode }
 {
-    let (level, _, _) = end_of_way::<M>(frames, root, page.get());
+    let (level, _, _) = end_of_way::<M>(frames, root, page);
     level as u8
 }
 
@@ -72,7 +72,7 @@ pub fn set<M: Levels>(frames: &mut Frames, root: FrameNo, page: Vpn, entry: Entr
     ensures sets { SetsEntry frames.old frames.new (top_level M.mode) root.0 page (number_of entry) }
     ensures sound { IsSound frames.new }
 {
-    let (_, table, _) = end_of_way::<M>(frames, root, page.get());
+    let (_, table, _) = end_of_way::<M>(frames, root, page);
     write_entry(frames, table, table_index(page.get(), 0), encode(entry));
 }
 
@@ -86,7 +86,7 @@ pub fn link_table<M: Levels>(frames: &mut Frames, root: FrameNo, page: Vpn, tabl
     ensures links { LinksTable frames.old frames.new (top_level M.mode) root.0 page table.0 }
     ensures sound { IsSound frames.new }
 {
-    let (level, parent, _) = end_of_way::<M>(frames, root, page.get());
+    let (level, parent, _) = end_of_way::<M>(frames, root, page);
     write_entry(
         frames,
         parent,
@@ -116,15 +116,14 @@ fn prune_last<M: Levels>(frames: &mut Frames, root: FrameNo, page: Vpn) -> bool
     ensures higher { result ≡ true → missing_of frames.new (top_level M.mode) root.0 page ≡ missing_of frames.old (top_level M.mode) root.0 page + 1 }
     ensures in_levels { missing_of frames.new (top_level M.mode) root.0 page ≤ top_level M.mode }
 {
-    let number = page.get();
-    let (level, table, parent) = end_of_way::<M>(frames, root, number);
+    let (level, table, parent) = end_of_way::<M>(frames, root, page);
     if table.0 == root.0 {
         return false;
     }
     if !is_empty(frames, table) {
         return false;
     }
-    unlink(frames, parent, table_index(number, level + 1), table);
+    unlink(frames, parent, table_index(page.get(), level + 1), table);
     true
 }
 
@@ -167,7 +166,7 @@ pub fn table_of<M: Levels>(frames: &Frames, root: FrameNo, page: Vpn) -> Result<
     ensures found { IfOk result (λ n. IsTableOf frames.now (top_level M.mode) root.0 (page / table_entries) n.0) }
     ensures missing { IfErr result (λ missing. (missing ≡ missing_of frames.now (top_level M.mode) root.0 page) × (1 ≤ missing) × (missing ≤ (top_level M.mode))) }
 {
-    let (level, table, _) = end_of_way::<M>(frames, root, page.get());
+    let (level, table, _) = end_of_way::<M>(frames, root, page);
     if level > 0 {
         return Err(level as u8);
     }
@@ -182,7 +181,7 @@ pub fn last_table<M: Levels>(frames: &Frames, root: FrameNo, page: Vpn) -> (u32,
     ensures range { result.0 ≤ top_level M.mode }
     ensures table { IsTable frames.now result.1.0 }
 {
-    let (level, table, _) = end_of_way::<M>(frames, root, page.get());
+    let (level, table, _) = end_of_way::<M>(frames, root, page);
     (level, table)
 }
 
@@ -211,18 +210,19 @@ pub fn set_in(frames: &mut Frames, table: FrameNo, index: usize, entry: Entry)
 }
 
 // Where the way to a page ends: the level, the table, and the table before it, if it isn't the root.
-fn end_of_way<M: Levels>(frames: &Frames, root: FrameNo, page: u64) -> (u32, FrameNo, FrameNo)
+fn end_of_way<M: Levels>(frames: &Frames, root: FrameNo, page: Vpn) -> (u32, FrameNo, FrameNo)
     requires forest { IsForest frames.now }
     requires root { IsRoot (top_level M.mode) frames.now root.0 }
     ensures { EndsWay frames.now (top_level M.mode) root.0 page result.0 result.1.0 result.2.0 }
 {
     // (brings in that memory is sound, so that the numbers of its frames are small)
     let _ = frames.len();
+    let number = page.get();
     let mut table = root;
     let mut parent = root;
     let mut level = M::top_level();
     while level > 0 {
-        let entry = read_entry(frames, table, table_index(page, level));
+        let entry = read_entry(frames, table, table_index(number, level));
         // What stands above the lowest level of a tree and is valid points to a table.
         if !entry.is_valid() {
             return (level, table, parent);

@@ -1,5 +1,5 @@
 //! What the functions answer.
-use super::client::{Client, carry_out, filled, lent_of, new_store, rows_of, zeros};
+use super::client::{Client, carry_out, equal, filled, lent_of, new_store, rows_of, zeros};
 use super::stops::open_words;
 use disk_model::SimDisk;
 use file_store::format;
@@ -23,7 +23,7 @@ fn told_of_a_store<R: AllocGlobal + Abort>(rt: &R, journals: Journals) -> Result
     let mut disk = new_store(rt.alloc(), journals)?;
     let mut client = Client::new(rt.alloc())?;
     let files = client.opened(rt.alloc(), &mut disk)?;
-    assert_eq!(rt; files.as_slice(), filled(rt.alloc(), [0; 4])?.as_slice());
+    equal(rt, files.as_slice(), filled(rt.alloc(), [0; 4])?.as_slice());
     let image = rows_of(rt.alloc(), &disk)?;
     for (file, wanted) in [(0, Some(5000)), (1, Some(1)), (2, Some(4096)), (3, None)] {
         let length = match client.facts(image.as_slice(), file) {
@@ -31,12 +31,12 @@ fn told_of_a_store<R: AllocGlobal + Abort>(rt: &R, journals: Journals) -> Result
             Ok(None) => None,
             Err(_) => return Err(Fail::new("the image was not opened")),
         };
-        assert_eq!(rt; length, wanted);
+        equal(rt, length, wanted);
     }
     let mut bytes = [0; 4096];
     for (file, page) in [(0, 2), (1, 1), (3, 0)] {
         let answer = client.read(image.as_slice(), FilePage { file, page }, &mut bytes);
-        assert_eq!(rt; answer, Err(Refusal::BadPages));
+        equal(rt, answer, Err(Refusal::BadPages));
     }
     Ok(())
 }
@@ -57,11 +57,12 @@ fn bad_pages_are_refused(rt: HostRuntime) -> Result<(), Fail> {
     for (file, page, wanted) in refused {
         let pages = [FIRST, FilePage { file, page }];
         let answer = client.commit(image.as_slice(), &pages, lent.as_slice());
-        assert_eq!(rt; answer, Err(wanted));
+        equal(&rt, answer, Err(wanted));
     }
-    assert_eq!(rt;
+    equal(
+        &rt,
         client.commit(image.as_slice(), &[], &[]),
-        Err(Refusal::BadPages)
+        Err(Refusal::BadPages),
     );
     Ok(())
 }
@@ -69,11 +70,12 @@ fn bad_pages_are_refused(rt: HostRuntime) -> Result<(), Fail> {
 #[test]
 fn images_of_no_store_are_refused(rt: HostRuntime) -> Result<(), Fail> {
     let mut client = Client::new(rt.alloc())?;
-    assert_eq!(rt; client.open(&[]), Err(Refusal::BadLayout));
+    equal(&rt, client.open(&[]), Err(Refusal::BadLayout));
     let blank = SimDisk::new(rt.alloc(), 8227)?;
-    assert_eq!(rt;
+    equal(
+        &rt,
         client.open(rows_of(rt.alloc(), &blank)?.as_slice()),
-        Err(Refusal::BadLayout)
+        Err(Refusal::BadLayout),
     );
     // The gate is open over a map of too many pages.
     let store = new_store(rt.alloc(), Journals::Single)?;
@@ -81,14 +83,14 @@ fn images_of_no_store_are_refused(rt: HostRuntime) -> Result<(), Fail> {
     for (row, bytes) in image.iter_mut().skip(2).zip([open_words(512), [128; 512]]) {
         *row = bytes;
     }
-    assert_eq!(rt; client.open(image.as_slice()), Err(Refusal::BadJournal));
+    equal(&rt, client.open(image.as_slice()), Err(Refusal::BadJournal));
     // Any bytes in the gate name the first of two journals, here over a map of too many pages.
     let store = new_store(rt.alloc(), Journals::Paired)?;
     let mut image = rows_of(rt.alloc(), &store)?;
     for (row, bytes) in image.iter_mut().skip(16).zip([[7; 512]; 9]) {
         *row = bytes;
     }
-    assert_eq!(rt; client.open(image.as_slice()), Err(Refusal::BadJournal));
+    equal(&rt, client.open(image.as_slice()), Err(Refusal::BadJournal));
     Ok(())
 }
 
@@ -111,7 +113,7 @@ fn the_largest_plan_has_room(rt: HostRuntime) -> Result<(), Fail> {
     for calls in [1034, 2060] {
         let image = rows_of(rt.alloc(), &disk)?;
         let answer = client.commit(image.as_slice(), pages.as_slice(), lent.as_slice());
-        assert_eq!(rt; answer, Ok(calls));
+        equal(&rt, answer, Ok(calls));
         carry_out(&mut disk, &client.plan, 0, calls)?;
     }
     Ok(())

@@ -2,12 +2,19 @@
 use disk_model::{SectorDisk, SimDisk};
 use file_store::{FileSource, format};
 use std::alloc::{AllocError, Global};
+use std::fmt::Debug;
+use std::process::Abort;
 use std::test::Fail;
 use sync_journal::Journals;
 use sync_plans::{
     Call, PageBytes, PageUpdates, ROOM, Refusal, Scratch, file_facts, plan_commit, plan_open,
 };
 use vm_types::{FileInfo, FilePage};
+
+/// Ends the test where the value isn't the one that is wanted. A test that said `assert_eq!` itself would be proved to end well at each place.
+pub(crate) fn equal<T: PartialEq + Debug + Drop>(rt: &impl Abort, got: T, want: T) {
+    assert_eq!(rt; got, want);
+}
 
 /// A page of the image, and how many of its bytes lie inside its file.
 #[derive(Clone, Copy)]

@@ -1,5 +1,5 @@
 //! Plans that are stopped before each of their calls, with torn sectors, and opened again.
-use super::client::{Client, PLACES, Plan, carry_out, filled, lent_of, new_store, rows_of};
+use super::client::{Client, PLACES, Plan, carry_out, equal, filled, lent_of, new_store, rows_of};
 use disk_model::{SectorDisk, SimDisk};
 use std::alloc::Global;
 use std::process::Abort;
@@ -69,7 +69,9 @@ fn stopped_everywhere<R: AllocGlobal + Abort>(
             let files = looker.opened(rt.alloc(), &mut left)?;
             let is_old = count < plan.used && files.as_slice() == before;
             let is_new = count > 0 && files.as_slice() == after;
-            assert!(rt; is_old || is_new, "filling {number} before call {count}");
+            if !is_old && !is_new {
+                return Err(Fail::new(format_args!("filling {number} before call {count}")));
+            }
         }
         carry_out(&mut stopped, plan, count, 1)?;
     }
@@ -121,8 +123,8 @@ fn committed<R: AllocGlobal + Abort>(
     let lent = lent_of(rt.alloc(), bytes.as_slice())?;
     let image = rows_of(rt.alloc(), disk)?;
     let answer = client.commit(image.as_slice(), pages.as_slice(), lent.as_slice());
-    assert_eq!(rt; answer, Ok(client.plan.used));
-    assert_eq!(rt; counts(&client.plan), wanted);
+    equal(rt, answer, Ok(client.plan.used));
+    equal(rt, counts(&client.plan), wanted);
     let before = filled(rt.alloc(), before)?;
     let after = filled(rt.alloc(), after)?;
     stopped_everywhere(rt, disk, &client.plan, before.as_slice(), after.as_slice())?;
@@ -171,7 +173,7 @@ fn opened_everywhere<R: AllocGlobal + Abort>(
     committed(rt, &mut disk, [0; 4], [3, 7, 0, 0], [17, 2, 1, 0])?;
     let mut client = Client::new(rt.alloc())?;
     let image = rows_of(rt.alloc(), &disk)?;
-    assert_eq!(rt; client.open(image.as_slice()), Ok(calls));
+    equal(rt, client.open(image.as_slice()), Ok(calls));
     let files = filled(rt.alloc(), [3, 7, 0, 0])?;
     stopped_everywhere(rt, &disk, &client.plan, files.as_slice(), files.as_slice())
 }

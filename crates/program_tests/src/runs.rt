@@ -7,7 +7,7 @@ use sync_journal::Journals;
 use test_steps::FileStep::{FillAt, IsFilledAt, IsLong, SetLength, Write, WriteAt};
 use test_steps::Program::{Cat, Format, Run};
 use test_steps::Step::{self, Does, Fails, File, Files, Removes, Shows};
-use test_steps::{NEW, TwoFiles, carry_out_all};
+use test_steps::{NEW, TwoFiles, carry_out_all, same};
 
 /// The words that run a trace.
 const RUN: &[&str] = &["@image", "@swap"];
@@ -290,13 +290,13 @@ fn a_device_is_handed_back(rt: HostRuntime) -> Result<(), Fail> {
     format(&mut disk, Journals::Single, &mut sources)?;
     let mut output = Vec::new(rt.alloc());
     let Err((fault, disk)) = show(disk, 1, &mut output) else {
-        return Err(Fail::new(format_args!("there is no file 1")));
+        return Err(Fail::new("there is no file 1"));
     };
-    assert_eq!(rt; fault, ShowFault::NoFile);
-    assert!(rt; output.is_empty());
+    if fault != ShowFault::NoFile || !output.is_empty() {
+        return Err(Fail::new("another fault, or bytes"));
+    }
     let Ok(_) = show(disk, 0, &mut output) else {
-        return Err(Fail::new(format_args!("file 0 was not shown")));
+        return Err(Fail::new("file 0 was not shown"));
     };
-    assert_eq!(rt; output.as_slice(), b"abc".as_slice());
-    Ok(())
+    same("file 0", output.as_slice(), b"abc")
 }

@@ -9,8 +9,7 @@ use Rattle.sync_journal.specs.{declared.store_journal.Journals.{Journals}, decla
 use Rattle.file_store.proofs.{Images.{same_head, entry_same}, Outside.{left_outside}}
 use Rattle.file_store.specs.{declared.directory.Directory.{Directory}, declared.directory.Entry.{Entry}, declared.store.FileStore.{FileStore}, Standing.{IsAskedToOpen, IsPageOf, StandsAs, directory_entry}}
 use Rattle.file_store.specs.Store.{IsReadyStore, IsSectorOf, entry_of, files_of, entry_home, home_of}
-use Rattle.programs.proofs.Copies.{has_entry, same_content, still_stands}
-use Rattle.programs.specs.Showing.{IsAskedToShow, IsInHomesOf, IsSectorOfFile, KeepsImage, KeepsToFile, OnlyReads}
+use Rattle.programs.{specs.Showing.{IsAskedToShow, IsInHomesOf, IsSectorOfFile, KeepsImage, KeepsToFile, OnlyReads}, proofs.Copies.{has_entry, same_content, still_stands}}
 
 -- where nothing stands in a journal alone, a page stands in its home
 at_home : (journal : StoreJournal) (h k : ℕ) → store_live journal ≡ [] → IsPageSector (journal_stands journal h) k → IsPageSector (kind_home (journal_kind journal) h) k

@@ -9,7 +9,7 @@ use std::io::{self, ErrorKind};
 use std::os::unix::fs::FileExt;
 
 /// How a file is opened.
-#[derive(Clone, Copy, Debug, PartialEq, Eq)]
+#[derive(Clone, Copy)]
 pub(crate) enum Access {
     /// It is only read.
     Read,
@@ -17,6 +17,18 @@ pub(crate) enum Access {
     Write,
     /// The same, and a file that is missing is made.
     Make,
+}
+
+impl Access {
+    /// Whether the file is written too.
+    fn writes(self) -> bool {
+        matches!(self, Access::Write | Access::Make)
+    }
+
+    /// Whether a file that is missing is made.
+    fn makes(self) -> bool {
+        matches!(self, Access::Make)
+    }
 }
 
 /// The device in the file of that path that was opened so. No other program of ours has the file until the device is dropped.
@@ -93,14 +105,14 @@ pub(crate) fn open_regular<R: Files<File = File>>(
     match fs::metadata(rt, path) {
         Ok(metadata) if metadata.is_file() => {}
         Ok(_) => return Err(io::Error::from(ErrorKind::InvalidInput)),
-        Err(error) if error.kind() == ErrorKind::NotFound && access == Access::Make => {}
+        Err(error) if error.kind() == ErrorKind::NotFound && access.makes() => {}
         Err(error) => return Err(error),
     }
     let mut options = OpenOptions::new();
     options
         .read(true)
-        .write(access != Access::Read)
-        .create(access == Access::Make);
+        .write(access.writes())
+        .create(access.makes());
     options.open(rt, path)
 }
 

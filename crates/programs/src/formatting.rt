@@ -93,7 +93,7 @@ fn format_image<'a, C: FileContents, R: Files<File = File> + AllocGlobal>(
 }
 
 /// What stood at the path of IMAGE before this run.
-#[derive(Clone, Copy, Debug, PartialEq, Eq)]
+#[derive(Clone, Copy)]
 pub(crate) enum Former {
     /// Nothing: what is there now was made by this run.
     Missing,

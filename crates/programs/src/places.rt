@@ -24,13 +24,25 @@ pub fn held_places<'a, R: Files<File = File>>(rt: &R) -> Result<[Option<File>; 3
 {
     let mut places = [None, None, None];
     for place in &mut places {
-        let Ok(file) = File::open(rt, NOTHING) else {
-            return Err(ProgramFault::CannotOpen(NOTHING));
+        let taken = match taken_place(rt) {
+            Ok(taken) => taken,
+            Err(fault) => return Err(fault),
         };
-        if file.as_raw_fd() > LAST_STREAM {
+        if taken.is_none() {
             break;
         }
-        *place = Some(file);
+        *place = taken;
     }
     Ok(places)
+}
+
+/// That file under the number of a standard stream; `None` where it gets another, since no stream is wanting.
+fn taken_place<'a, R: Files<File = File>>(rt: &R) -> Result<Option<File>, ProgramFault<'a>>
+    ensures { IfErr result (IsUnopened NOTHING.now) }
+{
+    match File::open(rt, NOTHING) {
+        Ok(file) if file.as_raw_fd() > LAST_STREAM => Ok(None),
+        Ok(file) => Ok(Some(file)),
+        Err(_) => Err(ProgramFault::CannotOpen(NOTHING)),
+    }
 }

@@ -54,7 +54,9 @@ fn run_image<
     let _places = held_places(rt)?;
     let mut machine = boot_image::<C, K, R>(rt, &words)?;
     let end = run(reader, writer, &mut machine);
-    status_of(end, &machine)
+    let outcome = status_of(end, &machine);
+    let _store = machine.into_store();
+    outcome
 }
 
 /// Opens the files of these words, IMAGE first, makes SWAP where it is missing and lengthens it, and boots a machine on them. The standard streams

@@ -152,7 +152,7 @@ pub fn show_opened<D: SectorDisk, W: Write>(
 }
 
 /// Why a file was not written out whole.
-#[derive(Clone, Copy, Debug, PartialEq, Eq)]
+#[derive(Clone, Copy)]
 enum CopyFault {
     /// The device failed.
     Read,

@@ -11,7 +11,7 @@ use std::alloc::Global;
 use std::fs::{File, Files};
 
 /// What a spec asks for.
-#[derive(Clone, Copy, Debug, PartialEq, Eq)]
+#[derive(Clone, Copy)]
 pub(crate) enum FileSpec<'a> {
     /// `zero:LEN`: a writable file of so many zero bytes.
     Zeros(u32),

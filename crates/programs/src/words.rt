@@ -1,6 +1,7 @@
 //! What the words after a program's name ask for.
 use crate::faults::ProgramFault;
 use crate::numbers::number;
+use clap::builder::ValueRange;
 use clap::{Arg, ArgMatches, Command};
 use machine::Config;
 use std::alloc::{AllocError, Global};
@@ -15,7 +16,7 @@ pub const DEFAULT_CONFIG: Config = Config {
 };
 
 /// The words of `pagefmt`.
-#[derive(Debug, Drop)]
+#[derive(Drop)]
 pub(crate) enum FormatWords<'a> {
     /// `new IMAGE SPEC...` or `new3 IMAGE SPEC...`
     New(NewWords<'a>),
@@ -24,7 +25,7 @@ pub(crate) enum FormatWords<'a> {
 }
 
 /// The words of `pagefmt new IMAGE SPEC...`, whose store has one journal, or of `pagefmt new3 IMAGE SPEC...`, whose store has two in turn.
-#[derive(Debug, Drop)]
+#[derive(Drop)]
 pub(crate) struct NewWords<'a> {
     pub journals: Journals,
     pub image: &'a str,
@@ -32,7 +33,7 @@ pub(crate) struct NewWords<'a> {
 }
 
 /// The words of `pagefmt upgrade OLD NEW`, which makes a store of one journal, or of `pagefmt upgrade3 OLD NEW`, which makes one of two.
-#[derive(Clone, Copy, Debug, PartialEq, Eq)]
+#[derive(Clone, Copy)]
 pub(crate) struct UpgradeWords<'a> {
     pub journals: Journals,
     pub old: &'a str,
@@ -40,18 +41,40 @@ pub(crate) struct UpgradeWords<'a> {
 }
 
 /// The words of `pagecat IMAGE N`.
-#[derive(Clone, Copy, Debug, PartialEq, Eq)]
+#[derive(Clone, Copy)]
 pub(crate) struct CatWords<'a> {
     pub image: &'a str,
     pub file: u32,
 }
 
 /// The words of `pagerun IMAGE SWAP [FRAMES SLOTS [sv39|sv48]]`.
-#[derive(Clone, Copy, Debug, PartialEq, Eq)]
+#[derive(Clone, Copy, Debug)]
 pub struct RunWords<'a> {
     pub image: &'a str,
     pub swap: &'a str,
     pub config: Config,
+}
+
+/// What `pagefmt` is to make.
+#[derive(Clone, Copy)]
+enum Making {
+    New(Journals),
+    Upgrade(Journals),
+}
+
+/// What `pagefmt` is to make after that word, if it is one that it takes.
+fn making_of(word: &str) -> Option<Making> {
+    if word == "new" {
+        Some(Making::New(Journals::Single))
+    } else if word == "new3" {
+        Some(Making::New(Journals::Paired))
+    } else if word == "upgrade" {
+        Some(Making::Upgrade(Journals::Single))
+    } else if word == "upgrade3" {
+        Some(Making::Upgrade(Journals::Paired))
+    } else {
+        None
+    }
 }
 
 /// Reads the words of `pagefmt`. The specs are not looked at yet.
@@ -59,35 +82,84 @@ pub(crate) fn format_words<'a>(
     alloc: Global,
     words: &'a [String],
 ) -> Result<FormatWords<'a>, ProgramFault<'a>> {
-    let command = Command::new(alloc, "pagefmt")
-        .no_binary_name(true)
-        .subcommand_required(true)
-        .subcommand(new_command(alloc, "new")?)?
-        .subcommand(new_command(alloc, "new3")?)?
-        .subcommand(upgrade_command(alloc, "upgrade")?)?
-        .subcommand(upgrade_command(alloc, "upgrade3")?)?;
+    let command = format_command(alloc)?;
     let matches = command.try_get_matches_from(words)?;
-    match matches.subcommand() {
-        Some(("new", found)) => new_words(alloc, Journals::Single, found),
-        Some(("new3", found)) => new_words(alloc, Journals::Paired, found),
-        Some(("upgrade", found)) => upgrade_words(Journals::Single, found),
-        Some(("upgrade3", found)) => upgrade_words(Journals::Paired, found),
-        _ => Err(ProgramFault::Usage),
+    let Some((word, found)) = matches.subcommand() else {
+        return Err(ProgramFault::Usage);
+    };
+    match making_of(word) {
+        Some(Making::New(journals)) => new_words(alloc, journals, found),
+        Some(Making::Upgrade(journals)) => upgrade_words(journals, found),
+        None => Err(ProgramFault::Usage),
     }
 }
 
-/// A subcommand of that name with the words of a new image.
-fn new_command<'a>(alloc: Global, name: &'a str) -> Result<Command<'a>, AllocError> {
-    let image = Arg::new(alloc, "IMAGE").required(true);
-    let specs = Arg::new(alloc, "SPEC").required(true).num_args(1..);
-    Command::new(alloc, name).arg(image)?.arg(specs)
+/// The words of `pagefmt` by their names.
+fn format_command<'a>(alloc: Global) -> Result<Command<'a>, AllocError> {
+    let command = Command::new(alloc, "pagefmt")
+        .no_binary_name(true)
+        .subcommand_required(true);
+    let command = with_new(command, alloc, "new")?;
+    let command = with_new(command, alloc, "new3")?;
+    let command = with_upgrade(command, alloc, "upgrade")?;
+    with_upgrade(command, alloc, "upgrade3")
 }
 
-/// A subcommand of that name with the words of an upgrade.
-fn upgrade_command<'a>(alloc: Global, name: &'a str) -> Result<Command<'a>, AllocError> {
-    let old = Arg::new(alloc, "OLD").required(true);
-    let new = Arg::new(alloc, "NEW").required(true);
-    Command::new(alloc, name).arg(old)?.arg(new)
+/// With a subcommand of that name with the words of a new image.
+fn with_new<'a>(
+    parent: Command<'a>,
+    alloc: Global,
+    name: &'a str,
+) -> Result<Command<'a>, AllocError> {
+    let command = with_word(Command::new(alloc, name), alloc, "IMAGE")?;
+    parent.subcommand(with_specs(command, alloc)?)
+}
+
+/// With a subcommand of that name with the words of an upgrade.
+fn with_upgrade<'a>(
+    parent: Command<'a>,
+    alloc: Global,
+    name: &'a str,
+) -> Result<Command<'a>, AllocError> {
+    let command = with_word(Command::new(alloc, name), alloc, "OLD")?;
+    parent.subcommand(with_word(command, alloc, "NEW")?)
+}
+
+/// A command with one more word, which has to be given.
+fn with_word<'a>(
+    command: Command<'a>,
+    alloc: Global,
+    name: &'a str,
+) -> Result<Command<'a>, AllocError> {
+    command.arg(Arg::new(alloc, name).required(true))
+}
+
+/// A command with the words of one spec or more.
+fn with_specs<'a>(command: Command<'a>, alloc: Global) -> Result<Command<'a>, AllocError> {
+    command.arg(
+        Arg::new(alloc, "SPEC")
+            .required(true)
+            .num_args(some_values()),
+    )
+}
+
+/// One value or more.
+fn some_values() -> ValueRange {
+    ValueRange::from(1..)
+}
+
+/// A command with one more word, which may be left out.
+fn with_choice<'a>(
+    command: Command<'a>,
+    alloc: Global,
+    name: &'a str,
+) -> Result<Command<'a>, AllocError> {
+    command.arg(Arg::new(alloc, name))
+}
+
+/// The word of that name, which is given.
+fn word_of<'a>(matches: &ArgMatches<'a>, name: &str) -> Result<&'a str, ProgramFault<'a>> {
+    matches.get_str(name).ok_or(ProgramFault::Usage)
 }
 
 fn new_words<'a>(
@@ -95,7 +167,7 @@ fn new_words<'a>(
     journals: Journals,
     matches: &ArgMatches<'a>,
 ) -> Result<FormatWords<'a>, ProgramFault<'a>> {
-    let image = matches.get_str("IMAGE").ok_or(ProgramFault::Usage)?;
+    let image = word_of(matches, "IMAGE")?;
     let specs = matches.get_strs("SPEC").ok_or(ProgramFault::Usage)?;
     let specs = Vec::from_slice(alloc, specs)?;
     Ok(FormatWords::New(NewWords {
@@ -109,8 +181,8 @@ fn upgrade_words<'a>(
     journals: Journals,
     matches: &ArgMatches<'a>,
 ) -> Result<FormatWords<'a>, ProgramFault<'a>> {
-    let old = matches.get_str("OLD").ok_or(ProgramFault::Usage)?;
-    let new = matches.get_str("NEW").ok_or(ProgramFault::Usage)?;
+    let old = word_of(matches, "OLD")?;
+    let new = word_of(matches, "NEW")?;
     Ok(FormatWords::Upgrade(UpgradeWords { journals, old, new }))
 }
 
@@ -120,16 +192,9 @@ fn upgrade_words<'a>(
 ///
 /// `Usage` where they are others, and `OutOfMemory` where the host has no memory.
 pub fn run_words<'a>(alloc: Global, words: &'a [String]) -> Result<RunWords<'a>, ProgramFault<'a>> {
-    let command = Command::new(alloc, "pagerun")
-        .no_binary_name(true)
-        .arg(Arg::new(alloc, "IMAGE").required(true))?
-        .arg(Arg::new(alloc, "SWAP").required(true))?
-        .arg(Arg::new(alloc, "FRAMES"))?
-        .arg(Arg::new(alloc, "SLOTS"))?
-        .arg(Arg::new(alloc, "MODE"))?;
-    let matches = command.try_get_matches_from(words)?;
-    let image = matches.get_str("IMAGE").ok_or(ProgramFault::Usage)?;
-    let swap = matches.get_str("SWAP").ok_or(ProgramFault::Usage)?;
+    let matches = run_command(alloc)?.try_get_matches_from(words)?;
+    let image = word_of(&matches, "IMAGE")?;
+    let swap = word_of(&matches, "SWAP")?;
     let config = config(
         matches.get_str("FRAMES"),
         matches.get_str("SLOTS"),
@@ -142,22 +207,40 @@ pub fn run_words<'a>(alloc: Global, words: &'a [String]) -> Result<RunWords<'a>,
     })
 }
 
+/// The words of `pagerun` by their names.
+fn run_command<'a>(alloc: Global) -> Result<Command<'a>, AllocError> {
+    let command = Command::new(alloc, "pagerun").no_binary_name(true);
+    let command = with_word(command, alloc, "IMAGE")?;
+    let command = with_word(command, alloc, "SWAP")?;
+    let command = with_choice(command, alloc, "FRAMES")?;
+    let command = with_choice(command, alloc, "SLOTS")?;
+    with_choice(command, alloc, "MODE")
+}
+
 /// Reads the words of `pagecat`.
 pub(crate) fn cat_words<'a>(
     alloc: Global,
     words: &'a [String],
 ) -> Result<CatWords<'a>, ProgramFault<'a>> {
-    let command = Command::new(alloc, "pagecat")
-        .no_binary_name(true)
-        .arg(Arg::new(alloc, "IMAGE").required(true))?
-        .arg(Arg::new(alloc, "N").required(true))?;
-    let matches = command.try_get_matches_from(words)?;
-    let image = matches.get_str("IMAGE").ok_or(ProgramFault::Usage)?;
-    let file = matches.get_str("N").ok_or(ProgramFault::Usage)?;
+    let matches = cat_command(alloc)?.try_get_matches_from(words)?;
+    let image = word_of(&matches, "IMAGE")?;
+    let file = word_of(&matches, "N")?;
     Ok(CatWords {
         image,
-        file: number(file).ok_or(ProgramFault::Usage)?,
+        file: wanted_number(file)?,
     })
+}
+
+/// The words of `pagecat` by their names.
+fn cat_command<'a>(alloc: Global) -> Result<Command<'a>, AllocError> {
+    let command = Command::new(alloc, "pagecat").no_binary_name(true);
+    let command = with_word(command, alloc, "IMAGE")?;
+    with_word(command, alloc, "N")
+}
+
+/// The number that a word writes.
+fn wanted_number<'a>(word: &str) -> Result<u32, ProgramFault<'a>> {
+    number(word).ok_or(ProgramFault::Usage)
 }
 
 /// Both numbers and perhaps a mode, or none of them.
@@ -169,8 +252,8 @@ fn config<'a>(
     match (frames, slots) {
         (None, None) => Ok(DEFAULT_CONFIG),
         (Some(frames), Some(slots)) => Ok(Config {
-            frames: number(frames).ok_or(ProgramFault::Usage)?,
-            slots: number(slots).ok_or(ProgramFault::Usage)?,
+            frames: wanted_number(frames)?,
+            slots: wanted_number(slots)?,
             mode: mode_of(mode)?,
         }),
         _ => Err(ProgramFault::Usage),
@@ -180,8 +263,18 @@ fn config<'a>(
 /// The mode of that name, or Sv39 where none is given.
 fn mode_of<'a>(name: Option<&str>) -> Result<Mode, ProgramFault<'a>> {
     match name {
-        None | Some("sv39") => Ok(Mode::Sv39),
-        Some("sv48") => Ok(Mode::Sv48),
-        Some(_) => Err(ProgramFault::Usage),
+        None => Ok(Mode::Sv39),
+        Some(name) => mode_named(name).ok_or(ProgramFault::Usage),
+    }
+}
+
+/// The mode of that name.
+fn mode_named(name: &str) -> Option<Mode> {
+    if name == "sv39" {
+        Some(Mode::Sv39)
+    } else if name == "sv48" {
+        Some(Mode::Sv48)
+    } else {
+        None
     }
 }

@@ -1,9 +1,5 @@
 -- Pages of one table, and those without an entry among them that a search passed over.
-use Rattle.vm_types.specs.Limits.{top_level}
-use Rattle.std.proofs.Common.{◌≡◌, ℕ, ◌+◌, ◌*◌, ◌/◌, ◌%◌, ◌<◌, ◌≤◌, Some, ◌∙◌, subst, arith}
-use Rattle.page_tables.specs.{Tree.{IsPage, page_entry}, Places.{IsTableOf}}
-use Rattle.residency.specs.Picture.{Picture, entry}
-use Rattle.residency.proofs.Entries.{entry-of}
+use Rattle.ranges.proofs.Names.{top_level, ◌≡◌, ℕ, ◌+◌, ◌*◌, ◌/◌, ◌%◌, ◌<◌, ◌≤◌, Some, ◌∙◌, subst, arith, IsPage, page_entry, IsTableOf, Picture, entry, entry-of}
 
 pub same_table : (start page stop : ℕ) → start ≤ page → page < stop → stop ≤ (start / 512 + 1) * 512 → start / 512 ≡ page / 512
 same_table start page stop from below end = omega arith
@@ -18,8 +14,7 @@ pub none_passed : {mode : ℕ} (c : Picture mode) (pid r n start low high stop :
     → (page : ℕ) → low ≤ page → page < high → entry c pid page ≡ 0
 none_passed {mode = mode} c pid r n start low high stop root row from within end passed page least below =
     let same = same_table start page stop (omega (arith, from, least)) (omega (arith, below, within)) end in
-    let P : ℕ → Type 0 = λ x. IsTableOf c.frames (top_level mode) r x n in
-    entry-of c pid r page root ∙ passed r page (subst P same row) least below
+    entry-of c pid r page root ∙ passed r page (subst (λ (x : ℕ). IsTableOf c.frames (top_level mode) r x n) same row) least below
 
 pub none_between : {mode : ℕ} (c : Picture mode) (pid r n start low high stop : ℕ) → c.root pid ≡ Some r → IsTableOf c.frames (top_level mode) r (start / 512) n
     → start ≤ low → high ≤ stop → stop ≤ (start / 512 + 1) * 512
@@ -43,5 +38,4 @@ none_at {mode = mode} c pid r n first low high root row begins most passed page 
     let same : first / 512 ≡ page / 512 = omega (arith, from, below, most, begins) in
     let least : low ≤ page % 512 = omega (arith, from, below, most, begins) in
     let under : page % 512 < high = omega (arith, from, below, most, begins) in
-    let P : ℕ → Type 0 = λ x. IsTableOf c.frames (top_level mode) r x n in
-    entry-of c pid r page root ∙ passed r page (subst P same row) least under
+    entry-of c pid r page root ∙ passed r page (subst (λ (x : ℕ). IsTableOf c.frames (top_level mode) r x n) same row) least under

@@ -1,14 +1,9 @@
 -- Pages without entries.
 use Rattle.vm_types.specs.declared.mode.Levels as Levels
-use Rattle.vm_types.specs.Limits.{top_level}
-use Rattle.std.proofs.{Common.{◌≡◌, ◌≢◌, ℕ, suc, inl, inr, ◌⊎◌, ◌+◌, ◌<◌, ◌≤◌, true, Option, Some, None, get_or, refl, sym, ap, ◌∙◌, arith, rules}, lemmas.Bool.{cases_eq, cases_lt, false≢true}}
+use Rattle.ranges.proofs.Names.{top_level, ◌≡◌, ◌≢◌, ℕ, suc, inl, inr, ◌⊎◌, ◌+◌, ◌<◌, ◌≤◌, true, Option, Some, None, get_or, refl, sym, ap, ◌∙◌, arith, rules, cases_eq, cases_lt, false≢true, Free, FrameTable, role_of, is_valid, IsPage}
+use Rattle.ranges.proofs.Names.{IsTable, IsTableOf, KeepsFrames, SetsEntry, way_forth, row_stays, Core, Seat, InSlot, seat, Picture, entry, IsRootedBut, IsFit, Nothing, nowhere, SameBeside, SetsPage, valid_zero, seat_number, fit_set}
+use Rattle.ranges.proofs.Names.{other_views, set_held, seat-none, sets_page, rooted_set}
 use Rattle.std.specs.Prelude.{◌↔◌}
-use Rattle.frames.specs.{declared.role.Role.TheVariants.{Free}, FrameTable.{FrameTable, role_of}}
-use Rattle.sv39_walk.specs.Entry.{is_valid}
-use Rattle.page_tables.specs.{Tree.{IsPage, IsTable}, Places.{IsTableOf}, Change.{KeepsFrames, SetsEntry}}
-use Rattle.page_tables.proofs.{Ends.{way_forth}, Places.{row_stays}}
-use Rattle.residency.specs.{declared.kernel.Core.{Core}, Seats.{Seat, InSlot, seat}, Picture.{Picture, entry}, Parts.{IsRootedBut, IsFit, Nothing, nowhere}, Steps.{SameBeside, SetsPage}}
-use Rattle.residency.proofs.{Bits.{valid_zero}, Evicted.{seat_number}, Setting.{fit_set, other_views, set_held}, Start.{seat-none}, TableSteps.{sets_page, rooted_set}}
 use Rattle.ranges.specs.Steps.{IsBeside, KeepsBesideMemory, SameButMemory, SameTables, ReturnsTables, ReturnsRowTables, ReturnsSlots, Clears, LacksHolder, ReturnsSeat}
 use Rattle.ranges.proofs.{Returning.{same_but-refl}, Sharing.{fit_emptied, owned_emptied}}
 
@@ -138,10 +133,9 @@ slots_then a b c pid low mid high fit le le' same one two = record {
   fewer = λ k. (let x = one.fewer k in let y = two.fewer k in omega (arith, x, y));
   given = λ k page h least below is. elim (cases_lt page mid) [
     | inl front ↦ (
-        let first = one.given k page h least front is in
         let second : c.slots.count k ≡ b.slots.count k = two.kept k (λ q hq from under there.
         (let p : page ≡ q = one_page a pid page q (InSlot k) fit h hq is (sym (ap seat (same q hq from under)) ∙ there) in omega (arith, p, front, from))) in
-        omega (arith, first, second))
+        omega (arith, one.given k page h least front is, second))
     | inr back ↦ (
         let first : b.slots.count k ≡ a.slots.count k = one.kept k (λ q hq from under there.
         (let p : page ≡ q = one_page a pid page q (InSlot k) fit h hq is there in omega (arith, p, back, under))) in

@@ -1,11 +1,6 @@
 -- A page without its entry, which stood at a place of a lowest table.
-use Rattle.vm_types.specs.Limits.{top_level}
-use Rattle.std.proofs.{Common.{◌≡◌, ◌≢◌, ℕ, inl, inr, ◌+◌, ◌/◌, ◌%◌, ◌<◌, ◌≤◌, sym, ◌∙◌, subst, arith}, lemmas.Bool.{cases_eq}}
-use Rattle.frames.specs.FrameTable.{FrameTable}
-use Rattle.page_tables.specs.{Change.{SetsEntry}, Entry.{IsPageEntry}, Tree.{IsPage, IsRoot, page_entry}, Places.{IsTableOf}}
-use Rattle.page_tables.proofs.Ends.{page_is_entry}
-use Rattle.residency.specs.{Seats.{seat}, Picture.{Picture, entry}}
-use Rattle.residency.proofs.Entries.{entry-of}
+use Rattle.ranges.proofs.Names.{top_level, ◌≡◌, ◌≢◌, ℕ, inl, inr, ◌+◌, ◌/◌, ◌%◌, ◌<◌, ◌≤◌, sym, ◌∙◌, subst, arith, cases_eq, FrameTable, SetsEntry, IsPageEntry, IsPage, IsRoot, page_entry, IsTableOf, page_is_entry, seat, Picture, entry}
+use Rattle.ranges.proofs.Names.{entry-of}
 use Rattle.ranges.specs.{declared.rows.TableRow.{TableRow}, RowsCleared.{HoldsPlaces}, Steps.{Clears, LacksHolder, ReturnsSeat, SameTables}}
 use Rattle.ranges.proofs.{BetweenEntries.{place_at, row_at}, ClearedPages.{same_beside, lacks_out, tables_page, places_page, clears_page}, Gaps.{user_inside}}
 
@@ -17,8 +12,7 @@ past {mode = mode} c r n first index end e next row begins below in_table reads 
   | inl same ↦ (
       let place : index < 512 = omega (arith, below, in_table) in
       let at = place_at first index begins place in
-      let P : ℕ → Type 0 = λ x. IsTableOf c.frames (top_level mode) r x n in
-      let table = subst P (row_at first index begins place) row in
+      let table = subst (λ (x : ℕ). IsTableOf c.frames (top_level mode) r x n) (row_at first index begins place) row in
       absurd (found r (first + index) table (at ∙ same) (omega (arith, below, same)) (sym (reads r (first + index) table at) ∙ none)))
   | inr ne ↦ omega (arith, from, ne)
 ]
@@ -43,7 +37,7 @@ module _ {mode : ℕ} (old : Picture mode) (row : TableRow) (index end e : ℕ) 
   at = place_at row.first index holds.begins place
 
   table : IsTableOf old.frames (top_level mode) row.root.0 (page / 512) row.table.0
-  table = let P : ℕ → Type 0 = λ x. IsTableOf old.frames (top_level mode) row.root.0 x row.table.0 in subst P (row_at row.first index holds.begins place) holds.place
+  table = subst (λ (x : ℕ). IsTableOf old.frames (top_level mode) row.root.0 x row.table.0) (row_at row.first index holds.begins place) holds.place
 
   inside : IsPage (top_level mode) page
   inside = user_inside mode page (row.first + end) (omega (arith, below)) holds.high
@@ -55,8 +49,7 @@ module _ {mode : ℕ} (old : Picture mode) (row : TableRow) (index end e : ℕ) 
   is_root = holds.fit.rooted.roots row.pid row.root.0 holds.root
 
   pub form_at : IsPageEntry e
-  form_at = let P : ℕ → Type 0 = λ x. IsPageEntry x in
-      subst P (sym (reads row.root.0 page table at)) (page_is_entry old.frames (top_level mode) row.root.0 page holds.fit.rooted.forest is_root)
+  form_at = subst (λ (x : ℕ). IsPageEntry x) (sym (reads row.root.0 page table at)) (page_is_entry old.frames (top_level mode) row.root.0 page holds.fit.rooted.forest is_root)
 
   pub placed_at : (root page : ℕ) × IsRoot (top_level mode) old.frames root × IsPage (top_level mode) page × IsTableOf old.frames (top_level mode) root (page / 512) row.table.0 × (page % 512 ≡ index)
   placed_at = (row.root.0, page, is_root, inside, table, at)
@@ -72,19 +65,17 @@ module _ {mode : ℕ} (old : Picture mode) (row : TableRow) (index end e : ℕ) 
     sets = set row.root.0 page is_root inside table at
 
     pub lacks_at : LacksHolder mid (seat e)
-    lacks_at = let P : ℕ → Type 0 = λ x. LacksHolder mid (seat x) in
-        subst P (sym is) (lacks_out old mid row.pid row.root.0 page holds.fit holds.root inside sets (same_beside old t))
+    lacks_at = subst (λ (x : ℕ). LacksHolder mid (seat x)) (sym is) (lacks_out old mid row.pid row.root.0 page holds.fit holds.root inside sets (same_beside old t))
 
     -- and the share of what it named was given back
     module _ (new : Picture mode) (gives : ReturnsSeat mid new (seat e)) where
       given : ReturnsSeat mid new (seat (entry old row.pid page))
-      given = let P : ℕ → Type 0 = λ x. ReturnsSeat mid new (seat x) in subst P is gives
+      given = subst (λ (x : ℕ). ReturnsSeat mid new (seat x)) is gives
 
       clears_at : Clears old new row.pid page (row.first + (index + 1))
       clears_at =
           let next : page + 1 ≡ row.first + (index + 1) = omega arith in
-          let P : ℕ → Type 0 = λ x. Clears old new row.pid page x in
-          subst P next (clears_page old mid row.pid row.root.0 page holds.fit holds.root inside sets (same_beside old t) new given)
+          subst (λ (x : ℕ). Clears old new row.pid page x) next (clears_page old mid row.pid row.root.0 page holds.fit holds.root inside sets (same_beside old t) new given)
 
       pub taken_at : IsTakenOut old new row index
       taken_at = record {

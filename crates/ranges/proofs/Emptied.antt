@@ -1,14 +1,8 @@
 -- Rows without entries: what the processes see.
-use Rattle.vm_types.specs.{Limits.{user_end, top_level}, declared.region.Attr.{Attr}, Rows.{in_row}}
-use Rattle.vm_types.proofs.Modes.{sizes, user_pages_fit}
-use Rattle.std.proofs.{Common.{◌≡◌, ℕ, inl, inr, ◌⊎◌, ◌+◌, ◌<◌, ◌≤◌, true, false, List, Option, Some, None, refl, sym, ap, ◌∙◌, arith}, lemmas.Bool.Decides.{nat_tests}}
-use Rattle.std.proofs.lemmas.Bool.{cases_lt, cases_Bool, and_parts, and_cases, leb-true, leb-false, ltb-true, ltb-false, false≢true}
-use Rattle.std.specs.Prelude.{leb, ltb, is_some, max, option_map}
-use Rattle.page_tables.specs.Tree.{IsPage}
-use Rattle.residency.specs.{Seats.{InSlot, seat}, Picture.{Picture, entry, own_in, view_of, view, bytes_in}, Parts.{IsEntryFor, Nothing, Resident, Away, IsUsed, AsRoot, OnWay, IsGranting, IsFit}, Shows.{KeepsFiles}}
-use Rattle.residency.proofs.Start.{seat-none}
-use Rattle.ranges.specs.{Rows.{plain, RemapsRow}, Steps.{IsBeside, ReturnsRowTables, ReturnsSlots, Clears, IsMappedBeside, IsWithoutTables, IsCleared}}
-use Rattle.ranges.proofs.ClearedPages.{by_row, not_beside, returned_wider}
+use Rattle.ranges.proofs.Names.{user_end, top_level, Attr, in_row, sizes, user_pages_fit, ◌≡◌, ℕ, inl, inr, ◌⊎◌, ◌+◌, ◌<◌, ◌≤◌, true, false, List, Option, Some, None, refl, sym, ap, ◌∙◌, arith, nat_tests, cases_lt, cases_Bool, and_parts}
+use Rattle.ranges.proofs.Names.{and_cases, leb-true, leb-false, ltb-true, ltb-false, false≢true, leb, ltb, is_some, max, option_map, IsPage, InSlot, seat, Picture, entry, own_in, view_of, view, bytes_in, IsEntryFor, Nothing, Resident, Away}
+use Rattle.ranges.proofs.Names.{IsUsed, AsRoot, OnWay, IsGranting, IsFit, KeepsFiles, seat-none}
+use Rattle.ranges.{specs.{Rows.{plain, RemapsRow}, Steps.{IsBeside, ReturnsRowTables, ReturnsSlots, Clears, IsMappedBeside, IsWithoutTables, IsCleared}}, proofs.ClearedPages.{by_row, not_beside, returned_wider}}
 
 view_plain : (own : Option (List ℕ)) (o : Option Attr) → own ≡ None → view_of own o ≡ option_map plain o
 view_plain own None none = refl

@@ -1,16 +1,10 @@
 -- A row was cleared, and then the pages of objects that it alone named were forgotten.
 use Rattle.vm_types.specs.declared.mode.Levels as Levels
-use Rattle.vm_types.specs.{Limits.{user_end}, declared.region.Attr.{Attr}, Rows.{in_row}, Objects.{is_named}, declared.object.ObjectPage.{ObjectPage}, declared.object.PageKey.{PageKey}, declared.object.PageKey.TheVariants.{Object}}
-use Rattle.std.proofs.{Common.{◌≡◌, ℕ, inl, inr, ◌+◌, ◌≤◌, Option, refl, sym, ap, ◌∙◌, subst, arith, eq-eqb, ne_eqb}, lemmas.Bool.{cases_Bool, cases_eq}}
-use Rattle.std.specs.Prelude.{IsSome}
+use Rattle.ranges.proofs.Names.{user_end, Attr, is_named, ObjectPage, PageKey, Object, ◌≡◌, ℕ, inl, inr, ◌+◌, ◌≤◌, Option, sym, ap, ◌∙◌, subst, arith, cases_eq, IsSome, Free, Table, Private, Cache, frame_count, cache_frames, place_of}
+use Rattle.ranges.proofs.Names.{IsTable, Core, IsFit, Picture, picture_of, used_kept}
 use Rattle.vm_types.specs.declared.object.PageKey.TheVariants as Objects
-use Rattle.frames.specs.{declared.role.Role.TheVariants.{Free, Table, Private, Cache}, FrameTable.{frame_count}}
-use Rattle.page_cache.specs.CacheTable.{cache_frames, place_of}
-use Rattle.page_tables.specs.Tree.{IsTable}
-use Rattle.residency.specs.{declared.kernel.Core.{Core}, Parts.{IsFit}, Picture.{Picture, picture_of}}
-use Rattle.residency.proofs.{Places.{named-same}, Rooted.{used_kept}}
 use Rattle.ranges.specs.{Rows.{RemapsRow, ForgetsRow, KeepsNamed, IsLasting, without_maps}, RowsCleared.{ClearsRow}, RowsForgotten.{ForgetsNames}, Steps.{KeepsEntriesOfOthers, ReturnsRowTables, LosesSlots, IsMappedBeside, IsWithoutTables}}
-use Rattle.ranges.proofs.Emptied.{pages_inside}
+use Rattle.ranges.proofs.{Emptied.{pages_inside}, LastName.{without_same}}
 
 -- what other pages in the place of a row's come to, which are those of a map
 module _ {mode : ℕ} where
@@ -62,18 +56,13 @@ module _ {M : Type 0} {m : Levels.Ghosts M} {D E : Type 0} (before between after
   none_left_forgot n table =
       used_kept mid new (IsMappedBeside mid pid first (first + pages)) (IsMappedBeside new pid first (first + pages)) n
       (λ a i b p. (forgets.pointers a i b).0 p) forgets.root
-      (λ q page is. (let P : _ → Type 0 = λ o. IsSome o in subst P (sym (forgets.at q page)) is.0, is.1)) (clears.none_left n (table_was n table))
+      (λ q page is. (subst (λ (o : _). IsSome o) (sym (forgets.at q page)) is.0, is.1)) (clears.none_left n (table_was n table))
 
   same_names : (p : ObjectPage) → is_named (without_maps mid.at pid first pages) p.object p.page ≡ is_named (without_maps old.at pid first pages) p.object p.page
-  same_names p = named-same (without_maps old.at pid first pages) (without_maps mid.at pid first pages) p.object p.page (λ q k. at_without q k) where
-    at_without : (q k : ℕ) → without_maps mid.at pid first pages q k ≡ without_maps old.at pid first pages q k
-    at_without q k = elim (cases_eq q pid) [
-      | inl is ↦ rw (eq-eqb q pid is) (elim (cases_Bool (in_row first pages k)) [
-        | inl e ↦ rw e refl
-        | inr e ↦ rw e (row.at k)
-      ])
-      | inr ne ↦ rw (ne_eqb q pid ne) (row.others_at q k ne)
-    ]
+  same_names p = without_same old.at mid.at pid first pages p (λ q k. elim (cases_eq q pid) [
+    | inl is ↦ rw is (row.at k)
+    | inr ne ↦ row.others_at q k ne
+  ])
 
   lasting_then : (p : PageKey) → IsLasting (without_maps old.at pid first pages) p → IsLasting (without_maps mid.at pid first pages) p
   lasting_then (Objects.File f) is = is

@@ -1,5 +1,5 @@
 -- Numbers joined by a bitwise or: 0 only where each of them is.
-use Rattle.std.proofs.{Common.{◌≡◌, ℕ, ◌+◌, ◌<◌, ◌≤◌, inl, inr, bit_or, ap, ◌∙◌, arith}, lemmas.Bool.{cases_eq}, lemmas.Nat.{le_or_l, le_or_r}}
+use Rattle.ranges.proofs.Names.{◌≡◌, ℕ, ◌+◌, ◌<◌, ◌≤◌, inl, inr, bit_or, ap, ◌∙◌, arith, cases_eq, le_or_l, le_or_r}
 
 pub left : (a b : ℕ) → bit_or a b ≡ 0 → a ≡ 0
 left a b none = let le = le_or_l a b in omega (arith, le, none)

@@ -1,15 +1,9 @@
 -- Whether a page of an object is named by others than a row, and what forgetting those leaves that aren't.
 use Rattle.vm_types.specs.declared.mode.Levels as Levels
-use Rattle.vm_types.specs.{Limits.{widest_end}, declared.object.ObjectPage.{ObjectPage}, declared.object.PageKey.{PageKey}, declared.object.PageKey.TheVariants.{Object}, declared.region.Attr.{Attr}, declared.region.Backing.{Backing}}
-use Rattle.vm_types.specs.{declared.region.Backing.TheVariants.{Anon, Private, Shared, Common}, Objects.{Maps, names, is_named, is_object_page}, Rows.{in_row}}
-use Rattle.std.proofs.Common.{◌≡◌, ◌≢◌, ℕ, inl, inr, ◌⊎◌, ◌+◌, ◌<◌, ◌≤◌, true, false, Option, Some, None, refl, sym, ap, ◌∙◌, subst, arith, eqb-true, eq-eqb, ne_eqb, rules, ◌==◌}
-use Rattle.std.proofs.lemmas.Bool.{cases_eq, cases_lt, cases_Bool, false≢true, and_parts}
-use Rattle.page_cache.specs.{declared.place.Place.{Place}, declared.place.Place.TheVariants.{Home, Frame, Slot}}
-use Rattle.residency.specs.{declared.kernel.Core.{Core}, Calls.{KeepsBesidePlaces}, Picture.{Picture, entry}, Parts.{IsFit, AreObjects}, Steps.{Forgets, HasNoEntry}}
-use Rattle.residency.proofs.Places.{cases_page, named-same, named_by}
-use Rattle.ranges.specs.Rows.{IsBareRow, IsLasting, ForgetsMore, ForgetsRow, node_of, without_maps}
-use Rattle.ranges.proofs.{Emptied.{row_parts}, Named.{named-imp}}
-use Rattle.vm_types.proofs.Naming.{named-at, named-where}
+use Rattle.ranges.proofs.Names.{widest_end, ObjectPage, PageKey, Object, Attr, Backing, Common, Maps, names, is_named, is_object_page, in_row, ◌≡◌, ◌≢◌, ℕ, inl, inr, ◌⊎◌, ◌+◌, ◌<◌, ◌≤◌, true, false, Option, Some, None, refl, sym, ap, ◌∙◌}
+use Rattle.ranges.proofs.Names.{subst, arith, eqb-true, eq-eqb, ne_eqb, rules, ◌==◌, same_Some, cases_eq, cases_lt, cases_Bool, false≢true, and_parts, Place, Home, Frame, Slot, Core, KeepsBesidePlaces, Picture, entry, IsFit, AreObjects}
+use Rattle.ranges.proofs.Names.{Forgets, HasNoEntry, cases_page, named-same, named_by, named-at, named-where}
+use Rattle.ranges.{specs.Rows.{IsBareRow, IsLasting, ForgetsMore, ForgetsRow, node_of, without_maps}, proofs.{Emptied.{row_parts}, Named.{named-imp}}}
 
 module _ (mode : ℕ) (at : Maps) (pid first pages : ℕ) where
   beside_same : (q k : ℕ) → (q ≢ pid) ⊎ (in_row first pages k ≡ false) → without_maps at pid first pages q k ≡ at q k
@@ -80,17 +74,16 @@ module _ {mode : ℕ} where
       let there = only_there mode c.at pid first pages fit.granting.objects p j inside here none q k named in
       ap (λ x. entry c x k) there.0 ∙ ap (λ x. entry c pid x) there.1 ∙ bare j inside
 
+abbrev slot_number : Place → ℕ
+slot_number (Slot j) = j.0
+slot_number x = 0
+
 slot_or : (x : Place) (k : ℕ) → (x ≡ Slot (record { 0 = k })) ⊎ (x ≢ Slot (record { 0 = k }))
-slot_or Home k = inr (λ e. (cc))
-slot_or (Frame n) k = inr (λ e. (cc))
 slot_or (Slot j) k = elim (cases_eq j.0 k) [
   | inl e ↦ inl (ap (λ i. Slot (record { 0 = i })) e)
-  | inr ne ↦ inr (λ e. ne (ap number e))
-] where
-  number : Place → ℕ
-  number Home = 0
-  number (Frame n) = 0
-  number (Slot j) = j.0
+  | inr ne ↦ inr (λ e. ne (ap slot_number e))
+]
+slot_or x k = inr (λ e. (cc))
 
 pub more_then : {mode : ℕ} (a b c : Picture mode) (pid first pages : ℕ) (p : ObjectPage) → IsFit b → ForgetsMore a b pid first pages → Forgets b c p
     → is_named (without_maps a.at pid first pages) p.object p.page ≡ false → ForgetsMore a c pid first pages
@@ -108,9 +101,8 @@ more_then a b c pid first pages p fit more forgets unnamed = record {
         | inr gone ↦ inr (same ∙ gone.0, gone.1)
       ]
       | inr free ↦ (
-          let cache = fit.places.cached (Object p) n free.1 in
           elim (more.roles n) [
-            | inl e ↦ inr (free.0, sym e ∙ cache)
+            | inl e ↦ inr (free.0, sym e ∙ fit.places.cached (Object p) n free.1)
             | inr gone ↦ inr (free.0, gone.1)
           ])
     ];
@@ -141,8 +133,7 @@ more_then a b c pid first pages p fit more forgets unnamed = record {
   ];
   lasting = λ q is. (
       let ne : q ≢ Object p = λ e. (
-      let P : PageKey → Type 0 = λ x. IsLasting (without_maps a.at pid first pages) x in
-      let named = subst P e is in
+      let named = subst (λ (x : PageKey). IsLasting (without_maps a.at pid first pages) x) e is in
       false≢true (sym unnamed ∙ named)) in
       let before = more.lasting q is in
       (forgets.others q ne ∙ before.0, forgets.rest q ne ∙ before.1, forgets.held q ne ∙ before.2));
@@ -159,9 +150,6 @@ without_same f g pid first pages p same = named-same (without_maps f pid first p
   ]
 ])
 
-some_same : (p q : ObjectPage) → Some p ≡ Some q → p ≡ q
-some_same p q e = cc
-
 -- one node more was looked at
 module _ {mode : ℕ} (a b : Picture mode) (pid first pages frames node : ℕ) (more : ForgetsMore a b pid first pages)
     (gone : (p : ObjectPage) (m : ℕ) → node_of frames (b.place (Object p)) ≡ Some m → m < node → is_named (without_maps a.at pid first pages) p.object p.page ≡ true)
@@ -176,9 +164,8 @@ module _ {mode : ℕ} (a b : Picture mode) (pid first pages frames node : ℕ) (
       → (p : ObjectPage) (m : ℕ) → node_of frames (b.place (Object p)) ≡ Some m → m < node + 1 → is_named (without_maps a.at pid first pages) p.object p.page ≡ true
   gone_named q is named p m at below = elim (cases_eq m node) [
     | inl e ↦ (
-        let same : q ≡ p = some_same q p (sym is ∙ found p (at ∙ ap (λ x. Some x) e)) in
-        let P : ObjectPage → Type 0 = λ x. is_named (without_maps a.at pid first pages) x.object x.page ≡ true in
-        subst P same (sym (without_same a.at b.at pid first pages q more.at) ∙ named))
+        let same : q ≡ p = same_Some q p (sym is ∙ found p (at ∙ ap (λ x. Some x) e)) in
+        subst (λ (x : ObjectPage). is_named (without_maps a.at pid first pages) x.object x.page ≡ true) same (sym (without_same a.at b.at pid first pages q more.at) ∙ named))
     | inr ne ↦ gone p m at (omega (arith, below, ne))
   ]
 
@@ -189,15 +176,14 @@ module _ {mode : ℕ} (a b : Picture mode) (pid first pages frames node : ℕ) (
     | inr other ↦ (
         let was = sym (ap (λ x. node_of frames x) (forgets.others (Object p) other)) ∙ at in
         elim (cases_eq m node) [
-          | inl e ↦ absurd (other (ap (λ x. Object x) (some_same p q (sym (found p (was ∙ ap (λ x. Some x) e)) ∙ is))))
+          | inl e ↦ absurd (other (ap (λ x. Object x) (same_Some p q (sym (found p (was ∙ ap (λ x. Some x) e)) ∙ is))))
           | inr ne ↦ gone p m was (omega (arith, below, ne))
         ])
   ]
 
 pub away_or : (x : Place) → (x ≡ Home) ⊎ (x ≢ Home)
 away_or Home = inl refl
-away_or (Frame n) = inr (λ e. (cc))
-away_or (Slot k) = inr (λ e. (cc))
+away_or x = inr (λ e. (cc))
 
 -- what was forgotten, where no page is left that only the row named
 forgets_when : {mode : ℕ} (a b : Picture mode) (pid first pages : ℕ) → ForgetsMore a b pid first pages
@@ -279,8 +265,7 @@ module _ {mode : ℕ} where
 
     home_of : (p : ObjectPage) → is_named (without_maps a.at pid first pages) p.object p.page ≡ false → (x : Place) → a.place (Object p) ≡ x → a.place (Object p) ≡ Home
     home_of p unnamed Home is = is
-    home_of p unnamed (Frame n) is = absurd (false≢true (sym unnamed ∙ named p (λ home. (let bad : Home ≡ Frame n = sym home ∙ is in (cc)))))
-    home_of p unnamed (Slot k) is = absurd (false≢true (sym unnamed ∙ named p (λ home. (let bad : Home ≡ Slot k = sym home ∙ is in (cc)))))
+    home_of p unnamed x is = absurd (false≢true (sym unnamed ∙ named p (λ home. (let bad : Home ≡ x = sym home ∙ is in (cc)))))
 
 pub same_without : {mode : ℕ} (a b : Picture mode) (pid first pages : ℕ) (p : ObjectPage) → ForgetsMore a b pid first pages
     → is_named (without_maps b.at pid first pages) p.object p.page ≡ is_named (without_maps a.at pid first pages) p.object p.page
@@ -291,16 +276,13 @@ pub names_one : (o : Option Attr) (p q : ObjectPage) → names o p.object p.page
 names_one None p q is so = absurd (false≢true is)
 names_one (Some a) p q is so = alike a.backing is so where
   alike : (b : Backing) → is_object_page b p.object p.page ≡ true → is_object_page b q.object q.page ≡ true → p ≡ q
-  alike Anon is so = absurd (false≢true is)
-  alike (Private f) is so = absurd (false≢true is)
-  alike (Shared f) is so = absurd (false≢true is)
   alike (Common n) is so =
       let of : ℕ → ℕ → ObjectPage = λ o k. record { object = o; page = k } in
       let here = and_parts (n.object == p.object) (n.page == p.page) is in
       let there = and_parts (n.object == q.object) (n.page == q.page) so in
-      let objects : p.object ≡ q.object = sym (eqb-true n.object p.object here.0) ∙ eqb-true n.object q.object there.0 in
       let pages : p.page ≡ q.page = sym (eqb-true n.page p.page here.1) ∙ eqb-true n.page q.page there.1 in
-      ap (λ x. of x p.page) objects ∙ ap (λ x. of q.object x) pages
+      ap (λ x. of x p.page) (sym (eqb-true n.object p.object here.0) ∙ eqb-true n.object q.object there.0) ∙ ap (λ x. of q.object x) pages
+  alike b is so = absurd (false≢true is)
 
 -- one page more was looked at, and those between it and the ones before name nothing
 module _ {mode : ℕ} (a b c : Picture mode) (pid first pages from k : ℕ) (p : ObjectPage)
@@ -320,8 +302,7 @@ module _ {mode : ℕ} (a b c : Picture mode) (pid first pages from k : ℕ) (p :
     | inr late ↦ elim (cases_eq j k) [
       | inl e ↦ (
           let same : p ≡ q = names_one (b.at pid k) p q here (ap (λ x. names x q.object q.page) (at k ∙ ap (λ x. a.at pid x) (sym e)) ∙ is) in
-          let P : ObjectPage → Type 0 = λ x. (c.place (Object x) ≡ Home) ⊎ (is_named (without_maps a.at pid first pages) x.object x.page ≡ true) in
-          subst P same this)
+          subst (λ (x : ObjectPage). (c.place (Object x) ≡ Home) ⊎ (is_named (without_maps a.at pid first pages) x.object x.page ≡ true)) same this)
       | inr ne ↦ absurd (false≢true (sym (none j q.object q.page late (omega (arith, below, ne))) ∙ ap (λ x. names x q.object q.page) (at j) ∙ is))
     ]
   ]

@@ -1,12 +1,7 @@
 -- The entries of pages that get another permission.
-use Rattle.std.proofs.{Common.{◌≡◌, ◌≢◌, ℕ, Bool, true, false, inl, inr, refl, sym, ap, ◌∙◌}, lemmas.Bool.{cases_Bool, and_parts, false≢true}}
-use Rattle.std.specs.Prelude.{◌&&◌, ◌||◌, not}
-use Rattle.vm_types.specs.declared.permission.Prot.{Prot}
+use Rattle.ranges.proofs.Names.{◌≡◌, ◌≢◌, ℕ, Bool, true, false, inl, inr, refl, sym, ap, ◌∙◌, cases_Bool, and_parts, false≢true, not-true, not-false, or_parts, ◌&&◌, ◌||◌, Prot, has_bit, is_valid, can_read, can_write, can_execute, is_dirty}
+use Rattle.ranges.proofs.Names.{frame_of, is_private, is_swapped, IsEntryOver, is_barred, parked_invalid, parked_framed, parked_unexecutable, over_some}
 use Rattle.vm_types.specs.Permission as Permission
-use Rattle.sv39_walk.specs.Entry.{has_bit, is_valid, can_read, can_write, can_execute, is_dirty, frame_of}
-use Rattle.residency.specs.Picture.{is_private, is_swapped}
-use Rattle.page_tables.specs.Leaves.{IsEntryOver, is_barred}
-use Rattle.page_tables.proofs.Bits.{parked_invalid, parked_framed, parked_unexecutable, over_some}
 use Rattle.ranges.specs.Leaves.{needs_no_mark, IsPermittedEntry}
 
 -- whether a permission lets anything be done
@@ -25,18 +20,6 @@ pub record Allows (prot : Prot) (writable : Bool) (e e' : ℕ) : Type 0 where
   pub some : e' ≢ 0
   pub framed : is_valid e' ≡ false → has_bit e' 1 ≡ false
 
-pub none_of : (a b : Bool) → (a || b) ≡ false → (a ≡ false) × (b ≡ false)
-none_of true b h = absurd (false≢true (sym h))
-none_of false b h = (refl, h)
-
-not_false : (b : Bool) → not b ≡ false → b ≡ true
-not_false true h = refl
-not_false false h = sym h
-
-not_true : (b : Bool) → not b ≡ true → b ≡ false
-not_true true h = sym h
-not_true false h = refl
-
 -- what an entry over the same frame is, with D where it needs no further mark
 pub permitted_over : (prot : Prot) (writable : Bool) (e e' f : ℕ) (own marked : Bool) → f ≡ frame_of e → own ≡ is_private e
     → marked ≡ needs_no_mark e → IsEntryOver e' prot f own writable marked → IsPermittedEntry prot writable e e'
@@ -48,8 +31,8 @@ allowed prot writable e e' permitted =
     let some = over_some e' prot (frame_of e) (is_private e) writable (needs_no_mark e) over in
     elim (cases_Bool (is_barred prot)) [
       | inl barred ↦ (
-          let none : lets_anything prot ≡ false = not_true (lets_anything prot) barred in
-          let off = none_of (Permission.can_read prot) (Permission.can_execute prot) none in
+          let none : lets_anything prot ≡ false = not-true (lets_anything prot) barred in
+          let off = or_parts (Permission.can_read prot) (Permission.can_execute prot) none in
           let parked = over.parked barred in
           let invalid : is_valid e' ≡ false = ap is_valid parked ∙ parked_invalid (frame_of e) (is_private e) in
           record {
@@ -68,7 +51,7 @@ allowed prot writable e e' permitted =
           record {
             private = over.owned;
             frame = over.names;
-            valid = leaf.valid ∙ sym (not_false (lets_anything prot) useful);
+            valid = leaf.valid ∙ sym (not-false (lets_anything prot) useful);
             reads = leaf.reads;
             executes = leaf.executes;
             writes = λ valid. leaf.writes;

@@ -1,3 +1,4 @@
+mod Names
 pub mod Gaps
 pub mod Linked
 pub mod Joined

@@ -1,11 +1,6 @@
 -- A search over the entries of an upper table: where it begins and ends, and which pages it passes.
-use Rattle.vm_types.specs.Limits.{top_level}
-use Rattle.std.proofs.Common.{◌≡◌, ◌≢◌, ℕ, zero, suc, ◌+◌, ◌*◌, ◌/◌, ◌%◌, ◌^◌, ◌≤◌, ◌<◌, ◌⊎◌, inl, inr, sym, ap, ◌∙◌, subst, arith}
-use Rattle.std.specs.Prelude.{min}
-use Rattle.frames.specs.FrameTable.{FrameTable}
-use Rattle.sv39_walk.specs.Entry.{entry_at}
-use Rattle.page_tables.specs.Tree.{IsRoot, last_table, missing_of}
-use Rattle.page_tables.proofs.{Ends.{missing_of-is}, Pages.{place_above, below_place, same_place}, Spans.{missing_as_far, fewer_past}}
+use Rattle.ranges.proofs.Names.{top_level, ◌≡◌, ◌≢◌, ℕ, zero, suc, ◌+◌, ◌*◌, ◌/◌, ◌%◌, ◌^◌, ◌≤◌, ◌<◌, ◌⊎◌, inl, inr, sym, ap, ◌∙◌, subst, arith, min, FrameTable, entry_at, IsRoot, last_table, missing_of, missing_of-is, place_above}
+use Rattle.ranges.proofs.Names.{below_place, same_place, missing_as_far, fewer_past}
 use Rattle.ranges.specs.Steps.{IsPastGap}
 
 -- a page that isn't before the first one past a place is past it
@@ -38,9 +33,7 @@ module _ (page end own last k : ℕ) (before : page < end) (is_own : own ≡ (pa
   -- the places are those of one table
   pub search_table : last / 512 ^ k + 1 ≤ (page / 512 ^ (k + 1) + 1) * 512
   search_table =
-      let up = place_above last k in
-      let same = same_table in
-      row (last / 512 ^ k) (last / 512 ^ (k + 1)) (page / 512 ^ (k + 1)) up same
+      row (last / 512 ^ k) (last / 512 ^ (k + 1)) (page / 512 ^ (k + 1)) (place_above last k) same_table
     where
       row : (x b a : ℕ) → b ≡ x / 512 → b ≡ a → x + 1 ≤ (a + 1) * 512
       row x b a bx same = omega arith
@@ -59,8 +52,7 @@ module _ (page end own last k : ℕ) (before : page < end) (is_own : own ≡ (pa
     pub passed_missing : ((i : ℕ) → page / 512 ^ k + 1 ≤ i → i < next → entry_at t n (i % 512) ≡ 0)
         → (p : ℕ) → page ≤ p → p < next * 512 ^ k → missing_of t (top_level mode) r p ≢ 0
     passed_missing none p least below e =
-        let all = search_table in
-        let there = missing_as_far t (top_level mode) r page k n (sym ends) some next (omega (arith, within, all)) none p least below in
+        let there = missing_as_far t (top_level mode) r page k n (sym ends) some next (omega (arith, within, search_table)) none p least below in
         omega (arith, there, e, some)
 
     pub stops_past : IsRoot (top_level mode) t r → (next < last / 512 ^ k + 1 → entry_at t n (next % 512) ≢ 0) → IsPastGap mode t r page end (next * 512 ^ k)

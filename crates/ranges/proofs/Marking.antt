@@ -1,18 +1,9 @@
 -- Objects are marked one after the other.
 use Rattle.vm_types.specs.declared.mode.Levels as Levels
-use Rattle.std.proofs.Common.{◌≡◌, ◌≢◌, ℕ, zero, suc, ◌+◌, ◌-◌, ◌<◌, ◌≤◌, inl, inr, ◌⊎◌, Bool, true, false, Option, Some, None, List, get_or, refl, sym, ap, ◌∙◌, arith, eq-eqb, ne_eqb}
-use Rattle.std.proofs.{lemmas.List.{get_or_past, get_or-replicate, length-replicate}, lemmas.Bool.Decides.{nat_tests}, lemmas.Bool.{cases_Bool, cases_eq, cases_lt, false≢true}}
-use Rattle.std.specs.Prelude.{replicate}
-use Rattle.vm_types.specs.{Limits.{named_limit, widest_end}, declared.region.Attr.{Attr}, declared.region.Backing.{Backing}, declared.region.Backing.TheVariants.{Anon, Private, Shared, Common}, Attributes.{attr_after, backing_after}}
-use Rattle.vm_types.specs.{Counting.{any_below}, Objects.{Maps, uses, is_of_object, is_used, least_from}, Rows.{removed, in_row}}
-use Rattle.regions.specs.{declared.run.Run.{Run}, RunList.{IsNextRun}}
-use Rattle.residency.specs.{declared.kernel.Core.{Core}, Picture.{picture_of, attr_where}, Parts.{IsFit}}
-use Rattle.ranges.specs.{Numbers.{Marks, IsUsedBetween, IsUsedBy}, Rows.{without_maps}}
-use Rattle.vm_types.proofs.Naming.{any-at, any-where}
-use Rattle.ranges.proofs.Emptied.{in_row_from}
-
-pub marks_none : (some : ℕ → Type 0) (xs : List Bool) → ((o : ℕ) → some o → ⊥) → Marks some xs xs
-marks_none some xs none = record { room = refl; kept = λ o e. e; all = λ o low is. absurd (none o is); only = λ o e. inl e }
+use Rattle.ranges.proofs.Names.{◌≡◌, ◌≢◌, ℕ, zero, suc, ◌+◌, ◌-◌, ◌<◌, ◌≤◌, inl, inr, ◌⊎◌, Bool, true, false, Option, Some, None, List, get_or, refl, sym, ap, ◌∙◌, arith, eq-eqb, ne_eqb, get_or_past, get_or-replicate, length-replicate}
+use Rattle.ranges.proofs.Names.{nat_tests, cases_Bool, cases_eq, cases_lt, false≢true, replicate, named_limit, widest_end, Attr, Backing, Anon, attr_after, backing_after, any_below, Maps, uses, is_of_object, is_used, least_from, removed}
+use Rattle.ranges.proofs.Names.{in_row, Run, IsNextRun, Core, picture_of, attr_where, IsFit, any-at, any-where}
+use Rattle.ranges.{specs.{Numbers.{Marks, IsUsedBetween, IsUsedBy}, Rows.{without_maps}}, proofs.Emptied.{in_row_from}}
 
 -- two steps
 pub marks_then : (f g h : ℕ → Type 0) (x y z : List Bool) → ((o : ℕ) → f o → h o) → ((o : ℕ) → g o → h o) → ((o : ℕ) → h o → f o ⊎ g o) → Marks f x y → Marks g y z → Marks h x z
@@ -46,9 +37,7 @@ marks_alike f g x y forth back marks = record {
 
 of_uses : (b : Backing) (n o : ℕ) → is_of_object (backing_after b n) o ≡ is_of_object b o
 of_uses Anon n o = refl
-of_uses (Private p) n o = refl
-of_uses (Shared p) n o = refl
-of_uses (Common p) n o = refl
+of_uses b n o = refl
 
 -- the pages of a run are all of its object, or of none
 pub run_uses : (map : ℕ → Option Attr) (run : Run) (k o : ℕ) → map k ≡ Some (attr_after run.attr (k - run.first)) → uses (map k) o ≡ is_of_object run.attr.backing o

@@ -1,9 +1,6 @@
 -- What processes name hangs on what stands behind their pages, and on no permission.
-use Rattle.vm_types.specs.{Limits.{widest_end}, declared.permission.Prot.{Prot}, declared.region.Attr.{Attr}, Attributes.{with_prot}, Counting.{any_below}, Objects.{Maps, names, uses, is_named}, Rows.{in_row, protected}}
-use Rattle.std.proofs.{Common.{◌≡◌, ℕ, true, Option, Some, None, refl, sym, ◌∙◌, inl, inr}, lemmas.Bool.{cases_Bool}}
-use Rattle.std.specs.Prelude.{option_map}
-use Rattle.residency.specs.Parts.{AreObjects}
-use Rattle.residency.proofs.Counts.{any-same, any-more}
+use Rattle.ranges.proofs.Names.{widest_end, Prot, Attr, with_prot, any_below, Maps, names, uses, is_named, in_row, protected, ◌≡◌, ℕ, true, Option, Some, None, refl, sym, ◌∙◌, inl, inr, cases_Bool, option_map, AreObjects, any-same}
+use Rattle.ranges.proofs.Names.{any-more}
 
 pub named-alike : (f g : Maps) (object page : ℕ) → ((p k : ℕ) → names (g p k) object page ≡ names (f p k) object page) → is_named g object page ≡ is_named f object page
 unfolding is_named

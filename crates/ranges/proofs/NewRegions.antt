@@ -1,20 +1,9 @@
 -- A process gets other regions.
-use Rattle.vm_types.specs.{Limits.{top_level}, declared.object.ObjectPage.{ObjectPage}, declared.object.PageKey.{PageKey}, declared.object.PageKey.TheVariants.{Object}, Objects.{is_named}, declared.region.Attr.{Attr}}
-use Rattle.vm_types.specs.Rows.{in_row, IsUserMap}
-use Rattle.std.proofs.{Common.{◌≡◌, ℕ, inl, inr, ◌+◌, ◌<◌, true, false, Option, Some, refl, sym, ap, ◌∙◌, subst, arith, ◌⊎◌, ◌≢◌, None, eq-eqb, ne_eqb}, lemmas.Bool.{cases_eq, cases_Bool}}
-use Rattle.std.specs.Prelude.{IsSome, option_map}
-use Rattle.page_cache.specs.declared.place.Place.TheVariants.{Home}
-use Rattle.frames.specs.FrameTable.{FrameTable, role_of, count_of, bytes_of}
-use Rattle.swap.specs.Slots.{SlotTable}
-use Rattle.sv39_walk.specs.Entry.{frame_of}
-use Rattle.page_tables.specs.Tree.{IsPage, IsTable, IsForest, IsRoot, Points, page_entry}
-use Rattle.regions.specs.Permission.{IsReadableMap}
-use Rattle.residency.specs.{Seats.{Seat, InFrame, InSlot, seat}, Picture.{Picture, entry, view, held, bytes_in, IsOwned, count_in, page_in}, Parts.{AreObjects, IsEntryFor, Nothing, IsUsed, IsMapped, IsRootedBut, IsFit, nowhere}}
-use Rattle.residency.specs.Steps.{Remaps}
-use Rattle.residency.proofs.{Entries.{entries_kept}, Granting.{KeepsBehind, entry_for-same, user_map-same, readable-same}, Places.{objects-same, named-more, places_renamed, dirty_same}, Rooted.{used_kept}, Seats.{counted_same}}
-use Rattle.residency.proofs.Setting.{view_seated, held_same}
-use Rattle.ranges.specs.{Rows.{plain, RemapsRow, with_map, without_maps}, Steps.{IsBeside, IsMappedBeside, IsWithoutTables}}
-use Rattle.ranges.proofs.{ClearedPages.{not_beside}, Emptied.{row_parts, view-bare}, Forgotten.{IsRowRemapped}}
+use Rattle.ranges.proofs.Names.{top_level, ObjectPage, PageKey, Object, is_named, Attr, in_row, IsUserMap, ◌≡◌, ℕ, inl, inr, ◌+◌, ◌<◌, true, false, Option, Some, refl, sym, ap, ◌∙◌, subst, arith, ◌⊎◌, ◌≢◌, None, eq-eqb, ne_eqb, cases_eq}
+use Rattle.ranges.proofs.Names.{cases_Bool, IsSome, option_map, Home, FrameTable, role_of, count_of, bytes_of, SlotTable, frame_of, IsPage, IsTable, IsForest, IsRoot, Points, page_entry, IsReadableMap, Seat, InFrame, InSlot, seat, Picture}
+use Rattle.ranges.proofs.Names.{entry, view, held, bytes_in, IsOwned, count_in, page_in, AreObjects, IsEntryFor, Nothing, IsUsed, IsMapped, IsRootedBut, IsFit, nowhere, Remaps, entries_kept, KeepsBehind, entry_for-same, user_map-same}
+use Rattle.ranges.proofs.Names.{readable-same, objects-same, named-more, places_renamed, dirty_same, used_kept, counted_same, view_seated, held_same}
+use Rattle.ranges.{specs.{Rows.{plain, RemapsRow, with_map, without_maps}, Steps.{IsBeside, IsMappedBeside, IsWithoutTables}}, proofs.{ClearedPages.{not_beside}, Emptied.{row_parts, view-bare}, Forgotten.{IsRowRemapped}}}
 
 -- Frames and slots are for what they were, and are shared as they were.
 module _ {mode : ℕ} where
@@ -28,11 +17,11 @@ module _ {mode : ℕ} where
 module _ {mode : ℕ} (old new : Picture mode) (same : SameSeats old new) where
   pub owned_on : (z : Seat) → IsOwned old z → IsOwned new z
   owned_on (InFrame n) is = same.roles n ∙ is
-  owned_on (InSlot k) is = ((let P : SlotTable → Type 0 = λ t. 0 < t.count k in subst P (sym same.slots) is.0), λ p e. is.1 p (sym (same.place p) ∙ e))
+  owned_on (InSlot k) is = ((subst (λ (t : SlotTable). 0 < t.count k) (sym same.slots) is.0), λ p e. is.1 p (sym (same.place p) ∙ e))
 
   pub owned_before : (z : Seat) → IsOwned new z → IsOwned old z
   owned_before (InFrame n) is = sym (same.roles n) ∙ is
-  owned_before (InSlot k) is = ((let P : SlotTable → Type 0 = λ t. 0 < t.count k in subst P same.slots is.0), λ p e. is.1 p (same.place p ∙ e))
+  owned_before (InSlot k) is = ((subst (λ (t : SlotTable). 0 < t.count k) same.slots is.0), λ p e. is.1 p (same.place p ∙ e))
 
   pub counts_on : (z : Seat) → IsOwned old z → count_in new z ≡ count_in old z
   counts_on (InFrame n) is = same.counts n
@@ -48,14 +37,14 @@ pub rooted_regions : {mode : ℕ} (old new : Picture mode) (pid : ℕ) → IsRoo
 rooted_regions {mode = mode} old new pid rooted remaps used =
     let was : (q r : ℕ) → new.root q ≡ Some r → old.root q ≡ Some r = λ q r e. sym (remaps.root q) ∙ e in
     record {
-      forest = (let P : FrameTable → Type 0 = λ t. IsForest t in subst P (sym remaps.frames) rooted.forest);
-      roots = λ q r e. (let P : FrameTable → Type 0 = λ t. IsRoot (top_level mode) t r in subst P (sym remaps.frames) (rooted.roots q r (was q r e)));
+      forest = subst (λ (t : FrameTable). IsForest t) (sym remaps.frames) rooted.forest;
+      roots = λ q r e. subst (λ (t : FrameTable). IsRoot (top_level mode) t r) (sym remaps.frames) (rooted.roots q r (was q r e));
       apart = λ p q r e f. rooted.apart p q r (was p r e) (was q r f);
       numbers = λ q r e. rooted.numbers q r (was q r e);
-      used = λ m table. elim (used m (let P : FrameTable → Type 0 = λ t. IsTable t m in subst P remaps.frames table)) [
+      used = λ m table. elim (used m (subst (λ (t : FrameTable). IsTable t m) remaps.frames table)) [
         | inl z ↦ inl z
         | inr o ↦ inr (used_kept old new (IsMapped new) (IsMapped new) m
-            (λ a i b p. (let P : FrameTable → Type 0 = λ t. Points t a i b in subst P (sym remaps.frames) p)) remaps.root (λ q p some. some) o)
+            (λ a i b p. (subst (λ (t : FrameTable). Points t a i b) (sym remaps.frames) p)) remaps.root (λ q p some. some) o)
       ];
     }
 
@@ -90,19 +79,18 @@ module _ {mode : ℕ} (old new : Picture mode) (pid : ℕ) (fit : IsFit old) (re
         | inl is ↦ (
             let here = entry_for-same old new (new.at pid page) (entry old pid page) behind
             (λ private write one. seats.counts (frame_of (entry old pid page)) ∙ one) (fits page h) in
-            let P : ℕ → Type 0 = λ x. IsEntryFor new (new.at x page) (entry old x page) in
-            rw (entries_remapped q page) (subst P (sym is) here))
+            rw (entries_remapped q page) (subst (λ (x : ℕ). IsEntryFor new (new.at x page) (entry old x page)) (sym is) here))
         | inr ne ↦ (
             let there = entry_for-same old new (old.at q page) (entry old q page) behind
             (λ private write one. seats.counts (frame_of (entry old q page)) ∙ one) (fit.granting.entries q page h) in
             rw (remaps.others q page ne, entries_remapped q page) there)
       ];
       user = λ q. elim (cases_eq q pid) [
-        | inl is ↦ (let P : ℕ → Type 0 = λ x. IsUserMap mode (new.at x) in subst P (sym is) user)
+        | inl is ↦ subst (λ (x : ℕ). IsUserMap mode (new.at x)) (sym is) user
         | inr ne ↦ user_map-same mode (old.at q) (new.at q) (λ page. remaps.others q page ne) (fit.granting.user q)
       ];
       readable = λ q. elim (cases_eq q pid) [
-        | inl is ↦ (let P : ℕ → Type 0 = λ x. IsReadableMap (new.at x) in subst P (sym is) readable)
+        | inl is ↦ subst (λ (x : ℕ). IsReadableMap (new.at x)) (sym is) readable
         | inr ne ↦ readable-same (old.at q) (new.at q) (λ page. remaps.others q page ne) (fit.granting.readable q)
       ];
       objects = objects;
@@ -144,13 +132,11 @@ module _ {mode : ℕ} (old mid new : Picture mode) (pid first pages : ℕ) (map 
   -- a page beside the row is mapped as it was
   mapped_on : (q page : ℕ) → IsMappedBeside mid pid first (first + pages) q page → IsMapped new q page
   mapped_on q page here = elim (cases_eq q pid) [
-    | inr ne ↦ (let P : Option Attr → Type 0 = λ x. IsSome x in subst P (sym (remaps.others q page ne)) here.0)
+    | inr ne ↦ subst (λ (x : Option Attr). IsSome x) (sym (remaps.others q page ne)) here.0
     | inl is ↦ (
-        let P : ℕ → Type 0 = λ x. IsBeside pid first (first + pages) x page in
-        let Q : ℕ → Type 0 = λ x. IsSome (mid.at x page) in
         let R : ℕ → Type 0 = λ x. IsSome (new.at x page) in
         let S : Option Attr → Type 0 = λ o. IsSome o in
-        subst R (sym is) (subst S (sym (at_mid page (out_of_row page (subst P is here.1)))) (subst Q is here.0)))
+        subst R (sym is) (subst S (sym (at_mid page (out_of_row page (subst (λ (x : ℕ). IsBeside pid first (first + pages) x page) is here.1)))) (subst (λ (x : ℕ). IsSome (mid.at x page)) is here.0)))
   ]
 
   -- the pages of all processes are those that are mapped now
@@ -180,7 +166,7 @@ module _ {mode : ℕ} (old mid new : Picture mode) (pid first pages : ℕ) (map 
       ])
       (λ page h. elim (cases_Bool (in_row first pages page)) [
         | inl e ↦ Nothing (row.entries page e)
-        | inr e ↦ (let Q : Option Attr → Type 0 = λ a. IsEntryFor mid a (entry mid pid page) in subst Q (sym (at_mid page e)) (was.fit.granting.entries pid page h))
+        | inr e ↦ subst (λ (a : Option Attr). IsEntryFor mid a (entry mid pid page)) (sym (at_mid page e)) (was.fit.granting.entries pid page h)
       ])
       (λ m table. used_kept mid mid (IsMappedBeside mid pid first (first + pages)) (IsMapped new) m (λ a i b p. p) (λ q. refl) mapped_on (none_left m table))
 
@@ -204,12 +190,12 @@ module _ {mode : ℕ} (old mid new : Picture mode) (pid first pages : ℕ) (map 
     others = λ q page h ne. same_entry q page ∙ was.others q page h ne;
     returned = record {
       tables = λ n table. elim (was.returned.tables n table) [
-        | inl still ↦ inl (let P : FrameTable → Type 0 = λ t. IsTable t n in subst P (sym remaps.frames) still)
+        | inl still ↦ inl (subst (λ (t : FrameTable). IsTable t n) (sym remaps.frames) still)
         | inr gone ↦ inr (ap (λ t. role_of t n) remaps.frames ∙ gone.0, gone.1)
       ];
       free = λ n e. ap (λ t. role_of t n) remaps.frames ∙ was.returned.free n e;
       copies = λ n e. was.returned.copies n (sym (ap (λ t. role_of t n) remaps.frames) ∙ e);
-      pointers = λ n i m p. was.returned.pointers n i m (let P : FrameTable → Type 0 = λ t. Points t n i m in subst P remaps.frames p);
+      pointers = λ n i m p. was.returned.pointers n i m (subst (λ (t : FrameTable). Points t n i m) remaps.frames p);
     };
     slots = record {
       total = ap (λ t. t.total) remaps.slots ∙ was.slots.total;

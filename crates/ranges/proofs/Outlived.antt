@@ -1,20 +1,7 @@
 -- The state that memory shows once pages are mapped no more: the objects that no page names have no bytes.
-use Rattle.std.proofs.{Common.{◌≡◌, ◌≢◌, ℕ, inl, inr, ◌⊎◌, Bool, true, false, List, Option, Some, None, refl, sym, ap, ◌∙◌}, lemmas.Bool.{cases_Bool}}
-use Rattle.std.specs.Prelude.{is_some}
-use Rattle.vm_types.specs.{declared.object.ObjectPage.{ObjectPage}, declared.object.PageKey.{PageKey}, declared.object.PageKey.TheVariants.{File, Object}, Capacity.{held_count}, Objects.{Maps, is_named, named_objects}, State.{State}}
-use Rattle.vm_types.specs.View.{View}
-use Rattle.frames.specs.FrameTable.{FrameTable}
-use Rattle.swap.specs.Slots.{SlotTable}
-use Rattle.page_cache.specs.{declared.place.Place.{Place}, declared.place.Place.TheVariants.{Home, Frame, Slot}}
-use Rattle.residency.specs.{Picture.{Picture, view, is_live, held, bytes_at}, Capacity.{copies_over, touched_file, stored_object}, Parts.{IsFit}, Shows.{ShowsPages, object_bytes}}
+use Rattle.ranges.proofs.Names.{◌≡◌, ◌≢◌, ℕ, inl, inr, ◌⊎◌, Bool, true, false, Option, None, refl, sym, ap, ◌∙◌, cases_Bool, none-some, is_some, ObjectPage, PageKey, File, Object, held_count, Maps, is_named, named_objects, State, View}
+use Rattle.ranges.proofs.Names.{FrameTable, SlotTable, Place, Home, Frame, Slot, Picture, view, is_live, held, bytes_at, copies_over, touched_file, stored_object, IsFit, ShowsPages, object_bytes, home_held}
 use Rattle.ranges.specs.Rows.{KeepsNamed}
-
-pub held_home : {mode : ℕ} (c : Picture mode) (p : PageKey) → c.place p ≡ Home → held c p ≡ None
-unfolding held
-held_home c p home = ap (bytes_at c.frames c.slots) home
-
-none_some : (bytes : List ℕ) (o : Option (List ℕ)) → o ≡ None → o ≡ Some bytes → ⊥
-none_some bytes o none some = let bad : None ≡ Some bytes = sym none ∙ some in (cc)
 
 pub shows_named : {mode : ℕ} (old new : Picture mode) (s : State) (maps : Maps) (live : ℕ → Bool) (views : ℕ → ℕ → Option View) → IsFit new → ShowsPages old s → KeepsNamed maps old new
     → ((pid : ℕ) → live pid ≡ is_live new pid) → ((pid page : ℕ) → views pid page ≡ view new pid page)
@@ -31,13 +18,13 @@ shows_named old new s maps live views fit shows keeps lives sees = record {
   blank = λ p bytes untouched is. elim (cases_Bool (is_named maps p.object p.page)) [
     | inl named ↦ elim (keeps.held (Object p) named) [
       | inl same ↦ shows.blank p bytes (sym (keeps.touched (Object p) named) ∙ untouched) (sym same ∙ is)
-      | inr home ↦ absurd (none_some bytes (held new (Object p)) home.0 is)
+      | inr home ↦ absurd (none-some bytes (sym home.0 ∙ is))
     ]
-    | inr gone ↦ absurd (none_some bytes (held new (Object p)) (held_home new (Object p) (keeps.gone p gone)) is)
+    | inr gone ↦ absurd (none-some bytes (sym (home_held new (Object p) (keeps.gone p gone)) ∙ is))
   ];
   held = λ p bytes is. elim (keeps.held (File p) tt) [
     | inl same ↦ shows.held p bytes (sym same ∙ is)
-    | inr home ↦ absurd (none_some bytes (held new (File p)) home.0 is)
+    | inr home ↦ absurd (none-some bytes (sym home.0 ∙ is))
   ];
   same_mode = shows.same_mode;
   clean = λ p untouched inside. shows.clean p (sym (keeps.touched (File p) tt) ∙ untouched) (inside.0, sym (keeps.files p.file) ∙ inside.1, inside.2);

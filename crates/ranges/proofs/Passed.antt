@@ -1,11 +1,6 @@
 -- Pages of a row that are not mapped, passed over.
-use Rattle.vm_types.specs.{Limits.{user_end, top_level}, declared.region.Attr.{Attr}}
-use Rattle.std.proofs.{Common.{◌≡◌, ℕ, inl, inr, ◌<◌, ◌≤◌, ◌+◌, Option, None, ap, ◌∙◌, subst, arith}, lemmas.Bool.{cases_lt, false≢true}}
-use Rattle.std.specs.Prelude.{max, IsSome}
-use Rattle.page_tables.specs.Tree.{IsPage}
-use Rattle.residency.specs.{Picture.{Picture, entry}, Parts.{IsUsed, AsRoot, OnWay, IsGranting, IsFit}}
-use Rattle.ranges.specs.{Rows.{IsUnmapped}, Steps.{IsBeside, Clears, IsMappedBeside, IsCleared}}
-use Rattle.ranges.proofs.{ClearedPages.{by_row, clears_none, clears_then, not_beside}, Emptied.{IsRowCleared, row_cleared, unmapped_zero}}
+use Rattle.ranges.proofs.Names.{user_end, top_level, Attr, ◌≡◌, ℕ, inl, inr, ◌<◌, ◌≤◌, ◌+◌, Option, None, ap, ◌∙◌, subst, arith, cases_lt, false≢true, max, IsSome, IsPage, Picture, entry, IsUsed, AsRoot, OnWay, IsGranting, IsFit}
+use Rattle.ranges.{specs.{Rows.{IsUnmapped}, Steps.{IsBeside, Clears, IsMappedBeside, IsCleared}}, proofs.{ClearedPages.{by_row, clears_none, clears_then, not_beside}, Emptied.{IsRowCleared, row_cleared, unmapped_zero}}}
 
 -- a page that isn't mapped has no entry
 bare : {mode : ℕ} (c : Picture mode) (pid page : ℕ) → IsGranting c → IsPage (top_level mode) page → c.at pid page ≡ None → entry c pid page ≡ 0

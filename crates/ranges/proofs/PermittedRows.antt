@@ -1,16 +1,10 @@
 -- Rows of pages that get another permission: one page after the other.
 use Rattle.vm_types.specs.declared.mode.Levels as Levels
-use Rattle.vm_types.specs.{Limits.{top_level}, declared.permission.Prot.{Prot}, declared.region.Attr.{Attr}, declared.object.PageKey.TheVariants.{File, Object}, declared.region.Backing.{Backing}}
-use Rattle.std.proofs.{Common.{◌≡◌, ◌≢◌, ℕ, inl, inr, ◌⊎◌, ◌+◌, ◌<◌, ◌≤◌, ◌↔◌, Bool, true, false, Option, Some, get_or, refl, sym, ap, ◌∙◌, subst, arith, rules}, lemmas.Bool.{cases_eq, cases_lt, cases_Bool, false≢true}}
-use Rattle.frames.specs.{declared.role.Role.TheVariants.{Free, Private}, FrameTable.{FrameTable, frame_count, role_of, IsFrame, IsSound}}
-use Rattle.sv39_walk.specs.Entry.{frame_of}
-use Rattle.page_tables.specs.{Change.{KeepsFrames, SetsEntry}, Tree.{IsPage}, Places.{IsTableOf}}
-use Rattle.page_tables.proofs.Places.{row_stays}
-use Rattle.residency.specs.{Seats.{InFrame}, Parts.{IsRootedBut, IsBehind, IsEntryFor, HasPlaces, IsFit}, Picture.{Picture, entry, is_private, is_swapped}, declared.kernel.Core.{Core}, Steps.{SameBeside, SetsPage}, Ways.{KeepsAround}}
+use Rattle.ranges.proofs.Names.{top_level, Prot, Attr, File, Object, Backing, ◌≡◌, ◌≢◌, ℕ, inl, inr, ◌⊎◌, ◌+◌, ◌<◌, ◌≤◌, ◌↔◌, Bool, true, false, Option, Some, get_or, refl, sym, ap, ◌∙◌, subst, arith, rules, cases_eq, cases_lt, cases_Bool}
+use Rattle.ranges.proofs.Names.{false≢true, Free, Private, FrameTable, role_of, IsFrame, IsSound, frame_of, KeepsFrames, SetsEntry, IsPage, IsTableOf, row_stays, InFrame, IsRootedBut, IsBehind, IsEntryFor, HasPlaces, IsFit, Picture, entry}
+use Rattle.ranges.proofs.Names.{is_private, is_swapped, Core, SameBeside, SetsPage, KeepsAround, sets_page, rooted_set, seat_own}
 use Rattle.residency.specs.Parts as Parts
-use Rattle.residency.proofs.{TableSteps.{sets_page, rooted_set}, SeatForms.{seat_own}}
-use Rattle.ranges.specs.Leaves.{TakesStores, IsPermittedEntry, Permits, Empty, Away, Kept, NamesFrames, PermitsRow}
-use Rattle.ranges.proofs.{Sharing.{inside_memory, private_used, cache_used}, ClearedPages.{out_front, out_back, other_page}}
+use Rattle.ranges.{specs.Leaves.{TakesStores, IsPermittedEntry, Permits, Empty, Away, Kept, NamesFrames, PermitsRow}, proofs.{Sharing.{inside_memory, private_used, cache_used}, ClearedPages.{out_front, out_back, other_page}}}
 
 pub beside-refl : {mode : ℕ} (c : Picture mode) → SameBeside c c
 beside-refl c = record { slots = refl; root = λ q. refl; at = λ q page. refl; page_of = λ n. refl; place = λ p. refl; touched = λ p. refl; files = λ f. refl }
@@ -73,14 +67,11 @@ permits_then a b c pid low mid high prot le le' one two = record {
   memory = frames_then a.frames b.frames c.frames one.memory two.memory;
   kept = λ q page h out. two.kept q page h (out_back pid low mid high q page le out) ∙ one.kept q page h (out_front pid low mid high q page le' out);
   changed = λ page h least below. elim (cases_lt page mid) [
-    | inl front ↦ (
-        let P : ℕ → Type 0 = λ x. Permits a.frames (a.at pid page) prot (entry a pid page) x in
-        subst P (sym (two.kept pid page h (inr (inl front)))) (one.changed page h least front))
+    | inl front ↦ subst (λ (x : ℕ). Permits a.frames (a.at pid page) prot (entry a pid page) x) (sym (two.kept pid page h (inr (inl front)))) (one.changed page h least front)
     | inr back ↦ (
-        let P : Option Attr → Type 0 = λ o. Permits b.frames o prot (entry b pid page) (entry c pid page) in
         let Q : ℕ → Type 0 = λ e. Permits b.frames (a.at pid page) prot e (entry c pid page) in
         counts_moved a.frames b.frames (a.at pid page) prot (entry a pid page) (entry c pid page) one.memory.counts
-        (subst Q (one.kept pid page h (inr (inr back))) (subst P (one.beside.at pid page) (two.changed page h back below))))
+        (subst Q (one.kept pid page h (inr (inr back))) (subst (λ (o : Option Attr). Permits b.frames o prot (entry b pid page) (entry c pid page)) (one.beside.at pid page) (two.changed page h back below))))
   ];
 }
 
@@ -103,15 +94,12 @@ module _ {mode : ℕ} (old new : Picture mode) (pid r page number : ℕ) (prot :
     names_still : NamesFrames old pid → NamesFrames new pid
     names_still named p h' used framed = elim (cases_eq p page) [
       | inl e ↦ (
-          let there : IsFrame old.frames (frame_of (entry old pid page)) = named page h some here in
           let frame : frame_of (entry new pid p) ≡ frame_of (entry old pid page) = ap (λ x. frame_of (entry new pid x)) e ∙ ap frame_of page_permitted.changed ∙ is.over.names in
-          let count : frame_count new.frames ≡ frame_count old.frames = sets.kept.frames in
-          rw (frame, count) there)
+          rw (frame, sets.kept.frames) (named page h some here))
       | inr ne ↦ (
           let same : entry new pid p ≡ entry old pid p = page_permitted.others pid p h' (inr ne) in
           let there : IsFrame old.frames (frame_of (entry old pid p)) = named p h' (λ z. used (same ∙ z)) (sym (ap is_swapped same) ∙ framed) in
-          let count : frame_count new.frames ≡ frame_count old.frames = sets.kept.frames in
-          rw (same, count) there)
+          rw (same, sets.kept.frames) there)
     ]
 
     pub permits_set : NamesFrames old pid → IsPagePermitted old new pid r page prot
@@ -122,9 +110,8 @@ module _ {mode : ℕ} (old new : Picture mode) (pid r page number : ℕ) (prot :
         kept = λ q k hk out. page_permitted.others q k hk (other_page pid page q k out);
         changed = λ k hk low high. (
             let at : page ≡ k = omega arith in
-            let P : ℕ → Type 0 = λ x. Permits old.frames (old.at pid x) prot (entry old pid x) (entry new pid x) in
             let Q : ℕ → Type 0 = λ x. Permits old.frames (old.at pid page) prot (entry old pid page) x in
-            subst P at (subst Q (sym page_permitted.changed) (Kept some here writable stores is)));
+            subst (λ (x : ℕ). Permits old.frames (old.at pid x) prot (entry old pid x) (entry new pid x)) at (subst Q (sym page_permitted.changed) (Kept some here writable stores is)));
       };
       rooted = rooted_set old new 0 r page number rooted sets beside;
       named = names_still named;

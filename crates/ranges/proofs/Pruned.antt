@@ -1,31 +1,17 @@
 -- Tables without entries given back.
-use Rattle.vm_types.specs.{Limits.{top_level}, declared.region.Attr.{Attr}}
-use Rattle.std.proofs.{Common.{◌≡◌, ◌≢◌, ℕ, suc, inl, inr, ◌⊎◌, ◌+◌, ◌-◌, ◌*◌, ◌/◌, ◌^◌, ◌<◌, ◌≤◌, Option, Some, refl, sym, ap, ◌∙◌, subst, arith}, lemmas.Bool.{cases_lt}}
-use Rattle.std.specs.Prelude.{IsSome, max, min}
-use Rattle.frames.specs.{declared.role.Role.{Role}, declared.role.Role.TheVariants.{Free, Zero, Table, Private, Cache}, FrameTable.{FrameTable, IsFrame, role_of, IsSound}}
-use Rattle.sv39_walk.specs.Walk.{index_of}
-use Rattle.page_tables.specs.{Tree.{IsPage, IsTable, IsForest, IsRoot, last_table, Way, IsBelowRoot, missing_of, page_entry}, Change.{Prunes, IsPruned}}
-use Rattle.page_tables.proofs.{Ways.{ends, only_way}, Ends.{missing_of-is}, Needed.{stay_way, still_used}}
-use Rattle.swap.specs.Slots.{SlotTable}
-use Rattle.residency.specs.{Seats.{Seat, InFrame, InSlot, seat}, Picture.{Picture, entry, bytes_in, IsOwned}, Parts.{IsEntryFor, Nothing, Resident, Away, IsUsed, AsRoot, OnWay, IsMapped, IsRootedBut, IsFit, nowhere}}
-use Rattle.residency.specs.Steps.{SameBeside, KeepsShares}
-use Rattle.residency.proofs.{Entries.{entries_kept, entry-of}, Linked.{fit_same}, Rooted.{used_kept}, Setting.{view_seated, each_view, held_same}}
+use Rattle.ranges.proofs.Names.{top_level, Attr, ◌≡◌, ◌≢◌, ℕ, suc, inl, inr, ◌⊎◌, ◌+◌, ◌-◌, ◌*◌, ◌/◌, ◌^◌, ◌<◌, ◌≤◌, Option, Some, refl, sym, ap, ◌∙◌, subst, arith, cases_lt, same_Some, IsSome, max, min, Role, Free, Zero, Table, Private}
+use Rattle.ranges.proofs.Names.{Cache, FrameTable, IsFrame, role_of, IsSound, index_of, IsPage, IsTable, IsForest, IsRoot, last_table, Way, IsBelowRoot, missing_of, page_entry, Prunes, IsPruned, free_is_no_table, ends, only_way}
+use Rattle.ranges.proofs.Names.{missing_of-is, stay_way, still_used, SlotTable, Seat, InFrame, InSlot, seat, Picture, entry, bytes_in, IsOwned, IsEntryFor, Nothing, Resident, Away, IsUsed, AsRoot, OnWay, IsMapped, IsRootedBut, IsFit}
+use Rattle.ranges.proofs.Names.{nowhere, SameBeside, KeepsShares, entries_kept, entry-of, fit_same, used_kept, view_seated, each_view, held_same}
 use Rattle.ranges.specs.{RowsCleared.{IsPartOf}, Steps.{IsBeside, SameTables, Clears, IsMappedBeside, IsWithoutTables, IsCleared, IsStepEnd}}
-use Rattle.ranges.proofs.{ClearedPages.{but_memory, but_then, by_row, clears_none, not_beside, returned_then}, Gaps.{gap_none, in_span_of, one_some, step_gap, user_inside}, Linked.{own_past}}
-use Rattle.ranges.proofs.Sharing.{inside_memory, private_data, cache_data}
+use Rattle.ranges.proofs.{ClearedPages.{but_memory, but_then, by_row, clears_none, not_beside, returned_then}, Gaps.{gap_none, in_span_of, step_gap, user_inside}, Linked.{own_past}, Sharing.{inside_memory, private_data, cache_data}}
 
 cases_table : (r : Role) → (r ≡ Table) ⊎ (r ≢ Table)
-cases_table Free = inr (λ e. (cc))
-cases_table Zero = inr (λ e. (cc))
 cases_table Table = inl refl
-cases_table Private = inr (λ e. (cc))
-cases_table Cache = inr (λ e. (cc))
+cases_table r = inr (λ e. (cc))
 
 table_inside : (t : FrameTable) (n : ℕ) → IsSound t → role_of t n ≡ Table → IsFrame t n
 table_inside t n sound table = inside_memory t n sound (λ f. (let bad : Free ≡ Table = sym f ∙ table in (cc)))
-
-free_no_table : (r : Role) → r ≡ Free → r ≢ Table
-free_no_table r e t = let bad : Free ≡ Table = sym e ∙ t in (cc)
 
 table_gone : (old new : FrameTable) (top root page n : ℕ) → IsSound old → Prunes old new top root page → role_of old n ≡ Table → (role_of new n ≡ Table) ⊎ (role_of new n ≡ Free)
 table_gone old new top root page n sound prunes t = elim (prunes.gone n (record { inside = table_inside old n sound t; role = t })) [
@@ -54,19 +40,16 @@ shares_pruned old new top root page sound prunes =
 -- where all tables but the root are missing none is left without entries
 pub root_pruned : (t : FrameTable) (top r page : ℕ) → IsForest t → IsTable t r → missing_of t top r page ≡ top → IsPruned t top r page
 root_pruned t top r page forest table all =
-    let end = ends t top r page forest table in
-    let n = (last_table t page top r).1 in
     let none : top - (last_table t page top r).0 ≡ 0 = (let e = sym (missing_of-is t top r page) ∙ all in omega (arith, e)) in
-    let P : ℕ → Type 0 = λ x. Way t top r page x n in
-    record { last = inl (subst P none end.way) }
+    record { last = inl (subst (λ (x : ℕ). Way t top r page x ((last_table t page top r).1)) none (ends t top r page forest table).way) }
 
 mapped_still : {mode : ℕ} (old new : Picture mode) → SameBeside old new → (q p : ℕ) → IsMapped old q p → IsMapped new q p
-mapped_still old new beside q p some = let P : Option Attr → Type 0 = λ x. IsSome x in subst P (sym (beside.at q p)) some
+mapped_still old new beside q p some = subst (λ (x : Option Attr). IsSome x) (sym (beside.at q p)) some
 
 some_mapped : {mode : ℕ} (c : Picture mode) (o : Option Attr) (e : ℕ) → IsEntryFor c o e → e ≢ 0 → IsSome o
 some_mapped c o e (Nothing none) some = absurd (some none)
-some_mapped c o e (Resident a is resident) some = let P : Option Attr → Type 0 = λ x. IsSome x in subst P (sym is) refl
-some_mapped c o e (Away a is away) some = let P : Option Attr → Type 0 = λ x. IsSome x in subst P (sym is) refl
+some_mapped c o e (Resident a is resident) some = subst (λ (x : Option Attr). IsSome x) (sym is) refl
+some_mapped c o e (Away a is away) some = subst (λ (x : Option Attr). IsSome x) (sym is) refl
 
 -- tables without entries were given back, on the way to the page `start`
 module _ {mode : ℕ} (old new : Picture mode) (pid r start : ℕ) (fit : IsFit old) (sound : IsSound old.frames) (root : old.root pid ≡ Some r)
@@ -117,16 +100,16 @@ module _ {mode : ℕ} (old new : Picture mode) (pid r start : ℕ) (fit : IsFit 
         | inl still ↦ inl still
         | inr gone ↦ inr (gone.0, (r, start, root, gone.1, le, lt))
       ];
-      free = λ n e. prunes.kept.roles n (free_no_table (role_of old.frames n) e) ∙ e;
+      free = λ n e. prunes.kept.roles n (free_is_no_table (role_of old.frames n) e) ∙ e;
       copies = shares.was_private;
       pointers = prunes.pointers;
     });
     slots = record {
       total = ap (λ t. t.total) beside.slots ∙ clears.slots.total;
-      fewer = (let P : SlotTable → Type 0 = λ t. (k : ℕ) → t.count k ≤ first.slots.count k in subst P (sym beside.slots) clears.slots.fewer);
+      fewer = subst (λ (t : SlotTable). (k : ℕ) → t.count k ≤ first.slots.count k) (sym beside.slots) clears.slots.fewer;
       given = λ k page h least below is. ap (λ t. t.count k + 1) beside.slots ∙ clears.slots.given k page h least below is;
       kept = λ k other. ap (λ t. t.count k) beside.slots ∙ clears.slots.kept k other;
-      bytes = (let P : SlotTable → Type 0 = λ t. (k : ℕ) → 0 < t.count k → t.bytes k ≡ first.slots.bytes k in subst P (sym beside.slots) clears.slots.bytes);
+      bytes = subst (λ (t : SlotTable). (k : ℕ) → 0 < t.count k → t.bytes k ≡ first.slots.bytes k) (sym beside.slots) clears.slots.bytes;
     };
     gone = λ p h least below. same_pruned pid p ∙ clears.gone p h least below;
     kept = λ q p h out. same_pruned q p ∙ clears.kept q p h out;
@@ -182,9 +165,7 @@ module _ {mode : ℕ} (old new : Picture mode) (pid r start : ℕ) (fit : IsFit 
             let one = only_way old.frames (top_level mode) fit.rooted.forest r p x k is_root.unlinked (fit.rooted.roots q x is).unlinked (suc d) (suc under.0) m w under.2 in
             let mine : old.root q ≡ Some r = is ∙ ap (λ y. Some y) (sym one.1) in
             let who : q ≡ pid = fit.rooted.apart q pid r mine root in
-            let P : ℕ → Type 0 = λ y. IsMappedBeside old pid low start y k in
-            let Q : ℕ → Type 0 = λ y. IsBelowRoot old.frames (top_level mode) y k m in
-            (k, subst P who here, subst Q (sym one.1) under)
+            (k, subst (λ (y : ℕ). IsMappedBeside old pid low start y k) who here, subst (λ (y : ℕ). IsBelowRoot old.frames (top_level mode) y k m) (sym one.1) under)
 
     -- the pages that are cleared now lie in one block, those of a lowest table, or those in the place of a missing one
     module _ (pruned : IsPruned new.frames (top_level mode) r start) (inside : IsPage (top_level mode) start)
@@ -250,9 +231,8 @@ module _ {mode : ℕ} (old new : Picture mode) (pid r start end stop gap k : ℕ
         (user_inside mode start end part.some part.high) k (omega (arith, lacks)) (inr (sym missing)) in_span;
     further = some_passed;
     ends = λ x lives. (
-        let same = ap (λ y. missing_of old.frames (top_level mode) y start) (sym (one_some r x (sym root ∙ lives))) ∙ missing in
-        let P : ℕ → Type 0 = λ m. stop ≡ min end ((start / 512 ^ max 1 m + 1) * 512 ^ max 1 m) in
-        subst P (sym same) (step_gap start end stop gap k lacks at is));
+        let same = ap (λ y. missing_of old.frames (top_level mode) y start) (sym (same_Some r x (sym root ∙ lives))) ∙ missing in
+        subst (λ (m : ℕ). stop ≡ min end ((start / 512 ^ max 1 m + 1) * 512 ^ max 1 m)) (sym same) (step_gap start end stop gap k lacks at is));
   }
 
 -- no page was cleared yet
@@ -276,5 +256,5 @@ pub cleared_still : {mode : ℕ} (a b : Picture mode) (pid low start stop : ℕ)
 cleared_still a b pid low start stop clears same cleared = record {
   none = λ k h least below. clears.kept pid k h (inr (inl below)) ∙ cleared.none k h least below;
   tables = λ m table. used_kept a b (IsMappedBeside a pid low start) (IsMappedBeside b pid low start) m (λ x i y p. (same.pointers x i y).0 p) clears.beside.root
-      (λ q k here. ((let P : Option Attr → Type 0 = λ o. IsSome o in subst P (sym (clears.beside.at q k)) here.0), here.1)) (cleared.tables m ((same.tables m).1 table));
+      (λ q k here. ((subst (λ (o : Option Attr). IsSome o) (sym (clears.beside.at q k)) here.0), here.1)) (cleared.tables m ((same.tables m).1 table));
 }

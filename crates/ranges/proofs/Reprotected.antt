@@ -1,22 +1,12 @@
 -- A row of pages with another permission, and the regions that say so.
-use Rattle.vm_types.specs.{Limits.{user_end, top_level}, Objects.{names, uses}, declared.object.PageKey.{PageKey}, declared.object.PageKey.TheVariants.{Object}, declared.permission.Prot.{Prot}, declared.region.Attr.{Attr}}
-use Rattle.vm_types.specs.{Attributes.{backing_fits, with_prot}, Ranges.{permitted}, Rows.{in_row, protected, IsUserMap}}
-use Rattle.vm_types.proofs.Modes.{user_pages_fit}
-use Rattle.std.proofs.{Common.{◌≡◌, ℕ, inl, inr, ◌+◌, ◌<◌, ◌≤◌, ◌^◌, ◌↔◌, Bool, true, false, List, Option, Some, None, get_or, refl, sym, ap, ◌∙◌, subst, arith}, lemmas.Bool.{cases_eq, cases_lt, cases_Bool, false≢true}}
-use Rattle.std.specs.Prelude.{IsSome, IfSome, max, option_map, if◌then◌else◌}
+use Rattle.ranges.proofs.Names.{user_end, top_level, names, uses, PageKey, Object, Prot, Attr, backing_fits, with_prot, permitted, in_row, protected, IsUserMap, user_pages_fit, ◌≡◌, ℕ, inl, inr, ◌+◌, ◌<◌, ◌≤◌, ◌^◌, ◌↔◌, Bool, true, false}
+use Rattle.ranges.proofs.Names.{List, Option, Some, None, get_or, refl, sym, ap, ◌∙◌, subst, arith, cases_eq, cases_lt, cases_Bool, false≢true, IsSome, IfSome, max, option_map, if◌then◌else◌, Free, Table, FrameTable, role_of, count_of}
+use Rattle.ranges.proofs.Names.{bytes_of, is_valid, is_dirty, frame_of, IsPage, page_entry, Frame, ReadsToo, IsReadableMap, reads_protected, Seat, InFrame, InSlot, seat, Picture, entry, is_private, is_swapped, own_in, bytes_in, view_of}
+use Rattle.ranges.proofs.Names.{view, IsOwned, count_in, page_in, is_shared, IsBehind, IsRootedBut, IsEntryFor, IsResident, IsMapped, IsFit, nowhere, Remaps, entries_kept, KeepsBehind, entry_for-same, user_map-same, readable-same}
+use Rattle.ranges.proofs.Names.{places_renamed, used_kept, counted_same, own_kept, view-none, view_seated, held_same, seat_own, seat_common}
 use Rattle.ranges.proofs.{Named.{named-alike, objects-alike, names-protected, uses-protected}, ClearedPages.{by_row, not_valid}, Emptied.{in_row_from, row_parts, none_here, low_zero, pages_inside}, LeafEntries.{allowed, here_still}}
 use Rattle.ranges.proofs.{NewRegions.{SameSeats, rooted_regions, owned_on, owned_before, counts_on, pages_on}, Sharing.{private_data, cache_data}}
-use Rattle.frames.specs.{declared.role.Role.TheVariants.{Free, Table}, FrameTable.{FrameTable, role_of, count_of, bytes_of}}
-use Rattle.sv39_walk.specs.Entry.{is_valid, is_dirty, frame_of}
-use Rattle.page_tables.specs.Tree.{IsPage, page_entry}
-use Rattle.page_cache.specs.declared.place.Place.TheVariants.{Frame}
-use Rattle.regions.specs.Permission.{ReadsToo, IsReadableMap}
-use Rattle.regions.proofs.PermissionLemmas.{reads_protected}
-use Rattle.residency.specs.{Seats.{Seat, InFrame, InSlot, seat}, Picture.{Picture, entry, is_private, is_swapped, own_in, bytes_in, view_of, view, IsOwned, count_in, page_in}}
-use Rattle.residency.specs.{Parts.{is_shared, IsBehind, IsRootedBut, IsEntryFor, IsResident, IsMapped, IsFit, nowhere}, Steps.{Remaps}}
 use Rattle.residency.specs.Parts as Parts
-use Rattle.residency.proofs.{Entries.{entries_kept}, Granting.{KeepsBehind, entry_for-same, user_map-same, readable-same}, Places.{places_renamed}, Rooted.{used_kept}, Seats.{counted_same}, Moves.{view-none}}
-use Rattle.residency.proofs.{Setting.{view_seated, held_same}, SeatForms.{seat_own, seat_common}}
 use Rattle.ranges.specs.{Leaves.{is_mapped_shared, TakesStores, IsPermittedEntry, Permits, Empty, Away, Kept, PermitsRow}, Rows.{ReprotectsRow}, Steps.{IsBeside, KeepsEntriesOfOthers}}
 
 mapped_before : (o : Option Attr) (prot : Prot) (b : Bool) → IsSome (if b then option_map (with_prot prot) o else o) → IsSome o
@@ -27,9 +17,8 @@ mapped_before (Some a) prot b some = refl
 fits_still : (o : Option Attr) (prot : Prot) (b : Bool) → IfSome o (λ attr. backing_fits attr.backing 1)
     → IfSome (if b then option_map (with_prot prot) o else o) (λ attr. backing_fits attr.backing 1)
 fits_still None prot true fits = fits
-fits_still None prot false fits = fits
 fits_still (Some a) prot true fits = fits
-fits_still (Some a) prot false fits = fits
+fits_still o prot false fits = fits
 
 -- another permission maps no page
 module _ (mode : ℕ) where
@@ -57,8 +46,7 @@ resident_permitted : {mode : ℕ} (new : Picture mode) (t : FrameTable) (o : Opt
 resident_permitted new t o a prot writable e e' at counts stores permitted resident =
     let is = allowed prot writable e e' permitted in
     let behind : is_private e' ≡ false → IsBehind new a.backing (frame_of e') = λ common. (
-    let P : ℕ → Type 0 = λ n. IsBehind new a.backing n in
-    subst P (sym is.frame) (resident.behind (sym is.private ∙ common))) in
+    subst (λ (n : ℕ). IsBehind new a.backing n) (sym is.frame) (resident.behind (sym is.private ∙ common))) in
     record {
       framed = is.framed;
       inside = resident.inside;
@@ -90,8 +78,7 @@ entry_permitted : {mode : ℕ} (new : Picture mode) (t : FrameTable) (o : Option
     → IsEntryFor new (option_map (with_prot prot) o) e'
 entry_permitted new t o prot e e' counts (Empty none none') for = Parts.Nothing none'
 entry_permitted new t o prot e e' counts (Away away is) for =
-    let P : ℕ → Type 0 = λ x. IsEntryFor new (option_map (with_prot prot) o) x in
-    subst P (sym is) (away_permitted new o prot e away for)
+    subst (λ (x : ℕ). IsEntryFor new (option_map (with_prot prot) o) x) (sym is) (away_permitted new o prot e away for)
 entry_permitted new t o prot e e' counts (Kept some here writable stores is) (Parts.Nothing none) = absurd (some none)
 entry_permitted new t o prot e e' counts (Kept some here writable stores is) (Parts.Away a at swapped) = absurd (false≢true (sym here ∙ swapped.swapped))
 entry_permitted new t o prot e e' counts (Kept some here writable stores is) (Parts.Resident a at resident) =
@@ -123,20 +110,14 @@ view_permitted : (prot : Prot) (o : Option Attr) (own own' : Option (List ℕ)) 
 view_permitted prot None own own' same = refl
 view_permitted prot (Some a) own own' same = ap (λ w. Some (record { attr = with_prot prot a; own = w })) same
 
-own_kept : {mode : ℕ} (old new : Picture mode) (o o' : Option Seat) → o' ≡ o → ((z : Seat) → o ≡ Some z → bytes_in new.frames new.slots z ≡ bytes_in old.frames old.slots z)
-    → option_map (bytes_in new.frames new.slots) o' ≡ option_map (bytes_in old.frames old.slots) o
-own_kept old new None o' e each = ap (λ x. option_map (bytes_in new.frames new.slots) x) e
-own_kept old new (Some z) o' e each = ap (λ x. option_map (bytes_in new.frames new.slots) x) e ∙ ap (λ b. Some b) (each z refl)
-
 pub view-is : {mode : ℕ} (c : Picture mode) (pid page : ℕ) → view c pid page ≡ view_of (own_in c.frames c.slots (entry c pid page)) (c.at pid page)
 unfolding view
 view-is c pid page = refl
 
 some_protected : (o : Option Attr) (prot : Prot) (b : Bool) → IsSome o → IsSome (if b then option_map (with_prot prot) o else o)
 some_protected None prot true some = some
-some_protected None prot false some = some
 some_protected (Some a) prot true some = refl
-some_protected (Some a) prot false some = refl
+some_protected o prot false some = some
 
 -- what another permission for a row comes to
 module _ {mode : ℕ} where
@@ -189,8 +170,7 @@ module _ {mode : ℕ} (old mid new : Picture mode) (pid first pages low high : �
 
   changed : (page : ℕ) → IsPage (top_level mode) page → low ≤ page → page < high → Permits old.frames (old.at pid page) prot (entry old pid page) (entry new pid page)
   changed page h least below =
-      let P : ℕ → Type 0 = λ x. Permits old.frames (old.at pid page) prot (entry old pid page) x in
-      subst P (sym (same_entry pid page)) (permits.changed page h least below)
+      subst (λ (x : ℕ). Permits old.frames (old.at pid page) prot (entry old pid page) x) (sym (same_entry pid page)) (permits.changed page h least below)
 
   seats : SameSeats old new
   seats = record { roles = role; counts = count; slots = slots; page_of = page_of; place = place }
@@ -198,9 +178,7 @@ module _ {mode : ℕ} (old mid new : Picture mode) (pid first pages low high : �
   seat_here : (q page : ℕ) → IsPage (top_level mode) page → seat (entry new q page) ≡ seat (entry old q page)
   seat_here q page h = elim (by_row pid low high q page) [
     | inl out ↦ ap seat (kept q page h out)
-    | inr here ↦ (
-        let P : ℕ → Type 0 = λ x. seat (entry new x page) ≡ seat (entry old x page) in
-        subst P (sym here.0) (seat_still old.frames (old.at pid page) prot (entry old pid page) (entry new pid page) (changed page h here.1 here.2)))
+    | inr here ↦ subst (λ (x : ℕ). seat (entry new x page) ≡ seat (entry old x page)) (sym here.0) (seat_still old.frames (old.at pid page) prot (entry old pid page) (entry new pid page) (changed page h here.1 here.2))
   ]
 
   at_row : (page : ℕ) → in_row first pages page ≡ true → new.at pid page ≡ option_map (with_prot prot) (old.at pid page)
@@ -228,17 +206,13 @@ module _ {mode : ℕ} (old mid new : Picture mode) (pid first pages low high : �
   at_out page out = elim (cases_Bool (in_row first pages page)) [
     | inr e ↦ at page ∙ (rw e refl)
     | inl e ↦ (
-        let under = under_sixteen page out e in
-        let none = low_unmapped page under in
+        let none = low_unmapped page (under_sixteen page out e) in
         at_row page e ∙ ap (option_map (with_prot prot)) none ∙ sym none)
   ]
 
   at_beside : (q page : ℕ) → IsBeside pid low high q page → new.at q page ≡ old.at q page
   at_beside q page out = elim (cases_eq q pid) [
-    | inl is ↦ (
-        let P : ℕ → Type 0 = λ x. IsBeside pid low high x page in
-        let Q : ℕ → Type 0 = λ x. new.at x page ≡ old.at x page in
-        subst Q (sym is) (at_out page (subst P is out)))
+    | inl is ↦ subst (λ (x : ℕ). new.at x page ≡ old.at x page) (sym is) (at_out page (subst (λ (x : ℕ). IsBeside pid low high x page) is out))
     | inr ne ↦ remaps.others q page ne ∙ permits.beside.at q page
   ]
 
@@ -257,9 +231,7 @@ module _ {mode : ℕ} (old mid new : Picture mode) (pid first pages low high : �
   fits q page h = elim (by_row pid low high q page) [
     | inl out ↦ rw (at_beside q page out, kept q page h out) (fits_still_here q page h)
     | inr here ↦ (
-        let P : ℕ → Type 0 = λ x. IsEntryFor new (new.at x page) (entry new x page) in
-        let Q : Option Attr → Type 0 = λ o. IsEntryFor new o (entry new pid page) in
-        subst P (sym here.0) (subst Q (sym (at_row page (in_here page here.1 here.2)))
+        subst (λ (x : ℕ). IsEntryFor new (new.at x page) (entry new x page)) (sym here.0) (subst (λ (o : Option Attr). IsEntryFor new o (entry new pid page)) (sym (at_row page (in_here page here.1 here.2)))
         (entry_permitted new old.frames (old.at pid page) prot (entry old pid page) (entry new pid page) counts (changed page h here.1 here.2) (fits_still_here pid page h))))
   ]
 
@@ -297,12 +269,11 @@ module _ {mode : ℕ} (old mid new : Picture mode) (pid first pages low high : �
   -- the pages that were mapped are
   mapped_on : (q page : ℕ) → IsMapped mid q page → IsMapped new q page
   mapped_on q page some = elim (cases_eq q pid) [
-    | inr ne ↦ (let P : Option Attr → Type 0 = λ x. IsSome x in subst P (sym (remaps.others q page ne)) some)
+    | inr ne ↦ subst (λ (x : Option Attr). IsSome x) (sym (remaps.others q page ne)) some
     | inl is ↦ (
-        let P : ℕ → Type 0 = λ x. IsSome (new.at x page) in
         let Q : ℕ → Type 0 = λ x. IsSome (mid.at x page) in
         let R : Option Attr → Type 0 = λ x. IsSome x in
-        subst P (sym is) (subst R (sym (at page)) (some_protected (old.at pid page) prot (in_row first pages page) (subst R (permits.beside.at pid page) (subst Q is some)))))
+        subst (λ (x : ℕ). IsSome (new.at x page)) (sym is) (subst R (sym (at page)) (some_protected (old.at pid page) prot (in_row first pages page) (subst R (permits.beside.at pid page) (subst Q is some)))))
   ]
 
   rooted_new : IsRootedBut new 0

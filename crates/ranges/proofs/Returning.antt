@@ -1,25 +1,17 @@
 -- The share of a frame or of a slot given back, which an entry named before: nobody who keeps it sees a change.
-use Rattle.vm_types.specs.{Limits.{top_level}, declared.object.PageKey.{PageKey}, declared.number.SlotNo.{SlotNo}}
-use Rattle.std.proofs.{Common.{◌≡◌, ◌≢◌, ℕ, inl, inr, ◌+◌, ◌<◌, ◌≤◌, ◌^◌, true, false, Option, Some, None, refl, sym, ap, ◌∙◌, subst, arith}, lemmas.Bool.{cases_eq, cases_Bool}}
-use Rattle.frames.specs.{declared.role.Role.TheVariants.{Free, Private, Cache}, FrameTable.{FrameTable, role_of, Releases}}
-use Rattle.swap.specs.Slots.{SlotTable}
+use Rattle.ranges.proofs.Names.{top_level, PageKey, SlotNo, ◌≡◌, ◌≢◌, ℕ, inl, inr, ◌+◌, ◌<◌, ◌≤◌, ◌^◌, false, Option, Some, None, refl, sym, ap, ◌∙◌, subst, arith, cases_eq, cases_Bool, Free, Private, Cache, FrameTable, role_of, Releases}
+use Rattle.ranges.proofs.Names.{SlotTable, KeepsTrees, data_released, row_same, Entry, Swapped, number_of, IsEntry, Frame, Seat, InFrame, InSlot, seat, Picture, IsOwned, IsFit, IsFitBut, SameBeside, fit_released, same, release_spares}
+use Rattle.ranges.proofs.Names.{with_slots, held_same, fit_slot_released, swapped_form, away_seat, views_given, held_given}
+use Rattle.residency.specs.Seats.{is_swapped}
 use Rattle.swap.specs.Slots as Slots
-use Rattle.sv39_walk.specs.Entry.{frame_of}
-use Rattle.page_tables.proofs.{Data.{KeepsTrees, data_released}, Places.{row_same}}
-use Rattle.page_tables.specs.{declared.forms.Entry.{Entry}, declared.forms.Entry.TheVariants.{Swapped}, Entry.{number_of, IsEntry}}
-use Rattle.page_cache.specs.declared.place.Place.TheVariants.{Frame}
-use Rattle.residency.specs.{Seats.{Seat, InFrame, InSlot, seat, is_private, is_swapped}, Picture.{Picture, IsOwned}, Parts.{IsFit, IsFitBut}, Steps.{SameBeside}}
-use Rattle.residency.proofs.{Evicted.{fit_released}, Handed.{same, release_spares}, Putting.{with_slots}, Setting.{held_same}, SlotReleased.{fit_slot_released}}
-use Rattle.residency.proofs.SeatForms.{seat_own, seat_common, swapped_form, away_seat, views_given, held_given}
-use Rattle.ranges.specs.Steps.{SameButMemory, LacksHolder, ReturnsSeat}
-use Rattle.ranges.proofs.Sharing.{private_data}
+use Rattle.ranges.{specs.Steps.{SameButMemory, LacksHolder, ReturnsSeat}, proofs.Sharing.{private_data}}
 
 -- what lacks the holder of a seat
 pub lacks_some : {mode : ℕ} (c : Picture mode) (o : Option Seat) (y : Seat) → o ≡ Some y → LacksHolder c o → IsFitBut c y 1 0 × IsOwned c y
-lacks_some c o y is lacks = let P : Option Seat → Type 0 = λ x. LacksHolder c x in subst P is lacks
+lacks_some c o y is lacks = subst (λ (x : Option Seat). LacksHolder c x) is lacks
 
 pub lacks_none : {mode : ℕ} (c : Picture mode) (o : Option Seat) → o ≡ None → LacksHolder c o → IsFit c
-lacks_none c o is lacks = let P : Option Seat → Type 0 = λ x. LacksHolder c x in subst P is lacks
+lacks_none c o is lacks = subst (λ (x : Option Seat). LacksHolder c x) is lacks
 
 pub slot_of : (number k : ℕ) (e : Entry) → number_of e ≡ number → IsEntry e → e ≡ Swapped (record { 0 = k }) → seat number ≡ Some (InSlot k)
 slot_of number k e is form swapped =
@@ -32,12 +24,6 @@ not_away number e is form other = elim (cases_Bool (is_swapped number)) [
   | inl away ↦ (let there = swapped_form e form (ap is_swapped is ∙ away) in absurd (other there.0 there.1))
   | inr here ↦ here
 ]
-
-pub frame_seat : (number : ℕ) → is_private number ≡ true → seat number ≡ Some (InFrame (frame_of number))
-frame_seat number own = seat_own number own
-
-pub no_seat : (number : ℕ) → is_private number ≡ false → is_swapped number ≡ false → seat number ≡ None
-no_seat number common here = seat_common number common here
 
 pub same_but-refl : {mode : ℕ} (c : Picture mode) → SameButMemory c c
 same_but-refl c = record { root = λ q. refl; at = λ q p. refl; page_of = λ n. refl; place = λ p. refl; touched = λ p. refl; files = λ f. refl }
@@ -87,10 +73,10 @@ module _ {mode : ℕ} (old : Picture mode) (k : ℕ) (fit : IsFitBut old (InSlot
     slots = record {
       total = releases.others.total;
       fewer = λ j. elim (cases_eq j k) [
-        | inl e ↦ (let P : ℕ → Type 0 = λ i. t.count i ≤ old.slots.count i in subst P (sym e) (let less = releases.lowered in omega (arith, less)))
+        | inl e ↦ subst (λ (i : ℕ). t.count i ≤ old.slots.count i) (sym e) (let less = releases.lowered in omega (arith, less))
         | inr ne ↦ (let c = slot_counts j ne in omega (arith, c))
       ];
-      given = λ j mine. (let e : k ≡ j = some_slot k j (sym is ∙ mine) in let P : ℕ → Type 0 = λ i. t.count i + 1 ≡ old.slots.count i in subst P e releases.lowered);
+      given = λ j mine. (let e : k ≡ j = some_slot k j (sym is ∙ mine) in subst (λ (i : ℕ). t.count i + 1 ≡ old.slots.count i) e releases.lowered);
       kept = λ j other. slot_counts j (λ e. other (is ∙ ap (λ i. Some (InSlot i)) (sym e)));
       bytes = λ j used. elim (cases_eq j k) [
         | inl e ↦ ap t.bytes e ∙ releases.bytes_kept ∙ ap old.slots.bytes (sym e)

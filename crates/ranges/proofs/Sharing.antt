@@ -1,19 +1,11 @@
 -- What gives back the share of a frame or of a slot, or takes an entry out: counts, and slots.
-use Rattle.vm_types.specs.Limits.{top_level}
-use Rattle.std.proofs.{Common.{◌≡◌, ◌≢◌, ℕ, inl, inr, ◌+◌, ◌<◌, true, false, Option, Some, None, refl, sym, ap, ◌∙◌, subst, arith}, lemmas.Bool.{cases_lt, false≢true}, lemmas.List.{get_or_past}}
-use Rattle.frames.specs.{declared.role.Role.{Role}, declared.role.Role.TheVariants.{Free, Table, Private, Cache}, FrameTable.{FrameTable, frame_count, role_of, IsFrame, IsHeld, IsSound}}
-use Rattle.sv39_walk.specs.Entry.{is_valid, frame_of}
-use Rattle.page_tables.specs.Tree.{IsPage}
-use Rattle.residency.specs.{Seats.{Seat, InFrame, seat, is_seat, holders_at, off, AreCounted, OthersSame}, Picture.{Picture, entry, IsOwned, count_in, page_in}, Parts.{IsRootedBut, IsFitBut, Nothing, nowhere}, Steps.{SetsPage}}
-use Rattle.residency.proofs.{Bits.{valid_zero}, Counts.{count-same, count-one}, Granting.{granting_changed}, Moves.{behind_kept, owned_forth, owned_back, count_kept, page_kept}, Places.{places_same, dirty_changed}}
-use Rattle.residency.proofs.{Seats.{cases_seat, seat-same, seat-other, off-none}, Start.{seat-none}, Ways.{by_page}}
+use Rattle.ranges.proofs.Names.{top_level, ◌≡◌, ◌≢◌, ℕ, inl, inr, ◌+◌, ◌<◌, true, false, Option, Some, None, refl, sym, ap, ◌∙◌, subst, arith, false≢true, Role, Free, Table, Private, Cache, FrameTable, role_of, IsFrame, IsHeld, IsSound}
+use Rattle.ranges.proofs.Names.{is_valid, frame_of, IsPage, Seat, InFrame, seat, is_seat, holders_at, off, AreCounted, OthersSame, Picture, entry, IsOwned, count_in, page_in, IsRootedBut, IsFitBut, Nothing, nowhere, SetsPage, valid_zero}
+use Rattle.ranges.proofs.Names.{count-same, count-one, granting_changed, behind_kept, owned_forth, owned_back, count_kept, page_kept, places_same, dirty_changed, used_inside, cases_seat, seat-same, seat-other, off-none, seat-none, by_page}
 
 -- a frame of some use is one of memory
 pub inside_memory : (t : FrameTable) (n : ℕ) → IsSound t → role_of t n ≢ Free → IsFrame t n
-inside_memory t n sound used = elim (cases_lt n (frame_count t)) [
-  | inl inside ↦ inside
-  | inr past ↦ absurd (used (get_or_past t.roles n Free (omega (arith, sound.all_roles, past))))
-]
+inside_memory t n sound used = used_inside t n sound used
 
 pub private_used : (r : Role) → r ≡ Private → r ≢ Free
 private_used r p f = let bad : Private ≡ Free = sym p ∙ f in (cc)
@@ -66,9 +58,8 @@ module _ (mode : ℕ) (old new : ℕ → ℕ → ℕ) (owned owned' : Seat → T
   unfolding holders_at
   still z p ne h' = count-same (λ q. is_seat (seat (new q p)) z) (λ q. is_seat (seat (old q p)) z) 65 (λ q. elim (by_page q p pid k) [
     | inl e ↦ (
-        let P : ℕ → Type 0 = λ a. is_seat (seat (new a p)) z ≡ is_seat (seat (old a p)) z in
         let Q : ℕ → Type 0 = λ a. is_seat (seat (new pid a)) z ≡ is_seat (seat (old pid a)) z in
-        subst P (sym e.0) (subst Q (sym e.1) (sits_none (seat (new pid k)) z to ∙ sym (sits_not (seat (old pid k)) x z from (λ e. ne (sym e))))))
+        subst (λ (a : ℕ). is_seat (seat (new a p)) z ≡ is_seat (seat (old a p)) z) (sym e.0) (subst Q (sym e.1) (sits_none (seat (new pid k)) z to ∙ sym (sits_not (seat (old pid k)) x z from (λ e. ne (sym e))))))
     | inr away ↦ ap (λ e. is_seat (seat e) z) (others q p h' away)
   ])
 
@@ -82,7 +73,6 @@ module _ (mode : ℕ) (old new : ℕ → ℕ → ℕ) (owned owned' : Seat → T
     counts = λ z now. (
         let was = back z now in
         let before = counts z was ∙ counted.counts z was in
-        let zero = off-none x' z in
         elim (cases_seat z x) [
           | inl e ↦ (
               let P : Seat → Type 0 = λ a. count' a ≡ holders_at new (page' a) a + off x 1 a in
@@ -91,13 +81,12 @@ module _ (mode : ℕ) (old new : ℕ → ℕ → ℕ) (owned owned' : Seat → T
               let a = off-here x 1 in
               let b = off-none x' x in
               let l = lost in
-              subst P (sym e) (rw at (let c' : count' x ≡ holders_at old k x + off x' 0 x = (let R : ℕ → Type 0 = λ v. count' x ≡ holders_at old v x + off x' 0 x in subst R noted_x c) in omega (arith, c', a, b, l))))
+              subst P (sym e) (rw at (let c' : count' x ≡ holders_at old k x + off x' 0 x = (subst (λ (v : ℕ). count' x ≡ holders_at old v x + off x' 0 x) noted_x c) in omega (arith, c', a, b, l))))
           | inr ne ↦ (
-              let s = still z (page z) ne (counted.pages z was) in
               let a = off-other x 1 z (λ f. ne (sym f)) in
-              rw (pages z was) (omega (arith, before, s, a, zero)))
+              rw (pages z was) (omega (arith, before, still z (page z) ne (counted.pages z was), a, off-none x' z)))
         ]);
-    pages = λ z now. (let was = back z now in let P : ℕ → Type 0 = λ v. IsPage (top_level mode) v in subst P (sym (pages z was)) (counted.pages z was));
+    pages = λ z now. (let was = back z now in subst (λ (v : ℕ). IsPage (top_level mode) v) (sym (pages z was)) (counted.pages z was));
     named = λ q p z h' is. elim (by_page q p pid k) [
       | inl e ↦ absurd (gone q p z e is)
       | inr away ↦ forth z (counted.named q p z h' (ap seat (sym (others q p h' away)) ∙ is))

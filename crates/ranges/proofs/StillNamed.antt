@@ -1,13 +1,6 @@
 -- Entries that name the frame that they named.
-use Rattle.std.proofs.Common.{◌≡◌, ◌≢◌, ℕ, ◌/◌, ◌%◌, Bool, false, sym, ◌∙◌}
-use Rattle.vm_types.specs.{Limits.{top_level, table_entries}, declared.permission.Prot.{Prot}}
-use Rattle.frames.specs.FrameTable.{FrameTable}
-use Rattle.page_tables.specs.{Tree.{IsForest, page_entry}, Places.{IsTableOf}}
-use Rattle.memory.specs.Notes.{NamesNoMore}
-use Rattle.memory.proofs.Numbers.{of_number}
-use Rattle.residency.specs.Picture.{is_swapped}
-use Rattle.ranges.specs.Leaves.{IsPermittedEntry}
-use Rattle.ranges.proofs.LeafEntries.{allowed}
+use Rattle.ranges.proofs.Names.{◌≡◌, ◌≢◌, ℕ, ◌/◌, ◌%◌, Bool, false, sym, ◌∙◌, top_level, table_entries, Prot, FrameTable, IsForest, page_entry, IsTableOf, NamesNoMore, of_number, is_swapped}
+use Rattle.ranges.{specs.Leaves.{IsPermittedEntry}, proofs.LeafEntries.{allowed}}
 
 -- another permission is over the same frame, so the page that stands at that place names no frame anew
 pub names_still : (mode : ℕ) (t : FrameTable) (table index : ℕ) (prot : Prot) (writable : Bool) (e e' : ℕ) → IsForest t

@@ -19,7 +19,7 @@ use residency::{Core, PLACES, page_over};
 use vm_types::{Attr, Backing, FrameNo, Levels, ObjectPage, PageKey, Pid, SlotNo, Vpn};
 
 /// A page of a process and the page of an object that it names.
-#[derive(Clone, Copy, Debug)]
+#[derive(Clone, Copy)]
 pub(crate) struct Named {
     pub(crate) at: Vpn,
     pub(crate) page: ObjectPage,

@@ -26,21 +26,15 @@ attr_after-zero a =
 -- a row fits from a page on where the whole does
 pub backing_fits-after : (b : Backing) (i j : ℕ) → backing_fits b (i + j) → backing_fits (backing_after b i) j
 backing_fits-after Anon i j h = tt
-backing_fits-after (Private p) i j h = omega arith
-backing_fits-after (Shared p) i j h = omega arith
-backing_fits-after (Common p) i j h = omega arith
+backing_fits-after _ i j h = omega arith
 
 pub backing_fits-merged : (b : Backing) (i j : ℕ) → backing_fits (backing_after b i) j → backing_fits b (i + j)
 backing_fits-merged Anon i j h = tt
-backing_fits-merged (Private p) i j h = omega arith
-backing_fits-merged (Shared p) i j h = omega arith
-backing_fits-merged (Common p) i j h = omega arith
+backing_fits-merged _ i j h = omega arith
 
 pub backing_fits-less : (b : Backing) (i j : ℕ) → i ≤ j → backing_fits b j → backing_fits b i
 backing_fits-less Anon i j l h = tt
-backing_fits-less (Private p) i j l h = omega arith
-backing_fits-less (Shared p) i j l h = omega arith
-backing_fits-less (Common p) i j l h = omega arith
+backing_fits-less _ i j l h = omega arith
 
 file_page_eq-true : (a b : FilePage) → file_page_eq a b ≡ true → a ≡ b
 file_page_eq-true a b e =
@@ -60,21 +54,10 @@ object_page_eq-refl a = and_from (a.object == a.object) (a.page == a.page) (eq-e
 
 backing_eq-true : (a b : Backing) → backing_eq a b ≡ true → a ≡ b
 backing_eq-true Anon Anon e = refl
-backing_eq-true Anon (Private _) e = cc
-backing_eq-true Anon (Shared _) e = cc
-backing_eq-true Anon (Common _) e = cc
-backing_eq-true (Private _) Anon e = cc
 backing_eq-true (Private a) (Private b) e = ap (λ (p : FilePage). Private p) (file_page_eq-true a b e)
-backing_eq-true (Private _) (Shared _) e = cc
-backing_eq-true (Private _) (Common _) e = cc
-backing_eq-true (Shared _) Anon e = cc
-backing_eq-true (Shared _) (Private _) e = cc
 backing_eq-true (Shared a) (Shared b) e = ap (λ (p : FilePage). Shared p) (file_page_eq-true a b e)
-backing_eq-true (Shared _) (Common _) e = cc
-backing_eq-true (Common _) Anon e = cc
-backing_eq-true (Common _) (Private _) e = cc
-backing_eq-true (Common _) (Shared _) e = cc
 backing_eq-true (Common a) (Common b) e = ap (λ (p : ObjectPage). Common p) (object_page_eq-true a b e)
+backing_eq-true _ _ e = cc
 
 backing_eq-refl : (a : Backing) → backing_eq a a ≡ true
 backing_eq-refl Anon = refl

@@ -1,10 +1,11 @@
 -- The runs from the first one on that ends behind a page: a search by halves finds them, and each look-up from the page
 -- on needs no others.
-use Rattle.std.proofs.Common.{◌≡◌, ℕ, zero, suc, ◌^◌, ◌<◌, ◌≤◌, ⊎_elim, max, min, Bool, true, false, not, if◌then◌else◌, ◌&&◌, leb, ltb, refl, sym, ◌∙◌, ap, ap₂, subst, arith, List, [], ◌∷◌, length, drop, get_or, Option, Some, None, leb-true, leb-false, le-leb, lt-ltb}
+use Rattle.std.proofs.Common.{◌≡◌, ℕ, zero, suc, ◌^◌, ◌<◌, ◌≤◌, ⊎_elim, max, min, Bool, true, false, not, if◌then◌else◌, ◌&&◌, leb, ltb, refl, sym, ◌∙◌, ap, ap₂, subst, arith, List, [], ◌∷◌, length, drop, get_or, Option, Some, None, le-leb, lt-ltb}
+use Rattle.std.proofs.{Math.Bool.{and-false}, lemmas.Bool.{le-ltb, lt-leb}}
 use Rattle.std.specs.{List.{slice_get}, List.Sorted.{IsNonDecreasingBy, IsPartitionPoint}}
 use Rattle.vm_types.specs.declared.region.Attr.{Attr}
 use Rattle.regions.specs.{declared.run.Run.{Run}, Run.{IsRun, attr_in, cut_run, run_between}, RunList.{run_or_else, attr_at, IsMaximal}, Search.{first_part, gap_from, is_clear, run_or, runs_behind}}
-use Rattle.regions.proofs.{RunLemmas.{widest_run, attr_in-above, leb-no, lt_or_le, ltb-no, or_else-none}, ListLemmas.{attr_at-before}}
+use Rattle.regions.proofs.{RunLemmas.{by_leb, widest_run, attr_in-above, lt_or_le, or_else-none}, ListLemmas.{attr_at-before}}
 
 -- what the search by halves leaves
 
@@ -65,16 +66,12 @@ module _ (mode : ℕ) where
     part_passed : first_part page (run ∷ runs) ≡ first_part page runs
     part_passed =
         ap (λ (b : Bool). run_or (if b then Some (cut_run None run (max run.first page) (min run.end (2 ^ 35))) else None) (first_part page runs))
-        (ltb-no (max run.first page) (min run.end (2 ^ 35)) (omega arith))
-
-    and_not : (b : Bool) → not (b && false) ≡ true
-    and_not true = refl
-    and_not false = refl
+        (le-ltb (max run.first page) (min run.end (2 ^ 35)) (omega arith))
 
     clear_passed : (end : ℕ) → is_clear page end (run ∷ runs) ≡ is_clear page end runs
     clear_passed end =
-        ap (λ (b : Bool). not (ltb run.first end && b) && is_clear page end runs) (ltb-no page run.end h)
-        ∙ ap (λ (b : Bool). b && is_clear page end runs) (and_not (ltb run.first end))
+        ap (λ (b : Bool). not (ltb run.first end && b) && is_clear page end runs) (le-ltb page run.end h)
+        ∙ ap (λ (b : Bool). not b && is_clear page end runs) (and-false (ltb run.first end))
 
     passed : (first : Option Run) → Looked mode page runs first → Looked mode page (run ∷ runs) first
     passed None l =
@@ -92,7 +89,7 @@ module _ (mode : ℕ) where
   clear_later : (from page end : ℕ) (runs : List Run) → IsMaximal mode from runs → end ≤ from → is_clear page end runs ≡ true
   clear_later from page end [] m h = refl
   clear_later from page end (run ∷ runs) m h =
-      ap (λ (b : Bool). not (b && ltb page run.end) && is_clear page end runs) (ltb-no run.first end (omega arith))
+      ap (λ (b : Bool). not (b && ltb page run.end) && is_clear page end runs) (le-ltb run.first end (omega arith))
       ∙ clear_later run.end page end runs m.3 (omega arith)
 
   module _ (page : ℕ) (run : Run) (runs : List Run) (is_run : IsRun mode run) (rest : IsMaximal mode run.end runs) (h : page < run.end) where
@@ -108,9 +105,9 @@ module _ (mode : ℕ) where
         ap (λ (b : Bool). not (ltb run.first end && b) && is_clear page end runs) (lt-ltb page run.end h)
         ∙ ⊎_elim
         (λ (a : run.first < end).
-        ap (λ (b : Bool). not (b && true) && is_clear page end runs) (lt-ltb run.first end a) ∙ sym (leb-no end run.first a))
+        ap (λ (b : Bool). not (b && true) && is_clear page end runs) (lt-ltb run.first end a) ∙ sym (lt-leb end run.first a))
         (λ (a : end ≤ run.first).
-        ap (λ (b : Bool). not (b && true) && is_clear page end runs) (ltb-no run.first end a)
+        ap (λ (b : Bool). not (b && true) && is_clear page end runs) (le-ltb run.first end a)
         ∙ clear_later run.end page end runs rest (omega arith)
         ∙ sym (le-leb end run.first a))
         (lt_or_le run.first end)
@@ -124,14 +121,12 @@ module _ (mode : ℕ) where
           clear = clear_here;
         }
 
-  look_test : (page : ℕ) (run : Run) (runs : List Run) (b : Bool) → leb run.end page ≡ b → IsRun mode run → IsMaximal mode run.end runs → Looked mode page runs (slice_get (runs_behind page runs) 0) → Looked mode page (run ∷ runs) (slice_get (if b then runs_behind page runs else run ∷ runs) 0)
-  look_test page run runs true e r m l = passed page run runs (leb-true run.end page e) (slice_get (runs_behind page runs) 0) l
-  look_test page run runs false e r m l = here page run runs r m (leb-false run.end page e)
-
   pub looked : (from page : ℕ) (runs : List Run) → IsMaximal mode from runs → Looked mode page runs (slice_get (runs_behind page runs) 0)
   looked from page [] m = record { at = refl; part = refl; clear = λ end. refl }
   looked from page (run ∷ runs) m =
-      look_test page run runs (leb run.end page) refl m.1 m.3 (looked run.end page runs m.3)
+      by_leb (λ (l : List Run). Looked mode page (run ∷ runs) (slice_get l 0)) run.end page (runs_behind page runs) (run ∷ runs)
+      (λ h. passed page run runs h (slice_get (runs_behind page runs) 0) (looked run.end page runs m.3))
+      (λ h. here page run runs m.1 m.3 h)
 
   -- as a caller has the first of them
   pub first_tells : (page : ℕ) (runs behind : List Run) (first : Option Run) → IsMaximal mode 16 runs → behind ≡ runs_behind page runs → first ≡ slice_get behind 0 → Looked mode page runs first
@@ -140,15 +135,12 @@ module _ (mode : ℕ) where
 
   -- the first page from this one on that isn't mapped: the runs that end before it don't matter
 
-  gap_test : (page : ℕ) (run : Run) (runs : List Run) (b : Bool) → leb run.end page ≡ b → IsRun mode run → gap_from page (runs_behind page runs) ≡ gap_from page runs → gap_from page (if b then runs_behind page runs else run ∷ runs) ≡ gap_from page (run ∷ runs)
-  gap_test page run runs true e r same =
-      let ends : run.end ≤ page = leb-true run.end page e in
-      let before : max page run.end ≡ page = omega arith in
-      same
-      ∙ sym (ap₂ (λ (b : Bool) (n : ℕ). if b then page else gap_from n runs) (ltb-no page run.first (omega arith)) before)
-  gap_test page run runs false e r same = refl
-
   pub gap_behind : (from page : ℕ) (runs : List Run) → IsMaximal mode from runs → gap_from page (runs_behind page runs) ≡ gap_from page runs
   gap_behind from page [] m = refl
   gap_behind from page (run ∷ runs) m =
-      gap_test page run runs (leb run.end page) refl m.1 (gap_behind run.end page runs m.3)
+      by_leb (λ (l : List Run). gap_from page l ≡ gap_from page (run ∷ runs)) run.end page (runs_behind page runs) (run ∷ runs)
+      (λ (h : run.end ≤ page).
+      let before : max page run.end ≡ page = omega arith in
+      let low : run.first < run.end = m.1.nonempty in
+      gap_behind run.end page runs m.3 ∙ sym (ap₂ (λ (b : Bool) (n : ℕ). if b then page else gap_from n runs) (le-ltb page run.first (omega arith)) before))
+      (λ _. refl)

@@ -1,9 +1,9 @@
 -- Lists of runs: putting a run behind the others, and pasting the parts of another list.
-use Rattle.std.proofs.Common.{◌≡◌, ℕ, ◌^◌, ◌<◌, ◌≤◌, ◌⊎◌, inl, inr, ⊎_elim, max, min, Bool, true, false, if◌then◌else◌, ltb, refl, sym, ◌∙◌, ap, arith, List, [], ◌∷◌, length, Option, Some, None, ltb-true, ltb-false}
+use Rattle.std.proofs.Common.{◌≡◌, ℕ, zero, suc, ◌^◌, ◌<◌, ◌≤◌, ◌⊎◌, inl, inr, ⊎_elim, max, min, Bool, true, false, if◌then◌else◌, refl, sym, ◌∙◌, ap, arith, List, [], ◌∷◌, length, get_or, Option, Some, None}
 use Rattle.vm_types.specs.{Limits.{user_end}, declared.permission.Prot.{Prot}, declared.region.Attr.{Attr}}
 use Rattle.vm_types.proofs.Modes.{sizes}
 use Rattle.regions.specs.{declared.run.Run.{Run}, Run.{IsRun, attr_in, joins, merged, cut_run, run_between}, RunList.{run_or_else, attr_at, joins_first, IsMaximal, end_of, pushed, pushed_part, pasted}}
-use Rattle.regions.proofs.RunLemmas.{clipped-none, lt_or_le, apart, attr_in-below, attr_in-above, attr_in-merged, or_else-none, or_else-swap, joins-true, merged-run, clipped, clipped-or, clipped-empty, attr_in-cut, IsPart, cut-run}
+use Rattle.regions.proofs.RunLemmas.{by_ltb, clipped-none, lt_or_le, apart, attr_in-below, attr_in-above, attr_in-merged, or_else-none, or_else-swap, joins-true, merged-run, clipped, clipped-or, clipped-empty, attr_in-cut, IsPart, cut-run}
 
 -- putting a run behind the others
 
@@ -43,6 +43,11 @@ module _ (mode : ℕ) where
   pub end_of-from : (from : ℕ) (runs : List Run) → IsMaximal mode from runs → from ≤ end_of from runs
   end_of-from from [] m = omega arith
   end_of-from from (run ∷ runs) m = omega (arith, end_of-from run.end runs m.3)
+
+  pub run_at : (from : ℕ) (runs : List Run) (k : ℕ) (d : Run) → IsMaximal mode from runs → k < length runs → IsRun mode (get_or runs k d)
+  run_at from [] k d m h = absurd (omega arith)
+  run_at from (run ∷ runs) zero d m h = m.1
+  run_at from (run ∷ runs) (suc k) d m h = run_at run.end runs k d m.3 (omega arith)
 
   pub end_of-high : (from : ℕ) (runs : List Run) → from ≤ user_end mode → IsMaximal mode from runs → end_of from runs ≤ user_end mode
   end_of-high from [] h m = h
@@ -106,10 +111,9 @@ module _ (mode : ℕ) where
       ap (λ (o : Option Attr). run_or_else (attr_in run page) o) (attr_at-pushed run.end (other ∷ runs) next page m.3 h n)
       ∙ or_else-swap (attr_in run page) (attr_in next page) (attr_at (other ∷ runs) page) (apart run next page (omega arith))
 
-  part_pushed : (low high from : ℕ) (prot : Option Prot) (old : List Run) (run : Run) (b : Bool) → ltb (max run.first low) (min run.end high) ≡ b → IsMaximal mode 16 old → end_of 16 old ≤ max low from → from ≤ run.first → IsRun mode run →
-      Pushed mode low high from prot old run (pushed_part old (if b then Some (cut_run prot run (max run.first low) (min run.end high)) else None))
-  part_pushed low high from prot old run true e m h l r =
-      let t : max run.first low < min run.end high = ltb-true (max run.first low) (min run.end high) e in
+  part_pushed : (low high from : ℕ) (prot : Option Prot) (old : List Run) (run : Run) → max run.first low < min run.end high → IsMaximal mode 16 old → end_of 16 old ≤ max low from → from ≤ run.first → IsRun mode run →
+      Pushed mode low high from prot old run (pushed old (cut_run prot run (max run.first low) (min run.end high)))
+  part_pushed low high from prot old run t m h l r =
       let part : IsPart mode low high run (cut_run prot run (max run.first low) (min run.end high)) = cut-run mode low high prot run r t in
       let new : Run = cut_run prot run (max run.first low) (min run.end high) in
       let ends : end_of 16 (pushed old new) ≡ min run.end high = end_of-pushed 16 old new in
@@ -120,19 +124,19 @@ module _ (mode : ℕ) where
         longer = length-pushed old new;
         at = λ page. attr_at-pushed 16 old new page m (omega arith) part.is_run ∙ ap (λ (o : Option Attr). run_or_else o (attr_at old page)) (attr_in-cut low high prot run page);
       }
-  part_pushed low high from prot old run false e m h l r =
-      let t : min run.end high ≤ max run.first low = ltb-false (max run.first low) (min run.end high) e in
-      record {
+
+  pub run_pasted : (low high from : ℕ) (prot : Option Prot) (old : List Run) (run : Run) → IsMaximal mode 16 old → end_of 16 old ≤ max low from → from ≤ run.first → IsRun mode run → Pushed mode low high from prot old run (pushed_part old (run_between low high prot run))
+  run_pasted low high from prot old run m h l r =
+      by_ltb (λ (o : Option Run). Pushed mode low high from prot old run (pushed_part old o)) (max run.first low) (min run.end high)
+      (Some (cut_run prot run (max run.first low) (min run.end high))) None
+      (λ t. part_pushed low high from prot old run t m h l r)
+      (λ (t : min run.end high ≤ max run.first low). record {
         maximal = m;
         behind = omega arith;
         end = omega arith;
         longer = omega arith;
         at = λ page. sym (ap (λ (o : Option Attr). run_or_else o (attr_at old page)) (clipped-empty low high prot run page t));
-      }
-
-  pub run_pasted : (low high from : ℕ) (prot : Option Prot) (old : List Run) (run : Run) → IsMaximal mode 16 old → end_of 16 old ≤ max low from → from ≤ run.first → IsRun mode run → Pushed mode low high from prot old run (pushed_part old (run_between low high prot run))
-  run_pasted low high from prot old run m h l r =
-      part_pushed low high from prot old run (ltb (max run.first low) (min run.end high)) refl m h l r
+      })
 
   pub pasted-is : (low high from : ℕ) (prot : Option Prot) (old runs : List Run) → IsMaximal mode 16 old → end_of 16 old ≤ max low from → IsMaximal mode from runs → Pasted mode low high prot old runs (pasted low high prot old runs)
   pasted-is low high from prot old [] m h r =

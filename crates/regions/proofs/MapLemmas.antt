@@ -35,26 +35,21 @@ module _ (mode : ℕ) where
   row_some first end page x o a b = ap (λ (c : Bool). if c then x else o) (row_inside first end page a b)
 
   -- the three parts of a page's place
-  three_parts : (first end page : ℕ) (x o front middle back : Option Attr) → first ≤ end →
-      (page < first → front ≡ o) → (first ≤ page → front ≡ None) →
+  three_parts : (first end page : ℕ) (x o middle : Option Attr) → first ≤ end → (2 ^ 35 ≤ page → o ≡ None) →
       (page < first → middle ≡ None) → (first ≤ page → page < end → run_or_else middle None ≡ x) → (end ≤ page → middle ≡ None) →
-      (page < end → back ≡ None) → (end ≤ page → back ≡ o) →
-      run_or_else back (run_or_else middle front) ≡ (if leb first page && ltb page end then x else o)
-  three_parts first end page x o front middle back h f1 f2 m1 m2 m3 b1 b2 =
+      run_or_else (clipped end (2 ^ 35) None page o) (run_or_else middle (run_or_else (clipped 0 first None page o) None)) ≡ (if leb first page && ltb page end then x else o)
+  three_parts first end page x o middle h high m1 m2 m3 =
       ⊎_elim
-      (λ (a : page < first). rw (row_none first end page x o (inl a), b1 (omega arith), m1 a) (f1 a))
+      (λ (a : page < first). rw (row_none first end page x o (inl a), clipped-below end (2 ^ 35) None page o (omega arith), m1 a) (clip_front first page o a))
       (λ (a : first ≤ page). ⊎_elim
-      (λ (b : page < end). rw (row_some first end page x o a b, b1 b, f2 a) (m2 a b))
-      (λ (b : end ≤ page). rw (row_none first end page x o (inr b), b2 b, m3 b, f2 a) (or_else-none o))
+      (λ (b : page < end). rw (row_some first end page x o a b, clipped-below end (2 ^ 35) None page o b, clip_no_front first page o a) (m2 a b))
+      (λ (b : end ≤ page). rw (row_none first end page x o (inr b), clip_back end page o b high, m3 b, clip_no_front first page o a) (or_else-none o))
       (lt_or_le page end))
       (lt_or_le page first)
 
   module _ (runs : List Run) (m : IsMaximal mode 16 runs) (first end : ℕ) (h : first ≤ end) where
     pub front_is : Pasted mode 0 first None [] runs (pasted 0 first None [] runs)
     front_is = pasted-is mode 0 first 16 None [] runs tt (omega arith) m
-
-    pub front_at : (page : ℕ) → attr_at (pasted 0 first None [] runs) page ≡ run_or_else (clipped 0 first None page (attr_at runs page)) None
-    front_at page = front_is.at page
 
     pub front_end_low : end_of 16 (pasted 0 first None [] runs) ≤ max first 16
     front_end_low = omega (arith, front_is.end)
@@ -68,12 +63,8 @@ module _ (mode : ℕ) where
     pub removed_at : (page : ℕ) → attr_at (list_removed runs first end) page ≡ (if leb first page && ltb page end then None else attr_at runs page)
     removed_at page =
         removed_is.at page
-        ∙ ap (λ (o : Option Attr). run_or_else (clipped end (2 ^ 35) None page (attr_at runs page)) o) (front_at page)
-        ∙ three_parts first end page None (attr_at runs page) (run_or_else (clipped 0 first None page (attr_at runs page)) None) None (clipped end (2 ^ 35) None page (attr_at runs page)) h
-        (λ a. clip_front first page (attr_at runs page) a) (λ a. clip_no_front first page (attr_at runs page) a)
-        (λ _. refl) (λ _ _. refl) (λ _. refl)
-        (λ a. clipped-below end (2 ^ 35) None page (attr_at runs page) a)
-        (λ a. clip_back end page (attr_at runs page) a (attr_at-high runs m page))
+        ∙ ap (λ (o : Option Attr). run_or_else (clipped end (2 ^ 35) None page (attr_at runs page)) o) (front_is.at page)
+        ∙ three_parts first end page None (attr_at runs page) None h (attr_at-high runs m page) (λ _. refl) (λ _ _. refl) (λ _. refl)
 
     pub middle_is : (prot : Prot) → Pasted mode first end (Some prot) (pasted 0 first None [] runs) runs (pasted first end (Some prot) (pasted 0 first None [] runs) runs)
     middle_is prot = pasted-is mode first end 16 (Some prot) (pasted 0 first None [] runs) runs front_is.maximal front_end_low m
@@ -88,14 +79,11 @@ module _ (mode : ℕ) where
     protected_at prot page =
         (protected_is prot).at page
         ∙ ap (λ (o : Option Attr). run_or_else (clipped end (2 ^ 35) None page (attr_at runs page)) o)
-        ((middle_is prot).at page ∙ ap (λ (o : Option Attr). run_or_else (clipped first end (Some prot) page (attr_at runs page)) o) (front_at page))
-        ∙ three_parts first end page (option_map (with_prot prot) (attr_at runs page)) (attr_at runs page) (run_or_else (clipped 0 first None page (attr_at runs page)) None) (clipped first end (Some prot) page (attr_at runs page)) (clipped end (2 ^ 35) None page (attr_at runs page)) h
-        (λ a. clip_front first page (attr_at runs page) a) (λ a. clip_no_front first page (attr_at runs page) a)
+        ((middle_is prot).at page ∙ ap (λ (o : Option Attr). run_or_else (clipped first end (Some prot) page (attr_at runs page)) o) (front_is.at page))
+        ∙ three_parts first end page (option_map (with_prot prot) (attr_at runs page)) (attr_at runs page) (clipped first end (Some prot) page (attr_at runs page)) h (attr_at-high runs m page)
         (λ a. clipped-below first end (Some prot) page (attr_at runs page) a)
         (λ a b. or_else-none (clipped first end (Some prot) page (attr_at runs page)) ∙ clipped-inside first end (Some prot) page (attr_at runs page) a b)
         (λ a. clipped-above first end (Some prot) page (attr_at runs page) a)
-        (λ a. clipped-below end (2 ^ 35) None page (attr_at runs page) a)
-        (λ a. clip_back end page (attr_at runs page) a (attr_at-high runs m page))
 
   module _ (runs : List Run) (m : IsMaximal mode 16 runs) (run : Run) (r : IsRun mode run) where
     pub replaced_front : Pasted mode 0 run.first None [] runs (pasted 0 run.first None [] runs)
@@ -119,10 +107,7 @@ module _ (mode : ℕ) where
         ∙ ap (λ (o : Option Attr). run_or_else (clipped run.end (2 ^ 35) None page (attr_at runs page)) o)
         (attr_at-pushed mode 16 (pasted 0 run.first None [] runs) run page replaced_front.maximal replaced_behind r
         ∙ ap (λ (o : Option Attr). run_or_else (attr_in run page) o) (replaced_front.at page))
-        ∙ three_parts run.first run.end page (Some (attr_after run.attr (page - run.first))) (attr_at runs page) (run_or_else (clipped 0 run.first None page (attr_at runs page)) None) (attr_in run page) (clipped run.end (2 ^ 35) None page (attr_at runs page)) (omega arith)
-        (λ a. clip_front run.first page (attr_at runs page) a) (λ a. clip_no_front run.first page (attr_at runs page) a)
+        ∙ three_parts run.first run.end page (Some (attr_after run.attr (page - run.first))) (attr_at runs page) (attr_in run page) (omega arith) (attr_at-high runs m page)
         (λ a. attr_in-below run page a)
         (λ a b. or_else-none (attr_in run page) ∙ attr_in-inside run page a b)
         (λ a. attr_in-above run page a)
-        (λ a. clipped-below run.end (2 ^ 35) None page (attr_at runs page) a)
-        (λ a. clip_back run.end page (attr_at runs page) a (attr_at-high runs m page))

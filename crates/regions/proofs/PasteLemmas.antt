@@ -1,8 +1,7 @@
 -- The steps of the loop that pastes.
 use Rattle.std.proofs.Common.{◌≡◌, ℕ, ◌+◌, ◌<◌, ◌≤◌, Bool, true, false, if◌then◌else◌, max, min, ltb, sym, ◌∙◌, ap, subst, arith, List, [], ◌∷◌, length, drop, get_or, drop-cons, add-one, Option, Some, None}
 use Rattle.vm_types.specs.declared.permission.Prot.{Prot}
-use Rattle.regions.specs.{declared.run.Run.{Run}, Run.{cut_run, run_between}, RunList.{end_of, IsMaximal, pushed, pushed_part, pasted}}
-use Rattle.regions.proofs.ListLemmas.{end_of-pushed, length-pushed}
+use Rattle.regions.{specs.{declared.run.Run.{Run}, Run.{cut_run, run_between}, RunList.{end_of, IsMaximal, pushed, pushed_part, pasted}}, proofs.ListLemmas.{end_of-pushed, length-pushed}}
 
 -- the runs that are still to be pasted lie behind what is there
 pub record Pending (mode : ℕ) (low : ℕ) (done rest : List Run) : Type 0 where

@@ -1,7 +1,7 @@
 -- The table's array when a run is put behind the others.
-use Rattle.std.proofs.Common.{◌≡◌, ℕ, zero, suc, ◌-◌, ◌<◌, ◌≤◌, Bool, true, false, if◌then◌else◌, refl, sym, ◌∙◌, ap, subst, arith, List, [], ◌∷◌, length, take, set, get_or, true≢false}
+use Rattle.std.proofs.{Common.{◌≡◌, ℕ, zero, suc, ◌-◌, ◌<◌, ◌≤◌, Bool, true, false, if◌then◌else◌, refl, sym, ◌∙◌, ap, subst, arith, List, [], ◌∷◌, length, take, set, get_or, get_or-take, true≢false}, lemmas.List.{length-take-le}}
 use Rattle.vm_types.specs.declared.region.Backing.TheVariants.{Anon}
-use Rattle.regions.specs.{declared.run.Run.{Run}, Run.{IsRun, joins, merged}, RunList.{IsMaximal, joins_last, pushed}}
+use Rattle.regions.{specs.{declared.run.Run.{Run}, Run.{IsRun, joins, merged}, RunList.{IsMaximal, joins_last, pushed}}, proofs.ListLemmas.{run_at}}
 
 pub joins_last-take : (runs : List Run) (k : ℕ) (d next : Run) → k < length runs → joins_last (take (suc k) runs) next ≡ joins (get_or runs k d) next
 joins_last-take [] k d next h = absurd (omega arith)
@@ -53,12 +53,6 @@ some_last runs (suc n) next e = omega arith
 abbrev pub unused : Run
 unused = record { first = 0; end = 0; attr = record { prot = record { 0 = 0 }; backing = Anon } }
 
-module _ (mode : ℕ) where
-  pub run_at : (from : ℕ) (runs : List Run) (k : ℕ) (d : Run) → k < length runs → IsMaximal mode from (take (suc k) runs) → IsRun mode (get_or runs k d)
-  run_at from [] k d h m = absurd (omega arith)
-  run_at from (run ∷ runs) zero d h m = m.1
-  run_at from (run ∷ runs) (suc k) d h m = run_at run.end runs k d (omega arith) m.3
-
-  pub last_run : (runs : List Run) (n : ℕ) (d : Run) → 0 < n → n ≤ length runs → IsMaximal mode 16 (take n runs) → IsRun mode (get_or runs (n - 1) d)
-  last_run runs n d a b m =
-      run_at 16 runs (n - 1) d (omega arith) (subst (λ (k : ℕ). IsMaximal mode 16 (take k runs)) (sym (less_one n a)) m)
+pub last_run : (mode : ℕ) (runs : List Run) (n : ℕ) (d : Run) → 0 < n → n ≤ length runs → IsMaximal mode 16 (take n runs) → IsRun mode (get_or runs (n - 1) d)
+last_run mode runs n d a b m =
+    subst (λ (r : Run). IsRun mode r) (get_or-take n runs (n - 1) d (omega arith)) (run_at mode 16 (take n runs) (n - 1) d m (omega (arith, a, length-take-le n runs b)))

@@ -1,6 +1,6 @@
 -- One run: the pages of it, of two merged, and of a part.
 use Rattle.std.proofs.Common.{◌≡◌, ℕ, ◌+◌, ◌-◌, ◌^◌, ◌<◌, ◌≤◌, ◌⊎◌, inl, inr, ⊎_elim, max, min, Bool, true, false, if◌then◌else◌, ◌==◌, ◌&&◌, leb, ltb, refl, sym, ◌∙◌, ap, subst, arith, Option, Some, None, option_map, eqb-true, le-leb, lt-ltb}
-use Rattle.std.proofs.{lemmas.Bool.{and_parts}, lemmas.Bool.Decides.{leb_tells, nat_tests}}
+use Rattle.std.proofs.{Math.Bool.{and-false}, lemmas.Bool.{and_parts, cases_lt, le-ltb, lt-leb}}
 use Rattle.vm_types.proofs.Modes.{sizes}
 use Rattle.vm_types.specs.{declared.permission.Prot.{Prot}, declared.region.Attr.{Attr}, Attributes.{attr_after, backing_after, attr_eq, backing_fits}}
 use Rattle.regions.specs.{declared.run.Run.{Run}, Run.{IsRun, attr_in, joins, merged, changed_run, cut_run}, RunList.{run_or_else}}
@@ -13,31 +13,29 @@ pub data Side (run : Run) (page : ℕ) : Type 0 where
   above : run.end ≤ page → Side run page
 
 pub lt_or_le : (a b : ℕ) → (a < b) ⊎ (b ≤ a)
-lt_or_le a b = ⊎_elim (λ t. inr t.1) (λ f. inl f.1) (leb_tells b a)
+lt_or_le a b = cases_lt a b
 
 pub side : (run : Run) (page : ℕ) → Side run page
 side run page =
     ⊎_elim (λ h. below h) (λ l. ⊎_elim (λ h. inside l h) (λ h. above h) (lt_or_le page run.end)) (lt_or_le page run.first)
 
-pub leb-no : (a b : ℕ) → b < a → leb a b ≡ false
-leb-no a b h = grind (arith, nat_tests)
+-- what hangs on a test is so where it is either way
+module _ {A : Type 0} (P : A → Type 0) (a b : ℕ) (x y : A) where
+  pub by_leb : (a ≤ b → P x) → (b < a → P y) → P (if leb a b then x else y)
+  by_leb p q = ⊎_elim (λ h. rw (lt-leb a b h) (q h)) (λ h. rw (le-leb a b h) (p h)) (lt_or_le b a)
 
-pub ltb-no : (a b : ℕ) → b ≤ a → ltb a b ≡ false
-ltb-no a b h = grind (arith, nat_tests)
-
-and-no : (b : Bool) → (b && false) ≡ false
-and-no true = refl
-and-no false = refl
+  pub by_ltb : (a < b → P x) → (b ≤ a → P y) → P (if ltb a b then x else y)
+  by_ltb p q = ⊎_elim (λ h. rw (lt-ltb a b h) (p h)) (λ h. rw (le-ltb a b h) (q h)) (lt_or_le a b)
 
 -- a row's test
 pub row_inside : (low high page : ℕ) → low ≤ page → page < high → (leb low page && ltb page high) ≡ true
 row_inside low high page a b = rw (le-leb low page a, lt-ltb page high b)
 
 pub row_below : (low high page : ℕ) → page < low → (leb low page && ltb page high) ≡ false
-row_below low high page h = rw (leb-no low page h)
+row_below low high page h = rw (lt-leb low page h)
 
 pub row_above : (low high page : ℕ) → high ≤ page → (leb low page && ltb page high) ≡ false
-row_above low high page h = rw (ltb-no page high h) (and-no (leb low page))
+row_above low high page h = rw (le-ltb page high h) (and-false (leb low page))
 
 pub attr_in-inside : (run : Run) (page : ℕ) → run.first ≤ page → page < run.end → attr_in run page ≡ Some (attr_after run.attr (page - run.first))
 attr_in-inside run page a b = rw (row_inside run.first run.end page a b)

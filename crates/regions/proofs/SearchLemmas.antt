@@ -1,9 +1,9 @@
 -- What the walks along a list find, said of its map.
-use Rattle.std.proofs.Common.{ne_eqb, eq-eqb, IfSome, IsSome, ◌≢◌, ◌/◌, ◌≡◌, ℕ, zero, suc, ◌+◌, ◌<◌, ◌≤◌, ◌⊎◌, inl, inr, ⊎_elim, max, Bool, true, false, not, if◌then◌else◌, ◌&&◌, leb, ltb, refl, sym, ◌∙◌, ap, ap₂, arith, List, [], ◌∷◌, Option, Some, None, is_some, is_none, true≢false, leb-true, leb-false, ltb-true, ltb-false, le-leb, lt-ltb}
+use Rattle.std.proofs.Common.{◌==◌, IfSome, IsSome, ◌/◌, ◌≡◌, ℕ, zero, suc, ◌+◌, ◌<◌, ◌≤◌, ◌⊎◌, inl, inr, ⊎_elim, max, Bool, true, false, not, if◌then◌else◌, ◌&&◌, leb, ltb, refl, sym, ◌∙◌, ap, ap₂, arith, List, [], ◌∷◌, Option, Some, None, is_some, is_none, true≢false, leb-true, leb-false, ltb-true, le-leb, lt-ltb}
 use Rattle.std.proofs.lemmas.Bool.{cases_Bool, cases_eq, false_from_ne_true, and_parts, and_from}
 use Rattle.vm_types.specs.{Limits.{user_end}, declared.region.Attr.{Attr}, Rows.{is_covered}, Placement.{is_free, is_place, lowest_from, lowest_place, placed}}
 use Rattle.regions.specs.{declared.run.Run.{Run}, Run.{IsRun, attr_in}, RunList.{run_or_else, attr_at, IsMaximal}, Search.{gap_from, is_clear, lowest_gap}}
-use Rattle.regions.proofs.{RunLemmas.{lt_or_le, attr_in-inside, attr_in-below, attr_in-above}, ListLemmas.{attr_at-before}}
+use Rattle.regions.proofs.{RunLemmas.{by_leb, by_ltb, lt_or_le, attr_in-inside, attr_in-below, attr_in-above}, ListLemmas.{attr_at-before}}
 
 -- rows all mapped, or all free
 
@@ -94,14 +94,10 @@ module _ (mode : ℕ) where
         open_there = ap (λ (o : Option Attr). run_or_else o (attr_at runs gap)) (attr_in-above run gap (omega arith)) ∙ g.open_there;
       }
 
-  gap_test : (map : ℕ → Option Attr) (page first : ℕ) (x y : ℕ) (b : Bool) → ltb page first ≡ b → (page < first → IsGap map page x) → (first ≤ page → IsGap map page y) → IsGap map page (if b then x else y)
-  gap_test map page first x y true e p q = p (ltb-true page first e)
-  gap_test map page first x y false e p q = q (ltb-false page first e)
-
   pub gap_from-is : (from page : ℕ) (runs : List Run) → IsMaximal mode from runs → IsGap (attr_at runs) page (gap_from page runs)
   gap_from-is from page [] m = record { from = omega arith; mapped = λ k a b. absurd (omega arith); open_there = refl }
   gap_from-is from page (run ∷ runs) m =
-      gap_test (attr_at (run ∷ runs)) page run.first page (gap_from (max page run.end) runs) (ltb page run.first) refl
+      by_ltb (IsGap (attr_at (run ∷ runs)) page) page run.first page (gap_from (max page run.end) runs)
       (λ h. gap_here run runs page m.1 m.3 h)
       (λ h. gap_further run runs page (gap_from (max page run.end) runs) h (gap_from-is run.end (max page run.end) runs m.3))
 
@@ -110,9 +106,8 @@ module _ (mode : ℕ) where
       let l : first + count ≤ gap = leb-true (first + count) gap e in
       is_covered-all map first count (λ k a b. g.mapped k a (omega arith))
   covered_by_gap map first count gap g false e =
-      let l : gap < first + count = leb-false (first + count) gap e in
       false_from_ne_true (is_covered map first count)
-      (λ c. true≢false (sym (is_covered-at map first count gap c g.from l) ∙ ap (λ (o : Option Attr). is_some o) g.open_there))
+      (λ c. true≢false (sym (is_covered-at map first count gap c g.from (leb-false (first + count) gap e)) ∙ ap (λ (o : Option Attr). is_some o) g.open_there))
 
   pub is_covered-gap : (runs : List Run) (first count : ℕ) → IsMaximal mode 16 runs → is_covered (attr_at runs) first count ≡ leb (first + count) (gap_from first runs)
   is_covered-gap runs first count m =
@@ -218,15 +213,6 @@ module _ (mode : ℕ) where
     low_here : (page : ℕ) → 16 ≤ page → page + count ≤ user_end mode → ((k : ℕ) → page ≤ k → k < page + count → map k ≡ None) → ((k : ℕ) → k < page → IsPlace mode map count k → ⊥) → IsLowest mode map count (Some page)
     low_here page a b free low = (record { low = a; high = b; free = is_free-all map page count free }, low)
 
-    last_test : (page : ℕ) (b : Bool) → leb (page + count) (user_end mode) ≡ b → 16 ≤ page → ((k : ℕ) → page ≤ k → map k ≡ None) → ((k : ℕ) → k < page → IsPlace mode map count k → ⊥) → IsLowest mode map count (if b then Some page else None)
-    last_test page true e a free low = low_here page a (leb-true (page + count) (user_end mode) e) (λ k c _. free k c) low
-    last_test page false e a free low =
-        let over : user_end mode < page + count = leb-false (page + count) (user_end mode) e in
-        λ k p. ⊎_elim
-        (λ (c : k < page). low k c p)
-        (λ (c : page ≤ k). let high : k + count ≤ user_end mode = p.high in absurd (omega arith))
-        (lt_or_le k page)
-
     -- no place before the end of a run that leaves too small a gap
     no_place : (run : Run) (runs : List Run) (page : ℕ) → IsRun mode run → run.first < page + count → ((k : ℕ) → page ≤ k → map k ≡ attr_at (run ∷ runs) k) → ((k : ℕ) → k < page → IsPlace mode map count k → ⊥) → (k : ℕ) → k < run.end → IsPlace mode map count k → ⊥
     no_place run runs page r over same low k h p =
@@ -237,14 +223,14 @@ module _ (mode : ℕ) where
         ∙ ap (λ (o : Option Attr). is_some o) (sym (same (max k run.first) (omega arith)) ∙ is_free-at map k count (max k run.first) p.free (omega arith) (omega arith))))
         (lt_or_le k page)
 
-    gap_choice : (page : ℕ) (run : Run) (other : Option ℕ) (b : Bool) → leb (page + count) run.first ≡ b → (page + count ≤ run.first → IsLowest mode map count (Some page)) → (run.first < page + count → IsLowest mode map count other) → IsLowest mode map count (if b then Some page else other)
-    gap_choice page run other true e p q = p (leb-true (page + count) run.first e)
-    gap_choice page run other false e p q = q (leb-false (page + count) run.first e)
-
     walk : (page : ℕ) (runs : List Run) → 16 ≤ page → IsMaximal mode page runs → ((k : ℕ) → page ≤ k → map k ≡ attr_at runs k) → ((k : ℕ) → k < page → IsPlace mode map count k → ⊥) → IsLowest mode map count (lowest_gap mode count page runs)
-    walk page [] a m same low = last_test page (leb (page + count) (user_end mode)) refl a (λ k c. same k c) low
+    walk page [] a m same low =
+        by_leb (IsLowest mode map count) (page + count) (user_end mode) (Some page) None
+        (λ (h : page + count ≤ user_end mode). low_here page a h (λ k c _. same k c) low)
+        (λ (h : user_end mode < page + count).
+        λ k p. ⊎_elim (λ (c : k < page). low k c p) (λ (c : page ≤ k). let high : k + count ≤ user_end mode = p.high in absurd (omega arith)) (lt_or_le k page))
     walk page (run ∷ runs) a m same low =
-        gap_choice page run (lowest_gap mode count run.end runs) (leb (page + count) run.first) refl
+        by_leb (IsLowest mode map count) (page + count) run.first (Some page) (lowest_gap mode count run.end runs)
         (λ (h : page + count ≤ run.first).
         low_here page a (omega arith)
         (λ k c d. same k c ∙ ap (λ (o : Option Attr). run_or_else o (attr_at runs k)) (attr_in-below run k (omega arith)) ∙ attr_at-before mode run.end runs k m.3 (omega arith))
@@ -273,17 +259,8 @@ module _ (mode : ℕ) where
       let p : IsPlace mode map count first = is_place-is map count first e in
       ⊎_elim (λ (a : first < 16). absurd (omega arith)) (λ (a : user_end mode < first + count). absurd (omega arith)) h)
 
-  pub placed-hint : (map : ℕ → Option Attr) (address count : ℕ) → address ≢ 0 → is_place mode map count (address / 4096) ≡ true → placed mode map address count ≡ Some (address / 4096)
+  pub placed-is : (map : ℕ → Option Attr) (address count : ℕ) (x y : Bool) → (address == 0) ≡ x → is_place mode map count (address / 4096) ≡ y
+      → placed mode map address count ≡ (if not x && y then Some (address / 4096) else lowest_place mode map count)
   unfolding placed
-  placed-hint map address count n e =
-      ap₂ (λ (x y : Bool). if not x && y then Some (address / 4096) else lowest_place mode map count) (ne_eqb address 0 n) e
-
-  pub placed-zero : (map : ℕ → Option Attr) (address count : ℕ) → address ≡ 0 → placed mode map address count ≡ lowest_place mode map count
-  unfolding placed
-  placed-zero map address count e =
-      ap (λ (x : Bool). if not x && is_place mode map count (address / 4096) then Some (address / 4096) else lowest_place mode map count) (eq-eqb address 0 e)
-
-  pub placed-taken : (map : ℕ → Option Attr) (address count : ℕ) → address ≢ 0 → is_place mode map count (address / 4096) ≡ false → placed mode map address count ≡ lowest_place mode map count
-  unfolding placed
-  placed-taken map address count n e =
-      ap₂ (λ (x y : Bool). if not x && y then Some (address / 4096) else lowest_place mode map count) (ne_eqb address 0 n) e
+  placed-is map address count x y e p =
+      ap₂ (λ (x y : Bool). if not x && y then Some (address / 4096) else lowest_place mode map count) e p

@@ -1,10 +1,10 @@
 -- The first page that stands on a page of a file or an object: found along the runs, and said of their map.
-use Rattle.std.proofs.Common.{IfSome, IfNone, IsSome, ◌≡◌, ℕ, zero, suc, ◌+◌, ◌-◌, ◌<◌, ◌≤◌, ◌⊎◌, inl, inr, Bool, true, false, if◌then◌else◌, ◌&&◌, ◌==◌, leb, ltb, refl, sym, ◌∙◌, ap, ap₂, subst, arith, List, [], ◌∷◌, length, get_or, Option, Some, None, leb-true, leb-false, ltb-true, le-leb, lt-ltb, eqb-true, eq-eqb}
-use Rattle.std.proofs.{lemmas.Bool.{and_parts}, lemmas.Option.{same_Some}}
+use Rattle.std.proofs.Common.{IfSome, IfNone, IsSome, ◌≡◌, ℕ, ◌+◌, ◌-◌, ◌<◌, ◌≤◌, ◌⊎◌, inl, inr, Bool, true, false, if◌then◌else◌, ◌&&◌, ◌==◌, leb, ltb, refl, sym, ◌∙◌, ap, ap₂, subst, arith, List, [], ◌∷◌, length, get_or, Option, Some, None, leb-true, ltb-true, le-leb, lt-ltb, eqb-true, eq-eqb}
+use Rattle.std.proofs.{lemmas.Bool.{and_parts, lt-leb}, lemmas.Option.{same_Some}}
 use Rattle.vm_types.specs.{declared.file.FilePage.{FilePage}, declared.object.ObjectPage.{ObjectPage}, declared.object.PageKey.{PageKey}, declared.object.PageKey.TheVariants.{File, Object}, declared.region.Attr.{Attr}}
 use Rattle.vm_types.specs.{declared.region.Backing.{Backing}, declared.region.Backing.TheVariants.{Anon, Private, Shared, Common}, Attributes.{file_page_after, object_page_after, backing_after, attr_after, stands_on}}
 use Rattle.regions.specs.{declared.run.Run.{Run}, Run.{IsRun}, RunList.{run_or_else, attr_at, IsMaximal}, Search.{first_on, from_or, pages_between, run_pages_from, page_further, page_on, runs_behind, StandsOn, IsFirstOn}}
-use Rattle.regions.proofs.{RunLemmas.{Side, below, inside, above, side, leb-no, attr_in-inside, attr_in-below, attr_in-above}, ListLemmas.{attr_at-before, first_or_rest}}
+use Rattle.regions.proofs.{RunLemmas.{by_leb, Side, below, inside, above, side, attr_in-inside, attr_in-below, attr_in-above}, ListLemmas.{attr_at-before, first_or_rest, run_at}}
 
 -- how far on a page of a file or an object is
 
@@ -20,23 +20,19 @@ file_far q p n is =
     ap₂ (λ (f k : ℕ). let r : FilePage = record { file = f; page = k } in Some (File r)) a.0 a.1
 
 far_on : (b : Backing) (key : PageKey) (n : ℕ) → run_pages_from (stands_on b) key ≡ Some n → stands_on (backing_after b n) ≡ Some key
-far_on Anon key n is = cc
 far_on (Private q) (File p) n is = file_far q p n is
-far_on (Private q) (Object p) n is = cc
 far_on (Shared q) (File p) n is = file_far q p n is
-far_on (Shared q) (Object p) n is = cc
-far_on (Common q) (File p) n is = cc
 far_on (Common q) (Object p) n is =
     let a = far q.object p.object q.page p.page n _ refl is in
     ap₂ (λ (o k : ℕ). let r : ObjectPage = record { object = o; page = k } in Some (Object r)) a.0 a.1
+far_on _ key n is = cc
 
 -- what a run's test finds
 
 test_some : (run : Run) (n k : ℕ) (t : Bool) → ltb n (run.end - run.first) ≡ t → (if t then Some (run.first + n) else None) ≡ Some k → (run.first ≤ k) × (k < run.end) × (n ≡ k - run.first)
 test_some run n k true e is =
-    let less : n < run.end - run.first = ltb-true n (run.end - run.first) e in
     let at : run.first + n ≡ k = same_Some (run.first + n) k is in
-    (omega (arith, at), omega (arith, at, less), omega (arith, at))
+    (omega (arith, at), omega (arith, at, ltb-true n (run.end - run.first) e), omega (arith, at))
 test_some run n k false e is = cc
 
 further_some : (run : Run) (o : Option ℕ) (k : ℕ) → page_further run o ≡ Some k → (run.first ≤ k) × (k < run.end) × (o ≡ Some (k - run.first))
@@ -80,16 +76,13 @@ on_passed : (run : Run) (low : ℕ) (key : PageKey) (o x : Option ℕ) → run.e
 on_passed run low key o None h is = refl
 on_passed run low key o (Some k) h is =
     let at = on_some key run k is in
-    ap (λ (b : Bool). if b then Some k else o) (leb-no low k (let a = at.1 in omega (arith, a, h)))
-
-on_test : (low : ℕ) (key : PageKey) (run : Run) (runs : List Run) (b : Bool) → leb run.end low ≡ b → first_on low key (runs_behind low runs) ≡ first_on low key runs
-    → first_on low key (if b then runs_behind low runs else run ∷ runs) ≡ first_on low key (run ∷ runs)
-on_test low key run runs true e same = same ∙ sym (on_passed run low key (first_on low key runs) (page_on key run) (leb-true run.end low e) refl)
-on_test low key run runs false e same = refl
+    ap (λ (b : Bool). if b then Some k else o) (lt-leb low k (let a = at.1 in omega (arith, a, h)))
 
 pub on_behind : (low : ℕ) (key : PageKey) (runs : List Run) → first_on low key (runs_behind low runs) ≡ first_on low key runs
 on_behind low key [] = refl
-on_behind low key (run ∷ runs) = on_test low key run runs (leb run.end low) refl (on_behind low key runs)
+on_behind low key (run ∷ runs) =
+    by_leb (λ (l : List Run). first_on low key l ≡ first_on low key (run ∷ runs)) run.end low (runs_behind low runs) (run ∷ runs)
+    (λ h. on_behind low key runs ∙ sym (on_passed run low key (first_on low key runs) (page_on key run) h refl)) (λ _. refl)
 
 -- as a caller has it
 
@@ -108,22 +101,12 @@ none_from (Some k) P is = tt
 module _ (mode : ℕ) where
   -- each run that the search by halves leaves is one
 
-  behind_test : (page : ℕ) (run : Run) (runs : List Run) (k : ℕ) (d : Run) (b : Bool) → IsRun mode run → ((i : ℕ) → i < length runs → IsRun mode (get_or runs i d))
-      → (k < length (runs_behind page runs) → IsRun mode (get_or (runs_behind page runs) k d))
-      → k < length (if b then runs_behind page runs else run ∷ runs) → IsRun mode (get_or (if b then runs_behind page runs else run ∷ runs) k d)
-  behind_test page run runs k d true r all rest h = rest h
-  behind_test page run runs zero d false r all rest h = r
-  behind_test page run runs (suc k) d false r all rest h = all k (omega arith)
-
-  run_at : (from : ℕ) (runs : List Run) (k : ℕ) (d : Run) → IsMaximal mode from runs → k < length runs → IsRun mode (get_or runs k d)
-  run_at from [] k d m h = absurd (omega arith)
-  run_at from (run ∷ runs) zero d m h = m.1
-  run_at from (run ∷ runs) (suc k) d m h = run_at run.end runs k d m.3 (omega arith)
-
   pub behind_run : (from page : ℕ) (runs : List Run) (k : ℕ) (d : Run) → IsMaximal mode from runs → k < length (runs_behind page runs) → IsRun mode (get_or (runs_behind page runs) k d)
   behind_run from page [] k d m h = absurd (omega arith)
   behind_run from page (run ∷ runs) k d m h =
-      behind_test page run runs k d (leb run.end page) m.1 (λ i less. run_at run.end runs i d m.3 less) (λ less. behind_run run.end page runs k d m.3 less) h
+      by_leb (λ (l : List Run). k < length l → IsRun mode (get_or l k d)) run.end page (runs_behind page runs) (run ∷ runs)
+      (λ _ less. behind_run run.end page runs k d m.3 less)
+      (λ _ less. run_at mode from (run ∷ runs) k d m less) h
 
   -- a page of the first run or of the others
 
@@ -132,8 +115,7 @@ module _ (mode : ℕ) where
       inr (record { attr = s.attr; mapped = sym (ap (λ (o : Option Attr). run_or_else o (attr_at runs j)) (attr_in-below run j h)) ∙ s.mapped; on = s.on })
   one_side run runs key j s (inside low high) =
       let here : Some (attr_after run.attr (j - run.first)) ≡ Some s.attr = sym (ap (λ (o : Option Attr). run_or_else o (attr_at runs j)) (attr_in-inside run j low high)) ∙ s.mapped in
-      let same : attr_after run.attr (j - run.first) ≡ s.attr = same_Some (attr_after run.attr (j - run.first)) s.attr here in
-      inl (on_is key run j low high (ap (λ (a : Attr). stands_on a.backing) same ∙ s.on))
+      inl (on_is key run j low high (ap (λ (a : Attr). stands_on a.backing) (same_Some (attr_after run.attr (j - run.first)) s.attr here) ∙ s.on))
   one_side run runs key j s (above h) =
       inr (record { attr = s.attr; mapped = sym (ap (λ (o : Option Attr). run_or_else o (attr_at runs j)) (attr_in-above run j h)) ∙ s.mapped; on = s.on })
 
@@ -184,24 +166,18 @@ module _ (mode : ℕ) where
           | inside low' high' ↦ (
               let same = same_Some (attr_after run.attr (j - run.first)) s.attr (sym (ap (λ (o : Option Attr). run_or_else o (attr_at runs j)) (attr_in-inside run j low' high')) ∙ s.mapped) in
               let also = on_is key run j low' high' (ap (λ (a : Attr). stands_on a.backing) same ∙ s.on) in
-              let e : j ≡ k = same_Some j k (sym also ∙ is) in
-              omega (arith, e, less))
+              omega (arith, same_Some j k (sym also ∙ is), less))
           | above a ↦ (let b = at.1 in omega (arith, a, b, less))
         ];
       }
 
-  first_case : (run : Run) (runs : List Run) (low : ℕ) (key : PageKey) (o : Option ℕ) (k : ℕ) (b : Bool) → leb low k ≡ b → IsRun mode run → IsMaximal mode run.end runs → page_on key run ≡ Some k
-      → IsFirstOrNone mode (attr_at runs) low key o → IsFirstOrNone mode (attr_at (run ∷ runs)) low key (if b then Some k else o)
-  first_case run runs low key o k true e r m is rest = here_first run runs low key k r m is (leb-true low k e)
-  first_case run runs low key o k false e r m is rest =
-      others_tell run runs low key o m
-      (λ j here. (let same : j ≡ k = same_Some j k (sym here ∙ is) in let less : k < low = leb-false low k e in omega (arith, same, less)))
-      rest
-
   first_cases : (run : Run) (runs : List Run) (low : ℕ) (key : PageKey) (o x : Option ℕ) → IsRun mode run → IsMaximal mode run.end runs → page_on key run ≡ x
       → IsFirstOrNone mode (attr_at runs) low key o → IsFirstOrNone mode (attr_at (run ∷ runs)) low key (from_or low x o)
   first_cases run runs low key o None r m is rest = others_tell run runs low key o m (λ j here. (let bad : None ≡ Some j = sym is ∙ here in (cc))) rest
-  first_cases run runs low key o (Some k) r m is rest = first_case run runs low key o k (leb low k) refl r m is rest
+  first_cases run runs low key o (Some k) r m is rest =
+      by_leb (IsFirstOrNone mode (attr_at (run ∷ runs)) low key) low k (Some k) o
+      (λ h. here_first run runs low key k r m is h)
+      (λ less. others_tell run runs low key o m (λ j here. (let same : j ≡ k = same_Some j k (sym here ∙ is) in omega (arith, same, less))) rest)
 
   pub first_on-is : (from low : ℕ) (key : PageKey) (runs : List Run) → IsMaximal mode from runs → IsFirstOrNone mode (attr_at runs) low key (first_on low key runs)
   first_on-is from low key [] m = λ k h s. (let bad : None ≡ Some s.attr = s.mapped in (cc))

@@ -1,10 +1,9 @@
 -- What is public of a list's map: where it is mapped, and what a walk over its runs finds.
-use Rattle.std.proofs.Common.{◌≡◌, ℕ, ◌+◌, ◌-◌, ◌^◌, ◌<◌, ◌≤◌, ◌&&◌, eq-eqb, ⊎_elim, max, min, Bool, true, false, if◌then◌else◌, ltb, refl, sym, ◌∙◌, ap, subst, arith, List, [], ◌∷◌, Option, Some, None, IsSome, IfSome, IfNone, ltb-true, ltb-false}
-use Rattle.std.proofs.lemmas.Option.{same_Some}
+use Rattle.std.proofs.{Common.{◌≡◌, ℕ, ◌+◌, ◌-◌, ◌^◌, ◌<◌, ◌≤◌, ◌&&◌, eq-eqb, ⊎_elim, max, min, Bool, false, refl, sym, ◌∙◌, ap, subst, arith, List, [], ◌∷◌, Option, Some, None, IsSome, IfSome, IfNone}, lemmas.Option.{same_Some}}
 use Rattle.vm_types.specs.{Limits.{user_end}, declared.region.Attr.{Attr}, Attributes.{attr_after, attr_eq, backing_fits}, Rows.{IsUserMap}}
 use Rattle.regions.specs.{declared.run.Run.{Run}, Run.{IsRun, attr_in, cut_run}, RunList.{run_or_else, attr_at, joins_first, IsMaximal, IsNextRun}, Search.{first_part, run_or}}
 use Rattle.regions.proofs.AttrLemmas.{attr_after-add, attr_after-zero, backing_fits-after, backing_fits-less}
-use Rattle.regions.proofs.{RunLemmas.{widest_run, lt_or_le, attr_in-inside, attr_in-below, attr_in-above, attr_in-cut, clipped-inside, changed-none, IsPart, cut-run}, ListLemmas.{attr_at-before}}
+use Rattle.regions.proofs.{RunLemmas.{by_ltb, widest_run, lt_or_le, attr_in-inside, attr_in-below, attr_in-above, attr_in-cut, clipped-inside, changed-none, IsPart, cut-run}, ListLemmas.{attr_at-before}}
 
 -- only user pages are mapped
 
@@ -66,9 +65,8 @@ module _ (mode : ℕ) where
       let is : attr_in next run.end ≡ Some next.attr =
       attr_in-inside next run.end here (omega (arith, e, some)) ∙ ap (λ (n : ℕ). Some (attr_after next.attr n)) none ∙ ap (λ (a : Attr). Some a) (attr_after-zero next.attr) in
       let same : next.attr ≡ attr = same_Some next.attr attr (sym (ap (λ (o : Option Attr). run_or_else o (attr_at runs run.end)) is) ∙ there) in
-      let P : Bool → Type 0 = λ b. (b && attr_eq (attr_after run.attr (run.end - run.first)) next.attr) ≡ false in
       let Q : Attr → Type 0 = λ a. attr_eq (attr_after run.attr (run.end - run.first)) a ≡ false in
-      subst Q same (subst P (eq-eqb run.end next.first e) apart))
+      subst Q same (subst (λ (b : Bool). (b && attr_eq (attr_after run.attr (run.end - run.first)) next.attr) ≡ false) (eq-eqb run.end next.first e) apart))
       (lt_or_le run.end next.first)
 
   next_here : (page : ℕ) (run : Run) (runs : List Run) → IsRun mode run → joins_first run runs ≡ false → IsMaximal mode run.end runs → max run.first page < min run.end (2 ^ 35) → IsNextRun mode (attr_at (run ∷ runs)) page (cut_run None run (max run.first page) (min run.end (2 ^ 35)))
@@ -94,12 +92,10 @@ module _ (mode : ℕ) where
         ends = λ attr there.
             let end : min run.end (2 ^ 35) ≡ run.end = omega (arith, high) in
             let behind : attr_at (run ∷ runs) run.end ≡ attr_at runs run.end = ap (λ (o : Option Attr). run_or_else o (attr_at runs run.end)) (attr_in-above run run.end (omega arith)) in
-            let at_end : attr_at runs run.end ≡ Some attr = sym behind ∙ ap (attr_at (run ∷ runs)) (sym end) ∙ there in
             let count : (max run.first page - run.first) + (min run.end (2 ^ 35) - max run.first page) ≡ run.end - run.first = omega (arith, h, end) in
             let long : attr_after (attr_after run.attr (max run.first page - run.first)) (min run.end (2 ^ 35) - max run.first page) ≡ attr_after run.attr (run.end - run.first) =
             attr_after-add run.attr (max run.first page - run.first) (min run.end (2 ^ 35) - max run.first page) ∙ ap (attr_after run.attr) count in
-            let P : Attr → Type 0 = λ a. attr_eq a attr ≡ false in
-            subst P (sym long) (not_merged run runs attr rest apart at_end);
+            subst (λ (a : Attr). attr_eq a attr ≡ false) (sym long) (not_merged run runs attr rest apart (sym behind ∙ ap (attr_at (run ∷ runs)) (sym end) ∙ there));
       }
 
   next_later : (page : ℕ) (run : Run) (runs : List Run) (next : Option Run) → run.end ≤ page → IsNextOrNone mode (attr_at runs) page next → IsNextOrNone mode (attr_at (run ∷ runs)) page next
@@ -117,17 +113,15 @@ module _ (mode : ℕ) where
             n.ends attr (sym (ap (λ (o : Option Attr). run_or_else o (attr_at runs next.end)) (attr_in-above run next.end (omega arith))) ∙ there));
       }
 
-  next_test : (page : ℕ) (run : Run) (runs : List Run) (b : Bool) → ltb (max run.first page) (min run.end (2 ^ 35)) ≡ b → IsRun mode run → joins_first run runs ≡ false → IsMaximal mode run.end runs → IsNextOrNone mode (attr_at runs) page (first_part page runs) → IsNextOrNone mode (attr_at (run ∷ runs)) page (run_or (if b then Some (cut_run None run (max run.first page) (min run.end (2 ^ 35))) else None) (first_part page runs))
-  next_test page run runs true e r apart rest n = next_here page run runs r apart rest (ltb-true (max run.first page) (min run.end (2 ^ 35)) e)
-  next_test page run runs false e r apart rest n =
-      let empty : min run.end (2 ^ 35) ≤ max run.first page = ltb-false (max run.first page) (min run.end (2 ^ 35)) e in
-      let high : run.end ≤ 2 ^ 35 = widest_run mode run r in
-      next_later page run runs (first_part page runs) (omega arith) n
-
   pub first_part-is : (from page : ℕ) (runs : List Run) → IsMaximal mode from runs → IsNextOrNone mode (attr_at runs) page (first_part page runs)
   first_part-is from page [] m = λ k a. refl
   first_part-is from page (run ∷ runs) m =
-      next_test page run runs (ltb (max run.first page) (min run.end (2 ^ 35))) refl m.1 m.2 m.3 (first_part-is run.end page runs m.3)
+      let high : run.end ≤ 2 ^ 35 = widest_run mode run m.1 in
+      by_ltb (λ (o : Option Run). IsNextOrNone mode (attr_at (run ∷ runs)) page (run_or o (first_part page runs))) (max run.first page) (min run.end (2 ^ 35))
+      (Some (cut_run None run (max run.first page) (min run.end (2 ^ 35)))) None
+      (λ (h : max run.first page < min run.end (2 ^ 35)). next_here page run runs m.1 m.2 m.3 h)
+      (λ (h : min run.end (2 ^ 35) ≤ max run.first page).
+      let some : run.first < run.end = m.1.nonempty in next_later page run runs (first_part page runs) (omega arith) (first_part-is run.end page runs m.3))
 
   pub next_none : (map : ℕ → Option Attr) (page : ℕ) (o : Option Run) → IsNextOrNone mode map page o → IfNone o ((k : ℕ) → page ≤ k → map k ≡ None)
   next_none map page None n = n

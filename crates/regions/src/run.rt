@@ -6,7 +6,7 @@ use vm_types::{Attr, Levels, PageKey, Prot};
 
 /// The pages from `first` up to, not including, `end`. The first one's attributes are `attr`; file pages follow one
 /// another.
-#[derive(Clone, Copy, Debug)]
+#[derive(Clone, Copy)]
 pub struct Run {
     pub first: u64,
     pub end: u64,

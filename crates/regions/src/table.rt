@@ -11,7 +11,7 @@ use vm_types::{Attr, Backing, Levels, PageKey, Prot, TooManyRuns, USER_START, Vp
 const PAGE_BYTES: u64 = vm_types::PAGE_BYTES as u64;
 
 /// A map from user pages of the mode to attributes of at most 256 runs. Contracts see it through `attr_at`, as that map.
-#[derive(Debug, Drop)]
+#[derive(Drop)]
 pub struct Regions<M: Levels> {
     runs: [Run; RUNS],
     len: usize,

@@ -1,10 +1,7 @@
 -- Frames given up one after the other, and what becomes of entries then.
-use Rattle.std.proofs.{Common.{◌≡◌, ℕ, ◌<◌, inl, inr, true, Option, Some, None, refl, sym, ap, ◌∙◌, subst}, lemmas.Bool.{false≢true}}
-use Rattle.frames.specs.{declared.role.Role.TheVariants.{Free, Table}, FrameTable.{IsFull}}
-use Rattle.sv39_walk.specs.Entry.{frame_of}
+use Rattle.residency.proofs.Names.{◌≡◌, ℕ, ◌<◌, inl, inr, true, Option, Some, None, refl, sym, ap, ◌∙◌, subst, false≢true, Free, Table, IsFull, frame_of}
 use Rattle.residency.specs.{declared.leaves.Change.{Change}, declared.leaves.Change.TheVariants.{Forget, ClearAccessed}, Picture.{Picture, entry, is_data}, Leaves.{concerns, Drops}}
-use Rattle.residency.specs.Ages.{Ages, Same, Cleared, Left, LeavesFrame, IsGiven, GivesNone, GivesForTables}
-use Rattle.residency.proofs.Bits.{some_framed, framed, changed_once}
+use Rattle.residency.{specs.Ages.{Ages, Same, Cleared, Left, LeavesFrame, IsGiven, GivesNone, GivesForTables}, proofs.Bits.{some_framed, framed, changed_once}}
 
 pub ages_map : (g h : ℕ → Type 0) (e e' : ℕ) → ((n : ℕ) → g n → h n) → Ages g e e' → Ages h e e'
 ages_map g h e e' more (Same same) = Same same

@@ -1,18 +1,12 @@
 -- When swap is asked, from the frame that is tried up to the calls that take one.
 use Rattle.vm_types.specs.declared.mode.Levels as Levels
-use Rattle.vm_types.specs.{Limits.{top_level}, declared.number.FrameNo.{FrameNo}, declared.file.FilePage.{FilePage}}
-use Rattle.std.proofs.Common.{◌≡◌, ◌≢◌, ℕ, ◌⊎◌, inl, inr, Option, refl, sym, ap, ◌∙◌, subst}
-use Rattle.disk_model.specs.{declared.sector_disk.SectorDisk.{Ghosts}, Moments.{AsksOnly, Nothing}}
-use Rattle.disk_model.proofs.Moments.{asks_none, asks_wider, asks_then}
-use Rattle.file_store.specs.{declared.store.FileStore.{FileStore}, Store.{IsSectorOf}}
-use Rattle.frames.specs.{declared.role.Role.TheVariants.{Free, Table}, FrameTable.{role_of, IsFrame, IsFull, SameButFor}}
-use Rattle.swap.specs.{declared.slots.Swap.{Swap}, declared.pages.Pages.{Pages}, Slots.{slots_of, IsSectorOfSlot, IsSectorOfFreeSlot}}
+use Rattle.residency.proofs.Names.{top_level, FrameNo, FilePage, ◌≡◌, ◌≢◌, ℕ, ◌⊎◌, inl, inr, List, Option, refl, sym, ap, ◌∙◌, subst, arith, Ghosts, AsksOnly, Nothing, Names, NamesOnce, asks_none, asks_once, asks_wider, asks_then}
+use Rattle.residency.proofs.Names.{once_named, once_none, FileStore, IsSectorOf, ReadsFilePage, Free, Table, role_of, IsFrame, IsFull, SameButFor, Swap, Pages, slots_of, IsSectorOfSlot, IsSectorOfFreeSlot, place_of, is_touched, KeepsTrees}
+use Rattle.residency.proofs.Names.{data_changed}
+use Rattle.std.proofs.Common.{Result}
 use Rattle.swap.specs.Slots as Slots
-use Rattle.page_cache.specs.CacheTable.{place_of, is_touched}
-use Rattle.page_tables.proofs.Data.{KeepsTrees, data_changed}
 use Rattle.residency.specs.{declared.kernel.Core.{Core}, Picture.{Picture, picture_of, is_data}, Parts.{IsFit}, Ages.{GivesFrame, WantsFrame}, Calls.{Frees, NeedsSlot, GivesToSwap, AsksSwap, AsksSwapAlso, AsksOneSlot}}
-use Rattle.residency.specs.Evictions.{IsEvictable, ClearsMarks, Looked, GivesUp}
-use Rattle.residency.proofs.{Entries.{entries_kept}, Giving.{frame_given, gives_kept, one_given}}
+use Rattle.residency.{specs.{Evictions.{IsEvictable, ClearsMarks, Looked, GivesUp}, Reading.{ReadsStore}}, proofs.{Entries.{entries_kept}, Giving.{frame_given, gives_kept, one_given}}}
 
 or_more : {A B : Type 0} → A ⊎ ⊥ → A ⊎ B
 or_more (inl is) = inl is
@@ -129,20 +123,41 @@ module _ {M : Type 0} {m : Levels.Ghosts M} {D E : Type 0} (h : Ghosts E) where
   )
 
 -- a frame that was given up holds no table afterwards
-module _ {mode : ℕ} where
-  pub gives_taken : (old found new : Picture mode) (n : ℕ) → IsFit found → SameButFor n found.frames new.frames → role_of found.frames n ≡ Free → role_of new.frames n ≢ Table
-      → ((pid : ℕ) → new.root pid ≡ found.root pid) → GivesFrame old found n → GivesFrame old new n
-  gives_taken old found new n fit same free datum root gives =
-      let trees : KeepsTrees found.frames new.frames (top_level mode) = data_changed found.frames new.frames (top_level mode) n fit.rooted.forest same (λ t. (let bad : Free ≡ Table = sym free ∙ t in (cc))) datum in
-      gives_kept old found new n same.roles (entries_kept found new 0 fit.rooted trees.entries root) trees.same.forth gives
+pub gives_taken : {mode : ℕ} (old found new : Picture mode) (n : ℕ) → IsFit found → SameButFor n found.frames new.frames → role_of found.frames n ≡ Free → role_of new.frames n ≢ Table
+    → ((pid : ℕ) → new.root pid ≡ found.root pid) → GivesFrame old found n → GivesFrame old new n
+gives_taken {mode} old found new n fit same free datum root gives =
+    let trees : KeepsTrees found.frames new.frames (top_level mode) = data_changed found.frames new.frames (top_level mode) n fit.rooted.forest same (λ t. (let bad : Free ≡ Table = sym free ∙ t in (cc))) datum in
+    gives_kept old found new n same.roles (entries_kept found new 0 fit.rooted trees.entries root) trees.same.forth gives
 
--- the store was asked for one page
-module _ {D : Type 0} (g : Ghosts D) where
-  pub asks_store : (page : FilePage) (old mid new : FileStore D) → mid ≡ old → AsksOnly g (IsSectorOf mid page) mid.disk new.disk → AsksOnly g (IsSectorOf old page) old.disk new.disk
-  asks_store page old mid new same asks = let P : FileStore D → Type 0 = λ s. AsksOnly g (IsSectorOf s page) s.disk new.disk in subst P same asks
+-- the store was asked for one page, once
+module _ {D : Type 0} (g : Ghosts D) (page : FilePage) (old : FileStore D) where
+  pub once_store : (mid new : FileStore D) → mid ≡ old → Names (IsSectorOf mid page) (g.asked mid.disk) (g.asked new.disk) → NamesOnce (IsSectorOf old page) (g.asked old.disk) (g.asked new.disk)
+  once_store mid new same names =
+      let P : FileStore D → Type 0 = λ s. NamesOnce (IsSectorOf s page) (g.asked s.disk) (g.asked new.disk) in
+      subst P same (once_named (IsSectorOf mid page) (IsSectorOf mid page) (g.asked mid.disk) (g.asked new.disk) (λ k is. is) names)
 
-  pub unasked_store : (page : FilePage) (old new : FileStore D) → new ≡ old → AsksOnly g (IsSectorOf old page) old.disk new.disk
-  unasked_store page old new same = asks_none g (IsSectorOf old page) old.disk new.disk (λ k. ap (λ (s : FileStore D). g.asked s.disk k) same)
+  pub once_unasked : (new : FileStore D) → new ≡ old → NamesOnce (IsSectorOf old page) (g.asked old.disk) (g.asked new.disk)
+  once_unasked new same = once_none (IsSectorOf old page) (g.asked old.disk) (g.asked new.disk) (λ k. ap (λ (s : FileStore D). g.asked s.disk k) same)
+
+  pub asks_store : (new : FileStore D) → NamesOnce (IsSectorOf old page) (g.asked old.disk) (g.asked new.disk) → AsksOnly g (IsSectorOf old page) old.disk new.disk
+  asks_store new once = asks_once g (IsSectorOf old page) (IsSectorOf old page) old.disk new.disk (λ k is. is) once
+
+  -- it was read, or not at all
+  pub reads_store : {T F : Type 0} {to : List ℕ} {r : Result T F} (mid new : FileStore D) → mid ≡ old → ReadsFilePage g mid new page to r → ReadsStore g old new
+  reads_store mid new same reads =
+      let P : FileStore D → Type 0 = λ s. ReadsStore g s new in
+      subst P same (record { size = reads.size; kept = reads.kept; failures = reads.cause.later; touches = reads.touches; directory = reads.files })
+
+  pub reads_none : (new : FileStore D) → new ≡ old → ReadsStore g old new
+  reads_none new same =
+      let P : FileStore D → Type 0 = λ s. ReadsStore g old s in
+      subst P (sym same) (record {
+        size = refl;
+        kept = λ k. k;
+        failures = omega arith;
+        touches = λ k. record { content = λ j. inr refl; unsynced = λ j u. inl u; later = omega arith; moments = λ t c before left. inl left };
+        directory = refl;
+      })
 
 -- the frame that was wanted, where none was had
 module _ {M : Type 0} {m : Levels.Ghosts M} {D E : Type 0} where

@@ -1,14 +1,9 @@
 -- Bits cleared in entries, and which entries a change is for.
-use Rattle.std.proofs.Common.{◌≡◌, ◌≢◌, ℕ, ◌-◌, ◌/◌, ◌%◌, ◌^◌, ◌==◌, true, false, not, if◌then◌else◌, Some, None, Option, inl, inr, refl, ap, sym, ◌∙◌, subst, arith, ne_eqb, ◌*◌, ◌+◌}
-use Rattle.std.proofs.{lemmas.Bool.{cases_Bool, false≢true, and_parts, and_right, not-true}, lemmas.Bool.Decides.{nat_tests}}
-use Rattle.vm_types.specs.declared.region.Attr.{Attr}
-use Rattle.frames.specs.FrameTable.{count_of}
-use Rattle.sv39_walk.specs.{declared.pte.Pte.{Pte}, Entry.{has_bit, is_valid, is_accessed, is_dirty, frame_of}}
-use Rattle.page_tables.specs.{declared.forms.Entry.{Entry}, declared.forms.Entry.TheVariants.{Leaf, Swapped, Parked}, Entry.{number_of}}
+use Rattle.residency.proofs.Names.{◌≡◌, ◌≢◌, ℕ, ◌-◌, ◌/◌, ◌%◌, ◌^◌, ◌==◌, true, false, not, if◌then◌else◌, Some, None, Option, inl, inr, refl, ap, sym, ◌∙◌, subst, arith, ne_eqb, ◌*◌, ◌+◌, cases_Bool, false≢true, and_parts, and_right}
+use Rattle.residency.proofs.Names.{not-true, nat_tests, Attr, count_of, Pte, has_bit, is_valid, is_accessed, is_dirty, frame_of, Entry, Leaf, Swapped, Parked, number_of}
 use Rattle.page_tables.specs.declared.forms.Entry.TheVariants as Entries
 use Rattle.residency.specs.{declared.leaves.Change.{Change}, declared.leaves.Change.TheVariants.{Forget, ClearAccessed, ClearDirty}, Seats.{InFrame, seat, is_private, is_swapped}, Picture.{Picture}}
-use Rattle.residency.specs.{Parts.{IsEntryFor, Nothing, Resident, Away, IsResident, IsBehind}, Leaves.{Drops, concerns, IsChanged}}
-use Rattle.residency.proofs.Start.{seat-none}
+use Rattle.residency.{specs.{Parts.{IsEntryFor, Nothing, Resident, Away, IsResident, IsBehind}, Leaves.{Drops, concerns, IsChanged}}, proofs.Start.{seat-none}}
 
 bit_same : (e d k : ℕ) → e / 2 ^ k % 2 ≡ d / 2 ^ k % 2 → has_bit e k ≡ has_bit d k
 unfolding has_bit

@@ -1,13 +1,7 @@
 -- A file page comes into a free frame, and is touched there.
-use Rattle.vm_types.specs.{Limits.{top_level}, declared.object.PageKey.{PageKey}, declared.object.PageKey.TheVariants.{File, Object}, declared.region.Attr.{Attr}, declared.region.Backing.{Backing}}
-use Rattle.std.proofs.{Common.{◌≡◌, ◌≢◌, ℕ, inl, inr, ◌<◌, List, true, false, Option, Some, refl, sym, ap, ◌∙◌, arith}, lemmas.Bool.{cases_eq, false≢true}}
+use Rattle.residency.proofs.Names.{top_level, PageKey, File, Object, Attr, Backing, ◌≡◌, ◌≢◌, ℕ, inl, inr, ◌<◌, List, true, false, Option, Some, refl, sym, ap, ◌∙◌, arith, cases_eq, false≢true, Free, Table, Private, Cache, FrameTable}
+use Rattle.residency.proofs.Names.{bytes_of, role_of, SameButFor, Takes, with_bytes, with_bytes-others, is_valid, frame_of, IsPage, KeepsTrees, data_changed, Home, Frame, Slot}
 use Rattle.vm_types.specs.declared.region.Backing.TheVariants.{Anon, Private as PrivateOf, Shared as SharedOf, Common as CommonOf}
-use Rattle.frames.specs.{declared.role.Role.TheVariants.{Free, Table, Private, Cache}, FrameTable.{FrameTable, bytes_of, role_of, SameButFor, Takes, with_bytes}}
-use Rattle.frames.proofs.FrameLemmas.{with_bytes-others}
-use Rattle.sv39_walk.specs.Entry.{is_valid, frame_of}
-use Rattle.page_tables.specs.Tree.{IsPage}
-use Rattle.page_tables.proofs.Data.{KeepsTrees, data_changed}
-use Rattle.page_cache.specs.declared.place.Place.TheVariants.{Home, Frame, Slot}
 use Rattle.residency.specs.{Seats.{Seat, InFrame, InSlot, seat, is_private, is_swapped}, Picture.{Picture, entry, view, held, bytes_at, bytes_in, IsOwned, count_in, page_in}}
 use Rattle.residency.specs.{Parts.{IsFit, IsEntryFor, Nothing, Resident, Away, IsBehind, HasPlaces, IsDirtySound, nowhere}, Steps.{BringsIn}}
 use Rattle.residency.proofs.{Entries.{entries_kept}, Granting.{granting_same}, Moves.{shares_same, fit_kept, counted_on}, Places.{cases_page, one_frame}, Placed.{places_replaced, dirty_replaced}, Rooted.{rooted_same, rooted_frames}}

@@ -1,9 +1,7 @@
 -- What a call knows of its page after a frame was asked for.
-use Rattle.std.proofs.{Common.{◌≡◌, ℕ, inl, inr, ◌⊎◌, true, false, Option, Some, sym, ◌∙◌, subst}, lemmas.Bool.{cases_Bool}}
-use Rattle.vm_types.specs.{declared.region.Attr.{Attr}, declared.region.Backing.{Backing}, declared.region.Backing.TheVariants.{Anon, Private, Shared, Common}}
-use Rattle.sv39_walk.specs.Entry.{frame_of}
-use Rattle.residency.specs.{Seats.{is_private, is_swapped}, Picture.{Picture}, Parts.{IsEntryFor, Nothing, Resident, Away, IsBehind}, Calls.{IsStaying}}
-use Rattle.residency.proofs.Places.{one_frame}
+use Rattle.residency.proofs.Names.{◌≡◌, ℕ, inl, inr, ◌⊎◌, true, false, Option, Some, sym, ◌∙◌, subst, cases_Bool, Attr, Backing, Anon, Shared, Common, frame_of}
+use Rattle.vm_types.specs.declared.region.Backing.TheVariants.{Private}
+use Rattle.residency.{specs.{Seats.{is_private, is_swapped}, Picture.{Picture}, Parts.{IsEntryFor, Nothing, Resident, Away, IsBehind}, Calls.{IsStaying}}, proofs.Places.{one_frame}}
 
 -- the frame behind a page is one
 one_behind : {mode : ℕ} (c : Picture mode) (b : Backing) (n m : ℕ) → IsBehind c b n → IsBehind c b m → (n ≡ 0) ⊎ (n ≡ m)

@@ -1,26 +1,20 @@
 -- A page of a file or an object in a frame, of which no entry says D, is touched no more.
-use Rattle.vm_types.specs.{Limits.{top_level}, declared.object.PageKey.{PageKey}}
-use Rattle.std.proofs.{Common.{◌≡◌, ◌≢◌, ℕ, inl, inr, false, sym, ap, ◌∙◌, refl}, lemmas.Bool.{false≢true}}
-use Rattle.frames.specs.FrameTable.{bytes_of}
-use Rattle.sv39_walk.specs.Entry.{frame_of}
-use Rattle.page_tables.specs.Tree.{page_entry}
+use Rattle.residency.proofs.Names.{top_level, PageKey, ◌≡◌, ◌≢◌, ℕ, inl, inr, false, sym, ap, ◌∙◌, refl, false≢true, bytes_of, frame_of, page_entry, Frame, Slot}
 use Rattle.page_cache.specs.CacheTable as CacheTable
-use Rattle.page_cache.specs.declared.place.Place.TheVariants.{Frame, Slot}
 use Rattle.residency.specs.{declared.leaves.Change.TheVariants.{ClearDirty}, Seats.{Seat, InFrame, InSlot, seat}, Picture.{Picture, entry, view, held, bytes_in}, Parts.{IsFit, nowhere}, Leaves.{IsClear}}
 use Rattle.residency.proofs.{Entries.{entries_kept}, Moves.{shares_same, fit_kept}, Places.{cases_page, one_frame}, Placed.{dirty_replaced}, Rooted.{rooted_frames}, Setting.{view_seated, held_same}}
 
 -- nothing but the touched set changed
-module _ {mode : ℕ} where
-  pub record Untouches (old new : Picture mode) (page : PageKey) : Type 0 where
-    pub frames : new.frames ≡ old.frames
-    pub slots : new.slots ≡ old.slots
-    pub root : (pid : ℕ) → new.root pid ≡ old.root pid
-    pub at : (pid k : ℕ) → new.at pid k ≡ old.at pid k
-    pub page_of : (x : ℕ) → new.page_of x ≡ old.page_of x
-    pub files : (f : ℕ) → new.files f ≡ old.files f
-    pub place : (p : PageKey) → new.place p ≡ old.place p
-    pub now : new.touched page ≡ false
-    pub others : (p : PageKey) → p ≢ page → new.touched p ≡ old.touched p
+pub record Untouches {mode : ℕ} (old new : Picture mode) (page : PageKey) : Type 0 where
+  pub frames : new.frames ≡ old.frames
+  pub slots : new.slots ≡ old.slots
+  pub root : (pid : ℕ) → new.root pid ≡ old.root pid
+  pub at : (pid k : ℕ) → new.at pid k ≡ old.at pid k
+  pub page_of : (x : ℕ) → new.page_of x ≡ old.page_of x
+  pub files : (f : ℕ) → new.files f ≡ old.files f
+  pub place : (p : PageKey) → new.place p ≡ old.place p
+  pub now : new.touched page ≡ false
+  pub others : (p : PageKey) → p ≢ page → new.touched p ≡ old.touched p
 
 module _ {mode : ℕ} (old new : Picture mode) (page : PageKey) (n : ℕ) (fit : IsFit old) (u : Untouches old new page) where
   pub entries_untouched : (pid k : ℕ) → entry new pid k ≡ entry old pid k

@@ -1,11 +1,6 @@
 -- A frame loses a share to a slot, and a page of a file leaves its frame.
-use Rattle.vm_types.specs.Limits.{top_level}
-use Rattle.std.proofs.{Common.{◌≡◌, ◌≢◌, ℕ, inl, inr, ◌⊎◌, ◌<◌, Some, None, get_or, refl, sym, ap, ◌∙◌, subst, arith}, lemmas.Bool.{cases_eq}}
-use Rattle.frames.specs.{declared.role.Role.TheVariants.{Free, Table, Private, Cache}, FrameTable.{role_of, count_of, Releases}}
-use Rattle.swap.specs.Slots.{SlotTable}
-use Rattle.sv39_walk.specs.Entry.{frame_of}
-use Rattle.page_tables.specs.Tree.{IsPage}
-use Rattle.page_tables.proofs.Data.{data_released}
+use Rattle.residency.proofs.Names.{top_level, ◌≡◌, ◌≢◌, ℕ, inl, inr, ◌⊎◌, ◌<◌, Some, None, get_or, refl, sym, ap, ◌∙◌, subst, arith, cases_eq, Free, Table, Private, Cache, role_of, count_of, Releases, SlotTable, frame_of, IsPage}
+use Rattle.residency.proofs.Names.{data_released}
 use Rattle.residency.specs.{Seats.{Seat, InFrame, InSlot, seat}, Picture.{Picture, entry, IsOwned, count_in, page_in}, Parts.{IsRootedBut, IsFitBut, nowhere}, Steps.{SameBeside}}
 use Rattle.residency.proofs.{Entries.{entries_kept}, Seats.{counted_released, not_alone}, Granting.{granting_kept}, Places.{places_same, dirty_same}, Rooted.{rooted_same}, Moves.{behind_kept}, Start.{entry-dead, seat-none, cases_some}}
 

@@ -1,28 +1,19 @@
 -- A process goes.
-use Rattle.vm_types.specs.{Limits.{top_level}, declared.object.ObjectPage.{ObjectPage}, declared.object.PageKey.TheVariants.{Object}, Objects.{is_named}, declared.region.Attr.{Attr}}
-use Rattle.std.proofs.{Common.{true, ◌≡◌, ◌≢◌, ℕ, zero, suc, inl, inr, Option, Some, None, refl, sym, ap, ◌∙◌, subst, arith}, lemmas.Bool.{cases_eq, false≢true}, lemmas.Option.{same_Some}}
-use Rattle.std.specs.Prelude.{IsSome}
-use Rattle.vm_types.proofs.Modes.{sizes}
-use Rattle.frames.specs.{declared.role.Role.TheVariants.{Free, Table}, FrameTable.{FrameTable, role_of}}
-use Rattle.sv39_walk.specs.Entry.{frame_of}
-use Rattle.page_tables.specs.Tree.{Points, Way, IsEmptyTable, IsSpare, missing_of, page_entry}
-use Rattle.page_tables.proofs.{Data.{DropsTree, root_released}, Ends.{way_forth, missing_of-is, page_entry-missing}, Linking.{empty_last}, Keeping.{empty_not_linking}}
-use Rattle.page_cache.specs.declared.place.Place.TheVariants.{Home}
+use Rattle.residency.proofs.Names.{top_level, ObjectPage, Object, is_named, Attr, true, ◌≡◌, ◌≢◌, ℕ, zero, suc, inl, inr, Option, Some, None, refl, sym, ap, ◌∙◌, subst, arith, cases_eq, false≢true, same_Some, IsSome, sizes, Free, Table}
+use Rattle.residency.proofs.Names.{FrameTable, role_of, frame_of, Points, Way, IsEmptyTable, IsSpare, missing_of, page_entry, DropsTree, root_released, way_forth, missing_of-is, page_entry-missing, empty_last, empty_not_linking, Home}
 use Rattle.residency.specs.{Seats.{InFrame, seat}, Picture.{Picture, entry, is_data}, Parts.{IsRootedBut, IsUsed, AsRoot, OnWay, IsMapped, Nothing, IsFit, nowhere}, Steps.{KeepsShares, Exits}}
 use Rattle.residency.proofs.{Entries.{entry-of, entry-same}, Granting.{entry_for-same, user_map-same, readable-same}, Moves.{counted_kept, shares_but}, Places.{objects-fewer, places_renamed, dirty_same}, Start.{entry-dead}}
 
 -- no way leads on from a root without entries
-module _ (mode : ℕ) where
-  no_way : (t : FrameTable) (root page depth n : ℕ) → IsEmptyTable t root → Way t (top_level mode) root page (suc depth) n → ⊥
-  no_way t root page zero n empty way = let P : ℕ → Type 0 = λ x. Points t x _ n in empty_not_linking t root empty _ n (subst P way.1 way.2)
-  no_way t root page (suc depth) n empty way = no_way t root page depth way.0 empty way.1
+no_way : (mode : ℕ) (t : FrameTable) (root page depth n : ℕ) → IsEmptyTable t root → Way t (top_level mode) root page (suc depth) n → ⊥
+no_way mode t root page zero n empty way = let P : ℕ → Type 0 = λ x. Points t x _ n in empty_not_linking t root empty _ n (subst P way.1 way.2)
+no_way mode t root page (suc depth) n empty way = no_way mode t root page depth way.0 empty way.1
 
 -- nothing stands in a tree of which the root has no entry
-module _ (mode : ℕ) where
-  spare_entry : (t : FrameTable) (n page : ℕ) → IsSpare t n → page_entry t (top_level mode) n page ≡ 0
-  spare_entry t n page spare =
-      let level : missing_of t (top_level mode) n page ≡ top_level mode = missing_of-is t (top_level mode) n page ∙ ap (λ x. x.0) (empty_last t page (top_level mode) n spare.empty) in
-      page_entry-missing t (top_level mode) n page (λ none. (omega (arith, level, none, (sizes mode).levels)))
+spare_entry : (mode : ℕ) (t : FrameTable) (n page : ℕ) → IsSpare t n → page_entry t (top_level mode) n page ≡ 0
+spare_entry mode t n page spare =
+    let level : missing_of t (top_level mode) n page ≡ top_level mode = missing_of-is t (top_level mode) n page ∙ ap (λ x. x.0) (empty_last t page (top_level mode) n spare.empty) in
+    page_entry-missing t (top_level mode) n page (λ none. (omega (arith, level, none, (sizes mode).levels)))
 
 module _ {mode : ℕ} (old new : Picture mode) (pid r : ℕ) (fit : IsFit old) (exits : Exits old new pid r) where
   drops : DropsTree old.frames new.frames (top_level mode) r

@@ -1,30 +1,17 @@
 -- A page of an object that no entry is over is at home, and its frame or slot is free.
-use Rattle.vm_types.specs.{Limits.{top_level}, declared.object.ObjectPage.{ObjectPage}, declared.object.PageKey.{PageKey}, declared.object.PageKey.TheVariants.{File, Object}, declared.region.Backing.{Backing}, Attributes.{stands_on}}
-use Rattle.vm_types.specs.Objects.{names, is_object_page}
-use Rattle.std.proofs.{Common.{◌≡◌, ◌≢◌, ℕ, inl, inr, ◌<◌, true, false, Some, refl, sym, ap, ◌∙◌, subst, arith, eq-eqb}, lemmas.Bool.{cases_eq, and_from}, lemmas.Option.{same_Some}}
+use Rattle.residency.proofs.Names.{top_level, ObjectPage, PageKey, Object, Backing, stands_on, names, is_object_page, ◌≡◌, ◌≢◌, ℕ, inl, inr, ◌<◌, true, false, Some, refl, sym, ap, ◌∙◌, subst, arith, eq-eqb, cases_eq, and_from, FrameTable}
+use Rattle.residency.proofs.Names.{frame_count, role_of, frame_of, IsPage, Points, Home, Frame, Slot}
 use Rattle.vm_types.specs.declared.region.Backing.TheVariants.{Anon, Private as PrivateOf, Shared as SharedOf, Common as CommonOf}
-use Rattle.frames.specs.FrameTable.{FrameTable, frame_count, role_of}
-use Rattle.sv39_walk.specs.Entry.{frame_of}
-use Rattle.page_tables.specs.Tree.{IsPage, Points}
-use Rattle.page_cache.specs.declared.place.Place.TheVariants.{Home, Frame, Slot}
 use Rattle.residency.specs.{declared.leaves.Change.{Change}, declared.leaves.Change.TheVariants.{Forget, ClearDirty}, Seats.{is_private, is_swapped}, Picture.{Picture, entry}, Parts.{IsFit, nowhere}, Leaves.{IsOver}}
 use Rattle.residency.specs.Steps.{Forgets, HasNoEntry}
 use Rattle.residency.proofs.{Bits.{some_framed}, Cleaning.{Untouches, fit_untouched, views_untouched, held_untouched, entries_untouched}, Homing.{Homes, one_slot, fit_homed, same, views, held_else}, LeafSteps.{over_resident, over_backed}}
 use Rattle.residency.proofs.Leaving.{Leaves, unnamed_of, fit_home, left_spares, same as same_left, trees as trees_left, held_other as held_left, home_held}
 
-object_alike : (p q : ObjectPage) → Object p ≡ Object q → (p.object ≡ q.object) × (p.page ≡ q.page)
-object_alike p q e = (cc, cc)
-
-no_object : (p : PageKey) (q : ObjectPage) → p ≡ Object q → (f : _) → p ≡ File f → ⊥
-no_object p q e f g = let bad : Object q ≡ File f = sym e ∙ g in (cc)
-
 named_backing : (b : Backing) (p : ObjectPage) → stands_on b ≡ Some (Object p) → is_object_page b p.object p.page ≡ true
 named_backing Anon p is = (cc)
-named_backing (PrivateOf q) p is = absurd (no_object (File q) p (same_Some (File q) (Object p) is) q refl)
-named_backing (SharedOf q) p is = absurd (no_object (File q) p (same_Some (File q) (Object p) is) q refl)
-named_backing (CommonOf q) p is =
-    let same = object_alike q p (same_Some (Object q) (Object p) is) in
-    and_from _ _ (eq-eqb q.object p.object same.0) (eq-eqb q.page p.page same.1)
+named_backing (PrivateOf q) p is = (cc)
+named_backing (SharedOf q) p is = (cc)
+named_backing (CommonOf q) p is = and_from _ _ (eq-eqb q.object p.object (cc)) (eq-eqb q.page p.page (cc))
 
 module _ {mode : ℕ} (c : Picture mode) (p : ObjectPage) (n : ℕ) (fit : IsFit c) (bare : HasNoEntry c p) (placed : c.place (Object p) ≡ Frame (record { 0 = n })) (above : 0 < n) where
   -- no entry is over its frame

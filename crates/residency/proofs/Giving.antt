@@ -1,13 +1,8 @@
 -- What is told of frames that are given up for others, from what was done to one.
-use Rattle.vm_types.specs.{Limits.{top_level}, declared.number.FrameNo.{FrameNo}}
-use Rattle.std.proofs.{Common.{◌≡◌, ◌≢◌, ℕ, ◌⊎◌, inl, inr, true, Option, Some, None, refl, sym, ap, ◌∙◌, subst, arith}, lemmas.Bool.{cases_eq, false≢true}}
-use Rattle.std.specs.{declared.result.Result.{Result}, declared.result.Result.TheVariants.{Ok, Err}, Prelude.{OnErr}}
-use Rattle.frames.specs.{declared.role.Role.TheVariants.{Free, Table}, FrameTable.{frame_count, role_of, IsFrame, IsFull}}
-use Rattle.page_tables.specs.{Change.{AddsTable}, Tree.{Points}}
-use Rattle.page_tables.proofs.Tight.{same_taken}
+use Rattle.residency.proofs.Names.{top_level, FrameNo, ◌≡◌, ◌≢◌, ℕ, ◌⊎◌, inl, inr, true, Option, Some, None, refl, sym, ap, ◌∙◌, subst, arith, cases_eq, false≢true, Result, Ok, Err, OnErr, Free, Table, frame_count, role_of, IsFrame, IsFull}
+use Rattle.residency.proofs.Names.{AddsTable, Points, same_taken}
 use Rattle.residency.specs.{declared.leaves.Change.TheVariants.{ClearAccessed}, Picture.{Picture, entry, is_data}, Parts.{IsFit}, Steps.{SameBeside}, Calls.{Frees}, Evictions.{GivesUp, ClearsMarks}, Leaves.{ChangesLeaves}}
-use Rattle.residency.specs.Ages.{Same, Cleared, GivesFrame, GivesNone, GivesForTables, IsGiven, KeepsRoles, KeepsRolesBut}
-use Rattle.residency.proofs.{Aging.{ages_map, ages_then}, Entries.{entries_kept}}
+use Rattle.residency.{specs.Ages.{Same, Cleared, GivesFrame, GivesNone, GivesForTables, IsGiven, KeepsRoles, KeepsRolesBut}, proofs.{Aging.{ages_map, ages_then}, Entries.{entries_kept}}}
 
 -- what is so however a call ended
 pub on_err_same : {T E : Type 0} (Q : Type 0) (r : Result T E) → Q → OnErr r Q
@@ -64,21 +59,20 @@ tables_tried old new keep v frees gives still full = record {
   needed = inl full;
 }
 
-module _ {mode : ℕ} where
-  -- the frame that is free then was the one given up
-  pub one_given : (old found : Picture mode) (v n : ℕ) → frame_count found.frames ≡ frame_count old.frames → IsFull old.frames → GivesFrame old found v → IsFrame found.frames n → role_of found.frames n ≡ Free → v ≡ n
-  one_given old found v n count full gives inside free = elim (cases_eq n v) [
-    | inl e ↦ sym e
-    | inr ne ↦ absurd (full n (omega (arith, count, inside)) (sym (gives.roles n ne) ∙ free))
-  ]
+-- the frame that is free then was the one given up
+pub one_given : {mode : ℕ} (old found : Picture mode) (v n : ℕ) → frame_count found.frames ≡ frame_count old.frames → IsFull old.frames → GivesFrame old found v → IsFrame found.frames n → role_of found.frames n ≡ Free → v ≡ n
+one_given old found v n count full gives inside free = elim (cases_eq n v) [
+  | inl e ↦ sym e
+  | inr ne ↦ absurd (full n (omega (arith, count, inside)) (sym (gives.roles n ne) ∙ free))
+]
 
-  -- the frame that is taken then is the one that was given up, where any was
-  pub frame_taken : (old found : Picture mode) (keep : Option FrameNo) (v n : ℕ) → Frees old found keep → GivesFrame old found v → IsFull old.frames ⊎ (found ≡ old) → IsFrame found.frames n
-      → role_of found.frames n ≡ Free → GivesFrame old found n
-  frame_taken old found keep v n frees gives needed inside free = elim needed [
-    | inl full ↦ (let P : ℕ → Type 0 = λ k. GivesFrame old found k in subst P (one_given old found v n frees.count full gives inside free) gives)
-    | inr same ↦ (let P : Picture mode → Type 0 = λ c. GivesFrame old c n in subst P (sym same) (frame_none old n))
-  ]
+-- the frame that is taken then is the one that was given up, where any was
+pub frame_taken : {mode : ℕ} (old found : Picture mode) (keep : Option FrameNo) (v n : ℕ) → Frees old found keep → GivesFrame old found v → IsFull old.frames ⊎ (found ≡ old) → IsFrame found.frames n
+    → role_of found.frames n ≡ Free → GivesFrame old found n
+frame_taken {mode} old found keep v n frees gives needed inside free = elim needed [
+  | inl full ↦ (let P : ℕ → Type 0 = λ k. GivesFrame old found k in subst P (one_given old found v n frees.count full gives inside free) gives)
+  | inr same ↦ (let P : Picture mode → Type 0 = λ c. GivesFrame old c n in subst P (sym same) (frame_none old n))
+]
 
 -- a frame was obtained and became a table
 module _ {mode : ℕ} (old found new : Picture mode) (n : ℕ) (fit : IsFit found) (frees : Frees old found None) (adds : AddsTable found.frames new.frames (top_level mode) n) (beside : SameBeside found new)

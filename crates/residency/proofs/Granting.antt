@@ -1,21 +1,14 @@
 -- Grants: what each step does to what entries let be done.
-use Rattle.vm_types.specs.{Limits.{top_level}, declared.object.PageKey.{PageKey}, declared.object.PageKey.TheVariants.{File, Object}, declared.region.Attr.{Attr}, declared.region.Backing.{Backing}}
-use Rattle.vm_types.specs.{declared.region.Backing.TheVariants.{Anon, Private, Shared, Common}, Files.{is_past_end_of}, Rows.{IsUserMap}, Verdict.{is_past_end}}
-use Rattle.std.proofs.Common.{◌≡◌, ◌≢◌, ℕ, true, Option, refl, ap, ◌∙◌, subst}
-use Rattle.std.specs.Prelude.{IsSome, ◌⊎◌}
-use Rattle.frames.specs.FrameTable.{count_of}
-use Rattle.sv39_walk.specs.Entry.{can_write, frame_of}
-use Rattle.page_tables.specs.Tree.{IsPage}
-use Rattle.page_cache.specs.declared.place.Place.TheVariants.{Frame}
-use Rattle.regions.specs.Permission.{IsReadableMap}
-use Rattle.residency.proofs.{Places.{objects-same}, Ways.{each_page}}
-use Rattle.residency.specs.{Picture.{Picture, entry, is_private}, Parts.{IsGranting, IsEntryFor, Nothing, Resident, Away, IsResident, IsBehind}}
+use Rattle.residency.proofs.Names.{top_level, PageKey, File, Object, Attr, Backing, Anon, Shared, Common, is_past_end_of, IsUserMap, is_past_end, ◌≡◌, ◌≢◌, ℕ, true, Option, refl, ap, ◌∙◌, subst, IsSome, count_of, can_write, frame_of}
+use Rattle.residency.proofs.Names.{IsPage, Frame, IsReadableMap}
+use Rattle.std.specs.Prelude.{◌⊎◌}
+use Rattle.vm_types.specs.declared.region.Backing.TheVariants.{Private}
+use Rattle.residency.{specs.{Picture.{Picture, entry, is_private}, Parts.{IsGranting, IsEntryFor, Nothing, Resident, Away, IsResident, IsBehind}}, proofs.{Places.{objects-same}, Ways.{each_page}}}
 
 -- no page leaves the frame that it lies in, and the files are the same
-module _ {mode : ℕ} where
-  pub record KeepsBehind (old new : Picture mode) : Type 0 where
-    pub place : (p : PageKey) (n : ℕ) → old.place p ≡ Frame (record { 0 = n }) → new.place p ≡ Frame (record { 0 = n })
-    pub files : (f : ℕ) → new.files f ≡ old.files f
+pub record KeepsBehind {mode : ℕ} (old new : Picture mode) : Type 0 where
+  pub place : (p : PageKey) (n : ℕ) → old.place p ≡ Frame (record { 0 = n }) → new.place p ≡ Frame (record { 0 = n })
+  pub files : (f : ℕ) → new.files f ≡ old.files f
 
 pub past_end-same : {mode : ℕ} (old new : Picture mode) (b : Backing) → ((f : ℕ) → new.files f ≡ old.files f) → is_past_end new.files b ≡ is_past_end old.files b
 past_end-same old new Anon same = refl
@@ -54,12 +47,11 @@ entry_for-same old new attr e kept count (Away a is away) = Away a is (record {
   not_shared = away.not_shared;
 })
 
-module _ (mode : ℕ) where
-  pub user_map-same : (f g : ℕ → Option Attr) → ((page : ℕ) → g page ≡ f page) → IsUserMap mode f → IsUserMap mode g
-  user_map-same f g same user = record {
-    user_pages = λ page some. user.user_pages page (let P : Option Attr → Type 0 = λ x. IsSome x in subst P (same page) some);
-    file_pages = λ page. rw (same page) (user.file_pages page);
-  }
+pub user_map-same : (mode : ℕ) (f g : ℕ → Option Attr) → ((page : ℕ) → g page ≡ f page) → IsUserMap mode f → IsUserMap mode g
+user_map-same mode f g same user = record {
+  user_pages = λ page some. user.user_pages page (let P : Option Attr → Type 0 = λ x. IsSome x in subst P (same page) some);
+  file_pages = λ page. rw (same page) (user.file_pages page);
+}
 
 pub readable-same : (f g : ℕ → Option Attr) → ((page : ℕ) → g page ≡ f page) → IsReadableMap f → IsReadableMap g
 readable-same f g same readable page = rw (same page) (readable page)
@@ -75,30 +67,27 @@ granting_by {mode} old new granting at entries = record {
 }
 
 -- all entries and regions are as they were, and a writable frame of one process is still that
-module _ {mode : ℕ} where
-  pub granting_kept : (old new : Picture mode) → IsGranting old → KeepsBehind old new
-      → ((pid page : ℕ) → IsPage (top_level mode) page → is_private (entry old pid page) ≡ true → can_write (entry old pid page) ≡ true
-      → count_of old.frames (frame_of (entry old pid page)) ≡ 1 → count_of new.frames (frame_of (entry old pid page)) ≡ 1)
-      → ((pid page : ℕ) → new.at pid page ≡ old.at pid page) → ((pid page : ℕ) → IsPage (top_level mode) page → entry new pid page ≡ entry old pid page) → IsGranting new
-  granting_kept old new granting kept count at same = granting_by old new granting at (λ pid page h.
-      let here = entry_for-same old new (old.at pid page) (entry old pid page) kept (λ private write one. count pid page h private write one) (granting.entries pid page h) in
-      rw (same pid page h) here)
+pub granting_kept : {mode : ℕ} (old new : Picture mode) → IsGranting old → KeepsBehind old new
+    → ((pid page : ℕ) → IsPage (top_level mode) page → is_private (entry old pid page) ≡ true → can_write (entry old pid page) ≡ true
+    → count_of old.frames (frame_of (entry old pid page)) ≡ 1 → count_of new.frames (frame_of (entry old pid page)) ≡ 1)
+    → ((pid page : ℕ) → new.at pid page ≡ old.at pid page) → ((pid page : ℕ) → IsPage (top_level mode) page → entry new pid page ≡ entry old pid page) → IsGranting new
+granting_kept old new granting kept count at same = granting_by old new granting at (λ pid page h.
+    let here = entry_for-same old new (old.at pid page) (entry old pid page) kept (λ private write one. count pid page h private write one) (granting.entries pid page h) in
+    rw (same pid page h) here)
 
 -- all entries and regions are as they were
-module _ {mode : ℕ} where
-  pub granting_same : (old new : Picture mode) → IsGranting old → KeepsBehind old new
-      → ((pid page : ℕ) → IsPage (top_level mode) page → is_private (entry old pid page) ≡ true
-      → count_of old.frames (frame_of (entry old pid page)) ≡ 1 → count_of new.frames (frame_of (entry old pid page)) ≡ 1)
-      → ((pid page : ℕ) → new.at pid page ≡ old.at pid page) → ((pid page : ℕ) → IsPage (top_level mode) page → entry new pid page ≡ entry old pid page) → IsGranting new
-  granting_same old new granting kept count at same = granting_kept old new granting kept (λ pid page h private write. count pid page h private) at same
+pub granting_same : {mode : ℕ} (old new : Picture mode) → IsGranting old → KeepsBehind old new
+    → ((pid page : ℕ) → IsPage (top_level mode) page → is_private (entry old pid page) ≡ true
+    → count_of old.frames (frame_of (entry old pid page)) ≡ 1 → count_of new.frames (frame_of (entry old pid page)) ≡ 1)
+    → ((pid page : ℕ) → new.at pid page ≡ old.at pid page) → ((pid page : ℕ) → IsPage (top_level mode) page → entry new pid page ≡ entry old pid page) → IsGranting new
+granting_same old new granting kept count at same = granting_kept old new granting kept (λ pid page h private write. count pid page h private) at same
 
 -- the entry of one page changed
-module _ {mode : ℕ} where
-  pub granting_changed : (old new : Picture mode) (pid page : ℕ) → IsGranting old → KeepsBehind old new
-      → ((q p : ℕ) → IsPage (top_level mode) p → is_private (entry old q p) ≡ true
-      → count_of old.frames (frame_of (entry old q p)) ≡ 1 → count_of new.frames (frame_of (entry old q p)) ≡ 1)
-      → ((q p : ℕ) → new.at q p ≡ old.at q p) → ((q p : ℕ) → IsPage (top_level mode) p → (q ≢ pid) ⊎ (p ≢ page) → entry new q p ≡ entry old q p)
-      → IsEntryFor new (old.at pid page) (entry new pid page) → IsGranting new
-  granting_changed old new pid page granting kept count at same here = granting_by old new granting at (λ q p h. each_page (λ x y. IsEntryFor new (old.at x y) (entry new x y)) q p pid page here (λ other. (
-      let there = entry_for-same old new (old.at q p) (entry old q p) kept (λ private write one. count q p h private one) (granting.entries q p h) in
-      rw (same q p h other) there)))
+pub granting_changed : {mode : ℕ} (old new : Picture mode) (pid page : ℕ) → IsGranting old → KeepsBehind old new
+    → ((q p : ℕ) → IsPage (top_level mode) p → is_private (entry old q p) ≡ true
+    → count_of old.frames (frame_of (entry old q p)) ≡ 1 → count_of new.frames (frame_of (entry old q p)) ≡ 1)
+    → ((q p : ℕ) → new.at q p ≡ old.at q p) → ((q p : ℕ) → IsPage (top_level mode) p → (q ≢ pid) ⊎ (p ≢ page) → entry new q p ≡ entry old q p)
+    → IsEntryFor new (old.at pid page) (entry new pid page) → IsGranting new
+granting_changed old new pid page granting kept count at same here = granting_by old new granting at (λ q p h. each_page (λ x y. IsEntryFor new (old.at x y) (entry new x y)) q p pid page here (λ other. (
+    let there = entry_for-same old new (old.at q p) (entry old q p) kept (λ private write one. count q p h private one) (granting.entries q p h) in
+    rw (same q p h other) there)))

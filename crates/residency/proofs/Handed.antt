@@ -1,9 +1,5 @@
 -- A share handed over shows nothing.
-use Rattle.vm_types.specs.{Limits.{top_level}, declared.object.PageKey.{PageKey}}
-use Rattle.std.proofs.{Common.{◌≡◌, ℕ, inl, inr, ◌⊎◌, true, [], Some, get_or, sym, ap, ◌∙◌, arith}, lemmas.Bool.{cases_eq}}
-use Rattle.frames.specs.{declared.role.Role.TheVariants.{Free, Table, Private, Cache}, FrameTable.{role_of, count_of, Releases}}
-use Rattle.page_tables.specs.Tree.{IsPage}
-use Rattle.page_tables.proofs.{Data.{KeepsTrees, data_released}, Ends.{same_last}}
+use Rattle.residency.proofs.Names.{top_level, PageKey, ◌≡◌, ℕ, inl, inr, ◌⊎◌, true, [], Some, get_or, sym, ap, ◌∙◌, arith, cases_eq, Free, Table, Private, Cache, role_of, count_of, Releases, IsPage, KeepsTrees, data_released, same_last}
 use Rattle.residency.specs.{Seats.{Seat, InFrame, InSlot, seat}, Picture.{Picture, entry, held, is_data, bytes_in}, Parts.{IsFitBut}, Steps.{SameBeside}, Ages.{Same}, Evictions.{Spares}}
 use Rattle.residency.proofs.{Entries.{entries_kept}, Evicted.{shared_frame}, Setting.{view_seated, each_view, held_same}}
 

@@ -1,10 +1,6 @@
 -- An own copy handed over to a slot.
-use Rattle.vm_types.specs.{Limits.{top_level}, declared.region.Attr.{Attr}}
-use Rattle.std.proofs.{Common.{◌≡◌, ◌≢◌, ℕ, inl, inr, ◌⊎◌, ◌+◌, ◌*◌, ◌/◌, ◌%◌, ◌^◌, ◌<◌, true, false, [], Option, Some, None, get_or, refl, sym, ap, ◌∙◌, arith, ne_eqb}, lemmas.Bool.{cases_eq, cases_Bool, false≢true}}
-use Rattle.frames.specs.{declared.role.Role.TheVariants.{Free, Table, Private}, FrameTable.{bytes_of, role_of, count_of, Releases}}
-use Rattle.sv39_walk.specs.Entry.{is_valid, frame_of, has_bit}
-use Rattle.page_tables.specs.{Change.{SetsEntry}, Tree.{IsPage, missing_of}}
-use Rattle.page_tables.proofs.Ends.{page_entry-missing}
+use Rattle.residency.proofs.Names.{top_level, Attr, ◌≡◌, ◌≢◌, ℕ, inl, inr, ◌⊎◌, ◌+◌, ◌*◌, ◌/◌, ◌%◌, ◌^◌, ◌<◌, true, false, [], Option, Some, None, get_or, refl, sym, ap, ◌∙◌, arith, ne_eqb, cases_eq, cases_Bool, false≢true, Free, Table}
+use Rattle.residency.proofs.Names.{Private, bytes_of, role_of, count_of, Releases, is_valid, frame_of, has_bit, SetsEntry, IsPage, missing_of, page_entry-missing}
 use Rattle.residency.specs.{Seats.{Seat, InFrame, InSlot, seat, is_private, is_swapped}, Picture.{Picture, entry, view, bytes_in}, Parts.{IsEntryFor, Nothing, Resident, Away, IsFitBut, IsFit}, Steps.{SameBeside, SetsPage}}
 use Rattle.residency.specs.{declared.leaves.Change.TheVariants.{Forget}, Leaves.{concerns}, Ages.{Ages, Same, Left}, Evictions.{HasShare, Spares}}
 use Rattle.residency.proofs.{Entries.{entry-of}, TableSteps.{sets_page, rooted_set}, Moves.{fit_moved, views_moved}, Evicted.{fit_released, seat_number}, Handed.{release_spares, same}, LeafSteps.{last_set}, Setting.{each_view, set_held}}
@@ -36,14 +32,13 @@ away_seat : (e k : ℕ) → IsAway e k → seat e ≡ Some (InSlot k)
 away_seat e k away = rw (away.common, away.swapped) (ap (λ j. Some (InSlot j)) away.slot)
 
 -- a page with an own copy has its table
-module _ {mode : ℕ} where
-  pub seat_whole : (c : Picture mode) (pid r page : ℕ) (z : Seat) → c.root pid ≡ Some r → seat (entry c pid page) ≡ Some z → missing_of c.frames (top_level mode) r page ≡ 0
-  seat_whole c pid r page z root is = elim (cases_eq (missing_of c.frames (top_level mode) r page) 0) [
-    | inl e ↦ e
-    | inr some ↦ (
-        let none : seat (entry c pid page) ≡ None = ap seat (entry-of c pid r page root ∙ page_entry-missing c.frames (top_level mode) r page some) ∙ seat-none in
-        let bad : None ≡ Some z = sym none ∙ is in (cc))
-  ]
+pub seat_whole : {mode : ℕ} (c : Picture mode) (pid r page : ℕ) (z : Seat) → c.root pid ≡ Some r → seat (entry c pid page) ≡ Some z → missing_of c.frames (top_level mode) r page ≡ 0
+seat_whole {mode} c pid r page z root is = elim (cases_eq (missing_of c.frames (top_level mode) r page) 0) [
+  | inl e ↦ e
+  | inr some ↦ (
+      let none : seat (entry c pid page) ≡ None = ap seat (entry-of c pid r page root ∙ page_entry-missing c.frames (top_level mode) r page some) ∙ seat-none in
+      let bad : None ≡ Some z = sym none ∙ is in (cc))
+]
 
 -- a page with an own copy may lie in a slot
 own_region : {mode : ℕ} (c new : Picture mode) (a : Option Attr) (e e' k : ℕ) → IsEntryFor c a e → is_private e ≡ true → IsAway e' k → ((f : ℕ) → new.files f ≡ c.files f) → IsEntryFor new a e'
@@ -65,14 +60,8 @@ frame_seat e n is = elim (cases_Bool (is_private e)) [
   ])
 ]
 
-seat_no : Option Seat → ℕ
-seat_no None = 0
-seat_no (Some (InFrame n)) = n
-seat_no (Some (InSlot k)) = k
-
 seat_frame : (e n : ℕ) → seat e ≡ Some (InFrame n) → frame_of e ≡ n
-unfolding seat_no
-seat_frame e n is = (let own = frame_seat e n is in let there : Some (InFrame (frame_of e)) ≡ Some (InFrame n) = rw own at is in ap seat_no there)
+seat_frame e n is = let own = frame_seat e n is in let there : Some (InFrame (frame_of e)) ≡ Some (InFrame n) = rw own at is in cc
 
 own_not_swapped : {mode : ℕ} (c : Picture mode) (a : Option Attr) (e : ℕ) → IsEntryFor c a e → is_private e ≡ true → is_swapped e ≡ false
 own_not_swapped c a e (Nothing none) own = absurd (false≢true (sym (ap is_private none ∙ no_bit) ∙ own))

@@ -1,11 +1,6 @@
 -- Own copies and touched pages that lie in slots and frames are no more than a state has.
-use Rattle.std.proofs.{Common.{◌≡◌, ◌≢◌, ℕ, zero, suc, inl, inr, ◌⊎◌, ◌+◌, ◌^◌, ◌<◌, ◌≤◌, Bool, true, Option, Some, refl, sym, ap, ◌∙◌, arith}, lemmas.Bool.{cases_lt, cases_Bool}}
-use Rattle.vm_types.specs.{Capacity.{has_own, object_page_limit}, Counting.{count_below, sum_below}, View.{View}, declared.file.FilePage.{FilePage}, declared.object.ObjectPage.{ObjectPage}, declared.object.PageKey.{PageKey}}
-use Rattle.vm_types.specs.{declared.object.PageKey.TheVariants.{File, Object}, Limits.{object_limit, top_level, user_end}}
-use Rattle.frames.specs.{declared.role.Role.TheVariants.{Private}, FrameTable.{role_of, count_of}}
-use Rattle.page_tables.specs.Tree.{IsPage}
-use Rattle.swap.specs.Slots.{IsSwapFull}
-use Rattle.page_cache.specs.{declared.place.Place.{Place}, declared.place.Place.TheVariants.{Home, Frame, Slot}}
+use Rattle.residency.proofs.Names.{◌≡◌, ◌≢◌, ℕ, zero, suc, inl, inr, ◌⊎◌, ◌+◌, ◌^◌, ◌<◌, ◌≤◌, Bool, true, Option, Some, refl, sym, ap, ◌∙◌, arith, cases_lt, cases_Bool, has_own, object_page_limit, count_below, sum_below, View, FilePage}
+use Rattle.residency.proofs.Names.{ObjectPage, PageKey, File, Object, object_limit, top_level, user_end, Private, role_of, count_of, IsPage, IsSwapFull, Place, Home, Frame, Slot}
 use Rattle.residency.specs.{Seats.{Seat, InFrame, InSlot, seat, is_seat, holders_at}, Picture.{Picture, entry, view, IsOwned, count_in, page_in}, Parts.{IsFitBut, nowhere}, Calls.{NeedsSlot}}
 use Rattle.residency.specs.Capacity.{copies_over, touched_file, stored_object}
 use Rattle.residency.proofs.{Counts.{count-all}, Seats.{seated, some_seat, off-none}, Pigeon.{Code, code, is_inside, passing, pigeons}, Places.{one_frame, one_slot, record_of, object_of}}

@@ -1,29 +1,22 @@
 -- A page of a file or an object that lay in a slot is at home and touched no more, and its slot is free.
-use Rattle.vm_types.specs.{Limits.{top_level}, declared.object.PageKey.{PageKey}}
-use Rattle.std.proofs.{Common.{◌≡◌, ◌≢◌, ℕ, inl, inr, ◌<◌, false, None, refl, sym, ap, ◌∙◌, arith}, lemmas.Bool.{false≢true}}
-use Rattle.frames.specs.FrameTable.{role_of, bytes_of, count_of}
-use Rattle.swap.specs.Slots.{ReleasesSlot}
-use Rattle.sv39_walk.specs.Entry.{frame_of}
-use Rattle.page_tables.specs.Tree.{page_entry}
-use Rattle.page_cache.specs.declared.place.Place.TheVariants.{Home, Frame, Slot}
+use Rattle.residency.proofs.Names.{top_level, PageKey, ◌≡◌, ◌≢◌, ℕ, inl, inr, ◌<◌, false, None, refl, sym, ap, ◌∙◌, arith, false≢true, role_of, bytes_of, count_of, ReleasesSlot, frame_of, page_entry, Home, Frame, Slot}
 use Rattle.residency.specs.{Seats.{Seat, InFrame, InSlot, seat}, Picture.{Picture, entry, view, held, bytes_at, bytes_in, IsOwned, count_in, page_in}, Parts.{IsFit, HasPlaces, IsDirtySound, nowhere}}
 use Rattle.residency.proofs.{Entries.{entries_kept}, Granting.{granting_same}, Places.{cases_page}, Placed.{places_replaced, dirty_replaced}, Rooted.{rooted_frames}, Setting.{view_seated, each_view, held_by}, Moves.{counted_on}}
 pub use Rattle.residency.proofs.Places.{one_slot}
 
 -- the steps, taken together
-module _ {mode : ℕ} where
-  pub record Homes (old new : Picture mode) (page : PageKey) (k : ℕ) : Type 0 where
-    pub was : old.place page ≡ Slot (record { 0 = k })
-    pub frames : new.frames ≡ old.frames
-    pub slots : ReleasesSlot old.slots new.slots k
-    pub root : (pid : ℕ) → new.root pid ≡ old.root pid
-    pub at : (pid q : ℕ) → new.at pid q ≡ old.at pid q
-    pub page_of : (m : ℕ) → new.page_of m ≡ old.page_of m
-    pub files : (f : ℕ) → new.files f ≡ old.files f
-    pub placed : new.place page ≡ Home
-    pub others : (p : PageKey) → p ≢ page → new.place p ≡ old.place p
-    pub now : new.touched page ≡ false
-    pub rest : (p : PageKey) → p ≢ page → new.touched p ≡ old.touched p
+pub record Homes {mode : ℕ} (old new : Picture mode) (page : PageKey) (k : ℕ) : Type 0 where
+  pub was : old.place page ≡ Slot (record { 0 = k })
+  pub frames : new.frames ≡ old.frames
+  pub slots : ReleasesSlot old.slots new.slots k
+  pub root : (pid : ℕ) → new.root pid ≡ old.root pid
+  pub at : (pid q : ℕ) → new.at pid q ≡ old.at pid q
+  pub page_of : (m : ℕ) → new.page_of m ≡ old.page_of m
+  pub files : (f : ℕ) → new.files f ≡ old.files f
+  pub placed : new.place page ≡ Home
+  pub others : (p : PageKey) → p ≢ page → new.place p ≡ old.place p
+  pub now : new.touched page ≡ false
+  pub rest : (p : PageKey) → p ≢ page → new.touched p ≡ old.touched p
 
 module _ {mode : ℕ} (old new : Picture mode) (page : PageKey) (k : ℕ) (fit : IsFit old) (homes : Homes old new page k) where
   pub same : (pid q : ℕ) → entry new pid q ≡ entry old pid q

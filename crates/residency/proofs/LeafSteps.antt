@@ -1,39 +1,30 @@
 -- Entries over one frame changed: what stays, and where such entries stand.
 use Rattle.vm_types.specs.declared.mode.Levels as Levels
-use Rattle.vm_types.specs.{Limits.{user_end, top_level}, declared.object.PageKey.{PageKey}, declared.region.Attr.{Attr}, declared.region.Backing.{Backing}, declared.object.PageKey.TheVariants.{File, Object}}
-use Rattle.vm_types.specs.Attributes.{backing_after, stands_on}
-use Rattle.std.proofs.{Common.{◌≡◌, ℕ, inl, inr, ◌⊎◌, ◌-◌, ◌<◌, ◌≤◌, true, false, List, [], Option, Some, None, get_or, refl, sym, ap, ◌∙◌, subst, arith, ne_eqb}, lemmas.Bool.{cases_eq, cases_Bool, false≢true}, lemmas.Option.{same_Some}}
-use Rattle.std.specs.Prelude.{IsSome, IfNone, is_some}
+use Rattle.residency.proofs.Names.{user_end, top_level, PageKey, Attr, Backing, File, Object, backing_after, stands_on, ◌≡◌, ℕ, inl, inr, ◌⊎◌, ◌-◌, ◌<◌, ◌≤◌, true, false, List, [], Option, Some, None, get_or, refl, sym, ap, ◌∙◌, subst}
+use Rattle.residency.proofs.Names.{arith, ne_eqb, cases_eq, cases_Bool, false≢true, same_Some, IsSome, IfNone, Free, Zero, Table, Private, Cache, FrameTable, role_of, is_valid, is_dirty, is_pointer, frame_of, entry_at, index_of, SetsEntry}
+use Rattle.residency.proofs.Names.{IsPage, IsTable, IsForest, missing_of, last_table, way_forth, last_is, page_entry-missing, ends, index_of-lt, Run, attr_at, StandsOn, Home, Frame, NamesFrame, is_number, of_number}
+use Rattle.std.specs.Prelude.{is_some}
 use Rattle.vm_types.specs.declared.region.Backing.TheVariants as Backings
-use Rattle.frames.specs.{declared.role.Role.TheVariants.{Free, Zero, Table, Private, Cache}, FrameTable.{FrameTable, role_of}}
-use Rattle.sv39_walk.specs.{Entry.{is_valid, is_dirty, is_pointer, frame_of, entry_at}, Walk.{index_of}}
-use Rattle.page_tables.specs.{Change.{SetsEntry}, Tree.{IsPage, IsTable, IsForest, missing_of, last_table}}
-use Rattle.page_tables.proofs.{Ends.{way_forth, last_is, page_entry-missing}, Ways.{ends, index_of-lt}}
-use Rattle.regions.specs.{declared.run.Run.{Run}, RunList.{attr_at}, Search.{StandsOn}}
-use Rattle.page_cache.specs.declared.place.Place.TheVariants.{Home, Frame}
 use Rattle.residency.specs.{declared.leaves.Change.{Change}, declared.leaves.Change.TheVariants.{Forget, ClearAccessed, ClearDirty}, Seats.{InFrame, seat, is_private}, declared.kernel.Core.{Core}}
 use Rattle.residency.specs.{Picture.{Picture, picture_of, attr_where, entry}, Parts.{IsResident, IsBehind, IsFit, AsRoot, OnWay, nowhere}, Steps.{SameBeside, SetsPage}}
 use Rattle.residency.specs.{Leaves.{concerns, IsOver, IsChanged, ChangesLeaves, KeepsAllButFrames, AreKinds, IsPageOver, key_after}, LeafChanges.{ChangesEntries}}
-use Rattle.memory.specs.Notes.{NamesFrame}
-use Rattle.memory.proofs.Numbers.{is_number, of_number}
 use Rattle.residency.proofs.{Bits.{some_framed, resident_of, changed_once, seat_changed, for_changed, valid_zero, leaf_accessed}, Entries.{entry-of}, Granting.{entry_for-same}, Moves.{behind_kept}, Setting.{fit_set, set_views}}
 use Rattle.residency.proofs.{Start.{entry-dead, cases_some}, TableSteps.{sets_page, rooted_set}, Ways.{begins_table, each_page}}
 pub use Rattle.residency.proofs.Moves.{cases_attr}
 
 -- where an entry was set, each way ends where it ended
-module _ (mode : ℕ) where
-  pub last_set : (old new : FrameTable) (root page number : ℕ) → IsForest old → SetsEntry old new (top_level mode) root page number → (r p : ℕ) → IsTable old r → last_table new p (top_level mode) r ≡ last_table old p (top_level mode) r
-  last_set old new root page number forest sets r p table =
-      let end = ends old (top_level mode) r p forest table in
-      let l = last_table old p (top_level mode) r in
-      let w = way_forth old new (λ a i b. (sets.pointers a i b).0) (top_level mode) r p (top_level mode - l.0) l.1 end.way in
-      let there : IsTable new l.1 = record { inside = (let e = sets.kept.frames in rw e end.table.inside); role = ap (λ rs. get_or rs l.1 Free) sets.kept.roles ∙ end.table.role } in
-      last_is new (top_level mode) r p l.0 l.1 end.least w (λ h. elim (cases_Bool (is_pointer (entry_at new l.1 (index_of p l.0)))) [
-        | inl t ↦ (
-            let was = (sets.pointers l.1 (index_of p l.0) (frame_of (entry_at new l.1 (index_of p l.0)))).1 (record { table = there; index = index_of-lt p l.0; pointer = t; target = refl }) in
-            absurd (false≢true (sym (end.stops h) ∙ was.pointer)))
-        | inr f ↦ f
-      ])
+pub last_set : (mode : ℕ) (old new : FrameTable) (root page number : ℕ) → IsForest old → SetsEntry old new (top_level mode) root page number → (r p : ℕ) → IsTable old r → last_table new p (top_level mode) r ≡ last_table old p (top_level mode) r
+last_set mode old new root page number forest sets r p table =
+    let end = ends old (top_level mode) r p forest table in
+    let l = last_table old p (top_level mode) r in
+    let w = way_forth old new (λ a i b. (sets.pointers a i b).0) (top_level mode) r p (top_level mode - l.0) l.1 end.way in
+    let there : IsTable new l.1 = record { inside = (let e = sets.kept.frames in rw e end.table.inside); role = ap (λ rs. get_or rs l.1 Free) sets.kept.roles ∙ end.table.role } in
+    last_is new (top_level mode) r p l.0 l.1 end.least w (λ h. elim (cases_Bool (is_pointer (entry_at new l.1 (index_of p l.0)))) [
+      | inl t ↦ (
+          let was = (sets.pointers l.1 (index_of p l.0) (frame_of (entry_at new l.1 (index_of p l.0)))).1 (record { table = there; index = index_of-lt p l.0; pointer = t; target = refl }) in
+          absurd (false≢true (sym (end.stops h) ∙ was.pointer)))
+      | inr f ↦ f
+    ])
 
 -- where an entry over a frame stands
 module _ {mode : ℕ} (c : Picture mode) (change : Change) (n pid k : ℕ) (fit : IsFit c) (h : IsPage (top_level mode) k) (over : IsOver c change n pid k) where
@@ -83,12 +74,11 @@ module _ {mode : ℕ} (c : Picture mode) (change : Change) (n pid k : ℕ) (fit 
   ]
 
 -- no table is missing on the way to it
-module _ {mode : ℕ} where
-  pub over_whole : (c : Picture mode) (change : Change) (n pid r k : ℕ) → c.root pid ≡ Some r → IsOver c change n pid k → missing_of c.frames (top_level mode) r k ≡ 0
-  over_whole c change n pid r k root over = elim (cases_eq (missing_of c.frames (top_level mode) r k) 0) [
-    | inl e ↦ e
-    | inr some ↦ absurd ((some_framed change (entry c pid k) over.concerned).0 (entry-of c pid r k root ∙ page_entry-missing c.frames (top_level mode) r k some))
-  ]
+pub over_whole : {mode : ℕ} (c : Picture mode) (change : Change) (n pid r k : ℕ) → c.root pid ≡ Some r → IsOver c change n pid k → missing_of c.frames (top_level mode) r k ≡ 0
+over_whole {mode} c change n pid r k root over = elim (cases_eq (missing_of c.frames (top_level mode) r k) 0) [
+  | inl e ↦ e
+  | inr some ↦ absurd ((some_framed change (entry c pid k) over.concerned).0 (entry-of c pid r k root ∙ page_entry-missing c.frames (top_level mode) r k some))
+]
 
 pub over_lives : {mode : ℕ} (c : Picture mode) (change : Change) (n pid k : ℕ) → c.root pid ≡ None → IsOver c change n pid k → ⊥
 over_lives c change n pid k dead over = (some_framed change (entry c pid k) over.concerned).0 (entry-dead c pid k dead)

@@ -1,37 +1,27 @@
 -- A page of a file leaves its frame, for home or for a slot.
-use Rattle.vm_types.specs.{Limits.{top_level}, declared.object.PageKey.{PageKey}, declared.object.PageKey.TheVariants.{File, Object}, declared.region.Attr.{Attr}, declared.region.Backing.{Backing}}
-use Rattle.std.proofs.{Common.{◌≡◌, ◌≢◌, ℕ, inl, inr, ◌⊎◌, ◌<◌, true, false, Option, None, refl, sym, ap, ◌∙◌, subst, ne_eqb}, lemmas.Bool.{cases_eq, false≢true}}
+use Rattle.residency.proofs.Names.{top_level, PageKey, File, Object, Attr, Backing, ◌≡◌, ◌≢◌, ℕ, inl, inr, ◌⊎◌, ◌<◌, true, false, Option, None, refl, sym, ap, ◌∙◌, subst, ne_eqb, cases_eq, false≢true, Free, Table, Private, Cache}
+use Rattle.residency.proofs.Names.{FrameTable, role_of, SameButFor, CacheTable, SameButForPage, place_of, is_touched, Place, Home, Frame, Slot, SlotTable, frame_of, IsPage, KeepsTrees, data_changed, same_last}
 use Rattle.vm_types.specs.declared.region.Backing.TheVariants.{Anon, Private as PrivateOf, Shared as SharedOf, Common as CommonOf}
-use Rattle.frames.specs.{declared.role.Role.TheVariants.{Free, Table, Private, Cache}, FrameTable.{FrameTable, role_of, SameButFor}}
-use Rattle.page_cache.specs.{CacheTable.{CacheTable, SameButForPage, place_of, is_touched}, declared.place.Place.{Place}, declared.place.Place.TheVariants.{Home, Frame, Slot}}
-use Rattle.swap.specs.Slots.{SlotTable}
-use Rattle.sv39_walk.specs.Entry.{frame_of}
-use Rattle.page_tables.specs.Tree.{IsPage}
-use Rattle.page_tables.proofs.{Data.{KeepsTrees, data_changed}, Ends.{same_last}}
 use Rattle.residency.specs.{Seats.{Seat, InFrame, InSlot, seat, is_private, is_swapped}, declared.leaves.Change.TheVariants.{Forget}, Leaves.{IsClear}, Ages.{Same}, Evictions.{Spares}}
 use Rattle.residency.specs.{Picture.{Picture, entry, held, is_data, IsOwned, count_in, page_in, bytes_at}, Parts.{IsCountedBut, IsEntryFor, Nothing, Resident, Away, IsResident, IsBehind, IsFitBut, IsFit, nowhere, HasPlaces, IsDirtySound}}
 use Rattle.residency.proofs.{Entries.{entries_kept}, Seats.{counted_left}, Granting.{past_end-same, granting_by}, Places.{cases_page, one_frame, one_slot}, Placed.{places_replaced, dirty_replaced}, Rooted.{rooted_same}}
 use Rattle.residency.proofs.{Setting.{view_seated, each_view, held_by}, Moves.{counted_on, bytes_same}, Cleaning.{all_touched}, Bits.{not_swapped}}
 use Rattle.residency.proofs.Evicted.{seat_number as seat_below}
 
-slot_seat : (j i : ℕ) → InSlot j ≡ InSlot i → j ≡ i
-slot_seat j i e = (cc)
-
 -- the file page left frame v, which is free now; every other file page is where it was
-module _ {mode : ℕ} where
-  pub record Leaves (old new : Picture mode) (page : PageKey) (v : ℕ) (at : Place) : Type 0 where
-    pub was : old.place page ≡ Frame (record { 0 = v })
-    pub above : v ≢ 0
-    pub placed : new.place page ≡ at
-    pub others : (p : PageKey) → p ≢ page → new.place p ≡ old.place p
-    pub frames : SameButFor v old.frames new.frames
-    pub free : role_of new.frames v ≡ Free
-    pub slots : new.slots ≡ old.slots
-    pub root : (pid : ℕ) → new.root pid ≡ old.root pid
-    pub at_same : (pid k : ℕ) → new.at pid k ≡ old.at pid k
-    pub page_of : (m : ℕ) → new.page_of m ≡ old.page_of m
-    pub touched : (p : PageKey) → new.touched p ≡ old.touched p
-    pub files : (f : ℕ) → new.files f ≡ old.files f
+pub record Leaves {mode : ℕ} (old new : Picture mode) (page : PageKey) (v : ℕ) (at : Place) : Type 0 where
+  pub was : old.place page ≡ Frame (record { 0 = v })
+  pub above : v ≢ 0
+  pub placed : new.place page ≡ at
+  pub others : (p : PageKey) → p ≢ page → new.place p ≡ old.place p
+  pub frames : SameButFor v old.frames new.frames
+  pub free : role_of new.frames v ≡ Free
+  pub slots : new.slots ≡ old.slots
+  pub root : (pid : ℕ) → new.root pid ≡ old.root pid
+  pub at_same : (pid k : ℕ) → new.at pid k ≡ old.at pid k
+  pub page_of : (m : ℕ) → new.page_of m ≡ old.page_of m
+  pub touched : (p : PageKey) → new.touched p ≡ old.touched p
+  pub files : (f : ℕ) → new.files f ≡ old.files f
 
 -- its frame was given back, and its place set
 pub leaves_frame : {mode : ℕ} (c : Picture mode) (t : FrameTable) (a b : CacheTable) (page : PageKey) (v : ℕ) (at : Place) → place_of a page ≡ Frame (record { 0 = v }) → v ≢ 0 → place_of b page ≡ at
@@ -169,7 +159,7 @@ module _ {mode : ℕ} (old new : Picture mode) (page : PageKey) (v : ℕ) (at : 
     used = λ j some. elim (fit.places.used j (some_old j some)) [
       | inl own ↦ elim (decide j) [
         | inl is ↦ inr (inl (leaves.placed ∙ is))
-        | inr ne ↦ inl (forth (InSlot j) (λ i e. (let same : j ≡ i = slot_seat j i e in subst (λ k. at ≢ Slot (record { 0 = k })) same ne)) own)
+        | inr ne ↦ inl (forth (InSlot j) (λ i e. (let same : j ≡ i = cc in subst (λ k. at ≢ Slot (record { 0 = k })) same ne)) own)
       ]
       | inr file ↦ inr (inr ((λ e. (let bad : Frame (record { 0 = v }) ≡ Slot (record { 0 = j }) = sym leaves.was ∙ e in (cc))), file.0, file.1))
     ];

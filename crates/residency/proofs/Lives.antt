@@ -1,11 +1,7 @@
 -- What is read of a process by its number.
 use Rattle.vm_types.specs.declared.mode.Levels as Levels
-use Rattle.std.proofs.{Common.{◌≡◌, ℕ, ◌<◌, List, [], Option, Some, None, get_or, sym, ap, ◌∙◌, arith}, lemmas.List.{get_or_read}}
-use Rattle.std.specs.Prelude.{option_map}
-use Rattle.vm_types.specs.declared.number.FrameNo.{FrameNo}
-use Rattle.regions.specs.{declared.run.Run.{Run}, RunList.{attr_at}}
-use Rattle.residency.specs.{declared.kernel.Core.{Core}, Picture.{picture_of, number_of_frame}}
-use Rattle.residency.proofs.LeafSteps.{map_of}
+use Rattle.residency.proofs.Names.{◌≡◌, ℕ, ◌<◌, List, [], Option, Some, None, get_or, sym, ap, ◌∙◌, arith, get_or_read, option_map, FrameNo, Run, attr_at}
+use Rattle.residency.{specs.{declared.kernel.Core.{Core}, Picture.{picture_of, number_of_frame}}, proofs.LeafSteps.{map_of}}
 
 module _ {M : Type 0} {m : Levels.Ghosts M} {D E : Type 0} (c : Core D E M m) (pid : ℕ) (number : pid < 65) where
   -- its root table

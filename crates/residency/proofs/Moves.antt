@@ -1,15 +1,9 @@
 -- An own copy goes from one seat to another: the steps for one process.
-use Rattle.vm_types.specs.{Limits.{top_level}, declared.object.PageKey.{PageKey}, declared.region.Attr.{Attr}}
-use Rattle.std.proofs.{Common.{◌≡◌, ◌≢◌, ℕ, inl, inr, ◌⊎◌, ◌<◌, true, false, Option, Some, None, refl, sym, ap, ◌∙◌, subst}, lemmas.Bool.{false≢true}}
-use Rattle.std.specs.Prelude.{option_map, IsSome}
-use Rattle.frames.specs.{declared.role.Role.TheVariants.{Table, Private}, FrameTable.{FrameTable, bytes_of, role_of, SameButFor}}
-use Rattle.swap.specs.Slots.{SlotTable}
-use Rattle.sv39_walk.specs.Entry.{is_valid, is_dirty, frame_of}
-use Rattle.page_tables.specs.Tree.{IsPage}
+use Rattle.residency.proofs.Names.{top_level, PageKey, Attr, ◌≡◌, ◌≢◌, ℕ, inl, inr, ◌⊎◌, ◌<◌, true, false, Option, Some, None, refl, sym, ap, ◌∙◌, subst, false≢true, option_map, IsSome, Table, Private, FrameTable, bytes_of, role_of}
+use Rattle.residency.proofs.Names.{SameButFor, SlotTable, is_valid, is_dirty, frame_of, IsPage, Frame}
 use Rattle.residency.specs.{Seats.{Seat, InFrame, InSlot, seat, is_private}, Picture.{Picture, entry, view, view_of, own_in, bytes_in, IsOwned, count_in, page_in, is_data}}
 use Rattle.residency.specs.{Parts.{IsRootedBut, IsEntryFor, IsCountedBut, IsFitBut, IsDirtySound}, Steps.{SameBeside, KeepsShares, SetsPage}}
 use Rattle.residency.proofs.{Seats.{counted_same, counted_put, seat-other}, Granting.{KeepsBehind, granting_same, granting_changed}, Places.{places_same, dirty_changed}, Ways.{each_page}}
-use Rattle.page_cache.specs.declared.place.Place.TheVariants.{Frame}
 
 -- but for frames all is as it was
 pub same_beside : {mode : ℕ} (c : Picture mode) (t : FrameTable) → SameBeside c (record c { frames = t })

@@ -1,16 +1,17 @@
 -- A frame that was obtained, and what was done with it.
 use Rattle.vm_types.specs.declared.mode.Levels as Levels
-use Rattle.std.proofs.Common.{◌≡◌, ◌≢◌, ℕ, ◌⊎◌, Option, None, Result, Ok, Err, sym, ap, ◌∙◌, subst}
-use Rattle.std.specs.Prelude.{IsErrAnd}
-use Rattle.vm_types.specs.{declared.number.FrameNo.{FrameNo}, declared.object.PageKey.{PageKey}, declared.refusal.Stall.{Stall}}
-use Rattle.disk_model.specs.{declared.sector_disk.SectorDisk.{Ghosts}, Moments.{AsksOnly}}
-use Rattle.frames.specs.{declared.role.Role.TheVariants.{Free, Table, Cache}, FrameTable.{role_of, IsFrame, IsFull, SameButFor, FrameTable, Takes}}
-use Rattle.swap.specs.{declared.slots.Swap.{Swap}, Slots.{IsReady, IsSectorOfSlot}}
+use Rattle.residency.proofs.Names.{◌≡◌, ◌≢◌, ℕ, ◌⊎◌, ◌≤◌, Option, None, sym, ap, ◌∙◌, subst, arith, IsErrAnd, FrameNo, PageKey, Stall, NoFrames, NoSwap, SwapDevice, StoreDevice, Ghosts, AsksOnly, Free, Table, Cache, role_of, IsFrame}
+use Rattle.residency.proofs.Names.{IsFull, SameButFor, FrameTable, Takes, Swap, IsReady, IsSectorOfSlot, Frame, place_of, is_touched, SameButForPage}
+use Rattle.std.proofs.Common.{Result, Ok, Err}
 use Rattle.residency.specs.{declared.kernel.Core.{Core}, Picture.{Picture, picture_of}, Ages.{GivesFrame}, AskedFrames.{ComesIn, Obtains, SeeksFrame}, Calls.{AsksSwap, AsksSwapAlso, KeepsRest, UsesDevice}}
-use Rattle.residency.specs.{Views.{AsksClock, ChoosesByClock, TurnsClock}, Steps.{BringsIn, ChangesFrame, LeavesSlot}, Parts.{IsPageFor}}
+use Rattle.residency.specs.{Views.{AsksClock, ChoosesByClock, TurnsClock}, Stalls.{StallCause, ReadCause, HasReadCause}, Steps.{BringsIn, ChangesFrame, LeavesSlot}, Parts.{IsPageFor}}
 use Rattle.residency.proofs.{Asking.{also_taken, asked_taken, gives_taken, needed_of, wants_taken, wants_tried}, BroughtIn.{fit_brought}, Giving.{frame_taken, one_given}, Returning.{frees_spent}, Sparing.{frees_then}, Taking.{fit_spent}}
 use Rattle.residency.proofs.Cleaning.{all_touched}
-use Rattle.page_cache.specs.{declared.place.Place.TheVariants.{Frame}, CacheTable.{place_of, is_touched, SameButForPage}}
+
+-- swap's device was read then
+pub device_read : {M : Type 0} {m : Levels.Ghosts M} {D E : Type 0} {h : Ghosts E} {old found : Core D E M m} {keep : Option FrameNo} {r : Result FrameNo Stall} → Obtains h old found keep r → (disk : E)
+    → h.sector_count disk ≡ h.sector_count found.swap.pages.disk → (h.keeps_model disk → h.keeps_model found.swap.pages.disk) → h.failures found.swap.pages.disk ≤ h.failures disk → UsesDevice h old.swap.pages.disk disk
+device_read got disk size kept later = record { size = size ∙ got.device.size; kept = λ k. got.device.kept (kept k); later = (let before = got.device.later in omega (arith, before, later)) }
 
 module _ {M : Type 0} {m : Levels.Ghosts M} {D E : Type 0} {h : Ghosts E} {old found : Core D E M m} {keep : Option FrameNo} {v : FrameNo} (got : Obtains h old found keep (Ok v))
     (n : FrameNo) (inside : IsFrame found.frames n.0) (free : role_of found.frames n.0 ≡ Free) where
@@ -106,6 +107,13 @@ module _ {M : Type 0} {m : Levels.Ghosts M} {D E : Type 0} {h : Ghosts E} {old f
     tried = wants_taken old found (picture_of new) n.0 got.needed free (given_back got n inside free (picture_of new) changes freed (given got n inside free));
   }
 
+-- why, where the store is as it was
+read_cause : {M : Type 0} {m : Levels.Ghosts M} {D E : Type 0} (g : Ghosts D) (h : Ghosts E) (old new : Core D E M m) (stall : Stall) → new.store ≡ old.store → StallCause h old new stall → ReadCause g h old new stall
+read_cause g h old new NoFrames store c = (c.0, ap (λ s. g.failures s.disk) store, c.1)
+read_cause g h old new NoSwap store c = (c.0, ap (λ s. g.failures s.disk) store, c.1)
+read_cause g h old new SwapDevice store c = (c.0, ap (λ s. g.failures s.disk) store, c.1)
+read_cause g h old new StoreDevice store c = absurd c
+
 -- none was had
 module _ {M : Type 0} {m : Levels.Ghosts M} {D E : Type 0} {h : Ghosts E} {old new : Core D E M m} {stall : Stall} where
   pub seeks_stall : {keep : Option FrameNo} (r : Result FrameNo Stall) → IsErrAnd r (λ e. e ≡ stall) → Obtains h old new keep (Err stall) → SeeksFrame h old new keep r
@@ -118,3 +126,7 @@ module _ {M : Type 0} {m : Levels.Ghosts M} {D E : Type 0} {h : Ghosts E} {old n
   pub comes_stall : (page : PageKey) (r : Result FrameNo Stall) → IsErrAnd r (λ e. e ≡ stall) → Obtains h old new None (Err stall) → ComesIn old new page r
   comes_stall page (Ok x) is got = absurd is
   comes_stall page (Err e) is got = record { brought = tt; fit = got.fit; frees = got.frees; tried = wants_tried old new got.needed got.full got.tried }
+
+  pub reads_stall : {keep : Option FrameNo} (g : Ghosts D) (r : Result FrameNo Stall) → IsErrAnd r (λ e. e ≡ stall) → Obtains h old new keep (Err stall) → HasReadCause g h old new r
+  reads_stall g (Ok x) is got = absurd is
+  reads_stall g (Err e) is got = let P : Stall → Type 0 = λ s. ReadCause g h old new s in subst P (sym is) (read_cause g h old new stall got.rest.store got.cause)

@@ -1,11 +1,7 @@
 -- The shares of a private frame, passed on to a slot one after the other.
 use Rattle.vm_types.specs.declared.mode.Levels as Levels
-use Rattle.vm_types.specs.{Limits.{user_end, top_level}, declared.region.Attr.{Attr}}
-use Rattle.std.proofs.{Common.{◌≡◌, ◌≢◌, ℕ, ◌+◌, ◌<◌, ◌≤◌, true, false, inl, inr, Option, Some, None, is_some, refl, sym, ap, ◌∙◌, subst, arith}, lemmas.Bool.{false≢true}}
-use Rattle.frames.specs.FrameTable.{role_of, count_of, bytes_of}
-use Rattle.disk_model.specs.declared.sector_disk.SectorDisk.{Ghosts}
-use Rattle.swap.specs.Slots.{SharesSlot, IsReady}
-use Rattle.page_tables.specs.Tree.{IsPage}
+use Rattle.residency.proofs.Names.{user_end, top_level, Attr, ◌≡◌, ◌≢◌, ℕ, ◌+◌, ◌<◌, ◌≤◌, true, false, inl, inr, Option, Some, None, is_some, refl, sym, ap, ◌∙◌, subst, arith, false≢true, role_of, count_of, bytes_of, Ghosts, SharesSlot}
+use Rattle.residency.proofs.Names.{IsReady, IsPage}
 use Rattle.residency.specs.{Seats.{Seat, InFrame, InSlot, seat, holders_at}, Picture.{Picture, picture_of, entry, IsOwned}, Parts.{IsFit, IsRootedBut, IsEntryFor, Nothing, Resident, Away}, declared.kernel.Core.{Core}}
 use Rattle.residency.specs.{Evictions.{IsHanding, Spares}, Handovers.{HandsShares, PassesShare}}
 use Rattle.residency.proofs.{Evicted.{seat_number}, Putting.{has_shared, share_spares}, Puts.{SameButSlots}, Seats.{holders_none}, Sparing.{spares_none, spares_then}, Start.{seat-none, entry-dead, cases_some}}

@@ -1,6 +1,5 @@
 -- Things that have codes of their own are no more than the codes.
-use Rattle.std.proofs.{Common.{◌≡◌, ◌≢◌, ℕ, zero, suc, ◌+◌, ◌<◌, ◌≤◌, Bool, true, false, ◌==◌, ◌&&◌, inl, inr, if◌then◌else◌, refl, sym, ap, ◌∙◌, arith, eq-eqb}, lemmas.Bool.{cases_Bool, eqb-true, and_parts}}
-use Rattle.vm_types.specs.Counting.{count_below, sum_below}
+use Rattle.residency.proofs.Names.{◌≡◌, ◌≢◌, ℕ, zero, suc, ◌+◌, ◌<◌, ◌≤◌, Bool, true, false, ◌==◌, ◌&&◌, inl, inr, if◌then◌else◌, refl, sym, ap, ◌∙◌, arith, eq-eqb, cases_Bool, eqb-true, and_parts, count_below, sum_below}
 use Rattle.residency.proofs.Counts.{count-same, count-one, sum-below, sum-one}
 
 -- a place in a row of a group

@@ -1,30 +1,23 @@
 -- One page of a file or an object is elsewhere, or touched otherwise, and every other one is as it was.
-use Rattle.vm_types.specs.{Limits.{top_level}, declared.object.PageKey.{PageKey}}
-use Rattle.std.proofs.Common.{◌≡◌, ◌≢◌, ◌⊎◌, ◌<◌, ℕ, inl, inr, true, false, sym, ap, ◌∙◌}
-use Rattle.frames.specs.{declared.role.Role.TheVariants.{Cache}, FrameTable.{role_of}}
-use Rattle.sv39_walk.specs.Entry.{is_valid, is_dirty, frame_of}
-use Rattle.page_tables.specs.Tree.{IsPage}
-use Rattle.page_cache.specs.declared.place.Place.TheVariants.{Home, Frame, Slot}
-use Rattle.residency.specs.{Seats.{InSlot}, Picture.{Picture, entry, is_private, IsOwned}, Parts.{IsPageFor, HasPlaces, IsDirtySound}}
-use Rattle.residency.proofs.Places.{cases_page, page_for-same}
+use Rattle.residency.proofs.Names.{top_level, PageKey, ◌≡◌, ◌≢◌, ◌⊎◌, ◌<◌, ℕ, inl, inr, true, false, sym, ap, ◌∙◌, Cache, role_of, is_valid, is_dirty, frame_of, IsPage, Home, Frame, Slot}
+use Rattle.residency.{specs.{Seats.{InSlot}, Picture.{Picture, entry, is_private, IsOwned}, Parts.{IsPageFor, HasPlaces, IsDirtySound}}, proofs.Places.{cases_page, page_for-same}}
 
-module _ {mode : ℕ} where
-  pub record Replaces (old new : Picture mode) (page : PageKey) : Type 0 where
-    pub others : (p : PageKey) → p ≢ page → new.place p ≡ old.place p
-    pub at : (pid k : ℕ) → new.at pid k ≡ old.at pid k
-    pub files : (f : ℕ) → new.files f ≡ old.files f
-    -- a cache frame is where the page lies now, or holds the page that it held, which is another one;
-    pub cached : (n : ℕ) → new.place page ≡ Frame (record { 0 = n }) → role_of new.frames n ≡ Cache
-    pub cached_else : (p : PageKey) (n : ℕ) → p ≢ page → old.place p ≡ Frame (record { 0 = n }) → role_of new.frames n ≡ Cache
-    pub held : (n : ℕ) → role_of new.frames n ≡ Cache → (new.place page ≡ Frame (record { 0 = n })) ⊎ ((old.place page ≢ Frame (record { 0 = n })) × (role_of old.frames n ≡ Cache))
-    -- so is a slot in use, or it holds own copies;
-    pub slotted : (k : ℕ) → new.place page ≡ Slot (record { 0 = k }) → new.slots.count k ≡ 1
-    pub slotted_else : (p : PageKey) (k : ℕ) → p ≢ page → old.place p ≡ Slot (record { 0 = k }) → new.slots.count k ≡ old.slots.count k
-    pub used : (k : ℕ) → 0 < new.slots.count k
-        → IsOwned new (InSlot k) ⊎ ((new.place page ≡ Slot (record { 0 = k })) ⊎ ((old.place page ≢ Slot (record { 0 = k })) × (p : PageKey) × (old.place p ≡ Slot (record { 0 = k }))))
-    -- and no other page lies where this one does, but at home
-    pub apart : (p : PageKey) → p ≢ page → new.place page ≡ old.place p → old.place p ≡ Home
-    pub inside : new.place page ≢ Home → IsPageFor old page
+pub record Replaces {mode : ℕ} (old new : Picture mode) (page : PageKey) : Type 0 where
+  pub others : (p : PageKey) → p ≢ page → new.place p ≡ old.place p
+  pub at : (pid k : ℕ) → new.at pid k ≡ old.at pid k
+  pub files : (f : ℕ) → new.files f ≡ old.files f
+  -- a cache frame is where the page lies now, or holds the page that it held, which is another one;
+  pub cached : (n : ℕ) → new.place page ≡ Frame (record { 0 = n }) → role_of new.frames n ≡ Cache
+  pub cached_else : (p : PageKey) (n : ℕ) → p ≢ page → old.place p ≡ Frame (record { 0 = n }) → role_of new.frames n ≡ Cache
+  pub held : (n : ℕ) → role_of new.frames n ≡ Cache → (new.place page ≡ Frame (record { 0 = n })) ⊎ ((old.place page ≢ Frame (record { 0 = n })) × (role_of old.frames n ≡ Cache))
+  -- so is a slot in use, or it holds own copies;
+  pub slotted : (k : ℕ) → new.place page ≡ Slot (record { 0 = k }) → new.slots.count k ≡ 1
+  pub slotted_else : (p : PageKey) (k : ℕ) → p ≢ page → old.place p ≡ Slot (record { 0 = k }) → new.slots.count k ≡ old.slots.count k
+  pub used : (k : ℕ) → 0 < new.slots.count k
+      → IsOwned new (InSlot k) ⊎ ((new.place page ≡ Slot (record { 0 = k })) ⊎ ((old.place page ≢ Slot (record { 0 = k })) × (p : PageKey) × (old.place p ≡ Slot (record { 0 = k }))))
+  -- and no other page lies where this one does, but at home
+  pub apart : (p : PageKey) → p ≢ page → new.place page ≡ old.place p → old.place p ≡ Home
+  pub inside : new.place page ≢ Home → IsPageFor old page
 
 pub places_replaced : {mode : ℕ} (old new : Picture mode) (page : PageKey) → HasPlaces old → Replaces old new page → HasPlaces new
 places_replaced old new page places to = record {

@@ -1,49 +1,15 @@
 -- Places and dirty bits: what each step does to where file pages are, and to which are touched.
-use Rattle.vm_types.specs.{Limits.{top_level, widest_end}, declared.file.FilePage.{FilePage}, declared.object.ObjectPage.{ObjectPage}, declared.object.PageKey.{PageKey}, declared.object.PageKey.TheVariants.{File, Object}}
-use Rattle.vm_types.specs.{declared.region.Attr.{Attr}, Counting.{any_below}, Objects.{Maps, names, uses, is_named}}
+use Rattle.residency.proofs.Names.{top_level, widest_end, FilePage, ObjectPage, PageKey, File, Object, Attr, any_below, Maps, names, uses, is_named, false≢true, ◌≡◌, ◌≢◌, ◌<◌, ℕ, inl, inr, true, false, Option, None, sym, ap, ◌∙◌, subst}
+use Rattle.residency.proofs.Names.{Cache, role_of, is_valid, is_dirty, frame_of, IsPage, Place, Home, Frame, Slot, SlotTable}
 use Rattle.std.specs.Prelude.{◌⊎◌}
-use Rattle.std.proofs.{lemmas.Bool.{cases_eq, false≢true}, Common.{◌≡◌, ◌≢◌, ◌<◌, ℕ, inl, inr, true, false, Option, None, sym, ap, ◌∙◌, subst}}
-use Rattle.frames.specs.{declared.role.Role.TheVariants.{Cache}, FrameTable.{role_of}}
-use Rattle.sv39_walk.specs.Entry.{is_valid, is_dirty, frame_of}
-use Rattle.page_tables.specs.Tree.{IsPage}
-use Rattle.page_cache.specs.{declared.place.Place.{Place}, declared.place.Place.TheVariants.{Home, Frame, Slot}}
-use Rattle.residency.specs.{Picture.{Picture, entry, is_private}, Parts.{AreObjects, IsPageFor, HasPlaces, IsDirtySound}}
-use Rattle.swap.specs.Slots.{SlotTable}
-use Rattle.residency.proofs.{Counts.{any-same, any-more, any-found}, Ways.{by_page}}
+use Rattle.residency.{specs.{Picture.{Picture, entry, is_private}, Parts.{AreObjects, IsPageFor, HasPlaces, IsDirtySound}}, proofs.{Counts.{any-same, any-more, any-found}, Ways.{by_page}}}
+pub use Rattle.page_cache.proofs.TableLemmas.{cases_page}
 
 abbrev pub record_of : ℕ → ℕ → FilePage
 record_of file page = record { file = file; page = page }
 
 abbrev pub object_of : ℕ → ℕ → ObjectPage
 object_of object page = record { object = object; page = page }
-
--- the file or object, and the page of it
-number_of : PageKey → ℕ
-number_of (File p) = p.file
-number_of (Object p) = p.object
-
-page_of : PageKey → ℕ
-page_of (File p) = p.page
-page_of (Object p) = p.page
-
-pub cases_page : (p q : PageKey) → (p ≡ q) ⊎ (p ≢ q)
-unfolding number_of page_of
-cases_page (File p) (Object q) = inr (λ same. (cc))
-cases_page (Object p) (File q) = inr (λ same. (cc))
-cases_page (File p) (File q) = elim (cases_eq p.file q.file) [
-  | inl e ↦ elim (cases_eq p.page q.page) [
-    | inl f ↦ inl (let a : File (record_of p.file p.page) ≡ File (record_of q.file q.page) = ap (λ x. File (record_of x p.page)) e ∙ ap (λ x. File (record_of q.file x)) f in a)
-    | inr ne ↦ inr (λ same. ne (ap page_of same))
-  ]
-  | inr ne ↦ inr (λ same. ne (ap number_of same))
-]
-cases_page (Object p) (Object q) = elim (cases_eq p.object q.object) [
-  | inl e ↦ elim (cases_eq p.page q.page) [
-    | inl f ↦ inl (let a : Object (object_of p.object p.page) ≡ Object (object_of q.object q.page) = ap (λ x. Object (object_of x p.page)) e ∙ ap (λ x. Object (object_of q.object x)) f in a)
-    | inr ne ↦ inr (λ same. ne (ap page_of same))
-  ]
-  | inr ne ↦ inr (λ same. ne (ap number_of same))
-]
 
 number_in : Place → ℕ
 number_in Home = 0

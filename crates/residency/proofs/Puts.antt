@@ -1,25 +1,18 @@
 -- A slot was taken: nothing names it yet.
-use Rattle.vm_types.specs.{Limits.{top_level}, declared.object.PageKey.{PageKey}}
-use Rattle.std.proofs.{Common.{◌≡◌, ◌≢◌, ℕ, inl, inr, ◌⊎◌, ◌<◌, ◌==◌, if◌then◌else◌, List, refl, sym, ap, ◌∙◌, arith, eq-eqb, ne_eqb}, lemmas.Bool.{cases_eq}}
-use Rattle.frames.specs.FrameTable.{role_of, count_of}
-use Rattle.swap.specs.Slots.{Puts, IsInUse}
-use Rattle.sv39_walk.specs.Entry.{frame_of}
-use Rattle.page_tables.specs.Tree.{IsPage}
-use Rattle.page_cache.specs.declared.place.Place.TheVariants.{Slot}
+use Rattle.residency.proofs.Names.{top_level, PageKey, ◌≡◌, ◌≢◌, ℕ, inl, inr, ◌⊎◌, ◌<◌, ◌==◌, if◌then◌else◌, List, refl, sym, ap, ◌∙◌, arith, eq-eqb, ne_eqb, cases_eq, role_of, count_of, Puts, IsInUse, frame_of, IsPage, Slot}
 use Rattle.residency.specs.{Seats.{Seat, InFrame, InSlot, seat}, Picture.{Picture, entry, IsOwned, count_in, page_in}, Parts.{IsCountedBut, IsFitBut, nowhere}}
 use Rattle.residency.proofs.{Seats.{counted_fresh}, Granting.{granting_same}, Places.{page_for-same, dirty_same}, Rooted.{rooted_frames}}
 
 -- nothing but slots changed
-module _ {mode : ℕ} where
-  pub record SameButSlots (old new : Picture mode) : Type 0 where
-    pub frames : new.frames ≡ old.frames
-    pub root : (pid : ℕ) → new.root pid ≡ old.root pid
-    pub at : (pid page : ℕ) → new.at pid page ≡ old.at pid page
-    pub page_of : (n : ℕ) → new.page_of n ≡ old.page_of n
-    pub place : (p : PageKey) → new.place p ≡ old.place p
-    pub touched : (p : PageKey) → new.touched p ≡ old.touched p
-    pub files : (f : ℕ) → new.files f ≡ old.files f
-    pub entries : (pid page : ℕ) → entry new pid page ≡ entry old pid page
+pub record SameButSlots {mode : ℕ} (old new : Picture mode) : Type 0 where
+  pub frames : new.frames ≡ old.frames
+  pub root : (pid : ℕ) → new.root pid ≡ old.root pid
+  pub at : (pid page : ℕ) → new.at pid page ≡ old.at pid page
+  pub page_of : (n : ℕ) → new.page_of n ≡ old.page_of n
+  pub place : (p : PageKey) → new.place p ≡ old.place p
+  pub touched : (p : PageKey) → new.touched p ≡ old.touched p
+  pub files : (f : ℕ) → new.files f ≡ old.files f
+  pub entries : (pid page : ℕ) → entry new pid page ≡ entry old pid page
 
 -- Own copies have their seats and pages as before, by what is known of slots.
 module _ {mode : ℕ} (old new : Picture mode) (same : SameButSlots old new) where

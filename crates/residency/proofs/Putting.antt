@@ -1,10 +1,6 @@
 -- A slot was taken, or was not to be had: what is seen stays.
-use Rattle.vm_types.specs.{Limits.{top_level}, declared.object.PageKey.{PageKey}}
-use Rattle.std.proofs.{Common.{◌≡◌, ◌≢◌, ℕ, inl, inr, ◌<◌, List, refl, sym, ap, ◌∙◌, subst, arith}, lemmas.Bool.{cases_eq}}
-use Rattle.frames.specs.FrameTable.{FrameTable, frame_count, role_of, count_of, bytes_of}
-use Rattle.swap.specs.Slots.{SlotTable, IsInUse, Same, Puts, SharesSlot}
-use Rattle.page_tables.specs.Tree.{Points, last_table}
-use Rattle.page_cache.specs.declared.place.Place.TheVariants.{Slot}
+use Rattle.residency.proofs.Names.{top_level, PageKey, ◌≡◌, ◌≢◌, ℕ, inl, inr, ◌<◌, List, refl, sym, ap, ◌∙◌, subst, arith, cases_eq, FrameTable, frame_count, role_of, count_of, bytes_of, SlotTable, IsInUse, Same, Puts, SharesSlot, Points}
+use Rattle.residency.proofs.Names.{last_table, Slot}
 use Rattle.residency.specs.{Seats.{Seat, InFrame, InSlot, seat}, Picture.{Picture, entry, held, bytes_in, IsOwned, count_in, page_in}, Parts.{IsFit, nowhere}, Evictions.{HasShare, Spares}}
 use Rattle.residency.specs.Ages.{Same as SameAge}
 use Rattle.residency.proofs.{Puts.{SameButSlots, slots_forth, slots_back, slots_counts, slots_pages, fit_slots}, Seats.{counted_shared}, Setting.{view_seated, each_view, held_by}, Moves.{counted_on}}

@@ -1,9 +1,6 @@
 -- Why no frame may be given up.
-use Rattle.std.proofs.{Common.{◌≡◌, ◌≢◌, ℕ, zero, suc, ◌<◌, inl, inr, ◌⊎◌, true, Option, length, refl, sym, ap, ◌∙◌, subst, arith}, lemmas.Bool.{cases_eq, cases_lt, cases_Bool, false≢true}, lemmas.List.{get_or_past}}
-use Rattle.vm_types.specs.{declared.object.PageKey.{PageKey}, declared.number.FrameNo.{FrameNo}}
-use Rattle.frames.specs.{declared.role.Role.{Role}, declared.role.Role.TheVariants.{Free, Zero, Table, Private, Cache}, FrameTable.{FrameTable, IsSound, IsFrame, role_of}}
-use Rattle.swap.specs.Slots.{SlotTable, IsInUse, IsSwapFull}
-use Rattle.page_cache.specs.declared.place.Place.TheVariants.{Home, Frame}
+use Rattle.residency.proofs.Names.{◌≡◌, ◌≢◌, ℕ, zero, suc, ◌<◌, inl, inr, ◌⊎◌, true, Option, length, refl, sym, ap, ◌∙◌, subst, arith, cases_eq, cases_lt, cases_Bool, false≢true, get_or_past, PageKey, FrameNo, Role, Free, Zero, Table}
+use Rattle.residency.proofs.Names.{Private, Cache, FrameTable, IsSound, IsFrame, role_of, SlotTable, IsInUse, IsSwapFull, Home, Frame}
 use Rattle.residency.specs.{Picture.{Picture, is_data}, Parts.{IsFit}, Calls.{IsSpareable, NeedsSlot}, Evictions.{IsEvictable}}
 
 -- a frame in use is one
@@ -39,26 +36,25 @@ full_then t not_not = elim (free_below t t.total) [
   | inr used ↦ used
 ]
 
-module _ {mode : ℕ} where
-  needs_role : (c : Picture mode) (n : ℕ) (r : Role) → IsFit c → role_of c.frames n ≡ r → is_data r ≡ true → NeedsSlot c n ⊎ (NeedsSlot c n → ⊥)
-  needs_role c n Private fit is used = inl (inl is)
-  needs_role c n Cache fit is used =
-      let p = fit.places.held n is in
-      elim (cases_Bool (c.touched p.0)) [
-        | inl t ↦ inl (inr (p.0, p.1, t))
-        | inr f ↦ inr (λ needs. elim needs [
-          | inl own ↦ (let bad : Private ≡ Cache = sym own ∙ is in (cc))
-          | inr file ↦ (
-              let same = one_page c n fit is p.0 file.0 p.1 file.1 in
-              false≢true (sym f ∙ ap c.touched same ∙ file.2))
-        ])
-      ]
-    where
-      one_page : (c : Picture mode) (n : ℕ) → IsFit c → role_of c.frames n ≡ Cache → (p q : PageKey) → c.place p ≡ Frame (record { 0 = n }) → c.place q ≡ Frame (record { 0 = n }) → p ≡ q
-      one_page c n fit is p q at there = fit.places.apart p q (at ∙ sym there) (λ home. (let bad : Home ≡ Frame (record { 0 = n }) = sym home ∙ at in (cc)))
-  needs_role c n Free fit is used = absurd (false≢true used)
-  needs_role c n Zero fit is used = absurd (false≢true used)
-  needs_role c n Table fit is used = absurd (false≢true used)
+needs_role : {mode : ℕ} (c : Picture mode) (n : ℕ) (r : Role) → IsFit c → role_of c.frames n ≡ r → is_data r ≡ true → NeedsSlot c n ⊎ (NeedsSlot c n → ⊥)
+needs_role c n Private fit is used = inl (inl is)
+needs_role c n Cache fit is used =
+    let p = fit.places.held n is in
+    elim (cases_Bool (c.touched p.0)) [
+      | inl t ↦ inl (inr (p.0, p.1, t))
+      | inr f ↦ inr (λ needs. elim needs [
+        | inl own ↦ (let bad : Private ≡ Cache = sym own ∙ is in (cc))
+        | inr file ↦ (
+            let same = one_page p.0 file.0 p.1 file.1 in
+            false≢true (sym f ∙ ap c.touched same ∙ file.2))
+      ])
+    ]
+  where
+    one_page : (p q : PageKey) → c.place p ≡ Frame (record { 0 = n }) → c.place q ≡ Frame (record { 0 = n }) → p ≡ q
+    one_page p q at there = fit.places.apart p q (at ∙ sym there) (λ home. (let bad : Home ≡ Frame (record { 0 = n }) = sym home ∙ at in (cc)))
+needs_role c n Free fit is used = absurd (false≢true used)
+needs_role c n Zero fit is used = absurd (false≢true used)
+needs_role c n Table fit is used = absurd (false≢true used)
 
 module _ {mode : ℕ} (c : Picture mode) (keep : Option FrameNo) (fit : IsFit c) (sound : IsSound c.frames) (none : (n : ℕ) → IsFrame c.frames n → IsEvictable c keep n → ⊥) where
   -- every frame that may be given up needs a slot

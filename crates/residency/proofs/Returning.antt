@@ -1,13 +1,8 @@
 -- A frame asked for in vain, and a slot left.
-use Rattle.vm_types.specs.{Limits.{top_level}, declared.object.PageKey.{PageKey}, declared.file.FileInfo.{FileInfo}}
-use Rattle.std.proofs.{Common.{◌≡◌, ◌≢◌, ℕ, inl, inr, List, Option, None, refl, sym, ap, ◌∙◌, subst, arith}, lemmas.Bool.{cases_eq}}
-use Rattle.frames.specs.{declared.role.Role.TheVariants.{Free, Zero, Table, Cache}, FrameTable.{FrameTable, IsSound, role_of, Takes, Releases, with_bytes}}
-use Rattle.swap.specs.Slots.{SlotTable}
+use Rattle.residency.proofs.Names.{top_level, PageKey, FileInfo, ◌≡◌, ◌≢◌, ℕ, inl, inr, List, Option, None, refl, sym, ap, ◌∙◌, subst, arith, cases_eq, Free, Zero, Table, Cache, FrameTable, IsSound, role_of, Takes, Releases, with_bytes}
+use Rattle.residency.proofs.Names.{SlotTable, same_last, Home, Slot}
 use Rattle.swap.specs.Slots as Slots
-use Rattle.page_tables.proofs.Ends.{same_last}
-use Rattle.page_cache.specs.declared.place.Place.TheVariants.{Home, Slot}
-use Rattle.residency.specs.{Picture.{Picture}, Parts.{IsFit}, Calls.{Frees}, Steps.{LeavesSlot, ChangesFrame}}
-use Rattle.residency.proofs.{BroughtIn.{frames_written}, Taking.{trees_changed, entries_changed, views_changed, held_changed}, Places.{one_slot}}
+use Rattle.residency.{specs.{Picture.{Picture}, Parts.{IsFit}, Calls.{Frees}, Steps.{LeavesSlot, ChangesFrame}}, proofs.{BroughtIn.{frames_written}, Taking.{trees_changed, entries_changed, views_changed, held_changed}, Places.{one_slot}}}
 
 -- the slot of a file page lost its only share
 pub leaves_slot : {mode : ℕ} (old new : Picture mode) (page : PageKey) (k : ℕ) (t : SlotTable) → old.place page ≡ Slot (record { 0 = k }) → t ≡ old.slots → Slots.ReleasesSlot t new.slots k → old.slots.count k ≡ 1
@@ -57,36 +52,35 @@ all_spent found mid new slots files n w takes releases same kept =
       files = kept;
     }
 
-module _ {mode : ℕ} where
-  pub frees_spent : (old new : Picture mode) (n : ℕ) → IsFit old → ChangesFrame old new n → role_of new.frames n ≡ Free → Frees old new None
-  frees_spent old new n fit changes free =
-      let datum : role_of new.frames n ≢ Table = λ t. (let bad : Free ≡ Table = sym free ∙ t in (cc)) in
-      let trees = trees_changed old new n fit changes datum in
-      record {
-        pages = record {
-          root = changes.root;
-          at = changes.at;
-          views = views_changed old new n fit changes datum;
-          files = record { held = λ p. inl (held_changed old new n fit changes datum p); touched = changes.touched; files = changes.files };
-        };
-        count = changes.frames.frames;
-        roles = λ m. elim (cases_eq m n) [
-          | inl e ↦ inl (ap (role_of new.frames) e ∙ free ∙ sym (ap (role_of old.frames) e ∙ changes.was_free))
-          | inr ne ↦ inl (changes.frames.roles m ne)
-        ];
-        missing = λ pid r page e. trees.missing r page (fit.rooted.roots pid r e);
-        ends = λ pid r p e. (let table = (fit.rooted.roots pid r e).table in (same_last old.frames new.frames fit.rooted.forest trees.forest trees.same (top_level mode) r p table ((trees.tables r).0 table)).0);
-        pointers = trees.same.forth;
-        entries = λ pid page h stays. entries_changed old new n fit changes datum pid page;
-        slots = λ k used. (ap (λ t. t.bytes k) changes.slots, ap (λ t. t.count k) changes.slots);
-        total = ap (λ t. t.total) changes.slots;
-        home = λ p e. changes.place p ∙ e;
-        slotted = λ p k e. changes.place p ∙ e;
-        kept_place = λ p n kept e. absurd kept;
-        kept_role = λ n kept. absurd kept;
-        kept_count = λ n kept. absurd kept;
-        kept_bytes = λ n kept other. absurd kept;
-      }
+pub frees_spent : {mode : ℕ} (old new : Picture mode) (n : ℕ) → IsFit old → ChangesFrame old new n → role_of new.frames n ≡ Free → Frees old new None
+frees_spent {mode} old new n fit changes free =
+    let datum : role_of new.frames n ≢ Table = λ t. (let bad : Free ≡ Table = sym free ∙ t in (cc)) in
+    let trees = trees_changed old new n fit changes datum in
+    record {
+      pages = record {
+        root = changes.root;
+        at = changes.at;
+        views = views_changed old new n fit changes datum;
+        files = record { held = λ p. inl (held_changed old new n fit changes datum p); touched = changes.touched; files = changes.files };
+      };
+      count = changes.frames.frames;
+      roles = λ m. elim (cases_eq m n) [
+        | inl e ↦ inl (ap (role_of new.frames) e ∙ free ∙ sym (ap (role_of old.frames) e ∙ changes.was_free))
+        | inr ne ↦ inl (changes.frames.roles m ne)
+      ];
+      missing = λ pid r page e. trees.missing r page (fit.rooted.roots pid r e);
+      ends = λ pid r p e. (let table = (fit.rooted.roots pid r e).table in (same_last old.frames new.frames fit.rooted.forest trees.forest trees.same (top_level mode) r p table ((trees.tables r).0 table)).0);
+      pointers = trees.same.forth;
+      entries = λ pid page h stays. entries_changed old new n fit changes datum pid page;
+      slots = λ k used. (ap (λ t. t.bytes k) changes.slots, ap (λ t. t.count k) changes.slots);
+      total = ap (λ t. t.total) changes.slots;
+      home = λ p e. changes.place p ∙ e;
+      slotted = λ p k e. changes.place p ∙ e;
+      kept_place = λ p n kept e. absurd kept;
+      kept_role = λ n kept. absurd kept;
+      kept_count = λ n kept. absurd kept;
+      kept_bytes = λ n kept other. absurd kept;
+    }
 
 -- frame 0, the zero page, is no table where a frame was asked for
 pub zero_no_table : {mode : ℕ} (old new : Picture mode) → IsSound old.frames → Frees old new None → role_of new.frames 0 ≢ Table

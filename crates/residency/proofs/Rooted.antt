@@ -1,23 +1,16 @@
 -- Trees: what each step does to the roots and to the tables that are reached from them.
-use Rattle.vm_types.specs.{Limits.{top_level}, declared.region.Attr.{Attr}}
-use Rattle.std.proofs.Common.{◌≡◌, ◌⊎◌, ℕ, suc, inl, inr, Some, Option, refl, sym, ◌∙◌, subst}
-use Rattle.std.specs.Prelude.{IsSome}
-use Rattle.frames.specs.FrameTable.{FrameTable}
-use Rattle.page_tables.specs.Tree.{Points, IsBelowRoot, IsForest, IsRoot, IsTable}
-use Rattle.page_tables.proofs.{Data.{KeepsTrees}, Ends.{way_forth}}
+use Rattle.residency.proofs.Names.{top_level, Attr, ◌≡◌, ◌⊎◌, ℕ, suc, inl, inr, Some, Option, refl, sym, ◌∙◌, subst, IsSome, FrameTable, Points, IsBelowRoot, IsForest, IsRoot, IsTable, KeepsTrees, way_forth}
 use Rattle.residency.specs.{Picture.{Picture}, Parts.{IsRootedBut, IsUsed, AsRoot, OnWay, IsMapped}}
 
-module _ (mode : ℕ) where
-  below_forth : (old new : FrameTable) → ((a i b : ℕ) → Points old a i b → Points new a i b) → (r page m : ℕ) → IsBelowRoot old (top_level mode) r page m → IsBelowRoot new (top_level mode) r page m
-  below_forth old new forth r page m below = (below.0, below.1, way_forth old new forth (top_level mode) r page (suc below.0) m below.2)
+below_forth : (mode : ℕ) (old new : FrameTable) → ((a i b : ℕ) → Points old a i b → Points new a i b) → (r page m : ℕ) → IsBelowRoot old (top_level mode) r page m → IsBelowRoot new (top_level mode) r page m
+below_forth mode old new forth r page m below = (below.0, below.1, way_forth old new forth (top_level mode) r page (suc below.0) m below.2)
 
 -- a table is used where pointers and roots stay, and mapped pages are still mapped
-module _ {mode : ℕ} where
-  pub used_kept : (old new : Picture mode) (mapped mapped' : ℕ → ℕ → Type 0) (m : ℕ) → ((a i b : ℕ) → Points old.frames a i b → Points new.frames a i b)
-      → ((pid : ℕ) → new.root pid ≡ old.root pid) → ((pid page : ℕ) → mapped pid page → mapped' pid page) → IsUsed old mapped m → IsUsed new mapped' m
-  used_kept old new mapped mapped' m forth root maps (AsRoot pid is) = AsRoot pid (root pid ∙ is)
-  used_kept old new mapped mapped' m forth root maps (OnWay pid r page is here below) =
-      OnWay pid r page (root pid ∙ is) (maps pid page here) (below_forth mode old.frames new.frames forth r page m below)
+pub used_kept : {mode : ℕ} (old new : Picture mode) (mapped mapped' : ℕ → ℕ → Type 0) (m : ℕ) → ((a i b : ℕ) → Points old.frames a i b → Points new.frames a i b)
+    → ((pid : ℕ) → new.root pid ≡ old.root pid) → ((pid page : ℕ) → mapped pid page → mapped' pid page) → IsUsed old mapped m → IsUsed new mapped' m
+used_kept {mode} old new mapped mapped' m forth root maps (AsRoot pid is) = AsRoot pid (root pid ∙ is)
+used_kept {mode} old new mapped mapped' m forth root maps (OnWay pid r page is here below) =
+    OnWay pid r page (root pid ∙ is) (maps pid page here) (below_forth mode old.frames new.frames forth r page m below)
 
 -- the roots are as they were, and roots of trees still
 pub rooted_by : {mode : ℕ} (old new : Picture mode) (n n' : ℕ) → IsRootedBut old n → ((pid : ℕ) → new.root pid ≡ old.root pid) → IsForest new.frames
@@ -43,18 +36,17 @@ rooted_same old new n rooted trees root at = rooted_by old new n n rooted root t
     ])
 
 -- the frames are the same
-module _ {mode : ℕ} where
-  pub rooted_frames : (old new : Picture mode) (n : ℕ) → IsRootedBut old n → new.frames ≡ old.frames → ((pid : ℕ) → new.root pid ≡ old.root pid)
-      → ((pid page : ℕ) → new.at pid page ≡ old.at pid page) → IsRootedBut new n
-  rooted_frames old new n rooted frames root at =
-      let P : FrameTable → Type 0 = λ t. KeepsTrees old.frames t (top_level mode) in
-      rooted_same old new n rooted (subst P (sym frames) (record {
-        forest = rooted.forest;
-        same = record { forth = λ a i b p. p; back = λ a i b p. p; entries = λ a i h was is. refl };
-        tables = λ a. (λ is. is, λ is. is);
-        unlinked = λ a. (λ is. is, λ is. is);
-        roots = λ r is. is;
-        were_roots = λ r is. is;
-        entries = λ r p is. refl;
-        missing = λ r p is. refl;
-      })) root at
+pub rooted_frames : {mode : ℕ} (old new : Picture mode) (n : ℕ) → IsRootedBut old n → new.frames ≡ old.frames → ((pid : ℕ) → new.root pid ≡ old.root pid)
+    → ((pid page : ℕ) → new.at pid page ≡ old.at pid page) → IsRootedBut new n
+rooted_frames {mode} old new n rooted frames root at =
+    let P : FrameTable → Type 0 = λ t. KeepsTrees old.frames t (top_level mode) in
+    rooted_same old new n rooted (subst P (sym frames) (record {
+      forest = rooted.forest;
+      same = record { forth = λ a i b p. p; back = λ a i b p. p; entries = λ a i h was is. refl };
+      tables = λ a. (λ is. is, λ is. is);
+      unlinked = λ a. (λ is. is, λ is. is);
+      roots = λ r is. is;
+      were_roots = λ r is. is;
+      entries = λ r p is. refl;
+      missing = λ r p is. refl;
+    })) root at

@@ -1,13 +1,8 @@
 -- Which seat an entry has by its form, and what a share that is given back leaves of all bytes.
-use Rattle.std.proofs.{Common.{◌≡◌, ℕ, inl, inr, ◌+◌, ◌*◌, ◌<◌, ◌^◌, true, false, Some, None, refl, sym, ap, ◌∙◌, arith}, lemmas.Bool.{cases_eq, cases_Bool, false≢true}}
-use Rattle.vm_types.specs.{declared.object.PageKey.{PageKey}, declared.number.SlotNo.{SlotNo}}
-use Rattle.frames.specs.FrameTable.{bytes_of}
-use Rattle.swap.specs.Slots.{IsInUse}
+use Rattle.residency.proofs.Names.{◌≡◌, ℕ, inl, inr, ◌+◌, ◌*◌, ◌<◌, ◌^◌, true, false, Some, None, refl, sym, ap, ◌∙◌, arith, cases_eq, cases_Bool, false≢true, PageKey, SlotNo, bytes_of, IsInUse, frame_of, is_valid, has_bit, Entry, Leaf}
+use Rattle.residency.proofs.Names.{Swapped, Parked, number_of, IsEntry, parked_framed}
 use Rattle.swap.specs.Slots as Slots
-use Rattle.sv39_walk.specs.Entry.{frame_of, is_valid, has_bit}
-use Rattle.page_tables.specs.{declared.forms.Entry.{Entry}, declared.forms.Entry.TheVariants.{Leaf, Swapped, Parked}, Entry.{number_of, IsEntry}}
 use Rattle.page_tables.specs.declared.forms.Entry.TheVariants as Entries
-use Rattle.page_tables.proofs.Bits.{parked_framed}
 use Rattle.residency.specs.{Seats.{Seat, InFrame, InSlot, seat, is_private, is_swapped}, Picture.{Picture, view, held, bytes_in, IsOwned}, Parts.{IsFitBut}}
 use Rattle.residency.proofs.{Handing.{away_number}, Puts.{SameButSlots}, Setting.{each_view, view_seated, held_by}}
 

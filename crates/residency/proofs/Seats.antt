@@ -1,9 +1,6 @@
 -- Counts of seats: what each step does to them.
-use Rattle.vm_types.specs.Limits.{top_level}
-use Rattle.std.proofs.{Common.{if◌then◌else◌, ◌≡◌, ◌≢◌, ℕ, inl, inr, ◌+◌, ◌<◌, ◌⊎◌, true, false, Option, Some, None, refl, sym, ap, ◌∙◌, subst, arith, eq-eqb, ne_eqb}, lemmas.Bool.{cases_eq, cases_Bool, false≢true}}
-use Rattle.page_tables.specs.Tree.{IsPage}
-use Rattle.residency.proofs.{Ways.{by_page, each_page}, Counts.{count-same, count-none, count-one, count-positive}}
-use Rattle.residency.specs.Seats.{Seat, InFrame, InSlot, seat, same_seat, is_seat, holders_at, off, AreCounted, OthersSame}
+use Rattle.residency.proofs.Names.{top_level, if◌then◌else◌, ◌≡◌, ◌≢◌, ℕ, inl, inr, ◌+◌, ◌<◌, ◌⊎◌, true, false, Option, Some, None, refl, sym, ap, ◌∙◌, subst, arith, eq-eqb, ne_eqb, cases_eq, cases_Bool, false≢true, IsPage}
+use Rattle.residency.{specs.Seats.{Seat, InFrame, InSlot, seat, same_seat, is_seat, holders_at, off, AreCounted, OthersSame}, proofs.{Ways.{by_page, each_page}, Counts.{count-same, count-none, count-one, count-positive}}}
 
 pub cases_seat : (x y : Seat) → (x ≡ y) ⊎ (x ≢ y)
 cases_seat (InFrame n) (InFrame m) = elim (cases_eq n m) [

@@ -1,17 +1,9 @@
 -- One page's entry set, and what is seen then.
-use Rattle.vm_types.proofs.Modes.{user_pages_fit}
-use Rattle.vm_types.specs.{Limits.{top_level}, declared.object.PageKey.{PageKey}}
-use Rattle.std.proofs.Common.{◌≡◌, ◌≢◌, ℕ, inl, inr, ◌⊎◌, ◌<◌, true, false, List, Some, None, refl, sym, ap, ◌∙◌, subst, arith}
-use Rattle.frames.specs.{declared.role.Role.{Role}, declared.role.Role.TheVariants.{Table, Private, Cache}, FrameTable.{FrameTable, bytes_of, role_of, with_bytes}}
-use Rattle.frames.proofs.FrameLemmas.{with_bytes-others}
-use Rattle.sv39_walk.specs.Entry.{is_valid, is_dirty, frame_of}
-use Rattle.page_tables.specs.Tree.{IsPage}
-use Rattle.page_tables.proofs.Data.{KeepsTrees, data_written}
-use Rattle.page_cache.specs.{declared.place.Place.{Place}, declared.place.Place.TheVariants.{Home, Frame, Slot}}
+use Rattle.residency.proofs.Names.{user_pages_fit, top_level, PageKey, ◌≡◌, ◌≢◌, ℕ, inl, inr, ◌⊎◌, ◌<◌, true, false, List, Some, None, refl, sym, ap, ◌∙◌, subst, arith, Role, Table, Private, Cache, FrameTable, bytes_of, role_of, with_bytes}
+use Rattle.residency.proofs.Names.{with_bytes-others, is_valid, is_dirty, frame_of, IsPage, KeepsTrees, data_written, Place, Home, Frame, Slot}
 use Rattle.residency.specs.{Seats.{Seat, seat, is_private}, Picture.{Picture, entry, view, held, bytes_at, bytes_in, IsOwned, count_in, page_in}, Parts.{IsRootedBut, IsGranting, IsEntryFor, IsFitBut, nowhere}}
-use Rattle.residency.specs.Steps.{SameBeside, KeepsShares, SetsPage}
-use Rattle.residency.proofs.{Entries.{entries_kept}, Linked.{fit_same}, Moves.{cases_attr, own_kept, owned_forth, owned_back, count_kept, page_kept, view_kept, view-none, counted_kept, bytes_same, set_by}, Rooted.{rooted_same}}
-use Rattle.residency.proofs.{Seats.{counted_filled, off-none}, Ways.{each_page}}
+use Rattle.residency.{specs.Steps.{SameBeside, KeepsShares, SetsPage}, proofs.{Entries.{entries_kept}, Linked.{fit_same}}}
+use Rattle.residency.proofs.{Moves.{cases_attr, own_kept, owned_forth, owned_back, count_kept, page_kept, view_kept, view-none, counted_kept, bytes_same, set_by}, Rooted.{rooted_same}, Seats.{counted_filled, off-none}, Ways.{each_page}}
 
 pub view_seated : {mode : ℕ} (old new : Picture mode) (q p : ℕ) → new.at q p ≡ old.at q p → seat (entry new q p) ≡ seat (entry old q p)
     → ((z : Seat) → seat (entry old q p) ≡ Some z → bytes_in new.frames new.slots z ≡ bytes_in old.frames old.slots z) → view new q p ≡ view old q p

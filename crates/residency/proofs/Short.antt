@@ -1,9 +1,7 @@
 -- Where no frame is to be had, memory is full of tables.
-use Rattle.std.proofs.{Common.{◌≡◌, ℕ, zero, suc, inl, inr, ◌+◌, ◌≤◌, Bool, true, false, ◌||◌, ◌==◌, Option, Some, None, refl, ap, arith, eq-eqb, ne_eqb}, lemmas.Bool.{cases_eq, cases_lt, cases_Bool, or_left, or_right}}
-use Rattle.vm_types.specs.{declared.number.FrameNo.{FrameNo}, declared.refusal.Stall.TheVariants.{NoFrames}, Counting.{count_below}}
-use Rattle.frames.specs.{declared.role.Role.{Role}, declared.role.Role.TheVariants.{Free, Zero, Table, Private, Cache}, FrameTable.{FrameTable, frame_count, role_of, IsFrame, IsSound}}
-use Rattle.residency.specs.{Picture.{Picture, is_data}, Calls.{IsToKeep, Refuses}, Capacity.{is_table, table_frames}}
-use Rattle.residency.proofs.Counts.{count-all, count-none, count-one, count-kept}
+use Rattle.residency.proofs.Names.{◌≡◌, ℕ, zero, suc, inl, inr, ◌+◌, ◌≤◌, Bool, true, false, ◌||◌, ◌==◌, Option, Some, None, refl, ap, arith, eq-eqb, ne_eqb, cases_eq, cases_lt, cases_Bool, or_left, or_right, FrameNo, NoFrames, count_below}
+use Rattle.residency.proofs.Names.{Role, Free, Zero, Table, Private, Cache, FrameTable, frame_count, role_of, IsFrame, IsSound}
+use Rattle.residency.{specs.{Picture.{Picture, is_data}, Calls.{IsToKeep, Refuses}, Capacity.{is_table, table_frames}}, proofs.Counts.{count-all, count-none, count-one, count-kept}}
 
 count-or : (f g : ℕ → Bool) (n : ℕ) → count_below (λ k. f k || g k) n ≤ count_below f n + count_below g n
 unfolding count_below

@@ -1,6 +1,5 @@
 -- A state that memory shows is shown after frames were given up.
-use Rattle.std.proofs.{Common.{ℕ, ◌≡◌, inl, inr, Some, None, is_some, refl, sym, ap, ◌∙◌}, lemmas.Bool.{cases_Bool, false≢true}}
-use Rattle.vm_types.specs.{declared.object.ObjectPage.{ObjectPage}, declared.object.PageKey.TheVariants.{File, Object}, State.{State}}
+use Rattle.residency.proofs.Names.{ℕ, ◌≡◌, inl, inr, Some, None, is_some, refl, sym, ap, ◌∙◌, cases_Bool, false≢true, ObjectPage, File, Object, State}
 use Rattle.residency.specs.{Picture.{Picture}, Calls.{KeepsPages}, Shows.{ShowsPages, KeepsFiles, object_bytes}}
 
 pub object-kept : {mode : ℕ} (old new : Picture mode) (p : ObjectPage) → KeepsFiles old new → object_bytes new p ≡ object_bytes old p

@@ -1,8 +1,5 @@
 -- A slot loses a share, after an entry was moved away from it.
-use Rattle.std.proofs.{Common.{◌≡◌, ◌≢◌, ℕ, inl, inr, ◌⊎◌, ◌+◌, ◌<◌, refl, sym, ap, ◌∙◌, subst, arith}, lemmas.Bool.{cases_eq}}
-use Rattle.vm_types.specs.declared.object.PageKey.{PageKey}
-use Rattle.swap.specs.Slots.{ReleasesSlot}
-use Rattle.page_cache.specs.declared.place.Place.TheVariants.{Slot}
+use Rattle.residency.proofs.Names.{◌≡◌, ◌≢◌, ℕ, inl, inr, ◌⊎◌, ◌+◌, ◌<◌, refl, sym, ap, ◌∙◌, subst, arith, cases_eq, PageKey, ReleasesSlot, Slot}
 use Rattle.residency.specs.{Seats.{Seat, InSlot, seat}, Picture.{Picture, entry, IsOwned, count_in, page_in}, Parts.{IsFitBut, nowhere}}
 use Rattle.residency.proofs.{Seats.{counted_released}, Puts.{SameButSlots, slots_forth, slots_back, slots_counts, slots_pages, fit_slots}, Evicted.{seat_number}}
 

@@ -1,12 +1,6 @@
 -- Steps of an eviction, one after another.
-use Rattle.vm_types.specs.{Limits.{top_level}, declared.number.FrameNo.{FrameNo}}
-use Rattle.std.proofs.{Common.{◌≡◌, ◌≢◌, ℕ, ◌<◌, inl, inr, ◌⊎◌, true, Option, get_or, length, refl, sym, ap, ◌∙◌, subst, arith}, lemmas.Bool.{cases_eq, false≢true}, lemmas.List.{get_or_past}}
-use Rattle.frames.specs.{declared.role.Role.TheVariants.{Free, Table, Cache}, FrameTable.{role_of}}
-use Rattle.sv39_walk.specs.Entry.{frame_of}
-use Rattle.swap.specs.{declared.slots.Swap.{Swap}, Slots.{IsInUse, slots_of}}
-use Rattle.page_cache.specs.declared.place.Place.TheVariants.{Home, Frame, Slot}
-use Rattle.page_tables.specs.Tree.{IsPage, missing_of, last_table}
-use Rattle.page_tables.proofs.Ends.{missing_of-is}
+use Rattle.residency.proofs.Names.{top_level, FrameNo, ◌≡◌, ◌≢◌, ℕ, ◌<◌, inl, inr, ◌⊎◌, true, Option, get_or, length, refl, sym, ap, ◌∙◌, subst, arith, cases_eq, false≢true, get_or_past, Free, Table, Cache, role_of, frame_of, Swap, IsInUse}
+use Rattle.residency.proofs.Names.{slots_of, Home, Frame, Slot, IsPage, missing_of, last_table, missing_of-is}
 use Rattle.residency.specs.{declared.leaves.Change.{Change}, declared.leaves.Change.TheVariants.{Forget, ClearAccessed}, Seats.{is_swapped}, Picture.{Picture, entry, is_data}, Parts.{IsFit}, Ages.{Ages, Same, Cleared, Left}}
 use Rattle.residency.specs.{Calls.{Frees, KeepsPages, IsToKeep, IsStaying}, Evictions.{Spares, GivesUp}, Leaves.{ChangesLeaves, IsChanged, IsOver}}
 use Rattle.residency.proofs.{Aging.{ages_then}, Bits.{some_framed}, LeafSteps.{over_common}, Places.{one_frame}, Shown.{keeps_then}, Setting.{held_same}}
@@ -15,9 +9,8 @@ stays_free : {mode : ℕ} (v : ℕ) (a b : Picture mode) → (role_of b.frames v
 stays_free v a b (inl same) datum = same
 stays_free v a b (inr gone) datum = absurd (false≢true (sym (ap is_data gone.0) ∙ datum))
 
-module _ {mode : ℕ} where
-  pub missing_ends : (old new : Picture mode) (r page : ℕ) → last_table new.frames page (top_level mode) r ≡ last_table old.frames page (top_level mode) r → missing_of new.frames (top_level mode) r page ≡ missing_of old.frames (top_level mode) r page
-  missing_ends old new r page e = missing_of-is new.frames (top_level mode) r page ∙ ap (λ l. l.0) e ∙ sym (missing_of-is old.frames (top_level mode) r page)
+pub missing_ends : {mode : ℕ} (old new : Picture mode) (r page : ℕ) → last_table new.frames page (top_level mode) r ≡ last_table old.frames page (top_level mode) r → missing_of new.frames (top_level mode) r page ≡ missing_of old.frames (top_level mode) r page
+missing_ends {mode} old new r page e = missing_of-is new.frames (top_level mode) r page ∙ ap (λ l. l.0) e ∙ sym (missing_of-is old.frames (top_level mode) r page)
 
 -- what stays isn't over a frame that isn't kept
 not_kept : (v : ℕ) (keep : Option FrameNo) → (IsToKeep keep v → ⊥) → (n : ℕ) → IsToKeep keep n → n ≢ v

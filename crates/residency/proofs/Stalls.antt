@@ -1,16 +1,11 @@
 -- Why no frame was to be had, told by what processes see and files are touched.
-use Rattle.vm_types.specs.{Limits.{user_end, object_limit}, declared.number.FrameNo.{FrameNo}, Attributes.{backing_fits}, Objects.{names, uses, is_object_page, is_of_object}, declared.object.ObjectPage.{ObjectPage}}
-use Rattle.vm_types.specs.{declared.object.PageKey.TheVariants.{File, Object}, declared.region.Attr.{Attr}, declared.region.Backing.{Backing}, declared.refusal.Stall.{Stall}}
-use Rattle.vm_types.specs.{declared.refusal.Stall.TheVariants.{NoFrames, NoSwap, SwapDevice, StoreDevice}, Capacity.{has_own, object_page_limit}}
-use Rattle.std.proofs.{Common.{◌≡◌, ◌≢◌, ℕ, inl, inr, ◌^◌, ◌<◌, ◌≤◌, true, Option, Some, None, is_some, List, refl, sym, ap, ◌∙◌, subst, arith}, lemmas.Bool.{and_parts, eqb-true, false≢true}}
-use Rattle.std.specs.Prelude.{option_map, IfSome, ◌==◌}
+use Rattle.residency.proofs.Names.{user_end, object_limit, FrameNo, backing_fits, names, uses, is_object_page, is_of_object, ObjectPage, File, Object, Attr, Backing, Stall, NoFrames, NoSwap, SwapDevice, StoreDevice, has_own}
+use Rattle.residency.proofs.Names.{object_page_limit, ◌≡◌, ◌≢◌, ℕ, inl, inr, ◌^◌, ◌<◌, ◌≤◌, true, Option, Some, None, is_some, List, refl, sym, ap, ◌∙◌, subst, arith, and_parts, eqb-true, false≢true, option_map, IfSome, Home, IsPageOf}
+use Rattle.residency.proofs.Names.{Role, Free, Zero, Table, Private, IsSound, IsCountFor, role_of, count_of}
+use Rattle.std.specs.Prelude.{◌==◌}
 use Rattle.vm_types.specs.declared.region.Backing.TheVariants.{Anon, Private as PrivateOf, Shared as SharedOf, Common as CommonOf}
-use Rattle.page_cache.specs.declared.place.Place.TheVariants.{Home}
-use Rattle.file_store.specs.Standing.{IsPageOf}
-use Rattle.frames.specs.{declared.role.Role.{Role}, declared.role.Role.TheVariants.{Free, Zero, Table, Private}, FrameTable.{IsSound, IsCountFor, role_of, count_of}}
 use Rattle.residency.specs.{Seats.{Seat, seat}, Picture.{Picture, entry, view, is_live, bytes_in, own_in, view_of}, Parts.{IsFit, IsEntryFor, Nothing, Resident, Away, IsMapped, IsUsed, AsRoot, OnWay}, Calls.{Refuses}}
-use Rattle.residency.specs.Capacity.{IsShort, table_frames, tables_over}
-use Rattle.residency.proofs.{Start.{seat-none}, Short.{few_frames}, Tables.{tables_counted}, Held.{more_held}, Places.{named_by}, Refusing.{used_inside}}
+use Rattle.residency.{specs.Capacity.{IsShort, table_frames, tables_over}, proofs.{Start.{seat-none}, Short.{few_frames}, Tables.{tables_counted}, Held.{more_held}, Places.{named_by}, Refusing.{used_inside}}}
 
 some_same : (own : Option (List ℕ)) (o : Option Attr) → is_some (view_of own o) ≡ is_some o
 some_same own None = refl

@@ -1,11 +1,6 @@
 -- Memory as it is made.
-use Rattle.std.proofs.{Common.{◌≡◌, ◌≢◌, ℕ, inl, inr, ◌⊎◌, false, Option, Some, None, refl, sym, ap, ◌∙◌, subst, arith}, lemmas.Bool.{cases_eq, cases_lt, false≢true}, lemmas.List.{get_or_past}}
-use Rattle.std.specs.Prelude.{IsSome}
-use Rattle.vm_types.specs.{Objects.{names, uses}, declared.object.PageKey.{PageKey}, declared.region.Attr.{Attr}}
-use Rattle.frames.specs.{declared.role.Role.TheVariants.{Free, Zero, Table, Private, Cache}, FrameTable.{FrameTable, frame_count, role_of, IsSound, IsFresh}, declared.role.Role.{Role}}
-use Rattle.sv39_walk.specs.Entry.{has_bit}
-use Rattle.page_tables.proofs.Keeping.{fresh_forest}
-use Rattle.page_cache.specs.declared.place.Place.TheVariants.{Home, Frame, Slot}
+use Rattle.residency.proofs.Names.{◌≡◌, ◌≢◌, ℕ, inl, inr, ◌⊎◌, false, Option, Some, None, refl, sym, ap, ◌∙◌, subst, arith, cases_eq, cases_lt, false≢true, get_or_past, IsSome, names, uses, PageKey, Attr, Free, Zero, Table, Private, Cache}
+use Rattle.residency.proofs.Names.{FrameTable, frame_count, role_of, IsSound, IsFresh, Role, has_bit, fresh_forest, Home, Frame, Slot}
 use Rattle.residency.specs.{Picture.{Picture, entry, is_private, entry_under, IsOwned}, Seats.{Seat, InFrame, InSlot, seat}, Parts.{IsFit, Nothing}}
 
 pub no_bit : is_private 0 ≡ false
@@ -16,10 +11,9 @@ pub seat-none : seat 0 ≡ None
 unfolding has_bit
 seat-none = refl
 
-module _ {mode : ℕ} where
-  pub entry-dead : (c : Picture mode) (pid page : ℕ) → c.root pid ≡ None → entry c pid page ≡ 0
-  unfolding entry
-  entry-dead c pid page dead = ap (λ r. entry_under mode c.frames r page) dead
+pub entry-dead : {mode : ℕ} (c : Picture mode) (pid page : ℕ) → c.root pid ≡ None → entry c pid page ≡ 0
+unfolding entry
+entry-dead {mode} c pid page dead = ap (λ r. entry_under mode c.frames r page) dead
 
 pub cases_some : (o : Option ℕ) → (o ≡ None) ⊎ ((r : ℕ) × (o ≡ Some r))
 cases_some None = inl refl

@@ -1,11 +1,6 @@
 -- Steps that change tables alone.
-use Rattle.vm_types.specs.{Limits.{top_level}, declared.region.Attr.{Attr}}
-use Rattle.std.proofs.Common.{◌≡◌, ℕ, inl, inr, Some, Option, get_or, sym, ap, ◌∙◌, subst}
-use Rattle.std.specs.Prelude.{IsSome}
-use Rattle.frames.specs.{declared.role.Role.TheVariants.{Free}, FrameTable.{FrameTable, role_of}}
-use Rattle.page_tables.specs.{Change.{SetsEntry, KeepsFrames}, Tree.{IsPage, IsTable}}
-use Rattle.residency.specs.{Picture.{Picture}, Parts.{IsRootedBut, IsMapped}, Steps.{SameBeside, KeepsShares, SetsPage}}
-use Rattle.residency.proofs.{Entries.{entry-of, entry-same}, Rooted.{used_kept, rooted_by}}
+use Rattle.residency.proofs.Names.{top_level, Attr, ◌≡◌, ℕ, inl, inr, Some, Option, get_or, sym, ap, ◌∙◌, subst, IsSome, Free, FrameTable, role_of, SetsEntry, KeepsFrames, IsPage, IsTable}
+use Rattle.residency.{specs.{Picture.{Picture}, Parts.{IsRootedBut, IsMapped}, Steps.{SameBeside, KeepsShares, SetsPage}}, proofs.{Entries.{entry-of, entry-same}, Rooted.{used_kept, rooted_by}}}
 
 -- a call that writes bytes of tables alone
 pub shares_kept : (old new : FrameTable) → KeepsFrames old new → KeepsShares old new

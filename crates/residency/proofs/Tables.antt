@@ -1,13 +1,7 @@
 -- Tables are no more than mapped pages need.
-use Rattle.vm_types.specs.{Limits.{user_end, top_level, table_entries}, Capacity.{tables_of, tables_below}, Counting.{any_below, count_below, sum_below}, View.{View}}
-use Rattle.vm_types.proofs.Modes.{two_modes}
-use Rattle.std.proofs.Math.Nat.{div-add-mod, mod-lt, one-le-pow}
-use Rattle.std.proofs.Common.{◌≡◌, ℕ, zero, suc, inl, inr, ◌+◌, ◌-◌, ◌*◌, ◌/◌, ◌%◌, ◌^◌, ◌<◌, ◌≤◌, Bool, true, false, ◌&&◌, if◌then◌else◌, Option, Some, is_some, refl, sym, ap, ◌∙◌, subst, arith}
-use Rattle.std.proofs.{lemmas.Bool.{cases_eq, cases_Bool, false≢true, and_parts, or_left, or_right}, lemmas.Option.{same_Some}}
-use Rattle.page_tables.proofs.Pages.{fields_same}
-use Rattle.frames.specs.{declared.role.Role.{Role}, declared.role.Role.TheVariants.{Free, Zero, Table, Private, Cache}, FrameTable.{FrameTable, frame_count, role_of}}
-use Rattle.page_tables.specs.Tree.{Way}
-use Rattle.sv39_walk.specs.{Entry.{entry_at, frame_of}, Walk.{index_of}}
+use Rattle.residency.proofs.Names.{user_end, top_level, table_entries, tables_of, tables_below, any_below, count_below, sum_below, View, two_modes, div-add-mod, mod-lt, one-le-pow, ◌≡◌, ℕ, zero, suc, inl, inr, ◌+◌, ◌-◌, ◌*◌, ◌/◌, ◌%◌, ◌^◌}
+use Rattle.residency.proofs.Names.{◌<◌, ◌≤◌, Bool, true, false, ◌&&◌, if◌then◌else◌, Option, Some, is_some, refl, sym, ap, ◌∙◌, subst, arith, cases_eq, cases_Bool, false≢true, and_parts, or_left, or_right, same_Some, fields_same, Role}
+use Rattle.residency.proofs.Names.{Free, Zero, Table, Private, Cache, FrameTable, frame_count, role_of, Way, entry_at, frame_of, index_of}
 use Rattle.residency.specs.{Capacity.{is_table, table_frames, tables_over}, Picture.{Picture}, Parts.{IsUsed, AsRoot, OnWay}}
 use Rattle.residency.proofs.{Pigeon.{Code, code, is_inside, passing, pigeons}, Counts.{count-none, count-le, count-most, sum-le, sum-none}}
 pub use Rattle.residency.proofs.Counts.{sum-below}

@@ -1,30 +1,7 @@
 -- A frame taken for a process's own, and a frame given back that no entry names.
-use Rattle.vm_types.specs.{Limits.{top_level}, declared.object.PageKey.{PageKey}}
-use Rattle.std.proofs.{Common.{◌≡◌, ◌≢◌, ℕ, inl, inr, ◌<◌, refl, sym, ap, ◌∙◌, subst}, lemmas.Bool.{cases_eq}}
-use Rattle.frames.specs.{declared.role.Role.TheVariants.{Free, Table, Private, Cache}, FrameTable.{role_of, count_of}}
-use Rattle.swap.specs.Slots.{SlotTable}
-use Rattle.sv39_walk.specs.Entry.{frame_of}
-use Rattle.page_tables.specs.Tree.{IsPage}
-use Rattle.page_tables.proofs.Data.{KeepsTrees, data_changed}
-use Rattle.residency.specs.{Seats.{Seat, InFrame, InSlot, seat}, Picture.{Picture, entry, view, held, IsOwned, count_in, page_in}, Parts.{IsCountedBut, IsFit, IsFitBut, nowhere}, Steps.{TakesOwn, ChangesFrame}}
+use Rattle.residency.proofs.Names.{top_level, PageKey, ◌≡◌, ◌≢◌, ℕ, inl, inr, ◌<◌, refl, sym, ap, ◌∙◌, subst, cases_eq, Free, Table, Private, Cache, role_of, count_of, SlotTable, frame_of, IsPage, KeepsTrees, data_changed}
+use Rattle.residency.specs.{Seats.{Seat, InFrame, InSlot, seat}, Picture.{Picture, entry, view, held, IsOwned, count_in, page_in}, Parts.{IsCountedBut, IsFit, IsFitBut, nowhere}, Steps.{ChangesFrame}}
 use Rattle.residency.proofs.{Entries.{entries_kept}, Granting.{granting_same}, Places.{places_same, dirty_same}, Rooted.{rooted_same}, Seats.{counted_fresh}, Setting.{view_seated, each_view, held_same}, Moves.{counted_on, bytes_same}}
-
-seat_frame : Seat → ℕ
-seat_frame (InFrame n) = n
-seat_frame (InSlot k) = 0
-
-pub changes_taken : {mode : ℕ} (old new : Picture mode) (n page : ℕ) → TakesOwn old new n page → ChangesFrame old new n
-changes_taken old new n page own = record {
-  slots = own.slots;
-  frames = own.takes.others;
-  was_free = own.takes.was_free;
-  others = own.others;
-  root = own.root;
-  at = own.at;
-  place = own.place;
-  touched = own.touched;
-  files = own.files;
-}
 
 module _ {mode : ℕ} (old new : Picture mode) (n : ℕ) (fit : IsFit old) (changes : ChangesFrame old new n) (datum : role_of new.frames n ≢ Table) where
   used_ne : (m : ℕ) → role_of old.frames m ≢ Free → m ≢ n
@@ -69,8 +46,7 @@ module _ {mode : ℕ} (old new : Picture mode) (n : ℕ) (fit : IsFit old) (chan
   pages (InSlot k) ne is = refl
 
   owned_ne : (z : Seat) → IsOwned old z → z ≢ InFrame n
-  unfolding seat_frame
-  owned_ne (InFrame m) is e = private_ne m is (ap seat_frame e)
+  owned_ne (InFrame m) is e = private_ne m is (cc)
   owned_ne (InSlot k) is e = (cc)
 
   cache_back : (m : ℕ) → role_of new.frames n ≢ Cache → role_of new.frames m ≡ Cache → role_of old.frames m ≡ Cache

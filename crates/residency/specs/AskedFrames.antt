@@ -12,6 +12,7 @@ use Rattle.vm_types.specs.declared.refusal.Stall.{Stall}
 use Rattle.vm_types.specs.declared.refusal.Stall.TheVariants.{StoreDevice}
 use Rattle.disk_model.specs.declared.sector_disk.SectorDisk.{Ghosts}
 use Rattle.disk_model.specs.Moments.{AsksOnly, Nothing}
+use Rattle.disk_model.specs.Stop.{NamesOnce}
 use Rattle.file_store.specs.Store.{IsReadyStore, IsSectorOf}
 use Rattle.frames.specs.FrameTable.{bytes_of, IsFull}
 use Rattle.swap.specs.Slots.{IsReady, IsSectorOfSlot}
@@ -158,9 +159,10 @@ module _ {M : Type 0} {m : Levels.Ghosts M} {D : Type 0} (g : Ghosts D) {E : Typ
     pub rest : KeepsBesideFiles old new
     -- the clock chose the frame, where none was free,
     pub clock : TurnsClock old new None result
-    -- the store's device is asked for its sectors alone, and nothing is written,
+    -- the store's device is asked for its sectors alone, for each of them once at most, and nothing is written,
     pub store : IsReadyStore g new.store
     pub asks : AsksOnly g (IsSectorOf old.store page) old.store.disk new.store.disk
+    pub once : NamesOnce (IsSectorOf old.store page) (g.asked old.store.disk) (g.asked new.store.disk)
     pub reads : ReadsStore g old.store new.store
     -- swap for a free slot alone, where the page of a frame has to be put into one,
     pub asked : AsksSwap h old new None

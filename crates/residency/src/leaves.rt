@@ -36,7 +36,7 @@ pub enum Change {
 }
 
 /// What a frame holds.
-#[derive(Clone, Copy, Debug, PartialEq, Eq)]
+#[derive(Clone, Copy)]
 pub(crate) enum Held {
     /// The own copy of that page.
     Own(u64),

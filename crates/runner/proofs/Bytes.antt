@@ -1,6 +1,7 @@
 -- Beginnings and ends of lists of bytes.
-use Rattle.std.proofs.Common.{◌≡◌, ℕ, ◌+◌, ◌<◌, ◌≤◌, ◌-◌, min, List, [], ◌∷◌, ◌++◌, length, take, drop, sym, ap, ◌∙◌, arith, append_assoc, get_or, Option, MatchResult, Result, Ok, Err}
-use Rattle.std.proofs.{lemmas.List.{take_all, take_more, take_min, take_rest, take-append-drop}, Math.Seq.{take-add, take-append-add}, KnownBytes.{Appends-trans}}
+use Rattle.std.proofs.Common.{◌≡◌, ℕ, ◌+◌, ◌<◌, ◌≤◌, ◌-◌, min, List, [], ◌∷◌, ◌++◌, length, take, drop, sym, ap, ◌∙◌, arith, append_assoc, length-take-le, get_or, Option, MatchResult, Result, Ok, Err}
+use Rattle.std.proofs.{lemmas.List.{take-append-le, take_more, take_min, take_rest, take-append-drop}, Math.Seq.{take-add, take-append-add}, KnownBytes.{Appends-trans}}
+use borrow.Rule.Slice.PartMut.{put_mid}
 use Rattle.std.specs.Io.KnownBytes.{Appends}
 use Rattle.runner.specs.Bytes.{WritesBeginning}
 
@@ -13,6 +14,12 @@ extended kept more len count size short is =
     ap (λ l. kept ++ l) (ap (λ n. take n more) room ∙ take_min (257 - length kept) more)
     ∙ sym (take-append-add kept more (257 - length kept)) ∙ ap (λ n. take n (kept ++ more)) full
 
+-- a text at the front of a part of a buffer that was written
+pub in_part : (a ys : List ℕ) (i k n : ℕ) → i ≤ length a → n ≤ length ys → take (i + n) (put_mid i k a ys) ≡ take i a ++ take n ys
+in_part a ys i k n inside few =
+    ap (λ m. take (m + n) (put_mid i k a ys)) (sym (length-take-le i a inside)) ∙ take-append-add (take i a) _ n
+    ∙ ap (λ l. take i a ++ l) (take-append-le n ys _ few)
+
 -- so far `at` bytes were taken, and now n more
 pub taken_more : (old mid new : Option (List ℕ)) (bytes : List ℕ) (at n : ℕ)
     → Appends old mid (take at bytes) → Appends mid new (take n (drop at bytes)) → Appends old new (take (at + n) bytes)
@@ -22,9 +29,6 @@ taken_more old mid new bytes at n first second =
 
 pub taken_beginning : (old new : Option (List ℕ)) (bytes : List ℕ) (at : ℕ) → Appends old new (take at bytes) → WritesBeginning old new bytes
 taken_beginning old new bytes at taken = (take at bytes, taken, (drop at bytes, sym (take-append-drop at bytes)))
-
-pub taken_all : (old new : Option (List ℕ)) (bytes : List ℕ) (at : ℕ) → length bytes ≤ at → Appends old new (take at bytes) → Appends old new bytes
-taken_all old new bytes at all taken = rw (take_all at bytes all) at taken
 
 -- what follows on either side of a result
 pub match_both : {X Y A B P Q : Type 0} (r : Result X Y) → (A → P) → (B → Q) → MatchResult r (λ _. A) (λ _. B) → MatchResult r (λ _. P) (λ _. Q)

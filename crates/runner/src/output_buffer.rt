@@ -20,12 +20,14 @@ pub struct WriteFault;
 /// From so many bytes on the buffer is written out: 32 KiB.
 const FULL_BYTES: usize = 32768;
 
+/// The most bytes of a reply's text.
+const TEXT_BYTES: usize = 1024;
+
 /// Bytes that a writer has not taken yet, at most 34 KiB. In contracts it is those bytes.
 #[derive(Drop)]
 pub(crate) struct OutputBuffer {
     bytes: [u8; 34816],
     len: usize,
-    text: [u8; 1024],
 }
 
 impl Model for OutputBuffer {
@@ -46,7 +48,6 @@ impl OutputBuffer {
         OutputBuffer {
             bytes: [0; 34816],
             len: 0,
-            text: [0; 1024],
         }
     }
 
@@ -72,8 +73,7 @@ impl OutputBuffer {
         ensures text { self.new ≡ self.old ++ text_of (reply_of answer.now) }
         ensures room { length self.new ≤ length self.old + 1024 }
     {
-        let count = answer_text(answer, &mut self.text);
-        let end = append(&mut self.bytes, self.len, &self.text[..count]);
+        let end = append_answer(&mut self.bytes, self.len, answer);
         self.len = end;
     }
 
@@ -83,8 +83,9 @@ impl OutputBuffer {
         ensures text { self.new ≡ self.old ++ text_of (Past history.now) }
         ensures room { length self.new ≤ length self.old + 1024 }
     {
-        let count = history_text(history, &mut self.text);
-        let end = append(&mut self.bytes, self.len, &self.text[..count]);
+        let mut text = [0; 1024];
+        let count = history_text(history, &mut text);
+        let end = append(&mut self.bytes, self.len, &text[..count]);
         self.len = end;
     }
 
@@ -111,6 +112,27 @@ fn append(bytes: &mut [u8; 34816], len: usize, text: &[u8]) -> usize
     let end = len + text.len();
     bytes[len..end].copy_from_slice(text);
     end
+}
+
+// Writes the text of a reply where it is to stand, after the first `len` bytes, and returns where it ends.
+fn append_answer(bytes: &mut [u8; 34816], len: usize, answer: &Answer) -> usize
+    requires { len + 1024 ≤ 34816 }
+    ensures bytes { take result bytes.new ≡ take len bytes.old ++ text_of (reply_of answer.now) }
+    ensures end { result ≤ len + 1024 }
+{
+    len + answer_at_front(&mut bytes[len..len + TEXT_BYTES], answer)
+}
+
+// Writes the text of a reply to the front, and returns how many bytes that is.
+fn answer_at_front(room: &mut [u8], answer: &Answer) -> usize
+    requires { length room.old ≡ 1024 }
+    ensures text { take result room.new ≡ text_of (reply_of answer.now) }
+    ensures within { result ≤ 1024 }
+{
+    let Some(text) = room.as_mut_array() else {
+        unreachable!();
+    };
+    answer_text(answer, text)
 }
 
 /// Gives the bytes to the writer, in as many calls as it wants. A call that was interrupted is made again. `WriteFault`

@@ -1,20 +1,11 @@
 -- What an access asks for.
 use Rattle.vm_types.specs.declared.mode.Levels as Levels
-use Rattle.std.proofs.Common.{ℕ, ◌≡◌, ◌≢◌, ◌⊎◌, ◌/◌, true, false, Some, is_some, List, Result, Ok, Err, inl, refl, sym, ap, ◌∙◌, subst, rules}
-use Rattle.disk_model.specs.{Moments.{AsksOnly}, declared.sector_disk.SectorDisk.{Ghosts}}
-use Rattle.file_store.specs.declared.store.FileStore.{FileStore}
-use Rattle.swap.specs.declared.slots.Swap.{Swap}
-use Rattle.msync.specs.Shows.{IsSoundCore}
-use Rattle.fault.proofs.Serving.{tends_none}
-use Rattle.fault.specs.{declared.refusal.AccessRefusal.{AccessRefusal}, Serving.{Reaches, Tends}, Outcome.{IsRefusal}, Wants.{ReadsHome, RefusesAccess, ShowsFile}, Changes.{KeepsSlotted, IsThatPage}}
+use Rattle.spaces.proofs.Names.{ℕ, ◌≡◌, ◌≢◌, ◌⊎◌, ◌/◌, true, false, Some, is_some, List, Result, Ok, Err, inl, refl, sym, ap, ◌∙◌, subst, rules, AsksOnly, Ghosts, FileStore, Swap, IsSoundCore, tends_none, AccessRefusal, Reaches, Tends}
+use Rattle.spaces.proofs.Names.{IsRefusal, ReadsHome, RefusesAccess, ShowsFile, KeepsSlotted, IsThatPage, bytes_of, with_bytes, Core, KeepsAround, Picture, picture_of, is_live, Access, StoredValue, Phys, ESRCH, Stall, StoreDevice, Reply}
+use Rattle.spaces.proofs.Names.{Faulted, Refused, Stalled, Width, with_number, reply_of, byte_count}
+use Rattle.vm_types.specs.declared.access.Access.TheVariants.{Load, Store, Fetch}
 use Rattle.fault.specs.declared.refusal.AccessRefusal.TheVariants as Refusal
-use Rattle.frames.specs.FrameTable.{bytes_of, with_bytes}
-use Rattle.residency.specs.{declared.kernel.Core.{Core}, Ways.{KeepsAround}, Picture.{Picture, picture_of, is_live}}
-use Rattle.vm_types.specs.{declared.access.Access.{Access}, declared.access.Access.TheVariants.{Load, Store, Fetch}, declared.access.StoredValue.{StoredValue}, declared.number.Phys.{Phys}, declared.refusal.Errno.TheVariants.{ESRCH}}
-use Rattle.vm_types.specs.{declared.refusal.Stall.{Stall}, declared.refusal.Stall.TheVariants.{StoreDevice}, declared.reply.Reply.{Reply}, declared.reply.Reply.TheVariants.{Faulted, Refused, Stalled}, declared.width.Width.{Width}}
-use Rattle.vm_types.specs.{Access.{with_number}, Replies.{reply_of}, Width.{byte_count}}
-use Rattle.spaces.specs.{Accesses.{reply_for, AsksFor, KeepsToPage, LetsThrough, MayWrite, WritesNumber}, Idle.{is_denial}}
-use Rattle.spaces.proofs.Refusals.{no_stall, same_stall, refused_idle, refused_caused}
+use Rattle.spaces.{specs.{Accesses.{reply_for, AsksFor, KeepsToPage, LetsThrough, MayWrite, WritesNumber}, Idle.{is_denial}}, proofs.Refusals.{no_stall, same_stall, refused_idle, refused_caused}}
 
 -- nothing was written
 pub writes_none : {M : Type 0} {m : Levels.Ghosts M} → {D E : Type 0} (access : Access) (c : Core D E M m) → MayWrite access c c
@@ -57,8 +48,7 @@ module _ {M : Type 0} {m : Levels.Ghosts M} {D E : Type 0} (g : Ghosts D) (h : G
   asks_refused width (Refusal.Stall stall) is = record {
     wanted = λ other e. is.stalled.wanted;
     refused = λ other e. (
-        let P : Stall → Type 0 = λ x. x ≢ StoreDevice → RefusesAccess (picture_of mid) pid (addr / 4096) access x in
-        subst P (same_stall stall other e) is.stalled.refused);
+        subst (λ (x : Stall). x ≢ StoreDevice → RefusesAccess (picture_of mid) pid (addr / 4096) access x) (same_stall stall other e) is.stalled.refused);
     home = λ e. is.stalled.home (same_stall stall StoreDevice e);
     read = tends.read;
     slots = λ calm. (tends.calm calm).swap;

@@ -1,12 +1,7 @@
 -- What a call of the flat model comes to in a state that memory shows.
 use Rattle.vm_types.specs.declared.mode.Levels as Levels
-use Rattle.std.proofs.{Common.{ℕ, ◌≡◌, ◌≢◌, ◌==◌, Bool, true, false, if◌then◌else◌, List, Option, Some, None, ⊎_elim, refl, sym, ap, ◌∙◌, subst, arith}, lemmas.Bool.Decides.{nat_tests}}
-use Rattle.disk_model.specs.declared.sector_disk.SectorDisk.{Ghosts}
-use Rattle.ranges.proofs.Outlived.{shows_named}
-use Rattle.ranges.specs.Rows.{KeepsNamed}
-use Rattle.residency.specs.{declared.kernel.Core.{Core}, Parts.{IsFit}, Picture.{Picture, picture_of, is_live, view}, Shows.{ShowsPages, KeepsFiles}}
-use Rattle.residency.proofs.Shown.{object-kept}
-use Rattle.vm_types.specs.{declared.command.Command.{Command}, declared.object.PageKey.TheVariants.{File, Object}, declared.reply.Reply.{Reply}, Objects.{Maps, named_objects}, State.{State}, Step.{Outcome, outcome, answers}, View.{View}}
+use Rattle.spaces.proofs.Names.{ℕ, ◌≡◌, ◌≢◌, ◌==◌, Bool, true, false, if◌then◌else◌, Option, ⊎_elim, refl, sym, ap, ◌∙◌, subst, arith, nat_tests, none-some, Ghosts, shows_named, KeepsNamed, Core, IsFit, Picture, picture_of, is_live, view}
+use Rattle.spaces.proofs.Names.{ShowsPages, KeepsFiles, object-kept, Command, File, Object, Reply, Maps, named_objects, State, Outcome, outcome, answers, View}
 use Rattle.spaces.specs.Calls.{Comes, Does}
 
 module _ {M : Type 0} {m : Levels.Ghosts M} {D E : Type 0} (g : Ghosts D) (h : Ghosts E) (old new : Core D E M m) (s : State) (command : Command) (reply : Reply) where
@@ -22,9 +17,6 @@ module _ {M : Type 0} {m : Levels.Ghosts M} {D E : Type 0} (g : Ghosts D) (h : G
 pub found_lives : {mode : ℕ} (c : Picture mode) (pid number : ℕ) → (pid ≡ number) × (is_live c pid ≡ true) → is_live c number ≡ true
 found_lives c pid number found = subst (λ (n : ℕ). is_live c n ≡ true) found.0 found.1
 
-none_some : (bytes : List ℕ) (o : Option (List ℕ)) → o ≡ None → o ≡ Some bytes → ⊥
-none_some bytes o none some = let never : None ≡ Some bytes = sym none ∙ some in (cc)
-
 -- other processes and pages, over the same files and objects
 pub shows_with : {mode : ℕ} (old new : Picture mode) (s : State) (live : ℕ → Bool) (views : ℕ → ℕ → Option View) → ShowsPages old s → KeepsFiles old new
     → ((pid : ℕ) → live pid ≡ is_live new pid) → ((pid page : ℕ) → views pid page ≡ view new pid page)
@@ -36,8 +28,8 @@ shows_with old new s live views shows keeps lives sees = record {
   touched = λ p. shows.touched p ∙ sym (keeps.touched (File p));
   objects = λ p. shows.objects p ∙ sym (object-kept old new p keeps);
   blank = λ p bytes untouched e.
-      ⊎_elim (λ same. shows.blank p bytes (sym (keeps.touched (Object p)) ∙ untouched) (sym same ∙ e)) (λ home. absurd (none_some bytes _ home.0 e)) (keeps.held (Object p));
-  held = λ p bytes e. ⊎_elim (λ same. shows.held p bytes (sym same ∙ e)) (λ home. absurd (none_some bytes _ home.0 e)) (keeps.held (File p));
+      ⊎_elim (λ same. shows.blank p bytes (sym (keeps.touched (Object p)) ∙ untouched) (sym same ∙ e)) (λ home. absurd (none-some bytes (sym home.0 ∙ e))) (keeps.held (Object p));
+  held = λ p bytes e. ⊎_elim (λ same. shows.held p bytes (sym same ∙ e)) (λ home. absurd (none-some bytes (sym home.0 ∙ e))) (keeps.held (File p));
   same_mode = shows.same_mode;
   clean = λ p e inside. shows.clean p (sym (keeps.touched (File p)) ∙ e) (inside.0, sym (keeps.files p.file) ∙ inside.1, inside.2);
 }

@@ -1,6 +1,5 @@
 -- Lists of checks, put one after the other.
-use Rattle.std.proofs.Common.{◌≡◌, ◌++◌, Bool, true, false, if◌then◌else◌, List, [], ◌∷◌, Some, None, refl}
-use Rattle.vm_types.specs.{declared.refusal.Errno.{Errno}, Checks.{Check, first_of}}
+use Rattle.spaces.proofs.Names.{◌≡◌, ◌++◌, Bool, true, false, if◌then◌else◌, List, [], ◌∷◌, Some, None, refl, Errno, Check, first_of}
 
 pub first_of-append : (xs ys : List Check) → first_of xs ≡ None → first_of (xs ++ ys) ≡ first_of ys
 first_of-append [] ys e = refl

@@ -1,12 +1,6 @@
 -- Shared pages of files that may only be read, by a walk over the runs.
-use Rattle.std.proofs.Common.{ℕ, ◌+◌, ◌-◌, ◌≡◌, ◌<◌, ◌≤◌, ⊎_elim, ◌&&◌, Bool, true, false, List, Option, Some, None, option_map, refl, sym, ap, ◌∙◌, arith}
-use Rattle.regions.specs.{declared.run.Run.{Run}, RunList.{attr_at, IsNextRun}}
-use Rattle.regions.proofs.RunLemmas.{lt_or_le}
-use Rattle.vm_types.specs.{declared.region.Attr.{Attr}, declared.region.Backing.{Backing}, declared.region.Backing.TheVariants.{Anon, Shared}, Attributes.{attr_after, backing_after}, Counting.{any_below}, Files.{Files}}
-use Rattle.vm_types.specs.{declared.permission.Prot.{Prot}, Permission.{can_write}, Ranges.{denies_stores, is_guarded, is_guarded_page}, View.{View, attrs_of}}
-use Rattle.vm_types.proofs.Naming.{any-at}
-use Rattle.page_cache.proofs.CountLemmas.{any_below-none}
-use Rattle.ranges.specs.Rows.{plain}
+use Rattle.spaces.proofs.Names.{ℕ, ◌+◌, ◌-◌, ◌≡◌, ◌<◌, ◌≤◌, ⊎_elim, ◌&&◌, Bool, true, false, List, Option, Some, None, option_map, refl, sym, ap, ◌∙◌, arith, Run, attr_at, IsNextRun, lt_or_le, Attr, Backing, Anon, attr_after, backing_after}
+use Rattle.spaces.proofs.Names.{any_below, Files, Prot, can_write, denies_stores, is_guarded, is_guarded_page, View, attrs_of, any-at, any_below-none, plain}
 use Rattle.spaces.specs.Space.{space_of}
 
 guarded_after : (files : Files) (backing : Backing) (count : ℕ) → is_guarded files (backing_after backing count) ≡ is_guarded files backing

@@ -1,19 +1,9 @@
 -- spawn, fork and exit of the flat model in a state that memory shows.
 use Rattle.vm_types.specs.declared.mode.Levels as Levels
-use Rattle.vm_types.specs.{Limits.{user_end}, declared.command.Command.{Command}, declared.command.Command.TheVariants.{Spawn, Fork, Exit}, declared.refusal.Errno.TheVariants.{EAGAIN}, declared.refusal.Stall.{Stall}}
-use Rattle.vm_types.specs.{declared.refusal.Stall.TheVariants.{NoFrames, NoSwap, SwapDevice, StoreDevice}, declared.reply.Reply.TheVariants.{Process, Done, Refused, Stalled}, Objects.{Maps, named_objects}}
-use Rattle.vm_types.specs.{Processes.{least_free_from, least_free_pid, with_process, without_process, without_space}, Capacity.{table_count, tables_of}, Stalls.{is_success, is_open_to, cause_of, needs_frames, reads_swap}, State.{State}}
-use Rattle.vm_types.specs.{Step.{Outcome, outcome, spawn_outcome, fork_outcome, exit_outcome}, View.{View}}
-use Rattle.std.proofs.{Common.{ℕ, ◌≡◌, ◌≢◌, ◌+◌, ◌≤◌, ◌==◌, ◌&&◌, ◌||◌, not, Bool, true, false, if◌then◌else◌, Option, Some, None, refl, sym, ap, ◌∙◌, subst, arith}, lemmas.Bool.Decides.{nat_tests}}
-use Rattle.disk_model.specs.declared.sector_disk.SectorDisk.{Ghosts}
-use Rattle.file_store.specs.declared.store.FileStore.{FileStore}
-use Rattle.frames.specs.FrameTable.{frame_count}
-use Rattle.lifecycle.specs.Changes.{AddsProcess, RemovesProcess, KeepsProcesses, IsShortToFork}
-use Rattle.fault.specs.Changes.{KeepsRoom}
-use Rattle.residency.specs.{Stalls.{StallCause, ReadCause}, Capacity.{IsShort}, Parts.{IsFit}, declared.kernel.Core.{Core}, Picture.{Picture, picture_of, is_live, view}, Shows.{ShowsPages, KeepsFiles}}
-use Rattle.ranges.proofs.Outlived.{shows_named}
-use Rattle.ranges.specs.Rows.{KeepsNamed, without_maps}
-use Rattle.swap.specs.Slots.{slots_of}
+use Rattle.spaces.proofs.Names.{user_end, Command, Spawn, Fork, Exit, EAGAIN, Stall, NoFrames, NoSwap, SwapDevice, StoreDevice, Process, Done, Refused, Stalled, Maps, named_objects, least_free_from, least_free_pid, with_process}
+use Rattle.spaces.proofs.Names.{without_process, without_space, table_count, tables_of, is_success, is_open_to, cause_of, needs_frames, reads_swap, State, Outcome, outcome, spawn_outcome, fork_outcome, exit_outcome, View, ℕ, ◌≡◌, ◌≢◌, ◌+◌}
+use Rattle.spaces.proofs.Names.{◌≤◌, ◌==◌, ◌&&◌, ◌||◌, not, Bool, true, false, if◌then◌else◌, Option, Some, None, refl, sym, ap, ◌∙◌, subst, arith, nat_tests, Ghosts, FileStore, frame_count, AddsProcess, RemovesProcess, KeepsProcesses}
+use Rattle.spaces.proofs.Names.{IsShortToFork, KeepsRoom, StallCause, ReadCause, IsShort, IsFit, Core, Picture, picture_of, is_live, view, ShowsPages, KeepsFiles, shows_named, KeepsNamed, without_maps, slots_of}
 use Rattle.spaces.specs.Calls.{Comes, Stalls, FallsShort, IsCaused, causes}
 use Rattle.spaces.proofs.{Calls.{does, does_answer, shows_with, pages_of}, Pages.{views_seen, maps_gone}, Refusals.{stall_caused}, Short.{falls_short, falls_short_to_fork, least_below, tables_added}}
 
@@ -142,17 +132,15 @@ module _ {M : Type 0} {m : Levels.Ghosts M} {D E : Type 0} (g : Ghosts D) (h : G
         → Comes g h old new s (Fork parent) (Stalled stall)
     fork_stalls pid e new stall fit cause short room files keeps =
         let is_one = forks (Some pid) e in
-        let seen = ap (tables_of m.mode) (views_seen (picture_of old) s shows parent) in
         let more = ap (λ (o : Outcome). table_count o.state) is_one ∙ one_more pid (s.views parent) e in
         stalled g h old new s (Fork parent) stall (fork_outcome s parent (Some pid)) cause is_one refl refl refl
         (falls_short_to_fork (picture_of old) s (Fork parent) fit shows (frame_count new.frames) (slots_of new.swap).total parent stall room.frames room.slots short
-        (omega (arith, more, seen)))
+        (omega (arith, more, ap (tables_of m.mode) (views_seen (picture_of old) s shows parent))))
         (still_shows (picture_of old) (picture_of new) s shows files keeps)
 
 pub exits : {M : Type 0} {m : Levels.Ghosts M} → {D E : Type 0} (g : Ghosts D) (h : Ghosts E) (old new : Core D E M m) (s : State) (pid : ℕ) → ShowsPages (picture_of old) s → is_live (picture_of old) pid ≡ true
     → IsFit (picture_of old) → IsFit (picture_of new) → KeepsNamed (without_maps (picture_of old).at pid 0 (user_end m.mode)) (picture_of old) (picture_of new)
     → RemovesProcess (picture_of old) (picture_of new) pid → Comes g h old new s (Exit pid) Done
 exits g h old new s pid shows live was fit files removes =
-    let l : s.live pid ≡ true = shows.live pid ∙ live in
-    does g h old new s (Exit pid) Done (exit_outcome s pid) (rw l refl) refl
+    does g h old new s (Exit pid) Done (exit_outcome s pid) (rw (shows.live pid ∙ live) refl) refl
     (shows_removed (picture_of old) (picture_of new) s shows pid was fit files removes)

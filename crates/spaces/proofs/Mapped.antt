@@ -1,16 +1,9 @@
 -- mmap of the flat model in a state that memory shows.
 use Rattle.vm_types.specs.declared.mode.Levels as Levels
-use Rattle.std.proofs.Common.{ℕ, ◌-◌, ◌*◌, ◌≡◌, ◌==◌, ◌++◌, not, Bool, true, false, if◌then◌else◌, List, [], ◌∷◌, Option, Some, None, is_none, option_map, refl, sym, ap, ◌∙◌, subst, mul_comm}
-use Rattle.disk_model.specs.declared.sector_disk.SectorDisk.{Ghosts}
-use Rattle.regions.specs.{declared.run.Run.{Run}, Permission.{IsReadableMap}, RunList.{attr_at}}
-use Rattle.regions.proofs.PermissionLemmas.{reads_kept, reads_replaced, reads_same}
-use Rattle.ranges.specs.Rows.{plain, without_maps, KeepsNamed, RemapsRow}
-use Rattle.residency.specs.{declared.kernel.Core.{Core}, Picture.{Picture, picture_of, is_live, view}, Parts.{IsFit}, Shows.{ShowsPages}}
-use Rattle.vm_types.specs.{declared.command.Command.TheVariants.{Mmap}, declared.command.MapSource.{MapSource}, declared.command.Placing.{Placing}, declared.command.Placing.TheVariants.{Hint, NoReplace}, declared.permission.Prot.{Prot}}
-use Rattle.vm_types.specs.{declared.refusal.Errno.{Errno}, declared.refusal.Errno.TheVariants.{ESRCH, ENOMEM, EEXIST}, declared.region.Attr.{Attr}, declared.reply.Reply.TheVariants.{Address, Refused}, Attributes.{attr_after}}
-use Rattle.vm_types.specs.{Checks.{first_of, page_count}, Files.{Files}, Mapping.{mmap_errno, mmap_place, place_for, is_taken, first_attr, attr_for, has_too_many_runs, mapped, with_mapping}}
-use Rattle.vm_types.specs.{Objects.{Maps, maps_of, free_object, named_objects}, Placement.{placed, is_free}, Ranges.{without_pages}, Rows.{in_row, replaced}, Runs.{run_count}, State.{State}, Step.{outcome, mmap_outcome}}
-use Rattle.vm_types.specs.View.{View, attrs_of}
+use Rattle.spaces.proofs.Names.{ℕ, ◌-◌, ◌*◌, ◌≡◌, ◌==◌, ◌++◌, not, Bool, true, false, if◌then◌else◌, List, [], ◌∷◌, Option, Some, None, is_none, option_map, refl, sym, ap, ◌∙◌, subst, mul_comm, Ghosts, Run, IsReadableMap, attr_at}
+use Rattle.spaces.proofs.Names.{reads_kept, reads_replaced, reads_same, plain, without_maps, KeepsNamed, RemapsRow, Core, Picture, picture_of, is_live, view, IsFit, ShowsPages, Mmap, MapSource, Placing, Hint, NoReplace, Prot, Errno, ESRCH}
+use Rattle.spaces.proofs.Names.{ENOMEM, EEXIST, Attr, Address, Refused, attr_after, first_of, page_count, Files, mmap_errno, mmap_place, place_for, is_taken, first_attr, attr_for, has_too_many_runs, mapped, with_mapping, View, attrs_of}
+use Rattle.spaces.proofs.Names.{Maps, maps_of, free_object, named_objects, placed, is_free, without_pages, in_row, replaced, run_count, State, outcome, mmap_outcome}
 use Rattle.spaces.specs.{Calls.{Comes}, Mappings.{mmap_asked_checks, attr_there, passes_runs, place_checks, MapsPages}, Space.{space_of}}
 use Rattle.spaces.proofs.{Calls.{does, does_answer, shows_row}, Checks.{first_of-append, first_of-some}, Pages.{attrs_as_runs, maps_without}}
 
@@ -130,9 +123,8 @@ module _ {M : Type 0} {m : Levels.Ghosts M} {D E : Type 0} (g : Ghosts D) (h : G
       maps first next fits new fit row keeps =
           let attr : Attr = attr_for s pid first (page_count len) source prot in
           let space : ℕ → Option View = mapped (s.views pid) first (page_count len) attr in
-          let fine : mmap_errno s pid addr len prot source placing ≡ None = late_is (Some first) fits.place ∙ fits.fine in
           let e : outcome s (Mmap pid addr len prot source placing) ≡ record { reply = Address (4096 * first); state = with_mapping s pid first (page_count len) attr } =
-          ap (λ (r : Option Errno). mmap_outcome s pid len prot source r (mmap_place s pid addr len placing)) fine
+          ap (λ (r : Option Errno). mmap_outcome s pid len prot source r (mmap_place s pid addr len placing)) (late_is (Some first) fits.place ∙ fits.fine)
           ∙ ap (mmap_outcome s pid len prot source None) (place_is ∙ fits.place) in
           let seen : (page : ℕ) → space page ≡ view (picture_of new) pid page = λ page.
           ap (λ (n : ℕ). mapped (s.views pid) first n attr page) (sym count)

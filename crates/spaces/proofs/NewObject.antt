@@ -1,16 +1,10 @@
 -- The pages of a new object are named by the mapping alone.
-use Rattle.std.proofs.Common.{◌≡◌, ℕ, zero, suc, inl, inr, ◌⊎◌, ◌+◌, ◌-◌, ◌<◌, ◌≤◌, ◌==◌, Bool, true, false, Option, Some, None, IsSome, is_some, refl, sym, ap, ◌∙◌, subst, arith, eqb-true, eq-eqb, ne_eqb}
-use Rattle.std.proofs.{lemmas.Bool.{and_parts, cases_Bool, cases_eq, false≢true, true≢false}, lemmas.Bool.Decides.{nat_tests}}
+use Rattle.spaces.proofs.Names.{◌≡◌, ℕ, zero, suc, inl, inr, ◌⊎◌, ◌+◌, ◌-◌, ◌<◌, ◌≤◌, ◌==◌, Bool, true, false, Option, Some, None, IsSome, refl, sym, ap, ◌∙◌, subst, arith, eqb-true, eq-eqb, ne_eqb, and_parts, cases_Bool, cases_eq}
+use Rattle.spaces.proofs.Names.{false≢true, true≢false, nat_tests, named_limit, object_limit, user_end, widest_end, MapSource, Common, Prot, Attr, Backing, attr_after, first_attr, Maps, names, uses, is_used, is_object_page, is_of_object}
+use Rattle.spaces.proofs.Names.{least_from, free_object, in_row, removed, replaced, IsUserMap, run_count, sizes, free-unused, least-clear, AreObjects, objects-fewer, with_map, without_maps, used_where, used_at}
 use Rattle.std.specs.Prelude.{if◌then◌else◌}
-use Rattle.vm_types.specs.{Limits.{named_limit, object_limit, user_end, widest_end}, declared.command.MapSource.{MapSource}, declared.command.MapSource.TheVariants.{Common}, declared.permission.Prot.{Prot}, declared.region.Attr.{Attr}}
-use Rattle.vm_types.specs.{declared.region.Backing.{Backing}, Attributes.{attr_after}, Mapping.{first_attr}, Objects.{Maps, names, uses, is_used, is_object_page, is_of_object, least_from, free_object}}
-use Rattle.vm_types.specs.{Rows.{in_row, removed, replaced, IsUserMap}, Runs.{run_count}}
 use Rattle.vm_types.specs.declared.region.Backing.TheVariants as Backings
-use Rattle.vm_types.proofs.{Modes.{sizes}, NewObjects.{free-unused, least-clear}}
-use Rattle.residency.specs.Parts.{AreObjects}
-use Rattle.residency.proofs.Places.{objects-fewer}
-use Rattle.ranges.specs.Rows.{with_map, without_maps}
-use Rattle.ranges.proofs.Marking.{used_where, used_at}
+use Rattle.spaces.proofs.Pages.{past_user}
 
 -- the number that is found is one of those, or the one after them
 least_within : (passes : ℕ → Bool) (n count : ℕ) → least_from passes n count ≤ n + count
@@ -43,23 +37,19 @@ used_before at pid first pages o is =
       | inr other ↦ rw (ne_eqb q pid other) at e
     ]
 
+pub kept_or_gone : (b : Bool) (o : Option Attr) → ((if b then None else o) ≡ o) ⊎ ((if b then None else o) ≡ None)
+kept_or_gone true o = inr refl
+kept_or_gone false o = inl refl
+
 wide : (mode k : ℕ) → k < user_end mode → k < widest_end
 wide mode k low = let most = (sizes mode).most in omega (arith, low, most)
-
--- past the user pages nothing is mapped
-unmapped_high : (mode : ℕ) (map : ℕ → Option Attr) (page : ℕ) → IsUserMap mode map → user_end mode ≤ page → map page ≡ None
-unmapped_high mode map page user high = by_attr (map page) refl
-  where
-    by_attr : (a : Option Attr) → map page ≡ a → a ≡ None
-    by_attr None e = refl
-    by_attr (Some attr) e = let low = (user.user_pages page (ap is_some e)).1 in absurd (omega (arith, low, high))
 
 -- no process uses the new object
 pub new_unused : (mode : ℕ) (at : Maps) (pid first pages : ℕ) → ((page : ℕ) → at 0 page ≡ None) → ((q : ℕ) → IsUserMap mode (at q)) → ((q : ℕ) → run_count mode (at q) ≤ 256)
     → is_used (without_maps at pid first pages) (free_object (without_maps at pid first pages)) ≡ false
 new_unused mode at pid first pages none user few =
     let o = free_object at in
-    let unused : is_used at o ≡ false = free-unused mode at none (λ q page high. unmapped_high mode (at q) page (user q) high) few in
+    let unused : is_used at o ≡ false = free-unused mode at none (λ q page high. past_user mode (at q) page (user q) high) few in
     let low : o < object_limit = free_within at in
     least-clear (is_used (without_maps at pid first pages)) 0 named_limit o (omega arith) (omega (arith, low)) (elim (cases_Bool (is_used (without_maps at pid first pages) o)) [
       | inl t ↦ absurd (true≢false (sym (used_before at pid first pages o t) ∙ unused))
@@ -103,13 +93,9 @@ module _ (mode : ℕ) (at : Maps) (pid first pages : ℕ) (next : ℕ → Option
     pub low : first ≤ page
     pub is : with_map at pid next q page ≡ Some (attr_after attr (page - first))
 
-  row : (b : Bool) (o : Option Attr) → ((if b then None else o) ≡ o) ⊎ ((if b then None else o) ≡ None)
-  row true o = inr refl
-  row false o = inl refl
-
   each : (q page : ℕ) → (out q page ≡ at q page) ⊎ (out q page ≡ None)
   each q page = elim (cases_eq q pid) [
-    | inl same ↦ elim (row (in_row first pages page) (at pid page)) [
+    | inl same ↦ elim (kept_or_gone (in_row first pages page) (at pid page)) [
       | inl e ↦ inl (rw (eq-eqb q pid same) (e ∙ ap (λ (p : ℕ). at p page) (sym same)))
       | inr e ↦ inr (rw (eq-eqb q pid same) e)
     ]
@@ -167,9 +153,7 @@ module _ (mode : ℕ) (at : Maps) (pid first pages : ℕ) (next : ℕ → Option
     below = λ q k o here. elim (new_or_not q k) [
       | inl a ↦ (
           let is = new_used source prot (free_object out) (k - first) o (sym (ap (λ (x : Option Attr). uses x o) a.is) ∙ here) in
-          let low = free_within out in
-          let same = is.1 in
-          omega (arith, low, same))
+          omega (arith, free_within out, is.1))
       | inr a ↦ fewer.below q k o (sym (ap (λ (x : Option Attr). uses x o) a) ∙ here)
     ];
   }

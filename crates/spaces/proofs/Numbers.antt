@@ -1,10 +1,6 @@
 -- The numbers of processes, and how many runs each has.
 use Rattle.vm_types.specs.declared.mode.Levels as Levels
-use Rattle.std.proofs.{Common.{◌≡◌, ℕ, ◌<◌, ◌≤◌, Option, Some, None, IsSome, List, [], refl, ◌∙◌, arith}, lemmas.Bool.{false≢true}}
-use Rattle.vm_types.specs.Runs.{run_count}
-use Rattle.regions.specs.{declared.run.Run.{Run}, RunList.{attr_at}}
-use Rattle.regions.proofs.CountLemmas.{run_count-same, run_count-maximal}
-use Rattle.residency.specs.{declared.kernel.Core.{Core}, Picture.{picture_of, attr_where}, Parts.{IsFit}}
+use Rattle.spaces.proofs.Names.{◌≡◌, ℕ, ◌<◌, ◌≤◌, Option, Some, None, IsSome, List, [], refl, ◌∙◌, arith, false≢true, run_count, Run, attr_at, run_count-same, run_count-maximal, Core, picture_of, attr_where, IsFit}
 
 unmapped : (o : Option ℕ) (runs : List Run) (k : ℕ) → ((r : ℕ) → o ≡ Some r → ⊥) → attr_where o runs k ≡ None
 unmapped None runs k none = refl
@@ -22,8 +18,7 @@ module _ {M : Type 0} {m : Levels.Ghosts M} {D E : Type 0} (c : Core D E M m) (f
   pub lives_below : (q page : ℕ) → IsSome ((picture_of c).at q page) → q < 65
   lives_below q page is =
       let at = mapped ((picture_of c).root q) _ page is in
-      let high = (fit.rooted.numbers q at.0 at.1).1 in
-      omega (arith, high)
+      omega (arith, (fit.rooted.numbers q at.0 at.1).1)
 
   -- a process that doesn't live has no runs
   pub no_runs : (q : ℕ) → ((r : ℕ) → (picture_of c).root q ≡ Some r → ⊥) → run_count m.mode ((picture_of c).at q) ≤ 256

@@ -1,9 +1,6 @@
 -- The pages of a process by memory, by its runs and in the flat model.
-use Rattle.vm_types.specs.{Limits.{user_end}, declared.region.Attr.{Attr}, State.{State}, View.{View, attrs_of}, Objects.{maps_of}, Processes.{without_space}, Ranges.{without_pages, unmapped}, Rows.{in_row, removed}}
-use Rattle.std.proofs.{Common.{ℕ, ◌≡◌, ◌==◌, inl, inr, Bool, true, false, if◌then◌else◌, IsSome, List, Option, Some, None, option_map, refl, sym, ap, ◌∙◌, arith}, lemmas.Bool.{cases_lt}, lemmas.Bool.Decides.{nat_tests}}
-use Rattle.regions.specs.{declared.run.Run.{Run}, RunList.{attr_at}}
-use Rattle.residency.specs.{Picture.{Picture, entry, own_in, view, view_of}, Parts.{IsFit}, Shows.{ShowsPages}}
-use Rattle.ranges.specs.Rows.{plain, without_maps}
+use Rattle.spaces.proofs.Names.{user_end, Attr, State, View, attrs_of, maps_of, without_space, without_pages, unmapped, in_row, removed, IsUserMap, ℕ, ◌≡◌, ◌≤◌, ◌==◌, inl, inr, Bool, true, false, if◌then◌else◌, List, Option, Some, None}
+use Rattle.spaces.proofs.Names.{option_map, refl, sym, ap, ◌∙◌, arith, cases_lt, nat_tests, Run, attr_at, Picture, entry, own_in, view, view_of, IsFit, ShowsPages, plain, without_maps, none_here}
 use Rattle.spaces.specs.Space.{space_of}
 
 attr_back : (o : Option Attr) → option_map (λ (view : View). view.attr) (option_map plain o) ≡ o
@@ -65,21 +62,21 @@ maps_without c s shows pid first pages = λ t q page. (each q page) t
         ∙ page_test (q == pid) (unmapped (s.views pid) first pages page) (s.views q page) (removed (c.at pid) first pages page) (c.at q page)
         (row_test (in_row first pages page) (s.views pid page) (c.at pid page) (attr_at_page c s shows pid page)) (attr_at_page c s shows q page)
 
+-- no page past the user pages is mapped
+pub past_user : (mode : ℕ) (map : ℕ → Option Attr) (page : ℕ) → IsUserMap mode map → user_end mode ≤ page → map page ≡ None
+past_user mode map page user high = none_here (map page) (λ some. absurd (omega (arith, (user.user_pages page some).1, high)))
+
 -- what the pages of all processes are, but for those of one
 module _ {mode : ℕ} where
   pub maps_gone : (c : Picture mode) (s : State) → ShowsPages c s → IsFit c → (pid : ℕ) → maps_of (without_space s.views pid) ≡ without_maps c.at pid 0 (user_end mode)
   maps_gone c s shows fit pid = λ t q page. (each q page) t
     where
-      past : (o : Option Attr) → (IsSome o → ⊥) → o ≡ None
-      past None h = refl
-      past (Some attr) h = absurd (h refl)
-
       all_gone : (page : ℕ) → removed (c.at pid) 0 (user_end mode) page ≡ None
       all_gone page = elim (cases_lt page (user_end mode)) [
         | inl low ↦ (let inside : in_row 0 (user_end mode) page ≡ true = grind (arith, nat_tests) in rw inside refl)
         | inr high ↦ (
             let outside : in_row 0 (user_end mode) page ≡ false = grind (arith, nat_tests) in
-            rw outside (past (c.at pid page) (λ is. let within = (fit.granting.user pid).user_pages page is in absurd (omega (arith, within.1, high)))))
+            rw outside (past_user mode (c.at pid) page (fit.granting.user pid) high))
       ]
 
       each : (q page : ℕ) → maps_of (without_space s.views pid) q page ≡ without_maps c.at pid 0 (user_end mode) q page

@@ -1,12 +1,8 @@
 -- The checks of a mapping's place, decided one after the other.
-use Rattle.vm_types.proofs.Modes.{sizes}
-use Rattle.vm_types.specs.{Limits.{user_end}, declared.command.MapSource.{MapSource}, declared.command.MapSource.TheVariants.{Anon, Private, Shared, Common}, declared.command.Placing.{Placing}}
-use Rattle.vm_types.specs.{declared.refusal.Errno.TheVariants.{ENOMEM, EEXIST}, declared.region.Attr.{Attr}, Attributes.{backing_fits}, Checks.{first_of}, Mapping.{place_for, is_taken, first_backing}, Rows.{replaced}, Runs.{run_count}}
-use Rattle.vm_types.specs.View.{View}
-use Rattle.std.proofs.{Common.{ℕ, ◌≡◌, ◌<◌, ◌≤◌, Bool, true, false, nat_lt, List, [], ◌∷◌, Option, Some, None, refl, sym, ap, ◌∙◌, arith}, lemmas.Bool.Decides.{nat_tests}}
-use Rattle.regions.specs.{declared.run.Run.{Run}, RunList.{attr_at}}
-use Rattle.spaces.specs.{Mappings.{place_checks, passes_runs, FitsFile}, Space.{space_of}}
-use Rattle.spaces.proofs.Pages.{attrs_same}
+use Rattle.spaces.proofs.Names.{sizes, user_end, MapSource, Private, Common, Placing, View, ENOMEM, EEXIST, Attr, backing_fits, first_of, place_for, is_taken, first_backing, replaced, run_count, ℕ, ◌≡◌, ◌<◌, ◌≤◌, Bool, true, false, nat_lt}
+use Rattle.spaces.proofs.Names.{List, [], ◌∷◌, Option, Some, None, refl, sym, ap, ◌∙◌, arith, nat_tests, Run, attr_at}
+use Rattle.vm_types.specs.declared.command.MapSource.TheVariants.{Anon, Shared}
+use Rattle.spaces.{specs.{Mappings.{place_checks, passes_runs, FitsFile}, Space.{space_of}}, proofs.Pages.{attrs_same}}
 
 taken_first : (a b : Bool) → a ≡ true → first_of ((a, EEXIST) ∷ (b, ENOMEM) ∷ []) ≡ Some EEXIST
 taken_first a b e = rw e refl
@@ -25,13 +21,11 @@ module _ (mode : ℕ) where
       ap (λ (o : Option ℕ). first_of (place_checks mode placing space pages attr o)) (sym place)
       ∙ taken_first (is_taken placing space pages (Some first)) (passes_runs mode space pages attr (Some first)) (sym is ∙ e)
 
-module _ (mode : ℕ) where
   counted_runs : (runs : List Run) (first pages : ℕ) (attr : ℕ → Attr) (b : Bool) → nat_lt 256 (run_count mode (replaced (attr_at runs) first pages (attr first))) ≡ b
       → passes_runs mode (space_of runs) pages attr (Some first) ≡ b
   counted_runs runs first pages attr b e =
       ap (λ (m : ℕ → Option Attr). nat_lt 256 (run_count mode (replaced m first pages (attr first)))) (attrs_same runs) ∙ e
 
-module _ (mode : ℕ) where
   pub many_runs : (placing : Placing) (runs : List Run) (addr pages : ℕ) (attr : ℕ → Attr) (first : ℕ)
       → Some first ≡ place_for mode placing (space_of runs) addr pages → (taken : Bool) → taken ≡ is_taken placing (space_of runs) pages (Some first) → taken ≡ false
       → 256 < run_count mode (replaced (attr_at runs) first pages (attr first))
@@ -40,9 +34,8 @@ module _ (mode : ℕ) where
       let over : nat_lt 256 (run_count mode (replaced (attr_at runs) first pages (attr first))) ≡ true = grind (arith, nat_tests, many) in
       ap (λ (o : Option ℕ). first_of (place_checks mode placing (space_of runs) pages attr o)) (sym place)
       ∙ many_last (is_taken placing (space_of runs) pages (Some first)) (passes_runs mode (space_of runs) pages attr (Some first)) (sym is ∙ e)
-      (counted_runs mode runs first pages attr true over)
+      (counted_runs runs first pages attr true over)
 
-module _ (mode : ℕ) where
   pub fine_place : (placing : Placing) (runs : List Run) (addr pages : ℕ) (attr : ℕ → Attr) (first : ℕ)
       → (taken : Bool) → taken ≡ is_taken placing (space_of runs) pages (Some first) → taken ≡ false
       → run_count mode (replaced (attr_at runs) first pages (attr first)) ≤ 256
@@ -50,10 +43,9 @@ module _ (mode : ℕ) where
   fine_place placing runs addr pages attr first taken is e few =
       let under : nat_lt 256 (run_count mode (replaced (attr_at runs) first pages (attr first))) ≡ false = grind (arith, nat_tests, few) in
       none_holds (is_taken placing (space_of runs) pages (Some first)) (passes_runs mode (space_of runs) pages attr (Some first)) (sym is ∙ e)
-      (counted_runs mode runs first pages attr false under)
+      (counted_runs runs first pages attr false under)
 
--- what stands behind the row is numbered
-module _ (mode : ℕ) where
+  -- what stands behind the row is numbered
   pub fits_backing : (source : MapSource) (object pages : ℕ) → FitsFile source pages → pages ≤ user_end mode → backing_fits (first_backing source object) pages
   fits_backing Anon object pages fits few = tt
   fits_backing Common object pages fits few = let most = (sizes mode).most in omega (arith, few, most)

@@ -1,17 +1,9 @@
 -- mprotect of the flat model in a state that memory shows.
 use Rattle.vm_types.specs.declared.mode.Levels as Levels
-use Rattle.vm_types.specs.{Limits.{user_end}, declared.command.Command.TheVariants.{Mprotect}, declared.permission.Prot.{Prot}, declared.refusal.Errno.{Errno}, declared.refusal.Errno.TheVariants.{ENOMEM, EACCES}}
-use Rattle.vm_types.specs.{declared.region.Attr.{Attr}, declared.reply.Reply.TheVariants.{Done, Refused}, Attributes.{with_prot}, Checks.{first_of, page_count, pages_from}, Files.{Files}, Permission.{kept}}
-use Rattle.vm_types.specs.{Ranges.{permitted, reprotected, denies_stores, row_checks}, Rows.{in_row, IsUserMap, is_covered, protected}, Runs.{run_count}, State.{State}, Step.{Outcome, outcome, refused_or, protect_outcome}}
-use Rattle.vm_types.specs.View.{View, attrs_of}
-use Rattle.std.proofs.Common.{ℕ, zero, suc, ◌+◌, ◌/◌, ◌%◌, ◌≡◌, ◌≢◌, ◌<◌, ◌≤◌, ◌==◌, ◌&&◌, not, Bool, true, false, if◌then◌else◌, nat_lt, List, [], ◌∷◌, Option, Some, None, is_some, option_map, refl, sym, ap, ◌∙◌, arith}
-use Rattle.std.proofs.lemmas.Bool.Decides.{nat_tests}
-use Rattle.disk_model.specs.declared.sector_disk.SectorDisk.{Ghosts}
-use Rattle.regions.specs.{declared.run.Run.{Run}, RunList.{attr_at}}
-use Rattle.ranges.specs.Rows.{ReprotectsRow}
-use Rattle.residency.specs.{declared.kernel.Core.{Core}, Picture.{picture_of, is_live, view}, Shows.{ShowsPages}}
-use Rattle.spaces.specs.{Calls.{Comes}, Protections.{permit_checks, IsPermitted}, Space.{space_of}}
-use Rattle.spaces.proofs.{Calls.{does, does_answer, with_pages, shows_pages}, Guards.{denies_same}, Pages.{attrs_as_runs, attrs_same}}
+use Rattle.spaces.proofs.Names.{user_end, Mprotect, Prot, Errno, ENOMEM, EACCES, View, attrs_of, Attr, Done, Refused, with_prot, first_of, page_count, pages_from, Files, kept, permitted, reprotected, denies_stores, row_checks, in_row}
+use Rattle.spaces.proofs.Names.{IsUserMap, is_covered, protected, run_count, State, Outcome, outcome, refused_or, protect_outcome, ℕ, zero, suc, ◌+◌, ◌/◌, ◌%◌, ◌≡◌, ◌≢◌, ◌<◌, ◌≤◌, ◌==◌, ◌&&◌, not, Bool, true, false, if◌then◌else◌, nat_lt}
+use Rattle.spaces.proofs.Names.{List, [], ◌∷◌, Option, Some, None, is_some, option_map, refl, sym, ap, ◌∙◌, arith, nat_tests, Ghosts, Run, attr_at, ReprotectsRow, Core, picture_of, is_live, view, ShowsPages}
+use Rattle.spaces.{specs.{Calls.{Comes}, Protections.{permit_checks, IsPermitted}, Space.{space_of}}, proofs.{Calls.{does, does_answer, with_pages, shows_pages}, Guards.{denies_same}, Pages.{attrs_as_runs, attrs_same}}}
 
 -- a row of mapped pages lies in the user pages
 pub covered_last : (map : ℕ → Option Attr) (first count : ℕ) → is_covered map first (suc count) ≡ true → is_some (map (first + count)) ≡ true
@@ -34,8 +26,7 @@ module _ (mode : ℕ) where
   covered_inside map next first (suc count) prot user some same e =
       let here : is_some (next (first + count)) ≡ true =
       ap is_some (same (first + count)) ∙ kept_some (in_row first (suc count) (first + count)) prot (map (first + count)) ∙ covered_last map first count e in
-      let last = user.user_pages (first + count) here in
-      omega (arith, last.1)
+      omega (arith, (user.user_pages (first + count) here).1)
 
 -- the checks of a row, decided
 pub hole : (a b c : Bool) → a ≡ false → first_of ((not a, ENOMEM) ∷ (b, EACCES) ∷ (c, ENOMEM) ∷ []) ≡ Some ENOMEM
@@ -57,10 +48,9 @@ module _ (mode : ℕ) where
       first_of ((not (is_covered map first pages), ENOMEM) ∷ (denies_stores files (space_of runs) first pages prot, EACCES)
       ∷ (nat_lt 256 (run_count mode (protected map first pages (kept prot))), ENOMEM) ∷ [])
 
-module _ (mode : ℕ) where
-  pub tested_is : (files : Files) (runs : List Run) (first pages : ℕ) (prot : Prot) (o : Option Errno) → tested mode files runs first pages prot (attr_at runs) ≡ o
+  pub tested_is : (files : Files) (runs : List Run) (first pages : ℕ) (prot : Prot) (o : Option Errno) → tested files runs first pages prot (attr_at runs) ≡ o
       → first_of (permit_checks mode files (space_of runs) first pages prot) ≡ o
-  tested_is files runs first pages prot o e = ap (tested mode files runs first pages prot) (attrs_same runs) ∙ e
+  tested_is files runs first pages prot o e = ap (tested files runs first pages prot) (attrs_same runs) ∙ e
 
 module _ (mode : ℕ) (files : Files) (a b : ℕ → Option View) (same : attrs_of a ≡ attrs_of b) (first pages : ℕ) (prot : Prot) where
   permit_same : first_of (permit_checks mode files a first pages prot) ≡ first_of (permit_checks mode files b first pages prot)
@@ -86,10 +76,9 @@ module _ {M : Type 0} {m : Levels.Ghosts M} {D E : Type 0} (g : Ghosts D) (h : G
 
   asked : outcome s (Mprotect pid addr len prot) ≡ protect_outcome s pid (addr / 4096) (pages_from addr len) prot
   asked =
-      let e : s.live pid ≡ true = shows.live pid ∙ live in
       let a : (addr % 4096 == 0) ≡ true = grind (arith, nat_tests) in
       let n : (len == 0) ≡ false = grind (arith, nat_tests) in
-      rw e (rw a (rw n refl))
+      rw (shows.live pid ∙ live) (rw a (rw n refl))
 
   ruled : first_of (row_checks s pid (addr / 4096) (pages_from addr len) prot) ≡ first_of (permit_checks m.mode (picture_of old).files (space_of runs) (addr / 4096) pages prot)
   ruled =

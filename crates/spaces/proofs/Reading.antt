@@ -1,23 +1,12 @@
 -- Loads and fetches of the flat model in a state that memory shows.
 use Rattle.vm_types.specs.declared.mode.Levels as Levels
-use Rattle.std.proofs.Common.{ℕ, ◌/◌, ◌%◌, ◌≡◌, true, false, if◌then◌else◌, List, Result, Ok, refl, sym, ap, ◌∙◌, subst, arith}
-use Rattle.std.specs.Prelude.{IfOk}
-use Rattle.disk_model.specs.declared.sector_disk.SectorDisk.{Ghosts}
-use Rattle.fault.specs.{declared.refusal.AccessRefusal.{AccessRefusal}, Outcome.{Grants, Reads, IsFrameFor, IsReadyFor, IsRefusal, verdict_of}, Serving.{Reaches}, Changes.{KeepsSeen}, Files.{Proceeds, BringsFiles}}
+use Rattle.spaces.proofs.Names.{ℕ, ◌/◌, ◌%◌, ◌≡◌, true, false, if◌then◌else◌, List, Result, Ok, refl, sym, ap, ◌∙◌, subst, arith, IfOk, Ghosts, AccessRefusal, Grants, Reads, IsFrameFor, IsReadyFor, IsRefusal, verdict_of, Reaches, KeepsSeen}
+use Rattle.spaces.proofs.Names.{Proceeds, BringsFiles, ShowsFiles, shows_files, shows_kept, bytes_shown, IsFrame, bytes_of, IsShort, ReadCause, Core, Picture, picture_of, is_live, IsFit, ShowsPages, is_store, CoreShows, Access, Command}
+use Rattle.spaces.proofs.Names.{Load, Fetch, Phys, PageKey, Code, Fault, Stall, NoFrames, NoSwap, SwapDevice, StoreDevice, Backing, Reply, Value, Faulted, Stalled, Refused, ESRCH, Width, Four, loaded, table_count, is_success, is_open_to}
+use Rattle.spaces.proofs.Names.{cause_of, needs_frames, reads_files, reads_swap, reply_of, State, shown, Outcome, outcome, answers, judged, load_outcome, fetch_outcome, Verdict, Fine, Faults, fault_of, View, byte_count}
 use Rattle.fault.specs.declared.refusal.AccessRefusal.TheVariants as Refusal
-use Rattle.fault.proofs.AccessShowing.{ShowsFiles, shows_files, shows_kept, bytes_shown}
-use Rattle.frames.specs.FrameTable.{IsFrame, bytes_of}
-use Rattle.residency.specs.{Capacity.{IsShort}, Stalls.{ReadCause}, declared.kernel.Core.{Core}, Picture.{Picture, picture_of, is_live}, Parts.{IsFit}, Shows.{ShowsPages}}
-use Rattle.sv39_walk.specs.Walk.{is_store}
-use Rattle.msync.specs.Shows.{CoreShows}
-use Rattle.vm_types.specs.{declared.access.Access.{Access}, declared.command.Command.{Command}, declared.command.Command.TheVariants.{Load, Fetch}, declared.number.Phys.{Phys}, declared.object.PageKey.{PageKey}}
-use Rattle.vm_types.specs.{declared.refusal.Code.{Code}, declared.refusal.Fault.{Fault}, declared.refusal.Stall.{Stall}, declared.refusal.Stall.TheVariants.{NoFrames, NoSwap, SwapDevice, StoreDevice}, declared.region.Backing.{Backing}}
-use Rattle.vm_types.specs.{declared.reply.Reply.{Reply}, declared.reply.Reply.TheVariants.{Value, Faulted, Stalled, Refused}, declared.refusal.Errno.TheVariants.{ESRCH}, declared.width.Width.{Width}}
-use Rattle.vm_types.specs.{declared.width.Width.TheVariants.{Four}, Access.{loaded}, Capacity.{table_count}, Stalls.{is_success, is_open_to, cause_of, needs_frames, reads_files, reads_swap}, Replies.{reply_of}, State.{State, shown}}
-use Rattle.vm_types.specs.{Step.{Outcome, outcome, answers, judged, load_outcome, fetch_outcome}, Verdict.{Verdict, Fine, Faults, fault_of}, View.{View}, Width.{byte_count}}
 use Rattle.vm_types.specs.declared.access.Access.TheVariants as Accesses
-use Rattle.spaces.specs.{Accesses.{reply_for, CarriesRead}, Calls.{Comes, Stalls, causes}}
-use Rattle.spaces.proofs.{Calls.{does, does_answer}, Short.{falls_short}, Shown.{judged_is, homes}}
+use Rattle.spaces.{specs.{Accesses.{reply_for, CarriesRead}, Calls.{Comes, Stalls, causes}}, proofs.{Calls.{does, does_answer}, Short.{falls_short}, Shown.{judged_is, homes}}}
 
 -- the frame of a load or a fetch is one of memory's
 pub open_read : {mode : ℕ} (kind : Access) (c : Picture mode) (pid page : ℕ) (b : Backing) (n : ℕ) → is_store kind ≡ false → IsFrameFor kind c pid page b n → IsFrame c.frames n

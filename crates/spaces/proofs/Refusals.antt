@@ -1,13 +1,8 @@
 -- What an access without a place says of devices and frames.
 use Rattle.vm_types.specs.declared.mode.Levels as Levels
-use Rattle.std.proofs.Common.{ℕ, ◌≡◌, ◌≤◌, ◌+◌, true, false, ap, subst, arith, rules}
-use Rattle.disk_model.specs.declared.sector_disk.SectorDisk.{Ghosts}
-use Rattle.fault.specs.declared.refusal.AccessRefusal.{AccessRefusal}
+use Rattle.spaces.proofs.Names.{ℕ, ◌≡◌, ◌≤◌, ◌+◌, true, false, ap, subst, arith, rules, Ghosts, AccessRefusal, Core, ReadCause, Access, Fault, Stall, NoFrames, NoSwap, SwapDevice, StoreDevice, Faulted, Stalled, Width, reply_of}
 use Rattle.fault.specs.declared.refusal.AccessRefusal.TheVariants as Refusal
 use Rattle.fault.specs.Outcome as Faults
-use Rattle.residency.specs.{declared.kernel.Core.{Core}, Stalls.{ReadCause}}
-use Rattle.vm_types.specs.{declared.access.Access.{Access}, declared.refusal.Fault.{Fault}, declared.refusal.Stall.{Stall}, declared.refusal.Stall.TheVariants.{NoFrames, NoSwap, SwapDevice, StoreDevice}}
-use Rattle.vm_types.specs.{declared.reply.Reply.TheVariants.{Faulted, Stalled}, declared.width.Width.{Width}, Replies.{reply_of}}
 use Rattle.spaces.specs.{Accesses.{reply_for}, Calls.{IsCaused}, Idle.{is_denial, refused_by, stalls_store, stalls_swap}}
 
 -- a fault is no stall

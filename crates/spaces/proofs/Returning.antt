@@ -1,15 +1,7 @@
 -- Calls that take nothing.
 use Rattle.vm_types.specs.declared.mode.Levels as Levels
-use Rattle.std.proofs.{Common.{ℕ, inl, inr, ◌≡◌, List, refl, sym, ap, ◌∙◌}, lemmas.Bool.{cases_Bool}}
-use Rattle.std.specs.Prelude.{get_or}
-use Rattle.frames.specs.{declared.role.Role.{Role}, declared.role.Role.TheVariants.{Free}}
-use Rattle.lifecycle.specs.Changes.{TakesNoFrame}
-use Rattle.lifecycle.proofs.Returned.{none_taken, still_framed}
-use Rattle.page_cache.specs.CacheTable.{place_of, is_touched}
-use Rattle.ranges.specs.{Rows.{KeepsNamed, without_maps}, Steps.{KeepsEntriesOfOthers, ReturnsTables}}
-use Rattle.page_tables.specs.Change.{KeepsFrames}
-use Rattle.residency.specs.{declared.kernel.Core.{Core}, Parts.{IsFit}, Picture.{Picture, picture_of, root_in}}
-use Rattle.vm_types.specs.{declared.object.PageKey.TheVariants.{Object}, Objects.{is_named}}
+use Rattle.spaces.proofs.Names.{ℕ, inl, inr, ◌≡◌, List, refl, sym, ap, ◌∙◌, cases_Bool, get_or, Role, Free, TakesNoFrame, none_taken, still_framed, place_of, is_touched, KeepsNamed, without_maps, KeepsEntriesOfOthers, ReturnsTables}
+use Rattle.spaces.proofs.Names.{KeepsFrames, Core, IsFit, Picture, picture_of, root_in, Object, is_named}
 use Rattle.spaces.specs.Ranges.{TakesNothing}
 
 -- a call that changes nothing takes nothing

@@ -1,13 +1,7 @@
 -- Memory of the size that it was, and sound as it was.
 use Rattle.vm_types.specs.declared.mode.Levels as Levels
-use Rattle.std.proofs.Common.{◌≡◌, refl, sym, ap, ◌∙◌, subst}
-use Rattle.disk_model.specs.declared.sector_disk.SectorDisk.{Ghosts}
-use Rattle.file_store.specs.{declared.store.FileStore.{FileStore}, Store.{IsReadyStore}}
+use Rattle.spaces.proofs.Names.{◌≡◌, refl, sym, ap, ◌∙◌, subst, Ghosts, FileStore, IsReadyStore, ready_released, KeepsRoom, IsSoundCore, Core, IsFit, picture_of}
 use Rattle.page_cache.specs.CacheTable as CacheTable
-use Rattle.fault.proofs.SwapSteps.{ready_released}
-use Rattle.fault.specs.Changes.{KeepsRoom}
-use Rattle.msync.specs.Shows.{IsSoundCore}
-use Rattle.residency.specs.{declared.kernel.Core.{Core}, Parts.{IsFit}, Picture.{picture_of}}
 
 module _ {M : Type 0} {m : Levels.Ghosts M} {D E : Type 0} (old new : Core D E M m) where
   -- there is a node for each frame and for each slot, so the map of places tells how many there are

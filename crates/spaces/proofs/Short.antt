@@ -1,13 +1,7 @@
 -- Where memory or slots are short of what processes see, they fall short of what a state needs.
-use Rattle.lifecycle.proofs.Shortage.{tables_alike}
-use Rattle.std.proofs.{Common.{ℕ, zero, suc, ◌≡◌, ◌≢◌, inl, inr, ◌+◌, ◌<◌, ◌≤◌, ◌==◌, ◌||◌, Bool, false, if◌then◌else◌, Option, Some, is_some, refl, sym, ap, ◌∙◌, arith, eq-eqb, ne_eqb}, lemmas.Bool.{cases_eq, cases_Bool}}
-use Rattle.frames.specs.FrameTable.{frame_count}
-use Rattle.lifecycle.specs.Changes.{IsShortToFork}
-use Rattle.ranges.proofs.Outlived.{held_shown}
-use Rattle.residency.specs.{Capacity.{tables_over, IsShort}, Parts.{IsFit}, Picture.{Picture, is_live, view}, Shows.{ShowsPages}}
-use Rattle.residency.proofs.Tables.{sum-below}
-use Rattle.vm_types.specs.{Capacity.{tables_of, table_count}, Counting.{sum_below}, declared.command.Command.{Command}, declared.refusal.Stall.{Stall}, declared.refusal.Stall.TheVariants.{NoFrames, NoSwap, SwapDevice, StoreDevice}}
-use Rattle.vm_types.specs.{Processes.{least_free_from, with_process}, State.{State}, Step.{outcome}, View.{View}}
+use Rattle.spaces.proofs.Names.{tables_alike, ℕ, zero, suc, ◌≡◌, ◌≢◌, inl, inr, ◌+◌, ◌<◌, ◌≤◌, ◌==◌, ◌||◌, Bool, false, if◌then◌else◌, Option, Some, is_some, refl, sym, ap, ◌∙◌, arith, eq-eqb, ne_eqb, cases_eq, cases_Bool, same_Some}
+use Rattle.spaces.proofs.Names.{frame_count, IsShortToFork, held_shown, tables_over, IsShort, IsFit, Picture, is_live, view, ShowsPages, sum-below, tables_of, table_count, sum_below, Command, Stall, NoFrames, NoSwap, SwapDevice}
+use Rattle.spaces.proofs.Names.{StoreDevice, least_free_from, with_process, State, outcome, View}
 use Rattle.spaces.specs.Calls.{FallsShort}
 
 -- the tables of the processes of memory are those of the state that it shows
@@ -39,13 +33,10 @@ sum_added f g x zero below none others = absurd (omega arith)
 sum_added f g x (suc n) below none others = elim (cases_eq n x) [
   | inl e ↦ (
       let rest : sum_below g n ≡ sum_below f n = sum-below g f x n (omega (arith, e)) others in
-      let here : g n ≡ g x = ap g e in
-      let was : f n ≡ 0 = ap f e ∙ none in
-      omega (arith, here, was, rest))
+      omega (arith, ap g e, ap f e ∙ none, rest))
   | inr ne ↦ (
       let rest = sum_added f g x n (omega (arith, below, ne)) none others in
-      let same = others n ne in
-      omega (arith, rest, same))
+      omega (arith, rest, others n ne))
 ]
 
 -- a process that comes has the tables of its pages
@@ -60,9 +51,6 @@ tables_added s pid space dead below =
     sum_added f g pid 65 below (rw dead refl) (λ q ne. rw (ne_eqb q pid ne) refl) in
     sum ∙ ap (λ (n : ℕ). sum_below f 65 + n) here
 
-one_number : (a b : ℕ) → Some a ≡ Some b → a ≡ b
-one_number a b e = cc
-
 -- the least free number is one of those, and no process has it
 pub least_below : (live : ℕ → Bool) (first count pid : ℕ) → least_free_from live first count ≡ Some pid → (live pid ≡ false) × (pid < first + count)
 unfolding least_free_from
@@ -74,7 +62,7 @@ least_below live first (suc count) pid e = elim (cases_Bool (live first)) [
       (found.0, omega (arith, found.1)))
   | inr free ↦ (
       let here : Some first ≡ Some pid = rw free at e in
-      let same = one_number first pid here in
+      let same = same_Some first pid here in
       (ap live (sym same) ∙ free, omega (arith, same)))
 ]
 
@@ -83,11 +71,9 @@ module _ {mode : ℕ} (c : Picture mode) (s : State) (command : Command) (fit : 
       → FallsShort (frame_count c.frames) c.slots.total s command stall
   unfolding IsShort
   falls_short NoFrames short more =
-      let same = tables_shown c s shows in
-      omega (arith, short, more, same)
+      omega (arith, short, more, tables_shown c s shows)
   falls_short NoSwap short more =
-      let same = held_shown c s fit shows in
-      omega (arith, short, same)
+      omega (arith, short, held_shown c s fit shows)
   falls_short SwapDevice short more = short
   falls_short StoreDevice short more = short
 
@@ -95,10 +81,8 @@ module _ {mode : ℕ} (c : Picture mode) (s : State) (command : Command) (fit : 
       → table_count s + tables_of mode (view c parent) ≤ table_count (outcome s command).state → FallsShort frames slots s command stall
   unfolding IsShortToFork
   falls_short_to_fork frames slots parent NoFrames same room short more =
-      let tables = tables_shown c s shows in
-      omega (arith, same, short, more, tables)
+      omega (arith, same, short, more, tables_shown c s shows)
   falls_short_to_fork frames slots parent NoSwap same room short more =
-      let copies = held_shown c s fit shows in
-      omega (arith, room, short, copies)
+      omega (arith, room, short, held_shown c s fit shows)
   falls_short_to_fork frames slots parent SwapDevice same room short more = short
   falls_short_to_fork frames slots parent StoreDevice same room short more = short

@@ -1,12 +1,6 @@
 -- What a state that memory shows says of an access.
 use Rattle.vm_types.specs.declared.mode.Levels as Levels
-use Rattle.std.proofs.Common.{ℕ, ◌≡◌, inr, Option, refl, ap, ◌∙◌}
-use Rattle.disk_model.specs.declared.sector_disk.SectorDisk.{Ghosts}
-use Rattle.residency.specs.{Reading.{ReadsStore}, declared.kernel.Core.{Core}, Picture.{picture_of}, Shows.{ShowsPages}}
-use Rattle.fault.specs.Outcome.{verdict_of}
-use Rattle.fault.proofs.AccessShowing.{IsHomeDurable}
-use Rattle.msync.specs.Shows.{CoreShows}
-use Rattle.vm_types.specs.{declared.access.Access.{Access}, declared.width.Width.{Width}, Files.{Files}, State.{State}, Step.{judged}, Verdict.{verdict}, View.{View}, Width.{byte_count}}
+use Rattle.spaces.proofs.Names.{ℕ, ◌≡◌, inr, Option, refl, ap, ◌∙◌, Ghosts, ReadsStore, Core, picture_of, ShowsPages, verdict_of, IsHomeDurable, CoreShows, Access, Width, Files, State, judged, verdict, View, byte_count}
 use Rattle.spaces.proofs.Pages.{views_seen}
 
 pub judged_is : {M : Type 0} {m : Levels.Ghosts M} → {D E : Type 0} (old : Core D E M m) (s : State) → ShowsPages (picture_of old) s → (pid addr : ℕ) (width : Width) (kind : Access)

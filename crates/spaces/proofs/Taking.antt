@@ -1,9 +1,5 @@
 -- What a spawn and a fork take of memory, by what they return.
-use Rattle.std.proofs.Common.{ℕ, ◌≡◌, Option, None, subst, rules}
-use Rattle.frames.specs.FrameTable.{IsFull}
-use Rattle.lifecycle.specs.Changes.{ForksEntries, StallsToFork, TakesRoot, TakesTables}
-use Rattle.residency.specs.{Ages.{GivesForTables, KeepsRoles}, Calls.{Refuses}, Picture.{Picture}}
-use Rattle.vm_types.specs.{declared.refusal.Stall.{Stall}, declared.reply.Reply.TheVariants.{Process, Stalled}}
+use Rattle.spaces.proofs.Names.{ℕ, ◌≡◌, Option, None, subst, rules, IsFull, ForksEntries, StallsToFork, TakesRoot, TakesTables, GivesForTables, KeepsRoles, Refuses, Picture, Stall, Process, Stalled}
 use Rattle.spaces.specs.Processes.{ForkTakes, SpawnTakes}
 
 module _ {mode : ℕ} (old new : Picture mode) where

@@ -1,23 +1,16 @@
 -- dontneed of the flat model in a state that memory shows.
 use Rattle.vm_types.specs.declared.mode.Levels as Levels
-use Rattle.vm_types.specs.{Limits.{user_end}, declared.command.Command.TheVariants.{Dontneed}, declared.refusal.Errno.{Errno}, declared.refusal.Errno.TheVariants.{ENOMEM}, declared.region.Attr.{Attr}}
-use Rattle.vm_types.specs.{declared.reply.Reply.TheVariants.{Done, Refused}, Checks.{first_of, page_count, pages_from}, Ranges.{covered_checks, uncopied, without_own}, Rows.{in_row, IsUserMap, is_covered}, State.{State}}
-use Rattle.vm_types.specs.{Step.{Outcome, outcome, refused_or, uncopy_outcome}, View.{View}}
-use Rattle.std.proofs.{Common.{ℕ, zero, suc, ◌+◌, ◌/◌, ◌%◌, ◌≡◌, ◌≢◌, ◌<◌, ◌≤◌, ◌==◌, not, Bool, true, false, if◌then◌else◌, List, [], ◌∷◌, Option, Some, None, option_map, refl, sym, ap, ◌∙◌, arith}, lemmas.Bool.Decides.{nat_tests}}
-use Rattle.disk_model.specs.declared.sector_disk.SectorDisk.{Ghosts}
-use Rattle.regions.specs.{declared.run.Run.{Run}, RunList.{attr_at}}
-use Rattle.ranges.specs.Rows.{plain, remapped, RemapsRow}
-use Rattle.residency.specs.{declared.kernel.Core.{Core}, Picture.{Picture, picture_of, is_live, entry, own_in, view, view_of}, Shows.{ShowsPages, KeepsFiles}}
-use Rattle.spaces.specs.Calls.{Comes}
-use Rattle.spaces.proofs.{Calls.{does, does_answer, with_pages, shows_pages}, Pages.{attrs_by_runs}, Protects.{count_from, covered_last}}
+use Rattle.spaces.proofs.Names.{user_end, Dontneed, Errno, ENOMEM, Attr, Done, Refused, first_of, page_count, pages_from, covered_checks, uncopied, without_own, in_row, IsUserMap, is_covered, State, Outcome, outcome, refused_or}
+use Rattle.spaces.proofs.Names.{uncopy_outcome, View, ℕ, zero, suc, ◌+◌, ◌/◌, ◌%◌, ◌≡◌, ◌≢◌, ◌<◌, ◌≤◌, ◌==◌, not, Bool, true, false, if◌then◌else◌, List, [], ◌∷◌, Option, Some, None, option_map, refl, sym, ap, ◌∙◌, arith, nat_tests, Ghosts}
+use Rattle.spaces.proofs.Names.{Run, attr_at, plain, remapped, RemapsRow, Core, Picture, picture_of, is_live, entry, own_in, view, view_of, ShowsPages, KeepsFiles}
+use Rattle.spaces.{specs.Calls.{Comes}, proofs.{Calls.{does, does_answer, with_pages, shows_pages}, Pages.{attrs_by_runs}, Protects.{count_from, covered_last}}}
 
 -- a row of mapped pages lies in the user pages
 module _ (mode : ℕ) where
   pub covered_within : (map : ℕ → Option Attr) (first pages : ℕ) → IsUserMap mode map → 0 < pages → is_covered map first pages ≡ true → first + pages ≤ user_end mode
   covered_within map first zero user some e = absurd (omega arith)
   covered_within map first (suc count) user some e =
-      let last = user.user_pages (first + count) (covered_last map first count e) in
-      omega (arith, last.1)
+      omega (arith, (user.user_pages (first + count) (covered_last map first count e)).1)
 
 seen_without : (own : Option (List ℕ)) (o : Option Attr) → option_map uncopied (view_of own o) ≡ option_map plain o
 seen_without own None = refl
@@ -44,10 +37,9 @@ module _ {M : Type 0} {m : Levels.Ghosts M} {D E : Type 0} (g : Ghosts D) (h : G
 
   asked : outcome s (Dontneed pid addr len) ≡ uncopy_outcome s pid (addr / 4096) (pages_from addr len)
   asked =
-      let e : s.live pid ≡ true = shows.live pid ∙ live in
       let a : (addr % 4096 == 0) ≡ true = grind (arith, nat_tests) in
       let n : (len == 0) ≡ false = grind (arith, nat_tests) in
-      rw e (rw a (rw n refl))
+      rw (shows.live pid ∙ live) (rw a (rw n refl))
 
   ruled : first_of (covered_checks s pid (addr / 4096) (pages_from addr len)) ≡ first_of ((not (is_covered (attr_at runs) (addr / 4096) pages), ENOMEM) ∷ [])
   ruled =

@@ -1,26 +1,10 @@
 -- munmap of the flat model in a state that memory shows.
 use Rattle.vm_types.specs.declared.mode.Levels as Levels
-use Rattle.vm_types.specs.{Limits.{user_end}, declared.command.Command.TheVariants.{Munmap}, declared.refusal.Errno.{Errno}, declared.refusal.Errno.TheVariants.{ESRCH, EINVAL, ENOMEM}, declared.region.Attr.{Attr}}
-use Rattle.vm_types.specs.{declared.reply.Reply.TheVariants.{Done, Refused}, Checks.{first_of, page_count, pages_from}, Objects.{Maps, maps_of, named_objects}, Ranges.{munmap_checks, unmapped, without_pages, without_row}}
-use Rattle.vm_types.specs.{Rows.{in_row, removed, IsUserMap}, Runs.{run_count}, State.{State}, Step.{Outcome, refused_or}, View.{View, attrs_of}}
-use Rattle.std.proofs.Common.{ℕ, ◌+◌, ◌-◌, ◌/◌, ◌%◌, ◌≡◌, ◌≢◌, ◌<◌, ◌≤◌, ◌==◌, ◌||◌, not, Bool, true, false, min, if◌then◌else◌, nat_lt, List, [], ◌∷◌, Option, Some, None, IsSome, option_map, inl, inr, ◌⊎◌, refl, sym, ap, ◌∙◌, subst, arith, eq-eqb, ne_eqb}
-use Rattle.std.proofs.{lemmas.Bool.{cases_eq}, lemmas.Bool.Decides.{nat_tests}}
-use Rattle.disk_model.specs.declared.sector_disk.SectorDisk.{Ghosts}
-use Rattle.regions.specs.{declared.run.Run.{Run}, RunList.{attr_at}}
-use Rattle.ranges.specs.Rows.{plain, remapped, with_map, without_maps, KeepsNamed, RemapsRow}
-use Rattle.residency.specs.{declared.kernel.Core.{Core}, Picture.{Picture, picture_of, is_live, entry, own_in, view, view_of}, Parts.{AreObjects, IsFit}, Shows.{ShowsPages}}
-use Rattle.residency.proofs.Places.{objects-fewer}
-use Rattle.spaces.specs.Calls.{Comes}
-use Rattle.spaces.proofs.{Calls.{does, does_answer, shows_row}, Pages.{attrs_by_runs, maps_without}, Protects.{count_from}}
-
-none_if : (o : Option Attr) → (IsSome o → ⊥) → o ≡ None
-none_if None h = refl
-none_if (Some attr) h = absurd (h refl)
-
--- no page past the user pages is mapped
-module _ (mode : ℕ) where
-  past_user : (map : ℕ → Option Attr) (page : ℕ) → IsUserMap mode map → user_end mode ≤ page → map page ≡ None
-  past_user map page user high = none_if (map page) (λ h. let inside = user.user_pages page h in absurd (omega (arith, inside.1)))
+use Rattle.spaces.proofs.Names.{user_end, Munmap, Errno, ESRCH, EINVAL, ENOMEM, Attr, Done, Refused, first_of, page_count, pages_from, Maps, maps_of, named_objects, munmap_checks, unmapped, without_pages, without_row, in_row, removed}
+use Rattle.spaces.proofs.Names.{IsUserMap, run_count, State, Outcome, refused_or, View, attrs_of, ℕ, ◌+◌, ◌-◌, ◌/◌, ◌%◌, ◌≡◌, ◌≢◌, ◌<◌, ◌≤◌, ◌==◌, ◌||◌, not, Bool, true, false, min, if◌then◌else◌, nat_lt, List, [], ◌∷◌, Option, None}
+use Rattle.spaces.proofs.Names.{option_map, inl, inr, ◌⊎◌, refl, sym, ap, ◌∙◌, subst, arith, eq-eqb, ne_eqb, cases_eq, nat_tests, Ghosts, Run, attr_at, plain, remapped, with_map, without_maps, KeepsNamed, RemapsRow, Core, Picture}
+use Rattle.spaces.proofs.Names.{picture_of, is_live, entry, own_in, view, view_of, AreObjects, IsFit, ShowsPages, objects-fewer}
+use Rattle.spaces.{specs.Calls.{Comes}, proofs.{Calls.{does, does_answer, shows_row}, NewObject.{kept_or_gone}, Pages.{attrs_by_runs, maps_without, past_user}, Protects.{count_from}}}
 
 unseen : (own : Option (List ℕ)) (o : Option Attr) → o ≡ None → view_of own o ≡ None
 unseen own o none = rw none refl
@@ -35,12 +19,8 @@ pub objects_unmapped : {mode : ℕ} (old : Picture mode) (pid first pages : ℕ)
     → ((page : ℕ) → attr_at next page ≡ removed (attr_at runs) first pages page) → AreObjects old.at → AreObjects (with_map old.at pid (attr_at next))
 objects_unmapped old pid first pages runs next here map objects = objects-fewer old.at (with_map old.at pid (attr_at next)) fewer objects
   where
-    gone : (b : Bool) (o : Option Attr) → ((if b then None else o) ≡ o) ⊎ ((if b then None else o) ≡ None)
-    gone true o = inr refl
-    gone false o = inl refl
-
     mine : (page : ℕ) → (attr_at next page ≡ old.at pid page) ⊎ (attr_at next page ≡ None)
-    mine page = elim (gone (in_row first pages page) (attr_at runs page)) [
+    mine page = elim (kept_or_gone (in_row first pages page) (attr_at runs page)) [
       | inl same ↦ inl (map page ∙ same ∙ here page)
       | inr none ↦ inr (map page ∙ none)
     ]
@@ -122,9 +102,8 @@ module _ {M : Type 0} {m : Levels.Ghosts M} {D E : Type 0} (g : Ghosts D) (h : G
 
   ruled : first_of (munmap_checks s pid addr len) ≡ first_of ((nat_lt 256 (run_count m.mode (removed (attr_at runs) (addr / 4096) pages)), ENOMEM) ∷ [])
   ruled =
-      let e : s.live pid ≡ true = shows.live pid ∙ live in
       let f : (len == 0 || not (addr % 4096 == 0)) ≡ false = grind (arith, nat_tests) in
-      last_check (s.live pid) (len == 0 || not (addr % 4096 == 0)) _ e f
+      last_check (s.live pid) (len == 0 || not (addr % 4096 == 0)) _ (shows.live pid ∙ live) f
       ∙ ap (λ (x : ℕ). first_of ((nat_lt 256 (run_count x (removed (attrs_of (s.views pid)) (addr / 4096) (pages_from addr len))), ENOMEM) ∷ [])) shows.same_mode
       ∙ ap (λ (map : ℕ → Option Attr). first_of ((nat_lt 256 (run_count m.mode (removed map (addr / 4096) (pages_from addr len))), ENOMEM) ∷ []))
       (attrs_by_runs (picture_of old) s pid runs shows here)

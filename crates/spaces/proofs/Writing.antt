@@ -1,26 +1,16 @@
 -- Stores of the flat model in a state that memory shows.
 use Rattle.vm_types.specs.declared.mode.Levels as Levels
-use Rattle.std.proofs.{Common.{ℕ, ◌/◌, ◌%◌, ◌≡◌, ◌&&◌, Bool, true, false, not, if◌then◌else◌, inl, inr, List, Option, Some, None, is_some, refl, sym, ap, ◌∙◌, subst, arith}, lemmas.Bool.Decides.{nat_tests}}
+use Rattle.spaces.proofs.Names.{ℕ, ◌/◌, ◌%◌, ◌≡◌, ◌&&◌, Bool, true, false, not, if◌then◌else◌, inl, inr, List, Option, Some, None, is_some, refl, sym, ap, ◌∙◌, subst, arith, nat_tests, Ghosts, AccessRefusal, KeepsRoom, KeepsOtherViews}
+use Rattle.spaces.proofs.Names.{KeepsSlotted, Proceeds, BringsFiles, IsReadyToStore, IsOpenToStore, IsRefusal, verdict_of, view-mapped, own_in-none, one_view, ShowsFiles, bytes_shown, shows_own, shows_shared, shows_common, view-attr}
+use Rattle.spaces.proofs.Names.{fit_own, fit_file, views_others, views_file, entries_own, entries_file, mapped_page, shared_none, with_bytes-others, bytes_of, IsHeld, Core, IsFit, is_shared, Picture, picture_of, is_live, entry, own_in}
+use Rattle.spaces.proofs.Names.{view, ShowsPages, SameBeside, CoreShows, held_framed, SlotTable, Access, StoredValue, Store, BusAdraln, SegvAccerr, BusAdrerr, ESRCH, PageKey, File, Object, Backing, Anon, Shared, Done, Refused, Width}
+use Rattle.spaces.proofs.Names.{with_number, with_shown_bytes, Files, table_count, is_success, reply_of, State, shown, copy_or_behind, with_view, Outcome, outcome, answers, judged, store_outcome, Verdict, Fine, Faults, lets, is_past_end}
+use Rattle.spaces.proofs.Names.{page_verdict, View, byte_count}
 use Rattle.std.specs.Prelude.{◌==◌}
-use Rattle.disk_model.specs.declared.sector_disk.SectorDisk.{Ghosts}
-use Rattle.fault.specs.{declared.refusal.AccessRefusal.{AccessRefusal}, Changes.{KeepsRoom, KeepsOtherViews, KeepsSlotted}, Files.{Proceeds, BringsFiles}, Outcome.{IsReadyToStore, IsOpenToStore, IsRefusal, verdict_of}}
-use Rattle.fault.proofs.{Ready.{view-mapped, own_in-none}, Settled.{one_view}, AccessShowing.{ShowsFiles, bytes_shown, shows_own, shows_shared, shows_common}}
-use Rattle.fault.proofs.{Storing.{view-attr, fit_own, fit_file, views_others, views_file, entries_own, entries_file}, Forms.{mapped_page, shared_none}}
-use Rattle.frames.proofs.FrameLemmas.{with_bytes-others}
+use Rattle.vm_types.specs.declared.region.Backing.TheVariants.{Common}
 use Rattle.frames.specs.FrameTable as Frames
-use Rattle.frames.specs.FrameTable.{bytes_of, IsHeld}
-use Rattle.residency.specs.{declared.kernel.Core.{Core}, Parts.{IsFit, is_shared}, Picture.{Picture, picture_of, is_live, entry, own_in, view, held, bytes_at}, Shows.{ShowsPages}, Steps.{SameBeside}}
-use Rattle.page_cache.specs.declared.place.Place.TheVariants.{Frame}
-use Rattle.msync.specs.Shows.{CoreShows}
-use Rattle.swap.specs.Slots.{SlotTable}
-use Rattle.vm_types.specs.{declared.access.Access.{Access}, declared.access.StoredValue.{StoredValue}, declared.command.Command.TheVariants.{Store}, declared.refusal.Code.TheVariants.{BusAdraln, SegvAccerr, BusAdrerr}}
-use Rattle.vm_types.specs.{declared.refusal.Errno.TheVariants.{ESRCH}, declared.object.PageKey.{PageKey}, declared.object.PageKey.TheVariants.{File, Object}, declared.region.Backing.{Backing}}
-use Rattle.vm_types.specs.{declared.region.Backing.TheVariants.{Anon, Private, Shared, Common}, declared.reply.Reply.TheVariants.{Done, Refused}, declared.width.Width.{Width}, Access.{with_number, with_shown_bytes}, Files.{Files}}
-use Rattle.vm_types.specs.{Capacity.{table_count}, Stalls.{is_success}, Replies.{reply_of}, State.{State, shown, copy_or_behind, with_view}, Step.{Outcome, outcome, answers, judged, store_outcome}}
-use Rattle.vm_types.specs.{Verdict.{Verdict, Fine, Faults, lets, is_past_end, page_verdict}, View.{View}, Width.{byte_count}}
 use Rattle.vm_types.specs.declared.access.Access.TheVariants as Accesses
-use Rattle.spaces.specs.{Accesses.{reply_for}, Calls.{Comes}}
-use Rattle.spaces.proofs.{Calls.{does}, Reading.{live_outcome, refused, same, files}, Short.{tables_kept}, Shown.{judged_is}}
+use Rattle.spaces.{specs.{Accesses.{reply_for}, Calls.{Comes}}, proofs.{Calls.{does}, Reading.{live_outcome, refused, same, files}, Short.{tables_kept}, Shown.{judged_is}}}
 
 -- the page of an access that is fine
 fine_page : (files : Files) (o : Option View) (kind : Access) (v : View) → page_verdict files o kind ≡ Fine v → o ≡ Some v
@@ -55,30 +45,26 @@ shared_plain c pid page v fit seen shared =
 -- bytes written to the frame that the access was given leave memory fit
 pub fit_stored : {mode : ℕ} (mid new : Picture mode) (pid page : ℕ) (b : Backing) (n : ℕ) (w : List ℕ) → IsFit mid → IsOpenToStore mid pid page b n
     → new.frames ≡ Frames.with_bytes mid.frames n w → SameBeside mid new → IsFit new
-fit_stored mid new pid page Anon n w fit usable frames beside = fit_own mid new n w fit usable.0 frames beside pid page usable.1
-fit_stored mid new pid page (Private p) n w fit usable frames beside = fit_own mid new n w fit usable.0 frames beside pid page usable.1
 fit_stored mid new pid page (Shared p) n w fit usable frames beside = fit_file mid new n w fit usable.0 frames beside (File p) usable.1
 fit_stored mid new pid page (Common p) n w fit usable frames beside = fit_file mid new n w fit usable.0 frames beside (Object p) usable.1
+fit_stored mid new pid page b n w fit usable frames beside = fit_own mid new n w fit usable.0 frames beside pid page usable.1
 
 -- and no other page is seen otherwise
 pub others_stored : {mode : ℕ} (old mid new : Picture mode) (pid page : ℕ) (b : Backing) (n : ℕ) (w : List ℕ) → IsFit mid → IsOpenToStore mid pid page b n
     → new.frames ≡ Frames.with_bytes mid.frames n w → SameBeside mid new → KeepsOtherViews old mid pid page → KeepsOtherViews old new pid page
-others_stored old mid new pid page Anon n w fit usable frames beside others = λ q k other.
-    views_others mid new n w fit usable.0 frames beside pid page usable.1 q k other ∙ others q k other
-others_stored old mid new pid page (Private p) n w fit usable frames beside others = λ q k other.
-    views_others mid new n w fit usable.0 frames beside pid page usable.1 q k other ∙ others q k other
 others_stored old mid new pid page (Shared p) n w fit usable frames beside others = λ q k other.
     views_file mid new n w fit usable.0 frames beside (File p) usable.1 q k ∙ others q k other
 others_stored old mid new pid page (Common p) n w fit usable frames beside others = λ q k other.
     views_file mid new n w fit usable.0 frames beside (Object p) usable.1 q k ∙ others q k other
+others_stored old mid new pid page b n w fit usable frames beside others = λ q k other.
+    views_others mid new n w fit usable.0 frames beside pid page usable.1 q k other ∙ others q k other
 
 -- nor has a page another entry
 entries_stored : {mode : ℕ} (mid new : Picture mode) (pid page : ℕ) (b : Backing) (n : ℕ) (w : List ℕ) → IsFit mid → IsOpenToStore mid pid page b n
     → new.frames ≡ Frames.with_bytes mid.frames n w → SameBeside mid new → (q k : ℕ) → entry new q k ≡ entry mid q k
-entries_stored mid new pid page Anon n w fit usable frames beside = entries_own mid new n w fit usable.0 frames beside pid page usable.1
-entries_stored mid new pid page (Private p) n w fit usable frames beside = entries_own mid new n w fit usable.0 frames beside pid page usable.1
 entries_stored mid new pid page (Shared p) n w fit usable frames beside = entries_file mid new n w fit usable.0 frames beside (File p) usable.1
 entries_stored mid new pid page (Common p) n w fit usable frames beside = entries_file mid new n w fit usable.0 frames beside (Object p) usable.1
+entries_stored mid new pid page b n w fit usable frames beside = entries_own mid new n w fit usable.0 frames beside pid page usable.1
 
 slotted_on : {mode : ℕ} (files : PageKey → Type 0) (own : ℕ → ℕ → Type 0) (old mid new : Picture mode) → ((p : PageKey) → new.place p ≡ mid.place p)
     → ((q k : ℕ) → entry new q k ≡ entry mid q k) → KeepsSlotted files own old mid → KeepsSlotted files own old new
@@ -128,17 +114,9 @@ module _ (mode : ℕ) where
   stored_tables : (s : State) (pid page : ℕ) (v : View) (b : Backing) (w : List ℕ) → s.views pid page ≡ Some v
       → table_count (with_shown_bytes s pid page v b w) ≡ table_count s
   unfolding table_count
-  stored_tables s pid page v Anon w seen =
-      tables_kept s (with_shown_bytes s pid page v Anon w) refl (λ q. refl) (mapped_still s pid page v (record v { own = Some w }) seen)
-  stored_tables s pid page v (Private p) w seen =
-      tables_kept s (with_shown_bytes s pid page v (Private p) w) refl (λ q. refl) (mapped_still s pid page v (record v { own = Some w }) seen)
   stored_tables s pid page v (Shared p) w seen = tables_kept s (with_shown_bytes s pid page v (Shared p) w) refl (λ q. refl) (λ q k. refl)
   stored_tables s pid page v (Common p) w seen = tables_kept s (with_shown_bytes s pid page v (Common p) w) refl (λ q. refl) (λ q k. refl)
-
--- the bytes of the frame of a page of a file or an object are those that it has
-held_there : {mode : ℕ} (c : Picture mode) (p : PageKey) (n : ℕ) → c.place p ≡ Frame (record { 0 = n }) → held c p ≡ Some (bytes_of c.frames n)
-unfolding held
-held_there c p n at = ap (bytes_at c.frames c.slots) at
+  stored_tables s pid page v b w seen = tables_kept s (with_shown_bytes s pid page v b w) refl (λ q. refl) (mapped_still s pid page v (record v { own = Some w }) seen)
 
 module _ {M : Type 0} {m : Levels.Ghosts M} {D E : Type 0} (g : Ghosts D) (h : Ghosts E) (old mid : Core D E M m) (W : PageKey → Type 0) (s : State) (shows : CoreShows g old s)
     (keeps : g.keeps_model mid.store.disk) (swaps : h.keeps_model mid.swap.pages.disk) (before : IsFit (picture_of old)) (goes : Proceeds g h old mid)
@@ -165,35 +143,30 @@ module _ {M : Type 0} {m : Levels.Ghosts M} {D E : Type 0} (g : Ghosts D) (h : G
     now : ShowsFiles (picture_of mid) s
     now = files g h old mid W s shows keeps swaps goes brings
 
+    -- a shared page shows what stands behind it
+    behind_it : (b : Backing) → v.attr.backing ≡ b → is_shared b ≡ true → copy_or_behind s b None ≡ shown s v
+    behind_it b is shared =
+        let plain : v.own ≡ None = shared_plain (picture_of old) pid (addr / 4096) v before (fine_seen (picture_of old) pid addr value.width Accesses.Store v fine) (ap is_shared is ∙ shared) in
+        sym (ap (λ (b : Backing). copy_or_behind s b None) is) ∙ sym (ap (λ (o : Option (List ℕ)). copy_or_behind s v.attr.backing o) plain)
+
     -- the bytes that are written over are those that the page shows
     shown_there : (b : Backing) → v.attr.backing ≡ b → IsReadyToStore (picture_of old) (picture_of mid) pid (addr / 4096) v b n
         → bytes_of mid.frames n ≡ shown s v
-    shown_there Anon is owns = bytes_shown (picture_of mid) s v (bytes_of mid.frames n) now owns.shown
-    shown_there (Private p) is owns = bytes_shown (picture_of mid) s v (bytes_of mid.frames n) now owns.shown
-    shown_there (Shared p) is touches =
-        let plain : v.own ≡ None = shared_plain (picture_of old) pid (addr / 4096) v before (fine_seen (picture_of old) pid addr value.width Accesses.Store v fine) (ap is_shared is) in
-        sym (now.held p (bytes_of mid.frames n) (held_there (picture_of mid) (File p) n touches.place))
-        ∙ sym (ap (λ (b : Backing). copy_or_behind s b None) is)
-        ∙ sym (ap (λ (o : Option (List ℕ)). copy_or_behind s v.attr.backing o) plain)
-    shown_there (Common p) is touches =
-        let plain : v.own ≡ None = shared_plain (picture_of old) pid (addr / 4096) v before (fine_seen (picture_of old) pid addr value.width Accesses.Store v fine) (ap is_shared is) in
-        sym (now.objects p (bytes_of mid.frames n) (held_there (picture_of mid) (Object p) n touches.place))
-        ∙ sym (ap (λ (b : Backing). copy_or_behind s b None) is)
-        ∙ sym (ap (λ (o : Option (List ℕ)). copy_or_behind s v.attr.backing o) plain)
+    shown_there (Shared p) is touches = sym (now.held p (bytes_of mid.frames n) (held_framed (picture_of mid) (File p) n touches.place)) ∙ behind_it (Shared p) is refl
+    shown_there (Common p) is touches = sym (now.objects p (bytes_of mid.frames n) (held_framed (picture_of mid) (Object p) n touches.place)) ∙ behind_it (Common p) is refl
+    shown_there b is owns = bytes_shown (picture_of mid) s v (bytes_of mid.frames n) now owns.shown
 
     module _ (new : Core D E M m) (w : List ℕ) (frames : new.frames ≡ Frames.with_bytes mid.frames n w) (beside : SameBeside (picture_of mid) (picture_of new)) where
       shows_stored : (b : Backing) → v.attr.backing ≡ b → IsReadyToStore (picture_of old) (picture_of mid) pid (addr / 4096) v b n
           → ShowsPages (picture_of new) (with_shown_bytes s pid (addr / 4096) v v.attr.backing w)
-      shows_stored Anon is owns =
-          shows_own (picture_of old) (picture_of mid) (picture_of new) s pid (addr / 4096) n v w goes.fit frames beside before shows.pages now (ap is_shared is) owns
-      shows_stored (Private p) is owns =
-          shows_own (picture_of old) (picture_of mid) (picture_of new) s pid (addr / 4096) n v w goes.fit frames beside before shows.pages now (ap is_shared is) owns
       shows_stored (Shared p) is touches =
           subst (λ (b : Backing). ShowsPages (picture_of new) (with_shown_bytes s pid (addr / 4096) v b w)) (sym is)
           (shows_shared (picture_of old) (picture_of mid) (picture_of new) s pid (addr / 4096) n v w goes.fit frames beside before shows.pages now p touches)
       shows_stored (Common p) is touches =
           subst (λ (b : Backing). ShowsPages (picture_of new) (with_shown_bytes s pid (addr / 4096) v b w)) (sym is)
           (shows_common (picture_of old) (picture_of mid) (picture_of new) s pid (addr / 4096) n v w goes.fit frames beside before shows.pages now p touches)
+      shows_stored b is owns =
+          shows_own (picture_of old) (picture_of mid) (picture_of new) s pid (addr / 4096) n v w goes.fit frames beside before shows.pages now (ap is_shared is) owns
 
       pub stores : IsReadyToStore (picture_of old) (picture_of mid) pid (addr / 4096) v v.attr.backing n
           → w ≡ with_number (bytes_of mid.frames n) (addr % 4096) (byte_count value.width) value.value → Comes g h old new s (Store pid addr value) Done

@@ -4,7 +4,7 @@ use std::marker::Model;
 use vm_types::Levels;
 
 /// Room for the regions of one call after the other.
-#[derive(Debug, Drop)]
+#[derive(Drop)]
 pub struct RegionRoom<M: Levels> {
     next: Regions<M>,
 }

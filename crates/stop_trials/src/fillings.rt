@@ -10,7 +10,7 @@ use disk_model::{SECTOR_BYTES, SectorDisk, SimDisk};
 use std::alloc::{AllocError, Global};
 
 /// What each sector that was not synced holds after a stop.
-#[derive(Clone, Copy, Debug, PartialEq, Eq)]
+#[derive(Clone, Copy)]
 pub(crate) enum Filling {
     /// What was last synced.
     Old,

@@ -29,7 +29,7 @@ const SECOND_MAP: u64 = 8216;
 const SECOND_BODY: u64 = 8224;
 
 /// A part of a store's image. `Display` gives its name.
-#[derive(Clone, Copy, Debug, PartialEq, Eq)]
+#[derive(Clone, Copy)]
 pub(crate) enum Part {
     /// The layout mark.
     Mark,

@@ -10,7 +10,7 @@ use disk_model::{DiskFault, SectorDisk, SimDisk, parts};
 use std::alloc::{AllocError, Global};
 
 /// What a device is asked for that a stop can come in.
-#[derive(Clone, Copy, Debug, PartialEq, Eq)]
+#[derive(Clone, Copy, Debug)]
 pub enum Event {
     /// The write of that sector.
     Write(u64),

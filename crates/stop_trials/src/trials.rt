@@ -22,7 +22,7 @@ use sync_journal::Journals;
 const FILLINGS: u64 = 5;
 
 /// A stop, and for each filling what it leaves. `Display` gives its line.
-#[derive(Clone, Copy, Debug, PartialEq, Eq)]
+#[derive(Clone, Copy, Debug)]
 pub struct Trial {
     /// The number of the event, the first being 1.
     pub number: u64,
@@ -66,7 +66,7 @@ impl Display for Trial {
 }
 
 /// How many stops were tried, and how many of them were bad. `Display` gives its line.
-#[derive(Clone, Copy, Debug, PartialEq, Eq)]
+#[derive(Clone, Copy)]
 pub(crate) struct Summary {
     pub stops: u64,
     pub bad: u64,

@@ -5,6 +5,8 @@ ghost use Rattle.file_store.specs.Store.{IsReadyStore};
 use disk_model::{DiskFault, SectorDisk, SimDisk};
 use file_store::{FileStore, OpenFault};
 use std::alloc::Global;
+use std::fmt::Debug;
+use std::process::Abort;
 use std::test::Fail;
 use vm_types::FilePage;
 
@@ -18,6 +20,11 @@ pub(crate) fn expect(holds: bool, otherwise: &str) -> Result<(), Fail> {
     } else {
         Err(Fail::new(format_args!("{otherwise}")))
     }
+}
+
+/// Ends the test where the value isn't the one that is wanted. A test that said `assert_eq!` itself would be proved to end well at each place.
+pub(crate) fn equal<T: PartialEq + Debug + Drop>(rt: &impl Abort, got: T, want: T) {
+    assert_eq!(rt; got, want);
 }
 
 /// A sector of one word, 64 times.
@@ -114,8 +121,10 @@ pub(crate) fn left(
 ) -> Result<SimDisk, Fail> {
     let mut chosen = Vec::new(alloc);
     if let Some(bytes) = fill {
-        for n in (0..40).chain(8195..8232).chain(TURN_HOMES..disk.sectors()) {
-            chosen.push((n, bytes))?;
+        for n in 0..disk.sectors() {
+            if n < 40 || (8195 <= n && n < 8232) || TURN_HOMES <= n {
+                chosen.push((n, bytes))?;
+            }
         }
     }
     Ok(disk.left(alloc, chosen.as_slice())?)

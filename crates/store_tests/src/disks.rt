@@ -1,5 +1,5 @@
 //! Devices in memory and in a file.
-use crate::bench::{expect, holds};
+use crate::bench::{equal, expect, holds};
 use disk_model::{FileDisk, SectorDisk, SimDisk};
 use std::fs::{self, File, OpenOptions};
 use std::test::Fail;
@@ -68,7 +68,7 @@ fn a_device_in_memory_stops_and_fails_where_it_is_told_to(rt: HostRuntime) -> Re
             (Call::ReadPage(2, 7), true),
         ],
     )?;
-    assert_eq!(rt; (disk.calls(), disk.writes(), disk.syncs()), (22, 9, 1));
+    equal(&rt, (disk.calls(), disk.writes(), disk.syncs()), (22, 9, 1));
     // Sector 1 was not written; of two choices for sector 2 the first counts; sector 3 has what was last synced.
     let after = disk.left(alloc, &[(1, [9; 512]), (2, [4; 512]), (2, [5; 512])])?;
     let wanted = [(1, [0; 512]), (2, [4; 512]), (3, [1; 512]), (4, [0; 512])];
@@ -128,8 +128,8 @@ fn a_device_in_a_file_keeps_what_was_written(rt: HostRuntime) -> Result<(), Fail
     // The last bytes are no sector.
     file.set_len(12 * 512 + 100)?;
     let mut disk: FileDisk = FileDisk::new(file)?;
-    assert_eq!(rt; disk.sectors(), 12);
-    assert!(rt; disk.is_settled() && !disk.is_written());
+    equal(&rt, disk.sectors(), 12);
+    equal(&rt, [disk.is_settled(), disk.is_written()], [true, false]);
     run(
         &mut disk,
         &[
@@ -138,12 +138,12 @@ fn a_device_in_a_file_keeps_what_was_written(rt: HostRuntime) -> Result<(), Fail
             (Call::Sync, true),
         ],
     )?;
-    assert!(rt; disk.is_written());
+    equal(&rt, disk.is_written(), true);
     drop(disk);
 
     // It is opened for reading alone, and then cut.
     let mut again: FileDisk = FileDisk::new(File::open(&rt, PATH)?)?;
-    assert_eq!(rt; again.sectors(), 12);
+    equal(&rt, again.sectors(), 12);
     run(
         &mut again,
         &[

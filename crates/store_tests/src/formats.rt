@@ -1,5 +1,7 @@
 //! New stores on a device in memory.
-use crate::bench::{check_left, expect, first_byte, holds, image, opened, repeated, sector_with};
+use crate::bench::{
+    check_left, equal, expect, first_byte, holds, image, opened, repeated, sector_with,
+};
 use disk_model::{SectorDisk, SimDisk};
 use file_store::{FileSource, FormatFault, format, image_bytes};
 use std::alloc::Global;
@@ -53,16 +55,16 @@ fn formats_files_one_after_another(rt: HostRuntime) -> Result<(), Fail> {
             bytes: Some(letter),
         };
         let mut sources = [file(5000, None), locked];
-        assert_eq!(rt; image_bytes(journals, &sources), bytes);
+        equal(&rt, image_bytes(journals, &sources), bytes);
         let mut disk = SimDisk::new(rt.alloc(), sectors)?;
-        assert_eq!(rt; format(&mut disk, journals, &mut sources), Ok(()));
-        assert_eq!(rt; (disk.writes(), disk.syncs()), calls);
+        equal(&rt, format(&mut disk, journals, &mut sources), Ok(()));
+        equal(&rt, (disk.writes(), disk.syncs()), calls);
         expect(holds(&disk, &wanted), "the new store")?;
         let mut store = opened(disk.left(rt.alloc(), &[])?)?;
         let last = first_byte(&mut store, FilePage { file: 0, page: 1 });
-        assert_eq!(rt; last, Some(0));
+        equal(&rt, last, Some(0));
         let only = first_byte(&mut store, FilePage { file: 1, page: 0 });
-        assert_eq!(rt; only, Some(0x62));
+        equal(&rt, only, Some(0x62));
     }
     Ok(())
 }
@@ -94,8 +96,8 @@ fn refuses_what_it_cannot_format(rt: HostRuntime) -> Result<(), Fail> {
     for (sectors, mark, source, fault, writes) in rows {
         let mut disk = image(rt.alloc(), sectors, &[(0, mark)])?;
         let told = format(&mut disk, Journals::Single, &mut [source]);
-        assert_eq!(rt; told, Err(fault));
-        assert_eq!(rt; (disk.writes(), disk.syncs()), (writes, 0));
+        equal(&rt, told, Err(fault));
+        equal(&rt, (disk.writes(), disk.syncs()), (writes, 0));
     }
     // And of layout 3.
     let rows = [
@@ -107,8 +109,8 @@ fn refuses_what_it_cannot_format(rt: HostRuntime) -> Result<(), Fail> {
     for (sectors, mark, source, fault) in rows {
         let mut disk = image(rt.alloc(), sectors, &[(0, mark)])?;
         let told = format(&mut disk, Journals::Paired, &mut [source]);
-        assert_eq!(rt; told, Err(fault));
-        assert_eq!(rt; (disk.writes(), disk.syncs()), (0, 0));
+        equal(&rt, told, Err(fault));
+        equal(&rt, (disk.writes(), disk.syncs()), (0, 0));
     }
     Ok(())
 }
@@ -164,7 +166,7 @@ fn a_stopped_format_leaves_no_mark_or_a_whole_store(rt: HostRuntime) -> Result<(
         let last = size.writes.min(20);
         for bytes in [Some(page), None] {
             let whole = formatted_until(alloc, size, last + 1, bytes)?;
-            assert_eq!(rt; (whole.writes(), whole.syncs()), (last, syncs));
+            equal(&rt, (whole.writes(), whole.syncs()), (last, syncs));
             for write in 1..last + 1 {
                 if size.journals == Journals::Paired && write < 8 && write % 8 > 1 {
                     continue;

@@ -1,4 +1,5 @@
 //! Requests of a client over a device in memory.
+use crate::bench::equal;
 use batches::{ServeEnd, serve};
 use disk_model::SimDisk;
 use file_store::{FileSource, FileStore, format};
@@ -24,36 +25,52 @@ fn served(alloc: Global, requests: &[u8]) -> Result<(ServeEnd, Vec<u8>), Fail> {
     Ok((end, output))
 }
 
-/// A request for the page of a file, and its bytes.
-fn push_page(requests: &mut Vec<u8>, line: &[u8], byte: u8) -> Result<(), Fail> {
-    requests.extend_from_slice(line)?;
-    requests.extend_from_slice(&[byte; 4096])?;
-    Ok(())
+/// A text, and the byte of a page behind it, if there is one.
+type Part = (&'static [u8], Option<u8>);
+
+/// These texts and pages one after another.
+fn joined(alloc: Global, parts: &[Part]) -> Result<Vec<u8>, Fail> {
+    let mut all = Vec::new(alloc);
+    for (text, byte) in parts {
+        all.extend_from_slice(*text)?;
+        if let Some(byte) = byte {
+            all.extend_from_slice(&[*byte; 4096])?;
+        }
+    }
+    Ok(all)
 }
+
+const REQUESTS: &[Part] = &[
+    (b"page 0 0\n", Some(7)),
+    (b"commit\nread 0 0\npage 1 0\n", Some(8)),
+    (b"commit\npage 0 1\n", Some(9)),
+    (b"commit\ncommit\nread 1 0\n", None),
+];
+
+const REPLIES: &[Part] = &[
+    (b"ok\nok\n", Some(7)),
+    (b"read-only\nbad-pages\nbad-pages\nok\n", Some(0)),
+];
+
+/// Requests, how they end, and the replies.
+const ROWS: [(&[Part], ServeEnd, &[Part]); 3] = [
+    (REQUESTS, ServeEnd::Done, REPLIES),
+    (&[(b"page 0 0\n", Some(7))], ServeEnd::Cut, &[]),
+    (
+        &[(b"pages 0 0\n", None)],
+        ServeEnd::BadLine,
+        &[(b"bad-line\n", None)],
+    ),
+];
 
 #[test]
 fn batches_are_durable_refused_or_cut(rt: HostRuntime) -> Result<(), Fail> {
-    let mut requests = Vec::new(rt.alloc());
-    push_page(&mut requests, b"page 0 0\n", 7)?;
-    requests.extend_from_slice(b"commit\nread 0 0\n")?;
-    push_page(&mut requests, b"page 1 0\n", 8)?;
-    requests.extend_from_slice(b"commit\n")?;
-    push_page(&mut requests, b"page 0 1\n", 9)?;
-    requests.extend_from_slice(b"commit\ncommit\nread 1 0\n")?;
-    let mut replies = Vec::new(rt.alloc());
-    push_page(&mut replies, b"ok\nok\n", 7)?;
-    push_page(&mut replies, b"read-only\nbad-pages\nbad-pages\nok\n", 0)?;
-    let mut unfinished = Vec::new(rt.alloc());
-    push_page(&mut unfinished, b"page 0 0\n", 7)?;
-    let rows = [
-        (requests.as_slice(), ServeEnd::Done, replies.as_slice()),
-        (unfinished.as_slice(), ServeEnd::Cut, b""),
-        (b"pages 0 0\n", ServeEnd::BadLine, b"bad-line\n"),
-    ];
-    for (input, wanted, replies) in rows {
-        let (end, output) = served(rt.alloc(), input)?;
-        assert_eq!(rt; end, wanted);
-        assert_eq!(rt; output.as_slice(), replies);
+    for (requests, wanted, replies) in ROWS {
+        let requests = joined(rt.alloc(), requests)?;
+        let replies = joined(rt.alloc(), replies)?;
+        let (end, output) = served(rt.alloc(), requests.as_slice())?;
+        equal(&rt, end, wanted);
+        equal(&rt, output.as_slice(), replies.as_slice());
     }
     Ok(())
 }

@@ -2,7 +2,7 @@
 ghost use Rattle.std.specs.Prelude.{OnOk, replicate, if◌then◌else◌};
 ghost use Rattle.file_store.specs.Store.{IsReadyStore};
 
-use crate::bench::{expect, first_byte, holds, image, opened, put, repeated, sector_with};
+use crate::bench::{equal, expect, first_byte, holds, image, opened, put, repeated, sector_with};
 use batches::check_pages;
 use disk_model::{SectorDisk, SimDisk};
 use file_store::{FileStore, OpenFault, stops_in_a_row};
@@ -77,9 +77,13 @@ fn commits_up_to_the_end(rt: HostRuntime) -> Result<(), Fail> {
         commits(&mut store, &[page], &mut source)?,
         "the first commit",
     )?;
-    assert_eq!(rt; first_byte(&mut store, page), Some(1));
+    equal(&rt, first_byte(&mut store, page), Some(1));
     // Opening syncs once, and a first commit twice.
-    assert_eq!(rt; (store.disk().writes(), store.disk().syncs()), (17, 1 + 2));
+    equal(
+        &rt,
+        (store.disk().writes(), store.disk().syncs()),
+        (17, 1 + 2),
+    );
     // The file ends 904 bytes into this page, which stands in the journal's body.
     let mut last = [0; 512];
     last[..392].fill(1);
@@ -90,7 +94,11 @@ fn commits_up_to_the_end(rt: HostRuntime) -> Result<(), Fail> {
         commits(&mut store, &[page], &mut source)?,
         "the second commit",
     )?;
-    assert_eq!(rt; (store.disk().writes(), store.disk().syncs()), (43, 1 + 6));
+    equal(
+        &rt,
+        (store.disk().writes(), store.disk().syncs()),
+        (43, 1 + 6),
+    );
     let wanted = [
         (8202, [0; 512]),
         (8203, [1; 512]),
@@ -118,9 +126,10 @@ fn commits_after_a_source_fault(rt: HostRuntime) -> Result<(), Fail> {
         "the commit after it",
     )?;
     // Eight writes for the page before the fault. The first page is cut where its file ends.
-    assert_eq!(rt;
+    equal(
+        &rt,
         (store.disk().writes(), store.disk().syncs()),
-        (8 + 25, 1 + 2)
+        (8 + 25, 1 + 2),
     );
     let wanted = [
         (2, repeated(b"GATEOPEN")),
@@ -138,9 +147,10 @@ fn commits_after_a_source_fault(rt: HostRuntime) -> Result<(), Fail> {
         !commits(&mut store, &pages, &mut source)?,
         "the source's second fault",
     )?;
-    assert_eq!(rt;
+    equal(
+        &rt,
         (store.disk().writes(), store.disk().syncs()),
-        (33 + 17 + 8, 1 + 4)
+        (33 + 17 + 8, 1 + 4),
     );
     let wanted = [
         (2, [0; 512]),
@@ -185,26 +195,29 @@ fn opens_and_reads(rt: HostRuntime) -> Result<(), Fail> {
         (255, None),
     ];
     for (n, info) in infos {
-        assert_eq!(rt; store.file(n), info);
-        assert_eq!(rt; store.info(u64::from(n)), info);
+        equal(&rt, store.file(n), info);
+        equal(&rt, store.info(u64::from(n)), info);
     }
-    assert_eq!(rt; store.info(65), None);
-    assert_eq!(rt;
+    equal(&rt, store.info(65), None);
+    equal(
+        &rt,
         first_byte(&mut store, FilePage { file: 0, page: 0 }),
-        Some(0)
+        Some(0),
     );
-    assert_eq!(rt;
+    equal(
+        &rt,
         first_byte(&mut store, FilePage { file: 0, page: 1 }),
-        Some(0x61)
+        Some(0x61),
     );
-    assert_eq!(rt;
+    equal(
+        &rt,
         first_byte(&mut store, FilePage { file: 1, page: 0 }),
-        Some(0x5a)
+        Some(0x5a),
     );
     stops_in_a_row(store.disk());
     // One sync at first, one of the home and one of the gate: all of it is there after a stop.
     let disk = store.into_disk();
-    assert_eq!(rt; (disk.writes(), disk.syncs()), (1 + 9, 3));
+    equal(&rt, (disk.writes(), disk.syncs()), (1 + 9, 3));
     let wanted = [
         (2, [0; 512]),
         (8203, [0x61; 512]),
@@ -286,7 +299,7 @@ fn refuses_layouts_and_journals(rt: HostRuntime) -> Result<(), Fail> {
             Ok(store) => (None, store.into_disk()),
             Err((fault, disk)) => (Some(fault), disk),
         };
-        assert_eq!(rt; (fault, disk.writes()), wanted);
+        equal(&rt, (fault, disk.writes()), wanted);
     }
     Ok(())
 }

@@ -2,7 +2,7 @@
 ghost use Rattle.std.specs.Prelude.{IfOk};
 ghost use Rattle.file_store.specs.Store.{IsReadyStore};
 
-use crate::bench::{expect, first_byte, holds, image, left, opened, repeated, sector_with};
+use crate::bench::{equal, expect, first_byte, holds, image, left, opened, repeated, sector_with};
 use crate::stores::{Filled, commits};
 use batches::check_pages;
 use disk_model::{SectorDisk, SimDisk};
@@ -57,17 +57,18 @@ fn a_commit_takes_two_syncs_and_leaves_homes_that_the_next_one_takes(
     let mut source = Filled { fails: false };
     let mut store = two_files(rt.alloc(), 0)?;
     // The opening: mark, kind and directory, a sync, and gate and map, which is empty.
-    assert_eq!(rt;
+    equal(
+        &rt,
         (store.disk().calls(), store.disk().writes()),
-        (3 + 1 + 1 + 8, 0)
+        (3 + 1 + 1 + 8, 0),
     );
     // A body, a map and the gate each; the last one copies the first page home.
     expect(commits(&mut store, &[FIRST], &mut source)?, "the first")?;
-    assert_eq!(rt; (store.disk().writes(), store.disk().syncs()), (17, 3));
+    equal(&rt, (store.disk().writes(), store.disk().syncs()), (17, 3));
     expect(commits(&mut store, &[FIRST], &mut source)?, "the second")?;
-    assert_eq!(rt; (store.disk().writes(), store.disk().syncs()), (34, 5));
+    equal(&rt, (store.disk().writes(), store.disk().syncs()), (34, 5));
     expect(commits(&mut store, &[SECOND], &mut source)?, "the third")?;
-    assert_eq!(rt; (store.disk().writes(), store.disk().syncs()), (59, 7));
+    equal(&rt, (store.disk().writes(), store.disk().syncs()), (59, 7));
     // The third is in the second journal again, and its page not in its home yet.
     let wanted = [
         (16, repeated(b"GATEOPEN")),
@@ -103,8 +104,8 @@ fn a_stopped_commit_and_stopped_openings_leave_the_page_before_or_after(
             let after = write == 25 && fill.is_some() && fill != Some(gate);
             let second = if after { 1 } else { 0 };
             let mut store = opened(left(alloc, &stopped, fill)?)?;
-            assert_eq!(rt; first_byte(&mut store, FIRST), Some(1));
-            assert_eq!(rt; first_byte(&mut store, SECOND), Some(second));
+            equal(&rt, first_byte(&mut store, FIRST), Some(1));
+            equal(&rt, first_byte(&mut store, SECOND), Some(second));
         }
     }
     // An opening empties a map, copies the page home and names that map's journal. It is stopped at these, and the next one
@@ -124,8 +125,8 @@ fn a_stopped_commit_and_stopped_openings_leave_the_page_before_or_after(
                 Err((_, disk)) => disk,
             };
             let mut store = opened(left(alloc, &disk, fill)?)?;
-            assert_eq!(rt; first_byte(&mut store, FIRST), Some(1));
-            assert_eq!(rt; first_byte(&mut store, SECOND), Some(1));
+            equal(&rt, first_byte(&mut store, FIRST), Some(1));
+            equal(&rt, first_byte(&mut store, SECOND), Some(1));
         }
     }
     Ok(())
@@ -167,7 +168,7 @@ fn the_layout_is_what_mark_and_kind_say(rt: HostRuntime) -> Result<(), Fail> {
             Ok(store) => (None, store.into_disk()),
             Err((told, disk)) => (Some(told), disk),
         };
-        assert_eq!(rt; (told, disk.calls(), disk.writes()), (fault, calls, 0));
+        equal(&rt, (told, disk.calls(), disk.writes()), (fault, calls, 0));
     }
     Ok(())
 }

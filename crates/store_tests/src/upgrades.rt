@@ -1,6 +1,6 @@
 //! Stores of one layout made anew in the next. Their bytes are worked out by hand.
 use crate::bench::{
-    check_left, expect, first_byte, holds, image, opened, put, repeated, sector_with,
+    check_left, equal, expect, first_byte, holds, image, opened, put, repeated, sector_with,
 };
 use disk_model::{SectorDisk, SimDisk};
 use file_store::{UpgradeFault, upgrade};
@@ -15,10 +15,10 @@ use vm_types::FilePage;
 #[derive(Clone, Copy)]
 struct Row {
     journals: Journals,
-    old_mark: [u8; 512],
+    old_mark: &'static [u8; 8],
     old_body: u64,
     old_homes: u64,
-    mark: [u8; 512],
+    mark: &'static [u8; 8],
     homes: u64,
     old_calls: u64,
     new_calls: u64,
@@ -27,34 +27,32 @@ struct Row {
 }
 
 /// From layout 1 to 2, and from 2 to 3.
-fn rows() -> [Row; 2] {
-    [
-        Row {
-            journals: Journals::Single,
-            old_mark: repeated(b"FAMSYNC1"),
-            old_body: 4,
-            old_homes: 1020,
-            mark: repeated(b"FAMSYNC2"),
-            homes: 8195,
-            old_calls: 4 + 16,
-            new_calls: 1 + 16 + 2 + 1 + 1 + 1,
-            new_writes: 16 + 2 + 1,
-            new_syncs: 2,
-        },
-        Row {
-            journals: Journals::Paired,
-            old_mark: repeated(b"FAMSYNC2"),
-            old_body: 11,
-            old_homes: 8195,
-            mark: repeated(b"FAMSYNC3"),
-            homes: 16408,
-            old_calls: 3 + 8 + 16,
-            new_calls: 1 + 16 + 3 + 1 + 1 + 1 + 1 + 1,
-            new_writes: 16 + 3 + 1 + 1,
-            new_syncs: 3,
-        },
-    ]
-}
+const ROWS: [Row; 2] = [
+    Row {
+        journals: Journals::Single,
+        old_mark: b"FAMSYNC1",
+        old_body: 4,
+        old_homes: 1020,
+        mark: b"FAMSYNC2",
+        homes: 8195,
+        old_calls: 4 + 16,
+        new_calls: 1 + 16 + 2 + 1 + 1 + 1,
+        new_writes: 16 + 2 + 1,
+        new_syncs: 2,
+    },
+    Row {
+        journals: Journals::Paired,
+        old_mark: b"FAMSYNC2",
+        old_body: 11,
+        old_homes: 8195,
+        mark: b"FAMSYNC3",
+        homes: 16408,
+        old_calls: 3 + 8 + 16,
+        new_calls: 1 + 16 + 3 + 1 + 1 + 1 + 1 + 1,
+        new_writes: 16 + 3 + 1 + 1,
+        new_syncs: 3,
+    },
+];
 
 /// The directory of a file of a page in home 1, and a read-only one of 1 byte in home 0.
 const DIRECTORY: [(usize, u8); 5] = [(0, 1), (3, 0x80), (5, 0x10), (11, 0xc0), (12, 1)];
@@ -72,7 +70,7 @@ fn old_store(
     for n in 0..8 {
         put(&mut disk, row.old_body.saturating_add(n), &[0x5a; 512])?;
     }
-    put(&mut disk, 0, &row.old_mark)?;
+    put(&mut disk, 0, &repeated(row.old_mark))?;
     put(&mut disk, 1, &sector_with(&DIRECTORY))?;
     let first = sector_with(&[(0, 0x62), (1, 0x77)]);
     put(&mut disk, row.old_homes, &first)?;
@@ -124,15 +122,16 @@ fn upgraded(
 
 #[test]
 fn upgrades_a_store(rt: HostRuntime) -> Result<(), Fail> {
-    for row in rows() {
+    for row in ROWS {
         let whole = upgraded(rt.alloc(), &row, UNARMED, None)?;
-        assert_eq!(rt;
+        equal(
+            &rt,
             (whole.calls(), whole.writes(), whole.syncs()),
-            (row.new_calls, row.new_writes, row.new_syncs)
+            (row.new_calls, row.new_writes, row.new_syncs),
         );
         let homes = row.homes;
         let wanted = [
-            (0, row.mark),
+            (0, repeated(row.mark)),
             (3, [0; 512]),
             (11, [0; 512]),
             (16, [0; 512]),
@@ -145,18 +144,18 @@ fn upgrades_a_store(rt: HostRuntime) -> Result<(), Fail> {
         let directory = sector_with(&DIRECTORY);
         let head = match row.journals {
             Journals::Single => [(1, directory), (2, [0; 512])],
-            Journals::Paired => [(1, row.mark), (9, directory)],
+            Journals::Paired => [(1, repeated(row.mark)), (9, directory)],
         };
         expect(holds(&whole, &head), "the new store's head")?;
         let mut store = opened(whole)?;
         let page = FilePage { file: 0, page: 0 };
-        assert_eq!(rt; first_byte(&mut store, page), Some(0x5a));
+        equal(&rt, first_byte(&mut store, page), Some(0x5a));
         // Where the gate is closed the home stands.
         let mut old = old_store(rt.alloc(), &row, 16, &[])?;
         let mut new = SimDisk::new(rt.alloc(), homes.saturating_add(16).min(20_000))?;
-        assert_eq!(rt; upgrade(&mut old, &mut new, row.journals), Ok(()));
+        equal(&rt, upgrade(&mut old, &mut new, row.journals), Ok(()));
         let mut store = opened(new)?;
-        assert_eq!(rt; first_byte(&mut store, page), Some(0x61));
+        equal(&rt, first_byte(&mut store, page), Some(0x61));
     }
     Ok(())
 }
@@ -167,13 +166,13 @@ fn refuses_what_cannot_be_upgraded(rt: HostRuntime) -> Result<(), Fail> {
     let gate = (2, repeated(b"GATEOPEN"));
     let behind = (3, sector_with(&[(0, 1), (4, 2)]));
     let twice = (3, sector_with(&[(0, 2)]));
-    for row in rows() {
+    for row in ROWS {
         // 128 or 1,024 pages.
         let many = match row.journals {
             Journals::Single => (3, sector_with(&[(0, 128)])),
             Journals::Paired => (3, sector_with(&[(1, 4)])),
         };
-        let (older, newer) = (row.old_mark, row.mark);
+        let (older, newer) = (repeated(row.old_mark), repeated(row.mark));
         let few = row.homes.saturating_sub(1);
         // One home of the new store, and two.
         let one = row.homes.saturating_add(8);
@@ -200,8 +199,8 @@ fn refuses_what_cannot_be_upgraded(rt: HostRuntime) -> Result<(), Fail> {
         for (more, changes, (new_sectors, mark), fault) in cases {
             let mut old = old_store(rt.alloc(), &row, more, &changes)?;
             let mut new = image(rt.alloc(), new_sectors.min(20_000), &[(0, mark)])?;
-            assert_eq!(rt; upgrade(&mut old, &mut new, row.journals), Err(fault));
-            assert_eq!(rt; (old.writes(), new.writes()), (0, 0));
+            equal(&rt, upgrade(&mut old, &mut new, row.journals), Err(fault));
+            equal(&rt, (old.writes(), new.writes()), (0, 0));
         }
     }
     Ok(())
@@ -211,7 +210,7 @@ fn refuses_what_cannot_be_upgraded(rt: HostRuntime) -> Result<(), Fail> {
 fn stopped_upgrades_leave_no_mark_or_a_whole_store_and_faults_name_their_device(
     rt: HostRuntime,
 ) -> Result<(), Fail> {
-    for row in rows() {
+    for row in ROWS {
         let whole = upgraded(rt.alloc(), &row, UNARMED, None)?;
         let last = row.new_writes;
         // Of layout 3, whose images are large, each page is stopped at its first sector and at its last.
@@ -225,7 +224,13 @@ fn stopped_upgrades_leave_no_mark_or_a_whole_store_and_faults_name_their_device(
             };
             let fault = Some(UpgradeFault::NewDevice);
             let stopped = upgraded(rt.alloc(), &row, armed, fault)?;
-            check_left(rt.alloc(), &stopped, write == last, &whole, row.mark)?;
+            check_left(
+                rt.alloc(),
+                &stopped,
+                write == last,
+                &whole,
+                repeated(row.mark),
+            )?;
         }
         let calls = row.new_calls.max(row.old_calls).min(100);
         for call in 1..calls + 1 {

@@ -3,8 +3,7 @@ use Rattle.std.proofs.Common.{◌≡◌, ◌≢◌, ℕ, ◌+◌, ◌-◌, ◌<�
 use Rattle.std.proofs.lemmas.Bool.{cases_eq, cases_lt, false≢true}
 use Rattle.std.proofs.lemmas.List.{get_or-set_same, get_or-set_other, length-set, get_or-take, length-take-le, length_push, get_or_push, get_or_append_left, get_or-replicate, length-replicate, get_or_past}
 use Rattle.vm_types.specs.Counting.{count_below}
-use Rattle.swap.specs.Counts.{count_at, free_count, IsStack, AreSoundCounts}
-use Rattle.swap.proofs.Counting.{same, every, one_less, at_most, not_all, none, none_pass}
+use Rattle.swap.{specs.Counts.{count_at, free_count, IsStack, AreSoundCounts}, proofs.Counting.{same, every, one_less, at_most, not_all, none, none_pass}}
 
 positive : (c : ℕ) → (c == 0) ≡ false → 0 < c
 positive c fails = elim (cases_eq c 0) [
@@ -121,13 +120,6 @@ stack_taken counts stack n v some is positive stacked = record {
 
     kept : (k : ℕ) → k < length stack - 1 → get_or (take (length stack - 1) stack) k 0 ≡ get_or stack k 0
     kept k lt = get_or-take (length stack - 1) stack k 0 lt
-
--- what is below the top
-pub top_is_free : (counts stack : List ℕ) (n : ℕ) → 0 < length stack → n ≡ get_or stack (length stack - 1) 0 → IsStack counts stack → (n < length counts) × (count_at counts n ≡ 0)
-top_is_free counts stack n some is stacked =
-    let here = stacked.free (length stack - 1) (omega (arith, some)) in
-    let low = here.0 in
-    (omega (arith, low, is), ap (count_at counts) is ∙ here.1)
 
 -- a slot lost its last share
 pub stack_freed : (counts stack : List ℕ) (n : ℕ) → n < length counts → 0 < count_at counts n → IsStack counts stack → IsStack (set counts n 0) (stack ++ n ∷ [])

@@ -1,10 +1,8 @@
 -- Which sectors the parts of a commit and of a recovery ask for.
-use Rattle.std.proofs.{Common.{◌≡◌, ◌⊎◌, ◌<◌, ◌≤◌, ◌+◌, ◌*◌, ℕ, true, List, [], length, inl, inr, ⊎_elim, refl, sym, subst, arith}, lemmas.Bool.{cases_eq}}
-use Rattle.disk_model.specs.{Stop.{Image, Names, NamesOnce}, Moments.{AsksOnly}, declared.sector_disk.SectorDisk.{Ghosts}}
-use Rattle.disk_model.proofs.{Moments.{asks_named, asks_once, asks_then}, Naming.{once_named, once_apart}}
+use Rattle.sync_journal.proofs.Names.{◌≡◌, ◌⊎◌, ◌<◌, ◌≤◌, ◌+◌, ◌*◌, ℕ, true, List, [], length, inl, inr, ⊎_elim, refl, sym, subst, arith, cases_eq, Image, Names, NamesOnce, AsksOnly, Ghosts, asks_named, asks_once, asks_then, once_named}
+use Rattle.sync_journal.proofs.Names.{once_apart}
 use Rattle.sync_journal.specs.Layout.{page_limit, gate_sector, map_sector, first_body_sector, first_home_sector, body_sector, home_sector, IsPageSector, IsGate, IsFilledAt, IsStagedAt, IsStaged, IsOpened, IsFinished, IsCommitted}
-use Rattle.sync_journal.specs.{Gate.{is_open}, Standing.{IsOpenFor, IsAskedIn, IsCopyFrom}, Commit.{AsksInTwo}}
-use Rattle.sync_journal.proofs.Copies.{in_copied}
+use Rattle.sync_journal.{specs.{Gate.{is_open}, Standing.{IsOpenFor, IsAskedIn, IsCopyFrom}, Commit.{AsksInTwo}}, proofs.Copies.{in_copied}}
 
 -- Over how often each sector had been asked for, at three moments.
 module _ (before mid now : ℕ → ℕ) where

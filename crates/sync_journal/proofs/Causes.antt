@@ -1,10 +1,8 @@
 -- Which fault a commit tells, and what a source was asked for.
-use Rattle.std.proofs.Common.{◌≡◌, ◌<◌, ℕ, Result, Ok, Err, refl, ap, sym, subst, ◌∙◌, arith}
-use Rattle.std.specs.Prelude.{IsErr, IsErrAnd, IsErrOf}
+use Rattle.sync_journal.proofs.Names.{◌≡◌, ◌<◌, ℕ, Result, Ok, Err, refl, ap, sym, subst, ◌∙◌, arith, IsErr, IsErrAnd, IsErrOf, Image, LeavesOnly}
 use Rattle.sync_journal.specs.{Source.{Asks, HasCauses}, declared.faults.CommitFault.{CommitFault}, declared.faults.CommitFault.TheVariants.{Source, Device}, declared.source.PageSource.{Ghosts}, Committing.{PutsPages}, Runs.{RunsOnDevice}}
 use Rattle.sync_journal.specs.{Steps.{BlamesJournal}, declared.faults.RecoverFault.{RecoverFault}}
 use Rattle.disk_model.specs.declared.sector_disk.SectorDisk.{Ghosts as DiskGhosts}
-use Rattle.disk_model.specs.{Stop.{Image}, Moments.{LeavesOnly}}
 use Rattle.sync_journal.specs.declared.faults.RecoverFault.TheVariants.{Device as DeviceFailed, BadJournal}
 
 -- nothing was asked for

@@ -1,6 +1,5 @@
 -- What a commit changes, and what a closed gate means: for those who call a commit.
-use Rattle.std.proofs.Common.{◌≡◌, ℕ, true, false, sym, ◌∙◌}
-use Rattle.disk_model.specs.Stop.{Image}
+use Rattle.sync_journal.proofs.Names.{◌≡◌, ℕ, true, false, sym, ◌∙◌, Image}
 use Rattle.sync_journal.specs.{Gate.{is_open}, Standing.{IsBadSingle}}
 
 -- the journal after a closed gate isn't bad

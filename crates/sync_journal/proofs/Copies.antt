@@ -1,7 +1,5 @@
 -- The pages of a body copied to their homes, one after the other.
-use Rattle.std.proofs.{Common.{◌≡◌, ◌≢◌, ◌⊎◌, ◌<◌, ◌≤◌, ◌+◌, ◌*◌, ℕ, List, [], length, get_or, None, inl, inr, sym, ap, subst, ◌∙◌, ⊎_elim, arith}, lemmas.Bool.{cases_eq, cases_lt}}
-use Rattle.disk_model.specs.{Stop.{NamesOnce}, Moments.{Touches}, declared.sector_disk.SectorDisk.{Ghosts}}
-use Rattle.disk_model.proofs.Naming.{once_apart, once_wider}
+use Rattle.sync_journal.proofs.Names.{◌≡◌, ◌≢◌, ◌⊎◌, ◌<◌, ◌≤◌, ◌+◌, ◌*◌, ℕ, List, [], length, get_or, None, inl, inr, sym, ap, subst, ◌∙◌, ⊎_elim, arith, cases_eq, cases_lt, NamesOnce, Touches, Ghosts, once_apart, once_wider}
 use Rattle.sync_journal.specs.{Layout.{page_limit, first_body_sector, first_home_sector, IsPageSector, IsHomeFrom, IsCopied}, Map.{AreHomes, home_rank}, Runs.{RunsOnDevice}, Standing.{IsCopyFrom, AreCopiedFrom}}
 use Rattle.sync_journal.proofs.Runs.{one_more, of_more}
 

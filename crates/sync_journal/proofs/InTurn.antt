@@ -1,13 +1,10 @@
 -- Two journals in turn: what images stand for, and the moments of a commit.
-use Rattle.std.proofs.{Common.{◌≡◌, ◌⊎◌, ◌≤◌, ◌<◌, ◌+◌, ℕ, Bool, true, false, not, List, [], length, take, get_or, Option, Some, None, refl, sym, ap, subst, ◌∙◌, ⊎_elim, inl, inr, arith}, lemmas.Bool.{cases_lt}}
-use Rattle.std.proofs.lemmas.List.{length-take-le, get_or-take}
-use Rattle.disk_model.specs.{Stop.{Image, MayLeave}, Moments.{Touches, LeavesOnly, Nothing}, Sectors.{part_of, joined}, declared.sector_disk.SectorDisk.{Ghosts}}
-use Rattle.disk_model.proofs.Moments.{started, goes_on, weaker, wider, then, joined as joins}
-use Rattle.disk_model.proofs.Pieces.{joined-same, joined_parts}
+use Rattle.sync_journal.proofs.Names.{◌≡◌, ◌⊎◌, ◌≤◌, ◌<◌, ◌+◌, ℕ, Bool, true, false, not, List, [], length, take, get_or, Option, Some, None, refl, sym, ap, subst, ◌∙◌, ⊎_elim, inl, inr, arith, cases_lt, length-take-le, get_or-take, Image}
+use Rattle.sync_journal.proofs.Names.{MayLeave, Touches, LeavesOnly, Nothing, part_of, joined, Ghosts, started, goes_on, weaker, wider, then, joined-same, joined_parts}
 use Rattle.sync_journal.specs.{Gate.{is_open_sector}, Map.{map_bytes, place_among, home_rank, map_count, home_in, AreHomes, IsBadMap}, Commit.{sector_or, changed}}
 use Rattle.sync_journal.specs.Turns.{turn_gate, turn_homes, start_of, turn_body, turn_home, turn_home_count, named_in, turn_map, map_rank, turn_stands, stands_under, turn_standing, IsBadUnder, IsBadTurn, IsTurnSector, IsTurnGate, IsGateBlock, IsTurnHome, IsTurnStaged, IsTurnOutside, TurnStandsFor, TurnStandsForEither, IsTurnKept, TurnsStandAs, HoldsJournal, AreCopiedBut, KeepsTurns, IsTurnRest, IsTurnSettled}
 use Rattle.sync_journal.specs.{Layout.{IsPageSector}, Blocks.{IsSameBlock, LeavesInBlocks, CommitsInBlocks, RecoversInBlocks}}
-use Rattle.sync_journal.proofs.{Maps.{counted, named}, Images.{Means, no_place, place_means, place_same}, Phases.{not_bad}}
+use Rattle.sync_journal.proofs.{Maps.{counted, named}, Images.{Means, no_place, place_means, place_same}, Phases.{not_bad}, Sectors.{so_since}}
 
 -- where the journals lie
 pub start_low : (b : Bool) → 24 ≤ start_of b
@@ -425,48 +422,10 @@ pub turn_since : {D : Type 0} (g : Ghosts D) (old new : D) (first : Image) → T
 turn_since g old new first was run = weaker g old new (TurnsStandAs (g.sector_count old) (g.content old)) (TurnsStandAs (g.sector_count old) first)
     (λ image kept. turn_again (g.sector_count old) first (g.content old) image was kept) run
 
--- A recovery: a sync and a look, and then copies.
-module _ {D : Type 0} (g : Ghosts D) (old read new : D) (reads : Touches g Nothing old read) where
-  pub same_read : g.content read ≡ g.content old
-  same_read = λ t k. ⊎_elim {C = g.content read k ≡ g.content old k} (λ none. absurd none) (λ e. e) (reads.content k) t
-
-  pub while_looking : ((image : Image) → g.left_since old (g.moment old) image → MayLeave (g.content old) (g.unsynced old) image)
-      → ((k : ℕ) → g.unsynced old k → ⊥) → KeepsTurns g old read
-  while_looking only_now synced = goes_on g Nothing old old read P (started g old P only_now (λ image may. all image (λ k. ⊎_elim (λ u. absurd (synced k u)) (λ e. e) (may.kept k))))
-      reads (λ image may. all image (λ k. ⊎_elim (⊎_elim (λ u. absurd (synced k u)) (λ none. absurd none)) (λ e. e) (may.kept k)))
-    where
-      P : Image → Type 0
-      P = TurnsStandAs (g.sector_count old) (g.content old)
-
-      all : (image : Image) → ((k : ℕ) → image k ≡ g.content old k) → P image
-      all image same = turn_same (g.sector_count old) (g.content old) image (λ t k. same k t)
-
-  pub while_copying : g.sector_count read ≡ g.sector_count old → KeepsTurns g old read → KeepsTurns g read new → KeepsTurns g old new
-  while_copying size first second = joins g old read new (TurnsStandAs (g.sector_count old) (g.content old)) first
-      (subst (λ sectors. LeavesOnly g read new (TurnsStandAs sectors (g.content old))) size
-      (subst (λ content. LeavesOnly g read new (TurnsStandAs (g.sector_count read) content)) same_read second))
-
-  pub blocks_since : (second : Bool) (live : List ℕ) → g.sector_count read ≡ g.sector_count old
-      → CommitsInBlocks g second live (TurnsStandAs (g.sector_count read) (g.content read)) read new
-      → CommitsInBlocks g second live (TurnsStandAs (g.sector_count old) (g.content old)) read new
-  blocks_since second live size here =
-      subst (λ sectors. CommitsInBlocks g second live (TurnsStandAs sectors (g.content old)) read new) size
-      (subst (λ content. CommitsInBlocks g second live (TurnsStandAs (g.sector_count read) content) read new) same_read here)
-
-  pub recovered : (second : Bool) → g.sector_count read ≡ g.sector_count old → IsTurnSettled g (g.sector_count read) (g.content read) second [] new (turn_standing (g.content read))
-      → IsTurnSettled g (g.sector_count old) (g.content old) second [] new (turn_standing (g.content old))
-  recovered second size here =
-      subst (λ sectors. IsTurnSettled g sectors (g.content old) second [] new (turn_standing (g.content old))) size
-      (subst (λ content. IsTurnSettled g (g.sector_count read) content second [] new (turn_standing content)) same_read here)
-
-  -- the journal is as bad as it was
-  pub bad_before : g.sector_count read ≡ g.sector_count old → IsBadTurn (g.sector_count read) (g.content read) → IsBadTurn (g.sector_count old) (g.content old)
-  bad_before size bad = subst (λ sectors. IsBadTurn sectors (g.content old)) size (subst (λ content. IsBadTurn (g.sector_count read) content) same_read bad)
-
-  pub good_before : (second : Bool) (live : List ℕ) → g.sector_count read ≡ g.sector_count old → IsTurnRest g second live read → IsBadTurn (g.sector_count old) (g.content old) → ⊥
-  good_before second live size rest bad = rest.good
-      (subst (λ b. IsBadUnder b (g.sector_count read) (g.content read)) rest.gate
-      (subst (λ sectors. IsBadTurn sectors (g.content read)) (sym size) (subst (λ content. IsBadTurn (g.sector_count old) content) (sym same_read) bad)))
+-- the journal that is named is good, and was
+pub good_before : {D : Type 0} (g : Ghosts D) (old read : D) → Touches g Nothing old read → (second : Bool) (live : List ℕ) → g.sector_count read ≡ g.sector_count old
+    → IsTurnRest g second live read → IsBadTurn (g.sector_count old) (g.content old) → ⊥
+good_before g old read reads second live size rest bad = rest.good (subst (λ b. IsBadUnder b (g.sector_count read) (g.content read)) rest.gate (so_since g old read reads IsBadTurn size bad))
 
 -- a commit of no pages changes nothing
 pub changed_none : (before : ℕ → ℕ → List ℕ) (pages : ℕ → List ℕ) (h i : ℕ) → changed before [] pages h i ≡ before h i

@@ -1,11 +1,7 @@
 -- A recovery in the words of a layout is one in the words of both.
-use Rattle.std.proofs.{Common.{◌≡◌, ℕ, Result, Ok, Err, OnOk, OnErr, sym, subst}, lemmas.Result.{on_ok_weaker}}
-use Rattle.std.specs.Prelude.{IsErrAnd, IsErrOf}
-use Rattle.disk_model.specs.{Stop.{Image}, Moments.{AsksOnly, Touches}, declared.sector_disk.SectorDisk.{Ghosts}}
-use Rattle.disk_model.proofs.Moments.{weaker}
+use Rattle.sync_journal.proofs.Names.{◌≡◌, ℕ, Result, Ok, Err, OnOk, OnErr, sym, subst, on_ok_weaker, IsErrAnd, IsErrOf, Image, AsksOnly, Touches, Ghosts, weaker}
 use Rattle.sync_journal.specs.{Kinds.{kind_of, IsKindAsked, IsKindBad, IsKindClosed, IsKindRecovered, IsBadStore, IsStoreAsked, IsStoreClosed, IsStoreRecovered, KeepsStore, StoreStandsAs}, Recovering.{RecoversBy}}
-use Rattle.sync_journal.specs.{declared.faults.RecoverFault.{RecoverFault}, declared.store_journal.Journals.{Journals}, declared.store_journal.StoreJournal.{StoreJournal}}
-use Rattle.sync_journal.proofs.{InKinds.{store_since}, Causes.{told_was}}
+use Rattle.sync_journal.{specs.{declared.faults.RecoverFault.{RecoverFault}, declared.store_journal.Journals.{Journals}, declared.store_journal.StoreJournal.{StoreJournal}}, proofs.{InKinds.{store_since}, Causes.{told_was}}}
 
 -- a fault is handed on as it is
 abbrev pub HandsOn : {S T : Type 0} → Result S RecoverFault → Result T RecoverFault → Type 0

@@ -1,3 +1,4 @@
+mod Names
 pub mod Asking
 pub mod Changes
 pub mod Copies

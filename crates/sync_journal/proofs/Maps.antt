@@ -1,11 +1,6 @@
 -- The journal map as bytes.
-use Rattle.std.proofs.Common.{◌≡◌, ◌⊎◌, ◌≤◌, ◌<◌, ◌+◌, ◌-◌, ◌*◌, ◌^◌, ℕ, zero, suc, List, [], ◌∷◌, ◌++◌, length, take, drop, get_or, replicate, refl, sym, ap, ◌∙◌, ⊎_elim, inl, inr, arith, drop-drop, lit<}
-use Rattle.std.proofs.lemmas.List.{get_or-take, get_or-drop, drop-replicate}
-use Rattle.std.specs.List.{flat_map}
-use Rattle.byteorder.specs.{Endian.{little_number, little_bytes}, Numbers.{little_number-reads_back}}
-use borrow.Rule.Slice.PartMut.{put_mid}
-use Rattle.disk_model.specs.{Stop.{Image}, Sectors.{joined, part_of}}
-use Rattle.disk_model.proofs.Pieces.{joined-same, joined_parts}
+use Rattle.sync_journal.proofs.Names.{◌≡◌, ◌⊎◌, ◌≤◌, ◌<◌, ◌+◌, ◌-◌, ◌*◌, ◌^◌, ℕ, zero, suc, List, [], ◌∷◌, ◌++◌, length, take, drop, get_or, replicate, refl, sym, ap, ◌∙◌, ⊎_elim, inl, inr, arith, drop-drop, lit<, get_or-take, get_or-drop}
+use Rattle.sync_journal.proofs.Names.{drop-replicate, flat_map, little_number, little_bytes, little_number-reads_back, put_mid, Image, joined, part_of, joined-same, joined_parts}
 use Rattle.sync_journal.specs.{Layout.{layout_1, map_sector, first_body_sector}, Standing.{map_at, map_in, map_of}, Map.{map_count, home_in, map_bytes, HasNoHome, HasHomeTwice, IsBadMap}}
 
 -- the map of layout 1 is one sector

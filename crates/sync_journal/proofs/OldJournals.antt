@@ -1,7 +1,6 @@
 -- What gate and map of a store of the layout before say.
-use Rattle.std.proofs.{Common.{◌≡◌, ◌≤◌, ◌<◌, ◌+◌, ℕ, true, false, List, [], ◌++◌, length, take, get_or, Option, Some, None, sym, ap, subst, ◌∙◌, arith}, lemmas.List.{length-take-le, get_or-take, take-append-le, get_or_append_left}}
-use Rattle.std.specs.Prelude.{MatchOption}
-use Rattle.disk_model.specs.Stop.{Image}
+use Rattle.sync_journal.proofs.Names.{◌≡◌, ◌≤◌, ◌<◌, ◌+◌, ℕ, true, false, List, [], ◌++◌, length, take, get_or, Option, Some, None, sym, ap, subst, ◌∙◌, arith, length-take-le, get_or-take, take-append-le, get_or_append_left, MatchOption}
+use Rattle.sync_journal.proofs.Names.{Image}
 use Rattle.sync_journal.specs.{Layout.{Layout, layout_before, home_count_in}, declared.store_journal.Journals.{Journals}, declared.store_journal.Journals.TheVariants.{Single, Paired}, Gate.{is_open}}
 use Rattle.sync_journal.specs.{Map.{home_rank, map_count, home_in, IsBadMap, AreFewHomes, AreNamed, ReadsMap}, Standing.{place_or_home_in, standing_in, map_in, IsBadJournalIn, IsOpenIn}, OldJournal.{StandsAsListed}}
 use Rattle.sync_journal.proofs.{Images.{no_place, closed_place, open_place}, Phases.{not_bad}}

@@ -1,13 +1,11 @@
 -- A recovery of one journal: a sync, a look at gate and map, and a replay.
-use Rattle.std.proofs.{Common.{◌≡◌, ℕ, true, false, List, [], ⊎_elim, if◌then◌else◌, Result, Ok, Err, OnOk, sym, ap, subst, ◌∙◌, arith}, lemmas.Result.{on_ok_weaker}}
-use Rattle.std.specs.Prelude.{IsErr, IsErrOf}
-use Rattle.disk_model.specs.{Stop.{Image, MayLeave}, Moments.{AsksOnly, Nothing}, declared.sector_disk.DiskFault.{DiskFault}, declared.sector_disk.SectorDisk.{Ghosts}}
-use Rattle.disk_model.proofs.Moments.{then as and_then, asks_none, asks_then}
+use Rattle.sync_journal.proofs.Names.{◌≡◌, ℕ, true, false, List, [], ⊎_elim, if◌then◌else◌, Result, Ok, Err, OnOk, refl, sym, ap, subst, ◌∙◌, arith, on_ok_weaker, IsErr, IsErrOf, Image, MayLeave, AsksOnly, Nothing, LeavesOnly, DiskFault}
+use Rattle.sync_journal.proofs.Names.{Ghosts}
+use Rattle.disk_model.proofs.Moments.{then as and_then, joined, asks_none, asks_then}
 use Rattle.sync_journal.specs.{Layout.{gate_sector, home_count, IsFinished, IsJournalSector, IsRecovered, IsReplayed}, Gate.{closed_gate, closed_sector, is_open}, Map.{AreHomes}, Runs.{RunsOnDevice}}
 use Rattle.sync_journal.specs.{Standing.{map_of, standing_single, IsAskedIn, IsBadSingle, IsOpenFor}, Commit.{HomesStandAs, KeepsHomes, IsSettled}, Steps.{BlamesJournal, MovesHome}, Recovering.{RecoversOne}}
-use Rattle.sync_journal.specs.{declared.faults.RecoverFault.{RecoverFault}, declared.faults.RecoverFault.TheVariants.{BadJournal}}
-use Rattle.sync_journal.proofs.{Asking.{replay_asks}, Runs.{one_more, of_more, read_only, replayed}, Changes.{closed_not_bad}, InTurn.{none_are}, Phases.{not_bad, staged_settled}, Replays.{if_ok}}
-use Rattle.sync_journal.proofs.Recoveries.{read_same, while_reading, while_replaying, settled_since, bad_since, bad_still, since_first}
+use Rattle.sync_journal.{specs.{declared.faults.RecoverFault.{RecoverFault}, declared.faults.RecoverFault.TheVariants.{BadJournal}}, proofs.{Asking.{replay_asks}, Runs.{one_more, of_more, read_only, replayed}, Changes.{closed_not_bad}}}
+use Rattle.sync_journal.proofs.{InTurn.{none_are}, Phases.{not_bad, staged_settled}, Replays.{if_ok}, Recoveries.{same_kept, since_first}, Sectors.{same_image, while_read, so_before, so_since}}
 
 module _ {D : Type 0} (g : Ghosts D) (old read : D) (only_now : g.keeps_model old → (image : Image) → g.left_since old (g.moment old) image → MayLeave (g.content old) (g.unsynced old) image)
     (looks : RunsOnDevice g Nothing old read) where
@@ -15,7 +13,12 @@ module _ {D : Type 0} (g : Ghosts D) (old read : D) (only_now : g.keeps_model ol
   read_run = of_more g Nothing (IsRecovered (g.sector_count old)) old read (λ k none. absurd none) looks
 
   looking : g.keeps_model read → ((k : ℕ) → g.unsynced old k → ⊥) → KeepsHomes g old read
-  looking keeps still = while_reading g old read read (looks.touches keeps) (only_now (looks.kept keeps)) still
+  looking keeps still = while_read g old read (looks.touches keeps) (HomesStandAs (g.sector_count old) (g.content old)) (same_kept (g.sector_count old) (g.content old) (g.content old) refl) (only_now (looks.kept keeps)) still
+
+  -- and then what was read is recovered
+  looked_then : (new : D) → (g.keeps_model new → g.keeps_model read) → g.keeps_model new → ((k : ℕ) → g.unsynced old k → ⊥) → KeepsHomes g read new → KeepsHomes g old new
+  looked_then new kept keeps still run = joined g old read new (HomesStandAs (g.sector_count old) (g.content old)) (looking (kept keeps) still)
+      (so_before g old read (looks.touches (kept keeps)) (λ n image. LeavesOnly g read new (HomesStandAs n image)) looks.size run)
 
   -- where nothing but gate and map is read
   pub looked : (result : Result (Unit {0}) RecoverFault) → IsErr result → (g.keeps_model read → AsksOnly g (IsAskedIn (g.content old)) old read) → BlamesJournal g old read result
@@ -54,7 +57,7 @@ module _ {D : Type 0} (g : Ghosts D) (old read : D) (only_now : g.keeps_model ol
       good = λ keeps bad. closed_not_bad (g.sector_count old) (g.content old) (shut keeps) bad;
       bad = λ keeps is. cc;
     };
-    gate = λ keeps. ap (λ (image : Image). image gate_sector) (read_same g old read read (looks.touches keeps))
+    gate = λ keeps. ap (λ (image : Image). image gate_sector) (same_image g old read (looks.touches keeps))
         ∙ ap (λ b. if b then closed_sector else (g.content old gate_sector)) (sym (shut keeps));
   }
 
@@ -63,8 +66,7 @@ module _ {D : Type 0} (g : Ghosts D) (old read : D) (only_now : g.keeps_model ol
       (e : MovesHome g (IsReplayed homes) (IsFinished homes) (HomesStandAs (g.sector_count read) (g.content read))
       (IsSettled g (g.sector_count read) (g.content read) [] new (standing_single (g.content read))) read new r) where
     replaying : g.keeps_model new → ((k : ℕ) → g.unsynced old k → ⊥) → KeepsHomes g old new
-    replaying keeps still = while_replaying g old read new (looks.touches (e.kept keeps)) looks.size
-        (while_reading g old read new (looks.touches (e.kept keeps)) (only_now (looks.kept (e.kept keeps))) still) (e.any_moment keeps)
+    replaying keeps still = looked_then new e.kept keeps still (e.any_moment keeps)
 
     good_there : g.keeps_model new → IsBadSingle (g.sector_count old) (g.content old) → ⊥
     good_there keeps bad = let names = opened (e.kept keeps) in not_bad 1023 (home_count (g.sector_count old)) homes (map_of (g.content old)) are names.count names.each bad.map
@@ -101,7 +103,7 @@ module _ {D : Type 0} (g : Ghosts D) (old read : D) (only_now : g.keeps_model ol
     pub after_sync : (result : Result (Unit {0}) RecoverFault) → RecoversOne g read new result → RecoversOne g old new result
     after_sync result e = record {
       recovers = record {
-        ok = λ keeps. on_ok_weaker result (λ settled. settled_since g old read new (looks.touches (e.kept keeps)) looks.size settled) (e.ok keeps);
+        ok = λ keeps. on_ok_weaker result (λ settled. so_before g old read (looks.touches (e.kept keeps)) (λ n image. IsSettled g n image [] new (standing_single image)) looks.size settled) (e.ok keeps);
         synced = e.synced;
         stays = record { any_moment = moments; in_a_row = λ keeps still first was. since_first g old new first was (moments keeps still) };
         run = one_more g (IsRecovered (g.sector_count old)) old read new read_run (subst (λ n. RunsOnDevice g (IsRecovered n) read new) looks.size e.run);
@@ -115,14 +117,13 @@ module _ {D : Type 0} (g : Ghosts D) (old read : D) (only_now : g.keeps_model ol
           still = λ is. e.still is ∙ calm;
         };
         good = λ keeps. on_ok_weaker result (λ good bad. good (still_bad keeps bad)) (e.good keeps);
-        bad = λ keeps is. bad_since g old read read (looks.touches (e.kept keeps)) looks.size (e.bad keeps is);
+        bad = λ keeps is. so_before g old read (looks.touches (e.kept keeps)) IsBadSingle looks.size (e.bad keeps is);
       };
       gate = λ keeps. on_ok_weaker result (λ at. at ∙ ap (λ (image : Image). closed_gate image) (same (e.kept keeps))) (e.gate keeps);
     }
       where
         moments : g.keeps_model new → ((k : ℕ) → g.unsynced old k → ⊥) → KeepsHomes g old new
-        moments keeps still = while_replaying g old read new (looks.touches (e.kept keeps)) looks.size
-            (while_reading g old read new (looks.touches (e.kept keeps)) (only_now (looks.kept (e.kept keeps))) still) (e.any_moment keeps (clean (e.kept keeps)))
+        moments keeps still = looked_then new e.kept keeps still (e.any_moment keeps (clean (e.kept keeps)))
 
         still_bad : g.keeps_model new → IsBadSingle (g.sector_count old) (g.content old) → IsBadSingle (g.sector_count read) (g.content read)
-        still_bad keeps bad = bad_still g old read read (looks.touches (e.kept keeps)) looks.size bad
+        still_bad keeps bad = so_since g old read (looks.touches (e.kept keeps)) IsBadSingle looks.size bad

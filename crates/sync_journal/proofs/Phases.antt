@@ -1,7 +1,6 @@
 -- The moments of a commit's own part: the pages and the map staged, and the gate opened.
-use Rattle.std.proofs.Common.{◌≡◌, ◌≢◌, ◌⊎◌, ◌≤◌, ◌<◌, ◌+◌, ◌^◌, ℕ, true, false, List, [], length, get_or, Option, Some, None, refl, sym, ap, ◌∙◌, ⊎_elim, inl, inr, arith}
-use Rattle.disk_model.specs.{Stop.{Image, MayLeave}, Moments.{Touches, LeavesOnly}, declared.sector_disk.SectorDisk.{Ghosts}}
-use Rattle.disk_model.proofs.Moments.{started, goes_on, weaker}
+use Rattle.sync_journal.proofs.Names.{◌≡◌, ◌≢◌, ◌⊎◌, ◌≤◌, ◌<◌, ◌+◌, ◌^◌, ℕ, true, false, List, [], length, get_or, Option, Some, None, refl, sym, ap, ◌∙◌, ⊎_elim, inl, inr, arith, Image, MayLeave, Touches, LeavesOnly, Ghosts, started}
+use Rattle.sync_journal.proofs.Names.{goes_on, weaker}
 use Rattle.sync_journal.specs.{Layout.{gate_sector, home_sector, body_sector, home_count, IsGate, IsJournalSector, IsOutside}, Gate.{is_open, is_open_sector}, Map.{map_bytes, home_rank, map_count, home_in, AreFewHomes, AreHomes, IsBadMap}}
 use Rattle.sync_journal.specs.{Standing.{place_or_home, map_of, standing_single, StandsForPages, IsOpenFor, HoldsPages}, Commit.{sector_or, changed, StandsForEitherPages, IsKept, IsQuiet, IsLive, IsSettled}}
 use Rattle.sync_journal.proofs.{Maps.{counted, named, same_map}, Images.{Means, place_means, standing_closed, standing_open}, Replays.{open_or_closed}, Rests.{live_at_rest}}

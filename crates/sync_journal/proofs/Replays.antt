@@ -1,10 +1,7 @@
 -- The moments of a replay.
-use Rattle.std.proofs.Common.{Result, Ok, Err, OnOk, ◌≡◌, ◌≢◌, ◌⊎◌, ◌+◌, ℕ, Bool, true, false, List, [], length, get_or, refl, ap, ◌∙◌, ⊎_elim, inl, inr, arith}
-use Rattle.disk_model.specs.{Stop.{Image, MayLeave}, Moments.{Touches, LeavesOnly}, declared.sector_disk.SectorDisk.{Ghosts}}
-use Rattle.disk_model.proofs.Moments.{started, goes_on}
+use Rattle.sync_journal.proofs.Names.{Result, Ok, Err, OnOk, ◌≡◌, ◌≢◌, ◌⊎◌, ◌+◌, ℕ, Bool, true, false, List, [], length, get_or, refl, ap, ◌∙◌, ⊎_elim, inl, inr, arith, Image, MayLeave, Touches, LeavesOnly, Ghosts, started, goes_on}
 use Rattle.sync_journal.specs.{Layout.{gate_sector, first_body_sector, first_home_sector, home_sector, home_count, IsGate, IsHomeSector}, Gate.{is_open, is_open_sector}, Map.{AreHomes}}
-use Rattle.sync_journal.specs.{Standing.{standing_single, StandsForPages, IsOpenFor, AreCopiedFrom}, Commit.{IsKept, IsSettled}}
-use Rattle.sync_journal.proofs.Images.{open_kept, closed_kept}
+use Rattle.sync_journal.{specs.{Standing.{standing_single, StandsForPages, IsOpenFor, AreCopiedFrom}, Commit.{IsKept, IsSettled}}, proofs.Images.{open_kept, closed_kept}}
 
 -- a gate is open or closed
 pub open_or_closed : (image : Image) → (is_open image ≡ true) ⊎ (is_open image ≡ false)

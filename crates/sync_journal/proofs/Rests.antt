@@ -1,9 +1,7 @@
 -- What a device holds between two commits.
-use Rattle.std.proofs.Common.{◌≡◌, ◌<◌, ◌+◌, ℕ, List, [], ◌∷◌, length, take, get_or, sym, ap, subst, ◌∙◌, ⊎_elim, arith}
-use Rattle.disk_model.specs.{declared.sector_disk.SectorDisk.{Ghosts}, Stop.{Image}, Moments.{Touches, Nothing}, Sectors.{joined}}
+use Rattle.sync_journal.proofs.Names.{◌≡◌, ◌<◌, ◌+◌, ℕ, List, [], ◌∷◌, length, take, get_or, sym, ap, subst, ◌∙◌, arith, Ghosts, Image, Touches, Nothing, joined, joined-same}
 use Rattle.sync_journal.specs.{Map.{home_rank}, Standing.{standing_single, place_or_home, IsOpenFor}, Gate.{is_open}, Commit.{IsQuiet, IsLive, IsAtRest}, Journal.{live_homes}, declared.journal.Journal.{Journal}}
-use Rattle.sync_journal.proofs.{Sectors.{same_content}, Images.{no_place, standing_closed, standing_open}}
-use Rattle.disk_model.proofs.Pieces.{joined-same}
+use Rattle.sync_journal.proofs.{Sectors.{same_image, reads_unsynced}, Images.{no_place, standing_closed, standing_open}}
 
 -- a journal of no pages is not live
 pub none_live : (journal : Journal) → journal.count ≡ 0 → live_homes journal ≡ []
@@ -19,17 +17,14 @@ module _ {D : Type 0} (g : Ghosts D) where
 
   -- reading leaves what is at rest
   pub rest_read : (homes : List ℕ) (old new : D) → Touches g Nothing old new → IsAtRest g homes old → IsAtRest g homes new
-  rest_read homes old new run rest = cases homes rest
-    where
-      same : g.content new ≡ g.content old
-      same = λ t k. same_content g old new run k t
-
-      unsynced : (k : ℕ) → g.unsynced new k → g.unsynced old k
-      unsynced k u = ⊎_elim (λ before. before) (λ none. absurd none) (run.unsynced k u)
-
-      cases : (live : List ℕ) → IsAtRest g live old → IsAtRest g live new
-      cases [] quiet = record { closed = ap (λ (image : Image). is_open image) same ∙ quiet.closed; synced = λ k u. quiet.synced k (unsynced k u) }
-      cases (home ∷ more) live = record { opened = subst (IsOpenFor (home ∷ more)) (sym same) live.opened; synced = λ k u. live.synced k (unsynced k u) }
+  rest_read [] old new run quiet = record {
+    closed = ap (λ (image : Image). is_open image) (same_image g old new run) ∙ quiet.closed;
+    synced = λ k u. quiet.synced k (reads_unsynced g old new run k u);
+  }
+  rest_read (home ∷ more) old new run live = record {
+    opened = subst (IsOpenFor (home ∷ more)) (sym (same_image g old new run)) live.opened;
+    synced = λ k u. live.synced k (reads_unsynced g old new run k u);
+  }
 
   -- where a home page stands: in the body where the journal is live with it
   pub standing_rest : (homes : List ℕ) (d : D) (h i : ℕ) → IsAtRest g homes d → standing_single (g.content d) h i ≡ g.content d (place_or_home h (home_rank homes h) + i)

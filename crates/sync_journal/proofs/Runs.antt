@@ -1,7 +1,5 @@
 -- How runs of device calls go on.
-use Rattle.std.proofs.Common.{◌≡◌, ◌⊎◌, ◌≤◌, ◌<◌, ◌+◌, ℕ, List, get_or, ◌∙◌, inl, inr, ⊎_elim, arith}
-use Rattle.disk_model.specs.{Moments.{Touches, Nothing}, Stop.{ChangesPage, IsOfPage, Elapses}, declared.sector_disk.SectorDisk.{Ghosts}}
-use Rattle.disk_model.proofs.Moments.{wider, then, after_page, after_none}
+use Rattle.sync_journal.proofs.Names.{◌≡◌, ◌⊎◌, ◌≤◌, ◌<◌, ◌+◌, ℕ, List, get_or, ◌∙◌, inl, inr, ⊎_elim, arith, Touches, Nothing, ChangesPage, IsOfPage, Elapses, Ghosts, wider, then, after_page, after_none}
 use Rattle.sync_journal.specs.{Layout.{IsGate, IsJournalSector, IsReplayed, IsPublished, IsCommitted, IsRecovered, home_count, home_sector}, Map.{AreHomes}, Runs.{RunsOnDevice}}
 
 home_ends : (count h k : ℕ) → h < count → k < home_sector h + 8 → k < home_sector count

@@ -1,8 +1,6 @@
 -- Stops in a row.
-use Rattle.std.proofs.Common.{ℕ, zero, suc, subst}
-use Rattle.disk_model.specs.{Stop.{Image}, declared.sector_disk.SectorDisk.{Ghosts}}
-use Rattle.sync_journal.specs.{Commit.{HomesStandAs}, Stops.{Recovers, LeftByRecoveries}}
-use Rattle.sync_journal.proofs.Recoveries.{same_kept, kept_again}
+use Rattle.sync_journal.proofs.Names.{ℕ, zero, suc, subst, Image, Ghosts}
+use Rattle.sync_journal.{specs.{Commit.{HomesStandAs}, Stops.{Recovers, LeftByRecoveries}}, proofs.Recoveries.{same_kept, kept_again}}
 
 module _ {D : Type 0} (g : Ghosts D) where
   -- one stop more

@@ -1,10 +1,8 @@
 -- Which sectors two journals in turn ask for.
-use Rattle.std.proofs.Common.{◌≡◌, ◌⊎◌, ◌<◌, ◌≤◌, ℕ, Bool, not, List, [], length, get_or, inl, inr, ⊎_elim, sym, subst, arith}
-use Rattle.disk_model.specs.{Stop.{Image, Names, NamesOnce}, Moments.{AsksOnly}, declared.sector_disk.SectorDisk.{Ghosts}}
-use Rattle.disk_model.proofs.{Moments.{asks_once, asks_then}, Naming.{once_named, once_apart, once_wider}}
-use Rattle.sync_journal.specs.{Layout.{IsPageSector}, Journal.{live_homes}, Turns.{start_of, turn_body, turn_home, IsTurnSector, IsTurnGate, IsTurnPart, IsTurnCopy, IsTurnUsed, IsTurnAsked, IsTurnAskedIn, IsNamedFor}}
-use Rattle.sync_journal.specs.declared.turns.TurnJournal.{TurnJournal}
-use Rattle.sync_journal.proofs.{Images.{no_place}, InTurn.{start_low, apart, home_high}}
+use Rattle.sync_journal.proofs.Names.{◌≡◌, ◌⊎◌, ◌<◌, ◌≤◌, ℕ, Bool, not, List, [], length, get_or, inl, inr, ⊎_elim, sym, ap, subst, ◌∙◌, arith, Image, Names, NamesOnce, AsksOnly, Ghosts, asks_named, asks_once, asks_then, once_named}
+use Rattle.sync_journal.proofs.Names.{once_apart, once_wider}
+use Rattle.sync_journal.specs.{Layout.{IsPageSector}, Journal.{live_homes}, Turns.{start_of, named_in, turn_body, turn_home, IsTurnSector, IsTurnGate, IsTurnPart, IsTurnCopy, IsTurnUsed, IsTurnAsked, IsTurnAskedIn, IsNamedFor}}
+use Rattle.sync_journal.{specs.declared.turns.TurnJournal.{TurnJournal}, proofs.{Images.{no_place}, InTurn.{start_low, apart, home_high}}}
 
 -- Over how often each sector had been asked for, at three moments.
 module _ (before now : ℕ → ℕ) (second : Bool) where
@@ -81,3 +79,10 @@ module _ {D : Type 0} (g : Ghosts D) (image : Image) where
 -- said where there is something to ask for
 pub asks_some : (W : ℕ → Type 0) (n : ℕ) (before now : ℕ → ℕ) → 0 < n → NamesOnce W before now → NamesOnce (λ k. (0 < n) × W k) before now
 asks_some W n before now some once = once_wider W (λ k. (0 < n) × W k) before now (λ k asked. (some, asked)) once
+
+-- A look at the gate, and at the map of the journal that it names.
+pub head_asks : {D : Type 0} (g : Ghosts D) (second : Bool) (first : ℕ) (old mid new : D) → named_in (g.content old) ≡ second → first ≡ start_of second
+    → Names (λ k. k ≡ 16) (g.asked old) (g.asked mid) → Names (IsPageSector first) (g.asked mid) (g.asked new) → AsksOnly g (IsTurnAskedIn (g.content old)) old new
+head_asks g second first old mid new gate at names map = asks_then g (IsTurnAskedIn (g.content old)) old mid new
+    (asks_named g (IsTurnAskedIn (g.content old)) (λ k. k ≡ 16) old mid (λ k here. inl here) names)
+    (asks_named g (IsTurnAskedIn (g.content old)) (IsPageSector first) mid new (λ k inside. inr (inl (subst (λ n. IsPageSector n k) (at ∙ ap start_of (sym gate)) inside))) map)

@@ -1,17 +1,15 @@
 -- A recovery of two journals in turn: a sync and a look, and then a commit of no pages.
-use Rattle.std.proofs.Common.{◌≡◌, ℕ, true, false, [], inl, inr, Result, Ok, Err, OnOk, sym, subst, ◌∙◌}
-use Rattle.std.specs.Prelude.{IfOk, IsErr, IsErrOf}
-use Rattle.disk_model.specs.{Stop.{Image, MayLeave}, Moments.{AsksOnly, Nothing, Touches}, declared.sector_disk.DiskFault.{DiskFault}, declared.sector_disk.SectorDisk.{Ghosts}}
-use Rattle.disk_model.proofs.Moments.{asks_none, asks_then}
-use Rattle.sync_journal.specs.{Journal.{live_homes}, Map.{AreHomes}, Runs.{RunsOnDevice}, Turns.{turn_home_count, turn_standing, IsBadTurn, IsNamedFor, IsTurnAskedIn, IsTurnCommitted, IsTurnRecovered, IsTurnSettled, KeepsTurns}}
+use Rattle.sync_journal.proofs.Names.{◌≡◌, ℕ, true, false, [], inl, inr, Result, Ok, Err, OnOk, refl, sym, subst, ◌∙◌, IfOk, IsErr, IsErrOf, Image, MayLeave, AsksOnly, LeavesOnly, Nothing, Touches, DiskFault, Ghosts, asks_none, asks_then}
+use Rattle.disk_model.proofs.Moments.{joined}
+use Rattle.sync_journal.specs.{Journal.{live_homes}, Map.{AreHomes}, Runs.{RunsOnDevice}, Turns.{turn_home_count, turn_standing, IsBadTurn, IsNamedFor, IsTurnAskedIn, IsTurnCommitted, IsTurnRecovered, IsTurnSettled, KeepsTurns, TurnsStandAs}, Blocks.{CommitsInBlocks}}
 use Rattle.sync_journal.specs.{Recovering.{IsNamedLive, EmptiesNamed, RecoversInTurn}, Steps.{BlamesJournal}, declared.faults.RecoverFault.{RecoverFault}, declared.faults.RecoverFault.TheVariants.{BadJournal}}
 use Rattle.sync_journal.specs.declared.turns.TurnJournal.{TurnJournal}
-use Rattle.sync_journal.proofs.{Runs.{one_more, of_more}, InTurn.{same_read, while_looking, while_copying, blocks_since, good_before, turn_since}, InKinds.{recovered_sector}, TurnAsking.{recovery_asks}, Replays.{if_ok}}
+use Rattle.sync_journal.proofs.{Runs.{one_more, of_more}, InTurn.{turn_same, good_before, turn_since}, InKinds.{recovered_sector}, TurnAsking.{recovery_asks}, Replays.{if_ok}, Sectors.{same_image, while_read, so_before}}
 
 -- What a look after a sync finds stood before the sync.
 module _ {D : Type 0} (g : Ghosts D) (old mid read : D) (syncs : RunsOnDevice g Nothing old mid) (looks : RunsOnDevice g Nothing mid read) where
   held : g.keeps_model read → g.content mid ≡ g.content old
-  held keeps = same_read g old mid mid (syncs.touches (looks.kept keeps))
+  held keeps = same_image g old mid (syncs.touches (looks.kept keeps))
 
   pub named_since : (journal : TurnJournal) → IsNamedLive g mid read journal → IsNamedLive g old read journal
   named_since journal named = record {
@@ -27,6 +25,9 @@ module _ {D : Type 0} (g : Ghosts D) (old mid read : D) (syncs : RunsOnDevice g 
 
 module _ {D : Type 0} (g : Ghosts D) (old read : D) (only_now : g.keeps_model old → (image : Image) → g.left_since old (g.moment old) image → MayLeave (g.content old) (g.unsynced old) image)
     (looks : RunsOnDevice g Nothing old read) where
+  looking : g.keeps_model read → ((k : ℕ) → g.unsynced old k → ⊥) → KeepsTurns g old read
+  looking keeps still = while_read g old read (looks.touches keeps) (TurnsStandAs (g.sector_count old) (g.content old)) (turn_same (g.sector_count old) (g.content old) (g.content old) refl) (only_now (looks.kept keeps)) still
+
   -- where nothing but gate and map is read
   pub looked : (result : Result TurnJournal RecoverFault) → IsErr result → (g.keeps_model read → AsksOnly g (IsTurnAskedIn (g.content old)) old read) → BlamesJournal g old read result
       → (g.keeps_model read → IsErrOf result BadJournal → IsBadTurn (g.sector_count old) (g.content old)) → RecoversInTurn g old read result
@@ -35,10 +36,7 @@ module _ {D : Type 0} (g : Ghosts D) (old read : D) (only_now : g.keeps_model ol
     recovers = record {
       ok = λ keeps. tt;
       synced = λ keeps. tt;
-      stays = record {
-        any_moment = λ keeps still. while_looking g old read read (looks.touches keeps) (only_now (looks.kept keeps)) still;
-        in_a_row = λ keeps still first was. turn_since g old read first was (while_looking g old read read (looks.touches keeps) (only_now (looks.kept keeps)) still);
-      };
+      stays = record { any_moment = looking; in_a_row = λ keeps still first was. turn_since g old read first was (looking keeps still) };
       run = of_more g Nothing (IsTurnRecovered (g.sector_count old)) old read (λ k none. absurd none) looks;
       bad_unwritten = λ keeps is. looks.touches keeps;
       closed_unwritten = λ keeps none. looks.touches keeps;
@@ -54,11 +52,11 @@ module _ {D : Type 0} (g : Ghosts D) (old read : D) (only_now : g.keeps_model ol
   -- and then what is live is copied home
   module _ (new : D) (journal now : TurnJournal) (named : IsNamedLive g old read journal) {r : Result (Unit {0}) DiskFault} (e : EmptiesNamed g journal now read new r) where
     moments : g.keeps_model new → ((k : ℕ) → g.unsynced old k → ⊥) → KeepsTurns g old new
-    moments keeps synced = while_copying g old read new (looks.touches (e.kept keeps)) looks.size
-        (while_looking g old read new (looks.touches (e.kept keeps)) (only_now (looks.kept (e.kept keeps))) synced) (e.any_moment keeps)
+    moments keeps synced = joined g old read new (TurnsStandAs (g.sector_count old) (g.content old)) (looking (e.kept keeps) synced)
+        (so_before g old read (looks.touches (e.kept keeps)) (λ n image. LeavesOnly g read new (TurnsStandAs n image)) looks.size (e.any_moment keeps))
 
     good_found : g.keeps_model new → IsBadTurn (g.sector_count old) (g.content old) → ⊥
-    good_found keeps = good_before g old read new (looks.touches (e.kept keeps)) journal.second (live_homes journal.live) looks.size (named.found (e.kept keeps))
+    good_found keeps = good_before g old read (looks.touches (e.kept keeps)) journal.second (live_homes journal.live) looks.size (named.found (e.kept keeps))
 
     -- whatever is told of it
     pub emptied : (result : Result TurnJournal RecoverFault) → (g.keeps_model read → AsksOnly g (IsTurnAskedIn (g.content old)) old read)
@@ -86,6 +84,6 @@ module _ {D : Type 0} (g : Ghosts D) (old read : D) (only_now : g.keeps_model ol
         looks.touches (e.kept keeps),
         journal.second,
         live_homes journal.live,
-        blocks_since g old read new (looks.touches (e.kept keeps)) journal.second (live_homes journal.live) looks.size (e.blocks keeps),
+        so_before g old read (looks.touches (e.kept keeps)) (λ n image. CommitsInBlocks g journal.second (live_homes journal.live) (TurnsStandAs n image) read new) looks.size (e.blocks keeps),
       );
     }

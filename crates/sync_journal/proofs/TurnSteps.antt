@@ -1,8 +1,5 @@
 -- The steps of a commit of two journals in turn, and what holds where it ends after one of them. A recovery is a commit of no pages.
-use Rattle.std.proofs.Common.{◌≡◌, ◌<◌, ℕ, Bool, not, List, [], length, Result, Ok, Err, OnOk, inl, inr, ◌∙◌, arith}
-use Rattle.std.specs.Prelude.{IsErr, IsErrAnd}
-use Rattle.disk_model.specs.{Stop.{Image, MayLeave, NamesOnce}, Moments.{LeavesOnly}, declared.sector_disk.DiskFault.{DiskFault}, declared.sector_disk.SectorDisk.{Ghosts}}
-use Rattle.disk_model.proofs.Moments.{weaker, wider}
+use Rattle.sync_journal.proofs.Names.{◌≡◌, ◌<◌, ℕ, Bool, true, false, not, List, [], length, Result, Ok, Err, OnOk, inl, inr, ◌∙◌, arith, IsErr, IsErrAnd, Image, MayLeave, NamesOnce, LeavesOnly, DiskFault, Ghosts, weaker, wider}
 use Rattle.sync_journal.specs.{Blocks.{CommitsInBlocks}, Commit.{changed}, Committing.{CommitsInTurn}, Journal.{live_homes}, Map.{AreHomes, map_bytes}, Recovering.{EmptiesNamed}, Runs.{RunsOnDevice}, Source.{Asks}, Steps.{SyncsInto}}
 use Rattle.sync_journal.specs.Turns.{named_in, turn_map, turn_home_count, turn_standing, IsTurnSector, IsTurnHome, IsTurnGate, IsTurnPart, IsTurnCopy, IsTurnUsed, IsTurnCommitted, IsTurnStaged, IsTurnKept, TurnStandsForEither, TurnsStandAs, HoldsJournal, AreCopiedBut, IsTurnRest, IsTurnSettled}
 use Rattle.sync_journal.specs.{declared.faults.CommitFault.{CommitFault}, declared.faults.CommitFault.TheVariants.{Device}, declared.turns.TurnJournal.{TurnJournal}}
@@ -166,3 +163,9 @@ emptied_so_far g was now old new r some leaves done failed calm not_live synced 
   synced = synced;
   idle = λ none. absurd (omega (arith, none, some));
 }
+
+-- And one whose device failed.
+pub emptying_failed : {D : Type 0} (g : Ghosts D) (was now : TurnJournal) (old new : D) (r : Result (Unit {0}) DiskFault) → IsErr r → g.failures old < g.failures new → 0 < was.live.count
+    → Leaves g was.second (live_homes was.live) [] old (Unit {0}) (Before g was.second (live_homes was.live) [] old) new → EmptiesNamed g was now old new r
+emptying_failed g was now old new (Ok done) is failed some leaves = let none : false ≡ true = is in cc
+emptying_failed g was now old new (Err e) is failed some leaves = emptied_so_far g was now old new (Err e) some leaves (λ keeps. tt) (λ is. failed) tt tt (λ keeps. tt)

@@ -1,8 +1,6 @@
 -- Plans that grow by a call.
-use Rattle.std.proofs.Common.{ℕ, zero, suc, ◌+◌, ◌<◌, ◌≤◌, ◌≡◌, ◌≢◌, ◌⊎◌, Bool, true, false, ◌&&◌, ◌||◌, ◌==◌, if◌then◌else◌, IsTrue, List, Option, Some, None, slice_get, length, inl, inr, ⊎_elim, refl, sym, ap, subst, ◌∙◌, arith, eq-eqb, ne_eqb}
-use Rattle.std.proofs.{lemmas.Bool.{cases_eq, cases_lt, cases_Bool, false≢true, lt-ltb, le-leb, lt-leb}, lemmas.Option.{slice_get-get_or}, Math.ListN.{get_or}, Math.Path.{fun_ext}}
-use Rattle.std.specs.Prelude.{ltb}
-use Rattle.disk_model.specs.{Sectors.{part_of}, Stop.{Image, MayLeave, ChangesOnly, ChangesPage, IsOfPage, Elapses}}
+use Rattle.sync_plans.proofs.Names.{ℕ, zero, suc, ◌+◌, ◌<◌, ◌≤◌, ◌≡◌, ◌≢◌, ◌⊎◌, Bool, true, false, ◌&&◌, ◌||◌, ◌==◌, if◌then◌else◌, IsTrue, List, Option, Some, None, slice_get, length, inl, inr, ⊎_elim, refl, sym, ap, subst, ◌∙◌, arith}
+use Rattle.sync_plans.proofs.Names.{eq-eqb, ne_eqb, cases_eq, cases_lt, cases_Bool, false≢true, lt-ltb, le-leb, lt-leb, slice_get-get_or, get_or, fun_ext, ltb, part_of, Image, MayLeave, ChangesOnly, ChangesPage, IsOfPage, Elapses}
 use Rattle.sync_plans.specs.{declared.call.Call.{Call}, Plans.{row, is_of_page, writes_to, page_bytes, written_bytes, is_sync_call, is_left_unsynced, IsLeftUnsynced, image_after, is_written}, Device.{PlanLeftSince, Lists, NamesPage}}
 
 -- sectors of a page
@@ -52,9 +50,6 @@ not_written_behind call n sector page = ⊎_elim
       | inr not ↦ not
     ])
     (cases_eq call.kind 1)
-
-pub sync_writes_none : (call : Call) (n : ℕ) → call.kind ≡ 2 → writes_to (Some call) n ≡ false
-sync_writes_none call n syncs = rw syncs refl
 
 -- the call at a place of the list
 pub writes_here : (calls : List Call) (k n : ℕ) (d : Call) → k < length calls → writes_to (slice_get calls k) n ≡ writes_to (Some (get_or calls k d)) n
@@ -156,12 +151,6 @@ module _ {calls calls' : List Call} {rows rows' : List (List ℕ)} {used used' :
 
     unsynced_written : (k : ℕ) → is_left_unsynced calls' used' k ≡ ((k == n) || is_left_unsynced calls used k)
     unsynced_written k = unsynced_now k ∙ rw writes refl
-
-    pub written_here : image_after calls' rows' pages first used' n ≡ bytes
-    written_here = image_written n ∙ rw (eq-eqb n n refl) refl
-
-    pub marked_here : IsLeftUnsynced calls' used' n
-    marked_here = unsynced_written n ∙ rw (eq-eqb n n refl) refl
 
     pub changes : ChangesOnly n (image_after calls rows pages first used) (image_after calls' rows' pages first used')
     changes = record { others = λ k ne. image_written k ∙ rw (ne_eqb k n ne) refl }

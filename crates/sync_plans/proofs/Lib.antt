@@ -1,3 +1,4 @@
+mod Names
 mod Runs
 mod Growth
 pub mod Theorem

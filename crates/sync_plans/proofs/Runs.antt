@@ -1,15 +1,9 @@
 -- A store that is opened, and then committed to.
-use Rattle.std.proofs.{Common.{ℕ, ◌≡◌, List, [], Option, Result, inl, inr, ⊎_elim, refl, sym, ap, subst, ◌∙◌}, lemmas.Result.{IfErr-weaker}, Math.Path.{fun_ext}}
-use Rattle.std.specs.{Prelude.{IfErr}, Option.{option_map}}
+use Rattle.sync_plans.proofs.Names.{ℕ, ◌≡◌, List, [], Option, Result, inl, inr, ⊎_elim, refl, sym, ap, subst, ◌∙◌, IfErr-weaker, fun_ext, option_map, home_rank, place_among, stands_under, is_kind, kind_when, store_live, IsKindOutside}
+use Rattle.sync_plans.proofs.Names.{IsOutsideOf, IsStoreRest, StoreJournal, One, InTurn, FileStore, files_of, IsStoreAtRest, PutsHomesOrNone, Directory, StandsFor, StandsAs, IsBadLayout, IsBadJournal, file_info, standing_page}
+use Rattle.sync_plans.proofs.Names.{StandsForEither, OpenFault, IsResumed, IsRefusedFor, Image, LeavesOnly, LeavesNow, Ghosts, weaker, joined, FileInfo, FilePage, bad_layout_moves, same_head, stands_for_itself}
+use Rattle.std.specs.Prelude.{IfErr}
 use Rattle.sync_journal.specs.Commit.{IsAtRest as IsJournalAtRest}
-use Rattle.sync_journal.specs.{Map.{home_rank, place_among}, Turns.{stands_under}, Kinds.{is_kind, kind_when, store_live, IsKindOutside, IsOutsideOf, IsStoreRest}, declared.store_journal.StoreJournal.{StoreJournal}}
-use Rattle.sync_journal.specs.declared.store_journal.StoreJournal.TheVariants.{One, InTurn}
-use Rattle.file_store.specs.{declared.store.FileStore.{FileStore}, Store.{files_of, IsStoreAtRest, PutsHomesOrNone}, declared.directory.Directory.{Directory}}
-use Rattle.file_store.specs.{Standing.{StandsFor, StandsAs, IsBadLayout, IsBadJournal, file_info, standing_page}, Commit.{StandsForEither}, declared.faults.OpenFault.{OpenFault}, Resume.{IsResumed, IsRefusedFor}}
-use Rattle.disk_model.specs.{Stop.{Image}, Moments.{LeavesOnly, LeavesNow}, declared.sector_disk.SectorDisk.{Ghosts}}
-use Rattle.disk_model.proofs.Moments.{weaker, joined}
-use Rattle.vm_types.specs.{declared.file.FileInfo.{FileInfo}, declared.file.FilePage.{FilePage}}
-use Rattle.file_store.proofs.Images.{bad_layout_moves, same_head, stands_for_itself}
 use Rattle.file_store.specs.declared.faults.OpenFault.TheVariants.{Device as OpenDevice, BadLayout as OpenBadLayout, BadJournal as OpenBadJournal}
 use Rattle.sync_plans.specs.{declared.requests.Refusal.{Refusal}, declared.requests.Refusal.TheVariants.{Device, BadLayout, BadJournal, BadPages, ReadOnly}}
 use Rattle.sync_plans.specs.Requests.{IsKindEmpty, IsClosed, IsStore, KeepsOutside, HasLayout, RefusesImage, RefusesOn}

@@ -1,10 +1,7 @@
 -- From what the store says of a plan as a device to what stops of the calls leave.
-use Rattle.std.proofs.Common.{ℕ, zero, suc, ◌+◌, if◌then◌else◌, ◌<◌, ◌≤◌, ◌≡◌, ◌≢◌, ◌⊎◌, Bool, true, false, ◌||◌, IsTrue, List, [], ◌∷◌, Option, Some, slice_get, length, inl, inr, ⊎_elim, refl, sym, ap, subst, ◌∙◌, arith}
-use Rattle.std.proofs.{lemmas.Bool.{cases_Bool, cases_lt, false≢true}, lemmas.Option.{slice_get_past, slice_get-get_or}, Math.ListN.{get_or}, Math.Path.{fun_ext}}
-use Rattle.vm_types.specs.declared.file.FileInfo.{FileInfo}
-use Rattle.disk_model.specs.Stop.{Image, MayLeave}
-use Rattle.sync_journal.specs.{Kinds.{turn_kind, kind_of}, declared.store_journal.Journals.{Journals}, declared.store_journal.Journals.TheVariants.{Single, Paired}}
-use Rattle.file_store.specs.{Layout.{mark}, Versions.{version_at, mark_of}, Standing.{StandsFor, Unmarked}, Commit.{StandsForEither}}
+use Rattle.sync_plans.proofs.Names.{ℕ, zero, suc, ◌+◌, if◌then◌else◌, ◌<◌, ◌≤◌, ◌≡◌, ◌≢◌, ◌⊎◌, Bool, true, false, ◌||◌, IsTrue, List, [], ◌∷◌, Option, Some, slice_get, length, inl, inr, ⊎_elim, refl, sym, ap, subst, ◌∙◌, arith, cases_Bool}
+use Rattle.sync_plans.proofs.Names.{cases_lt, false≢true, slice_get_past, slice_get-get_or, get_or, fun_ext, FileInfo, Image, MayLeave, turn_kind, kind_of, Journals, Single, Paired, mark, version_at, mark_of, StandsFor, Unmarked}
+use Rattle.sync_plans.proofs.Names.{StandsForEither}
 use Rattle.sync_plans.specs.{declared.call.Call.{Call}, declared.lent_pages.PageBytes.{PageBytes}, Pages.{bytes_or_none, lent_page}}
 use Rattle.sync_plans.specs.{Plans.{row, written_bytes, is_written, writes_to, is_sync_call, is_left_unsynced, IsLeftUnsynced, image_after, StopLeaves, After, Within}, Device.{label, PlanLeftSince}, Requests.{HasLayout}}
 use Rattle.sync_plans.proofs.Growth.{alike_leaves, alike_image}

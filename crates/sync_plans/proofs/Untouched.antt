@@ -1,8 +1,7 @@
 -- Sectors that no listed call writes, and calls that name sources.
-use Rattle.std.proofs.{Common.{ℕ, suc, ◌+◌, ◌<◌, ◌≤◌, ◌≡◌, ◌≢◌, Bool, false, ◌||◌, List, [], Some, slice_get, length, ⊎_elim, sym, ap, subst, ◌∙◌, arith}, lemmas.Bool.{cases_eq}, lemmas.List.{get_or-set_same, get_or-set_other, length-set}}
-use Rattle.std.proofs.{lemmas.Option.{same_Some, slice_get-get_or}, Math.ListN.{set}}
-use Rattle.sync_plans.specs.{declared.call.Call.{Call}, Plans.{writes_to, is_written, IsCall, AreCalls, AreSources}, Device.{Lists}}
-use Rattle.sync_plans.proofs.Growth.{alike_written}
+use Rattle.sync_plans.proofs.Names.{ℕ, suc, ◌+◌, ◌<◌, ◌≤◌, ◌≡◌, ◌≢◌, Bool, false, ◌||◌, List, [], Some, slice_get, length, ⊎_elim, sym, ap, subst, ◌∙◌, arith, cases_eq, get_or-set_same, get_or-set_other, length-set, same_Some}
+use Rattle.sync_plans.proofs.Names.{slice_get-get_or, set}
+use Rattle.sync_plans.{specs.{declared.call.Call.{Call}, Plans.{writes_to, is_written, IsCall, AreCalls, AreSources}, Device.{Lists}}, proofs.Growth.{alike_written}}
 
 other_call : (calls : List Call) (used k : ℕ) (call : Call) → k ≢ used → k < length calls → slice_get (set calls used call) k ≡ slice_get calls k
 other_call calls used k call other inside =

@@ -2,7 +2,6 @@
 use disk_model::{SectorDisk, SimDisk};
 use machine::BootFault;
 use std::alloc::Global;
-use std::process::Abort;
 use std::test::Fail;
 use test_traces::{expect_file, expect_refusal, image, left_of_two};
 
@@ -49,8 +48,10 @@ store 1 0x11000 1 2\nmsync 1 0x10000 0x2000 sync\n";
 }
 
 /// Opens the gate of a device over a map of 1,024 pages.
-fn open_gate_over_1024_pages(rt: &impl Abort, disk: &mut SimDisk) -> Result<(), Fail> {
-    assert!(rt; disk.sectors() > 3);
+fn open_gate_over_1024_pages(disk: &mut SimDisk) -> Result<(), Fail> {
+    if disk.sectors() <= 3 {
+        return Err(Fail::new("too few sectors"));
+    }
     let mut map = [0; 512];
     map[1] = 4;
     disk.write(3, &map)?;
@@ -62,6 +63,6 @@ fn open_gate_over_1024_pages(rt: &impl Abort, disk: &mut SimDisk) -> Result<(), 
 #[test]
 fn an_open_gate_over_a_map_of_too_many_pages_is_refused(rt: HostRuntime) -> Result<(), Fail> {
     let mut disk = image(rt.alloc(), 4096)?;
-    open_gate_over_1024_pages(&rt, &mut disk)?;
+    open_gate_over_1024_pages(&mut disk)?;
     expect_refusal(rt.alloc(), &disk, BootFault::BadJournal)
 }

@@ -1,10 +1,10 @@
 -- Words that are read off the front of a text.
-use Rattle.std.proofs.Common.{◌≡◌, ◌≢◌, ◌==◌, if◌then◌else◌, Bool, true, false, lit<, ℕ, suc, ◌+◌, ◌-◌, ◌<◌, ◌≤◌, ◌^◌, eqb, List, [], ◌∷◌, ◌++◌, length, get_or, take, drop, codes, inr, refl, sym, ◌∙◌, ap, subst, arith}
+use Rattle.std.proofs.Common.{◌≡◌, ◌≢◌, ◌==◌, if◌then◌else◌, Bool, true, false, lit<, ℕ, suc, ◌+◌, ◌-◌, ◌<◌, ◌≤◌, ◌^◌, eqb, List, [], ◌∷◌, ◌++◌, length, get_or, take, drop, codes, Option, inr, refl, sym, ◌∙◌, ap, subst, arith}
 use Rattle.std.proofs.{Math.Seq.{split_at}, lemmas.List.{take_rest, length-take-le}, lemmas.List.Splits.{slice_split_none, slice_split_at}}
 use Rattle.std.specs.{List.{join_with_byte}, Str.Parse.{AllDigits, digits_value}}
-use Rattle.trace_lang.specs.{Grammar.{HasNoSpace, IsMode, IsNumber, IsPermission, letter_or_dash}, Words.{words_of, BeginsWith, BeginsWithDigits}}
+use Rattle.trace_lang.specs.{Grammar.{HasNoSpace, IsMode, IsNumber, IsPermission, letter_or_dash}, Names.{ReadsWords}, Words.{words_of, BeginsWith, BeginsWithDigits}}
 use Rattle.trace_lang.proofs.{OneNumber.{number_no_space, one_number}, Spaces.{no_cut, no_space-cons, words_joined}}
-use Rattle.vm_types.specs.{declared.command.MsyncMode.{MsyncMode}, declared.command.MsyncMode.TheVariants.{Sync, Async}, Width.{byte_count}, declared.width.Width.{Width}, declared.width.Width.TheVariants.{One, Two, Four, Eight}}
+use Rattle.vm_types.specs.{declared.command.Command.{Command}, declared.command.MsyncMode.{MsyncMode}, declared.command.MsyncMode.TheVariants.{Sync, Async}, Width.{byte_count}, declared.width.Width.{Width}, declared.width.Width.TheVariants.{One, Two, Four, Eight}}
 use Rattle.vm_types.specs.declared.permission.Prot.{Prot}
 
 -- a text that is cut at a space; the last part is how `&text[at + 1..]` reads
@@ -17,6 +17,10 @@ cut_at text at inside space =
 -- the first word, and then the words of the rest
 pub cut_words : (text word rest : List ℕ) → text ≡ word ++ 32 ∷ rest → HasNoSpace word → words_of text ≡ word ∷ words_of rest
 cut_words text word rest e plain = ap words_of e ∙ slice_split_at (λ b. eqb b 32) word 32 rest (no_cut word plain) refl
+
+-- what is read of a line is told by what it is equal to
+pub reads_line : (line text : List ℕ) (read : Option Command) → line ≡ text → ReadsWords (words_of text) read → ReadsWords (words_of line) read
+reads_line line text read e reads = let P : List ℕ → Type 0 = λ t. ReadsWords (words_of t) read in subst P (sym e) reads
 
 -- a text with no space is one word
 pub one_word_of : (text : List ℕ) → HasNoSpace text → words_of text ≡ text ∷ []

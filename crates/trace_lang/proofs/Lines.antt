@@ -1,5 +1,5 @@
 -- Lines that are cut piece by piece are the lines of the whole.
-use Rattle.std.proofs.{Common.{◌≡◌, ◌≢◌, ℕ, suc, true, false, eqb, eqb-true, List, [], ◌∷◌, ◌++◌, All, flat_map, refl, sym, ◌∙◌, ap, append_assoc, if◌then◌else◌, arith}, lemmas.List.Concat.{flat_map-append}}
+use Rattle.std.proofs.{Common.{◌≡◌, ◌≢◌, ℕ, suc, ne_eqb, List, [], ◌∷◌, ◌++◌, flat_map, refl, sym, ◌∙◌, ap, append_assoc, if◌then◌else◌, arith}, lemmas.List.Concat.{flat_map-append}}
 use Rattle.std.proofs.lemmas.List.Elements.{All-append}
 use Rattle.trace_lang.specs.Lines.{Cuts, HasNoNewline, ended, last_line, lines_of, onto_line}
 
@@ -22,11 +22,8 @@ no_newline-tail b line h k d l = h (suc k) d (omega arith)
 no_newline-first : (b : ℕ) (line : List ℕ) → HasNoNewline (b ∷ line) → (b ≡ 10 → ⊥)
 no_newline-first b line h = h 0 0 (omega arith)
 
-other_byte : (b : ℕ) → b ≢ 10 → eqb b 10 ≡ false
-other_byte b h = elim (eqb b 10) as (λ v. eqb b 10 ≡ v → v ≡ false) [ true ↦ (λ e. absurd (h (eqb-true b 10 e))) | false ↦ (λ e. refl) ] refl
-
 lines_of-cons : (b : ℕ) (bytes : List ℕ) → b ≢ 10 → lines_of (b ∷ bytes) ≡ onto_line b (lines_of bytes)
-lines_of-cons b bytes h = ap (λ t. if t then [] ∷ lines_of bytes else onto_line b (lines_of bytes)) (other_byte b h)
+lines_of-cons b bytes h = ap (λ t. if t then [] ∷ lines_of bytes else onto_line b (lines_of bytes)) (ne_eqb b 10 h)
 
 lines_of-ended : (line bytes : List ℕ) → HasNoNewline line → lines_of (line ++ 10 ∷ bytes) ≡ line ∷ lines_of bytes
 lines_of-ended [] bytes h = refl

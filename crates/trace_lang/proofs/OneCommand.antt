@@ -1,8 +1,7 @@
 -- The words of a line stand for one command at most, whose name the first word is.
 use Rattle.std.proofs.Common.{◌≡◌, ℕ, List, [], Option, Some, None, IfSome, get_or, subst, sym, ◌∙◌, ap}
-use Rattle.trace_lang.specs.{Grammar.{IsForm}, Names.{name_text, ReadsWords}, declared.names.Name.{Name}}
+use Rattle.trace_lang.{specs.{Grammar.{IsForm}, Names.{name_text, ReadsWords}, declared.names.Name.{Name}}, proofs.OneName.{same_name, OnlyOf}}
 use Rattle.trace_lang.specs.declared.names.Name.TheVariants as name
-use Rattle.trace_lang.proofs.OneName.{same_name, OnlyOf}
 use Rattle.vm_types.specs.{declared.command.Command.{Command}, declared.command.Command.TheVariants.{Spawn, Fork, Exit, Mmap, Munmap, Mprotect, Dontneed, Msync, Load, Store, Fetch, PastFaults}}
 
 abbrev pub form_name : Command → Name

@@ -1,8 +1,7 @@
 -- A word writes one number at most, and no space stands in it.
 use Rattle.std.proofs.Common.{◌≡◌, ◌≢◌, ℕ, zero, suc, ◌<◌, ◌≤◌, List, [], ◌∷◌, drop, inl, inr, sym, ◌∙◌, ap, subst, arith}
 use Rattle.std.specs.{Char.{digit_value}, Str.Parse.{AllDigits, digits_value}}
-use Rattle.trace_lang.specs.Grammar.{HasNoSpace, IsHexadecimal, IsNumber}
-use Rattle.trace_lang.proofs.Spaces.{no_space-cons}
+use Rattle.trace_lang.{specs.Grammar.{HasNoSpace, IsHexadecimal, IsNumber}, proofs.Spaces.{no_space-cons}}
 
 digit_no_space : (radix b : ℕ) → radix ≤ 16 → digit_value b < radix → b ≢ 32
 digit_no_space radix b small h e = let P : ℕ → Type 0 = λ x. digit_value x < radix in let at : digit_value 32 < radix = subst P e h in omega (arith, at)

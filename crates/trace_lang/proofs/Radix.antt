@@ -24,12 +24,10 @@ value_so_far radix ds i n low l e =
     at_least_one n l = omega arith
 
 -- what one more digit gives
-pub next_value : (radix : ℕ) (ds : List ℕ) (i n factor byte digit added more : ℕ) → i < length ds → n ≡ digits_value radix (take i ds)
-    → factor ≡ radix → byte ≡ get_or ds i 0 → digit ≡ digit_value byte → added ≡ digit → more ≡ n * factor + added
-    → more ≡ digits_value radix (take (i + 1) ds)
-next_value radix ds i n factor byte digit added more l en ef eb ed ea em =
-    em ∙ ap (λ x. n * x + added) ef
-    ∙ ap (λ x. n * radix + x) (ea ∙ ed ∙ ap digit_value eb)
+pub next_value : (radix : ℕ) (ds : List ℕ) (i n byte digit more : ℕ) → i < length ds → n ≡ digits_value radix (take i ds)
+    → byte ≡ get_or ds i 0 → digit ≡ digit_value byte → more ≡ n * radix + digit → more ≡ digits_value radix (take (i + 1) ds)
+next_value radix ds i n byte digit more l en eb ed em =
+    em ∙ ap (λ x. n * radix + x) (ed ∙ ap digit_value eb)
     ∙ ap (λ v. v * radix + digit_value (get_or ds i 0)) en ∙ sym (digits_value_more radix ds i l)
 
 -- a number of one more digit
@@ -50,11 +48,8 @@ next_fits radix most i n digit low room inside h l =
     omega (arith, next_small radix i n digit h l, top, room)
 
 -- one more digit past the limit shows that the numeral is
-pub digit_past : (n radix factor d digit added most limit : ℕ) → n * radix + d ≤ most → most < limit → factor ≡ radix
-    → added ≡ digit → digit ≡ d → (n * factor + added < limit → ⊥) → ⊥
-digit_past n radix factor d digit added most limit h small ef ea ed past =
-    let P : ℕ → Type 0 = λ x. x < limit in
-    past (subst P (sym (ap (λ x. n * x + added) ef ∙ ap (λ x. n * radix + x) (ea ∙ ed))) (omega arith))
+pub digit_past : (n radix d digit most limit : ℕ) → n * radix + d ≤ most → most < limit → digit ≡ d → (n * radix + digit < limit → ⊥) → ⊥
+digit_past n radix d digit most limit h small e past = past (omega (arith, h, small, ap (λ x. n * radix + x) e))
 
 pub not_empty : (n : ℕ) (test : Bool) → test ≡ (n == 0) → test ≡ false → 0 < n
 not_empty zero test e f = cc

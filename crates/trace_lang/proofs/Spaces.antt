@@ -1,13 +1,10 @@
 -- The words of a line are what stands between its spaces.
-use Rattle.std.proofs.{Common.{◌≡◌, ◌≢◌, ℕ, zero, suc, ◌<◌, ◌≤◌, Bool, true, false, eqb, eqb-true, List, [], ◌∷◌, length, get_or, All, length-append, refl, sym, ◌∙◌, ap, subst, inl, inr, arith}, lemmas.Bool.{cases_eq}}
+use Rattle.std.proofs.{Common.{◌≡◌, ◌≢◌, ℕ, zero, suc, ◌<◌, ◌≤◌, Bool, false, eqb, ne_eqb, List, [], ◌∷◌, length, get_or, All, length-append, refl, sym, ◌∙◌, ap, subst, inl, inr, arith}, lemmas.Bool.{cases_eq}}
 use Rattle.std.proofs.lemmas.List.Splits.{slice_split-cons_yes, slice_split-cons_no, slice_split_none, slice_split_at, join_with_byte-slice_split}
 use Rattle.std.specs.List.{onto_first, join_with_byte}
 use Rattle.trace_lang.specs.{Grammar.{HasNoSpace, IsBack, IsCommand, IsForm, IsPlacing, IsSource, IsWords}, Words.{words_of}}
 use Rattle.vm_types.specs.{declared.command.Command.{Command}, declared.command.Command.TheVariants.{Spawn, Fork, Exit, Mmap, Munmap, Mprotect, Dontneed, Msync, Load, Store, Fetch, PastFaults}, declared.command.MapSource.{MapSource}}
 use Rattle.vm_types.specs.{declared.command.MapSource.TheVariants.{Anon, Private, Shared, Common}, declared.command.Placing.{Placing}, declared.command.Placing.TheVariants.{Hint, Fixed, NoReplace}}
-
-other_byte : (b : ℕ) → b ≢ 32 → eqb b 32 ≡ false
-other_byte b h = elim (eqb b 32) as (λ v. eqb b 32 ≡ v → v ≡ false) [ true ↦ (λ e. absurd (h (eqb-true b 32 e))) | false ↦ (λ e. refl) ] refl
 
 pub no_space-cons : (b : ℕ) (word : List ℕ) → b ≢ 32 → HasNoSpace word → HasNoSpace (b ∷ word)
 no_space-cons b word h all zero d l = h
@@ -30,14 +27,14 @@ no_space-words_of (b ∷ bs) =
     let p : ℕ → Bool = λ b. eqb b 32 in
     elim (cases_eq b 32) [
       | inl e ↦ subst P (sym (slice_split-cons_yes p b bs (ap p e))) (no_space-empty (words_of bs) (no_space-words_of bs))
-      | inr h ↦ subst P (sym (slice_split-cons_no p b bs (other_byte b h))) (no_space-onto b (words_of bs) h (no_space-words_of bs))
+      | inr h ↦ subst P (sym (slice_split-cons_no p b bs (ne_eqb b 32 h))) (no_space-onto b (words_of bs) h (no_space-words_of bs))
     ]
 
 pub words_joined : (line : List ℕ) → IsWords line (words_of line)
 words_joined line = record { joined = sym (join_with_byte-slice_split 32 line); each = no_space-words_of line }
 
 pub no_cut : (word : List ℕ) → HasNoSpace word → All (λ b. eqb b 32 ≡ false) word
-no_cut word h k d l = other_byte (get_or word k d) (h k d l)
+no_cut word h k d l = ne_eqb (get_or word k d) 32 (h k d l)
 
 split-join : (word : List ℕ) (words : List (List ℕ)) → All HasNoSpace (word ∷ words) → words_of (join_with_byte 32 (word ∷ words)) ≡ word ∷ words
 split-join word [] all = slice_split_none (λ b. eqb b 32) word (no_cut word (all 0 [] (omega arith)))

@@ -118,9 +118,11 @@ pub(crate) fn mode_of(text: &[u8]) -> Option<MsyncMode>
     ensures found { IfSome result (λ mode. IsMode text.now mode) }
     ensures only { (mode : MsyncMode) → IsMode text.now mode → result ≡ Some mode }
 {
-    match text {
-        b"sync" => Some(MsyncMode::Sync),
-        b"async" => Some(MsyncMode::Async),
-        _ => None,
+    if text == b"sync".as_slice() {
+        Some(MsyncMode::Sync)
+    } else if text == b"async".as_slice() {
+        Some(MsyncMode::Async)
+    } else {
+        None
     }
 }

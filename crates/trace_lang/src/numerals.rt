@@ -11,6 +11,15 @@ use crate::radices::{DECIMAL, HEXADECIMAL, Radix};
 use fast_float::parse_u64;
 use vm_types::{StoredValue, Width};
 
+/// The digit of a radix that a byte is; `None` exactly where it is none.
+#[inline(always)]
+fn digit_of(byte: u8, radix: Radix) -> Option<u64>
+    ensures { SomeIff result (digit_value byte < radix.base) (digit_value byte) }
+{
+    let digit = char::from(byte).to_digit(radix.base as u32)?;
+    Some(u64::from(digit))
+}
+
 /// The number that digits write in a radix; `None` exactly where there is no digit, a byte is no digit of the radix,
 /// or the number is 2^64 or more.
 // (inlined, so that each call has its radix as a constant)
@@ -23,8 +32,8 @@ fn value_of(digits: &[u8], radix: Radix) -> Option<u64>
     }
     let mut value: u64 = 0;
     for byte in digits {
-        let digit = char::from(*byte).to_digit(radix.base)?;
-        value = with_digit(value, u64::from(radix.base), u64::from(digit))?;
+        let digit = digit_of(*byte, radix)?;
+        value = with_digit(value, radix.base, digit)?;
     }
     Some(value)
 }
@@ -55,10 +64,10 @@ pub(crate) fn front_digits(text: &[u8], radix: Radix) -> (u64, usize)
     let end = text.len().min(radix.most);
     let mut value: u64 = 0;
     for at in 0..end {
-        let Some(digit) = char::from(text[at]).to_digit(radix.base) else {
+        let Some(digit) = digit_of(text[at], radix) else {
             return (value, at);
         };
-        value = value * u64::from(radix.base) + u64::from(digit);
+        value = value * radix.base + digit;
     }
     (value, end)
 }

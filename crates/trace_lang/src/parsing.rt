@@ -20,14 +20,18 @@ pub struct BadLine;
 fn command_in(line: &[u8]) -> Option<Command>
     ensures { ReadsWords (words_of line.now) result }
 {
-    if let [b'l', b'o', b'a', b'd', b' ', rest @ ..] = line {
-        return load_in(rest);
-    }
-    if let [b's', b't', b'o', b'r', b'e', b' ', rest @ ..] = line {
-        return store_in(rest);
-    }
-    if let [b'f', b'e', b't', b'c', b'h', b' ', rest @ ..] = line {
-        return fetch_in(rest);
+    // (the first byte says which name it can be, so that one prefix is compared and not three)
+    match line {
+        [b'l', ..] => if let Some(rest) = line.strip_prefix(b"load ") {
+            return load_in(rest);
+        },
+        [b's', ..] => if let Some(rest) = line.strip_prefix(b"store ") {
+            return store_in(rest);
+        },
+        [b'f', ..] => if let Some(rest) = line.strip_prefix(b"fetch ") {
+            return fetch_in(rest);
+        },
+        _ => {}
     }
     named_in(line)
 }

@@ -4,7 +4,7 @@ ghost use Rattle.std.specs.Prelude.{◌≤◌, ◌^◌};
 /// A radix, and how many of its digits never write 2^64.
 #[derive(Clone, Copy)]
 pub(crate) struct Radix {
-    pub(crate) base: u32,
+    pub(crate) base: u64,
     pub(crate) most: usize,
     ghost low: { 2 ≤ base },
     ghost high: { base ≤ 36 },

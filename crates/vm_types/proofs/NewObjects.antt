@@ -3,8 +3,7 @@ use Rattle.std.proofs.Common.{◌≡◌, ◌≢◌, ℕ, zero, suc, inl, inr, �
 use Rattle.std.proofs.lemmas.Bool.{cases_eq, cases_lt, cases_Bool, false≢true, true≢false, and_parts}
 use Rattle.vm_types.specs.{declared.region.Attr.{Attr}, declared.region.Backing.{Backing}, declared.region.Backing.TheVariants.{Anon, Private, Shared, Common}, Attributes.{attr_after, backing_after, backing_eq}}
 use Rattle.vm_types.specs.{Counting.{any_below, count_below, sum_below}, Limits.{named_limit, object_limit, user_end, widest_end}, Objects.{Maps, uses, is_of_object, is_used, least_from, free_object}}
-use Rattle.vm_types.specs.Runs.{begins, begins_run, runs_below, run_count}
-use Rattle.vm_types.proofs.{Modes.{sizes}, Naming.{any-at}}
+use Rattle.vm_types.{specs.Runs.{begins, begins_run, runs_below, run_count}, proofs.{Modes.{sizes}, Naming.{any-at}}}
 
 least-below : (passes : ℕ → Bool) (n count : ℕ) → least_from passes n count ≤ n + count
 unfolding least_from

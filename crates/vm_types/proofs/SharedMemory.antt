@@ -4,8 +4,7 @@ use Rattle.std.proofs.{Common.{◌≡◌, ℕ, zero, suc, inl, inr, ◌<◌, ◌
 use Rattle.vm_types.specs.{declared.object.ObjectPage.{ObjectPage}, declared.region.Attr.{Attr}, declared.region.Backing.{Backing}, declared.region.Backing.TheVariants.{Anon, Private, Shared, Common}, Access.{with_shown_bytes}}
 use Rattle.vm_types.specs.{Counting.{any_below}, Limits.{user_end, widest_end}, Mapping.{new_object, with_mapping}}
 use Rattle.vm_types.specs.{Objects.{Maps, maps_of, names, uses, is_object_page, is_of_object, is_named, is_used, named_objects, with_object, free_object}, Processes.{forked}, Ranges.{without_row}, Runs.{run_count}}
-use Rattle.vm_types.specs.{State.{State, behind, copy_or_behind, or_zeros, shown}, View.{View, zero_page}}
-use Rattle.vm_types.proofs.{Naming.{any-at}, NewObjects.{free-unused}}
+use Rattle.vm_types.{specs.{State.{State, behind, copy_or_behind, or_zeros, shown}, View.{View, zero_page}}, proofs.{Naming.{any-at}, NewObjects.{free-unused}}}
 
 -- a page of an object shows the object's bytes
 pub shows-object : (s : State) (v : View) (p : ObjectPage) → v.own ≡ None → v.attr.backing ≡ Common p → shown s v ≡ or_zeros (s.objects p.object p.page)

@@ -106,54 +106,59 @@ impl FrameCounts {
     }
 }
 
+/// A line of one number.
+fn tell<W: fmt::Write>(f: &mut Formatter<W>, name: &str, count: Count) -> fmt::Result {
+    writeln!(f, "{name} {count}")
+}
+
 impl Display for Counts {
     fn fmt<W: fmt::Write>(&self, f: &mut Formatter<W>) -> fmt::Result {
-        writeln!(f, "  commands {}", self.commands)?;
+        tell(f, "  commands", self.commands)?;
         write!(f, "{}", self.accesses)?;
         write!(f, "{}", self.page_faults)?;
         write!(f, "{}", self.frames)?;
-        writeln!(f, "  tables-made {}", self.tables.made)?;
-        writeln!(f, "  tables-freed {}", self.tables.freed)?;
-        writeln!(f, "  msyncs {}", self.calls.msyncs)?;
-        writeln!(f, "  calls-refused {}", self.calls.refused)?;
-        writeln!(f, "  calls-stalled {}", self.calls.stalled)
+        tell(f, "  tables-made", self.tables.made)?;
+        tell(f, "  tables-freed", self.tables.freed)?;
+        tell(f, "  msyncs", self.calls.msyncs)?;
+        tell(f, "  calls-refused", self.calls.refused)?;
+        tell(f, "  calls-stalled", self.calls.stalled)
     }
 }
 
 impl Display for AccessCounts {
     fn fmt<W: fmt::Write>(&self, f: &mut Formatter<W>) -> fmt::Result {
-        writeln!(f, "  loads {}", self.loads)?;
-        writeln!(f, "  stores {}", self.stores)?;
-        writeln!(f, "  fetches {}", self.fetches)?;
-        writeln!(f, "  buffer-hits {}", self.hits)?;
-        writeln!(f, "  walks {}", self.walks)?;
-        writeln!(f, "  faults {}", self.faults)?;
-        writeln!(f, "  stalls {}", self.stalls)?;
-        writeln!(f, "  refused {}", self.refused)
+        tell(f, "  loads", self.loads)?;
+        tell(f, "  stores", self.stores)?;
+        tell(f, "  fetches", self.fetches)?;
+        tell(f, "  buffer-hits", self.hits)?;
+        tell(f, "  walks", self.walks)?;
+        tell(f, "  faults", self.faults)?;
+        tell(f, "  stalls", self.stalls)?;
+        tell(f, "  refused", self.refused)
     }
 }
 
 impl Display for FaultCounts {
     fn fmt<W: fmt::Write>(&self, f: &mut Formatter<W>) -> fmt::Result {
-        writeln!(f, "  page-faults {}", self.all)?;
-        writeln!(f, "    major {}", self.major)?;
-        writeln!(f, "    minor {}", self.minor)?;
-        writeln!(f, "      reuse {}", self.reuses)?;
-        writeln!(f, "      link {}", self.links)?;
-        writeln!(f, "      mark {}", self.marks)
+        tell(f, "  page-faults", self.all)?;
+        tell(f, "    major", self.major)?;
+        tell(f, "    minor", self.minor)?;
+        tell(f, "      reuse", self.reuses)?;
+        tell(f, "      link", self.links)?;
+        tell(f, "      mark", self.marks)
     }
 }
 
 impl Display for FrameCounts {
     fn fmt<W: fmt::Write>(&self, f: &mut Formatter<W>) -> fmt::Result {
-        writeln!(f, "  frames-filled {}", self.filled)?;
-        writeln!(f, "    from-image {}", self.from_image)?;
-        writeln!(f, "    from-slot {}", self.from_slot)?;
-        writeln!(f, "    zero-fill {}", self.zero_fills)?;
-        writeln!(f, "    copy {}", self.copies)?;
-        writeln!(f, "  evictions {}", self.evictions)?;
-        writeln!(f, "    to-slot {}", self.to_slot)?;
-        writeln!(f, "    dropped {}", self.dropped)?;
-        writeln!(f, "  frames-released {}", self.released)
+        tell(f, "  frames-filled", self.filled)?;
+        tell(f, "    from-image", self.from_image)?;
+        tell(f, "    from-slot", self.from_slot)?;
+        tell(f, "    zero-fill", self.zero_fills)?;
+        tell(f, "    copy", self.copies)?;
+        tell(f, "  evictions", self.evictions)?;
+        tell(f, "    to-slot", self.to_slot)?;
+        tell(f, "    dropped", self.dropped)?;
+        tell(f, "  frames-released", self.released)
     }
 }

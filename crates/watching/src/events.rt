@@ -197,7 +197,7 @@ impl Display for Content {
                 page,
             } => write!(f, "own copy of page 0x{page:x} of process {}", pid.get()),
             Content::Own { pid: None, page } => write!(f, "own copy of page 0x{page:x}"),
-            Content::Page(page) => write!(f, "{}", PageText(*page)),
+            Content::Page(page) => PageText(*page).fmt(f),
         }
     }
 }
@@ -206,8 +206,8 @@ impl Display for Refuge {
     fn fmt<W: fmt::Write>(&self, f: &mut Formatter<W>) -> fmt::Result {
         match self {
             Refuge::Slot(Some(slot)) => write!(f, "went to slot {}", slot.0),
-            Refuge::Slot(None) => write!(f, "went to a slot"),
-            Refuge::Home => write!(f, "was untouched, so nothing was written"),
+            Refuge::Slot(None) => f.write_str("went to a slot"),
+            Refuge::Home => f.write_str("was untouched, so nothing was written"),
         }
     }
 }
@@ -215,11 +215,11 @@ impl Display for Refuge {
 impl Display for Source {
     fn fmt<W: fmt::Write>(&self, f: &mut Formatter<W>) -> fmt::Result {
         match self {
-            Source::Zeros => write!(f, "is filled with zeros"),
+            Source::Zeros => f.write_str("is filled with zeros"),
             Source::Frame(frame) => write!(f, "is copied from frame {}", frame.0),
             Source::Slot(Some(slot)) => write!(f, "came back from slot {}", slot.0),
-            Source::Slot(None) => write!(f, "came back from a slot"),
-            Source::Image => write!(f, "was read from the image"),
+            Source::Slot(None) => f.write_str("came back from a slot"),
+            Source::Image => f.write_str("was read from the image"),
         }
     }
 }

@@ -12,10 +12,11 @@ pub struct PageText(pub PageKey);
 
 impl Display for PageText {
     fn fmt<W: fmt::Write>(&self, f: &mut Formatter<W>) -> fmt::Result {
-        match self.0 {
-            PageKey::File(page) => write!(f, "page {} of file {}", page.page, page.file),
-            PageKey::Object(page) => write!(f, "page {} of object {}", page.page, page.object),
-        }
+        let (page, kind, number) = match self.0 {
+            PageKey::File(page) => (u64::from(page.page), "file", u16::from(page.file)),
+            PageKey::Object(page) => (page.page, "object", page.object),
+        };
+        write!(f, "page {page} of {kind} {number}")
     }
 }
 
@@ -43,7 +44,7 @@ impl Display for EntryText {
     fn fmt<W: fmt::Write>(&self, f: &mut Formatter<W>) -> fmt::Result {
         let entry = self.0;
         if entry.to_u64() == 0 {
-            return write!(f, "nothing");
+            return f.write_str("nothing");
         }
         if entry.is_pointer() {
             return write!(f, "{} table in frame {}", BitsText(entry), entry.frame());
@@ -53,7 +54,7 @@ impl Display for EntryText {
         }
         write!(f, "{} frame {}", StateText(entry), entry.frame())?;
         if entry.is_private() {
-            return write!(f, " own");
+            return f.write_str(" own");
         }
         Ok(())
     }
@@ -66,9 +67,9 @@ pub struct StateText(pub Pte);
 impl Display for StateText {
     fn fmt<W: fmt::Write>(&self, f: &mut Formatter<W>) -> fmt::Result {
         if self.0.is_valid() {
-            write!(f, "{}", BitsText(self.0))
+            BitsText(self.0).fmt(f)
         } else {
-            write!(f, "parked")
+            f.write_str("parked")
         }
     }
 }
@@ -91,27 +92,13 @@ pub struct BackingText(pub Backing);
 
 impl Display for BackingText {
     fn fmt<W: fmt::Write>(&self, f: &mut Formatter<W>) -> fmt::Result {
-        match self.0 {
-            Backing::Anon => write!(f, "anon"),
-            Backing::Private(page) => write!(
-                f,
-                "private {} 0x{:x}",
-                page.file,
-                bytes_before(u64::from(page.page))
-            ),
-            Backing::Shared(page) => write!(
-                f,
-                "shared {} 0x{:x}",
-                page.file,
-                bytes_before(u64::from(page.page))
-            ),
-            Backing::Common(page) => write!(
-                f,
-                "common {} 0x{:x}",
-                page.object,
-                bytes_before(page.page)
-            ),
-        }
+        let (kind, number, page) = match self.0 {
+            Backing::Anon => return f.write_str("anon"),
+            Backing::Private(page) => ("private", u16::from(page.file), u64::from(page.page)),
+            Backing::Shared(page) => ("shared", u16::from(page.file), u64::from(page.page)),
+            Backing::Common(page) => ("common", page.object, page.page),
+        };
+        write!(f, "{kind} {number} 0x{:x}", bytes_before(page))
     }
 }
 
@@ -152,11 +139,11 @@ pub struct HoldingText(pub Holding);
 impl Display for HoldingText {
     fn fmt<W: fmt::Write>(&self, f: &mut Formatter<W>) -> fmt::Result {
         match self.0 {
-            Holding::Nothing => write!(f, "free"),
-            Holding::Zeros => write!(f, "the zero page"),
-            Holding::Table => write!(f, "a table"),
+            Holding::Nothing => f.write_str("free"),
+            Holding::Zeros => f.write_str("the zero page"),
+            Holding::Table => f.write_str("a table"),
             Holding::Own(page) => write!(f, "own copy of page 0x{page:x}"),
-            Holding::Page(page) => write!(f, "{}", PageText(page)),
+            Holding::Page(page) => PageText(page).fmt(f),
         }
     }
 }

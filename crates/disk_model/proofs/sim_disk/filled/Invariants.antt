@@ -1,4 +1,4 @@
-use Rattle.std.proofs.Common.{◌≡◌, replicate}
+use Rattle.disk_model.proofs.Names.{◌≡◌, replicate}
 use Rattle.disk_model.proofs.sim_disk.filled.Given as goal
 
 abbrev pub invariant-loop-i : goal.invariant-loop-i

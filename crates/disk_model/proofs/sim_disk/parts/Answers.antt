@@ -1,5 +1,4 @@
-use Rattle.std.proofs.Common.{ap, ◌∙◌, ◌/◌, [], get_or}
-use Rattle.std.specs.Simd.{first_chunks}
+use Rattle.disk_model.proofs.Names.{ap, ◌∙◌, ◌/◌, [], get_or, first_chunks}
 use Rattle.disk_model.proofs.Pages.{chunk_at}
 use Rattle.disk_model.proofs.sim_disk.parts.Goals as goal
 

@@ -1,9 +1,6 @@
-use Rattle.vm_types.specs.{Limits.{user_end}, Verdict.{Fine}, declared.number.FrameNo.{FrameNo}, declared.number.Phys.{Phys}, declared.refusal.Stall.{Stall}}
-use Rattle.std.proofs.Common.{ℕ, refl, Ok, Err, Result, ◌/◌, ◌<◌, sym, ap, ◌∙◌, subst}
-use Rattle.residency.specs.{declared.kernel.Core.{Core}, Picture.{picture_of}}
+use Rattle.fault.proofs.Names.{user_end, Fine, FrameNo, Phys, Stall, ℕ, refl, Ok, Err, Result, ◌/◌, ◌<◌, sym, ap, ◌∙◌, subst, Core, picture_of}
 use Rattle.fault.specs.declared.refusal.AccessRefusal.TheVariants as Refusal
-use Rattle.fault.specs.{Outcome.{seen_at}, Serving.{Reaches, Serves}}
-use Rattle.fault.proofs.{Serving.{reaches_stall, tends_none}, Verdicts.{placed_made, grants_made, page_user}, Wanted.{root_live, walked_same, no_walk}}
+use Rattle.fault.{specs.{Outcome.{seen_at}, Serving.{Reaches, Serves}}, proofs.{Serving.{reaches_stall, tends_none}, Ready.{placed_made, grants_made, page_user}, Wanted.{root_live, walked_same, no_walk}}}
 use Rattle.fault.proofs.accesses.access.Goals as goal
 
 pub returns-in-Place : goal.returns-in-Place
@@ -77,9 +74,8 @@ returns-in_ok-frame-in-Page g c =
     let serves = subst P found.page_is (subst M c.find.ensures.same c.in_ok-frame-in-Page.ensures) in
     let fine = found.fine ∙ ap (λ k. Fine (seen_at old pid k attr)) found.page_is in
     let root = root_live old pid c.requires.lives in
-    let Q : Phys → Type 0 = λ x. Reaches g.D.SectorDisk g.E.SectorDisk before after pid addr width access (Ok x) in
     let R : ℕ → Type 0 = λ x. x < user_end g.M.Levels.mode in
-    subst Q (sym c.place_in.ensures)
+    subst (λ (x : Phys). Reaches g.D.SectorDisk g.E.SectorDisk before after pid addr width access (Ok x)) (sym c.place_in.ensures)
     (record {
       tends = serves.tends;
       placed = placed_made old new pid root.0 addr width access attr frame.0 serves.proceeds.fit (serves.proceeds.spaces.root pid ∙ root.1)

@@ -1,6 +1,4 @@
-use Rattle.std.proofs.Common.{sym, ◌∙◌}
-use Rattle.residency.specs.Picture.{picture_of}
-use Rattle.fault.proofs.Verdicts.{verdict-none, verdict-denied, verdict-past}
+use Rattle.fault.proofs.{Names.{sym, ◌∙◌, picture_of}, Ready.{verdict-none, verdict-denied, verdict-past}}
 use Rattle.fault.proofs.finding.judge.Goals as goal
 
 pub returns-in_default-clause-faults : goal.returns-in_default-clause-faults

@@ -1,10 +1,6 @@
-use Rattle.std.proofs.Common.{ap, ◌∙◌, rules}
-use Rattle.vm_types.specs.{declared.access.Access.TheVariants.{Store}, declared.object.PageKey.TheVariants.{File}, Attributes.{stands_on}}
-use Rattle.residency.specs.{declared.kernel.Core.{Core}, Picture.{picture_of}, Parts.{is_shared}}
-use Rattle.fault.specs.{Changes.{copied_frame}, Granted.{IsReadyAt}}
-use Rattle.fault.proofs.{Forms.{none_here, behind_of}, NoTables.{no_table_then}, TablesGiven.{links_no_table}, AccessAsking.{asks_copied, brought_out, copies_cached}, Brought.{linked_then, read_then, calm_then, brings_on, stalled_on}}
-use Rattle.fault.proofs.{Owned.{owned_ready, owned_entered, owned_calm, owned_stalled}, Served.{may_bring, shows_at, serves_away, stands_brought, open_brought, none_brought}, Settled.{ready_after}, AccessSlotted.{slotted_on}}
-use Rattle.fault.proofs.AccessSteps.{proceeds_then, ok_then, on_ok_then, counts_then, counts_done}
+use Rattle.fault.{specs.{Changes.{copied_frame}, Granted.{IsReadyAt}}, proofs.{Forms.{none_here, behind_of}, Steps.{no_table_then, linked_kept}, WaySteps.{links_no_table}, AccessAsking.{asks_copied, brought_out, copies_cached}}}
+use Rattle.fault.proofs.{Linked.{read_then, calm_then, brings_on, stalled_on}, Entered.{owned_ready, owned_entered, owned_calm, owned_stalled}, Serving.{may_bring, shows_at, serves_away, stands_brought, open_brought, none_brought}}
+use Rattle.fault.proofs.{Names.{ap, ◌∙◌, rules, Store, File, stands_on, Core, picture_of, is_shared}, Settled.{ready_after}, AccessSlotted.{slotted_on}, AccessSteps.{proceeds_then, ok_then, on_ok_then, counts_then, counts_done}}
 use Rattle.fault.proofs.granting.grant_copy.Goals as goal
 
 pub cached-requires : goal.cached-requires
@@ -81,7 +77,7 @@ returns g c =
           (λ common. (c.in_ok-cached.field-0.0, behind_of mid attr.backing file c.in_ok-cached.field-0.0 backs first.placed)) done.behind done.others done.files r done.bytes done.entered);
       counts = on_ok_then _ _ r (counts_then g.D.SectorDisk g.E.SectorDisk before between after first.cause) (counts_done g.D.SectorDisk g.E.SectorDisk between after r done.moves.store done.cause);
       stalled = stalled_on before between pid page file shows g.D.SectorDisk g.E.SectorDisk after Store r (λ n is. (idle n is).0) first.keeps first.cause.2 first.cause.0 first.cause.1 done.cause
-          (owned_stalled between after pid page attr at alone g.D.SectorDisk g.E.SectorDisk r (linked_then old mid pid page first.proceeds.fit first.proceeds.spaces first.proceeds.tables asked.may.spot.linked) here
+          (owned_stalled between after pid page attr at alone g.D.SectorDisk g.E.SectorDisk r (linked_kept old mid pid page asked.may.spot.linked first.proceeds.fit first.proceeds.spaces first.proceeds.tables) here
           (λ common. (c.in_ok-cached.field-0.0, behind_of mid attr.backing file c.in_ok-cached.field-0.0 backs first.placed)) done.behind done.moves done.files done.same done.frees done.wanted done.cause done.short
           done.refuses);
     }

@@ -1,8 +1,6 @@
-use Rattle.std.proofs.Common.{inl, None, sym, ap, ◌∙◌, subst}
-use Rattle.vm_types.specs.declared.access.Access.{Access}
-use Rattle.residency.specs.Picture.{picture_of, is_swapped}
-use Rattle.fault.specs.{Asking.{IsSectorOfCopy}, Serving.{Serves}, SpotServing.{MayServeAt}, Wants.{ForSlot}}
-use Rattle.fault.proofs.{Forms.{mapped_page}, SwapSteps.{swapped_page}, Entered.{swapped_entered, swapped_ready, swapped_stalled}, Serving.{tends_moved}, AccessSteps.{counts_done}}
+use Rattle.residency.specs.Picture.{is_swapped}
+use Rattle.fault.{specs.{Asking.{IsSectorOfCopy}, Serving.{Serves}, SpotServing.{MayServeAt}, Wants.{ForSlot}}, proofs.{Forms.{mapped_page}, SwapSteps.{swapped_page}, Entered.{swapped_entered, swapped_ready, swapped_stalled}}}
+use Rattle.fault.proofs.{Names.{inl, None, sym, ap, ◌∙◌, subst, Access, picture_of}, Serving.{tends_moved}, AccessSteps.{counts_done}}
 use Rattle.fault.proofs.granting.grant_linked.Goals as goal
 
 pub swap_in-requires : goal.swap_in-requires
@@ -44,8 +42,7 @@ returns-then-is_swapped g c =
 
 pub grant_store-requires-clause-may : goal.grant_store-requires-clause-may
 grant_store-requires-clause-may g c =
-    let P : Access → Type 0 = λ a. MayServeAt g.D.SectorDisk g.E.SectorDisk c.args.core.now c.args.spot.now c.args.attr.now a in
-    subst P c.in-Store.is c.requires.may
+    subst (λ (a : Access). MayServeAt g.D.SectorDisk g.E.SectorDisk c.args.core.now c.args.spot.now c.args.attr.now a) c.in-Store.is c.requires.may
 
 pub returns-in-Store : goal.returns-in-Store
 returns-in-Store g c =

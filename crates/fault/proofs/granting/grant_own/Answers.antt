@@ -1,9 +1,4 @@
-use Rattle.std.proofs.Common.{◌∙◌}
-use Rattle.disk_model.specs.Moments.{Nothing}
-use Rattle.vm_types.specs.declared.access.Access.TheVariants.{Store}
-use Rattle.residency.specs.Picture.{picture_of}
-use Rattle.fault.specs.Changes.{copied_frame}
-use Rattle.fault.proofs.{Owned.{owned_ready, owned_entered, owned_calm, owned_stalled}, Serving.{tends_moved}, AccessSteps.{counts_done}}
+use Rattle.fault.{specs.Changes.{copied_frame}, proofs.{Names.{◌∙◌, Nothing, Store, picture_of}, Entered.{owned_ready, owned_entered, owned_calm, owned_stalled}, Serving.{tends_moved}, AccessSteps.{counts_done}}}
 use Rattle.fault.proofs.granting.grant_own.Goals as goal
 
 pub returns : goal.returns

@@ -1,9 +1,5 @@
-use Rattle.std.proofs.Common.{false, inl, ap, ◌∙◌}
-use Rattle.vm_types.specs.declared.access.Access.TheVariants.{Store}
-use Rattle.swap.specs.Slots.{slots_of}
-use Rattle.residency.specs.Picture.{picture_of}
-use Rattle.fault.proofs.{Forms.{mapped_page, shared_none}, Opening.{reads_too}, Served.{may_bring, shows_at, serves_away, stands_brought, open_brought}, Serving.{tends_shown}}
-use Rattle.fault.proofs.{Settled.{entered_store, entered_ready, ready_shared, touched_entry, touches_after}, AccessSteps.{held_marked, counts_then, counts_calm}}
+use Rattle.fault.proofs.{Forms.{mapped_page, shared_none}, Settled.{reads_too, entered_store, entered_ready, ready_shared, touched_entry, touches_after}, Serving.{may_bring, shows_at, serves_away, stands_brought, open_brought, tends_shown}}
+use Rattle.fault.proofs.{Names.{false, inl, ap, ◌∙◌, Store, slots_of, picture_of}, AccessSteps.{held_marked, counts_then, counts_calm}}
 use Rattle.fault.proofs.granting.grant_shared.Goals as goal
 
 pub cached-requires : goal.cached-requires

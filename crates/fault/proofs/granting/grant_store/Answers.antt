@@ -1,6 +1,5 @@
-use Rattle.std.proofs.{Common.{refl, sym, ap, ◌∙◌, subst}, lemmas.Bool.{false≢true}}
-use Rattle.vm_types.specs.declared.region.Backing.{Backing}
-use Rattle.residency.specs.{Picture.{picture_of, is_private}, Parts.{IsBehind}}
+use Rattle.fault.proofs.Names.{refl, sym, ap, ◌∙◌, subst, false≢true, Backing, picture_of, IsBehind}
+use Rattle.residency.specs.Picture.{is_private}
 use Rattle.fault.proofs.granting.grant_store.Goals as goal
 
 pub grant_own-requires-clause-in_memory : goal.grant_own-requires-clause-in_memory

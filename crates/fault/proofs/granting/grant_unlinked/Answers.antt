@@ -1,10 +1,5 @@
-use Rattle.std.proofs.Common.{inl, inr, Option, None, refl, sym, ap, ◌∙◌, subst, rules}
-use Rattle.std.specs.Prelude.{IsSome}
-use Rattle.vm_types.specs.declared.region.Attr.{Attr}
-use Rattle.disk_model.specs.Moments.{Nothing}
-use Rattle.frames.specs.FrameTable.{IsFull}
-use Rattle.residency.specs.{Picture.{picture_of}, Ways.{IsWhole}}
-use Rattle.fault.proofs.{Forms.{mapped_page}, TablesGiven.{links_on}, AccessAsking.{asks_less, asks_back, tables_out}, Linked.{open_still, calm_back, read_back, away_back, ready_back, brings_back, stalled_back, stalled_tables}}
+use Rattle.fault.proofs.Names.{inl, inr, Option, None, refl, sym, ap, ◌∙◌, subst, rules, IsSome, Attr, Nothing, IsFull, picture_of, IsWhole}
+use Rattle.fault.proofs.{Forms.{mapped_page}, WaySteps.{links_on}, AccessAsking.{asks_less, asks_back, tables_out}, Linked.{open_still, calm_back, read_back, away_back, ready_back, brings_back, stalled_back, stalled_tables}}
 use Rattle.fault.proofs.{Serving.{serves_stall}, AccessSlotted.{slotted_none, slotted_back}, AccessSteps.{proceeds_moves, proceeds_after, brings_none, on_ok_then, counts_then}, Wanted.{root_live, root_lives, whole_or}}
 use Rattle.fault.specs.Wants.{ForTable, LacksTable, ShowsFile}
 use Rattle.fault.proofs.granting.grant_unlinked.Goals as goal
@@ -57,7 +52,7 @@ returns-in_err-table g c =
     serves_stall g.D.SectorDisk g.E.SectorDisk before after pid page c.args.attr.now c.args.access c.from_residual.result c.in_err-table.field-0.0 c.from_residual.ensures.1
     (record {
       proceeds = proceeds_moves g.D.SectorDisk g.E.SectorDisk before after c.requires.may.store done.moves;
-      brings = λ kept. brings_none g.D.SectorDisk before.store.disk after.store.disk (ShowsFile old pid page) old new done.pages.files.held done.pages.files.files;
+      brings = λ kept. brings_none g.D.SectorDisk before.store.disk after.store.disk (ShowsFile old pid page) old new done.pages.files;
       others = λ q k other. done.pages.views q k;
       slotted = slotted_none old new pid page done.slotted;
       calm = λ unwanted. absurd (unwanted (ForTable lacks));

@@ -1,10 +1,6 @@
-use Rattle.std.proofs.Common.{◌≡◌, inl, inr, None, sym, ◌∙◌, rules}
-use Rattle.disk_model.specs.Moments.{Nothing}
-use Rattle.frames.specs.{declared.role.Role.TheVariants.{Free, Private}, FrameTable.{IsFull}}
-use Rattle.regions.proofs.ResultLemmas.{on_err}
-use Rattle.residency.specs.{Picture.{Picture, picture_of}, Ways.{IsWhole}}
-use Rattle.fault.proofs.{Steps.{same_with, moves_freed, bare_freed}, Slotted.{slotted_frees}, TablesLinked.{pages_linked, bare_linked, slotted_linked, tables_linked, spaces_linked, room_linked, fit_after, no_copy_linked, missing_taken}}
-use Rattle.fault.proofs.{TablesGiven.{still_wanted, links_none, gives_linked, links_linked}, Asking.{no_new_frees, no_new_linked, asks_slots_if, asks_swap}, NoTables.{full_stays}}
+use Rattle.fault.proofs.Steps.{same_with, moves_freed, bare_freed, slotted_frees, full_stays}
+use Rattle.fault.proofs.WaySteps.{pages_linked, bare_linked, slotted_linked, tables_linked, spaces_linked, room_linked, fit_after, no_copy_linked, missing_taken, still_wanted, links_none, gives_linked, links_linked}
+use Rattle.fault.proofs.{Names.{◌≡◌, inl, inr, None, sym, ◌∙◌, rules, Nothing, Free, Private, IsFull, on_err, Picture, picture_of, IsWhole}, Asking.{no_new_frees, no_new_linked, asks_slots_if, asks_swap}}
 use Rattle.fault.proofs.linking.link_one.Goals as goal
 
 pub link_table-requires-clause-root : goal.link_table-requires-clause-root

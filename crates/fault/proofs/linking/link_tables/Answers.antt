@@ -1,10 +1,5 @@
-use Rattle.vm_types.specs.{Limits.{top_level}, declared.region.Attr.{Attr}}
-use Rattle.page_tables.specs.Tree.{missing_of}
-use Rattle.std.proofs.Common.{◌≡◌, ℕ, inl, Option, Some, refl, sym, ◌∙◌, subst, arith, rules}
-use Rattle.std.specs.Prelude.{IsSome}
-use Rattle.regions.proofs.ResultLemmas.{on_err}
-use Rattle.residency.specs.{Picture.{picture_of}, Ways.{IsWhole}}
-use Rattle.fault.proofs.{Slotted.{slotted_then, slotted_same}, TablesGiven.{links_then}, WaySteps.{takes_none, takes_then, takes_done, takes_stall, nothing_on, nothing_if}}
+use Rattle.fault.proofs.Names.{top_level, Attr, missing_of, ◌≡◌, ℕ, inl, Option, Some, refl, sym, ◌∙◌, subst, arith, rules, same_Some, IsSome, on_err, picture_of, IsWhole}
+use Rattle.fault.proofs.{Steps.{slotted_then, slotted_same}, WaySteps.{links_then, takes_none, takes_then, takes_done, takes_stall, nothing_on, nothing_if}}
 use Rattle.fault.proofs.linking.link_tables.Goals as goal
 
 pub table_of-requires-clause-root : goal.table_of-requires-clause-root
@@ -29,19 +24,15 @@ loop-table-preserved g c =
     let first = c.args.core.now in
     let mid = c.loop-table.core in
     let last = c.link_one.new.core in
-    let P : Option Attr → Type 0 = λ x. IsSome x in
     record {
       takes = takes_then g.E.SectorDisk first mid last tt _ k.takes step.takes;
       tables = links_then (picture_of first) (picture_of mid) (picture_of last) c.args.pid c.args.page _ (step.moves.spaces.root c.args.pid) step.gives k.tables step.tables;
       slotted = slotted_then (λ p. ⊥) (λ q p. ⊥) (picture_of first) (picture_of mid) (picture_of last) k.slotted step.slotted;
       root = step.moves.spaces.root c.args.pid ∙ k.root;
-      mapped = subst P (sym (step.moves.spaces.at c.args.pid c.args.page)) k.mapped;
+      mapped = subst (λ (x : Option Attr). IsSome x) (sym (step.moves.spaces.at c.args.pid c.args.page)) k.mapped;
       fewer = omega (arith, lowered, k.fewer);
       idle = λ none. absurd (omega (arith, none, lowered, k.fewer));
     }
-
-some_root : (r x : ℕ) → Some r ≡ Some x → r ≡ x
-some_root r x e = (cc)
 
 pub returns-in-Ok : goal.returns-in-Ok
 returns-in-Ok g c =
@@ -55,7 +46,7 @@ returns-in-Ok g c =
         wanted = tt;
       };
       idle = search rules;
-      whole = λ r lives. subst P (some_root c.root_of-root.result.0 r (sym k.root ∙ lives)) (c.in-Ok.ensures.found.whole c.args.page refl);
+      whole = λ r lives. subst P (same_Some c.root_of-root.result.0 r (sym k.root ∙ lives)) (c.in-Ok.ensures.found.whole c.args.page refl);
       table = search rules;
     }
 

@@ -1,8 +1,4 @@
-use Rattle.vm_types.specs.Limits.{top_level}
-use Rattle.std.proofs.Common.{◌≡◌, ◌≤◌, Some, Ok}
-use Rattle.page_tables.specs.Tree.{missing_of}
-use Rattle.residency.specs.{Picture.{picture_of}, Parts.{IsMapped}}
-use Rattle.fault.specs.{Changes.{KeepsSlotted, LinksTables}, WaysLinked.{TakesForTables}}
+use Rattle.fault.{specs.{Changes.{KeepsSlotted, LinksTables}, WaysLinked.{TakesForTables}}, proofs.Names.{top_level, ◌≡◌, ◌≤◌, Some, Ok, missing_of, picture_of, IsMapped}}
 use Rattle.fault.proofs.linking.link_tables.Given as goal
 
 abbrev pub invariant-loop-table : goal.invariant-loop-table

@@ -1,12 +1,7 @@
-use Rattle.std.specs.Prelude.{is_some, IsTrue}
-use Rattle.std.proofs.{Common.{◌≡◌, Some, refl, sym, ap, ◌∙◌, subst, rules}, lemmas.Bool.{false≢true}}
-use Rattle.disk_model.specs.Moments.{Nothing}
-use Rattle.frames.specs.{declared.role.Role.{Role}, declared.role.Role.TheVariants.{Free, Private}, FrameTable.{is_handed_out}}
-use Rattle.swap.specs.{declared.slots.Swap.{Swap}, Slots.{IsReady}}
-use Rattle.residency.specs.{Calls.{UsesDevice}, Picture.{picture_of, is_private}}
-use Rattle.fault.proofs.{Aside.{aside_freed, leaves_aside}, Asking.{asks_slots_kept}, Forms.{used_inside}}
-use Rattle.fault.proofs.OwnSteps.{ownable_frame, shown_used, shown_datum, shown_inside, copy_frame, copied_given, fit_first, behind_freed, behind_first, role_shared, fit_shared, copied_shared}
-use Rattle.fault.proofs.{Settling.{forest_mid, root_mid, rows_mid, gives_frame}, Steps.{same_with}}
+use Rattle.fault.proofs.Names.{is_some, IsTrue, ◌≡◌, Some, refl, sym, ap, ◌∙◌, subst, rules, false≢true, Nothing, Role, Free, Private, is_handed_out, Swap, IsReady, UsesDevice, picture_of}
+use Rattle.residency.specs.Picture.{is_private}
+use Rattle.fault.proofs.{Settling.{aside_freed, leaves_aside, forest_mid, root_mid, rows_mid, gives_frame}, Asking.{asks_slots_kept}, Forms.{used_inside}}
+use Rattle.fault.proofs.{OwnSteps.{ownable_frame, shown_used, shown_datum, shown_inside, copy_frame, copied_given, fit_first, behind_freed, behind_first, role_shared, fit_shared, copied_shared}, Steps.{same_with}}
 use Rattle.fault.proofs.owning.copy_page.Goals as goal
 
 pub take_copy-requires : goal.take_copy-requires
@@ -61,7 +56,6 @@ returns-then-is_private g c =
     let releases = c.release.ensures.change in
     let copied = copied_shared shows done.taken page.stands.root gives private releases beside page.writable in
     let P : Swap _ → Type 0 = λ s. IsReady g.E.SectorDisk s in
-    let Q : Swap _ → Type 0 = λ s. UsesDevice g.E.SectorDisk c.args.core.now.swap.pages.disk s.pages.disk in
     record {
       own = copied.own;
       bytes = copied.bytes;
@@ -69,7 +63,7 @@ returns-then-is_private g c =
       sole = copied.sole;
       behind = λ x not_own. absurd (false≢true (sym not_own ∙ private));
       keeps = leaves_aside g.E.SectorDisk c.args.core.now _ (fit_shared shows done.taken page.stands.root gives private releases beside) (subst P (sym rest.swap) done.swap) copied.aside
-          (rest.store ∙ done.rest.store) (subst Q (sym rest.swap) done.device);
+          (rest.store ∙ done.rest.store) (subst (λ (s : Swap _). UsesDevice g.E.SectorDisk c.args.core.now.swap.pages.disk s.pages.disk) (sym rest.swap) done.device);
       asks = asks_slots_kept g.E.SectorDisk c.args.core.now c.take_copy.new.core c.set_full.new.core (Some c.args.shown) Nothing (ap (λ (s : Swap _). s.pages) rest.swap) done.asks;
       stalls = record { same = tt; frees = tt; refuses = tt; short = tt; cause = search rules };
     }
@@ -84,7 +78,6 @@ returns-else-is_private g c =
     let common = sym (ap is_private c.requires.was) ∙ sym c.is_private.ensures ∙ c.if-is_private.false in
     let copied = copied_given shows done.taken page.stands.root gives page.writable in
     let P : Swap _ → Type 0 = λ s. IsReady g.E.SectorDisk s in
-    let Q : Swap _ → Type 0 = λ s. UsesDevice g.E.SectorDisk c.args.core.now.swap.pages.disk s.pages.disk in
     record {
       own = copied.own;
       bytes = copied.bytes;
@@ -92,7 +85,7 @@ returns-else-is_private g c =
       sole = copied.sole;
       behind = λ x not_own. behind_first shows done.taken page.stands.root gives not_own x;
       keeps = leaves_aside g.E.SectorDisk c.args.core.now _ (fit_first shows done.taken page.stands.root gives common) (subst P (sym rest.swap) done.swap) copied.aside
-          (rest.store ∙ done.rest.store) (subst Q (sym rest.swap) done.device);
+          (rest.store ∙ done.rest.store) (subst (λ (s : Swap _). UsesDevice g.E.SectorDisk c.args.core.now.swap.pages.disk s.pages.disk) (sym rest.swap) done.device);
       asks = asks_slots_kept g.E.SectorDisk c.args.core.now c.take_copy.new.core c.set_full.new.core (Some c.args.shown) Nothing (ap (λ (s : Swap _). s.pages) rest.swap) done.asks;
       stalls = record { same = tt; frees = tt; refuses = tt; short = tt; cause = search rules };
     }
@@ -109,11 +102,5 @@ returns-in_err-own g c =
       behind = λ x not_own. behind_freed _ _ c.args.attr.now.backing c.args.shown.0 done.frees (shown_datum shows) (c.requires.common not_own) x;
       keeps = leaves_aside g.E.SectorDisk c.args.core.now _ done.fit done.swap (aside_freed done.frees) done.rest.store done.device;
       asks = search rules;
-      stalls = record {
-        same = search rules;
-        frees = search rules;
-        refuses = search rules;
-        short = search rules;
-        cause = search rules;
-      };
+      stalls = search rules;
     }

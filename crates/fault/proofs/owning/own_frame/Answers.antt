@@ -1,13 +1,8 @@
-use Rattle.std.proofs.{Common.{◌≡◌, ◌≢◌, ℕ, Bool, true, false, Some, Result, Ok, Err, inl, inr, get_or, refl, sym, ap, ◌∙◌, subst, arith, rules}, lemmas.Bool.{cases_Bool, false≢true}}
-use Rattle.std.specs.Prelude.{OnErr}
-use Rattle.disk_model.specs.Moments.{Nothing}
-use Rattle.frames.specs.FrameTable.{bytes_of, count_of, role_of}
-use Rattle.sv39_walk.specs.Entry.{frame_of}
-use Rattle.residency.specs.Picture.{Picture, picture_of, entry, is_private}
-use Rattle.page_tables.specs.Leaves.{IsEntryOver}
-use Rattle.fault.specs.{Leaves.{IsFullEntry}, OwnFrames.{CopiesPage}, Changes.{shown_frame, copied_frame, is_sole}}
-use Rattle.fault.proofs.{Asking.{asks_slots_same}, Forms.{seat_zero, none_common}, NoTables.{no_table_calm}, OwnSteps.{frame_shown, shown_inside, shown_datum, shown_own, common_when, several_when, full_own, own_view}}
-use Rattle.fault.proofs.{Slotted.{slotted_calm}, Steps.{moves_entered}, owning.own_frame.Goals.{else-is_private-via-then-is_private+else-count-eq1, else-is_private-via-else-is_private}}
+use Rattle.fault.proofs.Names.{◌≡◌, ◌≢◌, ℕ, Bool, true, false, Some, Result, Ok, Err, inl, inr, get_or, refl, sym, ap, ◌∙◌, subst, arith, rules, cases_Bool, false≢true, OnErr, Nothing, bytes_of, count_of, role_of, frame_of, Picture}
+use Rattle.residency.specs.Picture.{is_private}
+use Rattle.fault.{specs.{Leaves.{IsFullEntry}, OwnFrames.{CopiesPage}, Changes.{shown_frame, copied_frame, is_sole}}, proofs.{Asking.{asks_slots_same}, Forms.{seat_zero, none_common}, Steps.{no_table_calm, slotted_calm, moves_entered}}}
+use Rattle.fault.proofs.OwnSteps.{frame_shown, shown_inside, shown_datum, shown_own, common_when, several_when, full_own, own_view}
+use Rattle.fault.proofs.{Names.{picture_of, entry, IsEntryOver}, owning.own_frame.Goals.{else-is_private-via-then-is_private+else-count-eq1, else-is_private-via-else-is_private}}
 use Rattle.fault.proofs.owning.own_frame.Goals as goal
 
 pub shown_frame-shown-requires-clause-number : goal.shown_frame-shown-requires-clause-number

@@ -1,8 +1,4 @@
-use Rattle.std.proofs.Common.{◌≢◌, Some, refl, sym, ap, ◌∙◌, subst, arith, rules}
-use Rattle.disk_model.specs.Moments.{Nothing}
-use Rattle.frames.specs.FrameTable.{FrameTable, IsFrame, bytes_of, role_of, count_of}
-use Rattle.frames.proofs.FrameLemmas.{with_bytes-others, with_bytes-same}
-use Rattle.residency.specs.{Picture.{Picture, picture_of}, Steps.{ChangesFrame}}
+use Rattle.fault.proofs.Names.{◌≢◌, Some, refl, sym, ap, ◌∙◌, subst, arith, rules, Nothing, FrameTable, IsFrame, bytes_of, role_of, count_of, with_bytes-others, with_bytes-same, Picture, picture_of, ChangesFrame}
 use Rattle.fault.proofs.{Asking.{asks_swap}, SwapSteps.{own_written, changes_further}}
 use Rattle.fault.proofs.owning.take_copy.Goals as goal
 
@@ -50,15 +46,5 @@ returns g c =
 
 pub returns-in_err-own : goal.returns-in_err-own
 returns-in_err-own g c =
-    record {
-      taken = search rules;
-      rest = search rules;
-      swap = search rules;
-      device = search rules;
-      asks = asks_swap g.E.SectorDisk c.args.core.now c.take_own.new.self (Some c.args.from) Nothing c.in_err-own.ensures.asked;
-      fit = search rules;
-      frees = search rules;
-      refuses = search rules;
-      short = search rules;
-      cause = search rules;
-    }
+    let asks = asks_swap g.E.SectorDisk c.args.core.now c.take_own.new.self (Some c.args.from) Nothing c.in_err-own.ensures.asked in
+    search rules

@@ -1,10 +1,5 @@
-use Rattle.std.proofs.Common.{ℕ, ◌≢◌, inl, None, sym, ◌∙◌}
-use Rattle.vm_types.specs.{declared.number.FrameNo.{FrameNo}, declared.number.SlotNo.{SlotNo}}
-use Rattle.page_cache.specs.declared.place.Place.TheVariants.{Frame, Slot}
-use Rattle.swap.specs.Slots.{IsSectorOfSlot}
-use Rattle.residency.specs.Picture.{picture_of}
-use Rattle.fault.specs.Asking.{IsSectorOfPage}
-use Rattle.fault.proofs.{Asking.{asks_slots_wider, asks_swap_also}, AskedIn.{pages_in_beside}, BroughtIn.{brings_slot_of}}
+use Rattle.fault.proofs.Names.{ℕ, ◌≢◌, inl, None, sym, ◌∙◌, FrameNo, SlotNo, Frame, Slot, IsSectorOfSlot, picture_of}
+use Rattle.fault.{specs.Asking.{IsSectorOfPage}, proofs.{Asking.{asks_slots_wider, asks_swap_also}, AccessSteps.{pages_in_beside, brings_slot_of}}}
 use Rattle.fault.proofs.page_in.bring.Goals as goal
 
 no_frame : (slot : SlotNo) (k : FrameNo) → Slot slot ≢ Frame k

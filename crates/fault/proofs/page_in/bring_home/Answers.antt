@@ -1,19 +1,7 @@
-use Rattle.std.proofs.{Common.{◌≡◌, ◌≢◌, ℕ, false, inl, inr, None, refl, ap, sym, ◌∙◌, subst}, lemmas.Bool.{cases_Bool}}
-use Rattle.vm_types.specs.{declared.number.FrameNo.{FrameNo}, declared.object.PageKey.{PageKey}, declared.object.PageKey.TheVariants.{File, Object}}
-use Rattle.disk_model.proofs.Moments.{asks_wider}
-use Rattle.file_store.specs.Store.{IsSectorOf}
-use Rattle.page_cache.specs.declared.place.Place.TheVariants.{Home, Frame}
-use Rattle.residency.specs.{Picture.{Picture, picture_of}, Parts.{IsFit}}
+use Rattle.fault.proofs.Names.{◌≢◌, inr, None, refl, ap, sym, ◌∙◌, subst, FrameNo, PageKey, File, Object, asks_wider, IsSectorOf, Home, Frame, picture_of}
 use Rattle.fault.specs.{Asking.{IsSectorOfPage, IsSectorOfStoredPage}, PagingIn.{PagesIn}}
-use Rattle.fault.proofs.{Asking.{asks_swap}, AskedIn.{no_new_of, pages_in_beside}, BroughtIn.{keeps_in, only_in, placed_in, brings_home_of, brings_blank_of, err_always}}
+use Rattle.fault.proofs.{Asking.{asks_swap}, AccessSteps.{no_new_of, pages_in_beside, keeps_in, only_in, placed_in, brings_home_of, brings_blank_of, err_always, untouched_home}}
 use Rattle.fault.proofs.page_in.bring_home.Goals as goal
-
--- a page at home isn't touched
-untouched_home : {mode : ℕ} (c : Picture mode) (p : PageKey) → IsFit c → c.place p ≡ Home → c.touched p ≡ false
-untouched_home c p fit home = elim (cases_Bool (c.touched p)) [
-  | inl touched ↦ absurd (fit.dirty.held p touched home)
-  | inr clean ↦ clean
-]
 
 no_frame : (k : FrameNo) → Home ≢ Frame k
 no_frame k e = (cc)
@@ -29,8 +17,7 @@ returns-in-File g c =
     let done = c.bring_in.ensures in
     let keeps = keeps_in done.comes in
     let home = ap old.place (sym c.in-File.is) ∙ c.requires.home in
-    let P : PageKey → Type 0 = λ p. PagesIn g.D.SectorDisk g.E.SectorDisk before after p r in
-    subst P (sym c.in-File.is)
+    subst (λ (p : PageKey). PagesIn g.D.SectorDisk g.E.SectorDisk before after p r) (sym c.in-File.is)
     (record {
       placed = placed_in done.comes;
       only = only_in done.comes;
@@ -70,8 +57,7 @@ returns-in-Object g c =
     let r = c.bring_blank.result in
     let done = c.bring_blank.ensures in
     let home = ap old.place (sym c.in-Object.is) ∙ c.requires.home in
-    let P : PageKey → Type 0 = λ p. PagesIn g.D.SectorDisk g.E.SectorDisk before after p r in
-    subst P (sym c.in-Object.is)
+    subst (λ (p : PageKey). PagesIn g.D.SectorDisk g.E.SectorDisk before after p r) (sym c.in-Object.is)
     (pages_in_beside g.D.SectorDisk g.E.SectorDisk c.requires.may.fit c.requires.may.store (λ k at. no_frame k (sym home ∙ at)) done.comes done.rest done.uses done.refused
     (asks_swap g.E.SectorDisk before after None (IsSectorOfPage old page) done.asked)
     (λ kept. brings_blank_of g.D.SectorDisk before.store.disk after.store.disk old (picture_of after) c.in-Object.page r done.brought done.frees (untouched_home old page c.requires.may.fit home) done.blank))

@@ -1,7 +1,5 @@
-use Rattle.std.proofs.Common.{Some, None, inl, inr, refl, rules, arith}
-use Rattle.residency.specs.Picture.{picture_of}
-use Rattle.fault.specs.Asking.{IsSectorOfPage, IsSectorOfStoredPage}
-use Rattle.fault.proofs.{Asking.{no_new_same, asks_slots_same}, AskedIn.{store_same}, BroughtIn.{reads_none, brings_none}, NoTables.{no_table_none}, Slotted.{slotted_same}, Steps.{device_none}}
+use Rattle.fault.{specs.Asking.{IsSectorOfPage, IsSectorOfStoredPage}, proofs.{Asking.{no_new_same, asks_slots_same}, AccessSteps.{store_same, reads_none, brings_none}}}
+use Rattle.fault.proofs.{Names.{Some, None, inl, inr, refl, rules, arith, picture_of}, Steps.{no_table_none, slotted_same, device_none, files_same, seen_none}}
 use Rattle.fault.proofs.page_in.cached.Goals as goal
 
 pub returns-in-Frame-clause-pages_in : goal.returns-in-Frame-clause-pages_in
@@ -21,8 +19,8 @@ returns-in-Frame-clause-pages_in g c =
         reads = reads_none g.D.SectorDisk core.store core.store refl;
         device = device_none g.E.SectorDisk core.swap.pages.disk;
       };
-      brings = λ kept. brings_none g.D.SectorDisk core.store.disk core.store.disk _ (picture_of core);
-      keeps = record { views = λ q k. refl; touched = λ p. refl };
+      brings = λ kept. brings_none g.D.SectorDisk core.store.disk core.store.disk _ (picture_of core) (picture_of core) (files_same (picture_of core));
+      keeps = seen_none (picture_of core);
       bare = λ q k h none. none;
       rows = λ q r row n lives there. there;
       no_table = no_table_none (picture_of core);

@@ -1,4 +1,4 @@
-use Rattle.std.proofs.Common.{arith}
+use Rattle.fault.proofs.Names.{arith}
 use Rattle.fault.proofs.showing.is_touched_behind.Goals as goal
 
 pub is_frame_touched-requires : goal.is_frame_touched-requires

@@ -1,10 +1,6 @@
-use Rattle.std.specs.Prelude.{is_some}
-use Rattle.std.proofs.Common.{ℕ, Bool, sym, ap, ◌∙◌, subst, arith}
-use Rattle.frames.specs.FrameTable.{IsFrame}
-use Rattle.sv39_walk.specs.Entry.{frame_of}
-use Rattle.residency.specs.{Picture.{Picture, picture_of, entry, is_private}, Parts.{IsBehind}}
-use Rattle.fault.specs.Leaves.{IsFullEntry}
-use Rattle.fault.proofs.{Entering.{shows_set}, Forms.{mapped_page, used_inside, resident_used, resident_page, seat_kept}}
+use Rattle.fault.proofs.Names.{is_some, ℕ, Bool, sym, ap, ◌∙◌, subst, arith, IsFrame, frame_of, Picture, picture_of, entry, IsBehind}
+use Rattle.residency.specs.Picture.{is_private}
+use Rattle.fault.{specs.Leaves.{IsFullEntry}, proofs.{Settling.{shows_set}, Forms.{mapped_page, used_inside, resident_used, resident_page, seat_kept}}}
 use Rattle.fault.proofs.showing.regrant.Goals as goal
 
 pub set_full-requires-clause-root : goal.set_full-requires-clause-root
@@ -15,8 +11,7 @@ set_full-requires-clause-frame g c =
     record {
       inside = (let old : Picture g.M.Levels.mode = picture_of c.args.core.now in
           let is = c.frame_number.ensures ∙ ap frame_of c.number_at-was.ensures in
-          let P : ℕ → Type 0 = λ x. IsFrame old.frames x in
-          subst P (sym is) (used_inside old.frames (frame_of (entry old c.args.spot.now.pid c.args.spot.now.page)) c.args.core.now.sound
+          subst (λ (x : ℕ). IsFrame old.frames x) (sym is) (used_inside old.frames (frame_of (entry old c.args.spot.now.pid c.args.spot.now.page)) c.args.core.now.sound
           (resident_used old c.args.spot.now.pid c.args.spot.now.page c.args.attr.now c.args.core.now.sound c.requires.spot.linked.fit (mapped_page old c.args.spot.now.pid c.args.spot.now.page c.args.attr.now c.requires.spot.linked.fit.granting c.requires.attr)
           c.requires.attr c.requires.resident c.requires.here)));
       behind = λ common.
@@ -52,11 +47,9 @@ returns g c =
     let own = c.is_private.ensures ∙ ap is_private c.number_at-was.ensures in
     let is = c.frame_number.ensures ∙ ap frame_of c.number_at-was.ensures in
     let resident = resident_page old pid page a granting (mapped_page old pid page a granting c.requires.attr) c.requires.attr c.requires.resident c.requires.here in
-    let B : ℕ → Type 0 = λ x. IsBehind old a.backing x in
     let shows = shows_set c.requires.spot c.requires.attr c.set_full.ensures
     (seat_kept was sets.0 a c.frame_number.result.0 c.is_private.result _ _ sets.1 own (λ _. is) c.requires.here)
-    (λ p. resident.private (sym own ∙ p)) (λ common. subst B (sym is) (resident.behind (sym own ∙ common))) resident.inside in
+    (λ p. resident.private (sym own ∙ p)) (λ common. subst (λ (x : ℕ). IsBehind old a.backing x) (sym is) (resident.behind (sym own ∙ common))) resident.inside in
     let now = entry (picture_of c.set_full.new.core) pid page in
-    let P : ℕ → Type 0 = λ x. IsFullEntry old a x c.is_private.result now in
     let Q : Bool → Type 0 = λ x. IsFullEntry old a (frame_of was) x now in
-    record { enters = shows.enters; files = shows.files; entry = subst Q own (subst P is shows.entry) }
+    record { enters = shows.enters; files = shows.files; entry = subst Q own (subst (λ (x : ℕ). IsFullEntry old a x c.is_private.result now) is shows.entry) }

@@ -1,7 +1,4 @@
-use Rattle.std.specs.Prelude.{is_some}
-use Rattle.std.proofs.{Common.{ap, sym, ◌∙◌}, lemmas.Bool.{false≢true}}
-use Rattle.residency.specs.Picture.{Picture, picture_of}
-use Rattle.fault.proofs.{Entering.{shows_set}, Forms.{seat_over_common, used_inside, behind_used}}
+use Rattle.fault.proofs.{Names.{is_some, ap, sym, ◌∙◌, false≢true, Picture, picture_of}, Settling.{shows_set}, Forms.{seat_over_common, used_inside, behind_used}}
 use Rattle.fault.proofs.showing.show_cached.Goals as goal
 
 pub set_full-requires-clause-root : goal.set_full-requires-clause-root

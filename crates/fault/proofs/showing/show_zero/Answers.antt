@@ -1,9 +1,5 @@
-use Rattle.std.specs.Prelude.{is_some}
-use Rattle.std.proofs.{Common.{false, refl, sym, ap, ◌∙◌, subst, arith}, lemmas.Bool.{false≢true}}
-use Rattle.vm_types.specs.{declared.region.Backing.{Backing}, Verdict.{is_past_end}}
-use Rattle.residency.specs.{Picture.{Picture, picture_of, entry}, Parts.{IsBehind}}
-use Rattle.fault.specs.Leaves.{IsFullEntry}
-use Rattle.fault.proofs.{Entering.{shows_set}, Forms.{seat_over_common, seat_zero}}
+use Rattle.fault.proofs.Names.{is_some, false, refl, sym, ap, ◌∙◌, subst, arith, false≢true, Backing, is_past_end, Picture, picture_of, entry, IsBehind}
+use Rattle.fault.{specs.Leaves.{IsFullEntry}, proofs.{Settling.{shows_set}, Forms.{seat_over_common, seat_zero}}}
 use Rattle.fault.proofs.showing.show_zero.Goals as goal
 
 pub set_full-requires-clause-root : goal.set_full-requires-clause-root

@@ -1,13 +1,5 @@
-use Rattle.std.specs.Prelude.{is_some, ◌&&◌}
-use Rattle.std.proofs.{Common.{◌≡◌, Bool, true, false, inl, inr, refl, sym, ap, ◌∙◌, subst}, lemmas.Bool.{false≢true}}
-use Rattle.vm_types.specs.{declared.object.PageKey.{PageKey}, Permission.{can_write}}
-use Rattle.page_cache.specs.CacheTable.{place_of, is_touched}
-use Rattle.frames.specs.declared.role.Role.TheVariants.{Table, Cache}
-use Rattle.residency.specs.{Picture.{Picture, picture_of, entry}, Parts.{is_shared}}
-use Rattle.residency.proofs.Places.{cases_page}
-use Rattle.page_tables.specs.Leaves.{IsEntryOver}
-use Rattle.fault.specs.Leaves.{is_touched_behind}
-use Rattle.fault.proofs.Entering.{beside_around, full_entry_now, full_set, full_fit, full_views, full_tables, linked_marked, entry_marked, view_marked, tables_marked}
+use Rattle.fault.proofs.Names.{is_some, ◌&&◌, ◌≡◌, Bool, true, false, inl, inr, refl, sym, ap, ◌∙◌, subst, false≢true, PageKey, can_write, place_of, is_touched, Table, Cache, Picture, picture_of, entry, is_shared, cases_page, IsEntryOver}
+use Rattle.fault.{specs.Leaves.{is_touched_behind}, proofs.Settling.{beside_around, full_entry_now, full_set, full_fit, full_views, full_tables, linked_marked, entry_marked, view_marked, tables_marked}}
 use Rattle.fault.proofs.{Forms.{used_inside, behind_of, touched_of, behind_used, mapped_page, shared_none, seat_over_common}, Steps.{tables_then}}
 use Rattle.fault.proofs.showing.touch.Goals as goal
 
@@ -48,7 +40,6 @@ returns g c =
     let stored : (is_touched_behind mid c.args.attr.now.backing && cw) ≡ true = ap (λ t. t && cw) (touched_of mid c.args.attr.now.backing c.args.stored.now c.requires.shared c.requires.stands) ∙ ap (λ t. t && cw) c.mark_dirty.ensures.touched ∙ c.requires.allowed.lets in
     let now = entry new c.args.spot.now.pid c.args.spot.now.page in
     let P : Bool → Type 0 = λ x. IsEntryOver now c.args.attr.now.prot c.args.frame.0 false x (is_touched_behind mid c.args.attr.now.backing && cw) in
-    let Q : Bool → Type 0 = λ x. IsEntryOver now c.args.attr.now.prot c.args.frame.0 false true x in
     record {
       enters = record {
         fit = full_fit mid new c.args.spot.now.pid c.args.spot.now.page r c.args.attr.now c.args.frame.0 false linked c.requires.spot.root c.requires.allowed.mapped sets beside same
@@ -76,5 +67,5 @@ returns g c =
         others = λ p ne. beside.touched p ∙ c.mark_dirty.ensures.others.touched p ne;
         files = λ f. beside.files f;
       };
-      entry = subst Q stored (subst P write full);
+      entry = subst (λ (x : Bool). IsEntryOver now c.args.attr.now.prot c.args.frame.0 false true x) stored (subst P write full);
     }

@@ -1,6 +1,4 @@
-use Rattle.std.proofs.Common.{◌%◌, sym, ap, ◌∙◌}
-use Rattle.residency.specs.Picture.{picture_of}
-use Rattle.residency.proofs.Entries.{entry-of}
+use Rattle.fault.proofs.Names.{◌%◌, sym, ap, ◌∙◌, picture_of, entry-of}
 use Rattle.fault.proofs.spot.number_at.Goals as goal
 
 pub returns : goal.returns

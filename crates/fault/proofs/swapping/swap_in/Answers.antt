@@ -1,16 +1,8 @@
-use Rattle.vm_types.specs.Limits.{top_level}
-use Rattle.std.specs.Prelude.{is_some}
-use Rattle.std.proofs.{Common.{◌≡◌, ◌≢◌, ℕ, None, get_or, refl, sym, ap, ◌∙◌, subst, rules}, lemmas.Bool.{false≢true}}
-use Rattle.frames.specs.{declared.role.Role.TheVariants.{Free, Table}, FrameTable.{IsFull, role_of, with_bytes}}
-use Rattle.swap.specs.{declared.slots.Swap.{Swap}, declared.pages.Pages.{Pages}, Slots.{slots_of}}
-use Rattle.page_tables.specs.Entry.{IsPageEntry}
-use Rattle.page_tables.proofs.Ends.{page_is_entry}
-use Rattle.regions.proofs.ResultLemmas.{on_err}
-use Rattle.residency.specs.{Picture.{Picture, picture_of, entry, is_swapped}, Calls.{UsesDevice}, Capacity.{IsShort}, Steps.{ChangesFrame}}
-use Rattle.residency.proofs.{Asking.{asks_between}, Entries.{entry-of}, Returning.{frees_spent}, SeatForms.{swapped_form}, Sparing.{frees_then}, Taking.{fit_spent}}
-use Rattle.fault.specs.Asking.{MayAsk, IsSectorOfCopy}
-use Rattle.fault.proofs.{Aside.{aside_freed, leaves_aside}, Asking.{asks_swap}, AskedIn.{asks_read}, Settling.{forest_mid, root_mid, rows_mid, gives_frame, entry_given, count_given}, Steps.{frees_any, device_then}}
-use Rattle.fault.proofs.{SwappedIn.{slot_seat, swapped_here, slot_used, slot_frame, slot_bytes, slot_set, fit_in, aside_in, seen_in}, SwapSteps.{own_spent, changes_further, full_count, ready_released}}
+use Rattle.fault.proofs.Names.{top_level, is_some, ◌≡◌, ◌≢◌, ℕ, None, get_or, refl, sym, ap, ◌∙◌, subst, rules, false≢true, Free, Table, IsFull, role_of, with_bytes, Swap, Pages, slots_of, IsPageEntry, page_is_entry, on_err, Picture}
+use Rattle.fault.proofs.Names.{picture_of, entry, UsesDevice, IsShort, ChangesFrame, asks_between, entry-of, frees_spent, swapped_form, frees_then, fit_spent}
+use Rattle.residency.specs.Picture.{is_swapped}
+use Rattle.fault.{specs.Asking.{MayAsk, IsSectorOfCopy}, proofs.{Settling.{aside_freed, leaves_aside, forest_mid, root_mid, rows_mid, gives_frame, entry_given, count_given}, Asking.{asks_swap}, AccessSteps.{asks_read}}}
+use Rattle.fault.proofs.{Steps.{frees_any, device_then}, SwapSteps.{slot_seat, swapped_here, slot_used, slot_frame, slot_bytes, slot_set, fit_in, aside_in, seen_in, own_spent, changes_further, full_count, ready_released}}
 use Rattle.fault.proofs.swapping.swap_in.Goals as goal
 
 pub decode-requires : goal.decode-requires
@@ -18,8 +10,7 @@ decode-requires g c =
     let old : Picture g.M.Levels.mode = picture_of c.args.core.now in
     let r = c.args.spot.now.root.0 in
     let fit = c.requires.spot.linked.fit in
-    let P : ℕ → Type 0 = λ x. IsPageEntry x in
-    subst P (sym (c.number_at.ensures ∙ entry-of old c.args.spot.now.pid r c.args.spot.now.page c.requires.spot.root))
+    subst (λ (x : ℕ). IsPageEntry x) (sym (c.number_at.ensures ∙ entry-of old c.args.spot.now.pid r c.args.spot.now.page c.requires.spot.root))
     (page_is_entry old.frames (top_level g.M.Levels.mode) r c.args.spot.now.page fit.rooted.forest (fit.rooted.roots c.args.spot.now.pid r c.requires.spot.root))
 
 pub unreachable-requires : goal.unreachable-requires
@@ -74,20 +65,18 @@ returns-in-Ok g c =
     let written : Picture g.M.Levels.mode = record taken { slots = slots_of c.get.new.self; frames = with_bytes c.take_own.new.self.frames n c.get.new.to } in
     let also : ℕ → Type 0 = λ j. IsSectorOfCopy old c.args.spot.now.pid c.args.spot.now.page j in
     let read = asks_read g.E.SectorDisk c.args.core.now c.take_own.new.self c.get.new.self None also k (λ j is. (k, from, is)) done.asked c.get.ensures.asks in
-    let M : Pages _ → Type 0 = λ x. g.E.SectorDisk.keeps_model x.disk in
     let N : Swap _ → Type 0 = λ x. g.E.SectorDisk.keeps_model x.pages.disk in
-    let P : Swap _ → Type 0 = λ x. UsesDevice g.E.SectorDisk c.args.core.now.swap.pages.disk x.pages.disk in
     let Q : Pages _ → Type 0 = λ x. UsesDevice g.E.SectorDisk c.args.core.now.swap.pages.disk x.disk in
     record {
       entered = full_count written (record set { slots = t }) c.args.attr.now n (entry set c.args.spot.now.pid c.args.spot.now.page) (ap (λ cs. get_or cs n 0) gives.sets.2.kept.counts) (entry_given has gives);
       sole = count_given has gives;
       seen = λ model.
-          let got = c.in-Ok.ensures.gives (subst N rest.swap (subst M c.release.ensures.pages model)) in
+          let got = c.in-Ok.ensures.gives (subst N rest.swap (subst (λ (x : Pages _). g.E.SectorDisk.keeps_model x.disk) c.release.ensures.pages model)) in
           seen_in has k from gives t c.release.ensures.releases (slot_bytes c.requires done.taken (slots_of c.get.new.self) c.get.ensures.same c.get.new.to k got);
       keeps = leaves_aside g.E.SectorDisk c.args.core.now _ (fit_in has k from gives t c.release.ensures.releases)
           (ready_released g.E.SectorDisk c.get.new.self c.set_full.new.core.swap c.release.new.self rest.swap c.release.ensures.pages c.release.ensures.releases.others.total c.get.ensures.ready)
           (aside_in has k from gives t c.release.ensures.releases) (rest.store ∙ done.rest.store)
-          (subst Q (sym c.release.ensures.pages) (subst P (sym rest.swap)
+          (subst Q (sym c.release.ensures.pages) (subst (λ (x : Swap _). UsesDevice g.E.SectorDisk c.args.core.now.swap.pages.disk x.pages.disk) (sym rest.swap)
           (device_then g.E.SectorDisk c.args.core.now.swap.pages.disk c.take_own.new.self.swap.pages.disk c.get.new.self.pages.disk done.device
           (record { size = c.get.ensures.size; kept = c.get.ensures.kept; later = c.get.ensures.cause.later }))));
       asks = asks_between g.E.SectorDisk (MayAsk old (IsFull old.frames) None also) c.args.core.now.swap c.args.core.now.swap c.get.new.self c.release.new.self refl
@@ -132,11 +121,5 @@ returns-in_err-frame g c =
       seen = search rules;
       keeps = leaves_aside g.E.SectorDisk c.args.core.now _ done.fit done.swap (aside_freed done.frees) done.rest.store done.device;
       asks = asks_swap g.E.SectorDisk c.args.core.now c.take_own.new.self None (IsSectorOfCopy (picture_of c.args.core.now) c.args.spot.now.pid c.args.spot.now.page) done.asked;
-      stalls = record {
-        same = search rules;
-        frees = on_err c.from_residual.result _ (frees_any (picture_of c.args.core.now) (picture_of c.take_own.new.self) _ done.frees);
-        refuses = search rules;
-        short = search rules;
-        cause = search rules;
-      };
+      stalls = let frees = on_err c.from_residual.result _ (frees_any (picture_of c.args.core.now) (picture_of c.take_own.new.self) _ done.frees) in search rules;
     }

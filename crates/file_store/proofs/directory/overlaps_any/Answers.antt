@@ -1,4 +1,4 @@
-use Rattle.std.proofs.{Common.{◌≡◌, ℕ, subst, ⊎_elim, arith, get_or, None, Some}, lemmas.Bool.{cases_eq}}
+use Rattle.file_store.proofs.Names.{◌≡◌, ℕ, subst, ⊎_elim, arith, get_or, None, Some, cases_eq}
 use Rattle.file_store.proofs.directory.overlaps_any.Goals as goal
 
 pub loop-other-preserved : goal.loop-other-preserved

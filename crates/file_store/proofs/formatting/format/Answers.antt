@@ -1,10 +1,8 @@
-use Rattle.std.proofs.{Common.{◌≡◌, ◌≤◌, ℕ, Err, inl, inr, refl, ◌∙◌, sym, ap, subst, ⊎_elim, arith, rules}, lemmas.Bool.{false≢true}}
-use Rattle.disk_model.proofs.Moments.{stays}
-use Rattle.sync_journal.specs.declared.store_journal.Journals.{Journals}
-use Rattle.disk_model.specs.{Moments.{Nothing}, Stop.{Image}}
-use Rattle.file_store.specs.{declared.faults.FormatFault.TheVariants.{Device}, Format.{total_pages, IsTooLarge, IsMarkSector, IsUnmarkedSector, IsStoreSector, IsStoreOf, IsKindlessStoreOf}, Versions.{version_of, mark_of}}
-use Rattle.file_store.proofs.{Causes.{same_Err}, Filling.{causes_later, causes_device, causes_none}, Formats.{kindless_moves, whole_of_kind, marked_whole, store_whole}, Images.{unmarked_from}, Looking.{ok_is_no_err}}
+use Rattle.file_store.proofs.Names.{◌≡◌, ◌⊎◌, ◌≤◌, ℕ, length, Result, Err, OnOk, inl, inr, refl, ◌∙◌, sym, ap, subst, ⊎_elim, arith, rules, false≢true, on_ok_weaker, IsErrOf, stays, Journals, Nothing, Image}
+use Rattle.file_store.specs.{declared.faults.FormatFault.{FormatFault}, declared.faults.FormatFault.TheVariants.{TooLarge, Formatted, Source, Device}, Format.{total_pages, AreWhole, IsTooLarge, IsMarkSector, IsUnmarkedSector, IsStoreSector, IsStoreOf, IsKindlessStoreOf}, Formatted.{FormatsStore}, Making.{HasFormatCauses}, Versions.{version_at, version_of, mark_of}}
+use Rattle.file_store.proofs.{Causes.{is_this, same_Err}, Filling.{causes_later, causes_device, causes_none}, Formats.{kindless_moves, whole_of_kind, marked_whole, store_whole}, Images.{unmarked_from}, Looking.{ok_is_no_err}}
 use Rattle.file_store.proofs.{Making.{makes_more, makes_of}, Marking.{LeavesNoPart, nothing_made, unmarked_made, marked_made, looked_makes, when_looking, when_filling, when_marking, format_refused}, NewStores.{store_fits}}
+use Rattle.file_store.proofs.formatting.format.{Given.{Over}, Goals.{After-write_mark}}
 use Rattle.file_store.proofs.formatting.format.Goals as goal
 
 pub returns-then-is_too_large : goal.returns-then-is_too_large
@@ -77,40 +75,14 @@ returns-in_err-write_unmarked g c =
     (λ paired. whole_of_kind g.R.Read.remaining sources kind sectors paired fits.0 fits.1) made (w.fills.run.touches k) (w.last k).epochs)
     (λ k is. absurd (other.1 is)) (λ k mark. absurd (c.in_ok-check_unmarked.ensures.unmarked (w.fills.run.kept k) mark)) (λ k mark. absurd (c.in_ok-check_unmarked.ensures.unmarked (w.fills.run.kept k) mark)) (λ is. e.fills.source (ap Err is))
 
-pub returns-in_err-write_mark : goal.returns-in_err-write_mark
-returns-in_err-write_mark g c =
-    let d = g.D.SectorDisk in
-    let old = c.args.disk.now in
-    let mid = c.check_unmarked.new.disk in
-    let made = c.write_unmarked.new.disk in
-    let new = c.write_mark.new.disk in
-    let kind = c.args.journals in
-    let sources = c.args.sources.now in
-    let sectors = d.sector_count old in
-    let Whole : Journals → Image → Type 0 = λ b. IsStoreOf b g.R.Read.remaining sectors sources in
-    let W : ℕ → Type 0 = IsStoreSector kind (total_pages sources) in
-    let check = c.check_unmarked.ensures in
-    let w = c.in_ok-write_unmarked.ensures in
-    let m = c.write_mark.ensures.writes.run in
-    let known : IsTooLarge kind sectors sources → ⊥ = λ bad. absurd (false≢true (sym c.if-is_too_large.false ∙ c.is_too_large.ensures.1 (subst (λ n. IsTooLarge kind n sources) (sym c.sectors.ensures) bad))) in
-    let fits = store_fits kind sectors sources known in
-    let failed = c.in_err-write_mark.ensures.writes.failed refl in
-    let calm = w.fills.calm ∙ c.in_ok-check_unmarked.ensures.causes.calm in
-    format_refused d kind g.R.Read.remaining sources old new Device c.from_residual-in_err-write_mark.result c.from_residual-in_err-write_mark.ensures.1 known when_marking.0
-    (makes_more d W old made new
-    (makes_more d W old mid made (looked_makes d W old mid (λ s at. inl at) check.run check.asks) (makes_of d (IsUnmarkedSector kind (total_pages sources)) W mid made (λ s at. inr at) w.fills.run))
-    (makes_of d IsMarkSector W made new (λ s at. inl at) m))
-    (causes_device _ _ (omega (arith, failed, calm)))
-    (λ k. let last = m.kept k in
-    let before = w.fills.run.kept last in
-    marked_made d kind Whole old (λ image left. g.met.D.SectorDisk.only_now old image (check.run.kept before) left) mid (check.run.touches before)
-    (IsUnmarkedSector kind (total_pages sources)) (unmarked_from kind (total_pages sources)) (IsKindlessStoreOf g.R.Read.remaining sources) (IsKindlessStoreOf g.R.Read.remaining sources) (λ image q. q)
-    (λ paired. whole_of_kind g.R.Read.remaining sources kind sectors paired fits.0 fits.1) made (w.fills.run.touches last) (w.last last).kind_behind (w.synced last)
-    (store_whole kind g.R.Read.remaining sectors sources (d.content made) (w.written last) fits.0 fits.1) (kindless_moves g.R.Read.remaining sources) new (m.touches k))
-    (λ k is. absurd (when_marking.1.0 is)) (λ k mark. inr refl) (λ k mark. absurd (c.in_ok-check_unmarked.ensures.unmarked (w.fills.run.kept (m.kept k)) mark)) (λ is. absurd (when_marking.1.1 is))
-
-pub returns : goal.returns
-returns g c =
+-- where the mark was asked to be written, whatever is told of it
+marked_store : {T : Type 0} (g : Over) (c : After-write_mark g) (r : Result T FormatFault) → (IsErrOf r TooLarge ⊎ (IsErrOf r Formatted ⊎ IsErrOf r Source) → ⊥)
+    → (g.D.SectorDisk.keeps_model c.write_mark.new.disk → OnOk r (g.D.SectorDisk.content c.write_mark.new.disk 0 ≡ mark_of (version_at c.args.journals)))
+    → (g.D.SectorDisk.keeps_model c.write_mark.new.disk → OnOk r ((k : ℕ) → g.D.SectorDisk.unsynced c.write_mark.new.disk k → ⊥))
+    → OnOk r (AreWhole g.R.Read.remaining c.args.sources.now (length c.args.sources.now))
+    → HasFormatCauses (g.D.SectorDisk.failures c.args.disk.now) (g.D.SectorDisk.failures c.write_mark.new.disk) r
+    → FormatsStore g.D.SectorDisk c.args.journals g.R.Read.remaining c.args.sources.now c.args.disk.now c.write_mark.new.disk r
+marked_store g c r none marked synced all causes =
     let d = g.D.SectorDisk in
     let old = c.args.disk.now in
     let mid = c.check_unmarked.new.disk in
@@ -139,21 +111,37 @@ returns g c =
     (λ paired. whole_of_kind g.R.Read.remaining sources kind sectors paired fits.0 fits.1) made (w.fills.run.touches last) (w.last last).kind_behind (w.synced last)
     (whole last) (kindless_moves g.R.Read.remaining sources) new (m.touches k) in
     record {
-      ok = λ k. marked_whole d (Whole kind) kind made new (whole (m.kept k)) (w.written (m.kept k)).of_kind (m.touches k) (c.in_ok-write_mark.ensures.marked k);
-      marked = c.in_ok-write_mark.ensures.marked;
-      synced = c.in_ok-write_mark.ensures.writes.synced;
-      whole = w.fills.whole;
+      ok = λ k. on_ok_weaker r (marked_whole d (Whole kind) kind made new (whole (m.kept k)) (w.written (m.kept k)).of_kind (m.touches k)) (marked k);
+      marked = marked;
+      synced = synced;
+      whole = all;
       any_moment = λ k. (leaves k).any_moment;
       blocks = λ k. (leaves k).blocks;
       size = run.size;
       kept = run.kept;
       later = run.later;
       asks = run.asks;
-      too_large = (λ is. absurd (ok_is_no_err _ _ is), λ large. absurd (known large));
-      formatted = λ k is. absurd (ok_is_no_err _ _ is);
+      too_large = (λ is. absurd (none (inl is)), λ large. absurd (known large));
+      formatted = λ k is. absurd (none (inr (inl is)));
       not_formatted = λ k mark. absurd (c.in_ok-check_unmarked.ensures.unmarked (w.fills.run.kept (m.kept k)) mark);
       spared = λ k mark. absurd (c.in_ok-check_unmarked.ensures.unmarked (w.fills.run.kept (m.kept k)) mark);
-      unwritten = λ k. ⊎_elim (λ is. absurd (ok_is_no_err _ _ is)) (λ is. absurd (ok_is_no_err _ _ is));
-      source = λ is. absurd (ok_is_no_err _ _ is);
-      causes = causes_none _ _ _ (c.in_ok-write_mark.ensures.writes.calm ∙ w.fills.calm ∙ c.in_ok-check_unmarked.ensures.causes.calm);
+      unwritten = λ k. ⊎_elim (λ is. absurd (none (inl is))) (λ is. absurd (none (inr (inl is))));
+      source = λ is. absurd (none (inr (inr is)));
+      causes = causes;
     }
+
+pub returns-in_err-write_mark : goal.returns-in_err-write_mark
+returns-in_err-write_mark g c =
+    let failed = c.in_err-write_mark.ensures.writes.failed refl in
+    let calm = c.in_ok-write_unmarked.ensures.fills.calm ∙ c.in_ok-check_unmarked.ensures.causes.calm in
+    subst (λ r. FormatsStore g.D.SectorDisk c.args.journals g.R.Read.remaining c.args.sources.now c.args.disk.now c.write_mark.new.disk r)
+    (sym (is_this c.from_residual-in_err-write_mark.result Device c.from_residual-in_err-write_mark.ensures.1))
+    (marked_store g (goal.at.returns-in_err-write_mark g c).After-write_mark (Err Device)
+    (⊎_elim (λ is. when_marking.0 (same_Err _ _ is)) (⊎_elim (λ is. when_marking.1.0 (same_Err _ _ is)) (λ is. when_marking.1.1 (same_Err _ _ is))))
+    (λ k. tt) (λ k. tt) tt (causes_device _ _ (omega (arith, failed, calm))))
+
+pub returns : goal.returns
+returns g c =
+    marked_store g (goal.at.returns g c).After-write_mark _ (⊎_elim (λ is. ok_is_no_err _ _ is) (⊎_elim (λ is. ok_is_no_err _ _ is) (λ is. ok_is_no_err _ _ is)))
+    c.in_ok-write_mark.ensures.marked c.in_ok-write_mark.ensures.writes.synced c.in_ok-write_unmarked.ensures.fills.whole
+    (causes_none _ _ _ (c.in_ok-write_mark.ensures.writes.calm ∙ c.in_ok-write_unmarked.ensures.fills.calm ∙ c.in_ok-check_unmarked.ensures.causes.calm))

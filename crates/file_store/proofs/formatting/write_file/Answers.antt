@@ -1,7 +1,5 @@
-use Rattle.std.proofs.{Common.{◌≡◌, ◌+◌, ◌*◌, ◌<◌, min, Some, refl, drop, drop-drop, length-drop, sym, ap, subst, ◌∙◌, ⊎_elim, arith}, lemmas.Bool.{cases_eq}}
-use Rattle.sync_journal.specs.Kinds.{kind_home}
-use Rattle.file_store.specs.{Layout.{pages_of_length, bytes_inside, padded_page}, Format.{told_by, page_given, IsHomesBetween, HoldsCut}}
-use Rattle.file_store.proofs.{Filling.{fills_failed}, Making.{makes_more, makes_page}, NewStores.{cut_moves, is_told}}
+use Rattle.file_store.proofs.Names.{◌≡◌, ◌+◌, ◌*◌, ◌<◌, min, Some, refl, drop, drop-drop, length-drop, sym, ap, subst, ◌∙◌, ⊎_elim, arith, cases_eq, kind_home}
+use Rattle.file_store.{specs.{Layout.{pages_of_length, bytes_inside, padded_page}, Format.{told_by, page_given, IsHomesBetween, HoldsCut}}, proofs.{Filling.{fills_failed}, Making.{makes_more, makes_page}, NewStores.{cut_moves, is_told}}}
 use Rattle.file_store.proofs.formatting.write_file.Goals as goal
 
 pub loop-k-preserved : goal.loop-k-preserved

@@ -1,5 +1,4 @@
-use Rattle.std.proofs.Common.{◌≡◌, ◌≤◌, ◌+◌, ◌*◌, min, ℕ, List, Some, drop, length}
-use Rattle.std.specs.Prelude.{IsSome}
+use Rattle.file_store.proofs.Names.{◌≡◌, ◌≤◌, ◌+◌, ◌*◌, min, ℕ, List, Some, drop, length, IsSome}
 use Rattle.file_store.specs.{Format.{info_of, told_by, reader_tells, IsHomesBetween, HoldsSourcePages}, Layout.{pages_of_length}, Making.{Makes}}
 use Rattle.file_store.proofs.formatting.write_file.Given as goal
 

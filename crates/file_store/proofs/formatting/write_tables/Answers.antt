@@ -1,7 +1,5 @@
-use Rattle.std.proofs.Common.{◌≡◌, ℕ, inl, inr, ap, sym, refl, ◌∙◌, arith, rules}
-use Rattle.sync_journal.specs.declared.store_journal.Journals.TheVariants.{Paired}
-use Rattle.file_store.specs.Format.{IsTableSector}
-use Rattle.file_store.proofs.{Making.{written, makes_more, makes_write}, NewStores.{tables_at}}
+use Rattle.file_store.proofs.Names.{◌≡◌, ℕ, inl, inr, ap, sym, refl, ◌∙◌, arith, rules, Paired}
+use Rattle.file_store.{specs.Format.{IsTableSector}, proofs.{Making.{written, makes_more, makes_write}, NewStores.{tables_at}}}
 use Rattle.file_store.proofs.formatting.write_tables.Goals as goal
 
 pub returns-in_err-write-clause-writes : goal.returns-in_err-write-clause-writes

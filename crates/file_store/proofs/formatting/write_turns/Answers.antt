@@ -1,7 +1,5 @@
-use Rattle.std.proofs.Common.{ℕ, inl, inr, ⊎_elim, subst, sym, arith, rules}
-use Rattle.sync_journal.specs.declared.store_journal.Journals.TheVariants.{Paired}
-use Rattle.file_store.specs.Format.{IsTableSector, IsKindSector, IsLayoutSector, HasTables}
-use Rattle.file_store.proofs.{Making.{written_synced, makes_more, makes_of, makes_synced}, Blocks.{on_ok}, NewStores.{tables_head}}
+use Rattle.file_store.proofs.Names.{ℕ, inl, inr, ⊎_elim, subst, sym, arith, rules, Paired}
+use Rattle.file_store.{specs.Format.{IsTableSector, IsKindSector, IsLayoutSector, HasTables}, proofs.{Making.{written_synced, makes_more, makes_of, makes_synced}, Blocks.{on_ok}, NewStores.{tables_head}}}
 use Rattle.file_store.proofs.formatting.write_turns.Goals as goal
 
 pub returns-in_err-write_tables-clause-writes : goal.returns-in_err-write_tables-clause-writes

@@ -1,7 +1,5 @@
-use Rattle.std.proofs.Common.{ℕ, ◌+◌, ⊎_elim, inl, inr, List, refl, sym, subst, ◌∙◌, arith, rules}
-use Rattle.sync_journal.specs.{Kinds.{kind_home, kind_home_count}, declared.store_journal.Journals.TheVariants.{Paired}}
+use Rattle.file_store.proofs.Names.{ℕ, ◌+◌, ⊎_elim, inl, inr, List, refl, sym, subst, ◌∙◌, arith, rules, kind_home, kind_home_count, Paired, wider}
 use Rattle.file_store.specs.{Layout.{bytes_inside}, Format.{first_home, total_pages, page_given, IsFrom, IsTableSector, IsKindlessStoreOf, HasTables, IsLayoutSector, IsHomesBetween, IsUnmarkedSector, IsDirectoryOf}}
-use Rattle.disk_model.proofs.Moments.{wider}
 use Rattle.file_store.proofs.{Blocks.{none_on, last_then}, Filling.{fills_done, fills_error, fills_failed}, Formats.{table_between, kindless}, Making.{makes_more, makes_of}, NewStores.{cut_moves, good_given}}
 use Rattle.file_store.proofs.Images.{homes_behind, layout_low, good_not_kind}
 use Rattle.file_store.proofs.formatting.write_unmarked.Goals as goal

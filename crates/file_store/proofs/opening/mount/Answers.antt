@@ -1,8 +1,4 @@
-use Rattle.std.proofs.Common.{ℕ, ◌≤◌, Err, sym, ap, subst, ◌∙◌}
-use Rattle.std.specs.Prelude.{IfErr}
-use Rattle.disk_model.specs.Stop.{Image}
-use Rattle.sync_journal.specs.Kinds.{kind_of, kind_homes, kind_home_count, IsBadStore}
-use Rattle.sync_journal.proofs.InKinds.{settled_since}
+use Rattle.file_store.proofs.Names.{ℕ, ◌≤◌, Err, sym, ap, subst, ◌∙◌, IfErr, Image, kind_of, kind_homes, kind_home_count, IsBadStore, settled_since}
 use Rattle.file_store.specs.{Faults.{open_fault}, Directory.{IsSoundDirectory}, Resume.{IsRefusedFor}, Store.{entry_of}}
 use Rattle.file_store.proofs.{Causes.{is_this}, Images.{same_head, entry_same}, Mounted.{head_refuses, journal_refuses, mounts_head, mounts}, Openings.{content_is}}
 use Rattle.file_store.proofs.opening.mount.Goals as goal

@@ -1,6 +1,5 @@
-use Rattle.std.proofs.Common.{◌≡◌, ℕ, List, ap, subst, ◌∙◌, rules}
-use Rattle.file_store.specs.{Versions.{home_pages_of, directory_of}, Directory.{IsBadDirectory, IsSoundDirectory, AreGood}, Store.{entry_of}}
-use Rattle.file_store.proofs.{Entries.{good_is_sound}, Images.{good_not_kind}}
+use Rattle.file_store.proofs.Names.{◌≡◌, ℕ, List, ap, subst, ◌∙◌, rules}
+use Rattle.file_store.{specs.{Versions.{home_pages_of, directory_of}, Directory.{IsBadDirectory, IsSoundDirectory, AreGood}, Store.{entry_of}}, proofs.{Entries.{good_is_sound}, Images.{good_not_kind}}}
 use Rattle.file_store.proofs.opening.read_directory.Goals as goal
 
 pub returns-in_err-directory-clause-looks : goal.returns-in_err-directory-clause-looks

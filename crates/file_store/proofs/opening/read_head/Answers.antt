@@ -1,7 +1,4 @@
-use Rattle.std.proofs.Common.{◌≡◌, ◌<◌, ◌≤◌, ℕ, ⊎_elim, sym, ap, subst, ◌∙◌}
-use Rattle.disk_model.specs.{Stop.{Image}, Moments.{Nothing}}
-use Rattle.sync_journal.specs.{declared.store_journal.Journals.TheVariants.{Paired}, Kinds.{kind_of, kind_homes}}
-use Rattle.sync_journal.proofs.Runs.{one_more}
+use Rattle.file_store.proofs.Names.{◌≡◌, ◌<◌, ◌≤◌, ℕ, ⊎_elim, sym, ap, subst, ◌∙◌, Image, Nothing, Paired, kind_of, kind_homes, one_more}
 use Rattle.file_store.specs.{Directory.{IsBadDirectory, IsSoundDirectory, AreGood}, Versions.{version_at, home_pages_of, directory_of, mark_of}, Standing.{IsBadLayout, IsBadLayoutIn, listed_entry}, Store.{entry_of}}
 use Rattle.file_store.specs.Standing.IsBadLayoutIn.{TooSmall, BadDirectory}
 use Rattle.file_store.proofs.{Images.{homes_same, other_kind, bad_as_claimed, layout_is_good_in}, Looking.{looks_found, looks_error, looks_later, head_asked}, Openings.{content_is, kind_found, kind_sound}}

@@ -1,7 +1,5 @@
-use Rattle.std.proofs.{Common.{◌≡◌, ◌≤◌, ℕ, sym, subst, ◌∙◌, arith, rules}, lemmas.Bool.{false≢true}}
-use Rattle.disk_model.specs.Stop.{Image}
-use Rattle.file_store.specs.{Versions.{homes_of, home_pages_of, directory_of, mark_of}, Directory.{IsBadDirectory}, Standing.IsBadLayoutIn.{Unmarked, BadDirectory}}
-use Rattle.file_store.proofs.Openings.{good_when}
+use Rattle.file_store.proofs.Names.{◌≡◌, ◌≤◌, ℕ, sym, subst, ◌∙◌, arith, rules, false≢true, Image}
+use Rattle.file_store.{specs.{Versions.{homes_of, home_pages_of, directory_of, mark_of}, Directory.{IsBadDirectory}, Standing.IsBadLayoutIn.{Unmarked, BadDirectory}}, proofs.Openings.{good_when}}
 use Rattle.file_store.proofs.opening.read_layout.Goals as goal
 
 pub returns-then-not-marks-clause-looks : goal.returns-then-not-marks-clause-looks

@@ -1,4 +1,4 @@
-use Rattle.std.proofs.Common.{◌-◌, ◌∙◌, ap, ◌≡◌, length, replicate, arith, rules}
+use Rattle.file_store.proofs.Names.{◌-◌, ◌∙◌, ap, ◌≡◌, length, replicate, arith, rules}
 use Rattle.file_store.proofs.Pieces.{trimmed_put, length_mid}
 use Rattle.file_store.proofs.pages.trim.Goals as goal
 

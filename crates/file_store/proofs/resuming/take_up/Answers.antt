@@ -1,8 +1,4 @@
-use Rattle.std.proofs.Common.{◌≡◌, ◌≤◌, ℕ, Err, ⊎_elim, sym, ap, subst, ◌∙◌}
-use Rattle.std.specs.Prelude.{IfErr}
-use Rattle.disk_model.specs.Stop.{Image}
-use Rattle.sync_journal.specs.{Kinds.{kind_of, kind_homes, kind_home_count, store_live, IsBadStore}, Map.{AreHomes}, Resuming.{IsLiveAsNamed}}
-use Rattle.sync_journal.proofs.InKinds.{settled_since}
+use Rattle.file_store.proofs.Names.{◌≡◌, ◌≤◌, ℕ, Err, ⊎_elim, sym, ap, subst, ◌∙◌, IfErr, Image, kind_of, kind_homes, kind_home_count, store_live, IsBadStore, AreHomes, IsLiveAsNamed, settled_since}
 use Rattle.file_store.specs.{Faults.{open_fault}, Directory.{IsSoundDirectory}, Resume.{IsRefusedFor}, Store.{entry_of}}
 use Rattle.file_store.proofs.{Causes.{is_this}, Mounted.{head_refuses, journal_refuses}, Images.{same_head, entry_same, stands_kept}, Openings.{content_is}, Resumes.{resumes_head, resumes}}
 use Rattle.file_store.proofs.resuming.take_up.Goals as goal

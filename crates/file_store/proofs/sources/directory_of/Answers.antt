@@ -1,9 +1,7 @@
-use Rattle.std.proofs.{Common.{◌≡◌, ℕ, ◌+◌, ◌-◌, ◌*◌, ◌<◌, ◌≤◌, ⊎_elim, length, take, drop, refl, sym, ap, subst, ◌∙◌, arith}, lemmas.Bool.{cases_eq, cases_lt}, lemmas.List.{take_all, length-drop, get_or-drop}}
-use Rattle.std.proofs.lemmas.Option.{slice_get_read}
-use Rattle.file_store.specs.{Directory.{decoded, entry_bytes}, Format.{first_home, entry_given}}
-use Rattle.file_store.proofs.{Encoded.{renewed, entry_before, entry_here, zeros_behind, zero_entry, no_file}, Entries.{entry_in-inside}, NewStores.{first_home-rest, entry_written}, Pieces.{length_mid, get_or-zeros}}
-use Rattle.file_store.proofs.Totals.{total_pages-rest}
-use Rattle.disk_model.proofs.Pages.{length_put}
+use Rattle.file_store.proofs.Names.{◌≡◌, ℕ, ◌+◌, ◌-◌, ◌*◌, ◌<◌, ◌≤◌, ⊎_elim, length, take, drop, refl, sym, ap, subst, ◌∙◌, arith, cases_eq, cases_lt, take_all, get_or-drop, slice_get_read, length_put}
+use Rattle.std.proofs.lemmas.List.{length-drop}
+use Rattle.file_store.{specs.{Directory.{decoded, entry_bytes}, Format.{first_home, entry_given}}, proofs.{Encoded.{renewed, entry_before, entry_here, zeros_behind, zero_entry, no_file}, Entries.{entry_in-inside}}}
+use Rattle.file_store.proofs.{NewStores.{first_home-rest, entry_written}, Pieces.{length_mid, get_or-zeros}, Totals.{total_pages-rest}}
 use Rattle.file_store.proofs.sources.directory_of.Goals as goal
 
 pub loop-f-init : goal.loop-f-init

@@ -1,4 +1,4 @@
-use Rattle.std.proofs.Common.{arith}
+use Rattle.file_store.proofs.Names.{arith}
 use Rattle.file_store.proofs.Totals.{total_pages-rest, total_pages-end}
 use Rattle.file_store.proofs.sources.pages_of.Goals as goal
 

@@ -1,4 +1,4 @@
-use Rattle.std.proofs.Common.{◌≡◌, ◌+◌, ◌-◌, ◌^◌, ◌≤◌, drop}
+use Rattle.file_store.proofs.Names.{◌≡◌, ◌+◌, ◌-◌, ◌^◌, ◌≤◌, drop}
 use Rattle.std.specs.Prelude.{min}
 use Rattle.file_store.specs.Format.{total_pages}
 use Rattle.file_store.proofs.sources.pages_of.Given as goal

@@ -1,4 +1,4 @@
-use Rattle.std.proofs.Common.{Option, sym, subst, ◌∙◌}
+use Rattle.file_store.proofs.Names.{Option, sym, subst, ◌∙◌}
 use Rattle.file_store.specs.{declared.directory.Entry.{Entry}, Upgrade.{IsEntrySector, IsOldEntry}, Upgraded.{CopiesPages}}
 use Rattle.file_store.proofs.upgrading.copy_entry.Goals as goal
 

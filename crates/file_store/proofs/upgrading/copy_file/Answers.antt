@@ -1,10 +1,6 @@
-use Rattle.std.proofs.{Common.{◌≡◌, ◌+◌, ◌*◌, ◌<◌, Some, refl, sym, ap, subst, ◌∙◌, ⊎_elim, arith}, lemmas.Bool.{cases_eq}}
-use Rattle.disk_model.specs.{Stop.{Image}, Moments.{Nothing}, Sectors.{part_of}}
-use Rattle.disk_model.proofs.Moments.{asks_named, asks_then, asks_wider}
-use Rattle.sync_journal.specs.{Layout.{layout_before, home_count_in, IsPageSector}, Standing.{standing_in}, Kinds.{kind_home}}
-use Rattle.sync_journal.proofs.Runs.{one_more}
-use Rattle.file_store.specs.{Layout.{pages_of_length}, Format.{HoldsPage}, Standing.{page_standing_in}, Upgrade.{IsOldStore, IsFileSector, IsOldPage, old_place}, Faults.{old_fault}}
-use Rattle.file_store.proofs.{Causes.{same_Err}, Copied.{copies_unread, copies_unwritten}, Making.{makes_more, makes_page}, Openings.{content_is}}
+use Rattle.file_store.proofs.Names.{◌≡◌, ◌+◌, ◌*◌, ◌<◌, Some, refl, sym, ap, subst, ◌∙◌, ⊎_elim, arith, cases_eq, Image, Nothing, part_of, layout_before, home_count_in, standing_in, kind_home, one_more}
+use Rattle.file_store.specs.{Layout.{pages_of_length}, Format.{HoldsPage}, Standing.{page_standing_in}, Upgrade.{IsOldStore, IsFileSector, IsOldPage}, Faults.{old_fault}}
+use Rattle.file_store.proofs.{Causes.{same_Err}, Copied.{page_asked, copies_unread, copies_unwritten}, Making.{makes_more, makes_page}, Openings.{content_is}}
 use Rattle.file_store.proofs.upgrading.copy_file.Goals as goal
 
 pub read_page-requires-clause-home : goal.read_page-requires-clause-home
@@ -36,16 +32,7 @@ loop-k-preserved g c =
       asks_old = λ keeps.
           let was = c.read_page.ensures.reads.run.kept keeps in
           let same = content_is d c.args.old.now c.loop-k.old (inv.old_run.touches was) in
-          asks_then d (IsOldPage c.args.journals old entry (c.loop-k.k + 1)) c.args.old.now c.loop-k.old c.read_page.new.disk
-          (asks_wider d (IsOldPage c.args.journals old entry c.loop-k.k) (IsOldPage c.args.journals old entry (c.loop-k.k + 1)) c.args.old.now c.loop-k.old (λ s at. (at.0, omega (arith, at.1), at.2)) (inv.asks_old was))
-          (asks_named d (IsOldPage c.args.journals old entry (c.loop-k.k + 1)) (IsPageSector (old_place c.args.store.now.journal.journals (d.content c.loop-k.old) (entry.first + c.loop-k.k))) c.loop-k.old c.read_page.new.disk
-          (λ s at. (
-            c.loop-k.k,
-            omega arith,
-            subst (λ (image : Image). IsPageSector (old_place c.args.journals image (entry.first + c.loop-k.k)) s) same
-                (subst (λ b. IsPageSector (old_place b (d.content c.loop-k.old) (entry.first + c.loop-k.k)) s) c.requires.before at),
-          ))
-          (c.read_page.ensures.asks keeps));
+          page_asked d c.args.journals c.args.store.now.journal.journals entry c.loop-k.k (c.loop-k.k + 1) c.args.old.now c.loop-k.old c.read_page.new.disk (omega arith) c.requires.before same (inv.asks_old was) (c.read_page.ensures.asks keeps);
       run = makes_more n (IsFileSector c.args.journals entry) c.args.new.now c.loop-k.new c.write_page.new.disk inv.run
           (makes_page g.E.SectorDisk (IsFileSector c.args.journals entry) (c.first_home-homes.result + 8 * c.from.result) c.loop-k.new c.write_page.new.disk
           (λ s inside. (entry.first + c.loop-k.k, (omega arith, omega (arith, below)), (omega (arith, inside.0, c.from.ensures, c.first_home-homes.ensures.is), omega (arith, inside.1, c.from.ensures, c.first_home-homes.ensures.is)))) c.write_page.ensures.run c.write_page.ensures.asks);
@@ -81,16 +68,7 @@ returns-in_err-read_page-clause-copies g c =
     (λ keeps.
     let was = c.read_page.ensures.reads.run.kept keeps in
     let same = content_is d c.args.old.now c.loop-k.old (inv.old_run.touches was) in
-    asks_then d W c.args.old.now c.loop-k.old c.read_page.new.disk
-    (asks_wider d (IsOldPage c.args.journals old entry c.loop-k.k) W c.args.old.now c.loop-k.old (λ s at. (at.0, omega (arith, at.1, below), at.2)) (inv.asks_old was))
-    (asks_named d W (IsPageSector (old_place c.args.store.now.journal.journals (d.content c.loop-k.old) (entry.first + c.loop-k.k))) c.loop-k.old c.read_page.new.disk
-    (λ s at. (
-      c.loop-k.k,
-      below,
-      subst (λ (image : Image). IsPageSector (old_place c.args.journals image (entry.first + c.loop-k.k)) s) same
-          (subst (λ b. IsPageSector (old_place b (d.content c.loop-k.old) (entry.first + c.loop-k.k)) s) c.requires.before at),
-    ))
-    (c.read_page.ensures.asks keeps)))
+    page_asked d c.args.journals c.args.store.now.journal.journals entry c.loop-k.k _ c.args.old.now c.loop-k.old c.read_page.new.disk below c.requires.before same (inv.asks_old was) (c.read_page.ensures.asks keeps))
     inv.run (old_fault fault) c.from_residual.result c.from_residual.ensures.1 (ap old_fault (same_Err _ _ c.in_err-read_page.ensures.device)) (omega (arith, failed, calm)) inv.calm
 
 pub returns-in_err-write_page-clause-copies : goal.returns-in_err-write_page-clause-copies
@@ -108,16 +86,7 @@ returns-in_err-write_page-clause-copies g c =
     (λ keeps.
     let was = c.read_page.ensures.reads.run.kept keeps in
     let same = content_is d c.args.old.now c.loop-k.old (inv.old_run.touches was) in
-    asks_then d W c.args.old.now c.loop-k.old c.read_page.new.disk
-    (asks_wider d (IsOldPage c.args.journals old entry c.loop-k.k) W c.args.old.now c.loop-k.old (λ s at. (at.0, omega (arith, at.1, below), at.2)) (inv.asks_old was))
-    (asks_named d W (IsPageSector (old_place c.args.store.now.journal.journals (d.content c.loop-k.old) (entry.first + c.loop-k.k))) c.loop-k.old c.read_page.new.disk
-    (λ s at. (
-      c.loop-k.k,
-      below,
-      subst (λ (image : Image). IsPageSector (old_place c.args.journals image (entry.first + c.loop-k.k)) s) same
-          (subst (λ b. IsPageSector (old_place b (d.content c.loop-k.old) (entry.first + c.loop-k.k)) s) c.requires.before at),
-    ))
-    (c.read_page.ensures.asks keeps)))
+    page_asked d c.args.journals c.args.store.now.journal.journals entry c.loop-k.k _ c.args.old.now c.loop-k.old c.read_page.new.disk below c.requires.before same (inv.asks_old was) (c.read_page.ensures.asks keeps))
     (makes_more g.E.SectorDisk (IsFileSector c.args.journals entry) c.args.new.now c.loop-k.new c.write_page.new.disk c.loop-k.invariant.run
     (makes_page g.E.SectorDisk (IsFileSector c.args.journals entry) (c.first_home-homes.result + 8 * c.from.result) c.loop-k.new c.write_page.new.disk
     (λ s inside. (entry.first + c.loop-k.k, (omega arith, omega (arith, below)), (omega (arith, inside.0, c.from.ensures, c.first_home-homes.ensures.is), omega (arith, inside.1, c.from.ensures, c.first_home-homes.ensures.is)))) c.write_page.ensures.run c.write_page.ensures.asks))

@@ -1,8 +1,4 @@
-use Rattle.std.proofs.{Common.{◌≡◌, ◌+◌, Option, Some, sym, ap, subst, ◌∙◌, ⊎_elim, arith}, lemmas.Bool.{cases_eq}}
-use Rattle.disk_model.specs.{Stop.{Image}, Moments.{Nothing}}
-use Rattle.disk_model.proofs.Moments.{asks_then, asks_wider}
-use Rattle.sync_journal.specs.{Layout.{layout_before, home_count_in}, Kinds.{kind_home}}
-use Rattle.sync_journal.proofs.Runs.{one_more}
+use Rattle.file_store.proofs.Names.{◌≡◌, ◌+◌, Option, Some, sym, ap, subst, ◌∙◌, ⊎_elim, arith, cases_eq, Image, Nothing, asks_then, asks_wider, layout_before, home_count_in, kind_home, one_more}
 use Rattle.file_store.specs.{Layout.{pages_of_length}, Store.{entry_of}, Upgrade.{IsEntrySector, IsFilesSector, IsOldEntry, IsOldFile, HoldsOldPages}, declared.directory.Entry.{Entry}}
 use Rattle.file_store.proofs.{Copied.{copiable_still, copies_error}, Making.{makes_more, makes_of}, Openings.{content_is}, Upgrades.{not_in_entry}}
 use Rattle.file_store.proofs.upgrading.copy_files.Goals as goal

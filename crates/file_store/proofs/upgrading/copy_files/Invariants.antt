@@ -1,6 +1,4 @@
-use Rattle.std.proofs.Common.{◌≡◌}
-use Rattle.disk_model.specs.Moments.{AsksOnly, Nothing}
-use Rattle.sync_journal.specs.Runs.{RunsOnDevice}
+use Rattle.file_store.proofs.Names.{◌≡◌, AsksOnly, Nothing, RunsOnDevice}
 use Rattle.file_store.specs.{Making.{Makes}, Store.{entry_of}, Upgrade.{IsOldFile, IsFilesSector, HoldsOldFiles}}
 use Rattle.file_store.proofs.upgrading.copy_files.Given as goal
 

@@ -1,9 +1,6 @@
-use Rattle.std.proofs.Common.{ℕ, List, inl, inr, refl, subst, ◌+◌, ⊎_elim, ◌∙◌, arith, rules}
-use Rattle.sync_journal.specs.{Kinds.{kind_home}, declared.store_journal.Journals.TheVariants.{Paired}}
-use Rattle.file_store.specs.{Format.{IsFrom, IsTableSector, IsLayoutSector, HasHead, HasTables}, Store.{entry_of}, Upgrade.{IsFilesSector, IsCopiedSector, IsKindlessUpgrade}}
-use Rattle.file_store.proofs.{Making.{makes_more, makes_of}, Images.{homes_behind, layout_low}, Blocks.{none_on, last_then}, Copied.{copies_done, copies_error, copies_unwritten}, Formats.{table_between}, Looking.{ok_is_no_err}}
-use Rattle.file_store.proofs.Upgrades.{entry_from, kindless_upgrade}
-use Rattle.disk_model.proofs.Moments.{wider}
+use Rattle.file_store.proofs.Names.{ℕ, List, inl, inr, refl, subst, ◌+◌, ⊎_elim, ◌∙◌, arith, rules, kind_home, Paired, wider}
+use Rattle.file_store.{specs.{Format.{IsFrom, IsTableSector, IsLayoutSector, HasHead, HasTables}, Store.{entry_of}, Upgrade.{IsFilesSector, IsCopiedSector, IsKindlessUpgrade}}, proofs.Making.{makes_more, makes_of}}
+use Rattle.file_store.proofs.{Images.{homes_behind, layout_low}, Blocks.{none_on, last_then}, Copied.{copies_done, copies_error, copies_unwritten}, Formats.{table_between}, Looking.{ok_is_no_err}, Upgrades.{entry_from, kindless_upgrade}}
 use Rattle.file_store.proofs.upgrading.copy_unmarked.Goals as goal
 
 pub returns-in_err-copy_files-clause-copies : goal.returns-in_err-copy_files-clause-copies

@@ -1,14 +1,12 @@
-use Rattle.std.proofs.Common.{◌≡◌, ◌≤◌, ◌<◌, ℕ, Err, Some, refl, inl, inr, ⊎_elim, sym, ap, subst, ◌∙◌}
-use Rattle.disk_model.specs.{Stop.{Image}, Moments.{Nothing, AsksOnly}}
-use Rattle.disk_model.proofs.Moments.{stays, asks_none, asks_then, asks_wider}
-use Rattle.sync_journal.specs.{declared.store_journal.Journals.{Journals}, Kinds.{kind_home_count}, Layout.{layout_before, home_count_in}}
-use Rattle.sync_journal.proofs.Runs.{one_more}
-use Rattle.file_store.specs.{declared.directory.Entry.{Entry}, declared.faults.UpgradeFault.TheVariants.{NewDevice}, Directory.{home_end, IsSoundDirectory}, Faults.{old_fault}, Format.{IsMarkSector}, Store.{entry_of}}
-use Rattle.file_store.specs.{Upgrade.{old_entry, IsOldStore, IsUnmarkedUpgrade, IsKindlessUpgrade, IsUpgradeOf, IsCopiedSector, IsUpgradeSector, IsOldHead, IsOldAsked}, Versions.{version_of, mark_of}}
-use Rattle.file_store.proofs.{Causes.{same_Err}, Copied.{causes_after, causes_before, causes_none, causes_marking, copied_old_asked}, Formats.{marked_whole}, Looking.{ok_is_no_err}}
+use Rattle.file_store.proofs.Names.{◌≡◌, ◌⊎◌, ◌≤◌, ◌<◌, ℕ, Result, Err, OnOk, Some, refl, inl, inr, ⊎_elim, sym, ap, subst, ◌∙◌, on_ok_weaker, IsErrOf, Image, Nothing, AsksOnly, stays, asks_none, asks_then, asks_wider, Journals}
+use Rattle.file_store.proofs.Names.{kind_home_count, layout_before, home_count_in, one_more}
+use Rattle.file_store.specs.{declared.directory.Entry.{Entry}, declared.faults.UpgradeFault.{UpgradeFault}, declared.faults.UpgradeFault.TheVariants.{OldLayout, OldJournal, NewDevice, NewSmall, Formatted}, Directory.{home_end, IsSoundDirectory}, Faults.{old_fault}, Format.{IsMarkSector}, Store.{entry_of}}
+use Rattle.file_store.specs.{Upgrade.{old_entry, IsOldStore, IsUnmarkedUpgrade, IsKindlessUpgrade, IsUpgradeOf, IsCopiedSector, IsUpgradeSector, IsOldHead, IsOldAsked, HasUpgradeCauses}, Upgraded.{UpgradesStore}, Versions.{version_at, version_of, mark_of}}
+use Rattle.file_store.proofs.{Causes.{is_this, same_Err}, Copied.{causes_after, causes_before, causes_none, causes_marking, copied_old_asked}, Formats.{marked_whole}, Looking.{ok_is_no_err}}
 use Rattle.file_store.proofs.{Marking.{LeavesNoPart, nothing_made, unmarked_made, marked_made}, Openings.{content_is}}
 use Rattle.file_store.proofs.Refusing.{of_old, broken_from, when_checking, when_copying, when_marking, room_is_not_small, causes_checked, upgrade_refused}
 use Rattle.file_store.proofs.Upgrades.{kindless_upgrade_moves, upgraded_of_kind, copied_from, copied_asked, layout_from, old_fault_cases, too_small, upgrade_whole, entries_fit}
+use Rattle.file_store.proofs.upgrading.upgrade.{Given.{Over}, Goals.{After-write_mark}}
 use Rattle.file_store.proofs.upgrading.upgrade.Goals as goal
 
 pub copy_unmarked-requires-clause-copied : goal.copy_unmarked-requires-clause-copied
@@ -121,9 +119,13 @@ returns-in_err-copy_unmarked g c =
     (λ k is. absurd (other.1.1.1 is)) (λ k mark. absurd (c.in_ok-check_new.ensures.unmarked (copies.run.kept k) mark))
     (λ k. ⊎_elim (λ is. absurd (other.0 is)) (⊎_elim (λ is. absurd (other.1.0 is)) (⊎_elim (λ is. absurd (other.1.1.0 is)) (λ is. absurd (other.1.1.1 is)))))
 
--- or the new one does at its mark
-pub returns-in_err-write_mark : goal.returns-in_err-write_mark
-returns-in_err-write_mark g c =
+-- where the mark was asked to be written, whatever is told of it
+marked_upgrade : {T : Type 0} (g : Over) (c : After-write_mark g) (r : Result T UpgradeFault) → (IsErrOf r OldLayout ⊎ (IsErrOf r OldJournal ⊎ (IsErrOf r NewSmall ⊎ IsErrOf r Formatted)) → ⊥)
+    → (g.E.SectorDisk.keeps_model c.write_mark.new.disk → OnOk r (g.E.SectorDisk.content c.write_mark.new.disk 0 ≡ mark_of (version_at c.args.journals)))
+    → (g.E.SectorDisk.keeps_model c.write_mark.new.disk → OnOk r ((k : ℕ) → g.E.SectorDisk.unsynced c.write_mark.new.disk k → ⊥))
+    → HasUpgradeCauses (g.D.SectorDisk.failures c.args.old.now) (g.D.SectorDisk.failures c.copy_unmarked.new.old) (g.E.SectorDisk.failures c.args.new.now) (g.E.SectorDisk.failures c.write_mark.new.disk) r
+    → UpgradesStore g.D.SectorDisk g.E.SectorDisk c.args.journals c.args.old.now c.copy_unmarked.new.old c.args.new.now c.write_mark.new.disk r
+marked_upgrade g c r none marked synced causes =
     let d = g.D.SectorDisk in
     let n = g.E.SectorDisk in
     let kind = c.args.journals in
@@ -135,94 +137,32 @@ returns-in_err-write_mark g c =
     let checked = c.check_new.new.new in
     let check = c.check_new.ensures in
     let found = c.in_ok-store.ensures.found in
-    let calm = c.in_ok-store.ensures.looks.calm in
     let entries = entry_of c.in_ok-store.store.directory in
     let sectors = n.sector_count new in
     let copied = c.copy_unmarked.new.old in
     let made = c.copy_unmarked.new.new in
     let copies = c.copy_unmarked.ensures.copies in
-    let still = c.in_ok-check_new.ensures.causes.still (ok_is_no_err _ _) in
     let has = c.in_ok-check_new.ensures.room (ok_is_no_err _ _) in
     let known : d.keeps_model copied → (f : ℕ) (e : Entry) → old_entry kind image f ≡ Some e → (f < 64) × (home_end e ≤ kind_home_count kind sectors) = λ k.
     entries_fit kind sectors image entries (found.found (copies.old_run.kept k)).entries c.in_ok-store.store.directory.numbers has.fits in
     let same : d.keeps_model copied → d.content read ≡ image = λ k. content_is d old read (find.looks.run.touches (copies.old_run.kept k)) in
     let Whole : Journals → Image → Type 0 = λ b. IsUpgradeOf b (d.sector_count old) sectors image in
-    let asks_old : d.keeps_model copied → AsksOnly d (IsOldAsked kind image) old copied = λ k. copied_old_asked d kind old read copied (same k) find.asks (copies.asks_old k) in
-    let asks_made : d.keeps_model copied → AsksOnly n (IsUpgradeSector kind image) new made = λ k. asks_then n (IsUpgradeSector kind image) new checked made
-    (asks_wider n IsMarkSector (IsUpgradeSector kind image) new checked (λ s at. inl at) check.asks)
-    (asks_wider n (IsCopiedSector kind entries) (IsUpgradeSector kind image) checked made (copied_asked kind image entries (found.found (copies.old_run.kept k)).entries) copies.run.asks) in
     let run = one_more d Nothing old read copied find.looks.run copies.old_run in
     let m = c.write_mark.ensures.writes.run in
     let last_new = c.write_mark.new.disk in
     let written : d.keeps_model copied → n.keeps_model made → IsUnmarkedUpgrade kind image (n.content made) = λ k last. subst (λ (i : Image). IsUnmarkedUpgrade kind i (n.content made)) (same k) (c.in_ok-copy_unmarked.ensures.written k last) in
     let whole : d.keeps_model copied → n.keeps_model made → (i : Image) → ((s : ℕ) → 1 ≤ s → i s ≡ n.content made s) → i 0 ≡ mark_of (version_of i) → IsUpgradeOf kind (d.sector_count old) sectors image i = λ k last.
     upgrade_whole kind (d.sector_count old) sectors image (n.content made) has.room (found.good_layout (copies.old_run.kept k)) (known k) (written k last) in
-    let asks : d.keeps_model copied → AsksOnly n (IsUpgradeSector kind image) new last_new = λ k. asks_then n (IsUpgradeSector kind image) new made last_new (asks_made k)
-    (asks_wider n IsMarkSector (IsUpgradeSector kind image) made last_new (λ s at. inl at) m.asks) in
     let leaves : d.keeps_model copied → n.keeps_model last_new → LeavesNoPart n kind Whole new last_new = λ k k'.
     let last = m.kept k' in
     marked_made n kind Whole new (λ image left. g.met.E.SectorDisk.only_now new image (check.run.kept (copies.run.kept last)) left) checked (check.run.touches (copies.run.kept last))
     (IsCopiedSector kind entries) (copied_from kind entries) (IsKindlessUpgrade (d.content read)) (IsKindlessUpgrade image) (λ i q. subst (λ (o : Image). IsKindlessUpgrade o i) (same k) q)
     (λ paired. upgraded_of_kind kind (d.sector_count old) sectors image paired has.room (found.good_layout (copies.old_run.kept k)) (known k)) made (copies.run.touches last)
     (c.in_ok-copy_unmarked.ensures.last k last).kind_behind (c.in_ok-copy_unmarked.ensures.synced last) (whole k last) (kindless_upgrade_moves image) last_new (m.touches k') in
-    let failed = c.in_err-write_mark.ensures.writes.failed refl in
-    let done = c.in_ok-copy_unmarked.ensures.copies.causes in
-    let other = when_marking in
-    upgrade_refused d n kind old copied new last_new NewDevice c.from_residual-in_err-write_mark.result c.from_residual-in_err-write_mark.ensures.1 run (m.size ∙ copies.run.size ∙ check.run.size) (λ k. check.run.kept (copies.run.kept (m.kept k)))
-    asks_old asks (causes_marking _ _ _ _ _ (done.old_still (ok_is_no_err _ _) ∙ calm) (done.new_still (ok_is_no_err _ _) ∙ still) failed) leaves
-    (λ k is. absurd (other.0 is)) (λ k bad. absurd (found.good_layout (copies.old_run.kept k) bad)) (λ k is. absurd (other.1.0 is)) (λ k bad. absurd (found.good_journal (copies.old_run.kept k) bad))
-    (λ k is. absurd (other.1.1.0 is)) (λ k small. absurd (room_is_not_small kind sectors c.in_ok-store.store.directory image (found.found (copies.old_run.kept k)).entries has small))
-    (λ k is. absurd (other.1.1.1 is)) (λ k mark. absurd (c.in_ok-check_new.ensures.unmarked (copies.run.kept (m.kept k)) mark))
-    (λ k. ⊎_elim (λ is. absurd (other.0 is)) (⊎_elim (λ is. absurd (other.1.0 is)) (⊎_elim (λ is. absurd (other.1.1.0 is)) (λ is. absurd (other.1.1.1 is)))))
-
-pub returns : goal.returns
-returns g c =
-    let d = g.D.SectorDisk in
-    let n = g.E.SectorDisk in
-    let kind = c.args.journals in
-    let old = c.args.old.now in
-    let read = c.find.new.disk in
-    let new = c.args.new.now in
-    let image = d.content old in
-    let find = c.find.ensures in
-    let checked = c.check_new.new.new in
-    let check = c.check_new.ensures in
-    let found = c.in_ok-store.ensures.found in
-    let calm = c.in_ok-store.ensures.looks.calm in
-    let entries = entry_of c.in_ok-store.store.directory in
-    let sectors = n.sector_count new in
-    let copied = c.copy_unmarked.new.old in
-    let made = c.copy_unmarked.new.new in
-    let copies = c.copy_unmarked.ensures.copies in
-    let still = c.in_ok-check_new.ensures.causes.still (ok_is_no_err _ _) in
-    let has = c.in_ok-check_new.ensures.room (ok_is_no_err _ _) in
-    let known : d.keeps_model copied → (f : ℕ) (e : Entry) → old_entry kind image f ≡ Some e → (f < 64) × (home_end e ≤ kind_home_count kind sectors) = λ k.
-    entries_fit kind sectors image entries (found.found (copies.old_run.kept k)).entries c.in_ok-store.store.directory.numbers has.fits in
-    let same : d.keeps_model copied → d.content read ≡ image = λ k. content_is d old read (find.looks.run.touches (copies.old_run.kept k)) in
-    let Whole : Journals → Image → Type 0 = λ b. IsUpgradeOf b (d.sector_count old) sectors image in
-    let asks_old : d.keeps_model copied → AsksOnly d (IsOldAsked kind image) old copied = λ k. copied_old_asked d kind old read copied (same k) find.asks (copies.asks_old k) in
-    let asks_made : d.keeps_model copied → AsksOnly n (IsUpgradeSector kind image) new made = λ k. asks_then n (IsUpgradeSector kind image) new checked made
-    (asks_wider n IsMarkSector (IsUpgradeSector kind image) new checked (λ s at. inl at) check.asks)
-    (asks_wider n (IsCopiedSector kind entries) (IsUpgradeSector kind image) checked made (copied_asked kind image entries (found.found (copies.old_run.kept k)).entries) copies.run.asks) in
-    let run = one_more d Nothing old read copied find.looks.run copies.old_run in
-    let m = c.write_mark.ensures.writes.run in
-    let last_new = c.write_mark.new.disk in
-    let written : d.keeps_model copied → n.keeps_model made → IsUnmarkedUpgrade kind image (n.content made) = λ k last. subst (λ (i : Image). IsUnmarkedUpgrade kind i (n.content made)) (same k) (c.in_ok-copy_unmarked.ensures.written k last) in
-    let whole : d.keeps_model copied → n.keeps_model made → (i : Image) → ((s : ℕ) → 1 ≤ s → i s ≡ n.content made s) → i 0 ≡ mark_of (version_of i) → IsUpgradeOf kind (d.sector_count old) sectors image i = λ k last.
-    upgrade_whole kind (d.sector_count old) sectors image (n.content made) has.room (found.good_layout (copies.old_run.kept k)) (known k) (written k last) in
-    let asks : d.keeps_model copied → AsksOnly n (IsUpgradeSector kind image) new last_new = λ k. asks_then n (IsUpgradeSector kind image) new made last_new (asks_made k)
-    (asks_wider n IsMarkSector (IsUpgradeSector kind image) made last_new (λ s at. inl at) m.asks) in
-    let leaves : d.keeps_model copied → n.keeps_model last_new → LeavesNoPart n kind Whole new last_new = λ k k'.
-    let last = m.kept k' in
-    marked_made n kind Whole new (λ image left. g.met.E.SectorDisk.only_now new image (check.run.kept (copies.run.kept last)) left) checked (check.run.touches (copies.run.kept last))
-    (IsCopiedSector kind entries) (copied_from kind entries) (IsKindlessUpgrade (d.content read)) (IsKindlessUpgrade image) (λ i q. subst (λ (o : Image). IsKindlessUpgrade o i) (same k) q)
-    (λ paired. upgraded_of_kind kind (d.sector_count old) sectors image paired has.room (found.good_layout (copies.old_run.kept k)) (known k)) made (copies.run.touches last)
-    (c.in_ok-copy_unmarked.ensures.last k last).kind_behind (c.in_ok-copy_unmarked.ensures.synced last) (whole k last) (kindless_upgrade_moves image) last_new (m.touches k') in
-    let done = c.in_ok-copy_unmarked.ensures.copies.causes in
     record {
-      ok = λ k k'. let last = m.kept k' in marked_whole n (Whole kind) kind made last_new (whole k last) (written k last).head.of_kind (m.touches k') (c.in_ok-write_mark.ensures.marked k');
-      marked = c.in_ok-write_mark.ensures.marked;
-      synced = c.in_ok-write_mark.ensures.writes.synced;
+      ok = λ k k'. let last = m.kept k' in on_ok_weaker r (marked_whole n (Whole kind) kind made last_new (whole k last) (written k last).head.of_kind (m.touches k')) (marked k');
+      marked = marked;
+      synced = synced;
       any_moment = λ k k'. (leaves k k').any_moment;
       blocks = λ k k'. (leaves k k').blocks;
       old_size = run.size;
@@ -230,16 +170,41 @@ returns g c =
       old_kept = run.kept;
       kept = λ k. check.run.kept (copies.run.kept (m.kept k));
       only_read = run.touches;
-      asks_old = asks_old;
-      asks = asks;
-      old_layout = λ k is. absurd (ok_is_no_err _ _ is);
+      asks_old = λ k. copied_old_asked d kind old read copied (same k) find.asks (copies.asks_old k);
+      asks = λ k. asks_then n (IsUpgradeSector kind image) new made last_new
+          (asks_then n (IsUpgradeSector kind image) new checked made (asks_wider n IsMarkSector (IsUpgradeSector kind image) new checked (λ s at. inl at) check.asks)
+          (asks_wider n (IsCopiedSector kind entries) (IsUpgradeSector kind image) checked made (copied_asked kind image entries (found.found (copies.old_run.kept k)).entries) copies.run.asks))
+          (asks_wider n IsMarkSector (IsUpgradeSector kind image) made last_new (λ s at. inl at) m.asks);
+      old_layout = λ k is. absurd (none (inl is));
       good_layout = λ k bad. absurd (found.good_layout (copies.old_run.kept k) bad);
-      old_journal = λ k is. absurd (ok_is_no_err _ _ is);
+      old_journal = λ k is. absurd (none (inr (inl is)));
       good_journal = λ k bad. absurd (found.good_journal (copies.old_run.kept k) bad);
-      new_small = λ k is. absurd (ok_is_no_err _ _ is);
+      new_small = λ k is. absurd (none (inr (inr (inl is))));
       large = λ k small. absurd (room_is_not_small kind sectors c.in_ok-store.store.directory image (found.found (copies.old_run.kept k)).entries has small);
-      formatted = λ k is. absurd (ok_is_no_err _ _ is);
+      formatted = λ k is. absurd (none (inr (inr (inr is))));
       not_formatted = λ k mark. absurd (c.in_ok-check_new.ensures.unmarked (copies.run.kept (m.kept k)) mark);
-      unwritten = λ k. ⊎_elim (λ is. absurd (ok_is_no_err _ _ is)) (⊎_elim (λ is. absurd (ok_is_no_err _ _ is)) (⊎_elim (λ is. absurd (ok_is_no_err _ _ is)) (λ is. absurd (ok_is_no_err _ _ is))));
-      causes = causes_none _ _ _ _ _ (done.old_still (ok_is_no_err _ _) ∙ calm) (c.in_ok-write_mark.ensures.writes.calm ∙ done.new_still (ok_is_no_err _ _) ∙ still);
+      unwritten = λ k is. absurd (none is);
+      causes = causes;
     }
+
+-- the new one fails at its mark
+pub returns-in_err-write_mark : goal.returns-in_err-write_mark
+returns-in_err-write_mark g c =
+    let done = c.in_ok-copy_unmarked.ensures.copies.causes in
+    let failed = c.in_err-write_mark.ensures.writes.failed refl in
+    let other = when_marking in
+    subst (λ r. UpgradesStore g.D.SectorDisk g.E.SectorDisk c.args.journals c.args.old.now c.copy_unmarked.new.old c.args.new.now c.write_mark.new.disk r)
+    (sym (is_this c.from_residual-in_err-write_mark.result NewDevice c.from_residual-in_err-write_mark.ensures.1))
+    (marked_upgrade g (goal.at.returns-in_err-write_mark g c).After-write_mark (Err NewDevice)
+    (⊎_elim (λ is. other.0 (same_Err _ _ is)) (⊎_elim (λ is. other.1.0 (same_Err _ _ is)) (⊎_elim (λ is. other.1.1.0 (same_Err _ _ is)) (λ is. other.1.1.1 (same_Err _ _ is)))))
+    (λ k. tt) (λ k. tt)
+    (causes_marking _ _ _ _ _ (done.old_still (ok_is_no_err _ _) ∙ c.in_ok-store.ensures.looks.calm) (done.new_still (ok_is_no_err _ _) ∙ c.in_ok-check_new.ensures.causes.still (ok_is_no_err _ _)) failed))
+
+pub returns : goal.returns
+returns g c =
+    let done = c.in_ok-copy_unmarked.ensures.copies.causes in
+    marked_upgrade g (goal.at.returns g c).After-write_mark _
+    (⊎_elim (λ is. ok_is_no_err _ _ is) (⊎_elim (λ is. ok_is_no_err _ _ is) (⊎_elim (λ is. ok_is_no_err _ _ is) (λ is. ok_is_no_err _ _ is))))
+    c.in_ok-write_mark.ensures.marked c.in_ok-write_mark.ensures.writes.synced
+    (causes_none _ _ _ _ _ (done.old_still (ok_is_no_err _ _) ∙ c.in_ok-store.ensures.looks.calm)
+    (c.in_ok-write_mark.ensures.writes.calm ∙ done.new_still (ok_is_no_err _ _) ∙ c.in_ok-check_new.ensures.causes.still (ok_is_no_err _ _)))

@@ -1,4 +1,4 @@
-use Rattle.sync_journal.specs.Kinds.{is_kind}
+use Rattle.file_store.proofs.Names.{is_kind}
 use Rattle.file_store.proofs.version.is_turn_kind.Goals as goal
 
 pub returns : goal.returns

@@ -1,8 +1,5 @@
-use Rattle.vm_types.specs.Limits.{top_level}
-use Rattle.std.proofs.Common.{ℕ, ◌<◌}
-use Rattle.page_tables.specs.Tree.{IsPage}
+use Rattle.inspection.proofs.Names.{top_level, ℕ, ◌<◌, IsPage, picture_of, IsOver}
 use Rattle.residency.specs.declared.leaves.Change.TheVariants as Kinds
-use Rattle.residency.specs.{Picture.{picture_of}, Leaves.{IsOver}}
 use Rattle.inspection.specs.Frames.{IsAtOrAfter}
 use Rattle.inspection.proofs.frame_views.first_mapper.Given as goal
 

@@ -1,6 +1,4 @@
-use Rattle.std.proofs.Common.{◌∙◌, inl, sym}
-use Rattle.residency.specs.Picture.{picture_of}
-use Rattle.residency.proofs.Entries.{entry-of}
+use Rattle.inspection.proofs.Names.{◌∙◌, inl, sym, picture_of, entry-of}
 use Rattle.inspection.proofs.Mappers.{only_first}
 use Rattle.inspection.proofs.frame_views.mapper_of.Goals as goal
 

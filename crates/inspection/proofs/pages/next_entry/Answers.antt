@@ -1,8 +1,4 @@
-use Rattle.vm_types.specs.Limits.{user_end}
-use Rattle.std.proofs.{Common.{inl, inr, refl, sym, ◌∙◌, arith}, lemmas.Bool.{cases_lt, false≢true}}
-use Rattle.ranges.proofs.Gaps.{user_inside}
-use Rattle.residency.specs.Picture.{picture_of}
-use Rattle.residency.proofs.Entries.{entry-of}
+use Rattle.inspection.proofs.Names.{user_end, inl, inr, refl, sym, ◌∙◌, arith, cases_lt, false≢true, user_inside, picture_of, entry-of}
 use Rattle.inspection.proofs.Entries.{beside_zero}
 use Rattle.inspection.proofs.pages.next_entry.Goals as goal
 

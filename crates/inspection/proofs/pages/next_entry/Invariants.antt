@@ -1,7 +1,4 @@
-use Rattle.vm_types.specs.Limits.{top_level, user_start, user_end}
-use Rattle.std.proofs.Common.{◌≡◌, ℕ, ◌-◌, ◌<◌, ◌≤◌}
-use Rattle.page_tables.specs.Tree.{IsPage}
-use Rattle.residency.specs.Picture.{picture_of, entry}
+use Rattle.inspection.proofs.Names.{top_level, user_start, user_end, ◌≡◌, ℕ, ◌-◌, ◌<◌, ◌≤◌, IsPage, picture_of, entry}
 use Rattle.inspection.proofs.pages.next_entry.Given as goal
 
 -- no page before this one has an entry

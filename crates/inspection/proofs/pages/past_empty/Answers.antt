@@ -1,8 +1,4 @@
-use Rattle.vm_types.specs.Limits.{top_level}
-use Rattle.std.proofs.Common.{◌≡◌, ◌≢◌, ℕ, ◌/◌, ◌<◌, ◌≤◌, subst, arith}
-use Rattle.page_tables.specs.{Places.{IsTableOf}, Tree.{page_entry}}
-use Rattle.residency.specs.Picture.{picture_of}
-use Rattle.ranges.proofs.BetweenEntries.{none_between}
+use Rattle.inspection.proofs.Names.{top_level, ◌≡◌, ◌≢◌, ℕ, ◌/◌, ◌<◌, ◌≤◌, subst, arith, IsTableOf, page_entry, picture_of, none_between}
 use Rattle.inspection.proofs.Entries.{some_at}
 use Rattle.inspection.proofs.pages.past_empty.Goals as goal
 

@@ -1,8 +1,5 @@
-use Rattle.vm_types.proofs.Modes.{sizes, user_pages_fit}
-use Rattle.std.proofs.Common.{ℕ, ◌∙◌, subst, arith}
-use Rattle.residency.specs.Picture.{picture_of}
-use Rattle.inspection.specs.Tables.{HaveOneWay, IsOffWay, IsOutOf}
-use Rattle.inspection.proofs.Trees.{out_of, passed_more}
+use Rattle.inspection.proofs.Names.{sizes, user_pages_fit, ℕ, ◌∙◌, subst, arith, picture_of}
+use Rattle.inspection.{specs.Tables.{HaveOneWay, IsOffWay, IsOutOf}, proofs.Trees.{out_of, passed_more}}
 use Rattle.inspection.proofs.tables.place_in_tree.Goals as goal
 
 pub place_on_way-requires-clause-inside : goal.place_on_way-requires-clause-inside

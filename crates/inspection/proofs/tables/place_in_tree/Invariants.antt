@@ -1,7 +1,4 @@
-use Rattle.vm_types.specs.Limits.{top_level, user_end}
-use Rattle.std.proofs.Common.{◌≡◌, ℕ, ◌-◌, ◌<◌, Some}
-use Rattle.page_tables.specs.Tree.{IsOnWay}
-use Rattle.residency.specs.{Picture.{picture_of}, Parts.{IsMapped}}
+use Rattle.inspection.proofs.Names.{top_level, user_end, ◌≡◌, ℕ, ◌-◌, ◌<◌, Some, IsOnWay, picture_of, IsMapped}
 use Rattle.inspection.proofs.tables.place_in_tree.Given as goal
 
 -- it is not on the way to a mapped page before this one

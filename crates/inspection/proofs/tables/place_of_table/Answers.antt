@@ -1,6 +1,4 @@
-use Rattle.std.proofs.Common.{◌≡◌, sym, ◌∙◌, arith}
-use Rattle.frames.specs.declared.role.Role.TheVariants.{Table, Zero}
-use Rattle.residency.specs.Picture.{picture_of}
+use Rattle.inspection.proofs.Names.{◌≡◌, sym, ◌∙◌, arith, Table, Zero, picture_of}
 use Rattle.inspection.proofs.Trees.{no_table}
 use Rattle.inspection.proofs.tables.place_of_table.Goals as goal
 

@@ -1,5 +1,4 @@
-use Rattle.std.proofs.Common.{ℕ, ◌≤◌, ◌<◌}
-use Rattle.residency.specs.Picture.{picture_of}
+use Rattle.inspection.proofs.Names.{ℕ, ◌≤◌, ◌<◌, picture_of}
 use Rattle.inspection.specs.Tables.{IsOutOf}
 use Rattle.inspection.proofs.tables.place_of_table.Given as goal
 

@@ -1,7 +1,4 @@
-use Rattle.vm_types.proofs.Modes.{sizes}
-use Rattle.std.proofs.{Common.{ℕ, ◌+◌, ◌*◌, ◌/◌, ap, sym, ◌∙◌, arith, rules}, lemmas.Bool.Decides.{nat_tests}}
-use Rattle.page_tables.proofs.Pages.{span_positive}
-use Rattle.residency.specs.Picture.{picture_of}
+use Rattle.inspection.proofs.Names.{sizes, ℕ, ◌+◌, ◌*◌, ◌/◌, ap, sym, ◌∙◌, arith, rules, nat_tests, span_positive, picture_of}
 use Rattle.inspection.proofs.Trees.{ended, if_none, passed_on, placed}
 use Rattle.inspection.proofs.tables.place_on_way.Goals as goal
 

@@ -1,7 +1,4 @@
-use Rattle.vm_types.specs.Limits.{top_level}
-use Rattle.std.proofs.Common.{◌≡◌, ℕ, ◌-◌, ◌<◌, Some}
-use Rattle.page_tables.specs.Tree.{Way}
-use Rattle.residency.specs.Picture.{picture_of}
+use Rattle.inspection.proofs.Names.{top_level, ◌≡◌, ℕ, ◌-◌, ◌<◌, Some, Way, picture_of}
 use Rattle.inspection.specs.Walks.{IsStep}
 use Rattle.inspection.proofs.tables.place_on_way.Given as goal
 

@@ -1,4 +1,4 @@
-use Rattle.residency.specs.Picture.{picture_of}
+use Rattle.inspection.proofs.Names.{picture_of}
 use Rattle.inspection.proofs.Trees.{gap_way, row_way}
 use Rattle.inspection.proofs.tables.way_end.Goals as goal
 

@@ -1,4 +1,4 @@
-use Rattle.machine.specs.declared.machine.Machine.TheVariants.{Sv39, Sv48}
+use Rattle.inspection.proofs.Names.{Sv39, Sv48}
 use Rattle.inspection.proofs.Told.{step_of, told}
 use Rattle.inspection.proofs.views.next_step.Goals as goal
 

@@ -1,8 +1,4 @@
-use Rattle.vm_types.proofs.Modes.{sizes}
-use Rattle.std.proofs.Common.{◌<◌, subst, sym, ap, ◌∙◌, arith}
-use Rattle.vm_types.specs.declared.number.FrameNo.{FrameNo}
-use Rattle.page_tables.specs.Tree.{IsTable}
-use Rattle.residency.specs.Picture.{picture_of}
+use Rattle.inspection.proofs.Names.{sizes, ◌<◌, subst, sym, ap, ◌∙◌, arith, FrameNo, IsTable, picture_of}
 use Rattle.inspection.proofs.Steps.{below, leads}
 use Rattle.inspection.proofs.walks.next_step.Goals as goal
 

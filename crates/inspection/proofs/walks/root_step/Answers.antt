@@ -1,4 +1,4 @@
-use Rattle.std.proofs.Common.{sym}
+use Rattle.inspection.proofs.Names.{sym}
 use Rattle.inspection.proofs.walks.root_step.Goals as goal
 
 pub step_in-requires-clause-table : goal.step_in-requires-clause-table

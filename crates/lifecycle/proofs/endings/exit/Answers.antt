@@ -1,8 +1,4 @@
-use Rattle.vm_types.specs.Limits.{user_end}
-use Rattle.std.proofs.Common.{◌≡◌, ◌+◌, ℕ, subst, arith, rules}
-use Rattle.residency.specs.Picture.{picture_of}
-use Rattle.ranges.proofs.{ClearedPages.{returned_any}, Forgotten.{IsRowRemapped, none_left_forgot, row_forgot}}
-use Rattle.ranges.specs.Steps.{IsWithoutTables}
+use Rattle.lifecycle.proofs.Names.{user_end, ◌≡◌, ◌+◌, ℕ, subst, arith, rules, picture_of, returned_any, IsRowRemapped, none_left_forgot, row_forgot, IsWithoutTables}
 use Rattle.lifecycle.proofs.{Ending.{spare_root, ended, none_taken_ended}, Returned.{none_taken, still_framed}}
 use Rattle.lifecycle.proofs.endings.exit.Goals as goal
 

@@ -1,22 +1,13 @@
-use Rattle.vm_types.specs.{Limits.{user_end}, declared.object.PageKey.{PageKey}}
-use Rattle.std.proofs.{Common.{◌≡◌, true, ◌≢◌, ℕ, inl, [], None, refl, sym, ap, ◌∙◌, subst, rules}, lemmas.Bool.{false≢true}}
-use Rattle.std.specs.Prelude.{slice_index_or}
-use Rattle.frames.specs.FrameTable.{frame_count, role_of}
-use Rattle.page_cache.specs.CacheTable.{place_of}
-use Rattle.swap.specs.{declared.slots.Swap.{Swap}, declared.pages.Pages.{Pages}, Slots.{slots_of}}
-use Rattle.residency.specs.{Picture.{Picture, picture_of, attr_where, is_live}, Calls.{UsesDevice}}
-use Rattle.residency.proofs.Aging.{gives_then}
-use Rattle.fault.proofs.{Steps.{device_then}, SwapSteps.{ready_released}}
+use Rattle.lifecycle.proofs.Names.{user_end, PageKey, ◌≡◌, true, ◌≢◌, ℕ, inl, [], None, refl, sym, ap, ◌∙◌, subst, rules, false≢true, slice_index_or, frame_count, role_of, place_of, Swap, Pages, slots_of, Picture, picture_of, attr_where}
+use Rattle.lifecycle.proofs.Names.{is_live, UsesDevice, gives_then, device_then, ready_released}
 use Rattle.lifecycle.specs.Changes.{IsShortToFork, StallsToFork}
-use Rattle.lifecycle.proofs.{Live.{live_root}, Unchanged.{files_unchanged, places_unchanged}, Keeping.{dead_root, live_same, files_then}, Ending.{ready_ended}, Returned.{no_copy_taken}, Shortage.{short_before}}
+use Rattle.lifecycle.proofs.{Live.{live_root}, Unchanged.{files_unchanged, places_unchanged}, Keeping.{dead_root, live_same, files_then}, Ending.{ready_ended}, Returned.{no_copy_taken}, Shortage.{short_before}, Asking.{asks_forked}}
 use Rattle.lifecycle.proofs.{Copying.{readied, short_readied, unmade, copied, copies_shared, bare_shared, tables_kept, as_stall}, Taking.{gives_mapped, tables_mid, entries_forked, tables_taken}, Stalling.{stalls_first, stalls_later}}
-use Rattle.lifecycle.proofs.Asking.{asks_forked}
 use Rattle.lifecycle.proofs.forking.fork.Goals as goal
 
 pub returns-in_err-spawn : goal.returns-in_err-spawn
 returns-in_err-spawn g c =
     let old : Picture g.M.Levels.mode = picture_of c.args.core.now in
-    let new : Picture g.M.Levels.mode = picture_of c.spawn.new.core in
     let done = c.in_err-spawn.ensures in
     record {
       ok = search rules;
@@ -24,21 +15,21 @@ returns-in_err-spawn g c =
       entries = search rules;
       takes = search rules;
       tables = search rules;
-      bare = search rules;
+      bare = λ q page h ne none. done.bare q page h none;
       keeps = record {
-        fit = search rules;
-        room = search rules;
-        swap = search rules;
-        device = search rules;
-        store = search rules;
-        files = search rules;
-        copies = search rules;
+        fit = done.fit;
+        room = done.room;
+        swap = done.swap;
+        device = done.device;
+        store = done.store;
+        files = done.files;
+        copies = done.copies;
         err = search rules;
         cause = search rules;
       };
       asks = search rules;
-      stalls = as_stall c.from_residual.result (StallsToFork old new c.args.parent c.args.child) c.in_err-spawn.field-0.0 c.from_residual.ensures.1
-          (stalls_first old new c.args.parent c.args.child c.in_err-spawn.field-0.0 (dead_root (old.root c.args.child) c.requires.dead) done.fit done.frees done.tried done.still done.full
+      stalls = as_stall c.from_residual.result (StallsToFork old (picture_of c.spawn.new.core) c.args.parent c.args.child) c.in_err-spawn.field-0.0 c.from_residual.ensures.1
+          (stalls_first old (picture_of c.spawn.new.core) c.args.parent c.args.child c.in_err-spawn.field-0.0 (dead_root (old.root c.args.child) c.requires.dead) done.fit done.frees done.tried done.still done.full
           done.refuses);
       short = as_stall c.from_residual.result (IsShortToFork old c.args.parent) c.in_err-spawn.field-0.0 c.from_residual.ensures.1
           (short_before old (picture_of c.spawn.new.core) c.args.parent c.in_err-spawn.field-0.0 done.err done.room done.files.touched done.short);
@@ -47,8 +38,6 @@ returns-in_err-spawn g c =
 pub returns-in-Err : goal.returns-in-Err
 returns-in-Err g c =
     let h = g.E.SectorDisk in
-    let P : Swap _ → Type 0 = λ s. UsesDevice h s.pages.disk c.link_copies.new.core.swap.pages.disk in
-    let Q : Pages _ → Type 0 = λ x. UsesDevice h c.args.core.now.swap.pages.disk x.disk in
     let old : Picture g.M.Levels.mode = picture_of c.args.core.now in
     let spawned : Picture g.M.Levels.mode = picture_of c.spawn.new.core in
     let mapped : Picture g.M.Levels.mode = picture_of c.map_alike.new.core in
@@ -70,19 +59,19 @@ returns-in-Err g c =
     let root = live_root (mid.root c.args.parent) parent_lives in
     let unchanged = files_unchanged mid new c.args.parent c.args.child root.0 apart root.1 done.moves.fit c.exit.ensures.fit alone c.exit.ensures.files in
     record {
-      ok = search rules;
-      shared = search rules;
-      entries = search rules;
-      takes = search rules;
-      tables = search rules;
+      ok = tt;
+      shared = tt;
+      entries = tt;
+      takes = tt;
+      tables = tt;
       bare = λ q page h ne none. (let before = maps.entries q page ∙ c.in_ok-spawn.ensures.bare q page h none in c.exit.ensures.others q page h ne ∙ c.in-Err.ensures.bare q page h before);
       keeps = record {
-        fit = search rules;
+        fit = c.exit.ensures.fit;
         room = search rules;
         swap = ready_ended g.E.SectorDisk c.link_copies.new.core c.exit.new.core c.args.child 0 (user_end g.M.Levels.mode) c.exit.ensures.devices c.exit.ensures.slots c.in-Err.ensures.moves.swap;
-        device = subst Q (sym c.exit.ensures.devices.pages)
+        device = subst (λ (x : Pages _). UsesDevice h c.args.core.now.swap.pages.disk x.disk) (sym c.exit.ensures.devices.pages)
             (device_then h c.args.core.now.swap.pages.disk c.spawn.new.core.swap.pages.disk c.link_copies.new.core.swap.pages.disk c.in_ok-spawn.ensures.device
-            (subst P c.map_alike.ensures.rest.swap c.in-Err.ensures.moves.device));
+            (subst (λ (s : Swap _). UsesDevice h s.pages.disk c.link_copies.new.core.swap.pages.disk) c.map_alike.ensures.rest.swap c.in-Err.ensures.moves.device));
         store = search rules;
         files = files_then old mid new ready.files unchanged;
         copies = λ n is. (let mapped = c.in-Err.ensures.no_copy n (no_copy_taken c.link_copies.new.core.frames c.exit.new.core.frames c.exit.ensures.frames n is) in c.in_ok-spawn.ensures.copies n (sym (ap (λ t. role_of t n) c.map_alike.ensures.rest.frames) ∙ mapped));
@@ -151,17 +140,14 @@ returns g c =
 
 pub exit-requires-clause-live : goal.exit-requires-clause-live
 exit-requires-clause-live g c =
-    let mapped : Picture g.M.Levels.mode = picture_of c.map_alike.new.core in
-    live_same mapped (picture_of c.link_copies.new.core) c.args.child (c.in-Err.ensures.moves.spaces.root c.args.child)
-    ∙ live_same (picture_of c.spawn.new.core) mapped c.args.child (c.map_alike.ensures.mapped.root c.args.child) ∙ c.in_ok-spawn.ensures.ok.lives
+    live_same (picture_of c.map_alike.new.core) (picture_of c.link_copies.new.core) c.args.child (c.in-Err.ensures.moves.spaces.root c.args.child)
+    ∙ live_same (picture_of c.spawn.new.core) (picture_of c.map_alike.new.core) c.args.child (c.map_alike.ensures.mapped.root c.args.child) ∙ c.in_ok-spawn.ensures.ok.lives
 
 pub share_pages-requires : goal.share_pages-requires
 share_pages-requires g c =
-    let old : Picture g.M.Levels.mode = picture_of c.args.core.now in
-    let spawned : Picture g.M.Levels.mode = picture_of c.spawn.new.core in
     let mapped : Picture g.M.Levels.mode = picture_of c.map_alike.new.core in
     let mid : Picture g.M.Levels.mode = picture_of c.link_copies.new.core in
-    let apart : c.args.parent ≢ c.args.child = λ is. false≢true (sym c.requires.dead ∙ ap (is_live old) (sym is) ∙ c.requires.live) in
+    let apart : c.args.parent ≢ c.args.child = λ is. false≢true (sym c.requires.dead ∙ ap (is_live (picture_of c.args.core.now)) (sym is) ∙ c.requires.live) in
     let first = c.in_ok-spawn.ensures in
     let done = c.in_default.ensures in
     let maps = c.map_alike.ensures.mapped in
@@ -171,8 +157,8 @@ share_pages-requires g c =
       awaits = record {
         forking = record {
           fit = done.moves.fit;
-          parent_lives = live_same mapped mid c.args.parent (roots c.args.parent) ∙ live_same spawned mapped c.args.parent (maps.root c.args.parent) ∙ first.ok.others_live c.args.parent apart ∙ c.requires.live;
-          child_lives = live_same mapped mid c.args.child (roots c.args.child) ∙ live_same spawned mapped c.args.child (maps.root c.args.child) ∙ first.ok.lives;
+          parent_lives = live_same mapped mid c.args.parent (roots c.args.parent) ∙ live_same (picture_of c.spawn.new.core) mapped c.args.parent (maps.root c.args.parent) ∙ first.ok.others_live c.args.parent apart ∙ c.requires.live;
+          child_lives = live_same mapped mid c.args.child (roots c.args.child) ∙ live_same (picture_of c.spawn.new.core) mapped c.args.child (maps.root c.args.child) ∙ first.ok.lives;
           same = λ page. at c.args.child page ∙ maps.same page ∙ sym (at c.args.parent page);
         };
         apart = apart;

@@ -1,6 +1,4 @@
-use Rattle.std.proofs.Common.{ap, ◌∙◌, rules}
-use Rattle.regions.specs.RunList.{attr_at}
-use Rattle.residency.specs.Picture.{picture_of}
+use Rattle.lifecycle.proofs.Names.{ap, ◌∙◌, rules, attr_at, picture_of}
 use Rattle.lifecycle.proofs.Alike.{alike}
 use Rattle.lifecycle.proofs.forking.map_alike.Goals as goal
 

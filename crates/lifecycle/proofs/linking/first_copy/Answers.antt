@@ -1,10 +1,4 @@
-use Rattle.vm_types.proofs.Modes.{user_pages_fit}
-use Rattle.vm_types.specs.Limits.{top_level}
-use Rattle.std.proofs.{Common.{◌≡◌, ℕ, inl, inr, ◌+◌, ◌/◌, refl, sym, ap, ◌∙◌, subst, arith}, lemmas.Bool.{cases_eq, cases_lt}}
-use Rattle.page_tables.specs.{Entry.{number_of}, Places.{IsTableOf}}
-use Rattle.residency.specs.{Seats.{seat}, Picture.{Picture, picture_of, entry}}
-use Rattle.residency.proofs.{Entries.{entry-of}, Start.{seat-none}}
-use Rattle.ranges.proofs.BetweenEntries.{none_passed}
+use Rattle.lifecycle.proofs.Names.{user_pages_fit, top_level, ◌≡◌, ℕ, inl, inr, ◌+◌, ◌/◌, refl, sym, ap, ◌∙◌, subst, arith, cases_eq, cases_lt, number_of, IsTableOf, seat, Picture, picture_of, entry, entry-of, seat-none, none_passed}
 use Rattle.lifecycle.proofs.Passed.{same_table, page_form}
 use Rattle.lifecycle.proofs.linking.first_copy.Goals as goal
 
@@ -14,12 +8,11 @@ table_of-requires-clause-root g c = c.requires.fit.rooted.roots c.args.pid c.roo
 -- the number at a place is the entry of the page there
 pub decode-requires : goal.decode-requires
 decode-requires g c =
-    let old : Picture g.M.Levels.mode = picture_of c.args.core.now in
     let same = same_table c.args.start c.loop-page.page c.args.stop c.loop-page.invariant.from c.loop-page-test.true c.requires.one_table in
     let T : ℕ → Type 0 = λ x. IsTableOf c.args.core.now.frames (top_level g.M.Levels.mode) c.root_of-root.result.0 x c.in-Ok.table.0 in
-    page_form old c.args.pid c.loop-page.page c.number_in.result.0 c.requires.fit.rooted c.requires.live
+    page_form (picture_of c.args.core.now) c.args.pid c.loop-page.page c.number_in.result.0 c.requires.fit.rooted c.requires.live
     (c.number_in.ensures c.root_of-root.result.0 c.loop-page.page (subst T (sym same) c.in-Ok.ensures.found) refl
-    ∙ sym (entry-of old c.args.pid c.root_of-root.result.0 c.loop-page.page c.root_of-root.ensures))
+    ∙ sym (entry-of (picture_of c.args.core.now) c.args.pid c.root_of-root.result.0 c.loop-page.page c.root_of-root.ensures))
 
 pub returns-then-is_own-clause-some : goal.returns-then-is_own-clause-some
 returns-then-is_own-clause-some g c =
@@ -48,10 +41,9 @@ loop-page-preserved g c =
     ∙ sym (entry-of old c.args.pid c.root_of-root.result.0 c.loop-page.page c.root_of-root.ensures) in
     let from = k.from in
     let step = c.next_entry-page.ensures in
-    let further = step.from in
     let within = step.within in
     record {
-      from = omega (arith, from, further);
+      from = omega (arith, from, step.from);
       none = λ page least below. elim (cases_lt page c.loop-page.page) [
         | inl before ↦ k.none page least before
         | inr over ↦ elim (cases_eq page c.loop-page.page) [

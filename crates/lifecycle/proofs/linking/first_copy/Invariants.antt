@@ -1,5 +1,4 @@
-use Rattle.std.proofs.Common.{◌≡◌, ◌-◌, ◌<◌, ◌≤◌, ℕ, None}
-use Rattle.residency.specs.{Seats.{seat}, Picture.{picture_of, entry}}
+use Rattle.lifecycle.proofs.Names.{◌≡◌, ◌-◌, ◌<◌, ◌≤◌, ℕ, None, seat, picture_of, entry}
 use Rattle.lifecycle.proofs.linking.first_copy.Given as goal
 
 abbrev pub invariant-loop-page : goal.invariant-loop-page

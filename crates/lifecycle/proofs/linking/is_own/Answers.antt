@@ -1,4 +1,4 @@
-use Rattle.std.proofs.Common.{sym, ◌∙◌}
+use Rattle.lifecycle.proofs.Names.{sym, ◌∙◌}
 use Rattle.lifecycle.proofs.Copies.{leaf_common, leaf_own, nothing_common, parked_common, parked_own, seat_some, slot_seat}
 use Rattle.lifecycle.proofs.linking.is_own.Goals as goal
 

@@ -1,15 +1,12 @@
-use Rattle.residency.specs.Picture.{picture_of}
-use Rattle.fault.proofs.WaySteps.{nothing_on}
-use Rattle.ranges.proofs.Emptied.{low_zero}
+use Rattle.lifecycle.proofs.Names.{picture_of, nothing_on, low_zero}
 use Rattle.lifecycle.proofs.{CopySteps.{copies_none, copies_then, copies_done, copies_stall, forking_still}, Linked.{still_there, both_rows, all_rows, none_wanted}}
 use Rattle.lifecycle.proofs.linking.link_copies.Goals as goal
 
 pub loop-part-init : goal.loop-part-init
 loop-part-init g c =
-    let old = picture_of c.args.core.now in
     record {
       links = copies_none g.E.SectorDisk c.args.core.now c.args.parent c.args.child tt c.requires.forking.fit c.requires.swap;
-      linked = none_wanted old c.args.parent c.args.child 0 16 (λ page from below. low_zero old c.args.parent page c.requires.forking.fit.granting below);
+      linked = none_wanted (picture_of c.args.core.now) c.args.parent c.args.child 0 16 (λ page from below. low_zero (picture_of c.args.core.now) c.args.parent page c.requires.forking.fit.granting below);
     }
 
 pub link_part-requires-clause-ready : goal.link_part-requires-clause-ready
@@ -22,14 +19,13 @@ link_part-requires-clause-ready g c =
 
 pub loop-part-preserved : goal.loop-part-preserved
 loop-part-preserved g c =
-    let first = c.args.core.now in
     let mid = c.loop-part.core in
     let last = c.link_part.new.core in
     let k = c.loop-part.invariant in
     let step = c.in_ok-link_part.ensures in
     let part = c.in-Some.part in
     record {
-      links = copies_then g.E.SectorDisk first mid last c.args.parent c.args.child tt _ k.links step.links;
+      links = copies_then g.E.SectorDisk c.args.core.now mid last c.args.parent c.args.child tt _ k.links step.links;
       linked = both_rows (picture_of last) c.args.parent c.args.child 0 part.first part.end
           (still_there (picture_of mid) (picture_of last) c.args.parent c.args.child 0 part.first step.links.moves.fit.granting step.links.pages step.links.moves.tables
           (both_rows (picture_of mid) c.args.parent c.args.child 0 c.loop-part.page part.first k.linked

@@ -1,6 +1,4 @@
-use Rattle.vm_types.specs.Limits.{user_end}
-use Rattle.std.proofs.Common.{◌-◌, Ok}
-use Rattle.residency.specs.Picture.{picture_of}
+use Rattle.lifecycle.proofs.Names.{user_end, ◌-◌, Ok, picture_of}
 use Rattle.lifecycle.specs.{Steps.{HasTablesFrom}, TablesForCopies.{LinksForCopies}}
 use Rattle.lifecycle.proofs.linking.link_copies.Given as goal
 

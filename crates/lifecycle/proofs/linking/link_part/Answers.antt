@@ -1,15 +1,11 @@
-use Rattle.std.proofs.Common.{Option, sym, ◌∙◌, subst}
-use Rattle.std.specs.Prelude.{IsSome}
-use Rattle.vm_types.specs.declared.region.Attr.{Attr}
-use Rattle.residency.specs.Picture.{picture_of}
+use Rattle.lifecycle.proofs.Names.{Option, sym, ◌∙◌, subst, IsSome, Attr, picture_of}
 use Rattle.lifecycle.proofs.{Copies.{copied_mapped}, CopySteps.{copies_none, copies_way, copies_done, copies_stall}, Linked.{row_whole}, Passed.{same_table}}
 use Rattle.lifecycle.proofs.linking.link_part.Goals as goal
 
 pub link_tables-requires-clause-mapped : goal.link_tables-requires-clause-mapped
 link_tables-requires-clause-mapped g c =
-    let P : Option Attr → Type 0 = λ x. IsSome x in
     let copy = c.in-Some.ensures.some.copy in
-    subst P (sym (c.requires.ready.forking.same c.in-Some.copied))
+    subst (λ (x : Option Attr). IsSome x) (sym (c.requires.ready.forking.same c.in-Some.copied))
     (copied_mapped (picture_of c.args.core.now) c.args.parent c.in-Some.copied c.requires.ready.forking.fit.granting copy.0 copy.1)
 
 pub returns-in_err-link_tables-clause-links : goal.returns-in_err-link_tables-clause-links

@@ -1,7 +1,4 @@
-use Rattle.std.proofs.{Common.{◌≡◌, ◌+◌, ◌-◌, inl, inr, Some, true, false, sym, ap, ◌∙◌, arith}, lemmas.Bool.{cases_lt, false≢true}}
-use Rattle.std.specs.Prelude.{is_some}
-use Rattle.vm_types.specs.Processes.{least_free_from}
-use Rattle.residency.specs.Picture.{picture_of, is_live}
+use Rattle.lifecycle.proofs.Names.{◌≡◌, ◌+◌, ◌-◌, inl, inr, Some, true, false, sym, ap, ◌∙◌, arith, cases_lt, false≢true, is_some, least_free_from, picture_of, is_live}
 use Rattle.lifecycle.proofs.FreeNumbers.{some_number, least-here, least-next, least-none}
 use Rattle.lifecycle.proofs.numbers.free_pid.Goals as goal
 

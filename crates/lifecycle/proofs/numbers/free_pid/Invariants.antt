@@ -1,6 +1,4 @@
-use Rattle.std.proofs.Common.{◌≡◌, ◌-◌, ◌≤◌}
-use Rattle.vm_types.specs.Processes.{least_free_from}
-use Rattle.residency.specs.Picture.{picture_of, is_live}
+use Rattle.lifecycle.proofs.Names.{◌≡◌, ◌-◌, ◌≤◌, least_free_from, picture_of, is_live}
 use Rattle.lifecycle.proofs.numbers.free_pid.Given as goal
 
 abbrev pub invariant-loop-pid : goal.invariant-loop-pid

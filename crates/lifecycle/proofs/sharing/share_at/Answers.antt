@@ -1,10 +1,5 @@
-use Rattle.std.proofs.Common.{◌≡◌, ℕ, ◌+◌, ◌<◌, ◌≤◌, sym, ap, ◌∙◌, subst, arith}
-use Rattle.page_tables.specs.Entry.{number_of}
-use Rattle.residency.specs.{Seats.{seat}, Picture.{Picture, picture_of, entry}}
-use Rattle.residency.proofs.Start.{seat-none}
-use Rattle.ranges.proofs.{BetweenEntries.{none_at}, ClearedPlaces.{past}}
-use Rattle.lifecycle.specs.ChildShares.{GivesShares}
-use Rattle.lifecycle.proofs.{Live.{live_root}, Passed.{number_in_row, page_form}, ShareSteps.{awaits_within, gives_none}}
+use Rattle.lifecycle.proofs.Names.{◌≡◌, ℕ, ◌+◌, ◌<◌, ◌≤◌, sym, ap, ◌∙◌, subst, arith, number_of, seat, Picture, picture_of, entry, seat-none, none_at, past}
+use Rattle.lifecycle.{specs.ChildShares.{GivesShares}, proofs.{Live.{live_root}, Passed.{number_in_row, page_form}, ShareSteps.{awaits_within, gives_none}}}
 use Rattle.lifecycle.proofs.sharing.share_at.Goals as goal
 
 -- a place of the table
@@ -13,28 +8,26 @@ in_table index end below most = omega arith
 
 pub decode-before-requires : goal.decode-before-requires
 decode-before-requires g c =
-    let old : Picture g.M.Levels.mode = picture_of c.args.core.now in
     let t = c.args.tables.now in
     let q = c.requires in
-    page_form old t.parent (t.first + c.args.index) c.number_in.result.0 q.awaits.fit.rooted q.awaits.parent_lives
-    (number_in_row old t.parent t.from.0 t.first c.args.index c.number_in.result.0 q.awaits.parent_lives q.from.begins
+    page_form (picture_of c.args.core.now) t.parent (t.first + c.args.index) c.number_in.result.0 q.awaits.fit.rooted q.awaits.parent_lives
+    (number_in_row (picture_of c.args.core.now) t.parent t.from.0 t.first c.args.index c.number_in.result.0 q.awaits.parent_lives q.from.begins
     (in_table c.args.index c.args.end q.below q.in_table) q.from.place c.number_in.ensures)
 
 pub share_page-requires : goal.share_page-requires
 share_page-requires g c =
-    let old : Picture g.M.Levels.mode = picture_of c.args.core.now in
     let t = c.args.tables.now in
     let q = c.requires in
     let from = q.from in
     let to = q.to in
     let page = t.first + c.args.index in
     record {
-      awaits = awaits_within old t.parent t.child page (t.first + c.args.end) page (page + 1) q.awaits (omega arith) (omega (arith, q.below));
+      awaits = awaits_within (picture_of c.args.core.now) t.parent t.child page (t.first + c.args.end) page (page + 1) q.awaits (omega arith) (omega (arith, q.below));
       from = record { place = from.place; begins = from.begins; user = (let user = from.user in omega (arith, user, q.below)) };
       to = record { place = to.place; begins = to.begins; user = (let user = to.user in omega (arith, user, q.below)) };
       in_table = in_table c.args.index c.args.end q.below q.in_table;
       before = c.decode-before.ensures.number
-          ∙ number_in_row old t.parent t.from.0 t.first c.args.index c.number_in.result.0 q.awaits.parent_lives from.begins
+          ∙ number_in_row (picture_of c.args.core.now) t.parent t.from.0 t.first c.args.index c.number_in.result.0 q.awaits.parent_lives from.begins
           (in_table c.args.index c.args.end q.below q.in_table) from.place c.number_in.ensures;
       own = record { form = c.decode-before.ensures.form; own = c.is_own.ensures.own c.if-is_own.true };
     }
@@ -44,8 +37,7 @@ returns-then-is_own-clause-gives g c =
     let t = c.args.tables.now in
     let page = t.first + c.args.index in
     let next : page + 1 ≡ t.first + (c.args.index + 1) = omega arith in
-    let P : ℕ → Type 0 = λ x. GivesShares c.args.core.now c.share_page.new.core t.parent t.child page x in
-    subst P next c.share_page.ensures
+    subst (λ (x : ℕ). GivesShares c.args.core.now c.share_page.new.core t.parent t.child page x) next c.share_page.ensures
 
 pub returns-in-None : goal.returns-in-None
 returns-in-None g c =

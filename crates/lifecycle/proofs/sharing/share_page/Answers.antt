@@ -1,5 +1,4 @@
-use Rattle.std.proofs.Common.{rules}
-use Rattle.page_tables.specs.Entry.{number_of}
+use Rattle.lifecycle.proofs.Names.{rules, number_of}
 use Rattle.lifecycle.proofs.{Copies.{seat_names}, SharedPage.{may_give, placed_raised, page_shared}}
 use Rattle.lifecycle.proofs.sharing.share_page.Goals as goal
 

@@ -1,6 +1,4 @@
-use Rattle.vm_types.proofs.Modes.{sizes}
-use Rattle.vm_types.specs.Limits.{user_end}
-use Rattle.std.proofs.Common.{◌≤◌, refl, arith}
+use Rattle.lifecycle.proofs.Names.{sizes, user_end, ◌≤◌, refl, arith}
 use Rattle.lifecycle.proofs.ShareSteps.{awaits_rest, gives_no_row, gives_then, gives_bare, ready_rest}
 use Rattle.lifecycle.proofs.sharing.share_pages.Goals as goal
 
@@ -18,10 +16,9 @@ pub share_table-requires-clause-ready : goal.share_table-requires-clause-ready
 share_table-requires-clause-ready g c =
     let k = c.loop-part.invariant in
     let part = c.in-Some.ensures.some in
-    let from = k.from in
     let least = part.from in
     ready_rest c.args.core.now c.loop-part.core c.args.parent c.args.child 16 c.loop-part.page (user_end g.M.Levels.mode) c.in-Some.part.first c.in-Some.part.end c.requires k.gives
-    (omega (arith, least, from)) least part.high
+    (omega (arith, least, k.from)) least part.high
 
 pub loop-part-preserved : goal.loop-part-preserved
 loop-part-preserved g c =

@@ -1,5 +1,4 @@
-use Rattle.vm_types.specs.Limits.{user_end}
-use Rattle.std.proofs.Common.{◌-◌, ◌≤◌}
+use Rattle.lifecycle.proofs.Names.{user_end, ◌-◌, ◌≤◌}
 use Rattle.lifecycle.specs.ChildShares.{GivesShares}
 use Rattle.lifecycle.proofs.sharing.share_pages.Given as goal
 

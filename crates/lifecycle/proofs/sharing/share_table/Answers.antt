@@ -1,8 +1,5 @@
-use Rattle.vm_types.specs.Limits.{user_end}
-use Rattle.std.proofs.Common.{◌≡◌, ℕ, ◌+◌, ◌-◌, ◌*◌, ◌/◌, ◌%◌, ◌≤◌, sym, ap, ◌∙◌, subst, arith}
-use Rattle.residency.specs.Picture.{picture_of}
-use Rattle.lifecycle.specs.{ChildShares.{GivesShares}, Shares.{IsTableFor}}
-use Rattle.lifecycle.proofs.{Passed.{same_table}, ShareSteps.{awaits_rest, gives_none, gives_no_row, gives_then}, SharedRows.{none_of_row}}
+use Rattle.lifecycle.proofs.Names.{user_end, ◌≡◌, ℕ, ◌+◌, ◌-◌, ◌*◌, ◌/◌, ◌%◌, ◌≤◌, sym, ap, ◌∙◌, subst, arith, picture_of}
+use Rattle.lifecycle.{specs.{ChildShares.{GivesShares}, Shares.{IsTableFor}}, proofs.{Passed.{same_table}, ShareSteps.{awaits_rest, gives_none, gives_no_row, gives_then}, SharedRows.{none_of_row}}}
 use Rattle.lifecycle.proofs.sharing.share_table.Goals as goal
 
 pub returns-in_default-table_for : goal.returns-in_default-table_for
@@ -20,9 +17,8 @@ same_row start = omega arith
 
 pub loop-index-init : goal.loop-index-init
 loop-index-init g c =
-    let first = c.table_start-first.ensures in
     let get = c.get.ensures.number in
-    let index : c.table_start-first.result + (c.get.result - c.table_start-first.result) ≡ c.args.start = omega (arith, first, get) in
+    let index : c.table_start-first.result + (c.get.result - c.table_start-first.result) ≡ c.args.start = omega (arith, c.table_start-first.ensures, get) in
     record {
       least = omega (arith, index);
       within = omega (arith, get, c.requires.some);
@@ -68,5 +64,4 @@ returns g c =
     let first = c.table_start-first.ensures in
     let within = c.loop-index.invariant.within in
     let end : c.table_start-first.result + c.loop-index.index ≡ c.args.stop = omega (arith, first, within, c.loop-index-test.false, c.requires.some) in
-    let P : ℕ → Type 0 = λ x. GivesShares c.args.core.now c.loop-index.core c.args.parent c.args.child c.args.start x in
-    subst P end c.loop-index.invariant.gives
+    subst (λ (x : ℕ). GivesShares c.args.core.now c.loop-index.core c.args.parent c.args.child c.args.start x) end c.loop-index.invariant.gives

@@ -1,4 +1,4 @@
-use Rattle.std.proofs.Common.{◌+◌, ◌-◌, ◌≤◌}
+use Rattle.lifecycle.proofs.Names.{◌+◌, ◌-◌, ◌≤◌}
 use Rattle.lifecycle.specs.ChildShares.{GivesShares}
 use Rattle.lifecycle.proofs.sharing.share_table.Given as goal
 

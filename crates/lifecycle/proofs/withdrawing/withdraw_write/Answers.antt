@@ -1,11 +1,5 @@
-use Rattle.vm_types.proofs.Modes.{user_pages_fit}
-use Rattle.std.proofs.Common.{◌≡◌, ◌≢◌, ℕ, ◌+◌, true, None, refl, sym, ap, ◌∙◌, subst, arith, rules}
-use Rattle.sv39_walk.specs.Entry.{is_valid}
-use Rattle.page_tables.specs.Entry.{number_of}
-use Rattle.residency.specs.{Seats.{seat}, Picture.{Picture, picture_of, entry}}
-use Rattle.ranges.proofs.{BetweenEntries.{place_at}, ClearedPages.{same_beside}}
-use Rattle.lifecycle.specs.Shares.{Weakens}
-use Rattle.lifecycle.proofs.{Copies.{seat_names}, Live.{live_root}, Passed.{in_row}, Weaker.{weaker_seat}, Lowered.{fit_lowered, withdraws, places_set}}
+use Rattle.lifecycle.proofs.Names.{user_pages_fit, ◌≡◌, ◌≢◌, ℕ, ◌+◌, true, None, refl, sym, ap, ◌∙◌, subst, arith, rules, is_valid, number_of, seat, Picture, picture_of, entry, place_at, same_beside}
+use Rattle.lifecycle.{specs.Shares.{Weakens}, proofs.{Copies.{seat_names}, Live.{live_root}, Passed.{in_row}, Weaker.{weaker_seat}, Lowered.{fit_lowered, withdraws, places_set}}}
 use Rattle.lifecycle.proofs.withdrawing.withdraw_write.Goals as goal
 
 pub returns : goal.returns
@@ -40,14 +34,12 @@ pub set_in-requires-clause-placed : goal.set_in-requires-clause-placed
 set_in-requires-clause-placed g c =
     let t = c.args.tables.now in
     let q = c.requires in
-    let old : Picture g.M.Levels.mode = picture_of c.args.core.now in
-    let r = live_root (old.root t.parent) q.live in
+    let r = live_root ((picture_of c.args.core.now).root t.parent) q.live in
     let user = q.place.user in
-    let place = in_row old t.parent t.from.0 t.first c.args.index q.place.begins q.in_table q.place.place in
+    let place = in_row (picture_of c.args.core.now) t.parent t.from.0 t.first c.args.index q.place.begins q.in_table q.place.place in
     (r.0, (t.first + c.args.index), q.fit.rooted.roots t.parent r.0 r.1, omega (arith, user, user_pages_fit g.M.Levels.mode), place r.0 r.1, place_at t.first c.args.index q.place.begins q.in_table)
 
 pub set_in-requires-clause-names : goal.set_in-requires-clause-names
 set_in-requires-clause-names g c =
-    let weaker = c.in-Some.ensures.weaker in
     seat_names g.M.Levels.mode c.args.core.now.frames c.args.tables.now.from.0 c.args.index (number_of c.in-Some.after)
-    (λ none. c.requires.own.own (sym (weaker_seat (number_of c.args.before) (number_of c.in-Some.after) weaker) ∙ none))
+    (λ none. c.requires.own.own (sym (weaker_seat (number_of c.args.before) (number_of c.in-Some.after) c.in-Some.ensures.weaker) ∙ none))

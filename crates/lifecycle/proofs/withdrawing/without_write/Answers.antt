@@ -1,8 +1,5 @@
-use Rattle.std.proofs.Common.{◌≡◌, ◌-◌, true, sym, ap, ◌∙◌, subst, arith}
-use Rattle.sv39_walk.specs.Entry.{is_valid, is_leaf, can_write}
-use Rattle.page_tables.specs.{Entry.{IsEntry, number_of}, declared.forms.Entry.{Entry}}
-use Rattle.lifecycle.specs.Shares.{Weakens}
-use Rattle.lifecycle.proofs.Weaker.{weaker_leaf, weaker_other, still_leaf}
+use Rattle.lifecycle.proofs.Names.{◌≡◌, ◌-◌, true, sym, ap, ◌∙◌, subst, arith, is_valid, is_leaf, can_write, IsEntry, number_of, Entry}
+use Rattle.lifecycle.{specs.Shares.{Weakens}, proofs.Weaker.{weaker_leaf, weaker_other, still_leaf}}
 use Rattle.lifecycle.proofs.withdrawing.without_write.Goals as goal
 
 pub returns-in_default : goal.returns-in_default
@@ -10,16 +7,13 @@ returns-in_default c = record { form = tt; valid = tt; weaker = tt; same = weake
 
 pub returns-clause-weaker : goal.returns-clause-weaker
 returns-clause-weaker c =
-    let F : Entry → Type 0 = λ x. IsEntry x in
-    let form = subst F c.in-Leaf.is c.requires in
+    let form = subst (λ (x : Entry). IsEntry x) c.in-Leaf.is c.requires in
     let write : can_write c.in-Leaf.leaf.0 ≡ true = sym c.is_writable.ensures ∙ c.if-not-is_writable.false in
-    let W : Entry → Type 0 = λ x. Weakens (number_of x) (c.in-Leaf.leaf.0 - 4) in
     let number : c.without_write.result.0 ≡ c.in-Leaf.leaf.0 - 4 = omega (arith, c.without_write.ensures) in
-    rw number (subst W (sym c.in-Leaf.is) (weaker_leaf c.in-Leaf.leaf.0 form.0 write))
+    rw number (subst (λ (x : Entry). Weakens (number_of x) (c.in-Leaf.leaf.0 - 4)) (sym c.in-Leaf.is) (weaker_leaf c.in-Leaf.leaf.0 form.0 write))
 
 pub returns-clause-form : goal.returns-clause-form
 returns-clause-form c =
-    let F : Entry → Type 0 = λ x. IsEntry x in
-    let form = subst F c.in-Leaf.is c.requires in
+    let form = subst (λ (x : Entry). IsEntry x) c.in-Leaf.is c.requires in
     still_leaf (number_of c.args.before) c.without_write.result.0 (returns-clause-weaker c)
     (ap (λ x. is_valid (number_of x)) c.in-Leaf.is ∙ form.0) (ap (λ x. is_leaf (number_of x)) c.in-Leaf.is ∙ form.1)

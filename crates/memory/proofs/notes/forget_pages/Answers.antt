@@ -1,6 +1,4 @@
-use Rattle.std.proofs.{Common.{◌∙◌, ℕ, inl, inr, sym, subst, length-set, get_or-set_other}, lemmas.Bool.{cases_eq}}
-use Rattle.frames.specs.FrameTable.{FrameTable}
-use Rattle.memory.specs.{declared.notes.Note.{Note}, Notes.{Covers, NamesFrame, no_note}}
+use Rattle.memory.{specs.{declared.notes.Note.{Note}, Notes.{Covers, NamesFrame, no_note}}, proofs.Names.{◌∙◌, ℕ, inl, inr, sym, subst, length-set, get_or-set_other, cases_eq, FrameTable}}
 use Rattle.memory.proofs.notes.forget_pages.Goals as goal
 
 pub invariant_of-memory : goal.invariant_of-memory

@@ -1,6 +1,4 @@
-use Rattle.std.proofs.{Common.{◌<◌, ◌%◌, sym, subst, arith, length}, lemmas.List.{get_or_read}, lemmas.Nat.Bits.{bit_at_ones}}
-use Rattle.frames.specs.FrameTable.{FrameTable, frame_count}
-use Rattle.memory.specs.{declared.notes.Note.{Note}, Notes.{HasKind, NamesFrame, no_note}}
+use Rattle.memory.{specs.{declared.notes.Note.{Note}, Notes.{HasKind, NamesFrame, no_note}}, proofs.Names.{◌<◌, ◌%◌, sym, subst, arith, length, get_or_read, bit_at_ones, FrameTable, frame_count}}
 use Rattle.memory.proofs.notes.kinds_over.Goals as goal
 
 pub returns-then-memory : goal.returns-then-memory

@@ -1,7 +1,4 @@
-use Rattle.std.proofs.Common.{◌≡◌, ◌+◌, ◌*◌, ◌/◌, ◌%◌, ◌^◌, ℕ, true, false, inl, inr, refl, sym, ap, ◌∙◌, subst, arith, eq-eqb, ne_eqb}
-use Rattle.sv39_walk.specs.Entry.{has_bit, frame_of, is_private, is_swapped}
-use Rattle.page_tables.specs.{Entry.{IsEntry, number_of}, declared.forms.Entry.{Entry}}
-use Rattle.page_tables.proofs.Bits.{parked_frame, parked_private}
+use Rattle.memory.proofs.Names.{◌≡◌, ◌+◌, ◌*◌, ◌/◌, ◌%◌, ◌^◌, ℕ, true, false, inl, inr, refl, sym, ap, ◌∙◌, subst, arith, eq-eqb, ne_eqb, has_bit, frame_of, is_private, is_swapped, IsEntry, number_of, Entry, parked_frame, parked_private}
 use Rattle.memory.proofs.notes.named.Goals as goal
 
 no_bit : (e k : ℕ) → e / 2 ^ k % 2 ≡ 0 → has_bit e k ≡ false

@@ -1,6 +1,4 @@
-use Rattle.std.proofs.{Common.{◌≡◌, ◌<◌, ◌≤◌, ◌⊎◌, ℕ, Option, Some, None, inl, inr, refl, sym, subst, arith, length}, lemmas.List.{get_or_read}}
-use Rattle.std.specs.Prelude.{IfSome, IsSome}
-use Rattle.frames.specs.FrameTable.{FrameTable, frame_count}
+use Rattle.memory.proofs.Names.{◌≡◌, ◌<◌, ◌≤◌, ◌⊎◌, ℕ, Option, Some, None, inl, inr, refl, sym, subst, arith, length, get_or_read, IfSome, IsSome, FrameTable, frame_count}
 use Rattle.memory.specs.{declared.notes.Note.{Note}, Notes.{Covers, NamesFrame, no_note}}
 use Rattle.memory.proofs.notes.page_over.Goals as goal
 

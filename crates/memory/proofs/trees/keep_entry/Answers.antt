@@ -1,6 +1,4 @@
-use Rattle.std.proofs.Common.{ap, ◌∙◌, subst, arith}
-use Rattle.page_tables.specs.Entry.{IsEntry, number_of}
-use Rattle.memory.proofs.{Leaves.{of_entry}, Keeping.{kept_more}}
+use Rattle.memory.proofs.{Names.{ap, ◌∙◌, subst, arith, IsEntry, number_of}, Leaves.{of_entry}, Keeping.{kept_more}}
 use Rattle.memory.proofs.trees.keep_entry.Goals as goal
 
 pub returns-then-frame-from : goal.returns-then-frame-from

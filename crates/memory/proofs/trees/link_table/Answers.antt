@@ -1,8 +1,4 @@
-use Rattle.vm_types.specs.Limits.{top_level}
-use Rattle.std.proofs.Common.{sym, subst}
-use Rattle.frames.specs.FrameTable.{FrameTable}
-use Rattle.page_tables.specs.Tree.{IsForest, IsRoot, IsSpare}
-use Rattle.memory.proofs.{Keeping.{kept_by, linked_leaf, no_more}, Noting.{linked_back, noted_by}}
+use Rattle.memory.proofs.{Names.{top_level, sym, subst, FrameTable, IsForest, IsRoot, IsSpare}, Keeping.{kept_by, linked_leaf, no_more}, Noting.{linked_back, noted_by}}
 use Rattle.memory.proofs.trees.link_table.Goals as goal
 
 pub invariant_of-memory : goal.invariant_of-memory

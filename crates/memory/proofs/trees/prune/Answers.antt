@@ -1,8 +1,4 @@
-use Rattle.vm_types.specs.Limits.{top_level}
-use Rattle.std.proofs.Common.{sym, subst}
-use Rattle.frames.specs.FrameTable.{FrameTable}
-use Rattle.page_tables.specs.Tree.{IsForest, IsRoot}
-use Rattle.memory.proofs.{Keeping.{kept_by, no_more, pruned_leaf}, Noting.{noted_by, pruned_back}}
+use Rattle.memory.proofs.{Names.{top_level, sym, subst, FrameTable, IsForest, IsRoot}, Keeping.{kept_by, no_more, pruned_leaf}, Noting.{noted_by, pruned_back}}
 use Rattle.memory.proofs.trees.prune.Goals as goal
 
 pub invariant_of-memory : goal.invariant_of-memory

@@ -1,7 +1,4 @@
-use Rattle.std.proofs.Common.{sym, subst}
-use Rattle.vm_types.specs.Limits.{top_level}
-use Rattle.frames.specs.FrameTable.{FrameTable}
-use Rattle.page_tables.specs.Tree.{IsForest, IsRoot}
+use Rattle.memory.proofs.Names.{sym, subst, top_level, FrameTable, IsForest, IsRoot}
 use Rattle.memory.proofs.trees.set.Goals as goal
 
 pub invariant_of-memory : goal.invariant_of-memory

@@ -1,8 +1,4 @@
-use Rattle.std.proofs.Common.{◌≡◌, ◌/◌, ◌%◌, sym, ap, subst}
-use Rattle.vm_types.specs.Limits.{top_level}
-use Rattle.frames.specs.FrameTable.{FrameTable}
-use Rattle.page_tables.specs.{Tree.{IsForest, IsRoot}, Places.{IsTableOf}, Entry.{number_of}, Change.{SetsEntry}}
-use Rattle.memory.proofs.Leaves.{is_page}
+use Rattle.memory.proofs.{Names.{◌≡◌, ◌/◌, ◌%◌, sym, ap, subst, top_level, FrameTable, IsForest, IsRoot, IsTableOf, number_of, SetsEntry}, Leaves.{is_page}}
 use Rattle.memory.proofs.trees.set_at.Goals as goal
 
 pub invariant_of-memory : goal.invariant_of-memory

@@ -1,9 +1,5 @@
-use Rattle.vm_types.specs.Limits.{top_level}
-use Rattle.std.proofs.Common.{◌≡◌, ℕ, ◌%◌, ◌/◌, sym, subst, arith, rules}
-use Rattle.frames.specs.FrameTable.{FrameTable}
-use Rattle.page_tables.specs.{Tree.{IsForest, IsPage, IsRoot}, Places.{IsTableOf}, Entry.{number_of}, Change.{SetsEntry}}
-use Rattle.memory.proofs.{Keeping.{fewer_place, kept_set}, Noting.{noted_place}}
-use Rattle.memory.specs.Notes.{NamesNoMore}
+use Rattle.memory.proofs.Names.{top_level, ◌≡◌, ℕ, ◌%◌, ◌/◌, sym, subst, arith, rules, FrameTable, IsForest, IsPage, IsRoot, IsTableOf, number_of, SetsEntry}
+use Rattle.memory.{specs.Notes.{NamesNoMore}, proofs.{Keeping.{fewer_place, kept_set}, Noting.{noted_place}}}
 use Rattle.memory.proofs.trees.set_in.Goals as goal
 
 same_place : (page index : ℕ) → page % 512 ≡ index → page % 64 ≡ index % 64

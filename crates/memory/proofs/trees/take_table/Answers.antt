@@ -1,10 +1,5 @@
-use Rattle.vm_types.specs.{Limits.{top_level}, declared.number.FrameNo.{FrameNo}, declared.number.NoFree.{NoFree}}
-use Rattle.std.proofs.Common.{◌≡◌, ℕ, subst, sym, Ok, Err, Result}
-use Rattle.std.specs.Prelude.{IfOk, OnErr}
-use Rattle.frames.specs.{FrameTable.{FrameTable}, declared.role.Role.TheVariants.{Table}}
-use Rattle.page_tables.specs.Change.{AddsTable}
-use Rattle.memory.specs.{declared.buffer.TranslationBuffer.{TranslationBuffer}, Kept.{LinesAreLeaves}, declared.notes.Notes.{Notes}, Notes.{AreNoted}}
-use Rattle.memory.proofs.{Keeping.{kept_by, no_more, taken_leaf}, Noting.{noted_by, taken_back}}
+use Rattle.memory.proofs.Names.{top_level, FrameNo, NoFree, ◌≡◌, ℕ, subst, sym, Ok, Err, Result, IfOk, OnErr, FrameTable, Table, AddsTable}
+use Rattle.memory.{specs.{declared.buffer.TranslationBuffer.{TranslationBuffer}, Kept.{LinesAreLeaves}, declared.notes.Notes.{Notes}, Notes.{AreNoted}}, proofs.{Keeping.{kept_by, no_more, taken_leaf}, Noting.{noted_by, taken_back}}}
 use Rattle.memory.proofs.trees.take_table.Goals as goal
 
 either : (mode : ℕ) (old new : FrameTable) (b : TranslationBuffer) (r : Result FrameNo NoFree) → LinesAreLeaves mode old b

@@ -1,7 +1,4 @@
-use Rattle.std.proofs.{Common.{◌≡◌, true, sym, ◌∙◌, arith}, lemmas.Bool.{false≢true}, lemmas.Bool.Decides.{nat_tests}}
-use Rattle.std.specs.Prelude.{nat_lt}
-use Rattle.frames.specs.FrameTable.{frame_count}
-use Rattle.memory.proofs.Walks.{refused}
+use Rattle.memory.proofs.{Names.{◌≡◌, true, sym, ◌∙◌, arith, false≢true, nat_tests, nat_lt, frame_count}, Walks.{refused}}
 use Rattle.memory.proofs.walking.is_usable.Goals as goal
 
 pub returns-then-lets-clause-other : goal.returns-then-lets-clause-other

@@ -1,11 +1,5 @@
-use Rattle.std.proofs.Common.{◌/◌, ◌%◌, ◌<◌, ℕ, Ok, Result, sym, ap, ◌∙◌, subst}
-use Rattle.std.specs.Prelude.{IsErr}
-use Rattle.vm_types.specs.{Limits.{top_level, user_end}, declared.number.Phys.{Phys}}
-use Rattle.frames.specs.FrameTable.{frame_count}
-use Rattle.sv39_walk.specs.{declared.translation.WalkFault.{WalkFault}, Walk.{answer_of}}
-use Rattle.page_tables.specs.Tree.{page_entry}
-use Rattle.memory.specs.{Lines.{address_in}, Kept.{IsLeafOf}}
-use Rattle.memory.proofs.{Looks.{walks}, Leaves.{is_line, of_entry, valid_of}, Keeping.{kept_more}, Walks.{translated-entry}, walking.keep_leaf.Given.{Over}}
+use Rattle.memory.proofs.Names.{◌/◌, ◌%◌, ◌<◌, ℕ, Ok, Result, sym, ap, ◌∙◌, subst, IsErr, top_level, user_end, Phys, frame_count, WalkFault, answer_of, page_entry}
+use Rattle.memory.{specs.{Lines.{address_in}, Kept.{IsLeafOf}}, proofs.{Looks.{walks}, Leaves.{is_line, of_entry, valid_of}, Keeping.{kept_more}, Walks.{translated-entry}, walking.keep_leaf.Given.{Over}}}
 use Rattle.memory.proofs.walking.keep_leaf.Goals as goal
 
 pub returns-then-not-is_usable-clause-walked : goal.returns-then-not-is_usable-clause-walked
@@ -13,10 +7,9 @@ returns-then-not-is_usable-clause-walked g c addr at =
     let top = top_level g.M.Levels.mode in
     let t = c.args.frames.now in
     let small : addr / 4096 < user_end g.M.Levels.mode = (let P : ℕ → Type 0 = λ p. p < user_end g.M.Levels.mode in subst P (sym at) c.requires.small) in
-    let E : Result Phys WalkFault → Type 0 = λ r. IsErr r in
     let is = translated-entry g.M.Levels.mode t c.args.root.0 addr c.args.access c.requires.forest c.requires.root small
     ∙ ap (answer_of (frame_count t) addr c.args.access 0) (ap (page_entry t top c.args.root.0) at ∙ sym (c.number_in-leaf.ensures top c.args.root.0 c.args.page c.requires.table (sym (ap (λ n. n % 512) c.get.ensures.number)))) in
-    subst E (sym is) (c.is_usable.ensures.other c.if-not-is_usable.true addr)
+    subst (λ (r : Result Phys WalkFault). IsErr r) (sym is) (c.is_usable.ensures.other c.if-not-is_usable.true addr)
 
 leaf_is : (g : Over) (c : goal.After-frame_number g) → IsLeafOf g.M.Levels.mode c.args.frames.now c.args.root.0 c.args.page c.number_in-leaf.result.0
 leaf_is g c =

@@ -1,8 +1,4 @@
-use Rattle.vm_types.specs.Limits.{top_level}
-use Rattle.std.proofs.Common.{sym, ap, ◌∙◌}
-use Rattle.frames.specs.FrameTable.{FrameTable}
-use Rattle.sv39_walk.specs.Walk.{translated}
-use Rattle.memory.proofs.Leaves.{coherent}
+use Rattle.memory.proofs.{Names.{top_level, sym, ap, ◌∙◌, FrameTable, translated}, Leaves.{coherent}}
 use Rattle.memory.proofs.walking.walk_page.Goals as goal
 
 pub returns-in-Some-clause-walked : goal.returns-in-Some-clause-walked

@@ -1,7 +1,4 @@
-use Rattle.std.proofs.Common.{◌≢◌, arith}
-use Rattle.vm_types.specs.Limits.{top_level}
-use Rattle.page_tables.specs.Tree.{missing_of}
-use Rattle.memory.proofs.Walks.{missing_fault}
+use Rattle.memory.proofs.{Names.{◌≢◌, arith, top_level, missing_of}, Walks.{missing_fault}}
 use Rattle.memory.proofs.walking.walk_way.Goals as goal
 
 pub returns-in-Err-clause-walked : goal.returns-in-Err-clause-walked

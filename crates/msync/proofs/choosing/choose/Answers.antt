@@ -1,8 +1,5 @@
-use Rattle.std.proofs.Common.{ℕ, ◌≡◌, ◌+◌, ◌-◌, refl, subst, arith}
-use Rattle.regions.specs.RunList.{attr_at}
-use Rattle.page_cache.specs.CacheTable.{is_touched}
-use Rattle.msync.specs.Choice.{of_files, is_chosen, OverflowsRow, ListsTouched}
-use Rattle.msync.proofs.Appending.{listed, lists_none, over_none}
+use Rattle.msync.proofs.Names.{ℕ, ◌≡◌, ◌+◌, ◌-◌, refl, subst, arith, attr_at, is_touched}
+use Rattle.msync.{specs.Choice.{of_files, is_chosen, OverflowsRow, ListsTouched}, proofs.Appending.{listed, lists_none, over_none}}
 use Rattle.msync.proofs.choosing.choose.Goals as goal
 
 pub returns-in-Ok : goal.returns-in-Ok

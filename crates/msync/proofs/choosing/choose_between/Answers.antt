@@ -1,8 +1,5 @@
-use Rattle.std.proofs.Common.{ℕ, ◌≡◌, ◌-◌, arith, subst}
-use Rattle.regions.specs.RunList.{attr_at}
-use Rattle.page_cache.specs.CacheTable.{is_touched}
-use Rattle.msync.specs.Choice.{of_files, is_chosen, is_taken_behind, Appends, OverflowsRow}
-use Rattle.msync.proofs.{Appending.{on_err}, Walking.{walk_start, walk_on, walk_over, walk_end}}
+use Rattle.msync.proofs.Names.{ℕ, ◌≡◌, ◌-◌, arith, subst, attr_at, is_touched, on_err}
+use Rattle.msync.{specs.Choice.{of_files, is_chosen, is_taken_behind, Appends, OverflowsRow}, proofs.Walking.{walk_start, walk_on, walk_over, walk_end}}
 use Rattle.msync.proofs.choosing.choose_between.Goals as goal
 
 pub loop-page-init : goal.loop-page-init
@@ -30,9 +27,8 @@ loop-page-preserved g c =
 
 pub returns-in_default-clause-ok : goal.returns-in_default-clause-ok
 returns-in_default-clause-ok g c =
-    let touched = of_files (is_touched c.args.cache.now) in
     let map = attr_at c.args.regions.now in
-    walk_end touched map c.args.first c.loop-page.page c.args.end c.args.list.now c.loop-page.list c.loop-page.count
+    walk_end (of_files (is_touched c.args.cache.now)) map c.args.first c.loop-page.page c.args.end c.args.list.now c.loop-page.list c.loop-page.count
     c.in_default.ensures.none c.loop-page.invariant.to c.loop-page.invariant.chosen
 
 pub returns-in_err-count-clause-too_many : goal.returns-in_err-count-clause-too_many

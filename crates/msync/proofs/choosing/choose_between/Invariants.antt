@@ -1,6 +1,4 @@
-use Rattle.std.proofs.Common.{◌-◌, ◌≤◌}
-use Rattle.regions.specs.RunList.{attr_at}
-use Rattle.page_cache.specs.CacheTable.{is_touched}
+use Rattle.msync.proofs.Names.{◌-◌, ◌≤◌, attr_at, is_touched}
 use Rattle.msync.specs.Choice.{of_files, is_chosen, Appends}
 use Rattle.msync.proofs.choosing.choose_between.Given as goal
 

@@ -1,8 +1,4 @@
-use Rattle.std.proofs.Common.{◌≡◌, ℕ, ◌/◌, ◌∙◌, ap, sym, subst, refl, arith}
-use Rattle.vm_types.specs.{declared.command.MsyncMode.{MsyncMode}, declared.command.MsyncMode.TheVariants.{Async}, declared.refusal.Errno.TheVariants.{ENOMEM}, Checks.{page_count}, Rows.{is_covered}}
-use Rattle.regions.specs.RunList.{attr_at}
-use Rattle.residency.specs.Picture.{picture_of}
-use Rattle.residency.proofs.Granting.{user_map-same}
+use Rattle.msync.proofs.Names.{◌≡◌, ℕ, ◌/◌, ◌∙◌, ap, sym, subst, refl, arith, MsyncMode, Async, ENOMEM, page_count, is_covered, attr_at, picture_of, user_map-same}
 use Rattle.msync.specs.{Choice.{of_files, is_chosen, AreTaken, IsRulingOn, RulesSame}, declared.chosen.Ruling.TheVariants.{Refuses, Passes}}
 use Rattle.msync.proofs.Rulings.{the_process, ruled_missing, ruled_row, ruled_sync, listed_of, taken_of, touched_within}
 use Rattle.msync.proofs.choosing.rule.Goals as goal

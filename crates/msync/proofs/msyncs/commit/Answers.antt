@@ -1,11 +1,6 @@
-use Rattle.std.proofs.Common.{◌≡◌, ◌≢◌, ◌⊎◌, inl, inr, length, take, refl, sym, ◌∙◌, subst, rules}
-use Rattle.disk_model.specs.Moments.{LeavesNow, AsksOnly}
-use Rattle.file_store.specs.{declared.store.FileStore.{FileStore}, Standing.{StandsFor}, Store.{IsReadyStore}}
-use Rattle.swap.specs.Slots.{slots_of}
+use Rattle.msync.proofs.Names.{◌≡◌, ◌≢◌, ◌⊎◌, inl, inr, length, take, refl, sym, ◌∙◌, subst, rules, LeavesNow, AsksOnly, FileStore, StandsFor, IsReadyStore, slots_of, IsStoreUsed, Source, committed, Stall, SwapDevice, Stalled, picture_of}
+use Rattle.msync.proofs.Names.{IsFit, ShowsPages}
 use Rattle.swap.specs.declared.pages.Pages.{Pages as Swap_pages}
-use Rattle.sync_journal.specs.{Kinds.{IsStoreUsed}, declared.faults.CommitFault.TheVariants.{Source}}
-use Rattle.vm_types.specs.{Msync.{committed}, declared.refusal.Stall.{Stall}, declared.refusal.Stall.TheVariants.{SwapDevice}, declared.reply.Answer.TheVariants.{Stalled}}
-use Rattle.residency.specs.{Picture.{picture_of}, Parts.{IsFit}, Shows.{ShowsPages}}
 use Rattle.msync.specs.{Asking.{IsSectorListed}, Choice.{chosen_of, IsAway}, Shows.{IsSoundCore}, Settling.{Settles, SettlesMemory}, Spots.{AreSpots, HasSlot}}
 use Rattle.msync.proofs.Committing.{fits, are_pages, are_spots, front_lists, changes, synced_shows, memory_synced, away_of, err_is, device_failed, source_failed, store_same, commit_done, commit_failed, commit_unread, StoreCommits}
 use Rattle.msync.proofs.{Asking.{asks_listed}, SettledPages.{ready_shared, settles_nothing}}
@@ -44,9 +39,8 @@ returns-in-Ok g c =
     let beside = c.settle.ensures.beside in
     let settles = store_same (λ x. Settles x (picture_of new) list (length list)) (picture_of old) (slots_of source) (slots_of old.swap) c.commit.new.self.directory old.store.directory
     (sym reads.slots) (sym done.files) c.settle.ensures.settles in
-    let R : FileStore g.row.D.Denot → Type 0 = λ x. IsReadyStore g.D.SectorDisk x in
     let sound : IsSoundCore g.D.SectorDisk g.E.SectorDisk new = record {
-      ready = subst R (sym beside.store) done.ready;
+      ready = subst (λ (x : FileStore g.row.D.Denot). IsReadyStore g.D.SectorDisk x) (sym beside.store) done.ready;
       swap = ready_shared g.E.SectorDisk source new.swap (reads.ready c.requires.sound.swap) beside.pages c.settle.ensures.settles.slots;
       fit = c.settle.ensures.fit;
     } in
@@ -65,26 +59,23 @@ returns-in-Ok g c =
           let change = changes (picture_of old) s pid same.first same.count front list c.requires.sound.fit shows.pages spots lists s.durable in
           let n = g.D.SectorDisk.sector_count old.store.disk in
           let M : Type 0 = IsAway (picture_of old) ch → g.E.SectorDisk.keeps_model new.swap.pages.disk in
-          let H : Swap_pages g.row.E.Denot → Type 0 = λ p. g.E.SectorDisk.keeps_model p.disk in
           let model : M → HasSlot c.commit.new.source.spots.now → g.E.SectorDisk.keeps_model source.pages.disk =
-          λ m has. subst H beside.pages (m (away (subst (λ l. HasSlot l) done.asks.follows.1 has))) in
+          λ m has. subst (λ (p : Swap_pages g.row.E.Denot). g.E.SectorDisk.keeps_model p.disk) beside.pages (m (away (subst (λ l. HasSlot l) done.asks.follows.1 has))) in
           let commits_to : StoreCommits g.D.SectorDisk M n s.files s.durable taken old.store c.commit.new.self = record {
             directory = done.files;
             size = done.size;
             kept = done.kept;
             either = λ k m now. done.any_moment k (model m) s.files s.durable taken now change;
           } in
-          let P : FileStore g.row.D.Denot → Type 0 = λ x. StoreCommits g.D.SectorDisk M n s.files s.durable taken old.store x in
           let Q : FileStore g.row.D.Denot → Type 0 = λ x. g.D.SectorDisk.keeps_model x.disk → M → LeavesNow g.D.SectorDisk old.store.disk (StandsFor n s.files s.durable)
           → LeavesNow g.D.SectorDisk x.disk (StandsFor n s.files taken) in
           commit_done g.D.SectorDisk g.E.SectorDisk M old new s after pid addr len mode ch shows same takes
-          (subst P (sym beside.store) commits_to)
+          (subst (λ (x : FileStore g.row.D.Denot). StoreCommits g.D.SectorDisk M n s.files s.durable taken old.store x) (sym beside.store) commits_to)
           (subst Q (sym beside.store) (λ k m now. done.ok k (model m) s.files s.durable taken now change))
           (synced_shows (picture_of old) s pid same.first same.count front list c.requires.sound.fit shows.pages spots lists (picture_of new) settles) sound;
       ends = search rules;
       asks_store =
-          let P : FileStore g.row.D.Denot → Type 0 = λ x. AsksOnly g.D.SectorDisk (IsStoreUsed old.store.journal) old.store.disk x.disk in
-          subst P (sym beside.store) done.asks_device;
+          subst (λ (x : FileStore g.row.D.Denot). AsksOnly g.D.SectorDisk (IsStoreUsed old.store.journal) old.store.disk x.disk) (sym beside.store) done.asks_device;
       asks_slots =
           let P : Swap_pages g.row.E.Denot → Type 0 = λ x. AsksOnly g.E.SectorDisk (IsSectorListed (picture_of old) ch) old.swap.pages.disk x.disk in
           subst P (sym beside.pages) (asks_listed g.E.SectorDisk (picture_of old) ch list old.swap.pages.disk source.pages.disk few spots reads.asks);

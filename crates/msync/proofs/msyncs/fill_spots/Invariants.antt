@@ -1,6 +1,4 @@
-use Rattle.std.proofs.Common.{ℕ, ◌≡◌, ◌<◌, length}
-use Rattle.swap.specs.Slots.{slots_of}
-use Rattle.residency.specs.Picture.{picture_of}
+use Rattle.msync.proofs.Names.{ℕ, ◌≡◌, ◌<◌, length, slots_of, picture_of}
 use Rattle.msync.specs.{Choice.{chosen_page}, Spots.{spot_at, bytes_there, IsSpot}}
 use Rattle.msync.proofs.msyncs.fill_spots.Given as goal
 

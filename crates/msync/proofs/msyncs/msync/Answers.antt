@@ -1,7 +1,5 @@
-use Rattle.std.proofs.Common.{rules}
-use Rattle.msync.specs.Choice.{chosen_of, chosen_page, IsAway, TakesAway}
-use Rattle.msync.proofs.{Asking.{asks_taken}, Committing.{takes_some, commits_under}, Ends.{ends_nothing, ends_under}}
-use Rattle.residency.specs.Picture.{picture_of}
+use Rattle.msync.proofs.Names.{rules, picture_of}
+use Rattle.msync.{specs.Choice.{chosen_of, chosen_page, IsAway, TakesAway}, proofs.{Asking.{asks_taken}, Committing.{takes_some, commits_under}, Ends.{ends_nothing, ends_under}}}
 use Rattle.msync.proofs.msyncs.msync.Goals as goal
 
 pub returns-in-Refuses : goal.returns-in-Refuses

@@ -1,5 +1,4 @@
-use Rattle.std.proofs.Common.{sym, arith}
-use Rattle.vm_types.specs.declared.object.PageKey.TheVariants.{File}
+use Rattle.msync.proofs.Names.{sym, arith, File}
 use Rattle.msync.proofs.Spotting.{cache_inside, slot_whole}
 use Rattle.msync.proofs.msyncs.spot_of.Goals as goal
 

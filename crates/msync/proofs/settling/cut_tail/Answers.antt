@@ -1,8 +1,5 @@
-use Rattle.std.proofs.Common.{◌≡◌, ◌<◌, ℕ, List, refl, sym, ap, ◌∙◌, arith}
-use Rattle.vm_types.specs.declared.object.PageKey.TheVariants.{File}
-use Rattle.frames.specs.{declared.role.Role.TheVariants.{Cache}, FrameTable.{FrameTable, role_of, IsFrame, IsHeld, IsSound, with_bytes, is_handed_out}}
-use Rattle.frames.proofs.FrameLemmas.{with_bytes-others, IsSound-step, IsHeld-above, IsHeld-not_zero}
-use Rattle.residency.specs.Picture.{Picture, picture_of}
+use Rattle.msync.proofs.Names.{◌≡◌, ◌<◌, ℕ, List, refl, sym, ap, ◌∙◌, arith, File, Cache, FrameTable, role_of, IsFrame, IsHeld, IsSound, with_bytes, is_handed_out, with_bytes-others, IsSound-step, IsHeld-above, IsHeld-not_zero, Picture}
+use Rattle.msync.proofs.Names.{picture_of}
 use Rattle.msync.proofs.Settled.{fit_cut}
 use Rattle.msync.proofs.settling.cut_tail.Goals as goal
 
@@ -10,8 +7,7 @@ pub returns-clause-fit : goal.returns-clause-fit
 returns-clause-fit g c =
     let old : Picture g.M.Levels.mode = picture_of c.args.core.now in
     let n = c.args.frame.0 in
-    let t = with_bytes old.frames n c.cut_from.new.page in
-    fit_cut old (record old { frames = t }) c.args.page n c.cut_from.new.page c.requires.fit c.requires.placed refl
+    fit_cut old (record old { frames = (with_bytes old.frames n c.cut_from.new.page) }) c.args.page n c.cut_from.new.page c.requires.fit c.requires.placed refl
     (record { slots = refl; root = λ p. refl; at = λ p k. refl; page_of = λ m. refl; place = λ p. refl; touched = λ p. refl; files = λ f. refl })
 
 below_same : (k m n : ℕ) → k < m → n ≡ m → k < n

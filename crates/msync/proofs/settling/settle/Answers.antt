@@ -1,7 +1,5 @@
-use Rattle.std.proofs.Common.{◌≡◌, ℕ, inl, inr, length, refl, ◌∙◌, subst, arith}
-use Rattle.residency.specs.Picture.{picture_of}
-use Rattle.msync.specs.Settling.{Settles}
-use Rattle.msync.proofs.SettledPages.{beside_none, beside_then, settles_none, spot_left, settles_more}
+use Rattle.msync.proofs.Names.{◌≡◌, ℕ, inl, inr, length, refl, ◌∙◌, subst, arith, picture_of}
+use Rattle.msync.{specs.Settling.{Settles}, proofs.SettledPages.{beside_none, beside_then, settles_none, spot_left, settles_more}}
 use Rattle.msync.proofs.settling.settle.Goals as goal
 
 pub loop-i-init : goal.loop-i-init

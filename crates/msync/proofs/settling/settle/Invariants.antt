@@ -1,5 +1,4 @@
-use Rattle.std.proofs.Common.{◌≡◌, ◌⊎◌}
-use Rattle.residency.specs.{Picture.{picture_of}, Parts.{IsFit}}
+use Rattle.msync.proofs.Names.{◌≡◌, ◌⊎◌, picture_of, IsFit}
 use Rattle.msync.specs.{Spots.{HasSlot}, Settling.{KeepsBesidePages, Settles}}
 use Rattle.msync.proofs.settling.settle.Given as goal
 

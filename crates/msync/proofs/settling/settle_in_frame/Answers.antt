@@ -1,18 +1,12 @@
-use Rattle.std.proofs.Common.{inl, refl, ap, ◌∙◌, arith}
-use Rattle.vm_types.specs.declared.object.PageKey.TheVariants.{File}
-use Rattle.page_cache.specs.CacheTable.{place_of, is_touched}
-use Rattle.residency.specs.Picture.{Picture, picture_of, is_data}
+use Rattle.msync.proofs.Names.{inl, refl, ap, ◌∙◌, arith, File, place_of, is_touched, Picture, picture_of, is_data, Untouches, fit_untouched, all_placed}
 use Rattle.msync.proofs.{Beside.{same_beside}, Settled.{frames_cut, settles_framed}}
-use Rattle.residency.proofs.Cleaning.{Untouches, fit_untouched, all_placed}
 use Rattle.msync.proofs.settling.settle_in_frame.Goals as goal
 
 pub change_leaves-requires-clause-inside : goal.change_leaves-requires-clause-inside
 change_leaves-requires-clause-inside g c =
-    let a : Picture g.M.Levels.mode = picture_of c.args.core.now in
     let b : Picture g.M.Levels.mode = picture_of c.cut_tail.new.core in
-    let same = frames_cut a b c.args.page c.args.frame.0 _ c.requires.fit c.requires.placed c.cut_tail.ensures.cuts (same_beside c.args.core.now c.cut_tail.new.core c.cut_tail.ensures.beside) in
-    let inside = c.requires.there in
-    omega (arith, same, inside)
+    let same = frames_cut (picture_of c.args.core.now) b c.args.page c.args.frame.0 _ c.requires.fit c.requires.placed c.cut_tail.ensures.cuts (same_beside c.args.core.now c.cut_tail.new.core c.cut_tail.ensures.beside) in
+    omega (arith, same, c.requires.there)
 
 pub change_leaves-requires-clause-data : goal.change_leaves-requires-clause-data
 change_leaves-requires-clause-data g c =
@@ -21,8 +15,6 @@ change_leaves-requires-clause-data g c =
 
 pub returns : goal.returns
 returns g c =
-    let a : Picture g.M.Levels.mode = picture_of c.args.core.now in
-    let b : Picture g.M.Levels.mode = picture_of c.cut_tail.new.core in
     let x : Picture g.M.Levels.mode = picture_of c.change_leaves.new.core in
     let y : Picture g.M.Levels.mode = record x { place = place_of c.clean.new.self; touched = is_touched c.clean.new.self } in
     let cut = c.cut_tail.ensures.beside in
@@ -52,6 +44,6 @@ returns g c =
         refused = changed.beside.refused ∙ cut.refused;
       };
       swap = inl (changed.beside.swap ∙ cut.swap);
-      settles = settles_framed a b x y c.args.page c.args.frame.0 _ c.requires.fit c.cut_tail.ensures.fit changed.fit c.requires.placed c.requires.there
+      settles = settles_framed (picture_of c.args.core.now) (picture_of c.cut_tail.new.core) x y c.args.page c.args.frame.0 _ c.requires.fit c.cut_tail.ensures.fit changed.fit c.requires.placed c.requires.there
           c.cut_tail.ensures.cuts beside changed.changes u refl;
     }

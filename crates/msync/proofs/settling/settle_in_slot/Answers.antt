@@ -1,9 +1,4 @@
-use Rattle.std.proofs.{Common.{rules, inr, refl, sym, ◌∙◌, arith}, lemmas.Bool.{false≢true}}
-use Rattle.vm_types.specs.declared.object.PageKey.TheVariants.{File}
-use Rattle.swap.specs.Slots.{slots_of}
-use Rattle.page_cache.specs.CacheTable.{place_of, is_touched}
-use Rattle.residency.specs.Picture.{Picture, picture_of}
-use Rattle.residency.proofs.Homing.{Homes, fit_homed}
+use Rattle.msync.proofs.Names.{rules, inr, refl, sym, ◌∙◌, arith, false≢true, File, slots_of, place_of, is_touched, Picture, picture_of, Homes, fit_homed}
 use Rattle.msync.proofs.Homing.{settles_homed}
 use Rattle.msync.proofs.settling.settle_in_slot.Goals as goal
 

@@ -1,4 +1,4 @@
-use Rattle.std.proofs.Common.{sym, ◌∙◌}
+use Rattle.page_tables.proofs.Names.{sym, ◌∙◌}
 use Rattle.page_tables.proofs.Numbers.{valid_is_leaf}
 use Rattle.page_tables.proofs.forms.decode.Goals as goal
 

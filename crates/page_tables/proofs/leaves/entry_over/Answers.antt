@@ -1,4 +1,4 @@
-use Rattle.std.proofs.Common.{◌<◌, ◌^◌, ◌∙◌, sym, arith}
+use Rattle.page_tables.proofs.Names.{◌<◌, ◌^◌, ◌∙◌, sym, arith}
 use Rattle.page_tables.proofs.Bits.{leaf_over, parked_over}
 use Rattle.page_tables.proofs.leaves.entry_over.Goals as goal
 

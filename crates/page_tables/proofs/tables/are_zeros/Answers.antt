@@ -1,5 +1,4 @@
-use Rattle.std.proofs.{Common.{◌≡◌, ℕ, get_or, sym, ap, ◌∙◌, arith}, lemmas.Bool.Decides.{Decides-eqb}, lemmas.List.{ext_get_or}, lemmas.Slice.Eq.{slice_eq-Decides}}
-use Rattle.frames.proofs.FrameLemmas.{zero_bytes-at}
+use Rattle.page_tables.proofs.Names.{◌≡◌, ℕ, get_or, sym, ap, ◌∙◌, arith, Decides-eqb, ext_get_or, slice_eq-Decides, zero_bytes-at}
 use Rattle.page_tables.proofs.tables.are_zeros.Goals as goal
 
 pub returns : goal.returns

@@ -1,7 +1,5 @@
-use Rattle.vm_types.specs.Limits.{top_level}
-use Rattle.std.proofs.Common.{sym, subst}
-use Rattle.page_tables.specs.Entry.{IsPageEntry}
-use Rattle.page_tables.proofs.Ends.{page_is_entry}
+use Rattle.page_tables.proofs.Names.{top_level, sym, subst}
+use Rattle.page_tables.{specs.Entry.{IsPageEntry}, proofs.Ends.{page_is_entry}}
 use Rattle.page_tables.proofs.tables.entry.Goals as goal
 
 pub decode-requires : goal.decode-requires

@@ -1,5 +1,4 @@
-use Rattle.vm_types.specs.Limits.{top_level}
-use Rattle.std.proofs.Common.{arith}
+use Rattle.page_tables.proofs.Names.{top_level, arith}
 use Rattle.page_tables.proofs.Pruning.{Prunes-refl, Prunes-trans}
 use Rattle.page_tables.proofs.tables.prune.Goals as goal
 

@@ -1,5 +1,4 @@
-use Rattle.vm_types.specs.Limits.{top_level}
-use Rattle.std.proofs.Common.{◌-◌}
+use Rattle.page_tables.proofs.Names.{top_level, ◌-◌}
 use Rattle.page_tables.specs.{Tree.{IsForest, IsRoot, missing_of}, Change.{Prunes}}
 use Rattle.page_tables.proofs.tables.prune.Given as goal
 

@@ -1,20 +1,12 @@
-use Rattle.vm_types.specs.Limits.{top_level}
-use Rattle.std.proofs.Common.{◌≡◌, ℕ, ◌+◌, ◌<◌, sym, ap, ◌∙◌, subst, arith}
-use Rattle.page_tables.specs.{Tree.{Points, last_table, missing_of}, Change.{Prunes}}
-use Rattle.page_tables.proofs.{Ends.{missing_of-is}, Linking.{pair}, Pruning.{empty_apart, otherwise, prunes, missing_up}, tables.prune_last.Given.{Over}}
+use Rattle.page_tables.proofs.Names.{top_level, ◌≡◌, ℕ, ◌+◌, ◌<◌, sym, ap, ◌∙◌, subst, arith, index_of}
+use Rattle.page_tables.{specs.{Tree.{Points, last_table, missing_of}, Change.{Prunes}}, proofs.{Linking.{pair}, Pruning.{empty_apart, otherwise, prunes, missing_up}, tables.prune_last.Given.{Over}}}
 use Rattle.page_tables.proofs.tables.prune_last.Goals as goal
 
 pub returns-then-table-root-clause-in_levels : goal.returns-then-table-root-clause-in_levels
-returns-then-table-root-clause-in_levels g c =
-    let t = c.args.frames.now in
-    let level = c.end_of_way-level.ensures.level ∙ ap (λ p. (last_table t p (top_level g.M.Levels.mode) c.args.root.0).0) c.get-number.ensures.number in
-    omega (arith, missing_of-is t (top_level g.M.Levels.mode) c.args.root.0 c.args.page, level, c.end_of_way-level.ensures.in_levels)
+returns-then-table-root-clause-in_levels g c = omega (arith, c.end_of_way-level.ensures.missing, c.end_of_way-level.ensures.in_levels)
 
 pub returns-then-not-is_empty-clause-in_levels : goal.returns-then-not-is_empty-clause-in_levels
-returns-then-not-is_empty-clause-in_levels g c =
-    let t = c.args.frames.now in
-    let level = c.end_of_way-level.ensures.level ∙ ap (λ p. (last_table t p (top_level g.M.Levels.mode) c.args.root.0).0) c.get-number.ensures.number in
-    omega (arith, missing_of-is t (top_level g.M.Levels.mode) c.args.root.0 c.args.page, level, c.end_of_way-level.ensures.in_levels)
+returns-then-not-is_empty-clause-in_levels g c = omega (arith, c.end_of_way-level.ensures.missing, c.end_of_way-level.ensures.in_levels)
 
 pub unlink-requires-clause-apart : goal.unlink-requires-clause-apart
 unlink-requires-clause-apart g c =
@@ -30,20 +22,19 @@ removed : (g : Over) (c : goal.After-unlink g) → Removed g c
 removed g c =
     let t = c.args.frames.now in
     let r = c.args.root.0 in
-    let level = c.end_of_way-level.ensures.level ∙ ap (λ p. (last_table t p (top_level g.M.Levels.mode) r).0) c.get-number.ensures.number in
-    let table = c.end_of_way-level.ensures.table ∙ ap (λ p. (last_table t p (top_level g.M.Levels.mode) r).1) c.get-number.ensures.number in
+    let way = c.end_of_way-level.ensures in
     let l = last_table t c.args.page (top_level g.M.Levels.mode) r in
-    let last = pair l.0 l.1 c.end_of_way-level.result.0 c.end_of_way-level.result.1.0 (sym level) (sym table) in
-    let parent = otherwise c.end_of_way-level.ensures.parent c.if-table-root.false in
+    let last = pair l.0 l.1 c.end_of_way-level.result.0 c.end_of_way-level.result.1.0 (sym way.level) (sym way.table) in
+    let parent = otherwise way.parent c.if-table-root.false in
     let P : ℕ → Type 0 = λ j. Points t c.end_of_way-level.result.2.0 j c.end_of_way-level.result.1.0 in
-    let on = subst P (sym c.table_index.ensures.index) parent.1 in
+    let on = subst P (sym (c.table_index.ensures.index ∙ ap (λ p. index_of p (c.end_of_way-level.result.0 + 1)) c.get.ensures.number)) parent.1 in
     let empty = c.is_empty.ensures.0 c.if-not-is_empty.false in
     let u = c.unlink.ensures in (
       prunes t c.unlink.new.frames (top_level g.M.Levels.mode) r c.args.page c.end_of_way-level.result.2.0 c.table_index.result c.end_of_way-level.result.1.0 c.end_of_way-level.result.0
           c.requires.forest c.requires.root last c.if-table-root.false empty on u.between u.cleared u.released u.free,
       missing_up t c.unlink.new.frames (top_level g.M.Levels.mode) r c.args.page c.end_of_way-level.result.2.0 c.table_index.result c.end_of_way-level.result.1.0 c.end_of_way-level.result.0
           c.requires.forest c.requires.root last c.if-table-root.false empty on u.between u.cleared u.released u.free,
-      omega (arith, missing_of-is t (top_level g.M.Levels.mode) r c.args.page, level, parent.0),
+      omega (arith, way.missing, parent.0),
     )
 
 pub returns-clause-prunes : goal.returns-clause-prunes

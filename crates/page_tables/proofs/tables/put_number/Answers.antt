@@ -1,4 +1,4 @@
-use Rattle.std.proofs.Common.{arith}
+use Rattle.page_tables.proofs.Names.{arith}
 use Rattle.page_tables.proofs.EntryBytes.{puts_number}
 use Rattle.page_tables.proofs.tables.put_number.Goals as goal
 

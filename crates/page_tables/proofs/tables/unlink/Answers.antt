@@ -1,7 +1,5 @@
-use Rattle.std.proofs.Common.{◌≡◌, sym, ap, ◌∙◌, subst}
-use Rattle.frames.specs.{declared.role.Role.TheVariants.{Table, Private}, FrameTable.{is_handed_out}}
-use Rattle.page_tables.specs.Change.{ChangesEntry}
-use Rattle.page_tables.proofs.Setting.{table_forth}
+use Rattle.page_tables.proofs.Names.{◌≡◌, sym, ap, ◌∙◌, subst, Table, Private, is_handed_out}
+use Rattle.page_tables.{specs.Change.{ChangesEntry}, proofs.Setting.{table_forth}}
 use Rattle.page_tables.proofs.tables.unlink.Goals as goal
 
 pub release-requires : goal.release-requires

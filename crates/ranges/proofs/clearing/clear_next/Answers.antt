@@ -1,9 +1,4 @@
-use Rattle.vm_types.specs.Limits.{top_level}
-use Rattle.vm_types.proofs.Modes.{sizes}
-use Rattle.std.proofs.Common.{◌≡◌, ℕ, ◌+◌, ◌*◌, ◌/◌, ◌^◌, refl, sym, ap, ◌∙◌, subst, arith, rules}
-use Rattle.std.specs.Prelude.{min, max}
-use Rattle.page_tables.proofs.{Ends.{missing_of-is}, Pruning.{Prunes-refl}}
-use Rattle.residency.specs.Picture.{Picture, picture_of}
+use Rattle.ranges.proofs.Names.{top_level, sizes, ◌≡◌, ℕ, ◌+◌, ◌*◌, ◌/◌, ◌^◌, refl, sym, ap, ◌∙◌, subst, arith, rules, min, max, missing_of-is, Prunes-refl, Picture, picture_of}
 use Rattle.ranges.proofs.{ClearedPages.{same_beside}, Gaps.{is_whole}, Pruned.{passes_missing, root_pruned}}
 use Rattle.ranges.proofs.clearing.clear_next.Goals as goal
 
@@ -66,10 +61,9 @@ returns-then-missing-eq0 g c =
     let r = c.root_of-top_table.result.0 in
     let missing = missing_of-is c.args.core.now.frames (top_level g.M.Levels.mode) r c.args.start ∙ sym (ap (λ x. x.0) c.last_table-missing.ensures.last) in
     let whole = is_whole (picture_of c.args.core.now) c.args.pid r c.root_of-top_table.ensures c.args.start c.args.start refl (missing ∙ c.if-missing-eq0.true) in
-    let P : ℕ → Type 0 = λ m. c.min-stop.result ≡ min c.args.end ((c.args.start / 512 ^ max 1 m + 1) * 512 ^ max 1 m) in
     record {
       cleans = c.clear_table.ensures;
       further = omega (arith, c.min-stop.ensures, c.table_end.ensures, c.requires.some);
       within = omega (arith, c.min-stop.ensures);
-      ends = λ x lives. subst P (sym (whole x lives)) (c.min-stop.ensures ∙ ap (min c.args.end) c.table_end.ensures);
+      ends = λ x lives. subst (λ (m : ℕ). c.min-stop.result ≡ min c.args.end ((c.args.start / 512 ^ max 1 m + 1) * 512 ^ max 1 m)) (sym (whole x lives)) (c.min-stop.ensures ∙ ap (min c.args.end) c.table_end.ensures);
     }

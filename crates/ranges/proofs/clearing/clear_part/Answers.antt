@@ -1,43 +1,35 @@
-use Rattle.std.proofs.Common.{◌≡◌, ℕ, ◌≤◌, refl, sym, ◌∙◌, subst, arith}
-use Rattle.residency.specs.Picture.{Picture, picture_of}
-use Rattle.ranges.specs.Steps.{Clears, IsCleared}
-use Rattle.ranges.proofs.ClearedPages.{rest-refl, rest_then, clears_none, clears_then}
+use Rattle.ranges.proofs.Names.{◌≡◌, ℕ, ◌≤◌, refl, sym, ◌∙◌, subst, arith, Picture, picture_of}
+use Rattle.ranges.{specs.Steps.{Clears, IsCleared}, proofs.ClearedPages.{rest-refl, rest_then, clears_none, clears_then}}
 use Rattle.ranges.proofs.clearing.clear_part.Goals as goal
 
 pub loop-page-init : goal.loop-page-init
 loop-page-init g c =
-    let old : Picture g.M.Levels.mode = picture_of c.args.core.now in
     let begins = c.get-page.ensures.number in
-    let below = c.requires.some in
     record {
       fit = c.requires.fit;
       low = omega (arith, begins);
-      high = omega (arith, begins, below);
-      clears = clears_none old c.args.pid _ _ (λ page h least under. absurd (omega (arith, begins, least, under)));
-      cleared = λ low le cleared. (let P : ℕ → Type 0 = λ x. IsCleared old c.args.pid low x in subst P (sym begins) cleared);
+      high = omega (arith, begins, c.requires.some);
+      clears = clears_none (picture_of c.args.core.now) c.args.pid _ _ (λ page h least under. absurd (omega (arith, begins, least, under)));
+      cleared = λ low le cleared. subst (λ (x : ℕ). IsCleared (picture_of c.args.core.now) c.args.pid low x) (sym begins) cleared;
       rest = rest-refl c.args.core.now;
       refused = refl;
     }
 
 pub loop-page-preserved : goal.loop-page-preserved
 loop-page-preserved g c =
-    let old : Picture g.M.Levels.mode = picture_of c.args.core.now in
     let mid : Picture g.M.Levels.mode = picture_of c.loop-page.core in
-    let new : Picture g.M.Levels.mode = picture_of c.clear_next-page.new.core in
     let k = c.loop-page.invariant in
     let begins = k.low in
     let next = c.clear_next-page.ensures in
     let further : c.loop-page.page ≤ c.clear_next-page.result = omega (arith, next.further, c.user_page.ensures) in
-    let P : ℕ → Type 0 = λ x. Clears mid new c.args.pid x c.clear_next-page.result in
     record {
       fit = next.fit;
       low = omega (arith, begins, further);
       high = next.within;
-      clears = clears_then old mid new c.args.pid c.args.start c.loop-page.page c.clear_next-page.result c.requires.fit begins further k.clears
-          (subst P c.user_page.ensures next.clears);
+      clears = clears_then (picture_of c.args.core.now) mid (picture_of c.clear_next-page.new.core) c.args.pid c.args.start c.loop-page.page c.clear_next-page.result c.requires.fit begins further k.clears
+          (subst (λ (x : ℕ). Clears mid (picture_of c.clear_next-page.new.core) c.args.pid x c.clear_next-page.result) c.user_page.ensures next.clears);
       cleared = λ low le cleared. (
-          let Q : ℕ → Type 0 = λ x. IsCleared mid c.args.pid low x in
-          next.cleared low (omega (arith, le, begins, c.user_page.ensures)) (subst Q (sym c.user_page.ensures) (k.cleared low le cleared)));
+          next.cleared low (omega (arith, le, begins, c.user_page.ensures)) (subst (λ (x : ℕ). IsCleared mid c.args.pid low x) (sym c.user_page.ensures) (k.cleared low le cleared)));
       rest = rest_then c.args.core.now c.loop-page.core c.clear_next-page.new.core k.rest next.rest;
       refused = next.refused ∙ k.refused;
     }
@@ -56,5 +48,5 @@ returns g c =
         rest = c.loop-page.invariant.rest;
         refused = c.loop-page.invariant.refused;
       };
-      cleared = λ low le cleared. (let P : ℕ → Type 0 = λ x. IsCleared (picture_of c.loop-page.core) c.args.pid low x in subst P (ends c.loop-page.page c.args.end c.loop-page.invariant.high c.loop-page-test.false) (c.loop-page.invariant.cleared low le cleared));
+      cleared = λ low le cleared. subst (λ (x : ℕ). IsCleared (picture_of c.loop-page.core) c.args.pid low x) (ends c.loop-page.page c.args.end c.loop-page.invariant.high c.loop-page-test.false) (c.loop-page.invariant.cleared low le cleared);
     }

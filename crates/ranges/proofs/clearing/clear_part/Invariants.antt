@@ -1,5 +1,4 @@
-use Rattle.std.proofs.Common.{ℕ, ◌≡◌, ◌-◌, ◌≤◌}
-use Rattle.residency.specs.{Parts.{IsFit}, Picture.{picture_of}}
+use Rattle.ranges.proofs.Names.{ℕ, ◌≡◌, ◌-◌, ◌≤◌, IsFit, picture_of}
 use Rattle.ranges.specs.Steps.{KeepsBesideMemory, Clears, IsCleared}
 use Rattle.ranges.proofs.clearing.clear_part.Given as goal
 

@@ -1,6 +1,4 @@
-use Rattle.std.proofs.Common.{◌≡◌, ◌-◌, ◌≤◌}
-use Rattle.std.specs.Prelude.{max}
-use Rattle.residency.specs.{Parts.{IsFit}, Picture.{picture_of}}
+use Rattle.ranges.proofs.Names.{◌≡◌, ◌-◌, ◌≤◌, max, IsFit, picture_of}
 use Rattle.ranges.specs.Steps.{KeepsBesideMemory, Clears, IsCleared}
 use Rattle.ranges.proofs.clearing.clear_row.Given as goal
 

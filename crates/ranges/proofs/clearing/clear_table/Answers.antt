@@ -1,7 +1,4 @@
-use Rattle.vm_types.specs.Limits.{top_level}
-use Rattle.std.proofs.Common.{◌≡◌, ℕ, ◌+◌, ◌-◌, ◌*◌, ◌/◌, ◌%◌, inl, refl, sym, ap, ◌∙◌, subst, arith, rules}
-use Rattle.page_tables.specs.Places.{IsTableOf}
-use Rattle.residency.specs.Picture.{Picture, picture_of}
+use Rattle.ranges.proofs.Names.{top_level, ◌≡◌, ℕ, ◌+◌, ◌-◌, ◌*◌, ◌/◌, ◌%◌, inl, refl, sym, ap, ◌∙◌, subst, arith, rules, IsTableOf, Picture, picture_of}
 use Rattle.ranges.specs.Steps.{Clears}
 use Rattle.ranges.proofs.{ClearedPages.{same_beside, rest-refl, rest_then, tables-refl, tables_then, clears_none, clears_then}, Gaps.{in_row_of, user_inside}, Pruned.{fit_pruned, clears_pruned, cleared_block, cleared_still}}
 use Rattle.ranges.proofs.clearing.clear_table.Goals as goal
@@ -22,15 +19,13 @@ loop-index-init g c =
     let first = c.table_start-first.ensures in
     let get = c.get.ensures.number in
     let index : c.table_start-first.result + (c.get.result - c.table_start-first.result) ≡ c.args.start = omega (arith, first, get) in
-    let P : ℕ → Type 0 = λ x. IsTableOf old.frames (top_level g.M.Levels.mode) c.root_of-root.result.0 x c.in-Ok.table.0 in
-    let Q : ℕ → Type 0 = λ x. Clears old old c.args.pid c.args.start x in
     record {
       low = omega (arith, index);
       high = omega (arith, get, c.requires.part.some);
       fit = c.requires.part.fit;
-      place = subst P (same_row c.args.start ∙ ap (λ x. x / 512) (sym first)) c.in-Ok.ensures.found;
+      place = subst (λ (x : ℕ). IsTableOf old.frames (top_level g.M.Levels.mode) c.root_of-root.result.0 x c.in-Ok.table.0) (same_row c.args.start ∙ ap (λ x. x / 512) (sym first)) c.in-Ok.ensures.found;
       root_is = c.root_of-root.ensures;
-      clears = subst Q (sym index) (clears_none old c.args.pid c.args.start c.args.start (λ page h least below. absurd (omega (arith, least, below))));
+      clears = subst (λ (x : ℕ). Clears old old c.args.pid c.args.start x) (sym index) (clears_none old c.args.pid c.args.start c.args.start (λ page h least below. absurd (omega (arith, least, below))));
       tables = tables-refl c.args.core.now.frames;
       rest = rest-refl c.args.core.now;
       refused = refl;
@@ -50,7 +45,6 @@ clear_at-index-requires-clause-row g c =
 
 pub loop-index-preserved : goal.loop-index-preserved
 loop-index-preserved g c =
-    let old : Picture g.M.Levels.mode = picture_of c.args.core.now in
     let mid : Picture g.M.Levels.mode = picture_of c.loop-index.core in
     let new : Picture g.M.Levels.mode = picture_of c.clear_at-index.new.core in
     let k = c.loop-index.invariant in
@@ -63,7 +57,7 @@ loop-index-preserved g c =
       fit = step.fit;
       place = step.places (c.table_start-first.result / 512) c.in-Ok.table.0 k.place;
       root_is = step.clears.beside.root c.args.pid ∙ k.root_is;
-      clears = clears_then old mid new c.args.pid c.args.start (c.table_start-first.result + c.loop-index.index) (c.table_start-first.result + c.clear_at-index.result) c.requires.part.fit low
+      clears = clears_then (picture_of c.args.core.now) mid new c.args.pid c.args.start (c.table_start-first.result + c.loop-index.index) (c.table_start-first.result + c.clear_at-index.result) c.requires.part.fit low
           (omega (arith, further)) k.clears step.clears;
       tables = tables_then c.args.core.now.frames c.loop-index.core.frames c.clear_at-index.new.core.frames k.tables step.tables;
       rest = rest_then c.args.core.now c.loop-index.core c.clear_at-index.new.core k.rest step.rest;
@@ -83,8 +77,7 @@ returns g c =
     let part = c.requires.part in
     let high = k.high in
     let end : c.table_start-first.result + c.loop-index.index ≡ c.args.stop = omega (arith, c.table_start-first.ensures, high, c.loop-index-test.false, part.some) in
-    let P : ℕ → Type 0 = λ x. Clears old mid c.args.pid c.args.start x in
-    let clears : Clears old mid c.args.pid c.args.start c.args.stop = subst P end k.clears in
+    let clears : Clears old mid c.args.pid c.args.start c.args.stop = subst (λ (x : ℕ). Clears old mid c.args.pid c.args.start x) end k.clears in
     let same = same_beside mid c.prune.new.memory in
     record {
       pages = record {

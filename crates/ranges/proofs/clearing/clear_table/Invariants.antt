@@ -1,7 +1,4 @@
-use Rattle.vm_types.specs.Limits.{top_level}
-use Rattle.std.proofs.Common.{◌≡◌, ◌+◌, ◌-◌, ◌/◌, ◌≤◌, Some}
-use Rattle.page_tables.specs.Places.{IsTableOf}
-use Rattle.residency.specs.{Parts.{IsFit}, Picture.{picture_of}}
+use Rattle.ranges.proofs.Names.{top_level, ◌≡◌, ◌+◌, ◌-◌, ◌/◌, ◌≤◌, Some, IsTableOf, IsFit, picture_of}
 use Rattle.ranges.specs.Steps.{KeepsBesideMemory, SameTables, Clears}
 use Rattle.ranges.proofs.clearing.clear_table.Given as goal
 

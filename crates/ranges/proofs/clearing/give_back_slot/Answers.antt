@@ -1,7 +1,5 @@
-use Rattle.std.proofs.Common.{rules}
-use Rattle.swap.specs.Slots.{slots_of}
-use Rattle.residency.specs.{Seats.{InSlot, seat}, Picture.{Picture, picture_of}}
-use Rattle.ranges.proofs.Returning.{lacks_some, lacks_none, slot_of, not_away, no_seat, gives_none, fit_slot, gives_slot}
+use Rattle.ranges.proofs.Names.{rules, slots_of, InSlot, seat, Picture, picture_of, seat_common}
+use Rattle.ranges.proofs.Returning.{lacks_some, lacks_none, slot_of, not_away, gives_none, fit_slot, gives_slot}
 use Rattle.ranges.proofs.clearing.give_back_slot.Goals as goal
 
 pub release-requires : goal.release-requires
@@ -24,7 +22,7 @@ returns-in-Swapped g c =
 pub returns-in_default : goal.returns-in_default
 returns-in_default g c =
     let here = not_away c.args.number.0 c.decode.result c.decode.ensures.number c.decode.ensures.form c.in_default.not-Swapped in
-    let none = no_seat c.args.number.0 c.requires.common here in
+    let none = seat_common c.args.number.0 c.requires.common here in
     record {
       fit = lacks_none (picture_of c.args.core.now) (seat c.args.number.0) none c.requires.lacks;
       gives = gives_none (picture_of c.args.core.now) (seat c.args.number.0) none;

@@ -1,4 +1,4 @@
-use Rattle.std.proofs.{Common.{◌+◌, inl, inr, eqb-true, arith}, lemmas.Bool.{cases_lt}}
+use Rattle.ranges.proofs.Names.{◌+◌, inl, inr, eqb-true, arith, cases_lt}
 use Rattle.ranges.proofs.Joined.{left, right}
 use Rattle.ranges.proofs.entries.are_none.Goals as goal
 

@@ -1,4 +1,4 @@
-use Rattle.sv39_walk.specs.Entry.{entry_at}
+use Rattle.ranges.proofs.Names.{entry_at}
 use Rattle.ranges.proofs.Joined.{four}
 use Rattle.ranges.proofs.entries.four_at.Goals as goal
 

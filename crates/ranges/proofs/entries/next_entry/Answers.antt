@@ -1,6 +1,4 @@
-use Rattle.vm_types.specs.Limits.{top_level}
-use Rattle.std.proofs.Common.{sym, ◌∙◌}
-use Rattle.page_tables.proofs.Places.{entry_in_row}
+use Rattle.ranges.proofs.Names.{top_level, sym, ◌∙◌, entry_in_row}
 use Rattle.ranges.proofs.entries.next_entry.Goals as goal
 
 pub returns-clause-passed : goal.returns-clause-passed

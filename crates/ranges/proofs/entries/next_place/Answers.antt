@@ -1,7 +1,4 @@
-use Rattle.vm_types.specs.Limits.{top_level}
-use Rattle.std.proofs.Common.{◌≡◌, ℕ, ◌%◌, sym, ap, ◌∙◌, arith}
-use Rattle.sv39_walk.specs.Entry.{entry_at}
-use Rattle.page_tables.proofs.Places.{entry_in_row}
+use Rattle.ranges.proofs.Names.{top_level, ◌≡◌, ℕ, ◌%◌, sym, ap, ◌∙◌, arith, entry_at, entry_in_row}
 use Rattle.ranges.proofs.entries.next_place.Goals as goal
 
 -- a place is its own

@@ -1,4 +1,4 @@
-use Rattle.std.proofs.{Common.{inl, inr, arith}, lemmas.Bool.{cases_lt}}
+use Rattle.ranges.proofs.Names.{inl, inr, arith, cases_lt}
 use Rattle.ranges.proofs.entries.next_set.Goals as goal
 
 pub loop-at-preserved : goal.loop-at-preserved

@@ -1,5 +1,4 @@
-use Rattle.std.proofs.Common.{ℕ, ◌≡◌, ◌-◌, ◌%◌, ◌<◌, ◌≤◌}
-use Rattle.sv39_walk.specs.Entry.{entry_at}
+use Rattle.ranges.proofs.Names.{ℕ, ◌≡◌, ◌-◌, ◌%◌, ◌<◌, ◌≤◌, entry_at}
 use Rattle.ranges.proofs.entries.next_set.Given as goal
 
 abbrev pub invariant-loop-at : goal.invariant-loop-at

@@ -1,4 +1,4 @@
-use Rattle.std.proofs.{Common.{◌-◌, inl, inr, sym, ◌∙◌, arith}, lemmas.Bool.{cases_lt}}
+use Rattle.ranges.proofs.Names.{◌-◌, inl, inr, sym, ◌∙◌, arith, cases_lt}
 use Rattle.ranges.proofs.Naming.{none_named, uncommon_named}
 use Rattle.ranges.proofs.forgetting.common_pages.Goals as goal
 

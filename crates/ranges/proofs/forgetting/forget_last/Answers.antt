@@ -1,7 +1,4 @@
-use Rattle.vm_types.proofs.Modes.{sizes}
-use Rattle.std.proofs.Common.{inl, inr, refl, arith}
-use Rattle.vm_types.specs.declared.object.PageKey.TheVariants.{Object}
-use Rattle.residency.specs.Picture.{picture_of}
+use Rattle.ranges.proofs.Names.{sizes, inl, inr, refl, arith, Object, picture_of}
 use Rattle.ranges.proofs.{Emptied.{in_row_from, row_parts}, LastName.{named_without, named_beside, unnamed_without}}
 use Rattle.ranges.proofs.forgetting.forget_last.Goals as goal
 

@@ -1,7 +1,5 @@
-use Rattle.std.proofs.Common.{◌≡◌, ℕ, ◌+◌, ◌<◌, inl, inr, true, Some, None, sym, ap, ◌∙◌, subst, arith, rules}
-use Rattle.vm_types.specs.{Objects.{is_named}, declared.object.ObjectPage.{ObjectPage}, declared.object.PageKey.TheVariants.{Object}}
-use Rattle.page_cache.specs.{declared.place.Place.{Place}, declared.place.Place.TheVariants.{Home, Frame, Slot}, CacheTable.{CacheTable, cache_frames, slot_count, IsInside}}
-use Rattle.residency.specs.{declared.kernel.Core.{Core}, Calls.{KeepsBesidePlaces}, Picture.{Picture, picture_of}}
+use Rattle.ranges.proofs.Names.{◌≡◌, ℕ, ◌+◌, ◌<◌, inl, inr, true, Some, None, sym, ap, ◌∙◌, subst, arith, rules, same_Some, is_named, ObjectPage, Object, Place, Home, Frame, Slot, CacheTable, cache_frames, slot_count, IsInside, Core}
+use Rattle.ranges.proofs.Names.{KeepsBesidePlaces, Picture, picture_of}
 use Rattle.ranges.specs.Rows.{ForgetsMore, node_of, without_maps}
 use Rattle.ranges.proofs.{Emptied.{pages_inside}, LastName.{same_without, more_then, gone_none, gone_named, gone_forgot, forgets_all, rest_then}, forgetting.forget_nodes.Goals.{in-Some, in_default}}
 use Rattle.ranges.proofs.forgetting.forget_nodes.Goals as goal
@@ -9,12 +7,8 @@ use Rattle.ranges.proofs.forgetting.forget_nodes.Goals as goal
 -- a node of a place is one of the nodes
 node_inside : (t : CacheTable) (x : Place) (m : ℕ) → IsInside t x → node_of (cache_frames t) x ≡ Some m → m < cache_frames t + slot_count t
 node_inside t Home m inside is = absurd (let bad : None ≡ Some m = is in (cc))
-node_inside t (Frame n) m inside is = let e : n.0 ≡ m = some_number n.0 m is in omega (arith, inside, e) where
-  some_number : (x y : ℕ) → Some x ≡ Some y → x ≡ y
-  some_number x y e = cc
-node_inside t (Slot k) m inside is = let e : cache_frames t + k.0 ≡ m = some_number (cache_frames t + k.0) m is in omega (arith, inside, e) where
-  some_number : (x y : ℕ) → Some x ≡ Some y → x ≡ y
-  some_number x y e = cc
+node_inside t (Frame n) m inside is = let e : n.0 ≡ m = same_Some n.0 m is in omega (arith, inside, e)
+node_inside t (Slot k) m inside is = let e : cache_frames t + k.0 ≡ m = same_Some (cache_frames t + k.0) m is in omega (arith, inside, e)
 
 pub loop-node-preserved : goal.loop-node-preserved
 loop-node-preserved g c =
@@ -30,19 +24,16 @@ loop-node-preserved g c =
         rest = k.rest;
       })
       | in-Some w ↦ (
-          let last = w.forget_last.ensures.last in
           let new = w.forget_last.new.core in
-          elim last [
+          elim w.forget_last.ensures.last [
             | inl same ↦ (
-                let P : Core _ _ g.row.M.Denot g.M.Levels → Type 0 = λ x. ForgetsMore a (picture_of x) c.args.pid c.args.first c.args.pages in
                 let Q : Core _ _ g.row.M.Denot g.M.Levels → Type 0 = λ x. (p : ObjectPage) (m : ℕ) → node_of (cache_frames x.cache) ((picture_of x).place (Object p)) ≡ Some m → m < c.loop-node.node + 1
                 → is_named (without_maps a.at c.args.pid c.args.first c.args.pages) p.object p.page ≡ true in
-                let R : Core _ _ g.row.M.Denot g.M.Levels → Type 0 = λ x. KeepsBesidePlaces c.args.core.now x in
                 rw w.core-is (record {
                   fit = w.forget_last.ensures.fit;
-                  more = subst P (sym same.0) k.more;
+                  more = subst (λ (x : Core _ _ g.row.M.Denot g.M.Levels). ForgetsMore a (picture_of x) c.args.pid c.args.first c.args.pages) (sym same.0) k.more;
                   gone = subst Q (sym same.0) (gone_named a b c.args.pid c.args.first c.args.pages frames c.loop-node.node k.more k.gone c.object_at.result c.object_at.ensures.found w.in-Some.page w.in-Some.is same.1);
-                  rest = subst R (sym same.0) k.rest;
+                  rest = subst (λ (x : Core _ _ g.row.M.Denot g.M.Levels). KeepsBesidePlaces c.args.core.now x) (sym same.0) k.rest;
                 }))
             | inr gone ↦ (
                 let count : cache_frames new.cache ≡ frames = new.node_count ∙ gone.0.frames ∙ sym c.loop-node.core.node_count in
@@ -59,15 +50,13 @@ loop-node-preserved g c =
 
 pub returns : goal.returns
 returns g c =
-    let a : Picture g.M.Levels.mode = picture_of c.args.core.now in
-    let b : Picture g.M.Levels.mode = picture_of c.loop-node.core in
     let k = c.loop-node.invariant in
     let t = c.args.core.now.cache in
     let count : cache_frames c.loop-node.core.cache ≡ cache_frames t = c.loop-node.core.node_count ∙ k.more.frames ∙ sym c.args.core.now.node_count in
     record {
-      forgets = forgets_all a b c.args.pid c.args.first c.args.pages (cache_frames t) (cache_frames t + slot_count t) c.requires.row.fit k.more
-          (λ p m at. node_inside t (a.place (Object p)) m (c.frames.ensures.sound.inside (Object p)) at)
-          (λ p m at below. k.gone p m (ap (λ x. node_of x (b.place (Object p))) count ∙ at)
+      forgets = forgets_all (picture_of c.args.core.now) (picture_of c.loop-node.core) c.args.pid c.args.first c.args.pages (cache_frames t) (cache_frames t + slot_count t) c.requires.row.fit k.more
+          (λ p m at. node_inside t ((picture_of c.args.core.now).place (Object p)) m (c.frames.ensures.sound.inside (Object p)) at)
+          (λ p m at below. k.gone p m (ap (λ x. node_of x ((picture_of c.loop-node.core).place (Object p))) count ∙ at)
           (let frames = c.frames.ensures.count in let slots = c.slots.ensures in let end = c.loop-node-test.false in omega (arith, below, frames, slots, end)));
       fit = c.loop-node.invariant.fit;
       rest = c.loop-node.invariant.rest;

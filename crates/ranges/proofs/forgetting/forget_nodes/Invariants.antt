@@ -1,7 +1,4 @@
-use Rattle.std.proofs.Common.{◌≡◌, true, Some, ℕ, ◌<◌}
-use Rattle.vm_types.specs.{Objects.{is_named}, declared.object.ObjectPage.{ObjectPage}, declared.object.PageKey.TheVariants.{Object}}
-use Rattle.page_cache.specs.CacheTable.{cache_frames}
-use Rattle.residency.specs.{Calls.{KeepsBesidePlaces}, Parts.{IsFit}, Picture.{picture_of}}
+use Rattle.ranges.proofs.Names.{◌≡◌, true, Some, ℕ, ◌<◌, is_named, ObjectPage, Object, cache_frames, KeepsBesidePlaces, IsFit, picture_of}
 use Rattle.ranges.specs.Rows.{ForgetsMore, node_of, without_maps}
 use Rattle.ranges.proofs.forgetting.forget_nodes.Given as goal
 

@@ -1,12 +1,6 @@
-use Rattle.vm_types.specs.{Limits.{widest_end, top_level}, Objects.{is_named, names}, declared.object.ObjectPage.{ObjectPage}, declared.object.PageKey.TheVariants.{Object}}
-use Rattle.vm_types.proofs.Modes.{sizes, user_pages_fit}
-use Rattle.std.proofs.{Common.{◌≡◌, ◌⊎◌, ℕ, ◌+◌, ◌<◌, ◌≤◌, inl, inr, true, sym, ap, ◌∙◌, subst, arith}, lemmas.Bool.{cases_lt, false≢true}}
-use Rattle.page_tables.specs.Tree.{IsPage}
-use Rattle.page_cache.specs.declared.place.Place.TheVariants.{Home}
-use Rattle.residency.specs.{declared.kernel.Core.{Core}, Calls.{KeepsBesidePlaces}, Picture.{Picture, picture_of}, Steps.{Forgets}}
-use Rattle.residency.proofs.Places.{cases_page}
-use Rattle.ranges.specs.Rows.{ForgetsMore, without_maps}
-use Rattle.ranges.proofs.{Emptied.{in_row_from}, LastName.{named_beside, unnamed_without, same_without, more_then, looked_at, forgets_row, rest_then}}
+use Rattle.ranges.proofs.Names.{widest_end, top_level, is_named, names, ObjectPage, Object, sizes, user_pages_fit, ◌≡◌, ◌⊎◌, ℕ, ◌+◌, ◌<◌, ◌≤◌, inl, inr, true, sym, ap, ◌∙◌, subst, arith, cases_lt, false≢true, IsPage, Home, Core}
+use Rattle.ranges.proofs.Names.{KeepsBesidePlaces, Picture, picture_of, Forgets, cases_page}
+use Rattle.ranges.{specs.Rows.{ForgetsMore, without_maps}, proofs.{Emptied.{in_row_from}, LastName.{named_beside, unnamed_without, same_without, more_then, looked_at, forgets_row, rest_then}}}
 use Rattle.ranges.proofs.forgetting.forget_pages.Goals as goal
 
 stays_home : {mode : ℕ} (b c : Picture mode) (p : ObjectPage) → Forgets b c p → (q : ObjectPage) → b.place (Object q) ≡ Home → c.place (Object q) ≡ Home
@@ -31,18 +25,16 @@ loop-named-preserved g c =
     let looked : (j : ℕ) → j < c.get-from.result + 1 → j < n.at + 1 = λ j below. omega (arith, below, next_page) in
     elim c.forget_there.ensures.there [
       | inl same ↦ (
-          let P : Core _ _ g.row.M.Denot g.M.Levels → Type 0 = λ x. ForgetsMore a (picture_of x) c.args.pid c.args.first c.args.pages in
           let Q : Core _ _ g.row.M.Denot g.M.Levels → Type 0 = λ x. (j : ℕ) (q : ObjectPage) → c.args.first ≤ j → j < n.at + 1 → names (a.at c.args.pid j) q.object q.page ≡ true
           → ((picture_of x).place (Object q) ≡ Home) ⊎ (is_named (without_maps a.at c.args.pid c.args.first c.args.pages) q.object q.page ≡ true) in
-          let R : Core _ _ g.row.M.Denot g.M.Levels → Type 0 = λ x. KeepsBesidePlaces c.args.core.now x in
           record {
             fit = c.forget_there.ensures.fit;
             low = low;
-            more = subst P (sym same.0) k.more;
+            more = subst (λ (x : Core _ _ g.row.M.Denot g.M.Levels). ForgetsMore a (picture_of x) c.args.pid c.args.first c.args.pages) (sym same.0) k.more;
             gone = λ j q late' below is. subst Q (sym same.0) (looked_at a b b c.args.pid c.args.first c.args.pages c.loop-named.from n.at n.page k.gone (λ i. k.more.at c.args.pid i) next.here next.none_before (λ i home. home)
                 (inr (sym (same_without a b c.args.pid c.args.first c.args.pages n.page k.more) ∙ named_beside g.M.Levels.mode b.at c.args.pid c.args.first c.args.pages n.page same.1.0 n.at same.1.1 high same.1.2 same.1.3)))
                 j q late' (looked j below) is;
-            rest = subst R (sym same.0) k.rest;
+            rest = subst (λ (x : Core _ _ g.row.M.Denot g.M.Levels). KeepsBesidePlaces c.args.core.now x) (sym same.0) k.rest;
           })
       | inr gone ↦ (
           let unnamed = sym (same_without a b c.args.pid c.args.first c.args.pages n.page k.more) ∙ unnamed_without g.M.Levels.mode b.at c.args.pid c.args.first c.args.pages k.fit.granting.objects n.page n.at inside next.here gone.2 in

@@ -1,7 +1,4 @@
-use Rattle.vm_types.specs.{Limits.{user_end}, Objects.{is_named, names}, declared.object.ObjectPage.{ObjectPage}, declared.object.PageKey.TheVariants.{Object}}
-use Rattle.std.proofs.Common.{◌≡◌, ◌⊎◌, true, ℕ, ◌-◌, ◌<◌, ◌≤◌}
-use Rattle.page_cache.specs.declared.place.Place.TheVariants.{Home}
-use Rattle.residency.specs.{Calls.{KeepsBesidePlaces}, Parts.{IsFit}, Picture.{picture_of}}
+use Rattle.ranges.proofs.Names.{user_end, is_named, names, ObjectPage, Object, ◌≡◌, ◌⊎◌, true, ℕ, ◌-◌, ◌<◌, ◌≤◌, Home, KeepsBesidePlaces, IsFit, picture_of}
 use Rattle.ranges.specs.Rows.{ForgetsMore, without_maps}
 use Rattle.ranges.proofs.forgetting.forget_pages.Given as goal
 

@@ -1,6 +1,4 @@
-use Rattle.std.proofs.Common.{arith, rules}
-use Rattle.vm_types.proofs.Modes.{sizes}
-use Rattle.residency.specs.Picture.{picture_of}
+use Rattle.ranges.proofs.Names.{arith, rules, sizes, picture_of}
 use Rattle.ranges.proofs.LastName.{forgets_none}
 use Rattle.ranges.proofs.forgetting.forget_row.Goals as goal
 

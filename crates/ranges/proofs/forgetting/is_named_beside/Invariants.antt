@@ -1,6 +1,4 @@
-use Rattle.std.proofs.Common.{◌≡◌, ◌≢◌, false, ℕ, ◌<◌, ◌≤◌}
-use Rattle.vm_types.specs.Objects.{names}
-use Rattle.residency.specs.Picture.{picture_of}
+use Rattle.ranges.proofs.Names.{◌≡◌, ◌≢◌, false, ℕ, ◌<◌, ◌≤◌, names, picture_of}
 use Rattle.ranges.proofs.forgetting.is_named_beside.Given as goal
 
 abbrev pub invariant-loop-number : goal.invariant-loop-number

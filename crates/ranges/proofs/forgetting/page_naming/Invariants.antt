@@ -1,6 +1,4 @@
-use Rattle.vm_types.specs.{Limits.{user_end}, Objects.{names}}
-use Rattle.std.proofs.Common.{◌≡◌, false, ℕ, ◌-◌, ◌<◌, ◌≤◌}
-use Rattle.residency.specs.Picture.{picture_of}
+use Rattle.ranges.proofs.Names.{user_end, names, ◌≡◌, false, ℕ, ◌-◌, ◌<◌, ◌≤◌, picture_of}
 use Rattle.ranges.proofs.forgetting.page_naming.Given as goal
 
 abbrev pub invariant-loop-run : goal.invariant-loop-run

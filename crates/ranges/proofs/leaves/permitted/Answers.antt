@@ -1,4 +1,4 @@
-use Rattle.page_tables.specs.Entry.{number_of}
+use Rattle.ranges.proofs.Names.{number_of}
 use Rattle.ranges.proofs.LeafEntries.{permitted_over}
 use Rattle.ranges.proofs.leaves.permitted.Goals as goal
 

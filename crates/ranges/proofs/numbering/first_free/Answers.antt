@@ -1,5 +1,4 @@
-use Rattle.std.proofs.Common.{false, get_or, sym, ◌∙◌, arith}
-use Rattle.vm_types.specs.Limits.{named_limit}
+use Rattle.ranges.proofs.Names.{false, get_or, sym, ◌∙◌, arith, named_limit}
 use Rattle.ranges.proofs.Marking.{least_here_at, least_on_at, least_end_at}
 use Rattle.ranges.proofs.numbering.first_free.Goals as goal
 

@@ -1,5 +1,4 @@
-use Rattle.std.proofs.Common.{◌≡◌, ◌-◌, false, get_or}
-use Rattle.vm_types.specs.{Limits.{named_limit}, Objects.{least_from}}
+use Rattle.ranges.proofs.Names.{◌≡◌, ◌-◌, false, get_or, named_limit, least_from}
 use Rattle.ranges.proofs.numbering.first_free.Given as goal
 
 abbrev pub invariant-loop-n : goal.invariant-loop-n

@@ -1,6 +1,4 @@
-use Rattle.std.proofs.Common.{◌≡◌, ◌≤◌, ◌<◌, ℕ, true, false, length, get_or}
-use Rattle.vm_types.specs.Limits.{named_limit}
-use Rattle.residency.specs.Picture.{picture_of}
+use Rattle.ranges.proofs.Names.{◌≡◌, ◌≤◌, ◌<◌, ℕ, true, false, length, get_or, named_limit, picture_of}
 use Rattle.ranges.specs.{Numbers.{IsUsedBy}, Rows.{without_maps}}
 use Rattle.ranges.proofs.numbering.free_object.Given as goal
 

@@ -1,6 +1,4 @@
-use Rattle.std.proofs.Common.{◌<◌, ◌∙◌, arith}
-use Rattle.regions.specs.RunList.{attr_at}
-use Rattle.residency.specs.Picture.{picture_of}
+use Rattle.ranges.proofs.Names.{◌<◌, ◌∙◌, arith, attr_at, picture_of}
 use Rattle.ranges.proofs.Marking.{all_more, only_more, next_over}
 use Rattle.ranges.proofs.numbering.mark.Goals as goal
 

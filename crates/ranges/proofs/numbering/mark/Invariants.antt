@@ -1,6 +1,4 @@
-use Rattle.std.proofs.Common.{◌≡◌, ◌≤◌, ◌<◌, ◌⊎◌, ℕ, ◌-◌, true, false, length, get_or}
-use Rattle.vm_types.specs.Limits.{user_end, named_limit}
-use Rattle.residency.specs.Picture.{picture_of}
+use Rattle.ranges.proofs.Names.{◌≡◌, ◌≤◌, ◌<◌, ◌⊎◌, ℕ, ◌-◌, true, false, length, get_or, user_end, named_limit, picture_of}
 use Rattle.ranges.specs.Numbers.{IsUsedBetween}
 use Rattle.ranges.proofs.numbering.mark.Given as goal
 

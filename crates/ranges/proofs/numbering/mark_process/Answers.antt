@@ -1,13 +1,9 @@
-use Rattle.vm_types.proofs.Modes.{sizes}
-use Rattle.vm_types.specs.{Limits.{widest_end}, Objects.{Maps}}
-use Rattle.std.proofs.Common.{◌≡◌, ◌≢◌, ◌+◌, ℕ, inl, inr, sym, ◌∙◌, subst, arith}
-use Rattle.residency.specs.Picture.{picture_of}
-use Rattle.ranges.specs.{Numbers.{IsUsedBetween, IsUsedBy}, Rows.{without_maps}}
-use Rattle.ranges.proofs.Marking.{marks_then, marks_alike, mine, mine_back, low_out, high_out, theirs, theirs_back}
+use Rattle.ranges.proofs.Names.{sizes, widest_end, Maps, ◌≡◌, ◌≢◌, ◌+◌, ℕ, inl, inr, sym, ◌∙◌, subst, arith, picture_of}
+use Rattle.ranges.{specs.{Numbers.{IsUsedBetween, IsUsedBy}, Rows.{without_maps}}, proofs.Marking.{marks_then, marks_alike, mine, mine_back, low_out, high_out, theirs, theirs_back}}
 use Rattle.ranges.proofs.numbering.mark_process.Goals as goal
 
 moved : (at : Maps) (p q from end o : ℕ) → p ≡ q → IsUsedBetween (at p) from end o → IsUsedBetween (at q) from end o
-moved at p q from end o e u = let R : ℕ → Type 0 = λ r. IsUsedBetween (at r) from end o in subst R e u
+moved at p q from end o e u = subst (λ (r : ℕ). IsUsedBetween (at r) from end o) e u
 
 pub returns-then-get : goal.returns-then-get
 returns-then-get g c =

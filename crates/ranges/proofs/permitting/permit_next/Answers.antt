@@ -1,14 +1,10 @@
-use Rattle.std.proofs.Common.{ℕ, ◌+◌, ◌*◌, ◌/◌, inl, inr, refl, sym, ap, ◌∙◌, subst, arith}
-use Rattle.std.specs.Prelude.{min}
-use Rattle.residency.specs.{Picture.{Picture, picture_of}, Ways.{IsWhole}}
-use Rattle.ranges.specs.Leaves.{PermitsRow}
-use Rattle.ranges.proofs.PermittedRows.{around-refl, permits_none, permits_then}
+use Rattle.ranges.proofs.Names.{ℕ, ◌+◌, ◌*◌, ◌/◌, inl, inr, refl, sym, ap, ◌∙◌, subst, arith, min, Picture, picture_of, IsWhole}
+use Rattle.ranges.{specs.Leaves.{PermitsRow}, proofs.PermittedRows.{around-refl, permits_none, permits_then}}
 use Rattle.ranges.proofs.permitting.permit_next.Goals as goal
 
 pub permit_table-requires-clause-whole : goal.permit_table-requires-clause-whole
 permit_table-requires-clause-whole g c =
-    let P : ℕ → Type 0 = λ x. IsWhole (picture_of c.args.core.now) c.args.pid x in
-    subst P (sym c.user_page-first.ensures) (c.next_linked-linked.ensures.found c.if-linked-end.false)
+    subst (λ (x : ℕ). IsWhole (picture_of c.args.core.now) c.args.pid x) (sym c.user_page-first.ensures) (c.next_linked-linked.ensures.found c.if-linked-end.false)
 
 pub returns-then-linked-end : goal.returns-then-linked-end
 returns-then-linked-end g c =
@@ -35,15 +31,13 @@ returns-then-linked-end g c =
 pub returns : goal.returns
 returns g c =
     let old : Picture g.M.Levels.mode = picture_of c.args.core.now in
-    let new : Picture g.M.Levels.mode = picture_of c.permit_table.new.core in
     let next = c.next_linked-linked.ensures in
-    let P : ℕ → Type 0 = λ x. PermitsRow old new c.args.pid x c.min-stop.result c.args.prot in
     record {
       leaves = record {
-        permits = permits_then old old new c.args.pid c.args.start c.next_linked-linked.result c.min-stop.result c.args.prot next.from
+        permits = permits_then old old (picture_of c.permit_table.new.core) c.args.pid c.args.start c.next_linked-linked.result c.min-stop.result c.args.prot next.from
             (omega (arith, c.min-stop.ensures, c.table_end.ensures, c.user_page-first.ensures, c.if-linked-end.false))
             (permits_none old c.args.pid c.args.start c.next_linked-linked.result c.args.prot (λ page h from below. next.gap page from below))
-            (subst P c.user_page-first.ensures c.permit_table.ensures.permits);
+            (subst (λ (x : ℕ). PermitsRow old (picture_of c.permit_table.new.core) c.args.pid x c.min-stop.result c.args.prot) c.user_page-first.ensures c.permit_table.ensures.permits);
         rooted = c.permit_table.ensures.rooted;
         named = c.permit_table.ensures.named;
         rest = c.permit_table.ensures.rest;

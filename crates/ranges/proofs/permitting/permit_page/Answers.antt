@@ -1,11 +1,5 @@
-use Rattle.std.proofs.Common.{◌≡◌, ◌≢◌, ℕ, ◌+◌, ◌%◌, ◌↔◌, true, false, inr, refl, sym, ap, ◌∙◌, subst, arith, rules}
-use Rattle.frames.specs.FrameTable.{IsFrame}
-use Rattle.sv39_walk.specs.Entry.{frame_of}
-use Rattle.page_tables.specs.Entry.{number_of}
-use Rattle.residency.specs.Picture.{Picture, picture_of, entry, is_swapped}
-use Rattle.residency.proofs.Entries.{entry-of}
-use Rattle.ranges.specs.Leaves.{TakesStores, IsPermittedEntry}
-use Rattle.ranges.proofs.{ClearedPages.{same_beside}, PermittedRows.{around-refl, permits_none, permits_same, permits_set}, StillNamed.{names_still}, permitting.permit_page.Given.{Over}}
+use Rattle.ranges.proofs.Names.{◌≡◌, ◌≢◌, ℕ, ◌+◌, ◌%◌, ◌↔◌, true, false, inr, refl, sym, ap, ◌∙◌, subst, arith, rules, IsFrame, frame_of, number_of, Picture, picture_of, entry, is_swapped, entry-of}
+use Rattle.ranges.{specs.Leaves.{TakesStores, IsPermittedEntry}, proofs.{ClearedPages.{same_beside}, PermittedRows.{around-refl, permits_none, permits_same, permits_set}, StillNamed.{names_still}, permitting.permit_page.Given.{Over}}}
 use Rattle.ranges.proofs.permitting.permit_page.Goals as goal
 
 -- what the page's entry was
@@ -42,8 +36,7 @@ stores g c =
 becomes : (g : Over) (c : goal.After-core-1 g)
     → IsPermittedEntry c.args.prot c.takes_stores-writable.result (entry (picture_of c.args.core.now) c.args.row.now.pid c.args.page) (number_of c.permitted.result)
 becomes g c =
-    let P : ℕ → Type 0 = λ x. IsPermittedEntry c.args.prot c.takes_stores-writable.result x (number_of c.permitted.result) in
-    subst P (is_entry g c) c.permitted.ensures.permitted
+    subst (λ (x : ℕ). IsPermittedEntry c.args.prot c.takes_stores-writable.result x (number_of c.permitted.result)) (is_entry g c) c.permitted.ensures.permitted
 
 pub set_in-requires-clause-placed : goal.set_in-requires-clause-placed
 set_in-requires-clause-placed g c =
@@ -51,11 +44,10 @@ set_in-requires-clause-placed g c =
 
 pub set_in-requires-clause-names : goal.set_in-requires-clause-names
 set_in-requires-clause-names g c =
-    let away : is_swapped c.number_in-number.result.0 ≡ false = sym c.is_swapped.ensures ∙ c.if-is_swapped.false in
     names_still g.M.Levels.mode c.args.core.now.frames c.args.row.now.table.0 (c.get.result % 512) c.args.prot c.takes_stores-writable.result
     c.number_in-number.result.0 (number_of c.permitted.result) c.requires.may.rooted.forest
     c.number_in-number.ensures
-    (λ z. c.if-to_u64-eq0.false (c.to_u64.ensures ∙ z)) away c.permitted.ensures.permitted
+    (λ z. c.if-to_u64-eq0.false (c.to_u64.ensures ∙ z)) (sym c.is_swapped.ensures ∙ c.if-is_swapped.false) c.permitted.ensures.permitted
 
 pub returns-then-to_u64-eq0 : goal.returns-then-to_u64-eq0
 returns-then-to_u64-eq0 g c =
@@ -78,12 +70,11 @@ pub returns-then-is_swapped : goal.returns-then-is_swapped
 returns-then-is_swapped g c =
     let old : Picture g.M.Levels.mode = picture_of c.args.core.now in
     let is : c.number_in-number.result.0 ≡ entry old c.args.row.now.pid c.args.page = c.number_in-number.ensures c.args.row.now.root.0 c.args.page c.requires.row.place (ap (λ x. x % 512) (sym c.get.ensures.number)) ∙ sym (entry-of old c.args.row.now.pid c.args.row.now.root.0 c.args.page c.requires.row.root) in
-    let away : is_swapped (entry old c.args.row.now.pid c.args.page) ≡ true = ap is_swapped (sym is) ∙ sym c.is_swapped.ensures ∙ c.if-is_swapped.true in
     record {
       leaf = record {
         permits = permits_same old c.args.row.now.pid c.args.page (c.args.page + 1) c.args.prot (λ page h from below.
             let at : page ≡ c.args.page = omega (arith, from, below) in
-            inr (ap (λ x. is_swapped (entry old c.args.row.now.pid x)) at ∙ away));
+            inr (ap (λ x. is_swapped (entry old c.args.row.now.pid x)) at ∙ ap is_swapped (sym is) ∙ sym c.is_swapped.ensures ∙ c.if-is_swapped.true));
         rooted = c.requires.may.rooted;
         named = c.requires.may.named;
         rest = around-refl c.args.core.now;

@@ -1,9 +1,5 @@
-use Rattle.vm_types.specs.Limits.{top_level}
-use Rattle.std.proofs.Common.{◌≡◌, ℕ, ◌+◌, ◌/◌, ◌<◌, ◌≤◌, refl, sym, ap, ◌∙◌, subst, arith}
-use Rattle.residency.specs.Picture.{Picture, picture_of}
-use Rattle.ranges.specs.Leaves.{PermitsRow}
-use Rattle.page_tables.specs.{Places.{IsTableOf}, Tree.{page_entry}}
-use Rattle.ranges.proofs.{BetweenEntries.{same_table, end_from, none_between}, PermittedRows.{around-refl, around_then, permits_none, permits_then}, Gaps.{user_inside}}
+use Rattle.ranges.proofs.Names.{top_level, ◌≡◌, ℕ, ◌+◌, ◌/◌, ◌<◌, ◌≤◌, refl, sym, ap, ◌∙◌, subst, arith, Picture, picture_of, IsTableOf, page_entry}
+use Rattle.ranges.{specs.Leaves.{PermitsRow}, proofs.{BetweenEntries.{same_table, end_from, none_between}, PermittedRows.{around-refl, around_then, permits_none, permits_then}, Gaps.{user_inside}}}
 use Rattle.ranges.proofs.permitting.permit_table.Goals as goal
 
 pub table_of-requires-clause-root : goal.table_of-requires-clause-root
@@ -39,12 +35,10 @@ permit_page-requires-clause-row g c =
 
 pub next_entry-page-requires-in-loop-page-clause-one_table : goal.next_entry-page-requires-in-loop-page-clause-one_table
 next_entry-page-requires-in-loop-page-clause-one_table g c =
-    let low = c.loop-page.invariant.low in
-    end_from c.args.start (c.loop-page.page + 1) c.args.stop (omega (arith, low)) c.requires.one_table
+    end_from c.args.start (c.loop-page.page + 1) c.args.stop (omega (arith, c.loop-page.invariant.low)) c.requires.one_table
 
 pub loop-page-preserved : goal.loop-page-preserved
 loop-page-preserved g c =
-    let old : Picture g.M.Levels.mode = picture_of c.args.core.now in
     let mid : Picture g.M.Levels.mode = picture_of c.loop-page.core in
     let new : Picture g.M.Levels.mode = picture_of c.permit_page.new.core in
     let page = c.loop-page.page in
@@ -54,8 +48,7 @@ loop-page-preserved g c =
     let from = next.from in
     let place = c.permit_page.ensures.places (c.args.start / 512) c.in-Ok.table.0 k.place in
     let root_is = c.permit_page.ensures.permits.beside.root c.args.pid ∙ k.root_is in
-    let P : ℕ → Type 0 = λ x. PermitsRow mid new c.args.pid x (x + 1) c.args.prot in
-    let one : PermitsRow mid new c.args.pid page (page + 1) c.args.prot = subst P c.user_page.ensures c.permit_page.ensures.permits in
+    let one : PermitsRow mid new c.args.pid page (page + 1) c.args.prot = subst (λ (x : ℕ). PermitsRow mid new c.args.pid x (x + 1) c.args.prot) c.user_page.ensures c.permit_page.ensures.permits in
     let past = none_between new c.args.pid c.root_of-root.result.0 c.in-Ok.table.0 c.args.start (page + 1) c.next_entry-page-in-loop-page.result c.args.stop
     root_is place (omega (arith, low)) next.within c.requires.one_table next.passed in
     record {
@@ -65,8 +58,8 @@ loop-page-preserved g c =
       named = c.permit_page.ensures.named;
       place = place;
       root_is = root_is;
-      permits = permits_then old new new c.args.pid c.args.start (page + 1) c.next_entry-page-in-loop-page.result c.args.prot (omega (arith, low)) from
-          (permits_then old mid new c.args.pid c.args.start page (page + 1) c.args.prot low (omega arith) k.permits one)
+      permits = permits_then (picture_of c.args.core.now) new new c.args.pid c.args.start (page + 1) c.next_entry-page-in-loop-page.result c.args.prot (omega (arith, low)) from
+          (permits_then (picture_of c.args.core.now) mid new c.args.pid c.args.start page (page + 1) c.args.prot low (omega arith) k.permits one)
           (permits_none new c.args.pid (page + 1) c.next_entry-page-in-loop-page.result c.args.prot past);
       rest = around_then c.args.core.now c.loop-page.core c.permit_page.new.core k.rest c.permit_page.ensures.rest;
       refused = c.permit_page.ensures.refused ∙ k.refused;
@@ -82,12 +75,9 @@ permit_page-requires-clause-inside g c =
 
 pub returns : goal.returns
 returns g c =
-    let old : Picture g.M.Levels.mode = picture_of c.args.core.now in
-    let mid : Picture g.M.Levels.mode = picture_of c.loop-page.core in
     let end : c.loop-page.page ≡ c.args.stop = ends c.loop-page.page c.args.stop c.loop-page.invariant.high c.loop-page-test.false in
-    let P : ℕ → Type 0 = λ x. PermitsRow old mid c.args.pid c.args.start x c.args.prot in
     record {
-      permits = subst P end c.loop-page.invariant.permits;
+      permits = subst (λ (x : ℕ). PermitsRow (picture_of c.args.core.now) (picture_of c.loop-page.core) c.args.pid c.args.start x c.args.prot) end c.loop-page.invariant.permits;
       rooted = c.loop-page.invariant.rooted;
       named = c.loop-page.invariant.named;
       rest = c.loop-page.invariant.rest;

@@ -1,8 +1,5 @@
-use Rattle.vm_types.specs.Limits.{top_level}
-use Rattle.std.proofs.Common.{◌≡◌, ◌-◌, ◌/◌, ◌≤◌, Some}
-use Rattle.residency.specs.{Ways.{KeepsAround}, Parts.{IsRootedBut}, Picture.{picture_of}}
+use Rattle.ranges.proofs.Names.{top_level, ◌≡◌, ◌-◌, ◌/◌, ◌≤◌, Some, KeepsAround, IsRootedBut, picture_of, IsTableOf}
 use Rattle.ranges.specs.Leaves.{NamesFrames, PermitsRow}
-use Rattle.page_tables.specs.Places.{IsTableOf}
 use Rattle.ranges.proofs.permitting.permit_table.Given as goal
 
 abbrev pub invariant-loop-page : goal.invariant-loop-page

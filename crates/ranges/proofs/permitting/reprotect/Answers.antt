@@ -1,42 +1,32 @@
-use Rattle.vm_types.proofs.Modes.{sizes}
-use Rattle.std.proofs.Common.{ℕ, ◌≤◌, refl, sym, ◌∙◌, subst, arith, rules}
-use Rattle.frames.specs.FrameTable.{FrameTable}
-use Rattle.page_tables.specs.Change.{KeepsFrames}
-use Rattle.residency.specs.Picture.{Picture, picture_of}
-use Rattle.ranges.specs.Leaves.{PermitsRow}
-use Rattle.ranges.proofs.{PermittedRows.{around-refl, around_then, permits_none, permits_then, named_entries}, Reprotected.{reprotected_row}}
+use Rattle.ranges.proofs.Names.{sizes, ℕ, ◌≤◌, refl, sym, ◌∙◌, subst, arith, rules, FrameTable, KeepsFrames, picture_of}
+use Rattle.ranges.{specs.Leaves.{PermitsRow}, proofs.{PermittedRows.{around-refl, around_then, permits_none, permits_then, named_entries}, Reprotected.{reprotected_row}}}
 use Rattle.ranges.proofs.permitting.reprotect.Goals as goal
 
 pub loop-page-init : goal.loop-page-init
 loop-page-init g c =
-    let old : Picture g.M.Levels.mode = picture_of c.args.core.now in
     record {
       rooted = c.requires.fit.rooted;
-      named = named_entries old c.args.pid c.args.core.now.sound c.requires.fit;
+      named = named_entries (picture_of c.args.core.now) c.args.pid c.args.core.now.sound c.requires.fit;
       low = omega arith;
       high = omega arith;
-      permits = permits_none old c.args.pid _ _ c.args.prot (λ page h least below. absurd (omega (arith, least, below)));
+      permits = permits_none (picture_of c.args.core.now) c.args.pid _ _ c.args.prot (λ page h least below. absurd (omega (arith, least, below)));
       rest = around-refl c.args.core.now;
       refused = refl;
     }
 
 pub loop-page-preserved : goal.loop-page-preserved
 loop-page-preserved g c =
-    let old : Picture g.M.Levels.mode = picture_of c.args.core.now in
-    let mid : Picture g.M.Levels.mode = picture_of c.loop-page.core in
-    let new : Picture g.M.Levels.mode = picture_of c.permit_next-page.new.core in
     let k = c.loop-page.invariant in
     let low = k.low in
     let next = c.permit_next-page.ensures in
     let further : c.loop-page.page ≤ c.permit_next-page.result = omega (arith, next.further, c.user_page.ensures) in
-    let P : ℕ → Type 0 = λ x. PermitsRow mid new c.args.pid x c.permit_next-page.result c.args.prot in
     record {
       rooted = next.rooted;
       named = next.named;
       low = omega (arith, low, further);
       high = omega (arith, next.within);
-      permits = permits_then old mid new c.args.pid c.max-page.result c.loop-page.page c.permit_next-page.result c.args.prot low further k.permits
-          (subst P c.user_page.ensures next.permits);
+      permits = permits_then (picture_of c.args.core.now) (picture_of c.loop-page.core) (picture_of c.permit_next-page.new.core) c.args.pid c.max-page.result c.loop-page.page c.permit_next-page.result c.args.prot low further k.permits
+          (subst (λ (x : ℕ). PermitsRow (picture_of c.loop-page.core) (picture_of c.permit_next-page.new.core) c.args.pid x c.permit_next-page.result c.args.prot) c.user_page.ensures next.permits);
       rest = around_then c.args.core.now c.loop-page.core c.permit_next-page.new.core k.rest next.rest;
       refused = next.refused ∙ k.refused;
     }
@@ -46,13 +36,10 @@ overflow_add-end g c = omega (arith, c.requires.row, (sizes g.M.Levels.mode).mos
 
 pub returns : goal.returns
 returns g c =
-    let old : Picture g.M.Levels.mode = picture_of c.args.core.now in
-    let mid : Picture g.M.Levels.mode = picture_of c.loop-page.core in
-    let new : Picture g.M.Levels.mode = picture_of c.remap.new.self in
     let k = c.loop-page.invariant in
     let low = k.low in
     let high = k.high in
-    let done = reprotected_row old mid new c.args.pid c.args.first c.args.pages c.max-page.result c.loop-page.page c.args.prot c.requires.fit k.permits k.rooted
+    let done = reprotected_row (picture_of c.args.core.now) (picture_of c.loop-page.core) (picture_of c.remap.new.self) c.args.pid c.args.first c.args.pages c.max-page.result c.loop-page.page c.args.prot c.requires.fit k.permits k.rooted
     c.remap.ensures.remaps (λ page. c.remap.ensures.at page ∙ c.requires.map page) c.requires.reads c.requires.row c.max-page.ensures (omega (arith, c.loop-page-test.false, low, high)) in
     record {
       row = done.row;

@@ -1,6 +1,4 @@
-use Rattle.std.proofs.Common.{◌≡◌, ◌-◌, ◌≤◌}
-use Rattle.std.specs.Prelude.{max}
-use Rattle.residency.specs.{Ways.{KeepsAround}, Parts.{IsRootedBut}, Picture.{picture_of}}
+use Rattle.ranges.proofs.Names.{◌≡◌, ◌-◌, ◌≤◌, max, KeepsAround, IsRootedBut, picture_of}
 use Rattle.ranges.specs.Leaves.{NamesFrames, PermitsRow}
 use Rattle.ranges.proofs.permitting.reprotect.Given as goal
 

@@ -1,5 +1,5 @@
-use Rattle.std.proofs.{Common.{sym, ap, ◌∙◌}, lemmas.Bool.{eqb-true, eq-eqb, false≢true}}
-use Rattle.frames.specs.FrameTable.{count_of}
+use Rattle.ranges.proofs.Names.{sym, ap, ◌∙◌, false≢true, count_of}
+use Rattle.std.proofs.lemmas.Bool.{eqb-true, eq-eqb}
 use Rattle.ranges.specs.Leaves.{is_mapped_shared}
 use Rattle.ranges.proofs.permitting.takes_stores.Goals as goal
 

@@ -1,25 +1,20 @@
-use Rattle.std.proofs.Common.{◌+◌, ap, ◌∙◌, rules}
-use Rattle.frames.specs.FrameTable.{frame_count}
-use Rattle.residency.specs.Picture.{Picture, picture_of}
-use Rattle.regions.specs.RunList.{attr_at}
+use Rattle.ranges.proofs.Names.{◌+◌, ap, ◌∙◌, rules, frame_count, Picture, picture_of, attr_at}
 use Rattle.ranges.proofs.{ClearedPages.{returned_any}, Forgotten.{frames_forgot, none_left_forgot, row_forgot}, NewRegions.{row_remapped}}
 use Rattle.ranges.proofs.remapping.remap.Goals as goal
 
 pub returns : goal.returns
 returns g c =
     let first = c.args.core.now in
-    let old : Picture g.M.Levels.mode = picture_of first in
-    let mid : Picture g.M.Levels.mode = picture_of c.forget_row.new.core in
     let new : Picture g.M.Levels.mode = picture_of c.remap.new.self in
     let forgot = row_forgot first c.clear_row.new.core c.forget_row.new.core c.args.pid c.args.first c.args.pages c.clear_row.ensures c.forget_row.ensures c.requires.row.row in
     let bare = none_left_forgot first c.clear_row.new.core c.forget_row.new.core c.args.pid c.args.first c.args.pages c.clear_row.ensures c.forget_row.ensures in
-    let done = row_remapped old mid new c.args.pid c.args.first c.args.pages (attr_at c.args.regions.now) forgot c.remap.ensures.remaps c.remap.ensures.at c.requires.others
+    let done = row_remapped (picture_of first) (picture_of c.forget_row.new.core) new c.args.pid c.args.first c.args.pages (attr_at c.args.regions.now) forgot c.remap.ensures.remaps c.remap.ensures.at c.requires.others
     bare c.requires.user c.requires.readable c.requires.objects in
     record {
       row = done.row;
       others = done.others;
       files = done.files;
-      tables = returned_any old new c.args.pid c.args.first (c.args.first + c.args.pages) done.returned;
+      tables = returned_any (picture_of first) new c.args.pid c.args.first (c.args.first + c.args.pages) done.returned;
       row_tables = done.returned;
       slots = done.slots;
       fit = done.fit;

@@ -1,10 +1,5 @@
-use Rattle.vm_types.specs.Limits.{top_level}
-use Rattle.vm_types.proofs.Modes.{sizes}
-use Rattle.std.proofs.Common.{◌≡◌, ◌≢◌, ℕ, ◌+◌, ◌*◌, ◌/◌, ◌^◌, refl, sym, ap, ◌∙◌, subst, arith}
-use Rattle.residency.specs.Picture.{picture_of}
-use Rattle.page_tables.specs.Tree.{missing_of}
-use Rattle.page_tables.proofs.Ends.{missing_of-is}
-use Rattle.ranges.proofs.{Gaps.{gap_none, in_span_of, is_whole, one_some}, Linked.{own_past}}
+use Rattle.ranges.proofs.Names.{top_level, sizes, ◌≡◌, ◌≢◌, ℕ, ◌+◌, ◌*◌, ◌/◌, ◌^◌, refl, sym, ap, ◌∙◌, subst, arith, same_Some, picture_of, missing_of, missing_of-is}
+use Rattle.ranges.proofs.{Gaps.{gap_none, in_span_of, is_whole}, Linked.{own_past}}
 use Rattle.ranges.proofs.rows.gap_end.Goals as goal
 
 pub last_table-missing-requires-clause-root : goal.last_table-missing-requires-clause-root
@@ -32,8 +27,7 @@ returns-clause-gap g c p from below =
 pub returns-clause-end : goal.returns-clause-end
 returns-clause-end g c r e =
     let t = c.args.core.now.frames in
-    let is = one_some c.root_of-root.result.0 r (sym c.root_of-root.ensures ∙ e) in
+    let is = same_Some c.root_of-root.result.0 r (sym c.root_of-root.ensures ∙ e) in
     let missing = missing_of-is t (top_level g.M.Levels.mode) c.root_of-root.result.0 c.args.page ∙ sym (ap (λ x. x.0) c.last_table-missing.ensures.last) in
     let same = ap (λ x. missing_of t (top_level g.M.Levels.mode) x c.args.page) (sym is) ∙ missing in
-    let P : ℕ → Type 0 = λ x. (x ≢ 0) × (c.span_end.result ≡ (c.args.page / 512 ^ x + 1) * 512 ^ x) in
-    subst P (sym same) (c.if-missing-eq0.false, c.span_end.ensures)
+    subst (λ (x : ℕ). (x ≢ 0) × (c.span_end.result ≡ (c.args.page / 512 ^ x + 1) * 512 ^ x)) (sym same) (c.if-missing-eq0.false, c.span_end.ensures)

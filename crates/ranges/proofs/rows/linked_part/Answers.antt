@@ -1,11 +1,5 @@
-use Rattle.vm_types.specs.{Limits.{top_level}, declared.region.Attr.{Attr}}
-use Rattle.std.proofs.{Common.{◌≡◌, ℕ, ◌<◌, ◌≤◌, Option, inl, inr, refl, sym, ◌∙◌, subst, arith}, lemmas.Bool.{cases_lt}}
-use Rattle.std.specs.Prelude.{IsSome}
-use Rattle.page_tables.specs.Tree.{IsPage}
-use Rattle.regions.specs.{declared.run.Run.{Run}, RunList.{IsNextRun, attr_at}}
-use Rattle.residency.specs.{Picture.{Picture, picture_of, entry}, Parts.{IsGranting}}
-use Rattle.ranges.specs.WaysPassed.{FindsLinked}
-use Rattle.ranges.proofs.{Emptied.{unmapped_zero}, Gaps.{user_inside}}
+use Rattle.ranges.proofs.Names.{top_level, Attr, ◌≡◌, ℕ, ◌<◌, ◌≤◌, Option, inl, inr, refl, sym, ◌∙◌, subst, arith, cases_lt, IsSome, IsPage, Run, IsNextRun, attr_at, Picture, picture_of, entry, IsGranting}
+use Rattle.ranges.{specs.WaysPassed.{FindsLinked}, proofs.{Emptied.{unmapped_zero}, Gaps.{user_inside}}}
 use Rattle.ranges.proofs.rows.linked_part.Goals as goal
 
 -- the pages before the first of a run that has its tables have no entries
@@ -25,11 +19,9 @@ pub loop-run-preserved : goal.loop-run-preserved
 loop-run-preserved g c =
     let k = c.loop-run.invariant in
     let next = c.in-Some.ensures.some in
-    let least = k.from in
     let from = next.from in
-    let further = next.nonempty in
     record {
-      from = omega (arith, least, from, further);
+      from = omega (arith, k.from, from, next.nonempty);
       gap = λ p h from below. none_before (picture_of c.args.core.now) c.args.pid c.args.page c.loop-run.at c.user_page.result c.next_linked-linked.result (attr_at c.regions.result.now)
           c.in-Some.run' c.requires.fit.granting c.regions.ensures k.gap next c.user_page.ensures c.next_linked-linked.ensures p h from (omega (arith, below, c.if-linked-run.false));
     }
@@ -40,21 +32,18 @@ returns-then-linked-run g c =
     let k = c.loop-run.invariant in
     let next = c.in-Some.ensures.some in
     let finds = c.next_linked-linked.ensures in
-    let least = k.from in
     let from = next.from in
     let on = finds.from in
     let high = next.high in
     let is = c.user_page-first.ensures in
-    let P : Option Attr → Type 0 = λ x. IsSome x in
-    let W : ℕ → Type 0 = λ x. Rattle.residency.specs.Ways.IsWhole c' c.args.pid x in
     record {
       some = record {
         further = omega (arith, c.min-end.ensures, c.table_end.ensures, is, c.if-linked-run.true);
         high = omega (arith, c.min-end.ensures, high);
-        mapped = λ p low below. subst P (sym (next.mapped p (omega (arith, low, is, on, c.user_page.ensures)) (omega (arith, below, c.min-end.ensures))) ∙ c.regions.ensures p) refl;
-        whole = subst W (sym is) (finds.found c.if-linked-run.true);
+        mapped = λ p low below. subst (λ (x : Option Attr). IsSome x) (sym (next.mapped p (omega (arith, low, is, on, c.user_page.ensures)) (omega (arith, below, c.min-end.ensures))) ∙ c.regions.ensures p) refl;
+        whole = subst (λ (x : ℕ). Rattle.residency.specs.Ways.IsWhole c' c.args.pid x) (sym is) (finds.found c.if-linked-run.true);
         one_table = omega (arith, c.min-end.ensures, c.table_end.ensures);
-        from = omega (arith, least, from, on, is, c.user_page.ensures);
+        from = omega (arith, k.from, from, on, is, c.user_page.ensures);
         gap = λ p low below. none_before c' c.args.pid c.args.page c.loop-run.at c.user_page.result c.next_linked-linked.result (attr_at c.regions.result.now)
             c.in-Some.run' c.requires.fit.granting c.regions.ensures k.gap next c.user_page.ensures finds p
             (user_inside g.M.Levels.mode p c.in-Some.run'.end (omega (arith, below, is, c.if-linked-run.true)) high) low (omega (arith, below, is));

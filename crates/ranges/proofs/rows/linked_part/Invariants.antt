@@ -1,7 +1,4 @@
-use Rattle.vm_types.specs.Limits.{top_level, user_end}
-use Rattle.std.proofs.Common.{◌≡◌, ℕ, ◌-◌, ◌<◌, ◌≤◌}
-use Rattle.page_tables.specs.Tree.{IsPage}
-use Rattle.residency.specs.Picture.{picture_of, entry}
+use Rattle.ranges.proofs.Names.{top_level, user_end, ◌≡◌, ℕ, ◌-◌, ◌<◌, ◌≤◌, IsPage, picture_of, entry}
 use Rattle.ranges.proofs.rows.linked_part.Given as goal
 
 abbrev pub invariant-loop-run : goal.invariant-loop-run

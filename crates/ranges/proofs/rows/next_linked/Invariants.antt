@@ -1,6 +1,4 @@
-use Rattle.vm_types.specs.Limits.{top_level}
-use Rattle.std.proofs.Common.{◌≢◌, ℕ, ◌-◌, ◌≤◌, ◌<◌}
-use Rattle.page_tables.specs.Tree.{missing_of}
+use Rattle.ranges.proofs.Names.{top_level, ◌≢◌, ℕ, ◌-◌, ◌≤◌, ◌<◌, missing_of}
 use Rattle.ranges.proofs.rows.next_linked.Given as goal
 
 abbrev pub invariant-loop-at : goal.invariant-loop-at

@@ -1,8 +1,4 @@
-use Rattle.vm_types.specs.Limits.{top_level}
-use Rattle.vm_types.proofs.Modes.{sizes}
-use Rattle.std.proofs.Common.{◌≡◌, ℕ, ◌+◌, ◌-◌, ◌*◌, ◌/◌, ◌^◌, ◌<◌, sym, ap, ◌∙◌, arith, rules}
-use Rattle.std.specs.Prelude.{min}
-use Rattle.page_tables.proofs.{Pages.{span_positive}, Ends.{missing_of-is}}
+use Rattle.ranges.proofs.Names.{top_level, sizes, ◌≡◌, ℕ, ◌+◌, ◌-◌, ◌*◌, ◌/◌, ◌^◌, ◌<◌, sym, ap, ◌∙◌, arith, rules, min, span_positive, missing_of-is}
 use Rattle.ranges.proofs.Linked.{past_place, own_past, next_fits, last_below, search_one_table, passed_missing, stops_past}
 use Rattle.ranges.proofs.rows.past_gap.Goals as goal
 
@@ -14,8 +10,7 @@ span_end-requires g c = let levels = (sizes g.M.Levels.mode).levels.1 in omega (
 
 pub overflow_sub-last : goal.overflow_sub-last
 overflow_sub-last g c =
-    let past = own_past c.args.page c.span_end.result (c.last_table-level.result.0 + 1) c.span_end.ensures in
-    omega (arith, past, c.requires.row.some, c.min-last.ensures)
+    omega (arith, own_past c.args.page c.span_end.result (c.last_table-level.result.0 + 1) c.span_end.ensures, c.requires.row.some, c.min-last.ensures)
 
 pub span_of-span-requires : goal.span_of-span-requires
 span_of-span-requires g c = let levels = (sizes g.M.Levels.mode).levels.1 in omega (arith, c.last_table-level.ensures.range, levels)

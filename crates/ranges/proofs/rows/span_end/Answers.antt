@@ -1,5 +1,4 @@
-use Rattle.std.proofs.Common.{arith}
-use Rattle.page_tables.proofs.Pages.{span_positive}
+use Rattle.ranges.proofs.Names.{arith, span_positive}
 use Rattle.ranges.proofs.rows.span_end.Goals as goal
 
 pub nonzero_div-result : goal.nonzero_div-result

@@ -1,5 +1,4 @@
-use Rattle.std.proofs.Common.{inl, rules}
-use Rattle.swap.specs.Slots.{slots_of}
+use Rattle.residency.proofs.Names.{inl, rules, slots_of}
 use Rattle.residency.proofs.{Asking.{asks_same}, Sparing.{past_unused}}
 use Rattle.residency.proofs.evicting.evict.Goals as goal
 

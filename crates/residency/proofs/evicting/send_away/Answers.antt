@@ -1,12 +1,6 @@
-use Rattle.vm_types.proofs.Modes.{sizes, user_pages_fit}
-use Rattle.std.proofs.Common.{◌≡◌, ◌≢◌, ℕ, inl, inr, Some, refl, sym, ap, ◌∙◌, subst, arith, rules}
-use Rattle.frames.specs.{declared.role.Role.TheVariants.{Private, Cache}, FrameTable.{bytes_of}}
-use Rattle.vm_types.specs.declared.object.PageKey.{PageKey}
-use Rattle.swap.specs.Slots.{SlotTable, slots_of, IsInUse}
-use Rattle.page_cache.specs.{declared.place.Place.TheVariants.{Frame, Slot}, CacheTable.{place_of, is_touched}}
-use Rattle.residency.specs.{Seats.{InSlot}, Picture.{Picture, picture_of, entry, held, bytes_at}}
-use Rattle.residency.proofs.{Asking.{asks_put, one_put}, Leaving.{leaves_frame, fit_slot, left_spares, unnamed_of}, Puts.{fit_put}, Putting.{put_spares, fit_unput, with_slots, kept_by, owned_by}}
-use Rattle.residency.proofs.Sparing.{forgotten_spares, spares_then, past_unused}
+use Rattle.residency.proofs.Names.{sizes, user_pages_fit, ◌≡◌, ◌≢◌, ℕ, inl, inr, Some, refl, sym, ap, ◌∙◌, subst, arith, rules, Private, Cache, bytes_of, PageKey, SlotTable, slots_of, IsInUse, Frame, Slot, place_of, is_touched}
+use Rattle.residency.{specs.{Seats.{InSlot}, Picture.{Picture, picture_of, entry, held, bytes_at}}, proofs.{Asking.{asks_put, one_put}, Leaving.{leaves_frame, fit_slot, left_spares, unnamed_of}, Puts.{fit_put}}}
+use Rattle.residency.proofs.{Putting.{put_spares, fit_unput, with_slots, kept_by, owned_by}, Sparing.{forgotten_spares, spares_then, past_unused}}
 use Rattle.residency.proofs.evicting.send_away.Goals as goal
 
 held_there : {mode : ℕ} (old new : Picture mode) (p : PageKey) (v k : ℕ) → old.place p ≡ Frame (record { 0 = v }) → new.place p ≡ Slot (record { 0 = k }) → new.slots.bytes k ≡ bytes_of old.frames v → held new p ≡ held old p

@@ -1,8 +1,5 @@
-use Rattle.std.proofs.Common.{◌≡◌, ◌≢◌, inr, refl, sym, ap, ◌∙◌, arith, rules}
-use Rattle.frames.specs.{declared.role.Role.TheVariants.{Zero, Private, Cache}, FrameTable.{role_of}}
-use Rattle.page_cache.specs.{declared.place.Place.TheVariants.{Home}, CacheTable.{place_of, is_touched}}
-use Rattle.residency.specs.{Picture.{Picture, picture_of}, Parts.{nowhere}}
-use Rattle.residency.proofs.{Leaving.{leaves_frame, fit_home, left_spares, unnamed_of, home_held}, Sparing.{forgotten_spares, spares_then}}
+use Rattle.residency.proofs.Names.{◌≡◌, ◌≢◌, inr, refl, sym, ap, ◌∙◌, arith, rules, Zero, Private, Cache, role_of, Home, place_of, is_touched}
+use Rattle.residency.{specs.{Picture.{Picture, picture_of}, Parts.{nowhere}}, proofs.{Leaving.{leaves_frame, fit_home, left_spares, unnamed_of, home_held}, Sparing.{forgotten_spares, spares_then}}}
 use Rattle.residency.proofs.evicting.send_home.Goals as goal
 
 pub returns : goal.returns

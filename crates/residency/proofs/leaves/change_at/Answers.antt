@@ -1,8 +1,5 @@
-use Rattle.vm_types.proofs.Modes.{user_pages_fit}
-use Rattle.std.proofs.Common.{◌≡◌, ℕ, refl, ap, sym, ◌∙◌, subst, arith}
-use Rattle.page_tables.specs.Entry.{number_of}
-use Rattle.residency.specs.{Picture.{Picture, picture_of, entry}, Leaves.{concerns, IsChanged}}
-use Rattle.residency.proofs.{Entries.{entry-of}, LeafSteps.{over_whole, one_changed}, Moves.{same_beside}}
+use Rattle.residency.proofs.Names.{user_pages_fit, ◌≡◌, ℕ, refl, ap, sym, ◌∙◌, subst, arith, number_of}
+use Rattle.residency.{specs.{Picture.{Picture, picture_of, entry}, Leaves.{concerns, IsChanged}}, proofs.{Entries.{entry-of}, LeafSteps.{over_whole, one_changed}, Moves.{same_beside}}}
 use Rattle.residency.proofs.leaves.change_at.Goals as goal
 
 pub entry-requires-clause-root : goal.entry-requires-clause-root

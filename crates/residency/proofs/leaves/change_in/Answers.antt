@@ -1,7 +1,5 @@
-use Rattle.vm_types.proofs.Modes.{user_pages_fit}
-use Rattle.std.proofs.{Common.{ℕ, inl, inr, subst, arith}, lemmas.Bool.{cases_eq, cases_lt}}
-use Rattle.residency.specs.{Picture.{picture_of}, Leaves.{IsOver}}
-use Rattle.residency.proofs.LeafSteps.{entries_none, entries_then, still_clear}
+use Rattle.residency.proofs.Names.{user_pages_fit, ℕ, inl, inr, subst, arith, cases_eq, cases_lt}
+use Rattle.residency.{specs.{Picture.{picture_of}, Leaves.{IsOver}}, proofs.LeafSteps.{entries_none, entries_then, still_clear}}
 use Rattle.residency.proofs.leaves.change_in.Goals as goal
 
 pub loop-page-init : goal.loop-page-init

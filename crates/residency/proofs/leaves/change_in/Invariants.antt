@@ -1,5 +1,4 @@
-use Rattle.vm_types.specs.Limits.{user_end}
-use Rattle.std.proofs.Common.{ℕ, ◌-◌, ◌<◌, ◌≤◌}
+use Rattle.residency.proofs.Names.{user_end, ℕ, ◌-◌, ◌<◌, ◌≤◌}
 use Rattle.residency.specs.{Picture.{picture_of}, Leaves.{IsOver}, LeafChanges.{ChangesEntries}}
 use Rattle.residency.proofs.leaves.change_in.Given as goal
 

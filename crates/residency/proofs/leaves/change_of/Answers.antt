@@ -1,5 +1,4 @@
-use Rattle.residency.specs.Picture.{picture_of}
-use Rattle.residency.proofs.{LeafSteps.{over_lives, entries_none}, Lives.{dead_process, live_process}}
+use Rattle.residency.{specs.Picture.{picture_of}, proofs.{LeafSteps.{over_lives, entries_none}, Lives.{dead_process, live_process}}}
 use Rattle.residency.proofs.leaves.change_of.Goals as goal
 
 pub returns-in-None : goal.returns-in-None

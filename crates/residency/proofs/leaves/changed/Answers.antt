@@ -1,8 +1,5 @@
-use Rattle.std.proofs.Common.{◌≡◌, true, refl}
-use Rattle.page_tables.specs.{declared.forms.Entry.{Entry}, declared.forms.Entry.TheVariants.{Leaf}, Entry.{number_of}}
-use Rattle.sv39_walk.specs.declared.pte.Pte.{Pte}
-use Rattle.residency.specs.{declared.leaves.Change.{Change}, declared.leaves.Change.TheVariants.{Forget, ClearAccessed, ClearDirty}, Leaves.{concerns, IsChanged}}
-use Rattle.residency.proofs.Bits.{valid_leaf, leaf_accessed, leaf_dirty}
+use Rattle.residency.proofs.Names.{◌≡◌, true, refl, Entry, Leaf, number_of, Pte}
+use Rattle.residency.{specs.{declared.leaves.Change.{Change}, declared.leaves.Change.TheVariants.{Forget, ClearAccessed, ClearDirty}, Leaves.{concerns, IsChanged}}, proofs.Bits.{valid_leaf, leaf_accessed, leaf_dirty}}
 use Rattle.residency.proofs.leaves.changed.Goals as goal
 
 parked : (change : Change) (e : Entry) → concerns change (number_of e) ≡ true → ((l : Pte) → e ≡ Leaf l → ⊥) → IsChanged change (number_of e) 0

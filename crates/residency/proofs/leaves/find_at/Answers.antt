@@ -1,5 +1,4 @@
-use Rattle.vm_types.proofs.Modes.{user_pages_fit}
-use Rattle.std.proofs.Common.{arith, rules}
+use Rattle.residency.proofs.Names.{user_pages_fit, arith, rules}
 use Rattle.residency.proofs.leaves.find_at.Goals as goal
 
 pub returns-then-is_over : goal.returns-then-is_over

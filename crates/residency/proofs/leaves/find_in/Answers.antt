@@ -1,6 +1,5 @@
-use Rattle.std.proofs.{Common.{refl, ap, sym, ◌∙◌, subst, arith, rules}, lemmas.Bool.{false≢true}}
-use Rattle.residency.specs.{Picture.{picture_of, is_data}, declared.leaves.Held.{Held}, Leaves.{Holds}}
-use Rattle.residency.proofs.{LeafSteps.{over_names, over_own, over_user}, Refusing.{inside_of}}
+use Rattle.residency.proofs.Names.{refl, ap, sym, ◌∙◌, subst, arith, rules, false≢true}
+use Rattle.residency.{specs.{Picture.{picture_of, is_data}, declared.leaves.Held.{Held}, Leaves.{Holds}}, proofs.{LeafSteps.{over_names, over_own, over_user}, Refusing.{inside_of}}}
 use Rattle.residency.proofs.leaves.find_in.Goals as goal
 
 pub find_at-requires-clause-only : goal.find_at-requires-clause-only

@@ -1,7 +1,5 @@
-use Rattle.vm_types.proofs.Modes.{user_pages_fit}
-use Rattle.std.proofs.{Common.{ℕ, arith, inl, inr, subst, rules}, lemmas.Bool.{cases_eq, cases_lt}}
-use Rattle.residency.specs.{Picture.{picture_of}, Leaves.{IsOver}}
-use Rattle.residency.proofs.{LeafSteps.{over_stands}, Lives.{map_read}}
+use Rattle.residency.proofs.Names.{user_pages_fit, ℕ, arith, inl, inr, subst, rules, cases_eq, cases_lt}
+use Rattle.residency.{specs.{Picture.{picture_of}, Leaves.{IsOver}}, proofs.{LeafSteps.{over_stands}, Lives.{map_read}}}
 use Rattle.residency.proofs.leaves.find_standing.Goals as goal
 
 pub returns-then-is_over : goal.returns-then-is_over

@@ -1,5 +1,4 @@
-use Rattle.vm_types.specs.Limits.{user_end}
-use Rattle.std.proofs.Common.{ℕ, ◌-◌, ◌<◌, ◌≤◌}
+use Rattle.residency.proofs.Names.{user_end, ℕ, ◌-◌, ◌<◌, ◌≤◌}
 use Rattle.residency.specs.{Picture.{picture_of}, Leaves.{IsOver}}
 use Rattle.residency.proofs.leaves.find_standing.Given as goal
 

@@ -1,8 +1,5 @@
-use Rattle.vm_types.proofs.Modes.{user_pages_fit}
-use Rattle.std.proofs.Common.{sym, subst, arith, rules}
-use Rattle.frames.specs.FrameTable.{FrameTable}
-use Rattle.residency.specs.{Picture.{Picture, picture_of}, Parts.{IsFit}, declared.leaves.Change.TheVariants.{Forget}, Leaves.{ChangesLeaves, IsClear}}
-use Rattle.residency.proofs.LeafSteps.{names_over}
+use Rattle.residency.proofs.Names.{user_pages_fit, sym, subst, arith, rules, FrameTable}
+use Rattle.residency.{specs.{Picture.{Picture, picture_of}, Parts.{IsFit}, declared.leaves.Change.TheVariants.{Forget}, Leaves.{ChangesLeaves, IsClear}}, proofs.LeafSteps.{names_over}}
 use Rattle.residency.proofs.leaves.forget_leaves.Goals as goal
 
 pub forget_pages-requires-clause-none : goal.forget_pages-requires-clause-none

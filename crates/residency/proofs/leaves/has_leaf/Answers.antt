@@ -1,8 +1,5 @@
-use Rattle.vm_types.specs.Limits.{top_level}
-use Rattle.std.proofs.{Common.{ℕ, inl, inr, subst, arith}, lemmas.Bool.{cases_eq, false≢true}}
-use Rattle.page_tables.specs.Tree.{IsPage}
-use Rattle.residency.specs.{Picture.{picture_of}, Leaves.{IsOver}}
-use Rattle.residency.proofs.LeafSteps.{over_number}
+use Rattle.residency.proofs.Names.{top_level, ℕ, inl, inr, subst, arith, cases_eq, false≢true, IsPage}
+use Rattle.residency.{specs.{Picture.{picture_of}, Leaves.{IsOver}}, proofs.LeafSteps.{over_number}}
 use Rattle.residency.proofs.leaves.has_leaf.Goals as goal
 
 pub loop-pid-init : goal.loop-pid-init

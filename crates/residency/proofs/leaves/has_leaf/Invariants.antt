@@ -1,6 +1,4 @@
-use Rattle.vm_types.specs.Limits.{top_level}
-use Rattle.std.proofs.Common.{ℕ, ◌<◌}
-use Rattle.page_tables.specs.Tree.{IsPage}
+use Rattle.residency.proofs.Names.{top_level, ℕ, ◌<◌, IsPage}
 use Rattle.residency.specs.{Picture.{picture_of}, Leaves.{IsOver}}
 use Rattle.residency.proofs.leaves.has_leaf.Given as goal
 

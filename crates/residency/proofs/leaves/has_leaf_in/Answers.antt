@@ -1,8 +1,5 @@
-use Rattle.vm_types.proofs.Modes.{user_pages_fit}
-use Rattle.std.specs.Prelude.{IfSome}
-use Rattle.std.proofs.{Common.{◌≡◌, ℕ, true, Option, Some, None, is_some, sym, ◌∙◌, arith}, lemmas.Bool.{false≢true}}
-use Rattle.residency.specs.Picture.{picture_of}
-use Rattle.residency.proofs.{LeafSteps.{over_lives, if_none}, Lives.{dead_process, live_process}}
+use Rattle.residency.proofs.Names.{user_pages_fit, IfSome, ◌≡◌, ℕ, true, Option, Some, None, is_some, sym, ◌∙◌, arith, false≢true}
+use Rattle.residency.{specs.Picture.{picture_of}, proofs.{LeafSteps.{over_lives, if_none}, Lives.{dead_process, live_process}}}
 use Rattle.residency.proofs.leaves.has_leaf_in.Goals as goal
 
 pub returns-in_default-clause-none : goal.returns-in_default-clause-none

@@ -1,7 +1,5 @@
-use Rattle.std.proofs.{Common.{◌≡◌, ap, sym, ◌∙◌, eq-eqb}, lemmas.Bool.{false≢true, eqb-true}}
-use Rattle.sv39_walk.specs.Entry.{frame_of}
-use Rattle.residency.specs.{Picture.{picture_of, entry}, Leaves.{concerns}}
-use Rattle.residency.proofs.Entries.{entry-of}
+use Rattle.residency.proofs.Names.{◌≡◌, ap, sym, ◌∙◌, eq-eqb, false≢true, eqb-true, frame_of}
+use Rattle.residency.{specs.{Picture.{picture_of, entry}, Leaves.{concerns}}, proofs.Entries.{entry-of}}
 use Rattle.residency.proofs.leaves.is_over.Goals as goal
 
 pub entry_number-entry-requires-clause-root : goal.entry_number-entry-requires-clause-root

@@ -1,6 +1,5 @@
-use Rattle.std.proofs.{Common.{◌%◌, subst, arith}, lemmas.Nat.Bits.{bit_at_ones}}
-use Rattle.residency.specs.{Picture.{picture_of}, declared.leaves.Held.{Held}, Leaves.{Holds}}
-use Rattle.residency.proofs.LeafSteps.{over_names}
+use Rattle.residency.proofs.Names.{◌%◌, subst, arith, bit_at_ones}
+use Rattle.residency.{specs.{Picture.{picture_of}, declared.leaves.Held.{Held}, Leaves.{Holds}}, proofs.LeafSteps.{over_names}}
 use Rattle.residency.proofs.leaves.kinds_of.Goals as goal
 
 pub returns-in-Own : goal.returns-in-Own

@@ -1,5 +1,4 @@
-use Rattle.std.proofs.Common.{◌-◌, Option, Some, None}
-use Rattle.std.specs.Prelude.{IfNone}
+use Rattle.residency.proofs.Names.{◌-◌, Option, Some, None, IfNone}
 use Rattle.residency.proofs.LeafSteps.{over_after}
 use Rattle.residency.proofs.leaves.page_after.Goals as goal
 

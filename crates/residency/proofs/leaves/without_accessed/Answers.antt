@@ -1,6 +1,5 @@
-use Rattle.std.proofs.Common.{◌≡◌, ◌-◌, ℕ, sym, subst, arith}
-use Rattle.residency.specs.{declared.leaves.Change.TheVariants.{ClearAccessed}, Leaves.{IsChanged}}
-use Rattle.residency.proofs.Bits.{bit_six, drops_six, six_dirty, six_clear}
+use Rattle.residency.proofs.Names.{◌≡◌, ◌-◌, ℕ, sym, subst, arith}
+use Rattle.residency.{specs.{declared.leaves.Change.TheVariants.{ClearAccessed}, Leaves.{IsChanged}}, proofs.Bits.{bit_six, drops_six, six_dirty, six_clear}}
 use Rattle.residency.proofs.leaves.without_accessed.Goals as goal
 
 pub returns : goal.returns

@@ -1,8 +1,5 @@
-use Rattle.std.proofs.{Common.{Option, refl, sym, subst, arith, rules}, lemmas.Result.{IfOk-weaker}}
-use Rattle.std.specs.{declared.result.Result.{Result}, declared.result.Result.TheVariants.{Ok, Err}, Prelude.{IfOk, OnErr}}
-use Rattle.vm_types.specs.declared.number.FrameNo.{FrameNo}
-use Rattle.residency.specs.{Picture.{picture_of}, Calls.{Frees}, Evictions.{IsEvictable}}
-use Rattle.residency.proofs.{Giving.{marks_none}, Sparing.{frees_none}}
+use Rattle.residency.proofs.Names.{Option, refl, sym, subst, arith, rules, IfOk-weaker, Result, Ok, Err, IfOk, OnErr, FrameNo}
+use Rattle.residency.{specs.{Picture.{picture_of}, Calls.{Frees}, Evictions.{IsEvictable}}, proofs.{Giving.{marks_none}, Sparing.{frees_none}}}
 use Rattle.residency.proofs.looking.choose.Goals as goal
 
 both : {T E : Type 0} (r : Result T E) (P : T → Type 0) (Q R : Type 0) → IfOk r P → OnErr r Q → ((n : T) → P n → R) → (Q → R) → R

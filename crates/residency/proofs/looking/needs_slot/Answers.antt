@@ -1,5 +1,4 @@
-use Rattle.std.proofs.Common.{◌≡◌, inl, inr, sym, ap, ◌∙◌}
-use Rattle.page_cache.specs.{declared.place.Place.TheVariants.{Home, Frame}, CacheTable.{is_touched}}
+use Rattle.residency.proofs.Names.{◌≡◌, inl, inr, sym, ap, ◌∙◌, Home, Frame, is_touched}
 use Rattle.residency.proofs.looking.needs_slot.Goals as goal
 
 pub returns-in-Some-clause-other : goal.returns-in-Some-clause-other

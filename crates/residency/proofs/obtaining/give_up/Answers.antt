@@ -1,10 +1,7 @@
-use Rattle.std.proofs.Common.{ℕ, ◌≡◌, inl, sym, ◌∙◌, arith, rules}
-use Rattle.std.specs.{declared.result.Result.{Result}, declared.result.Result.TheVariants.{Ok, Err}, Prelude.{Option, IfErr, IsErrAnd, MatchResult}}
+use Rattle.residency.proofs.Names.{ℕ, ◌≡◌, inl, sym, ◌∙◌, arith, rules, Result, Ok, Err, IfErr, IsErrAnd, MatchResult, FrameNo, Stall, NoFrames, NoSwap, SwapDevice, Clock, FrameTable, frame_count, role_of, IsFull}
+use Rattle.std.specs.Prelude.{Option}
 use Rattle.vm_types.specs.declared.mode.Levels as Levels
-use Rattle.vm_types.specs.{declared.number.FrameNo.{FrameNo}, declared.refusal.Stall.{Stall}, declared.refusal.Stall.TheVariants.{NoFrames, NoSwap, SwapDevice}}
-use Rattle.clock_replace.specs.declared.clock.Clock.{Clock}
 use Rattle.residency.specs.{declared.kernel.Core.{Core}, Views.{AsksClock, TurnsFor}, Picture.{Picture, picture_of}, Ages.{GivesFrame}, Calls.{Refuses}, Capacity.{IsShort}}
-use Rattle.frames.specs.FrameTable.{FrameTable, frame_count, role_of, IsFull}
 use Rattle.residency.proofs.{Asking.{asked_tried, one_tried}, Giving.{on_err_same, frame_given}, Shown.{shows_kept}, Sparing.{frees_then, gives_frees}, Stalls.{short_of}, Refusing.{inside_of, above_of, all_need, no_slot_free}}
 use Rattle.residency.proofs.obtaining.give_up.Goals as goal
 

@@ -1,6 +1,5 @@
-use Rattle.std.proofs.Common.{refl, arith, rules}
-use Rattle.residency.specs.Calls.{IsFreeFrame}
-use Rattle.residency.proofs.Asking.{asks_same}
+use Rattle.residency.proofs.Names.{refl, arith, rules}
+use Rattle.residency.{specs.Calls.{IsFreeFrame}, proofs.Asking.{asks_same}}
 use Rattle.residency.proofs.obtaining.obtain.Goals as goal
 
 pub returns-in-Some : goal.returns-in-Some

@@ -1,8 +1,5 @@
-use Rattle.vm_types.proofs.Modes.{user_pages_fit}
-use Rattle.std.proofs.Common.{◌≡◌, ◌+◌, ◌*◌, ◌^◌, ◌<◌, rules, get_or, refl, ap, ◌∙◌, arith}
-use Rattle.frames.specs.{declared.role.Role.TheVariants.{Free, Private}, FrameTable.{role_of}}
-use Rattle.residency.specs.{Seats.{InFrame}, Picture.{Picture, picture_of, is_data}}
-use Rattle.residency.proofs.{Handing.{seat_whole, away_number, all_given}, Moves.{same_beside}, Refusing.{inside_of}}
+use Rattle.residency.proofs.Names.{user_pages_fit, ◌≡◌, ◌+◌, ◌*◌, ◌^◌, ◌<◌, rules, get_or, refl, ap, ◌∙◌, arith, Free, Private, role_of}
+use Rattle.residency.{specs.{Seats.{InFrame}, Picture.{Picture, picture_of, is_data}}, proofs.{Handing.{seat_whole, away_number, all_given}, Moves.{same_beside}, Refusing.{inside_of}}}
 use Rattle.residency.proofs.shares.give_share.Goals as goal
 
 pub set-requires-clause-root : goal.set-requires-clause-root

@@ -1,6 +1,5 @@
-use Rattle.std.proofs.Common.{sym, ap, ◌∙◌}
-use Rattle.residency.specs.{Seats.{InFrame, seat}, Picture.{picture_of}}
-use Rattle.residency.proofs.{Entries.{entry-of}, Passing.{dead_seat, passes_none}, Lives.{dead_process, live_process}}
+use Rattle.residency.proofs.Names.{sym, ap, ◌∙◌}
+use Rattle.residency.{specs.{Seats.{InFrame, seat}, Picture.{picture_of}}, proofs.{Entries.{entry-of}, Passing.{dead_seat, passes_none}, Lives.{dead_process, live_process}}}
 use Rattle.residency.proofs.shares.hand_one.Goals as goal
 
 pub returns-in_default : goal.returns-in_default

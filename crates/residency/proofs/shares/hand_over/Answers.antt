@@ -1,6 +1,5 @@
-use Rattle.std.proofs.{Common.{◌≢◌, ℕ, ◌<◌, length, inl, inr, Some, sym, ap, ◌∙◌, subst, arith}, lemmas.Bool.{cases_eq, false≢true}, lemmas.List.{get_or_read}}
-use Rattle.residency.specs.{Seats.{InFrame, seat}, Picture.{picture_of, entry, is_data}, Evictions.{IsHanding}}
-use Rattle.residency.proofs.{Passing.{first_seat, somebody, no_user, hands_none, hands_then}, Refusing.{inside_of}}
+use Rattle.residency.proofs.Names.{◌≢◌, ℕ, ◌<◌, length, inl, inr, Some, sym, ap, ◌∙◌, subst, arith, cases_eq, false≢true, get_or_read}
+use Rattle.residency.{specs.{Seats.{InFrame, seat}, Picture.{picture_of, entry, is_data}, Evictions.{IsHanding}}, proofs.{Passing.{first_seat, somebody, no_user, hands_none, hands_then}, Refusing.{inside_of}}}
 use Rattle.residency.proofs.shares.hand_over.Goals as goal
 
 pub unreachable-requires : goal.unreachable-requires

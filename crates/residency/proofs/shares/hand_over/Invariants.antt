@@ -1,4 +1,4 @@
-use Rattle.std.proofs.Common.{◌≢◌, ℕ, ◌<◌, Some}
+use Rattle.residency.proofs.Names.{◌≢◌, ℕ, ◌<◌, Some}
 use Rattle.residency.specs.{Seats.{InFrame, seat}, Picture.{picture_of, entry}, Evictions.{IsHanding}, Handovers.{HandsShares}}
 use Rattle.residency.proofs.shares.hand_over.Given as goal
 

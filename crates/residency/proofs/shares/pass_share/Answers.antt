@@ -1,8 +1,5 @@
-use Rattle.std.proofs.{Common.{slice_index_or, ◌≢◌, sym, ap, ◌∙◌, arith, rules}, lemmas.Bool.{false≢true}}
-use Rattle.frames.specs.FrameTable.{count_of}
-use Rattle.swap.specs.Slots.{slots_of}
-use Rattle.residency.specs.Picture.{Picture, picture_of, entry}
-use Rattle.residency.proofs.{Passing.{all_passed, slot_no_seat}, Putting.{with_slots}, Sparing.{spares_then}}
+use Rattle.residency.proofs.Names.{slice_index_or, ◌≢◌, sym, ap, ◌∙◌, arith, rules, false≢true, count_of, slots_of}
+use Rattle.residency.{specs.Picture.{Picture, picture_of, entry}, proofs.{Passing.{all_passed, slot_no_seat}, Putting.{with_slots}, Sparing.{spares_then}}}
 use Rattle.residency.proofs.shares.pass_share.Goals as goal
 
 pub returns-then-alone : goal.returns-then-alone

@@ -1,6 +1,5 @@
 use Rattle.std.proofs.Common.{◌∙◌}
-use Rattle.residency_tests.specs.Process.{shared_first, own_first, private_first, common_first}
-use Rattle.residency_tests.proofs.Mapped.{row_over}
+use Rattle.residency_tests.{specs.Process.{shared_first, own_first, private_first, common_first}, proofs.Mapped.{row_over}}
 use Rattle.residency_tests.proofs.bench.mappings.Goals as goal
 
 pub returns-clause-map : goal.returns-clause-map

@@ -2,8 +2,7 @@ use Rattle.std.proofs.Common.{◌≡◌, ℕ, true, ap, ◌∙◌, subst}
 use Rattle.std.specs.Prelude.{is_some}
 use Rattle.residency.specs.Picture.{Picture, picture_of, root_in}
 use Rattle.fault.proofs.Spawning.{fit_started, bare_started, fit_mapped}
-use Rattle.residency_tests.specs.Process.{mapped}
-use Rattle.residency_tests.proofs.{Mapped.{objects_mapped}, Reached.{dead_unmapped}}
+use Rattle.residency_tests.{specs.Process.{mapped}, proofs.{Mapped.{objects_mapped}, Reached.{dead_unmapped}}}
 use Rattle.residency_tests.proofs.bench.spawn.Goals as goal
 
 pub add_process-requires : goal.add_process-requires

@@ -1,6 +1,5 @@
 use Rattle.std.proofs.{Common.{length, subst, sym, ◌∙◌}, lemmas.Bool.{eqb-false}}
-use Rattle.runner.specs.Session.{Answers}
-use Rattle.runner.proofs.Ends.{runs_last}
+use Rattle.runner.{specs.Session.{Answers}, proofs.Ends.{runs_last}}
 use Rattle.runner.proofs.engine.answer_last.Goals as goal
 
 pub returns : goal.returns

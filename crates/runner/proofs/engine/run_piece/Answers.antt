@@ -1,6 +1,5 @@
 use Rattle.std.proofs.Common.{[], ◌∷◌, ◌++◌, take, refl, sym, subst}
-use Rattle.runner.specs.Progress.{GoesOn, BreaksOff}
-use Rattle.runner.proofs.{Bytes.{read_line}, Progress.{goes_nowhere, goes_on_by_bytes, GoesOn-trans, breaks_after, breaks_before}}
+use Rattle.runner.{specs.Progress.{GoesOn, BreaksOff}, proofs.{Bytes.{read_line}, Progress.{goes_nowhere, goes_on_by_bytes, GoesOn-trans, breaks_after, breaks_before}}}
 use Rattle.runner.proofs.engine.run_piece.Goals as goal
 
 pub loop-at-init : goal.loop-at-init

@@ -1,6 +1,5 @@
 use Rattle.std.proofs.{Common.{[], ◌++◌, None}, KnownBytes.{Consumes-trans, Consumes-nil}}
-use Rattle.runner.specs.declared.engine.RunEnd.TheVariants.{ReadFault}
-use Rattle.runner.proofs.{Progress.{HoldsOpenLine-none, GoesOn-trans}, Ends.{ends_after, ends_alike, stops_here}}
+use Rattle.runner.{specs.declared.engine.RunEnd.TheVariants.{ReadFault}, proofs.{Progress.{HoldsOpenLine-none, GoesOn-trans}, Ends.{ends_after, ends_alike, stops_here}}}
 use Rattle.runner.proofs.engine.run_turns.Goals as goal
 
 pub returns-in-Some : goal.returns-in-Some

@@ -1,4 +1,4 @@
-use Rattle.std.proofs.Common.{refl}
+use Rattle.spaces.proofs.Names.{refl}
 use Rattle.spaces.proofs.accesses.fetch.Goals as goal
 
 pub returns-clause-comes : goal.returns-clause-comes

@@ -1,10 +1,5 @@
-use Rattle.std.proofs.Common.{ℕ, ◌/◌, ◌%◌, List, refl, sym, ap, ◌∙◌, subst, rules}
-use Rattle.fault.specs.Outcome.{IsWalked}
-use Rattle.frames.specs.FrameTable.{bytes_of}
-use Rattle.residency.specs.Picture.{picture_of}
-use Rattle.vm_types.specs.{declared.reply.Answer.{Answer}, declared.reply.Reply.TheVariants.{Value}, Access.{loaded}, Width.{byte_count}, Replies.{reply_of}}
-use Rattle.spaces.specs.Accesses.{CarriesRead, KeepsToPage}
-use Rattle.spaces.proofs.{Asking.{asks_unstalled, keeps_dead, keeps_refused, writes_none}, Reading.{open_read, reads, read_refused}}
+use Rattle.spaces.proofs.Names.{ℕ, ◌/◌, ◌%◌, List, refl, sym, ap, ◌∙◌, subst, rules, IsWalked, bytes_of, picture_of, Answer, Value, loaded, byte_count, reply_of}
+use Rattle.spaces.{specs.Accesses.{CarriesRead, KeepsToPage}, proofs.{Asking.{asks_unstalled, keeps_dead, keeps_refused, writes_none}, Reading.{open_read, reads, read_refused}}}
 use Rattle.spaces.proofs.accesses.read.Goals as goal
 
 pub frame_of-frame-requires : goal.frame_of-frame-requires

@@ -1,12 +1,7 @@
-use Rattle.std.proofs.Common.{ℕ, ◌<◌, ◌≡◌, inr, false, is_some, ◌/◌, ◌%◌, List, refl, sym, ap, ◌∙◌, subst, rules, arith}
-use Rattle.frames.specs.FrameTable.{FrameTable, IsHeld, IsSound, with_bytes}
-use Rattle.frames.proofs.FrameLemmas.{IsHeld-above, IsHeld-not_zero, IsSound-step, with_bytes-others}
-use Rattle.fault.specs.{Changes.{IsThatPage}, Outcome.{Grants, IsReadyToStore, IsOpenToStore, IsWalked}, Serving.{Tends}, Wants.{ShowsFile}}
-use Rattle.residency.specs.Picture.{picture_of, is_live}
+use Rattle.spaces.proofs.Names.{ℕ, ◌<◌, ◌≡◌, inr, is_some, ◌/◌, ◌%◌, List, refl, sym, ap, ◌∙◌, subst, rules, arith, FrameTable, IsHeld, IsSound, with_bytes, IsHeld-above, IsHeld-not_zero, IsSound-step, with_bytes-others, IsThatPage, Grants}
+use Rattle.spaces.proofs.Names.{IsReadyToStore, IsOpenToStore, IsWalked, Tends, ShowsFile, picture_of, Store, Phys, Answer, Done, with_number, byte_count, reply_of}
 use Rattle.vm_types.specs.declared.access.Access.TheVariants as Accesses
-use Rattle.vm_types.specs.{declared.command.Command.TheVariants.{Store}, declared.number.Phys.{Phys}, declared.reply.Answer.{Answer}, declared.reply.Reply.TheVariants.{Done}, Access.{with_number}, Width.{byte_count}, Replies.{reply_of}}
-use Rattle.spaces.specs.{Accesses.{KeepsToPage, LetsThrough}, Calls.{Comes}}
-use Rattle.spaces.proofs.{Asking.{asks_unstalled, keeps_dead, keeps_refused, no_root, one_end, one_place, writes_walked}, Calls.{found_lives}}
+use Rattle.spaces.{specs.{Accesses.{KeepsToPage, LetsThrough}, Calls.{Comes}}, proofs.{Asking.{asks_unstalled, keeps_dead, keeps_refused, no_root, one_end, one_place, writes_walked}, Calls.{found_lives}}}
 use Rattle.spaces.proofs.Writing.{fit_stored, open_held, others_stored, room_stored, slotted_stored, store_refused, stores}
 use Rattle.spaces.proofs.accesses.store.Goals as goal
 
@@ -76,10 +71,9 @@ returns-in-Ok-clause-comes g c = λ s shows keeps swaps.
 pub returns-in-Ok-clause-walked : goal.returns-in-Ok-clause-walked
 returns-in-Ok-clause-walked g c place walked =
     let a = c.args in
-    let mid = c.access.new.core in
     let granted = c.access.ensures.walked place (subst (λ (p : ℕ). IsWalked (picture_of a.core.now) p a.addr a.stored.width Accesses.Store place) (sym c.in-Some.ensures.found.0) walked) in
     let number = c.frame_of-frame.ensures ∙ ap (λ (p : Phys). p.0 / 4096) (one_place c.access.result c.in-Ok.place place c.in-Ok.is granted.1) in
-    writes_walked a.core.now mid _ c.frame_of-frame.result.0 (place.0 / 4096) (a.addr % 4096) a.stored c.write_number.new.page granted.0 number
+    writes_walked a.core.now c.access.new.core _ c.frame_of-frame.result.0 (place.0 / 4096) (a.addr % 4096) a.stored c.write_number.new.page granted.0 number
     (record { store = refl; swap = refl; cache = refl; roots = refl; regions = refl; page_of = refl }) refl refl refl
     (c.write_number.ensures
     ∙ ap (λ (b : List ℕ). with_number b (a.addr % 4096) (byte_count a.stored.width) a.stored.value) c.bytes_mut-page.ensures.value)
@@ -109,8 +103,7 @@ returns-in-Err-clause-walked g c place walked =
 
 pub returns-in_default-clause-walked : goal.returns-in_default-clause-walked
 returns-in_default-clause-walked g c place walked =
-    let dead : is_live (picture_of c.args.core.now) c.args.pid ≡ false = sym c.live.ensures.known ∙ ap is_some c.in_default.is in
-    absurd (no_root (picture_of c.args.core.now) c.args.pid walked.root dead walked.lives)
+    absurd (no_root (picture_of c.args.core.now) c.args.pid walked.root (sym c.live.ensures.known ∙ ap is_some c.in_default.is) walked.lives)
 
 pub returns-in_default-clause-keeps : goal.returns-in_default-clause-keeps
 returns-in_default-clause-keeps g c = keeps_dead g.D.SectorDisk g.E.SectorDisk c.args.core.now c.args.pid c.args.addr Accesses.Store c.requires.sound

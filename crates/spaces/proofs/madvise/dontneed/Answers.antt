@@ -1,16 +1,11 @@
-use Rattle.std.proofs.Common.{ℕ, Option, ◌/◌, ◌≡◌, true, sym, subst, ◌∙◌, arith, rules}
-use Rattle.regions.specs.RunList.{attr_at}
-use Rattle.residency.specs.Picture.{picture_of}
-use Rattle.vm_types.specs.{Checks.{page_count}, Rows.{is_covered}, declared.command.Command.TheVariants.{Dontneed}, declared.refusal.Errno.TheVariants.{ENOMEM}, declared.region.Attr.{Attr}, declared.reply.Reply.TheVariants.{Done, Refused}}
-use Rattle.spaces.proofs.{Uncopied.{covered_within, refused_hole, gives_up}, Room.{room_same, sound_kept}, Returning.{takes_cleared}}
-use Rattle.spaces.specs.{Calls.{Comes}, Ranges.{GivesPagesBack, KeepsEntriesBeside}}
+use Rattle.spaces.proofs.Names.{ℕ, Option, ◌/◌, ◌≡◌, true, sym, subst, ◌∙◌, arith, rules, attr_at, picture_of, page_count, is_covered, Dontneed, ENOMEM, Attr, Done, Refused}
+use Rattle.spaces.{specs.{Calls.{Comes}, Ranges.{GivesPagesBack, KeepsEntriesBeside}}, proofs.{Uncopied.{covered_within, refused_hole, gives_up}, Room.{room_same, sound_kept}, Returning.{takes_cleared}}}
 use Rattle.spaces.proofs.madvise.dontneed.Goals as goal
 
 pub clear_row-requires-clause-row : goal.clear_row-requires-clause-row
 clear_row-requires-clause-row g c =
-    let old = picture_of c.args.core.now in
-    let here : attr_at c.regions.result.now ≡ old.at c.in-Some.pid = λ t page. c.regions.ensures page t in
-    covered_within g.M.Levels.mode (old.at c.in-Some.pid) (c.args.addr / 4096) c.div_ceil-pages.result (c.requires.sound.fit.granting.user c.in-Some.pid)
+    let here : attr_at c.regions.result.now ≡ (picture_of c.args.core.now).at c.in-Some.pid = λ t page. c.regions.ensures page t in
+    covered_within g.M.Levels.mode ((picture_of c.args.core.now).at c.in-Some.pid) (c.args.addr / 4096) c.div_ceil-pages.result (c.requires.sound.fit.granting.user c.in-Some.pid)
     (omega (arith, c.div_ceil-pages.ensures, c.if-len-eq0.false))
     (subst (λ (m : ℕ → Option Attr). is_covered m (c.args.addr / 4096) c.div_ceil-pages.result ≡ true) here (sym c.covers.ensures ∙ c.if-not-covers.false))
 
@@ -44,8 +39,6 @@ returns-clause-keeps g c =
 pub returns-clause-beside : goal.returns-clause-beside
 returns-clause-beside g c =
     let a = c.args in
-    let old = picture_of a.core.now in
-    let new = picture_of c.clear_row.new.core in
     let count : c.div_ceil-pages.result ≡ page_count a.len = omega (arith, c.div_ceil-pages.ensures) in
-    subst (λ (p : ℕ). KeepsEntriesBeside old new p (a.addr / 4096) (page_count a.len)) c.in-Some.ensures.found.0
-    (subst (λ (n : ℕ). KeepsEntriesBeside old new c.in-Some.pid (a.addr / 4096) n) count c.clear_row.ensures.row.kept)
+    subst (λ (p : ℕ). KeepsEntriesBeside (picture_of a.core.now) (picture_of c.clear_row.new.core) p (a.addr / 4096) (page_count a.len)) c.in-Some.ensures.found.0
+    (subst (λ (n : ℕ). KeepsEntriesBeside (picture_of a.core.now) (picture_of c.clear_row.new.core) c.in-Some.pid (a.addr / 4096) n) count c.clear_row.ensures.row.kept)

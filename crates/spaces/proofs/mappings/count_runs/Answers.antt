@@ -1,6 +1,4 @@
-use Rattle.std.proofs.{Common.{◌≤◌, ℕ, inl, inr, sym, subst, arith}, lemmas.Bool.{cases_eq, cases_lt}}
-use Rattle.vm_types.specs.Runs.{run_count}
-use Rattle.residency.specs.Picture.{picture_of}
+use Rattle.spaces.proofs.Names.{◌≤◌, ℕ, inl, inr, sym, subst, arith, cases_eq, cases_lt, run_count, picture_of}
 use Rattle.spaces.proofs.Numbers.{no_runs}
 use Rattle.spaces.proofs.mappings.count_runs.Goals as goal
 
@@ -17,11 +15,10 @@ loop-number-preserved g c = record {
 
 pub returns : goal.returns
 returns g c = λ q.
-    let end = c.loop-number-test.false in
     elim (cases_lt q 1) [
       | inl none ↦ no_runs c.args.core.now c.requires.fit q (λ r at. (let low = (c.requires.fit.rooted.numbers q r at).0 in omega (arith, none, low)))
       | inr some ↦ elim (cases_lt q 65) [
-        | inl high ↦ c.loop-number.invariant.few q some (omega (arith, high, end))
+        | inl high ↦ c.loop-number.invariant.few q some (omega (arith, high, c.loop-number-test.false))
         | inr past ↦ no_runs c.args.core.now c.requires.fit q (λ r at. (let most = (c.requires.fit.rooted.numbers q r at).1 in omega (arith, past, most)))
       ]
     ]

@@ -1,6 +1,4 @@
-use Rattle.std.proofs.Common.{◌≤◌, ◌<◌, ℕ}
-use Rattle.vm_types.specs.Runs.{run_count}
-use Rattle.residency.specs.Picture.{picture_of}
+use Rattle.spaces.proofs.Names.{◌≤◌, ◌<◌, ℕ, run_count, picture_of}
 use Rattle.spaces.proofs.mappings.count_runs.Given as goal
 
 abbrev pub invariant-loop-number : goal.invariant-loop-number

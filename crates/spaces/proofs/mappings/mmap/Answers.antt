@@ -1,9 +1,4 @@
-use Rattle.vm_types.proofs.Modes.{sizes}
-use Rattle.std.proofs.Common.{ℕ, ◌*◌, ◌/◌, ◌≡◌, Option, subst, arith, rules}
-use Rattle.regions.specs.RunList.{attr_at}
-use Rattle.fault.specs.Changes.{KeepsRoom}
-use Rattle.residency.specs.Picture.{picture_of}
-use Rattle.vm_types.specs.{declared.command.Command.TheVariants.{Mmap}, declared.region.Attr.{Attr}, declared.reply.Reply.TheVariants.{Address, Refused}, Rows.{replaced}, Checks.{page_count}}
+use Rattle.spaces.proofs.Names.{sizes, ℕ, ◌*◌, ◌/◌, ◌≡◌, Option, subst, arith, rules, attr_at, KeepsRoom, picture_of, Mmap, Attr, Address, Refused, replaced, page_count}
 use Rattle.spaces.specs.{Mappings.{attr_there}, Calls.{Comes}, Ranges.{GivesPagesBack, KeepsEntriesBeside}}
 use Rattle.spaces.proofs.{Mapped.{refused_as_asked, refused_place, maps, reads_mapped}, Calls.{found_lives}, Numbers.{nobody_has, lives_below}, NewObject.{new_unused, objects_mapped}, Room.{sound_kept}, Returning.{takes_remapped}}
 use Rattle.spaces.proofs.mappings.mmap.Goals as goal
@@ -26,8 +21,7 @@ remap-requires-clause-objects g c =
     let pid = c.in-Some.pid in
     let first = c.in-Ok.first in
     let pages = c.div_ceil-pages.result in
-    let runs = c.regions-regions.result.now in
-    let here : attr_at runs ≡ at pid = λ t page. c.regions-regions.ensures page t in
+    let here : attr_at c.regions-regions.result.now ≡ at pid = λ t page. c.regions-regions.ensures page t in
     objects_mapped g.M.Levels.mode at pid first pages (attr_at c.planned.new.next) c.args.request.source c.args.request.prot fit.granting.objects fit.granting.user (lives_below c.args.core.now fit)
     (λ is. new_unused g.M.Levels.mode at pid first pages (nobody_has c.args.core.now fit) fit.granting.user (c.in-Ok.ensures.few is))
     (subst (λ (m : ℕ → Option Attr). (page : ℕ) → attr_at c.planned.new.next page ≡ replaced m first pages (attr_there at pid pages c.args.request.source c.args.request.prot first) page) here
@@ -35,9 +29,7 @@ remap-requires-clause-objects g c =
 
 pub overflow_mul-result : goal.overflow_mul-result
 overflow_mul-result g c =
-    let high = c.in-Ok.ensures.ok.high in
-    let most = (sizes g.M.Levels.mode).most in
-    omega (arith, high, most)
+    omega (arith, c.in-Ok.ensures.ok.high, (sizes g.M.Levels.mode).most)
 
 pub returns-in-Ok-clause-comes : goal.returns-in-Ok-clause-comes
 returns-in-Ok-clause-comes g c = λ s shows reads swaps.

@@ -1,6 +1,4 @@
-use Rattle.vm_types.specs.Limits.{user_end}
-use Rattle.std.proofs.Common.{ℕ, ◌+◌, ◌≤◌, sym, subst}
-use Rattle.regions.specs.RunList.{attr_at}
+use Rattle.spaces.proofs.Names.{user_end, ℕ, ◌+◌, ◌≤◌, sym, subst, attr_at}
 use Rattle.spaces.proofs.Placing.{placed_inside}
 use Rattle.spaces.proofs.mappings.place_of.Goals as goal
 

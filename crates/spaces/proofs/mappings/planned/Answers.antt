@@ -1,17 +1,10 @@
-use Rattle.vm_types.proofs.Modes.{sizes}
-use Rattle.std.proofs.Common.{ℕ, ◌<◌, ◌≤◌, ◌≡◌, sym, subst, arith}
-use Rattle.regions.specs.RunList.{attr_at}
-use Rattle.residency.specs.Picture.{picture_of}
-use Rattle.vm_types.specs.{declared.region.Attr.{Attr}, Attributes.{backing_fits}, Rows.{replaced}, Runs.{run_count}}
-use Rattle.spaces.specs.{Mappings.{attr_there}, Space.{space_of}}
-use Rattle.spaces.proofs.Planning.{taken_place, many_runs, fine_place, fits_backing}
+use Rattle.spaces.proofs.Names.{sizes, ℕ, ◌<◌, ◌≤◌, ◌≡◌, sym, subst, arith, attr_at, picture_of, Attr, backing_fits, replaced, run_count}
+use Rattle.spaces.{specs.{Mappings.{attr_there}, Space.{space_of}}, proofs.Planning.{taken_place, many_runs, fine_place, fits_backing}}
 use Rattle.spaces.proofs.mappings.planned.Goals as goal
 
 pub is_taken-requires : goal.is_taken-requires
 is_taken-requires g c =
-    let high = c.in-Some.ensures.user.1 in
-    let most = (sizes g.M.Levels.mode).most in
-    omega (arith, high, most)
+    omega (arith, c.in-Some.ensures.user.1, (sizes g.M.Levels.mode).most)
 
 pub returns-then-is_taken-clause-err : goal.returns-then-is_taken-clause-err
 returns-then-is_taken-clause-err g c =

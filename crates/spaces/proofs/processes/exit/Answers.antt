@@ -1,8 +1,5 @@
-use Rattle.vm_types.specs.{Limits.{user_end}, declared.command.Command.TheVariants.{Exit}, declared.reply.Reply.TheVariants.{Done}}
-use Rattle.std.proofs.Common.{ℕ, rules, subst}
-use Rattle.residency.specs.Picture.{picture_of}
-use Rattle.spaces.specs.{Calls.{Comes}, Ranges.{GivesPagesBack}}
-use Rattle.spaces.proofs.{Living.{exits}, Room.{sound_kept}, Returning.{takes_named}}
+use Rattle.spaces.proofs.Names.{user_end, Exit, Done, ℕ, rules, subst, picture_of}
+use Rattle.spaces.{specs.{Calls.{Comes}, Ranges.{GivesPagesBack}}, proofs.{Living.{exits}, Room.{sound_kept}, Returning.{takes_named}}}
 use Rattle.spaces.proofs.processes.exit.Goals as goal
 
 pub returns-clause-comes : goal.returns-clause-comes

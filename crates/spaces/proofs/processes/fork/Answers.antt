@@ -1,10 +1,5 @@
-use Rattle.std.proofs.Common.{ℕ, None, refl, subst, rules}
-use Rattle.disk_model.specs.Moments.{Nothing}
-use Rattle.fault.proofs.Asking.{asks_slots_same}
-use Rattle.residency.specs.Picture.{picture_of}
-use Rattle.vm_types.specs.{declared.command.Command.TheVariants.{Fork}, declared.reply.Reply.TheVariants.{Process, Stalled}}
-use Rattle.spaces.specs.Calls.{Comes}
-use Rattle.spaces.proofs.{Taking.{forked_takes, fork_stalled_takes}, Calls.{found_lives}, Living.{fork_refused, forks_to, fork_stalls, store_kept_caused}}
+use Rattle.spaces.proofs.Names.{ℕ, None, refl, subst, rules, Nothing, asks_slots_same, picture_of, Fork, Process, Stalled}
+use Rattle.spaces.{specs.Calls.{Comes}, proofs.{Taking.{forked_takes, fork_stalled_takes}, Calls.{found_lives}, Living.{fork_refused, forks_to, fork_stalls, store_kept_caused}}}
 use Rattle.spaces.proofs.processes.fork.Goals as goal
 
 pub returns-in_default-free_pid-clause-comes : goal.returns-in_default-free_pid-clause-comes

@@ -1,7 +1,4 @@
-use Rattle.std.proofs.Common.{None, refl, rules}
-use Rattle.disk_model.specs.Moments.{Nothing}
-use Rattle.fault.proofs.Asking.{asks_slots_same}
-use Rattle.residency.specs.Picture.{picture_of}
+use Rattle.spaces.proofs.Names.{None, refl, rules, Nothing, asks_slots_same, picture_of}
 use Rattle.spaces.proofs.{Taking.{spawned_takes, spawn_stalled_takes}, Living.{spawn_refused, spawns, spawn_stalls, store_kept_caused}}
 use Rattle.spaces.proofs.processes.spawn.Goals as goal
 

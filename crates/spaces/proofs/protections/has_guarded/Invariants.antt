@@ -1,6 +1,4 @@
-use Rattle.vm_types.specs.Limits.{user_end}
-use Rattle.std.proofs.Common.{◌-◌, ◌≤◌}
-use Rattle.file_store.specs.Store.{files_of}
+use Rattle.spaces.proofs.Names.{user_end, ◌-◌, ◌≤◌, files_of}
 use Rattle.spaces.proofs.Guards.{Unguarded}
 use Rattle.spaces.proofs.protections.has_guarded.Given as goal
 

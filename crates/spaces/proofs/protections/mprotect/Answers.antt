@@ -1,12 +1,5 @@
-use Rattle.std.proofs.Common.{ℕ, ◌/◌, ◌≡◌, sym, ap, subst, arith, rules}
-use Rattle.swap.specs.declared.slots.Swap.{Swap}
-use Rattle.regions.specs.{RunList.{attr_at}, Permission.{ReadsToo}}
-use Rattle.regions.proofs.PermissionLemmas.{reads_kept}
-use Rattle.ranges.specs.Rows.{ReprotectsRow}
-use Rattle.residency.specs.Picture.{picture_of}
-use Rattle.vm_types.specs.{declared.command.Command.TheVariants.{Mprotect}, declared.permission.Prot.{Prot}, declared.reply.Reply.TheVariants.{Done, Refused}, Checks.{page_count}, Rows.{protected}}
-use Rattle.spaces.proofs.{Protects.{refuses, protects, protected_map}, Room.{room_same, sound_kept}, Returning.{takes_rewritten}}
-use Rattle.spaces.specs.{Calls.{Comes}, Ranges.{GivesPagesBack, KeepsEntriesBeside}}
+use Rattle.spaces.proofs.Names.{ℕ, ◌/◌, ◌≡◌, sym, ap, subst, arith, rules, Swap, attr_at, ReadsToo, reads_kept, ReprotectsRow, picture_of, Mprotect, Prot, Done, Refused, page_count, protected}
+use Rattle.spaces.{specs.{Calls.{Comes}, Ranges.{GivesPagesBack, KeepsEntriesBeside}}, proofs.{Protects.{refuses, protects, protected_map}, Room.{room_same, sound_kept}, Returning.{takes_rewritten}}}
 use Rattle.spaces.proofs.protections.mprotect.Goals as goal
 
 pub reprotect-requires-clause-reads : goal.reprotect-requires-clause-reads
@@ -42,17 +35,14 @@ returns-in-Ok-clause-keeps g c =
     let old = c.args.core.now in
     let new = c.reprotect.new.core in
     let done = c.reprotect.ensures in
-    let room = room_same old new done.cache in
     let pages = ap (λ (s : Swap _). s.pages) done.swap in
-    let sound = sound_kept old new room g.D.SectorDisk g.E.SectorDisk done.store pages done.fit c.requires.sound in
+    let sound = sound_kept old new (room_same old new done.cache) g.D.SectorDisk g.E.SectorDisk done.store pages done.fit c.requires.sound in
     let takes = takes_rewritten old new c.in-Some.pid 0 0 done.frames done.cache done.others in
     subst (λ (p : ℕ). GivesPagesBack g.D.SectorDisk g.E.SectorDisk old new p 0 0 Done) c.in-Some.ensures.found.0 (search rules)
 
 pub returns-in-Ok-clause-beside : goal.returns-in-Ok-clause-beside
 returns-in-Ok-clause-beside g c =
     let a = c.args in
-    let old = picture_of a.core.now in
-    let new = picture_of c.reprotect.new.core in
     let count : c.div_ceil-pages.result ≡ page_count a.request.len = omega (arith, c.div_ceil-pages.ensures) in
-    subst (λ (p : ℕ). KeepsEntriesBeside old new p (a.request.addr / 4096) (page_count a.request.len)) c.in-Some.ensures.found.0
-    (subst (λ (n : ℕ). KeepsEntriesBeside old new c.in-Some.pid (a.request.addr / 4096) n) count c.reprotect.ensures.row.kept)
+    subst (λ (p : ℕ). KeepsEntriesBeside (picture_of a.core.now) (picture_of c.reprotect.new.core) p (a.request.addr / 4096) (page_count a.request.len)) c.in-Some.ensures.found.0
+    (subst (λ (n : ℕ). KeepsEntriesBeside (picture_of a.core.now) (picture_of c.reprotect.new.core) c.in-Some.pid (a.request.addr / 4096) n) count c.reprotect.ensures.row.kept)

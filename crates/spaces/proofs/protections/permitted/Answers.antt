@@ -1,9 +1,5 @@
-use Rattle.std.proofs.{Common.{ℕ, ◌≡◌, ◌<◌, ◌≤◌, true, false, nat_lt, None, sym, ◌∙◌, subst, arith}, lemmas.Bool.Decides.{nat_tests}}
-use Rattle.vm_types.specs.{declared.permission.Prot.{Prot}, Permission.{kept}, Ranges.{denies_stores}, Rows.{is_covered, protected}, Runs.{run_count}}
-use Rattle.file_store.specs.Store.{files_of}
-use Rattle.regions.specs.RunList.{attr_at}
-use Rattle.spaces.specs.Space.{space_of}
-use Rattle.spaces.proofs.Protects.{tested_is, hole, denied, many_parts, none_holds, covered_inside}
+use Rattle.spaces.proofs.Names.{ℕ, ◌≡◌, ◌<◌, ◌≤◌, true, false, nat_lt, None, sym, ◌∙◌, subst, arith, nat_tests, Prot, kept, denies_stores, is_covered, protected, run_count, files_of, attr_at}
+use Rattle.spaces.{specs.Space.{space_of}, proofs.Protects.{tested_is, hole, denied, many_parts, none_holds, covered_inside}}
 use Rattle.spaces.proofs.protections.permitted.Goals as goal
 
 pub returns-then-not-covers-clause-err : goal.returns-then-not-covers-clause-err
@@ -37,10 +33,9 @@ returns-in-Ok-clause-ok g c =
 pub returns-in-Err-clause-err : goal.returns-in-Err-clause-err
 returns-in-Err-clause-err g c =
     let runs = c.args.regions.now in
-    let covered : is_covered (attr_at runs) c.args.range.first c.args.range.pages ≡ true = sym c.covers.ensures ∙ c.if-not-covers.false in
     let many : 256 < run_count g.M.Levels.mode (protected (attr_at runs) c.args.range.first c.args.range.pages (kept c.args.prot)) =
     subst (λ (prot : Prot). 256 < run_count g.M.Levels.mode (protected (attr_at runs) c.args.range.first c.args.range.pages prot)) c.kept.ensures c.in-Err.ensures.too_many in
     let over : nat_lt 256 (run_count g.M.Levels.mode (protected (attr_at runs) c.args.range.first c.args.range.pages (kept c.args.prot))) ≡ true = grind (arith, nat_tests, many) in
     tested_is g.M.Levels.mode (files_of c.args.store.now) runs c.args.range.first c.args.range.pages c.args.prot _
     (many_parts (is_covered (attr_at runs) c.args.range.first c.args.range.pages) (denies_stores (files_of c.args.store.now) (space_of runs) c.args.range.first c.args.range.pages c.args.prot) _
-    covered (sym c.denies_stores.ensures ∙ c.if-denies_stores.false) over)
+    (sym c.covers.ensures ∙ c.if-not-covers.false) (sym c.denies_stores.ensures ∙ c.if-denies_stores.false) over)

@@ -1,32 +1,22 @@
-use Rattle.std.proofs.Common.{ℕ, ◌+◌, ◌-◌, ◌/◌, ◌≡◌, min, sym, ap, ◌∙◌, subst, arith, rules}
-use Rattle.regions.specs.RunList.{attr_at}
-use Rattle.regions.proofs.PermissionLemmas.{reads_removed, reads_same}
-use Rattle.fault.specs.Changes.{KeepsRoom}
-use Rattle.ranges.specs.Rows.{without_maps, KeepsNamed}
-use Rattle.residency.specs.Picture.{picture_of}
-use Rattle.vm_types.specs.{declared.command.Command.TheVariants.{Munmap}, declared.refusal.Errno.TheVariants.{ENOMEM}, declared.reply.Reply.TheVariants.{Done, Refused}, Checks.{page_count}, Rows.{removed}, Objects.{Maps}}
-use Rattle.spaces.proofs.{Unmapped.{beside_part, clipped, objects_unmapped, others_stay, refused_many, unmaps}, Room.{sound_kept}, Returning.{takes_remapped}}
-use Rattle.spaces.specs.{Calls.{Comes}, Ranges.{GivesPagesBack, KeepsEntriesBeside}}
+use Rattle.spaces.proofs.Names.{ℕ, ◌+◌, ◌-◌, ◌/◌, ◌≡◌, min, sym, ap, ◌∙◌, subst, arith, rules, attr_at, reads_removed, reads_same, KeepsRoom, without_maps, KeepsNamed, picture_of, Munmap, ENOMEM, Done, Refused, page_count, removed, Maps}
+use Rattle.spaces.{specs.{Calls.{Comes}, Ranges.{GivesPagesBack, KeepsEntriesBeside}}, proofs.{Unmapped.{beside_part, clipped, objects_unmapped, others_stay, refused_many, unmaps}, Room.{sound_kept}, Returning.{takes_remapped}}}
 use Rattle.spaces.proofs.unmapping.munmap.Goals as goal
 
 pub remap-requires-clause-others : goal.remap-requires-clause-others
 remap-requires-clause-others g c =
-    let old = picture_of c.args.core.now in
     let runs = c.regions-regions.result.now in
-    let map : (page : ℕ) → attr_at c.remove_into.new.next page ≡ removed (attr_at runs) (c.args.addr / 4096) c.div_ceil-pages.result page = c.in-Ok.ensures.ok in
     let until = c.user_end-stop.ensures.end in
     others_stay g.M.Levels.mode (c.args.addr / 4096) c.div_ceil-pages.result c.min-start.result (c.min-end.result - c.min-start.result)
     (c.min-start.ensures ∙ ap (λ (n : ℕ). min (c.args.addr / 4096) n) until)
     (ap (λ (n : ℕ). n - c.min-start.result) (c.min-end.ensures ∙ ap (λ (n : ℕ). min (c.args.addr / 4096 + c.div_ceil-pages.result) n) until))
-    old c.in-Some.pid runs c.remove_into.new.next (c.requires.sound.fit.granting.user c.in-Some.pid) c.regions-regions.ensures map
+    (picture_of c.args.core.now) c.in-Some.pid runs c.remove_into.new.next (c.requires.sound.fit.granting.user c.in-Some.pid) c.regions-regions.ensures c.in-Ok.ensures.ok
 
 pub remap-requires-clause-readable : goal.remap-requires-clause-readable
 remap-requires-clause-readable g c =
-    let old = picture_of c.args.core.now in
     let runs = c.regions-regions.result.now in
     reads_same (removed (attr_at runs) (c.args.addr / 4096) c.div_ceil-pages.result) (attr_at c.remove_into.new.next) c.in-Ok.ensures.ok
     (reads_removed (attr_at runs) (c.args.addr / 4096) c.div_ceil-pages.result
-    (reads_same (old.at c.in-Some.pid) (attr_at runs) c.regions-regions.ensures
+    (reads_same ((picture_of c.args.core.now).at c.in-Some.pid) (attr_at runs) c.regions-regions.ensures
     (c.requires.sound.fit.granting.readable c.in-Some.pid)))
 
 pub remap-requires-clause-objects : goal.remap-requires-clause-objects
@@ -82,8 +72,6 @@ returns-in-Ok-clause-keeps g c =
 pub returns-in-Ok-clause-beside : goal.returns-in-Ok-clause-beside
 returns-in-Ok-clause-beside g c =
     let a = c.args in
-    let old = picture_of a.core.now in
-    let new = picture_of c.remap.new.core in
     let first = a.addr / 4096 in
     let pages = c.div_ceil-pages.result in
     let start = c.min-start.result in
@@ -91,6 +79,6 @@ returns-in-Ok-clause-beside g c =
     let outside = beside_part g.M.Levels.mode first pages start (c.min-end.result - start)
     (c.min-start.ensures ∙ ap (λ (n : ℕ). min first n) c.user_end-stop.ensures.end)
     (ap (λ (n : ℕ). n - start) (c.min-end.ensures ∙ ap (λ (n : ℕ). min (first + pages) n) c.user_end-stop.ensures.end)) in
-    subst (λ (p : ℕ). KeepsEntriesBeside old new p first (page_count a.len)) c.in-Some.ensures.found.0
-    (subst (λ (n : ℕ). KeepsEntriesBeside old new c.in-Some.pid first n) count
+    subst (λ (p : ℕ). KeepsEntriesBeside (picture_of a.core.now) (picture_of c.remap.new.core) p first (page_count a.len)) c.in-Some.ensures.found.0
+    (subst (λ (n : ℕ). KeepsEntriesBeside (picture_of a.core.now) (picture_of c.remap.new.core) c.in-Some.pid first n) count
     (λ page user out. c.remap.ensures.row.kept page user (outside page out)))

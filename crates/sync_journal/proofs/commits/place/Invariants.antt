@@ -1,5 +1,4 @@
-use Rattle.std.proofs.Common.{◌≡◌, ◌<◌, get_or}
-use Rattle.std.specs.Prelude.{IfSome}
+use Rattle.sync_journal.proofs.Names.{◌≡◌, ◌<◌, get_or, IfSome}
 use Rattle.sync_journal.specs.Map.{place_among}
 use Rattle.sync_journal.proofs.commits.place.Given as goal
 

@@ -1,4 +1,4 @@
-use Rattle.std.proofs.Common.{◌+◌, arith, ◌∙◌, rules}
+use Rattle.sync_journal.proofs.Names.{◌+◌, arith, ◌∙◌, rules}
 use Rattle.sync_journal.proofs.Copies.{one_home, copied_more, copy_more, copy_all}
 use Rattle.sync_journal.proofs.homes.copy_each.Goals as goal
 

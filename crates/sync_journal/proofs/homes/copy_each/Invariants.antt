@@ -1,5 +1,4 @@
-use Rattle.std.proofs.Common.{◌≡◌}
-use Rattle.disk_model.specs.Stop.{NamesOnce}
+use Rattle.sync_journal.proofs.Names.{◌≡◌, NamesOnce}
 use Rattle.sync_journal.specs.{Layout.{IsHomeFrom}, Runs.{RunsOnDevice}, Standing.{IsCopyFrom, AreCopiedFrom}}
 use Rattle.sync_journal.proofs.homes.copy_each.Given as goal
 

@@ -1,7 +1,5 @@
-use Rattle.std.proofs.Common.{length, rules}
-use Rattle.disk_model.proofs.Naming.{once_still}
-use Rattle.sync_journal.specs.Standing.{IsCopyFrom}
-use Rattle.sync_journal.proofs.Runs.{and_no_write}
+use Rattle.sync_journal.proofs.Names.{length, rules, once_still}
+use Rattle.sync_journal.{specs.Standing.{IsCopyFrom}, proofs.Runs.{and_no_write}}
 use Rattle.sync_journal.proofs.homes.copy_homes.Goals as goal
 
 pub returns : goal.returns

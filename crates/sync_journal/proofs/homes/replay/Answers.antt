@@ -1,5 +1,4 @@
-use Rattle.std.proofs.Common.{[], length, inl, inr, rules}
-use Rattle.disk_model.proofs.Naming.{once_wider}
+use Rattle.sync_journal.proofs.Names.{[], length, inl, inr, rules, once_wider}
 use Rattle.sync_journal.specs.{Layout.{IsGate, IsHomeSector, IsReplayed, IsFinished}, Standing.{IsCopyFrom}}
 use Rattle.sync_journal.proofs.{Copies.{in_copied}, Asking.{finish_asks}, Gates.{closed}, Runs.{one_more, of_more}, Replays.{while_copying, while_closing, settled, on_ok_both}}
 use Rattle.sync_journal.proofs.homes.replay.Goals as goal

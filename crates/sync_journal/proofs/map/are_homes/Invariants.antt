@@ -1,4 +1,4 @@
-use Rattle.std.proofs.Common.{ℕ, ◌≡◌, ◌<◌, get_or}
+use Rattle.sync_journal.proofs.Names.{ℕ, ◌≡◌, ◌<◌, get_or}
 use Rattle.sync_journal.proofs.map.are_homes.Given as goal
 
 abbrev pub invariant-loop-j : goal.invariant-loop-j

@@ -1,5 +1,4 @@
-use Rattle.std.proofs.{Common.{length, get_or, ◌++◌, sym, ap, ◌∙◌, ◌≡◌, arith, length-take}, lemmas.List.{take_at, get_or-take}}
-use borrow.Rule.Slice.PartMut.{post_of}
+use Rattle.sync_journal.proofs.Names.{length, get_or, ◌++◌, sym, ap, ◌∙◌, ◌≡◌, arith, length-take, take_at, get_or-take, post_of}
 use Rattle.sync_journal.proofs.Maps.{bad_numbers}
 use Rattle.sync_journal.proofs.map.read_homes.Goals as goal
 

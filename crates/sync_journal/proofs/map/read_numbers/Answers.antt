@@ -1,4 +1,4 @@
-use Rattle.std.proofs.Common.{◌∙◌, ◌+◌, ◌*◌, ◌-◌, length, arith}
+use Rattle.sync_journal.proofs.Names.{◌∙◌, ◌+◌, ◌*◌, ◌-◌, length, arith}
 use Rattle.sync_journal.proofs.Maps.{number_at}
 use Rattle.sync_journal.proofs.map.read_numbers.Goals as goal
 

@@ -1,6 +1,4 @@
-use Rattle.std.proofs.Common.{ℕ, List, ◌+◌, ◌*◌, ◌-◌, ◌++◌, length, drop, ap, ◌∙◌, arith}
-use Rattle.std.specs.List.{flat_map}
-use Rattle.byteorder.specs.Endian.{little_bytes}
+use Rattle.sync_journal.proofs.Names.{ℕ, List, ◌+◌, ◌*◌, ◌-◌, ◌++◌, length, drop, ap, ◌∙◌, arith, flat_map, little_bytes}
 use Rattle.sync_journal.proofs.Maps.{overwritten, zeros_after}
 use Rattle.sync_journal.proofs.map.write_map.Goals as goal
 

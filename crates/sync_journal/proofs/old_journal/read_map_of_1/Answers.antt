@@ -1,6 +1,5 @@
-use Rattle.std.proofs.{Common.{ap, sym, length, ◌≡◌, ◌∙◌, arith, rules}, lemmas.List.{length-take-le}}
-use Rattle.sync_journal.specs.Layout.{layout_1, home_count_in}
-use Rattle.sync_journal.proofs.{Maps.{one_sector}, OldJournals.{reads_map}}
+use Rattle.sync_journal.proofs.Names.{ap, sym, length, ◌≡◌, ◌∙◌, arith, rules, length-take-le}
+use Rattle.sync_journal.{specs.Layout.{layout_1, home_count_in}, proofs.{Maps.{one_sector}, OldJournals.{reads_map}}}
 use Rattle.sync_journal.proofs.old_journal.read_map_of_1.Goals as goal
 
 pub returns : goal.returns

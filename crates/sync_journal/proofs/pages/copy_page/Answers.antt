@@ -1,7 +1,5 @@
-use Rattle.std.proofs.Common.{◌⊎◌, inl, rules}
-use Rattle.disk_model.proofs.Naming.{once_named}
-use Rattle.sync_journal.specs.Layout.{IsPageSector}
-use Rattle.sync_journal.proofs.{Asking.{page_copied}, Runs.{one_more, no_write, one_page}}
+use Rattle.sync_journal.proofs.Names.{◌⊎◌, inl, rules, once_named}
+use Rattle.sync_journal.{specs.Layout.{IsPageSector}, proofs.{Asking.{page_copied}, Runs.{one_more, no_write, one_page}}}
 use Rattle.sync_journal.proofs.pages.copy_page.Goals as goal
 
 pub returns-in_err-read_page : goal.returns-in_err-read_page

@@ -1,6 +1,4 @@
-use Rattle.std.proofs.{Common.{◌≡◌, ◌+◌, length, sym, ◌∙◌, rules}, lemmas.Result.{on_ok_weaker}}
-use Rattle.disk_model.specs.Sectors.{part_of}
-use Rattle.disk_model.proofs.Pieces.{joined-same, joined_parts}
+use Rattle.sync_journal.proofs.Names.{◌≡◌, ◌+◌, length, sym, ◌∙◌, rules, on_ok_weaker, part_of, joined-same, joined_parts}
 use Rattle.sync_journal.proofs.pages.read_page.Goals as goal
 
 pub returns : goal.returns

@@ -1,5 +1,4 @@
-use Rattle.sync_journal.specs.Layout.{IsPageSector}
-use Rattle.sync_journal.proofs.Runs.{one_page}
+use Rattle.sync_journal.{specs.Layout.{IsPageSector}, proofs.Runs.{one_page}}
 use Rattle.sync_journal.proofs.pages.write_page.Goals as goal
 
 pub returns-clause-run : goal.returns-clause-run

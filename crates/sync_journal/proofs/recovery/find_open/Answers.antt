@@ -1,7 +1,5 @@
-use Rattle.std.proofs.Common.{length, ap, sym, subst, ◌∙◌}
-use Rattle.disk_model.specs.Stop.{Image}
-use Rattle.sync_journal.specs.{Layout.{home_count}, Gate.{is_open_sector}, Map.{IsBadMap}, Standing.{map_of}}
-use Rattle.sync_journal.proofs.Asking.{gate_asks, map_asks}
+use Rattle.sync_journal.proofs.Names.{length, refl, ap, sym, subst, ◌∙◌, arith, Image, Nothing}
+use Rattle.sync_journal.{specs.{Layout.{home_count}, Gate.{is_open_sector}, Map.{IsBadMap}, Standing.{map_of}}, proofs.{Asking.{gate_asks, map_asks}, Causes.{blames_device, blames_none}, Runs.{no_write, one_more}}}
 use Rattle.sync_journal.proofs.recovery.find_open.Goals as goal
 
 pub returns-in-None-clause-finds : goal.returns-in-None-clause-finds
@@ -41,3 +39,52 @@ returns-in-None-clause-asks g c = λ keeps.
     map_asks g.D.SectorDisk (g.D.SectorDisk.content c.args.disk.now) c.args.disk.now c.read.new.self c.read_page.new.disk
     (ap is_open_sector (sym (c.in_ok-read.ensures.gives (c.read_page.ensures.kept keeps))) ∙ sym c.is_open_gate.ensures ∙ c.if-not-is_open_gate.false)
     c.read.ensures.asks c.read_page.ensures.asks
+
+pub returns-in_err-read-clause-looks : goal.returns-in_err-read-clause-looks
+returns-in_err-read-clause-looks g c =
+    let d = g.D.SectorDisk in
+    let r = c.read.ensures in
+    record {
+      run = no_write d Nothing c.args.disk.now c.read.new.self r.size r.kept r.cause.later r.same r.unsynced r.time;
+      blames = blames_device d c.args.disk.now c.read.new.self _ c.from_residual.ensures.1 (c.in_err-read.ensures.cause.failed refl);
+    }
+
+pub returns-then-not-is_open_gate-clause-looks : goal.returns-then-not-is_open_gate-clause-looks
+returns-then-not-is_open_gate-clause-looks g c =
+    let d = g.D.SectorDisk in
+    let r = c.in_ok-read.ensures in
+    record {
+      run = no_write d Nothing c.args.disk.now c.read.new.self r.size r.kept r.cause.later r.same r.unsynced r.time;
+      blames = blames_none d c.args.disk.now c.read.new.self _ r.cause.calm;
+    }
+
+pub returns-in_err-read_page-clause-looks : goal.returns-in_err-read_page-clause-looks
+returns-in_err-read_page-clause-looks g c =
+    let d = g.D.SectorDisk in
+    let r = c.in_ok-read.ensures in
+    record {
+      run = one_more d Nothing c.args.disk.now c.read.new.self c.read_page.new.disk
+          (no_write d Nothing c.args.disk.now c.read.new.self r.size r.kept r.cause.later r.same r.unsynced r.time) c.read_page.ensures.reads.run;
+      blames = (let failed = c.in_err-read_page.ensures.reads.cause.failed refl in let calm = r.cause.calm in
+          blames_device d c.args.disk.now c.read_page.new.disk _ c.from_residual-in_err-read_page.ensures.1 (omega (arith, failed, calm)));
+    }
+
+pub returns-in-Some-clause-looks : goal.returns-in-Some-clause-looks
+returns-in-Some-clause-looks g c =
+    let d = g.D.SectorDisk in
+    let r = c.in_ok-read.ensures in
+    record {
+      run = one_more d Nothing c.args.disk.now c.read.new.self c.read_page.new.disk
+          (no_write d Nothing c.args.disk.now c.read.new.self r.size r.kept r.cause.later r.same r.unsynced r.time) c.read_page.ensures.reads.run;
+      blames = blames_none d c.args.disk.now c.read_page.new.disk _ (c.in_ok-read_page.ensures.reads.cause.calm ∙ r.cause.calm);
+    }
+
+pub returns-in-None-clause-looks : goal.returns-in-None-clause-looks
+returns-in-None-clause-looks g c =
+    let d = g.D.SectorDisk in
+    let r = c.in_ok-read.ensures in
+    record {
+      run = one_more d Nothing c.args.disk.now c.read.new.self c.read_page.new.disk
+          (no_write d Nothing c.args.disk.now c.read.new.self r.size r.kept r.cause.later r.same r.unsynced r.time) c.read_page.ensures.reads.run;
+      blames = record { device = λ is. cc; calm = tt; still = λ is. c.in_ok-read_page.ensures.reads.cause.calm ∙ r.cause.calm };
+    }

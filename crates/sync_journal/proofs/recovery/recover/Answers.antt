@@ -1,8 +1,5 @@
-use Rattle.std.proofs.Common.{refl}
-use Rattle.disk_model.specs.Moments.{Nothing}
-use Rattle.disk_model.proofs.Moments.{asks_none}
-use Rattle.sync_journal.specs.Standing.{IsAskedIn}
-use Rattle.sync_journal.proofs.{Runs.{no_write}, Causes.{is_error, not_bad_device, blames_device}, OneRecoveries.{looked, after_sync}}
+use Rattle.sync_journal.proofs.Names.{refl, Nothing, asks_none}
+use Rattle.sync_journal.{specs.Standing.{IsAskedIn}, proofs.{Runs.{no_write}, Causes.{is_error, not_bad_device, blames_device}, OneRecoveries.{looked, after_sync}}}
 use Rattle.sync_journal.proofs.recovery.recover.Goals as goal
 
 pub returns-in_err-sync : goal.returns-in_err-sync

@@ -1,7 +1,5 @@
-use Rattle.std.proofs.Common.{◌≡◌, ◌+◌, ◌*◌, length, ⊎_elim, ◌∙◌, arith, rules}
-use Rattle.disk_model.proofs.Naming.{once_wider}
-use Rattle.sync_journal.specs.Layout.{IsPageSector, IsFilledAt, IsJournalAt, IsStagedAt}
-use Rattle.sync_journal.proofs.{Asking.{staged_asks}, Maps.{map_page}, Runs.{one_more, of_more}}
+use Rattle.sync_journal.proofs.Names.{◌≡◌, ◌+◌, ◌*◌, length, ⊎_elim, ◌∙◌, arith, rules, once_wider}
+use Rattle.sync_journal.{specs.Layout.{IsPageSector, IsFilledAt, IsJournalAt, IsStagedAt}, proofs.{Asking.{staged_asks}, Maps.{map_page}, Runs.{one_more, of_more}}}
 use Rattle.sync_journal.proofs.stage.fill_journal.Goals as goal
 
 pub returns-in_err-write_pages : goal.returns-in_err-write_pages

@@ -1,6 +1,4 @@
-use Rattle.std.proofs.Common.{◌≡◌, length, subst, sym, rules}
-use Rattle.disk_model.specs.Stop.{Image}
-use Rattle.disk_model.proofs.Naming.{once_still}
+use Rattle.sync_journal.proofs.Names.{◌≡◌, length, subst, sym, rules, Image, once_still}
 use Rattle.sync_journal.specs.{Layout.{IsStaged}, Map.{map_bytes}, Standing.{map_of, HoldsPages}}
 use Rattle.sync_journal.proofs.stage.stage.Goals as goal
 

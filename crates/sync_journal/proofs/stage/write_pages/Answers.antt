@@ -1,8 +1,5 @@
-use Rattle.std.proofs.{Common.{rules, ◌≡◌, ◌+◌, ◌*◌, ⊎_elim, refl, sym, ap, subst, ◌∙◌, arith}, lemmas.Bool.{cases_eq}}
-use Rattle.disk_model.specs.Sectors.{part_of}
-use Rattle.disk_model.proofs.Naming.{once_wider}
-use Rattle.sync_journal.specs.{Layout.{IsFilledAt, IsJournalAt, IsPageSector}, Runs.{RunsOnDevice}, Source.{Asks}}
-use Rattle.sync_journal.proofs.{Asking.{filled_more}, Causes.{source_failed, device_failed, none_failed}, Runs.{one_more, of_more}}
+use Rattle.sync_journal.proofs.Names.{rules, ◌≡◌, ◌+◌, ◌*◌, ⊎_elim, refl, sym, ap, subst, ◌∙◌, arith, cases_eq, part_of, once_wider}
+use Rattle.sync_journal.{specs.{Layout.{IsFilledAt, IsJournalAt, IsPageSector}, Runs.{RunsOnDevice}, Source.{Asks}}, proofs.{Asking.{filled_more}, Causes.{source_failed, device_failed, none_failed}, Runs.{one_more, of_more}}}
 use Rattle.sync_journal.proofs.stage.write_pages.Goals as goal
 
 pub returns-in_err-page : goal.returns-in_err-page

@@ -1,5 +1,4 @@
-use Rattle.std.proofs.Common.{◌≡◌, length}
-use Rattle.disk_model.specs.Stop.{NamesOnce}
+use Rattle.sync_journal.proofs.Names.{◌≡◌, length, NamesOnce}
 use Rattle.sync_journal.specs.{Layout.{IsJournalAt, IsFilledAt}, Runs.{RunsOnDevice}, Standing.{HoldsAt}, Source.{Asks}}
 use Rattle.sync_journal.proofs.stage.write_pages.Given as goal
 

@@ -1,7 +1,6 @@
-use Rattle.std.proofs.{Common.{◌≡◌, ℕ, length, take, ⊎_elim, ap, sym, subst, ◌∙◌, arith, rules}, lemmas.List.{length-take-le, get_or-take}}
-use Rattle.disk_model.specs.Stop.{Image}
-use Rattle.sync_journal.specs.{Gate.{is_open_sector}, Map.{IsBadMap, AreHomes, map_count, home_in}, Turns.{turn_home_count, turn_map, named_in, IsBadUnder}}
-use Rattle.sync_journal.proofs.{InTurn.{named_rest, map_read}, Sectors.{same_content}}
+use Rattle.sync_journal.proofs.Names.{◌≡◌, ℕ, length, take, refl, inl, ⊎_elim, ap, sym, subst, ◌∙◌, arith, rules, length-take-le, get_or-take, Image, Nothing, asks_named}
+use Rattle.sync_journal.specs.{Gate.{is_open_sector}, Map.{IsBadMap, AreHomes, map_count, home_in}, Turns.{turn_home_count, turn_map, named_in, IsBadUnder, IsTurnAskedIn}}
+use Rattle.sync_journal.proofs.{Causes.{blames_device, blames_none}, InTurn.{named_rest, map_read}, Runs.{no_write, one_more}, Sectors.{same_content}, TurnAsking.{head_asks}}
 use Rattle.sync_journal.proofs.turns.find_named.Goals as goal
 
 pub returns-in-Some-clause-ok : goal.returns-in-Some-clause-ok
@@ -56,3 +55,62 @@ returns-in-None-clause-bad g c = λ keeps is.
     subst (λ b. IsBadUnder b (d.sector_count old) (d.content old)) (sym gate)
     (subst (λ m. IsBadMap 1023 (turn_home_count (d.sector_count old)) m) (sym mapped)
     (subst (λ n. IsBadMap 1023 n c.read_page.new.to) count c.in-None.ensures))
+
+pub returns-in_err-read-clause-looks : goal.returns-in_err-read-clause-looks
+returns-in_err-read-clause-looks g c =
+    let d = g.D.SectorDisk in
+    let r = c.read.ensures in
+    record {
+      run = no_write d Nothing c.args.disk.now c.read.new.self r.size r.kept r.cause.later r.same r.unsynced r.time;
+      blames = blames_device d c.args.disk.now c.read.new.self _ c.from_residual.ensures.1 (c.in_err-read.ensures.cause.failed refl);
+    }
+
+pub returns-in_err-read_page-clause-looks : goal.returns-in_err-read_page-clause-looks
+returns-in_err-read_page-clause-looks g c =
+    let d = g.D.SectorDisk in
+    let r = c.in_ok-read.ensures in
+    record {
+      run = one_more d Nothing c.args.disk.now c.read.new.self c.read_page.new.disk
+          (no_write d Nothing c.args.disk.now c.read.new.self r.size r.kept r.cause.later r.same r.unsynced r.time) c.read_page.ensures.reads.run;
+      blames = (let failed = c.in_err-read_page.ensures.reads.cause.failed refl in let calm = r.cause.calm in
+          blames_device d c.args.disk.now c.read_page.new.disk _ c.from_residual-in_err-read_page.ensures.1 (omega (arith, failed, calm)));
+    }
+
+pub returns-in-Some-clause-looks : goal.returns-in-Some-clause-looks
+returns-in-Some-clause-looks g c =
+    let d = g.D.SectorDisk in
+    let r = c.in_ok-read.ensures in
+    record {
+      run = one_more d Nothing c.args.disk.now c.read.new.self c.read_page.new.disk
+          (no_write d Nothing c.args.disk.now c.read.new.self r.size r.kept r.cause.later r.same r.unsynced r.time) c.read_page.ensures.reads.run;
+      blames = blames_none d c.args.disk.now c.read_page.new.disk _ (c.in_ok-read_page.ensures.reads.cause.calm ∙ r.cause.calm);
+    }
+
+pub returns-in-None-clause-looks : goal.returns-in-None-clause-looks
+returns-in-None-clause-looks g c =
+    let d = g.D.SectorDisk in
+    let r = c.in_ok-read.ensures in
+    record {
+      run = one_more d Nothing c.args.disk.now c.read.new.self c.read_page.new.disk
+          (no_write d Nothing c.args.disk.now c.read.new.self r.size r.kept r.cause.later r.same r.unsynced r.time) c.read_page.ensures.reads.run;
+      blames = record { device = λ is. cc; calm = tt; still = λ is. c.in_ok-read_page.ensures.reads.cause.calm ∙ r.cause.calm };
+    }
+
+pub returns-in_err-read-clause-asks : goal.returns-in_err-read-clause-asks
+returns-in_err-read-clause-asks g c = λ keeps.
+    asks_named g.D.SectorDisk (IsTurnAskedIn (g.D.SectorDisk.content c.args.disk.now)) (λ k. k ≡ 16) c.args.disk.now c.read.new.self (λ k here. inl here) c.read.ensures.asks
+
+pub returns-in_err-read_page-clause-asks : goal.returns-in_err-read_page-clause-asks
+returns-in_err-read_page-clause-asks g c = λ keeps.
+    head_asks g.D.SectorDisk c.is_open_gate-second.result c.start.result c.args.disk.now c.read.new.self c.read_page.new.disk
+    (ap is_open_sector (sym (c.in_ok-read.ensures.gives (c.read_page.ensures.reads.run.kept keeps))) ∙ sym c.is_open_gate-second.ensures) c.start.ensures.is c.read.ensures.asks c.read_page.ensures.asks
+
+pub returns-in-Some-clause-asks : goal.returns-in-Some-clause-asks
+returns-in-Some-clause-asks g c = λ keeps.
+    head_asks g.D.SectorDisk c.is_open_gate-second.result c.start.result c.args.disk.now c.read.new.self c.read_page.new.disk
+    (ap is_open_sector (sym (c.in_ok-read.ensures.gives (c.read_page.ensures.reads.run.kept keeps))) ∙ sym c.is_open_gate-second.ensures) c.start.ensures.is c.read.ensures.asks c.read_page.ensures.asks
+
+pub returns-in-None-clause-asks : goal.returns-in-None-clause-asks
+returns-in-None-clause-asks g c = λ keeps.
+    head_asks g.D.SectorDisk c.is_open_gate-second.result c.start.result c.args.disk.now c.read.new.self c.read_page.new.disk
+    (ap is_open_sector (sym (c.in_ok-read.ensures.gives (c.read_page.ensures.reads.run.kept keeps))) ∙ sym c.is_open_gate-second.ensures) c.start.ensures.is c.read.ensures.asks c.read_page.ensures.asks

@@ -1,5 +1,4 @@
-use Rattle.std.proofs.Common.{◌≡◌, rules}
-use Rattle.disk_model.proofs.Naming.{once_named, once_still}
+use Rattle.sync_journal.proofs.Names.{◌≡◌, rules, once_named, once_still}
 use Rattle.sync_journal.specs.Turns.{IsTurnGate}
 use Rattle.sync_journal.proofs.turns.name_journal.Goals as goal
 

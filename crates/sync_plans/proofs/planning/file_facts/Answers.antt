@@ -1,7 +1,5 @@
-use Rattle.std.proofs.Common.{◌≡◌, OnOk, IfOk, IfErr}
-use Rattle.file_store.specs.Standing.{file_info}
-use Rattle.sync_plans.specs.{Requests.{IsStore, RefusesImage}, PlanDisk.{pages_of}}
-use Rattle.sync_plans.proofs.{Runs.{refuses_image}, Theorem.{as_given}}
+use Rattle.sync_plans.proofs.Names.{◌≡◌, OnOk, IfOk, IfErr, file_info}
+use Rattle.sync_plans.{specs.{Requests.{IsStore, RefusesImage}, PlanDisk.{pages_of}}, proofs.{Runs.{refuses_image}, Theorem.{as_given}}}
 use Rattle.sync_plans.proofs.planning.file_facts.Goals as goal
 
 pub returns-clause-store : goal.returns-clause-store

@@ -1,6 +1,4 @@
-use Rattle.std.proofs.Common.{ℕ, List, ◌∙◌, IsTrue, IfErr, length, ap, sym, subst, arith}
-use Rattle.disk_model.specs.Stop.{Image}
-use Rattle.file_store.specs.{Standing.{file_info}, Commit.{ArePages}}
+use Rattle.sync_plans.proofs.Names.{ℕ, List, ◌∙◌, IsTrue, IfErr, length, ap, sym, subst, arith, Image, file_info, ArePages}
 use Rattle.sync_plans.specs.{Pages.{lent_page}, PlanDisk.{pages_of}, Plans.{row, AreCalls, AreSources, image_after}, Requests.{IsStore, KeepsOutside, AreWritable, AreReadOnly, RefusesImage}}
 use Rattle.sync_plans.proofs.{Growth.{alike_unsynced}, Runs.{refuses_image}, Theorem.{stands_now, stops_leave, stands_then, began_pages, same_end, as_given}}
 use Rattle.sync_plans.proofs.planning.plan_commit.Goals as goal

@@ -1,9 +1,6 @@
-use Rattle.std.proofs.Common.{ℕ, List, [], ◌∙◌, IsTrue, IfErr, length, ap, sym, subst, ⊎_elim, arith}
-use Rattle.disk_model.specs.Stop.{Image}
-use Rattle.file_store.specs.Standing.{file_info, standing_page}
+use Rattle.sync_plans.proofs.Names.{ℕ, List, [], ◌∙◌, IsTrue, IfErr, length, ap, sym, subst, ⊎_elim, arith, Image, file_info, standing_page, stands_for_itself}
 use Rattle.sync_plans.specs.{Pages.{lent_page}, PlanDisk.{pages_of}, Plans.{row, AreCalls, AreSources, image_after}, Requests.{IsStore, IsClosed, KeepsOutside, RefusesImage}}
 use Rattle.sync_plans.proofs.{Growth.{alike_unsynced}, Runs.{refuses_image}, Theorem.{stands_now, layouts, stops_leave, began_pages, same_end, as_given}}
-use Rattle.file_store.proofs.Images.{stands_for_itself}
 use Rattle.sync_plans.proofs.planning.plan_open.Goals as goal
 
 pub returns-in-Ok-clause-opens : goal.returns-in-Ok-clause-opens

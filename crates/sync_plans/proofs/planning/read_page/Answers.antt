@@ -1,7 +1,5 @@
-use Rattle.std.proofs.Common.{[], ap, OnOk, IfErr}
-use Rattle.file_store.specs.Standing.{IsPageOf, file_info}
-use Rattle.sync_plans.specs.{Requests.{IsStore, RefusesImage}, Pages.{lent_page}, PlanDisk.{pages_of}}
-use Rattle.sync_plans.proofs.{Runs.{refuses_image}, Theorem.{stands_now, as_given}}
+use Rattle.sync_plans.proofs.Names.{[], ap, OnOk, IfErr, IsPageOf, file_info}
+use Rattle.sync_plans.{specs.{Requests.{IsStore, RefusesImage}, Pages.{lent_page}, PlanDisk.{pages_of}}, proofs.{Runs.{refuses_image}, Theorem.{stands_now, as_given}}}
 use Rattle.sync_plans.proofs.planning.read_page.Goals as goal
 
 pub returns-clause-page : goal.returns-clause-page

@@ -1,11 +1,5 @@
-use Rattle.std.proofs.Common.{ℕ, Option, inr, refl, sym, subst, ◌∙◌}
-use Rattle.vm_types.specs.declared.file.FileInfo.{FileInfo}
-use Rattle.disk_model.specs.Moments.{LeavesOnly, LeavesNow}
-use Rattle.file_store.specs.{Standing.{StandsFor}, Commit.{ArePages, StandsForEither}, Store.{PutsHomesOrNone}}
-use Rattle.batches.specs.Pages.{HasReadOnly}
-use Rattle.sync_journal.specs.Kinds.{IsOutsideOf}
-use Rattle.sync_plans.specs.{Pages.{lent_page}, Requests.{CommitsStore}}
-use Rattle.sync_plans.proofs.Runs.{when_open, then_committed, laid_out, same_files, still_outside, found_store, told_so}
+use Rattle.sync_plans.proofs.Names.{ℕ, Option, inr, refl, sym, subst, ◌∙◌, FileInfo, LeavesOnly, LeavesNow, StandsFor, ArePages, StandsForEither, PutsHomesOrNone, HasReadOnly, IsOutsideOf}
+use Rattle.sync_plans.{specs.{Pages.{lent_page}, Requests.{CommitsStore}}, proofs.Runs.{when_open, then_committed, laid_out, same_files, still_outside, found_store, told_so}}
 use Rattle.sync_plans.proofs.requests.commit.Goals as goal
 
 pub returns-in-Ok-commit-clause-commits : goal.returns-in-Ok-commit-clause-commits

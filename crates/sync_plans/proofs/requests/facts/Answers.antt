@@ -1,4 +1,4 @@
-use Rattle.std.proofs.Common.{subst}
+use Rattle.sync_plans.proofs.Names.{subst}
 use Rattle.sync_plans.proofs.Runs.{found_store, told_so}
 use Rattle.sync_plans.proofs.requests.facts.Goals as goal
 

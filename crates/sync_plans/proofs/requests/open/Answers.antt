@@ -1,9 +1,5 @@
-use Rattle.std.proofs.Common.{inl, inr, refl, sym, subst}
-use Rattle.disk_model.specs.Moments.{LeavesOnly}
-use Rattle.disk_model.proofs.Moments.{weaker}
-use Rattle.file_store.specs.{Standing.{StandsFor}, Commit.{StandsForEither}}
-use Rattle.sync_plans.specs.Requests.{OpensStore}
-use Rattle.sync_plans.proofs.Runs.{is_closed, while_opening}
+use Rattle.sync_plans.proofs.Names.{inl, inr, refl, sym, subst, LeavesOnly, weaker, StandsFor, StandsForEither}
+use Rattle.sync_plans.{specs.Requests.{OpensStore}, proofs.Runs.{is_closed, while_opening}}
 use Rattle.sync_plans.proofs.requests.open.Goals as goal
 
 pub returns-in-Ok-clause-any_moment : goal.returns-in-Ok-clause-any_moment

@@ -1,6 +1,4 @@
-use Rattle.std.proofs.Common.{ℕ, IsTrue, Option, inr, refl, sym, subst, ◌∙◌, rules}
-use Rattle.vm_types.specs.declared.file.FileInfo.{FileInfo}
-use Rattle.file_store.specs.Standing.{IsPageOf}
+use Rattle.sync_plans.proofs.Names.{ℕ, IsTrue, Option, inr, refl, sym, subst, ◌∙◌, rules, FileInfo, IsPageOf}
 use Rattle.sync_plans.proofs.Runs.{when_open, same_files, found_store, told_so}
 use Rattle.sync_plans.proofs.requests.read.Goals as goal
 

@@ -1,6 +1,5 @@
 use Rattle.std.proofs.Common.{◌≡◌, [], ◌-◌, length, take, drop, subst, arith}
-use Rattle.trace_lang.specs.{Names.{ReadsAfter}, declared.names.SourceName.{SourceName}}
-use Rattle.trace_lang.proofs.{Nothing.{none≢some}, Places.{texts, one_or_more}, Sources.{name_in, begins, read_after}}
+use Rattle.trace_lang.{specs.{Names.{ReadsAfter}, declared.names.SourceName.{SourceName}}, proofs.{Nothing.{none≢some}, Places.{texts, one_or_more}, Sources.{name_in, begins, read_after}}}
 use Rattle.trace_lang.proofs.arguments.back_of.Goals as goal
 
 pub returns-in_err-source_name_of-clause-only : goal.returns-in_err-source_name_of-clause-only

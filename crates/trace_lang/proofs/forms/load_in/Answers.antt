@@ -1,7 +1,6 @@
 use Rattle.trace_lang.specs.declared.names.Name.TheVariants as name
-use Rattle.trace_lang.proofs.{FirstWord.{front_words, number_word, steps, begins_with, whole_word}, OneCommand.{unread, stands}, Nothing.{none≢some}}
+use Rattle.trace_lang.{specs.Grammar.{IsWidth}, proofs.{FirstWord.{front_words, number_word, steps, begins_with, whole_word}, OneCommand.{unread, stands}, Nothing.{none≢some}}}
 use Rattle.std.proofs.Common.{ℕ, List, [], ◌∷◌, codes, drop, refl, sym, ◌∙◌, ap, subst}
-use Rattle.trace_lang.specs.Grammar.{IsWidth}
 use Rattle.trace_lang.proofs.forms.load_in.Goals as goal
 
 pub returns-in_err-pid : goal.returns-in_err-pid

@@ -1,14 +1,13 @@
-use Rattle.std.proofs.Common.{◌≡◌, ℕ, List, ◌⊎◌, inl, inr}
+use Rattle.std.proofs.{Common.{◌≡◌, ℕ, List, ◌⊎◌, inl, inr, sym, subst}, lemmas.Bool.{false≢true}}
 use Rattle.vm_types.specs.{Width.{byte_count}, declared.width.Width.{Width}, declared.width.Width.TheVariants.{One, Two, Four, Eight}}
-use Rattle.trace_lang.specs.Words.{BeginsWith}
-use Rattle.trace_lang.proofs.FirstWord.{front_words, step}
+use Rattle.trace_lang.{specs.Words.{BeginsWith}, proofs.FirstWord.{front_words, step}}
 use Rattle.trace_lang.proofs.fronts.front_width.Goals as goal
 
-known : (w : Width) (bytes : ℕ) → bytes ≡ byte_count w → (bytes ≡ 1) ⊎ ((bytes ≡ 2) ⊎ ((bytes ≡ 4) ⊎ (bytes ≡ 8)))
-known One bytes e = inl e
-known Two bytes e = inr (inl e)
-known Four bytes e = inr (inr (inl e))
-known Eight bytes e = inr (inr (inr e))
+no_width : (w : Width) (bytes : ℕ) → ((bytes ≡ 1) ⊎ (bytes ≡ 2) ⊎ (bytes ≡ 4) ⊎ (bytes ≡ 8) → ⊥) → bytes ≡ byte_count w → ⊥
+no_width One bytes known e = known (inl e)
+no_width Two bytes known e = known (inr (inl e))
+no_width Four bytes known e = known (inr (inr (inl e)))
+no_width Eight bytes known e = known (inr (inr (inr e)))
 
 pub returns-in_err-bytes-clause-none : goal.returns-in_err-bytes-clause-none
 returns-in_err-bytes-clause-none c =
@@ -18,8 +17,11 @@ returns-in_err-bytes-clause-none c =
 pub returns-in_err-width-clause-none : goal.returns-in_err-width-clause-none
 returns-in_err-width-clause-none c =
     let text = c.args.text.now in
-    let none : (width : Width) (rest : List ℕ) → BeginsWith (byte_count width) rest c.args.text.now → ⊥ = λ width rest h.
-    let same = (step _ _ text c.in_ok-bytes.ensures.found h.0 _ _ (front_words _ rest text h) h.2).0 in
-    let some = c.in_err-width.ensures.known.1 (known width _ same) in
-    cc in
+    let none : (width : Width) (rest : List ℕ) → BeginsWith (byte_count width) rest text → ⊥ = λ width rest h.
+    no_width width _ (λ some. false≢true (c.in_err-width.ensures.known.1 some)) (step _ _ text c.in_ok-bytes.ensures.found h.0 _ _ (front_words _ rest text h) h.2).0 in
     rw c.from_residual-in_err-width.ensures none
+
+pub returns-clause-found : goal.returns-clause-found
+returns-clause-found c =
+    let P : ℕ → Type 0 = λ n. BeginsWith n c.in_ok-bytes.rest.now c.args.text.now in
+    subst P (sym c.in_ok-width.ensures.found) c.in_ok-bytes.ensures.found

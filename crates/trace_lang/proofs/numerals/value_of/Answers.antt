@@ -1,27 +1,26 @@
-use Rattle.std.proofs.{Common.{ℕ, ◌<◌, ◌^◌, List, length, sym, ◌∙◌, ap, subst}, lemmas.Int.Digits.{digits_more}, lemmas.List.{take_all}}
-use Rattle.std.specs.{Char.{digit_value}, Str.Parse.{AllDigits, digits_value}}
+use Rattle.std.proofs.{Common.{ℕ, ◌<◌, ◌^◌, List, length, refl, sym, ◌∙◌, ap, subst}, lemmas.Int.Digits.{digits_more}, lemmas.List.{take_all}}
+use Rattle.std.specs.Str.Parse.{AllDigits, digits_value}
 use Rattle.trace_lang.proofs.Radix.{not_empty, none_reads, digit_below, value_so_far, next_value, digit_past}
 use Rattle.trace_lang.proofs.numerals.value_of.Goals as goal
 
 pub returns-in_err-digit : goal.returns-in_err-digit
 returns-in_err-digit c = none_reads _ _ c.from_residual.ensures (λ h.
-    c.in_err-digit.ensures.value (digit_below c.args.radix.base c.args.digits.now c.loop-byte.byte-index _ c.from.ensures h.0.1 c.loop-byte-test.true))
+    c.in_err-digit.ensures (digit_below c.args.radix.base c.args.digits.now c.loop-byte.byte-index _ refl h.0.1 c.loop-byte-test.true))
 
 pub returns-in_err-value : goal.returns-in_err-value
 returns-in_err-value c = none_reads _ _ c.from_residual-in_err-value.ensures (λ h.
-    digit_past _ _ _ _ _ _ _ _ (value_so_far c.args.radix.base c.args.digits.now c.loop-byte.byte-index c.loop-byte.value c.args.radix.low c.loop-byte-test.true c.loop-byte.invariant.value)
-    h.1 c.from-in-loop-byte.ensures c.from-in-loop-byte-2.ensures (c.in_ok-digit.ensures.value.1 ∙ ap digit_value c.from.ensures) c.in_err-value.ensures)
+    digit_past _ _ _ _ _ _ (value_so_far c.args.radix.base c.args.digits.now c.loop-byte.byte-index c.loop-byte.value c.args.radix.low c.loop-byte-test.true c.loop-byte.invariant.value)
+    h.1 c.in_ok-digit.ensures.1 c.in_err-value.ensures)
 
 pub loop-byte-preserved : goal.loop-byte-preserved
 loop-byte-preserved c =
     let i = c.loop-byte.byte-index in
-    let P : ℕ → Type 0 = λ x. digit_value x < c.args.radix.base in
     let a = c.in_ok-value.ensures in
+    let P : ℕ → Type 0 = λ x. x < 2 ^ 64 in
     record {
-      digits = digits_more c.args.radix.base c.args.digits.now i c.loop-byte-test.true c.loop-byte.invariant.digits (subst P c.from.ensures c.in_ok-digit.ensures.value.0);
-      value = next_value c.args.radix.base c.args.digits.now i c.loop-byte.value _ _ _ _ _ c.loop-byte-test.true c.loop-byte.invariant.value
-          c.from-in-loop-byte.ensures c.from.ensures c.in_ok-digit.ensures.value.1 c.from-in-loop-byte-2.ensures a.1;
-      fits = let P : ℕ → Type 0 = λ x. x < 2 ^ 64 in subst P (sym a.1) a.0;
+      digits = digits_more c.args.radix.base c.args.digits.now i c.loop-byte-test.true c.loop-byte.invariant.digits c.in_ok-digit.ensures.0;
+      value = next_value c.args.radix.base c.args.digits.now i c.loop-byte.value _ _ _ c.loop-byte-test.true c.loop-byte.invariant.value refl c.in_ok-digit.ensures.1 a.1;
+      fits = subst P (sym a.1) a.0;
     }
 
 pub returns : goal.returns

@@ -1,7 +1,6 @@
 use Rattle.std.proofs.{Common.{◌≡◌, ◌+◌, ◌-◌, ◌%◌, ◌/◌, ◌++◌, ℕ, List, take, drop, set, false, ap, sym, ◌∙◌, subst, arith}, lemmas.List.{take-set-le}}
 use Rattle.std.specs.Fmt.{digit_glyph}
-use Rattle.trace_lang.specs.Texts.{hex_digits}
-use Rattle.trace_lang.proofs.{Hex.{PAIRS_at, next_digit, next_pair, all_digits}, output.push_hex_digits.Goals.{then-place-at, else-place-at}}
+use Rattle.trace_lang.{specs.Texts.{hex_digits}, proofs.{Hex.{PAIRS_at, next_digit, next_pair, all_digits}, output.push_hex_digits.Goals.{then-place-at, else-place-at}}}
 use Rattle.trace_lang.proofs.output.push_hex_digits.Goals as goal
 
 pub loop-place-preserved : goal.loop-place-preserved

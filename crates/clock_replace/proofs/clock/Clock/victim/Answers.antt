@@ -1,6 +1,5 @@
 use Rattle.std.proofs.{Common.{◌≡◌, ◌+◌, ◌*◌, ◌<◌, ◌==◌, if◌then◌else◌, ℕ, ap, ◌∙◌, subst, arith, rules}, lemmas.Nat.{mod_below}}
-use Rattle.clock_replace.specs.{Choice.{place, Passes}, declared.clock.Clock.{Clock}}
-use Rattle.clock_replace.proofs.Rounds.{next_place, passes_more, chooses, none_left, full_turn, all_kept}
+use Rattle.clock_replace.{specs.{Choice.{place, Passes}, declared.clock.Clock.{Clock}}, proofs.Rounds.{next_place, passes_more, chooses, none_left, full_turn, all_kept}}
 use Rattle.clock_replace.proofs.clock.Clock.victim.Goals as goal
 
 -- the hand after a look

@@ -1,41 +1,16 @@
 -- An empty body. The borrow is opened and closed at another ghost value.
-use Rattle.std.proofs.Common.{ℕ, List, [], ◌∷◌, refl, MutBor, ◌<◌, ◌^◌, length, Bool}
-use seplogic.Ra.Ura.{Ura}
-use mir.Syntax.{named}
-use mir.Val.{Val, vunit, vptr}
-use base.Logic.{SProp, ent, sep, emp, via, fst∗, id⊢}
-use base.Fml.{GName, Lft, Share, ftrue, flft, fobs, fbor}
-use prog.Memory.{Memory}
-use prog.Routine.{Routine}
-use prog.Wp.{Calls, Loops, WpFn, Tables}
-use types.Logic.{Logic}
-use contract.Monad.{Fun}
-use contract.Running.{tables, tables_of}
-use types.Kit.{‵, ◌⊛◌, ◌$◌, ◌∵◌, !, qed, by, move, keep, drop, use1, split, join, fsplit, fsplit3, fjoin, fjoin3, feq_i, suffices, frame, done}
-use types.Run.{unit_lit, of_opd, returns, enter}
-use types.SemTy.{Body}
-use types.ByLocal.{alloc_all, pass_all, free_all, look_at, sets}
-use sound.WpLaws.{WpFn-mono}
-use denote.RattleType.{RattleType, owns}
-use denote.Memory.{mem}
-use denote.Ref.{MutRef, mut_vals, mut_Tells}
-use denote.Signature.{plain}
-use denote.Steps.{opens, closes}
-use denote.Triple.Entry.{on_entry}
-use denote.Triple.Spec.{Meets, triple_of}
-use denote.Triple.Table.{entered}
-use denote.Triple.Walked.{says, Stays, stay_ref, walk_of, AllGo, Goes-ref, Walks, ends_at, walked, walk_Meets}
+use Rattle.disk_model.proofs.Names.{ℕ, List, [], refl, MutBor, ◌<◌, ◌^◌, length, Bool, Ura, named, Val, vunit, vptr, SProp, ent, sep, emp, via, fst∗, id⊢, GName, Lft, Share, ftrue, flft, fobs, fbor, Memory, Routine, Calls, Loops, WpFn}
+use Rattle.disk_model.proofs.Names.{Tables, Logic, Fun, tables, tables_of, ‵, ◌⊛◌, ◌$◌, ◌∵◌, !, qed, by, move, keep, use1, split, join, fsplit, fsplit3, fjoin, fjoin3, feq_i, suffices, frame, done, unit_lit, of_opd, returns, enter, Body}
+use Rattle.disk_model.proofs.Names.{alloc_all, pass_all, free_all, look_at, sets, WpFn-mono, RattleType, owns, mem, MutRef, mut_vals, mut_Tells, plain, opens, closes, on_entry, Meets, triple_of, entered, says, Stays, stay_ref, walk_of}
+use Rattle.disk_model.proofs.Names.{AllGo, Goes-ref, Walks, ends_at, walked, walk_Meets, Bor, u8, u64, bool, Array, ArrayOf, yes, ShrSlice, slice_val, shr_slice_vals, shr_slice_Tells, stay_none_slice, Goes-none_slice}
+use Rattle.std.proofs.Common.{◌∷◌}
+use types.Kit.{drop}
 use Rattle.disk_model.specs.declared.ghost_data.Log.{Log}
 use Rattle.disk_model.specs.contracts.ghost_data.Log as T
 use Rattle.disk_model.specs.contracts.ghost_data.Log.note.Key.{name as #it}
 use Rattle.disk_model.specs.contracts.ghost_data.Log.note as it
 use Rattle.disk_model.proofs.ghost_data.Log.note.Statement as stated
 use Rattle.disk_model.proofs.ghost_data.Log.note.Code as code
-use denote.Ref.{Bor}
-use denote.Builtin.{u8, u64, bool, Array, ArrayOf}
-use denote.Exit.{yes}
-use denote.Slice.{ShrSlice, slice_val, shr_slice_vals, shr_slice_Tells}
-use denote.Triple.Walked.{stay_none_slice, Goes-none_slice}
 
 abbrev Arg : Type 0
 Arg = MutBor Log × (Bor (List ℕ) × (Bor (List (List ℕ)) × (Bor (List Bool) × Unit {0})))

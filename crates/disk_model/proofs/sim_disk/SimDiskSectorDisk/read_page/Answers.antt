@@ -1,5 +1,4 @@
-use Rattle.std.proofs.{Common.{◌≡◌, ◌<◌, ◌+◌, ◌*◌, ◌-◌, length, ⊎_elim, sym, ap, subst, ◌∙◌, arith, rules}, lemmas.Bool.{cases_eq}}
-use borrow.Rule.Slice.PartMut.{put_mid}
+use Rattle.disk_model.proofs.Names.{◌≡◌, ◌<◌, ◌+◌, ◌*◌, ◌-◌, length, ⊎_elim, sym, ap, subst, ◌∙◌, arith, rules, cases_eq, put_mid}
 use Rattle.disk_model.specs.{Stop.{Image, Names, IsOfPage}, Sectors.{part_of}, Asked.{times_named}, SimDisk.{sector_of, IsUnsynced, moment_of, LeftSince, disk_counts, after_reads}}
 use Rattle.disk_model.proofs.{Pages.{more_time, carried_by_read, put_here, put_there, length_put}, Counts.{last_read, next_read}}
 use Rattle.disk_model.proofs.sim_disk.SimDiskSectorDisk.read_page.Goals as goal

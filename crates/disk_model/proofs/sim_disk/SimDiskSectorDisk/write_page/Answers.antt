@@ -1,4 +1,4 @@
-use Rattle.std.proofs.{Common.{◌≡◌, ◌+◌, ⊎_elim, sym, ap, subst, ◌∙◌, arith, rules, if◌then◌else◌, replicate}, lemmas.Bool.{cases_eq, false≢true}}
+use Rattle.disk_model.proofs.Names.{◌≡◌, ◌+◌, ⊎_elim, sym, ap, subst, ◌∙◌, arith, rules, if◌then◌else◌, replicate, cases_eq, false≢true}
 use Rattle.disk_model.specs.{Sectors.{part_of}, SimDisk.{DiskCounts, sector_of, asked_of, disk_counts, after_write, after_writes, left_by_write}}
 use Rattle.disk_model.proofs.{Naming.{names_next}, Counts.{one_write}, sim_disk.SimDiskSectorDisk.write_page.Goals.{then-is_err, else-is_err}}
 use Rattle.disk_model.proofs.sim_disk.SimDiskSectorDisk.write_page.Goals as goal

@@ -1,4 +1,4 @@
-use Rattle.std.proofs.Common.{◌≡◌, ℕ, ◌<◌, ◌≤◌, get_or, Some, None}
+use Rattle.file_store.proofs.Names.{◌≡◌, ℕ, ◌<◌, ◌≤◌, get_or, Some, None}
 use Rattle.file_store.specs.{declared.directory.Entry.{Entry}, Directory.{home_end}}
 use Rattle.file_store.proofs.directory.Directory.ends_within.Given as goal
 

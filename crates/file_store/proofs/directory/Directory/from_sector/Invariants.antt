@@ -1,4 +1,4 @@
-use Rattle.std.proofs.Common.{◌≡◌, ◌<◌, ◌^◌, ℕ, length, get_or, Some, None}
+use Rattle.file_store.proofs.Names.{◌≡◌, ◌<◌, ◌^◌, ℕ, length, get_or, Some, None}
 use Rattle.file_store.specs.{declared.directory.Entry.{Entry}, Directory.{AreGood, AreEntries}}
 use Rattle.file_store.proofs.directory.Directory.from_sector.Given as goal
 

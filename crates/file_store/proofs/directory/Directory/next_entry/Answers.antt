@@ -1,4 +1,4 @@
-use Rattle.std.proofs.{Common.{◌≡◌, ◌*◌, ◌≤◌, List, ℕ, sym, ◌∙◌, ap, subst, length, arith, refl, rules}, lemmas.Bool.{false≢true}, lemmas.List.{take_rest}, lemmas.Option.{none-some, same_Some}}
+use Rattle.file_store.proofs.Names.{◌≡◌, ◌*◌, ◌≤◌, List, ℕ, sym, ◌∙◌, ap, subst, length, arith, refl, rules, false≢true, take_rest, none-some, same_Some}
 use Rattle.file_store.specs.{Directory.{entry_in, decoded, home_end, IsHomeOf, IsZero}, Directory.IsBadDirectory.{NotZero, Outside, Overlap}}
 use Rattle.file_store.proofs.{Entries.{entry_in-inside, good_more}, directory.Directory.next_entry.Goals.{then-end-homes-via-then-end-homes, then-end-homes-via-else-end-homes+then-overlaps_any}}
 use Rattle.file_store.proofs.directory.Directory.next_entry.Goals as goal

@@ -1,6 +1,4 @@
-use Rattle.std.proofs.{Common.{◌≡◌, ◌+◌, ◌-◌, ◌++◌, List, length, take, drop, cond, ℕ, refl, sym, ap, ◌∙◌, rules}, lemmas.Bool.{cond-true, cond-false}}
-use borrow.Rule.Slice.PartMut.{post_of}
-use Rattle.byteorder.specs.Endian.{little_bytes}
+use Rattle.file_store.proofs.Names.{◌≡◌, ◌+◌, ◌-◌, ◌++◌, List, length, take, drop, cond, ℕ, refl, sym, ap, ◌∙◌, rules, cond-true, cond-false, post_of, little_bytes}
 use Rattle.file_store.proofs.{Encoded.{encoded}, directory.Entry.encode.Goals.{then-self, else-self}}
 use Rattle.file_store.proofs.directory.Entry.encode.Goals as goal
 

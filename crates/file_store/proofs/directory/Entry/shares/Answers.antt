@@ -1,4 +1,4 @@
-use Rattle.std.proofs.{Common.{sym, ◌∙◌, subst}, lemmas.Option.{same_Some}}
+use Rattle.file_store.proofs.Names.{sym, ◌∙◌, subst, same_Some}
 use Rattle.file_store.specs.Directory.{IsHomeOf}
 use Rattle.file_store.proofs.directory.Entry.shares.Goals as goal
 

@@ -1,7 +1,4 @@
-use Rattle.std.proofs.Common.{◌≡◌, ◌≤◌, ◌⊎◌, ℕ, Err, inl, inr, sym, ap, subst, ◌∙◌, rules}
-use Rattle.disk_model.specs.Stop.{Image}
-use Rattle.disk_model.proofs.Moments.{asks_then, asks_wider}
-use Rattle.sync_journal.specs.{Layout.{layout_before, IsGateOrMapIn}, OldJournal.{old_homes, StandsAsListed}}
+use Rattle.file_store.proofs.Names.{◌≡◌, ◌≤◌, ◌⊎◌, ℕ, Err, inl, inr, sym, ap, subst, ◌∙◌, rules, Image, asks_then, asks_wider, layout_before, IsGateOrMapIn, old_homes, StandsAsListed}
 use Rattle.file_store.specs.{declared.faults.OpenFault.TheVariants.{BadLayout}, Faults.{open_fault}, Standing.{IsHeadIn, IsBadLayoutIn, IsBadOldJournal, listed_entry}, Store.{entry_of}, Versions.{version_before, homes_of, directory_of}}
 use Rattle.file_store.proofs.{Causes.{journal_from, is_this, same_Err}, Images.{homes_before}, Openings.{content_is, old_sound}}
 use Rattle.file_store.proofs.old_store.OldStore.find.Goals as goal

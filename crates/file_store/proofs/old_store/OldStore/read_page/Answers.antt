@@ -1,6 +1,4 @@
-use Rattle.std.proofs.Common.{◌+◌, sym, subst}
-use Rattle.disk_model.specs.Stop.{Names}
-use Rattle.sync_journal.specs.Layout.{IsPageSector}
+use Rattle.file_store.proofs.Names.{◌+◌, sym, subst, Names, IsPageSector}
 use Rattle.file_store.proofs.old_store.OldStore.read_page.Goals as goal
 
 pub returns-in_err-read-clause-asks : goal.returns-in_err-read-clause-asks

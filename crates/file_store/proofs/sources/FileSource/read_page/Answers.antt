@@ -1,6 +1,5 @@
-use Rattle.std.proofs.{Common.{◌≡◌, ℕ, ◌++◌, List, [], length, drop, length-take, sym, ap, ◌∙◌, arith, rules}, lemmas.Option.{same_Some}}
-use Rattle.file_store.specs.{Layout.{bytes_inside, padded_page}, Format.{told_by, reader_tells}}
-use Rattle.file_store.proofs.Filled.{trimmed_front, trimmed_nothing, trimmed_is, is_read, left_is}
+use Rattle.file_store.proofs.Names.{◌≡◌, ℕ, ◌++◌, List, [], length, drop, length-take, sym, ap, ◌∙◌, arith, rules, same_Some}
+use Rattle.file_store.{specs.{Layout.{bytes_inside, padded_page}, Format.{told_by, reader_tells}}, proofs.Filled.{trimmed_front, trimmed_nothing, trimmed_is, is_read, left_is}}
 use Rattle.file_store.proofs.sources.FileSource.read_page.Goals as goal
 
 pub returns-in_default-clause-told : goal.returns-in_default-clause-told

@@ -1,11 +1,7 @@
-use Rattle.std.proofs.{Common.{◌≡◌, ℕ, List, length, take, subst, arith, rules}, lemmas.Result.{on_ok_weaker}}
-use Rattle.disk_model.specs.Stop.{Image}
-use Rattle.disk_model.proofs.Moments.{weaker}
+use Rattle.file_store.proofs.Names.{◌≡◌, ℕ, List, length, take, subst, arith, rules, on_ok_weaker, Image, weaker, changed, live_homes, journal_kind, StoreStandsFor, StoreStandsForEither, IsStoreKept, AsksEachOnce, commits_weaker}
 use Rattle.file_store.specs.{Layout.{padded_page}, Standing.{StandsFor, standing, directory_entry}, Store.{entry_of, inside_at, files_of, PutsHomesOrNone}, Commit.{StandsForEither}}
 use Rattle.file_store.proofs.{Reading.{has_content}, Homes.{entry_page}, Images.{stands_kept}, Rests.{ready_again, ready_with}, Changed.{are_homes, homes_front, homes_mapped, stands_changed, stands_either, homes_put, homes_either}}
 use Rattle.file_store.proofs.store.FileStore.commit.Goals as goal
-use Rattle.sync_journal.specs.{Commit.{changed}, Journal.{live_homes}, Kinds.{journal_kind, StoreStandsFor, StoreStandsForEither, IsStoreKept, AsksEachOnce}}
-use Rattle.sync_journal.proofs.InTurn.{commits_weaker}
 
 pub fill_homes-requires-clause-inside : goal.fill_homes-requires-clause-inside
 fill_homes-requires-clause-inside g c = λ i p at.

@@ -1,9 +1,5 @@
-use Rattle.std.proofs.Common.{◌<◌, sym, ap, subst, ◌∙◌, rules}
-use Rattle.sync_journal.specs.Kinds.{journal_kind, kind_home_count}
-use Rattle.file_store.specs.{Standing.{standing}, Store.{entry_of, IsSectorOf}}
-use Rattle.disk_model.specs.Sectors.{joined}
-use Rattle.disk_model.proofs.Moments.{asks_named}
-use Rattle.file_store.proofs.{Asking.{page_once}, Homes.{entry_page, home_inside, home_of-entry}, Images.{page_read}}
+use Rattle.file_store.proofs.Names.{◌<◌, sym, ap, subst, ◌∙◌, rules, journal_kind, kind_home_count, joined, asks_named}
+use Rattle.file_store.{specs.{Standing.{standing}, Store.{entry_of, IsSectorOf}}, proofs.{Asking.{page_once}, Homes.{entry_page, home_inside, home_of-entry}, Images.{page_read}}}
 use Rattle.file_store.proofs.store.FileStore.read_page.Goals as goal
 
 pub home_of-requires : goal.home_of-requires

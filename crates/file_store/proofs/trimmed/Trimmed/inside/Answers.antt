@@ -1,6 +1,5 @@
-use Rattle.std.proofs.{Common.{◌≡◌, None, Some, length, slice_get, refl, sym, ap, ◌∙◌}, lemmas.Option.{MatchOption-at_none, slice_get_past, slice_get_read}}
-use Rattle.file_store.specs.Store.{entry_of, inside_named}
-use Rattle.file_store.proofs.Homes.{inside_of-entry, inside_of-none, inside_of-past}
+use Rattle.file_store.proofs.Names.{◌≡◌, None, Some, length, slice_get, refl, sym, ap, ◌∙◌, MatchOption-at_none, slice_get_past, slice_get_read}
+use Rattle.file_store.{specs.Store.{entry_of, inside_named}, proofs.Homes.{inside_of-entry, inside_of-none, inside_of-past}}
 use Rattle.file_store.proofs.trimmed.Trimmed.inside.Goals as goal
 
 pub returns-in_default : goal.returns-in_default

@@ -1,4 +1,4 @@
-use Rattle.std.proofs.Common.{◌≤◌, sym, subst, slice_get}
+use Rattle.file_store.proofs.Names.{◌≤◌, sym, subst, slice_get}
 use Rattle.file_store.proofs.Homes.{inside_of-small}
 use Rattle.file_store.proofs.trimmed.TrimmedPageSource.page.Goals as goal
 

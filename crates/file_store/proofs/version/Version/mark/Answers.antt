@@ -1,5 +1,4 @@
-use Rattle.std.proofs.Common.{sym, ap}
-use Rattle.sync_journal.specs.Kinds.{turn_kind}
+use Rattle.file_store.proofs.Names.{sym, ap, turn_kind}
 use Rattle.file_store.specs.{Layout.{mark, old_mark}, Versions.{mark_of}, declared.version.Version.{Version}}
 use Rattle.file_store.proofs.version.Version.mark.Goals as goal
 

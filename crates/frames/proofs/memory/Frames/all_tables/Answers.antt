@@ -1,6 +1,5 @@
 use Rattle.std.proofs.Common.{arith}
-use Rattle.frames.specs.FrameTable.{zero_bytes}
-use Rattle.frames.proofs.Made.{IsSound-made, IsChained-made, IsAllTables-made, IsMade-first, IsMade-more}
+use Rattle.frames.{specs.FrameTable.{zero_bytes}, proofs.Made.{IsSound-made, IsChained-made, IsAllTables-made, IsMade-first, IsMade-more}}
 use Rattle.frames.proofs.memory.Frames.all_tables.Goals as goal
 
 pub loop-n-init : goal.loop-n-init

@@ -1,5 +1,4 @@
-use Rattle.frames.specs.Inside.{table_of}
-use Rattle.frames.proofs.Calls.{written}
+use Rattle.frames.{specs.Inside.{table_of}, proofs.Calls.{written}}
 use Rattle.frames.proofs.memory.Frames.bytes_mut.Goals as goal
 
 pub invariant_of-self-lent : goal.invariant_of-self-lent

@@ -1,6 +1,5 @@
 use Rattle.std.proofs.{Common.{rules, ◌-◌, ◌<◌, arith, length, get_or-set_same, sym, ◌∙◌}, lemmas.List.{get_or_read}}
-use Rattle.frames.specs.{Inside.{table_of}, FrameTable.{role_of}}
-use Rattle.frames.proofs.Calls.{freed, alone_count}
+use Rattle.frames.{specs.{Inside.{table_of}, FrameTable.{role_of}}, proofs.Calls.{freed, alone_count}}
 use Rattle.frames.proofs.memory.Frames.release.Goals as goal
 
 pub invariant_of-self : goal.invariant_of-self

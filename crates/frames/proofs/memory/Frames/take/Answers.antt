@@ -1,6 +1,5 @@
 use Rattle.std.proofs.{Common.{[], refl, ◌∙◌, ap, arith}, lemmas.Bool.{false≢true}, lemmas.List.{get_or_read}}
-use Rattle.frames.specs.{Inside.{table_of}, Chain.{next_of}}
-use Rattle.frames.proofs.{ChainLemmas.{IsChained-none, IsChained-first}, Calls.{taken, Takes-taken}}
+use Rattle.frames.{specs.{Inside.{table_of}, Chain.{next_of}}, proofs.{ChainLemmas.{IsChained-none, IsChained-first}, Calls.{taken, Takes-taken}}}
 use Rattle.frames.proofs.memory.Frames.take.Goals as goal
 
 pub returns-then-n-eq0-clause-none_free : goal.returns-then-n-eq0-clause-none_free

@@ -1,7 +1,6 @@
-use Rattle.std.proofs.Common.{inl, inr, ⊎_elim, refl, sym, subst, arith}
-use Rattle.machine.proofs.Boots.{fine_frames, fine_slots, still, boots, accepts, refuses_frames, refuses_slots, refuses_memory, refuses_store, IsOpened, IsUnopened}
+use Rattle.machine.proofs.Names.{inl, inr, ⊎_elim, refl, sym, subst, arith, OpensFrom}
+use Rattle.machine.{specs.Boot.{HasBadSlots}, proofs.Boots.{fine_frames, fine_slots, still, boots, accepts, refuses_frames, refuses_slots, refuses_memory, refuses_store, opened_leaves}}
 use Rattle.machine.proofs.engine.Engine.boot.Goals.{then-config-gt-MAX_SLOTS-via-then-config-gt-MAX_SLOTS, then-config-gt-MAX_SLOTS-via-else-config-gt-MAX_SLOTS+then-from-sectors}
-use Rattle.machine.specs.Boot.{HasBadSlots}
 use Rattle.machine.proofs.engine.Engine.boot.Goals as goal
 
 pub returns-then-config-lt-MIN_FRAMES-clause-refuses : goal.returns-then-config-lt-MIN_FRAMES-clause-refuses
@@ -24,132 +23,48 @@ returns-then-config-gt-MAX_SLOTS-clause-err_moments g c = still g.D.SectorDisk c
 
 pub returns-in-Err-clause-refuses : goal.returns-in-Err-clause-refuses
 returns-in-Err-clause-refuses g c =
-    let e = c.in-Err.ensures in
-    let unopened : IsUnopened g.D.SectorDisk c.args.store c.in-Err.fault c.in-Err.disk = record {
-      size = e.err_size;
-      kept = e.err_kept;
-      later = e.err_later;
-      device = e.device;
-      calm = e.err_calm;
-      layout = e.bad_layout;
-      journal = e.bad_journal;
-      first = e.layout_first;
-      unwritten = e.unwritten;
-      asks = e.err_asks;
-      touches = e.err_touches;
-    } in
     rw c.from-in-Err.ensures (refuses_store g.D.SectorDisk c.args.config _ c.args.store c.in-Err.fault c.in-Err.disk (fine_frames c.args.config c.if-config-lt-MIN_FRAMES.false c.if-config-gt-MAX_FRAMES.false)
-    (fine_slots c.args.config _ _ _ c.if-config-gt-MAX_SLOTS.false c.from.ensures c.sectors.ensures c.if-from-sectors.false) unopened)
+    (fine_slots c.args.config _ _ _ c.if-config-gt-MAX_SLOTS.false c.from.ensures c.sectors.ensures c.if-from-sectors.false) c.in-Err.ensures)
 
 pub returns-in-Err-clause-err_moments : goal.returns-in-Err-clause-err_moments
 returns-in-Err-clause-err_moments g c = record { any_moment = c.in-Err.ensures.err_moment; in_a_row = c.in-Err.ensures.err_in_a_row }
 
 pub returns-in_default-clause-refuses : goal.returns-in_default-clause-refuses
 returns-in_default-clause-refuses g c =
-    let e = c.in-Ok.ensures in
-    let opened : IsOpened g.D.SectorDisk c.args.store c.in-Ok.store = record {
-      ready = e.ready;
-      size = e.size;
-      layout = e.good_layout;
-      journal = e.good_journal;
-      leaves = e.now;
-      homes = e.homes;
-      kept = e.kept;
-      later = e.later;
-      calm = e.calm;
-      asks = e.asks;
-      moments = record { any_moment = e.any_moment; in_a_row = e.in_a_row };
-    } in
     rw c.into_disk.ensures (refuses_memory g.D.SectorDisk c.args.config _ c.args.store c.in-Ok.store (fine_frames c.args.config c.if-config-lt-MIN_FRAMES.false c.if-config-gt-MAX_FRAMES.false)
-    (fine_slots c.args.config _ _ _ c.if-config-gt-MAX_SLOTS.false c.from.ensures c.sectors.ensures c.if-from-sectors.false) opened)
+    (fine_slots c.args.config _ _ _ c.if-config-gt-MAX_SLOTS.false c.from.ensures c.sectors.ensures c.if-from-sectors.false) c.in-Ok.ensures)
 
 pub returns-in_default-clause-err_moments : goal.returns-in_default-clause-err_moments
-returns-in_default-clause-err_moments g c = rw c.into_disk.ensures (record { any_moment = c.in-Ok.ensures.any_moment; in_a_row = c.in-Ok.ensures.in_a_row })
+returns-in_default-clause-err_moments g c = rw c.into_disk.ensures (opened_leaves g.D.SectorDisk c.args.store c.in-Ok.store c.in-Ok.ensures)
 
 pub returns-in_default-new-clause-refuses : goal.returns-in_default-new-clause-refuses
 returns-in_default-new-clause-refuses g c =
-    let e = c.in-Ok.ensures in
-    let opened : IsOpened g.D.SectorDisk c.args.store c.in-Ok.store = record {
-      ready = e.ready;
-      size = e.size;
-      layout = e.good_layout;
-      journal = e.good_journal;
-      leaves = e.now;
-      homes = e.homes;
-      kept = e.kept;
-      later = e.later;
-      calm = e.calm;
-      asks = e.asks;
-      moments = record { any_moment = e.any_moment; in_a_row = e.in_a_row };
-    } in
     rw c.into_disk-in_default-new.ensures (refuses_memory g.D.SectorDisk c.args.config _ c.args.store c.in-Ok.store (fine_frames c.args.config c.if-config-lt-MIN_FRAMES.false c.if-config-gt-MAX_FRAMES.false)
-    (fine_slots c.args.config _ _ _ c.if-config-gt-MAX_SLOTS.false c.from.ensures c.sectors.ensures c.if-from-sectors.false) opened)
+    (fine_slots c.args.config _ _ _ c.if-config-gt-MAX_SLOTS.false c.from.ensures c.sectors.ensures c.if-from-sectors.false) c.in-Ok.ensures)
 
 pub returns-in_default-new-clause-err_moments : goal.returns-in_default-new-clause-err_moments
 returns-in_default-new-clause-err_moments g c =
-    rw c.into_disk-in_default-new.ensures (record { any_moment = c.in-Ok.ensures.any_moment; in_a_row = c.in-Ok.ensures.in_a_row })
+    rw c.into_disk-in_default-new.ensures (opened_leaves g.D.SectorDisk c.args.store c.in-Ok.store c.in-Ok.ensures)
 
 pub returns-in-Err-new-clause-refuses : goal.returns-in-Err-new-clause-refuses
 returns-in-Err-new-clause-refuses g c =
-    let e = c.in-Ok.ensures in
-    let opened : IsOpened g.D.SectorDisk c.args.store c.in-Ok.store = record {
-      ready = e.ready;
-      size = e.size;
-      layout = e.good_layout;
-      journal = e.good_journal;
-      leaves = e.now;
-      homes = e.homes;
-      kept = e.kept;
-      later = e.later;
-      calm = e.calm;
-      asks = e.asks;
-      moments = record { any_moment = e.any_moment; in_a_row = e.in_a_row };
-    } in
     rw (c.into_disk-in-Err-new.ensures, c.in-Err-new.ensures.err) (refuses_memory g.D.SectorDisk c.args.config _ c.args.store c.in-Ok.store (fine_frames c.args.config c.if-config-lt-MIN_FRAMES.false c.if-config-gt-MAX_FRAMES.false)
-    (fine_slots c.args.config _ _ _ c.if-config-gt-MAX_SLOTS.false c.from.ensures c.sectors.ensures c.if-from-sectors.false) opened)
+    (fine_slots c.args.config _ _ _ c.if-config-gt-MAX_SLOTS.false c.from.ensures c.sectors.ensures c.if-from-sectors.false) c.in-Ok.ensures)
 
 pub returns-in-Err-new-clause-err_moments : goal.returns-in-Err-new-clause-err_moments
 returns-in-Err-new-clause-err_moments g c =
-    rw (c.into_disk-in-Err-new.ensures, c.in-Err-new.ensures.err) (record { any_moment = c.in-Ok.ensures.any_moment; in_a_row = c.in-Ok.ensures.in_a_row })
+    rw (c.into_disk-in-Err-new.ensures, c.in-Err-new.ensures.err) (opened_leaves g.D.SectorDisk c.args.store c.in-Ok.store c.in-Ok.ensures)
 
 pub returns-in-Ok-new-3-clause-boots : goal.returns-in-Ok-new-3-clause-boots
 returns-in-Ok-new-3-clause-boots g c =
-    let e = c.in-Ok.ensures in
-    let opened : IsOpened g.D.SectorDisk c.args.store c.in-Ok.store = record {
-      ready = e.ready;
-      size = e.size;
-      layout = e.good_layout;
-      journal = e.good_journal;
-      leaves = e.now;
-      homes = e.homes;
-      kept = e.kept;
-      later = e.later;
-      calm = e.calm;
-      asks = e.asks;
-      moments = record { any_moment = e.any_moment; in_a_row = e.in_a_row };
-    } in
     let made = c.in-Ok-new-3.ensures in
     boots g.D.SectorDisk g.E.SectorDisk c.args.store _ c.args.config.frames c.args.config.slots refl c.in-Ok-new.ensures
-    (subst (λ store. IsOpened g.D.SectorDisk c.args.store store) (sym made.store) opened) made.start
+    (subst (λ store. OpensFrom g.D.SectorDisk c.args.store store) (sym made.store) c.in-Ok.ensures) made.start
 
 pub returns-in-Ok-new-3-clause-accepts : goal.returns-in-Ok-new-3-clause-accepts
 returns-in-Ok-new-3-clause-accepts g c =
-    let e = c.in-Ok.ensures in
-    let opened : IsOpened g.D.SectorDisk c.args.store c.in-Ok.store = record {
-      ready = e.ready;
-      size = e.size;
-      layout = e.good_layout;
-      journal = e.good_journal;
-      leaves = e.now;
-      homes = e.homes;
-      kept = e.kept;
-      later = e.later;
-      calm = e.calm;
-      asks = e.asks;
-      moments = record { any_moment = e.any_moment; in_a_row = e.in_a_row };
-    } in
     rw c.in-Ok-new-3.ensures.store (accepts g.D.SectorDisk c.args.config _ c.args.store c.in-Ok.store (fine_frames c.args.config c.if-config-lt-MIN_FRAMES.false c.if-config-gt-MAX_FRAMES.false)
-    (fine_slots c.args.config _ _ _ c.if-config-gt-MAX_SLOTS.false c.from.ensures c.sectors.ensures c.if-from-sectors.false) opened)
+    (fine_slots c.args.config _ _ _ c.if-config-gt-MAX_SLOTS.false c.from.ensures c.sectors.ensures c.if-from-sectors.false) c.in-Ok.ensures)
 
 pub returns-in-Ok-new-3-clause-moments : goal.returns-in-Ok-new-3-clause-moments
-returns-in-Ok-new-3-clause-moments g c = rw c.in-Ok-new-3.ensures.store (record { any_moment = c.in-Ok.ensures.any_moment; in_a_row = c.in-Ok.ensures.in_a_row })
+returns-in-Ok-new-3-clause-moments g c = rw c.in-Ok-new-3.ensures.store (opened_leaves g.D.SectorDisk c.args.store c.in-Ok.store c.in-Ok.ensures)

@@ -1,5 +1,4 @@
-use Rattle.std.proofs.Common.{rules, refl, ap}
-use Rattle.vm_types.specs.{Replies.{reply_of}, declared.command.Command.TheVariants.{Spawn, Fork, Exit, Mmap, Munmap, Mprotect, Dontneed, Load, Store, Fetch}}
+use Rattle.machine.proofs.Names.{rules, refl, ap, reply_of, Spawn, Fork, Exit, Mmap, Munmap, Mprotect, Dontneed, Load, Store, Fetch}
 use Rattle.machine.proofs.{Accesses.{apart, carries_out, faults_live, fetch_live, given_back, lives, load_live, on_page, store_live}, Flat.{halted_accesses, stays_halted}}
 use Rattle.machine.proofs.engine.Engine.carry_out.Goals as goal
 

@@ -1,5 +1,5 @@
-use Rattle.std.proofs.Common.{◌≡◌, true, false, rules, sym, ap, ◌∙◌}
-use Rattle.vm_types.specs.{declared.refusal.Errno.TheVariants.{EIO}, declared.reply.Answer.TheVariants.{Refused}, Replies.{reply_of}}
+use Rattle.machine.proofs.Names.{◌≡◌, true, false, rules, sym, ap, ◌∙◌, EIO, reply_of}
+use Rattle.vm_types.specs.declared.reply.Answer.TheVariants.{Refused}
 use Rattle.machine.proofs.{Commits.{msync_meets}, Causes.{msync_caused}, Accesses.{refused_so}}
 use Rattle.machine.proofs.engine.Engine.msync.Goals as goal
 

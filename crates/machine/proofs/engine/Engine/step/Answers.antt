@@ -1,9 +1,7 @@
-use Rattle.std.proofs.Common.{sym, ap, subst, ◌∙◌}
+use Rattle.machine.proofs.Names.{sym, ap, subst, ◌∙◌, Reply, picture_of}
 use Rattle.std.specs.Prelude.{is_some}
-use Rattle.vm_types.specs.{declared.reply.Reply.{Reply}, declared.reply.Reply.TheVariants.{Past}}
-use Rattle.machine.specs.EngineCommands.{EngineCarriesOut}
-use Rattle.residency.specs.Picture.{picture_of}
-use Rattle.machine.proofs.Tidied.{tidied}
+use Rattle.vm_types.specs.declared.reply.Reply.TheVariants.{Past}
+use Rattle.machine.{specs.EngineCommands.{EngineCarriesOut}, proofs.Tidied.{tidied}}
 use Rattle.machine.proofs.engine.Engine.step.Goals as goal
 
 pub returns-in-Some-clause-carries : goal.returns-in-Some-clause-carries

@@ -1,4 +1,4 @@
-use Rattle.std.proofs.Common.{◌≡◌, ◌≤◌, ◌++◌, length}
+use Rattle.machine.proofs.Names.{◌≡◌, ◌≤◌, ◌++◌, length}
 use Rattle.machine.proofs.fault_log.FaultLog.history.Given as goal
 
 abbrev pub invariant-loop-pid : goal.invariant-loop-pid

@@ -1,7 +1,5 @@
-use Rattle.std.proofs.{Common.{◌≡◌, ◌+◌, ◌++◌, ◌∷◌, [], ◌<◌, List, length, take, set, refl, sym, ◌∙◌, ap, subst, arith, length-set, take_all}, lemmas.List.{take_more, take_more_set}}
-use Rattle.vm_types.specs.{declared.command.Command.{Command}, declared.reply.Reply.{Reply}}
-use Rattle.machine.specs.{Chain.{Caused}, Commands.{DoesEachAsTold}}
-use Rattle.machine.proofs.{Counts.{counts}, Face.{readable}, Runs.{all_ran, caused_more, ran_more, room_then, RanSoFar}}
+use Rattle.machine.proofs.Names.{◌≡◌, ◌+◌, ◌++◌, ◌∷◌, [], ◌<◌, List, length, take, set, refl, sym, ◌∙◌, ap, subst, arith, length-set, take_all, take_more, take_more_set, Command, Reply}
+use Rattle.machine.{specs.{Chain.{Caused}, Commands.{DoesEachAsTold}}, proofs.{Counts.{counts}, Face.{readable}, Runs.{all_ran, caused_more, ran_more, room_then, RanSoFar}}}
 use Rattle.machine.proofs.machine.Machine.run.Goals as goal
 
 pub loop-i-init : goal.loop-i-init

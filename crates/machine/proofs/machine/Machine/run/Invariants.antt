@@ -1,7 +1,5 @@
-use Rattle.std.proofs.Common.{length, take, ◌≡◌}
-use Rattle.vm_types.specs.State.{State}
-use Rattle.machine.specs.{Chain.{Caused}, Commands.{KeepsModelsAndRoom}, Machine.{store_of, swap_of, IsSoundMachine, Shows}}
-use Rattle.machine.proofs.Runs.{RanSoFar}
+use Rattle.machine.proofs.Names.{length, take, ◌≡◌, State}
+use Rattle.machine.{specs.{Chain.{Caused}, Commands.{KeepsModelsAndRoom}, Machine.{store_of, swap_of, IsSoundMachine, Shows}}, proofs.Runs.{RanSoFar}}
 use Rattle.machine.proofs.machine.Machine.run.Given as goal
 
 abbrev pub invariant-loop-i : goal.invariant-loop-i

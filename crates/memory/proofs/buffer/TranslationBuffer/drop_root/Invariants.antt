@@ -1,5 +1,4 @@
-use Rattle.std.proofs.Common.{◌≡◌, ◌≢◌, ℕ, ◌<◌, None, length}
-use Rattle.memory.specs.Lines.{line_at, line_place}
+use Rattle.memory.{specs.Lines.{line_at, line_place}, proofs.Names.{◌≡◌, ◌≢◌, ℕ, ◌<◌, None, length}}
 use Rattle.memory.proofs.buffer.TranslationBuffer.drop_root.Given as goal
 
 abbrev pub invariant-loop-place : goal.invariant-loop-place

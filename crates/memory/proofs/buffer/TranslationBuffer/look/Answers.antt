@@ -1,6 +1,4 @@
-use Rattle.std.proofs.{Common.{rules, ◌≡◌, ℕ, ◌%◌, Some, None, sym, ap, ◌∙◌, slice_index_or, length, arith}, lemmas.List.{get_or_default}}
-use Rattle.memory.specs.Lines.{line_at}
-use Rattle.memory.proofs.Looks.{agrees, kept_here}
+use Rattle.memory.{specs.Lines.{line_at}, proofs.{Names.{rules, ◌≡◌, ℕ, ◌%◌, Some, None, sym, ap, ◌∙◌, slice_index_or, length, arith, get_or_default}, Looks.{agrees, kept_here}}}
 use Rattle.memory.proofs.buffer.TranslationBuffer.look.Goals as goal
 
 pub returns-in-Some-clause-agrees : goal.returns-in-Some-clause-agrees

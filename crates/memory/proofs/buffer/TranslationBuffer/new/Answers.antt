@@ -1,5 +1,4 @@
-use Rattle.std.proofs.{Common.{◌%◌, None, Option, ap, arith}, lemmas.List.{get_or-replicate}}
-use Rattle.memory.specs.{Lines.{leaf_for}, declared.line.Line.{Line}}
+use Rattle.memory.{specs.{Lines.{leaf_for}, declared.line.Line.{Line}}, proofs.Names.{◌%◌, None, Option, ap, arith, get_or-replicate}}
 use Rattle.memory.proofs.buffer.TranslationBuffer.new.Goals as goal
 
 pub returns : goal.returns

@@ -1,6 +1,4 @@
-use Rattle.frames.specs.FrameTable.{with_bytes}
-use Rattle.frames.proofs.FrameLemmas.{with_bytes-others}
-use Rattle.memory.proofs.{Keeping.{data_leaf, kept_data}, Noting.{data_back, noted_data}}
+use Rattle.memory.proofs.{Names.{with_bytes, with_bytes-others}, Keeping.{data_leaf, kept_data}, Noting.{data_back, noted_data}}
 use Rattle.memory.proofs.memory.Memory.bytes_mut.Goals as goal
 
 pub invariant_of-self-lent : goal.invariant_of-self-lent

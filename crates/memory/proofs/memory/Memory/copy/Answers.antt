@@ -1,8 +1,4 @@
-use Rattle.std.proofs.Common.{sym, subst}
-use Rattle.frames.specs.FrameTable.{FrameTable, bytes_of, with_bytes}
-use Rattle.frames.proofs.FrameLemmas.{with_bytes-others}
-use Rattle.memory.specs.{Kept.{LinesAreLeaves}, Notes.{AreNoted}}
-use Rattle.memory.proofs.{Keeping.{data_leaf, kept_data}, Noting.{data_back, noted_data}}
+use Rattle.memory.{specs.{Kept.{LinesAreLeaves}, Notes.{AreNoted}}, proofs.{Names.{sym, subst, FrameTable, bytes_of, with_bytes, with_bytes-others}, Keeping.{data_leaf, kept_data}, Noting.{data_back, noted_data}}}
 use Rattle.memory.proofs.memory.Memory.copy.Goals as goal
 
 pub invariant_of-self : goal.invariant_of-self

@@ -1,7 +1,4 @@
-use Rattle.std.proofs.Common.{◌≡◌, sym, subst, ◌∙◌}
-use Rattle.frames.specs.{FrameTable.{FrameTable}, declared.role.Role.TheVariants.{Private, Table}}
-use Rattle.page_tables.specs.Tree.{IsSpare}
-use Rattle.memory.proofs.{Keeping.{dropped_leaf, kept_by, no_more}, Noting.{dropped_back, noted_by}}
+use Rattle.memory.proofs.{Names.{◌≡◌, sym, subst, ◌∙◌, FrameTable, Private, Table, IsSpare}, Keeping.{dropped_leaf, kept_by, no_more}, Noting.{dropped_back, noted_by}}
 use Rattle.memory.proofs.memory.Memory.release_root.Goals as goal
 
 pub invariant_of-self : goal.invariant_of-self

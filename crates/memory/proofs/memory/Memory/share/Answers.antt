@@ -1,6 +1,4 @@
-use Rattle.std.proofs.Common.{◌≡◌, ◌≢◌, sym, ap, ◌∙◌, subst, get_or}
-use Rattle.frames.specs.{FrameTable.{FrameTable, role_of}, declared.role.Role.{Role}, declared.role.Role.TheVariants.{Free, Private, Table}}
-use Rattle.memory.proofs.{Keeping.{data_leaf, kept_by, no_more}, Noting.{data_back, noted_by}}
+use Rattle.memory.proofs.{Names.{◌≡◌, ◌≢◌, sym, ap, ◌∙◌, subst, get_or, FrameTable, role_of, Role, Free, Private, Table}, Keeping.{data_leaf, kept_by, no_more}, Noting.{data_back, noted_by}}
 use Rattle.memory.proofs.memory.Memory.share.Goals as goal
 
 private_is_no_table : (r : Role) → r ≡ Private → r ≢ Table

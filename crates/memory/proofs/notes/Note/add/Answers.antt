@@ -1,7 +1,5 @@
-use Rattle.std.proofs.{Common.{◌≡◌, ◌*◌, ◌^◌, ◌%◌, bit_or, ℕ, inl, inr, refl, sym, ◌∙◌, subst, arith, eqb-true}, lemmas.Bool.{cases_eq}, lemmas.Nat.Bits.{bit_at-zero, bit_at_set_same, bit_at_set_other}}
-use Rattle.std.specs.Int.{bit_at, w64}
+use Rattle.memory.proofs.{Names.{◌≡◌, ◌*◌, ◌^◌, ◌%◌, bit_or, ℕ, inl, inr, refl, sym, ◌∙◌, subst, arith, eqb-true, cases_eq, bit_at-zero, bit_at_set_same, bit_at_set_other, bit_at, w64}, notes.Note.add.Goals.{then-self-eq0, else-self-eq0}}
 use Rattle.memory.proofs.notes.Note.add.Goals as goal
-use Rattle.memory.proofs.notes.Note.add.Goals.{then-self-eq0, else-self-eq0}
 
 set_here : (kinds root : ℕ) → bit_at (bit_or kinds (1 * 2 ^ (root % 64) % 18446744073709551616)) (root % 64) ≡ 1
 set_here kinds root = bit_at_set_same w64 kinds (root % 64) (omega arith)

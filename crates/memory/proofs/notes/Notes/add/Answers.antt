@@ -1,5 +1,4 @@
-use Rattle.std.proofs.{Common.{◌<◌, ℕ, inl, inr, sym, subst, arith, get_or, slice_set, length, get_or-set_same, get_or-set_other}, lemmas.Bool.{cases_eq}, lemmas.List.{get_or_read}}
-use Rattle.memory.specs.{declared.notes.Note.{Note}, Notes.{Covers, no_note}}
+use Rattle.memory.{specs.{declared.notes.Note.{Note}, Notes.{Covers, no_note}}, proofs.Names.{◌<◌, ℕ, inl, inr, sym, subst, arith, get_or, slice_set, length, get_or-set_same, get_or-set_other, cases_eq, get_or_read}}
 use Rattle.memory.proofs.notes.Notes.add.Goals as goal
 
 pub returns-then-n-len-clause-kept : goal.returns-then-n-len-clause-kept

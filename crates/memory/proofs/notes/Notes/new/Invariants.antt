@@ -1,4 +1,4 @@
-use Rattle.std.proofs.Common.{◌≡◌, ◌≤◌, vec_len, vec_capacity}
+use Rattle.memory.proofs.Names.{◌≡◌, ◌≤◌, vec_len, vec_capacity}
 use Rattle.memory.proofs.notes.Notes.new.Given as goal
 
 abbrev pub invariant-loop-n : goal.invariant-loop-n

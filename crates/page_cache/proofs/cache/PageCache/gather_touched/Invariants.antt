@@ -1,7 +1,6 @@
 use Rattle.std.proofs.Common.{◌≡◌, ℕ, ◌<◌, Some, get_or}
 use Rattle.vm_types.specs.declared.object.PageKey.TheVariants.{File}
-use Rattle.page_cache.specs.{Nodes.{page_at}, Inside.{cache_table_of}}
-use Rattle.page_cache.proofs.GatherLemmas.{IsPart}
+use Rattle.page_cache.{specs.{Nodes.{page_at}, Inside.{cache_table_of}}, proofs.GatherLemmas.{IsPart}}
 use Rattle.page_cache.proofs.cache.PageCache.gather_touched.Given as goal
 
 -- the nodes at the places before this one were looked at

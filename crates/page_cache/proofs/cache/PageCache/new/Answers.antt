@@ -1,5 +1,4 @@
-use Rattle.page_cache.specs.Inside.{cache_table_of}
-use Rattle.page_cache.proofs.TableLemmas.{IsFresh-empty, IsSound-fresh}
+use Rattle.page_cache.{specs.Inside.{cache_table_of}, proofs.TableLemmas.{IsFresh-empty, IsSound-fresh}}
 use Rattle.page_cache.proofs.cache.PageCache.new.Goals as goal
 
 pub returns-clause-fresh : goal.returns-clause-fresh

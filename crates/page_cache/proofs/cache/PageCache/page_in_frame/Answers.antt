@@ -1,6 +1,5 @@
 use Rattle.std.proofs.Common.{◌<◌}
-use Rattle.page_cache.specs.{declared.place.Place.TheVariants.{Frame}, Inside.{cache_table_of}}
-use Rattle.page_cache.proofs.TableLemmas.{held_at, none_at, place_in-frame}
+use Rattle.page_cache.{specs.{declared.place.Place.TheVariants.{Frame}, Inside.{cache_table_of}}, proofs.TableLemmas.{held_at, none_at, place_in-frame}}
 use Rattle.page_cache.proofs.cache.PageCache.page_in_frame.Goals as goal
 
 pub returns-clause-held : goal.returns-clause-held

@@ -1,6 +1,5 @@
 use Rattle.std.proofs.Common.{◌≡◌, Some, None, sym, ◌∙◌}
-use Rattle.page_cache.specs.{Inside.{cache_table_of}, Nodes.{first_node}}
-use Rattle.page_cache.proofs.{NodeLemmas.{first_node-removed}, SetLemmas.{members-at}, TableLemmas.{is_touched-first, place_of-first}, Changes.{IsWhole-taken, SameButFor-taken}}
+use Rattle.page_cache.{specs.{Inside.{cache_table_of}, Nodes.{first_node}}, proofs.{NodeLemmas.{first_node-removed}, SetLemmas.{members-at}, TableLemmas.{is_touched-first, place_of-first}, Changes.{IsWhole-taken, SameButFor-taken}}}
 use Rattle.page_cache.proofs.cache.PageCache.take_out.Goals as goal
 
 pub returns-in_default-clause-was : goal.returns-in_default-clause-was

@@ -1,6 +1,5 @@
 use Rattle.std.proofs.{Common.{◌≡◌, ◌+◌, ◌<◌, length, get_or, sym, ap, ◌∙◌, None, inl, inr, refl, arith, below_more}, lemmas.List.{get_or_read}}
-use Rattle.page_cache.specs.{Nodes.{holds}, Chains.{bucket_of, IsNext}}
-use Rattle.page_cache.proofs.{NodeLemmas.{first_node-found, first_node-none, holds-true}, ChainLemmas.{passed-none}}
+use Rattle.page_cache.{specs.{Nodes.{holds}, Chains.{bucket_of, IsNext}}, proofs.{NodeLemmas.{first_node-found, first_node-none, holds-true}, ChainLemmas.{passed-none}}}
 use Rattle.page_cache.proofs.index.Index.find.Goals as goal
 
 pub loop-node-init : goal.loop-node-init

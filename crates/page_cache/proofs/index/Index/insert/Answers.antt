@@ -8,5 +8,5 @@ returns-clause-chained c =
     let seat = c.seat-at.ensures.seat in
     let at_inside = link-inside index.pages.items index.links.items index.mask c.bucket_of.result seat.low c.seat-at.result c.requires.chained c.bucket_of.ensures.within seat.link in
     let read = get_or_read index.links.items c.seat-at.result c.index.result.now at_inside c.index.ensures 0 in
-    rw read (IsChained-inserted index.pages.items index.links.items index.mask c.bucket_of.result c.args.node c.seat-at.result c.args.page
-    c.requires.chained c.bucket_of.ensures.within c.requires.free c.requires.inside (sym c.bucket_of.ensures.bucket) seat c.seat-at.ensures.from)
+    rw read (IsChained-inserted index.pages.items index.links.items index.mask c.bucket_of.result c.args.node c.seat-at.result
+    c.requires.chained c.bucket_of.ensures.within seat c.seat-at.ensures.from c.args.page c.requires.free c.requires.inside (sym c.bucket_of.ensures.bucket))

@@ -1,6 +1,5 @@
 use Rattle.std.proofs.{Common.{◌≡◌, ◌+◌, true, arith}, lemmas.List.{get_or_read}}
-use Rattle.page_cache.specs.{Nodes.{page_at}, Chains.{is_in_bucket}}
-use Rattle.page_cache.proofs.{NodeLemmas.{page_at-within}, ChainLemmas.{bucket-own, IsChained-removed}}
+use Rattle.page_cache.{specs.{Nodes.{page_at}, Chains.{is_in_bucket}}, proofs.{NodeLemmas.{page_at-within}, ChainLemmas.{bucket-own, IsChained-removed}}}
 use Rattle.page_cache.proofs.index.Index.remove.Goals as goal
 
 pub returns-clause-chained : goal.returns-clause-chained
@@ -11,4 +10,4 @@ returns-clause-chained c =
     rw (c.requires.held, c.bucket_of.ensures.bucket) (bucket-own index.mask c.args.page) in
     let read = get_or_read index.links.items (index.mask + 1 + c.args.node) c.index.result.now (omega (arith, c.requires.chained.count)) c.index.ensures 0 in
     rw read (IsChained-removed index.pages.items index.links.items index.mask c.bucket_of.result c.args.node c.seat-at.result
-    c.requires.chained c.bucket_of.ensures.within held c.seat-at.ensures.seat c.seat-at.ensures.from)
+    c.requires.chained c.bucket_of.ensures.within c.seat-at.ensures.seat c.seat-at.ensures.from held)

@@ -1,6 +1,5 @@
 use Rattle.std.proofs.{Common.{◌≡◌, ◌+◌, ◌<◌, true, get_or, refl, sym, ◌∙◌, inr, arith}, lemmas.List.{get_or_read}}
-use Rattle.page_cache.specs.{Nodes.{page_at}, Chains.{is_in_bucket, IsNext}}
-use Rattle.page_cache.proofs.ChainLemmas.{link-inside}
+use Rattle.page_cache.{specs.{Nodes.{page_at}, Chains.{is_in_bucket, IsNext}}, proofs.ChainLemmas.{link-inside}}
 use Rattle.page_cache.proofs.index.Index.seat.Goals as goal
 
 -- where the link leads, and that this is a node of the bucket

@@ -1,6 +1,5 @@
 use Rattle.std.proofs.{Common.{get_or, refl, arith, rules}, lemmas.List.{get_or_read}}
-use Rattle.page_cache.specs.Sets.{HaveSwapped}
-use Rattle.page_cache.proofs.SetLemmas.{inserted}
+use Rattle.page_cache.{specs.Sets.{HaveSwapped}, proofs.SetLemmas.{inserted}}
 use Rattle.page_cache.proofs.node_set.NodeSet.insert.Goals as goal
 
 pub returns-then-rank-self : goal.returns-then-rank-self

@@ -1,6 +1,5 @@
 use Rattle.std.proofs.Common.{◌<◌, ◌∙◌, List, ap, length, get_or, sym, subst, arith}
-use Rattle.regions.specs.{declared.run.Run.{Run}, Run.{IsRun}, Search.{first_on}}
-use Rattle.regions.proofs.{PushLemmas.{unused}, StandLemmas.{behind_run, on_behind}}
+use Rattle.regions.{specs.{declared.run.Run.{Run}, Run.{IsRun}, Search.{first_on}}, proofs.{PushLemmas.{unused}, StandLemmas.{behind_run, on_behind}}}
 use Rattle.regions.proofs.table.Regions.first_page.Goals as goal
 
 pub loop-run-init : goal.loop-run-init
@@ -8,8 +7,7 @@ loop-run-init g c = ap (λ (l : List Run). first_on c.args.low c.args.key l) c.r
 
 pub page_on-requires : goal.page_on-requires
 page_on-requires g c =
-    let P : List Run → Type 0 = λ l. c.loop-run.run-index < length l → IsRun g.M.Levels.mode (get_or l c.loop-run.run-index unused) in
-    let run = subst P (sym c.runs_behind-run-items.ensures.found)
+    let run = subst (λ (l : List Run). c.loop-run.run-index < length l → IsRun g.M.Levels.mode (get_or l c.loop-run.run-index unused)) (sym c.runs_behind-run-items.ensures.found)
     (behind_run g.M.Levels.mode 16 c.args.low c.args.self.now c.loop-run.run-index unused c.runs_behind-run-items.ensures.maximal)
     c.loop-run-test.true in
     omega (arith, run.nonempty)

@@ -1,6 +1,5 @@
 use Rattle.std.proofs.Common.{◌∙◌, List, ap}
-use Rattle.regions.specs.{declared.run.Run.{Run}, Search.{gap_from}}
-use Rattle.regions.proofs.BehindLemmas.{gap_behind}
+use Rattle.regions.{specs.{declared.run.Run.{Run}, Search.{gap_from}}, proofs.BehindLemmas.{gap_behind}}
 use Rattle.regions.proofs.table.Regions.gap_from.Goals as goal
 
 pub loop-run-init : goal.loop-run-init

@@ -1,6 +1,5 @@
 use Rattle.std.proofs.Common.{List, sym, ◌∙◌, ap, arith}
-use Rattle.regions.specs.{declared.run.Run.{Run}, RunList.{joins_last}}
-use Rattle.regions.proofs.PushLemmas.{joins_last-is, last_run, unused}
+use Rattle.regions.{specs.{declared.run.Run.{Run}, RunList.{joins_last}}, proofs.PushLemmas.{joins_last-is, last_run, unused}}
 use Rattle.regions.proofs.table.Regions.joins_last.Goals as goal
 
 pub joins-requires : goal.joins-requires

@@ -1,5 +1,4 @@
-use Rattle.regions.specs.RunList.{attr_at}
-use Rattle.regions.proofs.WalkLemmas.{first_part-is, next_none, next_some}
+use Rattle.regions.{specs.RunList.{attr_at}, proofs.WalkLemmas.{first_part-is, next_none, next_some}}
 use Rattle.regions.proofs.table.Regions.next_run.Goals as goal
 
 pub returns-clause-none : goal.returns-clause-none

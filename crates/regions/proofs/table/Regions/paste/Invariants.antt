@@ -1,6 +1,5 @@
 use Rattle.std.proofs.Common.{◌≡◌, ◌≤◌, drop, length}
-use Rattle.regions.specs.RunList.{pasted}
-use Rattle.regions.proofs.PasteLemmas.{Pending}
+use Rattle.regions.{specs.RunList.{pasted}, proofs.PasteLemmas.{Pending}}
 use Rattle.regions.proofs.table.Regions.paste.Given as goal
 
 -- the rest pasted behind what is there is what is to come

@@ -1,6 +1,5 @@
 use Rattle.std.proofs.{Common.{◌≡◌, ℕ, ◌+◌, ◌-◌, ◌<◌, ◌≤◌, true, false, List, length, take, set, get_or, sym, ◌∙◌, ap, subst, arith, add-one, length-set}, lemmas.List.{length-take-le}}
-use Rattle.regions.specs.{declared.run.Run.{Run}, Run.{merged}, RunList.{end_of, IsMaximal, joins_last, pushed}}
-use Rattle.regions.proofs.{ListLemmas.{maximal-pushed}, PushLemmas.{added_at, merged_last, length_added, some_last, unused}}
+use Rattle.regions.{specs.{declared.run.Run.{Run}, Run.{merged}, RunList.{end_of, IsMaximal, joins_last, pushed}}, proofs.{ListLemmas.{maximal-pushed}, PushLemmas.{added_at, merged_last, length_added, some_last, unused}}}
 use Rattle.regions.proofs.table.Regions.push.Goals as goal
 
 -- the runs with the new one behind

@@ -1,6 +1,5 @@
 use Rattle.std.proofs.Common.{◌+◌, arith, rules}
-use Rattle.regions.specs.RunList.{list_removed}
-use Rattle.regions.proofs.{MapLemmas.{front_end_high, removed_is}, ResultLemmas.{made, removes, too_long}}
+use Rattle.regions.{specs.RunList.{list_removed}, proofs.{MapLemmas.{front_end_high, removed_is}, ResultLemmas.{made, removes, too_long}}}
 use Rattle.regions.proofs.table.Regions.remove_into.Goals as goal
 
 pub returns-in_err-paste : goal.returns-in_err-paste

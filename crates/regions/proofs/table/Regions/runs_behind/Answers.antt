@@ -1,6 +1,5 @@
 use Rattle.std.proofs.{Common.{◌∙◌, List, ap, leb, sym, subst, rules}, lemmas.List.{take_rest}, lemmas.List.Sorted.{IsPartitionPoint-from_clause, IsPartitionedBy-leb}}
-use Rattle.regions.specs.{declared.run.Run.{Run}, RunList.{IsMaximal}, Search.{runs_behind}}
-use Rattle.regions.proofs.BehindLemmas.{ends_rise, point_behind}
+use Rattle.regions.{specs.{declared.run.Run.{Run}, RunList.{IsMaximal}, Search.{runs_behind}}, proofs.BehindLemmas.{ends_rise, point_behind}}
 use Rattle.regions.proofs.table.Regions.runs_behind.Goals as goal
 
 pub returns : goal.returns

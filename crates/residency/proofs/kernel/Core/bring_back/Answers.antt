@@ -1,11 +1,6 @@
-use Rattle.std.proofs.Common.{◌≡◌, None, refl, sym, ap, ◌∙◌, subst, arith, rules}
-use Rattle.frames.specs.declared.role.Role.TheVariants.{Free, Table, Private, Cache}
-use Rattle.frames.proofs.FrameLemmas.{with_bytes-same}
-use Rattle.swap.specs.Slots.{slots_of, IsSectorOfSlot}
-use Rattle.page_cache.specs.declared.place.Place.TheVariants.{Home, Frame, Slot}
-use Rattle.residency.specs.{Picture.{Picture, picture_of}, Capacity.{IsShort}, Views.{ChoosesByClock}}
-use Rattle.residency.proofs.{Asking.{asks_between, also_asked, one_also}, BroughtIn.{frames_written}, Obtained.{also_on, chosen, clock_on, comes_back, comes_taken, comes_stall, given_back, given_on, seeks_stall}}
-use Rattle.residency.proofs.Returning.{leaves_slot, all_spent}
+use Rattle.residency.proofs.Names.{◌≡◌, ◌<◌, None, refl, sym, ap, ◌∙◌, subst, arith, rules, Free, Table, Private, Cache, with_bytes-same, slots_of, IsSectorOfSlot, Home, Frame, Slot}
+use Rattle.residency.{specs.{Picture.{Picture, picture_of}, Calls.{UsesDevice}, Capacity.{IsShort}, Views.{ChoosesByClock}}, proofs.{Asking.{asks_between, also_asked, one_also}, BroughtIn.{frames_written}}}
+use Rattle.residency.proofs.{Obtained.{also_on, chosen, clock_on, comes_back, comes_taken, comes_stall, device_read, given_back, given_on, seeks_stall}, Returning.{leaves_slot, all_spent}}
 use Rattle.residency.proofs.kernel.Core.bring_back.Goals as goal
 
 pub returns-in-Ok-get : goal.returns-in-Ok-get
@@ -19,6 +14,7 @@ returns-in-Ok-get g c =
     let there = got.frees.slotted page slot.0 c.requires.there in
     let written = frames_written c.obtain.new.core.frames c.take.new.self frame.0 c.get.new.to takes in
     let asks = asks_between g.E.SectorDisk (IsSectorOfSlot slot.0) c.obtain.new.core.swap c.obtain.new.core.swap c.get.new.self c.release.new.self refl c.release.ensures.pages c.get.ensures.asks in
+    let used = device_read got c.get.new.self.pages.disk c.get.ensures.size c.get.ensures.kept c.get.ensures.cause.later in
     record {
       same = λ keeps. (
           let was = c.requires.fit.places.slotted page slot.0 c.requires.there in
@@ -31,12 +27,12 @@ returns-in-Ok-get g c =
           (λ m at. (let bad : Slot slot ≡ Frame (record { 0 = m }) = sym there ∙ at in (cc)))
           (got.fit.places.inside page (λ home. (let bad : Slot slot ≡ Home = sym there ∙ home in (cc))))
           c.set_place.ensures.placed c.set_place.ensures.touched c.set_place.ensures.others (λ pid. refl) (λ pid k. refl) (λ m. refl) (λ f. refl);
-      rest = search rules;
+      rest = record { store = got.rest.store; roots = got.rest.roots; regions = got.rest.regions };
       clock = clock_on got frame takes.inside takes.was_free _ refl refl;
       asked = also_on got frame takes.inside takes.was_free _ (IsSectorOfSlot slot.0)
           (given_on got frame takes.inside takes.was_free _ written (λ t. (let bad : Cache ≡ Table = sym takes.kind_set ∙ t in (cc))) (λ pid. refl)) asks;
-      uses = record { swap = search rules; device = search rules; one = one_also g.E.SectorDisk c.args.self.now c.obtain.new.core c.release.new.self (IsSectorOfSlot slot.0) got.one asks };
-      refused = search rules;
+      uses = record { swap = search rules; device = subst (λ p. UsesDevice g.E.SectorDisk c.args.self.now.swap.pages.disk p.disk) (sym c.release.ensures.pages) used; one = one_also g.E.SectorDisk c.args.self.now c.obtain.new.core c.release.new.self (IsSectorOfSlot slot.0) got.one asks };
+      refused = record { refuses = tt; short = tt; cause = (got.cause.0, ap (λ p. g.E.SectorDisk.failures p.disk) c.release.ensures.pages ∙ c.in-Ok-get.ensures.cause.calm ∙ got.cause.1) };
     }
 
 pub returns-in-Err : goal.returns-in-Err
@@ -48,14 +44,15 @@ returns-in-Err g c =
     let takes = c.in-Ok.ensures.taken in
     let spent = all_spent mid c.take.new.self c.release-in-Err.new.self (slots_of c.get.new.self) mid.files frame.0 c.get.new.to takes c.release-in-Err.ensures.change c.get.ensures.same (λ f. refl) in
     let freed = c.release-in-Err.ensures.alone (λ own. (let bad : Cache ≡ Private = sym takes.kind_set ∙ own in (cc))) in
+    let used = device_read got c.get.new.self.pages.disk c.get.ensures.size c.get.ensures.kept c.get.ensures.cause.later in
     record {
-      same = search rules;
+      same = λ keeps. tt;
       comes = comes_back got frame takes.inside takes.was_free _ c.args.page _ spent freed;
-      rest = search rules;
+      rest = record { store = got.rest.store; roots = got.rest.roots; regions = got.rest.regions };
       clock = record { stands = got.stands; turns = λ full. (frame, chosen got frame takes.inside takes.was_free full); looks = got.looks };
       asked = also_on got frame takes.inside takes.was_free _ (IsSectorOfSlot c.args.slot.0) (given_back got frame takes.inside takes.was_free _ spent freed) c.get.ensures.asks;
-      uses = search rules;
-      refused = record { refuses = search rules; short = tt; cause = search rules };
+      uses = record { swap = c.get.ensures.ready; device = used; one = tt };
+      refused = record { refuses = tt; short = tt; cause = (got.cause.0, subst (λ n. n < g.E.SectorDisk.failures c.get.new.self.pages.disk) got.cause.1 (c.in-Err.ensures.cause.failed refl)) };
     }
 
 pub returns-in_err-obtain : goal.returns-in_err-obtain

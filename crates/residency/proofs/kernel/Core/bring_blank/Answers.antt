@@ -1,9 +1,5 @@
-use Rattle.std.proofs.Common.{◌≡◌, refl, sym, ◌∙◌, rules}
-use Rattle.vm_types.specs.{declared.object.PageKey.TheVariants.{Object}, View.{zero_page}}
-use Rattle.frames.specs.{declared.role.Role.TheVariants.{Free, Table, Cache}, FrameTable.{zero_bytes}}
-use Rattle.page_cache.specs.declared.place.Place.TheVariants.{Home, Frame}
-use Rattle.residency.specs.Picture.{Picture, picture_of}
-use Rattle.residency.proofs.{Obtained.{comes_taken, comes_stall, given_on, seeks_on, seeks_stall}, Places.{named-same}, Returning.{leaves_none}}
+use Rattle.residency.proofs.Names.{◌≡◌, refl, sym, ◌∙◌, rules, Object, zero_page, Free, Table, Cache, zero_bytes, Home, Frame}
+use Rattle.residency.{specs.Picture.{Picture, picture_of}, proofs.{Obtained.{comes_taken, comes_stall, given_on, seeks_on, seeks_stall}, Places.{named-same}, Returning.{leaves_none}}}
 use Rattle.residency.proofs.kernel.Core.bring_blank.Goals as goal
 
 zeros_alike : zero_bytes ≡ zero_page

@@ -1,12 +1,7 @@
-use Rattle.std.proofs.Common.{◌≡◌, ◌<◌, refl, sym, ap, ◌∙◌, subst, ℕ, rules}
+use Rattle.residency.proofs.Names.{◌≡◌, ◌<◌, refl, sym, ap, ◌∙◌, subst, ℕ, arith, rules, File, with_bytes-same, AreBounded, standing_page, entry_of, files_of, Free, Table, Private, Cache, Home, Frame}
 use Rattle.std.specs.Option.{option_map}
-use Rattle.vm_types.specs.declared.object.PageKey.TheVariants.{File}
-use Rattle.file_store.specs.{Standing.{AreBounded}, Store.{entry_of, files_of}}
-use Rattle.frames.specs.declared.role.Role.TheVariants.{Free, Table, Private, Cache}
-use Rattle.page_cache.specs.declared.place.Place.TheVariants.{Home, Frame}
-use Rattle.residency.specs.{Picture.{Picture, picture_of}, Capacity.{IsShort}, Views.{ChoosesByClock}}
-use Rattle.residency.proofs.{Asking.{asks_store, unasked_store}, BroughtIn.{frames_written}, Obtained.{asked_on, chosen, clock_on, comes_back, comes_taken, comes_stall, given_back, given_on, seeks_stall}}
-use Rattle.residency.proofs.Returning.{leaves_none, all_spent}
+use Rattle.residency.{specs.{Picture.{Picture, picture_of}, Capacity.{IsShort}, Views.{ChoosesByClock}}, proofs.{Asking.{asks_store, once_store, once_unasked, reads_none, reads_store}, BroughtIn.{frames_written}}}
+use Rattle.residency.proofs.{Obtained.{asked_on, chosen, clock_on, comes_back, comes_taken, comes_stall, given_back, given_on, reads_stall, seeks_stall}, Returning.{leaves_none, all_spent}}
 use Rattle.residency.proofs.kernel.Core.bring_in.Goals as goal
 
 pub returns-in-Ok-read_page : goal.returns-in-Ok-read_page
@@ -18,24 +13,27 @@ returns-in-Ok-read_page g c =
     let page = File c.args.page in
     let home = got.frees.home page c.requires.home in
     let written = frames_written c.obtain.new.core.frames c.take.new.self frame.0 c.read_page.new.to takes in
+    let once = once_store g.D.SectorDisk c.args.page c.args.self.now.store c.obtain.new.core.store c.read_page.new.self got.rest.store c.read_page.ensures.once in
     record {
-      read = search rules;
+      read = λ keeps. with_bytes-same c.take.new.self frame.0 c.read_page.new.to (let e = takes.others.frames in let inside = takes.inside in omega (arith, e, inside))
+          ∙ c.in-Ok-read_page.ensures.page keeps ∙ ap (λ s. standing_page (g.D.SectorDisk.content s.disk) c.args.page.file c.args.page.page) got.rest.store;
       comes = comes_taken got frame takes.inside takes.was_free _ page takes written takes.kind_set
           (leaves_none mid _ page home refl)
           (λ m at. (let bad : Home ≡ Frame (record { 0 = m }) = sym home ∙ at in (cc)))
           ((c.requires.inside.0, got.frees.pages.files.files c.args.page.file ∙ c.requires.inside.1, c.requires.inside.2))
           c.set_place.ensures.placed c.set_place.ensures.touched c.set_place.ensures.others (λ pid. refl) (λ pid k. refl) (λ m. refl) (λ f. ap (λ d. option_map (λ e. e.info) (entry_of d f)) c.in-Ok-read_page.ensures.files);
-      rest = search rules;
+      rest = record { roots = got.rest.roots; regions = got.rest.regions };
       clock = clock_on got frame takes.inside takes.was_free _ refl refl;
-      store = search rules;
-      asks = asks_store g.D.SectorDisk c.args.page c.args.self.now.store c.obtain.new.core.store c.read_page.new.self got.rest.store c.read_page.ensures.asks;
-      reads = search rules;
+      store = c.read_page.ensures.ready;
+      asks = asks_store g.D.SectorDisk c.args.page c.args.self.now.store c.read_page.new.self once;
+      once = once;
+      reads = reads_store g.D.SectorDisk c.args.page c.args.self.now.store c.obtain.new.core.store c.read_page.new.self got.rest.store c.read_page.ensures;
       asked = asked_on got frame takes.inside takes.was_free _ refl (given_on got frame takes.inside takes.was_free _ written (λ t. (let bad : Cache ≡ Table = sym takes.kind_set ∙ t in (cc))) (λ pid. refl));
       uses = record { swap = got.swap; device = got.device; one = got.one };
       refuses = tt;
       unread = tt;
       short = tt;
-      cause = search rules;
+      cause = (got.cause.0, c.in-Ok-read_page.ensures.cause.calm ∙ ap (λ s. g.D.SectorDisk.failures s.disk) got.rest.store, got.cause.1);
     }
 
 pub returns-in-Err : goal.returns-in-Err
@@ -47,20 +45,22 @@ returns-in-Err g c =
     let takes = c.in-Ok.ensures.taken in
     let spent = all_spent mid c.take.new.self c.release.new.self mid.slots (files_of c.read_page.new.self) frame.0 c.read_page.new.to takes c.release.ensures.change refl (λ f. ap (λ d. option_map (λ e. e.info) (entry_of d f)) c.in-Err.ensures.files) in
     let freed = c.release.ensures.alone (λ own. (let bad : Cache ≡ Private = sym takes.kind_set ∙ own in (cc))) in
+    let once = once_store g.D.SectorDisk c.args.page c.args.self.now.store c.obtain.new.core.store c.read_page.new.self got.rest.store c.read_page.ensures.once in
     record {
       read = tt;
       comes = comes_back got frame takes.inside takes.was_free _ (File c.args.page) _ spent freed;
-      rest = search rules;
+      rest = record { roots = got.rest.roots; regions = got.rest.regions };
       clock = record { stands = got.stands; turns = λ full. (frame, chosen got frame takes.inside takes.was_free full); looks = got.looks };
-      store = search rules;
-      asks = asks_store g.D.SectorDisk c.args.page c.args.self.now.store c.obtain.new.core.store c.read_page.new.self got.rest.store c.read_page.ensures.asks;
-      reads = search rules;
+      store = c.read_page.ensures.ready;
+      asks = asks_store g.D.SectorDisk c.args.page c.args.self.now.store c.read_page.new.self once;
+      once = once;
+      reads = reads_store g.D.SectorDisk c.args.page c.args.self.now.store c.obtain.new.core.store c.read_page.new.self got.rest.store c.read_page.ensures;
       asked = asked_on got frame takes.inside takes.was_free _ refl (given_back got frame takes.inside takes.was_free _ spent freed);
       uses = record { swap = got.swap; device = got.device; one = tt };
       refuses = λ other. other refl;
       unread = λ other. absurd (other refl);
       short = tt;
-      cause = search rules;
+      cause = (got.cause.0, subst (λ s. g.D.SectorDisk.failures s.disk < g.D.SectorDisk.failures c.read_page.new.self.disk) got.rest.store (c.in-Err.ensures.cause.failed refl), got.cause.1);
     }
 
 pub returns-in_err-obtain : goal.returns-in_err-obtain
@@ -68,20 +68,22 @@ unfolding ChoosesByClock
 returns-in_err-obtain g c =
     let got = c.in_err-obtain.ensures in
     let stalls = seeks_stall c.from_residual.result c.from_residual.ensures.1 got in
+    let once = once_unasked g.D.SectorDisk c.args.page c.args.self.now.store c.obtain.new.core.store got.rest.store in
     record {
       read = search rules;
       comes = comes_stall (File c.args.page) c.from_residual.result c.from_residual.ensures.1 got;
-      rest = search rules;
+      rest = record { roots = got.rest.roots; regions = got.rest.regions };
       clock = stalls.clock;
       store = search rules;
-      asks = unasked_store g.D.SectorDisk c.args.page c.args.self.now.store c.obtain.new.core.store got.rest.store;
-      reads = search rules;
+      asks = asks_store g.D.SectorDisk c.args.page c.args.self.now.store c.obtain.new.core.store once;
+      once = once;
+      reads = reads_none g.D.SectorDisk c.args.page c.args.self.now.store c.obtain.new.core.store got.rest.store;
       asked = got.asked;
       uses = stalls.uses;
       refuses = search rules;
       unread = search rules;
       short = stalls.short;
-      cause = search rules;
+      cause = reads_stall g.D.SectorDisk c.from_residual.result c.from_residual.ensures.1 got;
     }
 
 pub set_place-requires-clause-free : goal.set_place-requires-clause-free

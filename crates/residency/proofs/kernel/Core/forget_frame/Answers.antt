@@ -1,8 +1,4 @@
-use Rattle.vm_types.proofs.Modes.{user_pages_fit}
-use Rattle.std.proofs.Common.{◌≡◌, ◌≢◌, refl, sym, ap, ◌∙◌, subst, arith, rules}
-use Rattle.vm_types.specs.declared.object.PageKey.TheVariants.{Object}
-use Rattle.frames.specs.{declared.role.Role.TheVariants.{Zero, Private, Cache}, FrameTable.{FrameTable, IsHeld, SameButFor, role_of}}
-use Rattle.page_cache.specs.{declared.place.Place.TheVariants.{Home}, CacheTable.{place_of, is_touched}}
+use Rattle.residency.proofs.Names.{user_pages_fit, ◌≡◌, ◌≢◌, refl, sym, ap, ◌∙◌, subst, arith, rules, Object, Zero, Private, Cache, FrameTable, IsHeld, SameButFor, role_of, Home, place_of, is_touched}
 use Rattle.residency.specs.{declared.leaves.Change.TheVariants.{Forget}, Picture.{Picture, picture_of, is_data}}
 use Rattle.residency.proofs.{Cleaning.{Untouches, all_placed}, Forgotten.{none_over, fit_forgotten, forgets_framed}, LeafSteps.{names_over}, Leaving.{leaves_frame}, Refusing.{above_of, inside_of}}
 use Rattle.residency.proofs.kernel.Core.forget_frame.Goals as goal

@@ -1,9 +1,5 @@
-use Rattle.std.proofs.Common.{refl, ◌∙◌, arith, rules}
-use Rattle.vm_types.specs.declared.object.PageKey.TheVariants.{Object}
-use Rattle.swap.specs.Slots.{slots_of}
-use Rattle.page_cache.specs.CacheTable.{place_of, is_touched}
-use Rattle.residency.specs.Picture.{Picture, picture_of}
-use Rattle.residency.proofs.{Forgotten.{fit_forgotten_slot, forgets_slotted}, Homing.{Homes}}
+use Rattle.residency.proofs.Names.{refl, ◌∙◌, arith, rules, Object, slots_of, place_of, is_touched}
+use Rattle.residency.{specs.Picture.{Picture, picture_of}, proofs.{Forgotten.{fit_forgotten_slot, forgets_slotted}, Homing.{Homes}}}
 use Rattle.residency.proofs.kernel.Core.forget_slot.Goals as goal
 
 pub release-requires : goal.release-requires

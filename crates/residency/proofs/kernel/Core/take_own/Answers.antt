@@ -1,7 +1,5 @@
-use Rattle.std.proofs.Common.{◌≡◌, sym, ◌<◌, length, refl, ◌∙◌, arith, get_or-set_same, get_or-set_other, ℕ, rules}
-use Rattle.frames.specs.declared.role.Role.TheVariants.{Table, Private}
-use Rattle.residency.specs.{Picture.{picture_of}, Ages.{WantsFrame}}
-use Rattle.residency.proofs.{Asking.{needed_of, wants_tried}, Giving.{on_err_same}, Obtained.{given, given_on, seeks_on, seeks_stall}}
+use Rattle.residency.proofs.Names.{◌≡◌, sym, ◌<◌, length, refl, ◌∙◌, arith, get_or-set_same, get_or-set_other, ℕ, rules, Table, Private}
+use Rattle.residency.{specs.{Picture.{picture_of}, Ages.{WantsFrame}}, proofs.{Asking.{needed_of, wants_tried}, Giving.{on_err_same}, Obtained.{given, given_on, seeks_on, seeks_stall}}}
 use Rattle.residency.proofs.kernel.Core.take_own.Goals as goal
 
 pub returns : goal.returns

@@ -1,4 +1,4 @@
-use Rattle.std.proofs.Common.{ℕ, Option, refl, Some, None, rules}
+use Rattle.residency.proofs.Names.{ℕ, Option, refl, Some, None, rules}
 use Rattle.residency.specs.{Picture.{Picture, picture_of}, Ages.{GivesForTables}}
 use Rattle.residency.proofs.{Asking.{needed_of}, Giving.{on_err_same, roles_but, gives_table, table_given, tables_tried}, Moves.{same_beside}, Obtained.{given, seeks_on, seeks_stall}, Returning.{zero_no_table}}
 use Rattle.residency.proofs.kernel.Core.take_table.Goals as goal

@@ -1,6 +1,5 @@
-use Rattle.std.proofs.Common.{subst, sym, ◌∙◌, arith}
-use Rattle.residency.specs.{Picture.{picture_of}, Calls.{Frees}}
-use Rattle.residency.proofs.{Giving.{marks_then}, Sparing.{cleared_frees, frees_then}}
+use Rattle.residency.proofs.Names.{subst, sym, ◌∙◌, arith}
+use Rattle.residency.{specs.{Picture.{picture_of}, Calls.{Frees}}, proofs.{Giving.{marks_then}, Sparing.{cleared_frees, frees_then}}}
 use Rattle.residency.proofs.looking.CoreFrameView.clear.Goals as goal
 
 pub returns-clause-follows : goal.returns-clause-follows

@@ -1,9 +1,7 @@
-use Rattle.std.proofs.Common.{ap, ◌∙◌, ◌++◌, take}
+use Rattle.std.proofs.Common.{ap, ◌∙◌, ◌++◌}
 use Rattle.trace_lang.specs.Texts.{text_of}
 use Rattle.vm_types.specs.Replies.{reply_of}
 use Rattle.runner.proofs.output_buffer.OutputBuffer.push_answer.Goals as goal
 
 pub returns-clause-text : goal.returns-clause-text
-returns-clause-text c =
-    c.append-end.ensures.bytes ∙ ap (λ t. take c.self.inside.len c.self.inside.bytes ++ t) c.answer_text-count.ensures.text
-    ∙ ap (λ v. v ++ text_of (reply_of c.args.answer.now)) c.self.view_is
+returns-clause-text c = c.append_answer-end.ensures.bytes ∙ ap (λ v. v ++ text_of (reply_of c.args.answer.now)) c.self.view_is

@@ -1,8 +1,7 @@
 use Rattle.std.proofs.{Common.{◌≡◌, ◌+◌, ◌<◌, false, is_err, ⊎_elim, sym, ap, subst, ◌∙◌, arith, rules}, lemmas.Bool.{cases_eq}}
 use Rattle.disk_model.specs.{Sectors.{part_of}, SimDisk.{sector_of, failures_of, asked_of}}
 use Rattle.disk_model.proofs.Naming.{names_next}
-use Rattle.stop_trials.specs.{declared.stopping.Event.TheVariants.{Write}, Stopping.{plan_of, plan_after_event}}
-use Rattle.stop_trials.proofs.Writes.{when_ok, ran_before, one_write}
+use Rattle.stop_trials.{specs.{declared.stopping.Event.TheVariants.{Write}, Stopping.{plan_of, plan_after_event}}, proofs.Writes.{when_ok, ran_before, one_write}}
 use Rattle.stop_trials.proofs.stopping.StoppingDiskSectorDisk.write_page.Goals as goal
 
 pub loop-i-preserved : goal.loop-i-preserved

@@ -1,8 +1,7 @@
 use Rattle.std.proofs.Common.{◌≡◌, ◌<◌, ◌+◌, ◌*◌, ℕ, List, [], ◌∷◌, refl, sym, subst, ◌∙◌, Some, rules}
 use Rattle.disk_model.specs.{Note.{Note}, Stop.{ChangesPage, IsOfPage}, Sectors.{part_of}}
 use Rattle.disk_model.proofs.{Moments.{asks_named}, Naming.{once_named}}
-use Rattle.swap.specs.Written.{written_in, IsAsWritten}
-use Rattle.swap.proofs.Written.{rows_make, written_lost, written_new, noted-here}
+use Rattle.swap.{specs.Written.{written_in, IsAsWritten}, proofs.Written.{rows_make, written_lost, written_new, noted-here}}
 use Rattle.swap.proofs.pages.Pages.put.Goals as goal
 
 abbrev lost : ℕ → Note

@@ -1,6 +1,5 @@
 use Rattle.std.proofs.{Common.{◌≡◌, ◌<◌, ◌-◌, ◌++◌, ◌∷◌, [], ℕ, List, set, sym, subst, ◌∙◌, arith}, lemmas.List.{get_or_read, get_or-set_same, length-set}}
-use Rattle.swap.specs.Counts.{count_at, IsStack}
-use Rattle.swap.proofs.Stack.{inside_of, has_room, stack_freed, stack_kept, sound_set}
+use Rattle.swap.{specs.Counts.{count_at, IsStack}, proofs.Stack.{inside_of, has_room, stack_freed, stack_kept, sound_set}}
 use Rattle.swap.proofs.share_counts.ShareCounts.lower.Goals as goal
 
 pub push_reserved-requires : goal.push_reserved-requires

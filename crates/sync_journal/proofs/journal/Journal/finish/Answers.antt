@@ -1,7 +1,5 @@
-use Rattle.std.proofs.Common.{[], refl, arith, rules}
-use Rattle.disk_model.proofs.{Moments.{stays}, Naming.{once_none}}
-use Rattle.sync_journal.specs.{Layout.{IsJournalSector, IsFinished}, Journal.{live_homes}}
-use Rattle.sync_journal.proofs.{Phases.{while_staging, staged_settled}, Rests.{rest_quiet, none_live}}
+use Rattle.sync_journal.proofs.Names.{[], refl, arith, rules, stays, once_none}
+use Rattle.sync_journal.{specs.{Layout.{IsJournalSector, IsFinished}, Journal.{live_homes}}, proofs.{Phases.{while_staging, staged_settled}, Rests.{rest_quiet, none_live}}}
 use Rattle.sync_journal.proofs.journal.Journal.finish.Goals as goal
 
 pub returns-else-self-gt0-clause-home : goal.returns-else-self-gt0-clause-home

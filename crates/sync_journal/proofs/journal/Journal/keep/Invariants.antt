@@ -1,4 +1,4 @@
-use Rattle.std.proofs.Common.{◌≡◌, ◌<◌, ℕ, length, get_or}
+use Rattle.sync_journal.proofs.Names.{◌≡◌, ◌<◌, ℕ, length, get_or}
 use Rattle.sync_journal.proofs.journal.Journal.keep.Given as goal
 
 abbrev pub invariant-loop-j : goal.invariant-loop-j

@@ -1,6 +1,4 @@
-use Rattle.std.proofs.Common.{◌≡◌, length, take, refl, ap, sym, subst, inl, inr, ◌∙◌, arith, rules}
-use Rattle.disk_model.specs.{Stop.{Image}, Moments.{Nothing}}
-use Rattle.disk_model.proofs.Moments.{asks_named, asks_wider, asks_then}
+use Rattle.sync_journal.proofs.Names.{◌≡◌, length, take, refl, ap, sym, subst, inl, inr, ◌∙◌, arith, rules, Image, Nothing, asks_named, asks_wider, asks_then}
 use Rattle.sync_journal.specs.{Layout.{layout_before, home_count_in, IsMapIn, IsGateOrMapIn}, Gate.{is_open_sector}, Map.{AreNamed, IsWithinHomes, ReadsMap}, Standing.{map_in, IsOpenIn}}
 use Rattle.sync_journal.proofs.{Causes.{not_bad_device, blames_device, blames_none}, Runs.{no_write, one_more}, OldJournals.{closed_at, open_at, named_opens, named_good, most_before}}
 use Rattle.sync_journal.proofs.old_journal.OldJournal.find.Goals as goal

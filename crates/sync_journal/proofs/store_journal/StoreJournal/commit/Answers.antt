@@ -1,11 +1,8 @@
-use Rattle.std.proofs.{Common.{[], refl, ap, sym, subst, ◌∙◌}, lemmas.Result.{on_ok_weaker}}
-use Rattle.disk_model.specs.{Stop.{Image}, Moments.{AsksOnly}}
-use Rattle.disk_model.proofs.Moments.{weaker, asks_once}
-use Rattle.sync_journal.specs.{Map.{AreHomes}, Commit.{changed}, Journal.{live_homes}, Turns.{IsTurnUsed, IsTurnAsked}, Blocks.{CommitsInBlocks}}
+use Rattle.sync_journal.proofs.Names.{[], refl, ap, sym, subst, ◌∙◌, on_ok_weaker, Image, AsksOnly, weaker, asks_once}
+use Rattle.sync_journal.specs.{Map.{AreHomes}, Commit.{changed, IsAtRest}, Journal.{live_homes}, Turns.{IsTurnRest, IsTurnUsed, IsTurnAsked}, Blocks.{CommitsInBlocks}}
 use Rattle.sync_journal.specs.{Kinds.{journal_kind, store_live, store_standing, kind_home_count, IsKindOutside, IsStoreCommitted, IsStoreUsed, AsksEachOnce, StoreStandsForEither, IsStoreKept}, Runs.{RunsOnDevice}}
-use Rattle.sync_journal.specs.declared.turns.TurnJournal.{TurnJournal}
-use Rattle.sync_journal.proofs.{Replays.{on_ok_both}, InTurn.{commits_weaker, none_are}, TurnAsking.{used_more}}
-use Rattle.sync_journal.proofs.InKinds.{one_same, one_as_before, one_either, one_changed, one_settled, one_rest, one_alone, two_as_before, two_before, two_either, two_changed, two_settled, two_rest, same_turns}
+use Rattle.sync_journal.{specs.{declared.turns.TurnJournal.{TurnJournal}, declared.store_journal.Journals.TheVariants.{Single, Paired}, declared.store_journal.StoreJournal.TheVariants.{One, InTurn}}, proofs.Replays.{on_ok_both}}
+use Rattle.sync_journal.proofs.{InTurn.{commits_weaker, none_are}, TurnAsking.{used_more}, InKinds.{kind_same, kind_changed, kind_rest, one_as_before, one_either, one_settled, one_alone, two_as_before, two_either, two_settled, same_turns}}
 use Rattle.sync_journal.proofs.store_journal.StoreJournal.commit.Goals as goal
 
 pub returns-in-One : goal.returns-in-One
@@ -23,15 +20,16 @@ returns-in-One g c =
     record {
       puts = record {
         ok = λ keeps gives. (let kind = (c.requires.rest (e.kept keeps)).kind ∙ ap journal_kind is in
-            on_ok_both c.commit.result e.live (e.ok keeps gives) (one_settled n image kind d now homes new _ _ (one_changed n image kind homes pages)));
-        rest = λ keeps. one_rest n image ((c.requires.rest (e.kept keeps)).kind ∙ ap journal_kind is) d now homes new c.commit.result e.live (e.rest keeps) (e.outside keeps);
+            on_ok_both c.commit.result e.live (e.ok keeps gives) (one_settled n image kind d now homes new _ _ (kind_changed Single n image kind homes pages)));
+        rest = λ keeps. kind_rest Single n image ((c.requires.rest (e.kept keeps)).kind ∙ ap journal_kind is) d (One now) new c.commit.result refl
+            (on_ok_both c.commit.result e.live (e.rest keeps) (λ live rest. subst (λ list. IsAtRest d list new) (sym live) rest)) (e.outside keeps);
         outside = λ keeps. (let kind = (c.requires.rest (e.kept keeps)).kind ∙ ap journal_kind is in
             on_ok_weaker c.commit.result (λ outside k out. outside k (subst (λ b. IsKindOutside b n k) kind out)) (e.outside keeps));
         any_moment = λ keeps gives. weaker d old new _ _ (one_either n image ((c.requires.rest (e.kept keeps)).kind ∙ ap journal_kind is) homes pages) (e.any_moment keeps gives);
         once = subst (λ j. AsksEachOnce d j homes old new) (sym is) e.once;
         takes = record { run = subst (λ j. RunsOnDevice d (IsStoreCommitted j) old new) (sym is) e.run; asks = e.asks; causes = e.causes };
         source = λ keeps told. (let kind = (c.requires.rest (e.kept keeps)).kind ∙ ap journal_kind is in
-            one_settled n image kind d now [] new _ _ (one_same n image kind) (e.not_live told) (e.source keeps told));
+            one_settled n image kind d now [] new _ _ (kind_same Single n image kind) (e.not_live told) (e.source keeps told));
         source_moments = λ keeps told. weaker d old new _ _ (one_as_before n image ((c.requires.rest (e.kept keeps)).kind ∙ ap journal_kind is)) (e.source_moments keeps told);
       };
       live = e.live;
@@ -60,15 +58,16 @@ returns-in-InTurn g c =
     record {
       puts = record {
         ok = λ keeps gives. (let kind = (c.requires.rest (e.kept keeps)).kind ∙ ap journal_kind is in
-            on_ok_both c.commit-in-InTurn.result e.live (e.ok keeps gives) (two_settled n image kind d now now.second homes new _ _ (two_changed n image kind homes pages) refl));
-        rest = λ keeps. two_rest n image ((c.requires.rest (e.kept keeps)).kind ∙ ap journal_kind is) d now homes new c.commit-in-InTurn.result e.live (e.rest keeps) (e.outside keeps);
+            on_ok_both c.commit-in-InTurn.result e.live (e.ok keeps gives) (two_settled n image kind d now now.second homes new _ _ (kind_changed Paired n image kind homes pages) refl));
+        rest = λ keeps. kind_rest Paired n image ((c.requires.rest (e.kept keeps)).kind ∙ ap journal_kind is) d (InTurn now) new c.commit-in-InTurn.result refl
+            (on_ok_both c.commit-in-InTurn.result e.live (e.rest keeps) (λ live rest. subst (λ list. IsTurnRest d now.second list new) (sym live) rest)) (e.outside keeps);
         outside = λ keeps. (let kind = (c.requires.rest (e.kept keeps)).kind ∙ ap journal_kind is in
             on_ok_weaker c.commit-in-InTurn.result (λ outside k out. outside k (subst (λ b. IsKindOutside b n k) kind out)) (e.outside keeps));
         any_moment = λ keeps gives. weaker d old new _ _ (two_either n image ((c.requires.rest (e.kept keeps)).kind ∙ ap journal_kind is) homes pages) (e.any_moment keeps gives);
         once = subst (λ j. AsksEachOnce d j homes old new) (sym is) e.once;
         takes = record { run = subst (λ j. RunsOnDevice d (IsStoreCommitted j) old new) (sym is) e.run; asks = e.asks; causes = e.causes };
         source = λ keeps told. (let kind = (c.requires.rest (e.kept keeps)).kind ∙ ap journal_kind is in let same = e.as_it_was told in
-            two_settled n image kind d now _ _ new _ _ (two_before n image kind) (ap (λ (j : TurnJournal). j.second) same) (ap (λ (j : TurnJournal). live_homes j.live) same) (e.source keeps told));
+            two_settled n image kind d now _ _ new _ _ (kind_same Paired n image kind) (ap (λ (j : TurnJournal). j.second) same) (ap (λ (j : TurnJournal). live_homes j.live) same) (e.source keeps told));
         source_moments = λ keeps told. weaker d old new _ _ (two_as_before n image ((c.requires.rest (e.kept keeps)).kind ∙ ap journal_kind is)) (e.source_moments keeps told);
       };
       live = e.live;

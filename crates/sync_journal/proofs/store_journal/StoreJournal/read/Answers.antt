@@ -1,7 +1,5 @@
-use Rattle.std.proofs.Common.{◌≡◌, OnOk, ap, sym, subst, ◌∙◌}
-use Rattle.disk_model.specs.{Stop.{Names}, Sectors.{joined}}
-use Rattle.sync_journal.specs.{Layout.{IsPageSector}, Kinds.{journal_kind, journal_stands, kind_standing}}
-use Rattle.sync_journal.proofs.InKinds.{store_rest_read}
+use Rattle.sync_journal.proofs.Names.{◌≡◌, OnOk, ap, sym, subst, ◌∙◌, Names, joined}
+use Rattle.sync_journal.{specs.{Layout.{IsPageSector}, Kinds.{journal_kind, journal_stands, kind_standing}}, proofs.InKinds.{store_rest_read}}
 use Rattle.sync_journal.proofs.store_journal.StoreJournal.read.Goals as goal
 
 pub returns-in-One : goal.returns-in-One

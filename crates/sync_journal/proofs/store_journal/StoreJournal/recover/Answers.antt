@@ -1,6 +1,6 @@
-use Rattle.std.proofs.Common.{refl, sym, ◌∙◌, rules}
+use Rattle.sync_journal.proofs.Names.{refl, sym, ◌∙◌, rules}
 use Rattle.sync_journal.specs.{Commit.{HomesStandAs}, Turns.{TurnsStandAs}, declared.store_journal.Journals.TheVariants.{Single, Paired}}
-use Rattle.sync_journal.proofs.{InTurn.{recovers_weaker}, InKinds.{one_same, one_settled, one_as_before, two_as_before, two_before, two_settled, single_alone}, KindRecoveries.{recovers_kind}}
+use Rattle.sync_journal.proofs.{InTurn.{recovers_weaker}, InKinds.{kind_same, one_settled, one_as_before, two_as_before, two_settled, single_alone}, KindRecoveries.{recovers_kind}}
 use Rattle.sync_journal.proofs.store_journal.StoreJournal.recover.Goals as goal
 
 pub returns-in_err-recover-in-Single : goal.returns-in_err-recover-in-Single
@@ -23,7 +23,7 @@ returns-in_ok-recover-in-Single g c =
       recovers = recovers_kind d Single old c.recover.new.disk (λ k. c.requires.kind k ∙ c.in-Single.is) (HomesStandAs (d.sector_count old)) _ _ _ _
           (λ k. one_as_before (d.sector_count old) (d.content old) (c.requires.kind k ∙ c.in-Single.is)) tt
           (λ keeps. (let kind = c.requires.kind (c.recover.ensures.kept keeps) ∙ c.in-Single.is in
-          one_settled (d.sector_count old) (d.content old) kind d c.closed.result _ c.recover.new.disk _ _ (one_same (d.sector_count old) (d.content old) kind) c.closed.ensures (c.in_ok-recover-in-Single.ensures.ok keeps)))
+          one_settled (d.sector_count old) (d.content old) kind d c.closed.result _ c.recover.new.disk _ _ (kind_same Single (d.sector_count old) (d.content old) kind) c.closed.ensures (c.in_ok-recover-in-Single.ensures.ok keeps)))
           c.in_ok-recover-in-Single.ensures.recovers;
       kind = sym c.in-Single.is;
       not_live = c.closed.ensures;
@@ -55,7 +55,7 @@ returns-in_ok-journal-in-Paired g c =
       recovers = recovers_kind d Paired old new (λ k. c.requires.kind k ∙ c.in-Paired.is) (TurnsStandAs (d.sector_count old)) _ _ _ _
           (λ k. two_as_before (d.sector_count old) (d.content old) (c.requires.kind k ∙ c.in-Paired.is)) tt
           (λ keeps. (let kind = c.requires.kind (e.kept keeps) ∙ c.in-Paired.is in
-          two_settled (d.sector_count old) (d.content old) kind d journal journal.second _ new _ _ (two_before (d.sector_count old) (d.content old) kind) refl e.not_live (e.ok keeps))) e.recovers;
+          two_settled (d.sector_count old) (d.content old) kind d journal journal.second _ new _ _ (kind_same Paired (d.sector_count old) (d.content old) kind) refl e.not_live (e.ok keeps))) e.recovers;
       kind = sym c.in-Paired.is;
       not_live = e.not_live;
       blocks = λ keeps paired. recovers_weaker d _ _ (two_as_before (d.sector_count old) (d.content old) (c.requires.kind (e.kept keeps) ∙ c.in-Paired.is)) old new (e.blocks keeps);

@@ -1,8 +1,6 @@
-use Rattle.std.proofs.Common.{sym, subst, ◌∙◌, rules}
-use Rattle.disk_model.specs.Moments.{AsksOnly}
-use Rattle.disk_model.proofs.Moments.{weaker}
+use Rattle.sync_journal.proofs.Names.{sym, subst, ◌∙◌, rules, AsksOnly, weaker}
 use Rattle.sync_journal.specs.{Map.{AreHomes}, Journal.{live_homes}, Kinds.{kind_home_count, IsKindAsked, IsKindClosed}, Runs.{RunsOnDevice}, Resuming.{IsKindResumed}, declared.store_journal.Journals.TheVariants.{Single, Paired}}
-use Rattle.sync_journal.proofs.{Causes.{told_was}, InTurn.{none_are}, InKinds.{one_same, one_settled, one_as_before, while_reading}, Resuming.{bad_of, of_bad, looked_synced, two_looked, two_good}}
+use Rattle.sync_journal.proofs.{Causes.{told_was}, InTurn.{none_are}, InKinds.{kind_same, one_settled, one_as_before, while_reading}, Resuming.{bad_of, of_bad, looked_synced, two_looked, two_good}}
 use Rattle.sync_journal.proofs.store_journal.StoreJournal.resume.Goals as goal
 
 -- of one journal
@@ -21,7 +19,7 @@ returns-in_ok-recover_synced-in-Single g c =
         kind = sym is;
         homes = subst (λ list. AreHomes (kind_home_count c.args.journals n) list) (sym c.closed.ensures) (none_are _);
         calm = done.calm;
-        settled = λ keeps. (let kind = c.requires.kind (e.kept keeps) ∙ is in one_settled n image kind d c.closed.result _ new _ _ (one_same n image kind) c.closed.ensures (done.ok keeps));
+        settled = λ keeps. (let kind = c.requires.kind (e.kept keeps) ∙ is in one_settled n image kind d c.closed.result _ new _ _ (kind_same Single n image kind) c.closed.ensures (done.ok keeps));
         synced = done.synced;
         named = λ keeps. c.closed.ensures;
         good = λ keeps bad. done.good keeps (of_bad Single n image (c.requires.kind (e.kept keeps) ∙ is) bad);

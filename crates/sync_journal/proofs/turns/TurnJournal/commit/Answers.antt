@@ -1,4 +1,4 @@
-use Rattle.std.proofs.Common.{not, refl, ⊎_elim, ◌∙◌, arith, rules}
+use Rattle.sync_journal.proofs.Names.{not, refl, ⊎_elim, ◌∙◌, arith, rules}
 use Rattle.sync_journal.specs.Journal.{live_homes}
 use Rattle.sync_journal.proofs.{Causes.{told_on, none_failed}, InKinds.{recovered_sector}, InTurn.{start_high, staged_settled}, TurnSteps.{Begins, leaves_either, is_staged, staged_leaves, prepared_leaves, named, commit_failed}}
 use Rattle.sync_journal.proofs.turns.TurnJournal.commit.Goals as goal

@@ -1,8 +1,7 @@
-use Rattle.std.proofs.Common.{[], refl, subst, inl, arith, rules}
-use Rattle.disk_model.proofs.Moments.{stays}
+use Rattle.sync_journal.proofs.Names.{[], refl, subst, inl, ◌∙◌, arith, rules, stays}
 use Rattle.sync_journal.specs.{Journal.{live_homes}, Turns.{turn_standing, turn_home_count, IsTurnSettled}}
-use Rattle.sync_journal.proofs.{Rests.{none_live}, InTurn.{IsPrepared, while_preparing, staged_blocks, staged_settled, none_kept, none_settled, none_are}}
-use Rattle.sync_journal.proofs.TurnSteps.{Begins, leaves_weaker, staged_leaves, prepared_leaves, named, emptied_so_far}
+use Rattle.sync_journal.proofs.{Causes.{is_error}, Rests.{none_live}, InTurn.{IsPrepared, while_preparing, staged_blocks, staged_settled, none_kept, none_settled, none_are}}
+use Rattle.sync_journal.proofs.TurnSteps.{Begins, leaves_weaker, staged_leaves, prepared_leaves, named, emptied_so_far, emptying_failed}
 use Rattle.sync_journal.proofs.turns.TurnJournal.finish.Goals as goal
 
 pub returns-in_err-clear_map : goal.returns-in_err-clear_map
@@ -10,17 +9,17 @@ returns-in_err-clear_map g c =
     let d = g.D.SectorDisk in
     let old = c.args.disk.now in
     let b : Begins d c.args.self.now.second (live_homes c.args.self.now.live) [] old = record { only_now = λ k image left. g.met.D.SectorDisk.only_now c.args.disk.now image k left; are = c.requires.live; rest = c.requires.rest; homes_are = none_are (turn_home_count (d.sector_count old)) } in
-    emptied_so_far d c.args.self.now _ old c.clear_map.new.disk _ c.if-self-gt0.true (staged_leaves (Unit {0}) b c.clear_map.new.disk c.clear_map.ensures.run c.clear_map.ensures.once)
-    (search rules) (search rules) (search rules) (search rules) (search rules)
+    emptying_failed d c.args.self.now _ old c.clear_map.new.disk _ (is_error _ _ c.from_residual.ensures.1) (c.in_err-clear_map.ensures.failed refl) c.if-self-gt0.true (staged_leaves (Unit {0}) b c.clear_map.new.disk c.clear_map.ensures.run c.clear_map.ensures.once)
 
 pub returns-in_err-prepare : goal.returns-in_err-prepare
 returns-in_err-prepare g c =
     let d = g.D.SectorDisk in
     let old = c.args.disk.now in
     let b : Begins d c.args.self.now.second (live_homes c.args.self.now.live) [] old = record { only_now = λ k image left. g.met.D.SectorDisk.only_now c.args.disk.now image k left; are = c.requires.live; rest = c.requires.rest; homes_are = none_are (turn_home_count (d.sector_count old)) } in
-    emptied_so_far d c.args.self.now _ old c.prepare.new.disk _ c.if-self-gt0.true
+    let failed = c.in_err-prepare.ensures.failed refl in
+    let calm = c.in_ok-clear_map.ensures.calm in
+    emptying_failed d c.args.self.now _ old c.prepare.new.disk _ (is_error _ _ c.from_residual-in_err-prepare.ensures.1) (omega (arith, failed, calm)) c.if-self-gt0.true
     (prepared_leaves (Unit {0}) b c.clear_map.new.disk c.clear_map.ensures.run c.clear_map.ensures.once c.prepare.new.disk c.prepare.ensures)
-    (search rules) (search rules) (search rules) (search rules) (search rules)
 
 pub returns-in_err-name_journal : goal.returns-in_err-name_journal
 returns-in_err-name_journal g c =
@@ -29,8 +28,9 @@ returns-in_err-name_journal g c =
     let b : Begins d c.args.self.now.second (live_homes c.args.self.now.live) [] old = record { only_now = λ k image left. g.met.D.SectorDisk.only_now c.args.disk.now image k left; are = c.requires.live; rest = c.requires.rest; homes_are = none_are (turn_home_count (d.sector_count old)) } in
     let names = named (Unit {0}) b c.clear_map.new.disk c.clear_map.ensures.run c.clear_map.ensures.once c.prepare.new.disk c.in_ok-prepare.ensures c.name_journal.new.disk c.name_journal.ensures
     c.in_ok-clear_map.ensures.done (λ _. []) (λ keeps given j i below. absurd (omega (arith, below))) in
-    emptied_so_far d c.args.self.now _ old c.name_journal.new.disk _ c.if-self-gt0.true (leaves_weaker _ _ c.name_journal.new.disk (none_kept (d.sector_count old) (d.content old) (λ _. [])) names.leaves)
-    (search rules) (search rules) (search rules) (search rules) (search rules)
+    let failed = c.in_err-name_journal.ensures.failed refl in
+    let calm = c.in_ok-prepare.ensures.calm ∙ c.in_ok-clear_map.ensures.calm in
+    emptying_failed d c.args.self.now _ old c.name_journal.new.disk _ (is_error _ _ c.from_residual-in_err-name_journal.ensures.1) (omega (arith, failed, calm)) c.if-self-gt0.true (leaves_weaker _ _ c.name_journal.new.disk (none_kept (d.sector_count old) (d.content old) (λ _. [])) names.leaves)
 
 pub returns-in_ok-name_journal : goal.returns-in_ok-name_journal
 returns-in_ok-name_journal g c =
@@ -42,7 +42,7 @@ returns-in_ok-name_journal g c =
     c.in_ok-clear_map.ensures.done (λ _. []) (λ keeps given j i below. absurd (omega (arith, below))) in
     emptied_so_far d c.args.self.now _ old c.name_journal.new.disk _ c.if-self-gt0.true (leaves_weaker _ _ c.name_journal.new.disk (none_kept (d.sector_count old) (d.content old) (λ _. [])) names.leaves)
     (λ keeps. none_settled d (d.sector_count old) (d.content old) _ (λ _. []) c.name_journal.new.disk (names.settles keeps tt (ends.done keeps) (ends.synced keeps)))
-    (search rules) (search rules) (search rules) (search rules)
+    (search rules) (ends.calm ∙ c.in_ok-prepare.ensures.calm ∙ c.in_ok-clear_map.ensures.calm) (search rules) ends.synced
 
 pub returns-else-self-gt0 : goal.returns-else-self-gt0
 returns-else-self-gt0 g c =

@@ -1,7 +1,5 @@
-use Rattle.std.proofs.{Common.{◌∙◌, subst, rules}, lemmas.Result.{on_ok_weaker}}
-use Rattle.disk_model.specs.Stop.{Names}
-use Rattle.sync_journal.specs.{Layout.{IsPageSector}, Journal.{live_homes}}
-use Rattle.sync_journal.proofs.{InTurn.{page_stands}, InKinds.{turn_rest_read}}
+use Rattle.sync_journal.proofs.Names.{◌∙◌, subst, rules, on_ok_weaker, Names}
+use Rattle.sync_journal.{specs.{Layout.{IsPageSector}, Journal.{live_homes}}, proofs.{InTurn.{page_stands}, InKinds.{turn_rest_read}}}
 use Rattle.sync_journal.proofs.turns.TurnJournal.read.Goals as goal
 
 pub returns : goal.returns

@@ -1,8 +1,6 @@
-use Rattle.std.proofs.Common.{refl, ◌∙◌, arith, rules}
-use Rattle.disk_model.specs.Moments.{Nothing}
-use Rattle.disk_model.proofs.Moments.{asks_none}
-use Rattle.sync_journal.specs.Turns.{IsTurnAskedIn}
-use Rattle.sync_journal.proofs.{Runs.{no_write, one_more}, InTurn.{recovered, bad_before}, Causes.{told_was, is_error, not_bad_device, blames_device, blames_on, blames_none}, TurnRecoveries.{named_since, asks_since, looked, emptied}}
+use Rattle.sync_journal.proofs.Names.{[], refl, ◌∙◌, arith, rules, Nothing, asks_none}
+use Rattle.sync_journal.specs.Turns.{turn_standing, IsBadTurn, IsTurnAskedIn, IsTurnSettled}
+use Rattle.sync_journal.proofs.{Runs.{no_write, one_more}, Sectors.{so_before}, Causes.{told_was, is_error, not_bad_device, blames_device, blames_on, blames_none}, TurnRecoveries.{named_since, asks_since, looked, emptied}}
 use Rattle.sync_journal.proofs.turns.TurnJournal.recover.Goals as goal
 
 pub returns-in_err-sync : goal.returns-in_err-sync
@@ -26,7 +24,7 @@ returns-in_err-journal g c =
     let syncs = no_write d Nothing old mid s.size s.kept s.cause.later s.same s.unsynced s.time in
     looked d old new (λ k image left. g.met.D.SectorDisk.only_now old image k left) (one_more d Nothing old mid new syncs found.looks.run)
     _ (is_error _ _ c.from_residual-in_err-journal.ensures.1) (asks_since d old mid new syncs found.looks.run s.asks found.asks) (blames_on d old mid new _ _ c.from_residual-in_err-journal.ensures.1 c.in_ok-sync.ensures.cause.calm c.in_err-journal.ensures.looks.blames)
-    (λ keeps is. bad_before d old mid mid (syncs.touches (found.looks.kept keeps)) s.size (c.in_err-journal.ensures.bad keeps (told_was _ _ _ c.from_residual-in_err-journal.ensures.1 is)))
+    (λ keeps is. so_before d old mid (syncs.touches (found.looks.kept keeps)) IsBadTurn s.size (c.in_err-journal.ensures.bad keeps (told_was _ _ _ c.from_residual-in_err-journal.ensures.1 is)))
 
 pub returns-in_err-finish : goal.returns-in_err-finish
 returns-in_err-finish g c =
@@ -58,5 +56,5 @@ returns g c =
     emptied d old read (λ k image left. g.met.D.SectorDisk.only_now old image k left) looks new c.in_ok-journal.journal c.finish.new.self
     (named_since d old mid read syncs found.looks.run c.in_ok-journal.journal c.in_ok-journal.ensures.ok) c.finish.ensures
     _ (asks_since d old mid read syncs found.looks.run s.asks found.asks)
-    (λ keeps. recovered d old read new (looks.touches (c.finish.ensures.kept keeps)) c.finish.new.self.second looks.size (c.in_ok-finish.ensures.done keeps))
+    (λ keeps. so_before d old read (looks.touches (c.finish.ensures.kept keeps)) (λ n image. IsTurnSettled d n image c.finish.new.self.second [] new (turn_standing image)) looks.size (c.in_ok-finish.ensures.done keeps))
     c.in_ok-finish.ensures.synced (blames_none d old new _ (c.in_ok-finish.ensures.calm ∙ c.in_ok-journal.ensures.looks.calm ∙ c.in_ok-sync.ensures.cause.calm)) (λ keeps is. cc) c.in_ok-finish.ensures.not_live

@@ -1,4 +1,4 @@
-use Rattle.std.proofs.Common.{◌≡◌, ◌<◌, ℕ, Some, length, slice_get}
+use Rattle.sync_plans.proofs.Names.{◌≡◌, ◌<◌, ℕ, Some, length, slice_get}
 use Rattle.sync_plans.specs.{declared.call.Call.{Call}, Plans.{row}}
 use Rattle.sync_plans.proofs.plan_disk.PlanDisk.copy_to.Given as goal
 

@@ -1,4 +1,4 @@
-use Rattle.std.proofs.Common.{◌≡◌, ◌-◌}
+use Rattle.sync_plans.proofs.Names.{◌≡◌, ◌-◌}
 use Rattle.sync_plans.specs.{Plans.{row, image_after}, PlanDisk.{pages_of}}
 use Rattle.sync_plans.proofs.plan_disk.PlanDisk.held.Given as goal
 

@@ -1,5 +1,4 @@
-use Rattle.std.proofs.Common.{◌≡◌, ◌<◌, ◌+◌, ℕ}
-use Rattle.disk_model.specs.Sectors.{part_of}
+use Rattle.sync_plans.proofs.Names.{◌≡◌, ◌<◌, ◌+◌, ℕ, part_of}
 use Rattle.sync_plans.specs.Plans.{row}
 use Rattle.sync_plans.proofs.plan_disk.PlanDisk.holds.Given as goal
 

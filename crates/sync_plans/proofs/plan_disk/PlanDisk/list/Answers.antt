@@ -1,6 +1,5 @@
-use Rattle.std.proofs.{Common.{◌≡◌, ◌<◌, ◌∙◌, true, false, length, sym, arith, rules}, lemmas.List.{length-set}}
-use Rattle.sync_plans.specs.PlanDisk.{pages_of}
-use Rattle.sync_plans.proofs.Untouched.{behind_written, all_behind, sources_behind, all_listed, sources_listed, listed, still_untouched}
+use Rattle.sync_plans.proofs.Names.{◌≡◌, ◌<◌, ◌∙◌, true, false, length, sym, arith, rules, length-set}
+use Rattle.sync_plans.{specs.PlanDisk.{pages_of}, proofs.Untouched.{behind_written, all_behind, sources_behind, all_listed, sources_listed, listed, still_untouched}}
 use Rattle.sync_plans.proofs.plan_disk.PlanDisk.list.Goals as goal
 
 pub invariant_of-self-3 : goal.invariant_of-self-3

@@ -1,8 +1,5 @@
-use Rattle.std.proofs.Common.{ℕ, List, ◌≡◌, ◌+◌, ◌-◌, ◌∙◌, length, ap, arith, refl, rules}
-use Rattle.std.specs.Cmp.Lexicographic.{same_text}
-use Rattle.disk_model.specs.Sectors.{part_of}
-use Rattle.sync_plans.specs.PlanDisk.{pages_of}
-use Rattle.sync_plans.proofs.Theorem.{lent_here}
+use Rattle.sync_plans.proofs.Names.{ℕ, List, ◌≡◌, ◌+◌, ◌-◌, ◌∙◌, length, ap, arith, refl, rules, same_text, part_of}
+use Rattle.sync_plans.{specs.PlanDisk.{pages_of}, proofs.Theorem.{lent_here}}
 use Rattle.sync_plans.proofs.plan_disk.PlanDisk.named.Goals as goal
 
 pub returns-then-eq-clause-sources : goal.returns-then-eq-clause-sources

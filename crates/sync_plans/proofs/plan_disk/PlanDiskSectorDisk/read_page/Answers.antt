@@ -1,7 +1,4 @@
-use Rattle.std.proofs.{Common.{◌≡◌, ◌<◌, ◌+◌, ◌*◌, ◌-◌, length, ⊎_elim, sym, ap, subst, ◌∙◌, arith, rules}, lemmas.Bool.{cases_eq}}
-use borrow.Rule.Slice.PartMut.{put_mid}
-use Rattle.disk_model.specs.Sectors.{part_of}
-use Rattle.disk_model.proofs.Pages.{put_here, put_there, length_put}
+use Rattle.sync_plans.proofs.Names.{◌≡◌, ◌<◌, ◌+◌, ◌*◌, ◌-◌, length, ⊎_elim, sym, ap, subst, ◌∙◌, arith, rules, cases_eq, put_mid, part_of, put_here, put_there, length_put}
 use Rattle.sync_plans.specs.PlanDisk.{content_of}
 use Rattle.sync_plans.proofs.plan_disk.PlanDiskSectorDisk.read_page.Goals as goal
 
