@@ -1,7 +1,6 @@
 -- Rounds of the hand.
-use Rattle.std.proofs.{Common.{◌≡◌, inl, inr, ℕ, ◌+◌, ◌-◌, ◌*◌, ◌%◌, ◌<◌, ◌≤◌, ◌==◌, if◌then◌else◌, sym, ap, ◌∙◌, subst, arith, eq-eqb, ne_eqb}, lemmas.Bool.{cases_eq, cases_lt}, lemmas.Nat.{mod_below}}
-use Rattle.std.proofs.Math.Nat.{mod-eq_of_lt, add-mod_left}
-use Rattle.clock_replace.specs.{declared.frame_view.FrameView.{Ghosts}, Choice.{place, IsPassed, Passes, Chooses, Keeps}, Look.{Looks, IsChoice, IsPast}}
+use Rattle.std.proofs.{Common.{◌≡◌, inl, inr, ℕ, ◌+◌, ◌-◌, ◌*◌, ◌%◌, ◌<◌, ◌≤◌, ◌==◌, if◌then◌else◌, sym, ap, ◌∙◌, subst, arith, eq-eqb, ne_eqb}, Math.Nat.{mod-eq_of_lt, add-mod_left}, lemmas.{Bool.{cases_eq, cases_lt}, Nat.{mod_below}}}
+use Rattle.clock_replace.specs.{Choice.{place, IsPassed, Passes, Chooses, Keeps}, Look.{Looks, IsChoice, IsPast}, declared.frame_view.FrameView.{Ghosts}}
 
 -- a number under three rounds
 pub record Wraps (k total : ℕ) : Type 0 where

@@ -1,6 +1,5 @@
 -- What a device counts over sectors that are read or written in a row.
-use Rattle.disk_model.proofs.Names.{◌≡◌, ◌<◌, ◌+◌, ◌-◌, ℕ, suc, Bool, true, false, if◌then◌else◌, ap, ◌∙◌, arith}
-use Rattle.disk_model.specs.SimDisk.{DiskCounts, fails_next, after_read, after_reads, after_write, after_writes}
+use Rattle.disk_model.{proofs.Names.{◌≡◌, ◌<◌, ◌+◌, ◌-◌, ℕ, suc, Bool, true, false, if◌then◌else◌, ap, ◌∙◌, arith}, specs.SimDisk.{DiskCounts, fails_next, after_read, after_reads, after_write, after_writes}}
 
 -- the first read decides how it goes on
 by_first : (n : ℕ) (c : DiskCounts) (b : Bool) → fails_next c ≡ b → after_reads (suc n) c ≡ (if b then after_read c else after_reads n (after_read c))

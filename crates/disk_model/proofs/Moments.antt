@@ -12,12 +12,7 @@ of_page n k = ⊎_elim
 module _ {D : Type 0} (g : Ghosts D) where
   -- no call at all
   pub stays : (W : ℕ → Type 0) (d : D) → Touches g W d d
-  stays W d = record {
-    content = λ k. inr refl;
-    unsynced = λ k u. inl u;
-    later = omega arith;
-    moments = λ t c le left. inl left;
-  }
+  stays W d = record { content = λ k. inr refl; unsynced = λ k u. inl u; later = omega arith; moments = λ t c le left. inl left }
 
   -- more sectors
   pub wider : (W V : ℕ → Type 0) (old new : D) → ((k : ℕ) → W k → V k) → Touches g W old new → Touches g V old new

@@ -1,6 +1,5 @@
 -- Calls that name sectors, one after another.
-use Rattle.disk_model.proofs.Names.{◌≤◌, ◌<◌, ◌+◌, ◌≡◌, ℕ, inl, inr, ⊎_elim, ap, ◌∙◌, arith, cases_eq}
-use Rattle.disk_model.specs.Stop.{Names, NamesOnce}
+use Rattle.disk_model.{proofs.Names.{◌≤◌, ◌<◌, ◌+◌, ◌≡◌, ℕ, inl, inr, ⊎_elim, ap, ◌∙◌, arith, cases_eq}, specs.Stop.{Names, NamesOnce}}
 
 -- one of so many sectors from the first on
 abbrev pub IsAmong : ℕ → ℕ → ℕ → Type 0
@@ -42,6 +41,4 @@ once_apart V W U before mid now first_inside then_inside apart first second = re
 
 -- some sectors, and then none
 pub once_still : (W : ℕ → Type 0) (before mid now : ℕ → ℕ) → NamesOnce W before mid → ((k : ℕ) → now k ≡ mid k) → NamesOnce W before now
-once_still W before mid now once same = record {
-  each = λ k. ⊎_elim (λ e. inl (same k ∙ e)) (λ w. inr (w.0, same k ∙ w.1)) (once.each k);
-}
+once_still W before mid now once same = record { each = λ k. ⊎_elim (λ e. inl (same k ∙ e)) (λ w. inr (w.0, same k ∙ w.1)) (once.each k) }

@@ -1,7 +1,6 @@
 -- A page written sector by sector.
 use Rattle.disk_model.proofs.Names.{◌≡◌, ◌≤◌, ◌<◌, ◌+◌, ◌*◌, ℕ, zero, suc, List, [], length, take, drop, get_or, inl, inr, ⊎_elim, sym, ap, subst, ◌∙◌, arith, drop-drop, refl, length-append, length-take, length-drop, cases_eq, drop-take}
-use Rattle.disk_model.proofs.Names.{drop_at, length-take-le, take-put_mid, take-put_mid_below, put_mid-paste, first_chunks, put_mid}
-use Rattle.disk_model.specs.{Stop.{Image, MayLeave, ChangesOnly, Elapses}, Sectors.{part_of}}
+use Rattle.disk_model.{proofs.Names.{drop_at, length-take-le, take-put_mid, take-put_mid_below, put_mid-paste, first_chunks, put_mid}, specs.{Sectors.{part_of}, Stop.{Image, MayLeave, ChangesOnly, Elapses}}}
 
 -- no time passes
 pub no_time : (now : ℕ) (since : ℕ → Image → Type 0) (content : Image) (unsynced : ℕ → Type 0) → Elapses now now since since content unsynced

@@ -1,6 +1,5 @@
 -- Pages as their sectors, one after another.
-use Rattle.disk_model.proofs.Names.{◌≡◌, ℕ, zero, suc, ◌+◌, ◌*◌, ◌<◌, List, [], ◌++◌, length, take, refl, sym, ap, ◌∙◌, arith, add-one, take_all, take-add}
-use Rattle.disk_model.specs.Sectors.{joined, part_of}
+use Rattle.disk_model.{proofs.Names.{◌≡◌, ℕ, zero, suc, ◌+◌, ◌*◌, ◌<◌, List, [], ◌++◌, length, take, refl, sym, ap, ◌∙◌, arith, add-one, take_all, take-add}, specs.Sectors.{joined, part_of}}
 
 pub joined-none : (pieces : ℕ → List ℕ) → joined pieces 0 ≡ []
 unfolding joined

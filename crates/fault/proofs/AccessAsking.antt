@@ -1,12 +1,11 @@
 -- Which sectors an access asks for, from step to step.
-use Rattle.fault.proofs.Names.{top_level, Access, Store, FilePage, FrameNo, SlotNo, PageKey, File, Attr, ◌≡◌, ◌≢◌, ◌<◌, ℕ, true, inl, inr, ◌⊎◌, Option, Some, None, refl, sym, ap, ◌∙◌, subst, arith, cases_Bool, cases_lt, Ghosts, AsksOnly}
-use Rattle.fault.proofs.Names.{Nothing, asks_none, asks_wider, FileStore, IsSectorOf, IsFull, frame_count, Swap, inside_of, IsPage, Place, Home, Frame, Slot, Core, InFrame, InSlot, seat, is_private, is_swapped, Picture, picture_of, entry}
-use Rattle.fault.proofs.Names.{is_data, IsOwned, IsFit, GivesForTables, KeepsRolesBut, KeepsPages, KeepsFiles, IsWhole, holders_none, seat_common, seat_own}
+use Rattle.fault.proofs.{AccessSteps.{keeps_seen}, Asking.{asks_slots_any, asks_slots_if, asks_slots_kept, asks_slots_same, asks_slots_then, asks_slots_wider}, Forms.{none_common, seat_zero}, Linked.{lacks_none}, Names.{top_level, Access}}
+use Rattle.fault.proofs.Names.{Store, FilePage, FrameNo, SlotNo, PageKey, File, Attr, ◌≡◌, ◌≢◌, ◌<◌, ℕ, true, inl, inr, ◌⊎◌, Option, Some, None, refl, sym, ap, ◌∙◌, subst, arith, cases_Bool, cases_lt, Ghosts, AsksOnly, Nothing, asks_none}
+use Rattle.fault.proofs.Names.{asks_wider, FileStore, IsSectorOf, IsFull, frame_count, Swap, inside_of, IsPage, Place, Home, Frame, Slot, Core, InFrame, InSlot, seat, is_private, is_swapped, Picture, picture_of, entry, is_data, IsOwned}
+use Rattle.fault.proofs.{Names.{IsFit, GivesForTables, KeepsRolesBut, KeepsPages, KeepsFiles, IsWhole, holders_none, seat_common, seat_own}, OwnSteps.{shown_common}, Wanted.{cases_frame, whole_or, shows_back}}
+use Rattle.fault.specs.{AccessAsking.{IsSectorOfItsSlot, AsksForPage}, Asking.{HasSwappable, MayAsk, AsksIfFull, AsksNoNew, AsksSlotsIf, IsSectorOfStoredPage, IsSectorOfPage}, Changes.{IsCalm, KeepsBare, KeepsSlotted, LinksTables, Moves}}
+use Rattle.{fault.specs.{Changes.{copied_frame, frame_behind, frame_of_place}, Wants.{LacksTable, RunsOut, ShowsFile, WantsTwo}}, vm_types.specs.declared.region.Backing.TheVariants.{Private}}
 use Rattle.vm_types.specs.declared.mode.Levels as Levels
-use Rattle.vm_types.specs.declared.region.Backing.TheVariants.{Private}
-use Rattle.fault.specs.{Asking.{HasSwappable, MayAsk, AsksIfFull, AsksNoNew, AsksSlotsIf, IsSectorOfStoredPage, IsSectorOfPage}, Changes.{IsCalm, KeepsBare, KeepsSlotted, LinksTables, Moves, copied_frame, frame_behind, frame_of_place}}
-use Rattle.fault.{specs.{AccessAsking.{IsSectorOfItsSlot, AsksForPage}, Wants.{LacksTable, RunsOut, ShowsFile, WantsTwo}}, proofs.Asking.{asks_slots_any, asks_slots_if, asks_slots_kept, asks_slots_same, asks_slots_then, asks_slots_wider}}
-use Rattle.fault.proofs.{Forms.{none_common, seat_zero}, OwnSteps.{shown_common}, Linked.{lacks_none}, AccessSteps.{keeps_seen}, Wanted.{cases_frame, whole_or, shows_back}}
 
 -- an entry that names a slot as the seat of its page is one of a page that lies in a slot
 away_of : (e k : ℕ) → seat e ≡ Some (InSlot k) → is_swapped e ≡ true

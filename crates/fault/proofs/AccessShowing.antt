@@ -1,10 +1,9 @@
 -- Memory after an access is a state of the flat model, where memory before it was one.
 use Rattle.fault.proofs.Names.{◌≡◌, ◌≢◌, ℕ, inl, inr, ◌⊎◌, true, false, List, Option, Some, None, refl, sym, ap, ◌∙◌, subst, eq-eqb, ne_eqb, cases_Bool, cases_eq, false≢true, same_Some, is_some, ◌==◌, ◌&&◌, FilePage, ObjectPage, PageKey}
 use Rattle.fault.proofs.Names.{File, Object, Backing, Anon, Shared, Common, with_shown_bytes, State, behind, copy_or_behind, or_zeros, shown, with_view, View, zero_page, Ghosts, IsPageOf, standing_page, bytes_of, SlotTable, Place, Home}
-use Rattle.fault.proofs.Names.{Frame, Slot, Picture, view, is_live, held, bytes_at, IsFit, is_shared, ShowsPages, object_bytes, SameBeside, cases_page, by_page}
+use Rattle.fault.proofs.{Names.{Frame, Slot, Picture, view, is_live, held, bytes_at, IsFit, is_shared, ShowsPages, object_bytes, SameBeside, cases_page, by_page}, Storing.{view_own, views_others, held_own, views_file, held_else}}
+use Rattle.fault.{proofs.Storing.{held_written}, specs.{Changes.{KeepsSeen, KeepsSpaces}, Files.{IsBrought, Stays, Leaves, Comes, Blank, BringsPages}, Outcome.{Owns, MarksTouchedIn}, Shown.{AreBehind, AreOwnOrBehind, AreShown}}}
 use Rattle.vm_types.specs.declared.region.Backing.TheVariants.{Private}
-use Rattle.fault.specs.{Changes.{KeepsSeen, KeepsSpaces}, Files.{IsBrought, Stays, Leaves, Comes, Blank, BringsPages}, Shown.{AreBehind, AreOwnOrBehind, AreShown}, Outcome.{Owns, MarksTouchedIn}}
-use Rattle.fault.proofs.Storing.{view_own, views_others, held_own, views_file, held_else, held_written}
 use Rattle.frames.specs.FrameTable as Frames
 
 -- the processes and the files of a state, without what each process sees and what is touched

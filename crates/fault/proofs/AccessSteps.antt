@@ -1,15 +1,13 @@
 -- How the steps of an access follow one another, and what a page of a file or an object leaves that is brought into memory.
-use Rattle.fault.proofs.Names.{◌≡◌, ◌≢◌, ℕ, false, inl, inr, ◌⊎◌, Option, Some, None, Result, Ok, Err, refl, sym, ap, ◌∙◌, subst, arith, ◌+◌, cases_eq, cases_Bool, IfOk, IfErr, OnErr, OnOk, FilePage, ObjectPage, PageKey, File, Object}
-use Rattle.fault.proofs.Names.{zero_page, FrameNo, Stall, NoFrames, NoSwap, SwapDevice, StoreDevice, FileInfo, Ghosts, Touches, Nothing, AsksOnly, FileStore, Directory, IsReadyStore, entry_of, files_of, IsFull, bytes_of, role_of, Home}
-use Rattle.fault.proofs.Names.{Frame, Slot, Place, Core, KeepsRolesBut, ComesIn, IsRefused, UsesSwap, Picture, picture_of, held, bytes_at, is_data, IsFit, Frees, ObtainsCached, KeepsPages, KeepsRest, AsksSwap, StallCause, HasStallCause}
-use Rattle.fault.proofs.Names.{ReadCause, HasReadCause, CountsNothing, ReadsStore, IsRead, KeepsFiles, BringsIn, trees_brought, entries_brought, views_brought, held_else, held_here, cases_page, one_frame, one_slot, asks_none, asks_wider}
-use Rattle.file_store.specs.declared.directory.Entry.{Entry}
-use Rattle.std.specs.Option.{option_map}
+use Rattle.fault.proofs.{Asking.{asks_swap, no_new_frees}, Names.{◌≡◌, ◌≢◌, ℕ, false, inl, inr, ◌⊎◌, Option, Some, None, Result, Ok, Err, refl, sym, ap, ◌∙◌, subst, arith, ◌+◌, cases_eq, cases_Bool, IfOk, IfErr, OnErr, OnOk, FilePage}}
+use Rattle.fault.proofs.Names.{ObjectPage, PageKey, File, Object, zero_page, FrameNo, Stall, NoFrames, NoSwap, SwapDevice, StoreDevice, FileInfo, Ghosts, Touches, Nothing, AsksOnly, FileStore, Directory, IsReadyStore, entry_of, files_of}
+use Rattle.fault.proofs.Names.{IsFull, bytes_of, role_of, Home, Frame, Slot, Place, Core, KeepsRolesBut, ComesIn, IsRefused, UsesSwap, Picture, picture_of, held, bytes_at, is_data, IsFit, Frees, ObtainsCached, KeepsPages, KeepsRest}
+use Rattle.fault.proofs.Names.{AsksSwap, StallCause, HasStallCause, ReadCause, HasReadCause, CountsNothing, ReadsStore, IsRead, KeepsFiles, BringsIn, trees_brought, entries_brought, views_brought, held_else, held_here, cases_page}
+use Rattle.fault.proofs.{Names.{one_frame, one_slot, asks_none, asks_wider, asks_then, Swap, IsSectorOfSlot, IsSectorOfFreeSlot}, Steps.{no_table_then, no_table_freed, no_table_trees, rows_then, rows_freed, rows_trees, slotted_then}}
+use Rattle.fault.{proofs.Steps.{slotted_frees, spaces_then, room_then, seen_then, tables_then, bare_then, tables_same, spaces_freed, room_freed, seen_freed, tables_freed, bare_freed, device_then}, specs.Asking.{HasSwappable, MayAsk}}
+use Rattle.fault.specs.{Asking.{AsksIfFull, AsksNoNew, IsSectorOfPage, IsSectorOfStoredPage}, Changes.{AddsNoTable, KeepsSpaces, KeepsTables, KeepsRows, KeepsRoom, KeepsSeen, KeepsBare, KeepsSlotted, Moves, MarksTouched, IsCalm}}
+use Rattle.{fault.specs.{Files.{IsBrought, Stays, Leaves, Comes, Blank, BringsPages, Proceeds, BringsFiles}, PagingIn.{PagesIn}}, file_store.specs.declared.directory.Entry.{Entry}, std.specs.Option.{option_map}}
 use Rattle.vm_types.specs.declared.mode.Levels as Levels
-use Rattle.fault.specs.Changes.{AddsNoTable, KeepsSpaces, KeepsTables, KeepsRows, KeepsRoom, KeepsSeen, KeepsBare, KeepsSlotted, Moves, MarksTouched, IsCalm}
-use Rattle.fault.specs.{Files.{IsBrought, Stays, Leaves, Comes, Blank, BringsPages, Proceeds, BringsFiles}, Asking.{HasSwappable, MayAsk, AsksIfFull, AsksNoNew, IsSectorOfPage, IsSectorOfStoredPage}, PagingIn.{PagesIn}}
-use Rattle.fault.proofs.Steps.{no_table_then, no_table_freed, no_table_trees, rows_then, rows_freed, rows_trees, slotted_then, slotted_frees, spaces_then, room_then, seen_then, tables_then, bare_then, tables_same, spaces_freed, room_freed, seen_freed, tables_freed, bare_freed, device_then}
-use Rattle.fault.proofs.{Names.{asks_then, Swap, IsSectorOfSlot, IsSectorOfFreeSlot}, Asking.{asks_swap, no_new_frees}}
 
 module _ {mode : ℕ} where
   -- A page of a file or an object was brought into a frame, or frames were given up in vain: what stays as it was.

@@ -1,11 +1,10 @@
 -- A page that got a frame of its own, whose entry was set, or that came back from its slot grants what its region lets be done.
-use Rattle.fault.proofs.Names.{◌≡◌, ℕ, true, false, Some, Result, Ok, Err, refl, ◌≢◌, Bool, None, subst, IfOk, IfErr, OnErr, Store, Load, Fetch, FrameNo, Stall, Attr, can_write, top_level, Access, lets, Ghosts, bytes_of, IsSound, count_of}
-use Rattle.residency.specs.Picture.{is_private, is_swapped}
+use Rattle.fault.proofs.{AccessSteps.{cause_of, no_store}, Forms.{mapped_page, over_here}, Names.{◌≡◌, ℕ, true, false, Some, Result, Ok, Err, refl, ◌≢◌, Bool, None, subst, IfOk, IfErr, OnErr, Store, Load, Fetch, FrameNo, Stall, Attr}}
+use Rattle.fault.proofs.Names.{can_write, top_level, Access, lets, Ghosts, bytes_of, IsSound, count_of, Core, Picture, picture_of, entry, IsFit, IsBehind, is_shared, Frees, Refuses, HasStallCause, IsShort, KeepsFiles, IsEntryOver, IsPage}
+use Rattle.fault.proofs.{Names.{over_some}, OwnSteps.{full_own}, Ready.{shown_there}, Settled.{reads_too, entered_store, entered_ready, ready_own, owned_entry, copy_shown, readable, ready_read, entered_read, ready_after}, Steps.{seen_none}}
+use Rattle.fault.{proofs.Wanted.{copy_keeps, away_keeps, sole_there}, specs.{Changes.{IsCalm, IsLinked, KeepsViews, KeepsOtherViews, Moves, copied_frame, is_sole, shown_bytes, KeepsSeen}, Granted.{IsEntered, IsReadyAt}}}
+use Rattle.{fault.specs.{Leaves.{IsFullEntry}, Outcome.{IsStalled, seen_at}, Shown.{AreShown}, Wants.{Wants, ForStore, ForSlot}}, residency.specs.Picture.{is_private, is_swapped}}
 use Rattle.vm_types.specs.declared.mode.Levels as Levels
-use Rattle.fault.specs.{Changes.{IsCalm, IsLinked, KeepsViews, KeepsOtherViews, Moves, copied_frame, is_sole, shown_bytes, KeepsSeen}, Granted.{IsEntered, IsReadyAt}, Outcome.{IsStalled, seen_at}, Wants.{Wants, ForStore, ForSlot}}
-use Rattle.fault.{specs.{Leaves.{IsFullEntry}, Shown.{AreShown}}, proofs.{AccessSteps.{cause_of, no_store}, Wanted.{copy_keeps, away_keeps, sole_there}}}
-use Rattle.fault.proofs.{Settled.{reads_too, entered_store, entered_ready, ready_own, owned_entry, copy_shown, readable, ready_read, entered_read, ready_after}, Forms.{mapped_page, over_here}, OwnSteps.{full_own}, Ready.{shown_there}}
-use Rattle.fault.proofs.{Names.{Core, Picture, picture_of, entry, IsFit, IsBehind, is_shared, Frees, Refuses, HasStallCause, IsShort, KeepsFiles, IsEntryOver, IsPage, over_some}, Steps.{seen_none}}
 
 module _ {mode : ℕ} (old new : Picture mode) (pid page : ℕ) (a : Attr) (sound : IsSound old.frames) (fit : IsFit new) (sound' : IsSound new.frames) (now : new.at pid page ≡ Some a)
     (alone : is_shared a.backing ≡ false) (writable : can_write a.prot ≡ true) (here : is_swapped (entry old pid page) ≡ false)

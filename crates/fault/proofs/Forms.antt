@@ -2,11 +2,10 @@
 use Rattle.fault.proofs.Names.{user_pages_fit, top_level, PageKey, File, Object, Attr, stands_on, Backing, Anon, Shared, Common, is_past_end, ◌≡◌, ◌≢◌, ℕ, inl, inr, Bool, true, false, Option, Some, None, length, refl, sym, ap, ◌∙◌, subst}
 use Rattle.fault.proofs.Names.{arith, eqb-true, cases_Bool, cases_lt, false≢true, get_or_past, same_Some, ◌&&◌, FrameTable, IsFrame, IsSound, role_of, count_of, is_valid, is_dirty, frame_of, has_bit, IsPage, IsLeaf, IsEntryOver, is_barred}
 use Rattle.fault.proofs.Names.{Home, Frame, InFrame, InSlot, seat, is_private, is_swapped, Picture, entry, IsGranting, IsEntryFor, Resident, Away, IsResident, IsBehind, IsWithin, HasPlaces, IsFit, is_shared, seat_own, seat_common}
-use Rattle.residency.specs.Parts.{Nothing}
+use Rattle.{fault.{proofs.Names.{seat_away, seat-none, parked_invalid, parked_framed}, specs.Leaves.{IsFullEntry, is_touched_behind, full_write}}, residency.specs.Parts.{Nothing}}
 use Rattle.vm_types.specs.declared.region.Backing.TheVariants.{Private}
 use Rattle.vm_types.specs.Permission as Permission
 use Rattle.frames.specs.declared.role.Role.TheVariants as Role
-use Rattle.fault.{specs.Leaves.{IsFullEntry, is_touched_behind, full_write}, proofs.Names.{seat_away, seat-none, parked_invalid, parked_framed}}
 
 and_left : (a b : Bool) → (a && b) ≡ true → a ≡ true
 and_left true b e = refl

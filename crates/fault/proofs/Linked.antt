@@ -2,10 +2,10 @@
 use Rattle.fault.proofs.Names.{top_level, Access, PageKey, FrameNo, Stall, StoreDevice, File, Attr, Backing, Anon, Shared, Common, is_past_end_of, is_past_end, ◌≡◌, ◌≢◌, ℕ, false, inl, inr, ◌⊎◌, None, Result, Ok, Err, refl, sym, ◌∙◌, subst}
 use Rattle.fault.proofs.Names.{true, Some, ap, false≢true, IfErr, IfOk, Ghosts, FileStore, IsPage, Frame, Core, Picture, picture_of, held, entry, IsFit, Frees, Refuses, UsesDevice, KeepsPages, HasStallCause, ReadCause, StallCause, IsShort}
 use Rattle.vm_types.specs.declared.region.Backing.TheVariants.{Private}
-use Rattle.vm_types.specs.declared.mode.Levels as Levels
 use Rattle.fault.specs.{Changes.{IsCalm, KeepsSeen, KeepsSpaces, KeepsBare, LinksTables, Moves}, Files.{BringsPages, BringsFiles, IsInStore}, Outcome.{IsStalled}, Wants.{ShowsFile, Wants, ReadsHome, LacksTable, ForTable}, Found.{IsOpenTo}}
 use Rattle.fault.{specs.Granted.{IsReadyAt}, proofs.{Steps.{seen_then, files_same}, Wanted.{nowhere_keeps, unlinked_keeps, page_there, there_or, reads_home, whole_or, shows_back}}}
 use Rattle.fault.proofs.{Names.{GivesForTables, is_swapped, IsWhole, page_entry-missing, entry-of}, AccessSteps.{brings_after, brings_then, cause_then, no_store, cause_of, keeps_seen}, Forms.{none_here, seat_zero}, Settled.{ready_after}}
+use Rattle.vm_types.specs.declared.mode.Levels as Levels
 
 -- The file page of its page was brought into a frame.
 module _ {M : Type 0} {m : Levels.Ghosts M} {D E : Type 0} (old mid : Core D E M m) (pid page : ℕ) (p : PageKey) (shows : ShowsFile (picture_of old) pid page p) where

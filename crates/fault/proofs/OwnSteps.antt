@@ -1,10 +1,9 @@
 -- A frame of its own given to a page, with the bytes that it showed.
-use Rattle.fault.proofs.Names.{top_level, PageKey, File, Object, Attr, Backing, can_write, ◌≡◌, ◌≢◌, ℕ, inl, inr, Bool, true, false, Some, get_or, refl, sym, ap, ◌∙◌, subst, eq-eqb, ne_eqb, cases_Bool, same_Some, ◌&&◌, ◌==◌, option_map}
-use Rattle.fault.proofs.Names.{Ghosts, Free, Table, Private, IsFrame, IsSound, bytes_of, role_of, count_of, Releases, frame_of, IsPage, IsEntryOver, Frame, Core, Seat, InFrame, InSlot, is_private, is_swapped, Frees, Picture, picture_of}
-use Rattle.fault.proofs.Names.{entry, view, view_of, bytes_in, IsFit, IsFitBut, IsBehind, SameBeside, shown_stays, fit_released, release_spares, same, seat_own, seat_common}
-use Rattle.fault.specs.{declared.spot.Spot.{Spot}, Leaves.{IsFullEntry}, Changes.{IsLinked, TakesCopy, frame_of_place, frame_behind, shown_frame, is_sole}, OwnFrames.{IsOwnable}}
-use Rattle.fault.proofs.Settling.{KeepsAside, aside_then, aside_released, HasFrame, GivesFrame, fit_given, fit_seated, entry_given, bytes_given, count_given, view_given, aside_given}
-use Rattle.fault.proofs.Forms.{mapped_page, behind_used, behind_datum, own_role, used_inside}
+use Rattle.fault.proofs.{Forms.{mapped_page, behind_used, behind_datum, own_role, used_inside}, Names.{top_level, PageKey, File, Object, Attr, Backing, can_write, ◌≡◌, ◌≢◌, ℕ, inl, inr, Bool, true, false, Some, get_or, refl, sym, ap, ◌∙◌}}
+use Rattle.fault.proofs.Names.{subst, eq-eqb, ne_eqb, cases_Bool, same_Some, ◌&&◌, ◌==◌, option_map, Ghosts, Free, Table, Private, IsFrame, IsSound, bytes_of, role_of, count_of, Releases, frame_of, IsPage, IsEntryOver, Frame, Core, Seat}
+use Rattle.fault.proofs.Names.{InFrame, InSlot, is_private, is_swapped, Frees, Picture, picture_of, entry, view, view_of, bytes_in, IsFit, IsFitBut, IsBehind, SameBeside, shown_stays, fit_released, release_spares, same, seat_own}
+use Rattle.fault.{proofs.{Names.{seat_common}, Settling.{KeepsAside, aside_then, aside_released, HasFrame, GivesFrame, fit_given, fit_seated, entry_given, bytes_given, count_given, view_given, aside_given}}, specs.Changes.{IsLinked}}
+use Rattle.fault.specs.{Changes.{TakesCopy, frame_of_place, frame_behind, shown_frame, is_sole}, Leaves.{IsFullEntry}, OwnFrames.{IsOwnable}, declared.spot.Spot.{Spot}}
 use Rattle.vm_types.specs.declared.mode.Levels as Levels
 use Rattle.vm_types.specs.declared.region.Backing.TheVariants as Backings
 

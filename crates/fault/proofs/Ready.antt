@@ -1,17 +1,13 @@
 -- What the frame of a page holds where the page's entry names one, what the walk answers there, and what an access may do with it.
-use Rattle.fault.proofs.Names.{top_level, user_end, PageKey, File, Object, Attr, Backing, Anon, Shared, Common, stands_on, zero_page, View, Access, Phys, Load, Store, Fetch, Width, Code, SegvMaperr, SegvAccerr, BusAdrerr, Files, Fine}
-use Rattle.fault.proofs.Names.{Faults, lets, is_past_end, page_verdict, byte_count, ◌≡◌, ◌≢◌, ℕ, inl, inr, ◌⊎◌, true, false, Option, Some, None, List, refl, sym, ap, ◌∙◌, subst, ◌+◌, ◌*◌, ◌%◌, ◌<◌, Bool, ◌||◌, not, if◌then◌else◌, Ok, Err}
-use Rattle.fault.proofs.Names.{Result, arith, ◌/◌, ◌≤◌, eq-eqb, cases_Bool, false≢true, nat_tests, same_Some, option_map, nat_le, ◌==◌, IsSome, FrameTable, bytes_of, IsFrame, IsHeld, IsSound, is_handed_out, zero_bytes, frame_count}
-use Rattle.fault.proofs.Names.{SlotTable, has_bit, is_valid, is_dirty, frame_of, is_user, is_accessed, is_reserved, is_leaf, grants, WalkFault, Invalid, Reserved, TooDeep, Outside, Misaligned, Denied, NotAccessed, NotDirty, page_of}
-use Rattle.fault.proofs.Names.{frame_in, is_store, answer_of, translated, IsPage, Frame, seat, is_private, is_swapped, Picture, entry, own_in, bytes_in, view, view_of, IsFit, IsResident, IsBehind, is_shared, IsEntryFor, Resident, Away}
-use Rattle.fault.proofs.Names.{IsLeafFor, seat_own, seat_common, entry-of, view-none, user_pages_fit, translated-entry}
-use Rattle.residency.specs.Parts.{Nothing}
-use Rattle.std.proofs.Common.{◌&&◌}
-use Rattle.std.specs.Prelude.{◌⊎◌}
-use Rattle.sv39_walk.specs.Entry.{can_write}
+use Rattle.fault.proofs.{Forms.{resident_page, resident_used, own_role, used_inside}, Names.{top_level, user_end, PageKey, File, Object, Attr, Backing, Anon, Shared, Common, stands_on, zero_page, View, Access, Phys, Load, Store, Fetch}}
+use Rattle.fault.proofs.Names.{Width, Code, SegvMaperr, SegvAccerr, BusAdrerr, Files, Fine, Faults, lets, is_past_end, page_verdict, byte_count, ◌≡◌, ◌≢◌, ℕ, inl, inr, ◌⊎◌, true, false, Option, Some, None, List, refl, sym, ap, ◌∙◌, subst}
+use Rattle.fault.proofs.Names.{◌+◌, ◌*◌, ◌%◌, ◌<◌, Bool, ◌||◌, not, if◌then◌else◌, Ok, Err, Result, arith, ◌/◌, ◌≤◌, eq-eqb, cases_Bool, false≢true, nat_tests, same_Some, option_map, nat_le, ◌==◌, IsSome, FrameTable, bytes_of, IsFrame}
+use Rattle.fault.proofs.Names.{IsHeld, IsSound, is_handed_out, zero_bytes, frame_count, SlotTable, has_bit, is_valid, is_dirty, frame_of, is_user, is_accessed, is_reserved, is_leaf, grants, WalkFault, Invalid, Reserved, TooDeep, Outside}
+use Rattle.fault.proofs.Names.{Misaligned, Denied, NotAccessed, NotDirty, page_of, frame_in, is_store, answer_of, translated, IsPage, Frame, seat, is_private, is_swapped, Picture, entry, own_in, bytes_in, view, view_of, IsFit, IsResident}
+use Rattle.fault.{proofs.{Names.{IsBehind, is_shared, IsEntryFor, Resident, Away, IsLeafFor, seat_own, seat_common, entry-of, view-none, user_pages_fit, translated-entry}, Steps.{seen_none}}, specs.{Changes.{KeepsSeen}, Found.{IsOpenTo}}}
+use Rattle.fault.specs.{Found.{IsWayTo, IsFineAt, IsUnwalked}, Granted.{IsOpenLeaf, IsEntered, IsReadyAt}, Outcome.{Reads, MarksTouchedIn, Owns, seen_at, verdict_of, IsReadyToStore, IsReadyFor, IsOpenToStore, IsFrameFor, IsPlaced, Grants}}
+use Rattle.{fault.specs.{Shown.{AreBehind, AreOwnOrBehind, AreShown, IsSoleOwner}, declared.finding.Way.{Way}}, residency.specs.Parts.{Nothing}, std.{proofs.Common.{◌&&◌}, specs.Prelude.{◌⊎◌}}, sv39_walk.specs.Entry.{can_write}}
 use Rattle.vm_types.specs.declared.region.Backing.TheVariants.{Private}
-use Rattle.fault.specs.{Changes.{KeepsSeen}, Shown.{AreBehind, AreOwnOrBehind, AreShown, IsSoleOwner}, Outcome.{Reads, MarksTouchedIn, Owns, seen_at, verdict_of, IsReadyToStore, IsReadyFor, IsOpenToStore, IsFrameFor, IsPlaced, Grants}}
-use Rattle.fault.{specs.{Granted.{IsOpenLeaf, IsEntered, IsReadyAt}, declared.finding.Way.{Way}, Found.{IsOpenTo, IsWayTo, IsFineAt, IsUnwalked}}, proofs.{Forms.{resident_page, resident_used, own_role, used_inside}, Steps.{seen_none}}}
 
 pub zero_same : zero_bytes ≡ zero_page
 unfolding zero_bytes zero_page
@@ -445,17 +441,18 @@ module _ {mode : ℕ} (c : Picture mode) (pid addr : ℕ) (width : Width) (acces
   by_page : verdict_of c pid addr width access ≡ page_verdict c.files (view c pid page) access
   by_page = verdict-aligned c pid addr width access aligned ∙ ap (λ k. page_verdict c.files (view c pid k) access) (sym is)
 
-  pub finds_fine : (attr : Attr) (way : Way) → IsUnwalked c pid addr access → IsWayTo c pid page way → IsOpenTo c pid page access attr → IsFineAt c pid addr width access page attr way
-  finds_fine attr way unwalked walked allowed = record {
-    page_is = is;
-    allowed = allowed;
-    fine = by_page ∙ verdict-fine c pid page access attr allowed.mapped allowed.lets allowed.inside;
-    unwalked = unwalked;
-    walked = walked;
-  }
-
   pub finds_fault : (code : Code) → page_verdict c.files (view c pid page) access ≡ Faults code → verdict_of c pid addr width access ≡ Faults code
   finds_fault code faults = by_page ∙ faults
+
+pub finds_fine : {mode : ℕ} (c : Picture mode) (pid addr : ℕ) (width : Width) (access : Access) (way : Way) → way.page ≡ addr / 4096 → addr % byte_count width ≡ 0
+    → (attr : Attr) → IsUnwalked c pid addr access → IsWayTo c pid way → IsOpenTo c pid way.page access attr → IsFineAt c pid addr width access attr way
+finds_fine c pid addr width access way is aligned attr unwalked walked allowed = record {
+  page_is = is;
+  allowed = allowed;
+  fine = by_page c pid addr width access way.page is aligned ∙ verdict-fine c pid way.page access attr allowed.mapped allowed.lets allowed.inside;
+  unwalked = unwalked;
+  walked = walked;
+}
 
 -- an address of no user page
 pub verdict-outside : {mode : ℕ} (c : Picture mode) (pid addr : ℕ) (width : Width) (access : Access) → IsFit c → addr % byte_count width ≡ 0

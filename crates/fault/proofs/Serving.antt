@@ -1,14 +1,13 @@
 -- What is left of an access to a page, told from its steps, in each way of serving it.
-use Rattle.fault.proofs.Names.{◌≡◌, ◌/◌, ℕ, false, inl, ◌⊎◌, Option, None, Result, Ok, Err, refl, ◌∙◌, ◌≢◌, Bool, true, Some, subst, IsErrAnd, Access, FrameNo, Phys, PageKey, Stall, Attr, Width, Store, stands_on, lets, Ghosts, IsReadyStore}
-use Rattle.fault.proofs.Names.{IsFull, IsReady, Frame, Core, Picture, picture_of, held, entry, IsFit, KeepsFiles, seat}
+use Rattle.fault.proofs.{AccessAsking.{asks_brought, asks_calm, asks_less, asks_same, asks_still, now_out}, AccessSlotted.{slotted_brought, slotted_on, slotted_own, slotted_same}, AccessSteps.{brings_none, proceeds_moves, proceeds_then}}
+use Rattle.fault.proofs.{AccessSteps.{counts_calm, files_read}, Entered.{read_ready, read_entered}, Linked.{brings_on, brings_wider, calm_then, read_then, stalled_away, open_still}, Names.{◌≡◌, ◌/◌, ℕ, false, inl, ◌⊎◌, Option, None}}
+use Rattle.fault.proofs.Names.{Result, Ok, Err, refl, ◌∙◌, ◌≢◌, Bool, true, Some, subst, IsErrAnd, Access, FrameNo, Phys, PageKey, Stall, Attr, Width, Store, stands_on, lets, Ghosts, IsReadyStore, IsFull, IsReady, Frame, Core, Picture}
+use Rattle.fault.proofs.{Names.{picture_of, held, entry, IsFit, KeepsFiles, seat}, Settled.{none_same}, Steps.{no_table_calm, no_table_none, no_table_then, moves_entered, moves_none, stands_kept, slotted_calm, files_same}}
+use Rattle.fault.{proofs.{Wanted.{calm_same, page_there, shows_file, page_inside, err_is}, WaySteps.{links_no_table}}, specs.{AccessAsking.{IsSectorOfItsSlot}, Asking.{AsksIfFull}, Changes.{AddsNoTable, Enters, IsCalm, IsThatPage}}}
+use Rattle.fault.specs.{Changes.{KeepsOtherViews, KeepsSlotted, Moves, StandsAt}, Found.{IsOpenTo}, FramesShown.{ShowsFrame}, Outcome.{IsStalled, IsWalked, Stalls}, PagingIn.{PagesIn, MayBring}, Serving.{Reaches, Serves, Tends}}
+use Rattle.fault.specs.{SpotServing.{MayServeAt}, Wants.{ShowsFile, Wants}, declared.{refusal.AccessRefusal.{AccessRefusal}, spot.Spot.{Spot}}}
 use Rattle.vm_types.specs.declared.mode.Levels as Levels
 use Rattle.fault.specs.declared.refusal.AccessRefusal.TheVariants as Refusal
-use Rattle.fault.specs.{Asking.{AsksIfFull}, Changes.{AddsNoTable, Enters, IsCalm, IsThatPage, KeepsOtherViews, KeepsSlotted, Moves, StandsAt}, PagingIn.{PagesIn, MayBring}, AccessAsking.{IsSectorOfItsSlot}}
-use Rattle.fault.specs.{declared.refusal.AccessRefusal.{AccessRefusal}, Outcome.{IsStalled, IsWalked, Stalls}, Serving.{Reaches, Serves, Tends}, Wants.{ShowsFile, Wants}, declared.spot.Spot.{Spot}, Found.{IsOpenTo}}
-use Rattle.fault.{specs.{FramesShown.{ShowsFrame}, SpotServing.{MayServeAt}}, proofs.{Steps.{no_table_calm, no_table_none, no_table_then, moves_entered, moves_none, stands_kept, slotted_calm, files_same}, WaySteps.{links_no_table}}}
-use Rattle.fault.proofs.{AccessAsking.{asks_brought, asks_calm, asks_less, asks_same, asks_still, now_out}, Linked.{brings_on, brings_wider, calm_then, read_then, stalled_away, open_still}}
-use Rattle.fault.proofs.{AccessSlotted.{slotted_brought, slotted_on, slotted_own, slotted_same}, AccessSteps.{brings_none, proceeds_moves, proceeds_then, counts_calm, files_read}}
-use Rattle.fault.proofs.{Wanted.{calm_same, page_there, shows_file, page_inside, err_is}, Entered.{read_ready, read_entered}, Settled.{none_same}}
 
 module _ {M : Type 0} {m : Levels.Ghosts M} {D E : Type 0} (g : Ghosts D) (h : Ghosts E) where
   -- nothing changed

@@ -1,11 +1,10 @@
 -- What an entry that was set for a page makes of the page.
-use Rattle.fault.proofs.Names.{◌≡◌, ℕ, Bool, true, false, ◌||◌, not, Option, Some, refl, ◌∙◌, subst, ◌≢◌, inl, inr, None, List, sym, ap, false≢true, cases_Bool, same_Some, IfSome, option_map, Load, Store, Fetch, Prot, Attr, lets, Access}
-use Rattle.fault.proofs.Names.{PageKey, File, Object, Backing, Anon, Shared, Common, stands_on, View, ReadsToo, IsEntryOver, IsLeaf, Picture, entry, own_in, bytes_in, view, IsFit, IsBehind, is_shared, Seat, seat, is_private, is_swapped}
-use Rattle.vm_types.specs.declared.region.Backing.TheVariants.{Private}
+use Rattle.fault.proofs.{Forms.{mapped_page, over_here}, Names.{◌≡◌, ℕ, Bool, true, false, ◌||◌, not, Option, Some, refl, ◌∙◌, subst, ◌≢◌, inl, inr, None, List, sym, ap, false≢true, cases_Bool, same_Some, IfSome, option_map, Load, Store}}
+use Rattle.fault.proofs.Names.{Fetch, Prot, Attr, lets, Access, PageKey, File, Object, Backing, Anon, Shared, Common, stands_on, View, ReadsToo, IsEntryOver, IsLeaf, Picture, entry, own_in, bytes_in, view, IsFit, IsBehind, is_shared, Seat}
+use Rattle.fault.proofs.{Names.{seat, is_private, is_swapped, bytes_of, IsSound, frame_of, grants, is_dirty, is_store, over_some, seat_common}, OwnSteps.{shown_own, shown_common}, Ready.{ready_open, zero_same, view-mapped, own_in-private}}
+use Rattle.fault.{proofs.{Ready.{own_in-none, reads, touches, owns}, Steps.{seen_then}}, specs.{Changes.{KeepsSeen, KeepsOtherViews, frame_of_place, frame_behind, shown_bytes}, Granted.{IsOpenLeaf, IsEntered, IsReadyAt}, Outcome.{Reads}}}
+use Rattle.{fault.specs.{Outcome.{MarksTouchedIn, Owns, IsReadyToStore, IsFrameFor, seen_at}, Shown.{AreBehind, AreOwnOrBehind, AreShown}}, vm_types.specs.declared.region.Backing.TheVariants.{Private}}
 use Rattle.vm_types.specs.Permission as Permission
-use Rattle.fault.specs.{Granted.{IsOpenLeaf, IsEntered, IsReadyAt}, Changes.{KeepsSeen, KeepsOtherViews, frame_of_place, frame_behind, shown_bytes}, Shown.{AreBehind, AreOwnOrBehind, AreShown}}
-use Rattle.fault.{specs.Outcome.{Reads, MarksTouchedIn, Owns, IsReadyToStore, IsFrameFor, seen_at}, proofs.{Forms.{mapped_page, over_here}, OwnSteps.{shown_own, shown_common}, Steps.{seen_then}}}
-use Rattle.fault.proofs.{Names.{bytes_of, IsSound, frame_of, grants, is_dirty, is_store, over_some, seat_common}, Ready.{ready_open, zero_same, view-mapped, own_in-private, own_in-none, reads, touches, owns}}
 
 first_bar : (r x : Bool) → r ≡ true → not (r || x) ≡ false
 first_bar true x e = refl

@@ -4,11 +4,11 @@ use Rattle.fault.proofs.Names.{missing_of, page_entry, IsForest, IsRoot, SetsEnt
 use Rattle.fault.proofs.Names.{entry, view, own_in, root_in, attr_where, view_of, bytes_in, IsOwned, IsFit, IsBehind, is_shared, nowhere, IsFitBut, IsRootedBut, IsEntryFor, KeepsFiles, SameBeside, SetsPage, ChangesFrame, KeepsAround, Frees}
 use Rattle.fault.proofs.Names.{UsesDevice, fit_touched, entry-same, entry_for-same, past_end-same, behind_kept, view_kept, fit_moved, owned_forth, fit_set, set_views, set_held, fit_filled, other_views, sets_page, rooted_set, release_spares}
 use Rattle.fault.proofs.Names.{same, with_slots, views_given, held_given, missing_ends, trees_changed, entries_changed, views_changed, held_changed, fit_own, Ghosts, Private, Table, Releases, role_of, bytes_of, count_of, option_map}
-use Rattle.vm_types.specs.declared.mode.Levels as Levels
 use Rattle.fault.specs.{Leaves.{IsFullEntry}, declared.spot.Spot.{Spot}}
 use Rattle.fault.specs.{Changes.{IsLinked, StandsAt, Enters, KeepsTables, KeepsViews, AddsNoTable, KeepsSpaces, KeepsRoom, KeepsOtherViews, KeepsOtherBare, KeepsSlotted, IsThatPage, KeepsRows}, FramesShown.{SetsFull, ShowsFully}}
 use Rattle.fault.{specs.OwnFrames.{LeavesOthers}, proofs.Forms.{full_entry, full_dirty_sound, mapped_page, seat_over}}
 use Rattle.fault.proofs.Steps.{tables_same, no_table_then, no_table_freed, no_table_spared, slotted_then, slotted_frees, slotted_same, spaces_then, spaces_freed, room_then, room_freed, tables_then, tables_freed, no_table_trees, no_table_set, rows_then, rows_freed, rows_changed, slotted_but}
+use Rattle.vm_types.specs.declared.mode.Levels as Levels
 
 -- what a call leaves that changes frames and the count of refused requests alone
 pub beside_around : {M : Type 0} {m : Levels.Ghosts M} → {D E : Type 0} (old new : Core D E M m) → KeepsAround old new → SameBeside (picture_of old) (picture_of new)

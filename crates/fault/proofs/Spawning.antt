@@ -3,16 +3,10 @@ use Rattle.fault.proofs.Names.{sizes, top_level, ObjectPage, PageKey, Object, is
 use Rattle.fault.proofs.Names.{Table, FrameTable, role_of, count_of, SlotTable, frame_of, AddsTable, IsPage, IsTable, Points, IsForest, IsRoot, IsSpare, IsBelowRoot, missing_of, page_entry, missing_of-is, page_entry-missing, empty_last}
 use Rattle.fault.proofs.Names.{Run, IsReadableMap, attr_at, Home, Seat, InFrame, InSlot, seat, Picture, entry, IsOwned, count_in, page_in, AreObjects, IsRootedBut, IsUsed, AsRoot, OnWay, IsMapped, IsEntryFor, IsCountedBut, IsFitBut, IsFit}
 use Rattle.fault.proofs.Names.{nowhere, ObtainsTable, SameBeside, KeepsShares, Spawns, Remaps, entry-of, entry-same, entries_kept, KeepsBehind, entry_for-same, user_map-same, readable-same, shares_taken, fit_same, loose_table, rooted_taken}
-use Rattle.fault.proofs.Names.{objects-same, named-more, places_same, places_renamed, dirty_same, used_kept, counted_same, entry-dead}
-use Rattle.residency.specs.Parts.{Nothing}
-
-number_or : Option ℕ → ℕ
-number_or None = 0
-number_or (Some n) = n
+use Rattle.{fault.proofs.Names.{same_Some, objects-same, named-more, places_same, places_renamed, dirty_same, used_kept, counted_same, entry-dead}, residency.specs.Parts.{Nothing}}
 
 pub one_some : (a b : ℕ) → Some a ≡ Some b → a ≡ b
-unfolding number_or
-one_some a b e = ap number_or e
+one_some a b e = same_Some a b e
 
 -- nothing stands in a tree of which the root has no entry
 module _ (mode : ℕ) where

@@ -1,9 +1,8 @@
 -- How the steps of a call follow one another: what stays where it was, over them.
 use Rattle.fault.proofs.Names.{top_level, Stall, NoFrames, NoSwap, SwapDevice, StoreDevice, FrameNo, PageKey, ◌≡◌, ◌+◌, ℕ, inl, inr, Option, Some, None, refl, sym, ap, ◌∙◌, subst, arith, ◌≢◌, ◌⊎◌, ◌<◌, get_or, ◌*◌, ◌/◌, cases_eq, Ghosts}
 use Rattle.fault.proofs.Names.{FrameTable, IsFull, frame_count, role_of, Free, Table, missing_of, IsPage, IsTable, last_table, SetsEntry, Swap, IsReady, slots_of, Core, Picture, picture_of, entry, IsFit, Frees, IsStaying, KeepsRest}
-use Rattle.fault.proofs.Names.{UsesDevice, StallCause, SameBeside, ChangesFrame, GivesForTables, Spares, KeepsFiles, by_page, trees_changed, KeepsTrees, missing_of-is, row_same, ends}
-use Rattle.residency.specs.Picture.{is_swapped}
-use Rattle.fault.specs.{Changes.{KeepsTables, KeepsBare, KeepsSpaces, KeepsRoom, KeepsSeen, Enters, Moves, KeepsSlotted, IsCalm, IsThatPage, AddsNoTable, KeepsRows, IsLinked, StandsAt}, declared.spot.Spot.{Spot}}
+use Rattle.fault.{proofs.Names.{UsesDevice, StallCause, SameBeside, ChangesFrame, GivesForTables, Spares, KeepsFiles, by_page, trees_changed, KeepsTrees, missing_of-is, row_same, ends}, specs.Changes.{KeepsTables, KeepsBare, KeepsSpaces}}
+use Rattle.{fault.specs.{Changes.{KeepsRoom, KeepsSeen, Enters, Moves, KeepsSlotted, IsCalm, IsThatPage, AddsNoTable, KeepsRows, IsLinked, StandsAt}, declared.spot.Spot.{Spot}}, residency.specs.Picture.{is_swapped}}
 use Rattle.vm_types.specs.declared.mode.Levels as Levels
 
 pub spaces_then : {mode : ℕ} (a b c : Picture mode) → KeepsSpaces a b → KeepsSpaces b c → KeepsSpaces a c

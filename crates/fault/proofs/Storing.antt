@@ -2,8 +2,8 @@
 use Rattle.fault.proofs.Names.{top_level, PageKey, Attr, View, ◌≡◌, ◌≢◌, ℕ, inl, inr, ◌⊎◌, true, List, Option, Some, None, sym, ap, ◌∙◌, subst, arith, Table, Private, Cache, FrameTable, bytes_of, role_of, IsHeld, with_bytes}
 use Rattle.fault.proofs.Names.{with_bytes-same, frame_of, IsPage, Home, Frame, Seat, InFrame, InSlot, seat, is_private, is_seat, holders_at, Picture, entry, own_in, view, view_of, held, bytes_at, bytes_in, IsOwned, IsFit, nowhere}
 use Rattle.fault.proofs.Names.{SameBeside, count-sole, seat_number, seat-same, off-none, each_view, view_seated, held_same, entries_written, fit_written, bytes_else, seat_own}
-use Rattle.fault.proofs.Forms as Forms
 use Rattle.fault.{specs.Shown.{IsSoleOwner}, proofs.{Ready.{view-mapped, own_in-private}, Settled.{one_view}}}
+use Rattle.fault.proofs.Forms as Forms
 
 attr_in : (own : Option (List ℕ)) (o : Option Attr) (v : View) → view_of own o ≡ Some v → o ≡ Some v.attr
 attr_in own None v is = let bad : None ≡ Some v = is in (cc)

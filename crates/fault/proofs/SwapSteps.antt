@@ -1,12 +1,10 @@
 -- A page's own copy read from its slot into a frame, and what it leaves.
-use Rattle.fault.proofs.Names.{top_level, Attr, can_write, SlotNo, ◌≡◌, ◌≢◌, ℕ, inl, inr, ◌*◌, true, false, List, Option, Some, refl, sym, ap, ◌∙◌, subst, arith, None, cases_Bool, false≢true, Private, FrameTable, count_of, SameButFor}
-use Rattle.fault.proofs.Names.{Takes, with_bytes, Releases, IsFrame, bytes_of, with_bytes-others, with_bytes-same, ◌&&◌, ◌==◌, option_map, Ghosts, Swap, Pages, IsAsWritten, SlotTable, IsReady, slots_of, IsInUse, ReleasesSlot, IsEntryOver}
-use Rattle.fault.proofs.Names.{IsPage, Entry, Swapped, number_of, IsEntry, is_valid, has_bit, is_swapped, InSlot, seat, Picture, entry, picture_of, view, view_of, bytes_in, IsOwned, IsFit, IsEntryFor, Resident, Away, IsSwapped, IsFitBut}
-use Rattle.fault.proofs.Names.{TakesOwn, ChangesFrame, Core, ObtainsOwn, bit_clear, away_seat, views_given, with_slots, fit_slot_released, by_page}
-use Rattle.residency.specs.Parts.{Nothing}
-use Rattle.std.specs.Prelude.{◌≤◌}
-use Rattle.fault.specs.{Leaves.{IsFullEntry}, declared.spot.Spot.{Spot}, Changes.{KeepsViews}, OwnFrames.{LiesInSlot}}
-use Rattle.fault.proofs.{Settling.{KeepsAside, aside_then, aside_slot_released, HasFrame, GivesFrame, fit_seated, seat_owned, view_given, aside_given}, Forms.{mapped_page}}
+use Rattle.fault.proofs.{Forms.{mapped_page}, Names.{top_level, Attr, can_write, SlotNo, ◌≡◌, ◌≢◌, ℕ, inl, inr, ◌*◌, true, false, List, Option, Some, refl, sym, ap, ◌∙◌, subst, arith, None, cases_Bool, false≢true, Private, FrameTable}}
+use Rattle.fault.proofs.Names.{count_of, SameButFor, Takes, with_bytes, Releases, IsFrame, bytes_of, with_bytes-others, with_bytes-same, ◌&&◌, ◌==◌, option_map, Ghosts, Swap, Pages, IsAsWritten, SlotTable, IsReady, slots_of, IsInUse}
+use Rattle.fault.proofs.Names.{ReleasesSlot, IsEntryOver, IsPage, Entry, Swapped, number_of, IsEntry, is_valid, has_bit, is_swapped, InSlot, seat, Picture, entry, picture_of, view, view_of, bytes_in, IsOwned, IsFit, IsEntryFor, Resident}
+use Rattle.fault.proofs.{Names.{Away, IsSwapped, IsFitBut, TakesOwn, ChangesFrame, Core, ObtainsOwn, bit_clear, away_seat, views_given, with_slots, fit_slot_released, by_page}, Settling.{KeepsAside, aside_then, aside_slot_released}}
+use Rattle.fault.{proofs.Settling.{HasFrame, GivesFrame, fit_seated, seat_owned, view_given, aside_given}, specs.{Changes.{KeepsViews}, Leaves.{IsFullEntry}, OwnFrames.{LiesInSlot}, declared.spot.Spot.{Spot}}}
+use Rattle.{residency.specs.Parts.{Nothing}, std.specs.Prelude.{◌≤◌}}
 use Rattle.vm_types.specs.declared.mode.Levels as Levels
 
 zero_here : is_swapped 0 ≡ false

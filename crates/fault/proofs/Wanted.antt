@@ -1,13 +1,12 @@
 -- When an access wants a frame, which frame it keeps meanwhile, and when it wants the page from its home.
-use Rattle.fault.proofs.Names.{top_level, widest_end, Access, Store, FrameNo, PageKey, File, Object, Attr, Backing, Anon, Shared, Common, stands_on, Phys, Code, Width, Verdict, Fine, Faults, is_past_end, View, FileInfo, FilePage}
-use Rattle.fault.proofs.Names.{ObjectPage, is_object_page, names, Files, is_past_end_of, ◌≡◌, ◌≢◌, ℕ, inl, inr, true, false, Some, None, refl, sym, ap, ◌∙◌, Result, Ok, Err, ◌⊎◌, Option, subst, ◌*◌, ◌<◌, ◌≤◌, arith, eq-eqb, cases_Bool}
-use Rattle.fault.proofs.Names.{cases_eq, false≢true, nat_tests, same_Some, bytes_of, IsPage, missing_of, Place, Home, Frame, Slot, InFrame, InSlot, seat, is_private, is_swapped, Picture, entry, IsFit, IsBehind, is_shared, IsPageFor, Frees}
-use Rattle.std.proofs.Common.{is_some}
+use Rattle.fault.proofs.{AccessSteps.{untouched_home}, Forms.{mapped_page}, Names.{top_level, widest_end, Access, Store, FrameNo, PageKey, File, Object, Attr, Backing, Anon, Shared, Common, stands_on, Phys, Code, Width, Verdict, Fine}}
+use Rattle.fault.proofs.Names.{Faults, is_past_end, View, FileInfo, FilePage, ObjectPage, is_object_page, names, Files, is_past_end_of, ◌≡◌, ◌≢◌, ℕ, inl, inr, true, false, Some, None, refl, sym, ap, ◌∙◌, Result, Ok, Err, ◌⊎◌, Option, subst}
+use Rattle.fault.proofs.Names.{◌*◌, ◌<◌, ◌≤◌, arith, eq-eqb, cases_Bool, cases_eq, false≢true, nat_tests, same_Some, bytes_of, IsPage, missing_of, Place, Home, Frame, Slot, InFrame, InSlot, seat, is_private, is_swapped, Picture, entry}
+use Rattle.fault.proofs.{Names.{IsFit, IsBehind, is_shared, IsPageFor, Frees, IsWhole, Core, seat_own, seat_common, seat_away, IsErrAnd, nat_le, Ghosts, translated, WalkFault, sizes, named-at, IsPageOf}, OwnSteps.{shown_own, shown_behind}}
+use Rattle.fault.{proofs.{Ready.{page_user, behind_place}, Settled.{none_same}, Steps.{linked_kept}}, specs.Changes.{IsLinked, KeepsSeen, KeepsSpaces, KeepsTables, KeepsViews, copied_frame, shown_frame, IsCalm, is_sole}}
+use Rattle.{fault.specs.{Files.{IsInStore}, Outcome.{verdict_of, IsPlaced, IsWalked}, Wants.{HoldsShown, KeepsOwnFrame, ShowsFile, LacksTable, Wants, ForFile, ForStore, ReadsHome}}, std.proofs.Common.{is_some}}
 use Rattle.vm_types.specs.declared.region.Backing.TheVariants.{Private}
 use Rattle.vm_types.specs.declared.mode.Levels as Levels
-use Rattle.fault.specs.{Changes.{IsLinked, KeepsSeen, KeepsSpaces, KeepsTables, KeepsViews, copied_frame, shown_frame, IsCalm, is_sole}, Wants.{HoldsShown, KeepsOwnFrame, ShowsFile, LacksTable, Wants, ForFile, ForStore, ReadsHome}}
-use Rattle.fault.{specs.{Files.{IsInStore}, Outcome.{verdict_of, IsPlaced, IsWalked}}, proofs.{Forms.{mapped_page}, OwnSteps.{shown_own, shown_behind}, Steps.{linked_kept}, Settled.{none_same}, Ready.{page_user, behind_place}}}
-use Rattle.fault.proofs.{Names.{IsWhole, Core, seat_own, seat_common, seat_away, IsErrAnd, nat_le, Ghosts, translated, WalkFault, sizes, named-at, IsPageOf}, AccessSteps.{untouched_home}}
 
 -- none while a table is missing
 pub unlinked_keeps : {mode : ℕ} (c : Picture mode) (pid page : ℕ) (access : Access) → (IsWhole c pid page → ⊥) → KeepsOwnFrame c pid page access None

@@ -2,10 +2,10 @@
 use Rattle.fault.proofs.Names.{top_level, Attr, Stall, ◌≡◌, ◌≢◌, ◌-◌, ◌≤◌, ℕ, zero, suc, inl, inr, Option, Some, None, get_or, sym, ap, ◌∙◌, subst, arith, Result, Ok, Err, refl, cases_eq, Free, Table, Private, Cache, FrameTable}
 use Rattle.fault.proofs.Names.{frame_count, role_of, bytes_of, IsFull, Role, LinksTable, IsBelowRoot, Points, Way, last_table, missing_of, ends, way_forth, Same, GivesForTables, KeepsRoles, KeepsRolesBut, Picture, entry, bytes_in, IsOwned}
 use Rattle.fault.proofs.Names.{picture_of, Frees, ObtainsTable, KeepsPages, SameBeside, IsWhole, Seat, InFrame, InSlot, seat, IsFit, IsMapped, Core, gives_then, gives_same, entry-same, loose_table, fit_linked, each_view, view_seated}
-use Rattle.vm_types.specs.declared.mode.Levels as Levels
 use Rattle.fault.specs.{Changes.{AddsNoTable, IsTableOnWay, LinksTables, KeepsTables, KeepsBare, KeepsSlotted, KeepsRoom, KeepsSpaces}, WaysLinked.{TakesForTables}}
 use Rattle.fault.proofs.Steps.{table_before, slotted_then, slotted_frees, slotted_same, tables_then, bare_then, tables_freed, bare_freed, room_freed, room_then, spaces_freed, spaces_then, full_stays, moves_none, moves_then, stall_then}
 use Rattle.fault.proofs.{Names.{held_same, keeps_then, IsSome, IfOk, IsErrAnd, OnOk, Ghosts, Nothing, IsReady}, Asking.{no_new_same, no_new_then, asks_slots_if, asks_slots_same, asks_slots_then}}
+use Rattle.vm_types.specs.declared.mode.Levels as Levels
 
 -- a table on the way to a page that is not the root
 module _ (mode : ℕ) where

@@ -20,11 +20,11 @@ module _ {mode : ℕ} where
     pub lets : lets access attr.prot ≡ true
     pub inside : is_past_end c.files attr.backing ≡ false
 
--- the root of a process, and the lowest table on the way to a page of it, if one is named
+-- the root of a process, and the lowest table on the way to the page, if one is named
 module _ {mode : ℕ} where
-  pub record IsWayTo (c : Picture mode) (pid page : ℕ) (way : Way) : Type 0 where
+  pub record IsWayTo (c : Picture mode) (pid : ℕ) (way : Way) : Type 0 where
     pub root : c.root pid ≡ Some way.root.0
-    pub table : IfSome way.table (λ n. IsTableOf c.frames (top_level mode) way.root.0 (page / table_entries) n.0)
+    pub table : IfSome way.table (λ n. IsTableOf c.frames (top_level mode) way.root.0 (way.page / table_entries) n.0)
 
 -- the walk from the process's root returns no place
 module _ {mode : ℕ} where
@@ -33,15 +33,15 @@ module _ {mode : ℕ} where
 
 -- the page of an access that is fine, and that the tables don't grant, and the way to it
 module _ {mode : ℕ} where
-  pub record IsFineAt (c : Picture mode) (pid addr : ℕ) (width : Width) (access : Access) (page : ℕ) (attr : Attr) (way : Way) : Type 0 where
-    pub page_is : page ≡ addr / 4096
-    pub allowed : IsOpenTo c pid page access attr
-    pub fine : verdict_of c pid addr width access ≡ Fine (seen_at c pid page attr)
+  pub record IsFineAt (c : Picture mode) (pid addr : ℕ) (width : Width) (access : Access) (attr : Attr) (way : Way) : Type 0 where
+    pub page_is : way.page ≡ addr / 4096
+    pub allowed : IsOpenTo c pid way.page access attr
+    pub fine : verdict_of c pid addr width access ≡ Fine (seen_at c pid way.page attr)
     pub unwalked : IsUnwalked c pid addr access
-    pub walked : IsWayTo c pid page way
+    pub walked : IsWayTo c pid way
 
 module _ {mode : ℕ} where
   abbrev pub FindsPlace : Picture mode → ℕ → ℕ → Width → Access → Finding → Type 0
   FindsPlace c pid addr width access (Finding.Place phys) = IsPlaced c c pid addr width access phys × Grants c c pid addr width access phys
-  FindsPlace c pid addr width access (Finding.Page page attr way) = IsFineAt c pid addr width access page attr way
+  FindsPlace c pid addr width access (Finding.Page attr way) = IsFineAt c pid addr width access attr way
   FindsPlace c pid addr width access (Finding.Fault code) = verdict_of c pid addr width access ≡ Faults code

@@ -47,8 +47,8 @@ pub fn access<D: SectorDisk, E: SectorDisk, M: Levels>(
     match find(core, pid, addr, width, access) {
         Finding::Place(place) => Ok(place),
         Finding::Fault(code) => Err(AccessRefusal::Fault(fault(access, code, addr))),
-        Finding::Page(page, attr, way) => {
-            let frame = grant(core, pid, page, &attr, way, access)?;
+        Finding::Page(attr, way) => {
+            let frame = grant(core, pid, &attr, way, access)?;
             Ok(place_in(frame, addr))
         }
     }

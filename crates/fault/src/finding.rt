@@ -21,8 +21,8 @@ const PAGE: u64 = PAGE_BYTES as u64;
 pub(crate) enum Finding {
     /// Its place: the page's entry grants it.
     Place(Phys),
-    /// A page whose entry doesn't grant it, though the access is fine, and the way to it.
-    Page(Vpn, Attr, Way),
+    /// A page whose entry doesn't grant it, though the access is fine: what it is, and the way to it.
+    Page(Attr, Way),
     /// A fault.
     Fault(Code),
 }
@@ -30,6 +30,8 @@ pub(crate) enum Finding {
 /// The way to a page, as it was walked.
 #[derive(Clone, Copy, Debug, PartialEq, Eq)]
 pub(crate) struct Way {
+    /// The page.
+    pub page: Vpn,
     /// The root table of the process.
     pub root: FrameNo,
     /// The lowest table; `None` where one is missing.
@@ -62,7 +64,7 @@ pub(crate) fn find<D: SectorDisk, E, M: Levels>(
     match walk_page(&mut core.frames, root, page, access) {
         WalkEnd::Frame(frame) => Finding::Place(place_in(frame, addr)),
         WalkEnd::Fault(table) => match judge(core, pid, page, access) {
-            Ok(attr) => Finding::Page(page, attr, Way { root, table }),
+            Ok(attr) => Finding::Page(attr, Way { page, root, table }),
             Err(code) => Finding::Fault(code),
         },
     }

@@ -32,15 +32,15 @@ use vm_types::{Access, Attr, Backing, FilePage, FrameNo, Levels, PageKey, Pid, S
 pub(crate) fn grant<D: SectorDisk, E: SectorDisk, M: Levels>(
     core: &mut Core<D, E, M>,
     pid: Pid,
-    page: Vpn,
     attr: &Attr,
     way: Way,
     access: Access,
 ) -> Result<FrameNo, Stall>
-    requires may { MayServe D.SectorDisk E.SectorDisk core.old pid page attr.now access }
-    requires way { IsWayTo (picture_of core.old) pid page way }
-    ensures { Serves D.SectorDisk E.SectorDisk core.old core.new pid page attr.now access result }
+    requires may { MayServe D.SectorDisk E.SectorDisk core.old pid way.page attr.now access }
+    requires way { IsWayTo (picture_of core.old) pid way }
+    ensures { Serves D.SectorDisk E.SectorDisk core.old core.new pid way.page attr.now access result }
 {
+    let page = way.page;
     match way.table {
         Some(table) => {
             let root = way.root;
@@ -123,7 +123,7 @@ fn grant_read<D: SectorDisk, E: SectorDisk, M: Levels>(
             Ok(ZERO_PAGE)
         }
         Some(stored) => {
-            let frame = cached(core, &stored)?;
+            let frame = cached(core, stored)?;
             show_cached(core, spot, attr, frame);
             Ok(frame)
         }
@@ -185,7 +185,7 @@ fn grant_copy<D: SectorDisk, E: SectorDisk, M: Levels>(
     requires none { seat (entry (picture_of core.old) spot.now.pid spot.now.page) ≡ None }
     ensures { Serves D.SectorDisk E.SectorDisk core.old core.new spot.now.pid spot.now.page attr.now Store result }
 {
-    cached(core, &PageKey::File(file_page))?;
+    cached(core, PageKey::File(file_page))?;
     own_frame(core, spot, attr)
 }
 
@@ -201,7 +201,7 @@ fn grant_shared<D: SectorDisk, E: SectorDisk, M: Levels>(
     requires stands { stands_on attr.now.backing ≡ Some stored.now }
     ensures { Serves D.SectorDisk E.SectorDisk core.old core.new spot.now.pid spot.now.page attr.now Store result }
 {
-    let frame = cached(core, stored)?;
+    let frame = cached(core, *stored)?;
     touch(core, spot, attr, stored, frame);
     Ok(frame)
 }

@@ -19,13 +19,13 @@ use vm_types::{FrameNo, Levels, PageKey, Stall};
 /// was.
 pub(crate) fn cached<D: SectorDisk, E: SectorDisk, M: Levels>(
     core: &mut Core<D, E, M>,
-    page: &PageKey,
+    page: PageKey,
 ) -> Result<FrameNo, Stall>
-    requires { MayBring D.SectorDisk E.SectorDisk core.old page.now }
-    ensures pages_in { PagesIn D.SectorDisk E.SectorDisk core.old core.new page.now result }
-    ensures idle { (n : FrameNo) → (picture_of core.old).place page.now ≡ Frame n → (core.new ≡ core.old) × OnErr result ⊥ }
+    requires { MayBring D.SectorDisk E.SectorDisk core.old page }
+    ensures pages_in { PagesIn D.SectorDisk E.SectorDisk core.old core.new page result }
+    ensures idle { (n : FrameNo) → (picture_of core.old).place page ≡ Frame n → (core.new ≡ core.old) × OnErr result ⊥ }
 {
-    match core.cache.place(*page) {
+    match core.cache.place(page) {
         Place::Frame(frame) => Ok(frame),
         place => bring(core, page, place),
     }
@@ -35,31 +35,31 @@ pub(crate) fn cached<D: SectorDisk, E: SectorDisk, M: Levels>(
 #[inline(never)]
 fn bring<D: SectorDisk, E: SectorDisk, M: Levels>(
     core: &mut Core<D, E, M>,
-    page: &PageKey,
+    page: PageKey,
     place: Place,
 ) -> Result<FrameNo, Stall>
-    requires may { MayBring D.SectorDisk E.SectorDisk core.old page.now }
-    requires place { (picture_of core.old).place page.now ≡ place }
+    requires may { MayBring D.SectorDisk E.SectorDisk core.old page }
+    requires place { (picture_of core.old).place page ≡ place }
     requires away { (n : FrameNo) → place ≢ Frame n }
-    ensures { PagesIn D.SectorDisk E.SectorDisk core.old core.new page.now result }
+    ensures { PagesIn D.SectorDisk E.SectorDisk core.old core.new page result }
 {
     match place {
         Place::Frame(_) => unreachable!(),
         Place::Home => bring_home(core, page),
-        Place::Slot(slot) => core.bring_back(*page, slot),
+        Place::Slot(slot) => core.bring_back(page, slot),
     }
 }
 
 // Of a page that is at home.
 fn bring_home<D: SectorDisk, E: SectorDisk, M: Levels>(
     core: &mut Core<D, E, M>,
-    page: &PageKey,
+    page: PageKey,
 ) -> Result<FrameNo, Stall>
-    requires may { MayBring D.SectorDisk E.SectorDisk core.old page.now }
-    requires home { (picture_of core.old).place page.now ≡ Home }
-    ensures { PagesIn D.SectorDisk E.SectorDisk core.old core.new page.now result }
+    requires may { MayBring D.SectorDisk E.SectorDisk core.old page }
+    requires home { (picture_of core.old).place page ≡ Home }
+    ensures { PagesIn D.SectorDisk E.SectorDisk core.old core.new page result }
 {
-    match *page {
+    match page {
         PageKey::File(page) => core.bring_in(page),
         PageKey::Object(page) => core.bring_blank(page),
     }

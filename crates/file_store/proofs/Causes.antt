@@ -1,7 +1,6 @@
 -- What the faults of the calls below say.
-use Rattle.file_store.proofs.Names.{◌≡◌, ◌⊎◌, inl, inr, Result, Ok, Err, refl, ap, IsErrAnd, OnErr, RecoverFault}
+use Rattle.file_store.{proofs.Names.{◌≡◌, ◌⊎◌, inl, inr, Result, Ok, Err, refl, ap, IsErrAnd, OnErr, RecoverFault}, specs.{Faults.{open_fault}, declared.faults.OpenFault.TheVariants.{BadJournal}}}
 use Rattle.sync_journal.specs.declared.faults.RecoverFault.TheVariants.{Device as RecoverDevice, BadJournal as RecoverBadJournal}
-use Rattle.file_store.specs.{declared.faults.OpenFault.TheVariants.{BadJournal}, Faults.{open_fault}}
 
 pub journal_from : (r : RecoverFault) → BadJournal ≡ open_fault r → r ≡ RecoverBadJournal
 journal_from RecoverDevice e = cc

@@ -1,11 +1,10 @@
 -- What a commit makes of the files.
-use Rattle.file_store.proofs.Names.{◌≡◌, ◌≢◌, ℕ, zero, suc, ◌+◌, ◌*◌, ◌<◌, ◌≤◌, ◌⊎◌, ⊎_elim, inl, inr, List, map, length, get_or, take, slice_get, slice_index, Option, Some, None, cond, false, eqb, refl, sym, ap, subst, ◌∙◌, arith}
-use Rattle.file_store.proofs.Names.{cases_eq, cases_lt, eq-eqb, nat_tests, length-take-le, get_or-take, length-map, get_or-map, same_number_lists, same_Some, slice_get-get_or, slice_get_within, Image, part_of, kind_home_count}
-use Rattle.file_store.proofs.Names.{StoreStandsFor, StoreStandsForEither, IsStoreKept, place_among, AreHomes, changed, sector_or, Journals, FileInfo, FilePage, joined-same, joined_parts}
-use Rattle.file_store.specs.{declared.directory.Entry.{Entry}, declared.directory.Directory.{Directory}, Layout.{padded_page, bytes_inside}, Directory.{IsSoundDirectory, IsHomeOf}}
-use Rattle.file_store.specs.{Standing.{IsPageOf, StandsFor, standing, directory_entry, page_standing, standing_page}, Store.{entry_of, home_of, homes_of_pages, inside_named, inside_at, IsEntryPage, PutsHomes, PutsHomesOrNone}}
-use Rattle.file_store.{specs.Commit.{cut_page, ArePages, Changes, StandsForEither}, proofs.{Pieces.{trimmed-trimmed, length-trimmed}, Homes.{entry_behind, home_of-entry, is_home, one_file, one_page, home_inside, inside_of-entry}}}
-use Rattle.file_store.proofs.Images.{SameHead, same_head, entry_same, info_same, bad_layout_moves, stands_kept}
+use Rattle.file_store.proofs.{Homes.{entry_behind, home_of-entry, is_home, one_file, one_page, home_inside, inside_of-entry}, Images.{SameHead, same_head, entry_same, info_same, bad_layout_moves, stands_kept}, Names.{◌≡◌, ◌≢◌, ℕ, zero}}
+use Rattle.file_store.proofs.Names.{suc, ◌+◌, ◌*◌, ◌<◌, ◌≤◌, ◌⊎◌, ⊎_elim, inl, inr, List, map, length, get_or, take, slice_get, slice_index, Option, Some, None, cond, false, eqb, refl, sym, ap, subst, ◌∙◌, arith, cases_eq, cases_lt, eq-eqb}
+use Rattle.file_store.proofs.Names.{nat_tests, length-take-le, get_or-take, length-map, get_or-map, same_number_lists, same_Some, slice_get-get_or, slice_get_within, Image, part_of, kind_home_count, StoreStandsFor, StoreStandsForEither}
+use Rattle.file_store.{proofs.{Names.{IsStoreKept, place_among, AreHomes, changed, sector_or, Journals, FileInfo, FilePage, joined-same, joined_parts}, Pieces.{trimmed-trimmed, length-trimmed}}, specs.Commit.{cut_page, ArePages, Changes}}
+use Rattle.file_store.specs.{Commit.{StandsForEither}, Directory.{IsSoundDirectory, IsHomeOf}, Layout.{padded_page, bytes_inside}, Standing.{IsPageOf, StandsFor, standing, directory_entry, page_standing, standing_page}, Store.{entry_of}}
+use Rattle.file_store.specs.{Store.{home_of, homes_of_pages, inside_named, inside_at, IsEntryPage, PutsHomes, PutsHomesOrNone}, declared.directory.{Directory.{Directory}, Entry.{Entry}}}
 
 eqb-ne : (m n : ℕ) → m ≢ n → eqb m n ≡ false
 eqb-ne m n other = grind (arith, nat_tests)
@@ -58,9 +57,8 @@ are_homes kind sectors directory files list homes sound pages of_list = record {
   inside = λ j lt.
       let at = at_place list j (omega (arith, lt, of_list.size)) in
       let entry = of_list.entries j at.0 at.1 in
-      let home = of_list.each j at.0 at.1 ∙ home_of-entry directory at.0 entry.entry entry.is in
       let below = home_inside kind sectors directory sound at.0 entry in
-      subst (λ h. h < kind_home_count kind sectors) (sym home) below;
+      subst (λ h. h < kind_home_count kind sectors) (sym (of_list.each j at.0 at.1 ∙ home_of-entry directory at.0 entry.entry entry.is)) below;
   distinct = λ i j less lt same.
       let at = at_place list i (omega (arith, less, lt, of_list.size)) in
       let at' = at_place list j (omega (arith, lt, of_list.size)) in

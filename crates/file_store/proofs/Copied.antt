@@ -1,11 +1,8 @@
 -- How pages go on being copied, and how it ends.
-use Rattle.file_store.proofs.Names.{◌≡◌, ◌+◌, ◌<◌, ◌≤◌, ℕ, Result, Ok, Err, ⊎_elim, inl, inr, refl, sym, ap, subst, ◌∙◌, arith, IsErrAnd, Image, Names, AsksOnly, Nothing, Ghosts, asks_named, asks_then, asks_wider, Journals, layout_before}
-use Rattle.file_store.proofs.Names.{home_count_in, IsPageSector, kind_home_count, RunsOnDevice}
-use Rattle.file_store.specs.{declared.directory.Entry.{Entry}, declared.faults.OpenFault.{OpenFault}, declared.faults.UpgradeFault.{UpgradeFault}, declared.faults.UpgradeFault.TheVariants.{OldDevice, NewDevice}, declared.old_store.OldStore.{OldStore}}
-use Rattle.file_store.specs.{Directory.{home_end, IsSoundDirectory}, Faults.{old_fault}, Making.{Makes}, Opened.{LooksAt}, Store.{entry_of}, Upgrade.{IsOldStore, IsOldHead, IsOldFile, IsOldPage, IsOldAsked, HasUpgradeCauses, old_place}}
-use Rattle.file_store.specs.Upgraded.{IsCopiable, CopiesPages}
-use Rattle.file_store.specs.declared.faults.OpenFault.TheVariants.{Device as OpenDevice, BadLayout, BadJournal}
-use Rattle.file_store.proofs.{Causes.{is_this, same_Err}, Looking.{ok_is_no_err}, Openings.{content_is}}
+use Rattle.file_store.proofs.{Causes.{is_this, same_Err}, Looking.{ok_is_no_err}, Names.{◌≡◌, ◌+◌, ◌<◌, ◌≤◌, ℕ, Result, Ok, Err, ⊎_elim, inl, inr, refl, sym, ap, subst, ◌∙◌, arith, IsErrAnd, Image, Names, AsksOnly, Nothing, Ghosts}}
+use Rattle.file_store.{proofs.{Names.{asks_named, asks_then, asks_wider, Journals, layout_before, home_count_in, IsPageSector, kind_home_count, RunsOnDevice}, Openings.{content_is}}, specs.Directory.{home_end, IsSoundDirectory}}
+use Rattle.file_store.specs.{Faults.{old_fault}, Making.{Makes}, Opened.{LooksAt}, Store.{entry_of}, Upgrade.{IsOldStore, IsOldHead, IsOldFile, IsOldPage, IsOldAsked, HasUpgradeCauses, old_place}, Upgraded.{IsCopiable, CopiesPages}}
+use Rattle.file_store.specs.declared.{directory.Entry.{Entry}, faults.{OpenFault.{OpenFault, TheVariants.{Device as OpenDevice}}, UpgradeFault.{UpgradeFault, TheVariants.{OldDevice, NewDevice}}}, old_store.OldStore.{OldStore}}
 
 old_no_new : ◌≡◌ {A = UpgradeFault} OldDevice NewDevice → ⊥
 old_no_new e = cc
@@ -47,13 +44,11 @@ causes_marking a b c d e calm still failed = record {
 
 pub old_is_no_new : (f : OpenFault) → old_fault f ≡ NewDevice → ⊥
 old_is_no_new OpenDevice e = cc
-old_is_no_new BadLayout e = cc
-old_is_no_new BadJournal e = cc
+old_is_no_new f e = cc
 
 pub old_device_from : (f : OpenFault) → old_fault f ≡ OldDevice → f ≡ OpenDevice
 old_device_from OpenDevice e = refl
-old_device_from BadLayout e = cc
-old_device_from BadJournal e = cc
+old_device_from f e = cc
 
 pub causes_before : {D T U : Type 0} {g : Ghosts D} (fault : OpenFault) (old new : D) (x : ℕ) → LooksAt g {T = T} old new (Err fault) → g.failures old ≤ g.failures new
     → HasUpgradeCauses {T = U} (g.failures old) (g.failures new) x x (Err (old_fault fault))

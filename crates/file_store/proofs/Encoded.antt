@@ -1,9 +1,8 @@
 -- Entries as bytes, and the sector that they make.
-use Rattle.file_store.proofs.Names.{◌≡◌, ℕ, ◌+◌, ◌-◌, ◌*◌, ◌/◌, ◌%◌, ◌<◌, ◌≤◌, ⊎_elim, cond, eqb, List, [], ◌++◌, length, get_or, take, drop, Option, Some, None, refl, sym, ap, ◌∙◌, arith, cases_lt, cases_Bool, cond-true, cond-false}
-use Rattle.file_store.proofs.Names.{cond_both, eq-eqb, ne_eqb, get_or-take, get_or-drop, get_or_append_left, get_or-append_right, get_or_past, length-take-le, slice_get_past, option_map, little_bytes, little_number-reads_back, put_mid}
-use Rattle.file_store.proofs.Names.{post_of, same_number, length_put}
-use Rattle.file_store.specs.{declared.directory.Entry.{Entry}, Directory.{word_of, length_of, decoded, IsZero, entry_bytes, entry_in}, declared.sources.FileSource.{FileSource}, Format.{info_of, first_home, entry_given}}
-use Rattle.file_store.proofs.Entries.{entry_in-inside, entry_in-outside}
+use Rattle.file_store.proofs.{Entries.{entry_in-inside, entry_in-outside}, Names.{◌≡◌, ℕ, ◌+◌, ◌-◌, ◌*◌, ◌/◌, ◌%◌, ◌<◌, ◌≤◌, ⊎_elim, cond, eqb, List, [], ◌++◌, length, get_or, take, drop, Option, Some, None, refl, sym, ap, ◌∙◌, arith}}
+use Rattle.file_store.proofs.Names.{cases_lt, cases_Bool, cond-true, cond-false, cond_both, eq-eqb, ne_eqb, get_or-take, get_or-drop, get_or_append_left, get_or-append_right, get_or_past, length-take-le, slice_get_past, option_map}
+use Rattle.file_store.{proofs.Names.{little_bytes, little_number-reads_back, put_mid, post_of, same_number, length_put}, specs.{Directory.{word_of, length_of, decoded, IsZero, entry_bytes, entry_in}, Format.{info_of, first_home}}}
+use Rattle.file_store.specs.{Format.{entry_given}, declared.{directory.Entry.{Entry}, sources.FileSource.{FileSource}}}
 
 -- what two numbers say
 abbrev entry_from : ℕ → ℕ → Option Entry

@@ -1,9 +1,7 @@
 -- Directory sectors, entry by entry.
 use Rattle.file_store.proofs.Names.{◌≡◌, ℕ, ◌+◌, ◌<◌, ◌≤◌, ⊎_elim, List, length, get_or, take, set, Option, Some, None, sym, subst, ◌∙◌, arith, cases_eq, cases_lt, get_or-take, get_or-set_same, get_or-set_other, get_or_past, length-take-le}
-use Rattle.file_store.proofs.Names.{none-some, nat_tests, IfSome}
-use Rattle.std.specs.Prelude.{◌^◌}
-use Rattle.file_store.specs.{declared.directory.Entry.{Entry}, Directory.{decoded, entry_in, entry_bytes, IsZero, home_end, IsHomeOf, IsBadDirectory, IsSoundDirectory, AreGood, AreEntries}}
-use Rattle.file_store.specs.Directory.IsBadDirectory.{NotZero, Outside, Overlap}
+use Rattle.file_store.{proofs.Names.{none-some, nat_tests, IfSome}, specs.Directory.{decoded, entry_in, entry_bytes, IsZero, home_end, IsHomeOf, IsBadDirectory, IsSoundDirectory, AreGood, AreEntries, IsBadDirectory.{NotZero, Outside}}}
+use Rattle.{file_store.specs.{Directory.IsBadDirectory.{Overlap}, declared.directory.Entry.{Entry}}, std.specs.Prelude.{◌^◌}}
 
 pub entry_in-inside : (sector : List ℕ) (f : ℕ) → f < 64 → entry_in sector f ≡ decoded (entry_bytes sector f)
 unfolding entry_in
@@ -15,9 +13,6 @@ entry_in-outside sector f le = grind (arith, nat_tests)
 
 pub below_64 : (sector : List ℕ) (f : ℕ) (e : Entry) → entry_in sector f ≡ Some e → f < 64
 below_64 sector f e is = ⊎_elim (λ lt. lt) (λ le. absurd (none-some e (sym (entry_in-outside sector f le) ∙ is))) (cases_lt f 64)
-
-pub entries_none : (sector : List ℕ) (entries : List (Option Entry)) → AreEntries sector entries 0
-entries_none sector entries = record { each = λ f lt. absurd (omega (arith, lt)) }
 
 pub good_more : (homes : ℕ) (sector : List ℕ) (n : ℕ) → AreGood homes sector n
     → (entry_in sector n ≡ None → IsZero (entry_bytes sector n))

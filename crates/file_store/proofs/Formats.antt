@@ -1,9 +1,8 @@
 -- What a stop leaves while a store is made: all but the mark is written and synced, and then the mark.
-use Rattle.file_store.proofs.Names.{◌≡◌, ◌⊎◌, ◌+◌, ◌<◌, ◌≤◌, ℕ, ⊎_elim, inl, inr, List, length, Option, sym, ap, subst, ◌∙◌, arith, Image, MayLeave, Touches, LeavesOnly, Ghosts, started, goes_on, kind_of, kind_homes, kind_home}
-use Rattle.file_store.proofs.Names.{kind_home_count, Journals, Single, Paired}
-use Rattle.file_store.specs.{declared.sources.FileSource.{FileSource}, Layout.{turn_mark, IsMark, bytes_inside}, Versions.{version_at, version_of, mark_of}}
-use Rattle.file_store.specs.Format.{total_pages, first_home, page_given, IsFrom, IsMarkSector, IsTableSector, IsDirectoryOf, HoldsFiles, HasTables, IsStoreOf, IsUnmarkedStoreOf, IsKindlessStoreOf}
-use Rattle.file_store.proofs.{Images.{sector_kind, is_some_mark}, NewStores.{cut_moves, unmarked_moves, store_if_marked}, Blocks.{single_paired}}
+use Rattle.file_store.proofs.{Blocks.{single_paired}, Images.{sector_kind, is_some_mark}, Names.{◌≡◌, ◌⊎◌, ◌+◌, ◌<◌, ◌≤◌, ℕ, ⊎_elim, inl, inr, List, length, Option, sym, ap, subst, ◌∙◌, arith, Image, MayLeave, Touches, LeavesOnly, Ghosts}}
+use Rattle.file_store.{proofs.{Names.{started, goes_on, kind_of, kind_homes, kind_home, kind_home_count, Journals, Single, Paired}, NewStores.{cut_moves, unmarked_moves, store_if_marked}}, specs.Format.{total_pages, first_home, page_given}}
+use Rattle.file_store.specs.{Format.{IsFrom, IsMarkSector, IsTableSector, IsDirectoryOf, HoldsFiles, HasTables, IsStoreOf, IsUnmarkedStoreOf, IsKindlessStoreOf}, Layout.{turn_mark, IsMark, bytes_inside}, Versions.{version_at, version_of}}
+use Rattle.file_store.specs.{Versions.{mark_of}, declared.sources.FileSource.{FileSource}}
 
 -- whatever such an image is, if it has the mark
 module _ {D : Type 0} (g : Ghosts D) (Whole : Image → Type 0) (old : D)

@@ -20,14 +20,11 @@ pub entry_page : (kind : Journals) (sectors : ℕ) (directory : Directory) → I
     → IsPageOf (λ f. option_map (λ e. e.info) (entry_of directory f)) p.file p.page → IsEntryPage directory p
 entry_page kind sectors directory sound p inside =
     let b = entry_behind (entry_of directory p.file) inside.0 inside.1 in
-    let within = sound.within p.file b.0 b.1 in
     let lt : 4096 * p.page < b.0.info.length = subst (λ (i : FileInfo). 4096 * p.page < i.length) (sym b.2) inside.2 in
-    record { entry = b.0; is = b.1; inside = lt; fits = omega (arith, within, lt) }
+    record { entry = b.0; is = b.1; inside = lt; fits = omega (arith, sound.within p.file b.0 b.1, lt) }
 
 pub home_inside : (kind : Journals) (sectors : ℕ) (directory : Directory) → IsSoundDirectory (kind_home_count kind sectors) (entry_of directory) → (p : FilePage) → (at : IsEntryPage directory p) → at.entry.first + p.page < kind_home_count kind sectors
-home_inside kind sectors directory sound p at =
-    let within = sound.within p.file at.entry at.is in
-    omega (arith, within, at.inside)
+home_inside kind sectors directory sound p at = omega (arith, sound.within p.file at.entry at.is, at.inside)
 
 -- a home belongs to one page of one file
 pub one_file : (homes : ℕ) (entry : ℕ → Option Entry) → IsSoundDirectory homes entry → (f g h : ℕ) (a b : Entry) → entry f ≡ Some a → entry g ≡ Some b → IsHomeOf a h → IsHomeOf b h → f ≡ g

@@ -1,11 +1,10 @@
 -- What images stand for.
-use Rattle.file_store.proofs.Names.{◌≡◌, ℕ, ◌+◌, ◌<◌, ◌≤◌, ⊎_elim, inl, inr, Bool, true, false, List, get_or, Option, Some, None, refl, sym, ap, subst, ◌∙◌, arith, bytes_eq-Decides, bytes_eq, Image, joined, layout_before, IsBadMap}
-use Rattle.file_store.proofs.Names.{map_count, place_among, home_in, standing_under, named_in, turn_map, turn_stands, turn_kind, is_kind, kind_when, kind_of, kind_homes, kind_home, kind_standing, IsKindBad, IsKindClosed, IsKindOutside}
-use Rattle.file_store.proofs.Names.{StoreStandsAs, Journals, Single, Paired, closed_not_bad, joined-same}
-use Rattle.file_store.specs.{declared.directory.Entry.{Entry}, declared.version.Version.{Version}, declared.version.Version.TheVariants.{One, Two, Three}, Layout.{IsMark, mark, turn_mark, padded_page, bytes_inside}}
-use Rattle.file_store.specs.{Versions.{version_at, version_before, version_of, homes_of, home_pages_of, directory_of, mark_of}, Format.{IsFrom, IsLayoutSector, IsUnmarkedSector}, Directory.{entry_in, decoded, IsBadDirectory, AreGood}}
-use Rattle.file_store.specs.Standing.{standing, IsBadJournal, IsBadLayoutIn, IsBadLayout, listed_entry, info_at, directory_entry, file_info, page_standing, standing_page, StandsFor, StandsAs}
-use Rattle.file_store.{specs.Standing.IsBadLayoutIn.{TooSmall, Unmarked, BadDirectory}, proofs.Entries.{good_directory}}
+use Rattle.file_store.proofs.{Entries.{good_directory}, Names.{◌≡◌, ℕ, ◌+◌, ◌<◌, ◌≤◌, ⊎_elim, inl, inr, Bool, true, false, List, get_or, Option, Some, None, refl, sym, ap, subst, ◌∙◌, arith, bytes_eq-Decides, bytes_eq, Image, joined}}
+use Rattle.file_store.proofs.Names.{layout_before, IsBadMap, map_count, place_among, home_in, standing_under, named_in, turn_map, turn_stands, turn_kind, is_kind, kind_when, kind_of, kind_homes, kind_home, kind_standing, IsKindBad}
+use Rattle.file_store.{proofs.Names.{IsKindClosed, IsKindOutside, StoreStandsAs, Journals, Single, Paired, closed_not_bad, joined-same}, specs.{Directory.{entry_in, decoded, IsBadDirectory, AreGood}, Format.{IsFrom, IsLayoutSector}}}
+use Rattle.file_store.specs.{Format.{IsUnmarkedSector}, Layout.{IsMark, mark, turn_mark, padded_page, bytes_inside}, Standing.{standing, IsBadJournal, IsBadLayoutIn, IsBadLayout, listed_entry, info_at, directory_entry, file_info}}
+use Rattle.file_store.specs.{Standing.{page_standing, standing_page, StandsFor, StandsAs, IsBadLayoutIn.{TooSmall, Unmarked, BadDirectory}}, Versions.{version_at, version_before, version_of, homes_of, home_pages_of, directory_of, mark_of}}
+use Rattle.file_store.specs.declared.{directory.Entry.{Entry}, version.Version.{Version, TheVariants.{One, Two, Three}}}
 
 -- where nothing stands in a journal alone, a home page stands in its home
 pub kind_closed : (kind : Journals) (image : Image) (h i : ℕ) → IsKindClosed kind image → kind_standing kind image h i ≡ image (kind_home kind h + i)

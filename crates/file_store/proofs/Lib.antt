@@ -26,4 +26,3 @@ pub mod Stops
 pub mod Upgrades
 pub mod Copied
 pub mod Refusing
-mod Rows

@@ -1,8 +1,7 @@
 -- A look at a layout: one call after another.
-use Rattle.file_store.proofs.Names.{◌≡◌, ◌<◌, ℕ, Result, Ok, Err, inl, sym, ap, subst, ◌∙◌, arith, on_ok_weaker, on_err_weaker, IsErrAnd, Image, AsksOnly, Nothing, Touches, Ghosts, asks_then, asks_wider, Journals, Paired, kind_of}
-use Rattle.file_store.proofs.Names.{RunsOnDevice, one_more}
-use Rattle.file_store.specs.{declared.faults.OpenFault.{OpenFault}, declared.version.Version.{Version}, Opened.{LooksFor}, Standing.{IsHeadIn}, Versions.{version_at, version_of, directory_of}}
-use Rattle.file_store.proofs.{Causes.{is_this, same_Err}, Openings.{content_is, directory_asked}}
+use Rattle.file_store.proofs.{Causes.{is_this, same_Err}, Names.{◌≡◌, ◌<◌, ℕ, Result, Ok, Err, inl, sym, ap, subst, ◌∙◌, arith, on_ok_weaker, on_err_weaker, IsErrAnd, Image, AsksOnly, Nothing, Touches, Ghosts, asks_then, asks_wider}}
+use Rattle.file_store.{proofs.{Names.{Journals, Paired, kind_of, RunsOnDevice, one_more}, Openings.{content_is, directory_asked}}, specs.{Opened.{LooksFor}, Standing.{IsHeadIn}, Versions.{version_at, version_of, directory_of}}}
+use Rattle.file_store.specs.declared.{faults.OpenFault.{OpenFault}, version.Version.{Version}}
 
 pub ok_is_no_err : {T E : Type 0} (x : T) (e : E) → ◌≡◌ {A = Result T E} (Ok x) (Err e) → ⊥
 ok_is_no_err x e is = cc

@@ -1,7 +1,6 @@
 -- How the parts of making a store go on.
 use Rattle.file_store.proofs.Names.{◌≡◌, ◌⊎◌, ◌≤◌, ◌<◌, ℕ, Result, OnOk, sym, subst, ◌∙◌, arith, IsErr, ChangesOnly, Elapses, Names, Ghosts, then, wider, after_write, after_none, asks_then, asks_wider, asks_named, asks_none, IsPageSector}
-use Rattle.file_store.proofs.Names.{RunsOnDevice}
-use Rattle.file_store.specs.Making.{Makes, WritesTo, WritesSynced}
+use Rattle.file_store.{proofs.Names.{RunsOnDevice}, specs.Making.{Makes, WritesTo, WritesSynced}}
 
 module _ {D : Type 0} (g : Ghosts D) where
   -- one part after another

@@ -1,10 +1,8 @@
 -- How a new store comes about: a look at the mark, then all but the mark, written and synced, and then the mark.
-use Rattle.file_store.proofs.Names.{◌≡◌, ◌⊎◌, ◌≤◌, ℕ, List, Result, Err, Option, inl, inr, ⊎_elim, sym, ap, subst, IsErrAnd, IsErrOf, Image, MayLeave, Nothing, Touches, AsksOnly, LeavesOnly, Ghosts, then, wider, asks_wider, Journals}
-use Rattle.file_store.proofs.Names.{Paired, kind_of, RunsOnDevice}
-use Rattle.file_store.specs.{declared.faults.FormatFault.{FormatFault}, declared.faults.FormatFault.TheVariants.{TooLarge, Formatted, Source, Device}, declared.sources.FileSource.{FileSource}, Blocks.{MakesByBlocks, KindBehind, KindLast}}
-use Rattle.file_store.specs.{Blocks.MakesByBlocks.{Unmarked}, Format.{total_pages, IsFrom, IsMarkSector, IsStoreSector, IsTooLarge, HasReader, IsStoreOf}, Formatted.{FormatsStore}, Layout.{turn_mark, IsMark}}
-use Rattle.file_store.specs.{Making.{Makes, HasFormatCauses}, Versions.{version_of, mark_of}}
-use Rattle.file_store.proofs.{Blocks.{behind_more, last_more, first_epoch, made_last, made_marked}, Causes.{is_this, same_Err}, Formats.{while_unmarked, while_marking}}
+use Rattle.file_store.proofs.{Blocks.{behind_more, last_more, first_epoch, made_last, made_marked}, Causes.{is_this, same_Err}, Formats.{while_unmarked, while_marking}, Names.{◌≡◌, ◌⊎◌, ◌≤◌, ℕ, List, Result, Err, Option, inl, inr, ⊎_elim}}
+use Rattle.file_store.{proofs.Names.{sym, ap, subst, IsErrAnd, IsErrOf, Image, MayLeave, Nothing, Touches, AsksOnly, LeavesOnly, Ghosts, then, wider, asks_wider, Journals, Paired, kind_of, RunsOnDevice}, specs.Blocks.{MakesByBlocks}}
+use Rattle.file_store.specs.{Blocks.{KindBehind, KindLast, MakesByBlocks.{Unmarked}}, Format.{total_pages, IsFrom, IsMarkSector, IsStoreSector, IsTooLarge, HasReader, IsStoreOf}, Formatted.{FormatsStore}, Layout.{turn_mark, IsMark}}
+use Rattle.file_store.specs.{Making.{Makes, HasFormatCauses}, Versions.{version_of, mark_of}, declared.{faults.FormatFault.{FormatFault, TheVariants.{TooLarge, Formatted, Source, Device}}, sources.FileSource.{FileSource}}}
 
 module _ {D : Type 0} (g : Ghosts D) (kind : Journals) (Whole : Journals → Image → Type 0) (old : D) where
   -- every image of a stop lacks the mark or is whole, of layout 3 also one that spoils whole blocks

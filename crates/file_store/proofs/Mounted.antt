@@ -1,9 +1,8 @@
 -- What an opening leaves: a look at the head of the store, and then its journal.
-use Rattle.file_store.proofs.Names.{◌≡◌, ◌<◌, ℕ, Result, Err, inl, refl, ⊎_elim, sym, ap, subst, ◌∙◌, arith, Image, MayLeave, Nothing, Touches, AsksOnly, Ghosts, then, RecoverFault, Journals, StoreJournal, kind_of, IsBadStore}
-use Rattle.file_store.proofs.Names.{IsStoreClosed, IsStoreRecovered, StoreStandsAs, RecoversEither, RunsOnDevice, read_only, while_reading, same_store}
-use Rattle.sync_journal.specs.declared.faults.RecoverFault.TheVariants.{Device as RecoverDevice, BadJournal as RecoverBadJournal}
-use Rattle.file_store.specs.{declared.faults.OpenFault.{OpenFault}, Faults.{open_fault}, Opened.{LooksFor, Mounts}, Resume.{IsRefusedFor}, Standing.{IsBadLayout, IsHeadIn}, Versions.{version_of}}
-use Rattle.file_store.proofs.{Asking.{head_asks, opening_asks}, Causes.{journal_from, fault_cases, same_Err}, Openings.{content_is, recovery_leaves, reads_by_blocks, opens_by_blocks}}
+use Rattle.file_store.proofs.{Asking.{head_asks, opening_asks}, Causes.{journal_from, fault_cases, same_Err}, Names.{◌≡◌, ◌<◌, ℕ, Result, Err, inl, refl, ⊎_elim, sym, ap, subst, ◌∙◌, arith, Image, MayLeave, Nothing, Touches, AsksOnly}}
+use Rattle.file_store.proofs.Names.{Ghosts, then, RecoverFault, Journals, StoreJournal, kind_of, IsBadStore, IsStoreClosed, IsStoreRecovered, StoreStandsAs, RecoversEither, RunsOnDevice, read_only, while_reading, same_store}
+use Rattle.file_store.{proofs.Openings.{content_is, recovery_leaves, reads_by_blocks, opens_by_blocks}, specs.{Faults.{open_fault}, Opened.{LooksFor, Mounts}, Resume.{IsRefusedFor}, Standing.{IsBadLayout, IsHeadIn}, Versions.{version_of}}}
+use Rattle.{file_store.specs.declared.faults.OpenFault.{OpenFault}, sync_journal.specs.declared.faults.RecoverFault.TheVariants.{Device as RecoverDevice, BadJournal as RecoverBadJournal}}
 
 module _ {D : Type 0} (g : Ghosts D) where
   -- mark, kind or directory can't be read, or are bad

@@ -29,24 +29,16 @@ module _ {R : Type 0} where
   unfolding total_pages
   first_home-order [] f g source less at = absurd (none-some source at)
   first_home-order (s ∷ sources) f zero source less at = absurd (omega (arith, less))
-  first_home-order (s ∷ sources) zero (suc g) source less at =
-      let same = ap (λ x. pages_of_length x.length) (same_Some s source at) in
-      omega (arith, same)
-  first_home-order (s ∷ sources) (suc f) (suc g) source less at =
-      let rest = first_home-order sources f g source (omega (arith, less)) at in
-      omega (arith, rest)
+  first_home-order (s ∷ sources) zero (suc g) source less at = omega (arith, ap (λ x. pages_of_length x.length) (same_Some s source at))
+  first_home-order (s ∷ sources) (suc f) (suc g) source less at = omega (arith, first_home-order sources f g source (omega (arith, less)) at)
 
   -- and end within the store
   pub first_home-fits : (sources : List (FileSource R)) (f : ℕ) (source : FileSource R) → slice_get sources f ≡ Some source
       → first_home sources f + pages_of_length source.length ≤ total_pages sources
   unfolding total_pages
   first_home-fits [] f source at = absurd (none-some source at)
-  first_home-fits (s ∷ sources) zero source at =
-      let same = ap (λ x. pages_of_length x.length) (same_Some s source at) in
-      omega (arith, same)
-  first_home-fits (s ∷ sources) (suc f) source at =
-      let rest = first_home-fits sources f source at in
-      omega (arith, rest)
+  first_home-fits (s ∷ sources) zero source at = omega (arith, ap (λ x. pages_of_length x.length) (same_Some s source at))
+  first_home-fits (s ∷ sources) (suc f) source at = omega (arith, first_home-fits sources f source at)
 
   -- what an entry comes from
   pub record ComesFrom (sources : List (FileSource R)) (f : ℕ) (e : Entry) : Type 0 where
@@ -109,8 +101,7 @@ module _ {R : Type 0} where
     zero = λ f lt none. directory.rest f lt (past_the_last sources f (sym (directory.entries f) ∙ none));
     within = λ f e lt is.
         let from = comes_from sources f e (sym (directory.entries f) ∙ is) in
-        let end = first_home-fits sources f from.source from.at in
-        omega (arith, from.first, from.pages, end, fit);
+        omega (arith, from.first, from.pages, first_home-fits sources f from.source from.at, fit);
     apart = λ f g h a b less lt is is' in_a in_b.
         let first = comes_from sources f a (sym (directory.entries f) ∙ is) in
         let second = comes_from sources g b (sym (directory.entries g) ∙ is') in
@@ -206,8 +197,7 @@ module _ {R : Type 0} (kind : Journals) (remaining : R → Option (List ℕ)) (s
     journal = λ bad. kind_not_bad kind sectors image (empty_closed kind image all.gate) (subst (λ b. IsKindBad b sectors image) all.of_kind bad);
     facts = λ f. ap (λ v. info_at v image f) version ∙ ap (option_map (λ (e : Entry). e.info)) (all.directory.entries f) ∙ info_given sources f;
     pages = λ f k source page at inside given.
-        let end = first_home-fits sources f source at in
-        let first : first_home sources f < 1073741824 = omega (arith, end, fit, inside) in
+        let first : first_home sources f < 1073741824 = omega (arith, first_home-fits sources f source at, fit, inside) in
         page_stands image f k source page all.of_kind (empty_closed kind image all.gate) (ap (λ v. listed_entry v image f) version ∙ all.directory.entries f ∙ entry_of_pages sources f source at first)
         (cut_given kind (first_home sources f + k) (bytes_inside source.length k) (page_given remaining source k) page image
         (all.files f source (slice_get_within sources f source at) at k (omega (arith, inside))) given)

@@ -55,10 +55,7 @@ module _ {D : Type 0} (g : Ghosts D) where
 
   -- where a stop spoils whole blocks
   pub reads_by_blocks : (P : Image → Type 0) (old new : D) → ((k : ℕ) → g.unsynced old k → ⊥) → P (g.content old) → Touches g Nothing old new → LeavesInBlocks g Nothing P old new
-  reads_by_blocks P old new synced stands run = record {
-    writes = run;
-    each = λ d reads image may. subst P (sym (same d reads image may)) stands;
-  }
+  reads_by_blocks P old new synced stands run = record { writes = run; each = λ d reads image may. subst P (sym (same d reads image may)) stands }
     where
       same : (d : D) → Touches g Nothing old d → (image : Image) → MayLeaveBlocks (g.content d) (g.unsynced d) image → image ≡ g.content old
       same d reads image may = λ t k. ⊎_elim {C = image k ≡ g.content old k} (λ block. absurd (still_synced old d reads synced block.0 block.2))

@@ -1,8 +1,7 @@
 -- Pages in pieces.
 use Rattle.file_store.proofs.Names.{◌≡◌, ℕ, ◌+◌, ◌-◌, ◌<◌, ◌≤◌, ⊎_elim, List, ◌++◌, length, get_or, take, drop, replicate, refl, sym, ap, ◌∙◌, arith, length-take, length-drop, take_all, drop_all, append-nil, length-take-le}
-use Rattle.file_store.proofs.Names.{length-replicate, ext_get_or, get_or-take, get_or_past, get_or-replicate, get_or_append_left, get_or-append_right, cases_lt, put_mid-paste, put_mid, mid_of}
+use Rattle.file_store.{proofs.Names.{length-replicate, ext_get_or, get_or-take, get_or_past, get_or-replicate, get_or_append_left, get_or-append_right, cases_lt, put_mid-paste, put_mid, mid_of}, specs.Layout.{padded_page}}
 use Rattle.std.proofs.Common.{length-append}
-use Rattle.file_store.specs.Layout.{padded_page}
 
 -- trimmed to as many bytes as the page has in the file
 pub trimmed_fill : (n : ℕ) (page : List ℕ) → length page ≡ 4096 → n ≤ 4096 → take n page ++ replicate (4096 - n) 0 ≡ padded_page n page

@@ -1,20 +1,17 @@
 -- Why an upgrade is refused.
-use Rattle.file_store.proofs.Names.{◌≡◌, ◌⊎◌, ◌≤◌, ℕ, Result, Err, inl, inr, refl, ⊎_elim, sym, ap, subst, ◌∙◌, arith, IsErrAnd, IsErrOf, Image, Nothing, Touches, AsksOnly, Ghosts, Journals, RunsOnDevice}
-use Rattle.file_store.specs.{declared.directory.Directory.{Directory}, declared.faults.OpenFault.{OpenFault}, declared.faults.OpenFault.TheVariants.{Device, BadLayout, BadJournal}, declared.faults.UpgradeFault.{UpgradeFault}}
-use Rattle.file_store.specs.{declared.faults.UpgradeFault.TheVariants.{OldDevice, OldLayout, OldJournal, NewDevice, NewSmall, Formatted}, Faults.{old_fault}, Layout.{IsMark}, Standing.{IsBadOldLayout, IsBadOldJournal}, Store.{entry_of}}
-use Rattle.file_store.specs.{Upgrade.{old_entry, IsTooSmall, IsOldAsked, IsUpgradeSector, IsUpgradeOf, HasUpgradeCauses}, Upgrade.IsTooSmall.{FewSectors, FewHomes}, Upgraded.{HasRoomFor, HasCheckCauses, UpgradesStore}}
-use Rattle.file_store.proofs.{Causes.{is_this, same_Err}, Marking.{LeavesNoPart}}
+use Rattle.file_store.proofs.{Causes.{is_this, same_Err}, Marking.{LeavesNoPart}, Names.{◌≡◌, ◌⊎◌, ◌≤◌, ℕ, Result, Err, inl, inr, refl, ⊎_elim, sym, ap, subst, ◌∙◌, arith, IsErrAnd, IsErrOf, Image, Nothing, Touches, AsksOnly, Ghosts}}
+use Rattle.file_store.{proofs.Names.{Journals, RunsOnDevice}, specs.{Faults.{old_fault}, Layout.{IsMark}, Standing.{IsBadOldLayout, IsBadOldJournal}, Store.{entry_of}, Upgrade.{old_entry, IsTooSmall, IsOldAsked, IsUpgradeSector}}}
+use Rattle.file_store.specs.{Upgrade.{IsUpgradeOf, HasUpgradeCauses, IsTooSmall.{FewSectors, FewHomes}}, Upgraded.{HasRoomFor, HasCheckCauses, UpgradesStore}, declared.{directory.Directory.{Directory}, faults.OpenFault.{OpenFault}}}
+use Rattle.file_store.specs.declared.faults.{OpenFault.TheVariants.{Device, BadJournal}, UpgradeFault.{UpgradeFault, TheVariants.{OldDevice, OldLayout, OldJournal, NewDevice, NewSmall, Formatted}}}
 
 -- what a fault of the old store is not
 pub of_old : (f : OpenFault) → (old_fault f ≡ NewSmall → ⊥) × (old_fault f ≡ Formatted → ⊥)
 of_old Device = (λ e. cc, λ e. cc)
-of_old BadLayout = (λ e. cc, λ e. cc)
-of_old BadJournal = (λ e. cc, λ e. cc)
+of_old f = (λ e. cc, λ e. cc)
 
 pub broken_from : (f : OpenFault) → old_fault f ≡ OldJournal → f ≡ BadJournal
-broken_from Device e = cc
-broken_from BadLayout e = cc
 broken_from BadJournal e = refl
+broken_from f e = cc
 
 -- nor those of a look at the new device, of copying, and of marking
 pub when_checking : {T : Type 0} (f : UpgradeFault) → IsErrOf {T = T} (Err f) NewSmall ⊎ (IsErrOf {T = T} (Err f) Formatted ⊎ IsErrOf {T = T} (Err f) NewDevice)

@@ -1,6 +1,5 @@
 -- Stops in a row.
-use Rattle.file_store.proofs.Names.{ℕ, zero, suc, sym, subst, Image, Ghosts}
-use Rattle.file_store.specs.{Standing.{StandsAs}, Stops.{Opens, LeftInARow}}
+use Rattle.file_store.{proofs.Names.{ℕ, zero, suc, sym, subst, Image, Ghosts}, specs.{Standing.{StandsAs}, Stops.{Opens, LeftInARow}}}
 
 -- what stands for what stood before
 pub stands_as_again : (sectors : ℕ) (first content image : Image) → StandsAs sectors first content → StandsAs sectors content image → StandsAs sectors first image

@@ -1,14 +1,12 @@
 -- A store made anew in the next layout.
-use Rattle.file_store.proofs.Names.{option_map, ◌≡◌, ◌≢◌, ◌⊎◌, ◌+◌, ◌*◌, ◌<◌, ◌≤◌, ℕ, List, Option, Some, None, inl, inr, ⊎_elim, refl, sym, ap, subst, ◌∙◌, arith, FileInfo, Image, joined, part_of, joined-same, joined_parts, layout_before}
-use Rattle.file_store.proofs.Names.{kind_of, kind_homes, kind_home, kind_home_count, kind_standing, IsKindBad, IsKindClosed, standing_in, Journals, Single, Paired}
-use Rattle.file_store.specs.{Versions.{version_at, version_before, version_of, home_pages_of, directory_of, mark_of}, declared.directory.Entry.{Entry}, declared.faults.OpenFault.{OpenFault}}
-use Rattle.file_store.specs.{declared.faults.OpenFault.TheVariants.{Device, BadLayout, BadJournal}, declared.faults.UpgradeFault.TheVariants.{OldLayout}, Faults.{old_fault}, Layout.{turn_mark, pages_of_length, bytes_inside, padded_page}}
-use Rattle.file_store.specs.{Directory.{entry_in, home_end, IsHomeOf, IsBadDirectory, IsSoundDirectory}, Directory.IsBadDirectory.{NotZero, Outside, Overlap}, Format.{IsFrom, IsTableSector, HasTables, HoldsPage}}
-use Rattle.file_store.specs.Standing.{IsBadLayoutIn, IsBadLayout, IsBadJournal, IsBadOldLayout, IsPageOf, standing, listed_entry, info_at, file_info, page_standing_in, page_standing, standing_page_at, standing_page}
-use Rattle.file_store.specs.Standing.IsBadLayoutIn.{TooSmall, Unmarked, BadDirectory}
-use Rattle.file_store.specs.{Upgrade.{old_directory, old_entry, IsTooSmall, IsCopiedSector, IsUpgradeSector, IsEntrySector, IsUnmarkedUpgrade, IsKindlessUpgrade, HoldsOldFiles, IsUpgradeOf}, Upgrade.IsTooSmall.{FewSectors, FewHomes}}
-use Rattle.file_store.proofs.{Blocks.{single_paired}, Formats.{home_stays}, Homes.{entry_behind, one_file}, Images.{sector_kind, kind_closed, kind_not_bad, homes_same, homes_behind, directory_inside, layout_low}}
-use Rattle.file_store.proofs.{NewStores.{empty_closed, empty_moves}, Pieces.{trimmed-trimmed, length-trimmed}}
+use Rattle.file_store.proofs.{Blocks.{single_paired}, Formats.{home_stays}, Homes.{entry_behind, one_file}, Images.{sector_kind, kind_closed, kind_not_bad, homes_same, homes_behind, directory_inside, layout_low}, Names.{option_map, ◌≡◌}}
+use Rattle.file_store.proofs.Names.{◌≢◌, ◌⊎◌, ◌+◌, ◌*◌, ◌<◌, ◌≤◌, ℕ, List, Option, Some, None, inl, inr, ⊎_elim, refl, sym, ap, subst, ◌∙◌, arith, FileInfo, Image, joined, part_of, joined-same, joined_parts, layout_before, kind_of}
+use Rattle.file_store.proofs.{Names.{kind_homes, kind_home, kind_home_count, kind_standing, IsKindBad, IsKindClosed, standing_in, Journals, Single, Paired}, NewStores.{empty_closed, empty_moves}, Pieces.{trimmed-trimmed, length-trimmed}}
+use Rattle.file_store.specs.{Directory.{entry_in, home_end, IsHomeOf, IsBadDirectory, IsSoundDirectory, IsBadDirectory.{NotZero, Outside, Overlap}}, Faults.{old_fault}, Format.{IsFrom, IsTableSector, HasTables, HoldsPage}}
+use Rattle.file_store.specs.{Layout.{turn_mark, pages_of_length, bytes_inside, padded_page}, Standing.{IsBadLayoutIn, IsBadLayout, IsBadJournal, IsBadOldLayout, IsPageOf, standing, listed_entry, info_at, file_info, page_standing_in}}
+use Rattle.file_store.specs.{Standing.{page_standing, standing_page_at, standing_page, IsBadLayoutIn.{TooSmall, Unmarked, BadDirectory}}, Upgrade.{old_directory, old_entry, IsTooSmall, IsCopiedSector, IsUpgradeSector, IsEntrySector}}
+use Rattle.file_store.specs.{Upgrade.{IsUnmarkedUpgrade, IsKindlessUpgrade, HoldsOldFiles, IsUpgradeOf, IsTooSmall.{FewSectors, FewHomes}}, Versions.{version_at, version_before, version_of, home_pages_of, directory_of, mark_of}}
+use Rattle.file_store.specs.declared.{directory.Entry.{Entry}, faults.{OpenFault.{OpenFault, TheVariants.{Device, BadLayout, BadJournal}}, UpgradeFault.TheVariants.{OldLayout}}}
 
 -- the homes of a file are homes
 pub entry_from : (kind : Journals) (entry : Option Entry) (k : ℕ) → IsEntrySector kind entry k → kind_homes kind ≤ k
@@ -124,9 +122,8 @@ upgrade_whole kind old_sectors sectors old mid room good fits all image same mar
 
 -- what a fault of the old store says
 pub layout_from : (fault : OpenFault) → old_fault fault ≡ OldLayout → fault ≡ BadLayout
-layout_from Device e = cc
 layout_from BadLayout e = refl
-layout_from BadJournal e = cc
+layout_from fault e = cc
 
 pub old_fault_cases : (fault : OpenFault) → (fault ≡ Device) ⊎ ((fault ≡ BadLayout) ⊎ (fault ≡ BadJournal))
 old_fault_cases Device = inl refl

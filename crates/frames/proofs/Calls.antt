@@ -1,9 +1,8 @@
 -- What each call leaves of memory, and that it leaves it sound.
-use Rattle.std.proofs.{Common.{◌≡◌, ◌≢◌, ℕ, ◌^◌, ◌<◌, true, List, [], ◌++◌, length, refl, sym, ap, ◌∙◌, arith, length-set, get_or-set_same}, lemmas.Bool.{false≢true}}
-use Rattle.byteorder.specs.{Endian.{little_bytes}, Numbers.{little_number-reads_back}}
-use Rattle.frames.specs.{declared.role.Role.{Role}, declared.role.Role.TheVariants.{Free, Zero, Table, Private, Cache}}
-use Rattle.frames.specs.{FrameTable.{FrameTable, bytes_of, role_of, count_of, IsHeld, IsSound, IsCountFor, Takes, is_handed_out, zero_bytes, with_bytes}, Chain.{IsChained, next_of}}
-use Rattle.frames.proofs.{FrameLemmas.{with_bytes-others, with_frame, with_frame-others, IsSound-step, IsHeld-above, IsHeld-not_free, IsHeld-not_zero}, ChainLemmas.{IsChained-kept, IsChained-first, IsChained-taken, IsChained-freed}}
+use Rattle.{std.proofs.{Common.{◌≡◌, ◌≢◌, ℕ, ◌^◌, ◌<◌, true, List, [], ◌++◌, length, refl, sym, ap, ◌∙◌, arith, length-set, get_or-set_same}, lemmas.Bool.{false≢true}}, byteorder.specs.Endian.{little_bytes}}
+use Rattle.{byteorder.specs.Numbers.{little_number-reads_back}, frames.proofs.{ChainLemmas.{IsChained-kept, IsChained-first, IsChained-taken, IsChained-freed}, FrameLemmas.{with_bytes-others, with_frame, with_frame-others, IsSound-step}}}
+use Rattle.frames.{proofs.FrameLemmas.{IsHeld-above, IsHeld-not_free, IsHeld-not_zero}, specs.{Chain.{IsChained, next_of}, FrameTable.{FrameTable, bytes_of, role_of, count_of, IsHeld, IsSound, IsCountFor, Takes, is_handed_out, zero_bytes}}}
+use Rattle.frames.specs.{FrameTable.{with_bytes}, declared.role.Role.{Role, TheVariants.{Free, Zero, Table, Private, Cache}}}
 
 -- bytes of a frame that was handed out
 pub written : (t : FrameTable) (n first : ℕ) (w : List ℕ) → IsHeld t n → IsSound t × IsChained t first

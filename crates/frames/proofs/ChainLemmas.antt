@@ -50,10 +50,7 @@ rest old new first s ne after (m ∷ ms) c complete = record {
   chain = kept first old new s ms _ (rw c.0 c.4) (rw c.0 c.5);
   complete = λ n h is_free. elim (cases_eq n first) [
     | inl e ↦ absurd (after (ap (role_of new) (sym e) ∙ is_free))
-    | inr other ↦ elim (complete n (rw (← s.frames) h) (sym (s.roles n other) ∙ is_free)) [
-      | inl e ↦ absurd (other (e ∙ sym c.0))
-      | inr on ↦ on
-    ]
+    | inr other ↦ elim (complete n (rw (← s.frames) h) (sym (s.roles n other) ∙ is_free)) [ inl e ↦ absurd (other (e ∙ sym c.0)) | inr on ↦ on ]
   ];
 }
 
@@ -71,8 +68,5 @@ IsChained-freed n old new first s above inside before after next c =
     record {
       free = n ∷ c.free;
       chain = (refl, above, rw s.frames inside, after, off, rw next on);
-      complete = λ m h is_free. elim (cases_eq m n) [
-        | inl e ↦ inl e
-        | inr ne ↦ inr (c.complete m (rw (← s.frames) h) (sym (s.roles m ne) ∙ is_free))
-      ];
+      complete = λ m h is_free. elim (cases_eq m n) [ inl e ↦ inl e | inr ne ↦ inr (c.complete m (rw (← s.frames) h) (sym (s.roles m ne) ∙ is_free)) ];
     }

@@ -1,8 +1,7 @@
 -- What a change of one frame leaves, and what keeps memory sound.
 use Rattle.std.proofs.{Common.{◌≡◌, ◌≢◌, ℕ, zero, suc, inl, inr, ◌+◌, ◌<◌, List, [], length, get_or, refl, sym, ap, ◌∙◌, subst, arith, length-set, get_or-set_same, get_or-set_other}, lemmas.Bool.{cases_eq, cases_lt, false≢true}}
-use Rattle.std.proofs.lemmas.List.{ext_get_or}
-use Rattle.std.specs.{Prelude.{slice_set, replicate, ◌-◌}, List.{CopiedTo, SameBelow, SameFrom}}
-use Rattle.frames.specs.{declared.role.Role.{Role}, declared.role.Role.TheVariants.{Free, Zero}, FrameTable.{FrameTable, bytes_of, role_of, count_of, IsFrame, IsHeld, IsSound, IsCountFor, SameButFor, is_handed_out, zero_bytes, with_bytes}}
+use Rattle.{std.{proofs.lemmas.List.{ext_get_or}, specs.{List.{CopiedTo, SameBelow, SameFrom}, Prelude.{slice_set, replicate, ◌-◌}}}, frames.specs.FrameTable.{FrameTable, bytes_of, role_of, count_of, IsFrame, IsHeld, IsSound, IsCountFor}}
+use Rattle.frames.specs.{FrameTable.{SameButFor, is_handed_out, zero_bytes, with_bytes}, declared.role.Role.{Role, TheVariants.{Free, Zero}}}
 
 replicate-at : (n k : ℕ) → get_or {A = ℕ} (replicate {A = ℕ} n 0) k 0 ≡ 0
 replicate-at zero k = refl

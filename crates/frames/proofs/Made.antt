@@ -1,8 +1,7 @@
 -- Memory while it is made: pushing one more table.
-use Rattle.std.proofs.{Common.{◌≡◌, ℕ, ◌+◌, ◌-◌, ◌<◌, ◌≤◌, ◌⊎◌, inl, inr, List, [], ◌∷◌, ◌++◌, length, get_or, refl, sym, ap, ◌∙◌, arith}, lemmas.Bool.{cases_eq, cases_lt}}
-use Rattle.std.proofs.lemmas.List.{length_push, get_or_push, get_or_append_left, get_or_past}
-use Rattle.frames.specs.{declared.role.Role.{Role}, declared.role.Role.TheVariants.{Free, Zero, Table}}
-use Rattle.frames.specs.{FrameTable.{FrameTable, frame_count, bytes_of, role_of, count_of, IsFrame, IsSound, IsCountFor, IsHeld, Releases, is_handed_out, zero_bytes}, Chain.{IsChained, IsAllTables}}
+use Rattle.std.proofs.{Common.{◌≡◌, ℕ, ◌+◌, ◌-◌, ◌<◌, ◌≤◌, ◌⊎◌, inl, inr, List, [], ◌∷◌, ◌++◌, length, get_or, refl, sym, ap, ◌∙◌, arith}, lemmas.{Bool.{cases_eq, cases_lt}, List.{length_push, get_or_push, get_or_append_left, get_or_past}}}
+use Rattle.frames.specs.{Chain.{IsChained, IsAllTables}, FrameTable.{FrameTable, frame_count, bytes_of, role_of, count_of, IsFrame, IsSound, IsCountFor, IsHeld, Releases, is_handed_out, zero_bytes}, declared.role.Role.{Role}}
+use Rattle.frames.specs.declared.role.Role.TheVariants.{Free, Zero, Table}
 
 -- the zero page and then tables, n of all
 pub record IsMade (t : FrameTable) (n : ℕ) : Type 0 where
@@ -62,16 +61,10 @@ no_free t n k m below e = elim (role_at t n k m below) [
 ]
 
 zero_alone : (t : FrameTable) (n k : ℕ) → IsMade t n → k < n → role_of t k ≡ Zero → k ≡ 0
-zero_alone t n k m below e = elim (role_at t n k m below) [
-  | inl z ↦ z.0
-  | inr z ↦ absurd (let bad : Table ≡ Zero = sym z.1 ∙ e in (cc))
-]
+zero_alone t n k m below e = elim (role_at t n k m below) [ inl z ↦ z.0 | inr z ↦ absurd (let bad : Table ≡ Zero = sym z.1 ∙ e in (cc)) ]
 
 counted : (t : FrameTable) (n k : ℕ) → IsMade t n → k < n → IsCountFor (role_of t k) (count_of t k)
-counted t n k m below = elim (role_at t n k m below) [
-  | inl z ↦ rw z.1 z.2
-  | inr z ↦ rw z.1 z.2
-]
+counted t n k m below = elim (role_at t n k m below) [ inl z ↦ rw z.1 z.2 | inr z ↦ rw z.1 z.2 ]
 
 past : (t : FrameTable) (n k : ℕ) → IsMade t n → n ≤ k → role_of t k ≡ Free
 past t n k m above = get_or_past t.roles k Free (omega (arith, m.all_roles))
@@ -92,11 +85,7 @@ IsSound-made t n least most m = record {
 }
 
 pub IsChained-made : (t : FrameTable) (n : ℕ) → IsMade t n → IsChained t 0
-IsChained-made t n m = record {
-  free = [];
-  chain = refl;
-  complete = λ k h is_free. no_free t n k m (omega (arith, m.frames)) is_free;
-}
+IsChained-made t n m = record { free = []; chain = refl; complete = λ k h is_free. no_free t n k m (omega (arith, m.frames)) is_free }
 
 pub IsAllTables-made : (t : FrameTable) (n count : ℕ) → n ≡ count → IsMade t n → IsAllTables t count 1 count
 IsAllTables-made t n count e m = record {

@@ -8,10 +8,7 @@ module _ {mode : ℕ} where
       unmapped_zero c (c.at pid page) (entry c pid page) (granting.entries pid page inside)
       (none_here (c.at pid page) (λ some. (
       let user = (granting.user pid).user_pages page some in
-      elim beside [
-        | inl low ↦ omega (arith, low, user.0)
-        | inr high ↦ omega (arith, high, user.1)
-      ])))
+      elim beside [ inl low ↦ omega (arith, low, user.0) | inr high ↦ omega (arith, high, user.1) ])))
 
   -- a place that a search of a table stopped at has an entry
   pub some_at : (c : Picture mode) (pid r page n : ℕ) → c.root pid ≡ Some r → IsTableOf c.frames (top_level mode) r (page / 512) n

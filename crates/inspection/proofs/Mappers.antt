@@ -1,7 +1,7 @@
 -- The first page over a frame, process by process.
 use Rattle.inspection.proofs.Names.{top_level, ◌≡◌, ℕ, ◌≤◌, ◌<◌, ◌≢◌, true, false, refl, sym, ◌∙◌, subst, inl, inr, arith, cases_eq, nat_tests, ◌==◌, if◌then◌else◌, IsOver, Picture, IsPage}
-use Rattle.residency.specs.declared.leaves.Change.TheVariants as Kinds
 use Rattle.inspection.specs.{Frames.{IsBefore, IsAtOrAfter, IsMapper}, declared.frame_views.Mapper.{Mapper}}
+use Rattle.residency.specs.declared.leaves.Change.TheVariants as Kinds
 
 low_here : (number pid page low : ℕ) → low ≡ (if number == pid then page else 0) → number ≡ pid → low ≡ page
 low_here number pid page low is same = let test : (number == pid) ≡ true = grind (arith, nat_tests, same) in is ∙ rw test refl

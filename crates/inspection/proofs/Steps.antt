@@ -1,7 +1,6 @@
 -- One step on the way to a page leads to the next.
 use Rattle.inspection.proofs.Names.{top_level, ◌≡◌, ℕ, suc, ◌-◌, ◌<◌, true, sym, ap, ◌∙◌, subst, arith, FrameTable, entry_at, frame_of, is_pointer, index_of, IsTable, Points, Way, last_table, page_entry, last_is, last_entry-is}
-use Rattle.inspection.proofs.Names.{missing_of-is, page_entry-whole, next_table, Picture, IsFit, entry-of}
-use Rattle.inspection.specs.{Walks.{IsEntryOf, IsStep}, declared.walks.Step.{Step}}
+use Rattle.inspection.{proofs.Names.{missing_of-is, page_entry-whole, next_table, Picture, IsFit, entry-of}, specs.{Walks.{IsEntryOf, IsStep}, declared.walks.Step.{Step}}}
 
 -- the entry of the lowest table on a way is the page's
 pub last_entry : (t : FrameTable) (top root page n : ℕ) → Way t top root page (top - 0) n → page_entry t top root page ≡ entry_at t n (index_of page 0)

@@ -42,7 +42,6 @@ module _ {mode : ℕ} (c : Picture mode) where
   pub placed : (pid page n first : ℕ) (step : Step) → IsStep c pid page step → step.table.0 ≡ n → IsPage (top_level mode) page
       → first ≡ page / 512 ^ (step.level + 1) * 512 ^ (step.level + 1) → IsPlaceOf c n (record { pid = pid; level = step.level; first = first })
   placed pid page n first step is same inside at =
-      let least = is.level in
       let W : ℕ → Type 0 = λ x. Way c.frames (top_level mode) is.root page (top_level mode - step.level) x in
       let P : ℕ → Type 0 = λ x. IsPage (top_level mode) x in
       record {
@@ -50,7 +49,7 @@ module _ {mode : ℕ} (c : Picture mode) where
         lives = is.lives;
         level = is.level;
         way = way_within c.frames (top_level mode) is.root page first (step.level + 1) (top_level mode - step.level) n
-            (same_first page (step.level + 1) ∙ ap (λ x. x / 512 ^ (step.level + 1)) (sym at)) (omega (arith, least)) (subst W same is.way);
+            (same_first page (step.level + 1) ∙ ap (λ x. x / 512 ^ (step.level + 1)) (sym at)) (omega (arith, is.level)) (subst W same is.way);
         inside = subst P (sym at) (first_inside (top_level mode) page (step.level + 1) inside);
         begins = ap (λ x. x % 512 ^ (step.level + 1)) at ∙ mul-mod_left (page / 512 ^ (step.level + 1)) (512 ^ (step.level + 1));
       }
@@ -60,13 +59,11 @@ module _ {mode : ℕ} (c : Picture mode) where
   gap_way pid page end rooted gap r k n lives from below on =
       let m = missing_of c.frames (top_level mode) r page in
       let ends = gap r lives in
-      let some = ends.0 in
-      one_gap c.frames (top_level mode) r page m rooted.forest (rooted.roots pid r lives).table refl (omega (arith, some)) k n
+      one_gap c.frames (top_level mode) r page m rooted.forest (rooted.roots pid r lives).table refl (omega (arith, ends.0)) k n
       (in_span_of page k end end m from below (omega arith) ends.1) on
 
   pub row_way : (pid page end : ℕ) → end ≡ (page / 512 + 1) * 512 → HaveOneWay c pid page end
-  row_way pid page end at r k n lives from below on =
-      one_row c.frames (top_level mode) r page k n (in_row_of page k end end from below (omega arith) at) on
+  row_way pid page end at r k n lives from below on = one_row c.frames (top_level mode) r page k n (in_row_of page k end end from below (omega arith) at) on
 
   -- a search over the mapped pages of a process
   abbrev pub IsPassed : ℕ → ℕ → ℕ → Type 0

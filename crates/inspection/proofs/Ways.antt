@@ -18,8 +18,7 @@ way_over t top root p q (suc d) n same w =
 
 -- so is a way to a page that is in one place with another
 pub way_within : (t : FrameTable) (top root p q low d n : ℕ) → p / 512 ^ low ≡ q / 512 ^ low → d + low ≤ top + 1 → Way t top root p d n → Way t top root q d n
-way_within t top root p q low d n same le w =
-    way_over t top root p q d n (λ k less. fields_same p q low (top - k) (omega (arith, le, less)) same) w
+way_within t top root p q low d n same le w = way_over t top root p q d n (λ k less. fields_same p q low (top - k) (omega (arith, le, less)) same) w
 
 -- a longer way goes on by a pointer
 pub goes_on : (t : FrameTable) (top root page d n e : ℕ) → e < d → Way t top root page d n
@@ -57,8 +56,7 @@ module _ (t : FrameTable) (top root page m : ℕ) (forest : IsForest t) (table :
     | inl long ↦ (
         let l = least in
         let on = goes_on t top root k d n (top - m) long w in
-        let there = way_within t top root k page m (top - m) on.0 same (omega (arith, l)) on.1 in
-        let is : on.0 ≡ last = one_table t top root page (top - m) on.0 last there way in
+        let is : on.0 ≡ last = one_table t top root page (top - m) on.0 last (way_within t top root k page m (top - m) on.0 same (omega (arith, l)) on.1) way in
         let back : top - (top - m) ≡ m = omega (arith, l) in
         let field : index_of k (top - (top - m)) ≡ index_of page m = ap (index_of k) back ∙ fields_same k page m m (omega arith) same in
         let pointer : is_pointer (entry_at t last (index_of page m)) ≡ true =

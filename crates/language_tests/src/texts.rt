@@ -8,109 +8,105 @@ fn same(rt: &impl Abort, text: &[u8], want: &[u8]) {
     assert_eq!(rt; text, want);
 }
 
-fn expect(rt: &impl Abort, reply: Reply, want: &[u8]) {
-    let mut out = [0; 1024];
-    let len = reply_text(&reply, &mut out);
-    same(rt, &out[..len], want);
-}
+const MISALIGNED: Fault = Fault {
+    cause: 6,
+    code: Code::BusAdraln,
+    addr: 0x20001,
+};
 
-fn value(width: Width, value: u64) -> Reply {
-    Reply::Value { width, value }
-}
+const UNMAPPED: Fault = Fault {
+    cause: 13,
+    code: Code::SegvMaperr,
+    addr: u64::MAX,
+};
+
+const PAST_THE_END: Fault = Fault {
+    cause: 13,
+    code: Code::BusAdrerr,
+    addr: 0x12000,
+};
+
+const TEXTS: [(Answer, &[u8]); 24] = [
+    (Answer::Address(0x10000), b"addr 0x10000\n"),
+    (Answer::Address(0), b"addr 0x0\n"),
+    (Answer::Done, b"ok\n"),
+    (
+        Answer::Value {
+            width: Width::One,
+            value: 0,
+        },
+        b"value 0x00\n",
+    ),
+    (
+        Answer::Value {
+            width: Width::Four,
+            value: 0x11223344,
+        },
+        b"value 0x11223344\n",
+    ),
+    (
+        Answer::Value {
+            width: Width::Eight,
+            value: 0xab,
+        },
+        b"value 0x00000000000000ab\n",
+    ),
+    (Answer::Faulted(MISALIGNED), b"fault 6 BUS_ADRALN 0x20001\n"),
+    (
+        Answer::Faulted(UNMAPPED),
+        b"fault 13 SEGV_MAPERR 0xffffffffffffffff\n",
+    ),
+    (
+        Answer::Faulted(PAST_THE_END),
+        b"fault 13 BUS_ADRERR 0x12000\n",
+    ),
+    (Answer::Refused(Errno::ESRCH), b"error 3 ESRCH\n"),
+    (Answer::Refused(Errno::EIO), b"error 5 EIO\n"),
+    (Answer::Refused(Errno::EBADF), b"error 9 EBADF\n"),
+    (Answer::Refused(Errno::EAGAIN), b"error 11 EAGAIN\n"),
+    (Answer::Refused(Errno::ENOMEM), b"error 12 ENOMEM\n"),
+    (Answer::Refused(Errno::EACCES), b"error 13 EACCES\n"),
+    (Answer::Refused(Errno::EEXIST), b"error 17 EEXIST\n"),
+    (Answer::Refused(Errno::EINVAL), b"error 22 EINVAL\n"),
+    (Answer::Refused(Errno::ENOSPC), b"error 28 ENOSPC\n"),
+    (Answer::Refused(Errno::EOVERFLOW), b"error 75 EOVERFLOW\n"),
+    (Answer::Stalled(Stall::NoFrames), b"stall 1 NOFRAMES\n"),
+    (Answer::Stalled(Stall::NoSwap), b"stall 2 NOSWAP\n"),
+    (Answer::Stalled(Stall::SwapDevice), b"stall 3 SWAPDEV\n"),
+    (Answer::Stalled(Stall::StoreDevice), b"stall 4 STOREDEV\n"),
+    (Answer::Halted, b"halted\n"),
+];
 
 #[test]
-fn each_reply_has_its_text(rt: HostRuntime) {
+fn each_answer_has_its_text(rt: HostRuntime) {
+    let mut out = [0; 1024];
+    for (answer, want) in TEXTS {
+        let len = answer_text(&answer, &mut out);
+        same(&rt, &out[..len], want);
+    }
+    same(&rt, bad_line_text(), b"bad line\n");
+}
+
+/// Two faults of process 64, the older one first. A history is a reply, and no answer.
+#[test]
+fn a_history_has_a_line_for_each_fault(rt: HostRuntime) {
     let Some(pid) = Pid::new(64) else {
         return assert!(rt; false);
     };
-    let misaligned = Fault {
-        cause: 4,
-        code: Code::BusAdraln,
-        addr: 0x20004,
-    };
-    let unmapped = Fault {
-        cause: 13,
-        code: Code::SegvMaperr,
-        addr: 0xffff_ffff_ffff_ffff,
-    };
-    for (reply, want) in [
-        (Reply::Process(pid), b"pid 64\n".as_slice()),
-        (Reply::Address(0x10000), b"addr 0x10000\n"),
-        (Reply::Address(0), b"addr 0x0\n"),
-        (Reply::Done, b"ok\n"),
-        (value(Width::One, 0), b"value 0x00\n"),
-        (value(Width::Four, 0x11223344), b"value 0x11223344\n"),
-        (value(Width::Eight, 0xab), b"value 0x00000000000000ab\n"),
-        (Reply::Faulted(misaligned), b"fault 4 BUS_ADRALN 0x20004\n"),
-        (
-            Reply::Faulted(unmapped),
-            b"fault 13 SEGV_MAPERR 0xffffffffffffffff\n",
-        ),
-        (Reply::Halted, b"halted\n"),
-    ] {
-        expect(&rt, reply, want);
-    }
-    same(&rt, bad_line_text(), b"bad line\n");
-    // A reply that is no history, as a machine hands it out.
-    let past_the_end = Fault {
-        cause: 13,
-        code: Code::BusAdrerr,
-        addr: 0x12000,
-    };
-    let mut out = [0; 1024];
-    let len = answer_text(&Answer::Faulted(past_the_end), &mut out);
-    same(&rt, &out[..len], b"fault 13 BUS_ADRERR 0x12000\n");
-}
-
-#[test]
-fn each_error_and_each_stall_has_its_number_and_its_name(rt: HostRuntime) {
-    for (want, errno) in [
-        (b"error 3 ESRCH\n".as_slice(), Errno::ESRCH),
-        (b"error 5 EIO\n", Errno::EIO),
-        (b"error 9 EBADF\n", Errno::EBADF),
-        (b"error 11 EAGAIN\n", Errno::EAGAIN),
-        (b"error 12 ENOMEM\n", Errno::ENOMEM),
-        (b"error 13 EACCES\n", Errno::EACCES),
-        (b"error 17 EEXIST\n", Errno::EEXIST),
-        (b"error 22 EINVAL\n", Errno::EINVAL),
-        (b"error 28 ENOSPC\n", Errno::ENOSPC),
-        (b"error 75 EOVERFLOW\n", Errno::EOVERFLOW),
-    ] {
-        expect(&rt, Reply::Refused(errno), want);
-    }
-    for (want, stall) in [
-        (b"stall 1 NOFRAMES\n".as_slice(), Stall::NoFrames),
-        (b"stall 2 NOSWAP\n", Stall::NoSwap),
-        (b"stall 3 SWAPDEV\n", Stall::SwapDevice),
-        (b"stall 4 STOREDEV\n", Stall::StoreDevice),
-    ] {
-        expect(&rt, Reply::Stalled(stall), want);
-    }
-}
-
-/// Two faults of process 1, the older one first, and none.
-#[test]
-fn a_history_has_a_line_for_each_fault(rt: HostRuntime) {
-    let Some(pid) = Pid::new(1) else {
-        return assert!(rt; false);
-    };
-    let unmapped = Fault {
-        cause: 13,
-        code: Code::SegvMaperr,
-        addr: 0,
-    };
-    let misaligned = Fault {
-        cause: 6,
-        code: Code::BusAdraln,
-        addr: 0x20001,
-    };
     let mut history = History::new();
-    history.push(pid, unmapped);
-    history.push(pid, misaligned);
-    let want = b"faults 2\npast 1 13 SEGV_MAPERR 0x0\npast 1 6 BUS_ADRALN 0x20001\n".as_slice();
+    history.push(pid, UNMAPPED);
+    history.push(pid, MISALIGNED);
     let mut out = [0; 1024];
     let len = history_text(&history, &mut out);
-    same(&rt, &out[..len], want);
-    expect(&rt, Reply::Past(history), want);
-    expect(&rt, Reply::Past(History::new()), b"faults 0\n");
+    let lines: &[u8] =
+        b"faults 2\npast 64 13 SEGV_MAPERR 0xffffffffffffffff\npast 64 6 BUS_ADRALN 0x20001\n";
+    same(&rt, &out[..len], lines);
+    for (reply, want) in [
+        (Reply::Past(history), lines),
+        (Reply::Past(History::new()), b"faults 0\n"),
+        (Reply::Process(pid), b"pid 64\n"),
+    ] {
+        let len = reply_text(&reply, &mut out);
+        same(&rt, &out[..len], want);
+    }
 }

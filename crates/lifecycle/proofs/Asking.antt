@@ -1,8 +1,7 @@
 -- Which sectors of swap's device a process that comes asks for.
 use Rattle.vm_types.specs.declared.mode.Levels as Levels
 use Rattle.lifecycle.proofs.Names.{◌≡◌, ℕ, None, ap, Ghosts, role_of, place_of, is_touched, slots_of, Core, Picture, picture_of, IsFit, ObtainsTable, KeepsBesideProcesses, Spawns, AsksNoNew, AsksSlots, AsksSlotsIf, no_new_then, no_new_held}
-use Rattle.lifecycle.proofs.Names.{no_new_taken, asks_slots_if, asks_slots_kept, asks_slots_then}
-use Rattle.disk_model.specs.Moments.{Nothing}
+use Rattle.{lifecycle.proofs.Names.{no_new_taken, asks_slots_if, asks_slots_kept, asks_slots_then}, disk_model.specs.Moments.{Nothing}}
 
 -- a frame was taken for a table, which is the root of a process that was made
 pub no_new_spawned : {mode : ℕ} (old mid new : Picture mode) (pid n : ℕ) → IsFit old → ObtainsTable old mid n → Spawns mid new pid n → AsksNoNew old new None Nothing

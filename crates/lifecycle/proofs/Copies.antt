@@ -28,8 +28,7 @@ pub parked_own : (entry : Entry) (f : FrameNo) (p : Bool) → entry ≡ Parked f
 parked_own entry f p is own none = own_some (number_of (Parked f p)) (parked_private f.0 p ∙ own) (sym (ap (λ x. seat (number_of x)) is) ∙ none)
 
 pub slot_seat : (entry : Entry) (k : SlotNo) → entry ≡ Swapped k → IsEntry entry → seat (number_of entry) ≡ Some (InSlot k.0)
-slot_seat entry k is form =
-    ap (λ x. seat (number_of x)) is ∙ away_seat k.0 (subst (λ (x : Entry). IsEntry x) is form)
+slot_seat entry k is form = ap (λ x. seat (number_of x)) is ∙ away_seat k.0 (subst (λ (x : Entry). IsEntry x) is form)
 
 -- an entry that names a frame as the process's own is one of a page in a frame
 in_one_place : (n k : ℕ) → Some (InFrame n) ≡ Some (InSlot k) → ⊥

@@ -1,9 +1,7 @@
 -- How the steps of the first pass add up.
 use Rattle.vm_types.specs.declared.mode.Levels as Levels
-use Rattle.lifecycle.proofs.Names.{◌≡◌, ℕ, inl, None, Ok, refl, sym, ap, ◌∙◌, subst, IsErrAnd, is_some, FrameNo, Stall, Ghosts, IsReady, Core, Picture, picture_of, IsFit, KeepsSpaces, MakesWhole, takes_none, takes_then, takes_done}
-use Rattle.lifecycle.proofs.Names.{takes_stall}
-use Rattle.std.proofs.Common.{Result, Err}
-use Rattle.lifecycle.{specs.{Steps.{HasCopy, HasTablesForCopies}, TablesForCopies.{IsForking, LinksForCopies}}, proofs.Linked.{copy_stays, lacks_before, links_one, links_then}}
+use Rattle.lifecycle.proofs.{Linked.{copy_stays, lacks_before, links_one, links_then}, Names.{◌≡◌, ℕ, inl, None, Ok, refl, sym, ap, ◌∙◌, subst, IsErrAnd, is_some, FrameNo, Stall, Ghosts, IsReady, Core, Picture, picture_of, IsFit}}
+use Rattle.{lifecycle.{proofs.Names.{KeepsSpaces, MakesWhole, takes_none, takes_then, takes_done, takes_stall}, specs.{Steps.{HasCopy, HasTablesForCopies}, TablesForCopies.{IsForking, LinksForCopies}}}, std.proofs.Common.{Result, Err}}
 
 module _ {M : Type 0} {m : Levels.Ghosts M} {D E : Type 0} (h : Ghosts E) where
   -- nothing was done

@@ -1,11 +1,9 @@
 -- A process comes that is a copy of another.
-use Rattle.lifecycle.proofs.Names.{user_pages_fit, user_end, top_level, has_own, Attr, Stall, ◌≡◌, ◌≢◌, ℕ, inl, inr, ◌⊎◌, ◌<◌, ◌≤◌, true, false, List, Option, Some, None, refl, sym, ap, ◌∙◌, subst, arith, cases_eq, cases_lt, cases_Bool}
-use Rattle.lifecycle.proofs.Names.{false≢true, option_map, IfErr, IsErrAnd, Result, Err, IsPage, missing_of, is_valid, can_write, has_bit, frame_of, InFrame, InSlot, seat, is_private, is_swapped, Picture, is_live, entry, view, view_of}
-use Rattle.lifecycle.proofs.Names.{own_in, bytes_in, IsFit, IsGranting, KeepsPages, IsShort, KeepsFiles, cases_attr, view-none, seat-none, KeepsBare, KeepsRoom, KeepsTables, room_then}
-use Rattle.std.proofs.Common.{is_some}
-use Rattle.std.specs.Prelude.{Ok}
-use Rattle.lifecycle.specs.{Shares.{without_write, lowered_entry, given_entry, SharesRow}, Changes.{AddsProcess, RemovesProcess, KeepsProcesses, MapsAlike, TakesRoot, SharesCopies, KeepsBareOfOthers, IsShortToFork}}
-use Rattle.lifecycle.proofs.{Copies.{seat_some}, Weaker.{seat_lowered, weakened}, Alike.{bare_page}, Keeping.{live_same, files_then}, Shortage.{short_alike}}
+use Rattle.lifecycle.proofs.{Alike.{bare_page}, Copies.{seat_some}, Keeping.{live_same, files_then}, Names.{user_pages_fit, user_end, top_level, has_own, Attr, Stall, ◌≡◌, ◌≢◌, ℕ, inl, inr, ◌⊎◌, ◌<◌, ◌≤◌, true, false, List, Option, Some}}
+use Rattle.lifecycle.proofs.Names.{None, refl, sym, ap, ◌∙◌, subst, arith, cases_eq, cases_lt, cases_Bool, false≢true, option_map, IfErr, IsErrAnd, Result, Err, IsPage, missing_of, is_valid, can_write, has_bit, frame_of, InFrame, InSlot}
+use Rattle.lifecycle.proofs.Names.{seat, is_private, is_swapped, Picture, is_live, entry, view, view_of, own_in, bytes_in, IsFit, IsGranting, KeepsPages, IsShort, KeepsFiles, cases_attr, view-none, seat-none, KeepsBare, KeepsRoom}
+use Rattle.lifecycle.{proofs.{Names.{KeepsTables, room_then}, Shortage.{short_alike}, Weaker.{seat_lowered, weakened}}, specs.Changes.{AddsProcess, RemovesProcess, KeepsProcesses, MapsAlike, TakesRoot, SharesCopies, KeepsBareOfOthers}}
+use Rattle.{lifecycle.specs.{Changes.{IsShortToFork}, Shares.{without_write, lowered_entry, given_entry, SharesRow}}, std.{proofs.Common.{is_some}, specs.Prelude.{Ok}}}
 
 -- Before any page is shared: the child lives, mapped as the parent is, without an entry, and every other process is as it was.
 module _ {mode : ℕ} where
@@ -55,10 +53,7 @@ own_none c pid page none =
 
 -- outside the user pages nothing is mapped
 past_none : {mode : ℕ} (c : Picture mode) (pid page : ℕ) → IsGranting c → ((16 ≤ page) × (page < user_end mode) → ⊥) → c.at pid page ≡ None
-past_none c pid page granting out = elim (cases_attr (c.at pid page)) [
-  | inl none ↦ none
-  | inr some ↦ absurd (out ((granting.user pid).user_pages page some))
-]
+past_none c pid page granting out = elim (cases_attr (c.at pid page)) [ inl none ↦ none | inr some ↦ absurd (out ((granting.user pid).user_pages page some)) ]
 
 -- The entries p of the parent and k of the child for a page of which the parent had e.
 module _ (e p k : ℕ) (lowered : p ≡ lowered_entry e) (given : k ≡ given_entry e) where
@@ -206,5 +201,4 @@ module _ {mode : ℕ} where
       let other : q ≢ child = λ is. false≢true (sym dead ∙ ap (is_live old) (sym is) ∙ ap (λ o. is_some o) e) in
       let there : mapped.root q ≡ Some r = roots q ∙ takes.others q other ∙ e in
       let first : missing_of mapped.frames (top_level mode) r page ≡ missing_of old.frames (top_level mode) r page = ap (λ t. missing_of t (top_level mode) r page) frames ∙ takes.missing q r page e in
-      let third = two q r page (roots' q ∙ there) in
-      omega (arith, first, one q r page there, third)
+      omega (arith, first, one q r page there, two q r page (roots' q ∙ there))

@@ -1,17 +1,11 @@
 -- A process goes of which no page has an entry or a table.
 use Rattle.vm_types.specs.declared.mode.Levels as Levels
-use Rattle.lifecycle.proofs.Names.{user_end, top_level, ObjectPage, Object, Attr, names, is_named, in_row, ◌≡◌, ◌≢◌, ℕ, zero, suc, inl, inr, ◌⊎◌, ◌≤◌, ◌<◌, ◌^◌, Option, Some, None, true, false, refl, sym, ap, ◌∙◌, subst, arith, eq-eqb}
-use Rattle.lifecycle.proofs.Names.{ne_eqb, cases_eq, cases_Bool, false≢true, is_some, IsSome, user_pages_fit, sizes, Home, Ghosts, Role, Free, Table, Private, Cache, FrameTable, bytes_of, role_of, entry_at, is_pointer, frame_of, index_of}
-use Rattle.lifecycle.proofs.Names.{IsPage, IsTable, Points, IsSpare, Way, IsBelowRoot, last_table, missing_of, cases_bool, only_way, last_table-stop, way_forth, missing_of-is, last_entry-is, root_field, SlotTable, IsReady, Core, Seat}
+use Rattle.lifecycle.proofs.{Keeping.{live_same}, Names.{user_end, top_level, ObjectPage, Object, Attr, names, is_named, in_row, ◌≡◌, ◌≢◌, ℕ, zero, suc, inl, inr, ◌⊎◌, ◌≤◌, ◌<◌, ◌^◌, Option, Some, None, true, false, refl, sym, ap, ◌∙◌}}
+use Rattle.lifecycle.proofs.Names.{subst, arith, eq-eqb, ne_eqb, cases_eq, cases_Bool, false≢true, is_some, IsSome, user_pages_fit, sizes, Home, Ghosts, Role, Free, Table, Private, Cache, FrameTable, bytes_of, role_of, entry_at, is_pointer}
+use Rattle.lifecycle.proofs.Names.{frame_of, index_of, IsPage, IsTable, Points, IsSpare, Way, IsBelowRoot, last_table, missing_of, cases_bool, only_way, way_forth, missing_of-is, last_entry-is, root_field, SlotTable, IsReady, Core, Seat}
 use Rattle.lifecycle.proofs.Names.{InFrame, InSlot, seat, Picture, picture_of, view, bytes_in, IsOwned, IsFit, IsUsed, AsRoot, OnWay, Exits, KeepsFiles, entries_left, fit_left, view-none, view_seated, held_same, cases_attr, ready_released}
-use Rattle.lifecycle.proofs.Names.{one_some, row_out, named-imp, IsRowRemapped, KeepsNamed, without_maps, KeepsDevices, KeepsEntriesOfOthers, LosesSlots, IsMappedBeside, IsWithoutTables}
-use Rattle.std.specs.Prelude.{◌*◌}
-use Rattle.lifecycle.{specs.Changes.{RemovesProcess, FreesTables, TakesNoFrame}, proofs.Keeping.{live_same}}
-
--- a way ends at the root whose entry is no pointer
-stops_at : (t : FrameTable) (p top r : ℕ) → 0 < top → is_pointer (entry_at t r (index_of p top)) ≡ false → last_table t p top r ≡ (top, r)
-stops_at t p zero r some stop = absurd (omega (arith, some))
-stops_at t p (suc level) r some stop = last_table-stop t p level r stop
+use Rattle.lifecycle.{proofs.Names.{one_some, row_out, named-imp, IsRowRemapped, KeepsNamed, without_maps, KeepsDevices, KeepsEntriesOfOthers, LosesSlots, IsMappedBeside, IsWithoutTables, last_at-stop}, specs.Changes.{RemovesProcess}}
+use Rattle.{lifecycle.specs.Changes.{FreesTables, TakesNoFrame}, std.specs.Prelude.{◌*◌}}
 
 -- a table of a process that no longer has tables for its pages is its root, or another process's
 module _ {mode : ℕ} (c : Picture mode) (pid r : ℕ) (fit : IsFit c) (root : c.root pid ≡ Some r) (bare : IsWithoutTables c pid 0 (user_end mode)) where
@@ -59,7 +53,7 @@ module _ {mode : ℕ} (c : Picture mode) (pid r : ℕ) (fit : IsFit c) (root : c
               let high = (sizes mode).levels.0 in
               let at : index_of p (top_level mode) ≡ i = root_field (top_level mode) i h in
               let last : last_table c.frames p (top_level mode) r ≡ (top_level mode, r) =
-              stops_at c.frames p (top_level mode) r (omega (arith, high)) (ap (λ j. is_pointer (entry_at c.frames r j)) at ∙ stop) in
+              last_at-stop c.frames p (top_level mode) r (omega (arith, high)) (ap (λ j. is_pointer (entry_at c.frames r j)) at ∙ stop) in
               let missing : missing_of c.frames (top_level mode) r p ≡ top_level mode = missing_of-is c.frames (top_level mode) r p ∙ ap (λ x. x.0) last in
               ap (entry_at c.frames r) (sym at) ∙ sym (last_entry-is c.frames (top_level mode) r p ∙ ap (λ x. entry_at c.frames x.1 (index_of p x.0)) last)
               ∙ is_root.bare p (λ none. (omega (arith, missing, none, high))))
@@ -112,10 +106,7 @@ module _ {mode : ℕ} (old new : Picture mode) (pid r : ℕ) (fit : IsFit old) (
 pub none_taken_ended : {mode : ℕ} (first old new : Picture mode) (pid r : ℕ) → Exits old new pid r → TakesNoFrame first.frames old.frames → TakesNoFrame first.frames new.frames
 none_taken_ended first old new pid r exits before n = elim (cases_eq n r) [
   | inl is ↦ inr (ap (role_of new.frames) is ∙ exits.free)
-  | inr ne ↦ elim (before n) [
-    | inl same ↦ inl (exits.frames.roles n ne ∙ same)
-    | inr free ↦ inr (exits.frames.roles n ne ∙ free)
-  ]
+  | inr ne ↦ elim (before n) [ inl same ↦ inl (exits.frames.roles n ne ∙ same) | inr free ↦ inr (exits.frames.roles n ne ∙ free) ]
 ]
 
 -- what exit leaves
@@ -173,10 +164,7 @@ module _ {mode : ℕ} (first old new : Picture mode) (pid r : ℕ) (begun : IsFi
   role_same = exits.frames.roles
 
   free_kept : (n : ℕ) → role_of old.frames n ≡ Free → role_of new.frames n ≡ Free
-  free_kept n e = elim (cases_eq n r) [
-    | inl is ↦ ap (role_of new.frames) is ∙ exits.free
-    | inr ne ↦ role_same n ne ∙ e
-  ]
+  free_kept n e = elim (cases_eq n r) [ inl is ↦ ap (role_of new.frames) is ∙ exits.free | inr ne ↦ role_same n ne ∙ e ]
 
   own_freed : (page d n : ℕ) → Way first.frames (top_level mode) r page d n → role_of new.frames n ≡ Free
   own_freed page zero n way = ap (role_of new.frames) way ∙ exits.free
@@ -225,10 +213,7 @@ module _ {mode : ℕ} (first old new : Picture mode) (pid r : ℕ) (begun : IsFi
               | inl now ↦ inl (now ∙ same)
               | inr home ↦ inr (home.0, sym (was.files.touched p lasting) ∙ home.1)
             ]
-            | inr home ↦ elim ((files_ended old new pid r was.fit exits).held p) [
-              | inl now ↦ inr (now ∙ home.0, home.1)
-              | inr gone ↦ inr (gone.0, home.1)
-            ]
+            | inr home ↦ elim ((files_ended old new pid r was.fit exits).held p) [ inl now ↦ inr (now ∙ home.0, home.1) | inr gone ↦ inr (gone.0, home.1) ]
           ];
         };
       }

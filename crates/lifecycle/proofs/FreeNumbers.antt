@@ -1,6 +1,5 @@
 -- The least free number, one number at a time.
-use Rattle.lifecycle.proofs.Names.{◌≡◌, ℕ, zero, suc, ◌+◌, ◌-◌, ◌<◌, Bool, true, false, Option, Some, None, refl, arith, is_some, FrameNo, least_free_from, number_of_frame}
-use Rattle.std.specs.Option.{option_map}
+use Rattle.{lifecycle.proofs.Names.{◌≡◌, ℕ, zero, suc, ◌+◌, ◌-◌, ◌<◌, Bool, true, false, Option, Some, None, refl, arith, is_some, FrameNo, least_free_from, number_of_frame}, std.specs.Option.{option_map}}
 
 -- whether a process lives, by its root
 pub some_number : (o : Option FrameNo) → is_some (option_map number_of_frame o) ≡ is_some o

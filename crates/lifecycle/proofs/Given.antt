@@ -2,8 +2,7 @@
 use Rattle.lifecycle.proofs.Names.{top_level, Attr, ◌≡◌, ◌≢◌, ℕ, inl, inr, ◌⊎◌, ◌+◌, ◌<◌, ◌≤◌, true, false, Option, Some, None, get_or, refl, sym, ap, ◌∙◌, subst, arith, cases_Bool, same_Some, option_map, Free, Table, Private, is_valid}
 use Rattle.lifecycle.proofs.Names.{frame_of, SetsEntry, KeepsFrames, IsPage, Seat, InFrame, InSlot, seat, is_private, is_swapped, Picture, entry, view, view_of, own_in, bytes_in, IsOwned, count_in, page_in, IsRootedBut, IsEntryFor, IsFit}
 use Rattle.lifecycle.proofs.Names.{IsFitBut, nowhere, SameBeside, SetsPage, entry_for-same, granting_changed, behind_kept, owned_forth, owned_back, count_kept, page_kept, places_same, dirty_changed, cases_seat, counted_filled, off-none}
-use Rattle.lifecycle.proofs.Names.{other_views, set_held, seat-none, sets_page, rooted_set, seat_own, tables_same, tables_then, room_then, but_memory, but_then}
-use Rattle.lifecycle.specs.Shares.{lowered_entry, given_entry, Withdraws, RaisesSeat, SharesRow}
+use Rattle.lifecycle.{proofs.Names.{other_views, set_held, seat-none, sets_page, rooted_set, seat_own, tables_same, tables_then, room_then, but_memory, but_then}, specs.Shares.{lowered_entry, given_entry, Withdraws, RaisesSeat, SharesRow}}
 
 -- tables alone were written
 pub set_counts : {mode : ℕ} (old new : Picture mode) → new.slots ≡ old.slots → KeepsFrames old.frames new.frames → (z : Seat) → count_in new z ≡ count_in old z
@@ -14,10 +13,7 @@ set_counts old new slots kept (InSlot k) = ap (λ t. t.count k) slots
 pub lowered_given : (e : ℕ) → seat e ≢ None → lowered_entry e ≡ given_entry e
 lowered_given e some = elim (cases_Bool (is_private e)) [
   | inl own ↦ rw own refl
-  | inr common ↦ elim (cases_Bool (is_swapped e)) [
-    | inl away ↦ rw (common, away) refl
-    | inr here ↦ absurd (some (rw (common, here) refl))
-  ]
+  | inr common ↦ elim (cases_Bool (is_swapped e)) [ inl away ↦ rw (common, away) refl | inr here ↦ absurd (some (rw (common, here) refl)) ]
 ]
 
 -- a page of a process shows what one of another does

@@ -1,7 +1,6 @@
 -- What steps keep of the processes and of the files.
 use Rattle.lifecycle.proofs.Names.{◌≡◌, ℕ, inl, inr, Option, Some, None, false, refl, sym, ap, ◌∙◌, subst, false≢true, PageKey, FrameNo, is_some, Free, Private, FrameTable, frame_count, role_of, Points, Picture, is_live, entry, KeepsPages}
-use Rattle.lifecycle.proofs.Names.{Frees, Same, GivesForTables, KeepsFiles, keeps_files_then}
-use Rattle.lifecycle.specs.Changes.{KeepsProcesses, TakesNoCopy}
+use Rattle.lifecycle.{proofs.Names.{Frees, Same, GivesForTables, KeepsFiles, keeps_files_then}, specs.Changes.{KeepsProcesses, TakesNoCopy}}
 
 -- whether a process lives
 pub live_same : {mode : ℕ} (old new : Picture mode) (pid : ℕ) → new.root pid ≡ old.root pid → is_live new pid ≡ is_live old pid
@@ -20,10 +19,7 @@ files_then a b c p q = keeps_files_then a b c p q
 
 -- a frame that is given up is no process's own
 pub no_copy_freed : {mode : ℕ} (old new : Picture mode) (keep : Option FrameNo) → Frees old new keep → TakesNoCopy old.frames new.frames
-no_copy_freed old new keep frees n is = elim (frees.roles n) [
-  | inl same ↦ sym same ∙ is
-  | inr freed ↦ (let bad : Free ≡ Private = sym freed.0 ∙ is in (cc))
-]
+no_copy_freed old new keep frees n is = elim (frees.roles n) [ inl same ↦ sym same ∙ is | inr freed ↦ (let bad : Free ≡ Private = sym freed.0 ∙ is in (cc)) ]
 
 -- nothing is given up where frames, entries and places are the same
 pub gives_alike : {mode : ℕ} (old new : Picture mode) → new.frames ≡ old.frames → ((q page : ℕ) → entry new q page ≡ entry old q page) → ((p : PageKey) → new.place p ≡ old.place p)

@@ -87,18 +87,12 @@ module _ {mode : ℕ} where
 
 -- the tables on the way to one page of which the parent has a copy
 pub links_one : {mode : ℕ} (old new : Picture mode) (parent child page : ℕ) → HasCopy old parent page → LinksTables old new child page → LinksCopies old new parent child
-links_one old new parent child page copy links n is = elim (links n is) [
-  | inl was ↦ inl was
-  | inr way ↦ inr (page, copy, way)
-]
+links_one old new parent child page copy links n is = elim (links n is) [ inl was ↦ inl was | inr way ↦ inr (page, copy, way) ]
 
 -- more tables were linked for copies
 pub links_then : {mode : ℕ} (a b c : Picture mode) (tried : Option ℕ) (parent child : ℕ) → IsGranting b → KeepsPages a b → KeepsPages b c → GivesForTables b c tried
     → LinksCopies a b parent child → LinksCopies b c parent child → LinksCopies a c parent child
 links_then a b c tried parent child granting before keeps gives links more n is = elim (more n is) [
-  | inl was ↦ elim (links n was) [
-    | inl first ↦ inl first
-    | inr way ↦ inr (way.0, way.1, way_kept b c tried child way.0 n gives keeps way.2)
-  ]
+  | inl was ↦ elim (links n was) [ inl first ↦ inl first | inr way ↦ inr (way.0, way.1, way_kept b c tried child way.0 n gives keeps way.2) ]
   | inr way ↦ inr (way.0, copy_kept a b parent way.0 granting before way.1, way.2)
 ]

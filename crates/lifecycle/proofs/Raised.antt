@@ -1,12 +1,11 @@
 -- One more shares a frame or a slot, for which no entry names it yet: no process sees that.
 use Rattle.lifecycle.proofs.Names.{top_level, File, Object, PageKey, Attr, Backing, ◌≡◌, ◌≢◌, ℕ, inl, inr, ◌<◌, ◌≤◌, true, [], Option, Some, get_or, refl, sym, ap, ◌∙◌, subst, arith, cases_eq, false≢true, Free, Table, Private, FrameTable}
-use Rattle.lifecycle.proofs.Names.{bytes_of, role_of, count_of, Shares, SlotTable, IsInUse, is_valid, can_write, frame_of, KeepsTrees, data_shared, row_same, Place, Home, Frame, Slot, Seat, InFrame, InSlot, seat, is_private, Picture, entry}
-use Rattle.lifecycle.proofs.Names.{held, bytes_at, bytes_in, IsOwned, count_in, page_in, IsEntryFor, Nothing, Resident, Away, IsBehind, IsGranting, IsFit, IsFitBut, nowhere, SameBeside, entries_kept, KeepsBehind, past_end-same}
-use Rattle.lifecycle.proofs.Names.{user_map-same, readable-same, granting_same, behind_kept, places_same, dirty_same, SameButSlots, with_slots, rooted_same, rooted_frames, counted_shared, each_view, view_seated, held_same, seat_own}
-use Rattle.lifecycle.proofs.Names.{same_with, tables_same}
+use Rattle.lifecycle.proofs.Names.{bytes_of, role_of, count_of, Shares, SlotTable, IsInUse, is_valid, can_write, frame_of, KeepsTrees, data_shared, row_same, Place, Slot, Seat, InFrame, InSlot, seat, is_private, Picture, entry, held}
+use Rattle.lifecycle.proofs.Names.{bytes_at, bytes_in, IsOwned, count_in, page_in, IsEntryFor, Nothing, Resident, Away, IsBehind, IsGranting, IsFit, IsFitBut, nowhere, SameBeside, entries_kept, KeepsBehind, past_end-same, user_map-same}
+use Rattle.lifecycle.proofs.Names.{readable-same, granting_same, behind_kept, places_same, dirty_same, SameButSlots, with_slots, rooted_same, rooted_frames, counted_shared, each_view, view_seated, held_same, seat_own, same_with}
+use Rattle.lifecycle.{proofs.Names.{tables_same}, specs.Shares.{IsUnwritten, RaisesSeat}}
 use Rattle.vm_types.specs.declared.region.Backing.TheVariants as Backings
 use Rattle.swap.specs.Slots as Slots
-use Rattle.lifecycle.specs.Shares.{IsUnwritten, RaisesSeat}
 
 behind-same : {mode : ℕ} (old new : Picture mode) (b : Backing) (n : ℕ) → KeepsBehind old new → IsBehind old b n → IsBehind new b n
 behind-same old new Backings.Anon n kept behind = behind
@@ -176,29 +175,22 @@ module _ {mode : ℕ} (old : Picture mode) (k : ℕ) (fit : IsFit old) (own : Is
         | inl is ↦ absurd (own.1 p (e ∙ ap (λ i. Slot (record { 0 = i })) is))
         | inr ne ↦ shares.others.counts j ne ∙ fit.places.slotted p j e
       ];
-      used = λ j some. elim (fit.places.used j (used_before j some)) [
-        | inl is ↦ inl (some, is.1)
-        | inr file ↦ inr file
-      ];
+      used = λ j some. elim (fit.places.used j (used_before j some)) [ inl is ↦ inl (some, is.1) | inr file ↦ inr file ];
       inside = fit.places.inside;
     };
     dirty = dirty_same old now fit.dirty (λ p. refl) (λ p. refl) (λ q p h. same.entries q p);
   }
 
   slot_bytes : (j : ℕ) → IsInUse old.slots j → t.bytes j ≡ old.slots.bytes j
-  slot_bytes j used = elim (cases_eq j k) [
-    | inl e ↦ ap t.bytes e ∙ shares.bytes_kept ∙ ap old.slots.bytes (sym e)
-    | inr ne ↦ shares.others.bytes j ne used
-  ]
+  slot_bytes j used = elim (cases_eq j k) [ inl e ↦ ap t.bytes e ∙ shares.bytes_kept ∙ ap old.slots.bytes (sym e) | inr ne ↦ shares.others.bytes j ne used ]
 
   seen_bytes : (z : Seat) → IsOwned old z → bytes_in now.frames now.slots z ≡ bytes_in old.frames old.slots z
   seen_bytes (InFrame m) is = refl
   seen_bytes (InSlot j) is = slot_bytes j is.0
 
   place_bytes : (p : PageKey) (x : Place) → old.place p ≡ x → bytes_at now.frames now.slots x ≡ bytes_at old.frames old.slots x
-  place_bytes p Home at = refl
-  place_bytes p (Frame m) at = refl
   place_bytes p (Slot j) at = ap (λ (w : _). Some w) (slot_bytes j.0 (let one = fit.places.slotted p j.0 at in omega (arith, one)))
+  place_bytes p x at = refl
 
   slot_held : (p : PageKey) → held now p ≡ held old p
   unfolding held

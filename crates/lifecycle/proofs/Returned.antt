@@ -1,7 +1,6 @@
 -- Where tables, own copies and pages of objects were given back and nothing else, no frame is taken.
 use Rattle.lifecycle.proofs.Names.{◌≡◌, ℕ, inl, inr, ◌⊎◌, refl, sym, ap, ◌∙◌, cases_Bool, PageKey, File, Object, Maps, is_named, Role, Free, Zero, Table, Private, Cache, FrameTable, role_of, IsSound, IsTable, Home, Frame, Picture, IsFit}
-use Rattle.lifecycle.proofs.Names.{IsMapped, IsUsed, AsRoot, OnWay, used_inside, KeepsNamed, ReturnsTables}
-use Rattle.lifecycle.specs.Changes.{TakesNoCopy, TakesNoFrame}
+use Rattle.lifecycle.{proofs.Names.{IsMapped, IsUsed, AsRoot, OnWay, used_inside, KeepsNamed, ReturnsTables}, specs.Changes.{TakesNoCopy, TakesNoFrame}}
 
 module _ {mode : ℕ} (old new : Picture mode) (pid : ℕ) (fit : IsFit old) (fit' : IsFit new) (sound : IsSound old.frames) (sound' : IsSound new.frames)
     (root : (q : ℕ) → new.root q ≡ old.root q) (returned : ReturnsTables old new pid)
@@ -9,8 +8,7 @@ module _ {mode : ℕ} (old new : Picture mode) (pid : ℕ) (fit : IsFit old) (fi
   -- each table is in a tree, and no pointer is new
   by_use : (n : ℕ) → IsUsed new (IsMapped new) n → IsTable old.frames n
   by_use n (AsRoot q is) = (fit.rooted.roots q n (sym (root q) ∙ is)).table
-  by_use n (OnWay q r page is mapped below) =
-      let way = below.2 in fit.rooted.forest.onto_tables way.0 _ n (returned.pointers way.0 _ n way.2)
+  by_use n (OnWay q r page is mapped below) = let way = below.2 in fit.rooted.forest.onto_tables way.0 _ n (returned.pointers way.0 _ n way.2)
 
   was_table : (n : ℕ) → IsTable new.frames n → IsTable old.frames n
   was_table n table = elim (fit'.rooted.used n table) [
@@ -41,7 +39,4 @@ still_framed old new maps keeps (Object p) n at = elim (cases_Bool (is_named map
 
 -- so no frame came to hold an own copy
 pub no_copy_taken : (old new : FrameTable) → TakesNoFrame old new → TakesNoCopy old new
-no_copy_taken old new frames n is = elim (frames n) [
-  | inl same ↦ sym same ∙ is
-  | inr free ↦ absurd (let bad : Free ≡ Private = sym free ∙ is in (cc))
-]
+no_copy_taken old new frames n is = elim (frames n) [ inl same ↦ sym same ∙ is | inr free ↦ absurd (let bad : Free ≡ Private = sym free ∙ is in (cc)) ]

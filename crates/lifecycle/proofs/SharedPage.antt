@@ -1,9 +1,8 @@
 -- The steps on one page, whose entry of the parent names a seat, together.
 use Rattle.vm_types.specs.declared.mode.Levels as Levels
-use Rattle.lifecycle.proofs.Names.{top_level, user_pages_fit, ◌≡◌, ℕ, inl, ◌/◌, ◌%◌, ◌+◌, ◌<◌, Some, refl, sym, ap, ◌∙◌, arith, FrameTable, SetsEntry, number_of, IsTableOf, IsPage, IsForest, IsRoot, IsTable, Entry, Core, Seat, seat}
-use Rattle.lifecycle.proofs.Names.{Picture, picture_of, entry, IsFit, IsFitBut, seat-none, place_at, same_beside}
-use Rattle.lifecycle.specs.{Shares.{IsTableFor, MayShare, RaisesSeat, SharesRow}, ChildShares.{AddsShare, AwaitsShares, HoldsEntries, WithdrawsWrite}}
-use Rattle.lifecycle.proofs.{Given.{fit_shared, shares_one}, Live.{live_root, some_of}, Lowered.{places_set}, Passed.{in_row}, Sharers.{may_share, unwritten_all}}
+use Rattle.lifecycle.proofs.{Given.{fit_shared, shares_one}, Live.{live_root, some_of}, Lowered.{places_set}, Names.{top_level, user_pages_fit, ◌≡◌, ℕ, inl, ◌/◌, ◌%◌, ◌+◌, ◌<◌, Some, refl, sym, ap, ◌∙◌, arith, FrameTable, SetsEntry}}
+use Rattle.lifecycle.proofs.{Names.{number_of, IsTableOf, IsPage, IsForest, IsRoot, IsTable, Entry, Core, Seat, seat, Picture, picture_of, entry, IsFit, IsFitBut, seat-none, place_at, same_beside}, Passed.{in_row}, Sharers.{may_share}}
+use Rattle.lifecycle.{proofs.Sharers.{unwritten_all}, specs.{ChildShares.{AddsShare, AwaitsShares, HoldsEntries, WithdrawsWrite}, Shares.{IsTableFor, MayShare, RaisesSeat, SharesRow}}}
 
 -- what the child's share of one page comes to
 module _ {mode : ℕ} where

@@ -81,8 +81,7 @@ module _ {mode : ℕ} (a b c : Picture mode) (parent child low mid high : ℕ) (
           omega (arith, one.raised y p h least front is, second))
       | inr back ↦ (
           let first = one.kept y (λ q hq from below there. (let e : p ≡ q = one_page a parent p q y fit h hq is there in omega (arith, e, back, below))) in
-          let second = two.raised y p h back under (ap seat (above p h back) ∙ is) in
-          omega (arith, first, second))
+          omega (arith, first, two.raised y p h back under (ap seat (above p h back) ∙ is)))
     ];
     kept = λ y other. two.kept y (λ q hq from below there. other q hq (omega (arith, le, from)) below (sym (ap seat (above q hq from)) ∙ there))
         ∙ one.kept y (λ q hq from below. other q hq from (omega (arith, below, le')));

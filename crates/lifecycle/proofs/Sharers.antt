@@ -1,15 +1,11 @@
 -- Who shares a seat: fewer than there are processes, where one has no entry, and nobody who may store to it.
 use Rattle.lifecycle.proofs.Names.{top_level, count_below, Attr, ◌≡◌, ℕ, zero, suc, inl, inr, ◌+◌, ◌<◌, ◌≤◌, Bool, true, false, Option, Some, None, refl, sym, ap, ◌∙◌, subst, arith, cases_eq, cases_Bool, false≢true, same_Some, is_valid}
 use Rattle.lifecycle.proofs.Names.{can_write, frame_of, IsPage, Seat, InFrame, seat, is_seat, holders_at, Picture, entry, count_in, page_in, IsEntryFor, Nothing, Resident, Away, IsFit, nowhere, count-most, count-sole, seat_number, off-none}
-use Rattle.lifecycle.proofs.Names.{cases_some, entry-dead, seat-none, seat_own, sits, sits_none}
-use Rattle.lifecycle.{specs.Shares.{IsUnwritten}, proofs.Weaker.{leaf_own}}
+use Rattle.lifecycle.{proofs.{Names.{cases_some, entry-dead, seat-none, seat_own, sits, sits_none}, Weaker.{leaf_own}}, specs.Shares.{IsUnwritten}}
 
 step_most : (f : ℕ → Bool) (n : ℕ) → count_below f (suc n) ≤ count_below f n + 1
 unfolding count_below
-step_most f n = elim (cases_Bool (f n)) [
-  | inl t ↦ rw t (omega arith)
-  | inr e ↦ rw e (omega arith)
-]
+step_most f n = elim (cases_Bool (f n)) [ inl t ↦ rw t (omega arith) | inr e ↦ rw e (omega arith) ]
 
 step_none : (f : ℕ → Bool) (n : ℕ) → f n ≡ false → count_below f (suc n) ≡ count_below f n
 unfolding count_below

@@ -1,9 +1,8 @@
 -- Why there was no copy of a process, told by the processes before the call.
 use Rattle.lifecycle.proofs.Names.{◌≡◌, ◌≢◌, ℕ, zero, suc, inl, inr, ◌+◌, ◌*◌, ◌/◌, ◌<◌, ◌^◌, Bool, true, false, if◌then◌else◌, Option, Some, None, List, refl, sym, ap, ◌∙◌, subst, arith, fun_ext, cases_eq, used_rows, tables_below}
-use Rattle.lifecycle.proofs.Names.{tables_of, has_own, object_page_limit, top_level, table_entries, user_end, object_limit, File, Object, any_below, count_below, sum_below, View, Attr, Stall, NoFrames, NoSwap, SwapDevice, StoreDevice}
-use Rattle.lifecycle.proofs.Names.{PageKey, Picture, is_live, entry, view, view_of, own_in, IsShort, tables_over, copies_over, touched_file, stored_object, count-same, sum-below, KeepsRoom}
+use Rattle.lifecycle.proofs.Names.{tables_of, has_own, object_page_limit, top_level, table_entries, user_end, object_limit, File, Object, any_below, count_below, sum_below, View, Attr, Stall, NoFrames, NoSwap, PageKey, Picture, is_live}
+use Rattle.lifecycle.{proofs.Names.{entry, view, view_of, own_in, IsShort, tables_over, copies_over, touched_file, stored_object, count-same, sum-below, KeepsRoom}, specs.Changes.{KeepsProcesses, IsShortToFork}}
 use Rattle.std.proofs.Common.{is_some}
-use Rattle.lifecycle.specs.Changes.{KeepsProcesses, IsShortToFork}
 
 -- one summand is that much more
 sum-more : (f g : ℕ → ℕ) (x d n : ℕ) → x < n → f x ≡ g x + d → ((k : ℕ) → k ≢ x → f k ≡ g k) → sum_below f n ≡ sum_below g n + d
@@ -15,8 +14,7 @@ sum-more f g x d (suc n) below here others = elim (cases_eq n x) [
       let rest : sum_below f n ≡ sum_below g n = sum-below f g x n (omega (arith, e)) others in
       omega (arith, here_n, rest))
   | inr ne ↦ (
-      let rest = sum-more f g x d n (omega (arith, below, ne)) here others in
-      omega (arith, rest, others n ne))
+      omega (arith, sum-more f g x d n (omega (arith, below, ne)) here others, others n ne))
 ]
 
 -- the tables of a process are told by which pages are mapped
@@ -70,8 +68,7 @@ module _ {mode : ℕ} where
   short_before old new parent NoSwap keeps room touched short =
       let same = copies_alike mode (view old) (view new) (touched_file old) (touched_file new) (stored_object old) (stored_object new) (λ q page. ap has_own (keeps.views q page)) (λ f k. touched (File (record { file = f; page = k }))) (λ o k. touched (Object (record { object = o; page = k }))) in
       omega (arith, room.slots, same, short)
-  short_before old new parent SwapDevice keeps room touched short = tt
-  short_before old new parent StoreDevice keeps room touched short = tt
+  short_before old new parent stall keeps room touched short = tt
 
 some_view : (own : Option (List ℕ)) (o : Option Attr) → is_some (view_of own o) ≡ is_some o
 some_view own None = refl
@@ -104,5 +101,4 @@ module _ {mode : ℕ} (old new : Picture mode) (parent child : ℕ) (apart : par
   short_alike NoSwap short =
       let all = copies_alike mode (view old) (view new) (touched_file old) (touched_file new) (stored_object old) (stored_object new) owned (λ f k. touched (File (record { file = f; page = k }))) (λ o k. touched (Object (record { object = o; page = k }))) in
       omega (arith, room.slots, all, short)
-  short_alike SwapDevice short = tt
-  short_alike StoreDevice short = tt
+  short_alike stall short = tt

@@ -1,8 +1,7 @@
 -- A fork that stalls: what it took of memory is given back.
 use Rattle.lifecycle.proofs.Names.{top_level, user_end, PageKey, Object, Stall, ◌≡◌, ◌≢◌, ℕ, suc, inl, inr, ◌⊎◌, ◌+◌, Option, Some, None, refl, sym, ap, ◌∙◌, subst, arith, cases_eq, Role, Free, Zero, Table, Private, Cache, role_of}
 use Rattle.lifecycle.proofs.Names.{count_of, IsCountFor, IsFull, IsSound, IsPage, IsTable, InFrame, InSlot, seat, holders_at, off, Picture, entry, page_in, IsFit, nowhere, Frees, Refuses, GivesForTables, KeepsRoles, holders_none, off-none}
-use Rattle.lifecycle.proofs.Names.{seat-none, KeepsRoom, IsTableOnWay, used_inside, KeepsEntriesOfOthers, LosesSlots}
-use Rattle.lifecycle.specs.{Steps.{HasCopy, LacksTableForCopy}, Changes.{FreesTables, StallsToFork}}
+use Rattle.lifecycle.{proofs.Names.{seat-none, KeepsRoom, IsTableOnWay, used_inside, KeepsEntriesOfOthers, LosesSlots}, specs.{Changes.{FreesTables, StallsToFork}, Steps.{HasCopy, LacksTableForCopy}}}
 
 -- no frame was to be had for the root
 pub stalls_first : {mode : ℕ} (old new : Picture mode) (parent child : ℕ) (stall : Stall) → old.root child ≡ None → IsFit new → Frees old new None
@@ -61,10 +60,7 @@ module _ {mode : ℕ} (old new : Picture mode) (pid : ℕ) (fit : IsFit old) (fi
   by_role n Table is =
       let used = used_inside old.frames n sound (λ free. (let bad : Table ≡ Free = sym is ∙ free in (cc))) in
       let table : IsTable old.frames n = record { inside = used; role = is } in
-      elim (tables.others n table) [
-        | inl still ↦ inl still.role
-        | inr on ↦ inr (tables.own on.0 on.1 n on.2 on.3, table)
-      ]
+      elim (tables.others n table) [ inl still ↦ inl still.role | inr on ↦ inr (tables.own on.0 on.1 n on.2 on.3, table) ]
   by_role n Private is = inl (private_left n is)
   by_role n Cache is = let p = fit.places.held n is in inl (fit'.places.cached p.0 n (place p.0 ∙ p.1))
 

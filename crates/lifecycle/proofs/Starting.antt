@@ -1,8 +1,7 @@
 -- A process comes.
-use Rattle.lifecycle.proofs.Names.{user_pages_fit, top_level, ◌≡◌, ◌≢◌, ℕ, inl, inr, None, sym, ap, ◌∙◌, subst, arith, cases_eq, is_some, Role, Free, Table, Private, Cache, role_of, bytes_of, frame_count, IsPage, missing_of, page_entry}
-use Rattle.lifecycle.proofs.Names.{Seat, InFrame, InSlot, seat, Picture, entry, view, bytes_in, IsOwned, IsFit, ObtainsTable, Spawns, KeepsFiles, GivesForTables, KeepsRolesBut, gives_then, entry-dead, entry-same, cases_attr, view-none}
-use Rattle.lifecycle.proofs.Names.{view_seated, held_same, bare_started, bare_freed, KeepsBare, KeepsRoom}
-use Rattle.lifecycle.{specs.Changes.{AddsProcess, TakesRoot, TakesNoCopy}, proofs.Keeping.{live_same, files_then, no_copy_freed, gives_alike}}
+use Rattle.lifecycle.proofs.{Keeping.{live_same, files_then, no_copy_freed, gives_alike}, Names.{user_pages_fit, top_level, ◌≡◌, ◌≢◌, ℕ, inl, inr, None, sym, ap, ◌∙◌, subst, arith, cases_eq, is_some, Role, Free, Table, Private, Cache}}
+use Rattle.lifecycle.proofs.Names.{role_of, bytes_of, frame_count, IsPage, missing_of, page_entry, Seat, InFrame, InSlot, seat, Picture, entry, view, bytes_in, IsOwned, IsFit, ObtainsTable, Spawns, KeepsFiles, GivesForTables, KeepsRolesBut}
+use Rattle.lifecycle.{proofs.Names.{gives_then, entry-dead, entry-same, cases_attr, view-none, view_seated, held_same, bare_started, bare_freed, KeepsBare, KeepsRoom}, specs.Changes.{AddsProcess, TakesRoot, TakesNoCopy}}
 
 -- A frame was obtained and taken for a table, and that is the root of a process that was made.
 module _ {mode : ℕ} (old mid new : Picture mode) (pid n : ℕ) (obtains : ObtainsTable old mid n) (spawns : Spawns mid new pid n) where
@@ -55,10 +54,7 @@ module _ {mode : ℕ} (old mid new : Picture mode) (pid n : ℕ) (obtains : Obta
 
   pub root_taken : KeepsRolesBut old mid n → TakesRoot old new pid n
   root_taken only = record {
-    was_free = elim (obtains.frees.roles n) [
-      | inl same ↦ inl (sym same ∙ obtains.adds.takes.was_free)
-      | inr freed ↦ inr freed.1
-    ];
+    was_free = elim (obtains.frees.roles n) [ inl same ↦ inl (sym same ∙ obtains.adds.takes.was_free) | inr freed ↦ inr freed.1 ];
     table = ap (λ t. role_of t n) spawns.frames ∙ obtains.adds.takes.kind_set;
     root = spawns.lives;
     others = λ q ne. root_same q ne ∙ obtains.frees.pages.root q;

@@ -1,8 +1,7 @@
 -- What a process that comes takes of memory: its tables, and what was given up for them.
-use Rattle.lifecycle.proofs.Names.{user_end, top_level, PageKey, ◌≡◌, ◌≢◌, ℕ, suc, inl, inr, ◌⊎◌, true, false, Some, None, refl, sym, ap, ◌∙◌, subst, arith, cases_eq, cases_Bool, false≢true, FrameTable, IsFull, is_valid, is_accessed}
-use Rattle.lifecycle.proofs.Names.{IsTable, way_forth, seat, Picture, entry, is_data, Ages, Same, Cleared, Left, IsGiven, GivesForTables, ages_map, gives_then, seat-none, seat_common, IsTableOnWay, none_common}
-use Rattle.std.proofs.Common.{◌&&◌}
-use Rattle.lifecycle.{specs.{Steps.{HasCopy, LinksCopies}, Shares.{SharesRow}, Changes.{TakesRoot, MapsAlike, ForksEntries, TakesTables}}, proofs.{Copying.{IsReadied, lowered, given}, Keeping.{gives_alike}}}
+use Rattle.lifecycle.proofs.{Copying.{IsReadied, lowered, given}, Keeping.{gives_alike}, Names.{user_end, top_level, PageKey, ◌≡◌, ◌≢◌, ℕ, suc, inl, inr, ◌⊎◌, true, false, Some, None, refl, sym, ap, ◌∙◌, subst, arith, cases_eq, cases_Bool}}
+use Rattle.lifecycle.proofs.Names.{false≢true, FrameTable, IsFull, is_valid, is_accessed, IsTable, way_forth, seat, Picture, entry, is_data, Ages, Same, Cleared, Left, IsGiven, GivesForTables, ages_map, gives_then, seat-none, seat_common}
+use Rattle.{lifecycle.{proofs.Names.{IsTableOnWay, none_common}, specs.{Changes.{TakesRoot, MapsAlike, ForksEntries, TakesTables}, Shares.{SharesRow}, Steps.{HasCopy, LinksCopies}}}, std.proofs.Common.{◌&&◌}}
 
 valid_of : (e : ℕ) → (is_valid e && is_accessed e) ≡ true → is_valid e ≡ true
 valid_of e both = elim (cases_Bool (is_valid e)) [
@@ -43,10 +42,7 @@ module _ {mode : ℕ} (old spawned mapped mid : Picture mode) (parent child n : 
   pub tables_mid : (m : ℕ) → IsTable mid.frames m
       → IsTable old.frames m ⊎ ((mid.root child ≡ Some m) ⊎ ((page : ℕ) × HasCopy old parent page × IsTableOnWay mid child page m))
   tables_mid m table = elim (links m table) [
-    | inl was ↦ elim (cases_eq m n) [
-      | inl is ↦ inr (inl (root_mid ∙ ap (λ x. Some x) (sym is)))
-      | inr ne ↦ inl (table_before m ne was)
-    ]
+    | inl was ↦ elim (cases_eq m n) [ inl is ↦ inr (inl (root_mid ∙ ap (λ x. Some x) (sym is))) | inr ne ↦ inl (table_before m ne was) ]
     | inr on ↦ inr (inr (on.0, copy_before on.0 on.1, on.2))
   ]
 
@@ -58,28 +54,21 @@ module _ {mode : ℕ} (old mid new : Picture mode) (parent child : ℕ) (gives :
   given_shared : (n : ℕ) → IsGiven old mid None n → IsGiven old new None n
   given_shared n is = (
     is.0,
-    elim is.1 [
-      | inl gone ↦ inl (ap is_data (shares.roles n) ∙ gone)
-      | inr tried ↦ inr tried
-    ],
+    elim is.1 [ inl gone ↦ inl (ap is_data (shares.roles n) ∙ gone) | inr tried ↦ inr tried ],
   )
 
   pub entries_forked : IsReadied old mid parent child → ForksEntries old new parent child
   entries_forked ready = record {
     aged = entry mid;
     ages = λ q page h. ages_map (IsGiven old mid None) (IsGiven old new None) (entry old q page) (entry mid q page) given_shared (gives.entries q page h);
-    needed = elim gives.needed [
-      | inl full ↦ inl (full_shared full)
-      | inr none ↦ inr none.entries
-    ];
+    needed = elim gives.needed [ inl full ↦ inl (full_shared full) | inr none ↦ inr none.entries ];
     lowered = lowered old mid parent child ready new shares;
     given = given old mid parent child ready new shares;
     others = λ q page ne ne' h. shares.others q page h (inl (ne, ne'));
   }
 
   table_shared : (n : ℕ) → IsTable new.frames n → IsTable mid.frames n
-  table_shared n table =
-      record { inside = omega (arith, table.inside, shares.room.frames); role = sym (shares.roles n) ∙ table.role }
+  table_shared n table = record { inside = omega (arith, table.inside, shares.room.frames); role = sym (shares.roles n) ∙ table.role }
 
   on_way : (page n : ℕ) → IsTableOnWay mid child page n → IsTableOnWay new child page n
   on_way page n on =
@@ -93,19 +82,10 @@ module _ {mode : ℕ} (old mid new : Picture mode) (parent child : ℕ) (gives :
       → IsTable old.frames n ⊎ ((mid.root child ≡ Some n) ⊎ ((page : ℕ) × HasCopy old parent page × IsTableOnWay mid child page n)))
       → TakesTables old new parent child
   tables_taken linked = record {
-    roles = λ n. elim (gives.roles n) [
-      | inl same ↦ inl (shares.roles n ∙ same)
-      | inr came ↦ inr (shares.roles n ∙ came.0, came.1)
-    ];
+    roles = λ n. elim (gives.roles n) [ inl same ↦ inl (shares.roles n ∙ same) | inr came ↦ inr (shares.roles n ∙ came.0, came.1) ];
     linked = λ n table. elim (linked n (table_shared n table)) [
       | inl was ↦ inl was
-      | inr here ↦ inr (elim here [
-        | inl is_root ↦ inl (shares.beside.root child ∙ is_root)
-        | inr on ↦ inr (on.0, on.1, on_way on.0 n on.2)
-      ])
+      | inr here ↦ inr (elim here [ inl is_root ↦ inl (shares.beside.root child ∙ is_root) | inr on ↦ inr (on.0, on.1, on_way on.0 n on.2) ])
     ];
-    needed = elim gives.needed [
-      | inl full ↦ inl (full_shared full)
-      | inr none ↦ inr (λ n held. shares.roles n ∙ none.roles n held)
-    ];
+    needed = elim gives.needed [ inl full ↦ inl (full_shared full) | inr none ↦ inr (λ n held. shares.roles n ∙ none.roles n held) ];
   }

@@ -25,35 +25,20 @@ module _ {mode : ℕ} (mid new : Picture mode) (parent child r : ℕ) (apart : p
   lasting_or (Object p) = elim (cases_Bool (is_named (without_maps mid.at child 0 (user_end mode)) p.object p.page)) [
     | inl t ↦ inl t
     | inr f ↦ inr (
-      elim (away_or (mid.place (Object p))) [
-        | inl home ↦ home
-        | inr away ↦ absurd (false≢true (sym f ∙ lasts p (fit.places.inside (Object p) away)))
-      ],
+      elim (away_or (mid.place (Object p))) [ inl home ↦ home | inr away ↦ absurd (false≢true (sym f ∙ lasts p (fit.places.inside (Object p) away))) ],
       keeps.gone p f,
     )
   ]
 
   pub places_unchanged : (p : PageKey) → new.place p ≡ mid.place p
-  places_unchanged p = elim (lasting_or p) [
-    | inl last ↦ keeps.place p last
-    | inr homes ↦ homes.1 ∙ sym homes.0
-  ]
+  places_unchanged p = elim (lasting_or p) [ inl last ↦ keeps.place p last | inr homes ↦ homes.1 ∙ sym homes.0 ]
 
   untouched : (c : Picture mode) (p : PageKey) → IsFit c → c.place p ≡ Home → c.touched p ≡ false
-  untouched c p fit home = elim (cases_Bool (c.touched p)) [
-    | inl t ↦ absurd (fit.dirty.held p t home)
-    | inr f ↦ f
-  ]
+  untouched c p fit home = elim (cases_Bool (c.touched p)) [ inl t ↦ absurd (fit.dirty.held p t home) | inr f ↦ f ]
 
   pub files_unchanged : KeepsFiles mid new
   files_unchanged = record {
-    held = λ p. elim (lasting_or p) [
-      | inl last ↦ keeps.held p last
-      | inr homes ↦ inl (home_held new p homes.1 ∙ sym (home_held mid p homes.0))
-    ];
-    touched = λ p. elim (lasting_or p) [
-      | inl last ↦ keeps.touched p last
-      | inr homes ↦ untouched new p fit' homes.1 ∙ sym (untouched mid p fit homes.0)
-    ];
+    held = λ p. elim (lasting_or p) [ inl last ↦ keeps.held p last | inr homes ↦ inl (home_held new p homes.1 ∙ sym (home_held mid p homes.0)) ];
+    touched = λ p. elim (lasting_or p) [ inl last ↦ keeps.touched p last | inr homes ↦ untouched new p fit' homes.1 ∙ sym (untouched mid p fit homes.0) ];
     files = keeps.files;
   }

@@ -1,8 +1,7 @@
 -- An entry without W.
 use Rattle.lifecycle.proofs.Names.{◌&&◌, ◌≡◌, ◌≢◌, ℕ, ◌+◌, ◌-◌, ◌*◌, ◌/◌, ◌%◌, ◌^◌, inl, inr, ◌==◌, Bool, true, false, Option, refl, sym, ap, ◌∙◌, subst, arith, eqb-true, cases_Bool, false≢true, and_parts, FrameNo, Attr, Pte, has_bit}
-use Rattle.lifecycle.proofs.Names.{is_valid, can_write, is_leaf, frame_of, number_of, Entry, Leaf, Swapped, Parked, is_private, seat, Picture, IsEntryFor, Nothing, Resident, Away, no_bit}
-use Rattle.page_tables.specs.declared.forms.Entry.TheVariants.{None}
-use Rattle.lifecycle.specs.Shares.{Weakens, without_write, lowered_entry}
+use Rattle.lifecycle.{proofs.Names.{is_valid, can_write, is_leaf, frame_of, number_of, Entry, Leaf, Swapped, Parked, is_private, seat, Picture, IsEntryFor, Nothing, Resident, Away, no_bit}, specs.Shares.{Weakens, without_write}}
+use Rattle.{lifecycle.specs.Shares.{lowered_entry}, page_tables.specs.declared.forms.Entry.TheVariants.{None}}
 
 bit_set : (e : ℕ) → can_write e ≡ true → e / 4 % 2 ≡ 1
 unfolding has_bit
@@ -12,10 +11,7 @@ number_less : (e : ℕ) → is_valid e ≡ true → can_write e ≡ true → e -
 number_less e valid write = rw (valid, write) refl
 
 number_same : (e : ℕ) → (is_valid e ≡ true → can_write e ≡ false) → e ≡ without_write e
-number_same e unwritten = elim (cases_Bool (is_valid e)) [
-  | inl valid ↦ (let none = unwritten valid in rw (valid, none) refl)
-  | inr invalid ↦ rw invalid refl
-]
+number_same e unwritten = elim (cases_Bool (is_valid e)) [ inl valid ↦ (let none = unwritten valid in rw (valid, none) refl) | inr invalid ↦ rw invalid refl ]
 
 -- a leaf that lets stores through
 pub weaker_leaf : (e : ℕ) → is_valid e ≡ true → can_write e ≡ true → Weakens e (e - 4)
@@ -90,10 +86,7 @@ weaker_lowered e e' own weaker = rw own weaker.number
 
 -- a leaf that names a seat is that of a frame of the process's own
 pub leaf_own : (e : ℕ) → is_valid e ≡ true → seat e ≢ Option.None → is_private e ≡ true
-leaf_own e valid some = elim (cases_Bool (is_private e)) [
-  | inl own ↦ own
-  | inr common ↦ absurd (some (rw (common, valid) refl))
-]
+leaf_own e valid some = elim (cases_Bool (is_private e)) [ inl own ↦ own | inr common ↦ absurd (some (rw (common, valid) refl)) ]
 
 -- the entry without W
 pub weakened : (e : ℕ) → Weakens e (without_write e)

@@ -1,8 +1,6 @@
 -- Pages that are the same inside the files, and what msyncs make of them.
-use Rattle.std.proofs.Common.{ℕ, zero, suc, ◌≡◌, Bool, true, false, if◌then◌else◌, List, [], ◌∷◌, refl, sym, ◌∙◌}
-use Rattle.disk_model.specs.Stop.{Image}
-use Rattle.file_store.specs.Standing.{IsPageOf, StandsFor}
-use Rattle.vm_types.specs.{Files.{Files}, Msync.{Ruling, Refuses, Passes, Takes, touched_in}, Prefix.{Event, is_msync, may_have_taken, after_event, after_msyncs}, State.{State}, Step.{ruling, takes}, View.{Pages}}
+use Rattle.{std.proofs.Common.{ℕ, zero, suc, ◌≡◌, Bool, true, false, if◌then◌else◌, List, [], ◌∷◌, refl, sym, ◌∙◌}, disk_model.specs.Stop.{Image}, file_store.specs.Standing.{IsPageOf, StandsFor}, vm_types.specs.Files.{Files}}
+use Rattle.vm_types.specs.{Msync.{Ruling, Takes, touched_in}, Prefix.{Event, is_msync, may_have_taken, after_event, after_msyncs}, State.{State}, Step.{ruling, takes}, View.{Pages}}
 
 -- the same bytes in each page of these files
 abbrev pub Agree : Files → Pages → Pages → Type 0
@@ -17,9 +15,8 @@ either_pages files true x y p q first second = first
 either_pages files false x y p q first second = second
 
 agree_takes : (files : Files) (s : State) (r : Ruling) (p q : Pages) → Agree files p q → Agree files (takes s r p) (takes s r q)
-agree_takes files s (Refuses errno) p q same = same
-agree_takes files s Passes p q same = same
 agree_takes files s (Takes pid first count) p q same = λ f k inside. either_page (touched_in s pid first count f k) _ (p f k) (q f k) (same f k inside)
+agree_takes files s r p q same = same
 
 agree_event : (files : Files) (event : Event) (p q : Pages) → Agree files p q → Agree files (after_event event p) (after_event event q)
 agree_event files event p q same =

@@ -1,10 +1,8 @@
 -- What lives leave.
-use Rattle.std.proofs.Common.{ℕ, ◌≡◌, ◌≤◌, inl, inr, ⊎_elim, List, [], ◌∷◌, ◌++◌, length, refl, sym, ◌∙◌, subst, arith}
-use Rattle.disk_model.specs.{Moments.{LeavesOnly}, Stop.{Image, MayLeave}, declared.sector_disk.SectorDisk.{Ghosts}}
-use Rattle.file_store.specs.Standing.{StandsAs, StandsFor}
-use Rattle.vm_types.specs.{declared.command.Command.{Command}, declared.reply.Reply.{Reply}, Files.{Files}, Prefix.{Event, acknowledged, after_msyncs, IsPrefixHolding}, State.{State}, View.{Pages}}
-use Rattle.machine.specs.{Boot.{Boots}, Chain.{Chain, Runs, after}, Engine.{StandsForSome}, Machine.{store_of}, declared.machine.Machine.{Machine}}
-use Rattle.lives.{specs.Lives.{Life, IsLeftBy, StopsEarly, StopsLater, Lives, LeftInLives, HoldsLives, RanSince}, proofs.Agreeing.{agree_msyncs, same_files, same_pages, stands_for_same}}
+use Rattle.{std.proofs.Common.{ℕ, ◌≡◌, ◌≤◌, inl, inr, ⊎_elim, List, [], ◌∷◌, ◌++◌, length, refl, sym, ◌∙◌, subst, arith}, disk_model.specs.{Moments.{LeavesOnly}, Stop.{Image, MayLeave}, declared.sector_disk.SectorDisk.{Ghosts}}}
+use Rattle.{file_store.specs.Standing.{StandsAs, StandsFor}, vm_types.specs.{Files.{Files}, Prefix.{Event, acknowledged, after_msyncs, IsPrefixHolding}, State.{State}, View.{Pages}, declared.command.Command.{Command}}}
+use Rattle.{vm_types.specs.declared.reply.Reply.{Reply}, machine.specs.{Boot.{Boots}, Chain.{Chain, Runs, after}, Engine.{StandsForSome}, Machine.{store_of}, declared.machine.Machine.{Machine}}, lives.proofs.Agreeing.{agree_msyncs}}
+use Rattle.lives.{proofs.Agreeing.{same_files, same_pages, stands_for_same}, specs.Lives.{Life, IsLeftBy, StopsEarly, StopsLater, Lives, LeftInLives, HoldsLives, RanSince}}
 
 module _ {D E : Type 0} (g : Ghosts D) (h : Ghosts E) where
   stops_early : (sectors : ℕ) (files : Files) (before : Pages) (life : Life) (first last : Image) → StandsFor sectors files before first
@@ -86,10 +84,7 @@ module _ {D E : Type 0} (g : Ghosts D) (h : Ghosts E) where
       → (c : Chain g h old s commands replies events new t) → after g h old s commands replies events new t c (length commands) ≡ new
   at_end old s [] [] [] new t c = sym c.0
   at_end old s (x ∷ xs) (r ∷ rs) (e ∷ es) new t c = at_end c.0 c.1 xs rs es new t c.4
-  at_end old s [] [] (e ∷ es) new t c = absurd c
-  at_end old s [] (r ∷ rs) es new t c = absurd c
-  at_end old s (x ∷ xs) [] es new t c = absurd c
-  at_end old s (x ∷ xs) (r ∷ rs) [] new t c = absurd c
+  at_end old s commands replies es new t c = absurd c
 
   -- a run
   pub ran : ((d : D) (t : ℕ) (image : Image) → g.keeps_model d → t ≤ g.moment d → MayLeave (g.content d) (g.unsynced d) image → g.left_since d t image)

@@ -1,12 +1,8 @@
 -- The stores that `format` and an upgrade make.
-use Rattle.std.proofs.{Common.{ℕ, ◌≡◌, ◌⊎◌, ⊎_elim, inl, inr, List, Option, refl, subst}, lemmas.Bool.{cases_Bool}, lemmas.Slice.Eq.{bytes_eq-Decides}}
-use Rattle.std.specs.Str.{bytes_eq}
-use Rattle.disk_model.specs.Stop.{Image}
-use Rattle.file_store.specs.{declared.sources.FileSource.{FileSource}, Format.{IsStoreOf, IsStoreIfMarked}, Versions.{version_at, version_of, mark_of}, Standing.{IsBadLayout, OldStandsFor, StandsFor, StandsForIn, standing_page}}
-use Rattle.file_store.specs.{Standing.IsBadLayoutIn.{Unmarked}, Upgrade.{IsUpgradeOf, IsUpgradeIfMarked}}
-use Rattle.sync_journal.specs.{Kinds.{kind_of, kind_standing, IsKindBad}, declared.store_journal.Journals.{Journals}, declared.store_journal.Journals.TheVariants.{Single, Paired}}
-use Rattle.vm_types.specs.{Files.{Files}, View.{Pages}}
-use Rattle.lives.specs.Formatted.{StandsForSources}
+use Rattle.{std.{proofs.{Common.{ℕ, ◌≡◌, ◌⊎◌, ⊎_elim, inl, inr, List, Option, refl, subst}, lemmas.{Bool.{cases_Bool}, Slice.Eq.{bytes_eq-Decides}}}, specs.Str.{bytes_eq}}, disk_model.specs.Stop.{Image}, file_store.specs.Format.{IsStoreOf}}
+use Rattle.file_store.specs.{Format.{IsStoreIfMarked}, Standing.{IsBadLayout, OldStandsFor, StandsFor, StandsForIn, standing_page, IsBadLayoutIn.{Unmarked}}, Upgrade.{IsUpgradeOf, IsUpgradeIfMarked}, Versions.{version_at, version_of}}
+use Rattle.{file_store.specs.{Versions.{mark_of}, declared.sources.FileSource.{FileSource}}, sync_journal.specs.{Kinds.{kind_of, kind_standing, IsKindBad}, declared.store_journal.Journals.{Journals, TheVariants.{Single, Paired}}}}
+use Rattle.{vm_types.specs.{Files.{Files}, View.{Pages}}, lives.specs.Formatted.{StandsForSources}}
 
 pub stands_for_sources : {R : Type 0} (journals : Journals) (remaining : R → Option (List ℕ)) (sectors : ℕ) (sources : List (FileSource R)) (image : Image)
     → IsStoreOf journals remaining sectors sources image → StandsForSources remaining sectors sources image

@@ -1,7 +1,6 @@
 -- Two lives with an msync each.
-use Rattle.std.proofs.Common.{ℕ, zero, suc, ◌≡◌, ◌≤◌, ◌⊎◌, ◌↔◌, inl, inr, ⊎_elim, true, [], ◌∷◌, refl, sym, ap, ◌∙◌, subst, arith}
-use Rattle.vm_types.specs.{Prefix.{Event, is_msync, is_done, after_event, after_msyncs, acknowledged, IsPrefixHolding}, View.{Pages}}
-use Rattle.lives.specs.Lives.{IsLeftBy, stopped_in_first, stopped_in_second}
+use Rattle.{std.proofs.Common.{ℕ, zero, suc, ◌≡◌, ◌≤◌, ◌⊎◌, ◌↔◌, inl, inr, ⊎_elim, true, [], ◌∷◌, refl, sym, ap, ◌∙◌, subst, arith}, vm_types.specs.Prefix.{Event, is_msync, is_done, after_event, after_msyncs, acknowledged, IsPrefixHolding}}
+use Rattle.{vm_types.specs.View.{Pages}, lives.specs.Lives.{IsLeftBy, stopped_in_first, stopped_in_second}}
 
 -- one msync, taken
 taken : (before : Pages) (a : Event) (i : ℕ) → is_msync a.command ≡ true → after_msyncs before (a ∷ []) (suc i) ≡ after_event a before
@@ -9,9 +8,6 @@ taken before a i is = rw is refl
 
 one_known : (a : Event) → is_msync a.command ≡ true → is_done a.reply ≡ true → acknowledged (a ∷ []) 1 ≡ 1
 one_known a is done = rw is (rw done refl)
-
-none_known : (a : Event) → acknowledged (a ∷ []) 0 ≡ 0
-none_known a = refl
 
 -- a life of one msync that was acknowledged
 acknowledges : (before pages : Pages) (a : Event) → is_msync a.command ≡ true → is_done a.reply ≡ true → IsPrefixHolding before (a ∷ []) 1 pages
@@ -34,9 +30,7 @@ stopped before pages a is prefix = any prefix.i prefix.same
     any (suc i) same = inr (same ∙ taken before a i is)
 
 holds_acknowledged : (before : Pages) (a : Event) → is_msync a.command ≡ true → is_done a.reply ≡ true → IsPrefixHolding before (a ∷ []) 1 (after_event a before)
-holds_acknowledged before a is done =
-    let known = one_known a is done in
-    record { i = 1; holds = omega (arith, known); same = sym (taken before a 0 is) }
+holds_acknowledged before a is done = record { i = 1; holds = omega (arith, one_known a is done); same = sym (taken before a 0 is) }
 
 holds_none : (before : Pages) (a : Event) → IsPrefixHolding before (a ∷ []) 0 before
 holds_none before a = record { i = 0; holds = omega arith; same = refl }

@@ -6,6 +6,7 @@ ghost use Rattle.lives.specs.Lives.{FailsToStart, RanSince};
 
 use disk_model::SectorDisk;
 use machine::{BootFault, Config, Machine};
+use runner::Devices;
 use std::alloc::Global;
 use vm_types::{Command, Reply};
 
@@ -15,20 +16,20 @@ use vm_types::{Command, Reply};
 pub fn live<D: SectorDisk, E: SectorDisk + Drop>(
     alloc: Global,
     config: Config,
-    store: D,
-    swap: E,
+    devices: Devices<D, E>,
     commands: &[Command],
     replies: &mut [Reply],
 ) -> Result<Machine<D, E>, (BootFault, D)>
     requires lengths { length replies.old ≡ length commands.now }
     ensures sound { IfOk result (λ m. IsSoundMachine D.SectorDisk E.SectorDisk m) }
     ensures room { IfOk result (λ m. HasRoom m config) }
-    ensures swap_kept { IfOk result (λ m. E.keeps_model (swap_of m) → E.keeps_model swap) }
+    ensures swap_kept { IfOk result (λ m. E.keeps_model (swap_of m) → E.keeps_model devices.swap) }
     ensures lived { IfOk result (λ m. D.keeps_model (store_of m) → E.keeps_model (swap_of m)
-        → RanSince D.SectorDisk E.SectorDisk store m commands.now replies.new) }
-    ensures refuses { IfErr result (λ e. BootRefuses D.SectorDisk config (E.sector_count swap) store e.0 e.1) }
-    ensures fails { IfErr result (λ e. FailsToStart D.SectorDisk E.SectorDisk store e.0 e.1) }
+        → RanSince D.SectorDisk E.SectorDisk devices.store m commands.now replies.new) }
+    ensures refuses { IfErr result (λ e. BootRefuses D.SectorDisk config (E.sector_count devices.swap) devices.store e.0 e.1) }
+    ensures fails { IfErr result (λ e. FailsToStart D.SectorDisk E.SectorDisk devices.store e.0 e.1) }
 {
+    let Devices { store, swap } = devices;
     let mut machine = match Machine::boot(alloc, config, store, swap) {
         Ok(machine) => machine,
         Err(fault) => return Err(fault),

@@ -3,9 +3,10 @@ ghost use Rattle.std.specs.Prelude.{◌≤◌, IfOk};
 ghost use Rattle.machine.specs.Machine.{IsSoundMachine};
 
 use crate::viewer::Viewer;
+use command_words::run_words;
 use disk_model::{FileContents, SectorDisk, Unknown};
 use machine::Machine;
-use programs::{ProgramFault, boot_image, held_places, report, run_words, status_of};
+use programs::{ProgramFault, boot_image, held_places, report, status_of};
 use std::alloc::Global;
 use std::fs::{File, Files};
 use std::io::{BufWriter, Read, Write};

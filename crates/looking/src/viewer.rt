@@ -4,14 +4,13 @@ ghost use Rattle.machine.specs.Machine.{IsSoundMachine};
 ghost use Rattle.runner.specs.Session.{Answers};
 ghost use Rattle.looking.specs.Lines.{is_aside};
 
-use crate::answers::answer_question;
-use crate::questions::{Question, question_in};
 use disk_model::SectorDisk;
 use machine::Machine;
 use memchr::memchr;
 use runner::{LineBuffer, RunEnd, answer_line, read_once};
 use std::alloc::{AllocError, Global};
 use std::io::{self, Read, Write};
+use telling::{Question, answer_question, question_in};
 use trace_lang::{MAX_LINE_BYTES, parse_line};
 use watching::{Ledger, Outcome, Pending};
 

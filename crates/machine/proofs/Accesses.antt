@@ -3,9 +3,9 @@ use Rattle.vm_types.specs.declared.mode.Levels as Levels
 use Rattle.machine.proofs.Names.{ℕ, ◌≡◌, ◌≢◌, Bool, true, false, not, if◌then◌else◌, List, refl, sym, ap, ◌∙◌, subst, Ghosts, UsesDevice, ReadsStore, picture_of, is_live, Core, KeepsDevices, KeepsToPage, GivesPagesBack, is_denial, is_idle}
 use Rattle.machine.proofs.Names.{Access, StoredValue, Command, Errno, EIO, ESRCH, Fault, Backing, Anon, Answer, Reply, Faulted, Refused, Stalled, Width, with_shown_bytes, Past, reply_of, is_io_error, State, Outcome, outcome, answers}
 use Rattle.machine.proofs.Names.{load_outcome, store_outcome, fetch_outcome, past_after, ruling, takes, Verdict, Fine, Faults, View}
+use Rattle.machine.{specs.{Engine.{EngineMeets}, declared.engine.Engine.{Engine}, Accesses.{Accesses}, EngineCommands.{EngineCarriesOut}}, proofs.Flat.{OnlyNow, is_running, keeps_all, read_meets, shows_core, unread, unswapped}}
 use Rattle.spaces.specs.Calls as Calls
 use Rattle.vm_types.specs.declared.reply.Answer.TheVariants as Answers
-use Rattle.machine.{specs.{Engine.{EngineMeets}, declared.engine.Engine.{Engine}, Accesses.{Accesses}, EngineCommands.{EngineCarriesOut}}, proofs.Flat.{OnlyNow, is_running, keeps_all, read_meets, shows_core, unread, unswapped}}
 
 -- only the answer that refuses is a refusal
 pub refused_so : (a : Answer) (errno : Errno) → reply_of a ≡ Refused errno → a ≡ Answers.Refused errno

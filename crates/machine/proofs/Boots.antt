@@ -1,13 +1,11 @@
 -- What a boot leaves, from what the store's opening says.
 use Rattle.vm_types.specs.declared.mode.Levels as Levels
-use Rattle.machine.proofs.Names.{ℕ, ◌*◌, ◌≡◌, ◌≤◌, ◌⊎◌, inl, inr, ⊎_elim, false, List, Some, None, is_some, [], refl, sym, ap, ◌∙◌, subst, arith, rules, LeavesOnly, Image, MayLeave, Ghosts, started, stays, asks_none, OpensFrom}
-use Rattle.machine.proofs.Names.{RefusesToOpen, StandsFor, StandsAs, file_info, standing_page, OpenFault, FileStore, left_outside, Home, PageKey, File, Object, State, IsStart, Picture, picture_of, view, held, ShowsPages, IsOutsideOf}
-use Rattle.machine.proofs.Names.{slots_of}
-use Rattle.std.specs.Option.{option_map}
+use Rattle.machine.proofs.Names.{ℕ, ◌*◌, ◌≡◌, ◌≤◌, ◌⊎◌, inl, inr, ⊎_elim, false, List, Some, None, is_some, [], refl, sym, ap, ◌∙◌, subst, arith, rules, LeavesOnly, Image, MayLeave, Ghosts, started, stays, asks_none, OpensFrom, view-none}
+use Rattle.machine.proofs.Names.{RefusesToOpen, StandsFor, StandsAs, file_info, standing_page, OpenFault, FileStore, left_outside, Home, PageKey, File, Object, State, IsStart, Picture, picture_of, held, ShowsPages, IsOutsideOf, slots_of}
+use Rattle.machine.specs.{Boot.{HasBadFrames, HasBadSlots, BootAccepts, BootLeaves, BootRefuses}, EngineBoot.{EngineBoots}, Fault.{boot_fault}, declared.boot.BootFault.TheVariants.{Frames, Slots, OutOfMemory, Device, BadLayout, BadJournal}}
+use Rattle.{machine.specs.declared.{config.Config.{Config}, engine.Engine.{Engine}}, std.specs.Option.{option_map}, file_store.specs.declared.faults.OpenFault.TheVariants.{Device as StoreDevice, BadLayout as StoreLayout}}
+use Rattle.file_store.specs.declared.faults.OpenFault.TheVariants.{BadJournal as StoreJournal}
 use Rattle.file_store.specs.Store as Stores
-use Rattle.file_store.specs.declared.faults.OpenFault.TheVariants.{Device as StoreDevice, BadLayout as StoreLayout, BadJournal as StoreJournal}
-use Rattle.machine.specs.{declared.boot.BootFault.TheVariants.{Frames, Slots, OutOfMemory, Device, BadLayout, BadJournal}, declared.config.Config.{Config}, declared.engine.Engine.{Engine}}
-use Rattle.machine.specs.{Boot.{HasBadFrames, HasBadSlots, BootAccepts, BootLeaves, BootRefuses}, EngineBoot.{EngineBoots}, Fault.{boot_fault}}
 
 pub was_layout : (fault : OpenFault) → boot_fault fault ≡ BadLayout → fault ≡ StoreLayout
 was_layout StoreLayout e = refl
@@ -124,19 +122,13 @@ module _ {D : Type 0} (g : Ghosts D) where
   -- and so does the device as it was opened
   at_opened : (entry : D) (store : FileStore D) → OpensFrom g entry store → g.keeps_model store.disk
       → StandsFor (g.sector_count entry) (file_info (g.content entry)) (standing_page (g.content entry)) (g.content store.disk)
-  at_opened entry store opened keeps =
-      opened.now keeps (g.content store.disk) (record { kept = λ k. inr refl }) _ _ (at_entry entry store opened keeps)
+  at_opened entry store opened keeps = opened.now keeps (g.content store.disk) (record { kept = λ k. inr refl }) _ _ (at_entry entry store opened keeps)
 
   -- the directory is that of the image at entry
   pub same_files : (entry : D) (store : FileStore D) → OpensFrom g entry store → g.keeps_model store.disk
       → (f : ℕ) → Stores.files_of store f ≡ file_info (g.content entry) f
   same_files entry store opened keeps f =
       ap (option_map (λ e. e.info)) ((opened.ready.at_rest keeps).directory f) ∙ (at_opened entry store opened keeps).facts f
-
--- a page that isn't mapped is no page
-unmapped : {mode : ℕ} (c : Picture mode) (pid page : ℕ) → c.at pid page ≡ None → view c pid page ≡ None
-unfolding view
-unmapped c pid page none = rw none refl
 
 -- what is at home is not in memory
 at_home : {mode : ℕ} (c : Picture mode) (p : PageKey) (bytes : List ℕ) → c.place p ≡ Home → held c p ≡ Some bytes → ⊥
@@ -171,7 +163,7 @@ module _ {M : Type 0} {levels : Levels.Ghosts M} {D E : Type 0} (g : Ghosts D) (
   starts_so : (image : Image) (m : Engine D E M levels) (frames slots : ℕ) → IsStart m.core frames slots → ShowsPages (picture_of m.core) (start m image)
   starts_so image m frames slots fresh = record {
     live = λ pid. sym (ap is_some (fresh.none pid));
-    views = λ pid page. sym (unmapped (picture_of m.core) pid page (rw (fresh.none pid) refl));
+    views = λ pid page. sym (view-none (picture_of m.core) pid page (rw (fresh.none pid) refl));
     files = λ f. refl;
     touched = λ p. sym (fresh.untouched (File p));
     objects = λ p. sym (rw (fresh.untouched (Object p)) refl);

@@ -1,14 +1,13 @@
 -- msync on a machine.
 use Rattle.vm_types.specs.declared.mode.Levels as Levels
-use Rattle.machine.proofs.Names.{ℕ, ◌≡◌, ◌<◌, ◌≤◌, ◌⊎◌, inl, inr, ⊎_elim, ◌∷◌, [], Bool, true, false, not, ◌==◌, ◌%◌, ◌/◌, if◌then◌else◌, nat_lt, List, Option, Some, None, is_some, refl, sym, ap, ◌∙◌, subst, rules, LeavesOnly, Image}
-use Rattle.machine.proofs.Names.{MayLeave, Ghosts, weaker, holds_now, StandsForEither, StandsFor, frame_count, slots_of, UsesDevice, picture_of, ShowsPages, Core, KeepsRoom, KeepsDevices, is_denial, is_idle, KeepsMemory, GivesBack, Commits}
-use Rattle.machine.proofs.Names.{Acknowledged, Failed, Unread, Command, Msync, MsyncMode, Sync, Async, Errno, ESRCH, EIO, EINVAL, ENOMEM, ENOSPC, Stall, SwapDevice, Reply, Done, Refused, Stalled, Check, first_of, pages_from, Ruling}
-use Rattle.machine.proofs.Names.{Refuses, Passes, Takes, or_else, row_ruling, msync_ruling, touched_count, committed, is_io_error, may_have_taken, is_covered, Step, Answers, Fails, Stalls, is_success, State, IsRunning, halted, noted}
-use Rattle.machine.proofs.Names.{outcome, msync_outcome, ruling, commit_of, commits, takes, Pages, attrs_of}
+use Rattle.machine.proofs.{Flat.{with_past, OnlyNow, is_running, shows_core, answered, unread, keeps_all}, Names.{ℕ, ◌≡◌, ◌<◌, ◌≤◌, ◌⊎◌, inl, inr, ⊎_elim, ◌∷◌, [], Bool, true, false, not, ◌==◌, ◌%◌, ◌/◌, if◌then◌else◌, nat_lt, List}}
+use Rattle.machine.proofs.Names.{Option, Some, None, is_some, refl, sym, ap, ◌∙◌, subst, rules, LeavesOnly, Image, MayLeave, Ghosts, weaker, holds_now, StandsForEither, StandsFor, frame_count, slots_of, UsesDevice, picture_of, ShowsPages}
+use Rattle.machine.proofs.Names.{Core, KeepsRoom, KeepsDevices, is_denial, is_idle, KeepsMemory, GivesBack, Commits, Acknowledged, Failed, Unread, Command, Msync, MsyncMode, Sync, Async, Errno, ESRCH, EIO, EINVAL, ENOMEM, ENOSPC, Stall}
+use Rattle.machine.proofs.Names.{SwapDevice, Reply, Done, Refused, Stalled, Check, first_of, pages_from, Ruling, Refuses, Passes, Takes, or_else, row_ruling, msync_ruling, touched_count, committed, is_io_error, may_have_taken, is_covered}
+use Rattle.machine.proofs.Names.{Step, Answers, Fails, Stalls, is_success, State, IsRunning, halted, noted, outcome, msync_outcome, ruling, commit_of, commits, takes, Pages, attrs_of, false_from_ne_true, true_from_ne_false}
+use Rattle.machine.{proofs.Steps.{outcome_keeps, commit_takes}, specs.{Engine.{stands_in, MayStand, HoldsIn, StandsForSome, EngineShows, EngineMeets}, declared.engine.Engine.{Engine}}}
 use Rattle.spaces.specs.Calls as Calls
 use Rattle.msync.specs.Shows as Syncing
-use Rattle.machine.specs.{declared.engine.Engine.{Engine}, Engine.{stands_in, MayStand, HoldsIn, StandsForSome, EngineShows, EngineMeets}}
-use Rattle.machine.proofs.{Flat.{with_past, OnlyNow, is_running, shows_core, answered, unread, keeps_all}, Steps.{outcome_keeps, commit_takes}}
 
 -- no check returns EIO
 abbrev IsNoFailure : Option Errno → Type 0
@@ -17,8 +16,7 @@ IsNoFailure (Some errno) = is_io_error errno ≡ false
 
 abbrev RefusesOnly : Ruling → Type 0
 RefusesOnly (Refuses errno) = is_io_error errno ≡ false
-RefusesOnly Passes = Unit {0}
-RefusesOnly (Takes pid first count) = Unit {0}
+RefusesOnly o = Unit {0}
 
 one_check : (b : Bool) (errno : Errno) (rest : List Check) → is_io_error errno ≡ false → IsNoFailure (first_of rest) → IsNoFailure (first_of ((b, errno) ∷ rest))
 one_check true errno rest e h = e
@@ -57,8 +55,7 @@ ruled_so s (Refuses errno) fine e =
     let io : is_io_error errno ≡ true = ap may_have_taken e in
     let never : false ≡ true = sym fine ∙ io in
     cc
-ruled_so s Passes fine e = cc
-ruled_so s (Takes pid first count) fine e = cc
+ruled_so s r fine e = cc
 
 -- the flat model's msync never fails
 never_fails : (s : State) (pid addr len : ℕ) (mode : MsyncMode) → (outcome s (Msync pid addr len mode)).reply ≡ Refused EIO → ⊥
@@ -71,9 +68,8 @@ done_of s r after e = absurd (cc)
 
 -- where it makes none durable, the state stays
 stays_of : (s : State) (r : Ruling) → commit_of s r ≡ None → ((msync_outcome s r).state ≡ s) × (takes s r s.durable ≡ s.durable)
-stays_of s (Refuses errno) e = (refl, refl)
-stays_of s Passes e = (refl, refl)
 stays_of s (Takes pid first count) e = absurd (let k : Some (committed s pid first count s.durable) ≡ None = e in cc)
+stays_of s r e = (refl, refl)
 
 -- an msync that makes pages durable is not idle, however it ends
 never_idle : (s : State) (pid addr len : ℕ) (mode : MsyncMode) (reply : Reply) (after : Pages) → commits s (Msync pid addr len mode) ≡ Some after
@@ -87,14 +83,6 @@ never_idle s pid addr len mode reply after commit taken idle =
 -- it stalls for the swap device alone
 stall_is : (stall : Stall) → Stalled SwapDevice ≡ Stalled stall → SwapDevice ≡ stall
 stall_is stall e = cc
-
-is_false : (b : Bool) → (b ≡ true → ⊥) → b ≡ false
-is_false true never = absurd (never refl)
-is_false false never = refl
-
-is_true : (b : Bool) → (b ≡ false → ⊥) → b ≡ true
-is_true true never = refl
-is_true false never = absurd (never refl)
 
 none_or_some : (o : Option Pages) → (o ≡ None) ⊎ ((after : Pages) × (o ≡ Some after))
 none_or_some None = inl refl
@@ -193,11 +181,7 @@ module _ {M : Type 0} {levels : Levels.Ghosts M} {D E : Type 0} (g : Ghosts D) (
       let durable : stands_in s.ends s.durable s.durable = subst (λ (o : Option (List Pages)). stands_in o s.durable s.durable) (sym run) refl in
       met false s
       (Stalls SwapDevice run
-      (record {
-        otherwise = ap is_success (done_of s (ruling s x) after commit);
-        open_to = ap is_some commit;
-        cause = grew;
-      }) stalled refl)
+      (record { otherwise = ap is_success (done_of s (ruling s x) after commit); open_to = ap is_some commit; cause = grew }) stalled refl)
       (record { pages = now.pages; running = ap is_some run; past = shows.past; stands = λ k c may. (s.durable, durable, now.stands k c may) })
       (λ stall e. subst (Calls.FallsShort (frame_count core.frames) (slots_of core.swap).total s x) (stall_is stall (sym stalled ∙ e)) tt) (ap is_denial stalled)
       (λ k. weaker g old.core.store.disk core.store.disk (StandsFor n s.files s.durable) (StandsForSome n s.files (HoldsIn s x reply))
@@ -220,7 +204,7 @@ module _ {M : Type 0} {levels : Levels.Ghosts M} {D E : Type 0} (g : Ghosts D) (
   msync_meets only_now counts_now old core stops s pid addr len mode reply shows live room device said halts otherwise =
       let x = Msync pid addr len mode in
       let P : Bool → Type 0 = λ b. (t : State) × EngineMeets g h old (record { core = core; halted = b; past = old.past; sync_room = tt; region_room = tt }) s t x reply in
-      let goes_on : (reply ≡ Refused EIO → ⊥) → P false → P stops = λ never meets. subst P (sym (is_false stops (λ e. never (halts e)))) meets in
+      let goes_on : (reply ≡ Refused EIO → ⊥) → P false → P stops = λ never meets. subst P (sym (false_from_ne_true stops (λ e. never (halts e)))) meets in
       let run = is_running g h old s shows live in
       let told = said (shows_core g h old s shows run) in
       ⊎_elim (λ none.
@@ -237,7 +221,7 @@ module _ {M : Type 0} {levels : Levels.Ghosts M} {D E : Type 0} (g : Ghosts D) (
       elim made.end as (λ _. P stops) [
         | Acknowledged done pages now sound ↦ goes_on (λ e. (let never : Done ≡ Refused EIO = sym done ∙ e in cc))
             (commit_done g h old core s pid addr len mode reply some.0 shows run room device some.1 made back done (now back))
-        | Failed failed grew memory ↦ subst P (sym (is_true stops (λ e. otherwise e failed)))
+        | Failed failed grew memory ↦ subst P (sym (true_from_ne_false stops (λ e. otherwise e failed)))
             (commit_failed g h old core s pid addr len mode reply some.0 shows run room device some.1 made counts_now back failed grew memory)
         | Unread stalled grew memory now sound only ↦ goes_on (λ e. (let never : Stalled SwapDevice ≡ Refused EIO = sym stalled ∙ e in cc))
             (commit_unread g h old core s pid addr len mode reply some.0 shows run room device some.1 made stalled grew now only)

@@ -1,7 +1,6 @@
 -- What the replies of a run say of devices and frames, counted.
-use Rattle.machine.proofs.Names.{ℕ, ◌+◌, ◌≡◌, ◌≤◌, ◌<◌, Bool, true, false, if◌then◌else◌, List, [], ◌∷◌, refl, ◌∙◌, subst, sym, sum_by, arith, sum_by-cons, Ghosts, Errno, EIO, Stall, SwapDevice, StoreDevice, Reply, Refused, Stalled}
-use Rattle.machine.proofs.Names.{names_store, names_swap, refused_count}
-use Rattle.machine.{specs.{Chain.{Caused}, Counts.{failed_count, swap_failed_count, Counts}, Machine.{store_of, swap_of}, declared.machine.Machine.{Machine}}, proofs.Face.{HasCause, cause_of}}
+use Rattle.machine.proofs.{Face.{HasCause, cause_of}, Names.{ℕ, ◌+◌, ◌≡◌, ◌≤◌, ◌<◌, Bool, true, false, if◌then◌else◌, List, [], ◌∷◌, refl, ◌∙◌, subst, sym, sum_by, arith, sum_by-cons, Ghosts, Errno, EIO, Stall, SwapDevice, StoreDevice}}
+use Rattle.machine.{proofs.Names.{Reply, Refused, Stalled, names_store, names_swap, refused_count}, specs.{Chain.{Caused}, Counts.{failed_count, swap_failed_count, Counts}, Machine.{store_of, swap_of}, declared.machine.Machine.{Machine}}}
 
 not_counted : (b : Bool) (n : ℕ) → n ≡ (if b then 1 else 0) → n ≡ 0 → b ≡ false
 not_counted false n is none = refl
@@ -26,8 +25,7 @@ module _ {D E : Type 0} (g : Ghosts D) (h : Ghosts E) where
 
   swap_stall_failed : (old new : Machine D E) (stall : Stall) → HasCause g h old new (Stalled stall)
       → h.failures (swap_of old) + swap_failed_count (Stalled stall) ≤ h.failures (swap_of new)
-  swap_stall_failed old new SwapDevice is =
-      let less : h.failures (swap_of old) < h.failures (swap_of new) = is.swap_stalled refl in omega (arith, less)
+  swap_stall_failed old new SwapDevice is = let less : h.failures (swap_of old) < h.failures (swap_of new) = is.swap_stalled refl in omega (arith, less)
   swap_stall_failed old new stall is = omega (arith, is.swap_later)
 
   swap_failed_once : (old new : Machine D E) (reply : Reply) → HasCause g h old new reply
@@ -52,12 +50,10 @@ module _ {D E : Type 0} (g : Ghosts D) (h : Ghosts E) where
       let mid = c.0 in
       let first = cause_of g h old mid r c.1 in
       let rest = counts mid rs new c.2 in
-      let once = failed_once old mid r first in
-      let swap_once = swap_failed_once old mid r first in
       record {
         refused = omega (arith, first.counted, rest.refused, sum_by-cons refused_count r rs);
-        failed = omega (arith, once, rest.failed, sum_by-cons failed_count r rs);
-        swap_failed = omega (arith, swap_once, rest.swap_failed, sum_by-cons swap_failed_count r rs);
+        failed = omega (arith, failed_once old mid r first, rest.failed, sum_by-cons failed_count r rs);
+        swap_failed = omega (arith, swap_failed_once old mid r first, rest.swap_failed, sum_by-cons swap_failed_count r rs);
         calm = λ none.
             let here : failed_count r ≡ 0 = omega (arith, none, sum_by-cons failed_count r rs) in
             let there : sum_by failed_count rs ≡ 0 = omega (arith, none, sum_by-cons failed_count r rs) in

@@ -1,8 +1,7 @@
 -- What the words on machines say, whatever the mode.
 use Rattle.machine.proofs.Names.{◌+◌, ◌≡◌, ◌≤◌, ◌<◌, true, false, is_some, ap, rules, LeavesNow, LeavesOnly, Ghosts, is_idle, names_store, names_swap, refused_count, Command, EIO, SwapDevice, StoreDevice, Reply, Refused, Stalled, Step}
-use Rattle.machine.proofs.Names.{Causes, State}
-use Rattle.machine.specs.{Engine.{MayStand, HoldsIn, StandsForSome}, declared.machine.Machine.{Machine}, declared.machine.Machine.TheVariants.{Sv39, Sv48}}
-use Rattle.machine.specs.Machine.{store_of, swap_of, halted_of, past_of, refused_of, mode_of, bits_of, KeepsSizes, IsCausedBetween, Shows, Meets, IsReadable}
+use Rattle.machine.{proofs.Names.{Causes, State}, specs.{Engine.{MayStand, HoldsIn, StandsForSome}, Machine.{store_of, swap_of, halted_of, past_of, refused_of, mode_of, bits_of, KeepsSizes, IsCausedBetween, Shows, Meets, IsReadable}}}
+use Rattle.machine.specs.declared.machine.Machine.{Machine, TheVariants.{Sv39, Sv48}}
 
 module _ {D E : Type 0} (g : Ghosts D) (h : Ghosts E) where
   -- what came to pass between two machines

@@ -2,12 +2,12 @@
 use Rattle.vm_types.specs.declared.mode.Levels as Levels
 use Rattle.machine.proofs.Names.{ℕ, ◌/◌, ◌≡◌, inl, Bool, true, false, List, Option, Some, None, is_some, refl, sym, ap, ◌∙◌, subst, inr, ⊎_elim, arith, rules, LeavesNow, LeavesOnly, Touches, Nothing, Image, MayLeave, Ghosts, stays, started}
 use Rattle.machine.proofs.Names.{goes_on, still_leaves, asks_none, StandsFor, FileStore, frame_count, slots_of, UsesDevice, ReadsStore, Picture, picture_of, ShowsPages, Core, asks_slots_same, asks_same, slotted_same, calm_same, KeepsRoom}
-use Rattle.machine.proofs.Names.{KeepsDevices, settles_nothing, writes_none, takes_none, AsksFor, is_idle, Access, Command, Spawn, Fork, Exit, Mmap, Munmap, Mprotect, Dontneed, Msync, Load, Store, Fetch, PastFaults, Stall, Reply, Done}
+use Rattle.machine.proofs.Names.{KeepsDevices, settles_nothing, writes_none, takes_none, AsksFor, is_idle, Access, Command, Exit, Mmap, Munmap, Mprotect, Dontneed, Msync, Load, Store, Fetch, PastFaults, Stall, Reply, Done}
 use Rattle.machine.proofs.Names.{Halted, page_count, Files, user_end, Past, Answers, Stalls, Stays, MayStall, State, IsRunning, outcome, noted, past_after, ruling, takes, Pages}
+use Rattle.machine.{specs.{Engine.{stands_in, MayStand, HoldsIn, StandsForSome, EngineShows, EngineMeets}, Accesses.{Accesses}, declared.engine.Engine.{Engine}}, proofs.Steps.{outcome_keeps, past_stalled}}
 use Rattle.msync.specs.Shows as Syncing
 use Rattle.spaces.specs.Calls as Calls
 use Rattle.vm_types.specs.declared.access.Access.TheVariants as Kinds
-use Rattle.machine.{specs.{Engine.{stands_in, MayStand, HoldsIn, StandsForSome, EngineShows, EngineMeets}, Accesses.{Accesses}, declared.engine.Engine.{Engine}}, proofs.Steps.{outcome_keeps, past_stalled}}
 
 running_of : (o : Option (List Pages)) → is_some o ≡ false → o ≡ None
 running_of None e = refl
@@ -42,8 +42,6 @@ module _ {M : Type 0} {levels : Levels.Ghosts M} {D E : Type 0} (g : Ghosts D) (
   halted_accesses c (Load pid addr width) = (halted_asks g h c pid addr Kinds.Load, λ place walked. refl)
   halted_accesses c (Fetch pid addr) = (halted_asks g h c pid addr Kinds.Fetch, λ place walked. refl)
   halted_accesses c (Store pid addr stored) = (halted_asks g h c pid addr Kinds.Store, λ place walked done. absurd (let never : Halted ≡ Done = done in cc))
-  halted_accesses c Spawn = (search rules, refl, asks_slots_same h c c None Nothing refl)
-  halted_accesses c (Fork pid) = (search rules, refl, asks_slots_same h c c None Nothing refl)
   halted_accesses c (Exit pid) = takes_none (picture_of c) pid 0 (user_end levels.mode)
   halted_accesses c (Mmap pid addr len prot source placing) = (takes_none (picture_of c) pid 0 (page_count len), λ page user out. refl)
   halted_accesses c (Munmap pid addr len) = (takes_none (picture_of c) pid (addr / 4096) (page_count len), λ page user out. refl)
@@ -51,12 +49,10 @@ module _ {M : Type 0} {levels : Levels.Ghosts M} {D E : Type 0} (g : Ghosts D) (
   halted_accesses c (Dontneed pid addr len) = (takes_none (picture_of c) pid 0 0, λ page user out. refl)
   halted_accesses c (Msync pid addr len mode) = (
     settles_nothing (picture_of c),
-    record {
-      store = asks_none g _ c.store.disk c.store.disk (λ k. refl);
-      swap = asks_none h _ c.swap.pages.disk c.swap.pages.disk (λ k. refl);
-    },
+    record { store = asks_none g _ c.store.disk c.store.disk (λ k. refl); swap = asks_none h _ c.swap.pages.disk c.swap.pages.disk (λ k. refl) },
   )
   halted_accesses c PastFaults = refl
+  halted_accesses c command = (search rules, refl, asks_slots_same h c c None Nothing refl)
 
 module _ {D : Type 0} (g : Ghosts D) where
   abbrev pub OnlyNow : Type 0
@@ -75,11 +71,7 @@ module _ {D : Type 0} (g : Ghosts D) where
 module _ {E : Type 0} (h : Ghosts E) where
   -- a device that was not asked
   pub unused : (old new : E) → new ≡ old → UsesDevice h old new
-  unused old new same = record {
-    size = ap h.sector_count same;
-    kept = λ k. subst h.keeps_model same k;
-    later = rw same (omega arith);
-  }
+  unused old new same = record { size = ap h.sector_count same; kept = λ k. subst h.keeps_model same k; later = rw same (omega arith) }
 
 module _ {mode : ℕ} where
   -- memory knows nothing of the history

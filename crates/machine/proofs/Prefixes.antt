@@ -1,8 +1,7 @@
 -- The prefixes of the msyncs, command after command.
 use Rattle.machine.proofs.Names.{ℕ, zero, suc, ◌+◌, ◌≡◌, ◌≤◌, ◌⊎◌, inl, inr, Bool, true, false, if◌then◌else◌, List, [], ◌∷◌, Some, None, refl, sym, ap, ◌∙◌, arith, add-one, add-zero, Command, Msync, EIO, Reply, Refused, Halted, Ruling}
-use Rattle.machine.proofs.Names.{Refuses, Passes, Takes, msync_ruling, Event, is_msync, is_done, may_have_taken, after_event, after_msyncs, this_or_further, acknowledged, IsPrefixHolding, Step, Answers, Fails, Stalls, Stays, Causes, State}
-use Rattle.machine.proofs.Names.{IsRunning, outcome, msync_outcome, ruling, takes, commits, Pages}
-use Rattle.machine.{specs.Chain.{event}, proofs.Steps.{outcome_keeps, commit_takes}}
+use Rattle.machine.proofs.Names.{Takes, msync_ruling, Event, is_msync, is_done, may_have_taken, after_event, after_msyncs, this_or_further, acknowledged, IsPrefixHolding, Step, Answers, Fails, Stalls, Stays, Causes, State, IsRunning}
+use Rattle.machine.{proofs.{Names.{outcome, msync_outcome, ruling, takes, commits, Pages}, Steps.{outcome_keeps, commit_takes}}, specs.Chain.{event}}
 
 pub step_files : (causes : Causes) (s : State) (command : Command) (reply : Reply) (t : State) → Step causes s command reply t → t.files ≡ s.files
 step_files causes s command reply t (Answers run r e) = ap (λ (x : State). x.files) e ∙ (outcome_keeps s command).files
@@ -16,9 +15,8 @@ either_way false d = refl
 
 -- what a command that returned made durable is what its event says
 msync_event : (s : State) (r : Ruling) (reply : Reply) (d : Pages) → reply ≡ (msync_outcome s r).reply → (if may_have_taken reply then takes s r d else d) ≡ takes s r d
-msync_event s (Refuses errno) reply d e = either_way (may_have_taken reply) d
-msync_event s Passes reply d e = either_way (may_have_taken reply) d
 msync_event s (Takes pid first count) reply d e = rw e refl
+msync_event s r reply d e = either_way (may_have_taken reply) d
 
 answered_event : (s : State) (command : Command) (reply : Reply) (d : Pages) → reply ≡ (outcome s command).reply
     → after_event (event s command reply) d ≡ takes s (ruling s command) d

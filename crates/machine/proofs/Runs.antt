@@ -51,9 +51,8 @@ module _ {D E : Type 0} (g : Ghosts D) (h : Ghosts E) where
       let mid = c.0 in
       let u = c.1 in
       let meets = face g h old mid s u x r c.3 in
-      let kept = chain_kept mid u xs rs es new t c.4 keeps in
       let stays = halted_stays (causes g h old mid) s x r u ends meets.step is in
-      let only = meets.moments kept in
+      let only = meets.moments (chain_kept mid u xs rs es new t c.4 keeps) in
       ⊎_elim
       (λ mid_left. ⊎_elim (λ o. inl o) (λ p. inr (subst (λ (k : ℕ). StandsForSome k files (λ q. IsOneOf q ends) image) size
       (subst (λ (fs : Files). StandsForSome (g.sector_count (store_of old)) fs (λ q. IsOneOf q ends) image) f
@@ -79,8 +78,7 @@ module _ {D E : Type 0} (g : Ghosts D) (h : Ghosts E) where
       let mid = c.0 in
       let u = c.1 in
       let meets = face g h old mid s u x r c.3 in
-      let kept = chain_kept mid u xs rs es new t c.4 keeps in
-      let only = meets.moments kept in
+      let only = meets.moments (chain_kept mid u xs rs es new t c.4 keeps) in
       let files_u = step_files (causes g h old mid) s x r u meets.step ∙ f in
       let P : List Event → Image → Type 0 = λ l i. StandsForSome n files (IsPrefixHolding s.durable l 0) i in
       subst (λ (first : Event). g.left_since (store_of old) m image ⊎ P (first ∷ es) image) (sym c.2)

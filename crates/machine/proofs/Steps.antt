@@ -1,6 +1,6 @@
 -- What a step of the flat model leaves of files and durable pages.
 use Rattle.machine.proofs.Names.{ℕ, ◌≡◌, ◌/◌, ◌==◌, Bool, true, false, if◌then◌else◌, List, Option, Some, None, refl, rules, StoredValue, Command, Spawn, Fork, Exit, Mmap, Munmap, Mprotect, Dontneed, Msync, Load, Store, Fetch, PastFaults}
-use Rattle.machine.proofs.Names.{MapSource, Prot, Errno, ESRCH, Backing, Anon, Stall, Done, Refused, Stalled, Width, with_shown_bytes, Past, Ruling, Refuses, Passes, Takes, msync_ruling, committed, State, Outcome, outcome, answers}
+use Rattle.machine.proofs.Names.{MapSource, Prot, Errno, ESRCH, Backing, Anon, Stall, Done, Refused, Stalled, Width, with_shown_bytes, Past, Ruling, Refuses, Takes, msync_ruling, committed, State, Outcome, outcome, answers}
 use Rattle.machine.proofs.Names.{refused_or, spawn_outcome, fork_outcome, fetch_outcome, mmap_outcome, msync_outcome, load_outcome, store_outcome, past_after, ruling, takes, commit_of, first_of, pages_from, least_free_pid, munmap_checks}
 use Rattle.machine.proofs.Names.{asked_checks, row_checks, covered_checks, mmap_errno, mmap_place, Verdict, Fine, Faults, View, Pages}
 
@@ -36,8 +36,7 @@ keeps_done s checks t files ends durable past =
 
 keeps_msync : (s : State) (r : Ruling) → Keeps s (msync_outcome s r) (takes s r s.durable)
 keeps_msync s (Refuses errno) = search rules
-keeps_msync s Passes = search rules
-keeps_msync s (Takes pid first count) = search rules
+keeps_msync s r = search rules
 
 keeps_load : (s : State) (addr : ℕ) (width : Width) (v : Verdict) → Keeps s (load_outcome s addr width v) s.durable
 keeps_load s addr width (Faults code) = search rules

@@ -7,6 +7,7 @@ ghost use Rattle.machine.specs.EngineCommands.{EngineCarriesOut};
 
 use crate::engine::Engine;
 use disk_model::SectorDisk;
+use spaces::SyncCall;
 use vm_types::{Answer, Errno, Levels, MsyncMode};
 
 impl<D: SectorDisk, E: SectorDisk, M: Levels> Engine<D, E, M> {
@@ -17,7 +18,13 @@ impl<D: SectorDisk, E: SectorDisk, M: Levels> Engine<D, E, M> {
         requires running { self.old.halted ≡ false }
         ensures { EngineCarriesOut D.SectorDisk E.SectorDisk self.old self.new (Msync pid addr len mode) (reply_of result) }
     {
-        let answer = spaces::msync(&mut self.core, &mut self.sync_room, pid, addr, len, mode);
+        let call = SyncCall {
+            pid,
+            addr,
+            len,
+            mode,
+        };
+        let answer = spaces::msync(&mut self.core, &mut self.sync_room, call);
         self.halted = answer == Answer::Refused(Errno::EIO);
         answer
     }

@@ -6,6 +6,7 @@ use lives::{
     one_content, one_more_life, trace_life, two_lives, upgraded_lives, upgraded_store,
 };
 use machine::Config;
+use runner::Devices;
 use std::alloc::Global;
 use std::test::Fail;
 use vm_types::{
@@ -60,7 +61,13 @@ fn lived(
     };
     let swap = SimDisk::new(alloc, 0)?;
     let mut replies = [Reply::Halted; 4];
-    match live(alloc, config, store, swap, commands, &mut replies) {
+    match live(
+        alloc,
+        config,
+        Devices { store, swap },
+        commands,
+        &mut replies,
+    ) {
         Ok(machine) => Ok((replies[3], machine.into_store())),
         Err((fault, _store)) => Err(Fail::new(format_args!("boot: {fault:?}"))),
     }

@@ -2,8 +2,8 @@
 use Rattle.memory.proofs.Names.{◌≡◌, ◌≢◌, ℕ, zero, suc, ◌-◌, ◌<◌, ◌⊎◌, inl, inr, Some, None, Result, Ok, Err, get_or, refl, sym, ap, ◌∙◌, subst, arith, cases_eq, false≢true, same_Some, IfOk, OnErr, FrameNo, NoFree, top_level, Role, Free}
 use Rattle.memory.proofs.Names.{Table, FrameTable, frame_count, role_of, SameButFor, Takes, Releases, is_pointer, entry_at, frame_of, index_of, is_pointer-zero, IsTable, Points, IsForest, IsRoot, IsSpare, IsUnlinked, Way, last_table}
 use Rattle.memory.proofs.Names.{page_entry, SetsEntry, LinksTable, Prunes, ends, index_of-lt, only_way, way_forth, empty_not_linking, table_moved, table_moved_back, zeros_empty, cases_place, entry_at-bytes, points_moved, sizes}
-pub use Rattle.page_tables.proofs.Data.{free_is_no_table, released_role}
 use Rattle.memory.{specs.{declared.buffer.TranslationBuffer.{TranslationBuffer}, Lines.{line_at, line_place}, Kept.{IsLeafOf, LinesAreLeaves}, Notes.{IsNumberOf}}, proofs.Leaves.{as_leaf, as_number, is_page, root_table, is_entry, of_entry}}
+pub use Rattle.page_tables.proofs.Data.{free_is_no_table, released_role}
 
 -- the same way, over tables still, to the same entry
 carried : (mode : ℕ) (old new : FrameTable) (root page leaf : ℕ) (l : IsLeafOf mode old root page leaf) → frame_count new ≡ frame_count old → IsUnlinked new root
@@ -36,16 +36,14 @@ stays_on mode old new root page leaf l forth = way_forth old new forth (top_leve
 -- a way that isn't empty begins with a pointer of its root
 first_pointer : (t : FrameTable) (top root page d n : ℕ) → Way t top root page d n → 0 < d → (x : ℕ) × (y : ℕ) × Points t root x y
 first_pointer t top root page zero n w some = absurd (omega arith)
-first_pointer t top root page (suc zero) n w some =
-    (index_of page (top - 0), n, subst (λ (z : ℕ). Points t z (index_of page (top - 0)) n) w.1 w.2)
+first_pointer t top root page (suc zero) n w some = (index_of page (top - 0), n, subst (λ (z : ℕ). Points t z (index_of page (top - 0)) n) w.1 w.2)
 first_pointer t top root page (suc (suc d)) n w some = first_pointer t top root page (suc d) w.0 w.1 (omega arith)
 
 -- One frame changed, which had no entry if it was a table, and which points nowhere afterwards.
 module _ (old new : FrameTable) (n : ℕ) (same : SameButFor n old new) (idle : (i : ℕ) → i < 512 → IsTable old n → entry_at old n i ≡ 0)
     (silent : (i m : ℕ) → Points new n i m → ⊥) where
   apart : (m i : ℕ) → i < 512 → IsTable old m → entry_at old m i ≢ 0 → m ≢ n
-  apart m i h table some e =
-      some (ap (λ (x : ℕ). entry_at old x i) e ∙ idle i h (subst (λ (x : ℕ). IsTable old x) e table))
+  apart m i h table some e = some (ap (λ (x : ℕ). entry_at old x i) e ∙ idle i h (subst (λ (x : ℕ). IsTable old x) e table))
 
   pointed : (m i k : ℕ) → Points old m i k → entry_at old m i ≢ 0
   pointed m i k p z = false≢true (sym is_pointer-zero ∙ ap is_pointer (sym z) ∙ p.pointer)
@@ -77,8 +75,7 @@ module _ (old new : FrameTable) (n : ℕ) (same : SameButFor n old new) (idle : 
 -- a frame changed that is no table, before or afterwards
 pub data_leaf : (old new : FrameTable) (n : ℕ) → SameButFor n old new → role_of old n ≢ Table → role_of new n ≢ Table
     → (mode root page leaf : ℕ) → IsLeafOf mode old root page leaf → IsLeafOf mode new root page leaf
-data_leaf old new n same before after =
-    leaf_stays old new n same (λ i h table. absurd (before table.role)) (λ i m p. after p.table.role)
+data_leaf old new n same before after = leaf_stays old new n same (λ i h table. absurd (before table.role)) (λ i m p. after p.table.role)
 
 -- a frame that was taken is filled with zeros, so if it is a table now it points nowhere
 pub taken_leaf : (old new : FrameTable) (n : ℕ) (kind : Role) → Takes old new kind n
@@ -94,8 +91,7 @@ released_leaf old new n releases other = data_leaf old new n releases.others oth
 -- a table without entries that was given back
 pub dropped_leaf : (old new : FrameTable) (n : ℕ) → SameButFor n old new → IsSpare old n → role_of new n ≡ Free
     → (mode root page leaf : ℕ) → IsLeafOf mode old root page leaf → IsLeafOf mode new root page leaf
-dropped_leaf old new n same spare gone =
-    leaf_stays old new n same (λ i h table. spare.empty i h) (λ i m p. free_is_no_table (role_of new n) gone p.table.role)
+dropped_leaf old new n same spare gone = leaf_stays old new n same (λ i h table. spare.empty i h) (λ i m p. free_is_no_table (role_of new n) gone p.table.role)
 
 -- pointers on a way stay, so the way does
 pub way_along : (old new : FrameTable) (top r p : ℕ) → ((x d k : ℕ) → Way old top r p d x → Points old x (index_of p (top - d)) k → Points new x (index_of p (top - d)) k)
@@ -166,10 +162,7 @@ module _ (mode : ℕ) (old new : FrameTable) (root : ℕ) (forest : IsForest old
           | inr gone ↦ absurd (not_below r p l.unlinked ne x d w q (suc gone.1.0) gone.1.2)
         ] in
         let entries : (x d : ℕ) → Way old (top_level mode) r p d x → IsTable new x → (i : ℕ) → i < 512 → entry_at new x i ≡ entry_at old x i = λ x d w table.
-        elim (prunes.others x table) [
-          | inl on ↦ absurd (not_below r p l.unlinked ne x d w q _ on.2)
-          | inr same ↦ same
-        ] in
+        elim (prunes.others x table) [ inl on ↦ absurd (not_below r p l.unlinked ne x d w q _ on.2) | inr same ↦ same ] in
         let points : (x d k : ℕ) → Way old (top_level mode) r p d x → Points old x (index_of p (top_level mode - d)) k → Points new x (index_of p (top_level mode - d)) k =
         λ x d k w old_points.
         let table = stays x d w old_points.table in
@@ -201,10 +194,9 @@ pub kept_set : (mode : ℕ) (old new : FrameTable) (root q number : ℕ) (b b' :
     → line_at b' root q ≡ None → ((r p e : ℕ) → line_at b' r p ≡ Some e → line_at b r p ≡ Some e) → LinesAreLeaves mode old b → LinesAreLeaves mode new b'
 kept_set mode old new root q number b b' forest is_root sets gone fewer kept = record {
   leaves = λ r p e at.
-      let leaf = kept.leaves r p e (fewer r p e at) in
       elim (cases_place r p root q) [
         | inl here ↦ absurd (never b' root q e gone (line_here b' r p root q here.0 here.1 ∙ at))
-        | inr other ↦ set_leaf mode old new root forest is_root q number sets r p e leaf other
+        | inr other ↦ set_leaf mode old new root forest is_root q number sets r p e (kept.leaves r p e (fewer r p e at)) other
       ];
 }
 

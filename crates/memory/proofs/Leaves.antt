@@ -1,8 +1,7 @@
 -- What a line is to the tables: the leaf of its page, at which the walk ends.
 use Rattle.memory.proofs.Names.{◌≡◌, ◌≢◌, ℕ, zero, suc, ◌+◌, ◌-◌, ◌<◌, true, false, refl, sym, ap, ◌∙◌, subst, arith, false≢true, nat_tests, nat_lt, top_level, user_end, Access, user_pages_fit, FrameTable, frame_count, has_bit, is_valid}
-use Rattle.memory.proofs.Names.{entry_at, frame_of, index_of, leads_on, last_of, last_of-zero, last_of-next, IsTable, IsPage, Points, IsForest, IsRoot, Way, page_entry}
-use Rattle.std.specs.Prelude.{Bool, ◌&&◌}
-use Rattle.memory.{specs.{declared.buffer.TranslationBuffer.{TranslationBuffer}, Lines.{IsCoherent, IsLine, leaf_lets}, Kept.{LinesAreLeaves, IsLeafOf}, Notes.{IsNumberOf}}, proofs.Numbers.{is_number, of_number}}
+use Rattle.memory.{proofs.{Names.{entry_at, frame_of, index_of, leads_on, last_of, last_of-zero, last_of-next, IsTable, IsPage, Points, IsForest, IsRoot, Way, page_entry}, Numbers.{is_number, of_number}}, specs.Kept.{LinesAreLeaves}}
+use Rattle.{memory.specs.{Kept.{IsLeafOf}, Lines.{IsCoherent, IsLine, leaf_lets}, Notes.{IsNumberOf}, declared.buffer.TranslationBuffer.{TranslationBuffer}}, std.proofs.lemmas.Bool.{and_parts}}
 
 invalid_zero : is_valid 0 ≡ false
 unfolding has_bit
@@ -29,8 +28,7 @@ root_table t top root page (suc d) n w table = root_table t top root page d w.0 
 -- the walk goes along a way to a table
 walk_from_way : (t : FrameTable) (top root page d n level : ℕ) → d + level ≡ top → Way t top root page d n → IsTable t n
     → last_of t page top root ≡ last_of t page level n
-walk_from_way t top root page zero n level e w table =
-    let all : level ≡ top = omega arith in rw (all, w)
+walk_from_way t top root page zero n level e w table = let all : level ≡ top = omega arith in rw (all, w)
 walk_from_way t top root page (suc d) n level e w table =
     let here : top - d ≡ suc level = omega arith in
     let step = rw here at w.2 in
@@ -88,10 +86,6 @@ of_entry mode t root page leaf forest is_root small is valid target =
 pub coherent : (mode : ℕ) (t : FrameTable) (b : TranslationBuffer) → LinesAreLeaves mode t b → IsCoherent mode t b
 coherent mode t b kept = λ root page leaf at. is_line mode t root page leaf (kept.leaves root page leaf at)
 
-first_of : (a b : Bool) → (a && b) ≡ true → a ≡ true
-first_of true b e = refl
-first_of false b e = e
-
 -- a leaf that lets an access go through is valid
 pub valid_of : (access : Access) (leaf : ℕ) → leaf_lets access leaf ≡ true → is_valid leaf ≡ true
-valid_of access leaf e = first_of (is_valid leaf) _ e
+valid_of access leaf e = (and_parts (is_valid leaf) _ e).0

@@ -1,8 +1,7 @@
 -- What a line says of a walk.
 use Rattle.memory.proofs.Names.{ℕ, ◌/◌, ◌%◌, ◌^◌, ◌≡◌, ◌<◌, Bool, true, false, ◌&&◌, ◌||◌, not, if◌then◌else◌, Ok, Some, Option, inl, inr, refl, sym, ap, ◌∙◌, subst, arith, nat_tests, top_level, user_end, Access, two_modes, FrameTable}
-use Rattle.memory.proofs.Names.{frame_count, is_valid, is_user, is_accessed, is_dirty, is_reserved, is_leaf, frame_of, grants, is_canonical, is_store, last_of, translated, answer_of, frame_in}
-use Rattle.std.proofs.Common.{◌==◌, nat_le}
-use Rattle.memory.specs.{Lines.{Agrees, Gives, IsLine, leaf_lets, address_in, leaf_for}, declared.line.Line.{Line}, declared.buffer.TranslationBuffer.{TranslationBuffer}}
+use Rattle.memory.{proofs.Names.{frame_count, is_valid, is_user, is_accessed, is_dirty, is_reserved, is_leaf, frame_of, grants, is_canonical, is_store, last_of, translated, answer_of, frame_in}, specs.Lines.{Agrees, Gives, IsLine}}
+use Rattle.{memory.specs.{Lines.{leaf_lets, address_in, leaf_for}, declared.{buffer.TranslationBuffer.{TranslationBuffer}, line.Line.{Line}}}, std.proofs.{Common.{◌==◌, nat_le}, lemmas.Bool.{and_parts}}}
 
 canonical_three : (addr : ℕ) → addr / 4096 < 2 ^ 26 → is_canonical 2 addr ≡ true
 unfolding is_canonical
@@ -19,13 +18,10 @@ canonical mode addr low = elim (two_modes mode) [
   | inr four ↦ ap (λ top. is_canonical top addr) four.0 ∙ canonical_four addr (omega (arith, low, four.1))
 ]
 
-in_frame : (e page : ℕ) → frame_in 0 e page ≡ frame_of e
+-- a leaf of a page that is no larger than a page names its own frame
+pub in_frame : (e page : ℕ) → frame_in 0 e page ≡ frame_of e
 unfolding frame_in
 in_frame e page = omega arith
-
-both : (a b : Bool) → (a && b) ≡ true → (a ≡ true) × (b ≡ true)
-both true b e = (refl, e)
-both false b e = cc
 
 -- a chain of tests, none of which holds
 chain : {A : Type 0} (v r l m u gr a sd o : Bool) (e1 e2 e3 e4 e5 e6 e7 e8 ok : A) → v ≡ true → not r ≡ true → l ≡ true → m ≡ true → u ≡ true → gr ≡ true → a ≡ true
@@ -35,20 +31,19 @@ chain v true l m u gr a sd o e1 e2 e3 e4 e5 e6 e7 e8 ok hv hr hl hm hu hg ha hs 
 chain v false l m u gr a sd o e1 e2 e3 e4 e5 e6 e7 e8 ok hv hr hl hm hu hg ha hs ho = rw (hv, hl, hm, hu, hg, ha, hs, ho) refl
 
 marked : (s d : Bool) → (not s || d) ≡ true → (s && not d) ≡ false
-marked true true e = refl
 marked true false e = cc
-marked false d e = refl
+marked s d e = refl
 
 answers : (count addr e : ℕ) (access : Access) → leaf_lets access e ≡ true → frame_of e < count
     → answer_of count addr access 0 e ≡ Ok (address_in (frame_of e) addr)
 unfolding answer_of
 answers count addr e access h inside =
-    let h0 = both (is_valid e) _ h in
-    let h1 = both (not (is_reserved e)) _ h0.1 in
-    let h2 = both (is_leaf e) _ h1.1 in
-    let h3 = both (is_user e) _ h2.1 in
-    let h4 = both (grants access e) _ h3.1 in
-    let h5 = both (is_accessed e) _ h4.1 in
+    let h0 = and_parts (is_valid e) _ h in
+    let h1 = and_parts (not (is_reserved e)) _ h0.1 in
+    let h2 = and_parts (is_leaf e) _ h1.1 in
+    let h3 = and_parts (is_user e) _ h2.1 in
+    let h4 = and_parts (grants access e) _ h3.1 in
+    let h5 = and_parts (is_accessed e) _ h4.1 in
     let whole : (frame_of e % 512 ^ 0 == 0) ≡ true = grind (arith, nat_tests) in
     let same : frame_in 0 e (addr / 4096) ≡ frame_of e = in_frame e (addr / 4096) in
     let within : nat_le count (frame_in 0 e (addr / 4096)) ≡ false = rw same (grind (arith, nat_tests, inside)) in

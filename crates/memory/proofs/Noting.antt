@@ -1,9 +1,8 @@
 -- Which changes of memory bring no page to name a frame.
-use Rattle.memory.proofs.Names.{◌≡◌, ◌≢◌, ℕ, suc, ◌-◌, ◌/◌, ◌%◌, ◌<◌, ◌⊎◌, inl, inr, Result, Ok, Err, get_or, length, true, false, refl, sym, ap, ◌∙◌, subst, arith, cases_eq, IfOk, OnErr, top_level, user_end, FrameNo, NoFree, Role, Free}
-use Rattle.memory.proofs.Names.{Table, FrameTable, frame_count, role_of, SameButFor, Takes, Releases, is_private, is_swapped, entry_at, frame_of, index_of, Points, IsForest, IsRoot, IsSpare, Way, last_table, page_entry, IsTableOf}
-use Rattle.memory.proofs.Names.{SetsEntry, LinksTable, Prunes, ends, index_of-lt, only_way, way_forth, others_turned, empty_not_linking, zeros_empty}
-use Rattle.memory.specs.{declared.notes.Notes.{Notes}, Notes.{IsNumberOf, NamesFrame, NamesNoMore, AreNoted, Covers, no_note}}
-use Rattle.memory.proofs.{Keeping.{number_moved, number_stays, own, free_is_no_table, released_role, is_table, not_below, not_last, way_along}, Leaves.{is_page, root_table}, Numbers.{is_number, of_number}}
+use Rattle.memory.proofs.{Keeping.{number_moved, number_stays, own, free_is_no_table, released_role, is_table, not_below, not_last, way_along}, Leaves.{is_page, root_table}, Names.{◌≡◌, ◌≢◌, ℕ, suc, ◌-◌, ◌/◌, ◌%◌, ◌<◌, ◌⊎◌, inl, inr}}
+use Rattle.memory.proofs.Names.{Result, Ok, Err, get_or, length, true, false, refl, sym, ap, ◌∙◌, subst, arith, cases_eq, IfOk, OnErr, top_level, user_end, FrameNo, NoFree, Role, Free, Table, FrameTable, frame_count, role_of, SameButFor}
+use Rattle.memory.proofs.Names.{Takes, Releases, is_private, is_swapped, entry_at, frame_of, index_of, Points, IsForest, IsRoot, IsSpare, Way, last_table, page_entry, IsTableOf, SetsEntry, LinksTable, Prunes, ends, index_of-lt, only_way}
+use Rattle.memory.{proofs.{Names.{way_forth, others_turned, empty_not_linking, zeros_empty}, Numbers.{is_number, of_number}}, specs.{Notes.{IsNumberOf, NamesFrame, NamesNoMore, AreNoted, Covers, no_note}, declared.notes.Notes.{Notes}}}
 
 -- a frame changed that is no table, before or afterwards
 pub data_back : (old new : FrameTable) (n : ℕ) → SameButFor n old new → role_of old n ≢ Table → role_of new n ≢ Table
@@ -21,8 +20,7 @@ taken_back old new n kind takes =
 -- a frame of data that was given back
 pub released_back : (old new : FrameTable) (n : ℕ) → Releases old new n → role_of old n ≢ Table
     → (mode root page number : ℕ) → IsNumberOf mode new root page number → IsNumberOf mode old root page number
-released_back old new n releases other =
-    data_back old new n releases.others other (released_role old new n releases other)
+released_back old new n releases other = data_back old new n releases.others other (released_role old new n releases other)
 
 -- a table without entries that was given back
 pub dropped_back : (old new : FrameTable) (n : ℕ) → SameButFor n old new → IsSpare old n → role_of new n ≡ Free
@@ -47,9 +45,8 @@ module _ (mode : ℕ) (old new : FrameTable) (root : ℕ) (forest : IsForest old
     | inr ne ↦ (
         let unlinked = (sets.unlinked r).1 l.unlinked in
         let way = way_forth new old (λ a i b. (sets.pointers a i b).1) (top_level mode) r p (top_level mode) l.lowest l.way in
-        let apart = not_last mode old new root forest is_root r p unlinked ne l.lowest (top_level mode) way q in
         number_moved mode new old r p e l unlinked way (is_table new old l.lowest (sym sets.kept.frames) (sym sets.kept.roles) l.table)
-        (sym (sets.others l.lowest (index_of p 0) (index_of-lt p 0) (inl apart))))
+        (sym (sets.others l.lowest (index_of p 0) (index_of-lt p 0) (inl (not_last mode old new root forest is_root r p unlinked ne l.lowest (top_level mode) way q)))))
   ]
 
   -- a table was linked

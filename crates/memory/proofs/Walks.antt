@@ -3,7 +3,7 @@ use Rattle.memory.proofs.Names.{user_end, top_level, Phys, Access, ◌≡◌, �
 use Rattle.memory.proofs.Names.{cases_eq, nat_tests, nat_lt, nat_le, ◌==◌, IsErr, FrameTable, frame_count, WalkFault, Invalid, TooDeep, Misaligned, Denied, NotAccessed, NotDirty, Outside, Reserved, has_bit, entry_at, frame_of, is_pointer}
 use Rattle.memory.proofs.Names.{is_valid, is_reserved, is_leaf, is_user, is_accessed, is_dirty, grants, page_of, index_of, leads_on, last_of, frame_in, is_store, answer_of, translated, last_of-zero, last_of-stop, last_of-next, IsTable}
 use Rattle.memory.proofs.Names.{IsForest, IsRoot, last_table, last_entry, missing_of, page_entry, last_table-zero, last_table-next, last_table-stop, cases_bool, next_table, missing_of-is, last_entry-is, page_entry-whole, page_entry-missing}
-use Rattle.memory.{specs.Lines.{leaf_lets}, proofs.Looks.{canonical}}
+use Rattle.memory.{specs.Lines.{leaf_lets}, proofs.Looks.{canonical, in_frame}}
 
 below_true : (m n : ℕ) → m < n → nat_lt m n ≡ true
 below_true m n h = grind (arith, nat_tests)
@@ -39,11 +39,10 @@ module _ (mode : ℕ) (t : FrameTable) (root addr : ℕ) (access : Access) (fore
       ≡ answer_of (frame_count t) addr access (missing_of t (top_level mode) root (addr / 4096)) (last_entry t (top_level mode) root (addr / 4096))
   unfolding translated
   answered =
-      let last = last_of-table t forest (addr / 4096) (top_level mode) root is_root.table in
       rw (
         canonical mode addr user,
         outside_false root (frame_count t) is_root.table.inside,
-        last,
+        (last_of-table t forest (addr / 4096) (top_level mode) root is_root.table),
         missing_of-is t (top_level mode) root (addr / 4096),
         last_entry-is t (top_level mode) root (addr / 4096),
       )
@@ -63,25 +62,12 @@ one_holds : (v r l m u gr a sd o : Bool) (ok : Phys)
     → (v ≡ true → r ≡ false → l ≡ true → u ≡ true → gr ≡ true → a ≡ true → sd ≡ false → o ≡ false → ⊥)
     → IsErr (if not v then Err Invalid else if r then Err Reserved else if not l then Err TooDeep else if not m then Err Misaligned else if not u || not gr then Err Denied
     else if not a then Err NotAccessed else if sd then Err NotDirty else if o then Err Outside else Ok ok)
-one_holds false r l m u gr a sd o ok h = refl
-one_holds true true l m u gr a sd o ok h = refl
-one_holds true false false m u gr a sd o ok h = refl
-one_holds true false true false u gr a sd o ok h = refl
-one_holds true false true true false gr a sd o ok h = refl
-one_holds true false true true true false a sd o ok h = refl
-one_holds true false true true true true false sd o ok h = refl
-one_holds true false true true true true true true o ok h = refl
-one_holds true false true true true true true false true ok h = refl
 one_holds true false true true true true true false false ok h = absurd (h refl refl refl refl refl refl refl refl)
+one_holds v r l m u gr a sd o ok h = refl
 
 marked : (s d : Bool) → (s && not d) ≡ false → (not s || d) ≡ true
-marked true true e = refl
 marked true false e = cc
-marked false d e = refl
-
-in_frame : (e page : ℕ) → frame_in 0 e page ≡ frame_of e
-unfolding frame_in
-in_frame e page = omega arith
+marked s d e = refl
 
 below_not_at_least : (n count : ℕ) → nat_le count n ≡ false → n < count
 below_not_at_least n count h = grind (arith, nat_tests)

@@ -110,7 +110,7 @@ fn a_row_lists_its_touched_pages_once(rt: HostRuntime) -> Result<(), Fail> {
     ] {
         assert!(&rt; used <= MSYNC_PAGES);
         assert!(&rt; u64::from(first) + u64::from(count) <= 1 << 32);
-        let got = cache.dirty_in(file, first, count, &mut list, used);
+        let got = cache.dirty_in(FilePage { file, page: first }, count, &mut list, used);
         equal(&rt, (file, first, count, got), (file, first, count, listed));
     }
     equal(

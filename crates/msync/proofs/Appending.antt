@@ -1,6 +1,5 @@
 -- ListsTouched of file pages to which others are appended, each once.
-use Rattle.msync.proofs.Names.{ℕ, ◌≡◌, ◌<◌, ◌≤◌, ◌⊎◌, ⊎_elim, Bool, true, List, [], Result, Ok, Err, refl, sym, ap, ◌∙◌, subst, arith, cases_lt, IfOk, FilePage}
-use Rattle.msync.specs.Choice.{chosen_page, Appends, OverflowsRow, ListsTouched}
+use Rattle.msync.{proofs.Names.{ℕ, ◌≡◌, ◌<◌, ◌≤◌, ◌⊎◌, ⊎_elim, Bool, true, List, [], Result, Ok, Err, refl, sym, ap, ◌∙◌, subst, arith, cases_lt, IfOk, FilePage}, specs.Choice.{chosen_page, Appends, OverflowsRow, ListsTouched}}
 
 -- nothing passes
 pub nothing : (passes : FilePage → Bool) (list : List FilePage) (used : ℕ) → used ≤ 1023 → ((page : FilePage) → passes page ≡ true → ⊥)
@@ -68,11 +67,7 @@ over a b c x y u v from_a from_b f g = record {
 
 -- where the list was empty, all of it was appended
 pub listed : (a : FilePage → Bool) (x y : List FilePage) (n : ℕ) → Appends a x y 0 n → ListsTouched a y n
-listed a x y n f = record {
-  each = λ i less. f.each i (omega arith) less;
-  once = λ i j less high. f.once i j less (omega arith) high;
-  all = f.all;
-}
+listed a x y n f = record { each = λ i less. f.each i (omega arith) less; once = λ i j less high. f.once i j less (omega arith) high; all = f.all }
 
 -- one that follows from two on the value
 pub both_ok : {T E : Type 0} (P Q R : T → Type 0) (r : Result T E) → ((x : T) → P x → Q x → R x) → IfOk r P → IfOk r Q → IfOk r R
@@ -81,12 +76,7 @@ both_ok P Q R (Err e) f p q = tt
 
 -- from an empty list on the old one doesn't matter
 pub over_none : (a : FilePage → Bool) (x : List FilePage) → OverflowsRow a x 0 → OverflowsRow a [] 0
-over_none a x g = record {
-  at = g.at;
-  kept = λ i less. absurd (omega arith);
-  each = g.each;
-  once = g.once;
-}
+over_none a x g = record { at = g.at; kept = λ i less. absurd (omega arith); each = g.each; once = g.once }
 
 pub lists_none : (a : FilePage → Bool) (x : List FilePage) → ListsTouched a x 0 → ListsTouched a [] 0
 lists_none a x f = record {

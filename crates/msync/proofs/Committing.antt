@@ -4,13 +4,11 @@ use Rattle.msync.proofs.Names.{ℕ, inl, inr, ◌⊎◌, ◌-◌, ◌*◌, ◌�
 use Rattle.msync.proofs.Names.{get_or-take, cases_Bool, length-take-le, get_or_from_slice_get, slice_get-get_or, slice_get_within, and-true, and-false, option_map, is_some, IsErrOf, frame_of, LeavesNow, LeavesOnly, Ghosts, Directory}
 use Rattle.msync.proofs.Names.{FileStore, ArePages, Changes, StandsForEither, cut_page, StandsFor, IsPageOf, entry_of, HasCauses, CommitFault, Source, Device, Private, Cache, FrameTable, SlotTable, Home, Frame, Slot, Msync, MsyncMode}
 use Rattle.msync.proofs.Names.{FileInfo, FilePage, ObjectPage, PageKey, File, Object, SlotNo, EIO, SwapDevice, Reply, Done, Refused, Files, inside_of, cut, trimmed, touched_in, committed, synced, State, msync_outcome, commit_of, commits}
-use Rattle.msync.proofs.Names.{Pages, Core, InFrame, Picture, picture_of, entry, held, is_private, IsFit, ShowsPages}
-use Rattle.vm_types.specs.declared.reply.Reply.TheVariants.{Stalled}
-use Rattle.file_store.specs.Layout.{padded_page as store_trimmed}
+use Rattle.msync.{proofs.{Names.{Pages, Core, InFrame, Picture, picture_of, entry, held, is_private, IsFit, ShowsPages}, SettledPages.{one_file, held_spot, cases_listed}}, specs.Choice.{Chosen, chosen_page, first_page, ListsTouched}}
+use Rattle.msync.specs.{Choice.{TakesSame, IsListedPage, IsAway}, Core.{KeepsMemory, IsEnd, Acknowledged, Failed, Unread, Commits}, Settling.{settled_place, settled_in, Settles, LosesDirtyOnly, ComesHome, SettlesMemory, SettlesPlaces}}
+use Rattle.msync.specs.{Shows.{IsSoundCore, CoreShows}, Spots.{spot_at, place_at, bytes_there, IsSlotted, HasSlot, AreSpots, HasSpots}, declared.chosen.{Residence.{Residence, TheVariants.{Framed, Slotted}}, Spot.{Spot}}}
+use Rattle.{vm_types.specs.declared.reply.Reply.TheVariants.{Stalled}, file_store.specs.Layout.{padded_page as store_trimmed}}
 use Rattle.vm_types.specs.Msync as Flat
-use Rattle.msync.specs.{Choice.{Chosen, chosen_page, first_page, ListsTouched, TakesSame, IsListedPage, IsAway}, declared.chosen.Residence.{Residence}, declared.chosen.Residence.TheVariants.{Framed, Slotted}, declared.chosen.Spot.{Spot}}
-use Rattle.msync.specs.{Core.{KeepsMemory, IsEnd, Acknowledged, Failed, Unread, Commits}, Spots.{spot_at, place_at, bytes_there, IsSlotted, HasSlot, AreSpots, HasSpots}}
-use Rattle.msync.{specs.{Settling.{settled_place, settled_in, Settles, LosesDirtyOnly, ComesHome, SettlesMemory, SettlesPlaces}, Shows.{IsSoundCore, CoreShows}}, proofs.SettledPages.{one_file, held_spot, cases_listed}}
 
 -- what stands at a place of a list
 some_get : (xs : List FilePage) (i : ℕ) (p : FilePage) → slice_get xs i ≡ Some p → (i < length xs) × (p ≡ chosen_page xs i)
@@ -47,8 +45,7 @@ are_pages c chosen fit listed =
       few = omega (arith, front_length chosen (fits c chosen listed), listed.few);
       inside = λ i p e.
           let r = some_get front i p e in
-          let touched = ap (λ q. c.touched (File q)) r.1 ∙ front_touched c chosen listed i r.0 in
-          fit.places.inside (File p) (fit.dirty.held (File p) touched);
+          fit.places.inside (File p) (fit.dirty.held (File p) (ap (λ q. c.touched (File q)) r.1 ∙ front_touched c chosen listed i r.0));
       distinct = λ i j p less at_i at_j.
           let b = some_get front j p at_j in
           front_once c chosen listed i j less b.0 (sym (some_get front i p at_i).1 ∙ b.1);
@@ -106,10 +103,6 @@ from_settled files t s p (Slotted k) bytes is = let bad : None ≡ Some bytes = 
 
 module _ {mode : ℕ} (c : Picture mode) (s : State) (pid first count : ℕ) (pages : List FilePage) (list : List Spot) (fit : IsFit c) (shows : ShowsPages c s) (spots : HasSpots c pages list)
     (lists : ListsTouched (λ page. touched_in s pid first count page.file page.page) pages (length pages)) where
-  -- the bytes of a page of the list
-  there : ℕ → List ℕ
-  there i = bytes_there c.frames c.slots (spot_at list i).at
-
   bytes_at : (i : ℕ) → i < length pages → s.volatile (chosen_page pages i).file (chosen_page pages i).page ≡ bytes_there c.frames c.slots (spot_at list i).at
   bytes_at i less =
       let x = spot_at list i in

@@ -1,8 +1,7 @@
 -- How the ends of a commit are those of an msync.
 use Rattle.vm_types.specs.declared.mode.Levels as Levels
-use Rattle.msync.proofs.Names.{◌≡◌, ◌⊎◌, inl, inr, rules, EIO, Stall, Answer, Stalled, Ghosts, Core, picture_of}
+use Rattle.msync.{proofs.{Names.{◌≡◌, ◌⊎◌, inl, inr, rules, EIO, Stall, Answer, Stalled, Ghosts, Core, picture_of}, SettledPages.{settles_nothing}}, specs.{Shows.{IsSoundCore}, SyncEnds.{EndsCommit}}}
 use Rattle.vm_types.specs.declared.reply.Answer.TheVariants.{Refused}
-use Rattle.msync.{specs.{SyncEnds.{EndsCommit}, Shows.{IsSoundCore}}, proofs.SettledPages.{settles_nothing}}
 
 either : (few many A : Type 0) → (few → many) → A ⊎ few → A ⊎ many
 either few many A more (inl a) = inl a

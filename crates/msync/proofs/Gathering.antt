@@ -1,8 +1,7 @@
 -- What is gathered from the cache, as it is appended.
 use Rattle.msync.proofs.Names.{ℕ, ◌+◌, ◌≡◌, ◌<◌, ◌≤◌, ◌==◌, ◌&&◌, ⊎_elim, true, false, leb, ltb, if◌then◌else◌, List, refl, sym, ap, ◌∙◌, arith, cases_lt, and_parts, and_from, nat_tests, file_page_limit, FilePage, File, Shared, CacheTable}
-use Rattle.msync.proofs.Names.{is_touched, IsTouchedIn, Gathers, HasAll}
+use Rattle.msync.{proofs.Names.{is_touched, IsTouchedIn, Gathers, HasAll}, specs.Choice.{of_files, chosen_page, in_file_row, is_taken_behind, AreInFiles, Appends, OverflowsRow}}
 use Rattle.page_cache.specs.Gathering as Cache
-use Rattle.msync.specs.Choice.{of_files, chosen_page, in_file_row, is_taken_behind, AreInFiles, Appends, OverflowsRow}
 
 -- a touched page of a row, or of the front of it, by tests
 behind : (t : CacheTable) (first : FilePage) (count front : ℕ) (p : FilePage) → front ≤ count → IsTouchedIn t first.file first.page front p → is_taken_behind (of_files (is_touched t)) (Shared first) count p ≡ true

@@ -1,6 +1,5 @@
 -- A file page that lay in a slot is settled once it is at home and touched no more, and its slot is free.
-use Rattle.msync.proofs.Names.{ℕ, inl, ap, FilePage, File, frame_count, role_of, Picture, IsFit, Homes, same, views, held_else, held_none}
-use Rattle.msync.specs.{Settling.{SettlesOne}, Spots.{slotted_at}}
+use Rattle.msync.{proofs.Names.{ℕ, inl, ap, FilePage, File, frame_count, role_of, Picture, IsFit, Homes, same, views, held_else, held_none}, specs.{Settling.{SettlesOne}, Spots.{slotted_at}}}
 
 pub settles_homed : {mode : ℕ} (old new : Picture mode) (page : FilePage) (k : ℕ) → IsFit old → Homes old new (File page) k → SettlesOne old new (slotted_at page (record { 0 = k }))
 settles_homed old new page k fit homes = record {

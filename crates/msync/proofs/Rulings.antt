@@ -1,11 +1,9 @@
 -- How an msync is judged, as the flat model sees it.
-use Rattle.msync.proofs.Names.{ℕ, zero, suc, ◌+◌, ◌/◌, ◌%◌, ◌≡◌, ◌≢◌, ◌<◌, ◌^◌, ◌==◌, ◌&&◌, not, Bool, true, false, nat_lt, List, [], ◌∷◌, length, Option, Some, None, refl, sym, ap, ◌∙◌, arith, and_parts, nat_tests, option_map, MsyncMode}
-use Rattle.msync.proofs.Names.{Sync, FileInfo, FilePage, File, ENOMEM, Attr, first_of, page_count, pages_from, any_below, shares, touched_in, touched_count, msync_ruling, row_ruling, or_else, is_covered, State, View, attrs_of, Directory}
-use Rattle.msync.proofs.Names.{Entry, entry_of, Picture, entry, is_live, own_in, view_of, view, IsFit, ShowsPages, any-same}
+use Rattle.msync.proofs.{Appending.{lists_same}, Names.{ℕ, zero, suc, ◌+◌, ◌/◌, ◌%◌, ◌≡◌, ◌≢◌, ◌<◌, ◌^◌, ◌==◌, ◌&&◌, not, Bool, true, false, nat_lt, List, [], ◌∷◌, length, Option, Some, None, refl, sym, ap, ◌∙◌, arith, and_parts}}
+use Rattle.msync.proofs.Names.{nat_tests, option_map, MsyncMode, Sync, FileInfo, FilePage, File, ENOMEM, Attr, first_of, page_count, pages_from, any_below, shares, touched_in, touched_count, msync_ruling, row_ruling, or_else, is_covered}
+use Rattle.msync.{proofs.{Names.{State, View, attrs_of, Directory, Entry, entry_of, Picture, entry, is_live, own_in, view_of, view, IsFit, ShowsPages, any-same}, Totals.{total, IsWithin, at_least, exactly}}, specs.Choice.{of_files}}
+use Rattle.msync.specs.{Choice.{chosen_page, shares_page, is_shared_in, is_chosen, OverflowsRow, ListsTouched, IsRulingOn, RulesSame, AreListed, AreTaken}, declared.chosen.Ruling.{Ruling, TheVariants.{Refuses, Passes, Takes}}}
 use Rattle.vm_types.specs.Msync as Flat
-use Rattle.msync.specs.{declared.chosen.Ruling.{Ruling}, declared.chosen.Ruling.TheVariants.{Refuses, Passes, Takes}}
-use Rattle.msync.specs.Choice.{of_files, chosen_page, shares_page, is_shared_in, is_chosen, OverflowsRow, ListsTouched, IsRulingOn, RulesSame, AreListed, AreTaken}
-use Rattle.msync.proofs.{Appending.{lists_same}, Totals.{total, IsWithin, at_least, exactly}}
 
 -- a process, and what its pages are
 pub record IsProcess (touched : FilePage → Bool) (map : ℕ → Option Attr) (s : State) (pid : ℕ) : Type 0 where
@@ -126,8 +124,6 @@ module _ (touched : FilePage → Bool) (map : ℕ → Option Attr) (s : State) (
 
 pub listed_of : {mode : ℕ} (c : Picture mode) (map : ℕ → Option Attr) (first count : ℕ) (list : List FilePage) (r : Ruling) → length list ≡ 1023
     → IsRulingOn (is_chosen (of_files c.touched) map first count) list r → AreListed c list r
-listed_of c map first count list (Refuses errno) room choice = tt
-listed_of c map first count list Passes room choice = tt
 listed_of c map first count list (Takes taken) room choice = record {
   some = choice.0;
   few = choice.1;
@@ -135,6 +131,7 @@ listed_of c map first count list (Takes taken) room choice = record {
   touched = λ i less. (and_parts (c.touched (File (chosen_page list i))) (is_shared_in map first count (chosen_page list i)) (choice.2.each i less)).0;
   once = choice.2.once;
 }
+listed_of c map first count list r room choice = tt
 
 -- and that they are taken is told by the process's own pages
 chosen_same : (touched : FilePage → Bool) (a b : ℕ → Option Attr) (first count : ℕ) (page : FilePage) → ((k : ℕ) → a k ≡ b k) → is_chosen touched a first count page ≡ is_chosen touched b first count page
@@ -144,10 +141,9 @@ chosen_same touched a b first count page same =
 
 pub taken_of : {mode : ℕ} (c : Picture mode) (map : ℕ → Option Attr) (pid addr len : ℕ) (list : List FilePage) (r : Ruling) → ((page : ℕ) → map page ≡ c.at pid page)
     → IsRulingOn (is_chosen (of_files c.touched) map (addr / 4096) (page_count len)) list r → AreTaken c pid addr len list r
-taken_of c map pid addr len list (Refuses errno) same choice = tt
-taken_of c map pid addr len list Passes same choice = tt
 taken_of c map pid addr len list (Takes taken) same choice = λ i less.
     sym (chosen_same (of_files c.touched) map (c.at pid) (addr / 4096) (page_count len) (chosen_page list i) same) ∙ choice.2.each i less
+taken_of c map pid addr len list r same choice = tt
 
 -- touched pages are pages of files, of which there are 64, of fewer than 2 ^ 32 bytes
 in_file : (d : Directory) (f : ℕ) (o : Option Entry) (info : FileInfo) → entry_of d f ≡ o → option_map (λ e. e.info) o ≡ Some info → (f < 64) × (info.length < 2 ^ 32)
@@ -161,6 +157,5 @@ touched_within c d fit files = record {
   file = λ p e. (let at = fit.places.inside (File p) (fit.dirty.held (File p) e) in (in_file d p.file (entry_of d p.file) at.0 refl (sym (files p.file) ∙ at.1)).0);
   page = λ p e. (
       let at = fit.places.inside (File p) (fit.dirty.held (File p) e) in
-      let small = (in_file d p.file (entry_of d p.file) at.0 refl (sym (files p.file) ∙ at.1)).1 in
-      omega (arith, small, at.2));
+      omega (arith, (in_file d p.file (entry_of d p.file) at.0 refl (sym (files p.file) ∙ at.1)).1, at.2));
 }

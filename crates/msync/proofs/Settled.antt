@@ -56,11 +56,7 @@ leaf_cleared : (n e e' : ℕ) (page : FilePage) → (is_valid e && is_dirty e) �
     → ClearsLeaf (λ m. (framed_at page (record { 0 = n })).at ≡ (framed_at page (record { 0 = m })).at) e e'
 leaf_cleared n e e' page concerned frame changed =
     let bits = leaf_dirty e concerned in
-    record {
-      leaf = bits.0;
-      frame = ap (λ m. (framed_at page (record { 0 = m })).at) (sym frame);
-      loses = record { had = bits.1; number = changed.3 };
-    }
+    record { leaf = bits.0; frame = ap (λ m. (framed_at page (record { 0 = m })).at) (sym frame); loses = record { had = bits.1; number = changed.3 } }
 
 module _ {mode : ℕ} (a b x y : Picture mode) (page : FilePage) (n : ℕ) (w : List ℕ) (fit_a : IsFit a) (fit_b : IsFit b) (fit_x : IsFit x) (placed : a.place (File page) ≡ Frame (record { 0 = n }))
     (inside : IsFrame a.frames n) (is : b.frames ≡ with_bytes a.frames n w) (beside : SameBeside a b) (changes : ChangesLeaves ClearDirty n b x) (u : Untouches x y (File page))

@@ -2,9 +2,8 @@
 use Rattle.vm_types.specs.declared.mode.Levels as Levels
 use Rattle.msync.proofs.Names.{◌≡◌, ◌≢◌, ℕ, zero, suc, inl, inr, ◌⊎◌, ◌+◌, ◌-◌, ◌<◌, false, List, length, Some, refl, sym, ap, ◌∙◌, subst, arith, rules, below_more, cases_eq, false≢true, same_Some, FilePage, PageKey, File, inside_of, cut}
 use Rattle.msync.proofs.Names.{trimmed, frame_count, bytes_of, Swap, slots_of, IsReady, IsAsWritten, Ghosts, is_dirty, Core, Picture, entry, held, bytes_at, IsFit, HasPlaces, bit_seven, seven_clear, cases_page}
-use Rattle.swap.specs.declared.pages.Pages.{Pages as Swap_pages}
-use Rattle.msync.specs.{declared.chosen.Residence.{Residence}, declared.chosen.Residence.TheVariants.{Framed, Slotted}, declared.chosen.Spot.{Spot}, Spots.{spot_at, place_at, bytes_there, IsThere, IsSpot, AreSpots}}
-use Rattle.msync.specs.Settling.{KeepsBesidePages, LosesDirty, ClearsLeaf, IsFrameIn, settled_place, settled_in, settled_bytes, SettlesOne, Settles, SettlesMemory}
+use Rattle.msync.specs.{Settling.{KeepsBesidePages, LosesDirty, ClearsLeaf, IsFrameIn, settled_place, settled_in, settled_bytes, SettlesOne, Settles, SettlesMemory}, Spots.{spot_at, place_at, bytes_there, IsThere, IsSpot, AreSpots}}
+use Rattle.{msync.specs.declared.chosen.{Residence.{Residence, TheVariants.{Framed, Slotted}}, Spot.{Spot}}, swap.specs.declared.pages.Pages.{Pages as Swap_pages}}
 
 lost_clean : (e e' : ℕ) → LosesDirty e e' → is_dirty e' ≡ false
 lost_clean e e' lost =
@@ -16,11 +15,7 @@ one_file p q e = (cc)
 
 -- nothing changed
 pub settles_nothing : {mode : ℕ} (c : Picture mode) → SettlesMemory c c
-settles_nothing c = record {
-  roles = λ n. refl;
-  entries = λ pid page h. inl refl;
-  places = λ p. inl refl;
-}
+settles_nothing c = record { roles = λ n. refl; entries = λ pid page h. inl refl; places = λ p. inl refl }
 
 -- no page at all
 pub settles_none : {mode : ℕ} (c : Picture mode) (list : List Spot) → Settles c c list 0
@@ -117,10 +112,7 @@ cases_listed list (suc n) p = elim (cases_page (File (spot_at list n).page) p) [
   | inl e ↦ inl (n, omega arith, e)
   | inr ne ↦ elim (cases_listed list n p) [
     | inl found ↦ inl (found.0, (let less = found.1 in omega (arith, less)), found.2)
-    | inr none ↦ inr (λ i less. elim (cases_eq i n) [
-      | inl is ↦ λ e. ne (ap (λ k. File (spot_at list k).page) (sym is) ∙ e)
-      | inr other ↦ none i (omega arith)
-    ])
+    | inr none ↦ inr (λ i less. elim (cases_eq i n) [ inl is ↦ λ e. ne (ap (λ k. File (spot_at list k).page) (sym is) ∙ e) | inr other ↦ none i (omega arith) ])
   ]
 ]
 
@@ -135,7 +127,6 @@ module _ {M : Type 0} {m : Levels.Ghosts M} {D E : Type 0} where
 pub ready_shared : {E : Type 0} (h : Ghosts E) (old new : Swap E) → IsReady h old → new.pages ≡ old.pages → (slots_of new).total ≡ (slots_of old).total → IsReady h new
 ready_shared {E = E} h old new ready pages total = record {
   room = (
-      let size = ap (λ p. h.sector_count p.disk) pages in
-      omega (arith, size, ready.room, total));
+      omega (arith, ap (λ p. h.sector_count p.disk) pages, ready.room, total));
   as_written = subst (λ (p : Swap_pages E). IsAsWritten h p.disk p.written.notes) (sym pages) ready.as_written;
 }

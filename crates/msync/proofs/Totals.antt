@@ -1,13 +1,10 @@
 -- How many file pages pass, over all files, and lists of them without doubles.
 use Rattle.msync.proofs.Names.{ℕ, zero, suc, ◌+◌, ◌≡◌, ◌≢◌, ◌<◌, ◌≤◌, ◌&&◌, ⊎_elim, not, Bool, true, false, sym, ap, ◌∙◌, arith, cases_eq, both_ways, and_parts, not-true, false_from_ne_true, and-true, and-false, FilePage, file_page_eq}
-use Rattle.msync.proofs.Names.{count_below, sum_below, same_file_page, same_file_page_true, count-same, count-none, count-one, sum-none, sum-one}
-
-abbrev page_of : ℕ → ℕ → FilePage
-page_of file page = record { file = file; page = page }
+use Rattle.msync.proofs.Names.{count_below, sum_below, same_file_page, same_file_page_true, count-same, count-none, one_less, sum-none, sum-one, record_of}
 
 -- how many pages of a file pass
 abbrev in_file : (FilePage → Bool) → ℕ → ℕ → ℕ
-in_file passes n file = count_below (λ page. passes (page_of file page)) n
+in_file passes n file = count_below (λ page. passes (record_of file page)) n
 
 -- how many pages of so many files pass
 unfoldable pub total : (FilePage → Bool) → ℕ → ℕ → ℕ
@@ -31,10 +28,10 @@ fewer : (passes : FilePage → Bool) (gone : FilePage) (files pages : ℕ) → p
 unfolding total
 fewer passes gone files pages yes_gone file page =
     sum-one (in_file passes pages) (in_file (without passes gone) pages) gone.file files file
-    (count-one (λ k. passes (page_of gone.file k)) (λ k. without passes gone (page_of gone.file k)) gone.page pages page yes_gone (gone_itself passes gone)
-    (λ k other. elsewhere passes gone (page_of gone.file k) (λ e. other (sym (ap (λ (p : FilePage). p.page) e)))))
-    (λ f other. count-same (λ k. passes (page_of f k)) (λ k. without passes gone (page_of f k)) pages
-    (λ k. elsewhere passes gone (page_of f k) (λ e. other (sym (ap (λ (p : FilePage). p.file) e)))))
+    (one_less (λ k. passes (record_of gone.file k)) (λ k. without passes gone (record_of gone.file k)) gone.page pages page yes_gone (gone_itself passes gone)
+    (λ k other. elsewhere passes gone (record_of gone.file k) (λ e. other (sym (ap (λ (p : FilePage). p.page) e)))))
+    (λ f other. count-same (λ k. passes (record_of f k)) (λ k. without passes gone (record_of f k)) pages
+    (λ k. elsewhere passes gone (record_of f k) (λ e. other (sym (ap (λ (p : FilePage). p.file) e)))))
 
 -- only so many files and pages pass
 pub record IsWithin (passes : FilePage → Bool) (files pages : ℕ) : Type 0 where
@@ -69,8 +66,8 @@ pub exactly : (passes : FilePage → Bool) (files pages : ℕ) (at : ℕ → Fil
     → ((page : FilePage) → passes page ≡ true → (i : ℕ) × (i < n) × (at i ≡ page)) → total passes files pages ≡ n
 unfolding total
 exactly passes files pages at zero within each once all =
-    sum-none (in_file passes pages) files (λ f. count-none (λ k. passes (page_of f k)) pages (λ k. false_from_ne_true (passes (page_of f k)) (λ e.
-    let less = (all (page_of f k) e).1 in
+    sum-none (in_file passes pages) files (λ f. count-none (λ k. passes (record_of f k)) pages (λ k. false_from_ne_true (passes (record_of f k)) (λ e.
+    let less = (all (record_of f k) e).1 in
     absurd (omega arith))))
 exactly passes files pages at (suc n) within each once all =
     let gone = at n in

@@ -124,7 +124,7 @@ fn choose_behind(
         Backing::Shared(first) => {
             // A row may have 2 ^ 32 pages, one more than a u32 tells. No file is long enough for the last of them.
             let count = count.min(u64::from(u32::MAX)) as u32;
-            cache.dirty_in(first.file, first.page, count, list, used)
+            cache.dirty_in(first, count, list, used)
         }
     }
 }

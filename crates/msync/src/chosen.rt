@@ -3,7 +3,7 @@ use vm_types::{Errno, FilePage, FrameNo, MsyncMode, SlotNo};
 
 /// What an msync is asked for: the `len` bytes of a process from `addr` on.
 #[derive(Clone, Copy)]
-pub(crate) struct SyncCall {
+pub struct SyncCall {
     pub pid: u64,
     pub addr: u64,
     pub len: u64,

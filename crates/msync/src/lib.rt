@@ -9,5 +9,6 @@ mod page_source;
 mod room;
 mod settling;
 
+pub use chosen::SyncCall;
 pub use msyncs::msync;
 pub use room::SyncRoom;

@@ -19,7 +19,7 @@ use disk_model::SectorDisk;
 use page_cache::Place;
 use residency::Core;
 use sync_journal::CommitFault;
-use vm_types::{Answer, Errno, FilePage, Levels, MSYNC_PAGES, MsyncMode, PageKey, Stall};
+use vm_types::{Answer, Errno, FilePage, Levels, MSYNC_PAGES, PageKey, Stall};
 
 /// Makes the touched pages of a range durable, all at once and over all files (msync(2); Park, Kelly and Shen, Failure-Atomic
 /// msync, EuroSys 2013): the file pages, stored to and not made durable since, that stand behind the shared pages which hold
@@ -38,21 +38,12 @@ use vm_types::{Answer, Errno, FilePage, Levels, MSYNC_PAGES, MsyncMode, PageKey,
 pub fn msync<D: SectorDisk, E: SectorDisk, M: Levels>(
     core: &mut Core<D, E, M>,
     room: &mut SyncRoom,
-    pid: u64,
-    addr: u64,
-    len: u64,
-    mode: MsyncMode,
+    call: SyncCall,
 ) -> Answer
     requires sound { IsSoundCore D.SectorDisk E.SectorDisk core.old }
-    ensures { SyncsBytes D.SectorDisk E.SectorDisk core.old core.new pid addr len mode result }
+    ensures { SyncsBytes D.SectorDisk E.SectorDisk core.old core.new call.pid call.addr call.len call.mode result }
 {
     let list = room.pages.list();
-    let call = SyncCall {
-        pid,
-        addr,
-        len,
-        mode,
-    };
     match rule(core, call, list) {
         Ruling::Refuses(errno) => Answer::Refused(errno),
         Ruling::Passes => Answer::Done,

@@ -1,8 +1,7 @@
 -- What a change of one node does to the chains of all buckets.
 use Rattle.std.proofs.Common.{◌≡◌, ◌≢◌, ℕ, ◌+◌, ◌<◌, ◌≤◌, Bool, true, false, eqb, List, length, replicate, get_or, Option, Some, None, refl, sym, ap, ◌∙◌, subst, inl, inr, arith, set, length-set, get_or-set_same, get_or-set_other}
-use Rattle.std.proofs.{lemmas.Bool.{cases_eq, cases_lt, cases_order, both_ways, true≢false, eqb-true, eq-eqb, false_from_ne_true}, lemmas.List.{length-replicate, get_or-replicate}}
-use Rattle.vm_types.specs.declared.object.PageKey.{PageKey}
-use Rattle.page_cache.{specs.{Nodes.{page_at, holds}, Chains.{bucket_of, is_in_bucket, IsNext, IsLinkOf, AreChained, IsSeat, IsEmptyIndex}}, proofs.NodeLemmas.{page_at-emptied, page_at-within, holds-false, unheld_at}}
+use Rattle.{std.proofs.lemmas.{Bool.{cases_eq, cases_lt, cases_order, both_ways, true≢false, eqb-true, eq-eqb, false_from_ne_true}, List.{length-replicate, get_or-replicate}}, vm_types.specs.declared.object.PageKey.{PageKey}}
+use Rattle.page_cache.{proofs.NodeLemmas.{page_at-emptied, page_at-within, holds-false, unheld_at}, specs.{Chains.{bucket_of, is_in_bucket, IsNext, IsLinkOf, AreChained, IsSeat, IsEmptyIndex}, Nodes.{page_at, holds}}}
 
 -- a node holds a page of one bucket
 pub bucket-one : (mask b d : ℕ) (held : Option PageKey) → is_in_bucket mask b held ≡ true → is_in_bucket mask d held ≡ true → b ≡ d
@@ -60,8 +59,7 @@ link-one pages mask b d low at low2 within within2 (inl own) (inr next2) = absur
 link-one pages mask b d low at low2 within within2 (inr next) (inl own2) = absurd (omega (arith, own2.0, next.1))
 link-one pages mask b d low at low2 within within2 (inr next) (inr next2) =
     let same : next.0 ≡ next2.0 = omega (arith, next.1, next2.1) in
-    let here = subst (λ (k : ℕ). is_in_bucket mask b (page_at pages k) ≡ true) same next.3 in
-    (bucket-one mask b d (page_at pages next2.0) here next2.3, omega (arith, next.2, next2.2))
+    (bucket-one mask b d (page_at pages next2.0) (subst (λ (k : ℕ). is_in_bucket mask b (page_at pages k) ≡ true) same next.3) next2.3, omega (arith, next.2, next2.2))
 
 -- nodes but r hold what they held
 abbrev pub SameButAt : ℕ → List (Option PageKey) → List (Option PageKey) → Type 0
@@ -144,10 +142,7 @@ module _ (old : List (Option PageKey)) (links : List ℕ) (mask b r at : ℕ) (c
           there = own.there;
           passed = λ m above below. elim (cases_lt m r) [
             | inl less ↦ still old (set old r None) r mask b m same (λ e. (omega arith)) false (seat-next.passed m above (rw leads less))
-            | inr ge ↦ elim (cases_eq m r) [
-              | inl e ↦ emptied b m e
-              | inr other ↦ own.passed m (omega arith) below
-            ]
+            | inr ge ↦ elim (cases_eq m r) [ inl e ↦ emptied b m e | inr other ↦ own.passed m (omega arith) below ]
           ];
         }
 

@@ -1,16 +1,14 @@
 -- What a call leaves of the cache: whole again, and the same but for one page.
 use Rattle.std.proofs.{Common.{◌≡◌, ◌≢◌, ℕ, ◌<◌, false, List, length, get_or, Option, Some, None, refl, sym, ap, ◌∙◌, inl, inr, set, length-set, get_or-set_same, get_or-set_other}, lemmas.Bool.{cases_eq, both_ways, false_from_ne_true}}
-use Rattle.std.proofs.lemmas.Option.{none-some, same_Some}
-use Rattle.vm_types.specs.declared.object.PageKey.{PageKey}
-use Rattle.page_cache.specs.{declared.place.Place.TheVariants.{Home}, declared.index.Index.{Index}, declared.node_set.NodeSet.{NodeSet}, declared.cache.PageCache.TheInside.{Inside}, Nodes.{page_at, first_node, IsOneToOne}}
-use Rattle.page_cache.specs.{Chains.{AreChained}, Sets.{is_member, members, IsOrdered, SameMembersBut}, CacheTable.{CacheTable, place_in, place_of, SameButForPage}, Inside.{cache_table_of, IsWholeCache}}
-use Rattle.page_cache.proofs.{NodeLemmas.{first_node-of, IsOneToOne-removed, IsOneToOne-inserted}, SetLemmas.{members-at}, TableLemmas.{place_of-first, place_of-held, place_in-held, SameButFor-marks, SameButFor-set}}
+use Rattle.{std.proofs.lemmas.Option.{none-some, same_Some}, vm_types.specs.declared.object.PageKey.{PageKey}, page_cache.proofs.{NodeLemmas.{first_node-of, IsOneToOne-removed, IsOneToOne-inserted}, SetLemmas.{members-at}}}
+use Rattle.page_cache.{proofs.TableLemmas.{place_of-first, place_of-held, place_in-held, SameButFor-marks, SameButFor-set}, specs.{CacheTable.{CacheTable, place_in, place_of, SameButForPage}, Chains.{AreChained}, Inside.{cache_table_of}}}
+use Rattle.page_cache.specs.{Inside.{IsWholeCache}, Nodes.{page_at, first_node, IsOneToOne}, Sets.{is_member, members, IsOrdered, SameMembersBut}, declared.{cache.PageCache.TheInside.{Inside}, index.Index.{Index}}}
+use Rattle.page_cache.specs.declared.{node_set.NodeSet.{NodeSet}, place.Place.TheVariants.{Home}}
 
 -- nodes but one are marked as they were
 pub marks_same : (old : List ℕ) (old_count : ℕ) (new : List ℕ) (new_count node : ℕ) → SameMembersBut node old old_count new new_count
     → (m : ℕ) → m ≢ node → get_or (members new new_count) m false ≡ get_or (members old old_count) m false
-marks_same old old_count new new_count node same m other =
-    members-at new new_count m ∙ same.others m other ∙ sym (members-at old old_count m)
+marks_same old old_count new new_count node same m other = members-at new new_count m ∙ same.others m other ∙ sym (members-at old old_count m)
 
 -- a page at home is held by no node
 pub nowhere : (t : CacheTable) (page : PageKey) → IsOneToOne t.pages → place_of t page ≡ Home → (m : ℕ) → page_at t.pages m ≢ Some page

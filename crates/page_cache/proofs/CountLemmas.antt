@@ -1,7 +1,6 @@
 -- How many numbers below a limit pass a test, by a list of those that do.
-use Rattle.std.proofs.Common.{◌≡◌, ◌≢◌, ℕ, zero, suc, ◌+◌, ◌<◌, ◌≤◌, Bool, true, false, not, ◌&&◌, eqb, refl, sym, ap, ◌∙◌, inl, inr, arith}
-use Rattle.std.proofs.lemmas.Bool.{cases_eq, cases_lt, cases_Bool, and_parts, not-true, eqb-false, eq-eqb, ne_eqb, false_from_ne_true, or_left, or_right}
-use Rattle.vm_types.specs.Counting.{any_below, count_below}
+use Rattle.std.proofs.{Common.{◌≡◌, ◌≢◌, ℕ, zero, suc, ◌+◌, ◌<◌, ◌≤◌, Bool, true, false, not, ◌&&◌, eqb, refl, sym, ap, ◌∙◌, inl, inr, arith}, lemmas.Bool.{cases_eq, cases_lt, cases_Bool, and_parts, not-true, eqb-false, eq-eqb, ne_eqb}}
+use Rattle.{std.proofs.lemmas.Bool.{false_from_ne_true}, vm_types.specs.Counting.{any_below, count_below}}
 
 -- all that pass but one
 abbrev without : (ℕ → Bool) → ℕ → ℕ → Bool
@@ -67,8 +66,7 @@ count-at_least (suc m) f passes c all apart =
     let here = all i (omega arith) in
     (here.0, without-other passes (f m) (f i) (apart i m below (omega arith)) ∙ here.1)
     ) in
-    let less = count-at_least m f (without passes (f m)) c rest (λ i j ij jm. apart i j ij (omega arith)) in
-    omega (arith, less, without-one passes (f m) c last.0 last.1)
+    omega (arith, count-at_least m f (without passes (f m)) c rest (λ i j ij jm. apart i j ij (omega arith)), without-one passes (f m) c last.0 last.1)
 
 -- all numbers that pass are among m
 pub count-at_most : (m : ℕ) (f : ℕ → ℕ) (passes : ℕ → Bool) (c : ℕ) → ((k : ℕ) → k < c → passes k ≡ true → (i : ℕ) × (i < m) × (f i ≡ k))
@@ -90,11 +88,3 @@ pub any_below-none : (passes : ℕ → Bool) (n : ℕ) → ((i : ℕ) → i < n 
 unfolding any_below
 any_below-none passes zero none = refl
 any_below-none passes (suc n) none = rw (none n (omega arith), any_below-none passes n (λ i below. none i (omega arith))) refl
-
-pub any_below-at : (passes : ℕ → Bool) (n i : ℕ) → i < n → passes i ≡ true → any_below passes n ≡ true
-unfolding any_below
-any_below-at passes zero i below here = absurd (omega arith)
-any_below-at passes (suc n) i below here = elim (cases_eq i n) [
-  | inl e ↦ or_left (passes n) (any_below passes n) (ap passes (sym e) ∙ here)
-  | inr ne ↦ or_right (passes n) (any_below passes n) (any_below-at passes n i (omega arith) here)
-]

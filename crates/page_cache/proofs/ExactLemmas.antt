@@ -1,9 +1,8 @@
 -- A gathered list has as many entries as its row has fresh pages.
-use Rattle.std.proofs.Common.{◌≡◌, ◌≢◌, ℕ, ◌+◌, ◌-◌, ◌<◌, ◌≤◌, ◌↔◌, Bool, true, false, not, cond, ltb, List, refl, sym, ap, ◌∙◌, inl, inr, arith, Result, Ok, Err, IsErr, IfOk, OnErr}
-use Rattle.std.proofs.lemmas.Bool.{cases_lt, cases_Bool, both_ways, and_parts, and_from, not-true, not_from_false, false≢true, lt-ltb, le-ltb}
-use Rattle.vm_types.specs.{declared.file.FilePage.{FilePage}, declared.object.PageKey.TheVariants.{File}, Attributes.{file_page_eq}}
-use Rattle.page_cache.specs.{declared.place.TooMany.{TooMany}, CacheTable.{CacheTable, is_touched}, Gathering.{IsTouchedIn, index_entry, IsListed, is_listed, is_fresh, fresh_count, Gathers, HasAll, Overflows}}
-use Rattle.page_cache.proofs.{NodeLemmas.{same_file_page, same_file_page_true}, CountLemmas.{count-at_least, count-at_most, any_below-none, any_below-at}}
+use Rattle.std.proofs.{Common.{◌≡◌, ◌≢◌, ℕ, ◌+◌, ◌-◌, ◌<◌, ◌≤◌, ◌↔◌, Bool, true, false, not, cond, ltb, List, refl, sym, ap, ◌∙◌, inl, inr, arith, Result, Ok, Err, IsErr, IfOk, OnErr}, lemmas.Bool.{cases_lt, cases_Bool, both_ways}}
+use Rattle.{std.proofs.lemmas.Bool.{and_parts, and_from, not-true, not_from_false, false≢true, lt-ltb, le-ltb}, vm_types.{proofs.Naming.{any-at}, specs.{Attributes.{file_page_eq}, declared.file.FilePage.{FilePage}}}}
+use Rattle.{vm_types.specs.declared.object.PageKey.TheVariants.{File}, page_cache.{proofs.{CountLemmas.{count-at_least, count-at_most, any_below-none}, NodeLemmas.{same_file_page, same_file_page_true}}, specs.CacheTable.{CacheTable}}}
+use Rattle.page_cache.specs.{CacheTable.{is_touched}, Gathering.{IsTouchedIn, index_entry, IsListed, is_listed, is_fresh, fresh_count, Gathers, HasAll, Overflows}, declared.place.TooMany.{TooMany}}
 
 pub is_listed-false : (list : List FilePage) (n : ℕ) (page : FilePage) → (IsListed list n page → ⊥) → is_listed list n page ≡ false
 is_listed-false list n page absent =
@@ -14,7 +13,7 @@ is_listed-false list n page absent =
 
 pub listed-is : (list : List FilePage) (n : ℕ) (page : FilePage) → IsListed list n page → is_listed list n page ≡ true
 listed-is list n page listed =
-    any_below-at (λ i. file_page_eq (index_entry list i) page) n listed.0 listed.1 (ap (λ (p : FilePage). file_page_eq p page) listed.2 ∙ same_file_page_true page)
+    any-at (λ i. file_page_eq (index_entry list i) page) n listed.0 listed.1 (ap (λ (p : FilePage). file_page_eq p page) listed.2 ∙ same_file_page_true page)
 
 module _ (t : CacheTable) (file first count used : ℕ) (old : List FilePage) where
   -- the page of the row at that offset
@@ -46,8 +45,7 @@ module _ (t : CacheTable) (file first count used : ℕ) (old : List FilePage) wh
 
   -- an entry from `used` on isn't among the first `used`
   not_before : (new : List FilePage) (n i : ℕ) → Gathers t file first count used old new n → used + i < n → IsListed old used (index_entry new (used + i)) → ⊥
-  not_before new n i g below listed =
-      g.once listed.0 (used + i) (omega (arith, listed.1)) (omega arith) below (g.kept listed.0 listed.1 ∙ listed.2)
+  not_before new n i g below listed = g.once listed.0 (used + i) (omega (arith, listed.1)) (omega arith) below (g.kept listed.0 listed.1 ∙ listed.2)
 
   at_most : (new : List FilePage) (n : ℕ) → Gathers t file first count used old new n → HasAll t file first count new n → fresh_count t file first count old used ≤ n - used
   unfolding fresh_count
@@ -84,9 +82,8 @@ module _ (t : CacheTable) (file first count used : ℕ) (old : List FilePage) wh
   pub overflow_exact : (new : List FilePage) → Overflows t file first count used old new → 1023 < used + fresh_count t file first count old used
   overflow_exact new o =
       let g = o.full in
-      let pick = picked new o.missing in
       let unlisted : IsListed old used o.missing → ⊥ = λ listed. o.absent (listed.0, omega (arith, listed.1, g.longer), g.kept listed.0 listed.1 ∙ listed.2) in
-      let least = at_least (1023 - used + 1) pick
+      let least = at_least (1023 - used + 1) (picked new o.missing)
       (λ i below. elim (cases_lt i (1023 - used)) [
         | inl early ↦ rw (picked-entry new o.missing i early) (g.touched (used + i) (omega arith) (omega arith))
         | inr late ↦ rw (picked-missing new o.missing i late) o.touched

@@ -1,9 +1,8 @@
 -- A list in the middle of its gathering: which pages were looked at, and that those of the row are listed.
 use Rattle.std.proofs.Common.{◌≡◌, ◌≢◌, ℕ, ◌+◌, ◌<◌, ◌≤◌, ◌⊎◌, Bool, true, false, List, length, get_or, Option, Some, None, refl, sym, ap, ◌∙◌, subst, inl, inr, arith, set, length-set, get_or-set_same, get_or-set_other}
-use Rattle.std.proofs.{lemmas.Bool.{cases_eq, cases_lt, both_ways, lt-ltb, ltb-true}, lemmas.Option.{none-some, same_Some}}
-use Rattle.vm_types.specs.{declared.file.FilePage.{FilePage}, declared.object.PageKey.{PageKey}, declared.object.PageKey.TheVariants.{File, Object}}
-use Rattle.page_cache.specs.{Nodes.{page_at, IsOneToOne}, Sets.{members, IsOrdered}, CacheTable.{CacheTable, is_touched}, Gathering.{filed, IsTouchedIn, index_entry, IsListed, Gathers, Overflows, Pushes}}
-use Rattle.page_cache.proofs.{NodeLemmas.{first_node-of}, SetLemmas.{members-at, is_member-inside, is_member-rank}, TableLemmas.{cases_node, is_touched-first}}
+use Rattle.{std.proofs.lemmas.{Bool.{cases_eq, cases_lt, both_ways, lt-ltb, ltb-true}, Option.{none-some, same_Some}}, vm_types.specs.declared.{file.FilePage.{FilePage}, object.PageKey.{PageKey, TheVariants.{File}}}}
+use Rattle.page_cache.{proofs.{NodeLemmas.{first_node-of}, SetLemmas.{members-at, is_member-inside, is_member-rank}, TableLemmas.{cases_node, is_touched-first}}, specs.{CacheTable.{CacheTable, is_touched}, Gathering.{filed, IsTouchedIn}}}
+use Rattle.page_cache.specs.{Gathering.{index_entry, IsListed, Gathers, Overflows, Pushes}, Nodes.{page_at, IsOneToOne}, Sets.{members, IsOrdered}}
 
 -- the touched pages of the row that were looked at are listed
 pub record IsPart (t : CacheTable) (file first count used : ℕ) (Seen : FilePage → Type 0) (old new : List FilePage) (n : ℕ) : Type 0 where
@@ -122,9 +121,8 @@ row_untouched t file first count k touched is no_touch p in_row e =
     both_ways (is_touched t (File p)) (ap (λ (q : FilePage). is_touched t (File q)) e ∙ sym is ∙ no_touch) in_row.touched
 
 pub filed-some : (held : Option PageKey) (page : FilePage) → filed held ≡ Some page → held ≡ Some (File page)
-filed-some None page e = absurd (none-some page e)
 filed-some (Some (File p)) page e = ap (λ (q : FilePage). Some (File q)) (same_Some p page e)
-filed-some (Some (Object p)) page e = absurd (none-some page e)
+filed-some held page e = absurd (none-some page e)
 
 -- by a look at each touched page: the page of a node at one of the first places
 abbrev pub IsAtPlace : List (Option PageKey) → List ℕ → ℕ → FilePage → Type 0

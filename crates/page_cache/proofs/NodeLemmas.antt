@@ -1,9 +1,8 @@
 -- The first node that holds a page, before and after one node was changed.
 use Rattle.std.proofs.Common.{◌≡◌, ◌≢◌, ℕ, zero, suc, ◌+◌, ◌<◌, true, false, eqb, List, [], ◌∷◌, length, Option, Some, None, refl, sym, ap, ap₂, ◌∙◌, subst, inl, inr, arith, replicate, set, get_or-set_same, get_or-set_other}
-use Rattle.std.proofs.{lemmas.Bool.{cases_eq, cases_Bool, cases_lt, both_ways, true≢false, and_parts, and_from, eqb-true, eq-eqb, false_from_ne_true}, lemmas.List.{get_or_past}, lemmas.Option.{none-some}}
-use Rattle.vm_types.specs.{declared.file.FilePage.{FilePage}, declared.object.ObjectPage.{ObjectPage}, declared.object.PageKey.{PageKey}, declared.object.PageKey.TheVariants.{File, Object}}
-use Rattle.vm_types.specs.Attributes.{file_page_eq, object_page_eq, page_key_eq}
-use Rattle.page_cache.specs.Nodes.{page_at, holds, next_number, first_node, IsOneToOne}
+use Rattle.{std.proofs.lemmas.{Bool.{cases_eq, cases_Bool, cases_lt, both_ways, true≢false, and_parts, and_from, eqb-true, eq-eqb, false_from_ne_true}, List.{get_or_past}, Option.{none-some}}, vm_types.specs.Attributes.{file_page_eq}}
+use Rattle.{vm_types.specs.{Attributes.{object_page_eq, page_key_eq}, declared.{file.FilePage.{FilePage}, object.{ObjectPage.{ObjectPage}, PageKey.{PageKey, TheVariants.{File, Object}}}}}, page_cache.specs.Nodes.{page_at, holds}}
+use Rattle.page_cache.specs.Nodes.{next_number, first_node, IsOneToOne}
 
 pub same_file_page : (a b : FilePage) → file_page_eq a b ≡ true → a ≡ b
 same_file_page a b e =
@@ -17,9 +16,8 @@ same_object_page a b e =
 
 pub same_page : (a b : PageKey) → page_key_eq a b ≡ true → a ≡ b
 same_page (File a) (File b) e = ap (λ (p : FilePage). File p) (same_file_page a b e)
-same_page (File a) (Object b) e = absurd (true≢false (sym e))
-same_page (Object a) (File b) e = absurd (true≢false (sym e))
 same_page (Object a) (Object b) e = ap (λ (p : ObjectPage). Object p) (same_object_page a b e)
+same_page a b e = absurd (true≢false (sym e))
 
 pub same_file_page_true : (a : FilePage) → file_page_eq a a ≡ true
 same_file_page_true a = and_from (eqb a.file a.file) (eqb a.page a.page) (eq-eqb a.file a.file refl) (eq-eqb a.page a.page refl)
@@ -43,9 +41,8 @@ false-holds page held no_page e = both_ways (holds page held) no_page (true-hold
 
 -- nodes that hold nothing
 pub unheld_at : (n k : ℕ) → page_at (replicate n None) k ≡ None
-unheld_at zero k = refl
-unheld_at (suc n) zero = refl
 unheld_at (suc n) (suc k) = unheld_at n k
+unheld_at n k = refl
 
 -- a node that holds a page is one of them
 pub page_at-within : (pages : List (Option PageKey)) (n : ℕ) (page : PageKey) → page_at pages n ≡ Some page → n < length pages
@@ -119,9 +116,8 @@ first_node-kept (held ∷ rest) (suc n) now page before after = rw (first_node-k
 
 -- a node that holds nothing now
 pub page_at-emptied : (pages : List (Option PageKey)) (n : ℕ) → page_at (set pages n None) n ≡ None
-page_at-emptied [] n = refl
-page_at-emptied (held ∷ rest) zero = refl
 page_at-emptied (held ∷ rest) (suc n) = page_at-emptied rest n
+page_at-emptied pages n = refl
 
 pub IsOneToOne-removed : (pages : List (Option PageKey)) (n : ℕ) → IsOneToOne pages → IsOneToOne (set pages n None)
 IsOneToOne-removed pages n one =

@@ -1,7 +1,6 @@
 -- What the calls on a set of nodes do to its order, its ranks and its members.
-use Rattle.std.proofs.{Common.{◌≡◌, ◌≢◌, ℕ, zero, suc, ◌+◌, ◌<◌, ◌≤◌, ◌⊎◌, true, false, ltb, List, [], ◌∷◌, length, get_or, refl, sym, ap, ◌∙◌, subst, inl, inr, arith, map, set, length-set, get_or-set_same, get_or-set_other}, lemmas.Bool.{cases_eq, cases_lt, both_ways, lt-ltb, le-ltb}}
-use Rattle.std.proofs.lemmas.List.{get_or_past, get_or_default}
-use Rattle.page_cache.specs.Sets.{is_member, members, IsOrdered, HaveSwapped, SameMembersBut}
+use Rattle.std.proofs.Common.{◌≡◌, ◌≢◌, ℕ, zero, suc, ◌+◌, ◌<◌, ◌≤◌, ◌⊎◌, true, false, ltb, List, [], ◌∷◌, length, get_or, refl, sym, ap, ◌∙◌, subst, inl, inr, arith, map, set, length-set, get_or-set_same, get_or-set_other}
+use Rattle.{std.proofs.lemmas.{Bool.{cases_eq, cases_lt, both_ways, lt-ltb, le-ltb}, List.{get_or_past, get_or_default}}, page_cache.specs.Sets.{is_member, members, IsOrdered, HaveSwapped, SameMembersBut}}
 
 -- a node past the last is no member
 pub is_member-past : (ranks : List ℕ) (count n : ℕ) → length ranks ≤ n → is_member ranks count n ≡ false
@@ -123,10 +122,7 @@ module _ (order ranks new : List ℕ) (count node edge : ℕ) (ordered : IsOrder
   same_test : (x y now before : ℕ) → (x < now → y < before) → (y < before → x < now) → ltb x now ≡ ltb y before
   same_test x y now before to fro = elim (cases_lt x now) [
     | inl less ↦ lt-ltb x now less ∙ sym (lt-ltb y before (to less))
-    | inr ge ↦ elim (cases_lt y before) [
-      | inl less ↦ absurd (let bad = fro less in omega arith)
-      | inr above ↦ le-ltb x now ge ∙ sym (le-ltb y before above)
-    ]
+    | inr ge ↦ elim (cases_lt y before) [ inl less ↦ absurd (let bad = fro less in omega arith) | inr above ↦ le-ltb x now ge ∙ sym (le-ltb y before above) ]
   ]
 
   pub inserted : edge ≡ count → count ≤ get_or ranks node 0 → (is_member new (count + 1) node ≡ true) × SameMembersBut node ranks count new (count + 1)

@@ -1,10 +1,9 @@
 -- Places and touched pages, by the nodes that hold them.
-use Rattle.std.proofs.Common.{◌≡◌, ◌≢◌, ℕ, ◌+◌, ◌-◌, ◌<◌, ◌≤◌, ◌⊎◌, Bool, false, List, length, get_or, Option, Some, None, IfSome, IfNone, refl, sym, ap, ◌∙◌, subst, inl, inr, arith, set, length-set, replicate}
-use Rattle.std.proofs.{lemmas.Bool.{false≢true, cases_Bool, cases_lt, both_ways, lt-ltb, le-ltb}, lemmas.List.{length-replicate}, lemmas.Option.{none-some, same_Some}}
-use Rattle.vm_types.specs.{declared.object.PageKey.{PageKey}, Attributes.{page_key_eq}}
-use Rattle.page_cache.specs.{declared.place.Place.{Place}, declared.place.Place.TheVariants.{Home, Frame, Slot}, declared.cache.PageCache.TheInside.{Inside}, Nodes.{page_at, first_node, IsOneToOne}}
-use Rattle.page_cache.specs.{CacheTable.{CacheTable, cache_frames, place_in, place_of, is_marked, is_touched, IsInside, IsSoundCache, IsNewCache, SameButForPage}, Inside.{cache_table_of, IsWholeCache}}
-use Rattle.page_cache.proofs.NodeLemmas.{same_page, same_page_true, holds-true, false-holds, page_at-within, first_node-holds, first_node-no_node, first_node-none, first_node-of, first_node-kept, unheld_at}
+use Rattle.std.proofs.{Common.{◌≡◌, ◌≢◌, ℕ, ◌+◌, ◌-◌, ◌<◌, ◌≤◌, ◌⊎◌, Bool, false, List, length, get_or, Option, Some, None, IfSome, IfNone, refl, sym, ap, ◌∙◌, subst, inl, inr, arith, set, length-set, replicate}, lemmas.Bool.{false≢true}}
+use Rattle.{std.proofs.lemmas.{Bool.{cases_Bool, cases_lt, both_ways, lt-ltb, le-ltb}, List.{length-replicate}, Option.{none-some, same_Some}}, vm_types.specs.{Attributes.{page_key_eq}, declared.object.PageKey.{PageKey}}}
+use Rattle.page_cache.{proofs.NodeLemmas.{same_page, same_page_true, holds-true, false-holds, page_at-within, first_node-holds, first_node-no_node, first_node-none, first_node-of, first_node-kept, unheld_at}, specs.CacheTable.{CacheTable}}
+use Rattle.page_cache.specs.{CacheTable.{cache_frames, place_in, place_of, is_marked, is_touched, IsInside, IsSoundCache, IsNewCache, SameButForPage}, Inside.{cache_table_of, IsWholeCache}, Nodes.{page_at, first_node, IsOneToOne}}
+use Rattle.page_cache.specs.declared.{cache.PageCache.TheInside.{Inside}, place.Place.{Place, TheVariants.{Home, Frame, Slot}}}
 
 -- two file pages are one or not
 pub cases_page : (p q : PageKey) → (p ≡ q) ⊎ (p ≢ q)

@@ -164,7 +164,7 @@ impl PageCache {
         }
     }
 
-    /// Appends the touched ones among `count` pages of the file from page `first` on, whose numbers are under 2 ^ 32, to the
+    /// Appends the touched ones among `count` pages of a file from `first` on, whose numbers are under 2 ^ 32, to the
     /// first `used` entries of the list, but those that are among these already. Returns how many entries there are then.
     /// Its time is that of the shorter of two: a look at each page of the row, or at each touched page.
     ///
@@ -173,45 +173,43 @@ impl PageCache {
     /// the others touched pages of the row.
     pub fn dirty_in(
         &self,
-        file: u8,
-        first: u32,
+        first: FilePage,
         count: u32,
         list: &mut [FilePage; MSYNC_PAGES],
         used: usize,
     ) -> Result<usize, TooMany>
         requires used { used ≤ msync_pages }
-        requires row { first + count ≤ 2 ^ 32 }
-        ensures gathered { IfOk result (λ n. Gathers self.now file first count used list.old list.new n) }
-        ensures all { IfOk result (λ n. HasAll self.now file first count list.new n) }
-        ensures number { IfOk result (λ n. n ≡ used + fresh_count self.now file first count list.old used) }
-        ensures exact { IsErr result ↔ (msync_pages < used + fresh_count self.now file first count list.old used) }
-        ensures too_many { OnErr result (Overflows self.now file first count used list.old list.new) }
+        requires row { first.page + count ≤ 2 ^ 32 }
+        ensures gathered { IfOk result (λ n. Gathers self.now first.file first.page count used list.old list.new n) }
+        ensures all { IfOk result (λ n. HasAll self.now first.file first.page count list.new n) }
+        ensures number { IfOk result (λ n. n ≡ used + fresh_count self.now first.file first.page count list.old used) }
+        ensures exact { IsErr result ↔ (msync_pages < used + fresh_count self.now first.file first.page count list.old used) }
+        ensures too_many { OnErr result (Overflows self.now first.file first.page count used list.old list.new) }
     {
         if count < self.touched.len() {
-            self.gather_row(file, first, count, list, used)
+            self.gather_row(first, count, list, used)
         } else {
-            self.gather_touched(file, first, count, list, used)
+            self.gather_touched(first, count, list, used)
         }
     }
 
     /// `dirty_in` by a look at each page of the row.
     fn gather_row(
         &self,
-        file: u8,
-        first: u32,
+        first: FilePage,
         count: u32,
         list: &mut [FilePage; MSYNC_PAGES],
         used: usize,
     ) -> Result<usize, TooMany>
         requires used { used ≤ msync_pages }
-        requires row { first + count ≤ 2 ^ 32 }
-        ensures { GathersRow self.now file first count used list.old list.new result }
+        requires row { first.page + count ≤ 2 ^ 32 }
+        ensures { GathersRow self.now first.file first.page count used list.old list.new result }
     {
         let mut n = used;
         for offset in 0..count {
             let page = FilePage {
-                file,
-                page: first + offset,
+                file: first.file,
+                page: first.page + offset,
             };
             if self.is_touched(PageKey::File(page)) {
                 n = push_fresh(list, used, n, page)?;
@@ -223,19 +221,18 @@ impl PageCache {
     /// `dirty_in` by a look at each touched page.
     fn gather_touched(
         &self,
-        file: u8,
-        first: u32,
+        first: FilePage,
         count: u32,
         list: &mut [FilePage; MSYNC_PAGES],
         used: usize,
     ) -> Result<usize, TooMany>
         requires { used ≤ msync_pages }
-        ensures { GathersRow self.now file first count used list.old list.new result }
+        ensures { GathersRow self.now first.file first.page count used list.old list.new result }
     {
         let mut n = used;
         for place in 0..self.touched.len() {
             if let Some(page) = filed(self.index.page(self.touched.node(place))) {
-                if is_in_row(page, file, first, count) {
+                if is_in_row(page, first.file, first.page, count) {
                     n = push_fresh(list, used, n, page)?;
                 }
             }

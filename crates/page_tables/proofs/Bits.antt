@@ -1,8 +1,7 @@
 -- The bits of the entries that this crate writes.
 use Rattle.page_tables.proofs.Names.{◌≡◌, ◌≢◌, ℕ, inl, inr, ◌+◌, ◌*◌, ◌/◌, ◌%◌, ◌^◌, ◌<◌, ◌≤◌, Bool, true, false, refl, sym, ap, ◌∙◌, subst, arith, eq-eqb, ne_eqb, cases_Bool, false≢true, ◌||◌, ◌&&◌, not, ◌==◌, Prot, has_bit, is_valid}
-use Rattle.page_tables.proofs.Names.{can_read, can_execute, is_private, high_bits, frame_of}
+use Rattle.page_tables.{proofs.Names.{can_read, can_execute, is_private, high_bits, frame_of}, specs.{Entry.{number_of}, Leaves.{IsLeaf, IsEntryOver, is_barred, weight, leaf_number}, declared.forms.Entry.TheVariants.{Parked}}}
 use Rattle.vm_types.specs.Permission as Permission
-use Rattle.page_tables.specs.{Entry.{number_of}, declared.forms.Entry.TheVariants.{Parked}, Leaves.{IsLeaf, IsEntryOver, is_barred, weight, leaf_number}}
 
 bit_is : (e k : ℕ) (b : Bool) → e / 2 ^ k % 2 ≡ weight b 1 → has_bit e k ≡ b
 unfolding has_bit

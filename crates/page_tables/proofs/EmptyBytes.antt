@@ -1,6 +1,5 @@
 -- A table has no entry exactly where its bytes are zeros.
-use Rattle.page_tables.proofs.Names.{◌≡◌, ℕ, zero, suc, inl, inr, ◌+◌, ◌*◌, ◌/◌, ◌%◌, ◌<◌, ◌≤◌, List, get_or, drop, refl, sym, ap, ◌∙◌, arith, cases_eq, get_or-drop, little_from, FrameTable, bytes_of, entry_at}
-use Rattle.page_tables.specs.Tree.{IsEmptyTable}
+use Rattle.page_tables.{proofs.Names.{◌≡◌, ℕ, zero, suc, inl, inr, ◌+◌, ◌*◌, ◌/◌, ◌%◌, ◌<◌, ◌≤◌, List, get_or, drop, refl, sym, ap, ◌∙◌, arith, cases_eq, get_or-drop, little_from, FrameTable, bytes_of, entry_at}, specs.Tree.{IsEmptyTable}}
 
 -- a number whose bytes are zeros is 0
 from_zeros : (i n : ℕ) (xs : List ℕ) → ((k : ℕ) → i ≤ k → k < i + n → get_or xs k 0 ≡ 0) → little_from i n xs ≡ 0

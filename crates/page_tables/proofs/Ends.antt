@@ -1,14 +1,12 @@
 -- Where ways end, and what they have in common in two memories.
 use Rattle.page_tables.proofs.Names.{◌≡◌, ◌≢◌, ℕ, zero, suc, ◌+◌, ◌-◌, ◌<◌, ◌≤◌, ◌⊎◌, inl, inr, true, false, refl, sym, ap, ◌∙◌, subst, arith, ne_eqb, cases_eq, false≢true, FrameTable, entry_at, frame_of, has_bit, is_pointer, is_valid}
-use Rattle.page_tables.proofs.Names.{index_of}
-use Rattle.page_tables.specs.{Tree.{IsTable, Points, EndsWay, IsForest, IsRoot, last_table, last_entry, missing_of, page_entry, Way}, Entry.{IsPageEntry}, declared.forms.Entry.TheVariants.{None}}
-use Rattle.page_tables.proofs.Ways.{cases_bool, ends, index_of-lt, last_at-stop, last_table-next, last_table-stop, last_table-zero}
+use Rattle.page_tables.{proofs.{Names.{index_of}, Ways.{cases_bool, ends, index_of-lt, last_at-stop, last_table-next, last_table-stop, last_table-zero}}, specs.{Entry.{IsPageEntry}, Tree.{IsTable, Points, EndsWay, IsForest, IsRoot}}}
+use Rattle.page_tables.specs.{Tree.{last_table, last_entry, missing_of, page_entry, Way}, declared.forms.Entry.TheVariants.{None}}
 
 -- the way from a table on the way
 pub last_from_way : (t : FrameTable) (top root page d n level : ℕ) → d + level ≡ top → Way t top root page d n
     → last_table t page top root ≡ last_table t page level n
-last_from_way t top root page zero n level e w =
-    let all : level ≡ top = omega arith in rw (all, w)
+last_from_way t top root page zero n level e w = let all : level ≡ top = omega arith in rw (all, w)
 last_from_way t top root page (suc d) n level e w =
     let here : top - d ≡ suc level = omega arith in
     let step = rw here at w.2 in
@@ -18,8 +16,7 @@ last_from_way t top root page (suc d) n level e w =
 -- a way that stops
 pub last_is : (t : FrameTable) (top root page level n : ℕ) → level ≤ top → Way t top root page (top - level) n
     → (0 < level → is_pointer (entry_at t n (index_of page level)) ≡ false) → last_table t page top root ≡ (level, n)
-last_is t top root page zero n least w stops =
-    last_from_way t top root page (top - 0) n 0 (omega arith) w ∙ last_table-zero t page n
+last_is t top root page zero n least w stops = last_from_way t top root page (top - 0) n 0 (omega arith) w ∙ last_table-zero t page n
 last_is t top root page (suc level) n least w stops =
     last_from_way t top root page (top - suc level) n (suc level) (omega arith) w ∙ last_table-stop t page level n (stops (omega arith))
 
@@ -72,8 +69,7 @@ same_last old new forest forest' same top r p table table' =
     let end = ends old top r p forest table in
     let l = last_table old p top r in
     let w = way_forth old new same.forth top r p (top - l.0) l.1 end.way in
-    let there = table_there new forest' top r p (top - l.0) l.1 table' w in
-    let entry = same.entries l.1 (index_of p l.0) (index_of-lt p l.0) end.table there in
+    let entry = same.entries l.1 (index_of p l.0) (index_of-lt p l.0) end.table (table_there new forest' top r p (top - l.0) l.1 table' w) in
     let last : last_table new p top r ≡ l = last_is new top r p l.0 l.1 end.least w (λ h. ap is_pointer entry ∙ end.stops h) in
     (last, last_entry-is new top r p ∙ ap (λ x. entry_at new x.1 (index_of p x.0)) last ∙ entry ∙ sym (last_entry-is old top r p))
 
@@ -92,8 +88,7 @@ root_same old new forest forest' same top r table' root =
 pub missing_same : (old new : FrameTable) → IsForest old → IsForest new → SameTrees old new → (top r p : ℕ) → IsTable old r → IsTable new r
     → missing_of new top r p ≡ missing_of old top r p
 missing_same old new forest forest' same top r p table table' =
-    let last = same_last old new forest forest' same top r p table table' in
-    missing_of-is new top r p ∙ ap (λ x. x.0) last.0 ∙ sym (missing_of-is old top r p)
+    missing_of-is new top r p ∙ ap (λ x. x.0) (same_last old new forest forest' same top r p table table').0 ∙ sym (missing_of-is old top r p)
 
 pub entry_same : (old new : FrameTable) → IsForest old → IsForest new → SameTrees old new → (top r p : ℕ) → IsTable old r → IsTable new r
     → page_entry new top r p ≡ page_entry old top r p
@@ -155,8 +150,7 @@ pub valid_points : (t : FrameTable) (top root page level n e : ℕ) → IsRoot t
 valid_points t top root page level n e is_root table above same is valid = elim (cases_bool (is_pointer (entry_at t n (index_of page level)))) [
   | inl pointer ↦ record { table = table; index = index_of-lt page level; pointer = pointer; target = ap frame_of (sym is) }
   | inr stop ↦ (let ends : last_table t page top root ≡ (level, n) = sym same ∙ last_at-stop t page level n above stop in
-      let missing = missing_of-is t top root page ∙ ap (λ x. x.0) ends in
-      let some : missing_of t top root page ≢ 0 = λ none. absurd (omega (arith, above, missing, none)) in
+      let some : missing_of t top root page ≢ 0 = λ none. absurd (omega (arith, above, missing_of-is t top root page ∙ ap (λ x. x.0) ends, none)) in
       let bare = is ∙ sym (ap (λ x. entry_at t x.1 (index_of page x.0)) ends) ∙ sym (last_entry-is t top root page) ∙ is_root.bare page some in
       absurd (false≢true (sym invalid_zero ∙ ap is_valid (sym bare) ∙ valid)))
 ]

@@ -1,8 +1,7 @@
 -- What the write of eight bytes does to the entries of a table. The one file that sees bytes.
 use Rattle.page_tables.proofs.Names.{◌≡◌, inl, inr, ℕ, zero, suc, ◌+◌, ◌-◌, ◌*◌, ◌<◌, ◌≤◌, ◌^◌, List, ◌++◌, length, get_or, take, drop, refl, sym, ap, ◌∙◌, arith, length-drop, get_or-drop, get_or-take, length-take-le, drop_at, append_assoc}
 use Rattle.page_tables.proofs.Names.{get_or_append_left, get_or-append_right, cases_lt, put_mid, mid_of, post_of, FrameTable, bytes_of, with_bytes, with_bytes-same, with_bytes-others, entry_at, little_number, little_from, little_bytes}
-use Rattle.page_tables.proofs.Names.{little_number-reads_back, length-bytes_low_first}
-use Rattle.page_tables.specs.{Tree.{IsTable}, Change.{PutsNumber, ChangesEntry, number_at}}
+use Rattle.page_tables.{proofs.Names.{little_number-reads_back, length-bytes_low_first}, specs.{Change.{PutsNumber, ChangesEntry, number_at}, Tree.{IsTable}}}
 
 -- a number reads its bytes alone
 little_from-same : (i n : ℕ) (xs ys : List ℕ) → ((k : ℕ) → i ≤ k → k < i + n → get_or xs k 0 ≡ get_or ys k 0) → little_from i n xs ≡ little_from i n ys

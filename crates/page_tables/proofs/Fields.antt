@@ -1,6 +1,5 @@
 -- The first page below an entry of a root.
-use Rattle.page_tables.proofs.Names.{◌≡◌, ℕ, zero, suc, ◌*◌, ◌/◌, ◌^◌, ◌<◌, ◌∙◌, ap, arith, pow-succ', index_of}
-use Rattle.page_tables.proofs.Pages.{index_of-suc, index_of-zero}
+use Rattle.page_tables.proofs.{Names.{◌≡◌, ℕ, zero, suc, ◌*◌, ◌/◌, ◌^◌, ◌<◌, ◌∙◌, ap, arith, pow-succ', index_of}, Pages.{index_of-suc, index_of-zero}}
 
 once : (a : ℕ) → a * 1 ≡ a
 once a = omega arith

@@ -117,12 +117,7 @@ pub spare_root : (top : ℕ) (t : FrameTable) (n : ℕ) → IsSpare t n → IsRo
 spare_root top t n spare =
     let last : (p : ℕ) → last_entry t top n p ≡ 0 = λ p. last_entry-is t top n p ∙ ap (λ x. entry_at t x.1 (index_of p x.0)) (empty_last t p top n spare.empty)
     ∙ spare.empty (index_of p top) (index_of-lt p top) in
-    record {
-      table = spare.table;
-      unlinked = spare.unlinked;
-      bare = λ p ne. last p;
-      flat = λ p e. ap is_pointer (last p) ∙ is_pointer-zero;
-    }
+    record { table = spare.table; unlinked = spare.unlinked; bare = λ p ne. last p; flat = λ p e. ap is_pointer (last p) ∙ is_pointer-zero }
 
 -- no table, no tree
 pub no_tables : (t : FrameTable) → ((n : ℕ) → role_of t n ≢ Table) → IsForest t

@@ -85,18 +85,14 @@ module _ (small big : FrameTable) (n i m top root page k : ℕ) (linked : Linked
   ]
 
   pub missing_other : (r p : ℕ) → r ≢ root → IsTable small r → IsUnlinked big r → missing_of big top r p ≡ missing_of small top r p
-  missing_other r p ne table free = elim (link_cases r p table free) [
-    | inl hit ↦ absurd (ne hit.is_root)
-    | inr miss ↦ missing_missed r p miss
-  ]
+  missing_other r p ne table free = elim (link_cases r p table free) [ inl hit ↦ absurd (ne hit.is_root) | inr miss ↦ missing_missed r p miss ]
 
   -- nowhere more are missing
   pub fewer : (r p : ℕ) → IsTable small r → IsUnlinked big r → missing_of big top r p ≤ missing_of small top r p
   fewer r p table free = elim (link_cases r p table free) [
     | inl hit ↦ (
         let now = missing_of-is big top r p ∙ ap (λ x. x.0) hit.in_big in
-        let was = missing_of-is small top r p ∙ ap (λ x. x.0) hit.in_small in
-        omega (arith, now, was))
+        omega (arith, now, missing_of-is small top r p ∙ ap (λ x. x.0) hit.in_small))
     | inr miss ↦ (let same = missing_missed r p miss in omega (arith, same))
   ]
 
@@ -244,8 +240,7 @@ module _ (old new : FrameTable) (top root page m e : ℕ) (forest : IsForest old
     no_more = λ p. fewer old new _ _ m top root page _ linked forest forest_after root_free below way root p is_root.table root_free;
     ends = ap (λ x. x.1) last_now;
     lowered = (
-        let now = missing_of-is new top root page ∙ ap (λ x. x.0) last_now in
-        omega (arith, now, missing_of-is old top root page, above));
+        omega (arith, missing_of-is new top root page ∙ ap (λ x. x.0) last_now, missing_of-is old top root page, above));
     entries = λ r p ne root'. link_entries old new _ _ m top root page _ linked forest forest_after root_free below way r p root'.table (free_after r ne root'.unlinked);
     missing = λ r p other ne root'. missing_other old new _ _ m top root page _ linked forest forest_after root_free below way r p other root'.table (free_after r ne root'.unlinked);
   }

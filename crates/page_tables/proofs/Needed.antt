@@ -1,9 +1,8 @@
 -- Which tables are left after those without entries on one way were given back: each lies on the way to a page that is needed.
-use Rattle.page_tables.proofs.Names.{◌≡◌, ◌≢◌, ℕ, zero, suc, ◌+◌, ◌-◌, ◌*◌, ◌/◌, ◌%◌, ◌^◌, ◌<◌, ◌≤◌, ◌⊎◌, inl, inr, true, false, refl, sym, ap, ◌∙◌, subst, arith, cases_eq, false≢true, pow-add, div-lt_iff_lt-mul, mul-div_cancel, FrameTable}
-use Rattle.page_tables.proofs.Names.{entry_at, frame_of, is_pointer, index_of}
-use Rattle.page_tables.specs.{Tree.{IsPage, IsTable, Points, IsForest, IsRoot, IsUnlinked, last_table, missing_of, last_entry, page_entry, Way, IsBelowRoot}, Change.{Prunes, IsPruned}}
-use Rattle.page_tables.proofs.{Pages.{fields_same, span_positive, place_above, field_is}, Spans.{last_most, missing_in_place}, Ways.{EndsAt, ends, cases_bool, only_way, way_pointed}}
-use Rattle.page_tables.proofs.Ends.{last_is, last_from_way, way_forth, missing_of-is, last_entry-is, page_entry-whole}
+use Rattle.page_tables.proofs.{Ends.{last_is, last_from_way, way_forth, missing_of-is, last_entry-is, page_entry-whole}, Names.{◌≡◌, ◌≢◌, ℕ, zero, suc, ◌+◌, ◌-◌, ◌*◌, ◌/◌, ◌%◌, ◌^◌, ◌<◌, ◌≤◌, ◌⊎◌, inl, inr, true, false, refl, sym, ap, ◌∙◌}}
+use Rattle.page_tables.proofs.{Names.{subst, arith, cases_eq, false≢true, pow-add, div-lt_iff_lt-mul, mul-div_cancel, FrameTable, entry_at, frame_of, is_pointer, index_of}, Pages.{fields_same, span_positive, place_above, field_is}}
+use Rattle.page_tables.{proofs.{Spans.{last_most, missing_in_place}, Ways.{EndsAt, ends, cases_bool, only_way, way_pointed}}, specs.{Change.{Prunes, IsPruned}, Tree.{IsPage, IsTable, Points, IsForest, IsRoot, IsUnlinked, last_table}}}
+use Rattle.page_tables.specs.Tree.{missing_of, last_entry, page_entry, Way, IsBelowRoot}
 pub use Rattle.page_tables.proofs.Tight.{stay_way}
 
 -- a table with an entry has one somewhere
@@ -11,10 +10,7 @@ found : (t : FrameTable) (n k : ℕ) → ((i : ℕ) → i < k → entry_at t n i
 found t n zero = inl (λ i lt. absurd (omega arith))
 found t n (suc k) = elim (found t n k) [
   | inl none ↦ elim (cases_eq (entry_at t n k) 0) [
-    | inl e ↦ inl (λ i lt. elim (cases_eq i k) [
-      | inl is ↦ ap (entry_at t n) is ∙ e
-      | inr ne ↦ none i (omega (arith, lt, ne))
-    ])
+    | inl e ↦ inl (λ i lt. elim (cases_eq i k) [ inl is ↦ ap (entry_at t n) is ∙ e | inr ne ↦ none i (omega (arith, lt, ne)) ])
     | inr ne ↦ inr (k, omega arith, ne)
   ]
   | inr some ↦ inr (some.0, (let lt = some.1 in omega (arith, lt)), some.2)
@@ -95,13 +91,7 @@ module _ (top : ℕ) (old new : FrameTable) (r page : ℕ) (forest : IsForest ol
   end = ends new top r page prunes.forest root_now.table
 
   has_entry : L ≢ r → (i : ℕ) × (i < 512) × (entry_at new L i ≢ 0)
-  has_entry ne = elim (found new L 512) [
-    | inl none ↦ elim pruned.last [
-      | inl e ↦ absurd (ne e)
-      | inr full ↦ absurd (full none)
-    ]
-    | inr has ↦ has
-  ]
+  has_entry ne = elim (found new L 512) [ inl none ↦ elim pruned.last [ inl e ↦ absurd (ne e) | inr full ↦ absurd (full none) ] | inr has ↦ has ]
 
   abbrev Result : ℕ → Type 0
   Result m = (q : ℕ) × after q × IsBelowRoot new top r q m
@@ -111,8 +101,7 @@ module _ (top : ℕ) (old new : FrameTable) (r page : ℕ) (forest : IsForest ol
   block_below above = elim size [
     | inl one ↦ omega (arith, one, above)
     | inr gap ↦ (
-        let was = above_end old top r page (top - k) L (omega arith) (was_way page (top - k) L end.way) in
-        omega (arith, gap, was, missing_of-is old top r page, end.least))
+        omega (arith, gap, above_end old top r page (top - k) L (omega arith) (was_way page (top - k) L end.way), missing_of-is old top r page, end.least))
   ]
 
   -- a table below the root on the way to a page of the block isn't below the block
@@ -120,11 +109,10 @@ module _ (top : ℕ) (old new : FrameTable) (r page : ℕ) (forest : IsForest ol
   above_block p d m below same w = elim size [
     | inl one ↦ omega (arith, one, below)
     | inr gap ↦ (
-        let end_p = above_end old top r p (suc d) m (omega (arith, below)) w in
         let some : missing_of old top r page ≢ 0 = λ z. omega (arith, z, gap, positive) in
         let P : ℕ → Type 0 = λ x. page / 512 ^ x ≡ p / 512 ^ x in
         let there = missing_in_place old top r page p some (subst P gap (sym same)) in
-        omega (arith, gap, end_p, missing_of-is old top r p, there))
+        omega (arith, gap, above_end old top r p (suc d) m (omega (arith, below)) w, missing_of-is old top r p, there))
   ]
 
   -- m is a table below the root on the way to the page, and entry i of the last table on it is set
@@ -182,10 +170,7 @@ module _ (top : ℕ) (old new : FrameTable) (r page : ℕ) (forest : IsForest ol
     ]
 
     on_way : Result m
-    on_way = elim (cases_eq k 0) [
-      | inl level ↦ lowest level
-      | inr ne ↦ higher (omega (arith, ne))
-    ]
+    on_way = elim (cases_eq k 0) [ inl level ↦ lowest level | inr ne ↦ higher (omega (arith, ne)) ]
 
   by_end : (m d : ℕ) → d < top → Way new top r page (suc d) m → Result m
   by_end m d below w =

@@ -73,8 +73,7 @@ pub below_place : (p n k : ℕ) → p / 512 ^ k < n → p < n * 512 ^ k
 below_place p n k lt = (div-lt_iff_lt-mul (span_positive k)).0 lt
 
 pub place_from : (p q k : ℕ) → p ≤ q → p / 512 ^ k ≤ q / 512 ^ k
-place_from p q k le =
-    le-div (p / 512 ^ k) q (512 ^ k) (span_positive k) (omega (arith, div-mul-le_self p (512 ^ k), le))
+place_from p q k le = le-div (p / 512 ^ k) q (512 ^ k) (span_positive k) (omega (arith, div-mul-le_self p (512 ^ k), le))
 
 -- pages up to the end of a span lie in it
 pub same_place : (start page stop k : ℕ) → start ≤ page → page < stop → stop ≤ (start / 512 ^ k + 1) * 512 ^ k → page / 512 ^ k ≡ start / 512 ^ k

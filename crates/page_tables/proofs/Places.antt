@@ -10,8 +10,7 @@ same_above p q k same = index_of-suc p k ∙ ap (λ x. index_of x k) same ∙ sy
 pub last_in_row : (t : FrameTable) (p q level r : ℕ) → p / 512 ≡ q / 512 → last_table t q level r ≡ last_table t p level r
 last_in_row t p q zero r same = last_table-zero t q r ∙ sym (last_table-zero t p r)
 last_in_row t p q (suc level) r same =
-    let one = same_above p q level same in
-    let here : entry_at t r (index_of q (suc level)) ≡ entry_at t r (index_of p (suc level)) = ap (entry_at t r) (sym one) in
+    let here : entry_at t r (index_of q (suc level)) ≡ entry_at t r (index_of p (suc level)) = ap (entry_at t r) (sym (same_above p q level same)) in
     elim (cases_bool (is_pointer (entry_at t r (index_of p (suc level))))) [
       | inl pointer ↦ last_table-next t q level r (ap is_pointer here ∙ pointer) ∙ ap (λ x. last_table t q level (frame_of x)) here
           ∙ last_in_row t p q level (frame_of (entry_at t r (index_of p (suc level)))) same ∙ sym (last_table-next t p level r pointer)
@@ -38,10 +37,9 @@ row_moved : (old new : FrameTable) (top r row n : ℕ) → IsForest new → IsTa
     → IsTableOf old top r row n → IsTableOf new top r row n
 row_moved old new top r row n forest table moved old_row =
     let first : row * 512 / 512 ≡ row = omega arith in
-    let end = ends new top r (row * 512) forest table in
     let P : ℕ → Type 0 = λ x. IsTable new x in
     record {
-      table = subst P (ap (λ x. x.1) (moved (row * 512)) ∙ old_row.last (row * 512) first) end.table;
+      table = subst P (ap (λ x. x.1) (moved (row * 512)) ∙ old_row.last (row * 512) first) (ends new top r (row * 512) forest table).table;
       whole = λ p same. missing_of-is new top r p ∙ ap (λ x. x.0) (moved p) ∙ sym (missing_of-is old top r p) ∙ old_row.whole p same;
       last = λ p same. ap (λ x. x.1) (moved p) ∙ old_row.last p same;
     }

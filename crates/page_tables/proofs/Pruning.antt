@@ -92,10 +92,8 @@ module _ (old new : FrameTable) (top root page n i m k : ℕ) (forest : IsForest
 
   root_old : (r : ℕ) → IsRoot top new r → IsRoot top old r
   root_old r root' =
-      let t = (kept.back r root'.table).1 in
-      let forest' = forest_kept m mid new linking kept forest_mid free_mid in
       root_up mid old n i m top root page k linked forest_mid forest is_root.unlinked below end.way r (unlinked_back r root'.table root'.unlinked)
-      (root_same new mid forest' forest_mid (turned mid new same) top r t root')
+      (root_same new mid (forest_kept m mid new linking kept forest_mid free_mid) forest_mid (turned mid new same) top r ((kept.back r root'.table).1) root')
 
   depth : suc (top - k - 1) ≡ top - k
   depth = omega (arith, below)
@@ -109,9 +107,7 @@ module _ (old new : FrameTable) (top root page n i m k : ℕ) (forest : IsForest
 
   -- the table that pointed to it
   on_way : Way old top root page (top - k - 1) n
-  on_way =
-      let one = forest.one_way _ _ n i m below_root.2 on in
-      let W : ℕ → Type 0 = λ x. Way old top root page (top - k - 1) x in subst W one.0 below_root.1
+  on_way = let W : ℕ → Type 0 = λ x. Way old top root page (top - k - 1) x in subst W (forest.one_way _ _ n i m below_root.2 on).0 below_root.1
 
   pub prunes : Prunes old new top root page
   prunes =
@@ -161,13 +157,7 @@ module _ (old new : FrameTable) (top root page n i m k : ℕ) (forest : IsForest
 -- nothing was pruned
 pub Prunes-refl : (t : FrameTable) (top root page : ℕ) → IsForest t → Prunes t t top root page
 Prunes-refl t top root page forest = record {
-  kept = record {
-    frames = refl;
-    bytes = λ x role. refl;
-    roles = λ x role. refl;
-    counts = λ x role. refl;
-    tables = λ x table. table;
-  };
+  kept = record { frames = refl; bytes = λ x role. refl; roles = λ x role. refl; counts = λ x role. refl; tables = λ x table. table };
   forest = forest;
   gone = λ x table. inl table;
   others = λ x table. inr (λ i h. refl);
@@ -191,18 +181,12 @@ Prunes-trans t u v top root page a b =
       };
       forest = b.forest;
       gone = λ x table. elim (a.gone x table) [
-        | inl stays ↦ elim (b.gone x stays) [
-          | inl still ↦ inl still
-          | inr lost ↦ inr (lost.0, (lost.1.0, lost.1.1, back (suc lost.1.0) x lost.1.2))
-        ]
+        | inl stays ↦ elim (b.gone x stays) [ inl still ↦ inl still | inr lost ↦ inr (lost.0, (lost.1.0, lost.1.1, back (suc lost.1.0) x lost.1.2)) ]
         | inr lost ↦ inr (b.kept.roles x (λ e. (let bad : Free ≡ Table = sym lost.0 ∙ e in (cc))) ∙ lost.0, lost.1)
       ];
       others = λ x table. elim (b.others x table) [
         | inl way ↦ inl (way.0, way.1, back way.0 x way.2)
-        | inr same ↦ elim (a.others x (b.kept.tables x table)) [
-          | inl way ↦ inl way
-          | inr first ↦ inr (λ i h. same i h ∙ first i h)
-        ]
+        | inr same ↦ elim (a.others x (b.kept.tables x table)) [ inl way ↦ inl way | inr first ↦ inr (λ i h. same i h ∙ first i h) ]
       ];
       pointers = λ n i m p. a.pointers n i m (b.pointers n i m p);
       roots = λ r is_root. b.roots r (a.roots r is_root);

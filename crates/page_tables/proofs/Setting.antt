@@ -1,8 +1,7 @@
 -- One entry of a page set: no pointer before, no pointer after.
-use Rattle.page_tables.proofs.Names.{◌≡◌, ◌≢◌, ℕ, ◌-◌, ◌<◌, ◌≤◌, ◌⊎◌, inl, inr, false, get_or, refl, sym, ap, ◌∙◌, subst, arith, cases_eq, false≢true, Free, FrameTable, bytes_of, role_of, SameButFor, entry_at, frame_of, is_pointer}
-use Rattle.page_tables.proofs.Names.{index_of}
-use Rattle.page_tables.specs.{Entry.{IsSoftware}, Tree.{IsTable, Points, IsForest, IsUnlinked, IsRoot, last_table, last_entry, missing_of, IsPage, Way}, Change.{ChangesEntry, KeepsFrames, SetsEntry}}
-use Rattle.page_tables.proofs.{Ways.{EndsAt, ends, only_way, index_of-lt}, Ends.{last_is, way_forth, missing_of-is, last_entry-is, page_entry-same, page_entry-whole}, Pages.{page_from_fields}}
+use Rattle.page_tables.proofs.{Ends.{last_is, way_forth, missing_of-is, last_entry-is, page_entry-same, page_entry-whole}, Names.{◌≡◌, ◌≢◌, ℕ, ◌-◌, ◌<◌, ◌≤◌, ◌⊎◌, inl, inr, false, get_or, refl, sym, ap, ◌∙◌, subst, arith, cases_eq}}
+use Rattle.page_tables.proofs.{Names.{false≢true, Free, FrameTable, bytes_of, role_of, SameButFor, entry_at, frame_of, is_pointer, index_of}, Pages.{page_from_fields}, Ways.{EndsAt, ends, only_way, index_of-lt}}
+use Rattle.page_tables.specs.{Change.{ChangesEntry, KeepsFrames, SetsEntry}, Entry.{IsSoftware}, Tree.{IsTable, Points, IsForest, IsUnlinked, IsRoot, last_table, last_entry, missing_of, IsPage, Way}}
 
 -- an entry reads the bytes of its frame alone
 pub entry_at-bytes : (old new : FrameTable) (n i : ℕ) → bytes_of new n ≡ bytes_of old n → entry_at new n i ≡ entry_at old n i
@@ -22,10 +21,7 @@ other_entries old new n i e change a j h other = elim (cases_eq a n) [
 
 -- here, or not
 pub cases_place : (a j n i : ℕ) → ((a ≡ n) × (j ≡ i)) ⊎ ((a ≢ n) ⊎ (j ≢ i))
-cases_place a j n i = elim (cases_eq a n) [
-  | inl e ↦ elim (cases_eq j i) [ inl f ↦ inl (e, f) | inr ne ↦ inr (inr ne) ]
-  | inr ne ↦ inr (inl ne)
-]
+cases_place a j n i = elim (cases_eq a n) [ inl e ↦ elim (cases_eq j i) [ inl f ↦ inl (e, f) | inr ne ↦ inr (inr ne) ] | inr ne ↦ inr (inl ne) ]
 
 pub at_place : (t : FrameTable) (a j n i : ℕ) → a ≡ n → j ≡ i → entry_at t a j ≡ entry_at t n i
 at_place t a j n i e f = rw (e, f)

@@ -1,8 +1,7 @@
 -- The pages in the place of one entry of a table: the ways to them, and what is missing there.
-use Rattle.page_tables.proofs.Names.{◌≡◌, ◌≢◌, ℕ, zero, suc, ◌+◌, ◌-◌, ◌*◌, ◌/◌, ◌%◌, ◌^◌, ◌<◌, ◌≤◌, ◌⊎◌, inl, inr, false, refl, sym, ap, ◌∙◌, arith, cases_eq, mul-div_cancel, FrameTable, entry_at, frame_of, is_pointer, index_of}
-use Rattle.page_tables.proofs.Names.{is_pointer-zero}
-use Rattle.page_tables.{specs.Tree.{IsRoot, last_table, missing_of}, proofs.{Ways.{cases_bool, last_table-next, last_table-stop, last_table-zero, last_at-next, last_at-stop}, Ends.{missing_of-is, last_entry-is}}}
-use Rattle.page_tables.proofs.Pages.{fields_same, span_positive, place_above, same_span_above, field_is, place_below, below_place, place_from}
+use Rattle.page_tables.proofs.{Ends.{missing_of-is, last_entry-is}, Names.{◌≡◌, ◌≢◌, ℕ, zero, suc, ◌+◌, ◌-◌, ◌*◌, ◌/◌, ◌%◌, ◌^◌, ◌<◌, ◌≤◌, ◌⊎◌, inl, inr, false, refl, sym, ap, ◌∙◌, arith, cases_eq, mul-div_cancel, FrameTable, entry_at}}
+use Rattle.page_tables.proofs.{Names.{frame_of, is_pointer, index_of, is_pointer-zero}, Pages.{fields_same, span_positive, place_above, same_span_above, field_is, place_below, below_place, place_from}, Ways.{cases_bool, last_table-next}}
+use Rattle.page_tables.{proofs.Ways.{last_table-stop, last_table-zero, last_at-next, last_at-stop}, specs.Tree.{IsRoot, last_table, missing_of}}
 
 -- a way from a level on ends at that level or below it
 pub last_most : (t : FrameTable) (page level n : ℕ) → (last_table t page level n).0 ≤ level
@@ -108,7 +107,6 @@ module _ (t : FrameTable) (top r page k n : ℕ) (last : last_table t page top r
 pub missing_in_place : (t : FrameTable) (top r page p : ℕ) → missing_of t top r page ≢ 0
     → page / 512 ^ missing_of t top r page ≡ p / 512 ^ missing_of t top r page → missing_of t top r p ≡ missing_of t top r page
 missing_in_place t top r page p some same =
-    let is = missing_of-is t top r page in
     let n = (last_table t page top r).1 in
-    let last : last_table t page top r ≡ (missing_of t top r page, n) = ap (λ x. (x, n)) (sym is) in
+    let last : last_table t page top r ≡ (missing_of t top r page, n) = ap (λ x. (x, n)) (sym (missing_of-is t top r page)) in
     missing_there t top r page (missing_of t top r page) n last (omega (arith, some)) p same

@@ -10,9 +10,8 @@ module _ (old new : FrameTable) (top root page : ℕ) (forest : IsForest old) (p
     | inl stays ↦ elim (cases_bool (is_pointer (entry_at new b j))) [
       | inl pointer ↦ (
           let there : Points new b j (frame_of (entry_at new b j)) = record { table = stays; index = q.index; pointer = pointer; target = refl } in
-          let before = prunes.pointers b j (frame_of (entry_at new b j)) there in
           let P : ℕ → Type 0 = λ x. Points new b j x in
-          subst P (sym before.target ∙ q.target) there)
+          subst P (sym (prunes.pointers b j (frame_of (entry_at new b j)) there).target ∙ q.target) there)
       | inr stop ↦ absurd (unlinked (λ x y p. (
           let one = forest.one_way x y b j a (prunes.pointers x y a p) q in
           let P : ℕ × ℕ → Type 0 = λ z. Points new z.0 z.1 a in

@@ -9,38 +9,19 @@ use sync_journal::Journals;
 use sync_plans::{
     Call, PageBytes, PageUpdates, ROOM, Refusal, Scratch, file_facts, plan_commit, plan_open,
 };
-use vm_types::{FileInfo, FilePage};
+use vm_types::FilePage;
 
 /// Ends the test where the value isn't the one that is wanted. A test that said `assert_eq!` itself would be proved to end well at each place.
 pub(crate) fn equal<T: PartialEq + Debug + Drop>(rt: &impl Abort, got: T, want: T) {
     assert_eq!(rt; got, want);
 }
 
-/// A page of the image, and how many of its bytes lie inside its file.
-#[derive(Clone, Copy)]
-pub(crate) struct Place {
-    pub(crate) page: FilePage,
-    inside: usize,
-}
-
-/// All pages: of a file of 5,000 bytes, of one of a byte that may only be read, and of one of 4,096 bytes.
-pub(crate) const PLACES: [Place; 4] = [
-    Place {
-        page: FilePage { file: 0, page: 0 },
-        inside: 4096,
-    },
-    Place {
-        page: FilePage { file: 0, page: 1 },
-        inside: 904,
-    },
-    Place {
-        page: FilePage { file: 1, page: 0 },
-        inside: 1,
-    },
-    Place {
-        page: FilePage { file: 2, page: 0 },
-        inside: 4096,
-    },
+/// All pages, and how long their files are: one of 5,000 bytes, one of a byte that may only be read, and one of 4,096 bytes.
+pub(crate) const PLACES: [(FilePage, u32); 4] = [
+    (FilePage { file: 0, page: 0 }, 5000),
+    (FilePage { file: 0, page: 1 }, 5000),
+    (FilePage { file: 1, page: 0 }, 1),
+    (FilePage { file: 2, page: 0 }, 4096),
 ];
 
 /// A file of zeros.
@@ -73,19 +54,6 @@ pub(crate) fn rows_of(alloc: Global, disk: &SimDisk) -> Result<Vec<[u8; 512]>, A
     Ok(rows)
 }
 
-/// The bytes of all pages, each filled with its own byte up to its file's end.
-pub(crate) fn filled(alloc: Global, bytes: [u8; 4]) -> Result<Vec<u8>, AllocError> {
-    let mut all = Vec::new(alloc);
-    for (place, byte) in PLACES.iter().zip(bytes) {
-        let mut page = [0; 4096];
-        for to in page.iter_mut().take(place.inside) {
-            *to = byte;
-        }
-        all.extend_from_slice(&page)?;
-    }
-    Ok(all)
-}
-
 /// These pages, as they are lent.
 pub(crate) fn lent_of<'a>(
     alloc: Global,
@@ -98,13 +66,12 @@ pub(crate) fn lent_of<'a>(
     Ok(lent)
 }
 
-/// A plan, in vectors since its rows are eight megabytes, and the pages that were lent for it.
+/// A plan, in vectors since its rows are eight megabytes.
 #[derive(Drop)]
 pub(crate) struct Plan {
     pub(crate) used: usize,
     pub(crate) calls: Vec<Call>,
     rows: Vec<[u8; 512]>,
-    lent: Vec<[u8; 4096]>,
 }
 
 const NO_CALL: Call = Call {
@@ -119,14 +86,14 @@ fn blank(alloc: Global) -> Result<Plan, AllocError> {
         used: 0,
         calls: Vec::from_elem(alloc, NO_CALL, ROOM)?,
         rows: Vec::from_elem(alloc, [0; 512], ROOM)?,
-        lent: Vec::new(alloc),
     })
 }
 
-/// Makes so many calls of a plan, from `first` on.
+/// Makes so many calls of a plan, for which these pages were lent, from `first` on.
 pub(crate) fn carry_out(
     disk: &mut SimDisk,
     plan: &Plan,
+    lent: &[PageBytes<'_>],
     first: usize,
     count: usize,
 ) -> Result<(), Fail> {
@@ -135,8 +102,8 @@ pub(crate) fn carry_out(
         match call.kind {
             1 if call.sector < disk.sectors() => disk.write(call.sector, row)?,
             2 => disk.sync()?,
-            3 => match plan.lent.get(call.from as usize) {
-                Some(page) => write_page(disk, call.sector, page)?,
+            3 => match lent.get(call.from as usize) {
+                Some(page) => write_page(disk, call.sector, page.at)?,
                 None => return Err(Fail::new("a call of a page that is not lent")),
             },
             4 => {
@@ -184,38 +151,12 @@ impl Client {
         })
     }
 
-    /// Plans an opening, and returns how many calls it has.
-    pub(crate) fn open(&mut self, image: &[[u8; 512]]) -> Result<usize, Refusal> {
-        let Some(scratch_calls) = self.scratch.calls.as_mut_array() else {
-            return Err(Refusal::Device);
-        };
-        let Some(scratch_rows) = self.scratch.rows.as_mut_array() else {
-            return Err(Refusal::Device);
-        };
-        let Some(calls) = self.plan.calls.as_mut_array() else {
-            return Err(Refusal::Device);
-        };
-        let Some(rows) = self.plan.rows.as_mut_array() else {
-            return Err(Refusal::Device);
-        };
-        let scratch = Scratch {
-            calls: scratch_calls,
-            rows: scratch_rows,
-        };
-        self.plan.used = plan_open(image, scratch, calls, rows)?;
-        Ok(self.plan.used)
-    }
-
-    /// Plans a commit, and returns how many calls it has.
-    pub(crate) fn commit(
+    /// Plans an opening, or the commit of these pages, and returns how many calls it has.
+    pub(crate) fn ask(
         &mut self,
         image: &[[u8; 512]],
-        pages: &[FilePage],
-        bytes: &[PageBytes<'_>],
+        updates: Option<PageUpdates<'_>>,
     ) -> Result<usize, Refusal> {
-        if pages.len() != bytes.len() || self.lend(bytes).is_err() {
-            return Err(Refusal::Device);
-        }
         let Some(scratch_calls) = self.scratch.calls.as_mut_array() else {
             return Err(Refusal::Device);
         };
@@ -232,66 +173,64 @@ impl Client {
             calls: scratch_calls,
             rows: scratch_rows,
         };
-        let updates = PageUpdates { pages, bytes };
-        self.plan.used = plan_commit(image, scratch, calls, rows, updates)?;
+        self.plan.used = match updates {
+            Some(updates) if updates.pages.len() == updates.bytes.len() => {
+                plan_commit(image, scratch, calls, rows, updates)?
+            }
+            Some(_) => return Err(Refusal::Device),
+            None => plan_open(image, scratch, calls, rows)?,
+        };
         Ok(self.plan.used)
     }
 
-    /// Keeps the pages that are lent for a plan.
-    fn lend(&mut self, bytes: &[PageBytes<'_>]) -> Result<(), AllocError> {
-        self.plan.lent.clear();
-        for page in bytes {
-            self.plan.lent.push(*page.at)?;
-        }
-        Ok(())
-    }
-
-    /// Reads a page.
-    pub(crate) fn read(
+    /// The byte that fills a page up to its file's end, which is where it has to be.
+    fn byte_of(
         &mut self,
         image: &[[u8; 512]],
         page: FilePage,
-        to: &mut [u8; 4096],
-    ) -> Result<(), Refusal> {
+        length: u32,
+    ) -> Result<Option<u8>, Refusal> {
         let Some(calls) = self.scratch.calls.as_mut_array() else {
             return Err(Refusal::Device);
         };
         let Some(rows) = self.scratch.rows.as_mut_array() else {
             return Err(Refusal::Device);
         };
-        sync_plans::read_page(image, Scratch { calls, rows }, page, to)
+        let scratch = Scratch {
+            calls: &mut *calls,
+            rows: &mut *rows,
+        };
+        match file_facts(image, scratch, page.file)? {
+            Some(info) if info.length == length => {}
+            _ => return Ok(None),
+        }
+        let mut bytes = [0; 4096];
+        sync_plans::read_page(image, Scratch { calls, rows }, page, &mut bytes)?;
+        let inside = length.saturating_sub(page.page.saturating_mul(4096)) as usize;
+        for at in 0..4096 {
+            let wanted = if at < inside { bytes[0] } else { 0 };
+            if bytes[at] != wanted {
+                return Ok(None);
+            }
+        }
+        Ok(Some(bytes[0]))
     }
 
-    /// The facts of a file.
-    pub(crate) fn facts(
-        &mut self,
-        image: &[[u8; 512]],
-        file: u8,
-    ) -> Result<Option<FileInfo>, Refusal> {
-        let Some(calls) = self.scratch.calls.as_mut_array() else {
-            return Err(Refusal::Device);
-        };
-        let Some(rows) = self.scratch.rows.as_mut_array() else {
-            return Err(Refusal::Device);
-        };
-        file_facts(image, Scratch { calls, rows }, file)
-    }
-
-    /// Opens what a device holds, and returns the bytes of all pages.
-    pub(crate) fn opened(&mut self, alloc: Global, disk: &mut SimDisk) -> Result<Vec<u8>, Fail> {
-        let Ok(calls) = self.open(&rows_of(alloc, disk)?) else {
+    /// Opens what a device holds, and returns the bytes that fill all pages.
+    pub(crate) fn opened(&mut self, alloc: Global, disk: &mut SimDisk) -> Result<[u8; 4], Fail> {
+        let Ok(calls) = self.ask(&rows_of(alloc, disk)?, None) else {
             return Err(Fail::new("the image was not opened"));
         };
-        carry_out(disk, &self.plan, 0, calls)?;
+        carry_out(disk, &self.plan, &[], 0, calls)?;
         let image = rows_of(alloc, disk)?;
-        let mut all = Vec::new(alloc);
-        for place in PLACES {
-            let mut page = [0; 4096];
-            if self.read(image.as_slice(), place.page, &mut page) != Ok(()) {
-                return Err(Fail::new("a page was not read"));
-            }
-            all.extend_from_slice(&page)?;
+        let mut found = [0; 4];
+        for i in 0..4 {
+            let (page, length) = PLACES[i];
+            let Ok(Some(byte)) = self.byte_of(image.as_slice(), page, length) else {
+                return Err(Fail::new("a page was not read, or has other bytes"));
+            };
+            found[i] = byte;
         }
-        Ok(all)
+        Ok(found)
     }
 }

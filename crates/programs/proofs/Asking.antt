@@ -1,15 +1,10 @@
 -- What is asked of a device where a file is shown.
-use Rattle.std.proofs.{Common.{◌≡◌, ℕ, ◌<◌, ◌+◌, ◌*◌, List, [], Option, Some, sym, ap, subst, ◌∙◌, inl, inr, arith}, lemmas.Option.{same_Some}}
-use Rattle.std.specs.Option.{option_map}
-use Rattle.disk_model.specs.{Stop.{Image}, Moments.{Touches, Nothing, AsksOnly, LeavesNow, LeavesOnly}, declared.sector_disk.SectorDisk.{Ghosts}}
-use Rattle.disk_model.proofs.Moments.{asks_then, asks_wider, then}
-use Rattle.vm_types.specs.declared.file.FileInfo.{FileInfo}
-use Rattle.sync_journal.specs.{Layout.{IsPageSector}, Map.{place_among, home_rank}, Standing.{place_or_home}, Turns.{turn_stands}, Kinds.{is_kind, kind_when, kind_of, kind_home, journal_kind, journal_stands, store_live, IsStoreRecovered}}
-use Rattle.sync_journal.specs.{declared.store_journal.Journals.{Journals}, declared.store_journal.StoreJournal.{StoreJournal}, declared.store_journal.StoreJournal.TheVariants.{One, InTurn}}
-use Rattle.file_store.proofs.{Images.{same_head, entry_same}, Outside.{left_outside}}
-use Rattle.file_store.specs.{declared.directory.Directory.{Directory}, declared.directory.Entry.{Entry}, declared.store.FileStore.{FileStore}, Standing.{IsAskedToOpen, IsPageOf, StandsAs, directory_entry}}
-use Rattle.file_store.specs.Store.{IsReadyStore, IsSectorOf, entry_of, files_of, entry_home, home_of}
-use Rattle.programs.{specs.Showing.{IsAskedToShow, IsInHomesOf, IsSectorOfFile, KeepsImage, KeepsToFile, OnlyReads}, proofs.Copies.{has_entry, same_content, still_stands}}
+use Rattle.{std.{proofs.{Common.{◌≡◌, ℕ, ◌<◌, ◌+◌, ◌*◌, List, [], Option, Some, sym, ap, subst, ◌∙◌, inl, inr, arith}, lemmas.Option.{same_Some}}, specs.Option.{option_map}}, disk_model.proofs.Moments.{asks_then, asks_wider, then}}
+use Rattle.{disk_model.specs.{Moments.{Touches, Nothing, AsksOnly, LeavesNow, LeavesOnly}, Stop.{Image}, declared.sector_disk.SectorDisk.{Ghosts}}, vm_types.specs.declared.file.FileInfo.{FileInfo}, sync_journal.specs.Kinds.{is_kind}}
+use Rattle.sync_journal.specs.{Kinds.{kind_when, kind_of, kind_home, journal_kind, journal_stands, store_live, IsStoreRecovered}, Layout.{IsPageSector}, Map.{place_among, home_rank}, Standing.{place_or_home}, Turns.{turn_stands}}
+use Rattle.{sync_journal.specs.declared.store_journal.{Journals.{Journals}, StoreJournal.{StoreJournal, TheVariants.{One, InTurn}}}, file_store.proofs.{Images.{same_head, entry_same}, Outside.{left_outside}}}
+use Rattle.file_store.specs.{Standing.{IsAskedToOpen, IsPageOf, StandsAs, directory_entry}, Store.{IsReadyStore, IsSectorOf, entry_of, files_of, entry_home, home_of}, declared.directory.{Directory.{Directory}, Entry.{Entry}}}
+use Rattle.{file_store.specs.declared.store.FileStore.{FileStore}, programs.{proofs.Copies.{has_entry, same_content, still_stands}, specs.Showing.{IsAskedToShow, IsInHomesOf, IsSectorOfFile, KeepsImage, KeepsToFile, OnlyReads}}}
 
 -- where nothing stands in a journal alone, a page stands in its home
 at_home : (journal : StoreJournal) (h k : ℕ) → store_live journal ≡ [] → IsPageSector (journal_stands journal h) k → IsPageSector (kind_home (journal_kind journal) h) k

@@ -1,16 +1,10 @@
 -- A file written out page by page.
 use Rattle.std.proofs.Common.{◌≡◌, ℕ, zero, suc, ◌+◌, ◌-◌, ◌*◌, ◌<◌, ◌≤◌, List, ◌++◌, length, take, drop, min, Option, Some, None, refl, sym, ap, ◌∙◌, inl, inr, ⊎_elim, arith, append_assoc, length-append, length-take}
-use Rattle.std.proofs.{lemmas.Bool.{cases_lt}, lemmas.List.{take_all, take-take, drop-take, take-append-le, drop-append-le, drop_at, length-drop}, lemmas.Option.{same_Some, none-some}, Math.Seq.{take-add}, KnownBytes.{Appends-trans}}
-use Rattle.std.specs.{Option.{option_map}, Io.KnownBytes.{Appends}}
-use Rattle.disk_model.specs.{Stop.{Image}, Moments.{Touches, Nothing, LeavesNow, LeavesOnly}, declared.sector_disk.SectorDisk.{Ghosts}, Sectors.{joined}}
-use Rattle.disk_model.proofs.{Moments.{goes_on}, Pieces.{joined-none, joined-same, joined-more}}
-use Rattle.vm_types.specs.declared.file.FileInfo.{FileInfo}
-use Rattle.file_store.specs.{declared.directory.Entry.{Entry}, declared.faults.OpenFault.{OpenFault}, declared.store.FileStore.{FileStore}, Layout.{pages_of_length, bytes_inside}}
-use Rattle.file_store.specs.{Standing.{StandsFor, StandsAs, bytes_of_pages, directory_entry, file_info, standing, standing_page, page_standing, standing_file}, Store.{IsReadyStore, files_of, entry_of}}
-use Rattle.runner.specs.Bytes.{WritesBeginning}
-use Rattle.file_store.proofs.Pieces.{length-trimmed}
-use Rattle.programs.specs.declared.showing.ShowFault.{ShowFault}
-use Rattle.programs.specs.declared.showing.ShowFault.TheVariants.{Open as OpenFailed}
+use Rattle.std.proofs.{KnownBytes.{Appends-trans}, Math.Seq.{take-add}, lemmas.{Bool.{cases_lt}, List.{take_all, take-take, drop-take, take-append-le, drop-append-le, drop_at, length-drop}, Option.{same_Some, none-some}}}
+use Rattle.{std.specs.{Io.KnownBytes.{Appends}, Option.{option_map}}, disk_model.{proofs.{Moments.{goes_on}, Pieces.{joined-none, joined-same, joined-more}}, specs.{Moments.{Touches, Nothing, LeavesNow, LeavesOnly}, Sectors.{joined}}}}
+use Rattle.{disk_model.specs.{Stop.{Image}, declared.sector_disk.SectorDisk.{Ghosts}}, vm_types.specs.declared.file.FileInfo.{FileInfo}, file_store.{proofs.Pieces.{length-trimmed}, specs.Layout.{pages_of_length, bytes_inside}}}
+use Rattle.file_store.specs.{Standing.{StandsFor, StandsAs, bytes_of_pages, directory_entry, file_info, standing, standing_page, page_standing, standing_file}, Store.{IsReadyStore, files_of, entry_of}, declared.directory.Entry.{Entry}}
+use Rattle.{file_store.specs.declared.{faults.OpenFault.{OpenFault}, store.FileStore.{FileStore}}, runner.specs.Bytes.{WritesBeginning}, programs.specs.declared.showing.ShowFault.{ShowFault, TheVariants.{Open as OpenFailed}}}
 
 -- why an image could not be opened, or another fault where it was
 opened_with : OpenFault → ShowFault → OpenFault

@@ -1,8 +1,7 @@
 -- Specs, and the sources that serve them.
-use Rattle.std.proofs.{Common.{◌≡◌, ℕ, ◌+◌, ◌<◌, ◌^◌, List, [], ◌∷◌, ◌++◌, codes, Option, Some, None, sym, ap, ◌∙◌, subst, length, take, map, get_or, Bor}, lemmas.List.{append_cancel_left, take_more, map-append}, lemmas.Option.{none-some}}
-use Rattle.file_store.specs.declared.sources.FileSource.{FileSource}
-use Rattle.trace_lang.specs.Grammar.{IsNumber}
-use Rattle.programs.specs.{declared.sources.FileSpec.{FileSpec}, declared.sources.FileSpec.TheVariants.{Zeros, Writable, ReadOnly}, Specs.{IsSpec, IsSourceOf, AreSpecSources}}
+use Rattle.std.proofs.{Common.{◌≡◌, ℕ, ◌+◌, ◌<◌, ◌^◌, List, [], ◌∷◌, ◌++◌, codes, Option, Some, None, sym, ap, ◌∙◌, subst, length, take, map, get_or, Bor}, lemmas.{List.{append_cancel_left, take_more, map-append}, Option.{none-some}}}
+use Rattle.{file_store.specs.declared.sources.FileSource.{FileSource}, trace_lang.specs.Grammar.{IsNumber}, programs.specs.{Specs.{IsSpec, IsSourceOf, AreSpecSources}, declared.sources.FileSpec.{FileSpec, TheVariants.{Zeros, Writable}}}}
+use Rattle.programs.specs.declared.sources.FileSpec.TheVariants.{ReadOnly}
 
 -- of zeros, and what follows is no number that serves
 pub no_spec : (text digits : List ℕ) (read : Option ℕ) → ((rest : List ℕ) → text ≡ codes "rw:" ++ rest → ⊥) → ((rest : List ℕ) → text ≡ codes "ro:" ++ rest → ⊥)

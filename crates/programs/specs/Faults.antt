@@ -1,7 +1,7 @@
 -- What faults, and the ends of runs, are told by.
 use Rattle.std.specs.Prelude.{◌≡◌, ◌⊎◌, ℕ, List, Bool, true, false}
-use Rattle.clap.specs.declared.error.kind.ErrorKind.{ErrorKind}
-use Rattle.clap.specs.declared.error.kind.ErrorKind.TheVariants.{OutOfMemory as MemoryKind}
+use Rattle.command_words.specs.declared.faults.WordsFault.{WordsFault}
+use Rattle.command_words.specs.declared.faults.WordsFault.TheVariants.{Usage as OtherWords, OutOfMemory as NoRoom}
 use Rattle.programs.specs.declared.faults.ProgramFault.{ProgramFault}
 use Rattle.programs.specs.declared.faults.ProgramFault.TheVariants.{Usage, OutOfMemory, CannotOpen, Boot, ReadFailed, WriteFailed}
 use Rattle.programs.specs.declared.showing.CopyFault.{CopyFault}
@@ -16,10 +16,10 @@ abbrev pub fault_status : ProgramFault → ℕ
 fault_status Usage = 2
 fault_status fault = 1
 
--- why words are not taken: memory was wanting, or they are not those of the program
-abbrev pub words_fault : ErrorKind → ProgramFault
-words_fault MemoryKind = OutOfMemory
-words_fault kind = Usage
+-- the fault of a program whose words are not taken
+abbrev pub words_fault : WordsFault → ProgramFault
+words_fault OtherWords = Usage
+words_fault NoRoom = OutOfMemory
 
 -- the file of this name can't be opened
 abbrev pub IsUnopened : List ℕ → ProgramFault → Type 0

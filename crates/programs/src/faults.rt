@@ -1,10 +1,9 @@
 //! Why a program gives up, and how it says so.
 ghost use Rattle.std.specs.Prelude.{◌≡◌, IfOk, IfErr};
-ghost use Rattle.clap.specs.Values.{kind_of};
 ghost use Rattle.programs.specs.Faults.{fault_status, words_fault};
 
 use crate::showing::ShowFault;
-use clap::error::ErrorKind;
+use command_words::WordsFault;
 use file_store::{FormatFault, OpenFault, UpgradeFault};
 use machine::BootFault;
 use std::alloc::AllocError;
@@ -77,13 +76,13 @@ impl From<AllocError> for ProgramFault<'_> {
     }
 }
 
-impl From<clap::Error> for ProgramFault<'_> {
-    ghost from_gives = { λ error fault. fault ≡ words_fault (kind_of error) };
+impl From<WordsFault> for ProgramFault<'_> {
+    ghost from_gives = { λ fault told. told ≡ words_fault fault };
 
-    fn from(error: clap::Error) -> Self {
-        match error.kind() {
-            ErrorKind::OutOfMemory => ProgramFault::OutOfMemory,
-            _ => ProgramFault::Usage,
+    fn from(fault: WordsFault) -> Self {
+        match fault {
+            WordsFault::Usage => ProgramFault::Usage,
+            WordsFault::OutOfMemory => ProgramFault::OutOfMemory,
         }
     }
 }

@@ -7,7 +7,7 @@ use crate::files::{Access, disk_in, has_mark, lengthen, open_alone, open_regular
 use crate::places::held_places;
 use crate::sources::open_sources;
 use crate::upgrading::upgrade_image;
-use crate::words::{FormatWords, NewWords, format_words};
+use command_words::{FormatWords, NewWords, format_words};
 use disk_model::{FileContents, FileDisk, SectorDisk, Unknown};
 use file_store::{FileSource, FormatFault, format, image_bytes};
 use std::fs::{self, File, Files, TryLockError};

@@ -4,21 +4,17 @@
 mod faults;
 mod files;
 mod formatting;
-mod numbers;
 mod places;
 mod running;
 mod showing;
 mod sources;
 mod start;
 mod upgrading;
-mod words;
 
 pub use faults::{ProgramFault, report};
 pub use formatting::pagefmt;
-pub use numbers::number;
 pub use places::held_places;
 pub use running::{boot_image, pagerun, status_of};
 pub use showing::{ShowFault, pagecat, show, show_opened};
 pub use sources::open_sources;
 pub use start::given_words;
-pub use words::{DEFAULT_CONFIG, RunWords, run_words};

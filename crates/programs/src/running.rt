@@ -6,9 +6,9 @@ ghost use Rattle.programs.specs.Faults.{IsEndFault, IsUnstarted, end_status};
 use crate::faults::{ProgramFault, report};
 use crate::files::{Access, disk_in, open_alone, open_lengthened, settled};
 use crate::places::held_places;
-use crate::words::{RunWords, run_words};
+use command_words::{RunWords, run_words};
 use disk_model::{FileContents, FileDisk, SectorDisk, Unknown};
-use machine::{BootFault, Machine};
+use machine::{BootFault, Config, Machine};
 use runner::{RunEnd, run};
 use std::fs::{File, Files};
 use std::io::{Read, Write};
@@ -73,10 +73,15 @@ pub fn boot_image<'a, C: FileContents, K: FileContents, R: Files<File = File> + 
     ensures told { IfErr result (IsUnstarted words.now.image.now words.now.swap.now) }
 {
     let store = disk_in::<C>(words.image, open_alone(rt, words.image, Access::Write))?;
-    let length = swap_bytes(words.config.slots);
+    let length = swap_bytes(words.slots);
     let swap = disk_in::<K>(words.swap, open_lengthened(rt, words.swap, length))?;
     let swap = settled(swap, ProgramFault::CannotOpen(words.swap))?;
-    match Machine::boot(rt.alloc(), words.config, store, swap) {
+    let config = Config {
+        frames: words.frames,
+        slots: words.slots,
+        mode: words.mode,
+    };
+    match Machine::boot(rt.alloc(), config, store, swap) {
         Ok(machine) => Ok(machine),
         Err((fault, store)) => Err(ProgramFault::Boot(told(fault, store.is_settled()))),
     }

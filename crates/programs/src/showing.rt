@@ -11,7 +11,7 @@ ghost use Rattle.runner.specs.Bytes.{WritesBeginning};
 use crate::faults::{ProgramFault, report};
 use crate::files::{disk_in, open_to_show, settled};
 use crate::places::held_places;
-use crate::words::cat_words;
+use command_words::cat_words;
 use disk_model::{DiskFault, FileContents, SectorDisk, Unknown};
 use file_store::{FileStore, OpenFault};
 use runner::{WriteFault, write_bytes};

@@ -5,7 +5,7 @@ ghost use Rattle.programs.specs.Specs.{IsSpec, IsSourceOf, AreSpecSources};
 
 use crate::faults::ProgramFault;
 use crate::files::open_to_read;
-use crate::numbers::number;
+use command_words::number;
 use file_store::FileSource;
 use std::alloc::Global;
 use std::fs::{File, Files};

@@ -3,7 +3,7 @@ use crate::faults::ProgramFault;
 use crate::files::{Access, disk_in, open_alone};
 use crate::formatting::{image_file, lengthened, set_back};
 use crate::places::held_places;
-use crate::words::UpgradeWords;
+use command_words::UpgradeWords;
 use disk_model::{FileContents, FileDisk, SECTOR_BYTES, SectorDisk};
 use file_store::{UpgradeFault, upgrade};
 use std::fs::{File, Files};

@@ -2,10 +2,8 @@
 use Rattle.vm_types.specs.declared.mode.Levels as Levels
 use Rattle.ranges.proofs.Names.{top_level, ◌≡◌, ◌≢◌, ℕ, suc, inl, inr, ◌⊎◌, ◌+◌, ◌<◌, ◌≤◌, true, Option, Some, None, get_or, refl, sym, ap, ◌∙◌, arith, rules, cases_eq, cases_lt, false≢true, Free, FrameTable, role_of, is_valid, IsPage}
 use Rattle.ranges.proofs.Names.{IsTable, IsTableOf, KeepsFrames, SetsEntry, way_forth, row_stays, Core, Seat, InSlot, seat, Picture, entry, IsRootedBut, IsFit, Nothing, nowhere, SameBeside, SetsPage, valid_zero, seat_number, fit_set}
-use Rattle.ranges.proofs.Names.{other_views, set_held, seat-none, sets_page, rooted_set}
-use Rattle.std.specs.Prelude.{◌↔◌}
-use Rattle.ranges.specs.Steps.{IsBeside, KeepsBesideMemory, SameButMemory, SameTables, ReturnsTables, ReturnsRowTables, ReturnsSlots, Clears, LacksHolder, ReturnsSeat}
-use Rattle.ranges.proofs.{Returning.{same_but-refl}, Sharing.{fit_emptied, owned_emptied}}
+use Rattle.ranges.{proofs.{Names.{other_views, set_held, seat-none, sets_page, rooted_set}, Returning.{same_but-refl}, Sharing.{fit_emptied, owned_emptied}}, specs.Steps.{IsBeside, KeepsBesideMemory, SameButMemory, SameTables}}
+use Rattle.{ranges.specs.Steps.{ReturnsTables, ReturnsRowTables, ReturnsSlots, Clears, LacksHolder, ReturnsSeat}, std.specs.Prelude.{◌↔◌}}
 
 -- another memory beside the same regions and places
 pub same_beside : {mode : ℕ} (c : Picture mode) (t : FrameTable) → SameBeside c (record c { frames = t })
@@ -48,10 +46,7 @@ module _ {mode : ℕ} where
 
   pub returned_any : (a b : Picture mode) (pid low high : ℕ) → ReturnsRowTables a b pid low high → ReturnsTables a b pid
   returned_any a b pid low high one = record {
-    tables = λ n table. elim (one.tables n table) [
-      | inl still ↦ inl still
-      | inr gone ↦ (let on = gone.1 in inr (gone.0, (on.0, on.1, on.2, on.3)))
-    ];
+    tables = λ n table. elim (one.tables n table) [ inl still ↦ inl still | inr gone ↦ (let on = gone.1 in inr (gone.0, (on.0, on.1, on.2, on.3))) ];
     free = one.free;
     copies = one.copies;
     pointers = one.pointers;
@@ -99,10 +94,7 @@ by_row pid low high q page = elim (cases_eq q pid) [
   | inr ne ↦ inl (inl ne)
   | inl is ↦ elim (cases_lt page low) [
     | inl before ↦ inl (inr (inl before))
-    | inr from ↦ elim (cases_lt page high) [
-      | inl below ↦ inr (is, from, below)
-      | inr past ↦ inl (inr (inr past))
-    ]
+    | inr from ↦ elim (cases_lt page high) [ inl below ↦ inr (is, from, below) | inr past ↦ inl (inr (inr past)) ]
   ]
 ]
 
@@ -139,8 +131,7 @@ slots_then a b c pid low mid high fit le le' same one two = record {
     | inr back ↦ (
         let first : b.slots.count k ≡ a.slots.count k = one.kept k (λ q hq from under there.
         (let p : page ≡ q = one_page a pid page q (InSlot k) fit h hq is there in omega (arith, p, back, under))) in
-        let second = two.given k page h back below (ap seat (same page h back below) ∙ is) in
-        omega (arith, first, second))
+        omega (arith, first, two.given k page h back below (ap seat (same page h back below) ∙ is)))
   ];
   kept = λ k other. (
       let first = one.kept k (λ q hq from under. other q hq from (omega (arith, under, le'))) in
@@ -228,9 +219,7 @@ module _ {mode : ℕ} (old mid : Picture mode) (pid r page : ℕ) (fit : IsFit o
       total = gives.slots.total ∙ ap (λ t. t.total) beside.slots;
       fewer = λ k. (let f = gives.slots.fewer k in let e = ap (λ t. t.count k) beside.slots in omega (arith, f, e));
       given = λ k p hp least below is. (
-          let e = ap (λ t. t.count k) beside.slots in
-          let g = gives.slots.given k (sym (seat_of p (is_page p least below)) ∙ is) in
-          omega (arith, e, g));
+          omega (arith, ap (λ t. t.count k) beside.slots, gives.slots.given k (sym (seat_of p (is_page p least below)) ∙ is)));
       kept = λ k other. gives.slots.kept k (λ is. other page h (omega arith) (omega arith) is) ∙ ap (λ t. t.count k) beside.slots;
       bytes = λ k used. gives.slots.bytes k used ∙ ap (λ t. t.bytes k) beside.slots;
     }

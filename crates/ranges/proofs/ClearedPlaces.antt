@@ -1,8 +1,7 @@
 -- A page without its entry, which stood at a place of a lowest table.
-use Rattle.ranges.proofs.Names.{top_level, ◌≡◌, ◌≢◌, ℕ, inl, inr, ◌+◌, ◌/◌, ◌%◌, ◌<◌, ◌≤◌, sym, ◌∙◌, subst, arith, cases_eq, FrameTable, SetsEntry, IsPageEntry, IsPage, IsRoot, page_entry, IsTableOf, page_is_entry, seat, Picture, entry}
-use Rattle.ranges.proofs.Names.{entry-of}
-use Rattle.ranges.specs.{declared.rows.TableRow.{TableRow}, RowsCleared.{HoldsPlaces}, Steps.{Clears, LacksHolder, ReturnsSeat, SameTables}}
-use Rattle.ranges.proofs.{BetweenEntries.{place_at, row_at}, ClearedPages.{same_beside, lacks_out, tables_page, places_page, clears_page}, Gaps.{user_inside}}
+use Rattle.ranges.proofs.{BetweenEntries.{place_at, row_at}, ClearedPages.{same_beside, lacks_out, tables_page, places_page, clears_page}, Gaps.{user_inside}, Names.{top_level, ◌≡◌, ◌≢◌, ℕ, inl, inr, ◌+◌, ◌/◌, ◌%◌, ◌<◌, ◌≤◌, sym, ◌∙◌}}
+use Rattle.ranges.{proofs.Names.{subst, arith, cases_eq, FrameTable, SetsEntry, IsPageEntry, IsPage, IsRoot, page_entry, IsTableOf, page_is_entry, seat, Picture, entry, entry-of}, specs.{RowsCleared.{HoldsPlaces}, Steps.{Clears}}}
+use Rattle.ranges.specs.{Steps.{LacksHolder, ReturnsSeat, SameTables}, declared.rows.TableRow.{TableRow}}
 
 -- The place after one without an entry, from which on a search goes, is a later one.
 pub past : {mode : ℕ} (c : Picture mode) (r n first index end e next : ℕ) → IsTableOf c.frames (top_level mode) r (first / 512) n → first % 512 ≡ 0 → index < end → end ≤ 512

@@ -94,8 +94,7 @@ module _ {mode : ℕ} (old new : Picture mode) (pid first pages low high : ℕ) 
       beside_it q p here = elim (by_row pid first (first + pages) q p) [
         | inl out ↦ out
         | inr inside ↦ (
-            let user = ((granting.user q).user_pages p here.0).0 in
-            absurd (not_beside pid low high q p here.1 inside.0 (omega (arith, begins, inside, user)) (omega (arith, inside, ends))))
+            absurd (not_beside pid low high q p here.1 inside.0 (omega (arith, begins, inside, ((granting.user q).user_pages p here.0).0)) (omega (arith, inside, ends))))
       ]
 
       by_use : IsUsed new (IsMappedBeside new pid low high) m → IsUsed new (IsMappedBeside new pid first (first + pages)) m

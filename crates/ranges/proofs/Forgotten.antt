@@ -1,10 +1,9 @@
 -- A row was cleared, and then the pages of objects that it alone named were forgotten.
 use Rattle.vm_types.specs.declared.mode.Levels as Levels
-use Rattle.ranges.proofs.Names.{user_end, Attr, is_named, ObjectPage, PageKey, Object, ◌≡◌, ℕ, inl, inr, ◌+◌, ◌≤◌, Option, sym, ap, ◌∙◌, subst, arith, cases_eq, IsSome, Free, Table, Private, Cache, frame_count, cache_frames, place_of}
-use Rattle.ranges.proofs.Names.{IsTable, Core, IsFit, Picture, picture_of, used_kept}
+use Rattle.ranges.proofs.{Emptied.{pages_inside}, LastName.{without_same}, Names.{user_end, Attr, is_named, ObjectPage, PageKey, Object, ◌≡◌, ℕ, inl, inr, ◌+◌, ◌≤◌, Option, sym, ap, ◌∙◌, subst, arith, cases_eq, IsSome, Free, Table}}
+use Rattle.ranges.{proofs.Names.{Private, Cache, frame_count, cache_frames, place_of, IsTable, Core, IsFit, Picture, picture_of, used_kept}, specs.{Rows.{RemapsRow, ForgetsRow, KeepsNamed, IsLasting, without_maps}, RowsCleared.{ClearsRow}}}
+use Rattle.ranges.specs.{RowsForgotten.{ForgetsNames}, Steps.{KeepsEntriesOfOthers, ReturnsRowTables, LosesSlots, IsMappedBeside, IsWithoutTables}}
 use Rattle.vm_types.specs.declared.object.PageKey.TheVariants as Objects
-use Rattle.ranges.specs.{Rows.{RemapsRow, ForgetsRow, KeepsNamed, IsLasting, without_maps}, RowsCleared.{ClearsRow}, RowsForgotten.{ForgetsNames}, Steps.{KeepsEntriesOfOthers, ReturnsRowTables, LosesSlots, IsMappedBeside, IsWithoutTables}}
-use Rattle.ranges.proofs.{Emptied.{pages_inside}, LastName.{without_same}}
 
 -- what other pages in the place of a row's come to, which are those of a map
 module _ {mode : ℕ} where
@@ -59,10 +58,7 @@ module _ {M : Type 0} {m : Levels.Ghosts M} {D E : Type 0} (before between after
       (λ q page is. (subst (λ (o : _). IsSome o) (sym (forgets.at q page)) is.0, is.1)) (clears.none_left n (table_was n table))
 
   same_names : (p : ObjectPage) → is_named (without_maps mid.at pid first pages) p.object p.page ≡ is_named (without_maps old.at pid first pages) p.object p.page
-  same_names p = without_same old.at mid.at pid first pages p (λ q k. elim (cases_eq q pid) [
-    | inl is ↦ rw is (row.at k)
-    | inr ne ↦ row.others_at q k ne
-  ])
+  same_names p = without_same old.at mid.at pid first pages p (λ q k. elim (cases_eq q pid) [ inl is ↦ rw is (row.at k) | inr ne ↦ row.others_at q k ne ])
 
   lasting_then : (p : PageKey) → IsLasting (without_maps old.at pid first pages) p → IsLasting (without_maps mid.at pid first pages) p
   lasting_then (Objects.File f) is = is
@@ -84,17 +80,11 @@ module _ {M : Type 0} {m : Levels.Ghosts M} {D E : Type 0} (before between after
       tables = λ n table. elim (clears.row_tables.tables n table) [
         | inl still ↦ inl (table_on n still)
         | inr gone ↦ inr (
-          elim (forgets.roles n) [
-            | inl e ↦ e ∙ gone.0
-            | inr now ↦ now.0
-          ],
+          elim (forgets.roles n) [ inl e ↦ e ∙ gone.0 | inr now ↦ now.0 ],
           gone.1,
         )
       ];
-      free = λ n e. (let was = clears.row_tables.free n e in elim (forgets.roles n) [
-        | inl same ↦ same ∙ was
-        | inr gone ↦ gone.0
-      ]);
+      free = λ n e. (let was = clears.row_tables.free n e in elim (forgets.roles n) [ inl same ↦ same ∙ was | inr gone ↦ gone.0 ]);
       copies = λ n e. elim (forgets.roles n) [
         | inl same ↦ clears.row_tables.copies n (sym same ∙ e)
         | inr gone ↦ absurd (let bad : Free ≡ Private = sym gone.0 ∙ e in (cc))
@@ -113,10 +103,7 @@ module _ {M : Type 0} {m : Levels.Ghosts M} {D E : Type 0} (before between after
       gone = λ p is. forgets.keeps.gone p (same_names p ∙ is);
       files = λ f. forgets.keeps.files f ∙ clears.files.files f;
       held = λ p lasting. elim (forgets.keeps.held p (lasting_then p lasting)) [
-        | inl same ↦ elim (clears.files.held p) [
-          | inl before ↦ inl (same ∙ before)
-          | inr home ↦ inr (same ∙ home.0, home.1)
-        ]
+        | inl same ↦ elim (clears.files.held p) [ inl before ↦ inl (same ∙ before) | inr home ↦ inr (same ∙ home.0, home.1) ]
         | inr home ↦ inr (home.0, sym (clears.files.touched p) ∙ home.1)
       ];
     };

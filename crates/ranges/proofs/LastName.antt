@@ -8,10 +8,7 @@ use Rattle.ranges.{specs.Rows.{IsBareRow, IsLasting, ForgetsMore, ForgetsRow, no
 module _ (mode : ℕ) (at : Maps) (pid first pages : ℕ) where
   beside_same : (q k : ℕ) → (q ≢ pid) ⊎ (in_row first pages k ≡ false) → without_maps at pid first pages q k ≡ at q k
   beside_same q k (inl ne) = rw (ne_eqb q pid ne) refl
-  beside_same q k (inr out) = elim (cases_eq q pid) [
-    | inr ne ↦ rw (ne_eqb q pid ne) refl
-    | inl is ↦ rw (eq-eqb q pid is, out) (ap (λ x. at x k) (sym is))
-  ]
+  beside_same q k (inr out) = elim (cases_eq q pid) [ inr ne ↦ rw (ne_eqb q pid ne) refl | inl is ↦ rw (eq-eqb q pid is, out) (ap (λ x. at x k) (sym is)) ]
 
   row_none : (k : ℕ) → in_row first pages k ≡ true → without_maps at pid first pages pid k ≡ None
   row_none k inside = rw (eq-eqb pid pid refl, inside) refl
@@ -79,10 +76,7 @@ slot_number (Slot j) = j.0
 slot_number x = 0
 
 slot_or : (x : Place) (k : ℕ) → (x ≡ Slot (record { 0 = k })) ⊎ (x ≢ Slot (record { 0 = k }))
-slot_or (Slot j) k = elim (cases_eq j.0 k) [
-  | inl e ↦ inl (ap (λ i. Slot (record { 0 = i })) e)
-  | inr ne ↦ inr (λ e. ne (ap slot_number e))
-]
+slot_or (Slot j) k = elim (cases_eq j.0 k) [ inl e ↦ inl (ap (λ i. Slot (record { 0 = i })) e) | inr ne ↦ inr (λ e. ne (ap slot_number e)) ]
 slot_or x k = inr (λ e. (cc))
 
 pub more_then : {mode : ℕ} (a b c : Picture mode) (pid first pages : ℕ) (p : ObjectPage) → IsFit b → ForgetsMore a b pid first pages → Forgets b c p
@@ -96,15 +90,9 @@ more_then a b c pid first pages p fit more forgets unnamed = record {
     views = λ q page. forgets.views q page ∙ more.views q page;
     frames = forgets.frames ∙ more.frames;
     roles = λ n. elim (forgets.roles n) [
-      | inl same ↦ elim (more.roles n) [
-        | inl e ↦ inl (same ∙ e)
-        | inr gone ↦ inr (same ∙ gone.0, gone.1)
-      ]
+      | inl same ↦ elim (more.roles n) [ inl e ↦ inl (same ∙ e) | inr gone ↦ inr (same ∙ gone.0, gone.1) ]
       | inr free ↦ (
-          elim (more.roles n) [
-            | inl e ↦ inr (free.0, sym e ∙ fit.places.cached (Object p) n free.1)
-            | inr gone ↦ inr (free.0, gone.1)
-          ])
+          elim (more.roles n) [ inl e ↦ inr (free.0, sym e ∙ fit.places.cached (Object p) n free.1) | inr gone ↦ inr (free.0, gone.1) ])
     ];
     pointers = λ n i m. (λ x. (forgets.pointers n i m).0 ((more.pointers n i m).0 x), λ x. (more.pointers n i m).1 ((forgets.pointers n i m).1 x));
     total = forgets.total ∙ more.total;
@@ -126,15 +114,11 @@ more_then a b c pid first pages p fit more forgets unnamed = record {
   files = λ f. forgets.files f ∙ more.files f;
   place = λ q. elim (cases_page q (Object p)) [
     | inl e ↦ inr (ap c.place e ∙ forgets.placed)
-    | inr ne ↦ elim (more.place q) [
-      | inl e ↦ inl (forgets.others q ne ∙ e)
-      | inr home ↦ inr (forgets.others q ne ∙ home)
-    ]
+    | inr ne ↦ elim (more.place q) [ inl e ↦ inl (forgets.others q ne ∙ e) | inr home ↦ inr (forgets.others q ne ∙ home) ]
   ];
   lasting = λ q is. (
       let ne : q ≢ Object p = λ e. (
-      let named = subst (λ (x : PageKey). IsLasting (without_maps a.at pid first pages) x) e is in
-      false≢true (sym unnamed ∙ named)) in
+      false≢true (sym unnamed ∙ (subst (λ (x : PageKey). IsLasting (without_maps a.at pid first pages) x) e is))) in
       let before = more.lasting q is in
       (forgets.others q ne ∙ before.0, forgets.rest q ne ∙ before.1, forgets.held q ne ∙ before.2));
 }
@@ -144,10 +128,7 @@ pub without_same : (f g : Maps) (pid first pages : ℕ) (p : ObjectPage) → ((q
     → is_named (without_maps g pid first pages) p.object p.page ≡ is_named (without_maps f pid first pages) p.object p.page
 without_same f g pid first pages p same = named-same (without_maps f pid first pages) (without_maps g pid first pages) p.object p.page (λ q k. elim (cases_eq q pid) [
   | inr ne ↦ rw (ne_eqb q pid ne) (same q k)
-  | inl is ↦ elim (cases_Bool (in_row first pages k)) [
-    | inl e ↦ rw (eq-eqb q pid is, e) refl
-    | inr e ↦ rw (eq-eqb q pid is, e) (same pid k)
-  ]
+  | inl is ↦ elim (cases_Bool (in_row first pages k)) [ inl e ↦ rw (eq-eqb q pid is, e) refl | inr e ↦ rw (eq-eqb q pid is, e) (same pid k) ]
 ])
 
 -- one node more was looked at
@@ -214,8 +195,7 @@ module _ {mode : ℕ} (a b : Picture mode) (pid first pages frames nodes : ℕ) 
     | inr node ↦ elim (more.place (Object p)) [
       | inr home ↦ home
       | inl same ↦ absurd (
-          let low = inside p node.0 (ap (λ x. node_of frames x) (sym same) ∙ node.1) in
-          false≢true (sym none ∙ gone p node.0 node.1 low))
+          false≢true (sym none ∙ gone p node.0 node.1 (inside p node.0 (ap (λ x. node_of frames x) (sym same) ∙ node.1))))
     ]
   ])
 
@@ -295,10 +275,7 @@ module _ {mode : ℕ} (a b c : Picture mode) (pid first pages from k : ℕ) (p :
       → (j : ℕ) (q : ObjectPage) → first ≤ j → j < k + 1 → names (a.at pid j) q.object q.page ≡ true
       → (c.place (Object q) ≡ Home) ⊎ (is_named (without_maps a.at pid first pages) q.object q.page ≡ true)
   looked_at stays this j q low below is = elim (cases_lt j from) [
-    | inl passed ↦ elim (before j q low passed is) [
-      | inl home ↦ inl (stays q home)
-      | inr named ↦ inr named
-    ]
+    | inl passed ↦ elim (before j q low passed is) [ inl home ↦ inl (stays q home) | inr named ↦ inr named ]
     | inr late ↦ elim (cases_eq j k) [
       | inl e ↦ (
           let same : p ≡ q = names_one (b.at pid k) p q here (ap (λ x. names x q.object q.page) (at k ∙ ap (λ x. a.at pid x) (sym e)) ∙ is) in

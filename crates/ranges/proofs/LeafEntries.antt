@@ -1,8 +1,7 @@
 -- The entries of pages that get another permission.
 use Rattle.ranges.proofs.Names.{◌≡◌, ◌≢◌, ℕ, Bool, true, false, inl, inr, refl, sym, ap, ◌∙◌, cases_Bool, and_parts, false≢true, not-true, not-false, or_parts, ◌&&◌, ◌||◌, Prot, has_bit, is_valid, can_read, can_write, can_execute, is_dirty}
-use Rattle.ranges.proofs.Names.{frame_of, is_private, is_swapped, IsEntryOver, is_barred, parked_invalid, parked_framed, parked_unexecutable, over_some}
+use Rattle.ranges.{proofs.Names.{frame_of, is_private, is_swapped, IsEntryOver, is_barred, parked_invalid, parked_framed, parked_unexecutable, over_some}, specs.Leaves.{needs_no_mark, IsPermittedEntry}}
 use Rattle.vm_types.specs.Permission as Permission
-use Rattle.ranges.specs.Leaves.{needs_no_mark, IsPermittedEntry}
 
 -- whether a permission lets anything be done
 abbrev pub lets_anything : Prot → Bool

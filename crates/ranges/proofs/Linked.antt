@@ -1,7 +1,6 @@
 -- A search over the entries of an upper table: where it begins and ends, and which pages it passes.
 use Rattle.ranges.proofs.Names.{top_level, ◌≡◌, ◌≢◌, ℕ, zero, suc, ◌+◌, ◌*◌, ◌/◌, ◌%◌, ◌^◌, ◌≤◌, ◌<◌, ◌⊎◌, inl, inr, sym, ap, ◌∙◌, subst, arith, min, FrameTable, entry_at, IsRoot, last_table, missing_of, missing_of-is, place_above}
-use Rattle.ranges.proofs.Names.{below_place, same_place, missing_as_far, fewer_past}
-use Rattle.ranges.specs.Steps.{IsPastGap}
+use Rattle.ranges.{proofs.Names.{below_place, same_place, missing_as_far, fewer_past}, specs.Steps.{IsPastGap}}
 
 -- a page that isn't before the first one past a place is past it
 pub past_place : (page next k : ℕ) → page / 512 ^ k + 1 ≤ next → page < next * 512 ^ k

@@ -1,26 +1,16 @@
 -- Objects are marked one after the other.
 use Rattle.vm_types.specs.declared.mode.Levels as Levels
-use Rattle.ranges.proofs.Names.{◌≡◌, ◌≢◌, ℕ, zero, suc, ◌+◌, ◌-◌, ◌<◌, ◌≤◌, inl, inr, ◌⊎◌, Bool, true, false, Option, Some, None, List, get_or, refl, sym, ap, ◌∙◌, arith, eq-eqb, ne_eqb, get_or_past, get_or-replicate, length-replicate}
-use Rattle.ranges.proofs.Names.{nat_tests, cases_Bool, cases_eq, cases_lt, false≢true, replicate, named_limit, widest_end, Attr, Backing, Anon, attr_after, backing_after, any_below, Maps, uses, is_of_object, is_used, least_from, removed}
-use Rattle.ranges.proofs.Names.{in_row, Run, IsNextRun, Core, picture_of, attr_where, IsFit, any-at, any-where}
-use Rattle.ranges.{specs.{Numbers.{Marks, IsUsedBetween, IsUsedBy}, Rows.{without_maps}}, proofs.Emptied.{in_row_from}}
+use Rattle.ranges.proofs.{Emptied.{in_row_from}, Names.{◌≡◌, ◌≢◌, ℕ, zero, suc, ◌+◌, ◌-◌, ◌<◌, ◌≤◌, inl, inr, ◌⊎◌, Bool, true, false, Option, Some, None, List, get_or, refl, sym, ap, ◌∙◌, arith, eq-eqb, ne_eqb, get_or_past}}
+use Rattle.ranges.proofs.Names.{get_or-replicate, length-replicate, nat_tests, cases_Bool, cases_eq, cases_lt, false≢true, replicate, named_limit, widest_end, Attr, Backing, Anon, attr_after, backing_after, any_below, Maps, uses}
+use Rattle.ranges.{proofs.Names.{is_of_object, is_used, least_from, removed, in_row, Run, IsNextRun, Core, picture_of, attr_where, IsFit, any-at, any-where}, specs.{Numbers.{Marks, IsUsedBetween, IsUsedBy}, Rows.{without_maps}}}
 
 -- two steps
 pub marks_then : (f g h : ℕ → Type 0) (x y z : List Bool) → ((o : ℕ) → f o → h o) → ((o : ℕ) → g o → h o) → ((o : ℕ) → h o → f o ⊎ g o) → Marks f x y → Marks g y z → Marks h x z
 marks_then f g h x y z left right either first second = record {
   room = second.room ∙ first.room;
   kept = λ o e. second.kept o (first.kept o e);
-  all = λ o low is. elim (either o is) [
-    | inl a ↦ second.kept o (first.all o low a)
-    | inr b ↦ second.all o low b
-  ];
-  only = λ o e. elim (second.only o e) [
-    | inl before ↦ elim (first.only o before) [
-      | inl old ↦ inl old
-      | inr a ↦ inr (left o a)
-    ]
-    | inr b ↦ inr (right o b)
-  ];
+  all = λ o low is. elim (either o is) [ inl a ↦ second.kept o (first.all o low a) | inr b ↦ second.all o low b ];
+  only = λ o e. elim (second.only o e) [ inl before ↦ elim (first.only o before) [ inl old ↦ inl old | inr a ↦ inr (left o a) ] | inr b ↦ inr (right o b) ];
 }
 
 -- the same, named otherwise
@@ -29,10 +19,7 @@ marks_alike f g x y forth back marks = record {
   room = marks.room;
   kept = marks.kept;
   all = λ o low is. marks.all o low (back o is);
-  only = λ o e. elim (marks.only o e) [
-    | inl old ↦ inl old
-    | inr is ↦ inr (forth o is)
-  ];
+  only = λ o e. elim (marks.only o e) [ inl old ↦ inl old | inr is ↦ inr (forth o is) ];
 }
 
 of_uses : (b : Backing) (n o : ℕ) → is_of_object (backing_after b n) o ≡ is_of_object b o
@@ -114,8 +101,7 @@ used_where f o is =
 
 pub used_at : (f : Maps) (o q : ℕ) → q < 65 → IsUsedBy f q o → is_used f o ≡ true
 unfolding is_used
-used_at f o q low (k, high, is) =
-    any-at (λ p. any_below (λ k. uses (f p k) o) widest_end) 65 q low (any-at (λ k. uses (f q k) o) widest_end k high is)
+used_at f o q low (k, high, is) = any-at (λ p. any_below (λ k. uses (f p k) o) widest_end) 65 q low (any-at (λ k. uses (f q k) o) widest_end k high is)
 
 -- the same, by how many numbers are left
 one_more : (n m : ℕ) → n < m → m - n ≡ suc (m - (n + 1))

@@ -30,10 +30,7 @@ names-protected map first count prot k object page = elim (cases_Bool (in_row fi
 ]
 
 pub uses-protected : (map : ℕ → Option Attr) (first count : ℕ) (prot : Prot) (k object : ℕ) → uses (protected map first count prot k) object ≡ uses (map k) object
-uses-protected map first count prot k object = elim (cases_Bool (in_row first count k)) [
-  | inl e ↦ rw e (uses-prot prot (map k) object)
-  | inr e ↦ rw e refl
-]
+uses-protected map first count prot k object = elim (cases_Bool (in_row first count k)) [ inl e ↦ rw e (uses-prot prot (map k) object) | inr e ↦ rw e refl ]
 
 pub named-imp : (f g : Maps) (object page : ℕ) → ((p k : ℕ) → names (f p k) object page ≡ true → names (g p k) object page ≡ true) → is_named f object page ≡ true → is_named g object page ≡ true
 unfolding is_named

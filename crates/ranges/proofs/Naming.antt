@@ -1,6 +1,5 @@
 -- Which pages of a run name a page of an object.
-use Rattle.ranges.proofs.Names.{◌≡◌, ℕ, false, Option, Some, None, refl, sym, ap, ◌∙◌, false≢true, Attr, Backing, Common, attr_after, backing_after, names, is_object_page, Run}
-use Rattle.ranges.specs.Rows.{is_common}
+use Rattle.ranges.{proofs.Names.{◌≡◌, ℕ, false, Option, Some, None, refl, sym, ap, ◌∙◌, false≢true, Attr, Backing, Common, attr_after, backing_after, names, is_object_page, Run}, specs.Rows.{is_common}}
 
 pub none_named : (a : Option Attr) (object page : ℕ) → a ≡ None → names a object page ≡ false
 none_named a object page e = ap (λ x. names x object page) e

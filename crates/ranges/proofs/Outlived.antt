@@ -1,7 +1,6 @@
 -- The state that memory shows once pages are mapped no more: the objects that no page names have no bytes.
 use Rattle.ranges.proofs.Names.{◌≡◌, ◌≢◌, ℕ, inl, inr, ◌⊎◌, Bool, true, false, Option, None, refl, sym, ap, ◌∙◌, cases_Bool, none-some, is_some, ObjectPage, PageKey, File, Object, held_count, Maps, is_named, named_objects, State, View}
-use Rattle.ranges.proofs.Names.{FrameTable, SlotTable, Place, Home, Frame, Slot, Picture, view, is_live, held, bytes_at, copies_over, touched_file, stored_object, IsFit, ShowsPages, object_bytes, home_held}
-use Rattle.ranges.specs.Rows.{KeepsNamed}
+use Rattle.ranges.{proofs.Names.{FrameTable, SlotTable, Place, Home, Picture, view, is_live, held, bytes_at, copies_over, touched_file, stored_object, IsFit, ShowsPages, object_bytes, home_held}, specs.Rows.{KeepsNamed}}
 
 pub shows_named : {mode : ℕ} (old new : Picture mode) (s : State) (maps : Maps) (live : ℕ → Bool) (views : ℕ → ℕ → Option View) → IsFit new → ShowsPages old s → KeepsNamed maps old new
     → ((pid : ℕ) → live pid ≡ is_live new pid) → ((pid page : ℕ) → views pid page ≡ view new pid page)
@@ -22,10 +21,7 @@ shows_named old new s maps live views fit shows keeps lives sees = record {
     ]
     | inr gone ↦ absurd (none-some bytes (sym (home_held new (Object p) (keeps.gone p gone)) ∙ is))
   ];
-  held = λ p bytes is. elim (keeps.held (File p) tt) [
-    | inl same ↦ shows.held p bytes (sym same ∙ is)
-    | inr home ↦ absurd (none-some bytes (sym home.0 ∙ is))
-  ];
+  held = λ p bytes is. elim (keeps.held (File p) tt) [ inl same ↦ shows.held p bytes (sym same ∙ is) | inr home ↦ absurd (none-some bytes (sym home.0 ∙ is)) ];
   same_mode = shows.same_mode;
   clean = λ p untouched inside. shows.clean p (sym (keeps.touched (File p) tt) ∙ untouched) (inside.0, sym (keeps.files p.file) ∙ inside.1, inside.2);
 }
@@ -42,8 +38,7 @@ shows_named old new s maps live views fit shows keeps lives sees = record {
 
 some_at : (t : FrameTable) (k : SlotTable) (place : Place) → place ≢ Home → is_some (bytes_at t k place) ≡ true
 some_at t k Home away = absurd (away refl)
-some_at t k (Frame n) away = refl
-some_at t k (Slot n) away = refl
+some_at t k place away = refl
 
 some_held : {mode : ℕ} (c : Picture mode) (p : PageKey) → c.place p ≢ Home → is_some (held c p) ≡ true
 unfolding held

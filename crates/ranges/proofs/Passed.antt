@@ -32,10 +32,7 @@ module _ {mode : ℕ} (c : Picture mode) (pid low mid high : ℕ) (granting : Is
 
   pub cleared_on : IsCleared c pid low mid → IsCleared c pid low high
   cleared_on cleared = record {
-    none = λ page h least below. elim (cases_lt page mid) [
-      | inl front ↦ cleared.none page h least front
-      | inr back ↦ none_there page h back below
-    ];
+    none = λ page h least below. elim (cases_lt page mid) [ inl front ↦ cleared.none page h least front | inr back ↦ none_there page h back below ];
     tables = λ m table. used_on m (cleared.tables m table);
   }
 

@@ -3,8 +3,8 @@ use Rattle.vm_types.specs.declared.mode.Levels as Levels
 use Rattle.ranges.proofs.Names.{top_level, Prot, Attr, File, Object, Backing, ◌≡◌, ◌≢◌, ℕ, inl, inr, ◌⊎◌, ◌+◌, ◌<◌, ◌≤◌, ◌↔◌, Bool, true, false, Option, Some, get_or, refl, sym, ap, ◌∙◌, subst, arith, rules, cases_eq, cases_lt, cases_Bool}
 use Rattle.ranges.proofs.Names.{false≢true, Free, Private, FrameTable, role_of, IsFrame, IsSound, frame_of, KeepsFrames, SetsEntry, IsPage, IsTableOf, row_stays, InFrame, IsRootedBut, IsBehind, IsEntryFor, HasPlaces, IsFit, Picture, entry}
 use Rattle.ranges.proofs.Names.{is_private, is_swapped, Core, SameBeside, SetsPage, KeepsAround, sets_page, rooted_set, seat_own}
-use Rattle.residency.specs.Parts as Parts
 use Rattle.ranges.{specs.Leaves.{TakesStores, IsPermittedEntry, Permits, Empty, Away, Kept, NamesFrames, PermitsRow}, proofs.{Sharing.{inside_memory, private_used, cache_used}, ClearedPages.{out_front, out_back, other_page}}}
+use Rattle.residency.specs.Parts as Parts
 
 pub beside-refl : {mode : ℕ} (c : Picture mode) → SameBeside c c
 beside-refl c = record { slots = refl; root = λ q. refl; at = λ q page. refl; page_of = λ n. refl; place = λ p. refl; touched = λ p. refl; files = λ f. refl }
@@ -36,10 +36,7 @@ permits_same c pid low high prot each = record {
   beside = beside-refl c;
   memory = frames-refl c.frames;
   kept = λ q page h out. refl;
-  changed = λ page h least below. elim (each page h least below) [
-    | inl none ↦ Empty none none
-    | inr away ↦ Away away refl
-  ];
+  changed = λ page h least below. elim (each page h least below) [ inl none ↦ Empty none none | inr away ↦ Away away refl ];
 }
 
 pub permits_none : {mode : ℕ} (c : Picture mode) (pid low high : ℕ) (prot : Prot) → ((page : ℕ) → IsPage (top_level mode) page → low ≤ page → page < high → entry c pid page ≡ 0)

@@ -23,10 +23,7 @@ shares_pruned : (old new : FrameTable) (top root page : ℕ) → IsSound old →
 shares_pruned old new top root page sound prunes =
     let same : (n : ℕ) → (role_of old n ≡ Table → ⊥) → role_of new n ≡ role_of old n = prunes.kept.roles in
     let role_was : (n : ℕ) (r : Role) → r ≢ Free → r ≢ Table → role_of new n ≡ r → role_of old n ≡ r = λ n r used other e. elim (cases_table (role_of old n)) [
-      | inl t ↦ elim (table_gone old new top root page n sound prunes t) [
-        | inl now ↦ absurd (other (sym e ∙ now))
-        | inr free ↦ absurd (used (sym e ∙ free))
-      ]
+      | inl t ↦ elim (table_gone old new top root page n sound prunes t) [ inl now ↦ absurd (other (sym e ∙ now)) | inr free ↦ absurd (used (sym e ∙ free)) ]
       | inr ne ↦ sym (same n ne) ∙ e
     ] in
     record {
@@ -96,10 +93,7 @@ module _ {mode : ℕ} (old new : Picture mode) (pid r start : ℕ) (fit : IsFit 
   clears_pruned first low high le lt clears = record {
     beside = but_then first old new clears.beside (but_memory old new beside);
     returned = returned_then first old new pid low high clears.beside clears.returned (record {
-      tables = λ n table. elim (prunes.gone n table) [
-        | inl still ↦ inl still
-        | inr gone ↦ inr (gone.0, (r, start, root, gone.1, le, lt))
-      ];
+      tables = λ n table. elim (prunes.gone n table) [ inl still ↦ inl still | inr gone ↦ inr (gone.0, (r, start, root, gone.1, le, lt)) ];
       free = λ n e. prunes.kept.roles n (free_is_no_table (role_of old.frames n) e) ∙ e;
       copies = shares.was_private;
       pointers = prunes.pointers;
@@ -128,10 +122,7 @@ module _ {mode : ℕ} (old new : Picture mode) (pid r start : ℕ) (fit : IsFit 
     ]
 
     beside_now : (p : ℕ) → IsPage (top_level mode) p → entry new pid p ≢ 0 → IsBeside pid low stop pid p
-    beside_now p h some = elim (by_row pid low stop pid p) [
-      | inl out ↦ out
-      | inr inside ↦ absurd (some (none_now p h inside.1 inside.2))
-    ]
+    beside_now p h some = elim (by_row pid low stop pid p) [ inl out ↦ out | inr inside ↦ absurd (some (none_now p h inside.1 inside.2)) ]
 
     some_now : (p : ℕ) → IsPage (top_level mode) p → entry new pid p ≢ 0 → IsMappedBeside new pid low stop pid p
     some_now p h some = (
@@ -172,10 +163,7 @@ module _ {mode : ℕ} (old new : Picture mode) (pid r start : ℕ) (fit : IsFit 
         (e : ℕ) (positive : 0 < e) (size : (e ≡ 1) ⊎ (e ≡ missing_of old.frames (top_level mode) r start))
         (one_table : (p : ℕ) → start ≤ p → p < stop → p / 512 ^ e ≡ start / 512 ^ e) where
       block : (p : ℕ) → IsMappedBeside old pid low start pid p → IsMappedBeside new pid low stop pid p ⊎ (p / 512 ^ e ≡ start / 512 ^ e)
-      block p here = elim (kept_page pid p here) [
-        | inl after ↦ inl after
-        | inr between ↦ inr (one_table p between.1 between.2)
-      ]
+      block p here = elim (kept_page pid p here) [ inl after ↦ inl after | inr between ↦ inr (one_table p between.1 between.2) ]
 
       entry_new : (p : ℕ) → entry new pid p ≡ page_entry new.frames (top_level mode) r p
       entry_new p = entry-of new pid r p (beside.root pid ∙ root)
@@ -243,10 +231,7 @@ cleared_none c pid page fit sound = record {
     | inl z ↦ (let bad : Zero ≡ Table = sym sound.zero_role ∙ ap (role_of c.frames) (sym z) ∙ table.role in (cc))
     | inr o ↦ used_kept c c (IsMapped c) (IsMappedBeside c pid page page) m (λ a i b p. p) (λ q. refl) (λ q k some. (
       some,
-      elim (by_row pid page page q k) [
-        | inl out ↦ out
-        | inr inside ↦ absurd (omega (arith, inside))
-      ],
+      elim (by_row pid page page q k) [ inl out ↦ out | inr inside ↦ absurd (omega (arith, inside)) ],
     )) o
   ];
 }

@@ -1,13 +1,12 @@
 -- A row of pages with another permission, and the regions that say so.
+use Rattle.ranges.proofs.{ClearedPages.{by_row, not_valid}, Emptied.{in_row_from, row_parts, none_here, low_zero, pages_inside}, LeafEntries.{allowed, here_still}, Named.{named-alike, objects-alike, names-protected, uses-protected}}
 use Rattle.ranges.proofs.Names.{user_end, top_level, names, uses, PageKey, Object, Prot, Attr, backing_fits, with_prot, permitted, in_row, protected, IsUserMap, user_pages_fit, ◌≡◌, ℕ, inl, inr, ◌+◌, ◌<◌, ◌≤◌, ◌^◌, ◌↔◌, Bool, true, false}
 use Rattle.ranges.proofs.Names.{List, Option, Some, None, get_or, refl, sym, ap, ◌∙◌, subst, arith, cases_eq, cases_lt, cases_Bool, false≢true, IsSome, IfSome, max, option_map, if◌then◌else◌, Free, Table, FrameTable, role_of, count_of}
 use Rattle.ranges.proofs.Names.{bytes_of, is_valid, is_dirty, frame_of, IsPage, page_entry, Frame, ReadsToo, IsReadableMap, reads_protected, Seat, InFrame, InSlot, seat, Picture, entry, is_private, is_swapped, own_in, bytes_in, view_of}
 use Rattle.ranges.proofs.Names.{view, IsOwned, count_in, page_in, is_shared, IsBehind, IsRootedBut, IsEntryFor, IsResident, IsMapped, IsFit, nowhere, Remaps, entries_kept, KeepsBehind, entry_for-same, user_map-same, readable-same}
-use Rattle.ranges.proofs.Names.{places_renamed, used_kept, counted_same, own_kept, view-none, view_seated, held_same, seat_own, seat_common}
-use Rattle.ranges.proofs.{Named.{named-alike, objects-alike, names-protected, uses-protected}, ClearedPages.{by_row, not_valid}, Emptied.{in_row_from, row_parts, none_here, low_zero, pages_inside}, LeafEntries.{allowed, here_still}}
-use Rattle.ranges.proofs.{NewRegions.{SameSeats, rooted_regions, owned_on, owned_before, counts_on, pages_on}, Sharing.{private_data, cache_data}}
+use Rattle.ranges.proofs.{Names.{places_renamed, used_kept, counted_same, own_kept, view-none, view_seated, held_same, seat_own, seat_common}, NewRegions.{SameSeats, rooted_regions, owned_on, owned_before, counts_on, pages_on}}
+use Rattle.ranges.{proofs.Sharing.{private_data, cache_data}, specs.{Leaves.{is_mapped_shared, TakesStores, IsPermittedEntry, Permits, Empty, Away, Kept, PermitsRow}, Rows.{ReprotectsRow}, Steps.{IsBeside, KeepsEntriesOfOthers}}}
 use Rattle.residency.specs.Parts as Parts
-use Rattle.ranges.specs.{Leaves.{is_mapped_shared, TakesStores, IsPermittedEntry, Permits, Empty, Away, Kept, PermitsRow}, Rows.{ReprotectsRow}, Steps.{IsBeside, KeepsEntriesOfOthers}}
 
 mapped_before : (o : Option Attr) (prot : Prot) (b : Bool) → IsSome (if b then option_map (with_prot prot) o else o) → IsSome o
 mapped_before None prot true some = some
@@ -53,11 +52,7 @@ resident_permitted new t o a prot writable e e' at counts stores permitted resid
       private = λ own. resident.private (sym is.private ∙ own);
       behind = behind;
       leaf = λ valid. record {
-        within = record {
-          reads = λ b. sym is.reads ∙ b;
-          writes = λ b. (stores.0 (sym (is.writes valid) ∙ b)).permitted;
-          executes = λ b. sym is.executes ∙ b;
-        };
+        within = record { reads = λ b. sym is.reads ∙ b; writes = λ b. (stores.0 (sym (is.writes valid) ∙ b)).permitted; executes = λ b. sym is.executes ∙ b };
         sole = λ own b. ap (λ cs. get_or cs (frame_of e') 0) counts ∙ ap (count_of t) is.frame
             ∙ (stores.0 (sym (is.writes valid) ∙ b)).sole (sym is.private ∙ own);
         common = λ common b. shared_one o a at ((stores.0 (sym (is.writes valid) ∙ b)).common (sym is.private ∙ common));
@@ -188,18 +183,14 @@ module _ {mode : ℕ} (old mid new : Picture mode) (pid first pages low high : �
   in_here page from below = in_row_from first pages page (omega (arith, begins, from)) (omega (arith, from, below, ends))
 
   low_unmapped : (page : ℕ) → page < 16 → old.at pid page ≡ None
-  low_unmapped page under =
-      none_here (old.at pid page) (λ some. (let above = ((fit.granting.user pid).user_pages page some).0 in omega (arith, under, above)))
+  low_unmapped page under = none_here (old.at pid page) (λ some. (let above = ((fit.granting.user pid).user_pages page some).0 in omega (arith, under, above)))
 
   under_sixteen : (page : ℕ) → IsBeside pid low high pid page → in_row first pages page ≡ true → page < 16
   under_sixteen page out e =
       let parts = row_parts first pages page e in
       elim out [
         | inl ne ↦ absurd (ne refl)
-        | inr side ↦ elim side [
-          | inl before ↦ omega (arith, begins, before, parts)
-          | inr past ↦ omega (arith, past, ends, parts)
-        ]
+        | inr side ↦ elim side [ inl before ↦ omega (arith, begins, before, parts) | inr past ↦ omega (arith, past, ends, parts) ]
       ]
 
   at_out : (page : ℕ) → IsBeside pid low high pid page → new.at pid page ≡ old.at pid page
@@ -346,10 +337,7 @@ module _ {mode : ℕ} (old mid new : Picture mode) (pid first pages low high : �
       ]
 
   out_of_row : (page : ℕ) → in_row first pages page ≡ false → IsBeside pid low high pid page
-  out_of_row page e = elim (by_row pid low high pid page) [
-    | inl out ↦ out
-    | inr here ↦ absurd (false≢true (sym e ∙ in_here page here.1 here.2))
-  ]
+  out_of_row page e = elim (by_row pid low high pid page) [ inl out ↦ out | inr here ↦ absurd (false≢true (sym e ∙ in_here page here.1 here.2)) ]
 
   pub reprotected_row : IsRowReprotected old new pid first pages prot
   reprotected_row = record {
@@ -357,10 +345,7 @@ module _ {mode : ℕ} (old mid new : Picture mode) (pid first pages low high : �
       root = root;
       at = at;
       others_at = λ q page ne. remaps.others q page ne ∙ permits.beside.at q page;
-      views = λ page. elim (cases_Bool (in_row first pages page)) [
-        | inl e ↦ rw e (view_here page e)
-        | inr e ↦ rw e (view_beside pid page (out_of_row page e))
-      ];
+      views = λ page. elim (cases_Bool (in_row first pages page)) [ inl e ↦ rw e (view_here page e) | inr e ↦ rw e (view_beside pid page (out_of_row page e)) ];
       entries = permits_here;
       kept = λ page h e. kept pid page h (out_of_row page e);
       others = λ q page ne. view_beside q page (inl ne);

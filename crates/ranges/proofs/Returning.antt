@@ -1,10 +1,9 @@
 -- The share of a frame or of a slot given back, which an entry named before: nobody who keeps it sees a change.
 use Rattle.ranges.proofs.Names.{top_level, PageKey, SlotNo, ◌≡◌, ◌≢◌, ℕ, inl, inr, ◌+◌, ◌<◌, ◌≤◌, ◌^◌, false, Option, Some, None, refl, sym, ap, ◌∙◌, subst, arith, cases_eq, cases_Bool, Free, Private, Cache, FrameTable, role_of, Releases}
 use Rattle.ranges.proofs.Names.{SlotTable, KeepsTrees, data_released, row_same, Entry, Swapped, number_of, IsEntry, Frame, Seat, InFrame, InSlot, seat, Picture, IsOwned, IsFit, IsFitBut, SameBeside, fit_released, same, release_spares}
-use Rattle.ranges.proofs.Names.{with_slots, held_same, fit_slot_released, swapped_form, away_seat, views_given, held_given}
+use Rattle.ranges.{proofs.{Names.{with_slots, held_same, fit_slot_released, swapped_form, away_seat, views_given, held_given}, Sharing.{private_data}}, specs.Steps.{SameButMemory, LacksHolder, ReturnsSeat}}
 use Rattle.residency.specs.Seats.{is_swapped}
 use Rattle.swap.specs.Slots as Slots
-use Rattle.ranges.{specs.Steps.{SameButMemory, LacksHolder, ReturnsSeat}, proofs.Sharing.{private_data}}
 
 -- what lacks the holder of a seat
 pub lacks_some : {mode : ℕ} (c : Picture mode) (o : Option Seat) (y : Seat) → o ≡ Some y → LacksHolder c o → IsFitBut c y 1 0 × IsOwned c y
@@ -104,10 +103,7 @@ module _ {mode : ℕ} (old : Picture mode) (n : ℕ) (fit : IsFitBut old (InFram
   cache_ne p m at e = let bad : Private ≡ Cache = sym own ∙ ap (role_of old.frames) (sym e) ∙ fit.places.cached p m at in (cc)
 
   was_private : (m : ℕ) → role_of t m ≡ Private → role_of old.frames m ≡ Private
-  was_private m e = elim (cases_eq m n) [
-    | inl same_one ↦ ap (role_of old.frames) same_one ∙ own
-    | inr ne ↦ sym (releases.others.roles m ne) ∙ e
-  ]
+  was_private m e = elim (cases_eq m n) [ inl same_one ↦ ap (role_of old.frames) same_one ∙ own | inr ne ↦ sym (releases.others.roles m ne) ∙ e ]
 
   pub gives_frame : ReturnsSeat old new o
   gives_frame = record {

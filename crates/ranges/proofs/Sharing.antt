@@ -1,7 +1,7 @@
 -- What gives back the share of a frame or of a slot, or takes an entry out: counts, and slots.
 use Rattle.ranges.proofs.Names.{top_level, ◌≡◌, ◌≢◌, ℕ, inl, inr, ◌+◌, ◌<◌, true, false, Option, Some, None, refl, sym, ap, ◌∙◌, subst, arith, false≢true, Role, Free, Table, Private, Cache, FrameTable, role_of, IsFrame, IsHeld, IsSound}
 use Rattle.ranges.proofs.Names.{is_valid, frame_of, IsPage, Seat, InFrame, seat, is_seat, holders_at, off, AreCounted, OthersSame, Picture, entry, IsOwned, count_in, page_in, IsRootedBut, IsFitBut, Nothing, nowhere, SetsPage, valid_zero}
-use Rattle.ranges.proofs.Names.{count-same, count-one, granting_changed, behind_kept, owned_forth, owned_back, count_kept, page_kept, places_same, dirty_changed, used_inside, cases_seat, seat-same, seat-other, off-none, seat-none, by_page}
+use Rattle.ranges.proofs.Names.{count-same, one_less, granting_changed, behind_kept, owned_forth, owned_back, count_kept, page_kept, places_same, dirty_changed, used_inside, cases_seat, seat-same, seat-other, off-none, seat-none, by_page}
 
 -- a frame of some use is one of memory
 pub inside_memory : (t : FrameTable) (n : ℕ) → IsSound t → role_of t n ≢ Free → IsFrame t n
@@ -51,7 +51,7 @@ module _ (mode : ℕ) (old new : ℕ → ℕ → ℕ) (owned owned' : Seat → T
   lost : holders_at old k x ≡ holders_at new k x + 1
   unfolding holders_at
   lost =
-      count-one (λ q. is_seat (seat (old q k)) x) (λ q. is_seat (seat (new q k)) x) pid 65 below (sits (seat (old pid k)) x from) (sits_none (seat (new pid k)) x to)
+      one_less (λ q. is_seat (seat (old q k)) x) (λ q. is_seat (seat (new q k)) x) pid 65 below (sits (seat (old pid k)) x from) (sits_none (seat (new pid k)) x to)
       (λ q ne. ap (λ e. is_seat (seat e) x) (sym (others q k h (inl ne))))
 
   still : (z : Seat) (p : ℕ) → z ≢ x → IsPage (top_level mode) p → holders_at new p z ≡ holders_at old p z
@@ -72,7 +72,6 @@ module _ (mode : ℕ) (old new : ℕ → ℕ → ℕ) (owned owned' : Seat → T
   counted_emptied = record {
     counts = λ z now. (
         let was = back z now in
-        let before = counts z was ∙ counted.counts z was in
         elim (cases_seat z x) [
           | inl e ↦ (
               let P : Seat → Type 0 = λ a. count' a ≡ holders_at new (page' a) a + off x 1 a in
@@ -84,7 +83,7 @@ module _ (mode : ℕ) (old new : ℕ → ℕ → ℕ) (owned owned' : Seat → T
               subst P (sym e) (rw at (let c' : count' x ≡ holders_at old k x + off x' 0 x = (subst (λ (v : ℕ). count' x ≡ holders_at old v x + off x' 0 x) noted_x c) in omega (arith, c', a, b, l))))
           | inr ne ↦ (
               let a = off-other x 1 z (λ f. ne (sym f)) in
-              rw (pages z was) (omega (arith, before, still z (page z) ne (counted.pages z was), a, off-none x' z)))
+              rw (pages z was) (omega (arith, counts z was ∙ counted.counts z was, still z (page z) ne (counted.pages z was), a, off-none x' z)))
         ]);
     pages = λ z now. (let was = back z now in subst (λ (v : ℕ). IsPage (top_level mode) v) (sym (pages z was)) (counted.pages z was));
     named = λ q p z h' is. elim (by_page q p pid k) [

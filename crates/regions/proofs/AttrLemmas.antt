@@ -10,8 +10,7 @@ backing_after-add (Shared p) i j = ap (λ (n : ℕ). Shared (record { file = p.f
 backing_after-add (Common p) i j = ap (λ (n : ℕ). Common (record { object = p.object; page = n })) (add_assoc p.page i j)
 
 pub attr_after-add : (a : Attr) (i j : ℕ) → attr_after (attr_after a i) j ≡ attr_after a (i + j)
-attr_after-add a i j =
-    ap (λ (b : Backing). let r : Attr = record { prot = a.prot; backing = b } in r) (backing_after-add a.backing i j)
+attr_after-add a i j = ap (λ (b : Backing). let r : Attr = record { prot = a.prot; backing = b } in r) (backing_after-add a.backing i j)
 
 backing_after-zero : (b : Backing) → backing_after b 0 ≡ b
 backing_after-zero Anon = refl
@@ -20,8 +19,7 @@ backing_after-zero (Shared p) = ap (λ (n : ℕ). Shared (record { file = p.file
 backing_after-zero (Common p) = ap (λ (n : ℕ). Common (record { object = p.object; page = n })) (add-zero p.page)
 
 pub attr_after-zero : (a : Attr) → attr_after a 0 ≡ a
-attr_after-zero a =
-    ap (λ (b : Backing). let r : Attr = record { prot = a.prot; backing = b } in r) (backing_after-zero a.backing)
+attr_after-zero a = ap (λ (b : Backing). let r : Attr = record { prot = a.prot; backing = b } in r) (backing_after-zero a.backing)
 
 -- a row fits from a page on where the whole does
 pub backing_fits-after : (b : Backing) (i j : ℕ) → backing_fits b (i + j) → backing_fits (backing_after b i) j
@@ -71,8 +69,7 @@ attr_eq-true a b e =
     ap₂ (λ (n : ℕ) (k : Backing). let r : Attr = record { prot = record { 0 = n }; backing = k } in r) (eqb-true a.prot.0 b.prot.0 parts.0) (backing_eq-true a.backing b.backing parts.1)
 
 pub attr_eq-refl : (a : Attr) → attr_eq a a ≡ true
-attr_eq-refl a =
-    and_from (a.prot.0 == a.prot.0) (backing_eq a.backing a.backing) (eq-eqb a.prot.0 a.prot.0 refl) (backing_eq-refl a.backing)
+attr_eq-refl a = and_from (a.prot.0 == a.prot.0) (backing_eq a.backing a.backing) (eq-eqb a.prot.0 a.prot.0 refl) (backing_eq-refl a.backing)
 
 pub attr_eq-same : (a b : Attr) → a ≡ b → attr_eq a b ≡ true
 attr_eq-same a b e = subst (λ (x : Attr). attr_eq a x ≡ true) e (attr_eq-refl a)

@@ -1,11 +1,9 @@
 -- The runs from the first one on that ends behind a page: a search by halves finds them, and each look-up from the page
 -- on needs no others.
-use Rattle.std.proofs.Common.{◌≡◌, ℕ, zero, suc, ◌^◌, ◌<◌, ◌≤◌, ⊎_elim, max, min, Bool, true, false, not, if◌then◌else◌, ◌&&◌, leb, ltb, refl, sym, ◌∙◌, ap, ap₂, subst, arith, List, [], ◌∷◌, length, drop, get_or, Option, Some, None, le-leb, lt-ltb}
-use Rattle.std.proofs.{Math.Bool.{and-false}, lemmas.Bool.{le-ltb, lt-leb}}
-use Rattle.std.specs.{List.{slice_get}, List.Sorted.{IsNonDecreasingBy, IsPartitionPoint}}
-use Rattle.vm_types.specs.declared.region.Attr.{Attr}
-use Rattle.regions.specs.{declared.run.Run.{Run}, Run.{IsRun, attr_in, cut_run, run_between}, RunList.{run_or_else, attr_at, IsMaximal}, Search.{first_part, gap_from, is_clear, run_or, runs_behind}}
-use Rattle.regions.proofs.{RunLemmas.{by_leb, widest_run, attr_in-above, lt_or_le, or_else-none}, ListLemmas.{attr_at-before}}
+use Rattle.std.proofs.Common.{◌≡◌, ℕ, zero, suc, ◌^◌, ◌<◌, ◌≤◌, ⊎_elim, max, min, Bool, true, false, not, if◌then◌else◌, ◌&&◌, leb, ltb, refl, sym, ◌∙◌, ap, ap₂, subst, arith, List, [], ◌∷◌, length, drop, get_or, Option, Some, None, le-leb}
+use Rattle.{std.{proofs.{Common.{lt-ltb}, Math.Bool.{and-false}, lemmas.Bool.{le-ltb, lt-leb}}, specs.List.{slice_get, Sorted.{IsNonDecreasingBy, IsPartitionPoint}}}, vm_types.specs.declared.region.Attr.{Attr}}
+use Rattle.regions.{proofs.{ListLemmas.{attr_at-before}, RunLemmas.{by_leb, widest_run, attr_in-above, lt_or_le, or_else-none}}, specs.{Run.{IsRun, attr_in, cut_run, run_between}, RunList.{run_or_else, attr_at, IsMaximal}}}
+use Rattle.regions.specs.{Search.{first_part, gap_from, is_clear, run_or, runs_behind}, declared.run.Run.{Run}}
 
 -- what the search by halves leaves
 
@@ -74,15 +72,8 @@ module _ (mode : ℕ) where
         ∙ ap (λ (b : Bool). not b && is_clear page end runs) (and-false (ltb run.first end))
 
     passed : (first : Option Run) → Looked mode page runs first → Looked mode page (run ∷ runs) first
-    passed None l =
-        record { at = at_passed ∙ l.at; part = part_passed ∙ l.part; clear = λ end. clear_passed end ∙ l.clear end }
-    passed (Some other) l =
-        record {
-          is_run = l.is_run;
-          at = at_passed ∙ l.at;
-          part = part_passed ∙ l.part;
-          clear = λ end. clear_passed end ∙ l.clear end;
-        }
+    passed None l = record { at = at_passed ∙ l.at; part = part_passed ∙ l.part; clear = λ end. clear_passed end ∙ l.clear end }
+    passed (Some other) l = record { is_run = l.is_run; at = at_passed ∙ l.at; part = part_passed ∙ l.part; clear = λ end. clear_passed end ∙ l.clear end }
 
   -- the first that ends behind it tells all
 

@@ -45,8 +45,7 @@ module _ (mode : ℕ) where
   begins_after_none before here attr b e = ap₂ (λ (x y : Option Attr). begins x y) b e
 
   begins_going_on : (before here : Option Attr) (attr next : Attr) → before ≡ Some attr → here ≡ Some next → attr_after attr 1 ≡ next → begins before here ≡ false
-  begins_going_on before here attr next b e s =
-      ap₂ (λ (x y : Option Attr). begins x y) b e ∙ ap not (attr_eq-same (attr_after attr 1) next s)
+  begins_going_on before here attr next b e s = ap₂ (λ (x y : Option Attr). begins x y) b e ∙ ap not (attr_eq-same (attr_after attr 1) next s)
 
   begins_anew : (before here : Option Attr) (attr next : Attr) → before ≡ Some attr → here ≡ Some next → attr_eq (attr_after attr 1) next ≡ false → begins before here ≡ true
   begins_anew before here attr next b e s = ap₂ (λ (x y : Option Attr). begins x y) b e ∙ ap not s
@@ -103,12 +102,10 @@ module _ (mode : ℕ) where
         ∙ sym (begins_after_none (attr_at runs page) (attr_at runs (suc page)) next (rest_below page (omega arith)) some)
 
     above_same : (page : ℕ) → run.end ≤ page → begins_run (attr_at (run ∷ runs)) (suc page) ≡ begins_run (attr_at runs) (suc page)
-    above_same page h =
-        ap₂ (λ (x y : Option Attr). begins x y) (at_above page h) (at_above (suc page) (omega arith))
+    above_same page h = ap₂ (λ (x y : Option Attr). begins x y) (at_above page h) (at_above (suc page) (omega arith))
 
     below_same : (page : ℕ) → page < run.first → begins_run (attr_at (run ∷ runs)) page ≡ begins_run (attr_at runs) page
-    below_same page h =
-        begins_run-same (attr_at (run ∷ runs)) (attr_at runs) page (λ k l. at_below k (omega arith) ∙ sym (rest_below k (omega arith)))
+    below_same page h = begins_run-same (attr_at (run ∷ runs)) (attr_at runs) page (λ k l. at_below k (omega arith) ∙ sym (rest_below k (omega arith)))
 
   end_same : (run : Run) (runs : List Run) → IsRun mode run → IsMaximal mode run.end runs → joins_first run runs ≡ false → (page : ℕ) → run.first ≤ page → suc page ≡ run.end → begins_run (attr_at (run ∷ runs)) (suc page) ≡ begins_run (attr_at runs) (suc page)
   end_same run runs r rest j page a e = by_next (attr_at runs (suc page)) refl where
@@ -118,8 +115,7 @@ module _ (mode : ℕ) where
 
   -- but at its first page, a run adds no beginning
   others_same : (run : Run) (runs : List Run) → IsRun mode run → IsMaximal mode run.end runs → joins_first run runs ≡ false → (page : ℕ) → page ≢ run.first → begins_run (attr_at (run ∷ runs)) page ≡ begins_run (attr_at runs) page
-  others_same run runs r rest j zero n =
-      below_same run runs r rest zero (omega arith)
+  others_same run runs r rest j zero n = below_same run runs r rest zero (omega arith)
   others_same run runs r rest j (suc page) n =
       ⊎_elim
       (λ (a : suc page < run.first). below_same run runs r rest (suc page) a)

@@ -1,9 +1,8 @@
 -- Lists of runs: putting a run behind the others, and pasting the parts of another list.
 use Rattle.std.proofs.Common.{◌≡◌, ℕ, zero, suc, ◌^◌, ◌<◌, ◌≤◌, ◌⊎◌, inl, inr, ⊎_elim, max, min, Bool, true, false, if◌then◌else◌, refl, sym, ◌∙◌, ap, arith, List, [], ◌∷◌, length, get_or, Option, Some, None}
-use Rattle.vm_types.specs.{Limits.{user_end}, declared.permission.Prot.{Prot}, declared.region.Attr.{Attr}}
-use Rattle.vm_types.proofs.Modes.{sizes}
-use Rattle.regions.specs.{declared.run.Run.{Run}, Run.{IsRun, attr_in, joins, merged, cut_run, run_between}, RunList.{run_or_else, attr_at, joins_first, IsMaximal, end_of, pushed, pushed_part, pasted}}
-use Rattle.regions.proofs.RunLemmas.{by_ltb, clipped-none, lt_or_le, apart, attr_in-below, attr_in-above, attr_in-merged, or_else-none, or_else-swap, joins-true, merged-run, clipped, clipped-or, clipped-empty, attr_in-cut, IsPart, cut-run}
+use Rattle.{vm_types.{proofs.Modes.{sizes}, specs.{Limits.{user_end}, declared.{permission.Prot.{Prot}, region.Attr.{Attr}}}}, regions.proofs.RunLemmas.{by_ltb, clipped-none, lt_or_le, apart, attr_in-below, attr_in-above, attr_in-merged}}
+use Rattle.regions.{proofs.RunLemmas.{or_else-none, or_else-swap, joins-true, merged-run, clipped, clipped-or, clipped-empty, attr_in-cut, IsPart, cut-run}, specs.Run.{IsRun, attr_in, joins, merged, cut_run, run_between}}
+use Rattle.regions.specs.{RunList.{run_or_else, attr_at, joins_first, IsMaximal, end_of, pushed, pushed_part, pasted}, declared.run.Run.{Run}}
 
 -- putting a run behind the others
 
@@ -75,8 +74,7 @@ module _ (mode : ℕ) where
 
   -- the first run or the others, not both
   pub first_or_rest : (run : Run) (runs : List Run) (page : ℕ) → IsMaximal mode run.end runs → (attr_in run page ≡ None) ⊎ (attr_at runs page ≡ None)
-  first_or_rest run runs page m =
-      ⊎_elim (λ b. inr (attr_at-before run.end runs page m b)) (λ l. inl (attr_in-above run page l)) (lt_or_le page run.end)
+  first_or_rest run runs page m = ⊎_elim (λ b. inr (attr_at-before run.end runs page m b)) (λ l. inl (attr_in-above run page l)) (lt_or_le page run.end)
 
   one_joins : (before run next : Run) (b : Bool) → joins_first before (if b then merged run next ∷ [] else run ∷ next ∷ []) ≡ joins before run
   one_joins before run next true = refl

@@ -1,18 +1,15 @@
 -- The maps that the rebuilt lists stand for, and how long their beginnings are.
-use Rattle.std.proofs.Common.{◌≡◌, ℕ, ◌-◌, ◌^◌, ◌<◌, ◌≤◌, ◌⊎◌, inl, inr, ⊎_elim, max, Bool, if◌then◌else◌, ◌&&◌, leb, ltb, refl, sym, ◌∙◌, ap, arith, List, [], Option, Some, None, option_map}
-use Rattle.vm_types.specs.{declared.permission.Prot.{Prot}, declared.region.Attr.{Attr}, Attributes.{attr_after, with_prot}}
-use Rattle.regions.specs.{declared.run.Run.{Run}, Run.{IsRun, attr_in}, RunList.{run_or_else, attr_at, IsMaximal, end_of, pushed, pasted, list_removed, list_protected, list_replaced}}
-use Rattle.regions.proofs.RunLemmas.{lt_or_le, row_inside, row_below, row_above, attr_in-inside, attr_in-below, attr_in-above, or_else-none, clipped, clipped-inside, clipped-below, clipped-above, changed-none}
-use Rattle.regions.proofs.ListLemmas.{end_of-widest, attr_at-behind, end_of-pushed, maximal-pushed, attr_at-pushed, Pasted, pasted-is}
+use Rattle.{std.proofs.Common.{◌≡◌, ℕ, ◌-◌, ◌^◌, ◌<◌, ◌≤◌, ◌⊎◌, inl, inr, ⊎_elim, max, Bool, if◌then◌else◌, ◌&&◌, leb, ltb, refl, sym, ◌∙◌, ap, arith, List, [], Option, Some, None, option_map}, vm_types.specs.Attributes.{attr_after}}
+use Rattle.{vm_types.specs.{Attributes.{with_prot}, declared.{permission.Prot.{Prot}, region.Attr.{Attr}}}, regions.proofs.ListLemmas.{end_of-widest, attr_at-behind, end_of-pushed, maximal-pushed, attr_at-pushed, Pasted, pasted-is}}
+use Rattle.regions.{proofs.RunLemmas.{lt_or_le, row_inside, row_below, row_above, attr_in-inside, attr_in-below, attr_in-above, or_else-none, clipped, clipped-inside, clipped-below, clipped-above, changed-none}, specs.Run.{IsRun, attr_in}}
+use Rattle.regions.specs.{RunList.{run_or_else, attr_at, IsMaximal, end_of, pushed, pasted, list_removed, list_protected, list_replaced}, declared.run.Run.{Run}}
 
 -- before a page, behind a page
 clip_front : (first page : ℕ) (attr : Option Attr) → page < first → run_or_else (clipped 0 first None page attr) None ≡ attr
-clip_front first page attr h =
-    or_else-none (clipped 0 first None page attr) ∙ clipped-inside 0 first None page attr (omega arith) h ∙ changed-none attr
+clip_front first page attr h = or_else-none (clipped 0 first None page attr) ∙ clipped-inside 0 first None page attr (omega arith) h ∙ changed-none attr
 
 clip_no_front : (first page : ℕ) (attr : Option Attr) → first ≤ page → run_or_else (clipped 0 first None page attr) None ≡ None
-clip_no_front first page attr h =
-    or_else-none (clipped 0 first None page attr) ∙ clipped-above 0 first None page attr h
+clip_no_front first page attr h = or_else-none (clipped 0 first None page attr) ∙ clipped-above 0 first None page attr h
 
 clip_back : (end page : ℕ) (attr : Option Attr) → end ≤ page → (2 ^ 35 ≤ page → attr ≡ None) → clipped end (2 ^ 35) None page attr ≡ attr
 clip_back end page attr h none =

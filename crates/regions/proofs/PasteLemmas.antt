@@ -1,7 +1,6 @@
 -- The steps of the loop that pastes.
 use Rattle.std.proofs.Common.{◌≡◌, ℕ, ◌+◌, ◌<◌, ◌≤◌, Bool, true, false, if◌then◌else◌, max, min, ltb, sym, ◌∙◌, ap, subst, arith, List, [], ◌∷◌, length, drop, get_or, drop-cons, add-one, Option, Some, None}
-use Rattle.vm_types.specs.declared.permission.Prot.{Prot}
-use Rattle.regions.{specs.{declared.run.Run.{Run}, Run.{cut_run, run_between}, RunList.{end_of, IsMaximal, pushed, pushed_part, pasted}}, proofs.ListLemmas.{end_of-pushed, length-pushed}}
+use Rattle.{vm_types.specs.declared.permission.Prot.{Prot}, regions.{proofs.ListLemmas.{end_of-pushed, length-pushed}, specs.{Run.{cut_run, run_between}, RunList.{end_of, IsMaximal, pushed, pushed_part, pasted}, declared.run.Run.{Run}}}}
 
 -- the runs that are still to be pasted lie behind what is there
 pub record Pending (mode : ℕ) (low : ℕ) (done rest : List Run) : Type 0 where
@@ -37,8 +36,7 @@ module _ (mode : ℕ) where
       record { from = run.end; order = p.order.3; behind = omega arith }
 
   pub after_none : (low : ℕ) (done : List Run) (run : Run) (rest : List Run) → Pending mode low done (run ∷ rest) → Pending mode low done rest
-  after_none low done run rest p =
-      record { from = run.end; order = p.order.3; behind = omega arith }
+  after_none low done run rest p = record { from = run.end; order = p.order.3; behind = omega arith }
 
   next_of : (runs : List Run) (i : ℕ) (d : Run) → i < length runs → drop i runs ≡ get_or runs i d ∷ drop (i + 1) runs
   next_of runs i d h = drop-cons runs i d h ∙ ap (λ (k : ℕ). get_or runs i d ∷ drop k runs) (sym (add-one i))
@@ -49,8 +47,7 @@ module _ (mode : ℕ) where
         after_part low high prot done (get_or runs i d) (drop (i + 1) runs) part (sym is ∙ e) (subst (λ (l : List Run). Pending mode low done l) (next_of runs i d h) p)
 
     pub pending_none : Pending mode low done (drop i runs) → Pending mode low done (drop (i + 1) runs)
-    pending_none p =
-        after_none low done (get_or runs i d) (drop (i + 1) runs) (subst (λ (l : List Run). Pending mode low done l) (next_of runs i d h) p)
+    pending_none p = after_none low done (get_or runs i d) (drop (i + 1) runs) (subst (λ (l : List Run). Pending mode low done l) (next_of runs i d h) p)
 
     step : pasted low high prot done (drop i runs) ≡ pasted low high prot (pushed_part done o) (drop (i + 1) runs)
     step =
@@ -58,8 +55,7 @@ module _ (mode : ℕ) where
         ∙ sym (ap (λ (x : Option Run). pasted low high prot (pushed_part done x) (drop (i + 1) runs)) is)
 
     pub pasted_some : (part : Run) → o ≡ Some part → pasted low high prot (pushed done part) (drop (i + 1) runs) ≡ pasted low high prot done (drop i runs)
-    pasted_some part e =
-        sym (step ∙ ap (λ (x : Option Run). pasted low high prot (pushed_part done x) (drop (i + 1) runs)) e)
+    pasted_some part e = sym (step ∙ ap (λ (x : Option Run). pasted low high prot (pushed_part done x) (drop (i + 1) runs)) e)
 
     pub pasted_none : o ≡ None → pasted low high prot done (drop (i + 1) runs) ≡ pasted low high prot done (drop i runs)
     pasted_none e = sym (step ∙ ap (λ (x : Option Run). pasted low high prot (pushed_part done x) (drop (i + 1) runs)) e)

@@ -1,8 +1,7 @@
 -- Maps in which a page that may be written may be read as well, and that the calls on rows keep them so.
-use Rattle.std.proofs.{Common.{◌≡◌, ℕ, Bool, true, false, refl, sym, ap, ◌∙◌, subst, if◌then◌else◌, Option, Some, None, IfSome}, lemmas.Bool.{false≢true}, lemmas.Nat.{and_or_self}}
-use Rattle.std.specs.Prelude.{◌-◌, ◌==◌, option_map}
-use Rattle.vm_types.specs.{declared.permission.Prot.{Prot}, declared.region.Attr.{Attr}, Attributes.{attr_after, with_prot}, Permission.{can_write, kept}, Rows.{in_row, replaced, removed, protected}}
-use Rattle.regions.specs.Permission.{ReadsToo, IsReadableMap}
+use Rattle.std.{proofs.{Common.{◌≡◌, ℕ, Bool, true, false, refl, sym, ap, ◌∙◌, subst, if◌then◌else◌, Option, Some, None, IfSome}, lemmas.{Bool.{false≢true}, Nat.{and_or_self}}}, specs.Prelude.{◌-◌, ◌==◌, option_map}}
+use Rattle.{vm_types.specs.{Attributes.{attr_after, with_prot}, Permission.{can_write, kept}, Rows.{in_row, replaced, removed, protected}, declared.{permission.Prot.{Prot}, region.Attr.{Attr}}}, regions.specs.Permission.{ReadsToo}}
+use Rattle.regions.specs.Permission.{IsReadableMap}
 
 -- a permission as pages keep it
 
@@ -31,8 +30,7 @@ reads_same map other same r page = subst (λ (o : Option Attr). Reads o) (sym (s
 
 pub reads_replaced : (map : ℕ → Option Attr) (first pages : ℕ) (attr : Attr) → ReadsToo attr.prot → IsReadableMap map
     → IsReadableMap (replaced map first pages attr)
-reads_replaced map first pages attr new r page =
-    either (in_row first pages page) (Some (attr_after attr (page - first))) (map page) new (r page)
+reads_replaced map first pages attr new r page = either (in_row first pages page) (Some (attr_after attr (page - first))) (map page) new (r page)
 
 pub reads_removed : (map : ℕ → Option Attr) (first pages : ℕ) → IsReadableMap map → IsReadableMap (removed map first pages)
 reads_removed map first pages r page = either (in_row first pages page) None (map page) tt (r page)

@@ -1,10 +1,8 @@
 -- One run: the pages of it, of two merged, and of a part.
-use Rattle.std.proofs.Common.{◌≡◌, ℕ, ◌+◌, ◌-◌, ◌^◌, ◌<◌, ◌≤◌, ◌⊎◌, inl, inr, ⊎_elim, max, min, Bool, true, false, if◌then◌else◌, ◌==◌, ◌&&◌, leb, ltb, refl, sym, ◌∙◌, ap, subst, arith, Option, Some, None, option_map, eqb-true, le-leb, lt-ltb}
-use Rattle.std.proofs.{Math.Bool.{and-false}, lemmas.Bool.{and_parts, cases_lt, le-ltb, lt-leb}}
-use Rattle.vm_types.proofs.Modes.{sizes}
-use Rattle.vm_types.specs.{declared.permission.Prot.{Prot}, declared.region.Attr.{Attr}, Attributes.{attr_after, backing_after, attr_eq, backing_fits}}
-use Rattle.regions.specs.{declared.run.Run.{Run}, Run.{IsRun, attr_in, joins, merged, changed_run, cut_run}, RunList.{run_or_else}}
-use Rattle.regions.proofs.AttrLemmas.{attr_after-add, backing_fits-after, backing_fits-merged, backing_fits-less, attr_eq-true}
+use Rattle.std.proofs.Common.{◌≡◌, ℕ, ◌+◌, ◌-◌, ◌^◌, ◌<◌, ◌≤◌, ◌⊎◌, inl, inr, ⊎_elim, max, min, Bool, true, false, if◌then◌else◌, ◌==◌, ◌&&◌, leb, ltb, refl, sym, ◌∙◌, ap, subst, arith, Option, Some, None, option_map, eqb-true, le-leb}
+use Rattle.{std.proofs.{Common.{lt-ltb}, Math.Bool.{and-false}, lemmas.Bool.{and_parts, cases_lt, le-ltb, lt-leb}}, vm_types.{proofs.Modes.{sizes}, specs.Attributes.{attr_after, backing_after, attr_eq, backing_fits}}}
+use Rattle.{vm_types.specs.declared.{permission.Prot.{Prot}, region.Attr.{Attr}}, regions.{proofs.AttrLemmas.{attr_after-add, backing_fits-after, backing_fits-merged, backing_fits-less, attr_eq-true}, specs.Run.{IsRun, attr_in, joins}}}
+use Rattle.regions.specs.{Run.{merged, changed_run, cut_run}, RunList.{run_or_else}, declared.run.Run.{Run}}
 
 -- where a page lies
 pub data Side (run : Run) (page : ℕ) : Type 0 where
@@ -16,8 +14,7 @@ pub lt_or_le : (a b : ℕ) → (a < b) ⊎ (b ≤ a)
 lt_or_le a b = cases_lt a b
 
 pub side : (run : Run) (page : ℕ) → Side run page
-side run page =
-    ⊎_elim (λ h. below h) (λ l. ⊎_elim (λ h. inside l h) (λ h. above h) (lt_or_le page run.end)) (lt_or_le page run.first)
+side run page = ⊎_elim (λ h. below h) (λ l. ⊎_elim (λ h. inside l h) (λ h. above h) (lt_or_le page run.end)) (lt_or_le page run.first)
 
 -- what hangs on a test is so where it is either way
 module _ {A : Type 0} (P : A → Type 0) (a b : ℕ) (x y : A) where
@@ -48,8 +45,7 @@ attr_in-above run page h = rw (row_above run.first run.end page h)
 
 -- no page is of two runs, where one ends before the other
 pub apart : (run next : Run) (page : ℕ) → run.end ≤ next.first → (attr_in run page ≡ None) ⊎ (attr_in next page ≡ None)
-apart run next page h =
-    ⊎_elim (λ b. inr (attr_in-below next page (omega arith))) (λ l. inl (attr_in-above run page l)) (lt_or_le page run.end)
+apart run next page h = ⊎_elim (λ b. inr (attr_in-below next page (omega arith))) (λ l. inl (attr_in-above run page l)) (lt_or_le page run.end)
 
 pub or_else-none : (o : Option Attr) → run_or_else o None ≡ o
 or_else-none None = refl
@@ -65,10 +61,7 @@ pub record Joins (run next : Run) : Type 0 where
 pub joins-true : (run next : Run) → joins run next ≡ true → Joins run next
 joins-true run next e =
     let parts = and_parts (run.end == next.first) (attr_eq (attr_after run.attr (run.end - run.first)) next.attr) e in
-    record {
-      touches = eqb-true run.end next.first parts.0;
-      goes_on = attr_eq-true (attr_after run.attr (run.end - run.first)) next.attr parts.1;
-    }
+    record { touches = eqb-true run.end next.first parts.0; goes_on = attr_eq-true (attr_after run.attr (run.end - run.first)) next.attr parts.1 }
 
 after_merged : (run next : Run) (page : ℕ) → run.first < run.end → Joins run next → run.end ≤ page → attr_after next.attr (page - next.first) ≡ attr_after run.attr (page - run.first)
 after_merged run next page r j h =

@@ -1,9 +1,8 @@
 -- What the walks along a list find, said of its map.
-use Rattle.std.proofs.Common.{◌==◌, IfSome, IsSome, ◌/◌, ◌≡◌, ℕ, zero, suc, ◌+◌, ◌<◌, ◌≤◌, ◌⊎◌, inl, inr, ⊎_elim, max, Bool, true, false, not, if◌then◌else◌, ◌&&◌, leb, ltb, refl, sym, ◌∙◌, ap, ap₂, arith, List, [], ◌∷◌, Option, Some, None, is_some, is_none, true≢false, leb-true, leb-false, ltb-true, le-leb, lt-ltb}
-use Rattle.std.proofs.lemmas.Bool.{cases_Bool, cases_eq, false_from_ne_true, and_parts, and_from}
-use Rattle.vm_types.specs.{Limits.{user_end}, declared.region.Attr.{Attr}, Rows.{is_covered}, Placement.{is_free, is_place, lowest_from, lowest_place, placed}}
-use Rattle.regions.specs.{declared.run.Run.{Run}, Run.{IsRun, attr_in}, RunList.{run_or_else, attr_at, IsMaximal}, Search.{gap_from, is_clear, lowest_gap}}
-use Rattle.regions.proofs.{RunLemmas.{by_leb, by_ltb, lt_or_le, attr_in-inside, attr_in-below, attr_in-above}, ListLemmas.{attr_at-before}}
+use Rattle.std.proofs.Common.{◌==◌, IfSome, IsSome, ◌/◌, ◌≡◌, ℕ, zero, suc, ◌+◌, ◌<◌, ◌≤◌, ◌⊎◌, inl, inr, ⊎_elim, max, Bool, true, false, not, if◌then◌else◌, ◌&&◌, leb, ltb, refl, sym, ◌∙◌, ap, ap₂, arith, List, [], ◌∷◌, Option, Some, None}
+use Rattle.{std.proofs.{Common.{is_some, is_none, true≢false, leb-true, leb-false, ltb-true, le-leb, lt-ltb}, lemmas.Bool.{cases_Bool, cases_eq, false_from_ne_true, and_parts, and_from}}, vm_types.specs.Limits.{user_end}}
+use Rattle.{vm_types.specs.{Placement.{is_free, is_place, lowest_from, lowest_place, placed}, Rows.{is_covered}, declared.region.Attr.{Attr}}, regions.proofs.{ListLemmas.{attr_at-before}, RunLemmas.{by_leb, by_ltb, lt_or_le}}}
+use Rattle.regions.{proofs.RunLemmas.{attr_in-inside, attr_in-below, attr_in-above}, specs.{Run.{IsRun, attr_in}, RunList.{run_or_else, attr_at, IsMaximal}, Search.{gap_from, is_clear, lowest_gap}, declared.run.Run.{Run}}}
 
 -- rows all mapped, or all free
 
@@ -48,8 +47,7 @@ some_else None b e = e
 some_else (Some x) b e = refl
 
 some_inside : (run : Run) (runs : List Run) (page : ℕ) → run.first ≤ page → page < run.end → is_some (attr_at (run ∷ runs) page) ≡ true
-some_inside run runs page a b =
-    ap (λ (o : Option Attr). is_some (run_or_else o (attr_at runs page))) (attr_in-inside run page a b)
+some_inside run runs page a b = ap (λ (o : Option Attr). is_some (run_or_else o (attr_at runs page))) (attr_in-inside run page a b)
 
 -- the gap is the first page from this one on that isn't mapped
 
@@ -262,5 +260,4 @@ module _ (mode : ℕ) where
   pub placed-is : (map : ℕ → Option Attr) (address count : ℕ) (x y : Bool) → (address == 0) ≡ x → is_place mode map count (address / 4096) ≡ y
       → placed mode map address count ≡ (if not x && y then Some (address / 4096) else lowest_place mode map count)
   unfolding placed
-  placed-is map address count x y e p =
-      ap₂ (λ (x y : Bool). if not x && y then Some (address / 4096) else lowest_place mode map count) e p
+  placed-is map address count x y e p = ap₂ (λ (x y : Bool). if not x && y then Some (address / 4096) else lowest_place mode map count) e p

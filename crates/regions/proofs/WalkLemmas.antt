@@ -1,9 +1,8 @@
 -- What is public of a list's map: where it is mapped, and what a walk over its runs finds.
 use Rattle.std.proofs.{Common.{◌≡◌, ℕ, ◌+◌, ◌-◌, ◌^◌, ◌<◌, ◌≤◌, ◌&&◌, eq-eqb, ⊎_elim, max, min, Bool, false, refl, sym, ◌∙◌, ap, subst, arith, List, [], ◌∷◌, Option, Some, None, IsSome, IfSome, IfNone}, lemmas.Option.{same_Some}}
-use Rattle.vm_types.specs.{Limits.{user_end}, declared.region.Attr.{Attr}, Attributes.{attr_after, attr_eq, backing_fits}, Rows.{IsUserMap}}
-use Rattle.regions.specs.{declared.run.Run.{Run}, Run.{IsRun, attr_in, cut_run}, RunList.{run_or_else, attr_at, joins_first, IsMaximal, IsNextRun}, Search.{first_part, run_or}}
-use Rattle.regions.proofs.AttrLemmas.{attr_after-add, attr_after-zero, backing_fits-after, backing_fits-less}
-use Rattle.regions.proofs.{RunLemmas.{by_ltb, widest_run, lt_or_le, attr_in-inside, attr_in-below, attr_in-above, attr_in-cut, clipped-inside, changed-none, IsPart, cut-run}, ListLemmas.{attr_at-before}}
+use Rattle.{vm_types.specs.{Attributes.{attr_after, attr_eq, backing_fits}, Limits.{user_end}, Rows.{IsUserMap}, declared.region.Attr.{Attr}}, regions.proofs.AttrLemmas.{attr_after-add, attr_after-zero, backing_fits-after}}
+use Rattle.regions.proofs.{AttrLemmas.{backing_fits-less}, ListLemmas.{attr_at-before}, RunLemmas.{by_ltb, widest_run, lt_or_le, attr_in-inside, attr_in-below, attr_in-above, attr_in-cut, clipped-inside, changed-none, IsPart, cut-run}}
+use Rattle.regions.specs.{Run.{IsRun, attr_in, cut_run}, RunList.{run_or_else, attr_at, joins_first, IsMaximal, IsNextRun}, Search.{first_part, run_or}, declared.run.Run.{Run}}
 
 -- only user pages are mapped
 
@@ -45,8 +44,7 @@ module _ (mode : ℕ) where
 
   user_at : (from : ℕ) (runs : List Run) (page : ℕ) → IsMaximal mode from runs → IsUserAttr mode page (attr_at runs page)
   user_at from [] page m = user_none page
-  user_at from (run ∷ runs) page m =
-      user_or page (attr_in run page) (attr_at runs page) (user_in run page m.1) (user_at run.end runs page m.3)
+  user_at from (run ∷ runs) page m = user_or page (attr_in run page) (attr_at runs page) (user_in run page m.1) (user_at run.end runs page m.3)
 
   pub user_map : (runs : List Run) → IsMaximal mode 16 runs → IsUserMap mode (attr_at runs)
   user_map runs m = record { user_pages = λ page. (user_at 16 runs page m).0; file_pages = λ page. (user_at 16 runs page m).1 }

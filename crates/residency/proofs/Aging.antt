@@ -1,7 +1,6 @@
 -- Frames given up one after the other, and what becomes of entries then.
-use Rattle.residency.proofs.Names.{◌≡◌, ℕ, ◌<◌, inl, inr, true, Option, Some, None, refl, sym, ap, ◌∙◌, subst, false≢true, Free, Table, IsFull, frame_of}
-use Rattle.residency.specs.{declared.leaves.Change.{Change}, declared.leaves.Change.TheVariants.{Forget, ClearAccessed}, Picture.{Picture, entry, is_data}, Leaves.{concerns, Drops}}
-use Rattle.residency.{specs.Ages.{Ages, Same, Cleared, Left, LeavesFrame, IsGiven, GivesNone, GivesForTables}, proofs.Bits.{some_framed, framed, changed_once}}
+use Rattle.residency.{proofs.{Bits.{some_framed, framed, changed_once}, Names.{◌≡◌, ℕ, ◌<◌, inl, inr, true, Option, Some, None, refl, sym, ap, ◌∙◌, subst, false≢true, Free, Table, IsFull, frame_of}}, specs.Ages.{Ages, Same, Cleared, Left}}
+use Rattle.residency.specs.{Ages.{LeavesFrame, IsGiven, GivesNone, GivesForTables}, Leaves.{concerns, Drops}, Picture.{Picture, entry, is_data}, declared.leaves.Change.{Change, TheVariants.{Forget, ClearAccessed}}}
 
 pub ages_map : (g h : ℕ → Type 0) (e e' : ℕ) → ((n : ℕ) → g n → h n) → Ages g e e' → Ages h e e'
 ages_map g h e e' more (Same same) = Same same
@@ -47,10 +46,7 @@ given_still : {mode : ℕ} (a b c : Picture mode) (tried : Option ℕ) → Gives
 given_still a b c tried later n given = (
   given.0,
   elim given.1 [
-    | inl gone ↦ elim (later.roles n) [
-      | inl same ↦ inl (ap is_data same ∙ gone)
-      | inr table ↦ inl (ap is_data table.0)
-    ]
+    | inl gone ↦ elim (later.roles n) [ inl same ↦ inl (ap is_data same ∙ gone) | inr table ↦ inl (ap is_data table.0) ]
     | inr none ↦ (let bad : None ≡ Some n = none in (cc))
   ],
 )
@@ -58,10 +54,7 @@ given_still a b c tried later n given = (
 -- and what is given up later held a page from the beginning
 given_later : {mode : ℕ} (a b c : Picture mode) (tried : Option ℕ) → GivesForTables a b None → (n : ℕ) → IsGiven b c tried n → IsGiven a c tried n
 given_later a b c tried first n given = (
-  elim (first.roles n) [
-    | inl same ↦ sym (ap is_data same) ∙ given.0
-    | inr table ↦ absurd (false≢true (sym (ap is_data table.0) ∙ given.0))
-  ],
+  elim (first.roles n) [ inl same ↦ sym (ap is_data same) ∙ given.0 | inr table ↦ absurd (false≢true (sym (ap is_data table.0) ∙ given.0)) ],
   given.1,
 )
 
@@ -80,16 +73,10 @@ gives_then a b c tried f g = record {
       | inl same ↦ inl (same ∙ was)
       | inr table ↦ inr (
         table.0,
-        elim table.1 [
-          | inl free ↦ inl (sym was ∙ free)
-          | inr datum ↦ inr (sym (ap is_data was) ∙ datum)
-        ],
+        elim table.1 [ inl free ↦ inl (sym was ∙ free) | inr datum ↦ inr (sym (ap is_data was) ∙ datum) ],
       )
     ]
-    | inr taken ↦ elim (g.roles n) [
-      | inl same ↦ inr (same ∙ taken.0, taken.1)
-      | inr table ↦ inr (table.0, taken.1)
-    ]
+    | inr taken ↦ elim (g.roles n) [ inl same ↦ inr (same ∙ taken.0, taken.1) | inr table ↦ inr (table.0, taken.1) ]
   ];
   entries = λ pid page h. ages_then (IsGiven a c tried) (entry a pid page) (entry b pid page) (entry c pid page)
       (ages_map (IsGiven a b None) (IsGiven a c tried) (entry a pid page) (entry b pid page) (given_still a b c tried g) (f.entries pid page h))
@@ -97,9 +84,6 @@ gives_then a b c tried f g = record {
   pointers = λ n i m points. g.pointers n i m (f.pointers n i m points);
   needed = elim g.needed [
     | inl full ↦ inl full
-    | inr none ↦ elim f.needed [
-      | inl full ↦ inl (full_then b c tried g full)
-      | inr first ↦ inr (none_then a b c first none)
-    ]
+    | inr none ↦ elim f.needed [ inl full ↦ inl (full_then b c tried g full) | inr first ↦ inr (none_then a b c first none) ]
   ];
 }

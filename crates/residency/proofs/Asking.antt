@@ -1,12 +1,10 @@
 -- When swap is asked, from the frame that is tried up to the calls that take one.
 use Rattle.vm_types.specs.declared.mode.Levels as Levels
-use Rattle.residency.proofs.Names.{top_level, FrameNo, FilePage, ◌≡◌, ◌≢◌, ℕ, ◌⊎◌, inl, inr, List, Option, refl, sym, ap, ◌∙◌, subst, arith, Ghosts, AsksOnly, Nothing, Names, NamesOnce, asks_none, asks_once, asks_wider, asks_then}
-use Rattle.residency.proofs.Names.{once_named, once_none, FileStore, IsSectorOf, ReadsFilePage, Free, Table, role_of, IsFrame, IsFull, SameButFor, Swap, Pages, slots_of, IsSectorOfSlot, IsSectorOfFreeSlot, place_of, is_touched, KeepsTrees}
-use Rattle.residency.proofs.Names.{data_changed}
-use Rattle.std.proofs.Common.{Result}
+use Rattle.residency.proofs.{Entries.{entries_kept}, Giving.{frame_given, gives_kept, one_given}, Names.{top_level, FrameNo, FilePage, ◌≡◌, ◌≢◌, ℕ, ◌⊎◌, inl, inr, List, Option, refl, sym, ap, ◌∙◌, subst, arith, Ghosts, AsksOnly, Nothing}}
+use Rattle.residency.proofs.Names.{Names, NamesOnce, asks_none, asks_once, asks_wider, asks_then, once_named, once_none, FileStore, IsSectorOf, ReadsFilePage, Free, Table, role_of, IsFrame, IsFull, SameButFor, Swap, Pages, slots_of}
+use Rattle.residency.{proofs.Names.{IsSectorOfSlot, IsSectorOfFreeSlot, place_of, is_touched, KeepsTrees, data_changed}, specs.{Ages.{GivesFrame, WantsFrame}, Calls.{Frees, NeedsSlot, GivesToSwap, AsksSwap, AsksSwapAlso, AsksOneSlot}}}
+use Rattle.{residency.specs.{Evictions.{IsEvictable, ClearsMarks, Looked, GivesUp}, Parts.{IsFit}, Picture.{Picture, picture_of, is_data}, Reading.{ReadsStore}, declared.kernel.Core.{Core}}, std.proofs.Common.{Result}}
 use Rattle.swap.specs.Slots as Slots
-use Rattle.residency.specs.{declared.kernel.Core.{Core}, Picture.{Picture, picture_of, is_data}, Parts.{IsFit}, Ages.{GivesFrame, WantsFrame}, Calls.{Frees, NeedsSlot, GivesToSwap, AsksSwap, AsksSwapAlso, AsksOneSlot}}
-use Rattle.residency.{specs.{Evictions.{IsEvictable, ClearsMarks, Looked, GivesUp}, Reading.{ReadsStore}}, proofs.{Entries.{entries_kept}, Giving.{frame_given, gives_kept, one_given}}}
 
 or_more : {A B : Type 0} → A ⊎ ⊥ → A ⊎ B
 or_more (inl is) = inl is

@@ -1,9 +1,9 @@
 -- Bits cleared in entries, and which entries a change is for.
 use Rattle.residency.proofs.Names.{◌≡◌, ◌≢◌, ℕ, ◌-◌, ◌/◌, ◌%◌, ◌^◌, ◌==◌, true, false, not, if◌then◌else◌, Some, None, Option, inl, inr, refl, ap, sym, ◌∙◌, subst, arith, ne_eqb, ◌*◌, ◌+◌, cases_Bool, false≢true, and_parts, and_right}
 use Rattle.residency.proofs.Names.{not-true, nat_tests, Attr, count_of, Pte, has_bit, is_valid, is_accessed, is_dirty, frame_of, Entry, Leaf, Swapped, Parked, number_of}
-use Rattle.page_tables.specs.declared.forms.Entry.TheVariants as Entries
 use Rattle.residency.specs.{declared.leaves.Change.{Change}, declared.leaves.Change.TheVariants.{Forget, ClearAccessed, ClearDirty}, Seats.{InFrame, seat, is_private, is_swapped}, Picture.{Picture}}
 use Rattle.residency.{specs.{Parts.{IsEntryFor, Nothing, Resident, Away, IsResident, IsBehind}, Leaves.{Drops, concerns, IsChanged}}, proofs.Start.{seat-none}}
+use Rattle.page_tables.specs.declared.forms.Entry.TheVariants as Entries
 
 bit_same : (e d k : ℕ) → e / 2 ^ k % 2 ≡ d / 2 ^ k % 2 → has_bit e k ≡ has_bit d k
 unfolding has_bit
@@ -83,10 +83,7 @@ valid_some : (e : ℕ) → is_valid e ≡ true → e ≢ 0
 valid_some e valid none = false≢true (sym valid_zero ∙ sym (ap is_valid none) ∙ valid)
 
 pub not_swapped : (e : ℕ) → (is_valid e ≡ false → has_bit e 1 ≡ false) → is_swapped e ≡ false
-not_swapped e framed = elim (cases_Bool (is_valid e)) [
-  | inl t ↦ rw t refl
-  | inr f ↦ rw (f, framed f) refl
-]
+not_swapped e framed = elim (cases_Bool (is_valid e)) [ inl t ↦ rw t refl | inr f ↦ rw (f, framed f) refl ]
 
 -- an entry that a change is for names a frame
 pub some_framed : (change : Change) (e : ℕ) → concerns change e ≡ true → (e ≢ 0) × (is_swapped e ≡ false)
@@ -112,10 +109,7 @@ changed_once ClearAccessed e e' c = and_right (is_valid e') (is_accessed e') c.2
 changed_once ClearDirty e e' c = and_right (is_valid e') (is_dirty e') c.2
 
 seat_valid : (e : ℕ) → is_valid e ≡ true → seat e ≡ (if is_private e then Some (InFrame (frame_of e)) else None)
-seat_valid e valid = elim (cases_Bool (is_private e)) [
-  | inl t ↦ rw t refl
-  | inr f ↦ rw (f, valid) refl
-]
+seat_valid e valid = elim (cases_Bool (is_private e)) [ inl t ↦ rw t refl | inr f ↦ rw (f, valid) refl ]
 
 seat_dropped : (e e' : ℕ) → is_valid e ≡ true → Drops e e' → seat e' ≡ seat e
 seat_dropped e e' valid drops =

@@ -1,11 +1,9 @@
 -- A file page comes into a free frame, and is touched there.
-use Rattle.residency.proofs.Names.{top_level, PageKey, File, Object, Attr, Backing, ◌≡◌, ◌≢◌, ℕ, inl, inr, ◌<◌, List, true, false, Option, Some, refl, sym, ap, ◌∙◌, arith, cases_eq, false≢true, Free, Table, Private, Cache, FrameTable}
-use Rattle.residency.proofs.Names.{bytes_of, role_of, SameButFor, Takes, with_bytes, with_bytes-others, is_valid, frame_of, IsPage, KeepsTrees, data_changed, Home, Frame, Slot}
-use Rattle.vm_types.specs.declared.region.Backing.TheVariants.{Anon, Private as PrivateOf, Shared as SharedOf, Common as CommonOf}
-use Rattle.residency.specs.{Seats.{Seat, InFrame, InSlot, seat, is_private, is_swapped}, Picture.{Picture, entry, view, held, bytes_at, bytes_in, IsOwned, count_in, page_in}}
-use Rattle.residency.specs.{Parts.{IsFit, IsEntryFor, Nothing, Resident, Away, IsBehind, HasPlaces, IsDirtySound, nowhere}, Steps.{BringsIn}}
-use Rattle.residency.proofs.{Entries.{entries_kept}, Granting.{granting_same}, Moves.{shares_same, fit_kept, counted_on}, Places.{cases_page, one_frame}, Placed.{places_replaced, dirty_replaced}, Rooted.{rooted_same, rooted_frames}}
-use Rattle.residency.proofs.{Setting.{view_seated, each_view, held_by}, Bits.{valid_zero}}
+use Rattle.residency.proofs.{Bits.{valid_zero}, Entries.{entries_kept}, Granting.{granting_same}, Moves.{shares_same, fit_kept, counted_on}, Names.{top_level, PageKey, File, Object, Attr, Backing, ◌≡◌, ◌≢◌, ℕ, inl, inr, ◌<◌, List, true}}
+use Rattle.residency.proofs.Names.{false, Option, Some, refl, sym, ap, ◌∙◌, arith, cases_eq, false≢true, Free, Table, Private, Cache, FrameTable, bytes_of, role_of, SameButFor, Takes, with_bytes, with_bytes-others, is_valid, frame_of}
+use Rattle.residency.proofs.{Names.{IsPage, KeepsTrees, data_changed, Home, Frame, Slot}, Placed.{places_replaced, dirty_replaced}, Places.{cases_page, one_frame}, Rooted.{rooted_same, rooted_frames}, Setting.{view_seated, each_view}}
+use Rattle.residency.{proofs.Setting.{held_by}, specs.{Parts.{IsFit, IsEntryFor, Nothing, Resident, Away, IsBehind, HasPlaces, IsDirtySound, nowhere}, Picture.{Picture, entry, view, held, bytes_at, bytes_in, IsOwned, count_in, page_in}}}
+use Rattle.{residency.specs.{Seats.{Seat, InFrame, InSlot, seat, is_private, is_swapped}, Steps.{BringsIn}}, vm_types.specs.declared.region.Backing.TheVariants.{Anon, Private as PrivateOf, Shared as SharedOf, Common as CommonOf}}
 
 -- a frame that was taken and written, as the other frames see it
 pub frames_written : (old mid : FrameTable) (n : ℕ) (w : List ℕ) → Takes old mid Cache n → SameButFor n old (with_bytes mid n w)
@@ -57,10 +55,7 @@ module _ {mode : ℕ} (old new : Picture mode) (page : PageKey) (n : ℕ) (fit :
   forth (InFrame m) is = brings.frames.roles m (private_ne m is) ∙ is
   forth (InSlot k) is = (
     in_use k (is.1 page) is.0,
-    λ p at. elim (cases_page p page) [
-      | inl e ↦ no_slot p k e at
-      | inr ne ↦ is.1 p (sym (brings.others p ne) ∙ at)
-    ],
+    λ p at. elim (cases_page p page) [ inl e ↦ no_slot p k e at | inr ne ↦ is.1 p (sym (brings.others p ne) ∙ at) ],
   )
 
   back : (z : Seat) → IsOwned new z → IsOwned old z
@@ -70,10 +65,7 @@ module _ {mode : ℕ} (old new : Picture mode) (page : PageKey) (n : ℕ) (fit :
   ]
   back (InSlot k) is = (
     (was_used k is.0).1,
-    λ p at. elim (cases_page p page) [
-      | inl e ↦ (was_used k is.0).0 (ap old.place (sym e) ∙ at)
-      | inr ne ↦ is.1 p (brings.others p ne ∙ at)
-    ],
+    λ p at. elim (cases_page p page) [ inl e ↦ (was_used k is.0).0 (ap old.place (sym e) ∙ at) | inr ne ↦ is.1 p (brings.others p ne ∙ at) ],
   )
 
   counts : (z : Seat) → IsOwned old z → count_in new z ≡ count_in old z

@@ -1,14 +1,11 @@
 -- What a call knows of its page after a frame was asked for.
-use Rattle.residency.proofs.Names.{◌≡◌, ℕ, inl, inr, ◌⊎◌, true, false, Option, Some, sym, ◌∙◌, subst, cases_Bool, Attr, Backing, Anon, Shared, Common, frame_of}
-use Rattle.vm_types.specs.declared.region.Backing.TheVariants.{Private}
+use Rattle.residency.proofs.Names.{◌≡◌, ℕ, inl, inr, ◌⊎◌, true, false, Option, Some, sym, ◌∙◌, subst, cases_Bool, Attr, Backing, Anon, frame_of}
 use Rattle.residency.{specs.{Seats.{is_private, is_swapped}, Picture.{Picture}, Parts.{IsEntryFor, Nothing, Resident, Away, IsBehind}, Calls.{IsStaying}}, proofs.Places.{one_frame}}
 
 -- the frame behind a page is one
 one_behind : {mode : ℕ} (c : Picture mode) (b : Backing) (n m : ℕ) → IsBehind c b n → IsBehind c b m → (n ≡ 0) ⊎ (n ≡ m)
 one_behind c Anon n m e f = inl e
-one_behind c (Private p) n m e f = inr (one_frame m n (sym f ∙ e))
-one_behind c (Shared p) n m e f = inr (one_frame m n (sym f ∙ e))
-one_behind c (Common p) n m e f = inr (one_frame m n (sym f ∙ e))
+one_behind c b n m e f = inr (one_frame m n (sym f ∙ e))
 
 -- a page whose shown bytes lie in the frame to keep keeps its entry
 pub shown_stays : {mode : ℕ} (c : Picture mode) (attr : Option Attr) (b : Backing) (e n : ℕ) → IsEntryFor c attr e → ((a : Attr) → attr ≡ Some a → a.backing ≡ b)

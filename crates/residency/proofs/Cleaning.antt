@@ -1,8 +1,8 @@
 -- A page of a file or an object in a frame, of which no entry says D, is touched no more.
 use Rattle.residency.proofs.Names.{top_level, PageKey, ◌≡◌, ◌≢◌, ℕ, inl, inr, false, sym, ap, ◌∙◌, refl, false≢true, bytes_of, frame_of, page_entry, Frame, Slot}
-use Rattle.page_cache.specs.CacheTable as CacheTable
 use Rattle.residency.specs.{declared.leaves.Change.TheVariants.{ClearDirty}, Seats.{Seat, InFrame, InSlot, seat}, Picture.{Picture, entry, view, held, bytes_in}, Parts.{IsFit, nowhere}, Leaves.{IsClear}}
 use Rattle.residency.proofs.{Entries.{entries_kept}, Moves.{shares_same, fit_kept}, Places.{cases_page, one_frame}, Placed.{dirty_replaced}, Rooted.{rooted_frames}, Setting.{view_seated, held_same}}
+use Rattle.page_cache.specs.CacheTable as CacheTable
 
 -- nothing but the touched set changed
 pub record Untouches {mode : ℕ} (old new : Picture mode) (page : PageKey) : Type 0 where

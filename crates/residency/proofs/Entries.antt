@@ -1,6 +1,5 @@
 -- What stands for the pages of processes, where trees are as they were.
-use Rattle.residency.proofs.Names.{top_level, ◌≡◌, ◌≢◌, ℕ, Option, Some, None, refl, ap, ◌∙◌, FrameTable, IsRoot, page_entry}
-use Rattle.residency.specs.{Picture.{Picture, entry_under, entry}, Parts.{IsRootedBut}}
+use Rattle.residency.{proofs.Names.{top_level, ◌≡◌, ◌≢◌, ℕ, Option, Some, None, refl, ap, ◌∙◌, FrameTable, IsRoot, page_entry}, specs.{Parts.{IsRootedBut}, Picture.{Picture, entry_under, entry}}}
 
 entry_in-same : (mode : ℕ) (t t' : FrameTable) (r : Option ℕ) (page : ℕ) → ((x : ℕ) → r ≡ Some x → page_entry t' (top_level mode) x page ≡ page_entry t (top_level mode) x page)
     → entry_under mode t' r page ≡ entry_under mode t r page

@@ -1,8 +1,7 @@
 -- A frame loses a share to a slot, and a page of a file leaves its frame.
-use Rattle.residency.proofs.Names.{top_level, ◌≡◌, ◌≢◌, ℕ, inl, inr, ◌⊎◌, ◌<◌, Some, None, get_or, refl, sym, ap, ◌∙◌, subst, arith, cases_eq, Free, Table, Private, Cache, role_of, count_of, Releases, SlotTable, frame_of, IsPage}
-use Rattle.residency.proofs.Names.{data_released}
-use Rattle.residency.specs.{Seats.{Seat, InFrame, InSlot, seat}, Picture.{Picture, entry, IsOwned, count_in, page_in}, Parts.{IsRootedBut, IsFitBut, nowhere}, Steps.{SameBeside}}
-use Rattle.residency.proofs.{Entries.{entries_kept}, Seats.{counted_released, not_alone}, Granting.{granting_kept}, Places.{places_same, dirty_same}, Rooted.{rooted_same}, Moves.{behind_kept}, Start.{entry-dead, seat-none, cases_some}}
+use Rattle.residency.proofs.{Entries.{entries_kept}, Granting.{granting_kept}, Moves.{behind_kept}, Names.{top_level, ◌≡◌, ◌≢◌, ℕ, inl, inr, ◌⊎◌, ◌<◌, Some, None, get_or, refl, sym, ap, ◌∙◌, subst, arith, cases_eq, Free, Table, Private}}
+use Rattle.residency.proofs.{Names.{Cache, role_of, count_of, Releases, SlotTable, frame_of, IsPage, data_released}, Places.{places_same, dirty_same}, Rooted.{rooted_same}, Seats.{counted_released, not_alone}, Start.{entry-dead, seat-none}}
+use Rattle.residency.{proofs.Start.{cases_some}, specs.{Parts.{IsRootedBut, IsFitBut, nowhere}, Picture.{Picture, entry, IsOwned, count_in, page_in}, Seats.{Seat, InFrame, InSlot, seat}, Steps.{SameBeside}}}
 
 -- only a live process has own copies
 pub seat_number : {mode : ℕ} (c : Picture mode) (m pid page : ℕ) (z : Seat) → IsRootedBut c m → seat (entry c pid page) ≡ Some z → pid < 65
@@ -38,10 +37,7 @@ module _ {mode : ℕ} (old new : Picture mode) (n m : ℕ) (fit : IsFitBut old (
   forth (InSlot j) why is = ((let P : SlotTable → Type 0 = λ t. 0 < t.count j in subst P (sym beside.slots) is.0), λ p e. is.1 p (sym (beside.place p) ∙ e))
 
   back : (z : Seat) → IsOwned new z → IsOwned old z
-  back (InFrame j) is = elim (cases_eq j n) [
-    | inl e ↦ ap (role_of old.frames) e ∙ held
-    | inr ne ↦ sym (releases.others.roles j ne) ∙ is
-  ]
+  back (InFrame j) is = elim (cases_eq j n) [ inl e ↦ ap (role_of old.frames) e ∙ held | inr ne ↦ sym (releases.others.roles j ne) ∙ is ]
   back (InSlot j) is = ((let P : SlotTable → Type 0 = λ t. 0 < t.count j in subst P beside.slots is.0), λ p e. is.1 p (beside.place p ∙ e))
 
   counts : (z : Seat) → z ≢ InFrame n → IsOwned old z → count_in new z ≡ count_in old z
@@ -69,9 +65,8 @@ module _ {mode : ℕ} (old new : Picture mode) (n m : ℕ) (fit : IsFitBut old (
             (λ pid k h private write one. elim (cases_eq (frame_of (entry old pid k)) n) [
               | inl e ↦ (
                   let own : seat (entry old pid k) ≡ Some (InFrame n) = rw private (ap (λ j. Some (InFrame j)) e) in
-                  let more = shared_frame pid k h own in
                   let one_n : count_of old.frames n ≡ 1 = ap (count_of old.frames) (sym e) ∙ one in
-                  absurd (omega (arith, more, one_n)))
+                  absurd (omega (arith, shared_frame pid k h own, one_n)))
               | inr ne ↦ releases.others.counts (frame_of (entry old pid k)) ne ∙ one
             ])
             beside.at same;

@@ -56,10 +56,7 @@ module _ {mode : ℕ} (old new : Picture mode) (pid r : ℕ) (fit : IsFit old) (
     numbers = λ q x e. fit.rooted.numbers q x (was_root q x e).1;
     used = λ m table. (
         let ne : m ≢ r = λ is. (let bad : Free ≡ Table = sym exits.free ∙ ap (role_of new.frames) (sym is) ∙ table.role in (cc)) in
-        elim (fit.rooted.used m ((drops.tables m ne).1 table)) [
-          | inl z ↦ inl z
-          | inr o ↦ inr (used_left m ne o)
-        ]);
+        elim (fit.rooted.used m ((drops.tables m ne).1 table)) [ inl z ↦ inl z | inr o ↦ inr (used_left m ne o) ]);
   }
 
   pub fit_left : ((p : ObjectPage) → old.place (Object p) ≢ Home → is_named new.at p.object p.page ≡ true) → IsFit new

@@ -1,17 +1,13 @@
 -- A page of an object that no entry is over is at home, and its frame or slot is free.
-use Rattle.residency.proofs.Names.{top_level, ObjectPage, PageKey, Object, Backing, stands_on, names, is_object_page, ◌≡◌, ◌≢◌, ℕ, inl, inr, ◌<◌, true, false, Some, refl, sym, ap, ◌∙◌, subst, arith, eq-eqb, cases_eq, and_from, FrameTable}
-use Rattle.residency.proofs.Names.{frame_count, role_of, frame_of, IsPage, Points, Home, Frame, Slot}
-use Rattle.vm_types.specs.declared.region.Backing.TheVariants.{Anon, Private as PrivateOf, Shared as SharedOf, Common as CommonOf}
-use Rattle.residency.specs.{declared.leaves.Change.{Change}, declared.leaves.Change.TheVariants.{Forget, ClearDirty}, Seats.{is_private, is_swapped}, Picture.{Picture, entry}, Parts.{IsFit, nowhere}, Leaves.{IsOver}}
-use Rattle.residency.specs.Steps.{Forgets, HasNoEntry}
 use Rattle.residency.proofs.{Bits.{some_framed}, Cleaning.{Untouches, fit_untouched, views_untouched, held_untouched, entries_untouched}, Homing.{Homes, one_slot, fit_homed, same, views, held_else}, LeafSteps.{over_resident, over_backed}}
-use Rattle.residency.proofs.Leaving.{Leaves, unnamed_of, fit_home, left_spares, same as same_left, trees as trees_left, held_other as held_left, home_held}
+use Rattle.residency.proofs.{Leaving.{Leaves, unnamed_of, fit_home, left_spares, same as same_left, trees as trees_left, held_other as held_left, home_held}, Names.{top_level, ObjectPage, PageKey, Object, Backing, stands_on, names}}
+use Rattle.residency.proofs.Names.{is_object_page, ◌≡◌, ◌≢◌, ℕ, inl, inr, ◌<◌, true, false, Some, refl, sym, ap, ◌∙◌, subst, arith, eq-eqb, cases_eq, and_from, FrameTable, frame_count, role_of, frame_of, IsPage, Points, Home, Frame, Slot}
+use Rattle.residency.specs.{Leaves.{IsOver}, Parts.{IsFit, nowhere}, Picture.{Picture, entry}, Seats.{is_private, is_swapped}, Steps.{Forgets, HasNoEntry}, declared.leaves.Change.{Change, TheVariants.{Forget, ClearDirty}}}
+use Rattle.vm_types.specs.declared.region.Backing.TheVariants.{Common as CommonOf}
 
 named_backing : (b : Backing) (p : ObjectPage) → stands_on b ≡ Some (Object p) → is_object_page b p.object p.page ≡ true
-named_backing Anon p is = (cc)
-named_backing (PrivateOf q) p is = (cc)
-named_backing (SharedOf q) p is = (cc)
 named_backing (CommonOf q) p is = and_from _ _ (eq-eqb q.object p.object (cc)) (eq-eqb q.page p.page (cc))
+named_backing b p is = (cc)
 
 module _ {mode : ℕ} (c : Picture mode) (p : ObjectPage) (n : ℕ) (fit : IsFit c) (bare : HasNoEntry c p) (placed : c.place (Object p) ≡ Frame (record { 0 = n })) (above : 0 < n) where
   -- no entry is over its frame

@@ -1,8 +1,7 @@
 -- What is told of frames that are given up for others, from what was done to one.
-use Rattle.residency.proofs.Names.{top_level, FrameNo, ◌≡◌, ◌≢◌, ℕ, ◌⊎◌, inl, inr, true, Option, Some, None, refl, sym, ap, ◌∙◌, subst, arith, cases_eq, false≢true, Result, Ok, Err, OnErr, Free, Table, frame_count, role_of, IsFrame, IsFull}
-use Rattle.residency.proofs.Names.{AddsTable, Points, same_taken}
-use Rattle.residency.specs.{declared.leaves.Change.TheVariants.{ClearAccessed}, Picture.{Picture, entry, is_data}, Parts.{IsFit}, Steps.{SameBeside}, Calls.{Frees}, Evictions.{GivesUp, ClearsMarks}, Leaves.{ChangesLeaves}}
-use Rattle.residency.{specs.Ages.{Same, Cleared, GivesFrame, GivesNone, GivesForTables, IsGiven, KeepsRoles, KeepsRolesBut}, proofs.{Aging.{ages_map, ages_then}, Entries.{entries_kept}}}
+use Rattle.residency.proofs.{Aging.{ages_map, ages_then}, Entries.{entries_kept}, Names.{top_level, FrameNo, ◌≡◌, ◌≢◌, ℕ, ◌⊎◌, inl, inr, true, Option, Some, None, refl, sym, ap, ◌∙◌, subst, arith, cases_eq, false≢true, Result, Ok, Err}}
+use Rattle.residency.{proofs.Names.{OnErr, Free, Table, frame_count, role_of, IsFrame, IsFull, AddsTable, Points, same_taken}, specs.Ages.{Same, Cleared, GivesFrame, GivesNone, GivesForTables, IsGiven, KeepsRoles, KeepsRolesBut}}
+use Rattle.residency.specs.{Calls.{Frees}, Evictions.{GivesUp, ClearsMarks}, Leaves.{ChangesLeaves}, Parts.{IsFit}, Picture.{Picture, entry, is_data}, Steps.{SameBeside}, declared.leaves.Change.TheVariants.{ClearAccessed}}
 
 -- what is so however a call ended
 pub on_err_same : {T E : Type 0} (Q : Type 0) (r : Result T E) → Q → OnErr r Q
@@ -81,10 +80,7 @@ module _ {mode : ℕ} (old found new : Picture mode) (n : ℕ) (fit : IsFit foun
   roles_but m ne = adds.takes.others.roles m ne ∙ gives.roles m ne
 
   use_before : (role_of old.frames n ≡ Free) ⊎ (is_data (role_of old.frames n) ≡ true)
-  use_before = elim (frees.roles n) [
-    | inl same ↦ inl (sym same ∙ adds.takes.was_free)
-    | inr gone ↦ inr gone.1
-  ]
+  use_before = elim (frees.roles n) [ inl same ↦ inl (sym same ∙ adds.takes.was_free) | inr gone ↦ inr gone.1 ]
 
   entries_same : (pid page : ℕ) → entry new pid page ≡ entry found pid page
   entries_same = entries_kept found new 0 fit.rooted adds.entries beside.root
@@ -119,17 +115,11 @@ module _ {mode : ℕ} (old found new : Picture mode) (n : ℕ) (fit : IsFit foun
     roles = λ m. elim (cases_eq m n) [
       | inl e ↦ inr (
         ap (role_of new.frames) e ∙ adds.takes.kind_set,
-        elim use_before [
-          | inl free ↦ inl (ap (role_of old.frames) e ∙ free)
-          | inr datum ↦ inr (ap is_data (ap (role_of old.frames) e) ∙ datum)
-        ],
+        elim use_before [ inl free ↦ inl (ap (role_of old.frames) e ∙ free) | inr datum ↦ inr (ap is_data (ap (role_of old.frames) e) ∙ datum) ],
       )
       | inr ne ↦ inl (roles_but m ne)
     ];
     entries = λ pid page h. rw (entries_same pid page) (ages_map (λ m. (m ≡ n) × (is_data (role_of old.frames m) ≡ true)) (IsGiven old new None) (entry old pid page) (entry found pid page) given_table (gives.entries pid page h));
     pointers = gives_table.pointers;
-    needed = elim needed [
-      | inl full ↦ inl (full_table full)
-      | inr same ↦ inr (none_table same)
-    ];
+    needed = elim needed [ inl full ↦ inl (full_table full) | inr same ↦ inr (none_table same) ];
   }

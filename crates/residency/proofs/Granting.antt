@@ -1,9 +1,7 @@
 -- Grants: what each step does to what entries let be done.
 use Rattle.residency.proofs.Names.{top_level, PageKey, File, Object, Attr, Backing, Anon, Shared, Common, is_past_end_of, IsUserMap, is_past_end, ◌≡◌, ◌≢◌, ℕ, true, Option, refl, ap, ◌∙◌, subst, IsSome, count_of, can_write, frame_of}
-use Rattle.residency.proofs.Names.{IsPage, Frame, IsReadableMap}
-use Rattle.std.specs.Prelude.{◌⊎◌}
-use Rattle.vm_types.specs.declared.region.Backing.TheVariants.{Private}
-use Rattle.residency.{specs.{Picture.{Picture, entry, is_private}, Parts.{IsGranting, IsEntryFor, Nothing, Resident, Away, IsResident, IsBehind}}, proofs.{Places.{objects-same}, Ways.{each_page}}}
+use Rattle.residency.{proofs.{Names.{IsPage, Frame, IsReadableMap}, Places.{objects-same}, Ways.{each_page}}, specs.{Parts.{IsGranting, IsEntryFor, Nothing, Resident, Away, IsResident, IsBehind}, Picture.{Picture, entry, is_private}}}
+use Rattle.{std.specs.Prelude.{◌⊎◌}, vm_types.specs.declared.region.Backing.TheVariants.{Private}}
 
 -- no page leaves the frame that it lies in, and the files are the same
 pub record KeepsBehind {mode : ℕ} (old new : Picture mode) : Type 0 where
@@ -11,10 +9,9 @@ pub record KeepsBehind {mode : ℕ} (old new : Picture mode) : Type 0 where
   pub files : (f : ℕ) → new.files f ≡ old.files f
 
 pub past_end-same : {mode : ℕ} (old new : Picture mode) (b : Backing) → ((f : ℕ) → new.files f ≡ old.files f) → is_past_end new.files b ≡ is_past_end old.files b
-past_end-same old new Anon same = refl
 past_end-same old new (Private p) same = ap (λ i. is_past_end_of i p.page) (same p.file)
 past_end-same old new (Shared p) same = ap (λ i. is_past_end_of i p.page) (same p.file)
-past_end-same old new (Common p) same = refl
+past_end-same old new b same = refl
 
 behind-same : {mode : ℕ} (old new : Picture mode) (b : Backing) (n : ℕ) → KeepsBehind old new → IsBehind old b n → IsBehind new b n
 behind-same old new Anon n kept behind = behind

@@ -1,10 +1,9 @@
 -- An own copy handed over to a slot.
+use Rattle.residency.proofs.{Bits.{bit_clear, not_swapped}, Entries.{entry-of}, Evicted.{fit_released, seat_number}, Granting.{past_end-same}, Handed.{release_spares, same}, LeafSteps.{last_set}, Moves.{fit_moved, views_moved}}
 use Rattle.residency.proofs.Names.{top_level, Attr, ◌≡◌, ◌≢◌, ℕ, inl, inr, ◌⊎◌, ◌+◌, ◌*◌, ◌/◌, ◌%◌, ◌^◌, ◌<◌, true, false, [], Option, Some, None, get_or, refl, sym, ap, ◌∙◌, arith, ne_eqb, cases_eq, cases_Bool, false≢true, Free, Table}
-use Rattle.residency.proofs.Names.{Private, bytes_of, role_of, count_of, Releases, is_valid, frame_of, has_bit, SetsEntry, IsPage, missing_of, page_entry-missing}
-use Rattle.residency.specs.{Seats.{Seat, InFrame, InSlot, seat, is_private, is_swapped}, Picture.{Picture, entry, view, bytes_in}, Parts.{IsEntryFor, Nothing, Resident, Away, IsFitBut, IsFit}, Steps.{SameBeside, SetsPage}}
-use Rattle.residency.specs.{declared.leaves.Change.TheVariants.{Forget}, Leaves.{concerns}, Ages.{Ages, Same, Left}, Evictions.{HasShare, Spares}}
-use Rattle.residency.proofs.{Entries.{entry-of}, TableSteps.{sets_page, rooted_set}, Moves.{fit_moved, views_moved}, Evicted.{fit_released, seat_number}, Handed.{release_spares, same}, LeafSteps.{last_set}, Setting.{each_view, set_held}}
-use Rattle.residency.proofs.{Sparing.{spares_then}, Ways.{each_page}, Granting.{past_end-same}, Start.{seat-none, no_bit}, Bits.{bit_clear, not_swapped}}
+use Rattle.residency.proofs.{Names.{Private, bytes_of, role_of, count_of, Releases, is_valid, frame_of, has_bit, SetsEntry, IsPage, missing_of, page_entry-missing}, Setting.{each_view, set_held}, Sparing.{spares_then}, Start.{seat-none}}
+use Rattle.residency.{proofs.{Start.{no_bit}, TableSteps.{sets_page, rooted_set}, Ways.{each_page}}, specs.{Ages.{Ages, Same, Left}, Evictions.{HasShare, Spares}, Leaves.{concerns}, Parts.{IsEntryFor, Nothing, Resident, Away, IsFitBut}}}
+use Rattle.residency.specs.{Parts.{IsFit}, Picture.{Picture, entry, view, bytes_in}, Seats.{Seat, InFrame, InSlot, seat, is_private, is_swapped}, Steps.{SameBeside, SetsPage}, declared.leaves.Change.TheVariants.{Forget}}
 
 -- the number of a page in slot k
 pub record IsAway (e k : ℕ) : Type 0 where

@@ -1,9 +1,8 @@
 -- Own copies and touched pages that lie in slots and frames are no more than a state has.
 use Rattle.residency.proofs.Names.{◌≡◌, ◌≢◌, ℕ, zero, suc, inl, inr, ◌⊎◌, ◌+◌, ◌^◌, ◌<◌, ◌≤◌, Bool, true, Option, Some, refl, sym, ap, ◌∙◌, arith, cases_lt, cases_Bool, has_own, object_page_limit, count_below, sum_below, View, FilePage}
-use Rattle.residency.proofs.Names.{ObjectPage, PageKey, File, Object, object_limit, top_level, user_end, Private, role_of, count_of, IsPage, IsSwapFull, Place, Home, Frame, Slot}
-use Rattle.residency.specs.{Seats.{Seat, InFrame, InSlot, seat, is_seat, holders_at}, Picture.{Picture, entry, view, IsOwned, count_in, page_in}, Parts.{IsFitBut, nowhere}, Calls.{NeedsSlot}}
-use Rattle.residency.specs.Capacity.{copies_over, touched_file, stored_object}
-use Rattle.residency.proofs.{Counts.{count-all}, Seats.{seated, some_seat, off-none}, Pigeon.{Code, code, is_inside, passing, pigeons}, Places.{one_frame, one_slot, record_of, object_of}}
+use Rattle.residency.proofs.{Names.{ObjectPage, PageKey, File, Object, object_limit, top_level, user_end, Private, role_of, count_of, IsPage, IsSwapFull, Place, Home, Frame, Slot, every}, Pigeon.{Code, code, is_inside, passing, pigeons}}
+use Rattle.residency.{proofs.{Places.{one_frame, one_slot, record_of, object_of}, Seats.{seated, some_seat, off-none}}, specs.{Calls.{NeedsSlot}, Capacity.{copies_over, touched_file, stored_object}, Parts.{IsFitBut, nowhere}}}
+use Rattle.residency.specs.{Picture.{Picture, entry, view, IsOwned, count_in, page_in}, Seats.{Seat, InFrame, InSlot, seat, is_seat, holders_at}}
 
 -- own copies by process and page, and pages of files and of objects
 abbrev rows : ℕ → ℕ
@@ -57,9 +56,8 @@ module _ {mode : ℕ} (c : Picture mode) (m : ℕ) (fit : IsFitBut c nowhere 0 m
   unfolding holders_at
   some_holder z own some =
       let here = fit.counted.1.counts z own in
-      let none = off-none nowhere z in
       let page = page_in c fit.counted.0 z in
-      let found = count-found (λ q. is_seat (seat (entry c q page)) z) 65 (omega (arith, here, none, some)) in
+      let found = count-found (λ q. is_seat (seat (entry c q page)) z) 65 (omega (arith, here, off-none nowhere z, some)) in
       (found.0, found.1, seated (seat (entry c found.0 page)) z found.2)
 
   abbrev place_at : Seat → Place
@@ -88,9 +86,8 @@ module _ {mode : ℕ} (c : Picture mode) (m : ℕ) (fit : IsFitBut c nowhere 0 m
 
   one_seat : (z z' : Seat) → place_at z ≡ place_at z' → z ≡ z'
   one_seat (InFrame m) (InFrame j) e = ap (λ i. InFrame i) (sym (one_frame m j e))
-  one_seat (InFrame m) (InSlot k) e = absurd ((cc))
-  one_seat (InSlot k) (InFrame m) e = absurd ((cc))
   one_seat (InSlot k) (InSlot j) e = ap (λ i. InSlot i) (one_slot k j e)
+  one_seat z z' e = absurd ((cc))
 
   tells : (z z' : Seat) (a : Claim z) (b : Claim z') → a.of ≡ b.of → z ≡ z'
   tells z z' a b e = elim (a.own_or_kept) [
@@ -126,23 +123,17 @@ module _ {mode : ℕ} (c : Picture mode) (m : ℕ) (fit : IsFitBut c nowhere 0 m
     | inl own ↦ own_claim (InSlot k) own (full k lt)
     | inr file ↦ kept_claim (InSlot k) file.0 (λ e. (cc)) file.1 (fit.dirty.slotted file.0 k file.1)
   ]
-  claim_by k (inr le) = elim needs [
-    | inl own ↦ own_claim (InFrame n) own (shared own)
-    | inr file ↦ kept_claim (InFrame n) file.0 (λ e. (cc)) file.1 file.2
-  ]
+  claim_by k (inr le) = elim needs [ inl own ↦ own_claim (InFrame n) own (shared own) | inr file ↦ kept_claim (InFrame n) file.0 (λ e. (cc)) file.1 file.2 ]
 
   apart_by : (j k : ℕ) (a : (j < c.slots.total) ⊎ (c.slots.total ≤ j)) (b : (k < c.slots.total) ⊎ (c.slots.total ≤ k)) → j < c.slots.total + 1 → k < c.slots.total + 1 → seat_by j a ≡ seat_by k b → j ≡ k
   unfolding seat_by
   apart_by j k (inl lt) (inl lt') below below' e = cc
-  apart_by j k (inl lt) (inr le) below below' e = absurd ((cc))
-  apart_by j k (inr le) (inl lt) below below' e = absurd ((cc))
   apart_by j k (inr le) (inr le') below below' e = omega (arith, le, le', below, below')
+  apart_by j k a b below below' e = absurd ((cc))
 
   pub more_held : c.slots.total < copies_over mode (view c) (touched_file c) (stored_object c)
   more_held =
       let by : (k : ℕ) → (k < c.slots.total) ⊎ (c.slots.total ≤ k) = λ k. cases_lt k c.slots.total in
       let most = pigeons 3 rows (λ a b. places mode a b) (λ k. true) (λ k h. (claim_by k (by k)).of) (c.slots.total + 1) claimed (λ k h. (claim_by k (by k)).inner) (λ k h below. (claim_by k (by k)).holds)
       (λ j k h i lt lt' e. apart_by j k (by j) (by k) lt lt' (tells (seat_by j (by j)) (seat_by k (by k)) (claim_by j (by j)) (claim_by k (by k)) e)) in
-      let all = count-all (λ k. true) (c.slots.total + 1) (λ k lt. refl) in
-      let same = claimed_are mode (view c) (touched_file c) (stored_object c) in
-      omega (arith, most, all, same)
+      omega (arith, most, every (λ k. true) (c.slots.total + 1) (λ k lt. refl), claimed_are mode (view c) (touched_file c) (stored_object c))

@@ -29,9 +29,7 @@ module _ {mode : ℕ} (old new : Picture mode) (page : PageKey) (k : ℕ) (fit :
   not_k : (j : ℕ) → 0 < new.slots.count j → j ≢ k
   not_k j some e =
       let here : 0 < new.slots.count k = rw e at some in
-      let less = homes.slots.lowered in
-      let one = fit.places.slotted page k homes.was in
-      omega (arith, here, less, one)
+      omega (arith, here, homes.slots.lowered, fit.places.slotted page k homes.was)
 
   owned_ne : (j : ℕ) → IsOwned old (InSlot j) → j ≢ k
   owned_ne j is e = is.1 page (homes.was ∙ ap (λ i. Slot (record { 0 = i })) (sym e))
@@ -54,10 +52,7 @@ module _ {mode : ℕ} (old new : Picture mode) (page : PageKey) (k : ℕ) (fit :
   back (InFrame m) is = sym (role m) ∙ is
   back (InSlot j) is = (
     (let c = homes.slots.others.counts j (not_k j is.0) in let some = is.0 in omega (arith, c, some)),
-    λ p at. elim (cases_page p page) [
-      | inl e ↦ not_k j is.0 (one_slot j k (sym at ∙ ap old.place e ∙ homes.was))
-      | inr ne ↦ is.1 p (homes.others p ne ∙ at)
-    ],
+    λ p at. elim (cases_page p page) [ inl e ↦ not_k j is.0 (one_slot j k (sym at ∙ ap old.place e ∙ homes.was)) | inr ne ↦ is.1 p (homes.others p ne ∙ at) ],
   )
 
   counts : (z : Seat) → IsOwned old z → count_in new z ≡ count_in old z
@@ -84,8 +79,7 @@ module _ {mode : ℕ} (old new : Picture mode) (page : PageKey) (k : ℕ) (fit :
     slotted_else = λ p j ne is. homes.slots.others.counts j (slot_ne p j ne is);
     used = λ j some. (
         let ne = not_k j some in
-        let c = homes.slots.others.counts j ne in
-        elim (fit.places.used j (omega (arith, c, some))) [
+        elim (fit.places.used j (omega (arith, homes.slots.others.counts j ne, some))) [
           | inl own ↦ inl (forth (InSlot j) own)
           | inr file ↦ inr (inr ((λ e. ne (one_slot j k (sym e ∙ homes.was))), file.0, file.1))
         ]);

@@ -1,15 +1,13 @@
 -- Entries over one frame changed: what stays, and where such entries stand.
 use Rattle.vm_types.specs.declared.mode.Levels as Levels
-use Rattle.residency.proofs.Names.{user_end, top_level, PageKey, Attr, Backing, File, Object, backing_after, stands_on, ◌≡◌, ℕ, inl, inr, ◌⊎◌, ◌-◌, ◌<◌, ◌≤◌, true, false, List, [], Option, Some, None, get_or, refl, sym, ap, ◌∙◌, subst}
-use Rattle.residency.proofs.Names.{arith, ne_eqb, cases_eq, cases_Bool, false≢true, same_Some, IsSome, IfNone, Free, Zero, Table, Private, Cache, FrameTable, role_of, is_valid, is_dirty, is_pointer, frame_of, entry_at, index_of, SetsEntry}
-use Rattle.residency.proofs.Names.{IsPage, IsTable, IsForest, missing_of, last_table, way_forth, last_is, page_entry-missing, ends, index_of-lt, Run, attr_at, StandsOn, Home, Frame, NamesFrame, is_number, of_number}
-use Rattle.std.specs.Prelude.{is_some}
+use Rattle.residency.proofs.{Bits.{some_framed, resident_of, changed_once, seat_changed, for_changed, valid_zero, leaf_accessed}, Entries.{entry-of}, Granting.{entry_for-same}, Moves.{behind_kept}, Names.{user_end, top_level, PageKey}}
+use Rattle.residency.proofs.Names.{Attr, Backing, File, Object, backing_after, stands_on, ◌≡◌, ℕ, inl, inr, ◌⊎◌, ◌-◌, ◌<◌, ◌≤◌, true, false, List, [], Option, Some, None, get_or, refl, sym, ap, ◌∙◌, subst, arith, ne_eqb, cases_eq}
+use Rattle.residency.proofs.Names.{cases_Bool, false≢true, same_Some, IsSome, IfNone, Free, Zero, Table, Private, Cache, FrameTable, role_of, is_valid, is_dirty, is_pointer, frame_of, entry_at, index_of, SetsEntry, IsPage, IsTable}
+use Rattle.residency.proofs.{Names.{IsForest, missing_of, last_table, way_forth, last_is, page_entry-missing, ends, index_of-lt, Run, attr_at, StandsOn, Home, Frame, NamesFrame, is_number, of_number}, Setting.{fit_set, set_views}}
+use Rattle.residency.{proofs.{Start.{entry-dead, cases_some}, TableSteps.{sets_page, rooted_set}, Ways.{begins_table, each_page}}, specs.{LeafChanges.{ChangesEntries}, Leaves.{concerns, IsOver, IsChanged, ChangesLeaves, KeepsAllButFrames}}}
+use Rattle.residency.specs.{Leaves.{AreKinds, IsPageOver, key_after}, Parts.{IsResident, IsBehind, IsFit, AsRoot, OnWay, nowhere}, Picture.{Picture, picture_of, attr_where, entry}, Seats.{InFrame, seat, is_private}, Steps.{SameBeside}}
+use Rattle.{residency.specs.{Steps.{SetsPage}, declared.{kernel.Core.{Core}, leaves.Change.{Change, TheVariants.{Forget, ClearAccessed, ClearDirty}}}}, std.specs.Prelude.{is_some}}
 use Rattle.vm_types.specs.declared.region.Backing.TheVariants as Backings
-use Rattle.residency.specs.{declared.leaves.Change.{Change}, declared.leaves.Change.TheVariants.{Forget, ClearAccessed, ClearDirty}, Seats.{InFrame, seat, is_private}, declared.kernel.Core.{Core}}
-use Rattle.residency.specs.{Picture.{Picture, picture_of, attr_where, entry}, Parts.{IsResident, IsBehind, IsFit, AsRoot, OnWay, nowhere}, Steps.{SameBeside, SetsPage}}
-use Rattle.residency.specs.{Leaves.{concerns, IsOver, IsChanged, ChangesLeaves, KeepsAllButFrames, AreKinds, IsPageOver, key_after}, LeafChanges.{ChangesEntries}}
-use Rattle.residency.proofs.{Bits.{some_framed, resident_of, changed_once, seat_changed, for_changed, valid_zero, leaf_accessed}, Entries.{entry-of}, Granting.{entry_for-same}, Moves.{behind_kept}, Setting.{fit_set, set_views}}
-use Rattle.residency.proofs.{Start.{entry-dead, cases_some}, TableSteps.{sets_page, rooted_set}, Ways.{begins_table, each_page}}
 pub use Rattle.residency.proofs.Moves.{cases_attr}
 
 -- where an entry was set, each way ends where it ended
@@ -53,9 +51,8 @@ module _ {mode : ℕ} (c : Picture mode) (change : Change) (n pid k : ℕ) (fit 
   pub over_backed : (p : PageKey) (a : Attr) → 0 < n → c.place p ≡ Frame (record { 0 = n }) → c.at pid k ≡ Some a → stands_on a.backing ≡ Some p
   over_backed p a above at is =
       let res = over_resident in
-      let behind = res.2.behind (over_common (fit.places.cached p n at)) in
       let P : ℕ → Type 0 = λ x. IsBehind c res.0.backing x in
-      let there = behind_one res.0.backing p above at (subst P over.frame behind) in
+      let there = behind_one res.0.backing p above at (subst P over.frame (res.2.behind (over_common (fit.places.cached p n at)))) in
       ap (λ (x : Attr). stands_on x.backing) (same_Some a res.0 (sym is ∙ res.1)) ∙ there
 
   no_private : (b : Backing) → 0 < n → role_of c.frames n ≡ Private → IsBehind c b n → ⊥
@@ -112,8 +109,7 @@ over_stands c change n pid k runs p fit above placed at h over =
 
 pub map_of : {M : Type 0} {m : Levels.Ghosts M} → {D E : Type 0} (c : Core D E M m) (pid root : ℕ) (runs : List Run) → (picture_of c).root pid ≡ Some root → get_or c.regions.items pid [] ≡ runs
     → (page : ℕ) → (picture_of c).at pid page ≡ attr_at runs page
-map_of c pid root runs live same page =
-    ap (λ x. attr_where x (get_or c.regions.items pid []) page) live ∙ ap (λ (rs : List Run). attr_at rs page) same
+map_of c pid root runs live same page = ap (λ x. attr_where x (get_or c.regions.items pid []) page) live ∙ ap (λ (rs : List Run). attr_at rs page) same
 
 -- One entry over the frame was changed.
 module _ {mode : ℕ} (old new : Picture mode) (change : Change) (n pid r page number : ℕ) (fit : IsFit old) (root : old.root pid ≡ Some r) (h : IsPage (top_level mode) page) (over : IsOver old change n pid page)
@@ -263,10 +259,7 @@ names_over {mode = mode} c n r k fit zero_role names =
       | inl none ↦ (
           let role : role_of c.frames 0 ≡ Table = ap (role_of c.frames) (sym none) ∙ table.role in
           let bad : Zero ≡ Table = sym zero_role ∙ role in (cc))
-      | inr used ↦ elim used [
-        | AsRoot pid root ↦ (pid, over pid root)
-        | OnWay pid x page root mapped below ↦ absurd (l.unlinked below.2.0 _ below.2.2)
-      ]
+      | inr used ↦ elim used [ AsRoot pid root ↦ (pid, over pid root) | OnWay pid x page root mapped below ↦ absurd (l.unlinked below.2.0 _ below.2.2) ]
     ]
 
 pub kinds_kept : {mode : ℕ} (change : Change) (n kinds : ℕ) (old new : Picture mode) → ChangesLeaves change n old new → AreKinds old change n kinds → AreKinds new change n kinds

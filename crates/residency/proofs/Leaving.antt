@@ -1,12 +1,11 @@
 -- A page of a file leaves its frame, for home or for a slot.
-use Rattle.residency.proofs.Names.{top_level, PageKey, File, Object, Attr, Backing, ◌≡◌, ◌≢◌, ℕ, inl, inr, ◌⊎◌, ◌<◌, true, false, Option, None, refl, sym, ap, ◌∙◌, subst, ne_eqb, cases_eq, false≢true, Free, Table, Private, Cache}
-use Rattle.residency.proofs.Names.{FrameTable, role_of, SameButFor, CacheTable, SameButForPage, place_of, is_touched, Place, Home, Frame, Slot, SlotTable, frame_of, IsPage, KeepsTrees, data_changed, same_last}
-use Rattle.vm_types.specs.declared.region.Backing.TheVariants.{Anon, Private as PrivateOf, Shared as SharedOf, Common as CommonOf}
-use Rattle.residency.specs.{Seats.{Seat, InFrame, InSlot, seat, is_private, is_swapped}, declared.leaves.Change.TheVariants.{Forget}, Leaves.{IsClear}, Ages.{Same}, Evictions.{Spares}}
-use Rattle.residency.specs.{Picture.{Picture, entry, held, is_data, IsOwned, count_in, page_in, bytes_at}, Parts.{IsCountedBut, IsEntryFor, Nothing, Resident, Away, IsResident, IsBehind, IsFitBut, IsFit, nowhere, HasPlaces, IsDirtySound}}
-use Rattle.residency.proofs.{Entries.{entries_kept}, Seats.{counted_left}, Granting.{past_end-same, granting_by}, Places.{cases_page, one_frame, one_slot}, Placed.{places_replaced, dirty_replaced}, Rooted.{rooted_same}}
-use Rattle.residency.proofs.{Setting.{view_seated, each_view, held_by}, Moves.{counted_on, bytes_same}, Cleaning.{all_touched}, Bits.{not_swapped}}
-use Rattle.residency.proofs.Evicted.{seat_number as seat_below}
+use Rattle.residency.proofs.{Bits.{not_swapped}, Cleaning.{all_touched}, Entries.{entries_kept}, Evicted.{seat_number as seat_below}, Granting.{past_end-same, granting_by}, Moves.{counted_on, bytes_same}, Names.{top_level, PageKey, File}}
+use Rattle.residency.proofs.Names.{Object, Attr, Backing, ◌≡◌, ◌≢◌, ℕ, inl, inr, ◌⊎◌, ◌<◌, true, false, Option, None, refl, sym, ap, ◌∙◌, subst, ne_eqb, cases_eq, false≢true, Free, Table, Private, Cache, FrameTable, role_of, SameButFor}
+use Rattle.residency.proofs.{Names.{CacheTable, SameButForPage, place_of, is_touched, Place, Home, Frame, Slot, SlotTable, frame_of, IsPage, KeepsTrees, data_changed, same_last}, Placed.{places_replaced, dirty_replaced}}
+use Rattle.residency.{proofs.{Places.{cases_page, one_frame, one_slot}, Rooted.{rooted_same}, Seats.{counted_left}, Setting.{view_seated, each_view, held_by}}, specs.{Ages.{Same}, Evictions.{Spares}, Leaves.{IsClear}, Parts.{IsCountedBut}}}
+use Rattle.residency.specs.{Parts.{IsEntryFor, Nothing, Resident, Away, IsResident, IsBehind, IsFitBut, IsFit, nowhere, HasPlaces, IsDirtySound}, Picture.{Picture, entry, held, is_data, IsOwned, count_in, page_in, bytes_at}, Seats.{Seat}}
+use Rattle.{residency.specs.{Seats.{InFrame, InSlot, seat, is_private, is_swapped}, declared.leaves.Change.TheVariants.{Forget}}, vm_types.specs.declared.region.Backing.TheVariants.{Anon, Private as PrivateOf, Shared as SharedOf}}
+use Rattle.vm_types.specs.declared.region.Backing.TheVariants.{Common as CommonOf}
 
 -- the file page left frame v, which is free now; every other file page is where it was
 pub record Leaves {mode : ℕ} (old new : Picture mode) (page : PageKey) (v : ℕ) (at : Place) : Type 0 where
@@ -126,10 +125,7 @@ module _ {mode : ℕ} (old new : Picture mode) (page : PageKey) (v : ℕ) (at : 
   forth (InFrame n) other is = leaves.frames.roles n (private_ne n is) ∙ is
   forth (InSlot j) other own = (
     some_new j own.0,
-    λ p e. elim (cases_page p page) [
-      | inl ip ↦ other j refl (sym leaves.placed ∙ ap new.place (sym ip) ∙ e)
-      | inr np ↦ own.1 p (sym (leaves.others p np) ∙ e)
-    ],
+    λ p e. elim (cases_page p page) [ inl ip ↦ other j refl (sym leaves.placed ∙ ap new.place (sym ip) ∙ e) | inr np ↦ own.1 p (sym (leaves.others p np) ∙ e) ],
   )
 
   back : (z : Seat) → IsOwned new z → IsOwned old z
@@ -245,8 +241,5 @@ module _ {mode : ℕ} (old new : Picture mode) (page : PageKey) (v : ℕ) where
           (λ q p z h is. seat_below old 0 q p z fit.rooted is),
     )
         (λ j e. ((let P : ℕ → Type 0 = λ i. old.slots.count i ≡ 1 in subst P (one_slot k j e) one), touched))
-        (λ j. elim (cases_eq k j) [
-          | inl e ↦ inl (ap (λ i. Slot (record { 0 = i })) e)
-          | inr ne ↦ inr (λ e. ne (one_slot k j e))
-        ])
+        (λ j. elim (cases_eq k j) [ inl e ↦ inl (ap (λ i. Slot (record { 0 = i })) e) | inr ne ↦ inr (λ e. ne (one_slot k j e)) ])
         (λ n e. (cc)) (λ q e. absurd (own.1 q (sym e))) (λ t e. (cc))

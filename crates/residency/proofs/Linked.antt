@@ -1,8 +1,7 @@
 -- A table taken and linked.
-use Rattle.residency.proofs.Names.{top_level, Attr, ◌≡◌, ◌≢◌, ◌-◌, ◌≤◌, ℕ, suc, inl, inr, Some, Option, get_or, refl, sym, ap, ◌∙◌, subst, arith, cases_eq, IsSome, Free, Table, FrameTable, role_of, AddsTable, LinksTable, IsPage, IsTable}
-use Rattle.residency.proofs.Names.{Points, Way, IsBelowRoot, last_table, EndsAt, ends, same_taken}
-use Rattle.residency.specs.{Seats.{Seat}, Picture.{Picture, entry, is_data}, Parts.{IsRootedBut, OnWay, IsMapped, IsFitBut, IsFit, nowhere}, Steps.{SameBeside, KeepsShares}}
-use Rattle.residency.proofs.{Entries.{entries_kept, entries_but}, Rooted.{used_kept, rooted_by}, Places.{dirty_same}, Moves.{fit_kept, shares_but}, TableSteps.{shares_kept}}
+use Rattle.residency.proofs.{Entries.{entries_kept, entries_but}, Moves.{fit_kept, shares_but}, Names.{top_level, Attr, ◌≡◌, ◌≢◌, ◌-◌, ◌≤◌, ℕ, suc, inl, inr, Some, Option, get_or, refl, sym, ap, ◌∙◌, subst, arith, cases_eq, IsSome, Free}}
+use Rattle.residency.proofs.{Names.{Table, FrameTable, role_of, AddsTable, LinksTable, IsPage, IsTable, Points, Way, IsBelowRoot, last_table, EndsAt, ends, same_taken}, Places.{dirty_same}, Rooted.{used_kept, rooted_by}}
+use Rattle.residency.{proofs.TableSteps.{shares_kept}, specs.{Parts.{IsRootedBut, OnWay, IsMapped, IsFitBut, IsFit, nowhere}, Picture.{Picture, entry, is_data}, Seats.{Seat}, Steps.{SameBeside, KeepsShares}}}
 
 -- a table taken
 pub shares_taken : (old new : FrameTable) (top n : ℕ) → AddsTable old new top n → KeepsShares old new
@@ -53,8 +52,7 @@ pub rooted_linked : {mode : ℕ} (old new : Picture mode) (pid root page table :
     → LinksTable old.frames new.frames (top_level mode) root page table → SameBeside old new → IsRootedBut new 0
 rooted_linked {mode} old new pid root page table rooted loose unlinked lives mapped links beside =
     let ne : (r q : ℕ) → old.root q ≡ Some r → r ≢ table = λ r q e is. loose q (e ∙ ap (λ x. Some x) is) in
-    let stays = links.roots root (ne root pid lives) (rooted.roots pid root lives) in
-    let end = ends new.frames (top_level mode) root page links.forest stays.table in
+    let end = ends new.frames (top_level mode) root page links.forest (links.roots root (ne root pid lives) (rooted.roots pid root lives)).table in
     rooted_by old new table 0 rooted beside.root links.forest (λ q r e. links.roots r (ne r q e) (rooted.roots q r e))
     (λ m is_table. elim (cases_eq m table) [
       | inl e ↦ inr (OnWay pid root page (beside.root pid ∙ lives) (maps old new beside pid page mapped) (last_below mode new.frames root page m end (links.ends ∙ sym e) (λ is. ne root pid lives (sym is ∙ e))))

@@ -1,9 +1,8 @@
 -- An own copy goes from one seat to another: the steps for one process.
-use Rattle.residency.proofs.Names.{top_level, PageKey, Attr, ◌≡◌, ◌≢◌, ℕ, inl, inr, ◌⊎◌, ◌<◌, true, false, Option, Some, None, refl, sym, ap, ◌∙◌, subst, false≢true, option_map, IsSome, Table, Private, FrameTable, bytes_of, role_of}
-use Rattle.residency.proofs.Names.{SameButFor, SlotTable, is_valid, is_dirty, frame_of, IsPage, Frame}
-use Rattle.residency.specs.{Seats.{Seat, InFrame, InSlot, seat, is_private}, Picture.{Picture, entry, view, view_of, own_in, bytes_in, IsOwned, count_in, page_in, is_data}}
-use Rattle.residency.specs.{Parts.{IsRootedBut, IsEntryFor, IsCountedBut, IsFitBut, IsDirtySound}, Steps.{SameBeside, KeepsShares, SetsPage}}
-use Rattle.residency.proofs.{Seats.{counted_same, counted_put, seat-other}, Granting.{KeepsBehind, granting_same, granting_changed}, Places.{places_same, dirty_changed}, Ways.{each_page}}
+use Rattle.residency.proofs.{Granting.{KeepsBehind, granting_same, granting_changed}, Names.{top_level, PageKey, Attr, ◌≡◌, ◌≢◌, ℕ, inl, inr, ◌⊎◌, ◌<◌, true, false, Option, Some, None, refl, sym, ap, ◌∙◌, subst, false≢true, option_map}}
+use Rattle.residency.proofs.{Names.{IsSome, Table, Private, FrameTable, bytes_of, role_of, SameButFor, SlotTable, is_valid, is_dirty, frame_of, IsPage, Frame}, Places.{places_same, dirty_changed}, Seats.{counted_same, counted_put}}
+use Rattle.residency.{proofs.{Seats.{seat-other}, Ways.{each_page}}, specs.{Parts.{IsRootedBut, IsEntryFor, IsCountedBut, IsFitBut, IsDirtySound}, Picture.{Picture, entry, view, view_of, own_in, bytes_in, IsOwned, count_in, page_in}}}
+use Rattle.residency.specs.{Picture.{is_data}, Seats.{Seat, InFrame, InSlot, seat, is_private}, Steps.{SameBeside, KeepsShares, SetsPage}}
 
 -- but for frames all is as it was
 pub same_beside : {mode : ℕ} (c : Picture mode) (t : FrameTable) → SameBeside c (record c { frames = t })

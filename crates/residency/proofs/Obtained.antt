@@ -1,12 +1,10 @@
 -- A frame that was obtained, and what was done with it.
 use Rattle.vm_types.specs.declared.mode.Levels as Levels
-use Rattle.residency.proofs.Names.{◌≡◌, ◌≢◌, ℕ, ◌⊎◌, ◌≤◌, Option, None, sym, ap, ◌∙◌, subst, arith, IsErrAnd, FrameNo, PageKey, Stall, NoFrames, NoSwap, SwapDevice, StoreDevice, Ghosts, AsksOnly, Free, Table, Cache, role_of, IsFrame}
-use Rattle.residency.proofs.Names.{IsFull, SameButFor, FrameTable, Takes, Swap, IsReady, IsSectorOfSlot, Frame, place_of, is_touched, SameButForPage}
-use Rattle.std.proofs.Common.{Result, Ok, Err}
-use Rattle.residency.specs.{declared.kernel.Core.{Core}, Picture.{Picture, picture_of}, Ages.{GivesFrame}, AskedFrames.{ComesIn, Obtains, SeeksFrame}, Calls.{AsksSwap, AsksSwapAlso, KeepsRest, UsesDevice}}
-use Rattle.residency.specs.{Views.{AsksClock, ChoosesByClock, TurnsClock}, Stalls.{StallCause, ReadCause, HasReadCause}, Steps.{BringsIn, ChangesFrame, LeavesSlot}, Parts.{IsPageFor}}
-use Rattle.residency.proofs.{Asking.{also_taken, asked_taken, gives_taken, needed_of, wants_taken, wants_tried}, BroughtIn.{fit_brought}, Giving.{frame_taken, one_given}, Returning.{frees_spent}, Sparing.{frees_then}, Taking.{fit_spent}}
-use Rattle.residency.proofs.Cleaning.{all_touched}
+use Rattle.residency.proofs.{Asking.{also_taken, asked_taken, gives_taken, needed_of, wants_taken, wants_tried}, BroughtIn.{fit_brought}, Cleaning.{all_touched}, Giving.{frame_taken, one_given}, Names.{◌≡◌, ◌≢◌, ℕ, ◌⊎◌, ◌≤◌, Option, None}}
+use Rattle.residency.proofs.Names.{sym, ap, ◌∙◌, subst, arith, IsErrAnd, FrameNo, PageKey, Stall, StoreDevice, Ghosts, AsksOnly, Free, Table, Cache, role_of, IsFrame, IsFull, SameButFor, FrameTable, Takes, Swap, IsReady, IsSectorOfSlot}
+use Rattle.residency.{proofs.{Names.{Frame, place_of, is_touched, SameButForPage}, Returning.{frees_spent}, Sparing.{frees_then}, Taking.{fit_spent}}, specs.{Ages.{GivesFrame}, AskedFrames.{ComesIn, Obtains, SeeksFrame}, Calls.{AsksSwap}}}
+use Rattle.residency.specs.{Calls.{AsksSwapAlso, KeepsRest, UsesDevice}, Parts.{IsPageFor}, Picture.{Picture, picture_of}, Stalls.{StallCause, ReadCause, HasReadCause}, Steps.{BringsIn, ChangesFrame, LeavesSlot}, Views.{AsksClock}}
+use Rattle.{residency.specs.{Views.{ChoosesByClock, TurnsClock}, declared.kernel.Core.{Core}}, std.proofs.Common.{Result, Ok, Err}}
 
 -- swap's device was read then
 pub device_read : {M : Type 0} {m : Levels.Ghosts M} {D E : Type 0} {h : Ghosts E} {old found : Core D E M m} {keep : Option FrameNo} {r : Result FrameNo Stall} → Obtains h old found keep r → (disk : E)
@@ -43,11 +41,7 @@ module _ {M : Type 0} {m : Levels.Ghosts M} {D E : Type 0} {h : Ghosts E} {old f
       subst P same (got.turns full)
 
   pub clock_on : (new : Core D E M m) → new.clock ≡ found.clock → new.looks ≡ found.looks → TurnsClock old new keep (Ok n)
-  clock_on new clock looks = record {
-    stands = λ some. clock ∙ got.stands some;
-    turns = λ full. rw clock (chosen full);
-    looks = rw looks got.looks;
-  }
+  clock_on new clock looks = record { stands = λ some. clock ∙ got.stands some; turns = λ full. rw clock (chosen full); looks = rw looks got.looks }
 
   -- it was put to use
   pub seeks_on : (new : Core D E M m) → new.swap ≡ found.swap → new.refused ≡ found.refused → KeepsRest found new → new.clock ≡ found.clock → new.looks ≡ found.looks
@@ -109,10 +103,8 @@ module _ {M : Type 0} {m : Levels.Ghosts M} {D E : Type 0} {h : Ghosts E} {old f
 
 -- why, where the store is as it was
 read_cause : {M : Type 0} {m : Levels.Ghosts M} {D E : Type 0} (g : Ghosts D) (h : Ghosts E) (old new : Core D E M m) (stall : Stall) → new.store ≡ old.store → StallCause h old new stall → ReadCause g h old new stall
-read_cause g h old new NoFrames store c = (c.0, ap (λ s. g.failures s.disk) store, c.1)
-read_cause g h old new NoSwap store c = (c.0, ap (λ s. g.failures s.disk) store, c.1)
-read_cause g h old new SwapDevice store c = (c.0, ap (λ s. g.failures s.disk) store, c.1)
 read_cause g h old new StoreDevice store c = absurd c
+read_cause g h old new stall store c = (c.0, ap (λ s. g.failures s.disk) store, c.1)
 
 -- none was had
 module _ {M : Type 0} {m : Levels.Ghosts M} {D E : Type 0} {h : Ghosts E} {old new : Core D E M m} {stall : Stall} where

@@ -1,10 +1,9 @@
 -- The shares of a private frame, passed on to a slot one after the other.
 use Rattle.vm_types.specs.declared.mode.Levels as Levels
-use Rattle.residency.proofs.Names.{user_end, top_level, Attr, ◌≡◌, ◌≢◌, ℕ, ◌+◌, ◌<◌, ◌≤◌, true, false, inl, inr, Option, Some, None, is_some, refl, sym, ap, ◌∙◌, subst, arith, false≢true, role_of, count_of, bytes_of, Ghosts, SharesSlot}
-use Rattle.residency.proofs.Names.{IsReady, IsPage}
-use Rattle.residency.specs.{Seats.{Seat, InFrame, InSlot, seat, holders_at}, Picture.{Picture, picture_of, entry, IsOwned}, Parts.{IsFit, IsRootedBut, IsEntryFor, Nothing, Resident, Away}, declared.kernel.Core.{Core}}
-use Rattle.residency.specs.{Evictions.{IsHanding, Spares}, Handovers.{HandsShares, PassesShare}}
-use Rattle.residency.proofs.{Evicted.{seat_number}, Putting.{has_shared, share_spares}, Puts.{SameButSlots}, Seats.{holders_none}, Sparing.{spares_none, spares_then}, Start.{seat-none, entry-dead, cases_some}}
+use Rattle.residency.proofs.{Evicted.{seat_number}, Names.{user_end, top_level, Attr, ◌≡◌, ◌≢◌, ℕ, ◌+◌, ◌<◌, ◌≤◌, true, false, inl, inr, Option, Some, None, is_some, refl, sym, ap, ◌∙◌, subst, arith, false≢true, role_of, count_of}}
+use Rattle.residency.proofs.{Names.{bytes_of, Ghosts, SharesSlot, IsReady, IsPage}, Puts.{SameButSlots}, Putting.{has_shared, share_spares}, Seats.{holders_none}, Sparing.{spares_none, spares_then}, Start.{seat-none, entry-dead}}
+use Rattle.residency.{proofs.Start.{cases_some}, specs.{Evictions.{IsHanding, Spares}, Handovers.{HandsShares, PassesShare}, Parts.{IsFit, IsRootedBut, IsEntryFor, Nothing, Resident, Away}, Picture.{Picture, picture_of, entry, IsOwned}}}
+use Rattle.residency.specs.{Seats.{Seat, InFrame, InSlot, seat, holders_at}, declared.kernel.Core.{Core}}
 
 seat_mapped : {mode : ℕ} (c : Picture mode) (a : Option Attr) (e : ℕ) (z : Seat) → IsEntryFor c a e → seat e ≡ Some z → is_some a ≡ true
 seat_mapped c a e z (Nothing none) is = let bad : None ≡ Some z = sym (ap seat none ∙ seat-none) ∙ is in (cc)
@@ -32,11 +31,9 @@ module _ {mode : ℕ} (c : Picture mode) (v k page : ℕ) (handing : IsHanding c
   pub somebody : ((q : ℕ) → q < 65 → seat (entry c q page) ≢ Some (InFrame v)) → ⊥
   somebody none =
       let fit = handing.share.fit in
-      let counts = fit.counted.1.counts (InFrame v) handing.role in
       let P : ℕ → Type 0 = λ n. holders_at (entry c) n (InFrame v) ≡ 0 in
       let nobody = subst P (sym handing.noted) (holders_none (entry c) page (InFrame v) (λ q is. none q (seat_number c 0 q page (InFrame v) fit.rooted is) is)) in
-      let some = handing.some in
-      omega (arith, counts, nobody, some)
+      omega (arith, fit.counted.1.counts (InFrame v) handing.role, nobody, handing.some)
 
   -- at a user page
   pub no_user : ((16 ≤ page) × (page < user_end mode) → ⊥) → ⊥

@@ -1,6 +1,6 @@
 -- Things that have codes of their own are no more than the codes.
-use Rattle.residency.proofs.Names.{◌≡◌, ◌≢◌, ℕ, zero, suc, ◌+◌, ◌<◌, ◌≤◌, Bool, true, false, ◌==◌, ◌&&◌, inl, inr, if◌then◌else◌, refl, sym, ap, ◌∙◌, arith, eq-eqb, cases_Bool, eqb-true, and_parts, count_below, sum_below}
-use Rattle.residency.proofs.Counts.{count-same, count-one, sum-below, sum-one}
+use Rattle.residency.proofs.Names.{◌≡◌, ◌≢◌, ℕ, zero, suc, ◌+◌, ◌<◌, ◌≤◌, Bool, true, false, ◌==◌, ◌&&◌, inl, inr, if◌then◌else◌, refl, sym, ap, ◌∙◌, arith, eq-eqb, cases_Bool, eqb-true, and_parts, count_below, sum_below, one_less}
+use Rattle.residency.proofs.Counts.{count-same, sum-below, sum-one}
 
 -- a place in a row of a group
 pub record Code : Type 0 where
@@ -34,14 +34,14 @@ module _ (groups : ℕ) (rows : ℕ → ℕ) (places : ℕ → ℕ → ℕ) wher
   unfoldable pub passing : (Code → Bool) → ℕ
   passing Q = sum_below (λ a. sum_below (λ b. count_below (λ i. Q (code a b i)) (places a b)) (rows a)) groups
 
-  one_less : (P Q : Code → Bool) (x : Code) → is_inside x → P x ≡ true → Q x ≡ false → ((y : Code) → y ≢ x → P y ≡ Q y) → passing P ≡ passing Q + 1
+  one_code_less : (P Q : Code → Bool) (x : Code) → is_inside x → P x ≡ true → Q x ≡ false → ((y : Code) → y ≢ x → P y ≡ Q y) → passing P ≡ passing Q + 1
   unfolding passing
-  one_less P Q x (a, b, i) here gone others =
+  one_code_less P Q x (a, b, i) here gone others =
       let in_row : (Code → Bool) → ℕ → ℕ → ℕ = λ F g r. count_below (λ k. F (code g r k)) (places g r) in
       let in_group : (Code → Bool) → ℕ → ℕ = λ F g. sum_below (in_row F g) (rows g) in
       sum-one (in_group P) (in_group Q) x.group groups a
       (sum-one (in_row P x.group) (in_row Q x.group) x.row (rows x.group) b
-      (count-one (λ k. P (code x.group x.row k)) (λ k. Q (code x.group x.row k)) x.place (places x.group x.row) i here gone (λ k ne. others (code x.group x.row k) (λ e. ne (ap (λ (y : Code). y.place) e))))
+      (one_less (λ k. P (code x.group x.row k)) (λ k. Q (code x.group x.row k)) x.place (places x.group x.row) i here gone (λ k ne. others (code x.group x.row k) (λ e. ne (ap (λ (y : Code). y.place) e))))
       (λ r ne. count-same (λ k. P (code x.group r k)) (λ k. Q (code x.group r k)) (places x.group r) (λ k. others (code x.group r k) (λ e. ne (ap (λ (y : Code). y.row) e)))))
       (λ g ne. sum-below (in_row P g) (in_row Q g) (rows g) (rows g) (omega arith)
       (λ r _. count-same (λ k. P (code g r k)) (λ k. Q (code g r k)) (places g r) (λ k. others (code g r k) (λ e. ne (ap (λ (y : Code). y.group) e)))))
@@ -50,10 +50,7 @@ module _ (groups : ℕ) (rows : ℕ → ℕ) (places : ℕ → ℕ → ℕ) wher
   without P x y = if code_eq y x then false else P y
 
   without-other : (P : Code → Bool) (x y : Code) → y ≢ x → without P x y ≡ P y
-  without-other P x y ne = elim (cases_Bool (code_eq y x)) [
-    | inl t ↦ absurd (ne (code_is y x t))
-    | inr f ↦ rw f refl
-  ]
+  without-other P x y ne = elim (cases_Bool (code_eq y x)) [ inl t ↦ absurd (ne (code_is y x t)) | inr f ↦ rw f refl ]
 
   pub pigeons : (passes : ℕ → Bool) (of : (k : ℕ) → passes k ≡ true → Code) (n : ℕ) (Q : Code → Bool)
       → ((k : ℕ) (h : passes k ≡ true) → is_inside (of k h)) → ((k : ℕ) (h : passes k ≡ true) → k < n → Q (of k h) ≡ true)
@@ -66,7 +63,7 @@ module _ (groups : ℕ) (rows : ℕ → ℕ) (places : ℕ → ℕ → ℕ) wher
         let x = of n t in
         let rest = pigeons passes of n (without Q x) inner
         (λ k h below. without-other Q x (of k h) (λ same. (let is = apart k n h t (omega (arith, below)) (omega arith) same in omega (arith, is, below))) ∙ holds k h (omega (arith, below))) (λ j k h i lt lt'. apart j k h i (omega (arith, lt)) (omega (arith, lt'))) in
-        let more = one_less Q (without Q x) x (inner n t) (holds n t (omega arith)) (rw (code_same x) refl) (λ y ne. sym (without-other Q x y ne)) in
+        let more = one_code_less Q (without Q x) x (inner n t) (holds n t (omega arith)) (rw (code_same x) refl) (λ y ne. sym (without-other Q x y ne)) in
         rw t (omega (arith, rest, more)))
     | inr f ↦ (
         let rest = pigeons passes of n Q inner (λ k h below. holds k h (omega (arith, below))) (λ j k h i lt lt'. apart j k h i (omega (arith, lt)) (omega (arith, lt'))) in

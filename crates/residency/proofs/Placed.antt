@@ -45,10 +45,7 @@ places_replaced old new page places to = record {
   ];
   used = λ k some. elim (to.used k some) [
     | inl own ↦ inl own
-    | inr file ↦ elim file [
-      | inl here ↦ inr (page, here)
-      | inr was ↦ inr (was.1, to.others was.1 (λ e. was.0 (ap old.place (sym e) ∙ was.2)) ∙ was.2)
-    ]
+    | inr file ↦ elim file [ inl here ↦ inr (page, here) | inr was ↦ inr (was.1, to.others was.1 (λ e. was.0 (ap old.place (sym e) ∙ was.2)) ∙ was.2) ]
   ];
   inside = λ p away. elim (cases_page p page) [
     | inl e ↦ rw e (page_for-same old new page to.at to.files (to.inside (λ home. away (ap new.place e ∙ home))))

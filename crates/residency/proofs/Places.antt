@@ -1,8 +1,7 @@
 -- Places and dirty bits: what each step does to where file pages are, and to which are touched.
-use Rattle.residency.proofs.Names.{top_level, widest_end, FilePage, ObjectPage, PageKey, File, Object, Attr, any_below, Maps, names, uses, is_named, false≢true, ◌≡◌, ◌≢◌, ◌<◌, ℕ, inl, inr, true, false, Option, None, sym, ap, ◌∙◌, subst}
-use Rattle.residency.proofs.Names.{Cache, role_of, is_valid, is_dirty, frame_of, IsPage, Place, Home, Frame, Slot, SlotTable}
-use Rattle.std.specs.Prelude.{◌⊎◌}
-use Rattle.residency.{specs.{Picture.{Picture, entry, is_private}, Parts.{AreObjects, IsPageFor, HasPlaces, IsDirtySound}}, proofs.{Counts.{any-same, any-more, any-found}, Ways.{by_page}}}
+use Rattle.residency.proofs.{Counts.{any-same, any-more, any-found}, Names.{top_level, widest_end, FilePage, ObjectPage, PageKey, File, Object, Attr, any_below, Maps, names, uses, is_named, false≢true, ◌≡◌, ◌≢◌, ◌<◌, ℕ, inl, inr, true}}
+use Rattle.residency.{proofs.{Names.{false, Option, None, sym, ap, ◌∙◌, subst, Cache, role_of, is_valid, is_dirty, frame_of, IsPage, Place, Home, Frame, Slot, SlotTable}, Ways.{by_page}}, specs.Parts.{AreObjects, IsPageFor, HasPlaces}}
+use Rattle.{residency.specs.{Parts.{IsDirtySound}, Picture.{Picture, entry, is_private}}, std.specs.Prelude.{◌⊎◌}}
 pub use Rattle.page_cache.proofs.TableLemmas.{cases_page}
 
 abbrev pub record_of : ℕ → ℕ → FilePage
@@ -12,18 +11,16 @@ abbrev pub object_of : ℕ → ℕ → ObjectPage
 object_of object page = record { object = object; page = page }
 
 number_in : Place → ℕ
-number_in Home = 0
 number_in (Frame n) = n.0
-number_in (Slot n) = 0
+number_in o = 0
 
 pub one_frame : (n m : ℕ) → Frame (record { 0 = n }) ≡ Frame (record { 0 = m }) → m ≡ n
 unfolding number_in
 one_frame n m e = sym (ap number_in e)
 
 slot_in : Place → ℕ
-slot_in Home = 0
-slot_in (Frame n) = 0
 slot_in (Slot k) = k.0
+slot_in o = 0
 
 pub one_slot : (j k : ℕ) → Slot (record { 0 = j }) ≡ Slot (record { 0 = k }) → j ≡ k
 unfolding slot_in

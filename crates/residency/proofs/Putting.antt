@@ -1,9 +1,7 @@
 -- A slot was taken, or was not to be had: what is seen stays.
-use Rattle.residency.proofs.Names.{top_level, PageKey, ◌≡◌, ◌≢◌, ℕ, inl, inr, ◌<◌, List, refl, sym, ap, ◌∙◌, subst, arith, cases_eq, FrameTable, frame_count, role_of, count_of, bytes_of, SlotTable, IsInUse, Same, Puts, SharesSlot, Points}
-use Rattle.residency.proofs.Names.{last_table, Slot}
-use Rattle.residency.specs.{Seats.{Seat, InFrame, InSlot, seat}, Picture.{Picture, entry, held, bytes_in, IsOwned, count_in, page_in}, Parts.{IsFit, nowhere}, Evictions.{HasShare, Spares}}
-use Rattle.residency.specs.Ages.{Same as SameAge}
-use Rattle.residency.proofs.{Puts.{SameButSlots, slots_forth, slots_back, slots_counts, slots_pages, fit_slots}, Seats.{counted_shared}, Setting.{view_seated, each_view, held_by}, Moves.{counted_on}}
+use Rattle.residency.proofs.{Moves.{counted_on}, Names.{top_level, PageKey, ◌≡◌, ◌≢◌, ℕ, inl, inr, ◌<◌, List, refl, sym, ap, ◌∙◌, subst, arith, cases_eq, FrameTable, frame_count, role_of, count_of, bytes_of, SlotTable, IsInUse, Same, Puts}}
+use Rattle.residency.proofs.{Names.{SharesSlot, Points, last_table, Slot}, Puts.{SameButSlots, slots_forth, slots_back, slots_counts, slots_pages, fit_slots}, Seats.{counted_shared}, Setting.{view_seated, each_view, held_by}}
+use Rattle.residency.specs.{Ages.{Same as SameAge}, Evictions.{HasShare, Spares}, Parts.{IsFit, nowhere}, Picture.{Picture, entry, held, bytes_in, IsOwned, count_in, page_in}, Seats.{Seat, InFrame, InSlot, seat}}
 
 pub with_slots : {mode : ℕ} (c : Picture mode) (t : SlotTable) → SameButSlots c (record c { slots = t })
 unfolding entry

@@ -1,7 +1,6 @@
 -- Why no frame may be given up.
-use Rattle.residency.proofs.Names.{◌≡◌, ◌≢◌, ℕ, zero, suc, ◌<◌, inl, inr, ◌⊎◌, true, Option, length, refl, sym, ap, ◌∙◌, subst, arith, cases_eq, cases_lt, cases_Bool, false≢true, get_or_past, PageKey, FrameNo, Role, Free, Zero, Table}
-use Rattle.residency.proofs.Names.{Private, Cache, FrameTable, IsSound, IsFrame, role_of, SlotTable, IsInUse, IsSwapFull, Home, Frame}
-use Rattle.residency.specs.{Picture.{Picture, is_data}, Parts.{IsFit}, Calls.{IsSpareable, NeedsSlot}, Evictions.{IsEvictable}}
+use Rattle.residency.proofs.Names.{◌≡◌, ◌≢◌, ℕ, zero, suc, ◌<◌, inl, inr, ◌⊎◌, true, Option, length, refl, sym, ap, ◌∙◌, subst, arith, cases_eq, cases_lt, cases_Bool, false≢true, get_or_past, PageKey, FrameNo, Role, Free, Private, Cache}
+use Rattle.residency.{proofs.Names.{FrameTable, IsSound, IsFrame, role_of, SlotTable, IsInUse, IsSwapFull, Home, Frame}, specs.{Calls.{IsSpareable, NeedsSlot}, Evictions.{IsEvictable}, Parts.{IsFit}, Picture.{Picture, is_data}}}
 
 -- a frame in use is one
 pub used_inside : (t : FrameTable) (n : ℕ) → IsSound t → role_of t n ≢ Free → IsFrame t n
@@ -45,16 +44,13 @@ needs_role c n Cache fit is used =
       | inr f ↦ inr (λ needs. elim needs [
         | inl own ↦ (let bad : Private ≡ Cache = sym own ∙ is in (cc))
         | inr file ↦ (
-            let same = one_page p.0 file.0 p.1 file.1 in
-            false≢true (sym f ∙ ap c.touched same ∙ file.2))
+            false≢true (sym f ∙ ap c.touched (one_page p.0 file.0 p.1 file.1) ∙ file.2))
       ])
     ]
   where
     one_page : (p q : PageKey) → c.place p ≡ Frame (record { 0 = n }) → c.place q ≡ Frame (record { 0 = n }) → p ≡ q
     one_page p q at there = fit.places.apart p q (at ∙ sym there) (λ home. (let bad : Home ≡ Frame (record { 0 = n }) = sym home ∙ at in (cc)))
-needs_role c n Free fit is used = absurd (false≢true used)
-needs_role c n Zero fit is used = absurd (false≢true used)
-needs_role c n Table fit is used = absurd (false≢true used)
+needs_role c n r fit is used = absurd (false≢true used)
 
 module _ {mode : ℕ} (c : Picture mode) (keep : Option FrameNo) (fit : IsFit c) (sound : IsSound c.frames) (none : (n : ℕ) → IsFrame c.frames n → IsEvictable c keep n → ⊥) where
   -- every frame that may be given up needs a slot

@@ -1,8 +1,8 @@
 -- A frame asked for in vain, and a slot left.
 use Rattle.residency.proofs.Names.{top_level, PageKey, FileInfo, ◌≡◌, ◌≢◌, ℕ, inl, inr, List, Option, None, refl, sym, ap, ◌∙◌, subst, arith, cases_eq, Free, Zero, Table, Cache, FrameTable, IsSound, role_of, Takes, Releases, with_bytes}
 use Rattle.residency.proofs.Names.{SlotTable, same_last, Home, Slot}
-use Rattle.swap.specs.Slots as Slots
 use Rattle.residency.{specs.{Picture.{Picture}, Parts.{IsFit}, Calls.{Frees}, Steps.{LeavesSlot, ChangesFrame}}, proofs.{BroughtIn.{frames_written}, Taking.{trees_changed, entries_changed, views_changed, held_changed}, Places.{one_slot}}}
+use Rattle.swap.specs.Slots as Slots
 
 -- the slot of a file page lost its only share
 pub leaves_slot : {mode : ℕ} (old new : Picture mode) (page : PageKey) (k : ℕ) (t : SlotTable) → old.place page ≡ Slot (record { 0 = k }) → t ≡ old.slots → Slots.ReleasesSlot t new.slots k → old.slots.count k ≡ 1
@@ -13,10 +13,8 @@ leaves_slot old new page k t at same releases one =
       total = releases.others.total ∙ ap (λ s. s.total) same;
       left = λ j here. (
           let is : j ≡ k = one_slot j k (sym here ∙ at) in
-          let less = releases.lowered in
-          let c = ap (λ s. s.count k) same in
           let P : ℕ → Type 0 = λ i. new.slots.count i ≡ 0 in
-          subst P (sym is) (omega (arith, less, c, one)));
+          subst P (sym is) (omega (arith, releases.lowered, ap (λ s. s.count k) same, one)));
       counts = λ j ne. releases.others.counts j (other j ne) ∙ ap (λ s. s.count j) same;
       bytes = λ j ne used. releases.others.bytes j (other j ne) (let c = ap (λ s. s.count j) same in omega (arith, c, used)) ∙ ap (λ s. s.bytes j) same;
     }

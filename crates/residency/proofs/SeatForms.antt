@@ -1,10 +1,9 @@
 -- Which seat an entry has by its form, and what a share that is given back leaves of all bytes.
-use Rattle.residency.proofs.Names.{◌≡◌, ℕ, inl, inr, ◌+◌, ◌*◌, ◌<◌, ◌^◌, true, false, Some, None, refl, sym, ap, ◌∙◌, arith, cases_eq, cases_Bool, false≢true, PageKey, SlotNo, bytes_of, IsInUse, frame_of, is_valid, has_bit, Entry, Leaf}
-use Rattle.residency.proofs.Names.{Swapped, Parked, number_of, IsEntry, parked_framed}
+use Rattle.residency.proofs.{Handing.{away_number}, Names.{◌≡◌, ℕ, inl, inr, ◌+◌, ◌*◌, ◌<◌, ◌^◌, true, false, Some, None, refl, sym, ap, ◌∙◌, arith, cases_eq, cases_Bool, false≢true, PageKey, SlotNo, bytes_of, IsInUse, frame_of, is_valid}}
+use Rattle.residency.{proofs.{Names.{has_bit, Entry, Leaf, Swapped, Parked, number_of, IsEntry, parked_framed}, Puts.{SameButSlots}, Setting.{each_view, view_seated, held_by}}, specs.{Parts.{IsFitBut}, Picture.{Picture, view, held}}}
+use Rattle.residency.specs.{Picture.{bytes_in, IsOwned}, Seats.{Seat, InFrame, InSlot, seat, is_private, is_swapped}}
 use Rattle.swap.specs.Slots as Slots
 use Rattle.page_tables.specs.declared.forms.Entry.TheVariants as Entries
-use Rattle.residency.specs.{Seats.{Seat, InFrame, InSlot, seat, is_private, is_swapped}, Picture.{Picture, view, held, bytes_in, IsOwned}, Parts.{IsFitBut}}
-use Rattle.residency.proofs.{Handing.{away_number}, Puts.{SameButSlots}, Setting.{each_view, view_seated, held_by}}
 
 pub seat_own : (e : ℕ) → is_private e ≡ true → seat e ≡ Some (InFrame (frame_of e))
 seat_own e own = rw own refl
@@ -20,10 +19,7 @@ unfolding has_bit
 zero_here = refl
 
 pub bit_clear : (e : ℕ) → has_bit e 1 ≡ false → is_swapped e ≡ false
-bit_clear e clear = elim (cases_Bool (is_valid e)) [
-  | inl valid ↦ rw valid refl
-  | inr invalid ↦ rw (invalid, clear) refl
-]
+bit_clear e clear = elim (cases_Bool (is_valid e)) [ inl valid ↦ rw valid refl | inr invalid ↦ rw (invalid, clear) refl ]
 
 -- an entry of a page in a slot has that form
 pub swapped_form : (e : Entry) → IsEntry e → is_swapped (number_of e) ≡ true → (k : SlotNo) × (e ≡ Swapped k)

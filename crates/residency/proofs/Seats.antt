@@ -1,18 +1,11 @@
 -- Counts of seats: what each step does to them.
-use Rattle.residency.proofs.Names.{top_level, if◌then◌else◌, ◌≡◌, ◌≢◌, ℕ, inl, inr, ◌+◌, ◌<◌, ◌⊎◌, true, false, Option, Some, None, refl, sym, ap, ◌∙◌, subst, arith, eq-eqb, ne_eqb, cases_eq, cases_Bool, false≢true, IsPage}
-use Rattle.residency.{specs.Seats.{Seat, InFrame, InSlot, seat, same_seat, is_seat, holders_at, off, AreCounted, OthersSame}, proofs.{Ways.{by_page, each_page}, Counts.{count-same, count-none, count-one, count-positive}}}
+use Rattle.residency.proofs.Names.{top_level, if◌then◌else◌, ◌≡◌, ◌≢◌, ℕ, inl, inr, ◌+◌, ◌<◌, ◌⊎◌, true, false, Option, Some, None, refl, sym, ap, ◌∙◌, subst, arith, eq-eqb, ne_eqb, cases_eq, cases_Bool, false≢true, IsPage, one_less}
+use Rattle.residency.{specs.Seats.{Seat, InFrame, InSlot, seat, same_seat, is_seat, holders_at, off, AreCounted, OthersSame}, proofs.{Ways.{by_page, each_page}, Counts.{count-same, count-none, count-positive}}}
 
 pub cases_seat : (x y : Seat) → (x ≡ y) ⊎ (x ≢ y)
-cases_seat (InFrame n) (InFrame m) = elim (cases_eq n m) [
-  | inl e ↦ inl (ap (λ z. InFrame z) e)
-  | inr ne ↦ inr (λ e. ne (cc))
-]
-cases_seat (InFrame n) (InSlot m) = inr (λ e. (cc))
-cases_seat (InSlot n) (InFrame m) = inr (λ e. (cc))
-cases_seat (InSlot n) (InSlot m) = elim (cases_eq n m) [
-  | inl e ↦ inl (ap (λ z. InSlot z) e)
-  | inr ne ↦ inr (λ e. ne (cc))
-]
+cases_seat (InFrame n) (InFrame m) = elim (cases_eq n m) [ inl e ↦ inl (ap (λ z. InFrame z) e) | inr ne ↦ inr (λ e. ne (cc)) ]
+cases_seat (InSlot n) (InSlot m) = elim (cases_eq n m) [ inl e ↦ inl (ap (λ z. InSlot z) e) | inr ne ↦ inr (λ e. ne (cc)) ]
+cases_seat x y = inr (λ e. (cc))
 
 pub seat-same : (x : Seat) → same_seat x x ≡ true
 seat-same (InFrame n) = eq-eqb n n refl
@@ -20,9 +13,8 @@ seat-same (InSlot n) = eq-eqb n n refl
 
 pub seat-other : (x y : Seat) → x ≢ y → same_seat x y ≡ false
 seat-other (InFrame n) (InFrame m) ne = ne_eqb n m (λ e. ne (ap (λ z. InFrame z) e))
-seat-other (InFrame n) (InSlot m) ne = refl
-seat-other (InSlot n) (InFrame m) ne = refl
 seat-other (InSlot n) (InSlot m) ne = ne_eqb n m (λ e. ne (ap (λ z. InSlot z) e))
+seat-other x y ne = refl
 
 sits : (o : Option Seat) (y : Seat) → o ≡ Some y → is_seat o y ≡ true
 sits o y e = ap (λ z. is_seat z y) e ∙ seat-same y
@@ -32,10 +24,7 @@ sits_not o x y e ne = ap (λ z. is_seat z y) e ∙ seat-other x y ne
 
 pub seated : (o : Option Seat) (y : Seat) → is_seat o y ≡ true → o ≡ Some y
 seated None y e = (cc)
-seated (Some x) y e = elim (cases_seat x y) [
-  | inl same ↦ ap (λ z. Some z) same
-  | inr ne ↦ absurd (false≢true (sym (seat-other x y ne) ∙ e))
-]
+seated (Some x) y e = elim (cases_seat x y) [ inl same ↦ ap (λ z. Some z) same | inr ne ↦ absurd (false≢true (sym (seat-other x y ne) ∙ e)) ]
 
 off-here : (x : Seat) (d : ℕ) → off x d x ≡ d
 off-here x d = rw (seat-same x) refl
@@ -58,13 +47,13 @@ module _ (mode : ℕ) (old new : ℕ → ℕ → ℕ) (owned owned' : Seat → T
   gained : holders_at new k y ≡ holders_at old k y + 1
   unfolding holders_at
   gained =
-      count-one (λ q. is_seat (seat (new q k)) y) (λ q. is_seat (seat (old q k)) y) pid 65 below (sits (seat (new pid k)) y to) (was_at y ∙ apart)
+      one_less (λ q. is_seat (seat (new q k)) y) (λ q. is_seat (seat (old q k)) y) pid 65 below (sits (seat (new pid k)) y to) (was_at y ∙ apart)
       (λ q ne. ap (λ e. is_seat (seat e) y) (others q k h (inl ne)))
 
   lost : (z : Seat) → z ≢ y → is_seat o z ≡ true → holders_at old k z ≡ holders_at new k z + 1
   unfolding holders_at
   lost z ne there =
-      count-one (λ q. is_seat (seat (old q k)) z) (λ q. is_seat (seat (new q k)) z) pid 65 below (was_at z ∙ there) (sits_not (seat (new pid k)) y z to (λ e. ne (sym e)))
+      one_less (λ q. is_seat (seat (old q k)) z) (λ q. is_seat (seat (new q k)) z) pid 65 below (was_at z ∙ there) (sits_not (seat (new pid k)) y z to (λ e. ne (sym e)))
       (λ q away. ap (λ e. is_seat (seat e) z) (sym (others q k h (inl away))))
 
   still : (z : Seat) (p : ℕ) → z ≢ y → is_seat o z ≡ false → IsPage (top_level mode) p → holders_at new p z ≡ holders_at old p z
@@ -83,23 +72,18 @@ module _ (mode : ℕ) (old new : ℕ → ℕ → ℕ) (owned owned' : Seat → T
         | inl e ↦ (
             let P : Seat → Type 0 = λ a. count a ≡ holders_at new (page a) a + off x d a in
             let Q : ℕ → Type 0 = λ v. holders_at new v y ≡ holders_at old v y + 1 in
-            let g = subst Q (sym noted) gained in
-            let c = counted.counts y has in
-            let one = off-here y 1 in
             let none : off x d y ≡ 0 = rest y ∙ ap (λ b. if b then 1 else 0) apart in
-            subst P (sym e) (omega (arith, c, g, one, none)))
+            subst P (sym e) (omega (arith, counted.counts y has, subst Q (sym noted) gained, off-here y 1, none)))
         | inr ne ↦ (
             let none = off-other y 1 z (λ f. ne (sym f)) in
             elim (cases_Bool (is_seat o z)) [
               | inl there ↦ (
                   let Q : ℕ → Type 0 = λ v. holders_at old v z ≡ holders_at new v z + 1 in
-                  let l = subst Q (sym (counted.noted pid k z h (from ∙ seated o z there))) (lost z ne there) in
                   let one : off x d z ≡ 1 = r ∙ ap (λ b. if b then 1 else 0) there in
-                  omega (arith, before, l, none, one))
+                  omega (arith, before, subst Q (sym (counted.noted pid k z h (from ∙ seated o z there))) (lost z ne there), none, one))
               | inr away ↦ (
-                  let s = still z (page z) ne away (counted.pages z was) in
                   let zero : off x d z ≡ 0 = r ∙ ap (λ b. if b then 1 else 0) away in
-                  omega (arith, before, s, none, zero))
+                  omega (arith, before, still z (page z) ne away (counted.pages z was), none, zero))
             ])
       ]
 
@@ -134,10 +118,7 @@ unfolding holders_at
 seats_kept old new z p same = count-same (λ q. is_seat (seat (new q p)) z) (λ q. is_seat (seat (old q p)) z) 65 (λ q. ap (λ o. is_seat o z) (same q))
 
 pub off-none : (x y : Seat) → off x 0 y ≡ 0
-off-none x y = elim (cases_seat x y) [
-  | inl e ↦ (let P : Seat → Type 0 = λ z. off x 0 z ≡ 0 in subst P e (off-here x 0))
-  | inr ne ↦ off-other x 0 y ne
-]
+off-none x y = elim (cases_seat x y) [ inl e ↦ (let P : Seat → Type 0 = λ z. off x 0 z ≡ 0 in subst P e (off-here x 0)) | inr ne ↦ off-other x 0 y ne ]
 
 by_one : (x z : Seat) (n n' : Seat → ℕ) → n' x ≡ n x + 1 → (z ≢ x → n' z ≡ n z) → n' z ≡ n z + off x 1 z
 by_one x z n n' more same = elim (cases_seat z x) [
@@ -162,10 +143,7 @@ module _ (mode : ℕ) (old new : ℕ → ℕ → ℕ) (owned owned' : Seat → T
   counted_by x x' d d' counted back pages counts named = record {
     counts = λ z now. (
         let was = back z now in
-        let here = counted.counts z was in
-        let k = seats_kept old new z (page z) (λ q. same q (page z) (counted.pages z was)) in
-        let c = counts z now in
-        rw (pages z was) (omega (arith, here, k, c)));
+        rw (pages z was) (omega (arith, counted.counts z was, seats_kept old new z (page z) (λ q. same q (page z) (counted.pages z was)), counts z now)));
     pages = λ z now. (let was = back z now in let P : ℕ → Type 0 = λ v. IsPage (top_level mode) v in subst P (sym (pages z was)) (counted.pages z was));
     named = λ q p z h is. named q p z h (sym (same q p h) ∙ is);
     noted = λ q p z h is. (let was = sym (same q p h) ∙ is in pages z (counted.named q p z h was) ∙ counted.noted q p z h was);
@@ -190,16 +168,11 @@ module _ (mode : ℕ) (old new : ℕ → ℕ → ℕ) (owned owned' : Seat → T
         counts = λ z now. elim (cases_seat z x) [
           | inl e ↦ (
               let none : holders_at new (page' x) x ≡ 0 = unnamed x x' 0 counted fresh (page' x) (let P : ℕ → Type 0 = λ v. IsPage (top_level mode) v in subst P (sym noted) h) in
-              let here = off-here x 1 in
-              rw e (omega (arith, one, none, here)))
+              rw e (omega (arith, one, none, off-here x 1)))
           | inr ne ↦ (
               let was = back z ne now in
-              let here = counted.counts z was in
-              let none = off-none x' z in
-              let none' = off-other x 1 z (λ e. ne (sym e)) in
-              let c = counts z ne was in
               let k = seats_kept old new z (page z) (λ q. same q (page z) (counted.pages z was)) in
-              rw (pages z ne was) (omega (arith, here, none, none', c, k)))
+              rw (pages z ne was) (omega (arith, counted.counts z was, off-none x' z, off-other x 1 z (λ e. ne (sym e)), counts z ne was, k)))
         ];
         pages = λ z now. elim (cases_seat z x) [
           | inl e ↦ (let P : Seat → Type 0 = λ v. IsPage (top_level mode) (page' v) in let Q : ℕ → Type 0 = λ v. IsPage (top_level mode) v in subst P (sym e) (subst Q (sym noted) h))
@@ -221,13 +194,10 @@ module _ (mode : ℕ) (old new : ℕ → ℕ → ℕ) (owned owned' : Seat → T
   pub not_alone : (x : Seat) → AreCounted mode old owned count page x 1 → (q p : ℕ) → IsPage (top_level mode) p → q < 65 → seat (old q p) ≡ Some x → 1 < count x
   unfolding holders_at
   not_alone x counted q p h below is =
-      let has = counted.named q p x h is in
-      let here = counted.counts x has in
-      let one = off-here x 1 in
       let at = counted.noted q p x h is in
       let P : ℕ → Type 0 = λ v. 0 < holders_at old v x in
       let some : 0 < holders_at old (page x) x = subst P (sym at) (count-positive (λ r. is_seat (seat (old r p)) x) q 65 below (sits (seat (old q p)) x is)) in
-      omega (arith, here, one, some)
+      omega (arith, counted.counts x (counted.named q p x h is), off-here x 1, some)
 
   -- one less shares a seat, from which an entry was moved away; it is nobody's where nobody is left
   pub counted_released : (x x' : Seat) → AreCounted mode old owned count page x 1 → owned x → ((z : Seat) → (z ≢ x) ⊎ (1 < count z) → owned z → owned' z) → ((z : Seat) → owned' z → owned z)
@@ -249,8 +219,5 @@ module _ (mode : ℕ) (old new : ℕ → ℕ → ℕ) (owned owned' : Seat → T
   counted_left x x' counted held one gone forth back counts pages below = counted_by x x' 1 0 counted back pages
       (λ z now. (
       let ne : z ≢ x = λ e. gone (subst owned' e now) in
-      let c = counts z ne (back z now) in
-      let none = off-none x' z in
-      let none' = off-other x 1 z (λ e. ne (sym e)) in
-      omega (arith, c, none, none')))
+      omega (arith, counts z ne (back z now), off-none x' z, off-other x 1 z (λ e. ne (sym e)))))
       (λ q p z h is. forth z (λ e. (let more = not_alone x counted q p h (below q p z h is) (is ∙ ap (λ v. Some v) e) in omega (arith, more, one))) (counted.named q p z h is))

@@ -1,9 +1,8 @@
 -- One page's entry set, and what is seen then.
-use Rattle.residency.proofs.Names.{user_pages_fit, top_level, PageKey, ◌≡◌, ◌≢◌, ℕ, inl, inr, ◌⊎◌, ◌<◌, true, false, List, Some, None, refl, sym, ap, ◌∙◌, subst, arith, Role, Table, Private, Cache, FrameTable, bytes_of, role_of, with_bytes}
-use Rattle.residency.proofs.Names.{with_bytes-others, is_valid, is_dirty, frame_of, IsPage, KeepsTrees, data_written, Place, Home, Frame, Slot}
-use Rattle.residency.specs.{Seats.{Seat, seat, is_private}, Picture.{Picture, entry, view, held, bytes_at, bytes_in, IsOwned, count_in, page_in}, Parts.{IsRootedBut, IsGranting, IsEntryFor, IsFitBut, nowhere}}
-use Rattle.residency.{specs.Steps.{SameBeside, KeepsShares, SetsPage}, proofs.{Entries.{entries_kept}, Linked.{fit_same}}}
-use Rattle.residency.proofs.{Moves.{cases_attr, own_kept, owned_forth, owned_back, count_kept, page_kept, view_kept, view-none, counted_kept, bytes_same, set_by}, Rooted.{rooted_same}, Seats.{counted_filled, off-none}, Ways.{each_page}}
+use Rattle.residency.proofs.{Entries.{entries_kept}, Linked.{fit_same}, Moves.{cases_attr, own_kept, owned_forth, owned_back, count_kept, page_kept, view_kept, view-none, counted_kept, bytes_same, set_by}, Names.{user_pages_fit, top_level}}
+use Rattle.residency.proofs.Names.{PageKey, ◌≡◌, ◌≢◌, ℕ, inl, inr, ◌⊎◌, ◌<◌, true, false, List, Some, None, refl, sym, ap, ◌∙◌, subst, arith, Role, Table, Private, Cache, FrameTable, bytes_of, role_of, with_bytes, with_bytes-others}
+use Rattle.residency.{proofs.{Names.{is_valid, is_dirty, frame_of, IsPage, KeepsTrees, data_written, Place, Home, Frame, Slot}, Rooted.{rooted_same}, Seats.{counted_filled, off-none}, Ways.{each_page}}, specs.Parts.{IsRootedBut}}
+use Rattle.residency.specs.{Parts.{IsGranting, IsEntryFor, IsFitBut, nowhere}, Picture.{Picture, entry, view, held, bytes_at, bytes_in, IsOwned, count_in, page_in}, Seats.{Seat, seat, is_private}, Steps.{SameBeside, KeepsShares, SetsPage}}
 
 pub view_seated : {mode : ℕ} (old new : Picture mode) (q p : ℕ) → new.at q p ≡ old.at q p → seat (entry new q p) ≡ seat (entry old q p)
     → ((z : Seat) → seat (entry old q p) ≡ Some z → bytes_in new.frames new.slots z ≡ bytes_in old.frames old.slots z) → view new q p ≡ view old q p

@@ -4,10 +4,7 @@ use Rattle.residency.specs.{Picture.{Picture}, Calls.{KeepsPages}, Shows.{ShowsP
 
 pub object-kept : {mode : ℕ} (old new : Picture mode) (p : ObjectPage) → KeepsFiles old new → object_bytes new p ≡ object_bytes old p
 object-kept old new p keeps = elim (cases_Bool (old.touched (Object p))) [
-  | inl t ↦ rw (keeps.touched (Object p), t) (elim (keeps.held (Object p)) [
-    | inl same ↦ same
-    | inr home ↦ absurd (false≢true (sym home.1 ∙ t))
-  ])
+  | inl t ↦ rw (keeps.touched (Object p), t) (elim (keeps.held (Object p)) [ inl same ↦ same | inr home ↦ absurd (false≢true (sym home.1 ∙ t)) ])
   | inr f ↦ rw (keeps.touched (Object p), f) refl
 ]
 
@@ -37,10 +34,7 @@ keeps_then a b c p q = record {
   views = λ pid page. q.views pid page ∙ p.views pid page;
   files = record {
     held = λ f. elim (q.files.held f) [
-      | inl e ↦ elim (p.files.held f) [
-        | inl e' ↦ inl (e ∙ e')
-        | inr home ↦ inr (e ∙ home.0, home.1)
-      ]
+      | inl e ↦ elim (p.files.held f) [ inl e' ↦ inl (e ∙ e') | inr home ↦ inr (e ∙ home.0, home.1) ]
       | inr home ↦ inr (home.0, sym (p.files.touched f) ∙ home.1)
     ];
     touched = λ f. q.files.touched f ∙ p.files.touched f;

@@ -1,7 +1,6 @@
 -- A slot loses a share, after an entry was moved away from it.
-use Rattle.residency.proofs.Names.{◌≡◌, ◌≢◌, ℕ, inl, inr, ◌⊎◌, ◌+◌, ◌<◌, refl, sym, ap, ◌∙◌, subst, arith, cases_eq, PageKey, ReleasesSlot, Slot}
-use Rattle.residency.specs.{Seats.{Seat, InSlot, seat}, Picture.{Picture, entry, IsOwned, count_in, page_in}, Parts.{IsFitBut, nowhere}}
-use Rattle.residency.proofs.{Seats.{counted_released}, Puts.{SameButSlots, slots_forth, slots_back, slots_counts, slots_pages, fit_slots}, Evicted.{seat_number}}
+use Rattle.residency.proofs.{Evicted.{seat_number}, Names.{◌≡◌, ◌≢◌, ℕ, inl, inr, ◌⊎◌, ◌+◌, ◌<◌, refl, sym, ap, ◌∙◌, subst, arith, cases_eq, PageKey, ReleasesSlot, Slot}, Puts.{SameButSlots, slots_forth, slots_back, slots_counts}}
+use Rattle.residency.{proofs.{Puts.{slots_pages, fit_slots}, Seats.{counted_released}}, specs.{Parts.{IsFitBut, nowhere}, Picture.{Picture, entry, IsOwned, count_in, page_in}, Seats.{Seat, InSlot, seat}}}
 
 module _ {mode : ℕ} (old new : Picture mode) (k m : ℕ) (fit : IsFitBut old (InSlot k) 1 m) (has : IsOwned old (InSlot k)) (same : SameButSlots old new) (releases : ReleasesSlot old.slots new.slots k) where
   no_file : (p : PageKey) (j : ℕ) → j ≡ k → old.place p ≡ Slot (record { 0 = j }) → ⊥

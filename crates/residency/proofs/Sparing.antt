@@ -1,9 +1,8 @@
 -- Steps of an eviction, one after another.
-use Rattle.residency.proofs.Names.{top_level, FrameNo, ◌≡◌, ◌≢◌, ℕ, ◌<◌, inl, inr, ◌⊎◌, true, Option, get_or, length, refl, sym, ap, ◌∙◌, subst, arith, cases_eq, false≢true, get_or_past, Free, Table, Cache, role_of, frame_of, Swap, IsInUse}
-use Rattle.residency.proofs.Names.{slots_of, Home, Frame, Slot, IsPage, missing_of, last_table, missing_of-is}
-use Rattle.residency.specs.{declared.leaves.Change.{Change}, declared.leaves.Change.TheVariants.{Forget, ClearAccessed}, Seats.{is_swapped}, Picture.{Picture, entry, is_data}, Parts.{IsFit}, Ages.{Ages, Same, Cleared, Left}}
-use Rattle.residency.specs.{Calls.{Frees, KeepsPages, IsToKeep, IsStaying}, Evictions.{Spares, GivesUp}, Leaves.{ChangesLeaves, IsChanged, IsOver}}
-use Rattle.residency.proofs.{Aging.{ages_then}, Bits.{some_framed}, LeafSteps.{over_common}, Places.{one_frame}, Shown.{keeps_then}, Setting.{held_same}}
+use Rattle.residency.proofs.{Aging.{ages_then}, Bits.{some_framed}, LeafSteps.{over_common}, Names.{top_level, FrameNo, ◌≡◌, ◌≢◌, ℕ, ◌<◌, inl, inr, ◌⊎◌, true, Option, get_or, length, refl, sym, ap, ◌∙◌, subst, arith, cases_eq, false≢true}}
+use Rattle.residency.proofs.{Names.{get_or_past, Free, Table, Cache, role_of, frame_of, Swap, IsInUse, slots_of, Home, Frame, Slot, IsPage, missing_of, last_table, missing_of-is}, Places.{one_frame}, Setting.{held_same}, Shown.{keeps_then}}
+use Rattle.residency.specs.{Ages.{Ages, Same, Cleared, Left}, Calls.{Frees, KeepsPages, IsToKeep, IsStaying}, Evictions.{Spares, GivesUp}, Leaves.{ChangesLeaves, IsChanged, IsOver}, Parts.{IsFit}, Picture.{Picture, entry, is_data}}
+use Rattle.residency.specs.{Seats.{is_swapped}, declared.leaves.Change.{Change, TheVariants.{Forget, ClearAccessed}}}
 
 stays_free : {mode : ℕ} (v : ℕ) (a b : Picture mode) → (role_of b.frames v ≡ role_of a.frames v) ⊎ ((role_of b.frames v ≡ Free) × (is_data (role_of a.frames v) ≡ true)) → is_data (role_of b.frames v) ≡ true → role_of b.frames v ≡ role_of a.frames v
 stays_free v a b (inl same) datum = same
@@ -55,10 +54,7 @@ module _ {mode : ℕ} (change : Change) (n : ℕ) (old new : Picture mode) (fit 
 
   entries_unchanged : (pid page : ℕ) → IsPage (top_level mode) page → (entry old pid page ≡ 0) ⊎ ((is_swapped (entry old pid page) ≡ true) ⊎ (frame_of (entry old pid page) ≢ n))
       → entry new pid page ≡ entry old pid page
-  entries_unchanged pid page h stays = elim (ch.entries pid page h) [
-    | inl same ↦ same
-    | inr was ↦ absurd (not_over pid page was.0 stays)
-  ]
+  entries_unchanged pid page h stays = elim (ch.entries pid page h) [ inl same ↦ same | inr was ↦ absurd (not_over pid page was.0 stays) ]
 
   pages_unchanged : KeepsPages old new
   pages_unchanged = record { root = ch.beside.root; at = ch.beside.at; views = ch.views; files = record { held = λ p. inl (held_same old new p (ch.beside.place p) ch.beside.slots (λ m is. ch.bytes m (λ t. (let bad : Cache ≡ Table = sym (fit.places.cached p m is) ∙ t in (cc))))); touched = ch.beside.touched; files = ch.beside.files } }
@@ -74,10 +70,7 @@ module _ {mode : ℕ} (change : Change) (n : ℕ) (old new : Picture mode) (fit 
     bytes = λ m ne. ch.bytes m;
     ends = ch.ends;
     entries = entries_unchanged;
-    ages = λ pid page h. elim (ch.entries pid page h) [
-      | inl same ↦ Same same
-      | inr was ↦ aged pid page h was.0 was.1
-    ];
+    ages = λ pid page h. elim (ch.entries pid page h) [ inl same ↦ Same same | inr was ↦ aged pid page h was.0 was.1 ];
     pointers = ch.pointers;
     slots = λ j ne used. (ap (λ t. t.bytes j) ch.beside.slots, ap (λ t. t.count j) ch.beside.slots);
     total = ap (λ t. t.total) ch.beside.slots;
@@ -95,10 +88,7 @@ spares_then v k a b c f g = record {
   count = g.count ∙ f.count;
   roles = λ n ne. g.roles n ne ∙ f.roles n ne;
   role = elim g.role [
-    | inl same ↦ elim f.role [
-      | inl was ↦ inl (same ∙ was)
-      | inr gone ↦ inr (same ∙ gone.0, gone.1)
-    ]
+    | inl same ↦ elim f.role [ inl was ↦ inl (same ∙ was) | inr gone ↦ inr (same ∙ gone.0, gone.1) ]
     | inr gone ↦ inr (gone.0, sym (ap is_data (stays_free v a b f.role gone.1)) ∙ gone.1)
   ];
   counts = λ n ne. g.counts n ne ∙ f.counts n ne;
@@ -161,10 +151,7 @@ frees_then a b c keep f g = record {
   pages = keeps_then a b c f.pages g.pages;
   count = g.count ∙ f.count;
   roles = λ n. elim (g.roles n) [
-    | inl same ↦ elim (f.roles n) [
-      | inl was ↦ inl (same ∙ was)
-      | inr gone ↦ inr (same ∙ gone.0, gone.1)
-    ]
+    | inl same ↦ elim (f.roles n) [ inl was ↦ inl (same ∙ was) | inr gone ↦ inr (same ∙ gone.0, gone.1) ]
     | inr gone ↦ inr (gone.0, sym (ap is_data (stays_free n a b (f.roles n) gone.1)) ∙ gone.1)
   ];
   missing = λ pid r page e. g.missing pid r page (f.pages.root pid ∙ e) ∙ f.missing pid r page e;

@@ -1,11 +1,9 @@
 -- Why no frame was to be had, told by what processes see and files are touched.
-use Rattle.residency.proofs.Names.{user_end, object_limit, FrameNo, backing_fits, names, uses, is_object_page, is_of_object, ObjectPage, File, Object, Attr, Backing, Stall, NoFrames, NoSwap, SwapDevice, StoreDevice, has_own}
-use Rattle.residency.proofs.Names.{object_page_limit, ◌≡◌, ◌≢◌, ℕ, inl, inr, ◌^◌, ◌<◌, ◌≤◌, true, Option, Some, None, is_some, List, refl, sym, ap, ◌∙◌, subst, arith, and_parts, eqb-true, false≢true, option_map, IfSome, Home, IsPageOf}
-use Rattle.residency.proofs.Names.{Role, Free, Zero, Table, Private, IsSound, IsCountFor, role_of, count_of}
-use Rattle.std.specs.Prelude.{◌==◌}
-use Rattle.vm_types.specs.declared.region.Backing.TheVariants.{Anon, Private as PrivateOf, Shared as SharedOf, Common as CommonOf}
-use Rattle.residency.specs.{Seats.{Seat, seat}, Picture.{Picture, entry, view, is_live, bytes_in, own_in, view_of}, Parts.{IsFit, IsEntryFor, Nothing, Resident, Away, IsMapped, IsUsed, AsRoot, OnWay}, Calls.{Refuses}}
-use Rattle.residency.{specs.Capacity.{IsShort, table_frames, tables_over}, proofs.{Start.{seat-none}, Short.{few_frames}, Tables.{tables_counted}, Held.{more_held}, Places.{named_by}, Refusing.{used_inside}}}
+use Rattle.residency.proofs.{Held.{more_held}, Names.{user_end, object_limit, FrameNo, backing_fits, names, uses, is_object_page, is_of_object, ObjectPage, File, Object, Attr, Backing, Stall, NoFrames, NoSwap, SwapDevice, StoreDevice}}
+use Rattle.residency.proofs.Names.{has_own, object_page_limit, ◌≡◌, ◌≢◌, ℕ, inl, inr, ◌^◌, ◌<◌, ◌≤◌, true, Option, Some, None, is_some, List, refl, sym, ap, ◌∙◌, subst, arith, and_parts, eqb-true, false≢true, option_map, IfSome, Home}
+use Rattle.residency.proofs.{Names.{IsPageOf, Role, Free, Zero, Table, Private, IsSound, IsCountFor, role_of, count_of}, Places.{named_by}, Refusing.{used_inside}, Short.{few_frames}, Start.{seat-none}, Tables.{tables_counted}}
+use Rattle.residency.specs.{Calls.{Refuses}, Capacity.{IsShort, table_frames, tables_over}, Parts.{IsFit, IsEntryFor, Nothing, Resident, Away, IsMapped, IsUsed, AsRoot, OnWay}, Picture.{Picture, entry, view, is_live, bytes_in, own_in}}
+use Rattle.{residency.specs.{Picture.{view_of}, Seats.{Seat, seat}}, std.specs.Prelude.{◌==◌}, vm_types.specs.declared.region.Backing.TheVariants.{Anon, Private as PrivateOf, Shared as SharedOf, Common as CommonOf}}
 
 some_same : (own : Option (List ℕ)) (o : Option Attr) → is_some (view_of own o) ≡ is_some o
 some_same own None = refl

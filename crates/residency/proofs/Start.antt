@@ -33,10 +33,7 @@ module _ {mode : ℕ} (c : Picture mode) (count : ℕ) (sound : IsSound c.frames
     (unmapped : (pid page : ℕ) → c.at pid page ≡ None) (home : (p : PageKey) → c.place p ≡ Home) (untouched : (p : PageKey) → c.touched p ≡ false)
     (free : (k : ℕ) → c.slots.count k ≡ 0) where
   is_not : (n : ℕ) (r : Role) → Free ≢ r → Zero ≢ r → role_of c.frames n ≢ r
-  is_not n r free zero e = elim (fresh_role c.frames count n sound fresh) [
-    | inl f ↦ free (sym f ∙ e)
-    | inr z ↦ zero (sym z ∙ e)
-  ]
+  is_not n r free zero e = elim (fresh_role c.frames count n sound fresh) [ inl f ↦ free (sym f ∙ e) | inr z ↦ zero (sym z ∙ e) ]
 
   no_root : (pid r : ℕ) → c.root pid ≡ Some r → ⊥
   no_root pid r e = let bad : None ≡ Some r = sym (dead pid) ∙ e in (cc)

@@ -1,9 +1,8 @@
 -- Tables are no more than mapped pages need.
-use Rattle.residency.proofs.Names.{user_end, top_level, table_entries, tables_of, tables_below, any_below, count_below, sum_below, View, two_modes, div-add-mod, mod-lt, one-le-pow, ◌≡◌, ℕ, zero, suc, inl, inr, ◌+◌, ◌-◌, ◌*◌, ◌/◌, ◌%◌, ◌^◌}
-use Rattle.residency.proofs.Names.{◌<◌, ◌≤◌, Bool, true, false, ◌&&◌, if◌then◌else◌, Option, Some, is_some, refl, sym, ap, ◌∙◌, subst, arith, cases_eq, cases_Bool, false≢true, and_parts, or_left, or_right, same_Some, fields_same, Role}
-use Rattle.residency.proofs.Names.{Free, Zero, Table, Private, Cache, FrameTable, frame_count, role_of, Way, entry_at, frame_of, index_of}
-use Rattle.residency.specs.{Capacity.{is_table, table_frames, tables_over}, Picture.{Picture}, Parts.{IsUsed, AsRoot, OnWay}}
-use Rattle.residency.proofs.{Pigeon.{Code, code, is_inside, passing, pigeons}, Counts.{count-none, count-le, count-most, sum-le, sum-none}}
+use Rattle.residency.proofs.{Counts.{count-none, count-le, count-most, sum-le, sum-none}, Names.{user_end, top_level, table_entries, tables_of, tables_below, any_below, count_below, sum_below, View, two_modes, div-add-mod, mod-lt}}
+use Rattle.residency.proofs.Names.{one-le-pow, ◌≡◌, ℕ, zero, suc, inl, inr, ◌+◌, ◌-◌, ◌*◌, ◌/◌, ◌%◌, ◌^◌, ◌<◌, ◌≤◌, Bool, true, false, ◌&&◌, if◌then◌else◌, Option, Some, is_some, refl, sym, ap, ◌∙◌, subst, arith, cases_Bool, false≢true}
+use Rattle.residency.{proofs.{Names.{and_parts, same_Some, fields_same, Role, Table, FrameTable, frame_count, role_of, Way, entry_at, frame_of, index_of, any-at}, Pigeon.{Code, code, is_inside, passing, pigeons}}, specs.Capacity.{is_table}}
+use Rattle.residency.specs.{Capacity.{table_frames, tables_over}, Parts.{IsUsed, AsRoot, OnWay}, Picture.{Picture}}
 pub use Rattle.residency.proofs.Counts.{sum-below}
 
 -- a table's code: its process, its level, and which row of pages it is over; the root is alone at its level
@@ -32,8 +31,7 @@ needed_up_to mode live views pid zero = let one = count-most (λ i. live pid) 1 
 needed_up_to mode live views pid (suc k) =
     let here = count-le (λ i. needed_at live views pid (suc k) i) (λ i. any_below (λ j. is_some (views pid (table_entries ^ suc k * i + j))) (table_entries ^ suc k))
     (width mode (suc k)) (λ i h. (and_parts (live pid) _ h).1) in
-    let rest = needed_up_to mode live views pid k in
-    omega (arith, here, rest)
+    omega (arith, here, needed_up_to mode live views pid k)
 
 none_needed : (live : ℕ → Bool) (views : ℕ → ℕ → Option View) (pid k i : ℕ) → live pid ≡ false → needed_at live views pid k i ≡ false
 none_needed live views pid zero i dead = dead
@@ -50,14 +48,6 @@ needed_are mode live views =
           (λ k. count-none (λ i. needed_at live views pid k i) (width mode k) (λ i. none_needed live views pid k i f)) in
           rw f (omega (arith, a)))
     ])
-
-any_below-at : (passes : ℕ → Bool) (n i : ℕ) → i < n → passes i ≡ true → any_below passes n ≡ true
-unfolding any_below
-any_below-at passes zero i below here = absurd (omega arith)
-any_below-at passes (suc n) i below here = elim (cases_eq n i) [
-  | inl e ↦ or_left (passes n) (any_below passes n) (ap passes e ∙ here)
-  | inr ne ↦ or_right (passes n) (any_below passes n) (any_below-at passes n i (omega (arith, below, ne)) here)
-]
 
 -- ways with equal fields lead to one table
 one_table : (t : FrameTable) (top r page page' d n n' : ℕ) → d ≤ top → ((k : ℕ) → k < d → index_of page (top - k) ≡ index_of page' (top - k))
@@ -116,7 +106,7 @@ module _ {mode : ℕ} (c : Picture mode) (live : ℕ → Bool) (views : ℕ → 
   needed n (OnWay pid r page is here (depth, below, way)) =
       let some : 0 < table_entries ^ (top_level mode - depth) = one-le-pow (top_level mode - depth) 512 (omega arith) in
       needed_some live views pid (top_level mode - depth) (page / table_entries ^ (top_level mode - depth)) (omega (arith, below)) (lives pid r is)
-      (any_below-at (λ k. is_some (views pid (table_entries ^ (top_level mode - depth) * (page / table_entries ^ (top_level mode - depth)) + k)))
+      (any-at (λ k. is_some (views pid (table_entries ^ (top_level mode - depth) * (page / table_entries ^ (top_level mode - depth)) + k)))
       (table_entries ^ (top_level mode - depth)) (page % table_entries ^ (top_level mode - depth)) (mod-lt page some)
       (ap (λ x. is_some (views pid x)) (div-add-mod page (table_entries ^ (top_level mode - depth))) ∙ here))
 
@@ -144,11 +134,8 @@ module _ {mode : ℕ} (c : Picture mode) (live : ℕ → Bool) (views : ℕ → 
       (subst D same (subst P one way)) way'
 
   is_table-is : (r : Role) → is_table r ≡ true → r ≡ Table
-  is_table-is Free e = absurd (false≢true e)
-  is_table-is Zero e = absurd (false≢true e)
   is_table-is Table e = refl
-  is_table-is Private e = absurd (false≢true e)
-  is_table-is Cache e = absurd (false≢true e)
+  is_table-is r e = absurd (false≢true e)
 
   -- where every table is used, they are no more than mapped pages need
   pub tables_counted : ((n : ℕ) → role_of t n ≡ Table → IsUsed c mapped n) → table_frames t ≤ tables_over mode live views
@@ -157,5 +144,4 @@ module _ {mode : ℕ} (c : Picture mode) (live : ℕ → Bool) (views : ℕ → 
       let u : (k : ℕ) → is_table (role_of t k) ≡ true → IsUsed c mapped k = λ k h. used k (is_table-is (role_of t k) h) in
       let most = pigeons 65 (λ pid. suc (top_level mode)) (λ pid k. width mode k) (λ n. is_table (role_of t n)) (λ k h. spot_of k (u k h)) (frame_count t) (is_needed live views)
       (λ k h. inner k (u k h)) (λ k h below. needed k (u k h)) (λ j k h i lt lt' e. apart j k (u j h) (u k i) e) in
-      let least = needed_are mode live views in
-      omega (arith, most, least)
+      omega (arith, most, needed_are mode live views)

@@ -50,10 +50,7 @@ module _ {mode : ℕ} (old new : Picture mode) (n : ℕ) (fit : IsFit old) (chan
   owned_ne (InSlot k) is e = (cc)
 
   cache_back : (m : ℕ) → role_of new.frames n ≢ Cache → role_of new.frames m ≡ Cache → role_of old.frames m ≡ Cache
-  cache_back m other e = elim (cases_eq m n) [
-    | inl is ↦ absurd (other (ap (role_of new.frames) (sym is) ∙ e))
-    | inr ne ↦ sym (changes.frames.roles m ne) ∙ e
-  ]
+  cache_back m other e = elim (cases_eq m n) [ inl is ↦ absurd (other (ap (role_of new.frames) (sym is) ∙ e)) | inr ne ↦ sym (changes.frames.roles m ne) ∙ e ]
 
   fit_by : (x : Seat) (d : ℕ) → role_of new.frames n ≢ Cache → IsCountedBut new x d → IsFitBut new x d 0
   fit_by x d other counted = record {

@@ -1,9 +1,7 @@
 -- Beginnings and ends of lists of bytes.
-use Rattle.std.proofs.Common.{◌≡◌, ℕ, ◌+◌, ◌<◌, ◌≤◌, ◌-◌, min, List, [], ◌∷◌, ◌++◌, length, take, drop, sym, ap, ◌∙◌, arith, append_assoc, length-take-le, get_or, Option, MatchResult, Result, Ok, Err}
-use Rattle.std.proofs.{lemmas.List.{take-append-le, take_more, take_min, take_rest, take-append-drop}, Math.Seq.{take-add, take-append-add}, KnownBytes.{Appends-trans}}
+use Rattle.std.proofs.{Common.{◌≡◌, ℕ, ◌+◌, ◌<◌, ◌≤◌, ◌-◌, min, List, [], ◌∷◌, ◌++◌, length, take, drop, sym, ap, ◌∙◌, arith, append_assoc, length-take-le, get_or, Option, MatchResult, Result, Ok, Err}, KnownBytes.{Appends-trans}}
+use Rattle.{std.{proofs.{Math.Seq.{take-add, take-append-add}, lemmas.List.{take-append-le, take_more, take_min, take_rest, take-append-drop}}, specs.Io.KnownBytes.{Appends}}, runner.specs.Bytes.{WritesBeginning}}
 use borrow.Rule.Slice.PartMut.{put_mid}
-use Rattle.std.specs.Io.KnownBytes.{Appends}
-use Rattle.runner.specs.Bytes.{WritesBeginning}
 
 -- a line of at most 257 bytes goes on by as many as there is room for
 pub extended : (kept more : List ℕ) (len count : ℕ) → length kept ≡ len → len ≤ 257 → count ≡ min (length more) (257 - len)

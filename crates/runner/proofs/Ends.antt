@@ -1,12 +1,8 @@
 -- How a run ends, after what it did before.
-use Rattle.std.proofs.{Common.{◌≡◌, ◌≢◌, ℕ, List, [], ◌∷◌, ◌++◌, length, refl, sym, ap, subst, ◌∙◌, append_assoc, append-nil, Option, inl, inr}, KnownBytes.{Appends-trans, Appends-nil}}
-use Rattle.std.specs.Io.KnownBytes.{Appends, IsAtEnd}
-use Rattle.disk_model.specs.declared.sector_disk.SectorDisk.{Ghosts}
-use Rattle.machine.specs.declared.machine.Machine.{Machine}
-use Rattle.trace_lang.specs.Lines.{lines_of, Cuts}
-use Rattle.runner.specs.{declared.engine.RunEnd.{RunEnd}, declared.engine.RunEnd.TheVariants.{Done, ReadFault, WriteFault}, Bytes.{WritesBeginning}, Session.{Answers, CarriesOut}}
-use Rattle.runner.specs.Progress.{Stage, stage, HoldsOpenLine, ReadsAll, RunsLast, Fails, GoesOn, BreaksOff, Ends}
-use Rattle.runner.proofs.{Lines.{lines_of-cut, lines_of-unfinished, Cuts-none}, Session.{answers_line, CarriesOut-one, CarriesOut-append}, Progress.{Advances-trans, breaks_later, wrote_beginning}}
+use Rattle.std.{proofs.{Common.{◌≡◌, ◌≢◌, ℕ, List, [], ◌∷◌, ◌++◌, length, refl, sym, ap, subst, ◌∙◌, append_assoc, append-nil, Option, inl, inr}, KnownBytes.{Appends-trans, Appends-nil}}, specs.Io.KnownBytes.{Appends, IsAtEnd}}
+use Rattle.{disk_model.specs.declared.sector_disk.SectorDisk.{Ghosts}, machine.specs.declared.machine.Machine.{Machine}, trace_lang.specs.Lines.{lines_of, Cuts}, runner.proofs.Lines.{lines_of-cut, lines_of-unfinished, Cuts-none}}
+use Rattle.runner.{proofs.{Progress.{Advances-trans, breaks_later, wrote_beginning}, Session.{answers_line, CarriesOut-one, CarriesOut-append}}, specs.{Bytes.{WritesBeginning}, Progress.{Stage, stage, HoldsOpenLine, ReadsAll, RunsLast}}}
+use Rattle.runner.specs.{Progress.{Fails, GoesOn, BreaksOff, Ends}, Session.{Answers, CarriesOut}, declared.engine.RunEnd.{RunEnd, TheVariants.{Done, ReadFault, WriteFault}}}
 
 -- an open line of which something is kept is a line of the trace
 pub lines_of-open : (kept open_line : List ℕ) → HoldsOpenLine kept open_line → length kept ≢ 0 → lines_of open_line ≡ open_line ∷ []

@@ -1,8 +1,6 @@
 -- How bytes are cut into lines, piece after piece.
-use Rattle.std.proofs.{Common.{◌≡◌, ◌≢◌, ℕ, ◌==◌, false, List, [], ◌∷◌, ◌++◌, refl, sym, ap, ◌∙◌, append_assoc, append-nil, if◌then◌else◌}, lemmas.List.Elements.{All-nil, All-cons, All-head, All-tail, All-append}}
-use Rattle.std.proofs.{lemmas.Grind.{flat_map-append}, lemmas.Bool.{ne_eqb}}
-use Rattle.std.specs.Prelude.{All, flat_map}
-use Rattle.trace_lang.specs.Lines.{lines_of, onto_line, ended, HasNoNewline, Cuts}
+use Rattle.std.proofs.{Common.{◌≡◌, ◌≢◌, ℕ, ◌==◌, false, List, [], ◌∷◌, ◌++◌, refl, sym, ap, ◌∙◌, append_assoc, append-nil, if◌then◌else◌}, lemmas.{Bool.{ne_eqb}, Grind.{flat_map-append}, List.Elements.{All-nil, All-cons, All-head}}}
+use Rattle.{std.{proofs.lemmas.List.Elements.{All-tail, All-append}, specs.Prelude.{All, flat_map}}, trace_lang.specs.Lines.{lines_of, onto_line, ended, HasNoNewline, Cuts}}
 
 abbrev NotNewline : ℕ → Type 0
 NotNewline b = b ≢ 10

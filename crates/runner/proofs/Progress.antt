@@ -1,12 +1,8 @@
 -- How the engine goes on, line after line.
-use Rattle.std.proofs.{Common.{◌≡◌, ◌≢◌, ℕ, ◌≤◌, List, [], ◌∷◌, ◌++◌, length, take, refl, sym, ap, subst, ◌∙◌, append_assoc, append-nil, inl, inr, arith, Option, Result}, lemmas.List.{take_all, length-take-le, take-append-le}}
-use Rattle.std.proofs.{lemmas.List.Elements.{All-nil}, lemmas.Bool.{cases_lt}, KnownBytes.{Appends-trans, Appends-nil}}
-use Rattle.std.specs.Io.KnownBytes.{Appends}
-use Rattle.disk_model.specs.declared.sector_disk.SectorDisk.{Ghosts}
-use Rattle.machine.specs.declared.machine.Machine.{Machine}
-use Rattle.trace_lang.specs.Lines.{HasNoNewline}
-use Rattle.runner.specs.{Bytes.{WritesBeginning}, Session.{Answers}, Progress.{Stage, stage, HoldsOpenLine, Advances, ReadsAll, Breaks, GoesOn, BreaksOff, TakesBytes}, declared.output_buffer.WriteFault.{WriteFault}}
-use Rattle.runner.proofs.{Bytes.{match_both}, Lines.{Cuts-trans, Cuts-none, Cuts-bytes, Cuts-newline}, Session.{answers_line, CarriesOut-one, CarriesOut-append}}
+use Rattle.std.proofs.{Common.{◌≡◌, ◌≢◌, ℕ, ◌≤◌, List, [], ◌∷◌, ◌++◌, length, take, refl, sym, ap, subst, ◌∙◌, append_assoc, append-nil, inl, inr, arith, Option, Result}, KnownBytes.{Appends-trans, Appends-nil}, lemmas.Bool.{cases_lt}}
+use Rattle.{std.{proofs.lemmas.List.{take_all, length-take-le, take-append-le, Elements.{All-nil}}, specs.Io.KnownBytes.{Appends}}, disk_model.specs.declared.sector_disk.SectorDisk.{Ghosts}, machine.specs.declared.machine.Machine.{Machine}}
+use Rattle.{trace_lang.specs.Lines.{HasNoNewline}, runner.{proofs.{Bytes.{match_both}, Lines.{Cuts-trans, Cuts-none, Cuts-bytes, Cuts-newline}, Session.{answers_line, CarriesOut-one, CarriesOut-append}}, specs.Bytes.{WritesBeginning}}}
+use Rattle.runner.specs.{Progress.{Stage, stage, HoldsOpenLine, Advances, ReadsAll, Breaks, GoesOn, BreaksOff, TakesBytes}, Session.{Answers}, declared.output_buffer.WriteFault.{WriteFault}}
 
 -- the buffer goes on as the line does
 pub kept_bytes : (line bytes : List ℕ) → take 257 (take 257 line ++ bytes) ≡ take 257 (line ++ bytes)
@@ -69,10 +65,7 @@ module _ {D E : Type 0} (g : Ghosts D) (h : Ghosts E) where
         rest = open_line ++ bytes;
         written = [];
         advances = record { lines = []; cuts = cuts; runs = (refl, refl) };
-        kept = record {
-          front = is ∙ ap (λ k. take 257 (k ++ bytes)) begun.front ∙ kept_bytes open_line bytes;
-          unfinished = cuts.rest;
-        };
+        kept = record { front = is ∙ ap (λ k. take 257 (k ++ bytes)) begun.front ∙ kept_bytes open_line bytes; unfinished = cuts.rest };
         sent = append-nil pending;
         wrote = Appends-nil held;
       }

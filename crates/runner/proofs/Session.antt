@@ -1,9 +1,6 @@
 -- Laws of runs of lines.
-use Rattle.std.proofs.{Common.{ℕ, ◌<◌, ◌≤◌, List, [], ◌∷◌, ◌++◌, length, take, refl, sym, ap, subst, ◌∙◌, append_assoc, append-nil, inl, inr, arith}, lemmas.List.{take_all, length-take-le}, lemmas.Bool.{cases_lt}}
-use Rattle.vm_types.specs.declared.command.Command.{Command}
-use Rattle.disk_model.specs.declared.sector_disk.SectorDisk.{Ghosts}
-use Rattle.machine.specs.declared.machine.Machine.{Machine}
-use Rattle.trace_lang.specs.Grammar.{IsCommand}
+use Rattle.std.proofs.{Common.{ℕ, ◌<◌, ◌≤◌, List, [], ◌∷◌, ◌++◌, length, take, refl, sym, ap, subst, ◌∙◌, append_assoc, append-nil, inl, inr, arith}, lemmas.{Bool.{cases_lt}, List.{take_all, length-take-le}}}
+use Rattle.{vm_types.specs.declared.command.Command.{Command}, disk_model.specs.declared.sector_disk.SectorDisk.{Ghosts}, machine.specs.declared.machine.Machine.{Machine}, trace_lang.specs.Grammar.{IsCommand}}
 use Rattle.runner.specs.Session.{IsBadLine, Answers, CarriesOut}
 
 -- a line of more than 256 bytes is in no form

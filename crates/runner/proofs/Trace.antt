@@ -1,13 +1,8 @@
 -- From the lines that were carried out to a run of the machine.
-use Rattle.std.proofs.Common.{◌≡◌, ℕ, List, [], ◌∷◌, ◌++◌, refl, sym, ap, subst, ◌∙◌, Option, inl, inr}
-use Rattle.std.specs.Io.KnownBytes.{Consumes}
-use Rattle.disk_model.specs.{Stop.{Image, MayLeave}, declared.sector_disk.SectorDisk.{Ghosts}}
-use Rattle.vm_types.specs.{declared.command.Command.{Command}, declared.reply.Reply.{Reply}, Prefix.{Event}, State.{State}}
-use Rattle.machine.specs.{declared.machine.Machine.{Machine}, Machine.{store_of, swap_of, Shows, Meets}, Chain.{event, Caused, Chain, Runs}}
-use Rattle.machine.proofs.{Face.{readable, face}, Runs.{chain_room, leaves_prefix}}
-use Rattle.trace_lang.specs.Lines.{lines_of}
-use Rattle.runner.specs.{declared.engine.RunEnd.{RunEnd}, declared.engine.RunEnd.TheVariants.{Done, ReadFault, WriteFault}, Session.{Obeys, Rejects, CarriesOut, Answered}, Progress.{stage, EndsSo}}
-use Rattle.runner.specs.Trace.{Streams, streams, EndsTrace, CausedTrace, RunsTrace}
+use Rattle.{std.{proofs.Common.{◌≡◌, ℕ, List, [], ◌∷◌, ◌++◌, refl, sym, ap, subst, ◌∙◌, Option, inl, inr}, specs.Io.KnownBytes.{Consumes}}, disk_model.specs.{Stop.{Image, MayLeave}, declared.sector_disk.SectorDisk.{Ghosts}}}
+use Rattle.{vm_types.specs.{Prefix.{Event}, State.{State}, declared.{command.Command.{Command}, reply.Reply.{Reply}}}, machine.{proofs.{Face.{readable, face}, Runs.{chain_room, leaves_prefix}}, specs.Chain.{event, Caused, Chain, Runs}}}
+use Rattle.{machine.specs.{Machine.{store_of, swap_of, Shows, Meets}, declared.machine.Machine.{Machine}}, trace_lang.specs.Lines.{lines_of}, runner.specs.{Progress.{stage, EndsSo}, Session.{Obeys, Rejects, CarriesOut, Answered}}}
+use Rattle.runner.specs.{Trace.{Streams, streams, EndsTrace, CausedTrace, RunsTrace}, declared.engine.RunEnd.{RunEnd, TheVariants.{Done, ReadFault, WriteFault}}}
 
 module _ {D E : Type 0} (g : Ghosts D) (h : Ghosts E) where
   -- a line more, of a command
@@ -21,8 +16,7 @@ module _ {D E : Type 0} (g : Ghosts D) (h : Ghosts E) where
   answered_none : (old mid : Machine D E) (line : List ℕ) (lines : List (List ℕ)) (commands : List Command) (replies : List Reply) (first rest text : List ℕ)
       → Rejects g h old line first mid → text ≡ first ++ rest → Answered lines commands replies rest
       → Answered (line ∷ lines) commands replies text
-  answered_none old mid line lines commands replies first rest text r is later =
-      inl (r.bad, (rest, is ∙ ap (λ t. t ++ rest) r.text_is, later))
+  answered_none old mid line lines commands replies first rest text r is later = inl (r.bad, (rest, is ∙ ap (λ t. t ++ rest) r.text_is, later))
 
   -- the replies to the lines' commands, each caused
   record Replied (old new : Machine D E) (lines : List (List ℕ)) (text : List ℕ) : Type 0 where
@@ -101,10 +95,7 @@ module _ {D E : Type 0} (g : Ghosts D) (h : Ghosts E) where
   kept_all old new [] text carried = (subst (λ m. g.keeps_model (store_of m)) carried.1, subst (λ m. h.keeps_model (swap_of m)) carried.1)
   kept_all old new (line ∷ lines) text carried =
       let later = kept_all carried.0 new lines carried.2 carried.4 in
-      elim carried.3 [
-        | inl o ↦ (λ k. o.kept (later.0 k), λ k. o.swap_kept (later.1 k))
-        | inr r ↦ subst (λ m. KeptModels m new) r.same later
-      ]
+      elim carried.3 [ inl o ↦ (λ k. o.kept (later.0 k), λ k. o.swap_kept (later.1 k)) | inr r ↦ subst (λ m. KeptModels m new) r.same later ]
 
   pub kept_trace : (end : RunEnd) (old new : Machine D E) (left left_then held held_then : Option (List ℕ)) (bytes : List ℕ)
       → EndsSo g h end left_then (stage old [] [] held) (stage new [] [] held_then) bytes [] → KeptModels old new

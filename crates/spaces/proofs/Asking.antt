@@ -2,16 +2,14 @@
 use Rattle.vm_types.specs.declared.mode.Levels as Levels
 use Rattle.spaces.proofs.Names.{ℕ, ◌≡◌, ◌≢◌, ◌⊎◌, ◌/◌, true, false, Some, is_some, List, Result, Ok, Err, inl, refl, sym, ap, ◌∙◌, subst, rules, AsksOnly, Ghosts, FileStore, Swap, IsSoundCore, tends_none, AccessRefusal, Reaches, Tends}
 use Rattle.spaces.proofs.Names.{IsRefusal, ReadsHome, RefusesAccess, ShowsFile, KeepsSlotted, IsThatPage, bytes_of, with_bytes, Core, KeepsAround, Picture, picture_of, is_live, Access, StoredValue, Phys, ESRCH, Stall, StoreDevice, Reply}
-use Rattle.spaces.proofs.Names.{Faulted, Refused, Stalled, Width, with_number, reply_of, byte_count}
-use Rattle.vm_types.specs.declared.access.Access.TheVariants.{Load, Store, Fetch}
+use Rattle.spaces.{proofs.{Names.{Faulted, Refused, Stalled, Width, with_number, reply_of, byte_count}, Refusals.{no_stall, same_stall, refused_idle, refused_caused}}, specs.Accesses.{reply_for, AsksFor, KeepsToPage, LetsThrough, MayWrite}}
+use Rattle.{spaces.specs.{Accesses.{WritesNumber}, Idle.{is_denial}}, vm_types.specs.declared.access.Access.TheVariants.{Store}}
 use Rattle.fault.specs.declared.refusal.AccessRefusal.TheVariants as Refusal
-use Rattle.spaces.{specs.{Accesses.{reply_for, AsksFor, KeepsToPage, LetsThrough, MayWrite, WritesNumber}, Idle.{is_denial}}, proofs.Refusals.{no_stall, same_stall, refused_idle, refused_caused}}
 
 -- nothing was written
 pub writes_none : {M : Type 0} {m : Levels.Ghosts M} → {D E : Type 0} (access : Access) (c : Core D E M m) → MayWrite access c c
-writes_none Load c = refl
 writes_none Store c = inl refl
-writes_none Fetch c = refl
+writes_none access c = refl
 
 asks_as : {D : Type 0} (g : Ghosts D) (W : ℕ → Type 0) (old mid new : D) → new ≡ mid → AsksOnly g W old mid → AsksOnly g W old new
 asks_as g W old mid new same asks = subst (AsksOnly g W old) (sym same) asks

@@ -1,13 +1,11 @@
 -- What a call of the flat model comes to in a state that memory shows.
 use Rattle.vm_types.specs.declared.mode.Levels as Levels
 use Rattle.spaces.proofs.Names.{ℕ, ◌≡◌, ◌≢◌, ◌==◌, Bool, true, false, if◌then◌else◌, Option, ⊎_elim, refl, sym, ap, ◌∙◌, subst, arith, nat_tests, none-some, Ghosts, shows_named, KeepsNamed, Core, IsFit, Picture, picture_of, is_live, view}
-use Rattle.spaces.proofs.Names.{ShowsPages, KeepsFiles, object-kept, Command, File, Object, Reply, Maps, named_objects, State, Outcome, outcome, answers, View}
-use Rattle.spaces.specs.Calls.{Comes, Does}
+use Rattle.spaces.{proofs.Names.{ShowsPages, KeepsFiles, object-kept, Command, File, Object, Reply, Maps, named_objects, State, Outcome, outcome, answers, View}, specs.Calls.{Comes, Does}}
 
 module _ {M : Type 0} {m : Levels.Ghosts M} {D E : Type 0} (g : Ghosts D) (h : Ghosts E) (old new : Core D E M m) (s : State) (command : Command) (reply : Reply) where
   pub does : (o : Outcome) → outcome s command ≡ o → reply ≡ o.reply → ShowsPages (picture_of new) o.state → Comes g h old new s command reply
-  does o e r shows =
-      Does (r ∙ sym (ap (λ (p : Outcome). p.reply) e)) (subst (λ (p : Outcome). ShowsPages (picture_of new) p.state) (sym e) shows)
+  does o e r shows = Does (r ∙ sym (ap (λ (p : Outcome). p.reply) e)) (subst (λ (p : Outcome). ShowsPages (picture_of new) p.state) (sym e) shows)
 
   -- an answer that changes nothing
   pub does_answer : ShowsPages (picture_of new) s → outcome s command ≡ answers s reply → Comes g h old new s command reply

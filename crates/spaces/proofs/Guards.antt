@@ -1,7 +1,6 @@
 -- Shared pages of files that may only be read, by a walk over the runs.
 use Rattle.spaces.proofs.Names.{ℕ, ◌+◌, ◌-◌, ◌≡◌, ◌<◌, ◌≤◌, ⊎_elim, ◌&&◌, Bool, true, false, List, Option, Some, None, option_map, refl, sym, ap, ◌∙◌, arith, Run, attr_at, IsNextRun, lt_or_le, Attr, Backing, Anon, attr_after, backing_after}
-use Rattle.spaces.proofs.Names.{any_below, Files, Prot, can_write, denies_stores, is_guarded, is_guarded_page, View, attrs_of, any-at, any_below-none, plain}
-use Rattle.spaces.specs.Space.{space_of}
+use Rattle.spaces.{proofs.Names.{any_below, Files, Prot, can_write, denies_stores, is_guarded, is_guarded_page, View, attrs_of, any-at, any_below-none, plain}, specs.Space.{space_of}}
 
 guarded_after : (files : Files) (backing : Backing) (count : ℕ) → is_guarded files (backing_after backing count) ≡ is_guarded files backing
 guarded_after files Anon count = refl
@@ -17,8 +16,7 @@ module _ (mode : ℕ) (files : Files) (runs : List Run) where
   missing k e = ap (λ (o : Option Attr). is_guarded_page files (option_map plain o)) e
 
   of_run : (run : Run) (k : ℕ) → attr_at runs k ≡ Some (attr_after run.attr (k - run.first)) → is_guarded_page files (space_of runs k) ≡ is_guarded files run.attr.backing
-  of_run run k e =
-      ap (λ (o : Option Attr). is_guarded_page files (option_map plain o)) e ∙ guarded_after files run.attr.backing (k - run.first)
+  of_run run k e = ap (λ (o : Option Attr). is_guarded_page files (option_map plain o)) e ∙ guarded_after files run.attr.backing (k - run.first)
 
   before_run : (first page : ℕ) (run : Run) → Unguarded first page → IsNextRun mode (attr_at runs) page run → (k : ℕ) → first ≤ k → k < run.first
       → is_guarded_page files (space_of runs k) ≡ false
@@ -60,9 +58,7 @@ by_attr files (Some view) = refl
 
 module _ (files : Files) (a b : ℕ → Option View) (same : attrs_of a ≡ attrs_of b) where
   guarded_same : (k : ℕ) → is_guarded_page files (a k) ≡ is_guarded_page files (b k)
-  guarded_same k =
-      by_attr files (a k) ∙ ap (λ (m : ℕ → Option Attr). is_guarded_attr files (m k)) same ∙ sym (by_attr files (b k))
+  guarded_same k = by_attr files (a k) ∙ ap (λ (m : ℕ → Option Attr). is_guarded_attr files (m k)) same ∙ sym (by_attr files (b k))
 
   pub denies_same : (first pages : ℕ) (prot : Prot) → denies_stores files a first pages prot ≡ denies_stores files b first pages prot
-  denies_same first pages prot =
-      ap (λ (passes : ℕ → Bool). can_write prot && any_below passes pages) (λ t i. guarded_same (first + i) t)
+  denies_same first pages prot = ap (λ (passes : ℕ → Bool). can_write prot && any_below passes pages) (λ t i. guarded_same (first + i) t)

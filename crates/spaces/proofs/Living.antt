@@ -1,6 +1,6 @@
 -- spawn, fork and exit of the flat model in a state that memory shows.
 use Rattle.vm_types.specs.declared.mode.Levels as Levels
-use Rattle.spaces.proofs.Names.{user_end, Command, Spawn, Fork, Exit, EAGAIN, Stall, NoFrames, NoSwap, SwapDevice, StoreDevice, Process, Done, Refused, Stalled, Maps, named_objects, least_free_from, least_free_pid, with_process}
+use Rattle.spaces.proofs.Names.{user_end, Command, Spawn, Fork, Exit, EAGAIN, Stall, SwapDevice, StoreDevice, Process, Done, Refused, Stalled, Maps, named_objects, least_free_from, least_free_pid, with_process}
 use Rattle.spaces.proofs.Names.{without_process, without_space, table_count, tables_of, is_success, is_open_to, cause_of, needs_frames, reads_swap, State, Outcome, outcome, spawn_outcome, fork_outcome, exit_outcome, View, ℕ, ◌≡◌, ◌≢◌, ◌+◌}
 use Rattle.spaces.proofs.Names.{◌≤◌, ◌==◌, ◌&&◌, ◌||◌, not, Bool, true, false, if◌then◌else◌, Option, Some, None, refl, sym, ap, ◌∙◌, subst, arith, nat_tests, Ghosts, FileStore, frame_count, AddsProcess, RemovesProcess, KeepsProcesses}
 use Rattle.spaces.proofs.Names.{IsShortToFork, KeepsRoom, StallCause, ReadCause, IsShort, IsFit, Core, Picture, picture_of, is_live, view, ShowsPages, KeepsFiles, shows_named, KeepsNamed, without_maps, slots_of}
@@ -51,17 +51,15 @@ module _ {mode : ℕ} (old new : Picture mode) (s : State) (shows : ShowsPages o
 
 -- why a process didn't come
 cause_is : {M : Type 0} {m : Levels.Ghosts M} → {D E : Type 0} (g : Ghosts D) (h : Ghosts E) (old new : Core D E M m) (stall : Stall) → StallCause h old new stall → cause_of (causes g h old new) stall
-cause_is g h old new NoFrames cause = cause.0
-cause_is g h old new NoSwap cause = cause.0
 cause_is g h old new SwapDevice cause = cause.1
 cause_is g h old new StoreDevice cause = absurd cause
+cause_is g h old new stall cause = cause.0
 
 open_to : {M : Type 0} {m : Levels.Ghosts M} (s : State) (command : Command) (stall : Stall) {D E : Type 0} (h : Ghosts E) (old new : Core D E M m) → StallCause h old new stall → needs_frames command ≡ true → reads_swap s command ≡ true
     → is_open_to s command stall ≡ true
-open_to s command NoFrames h old new cause frames swaps = frames
-open_to s command NoSwap h old new cause frames swaps = frames
 open_to s command SwapDevice h old new cause frames swaps = swaps
 open_to s command StoreDevice h old new cause frames swaps = absurd cause
+open_to s command stall h old new cause frames swaps = frames
 
 -- a stall of a call that leaves the store alone, and which would otherwise come to this
 stalled : {M : Type 0} {m : Levels.Ghosts M} → {D E : Type 0} (g : Ghosts D) (h : Ghosts E) (old new : Core D E M m) (s : State) (command : Command) (stall : Stall) (o : Outcome) → StallCause h old new stall
@@ -109,9 +107,8 @@ module _ {M : Type 0} {m : Levels.Ghosts M} {D E : Type 0} (g : Ghosts D) (h : G
   spawn_stalls pid e new stall fit cause short files keeps =
       let is_one = ap (spawn_outcome s) (free_is ∙ e) in
       let still = still_shows (picture_of old) (picture_of new) s shows files keeps in
-      let more = ap (λ (o : Outcome). table_count o.state) is_one ∙ one_more pid (λ page. None) e in
       stalled g h old new s Spawn stall (spawn_outcome s (Some pid)) cause is_one refl refl refl
-      (falls_short (picture_of new) s Spawn fit still stall short (omega (arith, more))) still
+      (falls_short (picture_of new) s Spawn fit still stall short (omega (arith, ap (λ (o : Outcome). table_count o.state) is_one ∙ one_more pid (λ page. None) e))) still
 
   module _ (parent : ℕ) (live : is_live (picture_of old) parent ≡ true) where
     forks : (o : Option ℕ) → number ≡ o → outcome s (Fork parent) ≡ fork_outcome s parent o

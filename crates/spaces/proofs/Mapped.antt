@@ -1,11 +1,10 @@
 -- mmap of the flat model in a state that memory shows.
 use Rattle.vm_types.specs.declared.mode.Levels as Levels
-use Rattle.spaces.proofs.Names.{ℕ, ◌-◌, ◌*◌, ◌≡◌, ◌==◌, ◌++◌, not, Bool, true, false, if◌then◌else◌, List, [], ◌∷◌, Option, Some, None, is_none, option_map, refl, sym, ap, ◌∙◌, subst, mul_comm, Ghosts, Run, IsReadableMap, attr_at}
-use Rattle.spaces.proofs.Names.{reads_kept, reads_replaced, reads_same, plain, without_maps, KeepsNamed, RemapsRow, Core, Picture, picture_of, is_live, view, IsFit, ShowsPages, Mmap, MapSource, Placing, Hint, NoReplace, Prot, Errno, ESRCH}
-use Rattle.spaces.proofs.Names.{ENOMEM, EEXIST, Attr, Address, Refused, attr_after, first_of, page_count, Files, mmap_errno, mmap_place, place_for, is_taken, first_attr, attr_for, has_too_many_runs, mapped, with_mapping, View, attrs_of}
-use Rattle.spaces.proofs.Names.{Maps, maps_of, free_object, named_objects, placed, is_free, without_pages, in_row, replaced, run_count, State, outcome, mmap_outcome}
-use Rattle.spaces.specs.{Calls.{Comes}, Mappings.{mmap_asked_checks, attr_there, passes_runs, place_checks, MapsPages}, Space.{space_of}}
-use Rattle.spaces.proofs.{Calls.{does, does_answer, shows_row}, Checks.{first_of-append, first_of-some}, Pages.{attrs_as_runs, maps_without}}
+use Rattle.spaces.proofs.{Calls.{does, does_answer, shows_row}, Checks.{first_of-append, first_of-some}, Names.{ℕ, ◌-◌, ◌*◌, ◌≡◌, ◌==◌, ◌++◌, not, Bool, true, false, if◌then◌else◌, List, [], ◌∷◌, Option, Some, None, is_none, option_map}}
+use Rattle.spaces.proofs.Names.{refl, sym, ap, ◌∙◌, subst, mul_comm, Ghosts, Run, IsReadableMap, attr_at, reads_kept, reads_replaced, reads_same, plain, without_maps, KeepsNamed, RemapsRow, Core, Picture, picture_of, is_live, view, IsFit}
+use Rattle.spaces.proofs.Names.{ShowsPages, Mmap, MapSource, Placing, Hint, NoReplace, Prot, Errno, ESRCH, ENOMEM, EEXIST, Attr, Address, Refused, attr_after, first_of, page_count, Files, mmap_errno, mmap_place, place_for, is_taken}
+use Rattle.spaces.proofs.Names.{first_attr, attr_for, has_too_many_runs, mapped, with_mapping, View, attrs_of, Maps, maps_of, free_object, named_objects, placed, is_free, without_pages, in_row, replaced, run_count, State, outcome}
+use Rattle.spaces.{proofs.{Names.{mmap_outcome}, Pages.{attrs_as_runs, maps_without}}, specs.{Calls.{Comes}, Mappings.{mmap_asked_checks, attr_there, passes_runs, place_checks, MapsPages}, Space.{space_of}}}
 
 -- the place and its checks ask for attributes alone
 module _ (mode : ℕ) (a b : ℕ → Option View) (same : attrs_of a ≡ attrs_of b) where
@@ -92,8 +91,7 @@ module _ {M : Type 0} {m : Levels.Ghosts M} {D E : Type 0} (g : Ghosts D) (h : G
 
     pub refused_as_asked : (errno : Errno) → Some errno ≡ first_of (mmap_asked_checks (picture_of old).files addr len prot source placing)
         → Comes g h old old s (Mmap pid addr len prot source placing) (Refused errno)
-    refused_as_asked errno e =
-        refuses errno (ruled ∙ first_of-some (mmap_asked_checks s.files addr len prot source placing) errno (asked_same ∙ sym e) late)
+    refused_as_asked errno e = refuses errno (ruled ∙ first_of-some (mmap_asked_checks s.files addr len prot source placing) errno (asked_same ∙ sym e) late)
 
     module _ (asked : None ≡ first_of (mmap_asked_checks (picture_of old).files addr len prot source placing))
         (runs : List Run) (here : (page : ℕ) → attr_at runs page ≡ (picture_of old).at pid page) (pages : ℕ) (count : pages ≡ page_count len) where

@@ -1,10 +1,9 @@
 -- The pages of a new object are named by the mapping alone.
 use Rattle.spaces.proofs.Names.{◌≡◌, ℕ, zero, suc, inl, inr, ◌⊎◌, ◌+◌, ◌-◌, ◌<◌, ◌≤◌, ◌==◌, Bool, true, false, Option, Some, None, IsSome, refl, sym, ap, ◌∙◌, subst, arith, eqb-true, eq-eqb, ne_eqb, and_parts, cases_Bool, cases_eq}
 use Rattle.spaces.proofs.Names.{false≢true, true≢false, nat_tests, named_limit, object_limit, user_end, widest_end, MapSource, Common, Prot, Attr, Backing, attr_after, first_attr, Maps, names, uses, is_used, is_object_page, is_of_object}
-use Rattle.spaces.proofs.Names.{least_from, free_object, in_row, removed, replaced, IsUserMap, run_count, sizes, free-unused, least-clear, AreObjects, objects-fewer, with_map, without_maps, used_where, used_at}
+use Rattle.spaces.proofs.{Names.{least_from, free_object, in_row, removed, replaced, IsUserMap, run_count, sizes, free-unused, least-clear, AreObjects, objects-fewer, with_map, without_maps, used_where, used_at}, Pages.{past_user}}
 use Rattle.std.specs.Prelude.{if◌then◌else◌}
 use Rattle.vm_types.specs.declared.region.Backing.TheVariants as Backings
-use Rattle.spaces.proofs.Pages.{past_user}
 
 -- the number that is found is one of those, or the one after them
 least_within : (passes : ℕ → Bool) (n count : ℕ) → least_from passes n count ≤ n + count

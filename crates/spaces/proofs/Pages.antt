@@ -1,7 +1,6 @@
 -- The pages of a process by memory, by its runs and in the flat model.
 use Rattle.spaces.proofs.Names.{user_end, Attr, State, View, attrs_of, maps_of, without_space, without_pages, unmapped, in_row, removed, IsUserMap, ℕ, ◌≡◌, ◌≤◌, ◌==◌, inl, inr, Bool, true, false, if◌then◌else◌, List, Option, Some, None}
-use Rattle.spaces.proofs.Names.{option_map, refl, sym, ap, ◌∙◌, arith, cases_lt, nat_tests, Run, attr_at, Picture, entry, own_in, view, view_of, IsFit, ShowsPages, plain, without_maps, none_here}
-use Rattle.spaces.specs.Space.{space_of}
+use Rattle.spaces.{proofs.Names.{option_map, refl, sym, ap, ◌∙◌, arith, cases_lt, nat_tests, Run, attr_at, Picture, entry, own_in, view, view_of, IsFit, ShowsPages, plain, without_maps, none_here}, specs.Space.{space_of}}
 
 attr_back : (o : Option Attr) → option_map (λ (view : View). view.attr) (option_map plain o) ≡ o
 attr_back None = refl

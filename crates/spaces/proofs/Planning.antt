@@ -1,8 +1,7 @@
 -- The checks of a mapping's place, decided one after the other.
-use Rattle.spaces.proofs.Names.{sizes, user_end, MapSource, Private, Common, Placing, View, ENOMEM, EEXIST, Attr, backing_fits, first_of, place_for, is_taken, first_backing, replaced, run_count, ℕ, ◌≡◌, ◌<◌, ◌≤◌, Bool, true, false, nat_lt}
-use Rattle.spaces.proofs.Names.{List, [], ◌∷◌, Option, Some, None, refl, sym, ap, ◌∙◌, arith, nat_tests, Run, attr_at}
-use Rattle.vm_types.specs.declared.command.MapSource.TheVariants.{Anon, Shared}
-use Rattle.spaces.{specs.{Mappings.{place_checks, passes_runs, FitsFile}, Space.{space_of}}, proofs.Pages.{attrs_same}}
+use Rattle.spaces.proofs.Names.{sizes, user_end, MapSource, Common, Placing, View, ENOMEM, EEXIST, Attr, backing_fits, first_of, place_for, is_taken, first_backing, replaced, run_count, ℕ, ◌≡◌, ◌<◌, ◌≤◌, Bool, true, false, nat_lt, List, []}
+use Rattle.spaces.{proofs.{Names.{◌∷◌, Option, Some, None, refl, sym, ap, ◌∙◌, arith, nat_tests, Run, attr_at}, Pages.{attrs_same}}, specs.{Mappings.{place_checks, passes_runs, FitsFile}, Space.{space_of}}}
+use Rattle.vm_types.specs.declared.command.MapSource.TheVariants.{Anon}
 
 taken_first : (a b : Bool) → a ≡ true → first_of ((a, EEXIST) ∷ (b, ENOMEM) ∷ []) ≡ Some EEXIST
 taken_first a b e = rw e refl
@@ -23,8 +22,7 @@ module _ (mode : ℕ) where
 
   counted_runs : (runs : List Run) (first pages : ℕ) (attr : ℕ → Attr) (b : Bool) → nat_lt 256 (run_count mode (replaced (attr_at runs) first pages (attr first))) ≡ b
       → passes_runs mode (space_of runs) pages attr (Some first) ≡ b
-  counted_runs runs first pages attr b e =
-      ap (λ (m : ℕ → Option Attr). nat_lt 256 (run_count mode (replaced m first pages (attr first)))) (attrs_same runs) ∙ e
+  counted_runs runs first pages attr b e = ap (λ (m : ℕ → Option Attr). nat_lt 256 (run_count mode (replaced m first pages (attr first)))) (attrs_same runs) ∙ e
 
   pub many_runs : (placing : Placing) (runs : List Run) (addr pages : ℕ) (attr : ℕ → Attr) (first : ℕ)
       → Some first ≡ place_for mode placing (space_of runs) addr pages → (taken : Bool) → taken ≡ is_taken placing (space_of runs) pages (Some first) → taken ≡ false
@@ -49,5 +47,4 @@ module _ (mode : ℕ) where
   pub fits_backing : (source : MapSource) (object pages : ℕ) → FitsFile source pages → pages ≤ user_end mode → backing_fits (first_backing source object) pages
   fits_backing Anon object pages fits few = tt
   fits_backing Common object pages fits few = let most = (sizes mode).most in omega (arith, few, most)
-  fits_backing (Private file offset) object pages fits few = fits
-  fits_backing (Shared file offset) object pages fits few = fits
+  fits_backing source object pages fits few = fits

@@ -9,15 +9,11 @@ use Rattle.spaces.{specs.{Calls.{Comes}, Protections.{permit_checks, IsPermitted
 pub covered_last : (map : ℕ → Option Attr) (first count : ℕ) → is_covered map first (suc count) ≡ true → is_some (map (first + count)) ≡ true
 unfolding is_covered
 covered_last map first count e =
-    elim (is_some (map (first + count))) as (λ (b : Bool). (b && is_covered map first count) ≡ true → b ≡ true) [
-      | true ↦ λ k. refl
-      | false ↦ λ k. k
-    ] e
+    elim (is_some (map (first + count))) as (λ (b : Bool). (b && is_covered map first count) ≡ true → b ≡ true) [ true ↦ λ k. refl | false ↦ λ k. k ] e
 
 kept_some : (b : Bool) (prot : Prot) (o : Option Attr) → is_some (if b then option_map (with_prot prot) o else o) ≡ is_some o
 kept_some true prot None = refl
-kept_some true prot (Some attr) = refl
-kept_some false prot o = refl
+kept_some b prot o = refl
 
 module _ (mode : ℕ) where
   pub covered_inside : (map next : ℕ → Option Attr) (first pages : ℕ) (prot : Prot) → IsUserMap mode next → 0 < pages
@@ -90,8 +86,7 @@ module _ {M : Type 0} {m : Levels.Ghosts M} {D E : Type 0} (g : Ghosts D) (h : G
 
   pub refuses : (errno : Errno) → first_of (permit_checks m.mode (picture_of old).files (space_of runs) (addr / 4096) pages prot) ≡ Some errno
       → Comes g h old old s (Mprotect pid addr len prot) (Refused errno)
-  refuses errno e =
-      does_answer g h old old s (Mprotect pid addr len prot) (Refused errno) shows (asked ∙ ap (λ (o : Option Errno). rest o after) (ruled ∙ e))
+  refuses errno e = does_answer g h old old s (Mprotect pid addr len prot) (Refused errno) shows (asked ∙ ap (λ (o : Option Errno). rest o after) (ruled ∙ e))
 
   after_is : (page : ℕ) → after page ≡ reprotected (view (picture_of old) pid) (addr / 4096) pages (kept prot) page
   after_is page =

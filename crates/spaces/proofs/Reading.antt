@@ -2,17 +2,16 @@
 use Rattle.vm_types.specs.declared.mode.Levels as Levels
 use Rattle.spaces.proofs.Names.{ℕ, ◌/◌, ◌%◌, ◌≡◌, true, false, if◌then◌else◌, List, Result, Ok, refl, sym, ap, ◌∙◌, subst, arith, IfOk, Ghosts, AccessRefusal, Grants, Reads, IsFrameFor, IsReadyFor, IsRefusal, verdict_of, Reaches, KeepsSeen}
 use Rattle.spaces.proofs.Names.{Proceeds, BringsFiles, ShowsFiles, shows_files, shows_kept, bytes_shown, IsFrame, bytes_of, IsShort, ReadCause, Core, Picture, picture_of, is_live, IsFit, ShowsPages, is_store, CoreShows, Access, Command}
-use Rattle.spaces.proofs.Names.{Load, Fetch, Phys, PageKey, Code, Fault, Stall, NoFrames, NoSwap, SwapDevice, StoreDevice, Backing, Reply, Value, Faulted, Stalled, Refused, ESRCH, Width, Four, loaded, table_count, is_success, is_open_to}
+use Rattle.spaces.proofs.Names.{Load, Fetch, Phys, PageKey, Code, Fault, Stall, SwapDevice, StoreDevice, Backing, Reply, Value, Faulted, Stalled, Refused, ESRCH, Width, Four, loaded, table_count, is_success, is_open_to}
 use Rattle.spaces.proofs.Names.{cause_of, needs_frames, reads_files, reads_swap, reply_of, State, shown, Outcome, outcome, answers, judged, load_outcome, fetch_outcome, Verdict, Fine, Faults, fault_of, View, byte_count}
+use Rattle.spaces.{specs.{Accesses.{reply_for, CarriesRead}, Calls.{Comes, Stalls, causes}}, proofs.{Calls.{does, does_answer}, Short.{falls_short}, Shown.{judged_is, homes}}}
 use Rattle.fault.specs.declared.refusal.AccessRefusal.TheVariants as Refusal
 use Rattle.vm_types.specs.declared.access.Access.TheVariants as Accesses
-use Rattle.spaces.{specs.{Accesses.{reply_for, CarriesRead}, Calls.{Comes, Stalls, causes}}, proofs.{Calls.{does, does_answer}, Short.{falls_short}, Shown.{judged_is, homes}}}
 
 -- the frame of a load or a fetch is one of memory's
 pub open_read : {mode : ℕ} (kind : Access) (c : Picture mode) (pid page : ℕ) (b : Backing) (n : ℕ) → is_store kind ≡ false → IsFrameFor kind c pid page b n → IsFrame c.frames n
-open_read Accesses.Load c pid page b n e usable = usable
 open_read Accesses.Store c pid page b n e usable = cc
-open_read Accesses.Fetch c pid page b n e usable = usable
+open_read kind c pid page b n e usable = usable
 
 pub live_outcome : {mode : ℕ} (c : Picture mode) (s : State) (pid : ℕ) (a b : Outcome) → ShowsPages c s → is_live c pid ≡ true → (if s.live pid then a else b) ≡ a
 live_outcome c s pid a b shows live = let e : s.live pid ≡ true = shows.live pid ∙ live in rw e refl
@@ -25,16 +24,14 @@ module _ {M : Type 0} {m : Levels.Ghosts M} {D E : Type 0} (g : Ghosts D) (h : G
     (frames : needs_frames command ≡ true) (files : reads_files command ≡ true) (swaps : reads_swap s command ≡ true)
     (fit : IsFit (picture_of new)) where
   open_to : (stall : Stall) → is_open_to s command stall ≡ true
-  open_to NoFrames = frames
-  open_to NoSwap = frames
   open_to SwapDevice = swaps
   open_to StoreDevice = files
+  open_to stall = frames
 
   cause_is : (stall : Stall) → ReadCause g h old new stall → cause_of (causes g h old new) stall
-  cause_is NoFrames cause = cause.0
-  cause_is NoSwap cause = cause.0
   cause_is SwapDevice cause = cause.2
   cause_is StoreDevice cause = cause.1
+  cause_is stall cause = cause.0
 
   stalls : (stall : Stall) (v : View) → verdict_of (picture_of old) pid addr width kind ≡ Fine v → ReadCause g h old new stall → IsShort (picture_of new) stall
       → ShowsPages (picture_of new) s → Comes g h old new s command (Stalled stall)
@@ -75,9 +72,8 @@ fetches_so s addr (Faults code) = refl
 fetches_so s addr (Fine view) = refl
 
 reads_ready : {mode : ℕ} (kind : Access) (old new : Picture mode) (pid page : ℕ) (v : View) (n : ℕ) → is_store kind ≡ false → IsReadyFor kind old new pid page v n → Reads old new v n
-reads_ready Accesses.Load old new pid page v n e ready = ready
 reads_ready Accesses.Store old new pid page v n e ready = cc
-reads_ready Accesses.Fetch old new pid page v n e ready = ready
+reads_ready kind old new pid page v n e ready = ready
 
 module _ {M : Type 0} {m : Levels.Ghosts M} {D E : Type 0} (g : Ghosts D) (h : Ghosts E) (old new : Core D E M m) (pid addr : ℕ) (width : Width) (kind : Access) where
   -- the command reads a number of that width and kind at the address

@@ -1,9 +1,9 @@
 -- What an access without a place says of devices and frames.
 use Rattle.vm_types.specs.declared.mode.Levels as Levels
-use Rattle.spaces.proofs.Names.{ℕ, ◌≡◌, ◌≤◌, ◌+◌, true, false, ap, subst, arith, rules, Ghosts, AccessRefusal, Core, ReadCause, Access, Fault, Stall, NoFrames, NoSwap, SwapDevice, StoreDevice, Faulted, Stalled, Width, reply_of}
+use Rattle.spaces.proofs.Names.{ℕ, ◌≡◌, ◌≤◌, ◌+◌, true, false, ap, subst, arith, rules, Ghosts, AccessRefusal, Core, ReadCause, Access, Fault, Stall, SwapDevice, StoreDevice, Faulted, Stalled, Width, reply_of}
+use Rattle.spaces.specs.{Accesses.{reply_for}, Calls.{IsCaused}, Idle.{is_denial, refused_by, stalls_store, stalls_swap}}
 use Rattle.fault.specs.declared.refusal.AccessRefusal.TheVariants as Refusal
 use Rattle.fault.specs.Outcome as Faults
-use Rattle.spaces.specs.{Accesses.{reply_for}, Calls.{IsCaused}, Idle.{is_denial, refused_by, stalls_store, stalls_swap}}
 
 -- a fault is no stall
 pub no_stall : (fault : Fault) (stall : Stall) → Faulted fault ≡ Stalled stall → ⊥
@@ -14,10 +14,9 @@ same_stall a b e = cc
 
 module _ {M : Type 0} {m : Levels.Ghosts M} {D E : Type 0} (g : Ghosts D) (h : Ghosts E) where
   counted : (old new : Core D E M m) (stall : Stall) → ReadCause g h old new stall → new.refused.number ≡ old.refused.number + refused_by stall
-  counted old new NoFrames cause = cause.0
-  counted old new NoSwap cause = cause.0
   counted old new SwapDevice cause = omega (arith, cause.0)
   counted old new StoreDevice cause = omega (arith, cause.0)
+  counted old new stall cause = cause.0
 
   calm : (old new : Core D E M m) (stall : Stall) → ReadCause g h old new stall → stalls_store stall ≡ false
       → g.failures new.store.disk ≡ g.failures old.store.disk

@@ -1,8 +1,7 @@
 -- Calls that take nothing.
 use Rattle.vm_types.specs.declared.mode.Levels as Levels
 use Rattle.spaces.proofs.Names.{ℕ, inl, inr, ◌≡◌, List, refl, sym, ap, ◌∙◌, cases_Bool, get_or, Role, Free, TakesNoFrame, none_taken, still_framed, place_of, is_touched, KeepsNamed, without_maps, KeepsEntriesOfOthers, ReturnsTables}
-use Rattle.spaces.proofs.Names.{KeepsFrames, Core, IsFit, Picture, picture_of, root_in, Object, is_named}
-use Rattle.spaces.specs.Ranges.{TakesNothing}
+use Rattle.spaces.{proofs.Names.{KeepsFrames, Core, IsFit, Picture, picture_of, root_in, Object, is_named}, specs.Ranges.{TakesNothing}}
 
 -- a call that changes nothing takes nothing
 pub takes_none : {mode : ℕ} (c : Picture mode) (pid first pages : ℕ) → TakesNothing c c pid first pages

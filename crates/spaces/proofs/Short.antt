@@ -1,8 +1,7 @@
 -- Where memory or slots are short of what processes see, they fall short of what a state needs.
 use Rattle.spaces.proofs.Names.{tables_alike, ℕ, zero, suc, ◌≡◌, ◌≢◌, inl, inr, ◌+◌, ◌<◌, ◌≤◌, ◌==◌, ◌||◌, Bool, false, if◌then◌else◌, Option, Some, is_some, refl, sym, ap, ◌∙◌, arith, eq-eqb, ne_eqb, cases_eq, cases_Bool, same_Some}
-use Rattle.spaces.proofs.Names.{frame_count, IsShortToFork, held_shown, tables_over, IsShort, IsFit, Picture, is_live, view, ShowsPages, sum-below, tables_of, table_count, sum_below, Command, Stall, NoFrames, NoSwap, SwapDevice}
-use Rattle.spaces.proofs.Names.{StoreDevice, least_free_from, with_process, State, outcome, View}
-use Rattle.spaces.specs.Calls.{FallsShort}
+use Rattle.spaces.proofs.Names.{frame_count, IsShortToFork, held_shown, tables_over, IsShort, IsFit, Picture, is_live, view, ShowsPages, sum-below, tables_of, table_count, sum_below, Command, Stall, NoFrames, NoSwap, least_free_from}
+use Rattle.spaces.{proofs.Names.{with_process, State, outcome, View}, specs.Calls.{FallsShort}}
 
 -- the tables of the processes of memory are those of the state that it shows
 module _ {mode : ℕ} where
@@ -35,8 +34,7 @@ sum_added f g x (suc n) below none others = elim (cases_eq n x) [
       let rest : sum_below g n ≡ sum_below f n = sum-below g f x n (omega (arith, e)) others in
       omega (arith, ap g e, ap f e ∙ none, rest))
   | inr ne ↦ (
-      let rest = sum_added f g x n (omega (arith, below, ne)) none others in
-      omega (arith, rest, others n ne))
+      omega (arith, sum_added f g x n (omega (arith, below, ne)) none others, others n ne))
 ]
 
 -- a process that comes has the tables of its pages
@@ -70,19 +68,13 @@ module _ {mode : ℕ} (c : Picture mode) (s : State) (command : Command) (fit : 
   pub falls_short : (stall : Stall) → IsShort c stall → table_count s ≤ table_count (outcome s command).state
       → FallsShort (frame_count c.frames) c.slots.total s command stall
   unfolding IsShort
-  falls_short NoFrames short more =
-      omega (arith, short, more, tables_shown c s shows)
-  falls_short NoSwap short more =
-      omega (arith, short, held_shown c s fit shows)
-  falls_short SwapDevice short more = short
-  falls_short StoreDevice short more = short
+  falls_short NoFrames short more = omega (arith, short, more, tables_shown c s shows)
+  falls_short NoSwap short more = omega (arith, short, held_shown c s fit shows)
+  falls_short stall short more = short
 
   pub falls_short_to_fork : (frames slots parent : ℕ) (stall : Stall) → frames ≡ frame_count c.frames → slots ≡ c.slots.total → IsShortToFork c parent stall
       → table_count s + tables_of mode (view c parent) ≤ table_count (outcome s command).state → FallsShort frames slots s command stall
   unfolding IsShortToFork
-  falls_short_to_fork frames slots parent NoFrames same room short more =
-      omega (arith, same, short, more, tables_shown c s shows)
-  falls_short_to_fork frames slots parent NoSwap same room short more =
-      omega (arith, room, short, held_shown c s fit shows)
-  falls_short_to_fork frames slots parent SwapDevice same room short more = short
-  falls_short_to_fork frames slots parent StoreDevice same room short more = short
+  falls_short_to_fork frames slots parent NoFrames same room short more = omega (arith, same, short, more, tables_shown c s shows)
+  falls_short_to_fork frames slots parent NoSwap same room short more = omega (arith, room, short, held_shown c s fit shows)
+  falls_short_to_fork frames slots parent stall same room short more = short

@@ -9,8 +9,7 @@ use Rattle.spaces.{specs.Calls.{Comes}, proofs.{Calls.{does, does_answer, with_p
 module _ (mode : ℕ) where
   pub covered_within : (map : ℕ → Option Attr) (first pages : ℕ) → IsUserMap mode map → 0 < pages → is_covered map first pages ≡ true → first + pages ≤ user_end mode
   covered_within map first zero user some e = absurd (omega arith)
-  covered_within map first (suc count) user some e =
-      omega (arith, (user.user_pages (first + count) (covered_last map first count e)).1)
+  covered_within map first (suc count) user some e = omega (arith, (user.user_pages (first + count) (covered_last map first count e)).1)
 
 seen_without : (own : Option (List ℕ)) (o : Option Attr) → option_map uncopied (view_of own o) ≡ option_map plain o
 seen_without own None = refl

@@ -1,16 +1,14 @@
 -- Stores of the flat model in a state that memory shows.
 use Rattle.vm_types.specs.declared.mode.Levels as Levels
-use Rattle.spaces.proofs.Names.{ℕ, ◌/◌, ◌%◌, ◌≡◌, ◌&&◌, Bool, true, false, not, if◌then◌else◌, inl, inr, List, Option, Some, None, is_some, refl, sym, ap, ◌∙◌, subst, arith, nat_tests, Ghosts, AccessRefusal, KeepsRoom, KeepsOtherViews}
-use Rattle.spaces.proofs.Names.{KeepsSlotted, Proceeds, BringsFiles, IsReadyToStore, IsOpenToStore, IsRefusal, verdict_of, view-mapped, own_in-none, one_view, ShowsFiles, bytes_shown, shows_own, shows_shared, shows_common, view-attr}
-use Rattle.spaces.proofs.Names.{fit_own, fit_file, views_others, views_file, entries_own, entries_file, mapped_page, shared_none, with_bytes-others, bytes_of, IsHeld, Core, IsFit, is_shared, Picture, picture_of, is_live, entry, own_in}
-use Rattle.spaces.proofs.Names.{view, ShowsPages, SameBeside, CoreShows, held_framed, SlotTable, Access, StoredValue, Store, BusAdraln, SegvAccerr, BusAdrerr, ESRCH, PageKey, File, Object, Backing, Anon, Shared, Done, Refused, Width}
-use Rattle.spaces.proofs.Names.{with_number, with_shown_bytes, Files, table_count, is_success, reply_of, State, shown, copy_or_behind, with_view, Outcome, outcome, answers, judged, store_outcome, Verdict, Fine, Faults, lets, is_past_end}
-use Rattle.spaces.proofs.Names.{page_verdict, View, byte_count}
-use Rattle.std.specs.Prelude.{◌==◌}
+use Rattle.spaces.proofs.{Calls.{does}, Names.{ℕ, ◌/◌, ◌%◌, ◌≡◌, ◌&&◌, Bool, true, false, not, if◌then◌else◌, inl, inr, List, Option, Some, None, is_some, refl, sym, ap, ◌∙◌, subst, arith, nat_tests, Ghosts, AccessRefusal, KeepsRoom}}
+use Rattle.spaces.proofs.Names.{KeepsOtherViews, KeepsSlotted, Proceeds, BringsFiles, IsReadyToStore, IsOpenToStore, IsRefusal, verdict_of, view-mapped, own_in-none, one_view, ShowsFiles, bytes_shown, shows_own, shows_shared, shows_common}
+use Rattle.spaces.proofs.Names.{view-attr, fit_own, fit_file, views_others, views_file, entries_own, entries_file, mapped_page, shared_none, with_bytes-others, bytes_of, IsHeld, Core, IsFit, is_shared, Picture, picture_of, is_live, entry}
+use Rattle.spaces.proofs.Names.{own_in, view, ShowsPages, SameBeside, CoreShows, held_framed, SlotTable, Access, StoredValue, Store, BusAdraln, SegvAccerr, BusAdrerr, ESRCH, PageKey, File, Object, Backing, Anon, Shared, Done, Refused}
+use Rattle.spaces.proofs.Names.{Width, with_number, with_shown_bytes, Files, table_count, is_success, reply_of, State, shown, copy_or_behind, with_view, Outcome, outcome, answers, judged, store_outcome, Verdict, Fine, Faults, lets}
+use Rattle.{spaces.{proofs.{Names.{is_past_end, page_verdict, View, byte_count}, Reading.{live_outcome, refused, same, files}, Short.{tables_kept}, Shown.{judged_is}}, specs.{Accesses.{reply_for}, Calls.{Comes}}}, std.specs.Prelude.{◌==◌}}
 use Rattle.vm_types.specs.declared.region.Backing.TheVariants.{Common}
 use Rattle.frames.specs.FrameTable as Frames
 use Rattle.vm_types.specs.declared.access.Access.TheVariants as Accesses
-use Rattle.spaces.{specs.{Accesses.{reply_for}, Calls.{Comes}}, proofs.{Calls.{does}, Reading.{live_outcome, refused, same, files}, Short.{tables_kept}, Shown.{judged_is}}}
 
 -- the page of an access that is fine
 fine_page : (files : Files) (o : Option View) (kind : Access) (v : View) → page_verdict files o kind ≡ Fine v → o ≡ Some v
@@ -69,14 +67,8 @@ entries_stored mid new pid page b n w fit usable frames beside = entries_own mid
 slotted_on : {mode : ℕ} (files : PageKey → Type 0) (own : ℕ → ℕ → Type 0) (old mid new : Picture mode) → ((p : PageKey) → new.place p ≡ mid.place p)
     → ((q k : ℕ) → entry new q k ≡ entry mid q k) → KeepsSlotted files own old mid → KeepsSlotted files own old new
 slotted_on files own old mid new place entries slotted = record {
-  file_pages = λ p k at. elim (slotted.file_pages p k at) [
-    | inl came ↦ inl came
-    | inr there ↦ inr (place p ∙ there)
-  ];
-  copies = λ q p inside away. elim (slotted.copies q p inside away) [
-    | inl came ↦ inl came
-    | inr same ↦ inr (entries q p ∙ same)
-  ];
+  file_pages = λ p k at. elim (slotted.file_pages p k at) [ inl came ↦ inl came | inr there ↦ inr (place p ∙ there) ];
+  copies = λ q p inside away. elim (slotted.copies q p inside away) [ inl came ↦ inl came | inr same ↦ inr (entries q p ∙ same) ];
 }
 
 -- and what lay in a slot is still there

@@ -14,7 +14,7 @@ mod unmapping;
 pub use accesses::{fetch, load, store};
 pub use madvise::dontneed;
 pub use mappings::mmap;
-pub use msync::{SyncRoom, msync};
+pub use msync::{SyncCall, SyncRoom, msync};
 pub use processes::{exit, fork, spawn};
 pub use protections::mprotect;
 pub use region_room::RegionRoom;

@@ -6,25 +6,31 @@ ghost use Rattle.msync.specs.Shows.{IsSoundCore};
 ghost use Rattle.residency.specs.Parts.{IsFit};
 ghost use Rattle.residency.specs.Picture.{picture_of};
 
+use crate::fixtures::{Sizes, memory};
 use disk_model::{SectorDisk, SimDisk};
 use frames::Role;
 use memory::entry_number;
+use page_cache::Place;
 use residency::{Core, root_of};
-use spaces::{MapRequest, ProtectRequest, RegionRoom, SyncRoom};
-use std::alloc::Global;
+use spaces::{MapRequest, ProtectRequest, RegionRoom, SyncCall, SyncRoom};
+use std::alloc::{AllocError, Global};
 use std::fmt::Debug;
 use std::process::Abort;
 use std::test::Fail;
-use test_fixtures::{LEAST, Sizes, memory, sharers};
 use vm_types::{
-    Answer, Backing, Code, Errno, Fault, FrameNo, Levels, MapSource, MsyncMode, Pid, Placing, Prot,
-    Stall, StoredValue, Sv39, Vpn, Width,
+    Answer, Backing, Code, Errno, Fault, FrameNo, Levels, MapSource, MsyncMode, PageKey, Pid,
+    Placing, Prot, SlotNo, Stall, StoredValue, Vpn, Width,
 };
 
 /// 16 frames and no slot, over a file without a byte, on devices that work.
 pub(crate) const PLAIN: Sizes = Sizes {
     frames: 16,
-    ..LEAST
+    slots: 0,
+    length: 0,
+    first: 0,
+    read_only: false,
+    store_fails: 0,
+    swap_fails: 0,
 };
 
 /// Shared pages of the file, from its first byte on.
@@ -49,8 +55,7 @@ pub(crate) enum Call {
     Map(u64, u64, May, MapSource),
     Unmap(u64, u64),
     Protect(u64, u64, May),
-    /// An msync that waits.
-    Sync(u64, u64),
+    Msync(u64, u64, u64, MsyncMode),
     Dontneed(u64, u64),
     Load(u64, u64, Width),
     Store(u64, u64, Width, u64),
@@ -88,8 +93,14 @@ pub(crate) enum Step {
     UsedFrames(u32),
     /// What stands for a page of a process: the low ten bits of its entry, and how many share the frame or slot that it names.
     Entry(u64, u64, u64, Option<u8>),
+    /// The low ten bits of the entry of a page of process 1.
+    Bits(u64, u64),
     /// How many runs process 1 has, and what its page at that address stands on.
     Runs(usize, u64, Backing),
+    /// Where a page of a file or an object lies, a frame as three levels of tables have it, and whether it is touched.
+    Lies(PageKey, Place, bool),
+    /// A byte of a sector of the store's device.
+    Stored(u64, usize, u8),
 }
 
 /// A row: its name, the memory that it begins with, and its steps, in parts that other rows may have too.
@@ -110,28 +121,23 @@ fn prot(may: May) -> Prot {
 }
 
 /// An msync. Memory is known to be sound after one that the store didn't fail, so the test ends where it did.
-fn synced<D: SectorDisk, E: SectorDisk, M: Levels>(
+fn synced<M: Levels>(
     rt: &impl Abort,
-    core: &mut Core<D, E, M>,
-    addr: u64,
-    len: u64,
+    core: &mut Core<SimDisk, SimDisk, M>,
+    call: SyncCall,
 ) -> Answer
-    requires { IsSoundCore D.SectorDisk E.SectorDisk core.old }
-    ensures { IsSoundCore D.SectorDisk E.SectorDisk core.new }
+    requires { IsSoundCore ⟦<SimDisk as SectorDisk>⟧ ⟦<SimDisk as SectorDisk>⟧ core.old }
+    ensures { IsSoundCore ⟦<SimDisk as SectorDisk>⟧ ⟦<SimDisk as SectorDisk>⟧ core.new }
 {
-    match spaces::msync(core, &mut SyncRoom::new(), 1, addr, len, MsyncMode::Sync) {
+    match spaces::msync(core, &mut SyncRoom::new(), call) {
         Answer::Refused(Errno::EIO) => panic!(rt; "the store failed in an msync"),
         answer => answer,
     }
 }
 
-fn called<D: SectorDisk, E: SectorDisk, M: Levels>(
-    rt: &impl Abort,
-    core: &mut Core<D, E, M>,
-    call: Call,
-) -> Answer
-    requires { IsSoundCore D.SectorDisk E.SectorDisk core.old }
-    ensures { IsSoundCore D.SectorDisk E.SectorDisk core.new }
+fn called<M: Levels>(rt: &impl Abort, core: &mut Core<SimDisk, SimDisk, M>, call: Call) -> Answer
+    requires { IsSoundCore ⟦<SimDisk as SectorDisk>⟧ ⟦<SimDisk as SectorDisk>⟧ core.old }
+    ensures { IsSoundCore ⟦<SimDisk as SectorDisk>⟧ ⟦<SimDisk as SectorDisk>⟧ core.new }
 {
     let room = &mut RegionRoom::new();
     match call {
@@ -153,7 +159,15 @@ fn called<D: SectorDisk, E: SectorDisk, M: Levels>(
             let prot = prot(may);
             spaces::mprotect(core, room, 1, ProtectRequest { addr, len, prot })
         }
-        Call::Sync(addr, len) => synced(rt, core, addr, len),
+        Call::Msync(pid, addr, len, mode) => {
+            let call = SyncCall {
+                pid,
+                addr,
+                len,
+                mode,
+            };
+            synced(rt, core, call)
+        }
         Call::Dontneed(addr, len) => spaces::dontneed(core, 1, addr, len),
         Call::Load(pid, addr, width) => spaces::load(core, pid, addr, width),
         Call::Store(pid, addr, width, value) => {
@@ -228,7 +242,12 @@ fn number<D, E, M: Levels>(core: &Core<D, E, M>, pid: u64, addr: u64) -> Option<
 /// How many share the frame or the slot that an entry of this number names.
 fn shares<D, E, M: Levels>(core: &Core<D, E, M>, number: u64) -> Option<u8> {
     if number % 2 == 0 {
-        return sharers(core, u32::try_from(number / 2).ok()?.checked_sub(1)?);
+        let slot = u32::try_from(number / 2).ok()?.checked_sub(1)?;
+        return if slot < core.swap.len() {
+            Some(core.swap.count(SlotNo(slot)))
+        } else {
+            None
+        };
     }
     let frame = u32::try_from(number / 1024).ok()?;
     if frame < core.frames.len() {
@@ -249,8 +268,24 @@ fn runs<D, E, M: Levels>(core: &Core<D, E, M>, addr: u64) -> Option<(usize, Back
     Some((regions.runs(), attr.backing))
 }
 
+/// A place as three levels of tables have it: where there are four, the table more lies in a lower frame.
+fn in_three_levels<M: Levels>(place: Place) -> Place {
+    match place {
+        Place::Frame(FrameNo(n)) => Place::Frame(FrameNo(n.saturating_sub(M::top_level() - 2))),
+        Place::Home | Place::Slot(_) => place,
+    }
+}
+
+/// A byte of a sector of the store's device; `None` where there is no such sector.
+fn stored(disk: &SimDisk, sector: u64, at: usize) -> Option<u8> {
+    if sector >= disk.sectors() {
+        return None;
+    }
+    disk.sector(sector).get(at).copied()
+}
+
 /// Looks at memory, and ends the test where it isn't as is wanted.
-fn look<D, E, M: Levels>(rt: &impl Abort, core: &Core<D, E, M>, name: &str, step: Step)
+fn look<M: Levels>(rt: &impl Abort, core: &Core<SimDisk, SimDisk, M>, name: &str, step: Step)
     requires fit { IsFit (picture_of core.now) }
 {
     match step {
@@ -261,22 +296,37 @@ fn look<D, E, M: Levels>(rt: &impl Abort, core: &Core<D, E, M>, name: &str, step
             let found = (number % 1024, shares(core, number));
             equal(rt, name, found, (bits, sharers));
         }
+        Step::Bits(addr, bits) => {
+            equal(
+                rt,
+                name,
+                number(core, 1, addr).expect(rt, name) % 1024,
+                bits,
+            )
+        }
         Step::Runs(count, addr, backing) => {
             equal(rt, name, runs(core, addr), Some((count, backing)));
+        }
+        Step::Lies(page, place, is_touched) => {
+            let found = in_three_levels::<M>(core.cache.place(page));
+            equal(
+                rt,
+                name,
+                (found, core.cache.is_touched(page)),
+                (place, is_touched),
+            );
+        }
+        Step::Stored(sector, at, byte) => {
+            equal(rt, name, stored(core.store.disk(), sector, at), Some(byte))
         }
         _ => panic!(rt; "{name}: no look: {step:?}"),
     }
 }
 
 /// Does one step, and ends the test where it isn't as is wanted.
-fn carry_out_one<D: SectorDisk, E: SectorDisk, M: Levels>(
-    rt: &impl Abort,
-    core: &mut Core<D, E, M>,
-    name: &str,
-    step: Step,
-)
-    requires { IsSoundCore D.SectorDisk E.SectorDisk core.old }
-    ensures { IsSoundCore D.SectorDisk E.SectorDisk core.new }
+fn take<M: Levels>(rt: &impl Abort, core: &mut Core<SimDisk, SimDisk, M>, name: &str, step: Step)
+    requires { IsSoundCore ⟦<SimDisk as SectorDisk>⟧ ⟦<SimDisk as SectorDisk>⟧ core.old }
+    ensures { IsSoundCore ⟦<SimDisk as SectorDisk>⟧ ⟦<SimDisk as SectorDisk>⟧ core.new }
 {
     match asked(step) {
         Some((call, wanted)) => {
@@ -287,57 +337,38 @@ fn carry_out_one<D: SectorDisk, E: SectorDisk, M: Levels>(
     }
 }
 
-/// Does steps one after another.
-fn carry_out_part<D: SectorDisk, E: SectorDisk, M: Levels>(
-    rt: &impl Abort,
-    core: &mut Core<D, E, M>,
-    name: &str,
-    steps: &[Step],
-)
-    requires { IsSoundCore D.SectorDisk E.SectorDisk core.old }
-    ensures { IsSoundCore D.SectorDisk E.SectorDisk core.new }
-{
-    for step in steps {
-        carry_out_one(rt, core, name, *step);
-    }
-}
-
-/// Does the steps of a row.
-fn carry_out<D: SectorDisk, E: SectorDisk, M: Levels>(
-    rt: &impl Abort,
-    core: &mut Core<D, E, M>,
-    row: Row<'_>,
-)
-    requires { IsSoundCore D.SectorDisk E.SectorDisk core.old }
-    ensures { IsSoundCore D.SectorDisk E.SectorDisk core.new }
-{
+/// The steps of a row's parts.
+fn steps_of(alloc: Global, row: Row<'_>) -> Result<Vec<Step>, AllocError> {
+    let mut steps = Vec::new(alloc);
     for part in row.parts {
-        carry_out_part(rt, core, row.name, *part);
+        steps.extend_from_slice(*part)?;
     }
+    Ok(steps)
 }
 
-/// The device of the store, after the steps of a row in new memory of that mode.
-pub(crate) fn disk_after_in<M: Levels>(
+/// Takes the steps of a row in new memory of that mode.
+fn follow_row<M: Levels>(rt: &impl Abort, alloc: Global, row: Row<'_>) -> Result<(), Fail> {
+    let steps = steps_of(alloc, row)?;
+    let mut core = memory::<M>(alloc, row.sizes)?;
+    for step in steps.iter() {
+        take(rt, &mut core, row.name, *step);
+    }
+    Ok(())
+}
+
+/// Takes the steps of each row in new memory of that mode.
+pub(crate) fn follow<M: Levels>(
     rt: &impl Abort,
     alloc: Global,
-    row: Row<'_>,
-) -> Result<SimDisk, Fail> {
-    let Sizes { frames, slots, .. } = row.sizes;
-    assert!(rt;
-        8 <= frames && frames <= 64 && slots <= 64,
-        "memory of another size"
-    );
-    let mut core = memory::<M>(alloc, row.sizes)?;
-    carry_out(rt, &mut core, row);
-    Ok(core.store.into_disk())
-}
-
-/// The same in Sv39.
-pub(crate) fn disk_after<R: AllocGlobal + Abort>(rt: &R, row: Row<'_>) -> Result<SimDisk, Fail> {
-    disk_after_in::<Sv39>(rt, rt.alloc(), row)
+    rows: &[Row<'_>],
+) -> Result<(), Fail> {
+    for row in rows {
+        follow_row::<M>(rt, alloc, *row)?;
+    }
+    Ok(())
 }
 
 /// Ends the test where the value isn't the one that is wanted.
-pub(crate) fn equal<T: PartialEq + Debug + Drop>(rt: &impl Abort, name: &str, got: T, want: T) {
+fn equal<T: PartialEq + Debug + Drop>(rt: &impl Abort, name: &str, got: T, want: T) {
     assert_eq!(rt; got, want, "{name}");
 }

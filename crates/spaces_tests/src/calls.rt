@@ -1,19 +1,18 @@
 //! The calls of one process on its pages. The answers are the manual pages' and our own choices, worked out by hand.
 use crate::bench::Call::{
-    Dontneed, Exit, Fetch, Fork, Load, Map, Protect, Spawn, Store, Sync, Unmap,
+    Dontneed, Exit, Fetch, Fork, Load, Map, Msync, Protect, Spawn, Store, Unmap,
 };
 use crate::bench::May::{Read, ReadWrite, Run, Write};
 use crate::bench::Step::{
-    Does, Entry, Faults, Fetches, Loads, Makes, Maps, Places, Reads, Refuses, Runs, Stores,
+    Does, Entry, Faults, Fetches, Loads, Makes, Maps, Places, Reads, Refuses, Runs, Stored, Stores,
     UsedFrames,
 };
-use crate::bench::{FILE, PLAIN, Row, disk_after, disk_after_in, equal};
-use disk_model::SectorDisk;
-use std::test::Fail;
-use test_fixtures::Sizes;
+use crate::bench::{FILE, PLAIN, Row};
+use crate::fixtures::Sizes;
 use vm_types::MapSource::{Anon, Private, Shared};
+use vm_types::MsyncMode::Sync;
 use vm_types::Width::{Eight, Four, One, Two};
-use vm_types::{Backing, Code, Errno, Sv48};
+use vm_types::{Backing, Code, Errno};
 
 /// 16 frames over a file of one page.
 const ONE_PAGE: Sizes = Sizes {
@@ -21,7 +20,7 @@ const ONE_PAGE: Sizes = Sizes {
     ..PLAIN
 };
 
-const ROWS: [Row<'static>; 7] = [
+pub(crate) const ROWS: [Row<'static>; 8] = [
     Row {
         name: "loads what was stored",
         sizes: PLAIN,
@@ -186,18 +185,32 @@ const ROWS: [Row<'static>; 7] = [
             UsedFrames(1),
         ]],
     },
+    // Byte 4,999 is byte 391 of the second sector of page 1, which stands in the journal's body, from sector 11 on.
+    Row {
+        name: "shares a file and syncs it",
+        sizes: Sizes {
+            length: 5000,
+            ..PLAIN
+        },
+        parts: &[&[
+            Makes(Spawn, 1),
+            Places(Map(0, 12288, ReadWrite, FILE), 0x10000),
+            Stores(1, 0x11387, 0xaa),
+            Loads(1, 0x11388, 0),
+            Stores(1, 0x11388, 0xbb),
+            Loads(1, 0x11388, 0xbb),
+            Faults(Load(1, 0x12000, One), 13, Code::BusAdrerr, 0x12000),
+            Does(Msync(1, 0x10000, 12288, Sync)),
+            Stored(12, 391, 0xaa),
+            Stored(12, 392, 0),
+            Loads(1, 0x11388, 0),
+            Loads(1, 0x11387, 0xaa),
+        ]],
+    },
 ];
 
-#[test]
-fn one_process_has_its_pages(rt: HostRuntime) -> Result<(), Fail> {
-    for row in ROWS {
-        let _ = disk_after(&rt, row)?;
-    }
-    Ok(())
-}
-
 /// The zero page, a root, three tables below it and a page; the last page of the user half has three tables of its own.
-const FOUR_LEVELS: Row<'static> = Row {
+pub(crate) const FOUR_LEVELS: Row<'static> = Row {
     name: "has four levels of tables",
     sizes: PLAIN,
     parts: &[&[
@@ -221,39 +234,3 @@ const FOUR_LEVELS: Row<'static> = Row {
         UsedFrames(1),
     ]],
 };
-
-#[test]
-fn a_process_has_four_levels(rt: HostRuntime) -> Result<(), Fail> {
-    let _ = disk_after_in::<Sv48>(&rt, rt.alloc(), FOUR_LEVELS)?;
-    Ok(())
-}
-
-const SYNCED: Row<'static> = Row {
-    name: "shares a file and syncs it",
-    sizes: Sizes {
-        length: 5000,
-        ..PLAIN
-    },
-    parts: &[&[
-        Makes(Spawn, 1),
-        Places(Map(0, 12288, ReadWrite, FILE), 0x10000),
-        Stores(1, 0x11387, 0xaa),
-        Loads(1, 0x11388, 0),
-        Stores(1, 0x11388, 0xbb),
-        Loads(1, 0x11388, 0xbb),
-        Faults(Load(1, 0x12000, One), 13, Code::BusAdrerr, 0x12000),
-        Does(Sync(0x10000, 12288)),
-        Loads(1, 0x11388, 0),
-        Loads(1, 0x11387, 0xaa),
-    ]],
-};
-
-// Byte 4,999 is byte 391 of the second sector of page 1, which stands in the journal's body, from sector 11 on.
-#[test]
-fn a_file_is_shared_and_synced(rt: HostRuntime) -> Result<(), Fail> {
-    let disk = disk_after(&rt, SYNCED)?;
-    assert_eq!(rt; disk.sectors(), 8211);
-    let sector = disk.sector(12);
-    equal(&rt, "bytes", [sector[391], sector[392]], [0xaa, 0]);
-    Ok(())
-}

@@ -6,6 +6,12 @@ mod bench;
 #[cfg(test)]
 mod calls;
 #[cfg(test)]
+mod evictions;
+#[cfg(test)]
+mod fixtures;
+#[cfg(test)]
+mod rows;
+#[cfg(test)]
 mod sharing;
 #[cfg(test)]
 mod wants;

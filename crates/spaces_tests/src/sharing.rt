@@ -1,14 +1,14 @@
 //! Processes that are made, copied and ended, and the pages that they share.
-use crate::bench::Call::{Dontneed, Exit, Fork, Load, Map, Spawn, Store, Sync, Unmap};
+use crate::bench::Call::{Dontneed, Exit, Fork, Load, Map, Msync, Spawn, Store, Unmap};
 use crate::bench::May::ReadWrite;
 use crate::bench::Step::{
     Does, Entry, Faults, FreeSlots, Loads, Makes, Maps, Places, Refuses, Runs, Stalls, Stores,
     UsedFrames,
 };
-use crate::bench::{FILE, PLAIN, Row, Step, disk_after};
-use std::test::Fail;
-use test_fixtures::Sizes;
+use crate::bench::{FILE, PLAIN, Row, Step};
+use crate::fixtures::Sizes;
 use vm_types::MapSource::{Anon, Common};
+use vm_types::MsyncMode::Sync;
 use vm_types::Width::One;
 use vm_types::{Backing, Code, Errno, ObjectPage, Stall};
 
@@ -22,7 +22,7 @@ const OWNS_ONE: &[Step] = &[
     Stores(1, 0x20000, 1),
 ];
 
-const ROWS: [Row<'static>; 8] = [
+pub(crate) const ROWS: [Row<'static>; 8] = [
     Row {
         name: "forks and exits",
         sizes: Sizes {
@@ -154,7 +154,7 @@ const ROWS: [Row<'static>; 8] = [
             Entry(1, 0x12000, 0xd7, Some(1)),
             Does(Dontneed(0x10000, 0x3000)),
             Loads(1, 0x10000, 5),
-            Does(Sync(0x10000, 0x3000)),
+            Does(Msync(1, 0x10000, 0x3000, Sync)),
             Loads(2, 0x12000, 6),
             Does(Exit(1)),
             Loads(2, 0x10000, 5),
@@ -234,11 +234,3 @@ const ROWS: [Row<'static>; 8] = [
         ]],
     },
 ];
-
-#[test]
-fn processes_share_pages(rt: HostRuntime) -> Result<(), Fail> {
-    for row in ROWS {
-        let _ = disk_after(&rt, row)?;
-    }
-    Ok(())
-}

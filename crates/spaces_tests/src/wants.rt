@@ -6,9 +6,8 @@ use crate::bench::Step::{
     Does, Entry, Faults, Fetches, FreeSlots, Loads, Makes, Maps, Places, Refuses, Stalls, Stores,
     UsedFrames,
 };
-use crate::bench::{FILE, PLAIN, Row, Step, disk_after};
-use std::test::Fail;
-use test_fixtures::Sizes;
+use crate::bench::{FILE, PLAIN, Row, Step};
+use crate::fixtures::Sizes;
 use vm_types::MapSource::{Anon, Private};
 use vm_types::Width::One;
 use vm_types::{Code, Errno, Stall};
@@ -33,7 +32,7 @@ const STORES_SIX: &[Step] = &[
     Stores(1, 0x25000, 6),
 ];
 
-const ROWS: [Row<'static>; 9] = [
+pub(crate) const ROWS: [Row<'static>; 10] = [
     Row {
         name: "answers in ample memory",
         sizes: Sizes { frames: 32, ..FEW },
@@ -222,34 +221,20 @@ const ROWS: [Row<'static>; 9] = [
             ],
         ],
     },
-];
-
-#[test]
-fn calls_wait_for_frames_slots_and_devices(rt: HostRuntime) -> Result<(), Fail> {
-    for row in ROWS {
-        let _ = disk_after(&rt, row)?;
-    }
-    Ok(())
-}
-
-// The first call after the store was opened reads the page of the file.
-#[test]
-fn tells_that_a_file_page_was_not_read(rt: HostRuntime) -> Result<(), Fail> {
-    let mut row = Row {
+    // The store is opened by four calls, and the fifth reads the page of the file.
+    Row {
         name: "tells that a file page was not read",
-        sizes: FEW,
-        parts: &[],
-    };
-    let opened = disk_after(&rt, row)?.calls();
-    row.sizes.store_fails = opened.saturating_add(1);
-    row.parts = &[
-        HAS_SIX,
-        &[
-            Maps(0x26000, 4096, FILE),
-            Stalls(Load(1, 0x26000, One), Stall::StoreDevice),
-            Loads(1, 0x26000, 0),
+        sizes: Sizes {
+            store_fails: 5,
+            ..FEW
+        },
+        parts: &[
+            HAS_SIX,
+            &[
+                Maps(0x26000, 4096, FILE),
+                Stalls(Load(1, 0x26000, One), Stall::StoreDevice),
+                Loads(1, 0x26000, 0),
+            ],
         ],
-    ];
-    let _ = disk_after(&rt, row)?;
-    Ok(())
-}
+    },
+];

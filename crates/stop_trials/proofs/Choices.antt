@@ -1,7 +1,5 @@
 -- A list of sectors that all have the same bytes.
-use Rattle.std.proofs.{Common.{◌≡◌, ◌<◌, ◌+◌, ℕ, Bool, true, false, if◌then◌else◌, List, [], ◌∷◌, ◌++◌, refl, sym, ap, ◌∙◌, ⊎_elim, eq-eqb, arith}, lemmas.Bool.{cases_eq}}
-use Rattle.std.specs.Prelude.{◌==◌}
-use Rattle.disk_model.specs.Plan.{first_listed}
+use Rattle.{std.{proofs.{Common.{◌≡◌, ◌<◌, ◌+◌, ℕ, Bool, true, false, if◌then◌else◌, List, [], ◌∷◌, ◌++◌, refl, sym, ap, ◌∙◌, ⊎_elim, eq-eqb, arith}, lemmas.Bool.{cases_eq}}, specs.Prelude.{◌==◌}}, disk_model.specs.Plan.{first_listed}}
 
 -- a choice more at the end
 listed_last : (list : List (ℕ × List ℕ)) (i k : ℕ) (bytes other : List ℕ)

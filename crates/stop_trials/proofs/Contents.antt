@@ -1,11 +1,7 @@
 -- The bytes of all files, as an image stands for them and as an open store gives them.
-use Rattle.std.proofs.Common.{◌≡◌, ◌<◌, ◌*◌, ℕ, List, [], take, Option, Some, None, refl, sym, ap, ◌∙◌, arith}
-use Rattle.std.specs.Option.{option_map, unwrap_or}
-use Rattle.vm_types.specs.declared.file.FileInfo.{FileInfo}
-use Rattle.disk_model.specs.{Stop.{Image}, declared.sector_disk.SectorDisk.{Ghosts}, Sectors.{joined}}
-use Rattle.disk_model.proofs.Pieces.{joined-same}
-use Rattle.file_store.specs.{declared.store.FileStore.{FileStore}, Layout.{pages_of_length}, Standing.{IsBadLayout, IsBadJournal, IsPageOf, StandsAs, bytes_of_pages, file_info, standing_file, standing_page}, Store.{IsReadyStore, files_of}}
-use Rattle.stop_trials.specs.Standing.{standing_bytes, standing_contents}
+use Rattle.{std.{proofs.Common.{◌≡◌, ◌<◌, ◌*◌, ℕ, List, [], take, Option, Some, None, refl, sym, ap, ◌∙◌, arith}, specs.Option.{option_map, unwrap_or}}, vm_types.specs.declared.file.FileInfo.{FileInfo}}
+use Rattle.{disk_model.{proofs.Pieces.{joined-same}, specs.{Sectors.{joined}, Stop.{Image}, declared.sector_disk.SectorDisk.{Ghosts}}}, file_store.specs.{Layout.{pages_of_length}, Standing.{IsBadLayout, IsBadJournal, IsPageOf, StandsAs}}}
+use Rattle.{file_store.specs.{Standing.{bytes_of_pages, file_info, standing_file, standing_page}, Store.{IsReadyStore, files_of}, declared.store.FileStore.{FileStore}}, stop_trials.specs.Standing.{standing_bytes, standing_contents}}
 
 -- the bytes of a file of these pages, none where there is none
 of_file : (ℕ → List ℕ) → Option FileInfo → List ℕ

@@ -1,9 +1,7 @@
 -- Trials, one after another, and what one of them finds.
-use Rattle.std.proofs.Common.{◌≡◌, ◌<◌, ◌+◌, ◌*◌, ◌-◌, ◌^◌, min, ℕ, zero, suc, List, [], ◌∷◌, length, Option, Some, None, IfSome, ap, subst, ◌∙◌, arith}
-use Rattle.std.specs.{declared.alloc.Global.{Global}, declared.vec.Vec.{Vec}}
-use Rattle.disk_model.specs.{Plan.{one_more}, SimDisk.{sectors_in, sector_of}, declared.sim_disk.SimDisk.{SimDisk}}
-use Rattle.stop_trials.specs.{declared.fillings.Filling.{Filling}, declared.fillings.Filling.TheVariants.{Old, Zeros, Ones, HalfOpen, Open}, declared.trials.Trial.{Trial}, declared.trials.Summary.{Summary}, Fillings.{left_with}}
-use Rattle.stop_trials.specs.{Standing.{IsStanding, standing_contents}, Trials.{AllStand, StandsWith, StandWithEach, IsTrial, AreTried}}
+use Rattle.std.{proofs.Common.{◌≡◌, ◌<◌, ◌+◌, ◌*◌, ◌-◌, ◌^◌, min, ℕ, zero, suc, List, [], ◌∷◌, length, Option, Some, None, IfSome, ap, subst, ◌∙◌, arith}, specs.declared.{alloc.Global.{Global}, vec.Vec.{Vec}}}
+use Rattle.{disk_model.specs.{Plan.{one_more}, SimDisk.{sectors_in, sector_of}, declared.sim_disk.SimDisk.{SimDisk}}, stop_trials.specs.{Fillings.{left_with}, Standing.{IsStanding, standing_contents}, Trials.{AllStand, StandsWith}}}
+use Rattle.stop_trials.specs.{Trials.{StandWithEach, IsTrial, AreTried}, declared.{fillings.Filling.{Filling, TheVariants.{Old, Zeros, Ones, HalfOpen, Open}}, trials.{Summary.{Summary}, Trial.{Trial}}}}
 
 -- what is left of a device, and how its files stand
 pub stands_with : (states : List (Vec ℕ Global)) (acknowledged : ℕ) (given device left : SimDisk) (filling : Filling) (slice bytes : List ℕ) (standing : Option ℕ)

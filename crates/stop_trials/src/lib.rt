@@ -10,7 +10,6 @@ mod runs;
 mod standing;
 mod stopping;
 mod trials;
-mod words;
 
 pub use program::pagestops;
 pub use stopping::Event;

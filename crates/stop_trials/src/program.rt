@@ -2,13 +2,15 @@
 ghost use Rattle.std.specs.Prelude.{◌≤◌, IfOk};
 
 use crate::runs::Setting;
-use crate::words::{StopWords, stop_words};
+use command_words::{StopWords, stop_words};
 use disk_model::{SECTOR_BYTES, SimDisk};
 use file_store::{format, image_bytes};
+use machine::Config;
 use programs::{ProgramFault, held_places, open_sources, report};
 use std::alloc::{AllocError, Global};
 use std::fs::{File, Files};
 use std::io::{ErrorKind, Read, Write};
+use vm_types::Mode;
 
 /// `pagestops [--every K] [--drop K] [--layout 2|3] [--frames N] [--slots N] SPEC...`: formats a store of layout 2, or of
 /// layout 3 where that is asked for, in memory for the specs, as `pagefmt` does an image,
@@ -49,11 +51,16 @@ fn tried<'a, R: Files<File = File> + AllocGlobal, I: Read, O: Write>(
     let image = new_image(rt, &words)?;
     let trace = whole_trace(rt.alloc(), reader)?;
     let lines = lines_of(rt.alloc(), trace.as_slice())?;
+    let config = Config {
+        frames: words.frames,
+        slots: words.slots,
+        mode: Mode::Sv39,
+    };
     let setting = Setting {
         alloc: rt.alloc(),
         image: &image,
         journals: words.journals,
-        config: words.config,
+        config,
         lines: lines.as_slice(),
         drops: words.drop.map(u64::from),
     };

@@ -1,6 +1,5 @@
 -- The weight of a bit that is set.
-use Rattle.std.proofs.Common.{◌≡◌, ℕ, ◌/◌, ◌%◌, ◌≤◌, true, arith, eqb-true}
-use Rattle.sv39_walk.specs.Entry.{has_bit, can_write, is_accessed, is_dirty}
+use Rattle.{std.proofs.Common.{◌≡◌, ℕ, ◌/◌, ◌%◌, ◌≤◌, true, arith, eqb-true}, sv39_walk.specs.Entry.{has_bit, can_write, is_accessed, is_dirty}}
 
 write_set : (e : ℕ) → can_write e ≡ true → e / 4 % 2 ≡ 1
 unfolding has_bit

@@ -1,6 +1,5 @@
 -- What a pointer is made of.
-use Rattle.std.proofs.Common.{◌≡◌, ℕ, ◌+◌, ◌*◌, ◌/◌, ◌%◌, ◌<◌, ◌^◌, true, false, refl, arith}
-use Rattle.sv39_walk.specs.Entry.{has_bit, frame_of, high_bits, is_pointer, pointer_to}
+use Rattle.{std.proofs.Common.{◌≡◌, ℕ, ◌+◌, ◌*◌, ◌/◌, ◌%◌, ◌<◌, ◌^◌, true, false, refl, arith}, sv39_walk.specs.Entry.{has_bit, frame_of, high_bits, is_pointer, pointer_to}}
 
 bit_clear : (e k : ℕ) → e / 2 ^ k % 2 ≡ 0 → has_bit e k ≡ false
 unfolding has_bit

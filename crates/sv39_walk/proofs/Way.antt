@@ -1,7 +1,5 @@
 -- One step on the way to a page.
-use Rattle.std.proofs.Common.{◌≡◌, ℕ, zero, suc, ◌-◌, ◌<◌, true, false, refl, arith}
-use Rattle.frames.specs.FrameTable.{FrameTable}
-use Rattle.sv39_walk.specs.{Entry.{entry_at, frame_of}, Walk.{last_of, leads_on, index_of}}
+use Rattle.{std.proofs.Common.{◌≡◌, ℕ, zero, suc, ◌-◌, ◌<◌, true, false, refl, arith}, frames.specs.FrameTable.{FrameTable}, sv39_walk.specs.{Entry.{entry_at, frame_of}, Walk.{last_of, leads_on, index_of}}}
 
 -- at the lowest level
 pub last_of-zero : (t : FrameTable) (page table : ℕ) → last_of t page 0 table ≡ (0, entry_at t table (index_of page 0))
@@ -20,5 +18,4 @@ pub last_of-next : (t : FrameTable) (page level table : ℕ) → 0 < level → l
     → last_of t page level table ≡ last_of t page (level - 1) (frame_of (entry_at t table (index_of page level)))
 unfolding last_of
 last_of-next t page zero table above e = absurd (omega arith)
-last_of-next t page (suc level) table above e =
-    let less : suc level - 1 ≡ level = omega arith in rw (e, less)
+last_of-next t page (suc level) table above e = let less : suc level - 1 ≡ level = omega arith in rw (e, less)

@@ -1,6 +1,5 @@
 -- How many numbers pass a test, when one of them changes.
-use Rattle.std.proofs.{Common.{◌≡◌, ◌≢◌, ℕ, zero, suc, ◌+◌, ◌<◌, ◌≤◌, Bool, true, false, if◌then◌else◌, inl, inr, refl, ap, ◌∙◌, arith}, lemmas.Bool.{cases_eq}}
-use Rattle.vm_types.specs.Counting.{count_below}
+use Rattle.{std.proofs.{Common.{◌≡◌, ◌≢◌, ℕ, zero, suc, ◌+◌, ◌<◌, ◌≤◌, Bool, true, false, if◌then◌else◌, inl, inr, refl, ap, ◌∙◌, arith}, lemmas.Bool.{cases_eq}}, vm_types.specs.Counting.{count_below}}
 
 pub same : (f g : ℕ → Bool) (n : ℕ) → ((k : ℕ) → k < n → f k ≡ g k) → count_below f n ≡ count_below g n
 unfolding count_below

@@ -1,15 +1,10 @@
 -- What a call changes of the stack of free slots.
-use Rattle.std.proofs.Common.{◌≡◌, ◌≢◌, ℕ, ◌+◌, ◌-◌, ◌<◌, ◌≤◌, ◌==◌, false, inl, inr, List, [], ◌∷◌, ◌++◌, length, get_or, take, set, replicate, sym, ap, ◌∙◌, subst, arith, eq-eqb, ne_eqb, eqb-true, IsTrue, ◌↔◌}
-use Rattle.std.proofs.lemmas.Bool.{cases_eq, cases_lt, false≢true}
-use Rattle.std.proofs.lemmas.List.{get_or-set_same, get_or-set_other, length-set, get_or-take, length-take-le, length_push, get_or_push, get_or_append_left, get_or-replicate, length-replicate, get_or_past}
-use Rattle.vm_types.specs.Counting.{count_below}
-use Rattle.swap.{specs.Counts.{count_at, free_count, IsStack, AreSoundCounts}, proofs.Counting.{same, every, one_less, at_most, not_all, none, none_pass}}
+use Rattle.std.proofs.{Common.{◌≡◌, ◌≢◌, ℕ, ◌+◌, ◌-◌, ◌<◌, ◌≤◌, ◌==◌, false, inl, inr, List, [], ◌∷◌, ◌++◌, length, get_or, take, set, replicate, sym, ap, ◌∙◌, subst, arith, eq-eqb, ne_eqb, eqb-true, IsTrue, ◌↔◌}, lemmas.Bool.{cases_eq}}
+use Rattle.std.proofs.lemmas.{Bool.{cases_lt, false≢true}, List.{get_or-set_same, get_or-set_other, length-set, get_or-take, length-take-le, length_push, get_or_push, get_or_append_left, get_or-replicate, length-replicate, get_or_past}}
+use Rattle.{vm_types.specs.Counting.{count_below}, swap.{proofs.Counting.{same, every, one_less, at_most, not_all, none, none_pass}, specs.Counts.{count_at, free_count, IsStack, AreSoundCounts}}}
 
 positive : (c : ℕ) → (c == 0) ≡ false → 0 < c
-positive c fails = elim (cases_eq c 0) [
-  | inl e ↦ absurd (false≢true (sym fails ∙ eq-eqb c 0 e))
-  | inr ne ↦ omega (arith, ne)
-]
+positive c fails = elim (cases_eq c 0) [ inl e ↦ absurd (false≢true (sym fails ∙ eq-eqb c 0 e)) | inr ne ↦ omega (arith, ne) ]
 
 -- another slot is as free as it was
 elsewhere : (counts : List ℕ) (n v k : ℕ) → k ≢ n → (count_at counts k == 0) ≡ (count_at (set counts n v) k == 0)
@@ -55,17 +50,13 @@ inside_of counts n some = elim (cases_lt n (length counts)) [
 ]
 
 pub short_stack : (counts stack : List ℕ) → IsStack counts stack → length stack ≤ length counts
-short_stack counts stack stacked =
-    let most = at_most (λ k. count_at counts k == 0) (length counts) in
-    let all = stacked.all in
-    omega (arith, all, most)
+short_stack counts stack stacked = omega (arith, stacked.all, at_most (λ k. count_at counts k == 0) (length counts))
 
 -- where a slot has a share the stack is shorter than the row of slots
 pub has_room : (counts stack : List ℕ) (n : ℕ) → IsStack counts stack → n < length counts → 0 < count_at counts n → length stack < length counts
 has_room counts stack n stacked below was =
     let most = not_all (λ k. count_at counts k == 0) n (length counts) below (ne_eqb (count_at counts n) 0 (λ z. omega (arith, z, was))) in
-    let all = stacked.all in
-    omega (arith, all, most)
+    omega (arith, stacked.all, most)
 
 -- an empty stack
 pub none_free : (counts stack : List ℕ) → IsStack counts stack → length stack ≡ 0 → (n : ℕ) → n < length counts → 0 < count_at counts n
@@ -162,9 +153,8 @@ stack_kept counts stack n v below was is stacked = record {
   free = λ k lt.
       let old = stacked.free k lt in
       let inside = old.0 in
-      let sized = length-set counts n v in
       let ne : get_or stack k 0 ≢ n = λ e. (let none = old.1 in let e' : count_at counts (get_or stack k 0) ≡ count_at counts n = ap (count_at counts) e in omega (arith, none, e', was)) in
-      (omega (arith, inside, sized), get_or-set_other counts n (get_or stack k 0) v 0 ne ∙ old.1);
+      (omega (arith, inside, length-set counts n v), get_or-set_other counts n (get_or stack k 0) v 0 ne ∙ old.1);
   once = stacked.once;
   all = stacked.all ∙ sym (still_full_count counts n v below was is);
 }

@@ -1,8 +1,6 @@
 -- What a device holds where pages were written.
-use Rattle.std.proofs.{Common.{◌≡◌, ◌≢◌, ℕ, inl, inr, ◌+◌, ◌*◌, ◌<◌, List, [], ◌∷◌, Some, None, length, get_or, refl, sym, ap, subst, ◌∙◌, arith, eq-eqb, ne_eqb}, lemmas.Bool.{cases_eq}}
-use Rattle.disk_model.specs.{Note.{Note}, Stop.{Image, ChangesPage}, Sectors.{part_of}, declared.sector_disk.SectorDisk.{Ghosts}}
-use Rattle.disk_model.proofs.Pieces.{joined-same, joined_parts}
-use Rattle.swap.specs.Written.{page_of_rows, written_in, image_page, IsAsWritten}
+use Rattle.{std.proofs.{Common.{◌≡◌, ◌≢◌, ℕ, inl, inr, ◌+◌, ◌*◌, ◌<◌, List, [], ◌∷◌, Some, None, length, get_or, refl, sym, ap, subst, ◌∙◌, arith, eq-eqb, ne_eqb}, lemmas.Bool.{cases_eq}}, disk_model.proofs.Pieces.{joined-same}}
+use Rattle.{disk_model.{proofs.Pieces.{joined_parts}, specs.{Note.{Note}, Sectors.{part_of}, Stop.{Image, ChangesPage}, declared.sector_disk.SectorDisk.{Ghosts}}}, swap.specs.Written.{page_of_rows, written_in, image_page, IsAsWritten}}
 
 pub rows_make : (rows : List (List ℕ)) (page : List ℕ) → length rows ≡ 8 → length page ≡ 4096
     → ((i : ℕ) → i < 8 → get_or rows i [] ≡ part_of page i) → page_of_rows rows ≡ Some page

@@ -1,8 +1,7 @@
 -- Which sectors the parts of a commit and of a recovery ask for.
-use Rattle.sync_journal.proofs.Names.{◌≡◌, ◌⊎◌, ◌<◌, ◌≤◌, ◌+◌, ◌*◌, ℕ, true, List, [], length, inl, inr, ⊎_elim, refl, sym, subst, arith, cases_eq, Image, Names, NamesOnce, AsksOnly, Ghosts, asks_named, asks_once, asks_then, once_named}
-use Rattle.sync_journal.proofs.Names.{once_apart}
-use Rattle.sync_journal.specs.Layout.{page_limit, gate_sector, map_sector, first_body_sector, first_home_sector, body_sector, home_sector, IsPageSector, IsGate, IsFilledAt, IsStagedAt, IsStaged, IsOpened, IsFinished, IsCommitted}
-use Rattle.sync_journal.{specs.{Gate.{is_open}, Standing.{IsOpenFor, IsAskedIn, IsCopyFrom}, Commit.{AsksInTwo}}, proofs.Copies.{in_copied}}
+use Rattle.sync_journal.proofs.{Copies.{in_copied}, Names.{◌≡◌, ◌⊎◌, ◌<◌, ◌≤◌, ◌+◌, ◌*◌, ℕ, true, List, [], length, inl, inr, ⊎_elim, refl, sym, subst, arith, cases_eq, Image, Names, NamesOnce, AsksOnly, Ghosts, asks_named, asks_once}}
+use Rattle.sync_journal.{proofs.Names.{asks_then, once_named, once_apart}, specs.{Commit.{AsksInTwo}, Gate.{is_open}, Layout.{page_limit, gate_sector, map_sector, first_body_sector, first_home_sector, body_sector, home_sector}}}
+use Rattle.sync_journal.specs.{Layout.{IsPageSector, IsGate, IsFilledAt, IsStagedAt, IsStaged, IsOpened, IsFinished, IsCommitted}, Standing.{IsOpenFor, IsAskedIn, IsCopyFrom}}
 
 -- Over how often each sector had been asked for, at three moments.
 module _ (before mid now : ℕ → ℕ) where

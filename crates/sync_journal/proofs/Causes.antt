@@ -1,9 +1,7 @@
 -- Which fault a commit tells, and what a source was asked for.
-use Rattle.sync_journal.proofs.Names.{◌≡◌, ◌<◌, ℕ, Result, Ok, Err, refl, ap, sym, subst, ◌∙◌, arith, IsErr, IsErrAnd, IsErrOf, Image, LeavesOnly}
-use Rattle.sync_journal.specs.{Source.{Asks, HasCauses}, declared.faults.CommitFault.{CommitFault}, declared.faults.CommitFault.TheVariants.{Source, Device}, declared.source.PageSource.{Ghosts}, Committing.{PutsPages}, Runs.{RunsOnDevice}}
-use Rattle.sync_journal.specs.{Steps.{BlamesJournal}, declared.faults.RecoverFault.{RecoverFault}}
+use Rattle.sync_journal.{proofs.Names.{◌≡◌, ◌<◌, ℕ, Result, Ok, Err, refl, ap, sym, subst, ◌∙◌, arith, IsErr, IsErrAnd, IsErrOf, Image, LeavesOnly}, specs.{Committing.{PutsPages}, Runs.{RunsOnDevice}, Source.{Asks, HasCauses}}}
+use Rattle.sync_journal.specs.{Steps.{BlamesJournal}, declared.{faults.{CommitFault.{CommitFault, TheVariants.{Source, Device}}, RecoverFault.{RecoverFault, TheVariants.{Device as DeviceFailed, BadJournal}}}, source.PageSource.{Ghosts}}}
 use Rattle.disk_model.specs.declared.sector_disk.SectorDisk.{Ghosts as DiskGhosts}
-use Rattle.sync_journal.specs.declared.faults.RecoverFault.TheVariants.{Device as DeviceFailed, BadJournal}
 
 -- nothing was asked for
 pub asks_nothing : {S : Type 0} (s : Ghosts S) (source : S) → s.follows source source → Asks s source source

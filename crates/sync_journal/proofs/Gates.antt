@@ -1,6 +1,5 @@
 -- Which gates are open.
-use Rattle.sync_journal.proofs.Names.{◌≡◌, ℕ, true, false, List, refl, ap, ◌∙◌, replicate, bytes_eq-Decides}
-use Rattle.sync_journal.specs.Gate.{open_sector, is_open_sector}
+use Rattle.sync_journal.{proofs.Names.{◌≡◌, ℕ, true, false, List, refl, ap, ◌∙◌, replicate, bytes_eq-Decides}, specs.Gate.{open_sector, is_open_sector}}
 
 pub open_is_open : is_open_sector open_sector ≡ true
 unfolding is_open_sector

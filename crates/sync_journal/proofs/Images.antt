@@ -1,9 +1,8 @@
 -- What images stand for.
-use Rattle.sync_journal.proofs.Names.{◌≡◌, ◌≢◌, ◌⊎◌, ◌<◌, ◌+◌, ℕ, zero, suc, Bool, true, false, List, [], length, get_or, Option, Some, None, if◌then◌else◌, ◌==◌, refl, sym, ap, subst, ◌∙◌, ⊎_elim, arith, add-one, cases_eq, eqb-true}
-use Rattle.sync_journal.proofs.Names.{eqb-false, eq-eqb, nat_tests, IfSome, Image}
-use Rattle.sync_journal.specs.{Layout.{Layout, layout_2, gate_sector, first_body_sector, first_home_sector, body_sector, home_at, home_sector, home_count, IsHomeSector, IsOutside}, Gate.{is_open}}
-use Rattle.sync_journal.specs.Map.{place_among, home_rank, map_count, home_in, AreHomes, IsBadMap}
-use Rattle.sync_journal.{specs.{Standing.{place_or_home_in, place_or_home, map_in, map_of, standing_under, standing_in, standing_single, StandsForPages, IsOpenIn, IsOpenFor, AreCopiedFrom}, Commit.{IsKept}}, proofs.Maps.{same_map}}
+use Rattle.sync_journal.proofs.{Maps.{same_map}, Names.{◌≡◌, ◌≢◌, ◌⊎◌, ◌<◌, ◌+◌, ℕ, zero, suc, Bool, true, false, List, [], length, get_or, Option, Some, None, if◌then◌else◌, ◌==◌, refl, sym, ap, subst, ◌∙◌, ⊎_elim, arith, add-one}}
+use Rattle.sync_journal.{proofs.Names.{cases_eq, eqb-true, eqb-false, eq-eqb, nat_tests, IfSome, Image}, specs.{Commit.{IsKept}, Gate.{is_open}, Layout.{Layout, layout_2, gate_sector, first_body_sector, first_home_sector, body_sector}}}
+use Rattle.sync_journal.specs.{Layout.{home_at, home_sector, home_count, IsHomeSector, IsOutside}, Map.{place_among, home_rank, map_count, home_in, AreHomes, IsBadMap}, Standing.{place_or_home_in, place_or_home, map_in, map_of}}
+use Rattle.sync_journal.specs.Standing.{standing_under, standing_in, standing_single, StandsForPages, IsOpenIn, IsOpenFor, AreCopiedFrom}
 
 -- maps that name the same homes have them at the same places
 pub place_same : (f g : ℕ → ℕ) (h n : ℕ) → ((j : ℕ) → j < n → f j ≡ g j) → place_among f h n ≡ place_among g h n

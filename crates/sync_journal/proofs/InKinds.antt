@@ -1,12 +1,10 @@
 -- Each layout's words said in the words of both.
 use Rattle.sync_journal.proofs.Names.{◌≡◌, ◌<◌, ℕ, Bool, true, false, List, Result, Ok, Err, OnOk, refl, sym, ap, subst, ◌∙◌, ⊎_elim, inl, inr, arith, ◌+◌, not, Some, Image, MayLeave, Nothing, Touches, LeavesOnly, Ghosts, weaker}
-use Rattle.disk_model.proofs.Moments.{joined}
-use Rattle.sync_journal.specs.{Standing.{standing_single, StandsForPages}, Commit.{changed, StandsForEitherPages, IsKept, IsAtRest, IsSettled}, Journal.{live_homes}}
-use Rattle.sync_journal.specs.Turns.{turn_standing, TurnStandsFor, TurnStandsForEither, IsTurnKept, IsTurnRest, IsTurnSettled, turn_home, turn_home_count, named_in, map_rank, stands_under, IsBadUnder, IsTurnSector, IsTurnCommitted, IsTurnRecovered}
-use Rattle.sync_journal.specs.Kinds.{is_kind, kind_when, kind_of, kind_standing, IsKindBad, IsKindOutside, IsRestOf, journal_kind, store_standing, StoreStandsFor, StoreStandsForEither, IsStoreKept, IsStoreRest, IsStoreSettled, StoreStandsAs, KeepsStore}
-use Rattle.sync_journal.specs.{declared.journal.Journal.{Journal}, declared.turns.TurnJournal.{TurnJournal}, declared.store_journal.Journals.{Journals}, declared.store_journal.Journals.TheVariants.{Single, Paired}}
-use Rattle.sync_journal.specs.{declared.store_journal.StoreJournal.{StoreJournal}, declared.store_journal.StoreJournal.TheVariants.{One, InTurn}, Map.{AreHomes}}
-use Rattle.sync_journal.proofs.{Since.{changed_same}, Rests.{rest_read}, Sectors.{same_image, reads_unsynced, while_read, so_before}}
+use Rattle.sync_journal.{proofs.{Rests.{rest_read}, Sectors.{same_image, reads_unsynced, while_read, so_before}, Since.{changed_same}}, specs.{Commit.{changed, StandsForEitherPages, IsKept, IsAtRest, IsSettled}, Journal.{live_homes}}}
+use Rattle.sync_journal.specs.Kinds.{is_kind, kind_when, kind_of, kind_standing, IsKindBad, IsKindOutside, IsRestOf, journal_kind, store_standing, StoreStandsFor, StoreStandsForEither, IsStoreKept, IsStoreRest, IsStoreSettled}
+use Rattle.sync_journal.specs.{Kinds.{StoreStandsAs, KeepsStore}, Map.{AreHomes}, Standing.{standing_single, StandsForPages}, Turns.{turn_standing, TurnStandsFor, TurnStandsForEither, IsTurnKept, IsTurnRest, IsTurnSettled, turn_home}}
+use Rattle.sync_journal.specs.{Turns.{turn_home_count, named_in, map_rank, stands_under, IsBadUnder, IsTurnSector, IsTurnCommitted, IsTurnRecovered}, declared.{journal.Journal.{Journal}, store_journal.Journals.{Journals}}}
+use Rattle.{sync_journal.specs.declared.{store_journal.{Journals.TheVariants.{Single, Paired}, StoreJournal.{StoreJournal, TheVariants.{One, InTurn}}}, turns.TurnJournal.{TurnJournal}}, disk_model.proofs.Moments.{joined}}
 
 front : (kind : Journals) (sectors : ℕ) → IsKindOutside kind sectors 1
 front Single sectors = inl (omega arith)

@@ -39,10 +39,9 @@ some_or_none o x some none = let e : Some x ≡ None = sym some ∙ none in cc
 
 -- one of two gates
 pub which : (b c : Bool) → (c ≡ b) ⊎ (c ≡ not b)
-which true true = inl refl
 which true false = inr refl
 which false true = inr refl
-which false false = inl refl
+which b c = inl refl
 
 -- a home's sector is no journal's, and no sector outside
 pub home_high : (second : Bool) (k : ℕ) → turn_homes ≤ k → IsTurnSector second k → ⊥
@@ -55,9 +54,7 @@ outside_home sectors live k are outside at_home =
 
 outside_turn : (sectors : ℕ) (second : Bool) (k : ℕ) → IsTurnOutside sectors k → IsTurnSector second k → ⊥
 outside_turn sectors second k outside inside =
-    let low = start_low second in
-    let high = start_high second in
-    ⊎_elim (λ front. omega (arith, front, inside.0, low)) (λ after. omega (arith, after, inside.1, high)) outside
+    ⊎_elim (λ front. omega (arith, front, inside.0, start_low second)) (λ after. omega (arith, after, inside.1, start_high second)) outside
 
 outside_gate : (sectors k : ℕ) → IsTurnOutside sectors k → IsGateBlock k → ⊥
 outside_gate sectors k outside e = ⊎_elim (λ front. omega (arith, front, e.0)) (λ after. omega (arith, after, e.1)) outside

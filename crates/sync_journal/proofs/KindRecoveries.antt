@@ -11,15 +11,13 @@ HandsOn (Err fault) result = IsErrAnd result (λ told. told ≡ fault)
 module _ {S T : Type 0} where
   ok_still : (r : Result S RecoverFault) (result : Result T RecoverFault) (P : Type 0) → HandsOn r result → OnOk r P → OnOk result P
   ok_still (Ok x) (Ok y) P same p = p
-  ok_still (Ok x) (Err told) P same p = absurd same
-  ok_still (Err fault) (Ok y) P same p = absurd same
   ok_still (Err fault) (Err told) P same p = tt
+  ok_still r result P same p = absurd same
 
   err_was : (r : Result S RecoverFault) (result : Result T RecoverFault) (of : RecoverFault) → HandsOn r result → IsErrOf result of → IsErrOf r of
   err_was (Ok x) (Ok y) of same is = cc
-  err_was (Ok x) (Err told) of same is = absurd same
-  err_was (Err fault) (Ok y) of same is = absurd same
   err_was (Err fault) (Err told) of same is = told_was fault of (Err told) same is
+  err_was r result of same is = absurd same
 
 module _ {D : Type 0} (g : Ghosts D) (journals : Journals) (old new : D) (kind : g.keeps_model old → kind_of (g.content old) ≡ journals) where
   pub recovers_kind : {S : Type 0} (StandsAs : Image → Image → Type 0) (After Settled : Type 0) (r : Result S RecoverFault) (result : Result StoreJournal RecoverFault)

@@ -1,9 +1,8 @@
 -- What gate and map of a store of the layout before say.
-use Rattle.sync_journal.proofs.Names.{◌≡◌, ◌≤◌, ◌<◌, ◌+◌, ℕ, true, false, List, [], ◌++◌, length, take, get_or, Option, Some, None, sym, ap, subst, ◌∙◌, arith, length-take-le, get_or-take, take-append-le, get_or_append_left, MatchOption}
-use Rattle.sync_journal.proofs.Names.{Image}
-use Rattle.sync_journal.specs.{Layout.{Layout, layout_before, home_count_in}, declared.store_journal.Journals.{Journals}, declared.store_journal.Journals.TheVariants.{Single, Paired}, Gate.{is_open}}
-use Rattle.sync_journal.specs.{Map.{home_rank, map_count, home_in, IsBadMap, AreFewHomes, AreNamed, ReadsMap}, Standing.{place_or_home_in, standing_in, map_in, IsBadJournalIn, IsOpenIn}, OldJournal.{StandsAsListed}}
-use Rattle.sync_journal.proofs.{Images.{no_place, closed_place, open_place}, Phases.{not_bad}}
+use Rattle.sync_journal.proofs.{Images.{no_place, closed_place, open_place}, Names.{◌≡◌, ◌≤◌, ◌<◌, ◌+◌, ℕ, true, false, List, [], ◌++◌, length, take, get_or, Option, Some, None, sym, ap, subst, ◌∙◌, arith, length-take-le, get_or-take}}
+use Rattle.sync_journal.{proofs.{Names.{take-append-le, get_or_append_left, MatchOption, Image}, Phases.{not_bad}}, specs.{Gate.{is_open}, Layout.{Layout, layout_before, home_count_in}, Map.{home_rank, map_count, home_in, IsBadMap}}}
+use Rattle.sync_journal.specs.{Map.{AreFewHomes, AreNamed, ReadsMap}, OldJournal.{StandsAsListed}, Standing.{place_or_home_in, standing_in, map_in, IsBadJournalIn, IsOpenIn}, declared.store_journal.Journals.{Journals, TheVariants.{Single}}}
+use Rattle.sync_journal.specs.declared.store_journal.Journals.TheVariants.{Paired}
 
 pub closed_at : (layout : Layout) (image : Image) → is_open image ≡ false → StandsAsListed layout [] image
 closed_at layout image closed = record {

@@ -1,11 +1,9 @@
 -- A recovery of one journal: a sync, a look at gate and map, and a replay.
-use Rattle.sync_journal.proofs.Names.{◌≡◌, ℕ, true, false, List, [], ⊎_elim, if◌then◌else◌, Result, Ok, Err, OnOk, refl, sym, ap, subst, ◌∙◌, arith, on_ok_weaker, IsErr, IsErrOf, Image, MayLeave, AsksOnly, Nothing, LeavesOnly, DiskFault}
-use Rattle.sync_journal.proofs.Names.{Ghosts}
-use Rattle.disk_model.proofs.Moments.{then as and_then, joined, asks_none, asks_then}
-use Rattle.sync_journal.specs.{Layout.{gate_sector, home_count, IsFinished, IsJournalSector, IsRecovered, IsReplayed}, Gate.{closed_gate, closed_sector, is_open}, Map.{AreHomes}, Runs.{RunsOnDevice}}
-use Rattle.sync_journal.specs.{Standing.{map_of, standing_single, IsAskedIn, IsBadSingle, IsOpenFor}, Commit.{HomesStandAs, KeepsHomes, IsSettled}, Steps.{BlamesJournal, MovesHome}, Recovering.{RecoversOne}}
-use Rattle.sync_journal.{specs.{declared.faults.RecoverFault.{RecoverFault}, declared.faults.RecoverFault.TheVariants.{BadJournal}}, proofs.{Asking.{replay_asks}, Runs.{one_more, of_more, read_only, replayed}, Changes.{closed_not_bad}}}
-use Rattle.sync_journal.proofs.{InTurn.{none_are}, Phases.{not_bad, staged_settled}, Replays.{if_ok}, Recoveries.{same_kept, since_first}, Sectors.{same_image, while_read, so_before, so_since}}
+use Rattle.sync_journal.proofs.{Asking.{replay_asks}, Changes.{closed_not_bad}, InTurn.{none_are}, Names.{◌≡◌, ℕ, true, false, List, [], ⊎_elim, if◌then◌else◌, Result, Ok, Err, OnOk, refl, sym, ap, subst, ◌∙◌, arith, on_ok_weaker, IsErr}}
+use Rattle.sync_journal.proofs.{Names.{IsErrOf, Image, MayLeave, AsksOnly, Nothing, LeavesOnly, DiskFault, Ghosts}, Phases.{not_bad, staged_settled}, Recoveries.{same_kept, since_first}, Replays.{if_ok}, Runs.{one_more, of_more, read_only}}
+use Rattle.sync_journal.{proofs.{Runs.{replayed}, Sectors.{same_image, while_read, so_before, so_since}}, specs.{Commit.{HomesStandAs, KeepsHomes, IsSettled}, Gate.{closed_gate, closed_sector, is_open}, Layout.{gate_sector, home_count}}}
+use Rattle.sync_journal.specs.{Layout.{IsFinished, IsJournalSector, IsRecovered, IsReplayed}, Map.{AreHomes}, Recovering.{RecoversOne}, Runs.{RunsOnDevice}, Standing.{map_of, standing_single, IsAskedIn, IsBadSingle, IsOpenFor}}
+use Rattle.{sync_journal.specs.{Steps.{BlamesJournal, MovesHome}, declared.faults.RecoverFault.{RecoverFault, TheVariants.{BadJournal}}}, disk_model.proofs.Moments.{then as and_then, joined, asks_none, asks_then}}
 
 module _ {D : Type 0} (g : Ghosts D) (old read : D) (only_now : g.keeps_model old → (image : Image) → g.left_since old (g.moment old) image → MayLeave (g.content old) (g.unsynced old) image)
     (looks : RunsOnDevice g Nothing old read) where

@@ -1,9 +1,8 @@
 -- The moments of a commit's own part: the pages and the map staged, and the gate opened.
-use Rattle.sync_journal.proofs.Names.{◌≡◌, ◌≢◌, ◌⊎◌, ◌≤◌, ◌<◌, ◌+◌, ◌^◌, ℕ, true, false, List, [], length, get_or, Option, Some, None, refl, sym, ap, ◌∙◌, ⊎_elim, inl, inr, arith, Image, MayLeave, Touches, LeavesOnly, Ghosts, started}
-use Rattle.sync_journal.proofs.Names.{goes_on, weaker}
-use Rattle.sync_journal.specs.{Layout.{gate_sector, home_sector, body_sector, home_count, IsGate, IsJournalSector, IsOutside}, Gate.{is_open, is_open_sector}, Map.{map_bytes, home_rank, map_count, home_in, AreFewHomes, AreHomes, IsBadMap}}
-use Rattle.sync_journal.specs.{Standing.{place_or_home, map_of, standing_single, StandsForPages, IsOpenFor, HoldsPages}, Commit.{sector_or, changed, StandsForEitherPages, IsKept, IsQuiet, IsLive, IsSettled}}
-use Rattle.sync_journal.proofs.{Maps.{counted, named, same_map}, Images.{Means, place_means, standing_closed, standing_open}, Replays.{open_or_closed}, Rests.{live_at_rest}}
+use Rattle.sync_journal.proofs.{Images.{Means, place_means, standing_closed, standing_open}, Maps.{counted, named, same_map}, Names.{◌≡◌, ◌≢◌, ◌⊎◌, ◌≤◌, ◌<◌, ◌+◌, ◌^◌, ℕ, true, false, List, [], length, get_or, Option, Some, None, refl}}
+use Rattle.sync_journal.{proofs.{Names.{sym, ap, ◌∙◌, ⊎_elim, inl, inr, arith, Image, MayLeave, Touches, LeavesOnly, Ghosts, started, goes_on, weaker}, Replays.{open_or_closed}, Rests.{live_at_rest}}, specs.Commit.{sector_or, changed}}
+use Rattle.sync_journal.specs.{Commit.{StandsForEitherPages, IsKept, IsQuiet, IsLive, IsSettled}, Gate.{is_open, is_open_sector}, Layout.{gate_sector, home_sector, body_sector, home_count, IsGate, IsJournalSector, IsOutside}}
+use Rattle.sync_journal.specs.{Map.{map_bytes, home_rank, map_count, home_in, AreFewHomes, AreHomes, IsBadMap}, Standing.{place_or_home, map_of, standing_single, StandsForPages, IsOpenFor, HoldsPages}}
 
 -- the sectors outside are neither the gate nor the journal's
 pub not_gate : (sectors k : ℕ) → IsOutside sectors k → k ≢ gate_sector

@@ -1,6 +1,5 @@
 -- What a recovery keeps.
-use Rattle.sync_journal.proofs.Names.{◌≡◌, ℕ, refl, sym, subst, ◌∙◌, Image, LeavesOnly, Ghosts, weaker}
-use Rattle.sync_journal.specs.{Standing.{standing_single, StandsForPages}, Commit.{IsKept, HomesStandAs, KeepsHomes}}
+use Rattle.sync_journal.{proofs.Names.{◌≡◌, ℕ, refl, sym, subst, ◌∙◌, Image, LeavesOnly, Ghosts, weaker}, specs.{Commit.{IsKept, HomesStandAs, KeepsHomes}, Standing.{standing_single, StandsForPages}}}
 
 -- an image of the same sectors stands for the same
 pub same_kept : (sectors : ℕ) (content image : Image) → image ≡ content → IsKept sectors content (StandsForPages (standing_single content)) image

@@ -1,8 +1,7 @@
 -- The journal of a store taken up as it stands.
-use Rattle.sync_journal.proofs.Names.{◌≡◌, ℕ, Bool, List, refl, sym, ap, subst, ◌∙◌, ⊎_elim, Image, Nothing, Touches, Ghosts}
-use Rattle.sync_journal.specs.{Journal.{live_homes}, Turns.{turn_standing, IsTurnRest, IsTurnSettled}, Kinds.{kind_of, store_standing, IsKindBad, IsBadStore, IsStoreSettled}, declared.turns.TurnJournal.{TurnJournal}}
-use Rattle.sync_journal.specs.{declared.store_journal.Journals.{Journals}, declared.store_journal.Journals.TheVariants.{Paired}, declared.store_journal.StoreJournal.TheVariants.{InTurn}}
-use Rattle.sync_journal.proofs.{InTurn.{turn_same, good_before}, InKinds.{kind_same, two_settled}, Sectors.{same_image, reads_unsynced}}
+use Rattle.sync_journal.proofs.{InKinds.{kind_same, two_settled}, InTurn.{turn_same, good_before}, Names.{◌≡◌, ℕ, Bool, List, refl, sym, ap, subst, ◌∙◌, ⊎_elim, Image, Nothing, Touches, Ghosts}, Sectors.{same_image, reads_unsynced}}
+use Rattle.sync_journal.specs.{Journal.{live_homes}, Kinds.{kind_of, store_standing, IsKindBad, IsBadStore, IsStoreSettled}, Turns.{turn_standing, IsTurnRest, IsTurnSettled}, declared.store_journal.Journals.{Journals, TheVariants.{Paired}}}
+use Rattle.sync_journal.specs.declared.{store_journal.StoreJournal.TheVariants.{InTurn}, turns.TurnJournal.{TurnJournal}}
 
 -- a journal that is bad in the words of its layout
 pub bad_of : (journals : Journals) (sectors : ℕ) (content : Image) → kind_of content ≡ journals → IsKindBad journals sectors content → IsBadStore sectors content

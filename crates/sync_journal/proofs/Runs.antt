@@ -17,12 +17,7 @@ module _ {D : Type 0} (g : Ghosts D) where
 
   -- more sectors
   pub of_more : (W V : ℕ → Type 0) (old new : D) → ((k : ℕ) → W k → V k) → RunsOnDevice g W old new → RunsOnDevice g V old new
-  of_more W V old new more run = record {
-    size = run.size;
-    kept = run.kept;
-    later = run.later;
-    touches = λ h. wider g W V old new more (run.touches h);
-  }
+  of_more W V old new more run = record { size = run.size; kept = run.kept; later = run.later; touches = λ h. wider g W V old new more (run.touches h) }
 
   -- a read or a sync
   pub no_write : (W : ℕ → Type 0) (old new : D) → g.sector_count new ≡ g.sector_count old → (g.keeps_model new → g.keeps_model old)

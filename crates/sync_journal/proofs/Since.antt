@@ -1,7 +1,6 @@
 -- A commit's own part, seen from before the homes of a live journal were written.
-use Rattle.sync_journal.proofs.Names.{◌≡◌, ℕ, List, [], ap, subst, ◌∙◌, ⊎_elim, inl, inr, Image, LeavesOnly, Ghosts, weaker}
-use Rattle.disk_model.proofs.Moments.{joined}
-use Rattle.sync_journal.{specs.{Map.{home_rank}, Standing.{standing_single, StandsForPages}, Commit.{sector_or, changed, StandsForEitherPages, IsKept, IsSettled}}, proofs.Changes.{closed_not_bad}}
+use Rattle.sync_journal.{proofs.{Changes.{closed_not_bad}, Names.{◌≡◌, ℕ, List, [], ap, subst, ◌∙◌, ⊎_elim, inl, inr, Image, LeavesOnly, Ghosts, weaker}}, specs.Commit.{sector_or, changed, StandsForEitherPages, IsKept, IsSettled}}
+use Rattle.{sync_journal.specs.{Map.{home_rank}, Standing.{standing_single, StandsForPages}}, disk_model.proofs.Moments.{joined}}
 
 -- a commit changes the same in the same pages
 pub changed_same : (before since : ℕ → ℕ → List ℕ) (homes : List ℕ) (pages : ℕ → List ℕ) (h i : ℕ) → since h i ≡ before h i

@@ -1,6 +1,5 @@
 -- Stops in a row.
-use Rattle.sync_journal.proofs.Names.{ℕ, zero, suc, subst, Image, Ghosts}
-use Rattle.sync_journal.{specs.{Commit.{HomesStandAs}, Stops.{Recovers, LeftByRecoveries}}, proofs.Recoveries.{same_kept, kept_again}}
+use Rattle.sync_journal.{proofs.{Names.{ℕ, zero, suc, subst, Image, Ghosts}, Recoveries.{same_kept, kept_again}}, specs.{Commit.{HomesStandAs}, Stops.{Recovers, LeftByRecoveries}}}
 
 module _ {D : Type 0} (g : Ghosts D) where
   -- one stop more

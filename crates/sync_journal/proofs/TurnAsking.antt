@@ -1,8 +1,7 @@
 -- Which sectors two journals in turn ask for.
-use Rattle.sync_journal.proofs.Names.{◌≡◌, ◌⊎◌, ◌<◌, ◌≤◌, ℕ, Bool, not, List, [], length, get_or, inl, inr, ⊎_elim, sym, ap, subst, ◌∙◌, arith, Image, Names, NamesOnce, AsksOnly, Ghosts, asks_named, asks_once, asks_then, once_named}
-use Rattle.sync_journal.proofs.Names.{once_apart, once_wider}
-use Rattle.sync_journal.specs.{Layout.{IsPageSector}, Journal.{live_homes}, Turns.{start_of, named_in, turn_body, turn_home, IsTurnSector, IsTurnGate, IsTurnPart, IsTurnCopy, IsTurnUsed, IsTurnAsked, IsTurnAskedIn, IsNamedFor}}
-use Rattle.sync_journal.{specs.declared.turns.TurnJournal.{TurnJournal}, proofs.{Images.{no_place}, InTurn.{start_low, apart, home_high}}}
+use Rattle.sync_journal.proofs.{Images.{no_place}, InTurn.{start_low, apart, home_high}, Names.{◌≡◌, ◌⊎◌, ◌<◌, ◌≤◌, ℕ, Bool, not, List, [], length, get_or, inl, inr, ⊎_elim, sym, ap, subst, ◌∙◌, arith, Image, Names, NamesOnce, AsksOnly}}
+use Rattle.sync_journal.{proofs.Names.{Ghosts, asks_named, asks_once, asks_then, once_named, once_apart, once_wider}, specs.{Journal.{live_homes}, Layout.{IsPageSector}, Turns.{start_of, named_in, turn_body, turn_home, IsTurnSector}}}
+use Rattle.sync_journal.specs.{Turns.{IsTurnGate, IsTurnPart, IsTurnCopy, IsTurnUsed, IsTurnAsked, IsTurnAskedIn, IsNamedFor}, declared.turns.TurnJournal.{TurnJournal}}
 
 -- Over how often each sector had been asked for, at three moments.
 module _ (before now : ℕ → ℕ) (second : Bool) where
@@ -62,8 +61,7 @@ module _ {D : Type 0} (g : Ghosts D) (image : Image) where
           (λ part. inr (inr (omega (arith, some, counts), inl (let moved = subst (λ b. IsTurnPart (not b) 0 k) (sym names.gate) part in (moved.0, omega (arith, moved.1))))))
           (λ copy.
           (let long = names.long in
-          let less = copy.1 in
-          let below : copy.0 < journal.live.count = omega (arith, less, long) in
+          let below : copy.0 < journal.live.count = omega (arith, copy.1, long) in
           inr (inr (
             omega (arith, some, counts),
             inr (

@@ -1,10 +1,9 @@
 -- A recovery of two journals in turn: a sync and a look, and then a commit of no pages.
-use Rattle.sync_journal.proofs.Names.{◌≡◌, ℕ, true, false, [], inl, inr, Result, Ok, Err, OnOk, refl, sym, subst, ◌∙◌, IfOk, IsErr, IsErrOf, Image, MayLeave, AsksOnly, LeavesOnly, Nothing, Touches, DiskFault, Ghosts, asks_none, asks_then}
-use Rattle.disk_model.proofs.Moments.{joined}
-use Rattle.sync_journal.specs.{Journal.{live_homes}, Map.{AreHomes}, Runs.{RunsOnDevice}, Turns.{turn_home_count, turn_standing, IsBadTurn, IsNamedFor, IsTurnAskedIn, IsTurnCommitted, IsTurnRecovered, IsTurnSettled, KeepsTurns, TurnsStandAs}, Blocks.{CommitsInBlocks}}
-use Rattle.sync_journal.specs.{Recovering.{IsNamedLive, EmptiesNamed, RecoversInTurn}, Steps.{BlamesJournal}, declared.faults.RecoverFault.{RecoverFault}, declared.faults.RecoverFault.TheVariants.{BadJournal}}
-use Rattle.sync_journal.specs.declared.turns.TurnJournal.{TurnJournal}
-use Rattle.sync_journal.proofs.{Runs.{one_more, of_more}, InTurn.{turn_same, good_before, turn_since}, InKinds.{recovered_sector}, TurnAsking.{recovery_asks}, Replays.{if_ok}, Sectors.{same_image, while_read, so_before}}
+use Rattle.sync_journal.proofs.{InKinds.{recovered_sector}, InTurn.{turn_same, good_before, turn_since}, Names.{◌≡◌, ℕ, true, false, [], inl, inr, Result, Ok, Err, OnOk, refl, sym, subst, ◌∙◌, IfOk, IsErr, IsErrOf, Image, MayLeave}}
+use Rattle.sync_journal.proofs.{Names.{AsksOnly, LeavesOnly, Nothing, Touches, DiskFault, Ghosts, asks_none, asks_then}, Replays.{if_ok}, Runs.{one_more, of_more}, Sectors.{same_image, while_read, so_before}, TurnAsking.{recovery_asks}}
+use Rattle.sync_journal.specs.{Blocks.{CommitsInBlocks}, Journal.{live_homes}, Map.{AreHomes}, Recovering.{IsNamedLive, EmptiesNamed, RecoversInTurn}, Runs.{RunsOnDevice}, Steps.{BlamesJournal}, Turns.{turn_home_count, turn_standing}}
+use Rattle.sync_journal.specs.{Turns.{IsBadTurn, IsNamedFor, IsTurnAskedIn, IsTurnCommitted, IsTurnRecovered, IsTurnSettled, KeepsTurns, TurnsStandAs}, declared.faults.RecoverFault.{RecoverFault, TheVariants.{BadJournal}}}
+use Rattle.{sync_journal.specs.declared.turns.TurnJournal.{TurnJournal}, disk_model.proofs.Moments.{joined}}
 
 -- What a look after a sync finds stood before the sync.
 module _ {D : Type 0} (g : Ghosts D) (old mid read : D) (syncs : RunsOnDevice g Nothing old mid) (looks : RunsOnDevice g Nothing mid read) where

@@ -1,12 +1,10 @@
 -- The steps of a commit of two journals in turn, and what holds where it ends after one of them. A recovery is a commit of no pages.
-use Rattle.sync_journal.proofs.Names.{◌≡◌, ◌<◌, ℕ, Bool, true, false, not, List, [], length, Result, Ok, Err, OnOk, inl, inr, ◌∙◌, arith, IsErr, IsErrAnd, Image, MayLeave, NamesOnce, LeavesOnly, DiskFault, Ghosts, weaker, wider}
-use Rattle.sync_journal.specs.{Blocks.{CommitsInBlocks}, Commit.{changed}, Committing.{CommitsInTurn}, Journal.{live_homes}, Map.{AreHomes, map_bytes}, Recovering.{EmptiesNamed}, Runs.{RunsOnDevice}, Source.{Asks}, Steps.{SyncsInto}}
-use Rattle.sync_journal.specs.Turns.{named_in, turn_map, turn_home_count, turn_standing, IsTurnSector, IsTurnHome, IsTurnGate, IsTurnPart, IsTurnCopy, IsTurnUsed, IsTurnCommitted, IsTurnStaged, IsTurnKept, TurnStandsForEither, TurnsStandAs, HoldsJournal, AreCopiedBut, IsTurnRest, IsTurnSettled}
-use Rattle.sync_journal.specs.{declared.faults.CommitFault.{CommitFault}, declared.faults.CommitFault.TheVariants.{Device}, declared.turns.TurnJournal.{TurnJournal}}
-use Rattle.sync_journal.specs.declared.source.PageSource.{Ghosts as SourceGhosts}
-use Rattle.sync_journal.proofs.{Causes.{not_source, puts_failed}, Runs.{one_more, of_more}}
-use Rattle.sync_journal.proofs.InTurn.{IsPrepared, NamesOther, prepared, map_stays, copied_since, while_preparing, while_naming, staged_blocks, named_blocks, blocks_weaker, commits_weaker, new_rest, new_settled, body_stays}
-use Rattle.sync_journal.proofs.TurnAsking.{Prepared, part_used, prepared_asks, prepared_used, used_asks, asks_some}
+use Rattle.sync_journal.proofs.{Causes.{not_source, puts_failed}, InTurn.{IsPrepared, NamesOther, prepared, map_stays, copied_since, while_preparing, while_naming, staged_blocks, named_blocks, blocks_weaker, commits_weaker, new_rest}}
+use Rattle.sync_journal.proofs.{InTurn.{new_settled, body_stays}, Names.{◌≡◌, ◌<◌, ℕ, Bool, true, false, not, List, [], length, Result, Ok, Err, OnOk, inl, inr, ◌∙◌, arith, IsErr, IsErrAnd, Image, MayLeave, NamesOnce, LeavesOnly}}
+use Rattle.sync_journal.{proofs.{Names.{DiskFault, Ghosts, weaker, wider}, Runs.{one_more, of_more}, TurnAsking.{Prepared, part_used, prepared_asks, prepared_used, used_asks, asks_some}}, specs.{Blocks.{CommitsInBlocks}, Commit.{changed}}}
+use Rattle.sync_journal.specs.{Committing.{CommitsInTurn}, Journal.{live_homes}, Map.{AreHomes, map_bytes}, Recovering.{EmptiesNamed}, Runs.{RunsOnDevice}, Source.{Asks}, Steps.{SyncsInto}, Turns.{named_in, turn_map, turn_home_count}}
+use Rattle.sync_journal.specs.Turns.{turn_standing, IsTurnSector, IsTurnHome, IsTurnGate, IsTurnPart, IsTurnCopy, IsTurnUsed, IsTurnCommitted, IsTurnStaged, IsTurnKept, TurnStandsForEither, TurnsStandAs, HoldsJournal, AreCopiedBut}
+use Rattle.sync_journal.specs.{Turns.{IsTurnRest, IsTurnSettled}, declared.{faults.CommitFault.{CommitFault, TheVariants.{Device}}, source.PageSource.{Ghosts as SourceGhosts}, turns.TurnJournal.{TurnJournal}}}
 
 -- A commit to homes over the live ones.
 module _ {D : Type 0} (g : Ghosts D) (second : Bool) (live homes : List ℕ) (old : D) where

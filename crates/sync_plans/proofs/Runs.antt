@@ -2,11 +2,8 @@
 use Rattle.sync_plans.proofs.Names.{ℕ, ◌≡◌, List, [], Option, Result, inl, inr, ⊎_elim, refl, sym, ap, subst, ◌∙◌, IfErr-weaker, fun_ext, option_map, home_rank, place_among, stands_under, is_kind, kind_when, store_live, IsKindOutside}
 use Rattle.sync_plans.proofs.Names.{IsOutsideOf, IsStoreRest, StoreJournal, One, InTurn, FileStore, files_of, IsStoreAtRest, PutsHomesOrNone, Directory, StandsFor, StandsAs, IsBadLayout, IsBadJournal, file_info, standing_page}
 use Rattle.sync_plans.proofs.Names.{StandsForEither, OpenFault, IsResumed, IsRefusedFor, Image, LeavesOnly, LeavesNow, Ghosts, weaker, joined, FileInfo, FilePage, bad_layout_moves, same_head, stands_for_itself}
-use Rattle.std.specs.Prelude.{IfErr}
-use Rattle.sync_journal.specs.Commit.{IsAtRest as IsJournalAtRest}
-use Rattle.file_store.specs.declared.faults.OpenFault.TheVariants.{Device as OpenDevice, BadLayout as OpenBadLayout, BadJournal as OpenBadJournal}
-use Rattle.sync_plans.specs.{declared.requests.Refusal.{Refusal}, declared.requests.Refusal.TheVariants.{Device, BadLayout, BadJournal, BadPages, ReadOnly}}
-use Rattle.sync_plans.specs.Requests.{IsKindEmpty, IsClosed, IsStore, KeepsOutside, HasLayout, RefusesImage, RefusesOn}
+use Rattle.sync_plans.specs.{Requests.{IsKindEmpty, IsClosed, IsStore, KeepsOutside, HasLayout, RefusesImage, RefusesOn}, declared.requests.Refusal.{Refusal, TheVariants.{Device, BadLayout, BadJournal, BadPages, ReadOnly}}}
+use Rattle.{std.specs.Prelude.{IfErr}, sync_journal.specs.Commit.{IsAtRest as IsJournalAtRest}, file_store.specs.declared.faults.OpenFault.TheVariants.{Device as OpenDevice, BadLayout as OpenBadLayout, BadJournal as OpenBadJournal}}
 
 module _ {D : Type 0} (g : Ghosts D) (sectors : ℕ) (files : ℕ → Option FileInfo) (before : ℕ → ℕ → List ℕ) (old mid : D) (left : LeavesNow g old (StandsFor sectors files before)) where
   was : StandsFor sectors files before (g.content old)

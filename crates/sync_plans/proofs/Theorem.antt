@@ -1,10 +1,8 @@
 -- From what the store says of a plan as a device to what stops of the calls leave.
-use Rattle.sync_plans.proofs.Names.{ℕ, zero, suc, ◌+◌, if◌then◌else◌, ◌<◌, ◌≤◌, ◌≡◌, ◌≢◌, ◌⊎◌, Bool, true, false, ◌||◌, IsTrue, List, [], ◌∷◌, Option, Some, slice_get, length, inl, inr, ⊎_elim, refl, sym, ap, subst, ◌∙◌, arith, cases_Bool}
-use Rattle.sync_plans.proofs.Names.{cases_lt, false≢true, slice_get_past, slice_get-get_or, get_or, fun_ext, FileInfo, Image, MayLeave, turn_kind, kind_of, Journals, Single, Paired, mark, version_at, mark_of, StandsFor, Unmarked}
-use Rattle.sync_plans.proofs.Names.{StandsForEither}
-use Rattle.sync_plans.specs.{declared.call.Call.{Call}, declared.lent_pages.PageBytes.{PageBytes}, Pages.{bytes_or_none, lent_page}}
-use Rattle.sync_plans.specs.{Plans.{row, written_bytes, is_written, writes_to, is_sync_call, is_left_unsynced, IsLeftUnsynced, image_after, StopLeaves, After, Within}, Device.{label, PlanLeftSince}, Requests.{HasLayout}}
-use Rattle.sync_plans.proofs.Growth.{alike_leaves, alike_image}
+use Rattle.sync_plans.proofs.{Growth.{alike_leaves, alike_image}, Names.{ℕ, zero, suc, ◌+◌, if◌then◌else◌, ◌<◌, ◌≤◌, ◌≡◌, ◌≢◌, ◌⊎◌, Bool, true, false, ◌||◌, IsTrue, List, [], ◌∷◌, Option, Some, slice_get, length, inl, inr, ⊎_elim, refl}}
+use Rattle.sync_plans.proofs.Names.{sym, ap, subst, ◌∙◌, arith, cases_Bool, cases_lt, false≢true, slice_get_past, slice_get-get_or, get_or, fun_ext, FileInfo, Image, MayLeave, turn_kind, kind_of, Journals, Single, Paired, mark, version_at}
+use Rattle.sync_plans.{proofs.Names.{mark_of, StandsFor, Unmarked, StandsForEither}, specs.{Device.{label, PlanLeftSince}, Pages.{bytes_or_none, lent_page}, Plans.{row, written_bytes, is_written, writes_to, is_sync_call, is_left_unsynced}}}
+use Rattle.sync_plans.specs.{Plans.{IsLeftUnsynced, image_after, StopLeaves, After, Within}, Requests.{HasLayout}, declared.{call.Call.{Call}, lent_pages.PageBytes.{PageBytes}}}
 
 -- nothing is left but what was there
 pub nothing_done : (calls : List Call) (rows : List (List ℕ)) (pages : ℕ → List ℕ) (first : Image) (used : ℕ) (c : Image) → used ≡ 0

@@ -1,7 +1,6 @@
 -- Sectors that no listed call writes, and calls that name sources.
-use Rattle.sync_plans.proofs.Names.{ℕ, suc, ◌+◌, ◌<◌, ◌≤◌, ◌≡◌, ◌≢◌, Bool, false, ◌||◌, List, [], Some, slice_get, length, ⊎_elim, sym, ap, subst, ◌∙◌, arith, cases_eq, get_or-set_same, get_or-set_other, length-set, same_Some}
-use Rattle.sync_plans.proofs.Names.{slice_get-get_or, set}
-use Rattle.sync_plans.{specs.{declared.call.Call.{Call}, Plans.{writes_to, is_written, IsCall, AreCalls, AreSources}, Device.{Lists}}, proofs.Growth.{alike_written}}
+use Rattle.sync_plans.proofs.{Growth.{alike_written}, Names.{ℕ, suc, ◌+◌, ◌<◌, ◌≤◌, ◌≡◌, ◌≢◌, Bool, false, ◌||◌, List, [], Some, slice_get, length, ⊎_elim, sym, ap, subst, ◌∙◌, arith, cases_eq, get_or-set_same, get_or-set_other}}
+use Rattle.sync_plans.{proofs.Names.{length-set, same_Some, slice_get-get_or, set}, specs.{Device.{Lists}, Plans.{writes_to, is_written, IsCall, AreCalls, AreSources}, declared.call.Call.{Call}}}
 
 other_call : (calls : List Call) (used k : ℕ) (call : Call) → k ≢ used → k < length calls → slice_get (set calls used call) k ≡ slice_get calls k
 other_call calls used k call other inside =

@@ -1,4 +1,8 @@
 //! Rows of traces that are run, and what comes of them: the replies, what the store's device was asked, and the files that are left.
+use crate::bench::{
+    Armed, CONFIG, Exchange, GOES_ON, PLAIN, SMALL, Setting, asked_after_start, expect_all, image,
+    left_in, left_over, same,
+};
 use crate::evictions::{
     EIGHT_PAGES, EIGHT_PAGES_SHOWN, EIGHT_PAGES_SYNCED, FORTY_LINES, LOOKED_AFTER_AN_MSYNC,
     LOOKED_AFTER_TWO_MSYNCS,
@@ -7,24 +11,24 @@ use crate::{evictions, four_levels, histories, mappings, private_memory, process
 use machine::Config;
 use std::test::Fail;
 use sync_journal::Journals;
-use test_traces::{
-    Armed, CONFIG, PLAIN, SMALL, Setting, asked_after_start, expect, expect_all, expect_file,
-    expect_in, image_of_letters, left_in, same,
-};
 use vm_types::Mode;
 
-/// A trace, and its replies.
-type Exchange = (&'static [u8], &'static [u8]);
-
+/// The file of some rows is a page of the letter A, which may only be read.
 #[test]
 fn traces_are_answered(rt: HostRuntime) -> Result<(), Fail> {
-    expect_all(rt.alloc(), 4096, &private_memory::ROWS)?;
-    expect_all(rt.alloc(), 4096, &processes::ROWS)?;
-    expect_all(rt.alloc(), 4096, &histories::ROWS)?;
-    expect_all(rt.alloc(), 8192, &shared_pages::ROWS)?;
-    expect_all(rt.alloc(), 32768, &mappings::ROWS)?;
+    for (length, rows) in [
+        (4096, private_memory::ROWS.as_slice()),
+        (4096, &processes::ROWS),
+        (4096, &histories::ROWS),
+        (8192, &shared_pages::ROWS),
+        (32768, &mappings::ROWS),
+    ] {
+        expect_all(rt.alloc(), Setting { length, ..PLAIN }, rows)?;
+    }
+    let letters = image(rt.alloc(), Journals::Single, 4096, Some(&[0x41; 4096]))?;
     for exchange in private_memory::LETTERS {
-        expect(rt.alloc(), &image_of_letters(rt.alloc())?, exchange)?;
+        let run = (CONFIG, Armed::Nothing);
+        let _ = left_over(rt.alloc(), &letters, run, exchange, GOES_ON)?;
     }
     Ok(())
 }
@@ -44,18 +48,15 @@ const SV48: Setting = Setting {
 /// Four levels have rows of their own, and so have pages that wait for frames and slots.
 #[test]
 fn machines_of_other_sizes_answer(rt: HostRuntime) -> Result<(), Fail> {
-    for exchange in four_levels::ROWS {
-        expect_in(rt.alloc(), SV48, exchange)?;
-    }
-    expect_in(rt.alloc(), PLAIN, four_levels::IN_THREE_LEVELS)?;
+    expect_all(rt.alloc(), SV48, &four_levels::ROWS)?;
+    expect_all(rt.alloc(), PLAIN, &[four_levels::IN_THREE_LEVELS])?;
     for (config, exchange) in evictions::ROWS {
         let setting = Setting {
             length: 0x8000,
-            journals: Journals::Single,
             config,
-            armed: Armed::Nothing,
+            ..PLAIN
         };
-        expect_in(rt.alloc(), setting, exchange)?;
+        expect_all(rt.alloc(), setting, &[exchange])?;
     }
     Ok(())
 }
@@ -69,19 +70,19 @@ const FEW_FRAMES: Setting = Setting {
 };
 
 /// Maps the first page of the file and stores a byte.
-const STORED: Exchange = (
+const STORED: Exchange<'static> = (
     b"spawn\nmmap 1 0 4096 rw- shared 0 0\nstore 1 0x10000 1 0x5a\n",
     b"pid 1\naddr 0x10000\nok\n",
 );
 
 /// The same, and syncs that page.
-const STORED_AND_SYNCED: Exchange = (
+const STORED_AND_SYNCED: Exchange<'static> = (
     b"spawn\nmmap 1 0 4096 rw- shared 0 0\nstore 1 0x10000 1 0x5a\nmsync 1 0x10000 4096 sync\n",
     b"pid 1\naddr 0x10000\nok\nok\n",
 );
 
 /// Two mappings of one page are one page of an msync: through either, both see the byte, and it is committed once.
-const MAPPED_TWICE: Exchange = (
+const MAPPED_TWICE: Exchange<'static> = (
     b"spawn\nmmap 1 0 4096 rw- shared 0 0\nmmap 1 0x11000 4096 rw- shared 0 0\nstore 1 0x11000 1 7\n\
 load 1 0x10000 1\nmsync 1 0x10000 0x2000 sync\n",
     b"pid 1\naddr 0x10000\naddr 0x11000\nok\nvalue 0x07\nok\n",
@@ -107,7 +108,7 @@ const IN_TURN: Setting = Setting {
 };
 
 /// Two pages, each in an msync of its own, and then both.
-const PAGES_IN_TURN: Exchange = (
+const PAGES_IN_TURN: Exchange<'static> = (
     b"spawn\nmmap 1 0 0x2000 rw- shared 0 0\nstore 1 0x10000 1 1\nmsync 1 0x10000 0x2000 sync\n\
 store 1 0x11000 1 2\nmsync 1 0x10000 0x2000 sync\nstore 1 0x10000 1 3\nstore 1 0x11000 1 4\n\
 msync 1 0x10000 0x2000 sync\n",
@@ -118,7 +119,7 @@ msync 1 0x10000 0x2000 sync\n",
 /// body, eight of the map, and the gate, with two syncs; before it comes what a journal that is live still owes to the homes, which takes
 /// two syncs more, or with two journals in turn none. Those owe nothing to a home that is taken again. Pages that are given up are never
 /// written home.
-const ASKED: [(Setting, Exchange, (u64, u64)); 16] = [
+const ASKED: [(Setting, Exchange<'static>, (u64, u64)); 16] = [
     (PLAIN, (b"", b""), (0, 0)),
     (PLAIN, STORED, (0, 0)),
     (PLAIN, STORED_AND_SYNCED, (17, 2)),
@@ -160,7 +161,7 @@ fn the_store_is_asked_for_no_more(rt: HostRuntime) -> Result<(), Fail> {
 }
 
 /// A file of 5,000 bytes: what is stored past its end is gone with the next msync.
-const PAST_THE_END: Exchange = (
+const PAST_THE_END: Exchange<'static> = (
     b"spawn\nmmap 1 0 12288 rw- shared 0 0\nstore 1 0x11387 1 0xaa\nload 1 0x11388 1\n\
 store 1 0x11388 1 0xbb\nload 1 0x11388 1\nload 1 0x12000 1\nmsync 1 0x10000 12288 sync\nload 1 0x11388 1\n\
 load 1 0x11387 1\n",
@@ -172,7 +173,7 @@ value 0xaa\n",
 const SHOW: &[u8] = b"spawn\nmmap 1 0 4096 r-- shared 0 0\nload 1 0x10000 8\n";
 
 /// A trace, and one on the next machine, which sees what the first has synced.
-const NEXT: [(Setting, Exchange, Exchange); 5] = [
+const NEXT: [(Setting, Exchange<'static>, Exchange<'static>); 5] = [
     (
         PLAIN,
         STORED,
@@ -212,31 +213,12 @@ msync 1 0x10000 4096 sync\n",
     (FEW_FRAMES, EIGHT_PAGES_SYNCED, EIGHT_PAGES_SHOWN),
 ];
 
-/// A trace, and what the pages of the file begin with after a stop; all else is zeros.
-const LEFT: [(Setting, Exchange, &[&[u8]]); 2] = [
-    // What another process stored is made durable as well, and is touched anew by its next store.
-    (
-        PLAIN,
-        (
-            b"spawn\nspawn\nmmap 1 0 4096 rw- shared 0 0\nmmap 2 0 4096 rw- shared 0 0\nstore 1 0x10000 1 0x0a\n\
-store 2 0x10001 1 0x0b\nmsync 1 0x10000 4096 sync\nstore 2 0x10001 1 0x0c\nmsync 1 0x10000 4096 sync\n",
-            b"pid 1\npid 2\naddr 0x10000\naddr 0x10000\nok\nok\nok\nok\nok\n",
-        ),
-        &[b"\x0a\x0c"],
-    ),
-    // Touched pages that were given up are in swap, and none is home.
-    (FEW_FRAMES, EIGHT_PAGES, &[]),
-];
-
 #[test]
-fn the_next_machine_and_a_stop_have_what_was_synced(rt: HostRuntime) -> Result<(), Fail> {
+fn the_next_machine_has_what_was_synced(rt: HostRuntime) -> Result<(), Fail> {
     for (setting, exchange, shown) in NEXT {
-        let disk = left_in(rt.alloc(), setting, exchange)?;
-        expect(rt.alloc(), &disk, shown)?;
-    }
-    for (setting, exchange, starts) in LEFT {
-        let disk = left_in(rt.alloc(), setting, exchange)?;
-        expect_file(rt.alloc(), &disk, 0, starts)?;
+        let disk = left_in(rt.alloc(), setting, exchange, GOES_ON)?;
+        let run = (CONFIG, Armed::Nothing);
+        let _ = left_over(rt.alloc(), &disk, run, shown, GOES_ON)?;
     }
     Ok(())
 }

@@ -1,6 +1,6 @@
 //! Traces that need more pages than memory has frames, and their replies: frames are given up, and their pages come back from swap.
+use crate::bench::{CONFIG, SMALL};
 use machine::Config;
-use test_traces::{CONFIG, SMALL};
 use vm_types::Mode;
 
 /// Two objects of shared anonymous memory, of which the first outlives the process that mapped it, and a third one begins with zeros.

@@ -4,11 +4,11 @@
 #[cfg(test)]
 mod answers;
 #[cfg(test)]
+mod bench;
+#[cfg(test)]
 mod evictions;
 #[cfg(test)]
 mod failing_devices;
-#[cfg(test)]
-mod files;
 #[cfg(test)]
 mod four_levels;
 #[cfg(test)]

@@ -1,11 +1,11 @@
 //! Runs over readers and writers that fail on the way, or count their calls.
+use crate::bench::{same, streamed};
 use runner::{RunEnd, WriteFault, write_bytes};
 use std::alloc::Global;
 use std::test::Fail;
 use test_streams::{
     Calls, CountedReader, CountedWriter, FailingReader, Full, InterruptedReader, LimitedWriter,
 };
-use test_traces::{expect_end, same, streamed};
 
 /// What comes once a reader has given its bytes.
 #[derive(Clone, Copy)]
@@ -89,7 +89,8 @@ fn a_failing_stream_ends_the_run(rt: HostRuntime) -> Result<(), Fail> {
     for ((trace, input), (each, room, full), ending, taken) in STREAMS {
         let mut writer = LimitedWriter::new(rt.alloc(), each, room, full);
         let end = streamed_from(rt.alloc(), trace, input, &mut writer)?;
-        expect_end(end, ending, writer.taken.as_slice(), taken)?;
+        same("replies", writer.taken.as_slice(), taken)?;
+        same("end", end, ending)?;
     }
     Ok(())
 }
@@ -118,29 +119,22 @@ const SIXTEEN_FAULTS: &[u8] =
 load 1 0x5 1\nload 1 0x6 1\nload 1 0x7 1\nload 1 0x8 1\nload 1 0x9 1\nload 1 0xa 1\nload 1 0xb 1\nload 1 0xc 1\n\
 load 1 0xd 1\nload 1 0xe 1\nload 1 0xf 1\nfaults\n";
 
-/// Sees that a run comes to its end that reads so many bytes a call, and how many bytes its writer had taken before each read.
-fn expect_taken_before_reads(
-    alloc: Global,
-    trace: &[u8],
-    each: usize,
-    calls: &Calls,
-    wanted: &[usize],
-) -> Result<(), Fail> {
-    let mut reader = CountedReader::new(alloc, trace, each, calls);
-    let mut writer = CountedWriter::new(1000, calls);
-    let end = streamed(alloc, &mut reader, &mut writer)?;
-    same("taken before reads", reader.taken_before.as_slice(), wanted)?;
-    same("end", end, RunEnd::Done)
-}
-
 /// A history has seventeen lines, and goes to the writer in one call, as the reply to any other line does.
 #[test]
 fn a_history_is_one_call_of_the_writer(rt: HostRuntime) -> Result<(), Fail> {
     let calls = Calls::new();
-    // Two lines, then a load a call, and then the line that asks for the history.
+    // How much was taken before each read: of two lines, then of a load a call, and then of the line that asks for the history.
     let taken = [
         0, 15, 40, 65, 90, 115, 140, 165, 190, 215, 240, 265, 290, 315, 340, 365, 390, 415, 841,
     ];
-    expect_taken_before_reads(rt.alloc(), SIXTEEN_FAULTS, 13, &calls, &taken)?;
+    let mut reader = CountedReader::new(rt.alloc(), SIXTEEN_FAULTS, 13, &calls);
+    let mut writer = CountedWriter::new(1000, &calls);
+    let end = streamed(rt.alloc(), &mut reader, &mut writer)?;
+    same(
+        "taken before reads",
+        reader.taken_before.as_slice(),
+        taken.as_slice(),
+    )?;
+    same("end", end, RunEnd::Done)?;
     same("writes", calls.writes.get(), 18)
 }

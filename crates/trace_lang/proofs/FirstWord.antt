@@ -1,11 +1,9 @@
 -- Words that are read off the front of a text.
 use Rattle.std.proofs.Common.{◌≡◌, ◌≢◌, ◌==◌, if◌then◌else◌, Bool, true, false, lit<, ℕ, suc, ◌+◌, ◌-◌, ◌<◌, ◌≤◌, ◌^◌, eqb, List, [], ◌∷◌, ◌++◌, length, get_or, take, drop, codes, Option, inr, refl, sym, ◌∙◌, ap, subst, arith}
-use Rattle.std.proofs.{Math.Seq.{split_at}, lemmas.List.{take_rest, length-take-le}, lemmas.List.Splits.{slice_split_none, slice_split_at}}
-use Rattle.std.specs.{List.{join_with_byte}, Str.Parse.{AllDigits, digits_value}}
-use Rattle.trace_lang.specs.{Grammar.{HasNoSpace, IsMode, IsNumber, IsPermission, letter_or_dash}, Names.{ReadsWords}, Words.{words_of, BeginsWith, BeginsWithDigits}}
-use Rattle.trace_lang.proofs.{OneNumber.{number_no_space, one_number}, Spaces.{no_cut, no_space-cons, words_joined}}
-use Rattle.vm_types.specs.{declared.command.Command.{Command}, declared.command.MsyncMode.{MsyncMode}, declared.command.MsyncMode.TheVariants.{Sync, Async}, Width.{byte_count}, declared.width.Width.{Width}, declared.width.Width.TheVariants.{One, Two, Four, Eight}}
-use Rattle.vm_types.specs.declared.permission.Prot.{Prot}
+use Rattle.std.{proofs.{Math.Seq.{split_at}, lemmas.List.{take_rest, length-take-le, Splits.{slice_split_none, slice_split_at}}}, specs.{List.{join_with_byte}, Str.Parse.{AllDigits, digits_value}}}
+use Rattle.trace_lang.{proofs.{OneNumber.{number_no_space, one_number}, Spaces.{no_cut, no_space-cons, words_joined}}, specs.{Grammar.{HasNoSpace, IsMode, IsNumber, IsPermission, letter_or_dash}, Names.{ReadsWords}, Words.{words_of}}}
+use Rattle.{trace_lang.specs.Words.{BeginsWith, BeginsWithDigits}, vm_types.specs.{Width.{byte_count}, declared.{command.{Command.{Command}, MsyncMode.{MsyncMode, TheVariants.{Sync, Async}}}, permission.Prot.{Prot}, width.Width.{Width}}}}
+use Rattle.vm_types.specs.declared.width.Width.TheVariants.{One, Two, Four, Eight}
 
 -- a text that is cut at a space; the last part is how `&text[at + 1..]` reads
 pub cut_at : (text : List ℕ) (at : ℕ) → at < length text → get_or text at 0 ≡ 32 → text ≡ take at text ++ 32 ∷ take (length text - (at + 1)) (drop (at + 1) text)
@@ -87,9 +85,8 @@ Reads (v ∷ vs) rest text = (mid : List ℕ) × BeginsWith v mid text × Reads 
 -- the words write the numbers
 abbrev pub AreNumbers : List (List ℕ) → List ℕ → Type 0
 AreNumbers [] [] = Unit {0}
-AreNumbers [] (n ∷ ns) = ⊥
-AreNumbers (p ∷ ps) [] = ⊥
 AreNumbers (p ∷ ps) (n ∷ ns) = IsNumber p n × AreNumbers ps ns
+AreNumbers ps ns = ⊥
 
 -- the numbers that were read are those that the first words write, and the rest has the other words
 pub steps : (vs : List ℕ) (rest text : List ℕ) → Reads vs rest text → (ps others : List (List ℕ)) (ns : List ℕ) → length vs ≡ length ns
@@ -115,9 +112,8 @@ one_alone word rest text e plain = let P : List ℕ → Type 0 = λ t. HasNoSpac
 -- the first word is the one before the first space
 pub same_front : (n : ℕ) (rest text word others : List ℕ) → BeginsWith n rest text → text ≡ word ++ 32 ∷ others → HasNoSpace word → IsNumber word n
 same_front n rest text word others h e plain =
-    let same = sym (front_words n rest text h) ∙ cut_words text word others e plain in
     let P : List ℕ → Type 0 = λ t. IsNumber t n in
-    subst P (ap (λ ws. get_or ws 0 []) same) h.2
+    subst P (ap (λ ws. get_or ws 0 []) (sym (front_words n rest text h) ∙ cut_words text word others e plain)) h.2
 
 -- a text begins with the digits before its first space
 pub begins_with_digits : (radix : ℕ) (text rest : List ℕ) (at n : ℕ) → text ≡ take at text ++ 32 ∷ rest → 0 < at → at ≤ length text → AllDigits radix (take at text)
@@ -134,8 +130,7 @@ hexadecimal_text (a ∷ b ∷ more) long zero x =
     ap (λ t. t ∷ b ∷ more) zero ∙ ap (λ t. 48 ∷ t ∷ more) x ∙ ap (λ t. codes "0x" ++ t) (sym (take_rest (a ∷ b ∷ more) 2))
 
 pub hexadecimal_front : (n : ℕ) (rest digits text : List ℕ) → text ≡ codes "0x" ++ digits → BeginsWithDigits 16 n rest digits → BeginsWith n rest text
-hexadecimal_front n rest digits text e h =
-    (codes "0x" ++ h.0, e ∙ ap (λ ds. codes "0x" ++ ds) h.1, record { written = inr (h.0, refl, h.2, h.3); fits = h.4 })
+hexadecimal_front n rest digits text e h = (codes "0x" ++ h.0, e ∙ ap (λ ds. codes "0x" ++ ds) h.1, record { written = inr (h.0, refl, h.2, h.3); fits = h.4 })
 
 -- the width of so many bytes
 abbrev width_with : ℕ → Width
@@ -143,9 +138,7 @@ width_with n = if n == 1 then One else if n == 2 then Two else if n == 4 then Fo
 
 counted : (w : Width) → width_with (byte_count w) ≡ w
 counted One = refl
-counted Two = refl
-counted Four = refl
-counted Eight = refl
+counted w = refl
 
 -- widths of as many bytes are the same
 pub one_width : (a b : Width) → byte_count a ≡ byte_count b → b ≡ a

@@ -1,9 +1,8 @@
 -- Hexadecimal digits, by the number of them and without leading zeros.
-use Rattle.std.proofs.Common.{◌≡◌, ℕ, zero, suc, ◌+◌, ◌-◌, ◌*◌, ◌/◌, ◌%◌, ◌<◌, ◌≤◌, ◌^◌, ◌⊎◌, inl, inr, Bool, true, false, ◌&&◌, T, eqb, eqb-true, eqb→eq, eq-zero-or-pos, get_or, List, [], ◌∷◌, ◌++◌, take, drop, set, length, refl, sym, ◌∙◌, ap, lit<, append_assoc, if◌then◌else◌, arith}
-use Rattle.std.proofs.{Math.Nat.{one-le-pow, pow-le-pow_right, pow-succ'}, lemmas.Nat.{pow-add}, Math.Seq.{take-set-lt}, lemmas.List.{append-nil, drop-set, length-set, length-take-le, take-append-drop, take-take}}
+use Rattle.std.proofs.Common.{◌≡◌, ℕ, zero, suc, ◌+◌, ◌-◌, ◌*◌, ◌/◌, ◌%◌, ◌<◌, ◌≤◌, ◌^◌, ◌⊎◌, inl, inr, Bool, true, false, ◌&&◌, T, eqb, eqb-true, eqb→eq, eq-zero-or-pos, get_or, List, [], ◌∷◌, ◌++◌, take, drop, set, length, refl, sym, ◌∙◌}
+use Rattle.std.proofs.{Common.{ap, lit<, append_assoc, if◌then◌else◌, arith}, Math.{Nat.{one-le-pow, pow-le-pow_right, pow-succ'}, Seq.{take-set-lt}}, lemmas.List.{append-nil, drop-set, length-set, length-take-le, take-append-drop}}
+use Rattle.{std.{proofs.lemmas.{List.{take-take}, Nat.{pow-add}}, specs.Fmt.{digits, digits_onto, digit_glyph}}, trace_lang.specs.{Texts.{hex_digits}, declared.output.TheConstants.{PAIRS}}}
 use lib.Ieee.Fits.{and_l, and_r}
-use Rattle.std.specs.Fmt.{digits, digits_onto, digit_glyph}
-use Rattle.trace_lang.specs.{Texts.{hex_digits}, declared.output.TheConstants.{PAIRS}}
 
 power_up : (k : ℕ) → 2 ^ (4 * suc k) ≡ 2 ^ (4 * k) * 16
 power_up k = let e : 4 * suc k ≡ 4 * k + 4 = omega arith in ap (λ x. 2 ^ x) e ∙ pow-add 2 (4 * k) 4

@@ -7,5 +7,4 @@ mod OneName
 mod OneCommand
 mod OneNumber
 mod FirstWord
-pub mod Lines
 mod Nothing

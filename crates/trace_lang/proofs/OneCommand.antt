@@ -1,8 +1,7 @@
 -- The words of a line stand for one command at most, whose name the first word is.
-use Rattle.std.proofs.Common.{◌≡◌, ℕ, List, [], Option, Some, None, IfSome, get_or, subst, sym, ◌∙◌, ap}
-use Rattle.trace_lang.{specs.{Grammar.{IsForm}, Names.{name_text, ReadsWords}, declared.names.Name.{Name}}, proofs.OneName.{same_name, OnlyOf}}
+use Rattle.{std.proofs.Common.{◌≡◌, ℕ, List, [], Option, Some, None, IfSome, get_or, subst, sym, ◌∙◌, ap}, trace_lang.{proofs.OneName.{same_name, OnlyOf}, specs.{Grammar.{IsForm}, Names.{name_text, ReadsWords}, declared.names.Name.{Name}}}}
+use Rattle.vm_types.specs.declared.command.Command.{Command, TheVariants.{Spawn, Fork, Exit, Mmap, Munmap, Mprotect, Dontneed, Msync, Load, Store, Fetch, PastFaults}}
 use Rattle.trace_lang.specs.declared.names.Name.TheVariants as name
-use Rattle.vm_types.specs.{declared.command.Command.{Command}, declared.command.Command.TheVariants.{Spawn, Fork, Exit, Mmap, Munmap, Mprotect, Dontneed, Msync, Load, Store, Fetch, PastFaults}}
 
 abbrev pub form_name : Command → Name
 form_name Spawn = name.Spawn
@@ -27,17 +26,14 @@ begins ws Spawn h = ap first h
 begins ws (Fork pid) h = ap first h.1
 begins ws (Exit pid) h = ap first h.1
 begins ws (Mmap pid addr len prot source placing) h = ap first h.5
-begins ws (Munmap pid addr len) h = ap first h.3
 begins ws (Mprotect pid addr len prot) h = ap first h.4
-begins ws (Dontneed pid addr len) h = ap first h.3
 begins ws (Msync pid addr len mode) h = ap first h.4
-begins ws (Load pid addr width) h = ap first h.3
 begins ws (Store pid addr stored) h = ap first h.4
 begins ws (Fetch pid addr) h = ap first h.2
 begins ws PastFaults h = ap first h
+begins ws command h = ap first h.3
 
 at_name : (ws : List (List ℕ)) (r : Option Command) (command : Command) → IsForm ws command → OnlyOf (form_name command) ws r → r ≡ Some command
-at_name ws r Spawn h only = only h
 at_name ws r (Fork pid) h only = only pid h
 at_name ws r (Exit pid) h only = only pid h
 at_name ws r (Mmap pid addr len prot source placing) h only = only pid addr len prot source placing h
@@ -48,7 +44,7 @@ at_name ws r (Msync pid addr len mode) h only = only pid addr len mode h
 at_name ws r (Load pid addr width) h only = only pid addr width h
 at_name ws r (Store pid addr stored) h only = only pid addr stored h
 at_name ws r (Fetch pid addr) h only = only pid addr h
-at_name ws r PastFaults h only = only h
+at_name ws r command h only = only h
 
 -- what was read of a form of the name, where it is the one command of that form
 pub stands : (n : Name) (ws : List (List ℕ)) (r : Option Command) → first ws ≡ name_text n → IfSome r (λ command. IsForm ws command) → OnlyOf n ws r → ReadsWords ws r

@@ -1,8 +1,7 @@
 -- A word is one name at most.
-use Rattle.std.proofs.Common.{◌≡◌, ℕ, List, get_or, ◌+◌, ◌*◌, ◌==◌, if◌then◌else◌, Option, Some, refl, sym, ◌∙◌, ap}
-use Rattle.trace_lang.specs.{Grammar.{IsForm}, Names.{name_text}, declared.names.Name.{Name}, declared.names.Name.TheVariants.{Spawn, Fork, Exit, Mmap, Munmap, Mprotect, Dontneed, Msync, Load, Store, Fetch, Faults}}
-use Rattle.vm_types.specs.{declared.access.StoredValue.{StoredValue}, declared.command.Command.{Command}, declared.command.MapSource.{MapSource}, declared.command.MsyncMode.{MsyncMode}, declared.command.Placing.{Placing}}
-use Rattle.vm_types.specs.{declared.permission.Prot.{Prot}, declared.width.Width.{Width}}
+use Rattle.{std.proofs.Common.{◌≡◌, ℕ, List, get_or, ◌+◌, ◌*◌, ◌==◌, if◌then◌else◌, Option, Some, refl, sym, ◌∙◌, ap}, trace_lang.specs.{Grammar.{IsForm}, Names.{name_text}, declared.names.Name.{Name, TheVariants.{Spawn, Fork, Exit}}}}
+use Rattle.{trace_lang.specs.declared.names.Name.TheVariants.{Mmap, Munmap, Mprotect, Dontneed, Msync, Load, Store, Fetch, Faults}, vm_types.specs.declared.{access.StoredValue.{StoredValue}, command.Command.{Command}}}
+use Rattle.vm_types.specs.declared.{command.{MapSource.{MapSource}, MsyncMode.{MsyncMode}, Placing.{Placing}}, permission.Prot.{Prot}, width.Width.{Width}}
 use Rattle.vm_types.specs.declared.command.Command.TheVariants as command
 
 -- a number of the first two bytes, by which all names differ
@@ -18,17 +17,7 @@ of_key k =
 
 named : (n : Name) → of_key (key (name_text n)) ≡ n
 named Spawn = refl
-named Fork = refl
-named Exit = refl
-named Mmap = refl
-named Munmap = refl
-named Mprotect = refl
-named Dontneed = refl
-named Msync = refl
-named Load = refl
-named Store = refl
-named Fetch = refl
-named Faults = refl
+named n = refl
 
 -- names differ
 pub same_name : (a b : Name) → name_text a ≡ name_text b → a ≡ b

@@ -1,7 +1,6 @@
 -- A word writes one number at most, and no space stands in it.
-use Rattle.std.proofs.Common.{◌≡◌, ◌≢◌, ℕ, zero, suc, ◌<◌, ◌≤◌, List, [], ◌∷◌, drop, inl, inr, sym, ◌∙◌, ap, subst, arith}
-use Rattle.std.specs.{Char.{digit_value}, Str.Parse.{AllDigits, digits_value}}
-use Rattle.trace_lang.{specs.Grammar.{HasNoSpace, IsHexadecimal, IsNumber}, proofs.Spaces.{no_space-cons}}
+use Rattle.{std.{proofs.Common.{◌≡◌, ◌≢◌, ℕ, zero, suc, ◌<◌, ◌≤◌, List, [], ◌∷◌, drop, inl, inr, sym, ◌∙◌, ap, subst, arith}, specs.{Char.{digit_value}, Str.Parse.{AllDigits, digits_value}}}, trace_lang.proofs.Spaces.{no_space-cons}}
+use Rattle.trace_lang.specs.Grammar.{HasNoSpace, IsHexadecimal, IsNumber}
 
 digit_no_space : (radix b : ℕ) → radix ≤ 16 → digit_value b < radix → b ≢ 32
 digit_no_space radix b small h e = let P : ℕ → Type 0 = λ x. digit_value x < radix in let at : digit_value 32 < radix = subst P e h in omega (arith, at)
@@ -29,10 +28,7 @@ not_decimal text n all hex =
 
 pub one_number : (text : List ℕ) (a b : ℕ) → IsNumber text a → IsNumber text b → a ≡ b
 one_number text a b ha hb = elim ha.written [
-  | inl p ↦ elim hb.written [
-    | inl q ↦ sym p.1 ∙ q.1
-    | inr q ↦ absurd (not_decimal text b p.0.1 q)
-  ]
+  | inl p ↦ elim hb.written [ inl q ↦ sym p.1 ∙ q.1 | inr q ↦ absurd (not_decimal text b p.0.1 q) ]
   | inr p ↦ elim hb.written [
     | inl q ↦ absurd (not_decimal text a q.0.1 p)
     | inr q ↦ sym p.3 ∙ ap (λ ds. digits_value 16 ds) (ap (λ t. drop 2 t) (sym p.1 ∙ q.1)) ∙ q.3

@@ -13,6 +13,5 @@ one_or_more (a ∷ more) d n = ap (λ t. a.now ∷ texts t) (sym (take_all (leng
 
 pub two_or_more : (ws : List (Bor (List ℕ))) (d : Bor (List ℕ)) → 2 ≤ length ws
     → texts ws ≡ (get_or ws 0 d).now ∷ (get_or ws 1 d).now ∷ texts (take (length ws - 2) (drop 2 ws))
-two_or_more [] d n = absurd (omega arith)
-two_or_more (a ∷ []) d n = absurd (omega arith)
 two_or_more (a ∷ b ∷ more) d n = ap (λ t. a.now ∷ b.now ∷ texts t) (sym (take_all (length (a ∷ b ∷ more) - 2) more (omega arith)))
+two_or_more ws d n = absurd (omega arith)

@@ -1,7 +1,6 @@
 -- Numerals digit by digit.
-use Rattle.std.proofs.Common.{◌≡◌, ℕ, zero, suc, ◌+◌, ◌*◌, ◌<◌, ◌≤◌, ◌^◌, List, [], ◌∷◌, length, get_or, take, Bool, false, ◌==◌, Option, None, SomeIff, sym, ◌∙◌, ap, subst, arith}
-use Rattle.std.proofs.{Math.Nat.{mul_comm, mul-le-mul_right, pow-le-pow_right, pow-succ'}, lemmas.Int.Digits.{digits_value_more}, lemmas.Str.Parse.{digits_value-take-le}}
-use Rattle.std.specs.{Char.{digit_value}, Str.Parse.{AllDigits, digits_value}}
+use Rattle.std.proofs.{Common.{◌≡◌, ℕ, zero, suc, ◌+◌, ◌*◌, ◌<◌, ◌≤◌, ◌^◌, List, [], ◌∷◌, length, get_or, take, Bool, false, ◌==◌, Option, None, SomeIff, sym, ◌∙◌, ap, subst, arith}, Math.Nat.{mul_comm, mul-le-mul_right, pow-le-pow_right}}
+use Rattle.std.{proofs.{Math.Nat.{pow-succ'}, lemmas.{Int.Digits.{digits_value_more}, Str.Parse.{digits_value-take-le}}}, specs.{Char.{digit_value}, Str.Parse.{AllDigits, digits_value}}}
 
 -- each digit of a numeral is below the radix
 pub digit_below : (radix : ℕ) (ds : List ℕ) (i byte : ℕ) → byte ≡ get_or ds i 0 → AllDigits radix ds → i < length ds → digit_value byte < radix

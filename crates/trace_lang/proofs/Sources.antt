@@ -1,6 +1,5 @@
 -- What a mapping stands on, by the first of the words after its permission and by the others.
-use Rattle.std.proofs.Common.{◌≡◌, ℕ, List, [], ◌∷◌, ◌++◌, get_or, drop, Option, Some, sym, ◌∙◌, ap, subst}
-use Rattle.vm_types.specs.{declared.command.MapSource.{MapSource}, declared.command.MapSource.TheVariants.{Anon, Private, Shared, Common}, declared.command.Placing.{Placing}}
+use Rattle.{std.proofs.Common.{◌≡◌, ℕ, List, [], ◌∷◌, ◌++◌, get_or, drop, Option, Some, sym, ◌∙◌, ap, subst}, vm_types.specs.declared.command.{MapSource.{MapSource, TheVariants.{Anon, Private, Shared, Common}}, Placing.{Placing}}}
 use Rattle.trace_lang.specs.{Grammar.{IsBack, IsPlacing}, Names.{ReadsAfter, source_text}, declared.names.SourceName.{SourceName}}
 use Rattle.trace_lang.specs.declared.names.SourceName.TheVariants as name
 
@@ -13,10 +12,9 @@ name_in (Shared file offset) = name.Shared
 -- the first word is the name of the source
 pub begins : (ws rest : List (List ℕ)) (w : List ℕ) (s : MapSource) (p : Placing) → ws ≡ w ∷ rest → IsBack ws s p → w ≡ source_text (name_in s)
 unfolding name_in
-begins ws rest w Anon p whole h = ap (λ t. get_or t 0 []) (sym whole ∙ h.2 ∙ ap (λ s. s ++ h.1) h.3)
-begins ws rest w Common p whole h = ap (λ t. get_or t 0 []) (sym whole ∙ h.2 ∙ ap (λ s. s ++ h.1) h.3)
 begins ws rest w (Private file offset) p whole h = ap (λ t. get_or t 0 []) (sym whole ∙ h.2 ∙ ap (λ s. s ++ h.1) h.3.2)
 begins ws rest w (Shared file offset) p whole h = ap (λ t. get_or t 0 []) (sym whole ∙ h.2 ∙ ap (λ s. s ++ h.1) h.3.2)
+begins ws rest w o p whole h = ap (λ t. get_or t 0 []) (sym whole ∙ h.2 ∙ ap (λ s. s ++ h.1) h.3)
 
 -- what was read of the others is what all the words say
 pub read_after : (ws rest : List (List ℕ)) (w : List ℕ) (s : MapSource) (p : Placing) (r : Option (MapSource × Placing)) → ws ≡ w ∷ rest

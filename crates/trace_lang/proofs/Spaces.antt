@@ -1,10 +1,8 @@
 -- The words of a line are what stands between its spaces.
 use Rattle.std.proofs.{Common.{◌≡◌, ◌≢◌, ℕ, zero, suc, ◌<◌, ◌≤◌, Bool, false, eqb, ne_eqb, List, [], ◌∷◌, length, get_or, All, length-append, refl, sym, ◌∙◌, ap, subst, inl, inr, arith}, lemmas.Bool.{cases_eq}}
-use Rattle.std.proofs.lemmas.List.Splits.{slice_split-cons_yes, slice_split-cons_no, slice_split_none, slice_split_at, join_with_byte-slice_split}
-use Rattle.std.specs.List.{onto_first, join_with_byte}
-use Rattle.trace_lang.specs.{Grammar.{HasNoSpace, IsBack, IsCommand, IsForm, IsPlacing, IsSource, IsWords}, Words.{words_of}}
-use Rattle.vm_types.specs.{declared.command.Command.{Command}, declared.command.Command.TheVariants.{Spawn, Fork, Exit, Mmap, Munmap, Mprotect, Dontneed, Msync, Load, Store, Fetch, PastFaults}, declared.command.MapSource.{MapSource}}
-use Rattle.vm_types.specs.{declared.command.MapSource.TheVariants.{Anon, Private, Shared, Common}, declared.command.Placing.{Placing}, declared.command.Placing.TheVariants.{Hint, Fixed, NoReplace}}
+use Rattle.{std.{proofs.lemmas.List.Splits.{slice_split-cons_yes, slice_split-cons_no, slice_split_none, slice_split_at, join_with_byte-slice_split}, specs.List.{onto_first, join_with_byte}}, trace_lang.specs.Grammar.{HasNoSpace, IsBack}}
+use Rattle.{trace_lang.specs.{Grammar.{IsCommand, IsForm, IsPlacing, IsSource, IsWords}, Words.{words_of}}, vm_types.specs.declared.command.Command.{Command, TheVariants.{Spawn, Fork, Exit, Mmap, Mprotect, Msync, Store, Fetch, PastFaults}}}
+use Rattle.vm_types.specs.declared.command.{MapSource.{MapSource, TheVariants.{Private, Shared}}, Placing.{Placing, TheVariants.{Hint}}}
 
 pub no_space-cons : (b : ℕ) (word : List ℕ) → b ≢ 32 → HasNoSpace word → HasNoSpace (b ∷ word)
 no_space-cons b word h all zero d l = h
@@ -51,33 +49,27 @@ some_words : (n : ℕ) (words others : List (List ℕ)) → words ≡ others →
 some_words n words others e l = let m = ap length e ∙ l in omega (arith, m)
 
 source_words : (words : List (List ℕ)) (source : MapSource) → IsSource words source → length words ≤ 3
-source_words words Anon h = let m = ap length h in omega (arith, m)
-source_words words Common h = let m = ap length h in omega (arith, m)
 source_words words (Private file offset) h = let m = ap length h.2 in omega (arith, m)
 source_words words (Shared file offset) h = let m = ap length h.2 in omega (arith, m)
+source_words words source h = let m = ap length h in omega (arith, m)
 
 placing_words : (words : List (List ℕ)) (placing : Placing) → IsPlacing words placing → length words ≤ 1
 placing_words words Hint h = let m = ap length h in omega (arith, m)
-placing_words words Fixed h = let m = ap length h in omega (arith, m)
-placing_words words NoReplace h = let m = ap length h in omega (arith, m)
+placing_words words placing h = let m = ap length h in omega (arith, m)
 
 source_some : (words : List (List ℕ)) (source : MapSource) → IsSource words source → 0 < length words
-source_some words Anon h = some_words 0 words _ h refl
-source_some words Common h = some_words 0 words _ h refl
 source_some words (Private file offset) h = some_words 2 words _ h.2 refl
 source_some words (Shared file offset) h = some_words 2 words _ h.2 refl
+source_some words source h = some_words 0 words _ h refl
 
 -- some word stands behind a permission
 pub back_some : (words : List (List ℕ)) (source : MapSource) (placing : Placing) → IsBack words source placing → 0 < length words
-back_some words source placing h =
-    let m = ap length h.2 ∙ length-append h.0 h.1 in
-    let n = source_some h.0 source h.3 in omega (arith, m, n)
+back_some words source placing h = let n = source_some h.0 source h.3 in omega (arith, ap length h.2 ∙ length-append h.0 h.1, n)
 
 -- four words at most stand behind a permission
 pub back_words : (words : List (List ℕ)) (source : MapSource) (placing : Placing) → IsBack words source placing → length words ≤ 4
 back_words words source placing h =
-    let m = ap length h.2 ∙ length-append h.0 h.1 in
-    let n = source_words h.0 source h.3 in let o = placing_words h.1 placing h.4 in omega (arith, m, n, o)
+    let n = source_words h.0 source h.3 in let o = placing_words h.1 placing h.4 in omega (arith, ap length h.2 ∙ length-append h.0 h.1, n, o)
 
 -- a form has a word
 form_words : (words : List (List ℕ)) (command : Command) → IsForm words command → 0 < length words
@@ -85,14 +77,12 @@ form_words words Spawn h = some_words 0 words _ h refl
 form_words words (Fork pid) h = some_words 1 words _ h.1 refl
 form_words words (Exit pid) h = some_words 1 words _ h.1 refl
 form_words words (Mmap pid addr len prot source placing) h = let m = ap length h.5 in omega (arith, m)
-form_words words (Munmap pid addr len) h = some_words 3 words _ h.3 refl
 form_words words (Mprotect pid addr len prot) h = some_words 4 words _ h.4 refl
-form_words words (Dontneed pid addr len) h = some_words 3 words _ h.3 refl
 form_words words PastFaults h = some_words 0 words _ h refl
 form_words words (Msync pid addr len mode) h = some_words 4 words _ h.4 refl
-form_words words (Load pid addr width) h = some_words 3 words _ h.3 refl
 form_words words (Store pid addr stored) h = some_words 4 words _ h.4 refl
 form_words words (Fetch pid addr) h = some_words 2 words _ h.2 refl
+form_words words command h = some_words 3 words _ h.3 refl
 
 pub same_words : (line : List ℕ) (command : Command) (h : IsCommand line command) → words_of line ≡ h.words
 same_words line command h = words_of_line line h.words h.parted (form_words h.words command h.form)

@@ -1,7 +1,5 @@
 -- What is true of the sizes of both modes.
-use Rattle.std.proofs.Common.{◌≡◌, ℕ, ◌+◌, ◌≤◌, ◌<◌, ◌^◌, ◌⊎◌, Bool, true, false, inl, inr, refl, arith}
-use Rattle.std.specs.Prelude.{◌==◌}
-use Rattle.vm_types.specs.Limits.{top_level, table_entries, user_start, user_end, widest_end}
+use Rattle.{std.{proofs.Common.{◌≡◌, ℕ, ◌+◌, ◌≤◌, ◌<◌, ◌^◌, ◌⊎◌, Bool, true, false, inl, inr, refl, arith}, specs.Prelude.{◌==◌}}, vm_types.specs.Limits.{top_level, table_entries, user_start, user_end, widest_end}}
 
 by_bool : (b : Bool) → (b ≡ true) ⊎ (b ≡ false)
 by_bool true = inl refl
@@ -10,10 +8,7 @@ by_bool false = inr refl
 -- a mode has three levels or four
 pub two_modes : (mode : ℕ) → ((top_level mode ≡ 2) × (user_end mode ≡ 2 ^ 26)) ⊎ ((top_level mode ≡ 3) × (user_end mode ≡ 2 ^ 35))
 unfolding top_level user_end
-two_modes mode = elim (by_bool (mode == 39)) [
-  | inl is ↦ inl (rw is (refl, refl))
-  | inr is ↦ inr (rw is (refl, refl))
-]
+two_modes mode = elim (by_bool (mode == 39)) [ inl is ↦ inl (rw is (refl, refl)) | inr is ↦ inr (rw is (refl, refl)) ]
 
 pub record Sizes (mode : ℕ) : Type 0 where
   pub levels : (2 ≤ top_level mode) × (top_level mode ≤ 3)
@@ -28,7 +23,4 @@ sizes mode = elim (two_modes mode) [
 
 -- the tables of a mode have a place for each of its user pages, in their lower half
 pub user_pages_fit : (mode : ℕ) → user_end mode + user_end mode ≡ table_entries ^ (top_level mode + 1)
-user_pages_fit mode = elim (two_modes mode) [
-  | inl three ↦ rw (three.0, three.1) refl
-  | inr four ↦ rw (four.0, four.1) refl
-]
+user_pages_fit mode = elim (two_modes mode) [ inl three ↦ rw (three.0, three.1) refl | inr four ↦ rw (four.0, four.1) refl ]

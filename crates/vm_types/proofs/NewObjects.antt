@@ -1,21 +1,8 @@
 -- The number of a new object is one that no process uses, since processes have fewer runs than there are numbers to try.
-use Rattle.std.proofs.Common.{◌≡◌, ◌≢◌, ℕ, zero, suc, inl, inr, ◌+◌, ◌*◌, ◌<◌, ◌≤◌, ◌^◌, Bool, true, false, not, ◌||◌, ◌==◌, Option, Some, None, refl, sym, ap, ◌∙◌, arith, eqb-true, eq-eqb, ne_eqb}
-use Rattle.std.proofs.lemmas.Bool.{cases_eq, cases_lt, cases_Bool, false≢true, true≢false, and_parts}
-use Rattle.vm_types.specs.{declared.region.Attr.{Attr}, declared.region.Backing.{Backing}, declared.region.Backing.TheVariants.{Anon, Private, Shared, Common}, Attributes.{attr_after, backing_after, backing_eq}}
-use Rattle.vm_types.specs.{Counting.{any_below, count_below, sum_below}, Limits.{named_limit, object_limit, user_end, widest_end}, Objects.{Maps, uses, is_of_object, is_used, least_from, free_object}}
-use Rattle.vm_types.{specs.Runs.{begins, begins_run, runs_below, run_count}, proofs.{Modes.{sizes}, Naming.{any-at}}}
-
-least-below : (passes : ℕ → Bool) (n count : ℕ) → least_from passes n count ≤ n + count
-unfolding least_from
-least-below passes n zero = omega arith
-least-below passes n (suc count) = let rest = least-below passes (n + 1) count in elim (cases_Bool (passes n)) [
-  | inl t ↦ rw t (omega (arith, rest))
-  | inr f ↦ rw f (omega arith)
-]
-
--- the number fits the 16 bits that it has
-pub free-below : (maps : Maps) → free_object maps < 2 ^ 16
-free-below maps = let most = least-below (is_used maps) 0 named_limit in omega (arith, most)
+use Rattle.std.proofs.{Common.{◌≡◌, ◌≢◌, ℕ, zero, suc, inl, inr, ◌+◌, ◌*◌, ◌<◌, ◌≤◌, Bool, true, false, not, ◌||◌, ◌==◌, Option, Some, None, refl, sym, ap, ◌∙◌, arith, eqb-true, eq-eqb, ne_eqb}, lemmas.Bool.{cases_eq, cases_lt, cases_Bool}}
+use Rattle.{std.proofs.lemmas.Bool.{false≢true, true≢false, and_parts}, vm_types.{proofs.{Modes.{sizes}, Naming.{any-at}}, specs.{Attributes.{attr_after, backing_after, backing_eq}, Counting.{any_below, count_below, sum_below}}}}
+use Rattle.vm_types.specs.{Limits.{named_limit, object_limit, user_end, widest_end}, Objects.{Maps, uses, is_of_object, is_used, least_from, free_object}, Runs.{begins, begins_run, runs_below, run_count}, declared.region.Attr.{Attr}}
+use Rattle.vm_types.specs.declared.region.Backing.{Backing, TheVariants.{Anon, Private, Shared, Common}}
 
 -- where one of the numbers doesn't pass, the one that is found doesn't
 pub least-clear : (passes : ℕ → Bool) (n count k : ℕ) → n ≤ k → k ≤ n + count → passes k ≡ false → passes (least_from passes n count) ≡ false
@@ -26,27 +13,12 @@ least-clear passes n (suc count) k from within clear = elim (cases_Bool (passes 
   | inr f ↦ rw f f
 ]
 
--- every number below it passes
-pub least-least : (passes : ℕ → Bool) (n count k : ℕ) → n ≤ k → k < least_from passes n count → passes k ≡ true
-unfolding least_from
-least-least passes n zero k from below = absurd (omega (arith, from, below))
-least-least passes n (suc count) k from below = elim (cases_Bool (passes n)) [
-  | inl t ↦ elim (cases_eq k n) [
-    | inl e ↦ ap passes e ∙ t
-    | inr ne ↦ (let less = rw t at below in least-least passes (n + 1) count k (omega (arith, from, ne)) less)
-  ]
-  | inr f ↦ (let less = rw f at below in absurd (omega (arith, from, less)))
-]
-
 count-or : (f g : ℕ → Bool) (n : ℕ) → count_below (λ k. f k || g k) n ≤ count_below f n + count_below g n
 unfolding count_below
 count-or f g zero = omega arith
 count-or f g (suc n) = let rest = count-or f g n in elim (cases_Bool (f n)) [
   | inl t ↦ rw t (omega (arith, rest))
-  | inr f' ↦ elim (cases_Bool (g n)) [
-    | inl t ↦ rw (f', t) (omega (arith, rest))
-    | inr g' ↦ rw (f', g') (omega (arith, rest))
-  ]
+  | inr f' ↦ elim (cases_Bool (g n)) [ inl t ↦ rw (f', t) (omega (arith, rest)) | inr g' ↦ rw (f', g') (omega (arith, rest)) ]
 ]
 
 count-le : (f g : ℕ → Bool) (n : ℕ) → ((k : ℕ) → f k ≡ true → g k ≡ true) → count_below f n ≤ count_below g n
@@ -54,10 +26,7 @@ unfolding count_below
 count-le f g zero all = omega arith
 count-le f g (suc n) all = let rest = count-le f g n all in elim (cases_Bool (f n)) [
   | inl t ↦ rw (t, all n t) (omega (arith, rest))
-  | inr f' ↦ elim (cases_Bool (g n)) [
-    | inl t ↦ rw (f', t) (omega (arith, rest))
-    | inr g' ↦ rw (f', g') (omega (arith, rest))
-  ]
+  | inr f' ↦ elim (cases_Bool (g n)) [ inl t ↦ rw (f', t) (omega (arith, rest)) | inr g' ↦ rw (f', g') (omega (arith, rest)) ]
 ]
 
 count-none : (f : ℕ → Bool) (n : ℕ) → ((k : ℕ) → f k ≡ false) → count_below f n ≡ 0
@@ -123,9 +92,7 @@ objects-runs map (suc n) =
     let rest = objects-runs map n in
     elim (cases_Bool (begins_run map n)) [
       | inl t ↦ (
-          let either = count-or (uses (map n)) (λ o. any_below (λ k. uses (map k) o) n) object_limit in
-          let one = count-uses (map n) object_limit in
-          rw t (omega (arith, rest, either, one)))
+          rw t (omega (arith, rest, count-or (uses (map n)) (λ o. any_below (λ k. uses (map k) o) n) object_limit, count-uses (map n) object_limit)))
       | inr f ↦ (
           let fewer = count-le (λ o. uses (map n) o || any_below (λ k. uses (map k) o) n) (λ o. any_below (λ k. uses (map k) o) n) object_limit (λ o is. was n f o is) in
           rw f (omega (arith, rest, fewer)))
@@ -145,10 +112,8 @@ objects-all : (maps : Maps) (n : ℕ) → count_below (λ o. any_below (λ p. an
 unfolding any_below sum_below
 objects-all maps zero = let none = count-none (λ o. any_below (λ p. any_below (λ k. uses (maps p k) o) widest_end) zero) object_limit (λ o. refl) in omega (arith, none)
 objects-all maps (suc n) =
-    let rest = objects-all maps n in
-    let one = objects-runs (maps n) widest_end in
     let either = count-or (λ o. any_below (λ k. uses (maps n k) o) widest_end) (λ o. any_below (λ p. any_below (λ k. uses (maps p k) o) widest_end) n) object_limit in
-    omega (arith, rest, one, either)
+    omega (arith, objects-all maps n, objects-runs (maps n) widest_end, either)
 
 -- no run begins where no page is mapped
 runs-end : (map : ℕ → Option Attr) (n m : ℕ) → n ≤ m → ((page : ℕ) → n ≤ page → map page ≡ None) → runs_below map m ≡ runs_below map n
@@ -181,8 +146,7 @@ pub free-unused : (mode : ℕ) (maps : Maps) → ((page : ℕ) → maps 0 page �
     → ((p : ℕ) → run_count mode (maps p) ≤ 256) → is_used maps (free_object maps) ≡ false
 unfolding is_used run_count
 free-unused mode maps none high most =
-    let all = objects-all maps 65 in
     let sum = sum-most (λ p. runs_below (maps p) widest_end) 64 (runs-none (maps 0) widest_end none)
     (λ p. let same = runs-end (maps p) (user_end mode) widest_end (sizes mode).most (high p) in let few = most p in omega (arith, same, few)) in
-    let free = count-free (is_used maps) object_limit (omega (arith, all, sum)) in
+    let free = count-free (is_used maps) object_limit (omega (arith, objects-all maps 65, sum)) in
     least-clear (is_used maps) 0 named_limit free.0 (omega arith) (let below = free.1 in omega (arith, below)) free.2

@@ -1,10 +1,9 @@
 -- Shared anonymous memory as processes see it: a store of one is seen by the others, a fork shares and doesn't copy, what another process
 -- still names stays, and a new object shows zeros.
-use Rattle.std.proofs.{Common.{◌≡◌, ℕ, zero, suc, inl, inr, ◌<◌, ◌≤◌, ◌||◌, Bool, true, false, List, Option, Some, None, refl, sym, ap, ◌∙◌, eq-eqb}, lemmas.Bool.{cases_Bool, false≢true, and_parts}}
-use Rattle.vm_types.specs.{declared.object.ObjectPage.{ObjectPage}, declared.region.Attr.{Attr}, declared.region.Backing.{Backing}, declared.region.Backing.TheVariants.{Anon, Private, Shared, Common}, Access.{with_shown_bytes}}
-use Rattle.vm_types.specs.{Counting.{any_below}, Limits.{user_end, widest_end}, Mapping.{new_object, with_mapping}}
-use Rattle.vm_types.specs.{Objects.{Maps, maps_of, names, uses, is_object_page, is_of_object, is_named, is_used, named_objects, with_object, free_object}, Processes.{forked}, Ranges.{without_row}, Runs.{run_count}}
-use Rattle.vm_types.{specs.{State.{State, behind, copy_or_behind, or_zeros, shown}, View.{View, zero_page}}, proofs.{Naming.{any-at}, NewObjects.{free-unused}}}
+use Rattle.{std.proofs.{Common.{◌≡◌, ℕ, zero, suc, inl, inr, ◌<◌, ◌≤◌, ◌||◌, Bool, true, false, List, Option, Some, None, refl, sym, ap, ◌∙◌, eq-eqb}, lemmas.Bool.{cases_Bool, false≢true, and_parts}}, vm_types.proofs.Naming.{any-at}}
+use Rattle.vm_types.{proofs.NewObjects.{free-unused}, specs.{Access.{with_shown_bytes}, Counting.{any_below}, Limits.{user_end, widest_end}, Mapping.{new_object, with_mapping}, Objects.{Maps, maps_of, names, uses, is_object_page}}}
+use Rattle.vm_types.specs.{Objects.{is_of_object, is_named, is_used, named_objects, with_object, free_object}, Processes.{forked}, Ranges.{without_row}, Runs.{run_count}, State.{State, behind, copy_or_behind, or_zeros, shown}, View.{View}}
+use Rattle.vm_types.specs.{View.{zero_page}, declared.{object.ObjectPage.{ObjectPage}, region.{Attr.{Attr}, Backing.{Backing, TheVariants.{Anon, Private, Shared, Common}}}}}
 
 -- a page of an object shows the object's bytes
 pub shows-object : (s : State) (v : View) (p : ObjectPage) → v.own ≡ None → v.attr.backing ≡ Common p → shown s v ≡ or_zeros (s.objects p.object p.page)

@@ -1,7 +1,5 @@
 -- How the way to a page goes on.
-use Rattle.std.proofs.Common.{◌≡◌, ℕ, ◌+◌, Option, Some, None}
-use Rattle.std.specs.Prelude.{IfSome}
-use Rattle.inspection.specs.{Machines.{memory_of, Tells}, Walks.{IsNextStep, IsStep, IsStepOfSome}, declared.walks.Step.{Step}}
+use Rattle.{std.{proofs.Common.{◌≡◌, ℕ, ◌+◌, Option, Some, None}, specs.Prelude.{IfSome}}, inspection.specs.{Machines.{memory_of, Tells}, Walks.{IsNextStep, IsStep, IsStepOfSome}, declared.walks.Step.{Step}}}
 use Rattle.machine.specs.declared.machine.Machine.{Machine}
 
 -- what is told after a step of some process is so of each that has it

@@ -1,7 +1,5 @@
-use Rattle.std.proofs.{Common.{◌≡◌, inl, sym, ◌∙◌, rules}, lemmas.Result.{IfErr-weaker}}
-use Rattle.disk_model.proofs.Moments.{started}
-use Rattle.file_store.specs.Commit.{StandsForEither}
-use Rattle.batches.specs.declared.commits.BatchFault.TheVariants.{Device, BadPages, ReadOnly}
+use Rattle.{std.proofs.{Common.{◌≡◌, inl, sym, ◌∙◌, rules}, lemmas.Result.{IfErr-weaker}}, disk_model.proofs.Moments.{started}, file_store.specs.Commit.{StandsForEither}, batches.specs.declared.commits.BatchFault.TheVariants.{Device}}
+use Rattle.batches.specs.declared.commits.BatchFault.TheVariants.{BadPages, ReadOnly}
 use Rattle.batches.proofs.commits.commit_pages.Goals as goal
 
 pub returns-in-Ok-clause-refused : goal.returns-in-Ok-clause-refused

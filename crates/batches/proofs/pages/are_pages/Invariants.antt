@@ -1,6 +1,4 @@
-use Rattle.std.proofs.Common.{◌≡◌, ◌<◌, ℕ, Some, slice_get}
-use Rattle.vm_types.specs.declared.file.FilePage.{FilePage}
-use Rattle.file_store.specs.{Standing.{IsPageOf}, Store.{files_of}}
+use Rattle.{std.proofs.Common.{◌≡◌, ◌<◌, ℕ, Some, slice_get}, vm_types.specs.declared.file.FilePage.{FilePage}, file_store.specs.{Standing.{IsPageOf}, Store.{files_of}}}
 use Rattle.batches.proofs.pages.are_pages.Given as goal
 
 abbrev pub invariant-loop-i : goal.invariant-loop-i

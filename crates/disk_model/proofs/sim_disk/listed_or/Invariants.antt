@@ -1,5 +1,4 @@
-use Rattle.disk_model.proofs.Names.{◌≡◌, drop}
-use Rattle.disk_model.specs.Plan.{first_listed}
+use Rattle.disk_model.{proofs.Names.{◌≡◌, drop}, specs.Plan.{first_listed}}
 use Rattle.disk_model.proofs.sim_disk.listed_or.Given as goal
 
 abbrev pub invariant-loop-k : goal.invariant-loop-k

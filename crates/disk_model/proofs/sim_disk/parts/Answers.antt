@@ -1,5 +1,4 @@
-use Rattle.disk_model.proofs.Names.{ap, ◌∙◌, ◌/◌, [], get_or, first_chunks}
-use Rattle.disk_model.proofs.Pages.{chunk_at}
+use Rattle.disk_model.proofs.{Names.{ap, ◌∙◌, ◌/◌, [], get_or, first_chunks}, Pages.{chunk_at}}
 use Rattle.disk_model.proofs.sim_disk.parts.Goals as goal
 
 pub returns-clause-len : goal.returns-clause-len

@@ -1,6 +1,6 @@
 use Rattle.fault.proofs.Names.{user_end, Fine, FrameNo, Phys, Stall, ℕ, refl, Ok, Err, Result, ◌/◌, ◌<◌, sym, ap, ◌∙◌, subst, Core, picture_of}
-use Rattle.fault.specs.declared.refusal.AccessRefusal.TheVariants as Refusal
 use Rattle.fault.{specs.{Outcome.{seen_at}, Serving.{Reaches, Serves}}, proofs.{Serving.{reaches_stall, tends_none}, Ready.{placed_made, grants_made, page_user}, Wanted.{root_live, walked_same, no_walk}}}
+use Rattle.fault.specs.declared.refusal.AccessRefusal.TheVariants as Refusal
 use Rattle.fault.proofs.accesses.access.Goals as goal
 
 pub returns-in-Place : goal.returns-in-Place
@@ -49,11 +49,11 @@ returns-in_err-frame-in-Page g c =
     let found = c.in-Page.ensures.found in
     let stall = c.in_err-frame-in-Page.field-0.0 in
     let failed : Result FrameNo Stall = Err stall in
-    let M : Core g.row.D.Denot g.row.E.Denot g.row.M.Denot g.M.Levels → Type 0 = λ m. Serves g.D.SectorDisk g.E.SectorDisk m after pid c.in-Page.page attr access failed in
+    let M : Core g.row.D.Denot g.row.E.Denot g.row.M.Denot g.M.Levels → Type 0 = λ m. Serves g.D.SectorDisk g.E.SectorDisk m after pid c.in-Page.way.page attr access failed in
     let P : ℕ → Type 0 = λ x. Serves g.D.SectorDisk g.E.SectorDisk before after pid x attr access failed in
     let serves = subst P found.page_is (subst M c.find.ensures.same c.in_err-frame-in-Page.ensures) in
     reaches_stall g.D.SectorDisk g.E.SectorDisk before after pid addr c.args.width access c.from_residual.result stall c.from_residual.ensures.1 serves.tends
-    (λ place walked. found.unwalked walked.root place walked.lives walked.place) (record { seen = seen_at old pid c.in-Page.page attr; fine = found.fine; stalled = serves.stalled })
+    (λ place walked. found.unwalked walked.root place walked.lives walked.place) (record { seen = seen_at old pid c.in-Page.way.page attr; fine = found.fine; stalled = serves.stalled })
 
 pub returns-in_ok-frame-in-Page : goal.returns-in_ok-frame-in-Page
 returns-in_ok-frame-in-Page g c =
@@ -69,7 +69,7 @@ returns-in_ok-frame-in-Page g c =
     let found = c.in-Page.ensures.found in
     let frame = c.in_ok-frame-in-Page.frame in
     let here : Result FrameNo Stall = Ok frame in
-    let M : Core g.row.D.Denot g.row.E.Denot g.row.M.Denot g.M.Levels → Type 0 = λ m. Serves g.D.SectorDisk g.E.SectorDisk m after pid c.in-Page.page attr access here in
+    let M : Core g.row.D.Denot g.row.E.Denot g.row.M.Denot g.M.Levels → Type 0 = λ m. Serves g.D.SectorDisk g.E.SectorDisk m after pid c.in-Page.way.page attr access here in
     let P : ℕ → Type 0 = λ x. Serves g.D.SectorDisk g.E.SectorDisk before after pid x attr access here in
     let serves = subst P found.page_is (subst M c.find.ensures.same c.in_ok-frame-in-Page.ensures) in
     let fine = found.fine ∙ ap (λ k. Fine (seen_at old pid k attr)) found.page_is in
@@ -79,7 +79,7 @@ returns-in_ok-frame-in-Page g c =
     (record {
       tends = serves.tends;
       placed = placed_made old new pid root.0 addr width access attr frame.0 serves.proceeds.fit (serves.proceeds.spaces.root pid ∙ root.1)
-          (subst R found.page_is (page_user old pid c.in-Page.page attr c.requires.fit found.allowed.mapped).1) fine serves.entered;
+          (subst R found.page_is (page_user old pid c.in-Page.way.page attr c.requires.fit found.allowed.mapped).1) fine serves.entered;
       walked = λ place walked. absurd (found.unwalked walked.root place walked.lives walked.place);
       granted = λ trusted. grants_made old new pid addr width access attr frame.0 fine (serves.ready trusted);
       counts = serves.counts;

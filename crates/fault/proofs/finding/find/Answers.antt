@@ -1,8 +1,8 @@
 use Rattle.fault.proofs.Names.{top_level, FrameNo, Phys, byte_count, Faults, page_verdict, IsErr, IfSome, MatchOption, WalkFault, translated, ◌≡◌, ◌%◌, Option, Some, None, Result, Ok, refl, sym, ap, ◌∙◌, subst, ◌<◌, length, false≢true}
 use Rattle.fault.proofs.Names.{same_Some, props, picture_of, view, Core, IsSound-prop, AreBounded-prop, FrameTable, IsSound, frame_count, files_of, AreBounded, slots_of}
+use Rattle.fault.{specs.Found.{IsOpenTo}, proofs.{Ready.{grants_found, finds_fine, finds_fault, verdict-outside}, Wanted.{root_lives}}}
 use Rattle.vm_types.specs.declared.mode.Levels as Levels
 use Rattle.page_cache.specs.CacheTable as CacheTable
-use Rattle.fault.{specs.Found.{IsOpenTo}, proofs.{Ready.{grants_found, finds_fine, finds_fault, verdict-outside}, Wanted.{root_lives}}}
 use Rattle.fault.proofs.finding.find.Goals as goal
 
 -- Memory is the same where its frames are.
@@ -74,7 +74,7 @@ pub returns-in-Ok-clause-found : goal.returns-in-Ok-clause-found
 returns-in-Ok-clause-found g c =
     let aligned : c.args.addr % byte_count c.args.width ≡ 0 = ap (λ w. c.args.addr % w) (sym (c.from.ensures ∙ c.bytes.ensures)) ∙ c.if-addr-from-ne0.false in
     let old = picture_of c.args.core.now in
-    finds_fine old c.args.pid c.args.addr c.args.width c.args.access c.in-Some.page c.in-Some.ensures.found aligned c.in-Ok.attr (record { root = c.root_of-root.result; table = c.in-Fault.table })
+    finds_fine old c.args.pid c.args.addr c.args.width c.args.access (record { page = c.in-Some.page; root = c.root_of-root.result; table = c.in-Fault.table }) c.in-Some.ensures.found aligned c.in-Ok.attr
     (λ root phys lives walked. err_not_ok _ phys (c.in-Fault.ensures.walked.0 c.args.addr (sym c.in-Some.ensures.found))
     (ap (λ r. translated (top_level g.M.Levels.mode) c.args.core.now.frames r c.args.addr c.args.access) (same_Some c.root_of-root.result.0 root (sym c.root_of-root.ensures ∙ lives)) ∙ walked))
     (record { root = c.root_of-root.ensures; table = named _ _ c.in-Fault.table c.in-Fault.ensures.walked.1 })

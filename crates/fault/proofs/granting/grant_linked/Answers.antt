@@ -1,6 +1,5 @@
-use Rattle.residency.specs.Picture.{is_swapped}
-use Rattle.fault.{specs.{Asking.{IsSectorOfCopy}, Serving.{Serves}, SpotServing.{MayServeAt}, Wants.{ForSlot}}, proofs.{Forms.{mapped_page}, SwapSteps.{swapped_page}, Entered.{swapped_entered, swapped_ready, swapped_stalled}}}
-use Rattle.fault.proofs.{Names.{inl, None, sym, ap, ◌∙◌, subst, Access, picture_of}, Serving.{tends_moved}, AccessSteps.{counts_done}}
+use Rattle.{residency.specs.Picture.{is_swapped}, fault.proofs.{AccessSteps.{counts_done}, Entered.{swapped_entered, swapped_ready, swapped_stalled}, Forms.{mapped_page}, Names.{inl, None, sym, ap, ◌∙◌, subst, Access, picture_of}}}
+use Rattle.fault.{proofs.{Serving.{tends_moved}, SwapSteps.{swapped_page}}, specs.{Asking.{IsSectorOfCopy}, Serving.{Serves}, SpotServing.{MayServeAt}, Wants.{ForSlot}}}
 use Rattle.fault.proofs.granting.grant_linked.Goals as goal
 
 pub swap_in-requires : goal.swap_in-requires

@@ -1,6 +1,5 @@
-use Rattle.fault.proofs.Names.{◌≢◌, ℕ, Ok, sym, ap, ◌∙◌, subst, arith, rules, frame_of, Picture, picture_of, entry}
-use Rattle.fault.{specs.Serving.{Serves}, proofs.{Forms.{mapped_page, used_inside, resident_used, seat_zero, behind_of}, Steps.{seen_then}, Entered.{read_ready, read_entered}}}
-use Rattle.fault.proofs.{Serving.{may_bring, shows_at, serves_entered, serves_away, stands_brought, open_brought, none_brought, tends_shown}, AccessSteps.{counts_then, counts_calm}}
+use Rattle.fault.proofs.{AccessSteps.{counts_then, counts_calm}, Entered.{read_ready, read_entered}, Forms.{mapped_page, used_inside, resident_used, seat_zero, behind_of}, Names.{◌≢◌, ℕ, Ok, sym, ap, ◌∙◌, subst, arith, rules, frame_of}}
+use Rattle.fault.{proofs.{Names.{Picture, picture_of, entry}, Serving.{may_bring, shows_at, serves_entered, serves_away, stands_brought, open_brought, none_brought, tends_shown}, Steps.{seen_then}}, specs.Serving.{Serves}}
 use Rattle.fault.proofs.granting.grant_read.Goals as goal
 
 pub regrant-requires : goal.regrant-requires

@@ -1,5 +1,4 @@
-use Rattle.fault.proofs.Names.{refl, sym, ap, ◌∙◌, subst, false≢true, Backing, picture_of, IsBehind}
-use Rattle.residency.specs.Picture.{is_private}
+use Rattle.{fault.proofs.Names.{refl, sym, ap, ◌∙◌, subst, false≢true, Backing, picture_of, IsBehind}, residency.specs.Picture.{is_private}}
 use Rattle.fault.proofs.granting.grant_store.Goals as goal
 
 pub grant_own-requires-clause-in_memory : goal.grant_own-requires-clause-in_memory

@@ -1,7 +1,6 @@
-use Rattle.fault.proofs.Names.{inl, inr, Option, None, refl, sym, ap, ◌∙◌, subst, rules, IsSome, Attr, Nothing, IsFull, picture_of, IsWhole}
-use Rattle.fault.proofs.{Forms.{mapped_page}, WaySteps.{links_on}, AccessAsking.{asks_less, asks_back, tables_out}, Linked.{open_still, calm_back, read_back, away_back, ready_back, brings_back, stalled_back, stalled_tables}}
-use Rattle.fault.proofs.{Serving.{serves_stall}, AccessSlotted.{slotted_none, slotted_back}, AccessSteps.{proceeds_moves, proceeds_after, brings_none, on_ok_then, counts_then}, Wanted.{root_live, root_lives, whole_or}}
-use Rattle.fault.specs.Wants.{ForTable, LacksTable, ShowsFile}
+use Rattle.fault.proofs.{AccessAsking.{asks_less, asks_back, tables_out}, AccessSlotted.{slotted_none, slotted_back}, AccessSteps.{proceeds_moves, proceeds_after, brings_none, on_ok_then, counts_then}, Forms.{mapped_page}}
+use Rattle.fault.proofs.{Linked.{open_still, calm_back, read_back, away_back, ready_back, brings_back, stalled_back, stalled_tables}, Names.{inl, inr, Option, None, refl, sym, ap, ◌∙◌, subst, rules, IsSome, Attr, Nothing, IsFull}}
+use Rattle.fault.{proofs.{Names.{picture_of, IsWhole}, Serving.{serves_stall}, Wanted.{root_live, root_lives, whole_or}, WaySteps.{links_on}}, specs.Wants.{ForTable, LacksTable, ShowsFile}}
 use Rattle.fault.proofs.granting.grant_unlinked.Goals as goal
 
 pub link_tables-requires-clause-live : goal.link_tables-requires-clause-live

@@ -1,7 +1,6 @@
-use Rattle.fault.proofs.Names.{is_some, IsTrue, ◌≡◌, Some, refl, sym, ap, ◌∙◌, subst, rules, false≢true, Nothing, Role, Free, Private, is_handed_out, Swap, IsReady, UsesDevice, picture_of}
-use Rattle.residency.specs.Picture.{is_private}
-use Rattle.fault.proofs.{Settling.{aside_freed, leaves_aside, forest_mid, root_mid, rows_mid, gives_frame}, Asking.{asks_slots_kept}, Forms.{used_inside}}
-use Rattle.fault.proofs.{OwnSteps.{ownable_frame, shown_used, shown_datum, shown_inside, copy_frame, copied_given, fit_first, behind_freed, behind_first, role_shared, fit_shared, copied_shared}, Steps.{same_with}}
+use Rattle.fault.proofs.{Asking.{asks_slots_kept}, Forms.{used_inside}, Names.{is_some, IsTrue, ◌≡◌, Some, refl, sym, ap, ◌∙◌, subst, rules, false≢true, Nothing, Role, Free, Private, is_handed_out, Swap, IsReady, UsesDevice, picture_of}}
+use Rattle.fault.proofs.{OwnSteps.{ownable_frame, shown_used, shown_datum, shown_inside, copy_frame, copied_given, fit_first, behind_freed, behind_first, role_shared, fit_shared, copied_shared}, Settling.{aside_freed, leaves_aside}}
+use Rattle.{fault.proofs.{Settling.{forest_mid, root_mid, rows_mid, gives_frame}, Steps.{same_with}}, residency.specs.Picture.{is_private}}
 use Rattle.fault.proofs.owning.copy_page.Goals as goal
 
 pub take_copy-requires : goal.take_copy-requires

@@ -1,8 +1,7 @@
-use Rattle.fault.proofs.Names.{◌≡◌, ◌≢◌, ℕ, Bool, true, false, Some, Result, Ok, Err, inl, inr, get_or, refl, sym, ap, ◌∙◌, subst, arith, rules, cases_Bool, false≢true, OnErr, Nothing, bytes_of, count_of, role_of, frame_of, Picture}
-use Rattle.residency.specs.Picture.{is_private}
-use Rattle.fault.{specs.{Leaves.{IsFullEntry}, OwnFrames.{CopiesPage}, Changes.{shown_frame, copied_frame, is_sole}}, proofs.{Asking.{asks_slots_same}, Forms.{seat_zero, none_common}, Steps.{no_table_calm, slotted_calm, moves_entered}}}
-use Rattle.fault.proofs.OwnSteps.{frame_shown, shown_inside, shown_datum, shown_own, common_when, several_when, full_own, own_view}
-use Rattle.fault.proofs.{Names.{picture_of, entry, IsEntryOver}, owning.own_frame.Goals.{else-is_private-via-then-is_private+else-count-eq1, else-is_private-via-else-is_private}}
+use Rattle.fault.proofs.{Asking.{asks_slots_same}, Forms.{seat_zero, none_common}, Names.{◌≡◌, ◌≢◌, ℕ, Bool, true, false, Some, Result, Ok, Err, inl, inr, get_or, refl, sym, ap, ◌∙◌, subst, arith, rules, cases_Bool, false≢true, OnErr}}
+use Rattle.fault.proofs.{Names.{Nothing, bytes_of, count_of, role_of, frame_of, Picture, picture_of, entry, IsEntryOver}, OwnSteps.{frame_shown, shown_inside, shown_datum, shown_own, common_when, several_when, full_own, own_view}}
+use Rattle.fault.{proofs.{Steps.{no_table_calm, slotted_calm, moves_entered}, owning.own_frame.Goals.{else-is_private-via-then-is_private+else-count-eq1, else-is_private-via-else-is_private}}, specs.Changes.{shown_frame, copied_frame}}
+use Rattle.{fault.specs.{Changes.{is_sole}, Leaves.{IsFullEntry}, OwnFrames.{CopiesPage}}, residency.specs.Picture.{is_private}}
 use Rattle.fault.proofs.owning.own_frame.Goals as goal
 
 pub shown_frame-shown-requires-clause-number : goal.shown_frame-shown-requires-clause-number

@@ -7,7 +7,7 @@ no_frame slot k e = (cc)
 
 pub returns-in-Slot : goal.returns-in-Slot
 returns-in-Slot g c =
-    let page = c.args.page.now in
+    let page = c.args.page in
     let before = c.args.core.now in
     let after = c.bring_back.new.self in
     let old = picture_of before in

@@ -1,6 +1,5 @@
-use Rattle.fault.proofs.Names.{◌≢◌, inr, None, refl, ap, sym, ◌∙◌, subst, FrameNo, PageKey, File, Object, asks_wider, IsSectorOf, Home, Frame, picture_of}
-use Rattle.fault.specs.{Asking.{IsSectorOfPage, IsSectorOfStoredPage}, PagingIn.{PagesIn}}
-use Rattle.fault.proofs.{Asking.{asks_swap}, AccessSteps.{no_new_of, pages_in_beside, keeps_in, only_in, placed_in, brings_home_of, brings_blank_of, err_always, untouched_home}}
+use Rattle.fault.proofs.{AccessSteps.{no_new_of, pages_in_beside, keeps_in, only_in, placed_in, brings_home_of, brings_blank_of, err_always, untouched_home}, Asking.{asks_swap}, Names.{◌≢◌, inr, None, refl, ap, sym, ◌∙◌, subst, FrameNo}}
+use Rattle.fault.{proofs.Names.{PageKey, File, Object, asks_wider, IsSectorOf, Home, Frame, picture_of}, specs.{Asking.{IsSectorOfPage, IsSectorOfStoredPage}, PagingIn.{PagesIn}}}
 use Rattle.fault.proofs.page_in.bring_home.Goals as goal
 
 no_frame : (k : FrameNo) → Home ≢ Frame k

@@ -5,7 +5,7 @@ use Rattle.fault.proofs.page_in.cached.Goals as goal
 pub returns-in-Frame-clause-pages_in : goal.returns-in-Frame-clause-pages_in
 returns-in-Frame-clause-pages_in g c =
     let core = c.args.core.now in
-    let page = c.args.page.now in
+    let page = c.args.page in
     record {
       placed = search rules;
       only = inr (λ n ne. refl);

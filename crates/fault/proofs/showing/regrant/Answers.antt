@@ -1,6 +1,5 @@
-use Rattle.fault.proofs.Names.{is_some, ℕ, Bool, sym, ap, ◌∙◌, subst, arith, IsFrame, frame_of, Picture, picture_of, entry, IsBehind}
-use Rattle.residency.specs.Picture.{is_private}
-use Rattle.fault.{specs.Leaves.{IsFullEntry}, proofs.{Settling.{shows_set}, Forms.{mapped_page, used_inside, resident_used, resident_page, seat_kept}}}
+use Rattle.fault.proofs.{Forms.{mapped_page, used_inside, resident_used, resident_page, seat_kept}, Names.{is_some, ℕ, Bool, sym, ap, ◌∙◌, subst, arith, IsFrame, frame_of, Picture, picture_of, entry, IsBehind}, Settling.{shows_set}}
+use Rattle.{fault.specs.Leaves.{IsFullEntry}, residency.specs.Picture.{is_private}}
 use Rattle.fault.proofs.showing.regrant.Goals as goal
 
 pub set_full-requires-clause-root : goal.set_full-requires-clause-root

@@ -1,8 +1,7 @@
-use Rattle.fault.proofs.Names.{top_level, is_some, ◌≡◌, ◌≢◌, ℕ, None, get_or, refl, sym, ap, ◌∙◌, subst, rules, false≢true, Free, Table, IsFull, role_of, with_bytes, Swap, Pages, slots_of, IsPageEntry, page_is_entry, on_err, Picture}
-use Rattle.fault.proofs.Names.{picture_of, entry, UsesDevice, IsShort, ChangesFrame, asks_between, entry-of, frees_spent, swapped_form, frees_then, fit_spent}
-use Rattle.residency.specs.Picture.{is_swapped}
-use Rattle.fault.{specs.Asking.{MayAsk, IsSectorOfCopy}, proofs.{Settling.{aside_freed, leaves_aside, forest_mid, root_mid, rows_mid, gives_frame, entry_given, count_given}, Asking.{asks_swap}, AccessSteps.{asks_read}}}
-use Rattle.fault.proofs.{Steps.{frees_any, device_then}, SwapSteps.{slot_seat, swapped_here, slot_used, slot_frame, slot_bytes, slot_set, fit_in, aside_in, seen_in, own_spent, changes_further, full_count, ready_released}}
+use Rattle.fault.proofs.{AccessSteps.{asks_read}, Asking.{asks_swap}, Names.{top_level, is_some, ◌≡◌, ◌≢◌, ℕ, None, get_or, refl, sym, ap, ◌∙◌, subst, rules, false≢true, Free, Table, IsFull, role_of, with_bytes, Swap, Pages, slots_of}}
+use Rattle.fault.proofs.{Names.{IsPageEntry, page_is_entry, on_err, Picture, picture_of, entry, UsesDevice, IsShort, ChangesFrame, asks_between, entry-of, frees_spent, swapped_form, frees_then, fit_spent}, Settling.{aside_freed}}
+use Rattle.fault.proofs.{Settling.{leaves_aside, forest_mid, root_mid, rows_mid, gives_frame, entry_given, count_given}, Steps.{frees_any, device_then}, SwapSteps.{slot_seat, swapped_here, slot_used, slot_frame, slot_bytes, slot_set}}
+use Rattle.{fault.{proofs.SwapSteps.{fit_in, aside_in, seen_in, own_spent, changes_further, full_count, ready_released}, specs.Asking.{MayAsk, IsSectorOfCopy}}, residency.specs.Picture.{is_swapped}}
 use Rattle.fault.proofs.swapping.swap_in.Goals as goal
 
 pub decode-requires : goal.decode-requires

@@ -1,5 +1,4 @@
-use Rattle.file_store.proofs.Names.{◌≡◌, ◌<◌, ℕ, Some, length, slice_get, slice_index, FilePage}
-use Rattle.file_store.specs.Store.{home_of}
+use Rattle.file_store.{proofs.Names.{◌≡◌, ◌<◌, ℕ, Some, length, slice_get, slice_index, FilePage}, specs.Store.{home_of}}
 use Rattle.file_store.proofs.commits.fill_homes.Given as goal
 
 abbrev pub invariant-loop-i : goal.invariant-loop-i

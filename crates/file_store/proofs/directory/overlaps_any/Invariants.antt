@@ -1,5 +1,4 @@
-use Rattle.file_store.proofs.Names.{◌≡◌, ℕ, ◌<◌, get_or, Some, None}
-use Rattle.file_store.specs.{declared.directory.Entry.{Entry}, Directory.{IsHomeOf}}
+use Rattle.file_store.{proofs.Names.{◌≡◌, ℕ, ◌<◌, get_or, Some, None}, specs.{Directory.{IsHomeOf}, declared.directory.Entry.{Entry}}}
 use Rattle.file_store.proofs.directory.overlaps_any.Given as goal
 
 abbrev pub invariant-loop-other : goal.invariant-loop-other

@@ -1,5 +1,4 @@
-use Rattle.file_store.proofs.Names.{◌≡◌, ◌≤◌, ◌+◌, ◌*◌, min, ℕ, List, Some, drop, length, IsSome}
-use Rattle.file_store.specs.{Format.{info_of, told_by, reader_tells, IsHomesBetween, HoldsSourcePages}, Layout.{pages_of_length}, Making.{Makes}}
+use Rattle.file_store.{proofs.Names.{◌≡◌, ◌≤◌, ◌+◌, ◌*◌, min, ℕ, List, Some, drop, length, IsSome}, specs.{Format.{info_of, told_by, reader_tells, IsHomesBetween, HoldsSourcePages}, Layout.{pages_of_length}, Making.{Makes}}}
 use Rattle.file_store.proofs.formatting.write_file.Given as goal
 
 abbrev pub invariant-loop-k : goal.invariant-loop-k

@@ -1,7 +1,6 @@
-use Rattle.file_store.proofs.Names.{◌≡◌, ◌+◌, ◌<◌, ◌≤◌, ◌∙◌, ⊎_elim, length, drop, slice_get, Some, drop-drop, refl, sym, ap, subst, get_or, arith, cases_eq, length-set, drop-set-lt, same_Some, slice_get_read, IsSome, kind_home}
-use Rattle.file_store.proofs.Names.{kind_home_count}
-use Rattle.file_store.specs.{declared.sources.FileSource.{FileSource}, Layout.{pages_of_length, bytes_inside}, Format.{total_pages, first_home, page_given, reader_tells, IsHomesBetween, HoldsSourcePages}}
-use Rattle.file_store.proofs.{Making.{makes_more, makes_of}, NewStores.{cut_moves, slice_get-drop, first_home-rest, first_home-order}, Totals.{total_pages-rest, total_pages-set}, Filling.{fills_error}}
+use Rattle.file_store.proofs.{Filling.{fills_error}, Making.{makes_more, makes_of}, Names.{◌≡◌, ◌+◌, ◌<◌, ◌≤◌, ◌∙◌, ⊎_elim, length, drop, slice_get, Some, drop-drop, refl, sym, ap, subst, get_or, arith, cases_eq, length-set, drop-set-lt}}
+use Rattle.file_store.proofs.{Names.{same_Some, slice_get_read, IsSome, kind_home, kind_home_count}, NewStores.{cut_moves, slice_get-drop, first_home-rest, first_home-order}, Totals.{total_pages-rest, total_pages-set}}
+use Rattle.file_store.specs.{Format.{total_pages, first_home, page_given, reader_tells, IsHomesBetween, HoldsSourcePages}, Layout.{pages_of_length, bytes_inside}, declared.sources.FileSource.{FileSource}}
 use Rattle.file_store.proofs.formatting.write_homes.Goals as goal
 
 pub write_file-requires : goal.write_file-requires

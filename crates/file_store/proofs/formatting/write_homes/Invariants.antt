@@ -1,5 +1,4 @@
-use Rattle.file_store.proofs.Names.{◌≡◌, ◌+◌, drop, length}
-use Rattle.file_store.specs.{Format.{total_pages, IsHomesBetween, HoldsFiles, AreWhole}, Making.{Makes}}
+use Rattle.file_store.{proofs.Names.{◌≡◌, ◌+◌, drop, length}, specs.{Format.{total_pages, IsHomesBetween, HoldsFiles, AreWhole}, Making.{Makes}}}
 use Rattle.file_store.proofs.formatting.write_homes.Given as goal
 
 abbrev pub invariant-loop-f : goal.invariant-loop-f

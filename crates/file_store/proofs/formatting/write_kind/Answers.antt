@@ -1,5 +1,4 @@
-use Rattle.file_store.proofs.Names.{ℕ, refl, rules}
-use Rattle.file_store.{specs.Format.{IsKindSector}, proofs.Making.{written_synced, makes_write, makes_synced}}
+use Rattle.file_store.{proofs.{Making.{written_synced, makes_write, makes_synced}, Names.{ℕ, refl, rules}}, specs.Format.{IsKindSector}}
 use Rattle.file_store.proofs.formatting.write_kind.Goals as goal
 
 pub returns-in_err-write-clause-writes : goal.returns-in_err-write-clause-writes

@@ -1,5 +1,4 @@
-use Rattle.file_store.proofs.Names.{OnOk, sym, subst, ◌∙◌}
-use Rattle.file_store.{specs.{Format.{IsLayoutSector, HasHead}, Making.{WritesSynced}}, proofs.Blocks.{single_paired}}
+use Rattle.file_store.{proofs.{Blocks.{single_paired}, Names.{OnOk, sym, subst, ◌∙◌}}, specs.{Format.{IsLayoutSector, HasHead}, Making.{WritesSynced}}}
 use Rattle.file_store.proofs.formatting.write_layout.Goals as goal
 
 pub returns-in-Paired-clause-writes : goal.returns-in-Paired-clause-writes

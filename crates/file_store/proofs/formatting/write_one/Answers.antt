@@ -1,5 +1,4 @@
-use Rattle.file_store.proofs.Names.{◌≡◌, ℕ, inl, inr, ap, sym, refl, ◌∙◌, arith, rules, Single}
-use Rattle.file_store.{specs.Format.{IsLayoutSector}, proofs.{Making.{written_synced, makes_more, makes_write, makes_synced}, NewStores.{one_head}}}
+use Rattle.file_store.{proofs.{Making.{written_synced, makes_more, makes_write, makes_synced}, Names.{◌≡◌, ℕ, inl, inr, ap, sym, refl, ◌∙◌, arith, rules, Single}, NewStores.{one_head}}, specs.Format.{IsLayoutSector}}
 use Rattle.file_store.proofs.formatting.write_one.Goals as goal
 
 pub returns-in_err-write-clause-writes : goal.returns-in_err-write-clause-writes

@@ -1,5 +1,4 @@
-use Rattle.file_store.proofs.Names.{◌≡◌, ℕ, inl, inr, ap, sym, refl, ◌∙◌, arith, rules, Paired}
-use Rattle.file_store.{specs.Format.{IsTableSector}, proofs.{Making.{written, makes_more, makes_write}, NewStores.{tables_at}}}
+use Rattle.file_store.{proofs.{Making.{written, makes_more, makes_write}, Names.{◌≡◌, ℕ, inl, inr, ap, sym, refl, ◌∙◌, arith, rules, Paired}, NewStores.{tables_at}}, specs.Format.{IsTableSector}}
 use Rattle.file_store.proofs.formatting.write_tables.Goals as goal
 
 pub returns-in_err-write-clause-writes : goal.returns-in_err-write-clause-writes

@@ -1,7 +1,6 @@
-use Rattle.file_store.proofs.Names.{ℕ, ◌+◌, ⊎_elim, inl, inr, List, refl, sym, subst, ◌∙◌, arith, rules, kind_home, kind_home_count, Paired, wider}
-use Rattle.file_store.specs.{Layout.{bytes_inside}, Format.{first_home, total_pages, page_given, IsFrom, IsTableSector, IsKindlessStoreOf, HasTables, IsLayoutSector, IsHomesBetween, IsUnmarkedSector, IsDirectoryOf}}
-use Rattle.file_store.proofs.{Blocks.{none_on, last_then}, Filling.{fills_done, fills_error, fills_failed}, Formats.{table_between, kindless}, Making.{makes_more, makes_of}, NewStores.{cut_moves, good_given}}
-use Rattle.file_store.proofs.Images.{homes_behind, layout_low, good_not_kind}
+use Rattle.file_store.proofs.{Blocks.{none_on, last_then}, Filling.{fills_done, fills_error, fills_failed}, Formats.{table_between, kindless}, Images.{homes_behind, layout_low, good_not_kind}, Making.{makes_more, makes_of}, Names.{ℕ, ◌+◌}}
+use Rattle.file_store.{proofs.{Names.{⊎_elim, inl, inr, List, refl, sym, subst, ◌∙◌, arith, rules, kind_home, kind_home_count, Paired, wider}, NewStores.{cut_moves, good_given}}, specs.Format.{first_home, total_pages, page_given, IsFrom}}
+use Rattle.file_store.specs.{Format.{IsTableSector, IsKindlessStoreOf, HasTables, IsLayoutSector, IsHomesBetween, IsUnmarkedSector, IsDirectoryOf}, Layout.{bytes_inside}}
 use Rattle.file_store.proofs.formatting.write_unmarked.Goals as goal
 
 pub returns-in_err-write_homes-clause-fills : goal.returns-in_err-write_homes-clause-fills

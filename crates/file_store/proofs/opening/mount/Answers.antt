@@ -1,6 +1,5 @@
-use Rattle.file_store.proofs.Names.{ℕ, ◌≤◌, Err, sym, ap, subst, ◌∙◌, IfErr, Image, kind_of, kind_homes, kind_home_count, IsBadStore, settled_since}
-use Rattle.file_store.specs.{Faults.{open_fault}, Directory.{IsSoundDirectory}, Resume.{IsRefusedFor}, Store.{entry_of}}
-use Rattle.file_store.proofs.{Causes.{is_this}, Images.{same_head, entry_same}, Mounted.{head_refuses, journal_refuses, mounts_head, mounts}, Openings.{content_is}}
+use Rattle.file_store.proofs.{Causes.{is_this}, Images.{same_head, entry_same}, Mounted.{head_refuses, journal_refuses, mounts_head, mounts}, Names.{ℕ, ◌≤◌, Err, sym, ap, subst, ◌∙◌, IfErr, Image, kind_of, kind_homes, kind_home_count}}
+use Rattle.file_store.{proofs.{Names.{IsBadStore, settled_since}, Openings.{content_is}}, specs.{Directory.{IsSoundDirectory}, Faults.{open_fault}, Resume.{IsRefusedFor}, Store.{entry_of}}}
 use Rattle.file_store.proofs.opening.mount.Goals as goal
 
 -- mark, kind or directory can't be read, or are bad

@@ -1,7 +1,6 @@
-use Rattle.file_store.proofs.Names.{◌≡◌, ◌<◌, ◌≤◌, ℕ, ⊎_elim, sym, ap, subst, ◌∙◌, Image, Nothing, Paired, kind_of, kind_homes, one_more}
-use Rattle.file_store.specs.{Directory.{IsBadDirectory, IsSoundDirectory, AreGood}, Versions.{version_at, home_pages_of, directory_of, mark_of}, Standing.{IsBadLayout, IsBadLayoutIn, listed_entry}, Store.{entry_of}}
-use Rattle.file_store.specs.Standing.IsBadLayoutIn.{TooSmall, BadDirectory}
-use Rattle.file_store.proofs.{Images.{homes_same, other_kind, bad_as_claimed, layout_is_good_in}, Looking.{looks_found, looks_error, looks_later, head_asked}, Openings.{content_is, kind_found, kind_sound}}
+use Rattle.file_store.proofs.{Images.{homes_same, other_kind, bad_as_claimed, layout_is_good_in}, Looking.{looks_found, looks_error, looks_later, head_asked}, Names.{◌≡◌, ◌<◌, ◌≤◌, ℕ, ⊎_elim, sym, ap, subst, ◌∙◌, Image, Nothing, Paired}}
+use Rattle.file_store.{proofs.{Names.{kind_of, kind_homes, one_more}, Openings.{content_is, kind_found, kind_sound}}, specs.{Directory.{IsBadDirectory, IsSoundDirectory, AreGood}, Standing.{IsBadLayout, IsBadLayoutIn, listed_entry}}}
+use Rattle.file_store.specs.{Standing.IsBadLayoutIn.{TooSmall, BadDirectory}, Store.{entry_of}, Versions.{version_at, home_pages_of, directory_of, mark_of}}
 use Rattle.file_store.proofs.opening.read_head.Goals as goal
 
 pub returns-in_err-journals-clause-looks : goal.returns-in_err-journals-clause-looks

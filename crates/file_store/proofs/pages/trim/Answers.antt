@@ -1,5 +1,4 @@
-use Rattle.file_store.proofs.Names.{◌-◌, ◌∙◌, ap, ◌≡◌, length, replicate, arith, rules}
-use Rattle.file_store.proofs.Pieces.{trimmed_put, length_mid}
+use Rattle.file_store.proofs.{Names.{◌-◌, ◌∙◌, ap, ◌≡◌, length, replicate, arith, rules}, Pieces.{trimmed_put, length_mid}}
 use Rattle.file_store.proofs.pages.trim.Goals as goal
 
 pub returns : goal.returns

@@ -1,16 +1,10 @@
-use Rattle.file_store.proofs.Names.{◌≡◌, ℕ, ◌+◌, ◌-◌, ◌*◌, ◌<◌, ◌≤◌, ⊎_elim, length, take, drop, refl, sym, ap, subst, ◌∙◌, arith, cases_eq, cases_lt, take_all, get_or-drop, slice_get_read, length_put}
-use Rattle.std.proofs.lemmas.List.{length-drop}
-use Rattle.file_store.{specs.{Directory.{decoded, entry_bytes}, Format.{first_home, entry_given}}, proofs.{Encoded.{renewed, entry_before, entry_here, zeros_behind, zero_entry, no_file}, Entries.{entry_in-inside}}}
-use Rattle.file_store.proofs.{NewStores.{first_home-rest, entry_written}, Pieces.{length_mid, get_or-zeros}, Totals.{total_pages-rest}}
+use Rattle.file_store.proofs.{Encoded.{renewed, entry_before, entry_here, zeros_behind, zero_entry, no_file}, Entries.{entry_in-inside}, Names.{◌≡◌, ℕ, ◌+◌, ◌-◌, ◌*◌, ◌<◌, ◌≤◌, ⊎_elim, length, take, drop, refl, sym, ap, subst, ◌∙◌, arith}}
+use Rattle.file_store.proofs.{Names.{cases_eq, cases_lt, take_all, get_or-drop, slice_get_read, length_put}, NewStores.{first_home-rest, entry_written}, Pieces.{length_mid, get_or-zeros}, Totals.{total_pages-rest}}
+use Rattle.{file_store.specs.{Directory.{decoded, entry_bytes}, Format.{first_home, entry_given}}, std.proofs.lemmas.List.{length-drop}}
 use Rattle.file_store.proofs.sources.directory_of.Goals as goal
 
 pub loop-f-init : goal.loop-f-init
-loop-f-init g c = record {
-  size = refl;
-  rest = omega arith;
-  entries = λ n less. absurd (omega (arith, less));
-  zeros = λ i behind. get_or-zeros 512 i;
-}
+loop-f-init g c = record { size = refl; rest = omega arith; entries = λ n less. absurd (omega (arith, less)); zeros = λ i behind. get_or-zeros 512 i }
 
 pub loop-f-preserved : goal.loop-f-preserved
 loop-f-preserved g c =

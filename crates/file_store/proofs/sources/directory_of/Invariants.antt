@@ -1,5 +1,4 @@
-use Rattle.file_store.proofs.Names.{◌≡◌, ◌+◌, ◌*◌, ◌<◌, ◌≤◌, ℕ, drop, length, get_or}
-use Rattle.file_store.specs.{Directory.{decoded, entry_bytes}, Format.{total_pages, entry_given}}
+use Rattle.file_store.{proofs.Names.{◌≡◌, ◌+◌, ◌*◌, ◌<◌, ◌≤◌, ℕ, drop, length, get_or}, specs.{Directory.{decoded, entry_bytes}, Format.{total_pages, entry_given}}}
 use Rattle.file_store.proofs.sources.directory_of.Given as goal
 
 abbrev pub invariant-loop-f : goal.invariant-loop-f

@@ -1,5 +1,4 @@
-use Rattle.file_store.proofs.Names.{arith}
-use Rattle.file_store.proofs.Totals.{total_pages-rest, total_pages-end}
+use Rattle.file_store.proofs.{Names.{arith}, Totals.{total_pages-rest, total_pages-end}}
 use Rattle.file_store.proofs.sources.pages_of.Goals as goal
 
 pub loop-source-preserved : goal.loop-source-preserved

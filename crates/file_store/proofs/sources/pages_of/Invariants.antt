@@ -1,6 +1,4 @@
-use Rattle.file_store.proofs.Names.{◌≡◌, ◌+◌, ◌-◌, ◌^◌, ◌≤◌, drop}
-use Rattle.std.specs.Prelude.{min}
-use Rattle.file_store.specs.Format.{total_pages}
+use Rattle.{file_store.{proofs.Names.{◌≡◌, ◌+◌, ◌-◌, ◌^◌, ◌≤◌, drop}, specs.Format.{total_pages}}, std.specs.Prelude.{min}}
 use Rattle.file_store.proofs.sources.pages_of.Given as goal
 
 abbrev pub invariant-loop-source : goal.invariant-loop-source

@@ -1,5 +1,4 @@
-use Rattle.file_store.proofs.Names.{Option, sym, subst, ◌∙◌}
-use Rattle.file_store.specs.{declared.directory.Entry.{Entry}, Upgrade.{IsEntrySector, IsOldEntry}, Upgraded.{CopiesPages}}
+use Rattle.file_store.{proofs.Names.{Option, sym, subst, ◌∙◌}, specs.{Upgrade.{IsEntrySector, IsOldEntry}, Upgraded.{CopiesPages}, declared.directory.Entry.{Entry}}}
 use Rattle.file_store.proofs.upgrading.copy_entry.Goals as goal
 
 pub returns-in-Some-clause-copies : goal.returns-in-Some-clause-copies

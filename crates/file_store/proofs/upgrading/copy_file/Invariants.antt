@@ -1,5 +1,4 @@
-use Rattle.file_store.proofs.Names.{◌≡◌, AsksOnly, Nothing, RunsOnDevice}
-use Rattle.file_store.specs.{Making.{Makes}, Upgrade.{IsOldPage, IsFileSector, HoldsOldPages}}
+use Rattle.file_store.{proofs.Names.{◌≡◌, AsksOnly, Nothing, RunsOnDevice}, specs.{Making.{Makes}, Upgrade.{IsOldPage, IsFileSector, HoldsOldPages}}}
 use Rattle.file_store.proofs.upgrading.copy_file.Given as goal
 
 abbrev pub invariant-loop-k : goal.invariant-loop-k

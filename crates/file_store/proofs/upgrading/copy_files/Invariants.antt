@@ -1,5 +1,4 @@
-use Rattle.file_store.proofs.Names.{◌≡◌, AsksOnly, Nothing, RunsOnDevice}
-use Rattle.file_store.specs.{Making.{Makes}, Store.{entry_of}, Upgrade.{IsOldFile, IsFilesSector, HoldsOldFiles}}
+use Rattle.file_store.{proofs.Names.{◌≡◌, AsksOnly, Nothing, RunsOnDevice}, specs.{Making.{Makes}, Store.{entry_of}, Upgrade.{IsOldFile, IsFilesSector, HoldsOldFiles}}}
 use Rattle.file_store.proofs.upgrading.copy_files.Given as goal
 
 abbrev pub invariant-loop-f : goal.invariant-loop-f

@@ -1,12 +1,10 @@
-use Rattle.file_store.proofs.Names.{◌≡◌, ◌⊎◌, ◌≤◌, ◌<◌, ℕ, Result, Err, OnOk, Some, refl, inl, inr, ⊎_elim, sym, ap, subst, ◌∙◌, on_ok_weaker, IsErrOf, Image, Nothing, AsksOnly, stays, asks_none, asks_then, asks_wider, Journals}
-use Rattle.file_store.proofs.Names.{kind_home_count, layout_before, home_count_in, one_more}
-use Rattle.file_store.specs.{declared.directory.Entry.{Entry}, declared.faults.UpgradeFault.{UpgradeFault}, declared.faults.UpgradeFault.TheVariants.{OldLayout, OldJournal, NewDevice, NewSmall, Formatted}, Directory.{home_end, IsSoundDirectory}, Faults.{old_fault}, Format.{IsMarkSector}, Store.{entry_of}}
-use Rattle.file_store.specs.{Upgrade.{old_entry, IsOldStore, IsUnmarkedUpgrade, IsKindlessUpgrade, IsUpgradeOf, IsCopiedSector, IsUpgradeSector, IsOldHead, IsOldAsked, HasUpgradeCauses}, Upgraded.{UpgradesStore}, Versions.{version_at, version_of, mark_of}}
-use Rattle.file_store.proofs.{Causes.{is_this, same_Err}, Copied.{causes_after, causes_before, causes_none, causes_marking, copied_old_asked}, Formats.{marked_whole}, Looking.{ok_is_no_err}}
-use Rattle.file_store.proofs.{Marking.{LeavesNoPart, nothing_made, unmarked_made, marked_made}, Openings.{content_is}}
-use Rattle.file_store.proofs.Refusing.{of_old, broken_from, when_checking, when_copying, when_marking, room_is_not_small, causes_checked, upgrade_refused}
-use Rattle.file_store.proofs.Upgrades.{kindless_upgrade_moves, upgraded_of_kind, copied_from, copied_asked, layout_from, old_fault_cases, too_small, upgrade_whole, entries_fit}
-use Rattle.file_store.proofs.upgrading.upgrade.{Given.{Over}, Goals.{After-write_mark}}
+use Rattle.file_store.proofs.{Causes.{is_this, same_Err}, Copied.{causes_after, causes_before, causes_none, causes_marking, copied_old_asked}, Formats.{marked_whole}, Looking.{ok_is_no_err}, Marking.{LeavesNoPart, nothing_made}}
+use Rattle.file_store.proofs.{Marking.{unmarked_made, marked_made}, Names.{◌≡◌, ◌⊎◌, ◌≤◌, ◌<◌, ℕ, Result, Err, OnOk, Some, refl, inl, inr, ⊎_elim, sym, ap, subst, ◌∙◌, on_ok_weaker, IsErrOf, Image, Nothing, AsksOnly, stays, asks_none}}
+use Rattle.file_store.proofs.{Names.{asks_then, asks_wider, Journals, kind_home_count, layout_before, home_count_in, one_more}, Openings.{content_is}, Refusing.{of_old, broken_from, when_checking, when_copying, when_marking}}
+use Rattle.file_store.proofs.{Refusing.{room_is_not_small, causes_checked, upgrade_refused}, Upgrades.{kindless_upgrade_moves, upgraded_of_kind, copied_from, copied_asked, layout_from, old_fault_cases, too_small, upgrade_whole}}
+use Rattle.file_store.{proofs.{Upgrades.{entries_fit}, upgrading.upgrade.{Given.{Over}, Goals.{After-write_mark}}}, specs.{Directory.{home_end, IsSoundDirectory}, Faults.{old_fault}, Format.{IsMarkSector}, Store.{entry_of}}}
+use Rattle.file_store.specs.{Upgrade.{old_entry, IsOldStore, IsUnmarkedUpgrade, IsKindlessUpgrade, IsUpgradeOf, IsCopiedSector, IsUpgradeSector, IsOldHead, IsOldAsked, HasUpgradeCauses}, Upgraded.{UpgradesStore}, Versions.{version_at}}
+use Rattle.file_store.specs.{Versions.{version_of, mark_of}, declared.{directory.Entry.{Entry}, faults.UpgradeFault.{UpgradeFault, TheVariants.{OldLayout, OldJournal, NewDevice, NewSmall, Formatted}}}}
 use Rattle.file_store.proofs.upgrading.upgrade.Goals as goal
 
 pub copy_unmarked-requires-clause-copied : goal.copy_unmarked-requires-clause-copied

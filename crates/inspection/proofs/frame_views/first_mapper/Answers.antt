@@ -1,5 +1,4 @@
-use Rattle.inspection.proofs.Names.{arith, picture_of}
-use Rattle.inspection.proofs.Mappers.{mapper_on}
+use Rattle.inspection.proofs.{Mappers.{mapper_on}, Names.{arith, picture_of}}
 use Rattle.inspection.proofs.frame_views.first_mapper.Goals as goal
 
 pub returns-in-Some-clause-some : goal.returns-in-Some-clause-some

@@ -1,6 +1,5 @@
-use Rattle.inspection.proofs.Names.{top_level, ℕ, ◌<◌, IsPage, picture_of, IsOver}
+use Rattle.inspection.{proofs.Names.{top_level, ℕ, ◌<◌, IsPage, picture_of, IsOver}, specs.Frames.{IsAtOrAfter}}
 use Rattle.residency.specs.declared.leaves.Change.TheVariants as Kinds
-use Rattle.inspection.specs.Frames.{IsAtOrAfter}
 use Rattle.inspection.proofs.frame_views.first_mapper.Given as goal
 
 -- no process before this one has such a page

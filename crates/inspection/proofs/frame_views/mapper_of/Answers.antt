@@ -1,5 +1,4 @@
-use Rattle.inspection.proofs.Names.{◌∙◌, inl, sym, picture_of, entry-of}
-use Rattle.inspection.proofs.Mappers.{only_first}
+use Rattle.inspection.proofs.{Mappers.{only_first}, Names.{◌∙◌, inl, sym, picture_of, entry-of}}
 use Rattle.inspection.proofs.frame_views.mapper_of.Goals as goal
 
 pub entry_number-requires-clause-root : goal.entry_number-requires-clause-root

@@ -1,5 +1,4 @@
-use Rattle.inspection.proofs.Names.{user_end, inl, inr, refl, sym, ◌∙◌, arith, cases_lt, false≢true, user_inside, picture_of, entry-of}
-use Rattle.inspection.proofs.Entries.{beside_zero}
+use Rattle.inspection.proofs.{Entries.{beside_zero}, Names.{user_end, inl, inr, refl, sym, ◌∙◌, arith, cases_lt, false≢true, user_inside, picture_of, entry-of}}
 use Rattle.inspection.proofs.pages.next_entry.Goals as goal
 
 pub loop-page-init : goal.loop-page-init

@@ -1,5 +1,4 @@
-use Rattle.inspection.proofs.Names.{top_level, ◌≡◌, ◌≢◌, ℕ, ◌/◌, ◌<◌, ◌≤◌, subst, arith, IsTableOf, page_entry, picture_of, none_between}
-use Rattle.inspection.proofs.Entries.{some_at}
+use Rattle.inspection.proofs.{Entries.{some_at}, Names.{top_level, ◌≡◌, ◌≢◌, ℕ, ◌/◌, ◌<◌, ◌≤◌, subst, arith, IsTableOf, page_entry, picture_of, none_between}}
 use Rattle.inspection.proofs.pages.past_empty.Goals as goal
 
 pub table_of-requires-clause-root : goal.table_of-requires-clause-root

@@ -1,5 +1,4 @@
-use Rattle.inspection.proofs.Names.{sizes, user_pages_fit, ℕ, ◌∙◌, subst, arith, picture_of}
-use Rattle.inspection.{specs.Tables.{HaveOneWay, IsOffWay, IsOutOf}, proofs.Trees.{out_of, passed_more}}
+use Rattle.inspection.{proofs.{Names.{sizes, user_pages_fit, ℕ, ◌∙◌, subst, arith, picture_of}, Trees.{out_of, passed_more}}, specs.Tables.{HaveOneWay, IsOffWay, IsOutOf}}
 use Rattle.inspection.proofs.tables.place_in_tree.Goals as goal
 
 pub place_on_way-requires-clause-inside : goal.place_on_way-requires-clause-inside

@@ -1,5 +1,4 @@
-use Rattle.inspection.proofs.Names.{◌≡◌, sym, ◌∙◌, arith, Table, Zero, picture_of}
-use Rattle.inspection.proofs.Trees.{no_table}
+use Rattle.inspection.proofs.{Names.{◌≡◌, sym, ◌∙◌, arith, Table, Zero, picture_of}, Trees.{no_table}}
 use Rattle.inspection.proofs.tables.place_of_table.Goals as goal
 
 pub returns-clause-none : goal.returns-clause-none

@@ -1,5 +1,4 @@
-use Rattle.inspection.proofs.Names.{ℕ, ◌≤◌, ◌<◌, picture_of}
-use Rattle.inspection.specs.Tables.{IsOutOf}
+use Rattle.inspection.{proofs.Names.{ℕ, ◌≤◌, ◌<◌, picture_of}, specs.Tables.{IsOutOf}}
 use Rattle.inspection.proofs.tables.place_of_table.Given as goal
 
 -- it is in the tree of no process before this one

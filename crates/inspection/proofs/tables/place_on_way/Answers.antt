@@ -1,5 +1,4 @@
-use Rattle.inspection.proofs.Names.{sizes, ℕ, ◌+◌, ◌*◌, ◌/◌, ap, sym, ◌∙◌, arith, rules, nat_tests, span_positive, picture_of}
-use Rattle.inspection.proofs.Trees.{ended, if_none, passed_on, placed}
+use Rattle.inspection.proofs.{Names.{sizes, ℕ, ◌+◌, ◌*◌, ◌/◌, ap, sym, ◌∙◌, arith, rules, nat_tests, span_positive, picture_of}, Trees.{ended, if_none, passed_on, placed}}
 use Rattle.inspection.proofs.tables.place_on_way.Goals as goal
 
 pub returns-in_err-step-2-clause-none : goal.returns-in_err-step-2-clause-none

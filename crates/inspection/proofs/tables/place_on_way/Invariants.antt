@@ -1,5 +1,4 @@
-use Rattle.inspection.proofs.Names.{top_level, ◌≡◌, ℕ, ◌-◌, ◌<◌, Some, Way, picture_of}
-use Rattle.inspection.specs.Walks.{IsStep}
+use Rattle.inspection.{proofs.Names.{top_level, ◌≡◌, ℕ, ◌-◌, ◌<◌, Some, Way, picture_of}, specs.Walks.{IsStep}}
 use Rattle.inspection.proofs.tables.place_on_way.Given as goal
 
 -- no table above this step's is the one

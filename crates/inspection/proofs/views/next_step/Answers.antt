@@ -1,5 +1,4 @@
-use Rattle.inspection.proofs.Names.{Sv39, Sv48}
-use Rattle.inspection.proofs.Told.{step_of, told}
+use Rattle.inspection.proofs.{Names.{Sv39, Sv48}, Told.{step_of, told}}
 use Rattle.inspection.proofs.views.next_step.Goals as goal
 
 pub next_step-requires-clause-step : goal.next_step-requires-clause-step

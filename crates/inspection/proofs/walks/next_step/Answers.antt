@@ -1,5 +1,4 @@
-use Rattle.inspection.proofs.Names.{sizes, ◌<◌, subst, sym, ap, ◌∙◌, arith, FrameNo, IsTable, picture_of}
-use Rattle.inspection.proofs.Steps.{below, leads}
+use Rattle.inspection.proofs.{Names.{sizes, ◌<◌, subst, sym, ap, ◌∙◌, arith, FrameNo, IsTable, picture_of}, Steps.{below, leads}}
 use Rattle.inspection.proofs.walks.next_step.Goals as goal
 
 pub frame_number-table-requires : goal.frame_number-table-requires

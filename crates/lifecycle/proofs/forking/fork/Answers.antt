@@ -1,8 +1,7 @@
+use Rattle.lifecycle.proofs.{Asking.{asks_forked}, Copying.{readied, short_readied, unmade, copied, copies_shared, bare_shared, tables_kept, as_stall}, Ending.{ready_ended}, Keeping.{dead_root, live_same, files_then}, Live.{live_root}}
 use Rattle.lifecycle.proofs.Names.{user_end, PageKey, ◌≡◌, true, ◌≢◌, ℕ, inl, [], None, refl, sym, ap, ◌∙◌, subst, rules, false≢true, slice_index_or, frame_count, role_of, place_of, Swap, Pages, slots_of, Picture, picture_of, attr_where}
-use Rattle.lifecycle.proofs.Names.{is_live, UsesDevice, gives_then, device_then, ready_released}
-use Rattle.lifecycle.specs.Changes.{IsShortToFork, StallsToFork}
-use Rattle.lifecycle.proofs.{Live.{live_root}, Unchanged.{files_unchanged, places_unchanged}, Keeping.{dead_root, live_same, files_then}, Ending.{ready_ended}, Returned.{no_copy_taken}, Shortage.{short_before}, Asking.{asks_forked}}
-use Rattle.lifecycle.proofs.{Copying.{readied, short_readied, unmade, copied, copies_shared, bare_shared, tables_kept, as_stall}, Taking.{gives_mapped, tables_mid, entries_forked, tables_taken}, Stalling.{stalls_first, stalls_later}}
+use Rattle.lifecycle.proofs.{Names.{is_live, UsesDevice, gives_then, device_then, ready_released}, Returned.{no_copy_taken}, Shortage.{short_before}, Stalling.{stalls_first, stalls_later}, Taking.{gives_mapped, tables_mid, entries_forked}}
+use Rattle.lifecycle.{proofs.{Taking.{tables_taken}, Unchanged.{files_unchanged, places_unchanged}}, specs.Changes.{IsShortToFork, StallsToFork}}
 use Rattle.lifecycle.proofs.forking.fork.Goals as goal
 
 pub returns-in_err-spawn : goal.returns-in_err-spawn

@@ -1,5 +1,4 @@
-use Rattle.lifecycle.proofs.Names.{ap, ◌∙◌, rules, attr_at, picture_of}
-use Rattle.lifecycle.proofs.Alike.{alike}
+use Rattle.lifecycle.proofs.{Alike.{alike}, Names.{ap, ◌∙◌, rules, attr_at, picture_of}}
 use Rattle.lifecycle.proofs.forking.map_alike.Goals as goal
 
 pub returns : goal.returns

@@ -1,5 +1,4 @@
-use Rattle.lifecycle.proofs.Names.{sym, ◌∙◌}
-use Rattle.lifecycle.proofs.Copies.{leaf_common, leaf_own, nothing_common, parked_common, parked_own, seat_some, slot_seat}
+use Rattle.lifecycle.proofs.{Copies.{leaf_common, leaf_own, nothing_common, parked_common, parked_own, seat_some, slot_seat}, Names.{sym, ◌∙◌}}
 use Rattle.lifecycle.proofs.linking.is_own.Goals as goal
 
 pub returns-in-None-clause-other : goal.returns-in-None-clause-other

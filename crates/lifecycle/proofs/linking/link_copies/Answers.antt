@@ -1,5 +1,4 @@
-use Rattle.lifecycle.proofs.Names.{picture_of, nothing_on, low_zero}
-use Rattle.lifecycle.proofs.{CopySteps.{copies_none, copies_then, copies_done, copies_stall, forking_still}, Linked.{still_there, both_rows, all_rows, none_wanted}}
+use Rattle.lifecycle.proofs.{CopySteps.{copies_none, copies_then, copies_done, copies_stall, forking_still}, Linked.{still_there, both_rows, all_rows, none_wanted}, Names.{picture_of, nothing_on, low_zero}}
 use Rattle.lifecycle.proofs.linking.link_copies.Goals as goal
 
 pub loop-part-init : goal.loop-part-init

@@ -1,5 +1,4 @@
-use Rattle.lifecycle.proofs.Names.{user_end, ◌-◌, Ok, picture_of}
-use Rattle.lifecycle.specs.{Steps.{HasTablesFrom}, TablesForCopies.{LinksForCopies}}
+use Rattle.lifecycle.{proofs.Names.{user_end, ◌-◌, Ok, picture_of}, specs.{Steps.{HasTablesFrom}, TablesForCopies.{LinksForCopies}}}
 use Rattle.lifecycle.proofs.linking.link_copies.Given as goal
 
 abbrev pub invariant-loop-part : goal.invariant-loop-part

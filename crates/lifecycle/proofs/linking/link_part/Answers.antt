@@ -1,5 +1,4 @@
-use Rattle.lifecycle.proofs.Names.{Option, sym, ◌∙◌, subst, IsSome, Attr, picture_of}
-use Rattle.lifecycle.proofs.{Copies.{copied_mapped}, CopySteps.{copies_none, copies_way, copies_done, copies_stall}, Linked.{row_whole}, Passed.{same_table}}
+use Rattle.lifecycle.proofs.{Copies.{copied_mapped}, CopySteps.{copies_none, copies_way, copies_done, copies_stall}, Linked.{row_whole}, Names.{Option, sym, ◌∙◌, subst, IsSome, Attr, picture_of}, Passed.{same_table}}
 use Rattle.lifecycle.proofs.linking.link_part.Goals as goal
 
 pub link_tables-requires-clause-mapped : goal.link_tables-requires-clause-mapped

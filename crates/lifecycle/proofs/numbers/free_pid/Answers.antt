@@ -1,5 +1,4 @@
-use Rattle.lifecycle.proofs.Names.{◌≡◌, ◌+◌, ◌-◌, inl, inr, Some, true, false, sym, ap, ◌∙◌, arith, cases_lt, false≢true, is_some, least_free_from, picture_of, is_live}
-use Rattle.lifecycle.proofs.FreeNumbers.{some_number, least-here, least-next, least-none}
+use Rattle.lifecycle.proofs.{FreeNumbers.{some_number, least-here, least-next, least-none}, Names.{◌≡◌, ◌+◌, ◌-◌, inl, inr, Some, true, false, sym, ap, ◌∙◌, arith, cases_lt, false≢true, is_some, least_free_from, picture_of, is_live}}
 use Rattle.lifecycle.proofs.numbers.free_pid.Goals as goal
 
 pub returns-then-is_none-clause-least : goal.returns-then-is_none-clause-least

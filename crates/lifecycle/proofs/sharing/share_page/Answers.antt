@@ -1,5 +1,4 @@
-use Rattle.lifecycle.proofs.Names.{rules, number_of}
-use Rattle.lifecycle.proofs.{Copies.{seat_names}, SharedPage.{may_give, placed_raised, page_shared}}
+use Rattle.lifecycle.proofs.{Copies.{seat_names}, Names.{rules, number_of}, SharedPage.{may_give, placed_raised, page_shared}}
 use Rattle.lifecycle.proofs.sharing.share_page.Goals as goal
 
 pub add_share-requires-clause-may : goal.add_share-requires-clause-may
@@ -30,7 +29,4 @@ returns g c =
     let q = c.requires in
     let low = c.withdraw_write-shared in
     let done = page_shared c.args.core.now low.new.core t.parent t.child t.first c.args.index t.to.0 low.result q.in_table q.awaits q.to low.ensures c.add_share.new.core c.add_share.ensures c.set_in.new.memory c.set_in.ensures.sets in
-    record {
-      shares = done.shares;
-      keeps = record { fit = done.fit; places = done.places; rest = search rules; refused = search rules };
-    }
+    record { shares = done.shares; keeps = record { fit = done.fit; places = done.places; rest = search rules; refused = search rules } }

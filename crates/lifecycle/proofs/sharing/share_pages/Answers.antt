@@ -1,16 +1,11 @@
-use Rattle.lifecycle.proofs.Names.{sizes, user_end, ◌≤◌, refl, arith}
-use Rattle.lifecycle.proofs.ShareSteps.{awaits_rest, gives_no_row, gives_then, gives_bare, ready_rest}
+use Rattle.lifecycle.proofs.{Names.{sizes, user_end, ◌≤◌, refl, arith}, ShareSteps.{awaits_rest, gives_no_row, gives_then, gives_bare, ready_rest}}
 use Rattle.lifecycle.proofs.sharing.share_pages.Goals as goal
 
 pub loop-part-init : goal.loop-part-init
 loop-part-init g c =
     let end = user_end g.M.Levels.mode in
     let some : 16 ≤ end = (let least = (sizes g.M.Levels.mode).least in omega (arith, least)) in
-    record {
-      from = omega arith;
-      most = some;
-      gives = gives_no_row c.args.core.now c.args.parent c.args.child 16 end 16 c.requires.awaits refl some;
-    }
+    record { from = omega arith; most = some; gives = gives_no_row c.args.core.now c.args.parent c.args.child 16 end 16 c.requires.awaits refl some }
 
 pub share_table-requires-clause-ready : goal.share_table-requires-clause-ready
 share_table-requires-clause-ready g c =

@@ -1,5 +1,4 @@
-use Rattle.lifecycle.proofs.Names.{user_end, ◌-◌, ◌≤◌}
-use Rattle.lifecycle.specs.ChildShares.{GivesShares}
+use Rattle.lifecycle.{proofs.Names.{user_end, ◌-◌, ◌≤◌}, specs.ChildShares.{GivesShares}}
 use Rattle.lifecycle.proofs.sharing.share_pages.Given as goal
 
 abbrev pub invariant-loop-part : goal.invariant-loop-part

@@ -1,5 +1,4 @@
-use Rattle.lifecycle.proofs.Names.{◌+◌, ◌-◌, ◌≤◌}
-use Rattle.lifecycle.specs.ChildShares.{GivesShares}
+use Rattle.lifecycle.{proofs.Names.{◌+◌, ◌-◌, ◌≤◌}, specs.ChildShares.{GivesShares}}
 use Rattle.lifecycle.proofs.sharing.share_table.Given as goal
 
 abbrev pub invariant-loop-index : goal.invariant-loop-index

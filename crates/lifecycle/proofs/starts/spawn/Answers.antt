@@ -1,7 +1,5 @@
-use Rattle.lifecycle.proofs.Names.{None, ap, ◌∙◌, rules, on_err, Picture, picture_of, root_in, fit_started, bare_freed, room_freed, no_new_frees, asks_swap}
-use Rattle.disk_model.specs.Moments.{Nothing}
-use Rattle.lifecycle.specs.Changes.{KeepsProcesses}
-use Rattle.lifecycle.proofs.{Keeping.{dead_root, pages_kept, no_copy_freed}, Starting.{process_added, root_taken, root_given, bare_kept, no_copy, files_kept, room_kept}, Asking.{asks_process, no_new_spawned}}
+use Rattle.lifecycle.proofs.{Asking.{asks_process, no_new_spawned}, Keeping.{dead_root, pages_kept, no_copy_freed}, Names.{None, ap, ◌∙◌, rules, on_err, Picture, picture_of, root_in, fit_started, bare_freed, room_freed, no_new_frees}}
+use Rattle.{lifecycle.{proofs.{Names.{asks_swap}, Starting.{process_added, root_taken, root_given, bare_kept, no_copy, files_kept, room_kept}}, specs.Changes.{KeepsProcesses}}, disk_model.specs.Moments.{Nothing}}
 use Rattle.lifecycle.proofs.starts.spawn.Goals as goal
 
 pub add_process-requires : goal.add_process-requires

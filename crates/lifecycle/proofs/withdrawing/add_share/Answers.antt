@@ -1,6 +1,5 @@
-use Rattle.lifecycle.proofs.Names.{◌≡◌, ◌<◌, ℕ, sym, ◌∙◌, subst, arith, rules, same_Some, Private, IsFrame, role_of, count_of, Shares, slots_of, frame_of, number_of, Seat, InFrame, InSlot, Picture, picture_of, IsFitBut, seat_own}
-use Rattle.lifecycle.proofs.Names.{inside_memory, private_used}
-use Rattle.lifecycle.{specs.Shares.{RaisesSeat}, proofs.{Copies.{framed_own, slot_seat}, Raised.{fit_frame, raises_frame, fit_slot, raises_slot}}}
+use Rattle.lifecycle.proofs.{Copies.{framed_own, slot_seat}, Names.{◌≡◌, ◌<◌, ℕ, sym, ◌∙◌, subst, arith, rules, same_Some, Private, IsFrame, role_of, count_of, Shares, slots_of, frame_of, number_of, Seat, InFrame, InSlot, Picture}}
+use Rattle.lifecycle.{proofs.{Names.{picture_of, IsFitBut, seat_own, inside_memory, private_used}, Raised.{fit_frame, raises_frame, fit_slot, raises_slot}}, specs.Shares.{RaisesSeat}}
 use Rattle.lifecycle.proofs.withdrawing.add_share.Goals as goal
 
 pub share-requires-clause-in_use : goal.share-requires-clause-in_use

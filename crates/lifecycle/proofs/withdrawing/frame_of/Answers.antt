@@ -1,5 +1,4 @@
-use Rattle.lifecycle.proofs.Names.{sym, ap, ◌∙◌, subst, frame_of, number_of, IsEntry, Entry, parked_frame}
-use Rattle.lifecycle.proofs.Copies.{own_framed}
+use Rattle.lifecycle.proofs.{Copies.{own_framed}, Names.{sym, ap, ◌∙◌, subst, frame_of, number_of, IsEntry, Entry, parked_frame}}
 use Rattle.lifecycle.proofs.withdrawing.frame_of.Goals as goal
 
 pub unreachable-requires : goal.unreachable-requires

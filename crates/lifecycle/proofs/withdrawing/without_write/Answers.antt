@@ -1,5 +1,4 @@
-use Rattle.lifecycle.proofs.Names.{◌≡◌, ◌-◌, true, sym, ap, ◌∙◌, subst, arith, is_valid, is_leaf, can_write, IsEntry, number_of, Entry}
-use Rattle.lifecycle.{specs.Shares.{Weakens}, proofs.Weaker.{weaker_leaf, weaker_other, still_leaf}}
+use Rattle.lifecycle.{proofs.{Names.{◌≡◌, ◌-◌, true, sym, ap, ◌∙◌, subst, arith, is_valid, is_leaf, can_write, IsEntry, number_of, Entry}, Weaker.{weaker_leaf, weaker_other, still_leaf}}, specs.Shares.{Weakens}}
 use Rattle.lifecycle.proofs.withdrawing.without_write.Goals as goal
 
 pub returns-in_default : goal.returns-in_default

@@ -1,5 +1,4 @@
-use Rattle.std.proofs.Common.{◌∙◌}
-use Rattle.lives.proofs.{Agreeing.{same_files, same_pages}, Lives.{still_stands}}
+use Rattle.{std.proofs.Common.{◌∙◌}, lives.proofs.{Agreeing.{same_files, same_pages}, Lives.{still_stands}}}
 use Rattle.lives.proofs.laws.boot_after_lives.Goals as goal
 
 pub returns : goal.returns

@@ -1,5 +1,4 @@
-use Rattle.std.proofs.Common.{refl}
-use Rattle.lives.proofs.NewStores.{lived_before, upgrade_stands, stopped_upgrade}
+use Rattle.{std.proofs.Common.{refl}, lives.proofs.NewStores.{lived_before, upgrade_stands, stopped_upgrade}}
 use Rattle.lives.proofs.laws.upgraded_store.Goals as goal
 
 pub returns-clause-stood : goal.returns-clause-stood

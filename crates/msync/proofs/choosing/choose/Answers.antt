@@ -1,5 +1,4 @@
-use Rattle.msync.proofs.Names.{ℕ, ◌≡◌, ◌+◌, ◌-◌, refl, subst, arith, attr_at, is_touched}
-use Rattle.msync.{specs.Choice.{of_files, is_chosen, OverflowsRow, ListsTouched}, proofs.Appending.{listed, lists_none, over_none}}
+use Rattle.msync.{proofs.{Appending.{listed, lists_none, over_none}, Names.{ℕ, ◌≡◌, ◌+◌, ◌-◌, refl, subst, arith, attr_at, is_touched}}, specs.Choice.{of_files, is_chosen, OverflowsRow, ListsTouched}}
 use Rattle.msync.proofs.choosing.choose.Goals as goal
 
 pub returns-in-Ok : goal.returns-in-Ok

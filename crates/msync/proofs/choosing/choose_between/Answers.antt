@@ -1,5 +1,4 @@
-use Rattle.msync.proofs.Names.{ℕ, ◌≡◌, ◌-◌, arith, subst, attr_at, is_touched, on_err}
-use Rattle.msync.{specs.Choice.{of_files, is_chosen, is_taken_behind, Appends, OverflowsRow}, proofs.Walking.{walk_start, walk_on, walk_over, walk_end}}
+use Rattle.msync.{proofs.{Names.{ℕ, ◌≡◌, ◌-◌, arith, subst, attr_at, is_touched, on_err}, Walking.{walk_start, walk_on, walk_over, walk_end}}, specs.Choice.{of_files, is_chosen, is_taken_behind, Appends, OverflowsRow}}
 use Rattle.msync.proofs.choosing.choose_between.Goals as goal
 
 pub loop-page-init : goal.loop-page-init

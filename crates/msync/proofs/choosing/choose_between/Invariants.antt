@@ -1,5 +1,4 @@
-use Rattle.msync.proofs.Names.{◌-◌, ◌≤◌, attr_at, is_touched}
-use Rattle.msync.specs.Choice.{of_files, is_chosen, Appends}
+use Rattle.msync.{proofs.Names.{◌-◌, ◌≤◌, attr_at, is_touched}, specs.Choice.{of_files, is_chosen, Appends}}
 use Rattle.msync.proofs.choosing.choose_between.Given as goal
 
 abbrev pub invariant-loop-page : goal.invariant-loop-page

@@ -1,6 +1,5 @@
-use Rattle.msync.proofs.Names.{◌≡◌, ℕ, ◌/◌, ◌∙◌, ap, sym, subst, refl, arith, MsyncMode, Async, ENOMEM, page_count, is_covered, attr_at, picture_of, user_map-same}
-use Rattle.msync.specs.{Choice.{of_files, is_chosen, AreTaken, IsRulingOn, RulesSame}, declared.chosen.Ruling.TheVariants.{Refuses, Passes}}
-use Rattle.msync.proofs.Rulings.{the_process, ruled_missing, ruled_row, ruled_sync, listed_of, taken_of, touched_within}
+use Rattle.msync.proofs.{Names.{◌≡◌, ℕ, ◌/◌, ◌∙◌, ap, sym, subst, refl, arith, MsyncMode, Async, ENOMEM, page_count, is_covered, attr_at, picture_of, user_map-same}, Rulings.{the_process, ruled_missing, ruled_row, ruled_sync, listed_of}}
+use Rattle.msync.{proofs.Rulings.{taken_of, touched_within}, specs.{Choice.{of_files, is_chosen, AreTaken, IsRulingOn, RulesSame}, declared.chosen.Ruling.TheVariants.{Refuses, Passes}}}
 use Rattle.msync.proofs.choosing.rule.Goals as goal
 
 pub returns-then-not-covers-clause-same : goal.returns-then-not-covers-clause-same

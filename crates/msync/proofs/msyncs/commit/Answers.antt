@@ -1,9 +1,7 @@
-use Rattle.msync.proofs.Names.{◌≡◌, ◌≢◌, ◌⊎◌, inl, inr, length, take, refl, sym, ◌∙◌, subst, rules, LeavesNow, AsksOnly, FileStore, StandsFor, IsReadyStore, slots_of, IsStoreUsed, Source, committed, Stall, SwapDevice, Stalled, picture_of}
-use Rattle.msync.proofs.Names.{IsFit, ShowsPages}
-use Rattle.swap.specs.declared.pages.Pages.{Pages as Swap_pages}
-use Rattle.msync.specs.{Asking.{IsSectorListed}, Choice.{chosen_of, IsAway}, Shows.{IsSoundCore}, Settling.{Settles, SettlesMemory}, Spots.{AreSpots, HasSlot}}
-use Rattle.msync.proofs.Committing.{fits, are_pages, are_spots, front_lists, changes, synced_shows, memory_synced, away_of, err_is, device_failed, source_failed, store_same, commit_done, commit_failed, commit_unread, StoreCommits}
-use Rattle.msync.proofs.{Asking.{asks_listed}, SettledPages.{ready_shared, settles_nothing}}
+use Rattle.msync.proofs.{Asking.{asks_listed}, Committing.{fits, are_pages, are_spots, front_lists, changes, synced_shows, memory_synced, away_of, err_is, device_failed, source_failed, store_same, commit_done, commit_failed, commit_unread}}
+use Rattle.msync.proofs.{Committing.{StoreCommits}, Names.{◌≡◌, ◌≢◌, ◌⊎◌, inl, inr, length, take, refl, sym, ◌∙◌, subst, rules, LeavesNow, AsksOnly, FileStore, StandsFor, IsReadyStore, slots_of, IsStoreUsed, Source, committed, Stall}}
+use Rattle.msync.{proofs.{Names.{SwapDevice, Stalled, picture_of, IsFit, ShowsPages}, SettledPages.{ready_shared, settles_nothing}}, specs.{Asking.{IsSectorListed}, Choice.{chosen_of, IsAway}, Settling.{Settles, SettlesMemory}}}
+use Rattle.{msync.specs.{Shows.{IsSoundCore}, Spots.{AreSpots, HasSlot}}, swap.specs.declared.pages.Pages.{Pages as Swap_pages}}
 use Rattle.msync.proofs.msyncs.commit.Goals as goal
 
 pub commit-requires-clause-pages : goal.commit-requires-clause-pages
@@ -46,10 +44,7 @@ returns-in-Ok g c =
     } in
     let memory = memory_synced (picture_of old) (picture_of new) ch list c.requires.sound.fit c.requires.listed spots settles in
     let apart : (new.swap ≡ old.swap) ⊎ IsAway (picture_of old) ch = elim c.settle.ensures.swap [
-      | inl same ↦ elim reads.only [
-        | inl was ↦ inl (same ∙ was)
-        | inr has ↦ inr (away has)
-      ]
+      | inl same ↦ elim reads.only [ inl was ↦ inl (same ∙ was) | inr has ↦ inr (away has) ]
       | inr has ↦ inr (away has)
     ] in
     record {
@@ -96,10 +91,7 @@ returns-in-Err-Device g c =
     let away : HasSlot list → IsAway (picture_of old) ch = λ has. away_of (picture_of old) ch list few spots has in
     let memory : SettlesMemory (picture_of old) _ = store_same (λ x. SettlesMemory (picture_of old) x) (picture_of old) (slots_of old.swap) (slots_of source) old.store.directory c.commit.new.self.directory
     reads.slots done.files (settles_nothing (picture_of old)) in
-    let apart : (source ≡ old.swap) ⊎ IsAway (picture_of old) ch = elim reads.only [
-      | inl same ↦ inl same
-      | inr has ↦ inr (away has)
-    ] in
+    let apart : (source ≡ old.swap) ⊎ IsAway (picture_of old) ch = elim reads.only [ inl same ↦ inl same | inr has ↦ inr (away has) ] in
     let fit : IsFit _ = store_same IsFit (picture_of old) (slots_of old.swap) (slots_of source) old.store.directory c.commit.new.self.directory reads.slots done.files c.requires.sound.fit in
     record {
       commits = λ s after pid addr len mode shows takes same.
@@ -133,10 +125,7 @@ returns-in-Err-Source g c =
     let away : HasSlot list → IsAway (picture_of old) ch = λ has. away_of (picture_of old) ch list few spots has in
     let memory : SettlesMemory (picture_of old) _ = store_same (λ x. SettlesMemory (picture_of old) x) (picture_of old) (slots_of old.swap) (slots_of source) old.store.directory c.commit.new.self.directory
     reads.slots done.files (settles_nothing (picture_of old)) in
-    let apart : (source ≡ old.swap) ⊎ IsAway (picture_of old) ch = elim reads.only [
-      | inl same ↦ inl same
-      | inr has ↦ inr (away has)
-    ] in
+    let apart : (source ≡ old.swap) ⊎ IsAway (picture_of old) ch = elim reads.only [ inl same ↦ inl same | inr has ↦ inr (away has) ] in
     let fit : IsFit _ = store_same IsFit (picture_of old) (slots_of old.swap) (slots_of source) old.store.directory c.commit.new.self.directory reads.slots done.files c.requires.sound.fit in
     let still : ((stall : Stall) → Stalled SwapDevice ≢ Stalled stall) → g.E.SectorDisk.failures source.pages.disk ≡ g.E.SectorDisk.failures old.swap.pages.disk = λ none. absurd (none SwapDevice refl) in
     let failed = err_is c.in-Err-Source.field-0 Source c.in-Err-Source.field-0-is in

@@ -1,5 +1,4 @@
-use Rattle.msync.proofs.Names.{ℕ, ◌≡◌, ◌<◌, length, slots_of, picture_of}
-use Rattle.msync.specs.{Choice.{chosen_page}, Spots.{spot_at, bytes_there, IsSpot}}
+use Rattle.msync.{proofs.Names.{ℕ, ◌≡◌, ◌<◌, length, slots_of, picture_of}, specs.{Choice.{chosen_page}, Spots.{spot_at, bytes_there, IsSpot}}}
 use Rattle.msync.proofs.msyncs.fill_spots.Given as goal
 
 abbrev pub invariant-loop-i : goal.invariant-loop-i

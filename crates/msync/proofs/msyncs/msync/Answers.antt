@@ -1,5 +1,4 @@
-use Rattle.msync.proofs.Names.{rules, picture_of}
-use Rattle.msync.{specs.Choice.{chosen_of, chosen_page, IsAway, TakesAway}, proofs.{Asking.{asks_taken}, Committing.{takes_some, commits_under}, Ends.{ends_nothing, ends_under}}}
+use Rattle.msync.{proofs.{Asking.{asks_taken}, Committing.{takes_some, commits_under}, Ends.{ends_nothing, ends_under}, Names.{rules, picture_of}}, specs.Choice.{chosen_of, chosen_page, IsAway, TakesAway}}
 use Rattle.msync.proofs.msyncs.msync.Goals as goal
 
 pub returns-in-Refuses : goal.returns-in-Refuses
@@ -11,7 +10,7 @@ returns-in-Passes g c = search (rules, ends_nothing)
 pub returns-in-Takes : goal.returns-in-Takes
 returns-in-Takes g c =
     let old = c.args.core.now in
-    let a = c.args in
+    let a = c.args.call in
     let ch = chosen_of c.rule.new.list c.in-Takes.count in
     let done = c.commit.ensures in
     let away : IsAway (picture_of old) ch → TakesAway (picture_of old) a.pid a.addr a.len =

@@ -1,5 +1,4 @@
-use Rattle.msync.proofs.Names.{sym, arith, File}
-use Rattle.msync.proofs.Spotting.{cache_inside, slot_whole}
+use Rattle.msync.proofs.{Names.{sym, arith, File}, Spotting.{cache_inside, slot_whole}}
 use Rattle.msync.proofs.msyncs.spot_of.Goals as goal
 
 pub bytes-requires : goal.bytes-requires

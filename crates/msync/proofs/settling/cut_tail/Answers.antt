@@ -1,6 +1,5 @@
 use Rattle.msync.proofs.Names.{◌≡◌, ◌<◌, ℕ, List, refl, sym, ap, ◌∙◌, arith, File, Cache, FrameTable, role_of, IsFrame, IsHeld, IsSound, with_bytes, is_handed_out, with_bytes-others, IsSound-step, IsHeld-above, IsHeld-not_zero, Picture}
-use Rattle.msync.proofs.Names.{picture_of}
-use Rattle.msync.proofs.Settled.{fit_cut}
+use Rattle.msync.proofs.{Names.{picture_of}, Settled.{fit_cut}}
 use Rattle.msync.proofs.settling.cut_tail.Goals as goal
 
 pub returns-clause-fit : goal.returns-clause-fit
@@ -30,12 +29,10 @@ invariant_of-core-clause-sound g c =
     (held_cached c.args.core.now.frames c.args.frame.0 c.requires.there (c.requires.fit.places.cached (File c.args.page) c.args.frame.0 c.requires.placed)) c.args.core.now.sound
 
 pub invariant_of-core-clause-page_count : goal.invariant_of-core-clause-page_count
-invariant_of-core-clause-page_count g c =
-    c.args.core.now.page_count ∙ sym (with_bytes-others c.args.core.now.frames c.args.frame.0 c.cut_from.new.page).frames
+invariant_of-core-clause-page_count g c = c.args.core.now.page_count ∙ sym (with_bytes-others c.args.core.now.frames c.args.frame.0 c.cut_from.new.page).frames
 
 pub invariant_of-core-clause-node_count : goal.invariant_of-core-clause-node_count
-invariant_of-core-clause-node_count g c =
-    c.args.core.now.node_count ∙ sym (with_bytes-others c.args.core.now.frames c.args.frame.0 c.cut_from.new.page).frames
+invariant_of-core-clause-node_count g c = c.args.core.now.node_count ∙ sym (with_bytes-others c.args.core.now.frames c.args.frame.0 c.cut_from.new.page).frames
 
 pub invariant_of-core-clause-hand_inside : goal.invariant_of-core-clause-hand_inside
 invariant_of-core-clause-hand_inside g c =

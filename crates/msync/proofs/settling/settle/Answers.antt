@@ -1,5 +1,4 @@
-use Rattle.msync.proofs.Names.{◌≡◌, ℕ, inl, inr, length, refl, ◌∙◌, subst, arith, picture_of}
-use Rattle.msync.{specs.Settling.{Settles}, proofs.SettledPages.{beside_none, beside_then, settles_none, spot_left, settles_more}}
+use Rattle.msync.{proofs.{Names.{◌≡◌, ℕ, inl, inr, length, refl, ◌∙◌, subst, arith, picture_of}, SettledPages.{beside_none, beside_then, settles_none, spot_left, settles_more}}, specs.Settling.{Settles}}
 use Rattle.msync.proofs.settling.settle.Goals as goal
 
 pub loop-i-init : goal.loop-i-init
@@ -30,10 +29,7 @@ loop-i-preserved g c =
       fit = done.fit;
       beside = beside_then a b c.settle_one.new.core kept.beside done.beside;
       swap = elim done.swap [
-        | inl same ↦ elim kept.swap [
-          | inl before ↦ inl (same ∙ before)
-          | inr has ↦ inr has
-        ]
+        | inl same ↦ elim kept.swap [ inl before ↦ inl (same ∙ before) | inr has ↦ inr has ]
         | inr slot ↦ inr (i, c.loop-i-test.true, slot)
       ];
       settles = settles_more (picture_of a) (picture_of b) list i c.requires.spots c.loop-i-test.true kept.settles (picture_of c.settle_one.new.core) kept.fit done.settles;

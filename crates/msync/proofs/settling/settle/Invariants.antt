@@ -1,5 +1,4 @@
-use Rattle.msync.proofs.Names.{◌≡◌, ◌⊎◌, picture_of, IsFit}
-use Rattle.msync.specs.{Spots.{HasSlot}, Settling.{KeepsBesidePages, Settles}}
+use Rattle.msync.{proofs.Names.{◌≡◌, ◌⊎◌, picture_of, IsFit}, specs.{Settling.{KeepsBesidePages, Settles}, Spots.{HasSlot}}}
 use Rattle.msync.proofs.settling.settle.Given as goal
 
 abbrev pub invariant-loop-i : goal.invariant-loop-i

@@ -1,5 +1,4 @@
-use Rattle.msync.proofs.Names.{inl, refl, ap, ◌∙◌, arith, File, place_of, is_touched, Picture, picture_of, is_data, Untouches, fit_untouched, all_placed}
-use Rattle.msync.proofs.{Beside.{same_beside}, Settled.{frames_cut, settles_framed}}
+use Rattle.msync.proofs.{Beside.{same_beside}, Names.{inl, refl, ap, ◌∙◌, arith, File, place_of, is_touched, Picture, picture_of, is_data, Untouches, fit_untouched, all_placed}, Settled.{frames_cut, settles_framed}}
 use Rattle.msync.proofs.settling.settle_in_frame.Goals as goal
 
 pub change_leaves-requires-clause-inside : goal.change_leaves-requires-clause-inside

@@ -1,5 +1,4 @@
-use Rattle.msync.proofs.Names.{rules, inr, refl, sym, ◌∙◌, arith, false≢true, File, slots_of, place_of, is_touched, Picture, picture_of, Homes, fit_homed}
-use Rattle.msync.proofs.Homing.{settles_homed}
+use Rattle.msync.proofs.{Homing.{settles_homed}, Names.{rules, inr, refl, sym, ◌∙◌, arith, false≢true, File, slots_of, place_of, is_touched, Picture, picture_of, Homes, fit_homed}}
 use Rattle.msync.proofs.settling.settle_in_slot.Goals as goal
 
 pub set_place-requires-clause-kept : goal.set_place-requires-clause-kept

@@ -1,5 +1,4 @@
-use Rattle.msync.proofs.Names.{sym, subst, picture_of}
-use Rattle.msync.specs.{declared.chosen.Residence.{Residence}, declared.chosen.Spot.{Spot}, Settling.{IsSettleable, SettlesPage}}
+use Rattle.msync.{proofs.Names.{sym, subst, picture_of}, specs.{Settling.{IsSettleable, SettlesPage}, declared.chosen.{Residence.{Residence}, Spot.{Spot}}}}
 use Rattle.msync.proofs.settling.settle_one.Goals as goal
 
 pub settle_in_frame-requires : goal.settle_in_frame-requires

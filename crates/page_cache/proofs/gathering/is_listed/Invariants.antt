@@ -1,5 +1,4 @@
-use Rattle.std.proofs.Common.{◌≡◌, ◌<◌, ℕ}
-use Rattle.page_cache.specs.Gathering.{index_entry}
+use Rattle.{std.proofs.Common.{◌≡◌, ◌<◌, ℕ}, page_cache.specs.Gathering.{index_entry}}
 use Rattle.page_cache.proofs.gathering.is_listed.Given as goal
 
 -- none of the entries so far is the page

@@ -1,5 +1,4 @@
-use Rattle.page_tables.proofs.Names.{sym, ◌∙◌}
-use Rattle.page_tables.proofs.Numbers.{valid_is_leaf}
+use Rattle.page_tables.proofs.{Names.{sym, ◌∙◌}, Numbers.{valid_is_leaf}}
 use Rattle.page_tables.proofs.forms.decode.Goals as goal
 
 pub returns-then-is_valid-clause-form : goal.returns-then-is_valid-clause-form

@@ -1,5 +1,4 @@
-use Rattle.page_tables.proofs.Names.{◌<◌, ◌^◌, ◌∙◌, sym, arith}
-use Rattle.page_tables.proofs.Bits.{leaf_over, parked_over}
+use Rattle.page_tables.proofs.{Bits.{leaf_over, parked_over}, Names.{◌<◌, ◌^◌, ◌∙◌, sym, arith}}
 use Rattle.page_tables.proofs.leaves.entry_over.Goals as goal
 
 pub returns-then-is_barred-clause-over : goal.returns-then-is_barred-clause-over

@@ -1,5 +1,4 @@
-use Rattle.page_tables.proofs.Names.{top_level, ◌≡◌, ◌-◌, ◌+◌, ◌<◌, false, inr, refl, sym, ap, ◌∙◌, arith, rules, entry_at, is_pointer, is_valid, index_of}
-use Rattle.page_tables.proofs.{Ends.{ends_way, valid_points, way_done}, Ways.{last_at-next, last_at-stop}}
+use Rattle.page_tables.proofs.{Ends.{ends_way, valid_points, way_done}, Names.{top_level, ◌≡◌, ◌-◌, ◌+◌, ◌<◌, false, inr, refl, sym, ap, ◌∙◌, arith, rules, entry_at, is_pointer, is_valid, index_of}, Ways.{last_at-next, last_at-stop}}
 use Rattle.page_tables.proofs.tables.end_of_way.Goals as goal
 
 pub returns-then-not-is_valid : goal.returns-then-not-is_valid

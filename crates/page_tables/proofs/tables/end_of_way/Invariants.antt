@@ -1,5 +1,4 @@
-use Rattle.page_tables.proofs.Names.{top_level, ◌≡◌, ◌≤◌, ◌<◌, ◌+◌, ◌⊎◌, index_of}
-use Rattle.page_tables.specs.Tree.{IsTable, Points, last_table}
+use Rattle.page_tables.{proofs.Names.{top_level, ◌≡◌, ◌≤◌, ◌<◌, ◌+◌, ◌⊎◌, index_of}, specs.Tree.{IsTable, Points, last_table}}
 use Rattle.page_tables.proofs.tables.end_of_way.Given as goal
 
 -- what is left of the way ends where the whole way does

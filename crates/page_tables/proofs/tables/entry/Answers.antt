@@ -1,5 +1,4 @@
-use Rattle.page_tables.proofs.Names.{top_level, sym, subst}
-use Rattle.page_tables.{specs.Entry.{IsPageEntry}, proofs.Ends.{page_is_entry}}
+use Rattle.page_tables.{proofs.{Ends.{page_is_entry}, Names.{top_level, sym, subst}}, specs.Entry.{IsPageEntry}}
 use Rattle.page_tables.proofs.tables.entry.Goals as goal
 
 pub decode-requires : goal.decode-requires

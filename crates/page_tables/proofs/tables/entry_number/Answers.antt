@@ -1,5 +1,4 @@
-use Rattle.page_tables.proofs.Names.{sym, ap, ◌∙◌, entry_at, index_of}
-use Rattle.page_tables.proofs.Ends.{entry_missing, entry_there}
+use Rattle.page_tables.proofs.{Ends.{entry_missing, entry_there}, Names.{sym, ap, ◌∙◌, entry_at, index_of}}
 use Rattle.page_tables.proofs.tables.entry_number.Goals as goal
 
 pub returns-then-level-gt0 : goal.returns-then-level-gt0

@@ -1,5 +1,4 @@
-use Rattle.page_tables.proofs.Names.{sym, ap, ◌∙◌, get_or}
-use Rattle.page_tables.proofs.EmptyBytes.{bytes_zero, entries_zero}
+use Rattle.page_tables.proofs.{EmptyBytes.{bytes_zero, entries_zero}, Names.{sym, ap, ◌∙◌, get_or}}
 use Rattle.page_tables.proofs.tables.is_empty.Goals as goal
 
 pub are_zeros-requires : goal.are_zeros-requires

@@ -1,5 +1,4 @@
-use Rattle.page_tables.proofs.Names.{top_level, ap, ◌∙◌, index_of}
-use Rattle.page_tables.{specs.{Tree.{last_table}, Change.{ChangesEntry}}, proofs.Linking.{links}}
+use Rattle.page_tables.{proofs.{Linking.{links}, Names.{top_level, ap, ◌∙◌, index_of}}, specs.{Change.{ChangesEntry}, Tree.{last_table}}}
 use Rattle.page_tables.proofs.tables.link_table.Goals as goal
 
 pub returns-clause-links : goal.returns-clause-links

@@ -1,5 +1,4 @@
-use Rattle.page_tables.proofs.Names.{sym, ap, ◌∙◌, entry_at}
-use Rattle.page_tables.proofs.Places.{entry_in_row}
+use Rattle.page_tables.proofs.{Names.{sym, ap, ◌∙◌, entry_at}, Places.{entry_in_row}}
 use Rattle.page_tables.proofs.tables.number_in.Goals as goal
 
 pub returns : goal.returns

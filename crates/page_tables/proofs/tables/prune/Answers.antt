@@ -1,5 +1,4 @@
-use Rattle.page_tables.proofs.Names.{top_level, arith}
-use Rattle.page_tables.proofs.Pruning.{Prunes-refl, Prunes-trans}
+use Rattle.page_tables.proofs.{Names.{top_level, arith}, Pruning.{Prunes-refl, Prunes-trans}}
 use Rattle.page_tables.proofs.tables.prune.Goals as goal
 
 pub loop-root-init : goal.loop-root-init

@@ -1,5 +1,4 @@
-use Rattle.page_tables.proofs.Names.{top_level, ◌-◌}
-use Rattle.page_tables.specs.{Tree.{IsForest, IsRoot, missing_of}, Change.{Prunes}}
+use Rattle.page_tables.{proofs.Names.{top_level, ◌-◌}, specs.{Change.{Prunes}, Tree.{IsForest, IsRoot, missing_of}}}
 use Rattle.page_tables.proofs.tables.prune.Given as goal
 
 abbrev pub invariant-loop-root : goal.invariant-loop-root

@@ -1,5 +1,4 @@
-use Rattle.page_tables.proofs.Names.{arith}
-use Rattle.page_tables.proofs.EntryBytes.{puts_number}
+use Rattle.page_tables.proofs.{EntryBytes.{puts_number}, Names.{arith}}
 use Rattle.page_tables.proofs.tables.put_number.Goals as goal
 
 pub returns : goal.returns

@@ -1,5 +1,4 @@
-use Rattle.page_tables.proofs.Names.{top_level, user_pages_fit, inr, refl, sym, ap, ◌∙◌, arith, index_of}
-use Rattle.page_tables.{specs.{Entry.{number_of, IsSoftware}, Change.{ChangesEntry}}, proofs.{Numbers.{number_of-not_pointer}, Setting.{sets}}}
+use Rattle.page_tables.{proofs.{Names.{top_level, user_pages_fit, inr, refl, sym, ap, ◌∙◌, arith, index_of}, Numbers.{number_of-not_pointer}, Setting.{sets}}, specs.{Change.{ChangesEntry}, Entry.{number_of, IsSoftware}}}
 use Rattle.page_tables.proofs.tables.set.Goals as goal
 
 pub returns-clause-sets : goal.returns-clause-sets

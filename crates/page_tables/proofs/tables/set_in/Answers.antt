@@ -1,5 +1,4 @@
-use Rattle.page_tables.proofs.Names.{inr, refl, ◌∙◌, index_of}
-use Rattle.page_tables.{specs.{Entry.{number_of, IsSoftware}, Change.{ChangesEntry}}, proofs.{Numbers.{number_of-not_pointer}, Pages.{index_of-zero}, Setting.{sets, kept_frames}}}
+use Rattle.page_tables.{proofs.{Names.{inr, refl, ◌∙◌, index_of}, Numbers.{number_of-not_pointer}, Pages.{index_of-zero}, Setting.{sets, kept_frames}}, specs.{Change.{ChangesEntry}, Entry.{number_of, IsSoftware}}}
 use Rattle.page_tables.proofs.tables.set_in.Goals as goal
 
 pub returns-clause-sets : goal.returns-clause-sets

@@ -1,5 +1,4 @@
-use Rattle.page_tables.proofs.Names.{arith}
-use Rattle.page_tables.proofs.Places.{found_at}
+use Rattle.page_tables.proofs.{Names.{arith}, Places.{found_at}}
 use Rattle.page_tables.proofs.tables.table_of.Goals as goal
 
 pub returns-then-level-gt0-clause-missing : goal.returns-then-level-gt0-clause-missing

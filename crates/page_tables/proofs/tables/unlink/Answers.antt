@@ -1,5 +1,4 @@
-use Rattle.page_tables.proofs.Names.{◌≡◌, sym, ap, ◌∙◌, subst, Table, Private, is_handed_out}
-use Rattle.page_tables.{specs.Change.{ChangesEntry}, proofs.Setting.{table_forth}}
+use Rattle.page_tables.{proofs.{Names.{◌≡◌, sym, ap, ◌∙◌, subst, Table, Private, is_handed_out}, Setting.{table_forth}}, specs.Change.{ChangesEntry}}
 use Rattle.page_tables.proofs.tables.unlink.Goals as goal
 
 pub release-requires : goal.release-requires

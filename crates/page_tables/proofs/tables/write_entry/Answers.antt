@@ -1,5 +1,4 @@
-use Rattle.page_tables.{specs.Change.{PutsNumber}, proofs.EntryBytes.{changes_entry}}
-use Rattle.page_tables.proofs.Names.{bytes_of}
+use Rattle.page_tables.{proofs.{EntryBytes.{changes_entry}, Names.{bytes_of}}, specs.Change.{PutsNumber}}
 use Rattle.page_tables.proofs.tables.write_entry.Goals as goal
 
 pub returns-clause-change : goal.returns-clause-change

@@ -1,5 +1,4 @@
-use Rattle.std.proofs.{Common.{◌≡◌, ◌+◌, ◌*◌, ◌/◌, ◌<◌, ◌≤◌, ◌++◌, sym, ap, subst, ◌∙◌, take, drop, arith, rules}, KnownBytes.{Appends-trans}, lemmas.List.{take-append-drop}}
-use Rattle.std.specs.Io.KnownBytes.{Appends}
+use Rattle.std.{proofs.{Common.{◌≡◌, ◌+◌, ◌*◌, ◌/◌, ◌<◌, ◌≤◌, ◌++◌, sym, ap, subst, ◌∙◌, take, drop, arith, rules}, KnownBytes.{Appends-trans}, lemmas.List.{take-append-drop}}, specs.Io.KnownBytes.{Appends}}
 use Rattle.programs.proofs.{Asking.{reads_more}, Copies.{begins_more, next_piece, all_pages}}
 use Rattle.programs.proofs.showing.copy_file.Goals as goal
 

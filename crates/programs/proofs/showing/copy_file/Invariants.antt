@@ -1,7 +1,4 @@
-use Rattle.std.proofs.Common.{◌≡◌, ℕ, ◌*◌, List, Some, take}
-use Rattle.std.specs.Io.KnownBytes.{Appends}
-use Rattle.file_store.specs.Standing.{standing_file}
-use Rattle.programs.specs.Showing.{IsSectorOfFile, OnlyReads}
+use Rattle.{std.{proofs.Common.{◌≡◌, ℕ, ◌*◌, List, Some, take}, specs.Io.KnownBytes.{Appends}}, file_store.specs.Standing.{standing_file}, programs.specs.Showing.{IsSectorOfFile, OnlyReads}}
 use Rattle.programs.proofs.showing.copy_file.Given as goal
 
 abbrev pub invariant-loop-k : goal.invariant-loop-k

@@ -1,5 +1,4 @@
-use Rattle.std.proofs.Common.{refl, sym, ap, ◌∙◌, subst, Err, rules}
-use Rattle.programs.{specs.Showing.{KeepsImage, RefusesToShow}, proofs.{Asking.{keeps_image, keeps_unopened}, Copies.{same_open, opened_bytes, opened_info}}}
+use Rattle.{std.proofs.Common.{refl, sym, ap, ◌∙◌, subst, Err, rules}, programs.{proofs.{Asking.{keeps_image, keeps_unopened}, Copies.{same_open, opened_bytes, opened_info}}, specs.Showing.{KeepsImage, RefusesToShow}}}
 use Rattle.programs.proofs.showing.show.Goals as goal
 
 pub returns-in-Ok-show_opened-clause-writes : goal.returns-in-Ok-show_opened-clause-writes

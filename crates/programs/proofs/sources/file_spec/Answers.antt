@@ -1,5 +1,4 @@
-use Rattle.std.proofs.Common.{◌++◌, codes, ap, sym, ◌∙◌}
-use Rattle.programs.proofs.Specs.{no_spec}
+use Rattle.{std.proofs.Common.{◌++◌, codes, ap, sym, ◌∙◌}, programs.proofs.Specs.{no_spec}}
 use Rattle.programs.proofs.sources.file_spec.Goals as goal
 
 pub returns-in_default-number-clause-none : goal.returns-in_default-number-clause-none

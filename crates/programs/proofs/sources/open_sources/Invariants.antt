@@ -1,5 +1,4 @@
-use Rattle.std.proofs.Common.{map, take}
-use Rattle.programs.specs.Specs.{AreSpecSources}
+use Rattle.{std.proofs.Common.{map, take}, programs.specs.Specs.{AreSpecSources}}
 use Rattle.programs.proofs.sources.open_sources.Given as goal
 
 abbrev pub invariant-loop-spec : goal.invariant-loop-spec

@@ -1,5 +1,4 @@
-use Rattle.ranges.proofs.Names.{◌+◌, refl, sym, ◌∙◌, arith, rules, Picture, picture_of}
-use Rattle.ranges.proofs.{BetweenEntries.{none_at}, ClearedPages.{clears_none, tables-refl}, ClearedPlaces.{form_at, placed_at, past, lacks_at, taken_at}}
+use Rattle.ranges.proofs.{BetweenEntries.{none_at}, ClearedPages.{clears_none, tables-refl}, ClearedPlaces.{form_at, placed_at, past, lacks_at, taken_at}, Names.{◌+◌, refl, sym, ◌∙◌, arith, rules, Picture, picture_of}}
 use Rattle.ranges.proofs.clearing.clear_at.Goals as goal
 
 pub set_in-requires-clause-placed : goal.set_in-requires-clause-placed

@@ -26,10 +26,7 @@ returns g c =
     let step = passes_missing old new c.args.pid r c.args.start c.args.end c.min-stop-2.result c.span_end.result c.last_table-missing.result.0 c.requires c.args.core.now.sound
     c.root_of-top_table.ensures c.prune.ensures.prunes (same_beside old c.prune.new.memory) c.prune.ensures.pruned missing c.if-missing-eq0.false c.span_end.ensures c.min-stop-2.ensures in
     record {
-      cleans = record {
-        pages = record { clears = step.clears; fit = step.fit; rest = search rules; refused = search rules };
-        cleared = step.cleared;
-      };
+      cleans = record { pages = record { clears = step.clears; fit = step.fit; rest = search rules; refused = search rules }; cleared = step.cleared };
       further = step.further;
       within = omega (arith, c.min-stop-2.ensures);
       ends = step.ends;
@@ -47,10 +44,7 @@ returns-then-missing-top_level g c =
     (root_pruned t (top_level g.M.Levels.mode) r c.args.start tree.forest (tree.roots c.args.pid r c.root_of-top_table.ensures).table
     (missing ∙ c.if-missing-top_level.true ∙ c.top_level.ensures.level)) missing c.if-missing-eq0.false c.span_end.ensures c.min-stop-2.ensures in
     record {
-      cleans = record {
-        pages = record { clears = step.clears; fit = step.fit; rest = search rules; refused = search rules };
-        cleared = step.cleared;
-      };
+      cleans = record { pages = record { clears = step.clears; fit = step.fit; rest = search rules; refused = search rules }; cleared = step.cleared };
       further = step.further;
       within = omega (arith, c.min-stop-2.ensures);
       ends = step.ends;

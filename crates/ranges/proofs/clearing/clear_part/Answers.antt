@@ -1,5 +1,4 @@
-use Rattle.ranges.proofs.Names.{◌≡◌, ℕ, ◌≤◌, refl, sym, ◌∙◌, subst, arith, Picture, picture_of}
-use Rattle.ranges.{specs.Steps.{Clears, IsCleared}, proofs.ClearedPages.{rest-refl, rest_then, clears_none, clears_then}}
+use Rattle.ranges.{proofs.{ClearedPages.{rest-refl, rest_then, clears_none, clears_then}, Names.{◌≡◌, ℕ, ◌≤◌, refl, sym, ◌∙◌, subst, arith, Picture, picture_of}}, specs.Steps.{Clears, IsCleared}}
 use Rattle.ranges.proofs.clearing.clear_part.Goals as goal
 
 pub loop-page-init : goal.loop-page-init

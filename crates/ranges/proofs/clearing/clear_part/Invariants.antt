@@ -1,5 +1,4 @@
-use Rattle.ranges.proofs.Names.{ℕ, ◌≡◌, ◌-◌, ◌≤◌, IsFit, picture_of}
-use Rattle.ranges.specs.Steps.{KeepsBesideMemory, Clears, IsCleared}
+use Rattle.ranges.{proofs.Names.{ℕ, ◌≡◌, ◌-◌, ◌≤◌, IsFit, picture_of}, specs.Steps.{KeepsBesideMemory, Clears, IsCleared}}
 use Rattle.ranges.proofs.clearing.clear_part.Given as goal
 
 abbrev pub invariant-loop-page : goal.invariant-loop-page

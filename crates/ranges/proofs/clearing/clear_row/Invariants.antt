@@ -1,5 +1,4 @@
-use Rattle.ranges.proofs.Names.{◌≡◌, ◌-◌, ◌≤◌, max, IsFit, picture_of}
-use Rattle.ranges.specs.Steps.{KeepsBesideMemory, Clears, IsCleared}
+use Rattle.ranges.{proofs.Names.{◌≡◌, ◌-◌, ◌≤◌, max, IsFit, picture_of}, specs.Steps.{KeepsBesideMemory, Clears, IsCleared}}
 use Rattle.ranges.proofs.clearing.clear_row.Given as goal
 
 abbrev pub invariant-loop-part : goal.invariant-loop-part

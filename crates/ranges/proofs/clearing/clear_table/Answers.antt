@@ -1,6 +1,5 @@
-use Rattle.ranges.proofs.Names.{top_level, ◌≡◌, ℕ, ◌+◌, ◌-◌, ◌*◌, ◌/◌, ◌%◌, inl, refl, sym, ap, ◌∙◌, subst, arith, rules, IsTableOf, Picture, picture_of}
-use Rattle.ranges.specs.Steps.{Clears}
-use Rattle.ranges.proofs.{ClearedPages.{same_beside, rest-refl, rest_then, tables-refl, tables_then, clears_none, clears_then}, Gaps.{in_row_of, user_inside}, Pruned.{fit_pruned, clears_pruned, cleared_block, cleared_still}}
+use Rattle.ranges.proofs.{ClearedPages.{same_beside, rest-refl, rest_then, tables-refl, tables_then, clears_none, clears_then}, Gaps.{in_row_of, user_inside}, Names.{top_level, ◌≡◌, ℕ, ◌+◌, ◌-◌, ◌*◌, ◌/◌, ◌%◌, inl, refl, sym, ap, ◌∙◌}}
+use Rattle.ranges.{proofs.{Names.{subst, arith, rules, IsTableOf, Picture, picture_of}, Pruned.{fit_pruned, clears_pruned, cleared_block, cleared_still}}, specs.Steps.{Clears}}
 use Rattle.ranges.proofs.clearing.clear_table.Goals as goal
 
 pub table_of-requires-clause-root : goal.table_of-requires-clause-root

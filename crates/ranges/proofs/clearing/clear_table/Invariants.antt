@@ -1,5 +1,4 @@
-use Rattle.ranges.proofs.Names.{top_level, ◌≡◌, ◌+◌, ◌-◌, ◌/◌, ◌≤◌, Some, IsTableOf, IsFit, picture_of}
-use Rattle.ranges.specs.Steps.{KeepsBesideMemory, SameTables, Clears}
+use Rattle.ranges.{proofs.Names.{top_level, ◌≡◌, ◌+◌, ◌-◌, ◌/◌, ◌≤◌, Some, IsTableOf, IsFit, picture_of}, specs.Steps.{KeepsBesideMemory, SameTables, Clears}}
 use Rattle.ranges.proofs.clearing.clear_table.Given as goal
 
 abbrev pub invariant-loop-index : goal.invariant-loop-index

@@ -1,5 +1,4 @@
-use Rattle.ranges.proofs.Names.{rules, slots_of, InSlot, seat, Picture, picture_of, seat_common}
-use Rattle.ranges.proofs.Returning.{lacks_some, lacks_none, slot_of, not_away, gives_none, fit_slot, gives_slot}
+use Rattle.ranges.proofs.{Names.{rules, slots_of, InSlot, seat, Picture, picture_of, seat_common}, Returning.{lacks_some, lacks_none, slot_of, not_away, gives_none, fit_slot, gives_slot}}
 use Rattle.ranges.proofs.clearing.give_back_slot.Goals as goal
 
 pub release-requires : goal.release-requires

@@ -1,5 +1,4 @@
-use Rattle.ranges.proofs.Names.{◌+◌, inl, inr, eqb-true, arith, cases_lt}
-use Rattle.ranges.proofs.Joined.{left, right}
+use Rattle.ranges.proofs.{Joined.{left, right}, Names.{◌+◌, inl, inr, eqb-true, arith, cases_lt}}
 use Rattle.ranges.proofs.entries.are_none.Goals as goal
 
 pub returns : goal.returns

@@ -1,5 +1,4 @@
-use Rattle.ranges.proofs.Names.{entry_at}
-use Rattle.ranges.proofs.Joined.{four}
+use Rattle.ranges.proofs.{Joined.{four}, Names.{entry_at}}
 use Rattle.ranges.proofs.entries.four_at.Goals as goal
 
 pub returns : goal.returns

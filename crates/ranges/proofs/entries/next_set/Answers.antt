@@ -8,8 +8,5 @@ loop-at-preserved g c =
     record {
       from = omega (arith, k.from);
       within = none.within;
-      passed = λ n least below. elim (cases_lt n c.loop-at.at) [
-        | inl front ↦ k.passed n least front
-        | inr back ↦ none.none n back below
-      ];
+      passed = λ n least below. elim (cases_lt n c.loop-at.at) [ inl front ↦ k.passed n least front | inr back ↦ none.none n back below ];
     }

@@ -1,5 +1,4 @@
-use Rattle.ranges.proofs.Names.{◌-◌, inl, inr, sym, ◌∙◌, arith, cases_lt}
-use Rattle.ranges.proofs.Naming.{none_named, uncommon_named}
+use Rattle.ranges.proofs.{Names.{◌-◌, inl, inr, sym, ◌∙◌, arith, cases_lt}, Naming.{none_named, uncommon_named}}
 use Rattle.ranges.proofs.forgetting.common_pages.Goals as goal
 
 pub loop-run-preserved : goal.loop-run-preserved

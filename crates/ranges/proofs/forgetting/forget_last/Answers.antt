@@ -1,5 +1,4 @@
-use Rattle.ranges.proofs.Names.{sizes, inl, inr, refl, arith, Object, picture_of}
-use Rattle.ranges.proofs.{Emptied.{in_row_from, row_parts}, LastName.{named_without, named_beside, unnamed_without}}
+use Rattle.ranges.proofs.{Emptied.{in_row_from, row_parts}, LastName.{named_without, named_beside, unnamed_without}, Names.{sizes, inl, inr, refl, arith, Object, picture_of}}
 use Rattle.ranges.proofs.forgetting.forget_last.Goals as goal
 
 pub returns-in_default : goal.returns-in_default

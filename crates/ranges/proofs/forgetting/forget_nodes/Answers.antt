@@ -1,7 +1,6 @@
-use Rattle.ranges.proofs.Names.{◌≡◌, ℕ, ◌+◌, ◌<◌, inl, inr, true, Some, None, sym, ap, ◌∙◌, subst, arith, rules, same_Some, is_named, ObjectPage, Object, Place, Home, Frame, Slot, CacheTable, cache_frames, slot_count, IsInside, Core}
-use Rattle.ranges.proofs.Names.{KeepsBesidePlaces, Picture, picture_of}
-use Rattle.ranges.specs.Rows.{ForgetsMore, node_of, without_maps}
-use Rattle.ranges.proofs.{Emptied.{pages_inside}, LastName.{same_without, more_then, gone_none, gone_named, gone_forgot, forgets_all, rest_then}, forgetting.forget_nodes.Goals.{in-Some, in_default}}
+use Rattle.ranges.proofs.{Emptied.{pages_inside}, LastName.{same_without, more_then, gone_none, gone_named, gone_forgot, forgets_all, rest_then}, Names.{◌≡◌, ℕ, ◌+◌, ◌<◌, inl, inr, true, Some, None, sym, ap, ◌∙◌, subst, arith, rules}}
+use Rattle.ranges.proofs.{Names.{same_Some, is_named, ObjectPage, Object, Place, Home, Frame, Slot, CacheTable, cache_frames, slot_count, IsInside, Core, KeepsBesidePlaces, Picture, picture_of}, forgetting.forget_nodes.Goals.{in-Some}}
+use Rattle.ranges.{proofs.forgetting.forget_nodes.Goals.{in_default}, specs.Rows.{ForgetsMore, node_of, without_maps}}
 use Rattle.ranges.proofs.forgetting.forget_nodes.Goals as goal
 
 -- a node of a place is one of the nodes

@@ -1,5 +1,4 @@
-use Rattle.ranges.proofs.Names.{◌≡◌, true, Some, ℕ, ◌<◌, is_named, ObjectPage, Object, cache_frames, KeepsBesidePlaces, IsFit, picture_of}
-use Rattle.ranges.specs.Rows.{ForgetsMore, node_of, without_maps}
+use Rattle.ranges.{proofs.Names.{◌≡◌, true, Some, ℕ, ◌<◌, is_named, ObjectPage, Object, cache_frames, KeepsBesidePlaces, IsFit, picture_of}, specs.Rows.{ForgetsMore, node_of, without_maps}}
 use Rattle.ranges.proofs.forgetting.forget_nodes.Given as goal
 
 abbrev pub invariant-loop-node : goal.invariant-loop-node

@@ -1,5 +1,4 @@
-use Rattle.ranges.proofs.Names.{user_end, is_named, names, ObjectPage, Object, ◌≡◌, ◌⊎◌, true, ℕ, ◌-◌, ◌<◌, ◌≤◌, Home, KeepsBesidePlaces, IsFit, picture_of}
-use Rattle.ranges.specs.Rows.{ForgetsMore, without_maps}
+use Rattle.ranges.{proofs.Names.{user_end, is_named, names, ObjectPage, Object, ◌≡◌, ◌⊎◌, true, ℕ, ◌-◌, ◌<◌, ◌≤◌, Home, KeepsBesidePlaces, IsFit, picture_of}, specs.Rows.{ForgetsMore, without_maps}}
 use Rattle.ranges.proofs.forgetting.forget_pages.Given as goal
 
 abbrev pub invariant-loop-named : goal.invariant-loop-named

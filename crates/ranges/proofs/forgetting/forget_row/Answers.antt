@@ -1,5 +1,4 @@
-use Rattle.ranges.proofs.Names.{arith, rules, sizes, picture_of}
-use Rattle.ranges.proofs.LastName.{forgets_none}
+use Rattle.ranges.proofs.{LastName.{forgets_none}, Names.{arith, rules, sizes, picture_of}}
 use Rattle.ranges.proofs.forgetting.forget_row.Goals as goal
 
 pub returns-then-count-eq0 : goal.returns-then-count-eq0

@@ -1,5 +1,4 @@
-use Rattle.ranges.proofs.Names.{ap, ◌∙◌, ◌≡◌, arith, picture_of, entry}
-use Rattle.ranges.proofs.{Emptied.{in_row_from, row_parts}, LastName.{bare_last}}
+use Rattle.ranges.proofs.{Emptied.{in_row_from, row_parts}, LastName.{bare_last}, Names.{ap, ◌∙◌, ◌≡◌, arith, picture_of, entry}}
 use Rattle.ranges.proofs.forgetting.forget_there.Goals as goal
 
 pub forget-requires-clause-bare : goal.forget-requires-clause-bare

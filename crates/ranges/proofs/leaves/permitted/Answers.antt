@@ -1,5 +1,4 @@
-use Rattle.ranges.proofs.Names.{number_of}
-use Rattle.ranges.proofs.LeafEntries.{permitted_over}
+use Rattle.ranges.proofs.{LeafEntries.{permitted_over}, Names.{number_of}}
 use Rattle.ranges.proofs.leaves.permitted.Goals as goal
 
 pub returns-clause-permitted : goal.returns-clause-permitted

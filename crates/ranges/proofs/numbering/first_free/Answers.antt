@@ -1,5 +1,4 @@
-use Rattle.ranges.proofs.Names.{false, get_or, sym, ◌∙◌, arith, named_limit}
-use Rattle.ranges.proofs.Marking.{least_here_at, least_on_at, least_end_at}
+use Rattle.ranges.proofs.{Marking.{least_here_at, least_on_at, least_end_at}, Names.{false, get_or, sym, ◌∙◌, arith, named_limit}}
 use Rattle.ranges.proofs.numbering.first_free.Goals as goal
 
 pub returns-then-not-used-n : goal.returns-then-not-used-n

@@ -19,10 +19,7 @@ loop-number-preserved g c =
         | inl same ↦ marks.all o low (subst (λ (r : ℕ). F r o) same is)
         | inr other ↦ marks.kept o (c.loop-number.invariant.all o q low from (omega (arith, to, other)) is)
       ];
-      only = λ o e. elim (marks.only o e) [
-        | inl before ↦ c.loop-number.invariant.only o before
-        | inr is ↦ (c.loop-number.number, c.loop-number-test.true, is)
-      ];
+      only = λ o e. elim (marks.only o e) [ inl before ↦ c.loop-number.invariant.only o before | inr is ↦ (c.loop-number.number, c.loop-number-test.true, is) ];
     }
 
 pub returns : goal.returns

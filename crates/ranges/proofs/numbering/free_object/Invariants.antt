@@ -1,5 +1,4 @@
-use Rattle.ranges.proofs.Names.{◌≡◌, ◌≤◌, ◌<◌, ℕ, true, false, length, get_or, named_limit, picture_of}
-use Rattle.ranges.specs.{Numbers.{IsUsedBy}, Rows.{without_maps}}
+use Rattle.ranges.{proofs.Names.{◌≡◌, ◌≤◌, ◌<◌, ℕ, true, false, length, get_or, named_limit, picture_of}, specs.{Numbers.{IsUsedBy}, Rows.{without_maps}}}
 use Rattle.ranges.proofs.numbering.free_object.Given as goal
 
 abbrev pub invariant-loop-number : goal.invariant-loop-number

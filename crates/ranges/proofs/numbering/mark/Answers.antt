@@ -1,5 +1,4 @@
-use Rattle.ranges.proofs.Names.{◌<◌, ◌∙◌, arith, attr_at, picture_of}
-use Rattle.ranges.proofs.Marking.{all_more, only_more, next_over}
+use Rattle.ranges.proofs.{Marking.{all_more, only_more, next_over}, Names.{◌<◌, ◌∙◌, arith, attr_at, picture_of}}
 use Rattle.ranges.proofs.numbering.mark.Goals as goal
 
 pub loop-run-preserved : goal.loop-run-preserved

@@ -1,5 +1,4 @@
-use Rattle.ranges.proofs.Names.{◌≡◌, ◌≤◌, ◌<◌, ◌⊎◌, ℕ, ◌-◌, true, false, length, get_or, user_end, named_limit, picture_of}
-use Rattle.ranges.specs.Numbers.{IsUsedBetween}
+use Rattle.ranges.{proofs.Names.{◌≡◌, ◌≤◌, ◌<◌, ◌⊎◌, ℕ, ◌-◌, true, false, length, get_or, user_end, named_limit, picture_of}, specs.Numbers.{IsUsedBetween}}
 use Rattle.ranges.proofs.numbering.mark.Given as goal
 
 abbrev pub invariant-loop-run : goal.invariant-loop-run

@@ -1,5 +1,4 @@
-use Rattle.ranges.proofs.Names.{ℕ, ◌+◌, ◌*◌, ◌/◌, inl, inr, refl, sym, ap, ◌∙◌, subst, arith, min, Picture, picture_of, IsWhole}
-use Rattle.ranges.{specs.Leaves.{PermitsRow}, proofs.PermittedRows.{around-refl, permits_none, permits_then}}
+use Rattle.ranges.{proofs.{Names.{ℕ, ◌+◌, ◌*◌, ◌/◌, inl, inr, refl, sym, ap, ◌∙◌, subst, arith, min, Picture, picture_of, IsWhole}, PermittedRows.{around-refl, permits_none, permits_then}}, specs.Leaves.{PermitsRow}}
 use Rattle.ranges.proofs.permitting.permit_next.Goals as goal
 
 pub permit_table-requires-clause-whole : goal.permit_table-requires-clause-whole

@@ -1,5 +1,4 @@
-use Rattle.ranges.proofs.Names.{top_level, ◌≡◌, ◌-◌, ◌/◌, ◌≤◌, Some, KeepsAround, IsRootedBut, picture_of, IsTableOf}
-use Rattle.ranges.specs.Leaves.{NamesFrames, PermitsRow}
+use Rattle.ranges.{proofs.Names.{top_level, ◌≡◌, ◌-◌, ◌/◌, ◌≤◌, Some, KeepsAround, IsRootedBut, picture_of, IsTableOf}, specs.Leaves.{NamesFrames, PermitsRow}}
 use Rattle.ranges.proofs.permitting.permit_table.Given as goal
 
 abbrev pub invariant-loop-page : goal.invariant-loop-page

@@ -1,5 +1,4 @@
-use Rattle.ranges.proofs.Names.{◌≡◌, ◌-◌, ◌≤◌, max, KeepsAround, IsRootedBut, picture_of}
-use Rattle.ranges.specs.Leaves.{NamesFrames, PermitsRow}
+use Rattle.ranges.{proofs.Names.{◌≡◌, ◌-◌, ◌≤◌, max, KeepsAround, IsRootedBut, picture_of}, specs.Leaves.{NamesFrames, PermitsRow}}
 use Rattle.ranges.proofs.permitting.reprotect.Given as goal
 
 abbrev pub invariant-loop-page : goal.invariant-loop-page

@@ -1,6 +1,4 @@
-use Rattle.ranges.proofs.Names.{sym, ap, ◌∙◌, false≢true, count_of}
-use Rattle.std.proofs.lemmas.Bool.{eqb-true, eq-eqb}
-use Rattle.ranges.specs.Leaves.{is_mapped_shared}
+use Rattle.{ranges.{proofs.Names.{sym, ap, ◌∙◌, false≢true, count_of}, specs.Leaves.{is_mapped_shared}}, std.proofs.lemmas.Bool.{eqb-true, eq-eqb}}
 use Rattle.ranges.proofs.permitting.takes_stores.Goals as goal
 
 pub returns-then-is_private : goal.returns-then-is_private

@@ -1,5 +1,4 @@
-use Rattle.ranges.proofs.Names.{◌+◌, ap, ◌∙◌, rules, frame_count, Picture, picture_of, attr_at}
-use Rattle.ranges.proofs.{ClearedPages.{returned_any}, Forgotten.{frames_forgot, none_left_forgot, row_forgot}, NewRegions.{row_remapped}}
+use Rattle.ranges.proofs.{ClearedPages.{returned_any}, Forgotten.{frames_forgot, none_left_forgot, row_forgot}, Names.{◌+◌, ap, ◌∙◌, rules, frame_count, Picture, picture_of, attr_at}, NewRegions.{row_remapped}}
 use Rattle.ranges.proofs.remapping.remap.Goals as goal
 
 pub returns : goal.returns

@@ -1,5 +1,4 @@
-use Rattle.ranges.proofs.Names.{top_level, sizes, ◌≡◌, ◌≢◌, ℕ, ◌+◌, ◌*◌, ◌/◌, ◌^◌, refl, sym, ap, ◌∙◌, subst, arith, same_Some, picture_of, missing_of, missing_of-is}
-use Rattle.ranges.proofs.{Gaps.{gap_none, in_span_of, is_whole}, Linked.{own_past}}
+use Rattle.ranges.proofs.{Gaps.{gap_none, in_span_of, is_whole}, Linked.{own_past}, Names.{top_level, sizes, ◌≡◌, ◌≢◌, ℕ, ◌+◌, ◌*◌, ◌/◌, ◌^◌, refl, sym, ap, ◌∙◌, subst, arith, same_Some, picture_of, missing_of, missing_of-is}}
 use Rattle.ranges.proofs.rows.gap_end.Goals as goal
 
 pub last_table-missing-requires-clause-root : goal.last_table-missing-requires-clause-root

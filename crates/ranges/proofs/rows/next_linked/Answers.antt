@@ -1,5 +1,4 @@
-use Rattle.ranges.proofs.Names.{inl, inr, arith, cases_lt, picture_of}
-use Rattle.ranges.proofs.Gaps.{no_whole, no_entry, is_whole}
+use Rattle.ranges.proofs.{Gaps.{no_whole, no_entry, is_whole}, Names.{inl, inr, arith, cases_lt, picture_of}}
 use Rattle.ranges.proofs.rows.next_linked.Goals as goal
 
 pub past_gap-requires-clause-root : goal.past_gap-requires-clause-root

@@ -1,5 +1,4 @@
-use Rattle.residency.proofs.Names.{inl, rules, slots_of}
-use Rattle.residency.proofs.{Asking.{asks_same}, Sparing.{past_unused}}
+use Rattle.residency.proofs.{Asking.{asks_same}, Names.{inl, rules, slots_of}, Sparing.{past_unused}}
 use Rattle.residency.proofs.evicting.evict.Goals as goal
 
 pub returns-else-is_touched : goal.returns-else-is_touched

@@ -1,6 +1,5 @@
-use Rattle.residency.proofs.Names.{inl, inr, refl, ◌∙◌, subst, arith, rules, Role, IsCountFor, count_of, slots_of}
-use Rattle.residency.specs.{Seats.{InFrame}, Picture.{Picture, picture_of}}
-use Rattle.residency.proofs.{Asking.{asks_put, one_put}, Puts.{fit_put, put_noted}, Putting.{put_spares, fit_unput, with_slots, kept_by, owned_by}, Sparing.{spares_then, past_unused}}
+use Rattle.residency.proofs.{Asking.{asks_put, one_put}, Names.{inl, inr, refl, ◌∙◌, subst, arith, rules, Role, IsCountFor, count_of, slots_of}, Puts.{fit_put, put_noted}, Putting.{put_spares, fit_unput, with_slots, kept_by, owned_by}}
+use Rattle.residency.{proofs.Sparing.{spares_then, past_unused}, specs.{Picture.{Picture, picture_of}, Seats.{InFrame}}}
 use Rattle.residency.proofs.evicting.send_copies.Goals as goal
 
 pub hand_over-requires : goal.hand_over-requires

@@ -1,5 +1,4 @@
-use Rattle.residency.proofs.Names.{user_pages_fit, ℕ, inl, inr, subst, arith, cases_eq, cases_lt}
-use Rattle.residency.{specs.{Picture.{picture_of}, Leaves.{IsOver}}, proofs.LeafSteps.{entries_none, entries_then, still_clear}}
+use Rattle.residency.{proofs.{LeafSteps.{entries_none, entries_then, still_clear}, Names.{user_pages_fit, ℕ, inl, inr, subst, arith, cases_eq, cases_lt}}, specs.{Leaves.{IsOver}, Picture.{picture_of}}}
 use Rattle.residency.proofs.leaves.change_in.Goals as goal
 
 pub loop-page-init : goal.loop-page-init

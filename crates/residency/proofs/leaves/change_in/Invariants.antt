@@ -1,5 +1,4 @@
-use Rattle.residency.proofs.Names.{user_end, ℕ, ◌-◌, ◌<◌, ◌≤◌}
-use Rattle.residency.specs.{Picture.{picture_of}, Leaves.{IsOver}, LeafChanges.{ChangesEntries}}
+use Rattle.residency.{proofs.Names.{user_end, ℕ, ◌-◌, ◌<◌, ◌≤◌}, specs.{LeafChanges.{ChangesEntries}, Leaves.{IsOver}, Picture.{picture_of}}}
 use Rattle.residency.proofs.leaves.change_in.Given as goal
 
 abbrev pub invariant-loop-page : goal.invariant-loop-page

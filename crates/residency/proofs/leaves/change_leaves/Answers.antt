@@ -1,5 +1,4 @@
-use Rattle.residency.proofs.Names.{ℕ, inl, inr, subst, arith, cases_eq}
-use Rattle.residency.{specs.{Picture.{picture_of}, Leaves.{IsOver}}, proofs.LeafSteps.{entries_none, entries_then, still_clear, over_number, kinds_kept}}
+use Rattle.residency.{proofs.{LeafSteps.{entries_none, entries_then, still_clear, over_number, kinds_kept}, Names.{ℕ, inl, inr, subst, arith, cases_eq}}, specs.{Leaves.{IsOver}, Picture.{picture_of}}}
 use Rattle.residency.proofs.leaves.change_leaves.Goals as goal
 
 pub loop-pid-init : goal.loop-pid-init

@@ -1,5 +1,4 @@
-use Rattle.residency.proofs.Names.{top_level, ℕ, ◌<◌, IsPage}
-use Rattle.residency.specs.{Picture.{picture_of}, Leaves.{IsOver}, LeafChanges.{ChangesEntries}}
+use Rattle.residency.{proofs.Names.{top_level, ℕ, ◌<◌, IsPage}, specs.{LeafChanges.{ChangesEntries}, Leaves.{IsOver}, Picture.{picture_of}}}
 use Rattle.residency.proofs.leaves.change_leaves.Given as goal
 
 abbrev pub invariant-loop-pid : goal.invariant-loop-pid

@@ -1,5 +1,4 @@
-use Rattle.residency.proofs.Names.{user_pages_fit, ℕ, arith, inl, inr, subst, rules, cases_eq, cases_lt}
-use Rattle.residency.{specs.{Picture.{picture_of}, Leaves.{IsOver}}, proofs.{LeafSteps.{over_stands}, Lives.{map_read}}}
+use Rattle.residency.{proofs.{LeafSteps.{over_stands}, Lives.{map_read}, Names.{user_pages_fit, ℕ, arith, inl, inr, subst, rules, cases_eq, cases_lt}}, specs.{Leaves.{IsOver}, Picture.{picture_of}}}
 use Rattle.residency.proofs.leaves.find_standing.Goals as goal
 
 pub returns-then-is_over : goal.returns-then-is_over

@@ -1,5 +1,4 @@
-use Rattle.residency.proofs.Names.{user_end, ℕ, ◌-◌, ◌<◌, ◌≤◌}
-use Rattle.residency.specs.{Picture.{picture_of}, Leaves.{IsOver}}
+use Rattle.residency.{proofs.Names.{user_end, ℕ, ◌-◌, ◌<◌, ◌≤◌}, specs.{Leaves.{IsOver}, Picture.{picture_of}}}
 use Rattle.residency.proofs.leaves.find_standing.Given as goal
 
 abbrev pub invariant-loop-at : goal.invariant-loop-at

@@ -1,5 +1,4 @@
-use Rattle.residency.proofs.Names.{top_level, ℕ, inl, inr, subst, arith, cases_eq, false≢true, IsPage}
-use Rattle.residency.{specs.{Picture.{picture_of}, Leaves.{IsOver}}, proofs.LeafSteps.{over_number}}
+use Rattle.residency.{proofs.{LeafSteps.{over_number}, Names.{top_level, ℕ, inl, inr, subst, arith, cases_eq, false≢true, IsPage}}, specs.{Leaves.{IsOver}, Picture.{picture_of}}}
 use Rattle.residency.proofs.leaves.has_leaf.Goals as goal
 
 pub loop-pid-init : goal.loop-pid-init

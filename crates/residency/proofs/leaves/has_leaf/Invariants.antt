@@ -1,5 +1,4 @@
-use Rattle.residency.proofs.Names.{top_level, ℕ, ◌<◌, IsPage}
-use Rattle.residency.specs.{Picture.{picture_of}, Leaves.{IsOver}}
+use Rattle.residency.{proofs.Names.{top_level, ℕ, ◌<◌, IsPage}, specs.{Leaves.{IsOver}, Picture.{picture_of}}}
 use Rattle.residency.proofs.leaves.has_leaf.Given as goal
 
 abbrev pub invariant-loop-pid : goal.invariant-loop-pid

@@ -1,5 +1,4 @@
-use Rattle.residency.proofs.Names.{user_pages_fit, IfSome, ◌≡◌, ℕ, true, Option, Some, None, is_some, sym, ◌∙◌, arith, false≢true}
-use Rattle.residency.{specs.Picture.{picture_of}, proofs.{LeafSteps.{over_lives, if_none}, Lives.{dead_process, live_process}}}
+use Rattle.residency.{proofs.{LeafSteps.{over_lives, if_none}, Lives.{dead_process, live_process}, Names.{user_pages_fit, IfSome, ◌≡◌, ℕ, true, Option, Some, None, is_some, sym, ◌∙◌, arith, false≢true}}, specs.Picture.{picture_of}}
 use Rattle.residency.proofs.leaves.has_leaf_in.Goals as goal
 
 pub returns-in_default-clause-none : goal.returns-in_default-clause-none

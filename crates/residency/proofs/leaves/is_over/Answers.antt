@@ -1,5 +1,4 @@
-use Rattle.residency.proofs.Names.{◌≡◌, ap, sym, ◌∙◌, eq-eqb, false≢true, eqb-true, frame_of}
-use Rattle.residency.{specs.{Picture.{picture_of, entry}, Leaves.{concerns}}, proofs.Entries.{entry-of}}
+use Rattle.residency.{proofs.{Entries.{entry-of}, Names.{◌≡◌, ap, sym, ◌∙◌, eq-eqb, false≢true, eqb-true, frame_of}}, specs.{Leaves.{concerns}, Picture.{picture_of, entry}}}
 use Rattle.residency.proofs.leaves.is_over.Goals as goal
 
 pub entry_number-entry-requires-clause-root : goal.entry_number-entry-requires-clause-root

@@ -1,5 +1,4 @@
-use Rattle.residency.proofs.Names.{◌%◌, subst, arith, bit_at_ones}
-use Rattle.residency.{specs.{Picture.{picture_of}, declared.leaves.Held.{Held}, Leaves.{Holds}}, proofs.LeafSteps.{over_names}}
+use Rattle.residency.{proofs.{LeafSteps.{over_names}, Names.{◌%◌, subst, arith, bit_at_ones}}, specs.{Leaves.{Holds}, Picture.{picture_of}, declared.leaves.Held.{Held}}}
 use Rattle.residency.proofs.leaves.kinds_of.Goals as goal
 
 pub returns-in-Own : goal.returns-in-Own

@@ -1,5 +1,4 @@
-use Rattle.residency.proofs.Names.{◌-◌, Option, Some, None, IfNone}
-use Rattle.residency.proofs.LeafSteps.{over_after}
+use Rattle.residency.proofs.{LeafSteps.{over_after}, Names.{◌-◌, Option, Some, None, IfNone}}
 use Rattle.residency.proofs.leaves.page_after.Goals as goal
 
 if_none_is : {T : Type 0} (o : Option T) (P : Type 0) → P → IfNone o P

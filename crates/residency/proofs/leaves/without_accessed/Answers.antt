@@ -1,5 +1,4 @@
-use Rattle.residency.proofs.Names.{◌≡◌, ◌-◌, ℕ, sym, subst, arith}
-use Rattle.residency.{specs.{declared.leaves.Change.TheVariants.{ClearAccessed}, Leaves.{IsChanged}}, proofs.Bits.{bit_six, drops_six, six_dirty, six_clear}}
+use Rattle.residency.{proofs.{Bits.{bit_six, drops_six, six_dirty, six_clear}, Names.{◌≡◌, ◌-◌, ℕ, sym, subst, arith}}, specs.{Leaves.{IsChanged}, declared.leaves.Change.TheVariants.{ClearAccessed}}}
 use Rattle.residency.proofs.leaves.without_accessed.Goals as goal
 
 pub returns : goal.returns

@@ -1,5 +1,4 @@
-use Rattle.residency.proofs.Names.{◌≡◌, ◌-◌, ℕ, sym, subst, arith}
-use Rattle.residency.{specs.{declared.leaves.Change.TheVariants.{ClearDirty}, Leaves.{IsChanged}}, proofs.Bits.{bit_seven, drops_seven, seven_accessed, seven_clear}}
+use Rattle.residency.{proofs.{Bits.{bit_seven, drops_seven, seven_accessed, seven_clear}, Names.{◌≡◌, ◌-◌, ℕ, sym, subst, arith}}, specs.{Leaves.{IsChanged}, declared.leaves.Change.TheVariants.{ClearDirty}}}
 use Rattle.residency.proofs.leaves.without_dirty.Goals as goal
 
 pub returns : goal.returns

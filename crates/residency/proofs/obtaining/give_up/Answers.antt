@@ -1,8 +1,7 @@
-use Rattle.residency.proofs.Names.{ℕ, ◌≡◌, inl, sym, ◌∙◌, arith, rules, Result, Ok, Err, IfErr, IsErrAnd, MatchResult, FrameNo, Stall, NoFrames, NoSwap, SwapDevice, Clock, FrameTable, frame_count, role_of, IsFull}
-use Rattle.std.specs.Prelude.{Option}
+use Rattle.residency.proofs.{Asking.{asked_tried, one_tried}, Giving.{on_err_same, frame_given}, Names.{ℕ, ◌≡◌, inl, sym, ◌∙◌, arith, rules, Result, Ok, Err, IfErr, IsErrAnd, MatchResult, FrameNo, Stall, NoFrames, NoSwap, SwapDevice}}
+use Rattle.residency.proofs.{Names.{Clock, FrameTable, frame_count, role_of, IsFull}, Refusing.{inside_of, above_of, all_need, no_slot_free}, Shown.{shows_kept}, Sparing.{frees_then, gives_frees}, Stalls.{short_of}}
+use Rattle.{residency.specs.{Ages.{GivesFrame}, Calls.{Refuses}, Capacity.{IsShort}, Picture.{Picture, picture_of}, Views.{AsksClock, TurnsFor}, declared.kernel.Core.{Core}}, std.specs.Prelude.{Option}}
 use Rattle.vm_types.specs.declared.mode.Levels as Levels
-use Rattle.residency.specs.{declared.kernel.Core.{Core}, Views.{AsksClock, TurnsFor}, Picture.{Picture, picture_of}, Ages.{GivesFrame}, Calls.{Refuses}, Capacity.{IsShort}}
-use Rattle.residency.proofs.{Asking.{asked_tried, one_tried}, Giving.{on_err_same, frame_given}, Shown.{shows_kept}, Sparing.{frees_then, gives_frees}, Stalls.{short_of}, Refusing.{inside_of, above_of, all_need, no_slot_free}}
 use Rattle.residency.proofs.obtaining.give_up.Goals as goal
 
 -- frames of which none is free and each keeps its use

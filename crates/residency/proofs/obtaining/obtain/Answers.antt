@@ -1,5 +1,4 @@
-use Rattle.residency.proofs.Names.{refl, arith, rules}
-use Rattle.residency.{specs.Calls.{IsFreeFrame}, proofs.Asking.{asks_same}}
+use Rattle.residency.{proofs.{Asking.{asks_same}, Names.{refl, arith, rules}}, specs.Calls.{IsFreeFrame}}
 use Rattle.residency.proofs.obtaining.obtain.Goals as goal
 
 pub returns-in-Some : goal.returns-in-Some
@@ -16,11 +15,7 @@ returns-in-Some g c =
       needed = search rules;
       clock = record { stands = λ some. refl; turns = λ full. absurd (full c.in-Some.n.0 free.inside free.free); looks = omega arith };
       asked = search rules;
-      uses = record {
-        swap = search rules;
-        device = search rules;
-        one = (0, asks_same g.E.SectorDisk _ c.args.core.now.swap c.args.core.now.swap refl);
-      };
+      uses = record { swap = search rules; device = search rules; one = (0, asks_same g.E.SectorDisk _ c.args.core.now.swap c.args.core.now.swap refl) };
       full = search rules;
       still = search rules;
       tried = search rules;

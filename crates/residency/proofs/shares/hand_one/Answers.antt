@@ -1,5 +1,4 @@
-use Rattle.residency.proofs.Names.{sym, ap, ◌∙◌}
-use Rattle.residency.{specs.{Seats.{InFrame, seat}, Picture.{picture_of}}, proofs.{Entries.{entry-of}, Passing.{dead_seat, passes_none}, Lives.{dead_process, live_process}}}
+use Rattle.residency.{proofs.{Entries.{entry-of}, Lives.{dead_process, live_process}, Names.{sym, ap, ◌∙◌}, Passing.{dead_seat, passes_none}}, specs.{Picture.{picture_of}, Seats.{InFrame, seat}}}
 use Rattle.residency.proofs.shares.hand_one.Goals as goal
 
 pub returns-in_default : goal.returns-in_default

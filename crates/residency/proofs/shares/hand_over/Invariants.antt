@@ -1,5 +1,4 @@
-use Rattle.residency.proofs.Names.{◌≢◌, ℕ, ◌<◌, Some}
-use Rattle.residency.specs.{Seats.{InFrame, seat}, Picture.{picture_of, entry}, Evictions.{IsHanding}, Handovers.{HandsShares}}
+use Rattle.residency.{proofs.Names.{◌≢◌, ℕ, ◌<◌, Some}, specs.{Evictions.{IsHanding}, Handovers.{HandsShares}, Picture.{picture_of, entry}, Seats.{InFrame, seat}}}
 use Rattle.residency.proofs.shares.hand_over.Given as goal
 
 abbrev pub invariant-loop-pid : goal.invariant-loop-pid

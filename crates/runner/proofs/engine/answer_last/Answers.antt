@@ -1,5 +1,4 @@
-use Rattle.std.proofs.{Common.{length, subst, sym, ◌∙◌}, lemmas.Bool.{eqb-false}}
-use Rattle.runner.{specs.Session.{Answers}, proofs.Ends.{runs_last}}
+use Rattle.{std.proofs.{Common.{length, subst, sym, ◌∙◌}, lemmas.Bool.{eqb-false}}, runner.{proofs.Ends.{runs_last}, specs.Session.{Answers}}}
 use Rattle.runner.proofs.engine.answer_last.Goals as goal
 
 pub returns : goal.returns

@@ -1,5 +1,4 @@
-use Rattle.std.proofs.Common.{[], refl, rules}
-use Rattle.runner.proofs.{Bytes.{match_both}, Progress.{goes_on_by_newline, goes_on_written_out, breaks_at_newline}}
+use Rattle.{std.proofs.Common.{[], refl, rules}, runner.proofs.{Bytes.{match_both}, Progress.{goes_on_by_newline, goes_on_written_out, breaks_at_newline}}}
 use Rattle.runner.proofs.engine.end_line.Goals as goal
 
 pub returns : goal.returns

@@ -1,5 +1,4 @@
-use Rattle.std.proofs.{Common.{◌≡◌, ◌≤◌, ℕ, List, [], ◌∷◌, ◌++◌, length, take, refl, sym, ◌∙◌, ap, eqb-true, arith}, lemmas.List.{take_all}}
-use Rattle.runner.proofs.Progress.{reads_line}
+use Rattle.{std.proofs.{Common.{◌≡◌, ◌≤◌, ℕ, List, [], ◌∷◌, ◌++◌, length, take, refl, sym, ◌∙◌, ap, eqb-true, arith}, lemmas.List.{take_all}}, runner.proofs.Progress.{reads_line}}
 use Rattle.runner.proofs.engine.run_line.Goals as goal
 
 no_bytes : (l : List ℕ) → length l ≡ 0 → l ≡ []

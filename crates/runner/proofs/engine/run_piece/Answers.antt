@@ -1,5 +1,4 @@
-use Rattle.std.proofs.Common.{[], ◌∷◌, ◌++◌, take, refl, sym, subst}
-use Rattle.runner.{specs.Progress.{GoesOn, BreaksOff}, proofs.{Bytes.{read_line}, Progress.{goes_nowhere, goes_on_by_bytes, GoesOn-trans, breaks_after, breaks_before}}}
+use Rattle.{std.proofs.Common.{[], ◌∷◌, ◌++◌, take, refl, sym, subst}, runner.{proofs.{Bytes.{read_line}, Progress.{goes_nowhere, goes_on_by_bytes, GoesOn-trans, breaks_after, breaks_before}}, specs.Progress.{GoesOn, BreaksOff}}}
 use Rattle.runner.proofs.engine.run_piece.Goals as goal
 
 pub loop-at-init : goal.loop-at-init

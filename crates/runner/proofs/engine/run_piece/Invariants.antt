@@ -1,5 +1,4 @@
-use Rattle.std.proofs.Common.{◌≡◌, ℕ, List, ◌++◌, length}
-use Rattle.runner.specs.Progress.{stage, GoesOn, MayAnswer}
+use Rattle.{std.proofs.Common.{◌≡◌, ℕ, List, ◌++◌, length}, runner.specs.Progress.{stage, GoesOn, MayAnswer}}
 use Rattle.runner.proofs.engine.run_piece.Given as goal
 
 abbrev pub invariant-loop-at : goal.invariant-loop-at

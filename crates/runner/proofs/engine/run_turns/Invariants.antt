@@ -1,7 +1,4 @@
-use Rattle.std.proofs.Common.{◌≡◌, ℕ, List, []}
-use Rattle.std.specs.Io.KnownBytes.{Consumes}
-use Rattle.machine.specs.Machine.{IsSoundMachine}
-use Rattle.runner.specs.Progress.{stage, GoesOn}
+use Rattle.{std.{proofs.Common.{◌≡◌, ℕ, List, []}, specs.Io.KnownBytes.{Consumes}}, machine.specs.Machine.{IsSoundMachine}, runner.specs.Progress.{stage, GoesOn}}
 use Rattle.runner.proofs.engine.run_turns.Given as goal
 
 abbrev pub invariant-loop-i : goal.invariant-loop-i

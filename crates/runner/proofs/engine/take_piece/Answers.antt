@@ -1,5 +1,4 @@
-use Rattle.std.proofs.Common.{rules}
-use Rattle.runner.proofs.{Bytes.{match_both}, Ends.{written_out, not_written_out}}
+use Rattle.{std.proofs.Common.{rules}, runner.proofs.{Bytes.{match_both}, Ends.{written_out, not_written_out}}}
 use Rattle.runner.proofs.engine.take_piece.Goals as goal
 
 pub returns-clause-reads : goal.returns-clause-reads

@@ -1,5 +1,4 @@
-use Rattle.std.proofs.Common.{[], None}
-use Rattle.runner.proofs.Ends.{stops_here}
+use Rattle.{std.proofs.Common.{[], None}, runner.proofs.Ends.{stops_here}}
 use Rattle.runner.proofs.engine.turn.Goals as goal
 
 pub returns-in-Err : goal.returns-in-Err

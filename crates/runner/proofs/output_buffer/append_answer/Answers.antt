@@ -1,5 +1,4 @@
-use Rattle.std.proofs.Common.{◌≡◌, ◌++◌, length, take, ap, ◌∙◌, arith, rules}
-use Rattle.runner.proofs.Bytes.{in_part}
+use Rattle.{std.proofs.Common.{◌≡◌, ◌++◌, length, take, ap, ◌∙◌, arith, rules}, runner.proofs.Bytes.{in_part}}
 use Rattle.runner.proofs.output_buffer.append_answer.Goals as goal
 
 pub returns-clause-bytes : goal.returns-clause-bytes

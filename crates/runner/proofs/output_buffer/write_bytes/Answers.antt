@@ -1,5 +1,4 @@
-use Rattle.std.proofs.{Common.{arith}, KnownBytes.{Appends-kept}, lemmas.List.{take_rest}}
-use Rattle.runner.proofs.Bytes.{taken_more, taken_beginning}
+use Rattle.{std.proofs.{Common.{arith}, KnownBytes.{Appends-kept}, lemmas.List.{take_rest}}, runner.proofs.Bytes.{taken_more, taken_beginning}}
 use Rattle.runner.proofs.output_buffer.write_bytes.Goals as goal
 
 pub returns : goal.returns

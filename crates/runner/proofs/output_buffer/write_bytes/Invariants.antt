@@ -1,5 +1,4 @@
-use Rattle.std.proofs.Common.{◌≤◌, length, take}
-use Rattle.std.specs.Io.KnownBytes.{Appends}
+use Rattle.std.{proofs.Common.{◌≤◌, length, take}, specs.Io.KnownBytes.{Appends}}
 use Rattle.runner.proofs.output_buffer.write_bytes.Given as goal
 
 abbrev pub invariant-loop-i : goal.invariant-loop-i

@@ -1,8 +1,8 @@
 use Rattle.spaces.proofs.Names.{ℕ, ◌<◌, ◌≡◌, inr, is_some, ◌/◌, ◌%◌, List, refl, sym, ap, ◌∙◌, subst, rules, arith, FrameTable, IsHeld, IsSound, with_bytes, IsHeld-above, IsHeld-not_zero, IsSound-step, with_bytes-others, IsThatPage, Grants}
 use Rattle.spaces.proofs.Names.{IsReadyToStore, IsOpenToStore, IsWalked, Tends, ShowsFile, picture_of, Store, Phys, Answer, Done, with_number, byte_count, reply_of}
-use Rattle.vm_types.specs.declared.access.Access.TheVariants as Accesses
 use Rattle.spaces.{specs.{Accesses.{KeepsToPage, LetsThrough}, Calls.{Comes}}, proofs.{Asking.{asks_unstalled, keeps_dead, keeps_refused, no_root, one_end, one_place, writes_walked}, Calls.{found_lives}}}
 use Rattle.spaces.proofs.Writing.{fit_stored, open_held, others_stored, room_stored, slotted_stored, store_refused, stores}
+use Rattle.vm_types.specs.declared.access.Access.TheVariants as Accesses
 use Rattle.spaces.proofs.accesses.store.Goals as goal
 
 pub frame_of-frame-requires : goal.frame_of-frame-requires

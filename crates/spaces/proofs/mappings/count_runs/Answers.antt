@@ -1,5 +1,4 @@
-use Rattle.spaces.proofs.Names.{◌≤◌, ℕ, inl, inr, sym, subst, arith, cases_eq, cases_lt, run_count, picture_of}
-use Rattle.spaces.proofs.Numbers.{no_runs}
+use Rattle.spaces.proofs.{Names.{◌≤◌, ℕ, inl, inr, sym, subst, arith, cases_eq, cases_lt, run_count, picture_of}, Numbers.{no_runs}}
 use Rattle.spaces.proofs.mappings.count_runs.Goals as goal
 
 pub loop-number-init : goal.loop-number-init

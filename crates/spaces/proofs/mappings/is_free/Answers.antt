@@ -1,5 +1,4 @@
-use Rattle.spaces.proofs.Names.{attr_at}
-use Rattle.spaces.proofs.Placing.{free_before, free_to_the_end}
+use Rattle.spaces.proofs.{Names.{attr_at}, Placing.{free_before, free_to_the_end}}
 use Rattle.spaces.proofs.mappings.is_free.Goals as goal
 
 pub returns-in-Some : goal.returns-in-Some

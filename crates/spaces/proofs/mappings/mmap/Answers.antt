@@ -28,8 +28,7 @@ remap-requires-clause-objects g c =
     c.in-Ok.ensures.ok.map)
 
 pub overflow_mul-result : goal.overflow_mul-result
-overflow_mul-result g c =
-    omega (arith, c.in-Ok.ensures.ok.high, (sizes g.M.Levels.mode).most)
+overflow_mul-result g c = omega (arith, c.in-Ok.ensures.ok.high, (sizes g.M.Levels.mode).most)
 
 pub returns-in-Ok-clause-comes : goal.returns-in-Ok-clause-comes
 returns-in-Ok-clause-comes g c = λ s shows reads swaps.

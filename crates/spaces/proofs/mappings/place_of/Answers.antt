@@ -1,5 +1,4 @@
-use Rattle.spaces.proofs.Names.{user_end, ℕ, ◌+◌, ◌≤◌, sym, subst, attr_at}
-use Rattle.spaces.proofs.Placing.{placed_inside}
+use Rattle.spaces.proofs.{Names.{user_end, ℕ, ◌+◌, ◌≤◌, sym, subst, attr_at}, Placing.{placed_inside}}
 use Rattle.spaces.proofs.mappings.place_of.Goals as goal
 
 pub returns-in-Some-clause-user : goal.returns-in-Some-clause-user

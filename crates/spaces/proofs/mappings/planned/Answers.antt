@@ -3,8 +3,7 @@ use Rattle.spaces.{specs.{Mappings.{attr_there}, Space.{space_of}}, proofs.Plann
 use Rattle.spaces.proofs.mappings.planned.Goals as goal
 
 pub is_taken-requires : goal.is_taken-requires
-is_taken-requires g c =
-    omega (arith, c.in-Some.ensures.user.1, (sizes g.M.Levels.mode).most)
+is_taken-requires g c = omega (arith, c.in-Some.ensures.user.1, (sizes g.M.Levels.mode).most)
 
 pub returns-then-is_taken-clause-err : goal.returns-then-is_taken-clause-err
 returns-then-is_taken-clause-err g c =

@@ -1,5 +1,4 @@
-use Rattle.spaces.proofs.Names.{◌≤◌, ℕ, is_some, ap, ◌∙◌, subst, arith, false≢true, run_count, attr_at, run_count-same, picture_of}
-use Rattle.spaces.proofs.Numbers.{no_runs}
+use Rattle.spaces.proofs.{Names.{◌≤◌, ℕ, is_some, ap, ◌∙◌, subst, arith, false≢true, run_count, attr_at, run_count-same, picture_of}, Numbers.{no_runs}}
 use Rattle.spaces.proofs.mappings.runs_of.Goals as goal
 
 pub returns-in-Some : goal.returns-in-Some

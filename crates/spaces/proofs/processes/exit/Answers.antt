@@ -1,5 +1,4 @@
-use Rattle.spaces.proofs.Names.{user_end, Exit, Done, ℕ, rules, subst, picture_of}
-use Rattle.spaces.{specs.{Calls.{Comes}, Ranges.{GivesPagesBack}}, proofs.{Living.{exits}, Room.{sound_kept}, Returning.{takes_named}}}
+use Rattle.spaces.{proofs.{Living.{exits}, Names.{user_end, Exit, Done, ℕ, rules, subst, picture_of}, Returning.{takes_named}, Room.{sound_kept}}, specs.{Calls.{Comes}, Ranges.{GivesPagesBack}}}
 use Rattle.spaces.proofs.processes.exit.Goals as goal
 
 pub returns-clause-comes : goal.returns-clause-comes

@@ -1,5 +1,4 @@
-use Rattle.spaces.proofs.Names.{None, refl, rules, Nothing, asks_slots_same, picture_of}
-use Rattle.spaces.proofs.{Taking.{spawned_takes, spawn_stalled_takes}, Living.{spawn_refused, spawns, spawn_stalls, store_kept_caused}}
+use Rattle.spaces.proofs.{Living.{spawn_refused, spawns, spawn_stalls, store_kept_caused}, Names.{None, refl, rules, Nothing, asks_slots_same, picture_of}, Taking.{spawned_takes, spawn_stalled_takes}}
 use Rattle.spaces.proofs.processes.spawn.Goals as goal
 
 pub returns-in_default-clause-comes : goal.returns-in_default-clause-comes

@@ -1,5 +1,4 @@
-use Rattle.spaces.proofs.Names.{sym, ◌∙◌, files_of}
-use Rattle.spaces.proofs.Guards.{none_in_row, none_to_the_end, one_in_row}
+use Rattle.spaces.proofs.{Guards.{none_in_row, none_to_the_end, one_in_row}, Names.{sym, ◌∙◌, files_of}}
 use Rattle.spaces.proofs.protections.has_guarded.Goals as goal
 
 pub returns-then-run-end : goal.returns-then-run-end

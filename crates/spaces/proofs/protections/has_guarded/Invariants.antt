@@ -1,5 +1,4 @@
-use Rattle.spaces.proofs.Names.{user_end, ◌-◌, ◌≤◌, files_of}
-use Rattle.spaces.proofs.Guards.{Unguarded}
+use Rattle.spaces.proofs.{Guards.{Unguarded}, Names.{user_end, ◌-◌, ◌≤◌, files_of}}
 use Rattle.spaces.proofs.protections.has_guarded.Given as goal
 
 abbrev pub invariant-loop-run : goal.invariant-loop-run

@@ -1,5 +1,4 @@
-use Rattle.std.proofs.Common.{◌≡◌, ◌+◌, [], ◌∷◌, ◌++◌, subst, sym, rules}
-use Rattle.stop_trials.proofs.Choices.{AreListed, none_listed, one_more_listed}
+use Rattle.{std.proofs.Common.{◌≡◌, ◌+◌, [], ◌∷◌, ◌++◌, subst, sym, rules}, stop_trials.proofs.Choices.{AreListed, none_listed, one_more_listed}}
 use Rattle.stop_trials.proofs.fillings.everywhere.Goals as goal
 
 pub loop-sector-init : goal.loop-sector-init

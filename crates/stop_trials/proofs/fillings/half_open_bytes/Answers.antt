@@ -1,6 +1,4 @@
-use Rattle.std.proofs.Common.{refl}
-use Rattle.sync_journal.specs.Gate.{open_sector}
-use Rattle.stop_trials.specs.Fillings.{half_open_sector}
+use Rattle.{std.proofs.Common.{refl}, sync_journal.specs.Gate.{open_sector}, stop_trials.specs.Fillings.{half_open_sector}}
 use Rattle.stop_trials.proofs.fillings.half_open_bytes.Goals as goal
 
 pub returns : goal.returns

@@ -1,7 +1,4 @@
-use Rattle.std.proofs.Common.{◌≡◌, ◌++◌, ℕ, List, refl, sym, ap, ◌∙◌, arith}
-use Rattle.disk_model.specs.{Stop.{Image}, Sectors.{joined}}
-use Rattle.disk_model.proofs.Pieces.{joined-none, joined-more}
-use Rattle.programs.proofs.Copies.{same_content}
+use Rattle.{std.proofs.Common.{◌≡◌, ◌++◌, ℕ, List, refl, sym, ap, ◌∙◌, arith}, disk_model.{proofs.Pieces.{joined-none, joined-more}, specs.{Sectors.{joined}, Stop.{Image}}}, programs.proofs.Copies.{same_content}}
 use Rattle.stop_trials.specs.Standing.{standing_bytes}
 use Rattle.stop_trials.proofs.recovery.contents.Goals as goal
 

@@ -1,7 +1,4 @@
-use Rattle.std.proofs.Common.{◌≡◌}
-use Rattle.file_store.specs.Store.{IsReadyStore}
-use Rattle.disk_model.specs.Sectors.{joined}
-use Rattle.stop_trials.specs.Standing.{standing_bytes}
+use Rattle.{std.proofs.Common.{◌≡◌}, file_store.specs.Store.{IsReadyStore}, disk_model.specs.Sectors.{joined}, stop_trials.specs.Standing.{standing_bytes}}
 use Rattle.stop_trials.proofs.recovery.contents.Given as goal
 
 abbrev pub invariant-loop-file : goal.invariant-loop-file

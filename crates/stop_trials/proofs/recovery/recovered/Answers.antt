@@ -1,6 +1,4 @@
-use Rattle.std.proofs.Common.{inr, refl, ◌∙◌}
-use Rattle.disk_model.specs.SimDisk.{sectors_in, sector_of}
-use Rattle.stop_trials.proofs.Contents.{same_contents}
+use Rattle.{std.proofs.Common.{inr, refl, ◌∙◌}, disk_model.specs.SimDisk.{sectors_in, sector_of}, stop_trials.proofs.Contents.{same_contents}}
 use Rattle.stop_trials.proofs.recovery.recovered.Goals as goal
 
 pub returns-clause-layout : goal.returns-clause-layout

@@ -1,5 +1,4 @@
-use Rattle.std.proofs.Common.{◌≤◌}
-use Rattle.machine.specs.Machine.{IsSoundMachine}
+use Rattle.{std.proofs.Common.{◌≤◌}, machine.specs.Machine.{IsSoundMachine}}
 use Rattle.stop_trials.proofs.runs.run_lines.Given as goal
 
 abbrev pub invariant-loop-line : goal.invariant-loop-line

@@ -1,6 +1,5 @@
-use Rattle.std.proofs.{Common.{◌≡◌, ◌<◌, ℕ, zero, suc, List, [], ◌∷◌, get_or, Some, length, sym, ap, ◌∙◌, ⊎_elim, arith}, lemmas.Bool.{cases_eq, false≢true}, lemmas.Option.{same_Some}}
-use Rattle.std.specs.{List.{slice_get}, Option.{option_map}, declared.alloc.Global.{Global}, declared.vec.Vec.{Vec}}
-use Rattle.stop_trials.specs.Standing.{state_after}
+use Rattle.std.{proofs.{Common.{◌≡◌, ◌<◌, ℕ, zero, suc, List, [], ◌∷◌, get_or, Some, length, sym, ap, ◌∙◌, ⊎_elim, arith}, lemmas.{Bool.{cases_eq, false≢true}, Option.{same_Some}}}, specs.{List.{slice_get}, Option.{option_map}}}
+use Rattle.{std.specs.declared.{alloc.Global.{Global}, vec.Vec.{Vec}}, stop_trials.specs.Standing.{state_after}}
 use Rattle.stop_trials.proofs.standing.msyncs_standing.Goals as goal
 
 there : (states : List (Vec ℕ Global)) (n : ℕ) (state : Vec ℕ Global) → n < length states → state ≡ get_or states n state → slice_get states n ≡ Some state

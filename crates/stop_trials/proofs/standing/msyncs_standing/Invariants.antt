@@ -1,5 +1,4 @@
-use Rattle.std.proofs.Common.{◌≡◌, ◌≤◌, ◌<◌, ℕ, Some}
-use Rattle.stop_trials.specs.Standing.{state_after}
+use Rattle.{std.proofs.Common.{◌≡◌, ◌≤◌, ◌<◌, ℕ, Some}, stop_trials.specs.Standing.{state_after}}
 use Rattle.stop_trials.proofs.standing.msyncs_standing.Given as goal
 
 abbrev pub invariant-loop-n : goal.invariant-loop-n

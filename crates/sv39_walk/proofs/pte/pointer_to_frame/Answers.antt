@@ -1,5 +1,4 @@
-use Rattle.std.proofs.Common.{arith}
-use Rattle.sv39_walk.proofs.Entries.{is_pointer-pointer_to, frame_of-pointer_to}
+use Rattle.{std.proofs.Common.{arith}, sv39_walk.proofs.Entries.{is_pointer-pointer_to, frame_of-pointer_to}}
 use Rattle.sv39_walk.proofs.pte.pointer_to_frame.Goals as goal
 
 pub returns-clause-pointer : goal.returns-clause-pointer

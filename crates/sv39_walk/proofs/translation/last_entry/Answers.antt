@@ -1,5 +1,4 @@
-use Rattle.std.proofs.Common.{◌≡◌, refl, sym, ap, ◌∙◌, arith}
-use Rattle.sv39_walk.{specs.{Entry.{entry_at}, Walk.{last_of}}, proofs.Way.{last_of-zero, last_of-stop, last_of-next}}
+use Rattle.{std.proofs.Common.{◌≡◌, refl, sym, ap, ◌∙◌, arith}, sv39_walk.{proofs.Way.{last_of-zero, last_of-stop, last_of-next}, specs.{Entry.{entry_at}, Walk.{last_of}}}}
 use Rattle.sv39_walk.proofs.translation.last_entry.Goals as goal
 
 pub loop-level-init : goal.loop-level-init

@@ -1,7 +1,4 @@
-use Rattle.std.proofs.Common.{◌≡◌, ◌≤◌}
-use Rattle.frames.specs.FrameTable.{IsFrame}
-use Rattle.vm_types.specs.Limits.{top_level}
-use Rattle.sv39_walk.specs.Walk.{last_of}
+use Rattle.{std.proofs.Common.{◌≡◌, ◌≤◌}, frames.specs.FrameTable.{IsFrame}, vm_types.specs.Limits.{top_level}, sv39_walk.specs.Walk.{last_of}}
 use Rattle.sv39_walk.proofs.translation.last_entry.Given as goal
 
 -- what is left of the way ends where the whole way does

@@ -1,5 +1,4 @@
-use Rattle.sync_journal.proofs.Names.{◌<◌, ◌+◌, ◌∙◌, ℕ, Option, get_or, sym, subst, arith, IfSome}
-use Rattle.sync_journal.proofs.{Images.{no_place, named_next, other_next, within_more}, commits.place.Goals.{then-homes-j, else-homes-j}}
+use Rattle.sync_journal.proofs.{Images.{no_place, named_next, other_next, within_more}, Names.{◌<◌, ◌+◌, ◌∙◌, ℕ, Option, get_or, sym, subst, arith, IfSome}, commits.place.Goals.{then-homes-j, else-homes-j}}
 use Rattle.sync_journal.proofs.commits.place.Goals as goal
 
 pub loop-j-init : goal.loop-j-init

@@ -1,5 +1,4 @@
-use Rattle.sync_journal.proofs.Names.{◌≡◌, ◌<◌, get_or, IfSome}
-use Rattle.sync_journal.specs.Map.{place_among}
+use Rattle.sync_journal.{proofs.Names.{◌≡◌, ◌<◌, get_or, IfSome}, specs.Map.{place_among}}
 use Rattle.sync_journal.proofs.commits.place.Given as goal
 
 abbrev pub invariant-loop-j : goal.invariant-loop-j

@@ -1,5 +1,4 @@
-use Rattle.sync_journal.proofs.Names.{refl}
-use Rattle.sync_journal.specs.Gate.{open_sector}
+use Rattle.sync_journal.{proofs.Names.{refl}, specs.Gate.{open_sector}}
 use Rattle.sync_journal.proofs.gate.open_bytes.Goals as goal
 
 pub returns : goal.returns

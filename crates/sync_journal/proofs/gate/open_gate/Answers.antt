@@ -1,5 +1,4 @@
-use Rattle.sync_journal.proofs.Names.{◌∙◌, rules, on_ok_weaker}
-use Rattle.sync_journal.proofs.Gates.{opened}
+use Rattle.sync_journal.proofs.{Gates.{opened}, Names.{◌∙◌, rules, on_ok_weaker}}
 use Rattle.sync_journal.proofs.gate.open_gate.Goals as goal
 
 pub returns : goal.returns

@@ -1,5 +1,4 @@
-use Rattle.sync_journal.proofs.Names.{◌+◌, arith, ◌∙◌, rules}
-use Rattle.sync_journal.proofs.Copies.{one_home, copied_more, copy_more, copy_all}
+use Rattle.sync_journal.proofs.{Copies.{one_home, copied_more, copy_more, copy_all}, Names.{◌+◌, arith, ◌∙◌, rules}}
 use Rattle.sync_journal.proofs.homes.copy_each.Goals as goal
 
 pub returns-in_err-copy_unless : goal.returns-in_err-copy_unless
@@ -8,15 +7,11 @@ returns-in_err-copy_unless g c =
     let n = c.loop-j.j in
     let homes = c.args.homes.now in
     let but = c.args.but.now in
-    record {
-      done = search rules;
-      run = one_home d c.args.first homes n c.args.disk.now c.loop-j.disk c.copy_unless.new.disk c.loop-j-test.true c.loop-j.invariant.0 c.copy_unless.ensures.run;
-      once = copy_all c.args.body c.args.first homes but (n + 1) (omega (arith, c.loop-j-test.true)) (d.asked c.args.disk.now) (d.asked c.copy_unless.new.disk)
-          (copy_more c.args.body c.args.first c.requires.after _ homes but c.requires.are (d.asked c.args.disk.now) (d.asked c.loop-j.disk) (d.asked c.copy_unless.new.disk) n
-          c.loop-j-test.true c.loop-j.invariant.3 c.copy_unless.ensures.once);
-      failed = search rules;
-      calm = search rules;
-    }
+    let run = one_home d c.args.first homes n c.args.disk.now c.loop-j.disk c.copy_unless.new.disk c.loop-j-test.true c.loop-j.invariant.0 c.copy_unless.ensures.run in
+    let once = copy_all c.args.body c.args.first homes but (n + 1) (omega (arith, c.loop-j-test.true)) (d.asked c.args.disk.now) (d.asked c.copy_unless.new.disk)
+    (copy_more c.args.body c.args.first c.requires.after _ homes but c.requires.are (d.asked c.args.disk.now) (d.asked c.loop-j.disk) (d.asked c.copy_unless.new.disk) n
+    c.loop-j-test.true c.loop-j.invariant.3 c.copy_unless.ensures.once) in
+    search rules
 
 pub loop-j-preserved : goal.loop-j-preserved
 loop-j-preserved g c =
@@ -36,10 +31,5 @@ loop-j-preserved g c =
 
 pub returns : goal.returns
 returns g c =
-    record {
-      done = search rules;
-      run = search rules;
-      once = copy_all c.args.body c.args.first c.args.homes.now c.args.but.now c.loop-j.j (omega arith) (g.D.SectorDisk.asked c.args.disk.now) (g.D.SectorDisk.asked c.loop-j.disk) c.loop-j.invariant.3;
-      failed = search rules;
-      calm = search rules;
-    }
+    let once = copy_all c.args.body c.args.first c.args.homes.now c.args.but.now c.loop-j.j (omega arith) (g.D.SectorDisk.asked c.args.disk.now) (g.D.SectorDisk.asked c.loop-j.disk) c.loop-j.invariant.3 in
+    search rules

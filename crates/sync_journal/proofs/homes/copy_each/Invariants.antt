@@ -1,5 +1,4 @@
-use Rattle.sync_journal.proofs.Names.{◌≡◌, NamesOnce}
-use Rattle.sync_journal.specs.{Layout.{IsHomeFrom}, Runs.{RunsOnDevice}, Standing.{IsCopyFrom, AreCopiedFrom}}
+use Rattle.sync_journal.{proofs.Names.{◌≡◌, NamesOnce}, specs.{Layout.{IsHomeFrom}, Runs.{RunsOnDevice}, Standing.{IsCopyFrom, AreCopiedFrom}}}
 use Rattle.sync_journal.proofs.homes.copy_each.Given as goal
 
 abbrev pub invariant-loop-j : goal.invariant-loop-j

@@ -1,5 +1,4 @@
-use Rattle.sync_journal.proofs.Names.{length, rules, once_still}
-use Rattle.sync_journal.{specs.Standing.{IsCopyFrom}, proofs.Runs.{and_no_write}}
+use Rattle.sync_journal.{proofs.{Names.{length, rules, once_still}, Runs.{and_no_write}}, specs.Standing.{IsCopyFrom}}
 use Rattle.sync_journal.proofs.homes.copy_homes.Goals as goal
 
 pub returns : goal.returns

@@ -1,6 +1,5 @@
-use Rattle.sync_journal.proofs.Names.{[], length, inl, inr, rules, once_wider}
+use Rattle.sync_journal.proofs.{Asking.{finish_asks}, Copies.{in_copied}, Gates.{closed}, Names.{[], length, inl, inr, rules, once_wider}, Replays.{while_copying, while_closing, settled, on_ok_both}, Runs.{one_more, of_more}}
 use Rattle.sync_journal.specs.{Layout.{IsGate, IsHomeSector, IsReplayed, IsFinished}, Standing.{IsCopyFrom}}
-use Rattle.sync_journal.proofs.{Copies.{in_copied}, Asking.{finish_asks}, Gates.{closed}, Runs.{one_more, of_more}, Replays.{while_copying, while_closing, settled, on_ok_both}}
 use Rattle.sync_journal.proofs.homes.replay.Goals as goal
 
 pub returns-in_err-copy_homes-clause-home : goal.returns-in_err-copy_homes-clause-home

@@ -1,5 +1,4 @@
-use Rattle.sync_journal.proofs.Names.{length, get_or, ◌++◌, sym, ap, ◌∙◌, ◌≡◌, arith, length-take, take_at, get_or-take, post_of}
-use Rattle.sync_journal.proofs.Maps.{bad_numbers}
+use Rattle.sync_journal.proofs.{Maps.{bad_numbers}, Names.{length, get_or, ◌++◌, sym, ap, ◌∙◌, ◌≡◌, arith, length-take, take_at, get_or-take, post_of}}
 use Rattle.sync_journal.proofs.map.read_homes.Goals as goal
 
 pub returns-else-are_homes : goal.returns-else-are_homes

@@ -1,5 +1,4 @@
-use Rattle.sync_journal.proofs.Names.{◌∙◌, ◌+◌, ◌*◌, ◌-◌, length, arith}
-use Rattle.sync_journal.proofs.Maps.{number_at}
+use Rattle.sync_journal.proofs.{Maps.{number_at}, Names.{◌∙◌, ◌+◌, ◌*◌, ◌-◌, length, arith}}
 use Rattle.sync_journal.proofs.map.read_numbers.Goals as goal
 
 pub returns : goal.returns

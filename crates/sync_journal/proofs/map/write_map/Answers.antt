@@ -1,5 +1,4 @@
-use Rattle.sync_journal.proofs.Names.{ℕ, List, ◌+◌, ◌*◌, ◌-◌, ◌++◌, length, drop, ap, ◌∙◌, arith, flat_map, little_bytes}
-use Rattle.sync_journal.proofs.Maps.{overwritten, zeros_after}
+use Rattle.sync_journal.proofs.{Maps.{overwritten, zeros_after}, Names.{ℕ, List, ◌+◌, ◌*◌, ◌-◌, ◌++◌, length, drop, ap, ◌∙◌, arith, flat_map, little_bytes}}
 use Rattle.sync_journal.proofs.map.write_map.Goals as goal
 
 pub returns : goal.returns

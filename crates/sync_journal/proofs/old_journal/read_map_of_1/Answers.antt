@@ -1,5 +1,4 @@
-use Rattle.sync_journal.proofs.Names.{ap, sym, length, ◌≡◌, ◌∙◌, arith, rules, length-take-le}
-use Rattle.sync_journal.{specs.Layout.{layout_1, home_count_in}, proofs.{Maps.{one_sector}, OldJournals.{reads_map}}}
+use Rattle.sync_journal.{proofs.{Maps.{one_sector}, Names.{ap, sym, length, ◌≡◌, ◌∙◌, arith, rules, length-take-le}, OldJournals.{reads_map}}, specs.Layout.{layout_1, home_count_in}}
 use Rattle.sync_journal.proofs.old_journal.read_map_of_1.Goals as goal
 
 pub returns : goal.returns

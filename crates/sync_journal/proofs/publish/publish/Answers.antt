@@ -1,6 +1,5 @@
-use Rattle.sync_journal.proofs.Names.{length, refl, ⊎_elim, ◌∙◌, arith, rules, once_wider}
-use Rattle.sync_journal.{specs.Layout.{gate_sector, IsStaged, IsOpened}, proofs.{Asking.{publish_asks}, Causes.{not_source, told_on, puts_failed, none_failed}, Runs.{staged_run, published_run}}}
-use Rattle.sync_journal.proofs.Phases.{while_staging, while_staging_either, staged_settled, while_opening, opened_settled, opened_live, opened_outside, gate_leaves_map}
+use Rattle.sync_journal.proofs.{Asking.{publish_asks}, Causes.{not_source, told_on, puts_failed, none_failed}, Names.{length, refl, ⊎_elim, ◌∙◌, arith, rules, once_wider}, Phases.{while_staging, while_staging_either, staged_settled}}
+use Rattle.sync_journal.{proofs.{Phases.{while_opening, opened_settled, opened_live, opened_outside, gate_leaves_map}, Runs.{staged_run, published_run}}, specs.Layout.{gate_sector, IsStaged, IsOpened}}
 use Rattle.sync_journal.proofs.publish.publish.Goals as goal
 
 pub returns-in_err-stage : goal.returns-in_err-stage

@@ -1,5 +1,4 @@
-use Rattle.sync_journal.proofs.Names.{refl, Nothing, asks_none}
-use Rattle.sync_journal.{specs.Standing.{IsAskedIn}, proofs.{Runs.{no_write}, Causes.{is_error, not_bad_device, blames_device}, OneRecoveries.{looked, after_sync}}}
+use Rattle.sync_journal.{proofs.{Causes.{is_error, not_bad_device, blames_device}, Names.{refl, Nothing, asks_none}, OneRecoveries.{looked, after_sync}, Runs.{no_write}}, specs.Standing.{IsAskedIn}}
 use Rattle.sync_journal.proofs.recovery.recover.Goals as goal
 
 pub returns-in_err-sync : goal.returns-in_err-sync

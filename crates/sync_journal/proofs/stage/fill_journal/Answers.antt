@@ -1,34 +1,18 @@
-use Rattle.sync_journal.proofs.Names.{◌≡◌, ◌+◌, ◌*◌, length, ⊎_elim, ◌∙◌, arith, rules, once_wider}
-use Rattle.sync_journal.{specs.Layout.{IsPageSector, IsFilledAt, IsJournalAt, IsStagedAt}, proofs.{Asking.{staged_asks}, Maps.{map_page}, Runs.{one_more, of_more}}}
+use Rattle.sync_journal.{proofs.{Asking.{staged_asks}, Maps.{map_page}, Names.{◌≡◌, ◌+◌, ◌*◌, length, ⊎_elim, ◌∙◌, arith, rules, once_wider}, Runs.{one_more, of_more}}, specs.Layout.{IsPageSector, IsFilledAt, IsJournalAt, IsStagedAt}}
 use Rattle.sync_journal.proofs.stage.fill_journal.Goals as goal
 
 pub returns-in_err-write_pages : goal.returns-in_err-write_pages
 returns-in_err-write_pages g c =
-    record {
-      fills = record {
-        body = search rules;
-        once = once_wider (IsFilledAt c.args.start (length c.args.homes.now)) (IsStagedAt c.args.start (length c.args.homes.now)) _ _ (λ k inside. (omega (arith, inside.0), inside.1)) c.write_pages.ensures.once;
-        takes = search rules;
-      };
-      map = search rules;
-    }
+    let once = once_wider (IsFilledAt c.args.start (length c.args.homes.now)) (IsStagedAt c.args.start (length c.args.homes.now)) _ _ (λ k inside. (omega (arith, inside.0), inside.1)) c.write_pages.ensures.once in
+    search rules
 
 pub returns-in_err-write_page : goal.returns-in_err-write_page
 returns-in_err-write_page g c =
     let d = g.D.SectorDisk in
-    record {
-      fills = record {
-        body = search rules;
-        once = staged_asks (d.asked c.args.disk.now) (d.asked c.write_pages.new.disk) (d.asked c.write_page.new.disk) c.args.start (length c.args.homes.now) c.write_pages.ensures.once c.write_page.ensures.asks;
-        takes = record {
-          run = one_more d (IsJournalAt c.args.start) c.args.disk.now c.write_pages.new.disk c.write_page.new.disk c.write_pages.ensures.run
-              (of_more d (IsPageSector c.args.start) (IsJournalAt c.args.start) c.write_pages.new.disk c.write_page.new.disk (λ k inside. (inside.0, omega (arith, inside.1))) c.write_page.ensures.run);
-          asks = search rules;
-          causes = search rules;
-        };
-      };
-      map = search rules;
-    }
+    let once = staged_asks (d.asked c.args.disk.now) (d.asked c.write_pages.new.disk) (d.asked c.write_page.new.disk) c.args.start (length c.args.homes.now) c.write_pages.ensures.once c.write_page.ensures.asks in
+    let run = one_more d (IsJournalAt c.args.start) c.args.disk.now c.write_pages.new.disk c.write_page.new.disk c.write_pages.ensures.run
+    (of_more d (IsPageSector c.args.start) (IsJournalAt c.args.start) c.write_pages.new.disk c.write_page.new.disk (λ k inside. (inside.0, omega (arith, inside.1))) c.write_page.ensures.run) in
+    search rules
 
 pub returns : goal.returns
 returns g c =

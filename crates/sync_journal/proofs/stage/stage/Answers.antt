@@ -1,31 +1,16 @@
-use Rattle.sync_journal.proofs.Names.{◌≡◌, length, subst, sym, rules, Image, once_still}
-use Rattle.sync_journal.specs.{Layout.{IsStaged}, Map.{map_bytes}, Standing.{map_of, HoldsPages}}
+use Rattle.sync_journal.{proofs.Names.{◌≡◌, length, subst, sym, rules, Image, once_still}, specs.{Layout.{IsStaged}, Map.{map_bytes}, Standing.{map_of, HoldsPages}}}
 use Rattle.sync_journal.proofs.stage.stage.Goals as goal
 
 pub returns-in_err-fill_journal : goal.returns-in_err-fill_journal
 returns-in_err-fill_journal g c =
-    record {
-      fills = record {
-        fills = record { body = search rules; once = c.fill_journal.ensures.once; takes = search rules };
-        map = search rules;
-      };
-      synced = search rules;
-    }
+    let once = c.fill_journal.ensures.once in
+    search rules
 
 pub returns-in_err-sync : goal.returns-in_err-sync
 returns-in_err-sync g c =
     let d = g.D.SectorDisk in
-    record {
-      fills = record {
-        fills = record {
-          body = search rules;
-          once = once_still (IsStaged (length c.args.homes.now)) (d.asked c.args.disk.now) (d.asked c.fill_journal.new.disk) (d.asked c.sync.new.self) c.fill_journal.ensures.once c.sync.ensures.asks;
-          takes = search rules;
-        };
-        map = search rules;
-      };
-      synced = search rules;
-    }
+    let once = once_still (IsStaged (length c.args.homes.now)) (d.asked c.args.disk.now) (d.asked c.fill_journal.new.disk) (d.asked c.sync.new.self) c.fill_journal.ensures.once c.sync.ensures.asks in
+    search rules
 
 pub returns : goal.returns
 returns g c =

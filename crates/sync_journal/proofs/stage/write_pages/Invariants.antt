@@ -1,5 +1,4 @@
-use Rattle.sync_journal.proofs.Names.{◌≡◌, length, NamesOnce}
-use Rattle.sync_journal.specs.{Layout.{IsJournalAt, IsFilledAt}, Runs.{RunsOnDevice}, Standing.{HoldsAt}, Source.{Asks}}
+use Rattle.sync_journal.{proofs.Names.{◌≡◌, length, NamesOnce}, specs.{Layout.{IsJournalAt, IsFilledAt}, Runs.{RunsOnDevice}, Source.{Asks}, Standing.{HoldsAt}}}
 use Rattle.sync_journal.proofs.stage.write_pages.Given as goal
 
 abbrev pub invariant-loop-j : goal.invariant-loop-j

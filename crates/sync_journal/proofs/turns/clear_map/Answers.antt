@@ -1,5 +1,4 @@
-use Rattle.sync_journal.proofs.Names.{◌≡◌, length, ◌∙◌, arith, rules, on_ok_weaker}
-use Rattle.sync_journal.{specs.{Layout.{IsPageSector}, Turns.{IsTurnSector}}, proofs.{Runs.{of_more}, InTurn.{map_written}, TurnAsking.{map_asks}}}
+use Rattle.sync_journal.{proofs.{InTurn.{map_written}, Names.{◌≡◌, length, ◌∙◌, arith, rules, on_ok_weaker}, Runs.{of_more}, TurnAsking.{map_asks}}, specs.{Layout.{IsPageSector}, Turns.{IsTurnSector}}}
 use Rattle.sync_journal.proofs.turns.clear_map.Goals as goal
 
 pub returns : goal.returns

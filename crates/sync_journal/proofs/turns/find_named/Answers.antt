@@ -48,11 +48,10 @@ returns-in-None-clause-bad g c = λ keeps is.
     let second = c.in_ok-read_page.ensures in
     let before = second.kept keeps in
     let old = c.args.disk.now in
-    let gate = ap is_open_sector (sym (first.gives before)) ∙ sym c.is_open_gate-second.ensures in
     let count = c.turn_home_count.ensures ∙ ap turn_home_count (c.sectors.ensures ∙ second.size ∙ first.size) in
     let mapped = map_read c.is_open_gate-second.result (d.content c.read.new.self) (d.content old) c.start.result c.start.ensures.is
     (λ k. ap (λ (image : Image). image k) (sym (first.same before))) ∙ sym (second.read keeps) in
-    subst (λ b. IsBadUnder b (d.sector_count old) (d.content old)) (sym gate)
+    subst (λ b. IsBadUnder b (d.sector_count old) (d.content old)) (sym (ap is_open_sector (sym (first.gives before)) ∙ sym c.is_open_gate-second.ensures))
     (subst (λ m. IsBadMap 1023 (turn_home_count (d.sector_count old)) m) (sym mapped)
     (subst (λ n. IsBadMap 1023 n c.read_page.new.to) count c.in-None.ensures))
 

@@ -1,5 +1,4 @@
-use Rattle.sync_journal.proofs.Names.{sym, ◌∙◌}
-use Rattle.sync_journal.proofs.Gates.{opened, zeros_are_closed}
+use Rattle.sync_journal.proofs.{Gates.{opened, zeros_are_closed}, Names.{sym, ◌∙◌}}
 use Rattle.sync_journal.proofs.turns.gate_bytes.Goals as goal
 
 pub returns-then-second : goal.returns-then-second

@@ -1,5 +1,4 @@
-use Rattle.sync_journal.proofs.Names.{◌+◌, ℕ, List, length, arith, sym, subst}
-use Rattle.sync_journal.specs.{Map.{AreHomes}, Journal.{live_homes}, Turns.{turn_homes, turn_home_count, IsTurnHome}, Standing.{IsCopyFrom, AreCopiedFrom}, Steps.{SyncsInto}}
+use Rattle.sync_journal.{proofs.Names.{◌+◌, ℕ, List, length, arith, sym, subst}, specs.{Journal.{live_homes}, Map.{AreHomes}, Standing.{IsCopyFrom, AreCopiedFrom}, Steps.{SyncsInto}, Turns.{turn_homes, turn_home_count, IsTurnHome}}}
 use Rattle.sync_journal.proofs.turns.prepare.Goals as goal
 
 pub copy_homes-requires : goal.copy_homes-requires

@@ -1,5 +1,4 @@
-use Rattle.sync_journal.proofs.Names.{◌≡◌, length, subst, arith}
-use Rattle.sync_journal.specs.{Layout.{IsJournalAt, IsStagedAt}, Map.{map_bytes}, Standing.{map_at, HoldsAt}, Steps.{FillsJournal}}
+use Rattle.sync_journal.{proofs.Names.{◌≡◌, length, subst, arith}, specs.{Layout.{IsJournalAt, IsStagedAt}, Map.{map_bytes}, Standing.{map_at, HoldsAt}, Steps.{FillsJournal}}}
 use Rattle.sync_journal.proofs.turns.stage_in.Goals as goal
 
 pub fill_journal-requires : goal.fill_journal-requires

@@ -1,5 +1,4 @@
-use Rattle.sync_plans.proofs.Names.{◌≡◌, OnOk, IfOk, IfErr, file_info}
-use Rattle.sync_plans.{specs.{Requests.{IsStore, RefusesImage}, PlanDisk.{pages_of}}, proofs.{Runs.{refuses_image}, Theorem.{as_given}}}
+use Rattle.sync_plans.{proofs.{Names.{◌≡◌, OnOk, IfOk, IfErr, file_info}, Runs.{refuses_image}, Theorem.{as_given}}, specs.{PlanDisk.{pages_of}, Requests.{IsStore, RefusesImage}}}
 use Rattle.sync_plans.proofs.planning.file_facts.Goals as goal
 
 pub returns-clause-store : goal.returns-clause-store

@@ -1,6 +1,5 @@
-use Rattle.sync_plans.proofs.Names.{ℕ, List, ◌∙◌, IsTrue, IfErr, length, ap, sym, subst, arith, Image, file_info, ArePages}
-use Rattle.sync_plans.specs.{Pages.{lent_page}, PlanDisk.{pages_of}, Plans.{row, AreCalls, AreSources, image_after}, Requests.{IsStore, KeepsOutside, AreWritable, AreReadOnly, RefusesImage}}
-use Rattle.sync_plans.proofs.{Growth.{alike_unsynced}, Runs.{refuses_image}, Theorem.{stands_now, stops_leave, stands_then, began_pages, same_end, as_given}}
+use Rattle.sync_plans.proofs.{Growth.{alike_unsynced}, Names.{ℕ, List, ◌∙◌, IsTrue, IfErr, length, ap, sym, subst, arith, Image, file_info, ArePages}, Runs.{refuses_image}, Theorem.{stands_now, stops_leave, stands_then, began_pages}}
+use Rattle.sync_plans.{proofs.Theorem.{same_end, as_given}, specs.{Pages.{lent_page}, PlanDisk.{pages_of}, Plans.{row, AreCalls, AreSources, image_after}, Requests.{IsStore, KeepsOutside, AreWritable, AreReadOnly, RefusesImage}}}
 use Rattle.sync_plans.proofs.planning.plan_commit.Goals as goal
 
 pub returns-in-Ok-clause-commits : goal.returns-in-Ok-clause-commits

@@ -1,6 +1,5 @@
-use Rattle.sync_plans.proofs.Names.{ℕ, List, [], ◌∙◌, IsTrue, IfErr, length, ap, sym, subst, ⊎_elim, arith, Image, file_info, standing_page, stands_for_itself}
-use Rattle.sync_plans.specs.{Pages.{lent_page}, PlanDisk.{pages_of}, Plans.{row, AreCalls, AreSources, image_after}, Requests.{IsStore, IsClosed, KeepsOutside, RefusesImage}}
-use Rattle.sync_plans.proofs.{Growth.{alike_unsynced}, Runs.{refuses_image}, Theorem.{stands_now, layouts, stops_leave, began_pages, same_end, as_given}}
+use Rattle.sync_plans.proofs.{Growth.{alike_unsynced}, Names.{ℕ, List, [], ◌∙◌, IsTrue, IfErr, length, ap, sym, subst, ⊎_elim, arith, Image, file_info, standing_page, stands_for_itself}, Runs.{refuses_image}, Theorem.{stands_now, layouts}}
+use Rattle.sync_plans.{proofs.Theorem.{stops_leave, began_pages, same_end, as_given}, specs.{Pages.{lent_page}, PlanDisk.{pages_of}, Plans.{row, AreCalls, AreSources, image_after}, Requests.{IsStore, IsClosed, KeepsOutside, RefusesImage}}}
 use Rattle.sync_plans.proofs.planning.plan_open.Goals as goal
 
 pub returns-in-Ok-clause-opens : goal.returns-in-Ok-clause-opens

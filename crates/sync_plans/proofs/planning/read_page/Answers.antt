@@ -1,5 +1,4 @@
-use Rattle.sync_plans.proofs.Names.{[], ap, OnOk, IfErr, IsPageOf, file_info}
-use Rattle.sync_plans.{specs.{Requests.{IsStore, RefusesImage}, Pages.{lent_page}, PlanDisk.{pages_of}}, proofs.{Runs.{refuses_image}, Theorem.{stands_now, as_given}}}
+use Rattle.sync_plans.{proofs.{Names.{[], ap, OnOk, IfErr, IsPageOf, file_info}, Runs.{refuses_image}, Theorem.{stands_now, as_given}}, specs.{Pages.{lent_page}, PlanDisk.{pages_of}, Requests.{IsStore, RefusesImage}}}
 use Rattle.sync_plans.proofs.planning.read_page.Goals as goal
 
 pub returns-clause-page : goal.returns-clause-page

@@ -1,5 +1,4 @@
-use Rattle.sync_plans.proofs.Names.{subst}
-use Rattle.sync_plans.proofs.Runs.{found_store, told_so}
+use Rattle.sync_plans.proofs.{Names.{subst}, Runs.{found_store, told_so}}
 use Rattle.sync_plans.proofs.requests.facts.Goals as goal
 
 pub returns-in-Ok-clause-store : goal.returns-in-Ok-clause-store

@@ -1,5 +1,4 @@
-use Rattle.sync_plans.proofs.Names.{inl, inr, refl, sym, subst, LeavesOnly, weaker, StandsFor, StandsForEither}
-use Rattle.sync_plans.{specs.Requests.{OpensStore}, proofs.Runs.{is_closed, while_opening}}
+use Rattle.sync_plans.{proofs.{Names.{inl, inr, refl, sym, subst, LeavesOnly, weaker, StandsFor, StandsForEither}, Runs.{is_closed, while_opening}}, specs.Requests.{OpensStore}}
 use Rattle.sync_plans.proofs.requests.open.Goals as goal
 
 pub returns-in-Ok-clause-any_moment : goal.returns-in-Ok-clause-any_moment

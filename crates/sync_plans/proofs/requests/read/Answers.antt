@@ -1,5 +1,4 @@
-use Rattle.sync_plans.proofs.Names.{ℕ, IsTrue, Option, inr, refl, sym, subst, ◌∙◌, rules, FileInfo, IsPageOf}
-use Rattle.sync_plans.proofs.Runs.{when_open, same_files, found_store, told_so}
+use Rattle.sync_plans.proofs.{Names.{ℕ, IsTrue, Option, inr, refl, sym, subst, ◌∙◌, rules, FileInfo, IsPageOf}, Runs.{when_open, same_files, found_store, told_so}}
 use Rattle.sync_plans.proofs.requests.read.Goals as goal
 
 pub returns-in-Ok-read_page-clause-page : goal.returns-in-Ok-read_page-clause-page

@@ -1,5 +1,4 @@
-use Rattle.std.proofs.Common.{[], ◌∷◌, codes, refl, ◌∙◌, ap, sym, subst}
-use Rattle.trace_lang.{specs.{Names.{ReadsAfter, source_text}, declared.names.SourceName.{SourceName}}, proofs.{Nothing.{none≢some}, Places.{texts}}}
+use Rattle.{std.proofs.Common.{[], ◌∷◌, codes, refl, ◌∙◌, ap, sym, subst}, trace_lang.{proofs.{Nothing.{none≢some}, Places.{texts}}, specs.{Names.{ReadsAfter, source_text}, declared.names.SourceName.{SourceName}}}}
 use Rattle.trace_lang.proofs.arguments.after_name.Goals as goal
 
 pub returns-in_err-file-in-Private-clause-only : goal.returns-in_err-file-in-Private-clause-only

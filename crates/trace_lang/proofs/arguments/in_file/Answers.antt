@@ -1,5 +1,4 @@
-use Rattle.std.proofs.Common.{ℕ, List, [], get_or, sym, ◌∙◌, ap, subst, arith}
-use Rattle.trace_lang.{specs.Grammar.{IsNumber}, proofs.Places.{two_or_more}}
+use Rattle.{std.proofs.Common.{ℕ, List, [], get_or, sym, ◌∙◌, ap, subst, arith}, trace_lang.{proofs.Places.{two_or_more}, specs.Grammar.{IsNumber}}}
 use Rattle.trace_lang.proofs.arguments.in_file.Goals as goal
 
 pub returns-in_err-file-clause-only : goal.returns-in_err-file-clause-only

@@ -1,6 +1,5 @@
-use Rattle.std.proofs.Common.{◌≡◌, ℕ, ◌+◌, ◌*◌, Bool, true, false, Some, get_or, if◌then◌else◌, refl, sym, ◌∙◌, ap}
+use Rattle.{std.proofs.Common.{◌≡◌, ℕ, ◌+◌, ◌*◌, Bool, true, false, Some, get_or, if◌then◌else◌, refl, sym, ◌∙◌, ap}, vm_types.specs.Permission.{with_bits}}
 use mir.Val.{bool_byte}
-use Rattle.vm_types.specs.Permission.{with_bits}
 use Rattle.trace_lang.proofs.arguments.permission_of.Goals as goal
 
 bits_of : (r w x : Bool) → bool_byte r + 2 * bool_byte w + 4 * bool_byte x ≡ (if r then 1 else 0) + (if w then 2 else 0) + (if x then 4 else 0)

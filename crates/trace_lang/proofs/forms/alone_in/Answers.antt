@@ -1,5 +1,4 @@
-use Rattle.std.proofs.Common.{sym, ◌∙◌, ap}
-use Rattle.trace_lang.proofs.{FirstWord.{one_word_of}, Nothing.{none≢some}, OneCommand.{first, no_command}}
+use Rattle.{std.proofs.Common.{sym, ◌∙◌, ap}, trace_lang.proofs.{FirstWord.{one_word_of}, Nothing.{none≢some}, OneCommand.{first, no_command}}}
 use Rattle.trace_lang.proofs.forms.alone_in.Goals as goal
 
 pub returns-in_err-name_of : goal.returns-in_err-name_of

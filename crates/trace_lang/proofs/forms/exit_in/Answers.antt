@@ -1,6 +1,5 @@
 use Rattle.trace_lang.specs.declared.names.Name.TheVariants as name
-use Rattle.trace_lang.{specs.Grammar.{IsNumber}, proofs.{FirstWord.{number_word, whole_word}, OneCommand.{unread, stands}}}
-use Rattle.std.proofs.Common.{ℕ, List, ◌∷◌, codes, drop, refl, sym, ap, subst}
+use Rattle.{trace_lang.{proofs.{FirstWord.{number_word, whole_word}, OneCommand.{unread, stands}}, specs.Grammar.{IsNumber}}, std.proofs.Common.{ℕ, List, ◌∷◌, codes, drop, refl, sym, ap, subst}}
 use Rattle.trace_lang.proofs.forms.exit_in.Goals as goal
 
 pub returns-in_err-pid : goal.returns-in_err-pid

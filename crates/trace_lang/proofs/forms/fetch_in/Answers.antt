@@ -1,6 +1,5 @@
 use Rattle.trace_lang.specs.declared.names.Name.TheVariants as name
-use Rattle.trace_lang.{specs.Grammar.{IsNumber}, proofs.{FirstWord.{front_words, number_word, steps, begins_with, whole_word}, OneCommand.{unread, stands}}}
-use Rattle.std.proofs.Common.{ℕ, List, [], ◌∷◌, codes, drop, refl, sym, ◌∙◌, ap, subst}
+use Rattle.{trace_lang.{proofs.{FirstWord.{front_words, number_word, steps, begins_with, whole_word}, OneCommand.{unread, stands}}, specs.Grammar.{IsNumber}}, std.proofs.Common.{ℕ, List, [], ◌∷◌, codes, drop, refl, sym, ◌∙◌, ap, subst}}
 use Rattle.trace_lang.proofs.forms.fetch_in.Goals as goal
 
 pub returns-in_err-pid : goal.returns-in_err-pid

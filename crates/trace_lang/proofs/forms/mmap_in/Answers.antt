@@ -1,8 +1,7 @@
 use Rattle.trace_lang.specs.declared.names.Name.TheVariants as name
-use Rattle.trace_lang.proofs.{FirstWord.{cut_words, front_words, one_word_of, steps, begins_with}, Spaces.{back_some, back_words}, OneCommand.{first, unread, stands}, Nothing.{none≢some}}
-use Rattle.trace_lang.specs.{Words.{words_of}, Grammar.{IsPermission, IsBack}}
-use Rattle.std.proofs.Common.{◌≡◌, ℕ, List, [], ◌∷◌, codes, Some, drop, length, arith, refl, sym, ◌∙◌, ap, subst}
-use Rattle.vm_types.specs.{declared.command.Command.TheVariants.{Mmap}, declared.command.MapSource.{MapSource}, declared.command.Placing.{Placing}, declared.permission.Prot.{Prot}}
+use Rattle.trace_lang.{proofs.{FirstWord.{cut_words, front_words, one_word_of, steps, begins_with}, Nothing.{none≢some}, OneCommand.{first, unread, stands}, Spaces.{back_some, back_words}}, specs.Grammar.{IsPermission, IsBack}}
+use Rattle.{trace_lang.specs.Words.{words_of}, std.proofs.Common.{◌≡◌, ℕ, List, [], ◌∷◌, codes, Some, drop, length, arith, refl, sym, ◌∙◌, ap, subst}, vm_types.specs.declared.command.{Command.TheVariants.{Mmap}, MapSource.{MapSource}}}
+use Rattle.vm_types.specs.declared.{command.Placing.{Placing}, permission.Prot.{Prot}}
 use Rattle.trace_lang.proofs.forms.mmap_in.Goals as goal
 
 same_mmap : (p q a b l m : ℕ) (t u : Prot) (x y : MapSource × Placing) → p ∷ a ∷ l ∷ [] ≡ q ∷ b ∷ m ∷ [] → Some t ≡ Some u → Some x ≡ Some y
@@ -27,9 +26,7 @@ pub returns-in_err-permission : goal.returns-in_err-permission
 returns-in_err-permission c = unread name.Mmap _ _ c.from_residual-in_err-permission.ensures refl (λ pid addr len prot source placing h.
     let s = steps (_ ∷ _ ∷ _ ∷ []) _ _ (_, c.in_ok-pid.ensures.found, (_, c.in_ok-addr.ensures.found, (_, c.in_ok-len.ensures.found, refl))) (h.0 ∷ h.1 ∷ h.2 ∷ []) _ (pid ∷ addr ∷ len ∷ []) refl
     (ap (λ ws. drop 1 ws) h.5) (h.6, (h.7, (h.8, tt))) in
-    let none = ap (λ ws. length (drop 1 ws)) (sym s.1 ∙ one_word_of _ c.in_err-permission.ensures.alone) in
-    let some = back_some h.4 source placing h.10 in
-    absurd (omega (arith, none, some)))
+    absurd (omega (arith, ap (λ ws. length (drop 1 ws)) (sym s.1 ∙ one_word_of _ c.in_err-permission.ensures.alone), back_some h.4 source placing h.10)))
 
 pub returns-in_err-prot : goal.returns-in_err-prot
 returns-in_err-prot c = unread name.Mmap _ _ c.from_residual-in_err-prot.ensures refl (λ pid addr len prot source placing h.
@@ -44,10 +41,7 @@ returns-in_err-count c = unread name.Mmap _ _ c.from_residual-in_err-count.ensur
     let s = steps (_ ∷ _ ∷ _ ∷ []) _ _ (_, c.in_ok-pid.ensures.found, (_, c.in_ok-addr.ensures.found, (_, c.in_ok-len.ensures.found, refl))) (h.0 ∷ h.1 ∷ h.2 ∷ []) _ (pid ∷ addr ∷ len ∷ []) refl
     (ap (λ ws. drop 1 ws) h.5) (h.6, (h.7, (h.8, tt))) in
     let same = sym (cut_words _ _ _ c.in_ok-permission.ensures.parts c.in_ok-permission.ensures.word) ∙ s.1 in
-    let count = ap (λ ws. length (drop 1 ws)) same in
-    let few = back_words h.4 source placing h.10 in
-    let many = c.in_err-count.ensures.none in
-    absurd (omega (arith, count, few, many)))
+    absurd (omega (arith, ap (λ ws. length (drop 1 ws)) same, back_words h.4 source placing h.10, c.in_err-count.ensures.none)))
 
 pub returns-in_err-source : goal.returns-in_err-source
 returns-in_err-source c = unread name.Mmap _ _ c.from_residual-in_err-source.ensures refl (λ pid addr len prot source placing h.
@@ -73,6 +67,5 @@ returns c =
     let same = sym (cut_words _ _ _ c.in_ok-permission.ensures.parts c.in_ok-permission.ensures.word) ∙ s.1 in
     let P : List ℕ → Type 0 = λ t. IsPermission t prot in
     let B : List (List ℕ) → Type 0 = λ b. IsBack b source placing in
-    let permission = c.in_ok-prot.ensures.only prot (subst P (sym (ap first same)) h.9) in
     let back = c.in_ok-source.ensures.only source placing (subst B (sym (c.in_ok-count.ensures.found.1 ∙ ap (λ ws. drop 1 ws) same)) h.10) in
-    same_mmap _ _ _ _ _ _ _ _ _ (source, placing) s.0 permission back)
+    same_mmap _ _ _ _ _ _ _ _ _ (source, placing) s.0 (c.in_ok-prot.ensures.only prot (subst P (sym (ap first same)) h.9)) back)

@@ -1,5 +1,4 @@
-use Rattle.std.proofs.Common.{inl, inr, drop, refl, sym, ◌∙◌, ap}
-use Rattle.trace_lang.{specs.Names.{name_text}, proofs.{FirstWord.{cut_words, some_word}, Nothing.{none≢some}, OneCommand.{first, no_command, unread}}}
+use Rattle.{std.proofs.Common.{inl, inr, drop, refl, sym, ◌∙◌, ap}, trace_lang.{proofs.{FirstWord.{cut_words, some_word}, Nothing.{none≢some}, OneCommand.{first, no_command, unread}}, specs.Names.{name_text}}}
 use Rattle.trace_lang.specs.declared.names.Name.TheVariants as name
 use Rattle.trace_lang.proofs.forms.named_in.Goals as goal
 

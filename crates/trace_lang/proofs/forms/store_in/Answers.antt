@@ -1,7 +1,6 @@
 use Rattle.trace_lang.specs.declared.names.Name.TheVariants as name
-use Rattle.trace_lang.{specs.Grammar.{IsNumber}, proofs.{FirstWord.{front_words, number_word, one_width, steps, begins_with, whole_word}, OneCommand.{unread, stands}, Nothing.{none≢some}}}
-use Rattle.std.proofs.Common.{ℕ, List, [], ◌∷◌, ◌<◌, ◌^◌, ◌*◌, codes, drop, get_or, refl, sym, ◌∙◌, ap, subst}
-use Rattle.vm_types.specs.{Width.{byte_count}, declared.width.Width.{Width}}
+use Rattle.{trace_lang.{proofs.{FirstWord.{front_words, number_word, one_width, steps, begins_with, whole_word}, Nothing.{none≢some}, OneCommand.{unread, stands}}, specs.Grammar.{IsNumber}}, std.proofs.Common.{ℕ, List, [], ◌∷◌, ◌<◌, ◌^◌}}
+use Rattle.{std.proofs.Common.{◌*◌, codes, drop, get_or, refl, sym, ◌∙◌, ap, subst}, vm_types.specs.{Width.{byte_count}, declared.width.Width.{Width}}}
 use Rattle.trace_lang.proofs.forms.store_in.Goals as goal
 
 pub returns-in_err-pid : goal.returns-in_err-pid

@@ -1,5 +1,4 @@
-use Rattle.std.proofs.Common.{ℕ, List, arith}
-use Rattle.trace_lang.{specs.Words.{BeginsWith}, proofs.FirstWord.{hexadecimal_front, hexadecimal_text, one_alone, same_front}}
+use Rattle.{std.proofs.Common.{ℕ, List, arith}, trace_lang.{proofs.FirstWord.{hexadecimal_front, hexadecimal_text, one_alone, same_front}, specs.Words.{BeginsWith}}}
 use Rattle.trace_lang.proofs.fronts.any_front.Goals as goal
 
 pub returns-in-Some-clause-found : goal.returns-in-Some-clause-found

@@ -1,6 +1,5 @@
-use Rattle.std.proofs.{Common.{◌≡◌, ℕ, List, ◌⊎◌, inl, inr, sym, subst}, lemmas.Bool.{false≢true}}
-use Rattle.vm_types.specs.{Width.{byte_count}, declared.width.Width.{Width}, declared.width.Width.TheVariants.{One, Two, Four, Eight}}
-use Rattle.trace_lang.{specs.Words.{BeginsWith}, proofs.FirstWord.{front_words, step}}
+use Rattle.{std.proofs.{Common.{◌≡◌, ℕ, List, ◌⊎◌, inl, inr, sym, subst}, lemmas.Bool.{false≢true}}, vm_types.specs.{Width.{byte_count}, declared.width.Width.{Width, TheVariants.{One, Two, Four, Eight}}}}
+use Rattle.trace_lang.{proofs.FirstWord.{front_words, step}, specs.Words.{BeginsWith}}
 use Rattle.trace_lang.proofs.fronts.front_width.Goals as goal
 
 no_width : (w : Width) (bytes : ℕ) → ((bytes ≡ 1) ⊎ (bytes ≡ 2) ⊎ (bytes ≡ 4) ⊎ (bytes ≡ 8) → ⊥) → bytes ≡ byte_count w → ⊥

@@ -1,5 +1,4 @@
-use Rattle.std.proofs.Common.{arith}
-use Rattle.trace_lang.proofs.FirstWord.{cut_at, begins_with_digits}
+use Rattle.{std.proofs.Common.{arith}, trace_lang.proofs.FirstWord.{cut_at, begins_with_digits}}
 use Rattle.trace_lang.proofs.fronts.short_front.Goals as goal
 
 pub returns-then-text-at-eq32 : goal.returns-then-text-at-eq32

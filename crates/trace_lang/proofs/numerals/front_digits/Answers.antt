@@ -1,5 +1,4 @@
-use Rattle.std.proofs.{Common.{ℕ, ◌<◌, length, refl, sym, subst, arith}, lemmas.Int.Digits.{digits_more}}
-use Rattle.trace_lang.proofs.Radix.{next_value, next_small, next_fits}
+use Rattle.{std.proofs.{Common.{ℕ, ◌<◌, length, refl, sym, subst, arith}, lemmas.Int.Digits.{digits_more}}, trace_lang.proofs.Radix.{next_value, next_small, next_fits}}
 use Rattle.trace_lang.proofs.numerals.front_digits.Goals as goal
 
 pub overflow_mul-value : goal.overflow_mul-value

@@ -1,6 +1,5 @@
-use Rattle.std.proofs.Common.{◌≡◌, ℕ, ◌<◌, ◌^◌, ◌*◌, Option, Some, None, IfSome, IsSome, sym, ◌∙◌, ap, subst}
+use Rattle.{std.proofs.Common.{◌≡◌, ℕ, ◌<◌, ◌^◌, ◌*◌, Option, Some, None, IfSome, IsSome, sym, ◌∙◌, ap, subst}, vm_types.specs.{Width.{byte_count}, declared.{access.StoredValue.{StoredValue}, width.Width.{Width}}}}
 use denote.Struct.Props.{props}
-use Rattle.vm_types.specs.{Width.{byte_count}, declared.access.StoredValue.{StoredValue}, declared.width.Width.{Width}}
 use Rattle.trace_lang.proofs.numerals.stored_of.Goals as goal
 
 abbrev made : (w : Width) (v : ℕ) → v < 2 ^ (8 * byte_count w) → StoredValue

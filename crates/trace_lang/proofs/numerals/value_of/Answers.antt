@@ -1,6 +1,5 @@
-use Rattle.std.proofs.{Common.{ℕ, ◌<◌, ◌^◌, List, length, refl, sym, ◌∙◌, ap, subst}, lemmas.Int.Digits.{digits_more}, lemmas.List.{take_all}}
-use Rattle.std.specs.Str.Parse.{AllDigits, digits_value}
-use Rattle.trace_lang.proofs.Radix.{not_empty, none_reads, digit_below, value_so_far, next_value, digit_past}
+use Rattle.{std.{proofs.{Common.{ℕ, ◌<◌, ◌^◌, List, length, refl, sym, ◌∙◌, ap, subst}, lemmas.{Int.Digits.{digits_more}, List.{take_all}}}, specs.Str.Parse.{AllDigits, digits_value}}, trace_lang.proofs.Radix.{not_empty, none_reads}}
+use Rattle.trace_lang.proofs.Radix.{digit_below, value_so_far, next_value, digit_past}
 use Rattle.trace_lang.proofs.numerals.value_of.Goals as goal
 
 pub returns-in_err-digit : goal.returns-in_err-digit

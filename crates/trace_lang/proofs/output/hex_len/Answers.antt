@@ -1,5 +1,4 @@
-use Rattle.std.proofs.Common.{inl, refl, arith}
-use Rattle.trace_lang.proofs.Hex.{hex_digits-digits, hex_digits-log}
+use Rattle.{std.proofs.Common.{inl, refl, arith}, trace_lang.proofs.Hex.{hex_digits-digits, hex_digits-log}}
 use Rattle.trace_lang.proofs.output.hex_len.Goals as goal
 
 pub returns-then-number-eq0-clause-digits : goal.returns-then-number-eq0-clause-digits

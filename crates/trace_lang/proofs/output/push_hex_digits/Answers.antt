@@ -1,6 +1,5 @@
-use Rattle.std.proofs.{Common.{◌≡◌, ◌+◌, ◌-◌, ◌%◌, ◌/◌, ◌++◌, ℕ, List, take, drop, set, false, ap, sym, ◌∙◌, subst, arith}, lemmas.List.{take-set-le}}
-use Rattle.std.specs.Fmt.{digit_glyph}
-use Rattle.trace_lang.{specs.Texts.{hex_digits}, proofs.{Hex.{PAIRS_at, next_digit, next_pair, all_digits}, output.push_hex_digits.Goals.{then-place-at, else-place-at}}}
+use Rattle.{std.{proofs.{Common.{◌≡◌, ◌+◌, ◌-◌, ◌%◌, ◌/◌, ◌++◌, ℕ, List, take, drop, set, false, ap, sym, ◌∙◌, subst, arith}, lemmas.List.{take-set-le}}, specs.Fmt.{digit_glyph}}, trace_lang.proofs.Hex.{PAIRS_at, next_digit, next_pair}}
+use Rattle.trace_lang.{proofs.{Hex.{all_digits}, output.push_hex_digits.Goals.{then-place-at, else-place-at}}, specs.Texts.{hex_digits}}
 use Rattle.trace_lang.proofs.output.push_hex_digits.Goals as goal
 
 pub loop-place-preserved : goal.loop-place-preserved
@@ -41,7 +40,6 @@ returns-clause-text c =
     let whole = hex_digits c.args.count c.args.number in
     let P : ℕ → Type 0 = λ p. hex_digits (p - at) rest ++ drop p (take end out) ≡ whole in
     let R : List ℕ → Type 0 = λ o. take end o ≡ take at c.args.out.now ++ whole in
-    let table = PAIRS_at (rest % 16) (omega arith) in
     let digit : rest % 16 % 16 ≡ rest % 16 = omega arith in
     elim c.if-place-at.branch [
       | then-place-at w ↦
@@ -50,7 +48,7 @@ returns-clause-text c =
           subst R (sym w.out-is)
           (all_digits _ _ at end (rest / 16) whole (omega arith) (take-set-le at out at _ (omega arith) ∙ c.loop-place.invariant.kept)
           (next_digit out at at end rest _ whole (omega arith) (omega (arith, c.loop-place.invariant.high)) (omega (arith, c.loop-place.invariant.room, c.requires))
-          (table.1 ∙ ap (λ d. digit_glyph false d) digit) (subst P place c.loop-place.invariant.written)))
+          ((PAIRS_at (rest % 16) (omega arith)).1 ∙ ap (λ d. digit_glyph false d) digit) (subst P place c.loop-place.invariant.written)))
       | else-place-at w ↦
           let none = w.if-place-at in
           let place : c.loop-place.place ≡ at = omega (arith, c.loop-place.invariant.low) in

@@ -1,5 +1,4 @@
-use Rattle.std.proofs.Common.{◌≡◌, ◌+◌, ◌-◌, ◌≤◌, ◌++◌, take, drop, length}
-use Rattle.trace_lang.specs.Texts.{hex_digits}
+use Rattle.{std.proofs.Common.{◌≡◌, ◌+◌, ◌-◌, ◌≤◌, ◌++◌, take, drop, length}, trace_lang.specs.Texts.{hex_digits}}
 use Rattle.trace_lang.proofs.output.push_hex_digits.Given as goal
 
 abbrev pub invariant-loop-place : goal.invariant-loop-place

@@ -1,5 +1,4 @@
-use Rattle.std.proofs.Common.{arith}
-use Rattle.trace_lang.proofs.Hex.{PAIRS_at}
+use Rattle.{std.proofs.Common.{arith}, trace_lang.proofs.Hex.{PAIRS_at}}
 use Rattle.trace_lang.proofs.output.write_pair.Goals as goal
 
 pub returns : goal.returns

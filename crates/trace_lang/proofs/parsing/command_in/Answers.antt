@@ -1,5 +1,4 @@
-use Rattle.std.proofs.{Common.{codes, Some}, lemmas.Bool.Decides.{Decides-eqb}, lemmas.Slice.Eq.{strip_prefix_is}}
-use Rattle.trace_lang.proofs.FirstWord.{reads_line}
+use Rattle.{std.proofs.{Common.{codes, Some}, lemmas.{Bool.Decides.{Decides-eqb}, Slice.Eq.{strip_prefix_is}}}, trace_lang.proofs.FirstWord.{reads_line}}
 use Rattle.trace_lang.proofs.parsing.command_in.Goals as goal
 
 pub returns-in-Some : goal.returns-in-Some

@@ -1,6 +1,5 @@
-use Rattle.std.proofs.Common.{◌≡◌, Option, Some, None, Result, Ok, Err, IfSome, IfOk, OnErr, ok_or, refl, sym, ◌∙◌, ap, subst, arith}
-use Rattle.vm_types.specs.declared.command.Command.{Command}
-use Rattle.trace_lang.{specs.{Grammar.{IsCommand}, Words.{words_of}}, proofs.Spaces.{form_of_line, command_of_words}}
+use Rattle.{std.proofs.Common.{◌≡◌, Option, Some, None, Result, Ok, Err, IfSome, IfOk, OnErr, ok_or, refl, sym, ◌∙◌, ap, subst, arith}, vm_types.specs.declared.command.Command.{Command}, trace_lang.proofs.Spaces.{form_of_line}}
+use Rattle.trace_lang.{proofs.Spaces.{command_of_words}, specs.{Grammar.{IsCommand}, Words.{words_of}}}
 use Rattle.trace_lang.proofs.parsing.parse_line.Goals as goal
 
 found_ok : {A E : Type 0} (P Q : A → Type 0) (r : Option A) (e : E) → ((x : A) → P x → Q x) → IfSome r P → IfOk (ok_or r e) Q

@@ -1,5 +1,4 @@
-use Rattle.std.proofs.Common.{◌≡◌, ◌+◌, ◌*◌, ◌≤◌, ◌++◌, take, length, codes, decimal, flat_map}
-use Rattle.trace_lang.specs.Texts.{past_line}
+use Rattle.{std.proofs.Common.{◌≡◌, ◌+◌, ◌*◌, ◌≤◌, ◌++◌, take, length, codes, decimal, flat_map}, trace_lang.specs.Texts.{past_line}}
 use Rattle.trace_lang.proofs.texts.push_history.Given as goal
 
 abbrev pub invariant-loop-i : goal.invariant-loop-i

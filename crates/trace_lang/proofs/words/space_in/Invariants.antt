@@ -1,5 +1,4 @@
-use Rattle.std.proofs.Common.{take}
-use Rattle.trace_lang.specs.Grammar.{HasNoSpace}
+use Rattle.{std.proofs.Common.{take}, trace_lang.specs.Grammar.{HasNoSpace}}
 use Rattle.trace_lang.proofs.words.space_in.Given as goal
 
 abbrev pub invariant-loop-at : goal.invariant-loop-at

@@ -1,5 +1,4 @@
-use Rattle.std.proofs.{Common.{ℕ, ◌<◌, eqb, length, sym, ◌∙◌, subst, rules, tests}, lemmas.Iterator.Consumers.{YieldsList-turn, YieldsList-end}, lemmas.Iterator.Splits.{YieldsList-from_slice_split}}
-use Rattle.trace_lang.specs.Words.{words_of}
+use Rattle.{std.proofs.{Common.{ℕ, ◌<◌, eqb, length, sym, ◌∙◌, subst, rules, tests}, lemmas.Iterator.{Consumers.{YieldsList-turn, YieldsList-end}, Splits.{YieldsList-from_slice_split}}}, trace_lang.specs.Words.{words_of}}
 use Rattle.trace_lang.proofs.words.split_words.Goals as goal
 
 pub returns-then-count-eq-MAX_WORDS-clause-none : goal.returns-then-count-eq-MAX_WORDS-clause-none

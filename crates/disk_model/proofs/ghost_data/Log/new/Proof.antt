@@ -1,11 +1,10 @@
 -- `new` makes a value of no bytes, at the empty list.
 use Rattle.disk_model.proofs.Names.{◌∷◌, Ura, Val, vstruct, vcons, vnil, SProp, Memory, Routine, WpFn, Tables, Logic, Fun, tables, tables_of, WpFn-mono, raw, ◌$◌, ◌∵◌, !, qed, keep, join, suffices, done, no_more, and_then, returns, enter}
-use Rattle.disk_model.proofs.Names.{agg, alloc_all, pass_all, free_all, look_at, get, sets, pure_i, nothing, on_entry, Meets, triple_of, entered, says, ends_at, walked, walk_Meets}
+use Rattle.disk_model.{proofs.Names.{agg, alloc_all, pass_all, free_all, look_at, get, sets, pure_i, nothing, on_entry, Meets, triple_of, entered, says, ends_at, walked, walk_Meets}, specs.contracts.ghost_data.Log.new.Key.{name as #it}}
+use Rattle.disk_model.specs.declared.ghost_data.Log.{Log}
 use mathlib.Core.List.{[]}
 use mathlib.Core.Path.{refl}
-use Rattle.disk_model.specs.declared.ghost_data.Log.{Log}
 use Rattle.disk_model.specs.contracts.ghost_data.Log as T
-use Rattle.disk_model.specs.contracts.ghost_data.Log.new.Key.{name as #it}
 use Rattle.disk_model.specs.contracts.ghost_data.Log.new as it
 use Rattle.disk_model.proofs.ghost_data.Log.new.Statement as stated
 use Rattle.disk_model.proofs.ghost_data.Log.new.Code as code

@@ -3,11 +3,9 @@ use Rattle.disk_model.proofs.Names.{ℕ, List, [], refl, MutBor, ◌<◌, ◌^�
 use Rattle.disk_model.proofs.Names.{Tables, Logic, Fun, tables, tables_of, ‵, ◌⊛◌, ◌$◌, ◌∵◌, !, qed, by, move, keep, use1, split, join, fsplit, fsplit3, fjoin, fjoin3, feq_i, suffices, frame, done, unit_lit, of_opd, returns, enter, Body}
 use Rattle.disk_model.proofs.Names.{alloc_all, pass_all, free_all, look_at, sets, WpFn-mono, RattleType, owns, mem, MutRef, mut_vals, mut_Tells, plain, opens, closes, on_entry, Meets, triple_of, entered, says, Stays, stay_ref, walk_of}
 use Rattle.disk_model.proofs.Names.{AllGo, Goes-ref, Walks, ends_at, walked, walk_Meets, Bor, u8, u64, bool, Array, ArrayOf, yes, ShrSlice, slice_val, shr_slice_vals, shr_slice_Tells, stay_none_slice, Goes-none_slice}
-use Rattle.std.proofs.Common.{◌∷◌}
+use Rattle.{disk_model.specs.{contracts.ghost_data.Log.note.Key.{name as #it}, declared.ghost_data.Log.{Log}}, std.proofs.Common.{◌∷◌}}
 use types.Kit.{drop}
-use Rattle.disk_model.specs.declared.ghost_data.Log.{Log}
 use Rattle.disk_model.specs.contracts.ghost_data.Log as T
-use Rattle.disk_model.specs.contracts.ghost_data.Log.note.Key.{name as #it}
 use Rattle.disk_model.specs.contracts.ghost_data.Log.note as it
 use Rattle.disk_model.proofs.ghost_data.Log.note.Statement as stated
 use Rattle.disk_model.proofs.ghost_data.Log.note.Code as code

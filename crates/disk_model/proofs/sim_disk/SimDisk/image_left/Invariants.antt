@@ -1,5 +1,4 @@
-use Rattle.disk_model.proofs.Names.{◌≡◌, ℕ, ◌<◌, length}
-use Rattle.disk_model.specs.SimDisk.{image_of_sectors, left_at}
+use Rattle.disk_model.{proofs.Names.{◌≡◌, ℕ, ◌<◌, length}, specs.SimDisk.{image_of_sectors, left_at}}
 use Rattle.disk_model.proofs.sim_disk.SimDisk.image_left.Given as goal
 
 abbrev pub invariant-loop-i : goal.invariant-loop-i

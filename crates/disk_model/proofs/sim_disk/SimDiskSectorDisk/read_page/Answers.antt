@@ -1,6 +1,5 @@
-use Rattle.disk_model.proofs.Names.{◌≡◌, ◌<◌, ◌+◌, ◌*◌, ◌-◌, length, ⊎_elim, sym, ap, subst, ◌∙◌, arith, rules, cases_eq, put_mid}
-use Rattle.disk_model.specs.{Stop.{Image, Names, IsOfPage}, Sectors.{part_of}, Asked.{times_named}, SimDisk.{sector_of, IsUnsynced, moment_of, LeftSince, disk_counts, after_reads}}
-use Rattle.disk_model.proofs.{Pages.{more_time, carried_by_read, put_here, put_there, length_put}, Counts.{last_read, next_read}}
+use Rattle.disk_model.proofs.{Counts.{last_read, next_read}, Names.{◌≡◌, ◌<◌, ◌+◌, ◌*◌, ◌-◌, length, ⊎_elim, sym, ap, subst, ◌∙◌, arith, rules, cases_eq, put_mid}, Pages.{more_time, carried_by_read, put_here, put_there, length_put}}
+use Rattle.disk_model.specs.{Asked.{times_named}, Sectors.{part_of}, SimDisk.{sector_of, IsUnsynced, moment_of, LeftSince, disk_counts, after_reads}, Stop.{Image, Names, IsOfPage}}
 use Rattle.disk_model.proofs.sim_disk.SimDiskSectorDisk.read_page.Goals as goal
 
 pub returns-in_err-get-clause-keeps : goal.returns-in_err-get-clause-keeps
@@ -8,12 +7,9 @@ returns-in_err-get-clause-keeps c =
     let old = c.args.self.now in
     let mid = c.loop-i.self in
     let new = c.get.new.self in
-    record {
-      size = search rules;
-      cause = search rules;
-      time = more_time (moment_of old) (moment_of mid) (moment_of new) (LeftSince old) (LeftSince mid) (LeftSince new) (sector_of mid) (sector_of new) (IsUnsynced mid) (IsUnsynced new)
-          c.loop-i.invariant.time c.get.ensures.keeps.time (carried_by_read (sector_of mid) (sector_of new) (IsUnsynced mid) (IsUnsynced new) c.get.ensures.holds.same c.get.ensures.holds.still);
-    }
+    let time = more_time (moment_of old) (moment_of mid) (moment_of new) (LeftSince old) (LeftSince mid) (LeftSince new) (sector_of mid) (sector_of new) (IsUnsynced mid) (IsUnsynced new)
+    c.loop-i.invariant.time c.get.ensures.keeps.time (carried_by_read (sector_of mid) (sector_of new) (IsUnsynced mid) (IsUnsynced new) c.get.ensures.holds.same c.get.ensures.holds.still) in
+    search rules
 
 pub returns-in_err-get-clause-counted : goal.returns-in_err-get-clause-counted
 returns-in_err-get-clause-counted c =

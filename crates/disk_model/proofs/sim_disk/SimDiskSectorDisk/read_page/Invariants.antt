@@ -1,5 +1,4 @@
-use Rattle.disk_model.proofs.Names.{◌≡◌, ◌<◌, ◌+◌, ◌-◌, ℕ, length}
-use Rattle.disk_model.specs.{Stop.{Elapses}, Sectors.{part_of}, SimDisk.{sectors_in, sector_of, IsUnsynced, moment_of, LeftSince, failures_of, last_synced, disk_counts, after_reads}}
+use Rattle.disk_model.{proofs.Names.{◌≡◌, ◌<◌, ◌+◌, ◌-◌, ℕ, length}, specs.{Sectors.{part_of}, SimDisk.{sectors_in, sector_of, IsUnsynced, moment_of, LeftSince, failures_of, last_synced, disk_counts, after_reads}, Stop.{Elapses}}}
 use Rattle.disk_model.proofs.sim_disk.SimDiskSectorDisk.read_page.Given as goal
 
 abbrev pub invariant-loop-i : goal.invariant-loop-i

@@ -1,6 +1,5 @@
-use Rattle.disk_model.proofs.Names.{◌≡◌, ◌+◌, ⊎_elim, sym, ap, subst, ◌∙◌, arith, rules, if◌then◌else◌, replicate, cases_eq, false≢true}
-use Rattle.disk_model.specs.{Sectors.{part_of}, SimDisk.{DiskCounts, sector_of, asked_of, disk_counts, after_write, after_writes, left_by_write}}
-use Rattle.disk_model.proofs.{Naming.{names_next}, Counts.{one_write}, sim_disk.SimDiskSectorDisk.write_page.Goals.{then-is_err, else-is_err}}
+use Rattle.disk_model.proofs.{Counts.{one_write}, Names.{◌≡◌, ◌+◌, ⊎_elim, sym, ap, subst, ◌∙◌, arith, rules, if◌then◌else◌, replicate, cases_eq, false≢true}, Naming.{names_next}, sim_disk.SimDiskSectorDisk.write_page.Goals.{then-is_err}}
+use Rattle.disk_model.{proofs.sim_disk.SimDiskSectorDisk.write_page.Goals.{else-is_err}, specs.{Sectors.{part_of}, SimDisk.{DiskCounts, sector_of, asked_of, disk_counts, after_write, after_writes, left_by_write}}}
 use Rattle.disk_model.proofs.sim_disk.SimDiskSectorDisk.write_page.Goals as goal
 
 pub loop-i-preserved : goal.loop-i-preserved

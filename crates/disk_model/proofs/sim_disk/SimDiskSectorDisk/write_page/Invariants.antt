@@ -1,6 +1,5 @@
-use Rattle.disk_model.proofs.Names.{◌≡◌, ◌⊎◌, ◌≤◌, ◌<◌, ◌+◌, ℕ, true, false}
-use Rattle.disk_model.specs.{Stop.{IsOfPage, ChangesPage, Elapses, Names}, Sectors.{part_of}, SimDisk.{sectors_in, sector_of, IsUnsynced, moment_of, LeftSince, failures_of, asked_of, last_synced, disk_counts, after_writes, left_by_write}}
-use Rattle.disk_model.proofs.Naming.{IsAmong}
+use Rattle.disk_model.{proofs.{Names.{◌≡◌, ◌⊎◌, ◌≤◌, ◌<◌, ◌+◌, ℕ, true, false}, Naming.{IsAmong}}, specs.{Sectors.{part_of}, SimDisk.{sectors_in, sector_of, IsUnsynced, moment_of, LeftSince, failures_of, asked_of, last_synced}}}
+use Rattle.disk_model.specs.{SimDisk.{disk_counts, after_writes, left_by_write}, Stop.{IsOfPage, ChangesPage, Elapses, Names}}
 use Rattle.disk_model.proofs.sim_disk.SimDiskSectorDisk.write_page.Given as goal
 
 abbrev pub invariant-loop-i : goal.invariant-loop-i

@@ -1,5 +1,4 @@
-use Rattle.file_store.proofs.Names.{◌≡◌, ℕ, ◌<◌, ◌≤◌, get_or, Some, None}
-use Rattle.file_store.specs.{declared.directory.Entry.{Entry}, Directory.{home_end}}
+use Rattle.file_store.{proofs.Names.{◌≡◌, ℕ, ◌<◌, ◌≤◌, get_or, Some, None}, specs.{Directory.{home_end}, declared.directory.Entry.{Entry}}}
 use Rattle.file_store.proofs.directory.Directory.ends_within.Given as goal
 
 abbrev pub invariant-loop-entry : goal.invariant-loop-entry

@@ -1,6 +1,5 @@
-use Rattle.file_store.proofs.Names.{◌≡◌, ◌≢◌, ◌<◌, ◌+◌, ⊎_elim, None, get_or, set, take, length, sym, ap, ◌∙◌, subst, arith, length-take-le, cases_eq}
-use Rattle.std.proofs.Common.{length-set, get_or-set_same, get_or-set_other}
-use Rattle.file_store.{specs.Directory.{entry_in, AreGood, AreEntries}, proofs.Entries.{entries_all, entries_front, entries_more, fits_in}}
+use Rattle.file_store.proofs.{Entries.{entries_all, entries_front, entries_more, fits_in}, Names.{◌≡◌, ◌≢◌, ◌<◌, ◌+◌, ⊎_elim, None, get_or, set, take, length, sym, ap, ◌∙◌, subst, arith, length-take-le, cases_eq}}
+use Rattle.{file_store.specs.Directory.{entry_in, AreGood, AreEntries}, std.proofs.Common.{length-set, get_or-set_same, get_or-set_other}}
 use Rattle.file_store.proofs.directory.Directory.from_sector.Goals as goal
 
 pub next_entry-requires-clause-read : goal.next_entry-requires-clause-read

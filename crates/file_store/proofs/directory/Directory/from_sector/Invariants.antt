@@ -1,5 +1,4 @@
-use Rattle.file_store.proofs.Names.{◌≡◌, ◌<◌, ◌^◌, ℕ, length, get_or, Some, None}
-use Rattle.file_store.specs.{declared.directory.Entry.{Entry}, Directory.{AreGood, AreEntries}}
+use Rattle.file_store.{proofs.Names.{◌≡◌, ◌<◌, ◌^◌, ℕ, length, get_or, Some, None}, specs.{Directory.{AreGood, AreEntries}, declared.directory.Entry.{Entry}}}
 use Rattle.file_store.proofs.directory.Directory.from_sector.Given as goal
 
 abbrev pub invariant-loop-f : goal.invariant-loop-f

@@ -1,5 +1,4 @@
-use Rattle.file_store.proofs.Names.{◌≡◌, ◌+◌, ◌-◌, ◌++◌, List, length, take, drop, cond, ℕ, refl, sym, ap, ◌∙◌, rules, cond-true, cond-false, post_of, little_bytes}
-use Rattle.file_store.proofs.{Encoded.{encoded}, directory.Entry.encode.Goals.{then-self, else-self}}
+use Rattle.file_store.proofs.{Encoded.{encoded}, Names.{◌≡◌, ◌+◌, ◌-◌, ◌++◌, List, length, take, drop, cond, ℕ, refl, sym, ap, ◌∙◌, rules, cond-true, cond-false, post_of, little_bytes}, directory.Entry.encode.Goals.{then-self, else-self}}
 use Rattle.file_store.proofs.directory.Entry.encode.Goals as goal
 
 pub returns-clause-entry : goal.returns-clause-entry

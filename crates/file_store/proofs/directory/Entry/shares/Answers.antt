@@ -1,5 +1,4 @@
-use Rattle.file_store.proofs.Names.{sym, ◌∙◌, subst, same_Some}
-use Rattle.file_store.specs.Directory.{IsHomeOf}
+use Rattle.file_store.{proofs.Names.{sym, ◌∙◌, subst, same_Some}, specs.Directory.{IsHomeOf}}
 use Rattle.file_store.proofs.directory.Entry.shares.Goals as goal
 
 pub returns-in-Some-clause-none : goal.returns-in-Some-clause-none

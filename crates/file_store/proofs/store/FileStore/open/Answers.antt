@@ -1,5 +1,4 @@
-use Rattle.file_store.proofs.Names.{rules}
-use Rattle.file_store.proofs.{Images.{stands_kept}, Openings.{files_stand, files_by_blocks}}
+use Rattle.file_store.proofs.{Images.{stands_kept}, Names.{rules}, Openings.{files_stand, files_by_blocks}}
 use Rattle.file_store.proofs.store.FileStore.open.Goals as goal
 
 pub returns-in-Ok : goal.returns-in-Ok

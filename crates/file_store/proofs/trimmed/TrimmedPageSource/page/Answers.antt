@@ -1,5 +1,4 @@
-use Rattle.file_store.proofs.Names.{◌≤◌, sym, subst, slice_get}
-use Rattle.file_store.proofs.Homes.{inside_of-small}
+use Rattle.file_store.proofs.{Homes.{inside_of-small}, Names.{◌≤◌, sym, subst, slice_get}}
 use Rattle.file_store.proofs.trimmed.TrimmedPageSource.page.Goals as goal
 
 pub trim-requires : goal.trim-requires

@@ -1,5 +1,4 @@
-use Rattle.file_store.proofs.Names.{sym, ap, turn_kind}
-use Rattle.file_store.specs.{Layout.{mark, old_mark}, Versions.{mark_of}, declared.version.Version.{Version}}
+use Rattle.file_store.{proofs.Names.{sym, ap, turn_kind}, specs.{Layout.{mark, old_mark}, Versions.{mark_of}, declared.version.Version.{Version}}}
 use Rattle.file_store.proofs.version.Version.mark.Goals as goal
 
 pub returns-in-One : goal.returns-in-One

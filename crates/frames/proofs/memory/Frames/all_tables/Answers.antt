@@ -1,5 +1,4 @@
-use Rattle.std.proofs.Common.{arith}
-use Rattle.frames.{specs.FrameTable.{zero_bytes}, proofs.Made.{IsSound-made, IsChained-made, IsAllTables-made, IsMade-first, IsMade-more}}
+use Rattle.{std.proofs.Common.{arith}, frames.{proofs.Made.{IsSound-made, IsChained-made, IsAllTables-made, IsMade-first, IsMade-more}, specs.FrameTable.{zero_bytes}}}
 use Rattle.frames.proofs.memory.Frames.all_tables.Goals as goal
 
 pub loop-n-init : goal.loop-n-init
@@ -22,8 +21,7 @@ loop-n-preserved c = (
 )
 
 pub invariant_of-result : goal.invariant_of-result
-invariant_of-result c =
-    (IsSound-made _ c.loop-n.n (omega arith) (omega arith) c.loop-n.invariant.0, IsChained-made _ c.loop-n.n c.loop-n.invariant.0)
+invariant_of-result c = (IsSound-made _ c.loop-n.n (omega arith) (omega arith) c.loop-n.invariant.0, IsChained-made _ c.loop-n.n c.loop-n.invariant.0)
 
 pub returns : goal.returns
 returns c = record {

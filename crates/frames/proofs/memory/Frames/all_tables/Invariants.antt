@@ -1,5 +1,4 @@
-use Rattle.std.proofs.Common.{◌≤◌, vec_capacity}
-use Rattle.frames.proofs.Made.{IsMade}
+use Rattle.{std.proofs.Common.{◌≤◌, vec_capacity}, frames.proofs.Made.{IsMade}}
 use Rattle.frames.proofs.memory.Frames.all_tables.Given as goal
 
 -- as many frames as were counted, and room for the rest

@@ -1,6 +1,4 @@
-use Rattle.std.proofs.Common.{◌≡◌, ◌+◌, ◌-◌, get_or, [], arith, sym, ◌∙◌}
-use Rattle.std.specs.Prelude.{slice_set}
-use Rattle.frames.{specs.Inside.{table_of}, proofs.{FrameLemmas.{copied_item}, Calls.{written}}}
+use Rattle.{std.{proofs.Common.{◌≡◌, ◌+◌, ◌-◌, get_or, [], arith, sym, ◌∙◌}, specs.Prelude.{slice_set}}, frames.{proofs.{Calls.{written}, FrameLemmas.{copied_item}}, specs.Inside.{table_of}}}
 use Rattle.frames.proofs.memory.Frames.copy.Goals as goal
 
 copied : (c : goal.After-copy_within) → c.copy_within.new.self.items ≡ slice_set c.self.inside.bytes.items c.args.to.0 (get_or c.self.inside.bytes.items c.args.from.0 [])

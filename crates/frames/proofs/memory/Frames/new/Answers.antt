@@ -1,5 +1,4 @@
-use Rattle.std.proofs.Common.{◌-◌, arith}
-use Rattle.frames.proofs.Made.{IsAllTables-less, IsHeld-table}
+use Rattle.{std.proofs.Common.{◌-◌, arith}, frames.proofs.Made.{IsAllTables-less, IsHeld-table}}
 use Rattle.frames.proofs.memory.Frames.new.Goals as goal
 
 pub release-requires : goal.release-requires

@@ -1,5 +1,4 @@
-use Rattle.std.proofs.{Common.{refl, sym}, lemmas.Bool.{false≢true}}
-use Rattle.frames.{specs.Inside.{table_of}, proofs.ChainLemmas.{IsChained-none, IsChained-first}}
+use Rattle.{std.proofs.{Common.{refl, sym}, lemmas.Bool.{false≢true}}, frames.{proofs.ChainLemmas.{IsChained-none, IsChained-first}, specs.Inside.{table_of}}}
 use Rattle.frames.proofs.memory.Frames.next_free.Goals as goal
 
 pub returns-then-self-eq0-clause-none : goal.returns-then-self-eq0-clause-none

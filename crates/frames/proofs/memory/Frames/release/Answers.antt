@@ -1,5 +1,4 @@
-use Rattle.std.proofs.{Common.{rules, ◌-◌, ◌<◌, arith, length, get_or-set_same, sym, ◌∙◌}, lemmas.List.{get_or_read}}
-use Rattle.frames.{specs.{Inside.{table_of}, FrameTable.{role_of}}, proofs.Calls.{freed, alone_count}}
+use Rattle.{std.proofs.{Common.{rules, ◌-◌, ◌<◌, arith, length, get_or-set_same, sym, ◌∙◌}, lemmas.List.{get_or_read}}, frames.{proofs.Calls.{freed, alone_count}, specs.{FrameTable.{role_of}, Inside.{table_of}}}}
 use Rattle.frames.proofs.memory.Frames.release.Goals as goal
 
 pub invariant_of-self : goal.invariant_of-self

@@ -1,5 +1,4 @@
-use Rattle.std.proofs.Common.{◌<◌, length}
-use Rattle.machine.specs.Machine.{IsSoundMachine}
+use Rattle.{std.proofs.Common.{◌<◌, length}, machine.specs.Machine.{IsSoundMachine}}
 use Rattle.looking.proofs.viewer.Viewer.take_all.Given as goal
 
 abbrev pub invariant-loop-i : goal.invariant-loop-i

@@ -1,6 +1,5 @@
-use Rattle.machine.proofs.Names.{inl, inr, ⊎_elim, refl, sym, subst, arith, OpensFrom}
-use Rattle.machine.{specs.Boot.{HasBadSlots}, proofs.Boots.{fine_frames, fine_slots, still, boots, accepts, refuses_frames, refuses_slots, refuses_memory, refuses_store, opened_leaves}}
-use Rattle.machine.proofs.engine.Engine.boot.Goals.{then-config-gt-MAX_SLOTS-via-then-config-gt-MAX_SLOTS, then-config-gt-MAX_SLOTS-via-else-config-gt-MAX_SLOTS+then-from-sectors}
+use Rattle.machine.proofs.{Boots.{fine_frames, fine_slots, still, boots, accepts, refuses_frames, refuses_slots, refuses_memory, refuses_store, opened_leaves}, Names.{inl, inr, ⊎_elim, refl, sym, subst, arith, OpensFrom}}
+use Rattle.machine.{proofs.engine.Engine.boot.Goals.{then-config-gt-MAX_SLOTS-via-then-config-gt-MAX_SLOTS, then-config-gt-MAX_SLOTS-via-else-config-gt-MAX_SLOTS+then-from-sectors}, specs.Boot.{HasBadSlots}}
 use Rattle.machine.proofs.engine.Engine.boot.Goals as goal
 
 pub returns-then-config-lt-MIN_FRAMES-clause-refuses : goal.returns-then-config-lt-MIN_FRAMES-clause-refuses
@@ -43,8 +42,7 @@ returns-in_default-new-clause-refuses g c =
     (fine_slots c.args.config _ _ _ c.if-config-gt-MAX_SLOTS.false c.from.ensures c.sectors.ensures c.if-from-sectors.false) c.in-Ok.ensures)
 
 pub returns-in_default-new-clause-err_moments : goal.returns-in_default-new-clause-err_moments
-returns-in_default-new-clause-err_moments g c =
-    rw c.into_disk-in_default-new.ensures (opened_leaves g.D.SectorDisk c.args.store c.in-Ok.store c.in-Ok.ensures)
+returns-in_default-new-clause-err_moments g c = rw c.into_disk-in_default-new.ensures (opened_leaves g.D.SectorDisk c.args.store c.in-Ok.store c.in-Ok.ensures)
 
 pub returns-in-Err-new-clause-refuses : goal.returns-in-Err-new-clause-refuses
 returns-in-Err-new-clause-refuses g c =

@@ -1,6 +1,4 @@
-use Rattle.machine.proofs.Names.{◌≡◌, true, false, rules, sym, ap, ◌∙◌, EIO, reply_of}
-use Rattle.vm_types.specs.declared.reply.Answer.TheVariants.{Refused}
-use Rattle.machine.proofs.{Commits.{msync_meets}, Causes.{msync_caused}, Accesses.{refused_so}}
+use Rattle.{machine.proofs.{Accesses.{refused_so}, Causes.{msync_caused}, Commits.{msync_meets}, Names.{◌≡◌, true, false, rules, sym, ap, ◌∙◌, EIO, reply_of}}, vm_types.specs.declared.reply.Answer.TheVariants.{Refused}}
 use Rattle.machine.proofs.engine.Engine.msync.Goals as goal
 
 pub returns : goal.returns

@@ -1,7 +1,4 @@
-use Rattle.machine.proofs.Names.{sym, ap, subst, ◌∙◌, Reply, picture_of}
-use Rattle.std.specs.Prelude.{is_some}
-use Rattle.vm_types.specs.declared.reply.Reply.TheVariants.{Past}
-use Rattle.machine.{specs.EngineCommands.{EngineCarriesOut}, proofs.Tidied.{tidied}}
+use Rattle.{machine.{proofs.{Names.{sym, ap, subst, ◌∙◌, Reply, picture_of}, Tidied.{tidied}}, specs.EngineCommands.{EngineCarriesOut}}, std.specs.Prelude.{is_some}, vm_types.specs.declared.reply.Reply.TheVariants.{Past}}
 use Rattle.machine.proofs.engine.Engine.step.Goals as goal
 
 pub returns-in-Some-clause-carries : goal.returns-in-Some-clause-carries

@@ -1,5 +1,4 @@
-use Rattle.machine.proofs.Names.{length, take, ◌≡◌, State}
-use Rattle.machine.{specs.{Chain.{Caused}, Commands.{KeepsModelsAndRoom}, Machine.{store_of, swap_of, IsSoundMachine, Shows}}, proofs.Runs.{RanSoFar}}
+use Rattle.machine.{proofs.{Names.{length, take, ◌≡◌, State}, Runs.{RanSoFar}}, specs.{Chain.{Caused}, Commands.{KeepsModelsAndRoom}, Machine.{store_of, swap_of, IsSoundMachine, Shows}}}
 use Rattle.machine.proofs.machine.Machine.run.Given as goal
 
 abbrev pub invariant-loop-i : goal.invariant-loop-i

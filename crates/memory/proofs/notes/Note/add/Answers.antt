@@ -22,10 +22,7 @@ returns-then-same-clause-kept c = λ r p h. record {
         absurd (omega (arith, none, bit_at-zero (r % 64))))
     | else-self-eq0 w ↦ (
         let same : c.args.self.page ≡ c.get-page.result = eqb-true c.args.self.page c.get-page.result (sym w.same-is ∙ c.if-same.true) in
-        elim h.page_is [
-          | inl zero ↦ inl (sym same ∙ zero)
-          | inr is ↦ inr (sym same ∙ is)
-        ])
+        elim h.page_is [ inl zero ↦ inl (sym same ∙ zero) | inr is ↦ inr (sym same ∙ is) ])
   ];
 }
 

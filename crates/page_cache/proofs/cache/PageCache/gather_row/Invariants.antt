@@ -1,7 +1,6 @@
-use Rattle.std.proofs.Common.{◌+◌, ◌<◌}
-use Rattle.page_cache.proofs.GatherLemmas.{IsPart}
+use Rattle.{std.proofs.Common.{◌+◌, ◌<◌}, page_cache.proofs.GatherLemmas.{IsPart}}
 use Rattle.page_cache.proofs.cache.PageCache.gather_row.Given as goal
 
 -- the pages before this one were looked at
 abbrev pub invariant-loop-offset : goal.invariant-loop-offset
-invariant-loop-offset l = IsPart l.self l.file l.first l.count l.used (λ p. p.page < l.first + l.offset) l.fn.list l.list l.n
+invariant-loop-offset l = IsPart l.self l.first.file l.first.page l.count l.used (λ p. p.page < l.first.page + l.offset) l.fn.list l.list l.n

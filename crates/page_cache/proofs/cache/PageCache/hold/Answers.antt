@@ -1,8 +1,6 @@
-use Rattle.std.proofs.Common.{◌≡◌, ◌≢◌, ℕ, ◌+◌, ◌<◌, length, set, Some, None, sym, ◌∙◌, arith}
-use Rattle.vm_types.specs.declared.object.PageKey.{PageKey}
-use Rattle.page_cache.specs.{declared.place.Place.TheVariants.{Home}, declared.index.Index.{Index}, declared.cache.PageCache.TheInside.{Inside}, CacheTable.{CacheTable, cache_frames, slot_count, place_in, place_of}}
-use Rattle.page_cache.specs.{Nodes.{page_at, first_node}, Inside.{cache_table_of, IsWholeCache}}
-use Rattle.page_cache.proofs.{SetLemmas.{members-at}, TableLemmas.{is_touched-first, place_of-first}, Changes.{nothing_held, unmarked, same_set, given-placed, IsWhole-given, SameButFor-given}}
+use Rattle.{std.proofs.Common.{◌≡◌, ◌≢◌, ℕ, ◌+◌, ◌<◌, length, set, Some, None, sym, ◌∙◌, arith}, vm_types.specs.declared.object.PageKey.{PageKey}, page_cache.proofs.Changes.{nothing_held, unmarked, same_set, given-placed, IsWhole-given}}
+use Rattle.page_cache.{proofs.{Changes.{SameButFor-given}, SetLemmas.{members-at}, TableLemmas.{is_touched-first, place_of-first}}, specs.{CacheTable.{CacheTable, cache_frames, slot_count, place_in, place_of}, Inside.{cache_table_of}}}
+use Rattle.page_cache.specs.{Inside.{IsWholeCache}, Nodes.{page_at, first_node}, declared.{cache.PageCache.TheInside.{Inside}, index.Index.{Index}, place.Place.TheVariants.{Home}}}
 use Rattle.page_cache.proofs.cache.PageCache.hold.Goals as goal
 
 -- what the caller keeps, of the fields
@@ -27,8 +25,7 @@ found_at cache now index node page is whole below home pages =
     given-placed cache index cache.touched node page whole (inside_of cache now node is whole below) (home_of cache now page is home) pages
 
 pub insert-requires-clause-free : goal.insert-requires-clause-free
-insert-requires-clause-free c =
-    free_of c.self.inside c.args.self.now c.args.node c.self.view_is c.self.invariant c.requires.free
+insert-requires-clause-free c = free_of c.self.inside c.args.self.now c.args.node c.self.view_is c.self.invariant c.requires.free
 
 pub invariant_of-self : goal.invariant_of-self
 invariant_of-self c =

@@ -1,6 +1,5 @@
-use Rattle.std.proofs.Common.{◌≡◌, ◌<◌, Some, sym, ◌∙◌, arith}
-use Rattle.page_cache.specs.{declared.place.Place.TheVariants.{Frame}, CacheTable.{place_of}, Inside.{cache_table_of}}
-use Rattle.page_cache.proofs.{NodeLemmas.{first_node-of}, SetLemmas.{members-at}, TableLemmas.{is_touched-first, page_at-place, place_in-frame}}
+use Rattle.{std.proofs.Common.{◌≡◌, ◌<◌, Some, sym, ◌∙◌, arith}, page_cache.{proofs.{NodeLemmas.{first_node-of}, SetLemmas.{members-at}, TableLemmas.{is_touched-first, page_at-place, place_in-frame}}, specs.CacheTable.{place_of}}}
+use Rattle.page_cache.specs.{Inside.{cache_table_of}, declared.place.Place.TheVariants.{Frame}}
 use Rattle.page_cache.proofs.cache.PageCache.is_frame_touched.Goals as goal
 
 pub contains-requires : goal.contains-requires

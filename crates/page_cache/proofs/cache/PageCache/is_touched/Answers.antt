@@ -1,5 +1,4 @@
-use Rattle.std.proofs.Common.{None, Some, sym, ◌∙◌, arith}
-use Rattle.page_cache.{specs.Inside.{cache_table_of}, proofs.{NodeLemmas.{page_at-within}, SetLemmas.{members-at}, TableLemmas.{is_touched-first}}}
+use Rattle.{std.proofs.Common.{None, Some, sym, ◌∙◌, arith}, page_cache.{proofs.{NodeLemmas.{page_at-within}, SetLemmas.{members-at}, TableLemmas.{is_touched-first}}, specs.Inside.{cache_table_of}}}
 use Rattle.page_cache.proofs.cache.PageCache.is_touched.Goals as goal
 
 pub contains-requires : goal.contains-requires

@@ -1,5 +1,4 @@
-use Rattle.std.proofs.Common.{Some, None, sym, ◌∙◌}
-use Rattle.page_cache.{specs.Inside.{cache_table_of}, proofs.{SetLemmas.{members-at}, TableLemmas.{is_touched-first, place_of-first}, Changes.{SameButFor-marked, place_of-marked}}}
+use Rattle.{std.proofs.Common.{Some, None, sym, ◌∙◌}, page_cache.{proofs.{Changes.{SameButFor-marked, place_of-marked}, SetLemmas.{members-at}, TableLemmas.{is_touched-first, place_of-first}}, specs.Inside.{cache_table_of}}}
 use Rattle.page_cache.proofs.cache.PageCache.mark_dirty.Goals as goal
 
 pub returns-in-Some-clause-touched : goal.returns-in-Some-clause-touched

@@ -1,5 +1,4 @@
-use Rattle.std.proofs.Common.{◌+◌}
-use Rattle.page_cache.{specs.{declared.place.Place.TheVariants.{Slot}, Inside.{cache_table_of}}, proofs.TableLemmas.{held_at, none_at, place_in-slot_at}}
+use Rattle.{std.proofs.Common.{◌+◌}, page_cache.{proofs.TableLemmas.{held_at, none_at, place_in-slot_at}, specs.{Inside.{cache_table_of}, declared.place.Place.TheVariants.{Slot}}}}
 use Rattle.page_cache.proofs.cache.PageCache.page_in_slot.Goals as goal
 
 pub returns-clause-held : goal.returns-clause-held

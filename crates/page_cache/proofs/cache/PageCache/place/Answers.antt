@@ -1,5 +1,4 @@
-use Rattle.std.proofs.Common.{None, Some, sym, ◌∙◌, arith}
-use Rattle.page_cache.{specs.Inside.{cache_table_of}, proofs.{NodeLemmas.{page_at-within}, TableLemmas.{place_of-first, place_in-frame, place_in-slot}}}
+use Rattle.{std.proofs.Common.{None, Some, sym, ◌∙◌, arith}, page_cache.{proofs.{NodeLemmas.{page_at-within}, TableLemmas.{place_of-first, place_in-frame, place_in-slot}}, specs.Inside.{cache_table_of}}}
 use Rattle.page_cache.proofs.cache.PageCache.place.Goals as goal
 
 pub overflow_cast-result-in-Some-2 : goal.overflow_cast-result-in-Some-2

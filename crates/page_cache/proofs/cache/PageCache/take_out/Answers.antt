@@ -7,8 +7,7 @@ returns-in_default-clause-was c =
     rw (← c.self.view_is) (sym (is_touched-first (cache_table_of c.self.inside) c.args.page None (sym c.in_default.ensures.first)))
 
 pub returns-in_default-clause-placed : goal.returns-in_default-clause-placed
-returns-in_default-clause-placed c =
-    rw (← c.self.view_is) (place_of-first (cache_table_of c.self.inside) c.args.page None (sym c.in_default.ensures.first))
+returns-in_default-clause-placed c = rw (← c.self.view_is) (place_of-first (cache_table_of c.self.inside) c.args.page None (sym c.in_default.ensures.first))
 
 pub returns-in_default-clause-untouched : goal.returns-in_default-clause-untouched
 returns-in_default-clause-untouched c =

@@ -1,5 +1,4 @@
-use Rattle.std.proofs.Common.{◌≡◌, ◌-◌, ◌<◌, ◌≤◌, ℕ, true, false, length}
-use Rattle.page_cache.specs.{Nodes.{page_at, holds}, Chains.{bucket_of, is_in_bucket}}
+use Rattle.{std.proofs.Common.{◌≡◌, ◌-◌, ◌<◌, ◌≤◌, ℕ, true, false, length}, page_cache.specs.{Chains.{bucket_of, is_in_bucket}, Nodes.{page_at, holds}}}
 use Rattle.page_cache.proofs.index.Index.find.Given as goal
 
 -- the node is of the page's bucket or past the last, and none before it holds the page

@@ -1,5 +1,4 @@
-use Rattle.std.proofs.{Common.{sym}, lemmas.List.{get_or_read}}
-use Rattle.page_cache.proofs.ChainLemmas.{link-inside, IsChained-inserted}
+use Rattle.{std.proofs.{Common.{sym}, lemmas.List.{get_or_read}}, page_cache.proofs.ChainLemmas.{link-inside, IsChained-inserted}}
 use Rattle.page_cache.proofs.index.Index.insert.Goals as goal
 
 pub returns-clause-chained : goal.returns-clause-chained

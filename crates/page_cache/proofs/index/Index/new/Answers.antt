@@ -1,5 +1,4 @@
-use Rattle.std.proofs.Common.{◌∙◌, ap, arith, None, replicate}
-use Rattle.page_cache.proofs.ChainLemmas.{IsEmptyIndex-made}
+use Rattle.{std.proofs.Common.{◌∙◌, ap, arith, None, replicate}, page_cache.proofs.ChainLemmas.{IsEmptyIndex-made}}
 use Rattle.page_cache.proofs.index.Index.new.Goals as goal
 
 pub returns : goal.returns

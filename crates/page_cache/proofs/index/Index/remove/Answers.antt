@@ -1,5 +1,4 @@
-use Rattle.std.proofs.{Common.{◌≡◌, ◌+◌, true, arith}, lemmas.List.{get_or_read}}
-use Rattle.page_cache.{specs.{Nodes.{page_at}, Chains.{is_in_bucket}}, proofs.{NodeLemmas.{page_at-within}, ChainLemmas.{bucket-own, IsChained-removed}}}
+use Rattle.{std.proofs.{Common.{◌≡◌, ◌+◌, true, arith}, lemmas.List.{get_or_read}}, page_cache.{proofs.{ChainLemmas.{bucket-own, IsChained-removed}, NodeLemmas.{page_at-within}}, specs.{Chains.{is_in_bucket}, Nodes.{page_at}}}}
 use Rattle.page_cache.proofs.index.Index.remove.Goals as goal
 
 pub returns-clause-chained : goal.returns-clause-chained

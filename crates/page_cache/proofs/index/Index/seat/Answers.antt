@@ -1,5 +1,4 @@
-use Rattle.std.proofs.{Common.{◌≡◌, ◌+◌, ◌<◌, true, get_or, refl, sym, ◌∙◌, inr, arith}, lemmas.List.{get_or_read}}
-use Rattle.page_cache.{specs.{Nodes.{page_at}, Chains.{is_in_bucket, IsNext}}, proofs.ChainLemmas.{link-inside}}
+use Rattle.{std.proofs.{Common.{◌≡◌, ◌+◌, ◌<◌, true, get_or, refl, sym, ◌∙◌, inr, arith}, lemmas.List.{get_or_read}}, page_cache.{proofs.ChainLemmas.{link-inside}, specs.{Chains.{is_in_bucket, IsNext}, Nodes.{page_at}}}}
 use Rattle.page_cache.proofs.index.Index.seat.Goals as goal
 
 -- where the link leads, and that this is a node of the bucket
@@ -28,8 +27,4 @@ loop-at-smaller c =
 pub loop-at-preserved : goal.loop-at-preserved
 loop-at-preserved c =
     let lead = leads c in
-    record {
-      low = c.index-in-loop-at.result.now + 1;
-      link = inr (c.index-in-loop-at.result.now, refl, refl, lead.2);
-      before = omega (arith, lead.1);
-    }
+    record { low = c.index-in-loop-at.result.now + 1; link = inr (c.index-in-loop-at.result.now, refl, refl, lead.2); before = omega (arith, lead.1) }

@@ -1,5 +1,4 @@
-use Rattle.std.proofs.Common.{◌-◌, get_or}
-use Rattle.page_cache.specs.Chains.{IsSeat}
+use Rattle.{std.proofs.Common.{◌-◌, get_or}, page_cache.specs.Chains.{IsSeat}}
 use Rattle.page_cache.proofs.index.Index.seat.Given as goal
 
 -- the link is one of the bucket's, and begins at or before the node

@@ -1,5 +1,4 @@
-use Rattle.std.proofs.{Common.{◌-◌, get_or, arith, rules}, lemmas.List.{get_or_read}}
-use Rattle.page_cache.{specs.Sets.{HaveSwapped}, proofs.SetLemmas.{removed}}
+use Rattle.{std.proofs.{Common.{◌-◌, get_or, arith, rules}, lemmas.List.{get_or_read}}, page_cache.{proofs.SetLemmas.{removed}, specs.Sets.{HaveSwapped}}}
 use Rattle.page_cache.proofs.node_set.NodeSet.remove.Goals as goal
 
 pub returns-then-rank-self : goal.returns-then-rank-self

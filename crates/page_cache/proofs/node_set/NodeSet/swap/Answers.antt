@@ -1,5 +1,4 @@
-use Rattle.std.proofs.{Common.{refl, sym}, lemmas.List.{get_or_read}}
-use Rattle.page_cache.proofs.SetLemmas.{nodes_swapped}
+use Rattle.{std.proofs.{Common.{refl, sym}, lemmas.List.{get_or_read}}, page_cache.proofs.SetLemmas.{nodes_swapped}}
 use Rattle.page_cache.proofs.node_set.NodeSet.swap.Goals as goal
 
 pub returns : goal.returns

@@ -1,5 +1,4 @@
-use Rattle.std.proofs.Common.{◌∙◌, ap, sym, Some, None}
-use Rattle.regions.{specs.RunList.{attr_at}, proofs.{BehindLemmas.{first_tells}, WalkLemmas.{user_map}}}
+use Rattle.{std.proofs.Common.{◌∙◌, ap, sym, Some, None}, regions.{proofs.{BehindLemmas.{first_tells}, WalkLemmas.{user_map}}, specs.RunList.{attr_at}}}
 use Rattle.regions.proofs.table.Regions.at.Goals as goal
 
 pub returns-in_err-run-clause-value : goal.returns-in_err-run-clause-value

@@ -1,5 +1,4 @@
-use Rattle.std.proofs.Common.{ℕ, ◌+◌, leb, sym, ◌∙◌, ap}
-use Rattle.regions.proofs.SearchLemmas.{is_covered-gap}
+use Rattle.{std.proofs.Common.{ℕ, ◌+◌, leb, sym, ◌∙◌, ap}, regions.proofs.SearchLemmas.{is_covered-gap}}
 use Rattle.regions.proofs.table.Regions.covers.Goals as goal
 
 pub returns : goal.returns

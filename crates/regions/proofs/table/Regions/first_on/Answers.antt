@@ -1,5 +1,4 @@
-use Rattle.std.proofs.Common.{ℕ, Option, sym, subst}
-use Rattle.regions.{specs.{RunList.{attr_at}, Search.{IsFirstOn}}, proofs.StandLemmas.{IsFirstOrNone, first_on-is, some_on, none_some, none_from}}
+use Rattle.{std.proofs.Common.{ℕ, Option, sym, subst}, regions.{proofs.StandLemmas.{IsFirstOrNone, first_on-is, some_on, none_some, none_from}, specs.{RunList.{attr_at}, Search.{IsFirstOn}}}}
 use Rattle.regions.proofs.table.Regions.first_on.Goals as goal
 
 pub returns-in_err-first_page-clause-none : goal.returns-in_err-first_page-clause-none

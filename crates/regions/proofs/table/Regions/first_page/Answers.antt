@@ -1,5 +1,4 @@
-use Rattle.std.proofs.Common.{◌<◌, ◌∙◌, List, ap, length, get_or, sym, subst, arith}
-use Rattle.regions.{specs.{declared.run.Run.{Run}, Run.{IsRun}, Search.{first_on}}, proofs.{PushLemmas.{unused}, StandLemmas.{behind_run, on_behind}}}
+use Rattle.{std.proofs.Common.{◌<◌, ◌∙◌, List, ap, length, get_or, sym, subst, arith}, regions.{proofs.{PushLemmas.{unused}, StandLemmas.{behind_run, on_behind}}, specs.{Run.{IsRun}, Search.{first_on}, declared.run.Run.{Run}}}}
 use Rattle.regions.proofs.table.Regions.first_page.Goals as goal
 
 pub loop-run-init : goal.loop-run-init

@@ -1,5 +1,4 @@
-use Rattle.std.proofs.Common.{◌≡◌, drop}
-use Rattle.regions.specs.Search.{first_on}
+use Rattle.{std.proofs.Common.{◌≡◌, drop}, regions.specs.Search.{first_on}}
 use Rattle.regions.proofs.table.Regions.first_page.Given as goal
 
 abbrev pub invariant-loop-run : goal.invariant-loop-run

@@ -1,5 +1,4 @@
-use Rattle.std.proofs.Common.{◌∙◌, sym, Some, None}
-use Rattle.regions.proofs.BehindLemmas.{first_tells}
+use Rattle.{std.proofs.Common.{◌∙◌, sym, Some, None}, regions.proofs.BehindLemmas.{first_tells}}
 use Rattle.regions.proofs.table.Regions.first_part.Goals as goal
 
 pub returns-in_err-run : goal.returns-in_err-run

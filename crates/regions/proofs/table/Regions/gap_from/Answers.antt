@@ -1,5 +1,4 @@
-use Rattle.std.proofs.Common.{◌∙◌, List, ap}
-use Rattle.regions.{specs.{declared.run.Run.{Run}, Search.{gap_from}}, proofs.BehindLemmas.{gap_behind}}
+use Rattle.{std.proofs.Common.{◌∙◌, List, ap}, regions.{proofs.BehindLemmas.{gap_behind}, specs.{Search.{gap_from}, declared.run.Run.{Run}}}}
 use Rattle.regions.proofs.table.Regions.gap_from.Goals as goal
 
 pub loop-run-init : goal.loop-run-init

@@ -1,5 +1,4 @@
-use Rattle.std.proofs.Common.{◌≡◌, drop}
-use Rattle.regions.specs.Search.{gap_from}
+use Rattle.{std.proofs.Common.{◌≡◌, drop}, regions.specs.Search.{gap_from}}
 use Rattle.regions.proofs.table.Regions.gap_from.Given as goal
 
 abbrev pub invariant-loop-run : goal.invariant-loop-run

@@ -1,5 +1,4 @@
-use Rattle.std.proofs.Common.{sym, Some, None}
-use Rattle.regions.proofs.BehindLemmas.{first_tells}
+use Rattle.{std.proofs.Common.{sym, Some, None}, regions.proofs.BehindLemmas.{first_tells}}
 use Rattle.regions.proofs.table.Regions.is_clear.Goals as goal
 
 pub returns-in-Some : goal.returns-in-Some

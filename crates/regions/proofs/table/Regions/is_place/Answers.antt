@@ -1,6 +1,5 @@
-use Rattle.std.proofs.Common.{inl, inr, sym, ◌∙◌, arith}
-use Rattle.regions.{specs.RunList.{attr_at}, proofs.{SearchLemmas.{is_place-clear, is_place-not}, table.Regions.is_place.Goals.{then-first-lt-USER_START-via-then-first-lt-USER_START}}}
-use Rattle.regions.proofs.table.Regions.is_place.Goals.{then-first-lt-USER_START-via-else-first-lt-USER_START+then-first-end, then-first-lt-USER_START-via-else-first-lt-USER_START+else-first-end+then-pages-end}
+use Rattle.{std.proofs.Common.{inl, inr, sym, ◌∙◌, arith}, regions.proofs.{SearchLemmas.{is_place-clear, is_place-not}, table.Regions.is_place.Goals.{then-first-lt-USER_START-via-then-first-lt-USER_START}}}
+use Rattle.regions.{proofs.table.Regions.is_place.Goals.{then-first-lt-USER_START-via-else-first-lt-USER_START+then-first-end, then-first-lt-USER_START-via-else-first-lt-USER_START+else-first-end+then-pages-end}, specs.RunList.{attr_at}}
 use Rattle.regions.proofs.table.Regions.is_place.Goals as goal
 
 pub returns-then-first-lt-USER_START : goal.returns-then-first-lt-USER_START

@@ -1,5 +1,4 @@
-use Rattle.std.proofs.Common.{List, sym, ◌∙◌, ap, arith}
-use Rattle.regions.{specs.{declared.run.Run.{Run}, RunList.{joins_last}}, proofs.PushLemmas.{joins_last-is, last_run, unused}}
+use Rattle.{std.proofs.Common.{List, sym, ◌∙◌, ap, arith}, regions.{proofs.PushLemmas.{joins_last-is, last_run, unused}, specs.{RunList.{joins_last}, declared.run.Run.{Run}}}}
 use Rattle.regions.proofs.table.Regions.joins_last.Goals as goal
 
 pub joins-requires : goal.joins-requires

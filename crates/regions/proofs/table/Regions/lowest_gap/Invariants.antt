@@ -1,6 +1,4 @@
-use Rattle.vm_types.specs.Limits.{user_end}
-use Rattle.std.proofs.Common.{◌≡◌, ◌≤◌, drop}
-use Rattle.regions.specs.{RunList.{IsMaximal}, Search.{lowest_gap}}
+use Rattle.{vm_types.specs.Limits.{user_end}, std.proofs.Common.{◌≡◌, ◌≤◌, drop}, regions.specs.{RunList.{IsMaximal}, Search.{lowest_gap}}}
 use Rattle.regions.proofs.table.Regions.lowest_gap.Given as goal
 
 abbrev pub invariant-loop-run : goal.invariant-loop-run

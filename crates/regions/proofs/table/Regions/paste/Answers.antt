@@ -1,14 +1,9 @@
-use Rattle.std.proofs.Common.{◌≡◌, ◌≤◌, ◌+◌, sym, ◌∙◌, ap, subst, List, length, refl, drop}
-use Rattle.regions.specs.{declared.run.Run.{Run}, RunList.{pasted, pushed}}
-use Rattle.regions.proofs.{PasteLemmas.{Pending, long_part, pasted_none, pasted_some, pending_none, pending_some}, PushLemmas.{unused}, ResultLemmas.{on_err}, table.Regions.paste.Goals.{in-Some+in_ok-push, in_default}}
+use Rattle.{std.proofs.Common.{◌≡◌, ◌≤◌, ◌+◌, sym, ◌∙◌, ap, subst, List, length, refl, drop}, regions.proofs.{PasteLemmas.{Pending, long_part, pasted_none, pasted_some, pending_none, pending_some}, PushLemmas.{unused}}}
+use Rattle.regions.{proofs.{ResultLemmas.{on_err}, table.Regions.paste.Goals.{in-Some+in_ok-push, in_default}}, specs.{RunList.{pasted, pushed}, declared.run.Run.{Run}}}
 use Rattle.regions.proofs.table.Regions.paste.Goals as goal
 
 pub loop-run-init : goal.loop-run-init
-loop-run-init g c = record {
-  pending = record { from = 16; order = c.requires.maximal; behind = c.requires.behind };
-  few = c.requires.few;
-  same = refl;
-}
+loop-run-init g c = record { pending = record { from = 16; order = c.requires.maximal; behind = c.requires.behind }; few = c.requires.few; same = refl }
 
 pub returns-in_err-push-clause-err : goal.returns-in_err-push-clause-err
 returns-in_err-push-clause-err g c =

@@ -1,5 +1,4 @@
-use Rattle.std.proofs.Common.{◌≡◌, ◌≤◌, drop, length}
-use Rattle.regions.{specs.RunList.{pasted}, proofs.PasteLemmas.{Pending}}
+use Rattle.{std.proofs.Common.{◌≡◌, ◌≤◌, drop, length}, regions.{proofs.PasteLemmas.{Pending}, specs.RunList.{pasted}}}
 use Rattle.regions.proofs.table.Regions.paste.Given as goal
 
 -- the rest pasted behind what is there is what is to come

@@ -1,7 +1,5 @@
-use Rattle.std.proofs.Common.{◌≡◌, ◌/◌, ◌≤◌, true, refl, eq-eqb, ne_eqb, sym, ◌∙◌, arith}
-use Rattle.vm_types.specs.Placement.{is_place, lowest_place, placed}
-use Rattle.regions.specs.RunList.{attr_at}
-use Rattle.regions.proofs.{SearchLemmas.{IsPlace, is_place-is, lowest_place-gap, placed-is, some_from}, table.Regions.place.Goals.{else-address-ne0-via-then-address-ne0+else-is_place, else-address-ne0-via-else-address-ne0}}
+use Rattle.{std.proofs.Common.{◌≡◌, ◌/◌, ◌≤◌, true, refl, eq-eqb, ne_eqb, sym, ◌∙◌, arith}, vm_types.specs.Placement.{is_place, lowest_place, placed}, regions.proofs.SearchLemmas.{IsPlace, is_place-is, lowest_place-gap, placed-is}}
+use Rattle.regions.{proofs.{SearchLemmas.{some_from}, table.Regions.place.Goals.{else-address-ne0-via-then-address-ne0+else-is_place, else-address-ne0-via-else-address-ne0}}, specs.RunList.{attr_at}}
 use Rattle.regions.proofs.table.Regions.place.Goals as goal
 
 pub returns-then-is_place : goal.returns-then-is_place

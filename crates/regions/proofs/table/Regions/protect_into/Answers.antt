@@ -1,5 +1,4 @@
-use Rattle.std.proofs.Common.{◌+◌, arith, rules}
-use Rattle.regions.{specs.RunList.{list_protected}, proofs.{MapLemmas.{front_end_low, middle_end, protected_is}, ResultLemmas.{made, protected_longer, protects, too_long}}}
+use Rattle.{std.proofs.Common.{◌+◌, arith, rules}, regions.{proofs.{MapLemmas.{front_end_low, middle_end, protected_is}, ResultLemmas.{made, protected_longer, protects, too_long}}, specs.RunList.{list_protected}}}
 use Rattle.regions.proofs.table.Regions.protect_into.Goals as goal
 
 pub returns-in_err-paste : goal.returns-in_err-paste

@@ -1,5 +1,4 @@
-use Rattle.std.proofs.Common.{◌+◌, arith, rules}
-use Rattle.regions.{specs.RunList.{list_removed}, proofs.{MapLemmas.{front_end_high, removed_is}, ResultLemmas.{made, removes, too_long}}}
+use Rattle.{std.proofs.Common.{◌+◌, arith, rules}, regions.{proofs.{MapLemmas.{front_end_high, removed_is}, ResultLemmas.{made, removes, too_long}}, specs.RunList.{list_removed}}}
 use Rattle.regions.proofs.table.Regions.remove_into.Goals as goal
 
 pub returns-in_err-paste : goal.returns-in_err-paste

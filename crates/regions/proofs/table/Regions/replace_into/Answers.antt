@@ -1,6 +1,5 @@
-use Rattle.vm_types.proofs.Modes.{sizes}
-use Rattle.std.proofs.Common.{arith, rules}
-use Rattle.regions.{specs.{Run.{IsRun}, RunList.{list_replaced}}, proofs.{MapLemmas.{replaced_behind, replaced_end, replaced_is}, ResultLemmas.{made, replaced_longer, replaces, row_run, run_of_row, too_long}}}
+use Rattle.{vm_types.proofs.Modes.{sizes}, std.proofs.Common.{arith, rules}, regions.proofs.{MapLemmas.{replaced_behind, replaced_end, replaced_is}, ResultLemmas.{made, replaced_longer, replaces, row_run, run_of_row, too_long}}}
+use Rattle.regions.specs.{Run.{IsRun}, RunList.{list_replaced}}
 use Rattle.regions.proofs.table.Regions.replace_into.Goals as goal
 
 pub returns-in_err-paste : goal.returns-in_err-paste

@@ -1,5 +1,4 @@
-use Rattle.std.proofs.Common.{List, length, sym, ◌∙◌, ap}
-use Rattle.regions.{specs.declared.run.Run.{Run}, proofs.CountLemmas.{run_count-maximal}}
+use Rattle.{std.proofs.Common.{List, length, sym, ◌∙◌, ap}, regions.{proofs.CountLemmas.{run_count-maximal}, specs.declared.run.Run.{Run}}}
 use Rattle.regions.proofs.table.Regions.runs.Goals as goal
 
 pub returns-clause-count : goal.returns-clause-count

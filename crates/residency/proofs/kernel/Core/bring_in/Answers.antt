@@ -1,7 +1,6 @@
-use Rattle.residency.proofs.Names.{◌≡◌, ◌<◌, refl, sym, ap, ◌∙◌, subst, ℕ, arith, rules, File, with_bytes-same, AreBounded, standing_page, entry_of, files_of, Free, Table, Private, Cache, Home, Frame}
-use Rattle.std.specs.Option.{option_map}
-use Rattle.residency.{specs.{Picture.{Picture, picture_of}, Capacity.{IsShort}, Views.{ChoosesByClock}}, proofs.{Asking.{asks_store, once_store, once_unasked, reads_none, reads_store}, BroughtIn.{frames_written}}}
-use Rattle.residency.proofs.{Obtained.{asked_on, chosen, clock_on, comes_back, comes_taken, comes_stall, given_back, given_on, reads_stall, seeks_stall}, Returning.{leaves_none, all_spent}}
+use Rattle.residency.proofs.{Asking.{asks_store, once_store, once_unasked, reads_none, reads_store}, BroughtIn.{frames_written}, Names.{◌≡◌, ◌<◌, refl, sym, ap, ◌∙◌, subst, ℕ, arith, rules, File, with_bytes-same, AreBounded, standing_page}}
+use Rattle.residency.proofs.{Names.{entry_of, files_of, Free, Table, Private, Cache, Home, Frame}, Obtained.{asked_on, chosen, clock_on, comes_back, comes_taken, comes_stall, given_back, given_on, reads_stall, seeks_stall}}
+use Rattle.{residency.{proofs.Returning.{leaves_none, all_spent}, specs.{Capacity.{IsShort}, Picture.{Picture, picture_of}, Views.{ChoosesByClock}}}, std.specs.Option.{option_map}}
 use Rattle.residency.proofs.kernel.Core.bring_in.Goals as goal
 
 pub returns-in-Ok-read_page : goal.returns-in-Ok-read_page

@@ -1,5 +1,4 @@
-use Rattle.residency.proofs.Names.{refl, ◌∙◌, arith, rules, Object, slots_of, place_of, is_touched}
-use Rattle.residency.{specs.Picture.{Picture, picture_of}, proofs.{Forgotten.{fit_forgotten_slot, forgets_slotted}, Homing.{Homes}}}
+use Rattle.residency.{proofs.{Forgotten.{fit_forgotten_slot, forgets_slotted}, Homing.{Homes}, Names.{refl, ◌∙◌, arith, rules, Object, slots_of, place_of, is_touched}}, specs.Picture.{Picture, picture_of}}
 use Rattle.residency.proofs.kernel.Core.forget_slot.Goals as goal
 
 pub release-requires : goal.release-requires

@@ -1,5 +1,4 @@
-use Rattle.residency.proofs.Names.{rules, ◌≡◌, ◌<◌, ℕ, Some, refl, ◌∙◌, subst, arith}
-use Rattle.residency.{specs.Picture.{picture_of}, proofs.Lives.{live_process}}
+use Rattle.residency.{proofs.{Lives.{live_process}, Names.{rules, ◌≡◌, ◌<◌, ℕ, Some, refl, ◌∙◌, subst, arith}}, specs.Picture.{picture_of}}
 use Rattle.residency.proofs.kernel.Core.remove_process.Goals as goal
 
 pub release_root-requires : goal.release_root-requires

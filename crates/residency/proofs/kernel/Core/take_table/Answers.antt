@@ -1,6 +1,5 @@
-use Rattle.residency.proofs.Names.{ℕ, Option, refl, Some, None, rules}
-use Rattle.residency.specs.{Picture.{Picture, picture_of}, Ages.{GivesForTables}}
-use Rattle.residency.proofs.{Asking.{needed_of}, Giving.{on_err_same, roles_but, gives_table, table_given, tables_tried}, Moves.{same_beside}, Obtained.{given, seeks_on, seeks_stall}, Returning.{zero_no_table}}
+use Rattle.residency.proofs.{Asking.{needed_of}, Giving.{on_err_same, roles_but, gives_table, table_given, tables_tried}, Moves.{same_beside}, Names.{ℕ, Option, refl, Some, None, rules}, Obtained.{given, seeks_on, seeks_stall}}
+use Rattle.residency.{proofs.Returning.{zero_no_table}, specs.{Ages.{GivesForTables}, Picture.{Picture, picture_of}}}
 use Rattle.residency.proofs.kernel.Core.take_table.Goals as goal
 
 pub returns : goal.returns

@@ -1,5 +1,4 @@
-use Rattle.residency.proofs.Names.{subst, sym, ◌∙◌, arith}
-use Rattle.residency.{specs.{Picture.{picture_of}, Calls.{Frees}}, proofs.{Giving.{marks_then}, Sparing.{cleared_frees, frees_then}}}
+use Rattle.residency.{proofs.{Giving.{marks_then}, Names.{subst, sym, ◌∙◌, arith}, Sparing.{cleared_frees, frees_then}}, specs.{Calls.{Frees}, Picture.{picture_of}}}
 use Rattle.residency.proofs.looking.CoreFrameView.clear.Goals as goal
 
 pub returns-clause-follows : goal.returns-clause-follows

@@ -1,5 +1,4 @@
-use Rattle.std.proofs.{Common.{◌≤◌, ◌+◌, ◌++◌, length, take, ap, ◌∙◌, arith}, lemmas.List.{length-take-le}, lemmas.Slice.{take-put_mid}}
-use Rattle.runner.proofs.Bytes.{extended}
+use Rattle.{std.proofs.{Common.{◌≤◌, ◌+◌, ◌++◌, length, take, ap, ◌∙◌, arith}, lemmas.{List.{length-take-le}, Slice.{take-put_mid}}}, runner.proofs.Bytes.{extended}}
 use Rattle.runner.proofs.line_buffer.LineBuffer.extend.Goals as goal
 
 pub returns : goal.returns

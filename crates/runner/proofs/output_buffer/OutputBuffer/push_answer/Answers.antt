@@ -1,6 +1,4 @@
-use Rattle.std.proofs.Common.{ap, ◌∙◌, ◌++◌}
-use Rattle.trace_lang.specs.Texts.{text_of}
-use Rattle.vm_types.specs.Replies.{reply_of}
+use Rattle.{std.proofs.Common.{ap, ◌∙◌, ◌++◌}, trace_lang.specs.Texts.{text_of}, vm_types.specs.Replies.{reply_of}}
 use Rattle.runner.proofs.output_buffer.OutputBuffer.push_answer.Goals as goal
 
 pub returns-clause-text : goal.returns-clause-text

@@ -1,6 +1,4 @@
-use Rattle.std.proofs.Common.{ap, ◌∙◌, ◌++◌, take}
-use Rattle.trace_lang.specs.Texts.{text_of}
-use Rattle.vm_types.specs.declared.reply.Reply.TheVariants.{Past}
+use Rattle.{std.proofs.Common.{ap, ◌∙◌, ◌++◌, take}, trace_lang.specs.Texts.{text_of}, vm_types.specs.declared.reply.Reply.TheVariants.{Past}}
 use Rattle.runner.proofs.output_buffer.OutputBuffer.push_history.Goals as goal
 
 pub returns-clause-text : goal.returns-clause-text

@@ -1,5 +1,4 @@
-use Rattle.std.proofs.Common.{◌≡◌, ◌-◌, Some, refl, arith}
-use Rattle.stop_trials.proofs.Tried.{none_tried, one_tried}
+use Rattle.{std.proofs.Common.{◌≡◌, ◌-◌, Some, refl, arith}, stop_trials.proofs.Tried.{none_tried, one_tried}}
 use Rattle.stop_trials.proofs.runs.Setting.tried.Goals as goal
 
 pub loop-i-init : goal.loop-i-init

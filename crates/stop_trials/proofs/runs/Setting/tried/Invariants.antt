@@ -1,5 +1,4 @@
-use Rattle.std.proofs.Common.{◌≡◌, ◌+◌}
-use Rattle.stop_trials.specs.Trials.{AreTried}
+use Rattle.{std.proofs.Common.{◌≡◌, ◌+◌}, stop_trials.specs.Trials.{AreTried}}
 use Rattle.stop_trials.proofs.runs.Setting.tried.Given as goal
 
 abbrev pub invariant-loop-i : goal.invariant-loop-i

@@ -1,7 +1,5 @@
-use Rattle.std.proofs.{Common.{◌≡◌, ◌+◌, ◌<◌, false, is_err, ⊎_elim, sym, ap, subst, ◌∙◌, arith, rules}, lemmas.Bool.{cases_eq}}
-use Rattle.disk_model.specs.{Sectors.{part_of}, SimDisk.{sector_of, failures_of, asked_of}}
-use Rattle.disk_model.proofs.Naming.{names_next}
-use Rattle.stop_trials.{specs.{declared.stopping.Event.TheVariants.{Write}, Stopping.{plan_of, plan_after_event}}, proofs.Writes.{when_ok, ran_before, one_write}}
+use Rattle.{std.proofs.{Common.{◌≡◌, ◌+◌, ◌<◌, false, is_err, ⊎_elim, sym, ap, subst, ◌∙◌, arith, rules}, lemmas.Bool.{cases_eq}}, disk_model.{proofs.Naming.{names_next}, specs.{Sectors.{part_of}, SimDisk.{sector_of, failures_of}}}}
+use Rattle.{disk_model.specs.SimDisk.{asked_of}, stop_trials.{proofs.Writes.{when_ok, ran_before, one_write}, specs.{Stopping.{plan_of, plan_after_event}, declared.stopping.Event.TheVariants.{Write}}}}
 use Rattle.stop_trials.proofs.stopping.StoppingDiskSectorDisk.write_page.Goals as goal
 
 pub loop-i-preserved : goal.loop-i-preserved

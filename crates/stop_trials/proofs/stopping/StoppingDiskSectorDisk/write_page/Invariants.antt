@@ -1,7 +1,5 @@
-use Rattle.std.proofs.Common.{◌≡◌, ◌⊎◌, ◌≤◌, ◌<◌, ◌+◌, ℕ, true, false, is_some}
-use Rattle.disk_model.specs.{Stop.{IsOfPage, ChangesPage, Elapses, Names}, Sectors.{part_of}, SimDisk.{sectors_in, sector_of, IsUnsynced, moment_of, LeftSince, failures_of, asked_of}}
-use Rattle.disk_model.proofs.Naming.{IsAmong}
-use Rattle.stop_trials.specs.Stopping.{plan_of, plan_after_writes}
+use Rattle.{std.proofs.Common.{◌≡◌, ◌⊎◌, ◌≤◌, ◌<◌, ◌+◌, ℕ, true, false, is_some}, disk_model.{proofs.Naming.{IsAmong}, specs.{Sectors.{part_of}, SimDisk.{sectors_in, sector_of, IsUnsynced, moment_of, LeftSince, failures_of, asked_of}}}}
+use Rattle.{disk_model.specs.Stop.{IsOfPage, ChangesPage, Elapses, Names}, stop_trials.specs.Stopping.{plan_of, plan_after_writes}}
 use Rattle.stop_trials.proofs.stopping.StoppingDiskSectorDisk.write_page.Given as goal
 
 abbrev pub invariant-loop-i : goal.invariant-loop-i

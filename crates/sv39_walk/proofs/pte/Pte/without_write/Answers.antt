@@ -1,5 +1,4 @@
-use Rattle.std.proofs.Common.{arith}
-use Rattle.sv39_walk.proofs.Bits.{write_weighs}
+use Rattle.{std.proofs.Common.{arith}, sv39_walk.proofs.Bits.{write_weighs}}
 use Rattle.sv39_walk.proofs.pte.Pte.without_write.Goals as goal
 
 pub overflow_sub-result : goal.overflow_sub-result

@@ -1,6 +1,4 @@
-use Rattle.std.proofs.{Common.{◌≡◌, ◌+◌, ◌*◌, ◌<◌, ℕ, subst, rules}, lemmas.Result.{on_ok_weaker}}
-use Rattle.disk_model.specs.{Sectors.{part_of}, Stop.{IsOfPage}}
-use Rattle.disk_model.proofs.{Moments.{asks_named}, Naming.{once_named}}
+use Rattle.{std.proofs.{Common.{◌≡◌, ◌+◌, ◌*◌, ◌<◌, ℕ, subst, rules}, lemmas.Result.{on_ok_weaker}}, disk_model.{proofs.{Moments.{asks_named}, Naming.{once_named}}, specs.{Sectors.{part_of}, Stop.{IsOfPage}}}}
 use Rattle.swap.proofs.Written.{gives_written}
 use Rattle.swap.proofs.pages.Pages.get.Goals as goal
 

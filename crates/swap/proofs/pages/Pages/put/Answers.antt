@@ -1,7 +1,5 @@
-use Rattle.std.proofs.Common.{◌≡◌, ◌<◌, ◌+◌, ◌*◌, ℕ, List, [], ◌∷◌, refl, sym, subst, ◌∙◌, Some, rules}
-use Rattle.disk_model.specs.{Note.{Note}, Stop.{ChangesPage, IsOfPage}, Sectors.{part_of}}
-use Rattle.disk_model.proofs.{Moments.{asks_named}, Naming.{once_named}}
-use Rattle.swap.{specs.Written.{written_in, IsAsWritten}, proofs.Written.{rows_make, written_lost, written_new, noted-here}}
+use Rattle.{std.proofs.Common.{◌≡◌, ◌<◌, ◌+◌, ◌*◌, ℕ, List, [], ◌∷◌, refl, sym, subst, ◌∙◌, Some, rules}, disk_model.{proofs.{Moments.{asks_named}, Naming.{once_named}}, specs.{Note.{Note}, Sectors.{part_of}, Stop.{ChangesPage, IsOfPage}}}}
+use Rattle.swap.{proofs.Written.{rows_make, written_lost, written_new, noted-here}, specs.Written.{written_in, IsAsWritten}}
 use Rattle.swap.proofs.pages.Pages.put.Goals as goal
 
 abbrev lost : ℕ → Note

@@ -1,5 +1,4 @@
-use Rattle.std.proofs.Common.{arith}
-use Rattle.swap.proofs.Stack.{short_stack}
+use Rattle.{std.proofs.Common.{arith}, swap.proofs.Stack.{short_stack}}
 use Rattle.swap.proofs.share_counts.ShareCounts.free_count.Goals as goal
 
 pub overflow_cast-result : goal.overflow_cast-result

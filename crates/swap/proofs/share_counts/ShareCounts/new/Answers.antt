@@ -1,5 +1,4 @@
-use Rattle.std.proofs.{Common.{◌≡◌, ℕ, replicate, length, ap, ◌∙◌, arith}, lemmas.List.{length-replicate}}
-use Rattle.swap.proofs.Stack.{stack_made, sound_zeros}
+use Rattle.{std.proofs.{Common.{◌≡◌, ℕ, replicate, length, ap, ◌∙◌, arith}, lemmas.List.{length-replicate}}, swap.proofs.Stack.{stack_made, sound_zeros}}
 use Rattle.swap.proofs.share_counts.ShareCounts.new.Goals as goal
 
 pub invariant_of-result : goal.invariant_of-result

@@ -1,5 +1,4 @@
-use Rattle.std.proofs.{Common.{◌≡◌, ◌<◌, ◌+◌, ℕ, List, sym, subst, arith}, lemmas.List.{get_or_read, length-set}}
-use Rattle.swap.{specs.Counts.{count_at}, proofs.Stack.{inside_of, stack_kept, sound_set}}
+use Rattle.{std.proofs.{Common.{◌≡◌, ◌<◌, ◌+◌, ℕ, List, sym, subst, arith}, lemmas.List.{get_or_read, length-set}}, swap.{proofs.Stack.{inside_of, stack_kept, sound_set}, specs.Counts.{count_at}}}
 use Rattle.swap.proofs.share_counts.ShareCounts.raise.Goals as goal
 
 pub invariant_of-self : goal.invariant_of-self

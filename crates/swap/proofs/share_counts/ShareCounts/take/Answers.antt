@@ -1,6 +1,5 @@
-use Rattle.std.proofs.{Common.{◌≡◌, ◌<◌, ◌-◌, ℕ, List, Option, set, take, length, get_or, sym, subst, arith, vec_len}, lemmas.List.{length-set}}
-use Rattle.std.specs.Option.{IfNone}
-use Rattle.swap.{specs.Counts.{count_at, IsStack}, proofs.Stack.{none_free, stack_taken, sound_set}}
+use Rattle.{std.{proofs.{Common.{◌≡◌, ◌<◌, ◌-◌, ℕ, List, Option, set, take, length, get_or, sym, subst, arith, vec_len}, lemmas.List.{length-set}}, specs.Option.{IfNone}}, swap.proofs.Stack.{none_free, stack_taken, sound_set}}
+use Rattle.swap.specs.Counts.{count_at, IsStack}
 use Rattle.swap.proofs.share_counts.ShareCounts.take.Goals as goal
 
 pub returns-in_err-n-clause-none : goal.returns-in_err-n-clause-none

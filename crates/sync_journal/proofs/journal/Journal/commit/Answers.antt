@@ -1,6 +1,5 @@
-use Rattle.sync_journal.proofs.Names.{length, refl, sym, subst, ◌∙◌, rules}
-use Rattle.sync_journal.{specs.{Layout.{IsOutside}, Journal.{live_homes}}, proofs.{Rests.{live_at_rest}, Asking.{finish_only, commit_only, in_one, in_two}, Causes.{calm_first, told_on, told_was, not_source, puts_failed, asks_nothing}}}
-use Rattle.sync_journal.proofs.{Runs.{finished_run, committed_run}, Since.{either_of, both_either, both_before, settled_before, settled_after}}
+use Rattle.sync_journal.proofs.{Asking.{finish_only, commit_only, in_one, in_two}, Causes.{calm_first, told_on, told_was, not_source, puts_failed, asks_nothing}, Names.{length, refl, sym, subst, ◌∙◌, rules}, Rests.{live_at_rest}}
+use Rattle.sync_journal.{proofs.{Runs.{finished_run, committed_run}, Since.{either_of, both_either, both_before, settled_before, settled_after}}, specs.{Journal.{live_homes}, Layout.{IsOutside}}}
 use Rattle.sync_journal.proofs.journal.Journal.commit.Goals as goal
 
 pub returns-in_err-finish : goal.returns-in_err-finish

@@ -1,5 +1,4 @@
-use Rattle.sync_journal.proofs.Names.{[], refl, arith, rules, stays, once_none}
-use Rattle.sync_journal.{specs.{Layout.{IsJournalSector, IsFinished}, Journal.{live_homes}}, proofs.{Phases.{while_staging, staged_settled}, Rests.{rest_quiet, none_live}}}
+use Rattle.sync_journal.{proofs.{Names.{[], refl, arith, rules, stays, once_none}, Phases.{while_staging, staged_settled}, Rests.{rest_quiet, none_live}}, specs.{Journal.{live_homes}, Layout.{IsJournalSector, IsFinished}}}
 use Rattle.sync_journal.proofs.journal.Journal.finish.Goals as goal
 
 pub returns-else-self-gt0-clause-home : goal.returns-else-self-gt0-clause-home

@@ -1,5 +1,4 @@
-use Rattle.sync_journal.proofs.Names.{subst, ◌∙◌, rules, on_ok_weaker, Names}
-use Rattle.sync_journal.{specs.{Layout.{IsPageSector}, Journal.{live_homes}}, proofs.Rests.{page_stands, rest_read}}
+use Rattle.sync_journal.{proofs.{Names.{subst, ◌∙◌, rules, on_ok_weaker, Names}, Rests.{page_stands, rest_read}}, specs.{Journal.{live_homes}, Layout.{IsPageSector}}}
 use Rattle.sync_journal.proofs.journal.Journal.read.Goals as goal
 
 pub returns : goal.returns

@@ -30,10 +30,7 @@ returns-then-not-is_open_gate g c =
     record {
       before = refl;
       found = λ keeps. closed_at (layout_before c.args.journals) (d.content old) (ap is_open_sector (sym (r.gives keeps)) ∙ sym c.is_open_gate.ensures ∙ c.if-not-is_open_gate.true);
-      looks = record {
-        run = no_write d Nothing old new r.size r.kept r.cause.later r.same r.unsynced r.time;
-        blames = blames_none d old new _ r.cause.calm;
-      };
+      looks = record { run = no_write d Nothing old new r.size r.kept r.cause.later r.same r.unsynced r.time; blames = blames_none d old new _ r.cause.calm };
       asks = asks_named d (IsGateOrMapIn (layout_before c.args.journals)) (λ k. k ≡ 2) old new (λ k here. inl here) r.asks;
       good = λ keeps bad. (let closed = ap is_open_sector (sym (r.gives keeps)) ∙ sym c.is_open_gate.ensures ∙ c.if-not-is_open_gate.true in let opened = bad.gate in cc);
       bad = λ keeps is. cc;

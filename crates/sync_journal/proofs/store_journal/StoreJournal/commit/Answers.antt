@@ -1,8 +1,7 @@
-use Rattle.sync_journal.proofs.Names.{[], refl, ap, sym, subst, ◌∙◌, on_ok_weaker, Image, AsksOnly, weaker, asks_once}
-use Rattle.sync_journal.specs.{Map.{AreHomes}, Commit.{changed, IsAtRest}, Journal.{live_homes}, Turns.{IsTurnRest, IsTurnUsed, IsTurnAsked}, Blocks.{CommitsInBlocks}}
-use Rattle.sync_journal.specs.{Kinds.{journal_kind, store_live, store_standing, kind_home_count, IsKindOutside, IsStoreCommitted, IsStoreUsed, AsksEachOnce, StoreStandsForEither, IsStoreKept}, Runs.{RunsOnDevice}}
-use Rattle.sync_journal.{specs.{declared.turns.TurnJournal.{TurnJournal}, declared.store_journal.Journals.TheVariants.{Single, Paired}, declared.store_journal.StoreJournal.TheVariants.{One, InTurn}}, proofs.Replays.{on_ok_both}}
-use Rattle.sync_journal.proofs.{InTurn.{commits_weaker, none_are}, TurnAsking.{used_more}, InKinds.{kind_same, kind_changed, kind_rest, one_as_before, one_either, one_settled, one_alone, two_as_before, two_either, two_settled, same_turns}}
+use Rattle.sync_journal.proofs.{InKinds.{kind_same, kind_changed, kind_rest, one_as_before, one_either, one_settled, one_alone, two_as_before, two_either, two_settled, same_turns}, InTurn.{commits_weaker, none_are}, Names.{[], refl, ap}}
+use Rattle.sync_journal.{proofs.{Names.{sym, subst, ◌∙◌, on_ok_weaker, Image, AsksOnly, weaker, asks_once}, Replays.{on_ok_both}, TurnAsking.{used_more}}, specs.{Blocks.{CommitsInBlocks}, Commit.{changed, IsAtRest}, Journal.{live_homes}}}
+use Rattle.sync_journal.specs.{Kinds.{journal_kind, store_live, store_standing, kind_home_count, IsKindOutside, IsStoreCommitted, IsStoreUsed, AsksEachOnce, StoreStandsForEither, IsStoreKept}, Map.{AreHomes}, Runs.{RunsOnDevice}}
+use Rattle.sync_journal.specs.{Turns.{IsTurnRest, IsTurnUsed, IsTurnAsked}, declared.{store_journal.{Journals.TheVariants.{Single, Paired}, StoreJournal.TheVariants.{One, InTurn}}, turns.TurnJournal.{TurnJournal}}}
 use Rattle.sync_journal.proofs.store_journal.StoreJournal.commit.Goals as goal
 
 pub returns-in-One : goal.returns-in-One

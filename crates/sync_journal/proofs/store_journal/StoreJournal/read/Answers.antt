@@ -1,5 +1,4 @@
-use Rattle.sync_journal.proofs.Names.{◌≡◌, OnOk, ap, sym, subst, ◌∙◌, Names, joined}
-use Rattle.sync_journal.{specs.{Layout.{IsPageSector}, Kinds.{journal_kind, journal_stands, kind_standing}}, proofs.InKinds.{store_rest_read}}
+use Rattle.sync_journal.{proofs.{InKinds.{store_rest_read}, Names.{◌≡◌, OnOk, ap, sym, subst, ◌∙◌, Names, joined}}, specs.{Kinds.{journal_kind, journal_stands, kind_standing}, Layout.{IsPageSector}}}
 use Rattle.sync_journal.proofs.store_journal.StoreJournal.read.Goals as goal
 
 pub returns-in-One : goal.returns-in-One

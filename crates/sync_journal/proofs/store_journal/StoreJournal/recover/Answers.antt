@@ -1,6 +1,5 @@
-use Rattle.sync_journal.proofs.Names.{refl, sym, ◌∙◌, rules}
+use Rattle.sync_journal.proofs.{InKinds.{kind_same, one_settled, one_as_before, two_as_before, two_settled, single_alone}, InTurn.{recovers_weaker}, KindRecoveries.{recovers_kind}, Names.{refl, sym, ◌∙◌, rules}}
 use Rattle.sync_journal.specs.{Commit.{HomesStandAs}, Turns.{TurnsStandAs}, declared.store_journal.Journals.TheVariants.{Single, Paired}}
-use Rattle.sync_journal.proofs.{InTurn.{recovers_weaker}, InKinds.{kind_same, one_settled, one_as_before, two_as_before, two_settled, single_alone}, KindRecoveries.{recovers_kind}}
 use Rattle.sync_journal.proofs.store_journal.StoreJournal.recover.Goals as goal
 
 pub returns-in_err-recover-in-Single : goal.returns-in_err-recover-in-Single

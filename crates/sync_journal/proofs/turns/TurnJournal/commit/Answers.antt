@@ -1,6 +1,5 @@
-use Rattle.sync_journal.proofs.Names.{not, refl, ⊎_elim, ◌∙◌, arith, rules}
-use Rattle.sync_journal.specs.Journal.{live_homes}
-use Rattle.sync_journal.proofs.{Causes.{told_on, none_failed}, InKinds.{recovered_sector}, InTurn.{start_high, staged_settled}, TurnSteps.{Begins, leaves_either, is_staged, staged_leaves, prepared_leaves, named, commit_failed}}
+use Rattle.sync_journal.proofs.{Causes.{told_on, none_failed}, InKinds.{recovered_sector}, InTurn.{start_high, staged_settled}, Names.{not, refl, ⊎_elim, ◌∙◌, arith, rules}, TurnSteps.{Begins, leaves_either, is_staged, staged_leaves}}
+use Rattle.sync_journal.{proofs.TurnSteps.{prepared_leaves, named, commit_failed}, specs.Journal.{live_homes}}
 use Rattle.sync_journal.proofs.turns.TurnJournal.commit.Goals as goal
 
 pub stage_in-requires : goal.stage_in-requires
@@ -40,27 +39,22 @@ returns-in_err-prepare g c =
     let s = g.S.PageSource in
     let new = c.prepare.new.disk in
     let stages = c.in_ok-stage_in.ensures in
-    let before = stages.causes.device_calm in
-    let failed = c.in_err-prepare.ensures.failed refl in
     let b : Begins d c.args.self.now.second (live_homes c.args.self.now.live) c.args.homes.now c.args.disk.now = record { only_now = λ k image left. g.met.D.SectorDisk.only_now c.args.disk.now image k left; are = c.requires.live; rest = c.requires.rest; homes_are = c.requires.given.homes_are } in
     commit_failed d s c.args.self.now _ c.args.homes.now c.args.disk.now new c.args.source.now c.stage_in.new.source _ c.from_residual-in_err-prepare.ensures.1
     (leaves_either (s.pages c.args.source.now) new
     (prepared_leaves (s.keeps_model c.stage_in.new.source) b c.stage_in.new.disk stages.run stages.once new c.prepare.ensures))
-    stages.asks (omega (arith, failed, before)) stages.causes.source_calm
+    stages.asks (omega (arith, c.in_err-prepare.ensures.failed refl, stages.causes.device_calm)) stages.causes.source_calm
 
 pub returns-in_err-name_journal : goal.returns-in_err-name_journal
 returns-in_err-name_journal g c =
     let d = g.D.SectorDisk in
     let s = g.S.PageSource in
     let stages = c.in_ok-stage_in.ensures in
-    let before = stages.causes.device_calm in
-    let copied = c.in_ok-prepare.ensures.calm in
-    let failed = c.in_err-name_journal.ensures.failed refl in
     let b : Begins d c.args.self.now.second (live_homes c.args.self.now.live) c.args.homes.now c.args.disk.now = record { only_now = λ k image left. g.met.D.SectorDisk.only_now c.args.disk.now image k left; are = c.requires.live; rest = c.requires.rest; homes_are = c.requires.given.homes_are } in
     commit_failed d s c.args.self.now _ c.args.homes.now c.args.disk.now c.name_journal.new.disk c.args.source.now c.stage_in.new.source _ c.from_residual-in_err-name_journal.ensures.1
     (named (s.keeps_model c.stage_in.new.source) b c.stage_in.new.disk stages.run stages.once
     c.prepare.new.disk c.in_ok-prepare.ensures c.name_journal.new.disk c.name_journal.ensures stages.map (s.pages c.args.source.now) stages.body).leaves
-    stages.asks (omega (arith, failed, before, copied)) stages.causes.source_calm
+    stages.asks (omega (arith, c.in_err-name_journal.ensures.failed refl, stages.causes.device_calm, c.in_ok-prepare.ensures.calm)) stages.causes.source_calm
 
 pub returns : goal.returns
 returns g c =

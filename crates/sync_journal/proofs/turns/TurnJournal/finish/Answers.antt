@@ -1,7 +1,5 @@
-use Rattle.sync_journal.proofs.Names.{[], refl, subst, inl, ◌∙◌, arith, rules, stays}
-use Rattle.sync_journal.specs.{Journal.{live_homes}, Turns.{turn_standing, turn_home_count, IsTurnSettled}}
-use Rattle.sync_journal.proofs.{Causes.{is_error}, Rests.{none_live}, InTurn.{IsPrepared, while_preparing, staged_blocks, staged_settled, none_kept, none_settled, none_are}}
-use Rattle.sync_journal.proofs.TurnSteps.{Begins, leaves_weaker, staged_leaves, prepared_leaves, named, emptied_so_far, emptying_failed}
+use Rattle.sync_journal.proofs.{Causes.{is_error}, InTurn.{IsPrepared, while_preparing, staged_blocks, staged_settled, none_kept, none_settled, none_are}, Names.{[], refl, subst, inl, ◌∙◌, arith, rules, stays}, Rests.{none_live}}
+use Rattle.sync_journal.{proofs.TurnSteps.{Begins, leaves_weaker, staged_leaves, prepared_leaves, named, emptied_so_far, emptying_failed}, specs.{Journal.{live_homes}, Turns.{turn_standing, turn_home_count, IsTurnSettled}}}
 use Rattle.sync_journal.proofs.turns.TurnJournal.finish.Goals as goal
 
 pub returns-in_err-clear_map : goal.returns-in_err-clear_map

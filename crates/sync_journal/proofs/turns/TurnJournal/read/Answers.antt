@@ -1,5 +1,4 @@
-use Rattle.sync_journal.proofs.Names.{◌∙◌, subst, rules, on_ok_weaker, Names}
-use Rattle.sync_journal.{specs.{Layout.{IsPageSector}, Journal.{live_homes}}, proofs.{InTurn.{page_stands}, InKinds.{turn_rest_read}}}
+use Rattle.sync_journal.{proofs.{InKinds.{turn_rest_read}, InTurn.{page_stands}, Names.{◌∙◌, subst, rules, on_ok_weaker, Names}}, specs.{Journal.{live_homes}, Layout.{IsPageSector}}}
 use Rattle.sync_journal.proofs.turns.TurnJournal.read.Goals as goal
 
 pub returns : goal.returns

@@ -1,6 +1,5 @@
-use Rattle.sync_journal.proofs.Names.{[], refl, ◌∙◌, arith, rules, Nothing, asks_none}
-use Rattle.sync_journal.specs.Turns.{turn_standing, IsBadTurn, IsTurnAskedIn, IsTurnSettled}
-use Rattle.sync_journal.proofs.{Runs.{no_write, one_more}, Sectors.{so_before}, Causes.{told_was, is_error, not_bad_device, blames_device, blames_on, blames_none}, TurnRecoveries.{named_since, asks_since, looked, emptied}}
+use Rattle.sync_journal.proofs.{Causes.{told_was, is_error, not_bad_device, blames_device, blames_on, blames_none}, Names.{[], refl, ◌∙◌, arith, rules, Nothing, asks_none}, Runs.{no_write, one_more}, Sectors.{so_before}}
+use Rattle.sync_journal.{proofs.TurnRecoveries.{named_since, asks_since, looked, emptied}, specs.Turns.{turn_standing, IsBadTurn, IsTurnAskedIn, IsTurnSettled}}
 use Rattle.sync_journal.proofs.turns.TurnJournal.recover.Goals as goal
 
 pub returns-in_err-sync : goal.returns-in_err-sync

@@ -1,5 +1,4 @@
-use Rattle.sync_plans.proofs.Names.{arith}
-use Rattle.sync_plans.{specs.PlanDisk.{pages_of}, proofs.Untouched.{alike_sources}}
+use Rattle.sync_plans.{proofs.{Names.{arith}, Untouched.{alike_sources}}, specs.PlanDisk.{pages_of}}
 use Rattle.sync_plans.proofs.plan_disk.PlanDisk.copy_to.Goals as goal
 
 pub returns-clause-sources : goal.returns-clause-sources

@@ -1,5 +1,4 @@
-use Rattle.sync_plans.proofs.Names.{◌≡◌, ◌<◌, ℕ, Some, length, slice_get}
-use Rattle.sync_plans.specs.{declared.call.Call.{Call}, Plans.{row}}
+use Rattle.sync_plans.{proofs.Names.{◌≡◌, ◌<◌, ℕ, Some, length, slice_get}, specs.{Plans.{row}, declared.call.Call.{Call}}}
 use Rattle.sync_plans.proofs.plan_disk.PlanDisk.copy_to.Given as goal
 
 abbrev pub invariant-loop-i : goal.invariant-loop-i

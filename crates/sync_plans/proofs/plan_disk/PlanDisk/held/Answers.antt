@@ -1,5 +1,4 @@
-use Rattle.sync_plans.proofs.Names.{sym, ◌∙◌, arith, ◌≡◌, ◌<◌, suc, ◌-◌, ◌+◌, length}
-use Rattle.sync_plans.{specs.{PlanDisk.{pages_of}, Plans.{row}}, proofs.Growth.{writes_here, written, passed, untouched}}
+use Rattle.sync_plans.{proofs.{Growth.{writes_here, written, passed, untouched}, Names.{sym, ◌∙◌, arith, ◌≡◌, ◌<◌, suc, ◌-◌, ◌+◌, length}}, specs.{PlanDisk.{pages_of}, Plans.{row}}}
 use Rattle.sync_plans.proofs.plan_disk.PlanDisk.held.Goals as goal
 
 pub returns-then-n-self : goal.returns-then-n-self

@@ -1,5 +1,4 @@
-use Rattle.sync_plans.proofs.Names.{◌≡◌, ◌-◌}
-use Rattle.sync_plans.specs.{Plans.{row, image_after}, PlanDisk.{pages_of}}
+use Rattle.sync_plans.{proofs.Names.{◌≡◌, ◌-◌}, specs.{PlanDisk.{pages_of}, Plans.{row, image_after}}}
 use Rattle.sync_plans.proofs.plan_disk.PlanDisk.held.Given as goal
 
 -- no later call writes the sector

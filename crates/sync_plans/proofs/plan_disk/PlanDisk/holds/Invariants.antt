@@ -1,5 +1,4 @@
-use Rattle.sync_plans.proofs.Names.{◌≡◌, ◌<◌, ◌+◌, ℕ, part_of}
-use Rattle.sync_plans.specs.Plans.{row}
+use Rattle.sync_plans.{proofs.Names.{◌≡◌, ◌<◌, ◌+◌, ℕ, part_of}, specs.Plans.{row}}
 use Rattle.sync_plans.proofs.plan_disk.PlanDisk.holds.Given as goal
 
 abbrev pub invariant-loop-i : goal.invariant-loop-i

@@ -1,5 +1,4 @@
-use Rattle.sync_plans.proofs.Names.{ℕ, List, ◌≡◌, ◌+◌, ◌-◌, ◌∙◌, length, ap, arith, refl, rules, same_text, part_of}
-use Rattle.sync_plans.{specs.PlanDisk.{pages_of}, proofs.Theorem.{lent_here}}
+use Rattle.sync_plans.{proofs.{Names.{ℕ, List, ◌≡◌, ◌+◌, ◌-◌, ◌∙◌, length, ap, arith, refl, rules, same_text, part_of}, Theorem.{lent_here}}, specs.PlanDisk.{pages_of}}
 use Rattle.sync_plans.proofs.plan_disk.PlanDisk.named.Goals as goal
 
 pub returns-then-eq-clause-sources : goal.returns-then-eq-clause-sources

@@ -1,5 +1,4 @@
-use Rattle.sync_plans.proofs.Names.{refl, rules}
-use Rattle.sync_plans.{specs.{PlanDisk.{pages_of}, Plans.{row}}, proofs.Growth.{time, changes, unsynced_by, still_unsynced}}
+use Rattle.sync_plans.{proofs.{Growth.{time, changes, unsynced_by, still_unsynced}, Names.{refl, rules}}, specs.{PlanDisk.{pages_of}, Plans.{row}}}
 use Rattle.sync_plans.proofs.plan_disk.PlanDisk.put.Goals as goal
 
 pub returns : goal.returns

@@ -1,5 +1,4 @@
-use Rattle.sync_plans.proofs.Names.{rules, on_ok}
-use Rattle.sync_plans.{specs.{PlanDisk.{pages_of}, Plans.{row}}, proofs.Growth.{time, page_written, page_changes, page_unsynced_by, page_marked, page_still}}
+use Rattle.sync_plans.{proofs.{Growth.{time, page_written, page_changes, page_unsynced_by, page_marked, page_still}, Names.{rules, on_ok}}, specs.{PlanDisk.{pages_of}, Plans.{row}}}
 use Rattle.sync_plans.proofs.plan_disk.PlanDisk.put_page.Goals as goal
 
 pub returns : goal.returns

@@ -1,5 +1,4 @@
-use Rattle.sync_plans.proofs.Names.{◌≡◌, ◌<◌, ◌+◌, ⊎_elim, inr, refl, sym, subst, ◌∙◌, arith, cases_eq, part_of, more_time, carried}
-use Rattle.sync_plans.specs.PlanDisk.{content_of, unsynced_in, plan_moment, left_in}
+use Rattle.sync_plans.{proofs.Names.{◌≡◌, ◌<◌, ◌+◌, ⊎_elim, inr, refl, sym, subst, ◌∙◌, arith, cases_eq, part_of, more_time, carried}, specs.PlanDisk.{content_of, unsynced_in, plan_moment, left_in}}
 use Rattle.sync_plans.proofs.plan_disk.PlanDisk.put_sectors.Goals as goal
 
 pub loop-i-preserved : goal.loop-i-preserved

@@ -1,5 +1,4 @@
-use Rattle.sync_plans.proofs.Names.{◌≡◌, ◌⊎◌, ◌≤◌, ◌<◌, ◌+◌, ℕ, false, length, IsOfPage, ChangesPage, Elapses, part_of}
-use Rattle.sync_plans.specs.PlanDisk.{content_of, unsynced_in, plan_moment, left_in}
+use Rattle.sync_plans.{proofs.Names.{◌≡◌, ◌⊎◌, ◌≤◌, ◌<◌, ◌+◌, ℕ, false, length, IsOfPage, ChangesPage, Elapses, part_of}, specs.PlanDisk.{content_of, unsynced_in, plan_moment, left_in}}
 use Rattle.sync_plans.proofs.plan_disk.PlanDisk.put_sectors.Given as goal
 
 abbrev pub invariant-loop-i : goal.invariant-loop-i

@@ -1,5 +1,4 @@
-use Rattle.sync_plans.proofs.Names.{⊎_elim, arith}
-use Rattle.sync_plans.proofs.Growth.{not_written, not_written_behind}
+use Rattle.sync_plans.proofs.{Growth.{not_written, not_written_behind}, Names.{⊎_elim, arith}}
 use Rattle.sync_plans.proofs.plan_disk.PlanDisk.untouched_with.Goals as goal
 
 pub returns-clause-written : goal.returns-clause-written

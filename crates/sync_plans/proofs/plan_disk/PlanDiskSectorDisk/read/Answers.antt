@@ -1,5 +1,4 @@
-use Rattle.sync_plans.proofs.Names.{no_time}
-use Rattle.sync_plans.specs.PlanDisk.{content_of, unsynced_in, plan_moment, left_in}
+use Rattle.sync_plans.{proofs.Names.{no_time}, specs.PlanDisk.{content_of, unsynced_in, plan_moment, left_in}}
 use Rattle.sync_plans.proofs.plan_disk.PlanDiskSectorDisk.read.Goals as goal
 
 pub returns-clause-time : goal.returns-clause-time

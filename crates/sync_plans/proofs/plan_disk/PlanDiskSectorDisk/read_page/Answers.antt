@@ -1,5 +1,4 @@
-use Rattle.sync_plans.proofs.Names.{◌≡◌, ◌<◌, ◌+◌, ◌*◌, ◌-◌, length, ⊎_elim, sym, ap, subst, ◌∙◌, arith, rules, cases_eq, put_mid, part_of, put_here, put_there, length_put}
-use Rattle.sync_plans.specs.PlanDisk.{content_of}
+use Rattle.sync_plans.{proofs.Names.{◌≡◌, ◌<◌, ◌+◌, ◌*◌, ◌-◌, length, ⊎_elim, sym, ap, subst, ◌∙◌, arith, rules, cases_eq, put_mid, part_of, put_here, put_there, length_put}, specs.PlanDisk.{content_of}}
 use Rattle.sync_plans.proofs.plan_disk.PlanDiskSectorDisk.read_page.Goals as goal
 
 pub loop-i-preserved : goal.loop-i-preserved

@@ -1,5 +1,4 @@
-use Rattle.sync_plans.proofs.Names.{◌≡◌, ◌<◌, ◌+◌, ℕ, length, part_of}
-use Rattle.sync_plans.specs.PlanDisk.{content_of}
+use Rattle.sync_plans.{proofs.Names.{◌≡◌, ◌<◌, ◌+◌, ℕ, length, part_of}, specs.PlanDisk.{content_of}}
 use Rattle.sync_plans.proofs.plan_disk.PlanDiskSectorDisk.read_page.Given as goal
 
 abbrev pub invariant-loop-i : goal.invariant-loop-i

@@ -1,5 +1,4 @@
-use Rattle.sync_plans.proofs.Names.{refl}
-use Rattle.sync_plans.{specs.{PlanDisk.{pages_of}, Plans.{row}}, proofs.Growth.{time, same_now}}
+use Rattle.sync_plans.{proofs.{Growth.{time, same_now}, Names.{refl}}, specs.{PlanDisk.{pages_of}, Plans.{row}}}
 use Rattle.sync_plans.proofs.plan_disk.PlanDiskSectorDisk.sync.Goals as goal
 
 pub returns-clause-same : goal.returns-clause-same

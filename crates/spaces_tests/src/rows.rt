@@ -1,0 +1,20 @@
+//! Each row of steps comes to what is wanted.
+use crate::bench::follow;
+use crate::{calls, evictions, sharing, wants};
+use std::test::Fail;
+use vm_types::{Sv39, Sv48};
+
+#[test]
+fn calls_return_what_is_wanted(rt: HostRuntime) -> Result<(), Fail> {
+    follow::<Sv39>(&rt, rt.alloc(), &calls::ROWS)?;
+    follow::<Sv39>(&rt, rt.alloc(), &sharing::ROWS)?;
+    follow::<Sv39>(&rt, rt.alloc(), &wants::ROWS)?;
+    follow::<Sv48>(&rt, rt.alloc(), &[calls::FOUR_LEVELS])
+}
+
+#[test]
+fn pages_go_and_come_back_in_both_modes(rt: HostRuntime) -> Result<(), Fail> {
+    let rows = &evictions::ROWS;
+    follow::<Sv39>(&rt, rt.alloc(), rows)?;
+    follow::<Sv48>(&rt, rt.alloc(), rows)
+}

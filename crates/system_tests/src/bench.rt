@@ -1,0 +1,217 @@
+//! Images on devices in memory, and traces that are run on machines over them.
+//!
+//! No test holds a machine, or compares replies by itself: it names a trace and the replies that are wanted. Each comparison and each
+//! `?` is a way out, which lets go of all that a function holds, and for a machine, a device or replies that takes long to prove.
+use disk_model::SimDisk;
+use file_store::{FileSource, format};
+use machine::{BootFault, Config};
+use runner::{Devices, RunEnd, run_on};
+use std::alloc::Global;
+use std::fmt::Debug;
+use std::io::{Read, Write};
+use std::test::Fail;
+use sync_journal::Journals;
+use vm_types::Mode;
+
+/// A trace, and the replies that are wanted.
+pub(crate) type Exchange<'a> = (&'a [u8], &'a [u8]);
+
+/// How a run ends, and whether the machine is halted then; or why none starts.
+pub(crate) type Ending = Result<(RunEnd, bool), BootFault>;
+
+/// The fault that a device is to have: the store's, or that of swap, whose calls are counted from the start of the machine on.
+#[derive(Clone, Copy)]
+pub(crate) enum Armed {
+    Nothing,
+    StoreFailsAtCall(u64),
+    SwapFailsAtCall(u64),
+}
+
+/// More frames than most traces ask for.
+pub(crate) const CONFIG: Config = Config {
+    frames: 64,
+    slots: 16,
+    mode: Mode::Sv39,
+};
+
+/// The fewest frames: with one process and pages that lie together there are four for pages, beside the zero page and three tables.
+pub(crate) const SMALL: Config = Config {
+    frames: 8,
+    slots: 16,
+    mode: Mode::Sv39,
+};
+
+/// What a trace is run on: a machine of that size over a file of so many zeros, in a store of these journals, and the fault of its
+/// devices.
+#[derive(Clone, Copy)]
+pub(crate) struct Setting {
+    pub(crate) length: u32,
+    pub(crate) journals: Journals,
+    pub(crate) config: Config,
+    pub(crate) armed: Armed,
+}
+
+/// A machine of 64 frames over a page of zeros, whose devices have no fault.
+pub(crate) const PLAIN: Setting = Setting {
+    length: 4096,
+    journals: Journals::Single,
+    config: CONFIG,
+    armed: Armed::Nothing,
+};
+
+/// What became of a run: how it ended, and the device of the store.
+#[derive(Drop)]
+struct Told {
+    ending: Ending,
+    store: SimDisk,
+}
+
+/// Sees that the value found is the one that is wanted.
+pub(crate) fn same<T: Copy + PartialEq + Debug>(
+    what: &str,
+    found: T,
+    wanted: T,
+) -> Result<(), Fail> {
+    if found == wanted {
+        Ok(())
+    } else {
+        Err(Fail::new(format_args!("{what}: {found:?}, and not {wanted:?}")))
+    }
+}
+
+/// An image of one file, of so many zeros or of these bytes, which may only be read then, in a store of these journals.
+pub(crate) fn image(
+    alloc: Global,
+    journals: Journals,
+    length: u32,
+    bytes: Option<&[u8]>,
+) -> Result<SimDisk, Fail> {
+    let homes = match journals {
+        Journals::Single => 8195,
+        Journals::Paired => 16408,
+    };
+    let mut disk = SimDisk::new(alloc, homes + 8 * u64::from(length).div_ceil(4096))?;
+    let mut files: [FileSource<&[u8]>; 1] = [FileSource {
+        read_only: bytes.is_some(),
+        length,
+        bytes,
+    }];
+    format(&mut disk, journals, &mut files)?;
+    Ok(disk)
+}
+
+/// Devices with that fault: the image as it was last synced, and sixteen slots.
+fn devices(
+    alloc: Global,
+    image: &SimDisk,
+    armed: Armed,
+) -> Result<Devices<SimDisk, SimDisk>, Fail> {
+    let mut store = image.left(alloc, &[])?;
+    let mut swap = SimDisk::new(alloc, 128)?;
+    match armed {
+        Armed::Nothing => {}
+        Armed::StoreFailsAtCall(call) => store.fail_at(call),
+        Armed::SwapFailsAtCall(call) => swap.fail_at(call),
+    }
+    Ok(Devices { store, swap })
+}
+
+/// Runs a trace over an image as it was last synced.
+fn ran(
+    alloc: Global,
+    image: &SimDisk,
+    (config, armed): (Config, Armed),
+    trace: &[u8],
+    output: &mut Vec<u8>,
+) -> Result<Told, Fail> {
+    let devices = devices(alloc, image, armed)?;
+    let mut reader = trace;
+    match run_on(alloc, config, devices, &mut reader, output) {
+        Ok((end, machine)) => Ok(Told {
+            ending: Ok((end, machine.is_halted())),
+            store: machine.into_store(),
+        }),
+        Err((fault, store)) => Ok(Told {
+            ending: Err(fault),
+            store,
+        }),
+    }
+}
+
+/// Sees the replies to a trace over an image, and how its run ends: the device of the store, as it is left.
+pub(crate) fn left_over(
+    alloc: Global,
+    image: &SimDisk,
+    run: (Config, Armed),
+    exchange: Exchange<'_>,
+    ending: Ending,
+) -> Result<SimDisk, Fail> {
+    let (trace, wanted) = exchange;
+    let mut output = Vec::new(alloc);
+    let told = ran(alloc, image, run, trace, &mut output)?;
+    same("replies", output.as_slice(), wanted)?;
+    same("end", told.ending, ending)?;
+    Ok(told.store)
+}
+
+/// The end of a trace, on a machine that goes on.
+pub(crate) const GOES_ON: Ending = Ok((RunEnd::Done, false));
+
+/// The device of the store, as a machine leaves it that gives these replies to a trace.
+pub(crate) fn left_in(
+    alloc: Global,
+    setting: Setting,
+    exchange: Exchange<'_>,
+    ending: Ending,
+) -> Result<SimDisk, Fail> {
+    let image = image(alloc, setting.journals, setting.length, None)?;
+    left_over(
+        alloc,
+        &image,
+        (setting.config, setting.armed),
+        exchange,
+        ending,
+    )
+}
+
+/// Sees that machines give these replies to traces, each from a new start.
+pub(crate) fn expect_all(
+    alloc: Global,
+    setting: Setting,
+    exchanges: &[Exchange<'_>],
+) -> Result<(), Fail> {
+    for exchange in exchanges {
+        let _ = left_in(alloc, setting, *exchange, GOES_ON)?;
+    }
+    Ok(())
+}
+
+/// Sees that a machine gives these replies to a trace: how many writes and syncs its store's device has behind those of its start.
+pub(crate) fn asked_after_start(
+    alloc: Global,
+    setting: Setting,
+    exchange: Exchange<'_>,
+) -> Result<(u64, u64), Fail> {
+    let at_start = left_in(alloc, setting, (b"", b""), GOES_ON)?;
+    let (writes, syncs) = (at_start.writes(), at_start.syncs());
+    drop(at_start);
+    let store = left_in(alloc, setting, exchange, GOES_ON)?;
+    Ok((
+        store.writes().saturating_sub(writes),
+        store.syncs().saturating_sub(syncs),
+    ))
+}
+
+/// How a run of that reader and that writer ends on a machine of 64 frames over a file of one page of zeros.
+pub(crate) fn streamed<R: Read, W: Write>(
+    alloc: Global,
+    reader: &mut R,
+    writer: &mut W,
+) -> Result<RunEnd, Fail> {
+    let image = image(alloc, Journals::Single, 4096, None)?;
+    let devices = devices(alloc, &image, Armed::Nothing)?;
+    match run_on(alloc, CONFIG, devices, reader, writer) {
+        Ok((end, _)) => Ok(end),
+        Err((fault, _)) => Err(Fail::new(format_args!("boot: {fault:?}"))),
+    }
+}
