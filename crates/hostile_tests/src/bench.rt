@@ -3,15 +3,14 @@ use crate::fillings::{EACH, FILLINGS, OLD, OPEN};
 use crate::judge::{Judge, heard};
 use crate::short_disk::ShortDisk;
 use disk_model::SimDisk;
-use file_store::{FileSource, FileStore, format};
+use file_store::{FileSource, FileStore, OpenFault, format};
 use machine::{BootFault, Config};
 use runner::{Devices, RunEnd, run_on};
-use std::alloc::Global;
-use std::test::Fail;
+use std::process::Abort;
 use sync_journal::Journals;
 
 /// The fault that a device is to have: the store's, or that of swap, whose calls are counted from the start of the machine on.
-#[derive(Clone, Copy, Debug)]
+#[derive(Clone, Copy)]
 pub(crate) enum Armed {
     Nothing,
     StopAtWrite(u64),
@@ -52,45 +51,49 @@ pub(crate) struct Told {
     pub store: ShortDisk,
 }
 
-/// Fails where something does not hold.
-pub(crate) fn expect(holds: bool, otherwise: &str) -> Result<(), Fail> {
-    if holds {
-        Ok(())
-    } else {
-        Err(Fail::new(format_args!("{otherwise}")))
-    }
+/// Ends the test where something does not hold.
+pub(crate) fn expect(rt: &impl Abort, holds: bool, otherwise: &str) {
+    assert!(rt; holds, "{otherwise}");
 }
 
-/// The device of an image once its store was opened.
-pub(crate) fn opened(image: ShortDisk) -> Result<ShortDisk, Fail> {
+/// Why the store of an image was not opened, if so, and its device.
+pub(crate) fn tried(image: ShortDisk) -> (Option<OpenFault>, ShortDisk) {
     match FileStore::open(image) {
-        Ok(store) => Ok(store.into_disk()),
-        Err((fault, _)) => Err(Fail::new(format_args!("open: {fault:?}"))),
+        Ok(store) => (None, store.into_disk()),
+        Err((fault, disk)) => (Some(fault), disk),
     }
 }
 
 impl Case<'_> {
     /// The image before the trace.
-    pub(crate) fn image(&self, alloc: Global) -> Result<ShortDisk, Fail> {
-        let mut files: Vec<FileSource<&[u8]>> = Vec::new(alloc);
+    pub(crate) fn image(&self, rt: &(impl AllocGlobal + Abort)) -> ShortDisk {
+        let mut files: Vec<FileSource<&[u8]>> = Vec::new(rt.alloc());
         let mut homes: u64 = 0;
         for length in self.lengths {
             homes = homes.saturating_add(u64::from(length.div_ceil(4096)));
-            files.push(FileSource {
-                read_only: false,
-                length: *length,
-                bytes: None,
-            })?;
+            files
+                .push(FileSource {
+                    read_only: false,
+                    length: *length,
+                    bytes: None,
+                })
+                .expect(rt, "memory");
         }
-        let mut disk = ShortDisk::new(alloc, self.journals, homes)?;
-        format(&mut disk, self.journals, files.as_mut_slice())?;
-        Ok(disk)
+        let mut disk = ShortDisk::new(rt.alloc(), self.journals, homes).expect(rt, "memory");
+        format(&mut disk, self.journals, files.as_mut_slice()).expect(rt, "a store");
+        disk
     }
 
     /// Runs it over its image, on a machine one of whose devices may fail.
-    pub(crate) fn ran(&self, alloc: Global, image: &ShortDisk, armed: Armed) -> Result<Told, Fail> {
-        let mut store = image.left(alloc, None)?;
-        let mut swap = SimDisk::new(alloc, 8 * u64::from(self.config.slots))?;
+    pub(crate) fn ran(
+        &self,
+        rt: &(impl AllocGlobal + Abort),
+        image: &ShortDisk,
+        armed: Armed,
+    ) -> Told {
+        let alloc = rt.alloc();
+        let mut store = image.left(alloc, None).expect(rt, "memory");
+        let mut swap = SimDisk::new(alloc, 8 * u64::from(self.config.slots)).expect(rt, "memory");
         match armed {
             Armed::Nothing => {}
             Armed::StopAtWrite(write) => store.disk.stop_at(write),
@@ -101,16 +104,16 @@ impl Case<'_> {
         let mut output = Vec::new(alloc);
         let devices = Devices { store, swap };
         match run_on(alloc, self.config, devices, &mut reader, &mut output) {
-            Ok((end, machine)) => Ok(Told {
+            Ok((end, machine)) => Told {
                 end: Ok(end),
                 output,
                 store: machine.into_store(),
-            }),
-            Err((fault, store)) => Ok(Told {
+            },
+            Err((fault, store)) => Told {
                 end: Err(fault),
                 output,
                 store,
-            }),
+            },
         }
     }
 
@@ -119,11 +122,11 @@ impl Case<'_> {
     /// named in turn: the second by what opens a gate, and the first by other bytes, of which the old ones are none.
     pub(crate) fn standing(
         &self,
-        alloc: Global,
+        rt: &(impl AllocGlobal + Abort),
         told: &Told,
         judge: &Judge,
         filling: usize,
-    ) -> Result<Vec<u8>, Fail> {
+    ) -> Vec<u8> {
         let write = told.store.disk.writes();
         let at_gate = self.gates.get(judge.synced) == Some(&write);
         let is_named = match self.journals {
@@ -132,50 +135,48 @@ impl Case<'_> {
         };
         let is_done = at_gate && is_named;
         let wanted = match &judge.before {
-            Some(before) if !is_done => before.clone()?,
-            _ => judge.flat.durable(alloc)?,
+            Some(before) if !is_done => before.clone().expect(rt, "memory"),
+            _ => judge.flat.durable(rt.alloc()).expect(rt, "memory"),
         };
-        let left = opened(told.store.left(alloc, FILLINGS[filling % 5])?)?;
-        if left.homes(alloc)?.as_slice() == wanted.as_slice() {
-            Ok(wanted)
-        } else {
-            Err(Fail::new(format_args!("write {write}, filling {filling}: other files")))
-        }
+        let left = told.store.left(rt.alloc(), FILLINGS[filling % 5]);
+        let (fault, left) = tried(left.expect(rt, "memory"));
+        let found = left.homes(rt.alloc()).expect(rt, "memory");
+        let is_same = fault.is_none() && found.as_slice() == wanted.as_slice();
+        assert!(rt; is_same, "write {write}, filling {filling}: other files");
+        wanted
     }
 
     /// How many lines stalled or failed with that fault, or 1 where no machine started. What is left stands as the judge says with
     /// these fillings.
     pub(crate) fn failures(
         &self,
-        alloc: Global,
+        rt: &(impl AllocGlobal + Abort),
         image: &ShortDisk,
         armed: Armed,
         fillings: &[usize],
-    ) -> Result<usize, Fail> {
-        let told = self.ran(alloc, image, armed)?;
-        let judge = heard(alloc, self, &told, armed)?;
+    ) -> usize {
+        let told = self.ran(rt, image, armed);
+        let judge = heard(rt, self, &told, armed.stall());
         for filling in fillings {
-            self.standing(alloc, &told, &judge, *filling)?;
+            self.standing(rt, &told, &judge, *filling);
         }
         let failed = usize::from(judge.before.is_some() || told.end.is_err());
-        Ok(judge.stalls.saturating_add(failed))
+        judge.stalls.saturating_add(failed)
     }
 
     /// How many calls and writes the store has in a run where no device fails, whose replies are those that are wanted.
-    pub(crate) fn asked(&self, alloc: Global, image: &ShortDisk) -> Result<(u64, u64), Fail> {
-        let told = self.ran(alloc, image, Armed::Nothing)?;
-        expect(
-            told.output.as_slice() == self.replies,
-            "other replies than wanted",
-        )?;
-        Ok((told.store.disk.calls(), told.store.disk.writes()))
+    pub(crate) fn asked(&self, rt: &(impl AllocGlobal + Abort), image: &ShortDisk) -> (u64, u64) {
+        let told = self.ran(rt, image, Armed::Nothing);
+        let is_same = told.output.as_slice() == self.replies;
+        expect(rt, is_same, "other replies than wanted");
+        (told.store.disk.calls(), told.store.disk.writes())
     }
 
     /// Tries a stop at each write of the store, or else a failure of each of its calls: each stalls a line, fails an msync or lets
     /// no machine start.
-    pub(crate) fn try_each(&self, alloc: Global, with_stops: bool) -> Result<(), Fail> {
-        let image = self.image(alloc)?;
-        let (calls, writes) = self.asked(alloc, &image)?;
+    pub(crate) fn try_each(&self, rt: &(impl AllocGlobal + Abort), with_stops: bool) {
+        let image = self.image(rt);
+        let (calls, writes) = self.asked(rt, &image);
         let count = if with_stops { writes } else { calls };
         for at in 1..=count {
             let armed = if with_stops {
@@ -183,9 +184,8 @@ impl Case<'_> {
             } else {
                 Armed::FailAtCall(at)
             };
-            let failures = self.failures(alloc, &image, armed, &EACH)?;
-            expect(failures == 1, "not one failure")?;
+            let failures = self.failures(rt, &image, armed, &EACH);
+            assert!(rt; failures == 1, "{at}: not one failure");
         }
-        Ok(())
     }
 }

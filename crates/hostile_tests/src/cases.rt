@@ -1,8 +1,7 @@
 //! The traces that are stopped and fail.
 use crate::bench::Case;
 use machine::Config;
-use std::alloc::Global;
-use std::test::Fail;
+use std::process::Abort;
 use sync_journal::Journals;
 use vm_types::Mode;
 
@@ -209,16 +208,22 @@ pub(crate) const MOST_PAGES: Case<'static> = Case {
 };
 
 /// A byte is stored at the start of each of 1,023 pages, and another one at that of 1,024.
-pub(crate) fn most_pages(alloc: Global) -> Result<Vec<u8>, Fail> {
-    let mut trace = Vec::new(alloc);
-    trace.extend_from_slice(b"spawn\nmmap 1 0 0x400000 rw- shared 0 0\n")?;
+pub(crate) fn most_pages(rt: &(impl AllocGlobal + Abort)) -> Vec<u8> {
+    let start = b"spawn\nmmap 1 0 0x400000 rw- shared 0 0\n".as_slice();
+    let mut trace = Vec::new(rt.alloc());
+    trace.extend_from_slice(start).expect(rt, "memory");
     for (byte, end) in [(1_u8, 16 + 1023_u32), (2, 16 + 1024)] {
         for page in 16..end {
-            let line = format!(in alloc; "store 1 0x{page:x}000 1 {byte}\n")?;
-            trace.extend_from_slice(line.as_bytes())?;
+            let line = format!(in rt.alloc(); "store 1 0x{page:x}000 1 {byte}\n");
+            let line = line.expect(rt, "memory");
+            trace
+                .extend_from_slice(line.as_bytes())
+                .expect(rt, "memory");
         }
-        trace.extend_from_slice(b"msync 1 0x10000 0x400000 sync\n")?;
+        let line = b"msync 1 0x10000 0x400000 sync\n".as_slice();
+        trace.extend_from_slice(line).expect(rt, "memory");
     }
-    trace.extend_from_slice(b"msync 1 0x10000 0x200000 sync\nmsync 1 0x210000 0x200000 sync\n")?;
-    Ok(trace)
+    let halves = b"msync 1 0x10000 0x200000 sync\nmsync 1 0x210000 0x200000 sync\n".as_slice();
+    trace.extend_from_slice(halves).expect(rt, "memory");
+    trace
 }

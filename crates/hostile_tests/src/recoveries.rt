@@ -4,14 +4,13 @@
 //! its writes, what that leaves is recovered and stopped at each write, and so once more. Of the ways to fill what the three
 //! stopped recoveries leave, those are left out in which the filling of one isn't the next of `FILLINGS` after that of the one
 //! before; for the longest trace the first stop takes one filling a write, the next each time. So each test takes seconds.
-use crate::bench::{Armed, Case, expect, opened};
+use crate::bench::{Armed, Case, expect, tried};
 use crate::cases::{ONE_PAGE_IN_TURN, PARTIAL_PAGE, TWO_FILES, TWO_PROCESSES};
 use crate::fillings::{EACH, FILLINGS, OPEN};
 use crate::judge::heard;
 use crate::short_disk::ShortDisk;
-use file_store::{FileStore, OpenFault};
-use std::alloc::Global;
-use std::test::Fail;
+use file_store::OpenFault;
+use std::process::Abort;
 
 /// How many recoveries are stopped in a row.
 const STOPS: usize = 3;
@@ -25,94 +24,95 @@ struct Left {
 }
 
 /// Recovers an image, which has to give these homes: how many writes that took.
-fn recover(alloc: Global, disk: ShortDisk, wanted: &[u8]) -> Result<u64, Fail> {
-    let disk = opened(disk)?;
-    expect(disk.homes(alloc)?.as_slice() == wanted, "other files")?;
-    Ok(disk.disk.writes())
+fn recover(rt: &(impl AllocGlobal + Abort), disk: ShortDisk, wanted: &[u8]) -> u64 {
+    let (fault, disk) = tried(disk);
+    let found = disk.homes(rt.alloc()).expect(rt, "memory");
+    let is_same = fault.is_none() && found.as_slice() == wanted;
+    expect(rt, is_same, "other files");
+    disk.disk.writes()
 }
 
 /// Recovers an image, which has to give these homes, and lists what stops at each write of that leave of it.
 fn stop_at_each(
-    alloc: Global,
-    left: Left,
+    rt: &(impl AllocGlobal + Abort),
+    before: Left,
     wanted: &[u8],
     list: &mut Vec<Left>,
-) -> Result<(), Fail> {
-    if left.stops >= STOPS {
-        recover(alloc, left.disk, wanted)?;
-        return Ok(());
+) {
+    if before.stops >= STOPS {
+        recover(rt, before.disk, wanted);
+        return;
     }
-    for write in 1..=recover(alloc, left.disk.left(alloc, None)?, wanted)? {
-        let mut disk = left.disk.left(alloc, None)?;
+    let copy = before.disk.left(rt.alloc(), None).expect(rt, "memory");
+    for write in 1..=recover(rt, copy, wanted) {
+        let mut disk = before.disk.left(rt.alloc(), None).expect(rt, "memory");
         disk.disk.stop_at(write);
-        let Err((OpenFault::Device, disk)) = FileStore::open(disk) else {
-            return Err(Fail::new(format_args!("write {write} stopped nothing")));
-        };
+        let (fault, disk) = tried(disk);
+        expect(rt, fault == Some(OpenFault::Device), "it stopped nothing");
+        let left = disk.left(rt.alloc(), FILLINGS[before.filling % 5]);
         list.push(Left {
-            disk: disk.left(alloc, FILLINGS[left.filling % 5])?,
-            stops: left.stops.saturating_add(1),
-            filling: left.filling.saturating_add(1),
-        })?;
+            disk: left.expect(rt, "memory"),
+            stops: before.stops.saturating_add(1),
+            filling: before.filling.saturating_add(1),
+        })
+        .expect(rt, "memory");
     }
-    Ok(())
 }
 
 /// Recovers what a stop at that write leaves with these fillings, and what stops of that leave in a row: it gives the files as one
 /// recovery does.
 fn stop_at(
-    alloc: Global,
+    rt: &(impl AllocGlobal + Abort),
     case: &Case<'_>,
     image: &ShortDisk,
     write: u64,
     fillings: &[usize],
-) -> Result<(), Fail> {
-    let armed = Armed::StopAtWrite(write);
-    let told = case.ran(alloc, image, armed)?;
-    let judge = heard(alloc, case, &told, armed)?;
-    let mut list = Vec::new(alloc);
+) {
+    let told = case.ran(rt, image, Armed::StopAtWrite(write));
+    let judge = heard(rt, case, &told, b"");
+    let mut list = Vec::new(rt.alloc());
     for filling in fillings {
-        let wanted = case.standing(alloc, &told, &judge, *filling)?;
+        let wanted = case.standing(rt, &told, &judge, *filling);
+        let left = told.store.left(rt.alloc(), FILLINGS[*filling % 5]);
         list.push(Left {
-            disk: told.store.left(alloc, FILLINGS[*filling % 5])?,
+            disk: left.expect(rt, "memory"),
             stops: 0,
             filling: filling.saturating_add(1),
-        })?;
+        })
+        .expect(rt, "memory");
         for _ in 0..u64::MAX {
             match list.pop() {
-                Some(left) => stop_at_each(alloc, left, wanted.as_slice(), &mut list)?,
+                Some(left) => stop_at_each(rt, left, wanted.as_slice(), &mut list),
                 None => break,
             }
         }
     }
-    Ok(())
 }
 
 #[test]
-fn stopped_recoveries_of_an_msync_change_nothing(rt: HostRuntime) -> Result<(), Fail> {
+fn stopped_recoveries_of_an_msync_change_nothing(rt: HostRuntime) {
     for (case, writes) in [(PARTIAL_PAGE, 17), (TWO_FILES, 25)] {
-        let image = case.image(rt.alloc())?;
+        let image = case.image(&rt);
         for write in 1..=writes {
-            stop_at(rt.alloc(), &case, &image, write, &EACH)?;
+            stop_at(&rt, &case, &image, write, &EACH);
         }
     }
-    Ok(())
 }
 
 /// Write 17 opens the gate, where its sector holds all that opens it.
 #[test]
-fn stopped_recoveries_of_a_second_msync_change_nothing(rt: HostRuntime) -> Result<(), Fail> {
-    let image = TWO_PROCESSES.image(rt.alloc())?;
+fn stopped_recoveries_of_a_second_msync_change_nothing(rt: HostRuntime) {
+    let image = TWO_PROCESSES.image(&rt);
     for write in 1..44 {
         let filling = (write + 2) % 5;
-        stop_at(rt.alloc(), &TWO_PROCESSES, &image, write as u64, &[filling])?;
+        stop_at(&rt, &TWO_PROCESSES, &image, write as u64, &[filling]);
     }
-    Ok(())
 }
 
 /// A recovery of two journals in turn is a commit of no pages, of seventeen writes for one page. The first stop comes at the gate that
 /// names the second journal.
 #[test]
-fn stopped_recoveries_of_journals_in_turn_change_nothing(rt: HostRuntime) -> Result<(), Fail> {
-    let image = ONE_PAGE_IN_TURN.image(rt.alloc())?;
-    stop_at(rt.alloc(), &ONE_PAGE_IN_TURN, &image, 17, &[OPEN])
+fn stopped_recoveries_of_journals_in_turn_change_nothing(rt: HostRuntime) {
+    let image = ONE_PAGE_IN_TURN.image(&rt);
+    stop_at(&rt, &ONE_PAGE_IN_TURN, &image, 17, &[OPEN]);
 }

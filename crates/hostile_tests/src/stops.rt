@@ -5,13 +5,12 @@ use crate::cases::{
     MOST_PAGES, ONE_PAGE, ONE_PAGE_IN_TURN, PAGE_IN_THE_JOURNAL, PAGES_IN_SLOTS, PARTIAL_PAGE,
     TWO_FILES_TWICE, TWO_PAGES_IN_TURN, TWO_PROCESSES, most_pages,
 };
-use std::test::Fail;
 
 /// Before the second msync of a page first the home of the first one's is written, then the gate is closed, and only then come the
 /// map, the body and the gate. Of two journals in turn the other one is written first, and homes that the new one doesn't take, and
 /// then the gate. Several pages are all old or all new.
 #[test]
-fn pages_are_all_old_or_all_new(rt: HostRuntime) -> Result<(), Fail> {
+fn pages_are_all_old_or_all_new(rt: HostRuntime) {
     for case in [
         ONE_PAGE,
         PARTIAL_PAGE,
@@ -22,20 +21,19 @@ fn pages_are_all_old_or_all_new(rt: HostRuntime) -> Result<(), Fail> {
         TWO_FILES_TWICE,
         PAGES_IN_SLOTS,
     ] {
-        case.try_each(rt.alloc(), true)?;
+        case.try_each(&rt, true);
     }
-    Ok(())
 }
 
 /// At some writes, at those of the three gates among them, each with one filling. There is no write 29,000: that run goes to its end.
 #[test]
-fn as_many_pages_as_an_msync_takes_change_at_once(rt: HostRuntime) -> Result<(), Fail> {
-    let trace = most_pages(rt.alloc())?;
+fn as_many_pages_as_an_msync_takes_change_at_once(rt: HostRuntime) {
+    let trace = most_pages(&rt);
     let case = Case {
         trace: trace.as_slice(),
         ..MOST_PAGES
     };
-    let image = case.image(rt.alloc())?;
+    let image = case.image(&rt);
     let stops = [
         (4000, 1),
         (8193, 4),
@@ -47,11 +45,11 @@ fn as_many_pages_as_an_msync_takes_change_at_once(rt: HostRuntime) -> Result<(),
         (29000, 0),
     ];
     for (write, filling) in stops {
-        let failures = case.failures(rt.alloc(), &image, Armed::StopAtWrite(write), &[filling])?;
+        let failures = case.failures(&rt, &image, Armed::StopAtWrite(write), &[filling]);
         expect(
+            &rt,
             failures == usize::from(write < 29000),
             "no failure, or one too many",
-        )?;
+        );
     }
-    Ok(())
 }

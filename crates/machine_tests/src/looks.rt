@@ -1,37 +1,20 @@
 //! A machine is looked into once a byte was stored to one of two pages.
 ghost use Rattle.machine.specs.Machine.{IsSoundMachine};
 
-use crate::machines::{booted, equal, image};
+use crate::bench::{Act, CONFIG, Call, End, carry_out, equal, first, image, with_swap};
 use disk_model::SectorDisk;
 use inspection::{FrameView, Holding, PageView, Place, SlotHolding, SlotView, Step, TablePlace};
-use machine::Machine;
+use machine::{Config, Machine};
+use runner::Devices;
 use std::process::Abort;
-use std::test::Fail;
-use vm_types::{
-    Command, FilePage, FrameNo, MapSource, Mode, PageKey, Pid, Placing, Prot, Reply, SlotNo,
-    StoredValue, Width,
-};
+use vm_types::{FilePage, FrameNo, Mode, PageKey, Pid, SlotNo};
 
 /// Stores a byte to the first of two pages that a new process has from 0x10000 on.
-fn store<D: SectorDisk, E: SectorDisk>(machine: &mut Machine<D, E>, stored: StoredValue) -> Reply
-    requires sound { IsSoundMachine D.SectorDisk E.SectorDisk machine.old }
-    ensures sound { IsSoundMachine D.SectorDisk E.SectorDisk machine.new }
-{
-    let _spawned = machine.step(Command::Spawn);
-    let _mapped = machine.step(Command::Mmap {
-        pid: 1,
-        addr: 0x10000,
-        len: 8192,
-        prot: Prot::READ | Prot::WRITE,
-        source: MapSource::Anon,
-        placing: Placing::Fixed,
-    });
-    machine.step(Command::Store {
-        pid: 1,
-        addr: 0x10000,
-        stored,
-    })
-}
+const STORES: [Act; 3] = [
+    Act::Steps(Call::Spawn, End::Spawned),
+    Act::Steps(Call::MapTwo, End::Mapped),
+    Act::Steps(Call::Store(0x5a), End::Done),
+];
 
 /// The step of the lowest table on the way to a page.
 fn leaf_of<D: SectorDisk, E: SectorDisk>(
@@ -150,18 +133,35 @@ fn look_at_frames<D: SectorDisk, E: SectorDisk>(
     equal(rt, inspection::hand(machine), Some(FrameNo(0)));
 }
 
+/// Stores a byte on a machine, and looks into it.
+fn look_after_a_store<D: SectorDisk + Drop, E: SectorDisk + Drop>(
+    rt: &(impl AllocGlobal + Abort),
+    config: Config,
+    devices: Devices<D, E>,
+) {
+    let Devices { store, swap } = devices;
+    match Machine::boot(rt.alloc(), config, store, swap) {
+        Ok(mut machine) => {
+            carry_out(rt, &mut machine, &STORES);
+            let leaf = leaf_of(&machine, first(rt), 16).expect(rt, "a leaf");
+            look_at_tables(rt, &machine, first(rt), leaf);
+            let own = u32::try_from(leaf.entry.frame()).ok().expect(rt, "a frame");
+            look_at_frames(rt, &machine, FrameNo(own));
+            let _store = machine.into_store();
+        }
+        Err((fault, _store)) => equal(rt, Some(fault), None),
+    }
+}
+
 /// Each look finds the page that was stored to, in both modes.
 #[test]
-fn a_stored_page_is_found(rt: HostRuntime) -> Result<(), Fail> {
-    let pid = Pid::new(1).ok_or("a process")?;
-    let stored = StoredValue::new(Width::One, 0x5a).ok_or("a byte")?;
+fn a_stored_page_is_found(rt: HostRuntime) {
     for mode in [Mode::Sv39, Mode::Sv48] {
-        let mut machine = booted(rt.alloc(), 16, mode, image(rt.alloc(), true, None)?)?;
-        equal(&rt, store(&mut machine, stored), Reply::Done);
-        let leaf = leaf_of(&machine, pid, 16).ok_or("a leaf")?;
-        look_at_tables(&rt, &machine, pid, leaf);
-        let own = u32::try_from(leaf.entry.frame()).ok().ok_or("a frame")?;
-        look_at_frames(&rt, &machine, FrameNo(own));
+        let config = Config {
+            frames: 16,
+            mode,
+            ..CONFIG
+        };
+        look_after_a_store(&rt, config, with_swap(&rt, image(&rt, true), 128));
     }
-    Ok(())
 }

@@ -1,8 +1,8 @@
 //! What is refused, and the largest plan.
-use super::client::{Client, carry_out, equal, lent_of, new_store, rows_of, zeros};
+use super::client::{Client, carry_out, equal, expect, lent_of, new_store, rows_of, zeros};
 use disk_model::SimDisk;
 use file_store::format;
-use std::test::Fail;
+use std::process::Abort;
 use sync_journal::Journals;
 use sync_plans::{PageUpdates, Refusal};
 use vm_types::FilePage;
@@ -10,12 +10,12 @@ use vm_types::FilePage;
 const FIRST: FilePage = FilePage { file: 0, page: 0 };
 
 #[test]
-fn no_store_and_bad_pages_are_refused(rt: HostRuntime) -> Result<(), Fail> {
-    let disk = new_store(rt.alloc(), Journals::Single)?;
-    let mut client = Client::new(rt.alloc())?;
+fn no_store_and_bad_pages_are_refused(rt: HostRuntime) {
+    let disk = new_store(&rt, Journals::Single);
+    let mut client = Client::new(&rt);
     equal(&rt, client.ask(&[], None), Err(Refusal::BadLayout));
-    let image = rows_of(rt.alloc(), &disk)?;
-    let lent = lent_of(rt.alloc(), &[[9; 4096]; 2])?;
+    let image = rows_of(&rt, &disk);
+    let lent = lent_of(&rt, &[[9; 4096]; 2]);
     for (file, page, wanted) in [
         (0, 2, Refusal::BadPages),
         (0, 0, Refusal::BadPages),
@@ -29,33 +29,29 @@ fn no_store_and_bad_pages_are_refused(rt: HostRuntime) -> Result<(), Fail> {
         let answer = client.ask(image.as_slice(), Some(updates));
         equal(&rt, answer, Err(wanted));
     }
-    Ok(())
 }
 
 /// So many calls take 1,023 pages, and 1,023 more.
 #[test]
-fn the_largest_plan_has_room(rt: HostRuntime) -> Result<(), Fail> {
-    let mut disk = SimDisk::new(rt.alloc(), 16379)?;
-    format(
-        &mut disk,
-        Journals::Single,
-        &mut [zeros(1023 * 4096, false)],
-    )?;
-    let mut client = Client::new(rt.alloc())?;
+fn the_largest_plan_has_room(rt: HostRuntime) {
+    let mut disk = SimDisk::new(rt.alloc(), 16379).expect(&rt, "memory");
+    let mut files = [zeros(1023 * 4096, false)];
+    format(&mut disk, Journals::Single, &mut files).expect(&rt, "a store");
+    let mut client = Client::new(&rt);
     let mut pages = Vec::new(rt.alloc());
     for page in 0..1023 {
-        pages.push(FilePage { file: 0, page })?;
+        pages.push(FilePage { file: 0, page }).expect(&rt, "memory");
     }
-    let bytes = Vec::from_elem(rt.alloc(), [9; 4096], 1023)?;
-    let lent = lent_of(rt.alloc(), bytes.as_slice())?;
+    let bytes = Vec::from_elem(rt.alloc(), [9; 4096], 1023).expect(&rt, "memory");
+    let lent = lent_of(&rt, bytes.as_slice());
     for calls in [1034, 2060] {
-        let image = rows_of(rt.alloc(), &disk)?;
+        let image = rows_of(&rt, &disk);
         let updates = PageUpdates {
             pages: pages.as_slice(),
             bytes: lent.as_slice(),
         };
         equal(&rt, client.ask(image.as_slice(), Some(updates)), Ok(calls));
-        carry_out(&mut disk, &client.plan, lent.as_slice(), 0, calls)?;
+        let is_done = carry_out(&mut disk, &client.plan, lent.as_slice(), 0, calls);
+        expect(&rt, is_done, "a plan that can't be carried out");
     }
-    Ok(())
 }

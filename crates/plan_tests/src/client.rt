@@ -1,10 +1,8 @@
 //! Who asks for plans and carries them out.
 use disk_model::{SectorDisk, SimDisk};
 use file_store::{FileSource, format};
-use std::alloc::{AllocError, Global};
 use std::fmt::Debug;
 use std::process::Abort;
-use std::test::Fail;
 use sync_journal::Journals;
 use sync_plans::{
     Call, PageBytes, PageUpdates, ROOM, Refusal, Scratch, file_facts, plan_commit, plan_open,
@@ -14,6 +12,11 @@ use vm_types::FilePage;
 /// Ends the test where the value isn't the one that is wanted. A test that said `assert_eq!` itself would be proved to end well at each place.
 pub(crate) fn equal<T: PartialEq + Debug + Drop>(rt: &impl Abort, got: T, want: T) {
     assert_eq!(rt; got, want);
+}
+
+/// Ends the test where something does not hold.
+pub(crate) fn expect(rt: &impl Abort, holds: bool, otherwise: &str) {
+    assert!(rt; holds, "{otherwise}");
 }
 
 /// All pages, and how long their files are: one of 5,000 bytes, one of a byte that may only be read, and one of 4,096 bytes.
@@ -34,36 +37,36 @@ pub(crate) fn zeros(length: u32, read_only: bool) -> FileSource<&'static [u8]> {
 }
 
 /// A new store of the files of `PLACES`, all zeros.
-pub(crate) fn new_store(alloc: Global, journals: Journals) -> Result<SimDisk, Fail> {
+pub(crate) fn new_store(rt: &(impl AllocGlobal + Abort), journals: Journals) -> SimDisk {
     let sectors = match journals {
         Journals::Single => 8227,
         Journals::Paired => 16440,
     };
-    let mut disk = SimDisk::new(alloc, sectors)?;
+    let mut disk = SimDisk::new(rt.alloc(), sectors).expect(rt, "memory");
     let mut files = [zeros(5000, false), zeros(1, true), zeros(4096, false)];
-    format(&mut disk, journals, &mut files)?;
-    Ok(disk)
+    format(&mut disk, journals, &mut files).expect(rt, "a store");
+    disk
 }
 
 /// What a device holds, a sector a row.
-pub(crate) fn rows_of(alloc: Global, disk: &SimDisk) -> Result<Vec<[u8; 512]>, AllocError> {
-    let mut rows = Vec::new(alloc);
+pub(crate) fn rows_of(rt: &(impl AllocGlobal + Abort), disk: &SimDisk) -> Vec<[u8; 512]> {
+    let mut rows = Vec::new(rt.alloc());
     for n in 0..disk.sectors() {
-        rows.push(*disk.sector(n))?;
+        rows.push(*disk.sector(n)).expect(rt, "memory");
     }
-    Ok(rows)
+    rows
 }
 
 /// These pages, as they are lent.
 pub(crate) fn lent_of<'a>(
-    alloc: Global,
+    rt: &(impl AllocGlobal + Abort),
     pages: &'a [[u8; 4096]],
-) -> Result<Vec<PageBytes<'a>>, AllocError> {
-    let mut lent = Vec::new(alloc);
+) -> Vec<PageBytes<'a>> {
+    let mut lent = Vec::new(rt.alloc());
     for at in pages {
-        lent.push(PageBytes { at })?;
+        lent.push(PageBytes { at }).expect(rt, "memory");
     }
-    Ok(lent)
+    lent
 }
 
 /// A plan, in vectors since its rows are eight megabytes.
@@ -81,58 +84,56 @@ const NO_CALL: Call = Call {
 };
 
 /// A plan of no call.
-fn blank(alloc: Global) -> Result<Plan, AllocError> {
-    Ok(Plan {
+fn blank(rt: &(impl AllocGlobal + Abort)) -> Plan {
+    Plan {
         used: 0,
-        calls: Vec::from_elem(alloc, NO_CALL, ROOM)?,
-        rows: Vec::from_elem(alloc, [0; 512], ROOM)?,
-    })
+        calls: Vec::from_elem(rt.alloc(), NO_CALL, ROOM).expect(rt, "memory"),
+        rows: Vec::from_elem(rt.alloc(), [0; 512], ROOM).expect(rt, "memory"),
+    }
 }
 
-/// Makes so many calls of a plan, for which these pages were lent, from `first` on.
+/// Makes so many calls of a plan, for which these pages were lent, from `first` on: whether each can be made, and the device does not fail.
 pub(crate) fn carry_out(
     disk: &mut SimDisk,
     plan: &Plan,
     lent: &[PageBytes<'_>],
     first: usize,
     count: usize,
-) -> Result<(), Fail> {
+) -> bool {
     let calls = plan.calls.iter().zip(&plan.rows).take(plan.used);
     for (call, row) in calls.skip(first).take(count) {
-        match call.kind {
-            1 if call.sector < disk.sectors() => disk.write(call.sector, row)?,
-            2 => disk.sync()?,
+        let is_made = match call.kind {
+            1 => call.sector < disk.sectors() && disk.write(call.sector, row).is_ok(),
+            2 => disk.sync().is_ok(),
             3 => match lent.get(call.from as usize) {
-                Some(page) => write_page(disk, call.sector, page.at)?,
-                None => return Err(Fail::new("a call of a page that is not lent")),
+                Some(page) => write_page(disk, call.sector, page.at),
+                None => false,
             },
-            4 => {
-                let page = read_page(disk, call.from)?;
-                write_page(disk, call.sector, &page)?;
-            }
-            _ => return Err(Fail::new("a call of no kind, or of no sector")),
+            4 => copy_page(disk, call.from, call.sector),
+            _ => false,
+        };
+        if !is_made {
+            return false;
         }
     }
-    Ok(())
+    true
 }
 
-/// Writes the eight sectors from `n` on.
-fn write_page(disk: &mut SimDisk, n: u64, page: &[u8; 4096]) -> Result<(), Fail> {
+/// Writes the eight sectors from `n` on, which have to be there.
+fn write_page(disk: &mut SimDisk, n: u64, page: &[u8; 4096]) -> bool {
     if n >= 0x10_0000 || n + 8 > disk.sectors() {
-        return Err(Fail::new("a call of sectors that are not there"));
+        return false;
     }
-    disk.write_page(n, page)?;
-    Ok(())
+    disk.write_page(n, page).is_ok()
 }
 
-/// Reads the eight sectors from `n` on.
-fn read_page(disk: &mut SimDisk, n: u64) -> Result<[u8; 4096], Fail> {
+/// Copies the eight sectors from that one on to those from `to` on.
+fn copy_page(disk: &mut SimDisk, from: u64, to: u64) -> bool {
     let mut page = [0; 4096];
-    if n >= 0x10_0000 || n + 8 > disk.sectors() {
-        return Err(Fail::new("a source that is not there"));
+    if from >= 0x10_0000 || from + 8 > disk.sectors() {
+        return false;
     }
-    disk.read_page(n, &mut page)?;
-    Ok(page)
+    disk.read_page(from, &mut page).is_ok() && write_page(disk, to, &page)
 }
 
 /// Room for plans.
@@ -144,11 +145,11 @@ pub(crate) struct Client {
 }
 
 impl Client {
-    pub(crate) fn new(alloc: Global) -> Result<Client, AllocError> {
-        Ok(Client {
-            scratch: blank(alloc)?,
-            plan: blank(alloc)?,
-        })
+    pub(crate) fn new(rt: &(impl AllocGlobal + Abort)) -> Client {
+        Client {
+            scratch: blank(rt),
+            plan: blank(rt),
+        }
     }
 
     /// Plans an opening, or the commit of these pages, and returns how many calls it has.
@@ -217,20 +218,22 @@ impl Client {
     }
 
     /// Opens what a device holds, and returns the bytes that fill all pages.
-    pub(crate) fn opened(&mut self, alloc: Global, disk: &mut SimDisk) -> Result<[u8; 4], Fail> {
-        let Ok(calls) = self.ask(&rows_of(alloc, disk)?, None) else {
-            return Err(Fail::new("the image was not opened"));
-        };
-        carry_out(disk, &self.plan, &[], 0, calls)?;
-        let image = rows_of(alloc, disk)?;
+    pub(crate) fn opened(
+        &mut self,
+        rt: &(impl AllocGlobal + Abort),
+        disk: &mut SimDisk,
+    ) -> [u8; 4] {
+        let image = rows_of(rt, disk);
+        let calls = self.ask(image.as_slice(), None).expect(rt, "a store");
+        let is_open = carry_out(disk, &self.plan, &[], 0, calls);
+        expect(rt, is_open, "an opening that can't be carried out");
+        let image = rows_of(rt, disk);
         let mut found = [0; 4];
         for i in 0..4 {
             let (page, length) = PLACES[i];
-            let Ok(Some(byte)) = self.byte_of(image.as_slice(), page, length) else {
-                return Err(Fail::new("a page was not read, or has other bytes"));
-            };
-            found[i] = byte;
+            let read = self.byte_of(image.as_slice(), page, length);
+            found[i] = read.ok().flatten().expect(rt, "a page of one byte");
         }
-        Ok(found)
+        found
     }
 }

@@ -1,15 +1,18 @@
 //! Plans that are stopped before each of their calls, with torn sectors, and opened again.
-use super::client::{Client, PLACES, Plan, carry_out, equal, lent_of, new_store, rows_of};
+use super::client::{Client, PLACES, Plan, carry_out, equal, expect, lent_of, new_store, rows_of};
 use disk_model::SimDisk;
-use std::alloc::Global;
 use std::process::Abort;
-use std::test::Fail;
 use sync_journal::Journals;
 use sync_plans::{PageBytes, PageUpdates};
 
 /// The device after a stop within a plan. What each unsynced sector holds goes by the number: the old bytes, zeros, ones,
 /// or the words that open the gate, half of them or all.
-fn left_with(alloc: Global, disk: &SimDisk, plan: &Plan, number: usize) -> Result<SimDisk, Fail> {
+fn left_with(
+    rt: &(impl AllocGlobal + Abort),
+    disk: &SimDisk,
+    plan: &Plan,
+    number: usize,
+) -> SimDisk {
     let mut filling = [0; 512];
     for i in 0..512 {
         filling[i] = match number {
@@ -19,48 +22,48 @@ fn left_with(alloc: Global, disk: &SimDisk, plan: &Plan, number: usize) -> Resul
             _ => b"GATEOPEN"[i % 8],
         };
     }
-    let mut chosen = Vec::new(alloc);
+    let mut chosen = Vec::new(rt.alloc());
     if number > 0 {
         for call in plan.calls.iter().take(plan.used) {
             for i in 0..8 {
-                chosen.push((call.sector.saturating_add(i), filling))?;
+                let sector = call.sector.saturating_add(i);
+                chosen.push((sector, filling)).expect(rt, "memory");
             }
         }
     }
-    Ok(disk.left(alloc, chosen.as_slice())?)
+    disk.left(rt.alloc(), chosen.as_slice())
+        .expect(rt, "memory")
 }
 
 /// Stops a plan before each of its calls and at its end. The bytes that fill the pages are then the first four or the last: at the
 /// beginning the first, at the end the last.
 fn stopped_everywhere(
-    alloc: Global,
+    rt: &(impl AllocGlobal + Abort),
     disk: &SimDisk,
     plan: &Plan,
     lent: &[PageBytes<'_>],
     [before, after]: [[u8; 4]; 2],
-) -> Result<(), Fail> {
-    let mut looker = Client::new(alloc)?;
-    let mut stopped = disk.left(alloc, &[])?;
+) {
+    let mut looker = Client::new(rt);
+    let mut stopped = left_with(rt, disk, plan, 0);
     let mut fillings = 1;
     for count in 0..=plan.used {
         for further in 0..fillings {
             let number = (count % 5 + further % 5) % 5;
-            let mut left = left_with(alloc, &stopped, plan, number)?;
-            let files = looker.opened(alloc, &mut left)?;
+            let mut left = left_with(rt, &stopped, plan, number);
+            let files = looker.opened(rt, &mut left);
             let is_old = count < plan.used && files == before;
             let is_new = count > 0 && files == after;
-            if !is_old && !is_new {
-                return Err(Fail::new(format_args!("filling {number} before call {count}")));
-            }
+            assert!(rt; is_old || is_new, "filling {number} before call {count}");
         }
-        carry_out(&mut stopped, plan, lent, count, 1)?;
+        let is_made = carry_out(&mut stopped, plan, lent, count, 1);
+        expect(rt, is_made, "a call that can't be made");
         // All of them where the gate is unsynced, which is sector 2, or 16 where there are two journals.
         fillings = match plan.calls.get(count) {
             Some(call) if call.kind == 1 && (call.sector == 2 || call.sector == 16) => 5,
             _ => 1,
         };
     }
-    Ok(())
 }
 
 /// Commits the pages whose byte changes, of which those past a file's end are not to be seen: stops the plan everywhere, and then
@@ -71,22 +74,21 @@ fn committed(
     before: [u8; 4],
     after: [u8; 4],
     wanted: [usize; 4],
-) -> Result<(), Fail> {
-    let alloc = rt.alloc();
-    let (mut pages, mut bytes) = (Vec::new(alloc), Vec::new(alloc));
+) {
+    let (mut pages, mut bytes) = (Vec::new(rt.alloc()), Vec::new(rt.alloc()));
     for i in 0..4 {
         if before[i] != after[i] {
-            pages.push(PLACES[i].0)?;
-            bytes.push([after[i]; 4096])?;
+            pages.push(PLACES[i].0).expect(rt, "memory");
+            bytes.push([after[i]; 4096]).expect(rt, "memory");
         }
     }
-    let lent = lent_of(alloc, bytes.as_slice())?;
-    let image = rows_of(alloc, disk)?;
+    let lent = lent_of(rt, bytes.as_slice());
+    let image = rows_of(rt, disk);
     let updates = PageUpdates {
         pages: pages.as_slice(),
         bytes: lent.as_slice(),
     };
-    let mut client = Client::new(alloc)?;
+    let mut client = Client::new(rt);
     let answer = client.ask(image.as_slice(), Some(updates));
     let plan = &client.plan;
     let mut counts = [0usize; 4];
@@ -95,8 +97,9 @@ fn committed(
         counts[kind] = counts[kind].saturating_add(1);
     }
     equal(rt, (answer, counts), (Ok(plan.used), wanted));
-    stopped_everywhere(alloc, disk, plan, lent.as_slice(), [before, after])?;
-    carry_out(disk, plan, lent.as_slice(), 0, plan.used)
+    stopped_everywhere(rt, disk, plan, lent.as_slice(), [before, after]);
+    let is_done = carry_out(disk, plan, lent.as_slice(), 0, plan.used);
+    expect(rt, is_done, "a plan that can't be carried out");
 }
 
 /// Commits, each by what fills the pages after it and by its calls of each kind. First one page, whose bytes past its file's end make
@@ -117,21 +120,20 @@ const PAIRED: &[([u8; 4], [usize; 4])] = &[
 
 // At the end the opening is stopped, of so many calls.
 #[test]
-fn a_plan_that_is_stopped_anywhere_is_whole_or_nothing(rt: HostRuntime) -> Result<(), Fail> {
+fn a_plan_that_is_stopped_anywhere_is_whole_or_nothing(rt: HostRuntime) {
     for (journals, commits, calls) in [
         (Journals::Single, SINGLE, 6),
         (Journals::Paired, PAIRED, 12),
     ] {
-        let mut disk = new_store(rt.alloc(), journals)?;
+        let mut disk = new_store(&rt, journals);
         let mut files = [0; 4];
         for (after, wanted) in commits {
-            committed(&rt, &mut disk, files, *after, *wanted)?;
+            committed(&rt, &mut disk, files, *after, *wanted);
             files = *after;
         }
-        let mut client = Client::new(rt.alloc())?;
-        let image = rows_of(rt.alloc(), &disk)?;
+        let mut client = Client::new(&rt);
+        let image = rows_of(&rt, &disk);
         equal(&rt, client.ask(image.as_slice(), None), Ok(calls));
-        stopped_everywhere(rt.alloc(), &disk, &client.plan, &[], [files, files])?;
+        stopped_everywhere(&rt, &disk, &client.plan, &[], [files, files]);
     }
-    Ok(())
 }

@@ -9,13 +9,12 @@ use crate::evictions::{
 };
 use crate::{evictions, four_levels, histories, mappings, private_memory, processes, shared_pages};
 use machine::Config;
-use std::test::Fail;
 use sync_journal::Journals;
 use vm_types::Mode;
 
 /// The file of some rows is a page of the letter A, which may only be read.
 #[test]
-fn traces_are_answered(rt: HostRuntime) -> Result<(), Fail> {
+fn traces_are_answered(rt: HostRuntime) {
     for (length, rows) in [
         (4096, private_memory::ROWS.as_slice()),
         (4096, &processes::ROWS),
@@ -23,14 +22,13 @@ fn traces_are_answered(rt: HostRuntime) -> Result<(), Fail> {
         (8192, &shared_pages::ROWS),
         (32768, &mappings::ROWS),
     ] {
-        expect_all(rt.alloc(), Setting { length, ..PLAIN }, rows)?;
+        expect_all(&rt, Setting { length, ..PLAIN }, rows);
     }
-    let letters = image(rt.alloc(), Journals::Single, 4096, Some(&[0x41; 4096]))?;
+    let letters = image(&rt, Journals::Single, 4096, Some(&[0x41; 4096]));
     for exchange in private_memory::LETTERS {
         let run = (CONFIG, Armed::Nothing);
-        let _ = left_over(rt.alloc(), &letters, run, exchange, GOES_ON)?;
+        let _ = left_over(&rt, &letters, run, exchange, GOES_ON);
     }
-    Ok(())
 }
 
 /// 64 frames, over a page of zeros.
@@ -47,18 +45,17 @@ const SV48: Setting = Setting {
 
 /// Four levels have rows of their own, and so have pages that wait for frames and slots.
 #[test]
-fn machines_of_other_sizes_answer(rt: HostRuntime) -> Result<(), Fail> {
-    expect_all(rt.alloc(), SV48, &four_levels::ROWS)?;
-    expect_all(rt.alloc(), PLAIN, &[four_levels::IN_THREE_LEVELS])?;
+fn machines_of_other_sizes_answer(rt: HostRuntime) {
+    expect_all(&rt, SV48, &four_levels::ROWS);
+    expect_all(&rt, PLAIN, &[four_levels::IN_THREE_LEVELS]);
     for (config, exchange) in evictions::ROWS {
         let setting = Setting {
             length: 0x8000,
             config,
             ..PLAIN
         };
-        expect_all(rt.alloc(), setting, &[exchange])?;
+        expect_all(&rt, setting, &[exchange]);
     }
-    Ok(())
 }
 
 /// Eight frames, of which four are for pages, over a file of eight pages.
@@ -152,12 +149,11 @@ const ASKED: [(Setting, Exchange<'static>, (u64, u64)); 16] = [
 ];
 
 #[test]
-fn the_store_is_asked_for_no_more(rt: HostRuntime) -> Result<(), Fail> {
+fn the_store_is_asked_for_no_more(rt: HostRuntime) {
     for (setting, exchange, wanted) in ASKED {
-        let asked = asked_after_start(rt.alloc(), setting, exchange)?;
-        same("writes and syncs", asked, wanted)?;
+        let asked = asked_after_start(&rt, setting, exchange);
+        same(&rt, asked, wanted);
     }
-    Ok(())
 }
 
 /// A file of 5,000 bytes: what is stored past its end is gone with the next msync.
@@ -214,11 +210,10 @@ msync 1 0x10000 4096 sync\n",
 ];
 
 #[test]
-fn the_next_machine_has_what_was_synced(rt: HostRuntime) -> Result<(), Fail> {
+fn the_next_machine_has_what_was_synced(rt: HostRuntime) {
     for (setting, exchange, shown) in NEXT {
-        let disk = left_in(rt.alloc(), setting, exchange, GOES_ON)?;
+        let disk = left_in(&rt, setting, exchange, GOES_ON);
         let run = (CONFIG, Armed::Nothing);
-        let _ = left_over(rt.alloc(), &disk, run, shown, GOES_ON)?;
+        let _ = left_over(&rt, &disk, run, shown, GOES_ON);
     }
-    Ok(())
 }

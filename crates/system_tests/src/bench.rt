@@ -1,15 +1,14 @@
 //! Images on devices in memory, and traces that are run on machines over them.
 //!
-//! No test holds a machine, or compares replies by itself: it names a trace and the replies that are wanted. Each comparison and each
-//! `?` is a way out, which lets go of all that a function holds, and for a machine, a device or replies that takes long to prove.
+//! No test holds a machine, or compares replies by itself: it names a trace and the replies that are wanted. Nothing returns an error,
+//! since each `?` is a way out, which lets go of all that a function holds, and for a machine, a device or replies that takes long to prove.
 use disk_model::SimDisk;
 use file_store::{FileSource, format};
 use machine::{BootFault, Config};
 use runner::{Devices, RunEnd, run_on};
-use std::alloc::Global;
 use std::fmt::Debug;
 use std::io::{Read, Write};
-use std::test::Fail;
+use std::process::Abort;
 use sync_journal::Journals;
 use vm_types::Mode;
 
@@ -66,92 +65,86 @@ struct Told {
     store: SimDisk,
 }
 
-/// Sees that the value found is the one that is wanted.
-pub(crate) fn same<T: Copy + PartialEq + Debug>(
-    what: &str,
-    found: T,
-    wanted: T,
-) -> Result<(), Fail> {
-    if found == wanted {
-        Ok(())
-    } else {
-        Err(Fail::new(format_args!("{what}: {found:?}, and not {wanted:?}")))
-    }
+/// Ends the test where the value found isn't the one that is wanted. A test that said `assert_eq!` itself would be proved to end well
+/// at each place.
+pub(crate) fn same<T: PartialEq + Debug + Drop>(rt: &impl Abort, found: T, wanted: T) {
+    assert_eq!(rt; found, wanted);
 }
 
 /// An image of one file, of so many zeros or of these bytes, which may only be read then, in a store of these journals.
 pub(crate) fn image(
-    alloc: Global,
+    rt: &(impl AllocGlobal + Abort),
     journals: Journals,
     length: u32,
     bytes: Option<&[u8]>,
-) -> Result<SimDisk, Fail> {
+) -> SimDisk {
     let homes = match journals {
         Journals::Single => 8195,
         Journals::Paired => 16408,
     };
-    let mut disk = SimDisk::new(alloc, homes + 8 * u64::from(length).div_ceil(4096))?;
+    let sectors = homes + 8 * u64::from(length).div_ceil(4096);
+    let mut disk = SimDisk::new(rt.alloc(), sectors).expect(rt, "memory");
     let mut files: [FileSource<&[u8]>; 1] = [FileSource {
         read_only: bytes.is_some(),
         length,
         bytes,
     }];
-    format(&mut disk, journals, &mut files)?;
-    Ok(disk)
+    format(&mut disk, journals, &mut files).expect(rt, "a store");
+    disk
 }
 
 /// Devices with that fault: the image as it was last synced, and sixteen slots.
 fn devices(
-    alloc: Global,
+    rt: &(impl AllocGlobal + Abort),
     image: &SimDisk,
     armed: Armed,
-) -> Result<Devices<SimDisk, SimDisk>, Fail> {
-    let mut store = image.left(alloc, &[])?;
-    let mut swap = SimDisk::new(alloc, 128)?;
+) -> Devices<SimDisk, SimDisk> {
+    let mut store = image.left(rt.alloc(), &[]).expect(rt, "memory");
+    let mut swap = SimDisk::new(rt.alloc(), 128).expect(rt, "memory");
     match armed {
         Armed::Nothing => {}
         Armed::StoreFailsAtCall(call) => store.fail_at(call),
         Armed::SwapFailsAtCall(call) => swap.fail_at(call),
     }
-    Ok(Devices { store, swap })
+    Devices { store, swap }
 }
 
 /// Runs a trace over an image as it was last synced.
 fn ran(
-    alloc: Global,
+    rt: &(impl AllocGlobal + Abort),
     image: &SimDisk,
     (config, armed): (Config, Armed),
     trace: &[u8],
     output: &mut Vec<u8>,
-) -> Result<Told, Fail> {
-    let devices = devices(alloc, image, armed)?;
+) -> Told {
+    let devices = devices(rt, image, armed);
     let mut reader = trace;
-    match run_on(alloc, config, devices, &mut reader, output) {
-        Ok((end, machine)) => Ok(Told {
+    match run_on(rt.alloc(), config, devices, &mut reader, output) {
+        Ok((end, machine)) => Told {
             ending: Ok((end, machine.is_halted())),
             store: machine.into_store(),
-        }),
-        Err((fault, store)) => Ok(Told {
+        },
+        Err((fault, store)) => Told {
             ending: Err(fault),
             store,
-        }),
+        },
     }
 }
 
 /// Sees the replies to a trace over an image, and how its run ends: the device of the store, as it is left.
 pub(crate) fn left_over(
-    alloc: Global,
+    rt: &(impl AllocGlobal + Abort),
     image: &SimDisk,
     run: (Config, Armed),
     exchange: Exchange<'_>,
     ending: Ending,
-) -> Result<SimDisk, Fail> {
+) -> SimDisk {
     let (trace, wanted) = exchange;
-    let mut output = Vec::new(alloc);
-    let told = ran(alloc, image, run, trace, &mut output)?;
-    same("replies", output.as_slice(), wanted)?;
-    same("end", told.ending, ending)?;
-    Ok(told.store)
+    let mut output = Vec::new(rt.alloc());
+    let told = ran(rt, image, run, trace, &mut output);
+    same(rt, output.as_slice(), wanted);
+    same(rt, told.ending, ending);
+    told.store
 }
 
 /// The end of a trace, on a machine that goes on.
@@ -159,59 +152,53 @@ pub(crate) const GOES_ON: Ending = Ok((RunEnd::Done, false));
 
 /// The device of the store, as a machine leaves it that gives these replies to a trace.
 pub(crate) fn left_in(
-    alloc: Global,
+    rt: &(impl AllocGlobal + Abort),
     setting: Setting,
     exchange: Exchange<'_>,
     ending: Ending,
-) -> Result<SimDisk, Fail> {
-    let image = image(alloc, setting.journals, setting.length, None)?;
-    left_over(
-        alloc,
-        &image,
-        (setting.config, setting.armed),
-        exchange,
-        ending,
-    )
+) -> SimDisk {
+    let image = image(rt, setting.journals, setting.length, None);
+    let run = (setting.config, setting.armed);
+    left_over(rt, &image, run, exchange, ending)
 }
 
 /// Sees that machines give these replies to traces, each from a new start.
 pub(crate) fn expect_all(
-    alloc: Global,
+    rt: &(impl AllocGlobal + Abort),
     setting: Setting,
     exchanges: &[Exchange<'_>],
-) -> Result<(), Fail> {
+) {
     for exchange in exchanges {
-        let _ = left_in(alloc, setting, *exchange, GOES_ON)?;
+        left_in(rt, setting, *exchange, GOES_ON);
     }
-    Ok(())
 }
 
 /// Sees that a machine gives these replies to a trace: how many writes and syncs its store's device has behind those of its start.
 pub(crate) fn asked_after_start(
-    alloc: Global,
+    rt: &(impl AllocGlobal + Abort),
     setting: Setting,
     exchange: Exchange<'_>,
-) -> Result<(u64, u64), Fail> {
-    let at_start = left_in(alloc, setting, (b"", b""), GOES_ON)?;
+) -> (u64, u64) {
+    let at_start = left_in(rt, setting, (b"", b""), GOES_ON);
     let (writes, syncs) = (at_start.writes(), at_start.syncs());
     drop(at_start);
-    let store = left_in(alloc, setting, exchange, GOES_ON)?;
-    Ok((
+    let store = left_in(rt, setting, exchange, GOES_ON);
+    (
         store.writes().saturating_sub(writes),
         store.syncs().saturating_sub(syncs),
-    ))
+    )
 }
 
 /// How a run of that reader and that writer ends on a machine of 64 frames over a file of one page of zeros.
 pub(crate) fn streamed<R: Read, W: Write>(
-    alloc: Global,
+    rt: &(impl AllocGlobal + Abort),
     reader: &mut R,
     writer: &mut W,
-) -> Result<RunEnd, Fail> {
-    let image = image(alloc, Journals::Single, 4096, None)?;
-    let devices = devices(alloc, &image, Armed::Nothing)?;
-    match run_on(alloc, CONFIG, devices, reader, writer) {
+) -> Result<RunEnd, BootFault> {
+    let image = image(rt, Journals::Single, 4096, None);
+    let devices = devices(rt, &image, Armed::Nothing);
+    match run_on(rt.alloc(), CONFIG, devices, reader, writer) {
         Ok((end, _)) => Ok(end),
-        Err((fault, _)) => Err(Fail::new(format_args!("boot: {fault:?}"))),
+        Err((fault, _)) => Err(fault),
     }
 }

@@ -6,7 +6,7 @@ use crate::evictions::{BACK_TO_A_FREE_FRAME, EIGHT_PAGES_SYNCED_AGAIN, ONE_WRITE
 use disk_model::{SectorDisk, SimDisk};
 use machine::{BootFault, Config};
 use runner::RunEnd;
-use std::test::Fail;
+use std::process::Abort;
 use sync_journal::Journals;
 use vm_types::Mode;
 
@@ -156,36 +156,31 @@ ok\nvalue 0x03\nvalue 0x00\n",
 ];
 
 #[test]
-fn a_failed_call_has_its_reply(rt: HostRuntime) -> Result<(), Fail> {
+fn a_failed_call_has_its_reply(rt: HostRuntime) {
     for (setting, exchange, ending) in ENDINGS {
-        let _ = left_in(rt.alloc(), setting, exchange, ending)?;
+        let _ = left_in(&rt, setting, exchange, ending);
     }
-    Ok(())
 }
 
 /// Opens the gate of a device over a map of 1,024 pages.
-fn open_gate_over_1024_pages(disk: &mut SimDisk) -> Result<(), Fail> {
-    if disk.sectors() <= 3 {
-        return Err(Fail::new("too few sectors"));
-    }
+fn open_gate_over_1024_pages(rt: &impl Abort, disk: &mut SimDisk) {
     let mut map = [0; 512];
     map[1] = 4;
-    disk.write(3, &map)?;
     let mut gate = [0; 512];
     for i in 0..512_usize {
         gate[i] = b"GATEOPEN"[i % 8];
     }
-    disk.write(2, &gate)?;
-    disk.sync()?;
-    Ok(())
+    assert!(rt; disk.sectors() > 3);
+    disk.write(3, &map).expect(rt, "a write");
+    disk.write(2, &gate).expect(rt, "a write");
+    disk.sync().expect(rt, "a sync");
 }
 
 #[test]
-fn an_open_gate_over_a_map_of_too_many_pages_is_refused(rt: HostRuntime) -> Result<(), Fail> {
-    let mut disk = image(rt.alloc(), Journals::Single, 4096, None)?;
-    open_gate_over_1024_pages(&mut disk)?;
+fn an_open_gate_over_a_map_of_too_many_pages_is_refused(rt: HostRuntime) {
+    let mut disk = image(&rt, Journals::Single, 4096, None);
+    open_gate_over_1024_pages(&rt, &mut disk);
     let run = (CONFIG, Armed::Nothing);
     let refused = Err(BootFault::BadJournal);
-    let _ = left_over(rt.alloc(), &disk, run, (b"spawn\n", b""), refused)?;
-    Ok(())
+    let _ = left_over(&rt, &disk, run, (b"spawn\n", b""), refused);
 }

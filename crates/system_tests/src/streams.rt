@@ -1,8 +1,8 @@
 //! Runs over readers and writers that fail on the way, or count their calls.
 use crate::bench::{same, streamed};
+use machine::BootFault;
 use runner::{RunEnd, WriteFault, write_bytes};
-use std::alloc::Global;
-use std::test::Fail;
+use std::process::Abort;
 use test_streams::{
     Calls, CountedReader, CountedWriter, FailingReader, Full, InterruptedReader, LimitedWriter,
 };
@@ -69,48 +69,48 @@ const STREAMS: [Stream; 6] = [
 
 /// How a run over that reader ends.
 fn streamed_from(
-    alloc: Global,
+    rt: &(impl AllocGlobal + Abort),
     trace: &[u8],
     input: Input,
     writer: &mut LimitedWriter,
-) -> Result<RunEnd, Fail> {
+) -> Result<RunEnd, BootFault> {
     match input {
         Input::Ends => {
             let mut reader = trace;
-            streamed(alloc, &mut reader, writer)
+            streamed(rt, &mut reader, writer)
         }
-        Input::Fails => streamed(alloc, &mut FailingReader { rest: trace }, writer),
-        Input::IsInterrupted => streamed(alloc, &mut InterruptedReader::new(trace), writer),
+        Input::Fails => streamed(rt, &mut FailingReader { rest: trace }, writer),
+        Input::IsInterrupted => streamed(rt, &mut InterruptedReader::new(trace), writer),
     }
 }
 
 #[test]
-fn a_failing_stream_ends_the_run(rt: HostRuntime) -> Result<(), Fail> {
+fn a_failing_stream_ends_the_run(rt: HostRuntime) {
     for ((trace, input), (each, room, full), ending, taken) in STREAMS {
         let mut writer = LimitedWriter::new(rt.alloc(), each, room, full);
-        let end = streamed_from(rt.alloc(), trace, input, &mut writer)?;
-        same("replies", writer.taken.as_slice(), taken)?;
-        same("end", end, ending)?;
+        let end = streamed_from(&rt, trace, input, &mut writer);
+        same(&rt, writer.taken.as_slice(), taken);
+        same(&rt, end, Ok(ending));
     }
-    Ok(())
 }
 
 /// Gives these bytes to the writer, and sees its answer and what it has taken by then.
 fn expect_taken(
+    rt: &impl Abort,
     writer: &mut LimitedWriter,
     bytes: &[u8],
     answer: Result<(), WriteFault>,
     taken: &[u8],
-) -> Result<(), Fail> {
-    same("answer", write_bytes(bytes, writer), answer)?;
-    same("taken", writer.taken.as_slice(), taken)
+) {
+    same(rt, write_bytes(bytes, writer), answer);
+    same(rt, writer.taken.as_slice(), taken);
 }
 
 #[test]
-fn bytes_are_given_in_as_many_calls_as_the_writer_wants(rt: HostRuntime) -> Result<(), Fail> {
+fn bytes_are_given_in_as_many_calls_as_the_writer_wants(rt: HostRuntime) {
     let mut writer = LimitedWriter::new(rt.alloc(), 2, 7, Full::TakesNothing);
-    expect_taken(&mut writer, b"abcde", Ok(()), b"abcde")?;
-    expect_taken(&mut writer, b"fgh", Err(WriteFault), b"abcdefg")
+    expect_taken(&rt, &mut writer, b"abcde", Ok(()), b"abcde");
+    expect_taken(&rt, &mut writer, b"fgh", Err(WriteFault), b"abcdefg");
 }
 
 /// Sixteen faults, and the lines that ask for the history before and after them.
@@ -121,7 +121,7 @@ load 1 0xd 1\nload 1 0xe 1\nload 1 0xf 1\nfaults\n";
 
 /// A history has seventeen lines, and goes to the writer in one call, as the reply to any other line does.
 #[test]
-fn a_history_is_one_call_of_the_writer(rt: HostRuntime) -> Result<(), Fail> {
+fn a_history_is_one_call_of_the_writer(rt: HostRuntime) {
     let calls = Calls::new();
     // How much was taken before each read: of two lines, then of a load a call, and then of the line that asks for the history.
     let taken = [
@@ -129,12 +129,7 @@ fn a_history_is_one_call_of_the_writer(rt: HostRuntime) -> Result<(), Fail> {
     ];
     let mut reader = CountedReader::new(rt.alloc(), SIXTEEN_FAULTS, 13, &calls);
     let mut writer = CountedWriter::new(1000, &calls);
-    let end = streamed(rt.alloc(), &mut reader, &mut writer)?;
-    same(
-        "taken before reads",
-        reader.taken_before.as_slice(),
-        taken.as_slice(),
-    )?;
-    same("end", end, RunEnd::Done)?;
-    same("writes", calls.writes.get(), 18)
+    let end = streamed(&rt, &mut reader, &mut writer);
+    same(&rt, reader.taken_before.as_slice(), taken.as_slice());
+    same(&rt, (end, calls.writes.get()), (Ok(RunEnd::Done), 18));
 }
