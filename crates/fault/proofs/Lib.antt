@@ -18,3 +18,4 @@ pub mod Storing
 pub mod AccessShowing
 pub mod AccessAsking
 pub mod Serving
+pub mod Again

@@ -232,6 +232,23 @@ kept_more mode t b b' root q leaf l now replaced others kept = record {
   ];
 }
 
+-- a page's entry was set to a leaf, which is kept in place of what its place had
+pub kept_new : (mode : ℕ) (old new : FrameTable) (b b' : TranslationBuffer) (root q leaf : ℕ) → IsForest old → IsRoot (top_level mode) old root
+    → SetsEntry old new (top_level mode) root q leaf → IsLeafOf mode new root q leaf → line_at b' root q ≡ Some leaf
+    → ((r p : ℕ) → line_place p ≡ line_place q → (r ≢ root) ⊎ (p ≢ q) → line_at b' r p ≡ None)
+    → ((r p : ℕ) → line_place p ≢ line_place q → line_at b' r p ≡ line_at b r p) → LinesAreLeaves mode old b → LinesAreLeaves mode new b'
+kept_new mode old new b b' root q leaf forest is_root sets l now replaced others kept = record {
+  leaves = λ r p e at. elim (cases_place r p root q) [
+    | inl here ↦ (
+        let is : leaf ≡ e = same_Some leaf e (sym now ∙ line_here b' r p root q here.0 here.1 ∙ at) in
+        rw (here.0, here.1, ← is) l)
+    | inr other ↦ elim (cases_eq (line_place p) (line_place q)) [
+      | inl same ↦ absurd (never b' r p e (replaced r p same other) at)
+      | inr ne ↦ set_leaf mode old new root forest is_root q leaf sets r p e (kept.leaves r p e (sym (others r p ne) ∙ at)) other
+    ]
+  ];
+}
+
 -- a frame was taken, or none
 pub kept_taken : (mode : ℕ) (old new : FrameTable) (b : TranslationBuffer) (kind : Role) (r : Result FrameNo NoFree) → LinesAreLeaves mode old b
     → IfOk r (λ n. Takes old new kind n.0) → OnErr r (new ≡ old) → LinesAreLeaves mode new b

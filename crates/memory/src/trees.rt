@@ -114,12 +114,14 @@ pub fn set_kept<M: Levels>(
     ensures sets { SetsEntry memory.old memory.new (top_level M.mode) root.0 page (number_of entry) }
     ensures sound { IsSound memory.new }
 {
-    set_at(memory, root, page, table, entry);
+    let place = page.get() % TABLE_ENTRIES;
+    page_tables::set_in(&mut memory.frames, table, place as usize, entry);
     keep_entry::<M>(&memory.frames, &mut memory.buffer, root, page, entry);
-    let _ = memory.len();
+    memory.notes.add(root, page, entry);
 }
 
-// Keeps what the tree says of a page, where that is a leaf over a frame of memory.
+// Keeps what the tree says of a page whose entry was set, in place of what the page's place had, where that is a leaf over a frame of
+// memory; else the page's line is dropped.
 fn keep_entry<M: Levels>(
     frames: &Frames,
     buffer: &mut TranslationBuffer,
@@ -127,18 +129,16 @@ fn keep_entry<M: Levels>(
     page: Vpn,
     entry: Entry,
 )
-    requires forest { IsForest frames.now }
-    requires root { IsRoot (top_level M.mode) frames.now root.0 }
     requires user { page < user_end M.mode }
     requires form { IsEntry entry }
-    requires stands { page_entry frames.now (top_level M.mode) root.0 page ≡ number_of entry }
-    requires kept { LinesAreLeaves M.mode frames.now buffer.old }
-    ensures { LinesAreLeaves M.mode frames.now buffer.new }
+    ensures { (before : FrameTable) → IsForest before → IsRoot (top_level M.mode) before root.0 → SetsEntry before frames.now (top_level M.mode) root.0 page (number_of entry)
+        → LinesAreLeaves M.mode before buffer.old → LinesAreLeaves M.mode frames.now buffer.new }
 {
-    if let Entry::Leaf(leaf) = entry {
-        if leaf.frame() < u64::from(frames.len()) {
+    match entry {
+        Entry::Leaf(leaf) if leaf.frame() < u64::from(frames.len()) => {
             buffer.keep(root, page, leaf);
         }
+        _ => buffer.drop_page(root, page),
     }
 }
 

@@ -57,7 +57,7 @@ pub(crate) fn push_fresh(
     if is_listed(list, used, page) {
         return Ok(n);
     }
-    if n == MSYNC_PAGES {
+    if n >= MSYNC_PAGES {
         return Err(TooMany);
     }
     list[n] = page;

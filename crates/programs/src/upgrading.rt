@@ -59,9 +59,10 @@ fn upgrade_settled<C: FileContents, K: FileContents>(
 
 /// How many bytes an image of these journals has that has as many home pages as one of the layout before of so many sectors.
 fn upgraded_bytes(journals: Journals, sectors: u64) -> u64 {
-    let (first, homes) = match journals {
-        Journals::Single => (FIRST_HOME, old_home_count(sectors)),
-        Journals::Paired => (TURN_HOMES, home_count(sectors)),
-    };
-    SECTOR_BYTES as u64 * (first + PAGE_SECTORS * homes)
+    match journals {
+        Journals::Single => {
+            SECTOR_BYTES as u64 * (FIRST_HOME + PAGE_SECTORS * old_home_count(sectors))
+        }
+        Journals::Paired => SECTOR_BYTES as u64 * (TURN_HOMES + PAGE_SECTORS * home_count(sectors)),
+    }
 }

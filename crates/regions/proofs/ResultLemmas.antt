@@ -34,33 +34,25 @@ module _ (mode : ℕ) (old list : List Run) (map : ℕ → Option Attr) (rebuilt
   -- a beginning of it was too long already
   pub too_long : {T E : Type 0} (part new : List Run) (r : Result T E) → IsErr r → length part ≤ length list → 256 < length part → MakesMap mode old map new r
   too_long part new (Ok x) err h l = absurd (false≢true err)
-  too_long part new (Err e) err h l =
-      record { ok = tt; few = tt; user_after = tt; user_before = user_map mode old rebuilt.before; too_many = omega (arith, count) }
+  too_long part new (Err e) err h l = record { ok = tt; few = tt; user_after = tt; user_before = user_map mode old rebuilt.before; too_many = omega (arith, count) }
 
 module _ (mode : ℕ) (runs : List Run) (first pages : ℕ) (m : IsMaximal mode 16 runs) where
   pub removes : Rebuilt mode runs (removed (attr_at runs) first pages) (list_removed runs first (first + pages))
-  removes =
-      record { before = m; maximal = (removed_is mode runs m first (first + pages) (omega arith)).maximal; at = removed_at mode runs m first (first + pages) (omega arith) }
+  removes = record { before = m; maximal = (removed_is mode runs m first (first + pages) (omega arith)).maximal; at = removed_at mode runs m first (first + pages) (omega arith) }
 
   pub protects : (prot : Prot) → Rebuilt mode runs (protected (attr_at runs) first pages prot) (list_protected runs first (first + pages) prot)
-  protects prot =
-      record { before = m; maximal = (protected_is mode runs m first (first + pages) (omega arith) prot).maximal; at = protected_at mode runs m first (first + pages) (omega arith) prot }
+  protects prot = record { before = m; maximal = (protected_is mode runs m first (first + pages) (omega arith) prot).maximal; at = protected_at mode runs m first (first + pages) (omega arith) prot }
 
   pub protected_longer : (prot : Prot) → length (pasted 0 first None [] runs) ≤ length (list_protected runs first (first + pages) prot)
-  protected_longer prot =
-      omega (arith, (middle_is mode runs m first (first + pages) (omega arith) prot).longer, (protected_is mode runs m first (first + pages) (omega arith) prot).longer)
+  protected_longer prot = omega (arith, (middle_is mode runs m first (first + pages) (omega arith) prot).longer, (protected_is mode runs m first (first + pages) (omega arith) prot).longer)
 
 module _ (mode : ℕ) (first pages : ℕ) (attr : Attr) where
   pub run_of_row : 0 < pages → 16 ≤ first → first + pages ≤ user_end mode → backing_fits attr.backing pages → IsRun mode (row_run first pages attr)
-  run_of_row some low high fits =
-      let d : pages ≡ (first + pages) - first = omega arith in
-      record { low = low; nonempty = omega arith; high = high; file_pages = subst (λ (n : ℕ). backing_fits attr.backing n) d fits }
+  run_of_row some low high fits = let d : pages ≡ (first + pages) - first = omega arith in record { low = low; nonempty = omega arith; high = high; file_pages = subst (λ (n : ℕ). backing_fits attr.backing n) d fits }
 
   module _ (runs : List Run) (m : IsMaximal mode 16 runs) (r : IsRun mode (row_run first pages attr)) where
     pub replaces : Rebuilt mode runs (replaced (attr_at runs) first pages attr) (list_replaced runs (row_run first pages attr))
-    replaces =
-        record { before = m; maximal = (replaced_is mode runs m (row_run first pages attr) r).maximal; at = replaced_at mode runs m (row_run first pages attr) r }
+    replaces = record { before = m; maximal = (replaced_is mode runs m (row_run first pages attr) r).maximal; at = replaced_at mode runs m (row_run first pages attr) r }
 
     pub replaced_longer : length (pasted 0 first None [] runs) ≤ length (list_replaced runs (row_run first pages attr))
-    replaced_longer =
-        omega (arith, length-pushed (pasted 0 first None [] runs) (row_run first pages attr), (replaced_is mode runs m (row_run first pages attr) r).longer)
+    replaced_longer = omega (arith, length-pushed (pasted 0 first None [] runs) (row_run first pages attr), (replaced_is mode runs m (row_run first pages attr) r).longer)

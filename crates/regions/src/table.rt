@@ -354,7 +354,7 @@ impl<M: Levels> Regions<M> {
             self.runs[self.len - 1].end = next.end;
             return Ok(());
         }
-        if self.len == RUNS {
+        if self.len >= RUNS {
             return Err(TooManyRuns);
         }
         self.runs[self.len] = next;

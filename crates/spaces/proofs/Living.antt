@@ -2,9 +2,9 @@
 use Rattle.vm_types.specs.declared.mode.Levels as Levels
 use Rattle.spaces.proofs.Names.{user_end, Command, Spawn, Fork, Exit, EAGAIN, Stall, SwapDevice, StoreDevice, Process, Done, Refused, Stalled, Maps, named_objects, least_free_from, least_free_pid, with_process}
 use Rattle.spaces.proofs.Names.{without_process, without_space, table_count, tables_of, is_success, is_open_to, cause_of, needs_frames, reads_swap, State, Outcome, outcome, spawn_outcome, fork_outcome, exit_outcome, View, ℕ, ◌≡◌, ◌≢◌, ◌+◌}
-use Rattle.spaces.proofs.Names.{◌≤◌, ◌==◌, ◌&&◌, ◌||◌, not, Bool, true, false, if◌then◌else◌, Option, Some, None, refl, sym, ap, ◌∙◌, subst, arith, nat_tests, Ghosts, FileStore, frame_count, AddsProcess, RemovesProcess, KeepsProcesses}
+use Rattle.spaces.proofs.Names.{◌≤◌, ◌==◌, ◌&&◌, ◌||◌, not, Bool, true, false, if◌then◌else◌, Option, Some, None, refl, sym, ap, ◌∙◌, subst, arith, rules, nat_tests, Ghosts, Result, FileStore, IsReadyStore, IsSoundCore, frame_count, AddsProcess, RemovesProcess, KeepsProcesses}
 use Rattle.spaces.proofs.Names.{IsShortToFork, KeepsRoom, StallCause, ReadCause, IsShort, IsFit, Core, Picture, picture_of, is_live, view, ShowsPages, KeepsFiles, shows_named, KeepsNamed, without_maps, slots_of}
-use Rattle.spaces.specs.Calls.{Comes, Stalls, FallsShort, IsCaused, causes}
+use Rattle.{lifecycle.specs.Lifetimes.{WantsProcess}, spaces.specs.Calls.{Comes, Stalls, FallsShort, IsCaused, LeavesStore, causes}}
 use Rattle.spaces.proofs.{Calls.{does, does_answer, shows_with, pages_of}, Pages.{views_seen, maps_gone}, Refusals.{stall_caused}, Short.{falls_short, falls_short_to_fork, least_below, tables_added}}
 
 -- a test of all numbers, where one is decided
@@ -81,6 +81,22 @@ pub store_kept_caused : {M : Type 0} {m : Levels.Ghosts M} → {D E : Type 0} (g
 store_kept_caused g h old new stall same later cause =
     let still : g.failures new.store.disk ≡ g.failures old.store.disk = ap (λ (t : FileStore _). g.failures t.disk) same in
     stall_caused g h old new stall (omega (arith, still)) later (stall_read g h old new stall same cause)
+
+-- a process came, and nothing failed
+pub came : {M : Type 0} {m : Levels.Ghosts M} → {D E : Type 0} (g : Ghosts D) (h : Ghosts E) (old new : Core D E M m) (pid : ℕ) → {T : Type 0} (r : Result T Stall) → IsSoundCore g h old → WantsProcess h old new r
+    → (new.refused.number ≡ old.refused.number) × (h.failures new.swap.pages.disk ≡ h.failures old.swap.pages.disk) → LeavesStore g h old new (Process pid)
+came g h old new pid r sound keeps none =
+    let still : g.failures new.store.disk ≡ g.failures old.store.disk = ap (λ (t : FileStore _). g.failures t.disk) keeps.store in
+    record {
+      accounts = record {
+        sound = record { ready = subst (λ (t : FileStore _). IsReadyStore g t) (sym keeps.store) sound.ready; swap = keeps.swap; fit = keeps.fit };
+        room = keeps.room;
+        denied = search rules;
+        caused = record { later = omega (arith, still); swap_later = keeps.device.later; calm = λ e. still; swap_calm = λ e. none.1; counted = omega (arith, none.0); failed = search rules; stalled = search rules };
+      };
+      store = keeps.store;
+      device = keeps.device;
+    }
 
 module _ {M : Type 0} {m : Levels.Ghosts M} {D E : Type 0} (g : Ghosts D) (h : Ghosts E) (old : Core D E M m) (s : State) (shows : ShowsPages (picture_of old) s) (number : Option ℕ)
     (is : number ≡ least_free_from (is_live (picture_of old)) 1 64) where

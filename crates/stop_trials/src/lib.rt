@@ -2,6 +2,7 @@
 //! left is recovered, and the msyncs that it stands for are counted.
 #![tactic(auto)]
 
+mod faults;
 mod fillings;
 mod parts;
 mod program;

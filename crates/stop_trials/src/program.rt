@@ -64,8 +64,10 @@ fn tried<'a, R: Files<File = File> + AllocGlobal, I: Read, O: Write>(
         lines: lines.as_slice(),
         drops: words.drop.map(u64::from),
     };
-    let summary = setting.try_stops(u64::from(words.every), writer)?;
-    Ok(summary.status())
+    match setting.try_stops(u64::from(words.every), writer) {
+        Ok(summary) => Ok(summary.status()),
+        Err(fault) => Err(fault.told()),
+    }
 }
 
 /// A device with a new store of the files that the words name.

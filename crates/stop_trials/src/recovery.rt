@@ -6,9 +6,10 @@ ghost use Rattle.file_store.specs.Standing.{IsBadLayout, IsBadJournal};
 ghost use Rattle.file_store.specs.Store.{IsReadyStore};
 ghost use Rattle.stop_trials.specs.Standing.{standing_bytes, standing_contents};
 
+use crate::faults::TrialFault;
 use disk_model::{SectorDisk, SimDisk};
 use file_store::FileStore;
-use programs::{ProgramFault, ShowFault, show_opened};
+use programs::{ShowFault, show_opened};
 use std::alloc::Global;
 
 /// The most files of a store.
@@ -21,24 +22,21 @@ const MAX_FILES: u32 = 64;
 ///
 /// `Open` where the store can't be opened, `ReadFailed` where its device fails, and `OutOfMemory` for want of room for the
 /// bytes.
-pub(crate) fn recovered<'a>(alloc: Global, disk: SimDisk) -> Result<Vec<u8>, ProgramFault<'a>>
+pub(crate) fn recovered(alloc: Global, disk: SimDisk) -> Result<Vec<u8>, TrialFault>
     ensures layout { OnOk result (IsBadLayout (sectors_in disk) (sector_of disk) → ⊥) }
     ensures journal { OnOk result (IsBadJournal (sectors_in disk) (sector_of disk) → ⊥) }
     ensures bytes { IfOk result (λ bytes. bytes.items ≡ standing_contents (sector_of disk)) }
 {
     let mut store = match FileStore::open(disk) {
         Ok(store) => store,
-        Err((fault, _)) => return Err(ProgramFault::Open(fault)),
+        Err((fault, _)) => return Err(TrialFault::Open(fault)),
     };
     let bytes = contents(alloc, &mut store)?;
     Ok(bytes)
 }
 
 /// The bytes of all files of an open store, one file after another.
-fn contents<'a, D: SectorDisk>(
-    alloc: Global,
-    store: &mut FileStore<D>,
-) -> Result<Vec<u8>, ProgramFault<'a>>
+fn contents<D: SectorDisk>(alloc: Global, store: &mut FileStore<D>) -> Result<Vec<u8>, TrialFault>
     requires { IsReadyStore D.SectorDisk store.old }
     ensures kept { D.keeps_model store.new.disk → D.keeps_model store.old.disk }
     ensures bytes { D.keeps_model store.new.disk → IfOk result (λ bytes. bytes.items ≡ standing_contents (D.content store.old.disk)) }
@@ -54,11 +52,11 @@ fn contents<'a, D: SectorDisk>(
 }
 
 /// Adds the bytes of a file, none where there is no such file.
-fn add_file<'a, D: SectorDisk>(
+fn add_file<D: SectorDisk>(
     store: &mut FileStore<D>,
     file: u32,
     bytes: &mut Vec<u8>,
-) -> Result<(), ProgramFault<'a>>
+) -> Result<(), TrialFault>
     requires { IsReadyStore D.SectorDisk store.old }
     ensures ready { IsReadyStore D.SectorDisk store.new }
     ensures kept { D.keeps_model store.new.disk → D.keeps_model store.old.disk }
@@ -70,9 +68,9 @@ fn add_file<'a, D: SectorDisk>(
     }
     match show_opened(store, file, bytes) {
         Ok(()) => Ok(()),
-        Err(ShowFault::Open(fault)) => Err(ProgramFault::Open(fault)),
-        Err(ShowFault::NoFile) => Err(ProgramFault::NoFile(file)),
-        Err(ShowFault::Read) => Err(ProgramFault::ReadFailed),
-        Err(ShowFault::Write) => Err(ProgramFault::OutOfMemory),
+        Err(ShowFault::Open(fault)) => Err(TrialFault::Open(fault)),
+        Err(ShowFault::NoFile) => Err(TrialFault::NoFile(file)),
+        Err(ShowFault::Read) => Err(TrialFault::ReadFailed),
+        Err(ShowFault::Write) => Err(TrialFault::OutOfMemory),
     }
 }

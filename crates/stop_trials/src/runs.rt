@@ -4,12 +4,12 @@ ghost use Rattle.machine.specs.Machine.{IsSoundMachine};
 ghost use Rattle.vm_types.specs.Prefix.{is_msync, is_done};
 ghost use Rattle.stop_trials.specs.Lines.{RunsLine};
 
+use crate::faults::TrialFault;
 use crate::fillings::Filling;
 use crate::recovery::recovered;
 use crate::stopping::StoppingDisk;
 use disk_model::{SectorDisk, SimDisk};
 use machine::{BootFault, Config, Machine};
-use programs::ProgramFault;
 use std::alloc::{AllocError, Global};
 use sync_journal::Journals;
 use trace_lang::parse_line;
@@ -109,16 +109,12 @@ impl Setting<'_> {
     }
 
     /// Adds what the files hold where a run is stopped now and leaves nothing that was not synced.
-    fn add_state<'b>(
-        &self,
-        store: &StoppingDisk,
-        states: &mut Vec<Vec<u8>>,
-    ) -> Result<(), ProgramFault<'b>> {
+    fn add_state(&self, store: &StoppingDisk, states: &mut Vec<Vec<u8>>) -> Result<(), TrialFault> {
         let left = Filling::Old.left(self.alloc, store.disk())?;
         let bytes = recovered(self.alloc, left)?;
         match states.push(bytes) {
             Ok(()) => Ok(()),
-            Err(_) => Err(ProgramFault::OutOfMemory),
+            Err(_) => Err(TrialFault::OutOfMemory),
         }
     }
 
@@ -127,7 +123,7 @@ impl Setting<'_> {
     /// # Errors
     ///
     /// `Boot` where the machine doesn't start, `OutOfMemory`, and what `recovered` says.
-    pub(crate) fn states<'b>(&self) -> Result<Vec<Vec<u8>>, ProgramFault<'b>> {
+    pub(crate) fn states(&self) -> Result<Vec<Vec<u8>>, TrialFault> {
         let mut states = Vec::new(self.alloc);
         for msyncs in 0..usize::MAX {
             let ran = self.run(None, msyncs)?;
@@ -145,7 +141,7 @@ impl Setting<'_> {
     /// # Errors
     ///
     /// `Boot` where the machine doesn't start for another reason than the stop, and `OutOfMemory`.
-    pub(crate) fn run<'b>(&self, stop: Option<u64>, most: usize) -> Result<Run, ProgramFault<'b>>
+    pub(crate) fn run(&self, stop: Option<u64>, most: usize) -> Result<Run, TrialFault>
         ensures { IfOk result (λ ran. ran.acknowledged ≤ most) }
     {
         let (store, swap) = self.devices(stop)?;
@@ -157,7 +153,7 @@ impl Setting<'_> {
                     acknowledged: 0,
                 });
             }
-            Err((fault, _)) => return Err(ProgramFault::Boot(fault)),
+            Err((fault, _)) => return Err(TrialFault::Boot(fault)),
         };
         let acknowledged = run_lines(&mut machine, self.lines, most);
         Ok(Run {

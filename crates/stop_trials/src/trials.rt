@@ -5,13 +5,13 @@ ghost use Rattle.std.specs.declared.vec.Vec.{Vec};
 ghost use Rattle.disk_model.specs.Plan.{one_more};
 ghost use Rattle.stop_trials.specs.Trials.{AllStand, StandsWith, StandWithEach, IsTrial, AreTried};
 
+use crate::faults::TrialFault;
 use crate::fillings::Filling;
 use crate::parts::write_event;
 use crate::recovery::recovered;
 use crate::runs::{Run, Setting};
 use crate::standing::msyncs_standing;
 use crate::stopping::Event;
-use programs::ProgramFault;
 use runner::write_bytes;
 use std::alloc::Global;
 use std::fmt::{self, Display, Formatter};
@@ -108,43 +108,43 @@ impl Display for Summary {
 }
 
 /// Writes a line.
-fn write_line<'a, T: Display, W: Write>(
+fn write_line<T: Display, W: Write>(
     alloc: Global,
     line: &T,
     writer: &mut W,
-) -> Result<(), ProgramFault<'a>> {
+) -> Result<(), TrialFault> {
     let text = format!(in alloc; "{line}\n")?;
     match write_bytes(text.as_bytes(), writer) {
         Ok(()) => Ok(()),
-        Err(_) => Err(ProgramFault::WriteFailed),
+        Err(_) => Err(TrialFault::WriteFailed),
     }
 }
 
 impl Setting<'_> {
     /// After how many msyncs the files stand that a stopped run leaves with that filling; `None` where that is no number of
     /// them that holds each acknowledged one, or the store can't be opened.
-    fn judged<'b>(
+    fn judged(
         &self,
         states: &[Vec<u8>],
         ran: &Run,
         filling: Filling,
-    ) -> Result<Option<usize>, ProgramFault<'b>>
+    ) -> Result<Option<usize>, TrialFault>
         ensures { IfOk result (λ standing. IfSome standing (StandsWith states.now ran.now.acknowledged ran.now.device.disk filling)) }
     {
         let left = filling.left(self.alloc, ran.device.disk())?;
         match recovered(self.alloc, left) {
             Ok(bytes) => Ok(msyncs_standing(states, ran.acknowledged, bytes.as_slice())),
-            Err(ProgramFault::OutOfMemory) => Err(ProgramFault::OutOfMemory),
+            Err(TrialFault::OutOfMemory) => Err(TrialFault::OutOfMemory),
             Err(_) => Ok(None),
         }
     }
 
     /// The same for each filling.
-    fn judged_with_each<'b>(
+    fn judged_with_each(
         &self,
         states: &[Vec<u8>],
         ran: &Run,
-    ) -> Result<[Option<usize>; 5], ProgramFault<'b>>
+    ) -> Result<[Option<usize>; 5], TrialFault>
         ensures { IfOk result (StandWithEach states.now ran.now.acknowledged ran.now.device.disk) }
     {
         let old = self.judged(states, ran, Filling::Old)?;
@@ -156,7 +156,7 @@ impl Setting<'_> {
     }
 
     /// The trial of a stop in that event, or none where the run has no such event.
-    fn trial<'b>(&self, states: &[Vec<u8>], number: u64) -> Result<Option<Trial>, ProgramFault<'b>>
+    fn trial(&self, states: &[Vec<u8>], number: u64) -> Result<Option<Trial>, TrialFault>
         ensures { IfOk result (λ trial. IfSome trial (IsTrial states.now number)) }
     {
         let ran = self.run(Some(number), usize::MAX)?;
@@ -175,12 +175,12 @@ impl Setting<'_> {
 
     /// The trials of stops in each event whose number is a multiple of `every`, up to the first that the run does not have.
     /// A line of each goes to the writer.
-    fn tried<'b, W: Write>(
+    fn tried<W: Write>(
         &self,
         states: &[Vec<u8>],
         every: u64,
         writer: &mut W,
-    ) -> Result<Summary, ProgramFault<'b>>
+    ) -> Result<Summary, TrialFault>
         ensures { IfOk result (AreTried states.now every) }
     {
         let mut summary = Summary { stops: 0, bad: 0 };
@@ -203,11 +203,11 @@ impl Setting<'_> {
     /// # Errors
     ///
     /// `Boot` where the machine does not start, `WriteFailed` where the writer fails or takes no bytes, and `OutOfMemory`.
-    pub(crate) fn try_stops<'b, W: Write>(
+    pub(crate) fn try_stops<W: Write>(
         &self,
         every: u64,
         writer: &mut W,
-    ) -> Result<Summary, ProgramFault<'b>>
+    ) -> Result<Summary, TrialFault>
         ensures { IfOk result (λ summary. (states : List (Vec ℕ Global)) × AreTried states every summary) }
     {
         let states = self.states()?;

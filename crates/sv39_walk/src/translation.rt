@@ -1,5 +1,5 @@
 //! The walk from a root through tables to a physical address, or to the reason why there is none.
-ghost use Rattle.std.specs.Prelude.{◌≡◌, ◌<◌, ◌≤◌, ◌^◌, true, false, MatchOption};
+ghost use Rattle.std.specs.Prelude.{◌≡◌, ◌<◌, ◌≤◌, ◌%◌, ◌^◌, ◌==◌, true, false, MatchOption};
 ghost use Rattle.vm_types.specs.Limits.{top_level, table_entries};
 ghost use Rattle.sv39_walk.specs.Entry.{frame_of};
 ghost use Rattle.frames.specs.FrameTable.{IsFrame, frame_count};
@@ -171,7 +171,7 @@ fn answer(count: u32, addr: u64, access: Access, level: u32, last: Pte) -> Resul
         });
     }
     let pages = leaf_pages(level);
-    if last.frame() % pages != 0 {
+    if !is_aligned(last, pages) {
         return Err(WalkFault::Misaligned);
     }
     if !last.is_user() || !last.grants(access) {
@@ -188,4 +188,12 @@ fn answer(count: u32, addr: u64, access: Access, level: u32, last: Pte) -> Resul
         return Err(WalkFault::Outside);
     }
     Ok(Phys(frame * 4096 + addr % 4096))
+}
+
+// Whether the low bits of the physical page number, those of a page's own field in a leaf of that many pages, are zero.
+fn is_aligned(leaf: Pte, pages: u64) -> bool
+    requires { 0 < pages }
+    ensures { result ≡ (frame_of leaf.0 % pages == 0) }
+{
+    leaf.frame() % pages == 0
 }

@@ -177,17 +177,17 @@ sound_set counts n v few sound = record {
           omega (arith, none))
     ]
 
+pub zero_at : (slots n : ℕ) → count_at (replicate slots 0) n ≡ 0
+zero_at slots n = elim (cases_lt n slots) [
+  | inl low ↦ get_or-replicate slots n 0 0 low
+  | inr high ↦ get_or_past (replicate slots 0) n 0 (let size : length {A = ℕ} (replicate slots 0) ≡ slots = length-replicate slots 0 in omega (arith, size, high))
+]
+
 pub sound_zeros : (counts : List ℕ) (slots : ℕ) → counts ≡ replicate slots 0 → slots ≤ 65536 → AreSoundCounts counts
 sound_zeros counts slots zeros most = record {
   most = (let size : length counts ≡ slots = ap length zeros ∙ length-replicate slots 0 in omega (arith, size, most));
-  shared = λ n. (let here : count_at counts n ≡ 0 = ap (λ (l : List ℕ). count_at l n) zeros ∙ zero_at n in omega (arith, here));
+  shared = λ n. (let here : count_at counts n ≡ 0 = ap (λ (l : List ℕ). count_at l n) zeros ∙ zero_at slots n in omega (arith, here));
 }
-  where
-    zero_at : (n : ℕ) → count_at (replicate slots 0) n ≡ 0
-    zero_at n = elim (cases_lt n slots) [
-      | inl low ↦ get_or-replicate slots n 0 0 low
-      | inr high ↦ get_or_past (replicate slots 0) n 0 (let size : length {A = ℕ} (replicate slots 0) ≡ slots = length-replicate slots 0 in omega (arith, size, high))
-    ]
 
 -- the test for a free slot
 pub full_test : (counts : List ℕ) (r : ℕ) → r ≡ free_count counts → IsTrue (r == 0) ↔ ((n : ℕ) → n < length counts → 0 < count_at counts n)

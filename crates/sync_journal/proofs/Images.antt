@@ -86,11 +86,7 @@ standing_open homes image h i opens = open_stands layout_2 homes image h i opens
 
 -- an image with the same map is open for the same homes
 pub open_as : (homes : List ℕ) (content image : Image) → IsOpenFor homes content → is_open image ≡ true → map_of image ≡ map_of content → IsOpenFor homes image
-open_as homes content image opens gate same = record {
-  gate = gate;
-  count = ap map_count same ∙ opens.count;
-  each = λ j below. ap (λ map. home_in map j) same ∙ opens.each j below;
-}
+open_as homes content image opens gate same = record { gate = gate; count = ap map_count same ∙ opens.count; each = λ j below. ap (λ map. home_in map j) same ∙ opens.each j below }
 
 -- a home that stands at no place has no sector among those of the homes
 pub not_at_home : (homes : List ℕ) (h i : ℕ) → i < 8 → Means (λ j. get_or homes j 0) h (length homes) None → IsHomeSector homes (home_sector h + i) → ⊥

@@ -107,11 +107,7 @@ same_turns journal turns e = ap (turns_or journal) e
 
 -- An image of the same sectors stands for the same.
 pub same_store : (sectors : ℕ) (content image : Image) → image ≡ content → StoreStandsAs sectors content image
-same_store sectors content image same = subst (StoreStandsAs sectors content) (sym same) (record {
-  stands = record { each = λ h i below. refl };
-  journal = λ bad. bad;
-  outside = λ k outside. refl;
-})
+same_store sectors content image same = subst (StoreStandsAs sectors content) (sym same) (record { stands = record { each = λ h i below. refl }; journal = λ bad. bad; outside = λ k outside. refl })
 
 -- What is kept of what was kept.
 pub store_again : (sectors : ℕ) (first content image : Image) → StoreStandsAs sectors first content → StoreStandsAs sectors content image → StoreStandsAs sectors first image

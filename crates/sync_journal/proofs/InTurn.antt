@@ -113,9 +113,7 @@ module _ (sectors : ℕ) (second : Bool) (live : List ℕ) (are : AreHomes (turn
   -- an image whose gate names the same journal
   pub before_kept : (image : Image) → named_in image ≡ second → ((k : ℕ) → (IsGateBlock k → ⊥) → IsTurnStaged second live k ⊎ (image k ≡ content k)) → TurnsStandAs sectors content image
   before_kept image names same = record {
-    stands = record {
-      each = λ h i below. ap (λ b. stands_under b image h i) names ∙ under_same image journal homes h i below ∙ sym (ap (λ b. stands_under b content h i) gate);
-    };
+    stands = record { each = λ h i below. ap (λ b. stands_under b image h i) names ∙ under_same image journal homes h i below ∙ sym (ap (λ b. stands_under b content h i) gate) };
     journal = λ bad. absurd (good (subst (λ m. IsBadMap 1023 (turn_home_count sectors) m) (same_turn_map second image content journal)
         (subst (λ b. IsBadUnder b sectors image) names bad)));
     outside = λ k outside. ⊎_elim
@@ -399,11 +397,7 @@ named_rest g d second n map list gate mapped counts room read are synced = recor
 
 -- an image of the same sectors stands for the same
 pub turn_same : (sectors : ℕ) (content image : Image) → image ≡ content → TurnsStandAs sectors content image
-turn_same sectors content image same = subst (TurnsStandAs sectors content) (sym same) (record {
-  stands = record { each = λ h i below. refl };
-  journal = λ bad. bad;
-  outside = λ k outside. refl;
-})
+turn_same sectors content image same = subst (TurnsStandAs sectors content) (sym same) (record { stands = record { each = λ h i below. refl }; journal = λ bad. bad; outside = λ k outside. refl })
 
 -- what is kept of what was kept
 pub turn_again : (sectors : ℕ) (first content image : Image) → TurnsStandAs sectors first content → TurnsStandAs sectors content image → TurnsStandAs sectors first image
@@ -443,11 +437,7 @@ none_settled g sectors content second pages new settled = record {
   rest = settled.rest;
   stands = record { each = λ h i below. settled.stands.each h i below ∙ changed_none (turn_standing content) pages h i };
   outside = settled.outside;
-  left = λ image may. let kept = settled.left image may in record {
-    stands = record { each = λ h i below. kept.stands.each h i below ∙ changed_none (turn_standing content) pages h i };
-    journal = kept.journal;
-    outside = kept.outside;
-  };
+  left = λ image may. let kept = settled.left image may in record { stands = record { each = λ h i below. kept.stands.each h i below ∙ changed_none (turn_standing content) pages h i }; journal = kept.journal; outside = kept.outside };
 }
 
 -- what follows, block by block

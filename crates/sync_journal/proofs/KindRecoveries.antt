@@ -31,20 +31,11 @@ module _ {D : Type 0} (g : Ghosts D) (journals : Journals) (old new : D) (kind :
     ok = settled;
     synced = λ keeps. ok_still r result _ same (e.synced keeps);
     stays = record { any_moment = moments; in_a_row = λ keeps still first was. store_since g old new first was (moments keeps still) };
-    run = record {
-      size = e.size;
-      kept = e.kept;
-      later = e.later;
-      touches = λ keeps. subst (λ b. Touches g (IsKindRecovered b (g.sector_count old)) old new) (sym (kind (e.kept keeps))) (e.touches keeps);
-    };
+    run = record { size = e.size; kept = e.kept; later = e.later; touches = λ keeps. subst (λ b. Touches g (IsKindRecovered b (g.sector_count old)) old new) (sym (kind (e.kept keeps))) (e.touches keeps) };
     bad_unwritten = λ keeps bad. e.bad_unwritten keeps (here keeps bad);
     closed_unwritten = λ keeps closed. e.closed_unwritten keeps (subst (λ b. IsKindClosed b (g.content old)) (kind (e.kept keeps)) closed);
     asks = λ keeps. subst (λ b. AsksOnly g (IsKindAsked b (g.content old)) old new) (sym (kind (e.kept keeps))) (e.asks keeps);
-    blames = record {
-      device = λ is. e.device (err_was r result _ same is);
-      calm = ok_still r result _ same e.calm;
-      still = λ is. e.still (err_was r result _ same is);
-    };
+    blames = record { device = λ is. e.device (err_was r result _ same is); calm = ok_still r result _ same e.calm; still = λ is. e.still (err_was r result _ same is) };
     good = λ keeps. ok_still r result _ same (on_ok_weaker r (λ good bad. good (here keeps bad)) (e.good keeps));
     bad = λ keeps is. subst (λ b. IsKindBad b (g.sector_count old) (g.content old)) (sym (kind (e.kept keeps))) (e.bad keeps (err_was r result _ same is));
   }

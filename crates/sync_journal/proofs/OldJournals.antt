@@ -5,9 +5,7 @@ use Rattle.sync_journal.specs.{Map.{AreFewHomes, AreNamed, ReadsMap}, OldJournal
 use Rattle.sync_journal.specs.declared.store_journal.Journals.TheVariants.{Paired}
 
 pub closed_at : (layout : Layout) (image : Image) → is_open image ≡ false → StandsAsListed layout [] image
-closed_at layout image closed = record {
-  at = λ h. closed_place layout image h closed ∙ ap (λ o. place_or_home_in layout h o) (sym (no_place (λ j. get_or [] j 0) h));
-}
+closed_at layout image closed = record { at = λ h. closed_place layout image h closed ∙ ap (λ o. place_or_home_in layout h o) (sym (no_place (λ j. get_or [] j 0) h)) }
 
 pub open_at : (layout : Layout) (homes : List ℕ) (image : Image) → IsOpenIn layout homes image → StandsAsListed layout homes image
 open_at layout homes image opens = record { at = λ h. open_place layout homes image h opens }

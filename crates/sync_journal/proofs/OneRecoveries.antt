@@ -79,12 +79,7 @@ module _ {D : Type 0} (g : Ghosts D) (old read : D) (only_now : g.keeps_model ol
         ok = ok;
         synced = synced;
         stays = record { any_moment = replaying; in_a_row = λ keeps still first was. since_first g old new first was (replaying keeps still) };
-        run = one_more g (IsRecovered (g.sector_count old)) old read new read_run (record {
-          size = e.size;
-          kept = e.kept;
-          later = e.later;
-          touches = λ keeps. replayed g (g.sector_count old) homes read new are (e.touches keeps);
-        });
+        run = one_more g (IsRecovered (g.sector_count old)) old read new read_run (record { size = e.size; kept = e.kept; later = e.later; touches = λ keeps. replayed g (g.sector_count old) homes read new are (e.touches keeps) });
         bad_unwritten = λ keeps is. absurd (good_there keeps is);
         closed_unwritten = λ keeps closed. (let both : true ≡ false = sym (opened (e.kept keeps)).gate ∙ closed in cc);
         asks = λ keeps. replay_asks g (g.content old) homes old read new (opened (e.kept keeps)) (asks (e.kept keeps)) e.once;
@@ -109,11 +104,7 @@ module _ {D : Type 0} (g : Ghosts D) (old read : D) (only_now : g.keeps_model ol
         closed_unwritten = λ keeps closed. and_then g Nothing old read new (looks.touches (e.kept keeps)) (e.closed_unwritten keeps (ap (λ (image : Image). is_open image) (same (e.kept keeps)) ∙ closed));
         asks = λ keeps. asks_then g (IsAskedIn (g.content old)) old read new (asks_none g (IsAskedIn (g.content old)) old read unasked)
             (subst (λ (image : Image). AsksOnly g (IsAskedIn image) read new) (same (e.kept keeps)) (e.asks keeps));
-        blames = record {
-          device = λ is. (let failed = e.device is in omega (arith, failed, looks.later));
-          calm = on_ok_weaker result (λ still. still ∙ calm) e.calm;
-          still = λ is. e.still is ∙ calm;
-        };
+        blames = record { device = λ is. (let failed = e.device is in omega (arith, failed, looks.later)); calm = on_ok_weaker result (λ still. still ∙ calm) e.calm; still = λ is. e.still is ∙ calm };
         good = λ keeps. on_ok_weaker result (λ good bad. good (still_bad keeps bad)) (e.good keeps);
         bad = λ keeps is. so_before g old read (looks.touches (e.kept keeps)) IsBadSingle looks.size (e.bad keeps is);
       };

@@ -124,10 +124,7 @@ module _ {D : Type 0} (g : Ghosts D) (homes : List ℕ) (pages : ℕ → List �
   staged_settled =
       let here = as_before (g.content staged) stages.content in
       record {
-        rest = record {
-          closed = ap is_open_sector (⊎_elim (λ inside. absurd (omega (arith, inside.0))) (λ e. e) (stages.content gate_sector)) ∙ quiet.closed;
-          synced = unsynced;
-        };
+        rest = record { closed = ap is_open_sector (⊎_elim (λ inside. absurd (omega (arith, inside.0))) (λ e. e) (stages.content gate_sector)) ∙ quiet.closed; synced = unsynced };
         stands = here.stands;
         outside = here.outside;
         left = λ image may. as_before image (λ k. ⊎_elim (λ u. inl (unsynced k u)) (λ e. ⊎_elim (λ inside. inl inside) (λ e'. inr (e ∙ e')) (stages.content k)) (may.kept k));

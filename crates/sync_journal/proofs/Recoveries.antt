@@ -3,11 +3,7 @@ use Rattle.sync_journal.{proofs.Names.{◌≡◌, ℕ, refl, sym, subst, ◌∙�
 
 -- an image of the same sectors stands for the same
 pub same_kept : (sectors : ℕ) (content image : Image) → image ≡ content → IsKept sectors content (StandsForPages (standing_single content)) image
-same_kept sectors content image same = subst (IsKept sectors content (StandsForPages (standing_single content))) (sym same) (record {
-  stands = record { each = λ h i below. refl };
-  journal = λ bad. bad;
-  outside = λ k outside. refl;
-})
+same_kept sectors content image same = subst (IsKept sectors content (StandsForPages (standing_single content))) (sym same) (record { stands = record { each = λ h i below. refl }; journal = λ bad. bad; outside = λ k outside. refl })
 
 -- what is kept of what was kept
 pub kept_again : (sectors : ℕ) (first content image : Image) → IsKept sectors first (StandsForPages (standing_single first)) content

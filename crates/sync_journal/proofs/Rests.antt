@@ -17,14 +17,8 @@ module _ {D : Type 0} (g : Ghosts D) where
 
   -- reading leaves what is at rest
   pub rest_read : (homes : List ℕ) (old new : D) → Touches g Nothing old new → IsAtRest g homes old → IsAtRest g homes new
-  rest_read [] old new run quiet = record {
-    closed = ap (λ (image : Image). is_open image) (same_image g old new run) ∙ quiet.closed;
-    synced = λ k u. quiet.synced k (reads_unsynced g old new run k u);
-  }
-  rest_read (home ∷ more) old new run live = record {
-    opened = subst (IsOpenFor (home ∷ more)) (sym (same_image g old new run)) live.opened;
-    synced = λ k u. live.synced k (reads_unsynced g old new run k u);
-  }
+  rest_read [] old new run quiet = record { closed = ap (λ (image : Image). is_open image) (same_image g old new run) ∙ quiet.closed; synced = λ k u. quiet.synced k (reads_unsynced g old new run k u) }
+  rest_read (home ∷ more) old new run live = record { opened = subst (IsOpenFor (home ∷ more)) (sym (same_image g old new run)) live.opened; synced = λ k u. live.synced k (reads_unsynced g old new run k u) }
 
   -- where a home page stands: in the body where the journal is live with it
   pub standing_rest : (homes : List ℕ) (d : D) (h i : ℕ) → IsAtRest g homes d → standing_single (g.content d) h i ≡ g.content d (place_or_home h (home_rank homes h) + i)

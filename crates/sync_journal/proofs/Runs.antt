@@ -25,12 +25,7 @@ module _ {D : Type 0} (g : Ghosts D) where
       → (g.keeps_model new → (k : ℕ) → g.unsynced new k → g.unsynced old k)
       → (g.keeps_model new → Elapses (g.moment old) (g.moment new) (g.left_since old) (g.left_since new) (g.content new) (g.unsynced new))
       → RunsOnDevice g W old new
-  no_write W old new size kept later same marks time = record {
-    size = size;
-    kept = kept;
-    later = later;
-    touches = λ h. after_none g W old new (same h) (marks h) (time h);
-  }
+  no_write W old new size kept later same marks time = record { size = size; kept = kept; later = later; touches = λ h. after_none g W old new (same h) (marks h) (time h) }
 
   -- a sync after a run
   pub and_no_write : (W : ℕ → Type 0) (old mid new : D) → RunsOnDevice g W old mid → g.sector_count new ≡ g.sector_count mid
@@ -46,12 +41,7 @@ module _ {D : Type 0} (g : Ghosts D) where
       → (g.keeps_model new → (k : ℕ) → g.unsynced new k → g.unsynced old k ⊎ IsOfPage n k)
       → (g.keeps_model new → Elapses (g.moment old) (g.moment new) (g.left_since old) (g.left_since new) (g.content new) (g.unsynced new))
       → RunsOnDevice g W old new
-  one_page W n old new inside size kept later changes marks time = record {
-    size = size;
-    kept = kept;
-    later = later;
-    touches = λ h. after_page g W n old new inside (changes h) (marks h) (time h);
-  }
+  one_page W n old new inside size kept later changes marks time = record { size = size; kept = kept; later = later; touches = λ h. after_page g W n old new inside (changes h) (marks h) (time h) }
 
   -- what the parts of a commit write
   pub staged_run : (old staged : D) → RunsOnDevice g IsJournalSector old staged → RunsOnDevice g IsPublished old staged

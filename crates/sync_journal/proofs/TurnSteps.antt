@@ -147,13 +147,7 @@ pub emptied_so_far : {D : Type 0} (g : Ghosts D) (was now : TurnJournal) (old ne
     → OnOk r (g.failures new ≡ g.failures old) → OnOk r (live_homes now.live ≡ []) → (g.keeps_model new → OnOk r ((k : ℕ) → g.unsynced new k → ⊥)) → EmptiesNamed g was now old new r
 emptied_so_far g was now old new r some leaves done failed calm not_live synced = record {
   home = record {
-    writes = record {
-      done = done;
-      run = leaves.run;
-      once = asks_some (IsTurnUsed was.second (live_homes was.live) []) was.live.count (g.asked old) (g.asked new) some leaves.once;
-      failed = failed;
-      calm = calm;
-    };
+    writes = record { done = done; run = leaves.run; once = asks_some (IsTurnUsed was.second (live_homes was.live) []) was.live.count (g.asked old) (g.asked new) some leaves.once; failed = failed; calm = calm };
     any_moment = λ keeps. leaves.any_moment keeps tt;
   };
   blocks = λ keeps. leaves.blocks keeps tt;

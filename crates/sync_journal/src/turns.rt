@@ -14,7 +14,7 @@ ghost use Rattle.sync_journal.specs.Source.{GivesFor};
 
 use crate::commits::place;
 use crate::faults::{CommitFault, RecoverFault};
-use crate::gate::{is_open_gate, open_bytes};
+use crate::gate::{is_open_gate, open_bytes, write_gate};
 use crate::homes::copy_homes;
 use crate::journal::Journal;
 use crate::layout::{MAX_HOMES, PAGE_LIMIT, PAGE_SECTORS};
@@ -217,6 +217,5 @@ fn name_journal<D: SectorDisk>(disk: &mut D, second: bool) -> Result<(), DiskFau
     requires { turn_homes ≤ D.sector_count disk.old }
     ensures { SyncsInto D.SectorDisk IsTurnGate IsTurnGate (named_in (D.content disk.new) ≡ second) disk.old disk.new result }
 {
-    disk.write(TURN_GATE, &gate_bytes(second))?;
-    disk.sync()
+    write_gate(disk, TURN_GATE, &gate_bytes(second))
 }

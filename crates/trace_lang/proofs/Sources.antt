@@ -20,11 +20,7 @@ begins ws rest w o p whole h = ap (λ t. get_or t 0 []) (sym whole ∙ h.2 ∙ a
 pub read_after : (ws rest : List (List ℕ)) (w : List ℕ) (s : MapSource) (p : Placing) (r : Option (MapSource × Placing)) → ws ≡ w ∷ rest
     → ReadsAfter (name_in s) rest r → IsBack ws s p → r ≡ Some (s, p)
 unfolding name_in
-read_after ws rest w Anon p r whole only h =
-    let P : List (List ℕ) → Type 0 = λ t. IsPlacing t p in only p (subst P (ap (drop 1) (sym (h.2 ∙ ap (λ s. s ++ h.1) h.3) ∙ whole)) h.4)
-read_after ws rest w Common p r whole only h =
-    let P : List (List ℕ) → Type 0 = λ t. IsPlacing t p in only p (subst P (ap (drop 1) (sym (h.2 ∙ ap (λ s. s ++ h.1) h.3) ∙ whole)) h.4)
-read_after ws rest w (Private file offset) p r whole only h =
-    only file offset p (h.3.0, h.3.1, h.1, ap (drop 1) (sym whole ∙ h.2 ∙ ap (λ s. s ++ h.1) h.3.2), h.3.3, h.3.4, h.4)
-read_after ws rest w (Shared file offset) p r whole only h =
-    only file offset p (h.3.0, h.3.1, h.1, ap (drop 1) (sym whole ∙ h.2 ∙ ap (λ s. s ++ h.1) h.3.2), h.3.3, h.3.4, h.4)
+read_after ws rest w Anon p r whole only h = let P : List (List ℕ) → Type 0 = λ t. IsPlacing t p in only p (subst P (ap (drop 1) (sym (h.2 ∙ ap (λ s. s ++ h.1) h.3) ∙ whole)) h.4)
+read_after ws rest w Common p r whole only h = let P : List (List ℕ) → Type 0 = λ t. IsPlacing t p in only p (subst P (ap (drop 1) (sym (h.2 ∙ ap (λ s. s ++ h.1) h.3) ∙ whole)) h.4)
+read_after ws rest w (Private file offset) p r whole only h = only file offset p (h.3.0, h.3.1, h.1, ap (drop 1) (sym whole ∙ h.2 ∙ ap (λ s. s ++ h.1) h.3.2), h.3.3, h.3.4, h.4)
+read_after ws rest w (Shared file offset) p r whole only h = only file offset p (h.3.0, h.3.1, h.1, ap (drop 1) (sym whole ∙ h.2 ∙ ap (λ s. s ++ h.1) h.3.2), h.3.3, h.3.4, h.4)

@@ -5,23 +5,6 @@ use Rattle.fault.proofs.granting.grant_shared.Goals as goal
 pub cached-requires : goal.cached-requires
 cached-requires g c = may_bring c.requires.may c.requires.stands
 
-pub touch-requires-clause-spot : goal.touch-requires-clause-spot
-touch-requires-clause-spot g c = stands_brought c.requires.may c.in_ok-frame.ensures.pages_in
-
-pub touch-requires-clause-allowed : goal.touch-requires-clause-allowed
-touch-requires-clause-allowed g c = open_brought c.requires.may c.in_ok-frame.ensures.pages_in
-
-pub returns-in_err-frame : goal.returns-in_err-frame
-returns-in_err-frame g c =
-    let granting = c.requires.may.spot.linked.fit.granting in
-    let mapped = c.requires.may.allowed.mapped in
-    let pid = c.args.spot.now.pid in
-    let page = c.args.spot.now.page in
-    let old = picture_of c.args.core.now in
-    let none = shared_none old pid page c.args.attr.now granting mapped (mapped_page old pid page c.args.attr.now granting mapped) c.requires.shared in
-    let done = c.in_err-frame.ensures in
-    serves_away c.requires.may (shows_at c.requires.may c.requires.stands none) c.in_err-frame.field-0.0 done.pages_in done.idle Store c.from_residual.result c.from_residual.ensures.1
-
 pub returns : goal.returns
 returns g c =
     let pid = c.args.spot.now.pid in
@@ -54,3 +37,20 @@ returns g c =
       counts = counts_then g.D.SectorDisk g.E.SectorDisk before between after first.cause (counts_calm g.D.SectorDisk g.E.SectorDisk between after pid page enters.calm);
       stalled = tt;
     }
+
+pub touch-requires-clause-spot : goal.touch-requires-clause-spot
+touch-requires-clause-spot g c = stands_brought c.requires.may c.in_ok-frame.ensures.pages_in
+
+pub touch-requires-clause-allowed : goal.touch-requires-clause-allowed
+touch-requires-clause-allowed g c = open_brought c.requires.may c.in_ok-frame.ensures.pages_in
+
+pub returns-in_err-frame : goal.returns-in_err-frame
+returns-in_err-frame g c =
+    let granting = c.requires.may.spot.linked.fit.granting in
+    let mapped = c.requires.may.allowed.mapped in
+    let pid = c.args.spot.now.pid in
+    let page = c.args.spot.now.page in
+    let old = picture_of c.args.core.now in
+    let none = shared_none old pid page c.args.attr.now granting mapped (mapped_page old pid page c.args.attr.now granting mapped) c.requires.shared in
+    let done = c.in_err-frame.ensures in
+    serves_away c.requires.may (shows_at c.requires.may c.requires.stands none) c.in_err-frame.field-0.0 done.pages_in done.idle Store c.from_residual.result c.from_residual.ensures.1

@@ -1,4 +1,4 @@
-use Rattle.fault.proofs.Names.{top_level, Attr, missing_of, ◌≡◌, ℕ, inl, Option, Some, refl, sym, ◌∙◌, subst, arith, rules, same_Some, IsSome, on_err, picture_of, IsWhole}
+use Rattle.{fault.proofs.Names.{top_level, Attr, missing_of, ◌≡◌, ℕ, inl, ◌/◌, Option, Some, refl, sym, ◌∙◌, subst, arith, same_Some, IsSome, on_err, picture_of, IsWhole}, page_tables.specs.Places.{IsTableOf}}
 use Rattle.fault.proofs.{Steps.{slotted_then, slotted_same}, WaySteps.{links_then, takes_none, takes_then, takes_done, takes_stall, nothing_on, nothing_if}}
 use Rattle.fault.proofs.linking.link_tables.Goals as goal
 
@@ -38,6 +38,7 @@ pub returns-in-Ok : goal.returns-in-Ok
 returns-in-Ok g c =
     let k = c.loop-table.invariant in
     let P : ℕ → Type 0 = λ x. missing_of c.loop-table.core.frames (top_level g.M.Levels.mode) x c.args.page ≡ 0 in
+    let Q : ℕ → Type 0 = λ x. IsTableOf c.loop-table.core.frames (top_level g.M.Levels.mode) x (c.args.page / 512) c.in-Ok.table.0 in
     record {
       links = record {
         takes = takes_done g.E.SectorDisk c.args.core.now c.loop-table.core tt _ k.takes;
@@ -45,9 +46,9 @@ returns-in-Ok g c =
         slotted = k.slotted;
         wanted = tt;
       };
-      idle = search rules;
+      idle = λ whole. (k.idle (whole c.root_of-root.result.0 c.root_of-root.ensures), tt);
       whole = λ r lives. subst P (same_Some c.root_of-root.result.0 r (sym k.root ∙ lives)) (c.in-Ok.ensures.found.whole c.args.page refl);
-      table = search rules;
+      table = λ r lives. subst Q (same_Some c.root_of-root.result.0 r (sym k.root ∙ lives)) c.in-Ok.ensures.found;
     }
 
 pub returns-in_err-link_one-in-Err : goal.returns-in_err-link_one-in-Err

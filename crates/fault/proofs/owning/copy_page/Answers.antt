@@ -25,23 +25,8 @@ set_full-requires-clause-table g c =
     let shows = ownable_frame c.requires.page c.args.shown.0 c.requires.own c.requires.common in
     rows_mid (copy_frame shows c.in_ok-own.ensures.taken stands.root) c.args.spot.now.pid c.args.spot.now.root.0 _ c.args.spot.now.table.0 stands.root stands.table
 
-pub set_full-requires-clause-frame : goal.set_full-requires-clause-frame
-set_full-requires-clause-frame g c = record { inside = c.in_ok-own.ensures.taken.inside; behind = λ common. absurd (false≢true (sym common)) }
-
 pub set_full-requires-clause-user : goal.set_full-requires-clause-user
 set_full-requires-clause-user g c = ((c.requires.page.stands.linked.fit.granting.user c.args.spot.now.pid).user_pages c.args.spot.now.page (ap is_some c.requires.page.mapped)).1
-
-pub release-requires : goal.release-requires
-release-requires g c =
-    let page = c.requires.page in
-    let shows = ownable_frame page c.args.shown.0 c.requires.own c.requires.common in
-    let gives = gives_frame c.set_full.ensures (picture_of c.args.core.now) page.not_shared page.inside in
-    let private = sym (ap is_private c.requires.was) ∙ sym c.is_private.ensures ∙ c.if-is_private.true in
-    let role = role_shared shows c.in_ok-own.ensures.taken page.stands.root gives private in
-    record {
-      inside = used_inside c.set_full.new.core.frames c.args.shown.0 c.set_full.new.core.sound (λ free. (let bad : Private ≡ Free = sym role ∙ free in (cc)));
-      handed_out = (let P : Role → Type 0 = λ x. IsTrue (is_handed_out x) in subst P (sym role) refl);
-    }
 
 pub returns-then-is_private : goal.returns-then-is_private
 returns-then-is_private g c =
@@ -102,4 +87,19 @@ returns-in_err-own g c =
       keeps = leaves_aside g.E.SectorDisk c.args.core.now _ done.fit done.swap (aside_freed done.frees) done.rest.store done.device;
       asks = search rules;
       stalls = search rules;
+    }
+
+pub set_full-requires-clause-frame : goal.set_full-requires-clause-frame
+set_full-requires-clause-frame g c = record { inside = c.in_ok-own.ensures.taken.inside; behind = λ common. absurd (false≢true (sym common)) }
+
+pub release-requires : goal.release-requires
+release-requires g c =
+    let page = c.requires.page in
+    let shows = ownable_frame page c.args.shown.0 c.requires.own c.requires.common in
+    let gives = gives_frame c.set_full.ensures (picture_of c.args.core.now) page.not_shared page.inside in
+    let private = sym (ap is_private c.requires.was) ∙ sym c.is_private.ensures ∙ c.if-is_private.true in
+    let role = role_shared shows c.in_ok-own.ensures.taken page.stands.root gives private in
+    record {
+      inside = used_inside c.set_full.new.core.frames c.args.shown.0 c.set_full.new.core.sound (λ free. (let bad : Private ≡ Free = sym role ∙ free in (cc)));
+      handed_out = (let P : Role → Type 0 = λ x. IsTrue (is_handed_out x) in subst P (sym role) refl);
     }

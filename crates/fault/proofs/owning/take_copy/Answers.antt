@@ -12,7 +12,8 @@ fill-requires-clause-source g c =
 
 pub returns : goal.returns
 returns g c =
-    let took = c.in_ok-own.ensures.taken in
+    let done = c.in_ok-own.ensures in
+    let took = done.taken in
     let found = took.found in
     let taken : Picture g.M.Levels.mode = picture_of c.take_own.new.self in
     let n = c.in_ok-own.own.0 in
@@ -33,15 +34,15 @@ returns g c =
         noted = took.own.noted;
         copied = ap (λ t. bytes_of t n) c.fill.ensures ∙ with_bytes-same taken.frames n w inside ∙ took.own.takes.others.bytes m apart ∙ took.frees.kept_bytes m refl c.requires.datum;
       };
-      rest = search rules;
-      swap = search rules;
-      device = search rules;
-      asks = asks_swap g.E.SectorDisk c.args.core.now c.take_own.new.self (Some c.args.from) Nothing c.in_ok-own.ensures.asked;
-      fit = search rules;
-      frees = search rules;
-      refuses = search rules;
-      short = search rules;
-      cause = search rules;
+      rest = record { store = done.rest.store; roots = done.rest.roots; regions = done.rest.regions };
+      swap = done.swap;
+      device = done.device;
+      asks = asks_swap g.E.SectorDisk c.args.core.now c.take_own.new.self (Some c.args.from) Nothing done.asked;
+      fit = tt;
+      frees = tt;
+      refuses = tt;
+      short = tt;
+      cause = done.cause;
     }
 
 pub returns-in_err-own : goal.returns-in_err-own

@@ -7,8 +7,7 @@ use Rattle.file_store.proofs.formatting.format.Goals as goal
 
 pub returns-then-is_too_large : goal.returns-then-is_too_large
 returns-then-is_too_large g c =
-    let d = g.D.SectorDisk in
-    let old = c.args.disk.now in
+    let d = g.D.SectorDisk in let old = c.args.disk.now in
     let Whole : Journals → Image → Type 0 = λ b. IsStoreOf b g.R.Read.remaining (d.sector_count old) c.args.sources.now in
     record {
       ok = search rules;
@@ -32,15 +31,9 @@ returns-then-is_too_large g c =
 
 pub returns-in_err-check_unmarked : goal.returns-in_err-check_unmarked
 returns-in_err-check_unmarked g c =
-    let d = g.D.SectorDisk in
-    let old = c.args.disk.now in
-    let mid = c.check_unmarked.new.disk in
-    let kind = c.args.journals in
-    let sources = c.args.sources.now in
-    let Whole : Journals → Image → Type 0 = λ b. IsStoreOf b g.R.Read.remaining (d.sector_count old) sources in
-    let check = c.check_unmarked.ensures in
-    let e = c.in_err-check_unmarked.ensures in
-    let fault = c.in_err-check_unmarked.field-0.0 in
+    let d = g.D.SectorDisk in let old = c.args.disk.now in let mid = c.check_unmarked.new.disk in let kind = c.args.journals in
+    let sources = c.args.sources.now in let Whole : Journals → Image → Type 0 = λ b. IsStoreOf b g.R.Read.remaining (d.sector_count old) sources in
+    let check = c.check_unmarked.ensures in let e = c.in_err-check_unmarked.ensures in let fault = c.in_err-check_unmarked.field-0.0 in
     format_refused d kind g.R.Read.remaining sources old mid fault c.from_residual.result c.from_residual.ensures.1
     (λ bad. absurd (false≢true (sym c.if-is_too_large.false ∙ c.is_too_large.ensures.1 (subst (λ n. IsTooLarge kind n sources) (sym c.sectors.ensures) bad))))
     (when_looking fault e.others).0 (looked_makes d (IsStoreSector kind (total_pages sources)) old mid (λ s at. inl at) check.run check.asks) e.causes
@@ -50,22 +43,13 @@ returns-in_err-check_unmarked g c =
 
 pub returns-in_err-write_unmarked : goal.returns-in_err-write_unmarked
 returns-in_err-write_unmarked g c =
-    let d = g.D.SectorDisk in
-    let old = c.args.disk.now in
-    let mid = c.check_unmarked.new.disk in
-    let made = c.write_unmarked.new.disk in
-    let kind = c.args.journals in
-    let sources = c.args.sources.now in
-    let sectors = d.sector_count old in
+    let d = g.D.SectorDisk in let old = c.args.disk.now in let mid = c.check_unmarked.new.disk in let made = c.write_unmarked.new.disk in
+    let kind = c.args.journals in let sources = c.args.sources.now in let sectors = d.sector_count old in
     let Whole : Journals → Image → Type 0 = λ b. IsStoreOf b g.R.Read.remaining sectors sources in
-    let W : ℕ → Type 0 = IsStoreSector kind (total_pages sources) in
-    let check = c.check_unmarked.ensures in
-    let w = c.write_unmarked.ensures in
-    let e = c.in_err-write_unmarked.ensures in
-    let fault = c.in_err-write_unmarked.field-0.0 in
+    let W : ℕ → Type 0 = IsStoreSector kind (total_pages sources) in let check = c.check_unmarked.ensures in let w = c.write_unmarked.ensures in
+    let e = c.in_err-write_unmarked.ensures in let fault = c.in_err-write_unmarked.field-0.0 in
     let known : IsTooLarge kind sectors sources → ⊥ = λ bad. absurd (false≢true (sym c.if-is_too_large.false ∙ c.is_too_large.ensures.1 (subst (λ n. IsTooLarge kind n sources) (sym c.sectors.ensures) bad))) in
-    let fits = store_fits kind sectors sources known in
-    let other = when_filling fault e.fills.others in
+    let fits = store_fits kind sectors sources known in let other = when_filling fault e.fills.others in
     format_refused d kind g.R.Read.remaining sources old made fault c.from_residual-in_err-write_unmarked.result c.from_residual-in_err-write_unmarked.ensures.1 known other.0
     (makes_more d W old mid made (looked_makes d W old mid (λ s at. inl at) check.run check.asks) (makes_of d (IsUnmarkedSector kind (total_pages sources)) W mid made (λ s at. inr at) w.fills.run))
     (causes_later fault _ _ _ c.in_ok-check_unmarked.ensures.causes.calm e.fills.causes)
@@ -83,18 +67,10 @@ marked_store : {T : Type 0} (g : Over) (c : After-write_mark g) (r : Result T Fo
     → HasFormatCauses (g.D.SectorDisk.failures c.args.disk.now) (g.D.SectorDisk.failures c.write_mark.new.disk) r
     → FormatsStore g.D.SectorDisk c.args.journals g.R.Read.remaining c.args.sources.now c.args.disk.now c.write_mark.new.disk r
 marked_store g c r none marked synced all causes =
-    let d = g.D.SectorDisk in
-    let old = c.args.disk.now in
-    let mid = c.check_unmarked.new.disk in
-    let made = c.write_unmarked.new.disk in
-    let new = c.write_mark.new.disk in
-    let kind = c.args.journals in
-    let sources = c.args.sources.now in
-    let sectors = d.sector_count old in
+    let d = g.D.SectorDisk in let old = c.args.disk.now in let mid = c.check_unmarked.new.disk in let made = c.write_unmarked.new.disk in
+    let new = c.write_mark.new.disk in let kind = c.args.journals in let sources = c.args.sources.now in let sectors = d.sector_count old in
     let Whole : Journals → Image → Type 0 = λ b. IsStoreOf b g.R.Read.remaining sectors sources in
-    let W : ℕ → Type 0 = IsStoreSector kind (total_pages sources) in
-    let check = c.check_unmarked.ensures in
-    let w = c.in_ok-write_unmarked.ensures in
+    let W : ℕ → Type 0 = IsStoreSector kind (total_pages sources) in let check = c.check_unmarked.ensures in let w = c.in_ok-write_unmarked.ensures in
     let m = c.write_mark.ensures.writes.run in
     let known : IsTooLarge kind sectors sources → ⊥ = λ bad. absurd (false≢true (sym c.if-is_too_large.false ∙ c.is_too_large.ensures.1 (subst (λ n. IsTooLarge kind n sources) (sym c.sectors.ensures) bad))) in
     let fits = store_fits kind sectors sources known in
@@ -104,8 +80,7 @@ marked_store g c r none marked synced all causes =
     let whole : d.keeps_model made → (c : Image) → ((k : ℕ) → 1 ≤ k → c k ≡ d.content made k) → c 0 ≡ mark_of (version_of c) → IsStoreOf kind g.R.Read.remaining sectors sources c =
     λ last. store_whole kind g.R.Read.remaining sectors sources (d.content made) (w.written last) fits.0 fits.1 in
     let leaves : d.keeps_model new → LeavesNoPart d kind Whole old new = λ k.
-    let last = m.kept k in
-    let before = w.fills.run.kept last in
+    let last = m.kept k in let before = w.fills.run.kept last in
     marked_made d kind Whole old (λ image left. g.met.D.SectorDisk.only_now old image (check.run.kept before) left) mid (check.run.touches before)
     (IsUnmarkedSector kind (total_pages sources)) (unmarked_from kind (total_pages sources)) (IsKindlessStoreOf g.R.Read.remaining sources) (IsKindlessStoreOf g.R.Read.remaining sources) (λ image q. q)
     (λ paired. whole_of_kind g.R.Read.remaining sources kind sectors paired fits.0 fits.1) made (w.fills.run.touches last) (w.last last).kind_behind (w.synced last)

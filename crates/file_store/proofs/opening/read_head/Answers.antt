@@ -9,30 +9,19 @@ returns-in_err-journals-clause-looks g c =
 
 pub returns-in_err-check_kind-clause-looks : goal.returns-in_err-check_kind-clause-looks
 returns-in_err-check_kind-clause-looks g c =
-    let d = g.D.SectorDisk in
-    let old = c.args.disk.now in
-    let mid = c.read_mark.new.disk in
-    let new = c.check_kind.new.disk in
-    let n = d.sector_count old in
-    let content = d.content old in
-    let run = c.read_mark.ensures.looks.run in
+    let d = g.D.SectorDisk in let old = c.args.disk.now in let mid = c.read_mark.new.disk in let new = c.check_kind.new.disk in let n = d.sector_count old in
+    let content = d.content old in let run = c.read_mark.ensures.looks.run in
     looks_later d (IsBadLayout n content) c.from_residual-in_err-check_kind.result old mid new run c.in_ok-journals.ensures.looks.calm
     (looks_error d _ _ c.in_err-check_kind.field-0.0 c.from_residual-in_err-check_kind.result mid new c.from_residual-in_err-check_kind.ensures.1 c.in_err-check_kind.ensures.looks (λ k bad.
-    let k1 = c.check_kind.ensures.looks.run.kept k in
-    let same = content_is d old mid (run.touches k1) in
+    let k1 = c.check_kind.ensures.looks.run.kept k in let same = content_is d old mid (run.touches k1) in
     let marked : content 0 ≡ mark_of (version_at Paired) = subst (λ b. content 0 ≡ mark_of (version_at b)) bad.0 (c.in_ok-journals.ensures.mark k1) in
     ⊎_elim (λ few. bad_as_claimed Paired n content marked (TooSmall (subst (λ m. m < kind_homes Paired) run.size few)))
     (λ single. other_kind Paired n content marked (sym (ap (λ (image : Image). kind_of image) same) ∙ single)) bad.1))
 
 pub returns-in_err-directory-clause-looks : goal.returns-in_err-directory-clause-looks
 returns-in_err-directory-clause-looks g c =
-    let d = g.D.SectorDisk in
-    let old = c.args.disk.now in
-    let mid = c.check_kind.new.disk in
-    let new = c.read_directory.new.disk in
-    let n = d.sector_count old in
-    let content = d.content old in
-    let journals = c.in_ok-journals.journals in
+    let d = g.D.SectorDisk in let old = c.args.disk.now in let mid = c.check_kind.new.disk in let new = c.read_directory.new.disk in
+    let n = d.sector_count old in let content = d.content old in let journals = c.in_ok-journals.journals in
     let run = one_more d Nothing old c.read_mark.new.disk mid c.read_mark.ensures.looks.run c.check_kind.ensures.looks.run in
     looks_later d (IsBadLayout n content) c.from_residual-in_err-directory.result old mid new run (c.in_ok-check_kind.ensures.looks.calm ∙ c.in_ok-journals.ensures.looks.calm)
     (looks_error d _ _ c.in_err-directory.field-0.0 c.from_residual-in_err-directory.result mid new c.from_residual-in_err-directory.ensures.1 c.in_err-directory.ensures.looks (λ k bad.
@@ -44,8 +33,7 @@ returns-in_err-directory-clause-looks g c =
 
 pub returns-clause-looks : goal.returns-clause-looks
 returns-clause-looks g c =
-    let d = g.D.SectorDisk in
-    let old = c.args.disk.now in
+    let d = g.D.SectorDisk in let old = c.args.disk.now in
     looks_found d _ _ old c.read_directory.new.disk
     (one_more d Nothing old c.check_kind.new.disk c.read_directory.new.disk
     (one_more d Nothing old c.read_mark.new.disk c.check_kind.new.disk c.read_mark.ensures.looks.run c.check_kind.ensures.looks.run) c.read_directory.ensures.looks.run)
@@ -53,14 +41,8 @@ returns-clause-looks g c =
 
 pub returns-clause-found : goal.returns-clause-found
 returns-clause-found g c =
-    let d = g.D.SectorDisk in
-    let old = c.args.disk.now in
-    let mid = c.check_kind.new.disk in
-    let n = d.sector_count old in
-    let content = d.content old in
-    let journals = c.in_ok-journals.journals in
-    let version = version_at journals in
-    let found = c.in_ok-directory.ensures.found in
+    let d = g.D.SectorDisk in let old = c.args.disk.now in let mid = c.check_kind.new.disk in let n = d.sector_count old in let content = d.content old in
+    let journals = c.in_ok-journals.journals in let version = version_at journals in let found = c.in_ok-directory.ensures.found in
     let run = one_more d Nothing old c.read_mark.new.disk mid c.read_mark.ensures.looks.run c.check_kind.ensures.looks.run in
     let room : kind_homes journals ≤ n = subst (λ m. kind_homes journals ≤ m) c.read_mark.ensures.looks.run.size c.in_ok-check_kind.ensures.room in
     let kept = c.read_directory.ensures.looks.run.kept in

@@ -12,26 +12,19 @@ read_page-requires-clause-home g c =
 
 pub read_page-requires-clause-found : goal.read_page-requires-clause-found
 read_page-requires-clause-found g c = λ keeps.
-    let inv = c.loop-k.invariant in
-    let was = inv.old_run.kept keeps in
+    let inv = c.loop-k.invariant in let was = inv.old_run.kept keeps in
     subst (λ b. IsOldStore b (g.D.SectorDisk.content c.loop-k.old) c.args.store.now) (sym c.requires.before)
     (subst (λ (image : Image). IsOldStore c.args.journals image c.args.store.now) (sym (content_is g.D.SectorDisk c.args.old.now c.loop-k.old (inv.old_run.touches keeps))) (c.requires.found was))
 
 pub loop-k-preserved : goal.loop-k-preserved
 loop-k-preserved g c =
-    let inv = c.loop-k.invariant in
-    let d = g.D.SectorDisk in
-    let n = g.E.SectorDisk in
-    let w = c.write_page.ensures in
-    let entry = c.args.entry in
+    let inv = c.loop-k.invariant in let d = g.D.SectorDisk in let n = g.E.SectorDisk in let w = c.write_page.ensures in let entry = c.args.entry in
     let below : c.loop-k.k < pages_of_length entry.info.length = omega (arith, c.loop-k-test.true, c.pages-k-end.ensures) in
-    let old = d.content c.args.old.now in
-    let new = n.content c.write_page.new.disk in
+    let old = d.content c.args.old.now in let new = n.content c.write_page.new.disk in
     record {
       old_run = one_more d Nothing c.args.old.now c.loop-k.old c.read_page.new.disk inv.old_run c.read_page.ensures.reads.run;
       asks_old = λ keeps.
-          let was = c.read_page.ensures.reads.run.kept keeps in
-          let same = content_is d c.args.old.now c.loop-k.old (inv.old_run.touches was) in
+          let was = c.read_page.ensures.reads.run.kept keeps in let same = content_is d c.args.old.now c.loop-k.old (inv.old_run.touches was) in
           page_asked d c.args.journals c.args.store.now.journal.journals entry c.loop-k.k (c.loop-k.k + 1) c.args.old.now c.loop-k.old c.read_page.new.disk (omega arith) c.requires.before same (inv.asks_old was) (c.read_page.ensures.asks keeps);
       run = makes_more n (IsFileSector c.args.journals entry) c.args.new.now c.loop-k.new c.write_page.new.disk inv.run
           (makes_page g.E.SectorDisk (IsFileSector c.args.journals entry) (c.first_home-homes.result + 8 * c.from.result) c.loop-k.new c.write_page.new.disk
@@ -54,38 +47,25 @@ loop-k-preserved g c =
 
 pub returns-in_err-read_page-clause-copies : goal.returns-in_err-read_page-clause-copies
 returns-in_err-read_page-clause-copies g c =
-    let inv = c.loop-k.invariant in
-    let d = g.D.SectorDisk in
-    let n = g.E.SectorDisk in
-    let entry = c.args.entry in
-    let old = d.content c.args.old.now in
+    let inv = c.loop-k.invariant in let d = g.D.SectorDisk in let n = g.E.SectorDisk in let entry = c.args.entry in let old = d.content c.args.old.now in
     let below : c.loop-k.k < pages_of_length entry.info.length = omega (arith, c.loop-k-test.true, c.pages-k-end.ensures) in
-    let W = IsOldPage c.args.journals old entry (pages_of_length entry.info.length) in
-    let fault = c.in_err-read_page.field-0.0 in
-    let failed = c.in_err-read_page.ensures.reads.failed refl in
-    let calm = inv.old_calm in
+    let W = IsOldPage c.args.journals old entry (pages_of_length entry.info.length) in let fault = c.in_err-read_page.field-0.0 in
+    let failed = c.in_err-read_page.ensures.reads.failed refl in let calm = inv.old_calm in
     copies_unread d n W _ c.args.old.now c.read_page.new.disk c.args.new.now c.loop-k.new (one_more d Nothing c.args.old.now c.loop-k.old c.read_page.new.disk inv.old_run c.read_page.ensures.reads.run)
     (λ keeps.
-    let was = c.read_page.ensures.reads.run.kept keeps in
-    let same = content_is d c.args.old.now c.loop-k.old (inv.old_run.touches was) in
+    let was = c.read_page.ensures.reads.run.kept keeps in let same = content_is d c.args.old.now c.loop-k.old (inv.old_run.touches was) in
     page_asked d c.args.journals c.args.store.now.journal.journals entry c.loop-k.k _ c.args.old.now c.loop-k.old c.read_page.new.disk below c.requires.before same (inv.asks_old was) (c.read_page.ensures.asks keeps))
     inv.run (old_fault fault) c.from_residual.result c.from_residual.ensures.1 (ap old_fault (same_Err _ _ c.in_err-read_page.ensures.device)) (omega (arith, failed, calm)) inv.calm
 
 pub returns-in_err-write_page-clause-copies : goal.returns-in_err-write_page-clause-copies
 returns-in_err-write_page-clause-copies g c =
-    let inv = c.loop-k.invariant in
-    let d = g.D.SectorDisk in
-    let n = g.E.SectorDisk in
-    let entry = c.args.entry in
-    let old = d.content c.args.old.now in
+    let inv = c.loop-k.invariant in let d = g.D.SectorDisk in let n = g.E.SectorDisk in let entry = c.args.entry in let old = d.content c.args.old.now in
     let below : c.loop-k.k < pages_of_length entry.info.length = omega (arith, c.loop-k-test.true, c.pages-k-end.ensures) in
-    let W = IsOldPage c.args.journals old entry (pages_of_length entry.info.length) in
-    let failed = c.in_err-write_page.ensures.failed refl in
+    let W = IsOldPage c.args.journals old entry (pages_of_length entry.info.length) in let failed = c.in_err-write_page.ensures.failed refl in
     let calm = inv.calm in
     copies_unwritten d n W _ c.args.old.now c.read_page.new.disk c.args.new.now c.write_page.new.disk (one_more d Nothing c.args.old.now c.loop-k.old c.read_page.new.disk inv.old_run c.read_page.ensures.reads.run)
     (λ keeps.
-    let was = c.read_page.ensures.reads.run.kept keeps in
-    let same = content_is d c.args.old.now c.loop-k.old (inv.old_run.touches was) in
+    let was = c.read_page.ensures.reads.run.kept keeps in let same = content_is d c.args.old.now c.loop-k.old (inv.old_run.touches was) in
     page_asked d c.args.journals c.args.store.now.journal.journals entry c.loop-k.k _ c.args.old.now c.loop-k.old c.read_page.new.disk below c.requires.before same (inv.asks_old was) (c.read_page.ensures.asks keeps))
     (makes_more g.E.SectorDisk (IsFileSector c.args.journals entry) c.args.new.now c.loop-k.new c.write_page.new.disk c.loop-k.invariant.run
     (makes_page g.E.SectorDisk (IsFileSector c.args.journals entry) (c.first_home-homes.result + 8 * c.from.result) c.loop-k.new c.write_page.new.disk

@@ -9,9 +9,7 @@ use Rattle.file_store.proofs.upgrading.upgrade.Goals as goal
 
 pub copy_unmarked-requires-clause-copied : goal.copy_unmarked-requires-clause-copied
 copy_unmarked-requires-clause-copied g c =
-    let d = g.D.SectorDisk in
-    let store = c.in_ok-store.store in
-    let found = c.in_ok-store.ensures.found in
+    let d = g.D.SectorDisk in let store = c.in_ok-store.store in let found = c.in_ok-store.ensures.found in
     record {
       before = found.before;
       sound = subst (λ (n : ℕ). IsSoundDirectory (home_count_in (layout_before c.args.journals) n) (entry_of store.directory)) (sym c.find.ensures.looks.run.size) found.sound;
@@ -22,15 +20,8 @@ copy_unmarked-requires-clause-copied g c =
 -- the old store is refused
 pub returns-in_err-store : goal.returns-in_err-store
 returns-in_err-store g c =
-    let d = g.D.SectorDisk in
-    let n = g.E.SectorDisk in
-    let kind = c.args.journals in
-    let old = c.args.old.now in
-    let read = c.find.new.disk in
-    let new = c.args.new.now in
-    let image = d.content old in
-    let find = c.find.ensures in
-    let fault = c.in_err-store.field-0.0 in
+    let d = g.D.SectorDisk in let n = g.E.SectorDisk in let kind = c.args.journals in let old = c.args.old.now in let read = c.find.new.disk in
+    let new = c.args.new.now in let image = d.content old in let find = c.find.ensures in let fault = c.in_err-store.field-0.0 in
     let e = c.in_err-store.ensures in
     upgrade_refused d n kind old read new new (old_fault fault) c.from_residual.result c.from_residual.ensures.1 find.looks.run refl (λ k. k)
     (λ k. asks_wider d (IsOldHead kind) (IsOldAsked kind image) old read (λ s at. inl at) find.asks) (λ k. asks_none n (IsUpgradeSector kind image) new new (λ s. refl))
@@ -47,21 +38,10 @@ returns-in_err-store g c =
 -- the new device is
 pub returns-in_err-check_new : goal.returns-in_err-check_new
 returns-in_err-check_new g c =
-    let d = g.D.SectorDisk in
-    let n = g.E.SectorDisk in
-    let kind = c.args.journals in
-    let old = c.args.old.now in
-    let read = c.find.new.disk in
-    let new = c.args.new.now in
-    let image = d.content old in
-    let find = c.find.ensures in
-    let checked = c.check_new.new.new in
-    let check = c.check_new.ensures in
-    let found = c.in_ok-store.ensures.found in
-    let calm = c.in_ok-store.ensures.looks.calm in
-    let fault = c.in_err-check_new.field-0.0 in
-    let e = c.in_err-check_new.ensures in
-    let other = when_checking fault e.causes.others in
+    let d = g.D.SectorDisk in let n = g.E.SectorDisk in let kind = c.args.journals in let old = c.args.old.now in let read = c.find.new.disk in
+    let new = c.args.new.now in let image = d.content old in let find = c.find.ensures in let checked = c.check_new.new.new in
+    let check = c.check_new.ensures in let found = c.in_ok-store.ensures.found in let calm = c.in_ok-store.ensures.looks.calm in
+    let fault = c.in_err-check_new.field-0.0 in let e = c.in_err-check_new.ensures in let other = when_checking fault e.causes.others in
     upgrade_refused d n kind old read new checked fault c.from_residual-in_err-check_new.result c.from_residual-in_err-check_new.ensures.1 find.looks.run check.run.size check.run.kept
     (λ k. asks_wider d (IsOldHead kind) (IsOldAsked kind image) old read (λ s at. inl at) find.asks) (λ k. asks_wider n IsMarkSector (IsUpgradeSector kind image) new checked (λ s at. inl at) check.asks)
     (causes_checked fault _ _ _ _ calm other.1.1 check.run.later e.causes)
@@ -75,25 +55,12 @@ returns-in_err-check_new g c =
 -- a device fails while the files are copied
 pub returns-in_err-copy_unmarked : goal.returns-in_err-copy_unmarked
 returns-in_err-copy_unmarked g c =
-    let d = g.D.SectorDisk in
-    let n = g.E.SectorDisk in
-    let kind = c.args.journals in
-    let old = c.args.old.now in
-    let read = c.find.new.disk in
-    let new = c.args.new.now in
-    let image = d.content old in
-    let find = c.find.ensures in
-    let checked = c.check_new.new.new in
-    let check = c.check_new.ensures in
-    let found = c.in_ok-store.ensures.found in
-    let calm = c.in_ok-store.ensures.looks.calm in
-    let entries = entry_of c.in_ok-store.store.directory in
-    let sectors = n.sector_count new in
-    let copied = c.copy_unmarked.new.old in
-    let made = c.copy_unmarked.new.new in
-    let copies = c.copy_unmarked.ensures.copies in
-    let still = c.in_ok-check_new.ensures.causes.still (ok_is_no_err _ _) in
-    let has = c.in_ok-check_new.ensures.room (ok_is_no_err _ _) in
+    let d = g.D.SectorDisk in let n = g.E.SectorDisk in let kind = c.args.journals in let old = c.args.old.now in let read = c.find.new.disk in
+    let new = c.args.new.now in let image = d.content old in let find = c.find.ensures in let checked = c.check_new.new.new in
+    let check = c.check_new.ensures in let found = c.in_ok-store.ensures.found in let calm = c.in_ok-store.ensures.looks.calm in
+    let entries = entry_of c.in_ok-store.store.directory in let sectors = n.sector_count new in let copied = c.copy_unmarked.new.old in
+    let made = c.copy_unmarked.new.new in let copies = c.copy_unmarked.ensures.copies in
+    let still = c.in_ok-check_new.ensures.causes.still (ok_is_no_err _ _) in let has = c.in_ok-check_new.ensures.room (ok_is_no_err _ _) in
     let known : d.keeps_model copied → (f : ℕ) (e : Entry) → old_entry kind image f ≡ Some e → (f < 64) × (home_end e ≤ kind_home_count kind sectors) = λ k.
     entries_fit kind sectors image entries (found.found (copies.old_run.kept k)).entries c.in_ok-store.store.directory.numbers has.fits in
     let same : d.keeps_model copied → d.content read ≡ image = λ k. content_is d old read (find.looks.run.touches (copies.old_run.kept k)) in
@@ -102,10 +69,8 @@ returns-in_err-copy_unmarked g c =
     let asks_made : d.keeps_model copied → AsksOnly n (IsUpgradeSector kind image) new made = λ k. asks_then n (IsUpgradeSector kind image) new checked made
     (asks_wider n IsMarkSector (IsUpgradeSector kind image) new checked (λ s at. inl at) check.asks)
     (asks_wider n (IsCopiedSector kind entries) (IsUpgradeSector kind image) checked made (copied_asked kind image entries (found.found (copies.old_run.kept k)).entries) copies.run.asks) in
-    let run = one_more d Nothing old read copied find.looks.run copies.old_run in
-    let fault = c.in_err-copy_unmarked.field-0.0 in
-    let e = c.in_err-copy_unmarked.ensures in
-    let other = when_copying fault e.copies.others in
+    let run = one_more d Nothing old read copied find.looks.run copies.old_run in let fault = c.in_err-copy_unmarked.field-0.0 in
+    let e = c.in_err-copy_unmarked.ensures in let other = when_copying fault e.copies.others in
     upgrade_refused d n kind old copied new made fault c.from_residual-in_err-copy_unmarked.result c.from_residual-in_err-copy_unmarked.ensures.1 run (copies.run.size ∙ check.run.size) (λ k. check.run.kept (copies.run.kept k))
     asks_old asks_made (causes_after fault _ _ _ _ _ _ calm still e.copies.causes)
     (λ k k'. unmarked_made n kind Whole new (λ image left. g.met.E.SectorDisk.only_now new image (check.run.kept (copies.run.kept k')) left) checked (check.run.touches (copies.run.kept k'))
@@ -124,29 +89,16 @@ marked_upgrade : {T : Type 0} (g : Over) (c : After-write_mark g) (r : Result T 
     → HasUpgradeCauses (g.D.SectorDisk.failures c.args.old.now) (g.D.SectorDisk.failures c.copy_unmarked.new.old) (g.E.SectorDisk.failures c.args.new.now) (g.E.SectorDisk.failures c.write_mark.new.disk) r
     → UpgradesStore g.D.SectorDisk g.E.SectorDisk c.args.journals c.args.old.now c.copy_unmarked.new.old c.args.new.now c.write_mark.new.disk r
 marked_upgrade g c r none marked synced causes =
-    let d = g.D.SectorDisk in
-    let n = g.E.SectorDisk in
-    let kind = c.args.journals in
-    let old = c.args.old.now in
-    let read = c.find.new.disk in
-    let new = c.args.new.now in
-    let image = d.content old in
-    let find = c.find.ensures in
-    let checked = c.check_new.new.new in
-    let check = c.check_new.ensures in
-    let found = c.in_ok-store.ensures.found in
-    let entries = entry_of c.in_ok-store.store.directory in
-    let sectors = n.sector_count new in
-    let copied = c.copy_unmarked.new.old in
-    let made = c.copy_unmarked.new.new in
-    let copies = c.copy_unmarked.ensures.copies in
-    let has = c.in_ok-check_new.ensures.room (ok_is_no_err _ _) in
+    let d = g.D.SectorDisk in let n = g.E.SectorDisk in let kind = c.args.journals in let old = c.args.old.now in let read = c.find.new.disk in
+    let new = c.args.new.now in let image = d.content old in let find = c.find.ensures in let checked = c.check_new.new.new in
+    let check = c.check_new.ensures in let found = c.in_ok-store.ensures.found in let entries = entry_of c.in_ok-store.store.directory in
+    let sectors = n.sector_count new in let copied = c.copy_unmarked.new.old in let made = c.copy_unmarked.new.new in
+    let copies = c.copy_unmarked.ensures.copies in let has = c.in_ok-check_new.ensures.room (ok_is_no_err _ _) in
     let known : d.keeps_model copied → (f : ℕ) (e : Entry) → old_entry kind image f ≡ Some e → (f < 64) × (home_end e ≤ kind_home_count kind sectors) = λ k.
     entries_fit kind sectors image entries (found.found (copies.old_run.kept k)).entries c.in_ok-store.store.directory.numbers has.fits in
     let same : d.keeps_model copied → d.content read ≡ image = λ k. content_is d old read (find.looks.run.touches (copies.old_run.kept k)) in
     let Whole : Journals → Image → Type 0 = λ b. IsUpgradeOf b (d.sector_count old) sectors image in
-    let run = one_more d Nothing old read copied find.looks.run copies.old_run in
-    let m = c.write_mark.ensures.writes.run in
+    let run = one_more d Nothing old read copied find.looks.run copies.old_run in let m = c.write_mark.ensures.writes.run in
     let last_new = c.write_mark.new.disk in
     let written : d.keeps_model copied → n.keeps_model made → IsUnmarkedUpgrade kind image (n.content made) = λ k last. subst (λ (i : Image). IsUnmarkedUpgrade kind i (n.content made)) (same k) (c.in_ok-copy_unmarked.ensures.written k last) in
     let whole : d.keeps_model copied → n.keeps_model made → (i : Image) → ((s : ℕ) → 1 ≤ s → i s ≡ n.content made s) → i 0 ≡ mark_of (version_of i) → IsUpgradeOf kind (d.sector_count old) sectors image i = λ k last.
@@ -188,9 +140,7 @@ marked_upgrade g c r none marked synced causes =
 -- the new one fails at its mark
 pub returns-in_err-write_mark : goal.returns-in_err-write_mark
 returns-in_err-write_mark g c =
-    let done = c.in_ok-copy_unmarked.ensures.copies.causes in
-    let failed = c.in_err-write_mark.ensures.writes.failed refl in
-    let other = when_marking in
+    let done = c.in_ok-copy_unmarked.ensures.copies.causes in let failed = c.in_err-write_mark.ensures.writes.failed refl in let other = when_marking in
     subst (λ r. UpgradesStore g.D.SectorDisk g.E.SectorDisk c.args.journals c.args.old.now c.copy_unmarked.new.old c.args.new.now c.write_mark.new.disk r)
     (sym (is_this c.from_residual-in_err-write_mark.result NewDevice c.from_residual-in_err-write_mark.ensures.1))
     (marked_upgrade g (goal.at.returns-in_err-write_mark g c).After-write_mark (Err NewDevice)

@@ -53,3 +53,9 @@ loop-page-preserved g c =
         ]
       ];
     }
+
+pub returns : goal.returns
+returns g c = record {
+  some = tt;
+  none = λ page from below. c.loop-page.invariant.none page from (omega (arith, below, c.loop-page-test.false));
+}

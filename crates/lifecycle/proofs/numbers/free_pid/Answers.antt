@@ -1,5 +1,8 @@
-use Rattle.lifecycle.proofs.{FreeNumbers.{some_number, least-here, least-next, least-none}, Names.{◌≡◌, ◌+◌, ◌-◌, inl, inr, Some, true, false, sym, ap, ◌∙◌, arith, cases_lt, false≢true, is_some, least_free_from, picture_of, is_live}}
+use Rattle.lifecycle.proofs.{FreeNumbers.{some_number, least-here, least-next, least-none}, Names.{◌≡◌, ◌+◌, ◌-◌, inl, inr, Some, true, false, refl, sym, ap, ◌∙◌, arith, cases_lt, false≢true, is_some, least_free_from, picture_of, is_live}}
 use Rattle.lifecycle.proofs.numbers.free_pid.Goals as goal
+
+pub loop-pid-init : goal.loop-pid-init
+loop-pid-init g c = (omega arith, omega arith, refl)
 
 pub returns-then-is_none-clause-least : goal.returns-then-is_none-clause-least
 returns-then-is_none-clause-least g c =

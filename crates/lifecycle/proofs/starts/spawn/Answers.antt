@@ -15,6 +15,7 @@ returns g c =
     let n = c.in_ok-root.root.0 in
     let root = c.in_ok-root.ensures in
     let spawns = c.add_process.ensures.spawns in
+    let rest = c.add_process.ensures.rest in
     record {
       ok = process_added old mid new c.args.pid n root.taken spawns;
       taken = (n, root_taken old mid new c.args.pid n root.taken spawns root.only);
@@ -25,21 +26,21 @@ returns g c =
         room = room_kept old mid new c.args.pid n root.taken spawns;
         swap = search rules;
         device = search rules;
-        store = search rules;
+        store = rest.store ∙ root.rest.store;
         files = files_kept old mid new c.args.pid n root.taken spawns;
         copies = no_copy old mid new c.args.pid n root.taken spawns;
-        err = search rules;
-        cause = search rules;
+        err = tt;
+        cause = (ap (λ r. r.number) rest.refused ∙ root.cause.0, ap (λ s. g.E.SectorDisk.failures s.pages.disk) rest.swap ∙ root.cause.1);
       };
-      asks = asks_process g.E.SectorDisk c.args.core.now c.take_table.new.self c.add_process.new.self c.add_process.ensures.rest
+      asks = asks_process g.E.SectorDisk c.args.core.now c.take_table.new.self c.add_process.new.self rest
           (asks_swap g.E.SectorDisk c.args.core.now c.take_table.new.self None Nothing root.asked);
       asks_later = no_new_spawned old mid new c.args.pid n c.requires.fit root.taken spawns;
-      full = search rules;
-      still = search rules;
-      tried = search rules;
-      frees = search rules;
-      refuses = search rules;
-      short = search rules;
+      full = tt;
+      still = tt;
+      tried = tt;
+      frees = tt;
+      refuses = tt;
+      short = tt;
     }
 
 pub returns-in_err-root : goal.returns-in_err-root

@@ -1,6 +1,9 @@
-use Rattle.page_tables.proofs.Names.{top_level, ◌≡◌, ℕ, ◌+◌, ◌<◌, sym, ap, ◌∙◌, subst, arith, index_of}
+use Rattle.page_tables.proofs.Names.{top_level, ◌≡◌, ℕ, ◌+◌, ◌<◌, sym, ap, ◌∙◌, subst, arith, rules, index_of}
 use Rattle.page_tables.{specs.{Tree.{Points, last_table, missing_of}, Change.{Prunes}}, proofs.{Linking.{pair}, Pruning.{empty_apart, otherwise, prunes, missing_up}, tables.prune_last.Given.{Over}}}
 use Rattle.page_tables.proofs.tables.prune_last.Goals as goal
+
+pub returns-then-table-root-clause-done : goal.returns-then-table-root-clause-done
+returns-then-table-root-clause-done g c = search rules
 
 pub returns-then-table-root-clause-in_levels : goal.returns-then-table-root-clause-in_levels
 returns-then-table-root-clause-in_levels g c = omega (arith, c.end_of_way-level.ensures.missing, c.end_of_way-level.ensures.in_levels)
@@ -9,9 +12,7 @@ pub returns-then-not-is_empty-clause-in_levels : goal.returns-then-not-is_empty-
 returns-then-not-is_empty-clause-in_levels g c = omega (arith, c.end_of_way-level.ensures.missing, c.end_of_way-level.ensures.in_levels)
 
 pub unlink-requires-clause-apart : goal.unlink-requires-clause-apart
-unlink-requires-clause-apart g c =
-    let on = (otherwise c.end_of_way-level.ensures.parent c.if-table-root.false).1 in
-    empty_apart c.args.frames.now _ _ _ on (c.is_empty.ensures.0 c.if-not-is_empty.false)
+unlink-requires-clause-apart g c = let on = (otherwise c.end_of_way-level.ensures.parent c.if-table-root.false).1 in empty_apart c.args.frames.now _ _ _ on (c.is_empty.ensures.0 c.if-not-is_empty.false)
 
 abbrev Removed : (g : Over) → goal.After-unlink g → Type 0
 Removed g c = Prunes c.args.frames.now c.unlink.new.frames (top_level g.M.Levels.mode) c.args.root.0 c.args.page

@@ -2,9 +2,7 @@ use Rattle.page_tables.{proofs.{Names.{◌≡◌, sym, ap, ◌∙◌, subst, Tab
 use Rattle.page_tables.proofs.tables.unlink.Goals as goal
 
 pub release-requires : goal.release-requires
-release-requires c =
-    let there = table_forth _ _ _ _ _ c.write_entry.ensures.change c.args.table.0 c.requires.table in
-    record { inside = there.inside; handed_out = ap is_handed_out there.role }
+release-requires c = let there = table_forth _ _ _ _ _ c.write_entry.ensures.change c.args.table.0 c.requires.table in record { inside = there.inside; handed_out = ap is_handed_out there.role }
 
 pub returns : goal.returns
 returns c =

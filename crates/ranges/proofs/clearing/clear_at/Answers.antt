@@ -4,6 +4,9 @@ use Rattle.ranges.proofs.clearing.clear_at.Goals as goal
 pub set_in-requires-clause-placed : goal.set_in-requires-clause-placed
 set_in-requires-clause-placed g c = placed_at (picture_of c.args.core.now) c.args.row.now c.args.index c.args.end c.number_in-number.result.0 c.requires.row c.requires.below c.number_in-number.ensures
 
+pub give_back_frame-requires-clause-own : goal.give_back_frame-requires-clause-own
+give_back_frame-requires-clause-own g c = sym c.is_private.ensures ∙ c.if-is_private.true
+
 pub give_back_frame-requires-clause-lacks : goal.give_back_frame-requires-clause-lacks
 give_back_frame-requires-clause-lacks g c =
     lacks_at (picture_of c.args.core.now) c.args.row.now c.args.index c.args.end c.number_in-number.result.0 c.requires.row c.requires.below c.number_in-number.ensures c.set_in.new.memory c.set_in.ensures.sets
@@ -26,6 +29,9 @@ set_in-requires-2-clause-placed g c = placed_at (picture_of c.args.core.now) c.a
 
 pub give_back_slot-requires-clause-form : goal.give_back_slot-requires-clause-form
 give_back_slot-requires-clause-form g c = form_at (picture_of c.args.core.now) c.args.row.now c.args.index c.args.end c.number_in-number.result.0 c.requires.row c.requires.below c.number_in-number.ensures
+
+pub give_back_slot-requires-clause-common : goal.give_back_slot-requires-clause-common
+give_back_slot-requires-clause-common g c = sym c.is_private.ensures ∙ c.if-is_private.false
 
 pub give_back_slot-requires-clause-lacks : goal.give_back_slot-requires-clause-lacks
 give_back_slot-requires-clause-lacks g c =

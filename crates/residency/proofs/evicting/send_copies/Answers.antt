@@ -40,8 +40,8 @@ returns-in-Ok g c =
     let v = c.args.victim.0 in
     let puts = c.in-Ok.ensures.puts in
     record {
-      free = search rules;
-      fit = search rules;
+      free = c.hand_over.ensures.free;
+      fit = c.hand_over.ensures.fit;
       gives = (
         k,
         (λ used. (let none = puts.was_free in omega (arith, used, none))),
@@ -53,8 +53,8 @@ returns-in-Ok g c =
       asks = asks_put g.E.SectorDisk c.args.core.now.swap c.args.core.now.swap c.put.new.self c.hand_over.new.core.swap refl c.hand_over.ensures.pages c.put.ensures.asks_free;
       one = one_put g.E.SectorDisk c.args.core.now.swap c.args.core.now.swap c.put.new.self c.hand_over.new.core.swap c.in-Ok.slot.0 refl c.hand_over.ensures.pages c.in-Ok.ensures.asks;
       device = search rules;
-      still = search rules;
-      fault = search rules;
+      still = tt;
+      fault = tt;
       cause = search rules;
     }
 
@@ -65,20 +65,20 @@ returns-in-Err-Device g c =
     let v = c.args.victim.0 in
     let same = c.in-Err-Device.ensures.same in
     record {
-      free = search rules;
+      free = tt;
       fit = fit_unput old (record old { slots = t }) c.requires.goes.fit (with_slots old t) c.in-Err-Device.ensures.same;
       gives = (
         old.slots.total,
         past_unused c.args.core.now.swap,
         put_spares old (record old { slots = t }) c.requires.goes.fit (with_slots old t) (λ j used. same.bytes j used) v old.slots.total same.total (λ j ne used. same.counts j),
       );
-      plain = search rules;
+      plain = record { store = refl; roots = refl; regions = refl; clock = refl; refused = refl; looks = refl };
       asked = inr (inl c.requires.role);
       swap = search rules;
-      asks = search rules;
-      one = search rules;
+      asks = c.put.ensures.asks_free;
+      one = tt;
       device = search rules;
-      still = search rules;
-      fault = search rules;
+      still = λ n. refl;
+      fault = refl;
       cause = search rules;
     }

@@ -1,4 +1,4 @@
-use Rattle.residency.proofs.Names.{Option, refl, sym, subst, arith, rules, IfOk-weaker, Result, Ok, Err, IfOk, OnErr, FrameNo}
+use Rattle.residency.proofs.Names.{Option, refl, sym, subst, arith, IfOk-weaker, Result, Ok, Err, IfOk, OnErr, FrameNo}
 use Rattle.residency.{specs.{Picture.{picture_of}, Calls.{Frees}, Evictions.{IsEvictable}}, proofs.{Giving.{marks_none}, Sparing.{frees_none}}}
 use Rattle.residency.proofs.looking.choose.Goals as goal
 
@@ -26,8 +26,8 @@ returns g c =
       fit = v.«open»;
       frees = (let P : Option FrameNo → Type 0 = λ k. Frees old now k in subst P follows.kept (follows.frees old (frees_none old c.args.keep)));
       marks = follows.marks old (marks_none old);
-      looked = search rules;
+      looked = record { store = follows.looked.store; swap = follows.looked.swap; cache = follows.looked.cache; roots = follows.looked.roots; regions = follows.looked.regions; refused = follows.looked.refused };
       full = follows.full;
       clock = record { asked = _; left = c.victim-choice.new.view; same = refl; keeps = refl; round = v };
-      looks = search rules;
+      looks = v.looks;
     }

@@ -1,4 +1,4 @@
-use Rattle.residency.proofs.{Asking.{asked_tried, one_tried}, Giving.{on_err_same, frame_given}, Names.{ℕ, ◌≡◌, inl, sym, ◌∙◌, arith, rules, Result, Ok, Err, IfErr, IsErrAnd, MatchResult, FrameNo, Stall, NoFrames, NoSwap, SwapDevice}}
+use Rattle.residency.proofs.{Asking.{asked_tried, one_tried}, Giving.{on_err_same, frame_given}, Names.{ℕ, ◌≡◌, ◌+◌, inl, sym, ap, ◌∙◌, arith, rules, Result, Ok, Err, IfErr, IsErrAnd, MatchResult, FrameNo, Stall, NoFrames, NoSwap, SwapDevice}}
 use Rattle.residency.proofs.{Names.{Clock, FrameTable, frame_count, role_of, IsFull}, Refusing.{inside_of, above_of, all_need, no_slot_free}, Shown.{shows_kept}, Sparing.{frees_then, gives_frees}, Stalls.{short_of}}
 use Rattle.{residency.specs.{Ages.{GivesFrame}, Calls.{Refuses}, Capacity.{IsShort}, Picture.{Picture, picture_of}, Views.{AsksClock, TurnsFor}, declared.kernel.Core.{Core}}, std.specs.Prelude.{Option}}
 use Rattle.vm_types.specs.declared.mode.Levels as Levels
@@ -35,7 +35,7 @@ returns-in_err-evict-in-Ok g c =
     record {
       free = search rules;
       gives = search rules;
-      fit = search rules;
+      fit = c.evict.ensures.fit;
       frees = frees;
       shows = λ s. shows_kept old new s frees.pages;
       rest = search rules;
@@ -69,7 +69,7 @@ returns-in_ok-evict-in-Ok g c =
     record {
       free = record { inside = omega (arith, inside, count); free = c.in_ok-evict-in-Ok.ensures.free };
       gives = frame_given old mid new v found.marks gives may.0.0;
-      fit = search rules;
+      fit = c.evict.ensures.fit;
       frees = frees;
       shows = λ s. shows_kept old new s frees.pages;
       rest = search rules;
@@ -103,7 +103,7 @@ returns-then-has_spareable g c =
       fit = found.fit;
       frees = found.frees;
       shows = λ s. shows_kept (picture_of c.args.core.now) now s found.frees.pages;
-      rest = search rules;
+      rest = record { store = found.looked.store; roots = found.looked.roots; regions = found.looked.regions };
       idle = λ some. absurd (some c.requires.full);
       needed = inl c.requires.full;
       clock = record { stands = λ some. absurd (some c.requires.full); turns = λ full. (_, c.in-Err.ensures.clock); looks = found.looks };
@@ -112,7 +112,7 @@ returns-then-has_spareable g c =
       full = found.full c.requires.full;
       still = found.marks.roles;
       tried = search rules;
-      refused = record { refuses = refuses; short = short_of now found.fit sound c.choose-choice.new.core.bounded.each c.args.keep NoSwap refuses; cause = search rules };
+      refused = record { refuses = refuses; short = short_of now found.fit sound c.choose-choice.new.core.bounded.each c.args.keep NoSwap refuses; cause = (c.raise.ensures ∙ ap (λ n. n.number + 1) found.looked.refused, ap (λ s. g.E.SectorDisk.failures s.pages.disk) found.looked.swap) };
     }
 
 pub returns-else-has_spareable : goal.returns-else-has_spareable
@@ -127,7 +127,7 @@ returns-else-has_spareable g c =
       fit = found.fit;
       frees = found.frees;
       shows = λ s. shows_kept (picture_of c.args.core.now) now s found.frees.pages;
-      rest = search rules;
+      rest = record { store = found.looked.store; roots = found.looked.roots; regions = found.looked.regions };
       idle = λ some. absurd (some c.requires.full);
       needed = inl c.requires.full;
       clock = record { stands = λ some. absurd (some c.requires.full); turns = λ full. (_, c.in-Err.ensures.clock); looks = found.looks };

@@ -19,8 +19,7 @@ returns-in-Ok-clause-keeps g c =
 
 pub returns-in-Ok-clause-walked : goal.returns-in-Ok-clause-walked
 returns-in-Ok-clause-walked g c place walked =
-    let a = c.args in
-    (c.access.ensures.walked place (subst (λ (p : ℕ). IsWalked (picture_of a.core.now) p a.addr a.width a.kind place) (sym c.in-Some.ensures.found.0) walked)).0
+    (c.access.ensures.walked place (subst (λ (p : ℕ). IsWalked (picture_of c.args.core.now) p c.args.addr c.args.width c.args.kind place) (sym c.in-Some.ensures.found.0) walked)).0
 
 pub returns-in-Ok-clause-comes : goal.returns-in-Ok-clause-comes
 returns-in-Ok-clause-comes g c =
@@ -41,8 +40,7 @@ returns-in-Err-clause-keeps g c =
 
 pub returns-in-Err-clause-walked : goal.returns-in-Err-clause-walked
 returns-in-Err-clause-walked g c place walked =
-    let a = c.args in
-    (c.access.ensures.walked place (subst (λ (p : ℕ). IsWalked (picture_of a.core.now) p a.addr a.width a.kind place) (sym c.in-Some.ensures.found.0) walked)).0
+    (c.access.ensures.walked place (subst (λ (p : ℕ). IsWalked (picture_of c.args.core.now) p c.args.addr c.args.width c.args.kind place) (sym c.in-Some.ensures.found.0) walked)).0
 
 pub returns-in-Err-clause-comes : goal.returns-in-Err-clause-comes
 returns-in-Err-clause-comes g c =

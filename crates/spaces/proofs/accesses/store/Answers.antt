@@ -7,8 +7,13 @@ use Rattle.spaces.proofs.accesses.store.Goals as goal
 
 pub frame_of-frame-requires : goal.frame_of-frame-requires
 frame_of-frame-requires g c =
+    (open_held (picture_of c.access.new.core) c.in-Some.pid (c.args.addr / 4096) c.in-Ok.ensures.placed.seen.attr.backing (c.in-Ok.place.0 / 4096) c.in-Ok.ensures.placed.usable).inside
+
+pub bytes_mut-page-requires : goal.bytes_mut-page-requires
+bytes_mut-page-requires g c =
     let placed = c.in-Ok.ensures.placed in
-    (open_held (picture_of c.access.new.core) c.in-Some.pid (c.args.addr / 4096) placed.seen.attr.backing (c.in-Ok.place.0 / 4096) placed.usable).inside
+    open_held (picture_of c.access.new.core) c.in-Some.pid (c.args.addr / 4096) placed.seen.attr.backing c.frame_of-frame.result.0
+    (subst (λ (k : ℕ). IsOpenToStore (picture_of c.access.new.core) c.in-Some.pid (c.args.addr / 4096) placed.seen.attr.backing k) (sym c.frame_of-frame.ensures) placed.usable)
 
 pub returns-in-Ok-clause-keeps : goal.returns-in-Ok-clause-keeps
 returns-in-Ok-clause-keeps g c =
@@ -97,8 +102,7 @@ returns-in-Err-clause-keeps g c =
 
 pub returns-in-Err-clause-walked : goal.returns-in-Err-clause-walked
 returns-in-Err-clause-walked g c place walked =
-    let a = c.args in
-    let granted = c.access.ensures.walked place (subst (λ (p : ℕ). IsWalked (picture_of a.core.now) p a.addr a.stored.width Accesses.Store place) (sym c.in-Some.ensures.found.0) walked) in
+    let granted = c.access.ensures.walked place (subst (λ (p : ℕ). IsWalked (picture_of c.args.core.now) p c.args.addr c.args.stored.width Accesses.Store place) (sym c.in-Some.ensures.found.0) walked) in
     absurd (one_end c.access.result place c.in-Err.refusal c.in-Err.is granted.1)
 
 pub returns-in_default-clause-walked : goal.returns-in_default-clause-walked

@@ -1,4 +1,4 @@
-use Rattle.spaces.proofs.{Living.{spawn_refused, spawns, spawn_stalls, store_kept_caused}, Names.{None, refl, rules, Nothing, asks_slots_same, picture_of}, Taking.{spawned_takes, spawn_stalled_takes}}
+use Rattle.spaces.proofs.{Living.{spawn_refused, spawns, spawn_stalls, store_kept_caused, came}, Names.{None, refl, rules, Nothing, asks_slots_same, picture_of}, Taking.{spawned_takes, spawn_stalled_takes}}
 use Rattle.spaces.proofs.processes.spawn.Goals as goal
 
 pub returns-in_default-clause-comes : goal.returns-in_default-clause-comes
@@ -32,3 +32,9 @@ returns-in-Err-clause-takes g c =
 
 pub returns-in_default-clause-asks : goal.returns-in_default-clause-asks
 returns-in_default-clause-asks g c = asks_slots_same g.E.SectorDisk c.args.core.now c.args.core.now None Nothing refl
+
+pub returns-in-Ok-clause-keeps : goal.returns-in-Ok-clause-keeps
+returns-in-Ok-clause-keeps g c = came g.D.SectorDisk g.E.SectorDisk c.args.core.now c.spawn.new.core c.in-Some.pid _ c.requires.sound c.spawn.ensures.keeps c.in-Ok.ensures.cause
+
+pub returns-in-Ok-clause-asks : goal.returns-in-Ok-clause-asks
+returns-in-Ok-clause-asks g c = c.spawn.ensures.asks

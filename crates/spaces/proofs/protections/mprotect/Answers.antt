@@ -46,3 +46,6 @@ returns-in-Ok-clause-beside g c =
     let count : c.div_ceil-pages.result ≡ page_count a.request.len = omega (arith, c.div_ceil-pages.ensures) in
     subst (λ (p : ℕ). KeepsEntriesBeside (picture_of a.core.now) (picture_of c.reprotect.new.core) p (a.request.addr / 4096) (page_count a.request.len)) c.in-Some.ensures.found.0
     (subst (λ (n : ℕ). KeepsEntriesBeside (picture_of a.core.now) (picture_of c.reprotect.new.core) c.in-Some.pid (a.request.addr / 4096) n) count c.reprotect.ensures.row.kept)
+
+pub returns-in-Ok-clause-swap : goal.returns-in-Ok-clause-swap
+returns-in-Ok-clause-swap g c = c.reprotect.ensures.swap

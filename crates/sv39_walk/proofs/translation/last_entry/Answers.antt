@@ -2,8 +2,7 @@ use Rattle.{std.proofs.Common.{◌≡◌, refl, sym, ap, ◌∙◌, arith}, sv39
 use Rattle.sv39_walk.proofs.translation.last_entry.Goals as goal
 
 pub loop-level-init : goal.loop-level-init
-loop-level-init g c =
-    (omega (arith, c.top_level-level.ensures.range), c.requires, ap (λ top. last_of c.args.frames.now c.args.page top c.args.root.0) c.top_level-level.ensures.level)
+loop-level-init g c = (omega (arith, c.top_level-level.ensures.range), c.requires, ap (λ top. last_of c.args.frames.now c.args.page top c.args.root.0) c.top_level-level.ensures.level)
 
 pub returns-in-None-clause-last : goal.returns-in-None-clause-last
 returns-in-None-clause-last g c =
@@ -37,7 +36,4 @@ returns-clause-last g c =
     entry ∙ ap (λ p. p.1) stop
 
 pub returns-clause-level : goal.returns-clause-level
-returns-clause-level g c =
-    let zero : c.loop-level.level ≡ 0 = omega arith in
-    let stop = sym (last_of-zero c.args.frames.now c.args.page c.loop-level.table.0) ∙ (rw zero at c.loop-level.invariant.2) in
-    ap (λ p. p.0) stop
+returns-clause-level g c = let zero : c.loop-level.level ≡ 0 = omega arith in let stop = sym (last_of-zero c.args.frames.now c.args.page c.loop-level.table.0) ∙ (rw zero at c.loop-level.invariant.2) in ap (λ p. p.0) stop

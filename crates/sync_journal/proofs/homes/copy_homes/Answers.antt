@@ -1,16 +1,21 @@
-use Rattle.sync_journal.{proofs.{Names.{length, rules, once_still}, Runs.{and_no_write}}, specs.Standing.{IsCopyFrom}}
+use Rattle.sync_journal.{proofs.{Names.{length, rules, once_still}, Runs.{and_no_write}}, specs.{Layout.{IsHomeFrom}, Standing.{IsCopyFrom}}}
 use Rattle.sync_journal.proofs.homes.copy_homes.Goals as goal
 
 pub returns : goal.returns
 returns g c =
+    let d = g.D.SectorDisk in
+    let old = c.args.disk.now in
+    let mid = c.copy_each.new.disk in
+    let new = c.sync.new.self in
+    let copied = c.in_ok-copy_each.ensures in
+    let s = c.sync.ensures in
     record {
+      synced = s.synced;
       writes = record {
         done = search rules;
-        run = search (and_no_write, c.copy_each.ensures.run, c.sync.ensures);
-        once = once_still (IsCopyFrom c.args.body c.args.first c.args.homes.now c.args.but.now (length c.args.homes.now)) (g.D.SectorDisk.asked c.args.disk.now)
-            (g.D.SectorDisk.asked c.copy_each.new.disk) (g.D.SectorDisk.asked c.sync.new.self) c.copy_each.ensures.once c.sync.ensures.asks;
+        run = and_no_write d (IsHomeFrom c.args.first c.args.homes.now) old mid new copied.run s.size s.kept s.cause.later s.same s.unsynced s.time;
+        once = once_still (IsCopyFrom c.args.body c.args.first c.args.homes.now c.args.but.now (length c.args.homes.now)) (d.asked old) (d.asked mid) (d.asked new) copied.once s.asks;
         failed = search rules;
         calm = search rules;
       };
-      synced = search rules;
     }

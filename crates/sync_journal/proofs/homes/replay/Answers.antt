@@ -40,3 +40,9 @@ returns-clause-home g c =
           c.requires.homes (c.requires.opened before) (c.requires.on.synced before) (c.copy_homes.ensures.run.touches mid)
           (c.in_ok-copy_homes.ensures.done mid) (c.in_ok-copy_homes.ensures.synced mid) (c.close_gate.ensures.run.touches keeps));
     }
+
+pub returns-clause-zeros : goal.returns-clause-zeros
+returns-clause-zeros g c = c.close_gate.ensures.done
+
+pub returns-clause-all_synced : goal.returns-clause-all_synced
+returns-clause-all_synced g c = c.close_gate.ensures.synced

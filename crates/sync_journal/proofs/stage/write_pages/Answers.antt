@@ -8,11 +8,7 @@ returns-in_err-page g c =
     record {
       body = search rules;
       once = once_wider (IsFilledAt c.args.start c.loop-j.j) (IsFilledAt c.args.start c.args.count) _ _ (λ k inside. (inside.0, omega (arith, inside.1, c.loop-j-test.true))) inv.6;
-      takes = record {
-        run = inv.1;
-        asks = search rules;
-        causes = source_failed _ _ _ _ _ c.from_residual.ensures.1 (let failed = c.in_err-page.ensures.cause.failed refl in let before = inv.5 in omega (arith, failed, before)) inv.4;
-      };
+      takes = record { run = inv.1; asks = search rules; causes = source_failed _ _ _ _ _ c.from_residual.ensures.1 (let failed = c.in_err-page.ensures.cause.failed refl in let before = inv.5 in omega (arith, failed, before)) inv.4 };
     }
 
 pub returns-in_err-write_page : goal.returns-in_err-write_page

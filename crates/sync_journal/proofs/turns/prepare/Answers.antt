@@ -2,11 +2,7 @@ use Rattle.sync_journal.{proofs.Names.{◌+◌, ℕ, List, length, arith, sym, s
 use Rattle.sync_journal.proofs.turns.prepare.Goals as goal
 
 pub copy_homes-requires : goal.copy_homes-requires
-copy_homes-requires g c = record {
-  after = omega (arith, c.start.ensures.inside);
-  low = omega arith;
-  are = subst (AreHomes (turn_home_count (g.D.SectorDisk.sector_count c.args.disk.now))) (sym c.live.ensures) c.requires;
-}
+copy_homes-requires g c = record { after = omega (arith, c.start.ensures.inside); low = omega arith; are = subst (AreHomes (turn_home_count (g.D.SectorDisk.sector_count c.args.disk.now))) (sym c.live.ensures) c.requires }
 
 pub returns : goal.returns
 returns g c =

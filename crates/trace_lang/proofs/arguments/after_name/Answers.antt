@@ -12,12 +12,10 @@ returns-in_err-file-in-Shared-clause-only c =
     subst P (sym c.in-Shared.is) (λ file offset placing h. absurd (none≢some (c.in_err-file-in-Shared.ensures.only file offset placing h)))
 
 pub returns-in_ok-placing_of-in-Anon-clause-found : goal.returns-in_ok-placing_of-in-Anon-clause-found
-returns-in_ok-placing_of-in-Anon-clause-found c =
-    (codes "anon" ∷ [], texts c.args.words.now, ap (λ n. source_text n ∷ texts c.args.words.now) c.in-Anon.is, refl, c.in_ok-placing_of-in-Anon.ensures.found)
+returns-in_ok-placing_of-in-Anon-clause-found c = (codes "anon" ∷ [], texts c.args.words.now, ap (λ n. source_text n ∷ texts c.args.words.now) c.in-Anon.is, refl, c.in_ok-placing_of-in-Anon.ensures.found)
 
 pub returns-in_ok-placing_of-in-Common-clause-found : goal.returns-in_ok-placing_of-in-Common-clause-found
-returns-in_ok-placing_of-in-Common-clause-found c =
-    (codes "common" ∷ [], texts c.args.words.now, ap (λ n. source_text n ∷ texts c.args.words.now) c.in-Common.is, refl, c.in_ok-placing_of-in-Common.ensures.found)
+returns-in_ok-placing_of-in-Common-clause-found c = (codes "common" ∷ [], texts c.args.words.now, ap (λ n. source_text n ∷ texts c.args.words.now) c.in-Common.is, refl, c.in_ok-placing_of-in-Common.ensures.found)
 
 pub returns-in_ok-file-in-Private-clause-found : goal.returns-in_ok-file-in-Private-clause-found
 returns-in_ok-file-in-Private-clause-found c =

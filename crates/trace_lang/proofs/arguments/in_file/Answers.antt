@@ -14,5 +14,4 @@ returns-in_err-offset-clause-only c = λ file offset placing h.
     absurd (c.in_err-offset.ensures.none _ (subst P (ap (λ t. get_or t 1 []) whole) h.5))
 
 pub returns-clause-found : goal.returns-clause-found
-returns-clause-found c =
-    (_, _, _, two_or_more c.args.words.now record { ref_ptr = (0, 0); now = [] } (omega arith), c.in_ok-file.ensures.found, c.in_ok-offset.ensures.found, c.in_ok-placing.ensures.found)
+returns-clause-found c = (_, _, _, two_or_more c.args.words.now record { ref_ptr = (0, 0); now = [] } (omega arith), c.in_ok-file.ensures.found, c.in_ok-offset.ensures.found, c.in_ok-placing.ensures.found)

@@ -3,9 +3,7 @@ use Rattle.trace_lang.specs.declared.names.Name.TheVariants as name
 use Rattle.trace_lang.proofs.forms.named_in.Goals as goal
 
 pub returns-in_err-name_of : goal.returns-in_err-name_of
-returns-in_err-name_of c =
-    let line = c.in-Some.ensures in
-    no_command _ _ c.from_residual.ensures (λ n h. none≢some (c.in_err-name_of.ensures.only n (sym (ap first (cut_words c.args.line.now _ _ line.parts line.word)) ∙ h)))
+returns-in_err-name_of c = let line = c.in-Some.ensures in no_command _ _ c.from_residual.ensures (λ n h. none≢some (c.in_err-name_of.ensures.only n (sym (ap first (cut_words c.args.line.now _ _ line.parts line.word)) ∙ h)))
 
 pub returns-in-Spawn : goal.returns-in-Spawn
 returns-in-Spawn c =

@@ -21,6 +21,4 @@ returns-in_err-width-clause-none c =
     rw c.from_residual-in_err-width.ensures none
 
 pub returns-clause-found : goal.returns-clause-found
-returns-clause-found c =
-    let P : ℕ → Type 0 = λ n. BeginsWith n c.in_ok-bytes.rest.now c.args.text.now in
-    subst P (sym c.in_ok-width.ensures.found) c.in_ok-bytes.ensures.found
+returns-clause-found c = let P : ℕ → Type 0 = λ n. BeginsWith n c.in_ok-bytes.rest.now c.args.text.now in subst P (sym c.in_ok-width.ensures.found) c.in_ok-bytes.ensures.found

@@ -6,9 +6,7 @@ abbrev made : (w : Width) (v : ℕ) → v < 2 ^ (8 * byte_count w) → StoredVal
 made w v f = record { width = w; value = v; fits = f }
 
 same_fits : (w : Width) (v : ℕ) (f g : v < 2 ^ (8 * byte_count w)) → made w v f ≡ made w v g
-same_fits w v f g =
-    let prop : IsProp (v < 2 ^ (8 * byte_count w)) = hlevel props in
-    λ i. made w v (prop f g i)
+same_fits w v f g = let prop : IsProp (v < 2 ^ (8 * byte_count w)) = hlevel props in λ i. made w v (prop f g i)
 
 same_stored : (a b : StoredValue) → a.width ≡ b.width → a.value ≡ b.value → a ≡ b
 same_stored a b ew ev =

@@ -5,5 +5,4 @@ pub returns-then-number-eq0-clause-digits : goal.returns-then-number-eq0-clause-
 returns-then-number-eq0-clause-digits c = hex_digits-digits 0 c.args.number (omega arith) (inl refl) (omega arith)
 
 pub returns-else-number-eq0-clause-digits : goal.returns-else-number-eq0-clause-digits
-returns-else-number-eq0-clause-digits c =
-    hex_digits-log c.ilog2.result c.args.number c.ilog2.ensures.power_le c.ilog2.ensures.next_power_gt c.ilog2.ensures.bound
+returns-else-number-eq0-clause-digits c = hex_digits-log c.ilog2.result c.args.number c.ilog2.ensures.power_le c.ilog2.ensures.next_power_gt c.ilog2.ensures.bound

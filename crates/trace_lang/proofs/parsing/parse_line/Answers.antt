@@ -22,6 +22,4 @@ returns-clause-only c = λ command h.
     c.ok_or.ensures.value ∙ ap (λ r. ok_or r _) (c.command_in.ensures.only command (form_of_line c.args.line.now _ command refl h))
 
 pub returns-clause-none : goal.returns-clause-none
-returns-clause-none c =
-    none_ok (λ command. IsCommand c.args.line.now command) c.ok_or.result (λ command h.
-    c.ok_or.ensures.value ∙ ap (λ r. ok_or r _) (c.command_in.ensures.only command (form_of_line c.args.line.now _ command refl h)))
+returns-clause-none c = none_ok (λ command. IsCommand c.args.line.now command) c.ok_or.result (λ command h. c.ok_or.ensures.value ∙ ap (λ r. ok_or r _) (c.command_in.ensures.only command (form_of_line c.args.line.now _ command refl h)))

@@ -11,7 +11,7 @@ returns-then-look g c =
     let inv = c.loop-i.invariant in
     let hand = c.args.self.now.hand in
     let F = c.frames-frames.result in
-    let next = on hand F c.loop-i.i c.loop-i.self.hand c.next-self.result inv.started c.loop-i-test.true inv.hand c.next-self.ensures in
+    let next = on hand F c.loop-i.i c.loop-i.self.hand c.next-self.result inv.started (omega arith) inv.hand c.next-self.ensures in
     let P : ℕ → Type 0 = λ x. c.loop-i.i < 2 * x in
     let Q : ℕ → Type 0 = λ x. hand < x in
     let R : ℕ → Type 0 = λ x. c.loop-i.self.hand ≡ place hand x c.loop-i.i in
@@ -20,7 +20,7 @@ returns-then-look g c =
       «open» = search rules;
       hand = search rules;
       looks = search rules;
-      chooses = chooses g.V.FrameView hand c.loop-i.i c.loop-i.self.hand c.args.view.now c.loop-i.view c.look.new.view inv.passes (subst Q inv.count inv.started) (subst P inv.count c.loop-i-test.true) c.look.ensures.looks (subst R inv.count inv.hand) inv.looked g.met.V.FrameView.goes_on c.next-self.result (subst S inv.count next) (c.look.ensures.chosen c.if-look.true);
+      chooses = chooses g.V.FrameView hand c.loop-i.i c.loop-i.self.hand c.args.view.now c.loop-i.view c.look.new.view inv.passes (subst Q inv.count inv.started) (subst P inv.count (omega arith)) c.look.ensures.looks (subst R inv.count inv.hand) inv.looked g.met.V.FrameView.goes_on c.next-self.result (subst S inv.count next) (c.look.ensures.chosen c.if-look.true);
       none = tt;
       kept = tt;
       still = tt;
@@ -31,7 +31,7 @@ loop-i-preserved g c =
     let inv = c.loop-i.invariant in
     let hand = c.args.self.now.hand in
     let F = c.frames-frames.result in
-    let next = on hand F c.loop-i.i c.loop-i.self.hand c.next-self.result inv.started c.loop-i-test.true inv.hand c.next-self.ensures in
+    let next = on hand F c.loop-i.i c.loop-i.self.hand c.next-self.result inv.started (omega arith) inv.hand c.next-self.ensures in
     let P : ℕ → Type 0 = λ x. c.loop-i.i < 2 * x in
     let Q : ℕ → Type 0 = λ x. hand < x in
     let R : ℕ → Type 0 = λ x. c.loop-i.self.hand ≡ place hand x c.loop-i.i in
@@ -46,7 +46,7 @@ loop-i-preserved g c =
       hand = next;
       below = (let start = inv.started in let low = mod_below (hand + (c.loop-i.i + 1)) F (omega (arith, start)) in omega (arith, low, next));
       looked = omega (arith, more, so_far);
-      passes = passes_more g.V.FrameView hand c.loop-i.i c.loop-i.self.hand c.args.view.now c.loop-i.view c.look.new.view inv.passes (subst Q inv.count inv.started) (subst P inv.count c.loop-i-test.true)
+      passes = passes_more g.V.FrameView hand c.loop-i.i c.loop-i.self.hand c.args.view.now c.loop-i.view c.look.new.view inv.passes (subst Q inv.count inv.started) (subst P inv.count (omega arith))
           looks (subst R inv.count inv.hand) so_far g.met.V.FrameView.goes_on (c.look.ensures.passed c.if-look.false);
     }
 

@@ -32,3 +32,6 @@ returns-in-Ok-clause-told g c =
       tells = λ told is. left_is n told given (g.R.Read.remaining c.read_exact.new.self) size
           (is_read (g.R.Read.remaining c.in-Some.reader) (g.R.Read.remaining c.read_exact.new.self) told given (ap (reader_tells g.R.Read.remaining) (sym c.in-Some.is) ∙ is) c.in-Ok.ensures.bytes);
     }
+
+pub returns-in-Err-clause-told : goal.returns-in-Err-clause-told
+returns-in-Err-clause-told g c = tt

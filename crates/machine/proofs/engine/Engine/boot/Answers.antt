@@ -1,5 +1,6 @@
-use Rattle.machine.proofs.{Boots.{fine_frames, fine_slots, still, boots, accepts, refuses_frames, refuses_slots, refuses_memory, refuses_store, opened_leaves}, Names.{inl, inr, ⊎_elim, refl, sym, subst, arith, OpensFrom}}
+use Rattle.machine.proofs.{Boots.{fine_frames, fine_slots, still, boots, accepts, refuses_frames, refuses_slots, refuses_memory, refuses_store, opened_leaves}, Names.{inl, inr, ⊎_elim, refl, sym, ap, ◌∙◌, subst, arith, OpensFrom}}
 use Rattle.machine.{proofs.engine.Engine.boot.Goals.{then-config-gt-MAX_SLOTS-via-then-config-gt-MAX_SLOTS, then-config-gt-MAX_SLOTS-via-else-config-gt-MAX_SLOTS+then-from-sectors}, specs.Boot.{HasBadSlots}}
+use Rattle.swap.specs.declared.slots.Swap.{Swap}
 use Rattle.machine.proofs.engine.Engine.boot.Goals as goal
 
 pub returns-then-config-lt-MIN_FRAMES-clause-refuses : goal.returns-then-config-lt-MIN_FRAMES-clause-refuses
@@ -66,3 +67,8 @@ returns-in-Ok-new-3-clause-accepts g c =
 
 pub returns-in-Ok-new-3-clause-moments : goal.returns-in-Ok-new-3-clause-moments
 returns-in-Ok-new-3-clause-moments g c = rw c.in-Ok-new-3.ensures.store (opened_leaves g.D.SectorDisk c.args.store c.in-Ok.store c.in-Ok.ensures)
+
+pub returns-in-Ok-new-3-clause-starts : goal.returns-in-Ok-new-3-clause-starts
+returns-in-Ok-new-3-clause-starts g c =
+    let made = c.in-Ok-new-3.ensures in
+    record { frames = made.start.fresh.frames; slots = made.start.slots_free.total; swap = ap (λ (s : Swap _). s.pages.disk) made.swap ∙ c.in-Ok-new-2.ensures.disk }

@@ -11,9 +11,7 @@ pub returns-in-Some-clause-placed : goal.returns-in-Some-clause-placed
 returns-in-Some-clause-placed c = rw (← c.self.view_is) (place_of-marked c.self.inside c.remove.new.self c.args.page)
 
 pub returns-in-Some-clause-others : goal.returns-in-Some-clause-others
-returns-in-Some-clause-others c =
-    rw (← c.self.view_is) (SameButFor-marked c.self.inside c.remove.new.self c.in-Some.node c.args.page c.in-Some.ensures.held c.remove.ensures.others)
+returns-in-Some-clause-others c = rw (← c.self.view_is) (SameButFor-marked c.self.inside c.remove.new.self c.in-Some.node c.args.page c.in-Some.ensures.held c.remove.ensures.others)
 
 pub returns-in_default-clause-untouched : goal.returns-in_default-clause-untouched
-returns-in_default-clause-untouched c =
-    rw (← c.self.view_is) (is_touched-first (cache_table_of c.self.inside) c.args.page None (sym c.in_default.ensures.first))
+returns-in_default-clause-untouched c = rw (← c.self.view_is) (is_touched-first (cache_table_of c.self.inside) c.args.page None (sym c.in_default.ensures.first))

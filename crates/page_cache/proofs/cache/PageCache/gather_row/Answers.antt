@@ -1,4 +1,4 @@
-use Rattle.{std.proofs.Common.{◌+◌, ◌<◌, inl, inr, arith}, vm_types.specs.declared.file.FilePage.{FilePage}, page_cache.proofs.GatherLemmas.{IsPart-skip, IsPart-pushed, row_more, row_touched, row_untouched}}
+use Rattle.{std.proofs.Common.{◌+◌, ◌<◌, inl, inr, arith, rules}, vm_types.specs.declared.file.FilePage.{FilePage}, page_cache.proofs.GatherLemmas.{IsPart-skip, IsPart-pushed, row_more, row_touched, row_untouched}}
 use Rattle.page_cache.proofs.cache.PageCache.gather_row.Goals.{then-is_touched+in_ok-n, else-is_touched}
 use Rattle.page_cache.proofs.cache.PageCache.gather_row.Goals as goal
 
@@ -20,3 +20,6 @@ loop-offset-preserved c =
             | inr e ↦ absurd (row_untouched t c.args.first.file c.args.first.page c.args.count k c.is_touched.result c.is_touched.ensures w.if-is_touched.false p in_row e)
           ]))
     ]
+
+pub loop-offset-init : goal.loop-offset-init
+loop-offset-init c = search rules

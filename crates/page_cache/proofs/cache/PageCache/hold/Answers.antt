@@ -6,14 +6,10 @@ use Rattle.page_cache.proofs.cache.PageCache.hold.Goals as goal
 -- what the caller keeps, of the fields
 free_of : (cache : Inside) (now : CacheTable) (node : ℕ) → cache_table_of cache ≡ now → IsWholeCache cache → ((p : PageKey) → place_of now p ≢ place_in (cache_frames now) (Some node))
     → page_at cache.index.pages.items node ≡ None
-free_of cache now node is whole nobody =
-    let here = rw (← is) at nobody in
-    nothing_held (cache_table_of cache) node whole.one here
+free_of cache now node is whole nobody = let here = rw (← is) at nobody in nothing_held (cache_table_of cache) node whole.one here
 
 inside_of : (cache : Inside) (now : CacheTable) (node : ℕ) → cache_table_of cache ≡ now → IsWholeCache cache → node < cache_frames now + slot_count now → node < length cache.index.pages.items
-inside_of cache now node is whole below =
-    let here = rw (← is) at below in
-    omega (arith, here, whole.least_nodes)
+inside_of cache now node is whole below = let here = rw (← is) at below in omega (arith, here, whole.least_nodes)
 
 home_of : (cache : Inside) (now : CacheTable) (page : PageKey) → cache_table_of cache ≡ now → place_of now page ≡ Home → place_of (cache_table_of cache) page ≡ Home
 home_of cache now page is home = rw (← is) at home
@@ -21,8 +17,7 @@ home_of cache now page is home = rw (← is) at home
 found_at : (cache : Inside) (now : CacheTable) (index : Index) (node : ℕ) (page : PageKey) → cache_table_of cache ≡ now → IsWholeCache cache
     → node < cache_frames now + slot_count now → place_of now page ≡ Home → index.pages.items ≡ set cache.index.pages.items node (Some page)
     → first_node index.pages.items page ≡ Some node
-found_at cache now index node page is whole below home pages =
-    given-placed cache index cache.touched node page whole (inside_of cache now node is whole below) (home_of cache now page is home) pages
+found_at cache now index node page is whole below home pages = given-placed cache index cache.touched node page whole (inside_of cache now node is whole below) (home_of cache now page is home) pages
 
 pub insert-requires-clause-free : goal.insert-requires-clause-free
 insert-requires-clause-free c = free_of c.self.inside c.args.self.now c.args.node c.self.view_is c.self.invariant c.requires.free

@@ -3,9 +3,7 @@ use Rattle.page_cache.specs.{Inside.{cache_table_of}, declared.place.Place.TheVa
 use Rattle.page_cache.proofs.cache.PageCache.is_frame_touched.Goals as goal
 
 pub contains-requires : goal.contains-requires
-contains-requires c =
-    let below : c.args.n.0 < c.self.inside.frames = rw (← c.self.view_is) at c.requires in
-    omega (arith, below, c.self.invariant.least_nodes, c.self.invariant.nodes)
+contains-requires c = let below : c.args.n.0 < c.self.inside.frames = rw (← c.self.view_is) at c.requires in omega (arith, below, c.self.invariant.least_nodes, c.self.invariant.nodes)
 
 pub returns : goal.returns
 returns c page placed =

@@ -2,9 +2,7 @@ use Rattle.{std.proofs.Common.{None, Some, sym, ◌∙◌, arith}, page_cache.{p
 use Rattle.page_cache.proofs.cache.PageCache.is_touched.Goals as goal
 
 pub contains-requires : goal.contains-requires
-contains-requires c =
-    let within = page_at-within c.self.inside.index.pages.items c.in-Some.node c.args.page c.in-Some.ensures.held in
-    omega (arith, c.self.invariant.nodes)
+contains-requires c = let within = page_at-within c.self.inside.index.pages.items c.in-Some.node c.args.page c.in-Some.ensures.held in omega (arith, c.self.invariant.nodes)
 
 pub returns-in-Some : goal.returns-in-Some
 returns-in-Some c =

@@ -11,10 +11,7 @@ pub returns-in-Some-clause-placed : goal.returns-in-Some-clause-placed
 returns-in-Some-clause-placed c = rw (← c.self.view_is) (place_of-marked c.self.inside c.insert.new.self c.args.page)
 
 pub returns-in-Some-clause-others : goal.returns-in-Some-clause-others
-returns-in-Some-clause-others c =
-    rw (← c.self.view_is) (SameButFor-marked c.self.inside c.insert.new.self c.in-Some.node c.args.page c.in-Some.ensures.held c.insert.ensures.others)
+returns-in-Some-clause-others c = rw (← c.self.view_is) (SameButFor-marked c.self.inside c.insert.new.self c.in-Some.node c.args.page c.in-Some.ensures.held c.insert.ensures.others)
 
 pub returns-in_default-clause-touched : goal.returns-in_default-clause-touched
-returns-in_default-clause-touched c =
-    let away = rw (← c.self.view_is) at c.requires in
-    absurd (away (place_of-first (cache_table_of c.self.inside) c.args.page None (sym c.in_default.ensures.first)))
+returns-in_default-clause-touched c = let away = rw (← c.self.view_is) at c.requires in absurd (away (place_of-first (cache_table_of c.self.inside) c.args.page None (sym c.in_default.ensures.first)))

@@ -2,9 +2,7 @@ use Rattle.page_cache.{specs.Inside.{cache_table_of}, proofs.TableLemmas.{IsFres
 use Rattle.page_cache.proofs.cache.PageCache.new.Goals as goal
 
 pub returns-clause-fresh : goal.returns-clause-fresh
-returns-clause-fresh c =
-    IsFresh-empty (cache_table_of (record { frames = c.args.frames; index = c.in_ok-index.index; touched = c.in_ok-touched.touched })) c.args.slots
-    c.in_ok-index.ensures.empty
+returns-clause-fresh c = IsFresh-empty (cache_table_of (record { frames = c.args.frames; index = c.in_ok-index.index; touched = c.in_ok-touched.touched })) c.args.slots c.in_ok-index.ensures.empty
 
 pub returns-clause-sound : goal.returns-clause-sound
 returns-clause-sound c =

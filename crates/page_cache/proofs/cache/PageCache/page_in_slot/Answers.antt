@@ -7,6 +7,4 @@ returns-clause-held c =
     (place_in-slot_at c.self.inside.frames c.args.n.0) c.page.ensures)
 
 pub returns-clause-none : goal.returns-clause-none
-returns-clause-none c =
-    rw (← c.self.view_is) (none_at (cache_table_of c.self.inside) (c.self.inside.frames + c.args.n.0) (Slot c.args.n) c.page.result
-    (place_in-slot_at c.self.inside.frames c.args.n.0) c.page.ensures)
+returns-clause-none c = rw (← c.self.view_is) (none_at (cache_table_of c.self.inside) (c.self.inside.frames + c.args.n.0) (Slot c.args.n) c.page.result (place_in-slot_at c.self.inside.frames c.args.n.0) c.page.ensures)

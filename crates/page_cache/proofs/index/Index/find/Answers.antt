@@ -38,9 +38,7 @@ next_in c =
     (inr (c.loop-node.node, refl, refl, c.loop-node.invariant.there inside)))
 
 pub loop-node-smaller : goal.loop-node-smaller
-loop-node-smaller c =
-    let next = next_in c in
-    omega (arith, next.least, next.within)
+loop-node-smaller c = let next = next_in c in omega (arith, next.least, next.within)
 
 pub loop-node-preserved : goal.loop-node-preserved
 loop-node-preserved c =

@@ -1,4 +1,4 @@
-use Rattle.{std.proofs.{Common.{◌≡◌, ◌+◌, true, arith}, lemmas.List.{get_or_read}}, page_cache.{proofs.{ChainLemmas.{bucket-own, IsChained-removed}, NodeLemmas.{page_at-within}}, specs.{Chains.{is_in_bucket}, Nodes.{page_at}}}}
+use Rattle.{std.proofs.{Common.{◌≡◌, ◌+◌, true, arith, rules}, lemmas.List.{get_or_read}}, page_cache.{proofs.{ChainLemmas.{bucket-own, IsChained-removed}, NodeLemmas.{page_at-within}}, specs.{Chains.{is_in_bucket}, Nodes.{page_at}}}}
 use Rattle.page_cache.proofs.index.Index.remove.Goals as goal
 
 pub returns-clause-chained : goal.returns-clause-chained
@@ -10,3 +10,6 @@ returns-clause-chained c =
     let read = get_or_read index.links.items (index.mask + 1 + c.args.node) c.index.result.now (omega (arith, c.requires.chained.count)) c.index.ensures 0 in
     rw read (IsChained-removed index.pages.items index.links.items index.mask c.bucket_of.result c.args.node c.seat-at.result
     c.requires.chained c.bucket_of.ensures.within c.seat-at.ensures.seat c.seat-at.ensures.from held)
+
+pub returns-clause-pages : goal.returns-clause-pages
+returns-clause-pages c = search rules

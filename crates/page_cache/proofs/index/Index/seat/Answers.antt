@@ -25,6 +25,4 @@ loop-at-smaller c =
     omega (arith, lead.0, lead.1, next.least)
 
 pub loop-at-preserved : goal.loop-at-preserved
-loop-at-preserved c =
-    let lead = leads c in
-    record { low = c.index-in-loop-at.result.now + 1; link = inr (c.index-in-loop-at.result.now, refl, refl, lead.2); before = omega (arith, lead.1) }
+loop-at-preserved c = let lead = leads c in record { low = c.index-in-loop-at.result.now + 1; link = inr (c.index-in-loop-at.result.now, refl, refl, lead.2); before = omega (arith, lead.1) }

@@ -10,8 +10,7 @@ pub returns-in_err-run-clause-user : goal.returns-in_err-run-clause-user
 returns-in_err-run-clause-user g c = user_map g.M.Levels.mode c.args.self.now c.runs_behind.ensures.maximal
 
 pub at-requires : goal.at-requires
-at-requires g c =
-    (first_tells g.M.Levels.mode _ _ _ (Some c.in_ok-run.run'.now) c.runs_behind.ensures.maximal c.runs_behind.ensures.found c.in_ok-run.ensures.value).is_run
+at-requires g c = (first_tells g.M.Levels.mode _ _ _ (Some c.in_ok-run.run'.now) c.runs_behind.ensures.maximal c.runs_behind.ensures.found c.in_ok-run.ensures.value).is_run
 
 pub returns-clause-value : goal.returns-clause-value
 returns-clause-value g c =

@@ -1,4 +1,4 @@
-use Rattle.{std.proofs.Common.{◌<◌, ◌∙◌, List, ap, length, get_or, sym, subst, arith}, regions.{proofs.{PushLemmas.{unused}, StandLemmas.{behind_run, on_behind}}, specs.{Run.{IsRun}, Search.{first_on}, declared.run.Run.{Run}}}}
+use Rattle.{std.proofs.{Common.{◌<◌, ◌∙◌, List, ap, length, get_or, sym, subst, arith}, lemmas.Grind.{common_steps}}, regions.{proofs.{PushLemmas.{unused}, StandLemmas.{behind_run, on_behind}}, specs.{Run.{IsRun}, Search.{first_on}, declared.run.Run.{Run}}}}
 use Rattle.regions.proofs.table.Regions.first_page.Goals as goal
 
 pub loop-run-init : goal.loop-run-init
@@ -10,3 +10,6 @@ page_on-requires g c =
     (behind_run g.M.Levels.mode 16 c.args.low c.args.self.now c.loop-run.run-index unused c.runs_behind-run-items.ensures.maximal)
     c.loop-run-test.true in
     omega (arith, run.nonempty)
+
+pub loop-run-preserved : goal.loop-run-preserved
+loop-run-preserved g c = grind (arith, common_steps)

@@ -2,6 +2,4 @@ use Rattle.{std.proofs.Common.{◌∙◌, List, ap}, regions.{proofs.BehindLemma
 use Rattle.regions.proofs.table.Regions.gap_from.Goals as goal
 
 pub loop-run-init : goal.loop-run-init
-loop-run-init g c =
-    ap (λ (l : List Run). gap_from c.args.page l) c.runs_behind-run-items.ensures.found
-    ∙ gap_behind g.M.Levels.mode 16 c.args.page c.args.self.now c.runs_behind-run-items.ensures.maximal
+loop-run-init g c = ap (λ (l : List Run). gap_from c.args.page l) c.runs_behind-run-items.ensures.found ∙ gap_behind g.M.Levels.mode 16 c.args.page c.args.self.now c.runs_behind-run-items.ensures.maximal

@@ -12,6 +12,4 @@ returns-then-first-lt-USER_START g c =
     ]))
 
 pub returns : goal.returns
-returns g c =
-    c.is_clear.ensures.found
-    ∙ sym (is_place-clear g.M.Levels.mode c.args.self.now c.args.pages c.args.first c.is_clear.ensures.maximal c.requires (omega arith) (omega arith))
+returns g c = c.is_clear.ensures.found ∙ sym (is_place-clear g.M.Levels.mode c.args.self.now c.args.pages c.args.first c.is_clear.ensures.maximal c.requires (omega arith) (omega arith))

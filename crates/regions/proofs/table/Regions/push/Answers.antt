@@ -26,8 +26,8 @@ returns-then-joins_last-clause-ok g c =
     merged_last c.self.inside.runs c.self.inside.len unused c.args.next some (omega arith) goes_on
     ∙ ap (λ (l : List Run). pushed l c.args.next) c.self.view_is
 
-pub returns-then-self-eq-RUNS-clause-err : goal.returns-then-self-eq-RUNS-clause-err
-returns-then-self-eq-RUNS-clause-err g c =
+pub returns-then-self-ge-RUNS-clause-err : goal.returns-then-self-ge-RUNS-clause-err
+returns-then-self-ge-RUNS-clause-err g c =
     let full : length (take c.self.inside.len c.self.inside.runs) ≡ c.self.inside.len = length-take-le c.self.inside.len c.self.inside.runs (omega arith) in
     omega (arith, full, ap (λ (l : List Run). length l) c.self.view_is, length_added c.args.self.now c.args.next (sym c.joins_last.ensures ∙ c.if-joins_last.false))
 

@@ -10,8 +10,7 @@ returns-in_err-paste g c =
     (rw (c.clear.ensures.none, c.as_slice.ensures.runs) at c.in_err-paste.ensures.err)
 
 pub push-requires-clause-run : goal.push-requires-clause-run
-push-requires-clause-run g c =
-    run_of_row g.M.Levels.mode c.args.first c.args.pages c.args.attr c.requires.some c.requires.low c.requires.high c.requires.file_pages
+push-requires-clause-run g c = run_of_row g.M.Levels.mode c.args.first c.args.pages c.args.attr c.requires.some c.requires.low c.requires.high c.requires.file_pages
 
 pub push-requires-clause-behind : goal.push-requires-clause-behind
 push-requires-clause-behind g c =

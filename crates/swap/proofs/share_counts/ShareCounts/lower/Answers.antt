@@ -6,15 +6,13 @@ pub push_reserved-requires : goal.push_reserved-requires
 push_reserved-requires c =
     let was : 0 < count_at c.self.inside.counts.items c.args.n = (let P : List ℕ → Type 0 = λ l. 0 < count_at l c.args.n in subst P (sym c.self.view_is) c.requires) in
     let below = inside_of c.self.inside.counts.items c.args.n was in
-    let short = has_room c.self.inside.counts.items c.self.inside.free.items c.args.n c.self.invariant.stack below was in
-    let room = c.self.invariant.room in
+    let short = has_room c.self.inside.counts.items c.self.inside.free.items c.args.n c.self.invariant.stack below was in let room = c.self.invariant.room in
     omega (arith, short, room)
 
 pub invariant_of-self : goal.invariant_of-self
 invariant_of-self c =
     let was : 0 < count_at c.self.inside.counts.items c.args.n = (let P : List ℕ → Type 0 = λ l. 0 < count_at l c.args.n in subst P (sym c.self.view_is) c.requires) in
-    let below = inside_of c.self.inside.counts.items c.args.n was in
-    let size = length-set c.self.inside.counts.items c.args.n (c.index_mut.result.now - 1) in
+    let below = inside_of c.self.inside.counts.items c.args.n was in let size = length-set c.self.inside.counts.items c.args.n (c.index_mut.result.now - 1) in
     let read : c.index.result.now ≡ c.index_mut.result.now - 1 =
     get_or_read (set c.self.inside.counts.items c.args.n (c.index_mut.result.now - 1)) c.args.n c.index.result.now (omega (arith, size, below)) c.index.ensures 0
     ∙ get_or-set_same c.self.inside.counts.items c.args.n (c.index_mut.result.now - 1) 0 below in
@@ -30,8 +28,7 @@ invariant_of-self c =
 pub invariant_of-self-else-index-eq0 : goal.invariant_of-self-else-index-eq0
 invariant_of-self-else-index-eq0 c =
     let was : 0 < count_at c.self.inside.counts.items c.args.n = (let P : List ℕ → Type 0 = λ l. 0 < count_at l c.args.n in subst P (sym c.self.view_is) c.requires) in
-    let below = inside_of c.self.inside.counts.items c.args.n was in
-    let size = length-set c.self.inside.counts.items c.args.n (c.index_mut.result.now - 1) in
+    let below = inside_of c.self.inside.counts.items c.args.n was in let size = length-set c.self.inside.counts.items c.args.n (c.index_mut.result.now - 1) in
     let read : c.index.result.now ≡ c.index_mut.result.now - 1 =
     get_or_read (set c.self.inside.counts.items c.args.n (c.index_mut.result.now - 1)) c.args.n c.index.result.now (omega (arith, size, below)) c.index.ensures 0
     ∙ get_or-set_same c.self.inside.counts.items c.args.n (c.index_mut.result.now - 1) 0 below in

@@ -12,15 +12,12 @@ returns-in_err-n-clause-none c =
 
 pub invariant_of-self-2 : goal.invariant_of-self-2
 invariant_of-self-2 c =
-    let stack = c.self.inside.free.items in
-    let counts = c.self.inside.counts.items in
+    let stack = c.self.inside.free.items in let counts = c.self.inside.counts.items in
     let long : vec_len c.self.inside.free ≡ length stack = c.self.inside.free.ok.0 in
     let some : 0 < vec_len c.self.inside.free = (let one = c.in_ok-n.ensures.cases in omega (arith, one)) in
     let top : c.in_ok-n.n ≡ get_or stack (vec_len c.self.inside.free - 1) 0 = (let e = c.in_ok-n.ensures.value 0 some in (cc)) in
-    let P : ℕ → Type 0 = λ m. c.in_ok-n.n ≡ get_or stack (m - 1) 0 in
-    let Q : List ℕ → Type 0 = λ l. IsStack (set counts c.in_ok-n.n 1) l in
-    let R : ℕ → Type 0 = λ m. IsStack (set counts c.in_ok-n.n 1) (take (m - 1) stack) in
-    let size = length-set counts c.in_ok-n.n 1 in
+    let P : ℕ → Type 0 = λ m. c.in_ok-n.n ≡ get_or stack (m - 1) 0 in let Q : List ℕ → Type 0 = λ l. IsStack (set counts c.in_ok-n.n 1) l in
+    let R : ℕ → Type 0 = λ m. IsStack (set counts c.in_ok-n.n 1) (take (m - 1) stack) in let size = length-set counts c.in_ok-n.n 1 in
     record {
       sound = sound_set counts c.in_ok-n.n 1 (omega arith) c.self.invariant.sound;
       stack = subst Q (sym c.in_ok-n.ensures.rest)

@@ -12,10 +12,7 @@ returns-in_err-read g c =
     record {
       before = search rules;
       found = search rules;
-      looks = record {
-        run = no_write d Nothing old new r.size r.kept r.cause.later r.same r.unsynced r.time;
-        blames = blames_device d old new _ c.from_residual.ensures.1 (c.in_err-read.ensures.cause.failed refl);
-      };
+      looks = record { run = no_write d Nothing old new r.size r.kept r.cause.later r.same r.unsynced r.time; blames = blames_device d old new _ c.from_residual.ensures.1 (c.in_err-read.ensures.cause.failed refl) };
       asks = asks_named d (IsGateOrMapIn (layout_before c.args.journals)) (λ k. k ≡ 2) old new (λ k here. inl here) r.asks;
       good = search rules;
       bad = λ keeps is. absurd (not_bad_device _ c.from_residual.ensures.1 is);

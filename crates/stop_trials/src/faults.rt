@@ -1,0 +1,36 @@
+//! Why trials of stops give up.
+use file_store::OpenFault;
+use machine::BootFault;
+use programs::ProgramFault;
+use std::alloc::AllocError;
+
+/// Why trials give up: each is the fault of that name of the program.
+#[derive(Clone, Copy)]
+pub(crate) enum TrialFault {
+    OutOfMemory,
+    Open(OpenFault),
+    NoFile(u32),
+    Boot(BootFault),
+    ReadFailed,
+    WriteFailed,
+}
+
+impl From<AllocError> for TrialFault {
+    fn from(_: AllocError) -> Self {
+        TrialFault::OutOfMemory
+    }
+}
+
+impl TrialFault {
+    /// The fault that the program tells.
+    pub(crate) fn told<'a>(self) -> ProgramFault<'a> {
+        match self {
+            TrialFault::OutOfMemory => ProgramFault::OutOfMemory,
+            TrialFault::Open(fault) => ProgramFault::Open(fault),
+            TrialFault::NoFile(file) => ProgramFault::NoFile(file),
+            TrialFault::Boot(fault) => ProgramFault::Boot(fault),
+            TrialFault::ReadFailed => ProgramFault::ReadFailed,
+            TrialFault::WriteFailed => ProgramFault::WriteFailed,
+        }
+    }
+}
