@@ -4,16 +4,10 @@ ghost use Rattle.std.specs.Prelude.{◌≡◌, ◌≤◌, IfErr};
 use crate::serving::{ServeEnd, serve};
 use disk_model::{DiskFault, FileDisk, Unknown};
 use file_store::{FileStore, OpenFault};
-use std::fs::{self, File, Files, OpenOptions};
-use std::io::{self, BufReader, ErrorKind, Read, Write};
-use std::os::fd::AsRawFd;
+use host_files::{Opening, held_places, open_alone};
+use std::fs::{File, Files};
+use std::io::{BufReader, Read, Write};
 use thiserror::Error;
-
-/// The file that has no bytes and takes none where it is opened to be read.
-const NOTHING: &str = "/dev/null";
-
-/// The number of the last standard stream.
-const LAST_STREAM: i32 = 2;
 
 /// Why the program gives up.
 #[derive(Clone, Copy, Debug, PartialEq, Eq, Error)]
@@ -68,7 +62,7 @@ fn run<R: Files<File = File> + AllocGlobal, I: Read + Drop, O: Write>(
     let Ok(places) = held_places(rt) else {
         return Err(ProgramFault::CannotOpen);
     };
-    let Ok(file) = open_alone(rt, image.as_str()) else {
+    let Ok(file) = open_alone(rt, image.as_str(), Opening::Write) else {
         return Err(ProgramFault::CannotOpen);
     };
     let disk = synced_disk(file)?;
@@ -86,31 +80,6 @@ fn run<R: Files<File = File> + AllocGlobal, I: Read + Drop, O: Write>(
         Ok(end) => Err(ProgramFault::Served(end)),
         Err(_) => Err(ProgramFault::OutOfMemory),
     }
-}
-
-/// Gives the numbers of the standard streams that the program was started without to a file that has no bytes and takes
-/// none, so that the image gets none of them: else its bytes would be taken for requests, or replies written over them.
-fn held_places<R: Files<File = File>>(rt: &R) -> io::Result<[Option<File>; 3]> {
-    let mut places = [None, None, None];
-    for place in &mut places {
-        let file = File::open(rt, NOTHING)?;
-        if file.as_raw_fd() > LAST_STREAM {
-            break;
-        }
-        *place = Some(file);
-    }
-    Ok(places)
-}
-
-/// The regular file of that path, under a lock that no other program of ours has: it stands until the file is dropped. What
-/// is no regular file is not opened, since that may wait for ever, as for the other end of a pipe.
-fn open_alone<R: Files<File = File>>(rt: &R, path: &str) -> io::Result<File> {
-    if !fs::metadata(rt, path)?.is_file() {
-        return Err(io::Error::from(ErrorKind::InvalidInput));
-    }
-    let file = OpenOptions::new().read(true).write(true).open(rt, path)?;
-    file.try_lock()?;
-    Ok(file)
 }
 
 /// The device in a file, which is synced first, as a call of the device: where that fails the fault is the device's.

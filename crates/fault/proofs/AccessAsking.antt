@@ -1,9 +1,9 @@
 -- Which sectors an access asks for, from step to step.
 use Rattle.fault.proofs.{AccessSteps.{keeps_seen}, Asking.{asks_slots_any, asks_slots_if, asks_slots_kept, asks_slots_same, asks_slots_then, asks_slots_wider}, Forms.{none_common, seat_zero}, Linked.{lacks_none}, Names.{top_level, Access}}
-use Rattle.fault.proofs.Names.{Store, FilePage, FrameNo, SlotNo, PageKey, File, Attr, ◌≡◌, ◌≢◌, ◌<◌, ℕ, true, inl, inr, ◌⊎◌, Option, Some, None, refl, sym, ap, ◌∙◌, subst, arith, cases_Bool, cases_lt, Ghosts, AsksOnly, Nothing, asks_none}
+use Rattle.fault.proofs.Names.{Store, FilePage, FrameNo, SlotNo, PageKey, File, Attr, ◌≡◌, ◌≢◌, ◌<◌, ℕ, true, inl, inr, ◌⊎◌, Option, Some, None, refl, sym, ap, ◌∙◌, subst, arith, cases_Bool, cases_lt, Ghosts, AsksOnly, Nothing, NamesOnce, asks_none, asks_once, once_none, once_wider}
 use Rattle.fault.proofs.Names.{asks_wider, FileStore, IsSectorOf, IsFull, frame_count, Swap, inside_of, IsPage, Place, Home, Frame, Slot, Core, InFrame, InSlot, seat, is_private, is_swapped, Picture, picture_of, entry, is_data, IsOwned}
 use Rattle.fault.proofs.{Names.{IsFit, GivesForTables, KeepsRolesBut, KeepsPages, KeepsFiles, IsWhole, holders_none, seat_common, seat_own}, OwnSteps.{shown_common}, Wanted.{cases_frame, whole_or, shows_back}}
-use Rattle.fault.specs.{AccessAsking.{IsSectorOfItsSlot, AsksForPage}, Asking.{HasSwappable, MayAsk, AsksIfFull, AsksNoNew, AsksSlotsIf, IsSectorOfStoredPage, IsSectorOfPage}, Changes.{IsCalm, KeepsBare, KeepsSlotted, LinksTables, Moves}}
+use Rattle.fault.specs.{AccessAsking.{IsSectorOfItsSlot, IsSectorShown, AsksForPage}, Asking.{HasSwappable, MayAsk, AsksIfFull, AsksNoNew, AsksSlotsIf, IsSectorOfStoredPage, IsSectorOfPage}, Changes.{IsCalm, KeepsBare, KeepsSlotted, LinksTables, Moves}}
 use Rattle.{fault.specs.{Changes.{copied_frame, frame_behind, frame_of_place}, Wants.{LacksTable, RunsOut, ShowsFile, WantsTwo}}, vm_types.specs.declared.region.Backing.TheVariants.{Private}}
 use Rattle.vm_types.specs.declared.mode.Levels as Levels
 
@@ -71,11 +71,7 @@ module _ {mode : ℕ} (old new : Picture mode) (fit : IsFit old) (now : IsFit ne
   lay_by Home at = absurd (fit.dirty.held p (sym (files.touched p) ∙ now.dirty.slotted p s.0 there) at)
   lay_by (Slot k) at = inl (at ∙ ap (λ (j : SlotNo). Slot j) (one_slot k s (sym (stays p k at) ∙ there)))
   lay_by (Frame n) at =
-      inr (
-        (n, at),
-        (n.0, (ap is_data (fit.places.cached p n.0 at), λ none. none), inr (p, at, sym (files.touched p) ∙ now.dirty.slotted p s.0 there)),
-        was_free n at,
-      )
+      inr ((n, at), (n.0, (ap is_data (fit.places.cached p n.0 at), λ none. none), inr (p, at, sym (files.touched p) ∙ now.dirty.slotted p s.0 there)), was_free n at)
 
   lay : (old.place p ≡ Slot s) ⊎ (((n : FrameNo) × (old.place p ≡ Frame n)) × HasSwappable old None × (old.slots.count s.0 ≡ 0))
   lay = lay_by (old.place p) refl
@@ -105,8 +101,7 @@ brought_out old mid pid page p n shows count (inr only) idle now = elim (cases_f
       shows = shows;
       away = away;
       last = n.0;
-      full = λ k inside ne free. (
-          now k (subst (λ (i : ℕ). k < i) (sym count) inside) (only k ne ∙ free));
+      full = λ k inside ne free. (now k (subst (λ (i : ℕ). k < i) (sym count) inside) (only k ne ∙ free));
     });
   }
 ]
@@ -117,6 +112,7 @@ module _ {M : Type 0} {m : Levels.Ghosts M} {D E : Type 0} (g : Ghosts D) (h : G
       → ((k : ℕ) → few k → IsSectorOfItsSlot (picture_of old) pid page k) → (full → RunsOut (picture_of old) pid page access) → AsksSlotsIf h full old new keep few → AsksForPage g h old new pid page access
   asks_less old new pid page access full keep few same less out asks = record {
     store = asks_none g _ old.store.disk new.store.disk (λ k. ap (λ (s : FileStore D). g.asked s.disk k) same);
+    once = once_none (IsSectorShown old pid page) (g.asked old.store.disk) (g.asked new.store.disk) (λ k. ap (λ (s : FileStore D). g.asked s.disk k) same);
     swap = asks_slots_if h (RunsOut (picture_of old) pid page access) old new None (IsSectorOfItsSlot (picture_of old) pid page) out
         (asks_slots_wider h old new None few (IsSectorOfItsSlot (picture_of old) pid page) (λ k is. inl (less k is)) (asks_slots_any h old new keep few asks));
   }
@@ -129,15 +125,17 @@ module _ {M : Type 0} {m : Levels.Ghosts M} {D E : Type 0} (g : Ghosts D) (h : G
   asks_calm old new pid page access calm = asks_same old new pid page access calm.store calm.swap
 
   module _ (old mid : Core D E M m) (pid page : ℕ) (access : Access) (p : PageKey) (shows : ShowsFile (picture_of old) pid page p) (swap : AsksIfFull h old mid None (IsSectorOfPage (picture_of old) p))
-      (store : AsksOnly g (IsSectorOfStoredPage old.store p) old.store.disk mid.store.disk) where
-    of_file : (k : ℕ) → IsSectorOfStoredPage old.store p k → (f : FilePage) × ShowsFile (picture_of old) pid page (File f) × IsSectorOf old.store f k
+      (store : NamesOnce (IsSectorOfStoredPage old.store p) (g.asked old.store.disk) (g.asked mid.store.disk)) where
+    of_file : (k : ℕ) → IsSectorOfStoredPage old.store p k → IsSectorShown old pid page k
     of_file k is = (is.0, (let P : PageKey → Type 0 = λ x. ShowsFile (picture_of old) pid page x in subst P is.1 shows), is.2)
 
-    file_asked : (new : Core D E M m) → new.store ≡ mid.store
-        → AsksOnly g (λ k. (f : FilePage) × ShowsFile (picture_of old) pid page (File f) × IsSectorOf old.store f k) old.store.disk new.store.disk
-    file_asked new same =
-        let P : FileStore D → Type 0 = λ s. AsksOnly g (IsSectorOfStoredPage old.store p) old.store.disk s.disk in
-        asks_wider g (IsSectorOfStoredPage old.store p) _ old.store.disk new.store.disk of_file (subst P (sym same) store)
+    file_once : (new : Core D E M m) → new.store ≡ mid.store → NamesOnce (IsSectorShown old pid page) (g.asked old.store.disk) (g.asked new.store.disk)
+    file_once new same =
+        let P : FileStore D → Type 0 = λ s. NamesOnce (IsSectorOfStoredPage old.store p) (g.asked old.store.disk) (g.asked s.disk) in
+        once_wider (IsSectorOfStoredPage old.store p) (IsSectorShown old pid page) (g.asked old.store.disk) (g.asked new.store.disk) of_file (subst P (sym same) store)
+
+    file_asked : (new : Core D E M m) → new.store ≡ mid.store → AsksOnly g (IsSectorShown old pid page) old.store.disk new.store.disk
+    file_asked new same = asks_once g (IsSectorShown old pid page) (IsSectorShown old pid page) old.store.disk new.store.disk (λ k is. is) (file_once new same)
 
     slot_asked : (new : Core D E M m) → AsksSlotsIf h (RunsOut (picture_of old) pid page access) old new None (IsSectorOfPage (picture_of old) p)
         → AsksSlotsIf h (RunsOut (picture_of old) pid page access) old new None (IsSectorOfItsSlot (picture_of old) pid page)
@@ -148,11 +146,11 @@ module _ {M : Type 0} {m : Levels.Ghosts M} {D E : Type 0} (g : Ghosts D) (h : G
 
     -- the page of a file or an object that the page shows was brought into a frame
     pub asks_brought : AsksForPage g h old mid pid page access
-    asks_brought = record { store = file_asked mid refl; swap = slot_asked mid swap_out }
+    asks_brought = record { store = file_asked mid refl; once = file_once mid refl; swap = slot_asked mid swap_out }
 
     -- and then neither device was asked
     pub asks_still : (new : Core D E M m) → new.store ≡ mid.store → new.swap ≡ mid.swap → AsksForPage g h old new pid page access
-    asks_still new same kept = record { store = file_asked new same; swap = slot_asked new (asks_slots_kept h old mid new None (IsSectorOfPage (picture_of old) p) (ap (λ (s : Swap E). s.pages) kept) swap_out) }
+    asks_still new same kept = record { store = file_asked new same; once = file_once new same; swap = slot_asked new (asks_slots_kept h old mid new None (IsSectorOfPage (picture_of old) p) (ap (λ (s : Swap E). s.pages) kept) swap_out) }
 
     -- or a frame was taken that it is copied into
     pub asks_copied : (new : Core D E M m) (n : FrameNo) (keep : Option FrameNo) → keep ≡ Some n → AsksNoNew (picture_of old) (picture_of mid) (Some n) (IsSectorOfPage (picture_of old) p)
@@ -161,6 +159,7 @@ module _ {M : Type 0} {m : Levels.Ghosts M} {D E : Type 0} (g : Ghosts D) (h : G
         let P : Option FrameNo → Type 0 = λ o. AsksIfFull h mid new o Nothing in
         record {
           store = file_asked new same;
+          once = file_once new same;
           swap = slot_asked new (asks_slots_then h (IsFull mid.frames) old mid new (Some n) (IsSectorOfPage (picture_of old) p) Nothing swap_out none out (subst P is more) (λ k no_sector. absurd no_sector));
         }
 
@@ -228,8 +227,11 @@ module _ {M : Type 0} {m : Levels.Ghosts M} {D E : Type 0} (g : Ghosts D) (h : G
         let out = RunsOut (picture_of old) pid page access in
         let W : FileStore D → ℕ → Type 0 = λ s k. (f : FilePage) × ShowsFile (picture_of old) pid page (File f) × IsSectorOf s f k in
         let P : FileStore D → Type 0 = λ s. AsksOnly g (W s) s.disk new.store.disk in
+        let Q : FileStore D → Type 0 = λ s. NamesOnce (W s) (g.asked s.disk) (g.asked new.store.disk) in
+        let shown : (k : ℕ) → IsSectorShown mid pid page k → W mid.store k = λ k is. (is.0, shown_before (File is.0) is.1, is.2) in
         record {
-          store = subst P moves.store (asks_wider g _ (W mid.store) mid.store.disk new.store.disk (λ k is. (is.0, shown_before (File is.0) is.1, is.2)) asks.store);
+          store = subst P moves.store (asks_wider g _ (W mid.store) mid.store.disk new.store.disk shown asks.store);
+          once = subst Q moves.store (once_wider _ (W mid.store) (g.asked mid.store.disk) (g.asked new.store.disk) shown asks.once);
           swap = asks_slots_then h (RunsOut (picture_of mid) pid page access) old mid new None its (IsSectorOfItsSlot (picture_of mid) pid page)
               (asks_slots_if h out old mid None its (λ full. out_after (inl full)) (asks_slots_wider h old mid None Nothing its (λ k no_sector. absurd no_sector) first))
               (no_new_wider (picture_of old) (picture_of mid) None its none) out_before asks.swap its_before;

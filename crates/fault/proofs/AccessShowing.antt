@@ -250,8 +250,7 @@ module _ {mode : ℕ} (old mid new : Picture mode) (s : State) (pid page n : ℕ
         held = λ q bytes there. elim (cases_file q p) [
           | inl is ↦ rw (same_test q p is)
               (same_Some w bytes (sym (held_written mid new n w fit marks.held frames beside (File p) marks.place) ∙ ap (λ x. held new (File x)) (sym is) ∙ there))
-          | inr ne ↦ rw (other_test q p ne)
-              (files.held q bytes (sym (held_else mid new n w fit marks.held frames beside (File p) marks.place (File q) (other q ne)) ∙ there))
+          | inr ne ↦ rw (other_test q p ne) (files.held q bytes (sym (held_else mid new n w fit marks.held frames beside (File p) marks.place (File q) (other q ne)) ∙ there))
         ];
         same_mode = shows.same_mode;
         clean = λ q untouched inside. elim (cases_file q p) [

@@ -9,13 +9,11 @@ slotted_same files own c = record { file_pages = λ p k at. inr at; copies = λ 
 module _ {mode : ℕ} (old mid : Picture mode) (pid page : ℕ) where
   -- no file page came back
   pub slotted_own : KeepsSlotted (λ p. ⊥) (IsThatPage pid page) old mid → KeepsSlotted (ShowsFile old pid page) (IsThatPage pid page) old mid
-  slotted_own slotted =
-      slotted_wider (λ p. ⊥) (ShowsFile old pid page) (IsThatPage pid page) (IsThatPage pid page) old mid (λ p none. absurd none) (λ q p is. is) slotted
+  slotted_own slotted = slotted_wider (λ p. ⊥) (ShowsFile old pid page) (IsThatPage pid page) (IsThatPage pid page) old mid (λ p none. absurd none) (λ q p is. is) slotted
 
   -- nothing did
   pub slotted_none : KeepsSlotted (λ p. ⊥) (λ q p. ⊥) old mid → KeepsSlotted (ShowsFile old pid page) (IsThatPage pid page) old mid
-  slotted_none slotted =
-      slotted_wider (λ p. ⊥) (ShowsFile old pid page) (λ q p. ⊥) (IsThatPage pid page) old mid (λ p none. absurd none) (λ q p none. absurd none) slotted
+  slotted_none slotted = slotted_wider (λ p. ⊥) (ShowsFile old pid page) (λ q p. ⊥) (IsThatPage pid page) old mid (λ p none. absurd none) (λ q p none. absurd none) slotted
 
   -- the page's file page alone
   pub slotted_brought : (shown : PageKey) → ShowsFile old pid page shown → KeepsSlotted (λ p. p ≡ shown) (λ q p. ⊥) old mid

@@ -3,7 +3,7 @@ use Rattle.fault.proofs.{Asking.{asks_swap, no_new_frees}, Names.{◌≡◌, ◌
 use Rattle.fault.proofs.Names.{ObjectPage, PageKey, File, Object, zero_page, FrameNo, Stall, NoFrames, NoSwap, SwapDevice, StoreDevice, FileInfo, Ghosts, Touches, Nothing, AsksOnly, FileStore, Directory, IsReadyStore, entry_of, files_of}
 use Rattle.fault.proofs.Names.{IsFull, bytes_of, role_of, Home, Frame, Slot, Place, Core, KeepsRolesBut, ComesIn, IsRefused, UsesSwap, Picture, picture_of, held, bytes_at, is_data, IsFit, Frees, ObtainsCached, KeepsPages, KeepsRest}
 use Rattle.fault.proofs.Names.{AsksSwap, StallCause, HasStallCause, ReadCause, HasReadCause, CountsNothing, ReadsStore, IsRead, KeepsFiles, BringsIn, trees_brought, entries_brought, views_brought, held_else, held_here, cases_page}
-use Rattle.fault.proofs.{Names.{one_frame, one_slot, asks_none, asks_wider, asks_then, Swap, IsSectorOfSlot, IsSectorOfFreeSlot}, Steps.{no_table_then, no_table_freed, no_table_trees, rows_then, rows_freed, rows_trees, slotted_then}}
+use Rattle.fault.proofs.{Names.{one_frame, one_slot, NamesOnce, once_none, asks_none, asks_wider, asks_then, Swap, IsSectorOfSlot, IsSectorOfFreeSlot}, Steps.{no_table_then, no_table_freed, no_table_trees, rows_then, rows_freed, rows_trees, slotted_then}}
 use Rattle.fault.{proofs.Steps.{slotted_frees, spaces_then, room_then, seen_then, tables_then, bare_then, tables_same, spaces_freed, room_freed, seen_freed, tables_freed, bare_freed, device_then}, specs.Asking.{HasSwappable, MayAsk}}
 use Rattle.fault.specs.{Asking.{AsksIfFull, AsksNoNew, IsSectorOfPage, IsSectorOfStoredPage}, Changes.{AddsNoTable, KeepsSpaces, KeepsTables, KeepsRows, KeepsRoom, KeepsSeen, KeepsBare, KeepsSlotted, Moves, MarksTouched, IsCalm}}
 use Rattle.{fault.specs.{Files.{IsBrought, Stays, Leaves, Comes, Blank, BringsPages, Proceeds, BringsFiles}, PagingIn.{PagesIn}}, file_store.specs.declared.directory.Entry.{Entry}, std.specs.Option.{option_map}}
@@ -89,12 +89,7 @@ module _ {M : Type 0} {m : Levels.Ghosts M} {D E : Type 0} {before after : Core 
 
 module _ {D : Type 0} (g : Ghosts D) where
   touches_none : (d : D) → Touches g Nothing d d
-  touches_none d = record {
-    content = λ k. inr refl;
-    unsynced = λ k u. inl u;
-    later = omega arith;
-    moments = λ t c before left. inl left;
-  }
+  touches_none d = record { content = λ k. inr refl; unsynced = λ k u. inl u; later = omega arith; moments = λ t c before left. inl left }
 
   pub reads_none : (old new : FileStore D) → new ≡ old → ReadsStore g old new
   reads_none old new same =
@@ -234,8 +229,7 @@ held_at old new p (Slot k) at place bytes slots = ap (λ s. Some (s.bytes k.0)) 
 -- a file page that was marked touched has the bytes that it had
 pub held_marked : {mode : ℕ} (old new : Picture mode) (touched : PageKey) → MarksTouched old new touched → new.slots ≡ old.slots → (p : PageKey) → held new p ≡ held old p
 unfolding held
-held_marked old new touched marks slots p =
-    ap (bytes_at new.frames new.slots) (marks.place p) ∙ held_at old new p (old.place p) refl (marks.place p) (marks.bytes p) slots
+held_marked old new touched marks slots p = ap (bytes_at new.frames new.slots) (marks.place p) ∙ held_at old new p (old.place p) refl (marks.place p) (marks.bytes p) slots
 
 info_in : Directory → ℕ → Option FileInfo
 info_in d f = option_map (λ (e : Entry). e.info) (entry_of d f)
@@ -331,6 +325,9 @@ module _ {D : Type 0} (g : Ghosts D) where
   pub store_same : (W : ℕ → Type 0) (old new : FileStore D) → new ≡ old → AsksOnly g W old.disk new.disk
   store_same W old new same = asks_none g W old.disk new.disk (λ k. ap (λ (s : FileStore D). g.asked s.disk k) same)
 
+  pub once_same : (W : ℕ → Type 0) (old new : FileStore D) → new ≡ old → NamesOnce W (g.asked old.disk) (g.asked new.disk)
+  once_same W old new same = once_none W (g.asked old.disk) (g.asked new.disk) (λ k. ap (λ (s : FileStore D). g.asked s.disk k) same)
+
 cases_slot : (y : Place) (s : ℕ) → (y ≡ Slot (record { 0 = s })) ⊎ (y ≢ Slot (record { 0 = s }))
 cases_slot Home s = inr (λ e. (cc))
 cases_slot (Frame n) s = inr (λ e. (cc))
@@ -414,6 +411,7 @@ module _ {M : Type 0} {m : Levels.Ghosts M} {D E : Type 0} (g : Ghosts D) (h : G
         read = inl rest.store;
         asks = asks;
         asks_store = store_same g (IsSectorOfStoredPage before.store page) before.store after.store rest.store;
+        once_store = once_same g (IsSectorOfStoredPage before.store page) before.store after.store rest.store;
         asks_later = no_new_of (picture_of before) (picture_of after) page fit away r comes.brought;
         cause = causes_of g h before after r rest.store refused.cause;
         home = never_store g h _ before after r refused.cause;

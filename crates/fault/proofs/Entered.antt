@@ -1,7 +1,7 @@
 -- A page that got a frame of its own, whose entry was set, or that came back from its slot grants what its region lets be done.
 use Rattle.fault.proofs.{AccessSteps.{cause_of, no_store}, Forms.{mapped_page, over_here}, Names.{◌≡◌, ℕ, true, false, Some, Result, Ok, Err, refl, ◌≢◌, Bool, None, subst, IfOk, IfErr, OnErr, Store, Load, Fetch, FrameNo, Stall, Attr}}
 use Rattle.fault.proofs.Names.{can_write, top_level, Access, lets, Ghosts, bytes_of, IsSound, count_of, Core, Picture, picture_of, entry, IsFit, IsBehind, is_shared, Frees, Refuses, HasStallCause, IsShort, KeepsFiles, IsEntryOver, IsPage}
-use Rattle.fault.proofs.{Names.{over_some}, OwnSteps.{full_own}, Ready.{shown_there}, Settled.{reads_too, entered_store, entered_ready, ready_own, owned_entry, copy_shown, readable, ready_read, entered_read, ready_after}, Steps.{seen_none}}
+use Rattle.fault.proofs.{Names.{over_some}, OwnSteps.{full_own}, Ready.{shown_there}, Settled.{full_sole, reads_too, entered_store, entered_ready, ready_own, owned_entry, copy_shown, readable, ready_read, entered_read, ready_after}, Steps.{seen_none}}
 use Rattle.fault.{proofs.Wanted.{copy_keeps, away_keeps, sole_there}, specs.{Changes.{IsCalm, IsLinked, KeepsViews, KeepsOtherViews, Moves, copied_frame, is_sole, shown_bytes, KeepsSeen}, Granted.{IsEntered, IsReadyAt}}}
 use Rattle.{fault.specs.{Leaves.{IsFullEntry}, Outcome.{IsStalled, seen_at}, Shown.{AreShown}, Wants.{Wants, ForStore, ForSlot}}, residency.specs.Picture.{is_private, is_swapped}}
 use Rattle.vm_types.specs.declared.mode.Levels as Levels
@@ -23,9 +23,9 @@ module _ {mode : ℕ} (old new : Picture mode) (pid page : ℕ) (a : Attr) (soun
   owned_ready (Err s) bytes over = tt
 
   pub owned_entered : (r : Result FrameNo Stall) → IfOk r (λ n. bytes_of new.frames n.0 ≡ shown_bytes old pid page a) → IfOk r (λ n. IsEntryOver (entry new pid page) a.prot n.0 true true true)
-      → IfOk r (λ n. IsEntered new pid page a Store n.0)
-  owned_entered (Ok n) bytes over = entered_store new pid page a n.0 true (reads_too new pid page a fit now writable) over (entered_ready Store old new pid page a n.0 (one_ready n bytes over))
-  owned_entered (Err s) bytes over = tt
+      → IfOk r (λ n. count_of new.frames n.0 ≡ 1) → IfOk r (λ n. IsEntered new pid page a Store n.0)
+  owned_entered (Ok n) bytes over sole = entered_store new pid page a n.0 true (reads_too new pid page a fit now writable) over (full_sole new a n.0 (entry new pid page) sole writable over) (entered_ready Store old new pid page a n.0 (one_ready n bytes over))
+  owned_entered (Err s) bytes over sole = tt
 
 module _ {M : Type 0} {m : Levels.Ghosts M} {D E : Type 0} (old new : Core D E M m) (pid page : ℕ) (a : Attr) (was : (picture_of old).at pid page ≡ Some a) (alone : is_shared a.backing ≡ false) where
   -- where no frame is wanted the page has its own
@@ -59,8 +59,8 @@ module _ {mode : ℕ} (old new : Picture mode) (pid page : ℕ) (a : Attr) (acce
   pub read_ready : IsReadyAt old new pid page a access n
   read_ready = ready_read access old new pid page a n other (readable old new pid page a n private write stored fit sound was now keeps over)
 
-  pub read_entered : IsEntered new pid page a access n
-  read_entered = entered_read access new pid page a n private write stored other allowed over (entered_ready access old new pid page a n read_ready)
+  pub read_entered : IsFullEntry new a n private (entry new pid page) → IsEntered new pid page a access n
+  read_entered full = entered_read access new pid page a n private other allowed full (entered_ready access old new pid page a n read_ready)
 
 -- a page that came back from its slot
 module _ {mode : ℕ} (new : Picture mode) (pid page : ℕ) (a : Attr) (fit : IsFit new) (sound : IsSound new.frames) (now : new.at pid page ≡ Some a) (alone : is_shared a.backing ≡ false) (n : ℕ)
@@ -82,10 +82,10 @@ module _ {mode : ℕ} (new : Picture mode) (pid page : ℕ) (a : Attr) (fit : Is
       (owned_entry new new pid page a n fit sound now alone (reads_too new pid page a fit now allowed) (stores allowed) own_shown (λ q k other. refl) (λ p. refl))
 
   self_entered : (access : Access) → lets access a.prot ≡ true → IsEntered new pid page a access n
-  self_entered Load allowed = entered_read Load new pid page a n true _ _ (λ e. (cc)) allowed full (entered_ready Load new new pid page a n (self_ready Load allowed))
-  self_entered Fetch allowed = entered_read Fetch new pid page a n true _ _ (λ e. (cc)) allowed full (entered_ready Fetch new new pid page a n (self_ready Fetch allowed))
+  self_entered Load allowed = entered_read Load new pid page a n true (λ e. (cc)) allowed full (entered_ready Load new new pid page a n (self_ready Load allowed))
+  self_entered Fetch allowed = entered_read Fetch new pid page a n true (λ e. (cc)) allowed full (entered_ready Fetch new new pid page a n (self_ready Fetch allowed))
   self_entered Store allowed =
-      entered_store new pid page a n true (reads_too new pid page a fit now allowed) (stores allowed) (entered_ready Store new new pid page a n (self_ready Store allowed))
+      entered_store new pid page a n true (reads_too new pid page a fit now allowed) (stores allowed) full (entered_ready Store new new pid page a n (self_ready Store allowed))
 
 module _ {mode : ℕ} (old new : Picture mode) (pid page : ℕ) (a : Attr) (access : Access) (fit : IsFit new) (sound : IsSound new.frames) (now : new.at pid page ≡ Some a) (alone : is_shared a.backing ≡ false)
     (allowed : lets access a.prot ≡ true) where

@@ -16,11 +16,7 @@ and_right true b e = e
 and_right false b e = absurd (false≢true e)
 
 within_leaf : (a : Attr) (e : ℕ) (write stored : Bool) → IsLeaf e a.prot write stored → (write ≡ true → Permission.can_write a.prot ≡ true) → IsWithin a e
-within_leaf a e write stored leaf may = record {
-  reads = λ r. sym leaf.reads ∙ r;
-  writes = λ w. may (sym leaf.writes ∙ w);
-  executes = λ x. sym leaf.executes ∙ x;
-}
+within_leaf a e write stored leaf may = record { reads = λ r. sym leaf.reads ∙ r; writes = λ w. may (sym leaf.writes ∙ w); executes = λ x. sym leaf.executes ∙ x }
 
 parked_bits : (e : ℕ) (a : Attr) (frame : ℕ) (private write stored : Bool) → IsEntryOver e a.prot frame private write stored → is_barred a.prot ≡ true
     → (is_valid e ≡ false) × (has_bit e 1 ≡ false)
@@ -56,10 +52,8 @@ seat_over_common e a frame write stored over = seat_common e over.owned (over_he
 -- where a page lies in the frame as before, its own or not, it has the seat that it had
 pub seat_kept : (was e : ℕ) (a : Attr) (frame : ℕ) (private write stored : Bool) → IsEntryOver e a.prot frame private write stored → private ≡ is_private was → (private ≡ true → frame ≡ frame_of was)
     → is_swapped was ≡ false → seat e ≡ seat was
-seat_kept was e a frame true write stored over same names here =
-    seat_over e a frame write stored over ∙ ap (λ n. Some (InFrame n)) (names refl) ∙ sym (seat_own was (sym same))
-seat_kept was e a frame false write stored over same names here =
-    seat_over_common e a frame write stored over ∙ sym (seat_common was (sym same) here)
+seat_kept was e a frame true write stored over same names here = seat_over e a frame write stored over ∙ ap (λ n. Some (InFrame n)) (names refl) ∙ sym (seat_own was (sym same))
+seat_kept was e a frame false write stored over same names here = seat_over_common e a frame write stored over ∙ sym (seat_common was (sym same) here)
 
 pub full_entry : {mode : ℕ} (c : Picture mode) (attr : Option Attr) (a : Attr) (frame : ℕ) (private : Bool) (e : ℕ) → attr ≡ Some a → IsFullEntry c a frame private e
     → (private ≡ true → is_shared a.backing ≡ false) → (private ≡ false → IsBehind c a.backing frame) → is_past_end c.files a.backing ≡ false → IsEntryFor c attr e
@@ -97,8 +91,7 @@ pub full_dirty_sound : {mode : ℕ} (c : Picture mode) (a : Attr) (frame : ℕ) 
 full_dirty_sound c a frame true e places full behind p valid common dirty here = absurd (false≢true (sym common ∙ full.owned))
 full_dirty_sound c a frame false e places full behind p valid common dirty here = elim (cases_Bool (is_barred a.prot)) [
   | inl barred ↦ absurd (false≢true (sym (parked_bits e a frame false _ _ full barred).0 ∙ valid))
-  | inr useful ↦ touched_there c a.backing frame p places (behind refl) (and_left _ _ (sym (full.leaf useful).dirty ∙ dirty))
-      (here ∙ ap (λ x. Frame (record { 0 = x })) full.names)
+  | inr useful ↦ touched_there c a.backing frame p places (behind refl) (and_left _ _ (sym (full.leaf useful).dirty ∙ dirty)) (here ∙ ap (λ x. Frame (record { 0 = x })) full.names)
 ]
 
 -- a frame with a role is a frame of memory
@@ -111,8 +104,7 @@ used_inside t n sound used = elim (cases_lt n (length t.roles)) [
 is_resident : {mode : ℕ} (c : Picture mode) (attr : Option Attr) (a : Attr) (e : ℕ) → attr ≡ Some a → e ≢ 0 → is_swapped e ≡ false → IsEntryFor c attr e → IsResident c a e
 is_resident c attr a e at some here (Nothing none) = absurd (some none)
 is_resident c attr a e at some here (Away b is away) = absurd (false≢true (sym here ∙ away.swapped))
-is_resident c attr a e at some here (Resident b is resident) =
-    let P : Attr → Type 0 = λ x. IsResident c x e in subst P (same_Some b a (sym is ∙ at)) resident
+is_resident c attr a e at some here (Resident b is resident) = let P : Attr → Type 0 = λ x. IsResident c x e in subst P (same_Some b a (sym is ∙ at)) resident
 
 -- what the entry of a page says that lies in a frame
 pub resident_page : {mode : ℕ} (c : Picture mode) (pid page : ℕ) (a : Attr) → IsGranting c → IsPage (top_level mode) page → c.at pid page ≡ Some a → entry c pid page ≢ 0 → is_swapped (entry c pid page) ≡ false
@@ -132,15 +124,13 @@ touched_of c (Shared q) p shared is = ap c.touched (same_Some (File q) p is)
 touched_of c (Common q) p shared is = ap c.touched (same_Some (Object q) p is)
 
 pub behind_used : {mode : ℕ} (c : Picture mode) (b : Backing) (n : ℕ) → IsSound c.frames → HasPlaces c → IsBehind c b n → role_of c.frames n ≢ Role.Free
-behind_used c Anon n sound places behind free =
-    let bad : Role.Zero ≡ Role.Free = sym sound.zero_role ∙ ap (role_of c.frames) (sym behind) ∙ free in (cc)
+behind_used c Anon n sound places behind free = let bad : Role.Zero ≡ Role.Free = sym sound.zero_role ∙ ap (role_of c.frames) (sym behind) ∙ free in (cc)
 behind_used c (Private p) n sound places behind free = let bad : Role.Cache ≡ Role.Free = sym (places.cached (File p) n behind) ∙ free in (cc)
 behind_used c (Shared p) n sound places behind free = let bad : Role.Cache ≡ Role.Free = sym (places.cached (File p) n behind) ∙ free in (cc)
 behind_used c (Common p) n sound places behind free = let bad : Role.Cache ≡ Role.Free = sym (places.cached (Object p) n behind) ∙ free in (cc)
 
 pub behind_datum : {mode : ℕ} (c : Picture mode) (b : Backing) (n : ℕ) → IsSound c.frames → HasPlaces c → IsBehind c b n → role_of c.frames n ≢ Role.Table
-behind_datum c Anon n sound places behind table =
-    let bad : Role.Zero ≡ Role.Table = sym sound.zero_role ∙ ap (role_of c.frames) (sym behind) ∙ table in (cc)
+behind_datum c Anon n sound places behind table = let bad : Role.Zero ≡ Role.Table = sym sound.zero_role ∙ ap (role_of c.frames) (sym behind) ∙ table in (cc)
 behind_datum c (Private p) n sound places behind table = let bad : Role.Cache ≡ Role.Table = sym (places.cached (File p) n behind) ∙ table in (cc)
 behind_datum c (Shared p) n sound places behind table = let bad : Role.Cache ≡ Role.Table = sym (places.cached (File p) n behind) ∙ table in (cc)
 behind_datum c (Common p) n sound places behind table = let bad : Role.Cache ≡ Role.Table = sym (places.cached (Object p) n behind) ∙ table in (cc)

@@ -19,3 +19,4 @@ pub mod AccessShowing
 pub mod AccessAsking
 pub mod Serving
 pub mod Again
+pub mod Taken

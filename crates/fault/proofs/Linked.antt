@@ -85,11 +85,7 @@ past_still old new (Common p) files e = e
 -- what lets the access still lets it
 pub open_still : {mode : ℕ} (old new : Picture mode) (pid page : ℕ) (access : Access) (a : Attr) → ((q k : ℕ) → new.at q k ≡ old.at q k) → ((f : ℕ) → new.files f ≡ old.files f) → IsOpenTo old pid page access a
     → IsOpenTo new pid page access a
-open_still old new pid page access a at files is = record {
-  mapped = at pid page ∙ is.mapped;
-  lets = is.lets;
-  inside = past_still old new a.backing files is.inside;
-}
+open_still old new pid page access a at files is = record { mapped = at pid page ∙ is.mapped; lets = is.lets; inside = past_still old new a.backing files is.inside }
 
 zero_here : is_swapped 0 ≡ false
 zero_here = none_here 0 (seat_zero 0 refl)

@@ -43,8 +43,7 @@ shown_common c e b common = rw common refl
 
 -- the frame that a page shows stands behind it, where it has none of its own
 pub shown_behind : {mode : ℕ} (c : Picture mode) (e : ℕ) (b : Backing) → is_private e ≡ false → ((n : ℕ) × IsBehind c b n) → IsBehind c b (shown_frame c e b)
-shown_behind c e b common there =
-    subst (λ (x : ℕ). IsBehind c b x) (sym (shown_common c e b common ∙ behind_is c b there.0 there.1)) there.1
+shown_behind c e b common there = subst (λ (x : ℕ). IsBehind c b x) (sym (shown_common c e b common ∙ behind_is c b there.0 there.1)) there.1
 
 pub own_view : {mode : ℕ} (c : Picture mode) (pid page : ℕ) (a : Attr) → c.at pid page ≡ Some a → is_private (entry c pid page) ≡ true
     → view c pid page ≡ Some (record { attr = a; own = Some (bytes_of c.frames (frame_of (entry c pid page))) })

@@ -225,23 +225,14 @@ answer-places count addr access e phys h =
     let both = neither (is_user e) (grants access e) f.0 in
     let own = frame_in-zero e (page_of addr) in
     record {
-      opens = record {
-        valid = a.0;
-        sound = b.0;
-        leaf = c.0;
-        user = both.0;
-        grants = both.1;
-        accessed = g.0;
-        dirty = then_set (is_store access) (is_dirty e) i.0;
-      };
+      opens = record { valid = a.0; sound = b.0; leaf = c.0; user = both.0; grants = both.1; accessed = g.0; dirty = then_set (is_store access) (is_dirty e) i.0 };
       inside = rw (← own) (frame_below (frame_in 0 e (page_of addr)) count j.0);
       place = same_number phys _ (sym j.1) ∙ ap (λ x. x * 4096 + addr % 4096) own;
     }
 
 -- user pages alone are mapped
 pub page_user : {mode : ℕ} (c : Picture mode) (pid page : ℕ) (a : Attr) → IsFit c → c.at pid page ≡ Some a → (16 ≤ page) × (page < user_end mode)
-page_user c pid page a fit mapped =
-    (fit.granting.user pid).user_pages page (let P : Option Attr → Type 0 = λ x. IsSome x in subst P (sym mapped) refl)
+page_user c pid page a fit mapped = (fit.granting.user pid).user_pages page (let P : Option Attr → Type 0 = λ x. IsSome x in subst P (sym mapped) refl)
 
 page_small : (mode page : ℕ) → page < user_end mode → IsPage (top_level mode) page
 page_small mode page h = omega (arith, h, user_pages_fit mode)
@@ -309,11 +300,7 @@ pub grants_made : {mode : ℕ} (old new : Picture mode) (pid addr : ℕ) (width 
     → IsReadyAt old new pid (addr / 4096) a access n → Grants old new pid addr width access (record { 0 = n * 4096 + addr % 4096 })
 grants_made old new pid addr width access a n fine ready =
     let P : ℕ → Type 0 = λ x. IsReadyFor access old new pid (addr / 4096) (seen_at old pid (addr / 4096) a) x in
-    record {
-      seen = seen_at old pid (addr / 4096) a;
-      fine = fine;
-      ready = subst P (sym (frame_there n (addr % 4096) (offset_small addr))) ready;
-    }
+    record { seen = seen_at old pid (addr / 4096) a; fine = fine; ready = subst P (sym (frame_there n (addr % 4096) (offset_small addr))) ready }
 
 -- what the tests of an access find
 pub verdict-none : {mode : ℕ} (c : Picture mode) (pid page : ℕ) (access : Access) → c.at pid page ≡ None → page_verdict c.files (view c pid page) access ≡ Faults SegvMaperr
@@ -332,20 +319,13 @@ page_verdict-fine files v access allowed inside = rw (allowed, inside) refl
 
 module _ {mode : ℕ} (c : Picture mode) (pid page : ℕ) (access : Access) (a : Attr) (mapped : c.at pid page ≡ Some a) where
   pub verdict-denied : lets access a.prot ≡ false → page_verdict c.files (view c pid page) access ≡ Faults SegvAccerr
-  verdict-denied denied =
-      ap (λ o. page_verdict c.files o access) (view-mapped c pid page a mapped)
-      ∙ page_verdict-denied c.files (seen_at c pid page a) access denied
+  verdict-denied denied = ap (λ o. page_verdict c.files o access) (view-mapped c pid page a mapped) ∙ page_verdict-denied c.files (seen_at c pid page a) access denied
 
   pub verdict-past : lets access a.prot ≡ true → is_past_end c.files a.backing ≡ true → page_verdict c.files (view c pid page) access ≡ Faults BusAdrerr
-  verdict-past allowed past =
-      ap (λ o. page_verdict c.files o access) (view-mapped c pid page a mapped)
-      ∙ page_verdict-past c.files (seen_at c pid page a) access allowed past
+  verdict-past allowed past = ap (λ o. page_verdict c.files o access) (view-mapped c pid page a mapped) ∙ page_verdict-past c.files (seen_at c pid page a) access allowed past
 
-  pub verdict-fine : lets access a.prot ≡ true → is_past_end c.files a.backing ≡ false
-      → page_verdict c.files (view c pid page) access ≡ Fine (seen_at c pid page a)
-  verdict-fine allowed inside =
-      ap (λ o. page_verdict c.files o access) (view-mapped c pid page a mapped)
-      ∙ page_verdict-fine c.files (seen_at c pid page a) access allowed inside
+  pub verdict-fine : lets access a.prot ≡ true → is_past_end c.files a.backing ≡ false → page_verdict c.files (view c pid page) access ≡ Fine (seen_at c pid page a)
+  verdict-fine allowed inside = ap (λ o. page_verdict c.files o access) (view-mapped c pid page a mapped) ∙ page_verdict-fine c.files (seen_at c pid page a) access allowed inside
 
 -- of an aligned address the page decides
 pub verdict-aligned : {mode : ℕ} (c : Picture mode) (pid addr : ℕ) (width : Width) (access : Access) → addr % byte_count width ≡ 0
@@ -396,11 +376,9 @@ module _ {mode : ℕ} (c : Picture mode) (pid page : ℕ) (a : Attr) (fit : IsFi
 
   -- an access that is granted already
   pub ready_there : (access : Access) → IsOpenLeaf access (entry c pid page) → IsReadyFor access c c pid page (seen_at c pid page a) (frame_of (entry c pid page))
-  ready_there Load opens =
-      reads c c pid page a fit sound h mapped (valid_some (entry c pid page) opens.valid) (valid_here (entry c pid page) opens.valid) (seen_none c)
+  ready_there Load opens = reads c c pid page a fit sound h mapped (valid_some (entry c pid page) opens.valid) (valid_here (entry c pid page) opens.valid) (seen_none c)
   ready_there Store opens = ready_to_store a.backing refl opens
-  ready_there Fetch opens =
-      reads c c pid page a fit sound h mapped (valid_some (entry c pid page) opens.valid) (valid_here (entry c pid page) opens.valid) (seen_none c)
+  ready_there Fetch opens = reads c c pid page a fit sound h mapped (valid_some (entry c pid page) opens.valid) (valid_here (entry c pid page) opens.valid) (seen_none c)
 
 -- the walk answered a place
 module _ {mode : ℕ} where

@@ -5,7 +5,7 @@ use Rattle.fault.proofs.Names.{Result, Ok, Err, refl, ◌∙◌, ◌≢◌, Bool
 use Rattle.fault.proofs.{Names.{picture_of, held, entry, IsFit, KeepsFiles, seat}, Settled.{none_same}, Steps.{no_table_calm, no_table_none, no_table_then, moves_entered, moves_none, stands_kept, slotted_calm, files_same}}
 use Rattle.fault.{proofs.{Wanted.{calm_same, page_there, shows_file, page_inside, err_is}, WaySteps.{links_no_table}}, specs.{AccessAsking.{IsSectorOfItsSlot}, Asking.{AsksIfFull}, Changes.{AddsNoTable, Enters, IsCalm, IsThatPage}}}
 use Rattle.fault.specs.{Changes.{KeepsOtherViews, KeepsSlotted, Moves, StandsAt}, Found.{IsOpenTo}, FramesShown.{ShowsFrame}, Outcome.{IsStalled, IsWalked, Stalls}, PagingIn.{PagesIn, MayBring}, Serving.{Reaches, Serves, Tends}}
-use Rattle.fault.specs.{SpotServing.{MayServeAt}, Wants.{ShowsFile, Wants}, declared.{refusal.AccessRefusal.{AccessRefusal}, spot.Spot.{Spot}}}
+use Rattle.fault.specs.{Leaves.{IsFullEntry}, SpotServing.{MayServeAt}, Wants.{ShowsFile, Wants}, declared.{refusal.AccessRefusal.{AccessRefusal}, spot.Spot.{Spot}}}
 use Rattle.vm_types.specs.declared.mode.Levels as Levels
 use Rattle.fault.specs.declared.refusal.AccessRefusal.TheVariants as Refusal
 
@@ -71,7 +71,7 @@ module _ {M : Type 0} {m : Levels.Ghosts M} {D E : Type 0} (g : Ghosts D) (h : G
         tables = links_no_table (picture_of old) (picture_of mid) pid page first.no_table;
         pointers = first.no_table.pointers;
         read = read_then old mid pid page p shows mid.store fit refl first.read;
-        asks = asks_brought g h old mid pid page access p shows first.asks first.asks_store;
+        asks = asks_brought g h old mid pid page access p shows first.asks first.once_store;
       }
 
       pub stalls_away : IsStalled g h old mid pid page access stall
@@ -94,7 +94,7 @@ module _ {M : Type 0} {m : Levels.Ghosts M} {D E : Type 0} (g : Ghosts D) (h : G
           tables = links_no_table (picture_of old) (picture_of new) pid page none;
           pointers = none.pointers;
           read = read_then old mid pid page p shows new.store fit enters.calm.store first.read;
-          asks = asks_still g h old mid pid page access p shows first.asks first.asks_store new enters.calm.store enters.calm.swap;
+          asks = asks_still g h old mid pid page access p shows first.asks first.once_store new enters.calm.store enters.calm.swap;
         }
 
   -- what is returned of a stall
@@ -108,7 +108,7 @@ module _ {M : Type 0} {m : Levels.Ghosts M} {D E : Type 0} (g : Ghosts D) (h : G
       → Reaches g h old new pid addr width access r
   reaches_stall old new pid addr width access r stall is tends never stalls =
       subst (Reaches g h old new pid addr width access) (err_is r (Refusal.Stall stall) is)
-      (record { tends = tends; placed = tt; walked = λ place walked. absurd (never place walked); granted = λ trusted. tt; counts = tt; refusal = stalls })
+      (record { tends = tends; placed = tt; entered = tt; walked = λ place walked. absurd (never place walked); granted = λ trusted. tt; counts = tt; refusal = stalls })
 
 module _ {M : Type 0} {m : Levels.Ghosts M} {D E : Type 0} {g : Ghosts D} {h : Ghosts E} {before : Core D E M m} {spot : Spot} {attr : Attr} {other : Access} (may : MayServeAt g h before spot attr other) where
   pub may_bring : {p : PageKey} → stands_on attr.backing ≡ Some p → MayBring g h before p
@@ -123,9 +123,10 @@ module _ {M : Type 0} {m : Levels.Ghosts M} {D E : Type 0} {g : Ghosts D} {h : G
   shows_at {p = p} stands none = shows_file (picture_of before) spot.pid spot.page attr p may.allowed.mapped stands none
 
   -- the page's entry was made over a frame that was there
-  pub serves_entered : {after : Core D E M m} {frame : ℕ} {private write dirty : Bool} → ShowsFrame before after spot attr frame private write dirty → (access : Access) → access ≢ Store
+  pub serves_entered : {after : Core D E M m} {frame : ℕ} {private write dirty : Bool} → ShowsFrame before after spot attr frame private write dirty
+      → IsFullEntry (picture_of after) attr frame private (entry (picture_of after) spot.pid spot.page) → (access : Access) → access ≢ Store
       → lets access attr.prot ≡ true → Serves g h before after spot.pid spot.page attr access (Ok (record { 0 = frame }))
-  serves_entered {after = after} {frame = frame} shows access reads lets =
+  serves_entered {after = after} {frame = frame} shows full access reads lets =
       let old = picture_of before in
       let new = picture_of after in
       let enters = shows.enters in
@@ -133,7 +134,7 @@ module _ {M : Type 0} {m : Levels.Ghosts M} {D E : Type 0} {g : Ghosts D} {h : G
       let now = enters.spaces.at spot.pid spot.page ∙ mapped in
       record {
         tends = tends_entered g h before after spot.pid spot.page access may.store may.swap enters shows.files;
-        entered = read_entered old new spot.pid spot.page attr access frame _ _ _ enters.fit after.sound mapped now (record { views = enters.views; touched = shows.files.touched }) shows.entry reads lets;
+        entered = read_entered old new spot.pid spot.page attr access frame _ _ _ enters.fit after.sound mapped now (record { views = enters.views; touched = shows.files.touched }) shows.entry reads lets full;
         ready = λ trusted. read_ready old new spot.pid spot.page attr access frame _ _ _ enters.fit after.sound mapped now (record { views = enters.views; touched = shows.files.touched }) shows.entry reads lets;
         counts = counts_calm g h before after spot.pid spot.page enters.calm;
         stalled = tt;

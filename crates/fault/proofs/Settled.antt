@@ -1,5 +1,6 @@
 -- What an entry that was set for a page makes of the page.
-use Rattle.fault.proofs.{Forms.{mapped_page, over_here}, Names.{◌≡◌, ℕ, Bool, true, false, ◌||◌, not, Option, Some, refl, ◌∙◌, subst, ◌≢◌, inl, inr, None, List, sym, ap, false≢true, cases_Bool, same_Some, IfSome, option_map, Load, Store}}
+use Rattle.fault.{specs.Leaves.{IsFullEntry, is_touched_behind}, proofs.{Names.{◌&&◌, ◌==◌, eq-eqb, count_of}, SwapSteps.{full_count}}}
+use Rattle.fault.proofs.{Forms.{mapped_page, over_here, touched_of}, Names.{◌≡◌, ℕ, Bool, true, false, ◌||◌, not, Option, Some, refl, ◌∙◌, subst, ◌≢◌, inl, inr, None, List, sym, ap, false≢true, cases_Bool, same_Some, IfSome, option_map, Load, Store}}
 use Rattle.fault.proofs.Names.{Fetch, Prot, Attr, lets, Access, PageKey, File, Object, Backing, Anon, Shared, Common, stands_on, View, ReadsToo, IsEntryOver, IsLeaf, Picture, entry, own_in, bytes_in, view, IsFit, IsBehind, is_shared, Seat}
 use Rattle.fault.proofs.{Names.{seat, is_private, is_swapped, bytes_of, IsSound, frame_of, grants, is_dirty, is_store, over_some, seat_common}, OwnSteps.{shown_own, shown_common}, Ready.{ready_open, zero_same, view-mapped, own_in-private}}
 use Rattle.fault.{proofs.{Ready.{own_in-none, reads, touches, owns}, Steps.{seen_then}}, specs.{Changes.{KeepsSeen, KeepsOtherViews, frame_of_place, frame_behind, shown_bytes}, Granted.{IsOpenLeaf, IsEntered, IsReadyAt}, Outcome.{Reads}}}
@@ -16,15 +17,7 @@ second_bar false true e = refl
 second_bar r false e = absurd (false≢true e)
 
 opened : {access : Access} {e : ℕ} {prot : Prot} {write stored : Bool} → IsLeaf e prot write stored → grants access e ≡ true → (is_store access ≡ true → is_dirty e ≡ true) → IsOpenLeaf access e
-opened leaf granted dirty = record {
-  valid = leaf.valid;
-  sound = leaf.unreserved;
-  leaf = leaf.leaf;
-  user = leaf.user;
-  grants = granted;
-  accessed = leaf.accessed;
-  dirty = dirty;
-}
+opened leaf granted dirty = record { valid = leaf.valid; sound = leaf.unreserved; leaf = leaf.leaf; user = leaf.user; grants = granted; accessed = leaf.accessed; dirty = dirty }
 
 pub opens_load : (e : ℕ) (prot : Prot) (n : ℕ) (private write stored : Bool) → IsEntryOver e prot n private write stored → lets Load prot ≡ true → IsOpenLeaf Load e
 opens_load e prot n private write stored over allowed =
@@ -43,8 +36,7 @@ opens_store e prot n private over readable =
 
 -- a page that may be written may be read
 pub reads_too : {mode : ℕ} (c : Picture mode) (pid page : ℕ) (a : Attr) → IsFit c → c.at pid page ≡ Some a → Permission.can_write a.prot ≡ true → Permission.can_read a.prot ≡ true
-reads_too c pid page a fit mapped =
-    let P : Option Attr → Type 0 = λ o. IfSome o (λ attr. ReadsToo attr.prot) in subst P mapped (fit.granting.readable pid page)
+reads_too c pid page a fit mapped = let P : Option Attr → Type 0 = λ o. IfSome o (λ attr. ReadsToo attr.prot) in subst P mapped (fit.granting.readable pid page)
 
 pub one_view : (v w : View) → Some v ≡ Some w → v ≡ w
 one_view v w same = (cc)
@@ -81,20 +73,51 @@ ready_read Load old new pid page a n other reads = reads
 ready_read Store old new pid page a n other reads = absurd (other refl)
 ready_read Fetch old new pid page a n other reads = reads
 
+touched_same : {mode : ℕ} (old new : Picture mode) (b : Backing) → ((p : PageKey) → new.touched p ≡ old.touched p) → is_touched_behind new b ≡ is_touched_behind old b
+touched_same old new Anon same = refl
+touched_same old new (Private p) same = refl
+touched_same old new (Shared p) same = same (File p)
+touched_same old new (Common p) same = same (Object p)
+
+-- the fullest entry is the fullest one still, where the frame's shares and what is touched stay
+pub full_same : {mode : ℕ} (old new : Picture mode) (a : Attr) (n : ℕ) (private : Bool) (e : ℕ) → count_of new.frames n ≡ count_of old.frames n → ((p : PageKey) → new.touched p ≡ old.touched p)
+    → IsFullEntry old a n private e → IsFullEntry new a n private e
+full_same old new a n true e count touched full = full_count old new a n e count full
+full_same old new a n false e count touched full =
+    let P : Bool → Type 0 = λ x. IsEntryOver e a.prot n false (is_shared a.backing && Permission.can_write a.prot) (x && Permission.can_write a.prot) in
+    subst P (sym (touched_same old new a.backing touched)) full
+
+-- one with W and D is, over an own frame that nobody else has,
+pub full_sole : {mode : ℕ} (c : Picture mode) (a : Attr) (n e : ℕ) → count_of c.frames n ≡ 1 → Permission.can_write a.prot ≡ true → IsEntryOver e a.prot n true true true → IsFullEntry c a n true e
+full_sole c a n e one writable over =
+    let both : ((count_of c.frames n == 1) && Permission.can_write a.prot) ≡ true = ap (λ x. x && Permission.can_write a.prot) (eq-eqb (count_of c.frames n) 1 one) ∙ writable in
+    let P : Bool → Type 0 = λ x. IsEntryOver e a.prot n true x x in
+    subst P (sym both) over
+
+-- and over that of a touched page of a file or an object
+pub full_touched : {mode : ℕ} (c : Picture mode) (a : Attr) (p : PageKey) (n e : ℕ) → is_shared a.backing ≡ true → stands_on a.backing ≡ Some p → c.touched p ≡ true → Permission.can_write a.prot ≡ true
+    → IsEntryOver e a.prot n false true true → IsFullEntry c a n false e
+full_touched c a p n e shared is touched writable over =
+    let cw = Permission.can_write a.prot in
+    let write : (is_shared a.backing && cw) ≡ true = ap (λ t. t && cw) shared ∙ writable in
+    let stored : (is_touched_behind c a.backing && cw) ≡ true = ap (λ t. t && cw) (touched_of c a.backing p shared is ∙ touched) ∙ writable in
+    let P : Bool → Bool → Type 0 = λ x y. IsEntryOver e a.prot n false x y in
+    subst (λ (x : Bool). P x (is_touched_behind c a.backing && cw)) (sym write) (subst (λ (y : Bool). P true y) (sym stored) over)
+
 -- a page whose entry lets it be read
-pub entered_read : {mode : ℕ} (access : Access) (c : Picture mode) (pid page : ℕ) (a : Attr) (n : ℕ) (private write stored : Bool) → access ≢ Store → lets access a.prot ≡ true
-    → IsEntryOver (entry c pid page) a.prot n private write stored → IsFrameFor access c pid page a.backing n → IsEntered c pid page a access n
-entered_read Load c pid page a n private write stored other allowed over usable =
-    record { opens = opens_load (entry c pid page) a.prot n private write stored over allowed; frame = over.names; usable = usable }
-entered_read Store c pid page a n private write stored other allowed over usable = absurd (other refl)
-entered_read Fetch c pid page a n private write stored other allowed over usable =
-    record { opens = opens_fetch (entry c pid page) a.prot n private write stored over allowed; frame = over.names; usable = usable }
+pub entered_read : {mode : ℕ} (access : Access) (c : Picture mode) (pid page : ℕ) (a : Attr) (n : ℕ) (private : Bool) → access ≢ Store → lets access a.prot ≡ true
+    → IsFullEntry c a n private (entry c pid page) → IsFrameFor access c pid page a.backing n → IsEntered c pid page a access n
+entered_read Load c pid page a n private other allowed full usable =
+    record { opens = opens_load (entry c pid page) a.prot n private _ _ full allowed; frame = full.names; usable = usable; private = private; full = full }
+entered_read Store c pid page a n private other allowed full usable = absurd (other refl)
+entered_read Fetch c pid page a n private other allowed full usable =
+    record { opens = opens_fetch (entry c pid page) a.prot n private _ _ full allowed; frame = full.names; usable = usable; private = private; full = full }
 
 -- one whose entry lets stores through
 pub entered_store : {mode : ℕ} (c : Picture mode) (pid page : ℕ) (a : Attr) (n : ℕ) (private : Bool) → Permission.can_read a.prot ≡ true
-    → IsEntryOver (entry c pid page) a.prot n private true true → IsFrameFor Store c pid page a.backing n → IsEntered c pid page a Store n
-entered_store c pid page a n private readable over usable =
-    record { opens = opens_store (entry c pid page) a.prot n private over readable; frame = over.names; usable = usable }
+    → IsEntryOver (entry c pid page) a.prot n private true true → IsFullEntry c a n private (entry c pid page) → IsFrameFor Store c pid page a.backing n → IsEntered c pid page a Store n
+entered_store c pid page a n private readable over full usable =
+    record { opens = opens_store (entry c pid page) a.prot n private over readable; frame = over.names; usable = usable; private = private; full = full }
 
 -- and that is ready
 pub entered_ready : {mode : ℕ} (access : Access) (old new : Picture mode) (pid page : ℕ) (a : Attr) (n : ℕ) → IsReadyAt old new pid page a access n → IsFrameFor access new pid page a.backing n

@@ -39,11 +39,7 @@ module _ {mode : ℕ} (old new : Picture mode) (pid page r : ℕ) (a : Attr) (fr
   full_tables = tables_same old new (λ q x p e. sets.2.missing x p (linked.fit.rooted.roots q x e))
 
   pub full_files : KeepsFiles old new
-  full_files = record {
-    held = λ p. inl (set_held old new pid page sets.0 0 nowhere 0 linked.fit full_set p);
-    touched = beside.touched;
-    files = beside.files;
-  }
+  full_files = record { held = λ p. inl (set_held old new pid page sets.0 0 nowhere 0 linked.fit full_set p); touched = beside.touched; files = beside.files }
 
   module _ (same : seat sets.0 ≡ seat (entry old pid page)) where
     pub full_views : KeepsViews old new

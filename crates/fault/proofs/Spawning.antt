@@ -59,8 +59,7 @@ module _ {mode : ℕ} (old new : Picture mode) (pid n : ℕ) (fit : IsFitBut old
 
   entries_spawned : (q page : ℕ) → entry new q page ≡ entry old q page
   entries_spawned q page = elim (cases_eq q pid) [
-    | inl e ↦ (let P : ℕ → Type 0 = λ x. entry new x page ≡ entry old x page in
-        subst P (sym e) (nothing_here page ∙ sym (entry-dead old pid page spawns.was_free)))
+    | inl e ↦ (let P : ℕ → Type 0 = λ x. entry new x page ≡ entry old x page in subst P (sym e) (nothing_here page ∙ sym (entry-dead old pid page spawns.was_free)))
     | inr ne ↦ entry-same old new q page (spawns.others q ne) (λ x e. ap (λ t. page_entry t (top_level mode) x page) spawns.frames)
   ]
 
@@ -157,8 +156,7 @@ module _ {mode : ℕ} where
 
 -- a frame was obtained and taken for a table, and that is the root of a new process
 pub fit_started : {mode : ℕ} (first mid new : Picture mode) (pid n : ℕ) → ObtainsTable first mid n → Spawns mid new pid n → IsFit new
-fit_started first mid new pid n obtains spawns =
-    fit_spawned obtains.found mid new pid n obtains.fit obtains.zero_page obtains.adds obtains.beside spawns
+fit_started first mid new pid n obtains spawns = fit_spawned obtains.found mid new pid n obtains.fit obtains.zero_page obtains.adds obtains.beside spawns
 
 -- nothing stands for its pages
 module _ {mode : ℕ} where

@@ -22,10 +22,7 @@ pub files_same : {mode : ℕ} (c : Picture mode) → KeepsFiles c c
 files_same c = record { held = λ p. inl refl; touched = λ p. refl; files = λ f. refl }
 
 pub tables_then : {mode : ℕ} (a b c : Picture mode) → ((pid : ℕ) → b.root pid ≡ a.root pid) → KeepsTables a b → KeepsTables b c → KeepsTables a c
-tables_then a b c roots p q pid r page e =
-    let first = p pid r page e in
-    let second = q pid r page (roots pid ∙ e) in
-    omega (arith, first, second)
+tables_then a b c roots p q pid r page e = let first = p pid r page e in let second = q pid r page (roots pid ∙ e) in omega (arith, first, second)
 
 pub bare_then : {mode : ℕ} (a b c : Picture mode) → KeepsBare a b → KeepsBare b c → KeepsBare a c
 bare_then a b c p q pid page h none = q pid page h (p pid page h none)
@@ -89,11 +86,7 @@ same_with c t = record { slots = refl; root = λ pid. refl; at = λ pid page. re
 
 module _ {E : Type 0} (h : Ghosts E) where
   pub device_then : (a b c : E) → UsesDevice h a b → UsesDevice h b c → UsesDevice h a c
-  device_then a b c p q = record {
-    size = q.size ∙ p.size;
-    kept = λ k. p.kept (q.kept k);
-    later = (let x = p.later in let y = q.later in omega (arith, x, y));
-  }
+  device_then a b c p q = record { size = q.size ∙ p.size; kept = λ k. p.kept (q.kept k); later = (let x = p.later in let y = q.later in omega (arith, x, y)) }
 
   pub device_none : (a : E) → UsesDevice h a a
   device_none a = record { size = refl; kept = λ k. k; later = omega arith }
@@ -207,8 +200,7 @@ slotted_calm files old new pid page calm = slotted_but files (picture_of old) (p
 
 -- a frame that has its role was a table if it is one
 pub table_before : (old new : FrameTable) (n : ℕ) → frame_count new ≡ frame_count old → role_of new n ≡ role_of old n → IsTable new n → IsTable old n
-table_before old new n count role table =
-    record { inside = subst (λ (k : ℕ). n < k) count table.inside; role = sym role ∙ table.role }
+table_before old new n count role table = record { inside = subst (λ (k : ℕ). n < k) count table.inside; role = sym role ∙ table.role }
 
 -- a frame that was given up is none
 table_freed : (old new : FrameTable) (n : ℕ) (X : Type 0) → frame_count new ≡ frame_count old → (role_of new n ≡ role_of old n) ⊎ ((role_of new n ≡ Free) × X) → IsTable new n → IsTable old n
@@ -300,11 +292,7 @@ pub linked_kept : {mode : ℕ} (old new : Picture mode) (pid page : ℕ) → IsL
 linked_kept old new pid page linked fit spaces tables = record {
   fit = fit;
   lives = λ none. linked.lives (sym (spaces.root pid) ∙ none);
-  whole = λ r e. (
-      let was = sym (spaces.root pid) ∙ e in
-      let less = tables pid r page was in
-      let none = linked.whole r was in
-      omega (arith, less, none));
+  whole = λ r e. (let was = sym (spaces.root pid) ∙ e in let less = tables pid r page was in let none = linked.whole r was in omega (arith, less, none));
 }
 
 -- and its entry stands where it stood

@@ -66,8 +66,7 @@ module _ {mode : ℕ} (old new : Picture mode) (n : ℕ) (w : List ℕ) (fit : I
     seat_bytes (InSlot k) ne = ap (λ t. t.bytes k) beside.slots
 
     same_view : (q k : ℕ) → (IsPage (top_level mode) k → (z : Seat) → seat (entry old q k) ≡ Some z → z ≢ InFrame n) → view new q k ≡ view old q k
-    same_view q k ne = each_view old new fit.granting beside.at q k
-        (λ h. view_seated old new q k (beside.at q k) (ap seat (same_entries q k)) (λ z is. seat_bytes z (ne h z is)))
+    same_view q k ne = each_view old new fit.granting beside.at q k (λ h. view_seated old new q k (beside.at q k) (ap seat (same_entries q k)) (λ z is. seat_bytes z (ne h z is)))
 
     same_held : (p : PageKey) → ((m : ℕ) → old.place p ≡ Frame (record { 0 = m }) → m ≢ n) → held new p ≡ held old p
     same_held p ne = held_same old new p (beside.place p) beside.slots (λ m at. other_bytes m (ne m at))
@@ -101,8 +100,7 @@ module _ {mode : ℕ} (old new : Picture mode) (n : ℕ) (w : List ℕ) (fit : I
         ]))
 
     pub held_own : (p : PageKey) → held new p ≡ held old p
-    held_own p = same_held own_data p (λ m at is. (
-        let bad : Private ≡ Cache = sym (own_role pid page sole) ∙ ap (role_of old.frames) (sym is) ∙ fit.places.cached p m at in (cc)))
+    held_own p = same_held own_data p (λ m at is. (let bad : Private ≡ Cache = sym (own_role pid page sole) ∙ ap (role_of old.frames) (sym is) ∙ fit.places.cached p m at in (cc)))
 
   -- the frame of a file page
   module _ (p : PageKey) (at : old.place p ≡ Frame (record { 0 = n })) where
@@ -116,8 +114,7 @@ module _ {mode : ℕ} (old new : Picture mode) (n : ℕ) (w : List ℕ) (fit : I
     entries_file = same_entries file_data
 
     owned_else : (z : Seat) → IsOwned old z → z ≢ InFrame n
-    owned_else z owned e =
-        let bad : Private ≡ Cache = sym (subst (λ (x : Seat). IsOwned old x) e owned) ∙ fit.places.cached p n at in (cc)
+    owned_else z owned e = let bad : Private ≡ Cache = sym (subst (λ (x : Seat). IsOwned old x) e owned) ∙ fit.places.cached p n at in (cc)
 
     pub views_file : (q k : ℕ) → view new q k ≡ view old q k
     views_file q k = same_view file_data q k (λ h z is. owned_else z (fit.counted.1.named q k z h is))

@@ -17,9 +17,7 @@ not_shared_away c attr a e at away some (Resident b is resident) = elim (cases_B
   | inl valid ↦ absurd (false≢true (sym (let z : is_swapped e ≡ false = rw valid refl in z) ∙ away))
   | inr invalid ↦ absurd (false≢true (sym (bit_clear e (resident.framed invalid)) ∙ away))
 ]
-not_shared_away c attr a e at away some (Away b is swapped) =
-    let both : Some b ≡ Some a = sym is ∙ at in
-    subst (λ (x : Attr). IsSwapped c x e) (cc) swapped
+not_shared_away c attr a e at away some (Away b is swapped) = let both : Some b ≡ Some a = sym is ∙ at in subst (λ (x : Attr). IsSwapped c x e) (cc) swapped
 
 -- the page lies in a slot by its region too
 pub swapped_page : {mode : ℕ} (c : Picture mode) (pid page : ℕ) (a : Attr) → IsFit c → IsPage (top_level mode) page → c.at pid page ≡ Some a → is_swapped (entry c pid page) ≡ true → IsSwapped c a (entry c pid page)
@@ -64,8 +62,7 @@ changes_further own t slots u frames = record {
 
 -- the fullest entry by the share count of its frame alone
 pub full_count : {mode : ℕ} (c c' : Picture mode) (a : Attr) (n e : ℕ) → count_of c'.frames n ≡ count_of c.frames n → IsFullEntry c a n true e → IsFullEntry c' a n true e
-full_count c c' a n e same full =
-    subst (λ (x : ℕ). IsEntryOver e a.prot n true ((x == 1) && can_write a.prot) ((x == 1) && can_write a.prot)) (sym same) full
+full_count c c' a n e same full = subst (λ (x : ℕ). IsEntryOver e a.prot n true ((x == 1) && can_write a.prot) ((x == 1) && can_write a.prot)) (sym same) full
 
 module _ {E : Type 0} (h : Ghosts E) where
   -- slots that were ready are, after one share was given back
@@ -93,8 +90,7 @@ module _ {M : Type 0} {m : Levels.Ghosts M} {D E : Type 0} {h : Ghosts E} {core 
     stays = obtains.frees.entries spot.pid spot.page here (inr (inl lies.away))
 
     pub slot_used : (k : ℕ) → seat (entry (picture_of core) spot.pid spot.page) ≡ Some (InSlot k) → IsInUse taken.slots k
-    slot_used k from =
-        subst (λ (t : SlotTable). IsInUse t k) (sym obtains.own.slots) (obtains.fit.counted.1.named spot.pid spot.page (InSlot k) here (ap seat stays ∙ from)).0
+    slot_used k from = subst (λ (t : SlotTable). IsInUse t k) (sym obtains.own.slots) (obtains.fit.counted.1.named spot.pid spot.page (InSlot k) here (ap seat stays ∙ from)).0
 
     -- the frame that it was read into
     module _ (t : SlotTable) (same : t ≡ taken.slots) (w : List ℕ) where
@@ -153,7 +149,6 @@ module _ {mode : ℕ} {old found mid : Picture mode} {pid page r n : ℕ} {a : A
 
     pub seen_in : bytes_of mid.frames n ≡ found.slots.bytes k → KeepsViews old (record set { slots = t })
     seen_in same q p = elim (by_page q p pid page) [
-      | inl e ↦ (
-          subst (λ (x : ℕ). view new x p ≡ view old x p) (sym e.0) (subst (λ (x : ℕ). view new pid x ≡ view old pid x) (sym e.1) (here_in same)))
+      | inl e ↦ (subst (λ (x : ℕ). view new x p ≡ view old x p) (sym e.0) (subst (λ (x : ℕ). view new pid x ≡ view old pid x) (sym e.1) (here_in same)))
       | inr other ↦ aside_in.others q p other
     ]

@@ -84,12 +84,7 @@ shows_file c pid page a p mapped is none = record { attr = a; mapped = mapped; b
 pub shows_back : {mode : ℕ} (old mid : Picture mode) (pid page : ℕ) (p : PageKey) → ((q k : ℕ) → mid.at q k ≡ old.at q k) → KeepsSeen old mid → ShowsFile mid pid page p → ShowsFile old pid page p
 shows_back old mid pid page p at keeps shows =
     let was = sym (at pid page) ∙ shows.mapped in
-    record {
-      attr = shows.attr;
-      mapped = was;
-      behind = shows.behind;
-      none = none_same mid old pid page shows.attr shows.mapped was (sym (keeps.views pid page)) shows.none;
-    }
+    record { attr = shows.attr; mapped = was; behind = shows.behind; none = none_same mid old pid page shows.attr shows.mapped was (sym (keeps.views pid page)) shows.none }
 
 some_in : (o : Option ℕ) → is_some o ≡ true → (r : ℕ) × (o ≡ Some r)
 some_in None live = absurd (false≢true live)

@@ -46,8 +46,7 @@ links_none old new pid page count still n table = inl (table_before old.frames n
 -- frames were given up: a table that was missing still is
 pub still_wanted : {mode : ℕ} (old new : Picture mode) (pid root page : ℕ) → Frees old new None → old.root pid ≡ Some root → missing_of old.frames (top_level mode) root page ≢ 0
     → IsWhole new pid page → ⊥
-still_wanted old new pid root page frees lives missing whole =
-    missing (sym (frees.missing pid root page lives) ∙ whole root (frees.pages.root pid ∙ lives))
+still_wanted old new pid root page frees lives missing whole = missing (sym (frees.missing pid root page lives) ∙ whole root (frees.pages.root pid ∙ lives))
 
 -- a frame was obtained, taken for a table, and linked on the way to a page
 module _ {mode : ℕ} {old taken new : Picture mode} {pid root page table : ℕ} (obtains : ObtainsTable old taken table) (lives : old.root pid ≡ Some root)

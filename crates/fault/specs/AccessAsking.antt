@@ -7,6 +7,7 @@ use Rattle.vm_types.specs.declared.object.PageKey.{PageKey}
 use Rattle.vm_types.specs.declared.object.PageKey.TheVariants.{File}
 use Rattle.disk_model.specs.declared.sector_disk.SectorDisk.{Ghosts}
 use Rattle.disk_model.specs.Moments.{AsksOnly}
+use Rattle.disk_model.specs.Stop.{NamesOnce}
 use Rattle.file_store.specs.Store.{IsSectorOf}
 use Rattle.residency.specs.declared.kernel.Core.{Core}
 use Rattle.residency.specs.Picture.{Picture, picture_of}
@@ -18,11 +19,17 @@ module _ {mode : ℕ} where
   abbrev pub IsSectorOfItsSlot : Picture mode → ℕ → ℕ → ℕ → Type 0
   IsSectorOfItsSlot c pid page k = IsSectorOfCopy c pid page k ⊎ ((p : PageKey) × ShowsFile c pid page p × IsSectorOfPage c p k)
 
+module _ {M : Type 0} {m : Levels.Ghosts M} {D E : Type 0} where
+  -- a sector of the store in which the file page stands that a page shows
+  abbrev pub IsSectorShown : Core D E M m → ℕ → ℕ → ℕ → Type 0
+  IsSectorShown core pid page k = (f : FilePage) × ShowsFile (picture_of core) pid page (File f) × IsSectorOf core.store f k
+
 module _ {M : Type 0} {m : Levels.Ghosts M} {D E : Type 0} (g : Ghosts D) (h : Ghosts E) where
   -- Which sectors an access to a page asks for, of both devices.
   pub record AsksForPage (old new : Core D E M m) (pid page : ℕ) (access : Access) : Type 0 where
-    -- of the store those of the file page that it shows
-    pub store : AsksOnly g (λ k. (f : FilePage) × ShowsFile (picture_of old) pid page (File f) × IsSectorOf old.store f k) old.store.disk new.store.disk
+    -- of the store those of the file page that it shows, each of them once at most
+    pub store : AsksOnly g (IsSectorShown old pid page) old.store.disk new.store.disk
+    pub once : NamesOnce (IsSectorShown old pid page) (g.asked old.store.disk) (g.asked new.store.disk)
     -- of swap those of the slot that its page lies in, and those of free slots, which only where a frame has to be given up, and one may
     -- be that needs a slot
     pub swap : AsksSlotsIf h (RunsOut (picture_of old) pid page access) old new None (IsSectorOfItsSlot (picture_of old) pid page)

@@ -7,6 +7,7 @@ use Rattle.vm_types.specs.declared.refusal.Stall.{Stall}
 use Rattle.vm_types.specs.declared.refusal.Stall.TheVariants.{StoreDevice}
 use Rattle.disk_model.specs.declared.sector_disk.SectorDisk.{Ghosts}
 use Rattle.disk_model.specs.Moments.{AsksOnly}
+use Rattle.disk_model.specs.Stop.{NamesOnce}
 use Rattle.frames.specs.FrameTable.{IsFull}
 use Rattle.file_store.specs.Store.{IsReadyStore}
 use Rattle.page_cache.specs.declared.place.Place.TheVariants.{Frame}
@@ -46,11 +47,12 @@ module _ {M : Type 0} {m : Levels.Ghosts M} {D E : Type 0} (g : Ghosts D) (h : G
     pub rows : KeepsRows (picture_of old) (picture_of new)
     pub no_table : AddsNoTable (picture_of old) (picture_of new)
     pub slotted : KeepsSlotted (λ p. p ≡ page) (λ q p. ⊥) (picture_of old) (picture_of new)
-    -- the store is read only for a file page at home, and no device asked for other sectors than the page's, now or by who goes on, but
-    -- swap for those of free slots where no frame is free;
+    -- the store is read only for a file page at home, each of its sectors once at most, and no device asked for other sectors than the
+    -- page's, now or by who goes on, but swap for those of free slots where no frame is free;
     pub read : (new.store ≡ old.store) ⊎ IsInStore (picture_of old) page
     pub asks : AsksIfFull h old new None (IsSectorOfPage (picture_of old) page)
     pub asks_store : AsksOnly g (IsSectorOfStoredPage old.store page) old.store.disk new.store.disk
+    pub once_store : NamesOnce (IsSectorOfStoredPage old.store page) (g.asked old.store.disk) (g.asked new.store.disk)
     pub asks_later : IfOk result (λ n. AsksNoNew (picture_of old) (picture_of new) (Some n) (IsSectorOfPage (picture_of old) page))
     -- a stall has its cause: a device failed, or none of the frames that were left could be had.
     pub cause : HasReadCause g h old new result

@@ -16,7 +16,7 @@ use Rattle.fault.specs.Changes.{IsCalm, IsThatPage, KeepsOtherViews, KeepsSlotte
 use Rattle.fault.specs.Files.{Proceeds, BringsFiles}
 use Rattle.fault.specs.declared.refusal.AccessRefusal.{AccessRefusal}
 use Rattle.fault.specs.AccessAsking.{AsksForPage}
-use Rattle.fault.specs.Granted.{IsEntered, IsReadyAt}
+use Rattle.fault.specs.Granted.{IsEntered, IsReadyAt, LeavesEntry}
 use Rattle.fault.specs.Outcome.{IsPlaced, Grants, IsRefusal, IsStalled, IsWalked}
 use Rattle.fault.specs.Wants.{Wants, ReadsHome, ShowsFile}
 
@@ -61,6 +61,8 @@ module _ {M : Type 0} {m : Levels.Ghosts M} {D E : Type 0} (g : Ghosts D) (h : G
     -- the place that the walk gives, at once and with nothing changed where the tables grant it already,
     pub placed : IfOk result (IsPlaced (picture_of old) (picture_of new) pid addr width access)
     pub walked : (place : Phys) → IsWalked (picture_of old) pid addr width access place → (new ≡ old) × (result ≡ Ok place)
+    -- and else by an entry that lets be done what the page's permission and the sharing of its frame allow, and no more,
+    pub entered : IfOk result (λ place. LeavesEntry old new pid (addr / 4096) access (place.0 / 4096))
     -- where the page's bytes are, if it lay in a slot as long as the swap device keeps its model,
     pub granted : (is_swapped (entry (picture_of old) pid (addr / 4096)) ≡ true → h.keeps_model new.swap.pages.disk)
         → IfOk result (Grants (picture_of old) (picture_of new) pid addr width access)

@@ -1,6 +1,46 @@
 -- Which sectors calls ask for.
-use Rattle.file_store.proofs.Names.{◌≡◌, ℕ, inl, inr, subst, FilePage, Image, Names, AsksOnly, Ghosts, asks_wider, asks_then, IsPageSector, journal_stands, IsStoreAsked}
-use Rattle.file_store.specs.{declared.store.FileStore.{FileStore}, Standing.{IsHeadIn, IsAskedToOpen}, Versions.{version_of}, Store.{home_of, IsSectorOf}}
+use Rattle.file_store.proofs.Names.{◌≡◌, ◌<◌, ℕ, inl, inr, ⊎_elim, refl, sym, arith, subst, FilePage, Image, Names, NamesOnce, once_none, once_named, once_apart, Journals, Single, Paired, layout_before, IsLookedAtIn, AsksOnly, Ghosts, asks_wider, asks_then, IsPageSector, journal_stands, IsStoreAsked}
+use Rattle.file_store.specs.{declared.store.FileStore.{FileStore}, Standing.{IsHeadIn, IsAskedToOpen}, Versions.{version_of, version_before, directory_of}, Store.{home_of, IsSectorOf}, Upgrade.{IsOldHead}, declared.version.Version.{Version, TheVariants.{One, Two, Three}}}
+
+-- A look at mark and directory of a store of a layout, and at nothing twice: at none,
+pub none_once : (W : ℕ → Type 0) (now : ℕ → ℕ) → NamesOnce W now now
+none_once W now = once_none W now now (λ k. refl)
+
+-- at one,
+pub one_once : (W : ℕ → Type 0) (n : ℕ) (before now : ℕ → ℕ) → W n → Names (λ k. k ≡ n) before now → NamesOnce W before now
+one_once W n before now here names = once_named W (λ k. k ≡ n) before now (λ k at. subst W (sym at) here) names
+
+-- at one more,
+pub then_once : (V W : ℕ → Type 0) (n : ℕ) (before mid now : ℕ → ℕ) → ((k : ℕ) → V k → W k) → W n → (V n → ⊥) → NamesOnce V before mid → Names (λ k. k ≡ n) mid now → NamesOnce W before now
+then_once V W n before mid now inside here other so_far names = once_apart V (λ k. k ≡ n) W before mid now inside (λ k at. subst W (sym at) here) (λ k v at. other (subst V at v))
+    so_far (once_named (λ k. k ≡ n) (λ k. k ≡ n) mid now (λ k at. at) names)
+
+-- at the mark,
+pub mark_once : (version : Version) (before now : ℕ → ℕ) → Names (λ k. k ≡ 0) before now → NamesOnce (IsHeadIn version) before now
+mark_once version before now mark = once_named (IsHeadIn version) (λ k. k ≡ 0) before now (λ k at. inl (omega (arith, at))) mark
+
+directory_behind : (version : Version) → 0 < directory_of version
+directory_behind One = omega arith
+directory_behind Two = omega arith
+directory_behind Three = omega arith
+
+-- and at the directory
+pub layout_once : (version : Version) (before mid now : ℕ → ℕ) → Names (λ k. k ≡ 0) before mid → NamesOnce (λ k. k ≡ directory_of version) mid now → NamesOnce (IsHeadIn version) before now
+layout_once version before mid now mark directory = once_apart (λ k. k ≡ 0) (λ k. k ≡ directory_of version) (IsHeadIn version) before mid now
+    (λ k at. inl (omega (arith, at))) (λ k at. inr at) (λ k at behind. let some = directory_behind version in omega (arith, at, behind, some))
+    (once_named (λ k. k ≡ 0) (λ k. k ≡ 0) before mid (λ k at. at) mark) directory
+
+old_apart : (kind : Journals) (image : Image) (k : ℕ) → IsHeadIn (version_before kind) k → IsLookedAtIn (layout_before kind) image k → ⊥
+old_apart Single image k head looked = ⊎_elim (λ low. ⊎_elim (λ gate. omega (arith, low, gate)) (λ map. omega (arith, low, map.1.0)) looked)
+    (λ at. ⊎_elim (λ gate. omega (arith, at, gate)) (λ map. omega (arith, at, map.1.0)) looked) head
+old_apart Paired image k head looked = ⊎_elim (λ low. ⊎_elim (λ gate. omega (arith, low, gate)) (λ map. omega (arith, low, map.1.0)) looked)
+    (λ at. ⊎_elim (λ gate. omega (arith, at, gate)) (λ map. omega (arith, at, map.1.0)) looked) head
+
+-- and of the store of the layout before then at gate and map
+pub old_head_once : (kind : Journals) (image : Image) (before mid now : ℕ → ℕ) → NamesOnce (IsHeadIn (version_before kind)) before mid → NamesOnce (IsLookedAtIn (layout_before kind) image) mid now
+    → NamesOnce (IsOldHead kind image) before now
+old_head_once kind image before mid now head looked = once_apart (IsHeadIn (version_before kind)) (IsLookedAtIn (layout_before kind) image) (IsOldHead kind image) before mid now
+    (λ k at. inl at) (λ k at. inr at) (old_apart kind image) head looked
 
 module _ {D : Type 0} (g : Ghosts D) where
   -- a page by its home

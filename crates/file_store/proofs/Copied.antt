@@ -1,7 +1,8 @@
 -- How pages go on being copied, and how it ends.
-use Rattle.file_store.proofs.{Causes.{is_this, same_Err}, Looking.{ok_is_no_err}, Names.{◌≡◌, ◌+◌, ◌<◌, ◌≤◌, ℕ, Result, Ok, Err, ⊎_elim, inl, inr, refl, sym, ap, subst, ◌∙◌, arith, IsErrAnd, Image, Names, AsksOnly, Nothing, Ghosts}}
-use Rattle.file_store.{proofs.{Names.{asks_named, asks_then, asks_wider, Journals, layout_before, home_count_in, IsPageSector, kind_home_count, RunsOnDevice}, Openings.{content_is}}, specs.Directory.{home_end, IsSoundDirectory}}
-use Rattle.file_store.specs.{Faults.{old_fault}, Making.{Makes}, Opened.{LooksAt}, Store.{entry_of}, Upgrade.{IsOldStore, IsOldHead, IsOldFile, IsOldPage, IsOldAsked, HasUpgradeCauses, old_place}, Upgraded.{IsCopiable, CopiesPages}}
+use Rattle.sync_journal.{proofs.OldJournals.{places_apart, place_behind}, specs.{Map.{home_rank}, Standing.{place_or_home_in}}}
+use Rattle.file_store.proofs.{Causes.{is_this, same_Err}, Looking.{ok_is_no_err}, Names.{◌≡◌, ◌+◌, ◌<◌, ◌≤◌, ℕ, List, length, Option, None, Some, Result, Ok, Err, ⊎_elim, inl, inr, refl, sym, ap, subst, ◌∙◌, arith, IsErrAnd, Image, Names, NamesOnce, Nothing, Ghosts}}
+use Rattle.file_store.{proofs.{Names.{once_named, once_apart, once_wider, old_homes, StandsAsListed, Journals, Single, Paired, layout_before, home_count_in, IsPageSector, kind_home_count, RunsOnDevice}, Openings.{content_is}}, specs.Directory.{home_end, IsSoundDirectory}}
+use Rattle.file_store.specs.{Faults.{old_fault}, Making.{Makes}, Opened.{LooksAt}, Store.{entry_of}, Upgrade.{IsOldStore, IsOldHead, IsOldFile, IsOldEntry, IsOldPage, IsOldAsked, HasUpgradeCauses, old_entry, old_place}, Upgraded.{IsCopiable, CopiesPages}}
 use Rattle.file_store.specs.declared.{directory.Entry.{Entry}, faults.{OpenFault.{OpenFault, TheVariants.{Device as OpenDevice}}, UpgradeFault.{UpgradeFault, TheVariants.{OldDevice, NewDevice}}}, old_store.OldStore.{OldStore}}
 
 old_no_new : ◌≡◌ {A = UpgradeFault} OldDevice NewDevice → ⊥
@@ -61,26 +62,74 @@ causes_before fault old new x looks later = record {
   new_still = λ _. refl;
 }
 
+-- the head of the old store lies before all pages
+head_low : (kind : Journals) (image : Image) (k : ℕ) → IsOldHead kind image k → k < (layout_before kind).body
+head_low Single image k = ⊎_elim (⊎_elim (λ low. omega (arith, low)) (λ at. omega (arith, at))) (⊎_elim (λ gate. omega (arith, gate)) (λ map. omega (arith, map.1.1)))
+head_low Paired image k = ⊎_elim (⊎_elim (λ low. omega (arith, low)) (λ at. omega (arith, at))) (⊎_elim (λ gate. omega (arith, gate)) (λ map. omega (arith, map.1.1)))
+
+-- where a page stands, in the words of the journal's list of homes
+listed : (kind : Journals) (homes : List ℕ) (image : Image) → StandsAsListed (layout_before kind) homes image → (h k : ℕ) → IsPageSector (old_place kind image h) k
+    → IsPageSector (place_or_home_in (layout_before kind) h (home_rank homes h)) k
+listed kind homes image stands h k at = subst (λ first. IsPageSector first k) (stands.at h) at
+
+file_behind : (kind : Journals) (homes : List ℕ) (image : Image) → StandsAsListed (layout_before kind) homes image → (o : Option Entry) (k : ℕ) → IsOldEntry kind image o k → (layout_before kind).body ≤ k
+file_behind kind homes image stands None k none = absurd none
+file_behind kind homes image stands (Some e) k at = place_behind kind (e.first + at.0) k (home_rank homes (e.first + at.0)) (listed kind homes image stands (e.first + at.0) k at.2)
+
 -- the head of the old store is asked for, and then its files
-pub copied_old_asked : {D : Type 0} (g : Ghosts D) (kind : Journals) (old read new : D) → g.content read ≡ g.content old → AsksOnly g (IsOldHead kind) old read
-    → AsksOnly g (IsOldFile kind (g.content read)) read new → AsksOnly g (IsOldAsked kind (g.content old)) old new
-copied_old_asked g kind old read new same head files =
-    let W : ℕ → Type 0 = IsOldAsked kind (g.content old) in
-    asks_then g W old read new (asks_wider g (IsOldHead kind) W old read (λ k at. inl at) head)
-    (asks_wider g (IsOldFile kind (g.content read)) W read new (λ k at. inr (subst (λ (i : Image). IsOldFile kind i k) same at)) files)
+pub copied_old_once : {D : Type 0} (g : Ghosts D) (kind : Journals) (homes : List ℕ) (old read new : D) → g.content read ≡ g.content old → StandsAsListed (layout_before kind) homes (g.content old)
+    → NamesOnce (IsOldHead kind (g.content old)) (g.asked old) (g.asked read) → NamesOnce (IsOldFile kind (g.content read)) (g.asked read) (g.asked new)
+    → NamesOnce (IsOldAsked kind (g.content old)) (g.asked old) (g.asked new)
+copied_old_once g kind homes old read new same stands head files =
+    let image = g.content old in
+    once_apart (IsOldHead kind image) (IsOldFile kind image) (IsOldAsked kind image) (g.asked old) (g.asked read) (g.asked new) (λ k at. inl at) (λ k at. inr at)
+    (λ k first second. let low = head_low kind image k first in let behind = file_behind kind homes image stands (old_entry kind image second.0) k second.1 in omega (arith, low, behind))
+    head (subst (λ (i : Image). NamesOnce (IsOldFile kind i) (g.asked read) (g.asked new)) same files)
 
 -- a file's pages, and one more where it stands
-pub page_asked : {D : Type 0} (g : Ghosts D) (kind was : Journals) (e : Entry) (k more : ℕ) (old mid new : D) → k < more → was ≡ kind → g.content mid ≡ g.content old
-    → AsksOnly g (IsOldPage kind (g.content old) e k) old mid → Names (IsPageSector (old_place was (g.content mid) (e.first + k))) (g.asked mid) (g.asked new)
-    → AsksOnly g (IsOldPage kind (g.content old) e more) old new
-page_asked g kind was e k more old mid new less is same asks page =
-    let W : ℕ → Type 0 = IsOldPage kind (g.content old) e more in
-    asks_then g W old mid new (asks_wider g (IsOldPage kind (g.content old) e k) W old mid (λ s at. (at.0, omega (arith, at.1, less), at.2)) asks)
-    (asks_named g W (IsPageSector (old_place was (g.content mid) (e.first + k))) mid new (λ s at. (
-      k,
-      less,
-      subst (λ (image : Image). IsPageSector (old_place kind image (e.first + k)) s) same (subst (λ b. IsPageSector (old_place b (g.content mid) (e.first + k)) s) is at),
-    )) page)
+pub page_once : {D : Type 0} (g : Ghosts D) (kind was : Journals) (homes : List ℕ) (e : Entry) (k more : ℕ) (old mid new : D) → k < more → was ≡ kind → g.content mid ≡ g.content old
+    → StandsAsListed (layout_before kind) homes (g.content old) → length homes ≤ (layout_before kind).most → NamesOnce (IsOldPage kind (g.content old) e k) (g.asked old) (g.asked mid)
+    → Names (IsPageSector (old_place was (g.content mid) (e.first + k))) (g.asked mid) (g.asked new) → NamesOnce (IsOldPage kind (g.content old) e more) (g.asked old) (g.asked new)
+page_once g kind was homes e k more old mid new less is same stands few so_far page =
+    let image = g.content old in
+    let V : ℕ → Type 0 = IsPageSector (old_place kind image (e.first + k)) in
+    once_apart (IsOldPage kind image e k) V (IsOldPage kind image e more) (g.asked old) (g.asked mid) (g.asked new)
+    (λ s at. (at.0, omega (arith, at.1, less), at.2)) (λ s at. (k, less, at))
+    (λ s before now. let one = places_apart kind homes few (e.first + before.0) (e.first + k) s (listed kind homes image stands (e.first + before.0) s before.2) (listed kind homes image stands (e.first + k) s now) in
+    omega (arith, one, before.1))
+    so_far
+    (once_named V (IsPageSector (old_place was (g.content mid) (e.first + k))) (g.asked mid) (g.asked new) (λ s at.
+    subst (λ (held : Image). IsPageSector (old_place kind held (e.first + k)) s) same (subst (λ b. IsPageSector (old_place b (g.content mid) (e.first + k)) s) is at)) page)
+
+-- a sector in which a page of one of the first n files stands
+abbrev pub IsOldFirst : Journals → Image → ℕ → ℕ → Type 0
+IsOldFirst kind image n k = (f : ℕ) × (f < n) × IsOldEntry kind image (old_entry kind image f) k
+
+-- two files have no sector in common
+module _ (kind : Journals) (image : Image) (store : OldStore) (n : ℕ) (known : IsOldStore kind image store) (few : length (old_homes store.journal) ≤ (layout_before kind).most)
+    (sound : IsSoundDirectory n (entry_of store.directory)) (f h s : ℕ) (less : f < h) where
+  files_apart : (o p : Option Entry) → old_entry kind image f ≡ o → old_entry kind image h ≡ p → IsOldEntry kind image o s → IsOldEntry kind image p s → ⊥
+  files_apart None p is_a is_b at_a at_b = at_a
+  files_apart (Some a) None is_a is_b at_a at_b = at_b
+  files_apart (Some a) (Some b) is_a is_b at_a at_b =
+      let homes = old_homes store.journal in
+      let one : a.first + at_a.0 ≡ b.first + at_b.0 = places_apart kind homes few (a.first + at_a.0) (b.first + at_b.0) s
+      (listed kind homes image known.stands (a.first + at_a.0) s at_a.2) (listed kind homes image known.stands (b.first + at_b.0) s at_b.2) in
+      sound.apart f h (a.first + at_a.0) a b less (known.entries f ∙ is_a) (known.entries h ∙ is_b) (omega arith, omega (arith, at_a.1)) (omega (arith, one), omega (arith, one, at_b.1))
+
+-- some files, and one more
+pub file_once : {D : Type 0} (g : Ghosts D) (kind : Journals) (store : OldStore) (n f : ℕ) (old mid new : D) → g.content mid ≡ g.content old → IsOldStore kind (g.content old) store
+    → length (old_homes store.journal) ≤ (layout_before kind).most → IsSoundDirectory n (entry_of store.directory) → NamesOnce (IsOldFirst kind (g.content old) f) (g.asked old) (g.asked mid)
+    → NamesOnce (IsOldEntry kind (g.content mid) (entry_of store.directory f)) (g.asked mid) (g.asked new) → NamesOnce (IsOldFirst kind (g.content old) (f + 1)) (g.asked old) (g.asked new)
+file_once g kind store n f old mid new same known few sound so_far entry =
+    let image = g.content old in
+    let V : ℕ → Type 0 = IsOldEntry kind image (old_entry kind image f) in
+    once_apart (IsOldFirst kind image f) V (IsOldFirst kind image (f + 1)) (g.asked old) (g.asked mid) (g.asked new)
+    (λ s at. (at.0, omega (arith, at.1), at.2)) (λ s at. (f, omega arith, at))
+    (λ s before now. files_apart kind image store n known few sound before.0 f s before.1 (old_entry kind image before.0) (old_entry kind image f) refl refl before.2 now)
+    so_far
+    (once_wider (IsOldEntry kind (g.content mid) (entry_of store.directory f)) V (g.asked mid) (g.asked new) (λ s at.
+    subst (λ (o : Option Entry). IsOldEntry kind image o s) (known.entries f) (subst (λ (i : Image). IsOldEntry kind i (entry_of store.directory f) s) same at)) entry)
 
 module _ {D E : Type 0} (g : Ghosts D) (h : Ghosts E) where
   -- what was known of the store is known of it still where it is only read
@@ -88,16 +137,17 @@ module _ {D E : Type 0} (g : Ghosts D) (h : Ghosts E) where
   copiable_still kind store old old' n m same run copied = record {
     before = copied.before;
     sound = subst (λ (s : ℕ). IsSoundDirectory (home_count_in (layout_before kind) s) (entry_of store.directory)) (sym run.size) copied.sound;
+    few = copied.few;
     found = λ k. subst (λ (image : Image). IsOldStore kind image store) (sym (content_is g old old' (run.touches k))) (copied.found (run.kept k));
     fits = λ f e is. subst (λ s. home_end e ≤ kind_home_count kind s) (sym same) (copied.fits f e is);
   }
 
-  module _ {T : Type 0} (R W : ℕ → Type 0) (old old' : D) (new new' : E) (old_run : RunsOnDevice g Nothing old old') (asks_old : g.keeps_model old' → AsksOnly g R old old') (run : Makes h W new new') where
+  module _ {T : Type 0} (R W : ℕ → Type 0) (old old' : D) (new new' : E) (old_run : RunsOnDevice g Nothing old old') (once_old : g.keeps_model old' → NamesOnce R (g.asked old) (g.asked old')) (run : Makes h W new new') where
     -- all are copied
     pub copies_done : (x : T) → g.failures old' ≡ g.failures old → h.failures new' ≡ h.failures new → CopiesPages g h R W old old' new new' (Ok x)
     copies_done x calm still = record {
       old_run = old_run;
-      asks_old = asks_old;
+      once_old = once_old;
       run = run;
       causes = record {
         old_later = omega (arith, calm);
@@ -115,7 +165,7 @@ module _ {D E : Type 0} (g : Ghosts D) (h : Ghosts E) where
         → g.failures mid ≡ g.failures old → h.failures made ≡ h.failures new → CopiesPages g {T = U} h V X mid old' made new' (Err fault) → CopiesPages g h R W old old' new new' r
     copies_error V X fault r mid made is calm still copies = subst (λ r. CopiesPages g h R W old old' new new' r) (sym (is_this r fault is)) (record {
       old_run = old_run;
-      asks_old = asks_old;
+      once_old = once_old;
       run = run;
       causes = causes_after fault _ _ _ _ _ _ calm still copies.causes;
       others = ⊎_elim (λ e. inl (ap Err (same_Err _ _ e))) (λ e. inr (ap Err (same_Err _ _ e))) copies.others;
@@ -126,7 +176,7 @@ module _ {D E : Type 0} (g : Ghosts D) (h : Ghosts E) where
         → CopiesPages g h R W old old' new new' r
     copies_unread fault r is device failed still = subst (λ r. CopiesPages g h R W old old' new new' r) (sym (is_this r fault is ∙ ap Err device)) (record {
       old_run = old_run;
-      asks_old = asks_old;
+      once_old = once_old;
       run = run;
       causes = record {
         old_later = omega (arith, failed);
@@ -142,7 +192,7 @@ module _ {D E : Type 0} (g : Ghosts D) (h : Ghosts E) where
     pub copies_unwritten : (r : Result T UpgradeFault) → IsErrAnd r (λ f. f ≡ NewDevice) → g.failures old' ≡ g.failures old → h.failures new < h.failures new' → CopiesPages g h R W old old' new new' r
     copies_unwritten r is calm failed = subst (λ r. CopiesPages g h R W old old' new new' r) (sym (is_this r NewDevice is)) (record {
       old_run = old_run;
-      asks_old = asks_old;
+      once_old = once_old;
       run = run;
       causes = record {
         old_later = omega (arith, calm);

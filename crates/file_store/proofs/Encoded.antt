@@ -81,9 +81,7 @@ module _ (f : ℕ) (sector bytes : List ℕ) (size : length sector ≡ 512) (ins
   front = length-take-le (8 * f) sector (omega (arith, size, inside))
 
   before : (i : ℕ) → i < 8 * f → get_or renewed i 0 ≡ get_or sector i 0
-  before i below =
-      get_or_append_left (take (8 * f) sector) (bytes ++ post_of (8 * f) (512 - 8 * f) sector) 0 i (omega (arith, front, below))
-      ∙ get_or-take (8 * f) sector i 0 below
+  before i below = get_or_append_left (take (8 * f) sector) (bytes ++ post_of (8 * f) (512 - 8 * f) sector) 0 i (omega (arith, front, below)) ∙ get_or-take (8 * f) sector i 0 below
 
   here : (i : ℕ) → i < length bytes → get_or renewed (8 * f + i) 0 ≡ get_or bytes i 0
   here i below =
@@ -98,8 +96,7 @@ module _ (f : ℕ) (sector bytes : List ℕ) (size : length sector ≡ 512) (ins
       (λ i below. get_or-drop (8 * g) renewed i 0 ∙ before (8 * g + i) (omega (arith, less, below)) ∙ sym (get_or-drop (8 * g) sector i 0))
 
   pub entry_here : decoded (entry_bytes renewed f) ≡ decoded bytes
-  entry_here = decoded-same (entry_bytes renewed f) bytes
-      (λ i below. get_or-drop (8 * f) renewed i 0 ∙ here i (omega (arith, long, inside, below)))
+  entry_here = decoded-same (entry_bytes renewed f) bytes (λ i below. get_or-drop (8 * f) renewed i 0 ∙ here i (omega (arith, long, inside, below)))
 
   -- behind it zeros stay
   pub zeros_behind : ((i : ℕ) → 8 * f ≤ i → ◌≡◌ {A = ℕ} (get_or sector i 0) 0) → (i : ℕ) → 8 * (f + 1) ≤ i → ◌≡◌ {A = ℕ} (get_or renewed i 0) 0
@@ -115,12 +112,7 @@ module _ (f : ℕ) (sector bytes : List ℕ) (size : length sector ≡ 512) (ins
       ∙ get_or-drop 8 (drop (8 * f) sector) j 0
       ∙ get_or-drop (8 * f) sector (8 + j) 0
       ∙ zero (8 * f + (8 + j)) (omega (arith, at, behind)))
-      (λ past. get_or_past renewed i 0 (omega (
-        arith,
-        past,
-        size,
-        length_put sector bytes (8 * f) (512 - 8 * f) (omega (arith, size, inside)) long,
-      )))
+      (λ past. get_or_past renewed i 0 (omega (arith, past, size, length_put sector bytes (8 * f) (512 - 8 * f) (omega (arith, size, inside)) long)))
       (cases_lt i 512)
 
 -- past the last source there is no file

@@ -29,9 +29,7 @@ good_more homes sector n good zero within apart = record {
 
 pub entries_front : (sector : List ℕ) (entries : List (Option Entry)) (n : ℕ) → n ≤ length entries → AreEntries sector entries n → AreEntries sector (take n entries) (length (take n entries))
 entries_front sector entries n le all = record {
-  each = λ f lt.
-      let lt' : f < n = omega (arith, lt, length-take-le n entries le) in
-      get_or-take n entries f None lt' ∙ all.each f lt';
+  each = λ f lt. let lt' : f < n = omega (arith, lt, length-take-le n entries le) in get_or-take n entries f None lt' ∙ all.each f lt';
 }
 
 pub entries_more : (sector : List ℕ) (entries : List (Option Entry)) (n : ℕ) (e : Option Entry) → n < length entries → AreEntries sector entries n → e ≡ entry_in sector n
@@ -44,8 +42,7 @@ entries_more sector entries n e inside all is = record {
 }
 
 pub entries_all : (sector : List ℕ) (entries : List (Option Entry)) → length entries ≡ 64 → AreEntries sector entries 64 → (f : ℕ) → get_or entries f None ≡ entry_in sector f
-entries_all sector entries size all f = ⊎_elim (all.each f)
-    (λ le. get_or_past entries f None (omega (arith, size, le)) ∙ sym (entry_in-outside sector f le)) (cases_lt f 64)
+entries_all sector entries size all f = ⊎_elim (all.each f) (λ le. get_or_past entries f None (omega (arith, size, le)) ∙ sym (entry_in-outside sector f le)) (cases_lt f 64)
 
 -- a sector of good entries alone is not bad
 pub good_directory : (homes : ℕ) (sector : List ℕ) → AreGood homes sector 64 → IsBadDirectory homes sector → ⊥

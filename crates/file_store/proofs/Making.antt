@@ -1,5 +1,5 @@
 -- How the parts of making a store go on.
-use Rattle.file_store.proofs.Names.{◌≡◌, ◌⊎◌, ◌≤◌, ◌<◌, ℕ, Result, OnOk, sym, subst, ◌∙◌, arith, IsErr, ChangesOnly, Elapses, Names, Ghosts, then, wider, after_write, after_none, asks_then, asks_wider, asks_named, asks_none, IsPageSector}
+use Rattle.file_store.proofs.Names.{◌≡◌, ◌⊎◌, ◌≤◌, ◌<◌, ℕ, Result, OnOk, sym, subst, ◌∙◌, arith, IsErr, ChangesOnly, Elapses, Names, NamesOnce, Ghosts, then, wider, after_write, after_none, asks_then, asks_wider, asks_named, asks_none, IsPageSector}
 use Rattle.file_store.{proofs.Names.{RunsOnDevice}, specs.Making.{Makes, WritesTo, WritesSynced}}
 
 module _ {D : Type 0} (g : Ghosts D) where
@@ -63,9 +63,9 @@ module _ {D : Type 0} (g : Ghosts D) where
   })
 
   -- a part that was written, and one that was synced
-  pub written : {T E : Type 0} (W : ℕ → Type 0) (old new : D) (r : Result T E) → Makes g W old new → (IsErr r → g.failures old < g.failures new) → OnOk r (g.failures new ≡ g.failures old) → WritesTo g W old new r
-  written W old new r run failed calm = record { run = run; failed = failed; calm = calm }
+  pub written : {T E : Type 0} (W : ℕ → Type 0) (old new : D) (r : Result T E) → Makes g W old new → NamesOnce W (g.asked old) (g.asked new) → (IsErr r → g.failures old < g.failures new) → OnOk r (g.failures new ≡ g.failures old) → WritesTo g W old new r
+  written W old new r run once failed calm = record { run = run; once = once; failed = failed; calm = calm }
 
-  pub written_synced : {T E : Type 0} (W : ℕ → Type 0) (old new : D) (r : Result T E) → Makes g W old new → (IsErr r → g.failures old < g.failures new) → OnOk r (g.failures new ≡ g.failures old)
+  pub written_synced : {T E : Type 0} (W : ℕ → Type 0) (old new : D) (r : Result T E) → Makes g W old new → NamesOnce W (g.asked old) (g.asked new) → (IsErr r → g.failures old < g.failures new) → OnOk r (g.failures new ≡ g.failures old)
       → (g.keeps_model new → OnOk r ((k : ℕ) → g.unsynced new k → ⊥)) → WritesSynced g W old new r
-  written_synced W old new r run failed calm synced = record { writes = written W old new r run failed calm; synced = synced }
+  written_synced W old new r run once failed calm synced = record { writes = written W old new r run once failed calm; synced = synced }

@@ -1,8 +1,8 @@
 -- How a new store comes about: a look at the mark, then all but the mark, written and synced, and then the mark.
 use Rattle.file_store.proofs.{Blocks.{behind_more, last_more, first_epoch, made_last, made_marked}, Causes.{is_this, same_Err}, Formats.{while_unmarked, while_marking}, Names.{◌≡◌, ◌⊎◌, ◌≤◌, ℕ, List, Result, Err, Option, inl, inr, ⊎_elim}}
-use Rattle.file_store.{proofs.Names.{sym, ap, subst, IsErrAnd, IsErrOf, Image, MayLeave, Nothing, Touches, AsksOnly, LeavesOnly, Ghosts, then, wider, asks_wider, Journals, Paired, kind_of, RunsOnDevice}, specs.Blocks.{MakesByBlocks}}
+use Rattle.file_store.{proofs.Names.{sym, ap, subst, IsErrAnd, IsErrOf, Image, MayLeave, Nothing, Touches, NamesOnce, LeavesOnly, Ghosts, then, wider, asks_once, Journals, Paired, kind_of, RunsOnDevice}, specs.Blocks.{MakesByBlocks}}
 use Rattle.file_store.specs.{Blocks.{KindBehind, KindLast, MakesByBlocks.{Unmarked}}, Format.{total_pages, IsFrom, IsMarkSector, IsStoreSector, IsTooLarge, HasReader, IsStoreOf}, Formatted.{FormatsStore}, Layout.{turn_mark, IsMark}}
-use Rattle.file_store.specs.{Making.{Makes, HasFormatCauses}, Versions.{version_of, mark_of}, declared.{faults.FormatFault.{FormatFault, TheVariants.{TooLarge, Formatted, Source, Device}}, sources.FileSource.{FileSource}}}
+use Rattle.file_store.specs.{Making.{Makes, HasFormatCauses, LooksFirst}, Versions.{version_of, mark_of}, declared.{faults.FormatFault.{FormatFault, TheVariants.{TooLarge, Formatted, Source, Device}}, sources.FileSource.{FileSource}}}
 
 module _ {D : Type 0} (g : Ghosts D) (kind : Journals) (Whole : Journals → Image → Type 0) (old : D) where
   -- every image of a stop lacks the mark or is whole, of layout 3 also one that spoils whole blocks
@@ -44,12 +44,12 @@ module _ {D : Type 0} (g : Ghosts D) (kind : Journals) (Whole : Journals → Ima
       }
 
 -- a look at the mark asks for no more than a part that asks for it
-pub looked_makes : {D : Type 0} (g : Ghosts D) (W : ℕ → Type 0) (old new : D) → ((k : ℕ) → IsMarkSector k → W k) → RunsOnDevice g Nothing old new → AsksOnly g IsMarkSector old new → Makes g W old new
-looked_makes g W old new mark run asks = record {
+pub looked_makes : {D : Type 0} (g : Ghosts D) (W : ℕ → Type 0) (old new : D) → ((k : ℕ) → IsMarkSector k → W k) → RunsOnDevice g Nothing old new → NamesOnce IsMarkSector (g.asked old) (g.asked new) → Makes g W old new
+looked_makes g W old new mark run once = record {
   size = run.size;
   kept = run.kept;
   later = run.later;
-  asks = asks_wider g IsMarkSector W old new mark asks;
+  asks = asks_once g W IsMarkSector old new mark once;
   touches = λ k. wider g Nothing W old new (λ s none. absurd none) (run.touches k);
 }
 
@@ -66,11 +66,11 @@ when_marking = (λ e. cc, (λ e. cc, λ e. cc))
 -- a format that is refused once the files are known to fit
 module _ {D R T : Type 0} (g : Ghosts D) (kind : Journals) (remaining : R → Option (List ℕ)) (sources : List (FileSource R)) (old new : D) where
   pub format_refused : (fault : FormatFault) (r : Result T FormatFault) → IsErrAnd r (λ f. f ≡ fault) → (IsTooLarge kind (g.sector_count old) sources → ⊥) → (fault ≡ TooLarge → ⊥)
-      → Makes g (IsStoreSector kind (total_pages sources)) old new → HasFormatCauses {T = T} (g.failures old) (g.failures new) (Err fault)
+      → Makes g (IsStoreSector kind (total_pages sources)) old new → LooksFirst (IsStoreSector kind (total_pages sources)) (g.asked old) (g.asked new) → HasFormatCauses {T = T} (g.failures old) (g.failures new) (Err fault)
       → (g.keeps_model new → LeavesNoPart g kind (λ b. IsStoreOf b remaining (g.sector_count old) sources) old new)
       → (g.keeps_model new → fault ≡ Formatted → IsMark (g.content old 0)) → (g.keeps_model new → IsMark (g.content old 0) → (fault ≡ Formatted) ⊎ (fault ≡ Device))
       → (g.keeps_model new → IsMark (g.content old 0) → Touches g Nothing old new) → (fault ≡ Source → HasReader sources) → FormatsStore g kind remaining sources old new r
-  format_refused fault r is fits known run causes leaves formatted marked spared source = subst (λ r. FormatsStore g kind remaining sources old new r) (sym (is_this r fault is)) (record {
+  format_refused fault r is fits known run once causes leaves formatted marked spared source = subst (λ r. FormatsStore g kind remaining sources old new r) (sym (is_this r fault is)) (record {
     ok = λ k. tt;
     marked = λ k. tt;
     synced = λ k. tt;
@@ -81,6 +81,7 @@ module _ {D R T : Type 0} (g : Ghosts D) (kind : Journals) (remaining : R → Op
     kept = run.kept;
     later = run.later;
     asks = run.asks;
+    once = once;
     too_large = (λ e. absurd (known (same_Err _ _ e)), λ large. absurd (fits large));
     formatted = λ k e. formatted k (same_Err _ _ e);
     not_formatted = λ k mark. inr (⊎_elim (λ e. inl (ap Err e)) (λ e. inr (ap Err e)) (marked k mark));

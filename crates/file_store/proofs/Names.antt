@@ -1,6 +1,6 @@
 -- What the proofs of this crate cite of the crates below it and of the standard library: `use Rattle.file_store.proofs.Names.{..}`.
-pub use Rattle.{byteorder.specs.{Endian.{little_bytes}, Numbers.{little_number-reads_back}}, disk_model.proofs.Moments.{asks_wider, asks_then, wider, then, asks_named, goes_on, started, after_write, after_none, asks_none, weaker, stays}}
-pub use Rattle.disk_model.{proofs.{Pages.{length_put}, Pieces.{joined-same, joined_parts}}, specs.{Moments.{AsksOnly, Touches, Nothing, LeavesOnly, LeavesNow}, Sectors.{part_of}, Stop.{Names, Image, MayLeave, Elapses, ChangesOnly}}}
+pub use Rattle.{byteorder.specs.{Endian.{little_bytes}, Numbers.{little_number-reads_back}}, disk_model.proofs.Moments.{asks_once, asks_wider, asks_then, wider, then, asks_named, goes_on, started, after_write, after_none, asks_none, weaker, stays}}
+pub use Rattle.disk_model.{proofs.{Naming.{once_none, once_named, once_apart, once_wider, once_still}, Pages.{length_put}, Pieces.{joined-same, joined_parts}}, specs.{Moments.{AsksOnly, Touches, Nothing, LeavesOnly, LeavesNow}, Sectors.{part_of}, Stop.{Names, NamesOnce, Image, MayLeave, Elapses, ChangesOnly}}}
 pub use Rattle.{disk_model.specs.declared.sector_disk.SectorDisk.{Ghosts}, std.proofs.Common.{ℕ, subst, inr, inl, ◌≡◌, ◌≤◌, ◌∙◌, arith, ⊎_elim, Ok, OnOk, Err, ◌⊎◌, sym, Result, ap, refl, zero, Option, List, map, Some, None, ◌<◌, eqb}}
 pub use Rattle.std.proofs.Common.{slice_get, slice_index, length, suc, cond, ◌≢◌, get_or, ◌+◌, take, false, ◌*◌, drop, ◌/◌, ◌%◌, ◌-◌, [], ◌++◌, set, ◌^◌, replicate, Bool, true, ◌∷◌, length-drop, length-take, rules, drop-drop, min}
 pub use Rattle.std.proofs.lemmas.{Bool.{cases_eq, eq-eqb, cases_lt, cond_both, cond-false, cases_Bool, ne_eqb, cond-true, false≢true, Decides.{nat_tests}}, Grind.{same_number_lists}, List.{get_or-take, length-take-le, length-map}}
@@ -11,7 +11,7 @@ pub use Rattle.{std.specs.{Prelude.{IsErr, IsErrOf, IsSome, IfErr}, Str.{bytes_e
 pub use Rattle.sync_journal.{proofs.{InTurn.{commits_weaker, blocks_weaker}, Maps.{same_number}, Runs.{one_more, read_only}}, specs.{Blocks.{LeavesInBlocks, RecoversInBlocks, MayLeaveBlocks}, Commit.{sector_or}, Gate.{closed_sector}}}
 pub use Rattle.sync_journal.specs.{Journal.{live_homes}, Kinds.{IsStoreAsked, journal_stands, kind_of, StoreStandsForEither, kind_home_count, IsStoreKept, StoreStandsFor, kind_home, kind_homes, kind_standing, IsKindClosed, kind_when}}
 pub use Rattle.sync_journal.specs.Kinds.{IsKindOutside, StoreStandsAs, IsKindBad, IsStoreRecovered, IsStoreClosed, IsBadStore, KeepsStore, IsOutsideOf, IsKindRecovered, store_live, IsStoreRest, journal_kind, AsksEachOnce}
-pub use Rattle.sync_journal.specs.{Layout.{IsPageSector, home_count_in, layout_before, IsGateOrMapIn}, Map.{AreHomes, map_count, IsBadMap, home_in}, OldJournal.{StandsAsListed, old_homes}, Recovering.{RecoversEither}}
+pub use Rattle.sync_journal.specs.{Layout.{IsPageSector, home_count_in, layout_before}, Map.{AreHomes, map_count, IsBadMap, home_in}, OldJournal.{StandsAsListed, old_homes, IsLookedAtIn}, Recovering.{RecoversEither}}
 pub use Rattle.sync_journal.specs.{Resuming.{IsKindResumed, IsStoreResumed, TakesUp, IsLiveAsNamed}, Runs.{RunsOnDevice}, Standing.{standing_in}, Turns.{turn_map, named_in, turn_stands, turn_body, start_of}}
 pub use Rattle.{sync_journal.specs.declared.{faults.RecoverFault.{RecoverFault}, store_journal.{Journals.{Journals, TheVariants.{Single, Paired}}, StoreJournal.{StoreJournal}}}, vm_types.specs.declared.file.FileInfo.{FileInfo}}
 pub use Rattle.vm_types.specs.declared.file.FilePage.{FilePage}

@@ -134,9 +134,7 @@ told_trimmed length k told page is =
     ap (padded_page (bytes_inside length k)) is.page_is ∙ trimmed-trimmed (bytes_inside length k) (drop (4096 * k) is.bytes) small ∙ sym is.page_is
 
 told_size : (n k : ℕ) (told : Option (List ℕ)) (page : List ℕ) → IsTold n k told page → length page ≡ 4096
-told_size n k told page is =
-    let small : bytes_inside n k ≤ 4096 = omega arith in
-    ap length is.page_is ∙ length-trimmed (bytes_inside n k) (drop (4096 * k) is.bytes) small
+told_size n k told page is = let small : bytes_inside n k ≤ 4096 = omega arith in ap length is.page_is ∙ length-trimmed (bytes_inside n k) (drop (4096 * k) is.bytes) small
 
 -- a home that is not written
 pub cut_moves : (kind : Journals) (h inside : ℕ) (given : Option (List ℕ)) (old new : Image) → ((i : ℕ) → i < 8 → new (kind_home kind h + i) ≡ old (kind_home kind h + i))

@@ -1,6 +1,6 @@
 -- Why an upgrade is refused.
 use Rattle.file_store.proofs.{Causes.{is_this, same_Err}, Marking.{LeavesNoPart}, Names.{◌≡◌, ◌⊎◌, ◌≤◌, ℕ, Result, Err, inl, inr, refl, ⊎_elim, sym, ap, subst, ◌∙◌, arith, IsErrAnd, IsErrOf, Image, Nothing, Touches, AsksOnly, Ghosts}}
-use Rattle.file_store.{proofs.Names.{Journals, RunsOnDevice}, specs.{Faults.{old_fault}, Layout.{IsMark}, Standing.{IsBadOldLayout, IsBadOldJournal}, Store.{entry_of}, Upgrade.{old_entry, IsTooSmall, IsOldAsked, IsUpgradeSector}}}
+use Rattle.file_store.{proofs.Names.{Journals, NamesOnce, asks_once, RunsOnDevice}, specs.{Faults.{old_fault}, Layout.{IsMark}, Standing.{IsBadOldLayout, IsBadOldJournal}, Store.{entry_of}, Upgrade.{old_entry, IsTooSmall, IsOldAsked, IsUpgradeSector}}}
 use Rattle.file_store.specs.{Upgrade.{IsUpgradeOf, HasUpgradeCauses, IsTooSmall.{FewSectors, FewHomes}}, Upgraded.{HasRoomFor, HasCheckCauses, UpgradesStore}, declared.{directory.Directory.{Directory}, faults.OpenFault.{OpenFault}}}
 use Rattle.file_store.specs.declared.faults.{OpenFault.TheVariants.{Device, BadJournal}, UpgradeFault.{UpgradeFault, TheVariants.{OldDevice, OldLayout, OldJournal, NewDevice, NewSmall, Formatted}}}
 
@@ -43,7 +43,7 @@ causes_checked fault a b x y calm other later causes = record {
 
 module _ {D E T : Type 0} (g : Ghosts D) (h : Ghosts E) (kind : Journals) (old old' : D) (new new' : E) where
   pub upgrade_refused : (fault : UpgradeFault) (r : Result T UpgradeFault) → IsErrAnd r (λ f. f ≡ fault) → RunsOnDevice g Nothing old old' → h.sector_count new' ≡ h.sector_count new → (h.keeps_model new' → h.keeps_model new)
-      → (g.keeps_model old' → AsksOnly g (IsOldAsked kind (g.content old)) old old') → (g.keeps_model old' → AsksOnly h (IsUpgradeSector kind (g.content old)) new new')
+      → (g.keeps_model old' → NamesOnce (IsOldAsked kind (g.content old)) (g.asked old) (g.asked old')) → (g.keeps_model old' → AsksOnly h (IsUpgradeSector kind (g.content old)) new new')
       → HasUpgradeCauses {T = T} (g.failures old) (g.failures old') (h.failures new) (h.failures new') (Err fault)
       → (g.keeps_model old' → h.keeps_model new' → LeavesNoPart h kind (λ b. IsUpgradeOf b (g.sector_count old) (h.sector_count new) (g.content old)) new new')
       → (g.keeps_model old' → fault ≡ OldLayout → IsBadOldLayout kind (g.sector_count old) (g.content old))
@@ -55,7 +55,7 @@ module _ {D E T : Type 0} (g : Ghosts D) (h : Ghosts E) (kind : Journals) (old o
       → (h.keeps_model new' → fault ≡ Formatted → IsMark (h.content new 0)) → (h.keeps_model new' → IsMark (h.content new 0) → Touches h Nothing new new')
       → (h.keeps_model new' → (fault ≡ OldLayout) ⊎ ((fault ≡ OldJournal) ⊎ ((fault ≡ NewSmall) ⊎ (fault ≡ Formatted))) → Touches h Nothing new new')
       → UpgradesStore g h kind old old' new new' r
-  upgrade_refused fault r is run size kept asks_old asks causes leaves old_layout good_layout old_journal good_journal new_small large formatted marked unwritten =
+  upgrade_refused fault r is run size kept once_old asks causes leaves old_layout good_layout old_journal good_journal new_small large formatted marked unwritten =
       subst (λ r. UpgradesStore g h kind old old' new new' r) (sym (is_this r fault is)) (record {
         ok = λ k k'. tt;
         marked = λ k. tt;
@@ -67,7 +67,8 @@ module _ {D E T : Type 0} (g : Ghosts D) (h : Ghosts E) (kind : Journals) (old o
         old_kept = run.kept;
         kept = kept;
         only_read = run.touches;
-        asks_old = asks_old;
+        asks_old = λ k. asks_once g (IsOldAsked kind (g.content old)) (IsOldAsked kind (g.content old)) old old' (λ s at. at) (once_old k);
+        once_old = once_old;
         asks = asks;
         old_layout = λ k e. old_layout k (same_Err _ _ e);
         good_layout = λ k bad. ⊎_elim (λ e. inl (ap Err e)) (λ e. inr (ap Err e)) (good_layout k bad);

@@ -8,9 +8,7 @@ pub total_pages-rest : {R : Type 0} (sources : List (FileSource R)) (f : ℕ) (s
 unfolding total_pages
 total_pages-rest [] f source lt is = absurd (omega (arith, lt))
 total_pages-rest (s ∷ sources) zero source lt is = ap (λ x. pages_of_length x.length + total_pages sources) (sym is)
-total_pages-rest (s ∷ sources) (suc f) source lt is =
-    let more : suc f + 1 ≡ suc (f + 1) = omega arith in
-    rw more (total_pages-rest sources f source (omega (arith, lt)) is)
+total_pages-rest (s ∷ sources) (suc f) source lt is = let more : suc f + 1 ≡ suc (f + 1) = omega arith in rw more (total_pages-rest sources f source (omega (arith, lt)) is)
 
 -- no file is behind the last
 pub total_pages-end : {R : Type 0} (sources : List (FileSource R)) (f : ℕ) → length sources ≤ f → total_pages (drop f sources) ≡ 0

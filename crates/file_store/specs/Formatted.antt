@@ -10,7 +10,7 @@ use Rattle.file_store.specs.declared.sources.FileSource.{FileSource}
 use Rattle.file_store.specs.Blocks.{MakesByBlocks}
 use Rattle.file_store.specs.Format.{total_pages, AreWhole, HasReader, IsTooLarge, IsStoreSector, IsStoreOf, IsStoreIfMarked, IsStoreIfPaired}
 use Rattle.file_store.specs.Layout.{IsMark}
-use Rattle.file_store.specs.Making.{HasFormatCauses}
+use Rattle.file_store.specs.Making.{HasFormatCauses, LooksFirst}
 use Rattle.file_store.specs.Versions.{version_at, mark_of}
 
 module _ {D : Type 0} (g : Ghosts D) where
@@ -31,11 +31,13 @@ module _ {D : Type 0} (g : Ghosts D) where
       -- layout 3 with its mark is the store.
       pub blocks : g.keeps_model new → ((k : ℕ) → g.unsynced old k → ⊥) → (IsMark (g.content old 0) → ⊥) → kind ≡ Paired
           → MakesByBlocks g (IsStoreIfPaired remaining (g.sector_count old) sources) old new
-      -- The device keeps its size, and no sector is asked for but the mark, the kind, directory, gate and first map, and the homes of the files.
+      -- The device keeps its size, and no sector is asked for but the mark, the kind, directory, gate and first map, and the homes of the files:
+      -- the mark is looked at, and then each of them asked for once at most.
       pub size : g.sector_count new ≡ g.sector_count old
       pub kept : g.keeps_model new → g.keeps_model old
       pub later : g.failures old ≤ g.failures new
       pub asks : AsksOnly g (IsStoreSector kind (total_pages sources)) old new
+      pub once : LooksFirst (IsStoreSector kind (total_pages sources)) (g.asked old) (g.asked new)
       -- It is refused with `TooLarge` exactly where the files are too many or too large,
       pub too_large : IsErrOf result TooLarge ↔ IsTooLarge kind (g.sector_count old) sources
       -- with `Formatted` exactly where there is a mark, unless the device fails first,

@@ -1,6 +1,6 @@
 -- What a part of making a store does to the device of the new store.
 use Rattle.std.specs.Prelude.{ℕ, ◌<◌, ◌≤◌, ◌≡◌, ◌⊎◌, Result, OnOk, OnErr, IsErr, IsErrOf}
-use Rattle.disk_model.specs.Stop.{Image}
+use Rattle.disk_model.specs.Stop.{Image, NamesOnce}
 use Rattle.disk_model.specs.Moments.{Touches, AsksOnly}
 use Rattle.disk_model.specs.declared.sector_disk.SectorDisk.{Ghosts}
 use Rattle.sync_journal.specs.declared.store_journal.Journals.{Journals}
@@ -8,6 +8,7 @@ use Rattle.sync_journal.specs.declared.store_journal.Journals.TheVariants.{Paire
 use Rattle.file_store.specs.declared.faults.FormatFault.{FormatFault}
 use Rattle.file_store.specs.declared.faults.FormatFault.TheVariants.{Source, Device}
 use Rattle.file_store.specs.Blocks.{KindBehind, KindLast}
+use Rattle.file_store.specs.Format.{IsMarkSector}
 
 -- Calls were made that asked for sectors of W alone, and wrote to no other.
 pub record Makes {D : Type 0} (g : Ghosts D) (W : ℕ → Type 0) (old new : D) : Type 0 where
@@ -16,6 +17,12 @@ pub record Makes {D : Type 0} (g : Ghosts D) (W : ℕ → Type 0) (old new : D) 
   pub later : g.failures old ≤ g.failures new
   pub asks : AsksOnly g W old new
   pub touches : g.keeps_model new → Touches g W old new
+
+-- The mark was looked at once at most, and then sectors of W asked for, each once at most.
+pub record LooksFirst (W : ℕ → Type 0) (before now : ℕ → ℕ) : Type 0 where
+  pub looked : ℕ → ℕ
+  pub looks : NamesOnce IsMarkSector before looked
+  pub makes : NamesOnce W looked now
 
 -- Of the faults of a format, `Device` is told exactly where the device failed in this call.
 pub record HasFormatCauses {T : Type 0} (before now : ℕ) (result : Result T FormatFault) : Type 0 where
@@ -27,8 +34,9 @@ module _ {D : Type 0} (g : Ghosts D) where
   module _ {T E : Type 0} where
     -- Sectors of W are written:
     pub record WritesTo (W : ℕ → Type 0) (old new : D) (result : Result T E) : Type 0 where
-      -- no other is asked for or written,
+      -- no other is asked for or written, and none asked for twice,
       pub run : Makes g W old new
+      pub once : NamesOnce W (g.asked old) (g.asked new)
       -- and an error is told exactly where the device failed.
       pub failed : IsErr result → g.failures old < g.failures new
       pub calm : OnOk result (g.failures new ≡ g.failures old)
@@ -50,8 +58,9 @@ module _ {D : Type 0} (g : Ghosts D) where
   module _ {T : Type 0} where
     -- Homes in sectors of W are filled from readers:
     pub record FillsHomes (W : ℕ → Type 0) (HasBytes AreTold : Type 0) (old new : D) (result : Result T FormatFault) : Type 0 where
-      -- no other sector is asked for or written,
+      -- no other sector is asked for or written, and none asked for twice,
       pub run : Makes g W old new
+      pub once : NamesOnce W (g.asked old) (g.asked new)
       -- `Device` is told exactly where the device failed,
       pub causes : HasFormatCauses (g.failures old) (g.failures new) result
       pub open causes use *

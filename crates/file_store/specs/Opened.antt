@@ -1,5 +1,5 @@
 -- What a look at a layout tells, and what an opening makes of it.
-use Rattle.std.specs.Prelude.{ℕ, ◌<◌, ◌≤◌, ◌≡◌, ◌⊎◌, false, List, [], Result, OnOk, OnErr, IsErrOf}
+use Rattle.std.specs.Prelude.{ℕ, ◌<◌, ◌≤◌, ◌≡◌, ◌⊎◌, false, List, [], length, Result, OnOk, OnErr, IsErrOf}
 use Rattle.disk_model.specs.Stop.{Image}
 use Rattle.disk_model.specs.Moments.{Touches, AsksOnly, Nothing, LeavesOnly, LeavesNow}
 use Rattle.disk_model.specs.declared.sector_disk.SectorDisk.{Ghosts}
@@ -7,6 +7,7 @@ use Rattle.sync_journal.specs.declared.store_journal.Journals.{Journals}
 use Rattle.sync_journal.specs.declared.store_journal.Journals.TheVariants.{Paired}
 use Rattle.sync_journal.specs.Layout.{layout_before, home_count_in}
 use Rattle.sync_journal.specs.Kinds.{is_kind, kind_of, kind_homes, kind_home_count, store_live, IsStoreClosed, IsStoreRecovered, StoreStandsAs, KeepsStore}
+use Rattle.sync_journal.specs.OldJournal.{old_homes}
 use Rattle.sync_journal.specs.Runs.{RunsOnDevice}
 use Rattle.file_store.specs.declared.directory.Directory.{Directory}
 use Rattle.file_store.specs.declared.faults.OpenFault.{OpenFault}
@@ -73,6 +74,8 @@ module _ {D : Type 0} (g : Ghosts D) where
     -- its files have their homes within it, each its own, and its directory is no kind,
     pub sound : IsSoundDirectory (home_count_in (layout_before journals) (g.sector_count old)) (entry_of store.directory)
     pub no_kind : is_kind store.sector ≡ false
+    -- its journal names no more homes than it has room for,
+    pub few : length (old_homes store.journal) ≤ (layout_before journals).most
     -- it is what the image says,
     pub found : g.keeps_model new → IsOldStore journals (g.content old) store
     -- and layout and journal are good.
@@ -100,8 +103,9 @@ module _ {D : Type 0} (g : Ghosts D) where
     -- it may be read and committed to, and its files' numbers and lengths are in their bounds,
     pub ready : IsReadyStore g store
     pub bounded : AreBounded (files_of store)
-    -- nothing stands in a journal alone any more, and nothing is unsynced;
+    -- nothing stands in a journal alone any more, on the device neither, so that the next opening writes nothing, and nothing is unsynced;
     pub closed : store_live store.journal ≡ []
+    pub emptied : g.keeps_model store.disk → IsStoreClosed (g.content store.disk)
     pub synced : g.keeps_model store.disk → (k : ℕ) → g.unsynced store.disk k → ⊥
     -- its image was that of a store,
     pub good_layout : g.keeps_model store.disk → IsBadLayout (g.sector_count old) (g.content old) → ⊥

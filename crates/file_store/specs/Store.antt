@@ -4,7 +4,7 @@ use Rattle.std.specs.Option.{option_map}
 use Rattle.vm_types.specs.declared.file.FileInfo.{FileInfo}
 use Rattle.disk_model.specs.declared.sector_disk.SectorDisk.{Ghosts}
 use Rattle.sync_journal.specs.Layout.{IsPageSector}
-use Rattle.sync_journal.specs.Kinds.{kind_homes, kind_home_count, journal_kind, journal_stands, store_live, IsOutsideOf, IsStoreRest, StoreStandsAs}
+use Rattle.sync_journal.specs.Kinds.{kind_homes, kind_home_count, journal_kind, journal_stands, store_live, IsOutsideOf, IsStoreClosed, IsStoreRest, StoreStandsAs}
 use Rattle.sync_journal.specs.Map.{AreHomes}
 use Rattle.sync_journal.specs.declared.store_journal.StoreJournal.{StoreJournal}
 use Rattle.file_store.specs.declared.directory.Entry.{Entry}
@@ -89,6 +89,7 @@ module _ {D : Type 0} (g : Ghosts D) where
     pub journal : g.keeps_model new → IsBadJournal (g.sector_count old) (g.content old) → ⊥
     pub stands : g.keeps_model new → LeavesNow g new (StoreStandsAs (g.sector_count old) (g.content old))
     pub synced : g.keeps_model new → (k : ℕ) → g.unsynced new k → ⊥
+    pub emptied : g.keeps_model new → IsStoreClosed (g.content new)
     pub calm : g.failures new ≡ g.failures old
 
   module _ {T E : Type 0} where

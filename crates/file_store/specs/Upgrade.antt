@@ -4,11 +4,11 @@ use Rattle.sync_journal.specs.declared.store_journal.Journals.{Journals}
 use Rattle.vm_types.specs.Limits.{file_limit}
 use Rattle.vm_types.specs.declared.file.FileInfo.{FileInfo}
 use Rattle.disk_model.specs.Stop.{Image}
-use Rattle.sync_journal.specs.Layout.{layout_before, IsPageSector, IsGateOrMapIn}
+use Rattle.sync_journal.specs.Layout.{layout_before, IsPageSector}
 use Rattle.sync_journal.specs.Gate.{is_open}
 use Rattle.sync_journal.specs.declared.store_journal.Journals.TheVariants.{Paired}
 use Rattle.sync_journal.specs.Kinds.{kind_of, kind_homes, kind_home, kind_home_count}
-use Rattle.sync_journal.specs.OldJournal.{old_homes, StandsAsListed}
+use Rattle.sync_journal.specs.OldJournal.{old_homes, StandsAsListed, IsLookedAtIn}
 use Rattle.sync_journal.specs.Standing.{standing_in, standing_under, map_in}
 use Rattle.file_store.specs.Versions.{version_before, version_of, directory_of, mark_of}
 use Rattle.file_store.specs.declared.directory.Entry.{Entry}
@@ -85,12 +85,13 @@ IsOldEntry kind image (Some e) k = IsOldPage kind image e (pages_of_length e.inf
 abbrev pub IsOldFile : Journals → Image → ℕ → Type 0
 IsOldFile kind image k = (f : ℕ) × IsOldEntry kind image (old_entry kind image f) k
 
--- what an upgrade asks of the old store: mark and directory, gate and map, and the pages of the files where they stand
-abbrev pub IsOldHead : Journals → ℕ → Type 0
-IsOldHead kind k = IsHeadIn (version_before kind) k ⊎ IsGateOrMapIn (layout_before kind) k
+-- what an upgrade asks of the old store: mark and directory, the gate and where it is open the map, and the pages of the files
+-- where they stand
+abbrev pub IsOldHead : Journals → Image → ℕ → Type 0
+IsOldHead kind image k = IsHeadIn (version_before kind) k ⊎ IsLookedAtIn (layout_before kind) image k
 
 abbrev pub IsOldAsked : Journals → Image → ℕ → Type 0
-IsOldAsked kind image k = IsOldHead kind k ⊎ IsOldFile kind image k
+IsOldAsked kind image k = IsOldHead kind image k ⊎ IsOldFile kind image k
 
 -- The image has all of an upgraded store but the mark: the directory as it was, a gate of zeros, and the homes.
 pub record IsUnmarkedUpgrade (kind : Journals) (old image : Image) : Type 0 where

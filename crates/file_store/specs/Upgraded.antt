@@ -1,11 +1,13 @@
 -- What an upgrade does: from the device of the old store to that of the new one.
-use Rattle.std.specs.Prelude.{ℕ, ◌<◌, ◌≤◌, ◌≡◌, ◌⊎◌, Some, Result, OnOk, OnErr, IsErr, IsErrOf}
+use Rattle.std.specs.Prelude.{ℕ, ◌<◌, ◌≤◌, ◌≡◌, ◌⊎◌, Some, length, Result, OnOk, OnErr, IsErr, IsErrOf}
+use Rattle.disk_model.specs.Stop.{NamesOnce}
 use Rattle.disk_model.specs.Moments.{Touches, AsksOnly, Nothing, LeavesOnly}
 use Rattle.disk_model.specs.declared.sector_disk.SectorDisk.{Ghosts}
 use Rattle.sync_journal.specs.declared.store_journal.Journals.{Journals}
 use Rattle.sync_journal.specs.declared.store_journal.Journals.TheVariants.{Paired}
 use Rattle.sync_journal.specs.Layout.{layout_before, home_count_in}
 use Rattle.sync_journal.specs.Kinds.{kind_homes, kind_home_count}
+use Rattle.sync_journal.specs.OldJournal.{old_homes}
 use Rattle.sync_journal.specs.Runs.{RunsOnDevice}
 use Rattle.file_store.specs.declared.directory.Directory.{Directory}
 use Rattle.file_store.specs.declared.directory.Entry.{Entry}
@@ -41,6 +43,8 @@ module _ {D : Type 0} (g : Ghosts D) where
     pub before : store.journal.journals ≡ kind
     -- its files have their homes within it, each its own,
     pub sound : IsSoundDirectory (home_count_in (layout_before kind) (g.sector_count old)) (entry_of store.directory)
+    -- its journal names no more homes than it has room for,
+    pub few : length (old_homes store.journal) ≤ (layout_before kind).most
     -- it is what the image says,
     pub found : g.keeps_model old → IsOldStore kind (g.content old) store
     -- and the homes of each file end within the new device.
@@ -57,9 +61,9 @@ module _ {D : Type 0} (g : Ghosts D) where
   module _ {T E : Type 0} (h : Ghosts E) where
     -- Pages are copied from a device to another:
     pub record CopiesPages (Read Written : ℕ → Type 0) (old old' : D) (new new' : E) (result : Result T UpgradeFault) : Type 0 where
-      -- the first is only read, and only where they stand,
+      -- the first is only read, only where they stand, and each sector once,
       pub old_run : RunsOnDevice g Nothing old old'
-      pub asks_old : g.keeps_model old' → AsksOnly g Read old old'
+      pub once_old : g.keeps_model old' → NamesOnce Read (g.asked old) (g.asked old')
       -- no sector of the second is asked for or written but those that they go to,
       pub run : Makes h Written new new'
       -- and a fault is told exactly where the device that it names failed, and no other fault.
@@ -86,9 +90,10 @@ module _ {D : Type 0} (g : Ghosts D) where
       pub old_kept : g.keeps_model old' → g.keeps_model old
       pub kept : h.keeps_model new' → h.keeps_model new
       pub only_read : g.keeps_model old' → Touches g Nothing old old'
-      -- Of the old one mark, directory, gate and map are asked for, and each page of a file where it stands; of the new one mark, kind, directory,
-      -- gate and first map, and the homes of the files.
+      -- Of the old one mark, directory, gate and where that is open the map are asked for, and each page of a file where it stands, no sector twice;
+      -- of the new one mark, kind, directory, gate and first map, and the homes of the files.
       pub asks_old : g.keeps_model old' → AsksOnly g (IsOldAsked kind (g.content old)) old old'
+      pub once_old : g.keeps_model old' → NamesOnce (IsOldAsked kind (g.content old)) (g.asked old) (g.asked old')
       pub asks : g.keeps_model old' → AsksOnly h (IsUpgradeSector kind (g.content old)) new new'
       -- It is refused with `OldLayout` exactly where the old image has no layout of the kind before, unless a device fails first,
       pub old_layout : g.keeps_model old' → IsErrOf result OldLayout → IsBadOldLayout kind (g.sector_count old) (g.content old)

@@ -6,9 +6,9 @@ ghost use Rattle.file_store.specs.declared.directory.Entry.{Entry};
 ghost use Rattle.file_store.specs.Layout.{pages_of_length};
 ghost use Rattle.file_store.specs.Directory.{decoded, entry_in, home_end, IsHomeOf, IsZero, IsBadDirectory, IsNextOf, AreGood, AreEntries};
 
-use crate::layout::{FILES, PAGE_BYTES};
+use crate::layout::PAGE_BYTES;
 use byteorder::{ByteOrder, LittleEndian};
-use vm_types::{FileInfo, FilePage};
+use vm_types::{FILES, FileInfo, FilePage};
 
 /// Bit 31 of an entry's first number: the file is there.
 const PRESENT: u32 = 1 << 31;

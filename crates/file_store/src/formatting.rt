@@ -1,7 +1,8 @@
 //! New stores.
 ghost use Rattle.std.specs.Prelude.{◌≡◌, ◌+◌, ◌<◌, ◌≤◌, ◌⊎◌, ℕ, List, Some, false, OnOk, OnErr, IsErrOf, IsSome, length};
 ghost use Rattle.vm_types.specs.Limits.{file_limit};
-ghost use Rattle.disk_model.specs.Moments.{AsksOnly, Nothing};
+ghost use Rattle.disk_model.specs.Stop.{NamesOnce};
+ghost use Rattle.disk_model.specs.Moments.{Nothing};
 ghost use Rattle.sync_journal.specs.declared.store_journal.Journals.TheVariants.{Single, Paired};
 ghost use Rattle.sync_journal.specs.Kinds.{turn_kind, is_kind, kind_homes, kind_home_count};
 ghost use Rattle.sync_journal.specs.Runs.{RunsOnDevice};
@@ -13,12 +14,12 @@ ghost use Rattle.file_store.specs.Blocks.{KindBehind, KindLast};
 ghost use Rattle.file_store.specs.Making.{HasFormatCauses, WritesTo, WritesSynced, WritesKindLast, FillsHomes};
 
 use crate::faults::FormatFault;
-use crate::layout::{GATE, KIND_SECTOR, MARK_SECTOR, TURN_MAP};
+use crate::layout::{KIND_SECTOR, MARK_SECTOR};
 use crate::sources::{FileSource, directory_of, is_too_large};
 use crate::version::{Version, first_home, is_any_mark};
 use disk_model::{DiskFault, SECTOR_BYTES, SectorDisk};
 use std::io::Read;
-use sync_journal::{Journals, PAGE_SECTORS, TURN_GATE, write_page};
+use sync_journal::{FIRST_MAP, GATE, Journals, PAGE_SECTORS, TURN_GATE, write_page};
 
 /// Makes a store of these files, which get numbers and homes in the order of the sources. Homes, directory and a
 /// closed gate are written and synced before the layout mark is, so that a stop leaves an image without the mark or a
@@ -49,7 +50,7 @@ pub fn format<D: SectorDisk, R: Read>(
 fn check_unmarked<D: SectorDisk>(disk: &mut D) -> Result<(), FormatFault>
     requires { 0 < D.sector_count disk.old }
     ensures run { RunsOnDevice D.SectorDisk Nothing disk.old disk.new }
-    ensures asks { AsksOnly D.SectorDisk IsMarkSector disk.old disk.new }
+    ensures once { NamesOnce IsMarkSector (D.asked disk.old) (D.asked disk.new) }
     ensures unmarked { D.keeps_model disk.new → OnOk result (IsMark (D.content disk.old 0) → ⊥) }
     ensures marked { D.keeps_model disk.new → IsErrOf result FormatFault.Formatted → IsMark (D.content disk.old 0) }
     ensures causes { HasFormatCauses (D.failures disk.old) (D.failures disk.new) result }
@@ -169,7 +170,7 @@ fn write_tables<D: SectorDisk>(
 {
     disk.write(Version::Three.directory(), directory)?;
     disk.write(TURN_GATE, &[0; SECTOR_BYTES])?;
-    disk.write(TURN_MAP, &[0; SECTOR_BYTES])
+    disk.write(FIRST_MAP, &[0; SECTOR_BYTES])
 }
 
 /// Writes the kind of layout 3, and syncs.

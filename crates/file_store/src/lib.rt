@@ -47,6 +47,7 @@ mod version;
 
 pub use faults::{FormatFault, OpenFault, UpgradeFault};
 pub use formatting::format;
+pub use layout::{DIRECTORY_SECTOR, KIND_SECTOR, MARK_SECTOR, TURN_DIRECTORY};
 pub use opening::stops_in_a_row;
 pub use sources::{FileSource, image_bytes};
 pub use store::FileStore;

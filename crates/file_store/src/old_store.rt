@@ -1,7 +1,6 @@
 //! A store from which one of the next layout is made, and which is only read.
 ghost use Rattle.std.specs.Prelude.{◌≡◌, ◌<◌, ◌+◌, Some, IfOk, OnOk, OnErr, IsErrOf};
-ghost use Rattle.disk_model.specs.Moments.{AsksOnly};
-ghost use Rattle.disk_model.specs.Stop.{Names};
+ghost use Rattle.disk_model.specs.Stop.{Names, NamesOnce};
 ghost use Rattle.sync_journal.specs.Layout.{layout_before, home_count_in, IsPageSector};
 ghost use Rattle.sync_journal.specs.Standing.{standing_in};
 ghost use Rattle.file_store.specs.Opened.{LooksAt, IsOldFound};
@@ -38,7 +37,7 @@ impl OldStore {
         journals: Journals,
     ) -> Result<OldStore, OpenFault>
         ensures looks { LooksAt D.SectorDisk disk.old disk.new result }
-        ensures asks { AsksOnly D.SectorDisk (IsOldHead journals) disk.old disk.new }
+        ensures once { D.keeps_model disk.new → NamesOnce (IsOldHead journals (D.content disk.old)) (D.asked disk.old) (D.asked disk.new) }
         ensures found { IfOk result (λ store. IsOldFound D.SectorDisk journals disk.old disk.new store) }
         ensures bad_layout { D.keeps_model disk.new → IsErrOf result OpenFault.BadLayout → IsBadOldLayout journals (D.sector_count disk.old) (D.content disk.old) }
         ensures bad_journal { D.keeps_model disk.new → IsErrOf result OpenFault.BadJournal

@@ -1,7 +1,7 @@
 //! A store found on a device.
 ghost use Rattle.std.specs.Prelude.{◌≡◌, ◌<◌, ◌≤◌, ◌⊎◌, ℕ, IfOk, IfErr, MatchResult, OnOk};
 ghost use Rattle.vm_types.specs.Limits.{file_limit};
-ghost use Rattle.disk_model.specs.Stop.{Image};
+ghost use Rattle.disk_model.specs.Stop.{Image, NamesOnce};
 ghost use Rattle.disk_model.specs.Moments.{AsksOnly};
 ghost use Rattle.sync_journal.specs.Layout.{first_home_sector};
 ghost use Rattle.sync_journal.specs.declared.store_journal.Journals.TheVariants.{Single, Paired};
@@ -131,7 +131,7 @@ fn read_directory<D: SectorDisk>(
 ) -> Result<Directory, OpenFault>
     requires room { homes_of version ≤ D.sector_count disk.old }
     ensures looks { LooksFor D.SectorDisk (IsBadDirectory (home_pages_of version (D.sector_count disk.old)) (D.content disk.old (directory_of version))) disk.old disk.new result }
-    ensures asks { AsksOnly D.SectorDisk (λ k. k ≡ directory_of version) disk.old disk.new }
+    ensures once { NamesOnce (λ k. k ≡ directory_of version) (D.asked disk.old) (D.asked disk.new) }
     ensures found { IfOk result (λ directory. IsDirectoryIn D.SectorDisk version disk.old disk.new sector.new directory) }
     ensures good { D.keeps_model disk.new → OnOk result (AreGood (home_pages_of version (D.sector_count disk.old)) (D.content disk.old (directory_of version)) file_limit) }
 {
@@ -147,7 +147,7 @@ pub(crate) fn read_layout<D: SectorDisk>(
     sector: &mut [u8; SECTOR_BYTES],
 ) -> Result<Directory, OpenFault>
     ensures looks { LooksFor D.SectorDisk (IsBadLayoutIn version (D.sector_count disk.old) (D.content disk.old)) disk.old disk.new result }
-    ensures asks { AsksOnly D.SectorDisk (IsHeadIn version) disk.old disk.new }
+    ensures once { NamesOnce (IsHeadIn version) (D.asked disk.old) (D.asked disk.new) }
     ensures room { OnOk result (homes_of version ≤ D.sector_count disk.old) }
     ensures found { IfOk result (λ directory. IsDirectoryIn D.SectorDisk version disk.old disk.new sector.new directory) }
     ensures good { D.keeps_model disk.new → OnOk result (IsBadLayoutIn version (D.sector_count disk.old) (D.content disk.old) → ⊥) }

@@ -8,12 +8,12 @@ ghost use Rattle.file_store.specs.Format.{info_of, total_pages, IsPageRead, IsTo
 
 use crate::directory::Entry;
 use crate::faults::FormatFault;
-use crate::layout::{FILES, PAGE_BYTES};
+use crate::layout::PAGE_BYTES;
 use crate::version::{first_home, homes};
 use disk_model::SECTOR_BYTES;
 use std::io::Read;
 use sync_journal::{Journals, MAX_HOMES};
-use vm_types::FileInfo;
+use vm_types::{FILES, FileInfo};
 
 /// A file of a new store: its length in bytes, whether it may only be read, and the reader whose first `length` bytes
 /// it has. Without a reader it has `length` zero bytes.

@@ -1,9 +1,10 @@
 //! Stores of layout 1, made anew in layout 2 or 3.
-ghost use Rattle.std.specs.Prelude.{◌≡◌, ◌<◌, ◌≤◌, ◌⊎◌, ℕ, Some, false, OnOk, IsErrOf};
+ghost use Rattle.std.specs.Prelude.{◌≡◌, ◌<◌, ◌≤◌, ◌⊎◌, ℕ, length, Some, false, OnOk, IsErrOf};
 ghost use Rattle.vm_types.specs.Limits.{file_limit};
 ghost use Rattle.disk_model.specs.Moments.{AsksOnly, Nothing};
 ghost use Rattle.sync_journal.specs.Layout.{layout_before, home_count_in};
 ghost use Rattle.sync_journal.specs.Kinds.{is_kind, kind_homes, kind_home_count};
+ghost use Rattle.sync_journal.specs.OldJournal.{old_homes};
 ghost use Rattle.sync_journal.specs.Runs.{RunsOnDevice};
 ghost use Rattle.file_store.specs.declared.directory.Entry.{Entry as AnEntry};
 ghost use Rattle.file_store.specs.Directory.{home_end};
@@ -17,11 +18,12 @@ ghost use Rattle.file_store.specs.Upgraded.{HasCheckCauses, HasRoomFor, IsCopiab
 use crate::directory::{Directory, Entry};
 use crate::faults::UpgradeFault;
 use crate::formatting::{write_layout, write_mark};
-use crate::layout::{FILES, MARK_SECTOR};
+use crate::layout::MARK_SECTOR;
 use crate::old_store::OldStore;
 use crate::version::{first_home, homes, is_any_mark};
 use disk_model::{SECTOR_BYTES, SectorDisk};
 use sync_journal::{Journals, PAGE_SECTORS, write_page};
+use vm_types::FILES;
 
 /// Makes a store on `new` that stands for what a store on `old` stands for: of one of layout 1 one of layout 2, and of one of
 /// layout 2 one of layout 3. It has the same directory, byte for byte, and each page of each file in the same home, with
@@ -137,6 +139,7 @@ fn copy_file<D: SectorDisk, E: SectorDisk>(
     journals: Journals,
 ) -> Result<(), UpgradeFault>
     requires before { store.now.journal.journals ≡ journals }
+    requires few { length (old_homes store.now.journal) ≤ (layout_before journals).most }
     requires within { home_end entry ≤ home_count_in (layout_before journals) (D.sector_count old.old) }
     requires found { D.keeps_model old.old → IsOldStore journals (D.content old.old) store.now }
     requires fits { home_end entry ≤ kind_home_count journals (E.sector_count new.old) }

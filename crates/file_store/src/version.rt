@@ -4,6 +4,7 @@ ghost use Rattle.sync_journal.specs.Kinds.{is_kind, kind_homes, kind_home_count,
 ghost use Rattle.file_store.specs.Layout.{IsMark};
 ghost use Rattle.file_store.specs.Versions.{version_at, version_before, homes_of, home_pages_of, directory_of, mark_of};
 
+use crate::layout::{DIRECTORY_SECTOR, TURN_DIRECTORY};
 use sync_journal::{
     FIRST_HOME, Journals, OLD_FIRST_HOME, TURN_HOMES, home_count, old_home_count, turn_home_count,
 };
@@ -99,8 +100,8 @@ impl Version {
         ensures head { result ≤ 9 }
     {
         match self {
-            Version::One | Version::Two => 1,
-            Version::Three => 9,
+            Version::One | Version::Two => DIRECTORY_SECTOR,
+            Version::Three => TURN_DIRECTORY,
         }
     }
 

@@ -4,5 +4,5 @@
 mod memory;
 mod role;
 
-pub use memory::{FRAME_BYTES, Frames};
+pub use memory::Frames;
 pub use role::Role;

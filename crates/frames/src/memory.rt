@@ -7,10 +7,7 @@ use crate::role::Role;
 use byteorder::{ByteOrder, LittleEndian};
 use std::alloc::{AllocError, Global};
 use std::marker::Model;
-use vm_types::{FrameNo, NoFree, PAGE_BYTES};
-
-/// Bytes of a frame.
-pub const FRAME_BYTES: usize = PAGE_BYTES;
+use vm_types::{FrameNo, NoFree};
 
 /// Physical memory of 8 to 65,536 frames of 4,096 bytes. Frame 0 is the zero page: it is never handed out and never
 /// written. In contracts it is the bytes, the role and the share count of each frame.

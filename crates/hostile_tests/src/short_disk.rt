@@ -6,13 +6,12 @@ ghost use Rattle.disk_model.specs.SimDisk.{sectors_in, sector_of, IsUnsynced, mo
 
 use disk_model::{Asked, DiskFault, SectorDisk, SimDisk};
 use std::alloc::{AllocError, Global};
-use sync_journal::Journals;
+use sync_journal::{
+    BODY, FIRST_BODY, FIRST_HOME, Journals, PAGE_LIMIT, SECOND_BODY, SECOND_MAP, TURN_HOMES,
+};
 
 /// The first sector that any run writes.
 const FIRST_WRITTEN: u64 = 2;
-
-/// The most pages of a journal.
-const BODY_PAGES: u64 = 1023;
 
 /// Sectors that are there, from one up to another, behind so many that are absent.
 #[derive(Clone, Copy)]
@@ -38,13 +37,13 @@ impl Piece {
 /// Where the pieces of a store of few homes lie: what lies before a body and so many sectors of the body, of each journal, and the homes.
 fn pieces_of(journals: Journals, body: u64, homes: u64) -> [Piece; 3] {
     let (first, second, first_home) = match journals {
-        Journals::Single => (11, 11, 8195),
-        Journals::Paired => (32, 8216, 16408),
+        Journals::Single => (BODY, BODY, FIRST_HOME),
+        Journals::Paired => (FIRST_BODY, SECOND_MAP, TURN_HOMES),
     };
     let first_end = body.saturating_add(first);
     let second_end = match journals {
         Journals::Single => second,
-        Journals::Paired => body.saturating_add(8224),
+        Journals::Paired => body.saturating_add(SECOND_BODY),
     };
     let second_length = second_end.saturating_sub(second);
     [
@@ -85,7 +84,7 @@ impl ShortDisk {
         journals: Journals,
         homes: u64,
     ) -> Result<ShortDisk, AllocError> {
-        let body = homes.min(BODY_PAGES).saturating_mul(8);
+        let body = homes.min(PAGE_LIMIT as u64).saturating_mul(8);
         let pieces = pieces_of(journals, body, homes.saturating_mul(8));
         let end = pieces[2].to.saturating_sub(pieces[2].absent);
         let blocks = match journals {

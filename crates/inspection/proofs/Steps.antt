@@ -27,8 +27,7 @@ module _ {mode : ℕ} (c : Picture mode) (pid page : ℕ) (step : Step) (fit : I
       subst W deeper (step.table.0, is.way, subst Q at points)
 
   -- what the table that it points to says is the next step
-  pub leads : (next : Step) → 0 < step.level → next.level ≡ step.level - 1 → next.table.0 ≡ frame_of step.entry.0 → IsEntryOf c.frames page next
-      → IsStep c pid page next
+  pub leads : (next : Step) → 0 < step.level → next.level ≡ step.level - 1 → next.table.0 ≡ frame_of step.entry.0 → IsEntryOf c.frames page next → IsStep c pid page next
   leads next some level number says =
       let top = top_level mode in
       let N : ℕ → Type 0 = λ n. Way c.frames top is.root page (top - (step.level - 1)) n in

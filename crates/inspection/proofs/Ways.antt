@@ -46,9 +46,7 @@ module _ (t : FrameTable) (top root page m : ℕ) (forest : IsForest t) (table :
   way = let P : ℕ → Type 0 = λ x. Way t top root page (top - x) last in subst P level (ends t top root page forest table).way
 
   stops : is_pointer (entry_at t last (index_of page m)) ≡ false
-  stops =
-      let P : ℕ → Type 0 = λ x. is_pointer (entry_at t last (index_of page x)) ≡ false in
-      subst P level ((ends t top root page forest table).stops (omega (arith, level, some)))
+  stops = let P : ℕ → Type 0 = λ x. is_pointer (entry_at t last (index_of page x)) ≡ false in subst P level ((ends t top root page forest table).stops (omega (arith, level, some)))
 
   pub one_gap : (k n : ℕ) → k / 512 ^ m ≡ page / 512 ^ m → IsOnWay t top root k n → IsOnWay t top root page n
   one_gap k n same (d, le, w) = elim (cases_lt (top - m) d) [

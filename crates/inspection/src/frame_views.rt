@@ -70,7 +70,7 @@ fn holding_of<D, E, M: Levels>(core: &Core<D, E, M>, n: FrameNo) -> Holding
     }
 }
 
-/// A page of a process, and its entry, which names a frame.
+/// A page of a process, and its entry, which names a frame or a slot.
 #[derive(Clone, Copy, Debug, PartialEq, Eq)]
 pub struct Mapper {
     pub pid: Pid,
@@ -125,7 +125,7 @@ fn first_mapper<D, E, M: Levels>(
 }
 
 // The first page of a process that is looked at, where page `page` of process `pid` is the first of all.
-fn low_in(number: u64, pid: u64, page: u64) -> u64
+pub(crate) fn low_in(number: u64, pid: u64, page: u64) -> u64
     ensures { result ≡ (if number == pid then page else 0) }
 {
     if number == pid { page } else { 0 }

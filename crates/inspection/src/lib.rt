@@ -20,7 +20,7 @@ pub use regions::Run;
 pub use slots::{SlotHolding, SlotView};
 pub use tables::TablePlace;
 pub use views::{
-    frame_view, hand, line, next_entry, next_mapper, next_run, next_step, page_view,
+    frame_view, hand, line, next_entry, next_mapper, next_run, next_step, next_swapped, page_view,
     place_of_table, root_step, slot_view,
 };
 pub use walks::Step;

@@ -1,6 +1,6 @@
 //! Where page tables stand in the trees of the processes.
-ghost use Rattle.std.specs.Prelude.{◌≡◌, ◌^◌, ◌<◌, ◌≤◌, true, IfSome, IfNone};
-ghost use Rattle.vm_types.specs.Limits.{top_level, table_entries};
+ghost use Rattle.std.specs.Prelude.{◌≡◌, ◌<◌, ◌≤◌, true, IfSome, IfNone};
+ghost use Rattle.vm_types.specs.Limits.{top_level};
 ghost use Rattle.page_tables.specs.Tree.{IsPage, IsTable};
 ghost use Rattle.residency.specs.Picture.{picture_of, is_live};
 ghost use Rattle.residency.specs.Parts.{IsFit, IsRootedBut};
@@ -8,9 +8,8 @@ ghost use Rattle.inspection.specs.Tables.{HaveOneWay, IsOffWay, IsOutOf, IsPlace
 
 use crate::pages::next_run;
 use crate::walks::{next_step, root_step};
-use ranges::{gap_end, table_end, user_page};
+use ranges::{entry_pages, gap_end, table_end, user_page};
 use residency::Core;
-use sv39_walk::TABLE_ENTRIES;
 use vm_types::{FrameNo, Levels, PROCESSES, Pid, Vpn};
 
 /// Where a table stands in the tree of a process.
@@ -82,7 +81,7 @@ fn place_on_way<D, E, M: Levels>(
     while step.table != n {
         step = next_step(core, page, step)?;
     }
-    let span = span_of(step.level + 1);
+    let span = entry_pages(step.level + 1);
     Some(TablePlace {
         pid,
         level: step.level,
@@ -100,19 +99,5 @@ fn way_end<D, E, M: Levels>(core: &Core<D, E, M>, pid: Pid, page: Vpn) -> u64
     match gap_end(core, pid, page) {
         Some(end) => end,
         None => table_end(page),
-    }
-}
-
-// How many pages stand in the place of one entry of a table of that level.
-fn span_of(level: u32) -> u64
-    requires { level ≤ 4 }
-    ensures { result ≡ table_entries ^ level }
-{
-    match level {
-        0 => 1,
-        1 => TABLE_ENTRIES,
-        2 => TABLE_ENTRIES * TABLE_ENTRIES,
-        3 => TABLE_ENTRIES * TABLE_ENTRIES * TABLE_ENTRIES,
-        _ => TABLE_ENTRIES * TABLE_ENTRIES * TABLE_ENTRIES * TABLE_ENTRIES,
     }
 }

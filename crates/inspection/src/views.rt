@@ -1,16 +1,17 @@
 //! What a machine holds, told as values to whoever looks inside: nothing here changes anything, and nothing above knows how memory is kept.
-ghost use Rattle.std.specs.Prelude.{ℕ, ◌≡◌, ◌≤◌, ◌<◌, ◌↔◌, true, false, None, IfSome, IsNone};
+ghost use Rattle.std.specs.Prelude.{ℕ, ◌≡◌, ◌≤◌, ◌<◌, ◌↔◌, true, false, None, Some, IfSome, IsNone};
 ghost use Rattle.vm_types.specs.Limits.{top_level};
 ghost use Rattle.frames.specs.FrameTable.{IsFrame};
 ghost use Rattle.sv39_walk.specs.Entry.{is_pointer};
 ghost use Rattle.page_tables.specs.Tree.{IsTable};
 ghost use Rattle.memory.specs.Kept.{IsLeafOf};
+ghost use Rattle.memory.specs.Lines.{line_place};
 ghost use Rattle.regions.specs.RunList.{IsNextRun};
 ghost use Rattle.residency.specs.Picture.{is_live};
 ghost use Rattle.inspection.specs.Frames.{IsFrameView, HoldsData, HasNoMapper, IsMapper};
 ghost use Rattle.inspection.specs.Machines.{hand_of, memory_of, Tells};
 ghost use Rattle.inspection.specs.Pages.{HasNoEntryFrom, IsNextEntry, IsPageView};
-ghost use Rattle.inspection.specs.Slots.{IsSlotView};
+ghost use Rattle.inspection.specs.Slots.{HasNoPageIn, IsNextSwapped, IsSlotView};
 ghost use Rattle.inspection.specs.Tables.{IsPlaceOf};
 ghost use Rattle.inspection.specs.Walks.{IsNextStep, IsStep, IsStepOfSome};
 ghost use Rattle.machine.specs.Machine.{bits_of, halted_of, mode_of, IsSoundMachine};
@@ -38,6 +39,7 @@ pub fn root_step<D: SectorDisk, E: SectorDisk>(
     requires sound { IsSoundMachine D.SectorDisk E.SectorDisk machine.now }
     ensures tells { Tells machine.now (IsStep (memory_of machine.now) pid page) (is_live (memory_of machine.now) pid ≡ false) result }
     ensures level { IfSome result (λ step. step.level ≡ top_level (bits_of (mode_of machine.now))) }
+    ensures root { IfSome result (λ step. (memory_of machine.now).root pid ≡ Some step.table.0) }
 {
     match machine {
         Machine::Sv39(engine) => walks::root_step(engine.memory()?, pid, page),
@@ -109,6 +111,23 @@ pub fn next_mapper<D: SectorDisk, E: SectorDisk>(
     }
 }
 
+/// The first page whose own copy lies in slot `n`, in the order of processes and pages, from page number `page` of process number `pid` on; `None`
+/// exactly where there is none, or the machine has halted.
+pub fn next_swapped<D: SectorDisk, E: SectorDisk>(
+    machine: &Machine<D, E>,
+    n: SlotNo,
+    pid: u64,
+    page: u64,
+) -> Option<Mapper>
+    requires sound { IsSoundMachine D.SectorDisk E.SectorDisk machine.now }
+    ensures { Tells machine.now (IsNextSwapped (memory_of machine.now) n.0 pid page) (HasNoPageIn (memory_of machine.now) n.0 pid page) result }
+{
+    match machine {
+        Machine::Sv39(engine) => slots::next_swapped(engine.memory()?, n, pid, page),
+        Machine::Sv48(engine) => slots::next_swapped(engine.memory()?, n, pid, page),
+    }
+}
+
 /// The pages of one run of a process that come first from page number `page` on, to the run's end; `None` exactly where the process has no page
 /// from there on or doesn't live, or the machine has halted.
 pub fn next_run<D: SectorDisk, E: SectorDisk>(
@@ -176,6 +195,7 @@ pub fn line<D: SectorDisk, E: SectorDisk>(machine: &Machine<D, E>, index: usize)
     requires sound { IsSoundMachine D.SectorDisk E.SectorDisk machine.now }
     ensures running { IfSome result (λ _. halted_of machine.now ≡ false) }
     ensures leaf { IfSome result (λ line. IsLeafOf (bits_of (mode_of machine.now)) (memory_of machine.now).frames line.root.0 line.page line.leaf.0) }
+    ensures place { IfSome result (λ line. line_place line.page ≡ index) }
 {
     match machine {
         Machine::Sv39(engine) => buffer::line(engine.memory()?, index),

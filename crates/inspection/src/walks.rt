@@ -1,15 +1,13 @@
 //! The way of an address through the tables of a process (RISC-V Privileged Specification, "Virtual Address Translation Process").
-ghost use Rattle.std.specs.Prelude.{ℕ, ◌≡◌, ◌≤◌, ◌<◌, ◌+◌, true, false, IfSome, IfNone};
-ghost use Rattle.vm_types.specs.Limits.{top_level, table_entries};
-ghost use Rattle.frames.specs.FrameTable.{IsFrame};
-ghost use Rattle.sv39_walk.specs.Entry.{entry_at, is_pointer};
+ghost use Rattle.std.specs.Prelude.{◌≡◌, ◌≤◌, ◌<◌, true, false, Some, IfSome, IfNone};
+ghost use Rattle.vm_types.specs.Limits.{top_level};
+ghost use Rattle.sv39_walk.specs.Entry.{is_pointer};
 ghost use Rattle.page_tables.specs.Tree.{IsTable};
 ghost use Rattle.residency.specs.Picture.{picture_of, is_live};
 ghost use Rattle.residency.specs.Parts.{IsFit};
 ghost use Rattle.inspection.specs.Walks.{IsEntryOf, IsNextStep, IsStep, IsStepOfSome};
 
-use byteorder::{ByteOrder, LittleEndian};
-use memory::Memory;
+use memory::{Memory, entry_in};
 use residency::Core;
 use sv39_walk::{Pte, table_index};
 use vm_types::{FrameNo, Levels, Pid};
@@ -31,6 +29,7 @@ pub(crate) fn root_step<D, E, M: Levels>(core: &Core<D, E, M>, pid: Pid, page: u
     requires fit { IsFit (picture_of core.now) }
     ensures some { IfSome result (IsStep (picture_of core.now) pid page) }
     ensures level { IfSome result (λ step. step.level ≡ top_level M.mode) }
+    ensures root { IfSome result (λ step. (picture_of core.now).root pid ≡ Some step.table.0) }
     ensures none { IfNone result (is_live (picture_of core.now) pid ≡ false) }
 {
     match core.root(pid) {
@@ -76,14 +75,4 @@ fn step_in<M: Levels>(memory: &Memory<M>, table: FrameNo, page: u64, level: u32)
         index,
         entry: entry_in(memory, table, index),
     }
-}
-
-// The entry at a place of a table.
-#[tactic(auto, unfolding(sv39_walk::specs::Entry::entry_at))]
-fn entry_in<M: Levels>(memory: &Memory<M>, table: FrameNo, index: usize) -> Pte
-    requires inside { IsFrame memory.now table.0 }
-    requires below { index < table_entries }
-    ensures { result.0 ≡ entry_at memory.now table.0 index }
-{
-    Pte::from_u64(LittleEndian::read_u64(&memory.bytes(table)[8 * index..]))
 }

@@ -12,9 +12,7 @@ pub seat_some : (o : Option Seat) (y : Seat) → o ≡ Some y → o ≢ None
 seat_some o y is none = let bad : None ≡ Some y = sym none ∙ is in (cc)
 
 pub leaf_common : (entry : Entry) (l : _) → entry ≡ Leaf l → IsEntry entry → is_private l.0 ≡ false → seat (number_of entry) ≡ None
-leaf_common entry l is form common =
-    let f = subst (λ (x : Entry). IsEntry x) is form in
-    ap (λ x. seat (number_of x)) is ∙ seat_common l.0 common (rw f.0 refl)
+leaf_common entry l is form common = let f = subst (λ (x : Entry). IsEntry x) is form in ap (λ x. seat (number_of x)) is ∙ seat_common l.0 common (rw f.0 refl)
 
 pub leaf_own : (entry : Entry) (l : _) → entry ≡ Leaf l → is_private l.0 ≡ true → seat (number_of entry) ≢ None
 leaf_own entry l is own none = own_some l.0 own (sym (ap (λ x. seat (number_of x)) is) ∙ none)

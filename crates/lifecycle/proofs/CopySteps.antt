@@ -6,13 +6,7 @@ use Rattle.{lifecycle.{proofs.Names.{KeepsSpaces, MakesWhole, takes_none, takes_
 module _ {M : Type 0} {m : Levels.Ghosts M} {D E : Type 0} (h : Ghosts E) where
   -- nothing was done
   pub copies_none : {T : Type 0} (core : Core D E M m) (parent child : ℕ) (x : T) → IsFit (picture_of core) → IsReady h core.swap → LinksForCopies h core core parent child (Ok x)
-  copies_none core parent child x fit swap = record {
-    takes = takes_none h core x fit swap;
-    tables = λ n is. inl is;
-    idle = λ has. refl;
-    wanted = tt;
-    lacks = tt;
-  }
+  copies_none core parent child x fit swap = record { takes = takes_none h core x fit swap; tables = λ n is. inl is; idle = λ has. refl; wanted = tt; lacks = tt }
 
   -- one page with a copy was given its tables
   pub copies_way : (a b : Core D E M m) (parent child page : ℕ) (r : Result FrameNo Stall) → IsFit (picture_of a) → HasCopy (picture_of a) parent page → MakesWhole h a b child page r
@@ -57,13 +51,7 @@ module _ {M : Type 0} {m : Levels.Ghosts M} {D E : Type 0} (h : Ghosts E) where
 
   -- whatever was returned
   pub copies_done : {S T : Type 0} (a b : Core D E M m) (parent child : ℕ) (x : S) (y : T) → LinksForCopies h a b parent child (Ok x) → LinksForCopies h a b parent child (Ok y)
-  copies_done a b parent child x y links = record {
-    takes = takes_done h a b x y links.takes;
-    tables = links.tables;
-    idle = links.idle;
-    wanted = tt;
-    lacks = tt;
-  }
+  copies_done a b parent child x y links = record { takes = takes_done h a b x y links.takes; tables = links.tables; idle = links.idle; wanted = tt; lacks = tt }
 
   -- a stall that is handed on
   pub copies_stall : {S T : Type 0} (a b : Core D E M m) (parent child : ℕ) (stall : Stall) (r : Result T Stall) → IsErrAnd r (λ e. e ≡ stall) → LinksForCopies h {T = S} a b parent child (Err stall)

@@ -48,8 +48,7 @@ view_bare own (Some a) none = ap (λ w. is_some w) none
 -- a page without an entry has no copy
 own_none : {mode : ℕ} (c : Picture mode) (pid page : ℕ) → entry c pid page ≡ 0 → has_own (view c pid page) ≡ false
 unfolding view
-own_none c pid page none =
-    view_bare (own_in c.frames c.slots (entry c pid page)) (c.at pid page) (ap (λ o. option_map (bytes_in c.frames c.slots) o) (ap seat none ∙ seat-none))
+own_none c pid page none = view_bare (own_in c.frames c.slots (entry c pid page)) (c.at pid page) (ap (λ o. option_map (bytes_in c.frames c.slots) o) (ap seat none ∙ seat-none))
 
 -- outside the user pages nothing is mapped
 past_none : {mode : ℕ} (c : Picture mode) (pid page : ℕ) → IsGranting c → ((16 ≤ page) × (page < user_end mode) → ⊥) → c.at pid page ≡ None
@@ -86,9 +85,7 @@ module _ (e p k : ℕ) (lowered : p ≡ lowered_entry e) (given : k ≡ given_en
 
   pub one_unwritten : is_private p ≡ true → is_valid p ≡ true → can_write p ≡ false
   one_unwritten own valid = elim (cases_Bool (is_private e)) [
-    | inl was ↦ (
-        let weaker = weakened e in
-        ap can_write (own_page was) ∙ weaker.unwritten (sym weaker.valid ∙ sym (ap is_valid (own_page was)) ∙ valid))
+    | inl was ↦ (let weaker = weakened e in ap can_write (own_page was) ∙ weaker.unwritten (sym weaker.valid ∙ sym (ap is_valid (own_page was)) ∙ valid))
     | inr common ↦ absurd (false≢true (sym common ∙ sym (ap is_private (other_page common)) ∙ own))
   ]
 

@@ -1,6 +1,6 @@
 -- A process goes of which no page has an entry or a table.
 use Rattle.vm_types.specs.declared.mode.Levels as Levels
-use Rattle.lifecycle.proofs.{Keeping.{live_same}, Names.{user_end, top_level, ObjectPage, Object, Attr, names, is_named, in_row, ◌≡◌, ◌≢◌, ℕ, zero, suc, inl, inr, ◌⊎◌, ◌≤◌, ◌<◌, ◌^◌, Option, Some, None, true, false, refl, sym, ap, ◌∙◌}}
+use Rattle.lifecycle.proofs.{Keeping.{live_same}, Names.{user_end, top_level, ObjectPage, Object, Attr, names, is_named, in_row, ◌≡◌, ◌≢◌, ℕ, zero, suc, inl, inr, ◌⊎◌, ◌≤◌, ◌<◌, ◌^◌, Option, Some, None, true, refl, sym, ap, ◌∙◌}}
 use Rattle.lifecycle.proofs.Names.{subst, arith, eq-eqb, ne_eqb, cases_eq, cases_Bool, false≢true, is_some, IsSome, user_pages_fit, sizes, Home, Ghosts, Role, Free, Table, Private, Cache, FrameTable, bytes_of, role_of, entry_at, is_pointer}
 use Rattle.lifecycle.proofs.Names.{frame_of, index_of, IsPage, IsTable, Points, IsSpare, Way, IsBelowRoot, last_table, missing_of, cases_bool, only_way, way_forth, missing_of-is, last_entry-is, root_field, SlotTable, IsReady, Core, Seat}
 use Rattle.lifecycle.proofs.Names.{InFrame, InSlot, seat, Picture, picture_of, view, bytes_in, IsOwned, IsFit, IsUsed, AsRoot, OnWay, Exits, KeepsFiles, entries_left, fit_left, view-none, view_seated, held_same, cases_attr, ready_released}
@@ -186,8 +186,7 @@ module _ {mode : ℕ} (first old new : Picture mode) (pid r : ℕ) (begun : IsFi
         };
         others = λ q page h ne. entries_left old new pid r was.fit exits q page ∙ was.others q page h ne;
         tables = record {
-          own = λ x page n e on. (
-              own_freed page on.0 n (subst (λ (y : ℕ). Way first.frames (top_level mode) y page on.0 n) (one_some x r (sym e ∙ was_root)) on.2));
+          own = λ x page n e on. (own_freed page on.0 n (subst (λ (y : ℕ). Way first.frames (top_level mode) y page on.0 n) (one_some x r (sym e ∙ was_root)) on.2));
           others = λ n table. elim (was.returned.tables n table) [
             | inr back ↦ (let under = back.1.3 in inr (back.1.0, back.1.1, back.1.2, (suc under.0, (omega (arith, under.1)), under.2)))
             | inl still ↦ elim (cases_eq n r) [

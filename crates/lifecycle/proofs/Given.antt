@@ -115,8 +115,7 @@ module _ {mode : ℕ} (old low mid new : Picture mode) (parent child r page e : 
     roles = λ n. ap (λ rs. get_or rs n Free) sets.kept.roles ∙ raises.roles n ∙ withdraws.roles n;
     lowered = λ p h' least under. (
         subst (λ (x : ℕ). entry new parent x ≡ lowered_entry (entry old parent x)) (sym (this p least under)) (page_set.others parent page h (inl apart) ∙ source ∙ withdraws.lowered));
-    given = λ p h' least under. (
-        subst (λ (x : ℕ). entry new child x ≡ given_entry (entry old parent x)) (sym (this p least under)) (page_set.changed ∙ to_given));
+    given = λ p h' least under. (subst (λ (x : ℕ). entry new child x ≡ given_entry (entry old parent x)) (sym (this p least under)) (page_set.changed ∙ to_given));
     others = λ q p h' other. elim other [
       | inl ne ↦ page_set.others q p h' (inl ne.1) ∙ raises.entries q p ∙ withdraws.sets.others q p h' (inl ne.0)
       | inr far ↦ page_set.others q p h' (inr (out p far)) ∙ raises.entries q p ∙ withdraws.sets.others q p h' (inr (out p far))

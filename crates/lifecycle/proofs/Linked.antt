@@ -39,9 +39,7 @@ pub copy_stays : {mode : ℕ} (old new : Picture mode) (pid page : ℕ) → IsGr
 copy_stays old new pid page granting keeps copy = copy_seen old new pid page granting (keeps.at pid page) (sym (keeps.views pid page)) copy
 
 pub whole_kept : {mode : ℕ} (old new : Picture mode) (pid page : ℕ) → ((q : ℕ) → new.root q ≡ old.root q) → KeepsTables old new → IsWhole old pid page → IsWhole new pid page
-whole_kept old new pid page root tables whole r e =
-    let was : old.root pid ≡ Some r = sym (root pid) ∙ e in
-    omega (arith, whole r was, tables pid r page was)
+whole_kept old new pid page root tables whole r e = let was : old.root pid ≡ Some r = sym (root pid) ∙ e in omega (arith, whole r was, tables pid r page was)
 
 -- what the pages of a row want is there still
 pub still_there : {mode : ℕ} (old new : Picture mode) (parent child low high : ℕ) → IsGranting new → KeepsPages old new → KeepsTables old new

@@ -61,11 +61,7 @@ module _ {M : Type 0} {m : Levels.Ghosts M} {D E : Type 0} (was low : Core D E M
     -- its table is one still, in which the page stands
     pub placed_raised : IsForest mid.frames × IsTable mid.frames to
         × ((r : ℕ) × (p : ℕ) × IsRoot (top_level m.mode) mid.frames r × IsPage (top_level m.mode) p × IsTableOf mid.frames (top_level m.mode) r (p / 512) to × (p % 512 ≡ index))
-    placed_raised = (
-      fit.rooted.forest,
-      place_mid.table,
-      (lives.0, first + index, fit.rooted.roots child lives.0 root, h, place_mid, place_at first index holds.begins below),
-    )
+    placed_raised = (fit.rooted.forest, place_mid.table, (lives.0, first + index, fit.rooted.roots child lives.0 root, h, place_mid, place_at first index holds.begins below))
 
     -- the child's entry is set
     module _ (t : FrameTable) (set : (r p : ℕ) → IsRoot (top_level m.mode) mid.frames r → IsPage (top_level m.mode) p → IsTableOf mid.frames (top_level m.mode) r (p / 512) to → p % 512 ≡ index
@@ -77,9 +73,7 @@ module _ {M : Type 0} {m : Levels.Ghosts M} {D E : Type 0} (was low : Core D E M
       sets = set lives.0 (first + index) (fit.rooted.roots child lives.0 root) h place_mid (place_at first index holds.begins below)
 
       raised_place : (q row n : ℕ) → IsTableFor (picture_of low) q row n → IsTableFor (picture_of mid) q row n
-      raised_place q row n at r is = (
-          let before : (picture_of low).root q ≡ Some r = sym (raised.beside.root q) ∙ is in
-          raised.rows q r row n before (at r before))
+      raised_place q row n at r is = (let before : (picture_of low).root q ≡ Some r = sym (raised.beside.root q) ∙ is in raised.rows q r row n before (at r before))
 
       pub page_shared : IsPageShared (picture_of was) new parent child (first + index)
       page_shared = record {

@@ -13,8 +13,7 @@ sum-more f g x d (suc n) below here others = elim (cases_eq n x) [
       let here_n : f n ≡ g n + d = subst (λ (y : ℕ). f y ≡ g y + d) (sym e) here in
       let rest : sum_below f n ≡ sum_below g n = sum-below f g x n (omega (arith, e)) others in
       omega (arith, here_n, rest))
-  | inr ne ↦ (
-      omega (arith, sum-more f g x d n (omega (arith, below, ne)) here others, others n ne))
+  | inr ne ↦ (omega (arith, sum-more f g x d n (omega (arith, below, ne)) here others, others n ne))
 ]
 
 -- the tables of a process are told by which pages are mapped
@@ -27,8 +26,7 @@ rows_alike a b pages rows same = let e : (λ page. is_some (a page)) ≡ (λ pag
 module _ (mode : ℕ) where
   below_alike : (a b : ℕ → Option View) (level : ℕ) → ((page : ℕ) → is_some (a page) ≡ is_some (b page)) → tables_below mode a level ≡ tables_below mode b level
   below_alike a b zero same = refl
-  below_alike a b (suc level) same =
-      omega (arith, rows_alike a b (table_entries ^ suc level) (user_end mode / table_entries ^ suc level) same, below_alike a b level same)
+  below_alike a b (suc level) same = omega (arith, rows_alike a b (table_entries ^ suc level) (user_end mode / table_entries ^ suc level) same, below_alike a b level same)
 
   pub tables_alike : (a b : ℕ → Option View) → ((page : ℕ) → is_some (a page) ≡ is_some (b page)) → tables_of mode a ≡ tables_of mode b
   tables_alike a b same = let below = below_alike a b (top_level mode) same in omega (arith, below)

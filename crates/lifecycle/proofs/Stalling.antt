@@ -81,9 +81,7 @@ module _ {mode : ℕ} (old new : Picture mode) (pid : ℕ) (fit : IsFit old) (fi
   shares_left k = elim (cases_eq (old.slots.count k) 0) [
     | inl none ↦ (let fewer = slots.fewer k in omega (arith, none, fewer))
     | inr some ↦ elim (fit.places.used k (omega (arith, some))) [
-      | inl own ↦ slots.kept k
-          (λ page h low below there. (let bad : None ≡ Some (InSlot k) = sym (ap seat (bare page h) ∙ seat-none) ∙ there in (cc)))
-          (λ p. own.1 (Object p))
+      | inl own ↦ slots.kept k (λ page h low below there. (let bad : None ≡ Some (InSlot k) = sym (ap seat (bare page h) ∙ seat-none) ∙ there in (cc))) (λ p. own.1 (Object p))
       | inr here ↦ fit'.places.slotted here.0 k (place here.0 ∙ here.1) ∙ sym (fit.places.slotted here.0 k here.1)
     ]
   ]
@@ -97,10 +95,7 @@ module _ {mode : ℕ} (old new : Picture mode) (pid : ℕ) (fit : IsFit old) (fi
       | inl was ↦ was
       | inr own ↦ absurd (no_free_table n table (elim own [
         | inl root ↦ tables.own n 0 n root (0, (omega arith), refl)
-        | inr on ↦ (
-            let way = on.2 in
-            let below = way.2 in
-            tables.own way.0 on.0 n way.1 (suc below.0, (let low = below.1 in omega (arith, low)), below.2))
+        | inr on ↦ (let way = on.2 in let below = way.2 in tables.own way.0 on.0 n way.1 (suc below.0, (let low = below.1 in omega (arith, low)), below.2))
       ]))
     ]
 

@@ -39,8 +39,7 @@ module _ {mode : ℕ} (old spawned mapped mid : Picture mode) (parent child n : 
       record { inside = omega (arith, there.inside, takes.frames); role = sym (takes.roles m ne) ∙ there.role }
 
   -- each table was one, or is the child's
-  pub tables_mid : (m : ℕ) → IsTable mid.frames m
-      → IsTable old.frames m ⊎ ((mid.root child ≡ Some m) ⊎ ((page : ℕ) × HasCopy old parent page × IsTableOnWay mid child page m))
+  pub tables_mid : (m : ℕ) → IsTable mid.frames m → IsTable old.frames m ⊎ ((mid.root child ≡ Some m) ⊎ ((page : ℕ) × HasCopy old parent page × IsTableOnWay mid child page m))
   tables_mid m table = elim (links m table) [
     | inl was ↦ elim (cases_eq m n) [ inl is ↦ inr (inl (root_mid ∙ ap (λ x. Some x) (sym is))) | inr ne ↦ inl (table_before m ne was) ]
     | inr on ↦ inr (inr (on.0, copy_before on.0 on.1, on.2))

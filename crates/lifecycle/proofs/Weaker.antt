@@ -91,9 +91,7 @@ leaf_own e valid some = elim (cases_Bool (is_private e)) [ inl own ↦ own | inr
 -- the entry without W
 pub weakened : (e : ℕ) → Weakens e (without_write e)
 weakened e = elim (cases_Bool (is_valid e && can_write e)) [
-  | inl both ↦ (
-      let parts = and_parts (is_valid e) (can_write e) both in
-      subst (λ (x : ℕ). Weakens e x) (number_less e parts.0 parts.1) (weaker_leaf e parts.0 parts.1))
+  | inl both ↦ (let parts = and_parts (is_valid e) (can_write e) both in subst (λ (x : ℕ). Weakens e x) (number_less e parts.0 parts.1) (weaker_leaf e parts.0 parts.1))
   | inr none ↦ (
       let unwritten : is_valid e ≡ true → can_write e ≡ false = λ valid. (let P : Bool → Type 0 = λ x. (x && can_write e) ≡ false in subst P valid none) in
       subst (λ (x : ℕ). Weakens e x) (number_same e unwritten) (unchanged e unwritten))

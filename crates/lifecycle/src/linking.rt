@@ -1,20 +1,19 @@
 //! The child's tables.
-ghost use Rattle.std.specs.Prelude.{◌≡◌, ◌≢◌, ℕ, ◌+◌, ◌*◌, ◌/◌, ◌<◌, ◌≤◌, true, false, Option, None, OnOk, IfSome, IfNone};
-ghost use Rattle.vm_types.specs.Limits.{user_end, table_entries};
+ghost use Rattle.std.specs.Prelude.{◌≡◌, ◌≢◌, ℕ, ◌<◌, ◌≤◌, true, false, Option, None, OnOk, IfSome, IfNone};
 ghost use Rattle.page_tables.specs.Entry.{number_of, IsEntry};
 ghost use Rattle.residency.specs.Seats.{seat};
 ghost use Rattle.residency.specs.Picture.{picture_of, entry, is_live};
 ghost use Rattle.residency.specs.Parts.{IsFit};
-ghost use Rattle.residency.specs.Ways.{IsWhole};
+ghost use Rattle.ranges.specs.WaysPassed.{IsLinkedPart};
 ghost use Rattle.lifecycle.specs.TablesForCopies.{IsFirstCopy, LinksForCopies, MakesReady, MayLink};
 ghost use Rattle.lifecycle.specs.Steps.{HasTablesFrom};
 
 use disk_model::SectorDisk;
 use fault::link_tables;
-use memory::{number_in, table_of};
+use memory::number_in;
 use page_tables::{Entry, decode};
-use ranges::{linked_part, next_entry, user_page};
-use residency::{Core, root_of};
+use ranges::{LinkedPart, linked_part, next_entry, user_page};
+use residency::Core;
 use sv39_walk::TABLE_ENTRIES;
 use vm_types::{Levels, Pid, Stall, USER_START, Vpn};
 
@@ -36,56 +35,44 @@ pub(crate) fn link_copies<D, E: SectorDisk, M: Levels>(
 {
     let mut page = USER_START;
     while let Some(part) = linked_part(core, parent, page) {
-        link_part(core, parent, child, part.first, part.end)?;
+        link_part(core, &part, child)?;
         page = part.end;
     }
     Ok(())
 }
 
-/// Makes the child's tables for the pages from `start` up to, not including, `stop`, whose entries of the parent's stand in one
-/// table: those on the way to the first of which the parent has a copy.
+/// Makes the child's tables for those pages of its parent's: the ones on the way to the first of which the parent has a copy.
 fn link_part<D, E: SectorDisk, M: Levels>(
     core: &mut Core<D, E, M>,
-    parent: Pid,
+    part: &LinkedPart,
     child: Pid,
-    start: Vpn,
-    stop: u64,
 ) -> Result<(), Stall>
-    requires ready { MayLink E.SectorDisk core.old parent child }
-    requires whole { IsWhole (picture_of core.old) parent start }
-    requires one_table { stop ≤ (start / table_entries + 1) * table_entries }
-    requires high { stop ≤ user_end M.mode }
-    ensures links { LinksForCopies E.SectorDisk core.old core.new parent child result }
-    ensures linked { OnOk result (HasTablesFrom (picture_of core.new) parent child start stop) }
+    requires ready { MayLink E.SectorDisk core.old part.now.pid child }
+    requires part { IsLinkedPart (picture_of core.old) part.now }
+    ensures links { LinksForCopies E.SectorDisk core.old core.new part.now.pid child result }
+    ensures linked { OnOk result (HasTablesFrom (picture_of core.new) part.now.pid child part.now.first part.now.end) }
 {
-    if let Some(copied) = first_copy(core, parent, start, stop) {
+    if let Some(copied) = first_copy(core, part) {
         link_tables(core, child, copied)?;
     }
     Ok(())
 }
 
-/// The first page from `start` up to, not including, `stop` of which a live process has a copy of its own. The entries of
-/// those pages stand in one table, and places without an entry are passed over.
-fn first_copy<D, E, M: Levels>(core: &Core<D, E, M>, pid: Pid, start: Vpn, stop: u64) -> Option<Vpn>
+/// The first of those pages of which their process has a copy of its own. Places of the table without an entry are passed over.
+fn first_copy<D, E, M: Levels>(core: &Core<D, E, M>, part: &LinkedPart) -> Option<Vpn>
     requires fit { IsFit (picture_of core.now) }
-    requires live { is_live (picture_of core.now) pid ≡ true }
-    requires whole { IsWhole (picture_of core.now) pid start }
-    requires one_table { stop ≤ (start / table_entries + 1) * table_entries }
-    requires high { stop ≤ user_end M.mode }
-    ensures some { IfSome result (IsFirstCopy (picture_of core.now) pid start) }
-    ensures none { IfNone result ((page : ℕ) → start ≤ page → page < stop → seat (entry (picture_of core.now) pid page) ≡ None) }
+    requires live { is_live (picture_of core.now) part.now.pid ≡ true }
+    requires part { IsLinkedPart (picture_of core.now) part.now }
+    ensures some { IfSome result (IsFirstCopy (picture_of core.now) part.now.pid part.now.first) }
+    ensures none { IfNone result ((page : ℕ) → part.now.first ≤ page → page < part.now.end → seat (entry (picture_of core.now) part.now.pid page) ≡ None) }
 {
-    let root = root_of(core, pid);
-    let Ok(table) = table_of(&core.frames, root, start) else {
-        unreachable!();
-    };
-    let mut page = start.get();
-    while page < stop {
+    let mut page = part.first.get();
+    while page < part.end {
         let index = (page % TABLE_ENTRIES) as usize;
-        if is_own(decode(number_in(&core.frames, table, index))) {
+        if is_own(decode(number_in(&core.frames, part.table, index))) {
             return Some(user_page::<M>(page));
         }
-        page = next_entry(&core.frames, table, page + 1, stop);
+        page = next_entry(&core.frames, part.table, page + 1, part.end);
     }
     None
 }

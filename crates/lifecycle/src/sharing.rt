@@ -1,10 +1,11 @@
 //! The parent's own pages, given to the child.
-ghost use Rattle.std.specs.Prelude.{◌≡◌, ◌+◌, ◌*◌, ◌/◌, ◌<◌, ◌≤◌, true, IfSome, IfNone};
+ghost use Rattle.std.specs.Prelude.{◌≡◌, ◌+◌, ◌/◌, ◌<◌, ◌≤◌, true, IfSome, IfNone};
 ghost use Rattle.vm_types.specs.Limits.{user_start, user_end, table_entries};
 ghost use Rattle.page_tables.specs.Entry.{number_of};
 ghost use Rattle.residency.specs.Picture.{picture_of, entry, is_live};
 ghost use Rattle.residency.specs.Parts.{IsFit};
 ghost use Rattle.residency.specs.Ways.{IsWhole};
+ghost use Rattle.ranges.specs.WaysPassed.{IsLinkedPart};
 ghost use Rattle.lifecycle.specs.Steps.{AdvancesTo};
 ghost use Rattle.lifecycle.specs.Shares.{IsTableFor};
 ghost use Rattle.lifecycle.specs.ChildShares.{AwaitsShares, GivesShares, HoldsEntries, IsOwnEntry, IsReadyForShares};
@@ -13,7 +14,7 @@ use crate::linking::is_own;
 use crate::withdrawing::{Tables, add_share, withdraw_write};
 use memory::{number_in, set_in, table_of};
 use page_tables::{Entry, decode};
-use ranges::{linked_part, next_place, table_start};
+use ranges::{LinkedPart, linked_part, next_place, table_start};
 use residency::{Core, root_of};
 use vm_types::{FrameNo, Levels, Pid, USER_START, Vpn};
 
@@ -28,44 +29,32 @@ pub(crate) fn share_pages<D, E, M: Levels>(core: &mut Core<D, E, M>, parent: Pid
 {
     let mut page = USER_START;
     while let Some(part) = linked_part(core, parent, page) {
-        share_table(core, parent, child, part.first, part.end);
+        share_table(core, &part, child);
         page = part.end;
     }
 }
 
-/// Gives the child its shares of the pages from `start` up to, not including, `stop`. Their entries stand in one table of the
-/// parent and in one of the child, which are looked for once and not for each page; places of the parent's without an entry
-/// are passed over. Where the child has no table for them, the parent has no copy of any of them.
-fn share_table<D, E, M: Levels>(
-    core: &mut Core<D, E, M>,
-    parent: Pid,
-    child: Pid,
-    start: Vpn,
-    stop: u64,
-)
-    requires ready { IsReadyForShares (picture_of core.old) parent child start stop }
-    requires whole { IsWhole (picture_of core.old) parent start }
-    requires some { start < stop }
-    requires one_table { stop ≤ (start / table_entries + 1) * table_entries }
-    requires high { stop ≤ user_end M.mode }
-    ensures { GivesShares core.old core.new parent child start stop }
+/// Gives the child its shares of those pages of its parent's. Their entries stand in one table of the parent and in one of the
+/// child, which is looked for once and not for each page; places of the parent's without an entry are passed over. Where the child
+/// has no table for them, the parent has no copy of any of them.
+fn share_table<D, E, M: Levels>(core: &mut Core<D, E, M>, part: &LinkedPart, child: Pid)
+    requires ready { IsReadyForShares (picture_of core.old) part.now.pid child part.now.first part.now.end }
+    requires part { IsLinkedPart (picture_of core.old) part.now }
+    ensures { GivesShares core.old core.new part.now.pid child part.now.first part.now.end }
 {
-    let Some(from) = table_for(core, parent, start) else {
-        unreachable!();
-    };
-    let Some(to) = table_for(core, child, start) else {
+    let Some(to) = table_for(core, child, part.first) else {
         return;
     };
-    let first = table_start(start);
+    let first = table_start(part.first);
     let tables = Tables {
-        parent,
+        parent: part.pid,
         child,
-        from,
+        from: part.table,
         to,
         first,
     };
-    let end = (stop - first) as usize;
-    let mut index = (start.get() - first) as usize;
+    let end = (part.end - first) as usize;
+    let mut index = (part.first.get() - first) as usize;
     while index < end {
         index = share_at(core, &tables, index, end);
     }

@@ -19,8 +19,7 @@ agree_takes files s (Takes pid first count) p q same = λ f k inside. either_pag
 agree_takes files s r p q same = same
 
 agree_event : (files : Files) (event : Event) (p q : Pages) → Agree files p q → Agree files (after_event event p) (after_event event q)
-agree_event files event p q same =
-    either_pages files (may_have_taken event.reply) _ _ p q (agree_takes files event.state (ruling event.state event.command) p q same) same
+agree_event files event p q same = either_pages files (may_have_taken event.reply) _ _ p q (agree_takes files event.state (ruling event.state event.command) p q same) same
 
 -- msyncs make the same of them
 pub agree_msyncs : (files : Files) (events : List Event) (i : ℕ) (p q : Pages) → Agree files p q → Agree files (after_msyncs p events i) (after_msyncs q events i)
@@ -32,12 +31,10 @@ agree_msyncs files (event ∷ events) (suc i) p q same =
     (agree_msyncs files events (suc i) p q same)
 
 -- one image stands for the same files and the same pages
-pub same_files : (sectors : ℕ) (these those : Files) (p q : Pages) (image : Image) → StandsFor sectors these p image → StandsFor sectors those q image
-    → (f : ℕ) → these f ≡ those f
+pub same_files : (sectors : ℕ) (these those : Files) (p q : Pages) (image : Image) → StandsFor sectors these p image → StandsFor sectors those q image → (f : ℕ) → these f ≡ those f
 same_files sectors these those p q image first second f = sym (first.facts f) ∙ second.facts f
 
-pub same_pages : (sectors : ℕ) (these those : Files) (p q : Pages) (image : Image) → StandsFor sectors these p image → StandsFor sectors those q image
-    → Agree those p q
+pub same_pages : (sectors : ℕ) (these those : Files) (p q : Pages) (image : Image) → StandsFor sectors these p image → StandsFor sectors those q image → Agree those p q
 same_pages sectors these those p q image first second f k inside =
     sym (first.same f k (inside.0, same_files sectors these those p q image first second f ∙ inside.1, inside.2)) ∙ second.same f k inside
 

@@ -1,8 +1,10 @@
 //! Lines in, replies and answers out.
-ghost use Rattle.std.specs.Prelude.{ℕ, List, ◌≡◌, ◌<◌, length, true, false, IfSome};
+ghost use Rattle.std.specs.Prelude.{ℕ, List, [], ◌∷◌, ◌++◌, ◌≡◌, ◌<◌, ◌≤◌, length, take, slice_index, true, false, IfNone, IfOk, IfSome, MatchResult, OnOk};
 ghost use Rattle.machine.specs.Machine.{IsSoundMachine};
 ghost use Rattle.runner.specs.Session.{Answers};
+ghost use Rattle.trace_lang.specs.Lines.{HasNoNewline};
 ghost use Rattle.looking.specs.Lines.{is_aside};
+ghost use Rattle.looking.specs.Session.{TakesAll, TakesLine, TakesSome, WritesReply};
 
 use disk_model::SectorDisk;
 use machine::Machine;
@@ -125,11 +127,16 @@ impl Viewer {
         out: &mut W,
     ) -> io::Result<()>
         requires { IsSoundMachine D.SectorDisk E.SectorDisk machine.old }
-        ensures { IsSoundMachine D.SectorDisk E.SectorDisk machine.new }
+        ensures sound { IsSoundMachine D.SectorDisk E.SectorDisk machine.new }
+        ensures takes { MatchResult result (λ _. TakesAll D.SectorDisk E.SectorDisk machine.old self.old.line piece.now machine.new self.new.line)
+            (λ _. TakesSome D.SectorDisk E.SectorDisk machine.old self.old.line piece.now machine.new) }
     {
         let mut rest = piece;
         while let Some(at) = line_end(rest) {
-            self.end_line(&rest[..at], machine, out)?;
+            match self.end_line(&rest[..at], machine, out) {
+                Ok(()) => {}
+                Err(fault) => return Err(fault),
+            }
             rest = &rest[at + 1..];
         }
         self.line.extend(rest);
@@ -143,8 +150,10 @@ impl Viewer {
         machine: &mut Machine<D, E>,
         out: &mut W,
     ) -> io::Result<()>
-        requires { IsSoundMachine D.SectorDisk E.SectorDisk machine.old }
-        ensures { IsSoundMachine D.SectorDisk E.SectorDisk machine.new }
+        requires sound { IsSoundMachine D.SectorDisk E.SectorDisk machine.old }
+        requires unbroken { HasNoNewline bytes.now }
+        ensures sound { IsSoundMachine D.SectorDisk E.SectorDisk machine.new }
+        ensures takes { TakesAll D.SectorDisk E.SectorDisk machine.old self.old.line (bytes.now ++ 10 ∷ []) machine.new self.new.line }
     {
         if self.line.is_empty() && bytes.len() <= MAX_LINE_BYTES {
             return take_line(bytes, &mut self.ledger, &mut self.text, machine, out);
@@ -160,7 +169,9 @@ impl Viewer {
         out: &mut W,
     ) -> io::Result<()>
         requires { IsSoundMachine D.SectorDisk E.SectorDisk machine.old }
-        ensures { IsSoundMachine D.SectorDisk E.SectorDisk machine.new }
+        ensures sound { IsSoundMachine D.SectorDisk E.SectorDisk machine.new }
+        ensures cleared { self.new.line ≡ [] }
+        ensures takes { TakesLine D.SectorDisk E.SectorDisk machine.old self.old.line machine.new }
     {
         let taken = take_line(
             self.line.as_slice(),
@@ -176,7 +187,9 @@ impl Viewer {
 
 /// Where the first line of these bytes ends.
 fn line_end(bytes: &[u8]) -> Option<usize>
-    ensures { IfSome result (λ at. at < length bytes.now) }
+    ensures none { IfNone result (HasNoNewline bytes.now) }
+    ensures first { IfSome result (λ at. HasNoNewline (take at bytes.now)) }
+    ensures newline { IfSome result (λ at. (at < length bytes.now) × (slice_index bytes.now at ≡ 10)) }
 {
     memchr(b'\n', bytes)
 }
@@ -254,11 +267,26 @@ fn follow<W: Write, D: SectorDisk, E: SectorDisk>(
         Ok(command) => Some(Pending::new(command, machine)),
         Err(_) => None,
     };
-    let count = answer_line(line, machine, text);
-    let reply = &text[..count];
-    out.write_all(reply)?;
+    let count = reply_to(line, machine, text, out)?;
     match pending {
-        Some(pending) => pending.settle(Outcome::of(reply), ledger, machine, out),
+        Some(pending) => pending.settle(Outcome::of(&text[..count]), ledger, machine, out),
         None => Ok(()),
     }
+}
+
+/// Runs a line of the trace, and writes its reply, which is the first bytes of `text` then. Returns how many these are.
+fn reply_to<W: Write, D: SectorDisk, E: SectorDisk>(
+    line: &[u8],
+    machine: &mut Machine<D, E>,
+    text: &mut [u8; 1024],
+    out: &mut W,
+) -> io::Result<usize>
+    requires { IsSoundMachine D.SectorDisk E.SectorDisk machine.old }
+    ensures sound { IsSoundMachine D.SectorDisk E.SectorDisk machine.new }
+    ensures room { IfOk result (λ count. count ≤ 1024) }
+    ensures writes { WritesReply D.SectorDisk E.SectorDisk machine.old line.now text.new machine.new (W.contents out.old) (W.contents out.new) result }
+{
+    let count = answer_line(line, machine, text);
+    out.write_all(&text[..count])?;
+    Ok(count)
 }

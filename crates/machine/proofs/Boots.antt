@@ -112,12 +112,7 @@ module _ {D : Type 0} (g : Ghosts D) where
   -- the image at entry stands for its own files and pages
   at_entry : (entry : D) (store : FileStore D) → OpensFrom g entry store → g.keeps_model store.disk
       → StandsFor (g.sector_count entry) (file_info (g.content entry)) (standing_page (g.content entry)) (g.content entry)
-  at_entry entry store opened keeps = record {
-    layout = opened.good_layout keeps;
-    journal = opened.good_journal keeps;
-    facts = λ f. refl;
-    same = λ f k is. refl;
-  }
+  at_entry entry store opened keeps = record { layout = opened.good_layout keeps; journal = opened.good_journal keeps; facts = λ f. refl; same = λ f k is. refl }
 
   -- and so does the device as it was opened
   at_opened : (entry : D) (store : FileStore D) → OpensFrom g entry store → g.keeps_model store.disk
@@ -125,10 +120,8 @@ module _ {D : Type 0} (g : Ghosts D) where
   at_opened entry store opened keeps = opened.now keeps (g.content store.disk) (record { kept = λ k. inr refl }) _ _ (at_entry entry store opened keeps)
 
   -- the directory is that of the image at entry
-  pub same_files : (entry : D) (store : FileStore D) → OpensFrom g entry store → g.keeps_model store.disk
-      → (f : ℕ) → Stores.files_of store f ≡ file_info (g.content entry) f
-  same_files entry store opened keeps f =
-      ap (option_map (λ e. e.info)) ((opened.ready.at_rest keeps).directory f) ∙ (at_opened entry store opened keeps).facts f
+  pub same_files : (entry : D) (store : FileStore D) → OpensFrom g entry store → g.keeps_model store.disk → (f : ℕ) → Stores.files_of store f ≡ file_info (g.content entry) f
+  same_files entry store opened keeps f = ap (option_map (λ e. e.info)) ((opened.ready.at_rest keeps).directory f) ∙ (at_opened entry store opened keeps).facts f
 
 -- what is at home is not in memory
 at_home : {mode : ℕ} (c : Picture mode) (p : PageKey) (bytes : List ℕ) → c.place p ≡ Home → held c p ≡ Some bytes → ⊥
@@ -187,16 +180,7 @@ module _ {M : Type 0} {levels : Levels.Ghosts M} {D E : Type 0} (g : Ghosts D) (
             (opened.now keeps c may (Stores.files_of m.core.store) (standing_page (g.content entry)) (stands_at_start entry m opened keeps)),
       );
     };
-    fresh = subst (λ (n : ℕ). IsStart m.core n (slots_of m.core.swap).total) (sym fresh.fresh.frames)
-        (subst (λ (n : ℕ). IsStart m.core frames n) (sym fresh.slots_free.total) fresh);
-    start = record {
-      live = λ pid. refl;
-      views = λ pid page. refl;
-      same = λ file page. refl;
-      touched = λ file page. refl;
-      objects = λ object page. refl;
-      past = refl;
-      running = refl;
-    };
+    fresh = subst (λ (n : ℕ). IsStart m.core n (slots_of m.core.swap).total) (sym fresh.fresh.frames) (subst (λ (n : ℕ). IsStart m.core frames n) (sym fresh.slots_free.total) fresh);
+    start = record { live = λ pid. refl; views = λ pid page. refl; same = λ file page. refl; touched = λ file page. refl; objects = λ object page. refl; past = refl; running = refl };
     stands = λ keeps. stands_at_start entry m opened keeps;
   }

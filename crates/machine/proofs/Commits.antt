@@ -51,10 +51,7 @@ msync_refuses s pid addr len mode =
     (row_refuses s pid (addr / 4096) count mode)))
 
 ruled_so : (s : State) (r : Ruling) → RefusesOnly r → (msync_outcome s r).reply ≡ Refused EIO → ⊥
-ruled_so s (Refuses errno) fine e =
-    let io : is_io_error errno ≡ true = ap may_have_taken e in
-    let never : false ≡ true = sym fine ∙ io in
-    cc
+ruled_so s (Refuses errno) fine e = let io : is_io_error errno ≡ true = ap may_have_taken e in let never : false ≡ true = sym fine ∙ io in cc
 ruled_so s r fine e = cc
 
 -- the flat model's msync never fails

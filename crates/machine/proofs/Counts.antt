@@ -7,18 +7,15 @@ not_counted false n is none = refl
 not_counted true n is none = absurd (let one : n ≡ 1 = is in omega (arith, one, none))
 
 module _ {D E : Type 0} (g : Ghosts D) (h : Ghosts E) where
-  refused_failed : (old new : Machine D E) (errno : Errno) → HasCause g h old new (Refused errno)
-      → g.failures (store_of old) + failed_count (Refused errno) ≤ g.failures (store_of new)
+  refused_failed : (old new : Machine D E) (errno : Errno) → HasCause g h old new (Refused errno) → g.failures (store_of old) + failed_count (Refused errno) ≤ g.failures (store_of new)
   refused_failed old new EIO is = let less : g.failures (store_of old) < g.failures (store_of new) = is.failed refl in omega (arith, less)
   refused_failed old new errno is = omega (arith, is.later)
 
-  stall_failed : (old new : Machine D E) (stall : Stall) → HasCause g h old new (Stalled stall)
-      → g.failures (store_of old) + failed_count (Stalled stall) ≤ g.failures (store_of new)
+  stall_failed : (old new : Machine D E) (stall : Stall) → HasCause g h old new (Stalled stall) → g.failures (store_of old) + failed_count (Stalled stall) ≤ g.failures (store_of new)
   stall_failed old new StoreDevice is = let less : g.failures (store_of old) < g.failures (store_of new) = is.stalled refl in omega (arith, less)
   stall_failed old new stall is = omega (arith, is.later)
 
-  failed_once : (old new : Machine D E) (reply : Reply) → HasCause g h old new reply
-      → g.failures (store_of old) + failed_count reply ≤ g.failures (store_of new)
+  failed_once : (old new : Machine D E) (reply : Reply) → HasCause g h old new reply → g.failures (store_of old) + failed_count reply ≤ g.failures (store_of new)
   failed_once old new (Refused errno) is = refused_failed old new errno is
   failed_once old new (Stalled stall) is = stall_failed old new stall is
   failed_once old new reply is = omega (arith, is.later)
@@ -28,19 +25,16 @@ module _ {D E : Type 0} (g : Ghosts D) (h : Ghosts E) where
   swap_stall_failed old new SwapDevice is = let less : h.failures (swap_of old) < h.failures (swap_of new) = is.swap_stalled refl in omega (arith, less)
   swap_stall_failed old new stall is = omega (arith, is.swap_later)
 
-  swap_failed_once : (old new : Machine D E) (reply : Reply) → HasCause g h old new reply
-      → h.failures (swap_of old) + swap_failed_count reply ≤ h.failures (swap_of new)
+  swap_failed_once : (old new : Machine D E) (reply : Reply) → HasCause g h old new reply → h.failures (swap_of old) + swap_failed_count reply ≤ h.failures (swap_of new)
   swap_failed_once old new (Stalled stall) is = swap_stall_failed old new stall is
   swap_failed_once old new reply is = omega (arith, is.swap_later)
 
   -- where the reply doesn't name the store
-  calm_once : (old new : Machine D E) (reply : Reply) → HasCause g h old new reply → failed_count reply ≡ 0
-      → g.failures (store_of new) ≡ g.failures (store_of old)
+  calm_once : (old new : Machine D E) (reply : Reply) → HasCause g h old new reply → failed_count reply ≡ 0 → g.failures (store_of new) ≡ g.failures (store_of old)
   calm_once old new reply is none = is.calm (not_counted (names_store reply) (failed_count reply) refl none)
 
   -- where it doesn't name the swap device
-  swap_calm_once : (old new : Machine D E) (reply : Reply) → HasCause g h old new reply → swap_failed_count reply ≡ 0
-      → h.failures (swap_of new) ≡ h.failures (swap_of old)
+  swap_calm_once : (old new : Machine D E) (reply : Reply) → HasCause g h old new reply → swap_failed_count reply ≡ 0 → h.failures (swap_of new) ≡ h.failures (swap_of old)
   swap_calm_once old new reply is none = is.swap_calm (not_counted (names_swap reply) (swap_failed_count reply) refl none)
 
   pub counts : (old : Machine D E) (replies : List Reply) (new : Machine D E) → Caused g h old replies new → Counts g h old new replies

@@ -2,7 +2,7 @@
 use Rattle.vm_types.specs.declared.mode.Levels as Levels
 use Rattle.machine.proofs.Names.{ℕ, ◌/◌, ◌≡◌, inl, Bool, true, false, List, Option, Some, None, is_some, refl, sym, ap, ◌∙◌, subst, inr, ⊎_elim, arith, rules, LeavesNow, LeavesOnly, Touches, Nothing, Image, MayLeave, Ghosts, stays, started}
 use Rattle.machine.proofs.Names.{goes_on, still_leaves, asks_none, StandsFor, FileStore, frame_count, slots_of, UsesDevice, ReadsStore, Picture, picture_of, ShowsPages, Core, asks_slots_same, asks_same, slotted_same, calm_same, KeepsRoom}
-use Rattle.machine.proofs.Names.{KeepsDevices, settles_nothing, writes_none, takes_none, AsksFor, is_idle, Access, Command, Exit, Mmap, Munmap, Mprotect, Dontneed, Msync, Load, Store, Fetch, PastFaults, Stall, Reply, Done}
+use Rattle.machine.proofs.Names.{KeepsDevices, settles_nothing, writes_none, empties_none, permits_none, takes_none, AsksFor, is_idle, Access, Command, Exit, Mmap, Munmap, Mprotect, Dontneed, Msync, Load, Store, Fetch, PastFaults, Stall, Reply, Done}
 use Rattle.machine.proofs.Names.{Halted, page_count, Files, user_end, Past, Answers, Stalls, Stays, MayStall, State, IsRunning, outcome, noted, past_after, ruling, takes, Pages}
 use Rattle.machine.{specs.{Engine.{stands_in, MayStand, HoldsIn, StandsForSome, EngineShows, EngineMeets}, Accesses.{Accesses}, declared.engine.Engine.{Engine}}, proofs.Steps.{outcome_keeps, past_stalled}}
 use Rattle.msync.specs.Shows as Syncing
@@ -43,10 +43,10 @@ module _ {M : Type 0} {levels : Levels.Ghosts M} {D E : Type 0} (g : Ghosts D) (
   halted_accesses c (Fetch pid addr) = (halted_asks g h c pid addr Kinds.Fetch, λ place walked. refl)
   halted_accesses c (Store pid addr stored) = (halted_asks g h c pid addr Kinds.Store, λ place walked done. absurd (let never : Halted ≡ Done = done in cc))
   halted_accesses c (Exit pid) = takes_none (picture_of c) pid 0 (user_end levels.mode)
-  halted_accesses c (Mmap pid addr len prot source placing) = (takes_none (picture_of c) pid 0 (page_count len), λ page user out. refl)
+  halted_accesses c (Mmap pid addr len prot source placing) = (takes_none (picture_of c) pid 0 (page_count len), empties_none (picture_of c) pid 0 (page_count len) Halted refl)
   halted_accesses c (Munmap pid addr len) = (takes_none (picture_of c) pid (addr / 4096) (page_count len), λ page user out. refl)
-  halted_accesses c (Mprotect pid addr len prot) = (takes_none (picture_of c) pid 0 0, λ page user out. refl)
-  halted_accesses c (Dontneed pid addr len) = (takes_none (picture_of c) pid 0 0, λ page user out. refl)
+  halted_accesses c (Mprotect pid addr len prot) = (takes_none (picture_of c) pid 0 0, permits_none (picture_of c) pid (addr / 4096) (page_count len) prot Halted refl)
+  halted_accesses c (Dontneed pid addr len) = (takes_none (picture_of c) pid 0 0, empties_none (picture_of c) pid (addr / 4096) (page_count len) Halted refl)
   halted_accesses c (Msync pid addr len mode) = (
     settles_nothing (picture_of c),
     record { store = asks_none g _ c.store.disk c.store.disk (λ k. refl); swap = asks_none h _ c.swap.pages.disk c.swap.pages.disk (λ k. refl) },
@@ -131,8 +131,7 @@ module _ {M : Type 0} {levels : Levels.Ghosts M} {D E : Type 0} (g : Ghosts D) (
     abbrev n : ℕ
     n = g.sector_count old.core.store.disk
 
-    moved : (t : State) → Leaves s t → g.keeps_model core.store.disk
-        → LeavesNow g core.store.disk (StandsForSome (g.sector_count core.store.disk) t.files (MayStand t))
+    moved : (t : State) → Leaves s t → g.keeps_model core.store.disk → LeavesNow g core.store.disk (StandsForSome (g.sector_count core.store.disk) t.files (MayStand t))
     moved t kept k = λ c may.
         same_stands (g.sector_count core.store.disk) s t c kept
         (subst (λ (sectors : ℕ). StandsForSome sectors s.files (MayStand s) c) (sym reads.size)
@@ -192,8 +191,7 @@ module _ {M : Type 0} {levels : Levels.Ghosts M} {D E : Type 0} (g : Ghosts D) (
         } in
         (s, meets)
 
-    pub read_meets : takes s (ruling s command) s.durable ≡ s.durable → Calls.Comes g h old.core core s command reply
-        → (t : State) × EngineMeets g h old new s t command reply
+    pub read_meets : takes s (ruling s command) s.durable ≡ s.durable → Calls.Comes g h old.core core s command reply → (t : State) × EngineMeets g h old new s t command reply
     read_meets none (Calls.Does answer pages) = did none answer pages
     read_meets none (Calls.Stalls stall may short answer pages) = stalled stall may short answer pages
 

@@ -4,7 +4,7 @@ pub use Rattle.disk_model.{proofs.Moments.{stays, asks_none, started, holds_now,
 pub use Rattle.{disk_model.specs.declared.sector_disk.SectorDisk.{Ghosts}, fault.{proofs.{AccessAsking.{asks_same}, AccessSlotted.{slotted_same}, Asking.{asks_slots_same}, Wanted.{calm_same}}, specs.Changes.{KeepsRoom}}}
 pub use Rattle.file_store.{proofs.Outside.{left_outside}, specs.{Commit.{StandsForEither}, Opened.{RefusesToOpen, OpensFrom}, Standing.{standing_page, file_info, StandsAs, StandsFor}, declared.faults.OpenFault.{OpenFault}}}
 pub use Rattle.{file_store.specs.declared.store.FileStore.{FileStore}, frames.specs.FrameTable.{frame_count}, msync.{proofs.SettledPages.{settles_nothing}, specs.Core.{GivesBack, Failed, Commits, KeepsMemory, Unread, Acknowledged}}}
-pub use Rattle.{page_cache.specs.declared.place.Place.TheVariants.{Home}, ranges.{proofs.Named.{named-alike}, specs.Steps.{KeepsDevices}}, spaces.proofs.{Asking.{writes_none}, Pages.{attrs_seen}, Returning.{takes_none}}}
+pub use Rattle.{page_cache.specs.declared.place.Place.TheVariants.{Home}, ranges.{proofs.Named.{named-alike}, specs.Steps.{KeepsDevices}}, spaces.proofs.{Asking.{writes_none}, Pages.{attrs_seen}, Returning.{empties_none, permits_none, takes_none}}}
 pub use Rattle.{spaces.specs.{Accesses.{KeepsToPage, AsksFor}, Calls.{IsCaused}, Idle.{is_idle, is_denial, refused_count, names_store, names_swap}, Ranges.{GivesPagesBack}}, std.proofs.Common.{sym, ◌≡◌, Bool, ℕ, ◌∙◌, subst, true, false}}
 pub use Rattle.std.proofs.Common.{ap, if◌then◌else◌, not, List, ◌≢◌, refl, ⊎_elim, [], Some, is_some, ◌⊎◌, rules, ◌*◌, inr, arith, None, ◌≤◌, inl, ◌<◌, ◌∷◌, ◌%◌, ◌==◌, Option, ◌/◌, nat_lt, sum_by, ◌+◌, zero, add-zero, suc, add-one, ◌++◌}
 pub use Rattle.std.{proofs.{Common.{length, set, take_all, length-set, take}, lemmas.{Bool.{cases_Bool, false≢true, false_from_ne_true, true_from_ne_false}, List.{take_more_set, take_more, Sums.{sum_by-cons}}}}, specs.Prelude.{option_map}}

@@ -18,8 +18,7 @@ msync_event : (s : State) (r : Ruling) (reply : Reply) (d : Pages) → reply ≡
 msync_event s (Takes pid first count) reply d e = rw e refl
 msync_event s r reply d e = either_way (may_have_taken reply) d
 
-answered_event : (s : State) (command : Command) (reply : Reply) (d : Pages) → reply ≡ (outcome s command).reply
-    → after_event (event s command reply) d ≡ takes s (ruling s command) d
+answered_event : (s : State) (command : Command) (reply : Reply) (d : Pages) → reply ≡ (outcome s command).reply → after_event (event s command reply) d ≡ takes s (ruling s command) d
 answered_event s (Msync pid addr len mode) reply d e = msync_event s (msync_ruling s pid addr len mode) reply d e
 answered_event s command reply d e = either_way (may_have_taken reply) d
 
@@ -35,17 +34,10 @@ pub goes_on_or_fails : (causes : Causes) (s : State) (command : Command) (reply 
     → (IsRunning t × (t.durable ≡ after_event (event s command reply) s.durable)) ⊎ Failed s command reply t
 goes_on_or_fails causes s command reply t (Answers run r e) h =
     let kept = outcome_keeps s command in
-    inl (
-      ap (λ (x : State). x.ends) e ∙ kept.ends ∙ h,
-      ap (λ (x : State). x.durable) e ∙ kept.durable_is ∙ sym (answered_event s command reply s.durable r),
-    )
-goes_on_or_fails causes s command reply t (Fails after run c cause r e) h =
-    inr (record { after = after; commit = c; answer = r; ends = ap (λ (x : State). x.ends) e })
+    inl (ap (λ (x : State). x.ends) e ∙ kept.ends ∙ h, ap (λ (x : State). x.durable) e ∙ kept.durable_is ∙ sym (answered_event s command reply s.durable r))
+goes_on_or_fails causes s command reply t (Fails after run c cause r e) h = inr (record { after = after; commit = c; answer = r; ends = ap (λ (x : State). x.ends) e })
 goes_on_or_fails causes s command reply t (Stalls stall run may r e) h =
-    inl (
-      ap (λ (x : State). x.ends) e ∙ h,
-      ap (λ (x : State). x.durable) e ∙ sym (ap (λ (p : Reply). after_event (event s command p) s.durable) r),
-    )
+    inl (ap (λ (x : State). x.ends) e ∙ h, ap (λ (x : State). x.durable) e ∙ sym (ap (λ (p : Reply). after_event (event s command p) s.durable) r))
 goes_on_or_fails causes s command reply t (Stays ends is r e) h = absurd (let k : Some ends ≡ None = sym is ∙ h in cc)
 
 -- a step from a halted state does nothing
@@ -57,10 +49,8 @@ halted_stays causes s command reply t ends (Stalls stall run may r e) h = absurd
 halted_stays causes s command reply t ends (Stays others is r e) h = (r, e)
 
 -- what a failed commit may leave is what its event says
-pub failed_event : (s : State) (command : Command) (reply : Reply) (t : State) (f : Failed s command reply t)
-    → f.after ≡ after_event (event s command reply) s.durable
-failed_event s command reply t f =
-    commit_takes s (ruling s command) f.after f.commit ∙ sym (ap (λ (p : Reply). after_event (event s command p) s.durable) f.answer)
+pub failed_event : (s : State) (command : Command) (reply : Reply) (t : State) (f : Failed s command reply t) → f.after ≡ after_event (event s command reply) s.durable
+failed_event s command reply t f = commit_takes s (ruling s command) f.after f.commit ∙ sym (ap (λ (p : Reply). after_event (event s command p) s.durable) f.answer)
 
 -- prefixes
 weight : Command → ℕ

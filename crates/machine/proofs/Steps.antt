@@ -31,8 +31,7 @@ keeps_refused s None x h = h
 
 keeps_done : (s : State) (checks : Option Errno) (t : State) → t.files ≡ s.files → t.ends ≡ s.ends → t.durable ≡ s.durable → t.past ≡ s.past
     → Keeps s (refused_or s checks (record { reply = Done; state = t })) s.durable
-keeps_done s checks t files ends durable past =
-    keeps_refused s checks _ (record { files = files; ends = ends; durable_is = durable; past = past; answers = λ stall e. cc })
+keeps_done s checks t files ends durable past = keeps_refused s checks _ (record { files = files; ends = ends; durable_is = durable; past = past; answers = λ stall e. cc })
 
 keeps_msync : (s : State) (r : Ruling) → Keeps s (msync_outcome s r) (takes s r s.durable)
 keeps_msync s (Refuses errno) = search rules
@@ -65,20 +64,16 @@ keeps_live s pid x h = keeps_either s (s.live pid) x (answers s (Refused ESRCH))
 -- what is asked of a row, unless its length is 0
 keeps_asked : (s : State) (pid addr len : ℕ) (x : Outcome) → Keeps s x s.durable
     → Keeps s (refused_or s (first_of (asked_checks s pid addr)) (if len == 0 then answers s Done else x)) s.durable
-keeps_asked s pid addr len x h =
-    keeps_refused s (first_of (asked_checks s pid addr)) _ (keeps_either s (len == 0) (answers s Done) x s.durable (search rules) h)
+keeps_asked s pid addr len x h = keeps_refused s (first_of (asked_checks s pid addr)) _ (keeps_either s (len == 0) (answers s Done) x s.durable (search rules) h)
 
 pub outcome_keeps : (s : State) (command : Command) → Keeps s (outcome s command) (takes s (ruling s command) s.durable)
 outcome_keeps s Spawn = keeps_spawn s (least_free_pid s.live)
 outcome_keeps s (Fork pid) = keeps_live s pid _ (keeps_fork s pid (least_free_pid s.live))
 outcome_keeps s (Exit pid) = keeps_live s pid _ (search rules)
-outcome_keeps s (Mmap pid addr len prot source placing) =
-    keeps_mmap s pid len prot source (mmap_errno s pid addr len prot source placing) (mmap_place s pid addr len placing)
+outcome_keeps s (Mmap pid addr len prot source placing) = keeps_mmap s pid len prot source (mmap_errno s pid addr len prot source placing) (mmap_place s pid addr len placing)
 outcome_keeps s (Munmap pid addr len) = keeps_done s (first_of (munmap_checks s pid addr len)) _ refl refl refl refl
-outcome_keeps s (Mprotect pid addr len prot) =
-    keeps_asked s pid addr len _ (keeps_done s (first_of (row_checks s pid (addr / 4096) (pages_from addr len) prot)) _ refl refl refl refl)
-outcome_keeps s (Dontneed pid addr len) =
-    keeps_asked s pid addr len _ (keeps_done s (first_of (covered_checks s pid (addr / 4096) (pages_from addr len))) _ refl refl refl refl)
+outcome_keeps s (Mprotect pid addr len prot) = keeps_asked s pid addr len _ (keeps_done s (first_of (row_checks s pid (addr / 4096) (pages_from addr len) prot)) _ refl refl refl refl)
+outcome_keeps s (Dontneed pid addr len) = keeps_asked s pid addr len _ (keeps_done s (first_of (covered_checks s pid (addr / 4096) (pages_from addr len))) _ refl refl refl refl)
 outcome_keeps s PastFaults = search rules
 outcome_keeps s (Msync pid addr len mode) = keeps_msync s (msync_ruling s pid addr len mode)
 outcome_keeps s (Load pid addr width) = keeps_live s pid _ (keeps_load s addr width _)

@@ -3,8 +3,7 @@ use Rattle.machine.proofs.Names.{◌≡◌, ℕ, inl, inr, Option, refl, sym, ap
 use Rattle.machine.specs.Tidy.{IsTidy}
 
 maps_seen : {mode : ℕ} (c : Picture mode) (s : State) → ShowsPages c s → (pid page : ℕ) → maps_of s.views pid page ≡ c.at pid page
-maps_seen c s shows pid page =
-    ap (λ (o : Option View). option_map (λ (view : View). view.attr) o) (shows.views pid page) ∙ ap (λ map. map page) (attrs_seen c pid)
+maps_seen c s shows pid page = ap (λ (o : Option View). option_map (λ (view : View). view.attr) o) (shows.views pid page) ∙ ap (λ map. map page) (attrs_seen c pid)
 
 module _ {mode : ℕ} where
   pub tidied : (c : Picture mode) (s : State) → IsFit c → ShowsPages c s → IsTidy s

@@ -13,7 +13,7 @@ use Rattle.residency.specs.Picture.{picture_of}
 use Rattle.residency.specs.declared.kernel.Core.{Core}
 use Rattle.spaces.specs.Accesses.{AsksFor, WritesNumber}
 use Rattle.spaces.specs.Processes.{ForkTakes, SpawnTakes}
-use Rattle.spaces.specs.Ranges.{KeepsEntriesBeside, TakesNothing, first_mapped}
+use Rattle.spaces.specs.Ranges.{EmptiesRange, KeepsEntriesBeside, PermitsRange, TakesNothing, first_mapped}
 use Rattle.vm_types.specs.Checks.{page_count}
 use Rattle.vm_types.specs.Limits.{user_end}
 use Rattle.vm_types.specs.declared.access.Access.TheVariants as Access
@@ -28,8 +28,9 @@ module _ {M : Type 0} {levels : Levels.Ghosts M} {D E : Type 0} (g : Ghosts D) (
   -- An access asks for no more than it wants, and the devices for sectors of its page and of free slots alone. Where the tables grant it
   -- nothing changes, but the number that a store writes. A spawn and a fork take frames for tables alone, and give others up only for
   -- that; they ask swap for free slots alone, a spawn only where no frame is free, and the store for nothing. An exit and a call on a
-  -- range take no frame and drop no page, and a call on a range changes no entry beside it. An msync takes no frame either, and of its
-  -- entries none loses more than D; it asks swap for slots of the pages that it takes alone, and the store for what a commit writes.
+  -- range take no frame and drop no page, and a call on a range changes no entry beside it; in it an mmap and a dontneed leave none, and
+  -- an mprotect those of the permission over the same frames. An msync takes no frame either, and of its entries none loses more than
+  -- D; it asks swap for slots of the pages that it takes alone, and the store for what a commit writes.
   -- Telling the history changes nothing.
   abbrev pub Accesses : Core D E M levels → Core D E M levels → Command → Reply → Type 0
   Accesses old new (Load pid addr width) reply =
@@ -44,13 +45,13 @@ module _ {M : Type 0} {levels : Levels.Ghosts M} {D E : Type 0} (g : Ghosts D) (
   Accesses old new (Exit pid) reply = TakesNothing (picture_of old) (picture_of new) pid 0 (user_end levels.mode)
   Accesses old new (Mmap pid addr len prot source placing) reply =
       TakesNothing (picture_of old) (picture_of new) pid (first_mapped reply) (page_count len)
-      × KeepsEntriesBeside (picture_of old) (picture_of new) pid (first_mapped reply) (page_count len)
+      × EmptiesRange (picture_of old) (picture_of new) pid (first_mapped reply) (page_count len) reply
   Accesses old new (Munmap pid addr len) reply =
       TakesNothing (picture_of old) (picture_of new) pid (addr / 4096) (page_count len)
       × KeepsEntriesBeside (picture_of old) (picture_of new) pid (addr / 4096) (page_count len)
   Accesses old new (Mprotect pid addr len prot) reply =
-      TakesNothing (picture_of old) (picture_of new) pid 0 0 × KeepsEntriesBeside (picture_of old) (picture_of new) pid (addr / 4096) (page_count len)
+      TakesNothing (picture_of old) (picture_of new) pid 0 0 × PermitsRange (picture_of old) (picture_of new) pid (addr / 4096) (page_count len) prot reply
   Accesses old new (Dontneed pid addr len) reply =
-      TakesNothing (picture_of old) (picture_of new) pid 0 0 × KeepsEntriesBeside (picture_of old) (picture_of new) pid (addr / 4096) (page_count len)
+      TakesNothing (picture_of old) (picture_of new) pid 0 0 × EmptiesRange (picture_of old) (picture_of new) pid (addr / 4096) (page_count len) reply
   Accesses old new (Msync pid addr len mode) reply = SettlesMemory (picture_of old) (picture_of new) × AsksToCommit g h old new pid addr len
   Accesses old new PastFaults reply = new ≡ old

@@ -22,9 +22,10 @@ const MIN_FRAMES: u32 = 8;
 
 const MAX_FRAMES: u32 = 1 << 16;
 
-/// The most slots, and the sectors of one.
-const MAX_SLOTS: u32 = 1 << 16;
+/// The most slots of swap that a machine has.
+pub const MAX_SLOTS: u32 = 1 << 16;
 
+/// The sectors of a slot.
 const SLOT_SECTORS: u64 = 8;
 
 /// Why a machine doesn't start. `Display` gives its name, as the programs print it.

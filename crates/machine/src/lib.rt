@@ -11,7 +11,7 @@ mod fault_log;
 mod machine;
 mod syncs;
 
-pub use boot::BootFault;
+pub use boot::{BootFault, MAX_SLOTS};
 pub use config::Config;
 pub use engine::Engine;
 pub use machine::Machine;

@@ -3,6 +3,7 @@ use crate::bench::{Act, CONFIG, Call, End, equal, image, lived, with_swap};
 use disk_model::SimDisk;
 use machine::{BootFault, Config};
 use std::process::Abort;
+use vm_types::Mode;
 
 /// Maps a page and stores a byte to it.
 const STORES: Act = Act::Runs(
@@ -38,8 +39,8 @@ const HALTS: [Act; 6] = [
     Act::Is(0, true),
 ];
 
-/// The store's own access keeps its translation, so each of the loads finds it. A buffer that keeps nothing would meet every
-/// contract: this refuses it.
+/// The store's own access keeps its translation, so each of the loads finds it. A buffer that keeps nothing, and a count that is always
+/// 0, would meet every contract: this refuses both, in each mode.
 const TEN_LOADS_ARE_TEN_HITS: [Act; 7] = [
     Act::Steps(Call::Spawn, End::Spawned),
     Act::Steps(Call::MapOwn, End::Mapped),
@@ -126,12 +127,15 @@ fn boots_are_refused(rt: HostRuntime) {
 
 #[test]
 fn translations_and_faults_are_kept(rt: HostRuntime) {
-    let config = Config {
-        frames: 64,
-        ..CONFIG
-    };
-    let devices = with_swap(&rt, image(&rt, true), 128);
-    let (fault, _store) = lived(&rt, config, devices, &TEN_LOADS_ARE_TEN_HITS);
-    equal(&rt, fault, None);
+    for mode in [Mode::Sv39, Mode::Sv48] {
+        let config = Config {
+            frames: 64,
+            mode,
+            ..CONFIG
+        };
+        let devices = with_swap(&rt, image(&rt, true), 128);
+        let (fault, _store) = lived(&rt, config, devices, &TEN_LOADS_ARE_TEN_HITS);
+        equal(&rt, fault, None);
+    }
     after(&rt, image(&rt, true), &A_FAULT_IS_KEPT);
 }

@@ -2,7 +2,9 @@
 use Rattle.memory.proofs.Names.{◌≡◌, ◌≢◌, ℕ, zero, suc, ◌-◌, ◌<◌, ◌⊎◌, inl, inr, Some, None, Result, Ok, Err, get_or, refl, sym, ap, ◌∙◌, subst, arith, cases_eq, false≢true, same_Some, IfOk, OnErr, FrameNo, NoFree, top_level, Role, Free}
 use Rattle.memory.proofs.Names.{Table, FrameTable, frame_count, role_of, SameButFor, Takes, Releases, is_pointer, entry_at, frame_of, index_of, is_pointer-zero, IsTable, Points, IsForest, IsRoot, IsSpare, IsUnlinked, Way, last_table}
 use Rattle.memory.proofs.Names.{page_entry, SetsEntry, LinksTable, Prunes, ends, index_of-lt, only_way, way_forth, empty_not_linking, table_moved, table_moved_back, zeros_empty, cases_place, entry_at-bytes, points_moved, sizes}
-use Rattle.memory.{specs.{declared.buffer.TranslationBuffer.{TranslationBuffer}, Lines.{line_at, line_place}, Kept.{IsLeafOf, LinesAreLeaves}, Notes.{IsNumberOf}}, proofs.Leaves.{as_leaf, as_number, is_page, root_table, is_entry, of_entry}}
+use Rattle.disk_model.specs.Tally.{Tally}
+use Rattle.memory.proofs.Names.{◌+◌, ◌^◌, min, arith, slice_index_or, List, Option}
+use Rattle.memory.{specs.{declared.{buffer.TranslationBuffer.{TranslationBuffer}, line.Line.{Line}}, Lines.{AreHits, leaf_for, line_at, line_place}, Kept.{IsLeafOf, LinesAreLeaves}, Notes.{IsNumberOf}}, proofs.Leaves.{as_leaf, as_number, is_page, root_table, is_entry, of_entry}}
 pub use Rattle.page_tables.proofs.Data.{free_is_no_table, released_role}
 
 -- the same way, over tables still, to the same entry
@@ -124,9 +126,7 @@ module _ (mode : ℕ) (old new : FrameTable) (root : ℕ) (forest : IsForest old
   -- the entry of a page was set
   pub set_leaf : (q number : ℕ) → SetsEntry old new (top_level mode) root q number → (r p e : ℕ) → IsLeafOf mode old r p e → (r ≢ root) ⊎ (p ≢ q) → IsLeafOf mode new r p e
   set_leaf q number sets r p e l other = elim (cases_eq r root) [
-    | inl same ↦ (
-        let here = own r same in
-        own_leaf r p e sets.forest (sets.roots r here) sets.kept.frames (sets.entries r p here (is_page mode p l.inside) other) l)
+    | inl same ↦ (let here = own r same in own_leaf r p e sets.forest (sets.roots r here) sets.kept.frames (sets.entries r p here (is_page mode p l.inside) other) l)
     | inr ne ↦ carried mode old new r p e l sets.kept.frames ((sets.unlinked r).0 l.unlinked) (stays_on mode old new r p e l (λ a i b. (sets.pointers a i b).0))
         (is_table old new l.lowest sets.kept.frames sets.kept.roles l.table)
         (sets.others l.lowest (index_of p 0) (index_of-lt p 0) (inl (not_last r p l.unlinked ne l.lowest (top_level mode) l.way q)))
@@ -153,9 +153,7 @@ module _ (mode : ℕ) (old new : FrameTable) (root : ℕ) (forest : IsForest old
   -- tables without entries were released
   pub pruned_leaf : (q : ℕ) → Prunes old new (top_level mode) root q → (r p e : ℕ) → IsLeafOf mode old r p e → IsLeafOf mode new r p e
   pruned_leaf q prunes r p e l = elim (cases_eq r root) [
-    | inl same ↦ (
-        let here = own r same in
-        own_leaf r p e prunes.forest (prunes.roots r here) prunes.kept.frames (prunes.entries r p here) l)
+    | inl same ↦ (let here = own r same in own_leaf r p e prunes.forest (prunes.roots r here) prunes.kept.frames (prunes.entries r p here) l)
     | inr ne ↦ (
         let stays : (x d : ℕ) → Way old (top_level mode) r p d x → IsTable old x → IsTable new x = λ x d w table. elim (prunes.gone x table) [
           | inl there ↦ there
@@ -223,9 +221,7 @@ pub kept_more : (mode : ℕ) (t : FrameTable) (b b' : TranslationBuffer) (root q
 kept_more mode t b b' root q leaf l now replaced others kept = record {
   leaves = λ r p e at. elim (cases_eq (line_place p) (line_place q)) [
     | inl same ↦ elim (cases_place r p root q) [
-      | inl here ↦ (
-          let is : leaf ≡ e = same_Some leaf e (sym now ∙ line_here b' r p root q here.0 here.1 ∙ at) in
-          rw (here.0, here.1, ← is) l)
+      | inl here ↦ (let is : leaf ≡ e = same_Some leaf e (sym now ∙ line_here b' r p root q here.0 here.1 ∙ at) in rw (here.0, here.1, ← is) l)
       | inr other ↦ absurd (never b' r p e (replaced r p same other) at)
     ]
     | inr ne ↦ kept.leaves r p e (sym (others r p ne) ∙ at)
@@ -239,9 +235,7 @@ pub kept_new : (mode : ℕ) (old new : FrameTable) (b b' : TranslationBuffer) (r
     → ((r p : ℕ) → line_place p ≢ line_place q → line_at b' r p ≡ line_at b r p) → LinesAreLeaves mode old b → LinesAreLeaves mode new b'
 kept_new mode old new b b' root q leaf forest is_root sets l now replaced others kept = record {
   leaves = λ r p e at. elim (cases_place r p root q) [
-    | inl here ↦ (
-        let is : leaf ≡ e = same_Some leaf e (sym now ∙ line_here b' r p root q here.0 here.1 ∙ at) in
-        rw (here.0, here.1, ← is) l)
+    | inl here ↦ (let is : leaf ≡ e = same_Some leaf e (sym now ∙ line_here b' r p root q here.0 here.1 ∙ at) in rw (here.0, here.1, ← is) l)
     | inr other ↦ elim (cases_eq (line_place p) (line_place q)) [
       | inl same ↦ absurd (never b' r p e (replaced r p same other) at)
       | inr ne ↦ set_leaf mode old new root forest is_root q leaf sets r p e (kept.leaves r p e (sym (others r p ne) ∙ at)) other
@@ -259,8 +253,8 @@ kept_taken mode old new b kind (Err e) kept taken err = subst (λ (t : FrameTabl
 pub kept_data : (mode : ℕ) (old new : FrameTable) (n : ℕ) (b b' : TranslationBuffer)
     → ((r p e : ℕ) → line_at b' r p ≡ Some e → (line_at b r p ≡ Some e) × (role_of old n ≢ Table))
     → (role_of old n ≢ Table → (r p e : ℕ) → IsLeafOf mode old r p e → IsLeafOf mode new r p e) → LinesAreLeaves mode old b → LinesAreLeaves mode new b'
-kept_data mode old new n b b' fewer leaf kept = record {
-  leaves = λ r p e at.
-      let left = fewer r p e at in
-      leaf left.1 r p e (kept.leaves r p e left.0);
-}
+kept_data mode old new n b b' fewer leaf kept = record { leaves = λ r p e at. let left = fewer r p e at in leaf left.1 r p e (kept.leaves r p e left.0) }
+
+-- no look found a line
+pub still_counted : {hits : ℕ} (b b' : TranslationBuffer) → AreHits hits b → b'.found ≡ b.found → AreHits hits b'
+still_counted b b' is same = is ∙ ap (λ (t : Tally). min t.number (2 ^ 64 - 1)) (sym same)

@@ -16,9 +16,7 @@ pub is_page : (mode page : ℕ) → page < user_end mode → IsPage (top_level m
 is_page mode page small = omega (arith, small, user_pages_fit mode)
 
 leads : (t : FrameTable) (n i m : ℕ) → Points t n i m → m < frame_count t → leads_on t (entry_at t n i) ≡ true
-leads t n i m p inside =
-    let below : nat_lt (frame_of (entry_at t n i)) (frame_count t) ≡ true = grind (arith, nat_tests, inside, p.target) in
-    rw (p.pointer, below) refl
+leads t n i m p inside = let below : nat_lt (frame_of (entry_at t n i)) (frame_count t) ≡ true = grind (arith, nat_tests, inside, p.target) in rw (p.pointer, below) refl
 
 -- a way to a table begins at one
 pub root_table : (t : FrameTable) (top root page d n : ℕ) → Way t top root page d n → IsTable t n → IsTable t root
@@ -26,8 +24,7 @@ root_table t top root page zero n w table = let P : ℕ → Type 0 = λ x. IsTab
 root_table t top root page (suc d) n w table = root_table t top root page d w.0 w.1 w.2.table
 
 -- the walk goes along a way to a table
-walk_from_way : (t : FrameTable) (top root page d n level : ℕ) → d + level ≡ top → Way t top root page d n → IsTable t n
-    → last_of t page top root ≡ last_of t page level n
+walk_from_way : (t : FrameTable) (top root page d n level : ℕ) → d + level ≡ top → Way t top root page d n → IsTable t n → last_of t page top root ≡ last_of t page level n
 walk_from_way t top root page zero n level e w table = let all : level ≡ top = omega arith in rw (all, w)
 walk_from_way t top root page (suc d) n level e w table =
     let here : top - d ≡ suc level = omega arith in
@@ -39,15 +36,7 @@ walk_from_way t top root page (suc d) n level e w table =
 
 -- a leaf is a number whose form and target are known
 pub as_number : (mode : ℕ) (t : FrameTable) (root page leaf : ℕ) → IsLeafOf mode t root page leaf → IsNumberOf mode t root page leaf
-as_number mode t root page leaf l = record {
-  lowest = l.lowest;
-  inside = l.inside;
-  unlinked = l.unlinked;
-  way = l.way;
-  table = l.table;
-  here = l.here;
-  some = nonzero leaf l.valid;
-}
+as_number mode t root page leaf l = record { lowest = l.lowest; inside = l.inside; unlinked = l.unlinked; way = l.way; table = l.table; here = l.here; some = nonzero leaf l.valid }
 
 pub as_leaf : (mode : ℕ) (t : FrameTable) (root page leaf : ℕ) → IsNumberOf mode t root page leaf → is_valid leaf ≡ true → frame_of leaf < frame_count t
     → IsLeafOf mode t root page leaf
@@ -71,8 +60,7 @@ module _ (mode : ℕ) (t : FrameTable) (root page leaf : ℕ) (l : IsLeafOf mode
   pub is_line : IsLine mode t root page leaf
   is_line = record {
     inside = (root_table t (top_level mode) root page (top_level mode) l.lowest l.way l.table).inside;
-    last = walk_from_way t (top_level mode) root page (top_level mode) l.lowest 0 (omega arith) l.way l.table
-        ∙ last_of-zero t page l.lowest ∙ ap (λ (e : ℕ). (0, e)) l.here;
+    last = walk_from_way t (top_level mode) root page (top_level mode) l.lowest 0 (omega arith) l.way l.table ∙ last_of-zero t page l.lowest ∙ ap (λ (e : ℕ). (0, e)) l.here;
     target = l.target;
   }
 

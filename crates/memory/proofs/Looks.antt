@@ -34,8 +34,7 @@ marked : (s d : Bool) → (not s || d) ≡ true → (s && not d) ≡ false
 marked true false e = cc
 marked s d e = refl
 
-answers : (count addr e : ℕ) (access : Access) → leaf_lets access e ≡ true → frame_of e < count
-    → answer_of count addr access 0 e ≡ Ok (address_in (frame_of e) addr)
+answers : (count addr e : ℕ) (access : Access) → leaf_lets access e ≡ true → frame_of e < count → answer_of count addr access 0 e ≡ Ok (address_in (frame_of e) addr)
 unfolding answer_of
 answers count addr e access h inside =
     let h0 = and_parts (is_valid e) _ h in

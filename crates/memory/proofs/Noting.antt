@@ -7,8 +7,7 @@ use Rattle.memory.{proofs.{Names.{way_forth, others_turned, empty_not_linking, z
 -- a frame changed that is no table, before or afterwards
 pub data_back : (old new : FrameTable) (n : ℕ) → SameButFor n old new → role_of old n ≢ Table → role_of new n ≢ Table
     → (mode root page number : ℕ) → IsNumberOf mode new root page number → IsNumberOf mode old root page number
-data_back old new n same before after =
-    number_stays new old n (others_turned old new n same) (λ i h table. absurd (after table.role)) (λ i m p. before p.table.role)
+data_back old new n same before after = number_stays new old n (others_turned old new n same) (λ i h table. absurd (after table.role)) (λ i m p. before p.table.role)
 
 -- a frame that was taken is filled with zeros
 pub taken_back : (old new : FrameTable) (n : ℕ) (kind : Role) → Takes old new kind n

@@ -1,6 +1,6 @@
 -- A buffer of translations: for the root of a tree and a page the leaf that a walk found there. Number and places of its
 -- lines are our own.
-use Rattle.std.specs.Prelude.{ℕ, ◌+◌, ◌*◌, ◌%◌, ◌≡◌, ◌<◌, Bool, true, ◌&&◌, ◌||◌, not, ◌==◌, if◌then◌else◌, Option, Some, None, Ok, slice_index_or}
+use Rattle.std.specs.Prelude.{ℕ, ◌+◌, ◌-◌, ◌*◌, ◌%◌, ◌^◌, min, ◌≡◌, ◌<◌, Bool, true, ◌&&◌, ◌||◌, not, ◌==◌, if◌then◌else◌, Option, Some, None, Ok, slice_index_or}
 use Rattle.vm_types.specs.Limits.{top_level, user_end}
 use Rattle.vm_types.specs.declared.access.Access.{Access}
 use Rattle.vm_types.specs.declared.number.Phys.{Phys}
@@ -22,6 +22,10 @@ leaf_for (Some line) root page = if (line.root.0 == root) && (line.page == page)
 -- the leaf that is kept for a page of a tree
 abbrev pub line_at : TranslationBuffer → ℕ → ℕ → Option ℕ
 line_at b root page = leaf_for (slice_index_or b.lines (line_place page) None) root page
+
+-- hits are the looks that found a line, and stay at the greatest value of a number of 64 bits
+abbrev pub AreHits : ℕ → TranslationBuffer → Type 0
+AreHits hits b = hits ≡ min b.found.number (2 ^ 64 - 1)
 
 -- the leaf ends the walk to the page, at the lowest level, and names a frame of memory
 pub record IsLine (mode : ℕ) (t : FrameTable) (root page leaf : ℕ) : Type 0 where

@@ -12,12 +12,12 @@ mod notes;
 mod trees;
 mod walking;
 
-pub use buffer::{PLACES, TranslationBuffer, lets};
+pub use buffer::{LINES, TranslationBuffer, lets};
 pub use line::Line;
 pub use memory::Memory;
 pub use notes::{forget_pages, is_kind, kinds_over, page_over};
 pub use trees::{
-    entry, entry_number, last_table, link_table, missing_tables, number_in, prune, set, set_at,
+    entry, entry_in, entry_number, last_table, link_table, missing_tables, number_in, prune, set,
     set_in, set_kept, table_of, take_table,
 };
 pub use walking::{WalkEnd, walk, walk_page};

@@ -26,13 +26,14 @@ pub struct Memory<M: Levels> {
 impl<M: Levels> Model for Memory<M> {
     ghost use Rattle.frames.specs.FrameTable.{FrameTable};
     ghost use Rattle.memory.specs.Kept.{LinesAreLeaves};
+    ghost use Rattle.memory.specs.Lines.{AreHits};
     ghost use Rattle.memory.specs.Notes.{AreNoted};
 
     ghost Value = { FrameTable };
 
     ghost view = { λ m. m.frames };
 
-    ghost invariant = { λ m. LinesAreLeaves M.mode m.frames m.buffer × AreNoted M.mode m.frames m.notes };
+    ghost invariant = { λ m. LinesAreLeaves M.mode m.frames m.buffer × AreNoted M.mode m.frames m.notes × AreHits m.hits m.buffer };
 }
 
 impl<M: Levels> Memory<M> {
@@ -41,6 +42,7 @@ impl<M: Levels> Memory<M> {
     ghost use Rattle.frames.specs.FrameTable.{frame_count, bytes_of, count_of, IsSound, IsFresh, IsFull, IsHeld, is_handed_out, Takes, Shares, Releases, with_bytes};
     ghost use Rattle.page_tables.specs.Tree.{IsSpare};
     ghost use Rattle.memory.specs.Kept.{IsLeafOf};
+    ghost use Rattle.memory.specs.Lines.{line_place};
     ghost use Rattle.memory.specs.Lending.{LendsMemoryFrame};
 
     /// Memory of `count` frames, 8 to 65,536, all of them free but frame 0.
@@ -60,7 +62,8 @@ impl<M: Levels> Memory<M> {
         })
     }
 
-    /// How many walks found their page's line in the buffer; it stays at its greatest value. No clause speaks of it.
+    /// How many walks found their page's line in the buffer; it stays at its greatest value. That it is so is part of the invariant. No clause
+    /// says it, since none says which lines there are.
     pub fn hits(&self) -> u64 {
         self.hits
     }
@@ -68,7 +71,8 @@ impl<M: Levels> Memory<M> {
     /// The line at place `index`, under 64, of the buffer: the leaf in which the walk to its page ends. That there is one no clause says.
     pub fn line(&self, index: usize) -> Option<Line>
         requires { index < 64 }
-        ensures { IfSome result (λ line. IsLeafOf M.mode self.now line.root.0 line.page line.leaf.0) }
+        ensures leaf { IfSome result (λ line. IsLeafOf M.mode self.now line.root.0 line.page line.leaf.0) }
+        ensures place { IfSome result (λ line. line_place line.page ≡ index) }
     {
         self.buffer.line(index)
     }
@@ -188,11 +192,13 @@ fn forget_table(frames: &Frames, buffer: &mut TranslationBuffer, notes: &mut Not
     requires { IsFrame frames.now n.0 }
     ensures lines { (root page leaf : ℕ) → line_at buffer.new root page ≡ Some leaf
         → (line_at buffer.old root page ≡ Some leaf) × (role_of frames.now n.0 ≢ Table) }
+    ensures kept { role_of frames.now n.0 ≢ Table → buffer.new ≡ buffer.old }
+    ensures unfound { buffer.new.found ≡ buffer.old.found }
     ensures each { notes.new.each ≡ notes.old.each }
     ensures whole { notes.new.whole ≡ true → (notes.old.whole ≡ true) × (role_of frames.now n.0 ≢ Table) }
 {
     if frames.role(n) == Role::Table {
-        *buffer = TranslationBuffer::new();
+        buffer.drop_all();
         notes.whole = false;
     }
 }

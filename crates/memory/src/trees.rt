@@ -1,7 +1,8 @@
 //! The calls of `page_tables`, over memory with a buffer.
 ghost use Rattle.std.specs.Prelude.{ℕ, ◌≡◌, ◌≢◌, ◌/◌, ◌%◌, ◌≤◌, IfErr, ◌<◌, ◌↔◌, IsErr, IfOk, OnErr};
 ghost use Rattle.vm_types.specs.Limits.{top_level, table_entries, user_end};
-ghost use Rattle.frames.specs.FrameTable.{FrameTable, IsFull, IsSound};
+ghost use Rattle.frames.specs.FrameTable.{FrameTable, IsFrame, IsFull, IsSound};
+ghost use Rattle.sv39_walk.specs.Entry.{entry_at};
 ghost use Rattle.page_tables.specs.Entry.{number_of, IsEntry};
 ghost use Rattle.page_tables.specs.Tree.{IsPage, IsTable, IsForest, IsRoot, IsSpare, last_table, missing_of, page_entry};
 ghost use Rattle.page_tables.specs.Places.{IsTableOf};
@@ -12,10 +13,10 @@ ghost use Rattle.page_tables.specs.Change.{AddsTable, SetsEntry, LinksTable, Pru
 
 use crate::memory::Memory;
 use crate::notes::Notes;
-use crate::{PLACES, TranslationBuffer};
+use crate::{LINES, TranslationBuffer};
 use frames::Frames;
 use page_tables::Entry;
-use sv39_walk::{Pte, TABLE_ENTRIES};
+use sv39_walk::{Pte, TABLE_ENTRIES, read_entry};
 use vm_types::{FrameNo, Levels, NoFree, Vpn};
 
 /// A table of zeros that is in no tree, to be linked or to begin a tree in which nothing stands. All trees stay as they are.
@@ -76,28 +77,7 @@ pub fn set<M: Levels>(memory: &mut Memory<M>, root: FrameNo, page: Vpn, entry: E
     after_set(&mut memory.buffer, &mut memory.notes, root, page, entry);
 }
 
-/// The same where the lowest table on the page's way is known.
-pub fn set_at<M: Levels>(
-    memory: &mut Memory<M>,
-    root: FrameNo,
-    page: Vpn,
-    table: FrameNo,
-    entry: Entry,
-)
-    requires forest { IsForest memory.old }
-    requires root { IsRoot (top_level M.mode) memory.old root.0 }
-    requires user { page < user_end M.mode }
-    requires table { IsTableOf memory.old (top_level M.mode) root.0 (page / table_entries) table.0 }
-    requires form { IsEntry entry }
-    ensures sets { SetsEntry memory.old memory.new (top_level M.mode) root.0 page (number_of entry) }
-    ensures sound { IsSound memory.new }
-{
-    let index = (page.get() % TABLE_ENTRIES) as usize;
-    page_tables::set_in(&mut memory.frames, table, index, entry);
-    after_set(&mut memory.buffer, &mut memory.notes, root, page, entry);
-}
-
-/// The same, and a leaf is kept at once, so that the next walk to the page finds its line.
+/// The same where the lowest table on the page's way is known; a leaf is kept at once, so that the next walk to the page finds its line.
 #[inline(always)]
 pub fn set_kept<M: Levels>(
     memory: &mut Memory<M>,
@@ -131,8 +111,9 @@ fn keep_entry<M: Levels>(
 )
     requires user { page < user_end M.mode }
     requires form { IsEntry entry }
-    ensures { (before : FrameTable) → IsForest before → IsRoot (top_level M.mode) before root.0 → SetsEntry before frames.now (top_level M.mode) root.0 page (number_of entry)
+    ensures lines { (before : FrameTable) → IsForest before → IsRoot (top_level M.mode) before root.0 → SetsEntry before frames.now (top_level M.mode) root.0 page (number_of entry)
         → LinesAreLeaves M.mode before buffer.old → LinesAreLeaves M.mode frames.now buffer.new }
+    ensures unfound { buffer.new.found ≡ buffer.old.found }
 {
     match entry {
         Entry::Leaf(leaf) if leaf.frame() < u64::from(frames.len()) => {
@@ -155,6 +136,7 @@ fn after_set(
         → LinesAreLeaves mode before buffer.old → LinesAreLeaves mode after buffer.new }
     ensures notes { (mode : ℕ) (before after : FrameTable) → IsForest before → IsRoot (top_level mode) before root.0 → SetsEntry before after (top_level mode) root.0 page (number_of entry)
         → AreNoted mode before notes.old → AreNoted mode after notes.new }
+    ensures unfound { buffer.new.found ≡ buffer.old.found }
 {
     buffer.drop_page(root, page);
     notes.add(root, page, entry);
@@ -218,6 +200,15 @@ pub fn number_in<M: Levels>(memory: &Memory<M>, table: FrameNo, index: usize) ->
     page_tables::number_in(&memory.frames, table, index)
 }
 
+/// The entry at place `index`, under 512, of a table of any level.
+pub fn entry_in<M: Levels>(memory: &Memory<M>, table: FrameNo, index: usize) -> Pte
+    requires inside { IsFrame memory.now table.0 }
+    requires below { index < table_entries }
+    ensures { result.0 ≡ entry_at memory.now table.0 index }
+{
+    read_entry(&memory.frames, table, index)
+}
+
 /// Makes `entry` what stands at place `index` of a lowest table: that of the page there, and of no other page. It names no frame, is a process's
 /// own, or names the frame that is named there already. That page's line is dropped, with whatever line has its place.
 pub fn set_in<M: Levels>(memory: &mut Memory<M>, table: FrameNo, index: usize, entry: Entry)
@@ -231,5 +222,5 @@ pub fn set_in<M: Levels>(memory: &mut Memory<M>, table: FrameNo, index: usize, e
     ensures { SetsInTable M.mode memory.old memory.new table.0 index (number_of entry) }
 {
     page_tables::set_in(&mut memory.frames, table, index, entry);
-    memory.buffer.drop_place(index % PLACES);
+    memory.buffer.drop_place(index % LINES);
 }

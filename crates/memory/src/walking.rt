@@ -94,6 +94,7 @@ fn walk_way<M: Levels>(
     requires kept { LinesAreLeaves M.mode frames.now buffer.old }
     ensures walked { IsWalkTo M.mode frames.now root.0 page access result }
     ensures kept { LinesAreLeaves M.mode frames.now buffer.new }
+    ensures unfound { buffer.new.found ≡ buffer.old.found }
 {
     match table_of::<M>(frames, root, page) {
         Err(_) => WalkEnd::Fault(None),
@@ -122,6 +123,7 @@ fn keep_leaf<M: Levels>(
     ensures walked { (addr : ℕ) → page_of addr ≡ page
         → MatchOption result (IsErr (translated (top_level M.mode) frames.now root.0 addr access)) (λ frame. translated (top_level M.mode) frames.now root.0 addr access ≡ Ok (address_in frame.0 addr)) }
     ensures kept { LinesAreLeaves M.mode frames.now buffer.new }
+    ensures unfound { buffer.new.found ≡ buffer.old.found }
 {
     let leaf = number_in(frames, table, (page.get() % ENTRIES) as usize);
     if !is_usable(frames, leaf, access) {

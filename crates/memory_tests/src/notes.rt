@@ -8,7 +8,7 @@ ghost use Rattle.memory.specs.Notes.{NamesFrame};
 use crate::bench::equal;
 use crate::trees::{add_table, new_table};
 use memory::{
-    Memory, forget_pages, is_kind, kinds_over, missing_tables, page_over, set, set_at, table_of,
+    Memory, forget_pages, is_kind, kinds_over, missing_tables, page_over, set, set_kept, table_of,
 };
 use page_tables::Entry;
 use std::alloc::Global;
@@ -69,7 +69,7 @@ fn show<M: Levels>(rt: &impl Abort, memory: &mut Memory<M>, root: FrameNo, page:
     assert!(rt; leaf.is_valid());
     assert!(rt; leaf.is_leaf());
     let table = table_of(memory, root, page).expect(rt, "a lowest table");
-    set_at(memory, root, page, table, Entry::Leaf(leaf));
+    set_kept(memory, root, page, table, Entry::Leaf(leaf));
 }
 
 // The last two pages of a mode. The third root that is asked of has no tree.

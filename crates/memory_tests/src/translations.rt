@@ -1,6 +1,6 @@
 //! Lines of a buffer of translations.
 use crate::bench::equal;
-use memory::{PLACES, TranslationBuffer};
+use memory::{LINES, TranslationBuffer};
 use std::process::Abort;
 use sv39_walk::Pte;
 use vm_types::{Access, FrameNo, Sv39, Sv48, Vpn};
@@ -23,7 +23,7 @@ fn take_step(rt: &impl Abort, buffer: &mut TranslationBuffer, step: Step) {
             buffer.keep(root, page, leaf);
         }
         Step::DropPage(root, page) => buffer.drop_page(root, page),
-        Step::DropPlace(index) => buffer.drop_place(index % PLACES),
+        Step::DropPlace(index) => buffer.drop_place(index % LINES),
         Step::DropRoot(root) => buffer.drop_root(root),
     }
 }

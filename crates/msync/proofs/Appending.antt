@@ -2,8 +2,7 @@
 use Rattle.msync.{proofs.Names.{ℕ, ◌≡◌, ◌<◌, ◌≤◌, ◌⊎◌, ⊎_elim, Bool, true, List, [], Result, Ok, Err, refl, sym, ap, ◌∙◌, subst, arith, cases_lt, IfOk, FilePage}, specs.Choice.{chosen_page, Appends, OverflowsRow, ListsTouched}}
 
 -- nothing passes
-pub nothing : (passes : FilePage → Bool) (list : List FilePage) (used : ℕ) → used ≤ 1023 → ((page : FilePage) → passes page ≡ true → ⊥)
-    → Appends passes list list used used
+pub nothing : (passes : FilePage → Bool) (list : List FilePage) (used : ℕ) → used ≤ 1023 → ((page : FilePage) → passes page ≡ true → ⊥) → Appends passes list list used used
 nothing passes list used few none = record {
   order = omega arith;
   few = few;
@@ -30,10 +29,7 @@ in_turn a b c x y z u v w from_a from_b to f g = record {
       ⊎_elim (λ (below : j < v). λ e. f.once i j less low below (sym (g.kept i (omega arith)) ∙ e ∙ g.kept j below))
       (λ (more : v ≤ j). g.once i j less more high)
       (cases_lt j v);
-  all = λ p e.
-      ⊎_elim (λ (h : a p ≡ true). let r = f.all p h in (r.0, omega (arith, r.1, g.order), g.kept r.0 r.1 ∙ r.2))
-      (λ (h : b p ≡ true). g.all p h)
-      (to p e);
+  all = λ p e. ⊎_elim (λ (h : a p ≡ true). let r = f.all p h in (r.0, omega (arith, r.1, g.order), g.kept r.0 r.1 ∙ r.2)) (λ (h : b p ≡ true). g.all p h) (to p e);
 }
 
 -- the same under another name

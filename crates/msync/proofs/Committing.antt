@@ -46,9 +46,7 @@ are_pages c chosen fit listed =
       inside = λ i p e.
           let r = some_get front i p e in
           fit.places.inside (File p) (fit.dirty.held (File p) (ap (λ q. c.touched (File q)) r.1 ∙ front_touched c chosen listed i r.0));
-      distinct = λ i j p less at_i at_j.
-          let b = some_get front j p at_j in
-          front_once c chosen listed i j less b.0 (sym (some_get front i p at_i).1 ∙ b.1);
+      distinct = λ i j p less at_i at_j. let b = some_get front j p at_j in front_once c chosen listed i j less b.0 (sym (some_get front i p at_i).1 ∙ b.1);
     }
 
 -- they lie in their spots, each once
@@ -148,9 +146,7 @@ module _ {mode : ℕ} (c : Picture mode) (s : State) (pid first count : ℕ) (pa
 
   -- one that is taken has its place in the list
   listed_place : (p : FilePage) → touched_in s pid first count p.file p.page ≡ true → (i : ℕ) × (i < length list) × ((spot_at list i).page ≡ p)
-  listed_place p taken =
-      let r = lists.all p taken in
-      (r.0, omega (arith, r.1, spots.count), spots.same r.0 r.1 ∙ r.2)
+  listed_place p taken = let r = lists.all p taken in (r.0, omega (arith, r.1, spots.count), spots.same r.0 r.1 ∙ r.2)
 
   module _ (new : Picture mode) (settles : Settles c new list (length list)) where
     touched_now : (p : FilePage) → (s.touched p.file p.page && not (touched_in s pid first count p.file p.page)) ≡ new.touched (File p)
@@ -159,8 +155,7 @@ module _ {mode : ℕ} (c : Picture mode) (s : State) (pid first count : ℕ) (pa
           let r = listed_place p taken in
           let clean : new.touched (File p) ≡ false = ap (λ q. new.touched (File q)) (sym r.2) ∙ settles.cleaned r.0 r.1 in
           rw taken (and-false (s.touched p.file p.page) ∙ sym clean))
-      | inr left ↦ (
-          rw left (and-true (s.touched p.file p.page) ∙ shows.touched p ∙ sym (settles.untouched (File p) (not_listed p left))))
+      | inr left ↦ (rw left (and-true (s.touched p.file p.page) ∙ shows.touched p ∙ sym (settles.untouched (File p) (not_listed p left))))
     ]
 
     held_now : (p : FilePage) (bytes : List ℕ) → held new (File p) ≡ Some bytes → committed s pid first count s.volatile p.file p.page ≡ bytes
@@ -268,12 +263,7 @@ away_of c chosen list fit spots has =
     let below : i < length (take chosen.count chosen.list) = (let less = has.1 in omega (arith, less, spots.count)) in
     let front : i < chosen.count = omega (arith, below, front_length chosen fit) in
     let slot = slot_of c (File (spot_at list i).page) (spot_at list i).at (spots.spots i below).placed has.2 in
-    record {
-      number = i;
-      below = front;
-      slot = slot.0;
-      placed = ap (λ q. c.place (File q)) (sym (front_same chosen i front) ∙ sym (spots.same i below)) ∙ slot.1;
-    }
+    record { number = i; below = front; slot = slot.0; placed = ap (λ q. c.place (File q)) (sym (front_same chosen i front) ∙ sym (spots.same i below)) ∙ slot.1 }
 
 -- what a fault comes from
 pub err_is : (f e : CommitFault) → f ≡ e → IsErrOf {T = Unit {0}} (Err f) e
@@ -288,14 +278,11 @@ source_failed before now a b f is causes = causes.source (err_is f Source is)
 -- what a commit would leave is what the flat model takes
 after_is : (s : State) (after : Pages) (pid addr len : ℕ) (mode : MsyncMode) (chosen : Chosen) → (same : TakesSame s pid addr len mode chosen)
     → commits s (Msync pid addr len mode) ≡ Some after → committed s pid same.first same.count s.durable ≡ after
-after_is s after pid addr len mode chosen same e =
-    let taken : Some (committed s pid same.first same.count s.durable) ≡ Some after = sym (ap (commit_of s) same.ruling) ∙ e in
-    cc
+after_is s after pid addr len mode chosen same e = let taken : Some (committed s pid same.first same.count s.durable) ≡ Some after = sym (ap (commit_of s) same.ruling) ∙ e in cc
 
 -- and it leaves something
 pub takes_some : (s : State) (pid addr len : ℕ) (mode : MsyncMode) (chosen : Chosen) → TakesSame s pid addr len mode chosen → commits s (Msync pid addr len mode) ≡ None → ⊥
-takes_some s pid addr len mode chosen same none =
-    let bad : Some (committed s pid same.first same.count s.durable) ≡ None = sym (ap (commit_of s) same.ruling) ∙ none in (cc)
+takes_some s pid addr len mode chosen same none = let bad : Some (committed s pid same.first same.count s.durable) ≡ None = sym (ap (commit_of s) same.ruling) ∙ none in (cc)
 
 -- memory with other slots and another directory
 module _ {mode : ℕ} where
@@ -304,8 +291,7 @@ module _ {mode : ℕ} where
 
 -- what holds of memory holds of it with the same slots and files
 pub store_same : {mode : ℕ} (P : Picture mode → Type 0) (c : Picture mode) (t t' : SlotTable) (d d' : Directory) → t' ≡ t → d' ≡ d → P (with_store c t d) → P (with_store c t' d')
-store_same P c t t' d d' slots files p =
-    subst (λ (x : Directory). P (with_store c t' x)) (sym files) (subst (λ (x : SlotTable). P (with_store c x d)) (sym slots) p)
+store_same P c t t' d d' slots files p = subst (λ (x : Directory). P (with_store c t' x)) (sym files) (subst (λ (x : SlotTable). P (with_store c x d)) (sym slots) p)
 
 module _ {D : Type 0} (g : Ghosts D) where
   -- what the store's commit says of these contents, as long as its source kept its model

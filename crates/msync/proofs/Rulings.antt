@@ -148,9 +148,7 @@ taken_of c map pid addr len list r same choice = tt
 -- touched pages are pages of files, of which there are 64, of fewer than 2 ^ 32 bytes
 in_file : (d : Directory) (f : ℕ) (o : Option Entry) (info : FileInfo) → entry_of d f ≡ o → option_map (λ e. e.info) o ≡ Some info → (f < 64) × (info.length < 2 ^ 32)
 in_file d f None info is e = cc
-in_file d f (Some x) info is e =
-    let same : x.info ≡ info = cc in
-    (d.numbers f x is, (let small = d.lengths f x is in omega (arith, small, ap (λ (i : FileInfo). i.length) same)))
+in_file d f (Some x) info is e = let same : x.info ≡ info = cc in (d.numbers f x is, (let small = d.lengths f x is in omega (arith, small, ap (λ (i : FileInfo). i.length) same)))
 
 pub touched_within : {mode : ℕ} (c : Picture mode) (d : Directory) → IsFit c → ((f : ℕ) → c.files f ≡ option_map (λ e. e.info) (entry_of d f)) → IsWithin (of_files c.touched) 64 (2 ^ 20)
 touched_within c d fit files = record {

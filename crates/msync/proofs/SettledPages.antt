@@ -6,9 +6,7 @@ use Rattle.msync.specs.{Settling.{KeepsBesidePages, LosesDirty, ClearsLeaf, IsFr
 use Rattle.{msync.specs.declared.chosen.{Residence.{Residence, TheVariants.{Framed, Slotted}}, Spot.{Spot}}, swap.specs.declared.pages.Pages.{Pages as Swap_pages}}
 
 lost_clean : (e e' : ℕ) → LosesDirty e e' → is_dirty e' ≡ false
-lost_clean e e' lost =
-    let number : e' ≡ e - 128 = (let n = lost.number in omega (arith, n)) in
-    ap is_dirty number ∙ seven_clear e (bit_seven e lost.had)
+lost_clean e e' lost = let number : e' ≡ e - 128 = (let n = lost.number in omega (arith, n)) in ap is_dirty number ∙ seven_clear e (bit_seven e lost.had)
 
 pub one_file : (p q : FilePage) → File p ≡ File q → p ≡ q
 one_file p q e = (cc)
@@ -86,8 +84,7 @@ module _ {mode : ℕ} (a b : Picture mode) (list : List Spot) (i : ℕ) (spots :
           | inr lost ↦ inr (subst (λ (e : ℕ). ClearsLeaf (IsFrameIn list) (entry a q p) e) (sym same) lost)
         ]
         | inr lost ↦ elim (settles.entries q p h) [
-          | inl was ↦ inr (
-              subst (λ (e : ℕ). ClearsLeaf (IsFrameIn list) e (entry c q p)) was (record { leaf = lost.leaf; frame = (i, less, lost.frame); loses = lost.loses }))
+          | inl was ↦ inr (subst (λ (e : ℕ). ClearsLeaf (IsFrameIn list) e (entry c q p)) was (record { leaf = lost.leaf; frame = (i, less, lost.frame); loses = lost.loses }))
           | inr before ↦ absurd (false≢true (sym (lost_clean (entry a q p) (entry b q p) before.loses) ∙ lost.loses.had))
         ]
       ];
@@ -126,7 +123,6 @@ module _ {M : Type 0} {m : Levels.Ghosts M} {D E : Type 0} where
 -- slots of which shares changed alone may be put and got
 pub ready_shared : {E : Type 0} (h : Ghosts E) (old new : Swap E) → IsReady h old → new.pages ≡ old.pages → (slots_of new).total ≡ (slots_of old).total → IsReady h new
 ready_shared {E = E} h old new ready pages total = record {
-  room = (
-      omega (arith, ap (λ p. h.sector_count p.disk) pages, ready.room, total));
+  room = (omega (arith, ap (λ p. h.sector_count p.disk) pages, ready.room, total));
   as_written = subst (λ (p : Swap_pages E). IsAsWritten h p.disk p.written.notes) (sym pages) ready.as_written;
 }

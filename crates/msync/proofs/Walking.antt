@@ -10,15 +10,11 @@ chosen_at touched map first n k p e less shares = and_from (touched p) (is_share
 
 where_chosen : (touched : FilePage → Bool) (map : ℕ → Option Attr) (first n : ℕ) (p : FilePage) → is_chosen touched map first n p ≡ true
     → (touched p ≡ true) × ((k : ℕ) × (k < n) × (shares_page (map (first + k)) p ≡ true))
-where_chosen touched map first n p e =
-    let parts = and_parts (touched p) (is_shared_in map first n p) e in
-    (parts.0, any-where (λ i. shares_page (map (first + i)) p) n parts.1)
+where_chosen touched map first n p e = let parts = and_parts (touched p) (is_shared_in map first n p) e in (parts.0, any-where (λ i. shares_page (map (first + i)) p) n parts.1)
 
 -- a page of a longer row
 chosen_longer : (touched : FilePage → Bool) (map : ℕ → Option Attr) (first a b : ℕ) (p : FilePage) → a ≤ b → is_chosen touched map first a p ≡ true → is_chosen touched map first b p ≡ true
-chosen_longer touched map first a b p order e =
-    let r = where_chosen touched map first a p e in
-    chosen_at touched map first b r.1.0 p r.0 (omega (arith, r.1.1)) r.1.2
+chosen_longer touched map first a b p order e = let r = where_chosen touched map first a p e in chosen_at touched map first b r.1.0 p r.0 (omega (arith, r.1.1)) r.1.2
 
 -- which page of a file stands behind the page so many pages further on
 stands_at : (b : Backing) (n : ℕ) (p : FilePage) → stands_behind b n p ≡ true → (i : ℕ) × (i < n) × (is_shared_page (backing_after b i) p.file p.page ≡ true)

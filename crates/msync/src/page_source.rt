@@ -1,5 +1,5 @@
 //! The pages that an msync makes durable, as the store asks for them.
-ghost use Rattle.std.specs.Prelude.{◌≡◌, ◌<◌, length};
+ghost use Rattle.std.specs.Prelude.{ℕ, ◌≡◌, ◌<◌, OnOk, length};
 ghost use Rattle.std.proofs.Common.{refl, inl, ◌∙◌, subst};
 ghost use Rattle.std.proofs.Math.Nat.{le_refl, le_trans};
 ghost use Rattle.swap.specs.Slots.{slots_of, IsReady};
@@ -21,7 +21,8 @@ pub(crate) struct TouchedPages<'f, 'a, E, M: Levels> {
 }
 
 impl<E: SectorDisk, M: Levels> PageSource for TouchedPages<'_, '_, E, M> {
-    ghost use Rattle.msync.specs.Spots.{spot_at, bytes_there, IsThere, HasSlot, IsSectorOfSpots, ReadsSwap};
+    ghost use Rattle.disk_model.specs.Stop.{HasCause, NamesOnce};
+    ghost use Rattle.msync.specs.Spots.{spot_at, bytes_there, IsThere, HasSlot, IsSectorOfSpots, IsSectorThere, ReadsSwap};
     ghost use Rattle.msync.specs.Reads.{same_then, asks_nothing, asks_more};
 
     ghost pages = { λ s i. bytes_there s.frames.now (slots_of s.swap.now) (spot_at s.spots.now i).at };
@@ -35,7 +36,18 @@ impl<E: SectorDisk, M: Levels> PageSource for TouchedPages<'_, '_, E, M> {
     ghost follows = { λ a b. (b.swap.ghost_name ≡ a.swap.ghost_name) × (b.spots.now ≡ a.spots.now) × ReadsSwap E.SectorDisk a.spots.now a.swap.now b.swap.now };
 
     #[tactic(auto, using(crate::proofs::Asking::asks_spot))]
-    fn page(&mut self, i: usize, to: &mut [u8; 4096]) -> Result<(), SourceFault> {
+    fn page(&mut self, i: usize, to: &mut [u8; 4096]) -> Result<(), SourceFault>
+        requires { (i < length self.old.spots.now) × IsReady E.SectorDisk self.old.swap.now × IsThere self.old.frames.now (slots_of self.old.swap.now) (spot_at self.old.spots.now i).at }
+        ensures kept { (HasSlot self.new.spots.now → E.keeps_model self.new.swap.now.pages.disk) → HasSlot self.old.spots.now → E.keeps_model self.old.swap.now.pages.disk }
+        ensures cause { HasCause (E.failures self.old.swap.now.pages.disk) (E.failures self.new.swap.now.pages.disk) result }
+        ensures given { (HasSlot self.new.spots.now → E.keeps_model self.new.swap.now.pages.disk) → OnOk result (to.new ≡ bytes_there self.old.frames.now (slots_of self.old.swap.now) (spot_at self.old.spots.now i).at) }
+        ensures same { (HasSlot self.new.spots.now → E.keeps_model self.new.swap.now.pages.disk)
+            → (k : ℕ) → bytes_there self.new.frames.now (slots_of self.new.swap.now) (spot_at self.new.spots.now k).at ≡ bytes_there self.old.frames.now (slots_of self.old.swap.now) (spot_at self.old.spots.now k).at }
+        ensures still { (k : ℕ) → (k < length self.old.spots.now) × IsReady E.SectorDisk self.old.swap.now × IsThere self.old.frames.now (slots_of self.old.swap.now) (spot_at self.old.spots.now k).at
+            → (k < length self.new.spots.now) × IsReady E.SectorDisk self.new.swap.now × IsThere self.new.frames.now (slots_of self.new.swap.now) (spot_at self.new.spots.now k).at }
+        ensures follows { (self.new.swap.ghost_name ≡ self.old.swap.ghost_name) × (self.new.spots.now ≡ self.old.spots.now) × ReadsSwap E.SectorDisk self.old.spots.now self.old.swap.now self.new.swap.now }
+        ensures once { NamesOnce (IsSectorThere (spot_at self.old.spots.now i).at) (E.asked self.old.swap.now.pages.disk) (E.asked self.new.swap.now.pages.disk) }
+    {
         match self.spots[i].at {
             Residence::Framed(frame) => {
                 to.copy_from_slice(self.frames.bytes(frame));

@@ -2,23 +2,17 @@
 #![tactic(auto)]
 
 use batches::pagesync;
-use std::env::{self, Env};
+use host_files::words_after_name;
 use std::io::{self, ErrorKind, Write};
 use std::process::ExitCode;
 
 fn main(rt: HostRuntime) -> ExitCode {
     let (input, mut output, mut errors) = (rt.stdin(), rt.stdout(), rt.stderr());
-    let status = match given_words(&rt) {
+    let status = match words_after_name(&rt) {
         Ok(words) => pagesync(&rt, words.as_slice(), input, &mut output, &mut errors),
         Err(error) => report(&error, &mut errors),
     };
     ExitCode::from(status)
-}
-
-/// The words after the program's name.
-fn given_words<R: Env + AllocGlobal>(rt: &R) -> io::Result<Vec<String>> {
-    let words = env::args(rt)?.skip(1).collect(rt.alloc())?;
-    Ok(words)
 }
 
 /// The exit status where the words were not had, which is said in one line: 1 for want of memory, 2 where one is no UTF-8.

@@ -1,7 +1,7 @@
 -- What is asked of a device where a file is shown.
-use Rattle.{std.{proofs.{Common.{◌≡◌, ℕ, ◌<◌, ◌+◌, ◌*◌, List, [], Option, Some, sym, ap, subst, ◌∙◌, inl, inr, arith}, lemmas.Option.{same_Some}}, specs.Option.{option_map}}, disk_model.proofs.Moments.{asks_then, asks_wider, then}}
+use Rattle.{std.{proofs.{Common.{◌≡◌, ℕ, ◌<◌, ◌+◌, ◌*◌, List, [], Option, Some, sym, ap, subst, ◌∙◌, inl, inr, arith}, lemmas.Option.{same_Some}}, specs.Option.{option_map}}, disk_model.proofs.Moments.{asks_then, asks_wider, then, wider}}
 use Rattle.{disk_model.specs.{Moments.{Touches, Nothing, AsksOnly, LeavesNow, LeavesOnly}, Stop.{Image}, declared.sector_disk.SectorDisk.{Ghosts}}, vm_types.specs.declared.file.FileInfo.{FileInfo}, sync_journal.specs.Kinds.{is_kind}}
-use Rattle.sync_journal.specs.{Kinds.{kind_when, kind_of, kind_home, journal_kind, journal_stands, store_live, IsStoreRecovered}, Layout.{IsPageSector}, Map.{place_among, home_rank}, Standing.{place_or_home}, Turns.{turn_stands}}
+use Rattle.sync_journal.specs.{Kinds.{kind_when, kind_of, kind_home, journal_kind, journal_stands, store_live, IsStoreClosed, IsStoreRecovered}, Layout.{IsPageSector}, Map.{place_among, home_rank}, Standing.{place_or_home}, Turns.{turn_stands}}
 use Rattle.{sync_journal.specs.declared.store_journal.{Journals.{Journals}, StoreJournal.{StoreJournal, TheVariants.{One, InTurn}}}, file_store.proofs.{Images.{same_head, entry_same}, Outside.{left_outside}}}
 use Rattle.file_store.specs.{Standing.{IsAskedToOpen, IsPageOf, StandsAs, directory_entry}, Store.{IsReadyStore, IsSectorOf, entry_of, files_of, entry_home, home_of}, declared.directory.{Directory.{Directory}, Entry.{Entry}}}
 use Rattle.{file_store.specs.declared.store.FileStore.{FileStore}, programs.{proofs.Copies.{has_entry, same_content, still_stands}, specs.Showing.{IsAskedToShow, IsInHomesOf, IsSectorOfFile, KeepsImage, KeepsToFile, OnlyReads}}}
@@ -98,12 +98,15 @@ module _ {D : Type 0} (g : Ghosts D) where
       → (g.keeps_model store.disk → LeavesNow g store.disk (StandsAs (g.sector_count old) (g.content old)))
       → (g.keeps_model store.disk → ((k : ℕ) → g.unsynced old k → ⊥) → (first : Image) → StandsAs (g.sector_count old) first (g.content old)
       → LeavesOnly g old store.disk (StandsAs (g.sector_count old) first))
-      → OnlyReads g (IsSectorOfFile store f) store new → KeepsImage g f old new.disk
-  keeps_image old store new f none ready kept opened asked now in_a_row shown = record {
+      → (g.keeps_model store.disk → IsStoreClosed (g.content old) → Touches g Nothing old store.disk) → OnlyReads g (IsSectorOfFile store f) store new → KeepsImage g f old new.disk
+  keeps_image old store new f none ready kept opened asked now in_a_row unwritten shown = record {
     kept = λ keeps. kept (shown.kept keeps);
     any_moment = λ keeps synced. leaves keeps synced (g.content old) (λ files pages was. was);
     in_a_row = leaves;
     asks = keeps_to old store new.disk f none ready shown.kept opened shown.touches asked shown.asks;
+    touches = λ keeps. then g (IsStoreRecovered (g.content old) (g.sector_count old)) old store.disk new.disk (opened (shown.kept keeps))
+        (wider g Nothing (IsStoreRecovered (g.content old) (g.sector_count old)) store.disk new.disk (λ k none. absurd none) (shown.touches keeps));
+    closed_unwritten = λ keeps closed. then g Nothing old store.disk new.disk (unwritten (shown.kept keeps) closed) (shown.touches keeps);
   }
     where
       leaves : g.keeps_model new.disk → ((k : ℕ) → g.unsynced old k → ⊥) → (first : Image) → StandsAs (g.sector_count old) first (g.content old)

@@ -1,3 +1,4 @@
 pub mod Specs
 pub mod Copies
 pub mod Asking
+pub mod Outcomes

@@ -3,7 +3,7 @@ use Rattle.std.specs.Prelude.{◌≡◌, ◌⊎◌, ℕ, List, Bool, true, false
 use Rattle.command_words.specs.declared.faults.WordsFault.{WordsFault}
 use Rattle.command_words.specs.declared.faults.WordsFault.TheVariants.{Usage as OtherWords, OutOfMemory as NoRoom}
 use Rattle.programs.specs.declared.faults.ProgramFault.{ProgramFault}
-use Rattle.programs.specs.declared.faults.ProgramFault.TheVariants.{Usage, OutOfMemory, CannotOpen, Boot, ReadFailed, WriteFailed}
+use Rattle.programs.specs.declared.faults.ProgramFault.TheVariants.{Usage, OutOfMemory, CannotOpen, ReadFailed, WriteFailed}
 use Rattle.programs.specs.declared.showing.CopyFault.{CopyFault}
 use Rattle.programs.specs.declared.showing.CopyFault.TheVariants.{Read as CopyRead, Write as CopyWrite}
 use Rattle.programs.specs.declared.showing.ShowFault.{ShowFault}
@@ -26,11 +26,10 @@ abbrev pub IsUnopened : List ℕ → ProgramFault → Type 0
 IsUnopened name (CannotOpen path) = path.now ≡ name
 IsUnopened name fault = ⊥
 
--- no machine starts on files of these names: one of them can't be opened, or a boot fails
-abbrev pub IsUnstarted : List ℕ → List ℕ → ProgramFault → Type 0
-IsUnstarted image swap (CannotOpen path) = (path.now ≡ image) ⊎ (path.now ≡ swap)
-IsUnstarted image swap (Boot fault) = Unit {0}
-IsUnstarted image swap fault = ⊥
+-- one of the files of these names can't be opened
+abbrev pub IsOneUnopened : List ℕ → List ℕ → ProgramFault → Type 0
+IsOneUnopened image swap (CannotOpen path) = (path.now ≡ image) ⊎ (path.now ≡ swap)
+IsOneUnopened image swap fault = ⊥
 
 -- the fault of a run that ended so: the input failed, or the output did
 abbrev pub IsEndFault : RunEnd → ProgramFault → Type 0

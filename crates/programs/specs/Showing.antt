@@ -1,5 +1,5 @@
 -- What a file that is shown is read from, and what becomes of its device and of the writer.
-use Rattle.std.specs.Prelude.{◌≡◌, ◌⊎◌, ◌<◌, ◌*◌, ℕ, List, Option, Some, None, Result, OnOk, OnErr, IsErrOf}
+use Rattle.std.specs.Prelude.{◌≡◌, ◌⊎◌, ◌<◌, ◌*◌, ℕ, List, [], Option, Some, None, Result, OnOk, OnErr, IsErrOf}
 use Rattle.std.specs.Io.KnownBytes.{Appends}
 use Rattle.disk_model.specs.Stop.{Image}
 use Rattle.disk_model.specs.Moments.{AsksOnly, LeavesOnly, Nothing, Touches}
@@ -7,7 +7,7 @@ use Rattle.disk_model.specs.declared.sector_disk.SectorDisk.{Ghosts}
 use Rattle.vm_types.specs.declared.file.FileInfo.{FileInfo}
 use Rattle.vm_types.specs.declared.file.FilePage.{FilePage}
 use Rattle.sync_journal.specs.Layout.{IsPageSector}
-use Rattle.sync_journal.specs.Kinds.{kind_of, kind_home, IsOutsideOf}
+use Rattle.sync_journal.specs.Kinds.{kind_of, kind_home, store_live, IsOutsideOf, IsStoreClosed, IsStoreRecovered}
 use Rattle.file_store.specs.declared.directory.Entry.{Entry}
 use Rattle.file_store.specs.declared.faults.OpenFault.{OpenFault}
 use Rattle.file_store.specs.declared.faults.OpenFault.TheVariants.{Device, BadLayout, BadJournal}
@@ -80,12 +80,18 @@ module _ {D : Type 0} (g : Ghosts D) where
         → LeavesOnly g old new (StandsAs (g.sector_count old) first)
     -- no sectors are asked for but those of an opening and of the file's homes, and what lies outside the homes stays.
     pub asks : KeepsToFile f old new
+    -- and none is written but those of a recovery, and none at all where nothing stands in a journal alone.
+    pub touches : g.keeps_model new → Touches g (IsStoreRecovered (g.content old) (g.sector_count old)) old new
+    pub closed_unwritten : g.keeps_model new → IsStoreClosed (g.content old) → Touches g Nothing old new
 
   -- File f is written out:
   pub record WritesOut (f : ℕ) (old : D) (store : FileStore D) (before now : Option (List ℕ)) : Type 0 where
     -- the device did not fail, and its store may be read further,
     pub calm : g.failures store.disk ≡ g.failures old
     pub ready : IsReadyStore g store
+    -- nothing stands in a journal alone any more, and nothing is unsynced,
+    pub closed : store_live store.journal ≡ []
+    pub synced : g.keeps_model store.disk → (k : ℕ) → g.unsynced store.disk k → ⊥
     -- the image is that of a store,
     pub good_layout : g.keeps_model store.disk → IsBadLayout (g.sector_count old) (g.content old) → ⊥
     pub good_journal : g.keeps_model store.disk → IsBadJournalOf (g.sector_count old) (g.content old) → ⊥

@@ -3,19 +3,18 @@ ghost use Rattle.std.specs.Prelude.{◌≤◌, IfOk};
 ghost use Rattle.programs.specs.Disks.{IsJustOpened};
 
 use crate::faults::{ProgramFault, report};
-use crate::files::{Access, disk_in, has_mark, lengthen, open_alone, open_regular};
+use crate::files::{disk_in, has_mark};
 use crate::places::held_places;
 use crate::sources::open_sources;
 use crate::upgrading::upgrade_image;
 use command_words::{FormatWords, NewWords, format_words};
 use disk_model::{FileContents, FileDisk, SectorDisk, Unknown};
 use file_store::{FileSource, FormatFault, format, image_bytes};
+use host_files::{Opening, lengthen, open_alone, open_regular};
 use std::fs::{self, File, Files, TryLockError};
 use std::io::{self, ErrorKind, Read, Write};
 use sync_journal::Journals;
-
-/// The most files of an image.
-const MAX_FILES: usize = 64;
+use vm_types::FILES;
 
 /// `pagefmt new IMAGE SPEC...`: makes IMAGE where it is missing, lengthens it to `512 * (8195 + 8 H)` bytes for the `H`
 /// home pages of the specs, and formats it. The files get numbers and homes in the order of the specs. SPEC is `zero:LEN`,
@@ -118,13 +117,13 @@ fn found_file<R: Files<File = File> + AllocGlobal>(
     rt: &R,
     path: &str,
 ) -> io::Result<(File, Former)> {
-    match open_alone(rt, path, Access::Write) {
+    match open_alone(rt, path, Opening::Write) {
         Ok(file) => {
             let bytes = file.metadata()?.len();
             Ok((file, Former::Bytes(bytes)))
         }
         Err(error) if error.kind() == ErrorKind::NotFound => {
-            lock_made(rt, path, open_regular(rt, path, Access::Make)?)
+            lock_made(rt, path, open_regular(rt, path, Opening::Make)?)
         }
         Err(error) => Err(error),
     }
@@ -175,7 +174,7 @@ fn unmarked_disk<'a, C: FileContents>(
 ) -> Result<FileDisk<C>, ProgramFault<'a>>
     ensures { IfOk result (IsJustOpened ⟦<FileDisk<C> as SectorDisk>⟧) }
 {
-    if sources.len() > MAX_FILES {
+    if sources.len() > FILES {
         return Err(ProgramFault::Format(FormatFault::TooLarge));
     }
     match has_mark(file) {

@@ -1,21 +1,24 @@
 //! The program that runs traces.
-ghost use Rattle.std.specs.Prelude.{◌≡◌, ◌⊎◌, ◌≤◌, IfErr, IfOk, true, false};
+ghost use Rattle.std.specs.Prelude.{◌≡◌, ◌≤◌, IfErr, IfOk};
+ghost use Rattle.machine.specs.Boot.{HasRoom};
 ghost use Rattle.machine.specs.Machine.{halted_of, IsSoundMachine};
-ghost use Rattle.programs.specs.Faults.{IsEndFault, IsUnstarted, end_status};
+ghost use Rattle.programs.specs.Disks.{IsJustOpened};
+ghost use Rattle.programs.specs.Faults.{IsEndFault, IsOneUnopened, end_status};
+ghost use Rattle.programs.specs.Running.{boot_told, config_of, BootsOnOpened, ComesTo, EndsRun, ExitsWith, IsUnstarted};
+ghost use Rattle.runner.specs.Trace.{streams};
 
 use crate::faults::{ProgramFault, report};
-use crate::files::{Access, disk_in, open_alone, open_lengthened, settled};
+use crate::files::{disk_in, settled};
 use crate::places::held_places;
 use command_words::{RunWords, run_words};
 use disk_model::{FileContents, FileDisk, SectorDisk, Unknown};
-use machine::{BootFault, Config, Machine};
-use runner::{RunEnd, run};
+use host_files::{Opening, open_alone, open_lengthened};
+use machine::{BootFault, Config, MAX_SLOTS, Machine};
+use runner::{Devices, RunEnd, run_on};
+use std::alloc::Global;
 use std::fs::{File, Files};
 use std::io::{Read, Write};
 use vm_types::PAGE_BYTES;
-
-/// The most slots of a machine.
-const MAX_SLOTS: u32 = 65536;
 
 /// The status of a trace that was read to its end by a machine that halted on the way.
 const HALTED: u8 = 3;
@@ -35,6 +38,8 @@ pub fn pagerun<R: Files<File = File> + AllocGlobal, I: Read, O: Write, X: Write>
     errors: &mut X,
 ) -> u8
     ensures statuses { result ≤ 3 }
+    ensures ends { ExitsWith ⟦<FileDisk<Unknown> as SectorDisk>⟧ ⟦<FileDisk<Unknown> as SectorDisk>⟧ (λ d. d.settled)
+        (streams (I.remaining reader.old) (O.contents writer.old)) (streams (I.remaining reader.new) (O.contents writer.new)) result }
 {
     let outcome = run_image::<Unknown, Unknown, R, I, O>(rt, words, reader, writer);
     report("pagerun", outcome, errors)
@@ -48,15 +53,66 @@ fn run_image<
     I: Read,
     O: Write,
 >(rt: &R, words: &'a [String], reader: &mut I, writer: &mut O) -> Result<u8, ProgramFault<'a>>
-    ensures { IfOk result (λ status. status ≤ 3) }
+    ensures statuses { IfOk result (λ status. status ≤ 3) }
+    ensures ends { EndsRun ⟦<FileDisk<C> as SectorDisk>⟧ ⟦<FileDisk<K> as SectorDisk>⟧ (λ d. d.settled)
+        (streams (I.remaining reader.old) (O.contents writer.old)) (streams (I.remaining reader.new) (O.contents writer.new)) result }
 {
     let words = run_words(rt.alloc(), words)?;
     let _places = held_places(rt)?;
-    let mut machine = boot_image::<C, K, R>(rt, &words)?;
-    let end = run(reader, writer, &mut machine);
-    let outcome = status_of(end, &machine);
-    let _store = machine.into_store();
-    outcome
+    let devices = devices_of::<C, K, R>(rt, &words)?;
+    run_over(rt.alloc(), config_of(&words), devices, reader, writer)
+}
+
+/// Runs the trace of `reader` over these devices, on a machine of that size, whose replies go to `writer`.
+fn run_over<'a, C: FileContents, K: FileContents, I: Read, O: Write>(
+    alloc: Global,
+    config: Config,
+    devices: Devices<FileDisk<C>, FileDisk<K>>,
+    reader: &mut I,
+    writer: &mut O,
+) -> Result<u8, ProgramFault<'a>>
+    ensures { ComesTo ⟦<FileDisk<C> as SectorDisk>⟧ ⟦<FileDisk<K> as SectorDisk>⟧ (λ d. d.settled) config devices.store devices.swap
+        (streams (I.remaining reader.old) (O.contents writer.old)) (streams (I.remaining reader.new) (O.contents writer.new)) result }
+{
+    match run_on(alloc, config, devices, reader, writer) {
+        Ok((end, machine)) => {
+            let outcome = status_of(end, &machine);
+            let _store = machine.into_store();
+            outcome
+        }
+        Err((fault, store)) => Err(ProgramFault::Boot(told(fault, store.is_settled()))),
+    }
+}
+
+/// The size and the mode of the machine that these words ask for.
+fn config_of(words: &RunWords<'_>) -> Config
+    ensures { result ≡ config_of words.now }
+{
+    Config {
+        frames: words.frames,
+        slots: words.slots,
+        mode: words.mode,
+    }
+}
+
+/// The devices in the files of these words, of which IMAGE is opened first, and SWAP is made where it is missing and lengthened.
+///
+/// # Errors
+///
+/// `CannotOpen` of the file that can't be had, or of a SWAP that can't be synced.
+fn devices_of<'a, C: FileContents, K: FileContents, R: Files<File = File> + AllocGlobal>(
+    rt: &R,
+    words: &RunWords<'a>,
+) -> Result<Devices<FileDisk<C>, FileDisk<K>>, ProgramFault<'a>>
+    ensures store { IfOk result (λ devices. IsJustOpened ⟦<FileDisk<C> as SectorDisk>⟧ devices.store) }
+    ensures swap { IfOk result (λ devices. IsJustOpened ⟦<FileDisk<K> as SectorDisk>⟧ devices.swap) }
+    ensures told { IfErr result (IsOneUnopened words.now.image.now words.now.swap.now) }
+{
+    let store = disk_in::<C>(words.image, open_alone(rt, words.image, Opening::Write))?;
+    let length = swap_bytes(words.slots);
+    let swap = disk_in::<K>(words.swap, open_lengthened(rt, words.swap, length))?;
+    let swap = settled(swap, ProgramFault::CannotOpen(words.swap))?;
+    Ok(Devices { store, swap })
 }
 
 /// Opens the files of these words, IMAGE first, makes SWAP where it is missing and lengthens it, and boots a machine on them. The standard streams
@@ -70,18 +126,13 @@ pub fn boot_image<'a, C: FileContents, K: FileContents, R: Files<File = File> + 
     words: &RunWords<'a>,
 ) -> Result<Machine<FileDisk<C>, FileDisk<K>>, ProgramFault<'a>>
     ensures sound { IfOk result (λ m. IsSoundMachine ⟦<FileDisk<C> as SectorDisk>⟧ ⟦<FileDisk<K> as SectorDisk>⟧ m) }
-    ensures told { IfErr result (IsUnstarted words.now.image.now words.now.swap.now) }
+    ensures room { IfOk result (λ m. HasRoom m (record { frames = words.now.frames; slots = words.now.slots; mode = words.now.mode })) }
+    ensures boots { IfOk result (BootsOnOpened ⟦<FileDisk<C> as SectorDisk>⟧ ⟦<FileDisk<K> as SectorDisk>⟧ (λ d. d.settled)) }
+    ensures told { IfErr result (IsUnstarted ⟦<FileDisk<C> as SectorDisk>⟧ ⟦<FileDisk<K> as SectorDisk>⟧ (λ d. d.settled) words.now) }
 {
-    let store = disk_in::<C>(words.image, open_alone(rt, words.image, Access::Write))?;
-    let length = swap_bytes(words.slots);
-    let swap = disk_in::<K>(words.swap, open_lengthened(rt, words.swap, length))?;
-    let swap = settled(swap, ProgramFault::CannotOpen(words.swap))?;
-    let config = Config {
-        frames: words.frames,
-        slots: words.slots,
-        mode: words.mode,
-    };
-    match Machine::boot(rt.alloc(), config, store, swap) {
+    let devices = devices_of::<C, K, R>(rt, words)?;
+    let Devices { store, swap } = devices;
+    match Machine::boot(rt.alloc(), config_of(words), store, swap) {
         Ok(machine) => Ok(machine),
         Err((fault, store)) => Err(ProgramFault::Boot(told(fault, store.is_settled()))),
     }
@@ -90,8 +141,7 @@ pub fn boot_image<'a, C: FileContents, K: FileContents, R: Files<File = File> + 
 /// The fault that is told where no machine started. An image that could not be synced is the fault of its device, whatever its
 /// length is.
 fn told(fault: BootFault, is_settled: bool) -> BootFault
-    ensures same { (fault ≡ BootFault.BadLayout → ⊥) ⊎ (is_settled ≡ true) → result ≡ fault }
-    ensures device { fault ≡ BootFault.BadLayout → is_settled ≡ false → result ≡ BootFault.Device }
+    ensures { result ≡ boot_told is_settled fault }
 {
     match fault {
         BootFault::BadLayout if !is_settled => BootFault::Device,

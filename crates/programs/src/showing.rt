@@ -9,11 +9,12 @@ ghost use Rattle.programs.specs.Showing.{BlamesDevice, IsSectorOfFile, KeepsImag
 ghost use Rattle.runner.specs.Bytes.{WritesBeginning};
 
 use crate::faults::{ProgramFault, report};
-use crate::files::{disk_in, open_to_show, settled};
+use crate::files::{disk_in, settled};
 use crate::places::held_places;
 use command_words::cat_words;
 use disk_model::{DiskFault, FileContents, SectorDisk, Unknown};
 use file_store::{FileStore, OpenFault};
+use host_files::open_to_show;
 use runner::{WriteFault, write_bytes};
 use std::fs::{File, Files};
 use std::io::{Read, Write};

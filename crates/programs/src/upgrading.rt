@@ -1,11 +1,12 @@
 //! Images made anew in the next layout.
 use crate::faults::ProgramFault;
-use crate::files::{Access, disk_in, open_alone};
+use crate::files::disk_in;
 use crate::formatting::{image_file, lengthened, set_back};
 use crate::places::held_places;
 use command_words::UpgradeWords;
 use disk_model::{FileContents, FileDisk, SECTOR_BYTES, SectorDisk};
 use file_store::{UpgradeFault, upgrade};
+use host_files::{Opening, open_alone};
 use std::fs::{File, Files};
 use sync_journal::{FIRST_HOME, Journals, PAGE_SECTORS, TURN_HOMES, home_count, old_home_count};
 
@@ -17,7 +18,7 @@ pub(crate) fn upgrade_image<
     R: Files<File = File> + AllocGlobal,
 >(rt: &R, words: UpgradeWords<'a>) -> Result<(), ProgramFault<'a>> {
     let _places = held_places(rt)?;
-    let mut old = disk_in::<C>(words.old, open_alone(rt, words.old, Access::Read))?;
+    let mut old = disk_in::<C>(words.old, open_alone(rt, words.old, Opening::Read))?;
     let (file, former) = match image_file(rt, words.new) {
         Ok(opened) => opened,
         Err(_) => return Err(ProgramFault::CannotOpen(words.new)),

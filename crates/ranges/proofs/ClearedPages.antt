@@ -218,8 +218,7 @@ module _ {mode : ℕ} (old mid : Picture mode) (pid r page : ℕ) (fit : IsFit o
     slots_page = record {
       total = gives.slots.total ∙ ap (λ t. t.total) beside.slots;
       fewer = λ k. (let f = gives.slots.fewer k in let e = ap (λ t. t.count k) beside.slots in omega (arith, f, e));
-      given = λ k p hp least below is. (
-          omega (arith, ap (λ t. t.count k) beside.slots, gives.slots.given k (sym (seat_of p (is_page p least below)) ∙ is)));
+      given = λ k p hp least below is. (omega (arith, ap (λ t. t.count k) beside.slots, gives.slots.given k (sym (seat_of p (is_page p least below)) ∙ is)));
       kept = λ k other. gives.slots.kept k (λ is. other page h (omega arith) (omega arith) is) ∙ ap (λ t. t.count k) beside.slots;
       bytes = λ k used. gives.slots.bytes k used ∙ ap (λ t. t.bytes k) beside.slots;
     }

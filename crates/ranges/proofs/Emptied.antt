@@ -11,8 +11,7 @@ view_plain own (Some a) none = ap (λ w. Some (record { attr = a; own = w })) no
 -- a page without an entry has no own copy
 pub view-bare : {mode : ℕ} (c : Picture mode) (pid page : ℕ) → entry c pid page ≡ 0 → view c pid page ≡ option_map plain (c.at pid page)
 unfolding view
-view-bare c pid page none =
-    view_plain (own_in c.frames c.slots (entry c pid page)) (c.at pid page) (ap (λ o. option_map (bytes_in c.frames c.slots) o) (ap seat none ∙ seat-none))
+view-bare c pid page none = view_plain (own_in c.frames c.slots (entry c pid page)) (c.at pid page) (ap (λ o. option_map (bytes_in c.frames c.slots) o) (ap seat none ∙ seat-none))
 
 pub unmapped_zero : {mode : ℕ} (c : Picture mode) (o : Option Attr) (e : ℕ) → IsEntryFor c o e → o ≡ None → e ≡ 0
 unmapped_zero c o e (Nothing none) gone = none
@@ -32,9 +31,7 @@ module _ {mode : ℕ} where
       (none_here (c.at pid page) (λ some. (let above = ((granting.user pid).user_pages page some).0 in omega (arith, low, above))))
 
 pub row_parts : (first pages page : ℕ) → in_row first pages page ≡ true → (first ≤ page) × (page < first + pages)
-row_parts first pages page e =
-    let both = and_parts (leb first page) (ltb page (first + pages)) e in
-    (leb-true first page both.0, ltb-true page (first + pages) both.1)
+row_parts first pages page e = let both = and_parts (leb first page) (ltb page (first + pages)) e in (leb-true first page both.0, ltb-true page (first + pages) both.1)
 
 pub row_out : (first pages page : ℕ) → in_row first pages page ≡ false → (page < first) ⊎ (first + pages ≤ page)
 row_out first pages page e = elim (and_cases (leb first page) (ltb page (first + pages)) e) [

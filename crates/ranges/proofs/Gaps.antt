@@ -1,19 +1,23 @@
 -- The pages of one table: the ways to them are the same, and so is what is missing on them.
 use Rattle.ranges.proofs.Names.{top_level, user_end, user_pages_fit, ◌≡◌, ◌≢◌, ℕ, ◌+◌, ◌*◌, ◌/◌, ◌^◌, ◌≤◌, ◌<◌, Some, sym, ap, ◌∙◌, subst, arith, same_Some, min, max, FrameTable, IsPage, missing_of, missing_of-is, page_entry-missing}
-use Rattle.ranges.proofs.Names.{same_place, last_in_row, missing_in_place, Picture, entry, IsWhole, entry-of}
+use Rattle.ranges.proofs.Names.{same_place, last_in_row, last_table, missing_in_place, IsTable, IsTableOf, Picture, entry, IsWhole, entry-of}
 
 -- on the way to pages of one lowest table as many are missing
 module _ (mode : ℕ) where
   pub missing_same : (t : FrameTable) (p q r : ℕ) → p / 512 ≡ q / 512 → missing_of t (top_level mode) r q ≡ missing_of t (top_level mode) r p
-  missing_same t p q r same =
-      missing_of-is t (top_level mode) r q ∙ ap (λ x. x.0) (last_in_row t p q (top_level mode) r same) ∙ sym (missing_of-is t (top_level mode) r p)
+  missing_same t p q r same = missing_of-is t (top_level mode) r q ∙ ap (λ x. x.0) (last_in_row t p q (top_level mode) r same) ∙ sym (missing_of-is t (top_level mode) r p)
+
+-- where the way to a page ends at the lowest level is the table of its row
+pub table_at : (t : FrameTable) (top r page n k : ℕ) → (k, n) ≡ last_table t page top r → k ≡ 0 → IsTable t n → IsTableOf t top r (page / 512) n
+table_at t top r page n k ends low table = record {
+  table = table;
+  whole = λ p same. missing_of-is t top r p ∙ ap (λ x. x.0) (last_in_row t page p top r (sym same) ∙ sym ends) ∙ low;
+  last = λ p same. ap (λ x. x.1) (last_in_row t page p top r (sym same) ∙ sym ends);
+}
 
 -- where a step over a row ends that begins with a page on whose way a table is missing
-pub step_gap : (page end next gap m : ℕ) → m ≢ 0 → gap ≡ (page / 512 ^ m + 1) * 512 ^ m → next ≡ min end gap
-    → next ≡ min end ((page / 512 ^ max 1 m + 1) * 512 ^ max 1 m)
-step_gap page end next gap m some past is =
-    let same : m ≡ max 1 m = omega arith in
-    subst (λ (x : ℕ). next ≡ min end ((page / 512 ^ x + 1) * 512 ^ x)) same (is ∙ ap (min end) past)
+pub step_gap : (page end next gap m : ℕ) → m ≢ 0 → gap ≡ (page / 512 ^ m + 1) * 512 ^ m → next ≡ min end gap → next ≡ min end ((page / 512 ^ max 1 m + 1) * 512 ^ max 1 m)
+step_gap page end next gap m some past is = let same : m ≡ max 1 m = omega arith in subst (λ (x : ℕ). next ≡ min end ((page / 512 ^ x + 1) * 512 ^ x)) same (is ∙ ap (min end) past)
 
 -- pages up to the end of a lowest table are in its row
 pub in_row_of : (start page stop end : ℕ) → start ≤ page → page < stop → stop ≤ end → end ≡ (start / 512 + 1) * 512 → page / 512 ≡ start / 512

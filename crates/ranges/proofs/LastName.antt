@@ -44,9 +44,7 @@ module _ (mode : ℕ) (at : Maps) (pid first pages : ℕ) where
     pub unnamed_without : is_named (without_maps at pid first pages) p.object p.page ≡ false
     unnamed_without = elim (cases_Bool (is_named (without_maps at pid first pages) p.object p.page)) [
       | inr f ↦ f
-      | inl t ↦ absurd (
-          let by = named_by (without_maps at pid first pages) p.object p.page t in
-          no_more by.0 by.1 by.2)
+      | inl t ↦ absurd (let by = named_by (without_maps at pid first pages) p.object p.page t in no_more by.0 by.1 by.2)
     ] where
       was : (q k : ℕ) → names (without_maps at pid first pages q k) p.object p.page ≡ true → names (at q k) p.object p.page ≡ true
       was q k is = elim (cases_eq q pid) [
@@ -171,13 +169,7 @@ forgets_when : {mode : ℕ} (a b : Picture mode) (pid first pages : ℕ) → For
     → ((p : ObjectPage) → is_named (without_maps a.at pid first pages) p.object p.page ≡ false → b.place (Object p) ≡ Home) → ForgetsRow a b pid first pages
 forgets_when a b pid first pages more home = record {
   frees = more.frees;
-  keeps = record {
-    touched = λ p is. (more.lasting p is).1;
-    place = λ p is. (more.lasting p is).0;
-    gone = home;
-    files = more.files;
-    held = λ p is. inl (more.lasting p is).2;
-  };
+  keeps = record { touched = λ p is. (more.lasting p is).1; place = λ p is. (more.lasting p is).0; gone = home; files = more.files; held = λ p is. inl (more.lasting p is).2 };
 }
 
 -- all nodes were looked at
@@ -194,8 +186,7 @@ module _ {mode : ℕ} (a b : Picture mode) (pid first pages frames nodes : ℕ) 
     | inl home ↦ home
     | inr node ↦ elim (more.place (Object p)) [
       | inr home ↦ home
-      | inl same ↦ absurd (
-          false≢true (sym none ∙ gone p node.0 node.1 (inside p node.0 (ap (λ x. node_of frames x) (sym same) ∙ node.1))))
+      | inl same ↦ absurd (false≢true (sym none ∙ gone p node.0 node.1 (inside p node.0 (ap (λ x. node_of frames x) (sym same) ∙ node.1))))
     ]
   ])
 
@@ -232,13 +223,7 @@ module _ {mode : ℕ} where
       → ((k object page : ℕ) → first ≤ k → k < first + pages → names (a.at pid k) object page ≡ false) → ForgetsRow a a pid first pages
   forgets_none a pid first pages fit none = record {
     frees = search rules;
-    keeps = record {
-      touched = λ p is. refl;
-      place = λ p is. refl;
-      gone = λ p unnamed. home_of p unnamed (a.place (Object p)) refl;
-      files = λ f. refl;
-      held = λ p is. inl refl;
-    };
+    keeps = record { touched = λ p is. refl; place = λ p is. refl; gone = λ p unnamed. home_of p unnamed (a.place (Object p)) refl; files = λ f. refl; held = λ p is. inl refl };
   } where
     named : (p : ObjectPage) → a.place (Object p) ≢ Home → is_named (without_maps a.at pid first pages) p.object p.page ≡ true
     named p away = named_without mode a.at pid first pages p (fit.places.inside (Object p) away) (λ k inside. (let parts = row_parts first pages k inside in none k p.object p.page parts.0 parts.1))

@@ -114,10 +114,7 @@ pub least_on_at : (f : ℕ → Bool) (n m : ℕ) → n < m → f n ≡ true → 
 least_on_at f n m low t = ap (least_from f n) (one_more n m low) ∙ least_on f n (m - (n + 1)) t
 
 pub least_end_at : (f : ℕ → Bool) (n m : ℕ) → m ≤ n → n ≤ m → least_from f n (m - n) ≡ m
-least_end_at f n m past low =
-    let none : m - n ≡ 0 = omega (arith, past) in
-    let same : n ≡ m = omega (arith, past, low) in
-    ap (least_from f n) none ∙ least_end f n ∙ same
+least_end_at f n m past low = let none : m - n ≡ 0 = omega (arith, past) in let same : n ≡ m = omega (arith, past, low) in ap (least_from f n) none ∙ least_end f n ∙ same
 
 -- where the marks are those of all processes
 pub used_same : (f : Maps) (xs : List Bool) → ((o q : ℕ) → o < named_limit → q < 65 → IsUsedBy f q o → get_or xs o false ≡ true)
@@ -152,9 +149,7 @@ nobody c fit pid first pages o (k, high, is) =
           ] in
           let e : without_maps (picture_of c).at pid first pages 0 k ≡ None = rw (eq-eqb 0 pid first_one) gone in
           false≢true (sym (ap (λ x. uses x o) e) ∙ is))
-      | inr other ↦ (
-          let e : without_maps (picture_of c).at pid first pages 0 k ≡ None = rw (ne_eqb 0 pid other) none in
-          false≢true (sym (ap (λ x. uses x o) e) ∙ is))
+      | inr other ↦ (let e : without_maps (picture_of c).at pid first pages 0 k ≡ None = rw (ne_eqb 0 pid other) none in false≢true (sym (ap (λ x. uses x o) e) ∙ is))
     ]
 
 -- a run more
@@ -175,12 +170,7 @@ module _ (mode : ℕ) (map : ℕ → Option Attr) (run : Run) (from at end : ℕ
   pub only_more : (o : ℕ) → get_or zs o false ≡ true → (get_or xs o false ≡ true) ⊎ IsUsedBetween map from end o
   only_more o e = elim (marks.only o e) [
     | inl was ↦ only o was
-    | inr is ↦ inr (
-      run.first,
-      (let f = next.from in omega (arith, low, f)),
-      before,
-      run_uses map run run.first o (next.mapped run.first (omega arith) next.nonempty) ∙ is,
-    )
+    | inr is ↦ inr (run.first, (let f = next.from in omega (arith, low, f)), before, run_uses map run run.first o (next.mapped run.first (omega arith) next.nonempty) ∙ is)
   ]
 
 -- the next run of the same pages

@@ -181,9 +181,7 @@ module _ {mode : ℕ} (old mid new : Picture mode) (pid first pages : ℕ) (map 
       kept = λ page h e. same_entry pid page ∙ row.kept page h e;
       views = λ page. elim (cases_Bool (in_row first pages page)) [
         | inl e ↦ rw e (view-bare new pid page (same_entry pid page ∙ row.entries page e) ∙ ap (option_map plain) (at page))
-        | inr e ↦ (
-            let before = rw e at (row.views page) in
-            rw e (view_remapped mid new pid was.fit remaps pid page (at_mid page e) ∙ before))
+        | inr e ↦ (let before = rw e at (row.views page) in rw e (view_remapped mid new pid was.fit remaps pid page (at_mid page e) ∙ before))
       ];
       others = λ q page ne. view_remapped mid new pid was.fit remaps q page (remaps.others q page ne) ∙ row.others q page ne;
     };

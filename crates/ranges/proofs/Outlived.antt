@@ -52,9 +52,7 @@ stored_shown c s fit shows object page =
       | inl touched ↦ (
           let at : object_bytes c p ≡ held c (Object p) = rw touched refl in
           ap (λ o. is_some o) (shows.objects p ∙ at) ∙ some_held c (Object p) (fit.dirty.held (Object p) touched) ∙ sym touched)
-      | inr clear ↦ (
-          let at : object_bytes c p ≡ None = rw clear refl in
-          ap (λ o. is_some o) (shows.objects p ∙ at) ∙ sym clear)
+      | inr clear ↦ (let at : object_bytes c p ≡ None = rw clear refl in ap (λ o. is_some o) (shows.objects p ∙ at) ∙ sym clear)
     ]
 
 -- the slots that a state needs are those that memory counts

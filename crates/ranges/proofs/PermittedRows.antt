@@ -44,11 +44,7 @@ pub permits_none : {mode : ℕ} (c : Picture mode) (pid low high : ℕ) (prot : 
 permits_none c pid low high prot none = permits_same c pid low high prot (λ page h least below. inl (none page h least below))
 
 stores_moved : (t t' : FrameTable) (o : Option Attr) (prot : Prot) (e : ℕ) → t'.counts ≡ t.counts → TakesStores t' o prot e → TakesStores t o prot e
-stores_moved t t' o prot e counts s = record {
-  permitted = s.permitted;
-  sole = λ own. ap (λ cs. get_or cs (frame_of e) 0) (sym counts) ∙ s.sole own;
-  common = s.common;
-}
+stores_moved t t' o prot e counts s = record { permitted = s.permitted; sole = λ own. ap (λ cs. get_or cs (frame_of e) 0) (sym counts) ∙ s.sole own; common = s.common }
 
 counts_moved : (t t' : FrameTable) (o : Option Attr) (prot : Prot) (e x : ℕ) → t'.counts ≡ t.counts → Permits t' o prot e x → Permits t o prot e x
 counts_moved t t' o prot e x counts (Empty z z') = Empty z z'

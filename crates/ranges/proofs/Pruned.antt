@@ -109,8 +109,7 @@ module _ {mode : ℕ} (old new : Picture mode) (pid r start : ℕ) (fit : IsFit 
     kept = λ q p h out. same_pruned q p ∙ clears.kept q p h out;
     views = λ q p out. each_view old new fit.granting beside.at q p (λ h. view_seated old new q p (beside.at q p) (ap seat (same_pruned q p))
         (λ z is. seat_bytes z (fit.counted.1.named q p z h is))) ∙ clears.views q p out;
-    held = λ p. held_same old new p (beside.place p) beside.slots
-        (λ n at. prunes.kept.bytes n (cache_data (role_of old.frames n) (fit.places.cached p n at))) ∙ clears.held p;
+    held = λ p. held_same old new p (beside.place p) beside.slots (λ n at. prunes.kept.bytes n (cache_data (role_of old.frames n) (fit.places.cached p n at))) ∙ clears.held p;
   }
 
   -- where the pages from low on, as far as `start`, were cleared before, and those from there on have no entries
@@ -125,10 +124,7 @@ module _ {mode : ℕ} (old new : Picture mode) (pid r start : ℕ) (fit : IsFit 
     beside_now p h some = elim (by_row pid low stop pid p) [ inl out ↦ out | inr inside ↦ absurd (some (none_now p h inside.1 inside.2)) ]
 
     some_now : (p : ℕ) → IsPage (top_level mode) p → entry new pid p ≢ 0 → IsMappedBeside new pid low stop pid p
-    some_now p h some = (
-      some_mapped new (new.at pid p) (entry new pid p) (fit_pruned.granting.entries pid p h) some,
-      beside_now p h some,
-    )
+    some_now p h some = (some_mapped new (new.at pid p) (entry new pid p) (fit_pruned.granting.entries pid p h) some, beside_now p h some)
 
     -- a page of another process, or of none of those that were cleared now
     kept_page : (q p : ℕ) → IsMappedBeside old pid low start q p → IsMappedBeside new pid low stop q p ⊎ ((q ≡ pid) × (start ≤ p) × (p < stop))

@@ -53,8 +53,7 @@ resident_permitted new t o a prot writable e e' at counts stores permitted resid
       behind = behind;
       leaf = λ valid. record {
         within = record { reads = λ b. sym is.reads ∙ b; writes = λ b. (stores.0 (sym (is.writes valid) ∙ b)).permitted; executes = λ b. sym is.executes ∙ b };
-        sole = λ own b. ap (λ cs. get_or cs (frame_of e') 0) counts ∙ ap (count_of t) is.frame
-            ∙ (stores.0 (sym (is.writes valid) ∙ b)).sole (sym is.private ∙ own);
+        sole = λ own b. ap (λ cs. get_or cs (frame_of e') 0) counts ∙ ap (count_of t) is.frame ∙ (stores.0 (sym (is.writes valid) ∙ b)).sole (sym is.private ∙ own);
         common = λ common b. shared_one o a at ((stores.0 (sym (is.writes valid) ∙ b)).common (sym is.private ∙ common));
       };
     }
@@ -72,8 +71,7 @@ away_permitted new o prot e away (Parts.Away a at swapped) = Parts.Away (with_pr
 entry_permitted : {mode : ℕ} (new : Picture mode) (t : FrameTable) (o : Option Attr) (prot : Prot) (e e' : ℕ) → new.frames.counts ≡ t.counts → Permits t o prot e e' → IsEntryFor new o e
     → IsEntryFor new (option_map (with_prot prot) o) e'
 entry_permitted new t o prot e e' counts (Empty none none') for = Parts.Nothing none'
-entry_permitted new t o prot e e' counts (Away away is) for =
-    subst (λ (x : ℕ). IsEntryFor new (option_map (with_prot prot) o) x) (sym is) (away_permitted new o prot e away for)
+entry_permitted new t o prot e e' counts (Away away is) for = subst (λ (x : ℕ). IsEntryFor new (option_map (with_prot prot) o) x) (sym is) (away_permitted new o prot e away for)
 entry_permitted new t o prot e e' counts (Kept some here writable stores is) (Parts.Nothing none) = absurd (some none)
 entry_permitted new t o prot e e' counts (Kept some here writable stores is) (Parts.Away a at swapped) = absurd (false≢true (sym here ∙ swapped.swapped))
 entry_permitted new t o prot e e' counts (Kept some here writable stores is) (Parts.Resident a at resident) =
@@ -84,8 +82,7 @@ pub record WasDirty (e : ℕ) : Type 0 where
   pub valid : is_valid e ≡ true
   pub dirty : is_dirty e ≡ true
 
-was_dirty : (t : FrameTable) (o : Option Attr) (prot : Prot) (e e' : ℕ) → Permits t o prot e e' → is_valid e' ≡ true → is_private e' ≡ false → is_dirty e' ≡ true
-    → WasDirty e
+was_dirty : (t : FrameTable) (o : Option Attr) (prot : Prot) (e e' : ℕ) → Permits t o prot e e' → is_valid e' ≡ true → is_private e' ≡ false → is_dirty e' ≡ true → WasDirty e
 was_dirty t o prot e e' (Empty none none') valid common dirty = absurd (not_valid (sym (ap is_valid none') ∙ valid))
 was_dirty t o prot e e' (Away away is) valid common dirty =
     absurd (false≢true (sym (let z : is_swapped e ≡ false = (let v : is_valid e ≡ true = sym (ap is_valid is) ∙ valid in rw v refl) in z) ∙ away))
@@ -164,8 +161,7 @@ module _ {mode : ℕ} (old mid new : Picture mode) (pid first pages low high : �
   kept q page h out = same_entry q page ∙ permits.kept q page h out
 
   changed : (page : ℕ) → IsPage (top_level mode) page → low ≤ page → page < high → Permits old.frames (old.at pid page) prot (entry old pid page) (entry new pid page)
-  changed page h least below =
-      subst (λ (x : ℕ). Permits old.frames (old.at pid page) prot (entry old pid page) x) (sym (same_entry pid page)) (permits.changed page h least below)
+  changed page h least below = subst (λ (x : ℕ). Permits old.frames (old.at pid page) prot (entry old pid page) x) (sym (same_entry pid page)) (permits.changed page h least below)
 
   seats : SameSeats old new
   seats = record { roles = role; counts = count; slots = slots; page_of = page_of; place = place }
@@ -196,9 +192,7 @@ module _ {mode : ℕ} (old mid new : Picture mode) (pid first pages low high : �
   at_out : (page : ℕ) → IsBeside pid low high pid page → new.at pid page ≡ old.at pid page
   at_out page out = elim (cases_Bool (in_row first pages page)) [
     | inr e ↦ at page ∙ (rw e refl)
-    | inl e ↦ (
-        let none = low_unmapped page (under_sixteen page out e) in
-        at_row page e ∙ ap (option_map (with_prot prot)) none ∙ sym none)
+    | inl e ↦ (let none = low_unmapped page (under_sixteen page out e) in at_row page e ∙ ap (option_map (with_prot prot)) none ∙ sym none)
   ]
 
   at_beside : (q page : ℕ) → IsBeside pid low high q page → new.at q page ≡ old.at q page

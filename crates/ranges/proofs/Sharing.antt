@@ -64,9 +64,7 @@ module _ (mode : ℕ) (old new : ℕ → ℕ → ℕ) (owned owned' : Seat → T
   ])
 
   gone : (q p : ℕ) (z : Seat) → (q ≡ pid) × (p ≡ k) → seat (new q p) ≡ Some z → ⊥
-  gone q p z e is =
-      let moved : new q p ≡ new pid k = ap (λ v. new v p) e.0 ∙ ap (λ v. new pid v) e.1 in
-      let bad : None ≡ Some z = sym to ∙ ap seat (sym moved) ∙ is in (cc)
+  gone q p z e is = let moved : new q p ≡ new pid k = ap (λ v. new v p) e.0 ∙ ap (λ v. new pid v) e.1 in let bad : None ≡ Some z = sym to ∙ ap seat (sym moved) ∙ is in (cc)
 
   pub counted_emptied : AreCounted mode new owned' count' page' x 1
   counted_emptied = record {
@@ -92,9 +90,7 @@ module _ (mode : ℕ) (old new : ℕ → ℕ → ℕ) (owned owned' : Seat → T
     ];
     noted = λ q p z h' is. elim (by_page q p pid k) [
       | inl e ↦ absurd (gone q p z e is)
-      | inr away ↦ (
-          let was = ap seat (sym (others q p h' away)) ∙ is in
-          pages z (counted.named q p z h' was) ∙ counted.noted q p z h' was)
+      | inr away ↦ (let was = ap seat (sym (others q p h' away)) ∙ is in pages z (counted.named q p z h' was) ∙ counted.noted q p z h' was)
     ];
   }
 

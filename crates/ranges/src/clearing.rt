@@ -1,17 +1,17 @@
 //! Pages without entries.
-ghost use Rattle.std.specs.Prelude.{◌≡◌, ◌+◌, ◌*◌, ◌/◌, ◌<◌, ◌≤◌, ◌^◌, true, false};
-ghost use Rattle.vm_types.specs.Limits.{user_end, table_entries};
+ghost use Rattle.std.specs.Prelude.{◌≡◌, ◌+◌, ◌<◌, ◌≤◌, true, false};
+ghost use Rattle.vm_types.specs.Limits.{user_end};
 ghost use Rattle.page_tables.specs.Entry.{IsPageEntry};
 ghost use Rattle.residency.specs.Seats.{is_private, seat};
 ghost use Rattle.residency.specs.Picture.{picture_of, is_live};
 ghost use Rattle.residency.specs.Parts.{IsFit};
-ghost use Rattle.residency.specs.Ways.{IsWhole};
 ghost use Rattle.ranges.specs.RowsCleared.{IsPartOf, HoldsPlaces, ClearsWithTables, ClearsNext, ClearsPlaces, ClearsRow, ReleasesShare};
 ghost use Rattle.ranges.specs.Steps.{LacksHolder};
+ghost use Rattle.ranges.specs.WaysPassed.{IsLinkedPart};
 
 use crate::entries::next_place;
-use crate::rows::{TableRow, next_part, span_end, table_end, table_start, user_page};
-use memory::{last_table, number_in, prune, set_in, table_of};
+use crate::rows::{LinkedPart, TableRow, next_part, span_end, table_end, table_start, user_page};
+use memory::{last_table, number_in, prune, set_in};
 use page_tables::{Entry, decode};
 use residency::{Core, root_of};
 use sv39_walk::Pte;
@@ -53,10 +53,16 @@ fn clear_next<D, E, M: Levels>(core: &mut Core<D, E, M>, pid: Pid, start: Vpn, e
     ensures { ClearsNext core.old core.new pid start end result }
 {
     let top_table = root_of(core, pid);
-    let (missing, _) = last_table(&core.frames, top_table, start);
+    let (missing, table) = last_table(&core.frames, top_table, start);
     if missing == 0 {
         let stop = end.min(table_end(start));
-        clear_table(core, pid, start, stop);
+        let part = LinkedPart {
+            pid,
+            first: start,
+            end: stop,
+            table,
+        };
+        clear_table(core, &part);
         return stop;
     }
     let stop = end.min(span_end(start, missing));
@@ -67,31 +73,28 @@ fn clear_next<D, E, M: Levels>(core: &mut Core<D, E, M>, pid: Pid, start: Vpn, e
     stop
 }
 
-/// Clears the pages from `start` up to, not including, `stop`, whose entries stand in one table, and releases the tables
-/// that are without entries then. Places without an entry are passed over many at a time.
-fn clear_table<D, E, M: Levels>(core: &mut Core<D, E, M>, pid: Pid, start: Vpn, stop: u64)
-    requires part { IsPartOf (picture_of core.old) pid start stop }
-    requires whole { IsWhole (picture_of core.old) pid start }
-    requires one_table { stop ≤ (start / table_entries + 1) * table_entries }
-    ensures { ClearsWithTables core.old core.new pid start stop }
+/// Clears pages whose entries stand in one table, and releases the tables that are without entries then. Places without an entry
+/// are passed over many at a time.
+fn clear_table<D, E, M: Levels>(core: &mut Core<D, E, M>, part: &LinkedPart)
+    requires fit { IsFit (picture_of core.old) }
+    requires live { is_live (picture_of core.old) part.now.pid ≡ true }
+    requires part { IsLinkedPart (picture_of core.old) part.now }
+    ensures { ClearsWithTables core.old core.new part.now.pid part.now.first part.now.end }
 {
-    let root = root_of(core, pid);
-    let Ok(table) = table_of(&core.frames, root, start) else {
-        unreachable!();
-    };
-    let first = table_start(start);
+    let root = root_of(core, part.pid);
+    let first = table_start(part.first);
     let row = TableRow {
-        pid,
+        pid: part.pid,
         root,
-        table,
+        table: part.table,
         first,
     };
-    let end = (stop - first) as usize;
-    let mut index = (start.get() - first) as usize;
+    let end = (part.end - first) as usize;
+    let mut index = (part.first.get() - first) as usize;
     while index < end {
         index = clear_at(core, &row, index, end);
     }
-    prune(&mut core.frames, root, start);
+    prune(&mut core.frames, root, part.first);
 }
 
 /// Takes the entry at place `index` of a table out, and gives back the share of the frame or the slot that it names as the

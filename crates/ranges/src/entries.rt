@@ -6,8 +6,7 @@ ghost use Rattle.sv39_walk.specs.Entry.{entry_at};
 ghost use Rattle.page_tables.specs.Tree.{IsTable, page_entry};
 ghost use Rattle.page_tables.specs.Places.{IsTableOf};
 
-use byteorder::{ByteOrder, LittleEndian};
-use memory::Memory;
+use memory::{Memory, entry_in};
 use sv39_walk::TABLE_ENTRIES;
 use vm_types::{FrameNo, Levels};
 
@@ -115,11 +114,10 @@ fn is_none<M: Levels>(memory: &Memory<M>, table: FrameNo, index: usize) -> bool
 }
 
 /// The number at a place of a table.
-#[tactic(auto, unfolding(sv39_walk::specs::Entry::entry_at))]
 pub(crate) fn number_at<M: Levels>(memory: &Memory<M>, table: FrameNo, index: usize) -> u64
     requires inside { IsFrame memory.now table.0 }
     requires below { index < table_entries }
     ensures { result ≡ entry_at memory.now table.0 index }
 {
-    LittleEndian::read_u64(&memory.bytes(table)[8 * index..])
+    entry_in(memory, table, index).to_u64()
 }

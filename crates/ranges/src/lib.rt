@@ -18,4 +18,4 @@ pub use forgetting::forget_row;
 pub use numbering::free_object;
 pub use permitting::reprotect;
 pub use remapping::remap;
-pub use rows::{Part, gap_end, linked_part, table_end, table_start, user_page};
+pub use rows::{LinkedPart, entry_pages, gap_end, linked_part, table_end, table_start, user_page};

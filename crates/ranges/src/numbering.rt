@@ -8,10 +8,7 @@ ghost use Rattle.ranges.specs.Numbers.{Marks, IsUsedBetween, IsUsedBy};
 ghost use Rattle.ranges.specs.Rows.{without_maps};
 
 use residency::{Core, PLACES};
-use vm_types::{Backing, Levels, Pid, WIDEST_END};
-
-/// How many objects runs of pages name at most: 64 processes have 256 runs each.
-const NAMED: usize = 64 * 256;
+use vm_types::{Backing, Levels, NAMED_OBJECTS, Pid, WIDEST_END};
 
 /// Pages of a process that are left out: the `pages` ones from `first` on.
 #[derive(Clone, Copy)]
@@ -29,7 +26,7 @@ pub fn free_object<D, E, M: Levels>(core: &Core<D, E, M>, pid: Pid, first: u64, 
     ensures { result ≡ free_object (without_maps (picture_of core.now).at pid first pages) }
 {
     let left_out = LeftOut { pid, first, pages };
-    let mut used = [false; NAMED];
+    let mut used = [false; NAMED_OBJECTS];
     for number in 1..PLACES {
         mark_process(core, number as u64, &left_out, &mut used);
     }
@@ -41,7 +38,7 @@ fn mark_process<D, E, M: Levels>(
     core: &Core<D, E, M>,
     number: u64,
     left_out: &LeftOut,
-    used: &mut [bool; NAMED],
+    used: &mut [bool; NAMED_OBJECTS],
 )
     requires fit { IsFit (picture_of core.now) }
     requires row { left_out.now.first + left_out.now.pages ≤ user_end M.mode }
@@ -67,7 +64,7 @@ fn mark<D, E, M: Levels>(
     pid: Pid,
     from: u64,
     end: u64,
-    used: &mut [bool; NAMED],
+    used: &mut [bool; NAMED_OBJECTS],
 )
     requires live { is_live (picture_of core.now) pid ≡ true }
     requires room { length used.old ≡ named_limit }
@@ -84,26 +81,26 @@ fn mark<D, E, M: Levels>(
 }
 
 /// Marks the object of a page.
-fn mark_backing(backing: Backing, used: &mut [bool; NAMED])
+fn mark_backing(backing: Backing, used: &mut [bool; NAMED_OBJECTS])
     requires room { length used.old ≡ named_limit }
     ensures marks { Marks (λ o. is_of_object backing o ≡ true) used.old used.new }
 {
     if let Backing::Common(page) = backing {
-        if (page.object as usize) < NAMED {
+        if (page.object as usize) < NAMED_OBJECTS {
             used[page.object as usize] = true;
         }
     }
 }
 
 /// The first number that isn't marked.
-fn first_free(used: &[bool; NAMED]) -> u16
+fn first_free(used: &[bool; NAMED_OBJECTS]) -> u16
     requires room { length used.now ≡ named_limit }
     ensures { result ≡ least_from (λ o. get_or used.now o false) 0 named_limit }
 {
-    for n in 0..NAMED {
+    for n in 0..NAMED_OBJECTS {
         if !used[n] {
             return n as u16;
         }
     }
-    NAMED as u16
+    NAMED_OBJECTS as u16
 }

@@ -1,6 +1,6 @@
 //! Another permission for the pages of a row.
 ghost use Rattle.std.specs.Prelude.{◌≡◌, ◌≢◌, ◌↔◌, ℕ, ◌+◌, ◌*◌, ◌/◌, ◌<◌, ◌≤◌, ◌^◌, true};
-ghost use Rattle.vm_types.specs.Limits.{top_level, user_end, table_entries};
+ghost use Rattle.vm_types.specs.Limits.{top_level, user_end};
 ghost use Rattle.vm_types.specs.Rows.{protected};
 ghost use Rattle.frames.specs.FrameTable.{IsFrame};
 ghost use Rattle.sv39_walk.specs.Entry.{frame_of};
@@ -12,17 +12,16 @@ ghost use Rattle.residency.specs.Parts.{IsFit};
 ghost use Rattle.ranges.specs.Leaves.{TakesStores};
 ghost use Rattle.ranges.specs.RowsCleared.{StandsIn};
 ghost use Rattle.ranges.specs.RowsPermitted.{IsPermissible, PermitsPages, PermitsNext, PermitsPage, ReprotectsPages};
-ghost use Rattle.ranges.specs.WaysPassed.{IsUserRow};
-ghost use Rattle.residency.specs.Ways.{IsWhole};
+ghost use Rattle.ranges.specs.WaysPassed.{IsLinkedPart, IsUserRow};
 
 use crate::entries::next_entry;
 use crate::leaves::permitted;
-use crate::rows::{TableRow, next_linked, table_end, table_start, user_page};
-use memory::{number_in, set_in, table_of};
+use crate::rows::{LinkedPart, TableRow, next_linked, table_start, user_page};
+use memory::{number_in, set_in};
 use regions::Regions;
 use residency::{Core, root_of};
 use sv39_walk::{Pte, TABLE_ENTRIES};
-use vm_types::{FrameNo, Levels, Pid, Prot, USER_START, Vpn};
+use vm_types::{Levels, Pid, Prot, USER_START, Vpn};
 
 /// Gives the `pages` pages from `first` on of a live process the permission `prot`, which allows reading what it allows writing,
 /// and the process the regions that say so. A resident page stays in its frame, where it can be read and run at once, as
@@ -67,46 +66,30 @@ fn permit_next<D, E, M: Levels>(
     requires row { IsUserRow M.mode start end }
     ensures { PermitsNext core.old core.new pid start end prot result }
 {
-    let linked = next_linked(core, pid, start, end);
-    if linked >= end {
+    let Some(part) = next_linked(core, pid, start, end) else {
         return end;
-    }
-    let first = user_page::<M>(linked);
-    let stop = end.min(table_end(first));
-    permit_table(core, pid, first, stop, prot);
-    stop
+    };
+    permit_table(core, &part, prot);
+    part.end
 }
 
-/// Gives the permission to the pages from `start` up to, not including, `stop`, whose entries stand in one table. Places
-/// without an entry are passed over many at a time.
-fn permit_table<D, E, M: Levels>(
-    core: &mut Core<D, E, M>,
-    pid: Pid,
-    start: Vpn,
-    stop: u64,
-    prot: Prot,
-)
-    requires may { IsPermissible (picture_of core.old) pid prot }
-    requires whole { IsWhole (picture_of core.old) pid start }
-    requires some { start < stop }
-    requires one_table { stop ≤ (start / table_entries + 1) * table_entries }
-    requires high { stop ≤ user_end M.mode }
-    ensures { PermitsPages core.old core.new pid start stop prot }
+/// Gives the permission to pages whose entries stand in one table. Places without an entry are passed over many at a time.
+fn permit_table<D, E, M: Levels>(core: &mut Core<D, E, M>, part: &LinkedPart, prot: Prot)
+    requires may { IsPermissible (picture_of core.old) part.now.pid prot }
+    requires part { IsLinkedPart (picture_of core.old) part.now }
+    ensures { PermitsPages core.old core.new part.now.pid part.now.first part.now.end prot }
 {
-    let root = root_of(core, pid);
-    let Ok(table) = table_of(&core.frames, root, start) else {
-        unreachable!();
-    };
+    let root = root_of(core, part.pid);
     let row = TableRow {
-        pid,
+        pid: part.pid,
         root,
-        table,
-        first: table_start(start),
+        table: part.table,
+        first: table_start(part.first),
     };
-    let mut page = next_entry(&core.frames, table, start.get(), stop);
-    while page < stop {
+    let mut page = next_entry(&core.frames, part.table, part.first.get(), part.end);
+    while page < part.end {
         permit_page(core, &row, user_page::<M>(page), prot);
-        page = next_entry(&core.frames, table, page + 1, stop);
+        page = next_entry(&core.frames, part.table, page + 1, part.end);
     }
 }
 

@@ -8,7 +8,7 @@ ghost use Rattle.residency.specs.Parts.{IsFit, IsRootedBut};
 ghost use Rattle.residency.specs.Ways.{IsWhole};
 ghost use Rattle.ranges.specs.Rows.{IsUnmapped, IsNextPart};
 ghost use Rattle.ranges.specs.Steps.{IsGapEnd};
-ghost use Rattle.ranges.specs.WaysPassed.{FindsLinked, FindsPart, IsUserRow, PassesGap};
+ghost use Rattle.ranges.specs.WaysPassed.{FindsLinked, FindsPart, IsUnlinked, IsUserRow, PassesGap};
 
 use crate::entries::next_set;
 use memory::{Memory, last_table};
@@ -19,9 +19,18 @@ use vm_types::{FrameNo, Levels, Pid, Vpn};
 
 /// Pages of a row, from a mapped one up to, not including, `end`.
 #[derive(Clone, Copy)]
-pub struct Part {
+pub(crate) struct Part {
+    pub(crate) first: Vpn,
+    pub(crate) end: u64,
+}
+
+/// Pages of a process from `first` up to, not including, `end`, whose entries stand in the lowest table `table`.
+#[derive(Clone, Copy)]
+pub struct LinkedPart {
+    pub pid: Pid,
     pub first: Vpn,
     pub end: u64,
+    pub table: FrameNo,
 }
 
 /// A row of 512 pages of a process whose entries stand in one lowest table of the tree of `root`. It begins with the page `first`.
@@ -59,8 +68,8 @@ pub fn table_end(page: Vpn) -> u64
     (page.get() / TABLE_ENTRIES + 1) * TABLE_ENTRIES
 }
 
-/// How many pages stand in the place of one entry of a table of that level.
-fn span_of(level: u32) -> u64
+/// How many pages stand in the place of one entry of a table of that level, 0 to 4: 512 to the power of the level.
+pub fn entry_pages(level: u32) -> u64
     requires { level ≤ 4 }
     ensures { result ≡ table_entries ^ level }
 {
@@ -78,7 +87,7 @@ pub(crate) fn span_end(page: Vpn, level: u32) -> u64
     requires { level ≤ 4 }
     ensures { result ≡ (page / table_entries ^ level + 1) * table_entries ^ level }
 {
-    let span = span_of(level);
+    let span = entry_pages(level);
     (page.get() / span + 1) * span
 }
 
@@ -101,55 +110,70 @@ pub fn gap_end<D, E, M: Levels>(core: &Core<D, E, M>, pid: Pid, page: Vpn) -> Op
     Some(span_end(page, missing))
 }
 
-/// The first page from `page` on, and before `end`, of a live process on whose way no table is missing; `end` where there is
-/// none. What the missing tables would hold costs the entries of the tables above them, which are read many at a time (RISC-V
-/// Privileged Specification, "Virtual Address Translation Process").
+/// The next pages of a live process from `page` on, and before `end`, whose entries stand in one lowest table; `None` where a table is
+/// missing on the way to each. What the missing tables would hold costs the entries of the tables above them, which are read many
+/// at a time (RISC-V Privileged Specification, "Virtual Address Translation Process").
 pub(crate) fn next_linked<D, E, M: Levels>(
     core: &Core<D, E, M>,
     pid: Pid,
     page: Vpn,
     end: u64,
-) -> u64
+) -> Option<LinkedPart>
     requires rooted { IsRootedBut (picture_of core.now) 0 }
     requires live { is_live (picture_of core.now) pid ≡ true }
     requires row { IsUserRow M.mode page end }
-    ensures { FindsLinked (picture_of core.now) pid page end result }
+    ensures none { IfNone result (IsUnlinked (picture_of core.now) pid page end) }
+    ensures some { IfSome result (FindsLinked (picture_of core.now) pid page end) }
 {
     let root = root_of(core, pid);
     let mut at = page.get();
     while at < end {
-        match past_gap(&core.frames, root, user_page::<M>(at), end) {
-            Some(next) => at = next,
-            None => return at,
+        let first = user_page::<M>(at);
+        match linked_table(&core.frames, root, first, end) {
+            Ok(table) => {
+                let end = end.min(table_end(first));
+                return Some(LinkedPart {
+                    pid,
+                    first,
+                    end,
+                    table,
+                });
+            }
+            Err(next) => at = next,
         }
     }
-    end
+    None
 }
 
 /// The next pages of a live process from `page` on that one run maps and whose entries stand in one lowest table; `None` where
 /// none are left. The pages before them have no entry: what isn't mapped costs nothing, and a run the tables that it meets.
-pub fn linked_part<D, E, M: Levels>(core: &Core<D, E, M>, pid: Pid, page: u64) -> Option<Part>
+pub fn linked_part<D, E, M: Levels>(core: &Core<D, E, M>, pid: Pid, page: u64) -> Option<LinkedPart>
     requires fit { IsFit (picture_of core.now) }
     requires live { is_live (picture_of core.now) pid ≡ true }
     ensures none { IfNone result ((p : ℕ) → IsPage (top_level M.mode) p → page ≤ p → entry (picture_of core.now) pid p ≡ 0) }
-    ensures some { IfSome result (λ part. FindsPart (picture_of core.now) pid page part.first part.end) }
+    ensures some { IfSome result (FindsPart (picture_of core.now) pid page) }
 {
     let mut at = page;
     while let Some(run) = core.regions(pid).next_run(at) {
-        let linked = next_linked(core, pid, user_page::<M>(run.first), run.end);
-        if linked < run.end {
-            let first = user_page::<M>(linked);
-            let end = run.end.min(table_end(first));
-            return Some(Part { first, end });
+        if let Some(part) = next_linked(core, pid, user_page::<M>(run.first), run.end) {
+            return Some(part);
         }
         at = run.end;
     }
     None
 }
 
-/// Where a table is missing on the way to a page, the next page on whose way fewer are, or the first one past those whose way
-/// goes through the same table above the missing one, or one that isn't before `end`; `None` where none is missing.
-fn past_gap<M: Levels>(memory: &Memory<M>, root: FrameNo, page: Vpn, end: u64) -> Option<u64>
+/// The lowest table on the way to a page.
+///
+/// # Errors
+/// Where a table is missing on the way, the next page on whose way fewer are, or the first one past those whose way goes through the
+/// same table above the missing one, or one that isn't before `end`.
+fn linked_table<M: Levels>(
+    memory: &Memory<M>,
+    root: FrameNo,
+    page: Vpn,
+    end: u64,
+) -> Result<FrameNo, u64>
     requires forest { IsForest memory.now }
     requires root { IsRoot (top_level M.mode) memory.now root.0 }
     requires row { IsUserRow M.mode page end }
@@ -157,11 +181,11 @@ fn past_gap<M: Levels>(memory: &Memory<M>, root: FrameNo, page: Vpn, end: u64) -
 {
     let (level, table) = last_table(memory, root, page);
     if level == 0 {
-        return None;
+        return Ok(table);
     }
     let last = end.min(span_end(page, level + 1)) - 1;
-    let span = span_of(level);
-    Some(next_set(memory, table, page.get() / span + 1, last / span + 1) * span)
+    let span = entry_pages(level);
+    Err(next_set(memory, table, page.get() / span + 1, last / span + 1) * span)
 }
 
 /// The next part of a row of pages that may have entries, from `page` on and before `end`; `None` where no page of the row is

@@ -3,7 +3,7 @@ use Rattle.vm_types.specs.declared.mode.Levels as Levels
 use Rattle.residency.proofs.{Entries.{entries_kept}, Giving.{frame_given, gives_kept, one_given}, Names.{top_level, FrameNo, FilePage, ◌≡◌, ◌≢◌, ℕ, ◌⊎◌, inl, inr, List, Option, refl, sym, ap, ◌∙◌, subst, arith, Ghosts, AsksOnly, Nothing}}
 use Rattle.residency.proofs.Names.{Names, NamesOnce, asks_none, asks_once, asks_wider, asks_then, once_named, once_none, FileStore, IsSectorOf, ReadsFilePage, Free, Table, role_of, IsFrame, IsFull, SameButFor, Swap, Pages, slots_of}
 use Rattle.residency.{proofs.Names.{IsSectorOfSlot, IsSectorOfFreeSlot, place_of, is_touched, KeepsTrees, data_changed}, specs.{Ages.{GivesFrame, WantsFrame}, Calls.{Frees, NeedsSlot, GivesToSwap, AsksSwap, AsksSwapAlso, AsksOneSlot}}}
-use Rattle.{residency.specs.{Evictions.{IsEvictable, ClearsMarks, Looked, GivesUp}, Parts.{IsFit}, Picture.{Picture, picture_of, is_data}, Reading.{ReadsStore}, declared.kernel.Core.{Core}}, std.proofs.Common.{Result}}
+use Rattle.{residency.specs.{Evictions.{IsEvictable, ClearsMarks, Looked, GivesUp}, Parts.{IsFit}, Picture.{entry, Picture, picture_of, is_data}, Reading.{ReadsStore}, declared.kernel.Core.{Core}}, std.proofs.Common.{Result}}
 use Rattle.swap.specs.Slots as Slots
 
 or_more : {A B : Type 0} → A ⊎ ⊥ → A ⊎ B
@@ -119,6 +119,13 @@ module _ {M : Type 0} {m : Levels.Ghosts M} {D E : Type 0} (h : Ghosts E) where
         (asks_wider h (λ k. IsSectorOfSlot one.0 k ⊎ ⊥) (λ k. IsSectorOfSlot one.0 k ⊎ also k) old.swap.pages.disk found.swap.pages.disk (λ k is. or_more is) one.1)
         (asks_wider h also (λ k. IsSectorOfSlot one.0 k ⊎ also k) found.swap.pages.disk new.pages.disk (λ k is. inr is) more),
   )
+
+-- a frame that was free is put to use, not as a table: every entry is as it was
+pub entries_taken : {mode : ℕ} (found new : Picture mode) (n : ℕ) → IsFit found → SameButFor n found.frames new.frames → role_of found.frames n ≡ Free → role_of new.frames n ≢ Table
+    → ((pid : ℕ) → new.root pid ≡ found.root pid) → (pid page : ℕ) → entry new pid page ≡ entry found pid page
+entries_taken {mode} found new n fit same free datum root =
+    let trees : KeepsTrees found.frames new.frames (top_level mode) = data_changed found.frames new.frames (top_level mode) n fit.rooted.forest same (λ t. (let bad : Free ≡ Table = sym free ∙ t in (cc))) datum in
+    entries_kept found new 0 fit.rooted trees.entries root
 
 -- a frame that was given up holds no table afterwards
 pub gives_taken : {mode : ℕ} (old found new : Picture mode) (n : ℕ) → IsFit found → SameButFor n found.frames new.frames → role_of found.frames n ≡ Free → role_of new.frames n ≢ Table

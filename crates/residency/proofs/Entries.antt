@@ -15,8 +15,7 @@ entry-of {mode} c pid r page root = ap (λ x. entry_under mode c.frames x page) 
 pub entry-same : {mode : ℕ} (old new : Picture mode) (pid page : ℕ) → new.root pid ≡ old.root pid
     → ((x : ℕ) → old.root pid ≡ Some x → page_entry new.frames (top_level mode) x page ≡ page_entry old.frames (top_level mode) x page) → entry new pid page ≡ entry old pid page
 unfolding entry
-entry-same {mode} old new pid page root same =
-    ap (λ r. entry_under mode new.frames r page) root ∙ entry_in-same mode old.frames new.frames (old.root pid) page same
+entry-same {mode} old new pid page root same = ap (λ r. entry_under mode new.frames r page) root ∙ entry_in-same mode old.frames new.frames (old.root pid) page same
 
 -- the trees and the roots are as they were
 pub entries_kept : {mode : ℕ} (old new : Picture mode) (n : ℕ) → IsRootedBut old n → ((r p : ℕ) → IsRoot (top_level mode) old.frames r → page_entry new.frames (top_level mode) r p ≡ page_entry old.frames (top_level mode) r p)

@@ -32,9 +32,7 @@ module _ {mode : ℕ} (old new : Picture mode) (pid r : ℕ) (fit : IsFit old) (
   ]
 
   was_root : (q x : ℕ) → new.root q ≡ Some x → (q ≢ pid) × (old.root q ≡ Some x)
-  was_root q x e =
-      let ne : q ≢ pid = λ is. (let bad : None ≡ Some x = sym exits.gone ∙ ap new.root (sym is) ∙ e in (cc)) in
-      (ne, sym (exits.others q ne) ∙ e)
+  was_root q x e = let ne : q ≢ pid = λ is. (let bad : None ≡ Some x = sym exits.gone ∙ ap new.root (sym is) ∙ e in (cc)) in (ne, sym (exits.others q ne) ∙ e)
 
   -- a table that stays is used by another process
   used_left : (m : ℕ) → m ≢ r → IsUsed old (IsMapped old) m → IsUsed new (IsMapped new) m
@@ -74,8 +72,7 @@ module _ {mode : ℕ} (old new : Picture mode) (pid r : ℕ) (fit : IsFit old) (
       ];
       user = λ q. elim (cases_eq q pid) [
         | inl is ↦ record {
-          user_pages = λ page some. absurd (false≢true (let P : Option Attr → Type 0 = λ x. IsSome x in
-              subst P (ap (λ x. new.at x page) is ∙ exits.unmapped page) some));
+          user_pages = λ page some. absurd (false≢true (let P : Option Attr → Type 0 = λ x. IsSome x in subst P (ap (λ x. new.at x page) is ∙ exits.unmapped page) some));
           file_pages = λ page. (let none : new.at q page ≡ None = ap (λ x. new.at x page) is ∙ exits.unmapped page in rw none tt);
         }
         | inr ne ↦ user_map-same mode (old.at q) (new.at q) (λ page. exits.at q page ne) (fit.granting.user q)

@@ -82,7 +82,7 @@ module _ {mode : ℕ} (old found new : Picture mode) (n : ℕ) (fit : IsFit foun
   use_before : (role_of old.frames n ≡ Free) ⊎ (is_data (role_of old.frames n) ≡ true)
   use_before = elim (frees.roles n) [ inl same ↦ inl (sym same ∙ adds.takes.was_free) | inr gone ↦ inr gone.1 ]
 
-  entries_same : (pid page : ℕ) → entry new pid page ≡ entry found pid page
+  pub entries_same : (pid page : ℕ) → entry new pid page ≡ entry found pid page
   entries_same = entries_kept found new 0 fit.rooted adds.entries beside.root
 
   pub gives_table : GivesFrame old new n

@@ -26,11 +26,7 @@ resident-same old new a e kept count resident = record {
   inside = past_end-same old new a.backing kept.files ∙ resident.inside;
   private = resident.private;
   behind = λ common. behind-same old new a.backing (frame_of e) kept (resident.behind common);
-  leaf = λ valid. (let leaf = resident.leaf valid in record {
-    within = leaf.within;
-    sole = λ private write. count private write (leaf.sole private write);
-    common = leaf.common;
-  });
+  leaf = λ valid. (let leaf = resident.leaf valid in record { within = leaf.within; sole = λ private write. count private write (leaf.sole private write); common = leaf.common });
 }
 
 pub entry_for-same : {mode : ℕ} (old new : Picture mode) (attr : Option Attr) (e : ℕ) → KeepsBehind old new

@@ -20,12 +20,7 @@ pub away_number : (k : ℕ) → k < 2 ^ 32 → IsAway (k * 1024 + 2) k
 unfolding frame_of
 away_number k low =
     let invalid = bit_clear (k * 1024 + 2) 0 (omega arith) in
-    record {
-      invalid = invalid;
-      common = bit_clear (k * 1024 + 2) 8 (omega arith);
-      swapped = rw (invalid, bit_on (k * 1024 + 2) 1 (omega arith)) refl;
-      slot = omega (arith, low);
-    }
+    record { invalid = invalid; common = bit_clear (k * 1024 + 2) 8 (omega arith); swapped = rw (invalid, bit_on (k * 1024 + 2) 1 (omega arith)) refl; slot = omega (arith, low) }
 
 away_seat : (e k : ℕ) → IsAway e k → seat e ≡ Some (InSlot k)
 away_seat e k away = rw (away.common, away.swapped) (ap (λ j. Some (InSlot j)) away.slot)

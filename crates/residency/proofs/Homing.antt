@@ -27,9 +27,7 @@ module _ {mode : ℕ} (old new : Picture mode) (page : PageKey) (k : ℕ) (fit :
 
   -- a slot that is in use still is another one
   not_k : (j : ℕ) → 0 < new.slots.count j → j ≢ k
-  not_k j some e =
-      let here : 0 < new.slots.count k = rw e at some in
-      omega (arith, here, homes.slots.lowered, fit.places.slotted page k homes.was)
+  not_k j some e = let here : 0 < new.slots.count k = rw e at some in omega (arith, here, homes.slots.lowered, fit.places.slotted page k homes.was)
 
   owned_ne : (j : ℕ) → IsOwned old (InSlot j) → j ≢ k
   owned_ne j is e = is.1 page (homes.was ∙ ap (λ i. Slot (record { 0 = i })) (sym e))
@@ -106,8 +104,7 @@ module _ {mode : ℕ} (old new : Picture mode) (page : PageKey) (k : ℕ) (fit :
   }
 
   pub views : (q p : ℕ) → view new q p ≡ view old q p
-  views q p = each_view old new fit.granting homes.at q p (λ h. view_seated old new q p (homes.at q p) (ap seat (same q p))
-      (λ z is. seat_bytes z (fit.counted.1.named q p z h is)))
+  views q p = each_view old new fit.granting homes.at q p (λ h. view_seated old new q p (homes.at q p) (ap seat (same q p)) (λ z is. seat_bytes z (fit.counted.1.named q p z h is)))
 
   pub held_else : (p : PageKey) → p ≢ page → held new p ≡ held old p
   held_else p ne = held_by old new p (homes.others p ne) (λ m at. ap (λ t. bytes_of t m) homes.frames)

@@ -27,9 +27,7 @@ last_set mode old new root page number forest sets r p table =
 -- where an entry over a frame stands
 module _ {mode : ℕ} (c : Picture mode) (change : Change) (n pid k : ℕ) (fit : IsFit c) (h : IsPage (top_level mode) k) (over : IsOver c change n pid k) where
   pub over_resident : (a : Attr) × (c.at pid k ≡ Some a) × IsResident c a (entry c pid k)
-  over_resident =
-      let f = some_framed change (entry c pid k) over.concerned in
-      resident_of c (c.at pid k) (entry c pid k) (fit.granting.entries pid k h) f.0 f.1
+  over_resident = let f = some_framed change (entry c pid k) over.concerned in resident_of c (c.at pid k) (entry c pid k) (fit.granting.entries pid k h) f.0 f.1
 
   pub over_user : (16 ≤ k) × (k < user_end mode)
   over_user = let P : Option Attr → Type 0 = λ x. IsSome x in (fit.granting.user pid).user_pages k (subst P (sym over_resident.1) refl)
@@ -256,9 +254,7 @@ names_over {mode = mode} c n r k fit zero_role names =
     let e : entry c pid k ≡ names.number = entry-of c pid r k root ∙ is_number mode c.frames r k names.number l in
     record { concerned = rw (e, ne_eqb names.number 0 l.some, names.framed) refl; frame = ap frame_of e ∙ names.frame } in
     elim (fit.rooted.used r table) [
-      | inl none ↦ (
-          let role : role_of c.frames 0 ≡ Table = ap (role_of c.frames) (sym none) ∙ table.role in
-          let bad : Zero ≡ Table = sym zero_role ∙ role in (cc))
+      | inl none ↦ (let role : role_of c.frames 0 ≡ Table = ap (role_of c.frames) (sym none) ∙ table.role in let bad : Zero ≡ Table = sym zero_role ∙ role in (cc))
       | inr used ↦ elim used [ AsRoot pid root ↦ (pid, over pid root) | OnWay pid x page root mapped below ↦ absurd (l.unlinked below.2.0 _ below.2.2) ]
     ]
 

@@ -48,8 +48,7 @@ home_held c p home = ap (λ x. bytes_at c.frames c.slots x) home
 
 -- no entry is over a frame that was forgotten
 pub unnamed_of : {mode : ℕ} (c : Picture mode) (v : ℕ) → IsClear c Forget v → (pid k : ℕ) → IsPage (top_level mode) k → entry c pid k ≢ 0 → is_private (entry c pid k) ≡ false → is_swapped (entry c pid k) ≡ false → frame_of (entry c pid k) ≢ v
-unnamed_of c v clear pid k h some common resident frame =
-    clear pid k h (record { concerned = rw (ne_eqb (entry c pid k) 0 some, resident) refl; frame = frame })
+unnamed_of c v clear pid k h some common resident frame = clear pid k h (record { concerned = rw (ne_eqb (entry c pid k) 0 some, resident) refl; frame = frame })
 
 module _ {mode : ℕ} (old new : Picture mode) (page : PageKey) (v : ℕ) (at : Place) (x : Seat) (d : ℕ) (fit : IsFitBut old x d 0) (leaves : Leaves old new page v at)
     (unnamed : (pid k : ℕ) → IsPage (top_level mode) k → entry old pid k ≢ 0 → is_private (entry old pid k) ≡ false → is_swapped (entry old pid k) ≡ false → frame_of (entry old pid k) ≢ v) where
@@ -217,8 +216,7 @@ module _ {mode : ℕ} (old new : Picture mode) (page : PageKey) (v : ℕ) where
   Unnamed = (pid k : ℕ) → IsPage (top_level mode) k → entry old pid k ≢ 0 → is_private (entry old pid k) ≡ false → is_swapped (entry old pid k) ≡ false → frame_of (entry old pid k) ≢ v
 
   -- An untouched page went home.
-  pub fit_home : IsFit old → Leaves old new page v Home → old.touched page ≡ false
-      → Unnamed → IsFit new
+  pub fit_home : IsFit old → Leaves old new page v Home → old.touched page ≡ false → Unnamed → IsFit new
   fit_home fit leaves untouched unnamed = fit_by old new page v Home nowhere 0 fit leaves unnamed
       (counted_on old new nowhere 0 fit.counted (λ q p h. ap seat (same old new page v Home nowhere 0 fit leaves unnamed q p h))
       (λ z. forth old new page v Home nowhere 0 fit leaves unnamed z (λ j e home. (cc))) (back old new page v Home nowhere 0 fit leaves unnamed)

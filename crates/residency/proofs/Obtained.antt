@@ -1,9 +1,9 @@
 -- A frame that was obtained, and what was done with it.
 use Rattle.vm_types.specs.declared.mode.Levels as Levels
-use Rattle.residency.proofs.{Asking.{also_taken, asked_taken, gives_taken, needed_of, wants_taken, wants_tried}, BroughtIn.{fit_brought}, Cleaning.{all_touched}, Giving.{frame_taken, one_given}, Names.{◌≡◌, ◌≢◌, ℕ, ◌⊎◌, ◌≤◌, Option, None}}
+use Rattle.residency.proofs.{Asking.{also_taken, asked_taken, entries_taken, gives_taken, needed_of, wants_taken, wants_tried}, BroughtIn.{fit_brought}, Cleaning.{all_touched}, Giving.{frame_taken, one_given}, Names.{◌≡◌, ◌≢◌, ℕ, ◌⊎◌, ◌≤◌, Option, None}}
 use Rattle.residency.proofs.Names.{sym, ap, ◌∙◌, subst, arith, IsErrAnd, FrameNo, PageKey, Stall, StoreDevice, Ghosts, AsksOnly, Free, Table, Cache, role_of, IsFrame, IsFull, SameButFor, FrameTable, Takes, Swap, IsReady, IsSectorOfSlot}
 use Rattle.residency.{proofs.{Names.{Frame, place_of, is_touched, SameButForPage}, Returning.{frees_spent}, Sparing.{frees_then}, Taking.{fit_spent}}, specs.{Ages.{GivesFrame}, AskedFrames.{ComesIn, Obtains, SeeksFrame}, Calls.{AsksSwap}}}
-use Rattle.residency.specs.{Calls.{AsksSwapAlso, KeepsRest, UsesDevice}, Parts.{IsPageFor}, Picture.{Picture, picture_of}, Stalls.{StallCause, ReadCause, HasReadCause}, Steps.{BringsIn, ChangesFrame, LeavesSlot}, Views.{AsksClock}}
+use Rattle.residency.specs.{Calls.{AsksSwapAlso, KeepsRest, UsesDevice}, Parts.{IsPageFor}, Picture.{Picture, picture_of, entry}, Stalls.{StallCause, ReadCause, HasReadCause}, Steps.{BringsIn, ChangesFrame, LeavesSlot}, Views.{AsksClock, IsLeftBut}}
 use Rattle.{residency.specs.{Views.{ChoosesByClock, TurnsClock}, declared.kernel.Core.{Core}}, std.proofs.Common.{Result, Ok, Err}}
 
 -- swap's device was read then
@@ -43,16 +43,31 @@ module _ {M : Type 0} {m : Levels.Ghosts M} {D E : Type 0} {h : Ghosts E} {old f
   pub clock_on : (new : Core D E M m) → new.clock ≡ found.clock → new.looks ≡ found.looks → TurnsClock old new keep (Ok n)
   clock_on new clock looks = record { stands = λ some. clock ∙ got.stands some; turns = λ full. rw clock (chosen full); looks = rw looks got.looks }
 
+  -- memory is as the clock left it, but for what lay in it, where no entry was changed since
+  pub aged_on : (new : Core D E M m) → ((pid page : ℕ) → entry (picture_of new) pid page ≡ entry (picture_of found) pid page) → IsFull old.frames → IsLeftBut old new keep n
+  aged_on new same full =
+      let is = one_given (picture_of old) (picture_of found) v.0 n.0 got.frees.count full got.gives inside free in
+      let P : ℕ → Type 0 = λ k. IsLeftBut old found keep (record { 0 = k }) in
+      let left = subst P is (got.aged full) in
+      record { left = left.left; clock = left.clock; entries = λ pid page h stays. same pid page ∙ left.entries pid page h stays }
+
+  -- none was, where it became no table
+  pub entries_on : (new : Picture m.mode) → SameButFor n.0 found.frames new.frames → role_of new.frames n.0 ≢ Table → ((pid : ℕ) → new.root pid ≡ (picture_of found).root pid)
+      → (pid page : ℕ) → entry new pid page ≡ entry (picture_of found) pid page
+  entries_on new same datum root = entries_taken (picture_of found) new n.0 got.fit same free datum root
+
   -- it was put to use
   pub seeks_on : (new : Core D E M m) → new.swap ≡ found.swap → new.refused ≡ found.refused → KeepsRest found new → new.clock ≡ found.clock → new.looks ≡ found.looks
+      → ((pid page : ℕ) → entry (picture_of new) pid page ≡ entry (picture_of found) pid page)
       → (GivesFrame (picture_of old) (picture_of found) n.0 → GivesFrame (picture_of old) (picture_of new) n.0) → SeeksFrame h old new keep (Ok n)
   unfolding ChoosesByClock
-  seeks_on new swap refused rest clock looks taken =
+  seeks_on new swap refused rest clock looks entries taken =
       let P : Swap E → Type 0 = λ s. IsReady h s × UsesDevice h old.swap.pages.disk s.pages.disk × ((slot : ℕ) × AsksOnly h (λ k. IsSectorOfSlot slot k ⊎ ⊥) old.swap.pages.disk s.pages.disk) in
       let uses = subst P (sym swap) (got.swap, got.device, got.one) in
       record {
         rest = record { store = rest.store ∙ got.rest.store; roots = rest.roots ∙ got.rest.roots; regions = rest.regions ∙ got.rest.regions };
         clock = clock_on new clock looks;
+        aged = aged_on new entries;
         asked = asked_on new swap taken;
         uses = record { swap = uses.0; device = uses.1; one = uses.2 };
         refused = record { refuses = tt; short = tt; cause = (ap (λ r. r.number) refused ∙ got.cause.0, ap (λ (s : Swap E). h.failures s.pages.disk) swap ∙ got.cause.1) };
@@ -113,7 +128,7 @@ module _ {M : Type 0} {m : Levels.Ghosts M} {D E : Type 0} {h : Ghosts E} {old n
   seeks_stall (Ok x) is got = absurd is
   seeks_stall {keep} (Err e) is got =
       let P : Stall → Type 0 = λ s. SeeksFrame h old new keep (Err s) in
-      subst P (sym is) (record { rest = got.rest; clock = got.clock; asked = got.asked; uses = got.uses; refused = got.refused })
+      subst P (sym is) (record { rest = got.rest; clock = got.clock; aged = λ full. tt; asked = got.asked; uses = got.uses; refused = got.refused })
 
   pub comes_stall : (page : PageKey) (r : Result FrameNo Stall) → IsErrAnd r (λ e. e ≡ stall) → Obtains h old new None (Err stall) → ComesIn old new page r
   comes_stall page (Ok x) is got = absurd is

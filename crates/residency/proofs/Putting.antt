@@ -83,8 +83,7 @@ module _ {mode : ℕ} (old new : Picture mode) (k page : ℕ) (fit : IsFit old) 
           (λ q p h. ap seat (same.entries q p)) (InSlot k) nowhere fit.counted.1 forth_shared (λ z. slots_back old new same z (λ j is. were_used j))
           (λ z ne own. slots_counts old new same z (λ j is. shares.others.counts j (λ e. ne (is ∙ ap (λ i. InSlot i) e))))
           (λ z own. slots_pages old new same fit.counted.0 fit.counted.0 z (λ j is. refl)) shares.raised,
-    )
-        (λ p j there. shares.others.counts j (λ is. own.1 p (there ∙ ap (λ i. Slot (record { 0 = i })) is))) (λ j some. inl (were_used j some));
+    ) (λ p j there. shares.others.counts j (λ is. own.1 p (there ∙ ap (λ i. Slot (record { 0 = i })) is))) (λ j some. inl (were_used j some));
     owned = forth_shared (InSlot k) own;
     noted = noted;
   }

@@ -43,8 +43,7 @@ needs_role c n Cache fit is used =
       | inl t ↦ inl (inr (p.0, p.1, t))
       | inr f ↦ inr (λ needs. elim needs [
         | inl own ↦ (let bad : Private ≡ Cache = sym own ∙ is in (cc))
-        | inr file ↦ (
-            false≢true (sym f ∙ ap c.touched (one_page p.0 file.0 p.1 file.1) ∙ file.2))
+        | inr file ↦ (false≢true (sym f ∙ ap c.touched (one_page p.0 file.0 p.1 file.1) ∙ file.2))
       ])
     ]
   where

@@ -29,9 +29,7 @@ swapped_form (Swapped k) form is = (k, refl)
 swapped_form (Parked f p) form is = absurd (false≢true (sym (bit_clear (number_of (Parked f p)) (parked_framed f.0 p)) ∙ is))
 
 pub away_seat : (k : ℕ) → k < 2 ^ 32 → seat (k * 1024 + 2) ≡ Some (InSlot k)
-away_seat k low =
-    let away = away_number k low in
-    seat_away (k * 1024 + 2) away.common away.swapped ∙ ap (λ n. Some (InSlot n)) away.slot
+away_seat k low = let away = away_number k low in seat_away (k * 1024 + 2) away.common away.swapped ∙ ap (λ n. Some (InSlot n)) away.slot
 
 -- a share of a slot was given back: the bytes of all slots are as they were
 module _ {mode : ℕ} (old new : Picture mode) (k x d : ℕ) (s : Seat) (fit : IsFitBut old s x d) (same : SameButSlots old new) (releases : Slots.ReleasesSlot old.slots new.slots k) where

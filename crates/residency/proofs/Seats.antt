@@ -81,9 +81,7 @@ module _ (mode : ℕ) (old new : ℕ → ℕ → ℕ) (owned owned' : Seat → T
                   let Q : ℕ → Type 0 = λ v. holders_at old v z ≡ holders_at new v z + 1 in
                   let one : off x d z ≡ 1 = r ∙ ap (λ b. if b then 1 else 0) there in
                   omega (arith, before, subst Q (sym (counted.noted pid k z h (from ∙ seated o z there))) (lost z ne there), none, one))
-              | inr away ↦ (
-                  let zero : off x d z ≡ 0 = r ∙ ap (λ b. if b then 1 else 0) away in
-                  omega (arith, before, still z (page z) ne away (counted.pages z was), none, zero))
+              | inr away ↦ (let zero : off x d z ≡ 0 = r ∙ ap (λ b. if b then 1 else 0) away in omega (arith, before, still z (page z) ne away (counted.pages z was), none, zero))
             ])
       ]
 
@@ -97,9 +95,7 @@ module _ (mode : ℕ) (old new : ℕ → ℕ → ℕ) (owned owned' : Seat → T
     ];
     noted = λ q p z h' is. elim (by_page q p pid k) [
       | inl e ↦ ap page' (sym (now_at q p z e is)) ∙ pages y has ∙ noted ∙ sym e.1
-      | inr away ↦ (
-          let was = ap seat (sym (others q p h' away)) ∙ is in
-          pages z (counted.named q p z h' was) ∙ counted.noted q p z h' was)
+      | inr away ↦ (let was = ap seat (sym (others q p h' away)) ∙ is in pages z (counted.named q p z h' was) ∙ counted.noted q p z h' was)
     ];
   }
 
@@ -179,9 +175,7 @@ module _ (mode : ℕ) (old new : ℕ → ℕ → ℕ) (owned owned' : Seat → T
           | inr ne ↦ (let was = back z ne now in let P : ℕ → Type 0 = λ v. IsPage (top_level mode) v in subst P (sym (pages z ne was)) (counted.pages z was))
         ];
         named = λ q p z h' is. forth z (other q p z h' is) (counted.named q p z h' (sym (same q p h') ∙ is));
-        noted = λ q p z h' is. (
-            let was = sym (same q p h') ∙ is in
-            pages z (other q p z h' is) (counted.named q p z h' was) ∙ counted.noted q p z h' was);
+        noted = λ q p z h' is. (let was = sym (same q p h') ∙ is in pages z (other q p z h' is) (counted.named q p z h' was) ∙ counted.noted q p z h' was);
       }
 
   -- one more shares a seat, and no entry names it for that yet

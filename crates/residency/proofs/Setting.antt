@@ -71,8 +71,7 @@ module _ {mode : ℕ} (old new : Picture mode) (pid page number m : ℕ) (x : Se
       (view_seated old new pid page (sets.beside.at pid page) (ap seat sets.changed ∙ same) (λ z is. seat_bytes z (fit.counted.1.named pid page z h is))) (other_views q p)
 
   pub set_held : (p : PageKey) → held new p ≡ held old p
-  set_held p = held_same old new p (sets.beside.place p) sets.beside.slots
-      (λ n at. sets.bytes n (no_table (role_of old.frames n) Cache (fit.places.cached p n at) (λ e. (cc))))
+  set_held p = held_same old new p (sets.beside.place p) sets.beside.slots (λ n at. sets.bytes n (no_table (role_of old.frames n) Cache (fit.places.cached p n at) (λ e. (cc))))
 
 -- The bytes of a frame that is no table were written, where no entry names it yet.
 pub shares_written : (old new : FrameTable) (n : ℕ) (w : List ℕ) → new ≡ with_bytes old n w → KeepsShares old new

@@ -157,10 +157,7 @@ frees_then a b c keep f g = record {
   missing = λ pid r page e. g.missing pid r page (f.pages.root pid ∙ e) ∙ f.missing pid r page e;
   ends = λ pid r page e. g.ends pid r page (f.pages.root pid ∙ e) ∙ f.ends pid r page e;
   pointers = λ n i m points. g.pointers n i m (f.pointers n i m points);
-  entries = λ pid page h stays. (
-      let first = f.entries pid page h stays in
-      let P : ℕ → Type 0 = λ e. IsStaying keep e in
-      g.entries pid page h (subst P (sym first) stays) ∙ first);
+  entries = λ pid page h stays. (let first = f.entries pid page h stays in let P : ℕ → Type 0 = λ e. IsStaying keep e in g.entries pid page h (subst P (sym first) stays) ∙ first);
   slots = λ j used. (
       let first = f.slots j used in
       let P : ℕ → Type 0 = λ n. 0 < n in

@@ -25,7 +25,7 @@ use Rattle.residency.specs.Capacity.{IsShort}
 use Rattle.residency.specs.Reading.{IsRead, ReadsStore}
 use Rattle.residency.specs.Shows.{ShowsPages}
 use Rattle.residency.specs.Stalls.{HasReadCause, HasStallCause}
-use Rattle.residency.specs.Views.{ChoosesByClock, TurnsClock}
+use Rattle.residency.specs.Views.{ChoosesByClock, IsLeftBut, TurnsClock}
 
 module _ {M : Type 0} {m : Levels.Ghosts M} {D E : Type 0} where
   -- A page of a file or an object is wanted in a frame:
@@ -71,6 +71,8 @@ module _ {M : Type 0} {m : Levels.Ghosts M} {D E : Type 0} (h : Ghosts E) where
     -- else the clock chose it, which looked at each frame twice at most;
     pub clock : TurnsClock old new keep result
     pub open clock use *
+    -- and nothing else lost its marks;
+    pub aged : IsFull old.frames → IfOk result (IsLeftBut old new keep)
     -- swap is asked for a free slot alone, where the frame's page has to be put into one;
     pub asked : AsksSwap h old new keep
     pub uses : UsesSwap old new Nothing result
@@ -86,8 +88,9 @@ module _ {M : Type 0} {m : Levels.Ghosts M} {D E : Type 0} (h : Ghosts E) where
   pub record SeeksFrame (old new : Core D E M m) (keep : Option FrameNo) (result : Result FrameNo Stall) : Type 0 where
     -- all but memory and swap is as it was,
     pub rest : KeepsRest old new
-    -- the clock chose it, where none was free,
+    -- the clock chose it, where none was free, and nothing else lost its marks,
     pub clock : ChoosesByClock old new keep result
+    pub aged : IsFull old.frames → IfOk result (IsLeftBut old new keep)
     -- swap is asked for a free slot alone, where the page of a frame has to be put into one,
     pub asked : AsksSwap h old new keep
     pub uses : UsesSwap old new Nothing result
@@ -139,8 +142,9 @@ module _ {M : Type 0} {m : Levels.Ghosts M} {D E : Type 0} (h : Ghosts E) where
     pub comes : ComesIn old new page result
     pub open comes use *
     pub rest : KeepsRest old new
-    -- the clock chose the frame, where none was free,
+    -- the clock chose the frame, where none was free, and nothing else lost its marks,
     pub clock : TurnsClock old new None result
+    pub aged : IsFull old.frames → IfOk result (IsLeftBut old new None)
     -- swap is asked for that slot, and for a free one, where the page of a frame has to be put into one,
     pub asked : AsksSwapAlso h old new None (IsSectorOfSlot slot.0)
     pub uses : UsesSwap old new (IsSectorOfSlot slot.0) result
@@ -157,8 +161,9 @@ module _ {M : Type 0} {m : Levels.Ghosts M} {D : Type 0} (g : Ghosts D) {E : Typ
     pub comes : ComesIn old new (File page) result
     pub open comes use *
     pub rest : KeepsBesideFiles old new
-    -- the clock chose the frame, where none was free,
+    -- the clock chose the frame, where none was free, and nothing else lost its marks,
     pub clock : TurnsClock old new None result
+    pub aged : IsFull old.frames → IfOk result (IsLeftBut old new None)
     -- the store's device is asked for its sectors alone, for each of them once at most, and nothing is written,
     pub store : IsReadyStore g new.store
     pub asks : AsksOnly g (IsSectorOf old.store page) old.store.disk new.store.disk

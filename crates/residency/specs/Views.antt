@@ -1,6 +1,9 @@
 -- What the looks of the clock leave.
 use Rattle.vm_types.specs.declared.mode.Levels as Levels
-use Rattle.std.specs.Prelude.{◌≡◌, ℕ, ◌+◌, ◌*◌, ◌≤◌, Option, Result, IfOk, OnErr, MatchResult}
+use Rattle.std.specs.Prelude.{◌≡◌, ◌≢◌, ◌⊎◌, ℕ, ◌+◌, ◌*◌, ◌≤◌, true, Option, Result, IfOk, OnErr, MatchResult}
+use Rattle.vm_types.specs.Limits.{top_level}
+use Rattle.sv39_walk.specs.Entry.{frame_of}
+use Rattle.page_tables.specs.Tree.{IsPage}
 use Rattle.std.specs.declared.result.Result.TheVariants.{Ok, Err}
 use Rattle.clock_replace.specs.declared.clock.Clock.{Clock}
 use Rattle.clock_replace.specs.declared.clock.NoVictim.{NoVictim}
@@ -11,7 +14,7 @@ use Rattle.vm_types.specs.declared.number.FrameNo.{FrameNo}
 use Rattle.vm_types.specs.declared.refusal.Stall.{Stall}
 use Rattle.vm_types.specs.declared.refusal.Stall.TheVariants.{NoFrames, NoSwap, SwapDevice, StoreDevice}
 use Rattle.residency.specs.declared.kernel.Core.{Core}
-use Rattle.residency.specs.Picture.{Picture, picture_of}
+use Rattle.residency.specs.Picture.{Picture, picture_of, entry, is_swapped}
 use Rattle.residency.specs.Parts.{IsFit}
 use Rattle.residency.specs.Calls.{Frees}
 use Rattle.residency.specs.Evictions.{ClearsMarks, IsAccessed, IsEvictable, Looked}
@@ -45,6 +48,21 @@ module _ {M : Type 0} {m : Levels.Ghosts M} {D E : Type 0} where
     pub keeps : asked.keep ≡ keep
     pub round : GoesRound seen asked left old.clock clock choice
 
+  -- The same, and memory is left as the clock left it: it alone cleared marks.
+  pub record LeftByClock (old new : Core D E M m) (keep : Option FrameNo) (choice : Result FrameNo NoVictim) : Type 0 where
+    pub asked : Core D E M m
+    pub same : picture_of asked ≡ picture_of old
+    pub keeps : asked.keep ≡ keep
+    pub round : GoesRound seen asked new old.clock new.clock choice
+
+  -- Memory is as the clock left it, but for what lay in the frame that it chose: no other entry was changed.
+  pub record IsLeftBut (old new : Core D E M m) (keep : Option FrameNo) (n : FrameNo) : Type 0 where
+    pub left : Core D E M m
+    pub clock : LeftByClock old left keep (Ok n)
+    pub entries : (pid page : ℕ) → IsPage (top_level m.mode) page
+        → (is_swapped (entry (picture_of left) pid page) ≡ true) ⊎ (frame_of (entry (picture_of left) pid page) ≢ n.0)
+        → entry (picture_of new) pid page ≡ entry (picture_of left) pid page
+
   -- what the clock came to where no frame is to be had: to none, or to one that was tried
   abbrev pub TurnsFor : Core D E M m → Option FrameNo → Clock → Stall → Type 0
   TurnsFor old keep clock NoFrames = (none : NoVictim) × AsksClock old keep (Err none) clock
@@ -76,4 +94,5 @@ module _ {M : Type 0} {m : Levels.Ghosts M} {D E : Type 0} where
     pub full : IsFull old.frames → IsFull new.frames
     -- and the clock chose it, which looked at each frame twice at most.
     pub clock : AsksClock old keep result new.clock
+    pub left : LeftByClock old new keep result
     pub looks : new.looks.number ≤ old.looks.number + 2 * frame_count old.frames

@@ -4,8 +4,7 @@ use Rattle.{std.{proofs.{Math.Seq.{take-add, take-append-add}, lemmas.List.{take
 use borrow.Rule.Slice.PartMut.{put_mid}
 
 -- a line of at most 257 bytes goes on by as many as there is room for
-pub extended : (kept more : List ℕ) (len count : ℕ) → length kept ≡ len → len ≤ 257 → count ≡ min (length more) (257 - len)
-    → kept ++ take count more ≡ take 257 (kept ++ more)
+pub extended : (kept more : List ℕ) (len count : ℕ) → length kept ≡ len → len ≤ 257 → count ≡ min (length more) (257 - len) → kept ++ take count more ≡ take 257 (kept ++ more)
 extended kept more len count size short is =
     let room : count ≡ min (257 - length kept) (length more) = omega arith in
     let full : length kept + (257 - length kept) ≡ 257 = omega arith in

@@ -12,8 +12,7 @@ lines_of-open kept (b ∷ line) begun some = lines_of-unfinished b line begun.un
 -- the lines of an open line, the bytes after it, and what follows
 pub lines_of-more : (open_line bytes more : List ℕ) (lines : List (List ℕ)) (rest : List ℕ) → Cuts (open_line ++ bytes) lines rest
     → lines_of (open_line ++ (bytes ++ more)) ≡ lines ++ lines_of (rest ++ more)
-lines_of-more open_line bytes more lines rest cuts =
-    ap lines_of (sym (append_assoc open_line bytes more)) ∙ lines_of-cut (open_line ++ bytes) lines rest more cuts
+lines_of-more open_line bytes more lines rest cuts = ap lines_of (sym (append_assoc open_line bytes more)) ∙ lines_of-cut (open_line ++ bytes) lines rest more cuts
 
 -- what the writer took in all
 pub wrote_all : (old mid new : Option (List ℕ)) (pending text written half others : List ℕ)

@@ -31,8 +31,7 @@ lines_of-flat (line ∷ lines) more plain =
     ∙ ap (λ ls. line ∷ ls) (lines_of-flat lines more (All-tail HasNoNewline line lines plain))
 
 -- the lines of all are those that were cut, and then those of the rest and of what follows
-pub lines_of-cut : (bytes : List ℕ) (lines : List (List ℕ)) (rest more : List ℕ) → Cuts bytes lines rest
-    → lines_of (bytes ++ more) ≡ lines ++ lines_of (rest ++ more)
+pub lines_of-cut : (bytes : List ℕ) (lines : List (List ℕ)) (rest more : List ℕ) → Cuts bytes lines rest → lines_of (bytes ++ more) ≡ lines ++ lines_of (rest ++ more)
 lines_of-cut bytes lines rest more cuts =
     ap (λ b. lines_of (b ++ more)) cuts.whole ∙ ap lines_of (append_assoc (flat_map ended lines) rest more)
     ∙ lines_of-flat lines (rest ++ more) cuts.each

@@ -149,9 +149,7 @@ module _ {D E : Type 0} (g : Ghosts D) (h : Ghosts E) where
   }
 
   pub breaks_after : (old mid new : Stage D E) (bytes more : List ℕ) → GoesOn g h old mid bytes → BreaksOff g h mid new more → BreaksOff g h old new (bytes ++ more)
-  breaks_after old mid new bytes more p q open_line begun =
-      let first = p open_line begun in
-      breaks_later old mid new bytes more open_line first (q first.rest first.kept)
+  breaks_after old mid new bytes more p q open_line begun = let first = p open_line begun in breaks_later old mid new bytes more open_line first (q first.rest first.kept)
 
   -- A whole line with its newline, by what the newline does where the line is held. The line may stand in the buffer, or in the
   -- bytes after an empty buffer.

@@ -10,18 +10,12 @@ too_long line long command form = let short = form.short in absurd (omega arith)
 -- the first 257 bytes of a line tell what it stands for
 pub same_form : (line : List ℕ) (command : Command) → IsCommand (take 257 line) command → IsCommand line command
 same_form line command form = elim (cases_lt 256 (length line)) [
-  | inl long ↦
-      let room : 257 ≤ length line = omega arith in
-      let all = length-take-le 257 line room in
-      absurd (too_long (take 257 line) (omega arith) command form)
+  | inl long ↦ let room : 257 ≤ length line = omega arith in let all = length-take-le 257 line room in absurd (too_long (take 257 line) (omega arith) command form)
   | inr short ↦ let room : length line ≤ 257 = omega arith in rw (take_all 257 line room) at form
 ]
 
 pub same_bad_line : (line : List ℕ) → IsBadLine (take 257 line) → IsBadLine line
-same_bad_line line bad command form =
-    let short = form.short in
-    let room : length line ≤ 257 = omega arith in
-    bad command (rw (take_all 257 line room) form)
+same_bad_line line bad command form = let short = form.short in let room : length line ≤ 257 = omega arith in bad command (rw (take_all 257 line room) form)
 
 module _ {D E : Type 0} (g : Ghosts D) (h : Ghosts E) where
   pub answers_line : (old new : Machine D E) (line text : List ℕ) → Answers g h old (take 257 line) text new → Answers g h old line text new

@@ -54,18 +54,12 @@ module _ {D E : Type 0} (g : Ghosts D) (h : Ghosts E) where
   ran : (end : RunEnd) (old new : Machine D E) (left left_then held held_then : Option (List ℕ)) (bytes : List ℕ)
       → EndsSo g h end left_then (stage old [] [] held) (stage new [] [] held_then) bytes []
       → Ran end old new bytes (streams left held) (streams left_then held_then)
-  ran Done old new left left_then held held_then bytes ended =
-      record { lines = lines_of bytes; text = ended.1.text; runs = ended.1.runs; ends = (ended.0, refl, ended.1.wrote) }
+  ran Done old new left left_then held held_then bytes ended = record { lines = lines_of bytes; text = ended.1.text; runs = ended.1.runs; ends = (ended.0, refl, ended.1.wrote) }
   ran ReadFault old new left left_then held held_then bytes ended =
       record { lines = ended.advances.lines; text = ended.text; runs = ended.advances.runs; ends = ((ended.rest, ended.advances.cuts), ended.wrote) }
   ran WriteFault old new left left_then held held_then bytes ended =
       elim ended [
-        | inl e ↦ record {
-          lines = e.advances.lines;
-          text = e.text;
-          runs = e.advances.runs;
-          ends = (inl (e.front, e.more, e.rest, e.split, e.advances.cuts), e.wrote);
-        }
+        | inl e ↦ record { lines = e.advances.lines; text = e.text; runs = e.advances.runs; ends = (inl (e.front, e.more, e.rest, e.split, e.advances.cuts), e.wrote) }
         | inr e ↦ record { lines = lines_of bytes; text = e.1.text; runs = e.1.runs; ends = (inr (e.0, refl), e.1.wrote) }
       ]
 
@@ -75,17 +69,7 @@ module _ {D E : Type 0} (g : Ghosts D) (h : Ghosts E) where
   caused_trace end old new left left_then held held_then bytes read ended =
       let r = ran end old new left left_then held held_then bytes ended in
       let a = replied old new r.lines r.text r.runs in
-      record {
-        bytes = bytes;
-        read = read;
-        lines = r.lines;
-        commands = a.commands;
-        replies = a.replies;
-        text = r.text;
-        answered = a.answered;
-        caused = a.caused;
-        ends = r.ends;
-      }
+      record { bytes = bytes; read = read; lines = r.lines; commands = a.commands; replies = a.replies; text = r.text; answered = a.answered; caused = a.caused; ends = r.ends }
 
   -- devices that keep the disk model to the end kept it from the beginning
   abbrev pub KeptModels : Machine D E → Machine D E → Type 0
@@ -99,9 +83,7 @@ module _ {D E : Type 0} (g : Ghosts D) (h : Ghosts E) where
 
   pub kept_trace : (end : RunEnd) (old new : Machine D E) (left left_then held held_then : Option (List ℕ)) (bytes : List ℕ)
       → EndsSo g h end left_then (stage old [] [] held) (stage new [] [] held_then) bytes [] → KeptModels old new
-  kept_trace end old new left left_then held held_then bytes ended =
-      let r = ran end old new left left_then held held_then bytes ended in
-      kept_all old new r.lines r.text r.runs
+  kept_trace end old new left left_then held held_then bytes ended = let r = ran end old new left left_then held held_then bytes ended in kept_all old new r.lines r.text r.runs
 
 module _ {D E : Type 0} (g : Ghosts D) (h : Ghosts E)
     (only_now : (d : D) (image : Image) → g.keeps_model d → g.left_since d (g.moment d) image → MayLeave (g.content d) (g.unsynced d) image) where
@@ -174,8 +156,7 @@ module _ {D E : Type 0} (g : Ghosts D) (h : Ghosts E)
     chain = a.chain;
     shows = a.shows;
     room = chain_room g h old s a.commands a.replies a.events new a.last a.chain;
-    prefixes = λ run keeps.
-        leaves_prefix g h (g.sector_count (store_of old)) s.files old s a.commands a.replies a.events new a.last a.chain keeps run refl refl only_now before;
+    prefixes = λ run keeps. leaves_prefix g h (g.sector_count (store_of old)) s.files old s a.commands a.replies a.events new a.last a.chain keeps run refl refl only_now before;
   }
 
   pub runs_trace : (end : RunEnd) (old new : Machine D E) (s : State) (left left_then held held_then : Option (List ℕ)) (bytes : List ℕ)

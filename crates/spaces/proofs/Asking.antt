@@ -4,6 +4,7 @@ use Rattle.spaces.proofs.Names.{ℕ, ◌≡◌, ◌≢◌, ◌⊎◌, ◌/◌, t
 use Rattle.spaces.proofs.Names.{IsRefusal, ReadsHome, RefusesAccess, ShowsFile, KeepsSlotted, IsThatPage, bytes_of, with_bytes, Core, KeepsAround, Picture, picture_of, is_live, Access, StoredValue, Phys, ESRCH, Stall, StoreDevice, Reply}
 use Rattle.spaces.{proofs.{Names.{Faulted, Refused, Stalled, Width, with_number, reply_of, byte_count}, Refusals.{no_stall, same_stall, refused_idle, refused_caused}}, specs.Accesses.{reply_for, AsksFor, KeepsToPage, LetsThrough, MayWrite}}
 use Rattle.{spaces.specs.{Accesses.{WritesNumber}, Idle.{is_denial}}, vm_types.specs.declared.access.Access.TheVariants.{Store}}
+use Rattle.{disk_model.specs.Stop.{NamesOnce}, fault.specs.AccessAsking.{IsSectorShown}}
 use Rattle.fault.specs.declared.refusal.AccessRefusal.TheVariants as Refusal
 
 -- nothing was written
@@ -33,20 +34,19 @@ module _ {M : Type 0} {m : Levels.Ghosts M} {D E : Type 0} (g : Ghosts D) (h : G
     writes = writes;
     grants = λ done unstalled. grants done;
     sectors = record {
+      once = subst (λ (x : FileStore D). NamesOnce (IsSectorShown old pid (addr / 4096)) (g.asked old.store.disk) (g.asked x.disk)) (sym store) tends.asks.once;
       store = asks_as g _ old.store.disk mid.store.disk new.store.disk (ap (λ (x : FileStore D). x.disk) store) tends.asks.store;
       swap = asks_as h _ old.swap.pages.disk mid.swap.pages.disk new.swap.pages.disk (ap (λ (x : Swap E). x.pages.disk) swap) tends.asks.swap;
     };
   }
 
   -- an access without a place
-  pub asks_refused : (width : Width) (refusal : AccessRefusal) → IsRefusal g h old mid pid addr width access refusal
-      → AsksFor g h old mid pid addr access (reply_of (reply_for refusal))
+  pub asks_refused : (width : Width) (refusal : AccessRefusal) → IsRefusal g h old mid pid addr width access refusal → AsksFor g h old mid pid addr access (reply_of (reply_for refusal))
   asks_refused width (Refusal.Fault fault) is =
       asks_unstalled mid refl refl tends.slotted (writes_none access mid) (Faulted fault) (no_stall fault) (λ done. absurd (let never : true ≡ false = done in cc))
   asks_refused width (Refusal.Stall stall) is = record {
     wanted = λ other e. is.stalled.wanted;
-    refused = λ other e. (
-        subst (λ (x : Stall). x ≢ StoreDevice → RefusesAccess (picture_of mid) pid (addr / 4096) access x) (same_stall stall other e) is.stalled.refused);
+    refused = λ other e. (subst (λ (x : Stall). x ≢ StoreDevice → RefusesAccess (picture_of mid) pid (addr / 4096) access x) (same_stall stall other e) is.stalled.refused);
     home = λ e. is.stalled.home (same_stall stall StoreDevice e);
     read = tends.read;
     slots = λ calm. (tends.calm calm).swap;

@@ -20,8 +20,7 @@ module _ (mode : ℕ) (files : Files) (runs : List Run) where
 
   before_run : (first page : ℕ) (run : Run) → Unguarded first page → IsNextRun mode (attr_at runs) page run → (k : ℕ) → first ≤ k → k < run.first
       → is_guarded_page files (space_of runs k) ≡ false
-  before_run first page run past next k low high =
-      ⊎_elim (λ (a : k < page). past.none k low a) (λ (b : page ≤ k). missing k (next.none_before k b high)) (lt_or_le k page)
+  before_run first page run past next k low high = ⊎_elim (λ (a : k < page). past.none k low a) (λ (b : page ≤ k). missing k (next.none_before k b high)) (lt_or_le k page)
 
   -- the walk ends after the row
   pub none_in_row : (first pages page : ℕ) (run : Run) → Unguarded first page → IsNextRun mode (attr_at runs) page run → first + pages ≤ run.first

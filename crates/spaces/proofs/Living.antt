@@ -24,8 +24,7 @@ lives_without pid q b seen here there =
 
 module _ {mode : ℕ} (old new : Picture mode) (s : State) (shows : ShowsPages old s) (files : KeepsFiles old new) where
   pub still_shows : KeepsProcesses old new → ShowsPages new s
-  still_shows keeps =
-      shows_with old new s s.live s.views shows files (λ q. shows.live q ∙ sym (keeps.live q)) (λ q page. shows.views q page ∙ sym (keeps.views q page))
+  still_shows keeps = shows_with old new s s.live s.views shows files (λ q. shows.live q ∙ sym (keeps.live q)) (λ q page. shows.views q page ∙ sym (keeps.views q page))
 
   shows_added : (pid : ℕ) (space : ℕ → Option View) → AddsProcess old new pid space → ShowsPages new (with_process s pid space)
   shows_added pid space adds =

@@ -27,8 +27,7 @@ module _ (mode : ℕ) (a b : ℕ → Option View) (same : attrs_of a ≡ attrs_o
       ∙ ap (λ (x : Bool). first_of ((is_none place, ENOMEM) ∷ (is_taken placing b pages place, EEXIST) ∷ (x, ENOMEM) ∷ [])) (many_same pages attr place)
 
 -- the row that is new
-mapped_row : (b : Bool) (new : Attr) (o : Option Attr) (x : Option View)
-    → (if b then Some (plain new) else x) ≡ (if b then option_map plain (if b then Some new else o) else x)
+mapped_row : (b : Bool) (new : Attr) (o : Option Attr) (x : Option View) → (if b then Some (plain new) else x) ≡ (if b then option_map plain (if b then Some new else o) else x)
 mapped_row true new o x = refl
 mapped_row false new o x = refl
 
@@ -47,8 +46,7 @@ live_first b rest e = rw e refl
 
 module _ {M : Type 0} {m : Levels.Ghosts M} {D E : Type 0} (g : Ghosts D) (h : Ghosts E) (old : Core D E M m) (s : State) (pid addr len : ℕ) (prot : Prot) (source : MapSource) (placing : Placing)
     (shows : ShowsPages (picture_of old) s) where
-  refuses : (errno : Errno) → mmap_errno s pid addr len prot source placing ≡ Some errno
-      → Comes g h old old s (Mmap pid addr len prot source placing) (Refused errno)
+  refuses : (errno : Errno) → mmap_errno s pid addr len prot source placing ≡ Some errno → Comes g h old old s (Mmap pid addr len prot source placing) (Refused errno)
   refuses errno e =
       does_answer g h old old s (Mmap pid addr len prot source placing) (Refused errno) shows
       (ap (λ (r : Option Errno). mmap_outcome s pid len prot source r (mmap_place s pid addr len placing)) e)
@@ -85,9 +83,7 @@ module _ {M : Type 0} {m : Levels.Ghosts M} {D E : Type 0} (g : Ghosts D) (h : G
     ruled = live_first (s.live pid) (mmap_asked_checks s.files addr len prot source placing ++ late) (shows.live pid ∙ live)
 
     asked_same : first_of (mmap_asked_checks s.files addr len prot source placing) ≡ first_of (mmap_asked_checks (picture_of old).files addr len prot source placing)
-    asked_same =
-        let e : s.files ≡ (picture_of old).files = λ t f. shows.files f t in
-        ap (λ (files : Files). first_of (mmap_asked_checks files addr len prot source placing)) e
+    asked_same = let e : s.files ≡ (picture_of old).files = λ t f. shows.files f t in ap (λ (files : Files). first_of (mmap_asked_checks files addr len prot source placing)) e
 
     pub refused_as_asked : (errno : Errno) → Some errno ≡ first_of (mmap_asked_checks (picture_of old).files addr len prot source placing)
         → Comes g h old old s (Mmap pid addr len prot source placing) (Refused errno)

@@ -150,9 +150,7 @@ module _ (mode : ℕ) (at : Maps) (pid first pages : ℕ) (next : ℕ → Option
       ]
     ];
     below = λ q k o here. elim (new_or_not q k) [
-      | inl a ↦ (
-          let is = new_used source prot (free_object out) (k - first) o (sym (ap (λ (x : Option Attr). uses x o) a.is) ∙ here) in
-          omega (arith, free_within out, is.1))
+      | inl a ↦ (let is = new_used source prot (free_object out) (k - first) o (sym (ap (λ (x : Option Attr). uses x o) a.is) ∙ here) in omega (arith, free_within out, is.1))
       | inr a ↦ fewer.below q k o (sym (ap (λ (x : Option Attr). uses x o) a) ∙ here)
     ];
   }

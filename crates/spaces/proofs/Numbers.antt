@@ -16,9 +16,7 @@ module _ {M : Type 0} {m : Levels.Ghosts M} {D E : Type 0} (c : Core D E M m) (f
   nobody_has page = unmapped ((picture_of c).root 0) _ page (λ r at. (let low = (fit.rooted.numbers 0 r at).0 in omega (arith, low)))
 
   pub lives_below : (q page : ℕ) → IsSome ((picture_of c).at q page) → q < 65
-  lives_below q page is =
-      let at = mapped ((picture_of c).root q) _ page is in
-      omega (arith, (fit.rooted.numbers q at.0 at.1).1)
+  lives_below q page is = let at = mapped ((picture_of c).root q) _ page is in omega (arith, (fit.rooted.numbers q at.0 at.1).1)
 
   -- a process that doesn't live has no runs
   pub no_runs : (q : ℕ) → ((r : ℕ) → (picture_of c).root q ≡ Some r → ⊥) → run_count m.mode ((picture_of c).at q) ≤ 256

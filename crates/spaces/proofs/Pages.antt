@@ -73,9 +73,7 @@ module _ {mode : ℕ} where
       all_gone : (page : ℕ) → removed (c.at pid) 0 (user_end mode) page ≡ None
       all_gone page = elim (cases_lt page (user_end mode)) [
         | inl low ↦ (let inside : in_row 0 (user_end mode) page ≡ true = grind (arith, nat_tests) in rw inside refl)
-        | inr high ↦ (
-            let outside : in_row 0 (user_end mode) page ≡ false = grind (arith, nat_tests) in
-            rw outside (past_user mode (c.at pid) page (fit.granting.user pid) high))
+        | inr high ↦ (let outside : in_row 0 (user_end mode) page ≡ false = grind (arith, nat_tests) in rw outside (past_user mode (c.at pid) page (fit.granting.user pid) high))
       ]
 
       each : (q page : ℕ) → maps_of (without_space s.views pid) q page ≡ without_maps c.at pid 0 (user_end mode) q page

@@ -9,9 +9,7 @@ module _ (mode : ℕ) where
     pub high : first + pages ≤ user_end mode
 
   place_inside : (map : ℕ → Option Attr) (pages first : ℕ) → is_place mode map pages first ≡ true → InUserPages first pages
-  place_inside map pages first e =
-      let place = is_place-is mode map pages first e in
-      record { low = place.low; high = place.high }
+  place_inside map pages first e = let place = is_place-is mode map pages first e in record { low = place.low; high = place.high }
 
   lowest_inside : (map : ℕ → Option Attr) (pages from count first : ℕ) → lowest_from mode map pages from count ≡ Some first → InUserPages first pages
   unfolding lowest_from
@@ -49,9 +47,7 @@ module _ (mode : ℕ) where
   pub free_before : (map : ℕ → Option Attr) (first pages : ℕ) (run : Run) → IsNextRun mode map first run → leb (first + pages) run.first ≡ is_free map first pages
   free_before map first pages run next =
       elim (leb (first + pages) run.first) as (λ (b : Bool). leb (first + pages) run.first ≡ b → b ≡ is_free map first pages) [
-        | true ↦ λ e.
-            let behind : first + pages ≤ run.first = grind (arith, nat_tests) in
-            sym (is_free-all map first pages (λ k low high. next.none_before k low (omega arith)))
+        | true ↦ λ e. let behind : first + pages ≤ run.first = grind (arith, nat_tests) in sym (is_free-all map first pages (λ k low high. next.none_before k low (omega arith)))
         | false ↦ λ e.
             let inside : run.first < first + pages = grind (arith, nat_tests) in
             let some : map run.first ≡ Some (attr_after run.attr (run.first - run.first)) = next.mapped run.first (omega arith) next.nonempty in

@@ -71,10 +71,7 @@ module _ {M : Type 0} {m : Levels.Ghosts M} {D E : Type 0} (g : Ghosts D) (h : G
   after = reprotected (s.views pid) (addr / 4096) (pages_from addr len) (kept prot)
 
   asked : outcome s (Mprotect pid addr len prot) ≡ protect_outcome s pid (addr / 4096) (pages_from addr len) prot
-  asked =
-      let a : (addr % 4096 == 0) ≡ true = grind (arith, nat_tests) in
-      let n : (len == 0) ≡ false = grind (arith, nat_tests) in
-      rw (shows.live pid ∙ live) (rw a (rw n refl))
+  asked = let a : (addr % 4096 == 0) ≡ true = grind (arith, nat_tests) in let n : (len == 0) ≡ false = grind (arith, nat_tests) in rw (shows.live pid ∙ live) (rw a (rw n refl))
 
   ruled : first_of (row_checks s pid (addr / 4096) (pages_from addr len) prot) ≡ first_of (permit_checks m.mode (picture_of old).files (space_of runs) (addr / 4096) pages prot)
   ruled =
@@ -104,5 +101,4 @@ module _ {M : Type 0} {m : Levels.Ghosts M} {D E : Type 0} (g : Ghosts D) (h : G
 pub protected_map : (runs next : List Run) (map : ℕ → Option Attr) (first pages : ℕ) (prot : Prot) → ((page : ℕ) → attr_at runs page ≡ map page)
     → ((page : ℕ) → attr_at next page ≡ protected (attr_at runs) first pages prot page)
     → (page : ℕ) → attr_at next page ≡ protected map first pages prot page
-protected_map runs next map first pages prot here new page =
-    new page ∙ ap (λ (o : Option Attr). if in_row first pages page then option_map (with_prot prot) o else o) (here page)
+protected_map runs next map first pages prot here new page = new page ∙ ap (λ (o : Option Attr). if in_row first pages page then option_map (with_prot prot) o else o) (here page)

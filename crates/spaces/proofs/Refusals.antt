@@ -18,13 +18,11 @@ module _ {M : Type 0} {m : Levels.Ghosts M} {D E : Type 0} (g : Ghosts D) (h : G
   counted old new StoreDevice cause = omega (arith, cause.0)
   counted old new stall cause = cause.0
 
-  calm : (old new : Core D E M m) (stall : Stall) → ReadCause g h old new stall → stalls_store stall ≡ false
-      → g.failures new.store.disk ≡ g.failures old.store.disk
+  calm : (old new : Core D E M m) (stall : Stall) → ReadCause g h old new stall → stalls_store stall ≡ false → g.failures new.store.disk ≡ g.failures old.store.disk
   calm old new StoreDevice cause other = absurd (let never : true ≡ false = other in cc)
   calm old new stall cause other = cause.1
 
-  swap_calm : (old new : Core D E M m) (stall : Stall) → ReadCause g h old new stall → stalls_swap stall ≡ false
-      → h.failures new.swap.pages.disk ≡ h.failures old.swap.pages.disk
+  swap_calm : (old new : Core D E M m) (stall : Stall) → ReadCause g h old new stall → stalls_swap stall ≡ false → h.failures new.swap.pages.disk ≡ h.failures old.swap.pages.disk
   swap_calm old new SwapDevice cause other = absurd (let never : true ≡ false = other in cc)
   swap_calm old new stall cause other = cause.2
 
@@ -43,8 +41,7 @@ module _ {M : Type 0} {m : Levels.Ghosts M} {D E : Type 0} (g : Ghosts D) (h : G
 
   module _ (old new : Core D E M m) (pid addr : ℕ) (width : Width) (kind : Access) where
     -- a fault is told before anything is done
-    pub refused_idle : (refusal : AccessRefusal) → Faults.IsRefusal g h old new pid addr width kind refusal
-        → is_denial (reply_of (reply_for refusal)) ≡ true → new ≡ old
+    pub refused_idle : (refusal : AccessRefusal) → Faults.IsRefusal g h old new pid addr width kind refusal → is_denial (reply_of (reply_for refusal)) ≡ true → new ≡ old
     refused_idle (Refusal.Fault fault) is denied = is.3
     refused_idle (Refusal.Stall stall) is denied = absurd (let never : false ≡ true = denied in cc)
 

@@ -6,10 +6,7 @@ use Rattle.page_cache.specs.CacheTable as CacheTable
 module _ {M : Type 0} {m : Levels.Ghosts M} {D E : Type 0} (old new : Core D E M m) where
   -- there is a node for each frame and for each slot, so the map of places tells how many there are
   pub room_same : new.cache ≡ old.cache → KeepsRoom (picture_of old) (picture_of new)
-  room_same same = record {
-    frames = sym new.node_count ∙ ap CacheTable.cache_frames same ∙ old.node_count;
-    slots = sym new.slot_count ∙ ap CacheTable.slot_count same ∙ old.slot_count;
-  }
+  room_same same = record { frames = sym new.node_count ∙ ap CacheTable.cache_frames same ∙ old.node_count; slots = sym new.slot_count ∙ ap CacheTable.slot_count same ∙ old.slot_count }
 
   -- a call that asked neither device, and gave back slots at the most
   pub sound_kept : KeepsRoom (picture_of old) (picture_of new) → (g : Ghosts D) (h : Ghosts E) → new.store ≡ old.store → new.swap.pages ≡ old.swap.pages → IsFit (picture_of new)

@@ -30,16 +30,12 @@ sum_added : (f g : ℕ → ℕ) (x n : ℕ) → x < n → f x ≡ 0 → ((k : �
 unfolding sum_below
 sum_added f g x zero below none others = absurd (omega arith)
 sum_added f g x (suc n) below none others = elim (cases_eq n x) [
-  | inl e ↦ (
-      let rest : sum_below g n ≡ sum_below f n = sum-below g f x n (omega (arith, e)) others in
-      omega (arith, ap g e, ap f e ∙ none, rest))
-  | inr ne ↦ (
-      omega (arith, sum_added f g x n (omega (arith, below, ne)) none others, others n ne))
+  | inl e ↦ (let rest : sum_below g n ≡ sum_below f n = sum-below g f x n (omega (arith, e)) others in omega (arith, ap g e, ap f e ∙ none, rest))
+  | inr ne ↦ (omega (arith, sum_added f g x n (omega (arith, below, ne)) none others, others n ne))
 ]
 
 -- a process that comes has the tables of its pages
-pub tables_added : (s : State) (pid : ℕ) (space : ℕ → Option View) → s.live pid ≡ false → pid < 65
-    → table_count (with_process s pid space) ≡ table_count s + tables_of s.mode space
+pub tables_added : (s : State) (pid : ℕ) (space : ℕ → Option View) → s.live pid ≡ false → pid < 65 → table_count (with_process s pid space) ≡ table_count s + tables_of s.mode space
 unfolding table_count
 tables_added s pid space dead below =
     let f : ℕ → ℕ = λ q. if s.live q then tables_of s.mode (s.views q) else 0 in
@@ -58,15 +54,11 @@ least_below live first (suc count) pid e = elim (cases_Bool (live first)) [
       let rest : least_free_from live (first + 1) count ≡ Some pid = rw taken at e in
       let found = least_below live (first + 1) count pid rest in
       (found.0, omega (arith, found.1)))
-  | inr free ↦ (
-      let here : Some first ≡ Some pid = rw free at e in
-      let same = same_Some first pid here in
-      (ap live (sym same) ∙ free, omega (arith, same)))
+  | inr free ↦ (let here : Some first ≡ Some pid = rw free at e in let same = same_Some first pid here in (ap live (sym same) ∙ free, omega (arith, same)))
 ]
 
 module _ {mode : ℕ} (c : Picture mode) (s : State) (command : Command) (fit : IsFit c) (shows : ShowsPages c s) where
-  pub falls_short : (stall : Stall) → IsShort c stall → table_count s ≤ table_count (outcome s command).state
-      → FallsShort (frame_count c.frames) c.slots.total s command stall
+  pub falls_short : (stall : Stall) → IsShort c stall → table_count s ≤ table_count (outcome s command).state → FallsShort (frame_count c.frames) c.slots.total s command stall
   unfolding IsShort
   falls_short NoFrames short more = omega (arith, short, more, tables_shown c s shows)
   falls_short NoSwap short more = omega (arith, short, held_shown c s fit shows)

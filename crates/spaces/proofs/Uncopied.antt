@@ -35,10 +35,7 @@ module _ {M : Type 0} {m : Levels.Ghosts M} {D E : Type 0} (g : Ghosts D) (h : G
   after = without_own (s.views pid) (addr / 4096) (pages_from addr len)
 
   asked : outcome s (Dontneed pid addr len) ≡ uncopy_outcome s pid (addr / 4096) (pages_from addr len)
-  asked =
-      let a : (addr % 4096 == 0) ≡ true = grind (arith, nat_tests) in
-      let n : (len == 0) ≡ false = grind (arith, nat_tests) in
-      rw (shows.live pid ∙ live) (rw a (rw n refl))
+  asked = let a : (addr % 4096 == 0) ≡ true = grind (arith, nat_tests) in let n : (len == 0) ≡ false = grind (arith, nat_tests) in rw (shows.live pid ∙ live) (rw a (rw n refl))
 
   ruled : first_of (covered_checks s pid (addr / 4096) (pages_from addr len)) ≡ first_of ((not (is_covered (attr_at runs) (addr / 4096) pages), ENOMEM) ∷ [])
   ruled =

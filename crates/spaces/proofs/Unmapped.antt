@@ -78,9 +78,7 @@ module _ (mode : ℕ) (first pages start count : ℕ) (from : start ≡ min firs
   unmapped_page old pid map page user gone =
       elim (in_row start count page) as (λ (b : Bool). in_row start count page ≡ b
       → unmapped (view old pid) first pages page ≡ (if b then option_map plain (map page) else view old pid page)) [
-        | true ↦ λ e.
-            let inside = in_both page e in
-            ap (λ (b : Bool). if b then None else view old pid page) inside ∙ sym (ap (λ (o : Option Attr). option_map plain o) (gone inside))
+        | true ↦ λ e. let inside = in_both page e in ap (λ (b : Bool). if b then None else view old pid page) inside ∙ sym (ap (λ (o : Option Attr). option_map plain o) (gone inside))
         | false ↦ λ out.
             elim (in_row first pages page) as (λ (b : Bool). in_row first pages page ≡ b → (if b then None else view old pid page) ≡ view old pid page) [
               | true ↦ λ e. sym (unseen_past old pid page user (past_end page out e))

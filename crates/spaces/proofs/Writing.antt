@@ -54,8 +54,7 @@ others_stored old mid new pid page (Shared p) n w fit usable frames beside other
     views_file mid new n w fit usable.0 frames beside (File p) usable.1 q k ∙ others q k other
 others_stored old mid new pid page (Common p) n w fit usable frames beside others = λ q k other.
     views_file mid new n w fit usable.0 frames beside (Object p) usable.1 q k ∙ others q k other
-others_stored old mid new pid page b n w fit usable frames beside others = λ q k other.
-    views_others mid new n w fit usable.0 frames beside pid page usable.1 q k other ∙ others q k other
+others_stored old mid new pid page b n w fit usable frames beside others = λ q k other. views_others mid new n w fit usable.0 frames beside pid page usable.1 q k other ∙ others q k other
 
 -- nor has a page another entry
 entries_stored : {mode : ℕ} (mid new : Picture mode) (pid page : ℕ) (b : Backing) (n : ℕ) (w : List ℕ) → IsFit mid → IsOpenToStore mid pid page b n
@@ -91,8 +90,7 @@ room_stored old mid new n w room frames slots = record {
 }
 
 -- a store changes no process, and which pages are mapped
-mapped_still : (s : State) (pid page : ℕ) (v w : View) → s.views pid page ≡ Some v → (q k : ℕ)
-    → is_some (with_view s.views pid page w q k) ≡ is_some (s.views q k)
+mapped_still : (s : State) (pid page : ℕ) (v w : View) → s.views pid page ≡ Some v → (q k : ℕ) → is_some (with_view s.views pid page w q k) ≡ is_some (s.views q k)
 mapped_still s pid page v w seen q k =
     elim (q == pid && k == page) as (λ (b : Bool). (q == pid && k == page) ≡ b → is_some (if b then Some w else s.views q k) ≡ is_some (s.views q k)) [
       | true ↦ λ e.
@@ -103,8 +101,7 @@ mapped_still s pid page v w seen q k =
     ] refl
 
 module _ (mode : ℕ) where
-  stored_tables : (s : State) (pid page : ℕ) (v : View) (b : Backing) (w : List ℕ) → s.views pid page ≡ Some v
-      → table_count (with_shown_bytes s pid page v b w) ≡ table_count s
+  stored_tables : (s : State) (pid page : ℕ) (v : View) (b : Backing) (w : List ℕ) → s.views pid page ≡ Some v → table_count (with_shown_bytes s pid page v b w) ≡ table_count s
   unfolding table_count
   stored_tables s pid page v (Shared p) w seen = tables_kept s (with_shown_bytes s pid page v (Shared p) w) refl (λ q. refl) (λ q k. refl)
   stored_tables s pid page v (Common p) w seen = tables_kept s (with_shown_bytes s pid page v (Common p) w) refl (λ q. refl) (λ q k. refl)
@@ -142,8 +139,7 @@ module _ {M : Type 0} {m : Levels.Ghosts M} {D E : Type 0} (g : Ghosts D) (h : G
         sym (ap (λ (b : Backing). copy_or_behind s b None) is) ∙ sym (ap (λ (o : Option (List ℕ)). copy_or_behind s v.attr.backing o) plain)
 
     -- the bytes that are written over are those that the page shows
-    shown_there : (b : Backing) → v.attr.backing ≡ b → IsReadyToStore (picture_of old) (picture_of mid) pid (addr / 4096) v b n
-        → bytes_of mid.frames n ≡ shown s v
+    shown_there : (b : Backing) → v.attr.backing ≡ b → IsReadyToStore (picture_of old) (picture_of mid) pid (addr / 4096) v b n → bytes_of mid.frames n ≡ shown s v
     shown_there (Shared p) is touches = sym (now.held p (bytes_of mid.frames n) (held_framed (picture_of mid) (File p) n touches.place)) ∙ behind_it (Shared p) is refl
     shown_there (Common p) is touches = sym (now.objects p (bytes_of mid.frames n) (held_framed (picture_of mid) (Object p) n touches.place)) ∙ behind_it (Common p) is refl
     shown_there b is owns = bytes_shown (picture_of mid) s v (bytes_of mid.frames n) now owns.shown
@@ -157,8 +153,7 @@ module _ {M : Type 0} {m : Levels.Ghosts M} {D E : Type 0} (g : Ghosts D) (h : G
       shows_stored (Common p) is touches =
           subst (λ (b : Backing). ShowsPages (picture_of new) (with_shown_bytes s pid (addr / 4096) v b w)) (sym is)
           (shows_common (picture_of old) (picture_of mid) (picture_of new) s pid (addr / 4096) n v w goes.fit frames beside before shows.pages now p touches)
-      shows_stored b is owns =
-          shows_own (picture_of old) (picture_of mid) (picture_of new) s pid (addr / 4096) n v w goes.fit frames beside before shows.pages now (ap is_shared is) owns
+      shows_stored b is owns = shows_own (picture_of old) (picture_of mid) (picture_of new) s pid (addr / 4096) n v w goes.fit frames beside before shows.pages now (ap is_shared is) owns
 
       pub stores : IsReadyToStore (picture_of old) (picture_of mid) pid (addr / 4096) v v.attr.backing n
           → w ≡ with_number (bytes_of mid.frames n) (addr % 4096) (byte_count value.width) value.value → Comes g h old new s (Store pid addr value) Done

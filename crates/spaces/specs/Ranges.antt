@@ -1,19 +1,22 @@
 -- What an exit and the calls on a range leave of memory: they give back and take nothing.
 use Rattle.vm_types.specs.declared.mode.Levels as Levels
-use Rattle.std.specs.Prelude.{ℕ, ◌≡◌, ◌⊎◌, ◌/◌, false}
+use Rattle.std.specs.Prelude.{ℕ, ◌≡◌, ◌⊎◌, ◌/◌, Bool, true, false}
 use Rattle.disk_model.specs.declared.sector_disk.SectorDisk.{Ghosts}
 use Rattle.lifecycle.specs.Changes.{TakesNoFrame}
 use Rattle.page_cache.specs.declared.place.Place.TheVariants.{Home}
+use Rattle.ranges.specs.Leaves.{Permits}
 use Rattle.ranges.specs.Rows.{IsLasting, without_maps}
 use Rattle.ranges.specs.Steps.{KeepsDevices, KeepsEntriesOfOthers}
 use Rattle.page_tables.specs.Tree.{IsPage}
 use Rattle.residency.specs.declared.kernel.Core.{Core}
 use Rattle.residency.specs.Picture.{Picture, picture_of, entry}
 use Rattle.vm_types.specs.Limits.{top_level}
+use Rattle.vm_types.specs.Permission.{kept}
 use Rattle.vm_types.specs.Rows.{in_row}
 use Rattle.vm_types.specs.declared.object.ObjectPage.{ObjectPage}
 use Rattle.vm_types.specs.declared.object.PageKey.{PageKey}
 use Rattle.vm_types.specs.declared.object.PageKey.TheVariants.{Object}
+use Rattle.vm_types.specs.declared.permission.Prot.{Prot}
 use Rattle.vm_types.specs.declared.reply.Reply.{Reply}
 use Rattle.vm_types.specs.declared.reply.Reply.TheVariants.{Process, Address, Done, Value, Faulted, Refused, Stalled, Halted, Past}
 use Rattle.spaces.specs.Calls.{AccountsFor}
@@ -60,3 +63,31 @@ module _ {mode : ℕ} where
   abbrev pub KeepsEntriesBeside : Picture mode → Picture mode → ℕ → ℕ → ℕ → Type 0
   KeepsEntriesBeside old new pid first pages =
       (page : ℕ) → IsPage (top_level mode) page → in_row first pages page ≡ false → entry new pid page ≡ entry old pid page
+
+-- whether a reply tells that a call on a range was done
+abbrev pub is_done : Reply → Bool
+is_done Done = true
+is_done (Address addr) = true
+is_done (Process pid) = false
+is_done (Value width value) = false
+is_done (Faulted fault) = false
+is_done (Refused errno) = false
+is_done (Stalled stall) = false
+is_done Halted = false
+is_done (Past past) = false
+
+module _ {mode : ℕ} where
+  -- The pages of a range of one process lose their entries:
+  pub record EmptiesRange (old new : Picture mode) (pid first pages : ℕ) (reply : Reply) : Type 0 where
+    -- each other page of it has the entry that it had,
+    pub beside : KeepsEntriesBeside old new pid first pages
+    -- and these have none once the call is done, also where a frame holds what stands behind them.
+    pub bare : is_done reply ≡ true → (page : ℕ) → in_row first pages page ≡ true → entry new pid page ≡ 0
+
+  -- The pages of a range of one process get another permission:
+  pub record PermitsRange (old new : Picture mode) (pid first pages : ℕ) (prot : Prot) (reply : Reply) : Type 0 where
+    -- each other page of it has the entry that it had,
+    pub beside : KeepsEntriesBeside old new pid first pages
+    -- and these, once the call is done, that of the permission over the frame that they had, or none or the one of a slot as before.
+    pub permits : is_done reply ≡ true → (page : ℕ) → in_row first pages page ≡ true
+        → Permits old.frames (old.at pid page) (kept prot) (entry old pid page) (entry new pid page)

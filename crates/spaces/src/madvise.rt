@@ -6,7 +6,7 @@ ghost use Rattle.vm_types.specs.declared.command.Command.TheVariants.{Dontneed};
 ghost use Rattle.msync.specs.Shows.{IsSoundCore};
 ghost use Rattle.residency.specs.Picture.{picture_of};
 ghost use Rattle.spaces.specs.Calls.{Carries};
-ghost use Rattle.spaces.specs.Ranges.{GivesPagesBack, KeepsEntriesBeside};
+ghost use Rattle.spaces.specs.Ranges.{GivesPagesBack, EmptiesRange};
 
 use crate::space::PAGE;
 use disk_model::SectorDisk;
@@ -19,7 +19,7 @@ use vm_types::{Answer, Errno, Levels};
 ///
 /// In this order: `ESRCH` where there is no such process, `EINVAL` where the address is no multiple of the page size; a
 /// length of 0 is done with; `ENOMEM` where a page isn't mapped. A refused call changes nothing, also over a hole.
-#[tactic(auto, using(crate::proofs::Returning::takes_none))]
+#[tactic(auto, using(crate::proofs::Returning::takes_none, crate::proofs::Returning::empties_none))]
 pub fn dontneed<D: SectorDisk, E: SectorDisk, M: Levels>(
     core: &mut Core<D, E, M>,
     pid: u64,
@@ -29,7 +29,7 @@ pub fn dontneed<D: SectorDisk, E: SectorDisk, M: Levels>(
     requires sound { IsSoundCore D.SectorDisk E.SectorDisk core.old }
     ensures comes { Carries D.SectorDisk E.SectorDisk core.old core.new (Dontneed pid addr len) (reply_of result) }
     ensures keeps { GivesPagesBack D.SectorDisk E.SectorDisk core.old core.new pid 0 0 (reply_of result) }
-    ensures beside { KeepsEntriesBeside (picture_of core.old) (picture_of core.new) pid (addr / 4096) (page_count len) }
+    ensures entries { EmptiesRange (picture_of core.old) (picture_of core.new) pid (addr / 4096) (page_count len) (reply_of result) }
 {
     let Some(pid) = core.live(pid) else {
         return Answer::Refused(Errno::ESRCH);

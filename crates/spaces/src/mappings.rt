@@ -16,7 +16,7 @@ ghost use Rattle.msync.specs.Shows.{IsSoundCore};
 ghost use Rattle.residency.specs.Picture.{picture_of};
 ghost use Rattle.residency.specs.Parts.{IsFit};
 ghost use Rattle.spaces.specs.Calls.{Carries};
-ghost use Rattle.spaces.specs.Ranges.{GivesPagesBack, KeepsEntriesBeside, first_mapped};
+ghost use Rattle.spaces.specs.Ranges.{GivesPagesBack, EmptiesRange, first_mapped};
 ghost use Rattle.spaces.specs.Mappings.{mmap_asked_checks, file_checks, place_checks, IsAsked, IsFitRow, IsMappable, MapsPages, IsNumbered, attr_there};
 ghost use Rattle.spaces.specs.Space.{space_of};
 
@@ -265,7 +265,7 @@ fn planned<D, E, M: Levels>(
 /// file; `EACCES` where stores to a file that may only be read are asked for; `EOVERFLOW` where the mapping would pass the
 /// last page that a file can have; `ENOMEM` where there is no place for it; `EEXIST` where a page of the place is mapped
 /// and may not be replaced; `ENOMEM` where more than 256 runs would result. A refused call changes nothing.
-#[tactic(auto, using(crate::proofs::Returning::takes_none))]
+#[tactic(auto, using(crate::proofs::Returning::takes_none, crate::proofs::Returning::empties_none))]
 pub fn mmap<D: SectorDisk, E: SectorDisk, M: Levels>(
     core: &mut Core<D, E, M>,
     room: &mut RegionRoom<M>,
@@ -275,7 +275,7 @@ pub fn mmap<D: SectorDisk, E: SectorDisk, M: Levels>(
     requires sound { IsSoundCore D.SectorDisk E.SectorDisk core.old }
     ensures comes { Carries D.SectorDisk E.SectorDisk core.old core.new (Mmap pid request.addr request.len request.prot request.source request.placing) (reply_of result) }
     ensures keeps { GivesPagesBack D.SectorDisk E.SectorDisk core.old core.new pid (first_mapped (reply_of result)) (page_count request.len) (reply_of result) }
-    ensures beside { KeepsEntriesBeside (picture_of core.old) (picture_of core.new) pid (first_mapped (reply_of result)) (page_count request.len) }
+    ensures entries { EmptiesRange (picture_of core.old) (picture_of core.new) pid (first_mapped (reply_of result)) (page_count request.len) (reply_of result) }
 {
     let Some(pid) = core.live(pid) else {
         return Answer::Refused(Errno::ESRCH);

@@ -9,7 +9,7 @@ ghost use Rattle.vm_types.specs.declared.command.Command.TheVariants.{Mprotect};
 ghost use Rattle.msync.specs.Shows.{IsSoundCore};
 ghost use Rattle.residency.specs.Picture.{picture_of};
 ghost use Rattle.spaces.specs.Calls.{Carries};
-ghost use Rattle.spaces.specs.Ranges.{GivesPagesBack, KeepsEntriesBeside};
+ghost use Rattle.spaces.specs.Ranges.{GivesPagesBack, PermitsRange};
 ghost use Rattle.spaces.specs.Protections.{permit_checks, IsPermitted};
 ghost use Rattle.spaces.specs.Space.{space_of};
 
@@ -100,7 +100,7 @@ fn permitted<D: SectorDisk, M: Levels>(
 /// In this order: `ESRCH` where there is no such process, `EINVAL` where the address is no multiple of the page size; a
 /// length of 0 is done with; `ENOMEM` where a page isn't mapped, `EACCES` where stores to a file that may only be read
 /// are asked for, `ENOMEM` where more than 256 runs would result. A refused call changes nothing, also over a hole.
-#[tactic(auto, using(crate::proofs::Returning::takes_none))]
+#[tactic(auto, using(crate::proofs::Returning::takes_none, crate::proofs::Returning::permits_none))]
 pub fn mprotect<D: SectorDisk, E: SectorDisk, M: Levels>(
     core: &mut Core<D, E, M>,
     room: &mut RegionRoom<M>,
@@ -110,7 +110,7 @@ pub fn mprotect<D: SectorDisk, E: SectorDisk, M: Levels>(
     requires sound { IsSoundCore D.SectorDisk E.SectorDisk core.old }
     ensures comes { Carries D.SectorDisk E.SectorDisk core.old core.new (Mprotect pid request.addr request.len request.prot) (reply_of result) }
     ensures keeps { GivesPagesBack D.SectorDisk E.SectorDisk core.old core.new pid 0 0 (reply_of result) }
-    ensures beside { KeepsEntriesBeside (picture_of core.old) (picture_of core.new) pid (request.addr / 4096) (page_count request.len) }
+    ensures entries { PermitsRange (picture_of core.old) (picture_of core.new) pid (request.addr / 4096) (page_count request.len) request.prot (reply_of result) }
     ensures swap { core.new.swap ≡ core.old.swap }
 {
     let ProtectRequest { addr, len, prot } = request;

@@ -20,10 +20,7 @@ pub record AreListed (list : List (ℕ × List ℕ)) (count : ℕ) (bytes : List
   pub same : (k : ℕ) → first_listed list k bytes ≡ bytes
 
 pub none_listed : (list : List (ℕ × List ℕ)) (bytes : List ℕ) → list ≡ [] → AreListed list 0 bytes
-none_listed list bytes is = record {
-  listed = λ k other lt. absurd (omega (arith, lt));
-  same = λ k. ap (λ (l : List (ℕ × List ℕ)). first_listed l k bytes) is;
-}
+none_listed list bytes is = record { listed = λ k other lt. absurd (omega (arith, lt)); same = λ k. ap (λ (l : List (ℕ × List ℕ)). first_listed l k bytes) is }
 
 pub one_more_listed : (list : List (ℕ × List ℕ)) (count : ℕ) (bytes : List ℕ) → AreListed list count bytes → AreListed (list ++ (count, bytes) ∷ []) (count + 1) bytes
 one_more_listed list count bytes before = record {

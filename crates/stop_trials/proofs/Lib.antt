@@ -2,3 +2,5 @@ mod Writes
 mod Choices
 mod Contents
 mod Tried
+mod Lines
+mod States

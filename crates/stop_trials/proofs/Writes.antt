@@ -13,8 +13,7 @@ still_runs None stop count event runs = refl
 still_runs (Some earlier) stop count event runs = runs
 
 pub ran_before : (event : Event) (before after : Plan) → after ≡ plan_after_event event before → is_some after.stopped ≡ false → is_some before.stopped ≡ false
-ran_before event before after is runs =
-    still_runs before.stopped before.stop _ event (ap (λ (p : Plan). is_some p.stopped) (sym is) ∙ runs)
+ran_before event before after is runs = still_runs before.stopped before.stop _ event (ap (λ (p : Plan). is_some p.stopped) (sym is) ∙ runs)
 
 -- one write more
 pub one_write : (i n : ℕ) (p : Plan) → plan_after_event (Write (n + i)) (plan_after_writes i n p) ≡ plan_after_writes (i + 1) n p

@@ -4,3 +4,4 @@ pub mod Fillings
 pub mod Standing
 pub mod Trials
 pub mod Lines
+pub mod Runs

@@ -1,27 +1,21 @@
--- What a line of a trace does, and whether it acknowledges an msync.
-use Rattle.std.specs.Prelude.{◌≡◌, ◌⊎◌, ◌&&◌, ℕ, List, Bool, false}
-use Rattle.disk_model.specs.declared.sector_disk.SectorDisk.{Ghosts}
+-- Which commands the lines of a trace stand for, and how many of them acknowledge an msync.
+use Rattle.std.specs.Prelude.{◌≡◌, ◌⊎◌, ◌+◌, ◌&&◌, ℕ, List, [], ◌∷◌, if◌then◌else◌}
 use Rattle.vm_types.specs.declared.command.Command.{Command}
 use Rattle.vm_types.specs.declared.reply.Reply.{Reply}
 use Rattle.vm_types.specs.Prefix.{is_msync, is_done}
-use Rattle.machine.specs.declared.machine.Machine.{Machine}
 use Rattle.trace_lang.specs.Grammar.{IsCommand}
-use Rattle.runner.specs.Session.{Steps, IsBadLine}
+use Rattle.runner.specs.Session.{IsBadLine}
 
-module _ {D E : Type 0} (g : Ghosts D) (h : Ghosts E) where
-  -- The line's command is carried out, and it acknowledges exactly where that is an msync and the reply `ok`.
-  pub record Acknowledges (old : Machine D E) (line : List ℕ) (new : Machine D E) (told : Bool) : Type 0 where
-    pub command : Command
-    pub reply : Reply
-    pub form : IsCommand line command
-    pub steps : Steps g h old command reply new
-    pub exactly : told ≡ (is_msync command && is_done reply)
+-- these are the commands of the lines, one after another; a line that stands for none is passed over
+abbrev pub AreCommandsOf : List (List ℕ) → List Command → Type 0
+AreCommandsOf [] commands = commands ≡ []
+AreCommandsOf (line ∷ lines) commands =
+    (IsBadLine line × AreCommandsOf lines commands)
+    ⊎ ((command : Command) × (more : List Command) × IsCommand line command × (commands ≡ command ∷ more) × AreCommandsOf lines more)
 
-  -- The line stands for no command: nothing happens, and nothing is acknowledged.
-  pub record PassesOver (old : Machine D E) (line : List ℕ) (new : Machine D E) (told : Bool) : Type 0 where
-    pub bad : IsBadLine line
-    pub same : new ≡ old
-    pub none : told ≡ false
-
-  abbrev pub RunsLine : Machine D E → List ℕ → Machine D E → Bool → Type 0
-  RunsLine old line new told = Acknowledges old line new told ⊎ PassesOver old line new told
+-- how many of the commands were msyncs that returned `ok`, each with its reply
+abbrev pub acknowledged_in : List Command → List Reply → ℕ
+acknowledged_in [] replies = 0
+acknowledged_in (command ∷ commands) [] = 0
+acknowledged_in (command ∷ commands) (reply ∷ replies) =
+    (if is_msync command && is_done reply then 1 else 0) + acknowledged_in commands replies

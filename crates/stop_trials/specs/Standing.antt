@@ -6,7 +6,10 @@ use Rattle.std.specs.declared.alloc.Global.{Global}
 use Rattle.std.specs.declared.vec.Vec.{Vec}
 use Rattle.disk_model.specs.Stop.{Image}
 use Rattle.disk_model.specs.Sectors.{joined}
-use Rattle.file_store.specs.Standing.{standing_file}
+use Rattle.file_store.specs.Standing.{standing_file, IsBadLayout, IsBadJournal}
+use Rattle.file_store.specs.declared.faults.OpenFault.TheVariants.{BadLayout, BadJournal}
+use Rattle.stop_trials.specs.declared.faults.TrialFault.{TrialFault}
+use Rattle.stop_trials.specs.declared.faults.TrialFault.TheVariants.{Open}
 
 -- the bytes of file f as they stand, none where there is no such file
 abbrev pub standing_bytes : Image → ℕ → List ℕ
@@ -25,3 +28,9 @@ pub record IsStanding (states : List (Vec ℕ Global)) (acknowledged : ℕ) (byt
   pub whole : acknowledged ≤ n
   pub same : state_after states n ≡ Some bytes
   pub least : (m : ℕ) → acknowledged ≤ m → m < n → state_after states m ≡ Some bytes → ⊥
+
+-- An image is refused as no store only where its layout is bad, or its journal.
+abbrev pub IsRefusedFor : ℕ → Image → TrialFault → Type 0
+IsRefusedFor sectors image (Open BadLayout) = IsBadLayout sectors image
+IsRefusedFor sectors image (Open BadJournal) = IsBadJournal sectors image
+IsRefusedFor sectors image fault = Unit {0}

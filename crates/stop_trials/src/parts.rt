@@ -3,30 +3,11 @@ ghost use Rattle.std.specs.Prelude.{◌≡◌};
 ghost use Rattle.stop_trials.specs.Parts.{part_at, part_in_turn, store_part};
 
 use crate::stopping::Event;
+use file_store::{DIRECTORY_SECTOR, KIND_SECTOR, MARK_SECTOR, TURN_DIRECTORY};
 use std::fmt::{self, Display, Formatter};
-use sync_journal::{FIRST_HOME, Journals, TURN_GATE, TURN_HOMES};
-
-/// The sectors of the mark, the directory and the gate of a store of one journal.
-const MARK: u64 = 0;
-
-const DIRECTORY: u64 = 1;
-
-const GATE: u64 = 2;
-
-/// The first sector of its body.
-const BODY: u64 = 11;
-
-/// The sectors of the kind and the directory of a store of two journals in turn.
-const KIND: u64 = 1;
-
-const TURN_DIRECTORY: u64 = 9;
-
-/// The first sectors of the bodies, and of the second map.
-const FIRST_BODY: u64 = 32;
-
-const SECOND_MAP: u64 = 8216;
-
-const SECOND_BODY: u64 = 8224;
+use sync_journal::{
+    BODY, FIRST_BODY, FIRST_HOME, GATE, Journals, SECOND_BODY, SECOND_MAP, TURN_GATE, TURN_HOMES,
+};
 
 /// A part of a store's image. `Display` gives its name.
 #[derive(Clone, Copy)]
@@ -62,8 +43,8 @@ impl Part {
         ensures { result ≡ part_in_turn sector }
     {
         match sector {
-            MARK => Part::Mark,
-            KIND => Part::Kind,
+            MARK_SECTOR => Part::Mark,
+            KIND_SECTOR => Part::Kind,
             TURN_DIRECTORY => Part::Directory,
             TURN_GATE => Part::Gate,
             _ if sector < FIRST_BODY => Part::Map,
@@ -78,8 +59,8 @@ impl Part {
         ensures { result ≡ part_at sector }
     {
         match sector {
-            MARK => Part::Mark,
-            DIRECTORY => Part::Directory,
+            MARK_SECTOR => Part::Mark,
+            DIRECTORY_SECTOR => Part::Directory,
             GATE => Part::Gate,
             _ if sector < BODY => Part::Map,
             _ if sector < FIRST_HOME => Part::Body,

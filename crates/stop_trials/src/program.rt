@@ -1,5 +1,6 @@
 //! The program that tries stops.
-ghost use Rattle.std.specs.Prelude.{◌≤◌, IfOk};
+ghost use Rattle.std.specs.Prelude.{◌≤◌, IfOk, map};
+ghost use Rattle.stop_trials.specs.Lines.{AreCommandsOf};
 
 use crate::runs::Setting;
 use command_words::{StopWords, stop_words};
@@ -10,7 +11,8 @@ use programs::{ProgramFault, held_places, open_sources, report};
 use std::alloc::{AllocError, Global};
 use std::fs::{File, Files};
 use std::io::{ErrorKind, Read, Write};
-use vm_types::Mode;
+use trace_lang::parse_line;
+use vm_types::{Command, Mode};
 
 /// `pagestops [--every K] [--drop K] [--layout 2|3] [--frames N] [--slots N] SPEC...`: formats a store of layout 2, or of
 /// layout 3 where that is asked for, in memory for the specs, as `pagefmt` does an image,
@@ -51,6 +53,7 @@ fn tried<'a, R: Files<File = File> + AllocGlobal, I: Read, O: Write>(
     let image = new_image(rt, &words)?;
     let trace = whole_trace(rt.alloc(), reader)?;
     let lines = lines_of(rt.alloc(), trace.as_slice())?;
+    let commands = commands_of(rt.alloc(), lines.as_slice())?;
     let config = Config {
         frames: words.frames,
         slots: words.slots,
@@ -61,7 +64,7 @@ fn tried<'a, R: Files<File = File> + AllocGlobal, I: Read, O: Write>(
         image: &image,
         journals: words.journals,
         config,
-        lines: lines.as_slice(),
+        commands: commands.as_slice(),
         drops: words.drop.map(u64::from),
     };
     match setting.try_stops(u64::from(words.every), writer) {
@@ -87,6 +90,19 @@ fn new_image<'a, R: Files<File = File> + AllocGlobal>(
 /// The lines of a trace, without the newlines that end them.
 fn lines_of(alloc: Global, trace: &[u8]) -> Result<Vec<&[u8]>, AllocError> {
     trace.split(|byte| *byte == b'\n').collect(alloc)
+}
+
+/// The commands that these lines stand for. A line that stands for none is passed over, since it changes nothing.
+fn commands_of(alloc: Global, lines: &[&[u8]]) -> Result<Vec<Command>, AllocError>
+    ensures { IfOk result (λ commands. AreCommandsOf (map (λ line. line.now) lines.now) commands.items) }
+{
+    let mut commands = Vec::new(alloc);
+    for line in lines {
+        if let Ok(command) = parse_line(line) {
+            commands.push(command)?;
+        }
+    }
+    Ok(commands)
 }
 
 /// All bytes of the reader.

@@ -1,19 +1,18 @@
 //! What the files hold that a stop leaves.
-ghost use Rattle.std.specs.Prelude.{◌≡◌, ◌++◌, IfOk, OnOk};
+ghost use Rattle.std.specs.Prelude.{◌≡◌, ◌++◌, IfOk, IfErr, OnOk, IsErrOf};
 ghost use Rattle.disk_model.specs.Moments.{Touches, Nothing};
 ghost use Rattle.disk_model.specs.SimDisk.{sectors_in, sector_of};
 ghost use Rattle.file_store.specs.Standing.{IsBadLayout, IsBadJournal};
 ghost use Rattle.file_store.specs.Store.{IsReadyStore};
-ghost use Rattle.stop_trials.specs.Standing.{standing_bytes, standing_contents};
+ghost use Rattle.file_store.specs.declared.faults.OpenFault.{OpenFault};
+ghost use Rattle.stop_trials.specs.Standing.{standing_bytes, standing_contents, IsRefusedFor};
 
 use crate::faults::TrialFault;
 use disk_model::{SectorDisk, SimDisk};
 use file_store::FileStore;
 use programs::{ShowFault, show_opened};
 use std::alloc::Global;
-
-/// The most files of a store.
-const MAX_FILES: u32 = 64;
+use vm_types::FILES;
 
 /// Opens the store on a device, which carries out what is left in its journal, and gives the bytes of all its files, one file
 /// after another.
@@ -26,6 +25,7 @@ pub(crate) fn recovered(alloc: Global, disk: SimDisk) -> Result<Vec<u8>, TrialFa
     ensures layout { OnOk result (IsBadLayout (sectors_in disk) (sector_of disk) → ⊥) }
     ensures journal { OnOk result (IsBadJournal (sectors_in disk) (sector_of disk) → ⊥) }
     ensures bytes { IfOk result (λ bytes. bytes.items ≡ standing_contents (sector_of disk)) }
+    ensures refused { IfErr result (IsRefusedFor (sectors_in disk) (sector_of disk)) }
 {
     let mut store = match FileStore::open(disk) {
         Ok(store) => store,
@@ -38,11 +38,12 @@ pub(crate) fn recovered(alloc: Global, disk: SimDisk) -> Result<Vec<u8>, TrialFa
 /// The bytes of all files of an open store, one file after another.
 fn contents<D: SectorDisk>(alloc: Global, store: &mut FileStore<D>) -> Result<Vec<u8>, TrialFault>
     requires { IsReadyStore D.SectorDisk store.old }
+    ensures unopened { (fault : OpenFault) → IsErrOf result (TrialFault.Open fault) → ⊥ }
     ensures kept { D.keeps_model store.new.disk → D.keeps_model store.old.disk }
     ensures bytes { D.keeps_model store.new.disk → IfOk result (λ bytes. bytes.items ≡ standing_contents (D.content store.old.disk)) }
 {
     let mut bytes = Vec::new(alloc);
-    for file in 0..MAX_FILES {
+    for file in 0..FILES as u32 {
         match add_file(store, file, &mut bytes) {
             Ok(()) => {}
             Err(fault) => return Err(fault),
@@ -59,6 +60,7 @@ fn add_file<D: SectorDisk>(
 ) -> Result<(), TrialFault>
     requires { IsReadyStore D.SectorDisk store.old }
     ensures ready { IsReadyStore D.SectorDisk store.new }
+    ensures unopened { (fault : OpenFault) → IsErrOf result (TrialFault.Open fault) → ⊥ }
     ensures kept { D.keeps_model store.new.disk → D.keeps_model store.old.disk }
     ensures touches { D.keeps_model store.new.disk → Touches D.SectorDisk Nothing store.old.disk store.new.disk }
     ensures added { D.keeps_model store.new.disk → OnOk result (bytes.new.items ≡ bytes.old.items ++ standing_bytes (D.content store.old.disk) file) }

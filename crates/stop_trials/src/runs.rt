@@ -1,26 +1,27 @@
 //! Runs of a trace, to its end or to a stop.
-ghost use Rattle.std.specs.Prelude.{◌≡◌, ◌≤◌, IfOk};
-ghost use Rattle.machine.specs.Machine.{IsSoundMachine};
+ghost use Rattle.std.specs.Prelude.{◌≡◌, ◌≤◌, ◌&&◌, ◌++◌, ◌∷◌, [], ℕ, IfOk, OnOk, length};
+ghost use Rattle.std.specs.declared.alloc.Global.{Global};
+ghost use Rattle.std.specs.declared.vec.Vec.{Vec};
 ghost use Rattle.vm_types.specs.Prefix.{is_msync, is_done};
-ghost use Rattle.stop_trials.specs.Lines.{RunsLine};
+ghost use Rattle.stop_trials.specs.Lines.{acknowledged_in};
+ghost use Rattle.stop_trials.specs.Runs.{EndsWith, IsFresh, IsRun};
 
 use crate::faults::TrialFault;
 use crate::fillings::Filling;
 use crate::recovery::recovered;
 use crate::stopping::StoppingDisk;
 use disk_model::{SectorDisk, SimDisk};
-use machine::{BootFault, Config, Machine};
+use lives::live;
+use machine::{BootFault, Config, MAX_SLOTS};
+use runner::Devices;
 use std::alloc::{AllocError, Global};
 use sync_journal::Journals;
-use trace_lang::parse_line;
 use vm_types::{Command, Reply};
 
-/// The most slots of a machine, and the sectors of one.
-const MAX_SLOTS: u32 = 65536;
-
+/// The sectors of a slot.
 const SLOT_SECTORS: u64 = 8;
 
-/// What is run in each trial: the lines of a trace on a machine of that size, over a store device of what the image holds. The
+/// What is run in each trial: the commands of a trace on a machine of that size, over a store device of what the image holds. The
 /// device of a run that is stopped may drop a sync.
 #[derive(Drop)]
 pub(crate) struct Setting<'a> {
@@ -28,15 +29,15 @@ pub(crate) struct Setting<'a> {
     pub image: &'a SimDisk,
     pub journals: Journals,
     pub config: Config,
-    pub lines: &'a [&'a [u8]],
+    pub commands: &'a [Command],
     pub drops: Option<u64>,
 }
 
-/// A run that is over: the store's device as it left it, and how many msyncs returned `ok`.
+/// A run that is over: the store's device as it left it, and the replies to its commands, none where no machine started.
 #[derive(Drop)]
 pub(crate) struct Run {
     pub device: StoppingDisk,
-    pub acknowledged: usize,
+    pub replies: Vec<Reply>,
 }
 
 /// Whether a command is an msync.
@@ -53,37 +54,21 @@ fn is_done(reply: &Reply) -> bool
     matches!(reply, Reply::Done)
 }
 
-/// Carries out the command of a line, and says whether it was an msync that returned `ok`. A line that stands for no
-/// command changes nothing.
-fn acknowledges<D: SectorDisk, E: SectorDisk>(machine: &mut Machine<D, E>, line: &[u8]) -> bool
-    requires { IsSoundMachine D.SectorDisk E.SectorDisk machine.old }
-    ensures sound { IsSoundMachine D.SectorDisk E.SectorDisk machine.new }
-    ensures runs { RunsLine D.SectorDisk E.SectorDisk machine.old line.now machine.new result }
+/// Whether a command was an msync that returned `ok`.
+fn acknowledges(command: &Command, reply: &Reply) -> bool
+    ensures { result ≡ (is_msync command.now && is_done reply.now) }
 {
-    let Ok(command) = parse_line(line) else {
-        return false;
-    };
-    let syncs = is_msync(&command);
-    let reply = machine.step(command);
-    syncs && is_done(&reply)
+    is_msync(command) && is_done(reply)
 }
 
-/// Carries out lines until so many msyncs have returned `ok`, or else all of them, and says how many were.
-fn run_lines<D: SectorDisk, E: SectorDisk>(
-    machine: &mut Machine<D, E>,
-    lines: &[&[u8]],
-    most: usize,
-) -> usize
-    requires { IsSoundMachine D.SectorDisk E.SectorDisk machine.old }
-    ensures sound { IsSoundMachine D.SectorDisk E.SectorDisk machine.new }
-    ensures bound { result ≤ most }
+/// How many of the commands were msyncs that returned `ok`, by the replies to the first of them.
+pub(crate) fn acknowledged_in(commands: &[Command], replies: &[Reply]) -> usize
+    requires { length replies.now ≤ length commands.now }
+    ensures { result ≡ acknowledged_in commands.now replies.now }
 {
     let mut acknowledged = 0;
-    for line in lines {
-        if acknowledged >= most {
-            return acknowledged;
-        }
-        if acknowledges(machine, *line) {
+    for (i, reply) in replies.iter().enumerate() {
+        if acknowledges(&commands[i], reply) {
             acknowledged += 1;
         }
     }
@@ -101,16 +86,23 @@ fn swap_sectors(slots: u32) -> u64 {
 
 impl Setting<'_> {
     /// The store device, which stops in that event, and an empty swap device.
-    fn devices(&self, stop: Option<u64>) -> Result<(StoppingDisk, SimDisk), AllocError> {
+    fn devices(&self, stop: Option<u64>) -> Result<Devices<StoppingDisk, SimDisk>, AllocError>
+        ensures { IfOk result (λ devices. IsFresh self.now stop devices.store) }
+    {
         let drops = if stop.is_some() { self.drops } else { None };
         let store = StoppingDisk::new(self.alloc, self.image, stop, drops)?;
         let swap = SimDisk::new(self.alloc, swap_sectors(self.config.slots))?;
-        Ok((store, swap))
+        Ok(Devices { store, swap })
     }
 
-    /// Adds what the files hold where a run is stopped now and leaves nothing that was not synced.
-    fn add_state(&self, store: &StoppingDisk, states: &mut Vec<Vec<u8>>) -> Result<(), TrialFault> {
-        let left = Filling::Old.left(self.alloc, store.disk())?;
+    /// Adds what the files hold where a run of the first of the commands, so many, ends and leaves nothing that was not synced.
+    fn add_state(&self, count: usize, states: &mut Vec<Vec<u8>>) -> Result<(), TrialFault>
+        requires { count ≤ length self.now.commands.now }
+        ensures { OnOk result ((bytes : Vec ℕ Global) × (states.new.items ≡ states.old.items ++ bytes ∷ [])
+            × EndsWith ⟦<StoppingDisk as SectorDisk>⟧ ⟦<SimDisk as SectorDisk>⟧ self.now count bytes.items) }
+    {
+        let ran = self.run(None, &self.commands[..count])?;
+        let left = Filling::Old.left(self.alloc, ran.device.disk())?;
         let bytes = recovered(self.alloc, left)?;
         match states.push(bytes) {
             Ok(()) => Ok(()),
@@ -124,41 +116,45 @@ impl Setting<'_> {
     ///
     /// `Boot` where the machine doesn't start, `OutOfMemory`, and what `recovered` says.
     pub(crate) fn states(&self) -> Result<Vec<Vec<u8>>, TrialFault> {
+        let whole = self.run(None, self.commands)?;
         let mut states = Vec::new(self.alloc);
-        for msyncs in 0..usize::MAX {
-            let ran = self.run(None, msyncs)?;
-            if ran.acknowledged < msyncs {
-                return Ok(states);
+        self.add_state(0, &mut states)?;
+        for (i, reply) in whole.replies.iter().enumerate() {
+            if acknowledges(&self.commands[i], reply) {
+                self.add_state(i + 1, &mut states)?;
             }
-            self.add_state(&ran.device, &mut states)?;
         }
         Ok(states)
     }
 
-    /// The run that is stopped in event `stop` of the store's device, the first being 1, where it has one, or goes on until
-    /// `most` msyncs have returned `ok`, or to the end of the trace.
+    /// The run of these commands that is stopped in event `stop` of the store's device, the first being 1, where it has one, or goes
+    /// on to the last of them.
     ///
     /// # Errors
     ///
     /// `Boot` where the machine doesn't start for another reason than the stop, and `OutOfMemory`.
-    pub(crate) fn run(&self, stop: Option<u64>, most: usize) -> Result<Run, TrialFault>
-        ensures { IfOk result (λ ran. ran.acknowledged ≤ most) }
+    pub(crate) fn run(&self, stop: Option<u64>, commands: &[Command]) -> Result<Run, TrialFault>
+        ensures lengths { IfOk result (λ ran. length ran.replies.items ≤ length commands.now) }
+        ensures is { IfOk result (λ ran. IsRun ⟦<StoppingDisk as SectorDisk>⟧ ⟦<SimDisk as SectorDisk>⟧ self.now stop commands.now ran.replies.items ran.device) }
     {
-        let (store, swap) = self.devices(stop)?;
-        let mut machine = match Machine::boot(self.alloc, self.config, store, swap) {
-            Ok(machine) => machine,
-            Err((BootFault::Device, device)) => {
-                return Ok(Run {
-                    device,
-                    acknowledged: 0,
-                });
-            }
-            Err((fault, _)) => return Err(TrialFault::Boot(fault)),
-        };
-        let acknowledged = run_lines(&mut machine, self.lines, most);
-        Ok(Run {
-            device: machine.into_store(),
-            acknowledged,
-        })
+        let mut replies = vec![in self.alloc; Reply::Done; commands.len()]?;
+        let devices = self.devices(stop)?;
+        match live(
+            self.alloc,
+            self.config,
+            devices,
+            commands,
+            replies.as_mut_slice(),
+        ) {
+            Ok(machine) => Ok(Run {
+                device: machine.into_store(),
+                replies,
+            }),
+            Err((BootFault::Device, device)) => Ok(Run {
+                device,
+                replies: Vec::new(self.alloc),
+            }),
+            Err((fault, _)) => Err(TrialFault::Boot(fault)),
+        }
     }
 }

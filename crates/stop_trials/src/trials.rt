@@ -3,15 +3,17 @@ ghost use Rattle.std.specs.Prelude.{◌≡◌, ◌≤◌, ◌↔◌, ℕ, List, 
 ghost use Rattle.std.specs.declared.alloc.Global.{Global};
 ghost use Rattle.std.specs.declared.vec.Vec.{Vec};
 ghost use Rattle.disk_model.specs.Plan.{one_more};
-ghost use Rattle.stop_trials.specs.Trials.{AllStand, StandsWith, StandWithEach, IsTrial, AreTried};
+ghost use Rattle.stop_trials.specs.Trials.{AllStand, IsJudged, StandWithEach, IsTrial, AreTried};
 
 use crate::faults::TrialFault;
 use crate::fillings::Filling;
 use crate::parts::write_event;
 use crate::recovery::recovered;
-use crate::runs::{Run, Setting};
+use crate::runs::{Setting, acknowledged_in};
 use crate::standing::msyncs_standing;
-use crate::stopping::Event;
+use crate::stopping::{Event, StoppingDisk};
+use disk_model::{SectorDisk, SimDisk};
+use file_store::OpenFault;
 use runner::write_bytes;
 use std::alloc::Global;
 use std::fmt::{self, Display, Formatter};
@@ -121,21 +123,23 @@ fn write_line<T: Display, W: Write>(
 }
 
 impl Setting<'_> {
-    /// After how many msyncs the files stand that a stopped run leaves with that filling; `None` where that is no number of
-    /// them that holds each acknowledged one, or the store can't be opened.
+    /// After how many msyncs the files stand that a stop of that device leaves with that filling; `None` where that is no number of
+    /// them that holds each acknowledged one, or what is left is no store.
     fn judged(
         &self,
         states: &[Vec<u8>],
-        ran: &Run,
+        acknowledged: usize,
+        device: &SimDisk,
         filling: Filling,
     ) -> Result<Option<usize>, TrialFault>
-        ensures { IfOk result (λ standing. IfSome standing (StandsWith states.now ran.now.acknowledged ran.now.device.disk filling)) }
+        ensures { IfOk result (IsJudged states.now acknowledged device.now filling) }
     {
-        let left = filling.left(self.alloc, ran.device.disk())?;
+        let left = filling.left(self.alloc, device)?;
         match recovered(self.alloc, left) {
-            Ok(bytes) => Ok(msyncs_standing(states, ran.acknowledged, bytes.as_slice())),
-            Err(TrialFault::OutOfMemory) => Err(TrialFault::OutOfMemory),
-            Err(_) => Ok(None),
+            Ok(bytes) => Ok(msyncs_standing(states, acknowledged, bytes.as_slice())),
+            Err(TrialFault::Open(OpenFault::BadLayout)) => Ok(None),
+            Err(TrialFault::Open(OpenFault::BadJournal)) => Ok(None),
+            Err(fault) => Err(fault),
         }
     }
 
@@ -143,32 +147,34 @@ impl Setting<'_> {
     fn judged_with_each(
         &self,
         states: &[Vec<u8>],
-        ran: &Run,
+        acknowledged: usize,
+        device: &SimDisk,
     ) -> Result<[Option<usize>; 5], TrialFault>
-        ensures { IfOk result (StandWithEach states.now ran.now.acknowledged ran.now.device.disk) }
+        ensures { IfOk result (StandWithEach states.now acknowledged device.now) }
     {
-        let old = self.judged(states, ran, Filling::Old)?;
-        let zeros = self.judged(states, ran, Filling::Zeros)?;
-        let ones = self.judged(states, ran, Filling::Ones)?;
-        let half = self.judged(states, ran, Filling::HalfOpen)?;
-        let whole = self.judged(states, ran, Filling::Open)?;
+        let old = self.judged(states, acknowledged, device, Filling::Old)?;
+        let zeros = self.judged(states, acknowledged, device, Filling::Zeros)?;
+        let ones = self.judged(states, acknowledged, device, Filling::Ones)?;
+        let half = self.judged(states, acknowledged, device, Filling::HalfOpen)?;
+        let whole = self.judged(states, acknowledged, device, Filling::Open)?;
         Ok([old, zeros, ones, half, whole])
     }
 
     /// The trial of a stop in that event, or none where the run has no such event.
     fn trial(&self, states: &[Vec<u8>], number: u64) -> Result<Option<Trial>, TrialFault>
-        ensures { IfOk result (λ trial. IfSome trial (IsTrial states.now number)) }
+        ensures { IfOk result (λ trial. IfSome trial (IsTrial ⟦<StoppingDisk as SectorDisk>⟧ ⟦<SimDisk as SectorDisk>⟧ self.now states.now number)) }
     {
-        let ran = self.run(Some(number), usize::MAX)?;
+        let ran = self.run(Some(number), self.commands)?;
         let Some(event) = ran.device.stopped_in(number) else {
             return Ok(None);
         };
-        let standing = self.judged_with_each(states, &ran)?;
+        let acknowledged = acknowledged_in(self.commands, ran.replies.as_slice());
+        let standing = self.judged_with_each(states, acknowledged, ran.device.disk())?;
         Ok(Some(Trial {
             number,
             event,
             journals: self.journals,
-            acknowledged: ran.acknowledged,
+            acknowledged,
             standing,
         }))
     }
@@ -181,7 +187,7 @@ impl Setting<'_> {
         every: u64,
         writer: &mut W,
     ) -> Result<Summary, TrialFault>
-        ensures { IfOk result (AreTried states.now every) }
+        ensures { IfOk result (AreTried ⟦<StoppingDisk as SectorDisk>⟧ ⟦<SimDisk as SectorDisk>⟧ self.now states.now every) }
     {
         let mut summary = Summary { stops: 0, bad: 0 };
         for i in 1..u64::MAX {
@@ -208,7 +214,8 @@ impl Setting<'_> {
         every: u64,
         writer: &mut W,
     ) -> Result<Summary, TrialFault>
-        ensures { IfOk result (λ summary. (states : List (Vec ℕ Global)) × AreTried states every summary) }
+        ensures { IfOk result (λ summary. (states : List (Vec ℕ Global))
+            × AreTried ⟦<StoppingDisk as SectorDisk>⟧ ⟦<SimDisk as SectorDisk>⟧ self.now states every summary) }
     {
         let states = self.states()?;
         let summary = self.tried(states.as_slice(), every, writer)?;

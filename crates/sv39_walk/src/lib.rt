@@ -6,7 +6,7 @@ mod pte;
 mod translation;
 
 pub use pte::{Pte, read_entry};
-pub use translation::{WalkFault, next_table, table_index, walk};
+pub use translation::{WalkFault, table_index, walk};
 
 /// Entries of a table.
 pub const TABLE_ENTRIES: u64 = 512;

@@ -115,8 +115,8 @@ fn last_entry<M: Levels>(frames: &Frames, root: FrameNo, page: u64) -> (u32, Pte
     (0, read_entry(frames, table, table_index(page, 0)))
 }
 
-/// The table that an entry leads on to; `None` exactly where the entry is no pointer or points outside memory.
-pub fn next_table(frames: &Frames, entry: Pte) -> Option<FrameNo>
+// The table that an entry leads on to; `None` exactly where the entry is no pointer or points outside memory.
+fn next_table(frames: &Frames, entry: Pte) -> Option<FrameNo>
     ensures { MatchOption result (leads_on frames.now entry.0 ≡ false)
         (λ next. (leads_on frames.now entry.0 ≡ true) × (next.0 ≡ frame_of entry.0) × IsFrame frames.now next.0) }
 {

@@ -1,7 +1,7 @@
 -- Which sectors the parts of a commit and of a recovery ask for.
 use Rattle.sync_journal.proofs.{Copies.{in_copied}, Names.{◌≡◌, ◌⊎◌, ◌<◌, ◌≤◌, ◌+◌, ◌*◌, ℕ, true, List, [], length, inl, inr, ⊎_elim, refl, sym, subst, arith, cases_eq, Image, Names, NamesOnce, AsksOnly, Ghosts, asks_named, asks_once}}
-use Rattle.sync_journal.{proofs.Names.{asks_then, once_named, once_apart}, specs.{Commit.{AsksInTwo}, Gate.{is_open}, Layout.{page_limit, gate_sector, map_sector, first_body_sector, first_home_sector, body_sector, home_sector}}}
-use Rattle.sync_journal.specs.{Layout.{IsPageSector, IsGate, IsFilledAt, IsStagedAt, IsStaged, IsOpened, IsFinished, IsCommitted}, Standing.{IsOpenFor, IsAskedIn, IsCopyFrom}}
+use Rattle.sync_journal.{proofs.Names.{asks_then, once_named, once_apart}, specs.{Commit.{AsksInTwo}, Gate.{is_open}, OldJournal.{IsLookedAtIn}, Layout.{Layout, page_limit, gate_sector, map_sector, first_body_sector, first_home_sector, body_sector, home_sector}}}
+use Rattle.sync_journal.specs.{Layout.{IsPageSector, IsGate, IsMapIn, IsFilledAt, IsStagedAt, IsStaged, IsOpened, IsFinished, IsMovedHome, IsCommitted}, Standing.{IsOpenFor, IsAskedIn, IsCopyFrom}}
 
 -- Over how often each sector had been asked for, at three moments.
 module _ (before mid now : ℕ → ℕ) where
@@ -39,29 +39,38 @@ module _ (before mid now : ℕ → ℕ) where
       (λ k copy gate. ⊎_elim (λ page. (let low = page.0 in omega (arith, low, gate))) (λ home. (let low = home.0 in omega (arith, low, gate))) copy.3)
       copies closes
 
+-- A look at the journal of a store of the layout before: at the gate,
+pub gate_looked : (layout : Layout) (image : Image) (before now : ℕ → ℕ) → Names IsGate before now → NamesOnce (IsLookedAtIn layout image) before now
+gate_looked layout image before now gate = once_named (IsLookedAtIn layout image) IsGate before now (λ k at. inl at) gate
+
+-- and where that is open at the map
+pub map_looked : (layout : Layout) (image : Image) (before mid now : ℕ → ℕ) → is_open image ≡ true → Names IsGate before mid → NamesOnce (IsMapIn layout) mid now
+    → NamesOnce (IsLookedAtIn layout image) before now
+map_looked layout image before mid now opened gate map = once_apart IsGate (IsMapIn layout) (IsLookedAtIn layout image) before mid now
+    (λ k at. inl at) (λ k inside. inr (opened, inside)) (λ k at inside. omega (arith, at, inside.0))
+    (once_named IsGate IsGate before mid (λ k at. at) gate) map
+
 -- what is asked for to finish a commit is what a commit may ask for
 pub in_finish : (homes : List ℕ) (k : ℕ) → length homes ≤ page_limit → IsFinished homes k → IsCommitted homes k
-in_finish homes k few = ⊎_elim (λ gate. inl (inl gate)) (⊎_elim
-    (λ body. inl (inr (omega (arith, body.0), omega (arith, body.1, few))))
-    (λ home. inr home))
+in_finish homes k few = ⊎_elim (λ gate. inl (inl gate)) (⊎_elim (λ body. inl (inr (omega (arith, body.0), omega (arith, body.1, few)))) (λ home. inr home))
 
 pub in_opening : (homes : List ℕ) (n k : ℕ) → n ≤ page_limit → IsOpened n k → IsCommitted homes k
 in_opening homes n k few inside = ⊎_elim (λ e. inl (inl e)) (λ other. inl (inr (omega (arith, inside.0, other), omega (arith, inside.1, few)))) (cases_eq k gate_sector)
 
 module _ {D : Type 0} (g : Ghosts D) where
   -- what a commit asks for
-  pub in_two : (live : List ℕ) (pages : ℕ) (old mid new : D) → NamesOnce (IsFinished live) (g.asked old) (g.asked mid) → NamesOnce (IsOpened pages) (g.asked mid) (g.asked new)
+  pub in_two : (live : List ℕ) (pages : ℕ) (old mid new : D) → NamesOnce (IsMovedHome live) (g.asked old) (g.asked mid) → NamesOnce (IsOpened pages) (g.asked mid) (g.asked new)
       → AsksInTwo g live pages old new
   in_two live pages old mid new copies opens = record { between = g.asked mid; copies = copies; opens = opens }
 
   -- nothing new was asked for
-  pub in_one : (live : List ℕ) (pages : ℕ) (old new : D) → NamesOnce (IsFinished live) (g.asked old) (g.asked new) → AsksInTwo g live pages old new
+  pub in_one : (live : List ℕ) (pages : ℕ) (old new : D) → NamesOnce (IsMovedHome live) (g.asked old) (g.asked new) → AsksInTwo g live pages old new
   in_one live pages old new copies = record { between = g.asked new; copies = copies; opens = record { each = λ k. inl refl } }
 
-  pub finish_only : (homes : List ℕ) (old new : D) → length homes ≤ page_limit → NamesOnce (IsFinished homes) (g.asked old) (g.asked new) → AsksOnly g (IsCommitted homes) old new
-  finish_only homes old new few once = asks_once g (IsCommitted homes) (IsFinished homes) old new (λ k. in_finish homes k few) once
+  pub finish_only : (homes : List ℕ) (old new : D) → length homes ≤ page_limit → NamesOnce (IsMovedHome homes) (g.asked old) (g.asked new) → AsksOnly g (IsCommitted homes) old new
+  finish_only homes old new few once = asks_once g (IsCommitted homes) (IsMovedHome homes) old new (λ k moved. in_finish homes k few moved.1) once
 
-  pub commit_only : (homes : List ℕ) (n : ℕ) (old mid new : D) → length homes ≤ page_limit → n ≤ page_limit → NamesOnce (IsFinished homes) (g.asked old) (g.asked mid)
+  pub commit_only : (homes : List ℕ) (n : ℕ) (old mid new : D) → length homes ≤ page_limit → n ≤ page_limit → NamesOnce (IsMovedHome homes) (g.asked old) (g.asked mid)
       → NamesOnce (IsOpened n) (g.asked mid) (g.asked new) → AsksOnly g (IsCommitted homes) old new
   commit_only homes n old mid new few fits copies opens = asks_then g (IsCommitted homes) old mid new (finish_only homes old mid few copies)
       (asks_once g (IsCommitted homes) (IsOpened n) mid new (λ k. in_opening homes n k fits) opens)
@@ -87,9 +96,5 @@ module _ {D : Type 0} (g : Ghosts D) where
           (λ body. inr (opened.gate, inl (omega (arith, body.0), subst (λ n. k < body_sector n) (sym opened.count) body.1)))
           (λ home. (let at = opened.each home.0 home.1 in inr (
             opened.gate,
-            inr (
-              home.0,
-              subst (λ n. home.0 < n) (sym opened.count) home.1,
-              subst (λ h. IsPageSector (home_sector h) k) (sym at) home.2,
-            ),
+            inr (home.0, subst (λ n. home.0 < n) (sym opened.count) home.1, subst (λ h. IsPageSector (home_sector h) k) (sym at) home.2),
           ))))

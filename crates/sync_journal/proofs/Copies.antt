@@ -48,8 +48,7 @@ module _ (body first : ℕ) (after : body + 8 * page_limit ≤ first) (count : �
       Copied j i = g.content new (first + 8 * get_or homes j 0 + i) ≡ g.content old (body + 8 * j + i)
 
       body_stays : (i : ℕ) → i < 8 → g.content mid (body + 8 * n + i) ≡ g.content old (body + 8 * n + i)
-      body_stays i below_i =
-          ⊎_elim (λ at_home. absurd (omega (arith, are.few, after, below_n, below_i, at_home.2.0))) (λ same. same) (run.content (body + 8 * n + i))
+      body_stays i below_i = ⊎_elim (λ at_home. absurd (omega (arith, are.few, after, below_n, below_i, at_home.2.0))) (λ same. same) (run.content (body + 8 * n + i))
 
       home_stays : (j i : ℕ) → j < length homes → j ≢ n → i < 8 → g.content new (first + 8 * get_or homes j 0 + i) ≡ g.content mid (first + 8 * get_or homes j 0 + i)
       home_stays j i below_j other below_i =

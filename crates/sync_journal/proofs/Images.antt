@@ -38,10 +38,7 @@ Means names h n None = (j : ℕ) → j < n → names j ≡ h → ⊥
 Means names h n (Some j) = (j < n) × (names j ≡ h)
 
 carried : (names : ℕ → ℕ) (h n : ℕ) (o : Option ℕ) → names n ≢ h → Means names h n o → Means names h (suc n) o
-carried names h n None other none = λ j below same. ⊎_elim
-    (λ last. other (ap names (sym last) ∙ same))
-    (λ before. none j (omega arith) same)
-    (cases_eq j n)
+carried names h n None other none = λ j below same. ⊎_elim (λ last. other (ap names (sym last) ∙ same)) (λ before. none j (omega arith) same) (cases_eq j n)
 carried names h n (Some j) other found = (omega (arith, found.0), found.1)
 
 stepped : (names : ℕ → ℕ) (h n : ℕ) (o : Option ℕ) (b : Bool) → (names n == h) ≡ b → Means names h n o → Means names h (suc n) (if b then Some n else o)
@@ -116,8 +113,7 @@ module _ (sectors : ℕ) (homes : List ℕ) (are : AreHomes (home_count sectors)
 
       here : (h i : ℕ) → i < 8 → (o : Option ℕ) → Means (λ j. get_or homes j 0) h (length homes) o → image (place_or_home h o + i) ≡ content (place_or_home h o + i)
       here h i below None none = ⊎_elim (λ at_home. absurd (not_at_home homes h i below none at_home)) (λ e. e) (same (home_sector h + i) (omega arith))
-      here h i below (Some j) found = let few = are.few in
-          ⊎_elim (λ at_home. absurd (omega (arith, few, found.0, at_home.2.0))) (λ e. e) (same (body_sector j + i) (omega arith))
+      here h i below (Some j) found = let few = are.few in ⊎_elim (λ at_home. absurd (omega (arith, few, found.0, at_home.2.0))) (λ e. e) (same (body_sector j + i) (omega arith))
 
       each : (h i : ℕ) → i < 8 → standing_single image h i ≡ standing_single content h i
       each h i below = standing_open homes image h i (open_as homes content image opens gate maps)

@@ -75,8 +75,7 @@ home_block : (h k j : ℕ) → IsSameBlock k j → IsPageSector (turn_home h) j 
 home_block h k j same inside = (omega (arith, same, inside.0, inside.1), omega (arith, same, inside.0, inside.1))
 
 staged_block : (second : Bool) (live : List ℕ) (k j : ℕ) → IsSameBlock k j → IsTurnStaged second live j → IsTurnStaged second live k
-staged_block second live k j same = ⊎_elim (λ own. inl (journal_block (not second) k j same own))
-    (λ home. inr (home.0, home.1, home_block (get_or live home.0 0) k j same home.2))
+staged_block second live k j same = ⊎_elim (λ own. inl (journal_block (not second) k j same own)) (λ home. inr (home.0, home.1, home_block (get_or live home.0 0) k j same home.2))
 
 -- The content between two commits: the gate names a journal, whose map is good and names the live homes at their places, and every other
 -- home page stands in its home.
@@ -105,9 +104,7 @@ module _ (sectors : ℕ) (second : Bool) (live : List ℕ) (are : AreHomes (turn
     where
       here : (o : Option ℕ) → map_rank second content h ≡ o → Means (home_in (turn_map second content)) h (map_count (turn_map second content)) o
           → image (turn_stands second h o + i) ≡ content (turn_stands second h o + i)
-      here None is means = ⊎_elim
-          (λ at. absurd (placed h at.0 at.1 (omega (arith, at.2.0, at.2.1, below)) is))
-          (λ e. e) (homes (turn_home h + i) (omega arith))
+      here None is means = ⊎_elim (λ at. absurd (placed h at.0 at.1 (omega (arith, at.2.0, at.2.1, below)) is)) (λ e. e) (homes (turn_home h + i) (omega arith))
       here (Some j) is means = let most = few in journal (turn_body second j + i) (omega arith, omega (arith, means.0, most, below))
 
   -- an image whose gate names the same journal
@@ -199,6 +196,11 @@ pub map_stays : {D : Type 0} (g : Ghosts D) (second : Bool) (live : List ℕ) (o
     → turn_map second (g.content new) ≡ turn_map second (g.content old)
 map_stays g second live old new run = same_turn_map second (g.content new) (g.content old)
     (λ k inside. (let high = start_high second in ⊎_elim (λ home. absurd (omega (arith, home.2.0, inside.1, high))) (λ e. e) (run.content k)))
+
+-- and while a journal is named
+pub gate_map : {D : Type 0} (g : Ghosts D) (second : Bool) (old new : D) → Touches g IsTurnGate old new → turn_map second (g.content new) ≡ turn_map second (g.content old)
+gate_map g second old new run = same_turn_map second (g.content new) (g.content old)
+    (λ k inside. (let low = start_low second in ⊎_elim (λ at. absurd (omega (arith, at, inside.0, low))) (λ e. e) (run.content k)))
 
 pub body_stays : {D : Type 0} (g : Ghosts D) (second : Bool) (live : List ℕ) (n : ℕ) (pages : ℕ → List ℕ) (old new : D) → n ≤ 1023 → Touches g (IsTurnHome live) old new
     → HoldsJournal second n pages (g.content old) → HoldsJournal second n pages (g.content new)
@@ -301,8 +303,7 @@ module _ {D : Type 0} (g : Ghosts D) (second : Bool) (live : List ℕ) (old mid 
     Either = IsTurnKept (g.sector_count old) (g.content old) (TurnStandsForEither (turn_standing (g.content old)) (changed (turn_standing (g.content old)) homes pages))
 
     pub while_preparing_either : LeavesOnly g old mid Either
-    while_preparing_either = weaker g old mid Before Either
-        (λ image kept. record { stands = inl kept.stands; journal = kept.journal; outside = kept.outside }) while_preparing
+    while_preparing_either = weaker g old mid Before Either (λ image kept. record { stands = inl kept.stands; journal = kept.journal; outside = kept.outside }) while_preparing
 
     module _ (new : D) (q : NamesOther g second live homes old mid new) where
       -- the other journal is named, and nothing is unsynced
@@ -452,8 +453,7 @@ module _ {D : Type 0} (g : Ghosts D) (P Q : Image → Type 0) (more : (image : I
       (λ named. inr (named.0, blocks_weaker g (IsTurnStaged second live) P Q old named.0 more named.1, blocks_weaker g IsTurnGate P Q named.0 new more named.2))
 
   pub recovers_weaker : (old new : D) → RecoversInBlocks g P old new → RecoversInBlocks g Q old new
-  recovers_weaker old new = ⊎_elim (λ reads. inl reads)
-      (λ run. inr (run.0, run.1, run.2, run.3, commits_weaker run.2 run.3 run.0 new run.4))
+  recovers_weaker old new = ⊎_elim (λ reads. inl reads) (λ run. inr (run.0, run.1, run.2, run.3, commits_weaker run.2 run.3 run.0 new run.4))
 
 -- no homes are good homes
 pub none_are : (count : ℕ) → AreHomes count []

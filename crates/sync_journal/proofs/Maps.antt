@@ -26,17 +26,11 @@ overwritten a b c d k e part old buf dst front after ends =
 
 -- after the homes a map is zero
 pub zeros_after : (n : ℕ) → drop {A = ℕ} (4 + 4 * n) (replicate 4096 0) ≡ replicate (4092 - 4 * n) 0
-zeros_after n = let rest : 4096 - (4 + 4 * n) ≡ 4092 - 4 * n = omega arith in
-    drop-replicate (4 + 4 * n) 4096 0 ∙ ap (λ j. replicate j 0) rest
+zeros_after n = let rest : 4096 - (4 + 4 * n) ≡ 4092 - 4 * n = omega arith in drop-replicate (4 + 4 * n) 4096 0 ∙ ap (λ j. replicate j 0) rest
 
 -- four bytes are one number
 pub same_number : (xs ys : List ℕ) → ((i : ℕ) → i < 4 → get_or xs i 0 ≡ get_or ys i 0) → little_number 4 xs ≡ little_number 4 ys
-same_number xs ys same =
-    let zeroth = same 0 (lit< tt) in
-    let first = same 1 (lit< tt) in
-    let second = same 2 (lit< tt) in
-    let third = same 3 (lit< tt) in
-    cc
+same_number xs ys same = let zeroth = same 0 (lit< tt) in let first = same 1 (lit< tt) in let second = same 2 (lit< tt) in let third = same 3 (lit< tt) in cc
 
 -- a number read from the part of the map after its count
 pub number_at : (e k : ℕ) (map : List ℕ) → 4 * k + 4 ≤ e → little_number 4 (drop (4 * k) (take e (drop 4 map))) ≡ home_in map k
@@ -84,6 +78,4 @@ pub counted : (homes : List ℕ) → length homes ≤ 1023 → map_count (map_by
 counted homes few = little_number-reads_back 4 (length homes) (flat_map (little_bytes 4) homes ++ replicate (4092 - 4 * length homes) 0) (omega arith)
 
 pub named : (homes : List ℕ) (j : ℕ) → j < length homes → get_or homes j 0 < 2 ^ 32 → home_in (map_bytes homes) j ≡ get_or homes j 0
-named homes j below small =
-    ap (little_number 4) (sym (drop-drop (4 * j) 4 (map_bytes homes)))
-    ∙ home_of homes j (replicate (4092 - 4 * length homes) 0) below small
+named homes j below small = ap (little_number 4) (sym (drop-drop (4 * j) 4 (map_bytes homes))) ∙ home_of homes j (replicate (4092 - 4 * length homes) 0) below small

@@ -1,6 +1,6 @@
 -- What gate and map of a store of the layout before say.
-use Rattle.sync_journal.proofs.{Images.{no_place, closed_place, open_place}, Names.{◌≡◌, ◌≤◌, ◌<◌, ◌+◌, ℕ, true, false, List, [], ◌++◌, length, take, get_or, Option, Some, None, sym, ap, subst, ◌∙◌, arith, length-take-le, get_or-take}}
-use Rattle.sync_journal.{proofs.{Names.{take-append-le, get_or_append_left, MatchOption, Image}, Phases.{not_bad}}, specs.{Gate.{is_open}, Layout.{Layout, layout_before, home_count_in}, Map.{home_rank, map_count, home_in, IsBadMap}}}
+use Rattle.sync_journal.proofs.{Images.{Means, place_means, no_place, closed_place, open_place}, Names.{◌≡◌, ◌≤◌, ◌<◌, ◌+◌, ◌*◌, ℕ, true, false, List, [], ◌++◌, length, take, get_or, Option, Some, None, sym, ap, subst, ◌∙◌, arith, length-take-le, get_or-take}}
+use Rattle.sync_journal.{proofs.{Names.{take-append-le, get_or_append_left, MatchOption, Image}, Phases.{not_bad}}, specs.{Gate.{is_open}, Layout.{Layout, IsPageSector, layout_before, home_count_in}, Map.{home_rank, map_count, home_in, IsBadMap}}}
 use Rattle.sync_journal.specs.{Map.{AreFewHomes, AreNamed, ReadsMap}, OldJournal.{StandsAsListed}, Standing.{place_or_home_in, standing_in, map_in, IsBadJournalIn, IsOpenIn}, declared.store_journal.Journals.{Journals, TheVariants.{Single}}}
 use Rattle.sync_journal.specs.declared.store_journal.Journals.TheVariants.{Paired}
 
@@ -22,8 +22,7 @@ named_opens layout limit count homes image gate are room =
     record {
       gate = gate;
       count = sym are.counted ∙ sym long;
-      each = λ j below. let inside : j < count = omega (arith, below, long) in
-          sym (are.each j inside) ∙ sym (get_or-take count homes j 0 inside);
+      each = λ j below. let inside : j < count = omega (arith, below, long) in sym (are.each j inside) ∙ sym (get_or-take count homes j 0 inside);
     }
 
 pub named_good : (layout : Layout) (sectors count : ℕ) (homes : List ℕ) (image : Image) → AreNamed layout.most (home_count_in layout sectors) (map_in layout image) homes count
@@ -51,6 +50,30 @@ reads_map most len limit homes_limit map page front rest (Some count) same long 
       each = e.2;
       good = subst (λ n. AreFewHomes most n (take count front)) limit_is (subst (λ n. AreFewHomes n limit (take count front)) same e.3);
     }))
+
+-- The pages of a list of homes, each in the body or in its home, have sectors of their own,
+body_room : (kind : Journals) → (layout_before kind).body + 8 * (layout_before kind).most ≤ (layout_before kind).homes
+body_room Single = omega arith
+body_room Paired = omega arith
+
+pub places_apart : (kind : Journals) (homes : List ℕ) → length homes ≤ (layout_before kind).most → (a b k : ℕ)
+    → IsPageSector (place_or_home_in (layout_before kind) a (home_rank homes a)) k → IsPageSector (place_or_home_in (layout_before kind) b (home_rank homes b)) k → a ≡ b
+places_apart kind homes few a b k = here (home_rank homes a) (home_rank homes b) (place_means names a (length homes)) (place_means names b (length homes))
+  where
+    names : ℕ → ℕ
+    names = λ j. get_or homes j 0
+
+    here : (o p : Option ℕ) → Means names a (length homes) o → Means names b (length homes) p
+        → IsPageSector (place_or_home_in (layout_before kind) a o) k → IsPageSector (place_or_home_in (layout_before kind) b p) k → a ≡ b
+    here None None is_a is_b at_a at_b = omega (arith, at_a.0, at_a.1, at_b.0, at_b.1)
+    here None (Some i) is_a is_b at_a at_b = absurd (let room = body_room kind in omega (arith, at_a.0, at_b.1, is_b.0, few, room))
+    here (Some j) None is_a is_b at_a at_b = absurd (let room = body_room kind in omega (arith, at_b.0, at_a.1, is_a.0, few, room))
+    here (Some j) (Some i) is_a is_b at_a at_b = let same : j ≡ i = omega (arith, at_a.0, at_a.1, at_b.0, at_b.1) in sym is_a.1 ∙ ap names same ∙ is_b.1
+
+-- and none before the body
+pub place_behind : (kind : Journals) (a k : ℕ) (o : Option ℕ) → IsPageSector (place_or_home_in (layout_before kind) a o) k → (layout_before kind).body ≤ k
+place_behind kind a k None at = let room = body_room kind in omega (arith, at.0, room)
+place_behind kind a k (Some j) at = omega (arith, at.0)
 
 -- the layouts before have room for no more homes than layout 2
 pub most_before : (kind : Journals) → (layout_before kind).most ≤ 1023

@@ -26,6 +26,7 @@ module _ {D : Type 0} (g : Ghosts D) (old read : D) (only_now : g.keeps_model ol
     recovers = record {
       ok = λ keeps. tt;
       synced = λ keeps. tt;
+      emptied = λ keeps. tt;
       stays = record { any_moment = looking; in_a_row = λ keeps still first was. since_first g old read first was (looking keeps still) };
       run = read_run;
       bad_unwritten = λ keeps is. looks.touches keeps;
@@ -46,6 +47,7 @@ module _ {D : Type 0} (g : Ghosts D) (old read : D) (only_now : g.keeps_model ol
       ok = λ keeps. staged_settled g [] (λ _. []) old read (only_now (looks.kept keeps)) (none_are (home_count (g.sector_count old)))
           (record { closed = shut keeps; synced = λ k u. absurd (clean (looks.kept keeps) k u) }) (read_only g IsJournalSector old read (looks.touches keeps));
       synced = λ keeps k u. ⊎_elim (clean (looks.kept keeps) k) (λ none. none) ((looks.touches keeps).unsynced k u);
+      emptied = λ keeps. ap (λ (image : Image). is_open image) (same_image g old read (looks.touches keeps)) ∙ shut keeps;
       stays = record { any_moment = looking; in_a_row = λ keeps still first was. since_first g old read first was (looking keeps still) };
       run = read_run;
       bad_unwritten = λ keeps is. looks.touches keeps;
@@ -78,6 +80,7 @@ module _ {D : Type 0} (g : Ghosts D) (old read : D) (only_now : g.keeps_model ol
       recovers = record {
         ok = ok;
         synced = synced;
+        emptied = λ keeps. on_ok_weaker result (λ settled. settled.rest.closed) (ok keeps);
         stays = record { any_moment = replaying; in_a_row = λ keeps still first was. since_first g old new first was (replaying keeps still) };
         run = one_more g (IsRecovered (g.sector_count old)) old read new read_run (record { size = e.size; kept = e.kept; later = e.later; touches = λ keeps. replayed g (g.sector_count old) homes read new are (e.touches keeps) });
         bad_unwritten = λ keeps is. absurd (good_there keeps is);
@@ -98,6 +101,7 @@ module _ {D : Type 0} (g : Ghosts D) (old read : D) (only_now : g.keeps_model ol
       recovers = record {
         ok = λ keeps. on_ok_weaker result (λ settled. so_before g old read (looks.touches (e.kept keeps)) (λ n image. IsSettled g n image [] new (standing_single image)) looks.size settled) (e.ok keeps);
         synced = e.synced;
+        emptied = e.emptied;
         stays = record { any_moment = moments; in_a_row = λ keeps still first was. since_first g old new first was (moments keeps still) };
         run = one_more g (IsRecovered (g.sector_count old)) old read new read_run (subst (λ n. RunsOnDevice g (IsRecovered n) read new) looks.size e.run);
         bad_unwritten = λ keeps bad. and_then g Nothing old read new (looks.touches (e.kept keeps)) (e.bad_unwritten keeps (still_bad keeps bad));

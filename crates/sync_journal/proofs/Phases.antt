@@ -47,8 +47,7 @@ before_kept sectors content image was gate same = record {
     never opened = let e : true ≡ false = sym opened ∙ gate in cc
 
 -- an open gate before the map of these homes
-pub opens_for : (count : ℕ) (homes : List ℕ) (image : Image) → AreHomes count homes → count ≤ 2 ^ 30 → is_open image ≡ true
-    → map_of image ≡ map_bytes homes → IsOpenFor homes image
+pub opens_for : (count : ℕ) (homes : List ℕ) (image : Image) → AreHomes count homes → count ≤ 2 ^ 30 → is_open image ≡ true → map_of image ≡ map_bytes homes → IsOpenFor homes image
 opens_for count homes image are small gate map = record {
   gate = gate;
   count = ap map_count map ∙ counted homes are.few;
@@ -73,8 +72,7 @@ module _ (sectors : ℕ) (homes : List ℕ) (are : AreHomes (home_count sectors)
   unfolding changed
   after_kept image gate same = record {
     stands = record {
-      each = λ h i below. standing_open homes image h i (names_homes image gate same)
-          ∙ here h i below (home_rank homes h) (place_means (λ j. get_or homes j 0) h (length homes));
+      each = λ h i below. standing_open homes image h i (names_homes image gate same) ∙ here h i below (home_rank homes h) (place_means (λ j. get_or homes j 0) h (length homes));
     };
     journal = λ bad. absurd (let named = names_homes image gate same in not_bad 1023 (home_count sectors) homes (map_of image) are named.count named.each bad.map);
     outside = λ k outside. same k (not_gate sectors k outside) ∙ ⊎_elim (λ inside. absurd (not_journal sectors k outside inside)) (λ e. e) (others k);
@@ -134,8 +132,7 @@ module _ {D : Type 0} (g : Ghosts D) (homes : List ℕ) (pages : ℕ → List �
       unsynced k u = ⊎_elim (λ before. quiet.synced k before) (λ inside. inside) (stages.unsynced k u)
 
   pub while_staging_either : LeavesOnly g old staged Either
-  while_staging_either = weaker g old staged Before Either
-      (λ image kept. record { stands = inl kept.stands; journal = kept.journal; outside = kept.outside }) while_staging
+  while_staging_either = weaker g old staged Before Either (λ image kept. record { stands = inl kept.stands; journal = kept.journal; outside = kept.outside }) while_staging
 
   module _ (opened : D) (body : HoldsPages (length homes) pages (g.content staged)) (map : map_of (g.content staged) ≡ map_bytes homes)
       (staged_synced : (k : ℕ) → g.unsynced staged k → ⊥) (opens : Touches g IsGate staged opened) where
@@ -169,15 +166,13 @@ module _ {D : Type 0} (g : Ghosts D) (homes : List ℕ) (pages : ℕ → List �
 
 -- Opening the gate leaves the map.
 pub gate_leaves_map : {D : Type 0} (g : Ghosts D) (staged opened : D) → Touches g IsGate staged opened → map_of (g.content opened) ≡ map_of (g.content staged)
-gate_leaves_map g staged opened opens = same_map (g.content opened) (g.content staged)
-    (λ k from below. ⊎_elim (λ at. absurd (omega (arith, from, at))) (λ e. e) (opens.content k))
+gate_leaves_map g staged opened opens = same_map (g.content opened) (g.content staged) (λ k from below. ⊎_elim (λ at. absurd (omega (arith, from, at))) (λ e. e) (opens.content k))
 
 -- With the gate open the journal is live, whatever the source gave.
 pub opened_live : {D : Type 0} (g : Ghosts D) (homes : List ℕ) (old staged opened : D) → AreHomes (home_count (g.sector_count old)) homes
     → map_of (g.content staged) ≡ map_bytes homes → Touches g IsGate staged opened → is_open (g.content opened) ≡ true
     → ((k : ℕ) → g.unsynced opened k → ⊥) → IsLive g homes opened
 opened_live g homes old staged opened are map opens gate synced = record {
-  opened = opens_for (home_count (g.sector_count old)) homes (g.content opened) are (omega arith) gate
-      (gate_leaves_map g staged opened opens ∙ map);
+  opened = opens_for (home_count (g.sector_count old)) homes (g.content opened) are (omega arith) gate (gate_leaves_map g staged opened opens ∙ map);
   synced = synced;
 }

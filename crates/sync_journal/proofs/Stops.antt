@@ -11,5 +11,4 @@ module _ {D : Type 0} (g : Ghosts D) where
   -- any number of them
   pub still_stands : (sectors n : ℕ) (first last : Image) → LeftByRecoveries g sectors n first last → HomesStandAs sectors first last
   still_stands sectors zero first last same = same_kept sectors first last same
-  still_stands sectors (suc n) first last row =
-      kept_again sectors first row.0 last (still_stands sectors n first row.0 row.3) (one_stop sectors row.0 last row.1 row.2 row.4 row.5)
+  still_stands sectors (suc n) first last row = kept_again sectors first row.0 last (still_stands sectors n first row.0 row.3) (one_stop sectors row.0 last row.1 row.2 row.4 row.5)

@@ -1,7 +1,7 @@
 -- A recovery of two journals in turn: a sync and a look, and then a commit of no pages.
-use Rattle.sync_journal.proofs.{InKinds.{recovered_sector}, InTurn.{turn_same, good_before, turn_since}, Names.{◌≡◌, ℕ, true, false, [], inl, inr, Result, Ok, Err, OnOk, refl, sym, subst, ◌∙◌, IfOk, IsErr, IsErrOf, Image, MayLeave}}
+use Rattle.sync_journal.proofs.{InKinds.{recovered_sector}, InTurn.{turn_same, good_before, turn_since}, Names.{◌≡◌, ◌<◌, ⊎_elim, ap, arith, cases_lt, ℕ, true, false, [], inl, inr, Result, Ok, Err, OnOk, refl, sym, subst, ◌∙◌, IfOk, IsErr, IsErrOf, Image, MayLeave}}
 use Rattle.sync_journal.proofs.{Names.{AsksOnly, LeavesOnly, Nothing, Touches, DiskFault, Ghosts, asks_none, asks_then}, Replays.{if_ok}, Runs.{one_more, of_more}, Sectors.{same_image, while_read, so_before}, TurnAsking.{recovery_asks}}
-use Rattle.sync_journal.specs.{Blocks.{CommitsInBlocks}, Journal.{live_homes}, Map.{AreHomes}, Recovering.{IsNamedLive, EmptiesNamed, RecoversInTurn}, Runs.{RunsOnDevice}, Steps.{BlamesJournal}, Turns.{turn_home_count, turn_standing}}
+use Rattle.sync_journal.specs.{Blocks.{CommitsInBlocks}, Journal.{live_homes}, Map.{AreHomes, map_count}, Recovering.{IsNamedLive, EmptiesNamed, RecoversInTurn}, Runs.{RunsOnDevice}, Steps.{BlamesJournal}, Turns.{turn_home_count, turn_standing, turn_map, named_in}}
 use Rattle.sync_journal.specs.{Turns.{IsBadTurn, IsNamedFor, IsTurnAskedIn, IsTurnCommitted, IsTurnRecovered, IsTurnSettled, KeepsTurns, TurnsStandAs}, declared.faults.RecoverFault.{RecoverFault, TheVariants.{BadJournal}}}
 use Rattle.{sync_journal.specs.declared.turns.TurnJournal.{TurnJournal}, disk_model.proofs.Moments.{joined}}
 
@@ -35,6 +35,7 @@ module _ {D : Type 0} (g : Ghosts D) (old read : D) (only_now : g.keeps_model ol
     recovers = record {
       ok = λ keeps. tt;
       synced = λ keeps. tt;
+      emptied = λ keeps. tt;
       stays = record { any_moment = looking; in_a_row = λ keeps still first was. turn_since g old read first was (looking keeps still) };
       run = of_more g Nothing (IsTurnRecovered (g.sector_count old)) old read (λ k none. absurd none) looks;
       bad_unwritten = λ keeps is. looks.touches keeps;
@@ -57,15 +58,23 @@ module _ {D : Type 0} (g : Ghosts D) (old read : D) (only_now : g.keeps_model ol
     good_found : g.keeps_model new → IsBadTurn (g.sector_count old) (g.content old) → ⊥
     good_found keeps = good_before g old read (looks.touches (e.kept keeps)) journal.second (live_homes journal.live) looks.size (named.found (e.kept keeps))
 
+    -- where no page was live nothing was done
+    stays_empty : g.keeps_model new → journal.live.count ≡ 0 → map_count (turn_map (named_in (g.content new)) (g.content new)) ≡ 0
+    stays_empty keeps none =
+        let same : g.content new ≡ g.content old = ap g.content (e.idle none) ∙ same_image g old read (looks.touches (e.kept keeps)) in
+        ap (λ (image : Image). map_count (turn_map (named_in image) image)) same ∙ (named.names (e.kept keeps)).count ∙ none
+
     -- whatever is told of it
     pub emptied : (result : Result TurnJournal RecoverFault) → (g.keeps_model read → AsksOnly g (IsTurnAskedIn (g.content old)) old read)
         → (g.keeps_model new → IfOk result (λ found. IsTurnSettled g (g.sector_count old) (g.content old) found.second [] new (turn_standing (g.content old))))
         → (g.keeps_model new → OnOk result ((k : ℕ) → g.unsynced new k → ⊥)) → BlamesJournal g old new result
-        → (g.keeps_model new → IsErrOf result BadJournal → IsBadTurn (g.sector_count old) (g.content old)) → IfOk result (λ found. live_homes found.live ≡ []) → RecoversInTurn g old new result
-    emptied result asks ok synced blames bad not_live = record {
+        → (g.keeps_model new → IsErrOf result BadJournal → IsBadTurn (g.sector_count old) (g.content old)) → IfOk result (λ found. live_homes found.live ≡ [])
+        → (0 < journal.live.count → g.keeps_model new → OnOk result (map_count (turn_map (named_in (g.content new)) (g.content new)) ≡ 0)) → RecoversInTurn g old new result
+    emptied result asks ok synced blames bad not_live empty = record {
       recovers = record {
         ok = ok;
         synced = synced;
+        emptied = λ keeps. ⊎_elim (λ some. empty some keeps) (λ none. if_ok result (stays_empty keeps (omega (arith, none)))) (cases_lt 0 journal.live.count);
         stays = record { any_moment = moments; in_a_row = λ keeps still first was. turn_since g old new first was (moments keeps still) };
         run = one_more g (IsTurnRecovered (g.sector_count old)) old read new (of_more g Nothing (IsTurnRecovered (g.sector_count old)) old read (λ k none. absurd none) looks)
             (of_more g (IsTurnCommitted journal.second (live_homes journal.live)) (IsTurnRecovered (g.sector_count old)) read new

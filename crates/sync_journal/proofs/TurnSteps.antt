@@ -2,7 +2,7 @@
 use Rattle.sync_journal.proofs.{Causes.{not_source, puts_failed}, InTurn.{IsPrepared, NamesOther, prepared, map_stays, copied_since, while_preparing, while_naming, staged_blocks, named_blocks, blocks_weaker, commits_weaker, new_rest}}
 use Rattle.sync_journal.proofs.{InTurn.{new_settled, body_stays}, Names.{◌≡◌, ◌<◌, ℕ, Bool, true, false, not, List, [], length, Result, Ok, Err, OnOk, inl, inr, ◌∙◌, arith, IsErr, IsErrAnd, Image, MayLeave, NamesOnce, LeavesOnly}}
 use Rattle.sync_journal.{proofs.{Names.{DiskFault, Ghosts, weaker, wider}, Runs.{one_more, of_more}, TurnAsking.{Prepared, part_used, prepared_asks, prepared_used, used_asks, asks_some}}, specs.{Blocks.{CommitsInBlocks}, Commit.{changed}}}
-use Rattle.sync_journal.specs.{Committing.{CommitsInTurn}, Journal.{live_homes}, Map.{AreHomes, map_bytes}, Recovering.{EmptiesNamed}, Runs.{RunsOnDevice}, Source.{Asks}, Steps.{SyncsInto}, Turns.{named_in, turn_map, turn_home_count}}
+use Rattle.sync_journal.specs.{Committing.{CommitsInTurn}, Journal.{live_homes}, Map.{AreHomes, map_bytes, map_count}, Recovering.{EmptiesNamed}, Runs.{RunsOnDevice}, Source.{Asks}, Steps.{SyncsInto}, Turns.{named_in, turn_map, turn_home_count}}
 use Rattle.sync_journal.specs.Turns.{turn_standing, IsTurnSector, IsTurnHome, IsTurnGate, IsTurnPart, IsTurnCopy, IsTurnUsed, IsTurnCommitted, IsTurnStaged, IsTurnKept, TurnStandsForEither, TurnsStandAs, HoldsJournal, AreCopiedBut}
 use Rattle.sync_journal.specs.{Turns.{IsTurnRest, IsTurnSettled}, declared.{faults.CommitFault.{CommitFault, TheVariants.{Device}}, source.PageSource.{Ghosts as SourceGhosts}, turns.TurnJournal.{TurnJournal}}}
 
@@ -144,8 +144,9 @@ commit_failed g s was now homes old new from left (Err e) is leaves asks failed 
 pub emptied_so_far : {D : Type 0} (g : Ghosts D) (was now : TurnJournal) (old new : D) (r : Result (Unit {0}) DiskFault) → 0 < was.live.count
     → Leaves g was.second (live_homes was.live) [] old (Unit {0}) (Before g was.second (live_homes was.live) [] old) new
     → (g.keeps_model new → OnOk r (IsTurnSettled g (g.sector_count old) (g.content old) now.second [] new (turn_standing (g.content old)))) → (IsErr r → g.failures old < g.failures new)
-    → OnOk r (g.failures new ≡ g.failures old) → OnOk r (live_homes now.live ≡ []) → (g.keeps_model new → OnOk r ((k : ℕ) → g.unsynced new k → ⊥)) → EmptiesNamed g was now old new r
-emptied_so_far g was now old new r some leaves done failed calm not_live synced = record {
+    → OnOk r (g.failures new ≡ g.failures old) → OnOk r (live_homes now.live ≡ []) → (g.keeps_model new → OnOk r ((k : ℕ) → g.unsynced new k → ⊥))
+    → (g.keeps_model new → OnOk r (map_count (turn_map (named_in (g.content new)) (g.content new)) ≡ 0)) → EmptiesNamed g was now old new r
+emptied_so_far g was now old new r some leaves done failed calm not_live synced emptied = record {
   home = record {
     writes = record { done = done; run = leaves.run; once = asks_some (IsTurnUsed was.second (live_homes was.live) []) was.live.count (g.asked old) (g.asked new) some leaves.once; failed = failed; calm = calm };
     any_moment = λ keeps. leaves.any_moment keeps tt;
@@ -154,10 +155,11 @@ emptied_so_far g was now old new r some leaves done failed calm not_live synced 
   not_live = not_live;
   synced = synced;
   idle = λ none. absurd (omega (arith, none, some));
+  emptied = λ _. emptied;
 }
 
 -- And one whose device failed.
 pub emptying_failed : {D : Type 0} (g : Ghosts D) (was now : TurnJournal) (old new : D) (r : Result (Unit {0}) DiskFault) → IsErr r → g.failures old < g.failures new → 0 < was.live.count
     → Leaves g was.second (live_homes was.live) [] old (Unit {0}) (Before g was.second (live_homes was.live) [] old) new → EmptiesNamed g was now old new r
 emptying_failed g was now old new (Ok done) is failed some leaves = let none : false ≡ true = is in cc
-emptying_failed g was now old new (Err e) is failed some leaves = emptied_so_far g was now old new (Err e) some leaves (λ keeps. tt) (λ is. failed) tt tt (λ keeps. tt)
+emptying_failed g was now old new (Err e) is failed some leaves = emptied_so_far g was now old new (Err e) some leaves (λ keeps. tt) (λ is. failed) tt tt (λ keeps. tt) (λ keeps. tt)

@@ -4,7 +4,7 @@ use Rattle.std.specs.Prelude.{ℕ, ◌≡◌, ◌⊎◌, false, List, [], ◌∷
 use Rattle.disk_model.specs.Stop.{Image, NamesOnce}
 use Rattle.disk_model.specs.Moments.{LeavesNow, LeavesOnly}
 use Rattle.disk_model.specs.declared.sector_disk.SectorDisk.{Ghosts}
-use Rattle.sync_journal.specs.Layout.{IsJournalSector, IsOutside, IsFinished, IsOpened}
+use Rattle.sync_journal.specs.Layout.{IsJournalSector, IsOutside, IsMovedHome, IsOpened}
 use Rattle.sync_journal.specs.Gate.{is_open}
 use Rattle.sync_journal.specs.Map.{home_rank}
 use Rattle.sync_journal.specs.Standing.{standing_single, StandsForPages, IsOpenFor, IsBadSingle}
@@ -62,9 +62,9 @@ module _ {D : Type 0} (g : Ghosts D) where
     pub outside : (k : ℕ) → IsOutside sectors k → g.content new k ≡ content k
     pub left : LeavesNow g new (IsKept sectors content (StandsForPages pages))
 
-  -- A commit of so many pages over these live homes asks once at most for the gate and for each sector that it copies from
-  -- and to, and then once at most for the gate, the map and each sector of as many pages of the body.
+  -- A commit of so many pages over these live homes asks, where there are any, once at most for the gate and for each sector that
+  -- it copies from and to, and then once at most for the gate, the map and each sector of as many pages of the body.
   pub record AsksInTwo (live : List ℕ) (pages : ℕ) (old new : D) : Type 0 where
     pub between : ℕ → ℕ
-    pub copies : NamesOnce (IsFinished live) (g.asked old) between
+    pub copies : NamesOnce (IsMovedHome live) (g.asked old) between
     pub opens : NamesOnce (IsOpened pages) between (g.asked new)

@@ -140,6 +140,10 @@ IsCopied homes n k = IsBodySector n k ⊎ ((j : ℕ) × (j < n) × IsPageSector 
 abbrev pub IsFinished : List ℕ → ℕ → Type 0
 IsFinished homes k = IsGate k ⊎ IsCopied homes (length homes) k
 
+-- the same where a home is live, and otherwise nothing
+abbrev pub IsMovedHome : List ℕ → ℕ → Type 0
+IsMovedHome homes k = (0 < length homes) × IsFinished homes k
+
 -- journal map and body
 abbrev pub IsJournalSector : ℕ → Type 0
 IsJournalSector k = (map_sector ≤ k) × (k < first_home_sector)

@@ -1,6 +1,6 @@
 -- The map of a layout, which is only read.
 use Rattle.std.specs.Prelude.{ℕ, List, Option, Result, IfOk}
-use Rattle.disk_model.specs.Moments.{AsksOnly}
+use Rattle.disk_model.specs.Stop.{NamesOnce}
 use Rattle.disk_model.specs.declared.sector_disk.DiskFault.{DiskFault}
 use Rattle.disk_model.specs.declared.sector_disk.SectorDisk.{Ghosts}
 use Rattle.sync_journal.specs.Layout.{Layout, home_count_in, IsMapIn}
@@ -14,7 +14,7 @@ module _ {D : Type 0} (g : Ghosts D) where
     -- it is bad, or it names homes, no more than it has room for;
     pub few : IfOk result (λ found. IsWithinHomes layout.most found)
     pub names : g.keeps_model new → IfOk result (λ found. ReadsMap layout.most (home_count_in layout (g.sector_count old)) (map_in layout (g.content old)) homes found)
-    -- and the device is read alone, in no sector but the map's.
+    -- and the device is read alone, in the map's sectors, each once.
     pub reads : ReadsOnly g old new result
     pub open reads use *
-    pub asks : AsksOnly g (IsMapIn layout) old new
+    pub once : NamesOnce (IsMapIn layout) (g.asked old) (g.asked new)

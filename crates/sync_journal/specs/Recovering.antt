@@ -31,10 +31,11 @@ module _ {D : Type 0} (g : Ghosts D) where
     pub in_a_row : g.keeps_model new → ((k : ℕ) → g.unsynced old k → ⊥) → (first : Image) → StandsAs first (g.content old) → LeavesOnly g old new (StandsAs first)
 
   -- A recovery, in the words of a layout:
-  pub record RecoversBy {T : Type 0} (StandsAs : Image → Image → Type 0) (Written Asked : ℕ → Type 0) (IsBad IsClosed After : Type 0) (old new : D) (result : Result T RecoverFault) : Type 0 where
-    -- the device is at rest with no page live, stands for what it did, and has nothing unsynced,
+  pub record RecoversBy {T : Type 0} (StandsAs : Image → Image → Type 0) (Written Asked : ℕ → Type 0) (IsBad : Type 0) (IsClosed : Image → Type 0) (After : Type 0) (old new : D) (result : Result T RecoverFault) : Type 0 where
+    -- the device is at rest with no page live, stands for what it did, has nothing unsynced, and no page stands in its journal,
     pub ok : g.keeps_model new → After
     pub synced : g.keeps_model new → OnOk result ((k : ℕ) → g.unsynced new k → ⊥)
+    pub emptied : g.keeps_model new → OnOk result (IsClosed (g.content new))
     -- as it stood for at every moment;
     pub stays : StaysThrough StandsAs old new
     pub open stays use *
@@ -42,7 +43,7 @@ module _ {D : Type 0} (g : Ghosts D) where
     pub run : RunsOnDevice g Written old new
     pub open run use *
     pub bad_unwritten : g.keeps_model new → IsBad → Touches g Nothing old new
-    pub closed_unwritten : g.keeps_model new → IsClosed → Touches g Nothing old new
+    pub closed_unwritten : g.keeps_model new → IsClosed (g.content old) → Touches g Nothing old new
     -- what is looked at and copied alone is asked for;
     pub asks : g.keeps_model new → AsksOnly g Asked old new
     -- or the device failed, or the journal is bad, and with a bad one there is no other end.
@@ -54,7 +55,7 @@ module _ {D : Type 0} (g : Ghosts D) where
   -- One journal is recovered:
   pub record RecoversOne (old new : D) (result : Result (Unit {0}) RecoverFault) : Type 0 where
     pub recovers : RecoversBy (HomesStandAs (g.sector_count old)) (IsRecovered (g.sector_count old)) (IsAskedIn (g.content old))
-        (IsBadSingle (g.sector_count old) (g.content old)) (is_open (g.content old) ≡ false)
+        (IsBadSingle (g.sector_count old) (g.content old)) (λ image. is_open image ≡ false)
         (OnOk result (IsSettled g (g.sector_count old) (g.content old) [] new (standing_single (g.content old)))) old new result
     pub open recovers use *
     -- its gate holds zeros where it was open.
@@ -63,7 +64,7 @@ module _ {D : Type 0} (g : Ghosts D) where
   -- Two journals in turn are recovered:
   pub record RecoversInTurn (old new : D) (result : Result TurnJournal RecoverFault) : Type 0 where
     pub recovers : RecoversBy (TurnsStandAs (g.sector_count old)) (IsTurnRecovered (g.sector_count old)) (IsTurnAskedIn (g.content old))
-        (IsBadTurn (g.sector_count old) (g.content old)) (map_count (turn_map (named_in (g.content old)) (g.content old)) ≡ 0)
+        (IsBadTurn (g.sector_count old) (g.content old)) (λ image. map_count (turn_map (named_in image) image) ≡ 0)
         (IfOk result (λ journal. IsTurnSettled g (g.sector_count old) (g.content old) journal.second [] new (turn_standing (g.content old)))) old new result
     pub open recovers use *
     -- the journal that is returned has no live page,
@@ -74,7 +75,7 @@ module _ {D : Type 0} (g : Ghosts D) where
   -- A store's journal is recovered, of either layout:
   pub record RecoversEither (journals : Journals) (old new : D) (result : Result StoreJournal RecoverFault) : Type 0 where
     pub recovers : RecoversBy (StoreStandsAs (g.sector_count old)) (IsStoreRecovered (g.content old) (g.sector_count old)) (IsStoreAsked (g.content old))
-        (IsBadStore (g.sector_count old) (g.content old)) (IsStoreClosed (g.content old))
+        (IsBadStore (g.sector_count old) (g.content old)) IsStoreClosed
         (IfOk result (λ journal. IsStoreSettled g (g.sector_count old) (g.content old) journal new (store_standing (g.content old)))) old new result
     pub open recovers use *
     -- the journal that is returned is of that layout and has no live page,
@@ -100,7 +101,9 @@ module _ {D : Type 0} (g : Ghosts D) where
     pub open home use *
     -- a stop may even spoil whole blocks of 4,096 bytes;
     pub blocks : g.keeps_model new → CommitsInBlocks g was.second (live_homes was.live) (TurnsStandAs (g.sector_count old) (g.content old)) old new
-    -- no page is live then and nothing unsynced, and nothing is done where none was.
+    -- no page is live then and nothing unsynced, and the map of the journal that the gate names has none,
     pub not_live : OnOk result (live_homes now.live ≡ [])
     pub synced : g.keeps_model new → OnOk result ((k : ℕ) → g.unsynced new k → ⊥)
+    pub emptied : 0 < was.live.count → g.keeps_model new → OnOk result (map_count (turn_map (named_in (g.content new)) (g.content new)) ≡ 0)
+    -- but nothing is done where none was live.
     pub idle : was.live.count ≡ 0 → new ≡ old

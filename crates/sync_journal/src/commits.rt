@@ -1,6 +1,6 @@
 //! Pages made durable all at once.
 ghost use Rattle.std.specs.Prelude.{◌≡◌, ◌<◌, ◌≤◌, ◌⊎◌, ◌+◌, ℕ, [], length, IfSome, OnOk};
-ghost use Rattle.sync_journal.specs.Layout.{gate_sector, home_count, home_sector, IsFinished, IsPageSector, IsReplayed, first_home_sector, page_limit};
+ghost use Rattle.sync_journal.specs.Layout.{gate_sector, home_count, home_sector, IsMovedHome, IsPageSector, IsReplayed, first_home_sector, page_limit};
 ghost use Rattle.sync_journal.specs.Gate.{closed_gate};
 ghost use Rattle.sync_journal.specs.Map.{AreHomes, home_rank};
 ghost use Rattle.sync_journal.specs.Standing.{standing_single, place_or_home};
@@ -94,7 +94,7 @@ impl Journal {
         requires room { first_home_sector ≤ D.sector_count disk.old }
         requires live { AreHomes (home_count (D.sector_count disk.old)) (live_homes self.old) }
         requires rest { D.keeps_model disk.old → IsAtRest D.SectorDisk (live_homes self.old) disk.old }
-        ensures home { MovesHome D.SectorDisk (IsReplayed (live_homes self.old)) (IsFinished (live_homes self.old)) (HomesStandAs (D.sector_count disk.old) (D.content disk.old))
+        ensures home { MovesHome D.SectorDisk (IsReplayed (live_homes self.old)) (IsMovedHome (live_homes self.old)) (HomesStandAs (D.sector_count disk.old) (D.content disk.old))
             (IsSettled D.SectorDisk (D.sector_count disk.old) (D.content disk.old) [] disk.new (standing_single (D.content disk.old))) disk.old disk.new result }
         ensures gate { D.keeps_model disk.new → OnOk result (D.content disk.new gate_sector ≡ closed_gate (D.content disk.old)) }
         ensures not_live { OnOk result (live_homes self.new ≡ []) }

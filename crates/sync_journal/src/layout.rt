@@ -3,13 +3,13 @@ ghost use Rattle.std.specs.Prelude.{◌≡◌};
 ghost use Rattle.sync_journal.specs.Layout.{home_count as homes_of};
 
 /// The gate.
-pub(crate) const GATE: u64 = 2;
+pub const GATE: u64 = 2;
 
 /// The first sector of the journal map.
 pub(crate) const MAP: u64 = 3;
 
 /// The first sector of the journal body.
-pub(crate) const BODY: u64 = 11;
+pub const BODY: u64 = 11;
 
 /// The first sector of the first home page.
 pub const FIRST_HOME: u64 = 8195;

@@ -52,10 +52,13 @@ mod turns;
 
 pub use faults::{CommitFault, RecoverFault};
 pub use journal::Journal;
-pub use layout::{FIRST_HOME, MAX_HOMES, PAGE_LIMIT, PAGE_SECTORS, home_count};
+pub use layout::{BODY, FIRST_HOME, GATE, MAX_HOMES, PAGE_LIMIT, PAGE_SECTORS, home_count};
 pub use old_journal::{OLD_FIRST_HOME, OldJournal, old_home_count};
 pub use pages::{read_page, write_page};
 pub use recovery::{recover, stops_in_a_row};
 pub use source::{PageSource, SourceFault};
 pub use store_journal::{Journals, StoreJournal};
-pub use turns::{TURN_GATE, TURN_HOMES, TurnJournal, turn_home_count};
+pub use turns::{
+    FIRST_BODY, FIRST_MAP, SECOND_BODY, SECOND_MAP, TURN_GATE, TURN_HOMES, TurnJournal,
+    turn_home_count,
+};

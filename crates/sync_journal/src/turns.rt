@@ -24,10 +24,22 @@ use crate::source::PageSource;
 use crate::stage::{MAP_SECTORS, fill_journal};
 use disk_model::{DiskFault, SectorDisk};
 
-/// The gate.
+/// The gate of layout 3.
 pub const TURN_GATE: u64 = 16;
 
-/// The first sector of the first home page.
+/// The first sector of the map of the first journal.
+pub const FIRST_MAP: u64 = 24;
+
+/// The first sector of its body.
+pub const FIRST_BODY: u64 = FIRST_MAP + MAP_SECTORS;
+
+/// The first sector of the map of the second journal.
+pub const SECOND_MAP: u64 = 8216;
+
+/// The first sector of its body.
+pub const SECOND_BODY: u64 = SECOND_MAP + MAP_SECTORS;
+
+/// The first sector of the first home page of layout 3.
 pub const TURN_HOMES: u64 = 16408;
 
 /// The journal of a store of layout 3: two, in turn.
@@ -130,7 +142,7 @@ fn start(second: bool) -> u64
     ensures is { result ≡ start_of second }
     ensures inside { result + 8192 ≤ turn_homes }
 {
-    if second { 8216 } else { 24 }
+    if second { SECOND_MAP } else { FIRST_MAP }
 }
 
 // Reads the gate and the map of the journal that it names, whose pages are then live.

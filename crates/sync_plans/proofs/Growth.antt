@@ -86,10 +86,7 @@ module _ (calls calls' : List Call) (used : ℕ) (same_calls : (k : ℕ) → k <
       (same_rows : (k : ℕ) (call : Call) → k < used → slice_get calls k ≡ Some call → call.kind ≡ 1 → row rows' k ≡ row rows k) where
     same_bytes : (k n : ℕ) (call : Option Call) → k < used → slice_get calls k ≡ call → written_bytes rows' pages first k call n ≡ written_bytes rows pages first k call n
     same_bytes k n None lt is = refl
-    same_bytes k n (Some call) lt is = ⊎_elim
-        (λ one. rw (eq-eqb call.kind 1 one) (same_rows k call lt is one))
-        (λ other. rw (ne_eqb call.kind 1 other) refl)
-        (cases_eq call.kind 1)
+    same_bytes k n (Some call) lt is = ⊎_elim (λ one. rw (eq-eqb call.kind 1 one) (same_rows k call lt is one)) (λ other. rw (ne_eqb call.kind 1 other) refl) (cases_eq call.kind 1)
 
     pub alike_image : (k n : ℕ) → k ≤ used → image_after calls' rows' pages first k n ≡ image_after calls rows pages first k n
     alike_image zero n le = refl
@@ -182,8 +179,7 @@ module _ {calls calls' : List Call} {rows rows' : List (List ℕ)} {used used' :
 
     pub page_changes : ChangesPage call.sector (image_after calls rows pages first used) (image_after calls' rows' pages first used')
     page_changes = record {
-      others = λ k out. image_paged k
-          ∙ ap (λ (b : Bool). if b then page_bytes pages first call k else image_after calls rows pages first used k) (out_of_page call.sector k out);
+      others = λ k out. image_paged k ∙ ap (λ (b : Bool). if b then page_bytes pages first call k else image_after calls rows pages first used k) (out_of_page call.sector k out);
     }
 
     pub page_unsynced_by : (k : ℕ) → IsLeftUnsynced calls' used' k → IsLeftUnsynced calls used k ⊎ IsOfPage call.sector k

@@ -35,8 +35,7 @@ module _ (calls : List Call) (rows : List (List ℕ)) (pages : ℕ → List ℕ)
   written_unsynced zero n writes w = absurd (false≢true w)
   written_unsynced (suc m) n writes w = subst IsTrue (sym (next_unsynced m n (writes m (omega arith)))) (elim (cases_Bool (writes_to (slice_get calls (k + m)) n)) [
     | inl here ↦ or_left (writes_to (slice_get calls (k + m)) n) (is_left_unsynced calls (k + m) n) here
-    | inr away ↦ or_right (writes_to (slice_get calls (k + m)) n) (is_left_unsynced calls (k + m) n)
-        (written_unsynced m n (λ j lt. writes j (omega (arith, lt))) (rw away at w))
+    | inr away ↦ or_right (writes_to (slice_get calls (k + m)) n) (is_left_unsynced calls (k + m) n) (written_unsynced m n (λ j lt. writes j (omega (arith, lt))) (rw away at w))
   ])
 
   pub unwritten : (m n : ℕ) → is_written calls k m n ≡ false → image_after calls rows pages first (k + m) n ≡ image_after calls rows pages first k n

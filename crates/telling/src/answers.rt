@@ -1,5 +1,9 @@
 //! Answers to questions.
-ghost use Rattle.machine.specs.Machine.{IsSoundMachine};
+ghost use Rattle.std.specs.Prelude.{◌≡◌, ◌≤◌, true, false, IfNone, IfSome};
+ghost use Rattle.residency.specs.Picture.{is_live};
+ghost use Rattle.inspection.specs.Machines.{memory_of};
+ghost use Rattle.machine.specs.Machine.{halted_of, IsSoundMachine};
+ghost use Rattle.telling.specs.Asked.{IsAskedOf, needs_memory};
 
 use crate::holdings::{tell_frames, tell_slots, tell_usage};
 use crate::maps::tell_maps;
@@ -24,41 +28,76 @@ pub fn answer_question<W: Write, D: SectorDisk, E: SectorDisk>(
 ) -> io::Result<()>
     requires { IsSoundMachine D.SectorDisk E.SectorDisk machine.now }
 {
-    match question {
-        Question::Counts => tell_counts(counts, machine, out),
-        _ if machine.is_halted() => writeln!(out, "  the machine has halted"),
-        Question::Walk { pid, addr } => match live(machine, pid) {
-            Some(process) => tell_walk(machine, process, addr, out),
-            None => no_process(pid, out),
-        },
-        Question::Tables { pid } => match live(machine, pid) {
-            Some(process) => tell_tables(machine, process, out),
-            None => no_process(pid, out),
-        },
-        Question::Maps { pid } => match live(machine, pid) {
-            Some(process) => tell_maps(machine, process, out),
-            None => no_process(pid, out),
-        },
-        Question::Frames { first, last } => tell_frames(machine, first, last, out),
-        Question::Slots => tell_slots(machine, out),
-        Question::Buffer => tell_buffer(machine, out),
-        Question::Watch(_) => Ok(()),
+    match asked_of(question, machine) {
+        Asked::Halted => writeln!(out, "  the machine has halted"),
+        Asked::Gone(number) => writeln!(out, "  no process {number} lives"),
+        Asked::Walk { process, addr } => tell_walk(machine, process, addr, out),
+        Asked::Tables(process) => tell_tables(machine, process, out),
+        Asked::Maps(process) => tell_maps(machine, process, out),
+        Asked::Frames { first, last } => tell_frames(machine, first, last, out),
+        Asked::Slots => tell_slots(machine, out),
+        Asked::Buffer => tell_buffer(machine, out),
+        Asked::Counts => tell_counts(counts, machine, out),
+        Asked::Nothing => Ok(()),
     }
 }
 
-/// The process of that number, if it lives.
+/// What is to be told where a question was asked, of processes that live.
+#[derive(Clone, Copy)]
+enum Asked {
+    /// That the machine has halted.
+    Halted,
+    /// That no process of this number lives.
+    Gone(u64),
+    Walk { process: Pid, addr: u64 },
+    Tables(Pid),
+    Maps(Pid),
+    Frames { first: u32, last: u32 },
+    Slots,
+    Buffer,
+    Counts,
+    Nothing,
+}
+
+/// What is told where this is asked of the machine.
+fn asked_of<D: SectorDisk, E: SectorDisk>(question: Question, machine: &Machine<D, E>) -> Asked
+    requires { IsSoundMachine D.SectorDisk E.SectorDisk machine.now }
+    ensures halted { halted_of machine.now ≡ true → needs_memory question ≡ true → result ≡ Asked.Halted }
+    ensures asked { halted_of machine.now ≡ false → IsAskedOf machine.now question result }
+{
+    match question {
+        Question::Counts => Asked::Counts,
+        Question::Watch(_) => Asked::Nothing,
+        _ if machine.is_halted() => Asked::Halted,
+        Question::Walk { pid, addr } => match live(machine, pid) {
+            Some(process) => Asked::Walk { process, addr },
+            None => Asked::Gone(pid),
+        },
+        Question::Tables { pid } => match live(machine, pid) {
+            Some(process) => Asked::Tables(process),
+            None => Asked::Gone(pid),
+        },
+        Question::Maps { pid } => match live(machine, pid) {
+            Some(process) => Asked::Maps(process),
+            None => Asked::Gone(pid),
+        },
+        Question::Frames { first, last } => Asked::Frames { first, last },
+        Question::Slots => Asked::Slots,
+        Question::Buffer => Asked::Buffer,
+    }
+}
+
+/// The process of that number, if it lives in a machine that has not halted.
 fn live<D: SectorDisk, E: SectorDisk>(machine: &Machine<D, E>, number: u64) -> Option<Pid>
     requires { IsSoundMachine D.SectorDisk E.SectorDisk machine.now }
+    ensures some { IfSome result (λ pid. (pid ≡ number) × (is_live (memory_of machine.now) number ≡ true)) }
+    ensures none { IfNone result (halted_of machine.now ≡ false → 1 ≤ number → number ≤ 64 → is_live (memory_of machine.now) number ≡ false) }
 {
     let pid = Pid::new(number)?;
     match inspection::root_step(machine, pid, 0) {
         Some(_) => Some(pid),
         None => None,
     }
-}
-
-fn no_process<W: Write>(number: u64, out: &mut W) -> io::Result<()> {
-    writeln!(out, "  no process {number} lives")
 }
 
 /// What was counted, and what the frames and slots hold now.

@@ -1,12 +1,17 @@
 //! Answers about frames and slots.
-ghost use Rattle.machine.specs.Machine.{IsSoundMachine};
+ghost use Rattle.std.specs.Prelude.{◌≡◌, false};
+ghost use Rattle.inspection.specs.Frames.{HasNoMapper, HoldsData, IsMapper};
+ghost use Rattle.inspection.specs.Machines.{memory_of, Tells};
+ghost use Rattle.inspection.specs.Slots.{HasNoPageIn, IsNextSwapped};
+ghost use Rattle.machine.specs.Machine.{halted_of, IsSoundMachine};
+ghost use Rattle.telling.specs.Searches.{is_touched, page_behind, pid_behind};
 
 use disk_model::SectorDisk;
-use inspection::{Holding, SlotHolding};
+use inspection::{Holding, Mapper, SlotHolding};
 use machine::Machine;
 use std::io::{self, Write};
-use vm_types::{FrameNo, PROCESSES, Pid, SlotNo};
-use watching::{HoldingText, PageText, StateText, TableText, slot_in, top_level};
+use vm_types::{FrameNo, SlotNo};
+use watching::{HoldingText, PageText, StateText, TableText, top_level};
 
 /// `?frames`: a line for each frame from `first` to `last` that is not free, and how many of them are. The clock's hand stands at `>`.
 pub(crate) fn tell_frames<W: Write, D: SectorDisk, E: SectorDisk>(
@@ -70,8 +75,10 @@ fn tell_table<W: Write, D: SectorDisk, E: SectorDisk>(
     }
 }
 
+/// Whether what a frame holds is touched: only a page of a file or of shared anonymous memory can be.
 fn is_touched<D: SectorDisk, E: SectorDisk>(machine: &Machine<D, E>, holding: Holding) -> bool
     requires { IsSoundMachine D.SectorDisk E.SectorDisk machine.now }
+    ensures { halted_of machine.now ≡ false → result ≡ is_touched (memory_of machine.now) holding }
 {
     match holding {
         Holding::Page(page) => match inspection::page_view(machine, page) {
@@ -90,17 +97,46 @@ fn tell_mappers<W: Write, D: SectorDisk, E: SectorDisk>(
 ) -> io::Result<()>
     requires { IsSoundMachine D.SectorDisk E.SectorDisk machine.now }
 {
-    let (mut pid, mut page) = (1, 0);
+    let mut last = None;
     for i in 0..u64::MAX {
-        let Some(mapper) = inspection::next_mapper(machine, frame, pid, page) else {
+        let Some(mapper) = mapper_behind(machine, frame, last) else {
             break;
         };
-        pid = u64::from(mapper.pid.get());
-        page = mapper.page.get();
-        write!(out, "  {pid}:0x{page:x} {}", StateText(mapper.entry))?;
-        page += 1;
+        last = Some(mapper);
+        tell_page(&mapper, out)?;
+        write!(out, " {}", StateText(mapper.entry))?;
     }
     Ok(())
+}
+
+/// The page over a frame that comes next behind this one, in the order of processes and pages; the first one where this is none.
+fn mapper_behind<D: SectorDisk, E: SectorDisk>(
+    machine: &Machine<D, E>,
+    frame: FrameNo,
+    last: Option<Mapper>,
+) -> Option<Mapper>
+    requires { IsSoundMachine D.SectorDisk E.SectorDisk machine.now }
+    ensures { Tells machine.now (IsMapper (memory_of machine.now) frame.0 (pid_behind last) (page_behind last))
+        (HoldsData (memory_of machine.now) frame.0 → HasNoMapper (memory_of machine.now) frame.0 (pid_behind last) (page_behind last)) result }
+{
+    let (pid, page) = behind(last);
+    inspection::next_mapper(machine, frame, pid, page)
+}
+
+/// The process and the page at which a search goes on behind that page; those of the first page of all where it is none.
+fn behind(last: Option<Mapper>) -> (u64, u64)
+    ensures pid { result.0 ≡ pid_behind last }
+    ensures page { result.1 ≡ page_behind last }
+{
+    match last {
+        Some(mapper) => (u64::from(mapper.pid.get()), mapper.page.get() + 1),
+        None => (1, 0),
+    }
+}
+
+/// A page with its process.
+fn tell_page<W: Write>(mapper: &Mapper, out: &mut W) -> io::Result<()> {
+    write!(out, "  {}:0x{:x}", mapper.pid.get(), mapper.page.get())
 }
 
 /// `?slots`: a line for each slot that holds something, and how many are free.
@@ -133,35 +169,29 @@ fn tell_own_slot<W: Write, D: SectorDisk, E: SectorDisk>(
     requires { IsSoundMachine D.SectorDisk E.SectorDisk machine.now }
 {
     write!(out, "    slot {}  own copy", slot.0)?;
-    for number in 1..PROCESSES as u64 + 1 {
-        if let Some(pid) = Pid::new(number) {
-            tell_owners(machine, pid, slot, out)?;
-        }
+    let mut last = None;
+    for i in 0..u64::MAX {
+        let Some(owner) = swapped_behind(machine, slot, last) else {
+            break;
+        };
+        last = Some(owner);
+        tell_page(&owner, out)?;
     }
     writeln!(out, "")
 }
 
-/// The pages of a process whose own copy lies in a slot.
-fn tell_owners<W: Write, D: SectorDisk, E: SectorDisk>(
+/// The page whose own copy lies in a slot that comes next behind this one, in the order of processes and pages; the first one where this is none.
+fn swapped_behind<D: SectorDisk, E: SectorDisk>(
     machine: &Machine<D, E>,
-    pid: Pid,
     slot: SlotNo,
-    out: &mut W,
-) -> io::Result<()>
+    last: Option<Mapper>,
+) -> Option<Mapper>
     requires { IsSoundMachine D.SectorDisk E.SectorDisk machine.now }
+    ensures { Tells machine.now (IsNextSwapped (memory_of machine.now) slot.0 (pid_behind last) (page_behind last))
+        (HasNoPageIn (memory_of machine.now) slot.0 (pid_behind last) (page_behind last)) result }
 {
-    let mut low = 0;
-    for i in 0..u64::MAX {
-        let Some(found) = inspection::next_entry(machine, pid, low) else {
-            break;
-        };
-        low = found.page.get();
-        if slot_in(found.entry) == Some(slot) {
-            write!(out, "  {}:0x{low:x}", pid.get())?;
-        }
-        low += 1;
-    }
-    Ok(())
+    let (pid, page) = behind(last);
+    inspection::next_swapped(machine, slot, pid, page)
 }
 
 /// How many frames and slots there are of each kind.

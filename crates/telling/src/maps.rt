@@ -1,5 +1,8 @@
 //! Answers about the pages of a process.
+ghost use Rattle.std.specs.Prelude.{◌≡◌, ◌<◌, ◌&&◌, not, ltb, if◌then◌else◌, is_some};
+ghost use Rattle.sv39_walk.specs.Entry.{is_accessed, is_dirty, is_private, is_swapped, is_valid};
 ghost use Rattle.machine.specs.Machine.{IsSoundMachine};
+ghost use Rattle.telling.specs.Pages.{is_over_zeros, shares_in};
 
 use disk_model::SectorDisk;
 use inspection::{FrameView, Run};
@@ -58,23 +61,44 @@ impl RunCounts {
     }
 
     /// One page.
-    fn of(entry: Pte, frame: Option<FrameView>) -> RunCounts {
+    fn of(entry: Pte, frame: Option<FrameView>) -> RunCounts
+        ensures resident { result.resident ≡ (if is_some frame && not (is_over_zeros entry.0) then 1 else 0) }
+        ensures zeros { result.zeros ≡ (if is_over_zeros entry.0 then 1 else 0) }
+        ensures own { result.own ≡ (if is_some frame && is_private entry.0 then 1 else 0) }
+        ensures shared { result.shared ≡ (if is_some frame && is_private entry.0 && ltb 1 (shares_in frame) then 1 else 0) }
+        ensures swapped { result.swapped ≡ (if is_swapped entry.0 then 1 else 0) }
+        ensures accessed { result.accessed ≡ (if is_valid entry.0 && is_accessed entry.0 then 1 else 0) }
+        ensures dirty { result.dirty ≡ (if is_valid entry.0 && is_dirty entry.0 then 1 else 0) }
+    {
         let is_over_frame = frame.is_some();
-        let is_over_zeros = frame_in(entry) == Some(FrameNo(0));
+        let is_over_zeros = is_over_zeros(entry);
         let is_own = is_over_frame && entry.is_private();
-        let shares = match frame {
-            Some(view) => view.shares,
-            None => 0,
-        };
         RunCounts {
             resident: u64::from(is_over_frame && !is_over_zeros),
             zeros: u64::from(is_over_zeros),
             own: u64::from(is_own),
-            shared: u64::from(is_own && shares > 1),
+            shared: u64::from(is_own && shares_in(frame) > 1),
             swapped: u64::from(entry.is_swapped()),
             accessed: u64::from(entry.is_valid() && entry.is_accessed()),
             dirty: u64::from(entry.is_valid() && entry.is_dirty()),
         }
+    }
+}
+
+/// Whether an entry names the zero page.
+fn is_over_zeros(entry: Pte) -> bool
+    ensures { result ≡ is_over_zeros entry.0 }
+{
+    frame_in(entry) == Some(FrameNo(0))
+}
+
+/// How many share a frame; nobody where there is none.
+fn shares_in(frame: Option<FrameView>) -> u8
+    ensures { result ≡ shares_in frame }
+{
+    match frame {
+        Some(view) => view.shares,
+        None => 0,
     }
 }
 

@@ -1,4 +1,6 @@
 //! What a line that begins with `?` asks.
+ghost use Rattle.std.specs.Prelude.{◌≡◌, codes, IfSome};
+ghost use Rattle.telling.specs.Questions.{Asks, AsksAlone, AsksFrames, AsksWatch, IsOneNumber, name_of};
 
 use std::fmt::{self, Display, Formatter};
 use trace_lang::parse_number;
@@ -103,7 +105,9 @@ pub fn question_in(text: &[u8]) -> Result<Question, Misasked> {
 }
 
 /// The form whose first word that is.
-fn form_named(name: &[u8]) -> Option<Form> {
+fn form_named(name: &[u8]) -> Option<Form>
+    ensures { IfSome result (λ form. name.now ≡ name_of form) }
+{
     match name.len() {
         3 if name == b"tlb".as_slice() => Some(Form::Buffer),
         4 => if name == b"walk".as_slice() {
@@ -134,7 +138,9 @@ fn form_named(name: &[u8]) -> Option<Form> {
 }
 
 /// The question of that form with these words.
-fn question_of(form: Form, words: Words<'_>) -> Option<Question> {
+fn question_of(form: Form, words: Words<'_>) -> Option<Question>
+    ensures { IfSome result (Asks form words.entry) }
+{
     match form {
         Form::Walk => walk_of(words),
         Form::Tables => Some(Question::Tables {
@@ -164,7 +170,9 @@ fn parted(text: &[u8]) -> (&[u8], Words<'_>) {
     (name, rest)
 }
 
-fn walk_of(words: Words<'_>) -> Option<Question> {
+fn walk_of(words: Words<'_>) -> Option<Question>
+    ensures { IfSome result (Asks Form.Walk words.entry) }
+{
     let Words::Two(process, address) = words else {
         return None;
     };
@@ -173,14 +181,18 @@ fn walk_of(words: Words<'_>) -> Option<Question> {
     Some(Question::Walk { pid, addr })
 }
 
-fn process_of(words: Words<'_>) -> Option<u64> {
+fn process_of(words: Words<'_>) -> Option<u64>
+    ensures { IfSome result (IsOneNumber words.entry) }
+{
     match words {
         Words::One(process) => parse_number(process),
         _ => None,
     }
 }
 
-fn frames_of(words: Words<'_>) -> Option<Question> {
+fn frames_of(words: Words<'_>) -> Option<Question>
+    ensures { IfSome result (AsksFrames words.entry) }
+{
     match words {
         Words::None => Some(Question::Frames {
             first: 0,
@@ -195,14 +207,18 @@ fn frames_of(words: Words<'_>) -> Option<Question> {
     }
 }
 
-fn alone(words: Words<'_>, question: Question) -> Option<Question> {
+fn alone(words: Words<'_>, question: Question) -> Option<Question>
+    ensures { IfSome result (AsksAlone words.entry question) }
+{
     match words {
         Words::None => Some(question),
         _ => None,
     }
 }
 
-fn watch_of(words: Words<'_>) -> Option<Question> {
+fn watch_of(words: Words<'_>) -> Option<Question>
+    ensures { IfSome result (AsksWatch words.entry) }
+{
     let Words::One(word) = words else {
         return None;
     };

@@ -1,10 +1,12 @@
 //! Answers about page tables, and about the buffer of translations.
-ghost use Rattle.std.specs.Prelude.{◌≤◌};
+ghost use Rattle.std.specs.Prelude.{◌≡◌, ◌≤◌, Some, IfSome};
+ghost use Rattle.inspection.specs.Machines.{memory_of};
 ghost use Rattle.machine.specs.Machine.{IsSoundMachine};
 
 use disk_model::SectorDisk;
 use inspection::{Line, Step};
 use machine::Machine;
+use memory::LINES;
 use std::io::{self, Write};
 use sv39_walk::Pte;
 use vm_types::{FrameNo, PAGE_BYTES, PROCESSES, Pid};
@@ -12,9 +14,6 @@ use watching::{BitsText, EntryText, Way, bytes_before, pages_of_entry, top_level
 
 /// The bytes of an entry.
 const ENTRY_BYTES: usize = 8;
-
-/// The lines of the buffer of translations.
-const BUFFER_LINES: usize = 64;
 
 /// `?walk P ADDR`: a line for each table on the way of an address, and where the way ends.
 pub(crate) fn tell_walk<W: Write, D: SectorDisk, E: SectorDisk>(
@@ -148,7 +147,7 @@ pub(crate) fn tell_buffer<W: Write, D: SectorDisk, E: SectorDisk>(
 ) -> io::Result<()>
     requires { IsSoundMachine D.SectorDisk E.SectorDisk machine.now }
 {
-    for index in 0..BUFFER_LINES {
+    for index in 0..LINES {
         if let Some(line) = inspection::line(machine, index) {
             tell_line(index, &line, machine, out)?;
         }
@@ -184,6 +183,7 @@ fn process_of_root<D: SectorDisk, E: SectorDisk>(
     root: FrameNo,
 ) -> Option<Pid>
     requires { IsSoundMachine D.SectorDisk E.SectorDisk machine.now }
+    ensures { IfSome result (λ pid. (memory_of machine.now).root pid ≡ Some root.0) }
 {
     for number in 1..PROCESSES as u64 + 1 {
         let pid = Pid::new(number)?;

@@ -1,11 +1,12 @@
 -- How the books of frames balance.
-use Rattle.std.specs.Prelude.{◌≡◌, ℕ, ◌+◌, ◌-◌, ◌<◌, ◌^◌}
+use Rattle.std.specs.Prelude.{◌≡◌, ℕ, ◌+◌, ◌-◌, ◌<◌, ◌≤◌, ◌^◌}
 use Rattle.watching.specs.declared.events.Event.{Event}
 use Rattle.watching.specs.declared.events.Event.TheVariants.{Evicted, Released, Filled, Shared, TableMade, TableFreed, EntrySet}
 use Rattle.watching.specs.declared.events.Refuge.{Refuge}
 use Rattle.watching.specs.declared.events.Refuge.TheVariants as To
 use Rattle.watching.specs.declared.events.Source.{Source}
 use Rattle.watching.specs.declared.events.Source.TheVariants as From
+use Rattle.watching.specs.declared.counts.Count.{Count}
 use Rattle.watching.specs.declared.counts.FrameCounts.{FrameCounts}
 
 -- Every frame that was filled was filled in one of four ways, and every one that was given up lost its page in one of two.
@@ -76,3 +77,21 @@ IsOfCause (Shared frame content now before) old new = Unit {0}
 IsOfCause (TableMade frame place top) old new = Unit {0}
 IsOfCause (TableFreed frame) old new = Unit {0}
 IsOfCause (EntrySet pid page now before) old new = Unit {0}
+
+-- a number went up by one, if it has not come to its end
+abbrev pub IsOneMore : Count → Count → Type 0
+IsOneMore old new = old.0 < 2 ^ 64 - 1 → new.0 ≡ old.0 + 1
+
+-- The books of frames were kept on:
+pub record KeepsBooks (old new : FrameCounts) : Type 0 where
+  -- no number fell,
+  pub filled : old.filled.0 ≤ new.filled.0
+  pub evictions : old.evictions.0 ≤ new.evictions.0
+  pub released : old.released.0 ≤ new.released.0
+  -- and if they were balanced they are, as long as no number has come to its end.
+  pub balance : HasCountRoom new → IsBalanced old → IsBalanced new
+
+-- no frame was filled from a device
+pub record ReadsNothing (old new : FrameCounts) : Type 0 where
+  pub image : new.from_image ≡ old.from_image
+  pub slot : new.from_slot ≡ old.from_slot

@@ -1,2 +1,4 @@
 pub mod Books
+pub mod Changes
+pub mod Entries
 pub mod WaySteps

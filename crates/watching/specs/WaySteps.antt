@@ -7,6 +7,15 @@ use Rattle.inspection.specs.Walks.{IsStep}
 use Rattle.inspection.specs.declared.walks.Step.{Step}
 use Rattle.machine.specs.declared.machine.Machine.{Machine}
 
+-- the first of two that is there
+abbrev pub step_or : Option Step → Option Step → Option Step
+step_or None other = other
+step_or (Some step) other = Some step
+
+-- what the last of at most four tables on a way says
+abbrev pub last_step : List (Option Step) → Option Step
+last_step steps = step_or (slice_index_or steps 3 None) (step_or (slice_index_or steps 2 None) (step_or (slice_index_or steps 1 None) (slice_index_or steps 0 None)))
+
 module _ {D E : Type 0} where
   -- after a step on the way to a page comes what the next table says, one level lower, or nothing where the way ends
   abbrev pub StepsFrom : Machine D E → ℕ → ℕ → Option Step → Option Step → Type 0

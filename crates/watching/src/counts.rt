@@ -1,5 +1,6 @@
 //! What is counted, in books that balance.
-ghost use Rattle.std.specs.Prelude.{◌≡◌, ◌<◌, ◌+◌, ◌-◌, ◌^◌};
+ghost use Rattle.std.specs.Prelude.{◌≡◌, ◌<◌, ◌≤◌, ◌+◌, ◌-◌, ◌^◌, true, false};
+ghost use Rattle.watching.specs.Books.{IsOneMore, ReadsNothing};
 
 use std::fmt::{self, Display, Formatter};
 
@@ -10,7 +11,8 @@ pub struct Count(u64);
 impl Count {
     /// One more.
     pub(crate) fn add(&mut self)
-        ensures { self.old.0 < 2 ^ 64 - 1 → self.new.0 ≡ self.old.0 + 1 }
+        ensures more { self.old.0 < 2 ^ 64 - 1 → self.new.0 ≡ self.old.0 + 1 }
+        ensures rises { self.old.0 ≤ self.new.0 }
     {
         self.0 = self.0.saturating_add(1);
     }
@@ -99,9 +101,28 @@ pub struct CallCounts {
     pub stalled: Count,
 }
 
+impl FaultCounts {
+    /// Counts a page fault, by whether a page was read for it.
+    pub(crate) fn note(&mut self, is_major: bool)
+        ensures all { IsOneMore self.old.all self.new.all }
+        ensures major { is_major ≡ true → IsOneMore self.old.major self.new.major × (self.new.minor ≡ self.old.minor) }
+        ensures minor { is_major ≡ false → IsOneMore self.old.minor self.new.minor × (self.new.major ≡ self.old.major) }
+    {
+        self.all.add();
+        if is_major {
+            self.major.add();
+        } else {
+            self.minor.add();
+        }
+    }
+}
+
 impl FrameCounts {
     /// Whether a page was read from a device since then.
-    pub(crate) fn reads_since(&self, before: &FrameCounts) -> bool {
+    pub(crate) fn reads_since(&self, before: &FrameCounts) -> bool
+        ensures none { result ≡ false → ReadsNothing before.now self.now }
+        ensures some { result ≡ true → ReadsNothing before.now self.now → ⊥ }
+    {
         self.from_image != before.from_image || self.from_slot != before.from_slot
     }
 }

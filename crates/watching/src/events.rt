@@ -1,6 +1,6 @@
 //! What a command did inside, as things that happened.
-ghost use Rattle.std.specs.Prelude.{◌≡◌, ◌+◌};
-ghost use Rattle.watching.specs.Books.{HasCountRoom, IsBalanced, IsTallied, IsFilledFrom, IsLostTo, IsOfCause};
+ghost use Rattle.std.specs.Prelude.{◌≡◌, ◌≤◌, ◌+◌};
+ghost use Rattle.watching.specs.Books.{HasCountRoom, IsBalanced, IsTallied, IsFilledFrom, IsLostTo, IsOfCause, KeepsBooks};
 
 use crate::counts::{Counts, FrameCounts};
 use crate::texts::{EntryText, PageText, TableText};
@@ -91,6 +91,7 @@ impl Counts {
         ensures counted { HasCountRoom self.old.frames → IsTallied event.now self.old.frames self.new.frames }
         ensures cause { HasCountRoom self.old.frames → IsBalanced self.old.frames → IsOfCause event.now self.old.frames self.new.frames }
         ensures balance { HasCountRoom self.old.frames → IsBalanced self.old.frames → IsBalanced self.new.frames }
+        ensures books { KeepsBooks self.old.frames self.new.frames }
     {
         match event {
             Event::Evicted { refuge, .. } => self.frames.note_eviction(*refuge),
@@ -107,6 +108,7 @@ impl FrameCounts {
     /// Counts a frame that was given up.
     fn note_eviction(&mut self, refuge: Refuge)
         ensures evictions { HasCountRoom self.old → self.new.evictions.0 ≡ self.old.evictions.0 + 1 }
+        ensures rises { self.old.evictions.0 ≤ self.new.evictions.0 }
         ensures refuge { HasCountRoom self.old → IsBalanced self.old → IsLostTo refuge self.old self.new }
         ensures filled { self.new.filled ≡ self.old.filled }
         ensures released { self.new.released ≡ self.old.released }
@@ -122,6 +124,7 @@ impl FrameCounts {
     /// Counts a frame that was filled.
     fn note_fill(&mut self, source: Source)
         ensures filled { HasCountRoom self.old → self.new.filled.0 ≡ self.old.filled.0 + 1 }
+        ensures rises { self.old.filled.0 ≤ self.new.filled.0 }
         ensures source { HasCountRoom self.old → IsBalanced self.old → IsFilledFrom source self.old self.new }
         ensures evictions { self.new.evictions ≡ self.old.evictions }
         ensures released { self.new.released ≡ self.old.released }

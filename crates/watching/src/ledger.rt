@@ -1,7 +1,8 @@
 //! What each command did inside, found by comparing what frames held before it and after it.
-ghost use Rattle.std.specs.Prelude.{IfOk};
+ghost use Rattle.std.specs.Prelude.{◌≡◌, ◌≢◌, IfOk, IfSome, IsNone};
 ghost use Rattle.machine.specs.Machine.{IsSoundMachine};
-ghost use Rattle.watching.specs.Books.{IsBalanced};
+ghost use Rattle.watching.specs.Books.{HasCountRoom, IsBalanced, IsOfCause, IsOneMore, IsTallied, KeepsBooks, ReadsNothing};
+ghost use Rattle.watching.specs.Changes.{IsLoss, IsSharing, content_in};
 
 use crate::counts::{Counts, FrameCounts};
 use crate::events::{Content, Event, Refuge, Source};
@@ -80,6 +81,7 @@ impl Ledger {
         out: &mut W,
     ) -> io::Result<()>
         requires { IsSoundMachine D.SectorDisk E.SectorDisk inquiry.now.machine.now }
+        ensures books { KeepsBooks self.old.counts.frames self.new.counts.frames }
     {
         let count = self.frames.len();
         for n in 0..u32::MAX {
@@ -100,6 +102,7 @@ impl Ledger {
         out: &mut W,
     ) -> io::Result<()>
         requires { IsSoundMachine D.SectorDisk E.SectorDisk machine.now }
+        ensures books { KeepsBooks self.old.counts.frames self.new.counts.frames }
     {
         let way = Way::new(machine, target.pid, target.page);
         let now = way.entry().unwrap_or(Pte(0));
@@ -129,19 +132,21 @@ impl Ledger {
     }
 
     /// Counts an access that found no translation kept, by its page's entry before and after it, and by the frames that were filled meanwhile.
-    fn count_access(&mut self, old: Pte, now: Pte, before: &FrameCounts) {
+    fn count_access(&mut self, old: Pte, now: Pte, before: &FrameCounts)
+        ensures walk { now ≡ old → self.old.counts.frames.filled ≡ before.now.filled → IsOneMore self.old.counts.accesses.walks self.new.counts.accesses.walks }
+        ensures fault { now ≢ old → IsOneMore self.old.counts.page_faults.all self.new.counts.page_faults.all }
+        ensures major { now ≢ old → (ReadsNothing before.now self.old.counts.frames → ⊥) → IsOneMore self.old.counts.page_faults.major self.new.counts.page_faults.major }
+        ensures minor { now ≢ old → ReadsNothing before.now self.old.counts.frames → IsOneMore self.old.counts.page_faults.minor self.new.counts.page_faults.minor }
+        ensures frames { self.new.counts.frames ≡ self.old.counts.frames }
+    {
         let is_filled = self.counts.frames.filled != before.filled;
         if now == old && !is_filled {
             self.counts.accesses.walks.add();
             return;
         }
+        let is_major = self.counts.frames.reads_since(before);
         let faults = &mut self.counts.page_faults;
-        faults.all.add();
-        if self.counts.frames.reads_since(before) {
-            faults.major.add();
-        } else {
-            faults.minor.add();
-        }
+        faults.note(is_major);
         if is_filled {
             return;
         }
@@ -162,6 +167,7 @@ impl Ledger {
         out: &mut W,
     ) -> io::Result<()>
         requires { IsSoundMachine D.SectorDisk E.SectorDisk inquiry.now.machine.now }
+        ensures books { KeepsBooks self.old.counts.frames self.new.counts.frames }
     {
         let Some(view) = inspection::frame_view(inquiry.machine, n) else {
             return Ok(());
@@ -191,7 +197,12 @@ impl Ledger {
     }
 
     /// Counts what happened, and tells it where that is wanted.
-    fn tell<W: Write>(&mut self, event: Option<Event>, out: &mut W) -> io::Result<()> {
+    fn tell<W: Write>(&mut self, event: Option<Event>, out: &mut W) -> io::Result<()>
+        ensures counted { IfSome event (λ event. HasCountRoom self.old.counts.frames → IsTallied event self.old.counts.frames self.new.counts.frames) }
+        ensures cause { IfSome event (λ event. HasCountRoom self.old.counts.frames → IsBalanced self.old.counts.frames → IsOfCause event self.old.counts.frames self.new.counts.frames) }
+        ensures none { IsNone event → self.new.counts ≡ self.old.counts }
+        ensures books { KeepsBooks self.old.counts.frames self.new.counts.frames }
+    {
         let Some(event) = event else {
             return Ok(());
         };
@@ -207,6 +218,7 @@ impl<D: SectorDisk, E: SectorDisk> Inquiry<'_, D, E> {
     /// What a frame lost.
     fn loss_of(&self, frame: FrameNo, was: &Held) -> Option<Event>
         requires { IsSoundMachine D.SectorDisk E.SectorDisk self.now.machine.now }
+        ensures { IsLoss self.now.is_asking frame was.now result }
     {
         if was.view.holding == Holding::Table {
             return Some(Event::TableFreed { frame });
@@ -296,7 +308,9 @@ fn pid_of(mapper: Option<Mapper>) -> Option<Pid> {
 }
 
 /// How many share an own copy now.
-fn sharing_of(frame: FrameNo, was: &Held, held: &Held) -> Option<Event> {
+fn sharing_of(frame: FrameNo, was: &Held, held: &Held) -> Option<Event>
+    ensures { IsSharing frame was.now held.now result }
+{
     let Holding::Own(page) = held.view.holding else {
         return None;
     };
@@ -343,7 +357,9 @@ fn frame_behind<D: SectorDisk, E: SectorDisk>(
 }
 
 /// The page that a frame holds.
-fn content_of(held: &Held) -> Option<Content> {
+fn content_of(held: &Held) -> Option<Content>
+    ensures { result ≡ content_in held.now.owner held.now.view.holding }
+{
     match held.view.holding {
         Holding::Own(page) => Some(Content::Own {
             pid: held.owner,

@@ -1,5 +1,7 @@
 //! A command, and what it did.
 ghost use Rattle.machine.specs.Machine.{IsSoundMachine};
+ghost use Rattle.std.specs.Prelude.{◌≡◌};
+ghost use Rattle.watching.specs.Books.{KeepsBooks};
 
 use crate::counts::{AccessCounts, CallCounts, Counts};
 use crate::ledger::{Inquiry, Ledger};
@@ -82,6 +84,7 @@ impl Pending {
         out: &mut W,
     ) -> io::Result<()>
         requires { IsSoundMachine D.SectorDisk E.SectorDisk machine.now }
+        ensures books { KeepsBooks ledger.old.counts.frames ledger.new.counts.frames }
     {
         ledger.counts.commands.add();
         match self.count(outcome, machine.hits(), &mut ledger.counts) {
@@ -101,7 +104,9 @@ impl Pending {
     }
 
     /// Counts the command. So many accesses have found a translation kept by now.
-    fn count(&self, outcome: Outcome, hits: u64, counts: &mut Counts) -> Reach<'_> {
+    fn count(&self, outcome: Outcome, hits: u64, counts: &mut Counts) -> Reach<'_>
+        ensures { counts.new.frames ≡ counts.old.frames }
+    {
         match self.command {
             Command::Load { .. } => counts.accesses.loads.add(),
             Command::Store { .. } => counts.accesses.stores.add(),

@@ -1,5 +1,6 @@
 //! How things are called in what is told.
 ghost use Rattle.std.specs.Prelude.{◌≡◌, ◌<◌, ◌*◌, ◌^◌};
+ghost use Rattle.watching.specs.Entries.{said_in};
 
 use inspection::{Holding, TablePlace};
 use std::fmt::{self, Display, Formatter};
@@ -43,14 +44,13 @@ pub struct EntryText(pub Pte);
 impl Display for EntryText {
     fn fmt<W: fmt::Write>(&self, f: &mut Formatter<W>) -> fmt::Result {
         let entry = self.0;
-        if entry.to_u64() == 0 {
-            return f.write_str("nothing");
-        }
-        if entry.is_pointer() {
-            return write!(f, "{} table in frame {}", BitsText(entry), entry.frame());
-        }
-        if entry.is_swapped() {
-            return write!(f, "slot {}", entry.frame());
+        match said_in(entry) {
+            Said::Nothing => return f.write_str("nothing"),
+            Said::Table => {
+                return write!(f, "{} table in frame {}", BitsText(entry), entry.frame());
+            }
+            Said::Slot => return write!(f, "slot {}", entry.frame()),
+            Said::Leaf | Said::Parked => {}
         }
         write!(f, "{} frame {}", StateText(entry), entry.frame())?;
         if entry.is_private() {
@@ -60,16 +60,44 @@ impl Display for EntryText {
     }
 }
 
+/// What an entry says, by its kind.
+#[derive(Clone, Copy)]
+enum Said {
+    Nothing,
+    Table,
+    Slot,
+    /// A frame, and what is allowed of it.
+    Leaf,
+    /// A frame that is kept, of which nothing is allowed.
+    Parked,
+}
+
+/// What an entry says.
+fn said_in(entry: Pte) -> Said
+    ensures { result ≡ said_in entry.0 }
+{
+    if entry.to_u64() == 0 {
+        Said::Nothing
+    } else if entry.is_pointer() {
+        Said::Table
+    } else if entry.is_swapped() {
+        Said::Slot
+    } else if entry.is_valid() {
+        Said::Leaf
+    } else {
+        Said::Parked
+    }
+}
+
 /// The bits of an entry over a frame, or `parked` where it keeps the frame and allows nothing.
 #[derive(Drop)]
 pub struct StateText(pub Pte);
 
 impl Display for StateText {
     fn fmt<W: fmt::Write>(&self, f: &mut Formatter<W>) -> fmt::Result {
-        if self.0.is_valid() {
-            BitsText(self.0).fmt(f)
-        } else {
-            f.write_str("parked")
+        match said_in(self.0) {
+            Said::Parked => f.write_str("parked"),
+            _ => BitsText(self.0).fmt(f),
         }
     }
 }

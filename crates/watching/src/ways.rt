@@ -1,11 +1,12 @@
 //! The way of an address through the page tables of its process.
-ghost use Rattle.std.specs.Prelude.{ℕ, ◌≡◌, ◌<◌, ◌≤◌, ◌^◌, true, false, IfSome, IfNone};
+ghost use Rattle.std.specs.Prelude.{ℕ, ◌≡◌, ◌<◌, ◌≤◌, ◌^◌, true, false, Some, IfSome, IfNone};
 ghost use Rattle.sv39_walk.specs.Entry.{frame_of, is_swapped};
 ghost use Rattle.inspection.specs.Walks.{IsStepOfSome};
 ghost use Rattle.machine.specs.Machine.{bits_of, mode_of, IsSoundMachine};
 ghost use Rattle.inspection.specs.Machines.{memory_of};
 ghost use Rattle.vm_types.specs.Limits.{top_level, user_end};
-ghost use Rattle.watching.specs.WaySteps.{StepsFrom, IsWayOf};
+ghost use Rattle.inspection.specs.declared.walks.Step.{Step};
+ghost use Rattle.watching.specs.WaySteps.{StepsFrom, IsWayOf, last_step};
 
 use disk_model::SectorDisk;
 use inspection::Step;
@@ -35,13 +36,18 @@ impl Way {
     }
 
     /// What the last table on the way says.
-    pub fn last(&self) -> Option<Step> {
+    pub fn last(&self) -> Option<Step>
+        ensures { result ≡ last_step self.now.steps }
+    {
         let [root, second, third, fourth] = self.steps;
         fourth.or(third).or(second).or(root)
     }
 
     /// The entry of the page itself; `None` where a table is missing on the way.
-    pub fn entry(&self) -> Option<Pte> {
+    pub fn entry(&self) -> Option<Pte>
+        ensures some { IfSome result (λ entry. (step : Step) × (last_step self.now.steps ≡ Some step) × (step.level ≡ 0) × (step.entry ≡ entry)) }
+        ensures none { IfNone result ((step : Step) → last_step self.now.steps ≡ Some step → 0 < step.level) }
+    {
         match self.last() {
             Some(
                 Step {
@@ -108,7 +114,7 @@ pub fn user_end<D, E>(machine: &Machine<D, E>) -> u64
 
 /// The frame that a page's entry names; `None` where it says nothing, or names a slot.
 pub fn frame_in(entry: Pte) -> Option<FrameNo>
-    ensures frame { IfSome result (λ frame. (frame.0 ≡ frame_of entry.0) × (is_swapped entry.0 ≡ false)) }
+    ensures frame { IfSome result (λ frame. (0 < entry.0) × (frame.0 ≡ frame_of entry.0) × (is_swapped entry.0 ≡ false)) }
     ensures none { IfNone result (0 < entry.0 → is_swapped entry.0 ≡ false → 2 ^ 32 ≤ frame_of entry.0) }
 {
     if entry.to_u64() == 0 || entry.is_swapped() {

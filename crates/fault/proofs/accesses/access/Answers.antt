@@ -1,7 +1,11 @@
 use Rattle.fault.proofs.Names.{user_end, Fine, FrameNo, Phys, Stall, ℕ, refl, Ok, Err, Result, ◌/◌, ◌<◌, sym, ap, ◌∙◌, subst, Core, picture_of}
 use Rattle.fault.{specs.{Outcome.{seen_at}, Serving.{Reaches, Serves}}, proofs.{Serving.{reaches_stall, tends_none}, Ready.{placed_made, grants_made, page_user}, Wanted.{root_live, walked_same, no_walk}}}
 use Rattle.fault.specs.declared.refusal.AccessRefusal.TheVariants as Refusal
+use Rattle.fault.{proofs.Names.{◌≡◌, ◌+◌, ◌*◌, ◌%◌, Some, arith, inl, inr}, specs.Granted.{IsEntered}}
 use Rattle.fault.proofs.accesses.access.Goals as goal
+
+there : (frame addr : ℕ) → frame ≡ (frame * 4096 + addr % 4096) / 4096
+there frame addr = omega arith
 
 pub returns-in-Place : goal.returns-in-Place
 returns-in-Place g c =
@@ -15,6 +19,7 @@ returns-in-Place g c =
     (record {
       tends = tends_none g.D.SectorDisk g.E.SectorDisk before pid (addr / 4096) c.args.access c.requires.fit c.requires.store c.requires.swap;
       placed = found.0;
+      entered = inl refl;
       walked = λ place walked. (refl, ap (λ p. Ok p) (walked_same old pid addr c.args.width c.args.access c.in-Place.place place found.0 walked));
       granted = λ trusted. found.1;
       counts = (refl, refl, refl);
@@ -31,6 +36,7 @@ returns-in-Fault g c =
     (record {
       tends = tends_none g.D.SectorDisk g.E.SectorDisk before pid (addr / 4096) c.args.access c.requires.fit c.requires.store c.requires.swap;
       placed = tt;
+      entered = tt;
       walked = λ place walked. absurd (no_walk (picture_of before) pid addr c.args.width c.args.access c.in-Fault.code place c.in-Fault.ensures.found walked);
       granted = λ trusted. tt;
       counts = tt;
@@ -75,12 +81,16 @@ returns-in_ok-frame-in-Page g c =
     let fine = found.fine ∙ ap (λ k. Fine (seen_at old pid k attr)) found.page_is in
     let root = root_live old pid c.requires.lives in
     let R : ℕ → Type 0 = λ x. x < user_end g.M.Levels.mode in
+    let A : ℕ → Type 0 = λ x. old.at pid x ≡ Some attr in
+    let mapped = subst A found.page_is found.allowed.mapped in
+    let N : ℕ → Type 0 = λ x. IsEntered new pid (addr / 4096) attr access x in
     subst (λ (x : Phys). Reaches g.D.SectorDisk g.E.SectorDisk before after pid addr width access (Ok x)) (sym c.place_in.ensures)
     (record {
       tends = serves.tends;
       placed = placed_made old new pid root.0 addr width access attr frame.0 serves.proceeds.fit (serves.proceeds.spaces.root pid ∙ root.1)
           (subst R found.page_is (page_user old pid c.in-Page.way.page attr c.requires.fit found.allowed.mapped).1) fine serves.entered;
       walked = λ place walked. absurd (found.unwalked walked.root place walked.lives walked.place);
+      entered = inr (attr, mapped, subst N (there frame.0 addr) serves.entered);
       granted = λ trusted. grants_made old new pid addr width access attr frame.0 fine (serves.ready trusted);
       counts = serves.counts;
       refusal = tt;

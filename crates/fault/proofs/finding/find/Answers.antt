@@ -45,8 +45,7 @@ module _ {M : Type 0} {m : Levels.Ghosts M} {D E : Type 0} (c : Core D E M m) wh
       subst (λ (x : FrameTable). (is : Always x) → with_frames x is ≡ c) (sym e) (λ is. ap (with_frames c.frames) (always_prop c.frames is now))
 
 err_not_ok : (r : Result Phys WalkFault) (p : Phys) → IsErr r → r ≡ Ok p → ⊥
-err_not_ok r p err is =
-    false≢true (subst (λ (x : Result Phys WalkFault). IsErr x) is err)
+err_not_ok r p err is = false≢true (subst (λ (x : Result Phys WalkFault). IsErr x) is err)
 
 named : (Q : Type 0) (P : FrameNo → Type 0) (o : Option FrameNo) → MatchOption o Q P → IfSome o P
 named Q P None is = tt

@@ -66,12 +66,12 @@ returns g c =
         read = read_then before between pid page file shows after.store asked.may.spot.linked.fit done.moves.store first.read;
         tables = links_no_table old new pid page made;
         pointers = made.pointers;
-        asks = asks_copied g.D.SectorDisk g.E.SectorDisk before between pid page Store file shows first.asks first.asks_store after c.in_ok-cached.field-0 (copied_frame mid pid page attr)
+        asks = asks_copied g.D.SectorDisk g.E.SectorDisk before between pid page Store file shows first.asks first.once_store after c.in_ok-cached.field-0 (copied_frame mid pid page attr)
             (copies_cached mid pid page attr c.args.file_page c.in_ok-cached.field-0 asked.private none first.placed) first.asks_later
             (brought_out old mid pid page file c.in_ok-cached.field-0 shows first.proceeds.room.frames first.only (λ n is. ap (λ (k : Core _ _ _ _). picture_of k) (idle n is).0)) done.moves.store done.asks;
       };
       entered = owned_entered mid new pid page attr between.sound done.moves.fit after.sound now alone asked.may.allowed.lets here
-          (λ common. (c.in_ok-cached.field-0.0, behind_of mid attr.backing file c.in_ok-cached.field-0.0 backs first.placed)) done.behind done.others done.files r done.bytes done.entered;
+          (λ common. (c.in_ok-cached.field-0.0, behind_of mid attr.backing file c.in_ok-cached.field-0.0 backs first.placed)) done.behind done.others done.files r done.bytes done.entered done.sole;
       ready = λ trusted. ok_then (λ n. IsReadyAt mid new pid page attr Store n.0) (λ n. IsReadyAt old new pid page attr Store n.0) r (λ n. ready_after old mid new pid page attr Store n.0 mapped at first.keeps)
           (owned_ready mid new pid page attr between.sound done.moves.fit after.sound now alone asked.may.allowed.lets here
           (λ common. (c.in_ok-cached.field-0.0, behind_of mid attr.backing file c.in_ok-cached.field-0.0 backs first.placed)) done.behind done.others done.files r done.bytes done.entered);

@@ -17,7 +17,7 @@ returns g c =
     record {
       tends = tends_moved g.D.SectorDisk g.E.SectorDisk before after pid page Store (copied_frame old pid page attr) Nothing asked.may.store done.moves done.files done.others done.slotted
           (owned_calm before after pid page attr asked.may.allowed.mapped asked.not_shared done.calm) (λ k none. absurd none) done.asks done.no_table;
-      entered = owned_entered old new pid page attr before.sound done.moves.fit after.sound at asked.not_shared asked.may.allowed.lets asked.here asked.in_memory done.behind done.others done.files r done.bytes done.entered;
+      entered = owned_entered old new pid page attr before.sound done.moves.fit after.sound at asked.not_shared asked.may.allowed.lets asked.here asked.in_memory done.behind done.others done.files r done.bytes done.entered done.sole;
       ready = λ trusted. owned_ready old new pid page attr before.sound done.moves.fit after.sound at asked.not_shared asked.may.allowed.lets asked.here asked.in_memory done.behind done.others done.files r done.bytes done.entered;
       counts = counts_done g.D.SectorDisk g.E.SectorDisk before after r done.moves.store done.cause;
       stalled = owned_stalled before after pid page attr asked.may.allowed.mapped asked.not_shared g.D.SectorDisk g.E.SectorDisk r asked.may.spot.linked asked.here asked.in_memory done.behind done.moves done.files done.same

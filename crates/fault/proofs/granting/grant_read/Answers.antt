@@ -1,6 +1,16 @@
 use Rattle.fault.proofs.{AccessSteps.{counts_then, counts_calm}, Entered.{read_ready, read_entered}, Forms.{mapped_page, used_inside, resident_used, seat_zero, behind_of}, Names.{◌≢◌, ℕ, Ok, sym, ap, ◌∙◌, subst, arith, rules, frame_of}}
 use Rattle.fault.{proofs.{Names.{Picture, picture_of, entry}, Serving.{may_bring, shows_at, serves_entered, serves_away, stands_brought, open_brought, none_brought, tends_shown}, Steps.{seen_then}}, specs.Serving.{Serves}}
+use Rattle.fault.{proofs.{Names.{◌≡◌, ◌&&◌, Attr, Backing, Bool, Core, IsEntryOver, false, is_shared}, Settled.{full_same}}, specs.{FramesShown.{ShowsFully}, Leaves.{IsFullEntry, is_touched_behind}, declared.spot.Spot.{Spot}}}
+use Rattle.std.proofs.Common.{List, slice_index_or}
+use Rattle.vm_types.specs.declared.region.Backing.TheVariants.{Anon}
+use Rattle.vm_types.specs.declared.mode.Levels as Levels
+use Rattle.vm_types.specs.Permission as Permission
 use Rattle.fault.proofs.granting.grant_read.Goals as goal
+
+full_shown : {M : Type 0} {m : Levels.Ghosts M} {D E : Type 0} {old new : Core D E M m} {spot : Spot} {a : Attr} {frame : ℕ} {private : Bool} → ShowsFully old new spot a frame private
+    → IsFullEntry (picture_of new) a frame private (entry (picture_of new) spot.pid spot.page)
+full_shown {old = old} {new = new} {spot = spot} {a = a} {frame = frame} {private = private} shows =
+    full_same (picture_of old) (picture_of new) a frame private _ (ap (λ (counts : List ℕ). slice_index_or counts frame 0) shows.enters.calm.frames.counts) shows.files.touched shows.entry
 
 pub regrant-requires : goal.regrant-requires
 regrant-requires g c =
@@ -51,10 +61,16 @@ show_cached-requires-clause-none g c =
 pub returns-then-to_u64-ne0 : goal.returns-then-to_u64-ne0
 returns-then-to_u64-ne0 g c access reads lets =
     let P : ℕ → Type 0 = λ x. Serves g.D.SectorDisk g.E.SectorDisk c.args.core.now c.regrant.new.core c.args.spot.now.pid c.args.spot.now.page c.args.attr.now access (Ok (record { 0 = x })) in
-    subst P (sym (c.frame_number.ensures ∙ ap frame_of c.requires.was)) (serves_entered c.requires.may.1 c.regrant.ensures access reads lets)
+    subst P (sym (c.frame_number.ensures ∙ ap frame_of c.requires.was)) (serves_entered c.requires.may.1 c.regrant.ensures (full_shown c.regrant.ensures) access reads lets)
 
 pub returns-in-None : goal.returns-in-None
-returns-in-None g c access reads lets = serves_entered c.requires.may.1 c.show_zero.ensures access reads lets
+returns-in-None g c access reads lets =
+    let a = c.args.attr.now in
+    let cw = Permission.can_write a.prot in
+    let new = picture_of c.show_zero.new.core in
+    let anon : a.backing ≡ Anon = search rules in
+    let P : Backing → Type 0 = λ b. IsEntryOver (entry new c.args.spot.now.pid c.args.spot.now.page) a.prot 0 false (is_shared b && cw) (is_touched_behind new b && cw) in
+    serves_entered c.requires.may.1 c.show_zero.ensures (subst P (sym anon) c.show_zero.ensures.entry) access reads lets
 
 pub returns-in_err-frame-in-Some : goal.returns-in_err-frame-in-Some
 returns-in_err-frame-in-Some g c access reads lets =
@@ -84,7 +100,7 @@ returns-in_ok-frame-in-Some g c access reads lets =
     let seen = seen_then old mid new first.keeps (record { views = enters.views; touched = files.touched }) in
     record {
       tends = tends_shown g.D.SectorDisk g.E.SectorDisk before between pid page access stored shows c.requires.may.1.spot.linked.fit after _ first (λ n at. (idle n at).0) enters files.held files.files;
-      entered = read_entered old new pid page c.args.attr.now access frame _ _ _ enters.fit after.sound mapped now seen c.show_cached.ensures.entry reads lets;
+      entered = read_entered old new pid page c.args.attr.now access frame _ _ _ enters.fit after.sound mapped now seen c.show_cached.ensures.entry reads lets (full_shown c.show_cached.ensures);
       ready = λ trusted. read_ready old new pid page c.args.attr.now access frame _ _ _ enters.fit after.sound mapped now seen c.show_cached.ensures.entry reads lets;
       counts = counts_then g.D.SectorDisk g.E.SectorDisk before between after first.cause (counts_calm g.D.SectorDisk g.E.SectorDisk between after pid page enters.calm);
       stalled = tt;

@@ -40,12 +40,7 @@ returns-in-Ok g c =
     let P : ℕ → Type 0 = λ x. missing_of c.loop-table.core.frames (top_level g.M.Levels.mode) x c.args.page ≡ 0 in
     let Q : ℕ → Type 0 = λ x. IsTableOf c.loop-table.core.frames (top_level g.M.Levels.mode) x (c.args.page / 512) c.in-Ok.table.0 in
     record {
-      links = record {
-        takes = takes_done g.E.SectorDisk c.args.core.now c.loop-table.core tt _ k.takes;
-        tables = k.tables;
-        slotted = k.slotted;
-        wanted = tt;
-      };
+      links = record { takes = takes_done g.E.SectorDisk c.args.core.now c.loop-table.core tt _ k.takes; tables = k.tables; slotted = k.slotted; wanted = tt };
       idle = λ whole. (k.idle (whole c.root_of-root.result.0 c.root_of-root.ensures), tt);
       whole = λ r lives. subst P (same_Some c.root_of-root.result.0 r (sym k.root ∙ lives)) (c.in-Ok.ensures.found.whole c.args.page refl);
       table = λ r lives. subst Q (same_Some c.root_of-root.result.0 r (sym k.root ∙ lives)) c.in-Ok.ensures.found;

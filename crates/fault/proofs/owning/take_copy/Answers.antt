@@ -1,6 +1,10 @@
-use Rattle.fault.proofs.Names.{◌≢◌, Some, refl, sym, ap, ◌∙◌, subst, arith, rules, Nothing, FrameTable, IsFrame, bytes_of, role_of, count_of, with_bytes-others, with_bytes-same, Picture, picture_of, ChangesFrame}
+use Rattle.fault.proofs.Names.{◌≢◌, Some, refl, sym, ap, ◌∙◌, subst, arith, rules, Nothing, ℕ, ◌≡◌, ◌<◌, FrameTable, frame_count, IsFrame, IsSound, bytes_of, role_of, count_of, with_bytes-others, with_bytes-same, Picture, picture_of, ChangesFrame}
 use Rattle.fault.proofs.{Asking.{asks_swap}, SwapSteps.{own_written, changes_further}}
+use Rattle.fault.proofs.{Taken.{sound_taken}, owning.take_copy.Given.{Over}}
 use Rattle.fault.proofs.owning.take_copy.Goals as goal
+
+frames_same : (g : Over) (c : goal.After-fill g) → frame_count c.fill.new.frames ≡ frame_count c.take_own.new.self.frames
+frames_same g c = let taken = c.take_own.new.self.frames in ap frame_count c.fill.ensures ∙ (with_bytes-others taken c.in_ok-own.own.0 (bytes_of taken c.args.from.0)).frames
 
 pub fill-requires-clause-source : goal.fill-requires-clause-source
 fill-requires-clause-source g c =
@@ -46,6 +50,21 @@ returns g c =
     }
 
 pub returns-in_err-own : goal.returns-in_err-own
-returns-in_err-own g c =
-    let asks = asks_swap g.E.SectorDisk c.args.core.now c.take_own.new.self (Some c.args.from) Nothing c.in_err-own.ensures.asked in
-    search rules
+returns-in_err-own g c = let asks = asks_swap g.E.SectorDisk c.args.core.now c.take_own.new.self (Some c.args.from) Nothing c.in_err-own.ensures.asked in search rules
+
+pub invariant_of-core-clause-page_count : goal.invariant_of-core-clause-page_count
+invariant_of-core-clause-page_count g c = c.take_own.new.self.page_count ∙ sym (frames_same g c)
+
+pub invariant_of-core-clause-node_count : goal.invariant_of-core-clause-node_count
+invariant_of-core-clause-node_count g c = c.take_own.new.self.node_count ∙ sym (frames_same g c)
+
+pub invariant_of-core-clause-hand_inside : goal.invariant_of-core-clause-hand_inside
+invariant_of-core-clause-hand_inside g c = subst (λ (k : ℕ). c.take_own.new.self.clock.hand < k) (sym (frames_same g c)) c.take_own.new.self.hand_inside
+
+pub invariant_of-core-clause-sound : goal.invariant_of-core-clause-sound
+invariant_of-core-clause-sound g c =
+    let taken = c.take_own.new.self.frames in
+    let takes = c.in_ok-own.ensures.taken.own.takes in
+    let n = c.in_ok-own.own.0 in
+    let inside : IsFrame taken n = (let same = takes.others.frames in let low = takes.inside in omega (arith, same, low)) in
+    subst IsSound (sym c.fill.ensures) (sound_taken taken n (bytes_of taken c.args.from.0) inside takes.kind_set c.take_own.new.self.sound)

@@ -1,5 +1,5 @@
 use Rattle.fault.proofs.{AccessSteps.{no_new_of, pages_in_beside, keeps_in, only_in, placed_in, brings_home_of, brings_blank_of, err_always, untouched_home}, Asking.{asks_swap}, Names.{◌≢◌, inr, None, refl, ap, sym, ◌∙◌, subst, FrameNo}}
-use Rattle.fault.{proofs.Names.{PageKey, File, Object, asks_wider, IsSectorOf, Home, Frame, picture_of}, specs.{Asking.{IsSectorOfPage, IsSectorOfStoredPage}, PagingIn.{PagesIn}}}
+use Rattle.fault.{proofs.Names.{PageKey, File, Object, asks_wider, once_wider, IsSectorOf, Home, Frame, picture_of}, specs.{Asking.{IsSectorOfPage, IsSectorOfStoredPage}, PagingIn.{PagesIn}}}
 use Rattle.fault.proofs.page_in.bring_home.Goals as goal
 
 no_frame : (k : FrameNo) → Home ≢ Frame k
@@ -39,6 +39,7 @@ returns-in-File g c =
       read = inr (c.in-File.page, refl, home);
       asks = asks_swap g.E.SectorDisk before after None (IsSectorOfPage old page) done.asked;
       asks_store = asks_wider g.D.SectorDisk (IsSectorOf before.store c.in-File.page) (IsSectorOfStoredPage before.store page) before.store.disk after.store.disk (λ k is. (c.in-File.page, refl, is)) done.asks;
+      once_store = once_wider (IsSectorOf before.store c.in-File.page) (IsSectorOfStoredPage before.store page) (g.D.SectorDisk.asked before.store.disk) (g.D.SectorDisk.asked after.store.disk) (λ k is. (c.in-File.page, refl, is)) done.once;
       asks_later = no_new_of old new page c.requires.may.fit (λ k at. no_frame k (sym home ∙ at)) r done.brought;
       cause = done.cause;
       home = err_always _ r (λ s is. (c.in-File.page, refl, home));

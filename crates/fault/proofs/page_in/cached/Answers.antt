@@ -1,4 +1,4 @@
-use Rattle.fault.{specs.Asking.{IsSectorOfPage, IsSectorOfStoredPage}, proofs.{Asking.{no_new_same, asks_slots_same}, AccessSteps.{store_same, reads_none, brings_none}}}
+use Rattle.fault.{specs.Asking.{IsSectorOfPage, IsSectorOfStoredPage}, proofs.{Asking.{no_new_same, asks_slots_same}, AccessSteps.{once_same, store_same, reads_none, brings_none}}}
 use Rattle.fault.proofs.{Names.{Some, None, inl, inr, refl, rules, arith, picture_of}, Steps.{no_table_none, slotted_same, device_none, files_same, seen_none}}
 use Rattle.fault.proofs.page_in.cached.Goals as goal
 
@@ -28,6 +28,7 @@ returns-in-Frame-clause-pages_in g c =
       read = inl refl;
       asks = asks_slots_same g.E.SectorDisk core core None (IsSectorOfPage (picture_of core) page) refl;
       asks_store = store_same g.D.SectorDisk (IsSectorOfStoredPage core.store page) core.store core.store refl;
+      once_store = once_same g.D.SectorDisk (IsSectorOfStoredPage core.store page) core.store core.store refl;
       asks_later = no_new_same (picture_of core) (Some c.in-Frame.frame) (IsSectorOfPage (picture_of core) page);
       cause = (refl, refl, refl);
       home = tt;

@@ -1,7 +1,8 @@
-use Rattle.fault.proofs.{AccessSteps.{asks_read}, Asking.{asks_swap}, Names.{top_level, is_some, ◌≡◌, ◌≢◌, ℕ, None, get_or, refl, sym, ap, ◌∙◌, subst, rules, false≢true, Free, Table, IsFull, role_of, with_bytes, Swap, Pages, slots_of}}
+use Rattle.fault.proofs.{AccessSteps.{asks_read}, Asking.{asks_swap}, Names.{top_level, is_some, ◌≡◌, ◌≢◌, ℕ, None, get_or, refl, sym, ap, ◌∙◌, subst, rules, false≢true, Free, Table, IsFull, role_of, with_bytes, with_bytes-others, Swap, Pages, slots_of}}
 use Rattle.fault.proofs.{Names.{IsPageEntry, page_is_entry, on_err, Picture, picture_of, entry, UsesDevice, IsShort, ChangesFrame, asks_between, entry-of, frees_spent, swapped_form, frees_then, fit_spent}, Settling.{aside_freed}}
 use Rattle.fault.proofs.{Settling.{leaves_aside, forest_mid, root_mid, rows_mid, gives_frame, entry_given, count_given}, Steps.{frees_any, device_then}, SwapSteps.{slot_seat, swapped_here, slot_used, slot_frame, slot_bytes, slot_set}}
 use Rattle.{fault.{proofs.SwapSteps.{fit_in, aside_in, seen_in, own_spent, changes_further, full_count, ready_released}, specs.Asking.{MayAsk, IsSectorOfCopy}}, residency.specs.Picture.{is_swapped}}
+use Rattle.fault.proofs.{Names.{◌<◌, IsFrame, arith}, Taken.{sound_taken}}
 use Rattle.fault.proofs.swapping.swap_in.Goals as goal
 
 pub decode-requires : goal.decode-requires
@@ -122,3 +123,21 @@ returns-in_err-frame g c =
       asks = asks_swap g.E.SectorDisk c.args.core.now c.take_own.new.self None (IsSectorOfCopy (picture_of c.args.core.now) c.args.spot.now.pid c.args.spot.now.page) done.asked;
       stalls = let frees = on_err c.from_residual.result _ (frees_any (picture_of c.args.core.now) (picture_of c.take_own.new.self) _ done.frees) in search rules;
     }
+
+pub invariant_of-core-clause-page_count : goal.invariant_of-core-clause-page_count
+invariant_of-core-clause-page_count g c = c.take_own.new.self.page_count ∙ sym (with_bytes-others c.take_own.new.self.frames c.in_ok-frame.frame.0 c.get.new.to).frames
+
+pub invariant_of-core-clause-node_count : goal.invariant_of-core-clause-node_count
+invariant_of-core-clause-node_count g c = c.take_own.new.self.node_count ∙ sym (with_bytes-others c.take_own.new.self.frames c.in_ok-frame.frame.0 c.get.new.to).frames
+
+pub invariant_of-core-clause-hand_inside : goal.invariant_of-core-clause-hand_inside
+invariant_of-core-clause-hand_inside g c =
+    subst (λ (k : ℕ). c.take_own.new.self.clock.hand < k) (sym (with_bytes-others c.take_own.new.self.frames c.in_ok-frame.frame.0 c.get.new.to).frames) c.take_own.new.self.hand_inside
+
+pub invariant_of-core-clause-sound : goal.invariant_of-core-clause-sound
+invariant_of-core-clause-sound g c =
+    let taken = c.take_own.new.self.frames in
+    let takes = c.in_ok-frame.ensures.taken.own.takes in
+    let n = c.in_ok-frame.frame.0 in
+    let inside : IsFrame taken n = (let same = takes.others.frames in let low = takes.inside in omega (arith, same, low)) in
+    sound_taken taken n c.get.new.to inside takes.kind_set c.take_own.new.self.sound

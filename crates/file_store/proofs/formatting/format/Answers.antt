@@ -1,6 +1,6 @@
-use Rattle.file_store.proofs.Names.{◌≡◌, ◌⊎◌, ◌≤◌, ℕ, length, Result, Err, OnOk, inl, inr, refl, ◌∙◌, sym, ap, subst, ⊎_elim, arith, rules, false≢true, on_ok_weaker, IsErrOf, stays, Journals, Nothing, Image}
+use Rattle.file_store.proofs.Names.{once_wider, once_apart, ◌≡◌, ◌⊎◌, ◌≤◌, ℕ, length, Result, Err, OnOk, inl, inr, refl, ◌∙◌, sym, ap, subst, ⊎_elim, arith, rules, false≢true, on_ok_weaker, IsErrOf, stays, Journals, Nothing, Image}
 use Rattle.file_store.specs.{declared.faults.FormatFault.{FormatFault}, declared.faults.FormatFault.TheVariants.{TooLarge, Formatted, Source, Device}, Format.{total_pages, AreWhole, IsTooLarge, IsMarkSector, IsUnmarkedSector, IsStoreSector, IsStoreOf, IsKindlessStoreOf}, Formatted.{FormatsStore}, Making.{HasFormatCauses}, Versions.{version_at, version_of, mark_of}}
-use Rattle.file_store.proofs.{Causes.{is_this, same_Err}, Filling.{causes_later, causes_device, causes_none}, Formats.{kindless_moves, whole_of_kind, marked_whole, store_whole}, Images.{unmarked_from}, Looking.{ok_is_no_err}}
+use Rattle.file_store.proofs.{Asking.{none_once}, Causes.{is_this, same_Err}, Filling.{causes_later, causes_device, causes_none}, Formats.{kindless_moves, whole_of_kind, marked_whole, store_whole}, Images.{unmarked_from}, Looking.{ok_is_no_err}}
 use Rattle.file_store.proofs.{Making.{makes_more, makes_of}, Marking.{LeavesNoPart, nothing_made, unmarked_made, marked_made, looked_makes, when_looking, when_filling, when_marking, format_refused}, NewStores.{store_fits}}
 use Rattle.file_store.proofs.formatting.format.{Given.{Over}, Goals.{After-write_mark}}
 use Rattle.file_store.proofs.formatting.format.Goals as goal
@@ -20,6 +20,7 @@ returns-then-is_too_large g c =
       kept = search rules;
       later = search rules;
       asks = search rules;
+      once = record { looked = d.asked old; looks = none_once _ _; makes = none_once _ _ };
       too_large = search rules;
       formatted = search rules;
       not_formatted = search rules;
@@ -36,7 +37,8 @@ returns-in_err-check_unmarked g c =
     let check = c.check_unmarked.ensures in let e = c.in_err-check_unmarked.ensures in let fault = c.in_err-check_unmarked.field-0.0 in
     format_refused d kind g.R.Read.remaining sources old mid fault c.from_residual.result c.from_residual.ensures.1
     (λ bad. absurd (false≢true (sym c.if-is_too_large.false ∙ c.is_too_large.ensures.1 (subst (λ n. IsTooLarge kind n sources) (sym c.sectors.ensures) bad))))
-    (when_looking fault e.others).0 (looked_makes d (IsStoreSector kind (total_pages sources)) old mid (λ s at. inl at) check.run check.asks) e.causes
+    (when_looking fault e.others).0 (looked_makes d (IsStoreSector kind (total_pages sources)) old mid (λ s at. inl at) check.run check.once)
+    (record { looked = d.asked mid; looks = check.once; makes = none_once _ _ }) e.causes
     (λ k. nothing_made d kind Whole old (λ image left. g.met.D.SectorDisk.only_now old image (check.run.kept k) left) mid (check.run.touches k))
     (λ k is. e.marked k (ap Err is)) (λ k mark. ⊎_elim (λ e. inl (same_Err _ _ e)) (λ e. inr (same_Err _ _ e)) e.others) (λ k is. check.run.touches k)
     (λ is. absurd ((when_looking fault e.others).1 is))
@@ -51,7 +53,8 @@ returns-in_err-write_unmarked g c =
     let known : IsTooLarge kind sectors sources → ⊥ = λ bad. absurd (false≢true (sym c.if-is_too_large.false ∙ c.is_too_large.ensures.1 (subst (λ n. IsTooLarge kind n sources) (sym c.sectors.ensures) bad))) in
     let fits = store_fits kind sectors sources known in let other = when_filling fault e.fills.others in
     format_refused d kind g.R.Read.remaining sources old made fault c.from_residual-in_err-write_unmarked.result c.from_residual-in_err-write_unmarked.ensures.1 known other.0
-    (makes_more d W old mid made (looked_makes d W old mid (λ s at. inl at) check.run check.asks) (makes_of d (IsUnmarkedSector kind (total_pages sources)) W mid made (λ s at. inr at) w.fills.run))
+    (makes_more d W old mid made (looked_makes d W old mid (λ s at. inl at) check.run check.once) (makes_of d (IsUnmarkedSector kind (total_pages sources)) W mid made (λ s at. inr at) w.fills.run))
+    (record { looked = d.asked mid; looks = check.once; makes = once_wider (IsUnmarkedSector kind (total_pages sources)) W _ _ (λ s at. inr at) w.fills.once })
     (causes_later fault _ _ _ c.in_ok-check_unmarked.ensures.causes.calm e.fills.causes)
     (λ k. let before = w.fills.run.kept k in
     unmarked_made d kind Whole old (λ image left. g.met.D.SectorDisk.only_now old image (check.run.kept before) left) mid (check.run.touches before)
@@ -75,7 +78,7 @@ marked_store g c r none marked synced all causes =
     let known : IsTooLarge kind sectors sources → ⊥ = λ bad. absurd (false≢true (sym c.if-is_too_large.false ∙ c.is_too_large.ensures.1 (subst (λ n. IsTooLarge kind n sources) (sym c.sectors.ensures) bad))) in
     let fits = store_fits kind sectors sources known in
     let run = makes_more d W old made new
-    (makes_more d W old mid made (looked_makes d W old mid (λ s at. inl at) check.run check.asks) (makes_of d (IsUnmarkedSector kind (total_pages sources)) W mid made (λ s at. inr at) w.fills.run))
+    (makes_more d W old mid made (looked_makes d W old mid (λ s at. inl at) check.run check.once) (makes_of d (IsUnmarkedSector kind (total_pages sources)) W mid made (λ s at. inr at) w.fills.run))
     (makes_of d IsMarkSector W made new (λ s at. inl at) m) in
     let whole : d.keeps_model made → (c : Image) → ((k : ℕ) → 1 ≤ k → c k ≡ d.content made k) → c 0 ≡ mark_of (version_of c) → IsStoreOf kind g.R.Read.remaining sectors sources c =
     λ last. store_whole kind g.R.Read.remaining sectors sources (d.content made) (w.written last) fits.0 fits.1 in
@@ -96,6 +99,12 @@ marked_store g c r none marked synced all causes =
       kept = run.kept;
       later = run.later;
       asks = run.asks;
+      once = record {
+        looked = d.asked mid;
+        looks = check.once;
+        makes = once_apart (IsUnmarkedSector kind (total_pages sources)) IsMarkSector W _ _ _ (λ s at. inr at) (λ s at. inl at)
+            (λ s inside mark. let low = unmarked_from kind (total_pages sources) s inside in omega (arith, low, mark)) w.fills.once c.write_mark.ensures.writes.once;
+      };
       too_large = (λ is. absurd (none (inl is)), λ large. absurd (known large));
       formatted = λ k is. absurd (none (inr (inl is)));
       not_formatted = λ k mark. absurd (c.in_ok-check_unmarked.ensures.unmarked (w.fills.run.kept (m.kept k)) mark);

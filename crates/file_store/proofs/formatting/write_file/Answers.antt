@@ -1,4 +1,4 @@
-use Rattle.file_store.proofs.Names.{◌≡◌, ◌+◌, ◌*◌, ◌<◌, min, Some, refl, drop, drop-drop, length-drop, sym, ap, subst, ◌∙◌, ⊎_elim, arith, cases_eq, kind_home}
+use Rattle.file_store.proofs.Names.{◌≡◌, ◌+◌, ◌*◌, ◌<◌, min, Some, refl, drop, drop-drop, length-drop, sym, ap, subst, ◌∙◌, ⊎_elim, arith, cases_eq, rules, once_apart, once_named, once_wider, IsPageSector, kind_home}
 use Rattle.file_store.{specs.{Layout.{pages_of_length, bytes_inside, padded_page}, Format.{told_by, page_given, IsHomesBetween, HoldsCut}}, proofs.{Filling.{fills_failed}, Making.{makes_more, makes_page}, NewStores.{cut_moves, is_told}}}
 use Rattle.file_store.proofs.formatting.write_file.Goals as goal
 
@@ -16,6 +16,11 @@ loop-k-preserved g c =
       run = makes_more g.D.SectorDisk (IsHomesBetween c.args.journals c.args.first (c.args.first + pages_of_length c.args.source.now.length)) c.args.disk.now c.loop-k.disk c.write_page.new.disk inv.run
           (makes_page g.D.SectorDisk (IsHomesBetween c.args.journals c.args.first (c.args.first + pages_of_length c.args.source.now.length)) (c.first_home-homes.result + 8 * (c.args.first + c.loop-k.k)) c.loop-k.disk c.write_page.new.disk
           (λ k inside. (omega (arith, inside.0, c.first_home-homes.ensures.is), omega (arith, inside.1, c.first_home-homes.ensures.is, below))) c.write_page.ensures.run c.write_page.ensures.asks);
+      once = once_apart (IsHomesBetween c.args.journals c.args.first (c.args.first + c.loop-k.k)) (IsPageSector (c.first_home-homes.result + 8 * (c.args.first + c.loop-k.k)))
+          (IsHomesBetween c.args.journals c.args.first (c.args.first + (c.loop-k.k + 1))) _ _ _ (λ s at. (at.0, omega (arith, at.1))) (λ s inside. (omega (arith, inside.0, c.first_home-homes.ensures.is), omega (arith, inside.1, c.first_home-homes.ensures.is)))
+          (λ s before now. omega (arith, before.1, now.0, c.first_home-homes.ensures.is)) c.loop-k.invariant.once
+          (once_named (IsPageSector (c.first_home-homes.result + 8 * (c.args.first + c.loop-k.k))) (IsPageSector (c.first_home-homes.result + 8 * (c.args.first + c.loop-k.k))) _ _ (λ s at. at) c.write_page.ensures.asks);
+      few = omega (arith, below);
       calm = c.in_ok-write_page.ensures.calm ∙ inv.calm;
       info = c.read_page.ensures.info ∙ inv.info;
       left = λ told is.
@@ -61,4 +66,36 @@ returns-in_err-write_page-clause-fills g c =
     (makes_more g.D.SectorDisk (IsHomesBetween c.args.journals c.args.first (c.args.first + pages_of_length c.args.source.now.length)) c.args.disk.now c.loop-k.disk c.write_page.new.disk c.loop-k.invariant.run
     (makes_page g.D.SectorDisk (IsHomesBetween c.args.journals c.args.first (c.args.first + pages_of_length c.args.source.now.length)) (c.first_home-homes.result + 8 * (c.args.first + c.loop-k.k)) c.loop-k.disk c.write_page.new.disk
     (λ k inside. (omega (arith, inside.0, c.first_home-homes.ensures.is), omega (arith, inside.1, c.first_home-homes.ensures.is, below))) c.write_page.ensures.run c.write_page.ensures.asks))
+    (once_apart (IsHomesBetween c.args.journals c.args.first (c.args.first + c.loop-k.k)) (IsPageSector (c.first_home-homes.result + 8 * (c.args.first + c.loop-k.k)))
+    (IsHomesBetween c.args.journals c.args.first (c.args.first + pages_of_length c.args.source.now.length)) _ _ _ (λ s at. (at.0, omega (arith, at.1, below))) (λ s inside. (omega (arith, inside.0, c.first_home-homes.ensures.is), omega (arith, inside.1, c.first_home-homes.ensures.is, below)))
+    (λ s before now. omega (arith, before.1, now.0, c.first_home-homes.ensures.is)) c.loop-k.invariant.once
+    (once_named (IsPageSector (c.first_home-homes.result + 8 * (c.args.first + c.loop-k.k))) (IsPageSector (c.first_home-homes.result + 8 * (c.args.first + c.loop-k.k))) _ _ (λ s at. at) c.write_page.ensures.asks))
     c.from_residual-in_err-write_page.result c.from_residual-in_err-write_page.ensures.1 (omega (arith, failed, calm))
+
+pub returns-in_err-read_page-clause-fills : goal.returns-in_err-read_page-clause-fills
+returns-in_err-read_page-clause-fills g c =
+    let inv = c.loop-k.invariant in
+    let few = inv.few in
+    record {
+      run = inv.run;
+      once = once_wider (IsHomesBetween c.args.journals c.args.first (c.args.first + c.loop-k.k)) (IsHomesBetween c.args.journals c.args.first (c.args.first + pages_of_length c.args.source.now.length)) _ _
+          (λ s at. (at.0, omega (arith, at.1, few))) inv.once;
+      causes = search rules;
+      source = search rules;
+      others = search rules;
+      whole = search rules;
+    }
+
+pub returns-clause-fills : goal.returns-clause-fills
+returns-clause-fills g c =
+    let inv = c.loop-k.invariant in
+    let few = inv.few in
+    record {
+      run = inv.run;
+      once = once_wider (IsHomesBetween c.args.journals c.args.first (c.args.first + c.loop-k.k)) (IsHomesBetween c.args.journals c.args.first (c.args.first + pages_of_length c.args.source.now.length)) _ _
+          (λ s at. (at.0, omega (arith, at.1, few))) inv.once;
+      causes = search rules;
+      source = search rules;
+      others = search rules;
+      whole = search rules;
+    }

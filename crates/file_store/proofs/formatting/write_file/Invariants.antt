@@ -1,9 +1,11 @@
-use Rattle.file_store.{proofs.Names.{◌≡◌, ◌≤◌, ◌+◌, ◌*◌, min, ℕ, List, Some, drop, length, IsSome}, specs.{Format.{info_of, told_by, reader_tells, IsHomesBetween, HoldsSourcePages}, Layout.{pages_of_length}, Making.{Makes}}}
+use Rattle.file_store.{proofs.Names.{◌≡◌, ◌≤◌, ◌+◌, ◌*◌, min, ℕ, List, Some, drop, length, NamesOnce, IsSome}, specs.{Format.{info_of, told_by, reader_tells, IsHomesBetween, HoldsSourcePages}, Layout.{pages_of_length}, Making.{Makes}}}
 use Rattle.file_store.proofs.formatting.write_file.Given as goal
 
 abbrev pub invariant-loop-k : goal.invariant-loop-k
 invariant-loop-k g l = record {
   run : Makes g.D.SectorDisk (IsHomesBetween l.fn.journals l.first (l.first + pages_of_length l.initial.source.length)) l.initial.disk l.disk;
+  once : NamesOnce (IsHomesBetween l.fn.journals l.first (l.first + l.k)) (g.D.SectorDisk.asked l.initial.disk) (g.D.SectorDisk.asked l.disk);
+  few : l.k ≤ pages_of_length l.initial.source.length;
   calm : g.D.SectorDisk.failures l.disk ≡ g.D.SectorDisk.failures l.initial.disk;
   info : info_of l.source ≡ info_of l.initial.source;
   left : (told : List ℕ) → told_by g.R.Read.remaining l.initial.source.bytes ≡ Some told

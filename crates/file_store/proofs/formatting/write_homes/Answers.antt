@@ -1,4 +1,4 @@
-use Rattle.file_store.proofs.{Filling.{fills_error}, Making.{makes_more, makes_of}, Names.{◌≡◌, ◌+◌, ◌<◌, ◌≤◌, ◌∙◌, ⊎_elim, length, drop, slice_get, Some, drop-drop, refl, sym, ap, subst, get_or, arith, cases_eq, length-set, drop-set-lt}}
+use Rattle.file_store.proofs.{Filling.{fills_error}, Making.{makes_more, makes_of}, Names.{◌≡◌, ◌+◌, ◌<◌, ◌≤◌, ◌∙◌, ⊎_elim, length, drop, slice_get, Some, drop-drop, refl, sym, ap, subst, get_or, arith, cases_eq, rules, once_apart, once_wider, length-set, drop-set-lt}}
 use Rattle.file_store.proofs.{Names.{same_Some, slice_get_read, IsSome, kind_home, kind_home_count}, NewStores.{cut_moves, slice_get-drop, first_home-rest, first_home-order}, Totals.{total_pages-rest, total_pages-set}}
 use Rattle.file_store.specs.{Format.{total_pages, first_home, page_given, reader_tells, IsHomesBetween, HoldsSourcePages}, Layout.{pages_of_length, bytes_inside}, declared.sources.FileSource.{FileSource}}
 use Rattle.file_store.proofs.formatting.write_homes.Goals as goal
@@ -33,11 +33,13 @@ loop-f-preserved g c =
       run = makes_more g.D.SectorDisk (IsHomesBetween c.args.journals 0 (total_pages c.args.sources.now)) c.args.disk.now c.loop-f.disk c.write_file.new.disk inv.run
           (makes_of g.D.SectorDisk (IsHomesBetween c.args.journals c.loop-f.first (c.loop-f.first + pages_of_length (get_or c.loop-f.sources c.loop-f.f c.index-sources-f.result).length)) (IsHomesBetween c.args.journals 0 (total_pages c.args.sources.now)) c.loop-f.disk c.write_file.new.disk
           (λ k at. (omega (arith, at.0), omega (arith, at.1, e, is, inv.rest))) c.write_file.ensures.fills.run);
+      once = once_apart (IsHomesBetween c.args.journals 0 c.loop-f.first) (IsHomesBetween c.args.journals c.loop-f.first (c.loop-f.first + pages_of_length (get_or c.loop-f.sources c.loop-f.f c.index-sources-f.result).length))
+          (IsHomesBetween c.args.journals 0 (c.loop-f.first + c.pages-first.result)) _ _ _ (λ k at. (at.0, omega (arith, at.1))) (λ k at. (omega (arith, at.0), omega (arith, at.1, same, c.pages-first.ensures.count)))
+          (λ k before now. omega (arith, before.1, now.0)) inv.once c.write_file.ensures.fills.once;
       calm = c.in_ok-write_file.ensures.fills.calm ∙ inv.calm;
       length = length-set c.loop-f.sources f c.write_file.new.source ∙ inv.length;
       rest = omega (arith, e, after, same, is, inv.rest, c.pages-first.ensures.count);
-      behind = drop-set-lt (f + 1) c.loop-f.sources f c.write_file.new.source (omega arith)
-          ∙ sym (drop-drop 1 f c.loop-f.sources) ∙ ap (drop 1) inv.behind ∙ drop-drop 1 f sources;
+      behind = drop-set-lt (f + 1) c.loop-f.sources f c.write_file.new.source (omega arith) ∙ sym (drop-drop 1 f c.loop-f.sources) ∙ ap (drop 1) inv.behind ∙ drop-drop 1 f sources;
       files = λ keeps h source less at. ⊎_elim
           (λ same.
           let source_is : get_or c.loop-f.sources f c.index-sources-f.result ≡ source = sym c.index-sources-f.is ∙ same_Some c.index-sources-f.result source (sym here ∙ ap (slice_get sources) (sym same) ∙ at) in
@@ -77,6 +79,20 @@ returns-in_err-write_file-clause-fills g c =
     (makes_more g.D.SectorDisk (IsHomesBetween c.args.journals 0 (total_pages sources)) c.args.disk.now c.loop-f.disk c.write_file.new.disk inv.run
     (makes_of g.D.SectorDisk (IsHomesBetween c.args.journals c.loop-f.first (c.loop-f.first + pages_of_length (get_or c.loop-f.sources f c.index-sources-f.result).length)) (IsHomesBetween c.args.journals 0 (total_pages sources)) c.loop-f.disk c.write_file.new.disk
     (λ k at. (omega (arith, at.0), omega (arith, at.1, e, is, inv.rest))) c.write_file.ensures.fills.run))
+    (once_apart (IsHomesBetween c.args.journals 0 c.loop-f.first) (IsHomesBetween c.args.journals c.loop-f.first (c.loop-f.first + pages_of_length (get_or c.loop-f.sources c.loop-f.f c.index-sources-f.result).length)) (IsHomesBetween c.args.journals 0 (total_pages sources)) _ _ _
+    (λ k at. (at.0, omega (arith, at.1, inv.rest))) (λ k at. (omega (arith, at.0), omega (arith, at.1, e, is, inv.rest))) (λ k before now. omega (arith, before.1, now.0)) inv.once c.write_file.ensures.fills.once)
     _ _ _ c.in_err-write_file.field-0.0 c.from_residual.result c.loop-f.disk c.from_residual.ensures.1 inv.calm c.in_err-write_file.ensures.fills (λ bytes.
     let given = subst (λ (s : FileSource g.row.R.Denot). IsSome s.bytes × (0 < s.length)) (sym c.index-sources-f.is) bytes in
     (f, c.index-sources-f.result, here, given.0, given.1))
+
+pub returns-clause-fills : goal.returns-clause-fills
+returns-clause-fills g c =
+    let inv = c.loop-f.invariant in
+    record {
+      run = inv.run;
+      once = once_wider (IsHomesBetween c.args.journals 0 c.loop-f.first) (IsHomesBetween c.args.journals 0 (total_pages c.args.sources.now)) _ _ (λ k at. (at.0, omega (arith, at.1, inv.rest))) inv.once;
+      causes = search rules;
+      source = search rules;
+      others = search rules;
+      whole = search rules;
+    }

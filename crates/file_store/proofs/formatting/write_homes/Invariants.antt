@@ -1,9 +1,10 @@
-use Rattle.file_store.{proofs.Names.{◌≡◌, ◌+◌, drop, length}, specs.{Format.{total_pages, IsHomesBetween, HoldsFiles, AreWhole}, Making.{Makes}}}
+use Rattle.file_store.{proofs.Names.{◌≡◌, ◌+◌, drop, length, NamesOnce}, specs.{Format.{total_pages, IsHomesBetween, HoldsFiles, AreWhole}, Making.{Makes}}}
 use Rattle.file_store.proofs.formatting.write_homes.Given as goal
 
 abbrev pub invariant-loop-f : goal.invariant-loop-f
 invariant-loop-f g l = record {
   run : Makes g.D.SectorDisk (IsHomesBetween l.fn.journals 0 (total_pages l.initial.sources)) l.initial.disk l.disk;
+  once : NamesOnce (IsHomesBetween l.fn.journals 0 l.first) (g.D.SectorDisk.asked l.initial.disk) (g.D.SectorDisk.asked l.disk);
   calm : g.D.SectorDisk.failures l.disk ≡ g.D.SectorDisk.failures l.initial.disk;
   length : length l.sources ≡ length l.initial.sources;
   rest : l.first + total_pages (drop l.f l.sources) ≡ total_pages l.initial.sources;

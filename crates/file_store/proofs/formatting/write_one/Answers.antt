@@ -1,11 +1,12 @@
-use Rattle.file_store.{proofs.{Making.{written_synced, makes_more, makes_write, makes_synced}, Names.{◌≡◌, ℕ, inl, inr, ap, sym, refl, ◌∙◌, arith, rules, Single}, NewStores.{one_head}}, specs.Format.{IsLayoutSector}}
+use Rattle.file_store.{proofs.{Asking.{one_once, then_once}, Making.{written_synced, makes_more, makes_write, makes_synced}, Names.{◌≡◌, ℕ, inl, inr, ap, sym, refl, ◌∙◌, arith, rules, once_still, Single}, NewStores.{one_head}}, specs.Format.{IsLayoutSector}}
 use Rattle.file_store.proofs.formatting.write_one.Goals as goal
 
 pub returns-in_err-write-clause-writes : goal.returns-in_err-write-clause-writes
 returns-in_err-write-clause-writes g c =
     let d = g.D.SectorDisk in
     let W : ℕ → Type 0 = IsLayoutSector Single in
-    written_synced d _ _ _ _ (makes_write d W c.directory.result c.args.disk.now c.write.new.self (inr (inl c.directory.ensures.is)) c.write.ensures.size c.write.ensures.kept c.write.ensures.cause.later c.write.ensures.asks c.write.ensures.others c.write.ensures.unsynced c.write.ensures.time) (search rules) (search rules) (search rules)
+    written_synced d _ _ _ _ (makes_write d W c.directory.result c.args.disk.now c.write.new.self (inr (inl c.directory.ensures.is)) c.write.ensures.size c.write.ensures.kept c.write.ensures.cause.later c.write.ensures.asks c.write.ensures.others c.write.ensures.unsynced c.write.ensures.time)
+    (one_once W c.directory.result _ _ (inr (inl c.directory.ensures.is)) c.write.ensures.asks) (search rules) (search rules) (search rules)
 
 pub returns-in_err-write-2-clause-writes : goal.returns-in_err-write-2-clause-writes
 returns-in_err-write-2-clause-writes g c =
@@ -13,7 +14,9 @@ returns-in_err-write-2-clause-writes g c =
     let W : ℕ → Type 0 = IsLayoutSector Single in
     written_synced d _ _ _ _ (makes_more d W c.args.disk.now c.write.new.self c.write-2.new.self
     (makes_write d W c.directory.result c.args.disk.now c.write.new.self (inr (inl c.directory.ensures.is)) c.write.ensures.size c.write.ensures.kept c.write.ensures.cause.later c.write.ensures.asks c.write.ensures.others c.write.ensures.unsynced c.write.ensures.time)
-    (makes_write d W 2 c.write.new.self c.write-2.new.self (inr (inr refl)) c.write-2.ensures.size c.write-2.ensures.kept c.write-2.ensures.cause.later c.write-2.ensures.asks c.write-2.ensures.others c.write-2.ensures.unsynced c.write-2.ensures.time)) (search rules) (search rules) (search rules)
+    (makes_write d W 2 c.write.new.self c.write-2.new.self (inr (inr refl)) c.write-2.ensures.size c.write-2.ensures.kept c.write-2.ensures.cause.later c.write-2.ensures.asks c.write-2.ensures.others c.write-2.ensures.unsynced c.write-2.ensures.time))
+    (then_once (λ k. k ≡ c.directory.result) W 2 _ _ _ (λ k at. inr (inl (at ∙ c.directory.ensures.is))) (inr (inr refl)) (λ at. let is : c.directory.result ≡ 1 = c.directory.ensures.is in omega (arith, at, is))
+    (one_once (λ k. k ≡ c.directory.result) c.directory.result _ _ refl c.write.ensures.asks) c.write-2.ensures.asks) (search rules) (search rules) (search rules)
 
 pub returns-clause-writes : goal.returns-clause-writes
 returns-clause-writes g c =
@@ -23,7 +26,9 @@ returns-clause-writes g c =
     (makes_more d W c.args.disk.now c.write.new.self c.write-2.new.self
     (makes_write d W c.directory.result c.args.disk.now c.write.new.self (inr (inl c.directory.ensures.is)) c.write.ensures.size c.write.ensures.kept c.write.ensures.cause.later c.write.ensures.asks c.write.ensures.others c.write.ensures.unsynced c.write.ensures.time)
     (makes_write d W 2 c.write.new.self c.write-2.new.self (inr (inr refl)) c.write-2.ensures.size c.write-2.ensures.kept c.write-2.ensures.cause.later c.write-2.ensures.asks c.write-2.ensures.others c.write-2.ensures.unsynced c.write-2.ensures.time))
-    c.sync.ensures.size c.sync.ensures.kept c.sync.ensures.cause.later c.sync.ensures.asks c.sync.ensures.same c.sync.ensures.unsynced c.sync.ensures.time) (search rules) (search rules) (search rules)
+    c.sync.ensures.size c.sync.ensures.kept c.sync.ensures.cause.later c.sync.ensures.asks c.sync.ensures.same c.sync.ensures.unsynced c.sync.ensures.time)
+    (once_still W _ _ _ (then_once (λ k. k ≡ c.directory.result) W 2 _ _ _ (λ k at. inr (inl (at ∙ c.directory.ensures.is))) (inr (inr refl)) (λ at. let is : c.directory.result ≡ 1 = c.directory.ensures.is in omega (arith, at, is))
+    (one_once (λ k. k ≡ c.directory.result) c.directory.result _ _ refl c.write.ensures.asks) c.write-2.ensures.asks) c.sync.ensures.asks) (search rules) (search rules) (search rules)
 
 pub returns-clause-head : goal.returns-clause-head
 returns-clause-head g c = λ keeps.

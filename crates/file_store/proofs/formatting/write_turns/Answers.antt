@@ -1,4 +1,4 @@
-use Rattle.file_store.proofs.Names.{ℕ, inl, inr, ⊎_elim, subst, sym, arith, rules, Paired}
+use Rattle.file_store.proofs.Names.{ℕ, inl, inr, ⊎_elim, subst, sym, arith, rules, once_wider, once_apart, once_still, Paired}
 use Rattle.file_store.{specs.Format.{IsTableSector, IsKindSector, IsLayoutSector, HasTables}, proofs.{Making.{written_synced, makes_more, makes_of, makes_synced}, Blocks.{on_ok}, NewStores.{tables_head}}}
 use Rattle.file_store.proofs.formatting.write_turns.Goals as goal
 
@@ -6,7 +6,8 @@ pub returns-in_err-write_tables-clause-writes : goal.returns-in_err-write_tables
 returns-in_err-write_tables-clause-writes g c =
     let d = g.D.SectorDisk in
     let W : ℕ → Type 0 = IsLayoutSector Paired in
-    written_synced d _ _ _ _ (makes_of d (IsTableSector Paired) W c.args.disk.now c.write_tables.new.disk (λ k at. inr at) c.write_tables.ensures.writes.run) (search rules) (search rules) (search rules)
+    written_synced d _ _ _ _ (makes_of d (IsTableSector Paired) W c.args.disk.now c.write_tables.new.disk (λ k at. inr at) c.write_tables.ensures.writes.run)
+    (once_wider (IsTableSector Paired) W _ _ (λ k at. inr at) c.write_tables.ensures.writes.once) (search rules) (search rules) (search rules)
 
 pub returns-in_err-sync-clause-writes : goal.returns-in_err-sync-clause-writes
 returns-in_err-sync-clause-writes g c =
@@ -14,7 +15,8 @@ returns-in_err-sync-clause-writes g c =
     let W : ℕ → Type 0 = IsLayoutSector Paired in
     written_synced d _ _ _ _ (makes_synced d W c.args.disk.now c.write_tables.new.disk c.sync.new.self
     (makes_of d (IsTableSector Paired) W c.args.disk.now c.write_tables.new.disk (λ k at. inr at) c.write_tables.ensures.writes.run)
-    c.sync.ensures.size c.sync.ensures.kept c.sync.ensures.cause.later c.sync.ensures.asks c.sync.ensures.same c.sync.ensures.unsynced c.sync.ensures.time) (search rules) (search rules) (search rules)
+    c.sync.ensures.size c.sync.ensures.kept c.sync.ensures.cause.later c.sync.ensures.asks c.sync.ensures.same c.sync.ensures.unsynced c.sync.ensures.time)
+    (once_still W _ _ _ (once_wider (IsTableSector Paired) W _ _ (λ k at. inr at) c.write_tables.ensures.writes.once) c.sync.ensures.asks) (search rules) (search rules) (search rules)
 
 pub returns-clause-writes : goal.returns-clause-writes
 returns-clause-writes g c =
@@ -24,7 +26,10 @@ returns-clause-writes g c =
     (makes_synced d W c.args.disk.now c.write_tables.new.disk c.sync.new.self
     (makes_of d (IsTableSector Paired) W c.args.disk.now c.write_tables.new.disk (λ k at. inr at) c.write_tables.ensures.writes.run)
     c.sync.ensures.size c.sync.ensures.kept c.sync.ensures.cause.later c.sync.ensures.asks c.sync.ensures.same c.sync.ensures.unsynced c.sync.ensures.time)
-    (makes_of d IsKindSector W c.sync.new.self c.write_kind.new.disk (λ k at. inl at) c.write_kind.ensures.writes.run)) (search rules) (search rules) (search rules)
+    (makes_of d IsKindSector W c.sync.new.self c.write_kind.new.disk (λ k at. inl at) c.write_kind.ensures.writes.run))
+    (once_apart (IsTableSector Paired) IsKindSector W _ _ _ (λ k at. inr at) (λ k at. inl at)
+    (λ k table kind. ⊎_elim (λ e. omega (arith, e, kind)) (⊎_elim (λ e. omega (arith, e, kind)) (λ e. omega (arith, e, kind))) table)
+    (once_still (IsTableSector Paired) _ _ _ c.write_tables.ensures.writes.once c.sync.ensures.asks) c.write_kind.ensures.writes.once) (search rules) (search rules) (search rules)
 
 pub returns-clause-head : goal.returns-clause-head
 returns-clause-head g c = λ keeps.

@@ -1,5 +1,5 @@
 use Rattle.file_store.proofs.{Blocks.{none_on, last_then}, Filling.{fills_done, fills_error, fills_failed}, Formats.{table_between, kindless}, Images.{homes_behind, layout_low, good_not_kind}, Making.{makes_more, makes_of}, Names.{ℕ, ◌+◌}}
-use Rattle.file_store.{proofs.{Names.{⊎_elim, inl, inr, List, refl, sym, subst, ◌∙◌, arith, rules, kind_home, kind_home_count, Paired, wider}, NewStores.{cut_moves, good_given}}, specs.Format.{first_home, total_pages, page_given, IsFrom}}
+use Rattle.file_store.{proofs.{Names.{once_wider, once_apart, ⊎_elim, inl, inr, List, refl, sym, subst, ◌∙◌, arith, rules, kind_home, kind_home_count, Paired, wider}, NewStores.{cut_moves, good_given}}, specs.Format.{first_home, total_pages, page_given, IsFrom}}
 use Rattle.file_store.specs.{Format.{IsTableSector, IsKindlessStoreOf, HasTables, IsLayoutSector, IsHomesBetween, IsUnmarkedSector, IsDirectoryOf}, Layout.{bytes_inside}}
 use Rattle.file_store.proofs.formatting.write_unmarked.Goals as goal
 
@@ -10,6 +10,7 @@ returns-in_err-write_homes-clause-fills g c =
     let W : ℕ → Type 0 = IsUnmarkedSector c.args.journals pages in
     fills_error d W _ _ c.args.disk.now c.write_homes.new.disk
     (makes_of d (IsHomesBetween c.args.journals 0 pages) W c.args.disk.now c.write_homes.new.disk (λ k at. inr at) c.write_homes.ensures.fills.run)
+    (once_wider (IsHomesBetween c.args.journals 0 pages) W _ _ (λ k at. inr at) c.write_homes.ensures.fills.once)
     _ _ _ c.in_err-write_homes.field-0.0 c.from_residual.result c.args.disk.now c.from_residual.ensures.1 refl c.in_err-write_homes.ensures.fills (λ bytes. bytes)
 
 pub returns-in_err-write_layout-clause-fills : goal.returns-in_err-write_layout-clause-fills
@@ -23,6 +24,9 @@ returns-in_err-write_layout-clause-fills g c =
     (makes_more d W c.args.disk.now c.write_homes.new.disk c.write_layout.new.disk
     (makes_of d (IsHomesBetween c.args.journals 0 pages) W c.args.disk.now c.write_homes.new.disk (λ k at. inr at) c.write_homes.ensures.fills.run)
     (makes_of d (IsLayoutSector c.args.journals) W c.write_homes.new.disk c.write_layout.new.disk (λ k at. inl at) c.write_layout.ensures.writes.run))
+    (once_apart (IsHomesBetween c.args.journals 0 pages) (IsLayoutSector c.args.journals) W _ _ _ (λ k at. inr at) (λ k at. inl at)
+    (λ k home layout. let low = homes_behind c.args.journals in let at = layout_low c.args.journals k layout in omega (arith, home.0, at.1, low))
+    c.write_homes.ensures.fills.once c.write_layout.ensures.writes.once)
     c.from_residual-in_err-write_layout.result c.from_residual-in_err-write_layout.ensures.1 (omega (arith, failed, calm))
 
 pub returns-clause-fills : goal.returns-clause-fills
@@ -34,6 +38,9 @@ returns-clause-fills g c =
     (makes_more d W c.args.disk.now c.write_homes.new.disk c.write_layout.new.disk
     (makes_of d (IsHomesBetween c.args.journals 0 pages) W c.args.disk.now c.write_homes.new.disk (λ k at. inr at) c.write_homes.ensures.fills.run)
     (makes_of d (IsLayoutSector c.args.journals) W c.write_homes.new.disk c.write_layout.new.disk (λ k at. inl at) c.write_layout.ensures.writes.run))
+    (once_apart (IsHomesBetween c.args.journals 0 pages) (IsLayoutSector c.args.journals) W _ _ _ (λ k at. inr at) (λ k at. inl at)
+    (λ k home layout. let low = homes_behind c.args.journals in let at = layout_low c.args.journals k layout in omega (arith, home.0, at.1, low))
+    c.write_homes.ensures.fills.once c.write_layout.ensures.writes.once)
     _ (c.in_ok-write_layout.ensures.writes.calm ∙ c.in_ok-write_homes.ensures.fills.calm) c.in_ok-write_homes.ensures.fills.whole
 
 pub returns-clause-written : goal.returns-clause-written

@@ -65,5 +65,6 @@ returns-clause-ok g c =
           done.good k (subst (λ (n : ℕ). IsBadStore n (g.D.SectorDisk.content c.read_head.new.disk)) (sym run.size) (subst (λ (image : Image). IsBadStore (g.D.SectorDisk.sector_count old) image) (sym same) bad));
       stands = λ k. (settled_since g.D.SectorDisk old c.read_head.new.disk c.recover.new.disk (run.touches (c.recover.ensures.kept k)) journal run.size (done.ok k)).left;
       synced = λ k. c.in_ok-journal.ensures.synced k;
+      emptied = λ k. done.emptied k;
       calm = done.calm ∙ c.in_ok-found.ensures.looks.calm;
     }

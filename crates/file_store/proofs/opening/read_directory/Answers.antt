@@ -1,4 +1,4 @@
-use Rattle.file_store.proofs.Names.{◌≡◌, ℕ, List, ap, subst, ◌∙◌, rules}
+use Rattle.file_store.proofs.Names.{◌≡◌, ℕ, List, ap, subst, ◌∙◌, rules, once_named}
 use Rattle.file_store.{specs.{Versions.{home_pages_of, directory_of}, Directory.{IsBadDirectory, IsSoundDirectory, AreGood}, Store.{entry_of}}, proofs.{Entries.{good_is_sound}, Images.{good_not_kind}}}
 use Rattle.file_store.proofs.opening.read_directory.Goals as goal
 
@@ -36,3 +36,12 @@ returns-clause-good g c = λ k.
     c.in_ok-read.ensures.gives k ∙ ap (λ (n : ℕ). g.D.SectorDisk.content c.args.disk.now n) c.directory.ensures.is in
     subst (λ (s : List ℕ). AreGood (home_pages_of c.args.version (g.D.SectorDisk.sector_count c.args.disk.now)) s 64) sector
     (subst (λ (n : ℕ). AreGood n c.read.new.to 64) homes c.in_ok-directory.ensures.good)
+
+pub returns-in_err-read-clause-once : goal.returns-in_err-read-clause-once
+returns-in_err-read-clause-once g c = once_named (λ s. s ≡ directory_of c.args.version) (λ s. s ≡ c.directory.result) _ _ (λ s at. at ∙ c.directory.ensures.is) c.read.ensures.asks
+
+pub returns-in_err-directory-clause-once : goal.returns-in_err-directory-clause-once
+returns-in_err-directory-clause-once g c = once_named (λ s. s ≡ directory_of c.args.version) (λ s. s ≡ c.directory.result) _ _ (λ s at. at ∙ c.directory.ensures.is) c.read.ensures.asks
+
+pub returns-clause-once : goal.returns-clause-once
+returns-clause-once g c = once_named (λ s. s ≡ directory_of c.args.version) (λ s. s ≡ c.directory.result) _ _ (λ s at. at ∙ c.directory.ensures.is) c.read.ensures.asks

@@ -1,5 +1,5 @@
 use Rattle.file_store.proofs.{Images.{homes_same, other_kind, bad_as_claimed, layout_is_good_in}, Looking.{looks_found, looks_error, looks_later, head_asked}, Names.{◌≡◌, ◌<◌, ◌≤◌, ℕ, ⊎_elim, sym, ap, subst, ◌∙◌, Image, Nothing, Paired}}
-use Rattle.file_store.{proofs.{Names.{kind_of, kind_homes, one_more}, Openings.{content_is, kind_found, kind_sound}}, specs.{Directory.{IsBadDirectory, IsSoundDirectory, AreGood}, Standing.{IsBadLayout, IsBadLayoutIn, listed_entry}}}
+use Rattle.file_store.{proofs.{Names.{asks_once, kind_of, kind_homes, one_more}, Openings.{content_is, kind_found, kind_sound}}, specs.{Directory.{IsBadDirectory, IsSoundDirectory, AreGood}, Standing.{IsBadLayout, IsBadLayoutIn, listed_entry}}}
 use Rattle.file_store.specs.{Standing.IsBadLayoutIn.{TooSmall, BadDirectory}, Store.{entry_of}, Versions.{version_at, home_pages_of, directory_of, mark_of}}
 use Rattle.file_store.proofs.opening.read_head.Goals as goal
 
@@ -72,10 +72,12 @@ pub returns-clause-asks : goal.returns-clause-asks
 returns-clause-asks g c = λ k.
     let k1 = c.read_directory.ensures.looks.run.kept k in
     head_asked g.D.SectorDisk c.in_ok-journals.journals c.of_kind.result c.args.disk.now c.read_mark.new.disk c.check_kind.new.disk c.read_directory.new.disk
-    (c.read_mark.ensures.looks.run.touches (c.check_kind.ensures.looks.run.kept k1)) (c.in_ok-check_kind.ensures.kind k1) c.of_kind.ensures c.read_mark.ensures.asks c.check_kind.ensures.asks c.read_directory.ensures.asks
+    (c.read_mark.ensures.looks.run.touches (c.check_kind.ensures.looks.run.kept k1)) (c.in_ok-check_kind.ensures.kind k1) c.of_kind.ensures c.read_mark.ensures.asks c.check_kind.ensures.asks
+    (asks_once g.D.SectorDisk (λ s. s ≡ directory_of c.of_kind.result) (λ s. s ≡ directory_of c.of_kind.result) c.check_kind.new.disk c.read_directory.new.disk (λ s at. at) c.read_directory.ensures.once)
 
 pub returns-in_err-directory-clause-asks : goal.returns-in_err-directory-clause-asks
 returns-in_err-directory-clause-asks g c = λ k.
     let k1 = c.read_directory.ensures.looks.run.kept k in
     head_asked g.D.SectorDisk c.in_ok-journals.journals c.of_kind.result c.args.disk.now c.read_mark.new.disk c.check_kind.new.disk c.read_directory.new.disk
-    (c.read_mark.ensures.looks.run.touches (c.check_kind.ensures.looks.run.kept k1)) (c.in_ok-check_kind.ensures.kind k1) c.of_kind.ensures c.read_mark.ensures.asks c.check_kind.ensures.asks c.read_directory.ensures.asks
+    (c.read_mark.ensures.looks.run.touches (c.check_kind.ensures.looks.run.kept k1)) (c.in_ok-check_kind.ensures.kind k1) c.of_kind.ensures c.read_mark.ensures.asks c.check_kind.ensures.asks
+    (asks_once g.D.SectorDisk (λ s. s ≡ directory_of c.of_kind.result) (λ s. s ≡ directory_of c.of_kind.result) c.check_kind.new.disk c.read_directory.new.disk (λ s at. at) c.read_directory.ensures.once)

@@ -1,5 +1,5 @@
 use Rattle.file_store.proofs.Names.{◌≡◌, ◌≤◌, ℕ, sym, subst, ◌∙◌, arith, rules, false≢true, Image}
-use Rattle.file_store.{specs.{Versions.{homes_of, home_pages_of, directory_of, mark_of}, Directory.{IsBadDirectory}, Standing.IsBadLayoutIn.{Unmarked, BadDirectory}}, proofs.Openings.{good_when}}
+use Rattle.file_store.{specs.{Versions.{homes_of, home_pages_of, directory_of, mark_of}, Directory.{IsBadDirectory}, Standing.IsBadLayoutIn.{Unmarked, BadDirectory}}, proofs.{Asking.{none_once, mark_once, layout_once}, Openings.{good_when}}}
 use Rattle.file_store.proofs.opening.read_layout.Goals as goal
 
 pub returns-then-not-marks-clause-looks : goal.returns-then-not-marks-clause-looks
@@ -27,3 +27,15 @@ returns-clause-looks g c = record {
       (subst (λ (m : ℕ). IsBadDirectory (home_pages_of c.args.version m) (g.D.SectorDisk.content c.read.new.self (directory_of c.args.version))) c.read.ensures.size (c.read_directory.ensures.looks.bad k is)));
   no_journal = c.read_directory.ensures.looks.no_journal;
 }
+
+pub returns-then-sectors-first_home-clause-once : goal.returns-then-sectors-first_home-clause-once
+returns-then-sectors-first_home-clause-once g c = none_once _ _
+
+pub returns-in_err-read-clause-once : goal.returns-in_err-read-clause-once
+returns-in_err-read-clause-once g c = mark_once c.args.version _ _ c.read.ensures.asks
+
+pub returns-then-not-marks-clause-once : goal.returns-then-not-marks-clause-once
+returns-then-not-marks-clause-once g c = mark_once c.args.version _ _ c.read.ensures.asks
+
+pub returns-clause-once : goal.returns-clause-once
+returns-clause-once g c = layout_once c.args.version _ _ _ c.read.ensures.asks c.read_directory.ensures.once

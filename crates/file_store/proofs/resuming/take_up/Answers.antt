@@ -26,9 +26,7 @@ resume-requires-clause-kind g c = λ k.
     ap (λ (image : Image). kind_of image) (content_is g.D.SectorDisk c.args.disk.now c.read_head.new.disk (c.read_head.ensures.looks.run.touches k)) ∙ c.in_ok-found.ensures.found.kind k
 
 pub resume-requires-clause-synced : goal.resume-requires-clause-synced
-resume-requires-clause-synced g c = λ k n u.
-    let run = c.read_head.ensures.looks.run in
-    ⊎_elim (c.requires.synced (run.kept k) n) (λ none. none) ((run.touches k).unsynced n u)
+resume-requires-clause-synced g c = λ k n u. let run = c.read_head.ensures.looks.run in ⊎_elim (c.requires.synced (run.kept k) n) (λ none. none) ((run.touches k).unsynced n u)
 
 pub returns-in_err-journal-clause-run : goal.returns-in_err-journal-clause-run
 returns-in_err-journal-clause-run g c =

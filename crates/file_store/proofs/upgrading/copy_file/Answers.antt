@@ -1,6 +1,6 @@
-use Rattle.file_store.proofs.Names.{◌≡◌, ◌+◌, ◌*◌, ◌<◌, Some, refl, sym, ap, subst, ◌∙◌, ⊎_elim, arith, cases_eq, Image, Nothing, part_of, layout_before, home_count_in, standing_in, kind_home, one_more}
+use Rattle.file_store.proofs.Names.{◌≡◌, ◌+◌, ◌*◌, ◌<◌, Some, refl, sym, ap, subst, ◌∙◌, ⊎_elim, arith, cases_eq, Image, Nothing, part_of, old_homes, layout_before, home_count_in, standing_in, kind_home, one_more}
 use Rattle.file_store.specs.{Layout.{pages_of_length}, Format.{HoldsPage}, Standing.{page_standing_in}, Upgrade.{IsOldStore, IsFileSector, IsOldPage}, Faults.{old_fault}}
-use Rattle.file_store.proofs.{Causes.{same_Err}, Copied.{page_asked, copies_unread, copies_unwritten}, Making.{makes_more, makes_page}, Openings.{content_is}}
+use Rattle.file_store.proofs.{Causes.{same_Err}, Copied.{page_once, copies_unread, copies_unwritten}, Making.{makes_more, makes_page}, Openings.{content_is}}
 use Rattle.file_store.proofs.upgrading.copy_file.Goals as goal
 
 pub read_page-requires-clause-home : goal.read_page-requires-clause-home
@@ -23,9 +23,9 @@ loop-k-preserved g c =
     let old = d.content c.args.old.now in let new = n.content c.write_page.new.disk in
     record {
       old_run = one_more d Nothing c.args.old.now c.loop-k.old c.read_page.new.disk inv.old_run c.read_page.ensures.reads.run;
-      asks_old = λ keeps.
+      once_old = λ keeps.
           let was = c.read_page.ensures.reads.run.kept keeps in let same = content_is d c.args.old.now c.loop-k.old (inv.old_run.touches was) in
-          page_asked d c.args.journals c.args.store.now.journal.journals entry c.loop-k.k (c.loop-k.k + 1) c.args.old.now c.loop-k.old c.read_page.new.disk (omega arith) c.requires.before same (inv.asks_old was) (c.read_page.ensures.asks keeps);
+          page_once d c.args.journals c.args.store.now.journal.journals (old_homes c.args.store.now.journal) entry c.loop-k.k (c.loop-k.k + 1) c.args.old.now c.loop-k.old c.read_page.new.disk (omega arith) c.requires.before same (c.requires.found (inv.old_run.kept was)).stands c.requires.few (inv.once_old was) (c.read_page.ensures.asks keeps);
       run = makes_more n (IsFileSector c.args.journals entry) c.args.new.now c.loop-k.new c.write_page.new.disk inv.run
           (makes_page g.E.SectorDisk (IsFileSector c.args.journals entry) (c.first_home-homes.result + 8 * c.from.result) c.loop-k.new c.write_page.new.disk
           (λ s inside. (entry.first + c.loop-k.k, (omega arith, omega (arith, below)), (omega (arith, inside.0, c.from.ensures, c.first_home-homes.ensures.is), omega (arith, inside.1, c.from.ensures, c.first_home-homes.ensures.is)))) c.write_page.ensures.run c.write_page.ensures.asks);
@@ -54,7 +54,7 @@ returns-in_err-read_page-clause-copies g c =
     copies_unread d n W _ c.args.old.now c.read_page.new.disk c.args.new.now c.loop-k.new (one_more d Nothing c.args.old.now c.loop-k.old c.read_page.new.disk inv.old_run c.read_page.ensures.reads.run)
     (λ keeps.
     let was = c.read_page.ensures.reads.run.kept keeps in let same = content_is d c.args.old.now c.loop-k.old (inv.old_run.touches was) in
-    page_asked d c.args.journals c.args.store.now.journal.journals entry c.loop-k.k _ c.args.old.now c.loop-k.old c.read_page.new.disk below c.requires.before same (inv.asks_old was) (c.read_page.ensures.asks keeps))
+    page_once d c.args.journals c.args.store.now.journal.journals (old_homes c.args.store.now.journal) entry c.loop-k.k _ c.args.old.now c.loop-k.old c.read_page.new.disk below c.requires.before same (c.requires.found (inv.old_run.kept was)).stands c.requires.few (inv.once_old was) (c.read_page.ensures.asks keeps))
     inv.run (old_fault fault) c.from_residual.result c.from_residual.ensures.1 (ap old_fault (same_Err _ _ c.in_err-read_page.ensures.device)) (omega (arith, failed, calm)) inv.calm
 
 pub returns-in_err-write_page-clause-copies : goal.returns-in_err-write_page-clause-copies
@@ -66,7 +66,7 @@ returns-in_err-write_page-clause-copies g c =
     copies_unwritten d n W _ c.args.old.now c.read_page.new.disk c.args.new.now c.write_page.new.disk (one_more d Nothing c.args.old.now c.loop-k.old c.read_page.new.disk inv.old_run c.read_page.ensures.reads.run)
     (λ keeps.
     let was = c.read_page.ensures.reads.run.kept keeps in let same = content_is d c.args.old.now c.loop-k.old (inv.old_run.touches was) in
-    page_asked d c.args.journals c.args.store.now.journal.journals entry c.loop-k.k _ c.args.old.now c.loop-k.old c.read_page.new.disk below c.requires.before same (inv.asks_old was) (c.read_page.ensures.asks keeps))
+    page_once d c.args.journals c.args.store.now.journal.journals (old_homes c.args.store.now.journal) entry c.loop-k.k _ c.args.old.now c.loop-k.old c.read_page.new.disk below c.requires.before same (c.requires.found (inv.old_run.kept was)).stands c.requires.few (inv.once_old was) (c.read_page.ensures.asks keeps))
     (makes_more g.E.SectorDisk (IsFileSector c.args.journals entry) c.args.new.now c.loop-k.new c.write_page.new.disk c.loop-k.invariant.run
     (makes_page g.E.SectorDisk (IsFileSector c.args.journals entry) (c.first_home-homes.result + 8 * c.from.result) c.loop-k.new c.write_page.new.disk
     (λ s inside. (entry.first + c.loop-k.k, (omega arith, omega (arith, below)), (omega (arith, inside.0, c.from.ensures, c.first_home-homes.ensures.is), omega (arith, inside.1, c.from.ensures, c.first_home-homes.ensures.is)))) c.write_page.ensures.run c.write_page.ensures.asks))

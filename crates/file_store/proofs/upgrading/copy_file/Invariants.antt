@@ -1,10 +1,10 @@
-use Rattle.file_store.{proofs.Names.{◌≡◌, AsksOnly, Nothing, RunsOnDevice}, specs.{Making.{Makes}, Upgrade.{IsOldPage, IsFileSector, HoldsOldPages}}}
+use Rattle.file_store.{proofs.Names.{◌≡◌, NamesOnce, Nothing, RunsOnDevice}, specs.{Making.{Makes}, Upgrade.{IsOldPage, IsFileSector, HoldsOldPages}}}
 use Rattle.file_store.proofs.upgrading.copy_file.Given as goal
 
 abbrev pub invariant-loop-k : goal.invariant-loop-k
 invariant-loop-k g l = record {
   old_run : RunsOnDevice g.D.SectorDisk Nothing l.initial.old l.old;
-  asks_old : g.D.SectorDisk.keeps_model l.old → AsksOnly g.D.SectorDisk (IsOldPage l.fn.journals (g.D.SectorDisk.content l.initial.old) l.entry l.k) l.initial.old l.old;
+  once_old : g.D.SectorDisk.keeps_model l.old → NamesOnce (IsOldPage l.fn.journals (g.D.SectorDisk.content l.initial.old) l.entry l.k) (g.D.SectorDisk.asked l.initial.old) (g.D.SectorDisk.asked l.old);
   run : Makes g.E.SectorDisk (IsFileSector l.fn.journals l.entry) l.initial.new l.new;
   old_calm : g.D.SectorDisk.failures l.old ≡ g.D.SectorDisk.failures l.initial.old;
   calm : g.E.SectorDisk.failures l.new ≡ g.E.SectorDisk.failures l.initial.new;

@@ -1,6 +1,6 @@
-use Rattle.file_store.proofs.Names.{◌≡◌, ◌+◌, Option, Some, sym, ap, subst, ◌∙◌, ⊎_elim, arith, cases_eq, Image, Nothing, asks_then, asks_wider, layout_before, home_count_in, kind_home, one_more}
-use Rattle.file_store.specs.{Layout.{pages_of_length}, Store.{entry_of}, Upgrade.{IsEntrySector, IsFilesSector, IsOldEntry, IsOldFile, HoldsOldPages}, declared.directory.Entry.{Entry}}
-use Rattle.file_store.proofs.{Copied.{copiable_still, copies_error}, Making.{makes_more, makes_of}, Openings.{content_is}, Upgrades.{not_in_entry}}
+use Rattle.file_store.proofs.Names.{◌≡◌, ◌+◌, Some, sym, ap, subst, ◌∙◌, ⊎_elim, arith, cases_eq, Image, Nothing, once_wider, layout_before, home_count_in, kind_home, one_more}
+use Rattle.file_store.specs.{Layout.{pages_of_length}, Store.{entry_of}, Upgrade.{IsEntrySector, IsFilesSector, IsOldFile, HoldsOldPages}}
+use Rattle.file_store.proofs.{Copied.{IsOldFirst, copiable_still, copies_done, copies_error, file_once}, Making.{makes_more, makes_of}, Openings.{content_is}, Upgrades.{not_in_entry}}
 use Rattle.file_store.proofs.upgrading.copy_files.Goals as goal
 
 pub copy_entry-requires : goal.copy_entry-requires
@@ -19,17 +19,11 @@ loop-f-preserved g c =
     let old = d.content c.args.old.now in
     record {
       old_run = one_more d Nothing c.args.old.now c.loop-f.old c.copy_entry.new.old inv.old_run w.copies.old_run;
-      asks_old = λ keeps.
+      once_old = λ keeps.
           let was = c.copy_entry.ensures.copies.old_run.kept keeps in
           let same = content_is d c.args.old.now c.loop-f.old (inv.old_run.touches was) in
-          let W = IsOldFile c.args.journals old in
-          asks_then d W c.args.old.now c.loop-f.old c.copy_entry.new.old (inv.asks_old was)
-          (asks_wider d (IsOldEntry c.args.journals (d.content c.loop-f.old) entry) W c.loop-f.old c.copy_entry.new.old
-          (λ k at. (
-            c.loop-f.f,
-            subst (λ (o : Option Entry). IsOldEntry c.args.journals old o k) ((c.requires.found (inv.old_run.kept was)).entries c.loop-f.f)
-                (subst (λ (image : Image). IsOldEntry c.args.journals image entry k) same at),
-          )) (c.copy_entry.ensures.copies.asks_old keeps));
+          file_once d c.args.journals c.args.store.now (home_count_in (layout_before c.args.journals) (d.sector_count c.args.old.now)) c.loop-f.f c.args.old.now c.loop-f.old c.copy_entry.new.old same
+          (c.requires.found (inv.old_run.kept was)) c.requires.few c.requires.sound (inv.once_old was) (c.copy_entry.ensures.copies.once_old keeps);
       run = makes_more n (IsFilesSector c.args.journals (entry_of c.args.store.now.directory)) c.args.new.now c.loop-f.new c.copy_entry.new.new inv.run
           (makes_of n (IsEntrySector c.args.journals entry) (IsFilesSector c.args.journals (entry_of c.args.store.now.directory)) c.loop-f.new c.copy_entry.new.new (λ k at. (c.loop-f.f, at)) c.copy_entry.ensures.copies.run);
       old_calm = c.in_ok-copy_entry.ensures.copies.causes.old_still (λ e. cc) ∙ inv.old_calm;
@@ -58,14 +52,18 @@ returns-in_err-copy_entry-clause-copies g c =
     (λ keeps.
     let was = c.copy_entry.ensures.copies.old_run.kept keeps in
     let same = content_is d c.args.old.now c.loop-f.old (inv.old_run.touches was) in
-    let W = IsOldFile c.args.journals old in
-    asks_then d W c.args.old.now c.loop-f.old c.copy_entry.new.old (inv.asks_old was)
-    (asks_wider d (IsOldEntry c.args.journals (d.content c.loop-f.old) entry) W c.loop-f.old c.copy_entry.new.old
-    (λ k at. (
-      c.loop-f.f,
-      subst (λ (o : Option Entry). IsOldEntry c.args.journals old o k) ((c.requires.found (inv.old_run.kept was)).entries c.loop-f.f)
-          (subst (λ (image : Image). IsOldEntry c.args.journals image entry k) same at),
-    )) (c.copy_entry.ensures.copies.asks_old keeps)))
+    once_wider (IsOldFirst c.args.journals old (c.loop-f.f + 1)) (IsOldFile c.args.journals old) (d.asked c.args.old.now) (d.asked c.copy_entry.new.old) (λ k at. (at.0, at.2))
+    (file_once d c.args.journals c.args.store.now (home_count_in (layout_before c.args.journals) (d.sector_count c.args.old.now)) c.loop-f.f c.args.old.now c.loop-f.old c.copy_entry.new.old same
+    (c.requires.found (inv.old_run.kept was)) c.requires.few c.requires.sound (inv.once_old was) (c.copy_entry.ensures.copies.once_old keeps)))
     (makes_more g.E.SectorDisk (IsFilesSector c.args.journals (entry_of c.args.store.now.directory)) c.args.new.now c.loop-f.new c.copy_entry.new.new c.loop-f.invariant.run
     (makes_of g.E.SectorDisk (IsEntrySector c.args.journals entry) (IsFilesSector c.args.journals (entry_of c.args.store.now.directory)) c.loop-f.new c.copy_entry.new.new (λ k at. (c.loop-f.f, at)) c.copy_entry.ensures.copies.run))
     _ _ c.in_err-copy_entry.field-0.0 c.from_residual.result c.loop-f.old c.loop-f.new c.from_residual.ensures.1 inv.old_calm inv.calm c.in_err-copy_entry.ensures.copies
+
+pub returns-clause-copies : goal.returns-clause-copies
+returns-clause-copies g c =
+    let inv = c.loop-f.invariant in
+    let d = g.D.SectorDisk in
+    let old = d.content c.args.old.now in
+    copies_done d g.E.SectorDisk _ _ c.args.old.now c.loop-f.old c.args.new.now c.loop-f.new inv.old_run
+    (λ keeps. once_wider (IsOldFirst c.args.journals old c.loop-f.f) (IsOldFile c.args.journals old) (d.asked c.args.old.now) (d.asked c.loop-f.old) (λ k at. (at.0, at.2)) (inv.once_old keeps))
+    inv.run _ inv.old_calm inv.calm

@@ -9,7 +9,7 @@ returns-in_err-copy_files-clause-copies g c =
     let entries = entry_of c.args.store.now.directory in
     let W : ℕ → Type 0 = IsCopiedSector c.args.journals entries in
     let copied = c.copy_files.ensures.copies in
-    copies_error g.D.SectorDisk n _ W c.args.old.now c.copy_files.new.old c.args.new.now c.copy_files.new.new copied.old_run copied.asks_old
+    copies_error g.D.SectorDisk n _ W c.args.old.now c.copy_files.new.old c.args.new.now c.copy_files.new.new copied.old_run copied.once_old
     (makes_of n (IsFilesSector c.args.journals entries) W c.args.new.now c.copy_files.new.new (λ k at. inr at) copied.run)
     _ _ c.in_err-copy_files.field-0.0 c.from_residual.result c.args.old.now c.args.new.now c.from_residual.ensures.1 refl refl c.in_err-copy_files.ensures.copies
 
@@ -21,7 +21,7 @@ returns-in_err-write_layout-clause-copies g c =
     let copied = c.copy_files.ensures.copies in
     let failed = c.in_err-write_layout.ensures.writes.failed refl in
     let calm = c.in_ok-copy_files.ensures.copies.causes.new_still (ok_is_no_err _ _) in
-    copies_unwritten g.D.SectorDisk n _ W c.args.old.now c.copy_files.new.old c.args.new.now c.write_layout.new.disk copied.old_run copied.asks_old
+    copies_unwritten g.D.SectorDisk n _ W c.args.old.now c.copy_files.new.old c.args.new.now c.write_layout.new.disk copied.old_run copied.once_old
     (makes_more n W c.args.new.now c.copy_files.new.new c.write_layout.new.disk
     (makes_of n (IsFilesSector c.args.journals entries) W c.args.new.now c.copy_files.new.new (λ k at. inr at) copied.run)
     (makes_of n (IsLayoutSector c.args.journals) W c.copy_files.new.new c.write_layout.new.disk (λ k at. inl at) c.write_layout.ensures.writes.run))
@@ -33,7 +33,7 @@ returns-clause-copies g c =
     let entries = entry_of c.args.store.now.directory in
     let W : ℕ → Type 0 = IsCopiedSector c.args.journals entries in
     let copied = c.copy_files.ensures.copies in
-    copies_done g.D.SectorDisk n _ W c.args.old.now c.copy_files.new.old c.args.new.now c.write_layout.new.disk copied.old_run copied.asks_old
+    copies_done g.D.SectorDisk n _ W c.args.old.now c.copy_files.new.old c.args.new.now c.write_layout.new.disk copied.old_run copied.once_old
     (makes_more n W c.args.new.now c.copy_files.new.new c.write_layout.new.disk
     (makes_of n (IsFilesSector c.args.journals entries) W c.args.new.now c.copy_files.new.new (λ k at. inr at) copied.run)
     (makes_of n (IsLayoutSector c.args.journals) W c.copy_files.new.new c.write_layout.new.disk (λ k at. inl at) c.write_layout.ensures.writes.run))

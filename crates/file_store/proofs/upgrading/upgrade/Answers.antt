@@ -1,6 +1,6 @@
-use Rattle.file_store.proofs.{Causes.{is_this, same_Err}, Copied.{causes_after, causes_before, causes_none, causes_marking, copied_old_asked}, Formats.{marked_whole}, Looking.{ok_is_no_err}, Marking.{LeavesNoPart, nothing_made}}
+use Rattle.file_store.proofs.{Causes.{is_this, same_Err}, Copied.{causes_after, causes_before, causes_none, causes_marking, copied_old_once}, Formats.{marked_whole}, Looking.{ok_is_no_err}, Marking.{LeavesNoPart, nothing_made}}
 use Rattle.file_store.proofs.{Marking.{unmarked_made, marked_made}, Names.{◌≡◌, ◌⊎◌, ◌≤◌, ◌<◌, ℕ, Result, Err, OnOk, Some, refl, inl, inr, ⊎_elim, sym, ap, subst, ◌∙◌, on_ok_weaker, IsErrOf, Image, Nothing, AsksOnly, stays, asks_none}}
-use Rattle.file_store.proofs.{Names.{asks_then, asks_wider, Journals, kind_home_count, layout_before, home_count_in, one_more}, Openings.{content_is}, Refusing.{of_old, broken_from, when_checking, when_copying, when_marking}}
+use Rattle.file_store.proofs.{Names.{NamesOnce, once_wider, asks_once, asks_then, asks_wider, Journals, kind_home_count, layout_before, home_count_in, one_more}, Openings.{content_is}, Refusing.{of_old, broken_from, when_checking, when_copying, when_marking}}
 use Rattle.file_store.proofs.{Refusing.{room_is_not_small, causes_checked, upgrade_refused}, Upgrades.{kindless_upgrade_moves, upgraded_of_kind, copied_from, copied_asked, layout_from, old_fault_cases, too_small, upgrade_whole}}
 use Rattle.file_store.{proofs.{Upgrades.{entries_fit}, upgrading.upgrade.{Given.{Over}, Goals.{After-write_mark}}}, specs.{Directory.{home_end, IsSoundDirectory}, Faults.{old_fault}, Format.{IsMarkSector}, Store.{entry_of}}}
 use Rattle.file_store.specs.{Upgrade.{old_entry, IsOldStore, IsUnmarkedUpgrade, IsKindlessUpgrade, IsUpgradeOf, IsCopiedSector, IsUpgradeSector, IsOldHead, IsOldAsked, HasUpgradeCauses}, Upgraded.{UpgradesStore}, Versions.{version_at}}
@@ -13,6 +13,7 @@ copy_unmarked-requires-clause-copied g c =
     record {
       before = found.before;
       sound = subst (λ (n : ℕ). IsSoundDirectory (home_count_in (layout_before c.args.journals) n) (entry_of store.directory)) (sym c.find.ensures.looks.run.size) found.sound;
+      few = found.few;
       found = λ keeps. subst (λ (image : Image). IsOldStore c.args.journals image store) (sym (content_is d c.args.old.now c.find.new.disk (c.find.ensures.looks.run.touches keeps))) (found.found keeps);
       fits = λ f e is. subst (λ (n : ℕ). home_end e ≤ kind_home_count c.args.journals n) (sym c.check_new.ensures.run.size) ((c.in_ok-check_new.ensures.room (ok_is_no_err _ _)).fits f e is);
     }
@@ -24,7 +25,7 @@ returns-in_err-store g c =
     let new = c.args.new.now in let image = d.content old in let find = c.find.ensures in let fault = c.in_err-store.field-0.0 in
     let e = c.in_err-store.ensures in
     upgrade_refused d n kind old read new new (old_fault fault) c.from_residual.result c.from_residual.ensures.1 find.looks.run refl (λ k. k)
-    (λ k. asks_wider d (IsOldHead kind) (IsOldAsked kind image) old read (λ s at. inl at) find.asks) (λ k. asks_none n (IsUpgradeSector kind image) new new (λ s. refl))
+    (λ k. once_wider (IsOldHead kind image) (IsOldAsked kind image) (d.asked old) (d.asked read) (λ s at. inl at) (find.once k)) (λ k. asks_none n (IsUpgradeSector kind image) new new (λ s. refl))
     (causes_before fault _ _ _ e.looks find.looks.run.later)
     (λ k k'. nothing_made n kind (λ b. IsUpgradeOf b (d.sector_count old) (n.sector_count new) image) new (λ i left. g.met.E.SectorDisk.only_now new i k' left) new (stays n Nothing new))
     (λ k is. e.bad_layout k (ap Err (layout_from fault is)))
@@ -43,7 +44,7 @@ returns-in_err-check_new g c =
     let check = c.check_new.ensures in let found = c.in_ok-store.ensures.found in let calm = c.in_ok-store.ensures.looks.calm in
     let fault = c.in_err-check_new.field-0.0 in let e = c.in_err-check_new.ensures in let other = when_checking fault e.causes.others in
     upgrade_refused d n kind old read new checked fault c.from_residual-in_err-check_new.result c.from_residual-in_err-check_new.ensures.1 find.looks.run check.run.size check.run.kept
-    (λ k. asks_wider d (IsOldHead kind) (IsOldAsked kind image) old read (λ s at. inl at) find.asks) (λ k. asks_wider n IsMarkSector (IsUpgradeSector kind image) new checked (λ s at. inl at) check.asks)
+    (λ k. once_wider (IsOldHead kind image) (IsOldAsked kind image) (d.asked old) (d.asked read) (λ s at. inl at) (find.once k)) (λ k. asks_wider n IsMarkSector (IsUpgradeSector kind image) new checked (λ s at. inl at) check.asks)
     (causes_checked fault _ _ _ _ calm other.1.1 check.run.later e.causes)
     (λ k k'. nothing_made n kind (λ b. IsUpgradeOf b (d.sector_count old) (n.sector_count new) image) new (λ i left. g.met.E.SectorDisk.only_now new i (check.run.kept k') left) checked (check.run.touches k'))
     (λ k is. absurd (other.0 is)) (λ k bad. absurd (found.good_layout k bad)) (λ k is. absurd (other.1.0 is)) (λ k bad. absurd (found.good_journal k bad))
@@ -65,14 +66,15 @@ returns-in_err-copy_unmarked g c =
     entries_fit kind sectors image entries (found.found (copies.old_run.kept k)).entries c.in_ok-store.store.directory.numbers has.fits in
     let same : d.keeps_model copied → d.content read ≡ image = λ k. content_is d old read (find.looks.run.touches (copies.old_run.kept k)) in
     let Whole : Journals → Image → Type 0 = λ b. IsUpgradeOf b (d.sector_count old) sectors image in
-    let asks_old : d.keeps_model copied → AsksOnly d (IsOldAsked kind image) old copied = λ k. copied_old_asked d kind old read copied (same k) find.asks (copies.asks_old k) in
+    let once_old : d.keeps_model copied → NamesOnce (IsOldAsked kind image) (d.asked old) (d.asked copied) = λ k.
+    copied_old_once d kind _ old read copied (same k) (found.found (copies.old_run.kept k)).stands (find.once (copies.old_run.kept k)) (copies.once_old k) in
     let asks_made : d.keeps_model copied → AsksOnly n (IsUpgradeSector kind image) new made = λ k. asks_then n (IsUpgradeSector kind image) new checked made
     (asks_wider n IsMarkSector (IsUpgradeSector kind image) new checked (λ s at. inl at) check.asks)
     (asks_wider n (IsCopiedSector kind entries) (IsUpgradeSector kind image) checked made (copied_asked kind image entries (found.found (copies.old_run.kept k)).entries) copies.run.asks) in
     let run = one_more d Nothing old read copied find.looks.run copies.old_run in let fault = c.in_err-copy_unmarked.field-0.0 in
     let e = c.in_err-copy_unmarked.ensures in let other = when_copying fault e.copies.others in
     upgrade_refused d n kind old copied new made fault c.from_residual-in_err-copy_unmarked.result c.from_residual-in_err-copy_unmarked.ensures.1 run (copies.run.size ∙ check.run.size) (λ k. check.run.kept (copies.run.kept k))
-    asks_old asks_made (causes_after fault _ _ _ _ _ _ calm still e.copies.causes)
+    once_old asks_made (causes_after fault _ _ _ _ _ _ calm still e.copies.causes)
     (λ k k'. unmarked_made n kind Whole new (λ image left. g.met.E.SectorDisk.only_now new image (check.run.kept (copies.run.kept k')) left) checked (check.run.touches (copies.run.kept k'))
     (IsCopiedSector kind entries) (copied_from kind entries) (IsKindlessUpgrade (d.content read)) (IsKindlessUpgrade image) (λ i q. subst (λ (o : Image). IsKindlessUpgrade o i) (same k) q)
     (λ paired. upgraded_of_kind kind (d.sector_count old) sectors image paired has.room (found.good_layout (copies.old_run.kept k)) (known k)) made (copies.run.touches k')
@@ -98,6 +100,8 @@ marked_upgrade g c r none marked synced causes =
     entries_fit kind sectors image entries (found.found (copies.old_run.kept k)).entries c.in_ok-store.store.directory.numbers has.fits in
     let same : d.keeps_model copied → d.content read ≡ image = λ k. content_is d old read (find.looks.run.touches (copies.old_run.kept k)) in
     let Whole : Journals → Image → Type 0 = λ b. IsUpgradeOf b (d.sector_count old) sectors image in
+    let once_old : d.keeps_model copied → NamesOnce (IsOldAsked kind image) (d.asked old) (d.asked copied) = λ k.
+    copied_old_once d kind _ old read copied (same k) (found.found (copies.old_run.kept k)).stands (find.once (copies.old_run.kept k)) (copies.once_old k) in
     let run = one_more d Nothing old read copied find.looks.run copies.old_run in let m = c.write_mark.ensures.writes.run in
     let last_new = c.write_mark.new.disk in
     let written : d.keeps_model copied → n.keeps_model made → IsUnmarkedUpgrade kind image (n.content made) = λ k last. subst (λ (i : Image). IsUnmarkedUpgrade kind i (n.content made)) (same k) (c.in_ok-copy_unmarked.ensures.written k last) in
@@ -120,7 +124,8 @@ marked_upgrade g c r none marked synced causes =
       old_kept = run.kept;
       kept = λ k. check.run.kept (copies.run.kept (m.kept k));
       only_read = run.touches;
-      asks_old = λ k. copied_old_asked d kind old read copied (same k) find.asks (copies.asks_old k);
+      asks_old = λ k. asks_once d (IsOldAsked kind image) (IsOldAsked kind image) old copied (λ s at. at) (once_old k);
+      once_old = once_old;
       asks = λ k. asks_then n (IsUpgradeSector kind image) new made last_new
           (asks_then n (IsUpgradeSector kind image) new checked made (asks_wider n IsMarkSector (IsUpgradeSector kind image) new checked (λ s at. inl at) check.asks)
           (asks_wider n (IsCopiedSector kind entries) (IsUpgradeSector kind image) checked made (copied_asked kind image entries (found.found (copies.old_run.kept k)).entries) copies.run.asks))

@@ -4,5 +4,4 @@ use Rattle.inspection.proofs.frame_views.first_mapper.Given as goal
 
 -- no process before this one has such a page
 abbrev pub invariant-loop-number : goal.invariant-loop-number
-invariant-loop-number g l =
-    (p k : ℕ) → p < l.number → IsAtOrAfter l.pid l.page p k → IsPage (top_level g.M.Levels.mode) k → IsOver (picture_of l.core) Kinds.Forget l.n.0 p k → ⊥
+invariant-loop-number g l = (p k : ℕ) → p < l.number → IsAtOrAfter l.pid l.page p k → IsPage (top_level g.M.Levels.mode) k → IsOver (picture_of l.core) Kinds.Forget l.n.0 p k → ⊥

@@ -23,13 +23,13 @@ loop-n-preserved g c =
 pub overflow_add-step : goal.overflow_add-step
 overflow_add-step g c = let levels = (sizes g.M.Levels.mode).levels.1 in let most = c.loop-n.invariant.stands.level in omega (arith, most, levels)
 
-pub span_of-span-requires : goal.span_of-span-requires
-span_of-span-requires g c = let levels = (sizes g.M.Levels.mode).levels.1 in let most = c.loop-n.invariant.stands.level in omega (arith, most, levels)
+pub entry_pages-span-requires : goal.entry_pages-span-requires
+entry_pages-span-requires g c = let levels = (sizes g.M.Levels.mode).levels.1 in let most = c.loop-n.invariant.stands.level in omega (arith, most, levels)
 
 pub nonzero_div-result : goal.nonzero_div-result
-nonzero_div-result g c = let some = span_positive (c.loop-n.step.level + 1) in omega (arith, some, c.span_of-span.ensures)
+nonzero_div-result g c = let some = span_positive (c.loop-n.step.level + 1) in omega (arith, some, c.entry_pages-span.ensures)
 
 pub returns-clause-some : goal.returns-clause-some
 returns-clause-some g c =
-    placed (picture_of c.args.core.now) c.args.pid c.args.page c.args.n.0 (c.args.page / c.span_of-span.result * c.span_of-span.result) c.loop-n.step c.loop-n.invariant.stands
-    (search rules) c.requires.inside (ap (λ (x : ℕ). c.args.page / x * x) c.span_of-span.ensures)
+    placed (picture_of c.args.core.now) c.args.pid c.args.page c.args.n.0 (c.args.page / c.entry_pages-span.result * c.entry_pages-span.result) c.loop-n.step c.loop-n.invariant.stands
+    (search rules) c.requires.inside (ap (λ (x : ℕ). c.args.page / x * x) c.entry_pages-span.ensures)

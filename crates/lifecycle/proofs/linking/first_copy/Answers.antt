@@ -1,32 +1,31 @@
 use Rattle.lifecycle.proofs.Names.{user_pages_fit, top_level, ◌≡◌, ℕ, inl, inr, ◌+◌, ◌/◌, refl, sym, ap, ◌∙◌, subst, arith, cases_eq, cases_lt, number_of, IsTableOf, seat, Picture, picture_of, entry, entry-of, seat-none, none_passed}
-use Rattle.lifecycle.proofs.Passed.{same_table, page_form}
+use Rattle.lifecycle.proofs.{Live.{live_root}, Passed.{same_table, page_form}}
 use Rattle.lifecycle.proofs.linking.first_copy.Goals as goal
-
-pub table_of-requires-clause-root : goal.table_of-requires-clause-root
-table_of-requires-clause-root g c = c.requires.fit.rooted.roots c.args.pid c.root_of-root.result.0 c.root_of-root.ensures
 
 -- the number at a place is the entry of the page there
 pub decode-requires : goal.decode-requires
 decode-requires g c =
-    let same = same_table c.args.start c.loop-page.page c.args.stop c.loop-page.invariant.from c.loop-page-test.true c.requires.one_table in
-    let T : ℕ → Type 0 = λ x. IsTableOf c.args.core.now.frames (top_level g.M.Levels.mode) c.root_of-root.result.0 x c.in-Ok.table.0 in
-    page_form (picture_of c.args.core.now) c.args.pid c.loop-page.page c.number_in.result.0 c.requires.fit.rooted c.requires.live
-    (c.number_in.ensures c.root_of-root.result.0 c.loop-page.page (subst T (sym same) c.in-Ok.ensures.found) refl
-    ∙ sym (entry-of (picture_of c.args.core.now) c.args.pid c.root_of-root.result.0 c.loop-page.page c.root_of-root.ensures))
+    let r = live_root ((picture_of c.args.core.now).root c.args.part.now.pid) c.requires.live in
+    let same = same_table c.args.part.now.first c.loop-page.page c.args.part.now.end c.loop-page.invariant.from c.loop-page-test.true c.requires.part.one_table in
+    let T : ℕ → Type 0 = λ x. IsTableOf c.args.core.now.frames (top_level g.M.Levels.mode) r.0 x c.args.part.now.table.0 in
+    page_form (picture_of c.args.core.now) c.args.part.now.pid c.loop-page.page c.number_in.result.0 c.requires.fit.rooted c.requires.live
+    (c.number_in.ensures r.0 c.loop-page.page (subst T (sym same) (c.requires.part.table r.0 r.1)) refl
+    ∙ sym (entry-of (picture_of c.args.core.now) c.args.part.now.pid r.0 c.loop-page.page r.1))
 
 pub returns-then-is_own-clause-some : goal.returns-then-is_own-clause-some
 returns-then-is_own-clause-some g c =
     let old : Picture g.M.Levels.mode = picture_of c.args.core.now in
-    let same = same_table c.args.start c.loop-page.page c.args.stop c.loop-page.invariant.from c.loop-page-test.true c.requires.one_table in
-    let T : ℕ → Type 0 = λ x. IsTableOf c.args.core.now.frames (top_level g.M.Levels.mode) c.root_of-root.result.0 x c.in-Ok.table.0 in
-    let is : number_of c.decode.result ≡ entry old c.args.pid c.loop-page.page =
-    c.decode.ensures.number ∙ c.number_in.ensures c.root_of-root.result.0 c.loop-page.page (subst T (sym same) c.in-Ok.ensures.found) refl
-    ∙ sym (entry-of old c.args.pid c.root_of-root.result.0 c.loop-page.page c.root_of-root.ensures) in
+    let r = live_root ((picture_of c.args.core.now).root c.args.part.now.pid) c.requires.live in
+    let same = same_table c.args.part.now.first c.loop-page.page c.args.part.now.end c.loop-page.invariant.from c.loop-page-test.true c.requires.part.one_table in
+    let T : ℕ → Type 0 = λ x. IsTableOf c.args.core.now.frames (top_level g.M.Levels.mode) r.0 x c.args.part.now.table.0 in
+    let is : number_of c.decode.result ≡ entry old c.args.part.now.pid c.loop-page.page =
+    c.decode.ensures.number ∙ c.number_in.ensures r.0 c.loop-page.page (subst T (sym same) (c.requires.part.table r.0 r.1)) refl
+    ∙ sym (entry-of old c.args.part.now.pid r.0 c.loop-page.page r.1) in
     record {
       row = ap (λ x. x / 512) c.user_page.ensures ∙ same;
       copy = (
-        omega (arith, c.user_page.ensures, c.loop-page-test.true, c.requires.high, user_pages_fit g.M.Levels.mode),
-        λ none. c.is_own.ensures.own c.if-is_own.true (ap seat (is ∙ ap (entry old c.args.pid) (sym c.user_page.ensures)) ∙ none),
+        omega (arith, c.user_page.ensures, c.loop-page-test.true, c.requires.part.high, user_pages_fit g.M.Levels.mode),
+        λ none. c.is_own.ensures.own c.if-is_own.true (ap seat (is ∙ ap (entry old c.args.part.now.pid) (sym c.user_page.ensures)) ∙ none),
       );
     }
 
@@ -34,11 +33,12 @@ pub loop-page-preserved : goal.loop-page-preserved
 loop-page-preserved g c =
     let old : Picture g.M.Levels.mode = picture_of c.args.core.now in
     let k = c.loop-page.invariant in
-    let same = same_table c.args.start c.loop-page.page c.args.stop k.from c.loop-page-test.true c.requires.one_table in
-    let T : ℕ → Type 0 = λ x. IsTableOf c.args.core.now.frames (top_level g.M.Levels.mode) c.root_of-root.result.0 x c.in-Ok.table.0 in
-    let is : number_of c.decode.result ≡ entry old c.args.pid c.loop-page.page =
-    c.decode.ensures.number ∙ c.number_in.ensures c.root_of-root.result.0 c.loop-page.page (subst T (sym same) c.in-Ok.ensures.found) refl
-    ∙ sym (entry-of old c.args.pid c.root_of-root.result.0 c.loop-page.page c.root_of-root.ensures) in
+    let r = live_root ((picture_of c.args.core.now).root c.args.part.now.pid) c.requires.live in
+    let same = same_table c.args.part.now.first c.loop-page.page c.args.part.now.end k.from c.loop-page-test.true c.requires.part.one_table in
+    let T : ℕ → Type 0 = λ x. IsTableOf c.args.core.now.frames (top_level g.M.Levels.mode) r.0 x c.args.part.now.table.0 in
+    let is : number_of c.decode.result ≡ entry old c.args.part.now.pid c.loop-page.page =
+    c.decode.ensures.number ∙ c.number_in.ensures r.0 c.loop-page.page (subst T (sym same) (c.requires.part.table r.0 r.1)) refl
+    ∙ sym (entry-of old c.args.part.now.pid r.0 c.loop-page.page r.1) in
     let from = k.from in
     let step = c.next_entry-page.ensures in
     let within = step.within in
@@ -47,15 +47,12 @@ loop-page-preserved g c =
       none = λ page least below. elim (cases_lt page c.loop-page.page) [
         | inl before ↦ k.none page least before
         | inr over ↦ elim (cases_eq page c.loop-page.page) [
-          | inl e ↦ ap (λ x. seat (entry old c.args.pid x)) e ∙ ap seat (sym is) ∙ c.is_own.ensures.other c.if-is_own.false
-          | inr ne ↦ ap seat (none_passed old c.args.pid c.root_of-root.result.0 c.in-Ok.table.0 c.args.start (c.loop-page.page + 1) c.next_entry-page.result c.args.stop
-              c.root_of-root.ensures c.in-Ok.ensures.found (omega (arith, from)) within c.requires.one_table step.passed page (omega (arith, over, ne)) below) ∙ seat-none
+          | inl e ↦ ap (λ x. seat (entry old c.args.part.now.pid x)) e ∙ ap seat (sym is) ∙ c.is_own.ensures.other c.if-is_own.false
+          | inr ne ↦ ap seat (none_passed old c.args.part.now.pid r.0 c.args.part.now.table.0 c.args.part.now.first (c.loop-page.page + 1) c.next_entry-page.result c.args.part.now.end
+              r.1 (c.requires.part.table r.0 r.1) (omega (arith, from)) within c.requires.part.one_table step.passed page (omega (arith, over, ne)) below) ∙ seat-none
         ]
       ];
     }
 
 pub returns : goal.returns
-returns g c = record {
-  some = tt;
-  none = λ page from below. c.loop-page.invariant.none page from (omega (arith, below, c.loop-page-test.false));
-}
+returns g c = record { some = tt; none = λ page from below. c.loop-page.invariant.none page from (omega (arith, below, c.loop-page-test.false)) }

@@ -1,4 +1,5 @@
-use Rattle.lifecycle.proofs.{CopySteps.{copies_none, copies_then, copies_done, copies_stall, forking_still}, Linked.{still_there, both_rows, all_rows, none_wanted}, Names.{picture_of, nothing_on, low_zero}}
+use Rattle.lifecycle.proofs.{CopySteps.{copies_none, copies_then, copies_done, copies_stall, forking_still}, Linked.{still_there, both_rows, all_rows, none_wanted}, Names.{ℕ, Ok, Err, sym, subst, picture_of, nothing_on, low_zero}}
+use Rattle.lifecycle.specs.{Steps.{HasTablesFrom}, TablesForCopies.{LinksForCopies, MayLink}}
 use Rattle.lifecycle.proofs.linking.link_copies.Goals as goal
 
 pub loop-part-init : goal.loop-part-init
@@ -11,24 +12,27 @@ loop-part-init g c =
 pub link_part-requires-clause-ready : goal.link_part-requires-clause-ready
 link_part-requires-clause-ready g c =
     let k = c.loop-part.invariant.links in
-    record {
+    subst (λ (q : ℕ). MayLink g.E.SectorDisk c.loop-part.core q c.args.child) (sym c.in-Some.ensures.some.of) (record {
       forking = forking_still (picture_of c.args.core.now) (picture_of c.loop-part.core) c.args.parent c.args.child c.requires.forking k.moves.fit k.moves.spaces;
       swap = k.moves.swap;
-    }
+    })
 
 pub loop-part-preserved : goal.loop-part-preserved
 loop-part-preserved g c =
     let mid = c.loop-part.core in
     let last = c.link_part.new.core in
     let k = c.loop-part.invariant in
-    let step = c.in_ok-link_part.ensures in
     let part = c.in-Some.part in
+    let of = c.in-Some.ensures.some.of in
+    let step = c.in_ok-link_part.ensures in
     record {
-      links = copies_then g.E.SectorDisk c.args.core.now mid last c.args.parent c.args.child tt _ k.links step.links;
+      links = copies_then g.E.SectorDisk c.args.core.now mid last c.args.parent c.args.child tt _ k.links
+          (subst (λ (q : ℕ). LinksForCopies g.E.SectorDisk mid last q c.args.child (Ok c.in_ok-link_part.field-0)) of step.links);
       linked = both_rows (picture_of last) c.args.parent c.args.child 0 part.first part.end
           (still_there (picture_of mid) (picture_of last) c.args.parent c.args.child 0 part.first step.links.moves.fit.granting step.links.pages step.links.moves.tables
           (both_rows (picture_of mid) c.args.parent c.args.child 0 c.loop-part.page part.first k.linked
-          (none_wanted (picture_of mid) c.args.parent c.args.child c.loop-part.page part.first c.in-Some.ensures.some.gap))) step.linked;
+          (none_wanted (picture_of mid) c.args.parent c.args.child c.loop-part.page part.first c.in-Some.ensures.some.gap)))
+          (subst (λ (q : ℕ). HasTablesFrom (picture_of last) q c.args.child part.first part.end) of step.linked);
     }
 
 pub returns-in_err-link_part : goal.returns-in_err-link_part
@@ -38,7 +42,8 @@ returns-in_err-link_part g c =
     let stall = c.in_err-link_part.field-0.0 in
     record {
       links = copies_stall g.E.SectorDisk first last c.args.parent c.args.child stall c.from_residual.result c.from_residual.ensures.1
-          (copies_then g.E.SectorDisk first c.loop-part.core last c.args.parent c.args.child tt _ c.loop-part.invariant.links c.in_err-link_part.ensures.links);
+          (copies_then g.E.SectorDisk first c.loop-part.core last c.args.parent c.args.child tt _ c.loop-part.invariant.links
+          (subst (λ (q : ℕ). LinksForCopies g.E.SectorDisk c.loop-part.core last q c.args.child (Err c.in_err-link_part.field-0.0)) c.in-Some.ensures.some.of c.in_err-link_part.ensures.links));
       linked = nothing_on c.from_residual.result stall _ c.from_residual.ensures.1;
     }
 

@@ -1,4 +1,5 @@
-use Rattle.lifecycle.proofs.{Names.{sizes, user_end, ◌≤◌, refl, arith}, ShareSteps.{awaits_rest, gives_no_row, gives_then, gives_bare, ready_rest}}
+use Rattle.lifecycle.specs.ChildShares.{GivesShares, IsReadyForShares}
+use Rattle.lifecycle.proofs.{Names.{sizes, user_end, ◌≤◌, ℕ, refl, sym, subst, arith, picture_of}, ShareSteps.{awaits_rest, gives_no_row, gives_then, gives_bare, ready_rest}}
 use Rattle.lifecycle.proofs.sharing.share_pages.Goals as goal
 
 pub loop-part-init : goal.loop-part-init
@@ -12,8 +13,9 @@ share_table-requires-clause-ready g c =
     let k = c.loop-part.invariant in
     let part = c.in-Some.ensures.some in
     let least = part.from in
-    ready_rest c.args.core.now c.loop-part.core c.args.parent c.args.child 16 c.loop-part.page (user_end g.M.Levels.mode) c.in-Some.part.first c.in-Some.part.end c.requires k.gives
-    (omega (arith, least, k.from)) least part.high
+    subst (λ (q : ℕ). IsReadyForShares (picture_of c.loop-part.core) q c.args.child c.in-Some.part.first c.in-Some.part.end) (sym part.of)
+    (ready_rest c.args.core.now c.loop-part.core c.args.parent c.args.child 16 c.loop-part.page (user_end g.M.Levels.mode) c.in-Some.part.first c.in-Some.part.end c.requires k.gives
+    (omega (arith, least, k.from)) least part.high)
 
 pub loop-part-preserved : goal.loop-part-preserved
 loop-part-preserved g c =
@@ -36,7 +38,8 @@ loop-part-preserved g c =
       from = omega (arith, from, least, order);
       most = high;
       gives = gives_then first mid new c.args.parent c.args.child 16 part.first part.end q.fit q.apart (omega (arith, from, least)) (omega (arith, order))
-          (gives_then first mid mid c.args.parent c.args.child 16 c.loop-part.page part.first q.fit q.apart from least k.gives gap) c.share_table.ensures;
+          (gives_then first mid mid c.args.parent c.args.child 16 c.loop-part.page part.first q.fit q.apart from least k.gives gap)
+          (subst (λ (q : ℕ). GivesShares mid new q c.args.child part.first part.end) next.of c.share_table.ensures);
     }
 
 pub returns : goal.returns

@@ -3,12 +3,10 @@ use Rattle.lifecycle.{proofs.{Names.{picture_of, IsFitBut, seat_own, inside_memo
 use Rattle.lifecycle.proofs.withdrawing.add_share.Goals as goal
 
 pub share-requires-clause-in_use : goal.share-requires-clause-in_use
-share-requires-clause-in_use g c =
-    (c.requires.may (InSlot c.in-Swapped.slot.0) (slot_seat c.args.shared c.in-Swapped.slot c.in-Swapped.is c.requires.own.form)).owned.0
+share-requires-clause-in_use g c = (c.requires.may (InSlot c.in-Swapped.slot.0) (slot_seat c.args.shared c.in-Swapped.slot c.in-Swapped.is c.requires.own.form)).owned.0
 
 pub share-requires-clause-few : goal.share-requires-clause-few
-share-requires-clause-few g c =
-    (c.requires.may (InSlot c.in-Swapped.slot.0) (slot_seat c.args.shared c.in-Swapped.slot c.in-Swapped.is c.requires.own.form)).few
+share-requires-clause-few g c = (c.requires.may (InSlot c.in-Swapped.slot.0) (slot_seat c.args.shared c.in-Swapped.slot c.in-Swapped.is c.requires.own.form)).few
 
 pub returns-in-Swapped : goal.returns-in-Swapped
 returns-in-Swapped g c =

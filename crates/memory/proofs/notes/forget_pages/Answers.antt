@@ -17,4 +17,5 @@ invariant_of-memory g c =
           | inr ne ↦ subst (λ (x : Note). Covers x root page) (sym (get_or-set_other items n m no_note no_note ne)) (was.covers whole root page m names inside)
         ];
       },
+      c.memory.invariant.2,
     )

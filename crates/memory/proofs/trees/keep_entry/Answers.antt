@@ -1,8 +1,8 @@
 use Rattle.memory.proofs.{Names.{ap, ◌∙◌, ℕ, subst, arith, top_level, IsEntry, number_of, SetsEntry}, Leaves.{of_entry}, Keeping.{fewer_page, kept_new, kept_set}}
 use Rattle.memory.proofs.trees.keep_entry.Goals as goal
 
-pub returns-in-Leaf : goal.returns-in-Leaf
-returns-in-Leaf g c = λ before forest is_root sets kept.
+pub returns-in-Leaf-clause-lines : goal.returns-in-Leaf-clause-lines
+returns-in-Leaf-clause-lines g c = λ before forest is_root sets kept.
     let mode = g.M.Levels.mode in
     let t = c.args.frames.now in
     let leaf = c.in-Leaf.leaf.0 in
@@ -13,8 +13,8 @@ returns-in-Leaf g c = λ before forest is_root sets kept.
     kept_new mode before t c.args.buffer.now c.keep.new.self c.args.root.0 c.args.page leaf forest is_root (subst S is sets) is_leaf
     c.keep.ensures.kept c.keep.ensures.replaced c.keep.ensures.others kept
 
-pub returns-in_default : goal.returns-in_default
-returns-in_default g c = λ before forest is_root sets kept.
+pub returns-in_default-clause-lines : goal.returns-in_default-clause-lines
+returns-in_default-clause-lines g c = λ before forest is_root sets kept.
     let b = c.args.buffer.now in
     let b' = c.drop_page.new.self in
     let gone = c.drop_page.ensures.dropped in

@@ -15,4 +15,5 @@ invariant_of-memory g c =
           (linked_leaf g.M.Levels.mode t c.link_table.new.frames root forest is_root c.args.page table links spare c.requires.other) c.memory.invariant.0,
       noted_by g.M.Levels.mode t c.link_table.new.frames c.memory.inside.notes links.kept.frames
           (linked_back g.M.Levels.mode t c.link_table.new.frames root forest is_root c.args.page table links c.requires.other) c.memory.invariant.1,
+      c.memory.invariant.2,
     )

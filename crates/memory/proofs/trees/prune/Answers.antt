@@ -12,4 +12,5 @@ invariant_of-memory g c =
     let prunes = c.prune.ensures.prunes in (
       kept_by g.M.Levels.mode t t' b b (no_more b) (pruned_leaf g.M.Levels.mode t t' root forest is_root c.args.page prunes) c.memory.invariant.0,
       noted_by g.M.Levels.mode t t' c.memory.inside.notes prunes.kept.frames (pruned_back g.M.Levels.mode t t' root forest is_root c.args.page prunes) c.memory.invariant.1,
+      c.memory.invariant.2,
     )

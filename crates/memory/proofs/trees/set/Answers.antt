@@ -1,4 +1,4 @@
-use Rattle.memory.proofs.Names.{sym, subst, top_level, FrameTable, IsForest, IsRoot}
+use Rattle.memory.proofs.{Names.{sym, subst, top_level, FrameTable, IsForest, IsRoot}, Keeping.{still_counted}}
 use Rattle.memory.proofs.trees.set.Goals as goal
 
 pub invariant_of-memory : goal.invariant_of-memory
@@ -10,4 +10,5 @@ invariant_of-memory g c =
     let sets = c.set.ensures.sets in (
       c.after_set.ensures.lines mode t c.set.new.frames forest is_root sets c.memory.invariant.0,
       c.after_set.ensures.notes mode t c.set.new.frames forest is_root sets c.memory.invariant.1,
+      still_counted c.memory.inside.buffer c.after_set.new.buffer c.memory.invariant.2 c.after_set.ensures.unfound,
     )

@@ -1,5 +1,5 @@
 use Rattle.memory.proofs.Names.{top_level, ◌≡◌, ℕ, ◌%◌, ◌/◌, sym, subst, arith, rules, FrameTable, IsForest, IsPage, IsRoot, IsTableOf, number_of, SetsEntry}
-use Rattle.memory.{specs.Notes.{NamesNoMore}, proofs.{Keeping.{fewer_place, kept_set}, Noting.{noted_place}}}
+use Rattle.memory.{specs.Notes.{NamesNoMore}, proofs.{Keeping.{fewer_place, kept_set, still_counted}, Noting.{noted_place}}}
 use Rattle.memory.proofs.trees.set_in.Goals as goal
 
 same_place : (page index : ℕ) → page % 512 ≡ index → page % 64 ≡ index % 64
@@ -23,6 +23,7 @@ invariant_of-memory g c =
           (fewer_place b b' (c.args.index % 64) gone c.drop_place.ensures.others) c.memory.invariant.0,
       noted_place g.M.Levels.mode t c.set_in.new.frames root page _ table c.args.index c.memory.inside.notes forest placed.2 sets placed.4 placed.5
           (subst N (sym c.memory.view_is) c.requires.names) c.memory.invariant.1,
+      still_counted c.memory.inside.buffer b' c.memory.invariant.2 c.drop_place.ensures.unfound,
     )
 
 pub returns : goal.returns

@@ -1,4 +1,4 @@
-use Rattle.memory.proofs.{Names.{◌≡◌, ◌/◌, ◌%◌, sym, ap, subst, top_level, FrameTable, IsForest, IsRoot, IsTableOf, number_of, SetsEntry}, Leaves.{is_page}, Noting.{noted_set}}
+use Rattle.memory.proofs.{Names.{◌≡◌, ◌/◌, ◌%◌, sym, ap, subst, top_level, FrameTable, IsForest, IsRoot, IsTableOf, number_of, SetsEntry}, Leaves.{is_page}, Keeping.{still_counted}, Noting.{noted_set}}
 use Rattle.memory.proofs.trees.set_kept.Goals as goal
 
 pub invariant_of-memory : goal.invariant_of-memory
@@ -13,8 +13,9 @@ invariant_of-memory g c =
     let row = subst (λ (x : FrameTable). IsTableOf x (top_level mode) root (page / 512) c.args.table.0) (sym c.memory.view_is) c.requires.table in
     let at : page % 512 ≡ c.get-place.result % 512 = ap (λ n. n % 512) (sym c.get-place.ensures.number) in
     let sets = c.set_in.ensures.sets (top_level mode) root page is_root (is_page mode page c.requires.user) row at in (
-      c.keep_entry.ensures t forest is_root sets c.memory.invariant.0,
+      c.keep_entry.ensures.lines t forest is_root sets c.memory.invariant.0,
       noted_set mode t t' root page _ c.memory.inside.notes c.add.new.self forest is_root sets c.add.ensures.count c.add.ensures.whole c.add.ensures.added c.add.ensures.kept c.memory.invariant.1,
+      still_counted c.memory.inside.buffer c.keep_entry.new.buffer c.memory.invariant.2 c.keep_entry.ensures.unfound,
     )
 
 pub returns-clause-sets : goal.returns-clause-sets

@@ -18,6 +18,7 @@ invariant_of-memory g c = (
       c.take_table.ensures.taken c.take_table.ensures.err,
   noted g.M.Levels.mode c.memory.inside.frames c.take_table.new.frames c.memory.inside.notes c.take_table.result c.memory.invariant.1
       c.take_table.ensures.taken c.take_table.ensures.err,
+  c.memory.invariant.2,
 )
 
 every : (r : Result FrameNo NoFree) (old new : FrameTable) (mode : ℕ) → IfOk r (λ n. (top : ℕ) → AddsTable old new top n.0) → IfOk r (λ n. AddsTable old new (top_level mode) n.0)

@@ -69,8 +69,7 @@ returns-in-Ok g c =
           (subst Q (sym beside.store) (λ k m now. done.ok k (model m) s.files s.durable taken now change))
           (synced_shows (picture_of old) s pid same.first same.count front list c.requires.sound.fit shows.pages spots lists (picture_of new) settles) sound;
       ends = search rules;
-      asks_store =
-          subst (λ (x : FileStore g.row.D.Denot). AsksOnly g.D.SectorDisk (IsStoreUsed old.store.journal) old.store.disk x.disk) (sym beside.store) done.asks_device;
+      asks_store = subst (λ (x : FileStore g.row.D.Denot). AsksOnly g.D.SectorDisk (IsStoreUsed old.store.journal) old.store.disk x.disk) (sym beside.store) done.asks_device;
       asks_slots =
           let P : Swap_pages g.row.E.Denot → Type 0 = λ x. AsksOnly g.E.SectorDisk (IsSectorListed (picture_of old) ch) old.swap.pages.disk x.disk in
           subst P (sym beside.pages) (asks_listed g.E.SectorDisk (picture_of old) ch list old.swap.pages.disk source.pages.disk few spots reads.asks);

@@ -35,5 +35,4 @@ pub invariant_of-core-clause-node_count : goal.invariant_of-core-clause-node_cou
 invariant_of-core-clause-node_count g c = c.args.core.now.node_count ∙ sym (with_bytes-others c.args.core.now.frames c.args.frame.0 c.cut_from.new.page).frames
 
 pub invariant_of-core-clause-hand_inside : goal.invariant_of-core-clause-hand_inside
-invariant_of-core-clause-hand_inside g c =
-    below_same _ _ _ c.args.core.now.hand_inside (with_bytes-others c.args.core.now.frames c.args.frame.0 c.cut_from.new.page).frames
+invariant_of-core-clause-hand_inside g c = below_same _ _ _ c.args.core.now.hand_inside (with_bytes-others c.args.core.now.frames c.args.frame.0 c.cut_from.new.page).frames

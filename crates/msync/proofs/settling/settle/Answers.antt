@@ -2,12 +2,7 @@ use Rattle.msync.{proofs.{Names.{◌≡◌, ℕ, inl, inr, length, refl, ◌∙�
 use Rattle.msync.proofs.settling.settle.Goals as goal
 
 pub loop-i-init : goal.loop-i-init
-loop-i-init g c = record {
-  fit = c.requires.fit;
-  beside = beside_none c.args.core.now;
-  swap = inl refl;
-  settles = settles_none (picture_of c.args.core.now) c.args.spots.now;
-}
+loop-i-init g c = record { fit = c.requires.fit; beside = beside_none c.args.core.now; swap = inl refl; settles = settles_none (picture_of c.args.core.now) c.args.spots.now }
 
 pub settle_one-requires : goal.settle_one-requires
 settle_one-requires g c =

@@ -1,4 +1,5 @@
-use Rattle.{std.proofs.Common.{refl, sym, ap, ◌∙◌, subst, Err, rules}, programs.{proofs.{Asking.{keeps_image, keeps_unopened}, Copies.{same_open, opened_bytes, opened_info}}, specs.Showing.{KeepsImage, RefusesToShow}}}
+use Rattle.sync_journal.specs.Kinds.{store_live}
+use Rattle.{std.proofs.Common.{⊎_elim, refl, sym, ap, ◌∙◌, subst, Err, rules}, programs.{proofs.{Asking.{keeps_image, keeps_unopened}, Copies.{same_open, opened_bytes, opened_info}}, specs.Showing.{KeepsImage, RefusesToShow}}}
 use Rattle.programs.proofs.showing.show.Goals as goal
 
 pub returns-in-Ok-show_opened-clause-writes : goal.returns-in-Ok-show_opened-clause-writes
@@ -8,6 +9,8 @@ returns-in-Ok-show_opened-clause-writes g c =
     record {
       calm = search rules;
       ready = search rules;
+      closed = ap store_live e.reads.journal ∙ opened.closed;
+      synced = λ keeps k u. ⊎_elim (λ was. opened.synced (e.reads.kept keeps) k was) (λ none. none) ((e.reads.touches keeps).unsynced k u);
       good_layout = λ keeps. opened.good_layout (e.reads.kept keeps);
       good_journal = λ keeps. opened.good_journal (e.reads.kept keeps);
       shown = λ keeps files pages stood.
@@ -20,13 +23,13 @@ returns-in-Ok-show_opened-clause-writes g c =
 pub returns-in-Ok-show_opened-clause-keeps : goal.returns-in-Ok-show_opened-clause-keeps
 returns-in-Ok-show_opened-clause-keeps g c =
     let e = c.in-Ok.ensures in
-    keeps_image g.D.SectorDisk c.args.disk c.in-Ok.store c.show_opened.new.store c.args.file e.closed e.ready e.kept e.touches e.asks e.now e.in_a_row c.show_opened.ensures.reads
+    keeps_image g.D.SectorDisk c.args.disk c.in-Ok.store c.show_opened.new.store c.args.file e.closed e.ready e.kept e.touches e.asks e.now e.in_a_row e.closed_unwritten c.show_opened.ensures.reads
 
 pub returns-in-Err-show_opened-clause-err_keeps : goal.returns-in-Err-show_opened-clause-err_keeps
 returns-in-Err-show_opened-clause-err_keeps g c =
     let e = c.in-Ok.ensures in
     subst (λ d. KeepsImage g.D.SectorDisk c.args.file c.args.disk d) (sym c.into_disk.ensures)
-    (keeps_image g.D.SectorDisk c.args.disk c.in-Ok.store c.show_opened.new.store c.args.file e.closed e.ready e.kept e.touches e.asks e.now e.in_a_row c.show_opened.ensures.reads)
+    (keeps_image g.D.SectorDisk c.args.disk c.in-Ok.store c.show_opened.new.store c.args.file e.closed e.ready e.kept e.touches e.asks e.now e.in_a_row e.closed_unwritten c.show_opened.ensures.reads)
 
 pub returns-in-Err-show_opened-clause-refuses : goal.returns-in-Err-show_opened-clause-refuses
 returns-in-Err-show_opened-clause-refuses g c =
@@ -83,5 +86,7 @@ returns-in-Err-clause-err_keeps g c =
       kept = e.err_kept;
       any_moment = e.err_moment;
       in_a_row = e.err_in_a_row;
+      touches = e.err_touches;
+      closed_unwritten = e.err_closed_unwritten;
       asks = keeps_unopened g.D.SectorDisk c.args.disk c.in-Err.disk c.args.file e.err_touches e.err_asks;
     }

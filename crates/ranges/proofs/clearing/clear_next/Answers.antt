@@ -1,15 +1,23 @@
-use Rattle.ranges.proofs.Names.{top_level, sizes, ◌≡◌, ℕ, ◌+◌, ◌*◌, ◌/◌, ◌^◌, refl, sym, ap, ◌∙◌, subst, arith, rules, min, max, missing_of-is, Prunes-refl, Picture, picture_of}
-use Rattle.ranges.proofs.{ClearedPages.{same_beside}, Gaps.{is_whole}, Pruned.{passes_missing, root_pruned}}
+use Rattle.ranges.proofs.Names.{top_level, sizes, ◌≡◌, ℕ, ◌+◌, ◌*◌, ◌/◌, ◌^◌, refl, sym, ap, ◌∙◌, subst, arith, rules, min, max, missing_of-is, Prunes-refl, IsTableOf, Picture, picture_of}
+use Rattle.ranges.proofs.{ClearedPages.{same_beside}, Gaps.{is_whole, one_some, table_at}, Pruned.{passes_missing, root_pruned}}
 use Rattle.ranges.proofs.clearing.clear_next.Goals as goal
 
 pub last_table-missing-requires-clause-root : goal.last_table-missing-requires-clause-root
 last_table-missing-requires-clause-root g c = c.requires.fit.rooted.roots c.args.pid c.root_of-top_table.result.0 c.root_of-top_table.ensures
 
-pub clear_table-requires-clause-whole : goal.clear_table-requires-clause-whole
-clear_table-requires-clause-whole g c =
+pub clear_table-requires-clause-part : goal.clear_table-requires-clause-part
+clear_table-requires-clause-part g c =
+    let old : Picture g.M.Levels.mode = picture_of c.args.core.now in
     let r = c.root_of-top_table.result.0 in
-    let missing = missing_of-is c.args.core.now.frames (top_level g.M.Levels.mode) r c.args.start ∙ sym (ap (λ x. x.0) c.last_table-missing.ensures.last) in
-    is_whole (picture_of c.args.core.now) c.args.pid r c.root_of-top_table.ensures c.args.start c.args.start refl (missing ∙ c.if-missing-eq0.true)
+    let row = table_at old.frames (top_level g.M.Levels.mode) r c.args.start c.last_table-missing.result.1.0 c.last_table-missing.result.0 c.last_table-missing.ensures.last
+    c.if-missing-eq0.true c.last_table-missing.ensures.table in
+    record {
+      further = omega (arith, c.min-stop.ensures, c.table_end.ensures, c.requires.some);
+      high = omega (arith, c.min-stop.ensures, c.requires.high);
+      one_table = omega (arith, c.min-stop.ensures, c.table_end.ensures);
+      table = λ r' root. subst (λ (x : ℕ). IsTableOf old.frames (top_level g.M.Levels.mode) x (c.args.start / 512) c.last_table-missing.result.1.0)
+          (one_some r r' (sym c.root_of-top_table.ensures ∙ root)) row;
+    }
 
 pub prune-requires-clause-root : goal.prune-requires-clause-root
 prune-requires-clause-root g c = c.requires.fit.rooted.roots c.args.pid c.root_of-top_table.result.0 c.root_of-top_table.ensures

@@ -35,8 +35,7 @@ stores g c =
 
 becomes : (g : Over) (c : goal.After-core-1 g)
     → IsPermittedEntry c.args.prot c.takes_stores-writable.result (entry (picture_of c.args.core.now) c.args.row.now.pid c.args.page) (number_of c.permitted.result)
-becomes g c =
-    subst (λ (x : ℕ). IsPermittedEntry c.args.prot c.takes_stores-writable.result x (number_of c.permitted.result)) (is_entry g c) c.permitted.ensures.permitted
+becomes g c = subst (λ (x : ℕ). IsPermittedEntry c.args.prot c.takes_stores-writable.result x (number_of c.permitted.result)) (is_entry g c) c.permitted.ensures.permitted
 
 pub set_in-requires-clause-placed : goal.set_in-requires-clause-placed
 set_in-requires-clause-placed g c =
@@ -92,7 +91,4 @@ returns g c =
     let sets = c.set_in.ensures.sets row.root.0 c.args.page (q.may.rooted.roots row.pid row.root.0 q.row.root) q.inside q.row.place (ap (λ x. x % 512) (sym c.get.ensures.number)) in
     let done = permits_set old new row.pid row.root.0 c.args.page (number_of c.permitted.result) c.args.prot q.may.rooted q.row.root q.inside sets (same_beside old c.set_in.new.memory)
     c.takes_stores-writable.result (some g c) (here g c) (stores g c) (becomes g c) q.may.named in
-    record {
-      leaf = record { permits = done.permits; rooted = done.rooted; named = done.named; rest = search rules; refused = search rules };
-      places = done.places;
-    }
+    record { leaf = record { permits = done.permits; rooted = done.rooted; named = done.named; rest = search rules; refused = search rules }; places = done.places }

@@ -18,11 +18,7 @@ returns-in-Some g c =
     let attr = sym c.in-Some.is ∙ c.at.ensures.value ∙ c.regions.ensures c.args.page in
     let shared = c.is_shared.ensures ∙ ap is_mapped_shared attr in
     let common = sym c.is_private.ensures ∙ c.if-is_private.false in (
-      λ it. record {
-        permitted = sym c.is_writable.ensures ∙ c.if-not-is_writable.false;
-        sole = λ own. absurd (false≢true (sym common ∙ own));
-        common = λ _. sym shared ∙ it;
-      },
+      λ it. record { permitted = sym c.is_writable.ensures ∙ c.if-not-is_writable.false; sole = λ own. absurd (false≢true (sym common ∙ own)); common = λ _. sym shared ∙ it },
       λ takes. shared ∙ takes.common common,
     )
 

@@ -17,8 +17,4 @@ returns g c =
     let R : FrameTable → Type 0 = λ t. IsFit (record mid { frames = t }) in
     let done = c.change_leaves.ensures in
     let same = sym c.forget_pages.ensures.same in
-    record {
-      clear = subst P same done.clear;
-      above = done.above;
-      entries = record { changes = subst Q same done.changes; fit = subst R same done.fit; beside = search rules };
-    }
+    record { clear = subst P same done.clear; above = done.above; entries = record { changes = subst Q same done.changes; fit = subst R same done.fit; beside = search rules } }

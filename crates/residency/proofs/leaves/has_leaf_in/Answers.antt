@@ -23,5 +23,4 @@ returns-clause-some g c = λ yes.
     (c.args.pid, found.0, omega (arith, found.1.user, user_pages_fit g.M.Levels.mode), found.1.over)
 
 pub returns-clause-none : goal.returns-clause-none
-returns-clause-none g c = λ no_leaf page h over.
-    if_none c.find_in.result _ c.find_in.ensures.none (sym c.is_some.ensures ∙ no_leaf) page (omega arith) h over
+returns-clause-none g c = λ no_leaf page h over. if_none c.find_in.result _ c.find_in.ensures.none (sym c.is_some.ensures ∙ no_leaf) page (omega arith) h over

@@ -1,4 +1,4 @@
-use Rattle.residency.proofs.{Asking.{asked_tried, one_tried}, Giving.{on_err_same, frame_given}, Names.{ℕ, ◌≡◌, ◌+◌, inl, sym, ap, ◌∙◌, arith, rules, Result, Ok, Err, IfErr, IsErrAnd, MatchResult, FrameNo, Stall, NoFrames, NoSwap, SwapDevice}}
+use Rattle.residency.proofs.{Asking.{asked_tried, one_tried}, Giving.{on_err_same, frame_given}, Names.{ℕ, ◌≡◌, ◌+◌, inl, inr, sym, ap, ◌∙◌, arith, rules, Result, Ok, Err, IfErr, IfOk, IsErrAnd, MatchResult, FrameNo, Stall, NoFrames, NoSwap, SwapDevice}}
 use Rattle.residency.proofs.{Names.{Clock, FrameTable, frame_count, role_of, IsFull}, Refusing.{inside_of, above_of, all_need, no_slot_free}, Shown.{shows_kept}, Sparing.{frees_then, gives_frees}, Stalls.{short_of}}
 use Rattle.{residency.specs.{Ages.{GivesFrame}, Calls.{Refuses}, Capacity.{IsShort}, Picture.{Picture, picture_of}, Views.{AsksClock, TurnsFor}, declared.kernel.Core.{Core}}, std.specs.Prelude.{Option}}
 use Rattle.vm_types.specs.declared.mode.Levels as Levels
@@ -18,6 +18,10 @@ turns_swap : {M : Type 0} {m : Levels.Ghosts M} {D E : Type 0} (old : Core D E M
     → (tried : FrameNo) × AsksClock old keep (Ok tried) clock → MatchResult r (λ n. AsksClock old keep (Ok n) clock) (TurnsFor old keep clock)
 turns_swap old keep clock stall (Ok x) is swap tried = absurd is
 turns_swap old keep clock stall (Err e) is swap tried = rw (is, swap) tried
+
+none_aged : (r : Result FrameNo Stall) (Q : Stall → Type 0) (P : FrameNo → Type 0) → IsErrAnd r Q → IfOk r P
+none_aged (Ok n) Q P is = absurd is
+none_aged (Err e) Q P is = tt
 
 pub evict-requires-clause-inside : goal.evict-requires-clause-inside
 evict-requires-clause-inside g c = inside_of c.choose-choice.new.core.frames c.in-Ok.victim.0 c.choose-choice.new.core.sound c.in-Ok.ensures.found.0.0
@@ -46,6 +50,7 @@ returns-in_err-evict-in-Ok g c =
         turns = λ full. turns_swap c.args.core.now c.args.keep c.evict.new.core.clock _ c.from_residual.result c.from_residual.ensures.1 c.in_err-evict-in-Ok.ensures.fault (c.in-Ok.victim, rw c.evict.ensures.plain.clock c.in-Ok.ensures.clock);
         looks = search rules;
       };
+      aged = λ full. none_aged c.from_residual.result _ _ c.from_residual.ensures.1;
       asked = asked_tried g.E.SectorDisk c.args.core.now c.choose-choice.new.core _ c.args.keep v found.marks found.looked may gives c.evict.ensures.asks c.evict.ensures.asked c.requires.full;
       uses = search rules;
       full = on_err_same (IsFull new.frames) c.from_residual.result (full_still mid.frames new.frames gives.2.count c.in_err-evict-in-Ok.ensures.still (found.full c.requires.full));
@@ -76,6 +81,7 @@ returns-in_ok-evict-in-Ok g c =
       idle = λ some. absurd (some c.requires.full);
       needed = inl c.requires.full;
       clock = record { stands = λ some. absurd (some c.requires.full); turns = λ full. rw c.evict.ensures.plain.clock c.in-Ok.ensures.clock; looks = search rules };
+      aged = λ full. record { left = c.choose-choice.new.core; clock = c.in-Ok.ensures.left; entries = λ pid page h stays. gives.2.entries pid page h (inr stays) };
       asked = asked_tried g.E.SectorDisk c.args.core.now c.choose-choice.new.core _ c.args.keep v found.marks found.looked may gives c.evict.ensures.asks c.evict.ensures.asked c.requires.full;
       uses = record { swap = search rules; device = search rules; one = one_tried g.E.SectorDisk c.args.core.now c.choose-choice.new.core c.evict.new.core found.looked.swap c.in_ok-evict-in-Ok.ensures.one };
       full = tt;
@@ -107,6 +113,7 @@ returns-then-has_spareable g c =
       idle = λ some. absurd (some c.requires.full);
       needed = inl c.requires.full;
       clock = record { stands = λ some. absurd (some c.requires.full); turns = λ full. (_, c.in-Err.ensures.clock); looks = found.looks };
+      aged = λ full. tt;
       asked = inl found.looked.swap;
       uses = search rules;
       full = found.full c.requires.full;
@@ -131,6 +138,7 @@ returns-else-has_spareable g c =
       idle = λ some. absurd (some c.requires.full);
       needed = inl c.requires.full;
       clock = record { stands = λ some. absurd (some c.requires.full); turns = λ full. (_, c.in-Err.ensures.clock); looks = found.looks };
+      aged = λ full. tt;
       asked = inl found.looked.swap;
       uses = search rules;
       full = found.full c.requires.full;

@@ -14,6 +14,7 @@ returns-in-Some g c =
       idle = λ some. refl;
       needed = inr refl;
       clock = record { stands = λ some. refl; turns = λ full. absurd (full c.in-Some.n.0 free.inside free.free); looks = omega arith };
+      aged = λ full. absurd (full c.in-Some.n.0 free.inside free.free);
       asked = inl refl;
       uses = record { swap = c.requires.swap; device = record { size = refl; kept = λ kept. kept; later = omega arith }; one = (0, asks_same g.E.SectorDisk _ c.args.core.now.swap c.args.core.now.swap refl) };
       full = tt;

@@ -2,9 +2,7 @@ use Rattle.runner.proofs.Trace.{caused_trace, kept_trace, runs_trace}
 use Rattle.runner.proofs.engine.run.Goals as goal
 
 pub returns-clause-caused : goal.returns-clause-caused
-returns-clause-caused g c =
-    let r = c.run_turns.ensures.reads in
-    caused_trace g.D.SectorDisk g.E.SectorDisk c.run_turns.result _ _ _ _ _ _ r.0 r.1 r.2
+returns-clause-caused g c = let r = c.run_turns.ensures.reads in caused_trace g.D.SectorDisk g.E.SectorDisk c.run_turns.result _ _ _ _ _ _ r.0 r.1 r.2
 
 pub returns-clause-runs : goal.returns-clause-runs
 returns-clause-runs g c s shows keeps swap_keeps =

@@ -7,9 +7,7 @@ no_bytes (b ∷ l) e = absurd (omega (arith, e))
 
 -- after an empty buffer the line is these bytes
 whole_line : (kept bytes : List ℕ) → kept ≡ [] → length bytes ≤ 256 → bytes ≡ take 257 (kept ++ bytes)
-whole_line kept bytes none short =
-    let room : length bytes ≤ 257 = omega (arith, short) in
-    sym (take_all 257 bytes room) ∙ ap (λ k. take 257 (k ++ bytes)) (sym none)
+whole_line kept bytes none short = let room : length bytes ≤ 257 = omega (arith, short) in sym (take_all 257 bytes room) ∙ ap (λ k. take 257 (k ++ bytes)) (sym none)
 
 pub returns-then-bytes-le-MAX_LINE_BYTES : goal.returns-then-bytes-le-MAX_LINE_BYTES
 returns-then-bytes-le-MAX_LINE_BYTES g c =

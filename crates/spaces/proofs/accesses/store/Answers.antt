@@ -126,12 +126,10 @@ invariant_of-core-clause-sound g c =
 
 -- the frame that was written is one of as many as there were
 pub invariant_of-core-clause-page_count : goal.invariant_of-core-clause-page_count
-invariant_of-core-clause-page_count g c =
-    let mid = c.access.new.core in mid.page_count ∙ sym (with_bytes-others mid.frames c.frame_of-frame.result.0 c.write_number.new.page).frames
+invariant_of-core-clause-page_count g c = let mid = c.access.new.core in mid.page_count ∙ sym (with_bytes-others mid.frames c.frame_of-frame.result.0 c.write_number.new.page).frames
 
 pub invariant_of-core-clause-node_count : goal.invariant_of-core-clause-node_count
-invariant_of-core-clause-node_count g c =
-    let mid = c.access.new.core in mid.node_count ∙ sym (with_bytes-others mid.frames c.frame_of-frame.result.0 c.write_number.new.page).frames
+invariant_of-core-clause-node_count g c = let mid = c.access.new.core in mid.node_count ∙ sym (with_bytes-others mid.frames c.frame_of-frame.result.0 c.write_number.new.page).frames
 
 below_same : (k m n : ℕ) → k < m → n ≡ m → k < n
 below_same k m n low same = omega (arith, low, same)

@@ -1,5 +1,5 @@
-use Rattle.spaces.proofs.Names.{ℕ, Option, ◌/◌, ◌≡◌, true, sym, subst, ◌∙◌, arith, rules, attr_at, picture_of, page_count, is_covered, Dontneed, ENOMEM, Attr, Done, Refused}
-use Rattle.spaces.{specs.{Calls.{Comes}, Ranges.{GivesPagesBack, KeepsEntriesBeside}}, proofs.{Uncopied.{covered_within, refused_hole, gives_up}, Room.{room_same, sound_kept}, Returning.{takes_cleared}}}
+use Rattle.spaces.proofs.Names.{ℕ, Option, refl, ◌/◌, ◌≡◌, true, sym, subst, ◌∙◌, arith, rules, attr_at, picture_of, page_count, is_covered, Dontneed, ENOMEM, Attr, Done, Refused}
+use Rattle.spaces.{specs.{Calls.{Comes}, Ranges.{EmptiesRange, GivesPagesBack}}, proofs.{Uncopied.{covered_within, refused_hole, gives_up}, Room.{room_same, sound_kept}, Returning.{no_page, takes_cleared}}}
 use Rattle.spaces.proofs.madvise.dontneed.Goals as goal
 
 pub clear_row-requires-clause-row : goal.clear_row-requires-clause-row
@@ -36,9 +36,18 @@ returns-clause-keeps g c =
     let takes = takes_cleared old new c.in-Some.pid 0 0 c.requires.sound.fit cleared.fit cleared.rest.roots cleared.tables cleared.rest.cache cleared.others in
     subst (λ (p : ℕ). GivesPagesBack g.D.SectorDisk g.E.SectorDisk old new p 0 0 Done) c.in-Some.ensures.found.0 (search rules)
 
-pub returns-clause-beside : goal.returns-clause-beside
-returns-clause-beside g c =
+pub returns-then-len-eq0-clause-entries : goal.returns-then-len-eq0-clause-entries
+returns-then-len-eq0-clause-entries g c = record {
+  beside = λ page h out. refl;
+  bare = λ done page inside. absurd (no_page (c.args.addr / 4096) c.args.len page c.if-len-eq0.true inside);
+}
+
+pub returns-clause-entries : goal.returns-clause-entries
+returns-clause-entries g c =
     let a = c.args in
+    let old = picture_of a.core.now in
+    let new = picture_of c.clear_row.new.core in
+    let row = c.clear_row.ensures.row in
     let count : c.div_ceil-pages.result ≡ page_count a.len = omega (arith, c.div_ceil-pages.ensures) in
-    subst (λ (p : ℕ). KeepsEntriesBeside (picture_of a.core.now) (picture_of c.clear_row.new.core) p (a.addr / 4096) (page_count a.len)) c.in-Some.ensures.found.0
-    (subst (λ (n : ℕ). KeepsEntriesBeside (picture_of a.core.now) (picture_of c.clear_row.new.core) c.in-Some.pid (a.addr / 4096) n) count c.clear_row.ensures.row.kept)
+    subst (λ (p : ℕ). EmptiesRange old new p (a.addr / 4096) (page_count a.len) Done) c.in-Some.ensures.found.0
+    (subst (λ (n : ℕ). EmptiesRange old new c.in-Some.pid (a.addr / 4096) n Done) count (record { beside = row.kept; bare = λ done. row.entries }))

@@ -1,5 +1,5 @@
 use Rattle.spaces.proofs.Names.{sizes, ℕ, ◌*◌, ◌/◌, ◌≡◌, Option, subst, arith, rules, attr_at, KeepsRoom, picture_of, Mmap, Attr, Address, Refused, replaced, page_count}
-use Rattle.spaces.specs.{Mappings.{attr_there}, Calls.{Comes}, Ranges.{GivesPagesBack, KeepsEntriesBeside}}
+use Rattle.spaces.specs.{Mappings.{attr_there}, Calls.{Comes}, Ranges.{EmptiesRange, GivesPagesBack}}
 use Rattle.spaces.proofs.{Mapped.{refused_as_asked, refused_place, maps, reads_mapped}, Calls.{found_lives}, Numbers.{nobody_has, lives_below}, NewObject.{new_unused, objects_mapped}, Room.{sound_kept}, Returning.{takes_remapped}}
 use Rattle.spaces.proofs.mappings.mmap.Goals as goal
 
@@ -67,14 +67,15 @@ returns-in-Ok-clause-keeps g c =
     (subst (λ (n : ℕ). GivesPagesBack g.D.SectorDisk g.E.SectorDisk old new pid n pages (Address (first * 4096))) place
     (subst (λ (n : ℕ). GivesPagesBack g.D.SectorDisk g.E.SectorDisk old new pid first n (Address (first * 4096))) count (search rules)))
 
-pub returns-in-Ok-clause-beside : goal.returns-in-Ok-clause-beside
-returns-in-Ok-clause-beside g c =
+pub returns-in-Ok-clause-entries : goal.returns-in-Ok-clause-entries
+returns-in-Ok-clause-entries g c =
     let a = c.args in
     let old = picture_of a.core.now in
     let new = picture_of c.remap.new.core in
     let first = c.in-Ok.first in
+    let row = c.remap.ensures.row in
     let count : c.div_ceil-pages.result ≡ page_count a.request.len = omega (arith, c.div_ceil-pages.ensures) in
     let place : first ≡ first * 4096 / 4096 = omega arith in
-    subst (λ (p : ℕ). KeepsEntriesBeside old new p (first * 4096 / 4096) (page_count a.request.len)) c.in-Some.ensures.found.0
-    (subst (λ (n : ℕ). KeepsEntriesBeside old new c.in-Some.pid n (page_count a.request.len)) place
-    (subst (λ (n : ℕ). KeepsEntriesBeside old new c.in-Some.pid first n) count c.remap.ensures.row.kept))
+    subst (λ (p : ℕ). EmptiesRange old new p (first * 4096 / 4096) (page_count a.request.len) (Address (first * 4096))) c.in-Some.ensures.found.0
+    (subst (λ (n : ℕ). EmptiesRange old new c.in-Some.pid n (page_count a.request.len) (Address (first * 4096))) place
+    (subst (λ (n : ℕ). EmptiesRange old new c.in-Some.pid first n (Address (first * 4096))) count (record { beside = row.kept; bare = λ done. row.entries })))

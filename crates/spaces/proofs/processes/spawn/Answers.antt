@@ -22,8 +22,7 @@ returns-in-Err-clause-keeps g c =
     search rules
 
 pub returns-in-Ok-clause-takes : goal.returns-in-Ok-clause-takes
-returns-in-Ok-clause-takes g c =
-    spawned_takes (picture_of c.args.core.now) (picture_of c.spawn.new.core) c.in-Some.pid c.in-Ok.ensures.taken c.in-Ok.ensures.gives
+returns-in-Ok-clause-takes g c = spawned_takes (picture_of c.args.core.now) (picture_of c.spawn.new.core) c.in-Some.pid c.in-Ok.ensures.taken c.in-Ok.ensures.gives
 
 pub returns-in-Err-clause-takes : goal.returns-in-Err-clause-takes
 returns-in-Err-clause-takes g c =

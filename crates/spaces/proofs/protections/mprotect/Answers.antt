@@ -1,5 +1,5 @@
-use Rattle.spaces.proofs.Names.{ℕ, ◌/◌, ◌≡◌, sym, ap, subst, arith, rules, Swap, attr_at, ReadsToo, reads_kept, ReprotectsRow, picture_of, Mprotect, Prot, Done, Refused, page_count, protected}
-use Rattle.spaces.{specs.{Calls.{Comes}, Ranges.{GivesPagesBack, KeepsEntriesBeside}}, proofs.{Protects.{refuses, protects, protected_map}, Room.{room_same, sound_kept}, Returning.{takes_rewritten}}}
+use Rattle.spaces.proofs.Names.{ℕ, ◌/◌, ◌≡◌, refl, sym, ap, subst, arith, rules, Swap, attr_at, ReadsToo, reads_kept, ReprotectsRow, picture_of, Mprotect, Prot, Done, Refused, page_count, protected}
+use Rattle.spaces.{specs.{Calls.{Comes}, Ranges.{GivesPagesBack, PermitsRange}}, proofs.{Protects.{refuses, protects, protected_map}, Room.{room_same, sound_kept}, Returning.{no_page, takes_rewritten}}}
 use Rattle.spaces.proofs.protections.mprotect.Goals as goal
 
 pub reprotect-requires-clause-reads : goal.reprotect-requires-clause-reads
@@ -40,12 +40,22 @@ returns-in-Ok-clause-keeps g c =
     let takes = takes_rewritten old new c.in-Some.pid 0 0 done.frames done.cache done.others in
     subst (λ (p : ℕ). GivesPagesBack g.D.SectorDisk g.E.SectorDisk old new p 0 0 Done) c.in-Some.ensures.found.0 (search rules)
 
-pub returns-in-Ok-clause-beside : goal.returns-in-Ok-clause-beside
-returns-in-Ok-clause-beside g c =
+pub returns-then-len-eq0-clause-entries : goal.returns-then-len-eq0-clause-entries
+returns-then-len-eq0-clause-entries g c = record {
+  beside = λ page h out. refl;
+  permits = λ done page inside. absurd (no_page (c.args.request.addr / 4096) c.args.request.len page c.if-len-eq0.true inside);
+}
+
+pub returns-in-Ok-clause-entries : goal.returns-in-Ok-clause-entries
+returns-in-Ok-clause-entries g c =
     let a = c.args in
+    let old = picture_of a.core.now in
+    let new = picture_of c.reprotect.new.core in
+    let first = a.request.addr / 4096 in
     let count : c.div_ceil-pages.result ≡ page_count a.request.len = omega (arith, c.div_ceil-pages.ensures) in
-    subst (λ (p : ℕ). KeepsEntriesBeside (picture_of a.core.now) (picture_of c.reprotect.new.core) p (a.request.addr / 4096) (page_count a.request.len)) c.in-Some.ensures.found.0
-    (subst (λ (n : ℕ). KeepsEntriesBeside (picture_of a.core.now) (picture_of c.reprotect.new.core) c.in-Some.pid (a.request.addr / 4096) n) count c.reprotect.ensures.row.kept)
+    let row = subst (λ (p : Prot). ReprotectsRow old new c.in-Some.pid first c.div_ceil-pages.result p) c.kept.ensures c.reprotect.ensures.row in
+    subst (λ (p : ℕ). PermitsRange old new p first (page_count a.request.len) a.request.prot Done) c.in-Some.ensures.found.0
+    (subst (λ (n : ℕ). PermitsRange old new c.in-Some.pid first n a.request.prot Done) count (record { beside = row.kept; permits = λ done. row.entries }))
 
 pub returns-in-Ok-clause-swap : goal.returns-in-Ok-clause-swap
 returns-in-Ok-clause-swap g c = c.reprotect.ensures.swap

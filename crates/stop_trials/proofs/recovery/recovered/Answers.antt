@@ -1,4 +1,4 @@
-use Rattle.{std.proofs.Common.{inr, refl, ◌∙◌}, disk_model.specs.SimDisk.{sectors_in, sector_of}, stop_trials.proofs.Contents.{same_contents}}
+use Rattle.{std.proofs.Common.{inr, refl, ◌∙◌}, disk_model.specs.SimDisk.{sectors_in, sector_of}, stop_trials.proofs.{Contents.{same_contents}, Tried.{refused_open}}}
 use Rattle.stop_trials.proofs.recovery.recovered.Goals as goal
 
 pub returns-clause-layout : goal.returns-clause-layout
@@ -13,3 +13,6 @@ returns-clause-bytes c =
     c.in_ok-bytes.ensures.bytes tt
     ∙ same_contents (sectors_in c.args.disk) (sector_of c.args.disk) image (c.in-Ok.ensures.good_layout tt) (c.in-Ok.ensures.good_journal tt)
     (c.in-Ok.ensures.now tt image (record { kept = λ k. inr refl }))
+
+pub returns-in-Err-clause-refused : goal.returns-in-Err-clause-refused
+returns-in-Err-clause-refused c = refused_open (sectors_in c.args.disk) (sector_of c.args.disk) c.in-Err.fault (c.in-Err.ensures.bad_layout tt) (c.in-Err.ensures.bad_journal tt)

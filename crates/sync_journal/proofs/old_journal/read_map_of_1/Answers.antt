@@ -1,4 +1,4 @@
-use Rattle.sync_journal.{proofs.{Maps.{one_sector}, Names.{ap, sym, length, ◌≡◌, ◌∙◌, arith, rules, length-take-le}, OldJournals.{reads_map}}, specs.Layout.{layout_1, home_count_in}}
+use Rattle.sync_journal.{proofs.{Maps.{one_sector}, Names.{ap, sym, length, ◌≡◌, ◌∙◌, arith, rules, length-take-le, once_named}, OldJournals.{reads_map}}, specs.Layout.{layout_1, home_count_in, IsMapIn}}
 use Rattle.sync_journal.proofs.old_journal.read_map_of_1.Goals as goal
 
 pub returns : goal.returns
@@ -13,5 +13,5 @@ returns g c =
       names = λ keeps. reads_map 127 _ c.old_home_count.result (home_count_in layout_1 (g.D.SectorDisk.sector_count c.args.disk.now)) _ c.read.new.to c.read_homes-found.new.homes _ c.read_homes-found.result
           most long count (e.gives keeps ∙ sym (one_sector content)) c.read_homes-found.ensures;
       reads = search rules;
-      asks = search rules;
+      once = once_named (IsMapIn layout_1) (λ k. k ≡ 3) _ _ (λ k at. (omega (arith, at), omega (arith, at))) e.asks;
     }

@@ -10,8 +10,7 @@ returns g c =
           (c.write_page.ensures.written keeps);
       run = of_more g.D.SectorDisk (IsPageSector c.start.result) (IsTurnSector c.args.second) c.args.disk.now c.write_page.new.disk
           (λ k inside. (omega (arith, inside.0, c.start.ensures.is), omega (arith, inside.1, c.start.ensures.is))) c.write_page.ensures.run;
-      once = map_asks (g.D.SectorDisk.asked c.args.disk.now) (g.D.SectorDisk.asked c.write_page.new.disk) c.args.second
-          c.start.result c.start.ensures.is c.write_page.ensures.asks;
+      once = map_asks (g.D.SectorDisk.asked c.args.disk.now) (g.D.SectorDisk.asked c.write_page.new.disk) c.args.second c.start.result c.start.ensures.is c.write_page.ensures.asks;
       failed = search rules;
       calm = search rules;
     }

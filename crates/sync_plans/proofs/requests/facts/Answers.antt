@@ -2,8 +2,7 @@ use Rattle.sync_plans.proofs.{Names.{subst}, Runs.{found_store, told_so}}
 use Rattle.sync_plans.proofs.requests.facts.Goals as goal
 
 pub returns-in-Ok-clause-store : goal.returns-in-Ok-clause-store
-returns-in-Ok-clause-store g c = λ k.
-    found_store g.D.SectorDisk c.args.disk c.in-Ok.store c.in-Ok.ensures.ok (subst g.D.SectorDisk.keeps_model c.into_disk.ensures k)
+returns-in-Ok-clause-store g c = λ k. found_store g.D.SectorDisk c.args.disk c.in-Ok.store c.in-Ok.ensures.ok (subst g.D.SectorDisk.keeps_model c.into_disk.ensures k)
 
 pub returns-in-Err-clause-refused : goal.returns-in-Err-clause-refused
 returns-in-Err-clause-refused g c =

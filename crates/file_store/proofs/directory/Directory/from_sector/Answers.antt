@@ -3,8 +3,7 @@ use Rattle.{file_store.specs.Directory.{entry_in, AreGood, AreEntries}, std.proo
 use Rattle.file_store.proofs.directory.Directory.from_sector.Goals as goal
 
 pub next_entry-requires-clause-read : goal.next_entry-requires-clause-read
-next_entry-requires-clause-read c =
-    entries_front c.args.sector.now c.loop-f.entries c.loop-f.f (omega (arith, c.loop-f.invariant.size, c.loop-f-test.true)) c.loop-f.invariant.read
+next_entry-requires-clause-read c = entries_front c.args.sector.now c.loop-f.entries c.loop-f.f (omega (arith, c.loop-f.invariant.size, c.loop-f-test.true)) c.loop-f.invariant.read
 
 pub loop-f-preserved : goal.loop-f-preserved
 loop-f-preserved c =

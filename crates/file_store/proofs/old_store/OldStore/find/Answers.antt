@@ -1,6 +1,6 @@
-use Rattle.file_store.proofs.Names.{◌≡◌, ◌≤◌, ◌⊎◌, ℕ, Err, inl, inr, sym, ap, subst, ◌∙◌, rules, Image, asks_then, asks_wider, layout_before, IsGateOrMapIn, old_homes, StandsAsListed}
-use Rattle.file_store.specs.{declared.faults.OpenFault.TheVariants.{BadLayout}, Faults.{open_fault}, Standing.{IsHeadIn, IsBadLayoutIn, IsBadOldJournal, listed_entry}, Store.{entry_of}, Versions.{version_before, homes_of, directory_of}}
-use Rattle.file_store.proofs.{Causes.{journal_from, is_this, same_Err}, Images.{homes_before}, Openings.{content_is, old_sound}}
+use Rattle.file_store.proofs.Names.{◌≡◌, ◌≤◌, ℕ, Err, inl, sym, ap, subst, ◌∙◌, rules, Image, NamesOnce, once_wider, layout_before, IsLookedAtIn, old_homes, StandsAsListed}
+use Rattle.file_store.specs.{declared.faults.OpenFault.TheVariants.{BadLayout}, Faults.{open_fault}, Standing.{IsHeadIn, IsBadLayoutIn, IsBadOldJournal, listed_entry}, Store.{entry_of}, Upgrade.{IsOldHead}, Versions.{homes_of, directory_of}}
+use Rattle.file_store.proofs.{Asking.{old_head_once}, Causes.{journal_from, is_this, same_Err}, Images.{homes_before}, Openings.{content_is, old_sound}}
 use Rattle.file_store.proofs.old_store.OldStore.find.Goals as goal
 
 pub returns-in_err-directory-clause-bad_layout : goal.returns-in_err-directory-clause-bad_layout
@@ -40,6 +40,7 @@ returns-clause-found g c =
       before = search rules;
       sound = old_sound c.args.journals c.before-2.result n (entry_of c.in_ok-directory.directory) before layout.found.sound;
       no_kind = layout.found.no_kind;
+      few = c.in_ok-journal.ensures.few;
       found = λ k. record {
         sector = layout.found.sector (kept k) ∙ ap (λ v. content (directory_of v)) before;
         entries = λ f. layout.found.entries (kept k) f ∙ ap (λ v. listed_entry v content f) before;
@@ -50,21 +51,22 @@ returns-clause-found g c =
           (subst (λ (image : Image). IsBadOldJournal c.args.journals n image) (sym (same k)) bad));
     }
 
-pub returns-in_err-directory-clause-asks : goal.returns-in_err-directory-clause-asks
-returns-in_err-directory-clause-asks g c =
-    let W : ℕ → Type 0 = λ (k : ℕ). IsHeadIn (version_before c.args.journals) k ⊎ IsGateOrMapIn (layout_before c.args.journals) k in
-    (asks_wider g.D.SectorDisk (IsHeadIn c.before-2.result) W c.args.disk.now c.read_layout.new.disk (λ k at. inl (subst (λ v. IsHeadIn v k) c.before-2.ensures at)) c.read_layout.ensures.asks)
+pub returns-in_err-directory-clause-once : goal.returns-in_err-directory-clause-once
+returns-in_err-directory-clause-once g c = λ k.
+    once_wider (IsHeadIn c.before-2.result) (IsOldHead c.args.journals (g.D.SectorDisk.content c.args.disk.now)) _ _ (λ s at. inl (subst (λ v. IsHeadIn v s) c.before-2.ensures at)) c.read_layout.ensures.once
 
-pub returns-in_err-journal-clause-asks : goal.returns-in_err-journal-clause-asks
-returns-in_err-journal-clause-asks g c =
-    let W : ℕ → Type 0 = λ (k : ℕ). IsHeadIn (version_before c.args.journals) k ⊎ IsGateOrMapIn (layout_before c.args.journals) k in
-    asks_then g.D.SectorDisk W c.args.disk.now c.read_layout.new.disk c.find.new.disk
-    (asks_wider g.D.SectorDisk (IsHeadIn c.before-2.result) W c.args.disk.now c.read_layout.new.disk (λ k at. inl (subst (λ v. IsHeadIn v k) c.before-2.ensures at)) c.read_layout.ensures.asks)
-    (asks_wider g.D.SectorDisk (IsGateOrMapIn (layout_before c.args.journals)) W c.read_layout.new.disk c.find.new.disk (λ k at. inr at) c.find.ensures.asks)
+pub returns-in_err-journal-clause-once : goal.returns-in_err-journal-clause-once
+returns-in_err-journal-clause-once g c = λ k.
+    let d = g.D.SectorDisk in let old = c.args.disk.now in let mid = c.read_layout.new.disk in
+    old_head_once c.args.journals (d.content old) (d.asked old) (d.asked mid) (d.asked c.find.new.disk)
+    (subst (λ v. NamesOnce (IsHeadIn v) (d.asked old) (d.asked mid)) c.before-2.ensures c.read_layout.ensures.once)
+    (subst (λ (image : Image). NamesOnce (IsLookedAtIn (layout_before c.args.journals) image) (d.asked mid) (d.asked c.find.new.disk))
+    (content_is d old mid (c.read_layout.ensures.looks.run.touches (c.find.ensures.run.kept k))) (c.find.ensures.once k))
 
-pub returns-clause-asks : goal.returns-clause-asks
-returns-clause-asks g c =
-    let W : ℕ → Type 0 = λ (k : ℕ). IsHeadIn (version_before c.args.journals) k ⊎ IsGateOrMapIn (layout_before c.args.journals) k in
-    asks_then g.D.SectorDisk W c.args.disk.now c.read_layout.new.disk c.find.new.disk
-    (asks_wider g.D.SectorDisk (IsHeadIn c.before-2.result) W c.args.disk.now c.read_layout.new.disk (λ k at. inl (subst (λ v. IsHeadIn v k) c.before-2.ensures at)) c.read_layout.ensures.asks)
-    (asks_wider g.D.SectorDisk (IsGateOrMapIn (layout_before c.args.journals)) W c.read_layout.new.disk c.find.new.disk (λ k at. inr at) c.find.ensures.asks)
+pub returns-clause-once : goal.returns-clause-once
+returns-clause-once g c = λ k.
+    let d = g.D.SectorDisk in let old = c.args.disk.now in let mid = c.read_layout.new.disk in
+    old_head_once c.args.journals (d.content old) (d.asked old) (d.asked mid) (d.asked c.find.new.disk)
+    (subst (λ v. NamesOnce (IsHeadIn v) (d.asked old) (d.asked mid)) c.before-2.ensures c.read_layout.ensures.once)
+    (subst (λ (image : Image). NamesOnce (IsLookedAtIn (layout_before c.args.journals) image) (d.asked mid) (d.asked c.find.new.disk))
+    (content_is d old mid (c.read_layout.ensures.looks.run.touches (c.find.ensures.run.kept k))) (c.find.ensures.once k))

@@ -12,6 +12,7 @@ returns-in-Ok g c =
       ready = search rules;
       bounded = search rules;
       closed = ok.not_live;
+      emptied = ok.emptied;
       synced = ok.synced;
       good_layout = ok.layout;
       good_journal = ok.journal;

@@ -51,8 +51,7 @@ returns-in-Err-new-clause-refuses g c =
     (fine_slots c.args.config _ _ _ c.if-config-gt-MAX_SLOTS.false c.from.ensures c.sectors.ensures c.if-from-sectors.false) c.in-Ok.ensures)
 
 pub returns-in-Err-new-clause-err_moments : goal.returns-in-Err-new-clause-err_moments
-returns-in-Err-new-clause-err_moments g c =
-    rw (c.into_disk-in-Err-new.ensures, c.in-Err-new.ensures.err) (opened_leaves g.D.SectorDisk c.args.store c.in-Ok.store c.in-Ok.ensures)
+returns-in-Err-new-clause-err_moments g c = rw (c.into_disk-in-Err-new.ensures, c.in-Err-new.ensures.err) (opened_leaves g.D.SectorDisk c.args.store c.in-Ok.store c.in-Ok.ensures)
 
 pub returns-in-Ok-new-3-clause-boots : goal.returns-in-Ok-new-3-clause-boots
 returns-in-Ok-new-3-clause-boots g c =

@@ -12,8 +12,7 @@ returns-then-self g c = record {
     accesses = halted_accesses g.D.SectorDisk g.E.SectorDisk c.args.self.now.core c.args.command;
     denied = search rules;
   };
-  meets = λ s shows readable.
-      stays_halted g.D.SectorDisk g.E.SectorDisk (λ d i k left. g.met.D.SectorDisk.only_now d i k left) c.args.self.now s c.args.command shows c.if-self.true;
+  meets = λ s shows readable. stays_halted g.D.SectorDisk g.E.SectorDisk (λ d i k left. g.met.D.SectorDisk.only_now d i k left) c.args.self.now s c.args.command shows c.if-self.true;
 }
 
 pub returns-in-Spawn : goal.returns-in-Spawn
@@ -34,7 +33,7 @@ returns-in-Exit g c =
 pub returns-in-Mmap : goal.returns-in-Mmap
 returns-in-Mmap g c =
     rw c.in-Mmap.is (carries_out g.D.SectorDisk g.E.SectorDisk (λ d i k left. g.met.D.SectorDisk.only_now d i k left) c.args.self.now _ c.mmap.new.core (Mmap c.in-Mmap.pid c.in-Mmap.addr c.in-Mmap.len c.in-Mmap.prot c.in-Mmap.source c.in-Mmap.placing) _ _ c.if-self.false (λ s. refl) refl refl refl (λ s comes. refl)
-    (given_back g.D.SectorDisk g.E.SectorDisk _ _ _ _ _ _ _ c.mmap.ensures.keeps c.mmap.ensures.comes) (c.mmap.ensures.keeps.takes, c.mmap.ensures.beside))
+    (given_back g.D.SectorDisk g.E.SectorDisk _ _ _ _ _ _ _ c.mmap.ensures.keeps c.mmap.ensures.comes) (c.mmap.ensures.keeps.takes, c.mmap.ensures.entries))
 
 pub returns-in-Munmap : goal.returns-in-Munmap
 returns-in-Munmap g c =
@@ -44,12 +43,12 @@ returns-in-Munmap g c =
 pub returns-in-Mprotect : goal.returns-in-Mprotect
 returns-in-Mprotect g c =
     rw c.in-Mprotect.is (carries_out g.D.SectorDisk g.E.SectorDisk (λ d i k left. g.met.D.SectorDisk.only_now d i k left) c.args.self.now _ c.mprotect.new.core (Mprotect c.in-Mprotect.pid c.in-Mprotect.addr c.in-Mprotect.len c.in-Mprotect.prot) _ _ c.if-self.false (λ s. refl) refl refl refl (λ s comes. refl)
-    (given_back g.D.SectorDisk g.E.SectorDisk _ _ _ _ _ _ _ c.mprotect.ensures.keeps c.mprotect.ensures.comes) (c.mprotect.ensures.keeps.takes, c.mprotect.ensures.beside))
+    (given_back g.D.SectorDisk g.E.SectorDisk _ _ _ _ _ _ _ c.mprotect.ensures.keeps c.mprotect.ensures.comes) (c.mprotect.ensures.keeps.takes, c.mprotect.ensures.entries))
 
 pub returns-in-Dontneed : goal.returns-in-Dontneed
 returns-in-Dontneed g c =
     rw c.in-Dontneed.is (carries_out g.D.SectorDisk g.E.SectorDisk (λ d i k left. g.met.D.SectorDisk.only_now d i k left) c.args.self.now _ c.dontneed.new.core (Dontneed c.in-Dontneed.pid c.in-Dontneed.addr c.in-Dontneed.len) _ _ c.if-self.false (λ s. refl) refl refl refl (λ s comes. refl)
-    (given_back g.D.SectorDisk g.E.SectorDisk _ _ _ _ _ _ _ c.dontneed.ensures.keeps c.dontneed.ensures.comes) (c.dontneed.ensures.keeps.takes, c.dontneed.ensures.beside))
+    (given_back g.D.SectorDisk g.E.SectorDisk _ _ _ _ _ _ _ c.dontneed.ensures.keeps c.dontneed.ensures.comes) (c.dontneed.ensures.keeps.takes, c.dontneed.ensures.entries))
 
 pub returns-in-Load : goal.returns-in-Load
 returns-in-Load g c =

@@ -1,5 +1,5 @@
-use Rattle.memory.proofs.Names.{rules}
+use Rattle.memory.proofs.Names.{refl, rules}
 use Rattle.memory.proofs.buffer.TranslationBuffer.drop_place.Goals as goal
 
 pub returns : goal.returns
-returns c = record { dropped = search rules; others = search rules }
+returns c = record { dropped = search rules; others = search rules; unfound = refl }

@@ -6,4 +6,5 @@ invariant-loop-place l = record {
   done : (p : ℕ) → line_place p < l.place → line_at l.self l.root.0 p ≡ None;
   others : (r p : ℕ) → r ≢ l.root.0 → line_at l.self r p ≡ line_at l.fn.self r p;
   room : length l.self.lines ≡ 64;
+  unfound : l.self.found ≡ l.fn.self.found;
 }

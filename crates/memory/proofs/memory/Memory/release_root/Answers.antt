@@ -12,4 +12,5 @@ invariant_of-self g c =
     let others = c.release.ensures.change.others in (
       kept_by g.M.Levels.mode t t' b b (no_more b) (dropped_leaf t t' root others spare gone g.M.Levels.mode) c.self.invariant.0,
       noted_by g.M.Levels.mode t t' c.self.inside.notes others.frames (dropped_back t t' root others spare gone g.M.Levels.mode) c.self.invariant.1,
+      c.self.invariant.2,
     )

@@ -15,4 +15,5 @@ invariant_of-self g c =
     let after : role_of t' n ≢ Table = λ e. of_data (ap (λ rs. get_or rs n Free) (sym change.roles_kept) ∙ e) in (
       kept_by g.M.Levels.mode t t' b b (no_more b) (data_leaf t t' n change.others of_data after g.M.Levels.mode) c.self.invariant.0,
       noted_by g.M.Levels.mode t t' c.self.inside.notes change.others.frames (data_back t t' n change.others of_data after g.M.Levels.mode) c.self.invariant.1,
+      c.self.invariant.2,
     )

@@ -1,6 +1,6 @@
 use Rattle.residency.proofs.Names.{◌≡◌, ◌<◌, None, refl, sym, ap, ◌∙◌, subst, arith, rules, Free, Table, Private, Cache, with_bytes-same, slots_of, IsSectorOfSlot, Home, Frame, Slot}
 use Rattle.residency.{specs.{Picture.{Picture, picture_of}, Calls.{UsesDevice}, Capacity.{IsShort}, Views.{ChoosesByClock}}, proofs.{Asking.{asks_between, also_asked, one_also}, BroughtIn.{frames_written}}}
-use Rattle.residency.proofs.{Obtained.{also_on, chosen, clock_on, comes_back, comes_taken, comes_stall, device_read, given_back, given_on, seeks_stall}, Returning.{leaves_slot, all_spent}}
+use Rattle.residency.proofs.{Obtained.{aged_on, also_on, chosen, clock_on, comes_back, comes_taken, comes_stall, device_read, entries_on, given_back, given_on, seeks_stall}, Returning.{leaves_slot, all_spent}}
 use Rattle.residency.proofs.kernel.Core.bring_back.Goals as goal
 
 pub returns-in-Ok-get : goal.returns-in-Ok-get
@@ -29,6 +29,7 @@ returns-in-Ok-get g c =
           c.set_place.ensures.placed c.set_place.ensures.touched c.set_place.ensures.others (λ pid. refl) (λ pid k. refl) (λ m. refl) (λ f. refl);
       rest = record { store = got.rest.store; roots = got.rest.roots; regions = got.rest.regions };
       clock = clock_on got frame takes.inside takes.was_free _ refl refl;
+      aged = aged_on got frame takes.inside takes.was_free _ (entries_on got frame takes.inside takes.was_free _ written (λ t. (let bad : Cache ≡ Table = sym takes.kind_set ∙ t in (cc))) (λ pid. refl));
       asked = also_on got frame takes.inside takes.was_free _ (IsSectorOfSlot slot.0)
           (given_on got frame takes.inside takes.was_free _ written (λ t. (let bad : Cache ≡ Table = sym takes.kind_set ∙ t in (cc))) (λ pid. refl)) asks;
       uses = record { swap = search rules; device = subst (λ p. UsesDevice g.E.SectorDisk c.args.self.now.swap.pages.disk p.disk) (sym c.release.ensures.pages) used; one = one_also g.E.SectorDisk c.args.self.now c.obtain.new.core c.release.new.self (IsSectorOfSlot slot.0) got.one asks };
@@ -50,6 +51,7 @@ returns-in-Err g c =
       comes = comes_back got frame takes.inside takes.was_free _ c.args.page _ spent freed;
       rest = record { store = got.rest.store; roots = got.rest.roots; regions = got.rest.regions };
       clock = record { stands = got.stands; turns = λ full. (frame, chosen got frame takes.inside takes.was_free full); looks = got.looks };
+      aged = λ full. tt;
       asked = also_on got frame takes.inside takes.was_free _ (IsSectorOfSlot c.args.slot.0) (given_back got frame takes.inside takes.was_free _ spent freed) c.get.ensures.asks;
       uses = record { swap = c.get.ensures.ready; device = used; one = tt };
       refused = record { refuses = tt; short = tt; cause = (got.cause.0, subst (λ n. n < g.E.SectorDisk.failures c.get.new.self.pages.disk) got.cause.1 (c.in-Err.ensures.cause.failed refl)) };
@@ -65,6 +67,7 @@ returns-in_err-obtain g c =
       comes = comes_stall c.args.page c.from_residual.result c.from_residual.ensures.1 got;
       rest = got.rest;
       clock = stalls.clock;
+      aged = stalls.aged;
       asked = also_asked g.E.SectorDisk c.args.self.now c.obtain.new.core None (IsSectorOfSlot c.args.slot.0) got.asked;
       uses = record { swap = got.swap; device = got.device; one = search rules };
       refused = stalls.refused;

@@ -1,5 +1,5 @@
 use Rattle.residency.proofs.Names.{◌≡◌, refl, sym, ◌∙◌, rules, Object, zero_page, Free, Table, Cache, zero_bytes, Home, Frame}
-use Rattle.residency.{specs.Picture.{Picture, picture_of}, proofs.{Obtained.{comes_taken, comes_stall, given_on, seeks_on, seeks_stall}, Places.{named-same}, Returning.{leaves_none}}}
+use Rattle.residency.{specs.Picture.{Picture, picture_of}, proofs.{Obtained.{comes_taken, comes_stall, entries_on, given_on, seeks_on, seeks_stall}, Places.{named-same}, Returning.{leaves_none}}}
 use Rattle.residency.proofs.kernel.Core.bring_blank.Goals as goal
 
 zeros_alike : zero_bytes ≡ zero_page
@@ -22,6 +22,7 @@ returns g c =
           (named-same (picture_of c.args.self.now).at mid.at c.args.page.object c.args.page.page got.frees.pages.at ∙ c.requires.named)
           c.set_place.ensures.placed c.set_place.ensures.touched c.set_place.ensures.others (λ pid. refl) (λ pid k. refl) (λ m. refl) (λ f. refl);
       seeks = seeks_on got frame takes.inside takes.was_free _ refl refl (record { store = refl; roots = refl; regions = refl }) refl refl
+          (entries_on got frame takes.inside takes.was_free _ takes.others (λ t. (let bad : Cache ≡ Table = sym takes.kind_set ∙ t in (cc))) (λ pid. refl))
           (given_on got frame takes.inside takes.was_free _ takes.others (λ t. (let bad : Cache ≡ Table = sym takes.kind_set ∙ t in (cc))) (λ pid. refl));
     }
 

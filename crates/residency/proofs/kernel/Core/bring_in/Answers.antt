@@ -1,5 +1,5 @@
 use Rattle.residency.proofs.{Asking.{asks_store, once_store, once_unasked, reads_none, reads_store}, BroughtIn.{frames_written}, Names.{◌≡◌, ◌<◌, refl, sym, ap, ◌∙◌, subst, ℕ, arith, rules, File, with_bytes-same, AreBounded, standing_page}}
-use Rattle.residency.proofs.{Names.{entry_of, files_of, Free, Table, Private, Cache, Home, Frame}, Obtained.{asked_on, chosen, clock_on, comes_back, comes_taken, comes_stall, given_back, given_on, reads_stall, seeks_stall}}
+use Rattle.residency.proofs.{Names.{entry_of, files_of, Free, Table, Private, Cache, Home, Frame}, Obtained.{aged_on, asked_on, chosen, clock_on, comes_back, comes_taken, comes_stall, entries_on, given_back, given_on, reads_stall, seeks_stall}}
 use Rattle.{residency.{proofs.Returning.{leaves_none, all_spent}, specs.{Capacity.{IsShort}, Picture.{Picture, picture_of}, Views.{ChoosesByClock}}}, std.specs.Option.{option_map}}
 use Rattle.residency.proofs.kernel.Core.bring_in.Goals as goal
 
@@ -23,6 +23,7 @@ returns-in-Ok-read_page g c =
           c.set_place.ensures.placed c.set_place.ensures.touched c.set_place.ensures.others (λ pid. refl) (λ pid k. refl) (λ m. refl) (λ f. ap (λ d. option_map (λ e. e.info) (entry_of d f)) c.in-Ok-read_page.ensures.files);
       rest = record { roots = got.rest.roots; regions = got.rest.regions };
       clock = clock_on got frame takes.inside takes.was_free _ refl refl;
+      aged = aged_on got frame takes.inside takes.was_free _ (entries_on got frame takes.inside takes.was_free _ written (λ t. (let bad : Cache ≡ Table = sym takes.kind_set ∙ t in (cc))) (λ pid. refl));
       store = c.read_page.ensures.ready;
       asks = asks_store g.D.SectorDisk c.args.page c.args.self.now.store c.read_page.new.self once;
       once = once;
@@ -50,6 +51,7 @@ returns-in-Err g c =
       comes = comes_back got frame takes.inside takes.was_free _ (File c.args.page) _ spent freed;
       rest = record { roots = got.rest.roots; regions = got.rest.regions };
       clock = record { stands = got.stands; turns = λ full. (frame, chosen got frame takes.inside takes.was_free full); looks = got.looks };
+      aged = λ full. tt;
       store = c.read_page.ensures.ready;
       asks = asks_store g.D.SectorDisk c.args.page c.args.self.now.store c.read_page.new.self once;
       once = once;
@@ -73,6 +75,7 @@ returns-in_err-obtain g c =
       comes = comes_stall (File c.args.page) c.from_residual.result c.from_residual.ensures.1 got;
       rest = record { roots = got.rest.roots; regions = got.rest.regions };
       clock = stalls.clock;
+      aged = stalls.aged;
       store = search rules;
       asks = asks_store g.D.SectorDisk c.args.page c.args.self.now.store c.obtain.new.core.store once;
       once = once;

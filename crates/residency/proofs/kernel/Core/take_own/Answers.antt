@@ -1,5 +1,5 @@
 use Rattle.residency.proofs.Names.{◌≡◌, sym, ◌<◌, length, refl, ◌∙◌, arith, get_or-set_same, get_or-set_other, ℕ, rules, Table, Private}
-use Rattle.residency.{specs.{Picture.{picture_of}, Ages.{WantsFrame}}, proofs.{Asking.{needed_of, wants_tried}, Giving.{on_err_same}, Obtained.{given, given_on, seeks_on, seeks_stall}}}
+use Rattle.residency.{specs.{Picture.{picture_of}, Ages.{WantsFrame}}, proofs.{Asking.{needed_of, wants_tried}, Giving.{on_err_same}, Obtained.{entries_on, given, given_on, seeks_on, seeks_stall}}}
 use Rattle.residency.proofs.kernel.Core.take_own.Goals as goal
 
 pub returns : goal.returns
@@ -29,6 +29,7 @@ returns g c =
         };
       };
       seeks = seeks_on got own takes.inside takes.was_free _ refl refl (record { store = refl; roots = refl; regions = refl }) refl refl
+          (entries_on got own takes.inside takes.was_free _ takes.others (λ t. (let bad : Private ≡ Table = sym takes.kind_set ∙ t in (cc))) (λ pid. refl))
           (given_on got own takes.inside takes.was_free _ takes.others (λ t. (let bad : Private ≡ Table = sym takes.kind_set ∙ t in (cc))) (λ pid. refl));
       fit = tt;
       frees = tt;

@@ -1,4 +1,4 @@
-use Rattle.residency.proofs.{Asking.{needed_of}, Giving.{on_err_same, roles_but, gives_table, table_given, tables_tried}, Moves.{same_beside}, Names.{ℕ, Option, refl, Some, None, rules}, Obtained.{given, seeks_on, seeks_stall}}
+use Rattle.residency.proofs.{Asking.{needed_of}, Giving.{entries_same, on_err_same, roles_but, gives_table, table_given, tables_tried}, Moves.{same_beside}, Names.{ℕ, Option, refl, Some, None, rules}, Obtained.{given, seeks_on, seeks_stall}}
 use Rattle.residency.{proofs.Returning.{zero_no_table}, specs.{Ages.{GivesForTables}, Picture.{Picture, picture_of}}}
 use Rattle.residency.proofs.kernel.Core.take_table.Goals as goal
 
@@ -17,7 +17,7 @@ returns g c =
       taken = record { found = found; fit = got.fit; frees = got.frees; adds = adds; beside = beside; zero_page = zero_no_table old found c.args.self.now.sound got.frees };
       gives = table_given old found new table.0 got.fit got.frees adds beside gives needed;
       only = roles_but old found new table.0 got.fit got.frees adds beside gives;
-      seeks = seeks_on got table adds.takes.inside adds.takes.was_free _ refl refl (record { store = refl; roots = refl; regions = refl }) refl refl (gives_table old found new table.0 got.fit got.frees adds beside);
+      seeks = seeks_on got table adds.takes.inside adds.takes.was_free _ refl refl (record { store = refl; roots = refl; regions = refl }) refl refl (entries_same old found new table.0 got.fit got.frees adds beside gives) (gives_table old found new table.0 got.fit got.frees adds beside);
       fit = tt;
       frees = tt;
       full = tt;

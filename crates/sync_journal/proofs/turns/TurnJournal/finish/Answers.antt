@@ -1,5 +1,5 @@
-use Rattle.sync_journal.proofs.{Causes.{is_error}, InTurn.{IsPrepared, while_preparing, staged_blocks, staged_settled, none_kept, none_settled, none_are}, Names.{[], refl, subst, inl, ◌∙◌, arith, rules, stays}, Rests.{none_live}}
-use Rattle.sync_journal.{proofs.TurnSteps.{Begins, leaves_weaker, staged_leaves, prepared_leaves, named, emptied_so_far, emptying_failed}, specs.{Journal.{live_homes}, Turns.{turn_standing, turn_home_count, IsTurnSettled}}}
+use Rattle.sync_journal.proofs.{Causes.{is_error}, InTurn.{IsPrepared, gate_map, map_stays, while_preparing, staged_blocks, staged_settled, none_kept, none_settled, none_are}, Names.{[], Bool, not, ap, refl, subst, inl, ◌∙◌, arith, rules, stays}, Maps.{counted}, Rests.{none_live}}
+use Rattle.sync_journal.{proofs.TurnSteps.{Begins, leaves_weaker, staged_leaves, prepared_leaves, named, emptied_so_far, emptying_failed}, specs.{Journal.{live_homes}, Map.{map_count}, Turns.{turn_map, turn_standing, turn_home_count, IsTurnSettled}}}
 use Rattle.sync_journal.proofs.turns.TurnJournal.finish.Goals as goal
 
 pub returns-in_err-clear_map : goal.returns-in_err-clear_map
@@ -41,6 +41,12 @@ returns-in_ok-name_journal g c =
     emptied_so_far d c.args.self.now _ old c.name_journal.new.disk _ c.if-self-gt0.true (leaves_weaker _ _ c.name_journal.new.disk (none_kept (d.sector_count old) (d.content old) (λ _. [])) names.leaves)
     (λ keeps. none_settled d (d.sector_count old) (d.content old) _ (λ _. []) c.name_journal.new.disk (names.settles keeps tt (ends.done keeps) (ends.synced keeps)))
     (search rules) (ends.calm ∙ c.in_ok-prepare.ensures.calm ∙ c.in_ok-clear_map.ensures.calm) (search rules) ends.synced
+    (λ keeps. (let end = ends.kept keeps in
+    ap (λ (b : Bool). map_count (turn_map b (d.content c.name_journal.new.disk))) (ends.done keeps)
+    ∙ ap map_count (gate_map d (not c.args.self.now.second) c.prepare.new.disk c.name_journal.new.disk (ends.touches keeps)
+    ∙ map_stays d (not c.args.self.now.second) (live_homes c.args.self.now.live) c.clear_map.new.disk c.prepare.new.disk (c.in_ok-prepare.ensures.touches end)
+    ∙ c.in_ok-clear_map.ensures.done (c.in_ok-prepare.ensures.kept end))
+    ∙ counted [] (omega arith)))
 
 pub returns-else-self-gt0 : goal.returns-else-self-gt0
 returns-else-self-gt0 g c =
@@ -66,4 +72,5 @@ returns-else-self-gt0 g c =
       not_live = search rules;
       synced = search rules;
       idle = search rules;
+      emptied = λ some. absurd (omega (arith, some, c.if-self-gt0.false));
     }

@@ -39,7 +39,7 @@ returns-in_err-finish g c =
     _ (asks_since d old mid read syncs found.looks.run s.asks found.asks) (search rules) (search rules)
     (let failed = c.in_err-finish.ensures.failed refl in let still = c.in_ok-journal.ensures.looks.calm in let before = c.in_ok-sync.ensures.cause.calm in
     blames_device d old c.finish.new.disk _ c.from_residual-in_err-finish.ensures.1 (omega (arith, failed, still, before)))
-    (λ keeps is. absurd (not_bad_device _ c.from_residual-in_err-finish.ensures.1 is)) (search rules)
+    (λ keeps is. absurd (not_bad_device _ c.from_residual-in_err-finish.ensures.1 is)) (search rules) (search rules)
 
 pub returns : goal.returns
 returns g c =
@@ -56,4 +56,4 @@ returns g c =
     (named_since d old mid read syncs found.looks.run c.in_ok-journal.journal c.in_ok-journal.ensures.ok) c.finish.ensures
     _ (asks_since d old mid read syncs found.looks.run s.asks found.asks)
     (λ keeps. so_before d old read (looks.touches (c.finish.ensures.kept keeps)) (λ n image. IsTurnSettled d n image c.finish.new.self.second [] new (turn_standing image)) looks.size (c.in_ok-finish.ensures.done keeps))
-    c.in_ok-finish.ensures.synced (blames_none d old new _ (c.in_ok-finish.ensures.calm ∙ c.in_ok-journal.ensures.looks.calm ∙ c.in_ok-sync.ensures.cause.calm)) (λ keeps is. cc) c.in_ok-finish.ensures.not_live
+    c.in_ok-finish.ensures.synced (blames_none d old new _ (c.in_ok-finish.ensures.calm ∙ c.in_ok-journal.ensures.looks.calm ∙ c.in_ok-sync.ensures.cause.calm)) (λ keeps is. cc) c.in_ok-finish.ensures.not_live c.in_ok-finish.ensures.emptied

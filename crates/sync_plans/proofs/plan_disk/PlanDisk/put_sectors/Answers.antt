@@ -23,8 +23,7 @@ loop-i-preserved c =
           (cases_eq j i);
       others = λ k. record { others = λ m out. (w.others k).others m (λ e. out (omega (arith, e), omega (arith, e, below))) ∙ (inv.others (w.kept k)).others m out };
       unsynced = λ k m u. ⊎_elim (inv.unsynced (w.kept k) m) (λ e. inr (omega (arith, e), omega (arith, e, below))) (w.unsynced k m u);
-      marked = λ k m from less. ⊎_elim (w.marked k m)
-          (λ other. w.still k m (inv.marked (w.kept k) m from (omega (arith, less, other)))) (cases_eq m at);
+      marked = λ k m from less. ⊎_elim (w.marked k m) (λ other. w.still k m (inv.marked (w.kept k) m from (omega (arith, less, other)))) (cases_eq m at);
       still = λ k m u. w.still k m (inv.still (w.kept k) m u);
       time = λ k. more_time (plan_moment old) (plan_moment mid) (plan_moment new) (left_in old) (left_in mid) (left_in new) (content_of mid) (content_of new) (unsynced_in mid) (unsynced_in new)
           (inv.time (w.kept k)) (w.time k) (carried at (content_of mid) (content_of new) (unsynced_in mid) (unsynced_in new) (w.others k) (w.still k) (w.marked k at refl));
