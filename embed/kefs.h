@@ -13,10 +13,16 @@
 
    Results. A call that can fail returns an int: KEFS_OK (0), an errno value (over 0), or one of enum kefs_result (under
    0). Errno itself is not part of the interface. An out-pointer is written only with KEFS_OK, but for the handle of an
-   opening. Strings that are returned are not freed. Any call on an image may return KEFS_FORKED, and any but
+   opening. Strings that are returned are not freed. Any call may return KEFS_BAD_ARGUMENT, any on an image KEFS_FORKED, and any but
    kefs_close, kefs_recover, kefs_mark_dirty and kefs_touch KEFS_HALTED; a call's own comment names its other results.
    The library maps the host file to read it: where the device fails such a read, the process gets a SIGBUS, as with any
-   mapped file.
+   mapped file. Of a sparse host file it reads by calls what may have no room on the device.
+
+   Stores that nothing notes. Under every tracker, bytes that the system puts into mapped memory past the page cache are noted when the
+   system call begins: those of read(2) and its like from a file that was opened with O_DIRECT, and with io_uring's fixed buffers
+   those of every read after the first commit. Where a commit runs meanwhile, or comes between, such bytes may never become durable.
+   Call kefs_mark_dirty on them after each such read has returned, and under KEFS_TRACK_SIGNAL before it too. Nothing else does so:
+   not ordinary reads, and not stores of the program's own.
 
    Pages are of 4,096 bytes (KEFS_PAGE), from a file's byte 0 on. A dirty page is one that was stored to since it
    was mapped, last committed or rolled back.
@@ -33,17 +39,21 @@
    Fork. A child has no image and no mapping: an access of the memory is a SIGSEGV there, and each call on an inherited
    handle returns KEFS_FORKED and does nothing. Only kefs_close in a child lets go the handle and the file descriptors
    that the child inherited; the parent's image stays as it is. A child may open images of its own. Where the parent is
-   killed, the image stays locked until each child that inherited the descriptor has ended, called exec, or called
-   kefs_close.
+   killed, the image can be opened at once, but while a child lives that has inherited the descriptor and neither closed it, nor called
+   exec or kefs_close.
+
+   Who may read the host file. A program with no more than the right to read it changes nothing of it and of what others read. But it can
+   keep openings out, by flock(2), and take a tenth of a writer's time, by the locks of readers. So give 0600 where nobody else shall read.
 
    Trackers. How the dirty pages are found, by the flags of kefs_open:
    - scan: PAGEMAP_SCAN and an asynchronous userfaultfd, of Linux 6.7 or later. The kernel notes stores, those of
-     read(2) and other system calls included.
+     read(2) and other system calls included, but those above.
    - signal: dirty pages alone may be stored to, and a handler of SIGSEGV notes the first store to each other page.
      Where the process has so many mappings that the kernel allows no more (some 65,000), pages beside it count as dirty
      too. A system call that stores to a page that is not dirty, as read(2) into mapped memory, fails with EFAULT: call
      kefs_mark_dirty on the bytes before. The handler passes a fault that is not of a mapped file on to the handler that
-     was there before; it has to stay installed, and no thread may block the signal while it stores.
+     was there before, with the mask and the flags that this one asked for, but on the alternate stack where there is one; it has to
+     stay installed, and no thread may block the signal while it stores.
    - caller: nothing is noted but what kefs_mark_dirty names. The fastest one; a store that was not named may or may not
      become durable. */
 #ifndef KEFS_H
@@ -78,7 +88,9 @@ enum kefs_result {
   KEFS_DEVICE = -31008,      /* a read, write or sync of the host file failed */
   KEFS_HALTED = -31009,      /* a commit before this call returned KEFS_DEVICE: kefs_recover or kefs_close has to follow */
   KEFS_NO_TRACKER = -31010,  /* the system has not the tracker that the flags ask for */
-  KEFS_FORKED = -31011       /* the handle is of a parent process */
+  KEFS_FORKED = -31011,      /* the handle is of a parent process */
+  KEFS_BAD_ARGUMENT = -31012, /* an image, a path, an out-pointer or a list is NULL that may not be; nothing was done */
+  KEFS_OTHER_FILES = -31013  /* KEFS_CREATE, and the image that is there has other files than those of the options */
 };
 
 /* An open image. */
@@ -93,10 +105,11 @@ const char *kefs_strerror(int result);
 /* The name of a result, as "KEFS_BUSY"; "errno" for an errno value, and "unknown" for anything else. Never NULL. */
 const char *kefs_name(int result);
 
-/* What went wrong in the last call on this image that failed, as "pwrite of 4096 bytes at sector 16408: Input/output
-   error". Where `image` is NULL: in this thread's last kefs_open, kefs_open_with or kefs_format that failed. "" where
-   none has failed; never NULL. It holds until the next such call. kefs_mark_dirty, kefs_touch and a call that returns
-   KEFS_FORKED leave none. */
+/* What went wrong in the last call on this image of this thread's that failed, as "pwrite of 4096 bytes at sector 16408: Input/output
+   error". Where `image` is NULL: in this thread's last kefs_open, kefs_open_with or kefs_format that failed; of a file that is no
+   image its path and the reason that kefscheck gives. "" where none has failed, or where calls on eight other images have failed since;
+   never NULL. It holds until this thread's next call that fails. kefs_mark_dirty, kefs_touch and a call that returns KEFS_FORKED, or
+   KEFS_BAD_ARGUMENT for its image, leave none. */
 const char *kefs_errmsg(const kefs_image *image);
 
 /* Making an image */
@@ -116,14 +129,15 @@ struct kefs_file {
 };
 
 /* Makes an image at `path`, where nothing may be, of `count` files, 0 to 64, that get the numbers from 0 on, with these
-   access permissions (as 0644, less the umask). It is durable when the call returns. It has 8,400,896 bytes beside its
+   access permissions (as 0640, less the umask; 0 is 0600). It is durable when the call returns. It has 8,400,896 bytes beside its
    files. Its room on the device is taken, where the file system can do so, but where a file is sparse that of 16,384
    bytes and of the other files: the rest follows as commits need it, at most 8 MiB for the journals. A stop at any moment, and a failure, leave the whole image
-   at `path`, or nothing there. (Where the file system has no unnamed files, a stop may leave a file
-   `path`.new-PID-NUMBER, which may be removed.)
+   at `path`, or nothing there, and once it is there it is not taken away: another process may have it. (Where the file system has no
+   unnamed files, a stop may leave a file `path`.new-PID-NUMBER, which may be removed.)
    EINVAL: over 64 files, or a flag that is none. EEXIST: something is at `path`. EFBIG: the files need over 2^30 pages,
-   or the file system has no files so large. ENOSPC, EDQUOT: there is no room. ENOMEM. KEFS_DEVICE: a write or a sync
-   failed. Other errno values as of open(2) and linkat(2). */
+   or the file system, or the process (ulimit -f), has no files so large. ENOSPC, EDQUOT: there is no room. ENOMEM. KEFS_DEVICE: a
+   write or a sync failed; if that of the folder, the image is at `path`, and an opening with KEFS_CREATE tries that sync again. Other
+   errno values as of open(2) and linkat(2). */
 int kefs_format(const char *path, unsigned permissions, const struct kefs_file *files, size_t count);
 
 /* Opening and closing */
@@ -132,7 +146,7 @@ int kefs_format(const char *path, unsigned permissions, const struct kefs_file *
    kefs_stat says which. */
 enum {
   KEFS_RDONLY = 1,        /* reads only, beside other readers, and writes nothing: a journal with pages is read through */
-  KEFS_NOWAIT = 2,        /* KEFS_BUSY at once, where the call would wait until another one lets the image go */
+  KEFS_NOWAIT = 2,        /* KEFS_BUSY at once, where the call would wait until another one lets the image go, or a reader has had its turn */
   KEFS_TRACK_SCAN = 4,
   KEFS_TRACK_SIGNAL = 8,
   KEFS_TRACK_CALLER = 16,
@@ -149,18 +163,22 @@ enum {
 /* KEFS_SNAPSHOT. The image's used pages are copied into memory, and the mapped files show them as they were after the newest
    commit, all of it, until kefs_refresh brings a newer one. KEFS_RDONLY, KEFS_LAZY and trackers change nothing then. The image is
    not kept from others: a process may have it open to write meanwhile, and be killed or open it again. An opening, and a refresh,
-   waits for the commit or the opening that is under way, and these wait for readers that are copying, in turns of some
-   megabytes; for one that makes no progress, a second, and then they go on and it copies again. A writer that is none of this
-   library's version 1.1 or later (pagesync, pagerun) is KEFS_BUSY, and such a one may find the image in use while a snapshot is
-   copied. */
+   waits for the commit or the opening that is under way, and these wait for readers that are copying, in turns of at most 4 MiB, and
+   4 MiB of the journal, or 8 MiB that commits have changed. For one that makes no progress openings, commits and kefs_recover wait a
+   second, and then go on and it copies again; from then on they wait for such ones in a tenth of their time at most. Where nobody has the
+   image open to write, a copy begins 20 milliseconds after the last change of it, or three seconds where the file system's times
+   have no parts of milliseconds, and keeps nobody out. A writer that is none of this library's version 1.1 or later (pagesync, pagerun) is
+   KEFS_BUSY. */
 
 /* Opens the image at `path` and locks it by flock(2): against every other opening but those with KEFS_SNAPSHOT, or with KEFS_RDONLY
-   against those without. It waits for the lock, for ever where this thread holds it by another handle, and carries out what a stop or
-   the last commit left in the journal, but not with KEFS_RDONLY or KEFS_SNAPSHOT. Of what it reads it lets the system drop its cached
-   copy first, so that it sees what the device holds, after a sync that failed too. *image is NULL where it fails;
-   kefs_errmsg(NULL) tells more.
+   against those without. It waits for the lock, without a limit unless kefs_open_with gives one, but not for a handle that this thread
+   has opened: that is KEFS_BUSY at once. It carries out what a stop or the last commit left in the journal, but not with KEFS_RDONLY or
+   KEFS_SNAPSHOT. Of what it reads it lets the system drop its cached copy first, so that it sees what the device holds, after a sync
+   that failed too. *image is NULL where it fails; kefs_errmsg(NULL) tells more.
    EINVAL: a flag that is none, two trackers, or KEFS_CREATE. ENOMEM. ENOSYS: the system's pages are not of 4,096 bytes.
-   EINTR: a signal came while it waited. ENOSPC, EDQUOT: there is no room to carry the journal out. KEFS_BUSY,
+   EINTR: a signal came while it waited. ENOSPC, EDQUOT: there is no room to carry the journal out, or to read a sparse file on a
+   memory file system. ESTALE: with KEFS_SNAPSHOT, the file has no name any more, though `path`, of /proc, leads to it; or `path` leads
+   to another file each of a hundred times. EFBIG: with KEFS_SNAPSHOT, the process may have no file as large (ulimit -f). KEFS_BUSY,
    KEFS_NOT_IMAGE, KEFS_BAD_JOURNAL, KEFS_NO_TRACKER, KEFS_DEVICE. Other errno values as of open(2), of userfaultfd(2)
    too (EMFILE). */
 int kefs_open(kefs_image **image, const char *path, unsigned flags);
@@ -169,16 +187,17 @@ int kefs_open(kefs_image **image, const char *path, unsigned flags);
 struct kefs_options {
   size_t size;                  /* sizeof (struct kefs_options), so that a later version may have more fields */
   uint32_t wait;                /* milliseconds to wait for the lock at most, then KEFS_BUSY; 0: no limit. With KEFS_SNAPSHOT
-                                   of each kefs_refresh too */
+                                   of each kefs_refresh too. With less than 1,000 a reader that is stopped is KEFS_BUSY */
   uint32_t permissions;         /* with KEFS_CREATE these three, as of kefs_format: access permissions, */
   const struct kefs_file *files; /* files */
   size_t count;                 /* and how many they are */
 };
 
 /* kefs_open with options. With KEFS_CREATE, where nothing is at `path`, the image is made first, as kefs_format does
-   it; an image that is there is opened with the files that it has.
+   it; an image that is there has to have these files, and no others, of these lengths.
    EINVAL: as of kefs_open and of kefs_format, KEFS_CREATE to read or without options, or a `size` that is less
-   than that of version 1.0. Other results as of kefs_open and, with KEFS_CREATE, of kefs_format. */
+   than that of version 1.0. KEFS_OTHER_FILES: the image that is there has other files, lengths, or files that may only be read.
+   Other results as of kefs_open and, with KEFS_CREATE, of kefs_format. */
 int kefs_open_with(kefs_image **image, const char *path, unsigned flags, const struct kefs_options *options);
 
 /* Unmaps all files and lets the image go; NULL does nothing. What was not committed is lost. The handle is gone
@@ -212,7 +231,8 @@ struct kefs_range { const void *at; size_t length; };
 /* Makes the dirty pages of `count` ranges durable, in all files at once, or all dirty pages where `ranges` is NULL.
    How many they were goes to *taken, where it is not NULL; where there are none, no device call is made. Bytes of a
    range that lie in no mapping count for nothing.
-   KEFS_TOO_MANY: over 1,023 pages; nothing was done. The way on is to commit fewer ranges at a time, or kefs_rollback.
+   KEFS_TOO_MANY: over 1,023 pages; nothing was done. The way on is to commit fewer ranges at a time, or kefs_rollback. With scan and
+   signal, and of one range or all, pages that are as they are durable are not counted here, though kefs_count_dirty counts them.
    KEFS_READ_ONLY: opened with KEFS_RDONLY or KEFS_SNAPSHOT. EINVAL: `ranges` is NULL and `count` is not 0. ENOMEM: nothing was done.
    ENOSPC, EDQUOT: there is no room on the device, where a file is sparse mostly; nothing was done, the pages are dirty
    still, and the image goes on. KEFS_NOT_IMAGE, KEFS_BAD_JOURNAL: another program has written over the host file; nothing was
@@ -234,8 +254,7 @@ enum { KEFS_BEFORE = 0, KEFS_AFTER = 1 };
    it is not, and its pages are dirty. KEFS_BEFORE too where no commit had failed; then nothing is done. `stands` may be
    NULL.
    ENOSPC, EDQUOT, KEFS_DEVICE: the device failed again, and the image stays halted: kefs_recover may be called again.
-   KEFS_BUSY: a reader has been copying for over a second, and the image stays halted too. KEFS_NOT_IMAGE,
-   KEFS_BAD_JOURNAL: what the device holds is no image any more. ENOMEM. */
+   KEFS_NOT_IMAGE, KEFS_BAD_JOURNAL: what the device holds is no image any more. ENOMEM. */
 int kefs_recover(kefs_image *image, int *stands);
 
 /* How many pages kefs_commit of these ranges would take now: for a program that ends a transaction before it grows too
@@ -266,9 +285,10 @@ int kefs_touch(kefs_image *image, const void *at, size_t length);
 /* Of an image that was opened with KEFS_SNAPSHOT: brings its mapped files, where they are, to what the newest commit has left,
    and all of them at once: a commit that returned before this call is in it. *changed, which may be NULL, is 1 where a byte of them
    may differ from before, else 0. No other thread may use the mapped memory meanwhile. After any result but KEFS_OK they are
-   as they were. Where the writer has not committed since, it waits for nobody and copies nothing; after one commit it copies that one's
-   pages, and else it compares all used pages.
-   EINVAL: `image` is NULL, or was not opened so. KEFS_BUSY: the wait of the opening's options, or with KEFS_NOWAIT any wait, is over.
+   as they were. Where the writer has not committed since, it waits for nobody and copies nothing; after up to 16 commits it copies the
+   pages of these, where each of them but the last was of at most 32 runs of neighbouring pages, and all of at most 2,048 pages; and else
+   it compares all used pages.
+   EINVAL: the image was not opened so. KEFS_BUSY: the wait of the opening's options, or with KEFS_NOWAIT any wait, is over.
    EINTR: a signal came while it waited. ESTALE: the image was replaced or removed, and no name leads to it any more: the
    way on is kefs_close and kefs_open. ENOMEM. KEFS_NOT_IMAGE, KEFS_BAD_JOURNAL: another program has cut the file or
    written over it. ENOLCK: the file system has no locks of byte ranges. ENOSPC, EDQUOT, KEFS_DEVICE: a read or a sync failed. */

@@ -10,17 +10,20 @@
 
 An errno value is raised as OSError, each other result as an exception of its own, all of them of class Error. When its image is closed or
 its file unmapped, the memoryview that map() gave is released, so that Python refuses each use of it; but where others were made of it
-that still live, as slices and arrays, closing and unmapping are refused with BufferError, and nothing was done. A child of os.fork has no
-image: its memoryviews are released, and what was made of them is of zeros that no commit takes.
+that still live, as slices and arrays, closing and unmapping are refused with BufferError, and nothing was done. An image that is dropped is
+closed with the last view of it. A child of os.fork has no image: its memoryviews are released, and what was made of them is of zeros that no commit takes.
+A call that a signal interrupts goes on after Python's handler, unless that raises.
 The library is looked for as the environment's KEFS_LIBRARY says, beside this file, and where the system has libraries."""
 
 import contextlib
 import ctypes
+import errno
 import gc
 import mmap
 import os
 import sys
 import threading
+import time
 import weakref
 from typing import NamedTuple
 
@@ -82,6 +85,14 @@ class NoTracker(Error):
 
 class Forked(Error):
     result = -31011
+
+
+class BadArgument(Error):
+    result = -31012
+
+
+class OtherFiles(Error):
+    result = -31013
 
 
 ERRORS = {error.result: error for error in Error.__subclasses__()}
@@ -181,18 +192,60 @@ def _last_message():
     return _library().kefs_errmsg(None).decode(errors="replace")
 
 
-def format(path, files, permissions=0o644):
+def format(path, files, permissions=0o600):
     """Makes an image at `path`, where nothing may be. Each file is a File, or a length in bytes."""
     array = _array(files)
     result = _library().kefs_format(os.fsencode(path), permissions, array, len(array))
     _check(result, _last_message(), path)
 
 
+_DOFORK, _WIPEONFORK = 11, 18  # of madvise(2)
+
+
+def _libc():
+    libc = ctypes.CDLL(None, use_errno=True)
+    libc.mmap.restype = ctypes.c_void_p
+    libc.mmap.argtypes = (ctypes.c_void_p, ctypes.c_size_t, ctypes.c_int, ctypes.c_int, ctypes.c_int, ctypes.c_long)
+    libc.madvise.argtypes = (ctypes.c_void_p, ctypes.c_size_t, ctypes.c_int)
+    return libc
+
+
+class _Handle:
+    """The handle of an open image. It is closed with the last of the image and its views."""
+
+    def __init__(self, at):
+        self.at = at
+
+    def close(self):
+        at, self.at = self.at, None
+        return 0 if at is None else _library().kefs_close(at)
+
+    def __del__(self):
+        with contextlib.suppress(Exception):
+            self.close()
+
+
+class _Bytes(ctypes.Array):
+    """Memory of a mapped file, one array type for each length. It keeps the handle open for as long as a view of it lives."""
+
+    _type_, _length_ = ctypes.c_ubyte, 0
+
+
+def _bytes_at(at, length, handle):
+    """A child of os.fork finds the memory's place taken, by zeros where the system can do so, so that nothing else of the child's can be there when
+    _leave_parent comes."""
+    for advice in (_WIPEONFORK, _DOFORK):
+        _libc().madvise(at, length, advice)
+    found = type("_Bytes", (_Bytes,), {"_length_": length}).from_address(at)
+    found.handle = handle
+    return found
+
+
 class _Mapped:
     """The bytes of a mapped file, and the memoryview that is given out of them."""
 
-    def __init__(self, at, length, read_only):
-        self.bytes = (ctypes.c_ubyte * length).from_address(at) if at else bytearray()
+    def __init__(self, at, length, read_only, handle=None):
+        self.bytes = _bytes_at(at, length, handle) if at else bytearray()
         self.at, self.length, self.read_only, self.view = at, length, read_only, None
 
     def whole(self):
@@ -202,16 +255,22 @@ class _Mapped:
             self.view = view.toreadonly() if self.at and self.read_only else view
         return self.view
 
+    def counts(self):
+        """How many references there are to the bytes and, where the memoryview lives, to the buffer that all memoryviews made of one another share."""
+        if self.view is None or _is_released(self.view):
+            return sys.getrefcount(self.bytes), 0
+        (buffer,) = gc.get_referents(self.view)
+        return sys.getrefcount(self.bytes), sys.getrefcount(buffer)
+
     def refuse_where_used(self):
-        """Raises BufferError where other memoryviews of these bytes live, or arrays over them. Each refers to the bytes, or to
-        the buffer that all memoryviews made of one another share."""
+        """Raises BufferError where other memoryviews of these bytes live, or arrays over them. How many references there are where none lives differs
+        between versions of Python, so it is counted of bytes that nobody uses."""
+        unused = _Mapped(0, 0, False)
+        unused.bytes = (ctypes.c_ubyte * 1)()
         if self.view is not None and not _is_released(self.view):
-            (buffer,) = gc.get_referents(self.view)
-            views = sys.getrefcount(buffer) - 2  # the variable, and the argument of the call
-            del buffer
-            if views > 1 or sys.getrefcount(self.bytes) > 3:  # the attribute, the buffer and the argument
-                raise BufferError("a view of the mapped file is still in use")
-        elif sys.getrefcount(self.bytes) > 2:
+            unused.read_only, unused.at = self.read_only, self.at
+            unused.whole()
+        if any(mine > others for mine, others in zip(self.counts(), unused.counts())):
             raise BufferError("a view of the mapped file is still in use")
 
     def release(self):
@@ -232,10 +291,8 @@ _images = weakref.WeakSet()
 
 
 def _leave_parent():
-    """In a child of os.fork: the mapped memory was not inherited. Zeros stand in its place, where a view that lives may look."""
-    libc = ctypes.CDLL(None, use_errno=True)
-    libc.mmap.restype = ctypes.c_void_p
-    libc.mmap.argtypes = (ctypes.c_void_p, ctypes.c_size_t, ctypes.c_int, ctypes.c_int, ctypes.c_int, ctypes.c_long)
+    """In a child of os.fork: zeros take the place of the mapped memory, where a view that lives may look."""
+    libc = _libc()
     for image in list(_images):
         image._lock = threading.RLock()
         for mapped in image._mapped.values():
@@ -252,24 +309,27 @@ os.register_at_fork(after_in_child=_leave_parent)
 class Image:
     """An open image. It is closed by close(), or at the end of a `with`. Threads may share it: a call waits for the one before."""
 
-    def __init__(self, path, flags=0, wait=0, create=None, permissions=0o644):
+    def __init__(self, path, flags=0, wait=0, create=None, permissions=0o600):
         handle, options = ctypes.c_void_p(), _Options(size=ctypes.sizeof(_Options), wait=wait, permissions=permissions)
         self._handle, self._mapped, self._lock = None, {}, threading.RLock()
+        end = time.monotonic() + wait / 1000
         if create is not None:
             array, flags = _array(create), flags | _CREATE
             options.files, options.count = ctypes.cast(array, ctypes.c_void_p), len(array)
-        result = _library().kefs_open_with(ctypes.byref(handle), os.fsencode(path), flags, ctypes.byref(options))
+        while (result := _library().kefs_open_with(ctypes.byref(handle), os.fsencode(path), flags, ctypes.byref(options))) == errno.EINTR:
+            options.wait = wait and max(1, int(1000 * (end - time.monotonic())))
         _check(result, _last_message(), path)
-        self._handle = handle
+        self._handle = _Handle(handle)
         _images.add(self)
 
     def _call(self, name, *arguments):
         with self._lock:
             if self._handle is None:
                 raise ValueError("the image is closed")
-            result = getattr(_library(), name)(self._handle, *arguments)
+            while (result := getattr(_library(), name)(self._handle.at, *arguments)) == errno.EINTR:
+                pass
             if result != 0:
-                _check(result, "" if result == Forked.result else _library().kefs_errmsg(self._handle).decode(errors="replace"))
+                _check(result, "" if result == Forked.result else _library().kefs_errmsg(self._handle.at).decode(errors="replace"))
 
     def map(self, file, wanted=None):
         """The bytes of a file as a memoryview, at the address `wanted` where it is given. It takes no store where the file or the image may
@@ -278,11 +338,11 @@ class Image:
         with self._lock:
             self._call("kefs_map", file, wanted, ctypes.byref(at), ctypes.byref(length))
             if file not in self._mapped:
-                self._mapped[file] = _Mapped(at.value, length.value, bool(at.value) and self._is_read_only(at))
+                self._mapped[file] = _Mapped(at.value, length.value, bool(at.value) and self._is_read_only(at), self._handle)
             return self._mapped[file].whole()
 
     def _is_read_only(self, at):
-        return _library().kefs_mark_dirty(self._handle, at, 0) == ReadOnly.result
+        return _library().kefs_mark_dirty(self._handle.at, at, 0) == ReadOnly.result
 
     def _release(self, files):
         """Releases the memoryviews of these mapped files. BufferError: a view that was made of one is in use; then none was
@@ -297,8 +357,8 @@ class Image:
         with self._lock:
             if file in self._mapped:
                 self._release([file])
+            self._mapped.pop(file, None)  # before the memory goes, as a child of another thread's fork puts zeros where it was
             self._call("kefs_unmap", file)
-            self._mapped.pop(file, None)
 
     def length(self, file):
         """The length of a file in bytes."""
@@ -331,7 +391,7 @@ class Image:
         self._call("kefs_refresh", ctypes.byref(changed))
         return bool(changed.value)
 
-    def backup(self, path, permissions=0o644):
+    def backup(self, path, permissions=0o600):
         """Makes an image at `path`, where nothing may be, that is as the last commit has left this one."""
         self._call("kefs_backup", os.fsencode(path), permissions)
 
@@ -370,7 +430,7 @@ class Image:
             self._release(list(self._mapped))
             self._mapped.clear()
             handle, self._handle = self._handle, None
-            _check(_library().kefs_close(handle))
+            _check(handle.close())
 
     def _counted(self, name, ranges):
         count = ctypes.c_size_t()
@@ -408,7 +468,7 @@ def _ranges(views):
     return (array, len(views)) if views else (None, 0)
 
 
-def open(path, flags=0, wait=0, create=None, permissions=0o644):
+def open(path, flags=0, wait=0, create=None, permissions=0o600):
     """Opens an image: kefs.RDONLY or kefs.SNAPSHOT, kefs.NOWAIT, kefs.LAZY and a tracker are the flags. Another opening of it is waited for, at most
     `wait` milliseconds where that is not 0; with SNAPSHOT only the commit that is under way, and by each refresh() too. `create` is the files of the
     image, as of format(), that is made where nothing is at the path. Use it in a `with`."""

@@ -15,8 +15,9 @@
    fstatat and statx; mmap, mremap in its place, munmap, madvise, msync; fsync, fdatasync, syncfs, sync; lseek, truncate, fallocate without a mode; read and
    write in each of their forms but those with flags; fopen, fdopen and what is done with their streams. Refused in a line are a private mapping, one at a fixed
    address, mremap to elsewhere, unlink, remove, rename, freopen, aio and other modes of fallocate; and without one, as between two file systems, so that a program
-   does it by reads and writes, copy_file_range, sendfile, splice and clones; kefsrun takes io_uring away. System calls that the program makes by itself, past the C
-   library, reach the empty file, and where bytes of it are found at the end, a line says so. What mprotect says of the mapping holds for calls too.
+   does it by reads and writes, copy_file_range, sendfile, splice and clones; kefsrun takes io_uring away. Refused in a line too is a read with O_DIRECT from another file into
+   the mapping, which nothing notes. System calls that the program makes by itself, past the C library, reach the empty file, and where bytes of it are found at the end,
+   a line says so. What mprotect says of the mapping holds for calls too.
    Failures of the library are told in a line on standard error, and to the program as errno. */
 #include "bridge.h"
 #include <stdlib.h>
@@ -32,6 +33,7 @@ static kefs_image *image;
 static pid_t owner;                /* the process that has it. A child of vfork has this memory too, and another number */
 static int is_child;               /* a process before it had the image, and this one has its descriptors */
 static int is_over;                /* the end of the program has closed the image */
+static pid_t first;                /* the process that the program began as, until it has looked at its end for what went past this */
 static __thread int is_inside;     /* this thread is in a call of the library, so a signal's handler that ends the program must not make another */
 
 int fail(int number) {
@@ -239,6 +241,7 @@ __attribute__((constructor)) static void begin(void) {
   const char *path = getenv("KEFS_FILE"), *at = getenv("KEFS_COMMIT_AT");
   if (path == NULL || getenv("KEFS_IMAGE") == NULL || NEXT(stat)(path, &data_file) != 0) data_file.st_ino = 0;
   commit_at = at != NULL && strcmp(at, "fsync") == 0 ? AT_FSYNC : at != NULL && strcmp(at, "part") == 0 ? AT_PART : EVERY;
+  first = getpid();
   pthread_atfork(NULL, NULL, begin_streams);
   at_quick_exit(commit_at_end);
   begin_streams();
@@ -252,13 +255,22 @@ static void say_counts(void) {
           (unsigned long)stat.syncs, stat.tracker);
 }
 
-__attribute__((destructor)) static void end(void) {
+/* Bytes in the empty file are what a call past the C library wrote, or a program that was not preloaded, as one that is linked statically: this one sees them too, where it
+   ends after that. A child of fork leaves it to its parent. */
+void say_bypass(void) {
   struct stat st;
-  if (image == NULL) return;
-  flush_streams();
-  commit();
-  say_counts();
-  let_go();
-  is_over = 1;
-  if (NEXT(stat)(getenv("KEFS_FILE"), &st) == 0 && st.st_size != 0) say(getenv("KEFS_FILE"), "the program wrote to it by a call that is not answered");
+  if (data_file.st_ino == 0 || getpid() != first) return;
+  first = 0;
+  if (NEXT(stat)(getenv("KEFS_FILE"), &st) == 0 && st.st_size != 0) say(getenv("KEFS_FILE"), "a program wrote to it by a call that is not answered, and the image has none of that");
+}
+
+__attribute__((destructor)) static void end(void) {
+  if (image != NULL) {
+    flush_streams();
+    commit();
+    say_counts();
+    let_go();
+    is_over = 1;
+  }
+  say_bypass();
 }

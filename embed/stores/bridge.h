@@ -53,6 +53,9 @@ int commit(void);
 /* As commit, where this process has the image open; 0 where it has not, or only shares the memory of one that has, as a child of vfork. */
 int commit_own(void);
 
+/* At the end of the program: says in a line that the empty file has bytes. */
+void say_bypass(void);
+
 /* The length of the data file: read from the image, which is let go at once where this process has not opened it. 0, or -1 and errno. */
 int length_now(uint64_t *to);
 

@@ -107,8 +107,17 @@ static size_t copy_from(off_t at, void *to, size_t bytes) {
   return bytes;
 }
 
+/* Whether a read from another file would put bytes past the page cache into the mapping: nothing notes these, and a commit beside it could lose them. */
+static int is_unnoted(int fd, const struct iovec *parts, int count) {
+  for (int i = 0; i < count && data.base != NULL; i++)
+    if (covers_data(parts[i].iov_base, parts[i].iov_len)) return (fcntl(fd, F_GETFL) & O_DIRECT) != 0;
+  return 0;
+}
+
+static ssize_t refuse_direct(void) { return refuse("a read with O_DIRECT into its mapping", EINVAL); }
+
 ssize_t preadv(int fd, const struct iovec *parts, int count, off_t at) {
-  if (!is_data(fd)) return NEXT(preadv)(fd, parts, count, at);
+  if (!is_data(fd)) return is_unnoted(fd, parts, count) ? refuse_direct() : NEXT(preadv)(fd, parts, count, at);
   if (at < 0 || count < 0) return fail(EINVAL);
   if (flags_to_read(fd) < 0) return -1;
   size_t given = 0;
@@ -118,7 +127,9 @@ ssize_t preadv(int fd, const struct iovec *parts, int count, off_t at) {
 ssize_t preadv64(int fd, const struct iovec *parts, int count, off_t at) { return preadv(fd, parts, count, at); }
 
 ssize_t pread(int fd, void *to, size_t bytes, off_t at) {
-  return is_data(fd) ? preadv(fd, &(struct iovec){to, bytes}, 1, at) : NEXT(pread)(fd, to, bytes, at);
+  const struct iovec part = {to, bytes};
+  if (is_data(fd)) return preadv(fd, &part, 1, at);
+  return is_unnoted(fd, &part, 1) ? refuse_direct() : NEXT(pread)(fd, to, bytes, at);
 }
 ssize_t pread64(int fd, void *to, size_t bytes, off_t at) { return pread(fd, to, bytes, at); }
 ssize_t __pread_chk(int fd, void *to, size_t bytes, off_t at, size_t room) { return bytes > room ? (abort(), -1) : pread(fd, to, bytes, at); }
@@ -130,14 +141,18 @@ static ssize_t moved(int fd, off_t place, ssize_t result) {
 }
 
 ssize_t readv(int fd, const struct iovec *parts, int count) {
-  if (!is_data(fd)) return NEXT(readv)(fd, parts, count);
+  if (!is_data(fd)) return is_unnoted(fd, parts, count) ? refuse_direct() : NEXT(readv)(fd, parts, count);
   pthread_mutex_lock(&lock);
   off_t place = NEXT(lseek)(fd, 0, SEEK_CUR);
   ssize_t result = place < 0 ? -1 : moved(fd, place, preadv(fd, parts, count, place));
   pthread_mutex_unlock(&lock);
   return result;
 }
-ssize_t read(int fd, void *to, size_t bytes) { return is_data(fd) ? readv(fd, &(struct iovec){to, bytes}, 1) : NEXT(read)(fd, to, bytes); }
+ssize_t read(int fd, void *to, size_t bytes) {
+  const struct iovec part = {to, bytes};
+  if (is_data(fd)) return readv(fd, &part, 1);
+  return is_unnoted(fd, &part, 1) ? refuse_direct() : NEXT(read)(fd, to, bytes);
+}
 ssize_t __read_chk(int fd, void *to, size_t bytes, size_t room) { return bytes > room ? (abort(), -1) : read(fd, to, bytes); }
 
 /* Writes */
@@ -195,7 +210,7 @@ ssize_t write(int fd, const void *from, size_t bytes) {
 
 /* With flags, which ask for a write or a read that differs, they are refused; at -1 is the descriptor's place. */
 ssize_t preadv2(int fd, const struct iovec *parts, int count, off_t at, int flags) {
-  if (!is_data(fd)) return NEXT(preadv2)(fd, parts, count, at, flags);
+  if (!is_data(fd)) return is_unnoted(fd, parts, count) ? refuse_direct() : NEXT(preadv2)(fd, parts, count, at, flags);
   if (flags != 0) return fail(EOPNOTSUPP);
   return at == -1 ? readv(fd, parts, count) : preadv(fd, parts, count, at);
 }

@@ -102,6 +102,7 @@ int dup3(int from, int to, int flags) { return before_dup(from, to) != 0 ? -1 : 
 
 _Noreturn static void leave(int status, void (*next)(int)) {
   commit_own();
+  say_bypass();
   next(status);
   abort();
 }

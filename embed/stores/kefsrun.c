@@ -84,44 +84,88 @@ static void format(const char *path, uint32_t most, uint64_t length, const void 
   unsigned char page[KEFS_PAGE] = {0};
   memcpy(page, &length, sizeof length);
   struct kefs_file files[2] = {{.length = most, .content = bytes}, {.length = KEFS_PAGE, .content = page}};
-  int result = kefs_format(path, 0644, files, 2);
+  int result = kefs_format(path, 0, files, 2);
   if (result != KEFS_OK) quit(path, kefs_strerror(result));
 }
 
-/* Makes the image of the bytes that the data file has, with zeros after them. Only then the file gets its other name. */
-static void import(const struct options *options) {
-  char before[PATH_MAX];
-  struct stat st;
-  int fd = open(options->data, O_RDONLY | O_CLOEXEC);
-  if (fd < 0 || fstat(fd, &st) != 0) quit(options->data, strerror(errno));
-  if (st.st_size > options->length) quit(options->data, "has more bytes than -m says");
-  if (snprintf(before, sizeof before, "%s.before", options->data) >= (int)sizeof before) quit(options->data, strerror(ENAMETOOLONG));
+/* The data file's bytes, mapped to read, in memory of `room` bytes: more than there are of them are zeros. */
+static unsigned char *map_data(const char *path, uint64_t length, size_t room) {
+  int fd = open(path, O_RDONLY | O_CLOEXEC);
+  unsigned char *bytes = mmap(NULL, room, PROT_READ, MAP_PRIVATE | MAP_ANONYMOUS | MAP_NORESERVE, -1, 0);
+  if (fd < 0 || bytes == MAP_FAILED) quit(path, strerror(errno));
+  if (length > 0 && mmap(bytes, (size_t)length, PROT_READ, MAP_PRIVATE | MAP_FIXED, fd, 0) == MAP_FAILED) quit(path, strerror(errno));
+  close(fd);
+  return bytes;
+}
+
+/* The other name of a data file whose bytes the image has. */
+static void name_before(const char *data, char before[PATH_MAX]) {
+  if (snprintf(before, PATH_MAX, "%s.before", data) >= PATH_MAX) quit(data, strerror(ENAMETOOLONG));
   if (access(before, F_OK) == 0) quit(before, strerror(EEXIST));
-  unsigned char *bytes = mmap(NULL, options->length, PROT_READ, MAP_PRIVATE | MAP_ANONYMOUS | MAP_NORESERVE, -1, 0);
-  if (bytes == MAP_FAILED) quit(options->data, strerror(errno));
-  if (st.st_size > 0 && mmap(bytes, (size_t)st.st_size, PROT_READ, MAP_PRIVATE | MAP_FIXED, fd, 0) == MAP_FAILED) quit(options->data, strerror(errno));
-  format(options->image, options->length, (uint64_t)st.st_size, bytes);
-  if (rename(options->data, before) != 0) quit(before, strerror(errno));
+}
+
+static void put_aside(const char *data) {
+  char before[PATH_MAX];
+  name_before(data, before);
+  if (rename(data, before) != 0) quit(before, strerror(errno));
+}
+
+/* Makes the image of the bytes that the data file has, with zeros after them. Only then the file gets its other name. */
+static void import(const struct options *options, uint64_t length) {
+  char before[PATH_MAX];
+  if (length > options->length) quit(options->data, "has more bytes than -m says");
+  name_before(options->data, before);
+  unsigned char *bytes = map_data(options->data, length, options->length);
+  format(options->image, options->length, length, bytes);
   munmap(bytes, options->length);
-  close(fd);
+  put_aside(options->data);
 }
 
-/* Makes the image where it is missing. */
-static void make_image(const struct options *options) {
-  if (access(options->image, F_OK) == 0) return;
-  if (options->length == 0) quit(options->image, "there is no image; -m LENGTH makes one");
-  if (options->is_import) import(options);
-  else format(options->image, options->length, 0, NULL);
+/* Whether the image holds just the bytes that the data file has, as where an import was killed before it gave the file its other name. */
+static int holds_bytes(const struct options *options, uint64_t length) {
+  kefs_image *image;
+  void *at = NULL, *page = NULL;
+  size_t room = 0;
+  int result = kefs_open(&image, options->image, KEFS_RDONLY | KEFS_NOWAIT);
+  if (result != KEFS_OK) quit(options->image, kefs_errmsg(NULL));
+  result = kefs_map(image, 0, NULL, &at, &room);
+  if (result == KEFS_OK) result = kefs_map(image, 1, NULL, &page, NULL);
+  int is_same = 0;
+  if (result == KEFS_OK && page != NULL && *(uint64_t *)page == length && length <= room) {
+    unsigned char *bytes = map_data(options->data, length, (size_t)length);
+    is_same = memcmp(bytes, at, (size_t)length) == 0;
+    munmap(bytes, (size_t)length);
+  }
+  kefs_close(image);
+  return is_same;
 }
 
-/* Makes the data file where it is missing. One with bytes is not the image's: they would be hidden, and taken for lost. */
-static void make_data_file(const char *path) {
-  struct stat st;
-  int fd = open(path, O_RDWR | O_CREAT | O_CLOEXEC, 0644);
-  if (fd < 0 || fstat(fd, &st) != 0) quit(path, strerror(errno));
+/* A data file with bytes is not the image's: they would be hidden, and taken for lost. Nothing is made before this is looked at. */
+static void take_in(const struct options *options, uint64_t length) {
+  int has_image = access(options->image, F_OK) == 0;
+  if (!has_image && options->is_import) return import(options, length);
+  if (!has_image) quit(options->data, "has bytes of its own; under kefsrun the image has them and this file is empty. -m LENGTH -i takes them into a new image; else move it away first");
+  if (!holds_bytes(options, length)) quit(options->data, "has bytes of its own, and the image, which is there already, holds others: move one of the two away");
+  if (options->is_import) return put_aside(options->data);
+  quit(options->data, "has the bytes that the image has: -m LENGTH -i was cut short, and the same words again end it");
+}
+
+/* Sees to both files: the image holds the bytes, and the data file, which is made where it is missing, is empty. */
+static void make_files(const struct options *options) {
+  struct stat st = {0};
+  int is_there = stat(options->data, &st) == 0;
+  if (!is_there && errno != ENOENT) quit(options->data, strerror(errno));
+  if (is_there && !S_ISREG(st.st_mode)) quit(options->data, S_ISDIR(st.st_mode) ? strerror(EISDIR) : "no regular file");
+  int is_to_take = is_there && options->is_import && access(options->image, F_OK) != 0;
+  if (st.st_size != 0 || is_to_take) take_in(options, (uint64_t)st.st_size);
+  if (access(options->image, F_OK) != 0) {
+    if (options->length == 0) quit(options->image, "there is no image; -m LENGTH makes one");
+    if (options->is_import && !is_there) quit(options->data, strerror(ENOENT));
+    format(options->image, options->length, 0, NULL);
+  }
+  int fd = open(options->data, O_RDWR | O_CREAT | O_CLOEXEC, 0644);
+  if (fd < 0) quit(options->data, strerror(errno));
   close(fd);
-  if (!S_ISREG(st.st_mode)) quit(path, "no regular file");
-  if (st.st_size != 0) quit(path, "has bytes of its own; under kefsrun the image has them and this file is empty. -m LENGTH -i takes them into a new image; else move it away first");
 }
 
 /* A word of the environment that is an absolute path. */
@@ -195,8 +239,7 @@ static void refuse_rings(void) {
 int main(int count, char **words) {
   struct options options = options_of(count, words);
   look_at_command(options.command[0]);
-  make_image(&options);
-  make_data_file(options.data);
+  make_files(&options);
   set_path("KEFS_IMAGE", options.image);
   set_path("KEFS_FILE", options.data);
   setenv("KEFS_COMMIT_AT", options.commit_at, 1);

@@ -118,6 +118,69 @@ class Kefsrun(Runs):
         self.says(self.kefsrun("true", options=("-m", "2K", "-i")), 125, "File exists")
         self.assertFalse(os.path.exists(self.image))
 
+    def test_the_advice_leads_out(self):
+        with open(self.data, "w") as file:
+            file.write("Ada 1815")
+        self.says(self.kefsrun("true"), 125, "-m LENGTH -i takes them into a new image")
+        self.assertFalse(os.path.exists(self.image))
+        done = self.kefsrun("cat", self.data, options=("-m", "64K", "-i"))
+        self.assertEqual((done.returncode, done.stdout, done.stderr), (0, "Ada 1815", ""))
+
+    def test_an_import_that_was_killed_is_ended(self):
+        with open(self.data, "w") as file:
+            file.write("Ada 1815")
+        self.kefsrun("true", options=("-m", "64K", "-i"))
+        os.rename(f"{self.data}.before", self.data)  # as before the file got its other name
+        self.says(self.kefsrun("true"), 125, "the same words again end it")
+        done = self.kefsrun("cat", self.data, options=("-m", "64K", "-i"))
+        self.assertEqual((done.returncode, done.stdout, done.stderr), (0, "Ada 1815", ""))
+        with open(f"{self.data}.before") as file:
+            self.assertEqual(file.read(), "Ada 1815")
+        with open(self.data, "w") as file:
+            file.write("Ada 1816")
+        self.says(self.kefsrun("true", options=("-m", "64K", "-i")), 125, "move one of the two away")
+
+    def test_a_program_that_is_not_preloaded_is_told(self):
+        done = self.kefsrun("sh", "-c", 'env -i sh -c "echo past > $0"; true', self.data)
+        self.says(done, 0, "by a call that is not answered")
+        self.says(self.kefsrun("true", options=()), 125, "has bytes of its own")
+
+    def test_a_read_past_the_page_cache_into_the_mapping_is_refused(self):
+        other = os.path.join(HERE, "out", "direct")
+        with open(other, "wb") as file:
+            file.write(b"d" * 8192)
+        text = f"""
+os.ftruncate(fd, 8192)
+m = mmap.mmap(fd, 8192)
+direct = os.open({other!r}, os.O_RDONLY | os.O_DIRECT)
+for read in (lambda: os.readv(direct, [m]), lambda: os.preadv(direct, [m], 0)):
+    try:
+        read()
+        print("read")
+    except OSError as error:
+        print(error.errno)
+os.readv(os.open({other!r}, os.O_RDONLY), [m])
+print(m[0])
+"""
+        done = self.python(text)
+        self.assertEqual((done.returncode, done.stdout), (0, f"{errno.EINVAL}\n{errno.EINVAL}\n{ord('d')}\n"))
+        self.assertIn("a read with O_DIRECT into its mapping", done.stderr)
+
+    def test_a_roll_back_of_an_update_that_was_too_large(self):
+        begin = "import sqlite3, sys\nbase = sqlite3.connect(sys.argv[1])\nbase.execute('pragma synchronous=full')\n"
+        fill = begin + "base.execute('create table t(id integer primary key, b blob)')\nfor i in range(12):\n  with base:\n    base.executemany('insert into t(b) values(?)', [(b'a' * 4000,)] * 100)\n"
+        update = begin + "base.execute('pragma cache_size=10')\nbase.execute('update t set b=?', (b'b' * 4000,))\nbase.commit()\n"
+        check = begin + "print(base.execute('select count(*), sum(b = ?) from t', (b'a' * 4000,)).fetchone(), base.execute('pragma integrity_check').fetchone())\n"
+
+        def run(text):
+            return self.kefsrun(sys.executable, "-c", text, self.data, options=("-m", "16M"))
+
+        self.assertEqual(run(fill).returncode, 0)
+        self.assertNotEqual(run(update).returncode, 0)
+        done = run(check)
+        self.assertEqual((done.returncode, done.stdout), (0, "(1200, 1200) ('ok',)\n"), done.stderr)
+        self.assertFalse(os.path.exists(f"{self.data}-journal"))
+
     def test_an_orderly_end_keeps_what_was_stored(self):
         self.python("os.pwrite(fd, b'kept', 0)\nos.close(fd)\n")
         self.assertEqual(self.content(), "kept")
@@ -173,9 +236,10 @@ class Kefsrun(Runs):
 
     def test_a_commit_of_over_1023_pages(self):
         most = ("-m", "8M")
-        text = "os.ftruncate(fd, 1 << 23)\nos.fsync(fd)\nm = mmap.mmap(fd, 1 << 23)\nfor k in range({}): m[4096 * k] = 1\ntry:\n    os.fsync(fd)\nexcept OSError as error:\n    print(error.errno)\n"
-        self.assertEqual(self.python(text.format(1023), options=most).stdout, "")
-        done = self.python(text.format(1024), options=most)
+        text = "os.ftruncate(fd, 1 << 23)\nos.fsync(fd)\nm = mmap.mmap(fd, 1 << 23)\nfor k in range({0}): m[4096 * k] = {1}\ntry:\n    os.fsync(fd)\nexcept OSError as error:\n    print(error.errno)\n"
+        self.assertEqual(self.python(text.format(1023, 1), options=most).stdout, "")
+        self.assertEqual(self.python(text.format(1024, 1), options=most).stdout, "")  # all but one are as they are durable
+        done = self.python(text.format(1024, 2), options=most)
         self.assertEqual(done.stdout, f"{errno.E2BIG}\n")
         self.assertIn("over 1023 pages", done.stderr)
 

@@ -59,7 +59,7 @@ static void a_reader_takes_no_store_and_no_commit(void) {
 static void a_refresh_of_anything_else_is_refused(void) {
   int changed = 9;
   begin(PAGES);
-  RETURNS(EINVAL, kefs_refresh(NULL, &changed));
+  RETURNS(KEFS_BAD_ARGUMENT, kefs_refresh(NULL, &changed));
   RETURNS(EINVAL, kefs_refresh(writer, &changed));
   CHECK(strstr(kefs_errmsg(writer), "KEFS_SNAPSHOT") != NULL && changed == 9);
   commit(1, 1); /* the writer goes on */
@@ -111,8 +111,32 @@ static void all_files_are_read(void) {
   end();
 }
 
-/* Where nothing was committed a refresh reads nothing, and after one commit its pages alone; without a writer it reads nothing either, when the last
-   change is long ago. */
+/* Commits of any pages, in few runs and in many, and of any number between two refreshes: each shows what the writer has, every page of it. */
+static void a_refresh_after_any_commits_is_whole(void) {
+  enum { MANY = 700 };
+  begin(MANY);
+  for (int round = 0; round < 40; round++) {
+    for (long commits = random() % 24; commits >= 0; commits--) {
+      long runs = random() % 8 == 0 ? 60 : random() % 6;
+      for (long i = 0; i <= runs; i++) {
+        int from = (int)(random() % MANY), most = (int)(random() % 9);
+        for (int k = from; k < MANY && k <= from + most; k++) a[(size_t)k * PAGE + 8] = (unsigned char)random();
+      }
+      DONE(kefs_commit(writer, NULL, 0, NULL));
+    }
+    if (round % 10 == 9) {
+      DONE(kefs_close(writer));
+      a = opened(&writer, PATH, round % 20 == 19 ? KEFS_LAZY : 0);
+    }
+    refreshed();
+    CHECK(memcmp(a, r, (size_t)MANY * PAGE) == 0);
+  }
+  end();
+}
+
+/* Where nothing was committed a refresh reads nothing, and after up to REACH commits their pages alone; without a writer it reads nothing either, when the
+   last change is long ago. */
+enum { REACH = 16 };
 static void a_refresh_reads_what_has_changed(void) {
   make_file(PATH, 4096 * PAGE, 9);
   a = opened(&writer, PATH, 0);
@@ -123,7 +147,10 @@ static void a_refresh_reads_what_has_changed(void) {
   commit(10, 1);
   CHECK(refreshed() == 1 && get(&bytes_read) - start < 20 * PAGE && r[10 * PAGE] == 1);
   start = get(&bytes_read);
-  for (int i = 0; i < 3; i++) commit(i, 2);
+  for (int i = 0; i < REACH; i++) commit(i, 2);
+  CHECK(refreshed() == 1 && get(&bytes_read) - start < 40 * PAGE && r[0] == 2 && r[(REACH - 1) * PAGE] == 2);
+  start = get(&bytes_read);
+  for (int i = 0; i <= REACH; i++) commit(i, 3);
   CHECK(refreshed() == 1 && get(&bytes_read) - start > 4096 * PAGE / 8);
   DONE(kefs_close(writer));
   CHECK(refreshed() == 0);
@@ -506,7 +533,7 @@ static void small_stacks_suffice(void) {
 
 static const struct test tests[] = {
   TEST(a_snapshot_stays_until_a_refresh), TEST(a_reader_takes_no_store_and_no_commit), TEST(a_refresh_of_anything_else_is_refused),
-  TEST(all_files_are_read), TEST(a_refresh_reads_what_has_changed), TEST(a_refresh_that_fails_changes_nothing),
+  TEST(all_files_are_read), TEST(a_refresh_reads_what_has_changed), TEST(a_refresh_after_any_commits_is_whole), TEST(a_refresh_that_fails_changes_nothing),
   TEST(what_may_not_be_synced_is_dropped), TEST(an_older_writer_is_not_read_beside), TEST(readers_of_both_kinds_stand_beside_each_other),
   TEST(a_writer_opens_beside_readers_at_once), TEST(a_file_that_was_replaced_is_told), TEST(an_opening_takes_the_file_that_has_the_name),
   TEST(a_file_of_another_length), TEST(a_file_of_another_layout), TEST(many_turns_give_one_commit), TEST(threads_have_readers_and_a_writer), TEST(threads_share_a_reader),

@@ -322,8 +322,73 @@ static void a_stopped_reader_is_waited_for_by_an_opening(void) {
   double start = now();
   RETURNS(KEFS_BUSY, opened_within(&other, 0, 100));
   takes(0.1, 0.9, start);
+  start = now();
+  DONE(opened_within(&other, 0, 2000));
+  takes(0.9, 5, start);
+  DONE(kefs_close(other));
   CHECK(end_child(child));
   DONE(opened_within(&writer, 0, 100));
+  DONE(kefs_close(writer));
+}
+
+/* Without a writer a reader keeps no lock that keeps one out, and what it has read before the writer came is not taken for whole. An image of layout 2 is all holes
+   here, so that little of it is read. */
+static void a_reader_that_was_stopped_alone_keeps_no_writer_out(void) {
+  for (int read = 2; read <= (image_layout() == 2 ? 2 : 8); read += 2) {
+    make_file(PATH, TWO_TURNS * PAGE, 0);
+    pid_t child = reader_that_stops(read);
+    double start = now();
+    a = opened(&writer, PATH, 0);
+    takes(0, 5, start);
+    commit_pair(1), commit_pair(9), commit(2, 9);
+    CHECK(kill(child, SIGCONT) == 0 && status_of(child) == 0);
+    DONE(kefs_close(writer));
+  }
+}
+
+static void a_recovery_goes_on_past_a_stopped_reader(void) {
+  make_file(PATH, TWO_TURNS * PAGE, 0);
+  a = opened(&writer, PATH, 0);
+  commit_pair(0);
+  pid_t child = reader_that_stops(2);
+  failing_sync = 1, a[PAGE] = 1;
+  RETURNS(KEFS_DEVICE, kefs_commit(writer, NULL, 0, NULL));
+  double start = now();
+  DONE(kefs_recover(writer, NULL));
+  takes(0, 5, start);
+  commit_pair(9), commit(2, 9);
+  CHECK(kill(child, SIGCONT) == 0 && status_of(child) == 0);
+  DONE(kefs_close(writer));
+}
+
+/* A process that may only read the image holds the locks of readers, as if it were in its turn and waited for the next one, for ever. */
+static pid_t reader_that_holds_locks(void) {
+  int ready[2];
+  char byte;
+  CHECK(pipe(ready) == 0);
+  pid_t child = fork();
+  if (child != 0) return CHECK(read(ready[0], &byte, 1) == 1), child;
+  prctl(PR_SET_PDEATHSIG, SIGKILL);
+  struct flock turns = {.l_type = F_RDLCK, .l_whence = SEEK_SET, .l_start = ((off_t)1 << 62) + 1, .l_len = 2};
+  CHECK(fcntl(open(PATH, O_RDONLY), F_OFD_SETLK, &turns) == 0 && write(ready[1], "", 1) == 1);
+  for (;;) pause();
+}
+
+static long commits_within(double seconds) {
+  long commits = 0;
+  for (double start = now(); now() - start < seconds; commits++) commit(1, (unsigned char)commits);
+  return commits;
+}
+
+static void locks_of_a_reader_take_a_tenth_of_a_writers_time(void) {
+  make_file(PATH, PAGES * PAGE, 0);
+  a = opened(&writer, PATH, 0);
+  long alone = commits_within(1);
+  pid_t child = reader_that_holds_locks();
+  commit(1, 1);
+  long beside = commits_within(1);
+  CHECK(beside > alone / 3);
+  CHECK(end_child(child));
   DONE(kefs_close(writer));
 }
 
@@ -409,6 +474,8 @@ static void no_commit_waits_long_for_openings(void) {
 static const struct test tests[] = {
   TEST(readers_sum_beside_a_writer_under_kills), TEST(a_wait_for_a_commit_ends), TEST(a_signal_ends_a_wait),
   TEST(a_failed_commit_is_not_seen), TEST(a_stopped_reader_stops_no_writer), TEST(a_stopped_reader_is_waited_for_by_an_opening),
+  TEST(a_reader_that_was_stopped_alone_keeps_no_writer_out), TEST(a_recovery_goes_on_past_a_stopped_reader),
+  TEST(locks_of_a_reader_take_a_tenth_of_a_writers_time),
   TEST(nobody_waits_long), TEST(no_commit_waits_long_for_openings), TEST(a_writer_that_is_killed_leaves_before_or_after)};
 
 int main(int argc, char **argv) {

@@ -9,8 +9,8 @@ import subprocess
 import sys
 import tempfile
 
-HERE = os.path.dirname(os.path.abspath(__file__))
-sys.path.insert(0, os.path.join(HERE, "stores"))
+EMBED = os.path.dirname(os.path.dirname(os.path.abspath(__file__)))
+sys.path.insert(0, os.path.join(EMBED, "stores"))
 sys.dont_write_bytecode = True
 import powercuts  # noqa: E402
 
@@ -53,8 +53,8 @@ def main(page, library):
         source, recorder, trace, image = (os.path.join(folder, name) for name in ("bank.c", "recorder.so", "trace", "bank.img"))
         with open(source, "w") as file:
             file.write(program)
-        built("-std=c99", "-pedantic", "-I", HERE, "-o", os.path.join(folder, "bank"), source, library, "-pthread")
-        built("-std=gnu11", "-fPIC", "-shared", "-o", recorder, os.path.join(HERE, "stores", "recorder.c"), "-ldl")
+        built("-std=c99", "-pedantic", "-I", EMBED, "-o", os.path.join(folder, "bank"), source, library, "-pthread")
+        built("-std=gnu11", "-fPIC", "-shared", "-o", recorder, os.path.join(EMBED, "stores", "recorder.c"), "-ldl")
         for number in (RUN, 2 * RUN):
             assert said(folder) == SAYS.format(number), said(folder)
         with open(image, "rb") as file:

@@ -15,6 +15,15 @@ void note_homes(struct kefs_image *image) {
     set_bit(image->late, image->files[image->pages[i].file].first_home + image->pages[i].page);
 }
 
+/* Marks the homes that may hold other bytes than zeros as late: those with room in the file, and those of the journal's pages. */
+static void find_used(struct kefs_image *image) {
+  off_t before, hole, begin = home_offset(image->layout, 0), end = begin + (off_t)(PAGE * image->stat.pages);
+  int fd = file_of_bytes(image, &before);
+  for (off_t data = next_data(fd, before + begin, before + end, &hole); data < before + end; data = next_data(fd, hole, before + end, &hole))
+    for (off_t at = data - before - begin; at < hole - before - begin; at += PAGE - at % PAGE) set_bit(image->late, (size_t)at / PAGE);
+  for (uint32_t i = 0; i < journal_pages(image); i++) set_bit(image->late, journal_home(image, i));
+}
+
 /* The homes from `first` on that are late, and follow each other: how many, at most a chunk. */
 static size_t late_homes(const struct backup *backup, uint64_t *first) {
   uint64_t homes = backup->image->stat.pages, end;
@@ -27,7 +36,7 @@ static size_t late_homes(const struct backup *backup, uint64_t *first) {
 /* Reads homes as they are durable. From here on a commit makes them late again. */
 static int read_homes(struct backup *backup, uint64_t first, size_t count) {
   for (uint64_t home = first; home < first + count; home++) {
-    copy_home(backup->image, (uint32_t)home, backup->chunk + (home - first) * PAGE);
+    copy_durable_page(backup->image, (uint32_t)home, backup->chunk + (home - first) * PAGE);
     clear_bit(backup->late, home);
   }
   return KEFS_OK;
@@ -78,7 +87,7 @@ static int copy_last(struct backup *backup) {
 static int fill_file(struct backup *backup) {
   struct kefs_image *image = backup->image;
   off_t length = home_offset(&LAYOUT_3, 0) + (off_t)(PAGE * image->stat.pages);
-  int result = ftruncate(backup->file.fd, length) == 0 ? KEFS_OK : errno;
+  int result = set_length(backup->file.fd, length);
   if (result == KEFS_OK) result = take_room(backup->file.fd, 0, image->roomless == NULL && !image->read_only ? length : first_room(0));
   for (int round = 0; round < ROUNDS && result == KEFS_OK; round++) result = copy_late(backup, round);
   if (result == KEFS_OK && fdatasync(backup->file.fd) != 0) result = errno; /* so that the last turn is short */
@@ -92,19 +101,19 @@ static int watch(struct kefs_image *image, unsigned char *late) {
   int result = enter_halted(image);
   if (result != KEFS_OK) return result;
   image->late = late;
+  if (late != NULL && !image->halted) find_used(image);
   return leave(image, image->halted && late != NULL ? KEFS_HALTED : KEFS_OK);
 }
 
 static int back_up(struct kefs_image *image, const char *path, unsigned permissions) {
-  struct backup backup = {image, {path, NULL, -1}, malloc(bits_bytes(image)), malloc((size_t)CHUNK * PAGE)};
+  struct backup backup = {image, {path, NULL, -1}, new_memory(bits_bytes(image)), malloc((size_t)CHUNK * PAGE)};
   int result = backup.late == NULL || backup.chunk == NULL ? ENOMEM : KEFS_OK;
-  if (result == KEFS_OK) memset(backup.late, 0xff, bits_bytes(image));
   if (result == KEFS_OK) result = begin_file(&backup.file, path, permissions);
   if (result == KEFS_OK) result = watch(image, backup.late);
   if (result == KEFS_OK) result = fill_file(&backup);
   watch(image, NULL);
   end_file(&backup.file);
-  free(backup.late);
+  drop_memory(backup.late, bits_bytes(image));
   free(backup.chunk);
   return result;
 }
@@ -112,10 +121,11 @@ static int back_up(struct kefs_image *image, const char *path, unsigned permissi
 /* The state of cancelling is that of the whole call, which takes many turns. */
 int kefs_backup(kefs_image *image, const char *path, unsigned permissions) {
   int cancel;
+  if (image == NULL) return KEFS_BAD_ARGUMENT;
   if (is_forked(image)) return KEFS_FORKED;
   pthread_setcancelstate(PTHREAD_CANCEL_DISABLE, &cancel);
   pthread_mutex_lock(&image->backups);
-  int result = back_up(image, path, permissions), entered = enter_halted(image);
+  int result = path == NULL ? fail(image, KEFS_BAD_ARGUMENT, "no path") : back_up(image, path, permissions), entered = enter_halted(image);
   if (result > 0) result = fail(image, new_file_result(result), "backup to %s: %s", path, kefs_strerror(result));
   if (entered == KEFS_OK) leave(image, KEFS_OK);
   pthread_mutex_unlock(&image->backups);

@@ -5,19 +5,21 @@ import ctypes
 import errno
 import gc
 import os
+import signal
 import struct
 import subprocess
 import sys
 import tempfile
 import threading
+import time
 import unittest
 
 import kefs
 from images import LAYOUTS, new_image, with_journal, with_open_journal
 
 HERE = os.path.dirname(os.path.abspath(__file__))
-KEFSCHECK = os.path.join(HERE, "out/kefscheck")
-PAGEFMT = os.environ.get("PAGEFMT", os.path.join(HERE, "../crates/pagefmt/out/pagefmt"))
+KEFSCHECK = os.path.join(HERE, "../out/kefscheck")
+PAGEFMT = os.environ.get("PAGEFMT", os.path.join(HERE, "../../crates/pagefmt/out/pagefmt"))
 
 
 def content(path):
@@ -238,7 +240,7 @@ class Images(unittest.TestCase):
     def test_a_with_that_leaves_a_slice_behind_does_not_crash(self):
         program = "import kefs, sys\nwith kefs.open(sys.argv[1]) as image:\n    part = image.map(0)[5:]\n"
         self.opened().close()
-        done = subprocess.run([sys.executable, "-c", program, self.path], capture_output=True, text=True, cwd=HERE)
+        done = subprocess.run([sys.executable, "-c", program, self.path], capture_output=True, text=True)
         self.assertEqual((done.returncode, done.stderr.strip().split("\n")[-1][:11]), (1, "BufferError"))
 
     def test_an_opening_makes_an_image(self):
@@ -250,7 +252,9 @@ class Images(unittest.TestCase):
             self.assertEqual((image.map(0)[0], image.length(1)), (2, 1 << 30))
             with self.assertRaises(kefs.Busy) as caught:
                 kefs.open(self.path, wait=20)
-            self.assertIn(f"process {os.getpid()} has", str(caught.exception))
+            self.assertIn("this thread has", str(caught.exception))
+        with self.assertRaises(kefs.OtherFiles):
+            kefs.open(self.path, create=[6, kefs.File(1 << 30, sparse=True)])
 
     def test_images_of_both_layouts(self):
         for number, before in enumerate(live_images([2 * 4096, 5000], {1: b"j" * 4096, 3: b"k" * 4096})):
@@ -321,6 +325,50 @@ class Images(unittest.TestCase):
             os._exit(1)
         self.assertEqual((os.waitpid(child, 0)[1], part[0]), (0, 7))
         del part
+
+    def test_a_child_keeps_the_memory_that_it_has_by_then(self):
+        program = """if True:
+            import mmap, os, sys
+            held = []
+            def take():
+                for _ in range(64):
+                    held.append(mmap.mmap(-1, 1 << 20))
+                    held[-1][:] = b"\\1" * (1 << 20)
+            os.register_at_fork(after_in_child=take)
+            import kefs
+            image = kefs.open(sys.argv[1], int(sys.argv[2]))
+            view = image.map(0)
+            child = os.fork()
+            if child == 0:
+                os._exit(0 if all(it.find(b"\\0") < 0 for it in held) else 9)
+            sys.exit(os.waitstatus_to_exitcode(os.waitpid(child, 0)[1]))
+        """
+        kefs.format(self.path, [16 << 20])
+        for flags in (0, kefs.TRACK_SIGNAL, kefs.SNAPSHOT):
+            self.assertEqual(subprocess.run([sys.executable, "-c", program, self.path, str(flags)]).returncode, 0)
+
+    def test_a_dropped_image_is_closed(self):
+        kefs.format(self.path, [4096])
+        part = kefs.open(self.path).map(0)[10:20]
+        with self.assertRaises(kefs.Busy):
+            kefs.open(self.path, kefs.NOWAIT)
+        part[0] = 1
+        del part
+        kefs.open(self.path, kefs.NOWAIT).close()
+
+    def test_a_wait_goes_on_after_a_signal(self):
+        kefs.format(self.path, [4096])
+        holders, seen = [], []
+        thread = threading.Thread(target=lambda: holders.append(kefs.open(self.path)))
+        thread.start(), thread.join()
+        before = signal.signal(signal.SIGALRM, lambda *_: seen.append(1))
+        self.addCleanup(signal.signal, signal.SIGALRM, before)
+        signal.setitimer(signal.ITIMER_REAL, 0.02, 0.02)
+        start = time.monotonic()
+        self.assertRaises(kefs.Busy, kefs.open, self.path, wait=200)
+        signal.setitimer(signal.ITIMER_REAL, 0)
+        self.assertGreater((len(seen), time.monotonic() - start), (2, 0.19))
+        holders[0].close()
 
     def test_a_child_has_no_image(self):
         image = self.opened()

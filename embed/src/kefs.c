@@ -12,6 +12,7 @@
 /* A thread that is cancelled in a call would leave the lock behind. */
 int enter_halted(struct kefs_image *image) {
   int cancel;
+  if (image == NULL) return KEFS_BAD_ARGUMENT;
   if (is_forked(image)) return KEFS_FORKED;
   pthread_setcancelstate(PTHREAD_CANCEL_DISABLE, &cancel);
   pthread_mutex_lock(&image->lock);
@@ -66,6 +67,7 @@ static void drop_mappings(struct kefs_image *image, int forked) {
 }
 
 static int close_image(struct kefs_image *image) {
+  remove_owner(image);
   int forked = image->generation != 0 && is_forked(image);
   drop_mappings(image, forked);
   end_tracking(image);
@@ -141,7 +143,7 @@ static int map_file(struct kefs_image *image, unsigned file, void *wanted) {
 int kefs_map(kefs_image *image, unsigned file, void *wanted, void **at, size_t *length) {
   int result = enter(image);
   if (result != KEFS_OK) return result;
-  result = file_of(image, file);
+  result = at == NULL ? fail(image, KEFS_BAD_ARGUMENT, "no place for the address") : file_of(image, file);
   if (result == KEFS_OK) result = map_file(image, file, wanted);
   if (result == KEFS_OK) *at = image->mappings[file].at;
   if (result == KEFS_OK && length != NULL) *length = image->files[file].length;
@@ -159,7 +161,7 @@ int kefs_unmap(kefs_image *image, unsigned file) {
 int kefs_length(kefs_image *image, unsigned file, size_t *length) {
   int result = enter(image);
   if (result != KEFS_OK) return result;
-  result = file_of(image, file);
+  result = length == NULL ? fail(image, KEFS_BAD_ARGUMENT, "no place for the length") : file_of(image, file);
   if (result == KEFS_OK) *length = image->files[file].length;
   return leave(image, result);
 }
@@ -170,6 +172,7 @@ int kefs_stat(kefs_image *image, struct kefs_stat *to) {
   static const char *const names[] = {"none", "scan", "signal", "caller"};
   int result = enter(image);
   if (result != KEFS_OK) return result;
+  if (to == NULL) return leave(image, fail(image, KEFS_BAD_ARGUMENT, "no place for the facts"));
   if (to->size < sizeof *to) return leave(image, fail(image, EINVAL, "size %zu", to->size));
   size_t size = to->size;
   *to = image->stat;

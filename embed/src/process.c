@@ -1,9 +1,10 @@
-/* What belongs to the whole process: a lock, a number that a child of fork has not, and which addresses are mapped files. */
+/* What belongs to the whole process: a lock, a number that a child of fork has not, which handles are open, and which addresses are mapped files. */
 #define _GNU_SOURCE
 #include "internal.h"
 #include <errno.h>
 #include <stdlib.h>
 #include <sys/mman.h>
+#include <sys/stat.h>
 
 static pthread_mutex_t process_lock = PTHREAD_MUTEX_INITIALIZER;
 
@@ -38,6 +39,40 @@ int this_generation(uint64_t *generation) {
 }
 
 int is_forked(const struct kefs_image *image) { return image->generation != *generation_now; }
+
+/* Handles. A handle of a parent process is no owner in its child. */
+
+static struct kefs_image *handles;
+
+void add_owner(struct kefs_image *image) {
+  struct stat facts = {0};
+  fstat(image->fd, &facts);
+  lock_process();
+  image->owner = (struct owner){facts.st_dev, facts.st_ino, pthread_self(), handles};
+  handles = image;
+  unlock_process();
+}
+
+void remove_owner(struct kefs_image *image) {
+  lock_process();
+  for (struct kefs_image **it = &handles; *it != NULL; it = &(*it)->owner.next)
+    if (*it == image) {
+      *it = image->owner.next;
+      break;
+    }
+  unlock_process();
+}
+
+int is_own(int fd) {
+  struct stat facts;
+  int found = 0;
+  if (fstat(fd, &facts) != 0) return 0;
+  lock_process();
+  for (const struct kefs_image *it = handles; it != NULL && !found; it = it->owner.next)
+    found = it->owner.device == facts.st_dev && it->owner.number == facts.st_ino && pthread_equal(it->owner.thread, pthread_self()) && !is_forked(it);
+  unlock_process();
+  return found;
+}
 
 /* Regions are looked up by signal handlers, with no lock. So one that was made is never freed, but used again; its start is 0
    while it is not in use, and is written last. */

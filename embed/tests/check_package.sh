@@ -46,4 +46,22 @@ for page in "$staged$mandir"/man3/kefs.3 "$staged$mandir"/man1/*.1; do
   if command -v man > /dev/null; then man --warnings -l "$page" 2> "$work/warnings" > "$work/page" || true; else cp "$page" "$work/page"; fi
   test -s "$work/page" && test ! -s "$work/warnings" || { echo "check_package: $page: $(head -1 "$work/warnings")"; exit 1; }
 done
+if command -v dpkg-deb > /dev/null; then
+  ${MAKE:-make} -s deb > "$work/deb.log"
+  mkdir "$work/unpacked"
+  for package in "$here"/out/*.deb; do dpkg-deb -x "$package" "$work/unpacked/$(basename "$package" | sed 's/_.*//')"; done
+  cd "$work/unpacked"
+  test -f "$(find libkefs -name libkefs.so.1)" && test -f kefs-dev/usr/include/kefs.h && test -z "$(find libkefs -name '*.[ah]')"
+  if readelf -S "$(find libkefs -name libkefs.so.1)" | grep -q debug_info; then echo "check_package: libkefs.so.1 is not stripped"; exit 1; fi
+  test "$(find libkefs-dbg -name '*.debug' | wc -l)" -ge 4
+  cd "$here"
+fi
+lto="-O2 -flto"
+rm -f "$here"/out/*.o # so that all is built with these flags, and then without them
+${MAKE:-make} -s out/libkefs.a out/libkefs.so.1 out/kefscheck CFLAGS="$lto" LDFLAGS="$lto" > "$work/lto.log" 2>&1 || { cat "$work/lto.log"; exit 1; }
+# shellcheck disable=SC2086
+${CC:-cc} $lto -o "$work/whole" "$work/try.c" -I"$here" "$here/out/libkefs.a" -pthread
+"$work/whole" "$work/whole.img"
+rm -f "$here"/out/*.o
+${MAKE:-make} -s out/libkefs.a out/libkefs.so.1 out/kefscheck > "$work/again.log"
 echo "check_package: both libraries, kefsrun and the manual pages are whole"

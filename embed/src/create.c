@@ -44,24 +44,38 @@ static int open_unfinished(struct new_file *file, unsigned permissions) {
   }
 }
 
+/* What syncs a name in this path's folder: the folder's descriptor or, where it may be written to and not read, that of a file of its file system. */
+struct name_sync { int folder, file; };
+
+static int begin_sync(struct name_sync *sync, const char *path, int file) {
+  char *folder = folder_of(path);
+  if (folder == NULL) return ENOMEM;
+  *sync = (struct name_sync){open_high(folder, O_RDONLY | O_DIRECTORY | O_CLOEXEC, 0), file};
+  int number = sync->folder < 0 && errno != EACCES ? errno : KEFS_OK;
+  free(folder);
+  return number;
+}
+
+static int end_sync(const struct name_sync *sync, int is_wanted) {
+  int number = !is_wanted || (sync->folder >= 0 ? fsync(sync->folder) : syncfs(sync->file)) == 0 ? KEFS_OK : errno;
+  if (sync->folder >= 0) close(sync->folder);
+  return number;
+}
+
+int sync_name(const char *path, int file) {
+  struct name_sync sync;
+  int number = begin_sync(&sync, path, file);
+  return number == KEFS_OK ? end_sync(&sync, 1) : number;
+}
+
 int begin_file(struct new_file *file, const char *path, unsigned permissions) {
   struct stat there;
+  if (permissions == 0) permissions = 0600; /* who may read an image may lock it too */
   *file = (struct new_file){path, NULL, -1};
   if (lstat(path, &there) == 0) return EEXIST;
   file->fd = open_unnamed(path, permissions);
   if (file->fd >= 0) return KEFS_OK;
   return has_no_unnamed(errno) ? open_unfinished(file, permissions) : errno;
-}
-
-/* A new file's name is durable once its folder is synced. */
-static int sync_folder(const char *path) {
-  char *folder = folder_of(path);
-  if (folder == NULL) return ENOMEM;
-  int fd = open_high(folder, O_RDONLY | O_DIRECTORY | O_CLOEXEC, 0), number = KEFS_OK;
-  free(folder);
-  if (fd < 0 || fsync(fd) != 0) number = errno;
-  if (fd >= 0) close(fd);
-  return number;
 }
 
 /* A file system without hard links may be able to rename a file where nothing may be. */
@@ -80,12 +94,15 @@ static int name_unnamed(const struct new_file *file) {
   return linkat(AT_FDCWD, place, AT_FDCWD, file->path, AT_SYMLINK_FOLLOW) == 0 ? KEFS_OK : errno;
 }
 
+/* What can fail for another reason than the device comes before the name. From the name on another process may open the file and commit to it: so the name is
+   never taken away again, whatever fails. */
 int name_file(struct new_file *file) {
-  int number = file->unfinished == NULL ? name_unnamed(file) : name_unfinished(file);
+  struct name_sync sync;
+  int number = begin_sync(&sync, file->path, file->fd);
   if (number != KEFS_OK) return number;
-  number = sync_folder(file->path);
-  if (number != KEFS_OK) unlink(file->path);
-  return number;
+  number = file->unfinished == NULL ? name_unnamed(file) : name_unfinished(file);
+  int synced = end_sync(&sync, number == KEFS_OK);
+  return number == KEFS_OK ? synced : number;
 }
 
 void end_file(struct new_file *file) {

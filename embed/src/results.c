@@ -19,6 +19,8 @@ static const struct { int result; const char *name, *text; } RESULTS[] = {
   {KEFS_HALTED, "KEFS_HALTED", "the image has to be recovered or closed, since its device failed"},
   {KEFS_NO_TRACKER, "KEFS_NO_TRACKER", "the system has not the tracker that was asked for"},
   {KEFS_FORKED, "KEFS_FORKED", "the image was opened by a parent process"},
+  {KEFS_BAD_ARGUMENT, "KEFS_BAD_ARGUMENT", "an argument is NULL that may not be"},
+  {KEFS_OTHER_FILES, "KEFS_OTHER_FILES", "the image has other files than those that were asked for"},
 };
 enum { COUNT = sizeof RESULTS / sizeof *RESULTS };
 
@@ -40,12 +42,41 @@ const char *kefs_name(int result) {
   return result > 0 ? "errno" : "unknown";
 }
 
-enum { MESSAGE = sizeof ((struct kefs_image *)0)->message };
-static _Thread_local char opening_message[MESSAGE];
+/* What each thread has to say of the images that calls of its own failed on last, and, in the first of them, of its openings. An image that was
+   closed leaves its message until another one needs the place; no other image has its serial. */
+enum { IMAGES = 8 };
+struct message { uint64_t serial, used; char text[MESSAGE]; };
+static _Thread_local struct message messages[IMAGES + 1];
+static _Thread_local uint64_t uses;
 
-const char *kefs_errmsg(const kefs_image *image) { return image == NULL ? opening_message : image->message; }
+uint64_t new_serial(void) {
+  static uint64_t last;
+  return __atomic_add_fetch(&last, 1, __ATOMIC_SEQ_CST);
+}
 
-void keep_message(const struct kefs_image *image) { memcpy(opening_message, image->message, MESSAGE); }
+static struct message *find_message(const struct kefs_image *image) {
+  if (image == NULL) return &messages[0];
+  for (int i = 1; i <= IMAGES; i++)
+    if (messages[i].serial == image->serial) return &messages[i];
+  return NULL;
+}
+
+/* The image's message, or the one of the place that was not used for longest. */
+static struct message *take_message(const struct kefs_image *image) {
+  struct message *found = find_message(image), *oldest = &messages[1];
+  for (int i = 2; i <= IMAGES; i++)
+    if (messages[i].used < oldest->used) oldest = &messages[i];
+  if (found == NULL) found = oldest, found->serial = image->serial;
+  found->used = ++uses;
+  return found;
+}
+
+const char *kefs_errmsg(const kefs_image *image) {
+  const struct message *found = find_message(image);
+  return found == NULL ? "" : found->text;
+}
+
+void keep_message(const struct kefs_image *image) { memcpy(messages[0].text, kefs_errmsg(image), strlen(kefs_errmsg(image)) + 1); }
 
 /* A message that ends in the words of an errno value gets no more. */
 static int ends_in(const char *message, size_t length, const char *words) {
@@ -53,8 +84,8 @@ static int ends_in(const char *message, size_t length, const char *words) {
   return length >= more && strcmp(message + length - more, words) == 0;
 }
 
-int fail(struct kefs_image *image, int result, const char *format, ...) {
-  char *message = image == NULL ? opening_message : image->message;
+int fail(const struct kefs_image *image, int result, const char *format, ...) {
+  char *message = take_message(image)->text;
   const char *words = kefs_strerror(result);
   va_list more;
   va_start(more, format);

@@ -31,16 +31,33 @@ static unsigned char *page_at(const struct mapping *mapping, size_t k) { return 
    file that was cut. */
 enum { AROUND = 16 };
 
-/* Reads the pages from `first` on that follow each other unread, up to `end`: how many, or 0 and errno. */
-static size_t copy_homes(const struct mapping *mapping, size_t first, size_t end) {
+/* Gives unread pages these bytes: how many, or 0 and errno. */
+static size_t copy_pages(const struct mapping *mapping, size_t first, size_t end, const unsigned char *from) {
   uint64_t mode = mapping->image->tracker == TRACKER_SCAN ? UFFDIO_COPY_MODE_WP : 0;
-  const struct kefs_image *image = mapping->image;
-  const unsigned char *from = image->bytes + home_offset(image->layout, mapping->file.first_home + (uint32_t)first);
   struct uffdio_copy copy = {.dst = (uintptr_t)page_at(mapping, first), .src = (uintptr_t)from, .len = (end - first) * PAGE, .mode = mode};
   if (ioctl(mapping->image->faults, UFFDIO_COPY, &copy) == 0) return end - first;
   if (copy.copy > 0) return (size_t)copy.copy / PAGE;
   if (copy.copy < 0) errno = (int)-copy.copy;
   return 0;
+}
+
+/* A page whose home may have no room on the device, read by a call. */
+static size_t copy_by_call(const struct mapping *mapping, size_t k, off_t at) {
+  unsigned char bytes[PAGE];
+  int number = read_all(mapping->image->fd, bytes, PAGE, at);
+  if (number != KEFS_OK) return errno = number, 0;
+  return copy_pages(mapping, k, k + 1, bytes);
+}
+
+/* Reads the pages from `first` on that follow each other unread, up to `end`, or fewer: how many, or 0 and errno. */
+static size_t copy_homes(const struct mapping *mapping, size_t first, size_t end) {
+  const struct kefs_image *image = mapping->image;
+  uint32_t home = mapping->file.first_home + (uint32_t)first;
+  off_t at = home_offset(image->layout, home);
+  if (may_lack_room(image, home)) return copy_by_call(mapping, first, at);
+  for (size_t k = first + 1; k < end && image->roomless != NULL; k++)
+    if (may_lack_room(image, mapping->file.first_home + (uint32_t)k)) end = k;
+  return copy_pages(mapping, first, end, image->bytes + at);
 }
 
 /* EAGAIN: the process's memory was being changed; again. */
@@ -65,16 +82,32 @@ static int fill_around(const struct mapping *mapping, size_t k) {
 
 static struct sigaction before_store, before_missing;
 
-/* Does what would be done without us. By default the access is made again, and ends the process. */
-static void pass_on(const struct sigaction *before, int number, siginfo_t *info, void *context) {
-  if ((before->sa_flags & SA_SIGINFO) != 0) {
-    before->sa_sigaction(number, info, context);
-  } else if (before->sa_handler != SIG_DFL && before->sa_handler != SIG_IGN) {
-    before->sa_handler(number);
-  } else {
-    signal(number, SIG_DFL);
-    if (info->si_code <= 0) raise(number); /* another process sent it, so it does not come again by itself */
-  }
+/* The mask under which the kernel would run the handler that was there before. The one of the code that was interrupted comes back when our handler returns. */
+static void take_mask(const struct sigaction *before, int number) {
+  sigset_t own;
+  sigemptyset(&own);
+  sigaddset(&own, number);
+  pthread_sigmask(SIG_BLOCK, &before->sa_mask, NULL);
+  if ((before->sa_flags & SA_NODEFER) != 0 && !sigismember(&before->sa_mask, number)) pthread_sigmask(SIG_UNBLOCK, &own, NULL);
+}
+
+/* By default the access is made again, and ends the process. What another process sent does not come again by itself. */
+static void do_default(int number, const siginfo_t *info) {
+  signal(number, SIG_DFL);
+  if (info->si_code <= 0) raise(number);
+}
+
+/* Does what would be done without us. The kernel ignores no fault, only what was sent. A handler for one signal is forgotten before it runs; of two threads that
+   fault at once both may still find it. */
+static void pass_on(struct sigaction *before, int number, siginfo_t *info, void *context) {
+  struct sigaction now = *before;
+  int has_handler = (now.sa_flags & SA_SIGINFO) != 0 || (now.sa_handler != SIG_DFL && now.sa_handler != SIG_IGN);
+  if (!has_handler && now.sa_handler == SIG_IGN && info->si_code <= 0) return;
+  if (!has_handler) return do_default(number, info);
+  if ((now.sa_flags & SA_RESETHAND) != 0) *before = (struct sigaction){.sa_handler = SIG_DFL};
+  take_mask(&now, number);
+  if ((now.sa_flags & SA_SIGINFO) != 0) now.sa_sigaction(number, info, context);
+  else now.sa_handler(number);
 }
 
 /* The pages are opened first and marked then. A commit takes the marks, closes the pages and writes them, in this order; so a
@@ -115,12 +148,15 @@ int open_pages(const struct span *span) {
   return KEFS_OK;
 }
 
-/* Whether the access was a store, where the processor says so: a jump into mapped memory would fault again for ever. */
-static int is_store(const void *context) {
-#ifdef __x86_64__
-  return (((const ucontext_t *)context)->uc_mcontext.gregs[REG_ERR] & 2) != 0;
+/* Whether the access was a store: a jump into mapped memory would fault again for ever. */
+static int is_store(const siginfo_t *info, const void *context) {
+  const mcontext_t *machine = &((const ucontext_t *)context)->uc_mcontext;
+#if defined __x86_64__
+  return (void)info, (machine->gregs[REG_ERR] & 2) != 0;
+#elif defined __aarch64__
+  return (uintptr_t)info->si_addr != machine->pc; /* a load does not fault: what is mapped may be read */
 #else
-  return (void)context, 1;
+#error "how the processor tells a store from a jump"
 #endif
 }
 
@@ -128,7 +164,7 @@ static int is_store(const void *context) {
 static void on_store(int number, siginfo_t *info, void *context) {
   int kept = errno;
   struct mapping *mapping = info->si_code == SEGV_ACCERR ? mapping_at(info->si_addr) : NULL;
-  int ours = mapping != NULL && mapping->image->tracker == TRACKER_SIGNAL && !mapping->file.read_only && is_store(context);
+  int ours = mapping != NULL && mapping->image->tracker == TRACKER_SIGNAL && !mapping->file.read_only && is_store(info, context);
   size_t k = ours ? (size_t)((unsigned char *)info->si_addr - mapping->at) / PAGE : 0;
   if (!ours || open_pages(&(struct span){mapping, k, k + 1}) != KEFS_OK) pass_on(&before_store, number, info, context);
   errno = kept;
@@ -257,11 +293,15 @@ static int put_others(struct mapping *mapping) {
   return number;
 }
 
-/* Large pages take fewer faults now, and fewer entries to look through in each scan. The first store to one splits it. */
+/* Large pages take fewer faults now, and fewer entries to look through in each scan. The first store to one splits it. In a sparse file each would take 2 MiB for
+   a page that was ever written. */
 static int read_homes(struct mapping *mapping) {
   const struct kefs_image *image = mapping->image;
-  madvise(mapping->at, mapping->pages * PAGE, MADV_HUGEPAGE);
-  return read_all(image->fd, mapping->at, mapping->pages * PAGE, home_offset(image->layout, mapping->file.first_home)) == KEFS_OK ? KEFS_OK : EIO;
+  size_t length = mapping->pages * PAGE;
+  off_t from = home_offset(image->layout, mapping->file.first_home);
+  if (image->roomless == NULL) madvise(mapping->at, length, MADV_HUGEPAGE);
+  int number = image->roomless == NULL ? read_all(image->fd, mapping->at, length, from) : read_data(image->fd, mapping->at, length, from);
+  return number == KEFS_OK ? KEFS_OK : EIO;
 }
 
 int load(struct mapping *mapping) {

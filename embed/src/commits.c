@@ -127,6 +127,62 @@ static int take(struct kefs_image *image, const struct kefs_range *ranges, size_
   return KEFS_OK;
 }
 
+/* Pages that were stored to and are as they are durable, as where a program has played its own roll back, need not be in a commit. They are looked for where it has
+   too many pages, and where the stores to them are noted: a page that its caller has named stays so. */
+
+static int may_forget(const struct kefs_image *image, const struct kefs_range *ranges, size_t count) {
+  int notes = image->tracker == TRACKER_SCAN || image->tracker == TRACKER_SIGNAL;
+  return notes && (ranges == NULL || count == 1); /* no page belongs to two ranges */
+}
+
+static int is_as_durable(const struct mapping *mapping, size_t k) {
+  unsigned char durable[PAGE];
+  copy_durable(mapping, k, durable);
+  return memcmp(mapping->at + k * PAGE, durable, PAGE) == 0;
+}
+
+static int is_taken(const struct mapping *mapping, size_t k) { return (__atomic_load_n(&mapping->marks[k], __ATOMIC_SEQ_CST) & TAKEN) != 0; }
+
+/* Takes all dirty pages of the span, closes them, and only then compares each: a store from then on is noted. Those that differ are put into the commit, as far as
+   they find place there: whether all did. */
+static int take_changed(struct kefs_image *image, const struct span *span) {
+  struct mapping *mapping = span->mapping;
+  size_t next = span->first;
+  for (size_t k = next_marked(mapping, next, span->end); k < span->end; k = next_marked(mapping, k + 1, span->end)) take_page(mapping, k);
+  if (seal(span) != KEFS_OK) return 0;
+  for (size_t k = next_marked(mapping, next, span->end); k < span->end; k = next_marked(mapping, k + 1, span->end)) {
+    if (!is_taken(mapping, k)) continue;
+    if (is_as_durable(mapping, k)) {
+      let_go(mapping, k, 1);
+      continue;
+    }
+    if (image->taken == KEFS_MOST_PAGES) return 0;
+    image->pages[image->taken] = (struct famsync_page){(uint8_t)(mapping - image->mappings), (uint32_t)k};
+    image->page_bytes[image->taken++] = (struct famsync_bytes){mapping->at + k * PAGE};
+  }
+  return 1;
+}
+
+/* What is dirty stays so, and open to system calls. */
+static void give_back(const struct span *span) {
+  for (size_t k = next_marked(span->mapping, span->first, span->end); k < span->end; k = next_marked(span->mapping, k + 1, span->end)) {
+    if (is_taken(span->mapping, k)) let_go(span->mapping, k, 0);
+    open_pages(&(struct span){span->mapping, k, k + 1});
+  }
+}
+
+static int take_all_changed(struct kefs_image *image, const struct kefs_range *ranges, size_t count) {
+  struct spans it = spans_of(image, ranges, count);
+  struct span span;
+  int all = 1;
+  let_all_go(image, 0);
+  while (all && next_span(&it, &span)) all = note_dirty(&span) == KEFS_OK && take_changed(image, &span);
+  if (all) return KEFS_OK;
+  image->taken = 0;
+  for (it = spans_of(image, ranges, count); next_span(&it, &span);) give_back(&span);
+  return fail(image, KEFS_TOO_MANY, "over %d pages are dirty", KEFS_MOST_PAGES);
+}
+
 static int result_of(uint32_t answer) {
   switch (answer) {
     case FAMSYNC_OK: return KEFS_OK;
@@ -157,10 +213,10 @@ static int commit_taken(struct kefs_image *image) {
 static int go_on(struct kefs_image *image, int result) {
   image->outcome = IN_DOUBT;
   if (result == KEFS_DEVICE) return result;
-  char kept[sizeof image->message];
-  memcpy(kept, image->message, sizeof kept);
+  char kept[MESSAGE];
+  strcpy(kept, kefs_errmsg(image));
   if (recover_in_place(image) != KEFS_OK) return KEFS_DEVICE;
-  memcpy(image->message, kept, sizeof kept);
+  fail(image, result, "%s", kept);
   return image->outcome == IS_AFTER ? KEFS_OK : result;
 }
 
@@ -168,6 +224,7 @@ static int go_on(struct kefs_image *image, int result) {
 static int commit(struct kefs_image *image, const struct kefs_range *ranges, size_t count, size_t *taken) {
   int result = take(image, ranges, count);
   ignore_reads(1);
+  if (result == KEFS_TOO_MANY && may_forget(image, ranges, count)) result = take_all_changed(image, ranges, count);
   if (result == KEFS_OK) result = commit_taken(image);
   ignore_reads(0);
   size_t pages = image->taken;
@@ -193,6 +250,7 @@ int kefs_commit(kefs_image *image, const struct kefs_range *ranges, size_t count
 
 /* The pages of bytes that lie in one mapped file of this image. */
 static int whole_span(const struct kefs_image *image, const void *at, size_t length, struct span *span) {
+  if (image == NULL) return KEFS_BAD_ARGUMENT;
   if (is_forked(image)) return KEFS_FORKED;
   struct mapping *mapping = mapping_at(at);
   if (mapping == NULL || mapping->image != image) return KEFS_BAD_RANGE;
@@ -207,7 +265,7 @@ int kefs_msync(kefs_image *image, const void *at, size_t length) {
   struct kefs_range range = {at, length};
   if (at == NULL) return kefs_commit(image, NULL, 0, NULL);
   int result = whole_span(image, at, length, &span);
-  if (result == KEFS_FORKED) return result;
+  if (result == KEFS_FORKED || result == KEFS_BAD_ARGUMENT) return result;
   if (result == KEFS_OK) return kefs_commit(image, &range, 1, NULL);
   int entered = enter(image);
   return entered == KEFS_OK ? leave(image, fail(image, result, "%zu bytes at %p", length, at)) : entered;
@@ -244,7 +302,7 @@ static int count_dirty(struct kefs_image *image, const struct kefs_range *ranges
 int kefs_count_dirty(kefs_image *image, const struct kefs_range *ranges, size_t count, size_t *pages) {
   int result = enter(image);
   if (result != KEFS_OK) return result;
-  result = check_ranges(image, ranges, count);
+  result = pages == NULL ? fail(image, KEFS_BAD_ARGUMENT, "no place for the count") : check_ranges(image, ranges, count);
   if (result == KEFS_OK) result = count_dirty(image, ranges, count, pages);
   return leave(image, result);
 }

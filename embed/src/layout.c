@@ -82,22 +82,29 @@ static void read_places(struct kefs_image *image) {
   qsort(image->places, (size_t)image->placed, sizeof *image->places, by_home);
 }
 
-const unsigned char *durable_page(struct kefs_image *image, uint32_t home) {
+/* The bytes of a home page in the journal, or NULL. */
+static const unsigned char *page_in_journal(struct kefs_image *image, uint32_t home) {
   if (image->placed < 0) read_places(image);
   const struct place wanted = {home, 0};
   const struct place *found = bsearch(&wanted, image->places, (size_t)image->placed, sizeof wanted, by_home);
-  return found != NULL ? image->body + (size_t)PAGE * found->place : image->bytes + home_offset(image->layout, home);
+  return found == NULL ? NULL : image->body + (size_t)PAGE * found->place;
 }
 
-void copy_home(struct kefs_image *image, uint32_t home, unsigned char *to) {
-  const unsigned char *at = durable_page(image, home);
-  int may_have_no_room = image->roomless != NULL && bit_of(image->roomless, home);
-  if (!may_have_no_room || read_all(image->fd, to, PAGE, home_offset(image->layout, home)) != KEFS_OK) memcpy(to, at, PAGE);
+int may_lack_room(const struct kefs_image *image, uint32_t home) {
+  return image->roomless != NULL && (__atomic_load_n(&image->roomless[home / 8], __ATOMIC_SEQ_CST) >> home % 8 & 1) != 0;
+}
+
+void has_room_now(struct kefs_image *image, uint32_t home) { drop_mark(&image->roomless[home / 8], (unsigned char)(1 << home % 8)); }
+
+void copy_durable_page(struct kefs_image *image, uint32_t home, unsigned char *to) {
+  const unsigned char *at = page_in_journal(image, home);
+  if (at == NULL && may_lack_room(image, home) && read_all(image->fd, to, PAGE, home_offset(image->layout, home)) == KEFS_OK) return;
+  memcpy(to, at != NULL ? at : image->bytes + home_offset(image->layout, home), PAGE);
 }
 
 void copy_durable(const struct mapping *mapping, size_t k, unsigned char *to) {
   size_t left = mapping->file.length - k * PAGE, inside = left < PAGE ? left : PAGE;
-  copy_home(mapping->image, mapping->file.first_home + (uint32_t)k, to);
+  copy_durable_page(mapping->image, mapping->file.first_home + (uint32_t)k, to);
   memset(to + inside, 0, PAGE - inside);
 }
 
@@ -126,6 +133,7 @@ off_t first_room(int has_journals) {
 
 static int check_files(const struct kefs_file *files, size_t count, uint64_t *homes) {
   if (count > KEFS_FILES) return fail(NULL, EINVAL, "%zu files", count);
+  if (files == NULL && count > 0) return fail(NULL, KEFS_BAD_ARGUMENT, "no files");
   *homes = 0;
   for (size_t f = 0; f < count; f++) {
     if ((files[f].flags & ~(uint32_t)(KEFS_FILE_READ_ONLY | KEFS_FILE_SPARSE)) != 0) return fail(NULL, EINVAL, "flags of file %zu", f);
@@ -178,7 +186,7 @@ static int write_files(int fd, const struct kefs_file *files, size_t count) {
 
 /* The gate, the map that it names and all zeros are those of the lengthened file, which gets its name when all of it is synced. */
 static int fill_image(int fd, const struct kefs_file *files, size_t count, uint64_t homes) {
-  int number = ftruncate(fd, home_offset(&LAYOUT_3, 0) + (off_t)(PAGE * homes)) == 0 ? KEFS_OK : errno;
+  int number = set_length(fd, home_offset(&LAYOUT_3, 0) + (off_t)(PAGE * homes));
   if (number == KEFS_OK) number = take_first_rooms(fd, files, count);
   if (number == KEFS_OK) number = write_contents(fd, files, count);
   if (number == KEFS_OK) number = write_files(fd, files, count);
@@ -188,7 +196,7 @@ static int fill_image(int fd, const struct kefs_file *files, size_t count, uint6
 static int format(const char *path, unsigned permissions, const struct kefs_file *files, size_t count) {
   struct new_file new;
   uint64_t homes = 0;
-  int result = check_files(files, count, &homes);
+  int result = path == NULL ? fail(NULL, KEFS_BAD_ARGUMENT, "no path") : check_files(files, count, &homes);
   if (result != KEFS_OK) return result;
   int number = begin_file(&new, path, permissions);
   if (number == KEFS_OK) number = fill_image(new.fd, files, count, homes);

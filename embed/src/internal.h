@@ -46,10 +46,14 @@ struct span { struct mapping *mapping; size_t first, end; };
 struct turns {
   int shares;  /* the file system has the locks for it */
   int changes; /* the file is being changed, or may be half made */
-  int hurries; /* it has waited for readers too long */
+  int hurries; /* it has waited for readers in vain, */
+  long patient_from; /* and from this millisecond on it waits a little again */
   int is_new;  /* the next state is not one commit after `state` */
   off_t state; /* the byte that says so, or 0 */
 };
+
+/* Who has an image open, in the list of all handles of this process that keep others out. */
+struct owner { dev_t device; ino_t number; pthread_t thread; struct kefs_image *next; };
 
 struct kefs_image {
   pthread_mutex_t lock;
@@ -83,7 +87,9 @@ struct kefs_image {
   pthread_mutex_t backups; /* one backup at a time */
   unsigned char *late;     /* a bit for each home that a backup has to copy yet, or NULL */
   struct kefs_stat stat;
-  char message[200]; /* kefs_errmsg */
+  uint64_t serial;  /* of all images that this process opened */
+  struct owner owner;
+  const char *path; /* while it is being opened, or NULL */
 };
 
 /* process.c: what belongs to the whole process. */
@@ -91,6 +97,11 @@ struct kefs_image {
 /* A number that this process has, and no child that inherits its handles: KEFS_OK or ENOMEM. */
 int this_generation(uint64_t *generation);
 int is_forked(const struct kefs_image *image);
+/* Notes that this thread has the image open by this handle, or no longer. */
+void add_owner(struct kefs_image *image);
+void remove_owner(struct kefs_image *image);
+/* Whether this thread has this file open by a handle that keeps others out: to wait for that would never end. */
+int is_own(int fd);
 /* Makes a mapping known to mapping_at: KEFS_OK or ENOMEM. */
 int add_region(struct mapping *mapping);
 void remove_region(struct mapping *mapping);
@@ -99,10 +110,14 @@ struct mapping *mapping_at(const void *address);
 
 /* results.c */
 
-/* Writes the image's message, or that of the thread where there is no image, and returns the result. */
-int fail(struct kefs_image *image, int result, const char *format, ...) __attribute__((format(printf, 3, 4)));
-/* Makes the image's message that of the thread. */
+enum { MESSAGE = 320 }; /* bytes of kefs_errmsg */
+
+/* Writes this thread's message of the image, or that of its openings where there is no image, and returns the result. */
+int fail(const struct kefs_image *image, int result, const char *format, ...) __attribute__((format(printf, 3, 4)));
+/* Makes the message of the image that of this thread's openings. */
 void keep_message(const struct kefs_image *image);
+/* A number that no image had before. */
+uint64_t new_serial(void);
 /* The result that an errno value of a device call gives: ENOSPC and EDQUOT as they are, else KEFS_DEVICE. */
 int device_result(int number);
 
@@ -148,11 +163,11 @@ const unsigned char *journal_map(const struct kefs_image *image);
 uint32_t journal_pages(const struct kefs_image *image);
 /* The home page of page `i` of it. */
 uint32_t journal_home(const struct kefs_image *image, uint32_t i);
-/* The durable bytes of a home page, where they lie in the image. */
-const unsigned char *durable_page(struct kefs_image *image, uint32_t home);
-/* Copies them. A home that may have no room is read by a call: one that is touched in a mapping takes room on tmpfs, or fails with SIGBUS. No page of the
-   journal has such a home. */
-void copy_home(struct kefs_image *image, uint32_t home, unsigned char *to);
+/* Whether a home may have no room on the device: it is read by calls then (open.c says why). Signal handlers may call it. */
+int may_lack_room(const struct kefs_image *image, uint32_t home);
+void has_room_now(struct kefs_image *image, uint32_t home);
+/* Copies the durable bytes of a home page. */
+void copy_durable_page(struct kefs_image *image, uint32_t home, unsigned char *to);
 /* Has the places of the journal's pages read anew, after calls of a plan. */
 void forget_places(struct kefs_image *image);
 off_t home_offset(const struct layout *layout, uint32_t home);
@@ -170,6 +185,12 @@ int has_mark(const struct kefs_image *image, const char *mark);
 /* The sector that is the image's directory. */
 const unsigned char *directory_of(const struct kefs_image *image);
 
+/* findings.c */
+
+/* What is wrong with an image: KEFS_OK, or the result that an opening gives, and the reason in words. */
+struct finding { int result; char words[160]; };
+struct finding check_image(const struct kefs_image *image);
+
 /* device.c */
 
 /* Opens a file as open(2), at a descriptor over those of the standard streams, which programs write to though they are closed. */
@@ -177,9 +198,14 @@ int open_high(const char *path, int flags, mode_t mode);
 /* Moves a descriptor there, where it is one: the new one, or -1 and errno. */
 int move_high(int fd);
 /* Each returns KEFS_OK or an errno value. */
+int set_length(int fd, off_t length);
 int write_all(int fd, const void *bytes, size_t length, off_t offset);
 int read_all(int fd, void *to, size_t length, off_t offset);
+/* As read_all, of memory of zeros: what is a hole of the file is left as it is, and takes no memory. */
+int read_data(int fd, void *to, size_t length, off_t offset);
 int sync_data(int fd);
+/* Where the next bytes from `at` on begin that are no hole, or `end`, and in *hole where these end. Where the file system does not say, all are none. */
+off_t next_data(int fd, off_t at, off_t end, off_t *hole);
 /* Takes room on the device for these bytes of a file: KEFS_OK, also where the file system can't do so, or an errno value. */
 int take_room(int fd, off_t offset, off_t length);
 /* Takes room in the journals for the pages that are taken, and for their homes, before any call of a plan: KEFS_OK, or the image's result. */
@@ -192,8 +218,10 @@ int carry_out(struct kefs_image *image);
 struct new_file { const char *path; char *unfinished; int fd; };
 /* Makes a file without a name, or with one of its own in the same folder: KEFS_OK or an errno value. */
 int begin_file(struct new_file *file, const char *path, unsigned permissions);
-/* Gives it its name, durably; where something has it, EEXIST. */
+/* Gives it its name, durably; where something has it, EEXIST. After EIO it may have its name, which is then not known to be durable. */
 int name_file(struct new_file *file);
+/* Makes the name that a path gives to an open file durable: KEFS_OK or an errno value. */
+int sync_name(const char *path, int file);
 /* Lets it go: without its name it is gone. */
 void end_file(struct new_file *file);
 /* The result that an errno value of a new file gives. */
@@ -208,6 +236,8 @@ int holder_of(int fd);
 /* Syncs the host file, and has what is cached of it read anew: a plan begins on an image that the device holds, and a reader gives
    out nothing that a power cut could take back. KEFS_OK or the image's result. */
 int settle(struct kefs_image *image);
+/* The layout that the host file has by its kind, which is read by a call: KEFS_OK or the image's result. */
+int read_kind(struct kefs_image *image);
 /* Carries out the journal of a host file that is settled: KEFS_OK or a result. A reader makes no call of the plan: it reads through the
    journal, and commits nothing. */
 int recover(struct kefs_image *image);
@@ -218,13 +248,15 @@ int recover_in_place(struct kefs_image *image);
 
 /* Locks the host file for a writer, in so many milliseconds, -1 for no limit, and begins a change of it: KEFS_OK, EWOULDBLOCK or an errno value. */
 int lock_to_write(struct kefs_image *image, long limit);
+/* Locks it for a reader that is no snapshot, against writers. */
+int lock_to_read(struct kefs_image *image, long limit);
 /* Waits for readers' turns, and keeps others from them: KEFS_OK, or the image's result, when nothing was done. It does nothing where a change was
    begun. */
 int begin_change(struct kefs_image *image);
 /* Lets readers in, but to a halted image: the file is as after a commit, and synced. */
 void end_change(struct kefs_image *image);
-/* In a change: KEFS_OK, or KEFS_BUSY where a reader may be reading still. */
-int await_readers(struct kefs_image *image);
+/* In a change: waits until no reader is reading, a second at most. */
+void await_readers(struct kefs_image *image);
 /* Lets all these locks go. */
 void end_turns(struct kefs_image *image);
 
@@ -234,6 +266,8 @@ void end_snapshot(struct kefs_image *image);
 /* Reads the used pages of the host file into it, with the journal carried out: KEFS_OK or the image's result. ESTALE: the file has no name any
    more. */
 int read_snapshot(struct kefs_image *image);
+/* The file that has an image's bytes as they are read, and how many bytes it has before them. */
+int file_of_bytes(const struct kefs_image *image, off_t *before);
 /* Maps a file of it to read: KEFS_OK or an errno value. */
 int map_snapshot(struct mapping *mapping, void *wanted);
 

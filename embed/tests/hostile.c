@@ -1,9 +1,8 @@
 /* hostile FOLDER: programs that a library has to live through: closed streams, locked memory, cancelled threads, replaced files, kills
-   while an image is made, few descriptors, small stacks, full devices, jumps into mapped memory, and the like. Each case is
-   a process of its own, which has to end well and in time, once or with each tracker that the system has. Images are of layout 3, or of that which the
-   environment's LAYOUT says, but those that the case itself makes. */
+   while an image is made, few descriptors, small stacks, full devices, jumps into mapped memory, and the like. Each case is a process of its own (cases.h). */
 #define _GNU_SOURCE
-#include "tests.h"
+#define PROGRAM "hostile"
+#include "cases.h"
 #include <dirent.h>
 #include <dlfcn.h>
 #include <errno.h>
@@ -23,79 +22,6 @@
 #include <sys/wait.h>
 #include <time.h>
 #include <unistd.h>
-
-enum { PAGE = KEFS_PAGE, PAGES = 64, SECONDS = 300, SKIPPED = 77 };
-static unsigned flags; /* of the tracker that is tried, and KEFS_LAZY */
-static const char *const PATH = "hostile.img";
-static kefs_image *image;
-static unsigned char *a;
-
-static void check_that(int holds, const char *what, int line) {
-  if (!holds) dprintf(2, "hostile.c:%d: not so: %s (%s)\n", line, what, kefs_errmsg(NULL)), _exit(1);
-}
-#define CHECK(condition) check_that((condition) != 0, #condition, __LINE__)
-
-static void check_result(int wanted, int result, const char *call, int line) {
-  const char *words = kefs_strerror(result);
-  if (result != wanted) dprintf(2, "hostile.c:%d: %s returned %s: %s (%s)\n", line, call, kefs_name(result), words, kefs_errmsg(NULL)), _exit(1);
-}
-#define RETURNS(wanted, call) check_result(wanted, call, #call, __LINE__)
-#define DONE(call) RETURNS(KEFS_OK, call)
-
-typedef int maker(const char *path, unsigned permissions, const struct kefs_file *files, size_t count);
-
-static void make_file_by(maker *make, const char *path, uint32_t pages, unsigned char byte) {
-  unsigned char *content = byte == 0 ? NULL : malloc((size_t)pages * PAGE);
-  if (content != NULL) memset(content, byte, (size_t)pages * PAGE);
-  struct kefs_file file = {pages * PAGE, 0, content};
-  unlink(path);
-  DONE(make(path, 0600, &file, 1));
-  free(content);
-}
-
-static void make_file(const char *path, uint32_t pages, unsigned char byte) { make_file_by(format_image, path, pages, byte); }
-
-static unsigned char *open_file(const char *path, kefs_image **to) {
-  void *at;
-  DONE(kefs_open(to, path, flags));
-  DONE(kefs_map(*to, 0, NULL, &at, NULL));
-  return at;
-}
-
-static void begin(uint32_t pages, unsigned char byte) {
-  make_file(PATH, pages, byte);
-  a = open_file(PATH, &image);
-}
-
-static void store(unsigned char *at, unsigned char value) {
-  *(volatile unsigned char *)at = value;
-  if ((flags & KEFS_TRACK_CALLER) != 0) DONE(kefs_mark_dirty(image, at, 1));
-}
-
-static size_t written(void) {
-  size_t pages;
-  DONE(kefs_count_dirty(image, NULL, 0, &pages));
-  return pages;
-}
-
-static void open_again(void) {
-  DONE(kefs_close(image));
-  a = open_file(PATH, &image);
-}
-
-static double seconds_of(clockid_t clock) {
-  struct timespec time;
-  clock_gettime(clock, &time);
-  return (double)time.tv_sec + (double)time.tv_nsec * 1e-9;
-}
-
-static double now(void) { return seconds_of(CLOCK_MONOTONIC); }
-
-/* The exit status of a child, or -1 where a signal ended it. */
-static int status_of(pid_t child) {
-  int status;
-  return waitpid(child, &status, 0) == child && WIFEXITED(status) ? WEXITSTATUS(status) : -1;
-}
 
 /* Calls of the library that fail as they are told to */
 
@@ -336,6 +262,30 @@ static void a_store_between_two_ranges_is_not_lost(void) {
   DONE(kefs_close(image));
 }
 
+/* As where a program plays its own roll back after a commit of too many pages. */
+static void pages_that_are_as_durable_are_not_too_many(void) {
+  enum { MANY = 1500 };
+  size_t taken = 0;
+  begin(MANY, 5);
+  for (int k = 0; k < MANY; k++) store(a + k * PAGE, 6);
+  RETURNS(KEFS_TOO_MANY, kefs_commit(image, NULL, 0, NULL));
+  CHECK(written() == MANY);
+  for (int k = 0; k < MANY; k++) store(a + k * PAGE, 5);
+  store(a + 77 * PAGE, 7), store(a + 1400 * PAGE, 8);
+  if ((flags & KEFS_TRACK_CALLER) != 0) {
+    RETURNS(KEFS_TOO_MANY, kefs_commit(image, NULL, 0, NULL));
+  } else {
+    DONE(kefs_commit(image, NULL, 0, &taken));
+    CHECK(taken == 2 && written() == 0);
+    store(a + 3 * PAGE, 9);
+    CHECK(written() == 1);
+    DONE(kefs_commit(image, NULL, 0, NULL));
+    open_again();
+    for (int k = 0; k < MANY; k++) CHECK(a[k * PAGE] == (k == 77 ? 7 : k == 1400 ? 8 : k == 3 ? 9 : 5));
+  }
+  DONE(kefs_close(image));
+}
+
 static void a_sparse_file_takes_room_as_it_fills(void) {
   struct kefs_file sparse[] = {{PAGES * PAGE, 0, NULL}, {64u << 20, KEFS_FILE_SPARSE, NULL}, {PAGES * PAGE, 0, NULL}};
   struct stat there;
@@ -494,8 +444,10 @@ static void a_roll_back_beside_a_full_journal_is_quick(void) {
 
 static void a_wait_ends(void) {
   kefs_image *other;
+  pthread_t thread;
   struct kefs_options options = {.size = sizeof options, .wait = 100};
-  begin(PAGES, 0);
+  make_file(PATH, PAGES, 0);
+  CHECK(pthread_create(&thread, NULL, open_waiting, NULL) == 0 && pthread_join(thread, NULL) == 0);
   double start = now();
   RETURNS(KEFS_BUSY, kefs_open_with(&other, PATH, 0, &options));
   double taken = now() - start;
@@ -583,64 +535,14 @@ static void a_child_of_a_killed_owner_keeps_the_lock(void) {
   DONE(kefs_close(image));
 }
 
-/* Running */
-
-struct test { void (*run)(void); const char *name; };
-#define TEST(name) {name, #name}
 static const struct test with_each_tracker[] = {
   TEST(lines_to_closed_streams_reach_no_image), TEST(locked_memory_is_read), TEST(a_cancelled_thread_leaves_no_lock),
   TEST(a_jump_into_mapped_memory_is_a_fault), TEST(no_bytes_are_no_pages), TEST(small_stacks_suffice), TEST(a_backup_beside_commits_is_whole),
-  TEST(few_pages_are_marked_where_mappings_are_short), TEST(a_store_between_two_ranges_is_not_lost), TEST(a_sparse_file_takes_room_as_it_fills)};
+  TEST(pages_that_are_as_durable_are_not_too_many), TEST(few_pages_are_marked_where_mappings_are_short), TEST(a_store_between_two_ranges_is_not_lost), TEST(a_sparse_file_takes_room_as_it_fills)};
 static const struct test once[] = {
   TEST(an_opening_takes_the_file_that_has_the_name), TEST(a_kill_leaves_a_whole_image_or_none), TEST(want_of_descriptors_changes_no_tracker),
   TEST(a_full_device_is_told), TEST(what_is_no_file_is_refused_at_once), TEST(other_page_sizes_are_refused),
   TEST(a_roll_back_beside_a_full_journal_is_quick), TEST(a_wait_ends), TEST(an_opening_makes_an_image_once),
   TEST(a_failed_opening_has_words_of_its_thread), TEST(what_has_not_failed_recovers), TEST(a_child_of_a_killed_owner_keeps_the_lock)};
 
-static int failed, skipped, tried;
-
-static void try(const struct test *test, const char *tracker) {
-  fflush(NULL);
-  pid_t child = fork();
-  if (child == 0) {
-    alarm(SECONDS);
-    srandom((unsigned)getpid());
-    test->run();
-    _exit(0);
-  }
-  int status = 0;
-  double start = now();
-  waitpid(child, &status, 0);
-  if (getenv("TIMES") != NULL) printf("%6.2f s %s, %s\n", now() - start, test->name, tracker);
-  int is_skipped = WIFEXITED(status) && WEXITSTATUS(status) == SKIPPED, holds = status == 0 || is_skipped;
-  if (WIFSIGNALED(status)) printf("hostile: %s: signal %d\n", test->name, WTERMSIG(status));
-  if (!holds) printf("hostile: %s, %s: FAILED\n", tracker, test->name);
-  tried++, failed += !holds, skipped += is_skipped;
-}
-
-/* Whether the system has the tracker. It is tried in a process of its own, since it may leave a handler of signals. */
-static int is_there(void) {
-  pid_t child = fork();
-  if (child == 0) {
-    make_file(PATH, 1, 0);
-    _exit(kefs_open(&image, PATH, flags) == KEFS_NO_TRACKER);
-  }
-  return status_of(child) == 0;
-}
-
-int main(int argc, char **argv) {
-  static const struct { unsigned flags; const char *name; } trackers[] = {
-    {KEFS_TRACK_SCAN, "scan"}, {KEFS_TRACK_SIGNAL, "signal"}, {KEFS_TRACK_CALLER, "caller"},
-    {KEFS_TRACK_SCAN | KEFS_LAZY, "scan, lazy"}, {KEFS_TRACK_CALLER | KEFS_LAZY, "caller, lazy"}};
-  if (argc < 2 || chdir(argv[1]) != 0) return 2;
-  for (size_t i = 0; i < sizeof once / sizeof *once; i++)
-    if (argc < 3 || strcmp(argv[2], once[i].name) == 0) try(&once[i], "once");
-  for (size_t t = 0; t < sizeof trackers / sizeof *trackers; t++) {
-    flags = trackers[t].flags;
-    if (!is_there()) continue;
-    for (size_t i = 0; i < sizeof with_each_tracker / sizeof *with_each_tracker; i++)
-      if (argc < 3 || strcmp(argv[2], with_each_tracker[i].name) == 0) try(&with_each_tracker[i], trackers[t].name);
-  }
-  printf("hostile: layout %d, %d cases: %d failed, %d skipped\n", image_layout(), tried, failed, skipped);
-  return failed > 0;
-}
+int main(int argc, char **argv) { return argc < 2 ? 2 : run_cases(argv, once, COUNT_OF(once), with_each_tracker, COUNT_OF(with_each_tracker)); }

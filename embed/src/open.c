@@ -16,12 +16,15 @@
 /* What an opening is given. */
 struct opening { const char *path; unsigned flags; struct kefs_options options; };
 
-static int check_flags(unsigned flags, const struct kefs_options *options) {
+static int check_opening(kefs_image **to, const char *path, unsigned flags, const struct kefs_options *options) {
+  if (to != NULL) *to = NULL;
+  if (to == NULL || path == NULL) return fail(NULL, KEFS_BAD_ARGUMENT, to == NULL ? "no place for the handle" : "no path");
   unsigned trackers = flags & (KEFS_TRACK_SCAN | KEFS_TRACK_SIGNAL | KEFS_TRACK_CALLER), all = 2 * KEFS_SNAPSHOT - 1;
   if ((flags & ~all) != 0 || (trackers & (trackers - 1)) != 0) return fail(NULL, EINVAL, "flags %#x", flags);
   if (options != NULL && options->size < sizeof *options) return fail(NULL, EINVAL, "size %zu of the options", options->size);
   if ((flags & KEFS_CREATE) == 0) return KEFS_OK;
-  return options == NULL || (flags & (KEFS_RDONLY | KEFS_SNAPSHOT)) != 0 ? fail(NULL, EINVAL, "KEFS_CREATE without options, or to read") : KEFS_OK;
+  if (options == NULL || (flags & (KEFS_RDONLY | KEFS_SNAPSHOT)) != 0) return fail(NULL, EINVAL, "KEFS_CREATE without options, or to read");
+  return options->files == NULL && options->count > 0 ? fail(NULL, KEFS_BAD_ARGUMENT, "no files") : KEFS_OK;
 }
 
 /* Locking */
@@ -49,18 +52,9 @@ int holder_of(int fd) {
 }
 
 static int is_busy(struct kefs_image *image, const struct opening *opening) {
+  if (is_own(image->fd)) return fail(image, KEFS_BUSY, "this thread has %s open by another handle", opening->path);
   int process = holder_of(image->fd);
   return process == 0 ? fail(image, KEFS_BUSY, "%s", opening->path) : fail(image, KEFS_BUSY, "process %d has %s", process, opening->path);
-}
-
-/* The system has no wait for a lock that ends by itself, so it is asked again and again. */
-static int lock_until(int fd, int kind, uint32_t wait) {
-  long end = milliseconds() + (long)wait;
-  while (flock(fd, kind | LOCK_NB) != 0) {
-    if (errno != EWOULDBLOCK || milliseconds() >= end) return errno;
-    if (nanosleep(&(struct timespec){0, 2000000}, NULL) != 0) return errno;
-  }
-  return KEFS_OK;
 }
 
 /* Milliseconds that it waits, or -1: for ever. */
@@ -68,13 +62,12 @@ static long limit_of(const struct opening *opening) {
   return (opening->flags & KEFS_NOWAIT) != 0 ? 0 : opening->options.wait == 0 ? -1 : (long)opening->options.wait;
 }
 
-/* A snapshot locks nothing but while it is read. */
+/* A snapshot locks nothing but while it is read. For a handle of its own a thread would wait for ever. */
 static int lock_file(struct kefs_image *image, const struct opening *opening) {
-  long limit = limit_of(opening);
+  long limit = image->snapshot == NULL && is_own(image->fd) ? 0 : limit_of(opening);
   int number = KEFS_OK;
   if (!image->read_only) number = lock_to_write(image, limit);
-  else if (image->snapshot == NULL && limit >= 0) number = lock_until(image->fd, LOCK_SH, (uint32_t)limit);
-  else if (image->snapshot == NULL) number = flock(image->fd, LOCK_SH) == 0 ? KEFS_OK : errno;
+  else if (image->snapshot == NULL) number = lock_to_read(image, limit);
   return number == EWOULDBLOCK ? is_busy(image, opening) : number == KEFS_OK ? KEFS_OK : fail(image, number, "locking %s", opening->path);
 }
 
@@ -90,10 +83,12 @@ static int open_host_file(struct kefs_image *image, const char *path) {
   return S_ISREG(there.st_mode) ? KEFS_OK : KEFS_NOT_IMAGE;
 }
 
+static int is_same_file(const struct stat *one, const struct stat *other) { return one->st_dev == other->st_dev && one->st_ino == other->st_ino; }
+
 /* Whether the path still leads to the file that was locked: it may have been replaced while the call waited. */
 static int is_named(int fd, const char *path) {
   struct stat here, there;
-  return fstat(fd, &here) == 0 && stat(path, &there) == 0 && here.st_dev == there.st_dev && here.st_ino == there.st_ino;
+  return fstat(fd, &here) == 0 && stat(path, &there) == 0 && is_same_file(&here, &there);
 }
 
 /* Opens the file, or makes it first. Where another process has made it meanwhile, that one is opened. */
@@ -101,6 +96,7 @@ static int open_or_make(struct kefs_image *image, const struct opening *opening)
   const struct kefs_options *options = &opening->options;
   for (;;) {
     int result = open_host_file(image, opening->path);
+    if (result == KEFS_NOT_IMAGE) return fail(image, result, "%s: it is no regular file", opening->path);
     if (result != ENOENT || (opening->flags & KEFS_CREATE) == 0) return result == KEFS_OK ? KEFS_OK : fail(image, result, "opening %s", opening->path);
     result = kefs_format(opening->path, options->permissions, options->files, options->count);
     if (result == EEXIST && access(opening->path, F_OK) != 0) return fail(image, errno, "opening %s", opening->path); /* a link to nothing */
@@ -108,21 +104,30 @@ static int open_or_make(struct kefs_image *image, const struct opening *opening)
   }
 }
 
+/* The image may be another process's new one, whose name is not durable yet: what is committed to it is not found again without its name. */
+static int settle_name(struct kefs_image *image, const struct opening *opening) {
+  if ((opening->flags & KEFS_CREATE) == 0) return KEFS_OK;
+  int number = sync_name(opening->path, image->fd);
+  return number == KEFS_OK ? KEFS_OK : fail(image, new_file_result(number), "syncing the folder of %s: %s", opening->path, kefs_strerror(number));
+}
+
+enum { MOST_ROUNDS = 100 }; /* in each of which another file has come to the path */
+
 static int lock_path(struct kefs_image *image, const struct opening *opening) {
-  int result;
-  do {
-    result = open_or_make(image, opening);
+  for (int round = 0; round < MOST_ROUNDS; round++) {
+    int result = open_or_make(image, opening);
     if (result == KEFS_OK) result = lock_file(image, opening);
-  } while (result == KEFS_OK && !is_named(image->fd, opening->path));
-  return result;
+    if (result != KEFS_OK) return result;
+    if (is_named(image->fd, opening->path)) return settle_name(image, opening);
+  }
+  return fail(image, ESTALE, "%s leads to another file each time", opening->path);
 }
 
 /* After a sync that failed the system may hold bytes that it takes for written and the device has not: a later sync succeeds and
    does not write them. So what it holds is dropped, once nothing of it waits to be written, and read anew. A page stays where it
-   is mapped, or being read, so the pages of the image's own mapping are let go first, and no reader may be in its turn. */
+   is mapped, or being read, so the pages of the image's own mapping are let go first, and readers' turns are waited for. */
 int settle(struct kefs_image *image) {
-  int result = await_readers(image);
-  if (result != KEFS_OK) return result;
+  await_readers(image);
   if (image->bytes != NULL) madvise((void *)(uintptr_t)image->bytes, SECTOR * image->sectors, MADV_DONTNEED);
   if (fsync(image->fd) != 0) return fail(image, device_result(errno), "fsync: %s", strerror(errno));
   posix_fadvise(image->fd, 0, 0, POSIX_FADV_DONTNEED);
@@ -130,22 +135,92 @@ int settle(struct kefs_image *image) {
   return KEFS_OK;
 }
 
+/* The host file by an open file of its own, or -1. A mapping keeps its open file alive for a while after a kill, and in children: had that one the lock, the
+   image would be busy for as long. */
+static int open_to_map(const struct kefs_image *image) {
+  char place[40];
+  snprintf(place, sizeof place, "/proc/self/fd/%d", image->fd);
+  int fd = open_high(place, O_RDONLY | O_CLOEXEC, 0);
+  if (fd < 0) fd = open_high(image->path, O_RDONLY | O_CLOEXEC | O_NONBLOCK | O_NOCTTY, 0);
+  struct stat here, there;
+  if (fd < 0 || (fstat(image->fd, &here) == 0 && fstat(fd, &there) == 0 && is_same_file(&here, &there))) return fd;
+  close(fd);
+  return -1;
+}
+
 /* The one byte more is for a file of no bytes, which cannot be mapped. */
 static int map_host_file(struct kefs_image *image) {
   struct stat there;
   if (fstat(image->fd, &there) != 0) return fail(image, errno, "fstat");
   image->sectors = (size_t)there.st_size / SECTOR;
-  void *bytes = mmap(NULL, mapped_bytes(image), PROT_READ, MAP_SHARED, image->fd, 0);
+  int fd = open_to_map(image);
+  void *bytes = mmap(NULL, mapped_bytes(image), PROT_READ, MAP_SHARED, fd < 0 ? image->fd : fd, 0);
+  if (fd >= 0) close(fd);
   if (bytes == MAP_FAILED) return fail(image, ENOMEM, "mapping the host file");
   image->bytes = bytes;
   return KEFS_OK;
 }
 
-/* A file that takes less room on the device than its length may have homes without any. */
-static int find_room(struct kefs_image *image) {
+/* Sparse host files. One that takes less room on the device than its length may have pages without any. On a memory file system such a page takes room when it
+   is touched in a mapping, and where there is none the process gets a SIGBUS. So of these files homes are read by calls, and all before the homes is made sure of. */
+
+static int is_sparse(const struct kefs_image *image) {
   struct stat there;
-  if (fstat(image->fd, &there) != 0) return fail(image, errno, "fstat");
-  if (image->read_only || (uint64_t)there.st_blocks * 512 >= (uint64_t)there.st_size) return KEFS_OK;
+  return fstat(image->fd, &there) == 0 && (uint64_t)there.st_blocks * 512 < (uint64_t)there.st_size;
+}
+
+int read_kind(struct kefs_image *image) {
+  unsigned char first[SECTOR * (KIND_SECTOR + 1)];
+  const unsigned char *bytes = image->bytes;
+  if (image->sectors <= KIND_SECTOR) return image->layout = &LAYOUT_2, KEFS_OK;
+  int number = read_all(image->fd, first, sizeof first, 0);
+  if (number != KEFS_OK) return fail(image, KEFS_DEVICE, "pread of %zu bytes at sector 0: %s", sizeof first, kefs_strerror(number));
+  image->bytes = first;
+  image->layout = layout_of(image);
+  image->bytes = bytes;
+  return KEFS_OK;
+}
+
+/* Puts a copy of all before the homes in the place of the mapping, for a reader: no other program writes it. */
+static int copy_head(struct kefs_image *image) {
+  size_t mapped = (mapped_bytes(image) + PAGE - 1) / PAGE * PAGE, head = ((size_t)home_offset(image->layout, 0) + PAGE - 1) / PAGE * PAGE;
+  if (head > mapped) head = mapped;
+  void *at = mmap((void *)(uintptr_t)image->bytes, head, PROT_READ | PROT_WRITE, MAP_PRIVATE | MAP_ANONYMOUS | MAP_NORESERVE | MAP_FIXED, -1, 0);
+  if (at == MAP_FAILED) return fail(image, ENOMEM, "memory for the journals");
+  size_t end = head < SECTOR * image->sectors ? head : SECTOR * image->sectors;
+  int number = read_data(image->fd, at, end, 0);
+  return number == KEFS_OK ? KEFS_OK : fail(image, KEFS_DEVICE, "pread of the journals: %s", kefs_strerror(number));
+}
+
+/* Takes room for these sectors, as far as the image has them. */
+static int take_sectors(struct kefs_image *image, size_t first, size_t end) {
+  if (end > image->sectors) end = image->sectors;
+  int number = first < end ? take_room(image->fd, (off_t)(SECTOR * first), (off_t)(SECTOR * (end - first))) : KEFS_OK;
+  return number == KEFS_OK ? KEFS_OK : fail(image, device_result(number), "room for sectors %zu to %zu: %s", first, end - 1, kefs_strerror(number));
+}
+
+/* Takes room for all that an opening to write reads: up to the first map, the map that the gate names and the pages that it has. */
+static int take_head(struct kefs_image *image) {
+  const struct layout *layout = image->layout;
+  int result = take_sectors(image, 0, layout->gate + 1);
+  const unsigned char *map = result == KEFS_OK && image->sectors > layout->gate ? journal_map(image) : NULL;
+  if (map == NULL) return result;
+  size_t first = (size_t)(map - image->bytes) / SECTOR, body = first + MAP_SECTORS;
+  result = take_sectors(image, first, body);
+  size_t pages = result == KEFS_OK && image->sectors >= body ? journal_pages(image) : 0;
+  return result == KEFS_OK ? take_sectors(image, body, body + PAGE / SECTOR * (pages < KEFS_MOST_PAGES ? pages : KEFS_MOST_PAGES)) : result;
+}
+
+static int secure_head(struct kefs_image *image) {
+  if (!is_sparse(image)) return image->layout = layout_of(image), KEFS_OK;
+  int result = read_kind(image);
+  if (result != KEFS_OK) return result;
+  return image->read_only ? copy_head(image) : take_head(image);
+}
+
+/* The homes that may have no room. */
+static int find_room(struct kefs_image *image) {
+  if (!is_sparse(image)) return KEFS_OK;
   image->roomless = new_memory(bits_bytes(image));
   if (image->roomless == NULL) return fail(image, ENOMEM, "the homes without room");
   memset(image->roomless, 0xff, bits_bytes(image));
@@ -174,9 +249,8 @@ static int read_image(struct kefs_image *image) {
   if (image->snapshot != NULL) return read_snapshot(image);
   int result = settle(image);
   if (result == KEFS_OK) result = map_host_file(image);
-  if (result != KEFS_OK) return result;
-  image->layout = layout_of(image);
-  result = recover(image);
+  if (result == KEFS_OK) result = secure_head(image);
+  if (result == KEFS_OK) result = recover(image);
   if (result != KEFS_OK) return result;
   image->stat.pages = home_pages(image);
   read_directory(image);
@@ -188,6 +262,7 @@ static int read_image(struct kefs_image *image) {
 static struct kefs_image *new_image(void) {
   struct kefs_image *image = calloc(1, sizeof *image);
   if (image == NULL) return NULL;
+  image->serial = new_serial();
   image->fd = image->faults = image->pagemap = image->placed = -1;
   image->scratch = new_memory(sizeof *image->scratch);
   image->plan = new_memory(sizeof *image->plan);
@@ -196,14 +271,38 @@ static struct kefs_image *new_image(void) {
   return image;
 }
 
-/* A snapshot may find only when it reads the file that it was replaced: then it begins again. */
+/* A snapshot may find only when it reads the file that it was replaced: then it begins again, with the one that has come. */
 static int lock_and_read(struct kefs_image *image, const struct opening *opening) {
-  int result;
-  do {
+  int result = ESTALE;
+  for (int round = 0; round < MOST_ROUNDS && result == ESTALE; round++) {
     result = lock_path(image, opening);
     if (result == KEFS_OK) result = read_image(image);
-  } while (image->snapshot != NULL && result == ESTALE);
+    if (result == ESTALE && is_named(image->fd, opening->path)) break; /* a path of /proc leads to a file without a name */
+  }
   return result;
+}
+
+/* A program whose struct has grown would read past the file that an earlier one made. */
+static int check_created(const struct kefs_image *image, const struct opening *opening) {
+  const struct kefs_options *options = &opening->options;
+  for (unsigned f = 0; f < KEFS_FILES && (opening->flags & KEFS_CREATE) != 0; f++) {
+    const struct file *file = &image->files[f];
+    const struct kefs_file *wanted = f < options->count ? &options->files[f] : NULL;
+    if (file->present != (wanted != NULL)) return fail(image, KEFS_OTHER_FILES, "%s has %s file %u", opening->path, file->present ? "a" : "no", f);
+    if (wanted == NULL) continue;
+    if (file->length != wanted->length)
+      return fail(image, KEFS_OTHER_FILES, "file %u of %s has %u bytes, and not %u", f, opening->path, (unsigned)file->length, (unsigned)wanted->length);
+    if (file->read_only != ((wanted->flags & KEFS_FILE_READ_ONLY) != 0))
+      return fail(image, KEFS_OTHER_FILES, "file %u of %s is %sread-only", f, opening->path, file->read_only ? "" : "not ");
+  }
+  return KEFS_OK;
+}
+
+/* The path and the reason of a refusal, as kefscheck has it. */
+static void say_why(struct kefs_image *image, const struct opening *opening, int result) {
+  if ((result != KEFS_NOT_IMAGE && result != KEFS_BAD_JOURNAL) || image->bytes == NULL || image->layout == NULL) return;
+  struct finding finding = check_image(image);
+  if (finding.result == result) fail(image, result, "%s: %s", opening->path, finding.words);
 }
 
 static int open_image(struct kefs_image *image, const struct opening *opening) {
@@ -211,12 +310,15 @@ static int open_image(struct kefs_image *image, const struct opening *opening) {
   if (sysconf(_SC_PAGESIZE) != PAGE) return fail(image, ENOSYS, "pages of %ld bytes", sysconf(_SC_PAGESIZE));
   int result = this_generation(&image->generation);
   if (result != KEFS_OK) return fail(image, result, "beginning");
+  image->path = opening->path;
   image->read_only = (opening->flags & (KEFS_RDONLY | KEFS_SNAPSHOT)) != 0;
   int is_snapshot = (opening->flags & KEFS_SNAPSHOT) != 0;
   if (is_snapshot) result = begin_snapshot(image, limit_of(opening));
   if (result == KEFS_OK) result = lock_and_read(image, opening);
   if (result != KEFS_OK) return result;
   end_change(image);
+  result = check_created(image, opening);
+  if (result != KEFS_OK) return result;
   result = begin_tracking(image, is_snapshot ? 0 : opening->flags);
   return result == KEFS_OK ? KEFS_OK : fail(image, result, "tracking");
 }
@@ -225,15 +327,17 @@ static int open_new(kefs_image **to, const struct opening *opening) {
   struct kefs_image *image = new_image();
   if (image == NULL) return fail(NULL, ENOMEM, "a handle");
   int result = open_image(image, opening);
+  image->path = NULL;
+  if (result == KEFS_OK && image->snapshot == NULL) add_owner(image);
   if (result == KEFS_OK) return *to = image, KEFS_OK;
+  say_why(image, opening, result);
   keep_message(image);
   kefs_close(image);
   return result;
 }
 
 int kefs_open_with(kefs_image **to, const char *path, unsigned flags, const struct kefs_options *options) {
-  int cancel, result = check_flags(flags, options);
-  *to = NULL;
+  int cancel, result = check_opening(to, path, flags, options);
   if (result != KEFS_OK) return result;
   struct opening opening = {path, flags, {0}};
   if (options != NULL) opening.options = *options;

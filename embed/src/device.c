@@ -3,6 +3,7 @@
 #include "internal.h"
 #include <errno.h>
 #include <fcntl.h>
+#include <signal.h>
 #include <sys/uio.h>
 #include <unistd.h>
 
@@ -27,6 +28,20 @@ int move_high(int fd) {
   close(fd);
   errno = number;
   return moved;
+}
+
+/* Lengths */
+
+/* A file longer than the process may have is a signal, by default its end, and the error besides: a reader whose copy is a file in memory asks for none. */
+int set_length(int fd, off_t length) {
+  sigset_t too_long, before, pending;
+  sigemptyset(&too_long), sigaddset(&too_long, SIGXFSZ);
+  pthread_sigmask(SIG_BLOCK, &too_long, &before);
+  sigpending(&pending);
+  int number = ftruncate(fd, length) == 0 ? KEFS_OK : errno;
+  if (number == EFBIG && !sigismember(&pending, SIGXFSZ)) sigtimedwait(&too_long, NULL, &(struct timespec){0});
+  pthread_sigmask(SIG_SETMASK, &before, NULL);
+  return number;
 }
 
 /* Calls */
@@ -59,6 +74,23 @@ int read_all(int fd, void *to, size_t length, off_t offset) {
     at += made, length -= (size_t)made, offset += made;
   }
   return KEFS_OK;
+}
+
+off_t next_data(int fd, off_t at, off_t end, off_t *hole) {
+  off_t data = lseek(fd, at, SEEK_DATA);
+  if ((data < 0 && errno == ENXIO) || data >= end) return *hole = end;
+  if (data < 0) return *hole = end, at;
+  *hole = lseek(fd, data, SEEK_HOLE);
+  if (*hole <= data || *hole > end) *hole = end;
+  return data;
+}
+
+int read_data(int fd, void *to, size_t length, off_t offset) {
+  int number = KEFS_OK;
+  off_t end = offset + (off_t)length, hole;
+  for (off_t data = next_data(fd, offset, end, &hole); data < end && number == KEFS_OK; data = next_data(fd, hole, end, &hole))
+    number = read_all(fd, (unsigned char *)to + (data - offset), (size_t)(hole - data), data);
+  return number;
 }
 
 int sync_data(int fd) {
@@ -96,12 +128,12 @@ int take_rooms(struct kefs_image *image) {
   int result = take_journals(image);
   for (size_t i = 0; i < image->taken && result == KEFS_OK; i++) {
     uint32_t home = home_of(image, i);
-    if (!bit_of(image->roomless, home)) continue;
+    if (!may_lack_room(image, home)) continue;
     int number = take_room(image->fd, home_offset(image->layout, home), PAGE);
     if (number != KEFS_OK)
       return fail(image, device_result(number), "room for page %u of file %u: %s", (unsigned)image->pages[i].page, (unsigned)image->pages[i].file,
                   kefs_strerror(number));
-    clear_bit(image->roomless, home);
+    has_room_now(image, home);
   }
   return result;
 }

@@ -6,7 +6,9 @@
    kefs     kefs_commit alone, its stores made before
    calls    the device calls of that commit alone, as they were made, from ready buffers: what its plan costs at least
    stored   the stores and kefs_commit; msync: stores to a shared mapping and msync(MS_SYNC), which is not atomic; wal, delete: as many rows of a page in
-            SQLite, with a log and synchronous=FULL, and with a rollback journal; lmdb: in LMDB, as it is by default; each where its library is there
+            SQLite, with a log and synchronous=FULL, and with a rollback journal; lmdb: in LMDB, as it is by default; each where its library is there.
+            SQLite's log has its length before the first one, and is written over from its beginning, as it is in a program that has run for a while: a log that
+            was cut would grow in each commit
 
    bench worn FOLDER MIB COMMITS [SYNC]: times commits of one random page of one file of 4 MiB, and of one of MIB MiB, in turn, with each tracker, after
    a store to each 2 MiB of both; with scan, of all that is mapped and (ranges) of a range of that page.
@@ -201,7 +203,7 @@ static void open_sqlite(enum mode mode, const char *path, const char *journal) {
   execute(it->base, words, 0, 0, 0);
   execute(it->base, "create table t(id integer primary key, b blob)", 0, 0, 0);
   execute(it->base, "with recursive c(i) as (select 0 union all select i+1 from c where i<1023) insert into t select i, zeroblob(4000) from c", 0, 0, 0);
-  execute(it->base, "pragma wal_checkpoint(TRUNCATE)", 0, 0, 0);
+  execute(it->base, "pragma wal_checkpoint(RESTART)", 0, 0, 0);
   prepare(it->base, "update t set b=? where id=?", -1, &it->update, 0);
   prepare(it->base, "begin immediate", -1, &it->begin, 0), prepare(it->base, "commit", -1, &it->end, 0);
 }

@@ -1,0 +1,86 @@
+/* costs FOLDER: what calls may cost at most: of sparse files by what was ever written and not by their lengths, of waits next to nothing. Processor time and memory
+   are counted, which other work on the machine hardly changes. Each case is a process of its own (cases.h). */
+#define _GNU_SOURCE
+#define PROGRAM "costs"
+#include "cases.h"
+#include <pthread.h>
+#include <sys/resource.h>
+
+static double processor_seconds(void) { return seconds_of(CLOCK_PROCESS_CPUTIME_ID); }
+
+/* MiB that the process has in memory. */
+static size_t memory_now(void) {
+  size_t all, here;
+  FILE *facts = fopen("/proc/self/statm", "r");
+  CHECK(facts != NULL && fscanf(facts, "%zu %zu", &all, &here) == 2);
+  fclose(facts);
+  return here * PAGE >> 20;
+}
+
+static void make_sparse(uint32_t length, size_t count) {
+  struct kefs_file files[4];
+  for (size_t i = 0; i < count; i++) files[i] = (struct kefs_file){length, KEFS_FILE_SPARSE, NULL};
+  unlink(PATH);
+  DONE(kefs_format(PATH, 0600, files, count));
+}
+
+static void a_map_of_an_empty_file_is_cheap(void) {
+  make_sparse(1u << 31, 1);
+  size_t memory = memory_now();
+  double start = processor_seconds();
+  a = open_file(PATH, &image);
+  store(a + (1u << 30), 7);
+  DONE(kefs_commit(image, NULL, 0, NULL));
+  CHECK(processor_seconds() - start < 0.5 && memory_now() - memory < 40);
+  open_again();
+  CHECK(a[1u << 30] == 7 && a[(1u << 30) + PAGE] == 0 && a[0] == 0 && written() == 0);
+  CHECK(processor_seconds() - start < 1 && memory_now() - memory < 40);
+  DONE(kefs_close(image));
+}
+
+static void a_backup_of_empty_files_is_cheap(void) {
+  void *at;
+  make_sparse(UINT32_MAX, 4);
+  flags = KEFS_TRACK_CALLER | KEFS_LAZY;
+  a = open_file(PATH, &image);
+  store(a + (3u << 30), 7);
+  DONE(kefs_commit(image, NULL, 0, NULL));
+  store(a + (1u << 30), 8);
+  DONE(kefs_commit(image, NULL, 0, NULL));
+  double start = processor_seconds();
+  for (int i = 0; i < 2; i++) {
+    kefs_image *source = image, *copy;
+    if (i == 1) DONE(kefs_open(&source, PATH, KEFS_SNAPSHOT));
+    unlink("copy.img");
+    DONE(kefs_backup(source, "copy.img", 0600));
+    DONE(kefs_open(&copy, "copy.img", KEFS_RDONLY | KEFS_LAZY));
+    DONE(kefs_map(copy, 0, NULL, &at, NULL));
+    CHECK(((unsigned char *)at)[3u << 30] == 7 && ((unsigned char *)at)[1u << 30] == 8 && ((unsigned char *)at)[0] == 0);
+    DONE(kefs_close(copy));
+    if (i == 1) DONE(kefs_close(source));
+  }
+  CHECK(processor_seconds() - start < 2);
+  DONE(kefs_close(image));
+}
+
+static void *open_it(void *unused) {
+  a = open_file(PATH, &image);
+  return unused;
+}
+
+static void a_wait_takes_hardly_any_time_of_a_processor(void) {
+  pthread_t thread;
+  kefs_image *other;
+  struct kefs_options options = {.size = sizeof options, .wait = 3000};
+  make_file(PATH, PAGES, 0);
+  CHECK(pthread_create(&thread, NULL, open_it, NULL) == 0 && pthread_join(thread, NULL) == 0);
+  double start = now(), before = processor_seconds();
+  RETURNS(KEFS_BUSY, kefs_open_with(&other, PATH, 0, &options));
+  CHECK(now() - start > 2.9 && processor_seconds() - before < 0.010);
+  DONE(kefs_close(image));
+}
+
+static const struct test with_each_tracker[] = {TEST(a_map_of_an_empty_file_is_cheap)};
+static const struct test once[] = {TEST(a_backup_of_empty_files_is_cheap), TEST(a_wait_takes_hardly_any_time_of_a_processor)};
+
+int main(int argc, char **argv) { return argc < 2 ? 2 : run_cases(argv, once, COUNT_OF(once), with_each_tracker, COUNT_OF(with_each_tracker)); }
