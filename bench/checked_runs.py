@@ -1,5 +1,6 @@
 """Runs of the built programs against the flat model: every reply, every file, and which device failed. What bench/soak and tests/faults share."""
 import copy
+import functools
 import os
 import subprocess
 import sys
@@ -11,7 +12,9 @@ from flat_model import NOFRAMES, NOSWAP, STOREDEV, SWAPDEV, command_of, open_sta
 
 HERE = os.path.dirname(os.path.abspath(__file__))
 TOP = os.path.dirname(HERE)
-PROGRAMS = os.environ.get("SOAK_PROGRAMS", f"{TOP}/crates")
+sys.path.insert(0, f"{TOP}/tools")
+from built import built  # noqa: E402
+
 STOPPED = 70
 
 
@@ -40,11 +43,13 @@ class Told:
     stalls: Counter = field(default_factory=Counter)
 
 
+@functools.cache
 def program(name):
-    path = f"{PROGRAMS}/{name}/out/{name}"
-    if not os.access(path, os.X_OK):
-        sys.exit(f"{os.path.basename(sys.argv[0])}: {path} is not built; run ./demo first")
-    return path
+    found = built((name,))
+    if not found:
+        sys.exit(f"{os.path.basename(sys.argv[0])}: {name} is not built; run ./demo first")
+    print(f"{name} is that of {found.told}", file=sys.stderr)
+    return found.path(name)
 
 
 def may_stall(model, command, effect, reply, setting):

@@ -1,4 +1,4 @@
-"""The flat model, written apart, sharing no code: the replies to a trace's lines, and what is durable. Written from docs/MODEL.md and
+"""The flat model, written apart, sharing no code: the replies to a trace's lines, and what is durable. Written from docs/THEOREM.md and
 docs/FORMATS.md alone. Processes are maps from page to view, and files rows of bytes."""
 import re
 from collections import deque

@@ -2,6 +2,7 @@
 import os
 import re
 
+WAITING = re.compile(r"  [\d:]+ waiting for rt try, .*")
 TOP = os.path.dirname(os.path.dirname(os.path.abspath(__file__)))
 
 
@@ -18,7 +19,9 @@ def part_of(name):
 
 
 def shape_of(lines):
-    """Lines without their times, without how many msyncs came before kills, and without what a plain file was like after them."""
-    text = re.sub(r"\b\d+:\d\d\b", "M:SS", "\n".join(lines))
+    """Lines without their times, without how many msyncs came before kills, without what a plain file was like after them, and without what says that something is
+    waited for, or of which sources the programs are."""
+    text = re.sub(r"\b\d+:\d\d\b", "M:SS", "\n".join(it for it in lines if not WAITING.fullmatch(it)))
+    text = re.sub(r", which \S+ has proved, of .*", ", proved", text)
     text = re.sub(r"(tools/kills --plain\n  )killed .*", r"\1killed", text)
     return re.sub(r"killed \d+ times, \d+ msyncs acknowledged", "killed", text).split("\n")
