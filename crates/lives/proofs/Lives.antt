@@ -80,14 +80,14 @@ module _ {D E : Type 0} (g : Ghosts D) (h : Ghosts E) where
       inl (record { old = store; new = new; opens = record { size = refl; held = refl; synced = synced; keeps = keeps; stands = stands }; left = left; none = refl })
 
   -- the machine after all commands
-  at_end : (old : Machine D E) (s : State) (commands : List Command) (replies : List Reply) (events : List Event) (new : Machine D E) (t : State)
+  pub at_end : (old : Machine D E) (s : State) (commands : List Command) (replies : List Reply) (events : List Event) (new : Machine D E) (t : State)
       → (c : Chain g h old s commands replies events new t) → after g h old s commands replies events new t c (length commands) ≡ new
   at_end old s [] [] [] new t c = sym c.0
   at_end old s (x ∷ xs) (r ∷ rs) (e ∷ es) new t c = at_end c.0 c.1 xs rs es new t c.4
   at_end old s commands replies es new t c = absurd c
 
   -- a run
-  pub ran : ((d : D) (t : ℕ) (image : Image) → g.keeps_model d → t ≤ g.moment d → MayLeave (g.content d) (g.unsynced d) image → g.left_since d t image)
+  abbrev pub ran : ((d : D) (t : ℕ) (image : Image) → g.keeps_model d → t ≤ g.moment d → MayLeave (g.content d) (g.unsynced d) image → g.left_since d t image)
       → (store : D) (old new : Machine D E) (commands : List Command) (replies : List Reply) → g.keeps_model (store_of old) → g.keeps_model (store_of new)
       → g.sector_count (store_of old) ≡ g.sector_count store
       → (((k : ℕ) → g.unsynced store k → ⊥) → LeavesOnly g store (store_of old) (StandsAs (g.sector_count store) (g.content store)))

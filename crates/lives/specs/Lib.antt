@@ -1,4 +1,5 @@
 pub mod Flat
 pub mod Formatted
+pub mod Hardware
 pub mod Lives
 pub mod Upgraded

@@ -19,9 +19,10 @@ ghost use Rattle.vm_types.specs.Run.{Run};
 ghost use Rattle.vm_types.specs.State.{State};
 ghost use Rattle.vm_types.specs.View.{Pages};
 ghost use Rattle.machine.specs.Engine.{StandsForSome};
-ghost use Rattle.machine.specs.Boot.{Boots};
+ghost use Rattle.machine.specs.Boot.{BootLeaves, Boots};
 ghost use Rattle.machine.specs.Chain.{Chain};
-ghost use Rattle.machine.specs.Machine.{store_of, swap_of};
+ghost use Rattle.machine.specs.Hardware.{HardwareSteps};
+ghost use Rattle.machine.specs.Machine.{store_of, swap_of, IsSoundMachine};
 ghost use Rattle.machine.specs.declared.config.Config.{Config};
 ghost use Rattle.machine.specs.declared.machine.Machine.{Machine};
 ghost use Rattle.runner.specs.declared.engine.RunEnd.{RunEnd};
@@ -29,6 +30,7 @@ ghost use Rattle.runner.specs.Starting.{RunsOn};
 ghost use Rattle.runner.specs.Trace.{RunsTrace, Streams};
 ghost use Rattle.lives.specs.Flat.{causes_in};
 ghost use Rattle.lives.specs.Formatted.{AreSourcesBytes, StandsForSources, IsFormattedStore};
+ghost use Rattle.lives.specs.Hardware.{LivesThrough};
 ghost use Rattle.lives.specs.Lives.{HoldsLives, IsAtFirst, Life, Lives, IsLeftBy, LeftInLives, RanSince, stopped_in_first, stopped_in_second};
 ghost use Rattle.lives.specs.Upgraded.{IsUpgradedStore};
 
@@ -133,4 +135,14 @@ pub fn flat_run<D: SectorDisk, E: SectorDisk>(_store: &D, _swap: &E)
     ensures { (old : Machine D E) (s : State) (commands : List Command) (replies : List Reply) (events : List Event) (new : Machine D E) (t : State)
         → (chain : Chain D.SectorDisk E.SectorDisk old s commands replies events new t)
         → Run (causes_in D.SectorDisk E.SectorDisk old s commands replies events new t chain) 0 s commands replies t }
+{}
+
+/// A machine that booted on a store and went on on hardware, which made accesses by itself where its tables granted them, lives a life of the store,
+/// wherever a stop comes: that of all commands, those of the accesses among them.
+pub fn hardware_life<D: SectorDisk, E: SectorDisk>(_store: &D, _swap: &E)
+    ensures { (store : D) (old new : Machine D E) (commands : List Command) (replies : List Reply)
+        → IsSoundMachine D.SectorDisk E.SectorDisk old → D.sector_count (store_of old) ≡ D.sector_count store
+        → BootLeaves D.SectorDisk store (store_of old) → Boots D.SectorDisk E.SectorDisk store old
+        → (steps : HardwareSteps D.SectorDisk E.SectorDisk old commands replies new) → D.keeps_model (store_of new) → E.keeps_model (swap_of new)
+        → LivesThrough D.SectorDisk E.SectorDisk store old new commands replies steps }
 {}

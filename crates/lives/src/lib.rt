@@ -12,7 +12,7 @@ mod laws;
 mod life;
 
 pub use laws::{
-    boot_after_lives, flat_run, formatted_lives, lives_boot, lives_in_a_row, new_store,
-    one_content, one_more_life, trace_life, two_lives, upgraded_lives, upgraded_store,
+    boot_after_lives, flat_run, formatted_lives, hardware_life, lives_boot, lives_in_a_row,
+    new_store, one_content, one_more_life, trace_life, two_lives, upgraded_lives, upgraded_store,
 };
 pub use life::live;

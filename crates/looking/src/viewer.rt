@@ -264,7 +264,7 @@ fn follow<W: Write, D: SectorDisk, E: SectorDisk>(
     ensures answers { (text : List ℕ) × Answers D.SectorDisk E.SectorDisk machine.old line.now text machine.new }
 {
     let pending = match parse_line(line) {
-        Ok(command) => Some(Pending::new(command, machine)),
+        Ok(command) => Some(Pending::new(command, ledger, machine)),
         Err(_) => None,
     };
     let count = reply_to(line, machine, text, out)?;

@@ -6,6 +6,9 @@ pub mod Commits
 pub mod Counts
 pub mod Face
 pub mod Flat
+pub mod Hardware
+pub mod HardwareTells
+pub mod HardwareWalks
 pub mod Prefixes
 pub mod Runs
 pub mod Steps

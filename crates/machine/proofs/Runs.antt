@@ -233,7 +233,7 @@ module _ {D E : Type 0} (g : Ghosts D) (h : Ghosts E) where
         shows = (face g h mid new ran.last m.0 x r m.1).shows;
       }
 
-  pub all_ran : (old new : Machine D E) (s : State) (commands : List Command) (replies : List Reply)
+  abbrev pub all_ran : (old new : Machine D E) (s : State) (commands : List Command) (replies : List Reply)
       → ((d : D) (i : Image) → g.keeps_model d → g.left_since d (g.moment d) i → MayLeave (g.content d) (g.unsynced d) i) → Shows g h old s
       → RanSoFar old new s commands replies → Runs g h old new commands replies s
   all_ran old new s commands replies only_now shows ran = record {

@@ -7,5 +7,6 @@ pub mod Engine
 pub mod EngineBoot
 pub mod EngineCommands
 pub mod Fault
+pub mod Hardware
 pub mod Machine
 pub mod Tidy

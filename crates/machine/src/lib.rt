@@ -8,10 +8,14 @@ mod boot;
 mod config;
 mod engine;
 mod fault_log;
+mod laws;
 mod machine;
 mod syncs;
 
 pub use boot::{BootFault, MAX_SLOTS};
 pub use config::Config;
 pub use engine::Engine;
+pub use laws::{
+    hardware_access, hardware_fence, hardware_goes_on, hardware_run, hardware_store, hardware_tells,
+};
 pub use machine::Machine;

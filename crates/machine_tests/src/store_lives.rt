@@ -2,10 +2,13 @@
 use crate::bench::{Call, End, command, equal, image, left, reply, with_swap};
 use disk_model::{SectorDisk, SimDisk};
 use lives::{
-    boot_after_lives, flat_run, formatted_lives, live, lives_boot, lives_in_a_row, new_store,
-    one_content, one_more_life, trace_life, two_lives, upgraded_lives, upgraded_store,
+    boot_after_lives, flat_run, formatted_lives, hardware_life, live, lives_boot, lives_in_a_row,
+    new_store, one_content, one_more_life, trace_life, two_lives, upgraded_lives, upgraded_store,
 };
-use machine::Config;
+use machine::{
+    Config, hardware_access, hardware_fence, hardware_goes_on, hardware_run, hardware_store,
+    hardware_tells,
+};
 use runner::Devices;
 use std::process::Abort;
 use vm_types::{Mode, Reply};
@@ -110,6 +113,13 @@ fn laws_hold(rt: HostRuntime) {
     upgraded_lives(&store, &store);
     trace_life(&store, &store);
     flat_run(&store, &store);
+    hardware_access(&store, &store);
+    hardware_tells(&store, &store);
+    hardware_goes_on(&store, &store);
+    hardware_fence(&store, &store);
+    hardware_store(&store, &store);
+    hardware_run(&store, &store);
+    hardware_life(&store, &store);
     one_content();
     two_lives();
 }

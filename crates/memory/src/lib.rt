@@ -6,6 +6,7 @@
 #![tactic(auto)]
 
 mod buffer;
+mod laws;
 mod line;
 mod memory;
 mod notes;
@@ -13,6 +14,7 @@ mod trees;
 mod walking;
 
 pub use buffer::{LINES, TranslationBuffer, lets};
+pub use laws::hardware_write;
 pub use line::Line;
 pub use memory::Memory;
 pub use notes::{forget_pages, is_kind, kinds_over, page_over};

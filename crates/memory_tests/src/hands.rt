@@ -2,7 +2,7 @@
 ghost use Rattle.std.specs.Prelude.{◌≡◌, ◌<◌, ◌↔◌, ℕ, true, false, slice_index_or};
 
 use crate::bench::equal;
-use clock_replace::{Clock, FrameView, NoVictim};
+use clock_replace::{Clock, FrameView, NoVictim, second_chance};
 use disk_model::Count;
 use vm_types::FrameNo;
 
@@ -83,6 +83,7 @@ fn two_victims_in_a_row(rt: HostRuntime) {
         };
         let first = clock.victim(&mut row);
         let second = clock.victim(&mut row);
+        second_chance(&row);
         equal(&rt, ([first, second], row.marked), (victims, left));
     }
 }

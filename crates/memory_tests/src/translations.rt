@@ -35,6 +35,8 @@ fn a_kept_leaf_is_found_until_it_is_dropped(rt: HostRuntime) {
     let page = Vpn::new::<Sv39>(17).expect(&rt, "a user page");
     let twin = Vpn::new::<Sv48>((1 << 34) + 17).expect(&rt, "a user page");
     let frame = Some(FrameNo(5));
+    frames::hardware_write();
+    memory::hardware_write();
     let mut buffer = TranslationBuffer::new();
     for (step, found) in [
         (Step::DropRoot(root), None),

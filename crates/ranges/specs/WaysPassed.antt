@@ -27,7 +27,7 @@ module _ {mode : ℕ} where
     pub table : (r : ℕ) → c.root part.pid ≡ Some r → IsTableOf c.frames (top_level mode) r (part.first / table_entries) part.table.0
 
   -- On the way to each page of a process from one up to, not including, an end
-  pub record IsUnlinked (c : Picture mode) (pid page end : ℕ) : Type 0 where
+  pub record HaveNoWholeWay (c : Picture mode) (pid page end : ℕ) : Type 0 where
     -- a table is missing, and so it has no entry.
     pub passed : (p : ℕ) → page ≤ p → p < end → IsWhole c pid p → ⊥
     pub gap : (p : ℕ) → page ≤ p → p < end → entry c pid p ≡ 0
@@ -42,7 +42,7 @@ module _ {mode : ℕ} where
     pub ends : part.end ≡ min end ((part.first / table_entries + 1) * table_entries)
     -- past those on whose way a table is missing.
     pub from : page ≤ part.first
-    pub unlinked : IsUnlinked c pid page part.first
+    pub unlinked : HaveNoWholeWay c pid page part.first
 
   -- Of the pages of a process from one on, a search for those of one table finds
   pub record FindsPart (c : Picture mode) (pid page : ℕ) (part : LinkedPart) : Type 0 where

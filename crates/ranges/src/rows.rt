@@ -8,7 +8,7 @@ ghost use Rattle.residency.specs.Parts.{IsFit, IsRootedBut};
 ghost use Rattle.residency.specs.Ways.{IsWhole};
 ghost use Rattle.ranges.specs.Rows.{IsUnmapped, IsNextPart};
 ghost use Rattle.ranges.specs.Steps.{IsGapEnd};
-ghost use Rattle.ranges.specs.WaysPassed.{FindsLinked, FindsPart, IsUnlinked, IsUserRow, PassesGap};
+ghost use Rattle.ranges.specs.WaysPassed.{FindsLinked, FindsPart, HaveNoWholeWay, IsUserRow, PassesGap};
 
 use crate::entries::next_set;
 use memory::{Memory, last_table};
@@ -122,7 +122,7 @@ pub(crate) fn next_linked<D, E, M: Levels>(
     requires rooted { IsRootedBut (picture_of core.now) 0 }
     requires live { is_live (picture_of core.now) pid ≡ true }
     requires row { IsUserRow M.mode page end }
-    ensures none { IfNone result (IsUnlinked (picture_of core.now) pid page end) }
+    ensures none { IfNone result (HaveNoWholeWay (picture_of core.now) pid page end) }
     ensures some { IfSome result (FindsLinked (picture_of core.now) pid page end) }
 {
     let root = root_of(core, pid);

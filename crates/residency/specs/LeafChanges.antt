@@ -12,7 +12,8 @@ use Rattle.residency.specs.declared.searches.LeafSearch.{LeafSearch}
 use Rattle.residency.specs.declared.searches.LiveProcess.{LiveProcess}
 use Rattle.residency.specs.Picture.{Picture, picture_of, is_data}
 use Rattle.residency.specs.Parts.{IsFit}
-use Rattle.residency.specs.Leaves.{AreKinds, Holds, IsOver, IsFirstOver, IsClear, ChangesLeaves, KeepsAllButFrames}
+use Rattle.residency.specs.Contents.{HasContent}
+use Rattle.residency.specs.Leaves.{AreKinds, IsOver, IsFirstOver, IsClear, ChangesLeaves, KeepsAllButFrames}
 
 -- frame n of memory that is fit holds a page of a process, a file or an object
 module _ {mode : ℕ} where
@@ -20,6 +21,12 @@ module _ {mode : ℕ} where
     pub fit : IsFit c
     pub inside : IsFrame c.frames n
     pub role : is_data (role_of c.frames n) ≡ true
+
+-- memory is fit, and the frame over which entries are looked for holds what it is said to
+module _ {mode : ℕ} where
+  pub record IsSearchIn (c : Picture mode) (s : LeafSearch) : Type 0 where
+    pub has : HasData c s.frame.0
+    pub holds : HasContent c s.frame.0 s.content
 
 -- the process lives in memory that is fit
 module _ {mode : ℕ} where
@@ -42,7 +49,7 @@ module _ {mode : ℕ} where
 -- the frame holds what it is said to, and entries are forgotten only over one that holds a page of a file or an object
 module _ {mode : ℕ} where
   pub record IsChangeable (c : Picture mode) (s : LeafSearch) : Type 0 where
-    pub holds : Holds c s.frame.0 s.held
+    pub holds : HasContent c s.frame.0 s.content
     pub filed : s.change ≡ Forget → role_of c.frames s.frame.0 ≡ Cache
 
 -- the first page of a process from a page on that has an entry which is looked for, or none where no page has

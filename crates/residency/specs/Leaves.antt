@@ -10,13 +10,10 @@ use Rattle.frames.specs.FrameTable.{frame_count, bytes_of, role_of, count_of}
 use Rattle.sv39_walk.specs.Entry.{is_valid, can_read, can_write, can_execute, is_accessed, is_dirty, frame_of}
 use Rattle.page_tables.specs.Tree.{IsPage, Points, last_table}
 use Rattle.regions.specs.declared.run.Run.{Run}
-use Rattle.page_cache.specs.declared.place.Place.TheVariants.{Frame}
 use Rattle.memory.specs.Notes.{HasKind}
 use Rattle.residency.specs.declared.kernel.Core.{Core}
 use Rattle.residency.specs.declared.leaves.Change.{Change}
 use Rattle.residency.specs.declared.leaves.Change.TheVariants.{Forget, ClearAccessed, ClearDirty}
-use Rattle.residency.specs.declared.leaves.Held.{Held}
-use Rattle.residency.specs.declared.leaves.Held.TheVariants.{Own, Filed}
 use Rattle.residency.specs.Seats.{is_private, is_swapped}
 use Rattle.residency.specs.Picture.{Picture, entry, view}
 use Rattle.residency.specs.Steps.{SameBeside}
@@ -55,12 +52,6 @@ module _ {mode : ℕ} where
     pub user : k < user_end mode
     pub over : IsOver c change n pid k
     pub before : (j : ℕ) → low ≤ j → j < k → IsOver c change n pid j → ⊥
-
--- what a frame holds
-module _ {mode : ℕ} where
-  abbrev pub Holds : Picture mode → ℕ → Held → Type 0
-  Holds c n (Own page) = (role_of c.frames n ≡ Role.Private) × (c.page_of n ≡ page)
-  Holds c n (Filed p) = c.place p ≡ Frame (record { 0 = n })
 
 -- a leaf lost a bit that grants nothing
 pub record Drops (old new : ℕ) : Type 0 where

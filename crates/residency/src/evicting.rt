@@ -9,8 +9,9 @@ ghost use Rattle.residency.specs.Parts.{IsFit};
 ghost use Rattle.residency.specs.Calls.{NeedsSlot};
 ghost use Rattle.residency.specs.Evictions.{MayGoToSwap, Evicts, SendsHome};
 
+use crate::contents::{Content, content_of};
 use crate::kernel::Core;
-use crate::leaves::{Held, forget_leaves, held_in};
+use crate::leaves::forget_leaves;
 use crate::shares::hand_over;
 use disk_model::SectorDisk;
 use page_cache::Place;
@@ -25,7 +26,7 @@ pub(crate) fn send_home<D, E, M: Levels>(core: &mut Core<D, E, M>, victim: Frame
     requires untouched { (picture_of core.old).touched page ≡ false }
     ensures { SendsHome core.old core.new victim.0 }
 {
-    forget_leaves(core, victim);
+    forget_leaves(core, victim, page);
     core.cache.set_place(page, Place::Home);
     core.frames.release(victim);
 }
@@ -44,7 +45,7 @@ fn send_away<D, E: SectorDisk, M: Levels>(
     requires touched { (picture_of core.old).touched page ≡ true }
     ensures { Evicts E.SectorDisk core.old core.new victim.0 result }
 {
-    forget_leaves(core, victim);
+    forget_leaves(core, victim, page);
     match core.swap.put(core.frames.bytes(victim)) {
         Ok(slot) => {
             core.cache.set_place(page, Place::Slot(slot));
@@ -56,21 +57,23 @@ fn send_away<D, E: SectorDisk, M: Levels>(
     }
 }
 
-/// Gives up a private frame, whose copies are in a slot then. A slot is free.
+/// Gives up a private frame, whose copies of that page are in a slot then. A slot is free.
 ///
 /// # Errors
 /// `SwapDevice` only where the swap device failed.
 fn send_copies<D, E: SectorDisk, M: Levels>(
     core: &mut Core<D, E, M>,
     victim: FrameNo,
+    page: u64,
 ) -> Result<(), Stall>
     requires goes { MayGoToSwap E.SectorDisk core.old victim.0 }
     requires role { role_of core.old.frames victim.0 ≡ Roles.Private }
+    requires noted { (picture_of core.old).page_of victim.0 ≡ page }
     ensures { Evicts E.SectorDisk core.old core.new victim.0 result }
 {
     match core.swap.put(core.frames.bytes(victim)) {
         Ok(slot) => {
-            hand_over(core, victim, slot);
+            hand_over(core, victim, page, slot);
             Ok(())
         }
         Err(PutFault::Full) => unreachable!(),
@@ -93,9 +96,9 @@ pub(crate) fn evict<D, E: SectorDisk, M: Levels>(
     requires room { NeedsSlot (picture_of core.old) victim.0 → IsSwapFull (slots_of core.old.swap) → ⊥ }
     ensures { Evicts E.SectorDisk core.old core.new victim.0 result }
 {
-    match held_in(core, victim) {
-        Held::Own(_) => send_copies(core, victim),
-        Held::Filed(page) => {
+    match content_of(core, victim) {
+        Content::Own(page) => send_copies(core, victim, page),
+        Content::Page(page) => {
             if core.cache.is_touched(page) {
                 send_away(core, victim, page)
             } else {

@@ -12,12 +12,13 @@ ghost use Rattle.residency.specs.Parts.{IsFit};
 ghost use Rattle.residency.specs.declared.leaves.Change.{Change};
 ghost use Rattle.residency.specs.declared.leaves.Change.TheVariants as Kinds;
 ghost use Rattle.page_cache.specs.declared.place.Place.TheVariants.{Frame};
-ghost use Rattle.residency.specs.Leaves.{concerns, IsOver, IsChanged, Holds, HasEntryOver, AreKinds, IsPageOver, key_after};
-ghost use Rattle.residency.specs.LeafChanges.{HasData, LivesIn, IsAmong, IsOnlyOver, IsChangeable, FindsFirst, ClearsPage, ClearsProcess, ClearsFrame};
+ghost use Rattle.residency.specs.Contents.{HasContent};
+ghost use Rattle.residency.specs.Leaves.{concerns, IsOver, IsChanged, HasEntryOver, AreKinds, IsPageOver, key_after};
+ghost use Rattle.residency.specs.LeafChanges.{HasData, LivesIn, IsAmong, IsOnlyOver, IsChangeable, IsSearchIn, FindsFirst, ClearsPage, ClearsProcess, ClearsFrame};
 
+use crate::contents::{Content, content_of};
 use crate::kernel::{Core, PLACES};
 use crate::searches::{LeafSearch, LiveProcess};
-use frames::Role;
 use memory::{entry, entry_number, forget_pages, is_kind, kinds_over, set};
 use page_tables::Entry;
 use regions::Run;
@@ -33,30 +34,6 @@ pub enum Change {
     ClearAccessed,
     /// D is cleared.
     ClearDirty,
-}
-
-/// What a frame holds.
-#[derive(Clone, Copy)]
-pub(crate) enum Held {
-    /// The own copy of that page.
-    Own(u64),
-    /// That page of a file or an object.
-    Filed(PageKey),
-}
-
-/// What the frame holds.
-pub(crate) fn held_in<D, E, M: Levels>(core: &Core<D, E, M>, frame: FrameNo) -> Held
-    requires { HasData (picture_of core.now) frame.0 }
-    ensures holds { Holds (picture_of core.now) frame.0 result }
-    ensures above { 0 < frame.0 }
-{
-    match core.frames.role(frame) {
-        Role::Private => Held::Own(core.page_of[frame.0 as usize]),
-        _ => match core.cache.page_in_frame(frame) {
-            Some(page) => Held::Filed(page),
-            None => unreachable!(),
-        },
-    }
 }
 
 /// Whether the change is for that entry.
@@ -94,15 +71,15 @@ pub(crate) fn find_in<D, E, M: Levels>(
     search: &LeafSearch,
 ) -> Option<Vpn>
     requires lives { LivesIn (picture_of core.now) process }
-    requires holds { Holds (picture_of core.now) search.now.frame.0 search.now.held }
+    requires holds { HasContent (picture_of core.now) search.now.frame.0 search.now.content }
     ensures { FindsFirst (picture_of core.now) search.now process.pid low result }
 {
-    match search.held {
-        Held::Own(page) => match Vpn::new::<M>(page) {
+    match search.content {
+        Content::Own(page) => match Vpn::new::<M>(page) {
             Some(at) => find_at(core, process, low, at, search),
             None => None,
         },
-        Held::Filed(page) => match memory::page_over(&core.frames, search.frame) {
+        Content::Page(page) => match memory::page_over(&core.frames, search.frame) {
             Some(at) => find_at(core, process, low, at, search),
             None => find_standing(core, process, low, page, search),
         },
@@ -261,60 +238,66 @@ pub fn change_leaves<D, E, M: Levels>(core: &mut Core<D, E, M>, frame: FrameNo, 
     requires filed { change ≡ Kinds.Forget → role_of core.old.frames frame.0 ≡ Roles.Cache }
     ensures { ClearsFrame change frame.0 core.old core.new }
 {
-    let held = held_in(core, frame);
-    let kinds = kinds_of(core, held, frame);
     let search = LeafSearch {
         frame,
-        held,
+        content: content_of(core, frame),
         change,
     };
+    change_all(core, &search);
+}
+
+/// Changes so each entry over the frame, where it is known what that holds.
+fn change_all<D, E, M: Levels>(core: &mut Core<D, E, M>, search: &LeafSearch)
+    requires has { HasData (picture_of core.old) search.now.frame.0 }
+    requires held { IsChangeable (picture_of core.old) search.now }
+    ensures { ClearsFrame search.now.change search.now.frame.0 core.old core.new }
+{
+    let kinds = kinds_of(core, search);
     for pid in 1..PLACES {
-        change_of(core, pid, kinds, &search);
+        change_of(core, pid, kinds, search);
     }
 }
 
-/// Forgets each entry over a frame that holds a page of a file or an object, in the tables of all processes, and the notes of
+/// Forgets each entry over the frame of a page of a file or an object, in the tables of all processes, and the notes of
 /// which pages name it: no process sees it. So a frame that is taken again begins with no note.
-pub(crate) fn forget_leaves<D, E, M: Levels>(core: &mut Core<D, E, M>, frame: FrameNo)
+pub(crate) fn forget_leaves<D, E, M: Levels>(
+    core: &mut Core<D, E, M>,
+    frame: FrameNo,
+    page: PageKey,
+)
     requires fit { IsFit (picture_of core.old) }
     requires inside { IsFrame core.old.frames frame.0 }
-    requires filed { role_of core.old.frames frame.0 ≡ Roles.Cache }
+    requires placed { (picture_of core.old).place page ≡ Frame frame }
     ensures { ClearsFrame Kinds.Forget frame.0 core.old core.new }
 {
-    change_leaves(core, frame, Change::Forget);
+    let search = LeafSearch {
+        frame,
+        content: Content::Page(page),
+        change: Change::Forget,
+    };
+    change_all(core, &search);
     forget_pages(&mut core.frames, frame);
 }
 
 /// The kinds of the roots in whose trees there may be entries over a frame that holds a page. Own copies aren't noted.
-fn kinds_of<D, E, M: Levels>(core: &Core<D, E, M>, held: Held, frame: FrameNo) -> u64
-    requires has { HasData (picture_of core.now) frame.0 }
-    requires holds { Holds (picture_of core.now) frame.0 held }
-    ensures { (change : Change) → AreKinds (picture_of core.now) change frame.0 result }
+fn kinds_of<D, E, M: Levels>(core: &Core<D, E, M>, search: &LeafSearch) -> u64
+    requires { IsSearchIn (picture_of core.now) search.now }
+    ensures { AreKinds (picture_of core.now) search.now.change search.now.frame.0 result }
 {
-    match held {
-        Held::Own(_) => u64::MAX,
-        Held::Filed(_) => kinds_over(&core.frames, frame),
+    match search.content {
+        Content::Own(_) => u64::MAX,
+        Content::Page(_) => kinds_over(&core.frames, search.frame),
     }
 }
 
 /// Whether the change is for an entry over a frame that holds a page.
-pub(crate) fn has_leaf<D, E, M: Levels>(
-    core: &Core<D, E, M>,
-    frame: FrameNo,
-    change: Change,
-) -> bool
-    requires { HasData (picture_of core.now) frame.0 }
-    ensures { (result ≡ true) ↔ HasEntryOver (picture_of core.now) change frame.0 }
+pub(crate) fn has_leaf<D, E, M: Levels>(core: &Core<D, E, M>, search: &LeafSearch) -> bool
+    requires { IsSearchIn (picture_of core.now) search.now }
+    ensures { (result ≡ true) ↔ HasEntryOver (picture_of core.now) search.now.change search.now.frame.0 }
 {
-    let held = held_in(core, frame);
-    let kinds = kinds_of(core, held, frame);
-    let search = LeafSearch {
-        frame,
-        held,
-        change,
-    };
+    let kinds = kinds_of(core, search);
     for pid in 1..PLACES {
-        if has_leaf_in(core, pid, kinds, &search) {
+        if has_leaf_in(core, pid, kinds, search) {
             return true;
         }
     }
@@ -330,7 +313,7 @@ fn has_leaf_in<D, E, M: Levels>(
 ) -> bool
     requires among { IsAmong (picture_of core.now) search.now kinds }
     requires number { pid < 65 }
-    requires holds { Holds (picture_of core.now) search.now.frame.0 search.now.held }
+    requires holds { HasContent (picture_of core.now) search.now.frame.0 search.now.content }
     ensures some { result ≡ true → HasEntryOver (picture_of core.now) search.now.change search.now.frame.0 }
     ensures none { result ≡ false → (page : ℕ) → IsPage (top_level M.mode) page → IsOver (picture_of core.now) search.now.change search.now.frame.0 pid page → ⊥ }
 {

@@ -17,6 +17,7 @@
 //! Within a call the count of one seat may be off, and one table in no tree (`IsFitBut`).
 #![tactic(auto)]
 
+mod contents;
 mod evicting;
 mod forgetting;
 mod kernel;
@@ -29,7 +30,8 @@ mod shares;
 mod steps;
 mod views;
 
+pub use contents::{Content, content_of};
 pub use kernel::{Core, PLACES};
 pub use leaves::{Change, change_leaves, page_over};
 pub use obtaining::obtain;
-pub use views::{Content, content_of, next_over, root_of};
+pub use views::{next_over, root_of};

@@ -1,18 +1,19 @@
 //! The choice of a frame to be given up.
-ghost use Rattle.std.specs.Prelude.{◌≡◌, ◌≢◌, ◌<◌, ◌+◌, ◌↔◌, ℕ, true};
+ghost use Rattle.std.specs.Prelude.{◌≡◌, ◌≢◌, ◌<◌, ◌+◌, ◌↔◌, ℕ, true, IfSome, IfNone};
 ghost use Rattle.std.proofs.Common.{refl, ◌∙◌};
-ghost use Rattle.frames.specs.FrameTable.{frame_count, IsFrame};
+ghost use Rattle.frames.specs.FrameTable.{frame_count};
 ghost use Rattle.residency.specs.Picture.{picture_of};
 ghost use Rattle.residency.specs.Parts.{IsFit};
-ghost use Rattle.residency.specs.Calls.{IsSpareable, NeedsSlot};
-ghost use Rattle.residency.specs.LeafChanges.{HasData};
+ghost use Rattle.residency.specs.Calls.{IsSpareable};
+ghost use Rattle.residency.specs.Contents.{HasContent, HasFrame, goes_to_swap};
 ghost use Rattle.residency.specs.Evictions.{IsAccessed, IsEvictable};
 ghost use Rattle.residency.specs.Views.{FindsVictim};
 
+use crate::contents::{Content, content_in};
 use crate::kernel::Core;
 use crate::leaves::{Change, change_leaves, has_leaf};
+use crate::searches::LeafSearch;
 use clock_replace::{FrameView, NoVictim};
-use frames::Role;
 use vm_types::{FrameNo, Levels};
 
 impl<D, E, M: Levels> FrameView for Core<D, E, M> {
@@ -36,13 +37,22 @@ impl<D, E, M: Levels> FrameView for Core<D, E, M> {
 
     fn evictable(&mut self, n: u32) -> bool {
         self.looks.raise();
-        let frame = FrameNo(n);
-        is_spareable(self, self.keep, frame) && (!needs_slot(self, frame) || !self.swap.is_full())
+        is_evictable(self, FrameNo(n))
     }
 
     fn accessed(&self, n: u32) -> bool {
         let frame = FrameNo(n);
-        is_spareable(self, None, frame) && has_leaf(self, frame, Change::ClearAccessed)
+        match content_in(self, frame) {
+            Some(content) => {
+                let search = LeafSearch {
+                    frame,
+                    content,
+                    change: Change::ClearAccessed,
+                };
+                has_leaf(self, &search)
+            }
+            None => false,
+        }
     }
 
     fn clear(&mut self, n: u32) {
@@ -54,39 +64,44 @@ impl<D, E, M: Levels> FrameView for Core<D, E, M> {
     ghost goes_on = { λ a b c p q. record { kept = q.kept ∙ p.kept; marks = λ s f. q.marks s (p.marks s f); full = λ f. q.full (p.full f); frees = λ s f. q.frees s (p.frees s f); looked = record { store = q.looked.store ∙ p.looked.store; swap = q.looked.swap ∙ p.looked.swap; cache = q.looked.cache ∙ p.looked.cache; roots = q.looked.roots ∙ p.looked.roots; regions = q.looked.regions ∙ p.looked.regions; refused = q.looked.refused ∙ p.looked.refused } } };
 }
 
-/// Whether the frame holds a page and isn't to be kept.
-pub(crate) fn is_spareable<D, E, M: Levels>(
-    core: &Core<D, E, M>,
-    keep: Option<FrameNo>,
-    n: FrameNo,
-) -> bool
-    requires { IsFrame core.now.frames n.0 }
-    ensures spareable { result ≡ true → IsSpareable (picture_of core.now) keep n.0 }
-    ensures other { IsSpareable (picture_of core.now) keep n.0 → result ≡ true }
+/// Whether the frame may be given up: it holds a page, isn't to be kept, and a slot is free if it needs one.
+fn is_evictable<D, E, M: Levels>(core: &Core<D, E, M>, frame: FrameNo) -> bool
+    requires { HasFrame (picture_of core.now) frame.0 }
+    ensures evictable { result ≡ true → IsEvictable (picture_of core.now) core.now.keep frame.0 }
+    ensures other { IsEvictable (picture_of core.now) core.now.keep frame.0 → result ≡ true }
 {
-    if let Some(kept) = keep {
-        if kept.0 == n.0 {
-            return false;
-        }
-    }
-    match core.frames.role(n) {
-        Role::Private | Role::Cache => true,
-        _ => false,
+    match spareable_content(core, core.keep, frame) {
+        Some(content) => !needs_slot(core, content) || !core.swap.is_full(),
+        None => false,
     }
 }
 
-/// Whether the frame needs a slot to be given up.
-fn needs_slot<D, E, M: Levels>(core: &Core<D, E, M>, frame: FrameNo) -> bool
-    requires { HasData (picture_of core.now) frame.0 }
-    ensures needs { result ≡ true → NeedsSlot (picture_of core.now) frame.0 }
-    ensures other { NeedsSlot (picture_of core.now) frame.0 → result ≡ true }
+/// What the frame holds; `None` exactly where that is no page, or the frame is to be kept.
+pub(crate) fn spareable_content<D, E, M: Levels>(
+    core: &Core<D, E, M>,
+    keep: Option<FrameNo>,
+    frame: FrameNo,
+) -> Option<Content>
+    requires { HasFrame (picture_of core.now) frame.0 }
+    ensures spareable { IfSome result (λ content. IsSpareable (picture_of core.now) keep frame.0) }
+    ensures content { IfSome result (λ content. HasContent (picture_of core.now) frame.0 content) }
+    ensures none { IfNone result (IsSpareable (picture_of core.now) keep frame.0 → ⊥) }
 {
-    match core.frames.role(frame) {
-        Role::Private => true,
-        _ => match core.cache.page_in_frame(frame) {
-            Some(page) => core.cache.is_touched(page),
-            None => false,
-        },
+    if let Some(kept) = keep {
+        if kept.0 == frame.0 {
+            return None;
+        }
+    }
+    content_in(core, frame)
+}
+
+/// Whether what a frame holds needs a slot where it is given up.
+fn needs_slot<D, E, M: Levels>(core: &Core<D, E, M>, content: Content) -> bool
+    ensures { result ≡ goes_to_swap (picture_of core.now).touched content }
+{
+    match content {
+        Content::Own(_) => true,
+        Content::Page(page) => core.cache.is_touched(page),
     }
 }
 

@@ -9,7 +9,7 @@ ghost use Rattle.residency.specs.Parts.{IsFit};
 
 use crate::evicting::evict;
 use crate::kernel::Core;
-use crate::looking::{choose, is_spareable};
+use crate::looking::{choose, spareable_content};
 use clock_replace::NoVictim;
 use disk_model::SectorDisk;
 use vm_types::{FrameNo, Levels, Stall};
@@ -63,11 +63,12 @@ fn give_up<D, E: SectorDisk, M: Levels>(
 
 /// Whether some frame holds a page and isn't to be kept.
 fn has_spareable<D, E, M: Levels>(core: &Core<D, E, M>, keep: Option<FrameNo>) -> bool
+    requires { IsFit (picture_of core.now) }
     ensures some { result ≡ true → (n : ℕ) × IsSpareable (picture_of core.now) keep n }
     ensures none { result ≡ false → (n : ℕ) → IsFrame core.now.frames n → IsSpareable (picture_of core.now) keep n → ⊥ }
 {
     for n in 0..core.frames.len() {
-        if is_spareable(core, keep, FrameNo(n)) {
+        if spareable_content(core, keep, FrameNo(n)).is_some() {
             return true;
         }
     }

@@ -1,7 +1,8 @@
 //! What is looked for in the tables, and whose tables these are.
 ghost use Rattle.std.specs.Prelude.{◌<◌};
 
-use crate::leaves::{Change, Held};
+use crate::contents::Content;
+use crate::leaves::Change;
 use vm_types::FrameNo;
 
 /// Entries over a frame that a change is for.
@@ -10,7 +11,7 @@ pub(crate) struct LeafSearch {
     /// The frame.
     pub(crate) frame: FrameNo,
     /// What it holds.
-    pub(crate) held: Held,
+    pub(crate) content: Content,
     /// The change.
     pub(crate) change: Change,
     /// It isn't the zero page.

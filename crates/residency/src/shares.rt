@@ -83,21 +83,22 @@ fn hand_one<D, E: SectorDisk, M: Levels>(
     pass_share(core, LiveProcess { pid, root }, page, frame, slot)
 }
 
-/// Gives each process that has the private frame the share of a slot in place of it. The slot has one share, for which no
+/// Gives each process that has the private frame, at that page, the share of a slot in place of it. The slot has one share, for which no
 /// entry names it yet, and the frame's bytes.
 pub(crate) fn hand_over<D, E: SectorDisk, M: Levels>(
     core: &mut Core<D, E, M>,
     frame: FrameNo,
+    page: u64,
     slot: SlotNo,
 )
-    requires { MayHandOver E.SectorDisk core.old frame.0 slot.0 ((picture_of core.old).page_of frame.0) }
+    requires { MayHandOver E.SectorDisk core.old frame.0 slot.0 page }
     ensures { HandsOver E.SectorDisk frame.0 slot.0 core.old core.new }
 {
-    let Some(page) = Vpn::new::<M>(core.page_of[frame.0 as usize]) else {
+    let Some(at) = Vpn::new::<M>(page) else {
         unreachable!()
     };
     for pid in 1..PLACES {
-        if hand_one(core, pid, page, frame, slot) {
+        if hand_one(core, pid, at, frame, slot) {
             return;
         }
     }

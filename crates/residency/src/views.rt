@@ -1,4 +1,4 @@
-//! What a frame holds, and which pages have it, told to those who change nothing.
+//! Which pages have a frame, told to those who change nothing.
 ghost use Rattle.std.specs.Prelude.{◌≡◌, ◌≢◌, ◌≤◌, ℕ, true, None, Some, IfSome, IfNone};
 ghost use Rattle.vm_types.specs.Limits.{top_level};
 ghost use Rattle.frames.specs.FrameTable.{IsFrame, role_of};
@@ -7,21 +7,12 @@ ghost use Rattle.residency.specs.Picture.{picture_of, is_data};
 ghost use Rattle.residency.specs.Parts.{IsFit};
 ghost use Rattle.residency.specs.declared.leaves.Change.TheVariants as Kinds;
 ghost use Rattle.residency.specs.Leaves.{IsOver, IsFirstOver};
-ghost use Rattle.residency.specs.Contents.{HasContent};
 
+use crate::contents::content_of;
 use crate::kernel::Core;
-use crate::leaves::{Change, Held, find_in, held_in};
+use crate::leaves::{Change, find_in};
 use crate::searches::{LeafSearch, LiveProcess};
-use vm_types::{FrameNo, Levels, PageKey, Pid, Vpn};
-
-/// What a frame of data holds.
-#[derive(Clone, Copy, Debug, PartialEq, Eq)]
-pub enum Content {
-    /// The own copy of the page of that number, of each process that shares it.
-    Own(u64),
-    /// That page of a file or an object.
-    Page(PageKey),
-}
+use vm_types::{FrameNo, Levels, Pid, Vpn};
 
 /// The root table of a live process.
 pub fn root_of<D, E, M: Levels>(core: &Core<D, E, M>, pid: Pid) -> FrameNo
@@ -31,19 +22,6 @@ pub fn root_of<D, E, M: Levels>(core: &Core<D, E, M>, pid: Pid) -> FrameNo
     match core.root(pid) {
         Some(root) => root,
         None => unreachable!(),
-    }
-}
-
-/// What a frame of data holds, which is one of role `Private` or `Cache`.
-pub fn content_of<D, E, M: Levels>(core: &Core<D, E, M>, frame: FrameNo) -> Content
-    requires fit { IsFit (picture_of core.now) }
-    requires inside { IsFrame core.now.frames frame.0 }
-    requires data { is_data (role_of core.now.frames frame.0) ≡ true }
-    ensures { HasContent (picture_of core.now) frame.0 result }
-{
-    match held_in(core, frame) {
-        Held::Own(page) => Content::Own(page),
-        Held::Filed(page) => Content::Page(page),
     }
 }
 
@@ -62,7 +40,7 @@ pub fn next_over<D, E, M: Levels>(
 {
     let search = LeafSearch {
         frame,
-        held: held_in(core, frame),
+        content: content_of(core, frame),
         change: Change::Forget,
     };
     match core.root(pid) {

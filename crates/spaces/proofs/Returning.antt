@@ -2,17 +2,17 @@
 use Rattle.vm_types.specs.declared.mode.Levels as Levels
 use Rattle.spaces.proofs.Names.{ℕ, inl, inr, ◌≡◌, List, refl, sym, ap, ◌∙◌, cases_Bool, get_or, Role, Free, TakesNoFrame, none_taken, still_framed, place_of, is_touched, KeepsNamed, without_maps, KeepsEntriesOfOthers, ReturnsTables}
 use Rattle.spaces.proofs.Names.{true, false, false≢true, subst, arith, nat_tests, in_row, page_count, Reply, Prot}
-use Rattle.spaces.{proofs.Names.{KeepsFrames, Core, IsFit, Picture, picture_of, root_in, Object, is_named}, specs.Ranges.{EmptiesRange, PermitsRange, TakesNothing, is_done}}
+use Rattle.spaces.{proofs.Names.{KeepsFrames, Core, IsFit, Picture, picture_of, root_in, Object, is_named}, specs.Ranges.{EmptiesRange, PermitsRange, TakesNothing, is_range_done}}
 
 -- a call that changes nothing takes nothing
 pub takes_none : {mode : ℕ} (c : Picture mode) (pid first pages : ℕ) → TakesNothing c c pid first pages
 takes_none c pid first pages = record { frames = λ n. inl refl; place = λ p named. refl; touched = λ p named. refl; gone = λ p. inl refl; others = λ q page h ne. refl }
 
 -- and no entry, where it is not done
-pub empties_none : {mode : ℕ} (c : Picture mode) (pid first pages : ℕ) (reply : Reply) → is_done reply ≡ false → EmptiesRange c c pid first pages reply
+pub empties_none : {mode : ℕ} (c : Picture mode) (pid first pages : ℕ) (reply : Reply) → is_range_done reply ≡ false → EmptiesRange c c pid first pages reply
 empties_none c pid first pages reply not_done = record { beside = λ page h out. refl; bare = λ done. absurd (false≢true (sym not_done ∙ done)) }
 
-pub permits_none : {mode : ℕ} (c : Picture mode) (pid first pages : ℕ) (prot : Prot) (reply : Reply) → is_done reply ≡ false → PermitsRange c c pid first pages prot reply
+pub permits_none : {mode : ℕ} (c : Picture mode) (pid first pages : ℕ) (prot : Prot) (reply : Reply) → is_range_done reply ≡ false → PermitsRange c c pid first pages prot reply
 permits_none c pid first pages prot reply not_done = record { beside = λ page h out. refl; permits = λ done. absurd (false≢true (sym not_done ∙ done)) }
 
 -- no bytes are those of no page

@@ -65,16 +65,16 @@ module _ {mode : ℕ} where
       (page : ℕ) → IsPage (top_level mode) page → in_row first pages page ≡ false → entry new pid page ≡ entry old pid page
 
 -- whether a reply tells that a call on a range was done
-abbrev pub is_done : Reply → Bool
-is_done Done = true
-is_done (Address addr) = true
-is_done (Process pid) = false
-is_done (Value width value) = false
-is_done (Faulted fault) = false
-is_done (Refused errno) = false
-is_done (Stalled stall) = false
-is_done Halted = false
-is_done (Past past) = false
+abbrev pub is_range_done : Reply → Bool
+is_range_done Done = true
+is_range_done (Address addr) = true
+is_range_done (Process pid) = false
+is_range_done (Value width value) = false
+is_range_done (Faulted fault) = false
+is_range_done (Refused errno) = false
+is_range_done (Stalled stall) = false
+is_range_done Halted = false
+is_range_done (Past past) = false
 
 module _ {mode : ℕ} where
   -- The pages of a range of one process lose their entries:
@@ -82,12 +82,12 @@ module _ {mode : ℕ} where
     -- each other page of it has the entry that it had,
     pub beside : KeepsEntriesBeside old new pid first pages
     -- and these have none once the call is done, also where a frame holds what stands behind them.
-    pub bare : is_done reply ≡ true → (page : ℕ) → in_row first pages page ≡ true → entry new pid page ≡ 0
+    pub bare : is_range_done reply ≡ true → (page : ℕ) → in_row first pages page ≡ true → entry new pid page ≡ 0
 
   -- The pages of a range of one process get another permission:
   pub record PermitsRange (old new : Picture mode) (pid first pages : ℕ) (prot : Prot) (reply : Reply) : Type 0 where
     -- each other page of it has the entry that it had,
     pub beside : KeepsEntriesBeside old new pid first pages
     -- and these, once the call is done, that of the permission over the frame that they had, or none or the one of a slot as before.
-    pub permits : is_done reply ≡ true → (page : ℕ) → in_row first pages page ≡ true
+    pub permits : is_range_done reply ≡ true → (page : ℕ) → in_row first pages page ≡ true
         → Permits old.frames (old.at pid page) (kept prot) (entry old pid page) (entry new pid page)

@@ -1,7 +1,7 @@
 -- Trials, one after another, and what one of them finds.
 use Rattle.std.{proofs.Common.{◌≡◌, ◌<◌, ◌+◌, ◌*◌, ◌-◌, ◌^◌, min, ℕ, zero, suc, List, [], ◌∷◌, length, Option, Some, None, IfSome, IfNone, refl, ap, subst, ◌∙◌, inl, inr, arith}, specs.declared.{alloc.Global.{Global}, vec.Vec.{Vec}}}
 use Rattle.{disk_model.specs.{Plan.{one_more}, SimDisk.{sectors_in, sector_of}, declared.{sector_disk.SectorDisk.{Ghosts}, sim_disk.SimDisk.{SimDisk}}}, file_store.specs.Standing.{IsBadLayout, IsBadJournal}}
-use Rattle.stop_trials.specs.{Fillings.{left_with}, Standing.{IsRefusedFor, IsStanding, standing_contents}, Trials.{AllStand, IsJudged, StandWithEach, IsTrial, AreTried}}
+use Rattle.stop_trials.specs.{Fillings.{left_with}, Standing.{IsUnopenedFor, IsStanding, standing_contents}, Trials.{AllStand, IsJudged, StandWithEach, IsTrial, AreTried}}
 use Rattle.{disk_model.specs.Stop.{Image}, file_store.specs.declared.faults.OpenFault.{OpenFault, TheVariants.{Device, BadLayout, BadJournal}}}
 use Rattle.stop_trials.specs.declared.faults.TrialFault.{TrialFault, TheVariants.{Open as Refused}}
 use Rattle.stop_trials.specs.declared.{fillings.Filling.{Filling, TheVariants.{Old, Zeros, Ones, HalfOpen, Open}}, runs.Setting.{Setting}, stopping.StoppingDisk.{StoppingDisk}, trials.{Summary.{Summary}, Trial.{Trial}}}
@@ -41,14 +41,14 @@ each_at states acknowledged given device standing same each = subst (λ (d : Sim
 
 -- what is refused as no store
 pub refused_open : (sectors : ℕ) (image : Image) (fault : OpenFault) → (fault ≡ BadLayout → IsBadLayout sectors image) → (fault ≡ BadJournal → IsBadJournal sectors image)
-    → IsRefusedFor sectors image (Refused fault)
+    → IsUnopenedFor sectors image (Refused fault)
 refused_open sectors image Device layout journal = tt
 refused_open sectors image BadLayout layout journal = layout refl
 refused_open sectors image BadJournal layout journal = journal refl
 
-pub is_refused : (sectors : ℕ) (image : Image) (told : TrialFault) (fault inner : OpenFault) → told ≡ Refused fault → fault ≡ inner → IsRefusedFor sectors image told
-    → IsRefusedFor sectors image (Refused inner)
-is_refused sectors image told fault inner is same refused = subst (IsRefusedFor sectors image) (is ∙ ap Refused same) refused
+pub is_refused : (sectors : ℕ) (image : Image) (told : TrialFault) (fault inner : OpenFault) → told ≡ Refused fault → fault ≡ inner → IsUnopenedFor sectors image told
+    → IsUnopenedFor sectors image (Refused inner)
+is_refused sectors image told fault inner is same refused = subst (IsUnopenedFor sectors image) (is ∙ ap Refused same) refused
 
 module _ (g : Ghosts StoppingDisk) (h : Ghosts SimDisk) (setting : Setting) (states : List (Vec ℕ Global)) where
   pub none_tried : (every : ℕ) (summary : Summary) → summary.stops ≡ 0 → AreTried g h setting states every summary

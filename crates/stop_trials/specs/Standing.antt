@@ -30,7 +30,7 @@ pub record IsStanding (states : List (Vec ℕ Global)) (acknowledged : ℕ) (byt
   pub least : (m : ℕ) → acknowledged ≤ m → m < n → state_after states m ≡ Some bytes → ⊥
 
 -- An image is refused as no store only where its layout is bad, or its journal.
-abbrev pub IsRefusedFor : ℕ → Image → TrialFault → Type 0
-IsRefusedFor sectors image (Open BadLayout) = IsBadLayout sectors image
-IsRefusedFor sectors image (Open BadJournal) = IsBadJournal sectors image
-IsRefusedFor sectors image fault = Unit {0}
+abbrev pub IsUnopenedFor : ℕ → Image → TrialFault → Type 0
+IsUnopenedFor sectors image (Open BadLayout) = IsBadLayout sectors image
+IsUnopenedFor sectors image (Open BadJournal) = IsBadJournal sectors image
+IsUnopenedFor sectors image fault = Unit {0}

@@ -16,7 +16,7 @@ use Rattle.stop_trials.specs.declared.trials.Trial.{Trial}
 use Rattle.stop_trials.specs.declared.trials.Summary.{Summary}
 use Rattle.stop_trials.specs.Fillings.{left_with}
 use Rattle.stop_trials.specs.Lines.{acknowledged_in}
-use Rattle.stop_trials.specs.Runs.{IsRun}
+use Rattle.stop_trials.specs.Runs.{IsTrialRun}
 use Rattle.stop_trials.specs.Standing.{IsStanding, standing_contents}
 
 -- What a stop of this device leaves with this filling: the files stand there as after n msyncs, the acknowledged ones among them.
@@ -62,7 +62,7 @@ module _ (g : Ghosts StoppingDisk) (h : Ghosts SimDisk) (setting : Setting) (sta
     -- the commands were run on a device that stops in that event, and drops the sync that is to be dropped,
     pub replies : List Reply
     pub device : StoppingDisk
-    pub ran : IsRun g h setting (Some number) setting.commands.now replies device
+    pub ran : IsTrialRun g h setting number replies device
     -- which it did,
     pub at : device.stop ≡ Some number
     pub stopped : device.stopped ≡ Some trial.event

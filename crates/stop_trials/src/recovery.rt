@@ -5,7 +5,7 @@ ghost use Rattle.disk_model.specs.SimDisk.{sectors_in, sector_of};
 ghost use Rattle.file_store.specs.Standing.{IsBadLayout, IsBadJournal};
 ghost use Rattle.file_store.specs.Store.{IsReadyStore};
 ghost use Rattle.file_store.specs.declared.faults.OpenFault.{OpenFault};
-ghost use Rattle.stop_trials.specs.Standing.{standing_bytes, standing_contents, IsRefusedFor};
+ghost use Rattle.stop_trials.specs.Standing.{standing_bytes, standing_contents, IsUnopenedFor};
 
 use crate::faults::TrialFault;
 use disk_model::{SectorDisk, SimDisk};
@@ -25,7 +25,7 @@ pub(crate) fn recovered(alloc: Global, disk: SimDisk) -> Result<Vec<u8>, TrialFa
     ensures layout { OnOk result (IsBadLayout (sectors_in disk) (sector_of disk) → ⊥) }
     ensures journal { OnOk result (IsBadJournal (sectors_in disk) (sector_of disk) → ⊥) }
     ensures bytes { IfOk result (λ bytes. bytes.items ≡ standing_contents (sector_of disk)) }
-    ensures refused { IfErr result (IsRefusedFor (sectors_in disk) (sector_of disk)) }
+    ensures refused { IfErr result (IsUnopenedFor (sectors_in disk) (sector_of disk)) }
 {
     let mut store = match FileStore::open(disk) {
         Ok(store) => store,

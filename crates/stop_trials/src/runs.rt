@@ -4,7 +4,7 @@ ghost use Rattle.std.specs.declared.alloc.Global.{Global};
 ghost use Rattle.std.specs.declared.vec.Vec.{Vec};
 ghost use Rattle.vm_types.specs.Prefix.{is_msync, is_done};
 ghost use Rattle.stop_trials.specs.Lines.{acknowledged_in};
-ghost use Rattle.stop_trials.specs.Runs.{EndsWith, IsFresh, IsRun};
+ghost use Rattle.stop_trials.specs.Runs.{AreStates, EndsWith, IsSetUp, IsTrialRun, IsWholeRun};
 
 use crate::faults::TrialFault;
 use crate::fillings::Filling;
@@ -35,8 +35,8 @@ pub(crate) struct Setting<'a> {
 
 /// A run that is over: the store's device as it left it, and the replies to its commands, none where no machine started.
 #[derive(Drop)]
-pub(crate) struct Run {
-    pub device: StoppingDisk,
+pub(crate) struct Run<D> {
+    pub device: D,
     pub replies: Vec<Reply>,
 }
 
@@ -86,11 +86,10 @@ fn swap_sectors(slots: u32) -> u64 {
 
 impl Setting<'_> {
     /// The store device, which stops in that event, and an empty swap device.
-    fn devices(&self, stop: Option<u64>) -> Result<Devices<StoppingDisk, SimDisk>, AllocError>
-        ensures { IfOk result (λ devices. IsFresh self.now stop devices.store) }
+    fn devices(&self, stop: u64) -> Result<Devices<StoppingDisk, SimDisk>, AllocError>
+        ensures { IfOk result (λ devices. IsSetUp self.now stop devices.store) }
     {
-        let drops = if stop.is_some() { self.drops } else { None };
-        let store = StoppingDisk::new(self.alloc, self.image, stop, drops)?;
+        let store = StoppingDisk::new(self.alloc, self.image, Some(stop), self.drops)?;
         let swap = SimDisk::new(self.alloc, swap_sectors(self.config.slots))?;
         Ok(Devices { store, swap })
     }
@@ -99,10 +98,10 @@ impl Setting<'_> {
     fn add_state(&self, count: usize, states: &mut Vec<Vec<u8>>) -> Result<(), TrialFault>
         requires { count ≤ length self.now.commands.now }
         ensures { OnOk result ((bytes : Vec ℕ Global) × (states.new.items ≡ states.old.items ++ bytes ∷ [])
-            × EndsWith ⟦<StoppingDisk as SectorDisk>⟧ ⟦<SimDisk as SectorDisk>⟧ self.now count bytes.items) }
+            × EndsWith ⟦<SimDisk as SectorDisk>⟧ self.now count bytes.items) }
     {
-        let ran = self.run(None, &self.commands[..count])?;
-        let left = Filling::Old.left(self.alloc, ran.device.disk())?;
+        let ran = self.whole_run(&self.commands[..count])?;
+        let left = Filling::Old.left(self.alloc, &ran.device)?;
         let bytes = recovered(self.alloc, left)?;
         match states.push(bytes) {
             Ok(()) => Ok(()),
@@ -115,8 +114,10 @@ impl Setting<'_> {
     /// # Errors
     ///
     /// `Boot` where the machine doesn't start, `OutOfMemory`, and what `recovered` says.
-    pub(crate) fn states(&self) -> Result<Vec<Vec<u8>>, TrialFault> {
-        let whole = self.run(None, self.commands)?;
+    pub(crate) fn states(&self) -> Result<Vec<Vec<u8>>, TrialFault>
+        ensures { IfOk result (λ states. AreStates ⟦<SimDisk as SectorDisk>⟧ self.now states.items) }
+    {
+        let whole = self.whole_run(self.commands)?;
         let mut states = Vec::new(self.alloc);
         self.add_state(0, &mut states)?;
         for (i, reply) in whole.replies.iter().enumerate() {
@@ -127,23 +128,50 @@ impl Setting<'_> {
         Ok(states)
     }
 
-    /// The run of these commands that is stopped in event `stop` of the store's device, the first being 1, where it has one, or goes
+    /// The run of these commands that nothing stops, on a new device of what the image holds.
+    ///
+    /// # Errors
+    ///
+    /// `Boot` where the machine doesn't start, and `OutOfMemory`.
+    fn whole_run(&self, commands: &[Command]) -> Result<Run<SimDisk>, TrialFault>
+        ensures lengths { IfOk result (λ ran. length ran.replies.items ≤ length commands.now) }
+        ensures is { IfOk result (λ ran. IsWholeRun ⟦<SimDisk as SectorDisk>⟧ self.now commands.now ran.replies.items ran.device) }
+    {
+        let mut replies = vec![in self.alloc; Reply::Done; commands.len()]?;
+        let store = Filling::Old.left(self.alloc, self.image)?;
+        let swap = SimDisk::new(self.alloc, swap_sectors(self.config.slots))?;
+        match live(
+            self.alloc,
+            self.config,
+            Devices { store, swap },
+            commands,
+            replies.as_mut_slice(),
+        ) {
+            Ok(machine) => Ok(Run {
+                device: machine.into_store(),
+                replies,
+            }),
+            Err((fault, _)) => Err(TrialFault::Boot(fault)),
+        }
+    }
+
+    /// The run of the commands that is stopped in event `stop` of the store's device, the first being 1, where it has one, or goes
     /// on to the last of them.
     ///
     /// # Errors
     ///
     /// `Boot` where the machine doesn't start for another reason than the stop, and `OutOfMemory`.
-    pub(crate) fn run(&self, stop: Option<u64>, commands: &[Command]) -> Result<Run, TrialFault>
-        ensures lengths { IfOk result (λ ran. length ran.replies.items ≤ length commands.now) }
-        ensures is { IfOk result (λ ran. IsRun ⟦<StoppingDisk as SectorDisk>⟧ ⟦<SimDisk as SectorDisk>⟧ self.now stop commands.now ran.replies.items ran.device) }
+    pub(crate) fn run(&self, stop: u64) -> Result<Run<StoppingDisk>, TrialFault>
+        ensures lengths { IfOk result (λ ran. length ran.replies.items ≤ length self.now.commands.now) }
+        ensures is { IfOk result (λ ran. IsTrialRun ⟦<StoppingDisk as SectorDisk>⟧ ⟦<SimDisk as SectorDisk>⟧ self.now stop ran.replies.items ran.device) }
     {
-        let mut replies = vec![in self.alloc; Reply::Done; commands.len()]?;
+        let mut replies = vec![in self.alloc; Reply::Done; self.commands.len()]?;
         let devices = self.devices(stop)?;
         match live(
             self.alloc,
             self.config,
             devices,
-            commands,
+            self.commands,
             replies.as_mut_slice(),
         ) {
             Ok(machine) => Ok(Run {

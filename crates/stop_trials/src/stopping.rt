@@ -1,11 +1,14 @@
 //! A device that stops where it is told to.
 ghost use Rattle.std.specs.Prelude.{◌≡◌, ◌<◌, ◌≤◌, ◌+◌, ◌^◌, ℕ, Some, None, is_err, is_some, IfOk, IfSome, OnOk, OnErr, false};
 ghost use Rattle.std.proofs.Common.{inl};
-ghost use Rattle.disk_model.specs.Stop.{MayLeave, IsOfPage, Names};
+ghost use Rattle.disk_model.specs.Stop.{IsOfPage, Names};
 ghost use Rattle.disk_model.specs.Sectors.{part_of};
 ghost use Rattle.disk_model.specs.Plan.{is_at};
 ghost use Rattle.disk_model.specs.SimDisk.{sectors_in, sector_of, IsUnsynced, moment_of, LeftSince, only_present, failures_of, asked_of, disk_counts};
+ghost use Rattle.stop_trials.specs.Fillings.{left_with};
+ghost use Rattle.stop_trials.specs.declared.fillings.Filling.TheVariants.{Old};
 
+use crate::fillings::Filling;
 use disk_model::{DiskFault, SectorDisk, SimDisk, parts};
 use std::alloc::{AllocError, Global};
 
@@ -51,7 +54,7 @@ fn fault_if(failed: bool) -> Result<(), DiskFault>
 impl StoppingDisk {
     ghost use Rattle.stop_trials.specs.Stopping.{plan_of, plan_after_event, failing_call};
 
-    /// A device of what another one holds, all of it synced. It stops in event `stop`, the first being 1, or never, and drops the
+    /// A device of what another one holds that is synced. It stops in event `stop`, the first being 1, or never, and drops the
     /// sync that is event `drops`, or none.
     ///
     /// # Errors
@@ -66,9 +69,9 @@ impl StoppingDisk {
         ensures plan { IfOk result (λ d. plan_of d ≡ record { events = 0; stop = stop; stopped = None; drops = drops }) }
         ensures size { IfOk result (λ d. sectors_in d.disk ≡ sectors_in image.now) }
         ensures synced { IfOk result (λ d. (k : ℕ) → IsUnsynced d.disk k → ⊥) }
-        ensures stop { IfOk result (λ d. MayLeave (sector_of image.now) (IsUnsynced image.now) (sector_of d.disk)) }
+        ensures bytes { IfOk result (λ d. (k : ℕ) → k < sectors_in image.now → sector_of d.disk k ≡ left_with Old image.now k) }
     {
-        let disk = image.left(alloc, &[])?;
+        let disk = Filling::Old.left(alloc, image)?;
         Ok(StoppingDisk {
             disk,
             events: 0,

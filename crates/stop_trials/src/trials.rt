@@ -3,6 +3,7 @@ ghost use Rattle.std.specs.Prelude.{◌≡◌, ◌≤◌, ◌↔◌, ℕ, List, 
 ghost use Rattle.std.specs.declared.alloc.Global.{Global};
 ghost use Rattle.std.specs.declared.vec.Vec.{Vec};
 ghost use Rattle.disk_model.specs.Plan.{one_more};
+ghost use Rattle.stop_trials.specs.Runs.{AreStates};
 ghost use Rattle.stop_trials.specs.Trials.{AllStand, IsJudged, StandWithEach, IsTrial, AreTried};
 
 use crate::faults::TrialFault;
@@ -164,7 +165,7 @@ impl Setting<'_> {
     fn trial(&self, states: &[Vec<u8>], number: u64) -> Result<Option<Trial>, TrialFault>
         ensures { IfOk result (λ trial. IfSome trial (IsTrial ⟦<StoppingDisk as SectorDisk>⟧ ⟦<SimDisk as SectorDisk>⟧ self.now states.now number)) }
     {
-        let ran = self.run(Some(number), self.commands)?;
+        let ran = self.run(number)?;
         let Some(event) = ran.device.stopped_in(number) else {
             return Ok(None);
         };
@@ -214,7 +215,7 @@ impl Setting<'_> {
         every: u64,
         writer: &mut W,
     ) -> Result<Summary, TrialFault>
-        ensures { IfOk result (λ summary. (states : List (Vec ℕ Global))
+        ensures { IfOk result (λ summary. (states : List (Vec ℕ Global)) × AreStates ⟦<SimDisk as SectorDisk>⟧ self.now states
             × AreTried ⟦<StoppingDisk as SectorDisk>⟧ ⟦<SimDisk as SectorDisk>⟧ self.now states every summary) }
     {
         let states = self.states()?;

@@ -25,6 +25,7 @@ module _ {D E : Type 0} where
   IsAskedOf m (Ask.Walk pid addr) asked = IsOfProcess m pid (Told.Walk pid addr) asked
   IsAskedOf m (Ask.Tables pid) asked = IsOfProcess m pid (Told.Tables pid) asked
   IsAskedOf m (Ask.Maps pid) asked = IsOfProcess m pid (Told.Maps pid) asked
+  IsAskedOf m (Ask.Bytes pid addr) asked = IsOfProcess m pid (Told.Bytes pid addr) asked
   IsAskedOf m (Ask.Frames first last) asked = asked ≡ Told.Frames first last
   IsAskedOf m Ask.Slots asked = asked ≡ Told.Slots
   IsAskedOf m Ask.Buffer asked = asked ≡ Told.Buffer

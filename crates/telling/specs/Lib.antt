@@ -1,4 +1,5 @@
 pub mod Asked
+pub mod Lying
 pub mod Pages
 pub mod Questions
 pub mod Searches

@@ -13,6 +13,7 @@ abbrev pub name_of : Form → List ℕ
 name_of Forms.Walk = codes "walk"
 name_of Forms.Tables = codes "tables"
 name_of Forms.Maps = codes "maps"
+name_of Forms.Bytes = codes "bytes"
 name_of Forms.Frames = codes "frames"
 name_of Forms.Slots = codes "slots"
 name_of Forms.Buffer = codes "tlb"
@@ -47,12 +48,13 @@ abbrev pub AsksWatch : Words → Question → Type 0
 AsksWatch words asked = (IsWord words (codes "on") × (asked ≡ Ask.Watch true)) ⊎ (IsWord words (codes "off") × (asked ≡ Ask.Watch false))
 
 -- what is asked in a form with these words behind the first
-abbrev pub Asks : Form → Words → Question → Type 0
-Asks Forms.Walk words asked = (pid addr : ℕ) × AreTwoNumbers words pid addr × (asked ≡ Ask.Walk pid addr)
-Asks Forms.Tables words asked = (pid : ℕ) × IsOneNumber words pid × (asked ≡ Ask.Tables pid)
-Asks Forms.Maps words asked = (pid : ℕ) × IsOneNumber words pid × (asked ≡ Ask.Maps pid)
-Asks Forms.Frames words asked = AsksFrames words asked
-Asks Forms.Slots words asked = AsksAlone words Ask.Slots asked
-Asks Forms.Buffer words asked = AsksAlone words Ask.Buffer asked
-Asks Forms.Counts words asked = AsksAlone words Ask.Counts asked
-Asks Forms.Watch words asked = AsksWatch words asked
+abbrev pub AsksInForm : Form → Words → Question → Type 0
+AsksInForm Forms.Walk words asked = (pid addr : ℕ) × AreTwoNumbers words pid addr × (asked ≡ Ask.Walk pid addr)
+AsksInForm Forms.Tables words asked = (pid : ℕ) × IsOneNumber words pid × (asked ≡ Ask.Tables pid)
+AsksInForm Forms.Maps words asked = (pid : ℕ) × IsOneNumber words pid × (asked ≡ Ask.Maps pid)
+AsksInForm Forms.Bytes words asked = (pid addr : ℕ) × AreTwoNumbers words pid addr × (asked ≡ Ask.Bytes pid addr)
+AsksInForm Forms.Frames words asked = AsksFrames words asked
+AsksInForm Forms.Slots words asked = AsksAlone words Ask.Slots asked
+AsksInForm Forms.Buffer words asked = AsksAlone words Ask.Buffer asked
+AsksInForm Forms.Counts words asked = AsksAlone words Ask.Counts asked
+AsksInForm Forms.Watch words asked = AsksWatch words asked

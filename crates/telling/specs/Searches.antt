@@ -16,6 +16,6 @@ page_behind (Some last) = last.page + 1
 
 -- whether what a frame holds was stored to and is not durable yet
 module _ {mode : ℕ} where
-  abbrev pub is_touched : Picture mode → Holding → Bool
-  is_touched c (Page p) = c.touched p
-  is_touched c other = false
+  abbrev pub holds_touched : Picture mode → Holding → Bool
+  holds_touched c (Page p) = c.touched p
+  holds_touched c other = false

@@ -5,6 +5,7 @@ ghost use Rattle.inspection.specs.Machines.{memory_of};
 ghost use Rattle.machine.specs.Machine.{halted_of, IsSoundMachine};
 ghost use Rattle.telling.specs.Asked.{IsAskedOf, needs_memory};
 
+use crate::bytes::tell_bytes;
 use crate::holdings::{tell_frames, tell_slots, tell_usage};
 use crate::maps::tell_maps;
 use crate::questions::Question;
@@ -34,6 +35,7 @@ pub fn answer_question<W: Write, D: SectorDisk, E: SectorDisk>(
         Asked::Walk { process, addr } => tell_walk(machine, process, addr, out),
         Asked::Tables(process) => tell_tables(machine, process, out),
         Asked::Maps(process) => tell_maps(machine, process, out),
+        Asked::Bytes { process, addr } => tell_bytes(machine, process, addr, out),
         Asked::Frames { first, last } => tell_frames(machine, first, last, out),
         Asked::Slots => tell_slots(machine, out),
         Asked::Buffer => tell_buffer(machine, out),
@@ -52,6 +54,7 @@ enum Asked {
     Walk { process: Pid, addr: u64 },
     Tables(Pid),
     Maps(Pid),
+    Bytes { process: Pid, addr: u64 },
     Frames { first: u32, last: u32 },
     Slots,
     Buffer,
@@ -79,6 +82,10 @@ fn asked_of<D: SectorDisk, E: SectorDisk>(question: Question, machine: &Machine<
         },
         Question::Maps { pid } => match live(machine, pid) {
             Some(process) => Asked::Maps(process),
+            None => Asked::Gone(pid),
+        },
+        Question::Bytes { pid, addr } => match live(machine, pid) {
+            Some(process) => Asked::Bytes { process, addr },
             None => Asked::Gone(pid),
         },
         Question::Frames { first, last } => Asked::Frames { first, last },

@@ -4,7 +4,7 @@ ghost use Rattle.inspection.specs.Frames.{HasNoMapper, HoldsData, IsMapper};
 ghost use Rattle.inspection.specs.Machines.{memory_of, Tells};
 ghost use Rattle.inspection.specs.Slots.{HasNoPageIn, IsNextSwapped};
 ghost use Rattle.machine.specs.Machine.{halted_of, IsSoundMachine};
-ghost use Rattle.telling.specs.Searches.{is_touched, page_behind, pid_behind};
+ghost use Rattle.telling.specs.Searches.{holds_touched, page_behind, pid_behind};
 
 use disk_model::SectorDisk;
 use inspection::{Holding, Mapper, SlotHolding};
@@ -54,7 +54,7 @@ fn tell_frame<W: Write, D: SectorDisk, E: SectorDisk>(
         Holding::Table => tell_table(machine, frame, out)?,
         _ => write!(out, "{}", HoldingText(holding))?,
     }
-    if is_touched(machine, holding) {
+    if holds_touched(machine, holding) {
         write!(out, ", touched")?;
     }
     tell_mappers(machine, frame, out)?;
@@ -76,9 +76,9 @@ fn tell_table<W: Write, D: SectorDisk, E: SectorDisk>(
 }
 
 /// Whether what a frame holds is touched: only a page of a file or of shared anonymous memory can be.
-fn is_touched<D: SectorDisk, E: SectorDisk>(machine: &Machine<D, E>, holding: Holding) -> bool
+fn holds_touched<D: SectorDisk, E: SectorDisk>(machine: &Machine<D, E>, holding: Holding) -> bool
     requires { IsSoundMachine D.SectorDisk E.SectorDisk machine.now }
-    ensures { halted_of machine.now ≡ false → result ≡ is_touched (memory_of machine.now) holding }
+    ensures { halted_of machine.now ≡ false → result ≡ holds_touched (memory_of machine.now) holding }
 {
     match holding {
         Holding::Page(page) => match inspection::page_view(machine, page) {

@@ -2,6 +2,7 @@
 #![tactic(auto)]
 
 mod answers;
+mod bytes;
 mod holdings;
 mod maps;
 mod questions;

@@ -1,6 +1,6 @@
 //! What a line that begins with `?` asks.
 ghost use Rattle.std.specs.Prelude.{◌≡◌, codes, IfSome};
-ghost use Rattle.telling.specs.Questions.{Asks, AsksAlone, AsksFrames, AsksWatch, IsOneNumber, name_of};
+ghost use Rattle.telling.specs.Questions.{AreTwoNumbers, AsksInForm, AsksAlone, AsksFrames, AsksWatch, IsOneNumber, name_of};
 
 use std::fmt::{self, Display, Formatter};
 use trace_lang::parse_number;
@@ -14,6 +14,8 @@ pub enum Question {
     Tables { pid: u64 },
     /// The runs of pages of a process.
     Maps { pid: u64 },
+    /// The bytes at an address of a process.
+    Bytes { pid: u64, addr: u64 },
     /// The frames of these numbers.
     Frames { first: u32, last: u32 },
     /// The slots that hold something.
@@ -41,6 +43,7 @@ pub enum Form {
     Walk,
     Tables,
     Maps,
+    Bytes,
     Frames,
     Slots,
     Buffer,
@@ -54,6 +57,7 @@ impl Display for Form {
             Form::Walk => "?walk P ADDR",
             Form::Tables => "?tables P",
             Form::Maps => "?maps P",
+            Form::Bytes => "?bytes P ADDR",
             Form::Frames => "?frames [FIRST LAST]",
             Form::Slots => "?slots",
             Form::Buffer => "?tlb",
@@ -69,10 +73,11 @@ impl Display for Misasked {
             Misasked::Words(form) => write!(f, "the form is {form}"),
             Misasked::Unknown => write!(
                 f,
-                "one may ask {}, {}, {}, {}, {}, {}, {}, {}",
+                "one may ask {}, {}, {}, {}, {}, {}, {}, {}, {}",
                 Form::Walk,
                 Form::Tables,
                 Form::Maps,
+                Form::Bytes,
                 Form::Frames,
                 Form::Slots,
                 Form::Buffer,
@@ -117,7 +122,9 @@ fn form_named(name: &[u8]) -> Option<Form>
         } else {
             None
         },
-        5 => if name == b"slots".as_slice() {
+        5 => if name == b"bytes".as_slice() {
+            Some(Form::Bytes)
+        } else if name == b"slots".as_slice() {
             Some(Form::Slots)
         } else if name == b"watch".as_slice() {
             Some(Form::Watch)
@@ -139,7 +146,7 @@ fn form_named(name: &[u8]) -> Option<Form>
 
 /// The question of that form with these words.
 fn question_of(form: Form, words: Words<'_>) -> Option<Question>
-    ensures { IfSome result (Asks form words.entry) }
+    ensures { IfSome result (AsksInForm form words.entry) }
 {
     match form {
         Form::Walk => walk_of(words),
@@ -149,6 +156,7 @@ fn question_of(form: Form, words: Words<'_>) -> Option<Question>
         Form::Maps => Some(Question::Maps {
             pid: process_of(words)?,
         }),
+        Form::Bytes => bytes_of(words),
         Form::Frames => frames_of(words),
         Form::Slots => alone(words, Question::Slots),
         Form::Buffer => alone(words, Question::Buffer),
@@ -171,14 +179,27 @@ fn parted(text: &[u8]) -> (&[u8], Words<'_>) {
 }
 
 fn walk_of(words: Words<'_>) -> Option<Question>
-    ensures { IfSome result (Asks Form.Walk words.entry) }
+    ensures { IfSome result (AsksInForm Form.Walk words.entry) }
+{
+    let (pid, addr) = place_of(words)?;
+    Some(Question::Walk { pid, addr })
+}
+
+fn bytes_of(words: Words<'_>) -> Option<Question>
+    ensures { IfSome result (AsksInForm Form.Bytes words.entry) }
+{
+    let (pid, addr) = place_of(words)?;
+    Some(Question::Bytes { pid, addr })
+}
+
+/// A process and an address.
+fn place_of(words: Words<'_>) -> Option<(u64, u64)>
+    ensures { IfSome result (λ place. AreTwoNumbers words.entry place.0 place.1) }
 {
     let Words::Two(process, address) = words else {
         return None;
     };
-    let pid = parse_number(process)?;
-    let addr = parse_number(address)?;
-    Some(Question::Walk { pid, addr })
+    Some((parse_number(process)?, parse_number(address)?))
 }
 
 fn process_of(words: Words<'_>) -> Option<u64>

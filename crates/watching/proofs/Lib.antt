@@ -1,2 +1,3 @@
 mod Books
 mod OnWays
+mod Notes

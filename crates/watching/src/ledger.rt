@@ -1,11 +1,15 @@
 //! What each command did inside, found by comparing what frames held before it and after it.
-ghost use Rattle.std.specs.Prelude.{◌≡◌, ◌≢◌, IfOk, IfSome, IsNone};
-ghost use Rattle.machine.specs.Machine.{IsSoundMachine};
+ghost use Rattle.std.specs.Prelude.{◌≡◌, ◌≢◌, ◌<◌, ◌-◌, ◌^◌, false, length, min, slice_get, IfOk, IfSome, IsNone, OnOk, Some};
+ghost use Rattle.frames.specs.FrameTable.{IsFrame};
+ghost use Rattle.inspection.specs.Machines.{memory_of};
+ghost use Rattle.machine.specs.Machine.{halted_of, IsSoundMachine};
 ghost use Rattle.watching.specs.Books.{HasCountRoom, IsBalanced, IsOfCause, IsOneMore, IsTallied, KeepsBooks, ReadsNothing};
 ghost use Rattle.watching.specs.Changes.{IsLoss, IsSharing, content_in};
+ghost use Rattle.watching.specs.Noted.{KeepsNotes, NotesFrame, NotesFrames};
 
-use crate::counts::{Counts, FrameCounts};
+use crate::counts::{Count, Counts, FrameCounts};
 use crate::events::{Content, Event, Refuge, Source};
+use crate::sparing::Uses;
 use crate::targets::Target;
 use crate::ways::{Way, frame_in, slot_in, top_level};
 use disk_model::SectorDisk;
@@ -20,6 +24,7 @@ use vm_types::{FrameNo, PageKey, Pid};
 #[derive(Drop)]
 pub struct Ledger {
     frames: Vec<Held>,
+    uses: Uses,
     pub counts: Counts,
     /// Whether each thing that happens is told.
     pub is_watching: bool,
@@ -59,19 +64,60 @@ impl Ledger {
     ) -> Result<Ledger, AllocError>
         requires { IsSoundMachine D.SectorDisk E.SectorDisk machine.now }
         ensures balance { IfOk result (λ ledger. IsBalanced ledger.counts.frames) }
+        ensures frames { halted_of machine.now ≡ false → IfOk result (λ ledger. NotesFrames machine.now ledger.frames.items (2 ^ 32 - 1)) }
     {
-        let mut frames = Vec::new(alloc);
-        for n in 0..u32::MAX {
-            let Some(view) = inspection::frame_view(machine, FrameNo(n)) else {
-                break;
-            };
-            frames.push(Held { view, owner: None })?;
-        }
+        let frames = all_held(alloc, machine)?;
+        let uses = Uses::new(alloc, frames.len())?;
         Ok(Ledger {
             frames,
+            uses,
             counts: Counts::default(),
             is_watching: false,
         })
+    }
+
+    /// Notes before a command that may ask for so many frames which are in use, where that is watched and fewer are free, so that some may be given up.
+    pub(crate) fn note_uses<D: SectorDisk, E: SectorDisk>(
+        &mut self,
+        machine: &Machine<D, E>,
+        asked: u32,
+        target: Option<&Target>,
+    )
+        requires { IsSoundMachine D.SectorDisk E.SectorDisk machine.now }
+        ensures counts { self.new.counts ≡ self.old.counts }
+        ensures frames { self.new.frames ≡ self.old.frames }
+    {
+        if self.is_watching && self.free_frames() < asked {
+            self.uses.note(machine, target);
+        } else {
+            self.uses.forget();
+        }
+    }
+
+    /// How many frames held nothing after the last command.
+    fn free_frames(&self) -> u32 {
+        let mut free: u32 = 0;
+        for held in self.frames.iter() {
+            if held.view.holding == Holding::Nothing {
+                free = free.saturating_add(1);
+            }
+        }
+        free
+    }
+
+    /// Tells after the command which of them the clock's hand spared. So many frames had been given up before.
+    pub(crate) fn tell_spared<W: Write, D: SectorDisk, E: SectorDisk>(
+        &mut self,
+        machine: &Machine<D, E>,
+        evictions: Count,
+        out: &mut W,
+    ) -> io::Result<()>
+        requires { IsSoundMachine D.SectorDisk E.SectorDisk machine.now }
+        ensures counts { self.new.counts ≡ self.old.counts }
+        ensures frames { self.new.frames ≡ self.old.frames }
+    {
+        let is_evicted = self.counts.frames.evictions != evictions;
+        self.uses.tell(machine, is_evicted, out)
     }
 
     /// Compares all frames.
@@ -82,6 +128,9 @@ impl Ledger {
     ) -> io::Result<()>
         requires { IsSoundMachine D.SectorDisk E.SectorDisk inquiry.now.machine.now }
         ensures books { KeepsBooks self.old.counts.frames self.new.counts.frames }
+        ensures length { length self.new.frames.items ≡ length self.old.frames.items }
+        ensures frames { halted_of inquiry.now.machine.now ≡ false
+            → OnOk result (NotesFrames inquiry.now.machine.now self.new.frames.items (min (length self.old.frames.items) (2 ^ 32 - 1))) }
     {
         let count = self.frames.len();
         for n in 0..u32::MAX {
@@ -168,6 +217,9 @@ impl Ledger {
     ) -> io::Result<()>
         requires { IsSoundMachine D.SectorDisk E.SectorDisk inquiry.now.machine.now }
         ensures books { KeepsBooks self.old.counts.frames self.new.counts.frames }
+        ensures noted { halted_of inquiry.now.machine.now ≡ false → n.0 < length self.old.frames.items → IsFrame (memory_of inquiry.now.machine.now).frames n.0
+            → OnOk result (NotesFrame inquiry.now.machine.now self.new.frames.items n.0) }
+        ensures others { KeepsNotes n.0 self.old.frames.items self.new.frames.items }
     {
         let Some(view) = inspection::frame_view(inquiry.machine, n) else {
             return Ok(());
@@ -177,6 +229,8 @@ impl Ledger {
         };
         let is_gained = inquiry.gained == Some(n);
         if view == was.view && !is_gained {
+            let owner = was.owner;
+            self.keep(n, Held { view, owner });
             return Ok(());
         }
         let owner = match view.holding {
@@ -190,10 +244,19 @@ impl Ledger {
         } else {
             self.tell(sharing_of(n, &was, &held), out)?;
         }
+        self.keep(n, held);
+        Ok(())
+    }
+
+    /// Keeps what a frame holds now.
+    fn keep(&mut self, n: FrameNo, held: Held)
+        ensures counts { self.new.counts ≡ self.old.counts }
+        ensures kept { n.0 < length self.old.frames.items → slice_get self.new.frames.items n.0 ≡ Some held }
+        ensures others { KeepsNotes n.0 self.old.frames.items self.new.frames.items }
+    {
         if let Some(kept) = self.frames.get_mut(n.0 as usize) {
             *kept = held;
         }
-        Ok(())
     }
 
     /// Counts what happened, and tells it where that is wanted.
@@ -201,6 +264,7 @@ impl Ledger {
         ensures counted { IfSome event (λ event. HasCountRoom self.old.counts.frames → IsTallied event self.old.counts.frames self.new.counts.frames) }
         ensures cause { IfSome event (λ event. HasCountRoom self.old.counts.frames → IsBalanced self.old.counts.frames → IsOfCause event self.old.counts.frames self.new.counts.frames) }
         ensures none { IsNone event → self.new.counts ≡ self.old.counts }
+        ensures frames { self.new.frames ≡ self.old.frames }
         ensures books { KeepsBooks self.old.counts.frames self.new.counts.frames }
     {
         let Some(event) = event else {
@@ -290,6 +354,24 @@ impl<D: SectorDisk, E: SectorDisk> Inquiry<'_, D, E> {
             source,
         })
     }
+}
+
+/// What all frames hold, without the processes that have own copies.
+fn all_held<D: SectorDisk, E: SectorDisk>(
+    alloc: Global,
+    machine: &Machine<D, E>,
+) -> Result<Vec<Held>, AllocError>
+    requires { IsSoundMachine D.SectorDisk E.SectorDisk machine.now }
+    ensures { halted_of machine.now ≡ false → IfOk result (λ frames. NotesFrames machine.now frames.items (2 ^ 32 - 1)) }
+{
+    let mut frames = Vec::new(alloc);
+    for n in 0..u32::MAX {
+        let Some(view) = inspection::frame_view(machine, FrameNo(n)) else {
+            return Ok(frames);
+        };
+        frames.push(Held { view, owner: None })?;
+    }
+    Ok(frames)
 }
 
 /// Where the own copy of a page is now whose frame was given up, by the first entry of its process from that page on.

@@ -6,6 +6,7 @@ mod counts;
 mod events;
 mod ledger;
 mod pending;
+mod sparing;
 mod targets;
 mod texts;
 mod ways;

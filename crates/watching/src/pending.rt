@@ -1,7 +1,8 @@
 //! A command, and what it did.
-ghost use Rattle.machine.specs.Machine.{IsSoundMachine};
-ghost use Rattle.std.specs.Prelude.{◌≡◌};
+ghost use Rattle.std.specs.Prelude.{◌≡◌, ◌-◌, ◌^◌, true, false, length, min, OnOk};
+ghost use Rattle.machine.specs.Machine.{halted_of, IsSoundMachine};
 ghost use Rattle.watching.specs.Books.{KeepsBooks};
+ghost use Rattle.watching.specs.Noted.{NotesFrames, compares_all, reaches_all};
 
 use crate::counts::{AccessCounts, CallCounts, Counts};
 use crate::ledger::{Inquiry, Ledger};
@@ -55,9 +56,17 @@ impl Outcome {
 }
 
 impl Pending {
-    /// A command before it is carried out, with what its page's entry says and what stands behind the page.
-    pub fn new<D: SectorDisk, E: SectorDisk>(command: Command, machine: &Machine<D, E>) -> Pending
+    /// A command before it is carried out, with what its page's entry says and what stands behind the page. A ledger that is watching notes which
+    /// frames are in use.
+    pub fn new<D: SectorDisk, E: SectorDisk>(
+        command: Command,
+        ledger: &mut Ledger,
+        machine: &Machine<D, E>,
+    ) -> Pending
         requires { IsSoundMachine D.SectorDisk E.SectorDisk machine.now }
+        ensures command { result.command ≡ command }
+        ensures counts { ledger.new.counts ≡ ledger.old.counts }
+        ensures frames { ledger.new.frames ≡ ledger.old.frames }
     {
         let target = match command {
             Command::Load { pid, addr, .. }
@@ -65,11 +74,13 @@ impl Pending {
             | Command::Fetch { pid, addr } => Target::new(machine, pid, addr),
             _ => None,
         };
-        Pending {
+        let pending = Pending {
             command,
             target,
             hits: machine.hits(),
-        }
+        };
+        ledger.note_uses(machine, pending.asked_frames(), pending.target.as_ref());
+        pending
     }
 
     /// Counts the command after it was carried out, and tells what it did where the ledger is watching.
@@ -85,6 +96,26 @@ impl Pending {
     ) -> io::Result<()>
         requires { IsSoundMachine D.SectorDisk E.SectorDisk machine.now }
         ensures books { KeepsBooks ledger.old.counts.frames ledger.new.counts.frames }
+        ensures frames { compares_all self.now.command outcome ≡ true → halted_of machine.now ≡ false
+            → OnOk result (NotesFrames machine.now ledger.new.frames.items (min (length ledger.old.frames.items) (2 ^ 32 - 1))) }
+    {
+        let evictions = ledger.counts.frames.evictions;
+        self.compare(outcome, ledger, machine, out)?;
+        ledger.tell_spared(machine, evictions, out)
+    }
+
+    /// Counts the command, and compares the frames that it may have changed.
+    fn compare<W: Write, D: SectorDisk, E: SectorDisk>(
+        &self,
+        outcome: Outcome,
+        ledger: &mut Ledger,
+        machine: &Machine<D, E>,
+        out: &mut W,
+    ) -> io::Result<()>
+        requires { IsSoundMachine D.SectorDisk E.SectorDisk machine.now }
+        ensures books { KeepsBooks ledger.old.counts.frames ledger.new.counts.frames }
+        ensures frames { compares_all self.now.command outcome ≡ true → halted_of machine.now ≡ false
+            → OnOk result (NotesFrames machine.now ledger.new.frames.items (min (length ledger.old.frames.items) (2 ^ 32 - 1))) }
     {
         ledger.counts.commands.add();
         match self.count(outcome, machine.hits(), &mut ledger.counts) {
@@ -105,7 +136,8 @@ impl Pending {
 
     /// Counts the command. So many accesses have found a translation kept by now.
     fn count(&self, outcome: Outcome, hits: u64, counts: &mut Counts) -> Reach<'_>
-        ensures { counts.new.frames ≡ counts.old.frames }
+        ensures frames { counts.new.frames ≡ counts.old.frames }
+        ensures all { compares_all self.now.command outcome ≡ true → result ≡ Reach.All }
     {
         match self.command {
             Command::Load { .. } => counts.accesses.loads.add(),
@@ -118,7 +150,9 @@ impl Pending {
     }
 
     /// What an access came to. One that faulted or was refused has changed nothing.
-    fn count_access(&self, outcome: Outcome, hits: u64, accesses: &mut AccessCounts) -> Reach<'_> {
+    fn count_access(&self, outcome: Outcome, hits: u64, accesses: &mut AccessCounts) -> Reach<'_>
+        ensures { reaches_all true outcome ≡ true → result ≡ Reach.All }
+    {
         match (outcome, &self.target) {
             (Outcome::Refused | Outcome::Halted, _) | (Outcome::Done, None) => accesses
                 .refused
@@ -135,7 +169,9 @@ impl Pending {
     }
 
     /// What a call came to. One that was refused has changed nothing.
-    fn count_call(&self, outcome: Outcome, calls: &mut CallCounts) -> Reach<'_> {
+    fn count_call(&self, outcome: Outcome, calls: &mut CallCounts) -> Reach<'_>
+        ensures { reaches_all false outcome ≡ true → result ≡ Reach.All }
+    {
         match outcome {
             Outcome::Refused | Outcome::Faulted | Outcome::Halted => {
                 calls.refused.add();
@@ -149,6 +185,15 @@ impl Pending {
             }
         }
         Reach::All
+    }
+
+    /// The most frames that it may ask for: of an access three tables, a page of a file and a copy of it.
+    fn asked_frames(&self) -> u32 {
+        match self.command {
+            Command::Fork { .. } => u32::MAX,
+            _ if self.is_asking() => 5,
+            _ => 0,
+        }
     }
 
     /// Whether it wants frames, so that others may have been given up: only a spawn, a fork and an access do.

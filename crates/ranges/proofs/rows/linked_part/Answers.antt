@@ -1,11 +1,11 @@
 use Rattle.ranges.proofs.Names.{top_level, Attr, ◌≡◌, ℕ, ◌<◌, ◌≤◌, Option, inl, inr, refl, sym, ◌∙◌, subst, arith, cases_lt, IsSome, IsPage, Run, IsNextRun, attr_at, Picture, picture_of, entry, IsGranting}
-use Rattle.ranges.{specs.WaysPassed.{IsUnlinked}, proofs.{Emptied.{unmapped_zero}, Gaps.{user_inside}}}
+use Rattle.ranges.{specs.WaysPassed.{HaveNoWholeWay}, proofs.{Emptied.{unmapped_zero}, Gaps.{user_inside}}}
 use Rattle.ranges.proofs.rows.linked_part.Goals as goal
 
 -- the pages before the first of a run that has its tables have no entries
 module _ {mode : ℕ} (c : Picture mode) (pid page at first linked : ℕ) (map : ℕ → Option Attr) (run : Run) (granting : IsGranting c) (same : (k : ℕ) → map k ≡ c.at pid k)
     (before : (p : ℕ) → IsPage (top_level mode) p → page ≤ p → p < at → entry c pid p ≡ 0) (next : IsNextRun mode map at run)
-    (is : first ≡ run.first) (unlinked : IsUnlinked c pid first linked) where
+    (is : first ≡ run.first) (unlinked : HaveNoWholeWay c pid first linked) where
   none_before : (p : ℕ) → IsPage (top_level mode) p → page ≤ p → p < linked → entry c pid p ≡ 0
   none_before p h from below = elim (cases_lt p at) [
     | inl front ↦ before p h from front

@@ -77,9 +77,6 @@ returns-in-Err-Device g c =
       cause = search rules;
     }
 
-pub forget_leaves-requires-clause-filed : goal.forget_leaves-requires-clause-filed
-forget_leaves-requires-clause-filed g c = c.requires.goes.fit.places.cached c.args.page c.args.victim.0 c.requires.placed
-
 pub set_place-requires-clause-free : goal.set_place-requires-clause-free
 set_place-requires-clause-free g c = λ p ne at.
     let one = c.forget_leaves.ensures.fit.places.slotted p c.in-Ok.slot.0 at in

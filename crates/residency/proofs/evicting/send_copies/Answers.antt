@@ -14,7 +14,7 @@ hand_over-requires g c =
     let h = c.requires.goes.fit.counted.1.pages (InFrame v) c.requires.role in
     let P : Role → Type 0 = λ r. IsCountFor r (count_of old.frames v) in
     let count = subst P c.requires.role (c.args.core.now.sound.counted v c.requires.goes.inside) in
-    record {
+    rw (← c.requires.noted) (record {
       ready = search rules;
       handing = record {
         share = record {
@@ -28,7 +28,7 @@ hand_over-requires g c =
         some = count.0;
         few = (let one = puts.counted in let most = count.1 in omega (arith, one, most));
       };
-    }
+    })
 
 pub returns-in-Ok : goal.returns-in-Ok
 returns-in-Ok g c =

@@ -27,9 +27,6 @@ returns g c =
       swap = search rules;
     }
 
-pub forget_leaves-requires-clause-filed : goal.forget_leaves-requires-clause-filed
-forget_leaves-requires-clause-filed g c = c.requires.fit.places.cached c.args.page c.args.victim.0 c.requires.placed
-
 pub release-requires : goal.release-requires
 release-requires g c =
     let ch = c.forget_leaves.ensures.changes in

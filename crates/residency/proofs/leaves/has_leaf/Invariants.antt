@@ -2,4 +2,4 @@ use Rattle.residency.{proofs.Names.{top_level, ℕ, ◌<◌, IsPage}, specs.{Lea
 use Rattle.residency.proofs.leaves.has_leaf.Given as goal
 
 abbrev pub invariant-loop-pid : goal.invariant-loop-pid
-invariant-loop-pid g l = record { clear : (q k : ℕ) → q < l.pid → IsPage (top_level g.M.Levels.mode) k → IsOver (picture_of l.core) l.fn.change l.fn.frame.0 q k → ⊥ }
+invariant-loop-pid g l = record { clear : (q k : ℕ) → q < l.pid → IsPage (top_level g.M.Levels.mode) k → IsOver (picture_of l.core) l.search.change l.search.frame.0 q k → ⊥ }

@@ -1,24 +1,19 @@
-use Rattle.residency.proofs.Names.{◌≢◌, ℕ, ◌<◌, length, inl, inr, Some, sym, ap, ◌∙◌, subst, arith, cases_eq, false≢true, get_or_read}
-use Rattle.residency.{specs.{Seats.{InFrame, seat}, Picture.{picture_of, entry, is_data}, Evictions.{IsHanding}}, proofs.{Passing.{first_seat, somebody, no_user, hands_none, hands_then}, Refusing.{inside_of}}}
+use Rattle.residency.proofs.Names.{◌≢◌, ℕ, inl, inr, Some, sym, ap, ◌∙◌, subst, arith, cases_eq, false≢true}
+use Rattle.residency.{specs.{Seats.{InFrame, seat}, Picture.{picture_of, entry}, Evictions.{IsHanding}}, proofs.{Passing.{first_seat, somebody, no_user, hands_none, hands_then}}}
 use Rattle.residency.proofs.shares.hand_over.Goals as goal
 
 pub unreachable-requires : goal.unreachable-requires
 unreachable-requires g c =
-    let core = c.args.core.now in
-    let below : c.args.frame.0 < length core.page_of.items = (let n = inside_of core.frames c.args.frame.0 core.sound (ap is_data c.requires.handing.role) in let s = core.page_count in omega (arith, n, s)) in
-    let is = get_or_read core.page_of.items c.args.frame.0 _ below c.index.ensures 0 in
-    no_user (picture_of core) c.args.frame.0 c.args.slot.0 _ c.requires.handing (λ range. false≢true (c.in_default.ensures.known.1 (omega (arith, is, range.0), omega (arith, is, range.1))))
+    no_user (picture_of c.args.core.now) c.args.frame.0 c.args.slot.0 _ c.requires.handing (λ range. false≢true (c.in_default.ensures.known.1 (omega (arith, range.0), omega (arith, range.1))))
 
 pub loop-pid-init : goal.loop-pid-init
 loop-pid-init g c =
     let core = c.args.core.now in
-    let below : c.args.frame.0 < length core.page_of.items = (let n = inside_of core.frames c.args.frame.0 core.sound (ap is_data c.requires.handing.role) in let s = core.page_count in omega (arith, n, s)) in
-    let is = c.in-Some.ensures.found ∙ get_or_read core.page_of.items c.args.frame.0 _ below c.index.ensures 0 in
     let P : ℕ → Type 0 = λ n. IsHanding (picture_of core) c.args.frame.0 c.args.slot.0 n in
     record {
       hands = hands_none g.E.SectorDisk c.args.frame.0 c.args.slot.0 core c.requires.ready;
-      handing = subst P (sym is) c.requires.handing;
-      passed = first_seat (picture_of core) 0 c.in-Some.page (InFrame c.args.frame.0) c.requires.handing.share.fit.rooted;
+      handing = subst P (sym c.in-Some.ensures.found) c.requires.handing;
+      passed = first_seat (picture_of core) 0 c.in-Some.at (InFrame c.args.frame.0) c.requires.handing.share.fit.rooted;
     }
 
 pub returns-then-hand_one : goal.returns-then-hand_one
@@ -39,7 +34,7 @@ loop-pid-preserved g c =
       hands = hands_then g.E.SectorDisk c.args.frame.0 c.args.slot.0 c.args.core.now c.loop-pid.core c.hand_one.new.core kept.hands done.hands;
       handing = done.handing c.if-hand_one.false;
       passed = λ q less. elim (cases_eq q c.loop-pid.pid) [
-        | inl e ↦ (let P : ℕ → Type 0 = λ x. seat (entry new x c.in-Some.page) ≢ Some (InFrame c.args.frame.0) in subst P (sym e) done.moved)
+        | inl e ↦ (let P : ℕ → Type 0 = λ x. seat (entry new x c.in-Some.at) ≢ Some (InFrame c.args.frame.0) in subst P (sym e) done.moved)
         | inr ne ↦ (λ is. kept.passed q (omega (arith, less, ne)) (sym (ap seat (done.others q ne)) ∙ is))
       ];
     }
@@ -47,4 +42,4 @@ loop-pid-preserved g c =
 pub unreachable-requires-2 : goal.unreachable-requires-2
 unreachable-requires-2 g c =
     let kept = c.loop-pid.invariant in
-    somebody (picture_of c.loop-pid.core) c.args.frame.0 c.args.slot.0 c.in-Some.page kept.handing (λ q less. kept.passed q (let t = c.loop-pid-test.false in omega (arith, less, t)))
+    somebody (picture_of c.loop-pid.core) c.args.frame.0 c.args.slot.0 c.in-Some.at kept.handing (λ q less. kept.passed q (let t = c.loop-pid-test.false in omega (arith, less, t)))

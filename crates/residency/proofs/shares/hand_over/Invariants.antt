@@ -4,6 +4,6 @@ use Rattle.residency.proofs.shares.hand_over.Given as goal
 abbrev pub invariant-loop-pid : goal.invariant-loop-pid
 invariant-loop-pid g l = record {
   hands : HandsShares g.E.SectorDisk l.frame.0 l.slot.0 l.fn.core l.core;
-  handing : IsHanding (picture_of l.core) l.frame.0 l.slot.0 l.page;
-  passed : (q : ℕ) → q < l.pid → seat (entry (picture_of l.core) q l.page) ≢ Some (InFrame l.frame.0);
+  handing : IsHanding (picture_of l.core) l.frame.0 l.slot.0 l.at;
+  passed : (q : ℕ) → q < l.pid → seat (entry (picture_of l.core) q l.at) ≢ Some (InFrame l.frame.0);
 }

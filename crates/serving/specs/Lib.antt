@@ -1,0 +1,4 @@
+pub mod Requests
+pub mod Responses
+pub mod Serving
+pub mod Program
