@@ -42,8 +42,8 @@
    killed, the image can be opened at once, but while a child lives that has inherited the descriptor and neither closed it, nor called
    exec or kefs_close.
 
-   Who may read the host file. A program with no more than the right to read it changes nothing of it and of what others read. But it can
-   keep openings out, by flock(2), and take a tenth of a writer's time, by the locks of readers. So give 0600 where nobody else shall read.
+   Who may read the host file. A program with no more than the right to read it changes nothing of it and of what others read. But by
+   locks it can keep openings and refreshes out, and take a tenth of a writer's time. So give 0600 where nobody else shall read.
 
    Trackers. How the dirty pages are found, by the flags of kefs_open:
    - scan: PAGEMAP_SCAN and an asynchronous userfaultfd, of Linux 6.7 or later. The kernel notes stores, those of
@@ -172,11 +172,12 @@ enum {
 
 /* Opens the image at `path` and locks it by flock(2): against every other opening but those with KEFS_SNAPSHOT, or with KEFS_RDONLY
    against those without. It waits for the lock, without a limit unless kefs_open_with gives one, but not for a handle that this thread
-   has opened: that is KEFS_BUSY at once. It carries out what a stop or the last commit left in the journal, but not with KEFS_RDONLY or
+   has opened: that is KEFS_BUSY at once. Openings with KEFS_RDONLY that overlap without end keep one to write waiting. It carries out what a stop or the last commit left in the journal, but not with KEFS_RDONLY or
    KEFS_SNAPSHOT. Of what it reads it lets the system drop its cached copy first, so that it sees what the device holds, after a sync
    that failed too. *image is NULL where it fails; kefs_errmsg(NULL) tells more.
    EINVAL: a flag that is none, two trackers, or KEFS_CREATE. ENOMEM. ENOSYS: the system's pages are not of 4,096 bytes.
-   EINTR: a signal came while it waited. ENOSPC, EDQUOT: there is no room to carry the journal out, or to read a sparse file on a
+   EINTR: a signal came while it waited; without a limit, one whose handler is not of SA_RESTART.
+   ENOSPC, EDQUOT: there is no room to carry the journal out, or to read a sparse file on a
    memory file system. ESTALE: with KEFS_SNAPSHOT, the file has no name any more, though `path`, of /proc, leads to it; or `path` leads
    to another file each of a hundred times. EFBIG: with KEFS_SNAPSHOT, the process may have no file as large (ulimit -f). KEFS_BUSY,
    KEFS_NOT_IMAGE, KEFS_BAD_JOURNAL, KEFS_NO_TRACKER, KEFS_DEVICE. Other errno values as of open(2), of userfaultfd(2)

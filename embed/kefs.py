@@ -1,4 +1,4 @@
-"""Failure-atomic msync from Python: the calls of kefs.h (libkefs.so.1), whose comments say what each does and when it fails.
+"""Failure-atomic msync from Python, 3.8 or later: the calls of kefs.h (libkefs.so.1), whose comments say what each does and when it fails.
 
     import kefs
 
@@ -311,7 +311,7 @@ class Image:
 
     def __init__(self, path, flags=0, wait=0, create=None, permissions=0o600):
         handle, options = ctypes.c_void_p(), _Options(size=ctypes.sizeof(_Options), wait=wait, permissions=permissions)
-        self._handle, self._mapped, self._lock = None, {}, threading.RLock()
+        self._handle, self._mapped, self._lock, self._wait = None, {}, threading.RLock(), wait
         end = time.monotonic() + wait / 1000
         if create is not None:
             array, flags = _array(create), flags | _CREATE
@@ -326,8 +326,10 @@ class Image:
         with self._lock:
             if self._handle is None:
                 raise ValueError("the image is closed")
+            end = time.monotonic() + self._wait / 1000
             while (result := getattr(_library(), name)(self._handle.at, *arguments)) == errno.EINTR:
-                pass
+                if self._wait and time.monotonic() >= end:
+                    raise Busy("the wait of the opening's is over")
             if result != 0:
                 _check(result, "" if result == Forked.result else _library().kefs_errmsg(self._handle.at).decode(errors="replace"))
 

@@ -200,6 +200,8 @@ static int carry_out_taken(struct kefs_image *image) {
   return carry_out(image);
 }
 
+/* Room is taken before readers are kept out, so that a commit that is refused for want of it leaves all as it was. They are let in again when the last sync is
+   over, and not where a call has failed (end_change). */
 static int commit_taken(struct kefs_image *image) {
   int result = image->taken == 0 ? KEFS_OK : take_rooms(image);
   if (result == KEFS_OK && image->taken > 0) result = begin_change(image);

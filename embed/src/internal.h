@@ -7,6 +7,7 @@
 #pragma GCC visibility pop
 #include "famsync.h"
 #include <pthread.h>
+#include <signal.h>
 #include <stdint.h>
 #include <sys/types.h>
 
@@ -53,7 +54,7 @@ struct turns {
 };
 
 /* Who has an image open, in the list of all handles of this process that keep others out. */
-struct owner { dev_t device; ino_t number; pthread_t thread; struct kefs_image *next; };
+struct owner { dev_t device; ino_t number; uint64_t thread; struct kefs_image *next; };
 
 struct kefs_image {
   pthread_mutex_t lock;
@@ -229,8 +230,6 @@ int new_file_result(int number);
 
 /* open.c */
 
-/* Of a clock that is never set back. */
-long milliseconds(void);
 /* The process that took a lock of this file, as /proc/locks says, or 0. It may have ended, and a child of it have the lock. */
 int holder_of(int fd);
 /* Syncs the host file, and has what is cached of it read anew: a plan begins on an image that the device holds, and a reader gives
@@ -243,6 +242,19 @@ int read_kind(struct kefs_image *image);
 int recover(struct kefs_image *image);
 /* Settles and recovers a halted image, lets the pages of the commit that failed go, and readers in: KEFS_OK, or the image's result. */
 int recover_in_place(struct kefs_image *image);
+
+/* waits.c */
+
+/* Of a clock that is never set back. */
+long milliseconds(void);
+/* A wait that ends at some millisecond, and how many microseconds it sleeps next. */
+struct wait { long begin, end, pause; };
+/* A wait of so many milliseconds from now on, or -1: for ever. */
+struct wait wait_of(long limit);
+/* Sleeps until the next look, with these signals blocked, or NULL for those that are. EWOULDBLOCK: the wait is over. EINTR: a signal came. */
+int rest(struct wait *wait, const sigset_t *blocked);
+/* Looks until there is another answer than EWOULDBLOCK, or the wait ends as `rest` says. */
+int look_until(int (*look)(void *), void *of, struct wait *wait);
 
 /* readers.c */
 

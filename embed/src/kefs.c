@@ -48,6 +48,7 @@ static void drop_marks(struct mapping *mapping) {
   drop_memory(mapping->areas, areas_of(mapping));
 }
 
+/* A handler of signals finds the region by its addresses, which another mapping may have once the memory is gone. */
 static void drop_mapping(struct mapping *mapping) {
   remove_region(mapping);
   drop_memory(mapping->at, mapping->pages * PAGE);
@@ -66,6 +67,8 @@ static void drop_mappings(struct kefs_image *image, int forked) {
   }
 }
 
+/* The mapped files go before the userfaultfd, without which pages that were not read would be zeros; and the lock last, since another process writes the file from
+   then on. */
 static int close_image(struct kefs_image *image) {
   remove_owner(image);
   int forked = image->generation != 0 && is_forked(image);

@@ -10,7 +10,6 @@
 #include <sys/mman.h>
 #include <sys/stat.h>
 #include <sys/sysmacros.h>
-#include <time.h>
 #include <unistd.h>
 
 /* What an opening is given. */
@@ -28,12 +27,6 @@ static int check_opening(kefs_image **to, const char *path, unsigned flags, cons
 }
 
 /* Locking */
-
-long milliseconds(void) {
-  struct timespec now;
-  clock_gettime(CLOCK_MONOTONIC, &now);
-  return now.tv_sec * 1000 + now.tv_nsec / 1000000;
-}
 
 int holder_of(int fd) {
   struct stat here;

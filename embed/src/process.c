@@ -44,11 +44,19 @@ int is_forked(const struct kefs_image *image) { return image->generation != *gen
 
 static struct kefs_image *handles;
 
+/* A number that no thread before had: a pthread_t goes to another thread when one has ended. */
+static uint64_t this_thread(void) {
+  static _Thread_local uint64_t number;
+  static uint64_t last;
+  if (number == 0) number = __atomic_add_fetch(&last, 1, __ATOMIC_SEQ_CST);
+  return number;
+}
+
 void add_owner(struct kefs_image *image) {
   struct stat facts = {0};
   fstat(image->fd, &facts);
   lock_process();
-  image->owner = (struct owner){facts.st_dev, facts.st_ino, pthread_self(), handles};
+  image->owner = (struct owner){facts.st_dev, facts.st_ino, this_thread(), handles};
   handles = image;
   unlock_process();
 }
@@ -69,7 +77,7 @@ int is_own(int fd) {
   if (fstat(fd, &facts) != 0) return 0;
   lock_process();
   for (const struct kefs_image *it = handles; it != NULL && !found; it = it->owner.next)
-    found = it->owner.device == facts.st_dev && it->owner.number == facts.st_ino && pthread_equal(it->owner.thread, pthread_self()) && !is_forked(it);
+    found = it->owner.device == facts.st_dev && it->owner.number == facts.st_ino && it->owner.thread == this_thread() && !is_forked(it);
   unlock_process();
   return found;
 }

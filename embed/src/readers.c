@@ -37,9 +37,6 @@
 #include "internal.h"
 #include <errno.h>
 #include <fcntl.h>
-#include <limits.h>
-#include <poll.h>
-#include <signal.h>
 #include <stdlib.h>
 #include <string.h>
 #include <sys/file.h>
@@ -49,46 +46,7 @@
 #include <time.h>
 #include <unistd.h>
 
-/* Waits */
-
-enum { SHORTEST = 20000, SHORT = 2000000, LONGEST = 50000000 }; /* nanoseconds between two looks: the longest ones where much was waited already */
-enum { PATIENCE = 1000, LITTLE_PATIENCE = 10, SELDOM = 10 };    /* milliseconds that a writer waits for readers; and the share of its time after a vain wait */
-
-/* A wait that ends at some millisecond. The system has none for locks that ends by itself, so they are looked at again and again. */
-struct wait { long begin, end, pause; };
-
-static struct wait wait_of(long limit) {
-  long now = milliseconds();
-  return (struct wait){now, limit < 0 ? LONG_MAX : now + limit, SHORTEST};
-}
-
-/* Twice as long as the last pause up to 2 ms, and from then on a sixteenth of what was waited, so that long waits cost little. */
-static long next_pause(struct wait *wait, long now) {
-  long pause = wait->pause, part = (now - wait->begin) * (1000000 / 16), left = wait->end - now;
-  if (wait->pause < SHORT) wait->pause *= 2;
-  else if (pause < part) pause = part < LONGEST ? part : LONGEST;
-  return left < LONGEST / 1000000 && pause > left * 1000000 ? left * 1000000 : pause;
-}
-
-/* Sleeps a little, with these signals blocked, or NULL for those that are. EWOULDBLOCK: the wait is over. EINTR: a signal came. */
-static int rest(struct wait *wait, const sigset_t *blocked) {
-  long now = milliseconds();
-  if (now >= wait->end) return EWOULDBLOCK;
-  struct timespec pause = {0, next_pause(wait, now)};
-  return ppoll(NULL, 0, &pause, blocked) == 0 ? KEFS_OK : errno;
-}
-
-/* Looks until there is another answer than EWOULDBLOCK, or the wait ends. A signal that comes between two sleeps ends the next one. */
-static int look_until(int (*look)(void *), void *of, struct wait *wait) {
-  sigset_t all, before;
-  int number = look(of);
-  if (number != EWOULDBLOCK) return number;
-  sigfillset(&all);
-  pthread_sigmask(SIG_BLOCK, &all, &before);
-  while ((number = look(of)) == EWOULDBLOCK && (number = rest(wait, &before)) == KEFS_OK) continue;
-  pthread_sigmask(SIG_SETMASK, &before, NULL);
-  return number;
-}
+enum { PATIENCE = 1000, LITTLE_PATIENCE = 10, SELDOM = 10 }; /* milliseconds that a writer waits for readers; and the share of its time after a vain wait */
 
 /* Locks */
 
@@ -189,8 +147,8 @@ static int tell_homes(const struct kefs_image *image, off_t state) {
   return i < image->taken && number == KEFS_OK ? set_lock(fd, F_WRLCK, end_of_list(state)) : number;
 }
 
-/* The list is there before the state is. Where it can't be had, the state is no next one of another; where the state's lock can't be had, readers wait until a later
-   commit gets one. */
+/* The list is there before the state is, and INTENT goes last: a reader whose turn begins finds both. Where the list can't be had, the state is no next one of
+   another; where the state's lock can't be had, readers wait until a later commit gets one. */
 void end_change(struct kefs_image *image) {
   struct turns *turns = &image->turns;
   if (!turns->changes || image->halted) return;
@@ -232,11 +190,17 @@ static int try_to_own(void *of) {
   return number;
 }
 
+/* Without a limit the lock's own wait serves: readers that are alone have it for moments alone. */
+static int own_at_last(struct owning *owning) {
+  int number = try_to_own(owning);
+  return number != EWOULDBLOCK ? number : flock(owning->fd, LOCK_EX) == 0 ? KEFS_OK : errno;
+}
+
 /* From here on the file is being changed, until end_change. Where the file system has no such locks, no reader runs beside this writer. A reader may be in a turn
    that it began before: a wait that is over sooner than one for a reader that is stopped ends the opening. */
 int lock_to_write(struct kefs_image *image, long limit) {
   struct owning owning = {image->fd, wait_of(limit)};
-  int number = look_until(try_to_own, &owning, &owning.wait);
+  int number = limit < 0 ? own_at_last(&owning) : look_until(try_to_own, &owning, &owning.wait);
   if (number != KEFS_OK) return number;
   int locked = set_lock(image->fd, F_WRLCK, INTENT), shares = locked == KEFS_OK || locked == EAGAIN || locked == EACCES;
   image->turns = (struct turns){.shares = shares, .changes = shares, .is_new = 1};
@@ -368,8 +332,8 @@ static long age_of(const struct timespec *time) {
   return (now.tv_sec - time->tv_sec) * 1000 + (now.tv_nsec - time->tv_nsec) / 1000000;
 }
 
-/* Whether a change from now on gives the file another time than this one. */
-static int is_past(const struct timespec *time) { return age_of(time) >= (time->tv_nsec % 1000000 != 0 ? TICK : CALM); }
+/* How old a time has to be so that a change from now on gives the file another one. */
+static long age_that_is_past(const struct timespec *time) { return time->tv_nsec % 1000000 != 0 ? TICK : CALM; }
 
 static int has_changed(const struct reading *reading) {
   struct stat now;
@@ -404,11 +368,19 @@ static int wait_for_turn(struct reading *reading) {
   return number == KEFS_OK ? KEFS_OK : fail(image, number == EINVAL ? ENOLCK : number, "locking");
 }
 
-/* Whether a reading without a writer may begin. A time that stays the same for so long is past too, also where the clocks differ. */
-static int is_calm(struct reading *reading, long *since) {
+/* In how many milliseconds a reading without a writer may begin: 0 or less, now. A time that stays the same for so long is past too, also where the clocks
+   differ. */
+static long till_calm(struct reading *reading, long *since) {
   struct stat now;
   if (has_changed(reading) && fstat(reading->image->fd, &now) == 0) reading->time = now.st_ctim, *since = milliseconds();
-  return is_past(&reading->time) || milliseconds() - *since >= CALM;
+  long left = age_that_is_past(&reading->time) - age_of(&reading->time), at_most = CALM - (milliseconds() - *since);
+  return left < at_most ? left : at_most;
+}
+
+/* Sleeps so long that a reading may begin, or a TICK, since a writer may come that tells. */
+static int rest_till_calm(struct reading *reading, long left) {
+  struct timespec pause = {0, (left < TICK ? left : TICK) * 1000000};
+  return nanosleep(&pause, NULL) == 0 ? KEFS_OK : fail(reading->image, errno, "waiting until the image stays as it is");
 }
 
 /* Where the file was changed just now and no writer tells, the turn begins some milliseconds later. */
@@ -418,10 +390,12 @@ static int begin_turn(struct reading *reading) {
     if (has_changed(reading)) reading->is_alone = 0;
     int result = wait_for_turn(reading);
     if (result != KEFS_OK || reading->state != 0) return result;
-    if (reading->is_alone ? !has_changed(reading) : is_calm(reading, &since)) return KEFS_OK;
+    long left = reading->is_alone ? has_changed(reading) : till_calm(reading, &since);
+    if (left <= 0) return KEFS_OK;
     set_lock(reading->image->fd, F_UNLCK, TURN);
     if (milliseconds() - begin > 3 * CALM) return fail(reading->image, KEFS_BUSY, "the image changes again and again");
-    nanosleep(&(struct timespec){0, 1000000}, NULL);
+    result = rest_till_calm(reading, left);
+    if (result != KEFS_OK) return result;
   }
 }
 

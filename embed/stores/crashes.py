@@ -97,7 +97,7 @@ def imagecat(image, file):
     output = io.TextIOWrapper(io.BytesIO())
     try:
         with contextlib.redirect_stdout(output):
-            runpy.run_path(IMAGECAT)
+            runpy.run_path(IMAGECAT, run_name="__main__")
     except SystemExit:
         return None
     finally:

@@ -5,6 +5,7 @@
 #include <elf.h>
 #include <errno.h>
 #include <fcntl.h>
+#include <libgen.h>
 #include <limits.h>
 #include <linux/filter.h>
 #include <linux/seccomp.h>
@@ -150,9 +151,28 @@ static void take_in(const struct options *options, uint64_t length) {
   quit(options->data, "has the bytes that the image has: -m LENGTH -i was cut short, and the same words again end it");
 }
 
+static int are_same(const char *one, const char *other) {
+  struct stat here, there;
+  return stat(one, &here) == 0 && stat(other, &there) == 0 && here.st_ino == there.st_ino && here.st_dev == there.st_dev;
+}
+
+/* Whether both paths lead to one file, or would if it were there. */
+static int are_one(const char *one, const char *other) {
+  char folders[2][PATH_MAX], names[2][PATH_MAX];
+  const char *paths[2] = {one, other};
+  for (int i = 0; i < 2; i++) snprintf(folders[i], PATH_MAX, "%s", paths[i]), snprintf(names[i], PATH_MAX, "%s", paths[i]);
+  return are_same(one, other) || (strcmp(basename(names[0]), basename(names[1])) == 0 && are_same(dirname(folders[0]), dirname(folders[1])));
+}
+
+/* The library would read the image by calls that it answers from the image. */
+static void refuse_one_file(const struct options *options) {
+  if (are_one(options->image, options->data)) quit(options->data, "is the image itself; the data file has a name of its own");
+}
+
 /* Sees to both files: the image holds the bytes, and the data file, which is made where it is missing, is empty. */
 static void make_files(const struct options *options) {
   struct stat st = {0};
+  refuse_one_file(options);
   int is_there = stat(options->data, &st) == 0;
   if (!is_there && errno != ENOENT) quit(options->data, strerror(errno));
   if (is_there && !S_ISREG(st.st_mode)) quit(options->data, S_ISDIR(st.st_mode) ? strerror(EISDIR) : "no regular file");
@@ -166,6 +186,7 @@ static void make_files(const struct options *options) {
   int fd = open(options->data, O_RDWR | O_CREAT | O_CLOEXEC, 0644);
   if (fd < 0) quit(options->data, strerror(errno));
   close(fd);
+  refuse_one_file(options); /* by a link that led to nothing */
 }
 
 /* A word of the environment that is an absolute path. */

@@ -71,6 +71,21 @@ class Kefsrun(Runs):
         os.mkdir(self.data)
         self.says(self.kefsrun("true"), 125, "Is a directory")
 
+    def test_the_image_is_no_data_file(self):
+        def says_so(data):
+            done = subprocess.run([KEFSRUN, "-m", "64K", self.image, data, "--", "cat", data], capture_output=True, text=True)
+            self.says(done, 125, "is the image itself")
+
+        says_so(self.image)
+        says_so(os.path.join(self.folder, ".", "image"))
+        self.assertFalse(os.path.exists(self.image))
+        os.symlink(self.image, self.data)
+        says_so(self.data)
+        says_so(self.data)
+        os.unlink(self.data)
+        os.link(self.image, self.data)
+        says_so(self.data)
+
     def test_no_image(self):
         with open(self.image, "wb") as file:
             file.write(bytes(1 << 20))

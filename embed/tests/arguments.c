@@ -127,6 +127,20 @@ static void *open_in_thread(void *unused) {
   return unused;
 }
 
+static void *open_and_end(void *unused) {
+  a = open_file(PATH, &image);
+  return unused;
+}
+
+/* A thread that has ended left its handle to the others, and most likely its pthread_t to the next one. */
+static void a_handle_of_a_thread_that_has_ended_is_waited_for(void) {
+  pthread_t thread;
+  make_file(PATH, PAGES, 0);
+  CHECK(pthread_create(&thread, NULL, open_and_end, NULL) == 0 && pthread_join(thread, NULL) == 0);
+  CHECK(pthread_create(&thread, NULL, open_in_thread, NULL) == 0 && pthread_join(thread, NULL) == 0);
+  DONE(kefs_close(image));
+}
+
 /* To wait for a handle of one's own would never end. */
 static void a_handle_of_the_same_thread_is_busy_at_once(void) {
   kefs_image *other;
@@ -151,6 +165,6 @@ static void a_handle_of_the_same_thread_is_busy_at_once(void) {
 
 static const struct test once[] = {
   TEST(null_is_an_argument_that_is_refused), TEST(no_permissions_are_those_of_the_owner), TEST(an_image_of_other_files_is_told), TEST(a_refused_image_has_its_path_and_the_reason),
-  TEST(a_handle_of_the_same_thread_is_busy_at_once)};
+  TEST(a_handle_of_a_thread_that_has_ended_is_waited_for), TEST(a_handle_of_the_same_thread_is_busy_at_once)};
 
 int main(int argc, char **argv) { return argc < 2 ? 2 : run_cases(argv, once, COUNT_OF(once), NULL, 0); }

@@ -3,8 +3,9 @@
 #define _GNU_SOURCE
 #define PROGRAM "costs"
 #include "cases.h"
-#include <pthread.h>
+#include <sys/file.h>
 #include <sys/resource.h>
+#include <sys/syscall.h>
 
 static double processor_seconds(void) { return seconds_of(CLOCK_PROCESS_CPUTIME_ID); }
 
@@ -63,24 +64,81 @@ static void a_backup_of_empty_files_is_cheap(void) {
   DONE(kefs_close(image));
 }
 
-static void *open_it(void *unused) {
-  a = open_file(PATH, &image);
-  return unused;
+/* Waits */
+
+static int has_coarse_times; /* as where the times of a file system are whole seconds */
+
+int fstat(int fd, struct stat *to) {
+  int result = (int)syscall(SYS_fstat, fd, to);
+  if (has_coarse_times) to->st_ctim.tv_nsec = 0;
+  return result;
 }
 
-static void a_wait_takes_hardly_any_time_of_a_processor(void) {
-  pthread_t thread;
-  kefs_image *other;
-  struct kefs_options options = {.size = sizeof options, .wait = 3000};
+static long sleeps(void) {
+  struct rusage usage;
+  getrusage(RUSAGE_SELF, &usage);
+  return usage.ru_nvcsw;
+}
+
+/* The image's lock, as another program has it. */
+static int locked(void) {
   make_file(PATH, PAGES, 0);
-  CHECK(pthread_create(&thread, NULL, open_it, NULL) == 0 && pthread_join(thread, NULL) == 0);
+  int fd = open(PATH, O_RDWR);
+  CHECK(flock(fd, LOCK_EX) == 0);
+  return fd;
+}
+
+/* Of openings to write, to read, and of a snapshot. */
+static void a_wait_takes_hardly_any_time_of_a_processor(void) {
+  struct kefs_options options = {.size = sizeof options, .wait = 3000};
+  static const unsigned openings[] = {0, KEFS_RDONLY, KEFS_SNAPSHOT};
+  locked();
+  for (size_t i = 0; i < COUNT_OF(openings); i++) {
+    double start = now(), before = processor_seconds();
+    long looks = sleeps();
+    RETURNS(KEFS_BUSY, kefs_open_with(&image, PATH, openings[i], &options));
+    CHECK(now() - start > 2.9 && processor_seconds() - before < 0.010 && sleeps() - looks < 160);
+  }
+}
+
+static long sleeps_of(pid_t process) {
+  char path[64], line[256];
+  long found = -1;
+  snprintf(path, sizeof path, "/proc/%d/status", (int)process);
+  FILE *facts = fopen(path, "r");
+  while (facts != NULL && fgets(line, sizeof line, facts) != NULL) (void)!sscanf(line, "voluntary_ctxt_switches: %ld", &found);
+  CHECK(facts != NULL && found >= 0);
+  fclose(facts);
+  return found;
+}
+
+static void a_wait_without_a_limit_is_one_sleep(void) {
+  int fd = locked();
+  for (unsigned opening = 0; opening <= KEFS_RDONLY; opening += KEFS_RDONLY) {
+    CHECK(flock(fd, LOCK_EX) == 0);
+    pid_t child = fork();
+    if (child == 0) _exit(kefs_open(&image, PATH, opening) != KEFS_OK || kefs_close(image) != KEFS_OK);
+    usleep(500000);
+    long before = sleeps_of(child);
+    sleep(1);
+    CHECK(sleeps_of(child) - before <= 2);
+    CHECK(flock(fd, LOCK_UN) == 0 && status_of(child) == 0);
+  }
+}
+
+/* A snapshot beside nobody begins some seconds after the last change then. */
+static void a_reading_waits_asleep_until_times_tell_changes(void) {
+  make_file(PATH, PAGES, 7);
+  has_coarse_times = 1;
   double start = now(), before = processor_seconds();
-  RETURNS(KEFS_BUSY, kefs_open_with(&other, PATH, 0, &options));
-  CHECK(now() - start > 2.9 && processor_seconds() - before < 0.010);
+  long looks = sleeps();
+  DONE(kefs_open(&image, PATH, KEFS_SNAPSHOT));
+  CHECK(now() - start > 1.5 && processor_seconds() - before < 0.020 && sleeps() - looks < 250);
   DONE(kefs_close(image));
 }
 
 static const struct test with_each_tracker[] = {TEST(a_map_of_an_empty_file_is_cheap)};
-static const struct test once[] = {TEST(a_backup_of_empty_files_is_cheap), TEST(a_wait_takes_hardly_any_time_of_a_processor)};
+static const struct test once[] = {TEST(a_backup_of_empty_files_is_cheap), TEST(a_wait_takes_hardly_any_time_of_a_processor), TEST(a_wait_without_a_limit_is_one_sleep),
+  TEST(a_reading_waits_asleep_until_times_tell_changes)};
 
 int main(int argc, char **argv) { return argc < 2 ? 2 : run_cases(argv, once, COUNT_OF(once), with_each_tracker, COUNT_OF(with_each_tracker)); }

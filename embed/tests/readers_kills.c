@@ -215,6 +215,12 @@ static void a_signal_ends_a_wait(void) {
   ualarm(100000, 0);
   kefs_image *other;
   RETURNS(EINTR, kefs_open(&other, PATH, KEFS_SNAPSHOT));
+  for (unsigned opening = 0; opening <= KEFS_RDONLY; opening += KEFS_RDONLY) {
+    ualarm(100000, 0);
+    RETURNS(EINTR, kefs_open(&other, PATH, opening));
+    ualarm(100000, 0);
+    RETURNS(EINTR, opened_within(&other, opening, 60000));
+  }
   end_child(child);
   CHECK(refreshed() == 1 && r[PAGE] == 1 && r[2 * PAGE] == 0);
   DONE(kefs_close(reader));
@@ -361,16 +367,16 @@ static void a_recovery_goes_on_past_a_stopped_reader(void) {
   DONE(kefs_close(writer));
 }
 
-/* A process that may only read the image holds the locks of readers, as if it were in its turn and waited for the next one, for ever. */
-static pid_t reader_that_holds_locks(void) {
+/* A process that may only read the image holds locks from this byte on for ever, so many or, where it is 0, all. */
+static pid_t reader_that_holds_locks(off_t from, off_t count) {
   int ready[2];
   char byte;
   CHECK(pipe(ready) == 0);
   pid_t child = fork();
   if (child != 0) return CHECK(read(ready[0], &byte, 1) == 1), child;
   prctl(PR_SET_PDEATHSIG, SIGKILL);
-  struct flock turns = {.l_type = F_RDLCK, .l_whence = SEEK_SET, .l_start = ((off_t)1 << 62) + 1, .l_len = 2};
-  CHECK(fcntl(open(PATH, O_RDONLY), F_OFD_SETLK, &turns) == 0 && write(ready[1], "", 1) == 1);
+  struct flock locks = {.l_type = F_RDLCK, .l_whence = SEEK_SET, .l_start = from, .l_len = count};
+  CHECK(fcntl(open(PATH, O_RDONLY), F_OFD_SETLK, &locks) == 0 && write(ready[1], "", 1) == 1);
   for (;;) pause();
 }
 
@@ -380,16 +386,38 @@ static long commits_within(double seconds) {
   return commits;
 }
 
+static const off_t LOCKS = (off_t)1 << 62;
+
+/* As if it were in its turn and waited for the next one. */
 static void locks_of_a_reader_take_a_tenth_of_a_writers_time(void) {
   make_file(PATH, PAGES * PAGE, 0);
   a = opened(&writer, PATH, 0);
-  long alone = commits_within(1);
-  pid_t child = reader_that_holds_locks();
-  commit(1, 1);
-  long beside = commits_within(1);
-  CHECK(beside > alone / 3);
+  pid_t child = reader_that_holds_locks(LOCKS + 1, 2);
+  commit(1, 1); /* waits a second, once */
+  double start = now(), before = slept;
+  CHECK(before > 0.5 && commits_within(1) > 0 && slept - before < 0.15 * (now() - start));
   CHECK(end_child(child));
   DONE(kefs_close(writer));
+}
+
+/* Those too by which a writer tells readers: these are kept out then, and the writer not. */
+static void all_locks_of_a_reader_stop_no_writer(void) {
+  kefs_image *other;
+  make_file(PATH, PAGES * PAGE, 0);
+  pid_t child = reader_that_holds_locks(LOCKS, 0);
+  double start = now();
+  a = opened(&writer, PATH, 0);
+  commit(1, 1);
+  takes(0, 5, start);
+  start = now();
+  double before = slept;
+  CHECK(commits_within(1) > 0 && slept - before < 0.15 * (now() - start));
+  RETURNS(KEFS_BUSY, opened_within(&other, KEFS_SNAPSHOT, 100));
+  CHECK(end_child(child));
+  commit(1, 2);
+  open_reader();
+  CHECK(r[PAGE] == 2);
+  end();
 }
 
 /* Nobody waits long where all are as busy as they can be: hardly a refresh sees more commits than that which was under way, and the next one. */
@@ -475,7 +503,7 @@ static const struct test tests[] = {
   TEST(readers_sum_beside_a_writer_under_kills), TEST(a_wait_for_a_commit_ends), TEST(a_signal_ends_a_wait),
   TEST(a_failed_commit_is_not_seen), TEST(a_stopped_reader_stops_no_writer), TEST(a_stopped_reader_is_waited_for_by_an_opening),
   TEST(a_reader_that_was_stopped_alone_keeps_no_writer_out), TEST(a_recovery_goes_on_past_a_stopped_reader),
-  TEST(locks_of_a_reader_take_a_tenth_of_a_writers_time),
+  TEST(locks_of_a_reader_take_a_tenth_of_a_writers_time), TEST(all_locks_of_a_reader_stop_no_writer),
   TEST(nobody_waits_long), TEST(no_commit_waits_long_for_openings), TEST(a_writer_that_is_killed_leaves_before_or_after)};
 
 int main(int argc, char **argv) {

@@ -5,6 +5,7 @@
 #include "tests.h"
 #include <errno.h>
 #include <fcntl.h>
+#include <poll.h>
 #include <pthread.h>
 #include <setjmp.h>
 #include <signal.h>
@@ -105,6 +106,14 @@ ssize_t pread(int fd, void *to, size_t bytes, off_t at) {
 int posix_fadvise(int fd, off_t at, off_t length, int advice) {
   drops += at == 0 && length == 0 && advice == POSIX_FADV_DONTNEED;
   return (int)syscall(SYS_fadvise64, fd, at, length, advice);
+}
+
+static double slept; /* seconds that waits were to sleep */
+
+int ppoll(struct pollfd *of, nfds_t count, const struct timespec *pause, const sigset_t *blocked) {
+  struct timespec left = *pause;
+  slept += (double)pause->tv_sec + (double)pause->tv_nsec * 1e-9;
+  return (int)syscall(SYS_ppoll, of, count, &left, blocked, (size_t)8);
 }
 
 static inline void stop(void) { raise(SIGSTOP); }

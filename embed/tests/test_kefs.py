@@ -3,6 +3,7 @@ crates/pagefmt is built, of pagefmt. Images that are not made by the library are
 
 import ctypes
 import errno
+import fcntl
 import gc
 import os
 import signal
@@ -341,7 +342,7 @@ class Images(unittest.TestCase):
             child = os.fork()
             if child == 0:
                 os._exit(0 if all(it.find(b"\\0") < 0 for it in held) else 9)
-            sys.exit(os.waitstatus_to_exitcode(os.waitpid(child, 0)[1]))
+            sys.exit(os.waitpid(child, 0)[1] != 0)
         """
         kefs.format(self.path, [16 << 20])
         for flags in (0, kefs.TRACK_SIGNAL, kefs.SNAPSHOT):
@@ -369,6 +370,20 @@ class Images(unittest.TestCase):
         signal.setitimer(signal.ITIMER_REAL, 0)
         self.assertGreater((len(seen), time.monotonic() - start), (2, 0.19))
         holders[0].close()
+
+    def test_a_refresh_under_signals_ends(self):
+        kefs.format(self.path, [4096])
+        before = signal.signal(signal.SIGALRM, lambda *_: None)
+        self.addCleanup(signal.signal, signal.SIGALRM, before)
+        with kefs.open(self.path, kefs.SNAPSHOT, wait=200) as reader, open(self.path, "r+b") as file:
+            fcntl.flock(file, fcntl.LOCK_EX)
+            os.utime(self.path)
+            signal.setitimer(signal.ITIMER_REAL, 0.02, 0.02)
+            self.addCleanup(signal.setitimer, signal.ITIMER_REAL, 0)
+            start = time.monotonic()
+            self.assertRaises(kefs.Busy, reader.refresh)
+            signal.setitimer(signal.ITIMER_REAL, 0)
+            self.assertGreater(time.monotonic() - start, 0.19)
 
     def test_a_child_has_no_image(self):
         image = self.opened()

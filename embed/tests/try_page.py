@@ -1,5 +1,5 @@
 """try_page.py PAGE LIBRARY: takes the C program of a page (docs/C.md), builds it against LIBRARY (libkefs.a), and runs it; each of its runs
-has to print what the page says. Then it simulates STATES power cuts in a run, in each model of stores/powercuts.py, and runs the program
+has to print what the page says. Then it simulates STATES power cuts in one run, in each model of stores/powercuts.py, and runs the program
 on what each has left: the accounts have to sum to 0, after as many transfers as there were or up to a run's more. A disk that ignores one
 sync in three is the control, and has to fail so."""
 import os
