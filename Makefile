@@ -25,6 +25,7 @@ install: install-library install-programs
 
 # Of the pages of programs, which embed/Makefile installs too, each package is to have its own.
 install-library:
+	@command -v $(CC) > /dev/null || { echo "make: there is no C compiler ($(CC)), which the C library takes; make install-programs installs the programs alone" >&2; exit 1; }
 	rm -f $(PROGRAMS:%=embed/out/man/%.1)
 	$(MAKE) -s -C embed install PROGRAMS= DESTDIR='$(DESTDIR)' PREFIX='$(PREFIX)'
 

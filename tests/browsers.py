@@ -1,5 +1,5 @@
 """A browser that a test drives: Chromium by its debugging pipe, Firefox by Marionette. Each opens a page, runs scripts in it, clicks and types as a hand does, takes pictures of it,
-and tells what went wrong in it and what it asked the network for."""
+and tells what went wrong in it and what it asked the network for; a proxy hears what it asks for in all of its processes."""
 import base64
 import fcntl
 import json
@@ -10,11 +10,14 @@ import signal
 import socket
 import subprocess
 import tempfile
+import threading
 import time
 
 CHROMIUM, FIREFOX = ("chromium", "chromium-browser", "google-chrome"), ("firefox", "firefox-esr")
 PATIENCE = 240  # seconds that a test waits for something at most
 HIGH = 20  # descriptors from here on are no other's
+# keep Chromium from asking for something of its own
+QUIET = ("--disable-background-networking", "--disable-component-update", "--disable-default-apps", "--disable-sync", "--no-first-run", "--disable-domain-reliability", "--disable-client-side-phishing-detection")
 
 # What is wrong with the words of the picture that is shown: two that overlap, one that goes over the edge of its card, of which a picture is the largest; and a page that is too wide.
 LOOK = """
@@ -47,6 +50,33 @@ def pipe():
     for it in ends:
         os.close(it)
     return high
+
+
+class Proxy:
+    """A proxy that notes the first line of each request, and answers none."""
+
+    def __enter__(self):
+        self.heard = []
+        self.listener = socket.create_server(("127.0.0.1", 0))
+        self.address = f"127.0.0.1:{self.listener.getsockname()[1]}"
+        threading.Thread(target=self.listen, daemon=True).start()
+        return self
+
+    def __exit__(self, *_):
+        self.listener.close()
+
+    def listen(self):
+        while True:
+            try:
+                taken, _ = self.listener.accept()
+            except OSError:
+                return
+            with taken:
+                taken.settimeout(5)
+                try:
+                    self.heard.append(taken.recv(4096).split(b"\r\n")[0].decode(errors="replace"))
+                except OSError:
+                    self.heard.append("a connection")
 
 
 class Browser:
@@ -83,12 +113,14 @@ class Browser:
 
 
 class Chromium(Browser):
-    """`profile` is a folder that it keeps what it stores in, for a test that opens it again."""
+    """`profile` is a folder that it keeps what it stores in, for a test that opens it again; `proxy` the address of a Proxy, which gets all that it asks for, also of this machine."""
 
-    def __init__(self, width=1280, height=900, profile=None, dark=False):
+    def __init__(self, width=1280, height=900, profile=None, dark=False, proxy=None):
         self.own, self.profile = profile is None, profile or tempfile.mkdtemp()
         self.sent, self.buffer, self.events = 0, b"", []
-        words = [found(CHROMIUM), "--headless=new", "--no-sandbox", "--disable-gpu", "--disable-dev-shm-usage", "--hide-scrollbars", "--remote-debugging-pipe", f"--user-data-dir={self.profile}", "about:blank"]
+        words = [found(CHROMIUM), "--headless=new", "--no-sandbox", "--disable-gpu", "--disable-dev-shm-usage", "--hide-scrollbars", "--remote-debugging-pipe", f"--user-data-dir={self.profile}"]
+        words += [f"--proxy-server={proxy}", "--proxy-bypass-list=<-loopback>", *QUIET] if proxy else []
+        words.append("about:blank")
         (theirs, self.out), (self.into, answers) = pipe(), pipe()
         self.ends = (self.out, self.into)
         shell = f'exec "$@" 3<&{theirs} 4>&{answers}'  # the browser's descriptors 3 and 4
@@ -177,13 +209,17 @@ class Chromium(Browser):
 
 
 class Firefox(Browser):
-    def __init__(self, width=1280, height=900):
+    def __init__(self, width=1280, height=900, proxy=None):
         self.own, self.profile, self.sent, self.ends = True, tempfile.mkdtemp(), 0, ()
         with socket.socket() as free:
             free.bind(("127.0.0.1", 0))
             port = free.getsockname()[1]
         with open(f"{self.profile}/user.js", "w") as file:
             file.write(f'user_pref("marionette.port", {port});\nuser_pref("browser.shell.checkDefaultBrowser", false);\nuser_pref("datareporting.policy.dataSubmissionEnabled", false);\n')
+            if proxy:
+                host, at = proxy.split(":")
+                file.writelines(f'user_pref("network.proxy.{kind}", "{host}");\nuser_pref("network.proxy.{kind}_port", {at});\n' for kind in ("http", "ssl"))
+                file.write('user_pref("network.proxy.type", 1);\nuser_pref("network.proxy.allow_hijacking_localhost", true);\n')
         self.process = subprocess.Popen([found(FIREFOX), "--headless", "--no-remote", "--marionette", "--profile", self.profile, "--width", str(width), "--height", str(height)], stdout=subprocess.DEVNULL, stderr=subprocess.DEVNULL)
         end = time.monotonic() + PATIENCE
         while True:
@@ -241,6 +277,9 @@ class Firefox(Browser):
     def type(self, text):
         element = self.send("WebDriver:GetActiveElement", {})["value"]
         self.send("WebDriver:ElementSendKeys", {"id": next(iter(element.values())), "text": text})
+
+    def key(self, name):
+        self.type({"ArrowLeft": "\ue012", "ArrowRight": "\ue014", "End": "\ue010", "Home": "\ue011"}[name])
 
     def shot(self):
         return self.send("WebDriver:TakeScreenshot", {"full": False})["value"]

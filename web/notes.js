@@ -29,13 +29,13 @@ const Notes = (() => {
   async function save(left, right) {
     await ask("save", { notes: [left, right], saves: state.saves + 1 });
     state.saves += 1;
-    part("saved").textContent = `saved, ${state.saves} times in all`;
+    part("saved").textContent = `save ${state.saves} is done`;
   }
 
   async function start() {
     part("proved").textContent = data.proved;
-    if (!navigator.storage || !navigator.storage.getDirectory) {
-      say("This browser keeps no files for this page: it wants the origin's private file system, which there is for pages from https or from localhost. From a folder: python3 -m http.server, and http://localhost:8000/docs/notes.html");
+    if (!navigator.storage || !navigator.storage.getDirectory || location.protocol === "file:") {
+      say("Here this page gets no files to keep notes in: browsers have such for pages from https or from localhost. In the folder of the repository: python3 -m http.server, and http://localhost:8000/docs/notes.html");
       return;
     }
     state.worker = new Worker(URL.createObjectURL(new Blob([part("engine").textContent], { type: "text/javascript" })));
@@ -45,7 +45,7 @@ const Notes = (() => {
     Object.assign(state, { saves: left.saves });
     part("left").value = left.text;
     part("right").value = right.text;
-    part("saved").textContent = left.saves > 0 ? `as saved, ${left.saves} times in all` : "nothing is saved yet";
+    part("saved").textContent = left.saves > 0 ? `as save ${left.saves} left them` : "nothing is saved yet";
     part("save").disabled = false;
     part("save").onclick = () => save(part("left").value, part("right").value).catch((why) => say(why.message));
   }

@@ -250,8 +250,8 @@ var Page = (() => { // of the window, where tests find its state
   function cutHeads({ heads, count: events, names }, lie) {
     const syncs = heads.map((it, n) => ({ ...it, stop: n + 1 })).filter((it) => it.part === "sync");
     part("lie").innerHTML = `<option value="0">is honest${syncs.map((it) => `<option value="${it.stop}"${it.stop === lie ? " selected" : ""}>lies about sync ${it.stop}, in ${escape(it.command)}`).join("")}`;
-    const commands = groups(heads, (it) => `${it.line} ${it.command}`).map(({ said, wide }) => `<td class="group command" colspan="${wide}" title="${escape(said)}">${escape(said.replace(/^\d+ /, ""))}</td>`);
-    const parts = groups(heads, (it) => it.part).map(({ said, wide }) => `<td class="group" colspan="${wide}" title="${said}">${wide > 1 || said === "sync" ? said.slice(0, Math.max(1, 3 * wide)) : said[0]}</td>`);
+    const commands = groups(heads, (it) => `${it.line} ${it.command}`).map(({ said, wide }) => `<td class="group command" colspan="${wide}" title="${escape(said)}">${wide > 1 ? escape(said.replace(/^\d+ /, "")) : ""}</td>`);
+    const parts = groups(heads, (it) => it.part).map(({ said, wide }) => `<td class="group" colspan="${wide}" title="${said}">${wide > 1 ? said.slice(0, 3 * wide) : said[0]}</td>`);
     const rows = names.map((name, row) => `<tr><th scope="row">${name}</th>${heads.map((_, n) => `<td data-row="${row}" data-stop="${n + 1}"></td>`).join("")}</tr>`);
     part("map").innerHTML = `<table><tr><th></th>${commands.join("")}</tr><tr><th></th>${parts.join("")}</tr>${rows.join("")}</table>`;
     Object.assign(state.cutting, { heads, events, names });
@@ -263,6 +263,7 @@ var Page = (() => { // of the window, where tests find its state
       const cell = part("map").querySelector(`[data-row="${row}"][data-stop="${column + 1}"]`);
       cell.textContent = msyncs < 0 ? "-" : msyncs;
       cell.className = msyncs < 0 ? "torn" : `c${msyncs % 5}`;
+      if (msyncs < 0 && mine.torn === 0) part("map").scrollLeft = cell.offsetLeft - part("map").clientWidth / 2; // the first that is torn is to be seen
       mine.torn += msyncs < 0;
       mine.done += 1;
     });
@@ -414,7 +415,7 @@ var Page = (() => { // of the window, where tests find its state
     part("anew").onclick = guarded(() => { fresh(); return check(); });
     part("stop").onclick = () => engine.stop();
     part("link").onclick = guarded(copyLink);
-    part("trusting").onclick = (event) => { event.preventDefault(); part("trust").scrollIntoView(); };
+    for (const [link, section] of [["trusting", "trust"], ["powering", "power"]]) part(link).onclick = (event) => { event.preventDefault(); part(section).scrollIntoView(); };
     window.onhashchange = () => { if (location.hash !== linked) opened(location.hash); };
   }
 
