@@ -1,21 +1,19 @@
 -- Which sectors an access asks for, from step to step.
-use Rattle.fault.proofs.{AccessSteps.{keeps_seen}, Asking.{asks_slots_any, asks_slots_if, asks_slots_kept, asks_slots_same, asks_slots_then, asks_slots_wider}, Forms.{none_common, seat_zero}, Linked.{lacks_none}, Names.{top_level, Access}}
-use Rattle.fault.proofs.Names.{Store, FilePage, FrameNo, SlotNo, PageKey, File, Attr, ◌≡◌, ◌≢◌, ◌<◌, ℕ, true, inl, inr, ◌⊎◌, Option, Some, None, refl, sym, ap, ◌∙◌, subst, arith, cases_Bool, cases_lt, Ghosts, AsksOnly, Nothing, NamesOnce, asks_none, asks_once, once_none, once_wider}
-use Rattle.fault.proofs.Names.{asks_wider, FileStore, IsSectorOf, IsFull, frame_count, Swap, inside_of, IsPage, Place, Home, Frame, Slot, Core, InFrame, InSlot, seat, is_private, is_swapped, Picture, picture_of, entry, is_data, IsOwned}
-use Rattle.fault.proofs.{Names.{IsFit, GivesForTables, KeepsRolesBut, KeepsPages, KeepsFiles, IsWhole, holders_none, seat_common, seat_own}, OwnSteps.{shown_common}, Wanted.{cases_frame, whole_or, shows_back}}
+use Rattle.fault.proofs.{AccessSteps.{keeps_seen}, Asking.{asks_slots_any, asks_slots_if, asks_slots_kept, asks_slots_same, asks_slots_then, asks_slots_wider}, Forms.{none_common, seat_zero}, Linked.{as_before, lacks_none}, Names.{top_level, Access}}
+use Rattle.fault.proofs.Names.{Store, FilePage, FrameNo, SlotNo, PageKey, File, Attr, ◌≡◌, ◌≢◌, ◌<◌, ℕ, true, inl, inr, ◌⊎◌, Option, Some, None, refl, sym, ap, ◌∙◌, subst, arith, cases_Bool, cases_lt, Ghosts, AsksOnly, Nothing, NamesOnce}
+use Rattle.fault.proofs.Names.{asks_none, asks_once, once_none, once_wider, asks_wider, FileStore, IsSectorOf, IsFull, frame_count, Swap, inside_of, IsPage, Place, Home, Frame, Slot, Core, InSlot, seat, is_private, is_swapped, Picture}
+use Rattle.fault.proofs.Names.{picture_of, entry, is_data, IsOwned}
+use Rattle.fault.proofs.{Steps.{on_right}, Names.{otherwise, true_from_ne_false, ⊎_elim, IsFit, GivesForTables, KeepsRolesBut, KeepsPages, KeepsFiles, IsWhole, holders_none, seat_common, seat_own}, OwnSteps.{shown_common}, Wanted.{cases_frame, shows_back}}
 use Rattle.fault.specs.{AccessAsking.{IsSectorOfItsSlot, IsSectorShown, AsksForPage}, Asking.{HasSwappable, MayAsk, AsksIfFull, AsksNoNew, AsksSlotsIf, IsSectorOfStoredPage, IsSectorOfPage}, Changes.{IsCalm, KeepsBare, KeepsSlotted, LinksTables, Moves}}
 use Rattle.{fault.specs.{Changes.{copied_frame, frame_behind, frame_of_place}, Wants.{LacksTable, RunsOut, ShowsFile, WantsTwo}}, vm_types.specs.declared.region.Backing.TheVariants.{Private}}
 use Rattle.vm_types.specs.declared.mode.Levels as Levels
 
 -- an entry that names a slot as the seat of its page is one of a page that lies in a slot
 away_of : (e k : ℕ) → seat e ≡ Some (InSlot k) → is_swapped e ≡ true
-away_of e k there = elim (cases_Bool (is_swapped e)) [
-  | inl away ↦ away
-  | inr here ↦ elim (cases_Bool (is_private e)) [
-    | inl own ↦ (let bad : Some (InFrame _) ≡ Some (InSlot k) = sym (seat_own e own) ∙ there in (cc))
-    | inr common ↦ (let bad : None ≡ Some (InSlot k) = sym (seat_common e common here) ∙ there in (cc))
-  ]
-]
+away_of e k there = true_from_ne_false _ (λ here. elim (cases_Bool (is_private e)) [
+  | inl own ↦ (let bad = sym (seat_own e own) ∙ there in (cc))
+  | inr common ↦ (let bad = sym (seat_common e common here) ∙ there in (cc))
+])
 
 one_slot : (j k : SlotNo) → Slot j ≡ Slot k → j ≡ k
 one_slot j k same = (cc)
@@ -23,10 +21,7 @@ one_slot j k same = (cc)
 -- more sectors may have come
 no_new_wider : {mode : ℕ} (old new : Picture mode) (keep : Option FrameNo) (also : ℕ → Type 0) → AsksNoNew old new keep Nothing → AsksNoNew old new keep also
 no_new_wider old new keep also none = record {
-  slots = λ k is. elim (none.slots k is) [
-    | inl was ↦ inl was
-    | inr no_sector ↦ absurd no_sector
-  ];
+  slots = λ k is. on_right absurd (none.slots k is);
   frames = none.frames;
 }
 
@@ -34,10 +29,7 @@ no_new_wider old new keep also none = record {
 module _ {mode : ℕ} (old new : Picture mode) (fit : IsFit old) (now : IsFit new) (files : KeepsFiles old new) (slotted : KeepsSlotted (λ p. ⊥) (λ q p. ⊥) old new) (p : PageKey) (s : SlotNo)
     (there : new.place p ≡ Slot s) where
   stays : (q : PageKey) (k : SlotNo) → old.place q ≡ Slot k → new.place q ≡ Slot k
-  stays q k at = elim (slotted.file_pages q k at) [
-    | inl none ↦ absurd none
-    | inr still ↦ still
-  ]
+  stays q k at = otherwise (slotted.file_pages q k at) (λ none. none)
 
   -- no own copy lay in the slot
   unseated : IsOwned old (InSlot s.0) → ⊥
@@ -45,10 +37,7 @@ module _ {mode : ℕ} (old new : Picture mode) (fit : IsFit old) (now : IsFit ne
       let pages = fit.counted.0 in
       let named : (q : ℕ) → seat (entry old q (pages s.0)) ≢ Some (InSlot s.0) = λ q at. (
       let h = fit.counted.1.pages (InSlot s.0) owned in
-      elim (slotted.copies q (pages s.0) h (away_of (entry old q (pages s.0)) s.0 at)) [
-        | inl none ↦ none
-        | inr same ↦ (now.counted.1.named q (pages s.0) (InSlot s.0) h (ap seat same ∙ at)).1 p there
-      ]) in
+      ⊎_elim (λ none. none) (λ same. (now.counted.1.named q (pages s.0) (InSlot s.0) h (ap seat same ∙ at)).1 p there) (slotted.copies q (pages s.0) h (away_of (entry old q (pages s.0)) s.0 at))) in
       let count = fit.counted.1.counts (InSlot s.0) owned in
       let none = holders_none (entry old) (pages s.0) (InSlot s.0) named in
       let some = owned.0 in
@@ -180,14 +169,8 @@ module _ {M : Type 0} {m : Levels.Ghosts M} {D E : Type 0} (g : Ghosts D) (h : G
 
     -- no frame is free, or one alone where two are wanted, in memory as the tables leave it
     out_after : IsFull mid.frames ⊎ WantsTwo (picture_of mid) pid page access → RunsOut (picture_of old) pid page access
-    out_after short = elim (whole_or (picture_of old) pid page lives) [
-      | inl had ↦ record {
-        linked = picture_of old;
-        made = inl refl;
-        short = (let P : Core D E M m → Type 0 = λ c. IsFull c.frames ⊎ WantsTwo (picture_of c) pid page access in subst P (idle had) short);
-      }
-      | inr lacks ↦ record { linked = picture_of mid; made = inr (record { lacks = lacks; tried = None; gives = gives; tables = tables }); short = short }
-    ]
+    out_after short = as_before (λ (c : Core D E M m). RunsOut (picture_of c) pid page access) lives idle (record { linked = picture_of mid; made = inl refl; short = short })
+        (λ lacks. record { linked = picture_of mid; made = inr (record { lacks = lacks; tried = None; gives = gives; tables = tables }); short = short })
 
     out_before : RunsOut (picture_of mid) pid page access → RunsOut (picture_of old) pid page access
     out_before out = elim out.made [
@@ -215,10 +198,7 @@ module _ {M : Type 0} {m : Levels.Ghosts M} {D E : Type 0} (g : Ghosts D) (h : G
         ]
 
     its_before : (k : ℕ) → IsSectorOfItsSlot (picture_of mid) pid page k → MayAsk (picture_of old) (RunsOut (picture_of old) pid page access) None (IsSectorOfItsSlot (picture_of old) pid page) k
-    its_before k is = elim (whole_or (picture_of old) pid page lives) [
-      | inl had ↦ inl (let P : Core D E M m → Type 0 = λ c. IsSectorOfItsSlot (picture_of c) pid page k in subst P (idle had) is)
-      | inr lacks ↦ lacking lacks k is
-    ]
+    its_before k is = as_before (λ (c : Core D E M m). MayAsk (picture_of c) (RunsOut (picture_of c) pid page access) None (IsSectorOfItsSlot (picture_of c) pid page) k) lives idle (inl is) (λ lacks. lacking lacks k is)
 
     pub asks_back : AsksNoNew (picture_of old) (picture_of mid) None Nothing → AsksSlotsIf h (IsFull mid.frames) old mid None Nothing → AsksForPage g h mid new pid page access
         → AsksForPage g h old new pid page access

@@ -1,6 +1,7 @@
 -- Memory after an access is a state of the flat model, where memory before it was one.
-use Rattle.fault.proofs.Names.{◌≡◌, ◌≢◌, ℕ, inl, inr, ◌⊎◌, true, false, List, Option, Some, None, refl, sym, ap, ◌∙◌, subst, eq-eqb, ne_eqb, cases_Bool, cases_eq, false≢true, same_Some, is_some, ◌==◌, ◌&&◌, FilePage, ObjectPage, PageKey}
-use Rattle.fault.proofs.Names.{File, Object, Backing, Anon, Shared, Common, with_shown_bytes, State, behind, copy_or_behind, or_zeros, shown, with_view, View, zero_page, Ghosts, IsPageOf, standing_page, bytes_of, SlotTable, Place, Home}
+use Rattle.fault.proofs.Names.{◌≡◌, ◌≢◌, ℕ, inl, inr, ◌⊎◌, true, false, List, Option, Some, None, refl, sym, ap, ◌∙◌, subst, eq-eqb, ne_eqb, cases_Bool, cases_eq, same_Some, is_some, ◌==◌, ◌&&◌, FilePage, ObjectPage, PageKey, and_from}
+use Rattle.fault.proofs.Names.{⊎_elim, record_of, object_of, File, Object, Backing, Anon, Shared, Common, with_shown_bytes, State, behind, copy_or_behind, or_zeros, shown, with_view, View, zero_page, Ghosts, IsPageOf, standing_page}
+use Rattle.fault.proofs.Names.{bytes_of, SlotTable, Place, Home}
 use Rattle.fault.proofs.{Names.{Frame, Slot, Picture, view, is_live, held, bytes_at, IsFit, is_shared, ShowsPages, object_bytes, SameBeside, cases_page, by_page}, Storing.{view_own, views_others, held_own, views_file, held_else}}
 use Rattle.fault.{proofs.Storing.{held_written}, specs.{Changes.{KeepsSeen, KeepsSpaces}, Files.{IsBrought, Stays, Leaves, Comes, Blank, BringsPages}, Outcome.{Owns, MarksTouchedIn}, Shown.{AreBehind, AreOwnOrBehind, AreShown}}}
 use Rattle.vm_types.specs.declared.region.Backing.TheVariants.{Private}
@@ -36,11 +37,11 @@ module _ {mode : ℕ} {D : Type 0} (g : Ghosts D) (before after : D) (W : PageKe
     (spaces : KeepsSpaces old new) (kept : g.keeps_model after) (homes : IsHomeDurable g before old s) where
   held_now : ShowsPages old s → (p : FilePage) (bytes : List ℕ) → held new (File p) ≡ Some bytes → IsBrought g before after W old new (File p) → s.volatile p.file p.page ≡ bytes
   held_now shows p bytes is (Stays same) = shows.held p bytes (sym same ∙ is)
-  held_now shows p bytes is (Leaves none untouched) = let bad : None ≡ Some bytes = sym none ∙ is in (cc)
   held_now shows p bytes is (Comes f read e among here untouched from) =
       let same : f ≡ p = (cc) in
       let inside = page_of_same old new p brings.files (fit.places.inside (File p) (held_away new (File p) bytes is)) in
       shows.clean p untouched inside ∙ sym (homes p inside) ∙ ap (λ x. standing_page (g.content before) x.file x.page) (sym same) ∙ sym (from kept) ∙ same_Some read bytes (sym here ∙ is)
+  held_now shows p bytes is (Leaves none untouched) = (cc)
   held_now shows p bytes is (Blank o e among here untouched) = (cc)
 
   none_stored : ShowsPages old s → (p : ObjectPage) → old.touched (Object p) ≡ false → s.objects p.object p.page ≡ None
@@ -51,18 +52,18 @@ module _ {mode : ℕ} {D : Type 0} (g : Ghosts D) (before after : D) (W : PageKe
     | inl touched ↦ ap or_zeros (stored_at old s shows p touched ∙ sym same ∙ is)
     | inr untouched ↦ ap or_zeros (none_stored shows p untouched) ∙ sym (shows.blank p bytes untouched (sym same ∙ is))
   ]
-  object_now shows p bytes is (Leaves none untouched) = let bad : None ≡ Some bytes = sym none ∙ is in (cc)
-  object_now shows p bytes is (Comes f read e among here untouched from) = (cc)
   object_now shows p bytes is (Blank o e among here untouched) = ap or_zeros (none_stored shows p untouched) ∙ same_Some zero_page bytes (sym here ∙ is)
+  object_now shows p bytes is (Leaves none untouched) = (cc)
+  object_now shows p bytes is (Comes f read e among here untouched from) = (cc)
 
   stored_now : ShowsPages old s → (p : ObjectPage) (bytes : List ℕ) → s.objects p.object p.page ≡ Some bytes → IsBrought g before after W old new (Object p) → held new (Object p) ≡ Some bytes
   stored_now shows p bytes is (Stays same) = elim (cases_Bool (old.touched (Object p))) [
     | inl touched ↦ same ∙ sym (stored_at old s shows p touched) ∙ is
     | inr untouched ↦ (let bad : None ≡ Some bytes = sym (none_stored shows p untouched) ∙ is in (cc))
   ]
-  stored_now shows p bytes is (Leaves none untouched) = let bad : None ≡ Some bytes = sym (none_stored shows p untouched) ∙ is in (cc)
   stored_now shows p bytes is (Comes f read e among here untouched from) = (cc)
-  stored_now shows p bytes is (Blank o e among here untouched) = let bad : None ≡ Some bytes = sym (none_stored shows p untouched) ∙ is in (cc)
+  stored_now shows p bytes is (Leaves none untouched) = let bad = none_stored shows p untouched in (cc)
+  stored_now shows p bytes is (Blank o e among here untouched) = let bad = none_stored shows p untouched in (cc)
 
   -- reading file pages changes no file
   pub shows_files : ShowsPages old s → ShowsFiles new s
@@ -77,9 +78,9 @@ module _ {mode : ℕ} {D : Type 0} (g : Ghosts D) (before after : D) (W : PageKe
 
   still_stored : (p : ObjectPage) → old.touched (Object p) ≡ true → IsBrought g before after W old new (Object p) → held new (Object p) ≡ held old (Object p)
   still_stored p touched (Stays same) = same
-  still_stored p touched (Leaves none untouched) = absurd (false≢true (sym untouched ∙ touched))
-  still_stored p touched (Comes f read e among here untouched from) = absurd (false≢true (sym untouched ∙ touched))
-  still_stored p touched (Blank o e among here untouched) = absurd (false≢true (sym untouched ∙ touched))
+  still_stored p touched (Leaves none untouched) = (cc)
+  still_stored p touched (Comes f read e among here untouched from) = (cc)
+  still_stored p touched (Blank o e among here untouched) = (cc)
 
   -- after a load, a fetch and a stall
   pub shows_kept : KeepsSeen old new → ShowsPages old s → ShowsPages new s
@@ -106,9 +107,8 @@ held_in c p n at = ap (bytes_at c.frames c.slots) at
 
 behind_shown : {mode : ℕ} (c : Picture mode) (s : State) (b : Backing) (bytes : List ℕ) → ShowsFiles c s → AreBehind c b bytes → bytes ≡ behind s b
 behind_shown c s Anon bytes shows is = is
-behind_shown c s (Private p) bytes shows is = is.2 ∙ sym (shows.held p (bytes_of c.frames is.0.0) (held_in c (File p) is.0.0 is.1))
-behind_shown c s (Shared p) bytes shows is = is.2 ∙ sym (shows.held p (bytes_of c.frames is.0.0) (held_in c (File p) is.0.0 is.1))
 behind_shown c s (Common p) bytes shows is = is.2 ∙ sym (shows.objects p (bytes_of c.frames is.0.0) (held_in c (Object p) is.0.0 is.1))
+behind_shown c s b bytes shows is = is.2 ∙ sym (shows.held _ (bytes_of c.frames is.0.0) (held_in c _ is.0.0 is.1))
 
 own_shown : {mode : ℕ} (c : Picture mode) (s : State) (b : Backing) (own : Option (List ℕ)) (bytes : List ℕ) → ShowsFiles c s → AreOwnOrBehind c b own bytes
     → bytes ≡ copy_or_behind s b own
@@ -119,9 +119,6 @@ own_shown c s b None bytes shows is = behind_shown c s b bytes shows is
 pub bytes_shown : {mode : ℕ} (c : Picture mode) (s : State) (v : View) (bytes : List ℕ) → ShowsFiles c s → AreShown c v bytes → bytes ≡ shown s v
 bytes_shown c s v bytes shows is = own_shown c s v.attr.backing v.own bytes shows is
 
-same_numbers : (a b c d : ℕ) → a ≡ c → b ≡ d → (a == c && b == d) ≡ true
-same_numbers a b c d e f = rw (eq-eqb a c e, eq-eqb b d f) refl
-
 other_numbers : (a b c d : ℕ) → (a ≡ c → b ≡ d → ⊥) → (a == c && b == d) ≡ false
 other_numbers a b c d ne = elim (cases_eq a c) [
   | inl e ↦ rw (eq-eqb a c e, ne_eqb b d (ne e)) refl
@@ -129,41 +126,28 @@ other_numbers a b c d ne = elim (cases_eq a c) [
 ]
 
 same_test : (q p : FilePage) → q ≡ p → (q.file == p.file && q.page == p.page) ≡ true
-same_test q p is = same_numbers q.file q.page p.file p.page (ap (λ x. x.file) is) (ap (λ x. x.page) is)
-
-abbrev file_page_of : ℕ → ℕ → FilePage
-file_page_of file page = record { file = file; page = page }
+same_test q p is = and_from _ _ (eq-eqb q.file p.file (ap (λ x. x.file) is)) (eq-eqb q.page p.page (ap (λ x. x.page) is))
 
 one_page : (q p : FilePage) → q.file ≡ p.file → q.page ≡ p.page → q ≡ p
-one_page q p e f = let same : file_page_of q.file q.page ≡ file_page_of p.file p.page = ap (λ x. file_page_of x q.page) e ∙ ap (λ x. file_page_of p.file x) f in same
+one_page q p e f = ap (λ x. record_of x q.page) e ∙ ap (λ x. record_of p.file x) f
 
 other_test : (q p : FilePage) → q ≢ p → (q.file == p.file && q.page == p.page) ≡ false
 other_test q p ne = other_numbers q.file q.page p.file p.page (λ e f. ne (one_page q p e f))
 
 same_object : (q p : ObjectPage) → q ≡ p → (q.object == p.object && q.page == p.page) ≡ true
-same_object q p is = same_numbers q.object q.page p.object p.page (ap (λ x. x.object) is) (ap (λ x. x.page) is)
-
-abbrev object_page_of : ℕ → ℕ → ObjectPage
-object_page_of object page = record { object = object; page = page }
+same_object q p is = and_from _ _ (eq-eqb q.object p.object (ap (λ x. x.object) is)) (eq-eqb q.page p.page (ap (λ x. x.page) is))
 
 one_number : (q p : ObjectPage) → q.object ≡ p.object → q.page ≡ p.page → q ≡ p
-one_number q p e f =
-    let same : object_page_of q.object q.page ≡ object_page_of p.object p.page = ap (λ x. object_page_of x q.page) e ∙ ap (λ x. object_page_of p.object x) f in same
+one_number q p e f = ap (λ x. object_of x q.page) e ∙ ap (λ x. object_of p.object x) f
 
 other_object : (q p : ObjectPage) → q ≢ p → (q.object == p.object && q.page == p.page) ≡ false
 other_object q p ne = other_numbers q.object q.page p.object p.page (λ e f. ne (one_number q p e f))
 
 cases_file : (q p : FilePage) → (q ≡ p) ⊎ (q ≢ p)
-cases_file q p = elim (cases_page (File q) (File p)) [
-  | inl e ↦ inl (cc)
-  | inr ne ↦ inr (λ e. ne (ap (λ x. File x) e))
-]
+cases_file q p = ⊎_elim (λ e. inl (cc)) (λ ne. inr (λ e. ne (ap (λ x. File x) e))) (cases_page (File q) (File p))
 
 cases_object : (q p : ObjectPage) → (q ≡ p) ⊎ (q ≢ p)
-cases_object q p = elim (cases_page (Object q) (Object p)) [
-  | inl e ↦ inl (cc)
-  | inr ne ↦ inr (λ e. ne (ap (λ x. Object x) e))
-]
+cases_object q p = ⊎_elim (λ e. inl (cc)) (λ ne. inr (λ e. ne (ap (λ x. Object x) e))) (cases_page (Object q) (Object p))
 
 some_at : (t : Frames.FrameTable) (k : SlotTable) (place : Place) → place ≢ Home → (bytes : List ℕ) × (bytes_at t k place ≡ Some bytes)
 some_at t k Home away = absurd (away refl)
@@ -188,8 +172,7 @@ state_own : (s : State) (pid page : ℕ) (v : View) (w : List ℕ) (b : Backing)
     → with_shown_bytes s pid page v b w ≡ record s { views = with_view s.views pid page (record v { own = Some w }) }
 state_own s pid page v w Anon private = refl
 state_own s pid page v w (Private p) private = refl
-state_own s pid page v w (Shared p) shared = (cc)
-state_own s pid page v w (Common p) shared = (cc)
+state_own s pid page v w b shared = (cc)
 
 -- A store to a page of the process's own: old is before the access, mid after it, and new has the bytes written.
 module _ {mode : ℕ} (old mid new : Picture mode) (s : State) (pid page n : ℕ) (v : View) (w : List ℕ) (fit : IsFit mid) (frames : new.frames ≡ Frames.with_bytes mid.frames n w)

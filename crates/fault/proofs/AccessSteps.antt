@@ -1,13 +1,18 @@
 -- How the steps of an access follow one another, and what a page of a file or an object leaves that is brought into memory.
-use Rattle.fault.proofs.{Asking.{asks_swap, no_new_frees}, Names.{◌≡◌, ◌≢◌, ℕ, false, inl, inr, ◌⊎◌, Option, Some, None, Result, Ok, Err, refl, sym, ap, ◌∙◌, subst, arith, ◌+◌, cases_eq, cases_Bool, IfOk, IfErr, OnErr, OnOk, FilePage}}
-use Rattle.fault.proofs.Names.{ObjectPage, PageKey, File, Object, zero_page, FrameNo, Stall, NoFrames, NoSwap, SwapDevice, StoreDevice, FileInfo, Ghosts, Touches, Nothing, AsksOnly, FileStore, Directory, IsReadyStore, entry_of, files_of}
+use Rattle.fault.proofs.{Asking.{asks_swap, no_new_frees}, Names.{◌≡◌, ◌≢◌, ℕ, false, inl, inr, ◌⊎◌, Option, Some, None, Result, Ok, Err, refl, sym, ap, ◌∙◌, subst, arith, ◌+◌, cases_eq, IfOk, IfErr, OnErr, OnOk, FilePage}}
+use Rattle.fault.proofs.Names.{ObjectPage, PageKey, File, Object, zero_page, FrameNo, Stall, SwapDevice, StoreDevice, FileInfo, Ghosts, Touches, Nothing, AsksOnly, FileStore, Directory, IsReadyStore, entry_of, files_of}
 use Rattle.fault.proofs.Names.{IsFull, bytes_of, role_of, Home, Frame, Slot, Place, Core, KeepsRolesBut, ComesIn, IsRefused, UsesSwap, Picture, picture_of, held, bytes_at, is_data, IsFit, Frees, ObtainsCached, KeepsPages, KeepsRest}
 use Rattle.fault.proofs.Names.{AsksSwap, StallCause, HasStallCause, ReadCause, HasReadCause, CountsNothing, ReadsStore, IsRead, KeepsFiles, BringsIn, trees_brought, entries_brought, views_brought, held_else, held_here, cases_page}
 use Rattle.fault.proofs.{Names.{one_frame, one_slot, NamesOnce, once_none, asks_none, asks_wider, asks_then, Swap, IsSectorOfSlot, IsSectorOfFreeSlot}, Steps.{no_table_then, no_table_freed, no_table_trees, rows_then, rows_freed, rows_trees, slotted_then}}
 use Rattle.fault.{proofs.Steps.{slotted_frees, spaces_then, room_then, seen_then, tables_then, bare_then, tables_same, spaces_freed, room_freed, seen_freed, tables_freed, bare_freed, device_then}, specs.Asking.{HasSwappable, MayAsk}}
+use Rattle.fault.proofs.{Names.{false_from_ne_true, ⊎_elim, rules}, Steps.{on_right}}
 use Rattle.fault.specs.{Asking.{AsksIfFull, AsksNoNew, IsSectorOfPage, IsSectorOfStoredPage}, Changes.{AddsNoTable, KeepsSpaces, KeepsTables, KeepsRows, KeepsRoom, KeepsSeen, KeepsBare, KeepsSlotted, Moves, MarksTouched, IsCalm}}
-use Rattle.{fault.specs.{Files.{IsBrought, Stays, Leaves, Comes, Blank, BringsPages, Proceeds, BringsFiles}, PagingIn.{PagesIn}}, file_store.specs.declared.directory.Entry.{Entry}, std.specs.Option.{option_map}}
+use Rattle.{fault.specs.{Files.{IsInStore, IsBrought, Stays, Leaves, Comes, Blank, BringsPages, Proceeds, BringsFiles}, PagingIn.{PagesIn}}, file_store.specs.declared.directory.Entry.{Entry}, std.specs.Option.{option_map}}
 use Rattle.vm_types.specs.declared.mode.Levels as Levels
+
+pub ok_then : (P Q : FrameNo → Type 0) (r : Result FrameNo Stall) → ((n : FrameNo) → P n → Q n) → IfOk r P → IfOk r Q
+ok_then P Q (Ok n) each is = each n is
+ok_then P Q (Err s) each is = tt
 
 module _ {mode : ℕ} where
   -- A page of a file or an object was brought into a frame, or frames were given up in vain: what stays as it was.
@@ -38,19 +43,13 @@ module _ {mode : ℕ} (old new : Picture mode) (page : PageKey) where
           rows = rows_then old found new frees.pages.root (rows_freed old found _ obtains.fit frees) (rows_trees found new obtains.fit trees);
           no_table = no_table_then old found new (no_table_freed old found _ frees) (no_table_trees found new trees);
           slotted = slotted_then (λ p. p ≡ page) (λ q p. ⊥) old found new (slotted_frees (λ p. p ≡ page) (λ q p. ⊥) old found _ frees) (record {
-            file_pages = λ p k at. elim (cases_page p page) [
-              | inl is ↦ inl is
-              | inr ne ↦ inr (obtains.brings.others p ne ∙ at)
-            ];
+            file_pages = λ p k at. on_right (λ ne. inr (obtains.brings.others p ne ∙ at)) (cases_page p page);
             copies = λ q p h away. inr (entries q p);
           });
         }
 
     only_came : IsFull old.frames ⊎ KeepsRolesBut old new n
-    only_came = elim obtains.needed [
-      | inl full ↦ inl full
-      | inr same ↦ inr (λ k ne. obtains.brings.frames.roles k ne ∙ ap (λ (c : Picture mode). role_of c.frames k) same)
-    ]
+    only_came = on_right (λ same. inr (λ k ne. obtains.brings.frames.roles k ne ∙ ap (λ (c : Picture mode). role_of c.frames k) same)) obtains.needed
 
     files_came : (f : ℕ) → new.files f ≡ old.files f
     files_came f = obtains.brings.files f ∙ obtains.frees.pages.files.files f
@@ -58,34 +57,22 @@ module _ {mode : ℕ} (old new : Picture mode) (page : PageKey) where
   -- an outcome of either kind
   keeps_of : (r : Result FrameNo Stall) → IfOk r (λ n. ObtainsCached old new page n.0) → IsFit new → OnErr r (Frees old new None) → KeepsBut old new page
   keeps_of (Ok n) obtains fit frees = keeps_came n.0 obtains
-  keeps_of (Err s) obtains fit frees = record {
-    spaces = spaces_freed old new None frees;
-    tables = tables_freed old new None frees;
-    room = room_freed old new None frees;
-    seen = seen_freed old new None frees;
-    bare = bare_freed old new None frees;
-    rows = rows_freed old new None fit frees;
-    no_table = no_table_freed old new None frees;
-    slotted = slotted_frees (λ p. p ≡ page) (λ q p. ⊥) old new None frees;
-  }
-
-  only_of : (r : Result FrameNo Stall) → IfOk r (λ n. ObtainsCached old new page n.0) → IfOk r (λ n. IsFull old.frames ⊎ KeepsRolesBut old new n.0)
-  only_of (Ok n) obtains = only_came n.0 obtains
-  only_of (Err s) obtains = tt
-
-  placed_of : (r : Result FrameNo Stall) → IfOk r (λ n. ObtainsCached old new page n.0) → IfOk r (λ n. new.place page ≡ Frame n)
-  placed_of (Ok n) obtains = obtains.brings.placed
-  placed_of (Err s) obtains = tt
+  keeps_of (Err s) obtains fit frees =
+      let tables = tables_freed old new None frees in
+      let bare = bare_freed old new None frees in
+      let rows = rows_freed old new None fit frees in
+      let slotted = slotted_frees (λ p. p ≡ page) (λ q p. ⊥) old new None frees in
+      search (rules, no_table_freed)
 
 module _ {M : Type 0} {m : Levels.Ghosts M} {D E : Type 0} {before after : Core D E M m} {page : PageKey} {r : Result FrameNo Stall} (comes : ComesIn before after page r) where
   pub keeps_in : KeepsBut (picture_of before) (picture_of after) page
   keeps_in = keeps_of (picture_of before) (picture_of after) page r comes.brought comes.fit comes.frees
 
   pub only_in : IfOk r (λ n. IsFull before.frames ⊎ KeepsRolesBut (picture_of before) (picture_of after) n.0)
-  only_in = only_of (picture_of before) (picture_of after) page r comes.brought
+  only_in = ok_then _ _ r (λ n. only_came (picture_of before) (picture_of after) page n.0) comes.brought
 
   pub placed_in : IfOk r (λ n. (picture_of after).place page ≡ Frame n)
-  placed_in = placed_of (picture_of before) (picture_of after) page r comes.brought
+  placed_in = ok_then _ _ r (λ n obtains. obtains.brings.placed) comes.brought
 
 module _ {D : Type 0} (g : Ghosts D) where
   touches_none : (d : D) → Touches g Nothing d d
@@ -105,10 +92,7 @@ module _ {mode : ℕ} {D : Type 0} (g : Ghosts D) where
   -- no file page changed but those that went home
   pub brings_none : (before after : D) (W : PageKey → Type 0) (a b : Picture mode) → KeepsFiles a b → BringsPages g before after W a b
   brings_none before after W a b kept = record {
-    each = λ p. elim (kept.held p) [
-      | inl same ↦ Stays same
-      | inr home ↦ Leaves home.0 home.1
-    ];
+    each = λ p. ⊎_elim Stays (λ home. Leaves home.0 home.1) (kept.held p);
     files = kept.files;
   }
 
@@ -182,10 +166,7 @@ module _ {mode : ℕ} {D : Type 0} (g : Ghosts D) where
 
 -- a page at home isn't touched
 pub untouched_home : {mode : ℕ} (c : Picture mode) (p : PageKey) → IsFit c → c.place p ≡ Home → c.touched p ≡ false
-untouched_home c p fit home = elim (cases_Bool (c.touched p)) [
-  | inl touched ↦ absurd (fit.dirty.held p touched home)
-  | inr clean ↦ clean
-]
+untouched_home c p fit home = false_from_ne_true _ (λ touched. fit.dirty.held p touched home)
 
 -- what asks for a frame doesn't stall for the store device
 pub no_store : {M : Type 0} {m : Levels.Ghosts M} → {D E : Type 0} (h : Ghosts E) (old new : Core D E M m) (stall : Stall) → StallCause h old new stall → stall ≡ StoreDevice → ⊥
@@ -195,10 +176,8 @@ module _ {M : Type 0} {m : Levels.Ghosts M} {D : Type 0} (g : Ghosts D) where
   module _ {E : Type 0} (h : Ghosts E) where
     -- what a stall of the swap device's layer is by both devices
     pub cause_of : (old new : Core D E M m) (stall : Stall) → new.store ≡ old.store → StallCause h old new stall → ReadCause g h old new stall
-    cause_of old new NoFrames same c = (c.0, ap (λ s. g.failures s.disk) same, c.1)
-    cause_of old new NoSwap same c = (c.0, ap (λ s. g.failures s.disk) same, c.1)
-    cause_of old new SwapDevice same c = (c.0, ap (λ s. g.failures s.disk) same, c.1)
     cause_of old new StoreDevice same c = absurd c
+    cause_of old new stall same c = (c.0, ap (λ s. g.failures s.disk) same, c.1)
 
     pub causes_of : (old new : Core D E M m) (r : Result FrameNo Stall) → new.store ≡ old.store → HasStallCause h old new r → HasReadCause g h old new r
     causes_of old new (Ok n) same c = (c.0, ap (λ s. g.failures s.disk) same, c.1)
@@ -245,51 +224,30 @@ module _ {M : Type 0} {m : Levels.Ghosts M} {D : Type 0} (g : Ghosts D) where
     -- frames were given up before
     pub proceeds_after : (a b c : Core D E M m) → Moves h a b → Proceeds g h b c → Proceeds g h a c
     proceeds_after a b c p q =
-        record {
-          fit = q.fit;
-          ready = q.ready;
-          swap = q.swap;
-          spaces = spaces_then (picture_of a) (picture_of b) (picture_of c) p.spaces q.spaces;
-          tables = tables_then (picture_of a) (picture_of b) (picture_of c) p.spaces.root p.tables q.tables;
-          room = room_then (picture_of a) (picture_of b) (picture_of c) p.room q.room;
-          reads = subst (λ (s : FileStore D). ReadsStore g s c.store) p.store q.reads;
-          device = device_then h a.swap.pages.disk b.swap.pages.disk c.swap.pages.disk p.device q.device;
-        }
+        let tables = tables_then (picture_of a) (picture_of b) (picture_of c) p.spaces.root p.tables q.tables in
+        let reads = subst (λ (s : FileStore D). ReadsStore g s c.store) p.store q.reads in
+        search (rules, spaces_then, room_then, device_then)
 
     -- or after
     pub proceeds_then : (a b c : Core D E M m) → Proceeds g h a b → Moves h b c → Proceeds g h a c
     proceeds_then a b c p q =
-        record {
-          fit = q.fit;
-          ready = subst (λ (s : FileStore D). IsReadyStore g s) (sym q.store) p.ready;
-          swap = q.swap;
-          spaces = spaces_then (picture_of a) (picture_of b) (picture_of c) p.spaces q.spaces;
-          tables = tables_then (picture_of a) (picture_of b) (picture_of c) p.spaces.root p.tables q.tables;
-          room = room_then (picture_of a) (picture_of b) (picture_of c) p.room q.room;
-          reads = subst (λ (s : FileStore D). ReadsStore g a.store s) (sym q.store) p.reads;
-          device = device_then h a.swap.pages.disk b.swap.pages.disk c.swap.pages.disk p.device q.device;
-        }
+        let ready = subst (λ (s : FileStore D). IsReadyStore g s) (sym q.store) p.ready in
+        let tables = tables_then (picture_of a) (picture_of b) (picture_of c) p.spaces.root p.tables q.tables in
+        let reads = subst (λ (s : FileStore D). ReadsStore g a.store s) (sym q.store) p.reads in
+        search (rules, spaces_then, room_then, device_then)
 
     pub proceeds_moves : (a b : Core D E M m) → IsReadyStore g a.store → Moves h a b → Proceeds g h a b
     proceeds_moves a b ready q =
-        record {
-          fit = q.fit;
-          ready = subst (λ (s : FileStore D). IsReadyStore g s) (sym q.store) ready;
-          swap = q.swap;
-          spaces = q.spaces;
-          tables = q.tables;
-          room = q.room;
-          reads = reads_none g a.store b.store q.store;
-          device = q.device;
-        }
+        let ready = subst (λ (s : FileStore D). IsReadyStore g s) (sym q.store) ready in
+        let reads = reads_none g a.store b.store q.store in
+        search rules
 
     -- a stall after a step in which neither device failed and no frame was refused
     pub cause_then : (a b c : Core D E M m) (stall : Stall) → h.failures b.swap.pages.disk ≡ h.failures a.swap.pages.disk → b.refused.number ≡ a.refused.number
         → g.failures b.store.disk ≡ g.failures a.store.disk → ReadCause g h b c stall → ReadCause g h a c stall
-    cause_then a b c NoFrames swap_calm same calm x = (x.0 ∙ ap (λ n. n + 1) same, x.1 ∙ calm, x.2 ∙ swap_calm)
-    cause_then a b c NoSwap swap_calm same calm x = (x.0 ∙ ap (λ n. n + 1) same, x.1 ∙ calm, x.2 ∙ swap_calm)
     cause_then a b c SwapDevice swap_calm same calm x = (x.0 ∙ same, x.1 ∙ calm, (let m = x.2 in omega (arith, swap_calm, m)))
     cause_then a b c StoreDevice swap_calm same calm x = (x.0 ∙ same, (let m = x.1 in omega (arith, calm, m)), x.2 ∙ swap_calm)
+    cause_then a b c stall swap_calm same calm x = (x.0 ∙ ap (λ n. n + 1) same, x.1 ∙ calm, x.2 ∙ swap_calm)
 
     -- nothing is counted in two steps, one after the other
     pub counts_then : (a b c : Core D E M m) → CountsNothing g h a b → CountsNothing g h b c → CountsNothing g h a c
@@ -303,10 +261,6 @@ module _ {M : Type 0} {m : Levels.Ghosts M} {D : Type 0} (g : Ghosts D) where
     pub counts_done : (a b : Core D E M m) (r : Result FrameNo Stall) → b.store ≡ a.store → HasStallCause h a b r → OnOk r (CountsNothing g h a b)
     counts_done a b (Ok n) same done = (done.0, ap (λ s. g.failures s.disk) same, done.1)
     counts_done a b (Err s) same done = tt
-
-pub ok_then : (P Q : FrameNo → Type 0) (r : Result FrameNo Stall) → ((n : FrameNo) → P n → Q n) → IfOk r P → IfOk r Q
-ok_then P Q (Ok n) each is = each n is
-ok_then P Q (Err s) each is = tt
 
 pub on_ok_then : (P Q : Type 0) (r : Result FrameNo Stall) → (P → Q) → OnOk r P → OnOk r Q
 on_ok_then P Q (Ok n) each p = each p
@@ -329,12 +283,8 @@ module _ {D : Type 0} (g : Ghosts D) where
   once_same W old new same = once_none W (g.asked old.disk) (g.asked new.disk) (λ k. ap (λ (s : FileStore D). g.asked s.disk k) same)
 
 cases_slot : (y : Place) (s : ℕ) → (y ≡ Slot (record { 0 = s })) ⊎ (y ≢ Slot (record { 0 = s }))
-cases_slot Home s = inr (λ e. (cc))
-cases_slot (Frame n) s = inr (λ e. (cc))
-cases_slot (Slot k) s = elim (cases_eq k.0 s) [
-  | inl e ↦ inl (ap (λ x. Slot (record { 0 = x })) e)
-  | inr ne ↦ inr (λ e. ne (one_slot k.0 s e))
-]
+cases_slot (Slot k) s = ⊎_elim (λ e. inl (ap (λ x. Slot (record { 0 = x })) e)) (λ ne. inr (λ e. ne (one_slot k.0 s e))) (cases_eq k.0 s)
+cases_slot y s = inr (λ e. (cc))
 
 -- a page of a file or an object was brought into a frame
 module _ {mode : ℕ} (old new : Picture mode) (page : PageKey) (n : ℕ) (brings : BringsIn old new page n) where
@@ -369,18 +319,14 @@ module _ {mode : ℕ} (old new : Picture mode) (page : PageKey) (fit : IsFit old
       let freed = no_new_frees old found None obtains.frees fit in
       record {
         slots = λ k free. elim (slots_brought found new page n.0 obtains.brings k free) [
-          | inl was ↦ elim (freed.slots k was) [
-            | inl is ↦ inl is
-            | inr none ↦ absurd none
-          ]
+          | inl was ↦ on_right absurd (freed.slots k was)
           | inr there ↦ inr (there.0, still_there found obtains.frees there.0.0 (old.place page) refl there.1, there.2)
         ];
         frames = λ has. freed.frames (swappable_brought found new page n.0 obtains.brings has);
       }
 
   pub no_new_of : (r : Result FrameNo Stall) → IfOk r (λ n. ObtainsCached old new page n.0) → IfOk r (λ n. AsksNoNew old new (Some n) (IsSectorOfPage old page))
-  no_new_of (Ok n) obtains = no_new_came n obtains
-  no_new_of (Err s) obtains = tt
+  no_new_of r = ok_then _ _ r no_new_came
 
 -- such a page was brought in, or wasn't, and nothing read from the store
 module _ {M : Type 0} {m : Levels.Ghosts M} {D E : Type 0} (g : Ghosts D) (h : Ghosts E) {before after : Core D E M m} {page : PageKey} {r : Result FrameNo Stall} where
@@ -389,33 +335,14 @@ module _ {M : Type 0} {m : Levels.Ghosts M} {D E : Type 0} (g : Ghosts D) (h : G
       → BringsFiles g h (λ p. p ≡ page) before after → PagesIn g h before after page r
   pages_in_beside fit store away comes rest uses refused asks brings =
       let keeps = keeps_in comes in
-      record {
-        placed = placed_in comes;
-        only = only_in comes;
-        proceeds = record {
-          fit = comes.fit;
-          ready = subst (λ (s : FileStore D). IsReadyStore g s) (sym rest.store) store;
-          swap = uses.swap;
-          spaces = keeps.spaces;
-          tables = keeps.tables;
-          room = keeps.room;
-          reads = reads_none g before.store after.store rest.store;
-          device = uses.device;
-        };
-        brings = brings;
-        keeps = keeps.seen;
-        bare = keeps.bare;
-        rows = keeps.rows;
-        no_table = keeps.no_table;
-        slotted = keeps.slotted;
-        read = inl rest.store;
-        asks = asks;
-        asks_store = store_same g (IsSectorOfStoredPage before.store page) before.store after.store rest.store;
-        once_store = once_same g (IsSectorOfStoredPage before.store page) before.store after.store rest.store;
-        asks_later = no_new_of (picture_of before) (picture_of after) page fit away r comes.brought;
-        cause = causes_of g h before after r rest.store refused.cause;
-        home = never_store g h _ before after r refused.cause;
-        frees = comes.frees;
-        refuses = refused_but _ r refused.refuses;
-        short = refused.short;
-      }
+      let placed = placed_in comes in
+      let only = only_in comes in
+      let ready = subst (λ (s : FileStore D). IsReadyStore g s) (sym rest.store) store in
+      let reads = reads_none g before.store after.store rest.store in
+      let asks_store = store_same g (IsSectorOfStoredPage before.store page) before.store after.store rest.store in
+      let once_store = once_same g (IsSectorOfStoredPage before.store page) before.store after.store rest.store in
+      let asks_later = no_new_of (picture_of before) (picture_of after) page fit away r comes.brought in
+      let cause = causes_of g h before after r rest.store refused.cause in
+      let home = never_store g h (IsInStore (picture_of before) page) before after r refused.cause in
+      let refuses = refused_but _ r refused.refuses in
+      search rules

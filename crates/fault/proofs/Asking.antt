@@ -1,7 +1,8 @@
 -- Which sectors of swap's device the steps of a call ask for.
 use Rattle.vm_types.specs.declared.mode.Levels as Levels
 use Rattle.fault.proofs.Names.{◌≡◌, ◌⊎◌, ◌<◌, ℕ, inl, inr, true, false, Option, None, get_or, refl, sym, ap, ◌∙◌, subst, arith, cases_eq, PageKey, FrameNo, Ghosts, Nothing, asks_wider, asks_then, Free, Private, role_of, IsFull, KeepsFrames}
-use Rattle.fault.proofs.Names.{Place, Home, Frame, Slot, IsSectorOfFreeSlot, Core, Picture, picture_of, is_data, IsFit, IsSpareable, NeedsSlot, Frees, ObtainsTable, AsksSwap, AsksSwapAlso, GivesToSwap, SameBeside, asks_same, asks_between}
+use Rattle.fault.proofs.Names.{⊎_elim, Place, Home, Frame, Slot, IsSectorOfFreeSlot, Core, Picture, picture_of, is_data, IsFit, IsSpareable, NeedsSlot, Frees, ObtainsTable, AsksSwap, AsksSwapAlso, GivesToSwap, SameBeside, asks_same}
+use Rattle.fault.proofs.Names.{asks_between}
 use Rattle.fault.specs.Asking.{HasSwappable, MayAsk, AsksIfFull, AsksNoNew, AsksSlotsIf}
 
 -- what a call may ask for, by the steps of it
@@ -10,26 +11,11 @@ module _ {mode : ℕ} where
   swappable_any : (c : Picture mode) (keep : Option FrameNo) → HasSwappable c keep → HasSwappable c None
   swappable_any c keep has = (has.0, (has.1.0, λ none. none), has.2)
 
-  may_wider : (c : Picture mode) (full : Type 0) (keep : Option FrameNo) (also more : ℕ → Type 0) → ((k : ℕ) → also k → MayAsk c full keep more k) → (k : ℕ) → MayAsk c full keep also k → MayAsk c full keep more k
-  may_wider c full keep also more wider k (inl is) = wider k is
-  may_wider c full keep also more wider k (inr free) = inr free
-
-  may_any : (c : Picture mode) (full : Type 0) (keep : Option FrameNo) (also : ℕ → Type 0) (k : ℕ) → MayAsk c full keep also k → MayAsk c full None also k
-  may_any c full keep also k (inl is) = inl is
-  may_any c full keep also k (inr free) = inr (free.0, swappable_any c keep free.1, free.2)
-
-  may_if : (c : Picture mode) (full more : Type 0) (keep : Option FrameNo) (also : ℕ → Type 0) → (full → more) → (k : ℕ) → MayAsk c full keep also k → MayAsk c more keep also k
-  may_if c full more keep also f k (inl is) = inl is
-  may_if c full more keep also f k (inr free) = inr (f free.0, free.1, free.2)
-
   -- what a later call may ask for, where the one before left no new sector, and what it asks for besides the earlier might have asked for
   may_before : (old new : Picture mode) (full now : Type 0) (keep : Option FrameNo) (also more : ℕ → Type 0) → AsksNoNew old new keep more → (now → full) → ((k : ℕ) → also k → MayAsk old full None more k)
       → (k : ℕ) → MayAsk new now keep also k → MayAsk old full None more k
   may_before old new full now keep also more still f wider k (inl is) = wider k is
-  may_before old new full now keep also more still f wider k (inr free) = elim (still.slots k free.2) [
-    | inl was ↦ inr (f free.0, still.frames free.1, was)
-    | inr is ↦ inl is
-  ]
+  may_before old new full now keep also more still f wider k (inr free) = ⊎_elim (λ was. inr (f free.0, still.frames free.1, was)) inl (still.slots k free.2)
 
   pub no_new_same : (c : Picture mode) (keep : Option FrameNo) (also : ℕ → Type 0) → AsksNoNew c c keep also
   no_new_same c keep also = record { slots = λ k is. inl is; frames = swappable_any c keep }
@@ -37,10 +23,7 @@ module _ {mode : ℕ} where
   -- and it leaves no new sector either
   pub no_new_then : (a b c : Picture mode) (keep : Option FrameNo) (also more : ℕ → Type 0) → AsksNoNew a b None also → AsksNoNew b c keep more → ((k : ℕ) → more k → IsSectorOfFreeSlot a.slots k ⊎ also k) → AsksNoNew a c keep also
   no_new_then a b c keep also more first second wider = record {
-    slots = λ k is. elim (second.slots k is) [
-      | inl was ↦ first.slots k was
-      | inr it ↦ wider k it
-    ];
+    slots = λ k is. ⊎_elim (first.slots k) (wider k) (second.slots k is);
     frames = λ has. first.frames (second.frames has);
   }
 
@@ -107,11 +90,11 @@ module _ {M : Type 0} {m : Levels.Ghosts M} {D E : Type 0} (h : Ghosts E) where
     pub asks_slots_wider : (old new : Core D E M m) (keep : Option FrameNo) (also more : ℕ → Type 0) → ((k : ℕ) → also k → MayAsk (picture_of old) full keep more k) → AsksSlotsIf h full old new keep also
         → AsksSlotsIf h full old new keep more
     asks_slots_wider old new keep also more wider asks =
-        asks_wider h (MayAsk (picture_of old) full keep also) (MayAsk (picture_of old) full keep more) old.swap.pages.disk new.swap.pages.disk (may_wider (picture_of old) full keep also more wider) asks
+        asks_wider h (MayAsk (picture_of old) full keep also) (MayAsk (picture_of old) full keep more) old.swap.pages.disk new.swap.pages.disk (λ k. ⊎_elim (wider k) inr) asks
 
     pub asks_slots_any : (old new : Core D E M m) (keep : Option FrameNo) (also : ℕ → Type 0) → AsksSlotsIf h full old new keep also → AsksSlotsIf h full old new None also
     asks_slots_any old new keep also asks =
-        asks_wider h (MayAsk (picture_of old) full keep also) (MayAsk (picture_of old) full None also) old.swap.pages.disk new.swap.pages.disk (may_any (picture_of old) full keep also) asks
+        asks_wider h (MayAsk (picture_of old) full keep also) (MayAsk (picture_of old) full None also) old.swap.pages.disk new.swap.pages.disk (λ k. ⊎_elim inl (λ free. inr (free.0, swappable_any (picture_of old) keep free.1, free.2))) asks
 
     -- no call of the device was made
     pub asks_slots_same : (old new : Core D E M m) (keep : Option FrameNo) (also : ℕ → Type 0) → new.swap ≡ old.swap → AsksSlotsIf h full old new keep also
@@ -124,7 +107,7 @@ module _ {M : Type 0} {m : Levels.Ghosts M} {D E : Type 0} (h : Ghosts E) where
     -- memory is full in another way
     pub asks_slots_if : (more : Type 0) (old new : Core D E M m) (keep : Option FrameNo) (also : ℕ → Type 0) → (full → more) → AsksSlotsIf h full old new keep also → AsksSlotsIf h more old new keep also
     asks_slots_if more old new keep also f asks =
-        asks_wider h (MayAsk (picture_of old) full keep also) (MayAsk (picture_of old) more keep also) old.swap.pages.disk new.swap.pages.disk (may_if (picture_of old) full more keep also f) asks
+        asks_wider h (MayAsk (picture_of old) full keep also) (MayAsk (picture_of old) more keep also) old.swap.pages.disk new.swap.pages.disk (λ k. ⊎_elim inl (λ free. inr (f free.0, free.1, free.2))) asks
 
     -- A call after one that left no new sector: what it asks for besides, the first might have asked for.
     pub asks_slots_then : (now : Type 0) (old mid new : Core D E M m) (keep : Option FrameNo) (also more : ℕ → Type 0) → AsksSlotsIf h full old mid None also → AsksNoNew (picture_of old) (picture_of mid) keep also
@@ -138,15 +121,10 @@ module _ {M : Type 0} {m : Levels.Ghosts M} {D E : Type 0} (h : Ghosts E) where
         (asks_wider h (MayAsk (picture_of mid) now keep more) W between after (may_before (picture_of old) (picture_of mid) full now keep more also still f wider) second)
 
   -- a frame was asked for
-  free_slots : (c : Core D E M m) (keep : Option FrameNo) (also : ℕ → Type 0) → IsFull c.frames → HasSwappable (picture_of c) keep → (k : ℕ) → IsSectorOfFreeSlot (picture_of c).slots k ⊎ also k
-      → MayAsk (picture_of c) (IsFull c.frames) keep also k
-  free_slots c keep also full has k (inl free) = inr (full, has, free)
-  free_slots c keep also full has k (inr is) = inl is
-
   given_slots : (old new : Core D E M m) (keep : Option FrameNo) (also : ℕ → Type 0) → GivesToSwap h old new keep also → AsksIfFull h old new keep also
   given_slots old new keep also given =
       asks_wider h (λ k. IsSectorOfFreeSlot (picture_of old).slots k ⊎ also k) (MayAsk (picture_of old) (IsFull old.frames) keep also) old.swap.pages.disk new.swap.pages.disk
-      (free_slots old keep also given.full (given.frame, given.spareable, given.needs)) given.asks
+      (λ k. ⊎_elim (λ free. inr (given.full, (given.frame, given.spareable, given.needs), free)) inl) given.asks
 
   pub asks_swap : (old new : Core D E M m) (keep : Option FrameNo) (also : ℕ → Type 0) → AsksSwap h old new keep → AsksIfFull h old new keep also
   asks_swap old new keep also (inl same) = asks_slots_same old new keep also same

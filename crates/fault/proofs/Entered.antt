@@ -75,11 +75,10 @@ module _ {mode : ℕ} (new : Picture mode) (pid page : ℕ) (a : Attr) (fit : Is
   stores allowed = full_own new a n (entry new pid page) one allowed full
 
   self_ready : (access : Access) → lets access a.prot ≡ true → IsReadyAt new new pid page a access n
-  self_ready Load allowed = readable new new pid page a n true _ _ fit sound now now (seen_none new) full
-  self_ready Fetch allowed = readable new new pid page a n true _ _ fit sound now now (seen_none new) full
   self_ready Store allowed =
       ready_own new new pid page a n alone
       (owned_entry new new pid page a n fit sound now alone (reads_too new pid page a fit now allowed) (stores allowed) own_shown (λ q k other. refl) (λ p. refl))
+  self_ready access allowed = readable new new pid page a n true _ _ fit sound now now (seen_none new) full
 
   self_entered : (access : Access) → lets access a.prot ≡ true → IsEntered new pid page a access n
   self_entered Load allowed = entered_read Load new pid page a n true (λ e. (cc)) allowed full (entered_ready Load new new pid page a n (self_ready Load allowed))

@@ -1,19 +1,11 @@
 -- The fullest entry of a page fits it, and the frame of a page with an entry is in use.
-use Rattle.fault.proofs.Names.{user_pages_fit, top_level, PageKey, File, Object, Attr, stands_on, Backing, Anon, Shared, Common, is_past_end, ◌≡◌, ◌≢◌, ℕ, inl, inr, Bool, true, false, Option, Some, None, length, refl, sym, ap, ◌∙◌, subst}
-use Rattle.fault.proofs.Names.{arith, eqb-true, cases_Bool, cases_lt, false≢true, get_or_past, same_Some, ◌&&◌, FrameTable, IsFrame, IsSound, role_of, count_of, is_valid, is_dirty, frame_of, has_bit, IsPage, IsLeaf, IsEntryOver, is_barred}
-use Rattle.fault.proofs.Names.{Home, Frame, InFrame, InSlot, seat, is_private, is_swapped, Picture, entry, IsGranting, IsEntryFor, Resident, Away, IsResident, IsBehind, IsWithin, HasPlaces, IsFit, is_shared, seat_own, seat_common}
+use Rattle.fault.proofs.Names.{user_pages_fit, top_level, PageKey, Attr, stands_on, Backing, Anon, is_past_end, ◌≡◌, ◌≢◌, ℕ, inl, inr, Bool, true, false, Option, Some, None, length, refl, sym, ap, ◌∙◌, subst, arith, eqb-true, cases_Bool}
+use Rattle.fault.proofs.Names.{cases_lt, false≢true, get_or_past, same_Some, FrameTable, IsFrame, IsSound, role_of, count_of, is_valid, is_dirty, frame_of, has_bit, IsPage, IsLeaf, IsEntryOver, is_barred, and_parts, not_swapped}
+use Rattle.fault.proofs.Names.{false_from_ne_true, Frame, InFrame, seat, is_private, is_swapped, Picture, entry, IsGranting, IsEntryFor, Resident, Away, IsResident, IsBehind, IsWithin, HasPlaces, IsFit, is_shared, seat_own, seat_common}
 use Rattle.{fault.{proofs.Names.{seat_away, seat-none, parked_invalid, parked_framed}, specs.Leaves.{IsFullEntry, is_touched_behind, full_write}}, residency.specs.Parts.{Nothing}}
 use Rattle.vm_types.specs.declared.region.Backing.TheVariants.{Private}
 use Rattle.vm_types.specs.Permission as Permission
 use Rattle.frames.specs.declared.role.Role.TheVariants as Role
-
-and_left : (a b : Bool) → (a && b) ≡ true → a ≡ true
-and_left true b e = refl
-and_left false b e = e
-
-and_right : (a b : Bool) → (a && b) ≡ true → b ≡ true
-and_right true b e = e
-and_right false b e = absurd (false≢true e)
 
 within_leaf : (a : Attr) (e : ℕ) (write stored : Bool) → IsLeaf e a.prot write stored → (write ≡ true → Permission.can_write a.prot ≡ true) → IsWithin a e
 within_leaf a e write stored leaf may = record { reads = λ r. sym leaf.reads ∙ r; writes = λ w. may (sym leaf.writes ∙ w); executes = λ x. sym leaf.executes ∙ x }
@@ -24,16 +16,16 @@ parked_bits e a frame private write stored over barred =
     (ap is_valid (over.parked barred) ∙ parked_invalid frame private, ap (λ x. has_bit x 1) (over.parked barred) ∙ parked_framed frame private)
 
 full_writes : {mode : ℕ} (c : Picture mode) (a : Attr) (frame : ℕ) (private : Bool) → full_write c a frame private ≡ true → Permission.can_write a.prot ≡ true
-full_writes c a frame true w = and_right _ _ w
-full_writes c a frame false w = and_right _ _ w
+full_writes c a frame true w = (and_parts _ _ w).1
+full_writes c a frame false w = (and_parts _ _ w).1
 
 full_sole : {mode : ℕ} (c : Picture mode) (a : Attr) (frame : ℕ) (private : Bool) → private ≡ true → full_write c a frame private ≡ true → count_of c.frames frame ≡ 1
-full_sole c a frame true is w = eqb-true (count_of c.frames frame) 1 (and_left _ _ w)
+full_sole c a frame true is w = eqb-true (count_of c.frames frame) 1 (and_parts _ _ w).0
 full_sole c a frame false is w = absurd (false≢true is)
 
 full_shared : {mode : ℕ} (c : Picture mode) (a : Attr) (frame : ℕ) (private : Bool) → private ≡ false → full_write c a frame private ≡ true → is_shared a.backing ≡ true
 full_shared c a frame true is w = absurd (false≢true (sym is))
-full_shared c a frame false is w = and_left _ _ w
+full_shared c a frame false is w = (and_parts _ _ w).0
 
 -- an entry over a frame doesn't name a slot
 pub over_here : (e : ℕ) (a : Attr) (frame : ℕ) (private write stored : Bool) → IsEntryOver e a.prot frame private write stored → is_swapped e ≡ false
@@ -79,10 +71,7 @@ touched_there : {mode : ℕ} (c : Picture mode) (b : Backing) (frame : ℕ) (p :
     → c.place p ≡ Frame (record { 0 = frame }) → c.touched p ≡ true
 touched_there c Anon frame p places behind touched here = absurd (false≢true touched)
 touched_there c (Private q) frame p places behind touched here = absurd (false≢true touched)
-touched_there c (Shared q) frame p places behind touched here =
-    ap c.touched (places.apart p (File q) (here ∙ sym behind) (λ home. (let bad : Home ≡ Frame (record { 0 = frame }) = sym home ∙ here in (cc)))) ∙ touched
-touched_there c (Common q) frame p places behind touched here =
-    ap c.touched (places.apart p (Object q) (here ∙ sym behind) (λ home. (let bad : Home ≡ Frame (record { 0 = frame }) = sym home ∙ here in (cc)))) ∙ touched
+touched_there c b frame p places behind touched here = ap c.touched (places.apart p _ (here ∙ sym behind) (λ home. (let bad = sym home ∙ here in (cc)))) ∙ touched
 
 -- it has D only over the frame of a touched page of a file or an object
 pub full_dirty_sound : {mode : ℕ} (c : Picture mode) (a : Attr) (frame : ℕ) (private : Bool) (e : ℕ) → HasPlaces c → IsFullEntry c a frame private e
@@ -91,7 +80,7 @@ pub full_dirty_sound : {mode : ℕ} (c : Picture mode) (a : Attr) (frame : ℕ) 
 full_dirty_sound c a frame true e places full behind p valid common dirty here = absurd (false≢true (sym common ∙ full.owned))
 full_dirty_sound c a frame false e places full behind p valid common dirty here = elim (cases_Bool (is_barred a.prot)) [
   | inl barred ↦ absurd (false≢true (sym (parked_bits e a frame false _ _ full barred).0 ∙ valid))
-  | inr useful ↦ touched_there c a.backing frame p places (behind refl) (and_left _ _ (sym (full.leaf useful).dirty ∙ dirty)) (here ∙ ap (λ x. Frame (record { 0 = x })) full.names)
+  | inr useful ↦ touched_there c a.backing frame p places (behind refl) (and_parts _ _ (sym (full.leaf useful).dirty ∙ dirty)).0 (here ∙ ap (λ x. Frame (record { 0 = x })) full.names)
 ]
 
 -- a frame with a role is a frame of memory
@@ -113,27 +102,20 @@ resident_page c pid page a granting h at some here = is_resident c (c.at pid pag
 
 pub behind_of : {mode : ℕ} (c : Picture mode) (b : Backing) (p : PageKey) (n : ℕ) → stands_on b ≡ Some p → c.place p ≡ Frame (record { 0 = n }) → IsBehind c b n
 behind_of c Anon p n is at = (cc)
-behind_of c (Private q) p n is at = ap c.place (same_Some (File q) p is) ∙ at
-behind_of c (Shared q) p n is at = ap c.place (same_Some (File q) p is) ∙ at
-behind_of c (Common q) p n is at = ap c.place (same_Some (Object q) p is) ∙ at
+behind_of c b p n is at = ap c.place (same_Some _ p is) ∙ at
 
 pub touched_of : {mode : ℕ} (c : Picture mode) (b : Backing) (p : PageKey) → is_shared b ≡ true → stands_on b ≡ Some p → is_touched_behind c b ≡ c.touched p
 touched_of c Anon p shared is = absurd (false≢true shared)
 touched_of c (Private q) p shared is = absurd (false≢true shared)
-touched_of c (Shared q) p shared is = ap c.touched (same_Some (File q) p is)
-touched_of c (Common q) p shared is = ap c.touched (same_Some (Object q) p is)
+touched_of c b p shared is = ap c.touched (same_Some _ p is)
 
 pub behind_used : {mode : ℕ} (c : Picture mode) (b : Backing) (n : ℕ) → IsSound c.frames → HasPlaces c → IsBehind c b n → role_of c.frames n ≢ Role.Free
 behind_used c Anon n sound places behind free = let bad : Role.Zero ≡ Role.Free = sym sound.zero_role ∙ ap (role_of c.frames) (sym behind) ∙ free in (cc)
-behind_used c (Private p) n sound places behind free = let bad : Role.Cache ≡ Role.Free = sym (places.cached (File p) n behind) ∙ free in (cc)
-behind_used c (Shared p) n sound places behind free = let bad : Role.Cache ≡ Role.Free = sym (places.cached (File p) n behind) ∙ free in (cc)
-behind_used c (Common p) n sound places behind free = let bad : Role.Cache ≡ Role.Free = sym (places.cached (Object p) n behind) ∙ free in (cc)
+behind_used c b n sound places behind free = let bad : Role.Cache ≡ Role.Free = sym (places.cached _ n behind) ∙ free in (cc)
 
 pub behind_datum : {mode : ℕ} (c : Picture mode) (b : Backing) (n : ℕ) → IsSound c.frames → HasPlaces c → IsBehind c b n → role_of c.frames n ≢ Role.Table
 behind_datum c Anon n sound places behind table = let bad : Role.Zero ≡ Role.Table = sym sound.zero_role ∙ ap (role_of c.frames) (sym behind) ∙ table in (cc)
-behind_datum c (Private p) n sound places behind table = let bad : Role.Cache ≡ Role.Table = sym (places.cached (File p) n behind) ∙ table in (cc)
-behind_datum c (Shared p) n sound places behind table = let bad : Role.Cache ≡ Role.Table = sym (places.cached (File p) n behind) ∙ table in (cc)
-behind_datum c (Common p) n sound places behind table = let bad : Role.Cache ≡ Role.Table = sym (places.cached (Object p) n behind) ∙ table in (cc)
+behind_datum c b n sound places behind table = let bad : Role.Cache ≡ Role.Table = sym (places.cached _ n behind) ∙ table in (cc)
 
 pub own_role : {mode : ℕ} (c : Picture mode) (pid page : ℕ) → IsFit c → IsPage (top_level mode) page → is_private (entry c pid page) ≡ true → role_of c.frames (frame_of (entry c pid page)) ≡ Role.Private
 own_role c pid page fit h own = fit.counted.1.named pid page (InFrame (frame_of (entry c pid page))) h (seat_own (entry c pid page) own)
@@ -153,20 +135,11 @@ mapped_page {mode = mode} c pid page a granting at =
     omega (arith, low, user_pages_fit mode)
 
 -- a page without a seat has no frame of its own, and doesn't lie in a slot
-own_seat : (e : ℕ) → seat e ≡ None → is_private e ≡ false
-own_seat e none = elim (cases_Bool (is_private e)) [
-  | inl own ↦ (let bad : Some (InFrame (frame_of e)) ≡ None = sym (seat_own e own) ∙ none in (cc))
-  | inr common ↦ common
-]
-
 pub none_common : (e : ℕ) → seat e ≡ None → is_private e ≡ false
-none_common = own_seat
+none_common e none = false_from_ne_true _ (λ own. let bad = sym (seat_own e own) ∙ none in (cc))
 
 pub none_here : (e : ℕ) → seat e ≡ None → is_swapped e ≡ false
-none_here e none = elim (cases_Bool (is_swapped e)) [
-  | inl away ↦ (let bad : Some (InSlot (frame_of e)) ≡ None = sym (seat_away e (own_seat e none) away) ∙ none in (cc))
-  | inr here ↦ here
-]
+none_here e none = false_from_ne_true _ (λ away. let bad = sym (seat_away e (none_common e none) away) ∙ none in (cc))
 
 pub seat_zero : (e : ℕ) → e ≡ 0 → seat e ≡ None
 seat_zero e none = ap seat none ∙ seat-none
@@ -177,13 +150,7 @@ shared_seat c attr a e at shared (Away b is away) =
     let P : Attr → Type 0 = λ x. is_shared x.backing ≡ false in absurd (false≢true (sym (subst P (same_Some b a (sym is ∙ at)) away.not_shared) ∙ shared))
 shared_seat c attr a e at shared (Resident b is resident) =
     let there = subst (λ (x : Attr). is_shared x.backing ≡ true) (same_Some a b (sym at ∙ is)) shared in
-    elim (cases_Bool (is_private e)) [
-      | inl own ↦ absurd (false≢true (sym (resident.private own) ∙ there))
-      | inr common ↦ elim (cases_Bool (is_valid e)) [
-        | inl valid ↦ seat_common e common (rw valid refl)
-        | inr invalid ↦ seat_common e common (rw (invalid, resident.framed invalid) refl)
-      ]
-    ]
+    seat_common e (false_from_ne_true _ (λ own. false≢true (sym (resident.private own) ∙ there))) (not_swapped e resident.framed)
 
 -- a shared page has no own copy
 pub shared_none : {mode : ℕ} (c : Picture mode) (pid page : ℕ) (a : Attr) → IsGranting c → c.at pid page ≡ Some a → IsPage (top_level mode) page → is_shared a.backing ≡ true → seat (entry c pid page) ≡ None

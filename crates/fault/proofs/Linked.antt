@@ -1,10 +1,10 @@
 -- An access goes on after the tables on its way were linked, or after the file page of its page was brought into a frame.
-use Rattle.fault.proofs.Names.{top_level, Access, PageKey, FrameNo, Stall, StoreDevice, File, Attr, Backing, Anon, Shared, Common, is_past_end_of, is_past_end, ◌≡◌, ◌≢◌, ℕ, false, inl, inr, ◌⊎◌, None, Result, Ok, Err, refl, sym, ◌∙◌, subst}
+use Rattle.fault.proofs.Names.{top_level, Access, PageKey, FrameNo, Stall, StoreDevice, File, Attr, Backing, Shared, is_past_end_of, is_past_end, ◌≡◌, ◌≢◌, ℕ, false, inl, inr, ◌⊎◌, None, Result, Ok, Err, sym, ◌∙◌, subst}
 use Rattle.fault.proofs.Names.{true, Some, ap, false≢true, IfErr, IfOk, Ghosts, FileStore, IsPage, Frame, Core, Picture, picture_of, held, entry, IsFit, Frees, Refuses, UsesDevice, KeepsPages, HasStallCause, ReadCause, StallCause, IsShort}
 use Rattle.vm_types.specs.declared.region.Backing.TheVariants.{Private}
 use Rattle.fault.specs.{Changes.{IsCalm, KeepsSeen, KeepsSpaces, KeepsBare, LinksTables, Moves}, Files.{BringsPages, BringsFiles, IsInStore}, Outcome.{IsStalled}, Wants.{ShowsFile, Wants, ReadsHome, LacksTable, ForTable}, Found.{IsOpenTo}}
 use Rattle.fault.{specs.Granted.{IsReadyAt}, proofs.{Steps.{seen_then, files_same}, Wanted.{nowhere_keeps, unlinked_keeps, page_there, there_or, reads_home, whole_or, shows_back}}}
-use Rattle.fault.proofs.{Names.{GivesForTables, is_swapped, IsWhole, page_entry-missing, entry-of}, AccessSteps.{brings_after, brings_then, cause_then, no_store, cause_of, keeps_seen}, Forms.{none_here, seat_zero}, Settled.{ready_after}}
+use Rattle.fault.proofs.{SwapSteps.{zero_here}, Names.{⊎_elim, otherwise, GivesForTables, is_swapped, IsWhole, page_entry-missing, entry-of}, AccessSteps.{brings_after, brings_then, cause_then, no_store, cause_of, keeps_seen}, Settled.{ready_after}}
 use Rattle.vm_types.specs.declared.mode.Levels as Levels
 
 -- The file page of its page was brought into a frame.
@@ -19,10 +19,9 @@ module _ {M : Type 0} {m : Levels.Ghosts M} {D E : Type 0} (old mid : Core D E M
 
   module _ (idle : (n : FrameNo) → (picture_of old).place p ≡ Frame n → mid ≡ old) where
     pub wants_then : (access : Access) → Wants (picture_of mid) pid page access → Wants (picture_of old) pid page access
-    wants_then access wants = elim (there_or (picture_of old) pid page access p shows) [
-      | inl there ↦ (let P : Core D E M m → Type 0 = λ k. Wants (picture_of k) pid page access in subst P (idle there.0 there.1) wants)
-      | inr away ↦ away
-    ]
+    wants_then access wants =
+        let P : Core D E M m → Type 0 = λ k. Wants (picture_of k) pid page access in
+        ⊎_elim (λ there. subst P (idle there.0 there.1) wants) (λ away. away) (there_or (picture_of old) pid page access p shows)
 
     pub calm_then : (new : Core D E M m) (access : Access) → ((Wants (picture_of mid) pid page access → ⊥) → IsCalm mid new pid page)
         → (Wants (picture_of old) pid page access → ⊥) → IsCalm old new pid page
@@ -55,10 +54,7 @@ module _ {M : Type 0} {m : Levels.Ghosts M} {D E : Type 0} (old mid : Core D E M
       cause = cause;
       short = short;
       refused = λ other. record { keep = None; keeps = nowhere_keeps (picture_of old) (picture_of mid) pid page access p shows spaces.at keeps frees never; refuses = refuses other };
-      wanted = (elim (there_or (picture_of old) pid page access p shows) [
-        | inl there ↦ absurd (never there.0 there.1)
-        | inr away ↦ away
-      ]);
+      wanted = otherwise (there_or (picture_of old) pid page access p shows) (λ there. never there.0 there.1);
       home = λ device. reads_home (picture_of old) pid page p fit shows (home device);
     }
 
@@ -77,37 +73,32 @@ module _ {M : Type 0} {m : Levels.Ghosts M} {D E : Type 0} (old mid : Core D E M
     }
 
 past_still : {mode : ℕ} (old new : Picture mode) (b : Backing) → ((f : ℕ) → new.files f ≡ old.files f) → is_past_end old.files b ≡ false → is_past_end new.files b ≡ false
-past_still old new Anon files e = e
 past_still old new (Private p) files e = ap (λ o. is_past_end_of o p.page) (files p.file) ∙ e
 past_still old new (Shared p) files e = ap (λ o. is_past_end_of o p.page) (files p.file) ∙ e
-past_still old new (Common p) files e = e
+past_still old new b files e = e
 
 -- what lets the access still lets it
 pub open_still : {mode : ℕ} (old new : Picture mode) (pid page : ℕ) (access : Access) (a : Attr) → ((q k : ℕ) → new.at q k ≡ old.at q k) → ((f : ℕ) → new.files f ≡ old.files f) → IsOpenTo old pid page access a
     → IsOpenTo new pid page access a
 open_still old new pid page access a at files is = record { mapped = at pid page ∙ is.mapped; lets = is.lets; inside = past_still old new a.backing files is.inside }
 
-zero_here : is_swapped 0 ≡ false
-zero_here = none_here 0 (seat_zero 0 refl)
-
 -- a page on whose way a table is missing has no entry
 module _ {mode : ℕ} where
   pub lacks_none : (c : Picture mode) (pid page : ℕ) → LacksTable c pid page → entry c pid page ≡ 0
   lacks_none c pid page lacks = entry-of c pid lacks.root page lacks.lives ∙ page_entry-missing c.frames (top_level mode) lacks.root page lacks.missing
 
+-- tables were linked before: none was, where none was missing
+pub as_before : {M : Type 0} {m : Levels.Ghosts M} {D E : Type 0} (P : Core D E M m → Type 0) {old mid : Core D E M m} {pid page : ℕ} → ((r : ℕ) × ((picture_of old).root pid ≡ Some r))
+    → (IsWhole (picture_of old) pid page → mid ≡ old) → P mid → (LacksTable (picture_of old) pid page → P old) → P old
+as_before P {old = old} {pid = pid} {page = page} lives idle now lacks = ⊎_elim (λ whole. subst P (idle whole) now) lacks (whole_or (picture_of old) pid page lives)
+
 module _ {M : Type 0} {m : Levels.Ghosts M} {D E : Type 0} (old mid : Core D E M m) (pid page : ℕ) (lives : (r : ℕ) × ((picture_of old).root pid ≡ Some r)) (pages : KeepsPages (picture_of old) (picture_of mid))
     (idle : IsWhole (picture_of old) pid page → mid ≡ old) where
   pub wants_back : (access : Access) → Wants (picture_of mid) pid page access → Wants (picture_of old) pid page access
-  wants_back access wants = elim (whole_or (picture_of old) pid page lives) [
-    | inl whole ↦ (let P : Core D E M m → Type 0 = λ k. Wants (picture_of k) pid page access in subst P (idle whole) wants)
-    | inr lacks ↦ ForTable lacks
-  ]
+  wants_back access wants = as_before (λ (k : Core D E M m). Wants (picture_of k) pid page access) lives idle wants ForTable
 
   pub calm_back : (new : Core D E M m) (access : Access) → ((Wants (picture_of mid) pid page access → ⊥) → IsCalm mid new pid page) → (Wants (picture_of old) pid page access → ⊥) → IsCalm old new pid page
-  calm_back new access calm none = elim (whole_or (picture_of old) pid page lives) [
-    | inl whole ↦ subst (λ (k : Core D E M m). IsCalm k new pid page) (idle whole) (calm (λ wants. none (wants_back access wants)))
-    | inr lacks ↦ absurd (none (ForTable lacks))
-  ]
+  calm_back new access calm none = as_before (λ (k : Core D E M m). IsCalm k new pid page) lives idle (calm (λ wants. none (wants_back access wants))) (λ lacks. absurd (none (ForTable lacks)))
 
   shows_before : (p : PageKey) → ShowsFile (picture_of mid) pid page p → ShowsFile (picture_of old) pid page p
   shows_before p = shows_back (picture_of old) (picture_of mid) pid page p pages.at (keeps_seen (picture_of old) (picture_of mid) pages)
@@ -115,21 +106,18 @@ module _ {M : Type 0} {m : Levels.Ghosts M} {D E : Type 0} (old mid : Core D E M
   -- the page's file page is to be read once the tables are made: it was at home, or they fill memory
   pub home_back : IsWhole (picture_of mid) pid page → GivesForTables (picture_of old) (picture_of mid) None → LinksTables (picture_of old) (picture_of mid) pid page
       → ReadsHome (picture_of mid) pid page → ReadsHome (picture_of old) pid page
-  home_back linked gives tables home = elim (whole_or (picture_of old) pid page lives) [
-    | inl whole ↦ (let P : Core D E M m → Type 0 = λ k. ReadsHome (picture_of k) pid page in subst P (idle whole) home)
-    | inr lacks ↦ record {
-      file = home.file;
-      shows = shows_before (File home.file) home.shows;
-      untouched = sym (pages.files.touched (File home.file)) ∙ home.untouched;
-      home = elim home.home [
-        | inl here ↦ elim gives.needed [
-          | inl full ↦ inr (record { lacks = lacks; linked = picture_of mid; gives = gives; tables = tables; full = full })
-          | inr none ↦ inl (sym (none.places (File home.file)) ∙ here)
-        ]
-        | inr again ↦ absurd (again.lacks.missing (linked again.lacks.root again.lacks.lives))
-      ];
-    }
-  ]
+  home_back linked gives tables home = as_before (λ (k : Core D E M m). ReadsHome (picture_of k) pid page) lives idle home (λ lacks. record {
+    file = home.file;
+    shows = shows_before (File home.file) home.shows;
+    untouched = sym (pages.files.touched (File home.file)) ∙ home.untouched;
+    home = elim home.home [
+      | inl here ↦ elim gives.needed [
+        | inl full ↦ inr (record { lacks = lacks; linked = picture_of mid; gives = gives; tables = tables; full = full })
+        | inr none ↦ inl (sym (none.places (File home.file)) ∙ here)
+      ]
+      | inr again ↦ absurd (again.lacks.missing (linked again.lacks.root again.lacks.lives))
+    ];
+  })
 
   pub read_back : IsWhole (picture_of mid) pid page → GivesForTables (picture_of old) (picture_of mid) None → LinksTables (picture_of old) (picture_of mid) pid page
       → (new : FileStore D) → mid.store ≡ old.store → (new ≡ mid.store) ⊎ ReadsHome (picture_of mid) pid page → (new ≡ old.store) ⊎ ReadsHome (picture_of old) pid page
@@ -138,10 +126,8 @@ module _ {M : Type 0} {m : Levels.Ghosts M} {D E : Type 0} (old mid : Core D E M
 
   -- a page that lies in a slot lay there
   pub away_back : IsPage (top_level m.mode) page → KeepsBare (picture_of old) (picture_of mid) → is_swapped (entry (picture_of mid) pid page) ≡ true → is_swapped (entry (picture_of old) pid page) ≡ true
-  away_back h bare away = elim (whole_or (picture_of old) pid page lives) [
-    | inl whole ↦ (let P : Core D E M m → Type 0 = λ k. is_swapped (entry (picture_of k) pid page) ≡ true in subst P (idle whole) away)
-    | inr lacks ↦ absurd (false≢true (sym zero_here ∙ sym (ap is_swapped (bare pid page h (lacks_none (picture_of old) pid page lacks))) ∙ away))
-  ]
+  away_back h bare away = as_before (λ (k : Core D E M m). is_swapped (entry (picture_of k) pid page) ≡ true) lives idle away
+      (λ lacks. absurd (false≢true (sym zero_here ∙ sym (ap is_swapped (bare pid page h (lacks_none (picture_of old) pid page lacks))) ∙ away)))
 
   pub ready_back : (new : Picture m.mode) (a : Attr) (access : Access) (r : Result FrameNo Stall) → (picture_of old).at pid page ≡ Some a
       → IfOk r (λ n. IsReadyAt (picture_of mid) new pid page a access n.0) → IfOk r (λ n. IsReadyAt (picture_of old) new pid page a access n.0)

@@ -3,7 +3,7 @@ pub use Rattle.{disk_model.{proofs.{Moments.{asks_once, asks_wider, asks_none, a
 pub use Rattle.{file_store.specs.{Store.{IsSectorOf, IsReadyStore, entry_of, files_of}, declared.{directory.Directory.{Directory}, store.FileStore.{FileStore}}}, frames.proofs.FrameLemmas.{with_bytes-same, with_bytes-others}}
 pub use Rattle.frames.specs.{FrameTable.{IsFull, frame_count, bytes_of, role_of, IsSound, count_of, IsFrame, FrameTable, Releases, is_handed_out, IsHeld, with_bytes, Takes, SameButFor}, declared.role.Role.{Role, TheVariants.{Private}}}
 pub use Rattle.{frames.specs.declared.role.Role.TheVariants.{Free, Table, Cache}, memory.proofs.Walks.{translated-entry}, page_cache.specs.{CacheTable.{is_touched, place_of}, declared.place.Place.{Place, TheVariants.{Frame, Home, Slot}}}}
-pub use Rattle.page_tables.proofs.{Bits.{over_some, parked_framed, parked_invalid}, Data.{KeepsTrees}, Ends.{page_entry-missing, missing_of-is, way_forth, page_is_entry}, Linking.{empty_last}, Places.{row_same}, Ways.{ends}}
+pub use Rattle.page_tables.proofs.{Pruning.{otherwise}, Bits.{over_some, parked_framed, parked_invalid}, Data.{KeepsTrees}, Ends.{page_entry-missing, missing_of-is, way_forth, page_is_entry}, Linking.{empty_last}, Places.{row_same}, Ways.{ends}}
 pub use Rattle.page_tables.specs.{Change.{KeepsFrames, SetsEntry, AddsTable, LinksTable}, Entry.{number_of, IsEntry, IsPageEntry}, Leaves.{IsEntryOver, IsLeaf, is_barred}, Tree.{IsPage, missing_of, IsForest, page_entry, IsRoot, Points}}
 pub use Rattle.{page_tables.specs.{Tree.{IsBelowRoot, IsSpare, IsTable, last_table, Way}, declared.forms.Entry.{Entry, TheVariants.{Swapped}}}, regions.{proofs.ResultLemmas.{on_err}, specs.Permission.{ReadsToo, IsReadableMap}}}
 pub use Rattle.{regions.specs.{RunList.{attr_at}, declared.run.Run.{Run}}, residency.proofs.{Aging.{gives_same, gives_then}, Asking.{asks_same, asks_between}, BroughtIn.{trees_brought, entries_brought, views_brought, held_else, held_here}}}
@@ -19,7 +19,8 @@ pub use Rattle.residency.specs.{Parts.{IsLeafFor, IsRootedBut, nowhere, IsCounte
 pub use Rattle.residency.specs.{Picture.{own_in, root_in, attr_where, count_in, page_in}, Reading.{IsRead, ReadsStore}, Seats.{seat, InSlot, is_swapped, is_private, InFrame, Seat, is_seat}, Shows.{KeepsFiles, object_bytes, ShowsPages}}
 pub use Rattle.residency.specs.{Sound.{AreBounded-prop, IsSound-prop}, Stalls.{HasStallCause, HasReadCause, StallCause, ReadCause, CountsNothing}, Steps.{SameBeside, BringsIn, SetsPage, ChangesFrame, Spawns, Remaps, KeepsShares, TakesOwn}}
 pub use Rattle.{residency.specs.{Ways.{IsWhole, KeepsAround}, declared.kernel.Core.{Core}}, std.proofs.Common.{ℕ, inr, Option, subst, arith, inl, ◌⊎◌, sym, ap, None, true, ◌<◌, ◌∙◌, ◌≢◌, Some, ◌≡◌, refl, ne_eqb, List, eq-eqb, false, ◌+◌}}
-pub use Rattle.std.proofs.{Common.{Err, Result, Ok, get_or, Bool, eqb-true, length, ◌||◌, if◌then◌else◌, ◌≤◌, not, ◌/◌, ◌%◌, ◌*◌, [], suc, zero, ◌-◌, rules}, Props.{props}, lemmas.Bool.{cases_Bool, cases_lt, cases_eq, false≢true}}
+pub use Rattle.std.proofs.{Common.{Err, Result, Ok, get_or, Bool, eqb-true, length, ◌||◌, if◌then◌else◌, ◌≤◌, not, ◌/◌, ◌%◌, ◌*◌, [], suc, zero, ◌-◌, rules, ⊎_elim}, Props.{props}, lemmas.Bool.{cases_Bool, cases_lt, cases_eq, false≢true}}
+pub use Rattle.{std.proofs.lemmas.Bool.{and_parts, and_from, true_from_ne_false, false_from_ne_true, leb-false, lt-leb}, residency.proofs.Places.{record_of, object_of}, residency.proofs.Bits.{not_swapped}, memory.proofs.{Leaves.{is_page, nonzero}, Looks.{in_frame}}}
 pub use Rattle.std.{proofs.lemmas.{Bool.Decides.{nat_tests}, List.{get_or_past}, Option.{same_Some}}, specs.Prelude.{◌==◌, ◌&&◌, is_some, OnOk, OnErr, IfErr, IfOk, option_map, nat_le, IsSome, IsErrAnd, IfSome, MatchOption, IsErr, IsTrue}}
 pub use Rattle.sv39_walk.specs.{Entry.{is_valid, is_dirty, frame_of, is_user, is_reserved, is_accessed, grants, is_leaf}, Walk.{is_store, page_of, translated}, declared.translation.WalkFault.{WalkFault, TheVariants.{Reserved, TooDeep}}}
 pub use Rattle.{sv39_walk.specs.declared.translation.WalkFault.TheVariants.{Misaligned, Denied, NotAccessed, NotDirty, Invalid, Outside}, swap.{proofs.Stack.{inside_of}, specs.Slots.{SlotTable, IsSectorOfSlot, IsSectorOfFreeSlot, IsReady}}}

@@ -1,31 +1,19 @@
 -- A frame of its own given to a page, with the bytes that it showed.
-use Rattle.fault.proofs.{Forms.{mapped_page, behind_used, behind_datum, own_role, used_inside}, Names.{top_level, PageKey, File, Object, Attr, Backing, can_write, ◌≡◌, ◌≢◌, ℕ, inl, inr, Bool, true, false, Some, get_or, refl, sym, ap, ◌∙◌}}
-use Rattle.fault.proofs.Names.{subst, eq-eqb, ne_eqb, cases_Bool, same_Some, ◌&&◌, ◌==◌, option_map, Ghosts, Free, Table, Private, IsFrame, IsSound, bytes_of, role_of, count_of, Releases, frame_of, IsPage, IsEntryOver, Frame, Core, Seat}
-use Rattle.fault.proofs.Names.{InFrame, InSlot, is_private, is_swapped, Frees, Picture, picture_of, entry, view, view_of, bytes_in, IsFit, IsFitBut, IsBehind, SameBeside, shown_stays, fit_released, release_spares, same, seat_own}
+use Rattle.fault.proofs.{Forms.{mapped_page, behind_used, behind_datum, own_role, used_inside}, Names.{top_level, PageKey, Attr, Backing, can_write, ◌≡◌, ◌≢◌, ℕ, inl, inr, Bool, true, false, Some, get_or, refl, sym, ap, ◌∙◌}}
+use Rattle.fault.proofs.Names.{rules, subst, eq-eqb, cases_Bool, same_Some, ◌&&◌, ◌==◌, option_map, Ghosts, Free, Table, Private, IsFrame, IsSound, bytes_of, role_of, count_of, Releases, frame_of, IsPage, IsEntryOver, Frame, Core}
+use Rattle.fault.proofs.Names.{InFrame, is_private, is_swapped, Frees, Picture, picture_of, entry, view, view_of, bytes_in, IsFit, IsFitBut, IsBehind, SameBeside, shown_stays, fit_released, release_spares, same, seat_own}
 use Rattle.fault.{proofs.{Names.{seat_common}, Settling.{KeepsAside, aside_then, aside_released, HasFrame, GivesFrame, fit_given, fit_seated, entry_given, bytes_given, count_given, view_given, aside_given}}, specs.Changes.{IsLinked}}
-use Rattle.fault.specs.{Changes.{TakesCopy, frame_of_place, frame_behind, shown_frame, is_sole}, Leaves.{IsFullEntry}, OwnFrames.{IsOwnable}, declared.spot.Spot.{Spot}}
+use Rattle.fault.specs.{Changes.{TakesCopy, frame_of_place, frame_behind, shown_frame}, Leaves.{IsFullEntry}, OwnFrames.{IsOwnable}, declared.spot.Spot.{Spot}}
 use Rattle.vm_types.specs.declared.mode.Levels as Levels
 use Rattle.vm_types.specs.declared.region.Backing.TheVariants as Backings
 
-seat_number : Seat → ℕ
-seat_number (InFrame n) = n
-seat_number (InSlot k) = 0
-
-one_number : (m n : ℕ) → InFrame m ≡ InFrame n → m ≡ n
-unfolding seat_number
-one_number m n e = ap seat_number e
-
 behind_is : {mode : ℕ} (c : Picture mode) (b : Backing) (n : ℕ) → IsBehind c b n → frame_behind c b ≡ n
 behind_is c Backings.Anon n behind = sym behind
-behind_is c (Backings.Private p) n behind = ap frame_of_place behind
-behind_is c (Backings.Shared p) n behind = ap frame_of_place behind
-behind_is c (Backings.Common p) n behind = ap frame_of_place behind
+behind_is c b n behind = ap frame_of_place behind
 
 behind_stays : {mode : ℕ} (old new : Picture mode) (b : Backing) (x m : ℕ) → IsBehind old b x → x ≡ m → ((p : PageKey) → old.place p ≡ Frame (record { 0 = m }) → new.place p ≡ Frame (record { 0 = m })) → IsBehind new b x
 behind_stays old new Backings.Anon x m behind is kept = behind
-behind_stays old new (Backings.Private p) x m behind is kept = kept (File p) (behind ∙ ap (λ i. Frame (record { 0 = i })) is) ∙ ap (λ i. Frame (record { 0 = i })) (sym is)
-behind_stays old new (Backings.Shared p) x m behind is kept = kept (File p) (behind ∙ ap (λ i. Frame (record { 0 = i })) is) ∙ ap (λ i. Frame (record { 0 = i })) (sym is)
-behind_stays old new (Backings.Common p) x m behind is kept = kept (Object p) (behind ∙ ap (λ i. Frame (record { 0 = i })) is) ∙ ap (λ i. Frame (record { 0 = i })) (sym is)
+behind_stays old new b x m behind is kept = kept _ (behind ∙ ap (λ i. Frame (record { 0 = i })) is) ∙ ap (λ i. Frame (record { 0 = i })) (sym is)
 
 pub behind_freed : {mode : ℕ} (old new : Picture mode) (b : Backing) (m : ℕ) → Frees old new (Some (record { 0 = m })) → role_of old.frames m ≢ Table → IsBehind old b m
     → (x : ℕ) → IsBehind old b x → IsBehind new b x × (bytes_of new.frames x ≡ bytes_of old.frames x)
@@ -51,16 +39,6 @@ unfolding view
 own_view c pid page a at own =
     ap (λ o. view_of o (c.at pid page)) (ap (λ z. option_map (bytes_in c.frames c.slots) z) (seat_own (entry c pid page) own))
     ∙ ap (λ o. view_of (Some (bytes_of c.frames (frame_of (entry c pid page)))) o) at
-
--- whether the process is the only one to have its private frame
-pub common_when : {mode : ℕ} (c : Picture mode) (e : ℕ) → is_private e ≡ false → is_sole c e ≡ false
-common_when c e common = rw common refl
-
-pub several_when : {mode : ℕ} (c : Picture mode) (e : ℕ) → count_of c.frames (frame_of e) ≢ 1 → is_sole c e ≡ false
-several_when c e many = elim (cases_Bool (is_private e)) [
-  | inl private ↦ rw (private, ne_eqb (count_of c.frames (frame_of e)) 1 many) refl
-  | inr common ↦ common_when c e common
-]
 
 pub full_own : {mode : ℕ} (c : Picture mode) (a : Attr) (n e : ℕ) → count_of c.frames n ≡ 1 → can_write a.prot ≡ true → IsFullEntry c a n true e → IsEntryOver e a.prot n true true true
 full_own c a n e one writable full =
@@ -125,20 +103,11 @@ module _ {mode : ℕ} {old : Picture mode} {pid page m : ℕ} {a : Attr} (shows 
 
   module _ {mid : Picture mode} {n r : ℕ} (copy : TakesCopy old mid n page m) (lives : old.root pid ≡ Some r) where
     pub copy_frame : HasFrame old copy.found mid (Some (record { 0 = m })) pid page r n a
-    copy_frame = record {
-      linked = shows.linked;
-      lives = lives;
-      at = shows.at;
-      frees = copy.frees;
-      fit = copy.fit;
-      stays = copy.frees.entries pid page here
-          (shown_stays old (old.at pid page) a.backing (entry old pid page) m (shows.linked.fit.granting.entries pid page here) (λ b is. ap (λ x. x.backing) (same_Some b a (sym is ∙ shows.at)))
-          shows.own (λ not_own not_away. shows.common not_own) shows.resident);
-      changes = copy.changes;
-      role = copy.role;
-      one = copy.count;
-      noted = copy.noted;
-    }
+    copy_frame =
+        let stays = copy.frees.entries pid page here
+        (shown_stays old (old.at pid page) a.backing (entry old pid page) m (shows.linked.fit.granting.entries pid page here) (λ b is. ap (λ x. x.backing) (same_Some b a (sym is ∙ shows.at)))
+        shows.own (λ not_own not_away. shows.common not_own) shows.resident) in
+        search rules
 
     apart : m ≢ n
     apart e = shown_used (sym (copy.frees.kept_role m refl) ∙ ap (role_of copy.found.frames) e ∙ copy.changes.was_free)
@@ -172,7 +141,7 @@ module _ {mode : ℕ} {old : Picture mode} {pid page m : ℕ} {a : Attr} (shows 
       -- it shared one, and gives its share back
       module _ (private : is_private (entry old pid page) ≡ true) where
         fit_set : IsFitBut set (InFrame m) 1 0
-        fit_set = fit_seated copy_frame gives (InFrame m) (seat_own (entry old pid page) private ∙ ap (λ i. Some (InFrame i)) (shows.own private)) (λ e. apart (one_number m n e))
+        fit_set = fit_seated copy_frame gives (InFrame m) (seat_own (entry old pid page) private ∙ ap (λ i. Some (InFrame i)) (shows.own private)) (λ e. apart (cc))
 
         pub role_shared : role_of set.frames m ≡ Private
         role_shared = ap (λ rs. get_or rs m Free) gives.sets.2.kept.roles ∙ copy.changes.frames.roles m apart ∙ copy.frees.kept_role m refl ∙ own_kind private

@@ -1,10 +1,11 @@
 -- What the frame of a page holds where the page's entry names one, what the walk answers there, and what an access may do with it.
-use Rattle.fault.proofs.{Forms.{resident_page, resident_used, own_role, used_inside}, Names.{top_level, user_end, PageKey, File, Object, Attr, Backing, Anon, Shared, Common, stands_on, zero_page, View, Access, Phys, Load, Store, Fetch}}
-use Rattle.fault.proofs.Names.{Width, Code, SegvMaperr, SegvAccerr, BusAdrerr, Files, Fine, Faults, lets, is_past_end, page_verdict, byte_count, ◌≡◌, ◌≢◌, ℕ, inl, inr, ◌⊎◌, true, false, Option, Some, None, List, refl, sym, ap, ◌∙◌, subst}
-use Rattle.fault.proofs.Names.{◌+◌, ◌*◌, ◌%◌, ◌<◌, Bool, ◌||◌, not, if◌then◌else◌, Ok, Err, Result, arith, ◌/◌, ◌≤◌, eq-eqb, cases_Bool, false≢true, nat_tests, same_Some, option_map, nat_le, ◌==◌, IsSome, FrameTable, bytes_of, IsFrame}
-use Rattle.fault.proofs.Names.{IsHeld, IsSound, is_handed_out, zero_bytes, frame_count, SlotTable, has_bit, is_valid, is_dirty, frame_of, is_user, is_accessed, is_reserved, is_leaf, grants, WalkFault, Invalid, Reserved, TooDeep, Outside}
-use Rattle.fault.proofs.Names.{Misaligned, Denied, NotAccessed, NotDirty, page_of, frame_in, is_store, answer_of, translated, IsPage, Frame, seat, is_private, is_swapped, Picture, entry, own_in, bytes_in, view, view_of, IsFit, IsResident}
-use Rattle.fault.{proofs.{Names.{IsBehind, is_shared, IsEntryFor, Resident, Away, IsLeafFor, seat_own, seat_common, entry-of, view-none, user_pages_fit, translated-entry}, Steps.{seen_none}}, specs.{Changes.{KeepsSeen}, Found.{IsOpenTo}}}
+use Rattle.fault.proofs.{Forms.{resident_page, resident_used, own_role, used_inside}, Names.{top_level, user_end, PageKey, Attr, Backing, Anon, stands_on, zero_page, View, Access, Phys, Load, Store, Fetch}}
+use Rattle.fault.proofs.Names.{nonzero, true_from_ne_false, false_from_ne_true, leb-false, lt-leb, is_page, in_frame, Width, Code, SegvMaperr, SegvAccerr, BusAdrerr, Fine, Faults, lets, is_past_end, page_verdict, byte_count, ◌≡◌, ◌≢◌, ℕ}
+use Rattle.fault.proofs.Names.{inl, inr, ◌⊎◌, true, false, Option, Some, None, List, refl, sym, ap, ◌∙◌, subst, ◌+◌, ◌*◌, ◌%◌, ◌<◌, Bool, ◌||◌, not, if◌then◌else◌, Ok, Err, Result, arith, ◌/◌, ◌≤◌, eq-eqb, cases_Bool, false≢true, same_Some}
+use Rattle.fault.proofs.Names.{option_map, nat_le, ◌==◌, IsSome, FrameTable, bytes_of, IsFrame, IsHeld, IsSound, is_handed_out, zero_bytes, frame_count, SlotTable, is_valid, is_dirty, frame_of, is_user, is_accessed, is_reserved, is_leaf}
+use Rattle.fault.proofs.Names.{grants, WalkFault, Invalid, Reserved, TooDeep, Outside, Misaligned, Denied, NotAccessed, NotDirty, page_of, frame_in, is_store, answer_of, translated, IsPage, Frame, seat, is_private, is_swapped, Picture}
+use Rattle.fault.proofs.Names.{entry, own_in, bytes_in, view, view_of, IsFit, IsResident}
+use Rattle.fault.{proofs.{Names.{IsBehind, is_shared, IsEntryFor, Resident, Away, IsLeafFor, seat_own, seat_common, entry-of, view-none, translated-entry}, Steps.{seen_none}}, specs.{Changes.{KeepsSeen}, Found.{IsOpenTo}}}
 use Rattle.fault.specs.{Found.{IsWayTo, IsFineAt, IsUnwalked}, Granted.{IsOpenLeaf, IsEntered, IsReadyAt}, Outcome.{Reads, MarksTouchedIn, Owns, seen_at, verdict_of, IsReadyToStore, IsReadyFor, IsOpenToStore, IsFrameFor, IsPlaced, Grants}}
 use Rattle.{fault.specs.{Shown.{AreBehind, AreOwnOrBehind, AreShown, IsSoleOwner}, declared.finding.Way.{Way}}, residency.specs.Parts.{Nothing}, std.{proofs.Common.{◌&&◌}, specs.Prelude.{◌⊎◌}}, sv39_walk.specs.Entry.{can_write}}
 use Rattle.vm_types.specs.declared.region.Backing.TheVariants.{Private}
@@ -13,15 +14,7 @@ pub zero_same : zero_bytes ≡ zero_page
 unfolding zero_bytes zero_page
 zero_same = refl
 
-pub valid_zero : is_valid 0 ≡ false
-unfolding has_bit
-valid_zero = refl
-
--- a leaf is something
-pub valid_some : (e : ℕ) → is_valid e ≡ true → e ≢ 0
-valid_some e valid none = false≢true (sym valid_zero ∙ sym (ap is_valid none) ∙ valid)
-
--- and names no slot
+-- a leaf names no slot
 pub valid_here : (e : ℕ) → is_valid e ≡ true → is_swapped e ≡ false
 valid_here e valid = rw valid refl
 
@@ -38,16 +31,12 @@ view-mapped c pid page a mapped = ap (view_of (own_in c.frames c.slots (entry c 
 
 behind_shown : {mode : ℕ} (c : Picture mode) (b : Backing) (n : ℕ) → IsSound c.frames → IsBehind c b n → AreBehind c b (bytes_of c.frames n)
 behind_shown c Anon n sound behind = ap (bytes_of c.frames) behind ∙ sound.zero_page ∙ zero_same
-behind_shown c (Private p) n sound behind = (record { 0 = n }, behind, refl)
-behind_shown c (Shared p) n sound behind = (record { 0 = n }, behind, refl)
-behind_shown c (Common p) n sound behind = (record { 0 = n }, behind, refl)
+behind_shown c b n sound behind = (record { 0 = n }, behind, refl)
 
 -- what stands behind a page lies in the frame that is behind it
 pub behind_place : {mode : ℕ} (c : Picture mode) (b : Backing) (p : PageKey) (n : ℕ) → stands_on b ≡ Some p → IsBehind c b n → c.place p ≡ Frame (record { 0 = n })
 behind_place c Anon p n is at = (let bad : None ≡ Some p = is in (cc))
-behind_place c (Private q) p n is at = ap c.place (sym (same_Some (File q) p is)) ∙ at
-behind_place c (Shared q) p n is at = ap c.place (sym (same_Some (File q) p is)) ∙ at
-behind_place c (Common q) p n is at = ap c.place (sym (same_Some (Object q) p is)) ∙ at
+behind_place c b p n is at = ap c.place (sym (same_Some _ p is)) ∙ at
 
 module _ {mode : ℕ} (c : Picture mode) (pid page : ℕ) (a : Attr) (fit : IsFit c) (sound : IsSound c.frames) (h : IsPage (top_level mode) page) (mapped : c.at pid page ≡ Some a)
     (some : entry c pid page ≢ 0) (here : is_swapped (entry c pid page) ≡ false) where
@@ -70,10 +59,7 @@ module _ {mode : ℕ} (c : Picture mode) (pid page : ℕ) (a : Attr) (fit : IsFi
 
   -- a write to a page that isn't shared goes to a frame of its own
   pub writes_own : is_valid (entry c pid page) ≡ true → can_write (entry c pid page) ≡ true → is_shared a.backing ≡ false → is_private (entry c pid page) ≡ true
-  writes_own valid write private = elim (cases_Bool (is_private (entry c pid page))) [
-    | inl own ↦ own
-    | inr common ↦ absurd (false≢true (sym private ∙ (resident.leaf valid).common common write))
-  ]
+  writes_own valid write private = true_from_ne_false _ (λ common. false≢true (sym private ∙ (resident.leaf valid).common common write))
 
   pub own_held : is_private (entry c pid page) ≡ true → IsHeld c.frames (frame_of (entry c pid page))
   own_held own = record { inside = inside_there; handed_out = ap is_handed_out (own_role c pid page fit h own) }
@@ -84,10 +70,7 @@ module _ {mode : ℕ} (c : Picture mode) (pid page : ℕ) (a : Attr) (fit : IsFi
 
   -- a shared page lies in the frame of its file page
   pub shared_common : is_shared a.backing ≡ true → is_private (entry c pid page) ≡ false
-  shared_common shared = elim (cases_Bool (is_private (entry c pid page))) [
-    | inl own ↦ absurd (false≢true (sym (resident.private own) ∙ shared))
-    | inr common ↦ common
-  ]
+  shared_common shared = false_from_ne_true _ (λ own. false≢true (sym (resident.private own) ∙ shared))
 
   pub shared_place : (p : PageKey) → is_shared a.backing ≡ true → stands_on a.backing ≡ Some p → c.place p ≡ Frame (record { 0 = frame_of (entry c pid page) })
   shared_place p shared is = behind_place c a.backing p (frame_of (entry c pid page)) is (resident.behind (shared_common shared))
@@ -115,7 +98,7 @@ pub touches : {mode : ℕ} (old new : Picture mode) (pid page : ℕ) (a : Attr) 
     → ((q k : ℕ) → view new q k ≡ view old q k) → ((q : PageKey) → q ≢ p → new.touched q ≡ old.touched q)
     → MarksTouchedIn old new p (frame_of (entry new pid page))
 touches old new pid page a p fit sound h mapped valid dirty shared is views others =
-    let some = valid_some (entry new pid page) valid in
+    let some = nonzero (entry new pid page) valid in
     let here = valid_here (entry new pid page) valid in
     let place = shared_place new pid page a fit sound h mapped some here p shared is in
     let common = shared_common new pid page a fit sound h mapped some here shared in
@@ -134,7 +117,7 @@ pub owns : {mode : ℕ} (old new : Picture mode) (pid page : ℕ) (a : Attr) (ow
     → ((q k : ℕ) → (q ≢ pid) ⊎ (k ≢ page) → view new q k ≡ view old q k) → ((q : PageKey) → new.touched q ≡ old.touched q)
     → Owns old new pid page (record { attr = a; own = own }) (frame_of (entry new pid page))
 owns old new pid page a own fit sound h mapped valid write private shown others touched =
-    let some = valid_some (entry new pid page) valid in
+    let some = nonzero (entry new pid page) valid in
     let here = valid_here (entry new pid page) valid in
     let is_own = writes_own new pid page a fit sound h mapped some here valid write private in
     record {
@@ -154,36 +137,21 @@ bar : (b : Bool) (f : WalkFault) (r : Result Phys WalkFault) (p : Phys) → (if 
 bar true f r p h = (cc)
 bar false f r p h = (refl, h)
 
-abbrev there : Phys → Result Phys WalkFault
-there p = Ok p
-
-same_number : (x y : Phys) → there x ≡ there y → x.0 ≡ y.0
-same_number x y same = (cc)
+-- the walk answers one place
+pub one_place : (r : Result Phys WalkFault) (p q : Phys) → r ≡ Ok p → r ≡ Ok q → p ≡ q
+one_place r p q e f = (cc)
 
 neither : (a b : Bool) → (not a || not b) ≡ false → (a ≡ true) × (b ≡ true)
 neither true true h = (refl, refl)
-neither true false h = (cc)
-neither false b h = (cc)
+neither a b h = (cc)
 
 then_set : (s d : Bool) → (s && not d) ≡ false → s ≡ true → d ≡ true
 then_set true true h e = refl
-then_set true false h e = (cc)
-then_set false d h e = (cc)
+then_set s d h e = (cc)
 
 not_set : (s d : Bool) → (s ≡ true → d ≡ true) → (s && not d) ≡ false
 not_set false d h = refl
 not_set true d h = ap not (h refl)
-
-frame_below : (n count : ℕ) → nat_le count n ≡ false → n < count
-frame_below n count h = grind (arith, nat_tests)
-
-frame_inside : (n count : ℕ) → n < count → nat_le count n ≡ false
-frame_inside n count h = grind (arith, nat_tests)
-
--- at the lowest level it is the leaf's own
-frame_in-zero : (e page : ℕ) → frame_in 0 e page ≡ frame_of e
-unfolding frame_in
-frame_in-zero e page = omega arith
 
 no_low_bits : (n : ℕ) → (n % 1 == 0) ≡ true
 no_low_bits n = let none : n % 1 ≡ 0 = omega arith in rw none
@@ -201,8 +169,8 @@ answer-ok count addr access e opens inside =
       opens.grants,
       opens.accessed,
       not_set (is_store access) (is_dirty e) opens.dirty,
-      frame_in-zero e (page_of addr),
-      frame_inside (frame_of e) count inside,
+      in_frame e (page_of addr),
+      lt-leb count (frame_of e) inside,
     )
 
 -- what is known of a place that the walk answers
@@ -223,19 +191,16 @@ answer-places count addr access e phys h =
     let i = bar (is_store access && not (is_dirty e)) NotDirty _ phys g.1 in
     let j = bar (nat_le count (frame_in 0 e (page_of addr))) Outside _ phys i.1 in
     let both = neither (is_user e) (grants access e) f.0 in
-    let own = frame_in-zero e (page_of addr) in
+    let own = in_frame e (page_of addr) in
     record {
       opens = record { valid = a.0; sound = b.0; leaf = c.0; user = both.0; grants = both.1; accessed = g.0; dirty = then_set (is_store access) (is_dirty e) i.0 };
-      inside = rw (← own) (frame_below (frame_in 0 e (page_of addr)) count j.0);
-      place = same_number phys _ (sym j.1) ∙ ap (λ x. x * 4096 + addr % 4096) own;
+      inside = rw (← own) (leb-false count (frame_in 0 e (page_of addr)) j.0);
+      place = ap (λ p. p.0) (one_place _ phys _ j.1 refl) ∙ ap (λ x. x * 4096 + addr % 4096) own;
     }
 
 -- user pages alone are mapped
 pub page_user : {mode : ℕ} (c : Picture mode) (pid page : ℕ) (a : Attr) → IsFit c → c.at pid page ≡ Some a → (16 ≤ page) × (page < user_end mode)
 page_user c pid page a fit mapped = (fit.granting.user pid).user_pages page (let P : Option Attr → Type 0 = λ x. IsSome x in subst P (sym mapped) refl)
-
-page_small : (mode page : ℕ) → page < user_end mode → IsPage (top_level mode) page
-page_small mode page h = omega (arith, h, user_pages_fit mode)
 
 -- the walk reads the entry
 module _ {mode : ℕ} where
@@ -256,26 +221,21 @@ offset_small addr = omega arith
 
 open_inside_store : {mode : ℕ} (c : Picture mode) (pid page : ℕ) (b : Backing) (n : ℕ) → IsOpenToStore c pid page b n → n < frame_count c.frames
 open_inside_store c pid page Anon n is = is.0.inside
-open_inside_store c pid page (Private p) n is = is.0.inside
-open_inside_store c pid page (Shared p) n is = is.0.inside
-open_inside_store c pid page (Common p) n is = is.0.inside
+open_inside_store c pid page b n is = is.0.inside
 
 open_inside : {mode : ℕ} (access : Access) (c : Picture mode) (pid page : ℕ) (b : Backing) (n : ℕ) → IsFrameFor access c pid page b n → n < frame_count c.frames
-open_inside Load c pid page b n is = is
 open_inside Store c pid page b n is = open_inside_store c pid page b n is
-open_inside Fetch c pid page b n is = is
+open_inside access c pid page b n is = is
 
 ready_open_store : {mode : ℕ} (old new : Picture mode) (pid page : ℕ) (v : View) (b : Backing) (n : ℕ) → IsReadyToStore old new pid page v b n → IsOpenToStore new pid page b n
 ready_open_store old new pid page v Anon n ready = (ready.held, ready.sole)
 ready_open_store old new pid page v (Private p) n ready = (ready.held, ready.sole)
-ready_open_store old new pid page v (Shared p) n ready = (ready.held, ready.place, ready.touched)
-ready_open_store old new pid page v (Common p) n ready = (ready.held, ready.place, ready.touched)
+ready_open_store old new pid page v b n ready = (ready.held, ready.place, ready.touched)
 
 -- a frame that is ready may be used
 pub ready_open : {mode : ℕ} (access : Access) (old new : Picture mode) (pid page : ℕ) (v : View) (n : ℕ) → IsReadyFor access old new pid page v n → IsFrameFor access new pid page v.attr.backing n
-ready_open Load old new pid page v n ready = ready.inside
 ready_open Store old new pid page v n ready = ready_open_store old new pid page v v.attr.backing n ready
-ready_open Fetch old new pid page v n ready = ready.inside
+ready_open access old new pid page v n ready = ready.inside
 
 -- the page's entry was made to grant the access
 pub placed_made : {mode : ℕ} (old new : Picture mode) (pid root addr : ℕ) (width : Width) (access : Access) (a : Attr) (n : ℕ) → IsFit new → new.root pid ≡ Some root → addr / 4096 < user_end mode
@@ -306,26 +266,15 @@ grants_made old new pid addr width access a n fine ready =
 pub verdict-none : {mode : ℕ} (c : Picture mode) (pid page : ℕ) (access : Access) → c.at pid page ≡ None → page_verdict c.files (view c pid page) access ≡ Faults SegvMaperr
 verdict-none c pid page access none = ap (λ o. page_verdict c.files o access) (view-none c pid page none)
 
-page_verdict-denied : (files : Files) (v : View) (access : Access) → lets access v.attr.prot ≡ false → page_verdict files (Some v) access ≡ Faults SegvAccerr
-page_verdict-denied files v access denied = rw denied refl
-
-page_verdict-past : (files : Files) (v : View) (access : Access) → lets access v.attr.prot ≡ true → is_past_end files v.attr.backing ≡ true
-    → page_verdict files (Some v) access ≡ Faults BusAdrerr
-page_verdict-past files v access allowed past = rw (allowed, past) refl
-
-page_verdict-fine : (files : Files) (v : View) (access : Access) → lets access v.attr.prot ≡ true → is_past_end files v.attr.backing ≡ false
-    → page_verdict files (Some v) access ≡ Fine v
-page_verdict-fine files v access allowed inside = rw (allowed, inside) refl
-
 module _ {mode : ℕ} (c : Picture mode) (pid page : ℕ) (access : Access) (a : Attr) (mapped : c.at pid page ≡ Some a) where
   pub verdict-denied : lets access a.prot ≡ false → page_verdict c.files (view c pid page) access ≡ Faults SegvAccerr
-  verdict-denied denied = ap (λ o. page_verdict c.files o access) (view-mapped c pid page a mapped) ∙ page_verdict-denied c.files (seen_at c pid page a) access denied
+  verdict-denied denied = rw (view-mapped c pid page a mapped, denied) refl
 
   pub verdict-past : lets access a.prot ≡ true → is_past_end c.files a.backing ≡ true → page_verdict c.files (view c pid page) access ≡ Faults BusAdrerr
-  verdict-past allowed past = ap (λ o. page_verdict c.files o access) (view-mapped c pid page a mapped) ∙ page_verdict-past c.files (seen_at c pid page a) access allowed past
+  verdict-past allowed past = rw (view-mapped c pid page a mapped, allowed, past) refl
 
   pub verdict-fine : lets access a.prot ≡ true → is_past_end c.files a.backing ≡ false → page_verdict c.files (view c pid page) access ≡ Fine (seen_at c pid page a)
-  verdict-fine allowed inside = ap (λ o. page_verdict c.files o access) (view-mapped c pid page a mapped) ∙ page_verdict-fine c.files (seen_at c pid page a) access allowed inside
+  verdict-fine allowed inside = rw (view-mapped c pid page a mapped, allowed, inside) refl
 
 -- of an aligned address the page decides
 pub verdict-aligned : {mode : ℕ} (c : Picture mode) (pid addr : ℕ) (width : Width) (access : Access) → addr % byte_count width ≡ 0
@@ -346,21 +295,15 @@ cases_mapped : (o : Option Attr) → (o ≡ None) ⊎ ((a : Attr) × (o ≡ Some
 cases_mapped None = inl refl
 cases_mapped (Some a) = inr (a, refl)
 
-none_some : (a : Attr) → None ≡ Some a → ⊥
-none_some a e = (cc)
-
 -- a page that isn't mapped has no leaf
 nothing_in : {mode : ℕ} (c : Picture mode) (o : Option Attr) (e : ℕ) → o ≡ None → is_valid e ≡ true → IsEntryFor c o e → ⊥
-nothing_in c o e none valid (Nothing zero_now) = false≢true (sym valid_zero ∙ sym (ap is_valid zero_now) ∙ valid)
-nothing_in c o e none valid (Resident a at lies) = none_some a (sym none ∙ at)
-nothing_in c o e none valid (Away a at lies) = none_some a (sym none ∙ at)
-
-nothing_valid : {mode : ℕ} (c : Picture mode) (pid page : ℕ) → IsFit c → IsPage (top_level mode) page → c.at pid page ≡ None → is_valid (entry c pid page) ≡ true → ⊥
-nothing_valid c pid page fit h none valid = nothing_in c (c.at pid page) (entry c pid page) none valid (fit.granting.entries pid page h)
+nothing_in c o e none valid (Nothing zero_now) = nonzero e valid zero_now
+nothing_in c o e none valid (Resident a at lies) = (cc)
+nothing_in c o e none valid (Away a at lies) = (cc)
 
 module _ {mode : ℕ} (c : Picture mode) (pid page : ℕ) (a : Attr) (fit : IsFit c) (sound : IsSound c.frames) (h : IsPage (top_level mode) page) (mapped : c.at pid page ≡ Some a) where
   shown_at : IsOpenLeaf Store (entry c pid page) → AreShown c (seen_at c pid page a) (bytes_of c.frames (frame_of (entry c pid page)))
-  shown_at opens = shown_there c pid page a fit sound h mapped (valid_some (entry c pid page) opens.valid) (valid_here (entry c pid page) opens.valid)
+  shown_at opens = shown_there c pid page a fit sound h mapped (nonzero (entry c pid page) opens.valid) (valid_here (entry c pid page) opens.valid)
 
   own_there : is_shared a.backing ≡ false → IsOpenLeaf Store (entry c pid page) → Owns c c pid page (seen_at c pid page a) (frame_of (entry c pid page))
   own_there private opens =
@@ -369,16 +312,12 @@ module _ {mode : ℕ} (c : Picture mode) (pid page : ℕ) (a : Attr) (fit : IsFi
   ready_to_store : (b : Backing) → a.backing ≡ b → IsOpenLeaf Store (entry c pid page) → IsReadyToStore c c pid page (seen_at c pid page a) b (frame_of (entry c pid page))
   ready_to_store Anon is opens = own_there (ap is_shared is) opens
   ready_to_store (Private p) is opens = own_there (ap is_shared is) opens
-  ready_to_store (Shared p) is opens =
-      touches c c pid page a (File p) fit sound h mapped opens.valid (opens.dirty refl) (ap is_shared is) (ap stands_on is) (λ q k. refl) (λ q ne. refl)
-  ready_to_store (Common p) is opens =
-      touches c c pid page a (Object p) fit sound h mapped opens.valid (opens.dirty refl) (ap is_shared is) (ap stands_on is) (λ q k. refl) (λ q ne. refl)
+  ready_to_store b is opens = touches c c pid page a _ fit sound h mapped opens.valid (opens.dirty refl) (ap is_shared is) (ap stands_on is) (λ q k. refl) (λ q ne. refl)
 
   -- an access that is granted already
   pub ready_there : (access : Access) → IsOpenLeaf access (entry c pid page) → IsReadyFor access c c pid page (seen_at c pid page a) (frame_of (entry c pid page))
-  ready_there Load opens = reads c c pid page a fit sound h mapped (valid_some (entry c pid page) opens.valid) (valid_here (entry c pid page) opens.valid) (seen_none c)
   ready_there Store opens = ready_to_store a.backing refl opens
-  ready_there Fetch opens = reads c c pid page a fit sound h mapped (valid_some (entry c pid page) opens.valid) (valid_here (entry c pid page) opens.valid) (seen_none c)
+  ready_there access opens = reads c c pid page a fit sound h mapped (nonzero (entry c pid page) opens.valid) (valid_here (entry c pid page) opens.valid) (seen_none c)
 
 -- the walk answered a place
 module _ {mode : ℕ} where
@@ -387,16 +326,16 @@ module _ {mode : ℕ} where
       → IsPlaced c c pid addr width access phys × Grants c c pid addr width access phys
   grants_found c pid root addr width access phys fit sound lives user aligned walked =
       let page = addr / 4096 in
-      let h = page_small mode page user in
+      let h = is_page mode page user in
       let places : Places (frame_count c.frames) addr access (entry c pid page) phys =
       answer-places (frame_count c.frames) addr access (entry c pid page) phys (sym (walk_entry c pid root addr access fit lives user) ∙ walked) in
       let number : phys.0 / 4096 ≡ frame_of (entry c pid page) =
       ap (λ x. x / 4096) places.place ∙ frame_there (frame_of (entry c pid page)) (addr % 4096) (offset_small addr) in
       elim (cases_mapped (c.at pid page)) [
-        | inl none ↦ absurd (nothing_valid c pid page fit h none places.opens.valid)
+        | inl none ↦ absurd (nothing_in c _ _ none places.opens.valid (fit.granting.entries pid page h))
         | inr some ↦ (
             let a = some.0 in
-            let resides = resident c pid page a fit sound h some.1 (valid_some (entry c pid page) places.opens.valid) (valid_here (entry c pid page) places.opens.valid) in
+            let resides = resident c pid page a fit sound h some.1 (nonzero (entry c pid page) places.opens.valid) (valid_here (entry c pid page) places.opens.valid) in
             let allowed = leaf_lets c a access (entry c pid page) (resides.leaf places.opens.valid) places.opens.grants in
             let fine = verdict-aligned c pid addr width access aligned ∙ verdict-fine c pid page access a some.1 allowed resides.inside in
             let Q : ℕ → Type 0 = λ x. IsFrameFor access c pid page a.backing x in

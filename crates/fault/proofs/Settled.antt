@@ -1,37 +1,26 @@
 -- What an entry that was set for a page makes of the page.
 use Rattle.fault.{specs.Leaves.{IsFullEntry, is_touched_behind}, proofs.{Names.{◌&&◌, ◌==◌, eq-eqb, count_of}, SwapSteps.{full_count}}}
-use Rattle.fault.proofs.{Forms.{mapped_page, over_here, touched_of}, Names.{◌≡◌, ℕ, Bool, true, false, ◌||◌, not, Option, Some, refl, ◌∙◌, subst, ◌≢◌, inl, inr, None, List, sym, ap, false≢true, cases_Bool, same_Some, IfSome, option_map, Load, Store}}
-use Rattle.fault.proofs.Names.{Fetch, Prot, Attr, lets, Access, PageKey, File, Object, Backing, Anon, Shared, Common, stands_on, View, ReadsToo, IsEntryOver, IsLeaf, Picture, entry, own_in, bytes_in, view, IsFit, IsBehind, is_shared, Seat}
+use Rattle.fault.proofs.{Forms.{mapped_page, over_here, touched_of}, Names.{◌≡◌, ℕ, Bool, true, false, Option, Some, refl, ◌∙◌, subst, ◌≢◌, inl, inr, None, List, sym, ap, false≢true, cases_Bool, same_Some, IfSome, option_map, Load, Store}}
+use Rattle.fault.proofs.Names.{Fetch, Prot, Attr, lets, Access, PageKey, Backing, Anon, Shared, Common, stands_on, View, ReadsToo, IsEntryOver, IsLeaf, Picture, entry, own_in, bytes_in, view, IsFit, IsBehind, is_shared, Seat}
 use Rattle.fault.proofs.{Names.{seat, is_private, is_swapped, bytes_of, IsSound, frame_of, grants, is_dirty, is_store, over_some, seat_common}, OwnSteps.{shown_own, shown_common}, Ready.{ready_open, zero_same, view-mapped, own_in-private}}
 use Rattle.fault.{proofs.{Ready.{own_in-none, reads, touches, owns}, Steps.{seen_then}}, specs.{Changes.{KeepsSeen, KeepsOtherViews, frame_of_place, frame_behind, shown_bytes}, Granted.{IsOpenLeaf, IsEntered, IsReadyAt}, Outcome.{Reads}}}
 use Rattle.{fault.specs.{Outcome.{MarksTouchedIn, Owns, IsReadyToStore, IsFrameFor, seen_at}, Shown.{AreBehind, AreOwnOrBehind, AreShown}}, vm_types.specs.declared.region.Backing.TheVariants.{Private}}
+use Rattle.std.proofs.lemmas.Bool.{not_from_true, or_left, or_right}
 use Rattle.vm_types.specs.Permission as Permission
-
-first_bar : (r x : Bool) → r ≡ true → not (r || x) ≡ false
-first_bar true x e = refl
-first_bar false x e = absurd (false≢true e)
-
-second_bar : (r x : Bool) → x ≡ true → not (r || x) ≡ false
-second_bar true true e = refl
-second_bar false true e = refl
-second_bar r false e = absurd (false≢true e)
 
 opened : {access : Access} {e : ℕ} {prot : Prot} {write stored : Bool} → IsLeaf e prot write stored → grants access e ≡ true → (is_store access ≡ true → is_dirty e ≡ true) → IsOpenLeaf access e
 opened leaf granted dirty = record { valid = leaf.valid; sound = leaf.unreserved; leaf = leaf.leaf; user = leaf.user; grants = granted; accessed = leaf.accessed; dirty = dirty }
 
-pub opens_load : (e : ℕ) (prot : Prot) (n : ℕ) (private write stored : Bool) → IsEntryOver e prot n private write stored → lets Load prot ≡ true → IsOpenLeaf Load e
-opens_load e prot n private write stored over allowed =
-    let leaf = over.leaf (first_bar (Permission.can_read prot) (Permission.can_execute prot) allowed) in
-    opened leaf (leaf.reads ∙ allowed) (λ store. absurd (false≢true store))
-
-pub opens_fetch : (e : ℕ) (prot : Prot) (n : ℕ) (private write stored : Bool) → IsEntryOver e prot n private write stored → lets Fetch prot ≡ true → IsOpenLeaf Fetch e
-opens_fetch e prot n private write stored over allowed =
-    let leaf = over.leaf (second_bar (Permission.can_read prot) (Permission.can_execute prot) allowed) in
-    opened leaf (leaf.executes ∙ allowed) (λ store. absurd (false≢true store))
+opens_read : (access : Access) (e : ℕ) (prot : Prot) (n : ℕ) (private write stored : Bool) → access ≢ Store → IsEntryOver e prot n private write stored → lets access prot ≡ true → IsOpenLeaf access e
+opens_read Load e prot n private write stored other over allowed =
+    let leaf = over.leaf (not_from_true _ (or_left _ _ allowed)) in opened leaf (leaf.reads ∙ allowed) (λ store. absurd (false≢true store))
+opens_read Fetch e prot n private write stored other over allowed =
+    let leaf = over.leaf (not_from_true _ (or_right _ _ allowed)) in opened leaf (leaf.executes ∙ allowed) (λ store. absurd (false≢true store))
+opens_read Store e prot n private write stored other over allowed = absurd (other refl)
 
 pub opens_store : (e : ℕ) (prot : Prot) (n : ℕ) (private : Bool) → IsEntryOver e prot n private true true → Permission.can_read prot ≡ true → IsOpenLeaf Store e
 opens_store e prot n private over readable =
-    let leaf = over.leaf (first_bar (Permission.can_read prot) (Permission.can_execute prot) readable) in
+    let leaf = over.leaf (not_from_true _ (or_left _ _ readable)) in
     opened leaf leaf.writes (λ store. leaf.dirty)
 
 -- a page that may be written may be read
@@ -49,7 +38,7 @@ seen_same old new pid page a was now same =
 
 no_seat : (f : Seat → List ℕ) (o : Option Seat) → option_map f o ≡ None → o ≡ None
 no_seat f None e = refl
-no_seat f (Some x) e = let bad : Some (f x) ≡ None = e in (cc)
+no_seat f (Some x) e = (cc)
 
 -- one that had no own copy has none
 pub none_same : {mode : ℕ} (old new : Picture mode) (pid page : ℕ) (a : Attr) → old.at pid page ≡ Some a → new.at pid page ≡ Some a → view new pid page ≡ view old pid page
@@ -69,15 +58,13 @@ readable old new pid page a n private write stored fit sound was now keeps over 
     subst Q over.names (subst (λ (v : View). Reads old new v (frame_of (entry new pid page))) (seen_same old new pid page a was now (keeps.views pid page)) is)
 
 pub ready_read : {mode : ℕ} (access : Access) (old new : Picture mode) (pid page : ℕ) (a : Attr) (n : ℕ) → access ≢ Store → Reads old new (seen_at old pid page a) n → IsReadyAt old new pid page a access n
-ready_read Load old new pid page a n other reads = reads
 ready_read Store old new pid page a n other reads = absurd (other refl)
-ready_read Fetch old new pid page a n other reads = reads
+ready_read access old new pid page a n other reads = reads
 
 touched_same : {mode : ℕ} (old new : Picture mode) (b : Backing) → ((p : PageKey) → new.touched p ≡ old.touched p) → is_touched_behind new b ≡ is_touched_behind old b
 touched_same old new Anon same = refl
 touched_same old new (Private p) same = refl
-touched_same old new (Shared p) same = same (File p)
-touched_same old new (Common p) same = same (Object p)
+touched_same old new b same = same _
 
 -- the fullest entry is the fullest one still, where the frame's shares and what is touched stay
 pub full_same : {mode : ℕ} (old new : Picture mode) (a : Attr) (n : ℕ) (private : Bool) (e : ℕ) → count_of new.frames n ≡ count_of old.frames n → ((p : PageKey) → new.touched p ≡ old.touched p)
@@ -107,11 +94,8 @@ full_touched c a p n e shared is touched writable over =
 -- a page whose entry lets it be read
 pub entered_read : {mode : ℕ} (access : Access) (c : Picture mode) (pid page : ℕ) (a : Attr) (n : ℕ) (private : Bool) → access ≢ Store → lets access a.prot ≡ true
     → IsFullEntry c a n private (entry c pid page) → IsFrameFor access c pid page a.backing n → IsEntered c pid page a access n
-entered_read Load c pid page a n private other allowed full usable =
-    record { opens = opens_load (entry c pid page) a.prot n private _ _ full allowed; frame = full.names; usable = usable; private = private; full = full }
-entered_read Store c pid page a n private other allowed full usable = absurd (other refl)
-entered_read Fetch c pid page a n private other allowed full usable =
-    record { opens = opens_fetch (entry c pid page) a.prot n private _ _ full allowed; frame = full.names; usable = usable; private = private; full = full }
+entered_read access c pid page a n private other allowed full usable =
+    record { opens = opens_read access (entry c pid page) a.prot n private _ _ other full allowed; frame = full.names; usable = usable; private = private; full = full }
 
 -- one whose entry lets stores through
 pub entered_store : {mode : ℕ} (c : Picture mode) (pid page : ℕ) (a : Attr) (n : ℕ) (private : Bool) → Permission.can_read a.prot ≡ true
@@ -127,18 +111,16 @@ to_shared : {mode : ℕ} (old new : Picture mode) (pid page : ℕ) (v : View) (b
     → IsReadyToStore old new pid page v b n
 to_shared old new pid page v Anon p n shared is touched = absurd (false≢true shared)
 to_shared old new pid page v (Private q) p n shared is touched = absurd (false≢true shared)
-to_shared old new pid page v (Shared q) p n shared is touched = let P : PageKey → Type 0 = λ x. MarksTouchedIn old new x n in subst P (sym (same_Some (File q) p is)) touched
-to_shared old new pid page v (Common q) p n shared is touched = let P : PageKey → Type 0 = λ x. MarksTouchedIn old new x n in subst P (sym (same_Some (Object q) p is)) touched
+to_shared old new pid page v b p n shared is touched = let P : PageKey → Type 0 = λ x. MarksTouchedIn old new x n in subst P (sym (same_Some _ p is)) touched
 
 pub ready_shared : {mode : ℕ} (old new : Picture mode) (pid page : ℕ) (a : Attr) (p : PageKey) (n : ℕ) → is_shared a.backing ≡ true → stands_on a.backing ≡ Some p → MarksTouchedIn old new p n
     → IsReadyAt old new pid page a Store n
 ready_shared old new pid page a p n shared is touched = to_shared old new pid page (seen_at old pid page a) a.backing p n shared is touched
 
 to_own : {mode : ℕ} (old new : Picture mode) (pid page : ℕ) (v : View) (b : Backing) (n : ℕ) → is_shared b ≡ false → Owns old new pid page v n → IsReadyToStore old new pid page v b n
-to_own old new pid page v Anon n is own = own
-to_own old new pid page v (Private p) n is own = own
 to_own old new pid page v (Shared p) n is own = absurd (false≢true (sym is))
 to_own old new pid page v (Common p) n is own = absurd (false≢true (sym is))
+to_own old new pid page v b n is own = own
 
 pub ready_own : {mode : ℕ} (old new : Picture mode) (pid page : ℕ) (a : Attr) (n : ℕ) → is_shared a.backing ≡ false → Owns old new pid page (seen_at old pid page a) n → IsReadyAt old new pid page a Store n
 ready_own old new pid page a n is own = to_own old new pid page (seen_at old pid page a) a.backing n is own
@@ -174,23 +156,19 @@ touches_after old mid new p n keeps touched = record {
 to_store : {mode : ℕ} (old mid new : Picture mode) (pid page : ℕ) (v w : View) (b : Backing) (n : ℕ) → KeepsSeen old mid → v ≡ w → IsReadyToStore mid new pid page v b n → IsReadyToStore old new pid page w b n
 to_store old mid new pid page v w Anon n keeps e own = owns_after old mid new pid page v w n keeps e own
 to_store old mid new pid page v w (Private p) n keeps e own = owns_after old mid new pid page v w n keeps e own
-to_store old mid new pid page v w (Shared p) n keeps e touched = touches_after old mid new (File p) n keeps touched
-to_store old mid new pid page v w (Common p) n keeps e touched = touches_after old mid new (Object p) n keeps touched
+to_store old mid new pid page v w b n keeps e touched = touches_after old mid new _ n keeps touched
 
 -- what is ready for the page as it was seen between is ready for it as it was seen before
 pub ready_after : {mode : ℕ} (old mid new : Picture mode) (pid page : ℕ) (a : Attr) (access : Access) (n : ℕ) → old.at pid page ≡ Some a → mid.at pid page ≡ Some a → KeepsSeen old mid
     → IsReadyAt mid new pid page a access n → IsReadyAt old new pid page a access n
-ready_after old mid new pid page a Load n was now keeps is = reads_after old mid new _ _ n keeps (seen_same old mid pid page a was now (keeps.views pid page)) is
-ready_after old mid new pid page a Fetch n was now keeps is = reads_after old mid new _ _ n keeps (seen_same old mid pid page a was now (keeps.views pid page)) is
 ready_after old mid new pid page a Store n was now keeps is = to_store old mid new pid page _ _ a.backing n keeps (seen_same old mid pid page a was now (keeps.views pid page)) is
+ready_after old mid new pid page a access n was now keeps is = reads_after old mid new _ _ n keeps (seen_same old mid pid page a was now (keeps.views pid page)) is
 
 -- the bytes of the frame behind a page stand behind it, where that one stays
 behind_bytes : {mode : ℕ} (old new : Picture mode) (b : Backing) (m : ℕ) (bytes : List ℕ) → IsSound old.frames → IsBehind old b m → IsBehind new b m × (bytes_of new.frames m ≡ bytes_of old.frames m)
     → bytes ≡ bytes_of old.frames (frame_behind old b) → AreBehind new b bytes
 behind_bytes old new Anon m bytes sound was now is = is ∙ sound.zero_page ∙ zero_same
-behind_bytes old new (Private p) m bytes sound was now is = (record { 0 = m }, now.0, is ∙ ap (bytes_of old.frames) (ap frame_of_place was) ∙ sym now.1)
-behind_bytes old new (Shared p) m bytes sound was now is = (record { 0 = m }, now.0, is ∙ ap (bytes_of old.frames) (ap frame_of_place was) ∙ sym now.1)
-behind_bytes old new (Common p) m bytes sound was now is = (record { 0 = m }, now.0, is ∙ ap (bytes_of old.frames) (ap frame_of_place was) ∙ sym now.1)
+behind_bytes old new b m bytes sound was now is = (record { 0 = m }, now.0, is ∙ ap (bytes_of old.frames) (ap frame_of_place was) ∙ sym now.1)
 
 -- a copy of the bytes that a page showed shows the same
 pub copy_shown : {mode : ℕ} (old new : Picture mode) (pid page : ℕ) (a : Attr) (bytes : List ℕ) → IsSound old.frames → is_swapped (entry old pid page) ≡ false

@@ -2,12 +2,14 @@
 use Rattle.fault.proofs.Names.{top_level, PageKey, Attr, is_past_end, FrameNo, ◌≡◌, ◌≢◌, ℕ, inl, Bool, true, false, Some, [], get_or, sym, ap, ◌∙◌, subst, inr, Option, refl, ◌⊎◌, ◌<◌, None, arith, false≢true, frame_of, is_valid, IsPage}
 use Rattle.fault.proofs.Names.{missing_of, page_entry, IsForest, IsRoot, SetsEntry, files_of, Home, Frame, place_of, is_touched, slots_of, SlotTable, IsReady, ReleasesSlot, Core, seat, InFrame, InSlot, Seat, is_private, Picture, picture_of}
 use Rattle.fault.proofs.Names.{entry, view, own_in, root_in, attr_where, view_of, bytes_in, IsOwned, IsFit, IsBehind, is_shared, nowhere, IsFitBut, IsRootedBut, IsEntryFor, KeepsFiles, SameBeside, SetsPage, ChangesFrame, KeepsAround, Frees}
-use Rattle.fault.proofs.Names.{UsesDevice, fit_touched, entry-same, entry_for-same, past_end-same, behind_kept, view_kept, fit_moved, owned_forth, fit_set, set_views, set_held, fit_filled, other_views, sets_page, rooted_set, release_spares}
-use Rattle.fault.proofs.Names.{same, with_slots, views_given, held_given, missing_ends, trees_changed, entries_changed, views_changed, held_changed, fit_own, Ghosts, Private, Table, Releases, role_of, bytes_of, count_of, option_map}
+use Rattle.fault.proofs.Names.{rules, ⊎_elim, UsesDevice, fit_touched, entry-same, entry_for-same, past_end-same, behind_kept, view_kept, fit_moved, owned_forth, fit_set, set_views, set_held, fit_filled, other_views, sets_page, rooted_set}
+use Rattle.fault.proofs.Names.{release_spares, same, with_slots, views_given, held_given, missing_ends, trees_changed, entries_changed, views_changed, held_changed, fit_own, Ghosts, Private, Table, Releases, role_of, bytes_of, count_of}
+use Rattle.fault.proofs.Names.{option_map}
 use Rattle.fault.specs.{Leaves.{IsFullEntry}, declared.spot.Spot.{Spot}}
 use Rattle.fault.specs.{Changes.{IsLinked, StandsAt, Enters, KeepsTables, KeepsViews, AddsNoTable, KeepsSpaces, KeepsRoom, KeepsOtherViews, KeepsOtherBare, KeepsSlotted, IsThatPage, KeepsRows}, FramesShown.{SetsFull, ShowsFully}}
 use Rattle.fault.{specs.OwnFrames.{LeavesOthers}, proofs.Forms.{full_entry, full_dirty_sound, mapped_page, seat_over}}
-use Rattle.fault.proofs.Steps.{tables_same, no_table_then, no_table_freed, no_table_spared, slotted_then, slotted_frees, slotted_same, spaces_then, spaces_freed, room_then, room_freed, tables_then, tables_freed, no_table_trees, no_table_set, rows_then, rows_freed, rows_changed, slotted_but}
+use Rattle.fault.proofs.Steps.{bare_freed, tables_same, no_table_then, no_table_freed, no_table_spared, slotted_then, slotted_frees, slotted_same, spaces_then, room_then, tables_then, tables_freed, no_table_trees, no_table_kept, rows_then}
+use Rattle.fault.proofs.Steps.{rows_freed, rows_changed, slotted_but}
 use Rattle.vm_types.specs.declared.mode.Levels as Levels
 
 -- what a call leaves that changes frames and the count of refused requests alone
@@ -64,21 +66,12 @@ module _ {M : Type 0} {m : Levels.Ghosts M} {D E : Type 0} where
       let beside = beside_around old new rest in
       let o = picture_of old in
       let n = picture_of new in
-      record {
-        fit = full_fit o n pid page r a frame private linked lives at sets beside same alone behind inside;
-        spaces = record { root = beside.root; at = beside.at };
-        tables = full_tables o n pid page r a frame private linked lives at sets beside;
-        views = full_views o n pid page r a frame private linked lives at sets beside same;
-        calm = record {
-          store = rest.store;
-          swap = rest.swap;
-          refused = refused;
-          frames = sets.2.kept;
-          pointers = λ n i m points. (sets.2.pointers n i m).0 points;
-          place = beside.place;
-          others = (full_set o n pid page r a frame private linked lives at sets beside).others;
-        };
-      }
+      let fit = full_fit o n pid page r a frame private linked lives at sets beside same alone behind inside in
+      let tables = full_tables o n pid page r a frame private linked lives at sets beside in
+      let views = full_views o n pid page r a frame private linked lives at sets beside same in
+      let others = (full_set o n pid page r a frame private linked lives at sets beside).others in
+      let pointers = λ (x i y : ℕ). (sets.2.pointers x i y).0 in
+      search rules
 
 -- the same of a page at its place, and the files stay
 module _ {M : Type 0} {m : Levels.Ghosts M} {D E : Type 0} {old new : Core D E M m} {spot : Spot} {a : Attr} {frame : ℕ} {private : Bool} (stands : StandsAt (picture_of old) spot)
@@ -131,13 +124,7 @@ module _ {mode : ℕ} where
 
 pub keeps_files_then : {mode : ℕ} (a b c : Picture mode) → KeepsFiles a b → KeepsFiles b c → KeepsFiles a c
 keeps_files_then a b c p q = record {
-  held = λ x. elim (q.held x) [
-    | inl later ↦ elim (p.held x) [
-      | inl first ↦ inl (later ∙ first)
-      | inr home ↦ inr (later ∙ home.0, home.1)
-    ]
-    | inr home ↦ inr (home.0, sym (p.touched x) ∙ home.1)
-  ];
+  held = λ x. ⊎_elim (λ later. ⊎_elim (λ first. inl (later ∙ first)) (λ home. inr (later ∙ home.0, home.1)) (p.held x)) (λ home. inr (home.0, sym (p.touched x) ∙ home.1)) (q.held x);
   touched = λ x. q.touched x ∙ p.touched x;
   files = λ f. q.files f ∙ p.files f;
 }
@@ -158,16 +145,11 @@ module _ {mode : ℕ} {a b c : Picture mode} {pid page : ℕ} (first : KeepsAsid
 -- frames were given up
 module _ {mode : ℕ} {old new : Picture mode} {keep : Option FrameNo} (frees : Frees old new keep) where
   pub aside_freed : {pid page : ℕ} → KeepsAside old new pid page
-  aside_freed {pid = pid} {page = page} = record {
-    spaces = spaces_freed old new keep frees;
-    tables = tables_freed old new keep frees;
-    room = room_freed old new keep frees;
-    no_table = no_table_freed old new keep frees;
-    files = frees.pages.files;
-    others = λ q p other. frees.pages.views q p;
-    bare = λ q p h other none. frees.entries q p h (inl none) ∙ none;
-    slotted = slotted_frees (λ p. ⊥) (IsThatPage pid page) old new keep frees;
-  }
+  aside_freed {pid = pid} {page = page} =
+      let tables = tables_freed old new keep frees in
+      let bare = bare_freed old new keep frees in
+      let slotted = slotted_frees (λ p. ⊥) (IsThatPage pid page) old new keep frees in
+      search (rules, no_table_freed, frees.pages.views, bare)
 
 -- one share of a frame was given back
 module _ {mode : ℕ} (old new : Picture mode) (n : ℕ) (fit : IsFitBut old (InFrame n) 1 0) (role : role_of old.frames n ≡ Private) (releases : Releases old.frames new.frames n) (beside : SameBeside old new) where
@@ -210,14 +192,7 @@ module _ {mode : ℕ} (old : Picture mode) (t : SlotTable) (k : ℕ) (fit : IsFi
 module _ {M : Type 0} {m : Levels.Ghosts M} {D E : Type 0} (h : Ghosts E) (old new : Core D E M m) where
   pub leaves_aside : {pid page : ℕ} → IsFit (picture_of new) → IsReady h new.swap → KeepsAside (picture_of old) (picture_of new) pid page → new.store ≡ old.store
       → UsesDevice h old.swap.pages.disk new.swap.pages.disk → LeavesOthers h old new pid page
-  leaves_aside fit swap aside store device = record {
-    moves = record { fit = fit; swap = swap; spaces = aside.spaces; tables = aside.tables; room = aside.room; store = store; device = device };
-    no_table = aside.no_table;
-    files = aside.files;
-    others = aside.others;
-    bare = aside.bare;
-    slotted = aside.slotted;
-  }
+  leaves_aside fit swap aside store device = search rules
 
 module _ {mode : ℕ} where
   -- A frame was obtained for a page, taken and written. No entry names it yet.
@@ -341,7 +316,7 @@ module _ {mode : ℕ} {old found mid : Picture mode} {keep : Option FrameNo} {pi
           spaces = record { root = λ q. gives.beside.root q ∙ has.changes.root q; at = λ q p. gives.beside.at q p ∙ has.changes.at q p };
           tables = tables_same found new (λ q x p e. gives.sets.2.missing x p (fit_mid.rooted.roots q x (has.changes.root q ∙ e)) ∙ trees.missing x p (has.fit.rooted.roots q x e));
           room = record { frames = gives.sets.2.kept.frames ∙ has.changes.frames.frames; slots = ap (λ s. s.total) gives.beside.slots ∙ ap (λ s. s.total) has.changes.slots };
-          no_table = no_table_then found mid new (no_table_trees found mid trees) (no_table_set mid new r page number gives.sets.2);
+          no_table = no_table_then found mid new (no_table_trees found mid trees) (no_table_kept gives.sets.2.kept (λ n i m points. (gives.sets.2.pointers n i m).0 points));
           files = record {
             held = λ p. inl (set_held mid new pid page number 0 (InFrame n) 1 fit_mid set p ∙ held_changed found mid n has.fit has.changes datum p);
             touched = λ p. gives.beside.touched p ∙ has.changes.touched p;

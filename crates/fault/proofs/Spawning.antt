@@ -3,10 +3,14 @@ use Rattle.fault.proofs.Names.{sizes, top_level, ObjectPage, PageKey, Object, is
 use Rattle.fault.proofs.Names.{Table, FrameTable, role_of, count_of, SlotTable, frame_of, AddsTable, IsPage, IsTable, Points, IsForest, IsRoot, IsSpare, IsBelowRoot, missing_of, page_entry, missing_of-is, page_entry-missing, empty_last}
 use Rattle.fault.proofs.Names.{Run, IsReadableMap, attr_at, Home, Seat, InFrame, InSlot, seat, Picture, entry, IsOwned, count_in, page_in, AreObjects, IsRootedBut, IsUsed, AsRoot, OnWay, IsMapped, IsEntryFor, IsCountedBut, IsFitBut, IsFit}
 use Rattle.fault.proofs.Names.{nowhere, ObtainsTable, SameBeside, KeepsShares, Spawns, Remaps, entry-of, entry-same, entries_kept, KeepsBehind, entry_for-same, user_map-same, readable-same, shares_taken, fit_same, loose_table, rooted_taken}
-use Rattle.{fault.proofs.Names.{same_Some, objects-same, named-more, places_same, places_renamed, dirty_same, used_kept, counted_same, entry-dead}, residency.specs.Parts.{Nothing}}
+use Rattle.{fault.proofs.Names.{⊎_elim, same_Some, objects-same, named-more, places_same, places_renamed, dirty_same, used_kept, counted_same, entry-dead}, residency.specs.Parts.{Nothing}}
 
 pub one_some : (a b : ℕ) → Some a ≡ Some b → a ≡ b
 one_some a b e = same_Some a b e
+
+-- of one process, and of all others
+each_process : {P : ℕ → Type 0} (pid : ℕ) → P pid → ((q : ℕ) → q ≢ pid → P q) → (q : ℕ) → P q
+each_process {P = P} pid here others q = ⊎_elim (λ is. subst P (sym is) here) (others q) (cases_eq q pid)
 
 -- nothing stands in a tree of which the root has no entry
 module _ (mode : ℕ) where
@@ -58,10 +62,8 @@ module _ {mode : ℕ} (old new : Picture mode) (pid n : ℕ) (fit : IsFitBut old
   nothing_here page = entry-of new pid n page spawns.lives ∙ ap (λ t. page_entry t (top_level mode) n page) spawns.frames ∙ spare_entry mode old.frames n page spare
 
   entries_spawned : (q page : ℕ) → entry new q page ≡ entry old q page
-  entries_spawned q page = elim (cases_eq q pid) [
-    | inl e ↦ (let P : ℕ → Type 0 = λ x. entry new x page ≡ entry old x page in subst P (sym e) (nothing_here page ∙ sym (entry-dead old pid page spawns.was_free)))
-    | inr ne ↦ entry-same old new q page (spawns.others q ne) (λ x e. ap (λ t. page_entry t (top_level mode) x page) spawns.frames)
-  ]
+  entries_spawned = each_process {P = λ q. (page : ℕ) → entry new q page ≡ entry old q page} pid (λ page. nothing_here page ∙ sym (entry-dead old pid page spawns.was_free))
+      (λ q ne page. entry-same old new q page (spawns.others q ne) (λ x e. ap (λ t. page_entry t (top_level mode) x page) spawns.frames))
 
   roots_now : (q r : ℕ) → new.root q ≡ Some r → ((q ≡ pid) × (r ≡ n)) ⊎ ((q ≢ pid) × (old.root q ≡ Some r))
   roots_now q r e = elim (cases_eq q pid) [
@@ -108,10 +110,7 @@ module _ {mode : ℕ} (old new : Picture mode) (pid n : ℕ) (fit : IsFitBut old
   }
 
   at_spawned : (q page : ℕ) → new.at q page ≡ old.at q page
-  at_spawned q page = elim (cases_eq q pid) [
-    | inl is ↦ ap (λ x. new.at x page) is ∙ spawns.unmapped page ∙ sym (ap (λ x. old.at x page) is ∙ spawns.was_unmapped page)
-    | inr ne ↦ spawns.at q page ne
-  ]
+  at_spawned = each_process {P = λ q. (page : ℕ) → new.at q page ≡ old.at q page} pid (λ page. spawns.unmapped page ∙ sym (spawns.was_unmapped page)) (λ q ne page. spawns.at q page ne)
 
   fit_added : IsFit new
   fit_added =
@@ -120,24 +119,12 @@ module _ {mode : ℕ} (old new : Picture mode) (pid n : ℕ) (fit : IsFitBut old
         counted = counted_there old new shares spawns.slots spawns.page_of spawns.place entries_spawned nowhere 0 fit.counted;
         rooted = rooted_spawned;
         granting = record {
-          entries = λ q page h. elim (cases_eq q pid) [
-            | inl is ↦ Nothing (ap (λ x. entry new x page) is ∙ nothing_here page)
-            | inr ne ↦ (
-                let there = entry_for-same old new (old.at q page) (entry old q page) (record { place = λ p x e. spawns.place p ∙ e; files = spawns.files })
-                (λ private write one. ap (λ t. count_of t (frame_of (entry old q page))) spawns.frames ∙ one) (fit.granting.entries q page h) in
-                rw (spawns.at q page ne, entries_spawned q page) there)
-          ];
-          user = λ q. elim (cases_eq q pid) [
-            | inl is ↦ record {
-              user_pages = λ page some. absurd (false≢true (let P : Option Attr → Type 0 = λ x. IsSome x in subst P (ap (λ x. new.at x page) is ∙ spawns.unmapped page) some));
-              file_pages = λ page. (let none : new.at q page ≡ None = ap (λ x. new.at x page) is ∙ spawns.unmapped page in rw none tt);
-            }
-            | inr ne ↦ user_map-same mode (old.at q) (new.at q) (λ page. spawns.at q page ne) (fit.granting.user q)
-          ];
-          readable = λ q. elim (cases_eq q pid) [
-            | inl is ↦ (λ page. (let none : new.at q page ≡ None = ap (λ x. new.at x page) is ∙ spawns.unmapped page in rw none tt))
-            | inr ne ↦ readable-same (old.at q) (new.at q) (λ page. spawns.at q page ne) (fit.granting.readable q)
-          ];
+          entries = λ q page h.
+              let there = entry_for-same old new (old.at q page) (entry old q page) (record { place = λ p x e. spawns.place p ∙ e; files = spawns.files })
+              (λ private write one. ap (λ t. count_of t (frame_of (entry old q page))) spawns.frames ∙ one) (fit.granting.entries q page h) in
+              rw (at_spawned q page, entries_spawned q page) there;
+          user = λ q. user_map-same mode (old.at q) (new.at q) (at_spawned q) (fit.granting.user q);
+          readable = λ q. readable-same (old.at q) (new.at q) (at_spawned q) (fit.granting.readable q);
           objects = objects-same old.at new.at at_spawned fit.granting.objects;
         };
         places = places_same old new fit.places spawns.place at_spawned spawns.files spawns.slots shares.cache shares.was_cache;
@@ -200,24 +187,12 @@ module _ {mode : ℕ} (old new : Picture mode) (pid : ℕ) (fit : IsFit old) (re
         counted = counted_there old new shares remaps.slots remaps.page_of remaps.place entries_remapped nowhere 0 fit.counted;
         rooted = rooted_remapped used;
         granting = record {
-          entries = λ q page h. elim (cases_eq q pid) [
-            | inl is ↦ (
-                let here = entry_for-same old new (new.at pid page) (entry old pid page) behind_remapped
-                (λ private write one. same_count (frame_of (entry old pid page)) ∙ one) (fits page h) in
-                rw (entries_remapped q page) (subst (λ (x : ℕ). IsEntryFor new (new.at x page) (entry old x page)) (sym is) here))
-            | inr ne ↦ (
-                let there = entry_for-same old new (old.at q page) (entry old q page) behind_remapped
-                (λ private write one. same_count (frame_of (entry old q page)) ∙ one) (fit.granting.entries q page h) in
-                rw (remaps.others q page ne, entries_remapped q page) there)
-          ];
-          user = λ q. elim (cases_eq q pid) [
-            | inl is ↦ (let P : ℕ → Type 0 = λ x. IsUserMap mode (new.at x) in subst P (sym is) user)
-            | inr ne ↦ user_map-same mode (old.at q) (new.at q) (λ page. remaps.others q page ne) (fit.granting.user q)
-          ];
-          readable = λ q. elim (cases_eq q pid) [
-            | inl is ↦ (let P : ℕ → Type 0 = λ x. IsReadableMap (new.at x) in subst P (sym is) readable)
-            | inr ne ↦ readable-same (old.at q) (new.at q) (λ page. remaps.others q page ne) (fit.granting.readable q)
-          ];
+          entries = λ q page h.
+              let before : (q : ℕ) → IsEntryFor old (new.at q page) (entry old q page) = each_process {P = λ q. IsEntryFor old (new.at q page) (entry old q page)} pid (fits page h)
+              (λ q ne. rw (remaps.others q page ne) (fit.granting.entries q page h)) in
+              rw (entries_remapped q page) (entry_for-same old new (new.at q page) (entry old q page) behind_remapped (λ private write one. same_count (frame_of (entry old q page)) ∙ one) (before q));
+          user = each_process {P = λ q. IsUserMap mode (new.at q)} pid user (λ q ne. user_map-same mode (old.at q) (new.at q) (λ page. remaps.others q page ne) (fit.granting.user q));
+          readable = each_process {P = λ q. IsReadableMap (new.at q)} pid readable (λ q ne. readable-same (old.at q) (new.at q) (λ page. remaps.others q page ne) (fit.granting.readable q));
           objects = objects;
         };
         places = places_renamed old new fit.places remaps.place remaps.files named remaps.slots shares.cache shares.was_cache;
@@ -236,12 +211,8 @@ module _ {mode : ℕ} where
   fit_mapped old new pid runs fit remaps at user readable objects bare unmapped =
       let P : Option Attr → Type 0 = λ x. IsSome x in
       fit_remapped old new pid fit remaps (user_map-same mode (attr_at runs) (new.at pid) at user) (readable-same (attr_at runs) (new.at pid) at readable) objects
-      (λ p away. named-more old.at new.at p.object p.page (λ q page. elim (cases_eq q pid) [
-        | inl is ↦ inr (ap (λ x. old.at x page) is ∙ unmapped page)
-        | inr ne ↦ inl (remaps.others q page ne)
-      ]) (fit.places.inside (Object p) away))
+      (λ p away. named-more old.at new.at p.object p.page (each_process {P = λ q. (page : ℕ) → (new.at q page ≡ old.at q page) ⊎ (old.at q page ≡ None)} pid (λ page. inr (unmapped page))
+      (λ q ne page. inl (remaps.others q page ne))) (fit.places.inside (Object p) away))
       (λ page h. Nothing (bare page h))
-      (λ m. used_mapped old (IsMapped old) (IsMapped new) m (λ q page some. elim (cases_eq q pid) [
-        | inl is ↦ absurd (false≢true (subst P (ap (λ x. old.at x page) is ∙ unmapped page) some))
-        | inr ne ↦ subst P (sym (remaps.others q page ne)) some
-      ]))
+      (λ m. used_mapped old (IsMapped old) (IsMapped new) m (each_process {P = λ q. (page : ℕ) → IsMapped old q page → IsMapped new q page} pid
+      (λ page some. absurd (false≢true (subst P (unmapped page) some))) (λ q ne page. subst P (sym (remaps.others q page ne)))))

@@ -1,6 +1,6 @@
 -- How the steps of a call follow one another: what stays where it was, over them.
-use Rattle.fault.proofs.Names.{top_level, Stall, NoFrames, NoSwap, SwapDevice, StoreDevice, FrameNo, PageKey, ◌≡◌, ◌+◌, ℕ, inl, inr, Option, Some, None, refl, sym, ap, ◌∙◌, subst, arith, ◌≢◌, ◌⊎◌, ◌<◌, get_or, ◌*◌, ◌/◌, cases_eq, Ghosts}
-use Rattle.fault.proofs.Names.{FrameTable, IsFull, frame_count, role_of, Free, Table, missing_of, IsPage, IsTable, last_table, SetsEntry, Swap, IsReady, slots_of, Core, Picture, picture_of, entry, IsFit, Frees, IsStaying, KeepsRest}
+use Rattle.fault.proofs.Names.{top_level, Stall, SwapDevice, StoreDevice, FrameNo, PageKey, ◌≡◌, ◌+◌, ℕ, inl, inr, Option, Some, None, refl, sym, ap, ◌∙◌, subst, arith, ◌≢◌, ◌⊎◌, ◌<◌, get_or, ◌*◌, ◌/◌, cases_eq, Ghosts, rules, KeepsFrames}
+use Rattle.fault.proofs.Names.{Points, FrameTable, IsFull, frame_count, role_of, Free, Table, missing_of, IsPage, IsTable, last_table, Swap, IsReady, slots_of, Core, Picture, picture_of, entry, IsFit, Frees, IsStaying, KeepsRest}
 use Rattle.fault.{proofs.Names.{UsesDevice, StallCause, SameBeside, ChangesFrame, GivesForTables, Spares, KeepsFiles, by_page, trees_changed, KeepsTrees, missing_of-is, row_same, ends}, specs.Changes.{KeepsTables, KeepsBare, KeepsSpaces}}
 use Rattle.{fault.specs.{Changes.{KeepsRoom, KeepsSeen, Enters, Moves, KeepsSlotted, IsCalm, IsThatPage, AddsNoTable, KeepsRows, IsLinked, StandsAt}, declared.spot.Spot.{Spot}}, residency.specs.Picture.{is_swapped}}
 use Rattle.vm_types.specs.declared.mode.Levels as Levels
@@ -50,36 +50,14 @@ module _ {mode : ℕ} (old new : Picture mode) (keep : Option FrameNo) (frees : 
 
 -- what stays where a frame is kept stays where none is
 stays_any : (keep : Option FrameNo) (e : ℕ) → IsStaying None e → IsStaying keep e
-stays_any keep e stays = elim stays [
-  | inl none ↦ inl none
-  | inr rest ↦ elim rest [
-    | inl away ↦ inr (inl away)
-    | inr here ↦ elim here [
-      | inl zero_page ↦ inr (inr (inl zero_page))
-      | inr kept ↦ absurd kept
-    ]
-  ]
-]
+stays_any keep e (inl none) = inl none
+stays_any keep e (inr (inl away)) = inr (inl away)
+stays_any keep e (inr (inr (inl zero_page))) = inr (inr (inl zero_page))
+stays_any keep e (inr (inr (inr kept))) = absurd kept
 
 -- frames were given up, and nothing is said of the one that was kept
 pub frees_any : {mode : ℕ} (old new : Picture mode) (keep : Option FrameNo) → Frees old new keep → Frees old new None
-frees_any old new keep frees = record {
-  pages = frees.pages;
-  count = frees.count;
-  roles = frees.roles;
-  missing = frees.missing;
-  ends = frees.ends;
-  pointers = frees.pointers;
-  entries = λ pid page h stays. frees.entries pid page h (stays_any keep (entry old pid page) stays);
-  slots = frees.slots;
-  total = frees.total;
-  home = frees.home;
-  slotted = frees.slotted;
-  kept_place = λ p n kept. absurd kept;
-  kept_role = λ n kept. absurd kept;
-  kept_count = λ n kept. absurd kept;
-  kept_bytes = λ n kept. absurd kept;
-}
+frees_any old new keep frees = search (rules, frees.entries, stays_any)
 
 pub same_with : {mode : ℕ} (c : Picture mode) (t : FrameTable) → SameBeside c (record c { frames = t })
 same_with c t = record { slots = refl; root = λ pid. refl; at = λ pid page. refl; page_of = λ n. refl; place = λ p. refl; touched = λ p. refl; files = λ f. refl }
@@ -94,46 +72,24 @@ module _ {E : Type 0} (h : Ghosts E) where
 module _ {M : Type 0} {m : Levels.Ghosts M} {E : Type 0} (h : Ghosts E) where
   module _ {D : Type 0} where
     pub moves_then : (a b c : Core D E M m) → Moves h a b → Moves h b c → Moves h a c
-    moves_then a b c p q = record {
-      fit = q.fit;
-      swap = q.swap;
-      spaces = spaces_then (picture_of a) (picture_of b) (picture_of c) p.spaces q.spaces;
-      tables = tables_then (picture_of a) (picture_of b) (picture_of c) p.spaces.root p.tables q.tables;
-      room = room_then (picture_of a) (picture_of b) (picture_of c) p.room q.room;
-      store = q.store ∙ p.store;
-      device = device_then h a.swap.pages.disk b.swap.pages.disk c.swap.pages.disk p.device q.device;
-    }
+    moves_then a b c p q =
+        let store = q.store ∙ p.store in
+        let tables = tables_then (picture_of a) (picture_of b) (picture_of c) p.spaces.root p.tables q.tables in
+        search (rules, spaces_then, room_then, device_then)
 
     -- a step that was refused nothing and counted no failure, and one that stalled
     pub stall_then : (a b c : Core D E M m) (stall : Stall) → b.refused.number ≡ a.refused.number → h.failures b.swap.pages.disk ≡ h.failures a.swap.pages.disk → StallCause h b c stall → StallCause h a c stall
-    stall_then a b c NoFrames refused calm cause = (cause.0 ∙ ap (λ x. x + 1) refused, cause.1 ∙ calm)
-    stall_then a b c NoSwap refused calm cause = (cause.0 ∙ ap (λ x. x + 1) refused, cause.1 ∙ calm)
     stall_then a b c SwapDevice refused calm cause = (cause.0 ∙ refused, (let later = cause.1 in omega (arith, calm, later)))
     stall_then a b c StoreDevice refused calm cause = absurd cause
+    stall_then a b c stall refused calm cause = (cause.0 ∙ ap (λ x. x + 1) refused, cause.1 ∙ calm)
 
     pub moves_none : (a : Core D E M m) → IsFit (picture_of a) → IsReady h a.swap → Moves h a a
-    moves_none a fit ready = record {
-      fit = fit;
-      swap = ready;
-      spaces = record { root = λ pid. refl; at = λ pid page. refl };
-      tables = λ pid r page e. omega arith;
-      room = record { frames = refl; slots = refl };
-      store = refl;
-      device = device_none h a.swap.pages.disk;
-    }
+    moves_none a fit ready = search (rules, device_none)
 
     -- frames were given up, and nothing else was done
     pub moves_freed : (a b : Core D E M m) (keep : Option FrameNo) → IsFit (picture_of b) → IsReady h b.swap → Frees (picture_of a) (picture_of b) keep → KeepsRest a b
         → UsesDevice h a.swap.pages.disk b.swap.pages.disk → Moves h a b
-    moves_freed a b keep fit ready frees rest device = record {
-      fit = fit;
-      swap = ready;
-      spaces = spaces_freed (picture_of a) (picture_of b) keep frees;
-      tables = tables_freed (picture_of a) (picture_of b) keep frees;
-      room = room_freed (picture_of a) (picture_of b) keep frees;
-      store = rest.store;
-      device = device;
-    }
+    moves_freed a b keep fit ready frees rest device = let tables = tables_freed (picture_of a) (picture_of b) keep frees in search rules
 
     -- one page's entry was set
     pub moves_entered : (a b : Core D E M m) (pid page : ℕ) → IsReady h a.swap → Enters a b pid page → Moves h a b
@@ -148,32 +104,25 @@ module _ {M : Type 0} {m : Levels.Ghosts M} {E : Type 0} (h : Ghosts E) where
           device = subst (λ (s : Swap E). UsesDevice h a.swap.pages.disk s.pages.disk) (sym enters.calm.swap) (device_none h a.swap.pages.disk);
         }
 
+pub on_left : {A B C : Type 0} → (A → C) → A ⊎ B → C ⊎ B
+on_left f (inl a) = inl (f a)
+on_left f (inr b) = inr b
+
+pub on_right : {A B C : Type 0} → (B → A ⊎ C) → A ⊎ B → A ⊎ C
+on_right f (inl a) = inl a
+on_right f (inr b) = f b
+
 pub slotted_wider : {mode : ℕ} (f g : PageKey → Type 0) (x y : ℕ → ℕ → Type 0) (old new : Picture mode) → ((p : PageKey) → f p → g p) → ((q p : ℕ) → x q p → y q p) → KeepsSlotted f x old new → KeepsSlotted g y old new
 slotted_wider f g x y old new files own keeps = record {
-  file_pages = λ p k at. elim (keeps.file_pages p k at) [
-    | inl it ↦ inl (files p it)
-    | inr there ↦ inr there
-  ];
-  copies = λ q p h away. elim (keeps.copies q p h away) [
-    | inl it ↦ inl (own q p it)
-    | inr same ↦ inr same
-  ];
+  file_pages = λ p k at. on_left (files p) (keeps.file_pages p k at);
+  copies = λ q p h away. on_left (own q p) (keeps.copies q p h away);
 }
 
 module _ {mode : ℕ} (files : PageKey → Type 0) (own : ℕ → ℕ → Type 0) where
   pub slotted_then : (a b c : Picture mode) → KeepsSlotted files own a b → KeepsSlotted files own b c → KeepsSlotted files own a c
   slotted_then a b c first second = record {
-    file_pages = λ p k at. elim (first.file_pages p k at) [
-      | inl it ↦ inl it
-      | inr there ↦ second.file_pages p k there
-    ];
-    copies = λ q p h away. elim (first.copies q p h away) [
-      | inl it ↦ inl it
-      | inr same ↦ elim (second.copies q p h (ap is_swapped same ∙ away)) [
-        | inl it ↦ inl it
-        | inr again ↦ inr (again ∙ same)
-      ]
-    ];
+    file_pages = λ p k at. on_right (second.file_pages p k) (first.file_pages p k at);
+    copies = λ q p h away. on_right (λ same. on_right (λ again. inr (again ∙ same)) (second.copies q p h (ap is_swapped same ∙ away))) (first.copies q p h away);
   }
 
   -- every file page and every entry is as it was
@@ -189,10 +138,7 @@ pub slotted_but : {mode : ℕ} (files : PageKey → Type 0) (old new : Picture m
     → ((q p : ℕ) → IsPage (top_level mode) p → (q ≢ pid) ⊎ (p ≢ page) → entry new q p ≡ entry old q p) → KeepsSlotted files (IsThatPage pid page) old new
 slotted_but files old new pid page places entries = record {
   file_pages = λ p k at. inr (places p ∙ at);
-  copies = λ q p h away. elim (by_page q p pid page) [
-    | inl it ↦ inl it
-    | inr other ↦ inr (entries q p h other)
-  ];
+  copies = λ q p h away. on_right (λ other. inr (entries q p h other)) (by_page q p pid page);
 }
 
 pub slotted_calm : {M : Type 0} {m : Levels.Ghosts M} → {D E : Type 0} (files : PageKey → Type 0) (old new : Core D E M m) (pid page : ℕ) → IsCalm old new pid page → KeepsSlotted files (IsThatPage pid page) (picture_of old) (picture_of new)
@@ -235,19 +181,14 @@ no_table_spared v k old new spares = record {
 pub no_table_trees : {mode : ℕ} (old new : Picture mode) → KeepsTrees old.frames new.frames (top_level mode) → AddsNoTable old new
 no_table_trees old new trees = record { tables = λ n table. (trees.tables n).1 table; pointers = trees.same.forth }
 
--- one entry was set
-pub no_table_set : {mode : ℕ} (old new : Picture mode) (root page number : ℕ) → SetsEntry old.frames new.frames (top_level mode) root page number → AddsNoTable old new
-no_table_set old new root page number sets = record {
-  tables = λ n table. table_before old.frames new.frames n sets.kept.frames (ap (λ roles. get_or roles n Free) sets.kept.roles) table;
-  pointers = λ n i m points. (sets.pointers n i m).0 points;
-}
+-- frames kept their roles
+pub no_table_kept : {mode : ℕ} {old new : Picture mode} → KeepsFrames old.frames new.frames → ((n i m : ℕ) → Points old.frames n i m → Points new.frames n i m) → AddsNoTable old new
+no_table_kept {old = old} {new = new} kept pointers =
+    record { tables = λ n table. table_before old.frames new.frames n kept.frames (ap (λ roles. get_or roles n Free) kept.roles) table; pointers = pointers }
 
--- or nothing but that
+-- no entry but one was set
 pub no_table_calm : {M : Type 0} {m : Levels.Ghosts M} → {D E : Type 0} (old new : Core D E M m) (pid page : ℕ) → IsCalm old new pid page → AddsNoTable (picture_of old) (picture_of new)
-no_table_calm old new pid page calm = record {
-  tables = λ n table. table_before old.frames new.frames n calm.frames.frames (ap (λ roles. get_or roles n Free) calm.frames.roles) table;
-  pointers = calm.pointers;
-}
+no_table_calm old new pid page calm = no_table_kept calm.frames calm.pointers
 
 -- Frames were taken for tables alone: where none was free, none is.
 pub full_stays : {mode : ℕ} (old new : Picture mode) (tried : Option ℕ) → GivesForTables old new tried → IsFull old.frames → IsFull new.frames

@@ -1,22 +1,19 @@
 -- A page's own copy read from its slot into a frame, and what it leaves.
-use Rattle.fault.proofs.{Forms.{mapped_page}, Names.{top_level, Attr, can_write, SlotNo, ◌≡◌, ◌≢◌, ℕ, inl, inr, ◌*◌, true, false, List, Option, Some, refl, sym, ap, ◌∙◌, subst, arith, None, cases_Bool, false≢true, Private, FrameTable}}
+use Rattle.fault.proofs.{Forms.{mapped_page}, Names.{top_level, Attr, can_write, SlotNo, ◌≡◌, ◌≢◌, ℕ, inl, inr, ◌*◌, true, false, List, Option, Some, refl, sym, ap, ◌∙◌, subst, arith, None, false≢true, Private, FrameTable}}
 use Rattle.fault.proofs.Names.{count_of, SameButFor, Takes, with_bytes, Releases, IsFrame, bytes_of, with_bytes-others, with_bytes-same, ◌&&◌, ◌==◌, option_map, Ghosts, Swap, Pages, IsAsWritten, SlotTable, IsReady, slots_of, IsInUse}
-use Rattle.fault.proofs.Names.{ReleasesSlot, IsEntryOver, IsPage, Entry, Swapped, number_of, IsEntry, is_valid, has_bit, is_swapped, InSlot, seat, Picture, entry, picture_of, view, view_of, bytes_in, IsOwned, IsFit, IsEntryFor, Resident}
-use Rattle.fault.proofs.{Names.{Away, IsSwapped, IsFitBut, TakesOwn, ChangesFrame, Core, ObtainsOwn, bit_clear, away_seat, views_given, with_slots, fit_slot_released, by_page}, Settling.{KeepsAside, aside_then, aside_slot_released}}
+use Rattle.fault.proofs.Names.{ReleasesSlot, IsEntryOver, IsPage, Entry, Swapped, number_of, IsEntry, has_bit, is_swapped, InSlot, seat, Picture, entry, picture_of, view, view_of, bytes_in, IsOwned, IsFit, IsEntryFor, Resident}
+use Rattle.fault.proofs.{Names.{Away, IsSwapped, IsFitBut, TakesOwn, ChangesFrame, Core, ObtainsOwn, away_seat, views_given, with_slots, fit_slot_released, by_page}, Settling.{KeepsAside, aside_then, aside_slot_released}}
 use Rattle.fault.{proofs.Settling.{HasFrame, GivesFrame, fit_seated, seat_owned, view_given, aside_given}, specs.{Changes.{KeepsViews}, Leaves.{IsFullEntry}, OwnFrames.{LiesInSlot}, declared.spot.Spot.{Spot}}}
-use Rattle.{residency.specs.Parts.{Nothing}, std.specs.Prelude.{◌≤◌}}
+use Rattle.{residency.specs.Parts.{Nothing}, std.specs.Prelude.{◌≤◌}, fault.proofs.Names.{rules, not_swapped}}
 use Rattle.vm_types.specs.declared.mode.Levels as Levels
 
-zero_here : is_swapped 0 ≡ false
+pub zero_here : is_swapped 0 ≡ false
 unfolding has_bit
 zero_here = refl
 
 not_shared_away : {mode : ℕ} (c : Picture mode) (attr : Option Attr) (a : Attr) (e : ℕ) → attr ≡ Some a → is_swapped e ≡ true → e ≢ 0 → IsEntryFor c attr e → IsSwapped c a e
 not_shared_away c attr a e at away some (Nothing none) = absurd (some none)
-not_shared_away c attr a e at away some (Resident b is resident) = elim (cases_Bool (is_valid e)) [
-  | inl valid ↦ absurd (false≢true (sym (let z : is_swapped e ≡ false = rw valid refl in z) ∙ away))
-  | inr invalid ↦ absurd (false≢true (sym (bit_clear e (resident.framed invalid)) ∙ away))
-]
+not_shared_away c attr a e at away some (Resident b is resident) = absurd (false≢true (sym (not_swapped e resident.framed) ∙ away))
 not_shared_away c attr a e at away some (Away b is swapped) = let both : Some b ≡ Some a = sym is ∙ at in subst (λ (x : Attr). IsSwapped c x e) (cc) swapped
 
 -- the page lies in a slot by its region too
@@ -24,41 +21,22 @@ pub swapped_page : {mode : ℕ} (c : Picture mode) (pid page : ℕ) (a : Attr) �
 swapped_page c pid page a fit h at away =
     not_shared_away c (c.at pid page) a (entry c pid page) at away (λ none. false≢true (sym zero_here ∙ sym (ap is_swapped none) ∙ away)) (fit.granting.entries pid page h)
 
+others_then : {n : ℕ} {a b c : FrameTable} → SameButFor n a b → SameButFor n b c → SameButFor n a c
+others_then p q = record { frames = q.frames ∙ p.frames; bytes = λ m ne. q.bytes m ne ∙ p.bytes m ne; roles = λ m ne. q.roles m ne ∙ p.roles m ne; counts = λ m ne. q.counts m ne ∙ p.counts m ne }
+
 -- a frame that was taken and written, as the other frames see it
 pub own_written : (old taken : FrameTable) (n : ℕ) (w : List ℕ) → Takes old taken Private n → SameButFor n old (with_bytes taken n w)
 own_written old taken n w takes =
-    let written = with_bytes-others taken n w in
-    record {
-      frames = written.frames ∙ takes.others.frames;
-      bytes = λ m ne. written.bytes m ne ∙ takes.others.bytes m ne;
-      roles = λ m ne. takes.others.roles m ne;
-      counts = λ m ne. takes.others.counts m ne;
-    }
+    others_then takes.others (with_bytes-others taken n w)
 
 pub own_spent : (old taken new : FrameTable) (n : ℕ) (w : List ℕ) → Takes old taken Private n → Releases (with_bytes taken n w) new n → SameButFor n old new
 own_spent old taken new n w takes releases =
-    let written = own_written old taken n w takes in
-    record {
-      frames = releases.others.frames ∙ written.frames;
-      bytes = λ m ne. releases.others.bytes m ne ∙ written.bytes m ne;
-      roles = λ m ne. releases.others.roles m ne ∙ written.roles m ne;
-      counts = λ m ne. releases.others.counts m ne ∙ written.counts m ne;
-    }
+    others_then (own_written old taken n w takes) releases.others
 
 -- a frame that was taken for a page changed further, and no slot
 pub changes_further : {mode : ℕ} {found taken : Picture mode} {n page : ℕ} → TakesOwn found taken n page → (t : SlotTable) → t ≡ taken.slots → (u : FrameTable) → SameButFor n found.frames u
     → ChangesFrame found (record taken { slots = t; frames = u }) n
-changes_further own t slots u frames = record {
-  slots = slots ∙ own.slots;
-  frames = frames;
-  was_free = own.takes.was_free;
-  others = own.others;
-  root = own.root;
-  at = own.at;
-  place = own.place;
-  touched = own.touched;
-  files = own.files;
-}
+changes_further own t slots u frames = let same = slots ∙ own.slots in search rules
 
 -- the fullest entry by the share count of its frame alone
 pub full_count : {mode : ℕ} (c c' : Picture mode) (a : Attr) (n e : ℕ) → count_of c'.frames n ≡ count_of c.frames n → IsFullEntry c a n true e → IsFullEntry c' a n true e
@@ -95,18 +73,9 @@ module _ {M : Type 0} {m : Levels.Ghosts M} {D E : Type 0} {h : Ghosts E} {core 
     -- the frame that it was read into
     module _ (t : SlotTable) (same : t ≡ taken.slots) (w : List ℕ) where
       pub slot_frame : HasFrame (picture_of core) obtains.found (record taken { slots = t; frames = with_bytes taken.frames n w }) None spot.pid spot.page spot.root.0 n a
-      slot_frame = record {
-        linked = lies.spot.linked;
-        lives = lies.spot.root;
-        at = lies.attr;
-        frees = obtains.frees;
-        fit = obtains.fit;
-        stays = stays;
-        changes = changes_further obtains.own t same _ (own_written obtains.found.frames taken.frames n w obtains.own.takes);
-        role = obtains.own.takes.kind_set;
-        one = obtains.own.takes.counted;
-        noted = obtains.own.noted;
-      }
+      slot_frame =
+          let changes = changes_further obtains.own t same _ (own_written obtains.found.frames taken.frames n w obtains.own.takes) in
+          search (rules, stays)
 
       pub slot_bytes : (k : ℕ) → w ≡ taken.slots.bytes k → bytes_of (with_bytes taken.frames n w) n ≡ obtains.found.slots.bytes k
       slot_bytes k is =

@@ -1,11 +1,10 @@
 -- When an access wants a frame, which frame it keeps meanwhile, and when it wants the page from its home.
-use Rattle.fault.proofs.{AccessSteps.{untouched_home}, Forms.{mapped_page}, Names.{top_level, widest_end, Access, Store, FrameNo, PageKey, File, Object, Attr, Backing, Anon, Shared, Common, stands_on, Phys, Code, Width, Verdict, Fine}}
-use Rattle.fault.proofs.Names.{Faults, is_past_end, View, FileInfo, FilePage, ObjectPage, is_object_page, names, Files, is_past_end_of, ◌≡◌, ◌≢◌, ℕ, inl, inr, true, false, Some, None, refl, sym, ap, ◌∙◌, Result, Ok, Err, ◌⊎◌, Option, subst}
-use Rattle.fault.proofs.Names.{◌*◌, ◌<◌, ◌≤◌, arith, eq-eqb, cases_Bool, cases_eq, false≢true, nat_tests, same_Some, bytes_of, IsPage, missing_of, Place, Home, Frame, Slot, InFrame, InSlot, seat, is_private, is_swapped, Picture, entry}
-use Rattle.fault.proofs.{Names.{IsFit, IsBehind, is_shared, IsPageFor, Frees, IsWhole, Core, seat_own, seat_common, seat_away, IsErrAnd, nat_le, Ghosts, translated, WalkFault, sizes, named-at, IsPageOf}, OwnSteps.{shown_own, shown_behind}}
-use Rattle.fault.{proofs.{Ready.{page_user, behind_place}, Settled.{none_same}, Steps.{linked_kept}}, specs.Changes.{IsLinked, KeepsSeen, KeepsSpaces, KeepsTables, KeepsViews, copied_frame, shown_frame, IsCalm, is_sole}}
+use Rattle.fault.proofs.{AccessSteps.{untouched_home}, Forms.{mapped_page}, Names.{top_level, widest_end, Access, Store, FrameNo, PageKey, File, Object, Attr, Backing, Anon, Common, stands_on, Phys, Code, Width, Fine}}
+use Rattle.fault.proofs.Names.{true_from_ne_false, leb-false, ⊎_elim, Faults, is_past_end, FileInfo, ObjectPage, is_object_page, names, is_past_end_of, ◌≡◌, ◌≢◌, ℕ, inl, inr, true, false, Some, None, refl, sym, ap, ◌∙◌, Result, Ok, Err}
+use Rattle.fault.proofs.Names.{◌⊎◌, Option, subst, ◌*◌, ◌<◌, arith, eq-eqb, cases_Bool, cases_eq, false≢true, same_Some, bytes_of, IsPage, missing_of, Place, Home, Frame, Slot, InFrame, InSlot, seat, is_private, is_swapped, Picture, entry}
+use Rattle.fault.proofs.{Names.{IsFit, IsBehind, is_shared, IsPageFor, Frees, IsWhole, Core, seat_own, seat_common, seat_away, IsErrAnd, Ghosts, translated, sizes, named-at}, OwnSteps.{shown_own, shown_behind}}
+use Rattle.fault.{proofs.{Ready.{page_user, behind_place, one_place}, Settled.{none_same}, Steps.{linked_kept, on_right}}, specs.Changes.{IsLinked, KeepsSeen, KeepsSpaces, KeepsTables, KeepsViews, copied_frame, shown_frame, IsCalm, is_sole}}
 use Rattle.{fault.specs.{Files.{IsInStore}, Outcome.{verdict_of, IsPlaced, IsWalked}, Wants.{HoldsShown, KeepsOwnFrame, ShowsFile, LacksTable, Wants, ForFile, ForStore, ReadsHome}}, std.proofs.Common.{is_some}}
-use Rattle.vm_types.specs.declared.region.Backing.TheVariants.{Private}
 use Rattle.vm_types.specs.declared.mode.Levels as Levels
 
 -- none while a table is missing
@@ -13,8 +12,8 @@ pub unlinked_keeps : {mode : ℕ} (c : Picture mode) (pid page : ℕ) (access : 
 unlinked_keeps c pid page access never n copies = never copies.whole
 
 away_unshown : {mode : ℕ} (c : Picture mode) (e k n : ℕ) (b : Backing) → seat e ≡ Some (InSlot k) → HoldsShown c e b n → ⊥
-away_unshown c e k n b away (inl own) = let bad : Some (InSlot k) ≡ Some (InFrame n) = sym away ∙ own in (cc)
-away_unshown c e k n b away (inr none) = let bad : Some (InSlot k) ≡ None = sym away ∙ none.0 in (cc)
+away_unshown c e k n b away (inl own) = (cc)
+away_unshown c e k n b away (inr none) = (cc)
 
 -- nor while the own copy lies in a slot
 pub away_keeps : {mode : ℕ} (old new : Picture mode) (pid page : ℕ) (access : Access) → IsPage (top_level mode) page → is_private (entry old pid page) ≡ false → is_swapped (entry old pid page) ≡ true
@@ -73,8 +72,7 @@ module _ {mode : ℕ} (old new : Picture mode) (pid page : ℕ) (a : Attr) (link
 
 pub cases_frame : (place : Place) → ((n : FrameNo) × (place ≡ Frame n)) ⊎ ((n : FrameNo) → place ≢ Frame n)
 cases_frame (Frame m) = inl (m, refl)
-cases_frame Home = inr (λ n e. (cc))
-cases_frame (Slot m) = inr (λ n e. (cc))
+cases_frame place = inr (λ n e. (cc))
 
 pub shows_file : {mode : ℕ} (c : Picture mode) (pid page : ℕ) (a : Attr) (p : PageKey) → c.at pid page ≡ Some a → stands_on a.backing ≡ Some p → seat (entry c pid page) ≡ None
     → ShowsFile c pid page p
@@ -86,21 +84,16 @@ shows_back old mid pid page p at keeps shows =
     let was = sym (at pid page) ∙ shows.mapped in
     record { attr = shows.attr; mapped = was; behind = shows.behind; none = none_same mid old pid page shows.attr shows.mapped was (sym (keeps.views pid page)) shows.none }
 
-some_in : (o : Option ℕ) → is_some o ≡ true → (r : ℕ) × (o ≡ Some r)
-some_in None live = absurd (false≢true live)
-some_in (Some r) live = (r, refl)
-
 some_of : (o : Option ℕ) → o ≢ None → (r : ℕ) × (o ≡ Some r)
 some_of None live = absurd (live refl)
 some_of (Some r) live = (r, refl)
 
+pub root_lives : (o : Option ℕ) → is_some o ≡ true → o ≢ None
+root_lives o e none = false≢true (sym (ap is_some none) ∙ e)
+
 -- a live process has a root
 pub root_live : {mode : ℕ} (c : Picture mode) (pid : ℕ) → is_some (c.root pid) ≡ true → (r : ℕ) × (c.root pid ≡ Some r)
-root_live c pid live = some_in (c.root pid) live
-
-pub root_lives : (o : Option ℕ) → is_some o ≡ true → o ≢ None
-root_lives None e none = false≢true e
-root_lives (Some r) e none = (let bad : None ≡ Some r = sym none in (cc))
+root_live c pid live = some_of (c.root pid) (root_lives (c.root pid) live)
 
 -- a table is missing, or none
 module _ {mode : ℕ} where
@@ -110,27 +103,17 @@ module _ {mode : ℕ} where
     | inr missing ↦ inr (record { root = root.0; lives = root.1; missing = missing })
   ]
 
--- where no frame is wanted the file page that the page shows is in a frame
-pub page_there : {mode : ℕ} (c : Picture mode) (pid page : ℕ) (access : Access) (p : PageKey) → ShowsFile c pid page p → (Wants c pid page access → ⊥) → (n : FrameNo) × (c.place p ≡ Frame n)
-page_there c pid page access p shows none = elim (cases_frame (c.place p)) [
-  | inl there ↦ there
-  | inr away ↦ absurd (none (ForFile p shows away))
-]
-
--- where it isn't, one is wanted
+-- where the file page that the page shows is in no frame, one is wanted
 pub there_or : {mode : ℕ} (c : Picture mode) (pid page : ℕ) (access : Access) (p : PageKey) → ShowsFile c pid page p → ((n : FrameNo) × (c.place p ≡ Frame n)) ⊎ Wants c pid page access
-there_or c pid page access p shows = elim (cases_frame (c.place p)) [
-  | inl there ↦ inl there
-  | inr away ↦ inr (ForFile p shows away)
-]
+there_or c pid page access p shows = on_right (λ away. inr (ForFile p shows away)) (cases_frame (c.place p))
+
+pub page_there : {mode : ℕ} (c : Picture mode) (pid page : ℕ) (access : Access) (p : PageKey) → ShowsFile c pid page p → (Wants c pid page access → ⊥) → (n : FrameNo) × (c.place p ≡ Frame n)
+page_there c pid page access p shows none = ⊎_elim (λ there. there) (λ wants. absurd (none wants)) (there_or c pid page access p shows)
 
 -- and a store has its frame
 pub sole_there : {mode : ℕ} (c : Picture mode) (pid page : ℕ) (a : Attr) → c.at pid page ≡ Some a → is_shared a.backing ≡ false → (Wants c pid page Store → ⊥)
     → is_sole c (entry c pid page) ≡ true
-sole_there c pid page a mapped private none = elim (cases_Bool (is_sole c (entry c pid page))) [
-  | inl sole ↦ sole
-  | inr several ↦ absurd (none (ForStore a refl mapped private several))
-]
+sole_there c pid page a mapped private none = true_from_ne_false _ (λ several. none (ForStore a refl mapped private several))
 
 pub reads_home : {mode : ℕ} (c : Picture mode) (pid page : ℕ) (p : PageKey) → IsFit c → ShowsFile c pid page p → IsInStore c p → ReadsHome c pid page
 reads_home c pid page p fit shows (f, is, home) =
@@ -149,42 +132,26 @@ calm_same c pid page = record {
   others = λ q p h other. refl;
 }
 
-abbrev walk_ok : Phys → Result Phys WalkFault
-walk_ok p = Ok p
-
-one_place : (p q : Phys) → walk_ok p ≡ walk_ok q → p ≡ q
-one_place p q same = (cc)
-
 -- the walk answers one place
 module _ {mode : ℕ} where
   pub walked_same : (c : Picture mode) (pid addr : ℕ) (width : Width) (access : Access) (p q : Phys) → IsPlaced c c pid addr width access p
       → IsWalked c pid addr width access q → p ≡ q
   walked_same c pid addr width access p q placed walked =
-      one_place p q (sym placed.place ∙ ap (λ r. translated (top_level mode) c.frames r addr access) (same_Some placed.root walked.root (sym placed.lives ∙ walked.lives)) ∙ walked.place)
-
-faults_fine : (v : Verdict) (code : Code) (seen : View) → v ≡ Faults code → v ≡ Fine seen → ⊥
-faults_fine v code seen faults fine = let bad : Faults code ≡ Fine seen = sym faults ∙ fine in (cc)
+      one_place _ p q placed.place (ap (λ r. translated (top_level mode) c.frames r addr access) (same_Some placed.root walked.root (sym placed.lives ∙ walked.lives)) ∙ walked.place)
 
 -- and none to an access that faults
 pub no_walk : {mode : ℕ} (c : Picture mode) (pid addr : ℕ) (width : Width) (access : Access) (code : Code) (q : Phys) → verdict_of c pid addr width access ≡ Faults code
     → IsWalked c pid addr width access q → ⊥
-no_walk c pid addr width access code q faults walked = faults_fine (verdict_of c pid addr width access) code walked.seen faults walked.fine
+no_walk c pid addr width access code q faults walked = let bad : Faults code ≡ Fine walked.seen = sym faults ∙ walked.fine in (cc)
 
 -- a call that hands on an error returns that
 pub err_is : {T E : Type 0} (r : Result T E) (e : E) → IsErrAnd r (λ x. x ≡ e) → Err e ≡ r
 err_is (Ok x) e is = absurd is
 err_is (Err x) e is = ap (λ y. Err y) (sym is)
 
-begins_below : (m n : ℕ) → nat_le n m ≡ false → m < n
-begins_below m n h = grind (arith, nat_tests)
-
 begins_inside : (o : Option FileInfo) (k : ℕ) → is_past_end_of o k ≡ false → (info : FileInfo) × (o ≡ Some info) × (4096 * k < info.length)
 begins_inside None k inside = absurd (false≢true (sym inside))
-begins_inside (Some info) k inside = (info, refl, begins_below (4096 * k) info.length inside)
-
--- a file page that isn't past the end is one of its file's
-inside_file : (files : Files) (p : FilePage) → is_past_end_of (files p.file) p.page ≡ false → IsPageOf files p.file p.page
-inside_file files p inside = begins_inside (files p.file) p.page inside
+begins_inside (Some info) k inside = (info, refl, leb-false info.length (4096 * k) inside)
 
 names_itself : (p : ObjectPage) (b : Backing) → b ≡ Common p → is_object_page b p.object p.page ≡ true
 names_itself p b is = ap (λ x. is_object_page x p.object p.page) is ∙ rw (eq-eqb p.object p.object refl, eq-eqb p.page p.page refl) refl
@@ -192,20 +159,15 @@ names_itself p b is = ap (λ x. is_object_page x p.object p.page) is ∙ rw (eq-
 -- what stands behind a mapped page that isn't past the end of its file can be brought in
 page_for : {mode : ℕ} (c : Picture mode) (pid page : ℕ) (a : Attr) (b : Backing) (p : PageKey) → pid < 65 → page < widest_end → c.at pid page ≡ Some a → a.backing ≡ b → stands_on b ≡ Some p
     → is_past_end c.files b ≡ false → IsPageFor c p
-page_for c pid page a Anon p low high mapped backed is inside = let bad : None ≡ Some p = is in (cc)
-page_for c pid page a (Private q) p low high mapped backed is inside =
-    let P : PageKey → Type 0 = λ x. IsPageFor c x in subst P (same_Some (File q) p is) (inside_file c.files q inside)
-page_for c pid page a (Shared q) p low high mapped backed is inside =
-    let P : PageKey → Type 0 = λ x. IsPageFor c x in subst P (same_Some (File q) p is) (inside_file c.files q inside)
+page_for c pid page a Anon p low high mapped backed is inside = (cc)
 page_for c pid page a (Common q) p low high mapped backed is inside =
     subst (λ (x : PageKey). IsPageFor c x) (same_Some (Object q) p is)
     (named-at c.at q.object q.page pid page low high (ap (λ x. names x q.object q.page) mapped ∙ names_itself q a.backing backed))
-
-low_number : (pid : ℕ) → pid ≤ 64 → pid < 65
-low_number pid low = omega (arith, low)
+page_for c pid page a b p low high mapped backed is inside = let P : PageKey → Type 0 = λ x. IsPageFor c x in subst P (same_Some _ p is) (begins_inside _ _ inside)
 
 pub page_inside : {mode : ℕ} (c : Picture mode) (pid page : ℕ) (a : Attr) (p : PageKey) → IsLinked c pid page → c.at pid page ≡ Some a → stands_on a.backing ≡ Some p → is_past_end c.files a.backing ≡ false → IsPageFor c p
 page_inside {mode = mode} c pid page a p linked mapped is inside =
     let root = some_of (c.root pid) linked.lives in
     let high = (page_user c pid page a linked.fit mapped).1 in
-    page_for c pid page a a.backing p (low_number pid (linked.fit.rooted.numbers pid root.0 root.1).1) (omega (arith, high, (sizes mode).most)) mapped refl is inside
+    let low = (linked.fit.rooted.numbers pid root.0 root.1).1 in
+    page_for c pid page a a.backing p (omega (arith, low)) (omega (arith, high, (sizes mode).most)) mapped refl is inside

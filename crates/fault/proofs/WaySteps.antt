@@ -1,10 +1,11 @@
 -- Tables taken for the way to a page and linked there: what they take of memory, what stays, and how they add up.
 use Rattle.fault.proofs.Names.{top_level, Attr, Stall, ◌≡◌, ◌≢◌, ◌-◌, ◌≤◌, ℕ, zero, suc, inl, inr, Option, Some, None, get_or, sym, ap, ◌∙◌, subst, arith, Result, Ok, Err, refl, cases_eq, Free, Table, Private, Cache, FrameTable}
-use Rattle.fault.proofs.Names.{frame_count, role_of, bytes_of, IsFull, Role, LinksTable, IsBelowRoot, Points, Way, last_table, missing_of, ends, way_forth, Same, GivesForTables, KeepsRoles, KeepsRolesBut, Picture, entry, bytes_in, IsOwned}
+use Rattle.fault.proofs.Names.{role_of, bytes_of, IsFull, Role, LinksTable, IsBelowRoot, Points, Way, last_table, missing_of, ends, way_forth, Same, GivesForTables, KeepsRolesBut, Picture, entry, bytes_in, IsOwned}
 use Rattle.fault.proofs.Names.{picture_of, Frees, ObtainsTable, KeepsPages, SameBeside, IsWhole, Seat, InFrame, InSlot, seat, IsFit, IsMapped, Core, gives_then, gives_same, entry-same, loose_table, fit_linked, each_view, view_seated}
 use Rattle.fault.specs.{Changes.{AddsNoTable, IsTableOnWay, LinksTables, KeepsTables, KeepsBare, KeepsSlotted, KeepsRoom, KeepsSpaces}, WaysLinked.{TakesForTables}}
 use Rattle.fault.proofs.Steps.{table_before, slotted_then, slotted_frees, slotted_same, tables_then, bare_then, tables_freed, bare_freed, room_freed, room_then, spaces_freed, spaces_then, full_stays, moves_none, moves_then, stall_then}
 use Rattle.fault.proofs.{Names.{held_same, keeps_then, IsSome, IfOk, IsErrAnd, OnOk, Ghosts, Nothing, IsReady}, Asking.{no_new_same, no_new_then, asks_slots_if, asks_slots_same, asks_slots_then}}
+use Rattle.fault.proofs.{Names.{rules, ⊎_elim, FrameNo}, Steps.{on_right, files_same}}
 use Rattle.vm_types.specs.declared.mode.Levels as Levels
 
 -- a table on the way to a page that is not the root
@@ -23,39 +24,41 @@ module _ {mode : ℕ} where
 
 pub links_on : {mode : ℕ} (a b c : Picture mode) (pid page : ℕ) → c.root pid ≡ b.root pid → ((n i m : ℕ) → Points b.frames n i m → Points c.frames n i m)
     → LinksTables a b pid page → LinksTables b c pid page → LinksTables a c pid page
-links_on a b c pid page root pointers first second n table = elim (second n table) [
-  | inl was ↦ elim (first n was) [
-    | inl start ↦ inl start
-    | inr way ↦ inr (way_stands b c pid page n root pointers way)
-  ]
-  | inr way ↦ inr way
-]
-
-pub links_then : {mode : ℕ} (a b c : Picture mode) (pid page : ℕ) (tried : Option ℕ) → c.root pid ≡ b.root pid → GivesForTables b c tried
-    → LinksTables a b pid page → LinksTables b c pid page → LinksTables a c pid page
-links_then a b c pid page tried root gives first second = links_on a b c pid page root gives.pointers first second
+links_on a b c pid page root pointers first second n table = ⊎_elim (λ was. on_right (λ way. inr (way_stands b c pid page n root pointers way)) (first n was)) inr (second n table)
 
 -- none came to be a table
 pub links_no_table : {mode : ℕ} (old new : Picture mode) (pid page : ℕ) → AddsNoTable old new → LinksTables old new pid page
 links_no_table old new pid page none n table = inl (none.tables n table)
-
--- no frame came to another use
-pub links_none : {mode : ℕ} (old new : Picture mode) (pid page : ℕ) → frame_count new.frames ≡ frame_count old.frames → KeepsRoles old new → LinksTables old new pid page
-links_none old new pid page count still n table = inl (table_before old.frames new.frames n count (still n) table)
 
 -- frames were given up: a table that was missing still is
 pub still_wanted : {mode : ℕ} (old new : Picture mode) (pid root page : ℕ) → Frees old new None → old.root pid ≡ Some root → missing_of old.frames (top_level mode) root page ≢ 0
     → IsWhole new pid page → ⊥
 still_wanted old new pid root page frees lives missing whole = missing (sym (frees.missing pid root page lives) ∙ whole root (frees.pages.root pid ∙ lives))
 
+-- where frames were given up none came to be a process's own
+pub no_copy_freed : {mode : ℕ} {old new : Picture mode} {keep : Option FrameNo} → Frees old new keep → (n : ℕ) → role_of new.frames n ≡ Private → role_of old.frames n ≡ Private
+no_copy_freed frees n is = ⊎_elim (λ same. sym same ∙ is) (λ freed. let bad = sym freed.0 ∙ is in (cc)) (frees.roles n)
+
 -- a frame was obtained, taken for a table, and linked on the way to a page
 module _ {mode : ℕ} {old taken new : Picture mode} {pid root page table : ℕ} (obtains : ObtainsTable old taken table) (lives : old.root pid ≡ Some root)
     (links : LinksTable taken.frames new.frames (top_level mode) root page table) (beside : SameBeside taken new) where
+  abbrev found : Picture mode
+  found = obtains.found
+
+  fit : IsFit found
+  fit = obtains.fit
+
+  lives_found : found.root pid ≡ Some root
+  lives_found = obtains.frees.pages.root pid ∙ lives
+
   lives_taken : taken.root pid ≡ Some root
-  lives_taken = obtains.beside.root pid ∙ obtains.frees.pages.root pid ∙ lives
+  lives_taken = obtains.beside.root pid ∙ lives_found
 
   apart : (q r : ℕ) → taken.root q ≡ Some r → r ≢ table
-  apart q r e is = loose_table obtains.found taken table obtains.fit.rooted obtains.adds obtains.beside.root q (e ∙ ap (λ x. Some x) is)
+  apart q r e is = loose_table found taken table fit.rooted obtains.adds obtains.beside.root q (e ∙ ap (λ x. Some x) is)
+
+  ne_table : (q r : ℕ) → found.root q ≡ Some r → r ≢ table
+  ne_table q r e = apart q r (obtains.beside.root q ∙ e)
 
   role_linked : (n : ℕ) → role_of new.frames n ≡ role_of taken.frames n
   role_linked n = ap (λ rs. get_or rs n Free) links.kept.roles
@@ -94,21 +97,6 @@ module _ {mode : ℕ} {old taken new : Picture mode} {pid root page table : ℕ}
     | inr ne ↦ inl (table_before old.frames new.frames n (links.kept.frames ∙ gives.count) (role_linked n ∙ only n ne) is_table)
   ]
 
-not_free : (t : FrameTable) (n m : ℕ) (r : Role) → role_of t n ≡ Free → role_of t m ≡ r → r ≢ Free → m ≢ n
-not_free t n m r free is ne e = ne (sym is ∙ ap (role_of t) e ∙ free)
-
--- a frame was obtained, taken for a table, and linked on the way to a mapped page
-module _ {mode : ℕ} {old taken new : Picture mode} {pid root page table : ℕ} (obtains : ObtainsTable old taken table) (lives : old.root pid ≡ Some root)
-    (links : LinksTable taken.frames new.frames (top_level mode) root page table) (beside : SameBeside taken new) where
-  abbrev found : Picture mode
-  found = obtains.found
-
-  fit : IsFit found
-  fit = obtains.fit
-
-  lives_found : found.root pid ≡ Some root
-  lives_found = obtains.frees.pages.root pid ∙ lives
-
   beside_found : SameBeside found new
   beside_found = record {
     slots = beside.slots ∙ obtains.beside.slots;
@@ -120,15 +108,9 @@ module _ {mode : ℕ} {old taken new : Picture mode} {pid root page table : ℕ}
     files = λ f. beside.files f ∙ obtains.beside.files f;
   }
 
-  loose : (q : ℕ) → taken.root q ≢ Some table
-  loose = loose_table found taken table fit.rooted obtains.adds obtains.beside.root
-
-  ne_table : (q r : ℕ) → found.root q ≡ Some r → r ≢ table
-  ne_table q r e is = loose q (obtains.beside.root q ∙ e ∙ ap (λ x. Some x) is)
-
   bytes_linked : (n : ℕ) (r : Role) → role_of found.frames n ≡ r → r ≢ Free → r ≢ Table → bytes_of new.frames n ≡ bytes_of found.frames n
   bytes_linked n r is free table' =
-      let ne = not_free found.frames table n r obtains.adds.takes.was_free is free in
+      let ne : n ≢ table = λ e. free (sym is ∙ ap (role_of found.frames) e ∙ obtains.adds.takes.was_free) in
       links.kept.bytes n (λ t. table' (sym is ∙ sym (obtains.adds.takes.others.roles n ne) ∙ t)) ∙ obtains.adds.takes.others.bytes n ne
 
   entries_linked : (q p : ℕ) → entry new q p ≡ entry found q p
@@ -191,13 +173,7 @@ module _ {mode : ℕ} {old taken new : Picture mode} {pid root page table : ℕ}
       let there : role_of taken.frames n ≡ Private = ap (λ rs. get_or rs n Free) (sym links.kept.roles) ∙ is in
       elim (cases_eq n table) [
         | inl e ↦ (let bad : Private ≡ Table = sym there ∙ ap (role_of taken.frames) e ∙ obtains.adds.takes.kind_set in (cc))
-        | inr ne ↦ no_copy_freed (sym (obtains.adds.takes.others.roles n ne) ∙ there)
-      ]
-    where
-      no_copy_freed : role_of found.frames n ≡ Private → role_of old.frames n ≡ Private
-      no_copy_freed mid = elim (obtains.frees.roles n) [
-        | inl same ↦ sym same ∙ mid
-        | inr freed ↦ (let bad : Free ≡ Private = sym freed.0 ∙ mid in (cc))
+        | inr ne ↦ no_copy_freed obtains.frees n (sym (obtains.adds.takes.others.roles n ne) ∙ there)
       ]
 
   pub missing_taken : missing_of taken.frames (top_level mode) root page ≡ missing_of old.frames (top_level mode) root page
@@ -207,90 +183,48 @@ module _ {M : Type 0} {m : Levels.Ghosts M} {D E : Type 0} (h : Ghosts E) where
   -- none was taken
   pub takes_none : {T : Type 0} (core : Core D E M m) (x : T) → IsFit (picture_of core) → IsReady h core.swap → TakesForTables h core core (Ok x)
   takes_none core x fit swap =
-      let c : Picture m.mode = picture_of core in
-      record {
-        moves = moves_none h core fit swap;
-        pages = record { root = λ q. refl; at = λ q k. refl; views = λ q k. refl; files = record { held = λ p. inl refl; touched = λ p. refl; files = λ f. refl } };
-        bare = λ q k inside none. none;
-        gives = gives_same c;
-        tried = tt;
-        no_copy = λ n is. is;
-        asks = asks_slots_same h core core None Nothing refl;
-        asks_later = no_new_same c None Nothing;
-        full = tt;
-        refuses = tt;
-        short = tt;
-        cause = (refl, refl);
-      }
+      let moves = moves_none h core fit swap in
+      let files = files_same (picture_of core) in
+      let gives = gives_same (picture_of core) in
+      let asks = asks_slots_same h {full = IsFull core.frames} core core None Nothing refl in
+      let later = no_new_same (picture_of core) None Nothing in
+      search rules
 
   -- more were taken after some
   pub takes_then : {S T : Type 0} (a b c : Core D E M m) (x : S) (r : Result T Stall) → TakesForTables h a b (Ok x) → TakesForTables h b c r → TakesForTables h a c r
-  takes_then a b c x (Ok y) first second = record {
-    moves = moves_then h a b c first.moves second.moves;
-    pages = keeps_then (picture_of a) (picture_of b) (picture_of c) first.pages second.pages;
-    bare = bare_then (picture_of a) (picture_of b) (picture_of c) first.bare second.bare;
-    gives = gives_then (picture_of a) (picture_of b) (picture_of c) None first.gives second.gives;
-    tried = tt;
-    no_copy = λ n is. first.no_copy n (second.no_copy n is);
-    asks = asks_slots_then h (IsFull c.frames) a b c None Nothing Nothing (asks_slots_if h (IsFull c.frames) a b None Nothing (full_stays (picture_of b) (picture_of c) None second.gives) first.asks) first.asks_later (λ full. full) second.asks
-        (λ n none. absurd none);
-    asks_later = no_new_then (picture_of a) (picture_of b) (picture_of c) None Nothing Nothing first.asks_later second.asks_later (λ n none. absurd none);
-    full = tt;
-    refuses = tt;
-    short = tt;
-    cause = (second.cause.0 ∙ first.cause.0, second.cause.1 ∙ first.cause.1);
-  }
-  takes_then a b c x (Err s) first second = record {
-    moves = moves_then h a b c first.moves second.moves;
-    pages = keeps_then (picture_of a) (picture_of b) (picture_of c) first.pages second.pages;
-    bare = bare_then (picture_of a) (picture_of b) (picture_of c) first.bare second.bare;
-    gives = tt;
-    tried = (second.tried.0, gives_then (picture_of a) (picture_of b) (picture_of c) second.tried.0 first.gives second.tried.1);
-    no_copy = λ n is. first.no_copy n (second.no_copy n is);
-    asks = asks_slots_then h (IsFull c.frames) a b c None Nothing Nothing (asks_slots_if h (IsFull c.frames) a b None Nothing (λ full. second.full) first.asks) first.asks_later (λ full. full) second.asks
-        (λ n none. absurd none);
-    asks_later = no_new_then (picture_of a) (picture_of b) (picture_of c) None Nothing Nothing first.asks_later second.asks_later (λ n none. absurd none);
-    full = second.full;
-    refuses = second.refuses;
-    short = second.short;
-    cause = stall_then h a b c s first.cause.0 first.cause.1 second.cause;
-  }
+  takes_then a b c x (Ok y) first second =
+      let moves = moves_then h a b c first.moves second.moves in
+      let pages = keeps_then (picture_of a) (picture_of b) (picture_of c) first.pages second.pages in
+      let bare = bare_then (picture_of a) (picture_of b) (picture_of c) first.bare second.bare in
+      let gives = gives_then (picture_of a) (picture_of b) (picture_of c) None first.gives second.gives in
+      let no_copy = λ (n : ℕ) (is : role_of c.frames n ≡ Private). first.no_copy n (second.no_copy n is) in
+      let asks = asks_slots_then h (IsFull c.frames) a b c None Nothing Nothing (asks_slots_if h (IsFull c.frames) a b None Nothing (full_stays (picture_of b) (picture_of c) None second.gives) first.asks) first.asks_later (λ full. full) second.asks
+      (λ n none. absurd none) in
+      let later = no_new_then (picture_of a) (picture_of b) (picture_of c) None Nothing Nothing first.asks_later second.asks_later (λ n none. absurd none) in
+      let refused = second.cause.0 ∙ first.cause.0 in
+      let failed = second.cause.1 ∙ first.cause.1 in
+      search rules
+  takes_then a b c x (Err s) first second =
+      let moves = moves_then h a b c first.moves second.moves in
+      let pages = keeps_then (picture_of a) (picture_of b) (picture_of c) first.pages second.pages in
+      let bare = bare_then (picture_of a) (picture_of b) (picture_of c) first.bare second.bare in
+      let gives = gives_then (picture_of a) (picture_of b) (picture_of c) second.tried.0 first.gives second.tried.1 in
+      let no_copy = λ (n : ℕ) (is : role_of c.frames n ≡ Private). first.no_copy n (second.no_copy n is) in
+      let asks = asks_slots_then h (IsFull c.frames) a b c None Nothing Nothing (asks_slots_if h (IsFull c.frames) a b None Nothing (λ full. second.full) first.asks) first.asks_later (λ full. full) second.asks
+      (λ n none. absurd none) in
+      let later = no_new_then (picture_of a) (picture_of b) (picture_of c) None Nothing Nothing first.asks_later second.asks_later (λ n none. absurd none) in
+      let cause = stall_then h a b c s first.cause.0 first.cause.1 second.cause in
+      search rules
 
   -- whatever was returned with them
   pub takes_done : {S T : Type 0} (a b : Core D E M m) (x : S) (y : T) → TakesForTables h a b (Ok x) → TakesForTables h a b (Ok y)
-  takes_done a b x y takes = record {
-    moves = takes.moves;
-    pages = takes.pages;
-    bare = takes.bare;
-    gives = takes.gives;
-    tried = tt;
-    no_copy = takes.no_copy;
-    asks = takes.asks;
-    asks_later = takes.asks_later;
-    full = tt;
-    refuses = tt;
-    short = tt;
-    cause = takes.cause;
-  }
+  takes_done a b x y takes = search rules
 
   -- a stall that is handed on
   pub takes_stall : {S T : Type 0} (a b : Core D E M m) (stall : Stall) (r : Result T Stall) → IsErrAnd r (λ e. e ≡ stall) → TakesForTables h {T = S} a b (Err stall) → TakesForTables h a b r
   takes_stall a b stall (Ok y) is takes = absurd is
   takes_stall {S} {T} a b stall (Err e) is takes =
-      subst (λ (s : Stall). TakesForTables h {T = T} a b (Err s)) (sym is) (record {
-        moves = takes.moves;
-        pages = takes.pages;
-        bare = takes.bare;
-        gives = tt;
-        tried = takes.tried;
-        no_copy = takes.no_copy;
-        asks = takes.asks;
-        asks_later = takes.asks_later;
-        full = takes.full;
-        refuses = takes.refuses;
-        short = takes.short;
-        cause = takes.cause;
-      })
+      subst (λ (s : Stall). TakesForTables h {T = T} a b (Err s)) (sym is) (search rules)
 
 -- a stall that is handed on returns nothing
 pub nothing_on : {T : Type 0} (r : Result T Stall) (stall : Stall) (X : Type 0) → IsErrAnd r (λ e. e ≡ stall) → OnOk r X

@@ -1,5 +1,5 @@
 -- A process without a page has those of another.
-use Rattle.lifecycle.proofs.Names.{top_level, names, uses, Attr, ◌≡◌, ◌≢◌, ◌==◌, if◌then◌else◌, eq-eqb, ne_eqb, ℕ, inl, inr, List, Option, Some, None, refl, sym, ap, ◌∙◌, cases_eq, bytes_of, IsPage, Run, attr_at, Seat, InFrame, InSlot}
+use Rattle.lifecycle.proofs.Names.{top_level, names, uses, Attr, ◌≡◌, ◌≢◌, ◌==◌, if◌then◌else◌, eq-eqb, ne_eqb, ℕ, inl, inr, List, Option, Some, None, refl, sym, ap, ◌∙◌, cases_eq, bytes_of, IsPage, Run, attr_at}
 use Rattle.lifecycle.proofs.Names.{seat, Picture, entry, view, view_of, own_in, bytes_in, AreObjects, IsFit, Remaps, user_map-same, readable-same, view_seated, held_same, entries_remapped, fit_mapped, unmapped_zero}
 use Rattle.lifecycle.specs.Changes.{MapsAlike}
 
@@ -24,10 +24,6 @@ module _ {mode : ℕ} where
 
 module _ {mode : ℕ} (old new : Picture mode) (runs : List Run) (parent child : ℕ) (fit : IsFit old) (apart : parent ≢ child) (empty : (page : ℕ) → view old child page ≡ None)
     (there : (page : ℕ) → attr_at runs page ≡ old.at parent page) (remaps : Remaps old new child) (here : (page : ℕ) → new.at child page ≡ attr_at runs page) where
-  seat_bytes : (z : Seat) → bytes_in new.frames new.slots z ≡ bytes_in old.frames old.slots z
-  seat_bytes (InFrame n) = ap (λ t. bytes_of t n) remaps.frames
-  seat_bytes (InSlot k) = ap (λ t. t.bytes k) remaps.slots
-
   bare : (page : ℕ) → IsPage (top_level mode) page → entry old child page ≡ 0
   bare page h = bare_page old child page fit (unmapped_view old child page (empty page)) h
 
@@ -61,7 +57,7 @@ module _ {mode : ℕ} (old new : Picture mode) (runs : List Run) (parent child :
           same = λ page. here page ∙ there page ∙ sym (remaps.others parent page apart);
           bare = λ page h. entries child page ∙ bare page h;
           entries = entries;
-          views = λ q page ne. view_seated old new q page (remaps.others q page ne) (ap seat (entries q page)) (λ z is. seat_bytes z);
+          views = λ q page ne. view_seated old new q page (remaps.others q page ne) (ap seat (entries q page)) (λ z is. ap (λ t. bytes_in t new.slots z) remaps.frames ∙ ap (λ s. bytes_in old.frames s z) remaps.slots);
           files = record {
             held = λ p. inl (held_same old new p (remaps.place p) remaps.slots (λ m at. ap (λ t. bytes_of t m) remaps.frames));
             touched = remaps.touched;

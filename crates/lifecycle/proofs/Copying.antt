@@ -1,5 +1,5 @@
 -- A process comes that is a copy of another.
-use Rattle.lifecycle.proofs.{Alike.{bare_page}, Copies.{seat_some}, Keeping.{live_same, files_then}, Names.{user_pages_fit, user_end, top_level, has_own, Attr, Stall, ◌≡◌, ◌≢◌, ℕ, inl, inr, ◌⊎◌, ◌<◌, ◌≤◌, true, false, List, Option, Some}}
+use Rattle.lifecycle.proofs.{Alike.{bare_page}, Copies.{seat_some}, Keeping.{live_same}, Names.{keeps_files_then, user_pages_fit, user_end, top_level, has_own, Attr, Stall, ◌≡◌, ◌≢◌, ℕ, inl, inr, ◌⊎◌, ◌<◌, ◌≤◌, true, false, List, Option, Some}}
 use Rattle.lifecycle.proofs.Names.{None, refl, sym, ap, ◌∙◌, subst, arith, cases_eq, cases_lt, cases_Bool, false≢true, option_map, IfErr, IsErrAnd, Result, Err, IsPage, missing_of, is_valid, can_write, has_bit, frame_of, InFrame, InSlot}
 use Rattle.lifecycle.proofs.Names.{seat, is_private, is_swapped, Picture, is_live, entry, view, view_of, own_in, bytes_in, IsFit, IsGranting, KeepsPages, IsShort, KeepsFiles, cases_attr, view-none, seat-none, KeepsBare, KeepsRoom}
 use Rattle.lifecycle.{proofs.{Names.{KeepsTables, room_then}, Shortage.{short_alike}, Weaker.{seat_lowered, weakened}}, specs.Changes.{AddsProcess, RemovesProcess, KeepsProcesses, MapsAlike, TakesRoot, SharesCopies, KeepsBareOfOthers}}
@@ -37,7 +37,7 @@ readied old spawned mapped mid parent child apart dead unmapped added bare files
   same = λ page. keeps.at child page ∙ maps.same page ∙ sym (keeps.at parent page);
   bare = λ page h. bare' child page h (maps.bare page h);
   kept_bare = λ q page h none. bare' q page h (maps.entries q page ∙ bare q page h none);
-  files = files_then old spawned mid files (files_then spawned mapped mid maps.files keeps.files);
+  files = keeps_files_then old spawned mid files (keeps_files_then spawned mapped mid maps.files keeps.files);
   room = room_then old spawned mid room (room_then spawned mapped mid room' room'');
 }
 

@@ -3,7 +3,7 @@ use Rattle.vm_types.specs.declared.mode.Levels as Levels
 use Rattle.lifecycle.proofs.{Keeping.{live_same}, Names.{user_end, top_level, ObjectPage, Object, Attr, names, is_named, in_row, ◌≡◌, ◌≢◌, ℕ, zero, suc, inl, inr, ◌⊎◌, ◌≤◌, ◌<◌, ◌^◌, Option, Some, None, true, refl, sym, ap, ◌∙◌}}
 use Rattle.lifecycle.proofs.Names.{subst, arith, eq-eqb, ne_eqb, cases_eq, cases_Bool, false≢true, is_some, IsSome, user_pages_fit, sizes, Home, Ghosts, Role, Free, Table, Private, Cache, FrameTable, bytes_of, role_of, entry_at, is_pointer}
 use Rattle.lifecycle.proofs.Names.{frame_of, index_of, IsPage, IsTable, Points, IsSpare, Way, IsBelowRoot, last_table, missing_of, cases_bool, only_way, way_forth, missing_of-is, last_entry-is, root_field, SlotTable, IsReady, Core, Seat}
-use Rattle.lifecycle.proofs.Names.{InFrame, InSlot, seat, Picture, picture_of, view, bytes_in, IsOwned, IsFit, IsUsed, AsRoot, OnWay, Exits, KeepsFiles, entries_left, fit_left, view-none, view_seated, held_same, cases_attr, ready_released}
+use Rattle.lifecycle.proofs.Names.{seat, Picture, picture_of, view, bytes_in, IsOwned, IsFit, IsUsed, AsRoot, OnWay, Exits, KeepsFiles, entries_left, fit_left, view-none, view_seated, held_same, cases_attr, bytes_same, ready_released}
 use Rattle.lifecycle.{proofs.Names.{one_some, row_out, named-imp, IsRowRemapped, KeepsNamed, without_maps, KeepsDevices, KeepsEntriesOfOthers, LosesSlots, IsMappedBeside, IsWithoutTables, last_at-stop}, specs.Changes.{RemovesProcess}}
 use Rattle.{lifecycle.specs.Changes.{FreesTables, TakesNoFrame}, std.specs.Prelude.{◌*◌}}
 
@@ -75,8 +75,7 @@ module _ {mode : ℕ} (old new : Picture mode) (pid r : ℕ) (fit : IsFit old) (
   bytes_kept n kind is ne = exits.frames.bytes n (other_frame old.frames r n Table kind exits.spare.table.role ne is)
 
   seat_bytes : (z : Seat) → IsOwned old z → bytes_in new.frames new.slots z ≡ bytes_in old.frames old.slots z
-  seat_bytes (InFrame n) is = bytes_kept n Private is (λ e. (cc))
-  seat_bytes (InSlot k) is = ap (λ t. t.bytes k) exits.slots
+  seat_bytes = bytes_same old new exits.slots (λ n is. bytes_kept n Private is (λ e. (cc)))
 
   others_seen : (q page : ℕ) → q ≢ pid → view new q page ≡ view old q page
   others_seen q page ne = elim (cases_attr (old.at q page)) [

@@ -1,7 +1,7 @@
 -- One page given to the child.
 use Rattle.lifecycle.proofs.Names.{top_level, Attr, ◌≡◌, ◌≢◌, ℕ, inl, inr, ◌⊎◌, ◌+◌, ◌<◌, ◌≤◌, true, false, Option, Some, None, get_or, refl, sym, ap, ◌∙◌, subst, arith, cases_Bool, same_Some, option_map, Free, Table, Private, is_valid}
 use Rattle.lifecycle.proofs.Names.{frame_of, SetsEntry, KeepsFrames, IsPage, Seat, InFrame, InSlot, seat, is_private, is_swapped, Picture, entry, view, view_of, own_in, bytes_in, IsOwned, count_in, page_in, IsRootedBut, IsEntryFor, IsFit}
-use Rattle.lifecycle.proofs.Names.{IsFitBut, nowhere, SameBeside, SetsPage, entry_for-same, granting_changed, behind_kept, owned_forth, owned_back, count_kept, page_kept, places_same, dirty_changed, cases_seat, counted_filled, off-none}
+use Rattle.lifecycle.proofs.Names.{IsFitBut, nowhere, SameBeside, SetsPage, entry_for-same, behind_kept, owned_forth, owned_back, count_kept, page_kept, set_by, bytes_same, cases_seat, counted_filled, off-none}
 use Rattle.lifecycle.{proofs.Names.{other_views, set_held, seat-none, sets_page, rooted_set, seat_own, tables_same, tables_then, room_then, but_memory, but_then}, specs.Shares.{lowered_entry, given_entry, Withdraws, RaisesSeat, SharesRow}}
 
 -- tables alone were written
@@ -41,30 +41,17 @@ module _ {mode : ℕ} (old new : Picture mode) (parent child page e : ℕ) (y : 
   not_common valid common = let none : seat e ≡ None = rw (common, valid) refl in let bad : None ≡ Some y = sym none ∙ is in (cc)
 
   pub fit_given : IsFit new
-  fit_given = record {
-    counted = (
-      fit.counted.0,
-      counted_filled mode (entry old) (entry new) (IsOwned old) (IsOwned new) (count_in old) (count_in new) (page_in old fit.counted.0) (page_in new fit.counted.0)
-          y child page fit.counted.1 (owned_forth old new sets.beside sets.shares) (owned_back old new sets.beside sets.shares) (count_kept old new sets.beside sets.shares)
-          (λ z there. page_kept old new fit.counted.0 sets.beside z) has (fit.counted.1.noted parent page y h from) h below (ap seat bare ∙ seat-none)
-          (ap seat sets.changed ∙ is) sets.others nowhere (off-none nowhere),
-    );
-    rooted = rooted;
-    granting = granting_changed old new child page fit.granting (behind_kept old new sets.beside)
-        (λ q p h' private one. sets.shares.counts (frame_of (entry old q p)) (fit.counted.1.named q p (InFrame (frame_of (entry old q p))) h' (rw private refl)) ∙ one)
-        sets.beside.at sets.others (subst (λ (x : ℕ). IsEntryFor new (old.at child page) x) (sym sets.changed) for);
-    places = places_same old new fit.places sets.beside.place sets.beside.at sets.beside.files sets.beside.slots sets.shares.cache sets.shares.was_cache;
-    dirty = dirty_changed old new child page fit.dirty sets.beside.place sets.beside.touched sets.others
-        (λ p valid common bit here. absurd (not_common (sym (ap is_valid sets.changed) ∙ valid) (sym (ap is_private sets.changed) ∙ common)));
-  }
-
-  bytes_same : (z : Seat) → IsOwned old z → bytes_in new.frames new.slots z ≡ bytes_in old.frames old.slots z
-  bytes_same (InFrame n) own = sets.bytes n (λ t. (let bad : Private ≡ Table = sym own ∙ t in (cc)))
-  bytes_same (InSlot k) own = ap (λ t. t.bytes k) sets.beside.slots
+  fit_given = set_by old new child page e 0 sets for rooted (λ p valid common bit at. absurd (not_common valid common)) y nowhere 1 0 fit (
+    fit.counted.0,
+    counted_filled mode (entry old) (entry new) (IsOwned old) (IsOwned new) (count_in old) (count_in new) (page_in old fit.counted.0) (page_in new fit.counted.0)
+        y child page fit.counted.1 (owned_forth old new sets.beside sets.shares) (owned_back old new sets.beside sets.shares) (count_kept old new sets.beside sets.shares)
+        (λ z there. page_kept old new fit.counted.0 sets.beside z) has (fit.counted.1.noted parent page y h from) h below (ap seat bare ∙ seat-none)
+        (ap seat sets.changed ∙ is) sets.others nowhere (off-none nowhere),
+  )
 
   pub shown_given : view new child page ≡ view old parent page
   shown_given = view_alike old new parent child page (sets.beside.at child page ∙ alike)
-      (ap (λ o. option_map (bytes_in new.frames new.slots) o) (ap seat sets.changed ∙ is) ∙ ap (λ b. Some b) (bytes_same y has)
+      (ap (λ o. option_map (bytes_in new.frames new.slots) o) (ap seat sets.changed ∙ is) ∙ ap (λ b. Some b) (bytes_same old new sets.beside.slots (λ n own. sets.bytes n (λ t. (let bad : Private ≡ Table = sym own ∙ t in (cc)))) y has)
       ∙ sym (ap (λ o. option_map (bytes_in old.frames old.slots) o) from))
 
 -- what the steps on one page leave

@@ -1,6 +1,6 @@
 -- What steps keep of the processes and of the files.
 use Rattle.lifecycle.proofs.Names.{◌≡◌, ℕ, inl, inr, Option, Some, None, false, refl, sym, ap, ◌∙◌, subst, false≢true, PageKey, FrameNo, is_some, Free, Private, FrameTable, frame_count, role_of, Points, Picture, is_live, entry, KeepsPages}
-use Rattle.lifecycle.{proofs.Names.{Frees, Same, GivesForTables, KeepsFiles, keeps_files_then}, specs.Changes.{KeepsProcesses, TakesNoCopy}}
+use Rattle.lifecycle.{proofs.Names.{Frees, Same, GivesForTables}, specs.Changes.{KeepsProcesses, TakesNoCopy}}
 
 -- whether a process lives
 pub live_same : {mode : ℕ} (old new : Picture mode) (pid : ℕ) → new.root pid ≡ old.root pid → is_live new pid ≡ is_live old pid
@@ -12,10 +12,6 @@ dead_root (Some r) dead = absurd (false≢true (sym dead))
 
 pub pages_kept : {mode : ℕ} (old new : Picture mode) → KeepsPages old new → KeepsProcesses old new
 pages_kept old new pages = record { live = λ pid. live_same old new pid (pages.root pid); views = pages.views }
-
--- the files after one step and another
-pub files_then : {mode : ℕ} (a b c : Picture mode) → KeepsFiles a b → KeepsFiles b c → KeepsFiles a c
-files_then a b c p q = keeps_files_then a b c p q
 
 -- a frame that is given up is no process's own
 pub no_copy_freed : {mode : ℕ} (old new : Picture mode) (keep : Option FrameNo) → Frees old new keep → TakesNoCopy old.frames new.frames

@@ -7,14 +7,14 @@ pub use Rattle.{frames.specs.{FrameTable.{IsCountFor, IsFrame}, declared.role.Ro
 pub use Rattle.{page_cache.specs.declared.place.Place.{Place, TheVariants.{Home, Frame, Slot}}, page_tables.proofs.{Bits.{parked_private, parked_framed, parked_frame}, Data.{KeepsTrees, data_shared}, Ends.{way_forth, last_entry-is}}}
 pub use Rattle.page_tables.{proofs.{Ends.{missing_of-is, page_is_entry}, Fields.{root_field}, Places.{row_stays, row_same}, Ways.{cases_bool, last_at-stop, last_table-stop, only_way}}, specs.Change.{KeepsFrames, SetsEntry}}
 pub use Rattle.page_tables.specs.{Entry.{number_of, IsEntry, IsPageEntry}, Places.{IsTableOf}, Tree.{IsPage, missing_of, Way, last_table, IsTable, Points, IsSpare, IsBelowRoot, page_entry, IsForest, IsRoot}, declared.forms.Entry.{Entry}}
-pub use Rattle.{page_tables.specs.declared.forms.Entry.TheVariants.{Parked, Swapped, Leaf}, ranges.proofs.{BetweenEntries.{place_at, row_at, none_passed, none_at}, ClearedPages.{but_then, but_memory, rest-refl, rest_then, same_beside}}}
+pub use Rattle.{page_tables.specs.declared.forms.Entry.TheVariants.{Parked, Swapped, Leaf}, ranges.proofs.{BetweenEntries.{same_table, place_at, row_at, none_passed, none_at}, ClearedPages.{but_then, but_memory, rest-refl, rest_then, same_beside}}}
 pub use Rattle.ranges.proofs.{ClearedPages.{one_page, returned_any}, ClearedPlaces.{past}, Emptied.{unmapped_zero, row_out, low_zero}, Forgotten.{IsRowRemapped, none_left_forgot, row_forgot}, Gaps.{missing_same}, LastName.{away_or}}
-pub use Rattle.ranges.{proofs.{Named.{named-imp}, Returning.{not_away, same_but-refl}, Sharing.{sits, sits_none, inside_memory, private_used}}, specs.{Rows.{KeepsNamed, without_maps, IsLasting}, Steps.{IsMappedBeside, IsWithoutTables}}}
+pub use Rattle.ranges.{proofs.{Named.{named-imp}, Returning.{not_away, same_but-refl}, Sharing.{sits, sits_none, private_used}}, specs.{Rows.{KeepsNamed, without_maps, IsLasting}, Steps.{IsMappedBeside, IsWithoutTables}}}
 pub use Rattle.{ranges.specs.Steps.{KeepsEntriesOfOthers, LosesSlots, KeepsDevices, ReturnsTables}, regions.{proofs.ResultLemmas.{on_err}, specs.{RunList.{attr_at}, declared.run.Run.{Run}}}, residency.proofs.Aging.{gives_then, ages_map}}
 pub use Rattle.residency.proofs.{Counts.{count-sole, count-most, count-same}, Entries.{entry-of, entries_kept, entry-same}, Evicted.{seat_number}, Exiting.{entries_left, fit_left}, Granting.{user_map-same, readable-same, granting_changed}}
-pub use Rattle.residency.proofs.{Granting.{entry_for-same, KeepsBehind, past_end-same, granting_same}, LeafSteps.{cases_attr}, Leaving.{home_held}, Moves.{view-none, page_kept, count_kept, behind_kept, owned_back, owned_forth}}
-pub use Rattle.residency.proofs.{Places.{places_same, dirty_changed, dirty_same}, Puts.{SameButSlots}, Putting.{with_slots}, Rooted.{rooted_frames, rooted_same}, SeatForms.{away_seat, seat_own, seat_common, bit_clear}, Seats.{off-none}}
-pub use Rattle.residency.proofs.{Seats.{counted_filled, cases_seat, counted_shared, holders_none}, Setting.{held_same, view_seated, set_held, other_views, fit_set, set_views, each_view}, Start.{no_bit, seat-none, entry-dead, cases_some}}
+pub use Rattle.residency.proofs.{Granting.{entry_for-same, KeepsBehind, past_end-same, granting_same, granting_by}, LeafSteps.{cases_attr}, Leaving.{home_held}, Moves.{bytes_same, set_by, view-none, page_kept, count_kept, behind_kept, owned_back, owned_forth}}
+pub use Rattle.residency.proofs.{Places.{places_same, dirty_changed, dirty_same}, Puts.{SameButSlots, fit_slots, slots_forth, slots_back, slots_counts, slots_pages}, Putting.{with_slots}, Rooted.{rooted_frames, rooted_same}, SeatForms.{away_seat, seat_own, seat_common, bit_clear}, Seats.{off-none}}
+pub use Rattle.residency.proofs.{Seats.{counted_filled, cases_seat, counted_shared, holders_none}, Setting.{held_by, held_same, view_seated, set_held, other_views, fit_set, set_views, each_view}, Start.{no_bit, seat-none, entry-dead, cases_some}}
 pub use Rattle.residency.{proofs.{TableSteps.{rooted_set, sets_page}, Tables.{sum-below}}, specs.{Ages.{GivesForTables, Same, KeepsRoles, KeepsRolesBut, Cleared, Left, Ages, IsGiven}, Calls.{KeepsBesideProcesses, ObtainsTable, KeepsPages}}}
 pub use Rattle.residency.specs.{Calls.{Frees, Refuses, UsesDevice}, Capacity.{touched_file, stored_object}, Parts.{AreObjects, IsFit, Nothing, IsMapped, IsGranting, IsEntryFor, Resident, Away, OnWay, IsUsed, AsRoot, IsRootedBut, IsFitBut}}
 pub use Rattle.residency.specs.{Parts.{nowhere, IsBehind}, Picture.{bytes_in, view_of, Picture, entry, own_in, picture_of, is_live, IsOwned, number_of_frame, page_in, count_in, bytes_at, is_data, attr_where, root_in}, Seats.{InFrame}}

@@ -1,8 +1,8 @@
 -- One more shares a frame or a slot, for which no entry names it yet: no process sees that.
-use Rattle.lifecycle.proofs.Names.{top_level, File, Object, PageKey, Attr, Backing, ◌≡◌, ◌≢◌, ℕ, inl, inr, ◌<◌, ◌≤◌, true, [], Option, Some, get_or, refl, sym, ap, ◌∙◌, subst, arith, cases_eq, false≢true, Free, Table, Private, FrameTable}
-use Rattle.lifecycle.proofs.Names.{bytes_of, role_of, count_of, Shares, SlotTable, IsInUse, is_valid, can_write, frame_of, KeepsTrees, data_shared, row_same, Place, Slot, Seat, InFrame, InSlot, seat, is_private, Picture, entry, held}
-use Rattle.lifecycle.proofs.Names.{bytes_at, bytes_in, IsOwned, count_in, page_in, IsEntryFor, Nothing, Resident, Away, IsBehind, IsGranting, IsFit, IsFitBut, nowhere, SameBeside, entries_kept, KeepsBehind, past_end-same, user_map-same}
-use Rattle.lifecycle.proofs.Names.{readable-same, granting_same, behind_kept, places_same, dirty_same, SameButSlots, with_slots, rooted_same, rooted_frames, counted_shared, each_view, view_seated, held_same, seat_own, same_with}
+use Rattle.lifecycle.proofs.Names.{top_level, File, Object, Attr, Backing, ◌≡◌, ◌≢◌, ℕ, inl, inr, ◌<◌, ◌≤◌, true, [], Option, Some, get_or, refl, sym, ap, ◌∙◌, subst, arith, cases_eq, false≢true, Free, Table, Private, FrameTable}
+use Rattle.lifecycle.proofs.Names.{bytes_of, role_of, count_of, Shares, SlotTable, IsInUse, is_valid, can_write, frame_of, KeepsTrees, data_shared, row_same, Slot, Seat, InFrame, InSlot, seat, is_private, Picture, entry}
+use Rattle.lifecycle.proofs.Names.{bytes_in, IsOwned, count_in, page_in, IsEntryFor, Nothing, Resident, Away, IsBehind, IsFit, IsFitBut, nowhere, SameBeside, entries_kept, KeepsBehind, past_end-same, entry_for-same}
+use Rattle.lifecycle.proofs.Names.{granting_by, bytes_same, held_by, page_kept, fit_slots, slots_forth, slots_back, slots_counts, slots_pages, behind_kept, places_same, dirty_same, SameButSlots, with_slots, rooted_same, counted_shared, each_view, view_seated, held_same, seat_own, same_with}
 use Rattle.lifecycle.{proofs.Names.{tables_same}, specs.Shares.{IsUnwritten, RaisesSeat}}
 use Rattle.vm_types.specs.declared.region.Backing.TheVariants as Backings
 use Rattle.swap.specs.Slots as Slots
@@ -29,12 +29,7 @@ entry_for-leaf old new attr e kept count (Resident a is resident) = Resident a i
     common = leaf.common;
   });
 })
-entry_for-leaf old new attr e kept count (Away a is away) = Away a is (record {
-  swapped = away.swapped;
-  common = away.common;
-  inside = past_end-same old new a.backing kept.files ∙ away.inside;
-  not_shared = away.not_shared;
-})
+entry_for-leaf old new attr e kept count (Away a is away) = entry_for-same old new attr e kept (λ private write one. absurd (false≢true (sym away.common ∙ private))) (Away a is away)
 
 -- a frame
 module _ {mode : ℕ} (old : Picture mode) (n : ℕ) (fit : IsFit old) (own : role_of old.frames n ≡ Private) (unwritten : IsUnwritten old (InFrame n)) (t : FrameTable) (shares : Shares old.frames t n) where
@@ -68,41 +63,23 @@ module _ {mode : ℕ} (old : Picture mode) (n : ℕ) (fit : IsFit old) (own : ro
   counts (InFrame m) ne = shares.others.counts m (λ e. ne (ap (λ i. InFrame i) e))
   counts (InSlot k) ne = refl
 
-  pages : (sp : ℕ → ℕ) (z : Seat) → page_in new sp z ≡ page_in old sp z
-  pages sp (InFrame m) = refl
-  pages sp (InSlot k) = refl
-
-  granting : IsGranting new
-  granting = record {
-    entries = λ q p h. (
-        let here = entry_for-leaf old new (old.at q p) (entry old q p) (behind_kept old new beside)
-        (λ valid private write one. elim (cases_eq (frame_of (entry old q p)) n) [
-          | inl is ↦ absurd (false≢true (sym (unwritten q p h (seat_own (entry old q p) private ∙ ap (λ i. Some (InFrame i)) is) valid) ∙ write))
-          | inr ne ↦ shares.others.counts (frame_of (entry old q p)) ne ∙ one
-        ])
-        (fit.granting.entries q p h) in
-        rw (entries q p) here);
-    user = λ q. user_map-same mode (old.at q) (new.at q) (λ p. refl) (fit.granting.user q);
-    readable = λ q. readable-same (old.at q) (new.at q) (λ p. refl) (fit.granting.readable q);
-    objects = fit.granting.objects;
-  }
-
   pub fit_frame : IsFitBut new (InFrame n) 1 0
   fit_frame = record {
     counted = (
       fit.counted.0,
       counted_shared mode (entry old) (entry new) (IsOwned old) (IsOwned new) (count_in old) (count_in new) (page_in old fit.counted.0) (page_in new fit.counted.0)
-          (λ q p h. ap seat (entries q p)) (InFrame n) nowhere fit.counted.1 forth back (λ z ne is. counts z ne) (λ z is. pages fit.counted.0 z) shares.raised,
+          (λ q p h. ap seat (entries q p)) (InFrame n) nowhere fit.counted.1 forth back (λ z ne is. counts z ne) (λ z is. page_kept old new fit.counted.0 beside z) shares.raised,
     );
     rooted = rooted_same old new 0 fit.rooted trees (λ q. refl) (λ q p. refl);
-    granting = granting;
+    granting = granting_by old new fit.granting (λ q p. refl) (λ q p h. rw (entries q p) (entry_for-leaf old new (old.at q p) (entry old q p) (behind_kept old new beside)
+        (λ valid private write one. elim (cases_eq (frame_of (entry old q p)) n) [
+          | inl is ↦ absurd (false≢true (sym (unwritten q p h (seat_own (entry old q p) private ∙ ap (λ i. Some (InFrame i)) is) valid) ∙ write))
+          | inr ne ↦ shares.others.counts (frame_of (entry old q p)) ne ∙ one
+        ])
+        (fit.granting.entries q p h)));
     places = places_same old new fit.places (λ p. refl) (λ q k. refl) (λ f. refl) refl (λ m e. roles m ∙ e) (λ m e. sym (roles m) ∙ e);
     dirty = dirty_same old new fit.dirty (λ p. refl) (λ p. refl) (λ q p h. entries q p);
   }
-
-  seat_bytes : (z : Seat) → bytes_in new.frames new.slots z ≡ bytes_in old.frames old.slots z
-  seat_bytes (InFrame m) = bytes m
-  seat_bytes (InSlot k) = refl
 
   pub raises_frame : RaisesSeat old new (InFrame n)
   raises_frame = record {
@@ -110,7 +87,8 @@ module _ {mode : ℕ} (old : Picture mode) (n : ℕ) (fit : IsFit old) (own : ro
     room = record { frames = shares.others.frames; slots = refl };
     roles = roles;
     entries = entries;
-    views = λ q p. view_seated old new q p refl (ap seat (entries q p)) (λ z is. seat_bytes z);
+    views = λ q p. each_view old new fit.granting (λ q' p'. refl) q p (λ h. view_seated old new q p refl (ap seat (entries q p))
+        (λ z is. bytes_same old new refl (λ m own. bytes m) z (fit.counted.1.named q p z h is)));
     held = λ p. held_same old new p refl refl (λ m at. bytes m);
     tables = tables_same old new (λ q r p e. trees.missing r p (fit.rooted.roots q r e));
     rows = λ q r row m lives here. (
@@ -142,44 +120,17 @@ module _ {mode : ℕ} (old : Picture mode) (k : ℕ) (fit : IsFit old) (own : Is
     | inr ne ↦ (let c = shares.others.counts j ne in omega (arith, c, used))
   ]
 
-  slot_forth : (z : Seat) → IsOwned old z → IsOwned now z
-  slot_forth (InFrame m) is = is
-  slot_forth (InSlot j) is = ((let m = more j in let some = is.0 in omega (arith, m, some)), is.1)
-
-  slot_back : (z : Seat) → IsOwned now z → IsOwned old z
-  slot_back (InFrame m) is = is
-  slot_back (InSlot j) is = (used_before j is.0, is.1)
-
   slot_counts : (z : Seat) → z ≢ InSlot k → count_in now z ≡ count_in old z
-  slot_counts (InFrame m) ne = refl
-  slot_counts (InSlot j) ne = shares.others.counts j (λ e. ne (ap (λ i. InSlot i) e))
-
-  slot_pages : (sp : ℕ → ℕ) (z : Seat) → page_in now sp z ≡ page_in old sp z
-  slot_pages sp (InFrame m) = refl
-  slot_pages sp (InSlot j) = refl
+  slot_counts z ne = slots_counts old now same z (λ j at. shares.others.counts j (λ e. ne (at ∙ ap (λ i. InSlot i) e)))
 
   pub fit_slot : IsFitBut now (InSlot k) 1 0
-  fit_slot = record {
-    counted = (
-      fit.counted.0,
-      counted_shared mode (entry old) (entry now) (IsOwned old) (IsOwned now) (count_in old) (count_in now) (page_in old fit.counted.0) (page_in now fit.counted.0)
-          (λ q p h. ap seat (same.entries q p)) (InSlot k) nowhere fit.counted.1 slot_forth slot_back (λ z ne is. slot_counts z ne) (λ z is. slot_pages fit.counted.0 z) shares.raised,
-    );
-    rooted = rooted_frames old now 0 fit.rooted refl (λ q. refl) (λ q p. refl);
-    granting = granting_same old now fit.granting (record { place = λ p n e. e; files = λ f. refl }) (λ q p h private one. one) (λ q p. refl) (λ q p h. same.entries q p);
-    places = record {
-      cached = fit.places.cached;
-      held = fit.places.held;
-      apart = fit.places.apart;
-      slotted = λ p j e. elim (cases_eq j k) [
-        | inl is ↦ absurd (own.1 p (e ∙ ap (λ i. Slot (record { 0 = i })) is))
-        | inr ne ↦ shares.others.counts j ne ∙ fit.places.slotted p j e
-      ];
-      used = λ j some. elim (fit.places.used j (used_before j some)) [ inl is ↦ inl (some, is.1) | inr file ↦ inr file ];
-      inside = fit.places.inside;
-    };
-    dirty = dirty_same old now fit.dirty (λ p. refl) (λ p. refl) (λ q p h. same.entries q p);
-  }
+  fit_slot = fit_slots old now nowhere (InSlot k) 0 1 0 fit same (
+    fit.counted.0,
+    counted_shared mode (entry old) (entry now) (IsOwned old) (IsOwned now) (count_in old) (count_in now) (page_in old fit.counted.0) (page_in now fit.counted.0)
+        (λ q p h. ap seat (same.entries q p)) (InSlot k) nowhere fit.counted.1 (λ z. slots_forth old now same z (λ j at some. (let m = more j in omega (arith, m, some))))
+        (λ z. slots_back old now same z (λ j at. used_before j)) (λ z ne is. slot_counts z ne) (λ z is. slots_pages old now same fit.counted.0 fit.counted.0 z (λ j at. refl)) shares.raised,
+  )
+      (λ p j there. shares.others.counts j (λ is. own.1 p (there ∙ ap (λ i. Slot (record { 0 = i })) is))) (λ j some. inl (used_before j some))
 
   slot_bytes : (j : ℕ) → IsInUse old.slots j → t.bytes j ≡ old.slots.bytes j
   slot_bytes j used = elim (cases_eq j k) [ inl e ↦ ap t.bytes e ∙ shares.bytes_kept ∙ ap old.slots.bytes (sym e) | inr ne ↦ shares.others.bytes j ne used ]
@@ -187,14 +138,6 @@ module _ {mode : ℕ} (old : Picture mode) (k : ℕ) (fit : IsFit old) (own : Is
   seen_bytes : (z : Seat) → IsOwned old z → bytes_in now.frames now.slots z ≡ bytes_in old.frames old.slots z
   seen_bytes (InFrame m) is = refl
   seen_bytes (InSlot j) is = slot_bytes j is.0
-
-  place_bytes : (p : PageKey) (x : Place) → old.place p ≡ x → bytes_at now.frames now.slots x ≡ bytes_at old.frames old.slots x
-  place_bytes p (Slot j) at = ap (λ (w : _). Some w) (slot_bytes j.0 (let one = fit.places.slotted p j.0 at in omega (arith, one)))
-  place_bytes p x at = refl
-
-  slot_held : (p : PageKey) → held now p ≡ held old p
-  unfolding held
-  slot_held p = place_bytes p (old.place p) refl
 
   pub raises_slot : RaisesSeat old now (InSlot k)
   raises_slot = record {
@@ -204,7 +147,7 @@ module _ {mode : ℕ} (old : Picture mode) (k : ℕ) (fit : IsFit old) (own : Is
     entries = same.entries;
     views = λ q p. each_view old now fit.granting (λ q' p'. refl) q p (λ h. view_seated old now q p refl (ap seat (same.entries q p))
         (λ z is. seen_bytes z (fit.counted.1.named q p z h is)));
-    held = slot_held;
+    held = λ p. held_by old now p refl (λ m at. refl) (λ j at. slot_bytes j (let one = fit.places.slotted p j at in omega (arith, one)));
     tables = tables_same old now (λ q r p e. refl);
     rows = λ q r row m lives here. here;
     raised = shares.raised;

@@ -1,7 +1,7 @@
 -- How the steps of the second pass add up.
 use Rattle.vm_types.specs.declared.mode.Levels as Levels
-use Rattle.lifecycle.proofs.Names.{top_level, ◌≡◌, ◌≢◌, ℕ, inr, ◌<◌, ◌≤◌, None, refl, sym, ap, ◌∙◌, arith, is_some, IsPage, Core, seat, Picture, picture_of, entry, IsFit, seat-none, rest-refl, rest_then}
-use Rattle.lifecycle.{specs.ChildShares.{AwaitsShares, GivesShares, IsReadyForShares}, proofs.SharedRows.{shares_none, shares_then, seats_kept, tables_shared}}
+use Rattle.lifecycle.proofs.Names.{top_level, ◌≡◌, ◌≢◌, ℕ, inr, ◌<◌, ◌≤◌, None, refl, ap, ◌∙◌, arith, IsPage, Core, seat, Picture, picture_of, entry, IsFit, seat-none, rest-refl, rest_then}
+use Rattle.lifecycle.{specs.ChildShares.{AwaitsShares, GivesShares, IsReadyForShares}, proofs.CopySteps.{forking_still}, proofs.SharedRows.{shares_none, shares_then, seats_kept, tables_shared}}
 
 -- fewer pages are awaited too
 pub awaits_within : {mode : ℕ} (c : Picture mode) (parent child low high from stop : ℕ) → AwaitsShares c parent child low high → low ≤ from → stop ≤ high → AwaitsShares c parent child from stop
@@ -48,14 +48,8 @@ module _ {M : Type 0} {m : Levels.Ghosts M} {D E : Type 0} where
   pub awaits_rest : (a b : Core D E M m) (parent child low mid high from stop : ℕ) → AwaitsShares (picture_of a) parent child low high → GivesShares a b parent child low mid → low ≤ from → mid ≤ from → stop ≤ high
       → AwaitsShares (picture_of b) parent child from stop
   awaits_rest a b parent child low mid high from stop awaits gives least past most =
-      let beside = gives.shares.beside in
       record {
-        forking = record {
-          fit = gives.fit;
-          parent_lives = ap is_some (beside.root parent) ∙ awaits.parent_lives;
-          child_lives = ap is_some (beside.root child) ∙ awaits.child_lives;
-          same = λ p. beside.at child p ∙ awaits.same p ∙ sym (beside.at parent p);
-        };
+        forking = forking_still (picture_of a) (picture_of b) parent child awaits.forking gives.fit (record { root = gives.shares.beside.root; at = gives.shares.beside.at });
         apart = awaits.apart;
         bare = λ p h after below. gives.shares.others child p h (inr (inr (omega (arith, past, after)))) ∙ awaits.bare p h (omega (arith, least, after)) (omega (arith, below, most));
       }

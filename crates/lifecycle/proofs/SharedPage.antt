@@ -1,15 +1,9 @@
 -- The steps on one page, whose entry of the parent names a seat, together.
 use Rattle.vm_types.specs.declared.mode.Levels as Levels
-use Rattle.lifecycle.proofs.{Given.{fit_shared, shares_one}, Live.{live_root, some_of}, Lowered.{places_set}, Names.{top_level, user_pages_fit, ◌≡◌, ℕ, inl, ◌/◌, ◌%◌, ◌+◌, ◌<◌, Some, refl, sym, ap, ◌∙◌, arith, FrameTable, SetsEntry}}
-use Rattle.lifecycle.proofs.{Names.{number_of, IsTableOf, IsPage, IsForest, IsRoot, IsTable, Entry, Core, Seat, seat, Picture, picture_of, entry, IsFit, IsFitBut, seat-none, place_at, same_beside}, Passed.{in_row}, Sharers.{may_share}}
-use Rattle.lifecycle.{proofs.Sharers.{unwritten_all}, specs.{ChildShares.{AddsShare, AwaitsShares, HoldsEntries, WithdrawsWrite}, Shares.{IsTableFor, MayShare, RaisesSeat, SharesRow}}}
-
--- what the child's share of one page comes to
-module _ {mode : ℕ} where
-  pub record IsPageShared (old new : Picture mode) (parent child page : ℕ) : Type 0 where
-    pub fit : IsFit new
-    pub shares : SharesRow old new parent child page (page + 1)
-    pub places : (q row n : ℕ) → IsTableFor old q row n → IsTableFor new q row n
+use Rattle.lifecycle.proofs.{Given.{fit_shared, shares_one}, Live.{live_root, some_of}, Lowered.{places_set}, Names.{top_level, user_pages_fit, ◌≡◌, ℕ, inl, ◌/◌, ◌%◌, ◌+◌, ◌<◌, Some, sym, ap, ◌∙◌, arith, SetsEntry}}
+use Rattle.lifecycle.proofs.{Names.{number_of, IsTableOf, IsPage, IsForest, IsRoot, IsTable, Entry, Core, Seat, seat, Picture, picture_of, entry, IsFitBut, seat-none, place_at, rest_then}, Passed.{in_row}, Sharers.{may_share}}
+use Rattle.{ranges.specs.Steps.{KeepsBesideMemory}, residency.specs.Steps.{SameBeside}}
+use Rattle.lifecycle.{proofs.Sharers.{unwritten_all}, specs.{ChildShares.{AddsShare, AwaitsShares, GivesShares, HoldsEntries, WithdrawsWrite}, Shares.{IsTableFor, MayShare, RaisesSeat}}}
 
 module _ {M : Type 0} {m : Levels.Ghosts M} {D E : Type 0} (was low : Core D E M m) (parent child first index to : ℕ) (after : Entry) (below : index < 512)
     (awaits : AwaitsShares (picture_of was) parent child (first + index) (first + index + 1)) (holds : HoldsEntries (picture_of was) child first (index + 1) to)
@@ -64,22 +58,26 @@ module _ {M : Type 0} {m : Levels.Ghosts M} {D E : Type 0} (was low : Core D E M
     placed_raised = (fit.rooted.forest, place_mid.table, (lives.0, first + index, fit.rooted.roots child lives.0 root, h, place_mid, place_at first index holds.begins below))
 
     -- the child's entry is set
-    module _ (t : FrameTable) (set : (r p : ℕ) → IsRoot (top_level m.mode) mid.frames r → IsPage (top_level m.mode) p → IsTableOf mid.frames (top_level m.mode) r (p / 512) to → p % 512 ≡ index
-        → SetsEntry mid.frames t (top_level m.mode) r p (number_of after)) where
-      abbrev pub new : Picture m.mode
-      new = record (picture_of mid) { frames = t }
+    module _ (now : Core D E M m) (beside : SameBeside (picture_of mid) (picture_of now)) (set : (r p : ℕ) → IsRoot (top_level m.mode) mid.frames r → IsPage (top_level m.mode) p
+        → IsTableOf mid.frames (top_level m.mode) r (p / 512) to → p % 512 ≡ index → SetsEntry mid.frames now.frames (top_level m.mode) r p (number_of after)) where
+      abbrev new : Picture m.mode
+      new = picture_of now
 
-      sets : SetsEntry mid.frames t (top_level m.mode) lives.0 (first + index) (number_of after)
+      sets : SetsEntry mid.frames now.frames (top_level m.mode) lives.0 (first + index) (number_of after)
       sets = set lives.0 (first + index) (fit.rooted.roots child lives.0 root) h place_mid (place_at first index holds.begins below)
 
       raised_place : (q row n : ℕ) → IsTableFor (picture_of low) q row n → IsTableFor (picture_of mid) q row n
       raised_place q row n at r is = (let before : (picture_of low).root q ≡ Some r = sym (raised.beside.root q) ∙ is in raised.rows q r row n before (at r before))
 
-      pub page_shared : IsPageShared (picture_of was) new parent child (first + index)
-      page_shared = record {
-        fit = fit_shared (picture_of was) (picture_of low) (picture_of mid) new parent child lives.0 (first + index) (number_of after) shared.0 fit h awaits.apart withdraws.withdrawn shared.1 raised bare
-            (awaits.same (first + index)) root sets (same_beside (picture_of mid) t);
+      pub page_shared : KeepsBesideMemory mid now → now.refused ≡ mid.refused → GivesShares was now parent child (first + index) (first + index + 1)
+      page_shared rest refused = record {
         shares = shares_one (picture_of was) (picture_of low) (picture_of mid) new parent child lives.0 (first + index) (number_of after) shared.0 fit h awaits.apart withdraws.withdrawn shared.1 raised bare
-            (awaits.same (first + index)) root sets (same_beside (picture_of mid) t);
-        places = λ q row n at. places_set (picture_of mid) new 0 lives.0 (first + index) (number_of after) fit.rooted (λ q. refl) sets q row n (raised_place q row n (withdraws.places q row n at));
+            (awaits.same (first + index)) root sets beside;
+        keeps = record {
+          fit = fit_shared (picture_of was) (picture_of low) (picture_of mid) new parent child lives.0 (first + index) (number_of after) shared.0 fit h awaits.apart withdraws.withdrawn shared.1 raised bare
+              (awaits.same (first + index)) root sets beside;
+          places = λ q row n at. places_set (picture_of mid) new 0 lives.0 (first + index) (number_of after) fit.rooted beside.root sets q row n (raised_place q row n (withdraws.places q row n at));
+          rest = rest_then was mid now (rest_then was low mid withdraws.rest adds.rest) rest;
+          refused = refused ∙ adds.refused ∙ withdraws.refused;
+        };
       }

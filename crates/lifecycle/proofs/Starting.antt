@@ -1,7 +1,7 @@
 -- A process comes.
-use Rattle.lifecycle.proofs.{Keeping.{live_same, files_then, no_copy_freed, gives_alike}, Names.{user_pages_fit, top_level, ◌≡◌, ◌≢◌, ℕ, inl, inr, None, sym, ap, ◌∙◌, subst, arith, cases_eq, is_some, Role, Free, Table, Private, Cache}}
-use Rattle.lifecycle.proofs.Names.{role_of, bytes_of, frame_count, IsPage, missing_of, page_entry, Seat, InFrame, InSlot, seat, Picture, entry, view, bytes_in, IsOwned, IsFit, ObtainsTable, Spawns, KeepsFiles, GivesForTables, KeepsRolesBut}
-use Rattle.lifecycle.{proofs.Names.{gives_then, entry-dead, entry-same, cases_attr, view-none, view_seated, held_same, bare_started, bare_freed, KeepsBare, KeepsRoom}, specs.Changes.{AddsProcess, TakesRoot, TakesNoCopy}}
+use Rattle.lifecycle.proofs.{Keeping.{live_same, no_copy_freed, gives_alike}, Names.{keeps_files_then, user_pages_fit, top_level, ◌≡◌, ◌≢◌, ℕ, inl, inr, None, sym, ap, ◌∙◌, subst, arith, cases_eq, is_some, Role, Free, Table, Private, Cache}}
+use Rattle.lifecycle.proofs.Names.{role_of, bytes_of, frame_count, IsPage, missing_of, page_entry, Seat, seat, Picture, entry, view, bytes_in, IsOwned, IsFit, ObtainsTable, Spawns, KeepsFiles, GivesForTables, KeepsRolesBut}
+use Rattle.lifecycle.{proofs.Names.{bytes_same, gives_then, entry-dead, entry-same, cases_attr, view-none, view_seated, held_same, bare_started, bare_freed, KeepsBare, KeepsRoom}, specs.Changes.{AddsProcess, TakesRoot, TakesNoCopy}}
 
 -- A frame was obtained and taken for a table, and that is the root of a process that was made.
 module _ {mode : ℕ} (old mid new : Picture mode) (pid n : ℕ) (obtains : ObtainsTable old mid n) (spawns : Spawns mid new pid n) where
@@ -20,12 +20,11 @@ module _ {mode : ℕ} (old mid new : Picture mode) (pid n : ℕ) (obtains : Obta
   used_ne : (m : ℕ) (r : Role) → role_of found.frames m ≡ r → r ≢ Free → m ≢ n
   used_ne m r is used e = used (sym is ∙ ap (role_of found.frames) e ∙ obtains.adds.takes.was_free)
 
-  bytes_same : (m : ℕ) → m ≢ n → bytes_of new.frames m ≡ bytes_of found.frames m
-  bytes_same m ne = ap (λ t. bytes_of t m) spawns.frames ∙ obtains.adds.takes.others.bytes m ne
+  bytes_taken : (m : ℕ) → m ≢ n → bytes_of new.frames m ≡ bytes_of found.frames m
+  bytes_taken m ne = ap (λ t. bytes_of t m) spawns.frames ∙ obtains.adds.takes.others.bytes m ne
 
   seat_bytes : (z : Seat) → IsOwned found z → bytes_in new.frames new.slots z ≡ bytes_in found.frames found.slots z
-  seat_bytes (InFrame m) is = bytes_same m (used_ne m Private is (λ e. (cc)))
-  seat_bytes (InSlot k) is = ap (λ t. t.bytes k) (spawns.slots ∙ obtains.beside.slots)
+  seat_bytes = bytes_same found new (spawns.slots ∙ obtains.beside.slots) (λ m is. bytes_taken m (used_ne m Private is (λ e. (cc))))
 
   entries_same : (q p : ℕ) → q ≢ pid → entry new q p ≡ entry found q p
   entries_same q p ne = entry-same found new q p (root_same q ne) (λ x e.
@@ -34,15 +33,13 @@ module _ {mode : ℕ} (old mid new : Picture mode) (pid n : ℕ) (obtains : Obta
   others_seen : (q p : ℕ) → q ≢ pid → view new q p ≡ view old q p
   others_seen q p ne =
       let at : new.at q p ≡ found.at q p = spawns.at q p ne ∙ obtains.beside.at q p in
-      others_found at ∙ obtains.frees.pages.views q p
-    where
-      others_found : new.at q p ≡ found.at q p → view new q p ≡ view found q p
-      others_found at = elim (cases_attr (found.at q p)) [
+      let seen : view new q p ≡ view found q p = elim (cases_attr (found.at q p)) [
         | inl none ↦ view-none new q p (at ∙ none) ∙ sym (view-none found q p none)
         | inr some ↦ (
             let h : IsPage (top_level mode) p = omega (arith, ((fit.granting.user q).user_pages p some).1, user_pages_fit mode) in
             view_seated found new q p at (ap seat (entries_same q p ne)) (λ z is. seat_bytes z (fit.counted.1.named q p z h is)))
-      ]
+      ] in
+      seen ∙ obtains.frees.pages.views q p
 
   pub process_added : AddsProcess old new pid (λ page. None)
   process_added = record {
@@ -88,9 +85,9 @@ module _ {mode : ℕ} (old mid new : Picture mode) (pid n : ℕ) (obtains : Obta
   ]
 
   pub files_kept : KeepsFiles old new
-  files_kept = files_then old found new obtains.frees.pages.files (record {
+  files_kept = keeps_files_then old found new obtains.frees.pages.files (record {
     held = λ p. inl (held_same found new p (spawns.place p ∙ obtains.beside.place p) (spawns.slots ∙ obtains.beside.slots)
-        (λ m at. bytes_same m (used_ne m Cache (fit.places.cached p m at) (λ e. (cc)))));
+        (λ m at. bytes_taken m (used_ne m Cache (fit.places.cached p m at) (λ e. (cc)))));
     touched = λ p. spawns.touched p ∙ obtains.beside.touched p;
     files = λ f. spawns.files f ∙ obtains.beside.files f;
   })

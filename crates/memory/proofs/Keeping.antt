@@ -1,34 +1,26 @@
 -- Which changes of memory leave a leaf where it was.
 use Rattle.memory.proofs.Names.{◌≡◌, ◌≢◌, ℕ, zero, suc, ◌-◌, ◌<◌, ◌⊎◌, inl, inr, Some, None, Result, Ok, Err, get_or, refl, sym, ap, ◌∙◌, subst, arith, cases_eq, false≢true, same_Some, IfOk, OnErr, FrameNo, NoFree, top_level, Role, Free}
-use Rattle.memory.proofs.Names.{Table, FrameTable, frame_count, role_of, SameButFor, Takes, Releases, is_pointer, entry_at, frame_of, index_of, is_pointer-zero, IsTable, Points, IsForest, IsRoot, IsSpare, IsUnlinked, Way, last_table}
+use Rattle.memory.proofs.Names.{Table, FrameTable, frame_count, role_of, SameButFor, Takes, is_pointer, entry_at, frame_of, index_of, is_pointer-zero, IsTable, Points, IsForest, IsRoot, IsSpare, IsUnlinked, Way, last_table}
 use Rattle.memory.proofs.Names.{page_entry, SetsEntry, LinksTable, Prunes, ends, index_of-lt, only_way, way_forth, empty_not_linking, table_moved, table_moved_back, zeros_empty, cases_place, entry_at-bytes, points_moved, sizes}
 use Rattle.disk_model.specs.Tally.{Tally}
-use Rattle.memory.proofs.Names.{◌+◌, ◌^◌, min, arith, slice_index_or, List, Option}
-use Rattle.memory.{specs.{declared.{buffer.TranslationBuffer.{TranslationBuffer}, line.Line.{Line}}, Lines.{AreHits, leaf_for, line_at, line_place}, Kept.{IsLeafOf, LinesAreLeaves}, Notes.{IsNumberOf}}, proofs.Leaves.{as_leaf, as_number, is_page, root_table, is_entry, of_entry}}
+use Rattle.memory.proofs.Names.{◌^◌, min, arith}
+use Rattle.memory.{specs.{declared.buffer.TranslationBuffer.{TranslationBuffer}, Lines.{AreHits, line_at, line_place}, Kept.{IsLeafOf, LinesAreLeaves}, Notes.{IsNumberOf}}, proofs.Leaves.{as_leaf, as_number, is_page, root_table, is_entry, of_entry}}
 pub use Rattle.page_tables.proofs.Data.{free_is_no_table, released_role}
 
--- the same way, over tables still, to the same entry
-carried : (mode : ℕ) (old new : FrameTable) (root page leaf : ℕ) (l : IsLeafOf mode old root page leaf) → frame_count new ≡ frame_count old → IsUnlinked new root
-    → Way new (top_level mode) root page (top_level mode) l.lowest → IsTable new l.lowest
-    → entry_at new l.lowest (index_of page 0) ≡ entry_at old l.lowest (index_of page 0) → IsLeafOf mode new root page leaf
-carried mode old new root page leaf l frames unlinked way table entry =
-    record {
-      lowest = l.lowest;
-      inside = l.inside;
-      unlinked = unlinked;
-      way = way;
-      table = table;
-      here = entry ∙ l.here;
-      valid = l.valid;
-      target = subst (λ (n : ℕ). frame_of leaf < n) (sym frames) l.target;
-    }
-
--- the same of any number
+-- the same way, over tables still, to the same number
 pub number_moved : (mode : ℕ) (old new : FrameTable) (root page number : ℕ) (l : IsNumberOf mode old root page number) → IsUnlinked new root
     → Way new (top_level mode) root page (top_level mode) l.lowest → IsTable new l.lowest
     → entry_at new l.lowest (index_of page 0) ≡ entry_at old l.lowest (index_of page 0) → IsNumberOf mode new root page number
 number_moved mode old new root page number l unlinked way table entry =
     record { lowest = l.lowest; inside = l.inside; unlinked = unlinked; way = way; table = table; here = entry ∙ l.here; some = l.some }
+
+-- or to the same leaf
+carried : (mode : ℕ) (old new : FrameTable) (root page leaf : ℕ) (l : IsLeafOf mode old root page leaf) → frame_count new ≡ frame_count old → IsUnlinked new root
+    → Way new (top_level mode) root page (top_level mode) l.lowest → IsTable new l.lowest
+    → entry_at new l.lowest (index_of page 0) ≡ entry_at old l.lowest (index_of page 0) → IsLeafOf mode new root page leaf
+carried mode old new root page leaf l frames unlinked way table entry =
+    let T : ℕ → Type 0 = λ n. frame_of leaf < n in
+    as_leaf mode new root page leaf (number_moved mode old new root page leaf (as_number mode old root page leaf l) unlinked way table entry) l.valid (subst T (sym frames) l.target)
 
 -- where every pointer stays, so does the way
 stays_on : (mode : ℕ) (old new : FrameTable) (root page leaf : ℕ) (l : IsLeafOf mode old root page leaf) → ((a i b : ℕ) → Points old a i b → Points new a i b)
@@ -85,10 +77,6 @@ pub taken_leaf : (old new : FrameTable) (n : ℕ) (kind : Role) → Takes old ne
 taken_leaf old new n kind takes =
     leaf_stays old new n takes.others (λ i h table. absurd (free_is_no_table (role_of old n) takes.was_free table.role))
     (empty_not_linking new n (zeros_empty new n takes.zeros))
-
-pub released_leaf : (old new : FrameTable) (n : ℕ) → Releases old new n → role_of old n ≢ Table
-    → (mode root page leaf : ℕ) → IsLeafOf mode old root page leaf → IsLeafOf mode new root page leaf
-released_leaf old new n releases other = data_leaf old new n releases.others other (released_role old new n releases other)
 
 -- a table without entries that was given back
 pub dropped_leaf : (old new : FrameTable) (n : ℕ) → SameButFor n old new → IsSpare old n → role_of new n ≡ Free
@@ -184,25 +172,28 @@ no_more b r p e at = at
 line_here : (b : TranslationBuffer) (r p root q : ℕ) → r ≡ root → p ≡ q → line_at b root q ≡ line_at b r p
 line_here b r p root q e f = rw (e, f)
 
-never : (b : TranslationBuffer) (r p e : ℕ) → line_at b r p ≡ None → line_at b r p ≡ Some e → ⊥
-never b r p e gone at = let bad : None ≡ Some e = sym gone ∙ at in (cc)
+-- the lines are leaves where that of one page is, and those of all others are
+kept_but : (mode : ℕ) (t : FrameTable) (b : TranslationBuffer) (root q : ℕ) → ((e : ℕ) → line_at b root q ≡ Some e → IsLeafOf mode t root q e)
+    → ((r p e : ℕ) → (r ≢ root) ⊎ (p ≢ q) → line_at b r p ≡ Some e → IsLeafOf mode t r p e) → LinesAreLeaves mode t b
+kept_but mode t b root q one others = record {
+  leaves = λ r p e at. elim (cases_place r p root q) [
+    | inl here ↦ rw (here.0, here.1) (one e (line_here b r p root q here.0 here.1 ∙ at))
+    | inr other ↦ others r p e other at
+  ];
+}
 
 -- a page's entry was set, and its line is gone
 pub kept_set : (mode : ℕ) (old new : FrameTable) (root q number : ℕ) (b b' : TranslationBuffer) → IsForest old → IsRoot (top_level mode) old root → SetsEntry old new (top_level mode) root q number
     → line_at b' root q ≡ None → ((r p e : ℕ) → line_at b' r p ≡ Some e → line_at b r p ≡ Some e) → LinesAreLeaves mode old b → LinesAreLeaves mode new b'
-kept_set mode old new root q number b b' forest is_root sets gone fewer kept = record {
-  leaves = λ r p e at.
-      elim (cases_place r p root q) [
-        | inl here ↦ absurd (never b' root q e gone (line_here b' r p root q here.0 here.1 ∙ at))
-        | inr other ↦ set_leaf mode old new root forest is_root q number sets r p e (kept.leaves r p e (fewer r p e at)) other
-      ];
-}
+kept_set mode old new root q number b b' forest is_root sets gone fewer kept =
+    kept_but mode new b' root q (λ e at. (let bad = sym gone ∙ at in (cc)))
+    (λ r p e other at. set_leaf mode old new root forest is_root q number sets r p e (kept.leaves r p e (fewer r p e at)) other)
 
 -- where the line of one page alone is dropped
 pub fewer_page : (b b' : TranslationBuffer) (root q : ℕ) → line_at b' root q ≡ None
     → ((r p : ℕ) → (r ≢ root) ⊎ (p ≢ q) → line_at b' r p ≡ line_at b r p) → (r p e : ℕ) → line_at b' r p ≡ Some e → line_at b r p ≡ Some e
 fewer_page b b' root q gone others r p e at = elim (cases_place r p root q) [
-  | inl here ↦ absurd (never b' root q e gone (line_here b' r p root q here.0 here.1 ∙ at))
+  | inl here ↦ (let bad = sym gone ∙ line_here b' r p root q here.0 here.1 ∙ at in (cc))
   | inr other ↦ sym (others r p other) ∙ at
 ]
 
@@ -210,7 +201,7 @@ fewer_page b b' root q gone others r p e at = elim (cases_place r p root q) [
 pub fewer_place : (b b' : TranslationBuffer) (place : ℕ) → ((r p : ℕ) → line_place p ≡ place → line_at b' r p ≡ None)
     → ((r p : ℕ) → line_place p ≢ place → line_at b' r p ≡ line_at b r p) → (r p e : ℕ) → line_at b' r p ≡ Some e → line_at b r p ≡ Some e
 fewer_place b b' place gone others r p e at = elim (cases_eq (line_place p) place) [
-  | inl same ↦ absurd (never b' r p e (gone r p same) at)
+  | inl same ↦ (let bad = sym (gone r p same) ∙ at in (cc))
   | inr ne ↦ sym (others r p ne) ∙ at
 ]
 
@@ -218,30 +209,22 @@ fewer_place b b' place gone others r p e at = elim (cases_eq (line_place p) plac
 pub kept_more : (mode : ℕ) (t : FrameTable) (b b' : TranslationBuffer) (root q leaf : ℕ) → IsLeafOf mode t root q leaf → line_at b' root q ≡ Some leaf
     → ((r p : ℕ) → line_place p ≡ line_place q → (r ≢ root) ⊎ (p ≢ q) → line_at b' r p ≡ None)
     → ((r p : ℕ) → line_place p ≢ line_place q → line_at b' r p ≡ line_at b r p) → LinesAreLeaves mode t b → LinesAreLeaves mode t b'
-kept_more mode t b b' root q leaf l now replaced others kept = record {
-  leaves = λ r p e at. elim (cases_eq (line_place p) (line_place q)) [
-    | inl same ↦ elim (cases_place r p root q) [
-      | inl here ↦ (let is : leaf ≡ e = same_Some leaf e (sym now ∙ line_here b' r p root q here.0 here.1 ∙ at) in rw (here.0, here.1, ← is) l)
-      | inr other ↦ absurd (never b' r p e (replaced r p same other) at)
-    ]
-    | inr ne ↦ kept.leaves r p e (sym (others r p ne) ∙ at)
-  ];
-}
+kept_more mode t b b' root q leaf l now replaced others kept =
+    kept_but mode t b' root q (λ e at. rw (← (same_Some leaf e (sym now ∙ at))) l) (λ r p e other at. elim (cases_eq (line_place p) (line_place q)) [
+      | inl same ↦ (let bad = sym (replaced r p same other) ∙ at in (cc))
+      | inr ne ↦ kept.leaves r p e (sym (others r p ne) ∙ at)
+    ])
 
 -- a page's entry was set to a leaf, which is kept in place of what its place had
 pub kept_new : (mode : ℕ) (old new : FrameTable) (b b' : TranslationBuffer) (root q leaf : ℕ) → IsForest old → IsRoot (top_level mode) old root
     → SetsEntry old new (top_level mode) root q leaf → IsLeafOf mode new root q leaf → line_at b' root q ≡ Some leaf
     → ((r p : ℕ) → line_place p ≡ line_place q → (r ≢ root) ⊎ (p ≢ q) → line_at b' r p ≡ None)
     → ((r p : ℕ) → line_place p ≢ line_place q → line_at b' r p ≡ line_at b r p) → LinesAreLeaves mode old b → LinesAreLeaves mode new b'
-kept_new mode old new b b' root q leaf forest is_root sets l now replaced others kept = record {
-  leaves = λ r p e at. elim (cases_place r p root q) [
-    | inl here ↦ (let is : leaf ≡ e = same_Some leaf e (sym now ∙ line_here b' r p root q here.0 here.1 ∙ at) in rw (here.0, here.1, ← is) l)
-    | inr other ↦ elim (cases_eq (line_place p) (line_place q)) [
-      | inl same ↦ absurd (never b' r p e (replaced r p same other) at)
+kept_new mode old new b b' root q leaf forest is_root sets l now replaced others kept =
+    kept_but mode new b' root q (λ e at. rw (← (same_Some leaf e (sym now ∙ at))) l) (λ r p e other at. elim (cases_eq (line_place p) (line_place q)) [
+      | inl same ↦ (let bad = sym (replaced r p same other) ∙ at in (cc))
       | inr ne ↦ set_leaf mode old new root forest is_root q leaf sets r p e (kept.leaves r p e (sym (others r p ne) ∙ at)) other
-    ]
-  ];
-}
+    ])
 
 -- a frame was taken, or none
 pub kept_taken : (mode : ℕ) (old new : FrameTable) (b : TranslationBuffer) (kind : Role) (r : Result FrameNo NoFree) → LinesAreLeaves mode old b

@@ -35,21 +35,12 @@ walk_from_way t top root page (suc d) n level e w table =
     ∙ ap (λ k. last_of t page k (frame_of (entry_at t w.0 (index_of page (suc level))))) less ∙ ap (last_of t page level) step.target
 
 -- a leaf is a number whose form and target are known
-pub as_number : (mode : ℕ) (t : FrameTable) (root page leaf : ℕ) → IsLeafOf mode t root page leaf → IsNumberOf mode t root page leaf
+abbrev pub as_number : (mode : ℕ) (t : FrameTable) (root page leaf : ℕ) → IsLeafOf mode t root page leaf → IsNumberOf mode t root page leaf
 as_number mode t root page leaf l = record { lowest = l.lowest; inside = l.inside; unlinked = l.unlinked; way = l.way; table = l.table; here = l.here; some = nonzero leaf l.valid }
 
 pub as_leaf : (mode : ℕ) (t : FrameTable) (root page leaf : ℕ) → IsNumberOf mode t root page leaf → is_valid leaf ≡ true → frame_of leaf < frame_count t
     → IsLeafOf mode t root page leaf
-as_leaf mode t root page leaf l valid target = record {
-  lowest = l.lowest;
-  inside = l.inside;
-  unlinked = l.unlinked;
-  way = l.way;
-  table = l.table;
-  here = l.here;
-  valid = valid;
-  target = target;
-}
+as_leaf mode t root page leaf l valid target = record { lowest = l.lowest; inside = l.inside; unlinked = l.unlinked; way = l.way; table = l.table; here = l.here; valid = valid; target = target }
 
 module _ (mode : ℕ) (t : FrameTable) (root page leaf : ℕ) (l : IsLeafOf mode t root page leaf) where
   -- the leaf is what the tree says of the page

@@ -1,8 +1,9 @@
 -- Which changes of memory bring no page to name a frame.
-use Rattle.memory.proofs.{Keeping.{number_moved, number_stays, own, free_is_no_table, released_role, is_table, not_below, not_last, way_along}, Leaves.{is_page, root_table}, Names.{◌≡◌, ◌≢◌, ℕ, suc, ◌-◌, ◌/◌, ◌%◌, ◌<◌, ◌⊎◌, inl, inr}}
+use Rattle.memory.specs.{declared.buffer.TranslationBuffer.{TranslationBuffer}, Lines.{AreHits, line_at}, Kept.{LinesAreLeaves}}
+use Rattle.memory.proofs.{Names.{Some}, Keeping.{data_leaf, kept_data, still_counted, number_moved, number_stays, own, free_is_no_table, is_table, not_below, not_last, way_along}, Leaves.{is_page, root_table}, Names.{◌≡◌, ◌≢◌, ℕ, suc, ◌-◌, ◌/◌, ◌%◌, ◌<◌, ◌⊎◌, inl, inr}}
 use Rattle.memory.proofs.Names.{Result, Ok, Err, get_or, length, true, false, refl, sym, ap, ◌∙◌, subst, arith, cases_eq, IfOk, OnErr, top_level, user_end, FrameNo, NoFree, Role, Free, Table, FrameTable, frame_count, role_of, SameButFor}
-use Rattle.memory.proofs.Names.{Takes, Releases, is_private, is_swapped, entry_at, frame_of, index_of, Points, IsForest, IsRoot, IsSpare, Way, last_table, page_entry, IsTableOf, SetsEntry, LinksTable, Prunes, ends, index_of-lt, only_way}
-use Rattle.memory.{proofs.{Names.{way_forth, others_turned, empty_not_linking, zeros_empty}, Numbers.{is_number, of_number}}, specs.{Notes.{IsNumberOf, NamesFrame, NamesNoMore, AreNoted, Covers, no_note}, declared.notes.Notes.{Notes}}}
+use Rattle.memory.proofs.Names.{Takes, is_private, is_swapped, entry_at, frame_of, index_of, Points, IsForest, IsRoot, IsSpare, Way, last_table, page_entry, IsTableOf, SetsEntry, LinksTable, Prunes, ends, index_of-lt, only_way}
+use Rattle.memory.{proofs.{Names.{cases_place, way_forth, others_turned, empty_not_linking, zeros_empty}, Numbers.{is_number, of_number}}, specs.{Notes.{IsNumberOf, NamesFrame, NamesNoMore, AreNoted, Covers, no_note}, declared.notes.Notes.{Notes}}}
 
 -- a frame changed that is no table, before or afterwards
 pub data_back : (old new : FrameTable) (n : ℕ) → SameButFor n old new → role_of old n ≢ Table → role_of new n ≢ Table
@@ -15,11 +16,6 @@ pub taken_back : (old new : FrameTable) (n : ℕ) (kind : Role) → Takes old ne
 taken_back old new n kind takes =
     number_stays new old n (others_turned old new n takes.others) (λ i h table. zeros_empty new n takes.zeros i h)
     (λ i m p. free_is_no_table (role_of old n) takes.was_free p.table.role)
-
--- a frame of data that was given back
-pub released_back : (old new : FrameTable) (n : ℕ) → Releases old new n → role_of old n ≢ Table
-    → (mode root page number : ℕ) → IsNumberOf mode new root page number → IsNumberOf mode old root page number
-released_back old new n releases other = data_back old new n releases.others other (released_role old new n releases other)
 
 -- a table without entries that was given back
 pub dropped_back : (old new : FrameTable) (n : ℕ) → SameButFor n old new → IsSpare old n → role_of new n ≡ Free
@@ -112,6 +108,16 @@ noted_data mode old new n notes notes' frames each whole back is = record {
       rw each covers;
 }
 
+-- a frame was changed that is no table afterwards, unless it was one
+pub changed : {mode hits : ℕ} {old new : FrameTable} {n : ℕ} {b b' : TranslationBuffer} {notes notes' : Notes} → SameButFor n old new → (role_of old n ≢ Table → role_of new n ≢ Table)
+    → ((r p e : ℕ) → line_at b' r p ≡ Some e → (line_at b r p ≡ Some e) × (role_of old n ≢ Table)) → notes'.each ≡ notes.each → (notes'.whole ≡ true → (notes.whole ≡ true) × (role_of old n ≢ Table))
+    → b'.found ≡ b.found → LinesAreLeaves mode old b × AreNoted mode old notes × AreHits hits b → LinesAreLeaves mode new b' × AreNoted mode new notes' × AreHits hits b'
+changed {mode = mode} {old = old} {new = new} {n = n} {b = b} {b' = b'} {notes = notes} {notes' = notes'} same after lines each whole unfound was = (
+  kept_data mode old new n b b' lines (λ other. data_leaf old new n same other (after other) mode) was.0,
+  noted_data mode old new n notes notes' same.frames each whole (λ other. data_back old new n same other (after other) mode) was.1,
+  still_counted b b' was.2 unfound,
+)
+
 -- A page's entry was set, and the notes cover it.
 module _ (mode : ℕ) (old new : FrameTable) (root q number : ℕ) (notes notes' : Notes) (forest : IsForest old) (is_root : IsRoot (top_level mode) old root)
     (sets : SetsEntry old new (top_level mode) root q number) (count : length notes'.each.items ≡ length notes.each.items) (whole : notes'.whole ≡ notes.whole)
@@ -134,17 +140,9 @@ module _ (mode : ℕ) (old new : FrameTable) (root q number : ℕ) (notes notes'
         kept n r p (is.covers (sym whole ∙ now) r p n
         (named_back mode old new r p n names (set_back mode old new root forest is_root q number sets r p names.number names.is other))
         (let f = sets.kept.frames in omega (arith, f, inside))) in
-        elim (cases_eq r root) [
-          | inl same_root ↦ elim (cases_eq p q) [
-            | inl same_page ↦ (
-                let N : ℕ → Type 0 = λ x. NamesFrame mode new x p n in
-                let M : ℕ → Type 0 = λ x. NamesFrame mode new root x n in
-                let P : ℕ → Type 0 = λ x. Covers (get_or notes'.each.items n no_note) x p in
-                let Q : ℕ → Type 0 = λ x. Covers (get_or notes'.each.items n no_note) root x in
-                subst P (sym same_root) (subst Q (sym same_page) (set_here n (sym whole ∙ now) (subst M same_page (subst N same_root names)) inside)))
-            | inr ne ↦ there (inr ne)
-          ]
-          | inr ne ↦ there (inl ne)
+        elim (cases_place r p root q) [
+          | inl here ↦ rw (here.0, here.1) (set_here n (sym whole ∙ now) (rw (here.0, here.1) at names) inside)
+          | inr other ↦ there other
         ];
   }
 

@@ -1,15 +1,9 @@
 -- The walk reads what the tables say of a page.
 use Rattle.memory.proofs.Names.{user_end, top_level, Phys, Access, ◌≡◌, ℕ, zero, suc, inl, inr, ◌≢◌, ◌+◌, ◌*◌, ◌-◌, ◌/◌, ◌%◌, ◌^◌, ◌<◌, Bool, true, false, ◌&&◌, ◌||◌, not, if◌then◌else◌, Result, Ok, Err, refl, sym, ap, ◌∙◌, subst, arith}
-use Rattle.memory.proofs.Names.{cases_eq, nat_tests, nat_lt, nat_le, ◌==◌, IsErr, FrameTable, frame_count, WalkFault, Invalid, TooDeep, Misaligned, Denied, NotAccessed, NotDirty, Outside, Reserved, has_bit, entry_at, frame_of, is_pointer}
+use Rattle.memory.proofs.Names.{cases_eq, nat_le, ◌==◌, IsErr, FrameTable, frame_count, WalkFault, Invalid, TooDeep, Misaligned, Denied, NotAccessed, NotDirty, Outside, Reserved, has_bit, entry_at, frame_of, is_pointer}
 use Rattle.memory.proofs.Names.{is_valid, is_reserved, is_leaf, is_user, is_accessed, is_dirty, grants, page_of, index_of, leads_on, last_of, frame_in, is_store, answer_of, translated, last_of-zero, last_of-stop, last_of-next, IsTable}
 use Rattle.memory.proofs.Names.{IsForest, IsRoot, last_table, last_entry, missing_of, page_entry, last_table-zero, last_table-next, last_table-stop, cases_bool, next_table, missing_of-is, last_entry-is, page_entry-whole, page_entry-missing}
-use Rattle.memory.{specs.Lines.{leaf_lets}, proofs.Looks.{canonical, in_frame}}
-
-below_true : (m n : ℕ) → m < n → nat_lt m n ≡ true
-below_true m n h = grind (arith, nat_tests)
-
-outside_false : (m n : ℕ) → m < n → nat_le n m ≡ false
-outside_false m n h = grind (arith, nat_tests)
+use Rattle.{memory.{specs.Lines.{leaf_lets}, proofs.Looks.{canonical, in_frame}}, std.proofs.lemmas.Bool.{lt-ltb, lt-leb, leb-false}}
 
 abbrev with_entry : FrameTable → ℕ → ℕ × ℕ → ℕ × ℕ
 with_entry t page last = (last.0, entry_at t last.1 (index_of page last.0))
@@ -21,7 +15,7 @@ last_of-table t forest page (suc level) n table = elim (cases_bool (is_pointer (
   | inl pointer ↦ (
       let e = entry_at t n (index_of page (suc level)) in
       let there = forest.onto_tables n _ _ (next_table t page (suc level) n table pointer) in
-      let leads : leads_on t e ≡ true = rw pointer (below_true (frame_of e) (frame_count t) there.inside) in
+      let leads : leads_on t e ≡ true = rw pointer (lt-ltb (frame_of e) (frame_count t) there.inside) in
       let less : suc level - 1 ≡ level = omega arith in
       last_of-next t page (suc level) n (omega arith) leads ∙ ap (λ k. last_of t page k (frame_of e)) less
       ∙ last_of-table t forest page level (frame_of e) there ∙ ap (with_entry t page) (sym (last_table-next t page level n pointer)))
@@ -41,7 +35,7 @@ module _ (mode : ℕ) (t : FrameTable) (root addr : ℕ) (access : Access) (fore
   answered =
       rw (
         canonical mode addr user,
-        outside_false root (frame_count t) is_root.table.inside,
+        lt-leb (frame_count t) root is_root.table.inside,
         (last_of-table t forest (addr / 4096) (top_level mode) root is_root.table),
         missing_of-is t (top_level mode) root (addr / 4096),
         last_entry-is t (top_level mode) root (addr / 4096),
@@ -69,9 +63,6 @@ marked : (s d : Bool) → (s && not d) ≡ false → (not s || d) ≡ true
 marked true false e = cc
 marked s d e = refl
 
-below_not_at_least : (n count : ℕ) → nat_le count n ≡ false → n < count
-below_not_at_least n count h = grind (arith, nat_tests)
-
 -- a number that is no leaf for the access, or that of a frame outside memory, is a fault
 pub refused : (count addr : ℕ) (access : Access) (e : ℕ) → (leaf_lets access e ≡ true → frame_of e < count → ⊥) → IsErr (answer_of count addr access 0 e)
 unfolding answer_of
@@ -79,7 +70,7 @@ refused count addr access e bad =
     one_holds (is_valid e) (is_reserved e) (is_leaf e) (frame_of e % 512 ^ 0 == 0) (is_user e) (grants access e) (is_accessed e)
     (is_store access && not (is_dirty e)) (nat_le count (frame_in 0 e (page_of addr))) (record { 0 = frame_in 0 e (page_of addr) * 4096 + addr % 4096 })
     (λ v r l u gr a sd o. bad (rw (v, r, l, u, gr, a) (marked (is_store access) (is_dirty e) sd))
-    (below_not_at_least (frame_of e) count (ap (nat_le count) (sym (in_frame e (page_of addr))) ∙ o)))
+    (leb-false count (frame_of e) (ap (nat_le count) (sym (in_frame e (page_of addr))) ∙ o)))
 
 -- so is that to a page to which a table is missing
 pub missing_fault : (mode : ℕ) (t : FrameTable) (root page addr : ℕ) (access : Access) → IsForest t → IsRoot (top_level mode) t root → page < user_end mode

@@ -1,5 +1,5 @@
 -- What a change of one node does to the chains of all buckets.
-use Rattle.std.proofs.Common.{◌≡◌, ◌≢◌, ℕ, ◌+◌, ◌<◌, ◌≤◌, Bool, true, false, eqb, List, length, replicate, get_or, Option, Some, None, refl, sym, ap, ◌∙◌, subst, inl, inr, arith, set, length-set, get_or-set_same, get_or-set_other}
+use Rattle.std.proofs.Common.{◌≡◌, ◌≢◌, ℕ, ◌+◌, ◌<◌, ◌≤◌, Bool, true, false, List, length, replicate, get_or, Option, Some, None, refl, sym, ap, ◌∙◌, subst, inl, inr, arith, set, length-set, get_or-set_same, get_or-set_other}
 use Rattle.{std.proofs.lemmas.{Bool.{cases_eq, cases_lt, cases_order, both_ways, true≢false, eqb-true, eq-eqb, false_from_ne_true}, List.{length-replicate, get_or-replicate}}, vm_types.specs.declared.object.PageKey.{PageKey}}
 use Rattle.page_cache.{proofs.NodeLemmas.{page_at-emptied, page_at-within, holds-false, unheld_at}, specs.{Chains.{bucket_of, is_in_bucket, IsNext, IsLinkOf, AreChained, IsSeat, IsEmptyIndex}, Nodes.{page_at, holds}}}
 
@@ -134,8 +134,7 @@ module _ (old : List (Option PageKey)) (links : List ℕ) (mask b r at : ℕ) (c
     removed-at : IsNext (set old r None) mask b seat.low (get_or links (mask + 1 + r) 0)
     removed-at =
         let next = chained.link b (r + 1) (mask + 1 + r) within (inr (r, refl, refl, held)) in
-        let own : IsNext (set old r None) mask b (r + 1) (get_or links (mask + 1 + r) 0) =
-        moved old (set old r None) r mask b (r + 1) (r + 1) (get_or links (mask + 1 + r) 0) same (length-set old r None) (omega arith) next.least (λ e. (omega (arith, next.least))) (λ above below. emptied b r refl) next in
+        let own = moved old (set old r None) r mask b (r + 1) (r + 1) (get_or links (mask + 1 + r) 0) same (length-set old r None) (omega arith) next.least (λ e. (omega (arith, next.least))) (λ above below. emptied b r refl) next in
         record {
           within = own.within;
           least = omega (arith, next.least, seat.before);

@@ -1,22 +1,16 @@
 -- How many numbers below a limit pass a test, by a list of those that do.
 use Rattle.std.proofs.{Common.{◌≡◌, ◌≢◌, ℕ, zero, suc, ◌+◌, ◌<◌, ◌≤◌, Bool, true, false, not, ◌&&◌, eqb, refl, sym, ap, ◌∙◌, inl, inr, arith}, lemmas.Bool.{cases_eq, cases_lt, cases_Bool, and_parts, not-true, eqb-false, eq-eqb, ne_eqb}}
-use Rattle.{std.proofs.lemmas.Bool.{false_from_ne_true}, vm_types.specs.Counting.{any_below, count_below}}
+use Rattle.{std.proofs.{Math.Bool.{and-true, and-false}, lemmas.Bool.{false_from_ne_true}}, vm_types.specs.Counting.{any_below, count_below}}
 
 -- all that pass but one
 abbrev without : (ℕ → Bool) → ℕ → ℕ → Bool
 without passes x k = passes k && not (eqb k x)
 
 without-other : (passes : ℕ → Bool) (x k : ℕ) → k ≢ x → without passes x k ≡ passes k
-without-other passes x k ne = rw (ne_eqb k x ne) (and_true (passes k)) where
-  and_true : (b : Bool) → (b && true) ≡ b
-  and_true true = refl
-  and_true false = refl
+without-other passes x k ne = rw (ne_eqb k x ne) (and-true (passes k))
 
 without-self : (passes : ℕ → Bool) (x k : ℕ) → k ≡ x → without passes x k ≡ false
-without-self passes x k e = rw (eq-eqb k x e) (and_false (passes k)) where
-  and_false : (b : Bool) → (b && false) ≡ false
-  and_false true = refl
-  and_false false = refl
+without-self passes x k e = rw (eq-eqb k x e) (and-false (passes k))
 
 without-above : (passes : ℕ → Bool) (x c : ℕ) → c ≤ x → count_below (without passes x) c ≡ count_below passes c
 unfolding count_below
@@ -61,12 +55,8 @@ pub count-at_least : (m : ℕ) (f : ℕ → ℕ) (passes : ℕ → Bool) (c : �
 count-at_least zero f passes c all apart = omega arith
 count-at_least (suc m) f passes c all apart =
     let last = all m (omega arith) in
-    let rest : (i : ℕ) → i < m → (f i < c) × (without passes (f m) (f i) ≡ true) =
-    λ i below. (
-    let here = all i (omega arith) in
-    (here.0, without-other passes (f m) (f i) (apart i m below (omega arith)) ∙ here.1)
-    ) in
-    omega (arith, count-at_least m f (without passes (f m)) c rest (λ i j ij jm. apart i j ij (omega arith)), without-one passes (f m) c last.0 last.1)
+    let rest = count-at_least m f (without passes (f m)) c (λ i below. (let here = all i (omega arith) in (here.0, without-other passes (f m) (f i) (apart i m below (omega arith)) ∙ here.1))) (λ i j ij jm. apart i j ij (omega arith)) in
+    omega (arith, rest, without-one passes (f m) c last.0 last.1)
 
 -- all numbers that pass are among m
 pub count-at_most : (m : ℕ) (f : ℕ → ℕ) (passes : ℕ → Bool) (c : ℕ) → ((k : ℕ) → k < c → passes k ≡ true → (i : ℕ) × (i < m) × (f i ≡ k))

@@ -22,38 +22,11 @@ record IsSum (f p d x w r e : ℕ) : Type 0 where
   few : (p ≤ 1) × (d ≤ 1) × (x ≤ 1) × (w ≤ 1) × (r ≤ 1)
 
 module _ (f p d x w r e : ℕ) (s : IsSum f p d x w r e) where
-  bit_0 : e / 2 ^ 0 % 2 ≡ 1
-  bit_0 = let h : e / 1 % 2 ≡ 1 = omega arith in h
+  bits : (e / 1 % 2 ≡ 1) × (e / 2 % 2 ≡ r) × (e / 4 % 2 ≡ w) × (e / 8 % 2 ≡ x) × (e / 16 % 2 ≡ 1) × (e / 32 % 2 ≡ 0) × (e / 64 % 2 ≡ 1) × (e / 128 % 2 ≡ d) × (e / 256 % 2 ≡ p)
+  bits = (omega arith, omega arith, omega arith, omega arith, omega arith, omega arith, omega arith, omega arith, omega arith)
 
-  bit_1 : e / 2 ^ 1 % 2 ≡ r
-  bit_1 = let h : e / 2 % 2 ≡ r = omega arith in h
-
-  bit_2 : e / 2 ^ 2 % 2 ≡ w
-  bit_2 = let h : e / 4 % 2 ≡ w = omega arith in h
-
-  bit_3 : e / 2 ^ 3 % 2 ≡ x
-  bit_3 = let h : e / 8 % 2 ≡ x = omega arith in h
-
-  bit_4 : e / 2 ^ 4 % 2 ≡ 1
-  bit_4 = let h : e / 16 % 2 ≡ 1 = omega arith in h
-
-  bit_5 : e / 2 ^ 5 % 2 ≡ 0
-  bit_5 = let h : e / 32 % 2 ≡ 0 = omega arith in h
-
-  bit_6 : e / 2 ^ 6 % 2 ≡ 1
-  bit_6 = let h : e / 64 % 2 ≡ 1 = omega arith in h
-
-  bit_7 : e / 2 ^ 7 % 2 ≡ d
-  bit_7 = let h : e / 128 % 2 ≡ d = omega arith in h
-
-  bit_8 : e / 2 ^ 8 % 2 ≡ p
-  bit_8 = let h : e / 256 % 2 ≡ p = omega arith in h
-
-  frame_bits : f < 2 ^ 32 → e / 2 ^ 10 % 2 ^ 44 ≡ f
-  frame_bits small = let h : e / 1024 % 17592186044416 ≡ f = omega arith in h
-
-  no_high_bits : f < 2 ^ 32 → e / 2 ^ 54 ≡ 0
-  no_high_bits small = let h : e / 18014398509481984 ≡ 0 = omega arith in h
+  frame_bits : f < 2 ^ 32 → (e / 1024 % 17592186044416 ≡ f) × (e / 18014398509481984 ≡ 0)
+  frame_bits small = (omega arith, omega arith)
 
 not_barred : (prot : Prot) → is_barred prot ≡ false → (Permission.can_read prot || Permission.can_execute prot) ≡ true
 not_barred prot useful = elim (cases_Bool (Permission.can_read prot || Permission.can_execute prot)) [
@@ -77,30 +50,30 @@ module _ (prot : Prot) (f : ℕ) (private write stored : Bool) where
 
   pub leaf_frame : f < 2 ^ 32 → frame_of (leaf_number prot f private write stored) ≡ f
   unfolding frame_of
-  leaf_frame small = frame_bits _ _ _ _ _ _ _ sum small
+  leaf_frame small = (frame_bits _ _ _ _ _ _ _ sum small).0
 
   pub leaf_high : f < 2 ^ 32 → high_bits (leaf_number prot f private write stored) ≡ 0
   unfolding high_bits
-  leaf_high small = no_high_bits _ _ _ _ _ _ _ sum small
+  leaf_high small = (frame_bits _ _ _ _ _ _ _ sum small).1
 
   pub leaf_private : is_private (leaf_number prot f private write stored) ≡ private
-  leaf_private = bit_is (leaf_number prot f private write stored) 8 private (bit_8 _ _ _ _ _ _ _ sum)
+  leaf_private = bit_is (leaf_number prot f private write stored) 8 private (bits _ _ _ _ _ _ _ sum).8
 
   pub is_leaf_number : f < 2 ^ 32 → (write ≡ true → Permission.can_read prot ≡ true) → is_barred prot ≡ false → IsLeaf (leaf_number prot f private write stored) prot write stored
   is_leaf_number small reads useful =
       let e = leaf_number prot f private write stored in
-      let can_r = bit_is e 1 (Permission.can_read prot) (bit_1 _ _ _ _ _ _ _ sum) in
-      let can_w = bit_is e 2 write (bit_2 _ _ _ _ _ _ _ sum) in
-      let can_x = bit_is e 3 (Permission.can_execute prot) (bit_3 _ _ _ _ _ _ _ sum) in
+      let can_r = bit_is e 1 (Permission.can_read prot) (bits _ _ _ _ _ _ _ sum).1 in
+      let can_w = bit_is e 2 write (bits _ _ _ _ _ _ _ sum).2 in
+      let can_x = bit_is e 3 (Permission.can_execute prot) (bits _ _ _ _ _ _ _ sum).3 in
       record {
-        valid = bit_is e 0 true (bit_0 _ _ _ _ _ _ _ sum);
+        valid = bit_is e 0 true (bits _ _ _ _ _ _ _ sum).0;
         reads = can_r;
         writes = can_w;
         executes = can_x;
-        user = bit_is e 4 true (bit_4 _ _ _ _ _ _ _ sum);
-        global = bit_is e 5 false (bit_5 _ _ _ _ _ _ _ sum);
-        accessed = bit_is e 6 true (bit_6 _ _ _ _ _ _ _ sum);
-        dirty = bit_is e 7 stored (bit_7 _ _ _ _ _ _ _ sum);
+        user = bit_is e 4 true (bits _ _ _ _ _ _ _ sum).4;
+        global = bit_is e 5 false (bits _ _ _ _ _ _ _ sum).5;
+        accessed = bit_is e 6 true (bits _ _ _ _ _ _ _ sum).6;
+        dirty = bit_is e 7 stored (bits _ _ _ _ _ _ _ sum).7;
         leaf = ap (λ y. y || can_execute e) can_r ∙ ap (λ y. Permission.can_read prot || y) can_x ∙ not_barred prot useful;
         unreserved = ap (λ y. (y && not (can_read e)) || not (high_bits e == 0)) can_w
             ∙ ap (λ y. (write && not y) || not (high_bits e == 0)) can_r

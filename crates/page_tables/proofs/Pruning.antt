@@ -1,7 +1,7 @@
 -- A table without entries unlinked and given back.
 use Rattle.page_tables.proofs.Names.{◌≡◌, ◌≢◌, ℕ, suc, ◌+◌, ◌-◌, ◌<◌, ◌⊎◌, inl, inr, false, refl, sym, ap, ◌∙◌, subst, arith, cases_eq, cases_lt, Free, Table, FrameTable, role_of, SameButFor, entry_at, frame_of, is_pointer, is_pointer-zero}
-use Rattle.page_tables.specs.{declared.forms.Entry.TheVariants.{None}, Tree.{IsTable, Points, IsForest, IsUnlinked, IsRoot, IsEmptyTable, last_table, missing_of, Way}, Change.{ChangesEntry, Prunes}}
-use Rattle.page_tables.proofs.{Ways.{EndsAt, ends, way_pointed}, Ends.{SameTrees, turned, root_same, missing_of-is, way_forth}, Setting.{other_entries, cases_place, at_place, table_forth, table_back, points_forth, points_back, elsewhere}}
+use Rattle.page_tables.specs.{Entry.{IsSoftware}, declared.forms.Entry.TheVariants.{None}, Tree.{IsTable, Points, IsForest, IsUnlinked, IsRoot, IsEmptyTable, last_table, missing_of, Way}, Change.{ChangesEntry, Prunes}}
+use Rattle.page_tables.proofs.{Ways.{EndsAt, ends, way_pointed}, Ends.{SameTrees, turned, root_same, missing_of-is, way_forth}, Setting.{other_entries, cases_place, at_place, table_forth, table_back, points_forth, elsewhere, forest_after, no_pointer, not_new}}
 use Rattle.page_tables.proofs.{Linking.{Linked, link_cases, link_entries, root_down, root_up}, Keeping.{KeepsTables, keeps_tables, empty_not_linking, same_trees, forest_kept, root_kept, entry_kept_at, missing_kept_at}}
 
 -- a table without entries points to no table, itself neither
@@ -16,28 +16,21 @@ otherwise (inr b) no_a = b
 module _ (old new : FrameTable) (top root page n i m k : ℕ) (forest : IsForest old) (is_root : IsRoot top old root)
     (last : last_table old page top root ≡ (k, m)) (not_root : m ≢ root) (empty : IsEmptyTable old m) (on : Points old n i m)
     (mid : FrameTable) (change : ChangesEntry old mid n i 0) (released : SameButFor m mid new) (free : role_of new m ≡ Free) where
-  after : is_pointer (entry_at mid n i) ≡ false
-  after = ap is_pointer change.changed ∙ is_pointer-zero
+  nothing : IsSoftware 0
+  nothing = inr (record { entry = None; form = tt; is = refl })
 
   to_old : (a j b : ℕ) → Points mid a j b → Points old a j b
-  to_old a j b p = points_back old mid n i 0 change a j b (elsewhere mid n i after a j b p) p
+  to_old = not_new old mid n i 0 forest nothing is_pointer-zero change
 
   forest_mid : IsForest mid
-  forest_mid = record {
-    onto_tables = λ a j b p. table_forth old mid n i 0 change b (forest.onto_tables a j b (to_old a j b p));
-    one_way = λ a j b l x p q. forest.one_way a j b l x (to_old a j x p) (to_old b l x q);
-    normal = λ a j t h. elim (cases_place a j n i) [
-      | inl here ↦ rw (at_place mid a j n i here.0 here.1 ∙ change.changed) (inr (record { entry = None; form = tt; is = refl }))
-      | inr other ↦ rw (other_entries old mid n i 0 change a j h other) (forest.normal a j (table_back old mid n i 0 change a t) h)
-    ];
-  }
+  forest_mid = forest_after old mid n i 0 forest nothing is_pointer-zero change
 
   linked : Linked mid old n i m
   linked = record {
     less = to_old;
     tables = table_back old mid n i 0 change;
     same = λ a j h other. sym (other_entries old mid n i 0 change a j h other);
-    off = after;
+    off = no_pointer old mid n i 0 forest nothing is_pointer-zero change;
     on = on;
     empty = empty;
   }
@@ -60,7 +53,7 @@ module _ (old new : FrameTable) (top root page n i m k : ℕ) (forest : IsForest
   free_mid : IsUnlinked mid m
   free_mid a j p =
       let one = forest.one_way a j n i m (to_old a j m p) on in
-      elim (elsewhere mid n i after a j m p) [ inl ne ↦ ne one.0 | inr ne ↦ ne one.1 ]
+      elim (elsewhere mid n i linked.off a j m p) [ inl ne ↦ ne one.0 | inr ne ↦ ne one.1 ]
 
   empty_mid : IsEmptyTable mid m
   empty_mid j h = other_entries old mid n i 0 change m j h (inl apart) ∙ empty j h

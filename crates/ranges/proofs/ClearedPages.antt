@@ -1,8 +1,9 @@
 -- Pages without entries.
 use Rattle.vm_types.specs.declared.mode.Levels as Levels
 use Rattle.ranges.proofs.Names.{top_level, ◌≡◌, ◌≢◌, ℕ, suc, inl, inr, ◌⊎◌, ◌+◌, ◌<◌, ◌≤◌, true, Option, Some, None, get_or, refl, sym, ap, ◌∙◌, arith, rules, cases_eq, cases_lt, false≢true, Free, FrameTable, role_of, is_valid, IsPage}
-use Rattle.ranges.proofs.Names.{IsTable, IsTableOf, KeepsFrames, SetsEntry, way_forth, row_stays, Core, Seat, InSlot, seat, Picture, entry, IsRootedBut, IsFit, Nothing, nowhere, SameBeside, SetsPage, valid_zero, seat_number, fit_set}
+use Rattle.ranges.proofs.Names.{IsTable, IsTableOf, KeepsFrames, SetsEntry, way_forth, row_stays, Core, picture_of, Seat, InSlot, seat, Picture, entry, IsRootedBut, IsFit, Nothing, nowhere, SameBeside, SetsPage, valid_zero, seat_number, fit_set}
 use Rattle.ranges.{proofs.{Names.{other_views, set_held, seat-none, sets_page, rooted_set}, Returning.{same_but-refl}, Sharing.{fit_emptied, owned_emptied}}, specs.Steps.{IsBeside, KeepsBesideMemory, SameButMemory, SameTables}}
+use Rattle.ranges.specs.RowsCleared.{ClearsPages}
 use Rattle.{ranges.specs.Steps.{ReturnsTables, ReturnsRowTables, ReturnsSlots, Clears, LacksHolder, ReturnsSeat}, std.specs.Prelude.{◌↔◌}}
 
 -- another memory beside the same regions and places
@@ -156,6 +157,20 @@ clears_then a b c pid low mid high fit le le' one two = record {
   views = λ q page out. two.views q page (out_back pid low mid high q page le out) ∙ one.views q page (out_front pid low mid high q page le' out);
   held = λ p. two.held p ∙ one.held p;
 }
+
+-- what no pages come to, and one row after the other
+module _ {M : Type 0} {m : Levels.Ghosts M} {D E : Type 0} where
+  pub pages_none : (c : Core D E M m) (pid low high : ℕ) → IsFit (picture_of c) → ((page : ℕ) → IsPage (top_level m.mode) page → low ≤ page → page < high → entry (picture_of c) pid page ≡ 0)
+      → ClearsPages c c pid low high
+  pages_none c pid low high fit none = record { clears = clears_none (picture_of c) pid low high none; fit = fit; rest = rest-refl c; refused = refl }
+
+  pub pages_then : (a b c : Core D E M m) (pid low mid high : ℕ) → IsFit (picture_of a) → low ≤ mid → mid ≤ high → ClearsPages a b pid low mid → ClearsPages b c pid mid high → ClearsPages a c pid low high
+  pages_then a b c pid low mid high fit le le' one two = record {
+    clears = clears_then (picture_of a) (picture_of b) (picture_of c) pid low mid high fit le le' one.clears two.clears;
+    fit = two.fit;
+    rest = rest_then a b c one.rest two.rest;
+    refused = two.refused ∙ one.refused;
+  }
 
 pub other_page : (pid page q k : ℕ) → IsBeside pid page (page + 1) q k → (q ≢ pid) ⊎ (k ≢ page)
 other_page pid page q k (inl ne) = inl ne

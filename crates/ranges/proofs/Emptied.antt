@@ -1,8 +1,9 @@
 -- Rows without entries: what the processes see.
+use Rattle.vm_types.specs.declared.mode.Levels as Levels
 use Rattle.ranges.proofs.Names.{user_end, top_level, Attr, in_row, sizes, user_pages_fit, ◌≡◌, ℕ, inl, inr, ◌⊎◌, ◌+◌, ◌<◌, ◌≤◌, true, false, List, Option, Some, None, refl, sym, ap, ◌∙◌, arith, nat_tests, cases_lt, cases_Bool, and_parts}
 use Rattle.ranges.proofs.Names.{and_cases, leb-true, leb-false, ltb-true, ltb-false, false≢true, leb, ltb, is_some, max, option_map, IsPage, InSlot, seat, Picture, entry, own_in, view_of, view, bytes_in, IsEntryFor, Nothing, Resident, Away}
-use Rattle.ranges.proofs.Names.{IsUsed, AsRoot, OnWay, IsGranting, IsFit, KeepsFiles, seat-none}
-use Rattle.ranges.{specs.{Rows.{plain, RemapsRow}, Steps.{IsBeside, ReturnsRowTables, ReturnsSlots, Clears, IsMappedBeside, IsWithoutTables, IsCleared}}, proofs.ClearedPages.{by_row, not_beside, returned_wider}}
+use Rattle.ranges.proofs.Names.{IsUsed, AsRoot, OnWay, IsGranting, IsFit, Core, picture_of, seat-none}
+use Rattle.ranges.{specs.{Rows.{plain}, RowsCleared.{ClearsPages, ClearsRow}, Steps.{IsBeside, Clears, IsMappedBeside, IsWithoutTables, IsCleared}}, proofs.ClearedPages.{by_row, not_beside, returned_any, returned_wider}}
 
 view_plain : (own : Option (List ℕ)) (o : Option Attr) → own ≡ None → view_of own o ≡ option_map plain o
 view_plain own None none = refl
@@ -47,24 +48,24 @@ in_row_from first pages k low high = grind (arith, nat_tests)
 pub pages_inside : (mode first pages page : ℕ) → first + pages ≤ user_end mode → in_row first pages page ≡ true → IsPage (top_level mode) page
 pages_inside mode first pages page row e = let parts = row_parts first pages page e in let fits = user_pages_fit mode in omega (arith, parts, row, fits)
 
--- what the pages of a row come to, once they are cleared
-module _ {mode : ℕ} where
-  pub record IsRowCleared (old new : Picture mode) (pid first pages : ℕ) : Type 0 where
-    pub row : RemapsRow old new pid first pages (old.at pid)
-    pub files : KeepsFiles old new
-    pub returned : ReturnsRowTables old new pid first (first + pages)
-    pub none_left : IsWithoutTables new pid first (first + pages)
-    pub slots : ReturnsSlots old new pid first (first + pages)
+-- the pages from low to high, which are the user pages of a row, were cleared
+module _ {M : Type 0} {m : Levels.Ghosts M} {D E : Type 0} (was now : Core D E M m) (pid first pages low high : ℕ) (fit : IsFit (picture_of was)) (done : ClearsPages was now pid low high)
+    (row : first + pages ≤ user_end m.mode) (begins : low ≡ max first 16) (ends : high ≡ max low (first + pages)) where
+  abbrev old : Picture m.mode
+  old = picture_of was
 
--- the pages from low to high are the user pages of a row
-module _ {mode : ℕ} (old new : Picture mode) (pid first pages low high : ℕ) (fit : IsFit old) (granting : IsGranting new) (clears : Clears old new pid low high)
-    (row : first + pages ≤ user_end mode) (begins : low ≡ max first 16) (ends : high ≡ max low (first + pages)) where
+  abbrev new : Picture m.mode
+  new = picture_of now
+
+  abbrev clears : Clears old new pid low high
+  clears = done.clears
+
   entry_gone : (page : ℕ) → in_row first pages page ≡ true → entry new pid page ≡ 0
   entry_gone page e =
       let at = row_parts first pages page e in
       elim (cases_lt page low) [
-        | inl before ↦ low_zero new pid page granting (omega (arith, begins, before, at))
-        | inr from ↦ clears.gone page (pages_inside mode first pages page row e) from (omega (arith, at, ends))
+        | inl before ↦ low_zero new pid page done.fit.granting (omega (arith, begins, before, at))
+        | inr from ↦ clears.gone page (pages_inside m.mode first pages page row e) from (omega (arith, at, ends))
       ]
 
   inside_row : (page : ℕ) → low ≤ page → page < high → (first ≤ page) × (page < first + pages)
@@ -91,35 +92,42 @@ module _ {mode : ℕ} (old new : Picture mode) (pid first pages low high : ℕ) 
       beside_it q p here = elim (by_row pid first (first + pages) q p) [
         | inl out ↦ out
         | inr inside ↦ (
-            absurd (not_beside pid low high q p here.1 inside.0 (omega (arith, begins, inside, ((granting.user q).user_pages p here.0).0)) (omega (arith, inside, ends))))
+            absurd (not_beside pid low high q p here.1 inside.0 (omega (arith, begins, inside, ((done.fit.granting.user q).user_pages p here.0).0)) (omega (arith, inside, ends))))
       ]
 
       by_use : IsUsed new (IsMappedBeside new pid low high) m → IsUsed new (IsMappedBeside new pid first (first + pages)) m
       by_use (AsRoot q is) = AsRoot q is
       by_use (OnWay q x p is here below) = OnWay q x p is (here.0, beside_it q p here) below
 
-  pub row_cleared : IsCleared new pid low high → IsRowCleared old new pid first pages
-  row_cleared cleared = record {
-    row = record {
-      root = clears.beside.root;
-      at = λ page. clears.beside.at pid page;
-      others_at = λ q page ne. clears.beside.at q page;
-      entries = entry_gone;
-      kept = λ page h e. clears.kept pid page h (beside_row page e);
-      views = λ page. elim (cases_Bool (in_row first pages page)) [
-        | inl e ↦ rw e (view-bare new pid page (entry_gone page e) ∙ ap (option_map plain) (clears.beside.at pid page))
-        | inr e ↦ rw e (clears.views pid page (beside_row page e))
-      ];
-      others = λ q page ne. clears.views q page (inl ne);
-    };
-    files = record { held = λ p. inl (clears.held p); touched = clears.beside.touched; files = clears.beside.files };
-    returned = returned_wider old new pid low high first (first + pages) inside_row clears.returned;
-    none_left = none_left cleared;
-    slots = record {
-      total = clears.slots.total;
-      fewer = clears.slots.fewer;
-      given = λ k page h from below is. clears.slots.given k page h (seated_inside k page from below is) (omega (arith, below, ends)) is;
-      kept = λ k other. clears.slots.kept k (λ page h from below. (let row' = inside_row page from below in other page h row'.0 row'.1));
-      bytes = clears.slots.bytes;
-    };
-  }
+  pub row_cleared : IsCleared new pid low high → ClearsRow was now pid first pages
+  row_cleared cleared =
+      let returned = returned_wider old new pid low high first (first + pages) inside_row clears.returned in
+      record {
+        row = record {
+          root = clears.beside.root;
+          at = λ page. clears.beside.at pid page;
+          others_at = λ q page ne. clears.beside.at q page;
+          entries = entry_gone;
+          kept = λ page h e. clears.kept pid page h (beside_row page e);
+          views = λ page. elim (cases_Bool (in_row first pages page)) [
+            | inl e ↦ rw e (view-bare new pid page (entry_gone page e) ∙ ap (option_map plain) (clears.beside.at pid page))
+            | inr e ↦ rw e (clears.views pid page (beside_row page e))
+          ];
+          others = λ q page ne. clears.views q page (inl ne);
+        };
+        files = record { held = λ p. inl (clears.held p); touched = clears.beside.touched; files = clears.beside.files };
+        others = λ q page h ne. clears.kept q page h (inl ne);
+        tables = returned_any old new pid first (first + pages) returned;
+        row_tables = returned;
+        none_left = none_left cleared;
+        slots = record {
+          total = clears.slots.total;
+          fewer = clears.slots.fewer;
+          given = λ k page h from below is. clears.slots.given k page h (seated_inside k page from below is) (omega (arith, below, ends)) is;
+          kept = λ k other. clears.slots.kept k (λ page h from below. (let row' = inside_row page from below in other page h row'.0 row'.1));
+          bytes = clears.slots.bytes;
+        };
+        fit = done.fit;
+        rest = done.rest;
+        refused = done.refused;
+      }

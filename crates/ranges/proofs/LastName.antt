@@ -1,9 +1,9 @@
 -- Whether a page of an object is named by others than a row, and what forgetting those leaves that aren't.
 use Rattle.vm_types.specs.declared.mode.Levels as Levels
-use Rattle.ranges.proofs.Names.{widest_end, ObjectPage, PageKey, Object, Attr, Backing, Common, Maps, names, is_named, is_object_page, in_row, ◌≡◌, ◌≢◌, ℕ, inl, inr, ◌⊎◌, ◌+◌, ◌<◌, ◌≤◌, true, false, Option, Some, None, refl, sym, ap, ◌∙◌}
+use Rattle.ranges.proofs.Names.{user_end, sizes, picture_of, widest_end, ObjectPage, PageKey, Object, Attr, Backing, Common, Maps, names, is_named, is_object_page, in_row, ◌≡◌, ◌≢◌, ℕ, inl, inr, ◌⊎◌, ◌+◌, ◌<◌, ◌≤◌, true, false, Option, Some, None, refl, sym, ap, ◌∙◌}
 use Rattle.ranges.proofs.Names.{subst, arith, eqb-true, eq-eqb, ne_eqb, rules, ◌==◌, same_Some, cases_eq, cases_lt, cases_Bool, false≢true, and_parts, Place, Home, Frame, Slot, Core, KeepsBesidePlaces, Picture, entry, IsFit, AreObjects}
 use Rattle.ranges.proofs.Names.{Forgets, HasNoEntry, cases_page, named-same, named_by, named-at, named-where}
-use Rattle.ranges.{specs.Rows.{IsBareRow, IsLasting, ForgetsMore, ForgetsRow, node_of, without_maps}, proofs.{Emptied.{row_parts}, Named.{named-imp}}}
+use Rattle.ranges.{specs.{ObjectSteps.{IsForgottenThere}, Rows.{IsBareRow, IsLasting, IsLastName, ForgetsMore, ForgetsRow, node_of, without_maps}}, proofs.{Emptied.{row_parts, in_row_from}, Named.{named-imp}}}
 
 module _ (mode : ℕ) (at : Maps) (pid first pages : ℕ) where
   beside_same : (q k : ℕ) → (q ≢ pid) ⊎ (in_row first pages k ≡ false) → without_maps at pid first pages q k ≡ at q k
@@ -269,5 +269,27 @@ module _ {mode : ℕ} (a b c : Picture mode) (pid first pages from k : ℕ) (p :
     ]
   ]
 
-pub rest_then : {M : Type 0} {m : Levels.Ghosts M} → {D E : Type 0} (a b c : Core D E M m) → KeepsBesidePlaces a b → KeepsBesidePlaces b c → KeepsBesidePlaces a c
+rest_then : {M : Type 0} {m : Levels.Ghosts M} → {D E : Type 0} (a b c : Core D E M m) → KeepsBesidePlaces a b → KeepsBesidePlaces b c → KeepsBesidePlaces a c
 rest_then a b c p q = search rules
+
+module _ {M : Type 0} {m : Levels.Ghosts M} {D E : Type 0} where
+  -- what is done at a page of the row that names it is what the row wants
+  pub last_there : (old new : Core D E M m) (pid first pages k : ℕ) (p : ObjectPage) → AreObjects (picture_of old).at → first + pages ≤ user_end m.mode → first ≤ k → k < first + pages
+      → names ((picture_of old).at pid k) p.object p.page ≡ true → IsForgottenThere old new pid k p → IsLastName old new pid first pages p
+  last_there old new pid first pages k p objects row low high here (inl same) =
+      inl (same.0, named_beside m.mode (picture_of old).at pid first pages p same.1.0 k same.1.1 (let most = (sizes m.mode).most in omega (arith, high, row, most)) same.1.2 same.1.3)
+  last_there old new pid first pages k p objects row low high here (inr gone) =
+      inr (gone.0, gone.1, unnamed_without m.mode (picture_of old).at pid first pages objects p k (in_row_from first pages k low high) here gone.2)
+
+  -- one page more was looked at
+  pub more_last : (a b c : Core D E M m) (pid first pages : ℕ) (p : ObjectPage) → IsFit (picture_of b) → ForgetsMore (picture_of a) (picture_of b) pid first pages → KeepsBesidePlaces a b → IsLastName b c pid first pages p
+      → ForgetsMore (picture_of a) (picture_of c) pid first pages × KeepsBesidePlaces a c
+  more_last a b c pid first pages p fit more rest (inl same) =
+      (subst (λ (x : Core D E M m). ForgetsMore (picture_of a) (picture_of x) pid first pages) (sym same.0) more, subst (λ (x : Core D E M m). KeepsBesidePlaces a x) (sym same.0) rest)
+  more_last a b c pid first pages p fit more rest (inr gone) =
+      (more_then (picture_of a) (picture_of b) (picture_of c) pid first pages p fit more gone.0 (sym (same_without (picture_of a) (picture_of b) pid first pages p more) ∙ gone.2), rest_then a b c rest gone.1)
+
+  -- those at home stay there
+  pub home_last : (b c : Core D E M m) (pid first pages : ℕ) (p : ObjectPage) → IsLastName b c pid first pages p → (q : ObjectPage) → (picture_of b).place (Object q) ≡ Home → (picture_of c).place (Object q) ≡ Home
+  home_last b c pid first pages p (inl same) q home = subst (λ (x : Core D E M m). (picture_of x).place (Object q) ≡ Home) (sym same.0) home
+  home_last b c pid first pages p (inr gone) q home = elim (cases_page (Object q) (Object p)) [ inl e ↦ ap (picture_of c).place e ∙ gone.0.placed | inr ne ↦ gone.0.others (Object q) ne ∙ home ]

@@ -8,9 +8,9 @@ pub use Rattle.page_tables.specs.{Change.{IsPruned}, Entry.{IsPageEntry, IsEntry
 pub use Rattle.{page_tables.specs.{Tree.{IsBelowRoot}, declared.forms.Entry.{Entry, TheVariants.{Swapped}}}, regions.{proofs.PermissionLemmas.{reads_protected}, specs.{Permission.{IsReadableMap, ReadsToo}, RunList.{IsNextRun, attr_at}}}}
 pub use Rattle.{regions.specs.declared.run.Run.{Run}, residency.proofs.{Bits.{valid_zero}, Counts.{any-same, any-more, count-same}, Entries.{entry-of, entries_kept}, Evicted.{seat_number, fit_released}, Granting.{user_map-same}}}
 pub use Rattle.residency.proofs.{Granting.{entry_for-same, readable-same, KeepsBehind, granting_changed}, Handed.{same, release_spares}, Leaving.{home_held}, Linked.{fit_same}, Moves.{view-none, own_kept, behind_kept, count_kept}}
-pub use Rattle.residency.proofs.{Moves.{owned_forth, owned_back, page_kept}, Places.{named_by, named-same, cases_page, named-more, dirty_same, objects-same, places_renamed, places_same, dirty_changed}, Putting.{with_slots}}
-pub use Rattle.residency.proofs.{Refusing.{used_inside}, Rooted.{used_kept}, SeatForms.{seat_own, seat_common, away_seat, views_given, held_given, swapped_form}, Seats.{counted_same, off-none, seat-same, seat-other, cases_seat}}
-pub use Rattle.residency.proofs.{Setting.{other_views, set_held, fit_set, view_seated, held_same, each_view}, SlotReleased.{fit_slot_released}, Start.{seat-none}, TableSteps.{sets_page, rooted_set}, Ways.{by_page}}
+pub use Rattle.residency.proofs.{Moves.{owned_forth, owned_back, page_kept, counted_kept, shares_same, bytes_same, set_by}, Places.{named_by, named-same, cases_page, named-more, dirty_same, objects-same, places_renamed, places_same, dirty_changed}, Putting.{with_slots}}
+pub use Rattle.residency.proofs.{Refusing.{used_inside}, Rooted.{used_kept, rooted_by}, SeatForms.{seat_own, seat_common, away_seat, views_given, held_given, swapped_form}, Seats.{counted_same, off-none, seat-same, seat-other, cases_seat}}
+pub use Rattle.residency.proofs.{Setting.{other_views, set_held, fit_set, view_seated, held_same, each_view}, SlotReleased.{fit_slot_released}, Start.{seat-none}, TableSteps.{sets_page, rooted_set, shares_kept}, Ways.{by_page, each_page}}
 pub use Rattle.residency.specs.{Calls.{KeepsBesidePlaces}, Capacity.{stored_object, touched_file}, Parts.{nowhere, IsFit, Nothing, IsRootedBut, Resident, Away, IsEntryFor, AsRoot, IsGranting, IsUsed, OnWay, AreObjects, IsMapped, IsBehind}}
 pub use Rattle.residency.specs.{Parts.{HasPlaces, IsResident, is_shared, IsFitBut}, Picture.{entry, Picture, own_in, view_of, bytes_in, picture_of, is_swapped, is_private, attr_where, IsOwned, page_in, count_in, bytes_at, is_live}}
 pub use Rattle.residency.specs.{Seats.{seat, Seat, InSlot, InFrame, AreCounted, off, OthersSame, is_seat}, Shows.{KeepsFiles, ShowsPages, object_bytes}, Steps.{SetsPage, SameBeside, HasNoEntry, Forgets, Remaps, KeepsShares}, Ways.{IsWhole}}

@@ -1,111 +1,58 @@
 -- A process gets other regions.
-use Rattle.ranges.proofs.Names.{top_level, ObjectPage, PageKey, Object, is_named, Attr, in_row, IsUserMap, ◌≡◌, ℕ, inl, inr, ◌+◌, ◌<◌, true, false, Option, Some, refl, sym, ap, ◌∙◌, subst, arith, ◌⊎◌, ◌≢◌, None, eq-eqb, ne_eqb, cases_eq}
-use Rattle.ranges.proofs.Names.{cases_Bool, IsSome, option_map, Home, FrameTable, role_of, count_of, bytes_of, SlotTable, frame_of, IsPage, IsTable, IsForest, IsRoot, Points, page_entry, IsReadableMap, Seat, InFrame, InSlot, seat, Picture}
-use Rattle.ranges.proofs.Names.{entry, view, held, bytes_in, IsOwned, count_in, page_in, AreObjects, IsEntryFor, Nothing, IsUsed, IsMapped, IsRootedBut, IsFit, nowhere, Remaps, entries_kept, KeepsBehind, entry_for-same, user_map-same}
-use Rattle.ranges.proofs.Names.{readable-same, objects-same, named-more, places_renamed, dirty_same, used_kept, counted_same, view_seated, held_same}
+use Rattle.ranges.proofs.Names.{top_level, ObjectPage, PageKey, Object, is_named, Attr, in_row, IsUserMap, ◌≡◌, ℕ, inl, inr, ◌+◌, true, false, Option, refl, sym, ap, ◌∙◌, subst, arith, ◌⊎◌, ◌≢◌, None, eq-eqb, ne_eqb, cases_eq}
+use Rattle.ranges.proofs.Names.{cases_Bool, IsSome, option_map, Home, FrameTable, role_of, count_of, bytes_of, frame_of, IsPage, IsTable, IsForest, IsRoot, Points, page_entry, IsReadableMap, seat, Picture}
+use Rattle.ranges.proofs.Names.{entry, view, held, bytes_in, AreObjects, IsEntryFor, Nothing, IsUsed, IsMapped, IsRootedBut, IsFit, nowhere, Remaps, entries_kept, entry_for-same, user_map-same}
+use Rattle.ranges.proofs.Names.{readable-same, objects-same, named-more, places_renamed, dirty_same, used_kept, counted_kept, shares_same, rooted_by, view_seated, held_same}
 use Rattle.ranges.{specs.{Rows.{plain, RemapsRow, with_map, without_maps}, Steps.{IsBeside, IsMappedBeside, IsWithoutTables}}, proofs.{ClearedPages.{not_beside}, Emptied.{row_parts, view-bare}, Forgotten.{IsRowRemapped}}}
-
--- Frames and slots are for what they were, and are shared as they were.
-module _ {mode : ℕ} where
-  pub record SameSeats (old new : Picture mode) : Type 0 where
-    pub roles : (n : ℕ) → role_of new.frames n ≡ role_of old.frames n
-    pub counts : (n : ℕ) → count_of new.frames n ≡ count_of old.frames n
-    pub slots : new.slots ≡ old.slots
-    pub page_of : (n : ℕ) → new.page_of n ≡ old.page_of n
-    pub place : (p : PageKey) → new.place p ≡ old.place p
-
-module _ {mode : ℕ} (old new : Picture mode) (same : SameSeats old new) where
-  pub owned_on : (z : Seat) → IsOwned old z → IsOwned new z
-  owned_on (InFrame n) is = same.roles n ∙ is
-  owned_on (InSlot k) is = ((subst (λ (t : SlotTable). 0 < t.count k) (sym same.slots) is.0), λ p e. is.1 p (sym (same.place p) ∙ e))
-
-  pub owned_before : (z : Seat) → IsOwned new z → IsOwned old z
-  owned_before (InFrame n) is = sym (same.roles n) ∙ is
-  owned_before (InSlot k) is = ((subst (λ (t : SlotTable). 0 < t.count k) same.slots is.0), λ p e. is.1 p (same.place p ∙ e))
-
-  pub counts_on : (z : Seat) → IsOwned old z → count_in new z ≡ count_in old z
-  counts_on (InFrame n) is = same.counts n
-  counts_on (InSlot k) is = ap (λ t. t.count k) same.slots
-
-  pub pages_on : (sp : ℕ → ℕ) (z : Seat) → IsOwned old z → page_in new sp z ≡ page_in old sp z
-  pages_on sp (InFrame n) is = same.page_of n
-  pages_on sp (InSlot k) is = refl
 
 -- other regions of a process want the tables that there are
 pub rooted_regions : {mode : ℕ} (old new : Picture mode) (pid : ℕ) → IsRootedBut old 0 → Remaps old new pid
     → ((m : ℕ) → IsTable old.frames m → (m ≡ 0) ⊎ IsUsed old (IsMapped new) m) → IsRootedBut new 0
-rooted_regions {mode = mode} old new pid rooted remaps used =
-    let was : (q r : ℕ) → new.root q ≡ Some r → old.root q ≡ Some r = λ q r e. sym (remaps.root q) ∙ e in
-    record {
-      forest = subst (λ (t : FrameTable). IsForest t) (sym remaps.frames) rooted.forest;
-      roots = λ q r e. subst (λ (t : FrameTable). IsRoot (top_level mode) t r) (sym remaps.frames) (rooted.roots q r (was q r e));
-      apart = λ p q r e f. rooted.apart p q r (was p r e) (was q r f);
-      numbers = λ q r e. rooted.numbers q r (was q r e);
-      used = λ m table. elim (used m (subst (λ (t : FrameTable). IsTable t m) remaps.frames table)) [
-        | inl z ↦ inl z
-        | inr o ↦ inr (used_kept old new (IsMapped new) (IsMapped new) m
-            (λ a i b p. (subst (λ (t : FrameTable). Points t a i b) (sym remaps.frames) p)) remaps.root (λ q p some. some) o)
-      ];
-    }
+rooted_regions {mode = mode} old new pid rooted remaps used = rooted_by old new 0 0 rooted remaps.root (subst (λ (t : FrameTable). IsForest t) (sym remaps.frames) rooted.forest)
+    (λ q r e. subst (λ (t : FrameTable). IsRoot (top_level mode) t r) (sym remaps.frames) (rooted.roots q r e))
+    (λ m table. elim (used m (subst (λ (t : FrameTable). IsTable t m) remaps.frames table)) [
+      | inl z ↦ inl z
+      | inr o ↦ inr (used_kept old new (IsMapped new) (IsMapped new) m
+          (λ a i b p. (subst (λ (t : FrameTable). Points t a i b) (sym remaps.frames) p)) remaps.root (λ q p some. some) o)
+    ])
+
+-- what holds of each process's pages holds still, where it holds of those of the one that has others
+pub each_map : {mode : ℕ} (old new : Picture mode) (pid : ℕ) (P : (ℕ → Option Attr) → Type 0) → ((f g : ℕ → Option Attr) → ((page : ℕ) → g page ≡ f page) → P f → P g)
+    → ((q page : ℕ) → q ≢ pid → new.at q page ≡ old.at q page) → P (new.at pid) → ((q : ℕ) → P (old.at q)) → (q : ℕ) → P (new.at q)
+each_map old new pid P same others here before q = elim (cases_eq q pid) [
+  | inl is ↦ subst (λ (x : ℕ). P (new.at x)) (sym is) here
+  | inr ne ↦ same (old.at q) (new.at q) (λ page. others q page ne) (before q)
+]
 
 -- the memory is the same
 module _ {mode : ℕ} (old new : Picture mode) (pid : ℕ) (fit : IsFit old) (remaps : Remaps old new pid) where
   entries_remapped : (q page : ℕ) → entry new q page ≡ entry old q page
   entries_remapped = entries_kept old new 0 fit.rooted (λ r p is_root. ap (λ t. page_entry t (top_level mode) r p) remaps.frames) remaps.root
 
-  seats : SameSeats old new
-  seats = record {
-    roles = λ n. ap (λ t. role_of t n) remaps.frames;
-    counts = λ n. ap (λ t. count_of t n) remaps.frames;
-    slots = remaps.slots;
-    page_of = remaps.page_of;
-    place = remaps.place;
-  }
-
-  behind : KeepsBehind old new
-  behind = record { place = λ p x e. remaps.place p ∙ e; files = remaps.files }
-
   fit_remapped : IsUserMap mode (new.at pid) → IsReadableMap (new.at pid) → AreObjects new.at → ((p : ObjectPage) → old.place (Object p) ≢ Home → is_named new.at p.object p.page ≡ true) → ((page : ℕ) → IsPage (top_level mode) page → IsEntryFor old (new.at pid page) (entry old pid page))
       → ((m : ℕ) → IsTable old.frames m → IsUsed old (IsMapped new) m) → IsFit new
-  fit_remapped user readable objects named fits used = record {
-    counted = (
-      fit.counted.0,
-      counted_same mode (entry old) (entry new) (IsOwned old) (IsOwned new) (count_in old) (count_in new) (page_in old fit.counted.0) (page_in new fit.counted.0)
-          (λ q p h. ap seat (entries_remapped q p)) nowhere 0 fit.counted.1 (owned_on old new seats) (owned_before old new seats) (counts_on old new seats) (pages_on old new seats fit.counted.0),
-    );
-    rooted = rooted_regions old new pid fit.rooted remaps (λ m table. inr (used m table));
-    granting = record {
-      entries = λ q page h. elim (cases_eq q pid) [
-        | inl is ↦ (
-            let here = entry_for-same old new (new.at pid page) (entry old pid page) behind
-            (λ private write one. seats.counts (frame_of (entry old pid page)) ∙ one) (fits page h) in
-            rw (entries_remapped q page) (subst (λ (x : ℕ). IsEntryFor new (new.at x page) (entry old x page)) (sym is) here))
-        | inr ne ↦ (
-            let there = entry_for-same old new (old.at q page) (entry old q page) behind
-            (λ private write one. seats.counts (frame_of (entry old q page)) ∙ one) (fit.granting.entries q page h) in
-            rw (remaps.others q page ne, entries_remapped q page) there)
-      ];
-      user = λ q. elim (cases_eq q pid) [
-        | inl is ↦ subst (λ (x : ℕ). IsUserMap mode (new.at x)) (sym is) user
-        | inr ne ↦ user_map-same mode (old.at q) (new.at q) (λ page. remaps.others q page ne) (fit.granting.user q)
-      ];
-      readable = λ q. elim (cases_eq q pid) [
-        | inl is ↦ subst (λ (x : ℕ). IsReadableMap (new.at x)) (sym is) readable
-        | inr ne ↦ readable-same (old.at q) (new.at q) (λ page. remaps.others q page ne) (fit.granting.readable q)
-      ];
-      objects = objects;
-    };
-    places = places_renamed old new fit.places remaps.place remaps.files named remaps.slots (λ x e. seats.roles x ∙ e) (λ x e. sym (seats.roles x) ∙ e);
-    dirty = dirty_same old new fit.dirty remaps.place remaps.touched (λ q page h. entries_remapped q page);
-  }
-
-  bytes_remapped : (z : Seat) → bytes_in new.frames new.slots z ≡ bytes_in old.frames old.slots z
-  bytes_remapped (InFrame n) = ap (λ t. bytes_of t n) remaps.frames
-  bytes_remapped (InSlot k) = ap (λ t. t.bytes k) remaps.slots
+  fit_remapped user readable objects named fits used =
+      let shares = shares_same old.frames new.frames remaps.frames in
+      record {
+        counted = counted_kept old new shares remaps.slots remaps.page_of remaps.place nowhere 0 (λ q p h. ap seat (entries_remapped q p)) fit.counted;
+        rooted = rooted_regions old new pid fit.rooted remaps (λ m table. inr (used m table));
+        granting = record {
+          entries = λ q page h. rw (entries_remapped q page) (entry_for-same old new (new.at q page) (entry old q page) (record { place = λ p x e. remaps.place p ∙ e; files = remaps.files })
+              (λ private write one. ap (λ t. count_of t (frame_of (entry old q page))) remaps.frames ∙ one) (elim (cases_eq q pid) [
+                | inl is ↦ subst (λ (x : ℕ). IsEntryFor old (new.at x page) (entry old x page)) (sym is) (fits page h)
+                | inr ne ↦ rw (remaps.others q page ne) (fit.granting.entries q page h)
+              ]));
+          user = each_map old new pid (IsUserMap mode) (user_map-same mode) remaps.others user fit.granting.user;
+          readable = each_map old new pid IsReadableMap readable-same remaps.others readable fit.granting.readable;
+          objects = objects;
+        };
+        places = places_renamed old new fit.places remaps.place remaps.files named remaps.slots shares.cache shares.was_cache;
+        dirty = dirty_same old new fit.dirty remaps.place remaps.touched (λ q page h. entries_remapped q page);
+      }
 
   -- a page that has the attributes that it had is seen as before
   view_remapped : (q page : ℕ) → new.at q page ≡ old.at q page → view new q page ≡ view old q page
-  view_remapped q page at = view_seated old new q page at (ap seat (entries_remapped q page)) (λ z is. bytes_remapped z)
+  view_remapped q page at = view_seated old new q page at (ap seat (entries_remapped q page)) (λ z is. ap (λ t. bytes_in t new.slots z) remaps.frames ∙ ap (λ s. bytes_in old.frames s z) remaps.slots)
 
   held_remapped : (p : PageKey) → held new p ≡ held old p
   held_remapped p = held_same old new p (remaps.place p) remaps.slots (λ n here. ap (λ t. bytes_of t n) remaps.frames)

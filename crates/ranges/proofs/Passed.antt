@@ -1,6 +1,7 @@
 -- Pages of a row that are not mapped, passed over.
-use Rattle.ranges.proofs.Names.{user_end, top_level, Attr, ◌≡◌, ℕ, inl, inr, ◌<◌, ◌≤◌, ◌+◌, Option, None, ap, ◌∙◌, subst, arith, cases_lt, false≢true, max, IsSome, IsPage, Picture, entry, IsUsed, AsRoot, OnWay, IsGranting, IsFit}
-use Rattle.ranges.{specs.{Rows.{IsUnmapped}, Steps.{IsBeside, Clears, IsMappedBeside, IsCleared}}, proofs.{ClearedPages.{by_row, clears_none, clears_then, not_beside}, Emptied.{IsRowCleared, row_cleared, unmapped_zero}}}
+use Rattle.vm_types.specs.declared.mode.Levels as Levels
+use Rattle.ranges.proofs.Names.{user_end, top_level, Attr, ◌≡◌, ℕ, inl, inr, ◌<◌, ◌≤◌, ◌+◌, Option, None, ap, ◌∙◌, subst, arith, cases_lt, false≢true, max, IsSome, IsPage, Picture, entry, IsUsed, AsRoot, OnWay, IsGranting, IsFit, Core, picture_of}
+use Rattle.ranges.{specs.{Rows.{IsUnmapped}, RowsCleared.{ClearsPages, ClearsRow}, Steps.{IsBeside, Clears, IsMappedBeside, IsCleared}}, proofs.{ClearedPages.{by_row, clears_none, clears_then, not_beside}, Emptied.{row_cleared, unmapped_zero}}}
 
 -- a page that isn't mapped has no entry
 bare : {mode : ℕ} (c : Picture mode) (pid page : ℕ) → IsGranting c → IsPage (top_level mode) page → c.at pid page ≡ None → entry c pid page ≡ 0
@@ -14,7 +15,7 @@ module _ {mode : ℕ} (c : Picture mode) (pid low mid high : ℕ) (granting : Is
   none_there : (page : ℕ) → IsPage (top_level mode) page → mid ≤ page → page < high → entry c pid page ≡ 0
   none_there page h from below = bare c pid page granting h (gap page from below)
 
-  pub clears_on : (old : Picture mode) → IsFit old → low ≤ mid → mid ≤ high → Clears old c pid low mid → Clears old c pid low high
+  clears_on : (old : Picture mode) → IsFit old → low ≤ mid → mid ≤ high → Clears old c pid low mid → Clears old c pid low high
   clears_on old fit le le' clears = clears_then old c c pid low mid high fit le le' clears (clears_none c pid mid high none_there)
 
   beside_on : (q p : ℕ) → IsMappedBeside c pid low mid q p → IsBeside pid low high q p
@@ -36,12 +37,21 @@ module _ {mode : ℕ} (c : Picture mode) (pid low mid high : ℕ) (granting : Is
     tables = λ m table. used_on m (cleared.tables m table);
   }
 
--- a row is cleared once it is as far as a page, and no page of the row is mapped from there on
-pub row_passed : {mode : ℕ} (old new : Picture mode) (pid first pages low page : ℕ) → IsFit old → IsGranting new → Clears old new pid low page → IsCleared new pid low page
-    → first + pages ≤ user_end mode → low ≡ max first 16 → low ≤ page → page ≤ max low (first + pages) → IsUnmapped (new.at pid) page (first + pages)
-    → IsRowCleared old new pid first pages
-row_passed old new pid first pages low page fit granting clears cleared row begins least within none =
-    let end = max page (first + pages) in
-    let gap : IsUnmapped (new.at pid) page end = λ p from below. none p from (omega (arith, from, below)) in
-    row_cleared old new pid first pages low end fit granting (clears_on new pid low page end granting gap old fit least (omega arith) clears) row begins (omega (arith, least, within))
-    (cleared_on new pid low page end granting gap cleared)
+module _ {M : Type 0} {m : Levels.Ghosts M} {D E : Type 0} where
+  pub pages_on : (old c : Core D E M m) (pid low mid high : ℕ) → IsFit (picture_of old) → low ≤ mid → mid ≤ high → IsUnmapped ((picture_of c).at pid) mid high → ClearsPages old c pid low mid → ClearsPages old c pid low high
+  pages_on old c pid low mid high fit le le' gap pages = record {
+    clears = clears_on (picture_of c) pid low mid high pages.fit.granting gap (picture_of old) fit le le' pages.clears;
+    fit = pages.fit;
+    rest = pages.rest;
+    refused = pages.refused;
+  }
+
+  -- a row is cleared once it is as far as a page, and no page of the row is mapped from there on
+  pub row_passed : (old c : Core D E M m) (pid first pages low page : ℕ) → IsFit (picture_of old) → ClearsPages old c pid low page → IsCleared (picture_of c) pid low page
+      → first + pages ≤ user_end m.mode → low ≡ max first 16 → low ≤ page → page ≤ max low (first + pages) → IsUnmapped ((picture_of c).at pid) page (first + pages)
+      → ClearsRow old c pid first pages
+  row_passed old c pid first pages low page fit done cleared row begins least within none =
+      let end = max page (first + pages) in
+      let gap : IsUnmapped ((picture_of c).at pid) page end = λ p from below. none p from (omega (arith, from, below)) in
+      row_cleared old c pid first pages low end fit (pages_on old c pid low page end fit least (omega arith) gap done) row begins (omega (arith, least, within))
+      (cleared_on (picture_of c) pid low page end done.fit.granting gap cleared)

@@ -1,17 +1,18 @@
 -- Tables without entries given back.
+use Rattle.vm_types.specs.declared.mode.Levels as Levels
 use Rattle.ranges.proofs.Names.{top_level, Attr, ◌≡◌, ◌≢◌, ℕ, suc, inl, inr, ◌⊎◌, ◌+◌, ◌-◌, ◌*◌, ◌/◌, ◌^◌, ◌<◌, ◌≤◌, Option, Some, refl, sym, ap, ◌∙◌, subst, arith, cases_lt, same_Some, IsSome, max, min, Role, Free, Zero, Table, Private}
 use Rattle.ranges.proofs.Names.{Cache, FrameTable, IsFrame, role_of, IsSound, index_of, IsPage, IsTable, IsForest, IsRoot, last_table, Way, IsBelowRoot, missing_of, page_entry, Prunes, IsPruned, free_is_no_table, ends, only_way}
-use Rattle.ranges.proofs.Names.{missing_of-is, stay_way, still_used, SlotTable, Seat, InFrame, InSlot, seat, Picture, entry, bytes_in, IsOwned, IsEntryFor, Nothing, Resident, Away, IsUsed, AsRoot, OnWay, IsMapped, IsRootedBut, IsFit}
-use Rattle.ranges.proofs.Names.{nowhere, SameBeside, KeepsShares, entries_kept, entry-of, fit_same, used_kept, view_seated, each_view, held_same}
-use Rattle.ranges.specs.{RowsCleared.{IsPartOf}, Steps.{IsBeside, SameTables, Clears, IsMappedBeside, IsWithoutTables, IsCleared, IsStepEnd}}
-use Rattle.ranges.proofs.{ClearedPages.{but_memory, but_then, by_row, clears_none, not_beside, returned_then}, Gaps.{gap_none, in_span_of, step_gap, user_inside}, Linked.{own_past}, Sharing.{inside_memory, private_data, cache_data}}
+use Rattle.ranges.proofs.Names.{missing_of-is, stay_way, still_used, SlotTable, Seat, seat, Picture, entry, bytes_in, IsOwned, IsEntryFor, Nothing, Resident, Away, IsUsed, AsRoot, OnWay, IsMapped, IsRootedBut, IsFit}
+use Rattle.ranges.proofs.Names.{nowhere, SameBeside, KeepsShares, entries_kept, entry-of, fit_same, used_kept, rooted_by, bytes_same, used_inside, Core, picture_of, view_seated, each_view, held_same}
+use Rattle.ranges.specs.{RowsCleared.{IsPartOf, ClearsNext}, Steps.{KeepsBesideMemory, IsBeside, SameTables, Clears, IsMappedBeside, IsWithoutTables, IsCleared}}
+use Rattle.ranges.proofs.{ClearedPages.{but_memory, but_then, by_row, clears_none, not_beside, returned_then}, Gaps.{gap_none, in_span_of, step_gap, user_inside}, Linked.{own_past}, Sharing.{private_data, cache_data}}
 
 cases_table : (r : Role) → (r ≡ Table) ⊎ (r ≢ Table)
 cases_table Table = inl refl
 cases_table r = inr (λ e. (cc))
 
 table_inside : (t : FrameTable) (n : ℕ) → IsSound t → role_of t n ≡ Table → IsFrame t n
-table_inside t n sound table = inside_memory t n sound (λ f. (let bad : Free ≡ Table = sym f ∙ table in (cc)))
+table_inside t n sound table = used_inside t n sound (λ f. (let bad : Free ≡ Table = sym f ∙ table in (cc)))
 
 table_gone : (old new : FrameTable) (top root page n : ℕ) → IsSound old → Prunes old new top root page → role_of old n ≡ Table → (role_of new n ≡ Table) ⊎ (role_of new n ≡ Free)
 table_gone old new top root page n sound prunes t = elim (prunes.gone n (record { inside = table_inside old n sound t; role = t })) [
@@ -54,26 +55,20 @@ module _ {mode : ℕ} (old new : Picture mode) (pid r start : ℕ) (fit : IsFit 
   is_root : IsRoot (top_level mode) old.frames r
   is_root = fit.rooted.roots pid r root
 
-  -- a table that stays is used as it was
+  -- a table that stays is on the ways that it was on, and is used as it was
+  way_stays : (x p m : ℕ) → IsTable new.frames m → IsBelowRoot old.frames (top_level mode) x p m → IsBelowRoot new.frames (top_level mode) x p m
+  way_stays x p m table below = (below.0, below.1, stay_way old.frames new.frames (top_level mode) r start fit.rooted.forest prunes x p (suc below.0) m table below.2)
+
   used_stays : (mapped mapped' : ℕ → ℕ → Type 0) (m : ℕ) → IsTable new.frames m → ((q p : ℕ) → mapped q p → mapped' q p) → IsUsed old mapped m → IsUsed new mapped' m
   used_stays mapped mapped' m table maps (AsRoot q is) = AsRoot q (beside.root q ∙ is)
   used_stays mapped mapped' m table maps (OnWay q x p is here below) =
-      OnWay q x p (beside.root q ∙ is) (maps q p here)
-      (below.0, below.1, stay_way old.frames new.frames (top_level mode) r start fit.rooted.forest prunes x p (suc below.0) m table below.2)
+      OnWay q x p (beside.root q ∙ is) (maps q p here) (way_stays x p m table below)
 
   rooted_pruned : IsRootedBut new 0
-  rooted_pruned =
-      let was : (q x : ℕ) → new.root q ≡ Some x → old.root q ≡ Some x = λ q x e. sym (beside.root q) ∙ e in
-      record {
-        forest = prunes.forest;
-        roots = λ q x e. prunes.roots x (fit.rooted.roots q x (was q x e));
-        apart = λ p q x e f. fit.rooted.apart p q x (was p x e) (was q x f);
-        numbers = λ q x e. fit.rooted.numbers q x (was q x e);
-        used = λ m table. elim (fit.rooted.used m (prunes.kept.tables m table)) [
-          | inl z ↦ inl z
-          | inr o ↦ inr (used_stays (IsMapped old) (IsMapped new) m table (mapped_still old new beside) o)
-        ];
-      }
+  rooted_pruned = rooted_by old new 0 0 fit.rooted beside.root prunes.forest (λ q x e. prunes.roots x (fit.rooted.roots q x e)) (λ m table. elim (fit.rooted.used m (prunes.kept.tables m table)) [
+    | inl z ↦ inl z
+    | inr o ↦ inr (used_stays (IsMapped old) (IsMapped new) m table (mapped_still old new beside) o)
+  ])
 
   pub same_pruned : (q p : ℕ) → entry new q p ≡ entry old q p
   same_pruned = entries_kept old new 0 fit.rooted prunes.entries beside.root
@@ -85,8 +80,7 @@ module _ {mode : ℕ} (old new : Picture mode) (pid r start : ℕ) (fit : IsFit 
   fit_pruned = fit_same old new nowhere 0 0 0 fit beside shares (λ q p h. same_pruned q p) rooted_pruned
 
   seat_bytes : (z : Seat) → IsOwned old z → bytes_in new.frames new.slots z ≡ bytes_in old.frames old.slots z
-  seat_bytes (InFrame n) is = prunes.kept.bytes n (private_data (role_of old.frames n) is)
-  seat_bytes (InSlot k) is = ap (λ t. t.bytes k) beside.slots
+  seat_bytes = bytes_same old new beside.slots (λ n is. prunes.kept.bytes n (private_data (role_of old.frames n) is))
 
   -- pages that had lost their entries before have none after it
   pub clears_pruned : (first : Picture mode) (low high : ℕ) → low ≤ start → start < high → Clears first old pid low high → Clears first new pid low high
@@ -136,11 +130,6 @@ module _ {mode : ℕ} (old new : Picture mode) (pid r start : ℕ) (fit : IsFit 
       ]
     ]
 
-    -- a page that is mapped still, and isn't one of those, needs the tables that stay
-    still_on : (q x p m : ℕ) → IsTable new.frames m → old.root q ≡ Some x → IsMappedBeside new pid low stop q p → IsBelowRoot old.frames (top_level mode) x p m → IsUsed new (IsMappedBeside new pid low stop) m
-    still_on q x p m table is after below =
-        OnWay q x p (beside.root q ∙ is) after (below.0, below.1, stay_way old.frames new.frames (top_level mode) r start fit.rooted.forest prunes x p (suc below.0) m table below.2)
-
     -- a table below the root is on the way to a page that isn't cleared before
     needed_before : (m p d : ℕ) → d < top_level mode → Way old.frames (top_level mode) r p (suc d) m
         → (q : ℕ) × IsMappedBeside old pid low start pid q × IsBelowRoot old.frames (top_level mode) r q m
@@ -170,7 +159,7 @@ module _ {mode : ℕ} (old new : Picture mode) (pid r start : ℕ) (fit : IsFit 
           by_use : IsUsed old (IsMappedBeside old pid low start) m → IsUsed new (IsMappedBeside new pid low stop) m
           by_use (AsRoot q is) = AsRoot q (beside.root q ∙ is)
           by_use (OnWay q x p is here below) = elim (kept_page q p here) [
-            | inl after ↦ still_on q x p m table is after below
+            | inl after ↦ OnWay q x p (beside.root q ∙ is) after (way_stays x p m table below)
             | inr between ↦ (
                 let who : old.root pid ≡ Some x = ap old.root (sym between.0) ∙ is in
                 let same : Some x ≡ Some r = sym who ∙ root in
@@ -185,38 +174,42 @@ module _ {mode : ℕ} (old new : Picture mode) (pid r start : ℕ) (fit : IsFit 
       pub cleared_block : IsCleared new pid low stop
       cleared_block = record { none = none_now; tables = tables_block }
 
--- what a step over the pages of a missing table comes to
-module _ {mode : ℕ} where
-  pub record PassesMissing (old new : Picture mode) (pid start end stop : ℕ) : Type 0 where
-    pub clears : Clears old new pid start stop
-    pub fit : IsFit new
-    pub cleared : (low : ℕ) → low ≤ start → IsCleared old pid low start → IsCleared new pid low stop
-    pub further : start < stop
-    pub ends : IsStepEnd old pid start end stop
+-- k tables are missing on the way to the first page of a step, and those above them that had no entries were given back
+module _ {M : Type 0} {m : Levels.Ghosts M} {D E : Type 0} (was now : Core D E M m) (pid r start end stop gap k : ℕ) (part : IsPartOf (picture_of was) pid start end) (root : (picture_of was).root pid ≡ Some r)
+    (prunes : Prunes was.frames now.frames (top_level m.mode) r start) (beside : SameBeside (picture_of was) (picture_of now)) (pruned : IsPruned now.frames (top_level m.mode) r start)
+    (missing : missing_of was.frames (top_level m.mode) r start ≡ k) (lacks : k ≢ 0) (at : gap ≡ (start / 512 ^ k + 1) * 512 ^ k) (is : stop ≡ min end gap) where
+  abbrev old : Picture m.mode
+  old = picture_of was
 
--- k tables are missing on the way to its first page, and those above them that had no entries were given back
-module _ {mode : ℕ} (old new : Picture mode) (pid r start end stop gap k : ℕ) (part : IsPartOf old pid start end) (sound : IsSound old.frames) (root : old.root pid ≡ Some r)
-    (prunes : Prunes old.frames new.frames (top_level mode) r start) (beside : SameBeside old new) (pruned : IsPruned new.frames (top_level mode) r start)
-    (missing : missing_of old.frames (top_level mode) r start ≡ k) (lacks : k ≢ 0) (at : gap ≡ (start / 512 ^ k + 1) * 512 ^ k) (is : stop ≡ min end gap) where
+  abbrev new : Picture m.mode
+  new = picture_of now
+
   in_span : (p : ℕ) → start ≤ p → p < stop → p / 512 ^ k ≡ start / 512 ^ k
   in_span p from below = in_span_of start p stop gap k from below (omega (arith, is)) at
 
-  none_there : (p : ℕ) → IsPage (top_level mode) p → start ≤ p → p < stop → entry old pid p ≡ 0
+  none_there : (p : ℕ) → IsPage (top_level m.mode) p → start ≤ p → p < stop → entry old pid p ≡ 0
   none_there p h from below = gap_none old pid r root k start p missing lacks (sym (in_span p from below))
 
   some_passed : start < stop
   some_passed = let past = own_past start gap k at in omega (arith, part.some, past, is)
 
-  pub passes_missing : PassesMissing old new pid start end stop
-  passes_missing = record {
-    clears = clears_pruned old new pid r start part.fit sound root prunes beside old start stop (omega arith) some_passed (clears_none old pid start stop none_there);
-    fit = fit_pruned old new pid r start part.fit sound root prunes beside;
-    cleared = λ low le cleared. cleared_block old new pid r start part.fit sound root prunes beside low stop le cleared none_there pruned
-        (user_inside mode start end part.some part.high) k (omega (arith, lacks)) (inr (sym missing)) in_span;
+  pub passes_missing : KeepsBesideMemory was now → now.refused ≡ was.refused → ClearsNext was now pid start end stop
+  passes_missing rest refused = record {
+    cleans = record {
+      pages = record {
+        clears = clears_pruned old new pid r start part.fit was.sound root prunes beside old start stop (omega arith) some_passed (clears_none old pid start stop none_there);
+        fit = fit_pruned old new pid r start part.fit was.sound root prunes beside;
+        rest = rest;
+        refused = refused;
+      };
+      cleared = λ low le cleared. cleared_block old new pid r start part.fit was.sound root prunes beside low stop le cleared none_there pruned
+          (user_inside m.mode start end part.some part.high) k (omega (arith, lacks)) (inr (sym missing)) in_span;
+    };
     further = some_passed;
+    within = omega (arith, is);
     ends = λ x lives. (
-        let same = ap (λ y. missing_of old.frames (top_level mode) y start) (sym (same_Some r x (sym root ∙ lives))) ∙ missing in
-        subst (λ (m : ℕ). stop ≡ min end ((start / 512 ^ max 1 m + 1) * 512 ^ max 1 m)) (sym same) (step_gap start end stop gap k lacks at is));
+        let same = ap (λ y. missing_of was.frames (top_level m.mode) y start) (sym (same_Some r x (sym root ∙ lives))) ∙ missing in
+        subst (λ (n : ℕ). stop ≡ min end ((start / 512 ^ max 1 n + 1) * 512 ^ max 1 n)) (sym same) (step_gap start end stop gap k lacks at is));
   }
 
 -- no page was cleared yet

@@ -1,10 +1,10 @@
 -- A row of pages with another permission, and the regions that say so.
 use Rattle.ranges.proofs.{ClearedPages.{by_row, not_valid}, Emptied.{in_row_from, row_parts, none_here, low_zero, pages_inside}, LeafEntries.{allowed, here_still}, Named.{named-alike, objects-alike, names-protected, uses-protected}}
-use Rattle.ranges.proofs.Names.{user_end, top_level, names, uses, PageKey, Object, Prot, Attr, backing_fits, with_prot, permitted, in_row, protected, IsUserMap, user_pages_fit, ◌≡◌, ℕ, inl, inr, ◌+◌, ◌<◌, ◌≤◌, ◌^◌, ◌↔◌, Bool, true, false}
-use Rattle.ranges.proofs.Names.{List, Option, Some, None, get_or, refl, sym, ap, ◌∙◌, subst, arith, cases_eq, cases_lt, cases_Bool, false≢true, IsSome, IfSome, max, option_map, if◌then◌else◌, Free, Table, FrameTable, role_of, count_of}
-use Rattle.ranges.proofs.Names.{bytes_of, is_valid, is_dirty, frame_of, IsPage, page_entry, Frame, ReadsToo, IsReadableMap, reads_protected, Seat, InFrame, InSlot, seat, Picture, entry, is_private, is_swapped, own_in, bytes_in, view_of}
-use Rattle.ranges.proofs.Names.{view, IsOwned, count_in, page_in, is_shared, IsBehind, IsRootedBut, IsEntryFor, IsResident, IsMapped, IsFit, nowhere, Remaps, entries_kept, KeepsBehind, entry_for-same, user_map-same, readable-same}
-use Rattle.ranges.proofs.{Names.{places_renamed, used_kept, counted_same, own_kept, view-none, view_seated, held_same, seat_own, seat_common}, NewRegions.{SameSeats, rooted_regions, owned_on, owned_before, counts_on, pages_on}}
+use Rattle.ranges.proofs.Names.{user_end, top_level, names, uses, PageKey, Object, Prot, Attr, backing_fits, with_prot, permitted, in_row, protected, IsUserMap, user_pages_fit, ◌≡◌, ◌≢◌, ℕ, inl, inr, ◌+◌, ◌<◌, ◌≤◌, ◌^◌, ◌↔◌, Bool, true, false}
+use Rattle.ranges.proofs.Names.{List, Option, Some, None, get_or, refl, sym, ap, ◌∙◌, subst, arith, cases_eq, cases_lt, cases_Bool, false≢true, IsSome, IfSome, max, option_map, if◌then◌else◌, FrameTable, role_of, count_of}
+use Rattle.ranges.proofs.Names.{is_valid, is_dirty, frame_of, IsPage, page_entry, Frame, ReadsToo, IsReadableMap, reads_protected, Seat, InFrame, seat, Picture, entry, is_private, is_swapped, own_in, bytes_in, view_of}
+use Rattle.ranges.proofs.Names.{view, is_shared, IsBehind, IsRootedBut, IsEntryFor, IsResident, IsMapped, IsFit, nowhere, Remaps, entries_kept, KeepsBehind, entry_for-same, user_map-same, readable-same}
+use Rattle.ranges.proofs.{Names.{places_renamed, used_kept, counted_kept, shares_kept, bytes_same, KeepsFrames, KeepsShares, own_kept, view-none, view_seated, held_same, seat_own, seat_common}, NewRegions.{rooted_regions, each_map}}
 use Rattle.ranges.{proofs.Sharing.{private_data, cache_data}, specs.{Leaves.{is_mapped_shared, TakesStores, IsPermittedEntry, Permits, Empty, Away, Kept, PermitsRow}, Rows.{ReprotectsRow}, Steps.{IsBeside, KeepsEntriesOfOthers}}}
 use Rattle.residency.specs.Parts as Parts
 
@@ -124,17 +124,11 @@ module _ {mode : ℕ} (old mid new : Picture mode) (pid first pages low high : �
     (rooted : IsRootedBut mid 0) (remaps : Remaps mid new pid)
     (at : (page : ℕ) → new.at pid page ≡ protected (old.at pid) first pages prot page) (reads : ReadsToo prot)
     (row : first + pages ≤ user_end mode) (begins : low ≡ max first 16) (ends : high ≡ max low (first + pages)) where
-  role : (m : ℕ) → role_of new.frames m ≡ role_of old.frames m
-  role m = ap (λ t. role_of t m) remaps.frames ∙ ap (λ rs. get_or rs m Free) permits.memory.roles
+  memory : KeepsFrames old.frames new.frames
+  memory = subst (λ (t : FrameTable). KeepsFrames old.frames t) (sym remaps.frames) permits.memory
 
-  counts : new.frames.counts ≡ old.frames.counts
-  counts = ap (λ t. t.counts) remaps.frames ∙ permits.memory.counts
-
-  count : (m : ℕ) → count_of new.frames m ≡ count_of old.frames m
-  count m = ap (λ cs. get_or cs m 0) counts
-
-  bytes : (m : ℕ) → (role_of old.frames m ≡ Table → ⊥) → bytes_of new.frames m ≡ bytes_of old.frames m
-  bytes m other = ap (λ t. bytes_of t m) remaps.frames ∙ permits.memory.bytes m other
+  shares : KeepsShares old.frames new.frames
+  shares = shares_kept old.frames new.frames memory
 
   root : (q : ℕ) → new.root q ≡ old.root q
   root q = remaps.root q ∙ permits.beside.root q
@@ -162,9 +156,6 @@ module _ {mode : ℕ} (old mid new : Picture mode) (pid first pages low high : �
 
   changed : (page : ℕ) → IsPage (top_level mode) page → low ≤ page → page < high → Permits old.frames (old.at pid page) prot (entry old pid page) (entry new pid page)
   changed page h least below = subst (λ (x : ℕ). Permits old.frames (old.at pid page) prot (entry old pid page) x) (sym (same_entry pid page)) (permits.changed page h least below)
-
-  seats : SameSeats old new
-  seats = record { roles = role; counts = count; slots = slots; page_of = page_of; place = place }
 
   seat_here : (q page : ℕ) → IsPage (top_level mode) page → seat (entry new q page) ≡ seat (entry old q page)
   seat_here q page h = elim (by_row pid low high q page) [
@@ -195,10 +186,13 @@ module _ {mode : ℕ} (old mid new : Picture mode) (pid first pages low high : �
     | inl e ↦ (let none = low_unmapped page (under_sixteen page out e) in at_row page e ∙ ap (option_map (with_prot prot)) none ∙ sym none)
   ]
 
+  other_at : (q page : ℕ) → q ≢ pid → new.at q page ≡ old.at q page
+  other_at q page ne = remaps.others q page ne ∙ permits.beside.at q page
+
   at_beside : (q page : ℕ) → IsBeside pid low high q page → new.at q page ≡ old.at q page
   at_beside q page out = elim (cases_eq q pid) [
     | inl is ↦ subst (λ (x : ℕ). new.at x page ≡ old.at x page) (sym is) (at_out page (subst (λ (x : ℕ). IsBeside pid low high x page) is out))
-    | inr ne ↦ remaps.others q page ne ∙ permits.beside.at q page
+    | inr ne ↦ other_at q page ne
   ]
 
   entry_none : (page : ℕ) → IsPage (top_level mode) page → IsBeside pid low high pid page → in_row first pages page ≡ true → entry old pid page ≡ 0
@@ -209,7 +203,7 @@ module _ {mode : ℕ} (old mid new : Picture mode) (pid first pages low high : �
 
   fits_still_here : (q page : ℕ) → IsPage (top_level mode) page → IsEntryFor new (old.at q page) (entry old q page)
   fits_still_here q page h =
-      entry_for-same old new (old.at q page) (entry old q page) keeps_behind (λ private write one. count (frame_of (entry old q page)) ∙ one)
+      entry_for-same old new (old.at q page) (entry old q page) keeps_behind (λ private write one. ap (λ cs. get_or cs (frame_of (entry old q page)) 0) memory.counts ∙ one)
       (fit.granting.entries q page h)
 
   fits : (q page : ℕ) → IsPage (top_level mode) page → IsEntryFor new (new.at q page) (entry new q page)
@@ -217,19 +211,19 @@ module _ {mode : ℕ} (old mid new : Picture mode) (pid first pages low high : �
     | inl out ↦ rw (at_beside q page out, kept q page h out) (fits_still_here q page h)
     | inr here ↦ (
         subst (λ (x : ℕ). IsEntryFor new (new.at x page) (entry new x page)) (sym here.0) (subst (λ (o : Option Attr). IsEntryFor new o (entry new pid page)) (sym (at_row page (in_here page here.1 here.2)))
-        (entry_permitted new old.frames (old.at pid page) prot (entry old pid page) (entry new pid page) counts (changed page h here.1 here.2) (fits_still_here pid page h))))
+        (entry_permitted new old.frames (old.at pid page) prot (entry old pid page) (entry new pid page) memory.counts (changed page h here.1 here.2) (fits_still_here pid page h))))
   ]
 
   names_still : (q k object page : ℕ) → names (new.at q k) object page ≡ names (old.at q k) object page
   names_still q k object page = elim (cases_eq q pid) [
     | inl is ↦ ap (λ x. names (new.at x k) object page) is ∙ ap (λ a. names a object page) (at k) ∙ names-protected (old.at pid) first pages prot k object page ∙ sym (ap (λ x. names (old.at x k) object page) is)
-    | inr ne ↦ ap (λ a. names a object page) (remaps.others q k ne ∙ permits.beside.at q k)
+    | inr ne ↦ ap (λ a. names a object page) (other_at q k ne)
   ]
 
   uses_still : (q k object : ℕ) → uses (new.at q k) object ≡ uses (old.at q k) object
   uses_still q k object = elim (cases_eq q pid) [
     | inl is ↦ ap (λ x. uses (new.at x k) object) is ∙ ap (λ a. uses a object) (at k) ∙ uses-protected (old.at pid) first pages prot k object ∙ sym (ap (λ x. uses (old.at x k) object) is)
-    | inr ne ↦ ap (λ a. uses a object) (remaps.others q k ne ∙ permits.beside.at q k)
+    | inr ne ↦ ap (λ a. uses a object) (other_at q k ne)
   ]
 
   dirty_still : (q page : ℕ) (p : PageKey) → IsPage (top_level mode) page → is_valid (entry new q page) ≡ true → is_private (entry new q page) ≡ false → is_dirty (entry new q page) ≡ true
@@ -269,29 +263,17 @@ module _ {mode : ℕ} (old mid new : Picture mode) (pid first pages low high : �
 
   fit_reprotected : IsFit new
   fit_reprotected = record {
-    counted = (
-      fit.counted.0,
-      counted_same mode (entry old) (entry new) (IsOwned old) (IsOwned new) (count_in old) (count_in new) (page_in old fit.counted.0) (page_in new fit.counted.0)
-          seat_here nowhere 0 fit.counted.1 (owned_on old new seats) (owned_before old new seats) (counts_on old new seats) (pages_on old new seats fit.counted.0),
-    );
+    counted = counted_kept old new shares slots page_of place nowhere 0 seat_here fit.counted;
     rooted = rooted_new;
     granting = record {
       entries = fits;
-      user = λ q. elim (cases_eq q pid) [
-        | inl is ↦ (
-            let P : ℕ → Type 0 = λ x. IsUserMap mode (new.at x) in
-            subst P (sym is) (user_map-same mode (protected (old.at pid) first pages prot) (new.at pid) at (user_protected mode (old.at pid) first pages prot (fit.granting.user pid))))
-        | inr ne ↦ user_map-same mode (old.at q) (new.at q) (λ page. remaps.others q page ne ∙ permits.beside.at q page) (fit.granting.user q)
-      ];
-      readable = λ q. elim (cases_eq q pid) [
-        | inl is ↦ (
-            let P : ℕ → Type 0 = λ x. IsReadableMap (new.at x) in
-            subst P (sym is) (readable-same (protected (old.at pid) first pages prot) (new.at pid) at (reads_protected (old.at pid) first pages prot reads (fit.granting.readable pid))))
-        | inr ne ↦ readable-same (old.at q) (new.at q) (λ page. remaps.others q page ne ∙ permits.beside.at q page) (fit.granting.readable q)
-      ];
+      user = each_map old new pid (IsUserMap mode) (user_map-same mode) other_at
+          (user_map-same mode (protected (old.at pid) first pages prot) (new.at pid) at (user_protected mode (old.at pid) first pages prot (fit.granting.user pid))) fit.granting.user;
+      readable = each_map old new pid IsReadableMap readable-same other_at
+          (readable-same (protected (old.at pid) first pages prot) (new.at pid) at (reads_protected (old.at pid) first pages prot reads (fit.granting.readable pid))) fit.granting.readable;
       objects = objects-alike old.at new.at names_still uses_still fit.granting.objects;
     };
-    places = places_renamed old new fit.places place files (λ p away. named-alike old.at new.at p.object p.page (λ q k. names_still q k p.object p.page) ∙ fit.places.inside (Object p) away) slots (λ n e. role n ∙ e) (λ n e. sym (role n) ∙ e);
+    places = places_renamed old new fit.places place files (λ p away. named-alike old.at new.at p.object p.page (λ q k. names_still q k p.object p.page) ∙ fit.places.inside (Object p) away) slots shares.cache shares.was_cache;
     dirty = record {
       dirty = dirty_still;
       held = λ p now home. fit.dirty.held p (sym (touched p) ∙ now) (sym (place p) ∙ home);
@@ -299,12 +281,8 @@ module _ {mode : ℕ} (old mid new : Picture mode) (pid first pages low high : �
     };
   }
 
-  seat_bytes : (z : Seat) → IsOwned old z → bytes_in new.frames new.slots z ≡ bytes_in old.frames old.slots z
-  seat_bytes (InFrame n) is = bytes n (private_data (role_of old.frames n) is)
-  seat_bytes (InSlot k) is = ap (λ t. t.bytes k) slots
-
   own_bytes : (q page : ℕ) → IsPage (top_level mode) page → (z : Seat) → seat (entry old q page) ≡ Some z → bytes_in new.frames new.slots z ≡ bytes_in old.frames old.slots z
-  own_bytes q page h z is = seat_bytes z (fit.counted.1.named q page z h is)
+  own_bytes q page h z is = bytes_same old new slots (λ n own. memory.bytes n (private_data (role_of old.frames n) own)) z (fit.counted.1.named q page z h is)
 
   view_beside : (q page : ℕ) → IsBeside pid low high q page → view new q page ≡ view old q page
   view_beside q page out = elim (cases_lt page (512 ^ (top_level mode + 1))) [
@@ -338,13 +316,13 @@ module _ {mode : ℕ} (old mid new : Picture mode) (pid first pages low high : �
     row = record {
       root = root;
       at = at;
-      others_at = λ q page ne. remaps.others q page ne ∙ permits.beside.at q page;
+      others_at = other_at;
       views = λ page. elim (cases_Bool (in_row first pages page)) [ inl e ↦ rw e (view_here page e) | inr e ↦ rw e (view_beside pid page (out_of_row page e)) ];
       entries = permits_here;
       kept = λ page h e. kept pid page h (out_of_row page e);
       others = λ q page ne. view_beside q page (inl ne);
       files = record {
-        held = λ p. inl (held_same old new p (place p) slots (λ n here. bytes n (cache_data (role_of old.frames n) (fit.places.cached p n here))));
+        held = λ p. inl (held_same old new p (place p) slots (λ n here. memory.bytes n (cache_data (role_of old.frames n) (fit.places.cached p n here))));
         touched = touched;
         files = files;
       };

@@ -1,11 +1,7 @@
 -- What gives back the share of a frame or of a slot, or takes an entry out: counts, and slots.
-use Rattle.ranges.proofs.Names.{top_level, ◌≡◌, ◌≢◌, ℕ, inl, inr, ◌+◌, ◌<◌, true, false, Option, Some, None, refl, sym, ap, ◌∙◌, subst, arith, false≢true, Role, Free, Table, Private, Cache, FrameTable, role_of, IsFrame, IsHeld, IsSound}
-use Rattle.ranges.proofs.Names.{is_valid, frame_of, IsPage, Seat, InFrame, seat, is_seat, holders_at, off, AreCounted, OthersSame, Picture, entry, IsOwned, count_in, page_in, IsRootedBut, IsFitBut, Nothing, nowhere, SetsPage, valid_zero}
-use Rattle.ranges.proofs.Names.{count-same, one_less, granting_changed, behind_kept, owned_forth, owned_back, count_kept, page_kept, places_same, dirty_changed, used_inside, cases_seat, seat-same, seat-other, off-none, seat-none, by_page}
-
--- a frame of some use is one of memory
-pub inside_memory : (t : FrameTable) (n : ℕ) → IsSound t → role_of t n ≢ Free → IsFrame t n
-inside_memory t n sound used = used_inside t n sound used
+use Rattle.ranges.proofs.Names.{top_level, ◌≡◌, ◌≢◌, ℕ, inl, inr, ◌+◌, ◌<◌, true, false, Option, Some, None, refl, sym, ap, ◌∙◌, subst, arith, false≢true, Role, Free, Table, Private, Cache, FrameTable, role_of, IsFrame, IsHeld}
+use Rattle.ranges.proofs.Names.{IsPage, Seat, seat, is_seat, holders_at, off, AreCounted, OthersSame, Picture, entry, IsOwned, count_in, page_in, IsRootedBut, IsFitBut, Nothing, nowhere, SetsPage, valid_zero}
+use Rattle.ranges.proofs.Names.{count-same, one_less, owned_forth, owned_back, count_kept, page_kept, set_by, cases_seat, seat-same, seat-other, off-none, seat-none, each_page}
 
 pub private_used : (r : Role) → r ≡ Private → r ≢ Free
 private_used r p f = let bad : Private ≡ Free = sym p ∙ f in (cc)
@@ -56,15 +52,11 @@ module _ (mode : ℕ) (old new : ℕ → ℕ → ℕ) (owned owned' : Seat → T
 
   still : (z : Seat) (p : ℕ) → z ≢ x → IsPage (top_level mode) p → holders_at new p z ≡ holders_at old p z
   unfolding holders_at
-  still z p ne h' = count-same (λ q. is_seat (seat (new q p)) z) (λ q. is_seat (seat (old q p)) z) 65 (λ q. elim (by_page q p pid k) [
-    | inl e ↦ (
-        let Q : ℕ → Type 0 = λ a. is_seat (seat (new pid a)) z ≡ is_seat (seat (old pid a)) z in
-        subst (λ (a : ℕ). is_seat (seat (new a p)) z ≡ is_seat (seat (old a p)) z) (sym e.0) (subst Q (sym e.1) (sits_none (seat (new pid k)) z to ∙ sym (sits_not (seat (old pid k)) x z from (λ e. ne (sym e))))))
-    | inr away ↦ ap (λ e. is_seat (seat e) z) (others q p h' away)
-  ])
+  still z p ne h' = count-same (λ q. is_seat (seat (new q p)) z) (λ q. is_seat (seat (old q p)) z) 65 (λ q. each_page (λ a b. is_seat (seat (new a b)) z ≡ is_seat (seat (old a b)) z) q p pid k
+      (sits_none (seat (new pid k)) z to ∙ sym (sits_not (seat (old pid k)) x z from (λ e. ne (sym e)))) (λ away. ap (λ e. is_seat (seat e) z) (others q p h' away)))
 
-  gone : (q p : ℕ) (z : Seat) → (q ≡ pid) × (p ≡ k) → seat (new q p) ≡ Some z → ⊥
-  gone q p z e is = let moved : new q p ≡ new pid k = ap (λ v. new v p) e.0 ∙ ap (λ v. new pid v) e.1 in let bad : None ≡ Some z = sym to ∙ ap seat (sym moved) ∙ is in (cc)
+  seat_was : (q p : ℕ) (z : Seat) → IsPage (top_level mode) p → seat (new q p) ≡ Some z → seat (old q p) ≡ Some z
+  seat_was q p z h' = each_page (λ a b. seat (new a b) ≡ Some z → seat (old a b) ≡ Some z) q p pid k (λ is. (let bad : None ≡ Some z = sym to ∙ is in (cc))) (λ away is. ap seat (sym (others q p h' away)) ∙ is)
 
   pub counted_emptied : AreCounted mode new owned' count' page' x 1
   counted_emptied = record {
@@ -72,47 +64,27 @@ module _ (mode : ℕ) (old new : ℕ → ℕ → ℕ) (owned owned' : Seat → T
         let was = back z now in
         elim (cases_seat z x) [
           | inl e ↦ (
-              let P : Seat → Type 0 = λ a. count' a ≡ holders_at new (page' a) a + off x 1 a in
-              let at : page' x ≡ k = pages x held_x ∙ noted_x in
-              let c = counts x held_x ∙ counted.counts x held_x in
-              let a = off-here x 1 in
-              let b = off-none x' x in
-              let l = lost in
-              subst P (sym e) (rw at (let c' : count' x ≡ holders_at old k x + off x' 0 x = (subst (λ (v : ℕ). count' x ≡ holders_at old v x + off x' 0 x) noted_x c) in omega (arith, c', a, b, l))))
+              let c = rw noted_x at (counted.counts x held_x) in
+              rw e (rw (pages x held_x, noted_x) (omega (arith, c, counts x held_x, off-here x 1, off-none x' x, lost))))
           | inr ne ↦ (
               let a = off-other x 1 z (λ f. ne (sym f)) in
               rw (pages z was) (omega (arith, counts z was ∙ counted.counts z was, still z (page z) ne (counted.pages z was), a, off-none x' z)))
         ]);
     pages = λ z now. (let was = back z now in subst (λ (v : ℕ). IsPage (top_level mode) v) (sym (pages z was)) (counted.pages z was));
-    named = λ q p z h' is. elim (by_page q p pid k) [
-      | inl e ↦ absurd (gone q p z e is)
-      | inr away ↦ forth z (counted.named q p z h' (ap seat (sym (others q p h' away)) ∙ is))
-    ];
-    noted = λ q p z h' is. elim (by_page q p pid k) [
-      | inl e ↦ absurd (gone q p z e is)
-      | inr away ↦ (let was = ap seat (sym (others q p h' away)) ∙ is in pages z (counted.named q p z h' was) ∙ counted.noted q p z h' was)
-    ];
+    named = λ q p z h' is. forth z (counted.named q p z h' (seat_was q p z h' is));
+    noted = λ q p z h' is. (let was = seat_was q p z h' is in pages z (counted.named q p z h' was) ∙ counted.noted q p z h' was);
   }
 
 -- the entry of a page, which named seat x, was taken out
 module _ {mode : ℕ} (old new : Picture mode) (x : Seat) (m pid page : ℕ) (fit : IsFitBut old nowhere 0 m) (sets : SetsPage old new pid page 0) (h : IsPage (top_level mode) page) (below : pid < 65)
     (from : seat (entry old pid page) ≡ Some x) (rooted : IsRootedBut new m) where
   pub fit_emptied : IsFitBut new x 1 m
-  fit_emptied = record {
-    counted = (
-      fit.counted.0,
-      counted_emptied mode (entry old) (entry new) (IsOwned old) (IsOwned new) (count_in old) (count_in new) (page_in old fit.counted.0) (page_in new fit.counted.0)
-          x nowhere pid page fit.counted.1 (owned_forth old new sets.beside sets.shares) (owned_back old new sets.beside sets.shares) (count_kept old new sets.beside sets.shares)
-          (λ z is. page_kept old new fit.counted.0 sets.beside z) h below from (ap seat sets.changed ∙ seat-none) sets.others,
-    );
-    rooted = rooted;
-    granting = granting_changed old new pid page fit.granting (behind_kept old new sets.beside)
-        (λ q p h' private one. sets.shares.counts (frame_of (entry old q p)) (fit.counted.1.named q p (InFrame (frame_of (entry old q p))) h' (rw private refl)) ∙ one)
-        sets.beside.at sets.others (Nothing sets.changed);
-    places = places_same old new fit.places sets.beside.place sets.beside.at sets.beside.files sets.beside.slots sets.shares.cache sets.shares.was_cache;
-    dirty = dirty_changed old new pid page fit.dirty sets.beside.place sets.beside.touched sets.others
-        (λ p valid common bit here. absurd (false≢true (sym (ap is_valid sets.changed ∙ valid_zero) ∙ valid)));
-  }
+  fit_emptied = set_by old new pid page 0 m sets (Nothing refl) rooted (λ p valid common bit at. absurd (false≢true (sym valid_zero ∙ valid))) nowhere x 0 1 fit (
+    fit.counted.0,
+    counted_emptied mode (entry old) (entry new) (IsOwned old) (IsOwned new) (count_in old) (count_in new) (page_in old fit.counted.0) (page_in new fit.counted.0)
+        x nowhere pid page fit.counted.1 (owned_forth old new sets.beside sets.shares) (owned_back old new sets.beside sets.shares) (count_kept old new sets.beside sets.shares)
+        (λ z is. page_kept old new fit.counted.0 sets.beside z) h below from (ap seat sets.changed ∙ seat-none) sets.others,
+  )
 
   pub owned_emptied : IsOwned new x
   owned_emptied = owned_forth old new sets.beside sets.shares x (fit.counted.1.named pid page x h from)

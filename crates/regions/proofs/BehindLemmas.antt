@@ -1,9 +1,9 @@
 -- The runs from the first one on that ends behind a page: a search by halves finds them, and each look-up from the page
 -- on needs no others.
-use Rattle.std.proofs.Common.{◌≡◌, ℕ, zero, suc, ◌^◌, ◌<◌, ◌≤◌, ⊎_elim, max, min, Bool, true, false, not, if◌then◌else◌, ◌&&◌, leb, ltb, refl, sym, ◌∙◌, ap, ap₂, subst, arith, List, [], ◌∷◌, length, drop, get_or, Option, Some, None, le-leb}
+use Rattle.std.proofs.Common.{inl, inr, ◌≡◌, ℕ, zero, suc, ◌^◌, ◌<◌, ◌≤◌, max, min, Bool, true, false, if◌then◌else◌, leb, ltb, refl, sym, ◌∙◌, ap, ap₂, subst, arith, List, [], ◌∷◌, length, drop, get_or, Option, Some, None, le-leb}
 use Rattle.{std.{proofs.{Common.{lt-ltb}, Math.Bool.{and-false}, lemmas.Bool.{le-ltb, lt-leb}}, specs.List.{slice_get, Sorted.{IsNonDecreasingBy, IsPartitionPoint}}}, vm_types.specs.declared.region.Attr.{Attr}}
-use Rattle.regions.{proofs.{ListLemmas.{attr_at-before}, RunLemmas.{by_leb, widest_run, attr_in-above, lt_or_le, or_else-none}}, specs.{Run.{IsRun, attr_in, cut_run, run_between}, RunList.{run_or_else, attr_at, IsMaximal}}}
-use Rattle.regions.specs.{Search.{first_part, gap_from, is_clear, run_or, runs_behind}, declared.run.Run.{Run}}
+use Rattle.regions.{proofs.{ListLemmas.{attr_at-before}, RunLemmas.{by_leb, widest_run, attr_in-above, lt_or_le, or_else-none}}, specs.{Run.{IsRun, attr_in, run_between}, RunList.{run_or_else, attr_at, IsMaximal}}}
+use Rattle.regions.specs.{Search.{first_part, gap_from, is_clear, runs_behind}, declared.run.Run.{Run}}
 
 -- what the search by halves leaves
 
@@ -62,14 +62,10 @@ module _ (mode : ℕ) where
     at_passed = ap (λ (o : Option Attr). run_or_else o (attr_at runs page)) (attr_in-above run page h)
 
     part_passed : first_part page (run ∷ runs) ≡ first_part page runs
-    part_passed =
-        ap (λ (b : Bool). run_or (if b then Some (cut_run None run (max run.first page) (min run.end (2 ^ 35))) else None) (first_part page runs))
-        (le-ltb (max run.first page) (min run.end (2 ^ 35)) (omega arith))
+    part_passed = rw (le-ltb (max run.first page) (min run.end (2 ^ 35)) (omega arith)) refl
 
     clear_passed : (end : ℕ) → is_clear page end (run ∷ runs) ≡ is_clear page end runs
-    clear_passed end =
-        ap (λ (b : Bool). not (ltb run.first end && b) && is_clear page end runs) (le-ltb page run.end h)
-        ∙ ap (λ (b : Bool). not b && is_clear page end runs) (and-false (ltb run.first end))
+    clear_passed end = rw (le-ltb page run.end h, and-false (ltb run.first end)) refl
 
     passed : (first : Option Run) → Looked mode page runs first → Looked mode page (run ∷ runs) first
     passed None l = record { at = at_passed ∙ l.at; part = part_passed ∙ l.part; clear = λ end. clear_passed end ∙ l.clear end }
@@ -79,29 +75,17 @@ module _ (mode : ℕ) where
 
   clear_later : (from page end : ℕ) (runs : List Run) → IsMaximal mode from runs → end ≤ from → is_clear page end runs ≡ true
   clear_later from page end [] m h = refl
-  clear_later from page end (run ∷ runs) m h =
-      ap (λ (b : Bool). not (b && ltb page run.end) && is_clear page end runs) (le-ltb run.first end (omega arith))
-      ∙ clear_later run.end page end runs m.3 (omega arith)
+  clear_later from page end (run ∷ runs) m h = rw (le-ltb run.first end (omega arith)) (clear_later run.end page end runs m.3 (omega arith))
 
   module _ (page : ℕ) (run : Run) (runs : List Run) (is_run : IsRun mode run) (rest : IsMaximal mode run.end runs) (h : page < run.end) where
     part_here : first_part page (run ∷ runs) ≡ run_between page (2 ^ 35) None run
-    part_here =
-        let high : run.end ≤ 2 ^ 35 = widest_run mode run is_run in
-        let inside : ltb (max run.first page) (min run.end (2 ^ 35)) ≡ true = lt-ltb (max run.first page) (min run.end (2 ^ 35)) (omega arith) in
-        ap (λ (b : Bool). run_or (if b then Some (cut_run None run (max run.first page) (min run.end (2 ^ 35))) else None) (first_part page runs)) inside
-        ∙ sym (ap (λ (b : Bool). if b then Some (cut_run None run (max run.first page) (min run.end (2 ^ 35))) else None) inside)
+    part_here = rw (lt-ltb (max run.first page) (min run.end (2 ^ 35)) (let high = widest_run mode run is_run in omega (arith, high, h))) refl
 
     clear_here : (end : ℕ) → is_clear page end (run ∷ runs) ≡ leb end run.first
-    clear_here end =
-        ap (λ (b : Bool). not (ltb run.first end && b) && is_clear page end runs) (lt-ltb page run.end h)
-        ∙ ⊎_elim
-        (λ (a : run.first < end).
-        ap (λ (b : Bool). not (b && true) && is_clear page end runs) (lt-ltb run.first end a) ∙ sym (lt-leb end run.first a))
-        (λ (a : end ≤ run.first).
-        ap (λ (b : Bool). not (b && true) && is_clear page end runs) (le-ltb run.first end a)
-        ∙ clear_later run.end page end runs rest (omega arith)
-        ∙ sym (le-leb end run.first a))
-        (lt_or_le run.first end)
+    clear_here end = elim (lt_or_le run.first end) [
+      | inl a ↦ rw (lt-ltb page run.end h, lt-ltb run.first end a, lt-leb end run.first a) refl
+      | inr a ↦ rw (lt-ltb page run.end h, le-ltb run.first end a, le-leb end run.first a) (clear_later run.end page end runs rest (omega arith))
+    ]
 
     here : Looked mode page (run ∷ runs) (Some run)
     here =

@@ -1,5 +1,5 @@
 -- A maximal list is as long as its map has runs.
-use Rattle.std.proofs.{Common.{◌≡◌, ◌≢◌, ℕ, zero, suc, ◌+◌, ◌-◌, ◌<◌, ◌≤◌, ⊎_elim, Bool, true, false, not, if◌then◌else◌, refl, sym, ◌∙◌, ap, ap₂, arith, List, [], ◌∷◌, length, Option, Some, None}, lemmas.Bool.{cases_eq}}
+use Rattle.std.proofs.{Common.{inl, inr, ◌≡◌, ◌≢◌, ℕ, zero, suc, ◌+◌, ◌-◌, ◌<◌, ◌≤◌, Bool, true, false, not, if◌then◌else◌, refl, sym, ◌∙◌, ap, ap₂, arith, List, [], ◌∷◌, length, Option, Some, None}, lemmas.Bool.{cases_eq}}
 use Rattle.vm_types.specs.{Limits.{user_end}, declared.region.Attr.{Attr}, Attributes.{attr_after, attr_eq}, Runs.{begins, begins_run, runs_below, run_count}}
 use Rattle.regions.specs.{declared.run.Run.{Run}, Run.{IsRun}, RunList.{run_or_else, attr_at, joins_first, IsMaximal, end_of}}
 use Rattle.regions.proofs.{AttrLemmas.{attr_after-add, attr_eq-same}, RunLemmas.{lt_or_le, attr_in-inside, attr_in-below, attr_in-above}, ListLemmas.{end_of-from, end_of-user, attr_at-before}, WalkLemmas.{not_merged}}
@@ -38,18 +38,6 @@ module _ (mode : ℕ) where
   nothing_before zero = refl
   nothing_before (suc page) = refl
 
-  begins_at_none : (before here : Option Attr) → here ≡ None → begins before here ≡ false
-  begins_at_none before here e = ap (λ (o : Option Attr). begins before o) e
-
-  begins_after_none : (before here : Option Attr) (attr : Attr) → before ≡ None → here ≡ Some attr → begins before here ≡ true
-  begins_after_none before here attr b e = ap₂ (λ (x y : Option Attr). begins x y) b e
-
-  begins_going_on : (before here : Option Attr) (attr next : Attr) → before ≡ Some attr → here ≡ Some next → attr_after attr 1 ≡ next → begins before here ≡ false
-  begins_going_on before here attr next b e s = ap₂ (λ (x y : Option Attr). begins x y) b e ∙ ap not (attr_eq-same (attr_after attr 1) next s)
-
-  begins_anew : (before here : Option Attr) (attr next : Attr) → before ≡ Some attr → here ≡ Some next → attr_eq (attr_after attr 1) next ≡ false → begins before here ≡ true
-  begins_anew before here attr next b e s = ap₂ (λ (x y : Option Attr). begins x y) b e ∙ ap not s
-
   module _ (run : Run) (runs : List Run) (r : IsRun mode run) (rest : IsMaximal mode run.end runs) where
     at_below : (page : ℕ) → page < run.first → attr_at (run ∷ runs) page ≡ None
     at_below page h =
@@ -66,40 +54,24 @@ module _ (mode : ℕ) where
     at_above page h = ap (λ (o : Option Attr). run_or_else o (attr_at runs page)) (attr_in-above run page h)
 
     begins_first : begins_run (attr_at (run ∷ runs)) run.first ≡ true
-    begins_first =
-        begins_run-is (attr_at (run ∷ runs)) run.first
-        ∙ begins_after_none (before_of (attr_at (run ∷ runs)) run.first) (attr_at (run ∷ runs) run.first) (attr_after run.attr (run.first - run.first))
-        (before_same (attr_at (run ∷ runs)) (λ _. None) run.first (λ k h. at_below k h) ∙ nothing_before run.first)
-        (at_inside run.first (omega arith) r.nonempty)
+    begins_first = rw (begins_run-is (attr_at (run ∷ runs)) run.first, before_same (attr_at (run ∷ runs)) (λ _. None) run.first (λ k h. at_below k h), nothing_before run.first, at_inside run.first (omega arith) r.nonempty) refl
 
     rest_first : begins_run (attr_at runs) run.first ≡ false
-    rest_first =
-        begins_run-is (attr_at runs) run.first
-        ∙ begins_at_none (before_of (attr_at runs) run.first) (attr_at runs run.first) (rest_below run.first r.nonempty)
+    rest_first = rw (begins_run-is (attr_at runs) run.first, rest_below run.first r.nonempty) refl
 
     inside_same : (page : ℕ) → run.first ≤ page → suc page < run.end → begins_run (attr_at (run ∷ runs)) (suc page) ≡ begins_run (attr_at runs) (suc page)
-    inside_same page a b =
-        let d : (page - run.first) + 1 ≡ suc page - run.first = omega arith in
-        begins_going_on (attr_at (run ∷ runs) page) (attr_at (run ∷ runs) (suc page)) (attr_after run.attr (page - run.first)) (attr_after run.attr (suc page - run.first))
-        (at_inside page a (omega arith)) (at_inside (suc page) (omega arith) b)
-        (attr_after-add run.attr (page - run.first) 1 ∙ ap (λ (n : ℕ). attr_after run.attr n) d)
-        ∙ sym (begins_at_none (attr_at runs page) (attr_at runs (suc page)) (rest_below (suc page) b))
+    inside_same page a b = rw (at_inside page a (omega arith), at_inside (suc page) (omega arith) b, rest_below (suc page) b)
+        (ap not (attr_eq-same _ _ (attr_after-add run.attr (page - run.first) 1 ∙ ap (λ (n : ℕ). attr_after run.attr n) (omega arith))))
 
     -- at the page past the run
     end_none : (page : ℕ) → run.first ≤ page → suc page ≡ run.end → attr_at runs (suc page) ≡ None → begins_run (attr_at (run ∷ runs)) (suc page) ≡ begins_run (attr_at runs) (suc page)
-    end_none page a e none =
-        begins_at_none (attr_at (run ∷ runs) page) (attr_at (run ∷ runs) (suc page)) (at_above (suc page) (omega arith) ∙ none)
-        ∙ sym (begins_at_none (attr_at runs page) (attr_at runs (suc page)) none)
+    end_none page a e none = rw (at_above (suc page) (omega arith), none) refl
 
     end_some : (page : ℕ) (next : Attr) → run.first ≤ page → suc page ≡ run.end → attr_at runs (suc page) ≡ Some next → attr_eq (attr_after run.attr (run.end - run.first)) next ≡ false → begins_run (attr_at (run ∷ runs)) (suc page) ≡ begins_run (attr_at runs) (suc page)
     end_some page next a e some differs =
         let d : (page - run.first) + 1 ≡ run.end - run.first = omega arith in
-        let after : attr_after (attr_after run.attr (page - run.first)) 1 ≡ attr_after run.attr (run.end - run.first) =
-        attr_after-add run.attr (page - run.first) 1 ∙ ap (λ (n : ℕ). attr_after run.attr n) d in
-        begins_anew (attr_at (run ∷ runs) page) (attr_at (run ∷ runs) (suc page)) (attr_after run.attr (page - run.first)) next
-        (at_inside page a (omega arith)) (at_above (suc page) (omega arith) ∙ some)
-        (ap (λ (x : Attr). attr_eq x next) after ∙ differs)
-        ∙ sym (begins_after_none (attr_at runs page) (attr_at runs (suc page)) next (rest_below page (omega arith)) some)
+        rw (at_inside page a (omega arith), at_above (suc page) (omega arith), some, rest_below page (omega arith))
+        (ap not (ap (λ (x : Attr). attr_eq x next) (attr_after-add run.attr (page - run.first) 1 ∙ ap (λ (n : ℕ). attr_after run.attr n) d) ∙ differs))
 
     above_same : (page : ℕ) → run.end ≤ page → begins_run (attr_at (run ∷ runs)) (suc page) ≡ begins_run (attr_at runs) (suc page)
     above_same page h = ap₂ (λ (x y : Option Attr). begins x y) (at_above page h) (at_above (suc page) (omega arith))
@@ -116,17 +88,16 @@ module _ (mode : ℕ) where
   -- but at its first page, a run adds no beginning
   others_same : (run : Run) (runs : List Run) → IsRun mode run → IsMaximal mode run.end runs → joins_first run runs ≡ false → (page : ℕ) → page ≢ run.first → begins_run (attr_at (run ∷ runs)) page ≡ begins_run (attr_at runs) page
   others_same run runs r rest j zero n = below_same run runs r rest zero (omega arith)
-  others_same run runs r rest j (suc page) n =
-      ⊎_elim
-      (λ (a : suc page < run.first). below_same run runs r rest (suc page) a)
-      (λ (a : run.first ≤ suc page). ⊎_elim
-      (λ (b : suc page < run.end). inside_same run runs r rest page (omega arith) b)
-      (λ (b : run.end ≤ suc page). ⊎_elim
-      (λ (c : page < run.end). end_same run runs r rest j page (omega arith) (omega arith))
-      (λ (c : run.end ≤ page). above_same run runs r rest page c)
-      (lt_or_le page run.end))
-      (lt_or_le (suc page) run.end))
-      (lt_or_le (suc page) run.first)
+  others_same run runs r rest j (suc page) n = elim (lt_or_le (suc page) run.first) [
+    | inl a ↦ below_same run runs r rest (suc page) a
+    | inr a ↦ elim (lt_or_le (suc page) run.end) [
+      | inl b ↦ inside_same run runs r rest page (omega arith) b
+      | inr b ↦ elim (lt_or_le page run.end) [
+        | inl c ↦ end_same run runs r rest j page (omega arith) (omega arith)
+        | inr c ↦ above_same run runs r rest page c
+      ]
+    ]
+  ]
 
   count_low : (run : Run) (runs : List Run) → IsRun mode run → IsMaximal mode run.end runs → (end : ℕ) → end ≤ run.first → runs_below (attr_at (run ∷ runs)) end ≡ runs_below (attr_at runs) end
   count_low run runs r rest end h =
@@ -139,18 +110,13 @@ module _ (mode : ℕ) where
   pub count_high : (run : Run) (runs : List Run) → IsRun mode run → IsMaximal mode run.end runs → joins_first run runs ≡ false → (end : ℕ) → run.first < end → runs_below (attr_at (run ∷ runs)) end ≡ runs_below (attr_at runs) end + 1
   unfolding runs_below
   count_high run runs r rest j zero h = absurd (omega arith)
-  count_high run runs r rest j (suc page) h =
-      ⊎_elim
-      (λ (e : page ≡ run.first).
-      let first : begins_run (attr_at (run ∷ runs)) page ≡ true = ap (λ (n : ℕ). begins_run (attr_at (run ∷ runs)) n) e ∙ begins_first run runs r rest in
-      let none : begins_run (attr_at runs) page ≡ false = ap (λ (n : ℕ). begins_run (attr_at runs) n) e ∙ rest_first run runs r rest in
-      ap (λ (b : Bool). if b then runs_below (attr_at (run ∷ runs)) page + 1 else runs_below (attr_at (run ∷ runs)) page) first
-      ∙ ap (λ (n : ℕ). n + 1) (count_low run runs r rest page (omega arith))
-      ∙ sym (ap (λ (b : Bool). (if b then runs_below (attr_at runs) page + 1 else runs_below (attr_at runs) page) + 1) none))
-      (λ (n : page ≡ run.first → ⊥).
-      ap (λ (b : Bool). if b then runs_below (attr_at (run ∷ runs)) page + 1 else runs_below (attr_at (run ∷ runs)) page) (others_same run runs r rest j page n)
-      ∙ one_more (begins_run (attr_at runs) page) (runs_below (attr_at (run ∷ runs)) page) (runs_below (attr_at runs) page) (count_high run runs r rest j page (omega arith)))
-      (cases_eq page run.first)
+  count_high run runs r rest j (suc page) h = elim (cases_eq page run.first) [
+    | inl e ↦ (let first : begins_run (attr_at (run ∷ runs)) page ≡ true = ap (λ (n : ℕ). begins_run (attr_at (run ∷ runs)) n) e ∙ begins_first run runs r rest in
+        let none : begins_run (attr_at runs) page ≡ false = ap (λ (n : ℕ). begins_run (attr_at runs) n) e ∙ rest_first run runs r rest in
+        rw (first, none, count_low run runs r rest page (omega arith)) refl)
+    | inr n ↦ (ap (λ (b : Bool). if b then runs_below (attr_at (run ∷ runs)) page + 1 else runs_below (attr_at (run ∷ runs)) page) (others_same run runs r rest j page n)
+        ∙ one_more (begins_run (attr_at runs) page) (runs_below (attr_at (run ∷ runs)) page) (runs_below (attr_at runs) page) (count_high run runs r rest j page (omega arith)))
+  ]
 
   count_nothing : (end : ℕ) → runs_below (attr_at []) end ≡ 0
   unfolding runs_below

@@ -141,8 +141,7 @@ module _ (mode : ℕ) where
       record { maximal = m; end = omega arith; longer = omega arith; at = λ page. sym (ap (λ (o : Option Attr). run_or_else o (attr_at old page)) (clipped-none low high prot page)) }
   pasted-is low high from prot old (run ∷ runs) m h r =
       let one : Pushed mode low high from prot old run (pushed_part old (run_between low high prot run)) = run_pasted low high from prot old run m h r.0 r.1 in
-      let rest : Pasted mode low high prot (pushed_part old (run_between low high prot run)) runs (pasted low high prot (pushed_part old (run_between low high prot run)) runs) =
-      pasted-is low high run.end prot (pushed_part old (run_between low high prot run)) runs one.maximal one.behind r.3 in
+      let rest = pasted-is low high run.end prot (pushed_part old (run_between low high prot run)) runs one.maximal one.behind r.3 in
       record {
         maximal = rest.maximal;
         end = omega arith;

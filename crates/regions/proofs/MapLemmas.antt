@@ -1,5 +1,5 @@
 -- The maps that the rebuilt lists stand for, and how long their beginnings are.
-use Rattle.{std.proofs.Common.{◌≡◌, ℕ, ◌-◌, ◌^◌, ◌<◌, ◌≤◌, ◌⊎◌, inl, inr, ⊎_elim, max, Bool, if◌then◌else◌, ◌&&◌, leb, ltb, refl, sym, ◌∙◌, ap, arith, List, [], Option, Some, None, option_map}, vm_types.specs.Attributes.{attr_after}}
+use Rattle.{std.proofs.Common.{◌≡◌, ℕ, ◌-◌, ◌^◌, ◌<◌, ◌≤◌, inl, inr, ⊎_elim, max, if◌then◌else◌, ◌&&◌, leb, ltb, refl, sym, ◌∙◌, ap, arith, List, [], Option, Some, None, option_map}, vm_types.specs.Attributes.{attr_after}}
 use Rattle.{vm_types.specs.{Attributes.{with_prot}, declared.{permission.Prot.{Prot}, region.Attr.{Attr}}}, regions.proofs.ListLemmas.{end_of-widest, attr_at-behind, end_of-pushed, maximal-pushed, attr_at-pushed, Pasted, pasted-is}}
 use Rattle.regions.{proofs.RunLemmas.{lt_or_le, row_inside, row_below, row_above, attr_in-inside, attr_in-below, attr_in-above, or_else-none, clipped, clipped-inside, clipped-below, clipped-above, changed-none}, specs.Run.{IsRun, attr_in}}
 use Rattle.regions.specs.{RunList.{run_or_else, attr_at, IsMaximal, end_of, pushed, pasted, list_removed, list_protected, list_replaced}, declared.run.Run.{Run}}
@@ -24,25 +24,17 @@ module _ (mode : ℕ) where
       let e : end_of 16 runs ≤ 2 ^ 35 = end_of-widest mode runs m in
       attr_at-behind mode 16 runs page m (omega arith)
 
-  row_none : (first end page : ℕ) (x o : Option Attr) → (page < first) ⊎ (end ≤ page) → (if leb first page && ltb page end then x else o) ≡ o
-  row_none first end page x o h =
-      ⊎_elim (λ a. ap (λ (b : Bool). if b then x else o) (row_below first end page a)) (λ a. ap (λ (b : Bool). if b then x else o) (row_above first end page a)) h
-
-  row_some : (first end page : ℕ) (x o : Option Attr) → first ≤ page → page < end → (if leb first page && ltb page end then x else o) ≡ x
-  row_some first end page x o a b = ap (λ (c : Bool). if c then x else o) (row_inside first end page a b)
-
   -- the three parts of a page's place
   three_parts : (first end page : ℕ) (x o middle : Option Attr) → first ≤ end → (2 ^ 35 ≤ page → o ≡ None) →
       (page < first → middle ≡ None) → (first ≤ page → page < end → run_or_else middle None ≡ x) → (end ≤ page → middle ≡ None) →
       run_or_else (clipped end (2 ^ 35) None page o) (run_or_else middle (run_or_else (clipped 0 first None page o) None)) ≡ (if leb first page && ltb page end then x else o)
-  three_parts first end page x o middle h high m1 m2 m3 =
-      ⊎_elim
-      (λ (a : page < first). rw (row_none first end page x o (inl a), clipped-below end (2 ^ 35) None page o (omega arith), m1 a) (clip_front first page o a))
-      (λ (a : first ≤ page). ⊎_elim
-      (λ (b : page < end). rw (row_some first end page x o a b, clipped-below end (2 ^ 35) None page o b, clip_no_front first page o a) (m2 a b))
-      (λ (b : end ≤ page). rw (row_none first end page x o (inr b), clip_back end page o b high, m3 b, clip_no_front first page o a) (or_else-none o))
-      (lt_or_le page end))
-      (lt_or_le page first)
+  three_parts first end page x o middle h high m1 m2 m3 = elim (lt_or_le page first) [
+    | inl a ↦ rw (row_below first end page a, clipped-below end (2 ^ 35) None page o (omega arith), m1 a) (clip_front first page o a)
+    | inr a ↦ elim (lt_or_le page end) [
+      | inl b ↦ rw (row_inside first end page a b, clipped-below end (2 ^ 35) None page o b, clip_no_front first page o a) (m2 a b)
+      | inr b ↦ rw (row_above first end page b, clip_back end page o b high, m3 b, clip_no_front first page o a) (or_else-none o)
+    ]
+  ]
 
   module _ (runs : List Run) (m : IsMaximal mode 16 runs) (first end : ℕ) (h : first ≤ end) where
     pub front_is : Pasted mode 0 first None [] runs (pasted 0 first None [] runs)

@@ -1,5 +1,5 @@
 -- What the walks along a list find, said of its map.
-use Rattle.std.proofs.Common.{◌==◌, IfSome, IsSome, ◌/◌, ◌≡◌, ℕ, zero, suc, ◌+◌, ◌<◌, ◌≤◌, ◌⊎◌, inl, inr, ⊎_elim, max, Bool, true, false, not, if◌then◌else◌, ◌&&◌, leb, ltb, refl, sym, ◌∙◌, ap, ap₂, arith, List, [], ◌∷◌, Option, Some, None}
+use Rattle.std.proofs.Common.{◌==◌, IfSome, IsSome, ◌/◌, ◌≡◌, ℕ, zero, suc, ◌+◌, ◌<◌, ◌≤◌, ◌⊎◌, inl, inr, max, Bool, true, false, not, if◌then◌else◌, ◌&&◌, leb, ltb, refl, sym, ◌∙◌, ap, ap₂, arith, List, [], ◌∷◌, Option, Some, None}
 use Rattle.{std.proofs.{Common.{is_some, is_none, true≢false, leb-true, leb-false, ltb-true, le-leb, lt-ltb}, lemmas.Bool.{cases_Bool, cases_eq, false_from_ne_true, and_parts, and_from}}, vm_types.specs.Limits.{user_end}}
 use Rattle.{vm_types.specs.{Placement.{is_free, is_place, lowest_from, lowest_place, placed}, Rows.{is_covered}, declared.region.Attr.{Attr}}, regions.proofs.{ListLemmas.{attr_at-before}, RunLemmas.{by_leb, by_ltb, lt_or_le}}}
 use Rattle.regions.{proofs.RunLemmas.{attr_in-inside, attr_in-below, attr_in-above}, specs.{Run.{IsRun, attr_in}, RunList.{run_or_else, attr_at, IsMaximal}, Search.{gap_from, is_clear, lowest_gap}, declared.run.Run.{Run}}}
@@ -17,10 +17,10 @@ unfolding is_covered
 is_covered-at map first zero k e a b = absurd (omega arith)
 is_covered-at map first (suc count) k e a b =
     let parts = and_parts (is_some (map (first + count))) (is_covered map first count) e in
-    ⊎_elim
-    (λ (q : k ≡ first + count). ap (λ (n : ℕ). is_some (map n)) q ∙ parts.0)
-    (λ (q : k ≡ first + count → ⊥). is_covered-at map first count k parts.1 a (omega arith))
-    (cases_eq k (first + count))
+    elim (cases_eq k (first + count)) [
+      | inl q ↦ ap (λ (n : ℕ). is_some (map n)) q ∙ parts.0
+      | inr q ↦ is_covered-at map first count k parts.1 a (omega arith)
+    ]
 
 pub is_free-all : (map : ℕ → Option Attr) (first count : ℕ) → ((k : ℕ) → first ≤ k → k < first + count → map k ≡ None) → is_free map first count ≡ true
 unfolding is_free
@@ -37,10 +37,10 @@ unfolding is_free
 is_free-at map first zero k e a b = absurd (omega arith)
 is_free-at map first (suc count) k e a b =
     let parts = and_parts (is_none (map (first + count))) (is_free map first count) e in
-    ⊎_elim
-    (λ (q : k ≡ first + count). ap (λ (n : ℕ). map n) q ∙ none_is (map (first + count)) parts.0)
-    (λ (q : k ≡ first + count → ⊥). is_free-at map first count k parts.1 a (omega arith))
-    (cases_eq k (first + count))
+    elim (cases_eq k (first + count)) [
+      | inl q ↦ ap (λ (n : ℕ). map n) q ∙ none_is (map (first + count)) parts.0
+      | inr q ↦ is_free-at map first count k parts.1 a (omega arith)
+    ]
 
 some_else : (a b : Option Attr) → is_some b ≡ true → is_some (run_or_else a b) ≡ true
 some_else None b e = e
@@ -85,10 +85,10 @@ module _ (mode : ℕ) where
   gap_further run runs page gap h g =
       record {
         from = omega arith;
-        mapped = λ k a b. ⊎_elim
-            (λ (c : k < run.end). some_inside run runs k (omega arith) c)
-            (λ (c : run.end ≤ k). some_else (attr_in run k) (attr_at runs k) (g.mapped k (omega arith) b))
-            (lt_or_le k run.end);
+        mapped = λ k a b. elim (lt_or_le k run.end) [
+          | inl c ↦ some_inside run runs k (omega arith) c
+          | inr c ↦ some_else (attr_in run k) (attr_at runs k) (g.mapped k (omega arith) b)
+        ];
         open_there = ap (λ (o : Option Attr). run_or_else o (attr_at runs gap)) (attr_in-above run gap (omega arith)) ∙ g.open_there;
       }
 
@@ -114,24 +114,17 @@ module _ (mode : ℕ) where
   -- a clear row is free
 
   clear_apart : (run : Run) (first end : ℕ) → not (ltb run.first end && ltb first run.end) ≡ true → (end ≤ run.first) ⊎ (run.end ≤ first)
-  clear_apart run first end e =
-      ⊎_elim
-      (λ (a : run.first < end). ⊎_elim
-      (λ (b : first < run.end). absurd (true≢false (sym e ∙ ap not (and_from (ltb run.first end) (ltb first run.end) (lt-ltb run.first end a) (lt-ltb first run.end b)))))
-      (λ (b : run.end ≤ first). inr b)
-      (lt_or_le first run.end))
-      (λ (a : end ≤ run.first). inl a)
-      (lt_or_le run.first end)
+  clear_apart run first end e = elim (lt_or_le run.first end) [
+    | inl a ↦ elim (lt_or_le first run.end) [ inl b ↦ absurd (true≢false (sym (rw (lt-ltb run.first end a, lt-ltb first run.end b) at e))) | inr b ↦ inr b ]
+    | inr a ↦ inl a
+  ]
 
   clear_none : (first end : ℕ) (runs : List Run) (k : ℕ) → is_clear first end runs ≡ true → first ≤ k → k < end → attr_at runs k ≡ None
   clear_none first end [] k e a b = refl
   clear_none first end (run ∷ runs) k e a b =
       let parts = and_parts (not (ltb run.first end && ltb first run.end)) (is_clear first end runs) e in
       ap (λ (o : Option Attr). run_or_else o (attr_at runs k))
-      (⊎_elim
-      (λ (h : end ≤ run.first). attr_in-below run k (omega arith))
-      (λ (h : run.end ≤ first). attr_in-above run k (omega arith))
-      (clear_apart run first end parts.0))
+      (elim (clear_apart run first end parts.0) [ inl h ↦ attr_in-below run k (omega arith) | inr h ↦ attr_in-above run k (omega arith) ])
       ∙ clear_none first end runs k parts.1 a b
 
   rest_none : (a b : Option Attr) → run_or_else a b ≡ None → b ≡ None
@@ -151,15 +144,12 @@ module _ (mode : ℕ) where
       (none_clear run.end first end runs m.3 h (λ k a b. rest_none (attr_in run k) (attr_at runs k) (none k a b)))
 
   pub is_free-clear : (runs : List Run) (first count : ℕ) → IsMaximal mode 16 runs → 0 < count → is_free (attr_at runs) first count ≡ is_clear first (first + count) runs
-  is_free-clear runs first count m h =
-      ⊎_elim
-      (λ (e : is_clear first (first + count) runs ≡ true).
-      is_free-all (attr_at runs) first count (λ k a b. clear_none first (first + count) runs k e a b) ∙ sym e)
-      (λ (e : is_clear first (first + count) runs ≡ false).
-      false_from_ne_true (is_free (attr_at runs) first count)
-      (λ f. true≢false (sym (none_clear 16 first (first + count) runs m (omega arith) (λ k a b. is_free-at (attr_at runs) first count k f a b)) ∙ e))
-      ∙ sym e)
-      (cases_Bool (is_clear first (first + count) runs))
+  is_free-clear runs first count m h = elim (cases_Bool (is_clear first (first + count) runs)) [
+    | inl e ↦ is_free-all (attr_at runs) first count (λ k a b. clear_none first (first + count) runs k e a b) ∙ sym e
+    | inr e ↦ (false_from_ne_true (is_free (attr_at runs) first count)
+        (λ f. true≢false (sym (none_clear 16 first (first + count) runs m (omega arith) (λ k a b. is_free-at (attr_at runs) first count k f a b)) ∙ e))
+        ∙ sym e)
+  ]
 
   pub is_place-true : (map : ℕ → Option Attr) (count first : ℕ) → IsPlace mode map count first → is_place mode map count first ≡ true
   unfolding is_place
@@ -189,14 +179,11 @@ module _ (mode : ℕ) where
   lowest_from-some : (map : ℕ → Option Attr) (count first pages place : ℕ) → IsPlace mode map count place → ((k : ℕ) → k < place → IsPlace mode map count k → ⊥) → first ≤ place → place < first + pages → lowest_from mode map count first pages ≡ Some place
   unfolding lowest_from
   lowest_from-some map count first zero place p low a b = absurd (omega arith)
-  lowest_from-some map count first (suc pages) place p low a b =
-      ⊎_elim
-      (λ (e : first ≡ place).
-      from_test map count first pages true (ap (λ (n : ℕ). is_place mode map count n) e ∙ is_place-true map count place p) ∙ ap (λ (n : ℕ). Some n) e)
-      (λ (e : first ≡ place → ⊥).
-      from_test map count first pages false (false_from_ne_true (is_place mode map count first) (λ t. low first (omega arith) (is_place-is map count first t)))
-      ∙ lowest_from-some map count (suc first) pages place p low (omega arith) (omega arith))
-      (cases_eq first place)
+  lowest_from-some map count first (suc pages) place p low a b = elim (cases_eq first place) [
+    | inl e ↦ from_test map count first pages true (ap (λ (n : ℕ). is_place mode map count n) e ∙ is_place-true map count place p) ∙ ap (λ (n : ℕ). Some n) e
+    | inr e ↦ (from_test map count first pages false (false_from_ne_true (is_place mode map count first) (λ t. low first (omega arith) (is_place-is map count first t)))
+        ∙ lowest_from-some map count (suc first) pages place p low (omega arith) (omega arith))
+  ]
 
   pub lowest_place-is : (map : ℕ → Option Attr) (count : ℕ) (place : Option ℕ) → IsLowest mode map count place → lowest_place mode map count ≡ place
   unfolding lowest_place
@@ -213,20 +200,18 @@ module _ (mode : ℕ) where
 
     -- no place before the end of a run that leaves too small a gap
     no_place : (run : Run) (runs : List Run) (page : ℕ) → IsRun mode run → run.first < page + count → ((k : ℕ) → page ≤ k → map k ≡ attr_at (run ∷ runs) k) → ((k : ℕ) → k < page → IsPlace mode map count k → ⊥) → (k : ℕ) → k < run.end → IsPlace mode map count k → ⊥
-    no_place run runs page r over same low k h p =
-        ⊎_elim
-        (λ (c : k < page). low k c p)
-        (λ (c : page ≤ k).
-        true≢false (sym (some_inside run runs (max k run.first) (omega arith) (omega arith))
-        ∙ ap (λ (o : Option Attr). is_some o) (sym (same (max k run.first) (omega arith)) ∙ is_free-at map k count (max k run.first) p.free (omega arith) (omega arith))))
-        (lt_or_le k page)
+    no_place run runs page r over same low k h p = elim (lt_or_le k page) [
+      | inl c ↦ low k c p
+      | inr c ↦ (true≢false (sym (some_inside run runs (max k run.first) (omega arith) (omega arith))
+          ∙ ap (λ (o : Option Attr). is_some o) (sym (same (max k run.first) (omega arith)) ∙ is_free-at map k count (max k run.first) p.free (omega arith) (omega arith))))
+    ]
 
     walk : (page : ℕ) (runs : List Run) → 16 ≤ page → IsMaximal mode page runs → ((k : ℕ) → page ≤ k → map k ≡ attr_at runs k) → ((k : ℕ) → k < page → IsPlace mode map count k → ⊥) → IsLowest mode map count (lowest_gap mode count page runs)
     walk page [] a m same low =
         by_leb (IsLowest mode map count) (page + count) (user_end mode) (Some page) None
         (λ (h : page + count ≤ user_end mode). low_here page a h (λ k c _. same k c) low)
         (λ (h : user_end mode < page + count).
-        λ k p. ⊎_elim (λ (c : k < page). low k c p) (λ (c : page ≤ k). let high : k + count ≤ user_end mode = p.high in absurd (omega arith)) (lt_or_le k page))
+        λ k p. elim (lt_or_le k page) [ inl c ↦ low k c p | inr c ↦ let high : k + count ≤ user_end mode = p.high in absurd (omega arith) ])
     walk page (run ∷ runs) a m same low =
         by_leb (IsLowest mode map count) (page + count) run.first (Some page) (lowest_gap mode count run.end runs)
         (λ (h : page + count ≤ run.first).
@@ -255,7 +240,7 @@ module _ (mode : ℕ) where
       false_from_ne_true (is_place mode map count first)
       (λ e.
       let p : IsPlace mode map count first = is_place-is map count first e in
-      ⊎_elim (λ (a : first < 16). absurd (omega arith)) (λ (a : user_end mode < first + count). absurd (omega arith)) h)
+      elim h [ inl a ↦ absurd (omega arith) | inr a ↦ absurd (omega arith) ])
 
   pub placed-is : (map : ℕ → Option Attr) (address count : ℕ) (x y : Bool) → (address == 0) ≡ x → is_place mode map count (address / 4096) ≡ y
       → placed mode map address count ≡ (if not x && y then Some (address / 4096) else lowest_place mode map count)

@@ -1,7 +1,7 @@
 -- What is public of a list's map: where it is mapped, and what a walk over its runs finds.
-use Rattle.std.proofs.{Common.{◌≡◌, ℕ, ◌+◌, ◌-◌, ◌^◌, ◌<◌, ◌≤◌, ◌&&◌, eq-eqb, ⊎_elim, max, min, Bool, false, refl, sym, ◌∙◌, ap, subst, arith, List, [], ◌∷◌, Option, Some, None, IsSome, IfSome, IfNone}, lemmas.Option.{same_Some}}
+use Rattle.std.proofs.{Common.{inl, inr, ◌≡◌, ℕ, ◌+◌, ◌-◌, ◌^◌, ◌<◌, ◌≤◌, ◌&&◌, eq-eqb, max, min, Bool, false, refl, sym, ◌∙◌, ap, subst, arith, List, [], ◌∷◌, Option, Some, None, IsSome, IfSome, IfNone}, lemmas.Option.{same_Some}}
 use Rattle.{vm_types.specs.{Attributes.{attr_after, attr_eq, backing_fits}, Limits.{user_end}, Rows.{IsUserMap}, declared.region.Attr.{Attr}}, regions.proofs.AttrLemmas.{attr_after-add, attr_after-zero, backing_fits-after}}
-use Rattle.regions.proofs.{AttrLemmas.{backing_fits-less}, ListLemmas.{attr_at-before}, RunLemmas.{by_ltb, widest_run, lt_or_le, attr_in-inside, attr_in-below, attr_in-above, attr_in-cut, clipped-inside, changed-none, IsPart, cut-run}}
+use Rattle.regions.proofs.{AttrLemmas.{backing_fits-less}, ListLemmas.{attr_at-before}, RunLemmas.{side, below, inside, above, by_ltb, widest_run, lt_or_le, attr_in-inside, attr_in-below, attr_in-above, attr_in-cut, clipped-inside, changed-none, IsPart, cut-run}}
 use Rattle.regions.specs.{Run.{IsRun, attr_in, cut_run}, RunList.{run_or_else, attr_at, joins_first, IsMaximal, IsNextRun}, Search.{first_part, run_or}, declared.run.Run.{Run}}
 
 -- only user pages are mapped
@@ -29,14 +29,11 @@ module _ (mode : ℕ) where
       (λ _. (omega arith, omega arith), backing_fits-after run.attr.backing (page - run.first) 1 fits)
 
   user_in : (run : Run) (page : ℕ) → IsRun mode run → IsUserAttr mode page (attr_in run page)
-  user_in run page r =
-      ⊎_elim
-      (λ (a : page < run.first). subst (λ (o : Option Attr). IsUserAttr mode page o) (sym (attr_in-below run page a)) (user_none page))
-      (λ (a : run.first ≤ page). ⊎_elim
-      (λ (b : page < run.end). subst (λ (o : Option Attr). IsUserAttr mode page o) (sym (attr_in-inside run page a b)) (user_inside run page r a b))
-      (λ (b : run.end ≤ page). subst (λ (o : Option Attr). IsUserAttr mode page o) (sym (attr_in-above run page b)) (user_none page))
-      (lt_or_le page run.end))
-      (lt_or_le page run.first)
+  user_in run page r = elim (side run page) [
+    | below a ↦ rw (attr_in-below run page a) (user_none page)
+    | inside a b ↦ rw (attr_in-inside run page a b) (user_inside run page r a b)
+    | above b ↦ rw (attr_in-above run page b) (user_none page)
+  ]
 
   user_or : (page : ℕ) (a b : Option Attr) → IsUserAttr mode page a → IsUserAttr mode page b → IsUserAttr mode page (run_or_else a b)
   user_or page None b ha hb = hb
@@ -53,19 +50,16 @@ module _ (mode : ℕ) where
   pub not_merged : (run : Run) (runs : List Run) (attr : Attr) → IsMaximal mode run.end runs → joins_first run runs ≡ false → attr_at runs run.end ≡ Some attr
       → attr_eq (attr_after run.attr (run.end - run.first)) attr ≡ false
   not_merged run [] attr rest apart there = (let bad : None ≡ Some attr = there in (cc))
-  not_merged run (next ∷ runs) attr rest apart there =
-      ⊎_elim
-      (λ (behind : run.end < next.first). (let bad : None ≡ Some attr = sym (attr_at-before mode next.first (next ∷ runs) run.end (omega arith, rest.1, rest.2, rest.3) behind) ∙ there in (cc)))
-      (λ (here : next.first ≤ run.end).
-      let some : next.first < next.end = rest.1.nonempty in
-      let e : run.end ≡ next.first = omega (arith, rest.0, here) in
-      let none : run.end - next.first ≡ 0 = omega (arith, e) in
-      let is : attr_in next run.end ≡ Some next.attr =
-      attr_in-inside next run.end here (omega (arith, e, some)) ∙ ap (λ (n : ℕ). Some (attr_after next.attr n)) none ∙ ap (λ (a : Attr). Some a) (attr_after-zero next.attr) in
-      let same : next.attr ≡ attr = same_Some next.attr attr (sym (ap (λ (o : Option Attr). run_or_else o (attr_at runs run.end)) is) ∙ there) in
-      let Q : Attr → Type 0 = λ a. attr_eq (attr_after run.attr (run.end - run.first)) a ≡ false in
-      subst Q same (subst (λ (b : Bool). (b && attr_eq (attr_after run.attr (run.end - run.first)) next.attr) ≡ false) (eq-eqb run.end next.first e) apart))
-      (lt_or_le run.end next.first)
+  not_merged run (next ∷ runs) attr rest apart there = elim (lt_or_le run.end next.first) [
+    | inl behind ↦ (let bad : None ≡ Some attr = sym (attr_at-before mode next.first (next ∷ runs) run.end (omega arith, rest.1, rest.2, rest.3) behind) ∙ there in (cc))
+    | inr here ↦ (let some : next.first < next.end = rest.1.nonempty in
+        let e : run.end ≡ next.first = omega (arith, rest.0, here) in
+        let none : run.end - next.first ≡ 0 = omega (arith, e) in
+        let is = attr_in-inside next run.end here (omega (arith, e, some)) ∙ ap (λ (n : ℕ). Some (attr_after next.attr n)) none ∙ ap (λ (a : Attr). Some a) (attr_after-zero next.attr) in
+        let same : next.attr ≡ attr = same_Some next.attr attr (sym (ap (λ (o : Option Attr). run_or_else o (attr_at runs run.end)) is) ∙ there) in
+        let Q : Attr → Type 0 = λ a. attr_eq (attr_after run.attr (run.end - run.first)) a ≡ false in
+        subst Q same (subst (λ (b : Bool). (b && attr_eq (attr_after run.attr (run.end - run.first)) next.attr) ≡ false) (eq-eqb run.end next.first e) apart))
+  ]
 
   next_here : (page : ℕ) (run : Run) (runs : List Run) → IsRun mode run → joins_first run runs ≡ false → IsMaximal mode run.end runs → max run.first page < min run.end (2 ^ 35) → IsNextRun mode (attr_at (run ∷ runs)) page (cut_run None run (max run.first page) (min run.end (2 ^ 35)))
   next_here page run runs r apart rest h =
@@ -91,8 +85,7 @@ module _ (mode : ℕ) where
             let end : min run.end (2 ^ 35) ≡ run.end = omega (arith, high) in
             let behind : attr_at (run ∷ runs) run.end ≡ attr_at runs run.end = ap (λ (o : Option Attr). run_or_else o (attr_at runs run.end)) (attr_in-above run run.end (omega arith)) in
             let count : (max run.first page - run.first) + (min run.end (2 ^ 35) - max run.first page) ≡ run.end - run.first = omega (arith, h, end) in
-            let long : attr_after (attr_after run.attr (max run.first page - run.first)) (min run.end (2 ^ 35) - max run.first page) ≡ attr_after run.attr (run.end - run.first) =
-            attr_after-add run.attr (max run.first page - run.first) (min run.end (2 ^ 35) - max run.first page) ∙ ap (attr_after run.attr) count in
+            let long = attr_after-add run.attr (max run.first page - run.first) (min run.end (2 ^ 35) - max run.first page) ∙ ap (attr_after run.attr) count in
             subst (λ (a : Attr). attr_eq a attr ≡ false) (sym long) (not_merged run runs attr rest apart (sym behind ∙ ap (attr_at (run ∷ runs)) (sym end) ∙ there));
       }
 

@@ -1,5 +1,5 @@
 -- Frames given up one after the other, and what becomes of entries then.
-use Rattle.residency.{proofs.{Bits.{some_framed, framed, changed_once}, Names.{◌≡◌, ℕ, ◌<◌, inl, inr, true, Option, Some, None, refl, sym, ap, ◌∙◌, subst, false≢true, Free, Table, IsFull, frame_of}}, specs.Ages.{Ages, Same, Cleared, Left}}
+use Rattle.residency.{proofs.{Bits.{some_framed, framed, changed_once}, Names.{◌≡◌, ℕ, ◌<◌, inl, inr, true, Option, Some, None, sym, ap, ◌∙◌, subst, rules, false≢true, Free, Table, IsFull, frame_of}}, specs.Ages.{Ages, Same, Cleared, Left}}
 use Rattle.residency.specs.{Ages.{LeavesFrame, IsGiven, GivesNone, GivesForTables}, Leaves.{concerns, Drops}, Picture.{Picture, entry, is_data}, declared.leaves.Change.{Change, TheVariants.{Forget, ClearAccessed}}}
 
 pub ages_map : (g h : ℕ → Type 0) (e e' : ℕ) → ((n : ℕ) → g n → h n) → Ages g e e' → Ages h e e'
@@ -27,13 +27,7 @@ ages_then g a b c (Left is given left) (Cleared again more) = absurd (left_none 
 ages_then g a b c (Left is given left) (Left again more gone) = absurd (left_none a b Forget left again)
 
 pub gives_same : {mode : ℕ} (c : Picture mode) → GivesForTables c c None
-gives_same c = record {
-  count = refl;
-  roles = λ n. inl refl;
-  entries = λ pid page h. Same refl;
-  pointers = λ n i m points. points;
-  needed = inr (record { roles = λ n datum. refl; entries = λ pid page h. refl; places = λ p. refl });
-}
+gives_same c = search (rules, inl, inr, Same)
 
 pub full_then : {mode : ℕ} (old new : Picture mode) (tried : Option ℕ) → GivesForTables old new tried → IsFull old.frames → IsFull new.frames
 full_then old new tried gives full = λ n inside free. elim (gives.roles n) [

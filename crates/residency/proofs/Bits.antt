@@ -25,24 +25,15 @@ frame_same : (e d : ℕ) → e / 1024 ≡ d / 1024 → frame_of e ≡ frame_of d
 unfolding frame_of
 frame_same e d same = ap (λ x. x % 2 ^ 44) same
 
-pub drops_six : (e : ℕ) → e / 64 % 2 ≡ 1 → Drops e (e - 64)
-drops_six e bit = record {
-  valid = bit_same (e - 64) e 0 (omega arith);
-  reads = bit_same (e - 64) e 1 (omega arith);
-  writes = bit_same (e - 64) e 2 (omega arith);
-  executes = bit_same (e - 64) e 3 (omega arith);
-  private = bit_same (e - 64) e 8 (omega arith);
-  frame = frame_same (e - 64) e (omega arith);
-}
-
-pub drops_seven : (e : ℕ) → e / 128 % 2 ≡ 1 → Drops e (e - 128)
-drops_seven e bit = record {
-  valid = bit_same (e - 128) e 0 (omega arith);
-  reads = bit_same (e - 128) e 1 (omega arith);
-  writes = bit_same (e - 128) e 2 (omega arith);
-  executes = bit_same (e - 128) e 3 (omega arith);
-  private = bit_same (e - 128) e 8 (omega arith);
-  frame = frame_same (e - 128) e (omega arith);
+-- a bit of the two that a walk sets is gone
+pub drops_by : (e d : ℕ) → d % 64 ≡ e % 64 → d / 256 ≡ e / 256 → Drops e d
+drops_by e d low high = record {
+  valid = bit_same d e 0 (omega arith);
+  reads = bit_same d e 1 (omega arith);
+  writes = bit_same d e 2 (omega arith);
+  executes = bit_same d e 3 (omega arith);
+  private = bit_same d e 8 (omega arith);
+  frame = frame_same d e (omega arith);
 }
 
 pub six_clear : (e : ℕ) → e / 64 % 2 ≡ 1 → is_accessed (e - 64) ≡ false

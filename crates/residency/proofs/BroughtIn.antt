@@ -1,20 +1,21 @@
 -- A file page comes into a free frame, and is touched there.
-use Rattle.residency.proofs.{Bits.{valid_zero}, Entries.{entries_kept}, Granting.{granting_same}, Moves.{shares_same, fit_kept, counted_on}, Names.{top_level, PageKey, File, Object, Attr, Backing, ◌≡◌, ◌≢◌, ℕ, inl, inr, ◌<◌, List, true}}
+use Rattle.residency.proofs.{Bits.{valid_zero}, Entries.{entries_kept}, Granting.{behind_page, granting_same}, Moves.{shares_same, fit_kept, counted_on}, Names.{top_level, PageKey, Attr, Backing, ◌≡◌, ◌≢◌, ℕ, inl, inr, ◌<◌, List, true}}
 use Rattle.residency.proofs.Names.{false, Option, Some, refl, sym, ap, ◌∙◌, arith, cases_eq, false≢true, Free, Table, Private, Cache, FrameTable, bytes_of, role_of, SameButFor, Takes, with_bytes, with_bytes-others, is_valid, frame_of}
 use Rattle.residency.proofs.{Names.{IsPage, KeepsTrees, data_changed, Home, Frame, Slot}, Placed.{places_replaced, dirty_replaced}, Places.{cases_page, one_frame}, Rooted.{rooted_same, rooted_frames}, Setting.{view_seated, each_view}}
 use Rattle.residency.{proofs.Setting.{held_by}, specs.{Parts.{IsFit, IsEntryFor, Nothing, Resident, Away, IsBehind, HasPlaces, IsDirtySound, nowhere}, Picture.{Picture, entry, view, held, bytes_at, bytes_in, IsOwned, count_in, page_in}}}
-use Rattle.{residency.specs.{Seats.{Seat, InFrame, InSlot, seat, is_private, is_swapped}, Steps.{BringsIn}}, vm_types.specs.declared.region.Backing.TheVariants.{Anon, Private as PrivateOf, Shared as SharedOf, Common as CommonOf}}
+use Rattle.residency.specs.{Seats.{Seat, InFrame, InSlot, seat, is_private, is_swapped}, Steps.{BringsIn}}
+
+pub others_then : (n : ℕ) (a b c : FrameTable) → SameButFor n a b → SameButFor n b c → SameButFor n a c
+others_then n a b c f g = record {
+  frames = g.frames ∙ f.frames;
+  bytes = λ m ne. g.bytes m ne ∙ f.bytes m ne;
+  roles = λ m ne. g.roles m ne ∙ f.roles m ne;
+  counts = λ m ne. g.counts m ne ∙ f.counts m ne;
+}
 
 -- a frame that was taken and written, as the other frames see it
 pub frames_written : (old mid : FrameTable) (n : ℕ) (w : List ℕ) → Takes old mid Cache n → SameButFor n old (with_bytes mid n w)
-frames_written old mid n w takes =
-    let written = with_bytes-others mid n w in
-    record {
-      frames = written.frames ∙ takes.others.frames;
-      bytes = λ m ne. written.bytes m ne ∙ takes.others.bytes m ne;
-      roles = λ m ne. takes.others.roles m ne;
-      counts = λ m ne. takes.others.counts m ne;
-    }
+frames_written old mid n w takes = others_then n old mid (with_bytes mid n w) takes.others (with_bytes-others mid n w)
 
 module _ {mode : ℕ} (old new : Picture mode) (page : PageKey) (n : ℕ) (fit : IsFit old) (brings : BringsIn old new page n) where
   not_there : (m : ℕ) → role_of old.frames m ≢ Free → m ≢ n
@@ -101,10 +102,7 @@ module _ {mode : ℕ} (old new : Picture mode) (page : PageKey) (n : ℕ) (fit :
   })
 
   behind_ne : (b : Backing) (m : ℕ) → IsBehind old b m → m ≢ n
-  behind_ne Anon m is = λ e. (let a = brings.above in omega (arith, is, e, a))
-  behind_ne (PrivateOf p) m is = cache_ne m (fit.places.cached (File p) m is)
-  behind_ne (SharedOf p) m is = cache_ne m (fit.places.cached (File p) m is)
-  behind_ne (CommonOf p) m is = cache_ne m (fit.places.cached (Object p) m is)
+  behind_ne b m is e = let there = behind_page old b m (let a = brings.above in omega (arith, e, a)) is in cache_ne m (fit.places.cached there.0 m there.2) e
 
   resident_ne : (pid k : ℕ) (a : Option Attr) → IsEntryFor old a (entry old pid k) → is_valid (entry old pid k) ≡ true → is_private (entry old pid k) ≡ false → frame_of (entry old pid k) ≢ n
   resident_ne pid k a (Nothing none) valid common = absurd (false≢true (sym (ap is_valid none ∙ valid_zero) ∙ valid))

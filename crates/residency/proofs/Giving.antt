@@ -1,12 +1,7 @@
 -- What is told of frames that are given up for others, from what was done to one.
-use Rattle.residency.proofs.{Aging.{ages_map, ages_then}, Entries.{entries_kept}, Names.{top_level, FrameNo, ◌≡◌, ◌≢◌, ℕ, ◌⊎◌, inl, inr, true, Option, Some, None, refl, sym, ap, ◌∙◌, subst, arith, cases_eq, false≢true, Result, Ok, Err}}
-use Rattle.residency.{proofs.Names.{OnErr, Free, Table, frame_count, role_of, IsFrame, IsFull, AddsTable, Points, same_taken}, specs.Ages.{Same, Cleared, GivesFrame, GivesNone, GivesForTables, IsGiven, KeepsRoles, KeepsRolesBut}}
+use Rattle.residency.proofs.{Aging.{ages_map, ages_then}, Entries.{entries_kept}, Names.{top_level, FrameNo, ◌≡◌, ◌≢◌, ℕ, ◌⊎◌, inl, inr, true, Option, Some, None, refl, sym, ap, ◌∙◌, subst, arith, cases_eq, false≢true}}
+use Rattle.residency.{proofs.Names.{Free, Table, frame_count, role_of, IsFrame, IsFull, AddsTable, Points, same_taken}, specs.Ages.{Same, Cleared, GivesFrame, GivesNone, GivesForTables, IsGiven, KeepsRoles, KeepsRolesBut}}
 use Rattle.residency.specs.{Calls.{Frees}, Evictions.{GivesUp, ClearsMarks}, Leaves.{ChangesLeaves}, Parts.{IsFit}, Picture.{Picture, entry, is_data}, Steps.{SameBeside}, declared.leaves.Change.TheVariants.{ClearAccessed}}
-
--- what is so however a call ended
-pub on_err_same : {T E : Type 0} (Q : Type 0) (r : Result T E) → Q → OnErr r Q
-on_err_same Q (Ok n) is = tt
-on_err_same Q (Err e) is = is
 
 -- marks cleared
 pub marks_none : {mode : ℕ} (c : Picture mode) → ClearsMarks c c

@@ -1,5 +1,5 @@
 -- Grants: what each step does to what entries let be done.
-use Rattle.residency.proofs.Names.{top_level, PageKey, File, Object, Attr, Backing, Anon, Shared, Common, is_past_end_of, IsUserMap, is_past_end, ◌≡◌, ◌≢◌, ℕ, true, Option, refl, ap, ◌∙◌, subst, IsSome, count_of, can_write, frame_of}
+use Rattle.residency.proofs.Names.{top_level, PageKey, File, Object, Attr, Backing, Anon, Shared, Common, is_past_end_of, IsUserMap, is_past_end, ◌≡◌, ◌≢◌, ◌<◌, ℕ, true, false, arith, stands_on, Option, Some, refl, ap, ◌∙◌, subst, IsSome, count_of, can_write, frame_of}
 use Rattle.residency.{proofs.{Names.{IsPage, Frame, IsReadableMap}, Places.{objects-same}, Ways.{each_page}}, specs.{Parts.{IsGranting, IsEntryFor, Nothing, Resident, Away, IsResident, IsBehind}, Picture.{Picture, entry, is_private}}}
 use Rattle.{std.specs.Prelude.{◌⊎◌}, vm_types.specs.declared.region.Backing.TheVariants.{Private}}
 
@@ -13,32 +13,40 @@ past_end-same old new (Private p) same = ap (λ i. is_past_end_of i p.page) (sam
 past_end-same old new (Shared p) same = ap (λ i. is_past_end_of i p.page) (same p.file)
 past_end-same old new b same = refl
 
-behind-same : {mode : ℕ} (old new : Picture mode) (b : Backing) (n : ℕ) → KeepsBehind old new → IsBehind old b n → IsBehind new b n
+pub behind-same : {mode : ℕ} (old new : Picture mode) (b : Backing) (n : ℕ) → ((p : PageKey) → old.place p ≡ Frame (record { 0 = n }) → new.place p ≡ Frame (record { 0 = n })) → IsBehind old b n → IsBehind new b n
 behind-same old new Anon n kept behind = behind
-behind-same old new (Private p) n kept behind = kept.place (File p) n behind
-behind-same old new (Shared p) n kept behind = kept.place (File p) n behind
-behind-same old new (Common p) n kept behind = kept.place (Object p) n behind
+behind-same old new (Private p) n kept behind = kept (File p) behind
+behind-same old new (Shared p) n kept behind = kept (File p) behind
+behind-same old new (Common p) n kept behind = kept (Object p) behind
 
-resident-same : {mode : ℕ} (old new : Picture mode) (a : Attr) (e : ℕ) → KeepsBehind old new
-    → (is_private e ≡ true → can_write e ≡ true → count_of old.frames (frame_of e) ≡ 1 → count_of new.frames (frame_of e) ≡ 1) → IsResident old a e → IsResident new a e
-resident-same old new a e kept count resident = record {
+-- the page that lies in the frame behind a page
+pub behind_page : {mode : ℕ} (c : Picture mode) (b : Backing) (n : ℕ) → 0 < n → IsBehind c b n → (p : PageKey) × (stands_on b ≡ Some p) × (c.place p ≡ Frame (record { 0 = n }))
+behind_page c Anon n above zero = absurd (omega (arith, above, zero))
+behind_page c (Private p) n above is = (File p, refl, is)
+behind_page c (Shared p) n above is = (File p, refl, is)
+behind_page c (Common p) n above is = (Object p, refl, is)
+
+-- an entry fits its page as it did, by what lies behind it and how many share it
+pub entry_for-by : {mode : ℕ} (old new : Picture mode) (attr : Option Attr) (e : ℕ) → ((f : ℕ) → new.files f ≡ old.files f) → ((a : Attr) → IsResident old a e → is_private e ≡ false → IsBehind new a.backing (frame_of e))
+    → (is_private e ≡ true → can_write e ≡ true → count_of old.frames (frame_of e) ≡ 1 → count_of new.frames (frame_of e) ≡ 1) → IsEntryFor old attr e → IsEntryFor new attr e
+entry_for-by old new attr e files behind count (Nothing none) = Nothing none
+entry_for-by old new attr e files behind count (Resident a is resident) = Resident a is (record {
   framed = resident.framed;
-  inside = past_end-same old new a.backing kept.files ∙ resident.inside;
+  inside = past_end-same old new a.backing files ∙ resident.inside;
   private = resident.private;
-  behind = λ common. behind-same old new a.backing (frame_of e) kept (resident.behind common);
+  behind = behind a resident;
   leaf = λ valid. (let leaf = resident.leaf valid in record { within = leaf.within; sole = λ private write. count private write (leaf.sole private write); common = leaf.common });
-}
+})
+entry_for-by old new attr e files behind count (Away a is away) = Away a is (record {
+  swapped = away.swapped;
+  common = away.common;
+  inside = past_end-same old new a.backing files ∙ away.inside;
+  not_shared = away.not_shared;
+})
 
 pub entry_for-same : {mode : ℕ} (old new : Picture mode) (attr : Option Attr) (e : ℕ) → KeepsBehind old new
     → (is_private e ≡ true → can_write e ≡ true → count_of old.frames (frame_of e) ≡ 1 → count_of new.frames (frame_of e) ≡ 1) → IsEntryFor old attr e → IsEntryFor new attr e
-entry_for-same old new attr e kept count (Nothing none) = Nothing none
-entry_for-same old new attr e kept count (Resident a is resident) = Resident a is (resident-same old new a e kept count resident)
-entry_for-same old new attr e kept count (Away a is away) = Away a is (record {
-  swapped = away.swapped;
-  common = away.common;
-  inside = past_end-same old new a.backing kept.files ∙ away.inside;
-  not_shared = away.not_shared;
-})
+entry_for-same old new attr e kept count = entry_for-by old new attr e kept.files (λ a resident common. behind-same old new a.backing (frame_of e) (λ p. kept.place p (frame_of e)) (resident.behind common)) count
 
 pub user_map-same : (mode : ℕ) (f g : ℕ → Option Attr) → ((page : ℕ) → g page ≡ f page) → IsUserMap mode f → IsUserMap mode g
 user_map-same mode f g same user = record {

@@ -1,5 +1,5 @@
 -- A share handed over shows nothing.
-use Rattle.residency.proofs.Names.{top_level, PageKey, ◌≡◌, ℕ, inl, inr, ◌⊎◌, true, [], Some, get_or, sym, ap, ◌∙◌, arith, cases_eq, Free, Table, Private, Cache, role_of, count_of, Releases, IsPage, KeepsTrees, data_released, same_last}
+use Rattle.residency.proofs.Names.{top_level, PageKey, ◌≡◌, ℕ, inl, inr, ◌⊎◌, true, [], Some, get_or, sym, ap, ◌∙◌, arith, rules, cases_eq, Free, Table, Private, Cache, role_of, count_of, Releases, IsPage, KeepsTrees, data_released, same_last}
 use Rattle.residency.specs.{Seats.{Seat, InFrame, InSlot, seat}, Picture.{Picture, entry, held, is_data, bytes_in}, Parts.{IsFitBut}, Steps.{SameBeside}, Ages.{Same}, Evictions.{Spares}}
 use Rattle.residency.proofs.{Entries.{entries_kept}, Evicted.{shared_frame}, Setting.{view_seated, each_view, held_same}}
 
@@ -29,23 +29,9 @@ module _ {mode : ℕ} (old new : Picture mode) (n k : ℕ) (fit : IsFitBut old (
   ]
 
   pub release_spares : Spares n k old new
-  release_spares = record {
-    pages = record {
-      root = beside.root;
-      at = beside.at;
-      views = λ pid p. each_view old new fit.granting beside.at pid p (λ h. view_seated old new pid p (beside.at pid p) (ap seat (same pid p)) (seat_bytes pid p h));
-      files = record { held = λ p. inl (kept_held p); touched = beside.touched; files = beside.files };
-    };
-    count = releases.others.frames;
-    roles = releases.others.roles;
-    role = after;
-    counts = releases.others.counts;
-    bytes = λ m ne used. releases.others.bytes m ne;
-    ends = λ pid r p e. (let table = (fit.rooted.roots pid r e).table in (same_last old.frames new.frames fit.rooted.forest trees.forest trees.same (top_level mode) r p table ((trees.tables r).0 table)).0);
-    entries = λ pid p h stays. same pid p;
-    ages = λ pid p h. Same (same pid p);
-    pointers = trees.same.forth;
-    slots = λ j ne used. (ap (λ t. t.bytes j) beside.slots, ap (λ t. t.count j) beside.slots);
-    total = ap (λ t. t.total) beside.slots;
-    place = λ p ne. beside.place p;
-  }
+  release_spares =
+      let views = λ (pid p : ℕ). each_view old new fit.granting beside.at pid p (λ h. view_seated old new pid p (beside.at pid p) (ap seat (same pid p)) (seat_bytes pid p h)) in
+      let ends = λ (pid r p : ℕ) (e : old.root pid ≡ Some r). (let table = (fit.rooted.roots pid r e).table in (same_last old.frames new.frames fit.rooted.forest trees.forest trees.same (top_level mode) r p table ((trees.tables r).0 table)).0) in
+      let slots = λ (j : ℕ). ap (λ t. t.bytes j) beside.slots in
+      let shares = λ (j : ℕ). ap (λ t. t.count j) beside.slots in
+      search (rules, inl, Same, views, kept_held, after, same, ends, slots, shares, beside.root, beside.at, beside.touched, beside.files, beside.place, releases.others.frames, releases.others.roles, releases.others.counts, releases.others.bytes, trees.same.forth, ap (λ t. t.total) beside.slots)

@@ -1,7 +1,7 @@
 -- Entries over one frame changed: what stays, and where such entries stand.
 use Rattle.vm_types.specs.declared.mode.Levels as Levels
-use Rattle.residency.proofs.{Bits.{some_framed, resident_of, changed_once, seat_changed, for_changed, valid_zero, leaf_accessed}, Entries.{entry-of}, Granting.{entry_for-same}, Moves.{behind_kept}, Names.{user_end, top_level, PageKey}}
-use Rattle.residency.proofs.Names.{Attr, Backing, File, Object, backing_after, stands_on, ◌≡◌, ℕ, inl, inr, ◌⊎◌, ◌-◌, ◌<◌, ◌≤◌, true, false, List, [], Option, Some, None, get_or, refl, sym, ap, ◌∙◌, subst, arith, ne_eqb, cases_eq}
+use Rattle.residency.proofs.{Bits.{some_framed, resident_of, changed_once, seat_changed, for_changed, valid_zero, leaf_accessed}, Entries.{entry-of}, Granting.{behind_page, entry_for-same}, Moves.{behind_kept}, Names.{user_end, top_level, PageKey}}
+use Rattle.residency.proofs.Names.{Attr, Backing, File, Object, backing_after, stands_on, ◌≡◌, ℕ, inl, inr, ◌⊎◌, ◌-◌, ◌<◌, ◌≤◌, true, false, List, [], Option, Some, None, get_or, refl, sym, ap, ◌∙◌, subst, arith, rules, ne_eqb, cases_eq}
 use Rattle.residency.proofs.Names.{cases_Bool, false≢true, same_Some, IsSome, IfNone, Free, Zero, Table, Private, Cache, FrameTable, role_of, is_valid, is_dirty, is_pointer, frame_of, entry_at, index_of, SetsEntry, IsPage, IsTable}
 use Rattle.residency.proofs.{Names.{IsForest, missing_of, last_table, way_forth, last_is, page_entry-missing, ends, index_of-lt, Run, attr_at, StandsOn, Home, Frame, NamesFrame, is_number, of_number}, Setting.{fit_set, set_views}}
 use Rattle.residency.{proofs.{Start.{entry-dead, cases_some}, TableSteps.{sets_page, rooted_set}, Ways.{begins_table, each_page}}, specs.{LeafChanges.{ChangesEntries}, Leaves.{concerns, IsOver, IsChanged, ChangesLeaves, KeepsAllButFrames}}}
@@ -40,24 +40,13 @@ module _ {mode : ℕ} (c : Picture mode) (change : Change) (n pid k : ℕ) (fit 
     | inr common ↦ common
   ]
 
-  behind_one : (b : Backing) (p : PageKey) → 0 < n → c.place p ≡ Frame (record { 0 = n }) → IsBehind c b n → stands_on b ≡ Some p
-  behind_one Backings.Anon p above at zero = absurd (omega (arith, above, zero))
-  behind_one (Backings.Private q) p above at is = ap (λ (x : PageKey). Some x) (fit.places.apart (File q) p (is ∙ sym at) (λ home. (let bad : Home ≡ Frame (record { 0 = n }) = sym home ∙ is in (cc))))
-  behind_one (Backings.Shared q) p above at is = ap (λ (x : PageKey). Some x) (fit.places.apart (File q) p (is ∙ sym at) (λ home. (let bad : Home ≡ Frame (record { 0 = n }) = sym home ∙ is in (cc))))
-  behind_one (Backings.Common q) p above at is = ap (λ (x : PageKey). Some x) (fit.places.apart (Object q) p (is ∙ sym at) (λ home. (let bad : Home ≡ Frame (record { 0 = n }) = sym home ∙ is in (cc))))
-
   pub over_backed : (p : PageKey) (a : Attr) → 0 < n → c.place p ≡ Frame (record { 0 = n }) → c.at pid k ≡ Some a → stands_on a.backing ≡ Some p
   over_backed p a above at is =
       let res = over_resident in
       let P : ℕ → Type 0 = λ x. IsBehind c res.0.backing x in
-      let there = behind_one res.0.backing p above at (subst P over.frame (res.2.behind (over_common (fit.places.cached p n at)))) in
-      ap (λ (x : Attr). stands_on x.backing) (same_Some a res.0 (sym is ∙ res.1)) ∙ there
-
-  no_private : (b : Backing) → 0 < n → role_of c.frames n ≡ Private → IsBehind c b n → ⊥
-  no_private Backings.Anon above role zero = omega (arith, above, zero)
-  no_private (Backings.Private q) above role is = let bad : Private ≡ Cache = sym role ∙ fit.places.cached (File q) n is in (cc)
-  no_private (Backings.Shared q) above role is = let bad : Private ≡ Cache = sym role ∙ fit.places.cached (File q) n is in (cc)
-  no_private (Backings.Common q) above role is = let bad : Private ≡ Cache = sym role ∙ fit.places.cached (Object q) n is in (cc)
+      let there = behind_page c res.0.backing n above (subst P over.frame (res.2.behind (over_common (fit.places.cached p n at)))) in
+      ap (λ (x : Attr). stands_on x.backing) (same_Some a res.0 (sym is ∙ res.1)) ∙ there.1
+      ∙ ap (λ (x : PageKey). Some x) (fit.places.apart there.0 p (there.2 ∙ sym at) (λ home. (let bad : Home ≡ Frame (record { 0 = n }) = sym home ∙ there.2 in (cc))))
 
   pub over_own : 0 < n → role_of c.frames n ≡ Private → c.page_of n ≡ k
   over_own above role = elim (cases_Bool (is_private (entry c pid k))) [
@@ -65,7 +54,8 @@ module _ {mode : ℕ} (c : Picture mode) (change : Change) (n pid k : ℕ) (fit 
     | inr common ↦ (
         let res = over_resident in
         let P : ℕ → Type 0 = λ x. IsBehind c res.0.backing x in
-        absurd (no_private res.0.backing above role (subst P over.frame (res.2.behind common))))
+        let there = behind_page c res.0.backing n above (subst P over.frame (res.2.behind common)) in
+        let bad : Private ≡ Cache = sym role ∙ fit.places.cached there.0 n there.2 in (cc))
   ]
 
 -- no table is missing on the way to it
@@ -152,17 +142,7 @@ module _ {mode : ℕ} (old new : Picture mode) (change : Change) (n pid r page n
 
 -- entries changed, and others after them
 changes_none : {mode : ℕ} (change : Change) (n : ℕ) (c : Picture mode) → ChangesLeaves change n c c
-changes_none change n c = record {
-  beside = record { slots = refl; root = λ p. refl; at = λ p k. refl; page_of = λ m. refl; place = λ p. refl; touched = λ p. refl; files = λ f. refl };
-  frames = refl;
-  bytes = λ m used. refl;
-  roles = λ m. refl;
-  counts = λ m. refl;
-  views = λ q p. refl;
-  ends = λ q r p e. refl;
-  pointers = λ m i t points. points;
-  entries = λ q p h. inl refl;
-}
+changes_none change n c = search (rules, inl)
 
 -- what was clear is clear still
 pub still_clear : {mode : ℕ} (change : Change) (n pid k : ℕ) (old new : Picture mode) → ChangesLeaves change n old new → IsPage (top_level mode) k → (IsOver old change n pid k → ⊥) → IsOver new change n pid k → ⊥
@@ -173,15 +153,7 @@ still_clear change n pid k old new changes h clear over = elim (changes.entries 
 
 changes_then : {mode : ℕ} (change : Change) (n : ℕ) (a b c : Picture mode) → ChangesLeaves change n a b → ChangesLeaves change n b c → ChangesLeaves change n a c
 changes_then change n a b c f g = record {
-  beside = record {
-    slots = g.beside.slots ∙ f.beside.slots;
-    root = λ p. g.beside.root p ∙ f.beside.root p;
-    at = λ p k. g.beside.at p k ∙ f.beside.at p k;
-    page_of = λ m. g.beside.page_of m ∙ f.beside.page_of m;
-    place = λ p. g.beside.place p ∙ f.beside.place p;
-    touched = λ p. g.beside.touched p ∙ f.beside.touched p;
-    files = λ x. g.beside.files x ∙ f.beside.files x;
-  };
+  beside = grind arith;
   frames = g.frames ∙ f.frames;
   bytes = λ m used. g.bytes m (λ t. used (sym (f.roles m) ∙ t)) ∙ f.bytes m used;
   roles = λ m. g.roles m ∙ f.roles m;
@@ -208,18 +180,7 @@ module _ {M : Type 0} {m : Levels.Ghosts M} {D E : Type 0} where
   frames_none c = record { store = refl; swap = refl; cache = refl; roots = refl; regions = refl; page_of = refl; clock = refl; refused = refl; keep = refl; looks = refl }
 
   frames_then : (a b c : Core D E M m) → KeepsAllButFrames a b → KeepsAllButFrames b c → KeepsAllButFrames a c
-  frames_then a b c f g = record {
-    store = g.store ∙ f.store;
-    swap = g.swap ∙ f.swap;
-    cache = g.cache ∙ f.cache;
-    roots = g.roots ∙ f.roots;
-    regions = g.regions ∙ f.regions;
-    page_of = g.page_of ∙ f.page_of;
-    clock = g.clock ∙ f.clock;
-    keep = g.keep ∙ f.keep;
-    looks = g.looks ∙ f.looks;
-    refused = g.refused ∙ f.refused;
-  }
+  frames_then a b c f g = grind arith
 
   pub entries_none : (change : Change) (n : ℕ) (c : Core D E M m) → IsFit (picture_of c) → ChangesEntries change n c c
   entries_none change n c fit = record { changes = changes_none change n (picture_of c); fit = fit; beside = frames_none c }

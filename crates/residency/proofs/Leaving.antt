@@ -1,11 +1,10 @@
 -- A page of a file leaves its frame, for home or for a slot.
-use Rattle.residency.proofs.{Bits.{not_swapped}, Cleaning.{all_touched}, Entries.{entries_kept}, Evicted.{seat_number as seat_below}, Granting.{past_end-same, granting_by}, Moves.{counted_on, bytes_same}, Names.{top_level, PageKey, File}}
-use Rattle.residency.proofs.Names.{Object, Attr, Backing, ◌≡◌, ◌≢◌, ℕ, inl, inr, ◌⊎◌, ◌<◌, true, false, Option, None, refl, sym, ap, ◌∙◌, subst, ne_eqb, cases_eq, false≢true, Free, Table, Private, Cache, FrameTable, role_of, SameButFor}
+use Rattle.residency.proofs.{Bits.{not_swapped}, Cleaning.{all_touched}, Entries.{entries_kept}, Evicted.{seat_number as seat_below}, Granting.{behind-same, entry_for-by, granting_by}, Moves.{counted_on, bytes_same}, Names.{top_level, PageKey, File}}
+use Rattle.residency.proofs.Names.{Attr, Some, ◌≡◌, ◌≢◌, ℕ, inl, inr, ◌⊎◌, ◌<◌, true, false, Option, None, refl, sym, ap, ◌∙◌, subst, rules, ne_eqb, cases_eq, false≢true, Free, Table, Private, Cache, FrameTable, role_of, SameButFor}
 use Rattle.residency.proofs.{Names.{CacheTable, SameButForPage, place_of, is_touched, Place, Home, Frame, Slot, SlotTable, frame_of, IsPage, KeepsTrees, data_changed, same_last}, Placed.{places_replaced, dirty_replaced}}
 use Rattle.residency.{proofs.{Places.{cases_page, one_frame, one_slot}, Rooted.{rooted_same}, Seats.{counted_left}, Setting.{view_seated, each_view, held_by}}, specs.{Ages.{Same}, Evictions.{Spares}, Leaves.{IsClear}, Parts.{IsCountedBut}}}
-use Rattle.residency.specs.{Parts.{IsEntryFor, Nothing, Resident, Away, IsResident, IsBehind, IsFitBut, IsFit, nowhere, HasPlaces, IsDirtySound}, Picture.{Picture, entry, held, is_data, IsOwned, count_in, page_in, bytes_at}, Seats.{Seat}}
-use Rattle.{residency.specs.{Seats.{InFrame, InSlot, seat, is_private, is_swapped}, declared.leaves.Change.TheVariants.{Forget}}, vm_types.specs.declared.region.Backing.TheVariants.{Anon, Private as PrivateOf, Shared as SharedOf}}
-use Rattle.vm_types.specs.declared.region.Backing.TheVariants.{Common as CommonOf}
+use Rattle.residency.specs.{Parts.{IsEntryFor, IsResident, IsFitBut, IsFit, nowhere, HasPlaces, IsDirtySound}, Picture.{Picture, entry, held, is_data, IsOwned, count_in, page_in, bytes_at}, Seats.{Seat}}
+use Rattle.residency.specs.{Seats.{InFrame, InSlot, seat, is_private, is_swapped}, declared.leaves.Change.TheVariants.{Forget}}
 
 -- the file page left frame v, which is free now; every other file page is where it was
 pub record Leaves {mode : ℕ} (old new : Picture mode) (page : PageKey) (v : ℕ) (at : Place) : Type 0 where
@@ -26,20 +25,7 @@ pub record Leaves {mode : ℕ} (old new : Picture mode) (page : PageKey) (v : �
 pub leaves_frame : {mode : ℕ} (c : Picture mode) (t : FrameTable) (a b : CacheTable) (page : PageKey) (v : ℕ) (at : Place) → place_of a page ≡ Frame (record { 0 = v }) → v ≢ 0 → place_of b page ≡ at
     → SameButForPage page a b → is_touched b page ≡ is_touched a page → SameButFor v c.frames t → role_of t v ≡ Free
     → Leaves (record c { place = place_of a; touched = is_touched a }) (record c { frames = t; place = place_of b; touched = is_touched b }) page v at
-leaves_frame c t a b page v at was above placed others touched frames free = record {
-  was = was;
-  above = above;
-  placed = placed;
-  others = others.places;
-  frames = frames;
-  free = free;
-  slots = refl;
-  root = λ pid. refl;
-  at_same = λ pid k. refl;
-  page_of = λ n. refl;
-  touched = all_touched a b page others touched;
-  files = λ f. refl;
-}
+leaves_frame c t a b page v at was above placed others touched frames free = search (rules, all_touched a b page others touched)
 
 -- a page at home is held nowhere
 pub home_held : {mode : ℕ} (c : Picture mode) (p : PageKey) → c.place p ≡ Home → held c p ≡ None
@@ -67,12 +53,6 @@ module _ {mode : ℕ} (old new : Picture mode) (page : PageKey) (v : ℕ) (at : 
   private_ne : (n : ℕ) → role_of old.frames n ≡ Private → n ≢ v
   private_ne n is e = let bad : Private ≡ Cache = sym is ∙ ap (role_of old.frames) e ∙ cache in (cc)
 
-  behind_left : (b : Backing) (n : ℕ) → n ≢ v → IsBehind old b n → IsBehind new b n
-  behind_left Anon n ne is = is
-  behind_left (PrivateOf p) n ne is = leaves.others (File p) (λ e. ne (one_frame v n (sym leaves.was ∙ ap old.place (sym e) ∙ is))) ∙ is
-  behind_left (SharedOf p) n ne is = leaves.others (File p) (λ e. ne (one_frame v n (sym leaves.was ∙ ap old.place (sym e) ∙ is))) ∙ is
-  behind_left (CommonOf p) n ne is = leaves.others (Object p) (λ e. ne (one_frame v n (sym leaves.was ∙ ap old.place (sym e) ∙ is))) ∙ is
-
   other : (pid k : ℕ) {a : Attr} → IsPage (top_level mode) k → IsResident old a (entry old pid k) → is_private (entry old pid k) ≡ false → frame_of (entry old pid k) ≢ v
   unfolding frame_of
   other pid k h res common = elim (cases_eq (entry old pid k) 0) [
@@ -81,24 +61,10 @@ module _ {mode : ℕ} (old new : Picture mode) (page : PageKey) (v : ℕ) (at : 
   ]
 
   entry_left : (pid k : ℕ) (attr : Option Attr) → IsPage (top_level mode) k → IsEntryFor old attr (entry old pid k) → IsEntryFor new attr (entry old pid k)
-  entry_left pid k attr h (Nothing none) = Nothing none
-  entry_left pid k attr h (Away a is away) = Away a is (record {
-    swapped = away.swapped;
-    common = away.common;
-    inside = past_end-same old new a.backing leaves.files ∙ away.inside;
-    not_shared = away.not_shared;
-  })
-  entry_left pid k attr h (Resident a is res) = Resident a is (record {
-    framed = res.framed;
-    inside = past_end-same old new a.backing leaves.files ∙ res.inside;
-    private = res.private;
-    behind = λ common. behind_left a.backing (frame_of (entry old pid k)) (other pid k h res common) (res.behind common);
-    leaf = λ valid. (let leaf = res.leaf valid in record {
-      within = leaf.within;
-      sole = λ own write. leaves.frames.counts (frame_of (entry old pid k)) (private_ne (frame_of (entry old pid k)) (fit.counted.1.named pid k (InFrame (frame_of (entry old pid k))) h (rw own refl))) ∙ leaf.sole own write;
-      common = leaf.common;
-    });
-  })
+  entry_left pid k attr h = entry_for-by old new attr (entry old pid k) leaves.files
+      (λ a res common. behind-same old new a.backing (frame_of (entry old pid k))
+      (λ p at. leaves.others p (λ e. other pid k h res common (one_frame v (frame_of (entry old pid k)) (sym leaves.was ∙ ap old.place (sym e) ∙ at))) ∙ at) (res.behind common))
+      (λ own write one. leaves.frames.counts (frame_of (entry old pid k)) (private_ne (frame_of (entry old pid k)) (fit.counted.1.named pid k (InFrame (frame_of (entry old pid k))) h (rw own refl))) ∙ one)
 
   slot_of-same : (j : ℕ) → new.slots.count j ≡ old.slots.count j
   slot_of-same j = ap (λ t. t.count j) leaves.slots
@@ -182,34 +148,18 @@ module _ {mode : ℕ} (old new : Picture mode) (page : PageKey) (v : ℕ) (at : 
 
   -- nobody sees it, where its bytes are kept or it was untouched
   pub left_spares : (k : ℕ) → (held new page ≡ held old page) ⊎ ((held new page ≡ None) × (old.touched page ≡ false)) → Spares v k old new
-  left_spares k bytes = record {
-    pages = record {
-      root = leaves.root;
-      at = leaves.at_same;
-      views = λ pid p. each_view old new fit.granting leaves.at_same pid p (λ h. view_seated old new pid p (leaves.at_same pid p) (ap seat (same pid p h))
-          (λ z is. bytes_same old new leaves.slots (λ n own. leaves.frames.bytes n (private_ne n own)) z (fit.counted.1.named pid p z h is)));
-      files = record {
-        held = λ p. elim (cases_page p page) [
-          | inl e ↦ (let P : PageKey → Type 0 = λ q. (held new q ≡ held old q) ⊎ ((held new q ≡ None) × (old.touched q ≡ false)) in subst P (sym e) bytes)
-          | inr ne ↦ inl (held_other p ne)
-        ];
-        touched = leaves.touched;
-        files = leaves.files;
-      };
-    };
-    count = leaves.frames.frames;
-    roles = leaves.frames.roles;
-    role = inr (leaves.free, ap is_data cache);
-    counts = leaves.frames.counts;
-    bytes = λ n ne used. leaves.frames.bytes n ne;
-    ends = λ pid r p e. (let table = (fit.rooted.roots pid r e).table in (same_last old.frames new.frames fit.rooted.forest trees.forest trees.same (top_level mode) r p table ((trees.tables r).0 table)).0);
-    entries = λ pid p h stays. same pid p h;
-    ages = λ pid p h. Same (same pid p h);
-    pointers = trees.same.forth;
-    slots = λ j ne used. (ap (λ t. t.bytes j) leaves.slots, ap (λ t. t.count j) leaves.slots);
-    total = ap (λ t. t.total) leaves.slots;
-    place = λ p ne. leaves.others p (λ e. ne (ap old.place e ∙ leaves.was));
-  }
+  left_spares k bytes =
+      let views = λ (pid p : ℕ). each_view old new fit.granting leaves.at_same pid p (λ h. view_seated old new pid p (leaves.at_same pid p) (ap seat (same pid p h))
+      (λ z is. bytes_same old new leaves.slots (λ n own. leaves.frames.bytes n (private_ne n own)) z (fit.counted.1.named pid p z h is))) in
+      let each : (p : PageKey) → (held new p ≡ held old p) ⊎ ((held new p ≡ None) × (old.touched p ≡ false)) = λ p. elim (cases_page p page) [
+        | inl e ↦ (let P : PageKey → Type 0 = λ q. (held new q ≡ held old q) ⊎ ((held new q ≡ None) × (old.touched q ≡ false)) in subst P (sym e) bytes)
+        | inr ne ↦ inl (held_other p ne)
+      ] in
+      let ends = λ (pid r p : ℕ) (e : old.root pid ≡ Some r). (let table = (fit.rooted.roots pid r e).table in (same_last old.frames new.frames fit.rooted.forest trees.forest trees.same (top_level mode) r p table ((trees.tables r).0 table)).0) in
+      let place = λ (p : PageKey) (ne : old.place p ≢ Frame (record { 0 = v })). leaves.others p (λ e. ne (ap old.place e ∙ leaves.was)) in
+      let slots = λ (j : ℕ). ap (λ t. t.bytes j) leaves.slots in
+      let shares = λ (j : ℕ). ap (λ t. t.count j) leaves.slots in
+      search (rules, inr, Same, views, each, ends, place, same, slots, shares, leaves.root, leaves.at_same, leaves.touched, leaves.files, leaves.free, leaves.frames.frames, leaves.frames.roles, leaves.frames.counts, leaves.frames.bytes, ap is_data cache, trees.same.forth, ap (λ t. t.total) leaves.slots)
 
 module _ {mode : ℕ} (old new : Picture mode) (page : PageKey) (v : ℕ) where
   abbrev Unnamed : Type 0

@@ -145,8 +145,7 @@ module _ {mode : ℕ} (old new : Picture mode) (x y : Seat) (m pid page number :
   -- nobody sees it, where both seats have the same bytes
   pub views_moved : bytes_in old.frames old.slots y ≡ bytes_in old.frames old.slots x → (q p : ℕ) → IsPage (top_level mode) p → view new q p ≡ view old q p
   views_moved same q p h' =
-      let stays : (z : Seat) → IsOwned old z → bytes_in new.frames new.slots z ≡ bytes_in old.frames old.slots z =
-      bytes_same old new sets.beside.slots (λ n is. sets.bytes n (λ t. (let bad : Private ≡ Table = sym is ∙ t in (cc)))) in
+      let stays = bytes_same old new sets.beside.slots (λ n is. sets.bytes n (λ t. (let bad : Private ≡ Table = sym is ∙ t in (cc)))) in
       view_kept old new q p (sets.beside.at q p) (each_page (λ a b. own_in new.frames new.slots (entry new a b) ≡ own_in old.frames old.slots (entry old a b)) q p pid page
       (own_at new (entry new pid page) y now ∙ ap (λ b. Some b) (stays y has ∙ same) ∙ sym (own_at old (entry old pid page) x from))
       (λ away. ap (λ e. own_in new.frames new.slots e) (sets.others q p h' away) ∙ own_kept old new (seat (entry old q p)) (seat (entry old q p)) refl (λ z is. stays z (fit.counted.1.named q p z h' is))))

@@ -1,7 +1,7 @@
 -- A frame that was obtained, and what was done with it.
 use Rattle.vm_types.specs.declared.mode.Levels as Levels
 use Rattle.residency.proofs.{Asking.{also_taken, asked_taken, entries_taken, gives_taken, needed_of, wants_taken, wants_tried}, BroughtIn.{fit_brought}, Cleaning.{all_touched}, Giving.{frame_taken, one_given}, Names.{◌≡◌, ◌≢◌, ℕ, ◌⊎◌, ◌≤◌, Option, None}}
-use Rattle.residency.proofs.Names.{sym, ap, ◌∙◌, subst, arith, IsErrAnd, FrameNo, PageKey, Stall, StoreDevice, Ghosts, AsksOnly, Free, Table, Cache, role_of, IsFrame, IsFull, SameButFor, FrameTable, Takes, Swap, IsReady, IsSectorOfSlot}
+use Rattle.residency.proofs.Names.{sym, ap, ◌∙◌, subst, arith, rules, IsErrAnd, FrameNo, PageKey, Stall, StoreDevice, Ghosts, AsksOnly, Free, Table, Cache, role_of, IsFrame, IsFull, SameButFor, FrameTable, Takes, Swap, IsReady, IsSectorOfSlot}
 use Rattle.residency.{proofs.{Names.{Frame, place_of, is_touched, SameButForPage}, Returning.{frees_spent}, Sparing.{frees_then}, Taking.{fit_spent}}, specs.{Ages.{GivesFrame}, AskedFrames.{ComesIn, Obtains, SeeksFrame}, Calls.{AsksSwap}}}
 use Rattle.residency.specs.{Calls.{AsksSwapAlso, KeepsRest, UsesDevice}, Parts.{IsPageFor}, Picture.{Picture, picture_of, entry}, Stalls.{StallCause, ReadCause, HasReadCause}, Steps.{BringsIn, ChangesFrame, LeavesSlot}, Views.{AsksClock, IsLeftBut}}
 use Rattle.{residency.specs.{Views.{ChoosesByClock, TurnsClock}, declared.kernel.Core.{Core}}, std.proofs.Common.{Result, Ok, Err}}
@@ -90,22 +90,7 @@ module _ {M : Type 0} {m : Levels.Ghosts M} {D E : Type 0} {h : Ghosts E} {old f
       → place_of new.cache page ≡ Frame n → is_touched new.cache page ≡ is_touched found.cache page → SameButForPage page found.cache new.cache
       → ((pid : ℕ) → (picture_of new).root pid ≡ (picture_of found).root pid) → ((pid k : ℕ) → (picture_of new).at pid k ≡ (picture_of found).at pid k)
       → ((k : ℕ) → (picture_of new).page_of k ≡ (picture_of found).page_of k) → ((f : ℕ) → (picture_of new).files f ≡ (picture_of found).files f) → ComesIn old new page (Ok n)
-  comes_taken takes frames kind slots away inner placed touched others root at page_of files = comes_on (record {
-    slots = slots;
-    frames = frames;
-    above = takes.above;
-    was_free = takes.was_free;
-    kind = kind;
-    was_away = away;
-    inside = inner;
-    placed = placed;
-    others = λ p ne. others.places p ne;
-    root = root;
-    at = at;
-    page_of = page_of;
-    touched = all_touched found.cache new.cache page others touched;
-    files = files;
-  })
+  comes_taken takes frames kind slots away inner placed touched others root at page_of files = comes_on (search (rules, takes.above, all_touched found.cache new.cache page others touched))
 
   -- it was given back
   pub comes_back : (stall : Stall) → ChangesFrame (picture_of found) (picture_of new) n.0 → role_of new.frames n.0 ≡ Free → ComesIn old new page (Err stall)

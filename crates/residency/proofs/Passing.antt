@@ -1,6 +1,6 @@
 -- The shares of a private frame, passed on to a slot one after the other.
 use Rattle.vm_types.specs.declared.mode.Levels as Levels
-use Rattle.residency.proofs.{Evicted.{seat_number}, Names.{user_end, top_level, Attr, ◌≡◌, ◌≢◌, ℕ, ◌+◌, ◌<◌, ◌≤◌, true, false, inl, inr, Option, Some, None, is_some, refl, sym, ap, ◌∙◌, subst, arith, false≢true, role_of, count_of}}
+use Rattle.residency.proofs.{Evicted.{seat_number}, Names.{user_end, top_level, Attr, ◌≡◌, ◌≢◌, ℕ, ◌+◌, ◌<◌, ◌≤◌, true, false, inl, inr, Option, Some, None, is_some, refl, sym, ap, ◌∙◌, subst, arith, rules, false≢true, role_of, count_of}}
 use Rattle.residency.proofs.{Names.{bytes_of, Ghosts, SharesSlot, IsReady, IsPage}, Puts.{SameButSlots}, Putting.{has_shared, share_spares}, Seats.{holders_none}, Sparing.{spares_none, spares_then}, Start.{seat-none, entry-dead}}
 use Rattle.residency.{proofs.Start.{cases_some}, specs.{Evictions.{IsHanding, Spares}, Handovers.{HandsShares, PassesShare}, Parts.{IsFit, IsRootedBut, IsEntryFor, Nothing, Resident, Away}, Picture.{Picture, picture_of, entry, IsOwned}}}
 use Rattle.residency.specs.{Seats.{Seat, InFrame, InSlot, seat, holders_at}, declared.kernel.Core.{Core}}
@@ -77,24 +77,10 @@ module _ {M : Type 0} {m : Levels.Ghosts M} {D E : Type 0} (g : Ghosts E) where
     spares = spares_then n k (picture_of a) (picture_of b) (picture_of c) one.spares two.spares;
     ready = two.ready;
     pages = two.pages ∙ one.pages;
-    plain = record {
-      store = two.plain.store ∙ one.plain.store;
-      roots = two.plain.roots ∙ one.plain.roots;
-      regions = two.plain.regions ∙ one.plain.regions;
-      clock = two.plain.clock ∙ one.plain.clock;
-      refused = two.plain.refused ∙ one.plain.refused;
-      looks = two.plain.looks ∙ one.plain.looks;
-    };
+    plain = grind arith;
   }
 
   -- a process had no share of the frame
   pub passes_none : (n k pid page : ℕ) (c : Core D E M m) → IsReady g c.swap → IsHanding (picture_of c) n k page → seat (entry (picture_of c) pid page) ≢ Some (InFrame n)
       → PassesShare g n k pid page c c false
-  passes_none n k pid page c ready handing none = record {
-    moved = none;
-    fit = λ f. absurd (false≢true f);
-    free = λ f. absurd (false≢true f);
-    handing = λ f. handing;
-    others = λ q ne. refl;
-    hands = hands_none n k c ready;
-  }
+  passes_none n k pid page c ready handing none = search (rules, absurd, false≢true, none, handing, hands_none n k c ready)

@@ -1,7 +1,8 @@
 -- Places and dirty bits: what each step does to where file pages are, and to which are touched.
-use Rattle.residency.proofs.{Counts.{any-same, any-more, any-found}, Names.{top_level, widest_end, FilePage, ObjectPage, PageKey, File, Object, Attr, any_below, Maps, names, uses, is_named, false≢true, ◌≡◌, ◌≢◌, ◌<◌, ℕ, inl, inr, true}}
+use Rattle.residency.proofs.{Counts.{any-same, any-more}, Names.{top_level, widest_end, FilePage, ObjectPage, PageKey, File, Object, Attr, any_below, Maps, names, uses, is_named, false≢true, ◌≡◌, ◌≢◌, ◌<◌, ℕ, inl, inr, true}}
 use Rattle.residency.{proofs.{Names.{false, Option, None, sym, ap, ◌∙◌, subst, Cache, role_of, is_valid, is_dirty, frame_of, IsPage, Place, Home, Frame, Slot, SlotTable}, Ways.{by_page}}, specs.Parts.{AreObjects, IsPageFor, HasPlaces}}
 use Rattle.{residency.specs.{Parts.{IsDirtySound}, Picture.{Picture, entry, is_private}}, std.specs.Prelude.{◌⊎◌}}
+use Rattle.vm_types.proofs.Naming.{named-where}
 pub use Rattle.page_cache.proofs.TableLemmas.{cases_page}
 
 abbrev pub record_of : ℕ → ℕ → FilePage
@@ -54,11 +55,7 @@ page_for-renamed old new (Object p) files named away is = named p away
 
 -- a process and its page that name a page of an object
 pub named_by : (f : Maps) (object page : ℕ) → is_named f object page ≡ true → (p : ℕ) × (k : ℕ) × (names (f p k) object page ≡ true)
-unfolding is_named
-named_by f object page is =
-    let who = any-found (λ p. any_below (λ k. names (f p k) object page) widest_end) 65 is in
-    let at = any-found (λ k. names (f who.0 k) object page) widest_end who.1 in
-    (who.0, at.0, at.1)
+named_by f object page is = let at = named-where f object page is in (at.0, at.1, at.4)
 
 -- where fewer pages are mapped
 pub objects-fewer : (f g : Maps) → ((p k : ℕ) → (g p k ≡ f p k) ⊎ (g p k ≡ None)) → AreObjects f → AreObjects g
@@ -85,29 +82,36 @@ named-more f g object page more here =
       | inr none ↦ absurd (false≢true (sym (ap (λ x. names x object page) none) ∙ is))
     ])) here
 
--- all places and slots are as they were, and the same frames hold pages of files and objects
-places_kept : {mode : ℕ} (old new : Picture mode) → HasPlaces old → ((p : PageKey) → new.place p ≡ old.place p) → ((p : PageKey) → old.place p ≢ Home → IsPageFor old p → IsPageFor new p) → new.slots ≡ old.slots
+-- all places are as they were, the same frames hold pages of files and objects, and no slot came into use but for own copies
+pub places_kept : {mode : ℕ} (old new : Picture mode) → HasPlaces old → ((p : PageKey) → new.place p ≡ old.place p) → ((p : PageKey) → old.place p ≢ Home → IsPageFor old p → IsPageFor new p)
+    → ((p : PageKey) (k : ℕ) → old.place p ≡ Slot (record { 0 = k }) → new.slots.count k ≡ old.slots.count k)
+    → ((k : ℕ) → 0 < new.slots.count k → (0 < old.slots.count k) ⊎ ((p : PageKey) → old.place p ≢ Slot (record { 0 = k })))
     → ((n : ℕ) → role_of old.frames n ≡ Cache → role_of new.frames n ≡ Cache) → ((n : ℕ) → role_of new.frames n ≡ Cache → role_of old.frames n ≡ Cache) → HasPlaces new
-places_kept old new places same inside slots forth back = record {
+places_kept old new places same inside slotted used forth back = record {
   cached = λ p n e. forth n (places.cached p n (sym (same p) ∙ e));
   held = λ n cache. (let h = places.held n (back n cache) in (h.0, same h.0 ∙ h.1));
   apart = λ p q e away. places.apart p q (sym (same p) ∙ e ∙ same q) (λ home. away (same p ∙ home));
-  slotted = λ p k e. ap (λ t. t.count k) slots ∙ places.slotted p k (sym (same p) ∙ e);
-  used = λ k some. elim (places.used k (let P : SlotTable → Type 0 = λ t. 0 < t.count k in subst P slots some)) [
-    | inl own ↦ inl (some, λ p e. own.1 p (sym (same p) ∙ e))
-    | inr file ↦ inr (file.0, same file.0 ∙ file.1)
+  slotted = λ p k e. (let there = sym (same p) ∙ e in slotted p k there ∙ places.slotted p k there);
+  used = λ k some. elim (used k some) [
+    | inl was ↦ elim (places.used k was) [
+      | inl own ↦ inl (some, λ p e. own.1 p (sym (same p) ∙ e))
+      | inr file ↦ inr (file.0, same file.0 ∙ file.1)
+    ]
+    | inr no_page ↦ inl (some, λ p e. no_page p (sym (same p) ∙ e))
   ];
   inside = λ p away. (let was = λ (home : old.place p ≡ Home). away (same p ∙ home) in inside p was (places.inside p was));
 }
 
 pub places_same : {mode : ℕ} (old new : Picture mode) → HasPlaces old → ((p : PageKey) → new.place p ≡ old.place p) → ((q k : ℕ) → new.at q k ≡ old.at q k) → ((f : ℕ) → new.files f ≡ old.files f) → new.slots ≡ old.slots
     → ((n : ℕ) → role_of old.frames n ≡ Cache → role_of new.frames n ≡ Cache) → ((n : ℕ) → role_of new.frames n ≡ Cache → role_of old.frames n ≡ Cache) → HasPlaces new
-places_same old new places same at files = places_kept old new places same (λ p away. page_for-same old new p at files)
+places_same old new places same at files slots = places_kept old new places same (λ p away. page_for-same old new p at files)
+    (λ p k e. ap (λ t. t.count k) slots) (λ k some. inl (let P : SlotTable → Type 0 = λ t. 0 < t.count k in subst P slots some))
 
 -- what processes are said to name hangs on the new pages
 pub places_renamed : {mode : ℕ} (old new : Picture mode) → HasPlaces old → ((p : PageKey) → new.place p ≡ old.place p) → ((f : ℕ) → new.files f ≡ old.files f) → ((p : ObjectPage) → old.place (Object p) ≢ Home → is_named new.at p.object p.page ≡ true) → new.slots ≡ old.slots
     → ((n : ℕ) → role_of old.frames n ≡ Cache → role_of new.frames n ≡ Cache) → ((n : ℕ) → role_of new.frames n ≡ Cache → role_of old.frames n ≡ Cache) → HasPlaces new
-places_renamed old new places same files named = places_kept old new places same (λ p. page_for-renamed old new p files named)
+places_renamed old new places same files named slots = places_kept old new places same (λ p. page_for-renamed old new p files named)
+    (λ p k e. ap (λ t. t.count k) slots) (λ k some. inl (let P : SlotTable → Type 0 = λ t. 0 < t.count k in subst P slots some))
 
 -- all entries, places and touched pages are as they were
 pub dirty_same : {mode : ℕ} (old new : Picture mode) → IsDirtySound old → ((p : PageKey) → new.place p ≡ old.place p) → ((p : PageKey) → new.touched p ≡ old.touched p)

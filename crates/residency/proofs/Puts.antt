@@ -1,7 +1,7 @@
 -- A slot was taken: nothing names it yet.
 use Rattle.residency.proofs.Names.{top_level, PageKey, ◌≡◌, ◌≢◌, ℕ, inl, inr, ◌⊎◌, ◌<◌, ◌==◌, if◌then◌else◌, List, refl, sym, ap, ◌∙◌, arith, eq-eqb, ne_eqb, cases_eq, role_of, count_of, Puts, IsInUse, frame_of, IsPage, Slot}
 use Rattle.residency.specs.{Seats.{Seat, InFrame, InSlot, seat}, Picture.{Picture, entry, IsOwned, count_in, page_in}, Parts.{IsCountedBut, IsFitBut, nowhere}}
-use Rattle.residency.proofs.{Seats.{counted_fresh}, Granting.{granting_same}, Places.{page_for-same, dirty_same}, Rooted.{rooted_frames}}
+use Rattle.residency.proofs.{Seats.{counted_fresh}, Granting.{granting_same}, Places.{page_for-same, places_kept, dirty_same}, Rooted.{rooted_frames}}
 
 -- nothing but slots changed
 pub record SameButSlots {mode : ℕ} (old new : Picture mode) : Type 0 where
@@ -41,20 +41,8 @@ fit_slots old new x x' d d' m fit same counted slotted used = record {
   rooted = rooted_frames old new m fit.rooted same.frames same.root same.at;
   granting = granting_same old new fit.granting (record { place = λ p n e. same.place p ∙ e; files = same.files })
       (λ pid q h private one. ap (λ t. count_of t (frame_of (entry old pid q))) same.frames ∙ one) same.at (λ pid q h. same.entries pid q);
-  places = record {
-    cached = λ p n e. ap (λ t. role_of t n) same.frames ∙ fit.places.cached p n (sym (same.place p) ∙ e);
-    held = λ n cache. (let here = fit.places.held n (sym (ap (λ t. role_of t n) same.frames) ∙ cache) in (here.0, same.place here.0 ∙ here.1));
-    apart = λ p q e away. fit.places.apart p q (sym (same.place p) ∙ e ∙ same.place q) (λ home. away (same.place p ∙ home));
-    slotted = λ p j e. (let there = sym (same.place p) ∙ e in slotted p j there ∙ fit.places.slotted p j there);
-    used = λ j some. elim (used j some) [
-      | inl was ↦ elim (fit.places.used j was) [
-        | inl own ↦ inl (some, λ p e. own.1 p (sym (same.place p) ∙ e))
-        | inr file ↦ inr (file.0, same.place file.0 ∙ file.1)
-      ]
-      | inr no_page ↦ inl (some, λ p e. no_page p (sym (same.place p) ∙ e))
-    ];
-    inside = λ p away. page_for-same old new p same.at same.files (fit.places.inside p (λ home. away (same.place p ∙ home)));
-  };
+  places = places_kept old new fit.places same.place (λ p away. page_for-same old new p same.at same.files) slotted used
+      (λ n e. ap (λ t. role_of t n) same.frames ∙ e) (λ n e. sym (ap (λ t. role_of t n) same.frames) ∙ e);
   dirty = dirty_same old new fit.dirty same.place same.touched (λ pid q h. same.entries pid q);
 }
 

@@ -1,7 +1,7 @@
 -- A frame asked for in vain, and a slot left.
-use Rattle.residency.proofs.Names.{top_level, PageKey, FileInfo, ◌≡◌, ◌≢◌, ℕ, inl, inr, List, Option, None, refl, sym, ap, ◌∙◌, subst, arith, cases_eq, Free, Zero, Table, Cache, FrameTable, IsSound, role_of, Takes, Releases, with_bytes}
+use Rattle.residency.proofs.Names.{top_level, PageKey, FileInfo, ◌≡◌, ◌≢◌, ℕ, inl, inr, List, Option, None, sym, ap, ◌∙◌, subst, arith, rules, cases_eq, Free, Zero, Table, Cache, FrameTable, IsSound, role_of, Takes, Releases, with_bytes}
 use Rattle.residency.proofs.Names.{SlotTable, same_last, Home, Slot}
-use Rattle.residency.{specs.{Picture.{Picture}, Parts.{IsFit}, Calls.{Frees}, Steps.{LeavesSlot, ChangesFrame}}, proofs.{BroughtIn.{frames_written}, Taking.{trees_changed, entries_changed, views_changed, held_changed}, Places.{one_slot}}}
+use Rattle.residency.{specs.{Picture.{Picture}, Parts.{IsFit}, Calls.{Frees}, Steps.{LeavesSlot, ChangesFrame}}, proofs.{BroughtIn.{frames_written, others_then}, Taking.{trees_changed, entries_changed, views_changed, held_changed}, Places.{one_slot}}}
 use Rattle.swap.specs.Slots as Slots
 
 -- the slot of a file page lost its only share
@@ -32,23 +32,7 @@ leaves_none old new page home same = record {
 pub all_spent : {mode : ℕ} (found : Picture mode) (mid new : FrameTable) (slots : SlotTable) (files : ℕ → Option FileInfo) (n : ℕ) (w : List ℕ) → Takes found.frames mid Cache n → Releases (with_bytes mid n w) new n
     → slots ≡ found.slots → ((f : ℕ) → files f ≡ found.files f) → ChangesFrame found (record found { slots = slots; frames = new; files = files }) n
 all_spent found mid new slots files n w takes releases same kept =
-    let written = frames_written found.frames mid n w takes in
-    record {
-      slots = same;
-      frames = record {
-        frames = releases.others.frames ∙ written.frames;
-        bytes = λ m ne. releases.others.bytes m ne ∙ written.bytes m ne;
-        roles = λ m ne. releases.others.roles m ne ∙ written.roles m ne;
-        counts = λ m ne. releases.others.counts m ne ∙ written.counts m ne;
-      };
-      was_free = takes.was_free;
-      others = λ m ne. refl;
-      root = λ pid. refl;
-      at = λ pid k. refl;
-      place = λ p. refl;
-      touched = λ p. refl;
-      files = kept;
-    }
+    search (rules, takes.was_free, others_then n found.frames (with_bytes mid n w) new (frames_written found.frames mid n w takes) releases.others)
 
 pub frees_spent : {mode : ℕ} (old new : Picture mode) (n : ℕ) → IsFit old → ChangesFrame old new n → role_of new.frames n ≡ Free → Frees old new None
 frees_spent {mode} old new n fit changes free =

@@ -1,5 +1,5 @@
 -- Trees: what each step does to the roots and to the tables that are reached from them.
-use Rattle.residency.proofs.Names.{top_level, Attr, ◌≡◌, ◌⊎◌, ℕ, suc, inl, inr, Some, Option, refl, sym, ◌∙◌, subst, IsSome, FrameTable, Points, IsBelowRoot, IsForest, IsRoot, IsTable, KeepsTrees, way_forth}
+use Rattle.residency.proofs.Names.{top_level, Attr, ◌≡◌, ◌⊎◌, ℕ, suc, inl, inr, Some, Option, sym, ◌∙◌, subst, rules, IsSome, FrameTable, Points, IsBelowRoot, IsForest, IsRoot, IsTable, KeepsTrees, way_forth}
 use Rattle.residency.specs.{Picture.{Picture}, Parts.{IsRootedBut, IsUsed, AsRoot, OnWay, IsMapped}}
 
 below_forth : (mode : ℕ) (old new : FrameTable) → ((a i b : ℕ) → Points old a i b → Points new a i b) → (r page m : ℕ) → IsBelowRoot old (top_level mode) r page m → IsBelowRoot new (top_level mode) r page m
@@ -40,13 +40,4 @@ pub rooted_frames : {mode : ℕ} (old new : Picture mode) (n : ℕ) → IsRooted
     → ((pid page : ℕ) → new.at pid page ≡ old.at pid page) → IsRootedBut new n
 rooted_frames {mode} old new n rooted frames root at =
     let P : FrameTable → Type 0 = λ t. KeepsTrees old.frames t (top_level mode) in
-    rooted_same old new n rooted (subst P (sym frames) (record {
-      forest = rooted.forest;
-      same = record { forth = λ a i b p. p; back = λ a i b p. p; entries = λ a i h was is. refl };
-      tables = λ a. (λ is. is, λ is. is);
-      unlinked = λ a. (λ is. is, λ is. is);
-      roots = λ r is. is;
-      were_roots = λ r is. is;
-      entries = λ r p is. refl;
-      missing = λ r p is. refl;
-    })) root at
+    rooted_same old new n rooted (subst P (sym frames) (search rules)) root at

@@ -1,5 +1,5 @@
 -- Steps of an eviction, one after another.
-use Rattle.residency.proofs.{Aging.{ages_then}, Bits.{some_framed}, LeafSteps.{over_common}, Names.{top_level, FrameNo, ◌≡◌, ◌≢◌, ℕ, ◌<◌, inl, inr, ◌⊎◌, true, Option, get_or, length, refl, sym, ap, ◌∙◌, subst, arith, cases_eq, false≢true}}
+use Rattle.residency.proofs.{Aging.{ages_then}, Bits.{some_framed}, LeafSteps.{over_common}, Names.{top_level, FrameNo, ◌≡◌, ◌≢◌, ℕ, ◌<◌, inl, inr, ◌⊎◌, true, Option, get_or, length, sym, ap, ◌∙◌, subst, arith, rules, cases_eq, false≢true}}
 use Rattle.residency.proofs.{Names.{get_or_past, Free, Table, Cache, role_of, frame_of, Swap, IsInUse, slots_of, Home, Frame, Slot, IsPage, missing_of, last_table, missing_of-is}, Places.{one_frame}, Setting.{held_same}, Shown.{keeps_then}}
 use Rattle.residency.specs.{Ages.{Ages, Same, Cleared, Left}, Calls.{Frees, KeepsPages, IsToKeep, IsStaying}, Evictions.{Spares, GivesUp}, Leaves.{ChangesLeaves, IsChanged, IsOver}, Parts.{IsFit}, Picture.{Picture, entry, is_data}}
 use Rattle.residency.specs.{Seats.{is_swapped}, declared.leaves.Change.{Change, TheVariants.{Forget, ClearAccessed}}}
@@ -61,21 +61,11 @@ module _ {mode : ℕ} (change : Change) (n : ℕ) (old new : Picture mode) (fit 
 
   changes_spares : (k : ℕ) → ((pid page : ℕ) → IsPage (top_level mode) page → IsOver old change n pid page → IsChanged change (entry old pid page) (entry new pid page)
       → Ages (λ m. m ≡ n) (entry old pid page) (entry new pid page)) → Spares n k old new
-  changes_spares k aged = record {
-    pages = pages_unchanged;
-    count = ch.frames;
-    roles = λ m ne. ch.roles m;
-    role = inl (ch.roles n);
-    counts = λ m ne. ch.counts m;
-    bytes = λ m ne. ch.bytes m;
-    ends = ch.ends;
-    entries = entries_unchanged;
-    ages = λ pid page h. elim (ch.entries pid page h) [ inl same ↦ Same same | inr was ↦ aged pid page h was.0 was.1 ];
-    pointers = ch.pointers;
-    slots = λ j ne used. (ap (λ t. t.bytes j) ch.beside.slots, ap (λ t. t.count j) ch.beside.slots);
-    total = ap (λ t. t.total) ch.beside.slots;
-    place = λ p ne. ch.beside.place p;
-  }
+  changes_spares k aged =
+      let ages : (pid page : ℕ) → IsPage (top_level mode) page → Ages (λ m. m ≡ n) (entry old pid page) (entry new pid page) = λ pid page h. elim (ch.entries pid page h) [ inl same ↦ Same same | inr was ↦ aged pid page h was.0 was.1 ] in
+      let slots = λ (j : ℕ). ap (λ t. t.bytes j) ch.beside.slots in
+      let counts = λ (j : ℕ). ap (λ t. t.count j) ch.beside.slots in
+      search (rules, inl, pages_unchanged, entries_unchanged, ages, ch.roles, ch.counts, ch.bytes, ch.ends, ch.pointers, ch.beside.place, slots, counts, ap (λ t. t.total) ch.beside.slots)
 
 -- entries over a file page's frame were forgotten
 pub forgotten_spares : {mode : ℕ} (n k : ℕ) (old new : Picture mode) → IsFit old → role_of old.frames n ≡ Cache → ChangesLeaves Forget n old new → Spares n k old new
@@ -110,41 +100,11 @@ spares_then v k a b c f g = record {
 }
 
 pub spares_none : {mode : ℕ} (v k : ℕ) (c : Picture mode) → Spares v k c c
-spares_none v k c = record {
-  pages = record { root = λ p. refl; at = λ p j. refl; views = λ p j. refl; files = record { held = λ p. inl refl; touched = λ p. refl; files = λ f. refl } };
-  count = refl;
-  roles = λ n ne. refl;
-  role = inl refl;
-  counts = λ n ne. refl;
-  bytes = λ n ne used. refl;
-  ends = λ pid r page e. refl;
-  entries = λ pid page h stays. refl;
-  ages = λ pid page h. Same refl;
-  pointers = λ n i m points. points;
-  slots = λ j ne used. (refl, refl);
-  total = refl;
-  place = λ p ne. refl;
-}
+spares_none v k c = search (rules, inl, Same)
 
 -- frames given up, and then others
 pub frees_none : {mode : ℕ} (c : Picture mode) (keep : Option FrameNo) → Frees c c keep
-frees_none c keep = record {
-  pages = record { root = λ p. refl; at = λ p k. refl; views = λ p k. refl; files = record { held = λ p. inl refl; touched = λ p. refl; files = λ f. refl } };
-  count = refl;
-  roles = λ n. inl refl;
-  missing = λ pid r page e. refl;
-  ends = λ pid r page e. refl;
-  pointers = λ n i m points. points;
-  entries = λ pid page h stays. refl;
-  slots = λ j used. (refl, refl);
-  total = refl;
-  home = λ p e. e;
-  slotted = λ p j e. e;
-  kept_place = λ p n kept e. e;
-  kept_role = λ n kept. refl;
-  kept_count = λ n kept. refl;
-  kept_bytes = λ n kept datum. refl;
-}
+frees_none c keep = search (rules, inl)
 
 pub frees_then : {mode : ℕ} (a b c : Picture mode) (keep : Option FrameNo) → Frees a b keep → Frees b c keep → Frees a c keep
 frees_then a b c keep f g = record {

@@ -1,6 +1,6 @@
 -- Memory as it is made.
-use Rattle.residency.proofs.Names.{◌≡◌, ◌≢◌, ℕ, inl, inr, ◌⊎◌, false, Option, Some, None, refl, sym, ap, ◌∙◌, subst, arith, cases_eq, cases_lt, false≢true, get_or_past, IsSome, names, uses, PageKey, Attr, Free, Zero, Table, Private, Cache}
-use Rattle.residency.proofs.Names.{FrameTable, frame_count, role_of, IsSound, IsFresh, Role, has_bit, fresh_forest, Home, Frame, Slot}
+use Rattle.residency.proofs.Names.{◌≡◌, ◌≢◌, ℕ, inl, inr, ◌⊎◌, false, Option, Some, None, refl, sym, ap, ◌∙◌, subst, arith, rules, cases_eq, cases_lt, false≢true, get_or_past, IsSome, names, uses, PageKey, Attr, Free, Zero, Table, Private, Cache}
+use Rattle.residency.proofs.Names.{FrameTable, frame_count, role_of, IsSound, IsFresh, Role, has_bit, IsTable, fresh_forest, Home, Frame, Slot}
 use Rattle.residency.specs.{Picture.{Picture, entry, is_private, entry_under, IsOwned}, Seats.{Seat, InFrame, InSlot, seat}, Parts.{IsFit, Nothing}}
 
 pub no_bit : is_private 0 ≡ false
@@ -38,6 +38,9 @@ module _ {mode : ℕ} (c : Picture mode) (count : ℕ) (sound : IsSound c.frames
   no_root : (pid r : ℕ) → c.root pid ≡ Some r → ⊥
   no_root pid r e = let bad : None ≡ Some r = sym (dead pid) ∙ e in (cc)
 
+  no_table : (m : ℕ) → IsTable c.frames m → ⊥
+  no_table m table = is_not m Table (λ f. (cc)) (λ z. (cc)) table.role
+
   no_seat : (pid page : ℕ) (y : Seat) → seat (entry c pid page) ≡ Some y → ⊥
   no_seat pid page y e = let none : seat (entry c pid page) ≡ None = ap seat (entry-dead c pid page (dead pid)) ∙ seat-none in let bad : None ≡ Some y = sym none ∙ e in (cc)
 
@@ -52,20 +55,9 @@ module _ {mode : ℕ} (c : Picture mode) (count : ℕ) (sound : IsSound c.frames
   start_fit = record {
     counted = (
       λ k. 0,
-      record {
-        counts = λ y e. absurd (not_owned y e);
-        pages = λ y e. absurd (not_owned y e);
-        named = λ pid page y h e. absurd (no_seat pid page y e);
-        noted = λ pid page y h e. absurd (no_seat pid page y e);
-      },
+      search (rules, absurd, not_owned, no_seat),
     );
-    rooted = record {
-      forest = fresh_forest c.frames count sound fresh;
-      roots = λ pid r e. absurd (no_root pid r e);
-      apart = λ p q r e f. absurd (no_root p r e);
-      numbers = λ pid r e. absurd (no_root pid r e);
-      used = λ m table. absurd (is_not m Table (λ f. (cc)) (λ z. (cc)) table.role);
-    };
+    rooted = search (rules, absurd, no_root, no_table, fresh_forest c.frames count sound fresh);
     granting = record {
       entries = λ pid page h. Nothing (entry-dead c pid page (dead pid));
       user = λ pid. record {

@@ -127,8 +127,7 @@ module _ {mode : ℕ} (c : Picture mode) (live : ℕ → Bool) (views : ℕ → 
       let same : depth ≡ depth' = omega (arith, power, below, below') in
       let P : ℕ → Type 0 = λ x. Way t (top_level mode) x page (suc depth) n in
       let D : ℕ → Type 0 = λ x. Way t (top_level mode) r' page (suc x) n in
-      let row : page / table_entries ^ (top_level mode - depth') ≡ page' / table_entries ^ (top_level mode - depth') =
-      ap (λ k. page / table_entries ^ k) (sym power) ∙ ap (λ (x : Code). x.place) e in
+      let row = ap (λ k. page / table_entries ^ k) (sym power) ∙ ap (λ (x : Code). x.place) e in
       one_table t (top_level mode) r' page page' (suc depth') n n' (omega (arith, below'))
       (λ k less. fields_same page page' (top_level mode - depth') (top_level mode - k) (omega (arith, less)) row)
       (subst D same (subst P one way)) way'

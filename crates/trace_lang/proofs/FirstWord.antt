@@ -57,49 +57,16 @@ pub mode_word : (text : List ℕ) (mode : MsyncMode) → IsMode text mode → wo
 mode_word text Sync h = let P : List ℕ → Type 0 = λ t. words_of t ≡ t ∷ [] in subst P (sym h) refl
 mode_word text Async h = let P : List ℕ → Type 0 = λ t. words_of t ≡ t ∷ [] in subst P (sym h) refl
 
--- the one word of a text is the text
-pub whole_word : (text word : List ℕ) → words_of text ≡ word ∷ [] → text ≡ word
-whole_word text word e = (words_joined text).joined ∙ ap (λ ws. join_with_byte 32 ws) e
-
 pub front_words : (n : ℕ) (rest text : List ℕ) (h : BeginsWith n rest text) → words_of text ≡ h.0 ∷ words_of rest
 front_words n rest text h = cut_words text h.0 rest h.1 (number_no_space h.0 n h.2)
 
--- a text begins with the first of its words, where that is a number and there are others
-pub begins_with : (text p next : List ℕ) (others : List (List ℕ)) (n : ℕ) → words_of text ≡ p ∷ next ∷ others → IsNumber p n
-    → BeginsWith n (join_with_byte 32 (next ∷ others)) text
-begins_with text p next others n e h = (p, (words_joined text).joined ∙ ap (λ ws. join_with_byte 32 ws) e, h)
-
--- the number that was read is the one that the first word writes, and the rest has the other words
-pub step : (v : ℕ) (rest text : List ℕ) → BeginsWith v rest text → (p : List ℕ) (others : List (List ℕ)) (n : ℕ) → words_of text ≡ p ∷ others → IsNumber p n
-    → (v ≡ n) × (words_of rest ≡ others)
-step v rest text h p others n e number =
-    let same = sym (front_words v rest text h) ∙ e in
-    let P : List ℕ → Type 0 = λ t. IsNumber t n in
-    (one_number h.0 v n h.2 (subst P (sym (ap (λ ws. get_or ws 0 []) same)) number), ap (λ ws. drop 1 ws) same)
-
--- these numbers are read one after the other, and the rest is left
-abbrev pub Reads : List ℕ → List ℕ → List ℕ → Type 0
-Reads [] rest text = text ≡ rest
-Reads (v ∷ vs) rest text = (mid : List ℕ) × BeginsWith v mid text × Reads vs rest mid
-
--- the words write the numbers
-abbrev pub AreNumbers : List (List ℕ) → List ℕ → Type 0
-AreNumbers [] [] = Unit {0}
-AreNumbers (p ∷ ps) (n ∷ ns) = IsNumber p n × AreNumbers ps ns
-AreNumbers ps ns = ⊥
-
--- the numbers that were read are those that the first words write, and the rest has the other words
-pub steps : (vs : List ℕ) (rest text : List ℕ) → Reads vs rest text → (ps others : List (List ℕ)) (ns : List ℕ) → length vs ≡ length ns
-    → words_of text ≡ ps ++ others → AreNumbers ps ns → (vs ≡ ns) × (words_of rest ≡ others)
-steps [] rest text h [] others [] l e numbers = (refl, ap words_of (sym h) ∙ e)
-steps [] rest text h (p ∷ ps) others [] l e numbers = absurd numbers
-steps [] rest text h ps others (n ∷ ns) l e numbers = absurd (omega (arith, l))
-steps (v ∷ vs) rest text h ps others [] l e numbers = absurd (omega (arith, l))
-steps (v ∷ vs) rest text h [] others (n ∷ ns) l e numbers = absurd numbers
-steps (v ∷ vs) rest text h (p ∷ ps) others (n ∷ ns) l e numbers =
-    let one = step v h.0 text h.1 p (ps ++ others) n e numbers.0 in
-    let more = steps vs rest h.0 h.2 ps others ns (omega (arith, l)) one.1 numbers.1 in
-    (ap (λ x. x ∷ vs) one.0 ∙ ap (λ t. n ∷ t) more.0, more.1)
+-- one number alone stands at the front, and one rest behind it
+pub one_front : (v : ℕ) (rest text : List ℕ) → BeginsWith v rest text → (n : ℕ) (other : List ℕ) → BeginsWith n other text → (v ≡ n) × (rest ≡ other)
+one_front v rest text h n other k =
+    let same = sym (front_words v rest text h) ∙ front_words n other text k in (
+      one_number h.0 v n h.2 (subst (λ t. IsNumber t n) (sym (ap (λ ws. get_or ws 0 []) same)) k.2),
+      (words_joined rest).joined ∙ ap (λ ws. join_with_byte 32 (drop 1 ws)) same ∙ sym (words_joined other).joined,
+    )
 
 -- a text with no space has one word alone
 pub one_alone : (word rest text : List ℕ) → text ≡ word ++ 32 ∷ rest → HasNoSpace text → ⊥
@@ -112,8 +79,7 @@ one_alone word rest text e plain = let P : List ℕ → Type 0 = λ t. HasNoSpac
 -- the first word is the one before the first space
 pub same_front : (n : ℕ) (rest text word others : List ℕ) → BeginsWith n rest text → text ≡ word ++ 32 ∷ others → HasNoSpace word → IsNumber word n
 same_front n rest text word others h e plain =
-    let P : List ℕ → Type 0 = λ t. IsNumber t n in
-    subst P (ap (λ ws. get_or ws 0 []) (sym (front_words n rest text h) ∙ cut_words text word others e plain)) h.2
+    subst (λ (t : List ℕ). IsNumber t n) (ap (λ ws. get_or ws 0 []) (sym (front_words n rest text h) ∙ cut_words text word others e plain)) h.2
 
 -- a text begins with the digits before its first space
 pub begins_with_digits : (radix : ℕ) (text rest : List ℕ) (at n : ℕ) → text ≡ take at text ++ 32 ∷ rest → 0 < at → at ≤ length text → AllDigits radix (take at text)

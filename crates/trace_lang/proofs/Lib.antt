@@ -7,4 +7,5 @@ mod OneName
 mod OneCommand
 mod OneNumber
 mod FirstWord
+mod Reading
 mod Nothing

@@ -1,5 +1,5 @@
 -- The words of a line stand for one command at most, whose name the first word is.
-use Rattle.{std.proofs.Common.{◌≡◌, ℕ, List, [], Option, Some, None, IfSome, get_or, subst, sym, ◌∙◌, ap}, trace_lang.{proofs.OneName.{same_name, OnlyOf}, specs.{Grammar.{IsForm}, Names.{name_text, ReadsWords}, declared.names.Name.{Name}}}}
+use Rattle.{std.proofs.Common.{◌≡◌, ℕ, List, [], Option, None, get_or, subst, sym, ◌∙◌, ap}, trace_lang.{proofs.OneName.{Each, same_name}, specs.{Grammar.{IsForm}, Names.{name_text, ReadsWords}, declared.names.Name.{Name}}}}
 use Rattle.vm_types.specs.declared.command.Command.{Command, TheVariants.{Spawn, Fork, Exit, Mmap, Munmap, Mprotect, Dontneed, Msync, Load, Store, Fetch, PastFaults}}
 use Rattle.trace_lang.specs.declared.names.Name.TheVariants as name
 
@@ -33,36 +33,31 @@ begins ws (Fetch pid addr) h = ap first h.2
 begins ws PastFaults h = ap first h
 begins ws command h = ap first h.3
 
-at_name : (ws : List (List ℕ)) (r : Option Command) (command : Command) → IsForm ws command → OnlyOf (form_name command) ws r → r ≡ Some command
-at_name ws r (Fork pid) h only = only pid h
-at_name ws r (Exit pid) h only = only pid h
-at_name ws r (Mmap pid addr len prot source placing) h only = only pid addr len prot source placing h
-at_name ws r (Munmap pid addr len) h only = only pid addr len h
-at_name ws r (Mprotect pid addr len prot) h only = only pid addr len prot h
-at_name ws r (Dontneed pid addr len) h only = only pid addr len h
-at_name ws r (Msync pid addr len mode) h only = only pid addr len mode h
-at_name ws r (Load pid addr width) h only = only pid addr width h
-at_name ws r (Store pid addr stored) h only = only pid addr stored h
-at_name ws r (Fetch pid addr) h only = only pid addr h
-at_name ws r command h only = only h
+each : (P : Command → Type 0) (command : Command) → Each (form_name command) P → P command
+each P (Fork pid) all = all pid
+each P (Exit pid) all = all pid
+each P (Mmap pid addr len prot source placing) all = all pid addr len prot source placing
+each P (Munmap pid addr len) all = all pid addr len
+each P (Mprotect pid addr len prot) all = all pid addr len prot
+each P (Dontneed pid addr len) all = all pid addr len
+each P (Msync pid addr len mode) all = all pid addr len mode
+each P (Load pid addr width) all = all pid addr width
+each P (Store pid addr stored) all = all pid addr stored
+each P (Fetch pid addr) all = all pid addr
+each P command all = all
 
--- what was read of a form of the name, where it is the one command of that form
-pub stands : (n : Name) (ws : List (List ℕ)) (r : Option Command) → first ws ≡ name_text n → IfSome r (λ command. IsForm ws command) → OnlyOf n ws r → ReadsWords ws r
-stands n ws r e found only = record {
-  found = found;
-  only = λ command h.
-      let P : Name → Type 0 = λ m. OnlyOf m ws r in
-      at_name ws r command h (subst P (same_name n (form_name command) (sym e ∙ begins ws command h)) only);
-}
+-- what holds of each command of the name that the first word is
+pub at_name : (P : Command → Type 0) (n : Name) (ws : List (List ℕ)) (command : Command) → first ws ≡ name_text n → Each n P → IsForm ws command → P command
+at_name P n ws command e all h = each P command (subst (λ m. Each m P) (same_name n (form_name command) (sym e ∙ begins ws command h)) all)
 
--- nothing was read of a form of the name, where there is no command of it
-pub unread : (n : Name) (ws : List (List ℕ)) (r : Option Command) → r ≡ None → first ws ≡ name_text n → OnlyOf n ws None → ReadsWords ws r
-unread n ws r e named only =
-    let P : Option Command → Type 0 = λ t. ReadsWords ws t in
-    subst P (sym e) (stands n ws None named tt only)
+-- nothing was read of words that are in no form
+pub unread : (ws : List (List ℕ)) (r : Option Command) → r ≡ None → ((command : Command) → IsForm ws command → ⊥) → ReadsWords ws r
+unread ws r e none = subst (λ t. ReadsWords ws t) (sym e) record { found = tt; only = λ command h. absurd (none command h) }
+
+-- nor of words that are in no form of their name
+pub none_named : (n : Name) (ws : List (List ℕ)) (r : Option Command) → r ≡ None → first ws ≡ name_text n → Each n (λ command. IsForm ws command → ⊥) → ReadsWords ws r
+none_named n ws r e named none = unread ws r e (λ command h. at_name (λ c. IsForm ws c → ⊥) n ws command named none h h)
 
 -- words whose first is no name stand for no command
 pub no_command : (ws : List (List ℕ)) (r : Option Command) → r ≡ None → ((n : Name) → first ws ≡ name_text n → ⊥) → ReadsWords ws r
-no_command ws r e unnamed =
-    let P : Option Command → Type 0 = λ t. ReadsWords ws t in
-    subst P (sym e) record { found = tt; only = λ command h. absurd (unnamed (form_name command) (begins ws command h)) }
+no_command ws r e unnamed = unread ws r e (λ command h. unnamed (form_name command) (begins ws command h))

@@ -1,5 +1,5 @@
 -- A word is one name at most.
-use Rattle.{std.proofs.Common.{◌≡◌, ℕ, List, get_or, ◌+◌, ◌*◌, ◌==◌, if◌then◌else◌, Option, Some, refl, sym, ◌∙◌, ap}, trace_lang.specs.{Grammar.{IsForm}, Names.{name_text}, declared.names.Name.{Name, TheVariants.{Spawn, Fork, Exit}}}}
+use Rattle.{std.proofs.Common.{◌≡◌, ℕ, List, get_or, ◌+◌, ◌*◌, ◌==◌, if◌then◌else◌, refl, sym, ◌∙◌, ap}, trace_lang.specs.{Names.{name_text}, declared.names.Name.{Name, TheVariants.{Spawn, Fork, Exit}}}}
 use Rattle.{trace_lang.specs.declared.names.Name.TheVariants.{Mmap, Munmap, Mprotect, Dontneed, Msync, Load, Store, Fetch, Faults}, vm_types.specs.declared.{access.StoredValue.{StoredValue}, command.Command.{Command}}}
 use Rattle.vm_types.specs.declared.{command.{MapSource.{MapSource}, MsyncMode.{MsyncMode}, Placing.{Placing}}, permission.Prot.{Prot}, width.Width.{Width}}
 use Rattle.vm_types.specs.declared.command.Command.TheVariants as command
@@ -23,18 +23,17 @@ named n = refl
 pub same_name : (a b : Name) → name_text a ≡ name_text b → a ≡ b
 same_name a b e = sym (named a) ∙ ap (λ t. of_key (key t)) e ∙ named b
 
--- what was read is the one command of a form of the name
-abbrev pub OnlyOf : Name → List (List ℕ) → Option Command → Type 0
-OnlyOf Spawn ws r = IsForm ws command.Spawn → r ≡ Some command.Spawn
-OnlyOf Fork ws r = (pid : ℕ) → IsForm ws (command.Fork pid) → r ≡ Some (command.Fork pid)
-OnlyOf Exit ws r = (pid : ℕ) → IsForm ws (command.Exit pid) → r ≡ Some (command.Exit pid)
-OnlyOf Mmap ws r = (pid addr len : ℕ) (prot : Prot) (source : MapSource) (placing : Placing) → IsForm ws (command.Mmap pid addr len prot source placing)
-    → r ≡ Some (command.Mmap pid addr len prot source placing)
-OnlyOf Munmap ws r = (pid addr len : ℕ) → IsForm ws (command.Munmap pid addr len) → r ≡ Some (command.Munmap pid addr len)
-OnlyOf Mprotect ws r = (pid addr len : ℕ) (prot : Prot) → IsForm ws (command.Mprotect pid addr len prot) → r ≡ Some (command.Mprotect pid addr len prot)
-OnlyOf Dontneed ws r = (pid addr len : ℕ) → IsForm ws (command.Dontneed pid addr len) → r ≡ Some (command.Dontneed pid addr len)
-OnlyOf Msync ws r = (pid addr len : ℕ) (mode : MsyncMode) → IsForm ws (command.Msync pid addr len mode) → r ≡ Some (command.Msync pid addr len mode)
-OnlyOf Load ws r = (pid addr : ℕ) (width : Width) → IsForm ws (command.Load pid addr width) → r ≡ Some (command.Load pid addr width)
-OnlyOf Store ws r = (pid addr : ℕ) (stored : StoredValue) → IsForm ws (command.Store pid addr stored) → r ≡ Some (command.Store pid addr stored)
-OnlyOf Fetch ws r = (pid addr : ℕ) → IsForm ws (command.Fetch pid addr) → r ≡ Some (command.Fetch pid addr)
-OnlyOf Faults ws r = IsForm ws command.PastFaults → r ≡ Some command.PastFaults
+-- what holds of each command of the name
+abbrev pub Each : Name → (Command → Type 0) → Type 0
+Each Spawn P = P command.Spawn
+Each Fork P = (pid : ℕ) → P (command.Fork pid)
+Each Exit P = (pid : ℕ) → P (command.Exit pid)
+Each Mmap P = (pid addr len : ℕ) (prot : Prot) (source : MapSource) (placing : Placing) → P (command.Mmap pid addr len prot source placing)
+Each Munmap P = (pid addr len : ℕ) → P (command.Munmap pid addr len)
+Each Mprotect P = (pid addr len : ℕ) (prot : Prot) → P (command.Mprotect pid addr len prot)
+Each Dontneed P = (pid addr len : ℕ) → P (command.Dontneed pid addr len)
+Each Msync P = (pid addr len : ℕ) (mode : MsyncMode) → P (command.Msync pid addr len mode)
+Each Load P = (pid addr : ℕ) (width : Width) → P (command.Load pid addr width)
+Each Store P = (pid addr : ℕ) (stored : StoredValue) → P (command.Store pid addr stored)
+Each Fetch P = (pid addr : ℕ) → P (command.Fetch pid addr)
+Each Faults P = P command.PastFaults

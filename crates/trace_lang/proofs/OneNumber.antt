@@ -22,8 +22,7 @@ number_no_space text n h = elim h.written [
 -- an x is no decimal digit
 not_decimal : (text : List ℕ) (n : ℕ) → AllDigits 10 text → IsHexadecimal text n → ⊥
 not_decimal text n all hex =
-    let P : List ℕ → Type 0 = λ t. AllDigits 10 t in
-    let x : digit_value 120 < 10 = (subst P hex.1 all).1.0 in
+    let x : digit_value 120 < 10 = (subst (λ (t : List ℕ). AllDigits 10 t) hex.1 all).1.0 in
     omega (arith, x)
 
 pub one_number : (text : List ℕ) (a b : ℕ) → IsNumber text a → IsNumber text b → a ≡ b

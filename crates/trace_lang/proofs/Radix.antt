@@ -15,8 +15,7 @@ digit_below radix (c ∷ cs) (suc i) byte e h l = digit_below radix cs i byte e 
 pub value_so_far : (radix : ℕ) (ds : List ℕ) (i n : ℕ) → 2 ≤ radix → i < length ds → n ≡ digits_value radix (take i ds)
     → n * radix + digit_value (get_or ds i 0) ≤ digits_value radix ds
 value_so_far radix ds i n low l e =
-    let P : ℕ → Type 0 = λ x. x ≤ digits_value radix ds in
-    subst P (digits_value_more radix ds i l ∙ ap (λ v. v * radix + digit_value (get_or ds i 0)) (sym e))
+    subst (λ (x : ℕ). x ≤ digits_value radix ds) (digits_value_more radix ds i l ∙ ap (λ v. v * radix + digit_value (get_or ds i 0)) (sym e))
     (digits_value-take-le radix ds (i + 1) (at_least_one radix low))
   where
     at_least_one : (n : ℕ) → 2 ≤ n → 1 ≤ n
@@ -35,8 +34,7 @@ next_small radix i n digit h l =
     let more : suc i ≡ i + 1 = omega arith in
     let most : suc n * radix ≤ radix ^ i * radix = mul-le-mul_right radix h in
     let under : n * radix + digit < radix ^ i * radix = omega (arith, most, l) in
-    let P : ℕ → Type 0 = λ x. n * radix + digit < x in
-    subst P (mul_comm (radix ^ i) radix ∙ sym (pow-succ' radix i) ∙ ap (λ k. radix ^ k) more) under
+    subst (λ (x : ℕ). n * radix + digit < x) (mul_comm (radix ^ i) radix ∙ sym (pow-succ' radix i) ∙ ap (λ k. radix ^ k) more) under
 
 -- so many digits always fit
 pub next_fits : (radix most i n digit : ℕ) → 2 ≤ radix → radix ^ most ≤ 2 ^ 64 → i < most → n < radix ^ i → digit < radix → n * radix + digit < 2 ^ 64

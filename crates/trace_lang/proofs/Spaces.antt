@@ -1,7 +1,8 @@
 -- The words of a line are what stands between its spaces.
 use Rattle.std.proofs.{Common.{◌≡◌, ◌≢◌, ℕ, zero, suc, ◌<◌, ◌≤◌, Bool, false, eqb, ne_eqb, List, [], ◌∷◌, length, get_or, All, length-append, refl, sym, ◌∙◌, ap, subst, inl, inr, arith}, lemmas.Bool.{cases_eq}}
 use Rattle.{std.{proofs.lemmas.List.Splits.{slice_split-cons_yes, slice_split-cons_no, slice_split_none, slice_split_at, join_with_byte-slice_split}, specs.List.{onto_first, join_with_byte}}, trace_lang.specs.Grammar.{HasNoSpace, IsBack}}
-use Rattle.{trace_lang.specs.{Grammar.{IsCommand, IsForm, IsPlacing, IsSource, IsWords}, Words.{words_of}}, vm_types.specs.declared.command.Command.{Command, TheVariants.{Spawn, Fork, Exit, Mmap, Mprotect, Msync, Store, Fetch, PastFaults}}}
+use Rattle.{trace_lang.specs.{Grammar.{IsCommand, IsForm, IsPlacing, IsSource, IsWords}, Words.{words_of}}, vm_types.specs.declared.command.Command.{Command}}
+use Rattle.trace_lang.{proofs.OneCommand.{begins, form_name}, specs.{Names.{name_text}, declared.names.Name.{Name, TheVariants.{Spawn}}}}
 use Rattle.vm_types.specs.declared.command.{MapSource.{MapSource, TheVariants.{Private, Shared}}, Placing.{Placing, TheVariants.{Hint}}}
 
 pub no_space-cons : (b : ℕ) (word : List ℕ) → b ≢ 32 → HasNoSpace word → HasNoSpace (b ∷ word)
@@ -45,9 +46,6 @@ pub words_of_line : (line : List ℕ) (words : List (List ℕ)) → IsWords line
 words_of_line line [] h some = absurd (omega arith)
 words_of_line line (word ∷ words) h some = ap words_of h.joined ∙ split-join word words h.each
 
-some_words : (n : ℕ) (words others : List (List ℕ)) → words ≡ others → length others ≡ suc n → 0 < length words
-some_words n words others e l = let m = ap length e ∙ l in omega (arith, m)
-
 source_words : (words : List (List ℕ)) (source : MapSource) → IsSource words source → length words ≤ 3
 source_words words (Private file offset) h = let m = ap length h.2 in omega (arith, m)
 source_words words (Shared file offset) h = let m = ap length h.2 in omega (arith, m)
@@ -58,9 +56,9 @@ placing_words words Hint h = let m = ap length h in omega (arith, m)
 placing_words words placing h = let m = ap length h in omega (arith, m)
 
 source_some : (words : List (List ℕ)) (source : MapSource) → IsSource words source → 0 < length words
-source_some words (Private file offset) h = some_words 2 words _ h.2 refl
-source_some words (Shared file offset) h = some_words 2 words _ h.2 refl
-source_some words source h = some_words 0 words _ h refl
+source_some words (Private file offset) h = rw h.2 (omega arith)
+source_some words (Shared file offset) h = rw h.2 (omega arith)
+source_some words source h = rw h (omega arith)
 
 -- some word stands behind a permission
 pub back_some : (words : List (List ℕ)) (source : MapSource) (placing : Placing) → IsBack words source placing → 0 < length words
@@ -71,18 +69,14 @@ pub back_words : (words : List (List ℕ)) (source : MapSource) (placing : Placi
 back_words words source placing h =
     let n = source_words h.0 source h.3 in let o = placing_words h.1 placing h.4 in omega (arith, ap length h.2 ∙ length-append h.0 h.1, n, o)
 
+no_name : (n : Name) → [] ≡ name_text n → ⊥
+no_name Spawn e = cc
+no_name n e = cc
+
 -- a form has a word
 form_words : (words : List (List ℕ)) (command : Command) → IsForm words command → 0 < length words
-form_words words Spawn h = some_words 0 words _ h refl
-form_words words (Fork pid) h = some_words 1 words _ h.1 refl
-form_words words (Exit pid) h = some_words 1 words _ h.1 refl
-form_words words (Mmap pid addr len prot source placing) h = let m = ap length h.5 in omega (arith, m)
-form_words words (Mprotect pid addr len prot) h = some_words 4 words _ h.4 refl
-form_words words PastFaults h = some_words 0 words _ h refl
-form_words words (Msync pid addr len mode) h = some_words 4 words _ h.4 refl
-form_words words (Store pid addr stored) h = some_words 4 words _ h.4 refl
-form_words words (Fetch pid addr) h = some_words 2 words _ h.2 refl
-form_words words command h = some_words 3 words _ h.3 refl
+form_words [] command h = absurd (no_name (form_name command) (begins [] command h))
+form_words (word ∷ words) command h = omega arith
 
 pub same_words : (line : List ℕ) (command : Command) (h : IsCommand line command) → words_of line ≡ h.words
 same_words line command h = words_of_line line h.words h.parted (form_words h.words command h.form)
@@ -90,10 +84,8 @@ same_words line command h = words_of_line line h.words h.parted (form_words h.wo
 -- the command of a line is read off its words
 pub form_of_line : (line : List ℕ) (words : List (List ℕ)) (command : Command) → words ≡ words_of line → IsCommand line command → IsForm words command
 form_of_line line words command e h =
-    let P : List (List ℕ) → Type 0 = λ w. IsForm w command in
-    subst P (sym (e ∙ same_words line command h)) h.form
+    subst (λ (w : List (List ℕ)). IsForm w command) (sym (e ∙ same_words line command h)) h.form
 
 pub command_of_words : (line : List ℕ) (words : List (List ℕ)) (command : Command) → length line ≤ 256 → words ≡ words_of line → IsForm words command → IsCommand line command
 command_of_words line words command short e form =
-    let P : List (List ℕ) → Type 0 = λ w. IsForm w command in
-    record { short = short; words = words_of line; parted = words_joined line; form = subst P e form }
+    record { short = short; words = words_of line; parted = words_joined line; form = subst (λ (w : List (List ℕ)). IsForm w command) e form }

@@ -1,14 +1,10 @@
 -- What is true of the sizes of both modes.
-use Rattle.{std.{proofs.Common.{◌≡◌, ℕ, ◌+◌, ◌≤◌, ◌<◌, ◌^◌, ◌⊎◌, Bool, true, false, inl, inr, refl, arith}, specs.Prelude.{◌==◌}}, vm_types.specs.Limits.{top_level, table_entries, user_start, user_end, widest_end}}
-
-by_bool : (b : Bool) → (b ≡ true) ⊎ (b ≡ false)
-by_bool true = inl refl
-by_bool false = inr refl
+use Rattle.{std.{proofs.Common.{◌≡◌, ℕ, ◌+◌, ◌≤◌, ◌^◌, ◌⊎◌, inl, inr, refl, arith}, proofs.lemmas.Bool.{cases_Bool}, specs.Prelude.{◌==◌}}, vm_types.specs.Limits.{top_level, table_entries, user_end}}
 
 -- a mode has three levels or four
 pub two_modes : (mode : ℕ) → ((top_level mode ≡ 2) × (user_end mode ≡ 2 ^ 26)) ⊎ ((top_level mode ≡ 3) × (user_end mode ≡ 2 ^ 35))
 unfolding top_level user_end
-two_modes mode = elim (by_bool (mode == 39)) [ inl is ↦ inl (rw is (refl, refl)) | inr is ↦ inr (rw is (refl, refl)) ]
+two_modes mode = elim (cases_Bool (mode == 39)) [ inl is ↦ inl (rw is (refl, refl)) | inr is ↦ inr (rw is (refl, refl)) ]
 
 pub record Sizes (mode : ℕ) : Type 0 where
   pub levels : (2 ≤ top_level mode) × (top_level mode ≤ 3)

@@ -2,7 +2,7 @@
 use Rattle.std.proofs.{Common.{◌≡◌, ◌≢◌, ℕ, zero, suc, inl, inr, ◌+◌, ◌*◌, ◌<◌, ◌≤◌, Bool, true, false, not, ◌||◌, ◌==◌, Option, Some, None, refl, sym, ap, ◌∙◌, arith, eqb-true, eq-eqb, ne_eqb}, lemmas.Bool.{cases_eq, cases_lt, cases_Bool}}
 use Rattle.{std.proofs.lemmas.Bool.{false≢true, true≢false, and_parts}, vm_types.{proofs.{Modes.{sizes}, Naming.{any-at}}, specs.{Attributes.{attr_after, backing_after, backing_eq}, Counting.{any_below, count_below, sum_below}}}}
 use Rattle.vm_types.specs.{Limits.{named_limit, object_limit, user_end, widest_end}, Objects.{Maps, uses, is_of_object, is_used, least_from, free_object}, Runs.{begins, begins_run, runs_below, run_count}, declared.region.Attr.{Attr}}
-use Rattle.vm_types.specs.declared.region.Backing.{Backing, TheVariants.{Anon, Private, Shared, Common}}
+use Rattle.vm_types.specs.declared.region.Backing.{Backing, TheVariants.{Common}}
 
 -- where one of the numbers doesn't pass, the one that is found doesn't
 pub least-clear : (passes : ℕ → Bool) (n count k : ℕ) → n ≤ k → k ≤ n + count → passes k ≡ false → passes (least_from passes n count) ≡ false
@@ -60,22 +60,16 @@ count-uses : (a : Option Attr) (n : ℕ) → count_below (uses a) n ≤ 1
 count-uses None n = let none = count-none (uses None) n (λ k. refl) in omega (arith, none)
 count-uses (Some a) n = by_backing a.backing where
   by_backing : (b : Backing) → count_below (is_of_object b) n ≤ 1
-  by_backing Anon = let none = count-none (is_of_object Anon) n (λ k. refl) in omega (arith, none)
-  by_backing (Private p) = let none = count-none (is_of_object (Private p)) n (λ k. refl) in omega (arith, none)
-  by_backing (Shared p) = let none = count-none (is_of_object (Shared p)) n (λ k. refl) in omega (arith, none)
   by_backing (Common p) = count-point p.object n
+  by_backing b = let none = count-none (is_of_object b) n (λ k. refl) in omega (arith, none)
 
 -- a page that goes on where the one before was is of its object
 same_object : (b c : Backing) (object : ℕ) → backing_eq (backing_after b 1) c ≡ true → is_of_object c object ≡ true → is_of_object b object ≡ true
-same_object b Anon object e is = absurd (false≢true is)
-same_object b (Private q) object e is = absurd (false≢true is)
-same_object b (Shared q) object e is = absurd (false≢true is)
-same_object Anon (Common q) object e is = absurd (false≢true e)
-same_object (Private p) (Common q) object e is = absurd (false≢true e)
-same_object (Shared p) (Common q) object e is = absurd (false≢true e)
 same_object (Common p) (Common q) object e is =
     let same : p.object ≡ q.object = eqb-true p.object q.object (and_parts (p.object == q.object) (p.page + 1 == q.page) e).0 in
     ap (λ x. x == object) same ∙ is
+same_object b (Common q) object e is = absurd (false≢true e)
+same_object b c object e is = absurd (false≢true is)
 
 uses_before : (before here : Option Attr) (object : ℕ) → begins before here ≡ false → uses here object ≡ true → uses before object ≡ true
 uses_before before None object goes is = absurd (false≢true is)
@@ -135,11 +129,7 @@ sum-most f (suc n) none most = let rest = sum-most f n none most in let here = m
 
 runs-none : (map : ℕ → Option Attr) (n : ℕ) → ((page : ℕ) → map page ≡ None) → runs_below map n ≡ 0
 unfolding runs_below
-runs-none map zero none = refl
-runs-none map (suc n) none = rw (starts n, runs-none map n none) refl where
-  starts : (m : ℕ) → begins_run map m ≡ false
-  starts zero = rw (none zero) refl
-  starts (suc m) = rw (none (suc m)) refl
+runs-none map n none = runs-end map 0 n (omega arith) (λ page from. none page)
 
 -- no page names an object of the new number, where no process has more than 256 runs
 pub free-unused : (mode : ℕ) (maps : Maps) → ((page : ℕ) → maps 0 page ≡ None) → ((p page : ℕ) → user_end mode ≤ page → maps p page ≡ None)

@@ -1,9 +1,9 @@
 -- Shared anonymous memory as processes see it: a store of one is seen by the others, a fork shares and doesn't copy, what another process
 -- still names stays, and a new object shows zeros.
-use Rattle.{std.proofs.{Common.{◌≡◌, ℕ, zero, suc, inl, inr, ◌<◌, ◌≤◌, ◌||◌, Bool, true, false, List, Option, Some, None, refl, sym, ap, ◌∙◌, eq-eqb}, lemmas.Bool.{cases_Bool, false≢true, and_parts}}, vm_types.proofs.Naming.{any-at}}
+use Rattle.{std.proofs.{Common.{◌≡◌, ℕ, zero, suc, inl, inr, ◌<◌, ◌≤◌, ◌||◌, Bool, true, false, List, Option, Some, None, refl, sym, ap, ◌∙◌, eq-eqb}, lemmas.Bool.{cases_Bool, false≢true, and_parts}}, vm_types.proofs.Naming.{named-at}}
 use Rattle.vm_types.{proofs.NewObjects.{free-unused}, specs.{Access.{with_shown_bytes}, Counting.{any_below}, Limits.{user_end, widest_end}, Mapping.{new_object, with_mapping}, Objects.{Maps, maps_of, names, uses, is_object_page}}}
 use Rattle.vm_types.specs.{Objects.{is_of_object, is_named, is_used, named_objects, with_object, free_object}, Processes.{forked}, Ranges.{without_row}, Runs.{run_count}, State.{State, behind, copy_or_behind, or_zeros, shown}, View.{View}}
-use Rattle.vm_types.specs.{View.{zero_page}, declared.{object.ObjectPage.{ObjectPage}, region.{Attr.{Attr}, Backing.{Backing, TheVariants.{Anon, Private, Shared, Common}}}}}
+use Rattle.vm_types.specs.{View.{zero_page}, declared.{object.ObjectPage.{ObjectPage}, region.{Attr.{Attr}, Backing.{Backing, TheVariants.{Common}}}}}
 
 -- a page of an object shows the object's bytes
 pub shows-object : (s : State) (v : View) (p : ObjectPage) → v.own ≡ None → v.attr.backing ≡ Common p → shown s v ≡ or_zeros (s.objects p.object p.page)
@@ -38,21 +38,15 @@ any-more f g (suc n) more none = elim (cases_Bool (f n)) [
 -- what another process still names is kept
 pub named-kept : (maps : Maps) (objects : ℕ → ℕ → Option (List ℕ)) (p : ObjectPage) (q k : ℕ) → q < 65 → k < widest_end → names (maps q k) p.object p.page ≡ true
     → named_objects maps objects p.object p.page ≡ objects p.object p.page
-unfolding is_named
-named-kept maps objects p q k low high is =
-    let named : is_named maps p.object p.page ≡ true =
-    any-at (λ r. any_below (λ j. names (maps r j) p.object p.page) widest_end) 65 q low (any-at (λ j. names (maps q j) p.object p.page) widest_end k high is) in
-    rw named refl
+named-kept maps objects p q k low high is = rw (named-at maps p.object p.page q k low high is) refl
 
 names-uses : (a : Option Attr) (object page : ℕ) → names a object page ≡ true → uses a object ≡ true
 names-uses None object page is = absurd (false≢true is)
 names-uses (Some a) object page is = backing_uses a.backing is
   where
     backing_uses : (b : Backing) → is_object_page b object page ≡ true → is_of_object b object ≡ true
-    backing_uses Anon is = absurd (false≢true is)
-    backing_uses (Private p) is = absurd (false≢true is)
-    backing_uses (Shared p) is = absurd (false≢true is)
     backing_uses (Common p) is = (and_parts _ _ is).0
+    backing_uses b is = absurd (false≢true is)
 
 unused-unnamed : (maps : Maps) (object page : ℕ) → is_used maps object ≡ false → is_named maps object page ≡ false
 unfolding is_used is_named

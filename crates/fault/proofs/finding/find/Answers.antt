@@ -17,18 +17,8 @@ module _ {M : Type 0} {m : Levels.Ghosts M} {D E : Type 0} (c : Core D E M m) wh
   always_prop t = hlevel (IsSound-prop, AreBounded-prop, props)
 
   abbrev with_frames : (t : FrameTable) → Always t → Core D E M m
-  with_frames t is = record {
-    store = c.store;
-    swap = c.swap;
+  with_frames t is = record c {
     frames = t;
-    cache = c.cache;
-    roots = c.roots;
-    regions = c.regions;
-    page_of = c.page_of;
-    clock = c.clock;
-    keep = c.keep;
-    looks = c.looks;
-    refused = c.refused;
     sound = is.0;
     root_count = is.1;
     region_count = is.2;

@@ -1,6 +1,6 @@
 use Rattle.fault.proofs.{AccessAsking.{asks_less, asks_back, tables_out}, AccessSlotted.{slotted_none, slotted_back}, AccessSteps.{proceeds_moves, proceeds_after, brings_none, on_ok_then, counts_then}, Forms.{mapped_page}}
-use Rattle.fault.proofs.{Linked.{open_still, calm_back, read_back, away_back, ready_back, brings_back, stalled_back, stalled_tables}, Names.{inl, inr, Option, None, refl, sym, ap, ◌∙◌, subst, rules, IsSome, Attr, Nothing, IsFull}}
-use Rattle.fault.{proofs.{Names.{picture_of, IsWhole}, Serving.{serves_stall}, Wanted.{root_live, root_lives, whole_or}, WaySteps.{links_on}}, specs.Wants.{ForTable, LacksTable, ShowsFile}}
+use Rattle.fault.proofs.{Linked.{open_still, calm_back, read_back, away_back, ready_back, brings_back, stalled_back, stalled_tables}, Names.{◌≢◌, inl, Option, None, refl, sym, ap, ◌∙◌, subst, rules, IsSome, Attr, Nothing, IsFull}}
+use Rattle.fault.{proofs.{Names.{otherwise, picture_of, IsWhole}, Serving.{serves_stall}, Wanted.{root_live, root_lives, whole_or}, WaySteps.{links_on}}, specs.Wants.{ForTable, ShowsFile}}
 use Rattle.fault.proofs.granting.grant_unlinked.Goals as goal
 
 pub link_tables-requires-clause-live : goal.link_tables-requires-clause-live
@@ -17,22 +17,10 @@ root_of-root-requires g c =
 pub grant_linked-requires : goal.grant_linked-requires
 grant_linked-requires g c =
     let done = c.in_ok-table.ensures in
-    record {
-      may = record {
-        spot = record {
-          linked = record {
-            fit = done.moves.fit;
-            lives = λ none. root_lives ((picture_of c.args.core.now).root c.args.pid) c.requires.may.lives (sym (done.moves.spaces.root c.args.pid) ∙ none);
-            whole = done.whole;
-          };
-          root = c.root_of-root.ensures;
-          table = done.table c.root_of-root.result.0 c.root_of-root.ensures;
-        };
-        store = search rules;
-        swap = done.moves.swap;
-        allowed = open_still (picture_of c.args.core.now) (picture_of c.link_tables.new.core) c.args.pid c.args.page c.args.access c.args.attr.now done.pages.at done.pages.files.files c.requires.may.allowed;
-      };
-    }
+    let lives : (picture_of c.link_tables.new.core).root c.args.pid ≢ None = λ none. root_lives ((picture_of c.args.core.now).root c.args.pid) c.requires.may.lives (sym (done.moves.spaces.root c.args.pid) ∙ none) in
+    let table = done.table c.root_of-root.result.0 c.root_of-root.ensures in
+    let allowed = open_still (picture_of c.args.core.now) (picture_of c.link_tables.new.core) c.args.pid c.args.page c.args.access c.args.attr.now done.pages.at done.pages.files.files c.requires.may.allowed in
+    search rules
 
 pub returns-in_err-table : goal.returns-in_err-table
 returns-in_err-table g c =
@@ -44,10 +32,7 @@ returns-in_err-table g c =
     let new = picture_of after in
     let lives = root_live old pid c.requires.may.lives in
     let done = c.in_err-table.ensures in
-    let lacks = (elim (whole_or old pid page lives) as (λ x. LacksTable old pid page) [
-      | inl whole ↦ absurd (done.idle whole).1
-      | inr lacks ↦ lacks
-    ]) in
+    let lacks = otherwise (whole_or old pid page lives) (λ whole. (done.idle whole).1) in
     serves_stall g.D.SectorDisk g.E.SectorDisk before after pid page c.args.attr.now c.args.access c.from_residual.result c.in_err-table.field-0.0 c.from_residual.ensures.1
     (record {
       proceeds = proceeds_moves g.D.SectorDisk g.E.SectorDisk before after c.requires.may.store done.moves;

@@ -1,6 +1,7 @@
-use Rattle.fault.proofs.Steps.{same_with, moves_freed, bare_freed, slotted_frees, full_stays}
-use Rattle.fault.proofs.WaySteps.{pages_linked, bare_linked, slotted_linked, tables_linked, spaces_linked, room_linked, fit_after, no_copy_linked, missing_taken, still_wanted, links_none, gives_linked, links_linked}
-use Rattle.fault.proofs.{Names.{◌≡◌, inl, inr, None, sym, ◌∙◌, rules, Nothing, Free, Private, IsFull, on_err, Picture, picture_of, IsWhole}, Asking.{no_new_frees, no_new_linked, asks_slots_if, asks_swap}}
+use Rattle.fault.proofs.Steps.{table_before, same_with, moves_freed, bare_freed, slotted_frees, full_stays}
+use Rattle.fault.proofs.WaySteps.{pages_linked, bare_linked, slotted_linked, tables_linked, spaces_linked, room_linked, fit_after, no_copy_linked, missing_taken, still_wanted, no_copy_freed, gives_linked, links_linked}
+use Rattle.fault.proofs.{Names.{inl, None, sym, ◌∙◌, rules, Nothing, IsFull, on_err, Picture, picture_of, IsWhole}, Asking.{no_new_frees, no_new_linked, asks_slots_if, asks_swap}}
+use Rattle.fault.specs.Changes.{LinksTables}
 use Rattle.fault.proofs.linking.link_one.Goals as goal
 
 pub link_table-requires-clause-root : goal.link_table-requires-clause-root
@@ -25,34 +26,19 @@ returns-clause-links g c =
     let links = c.link_table.ensures.links in
     let beside = same_with taken c.link_table.new.memory in
     let gives = gives_linked took lives links beside done.gives in
-    record {
-      takes = record {
-        moves = record {
-          fit = fit_after took lives links beside c.requires.mapped;
-          swap = done.swap;
-          spaces = spaces_linked took lives links beside;
-          tables = tables_linked took lives links beside;
-          room = room_linked took lives links beside;
-          store = done.rest.store;
-          device = done.device;
-        };
-        pages = pages_linked took lives links beside;
-        bare = bare_linked took lives links beside;
-        gives = gives;
-        tried = search rules;
-        no_copy = no_copy_linked took lives links beside;
-        asks = asks_slots_if g.E.SectorDisk (IsFull c.link_table.new.memory) c.args.core.now c.take_table.new.self None Nothing (full_stays old new None gives)
-            (asks_swap g.E.SectorDisk c.args.core.now c.take_table.new.self None Nothing done.asked);
-        asks_later = no_new_linked old taken c.in_ok-table.table.0 c.requires.fit took new links.kept beside;
-        full = search rules;
-        refuses = search rules;
-        short = search rules;
-        cause = search rules;
-      };
-      tables = links_linked took lives links beside done.gives done.only;
-      slotted = slotted_linked took lives links beside;
-      wanted = search rules;
-    }
+    let fit = fit_after took lives links beside c.requires.mapped in
+    let spaces = spaces_linked took lives links beside in
+    let tables = tables_linked took lives links beside in
+    let room = room_linked took lives links beside in
+    let pages = pages_linked took lives links beside in
+    let bare = bare_linked took lives links beside in
+    let no_copy = no_copy_linked took lives links beside in
+    let asks = asks_slots_if g.E.SectorDisk (IsFull c.link_table.new.memory) c.args.core.now c.take_table.new.self None Nothing (full_stays old new None gives)
+    (asks_swap g.E.SectorDisk c.args.core.now c.take_table.new.self None Nothing done.asked) in
+    let later = no_new_linked old taken c.in_ok-table.table.0 c.requires.fit took new links.kept beside in
+    let way = links_linked took lives links beside done.gives done.only in
+    let slotted = slotted_linked took lives links beside in
+    search rules
 
 pub returns-clause-lowered : goal.returns-clause-lowered
 returns-clause-lowered g c =
@@ -64,27 +50,14 @@ returns-in_err-table-clause-links g c =
     let done = c.in_err-table.ensures in
     let old : Picture g.M.Levels.mode = picture_of c.args.core.now in
     let new : Picture g.M.Levels.mode = picture_of c.take_table.new.self in
-    record {
-      takes = record {
-        moves = moves_freed g.E.SectorDisk c.args.core.now c.take_table.new.self _ done.fit done.swap done.frees done.rest done.device;
-        pages = search rules;
-        bare = bare_freed old new _ done.frees;
-        gives = search rules;
-        tried = search rules;
-        no_copy = λ n is. elim (done.frees.roles n) [
-          | inl same ↦ sym same ∙ is
-          | inr freed ↦ (let bad : Free ≡ Private = sym freed.0 ∙ is in (cc))
-        ];
-        asks = asks_slots_if g.E.SectorDisk (IsFull c.take_table.new.self.frames) c.args.core.now c.take_table.new.self None Nothing (λ full. done.full)
-            (asks_swap g.E.SectorDisk c.args.core.now c.take_table.new.self None Nothing done.asked);
-        asks_later = no_new_frees old new None done.frees c.requires.fit;
-        full = search rules;
-        refuses = search rules;
-        short = search rules;
-        cause = search rules;
-      };
-      tables = links_none old new c.args.way.now.pid c.args.way.now.page done.frees.count done.still;
-      slotted = slotted_frees (λ p. ⊥) (λ q p. ⊥) old new _ done.frees;
-      wanted = on_err c.from_residual.result (IsWhole new c.args.way.now.pid c.args.way.now.page → ⊥)
-          (still_wanted old new c.args.way.now.pid c.args.way.now.root.0 c.args.way.now.page done.frees c.requires.lives c.requires.missing);
-    }
+    let moves = moves_freed g.E.SectorDisk c.args.core.now c.take_table.new.self _ done.fit done.swap done.frees done.rest done.device in
+    let bare = bare_freed old new _ done.frees in
+    let no_copy = no_copy_freed done.frees in
+    let asks = asks_slots_if g.E.SectorDisk (IsFull c.take_table.new.self.frames) c.args.core.now c.take_table.new.self None Nothing (λ full. done.full)
+    (asks_swap g.E.SectorDisk c.args.core.now c.take_table.new.self None Nothing done.asked) in
+    let later = no_new_frees old new None done.frees c.requires.fit in
+    let way : LinksTables old new c.args.way.now.pid c.args.way.now.page = λ n table. inl (table_before old.frames new.frames n done.frees.count (done.still n) table) in
+    let slotted = slotted_frees (λ p. ⊥) (λ q p. ⊥) old new _ done.frees in
+    let wanted = on_err c.from_residual.result (IsWhole new c.args.way.now.pid c.args.way.now.page → ⊥)
+    (still_wanted old new c.args.way.now.pid c.args.way.now.root.0 c.args.way.now.page done.frees c.requires.lives c.requires.missing) in
+    search rules

@@ -1,5 +1,5 @@
 use Rattle.{fault.proofs.Names.{top_level, Attr, missing_of, ◌≡◌, ℕ, inl, ◌/◌, Option, Some, refl, sym, ◌∙◌, subst, arith, same_Some, IsSome, on_err, picture_of, IsWhole}, page_tables.specs.Places.{IsTableOf}}
-use Rattle.fault.proofs.{Steps.{slotted_then, slotted_same}, WaySteps.{links_then, takes_none, takes_then, takes_done, takes_stall, nothing_on, nothing_if}}
+use Rattle.fault.proofs.{Steps.{slotted_then, slotted_same}, WaySteps.{links_on, takes_none, takes_then, takes_done, takes_stall, nothing_on, nothing_if}}
 use Rattle.fault.proofs.linking.link_tables.Goals as goal
 
 pub table_of-requires-clause-root : goal.table_of-requires-clause-root
@@ -26,7 +26,7 @@ loop-table-preserved g c =
     let last = c.link_one.new.core in
     record {
       takes = takes_then g.E.SectorDisk first mid last tt _ k.takes step.takes;
-      tables = links_then (picture_of first) (picture_of mid) (picture_of last) c.args.pid c.args.page _ (step.moves.spaces.root c.args.pid) step.gives k.tables step.tables;
+      tables = links_on (picture_of first) (picture_of mid) (picture_of last) c.args.pid c.args.page (step.moves.spaces.root c.args.pid) step.gives.pointers k.tables step.tables;
       slotted = slotted_then (λ p. ⊥) (λ q p. ⊥) (picture_of first) (picture_of mid) (picture_of last) k.slotted step.slotted;
       root = step.moves.spaces.root c.args.pid ∙ k.root;
       mapped = subst (λ (x : Option Attr). IsSome x) (sym (step.moves.spaces.at c.args.pid c.args.page)) k.mapped;
@@ -60,7 +60,7 @@ returns-in_err-link_one-in-Err g c =
     record {
       links = record {
         takes = takes_stall g.E.SectorDisk first last stall r is takes;
-        tables = links_then (picture_of first) (picture_of mid) (picture_of last) c.args.pid c.args.page step.tried.0 (step.moves.spaces.root c.args.pid) step.tried.1 k.tables step.tables;
+        tables = links_on (picture_of first) (picture_of mid) (picture_of last) c.args.pid c.args.page (step.moves.spaces.root c.args.pid) step.tried.1.pointers k.tables step.tables;
         slotted = slotted_then (λ p. ⊥) (λ q p. ⊥) (picture_of first) (picture_of mid) (picture_of last) k.slotted step.slotted;
         wanted = on_err r (IsWhole (picture_of last) c.args.pid c.args.page → ⊥) step.wanted;
       };

@@ -1,6 +1,7 @@
 use Rattle.fault.proofs.{Asking.{asks_slots_kept}, Forms.{used_inside}, Names.{is_some, IsTrue, ◌≡◌, Some, refl, sym, ap, ◌∙◌, subst, rules, false≢true, Nothing, Role, Free, Private, is_handed_out, Swap, IsReady, UsesDevice, picture_of}}
 use Rattle.fault.proofs.{OwnSteps.{ownable_frame, shown_used, shown_datum, shown_inside, copy_frame, copied_given, fit_first, behind_freed, behind_first, role_shared, fit_shared, copied_shared}, Settling.{aside_freed, leaves_aside}}
 use Rattle.{fault.proofs.{Settling.{forest_mid, root_mid, rows_mid, gives_frame}, Steps.{same_with}}, residency.specs.Picture.{is_private}}
+use Rattle.fault.{specs.OwnFrames.{LeavesOthers}, proofs.Names.{ℕ, false, entry}}
 use Rattle.fault.proofs.owning.copy_page.Goals as goal
 
 pub take_copy-requires : goal.take_copy-requires
@@ -78,16 +79,9 @@ pub returns-in_err-own : goal.returns-in_err-own
 returns-in_err-own g c =
     let done = c.in_err-own.ensures in
     let shows = ownable_frame c.requires.page c.args.shown.0 c.requires.own c.requires.common in
-    record {
-      own = search rules;
-      bytes = search rules;
-      entered = search rules;
-      sole = search rules;
-      behind = λ x not_own. behind_freed _ _ c.args.attr.now.backing c.args.shown.0 done.frees (shown_datum shows) (c.requires.common not_own) x;
-      keeps = leaves_aside g.E.SectorDisk c.args.core.now _ done.fit done.swap (aside_freed done.frees) done.rest.store done.device;
-      asks = search rules;
-      stalls = search rules;
-    }
+    let behind = λ (x : ℕ) (not_own : is_private (entry (picture_of c.args.core.now) c.args.spot.now.pid c.args.spot.now.page) ≡ false). behind_freed _ _ c.args.attr.now.backing c.args.shown.0 done.frees (shown_datum shows) (c.requires.common not_own) x in
+    let keeps : LeavesOthers g.E.SectorDisk c.args.core.now c.take_copy.new.core c.args.spot.now.pid c.args.spot.now.page = leaves_aside g.E.SectorDisk c.args.core.now c.take_copy.new.core done.fit done.swap (aside_freed done.frees) done.rest.store done.device in
+    search rules
 
 pub set_full-requires-clause-frame : goal.set_full-requires-clause-frame
 set_full-requires-clause-frame g c = record { inside = c.in_ok-own.ensures.taken.inside; behind = λ common. absurd (false≢true (sym common)) }

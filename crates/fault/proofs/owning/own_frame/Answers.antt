@@ -1,7 +1,8 @@
-use Rattle.fault.proofs.{Asking.{asks_slots_same}, Forms.{seat_zero, none_common}, Names.{◌≡◌, ◌≢◌, ℕ, Bool, true, false, Some, Result, Ok, Err, inl, inr, get_or, refl, sym, ap, ◌∙◌, subst, arith, rules, cases_Bool, false≢true, OnErr}}
-use Rattle.fault.proofs.{Names.{Nothing, bytes_of, count_of, role_of, frame_of, Picture, picture_of, entry, IsEntryOver}, OwnSteps.{frame_shown, shown_inside, shown_datum, shown_own, common_when, several_when, full_own, own_view}}
-use Rattle.fault.{proofs.{Steps.{no_table_calm, slotted_calm, moves_entered}, owning.own_frame.Goals.{else-is_private-via-then-is_private+else-count-eq1, else-is_private-via-else-is_private}}, specs.Changes.{shown_frame, copied_frame}}
+use Rattle.fault.proofs.{Asking.{asks_slots_same}, Forms.{seat_zero, none_common}, Names.{on_err, ◌≡◌, ◌≢◌, ℕ, Bool, true, false, Some, inl, inr, get_or, refl, sym, ap, ◌∙◌, subst, arith, rules, cases_Bool, false≢true}}
+use Rattle.fault.proofs.{Names.{IsFull, Nothing, bytes_of, count_of, role_of, frame_of, Picture, picture_of, entry, IsEntryOver}, OwnSteps.{frame_shown, shown_inside, shown_datum, shown_own, full_own, own_view}}
+use Rattle.fault.{proofs.{Steps.{no_table_calm, slotted_calm, moves_entered}, owning.own_frame.Goals.{else-is_private-via-then-is_private+else-count-eq1, else-is_private-via-else-is_private}}, specs.Changes.{KeepsOtherBare, shown_frame, copied_frame}}
 use Rattle.{fault.specs.{Changes.{is_sole}, Leaves.{IsFullEntry}, OwnFrames.{CopiesPage}}, residency.specs.Picture.{is_private}}
+use Rattle.std.proofs.{Common.{ne_eqb}, lemmas.Bool.{and_left, and_right, both_ways}}
 use Rattle.fault.proofs.owning.own_frame.Goals as goal
 
 pub shown_frame-shown-requires-clause-number : goal.shown_frame-shown-requires-clause-number
@@ -46,39 +47,23 @@ returns-then-count-eq1 g c =
     let enters = c.regrant.ensures.enters in
     let P : Bool → Type 0 = λ x. IsFullEntry old attr (frame_of was) x now in
     let Q : ℕ → Type 0 = λ x. IsEntryOver now attr.prot x true true true in
-    record {
-      copies = record {
-        own = enters.views pid page ∙ own_view old pid page attr c.requires.page.mapped own ∙ ap (λ k. Some (record { attr = attr; own = Some (bytes_of old.frames k) })) (sym here);
-        bytes = ap (bytes_of c.regrant.new.core.frames) (sym frame)
-            ∙ enters.calm.frames.bytes (frame_of was) (λ table. shown_datum shows (ap (role_of old.frames) (sym frame) ∙ table))
-            ∙ ap (bytes_of old.frames) (sym here);
-        entered = subst Q frame (full_own old attr (frame_of was) now one c.requires.page.writable (subst P own c.regrant.ensures.entry));
-        sole = ap (λ cs. get_or cs c.shown_frame-shown.result.0 0) enters.calm.frames.counts ∙ ap (count_of old.frames) (sym frame) ∙ one;
-        behind = λ x not_own. absurd (false≢true (sym not_own ∙ own));
-        keeps = record {
-          moves = moves_entered g.E.SectorDisk c.args.core.now c.regrant.new.core pid page c.requires.page.swap enters;
-          no_table = no_table_calm c.args.core.now c.regrant.new.core pid page enters.calm;
-          files = search rules;
-          others = search rules;
-          bare = λ q p h other none. enters.calm.others q p h other ∙ none;
-          slotted = slotted_calm (λ p. ⊥) c.args.core.now c.regrant.new.core pid page enters.calm;
-        };
-        asks = asks_slots_same g.E.SectorDisk c.args.core.now c.regrant.new.core (copied_frame old pid page attr) Nothing enters.calm.swap;
-        stalls = record { same = tt; frees = tt; refuses = tt; short = tt; cause = search rules };
-      };
-      calm = search rules;
-      wanted = search rules;
-    }
+    let its = enters.views pid page ∙ own_view old pid page attr c.requires.page.mapped own ∙ ap (λ k. Some (record { attr = attr; own = Some (bytes_of old.frames k) })) (sym here) in
+    let bytes = ap (bytes_of c.regrant.new.core.frames) (sym frame) ∙ enters.calm.frames.bytes (frame_of was) (λ table. shown_datum shows (ap (role_of old.frames) (sym frame) ∙ table))
+    ∙ ap (bytes_of old.frames) (sym here) in
+    let entered = subst Q frame (full_own old attr (frame_of was) now one c.requires.page.writable (subst P own c.regrant.ensures.entry)) in
+    let sole = ap (λ cs. get_or cs c.shown_frame-shown.result.0 0) enters.calm.frames.counts ∙ ap (count_of old.frames) (sym frame) ∙ one in
+    let moves = moves_entered g.E.SectorDisk c.args.core.now c.regrant.new.core pid page c.requires.page.swap enters in
+    let no_table = no_table_calm c.args.core.now c.regrant.new.core pid page enters.calm in
+    let bare : KeepsOtherBare old (picture_of c.regrant.new.core) pid page = λ q p h other none. enters.calm.others q p h other ∙ none in
+    let slotted = slotted_calm (λ p. ⊥) c.args.core.now c.regrant.new.core pid page enters.calm in
+    let asks = asks_slots_same g.E.SectorDisk {full = IsFull c.args.core.now.frames} c.args.core.now c.regrant.new.core (copied_frame old pid page attr) Nothing enters.calm.swap in
+    search (rules, both_ways)
 
 pub copy_page-requires-clause-own : goal.copy_page-requires-clause-own
 copy_page-requires-clause-own g c = (frame_shown c.requires.page c.requires.in_memory c.number_at-was.ensures c.shown_frame-shown.ensures).own
 
 pub copy_page-requires-clause-common : goal.copy_page-requires-clause-common
 copy_page-requires-clause-common g c = (frame_shown c.requires.page c.requires.in_memory c.number_at-was.ensures c.shown_frame-shown.ensures).common
-
-on_err_same : {T E : Type 0} (Q : Type 0) (r : Result T E) → Q → OnErr r Q
-on_err_same Q (Ok n) q = tt
-on_err_same Q (Err s) q = q
 
 pub returns : goal.returns
 returns g c =
@@ -92,12 +77,12 @@ returns g c =
             | else-is_private-via-then-is_private+else-count-eq1 w ↦ (λ one. w.if-count-eq1.false (w.count.ensures ∙ one))
             | else-is_private-via-else-is_private w ↦ absurd (false≢true (sym w.if-is_private.false ∙ c.is_private.ensures ∙ ap is_private e ∙ own))
           ] in
-          several_when old was (λ one. many (ap (count_of old.frames) (sym (shows.own own)) ∙ one)))
-      | inr common ↦ common_when old was common
+          and_right _ _ (ne_eqb _ 1 (λ one. many (ap (count_of old.frames) (sym (shows.own own)) ∙ one))))
+      | inr common ↦ and_left _ _ common
     ] in
     let P : ℕ → Type 0 = λ x. CopiesPage g.E.SectorDisk c.args.core.now c.copy_page.new.core c.args.spot.now.pid c.args.spot.now.page c.args.attr.now (record { 0 = x }) c.copy_page.result in
     record {
       copies = subst P (c.shown_frame-shown.ensures ∙ ap (λ x. shown_frame old x c.args.attr.now.backing) e) c.copy_page.ensures;
       calm = λ sole. absurd (false≢true (sym not_sole ∙ sole));
-      wanted = on_err_same _ c.copy_page.result not_sole;
+      wanted = on_err c.copy_page.result _ not_sole;
     }

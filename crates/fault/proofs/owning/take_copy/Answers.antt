@@ -1,6 +1,8 @@
-use Rattle.fault.proofs.Names.{◌≢◌, Some, refl, sym, ap, ◌∙◌, subst, arith, rules, Nothing, ℕ, ◌≡◌, ◌<◌, FrameTable, frame_count, IsFrame, IsSound, bytes_of, role_of, count_of, with_bytes-others, with_bytes-same, Picture, picture_of, ChangesFrame}
+use Rattle.fault.proofs.Names.{◌≢◌, Some, refl, sym, ap, ◌∙◌, subst, arith, rules, Nothing, ℕ, ◌≡◌, ◌<◌, FrameTable, frame_count, IsFrame, IsSound, bytes_of, role_of, count_of, with_bytes-others, with_bytes-same, Picture, picture_of}
+use Rattle.fault.proofs.Names.{ChangesFrame}
 use Rattle.fault.proofs.{Asking.{asks_swap}, SwapSteps.{own_written, changes_further}}
 use Rattle.fault.proofs.{Taken.{sound_taken}, owning.take_copy.Given.{Over}}
+use Rattle.fault.specs.Changes.{TakesCopy}
 use Rattle.fault.proofs.owning.take_copy.Goals as goal
 
 frames_same : (g : Over) (c : goal.After-fill g) → frame_count c.fill.new.frames ≡ frame_count c.take_own.new.self.frames
@@ -26,28 +28,19 @@ returns g c =
     let P : FrameTable → Type 0 = λ t. ChangesFrame found (record taken { frames = t }) n in
     let apart : m ≢ n = λ e. c.requires.in_use (sym (took.frees.kept_role m refl) ∙ ap (role_of found.frames) e ∙ took.own.takes.was_free) in
     let inside : IsFrame taken.frames n = (let same = took.own.takes.others.frames in let low = took.own.takes.inside in omega (arith, same, low)) in
-    record {
-      taken = record {
-        found = found;
-        fit = took.fit;
-        frees = took.frees;
-        changes = subst P (sym c.fill.ensures) (changes_further took.own taken.slots refl _ (own_written found.frames taken.frames n w took.own.takes));
-        inside = (let Q : FrameTable → Type 0 = λ t. IsFrame t n in let same = (with_bytes-others taken.frames n w).frames in subst Q (sym c.fill.ensures) (omega (arith, same, inside)));
-        role = ap (λ t. role_of t n) c.fill.ensures ∙ took.own.takes.kind_set;
-        count = ap (λ t. count_of t n) c.fill.ensures ∙ took.own.takes.counted;
-        noted = took.own.noted;
-        copied = ap (λ t. bytes_of t n) c.fill.ensures ∙ with_bytes-same taken.frames n w inside ∙ took.own.takes.others.bytes m apart ∙ took.frees.kept_bytes m refl c.requires.datum;
-      };
-      rest = record { store = done.rest.store; roots = done.rest.roots; regions = done.rest.regions };
-      swap = done.swap;
-      device = done.device;
-      asks = asks_swap g.E.SectorDisk c.args.core.now c.take_own.new.self (Some c.args.from) Nothing done.asked;
-      fit = tt;
-      frees = tt;
-      refuses = tt;
-      short = tt;
-      cause = done.cause;
-    }
+    let asks = asks_swap g.E.SectorDisk c.args.core.now c.take_own.new.self (Some c.args.from) Nothing done.asked in
+    let copy : TakesCopy (picture_of c.args.core.now) (record taken { frames = c.fill.new.frames }) n c.args.page m = record {
+      found = found;
+      fit = took.fit;
+      frees = took.frees;
+      changes = subst P (sym c.fill.ensures) (changes_further took.own taken.slots refl _ (own_written found.frames taken.frames n w took.own.takes));
+      inside = (let Q : FrameTable → Type 0 = λ t. IsFrame t n in let same = (with_bytes-others taken.frames n w).frames in subst Q (sym c.fill.ensures) (omega (arith, same, inside)));
+      role = ap (λ t. role_of t n) c.fill.ensures ∙ took.own.takes.kind_set;
+      count = ap (λ t. count_of t n) c.fill.ensures ∙ took.own.takes.counted;
+      noted = took.own.noted;
+      copied = ap (λ t. bytes_of t n) c.fill.ensures ∙ with_bytes-same taken.frames n w inside ∙ took.own.takes.others.bytes m apart ∙ took.frees.kept_bytes m refl c.requires.datum;
+    } in
+    search rules
 
 pub returns-in_err-own : goal.returns-in_err-own
 returns-in_err-own g c = let asks = asks_swap g.E.SectorDisk c.args.core.now c.take_own.new.self (Some c.args.from) Nothing c.in_err-own.ensures.asked in search rules

@@ -1,6 +1,7 @@
 use Rattle.fault.proofs.Names.{is_some, ◌&&◌, ◌≡◌, Bool, true, false, inl, inr, refl, sym, ap, ◌∙◌, subst, false≢true, PageKey, can_write, place_of, is_touched, Table, Cache, Picture, picture_of, entry, is_shared, cases_page, IsEntryOver}
 use Rattle.fault.{specs.Leaves.{is_touched_behind}, proofs.Settling.{beside_around, full_entry_now, full_set, full_fit, full_views, full_tables, linked_marked, entry_marked, view_marked, tables_marked}}
 use Rattle.fault.proofs.{Forms.{used_inside, behind_of, touched_of, behind_used, mapped_page, shared_none, seat_over_common}, Steps.{tables_then}}
+use Rattle.fault.{specs.Changes.{MarksTouched}, proofs.Names.{ℕ, ◌≢◌, ◌⊎◌, IsPage, top_level, rules}}
 use Rattle.fault.proofs.showing.touch.Goals as goal
 
 pub set_full-requires-clause-root : goal.set_full-requires-clause-root
@@ -40,32 +41,22 @@ returns g c =
     let stored : (is_touched_behind mid c.args.attr.now.backing && cw) ≡ true = ap (λ t. t && cw) (touched_of mid c.args.attr.now.backing c.args.stored.now c.requires.shared c.requires.stands) ∙ ap (λ t. t && cw) c.mark_dirty.ensures.touched ∙ c.requires.allowed.lets in
     let now = entry new c.args.spot.now.pid c.args.spot.now.page in
     let P : Bool → Type 0 = λ x. IsEntryOver now c.args.attr.now.prot c.args.frame.0 false x (is_touched_behind mid c.args.attr.now.backing && cw) in
-    record {
-      enters = record {
-        fit = full_fit mid new c.args.spot.now.pid c.args.spot.now.page r c.args.attr.now c.args.frame.0 false linked c.requires.spot.root c.requires.allowed.mapped sets beside same
-            (λ own. absurd (false≢true own)) (λ _. behind_of mid c.args.attr.now.backing c.args.stored.now c.args.frame.0 c.requires.stands (place c.args.stored.now ∙ c.requires.cached)) c.requires.allowed.inside;
-        spaces = record { root = beside.root; at = beside.at };
-        tables = tables_then old mid new (λ q. refl) (tables_marked old mid c.args.stored.now c.args.frame.0 refl refl (λ q. refl) (λ q k. refl) (λ x. refl) place c.mark_dirty.ensures.touched c.mark_dirty.ensures.others.touched (λ f. refl) c.requires.cached)
-            (full_tables mid new c.args.spot.now.pid c.args.spot.now.page r c.args.attr.now c.args.frame.0 false linked c.requires.spot.root c.requires.allowed.mapped sets beside);
-        views = λ q p. full_views mid new c.args.spot.now.pid c.args.spot.now.page r c.args.attr.now c.args.frame.0 false linked c.requires.spot.root c.requires.allowed.mapped sets beside same q p
-            ∙ view_marked old mid c.args.stored.now c.args.frame.0 refl refl (λ q. refl) (λ q k. refl) (λ x. refl) place c.mark_dirty.ensures.touched c.mark_dirty.ensures.others.touched (λ f. refl) c.requires.cached q p;
-        calm = record {
-          store = rest.store;
-          swap = rest.swap;
-          refused = c.set_full.ensures.not_refused;
-          frames = sets.2.kept;
-          pointers = λ n i m points. (sets.2.pointers n i m).0 points;
-          place = λ p. beside.place p ∙ place p;
-          others = λ q p h other. (full_set mid new c.args.spot.now.pid c.args.spot.now.page r c.args.attr.now c.args.frame.0 false linked c.requires.spot.root c.requires.allowed.mapped sets beside).others q p h other
-              ∙ entry_marked old mid c.args.stored.now c.args.frame.0 refl refl (λ q. refl) (λ q k. refl) (λ x. refl) place c.mark_dirty.ensures.touched c.mark_dirty.ensures.others.touched (λ f. refl) c.requires.cached q p;
-        };
-      };
-      touches = record {
-        place = λ p. beside.place p ∙ place p;
-        bytes = λ p n at. sets.2.kept.bytes n.0 (λ t. (let bad : Cache ≡ Table = sym (c.requires.spot.linked.fit.places.cached p n.0 at) ∙ t in (cc)));
-        touched = beside.touched c.args.stored.now ∙ c.mark_dirty.ensures.touched;
-        others = λ p ne. beside.touched p ∙ c.mark_dirty.ensures.others.touched p ne;
-        files = λ f. beside.files f;
-      };
-      entry = subst (λ (x : Bool). IsEntryOver now c.args.attr.now.prot c.args.frame.0 false true x) stored (subst P write full);
-    }
+    let fit = full_fit mid new c.args.spot.now.pid c.args.spot.now.page r c.args.attr.now c.args.frame.0 false linked c.requires.spot.root c.requires.allowed.mapped sets beside same
+    (λ own. absurd (false≢true own)) (λ _. behind_of mid c.args.attr.now.backing c.args.stored.now c.args.frame.0 c.requires.stands (place c.args.stored.now ∙ c.requires.cached)) c.requires.allowed.inside in
+    let tables = tables_then old mid new (λ q. refl) (tables_marked old mid c.args.stored.now c.args.frame.0 refl refl (λ q. refl) (λ q k. refl) (λ x. refl) place c.mark_dirty.ensures.touched c.mark_dirty.ensures.others.touched (λ f. refl) c.requires.cached)
+    (full_tables mid new c.args.spot.now.pid c.args.spot.now.page r c.args.attr.now c.args.frame.0 false linked c.requires.spot.root c.requires.allowed.mapped sets beside) in
+    let views = λ (q p : ℕ). full_views mid new c.args.spot.now.pid c.args.spot.now.page r c.args.attr.now c.args.frame.0 false linked c.requires.spot.root c.requires.allowed.mapped sets beside same q p
+    ∙ view_marked old mid c.args.stored.now c.args.frame.0 refl refl (λ q. refl) (λ q k. refl) (λ x. refl) place c.mark_dirty.ensures.touched c.mark_dirty.ensures.others.touched (λ f. refl) c.requires.cached q p in
+    let pointers = λ (n i m : ℕ). (sets.2.pointers n i m).0 in
+    let placed = λ (p : PageKey). beside.place p ∙ place p in
+    let others = λ (q p : ℕ) (h : IsPage (top_level g.M.Levels.mode) p) (other : (q ≢ c.args.spot.now.pid) ⊎ (p ≢ c.args.spot.now.page)). (full_set mid new c.args.spot.now.pid c.args.spot.now.page r c.args.attr.now c.args.frame.0 false linked c.requires.spot.root c.requires.allowed.mapped sets beside).others q p h other
+    ∙ entry_marked old mid c.args.stored.now c.args.frame.0 refl refl (λ q. refl) (λ q k. refl) (λ x. refl) place c.mark_dirty.ensures.touched c.mark_dirty.ensures.others.touched (λ f. refl) c.requires.cached q p in
+    let touches : MarksTouched old new c.args.stored.now = record {
+      place = placed;
+      bytes = λ p n at. sets.2.kept.bytes n.0 (λ t. (let bad : Cache ≡ Table = sym (c.requires.spot.linked.fit.places.cached p n.0 at) ∙ t in (cc)));
+      touched = beside.touched c.args.stored.now ∙ c.mark_dirty.ensures.touched;
+      others = λ p ne. beside.touched p ∙ c.mark_dirty.ensures.others.touched p ne;
+      files = beside.files;
+    } in
+    let over = subst (λ (x : Bool). IsEntryOver now c.args.attr.now.prot c.args.frame.0 false true x) stored (subst P write full) in
+    search rules

@@ -3,6 +3,7 @@ use Rattle.fault.proofs.{Names.{IsPageEntry, page_is_entry, on_err, Picture, pic
 use Rattle.fault.proofs.{Settling.{leaves_aside, forest_mid, root_mid, rows_mid, gives_frame, entry_given, count_given}, Steps.{frees_any, device_then}, SwapSteps.{slot_seat, swapped_here, slot_used, slot_frame, slot_bytes, slot_set}}
 use Rattle.{fault.{proofs.SwapSteps.{fit_in, aside_in, seen_in, own_spent, changes_further, full_count, ready_released}, specs.Asking.{MayAsk, IsSectorOfCopy}}, residency.specs.Picture.{is_swapped}}
 use Rattle.fault.proofs.{Names.{◌<◌, IsFrame, arith}, Taken.{sound_taken}}
+use Rattle.fault.specs.OwnFrames.{LeavesOthers}
 use Rattle.fault.proofs.swapping.swap_in.Goals as goal
 
 pub decode-requires : goal.decode-requires
@@ -115,14 +116,10 @@ returns-in-Err g c =
 pub returns-in_err-frame : goal.returns-in_err-frame
 returns-in_err-frame g c =
     let done = c.in_err-frame.ensures in
-    record {
-      entered = search rules;
-      sole = search rules;
-      seen = search rules;
-      keeps = leaves_aside g.E.SectorDisk c.args.core.now _ done.fit done.swap (aside_freed done.frees) done.rest.store done.device;
-      asks = asks_swap g.E.SectorDisk c.args.core.now c.take_own.new.self None (IsSectorOfCopy (picture_of c.args.core.now) c.args.spot.now.pid c.args.spot.now.page) done.asked;
-      stalls = let frees = on_err c.from_residual.result _ (frees_any (picture_of c.args.core.now) (picture_of c.take_own.new.self) _ done.frees) in search rules;
-    }
+    let keeps : LeavesOthers g.E.SectorDisk c.args.core.now c.take_own.new.self c.args.spot.now.pid c.args.spot.now.page = leaves_aside g.E.SectorDisk c.args.core.now c.take_own.new.self done.fit done.swap (aside_freed done.frees) done.rest.store done.device in
+    let asks = asks_swap g.E.SectorDisk c.args.core.now c.take_own.new.self None (IsSectorOfCopy (picture_of c.args.core.now) c.args.spot.now.pid c.args.spot.now.page) done.asked in
+    let frees = on_err c.from_residual.result _ (frees_any (picture_of c.args.core.now) (picture_of c.take_own.new.self) _ done.frees) in
+    search rules
 
 pub invariant_of-core-clause-page_count : goal.invariant_of-core-clause-page_count
 invariant_of-core-clause-page_count g c = c.take_own.new.self.page_count ∙ sym (with_bytes-others c.take_own.new.self.frames c.in_ok-frame.frame.0 c.get.new.to).frames

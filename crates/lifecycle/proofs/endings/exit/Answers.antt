@@ -22,17 +22,7 @@ returns g c =
     let was = subst (λ (n : ℕ). IsRowRemapped first old c.args.pid 0 n (first.at c.args.pid)) same forgot in
     let gone = ended first old (picture_of c.remove_process.new.self) c.args.pid c.remove_process.ensures.exits.0 c.requires.fit was
     (subst (λ (n : ℕ). IsWithoutTables old c.args.pid 0 n) sum left) c.remove_process.ensures.exits.1 in
-    record {
-      removed = gone.removed;
-      tables = gone.tables;
-      slots = gone.slots;
-      frames = none_taken_ended first old (picture_of c.remove_process.new.self) c.args.pid c.remove_process.ensures.exits.0 c.remove_process.ensures.exits.1
-          (none_taken first old c.args.pid c.requires.fit was.fit c.args.core.now.sound c.forget_row.new.core.sound was.row.root
-          (returned_any first old c.args.pid 0 (0 + user_end g.M.Levels.mode) was.returned) (still_framed first old _ was.files));
-      others = gone.others;
-      files = gone.files;
-      fit = gone.fit;
-      room = search rules;
-      devices = search rules;
-      refused = search rules;
-    }
+    let frames = none_taken_ended first old (picture_of c.remove_process.new.self) c.args.pid c.remove_process.ensures.exits.0 c.remove_process.ensures.exits.1
+    (none_taken first old c.args.pid c.requires.fit was.fit c.args.core.now.sound c.forget_row.new.core.sound was.row.root
+    (returned_any first old c.args.pid 0 (0 + user_end g.M.Levels.mode) was.returned) (still_framed first old _ was.files)) in
+    search rules

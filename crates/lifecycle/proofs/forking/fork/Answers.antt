@@ -1,38 +1,19 @@
-use Rattle.lifecycle.proofs.{Asking.{asks_forked}, Copying.{readied, short_readied, unmade, copied, copies_shared, bare_shared, tables_kept, as_stall}, Ending.{ready_ended}, Keeping.{dead_root, live_same, files_then}, Live.{live_root}}
+use Rattle.lifecycle.proofs.{Asking.{asks_forked}, Copying.{readied, short_readied, unmade, copied, copies_shared, bare_shared, tables_kept, as_stall}, Ending.{ready_ended}, Keeping.{dead_root, live_same}, Live.{live_root}}
 use Rattle.lifecycle.proofs.Names.{user_end, PageKey, ◌≡◌, true, ◌≢◌, ℕ, inl, [], None, refl, sym, ap, ◌∙◌, subst, rules, false≢true, slice_index_or, frame_count, role_of, place_of, Swap, Pages, slots_of, Picture, picture_of, attr_where}
-use Rattle.lifecycle.proofs.{Names.{is_live, UsesDevice, gives_then, device_then, ready_released}, Returned.{no_copy_taken}, Shortage.{short_before}, Stalling.{stalls_first, stalls_later}, Taking.{gives_mapped, tables_mid, entries_forked}}
-use Rattle.lifecycle.{proofs.{Taking.{tables_taken}, Unchanged.{files_unchanged, places_unchanged}}, specs.Changes.{IsShortToFork, StallsToFork}}
+use Rattle.lifecycle.proofs.{Names.{keeps_files_then, is_live, UsesDevice, gives_then, device_then, ready_released}, Returned.{no_copy_taken}, Shortage.{short_before}, Stalling.{stalls_first, stalls_later}, Taking.{gives_mapped, tables_mid, entries_forked}}
+use Rattle.lifecycle.{proofs.{Taking.{tables_taken}, Unchanged.{files_unchanged, places_unchanged}}, specs.Changes.{IsShortToFork, KeepsBareOfOthers, StallsToFork, TakesNoCopy}}
 use Rattle.lifecycle.proofs.forking.fork.Goals as goal
 
 pub returns-in_err-spawn : goal.returns-in_err-spawn
 returns-in_err-spawn g c =
     let old : Picture g.M.Levels.mode = picture_of c.args.core.now in
     let done = c.in_err-spawn.ensures in
-    record {
-      ok = search rules;
-      shared = search rules;
-      entries = search rules;
-      takes = search rules;
-      tables = search rules;
-      bare = λ q page h ne none. done.bare q page h none;
-      keeps = record {
-        fit = done.fit;
-        room = done.room;
-        swap = done.swap;
-        device = done.device;
-        store = done.store;
-        files = done.files;
-        copies = done.copies;
-        err = search rules;
-        cause = search rules;
-      };
-      asks = search rules;
-      stalls = as_stall c.from_residual.result (StallsToFork old (picture_of c.spawn.new.core) c.args.parent c.args.child) c.in_err-spawn.field-0.0 c.from_residual.ensures.1
-          (stalls_first old (picture_of c.spawn.new.core) c.args.parent c.args.child c.in_err-spawn.field-0.0 (dead_root (old.root c.args.child) c.requires.dead) done.fit done.frees done.tried done.still done.full
-          done.refuses);
-      short = as_stall c.from_residual.result (IsShortToFork old c.args.parent) c.in_err-spawn.field-0.0 c.from_residual.ensures.1
-          (short_before old (picture_of c.spawn.new.core) c.args.parent c.in_err-spawn.field-0.0 done.err done.room done.files.touched done.short);
-    }
+    let bare : KeepsBareOfOthers old (picture_of c.spawn.new.core) c.args.child = λ q page h ne none. done.bare q page h none in
+    let stalls = as_stall c.from_residual.result (StallsToFork old (picture_of c.spawn.new.core) c.args.parent c.args.child) c.in_err-spawn.field-0.0 c.from_residual.ensures.1
+    (stalls_first old (picture_of c.spawn.new.core) c.args.parent c.args.child c.in_err-spawn.field-0.0 (dead_root (old.root c.args.child) c.requires.dead) done.fit done.frees done.tried done.still done.full done.refuses) in
+    let short = as_stall c.from_residual.result (IsShortToFork old c.args.parent) c.in_err-spawn.field-0.0 c.from_residual.ensures.1
+    (short_before old (picture_of c.spawn.new.core) c.args.parent c.in_err-spawn.field-0.0 done.err done.room done.files.touched done.short) in
+    search rules
 
 pub returns-in-Err : goal.returns-in-Err
 returns-in-Err g c =
@@ -72,7 +53,7 @@ returns-in-Err g c =
             (device_then h c.args.core.now.swap.pages.disk c.spawn.new.core.swap.pages.disk c.link_copies.new.core.swap.pages.disk c.in_ok-spawn.ensures.device
             (subst (λ (s : Swap _). UsesDevice h s.pages.disk c.link_copies.new.core.swap.pages.disk) c.map_alike.ensures.rest.swap c.in-Err.ensures.moves.device));
         store = search rules;
-        files = files_then old mid new ready.files unchanged;
+        files = keeps_files_then old mid new ready.files unchanged;
         copies = λ n is. (let mapped = c.in-Err.ensures.no_copy n (no_copy_taken c.link_copies.new.core.frames c.exit.new.core.frames c.exit.ensures.frames n is) in c.in_ok-spawn.ensures.copies n (sym (ap (λ t. role_of t n) c.map_alike.ensures.rest.frames) ∙ mapped));
         err = unmade old mid c.args.parent c.args.child ready (picture_of c.exit.new.core) c.exit.ensures.removed;
         cause = search rules;
@@ -106,36 +87,24 @@ returns g c =
     let roots = done.moves.spaces.root in
     let gives = gives_mapped old spawned mapped mid c.args.parent c.args.child first.taken.0 first.gives first.taken.1 frames places maps roots done.tables in
     let given = c.share_pages.ensures.shares in
-    record {
-      ok = copied old mid c.args.parent c.args.child ready (picture_of c.share_pages.new.core) given;
-      shared = copies_shared old mid c.args.parent c.args.child ready (picture_of c.share_pages.new.core) given;
-      entries = entries_forked old mid (picture_of c.share_pages.new.core) c.args.parent c.args.child (gives_then old mapped mid None gives done.gives) given ready;
-      takes = tables_taken old mid (picture_of c.share_pages.new.core) c.args.parent c.args.child (gives_then old mapped mid None gives done.gives) given
-          (tables_mid old spawned mapped mid c.args.parent c.args.child first.taken.0 first.gives first.taken.1 frames places maps roots done.tables);
-      tables = tables_kept old spawned mapped mid (picture_of c.share_pages.new.core) c.args.child first.taken.0 c.requires.dead first.taken.1 frames maps.root roots done.moves.tables
-          given.tables;
-      bare = bare_shared old mid c.args.parent c.args.child ready (picture_of c.share_pages.new.core) given;
-      keeps = record {
-        fit = search rules;
-        room = search rules;
-        swap = ready_released g.E.SectorDisk c.link_copies.new.core.swap c.link_copies.new.core.swap c.share_pages.new.core.swap refl c.share_pages.ensures.rest.pages
-            given.room.slots c.in_default.ensures.moves.swap;
-        device = search rules;
-        store = search rules;
-        files = files_then old mid (picture_of c.share_pages.new.core) ready.files
-            (record { held = λ p. inl (given.held p); touched = given.beside.touched; files = given.beside.files });
-        copies = λ n is. first.copies n (sym (ap (λ t. role_of t n) frames) ∙ done.no_copy n (sym (given.roles n) ∙ is));
-        err = tt;
-        cause = (
-          ap (λ r. r.number) c.share_pages.ensures.refused ∙ done.cause.0 ∙ ap (λ r. r.number) rest.refused ∙ first.cause.0,
-          ap (λ p. g.E.SectorDisk.failures p.disk) c.share_pages.ensures.rest.pages ∙ done.cause.1 ∙ ap (λ s. g.E.SectorDisk.failures s.pages.disk) rest.swap ∙ first.cause.1,
-        );
-      };
-      asks = asks_forked g.E.SectorDisk c.args.core.now c.spawn.new.core c.map_alike.new.core c.link_copies.new.core c.share_pages.new.core first.asks first.asks_later c.map_alike.ensures.rest
-          c.in_default.ensures.asks c.share_pages.ensures.rest.pages;
-      stalls = tt;
-      short = tt;
-    }
+    let ok = copied old mid c.args.parent c.args.child ready (picture_of c.share_pages.new.core) given in
+    let shared = copies_shared old mid c.args.parent c.args.child ready (picture_of c.share_pages.new.core) given in
+    let entries = entries_forked old mid (picture_of c.share_pages.new.core) c.args.parent c.args.child (gives_then old mapped mid None gives done.gives) given ready in
+    let takes = tables_taken old mid (picture_of c.share_pages.new.core) c.args.parent c.args.child (gives_then old mapped mid None gives done.gives) given
+    (tables_mid old spawned mapped mid c.args.parent c.args.child first.taken.0 first.gives first.taken.1 frames places maps roots done.tables) in
+    let tables = tables_kept old spawned mapped mid (picture_of c.share_pages.new.core) c.args.child first.taken.0 c.requires.dead first.taken.1 frames maps.root roots done.moves.tables
+    given.tables in
+    let bare = bare_shared old mid c.args.parent c.args.child ready (picture_of c.share_pages.new.core) given in
+    let swap = ready_released g.E.SectorDisk c.link_copies.new.core.swap c.link_copies.new.core.swap c.share_pages.new.core.swap refl c.share_pages.ensures.rest.pages
+    given.room.slots c.in_default.ensures.moves.swap in
+    let files = keeps_files_then old mid (picture_of c.share_pages.new.core) ready.files
+    (record { held = λ p. inl (given.held p); touched = given.beside.touched; files = given.beside.files }) in
+    let copies : TakesNoCopy c.args.core.now.frames c.share_pages.new.core.frames = λ n is. first.copies n (sym (ap (λ t. role_of t n) frames) ∙ done.no_copy n (sym (given.roles n) ∙ is)) in
+    let number = ap (λ r. r.number) c.share_pages.ensures.refused ∙ done.cause.0 ∙ ap (λ r. r.number) rest.refused ∙ first.cause.0 in
+    let failures = ap (λ p. g.E.SectorDisk.failures p.disk) c.share_pages.ensures.rest.pages ∙ done.cause.1 ∙ ap (λ s. g.E.SectorDisk.failures s.pages.disk) rest.swap ∙ first.cause.1 in
+    let asks = asks_forked g.E.SectorDisk c.args.core.now c.spawn.new.core c.map_alike.new.core c.link_copies.new.core c.share_pages.new.core first.asks first.asks_later c.map_alike.ensures.rest
+    c.in_default.ensures.asks c.share_pages.ensures.rest.pages in
+    search rules
 
 pub exit-requires-clause-live : goal.exit-requires-clause-live
 exit-requires-clause-live g c =

@@ -1,4 +1,4 @@
-use Rattle.lifecycle.proofs.{Copies.{copied_mapped}, CopySteps.{copies_none, copies_way, copies_done, copies_stall}, Linked.{row_whole}, Names.{Option, sym, ◌∙◌, subst, IsSome, Attr, picture_of}, Passed.{same_table}}
+use Rattle.lifecycle.proofs.{Copies.{copied_mapped}, CopySteps.{copies_none, copies_way, copies_done, copies_stall}, Linked.{row_whole}, Names.{Option, sym, ◌∙◌, subst, IsSome, Attr, picture_of, same_table}}
 use Rattle.lifecycle.proofs.linking.link_part.Goals as goal
 
 pub link_tables-requires-clause-mapped : goal.link_tables-requires-clause-mapped
@@ -24,7 +24,7 @@ returns-in_ok-link_tables-clause-links g c =
 pub returns-in_ok-link_tables-clause-linked : goal.returns-in_ok-link_tables-clause-linked
 returns-in_ok-link_tables-clause-linked g c page from below copy =
     row_whole (picture_of c.link_tables.new.core) c.args.child c.in-Some.copied page
-    (c.in-Some.ensures.some.row ∙ sym (same_table c.args.part.now.first page c.args.part.now.end from below c.requires.part.one_table)) c.in_ok-link_tables.ensures.whole
+    (c.in-Some.ensures.some.row ∙ same_table c.args.part.now.first page c.args.part.now.end from below c.requires.part.one_table) c.in_ok-link_tables.ensures.whole
 
 pub returns-in_default-clause-links : goal.returns-in_default-clause-links
 returns-in_default-clause-links g c = copies_none g.E.SectorDisk c.args.core.now c.args.part.now.pid c.args.child _ c.requires.ready.forking.fit c.requires.ready.swap

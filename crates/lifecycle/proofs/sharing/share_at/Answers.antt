@@ -1,10 +1,6 @@
-use Rattle.lifecycle.proofs.Names.{◌≡◌, ℕ, ◌+◌, ◌<◌, ◌≤◌, sym, ap, ◌∙◌, subst, arith, number_of, seat, Picture, picture_of, entry, seat-none, none_at, past}
+use Rattle.lifecycle.proofs.Names.{◌≡◌, ℕ, ◌+◌, sym, ap, ◌∙◌, subst, arith, number_of, seat, Picture, picture_of, entry, seat-none, none_at, past}
 use Rattle.lifecycle.{specs.ChildShares.{GivesShares}, proofs.{Live.{live_root}, Passed.{number_in_row, page_form}, ShareSteps.{awaits_within, gives_none}}}
 use Rattle.lifecycle.proofs.sharing.share_at.Goals as goal
-
--- a place of the table
-in_table : (index end : ℕ) → index < end → end ≤ 512 → index < 512
-in_table index end below most = omega arith
 
 pub decode-before-requires : goal.decode-before-requires
 decode-before-requires g c =
@@ -12,7 +8,7 @@ decode-before-requires g c =
     let q = c.requires in
     page_form (picture_of c.args.core.now) t.parent (t.first + c.args.index) c.number_in.result.0 q.awaits.fit.rooted q.awaits.parent_lives
     (number_in_row (picture_of c.args.core.now) t.parent t.from.0 t.first c.args.index c.number_in.result.0 q.awaits.parent_lives q.from.begins
-    (in_table c.args.index c.args.end q.below q.in_table) q.from.place c.number_in.ensures)
+    (omega (arith, q.below, q.in_table)) q.from.place c.number_in.ensures)
 
 pub share_page-requires : goal.share_page-requires
 share_page-requires g c =
@@ -25,10 +21,10 @@ share_page-requires g c =
       awaits = awaits_within (picture_of c.args.core.now) t.parent t.child page (t.first + c.args.end) page (page + 1) q.awaits (omega arith) (omega (arith, q.below));
       from = record { place = from.place; begins = from.begins; user = (let user = from.user in omega (arith, user, q.below)) };
       to = record { place = to.place; begins = to.begins; user = (let user = to.user in omega (arith, user, q.below)) };
-      in_table = in_table c.args.index c.args.end q.below q.in_table;
+      in_table = omega (arith, q.below, q.in_table);
       before = c.decode-before.ensures.number
           ∙ number_in_row (picture_of c.args.core.now) t.parent t.from.0 t.first c.args.index c.number_in.result.0 q.awaits.parent_lives from.begins
-          (in_table c.args.index c.args.end q.below q.in_table) from.place c.number_in.ensures;
+          (omega (arith, q.below, q.in_table)) from.place c.number_in.ensures;
       own = record { form = c.decode-before.ensures.form; own = c.is_own.ensures.own c.if-is_own.true };
     }
 
@@ -60,18 +56,14 @@ returns-in-None g c =
           (omega (arith, within, q.in_table)) next.passed p least under) ∙ seat-none);
     }
 
--- a page alone
-this : (first index p : ℕ) → first + index ≤ p → p < first + (index + 1) → p ≡ first + index
-this first index p least under = omega arith
-
 pub returns-clause-gives : goal.returns-clause-gives
 returns-clause-gives g c =
     let old : Picture g.M.Levels.mode = picture_of c.args.core.now in
     let t = c.args.tables.now in
     let q = c.requires in
     let is = number_in_row old t.parent t.from.0 t.first c.args.index c.number_in.result.0 q.awaits.parent_lives q.from.begins
-    (in_table c.args.index c.args.end q.below q.in_table) q.from.place c.number_in.ensures in
+    (omega (arith, q.below, q.in_table)) q.from.place c.number_in.ensures in
     let page = t.first + c.args.index in
     gives_none c.args.core.now t.parent t.child page (t.first + (c.args.index + 1))
     (awaits_within old t.parent t.child page (t.first + c.args.end) page (t.first + (c.args.index + 1)) q.awaits (omega arith) (omega (arith, q.below)))
-    (λ p h least under. ap (λ x. seat (entry old t.parent x)) (this t.first c.args.index p least under) ∙ ap seat (sym (c.decode-before.ensures.number ∙ is)) ∙ c.is_own.ensures.other c.if-is_own.false)
+    (λ p h least under. (let same : p ≡ page = omega (arith, least, under) in ap (λ x. seat (entry old t.parent x)) same) ∙ ap seat (sym (c.decode-before.ensures.number ∙ is)) ∙ c.is_own.ensures.other c.if-is_own.false)

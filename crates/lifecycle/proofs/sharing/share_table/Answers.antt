@@ -1,19 +1,12 @@
-use Rattle.lifecycle.proofs.Names.{user_end, ◌≡◌, ℕ, ◌+◌, ◌-◌, ◌*◌, ◌/◌, ◌%◌, ◌≤◌, sym, ap, ◌∙◌, subst, arith, picture_of}
-use Rattle.lifecycle.{specs.{ChildShares.{GivesShares}, Shares.{IsTableFor}}, proofs.{Passed.{same_table}, ShareSteps.{awaits_rest, gives_none, gives_no_row, gives_then}, SharedRows.{none_of_row}}}
+use Rattle.lifecycle.proofs.Names.{user_end, ◌≡◌, ℕ, ◌+◌, ◌-◌, ◌/◌, ◌%◌, ◌≤◌, sym, subst, arith, picture_of}
+use Rattle.lifecycle.{specs.{ChildShares.{GivesShares}, Shares.{IsTableFor}}, proofs.{Names.{same_table}, ShareSteps.{awaits_rest, gives_none, gives_no_row, gives_then}, SharedRows.{none_of_row}}}
 use Rattle.lifecycle.proofs.sharing.share_table.Goals as goal
 
 pub returns-in_default : goal.returns-in_default
 returns-in_default g c =
     gives_none c.args.core.now c.args.part.now.pid c.args.child c.args.part.now.first c.args.part.now.end c.requires.ready.awaits
     (λ p h least under. none_of_row (picture_of c.args.core.now) c.args.part.now.pid c.args.child c.args.part.now.first p c.requires.ready.linked c.in_default.ensures.missing
-    (same_table c.args.part.now.first p c.args.part.now.end least under c.requires.part.one_table) h)
-
--- where the row of a page begins
-begins : (start : ℕ) → start / 512 * 512 % 512 ≡ 0
-begins start = omega arith
-
-same_row : (start : ℕ) → start / 512 ≡ start / 512 * 512 / 512
-same_row start = omega arith
+    (sym (same_table c.args.part.now.first p c.args.part.now.end least under c.requires.part.one_table)) h)
 
 pub loop-index-init : goal.loop-index-init
 loop-index-init g c =
@@ -31,8 +24,8 @@ share_at-index-requires g c =
     let k = c.loop-index.invariant in
     let first = c.table_start-first.result in
     let is = c.table_start-first.ensures in
-    let row : c.args.part.now.first / 512 ≡ first / 512 = same_row c.args.part.now.first ∙ ap (λ x. x / 512) (sym is) in
-    let at : first % 512 ≡ 0 = ap (λ x. x % 512) is ∙ begins c.args.part.now.first in
+    let row : c.args.part.now.first / 512 ≡ first / 512 = omega (arith, is) in
+    let at : first % 512 ≡ 0 = omega (arith, is) in
     let user : first + (c.args.part.now.end - first) ≤ user_end g.M.Levels.mode = omega (arith, is, c.requires.part.further, c.requires.part.high) in
     let P : ℕ → Type 0 = λ x. IsTableFor (picture_of c.args.core.now) c.args.part.now.pid x c.args.part.now.table.0 in
     let Q : ℕ → Type 0 = λ x. IsTableFor (picture_of c.args.core.now) c.args.child x c.in-Some.to.0 in

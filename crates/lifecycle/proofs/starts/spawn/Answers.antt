@@ -16,59 +16,31 @@ returns g c =
     let root = c.in_ok-root.ensures in
     let spawns = c.add_process.ensures.spawns in
     let rest = c.add_process.ensures.rest in
-    record {
-      ok = process_added old mid new c.args.pid n root.taken spawns;
-      taken = (n, root_taken old mid new c.args.pid n root.taken spawns root.only);
-      gives = root_given old mid new c.args.pid n root.taken spawns root.gives;
-      bare = bare_kept old mid new c.args.pid n root.taken spawns;
-      keeps = record {
-        fit = fit_started old mid new c.args.pid n root.taken spawns;
-        room = room_kept old mid new c.args.pid n root.taken spawns;
-        swap = search rules;
-        device = search rules;
-        store = rest.store ∙ root.rest.store;
-        files = files_kept old mid new c.args.pid n root.taken spawns;
-        copies = no_copy old mid new c.args.pid n root.taken spawns;
-        err = tt;
-        cause = (ap (λ r. r.number) rest.refused ∙ root.cause.0, ap (λ s. g.E.SectorDisk.failures s.pages.disk) rest.swap ∙ root.cause.1);
-      };
-      asks = asks_process g.E.SectorDisk c.args.core.now c.take_table.new.self c.add_process.new.self rest
-          (asks_swap g.E.SectorDisk c.args.core.now c.take_table.new.self None Nothing root.asked);
-      asks_later = no_new_spawned old mid new c.args.pid n c.requires.fit root.taken spawns;
-      full = tt;
-      still = tt;
-      tried = tt;
-      frees = tt;
-      refuses = tt;
-      short = tt;
-    }
+    let ok = process_added old mid new c.args.pid n root.taken spawns in
+    let taken = root_taken old mid new c.args.pid n root.taken spawns root.only in
+    let gives = root_given old mid new c.args.pid n root.taken spawns root.gives in
+    let bare = bare_kept old mid new c.args.pid n root.taken spawns in
+    let fit = fit_started old mid new c.args.pid n root.taken spawns in
+    let room = room_kept old mid new c.args.pid n root.taken spawns in
+    let store = rest.store ∙ root.rest.store in
+    let files = files_kept old mid new c.args.pid n root.taken spawns in
+    let copies = no_copy old mid new c.args.pid n root.taken spawns in
+    let number = ap (λ r. r.number) rest.refused ∙ root.cause.0 in
+    let failures = ap (λ s. g.E.SectorDisk.failures s.pages.disk) rest.swap ∙ root.cause.1 in
+    let asks = asks_process g.E.SectorDisk c.args.core.now c.take_table.new.self c.add_process.new.self rest
+    (asks_swap g.E.SectorDisk c.args.core.now c.take_table.new.self None Nothing root.asked) in
+    let later = no_new_spawned old mid new c.args.pid n c.requires.fit root.taken spawns in
+    search rules
 
 pub returns-in_err-root : goal.returns-in_err-root
 returns-in_err-root g c =
     let old : Picture g.M.Levels.mode = picture_of c.args.core.now in
     let new : Picture g.M.Levels.mode = picture_of c.take_table.new.self in
-    record {
-      ok = search rules;
-      taken = search rules;
-      gives = search rules;
-      bare = bare_freed old new _ c.in_err-root.ensures.frees;
-      keeps = record {
-        fit = search rules;
-        room = room_freed old new _ c.in_err-root.ensures.frees;
-        swap = search rules;
-        device = search rules;
-        store = search rules;
-        files = c.in_err-root.ensures.frees.pages.files;
-        copies = no_copy_freed old new _ c.in_err-root.ensures.frees;
-        err = on_err c.from_residual.result (KeepsProcesses old new) (pages_kept old new c.in_err-root.ensures.frees.pages);
-        cause = search rules;
-      };
-      asks = asks_swap g.E.SectorDisk c.args.core.now c.take_table.new.self None Nothing c.in_err-root.ensures.asked;
-      asks_later = no_new_frees old new None c.in_err-root.ensures.frees c.requires.fit;
-      full = search rules;
-      still = search rules;
-      tried = search rules;
-      frees = search rules;
-      refuses = search rules;
-      short = search rules;
-    }
+    let frees = c.in_err-root.ensures.frees in
+    let bare = bare_freed old new _ frees in
+    let room = room_freed old new _ frees in
+    let copies = no_copy_freed old new _ frees in
+    let err = on_err c.from_residual.result (KeepsProcesses old new) (pages_kept old new frees.pages) in
+    let asks = asks_swap g.E.SectorDisk c.args.core.now c.take_table.new.self None Nothing c.in_err-root.ensures.asked in
+    let later = no_new_frees old new None frees c.requires.fit in
+    search rules

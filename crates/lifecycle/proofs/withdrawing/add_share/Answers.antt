@@ -1,5 +1,5 @@
 use Rattle.lifecycle.proofs.{Copies.{framed_own, slot_seat}, Names.{◌≡◌, ◌<◌, ℕ, sym, ◌∙◌, subst, arith, rules, same_Some, Private, IsFrame, role_of, count_of, Shares, slots_of, frame_of, number_of, Seat, InFrame, InSlot, Picture}}
-use Rattle.lifecycle.{proofs.{Names.{picture_of, IsFitBut, seat_own, inside_memory, private_used}, Raised.{fit_frame, raises_frame, fit_slot, raises_slot}}, specs.Shares.{RaisesSeat}}
+use Rattle.lifecycle.{proofs.{Names.{picture_of, IsFitBut, seat_own, used_inside, private_used}, Raised.{fit_frame, raises_frame, fit_slot, raises_slot}}, specs.Shares.{RaisesSeat}}
 use Rattle.lifecycle.proofs.withdrawing.add_share.Goals as goal
 
 pub share-requires-clause-in_use : goal.share-requires-clause-in_use
@@ -27,7 +27,7 @@ frame_of-requires g c =
     let n = frame_of (number_of c.args.shared) in
     let own = framed_own c.args.shared c.requires.own.form c.in_default.not-Swapped c.requires.own.own in
     let role = (c.requires.may (InFrame n) (seat_own (number_of c.args.shared) own)).owned in
-    let inside = inside_memory c.args.core.now.frames n c.args.core.now.sound (private_used _ role) in
+    let inside = used_inside c.args.core.now.frames n c.args.core.now.sound (private_used _ role) in
     record { form = c.requires.own.form; own = own; small = omega (arith, inside, c.args.core.now.sound.most) }
 
 pub share-requires-2 : goal.share-requires-2
@@ -38,7 +38,7 @@ share-requires-2 g c =
     let may = c.requires.may (InFrame n) (seat_own (number_of c.args.shared) own) in
     let at = sym c.frame_of.ensures in
     record {
-      inside = subst (λ (x : ℕ). IsFrame t x) at (inside_memory t n c.args.core.now.sound (private_used _ may.owned));
+      inside = subst (λ (x : ℕ). IsFrame t x) at (used_inside t n c.args.core.now.sound (private_used _ may.owned));
       private = subst (λ (x : ℕ). role_of t x ≡ Private) at may.owned;
       room = subst (λ (x : ℕ). count_of t x < 64) at may.few;
     }

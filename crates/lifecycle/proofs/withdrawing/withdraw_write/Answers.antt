@@ -1,5 +1,5 @@
 use Rattle.lifecycle.proofs.Names.{user_pages_fit, ◌≡◌, ◌≢◌, ℕ, ◌+◌, true, None, refl, sym, ap, ◌∙◌, subst, arith, rules, is_valid, number_of, seat, Picture, picture_of, entry, place_at, same_beside}
-use Rattle.lifecycle.{specs.Shares.{Weakens}, proofs.{Copies.{seat_names}, Live.{live_root}, Passed.{in_row}, Weaker.{weaker_seat}, Lowered.{fit_lowered, withdraws, places_set}}}
+use Rattle.lifecycle.{specs.{ChildShares.{IsOwnEntry}, Shares.{Weakens}}, proofs.{Copies.{seat_names}, Live.{live_root}, Passed.{in_row}, Weaker.{weaker_seat}, Lowered.{fit_lowered, withdraws, places_set}}}
 use Rattle.lifecycle.proofs.withdrawing.withdraw_write.Goals as goal
 
 pub returns : goal.returns
@@ -18,17 +18,11 @@ returns g c =
     let sets = c.set_in.ensures.sets r.0 page (q.fit.rooted.roots t.parent r.0 r.1) (omega (arith, user, user_pages_fit g.M.Levels.mode)) (place r.0 r.1) (place_at t.first c.args.index q.place.begins q.in_table) in
     let withdrawn = withdraws old new t.parent r.0 page (number_of c.in-Some.after) q.fit r.1 (omega (arith, user, user_pages_fit g.M.Levels.mode)) valid own
     (subst W q.before c.in-Some.ensures.weaker) sets (same_beside old c.set_in.new.memory) in
-    record {
-      names = record { form = search rules; own = λ none. own (sym withdrawn.seated ∙ none) };
-      withdrawn = withdrawn;
-      keeps = record {
-        fit = fit_lowered old new t.parent r.0 page (number_of c.in-Some.after) q.fit r.1 (omega (arith, user, user_pages_fit g.M.Levels.mode)) valid own
-            (subst W q.before c.in-Some.ensures.weaker) sets (same_beside old c.set_in.new.memory);
-        places = places_set old new 0 r.0 page (number_of c.in-Some.after) q.fit.rooted (λ q. refl) sets;
-        rest = search rules;
-        refused = search rules;
-      };
-    }
+    let names : IsOwnEntry c.in-Some.after = record { form = search rules; own = λ none. own (sym withdrawn.seated ∙ none) } in
+    let fit = fit_lowered old new t.parent r.0 page (number_of c.in-Some.after) q.fit r.1 (omega (arith, user, user_pages_fit g.M.Levels.mode)) valid own
+    (subst W q.before c.in-Some.ensures.weaker) sets (same_beside old c.set_in.new.memory) in
+    let places = places_set old new 0 r.0 page (number_of c.in-Some.after) q.fit.rooted (λ q. refl) sets in
+    search rules
 
 pub set_in-requires-clause-placed : goal.set_in-requires-clause-placed
 set_in-requires-clause-placed g c =

@@ -9,8 +9,7 @@ returns-in-Shared-clause-ok c =
     let front = c.min-count.result in
     let less : front ≤ c.args.count = omega (arith, c.min-count.ensures) in
     let reaches : Reaches first.page c.args.count front = λ k low high. omega (arith, c.min-count.ensures, low, high) in
-    subst (λ (b : Backing). IfOk c.dirty_in.result (Appends (is_taken_behind (of_files (is_touched t)) b c.args.count) c.args.list.now c.dirty_in.new.list c.args.used)) (sym c.in-Shared.is)
-    (both_ok (Gathers t first.file first.page front c.args.used c.args.list.now c.dirty_in.new.list) (HasAll t first.file first.page front c.dirty_in.new.list) _ c.dirty_in.result
+    rw c.in-Shared.is (both_ok (Gathers t first.file first.page front c.args.used c.args.list.now c.dirty_in.new.list) (HasAll t first.file first.page front c.dirty_in.new.list) _ c.dirty_in.result
     (gathered t first c.args.count front c.args.used c.args.list.now c.dirty_in.new.list less reaches c.requires.inside)
     c.dirty_in.ensures.gathered c.dirty_in.ensures.all)
 
@@ -18,6 +17,5 @@ pub returns-in-Shared-clause-too_many : goal.returns-in-Shared-clause-too_many
 returns-in-Shared-clause-too_many c =
     let t = c.args.cache.now in
     let less : c.min-count.result ≤ c.args.count = omega (arith, c.min-count.ensures) in
-    subst (λ (b : Backing). OnErr c.dirty_in.result (OverflowsRow (is_taken_behind (of_files (is_touched t)) b c.args.count) c.args.list.now c.args.used)) (sym c.in-Shared.is)
-    (on_err_weaker c.dirty_in.result (λ over. overflown t c.in-Shared.first c.args.count c.min-count.result c.args.used c.args.list.now c.dirty_in.new.list less c.requires.few over)
+    rw c.in-Shared.is (on_err_weaker c.dirty_in.result (λ over. overflown t c.in-Shared.first c.args.count c.min-count.result c.args.used c.args.list.now c.dirty_in.new.list less c.requires.few over)
     c.dirty_in.ensures.too_many)

@@ -16,7 +16,7 @@ loop-page-preserved g c =
     let next = c.in-Some.ensures.some in
     let stop = c.min-stop.result in
     let count : c.saturating_sub-pages.result ≡ stop - run.first = omega (arith, c.saturating_sub-pages.ensures) in
-    let step = subst (λ (n : ℕ). Appends (is_taken_behind touched run.attr.backing n) c.loop-page.list c.choose_behind.new.list c.loop-page.count c.in_ok-count.count) count c.in_ok-count.ensures.ok in
+    let step = rw count at c.in_ok-count.ensures.ok in
     record {
       from = omega (arith, next.from, next.nonempty);
       to = omega arith;
@@ -38,14 +38,12 @@ returns-in_err-count-clause-too_many g c =
     let next = c.in-Some.ensures.some in
     let stop = c.min-stop.result in
     let count : c.saturating_sub-pages.result ≡ stop - run.first = omega (arith, c.saturating_sub-pages.ensures) in
-    let step = subst (λ (n : ℕ). OverflowsRow (is_taken_behind touched run.attr.backing n) c.loop-page.list c.loop-page.count) count c.in_err-count.ensures.too_many in
+    let step = rw count at c.in_err-count.ensures.too_many in
     on_err c.from_residual.result
     (walk_over g.M.Levels.mode touched map c.args.first c.loop-page.page stop run next c.loop-page.invariant.from (omega arith) c.args.end c.args.list.now c.loop-page.list c.loop-page.count
     c.loop-page.invariant.to (omega arith) c.loop-page.invariant.chosen step)
 
 pub returns-clause-ok : goal.returns-clause-ok
 returns-clause-ok g c =
-    let touched = of_files (is_touched c.args.cache.now) in
-    let map = attr_at c.args.regions.now in
     let e : c.loop-page.page ≡ c.args.end = omega (arith, c.loop-page.invariant.to) in
-    subst (λ (n : ℕ). Appends (is_chosen touched map c.args.first (n - c.args.first)) c.args.list.now c.loop-page.list 0 c.loop-page.count) e c.loop-page.invariant.chosen
+    rw (← e) c.loop-page.invariant.chosen

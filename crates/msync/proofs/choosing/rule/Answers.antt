@@ -10,8 +10,7 @@ returns-then-not-covers-clause-same g c = λ s shows.
     let found = c.in-Some.ensures.found in
     let count : c.div_ceil-count.result ≡ page_count a.len = omega (arith, c.div_ceil-count.ensures) in
     let p = the_process (picture_of core) map s c.in-Some.process shows found.1 c.regions-regions.ensures in
-    subst (λ (pid : ℕ). RulesSame s pid a.addr a.len a.mode c.args.list.now (Refuses ENOMEM)) found.0
-    (ruled_missing (of_files (picture_of core).touched) map s c.in-Some.process p a.addr a.len a.mode (omega arith) c.if-len-eq0.false
+    rw (← found.0) (ruled_missing (of_files (picture_of core).touched) map s c.in-Some.process p a.addr a.len a.mode (omega arith) c.if-len-eq0.false
     (ap (is_covered map (a.addr / 4096)) (sym count) ∙ sym c.covers.ensures ∙ c.if-not-covers.true))
 
 pub choose-requires-clause-pages : goal.choose-requires-clause-pages
@@ -31,8 +30,7 @@ returns-in-Async-clause-same g c = λ s shows.
     let found = c.in-Some.ensures.found in
     let count : c.div_ceil-count.result ≡ page_count a.len = omega (arith, c.div_ceil-count.ensures) in
     let p = the_process (picture_of core) map s c.in-Some.process shows found.1 c.regions-regions.ensures in
-    subst (λ (pid : ℕ). RulesSame s pid a.addr a.len a.mode c.args.list.now Passes) found.0
-    (rw c.in-Async.is (ruled_row (of_files (picture_of core).touched) map s c.in-Some.process p a.addr a.len Async (omega arith) c.if-len-eq0.false
+    rw (← found.0) (rw c.in-Async.is (ruled_row (of_files (picture_of core).touched) map s c.in-Some.process p a.addr a.len Async (omega arith) c.if-len-eq0.false
     (ap (is_covered map (a.addr / 4096)) (sym count) ∙ sym c.covers.ensures ∙ c.if-not-covers.false)))
 
 pub returns-in-Sync-clause-same : goal.returns-in-Sync-clause-same
@@ -43,11 +41,9 @@ returns-in-Sync-clause-same g c = λ s shows.
     let found = c.in-Some.ensures.found in
     let count : c.div_ceil-count.result ≡ page_count a.len = omega (arith, c.div_ceil-count.ensures) in
     let p = the_process (picture_of core) map s c.in-Some.process shows found.1 c.regions-regions.ensures in
-    subst (λ (pid : ℕ). RulesSame s pid a.addr a.len a.mode c.choose.new.list c.choose.result) found.0
-    (subst (λ (x : MsyncMode). RulesSame s c.in-Some.process a.addr a.len x c.choose.new.list c.choose.result) (sym c.in-Sync.is)
-    (ruled_sync (of_files (picture_of core).touched) map s c.in-Some.process p a.addr a.len c.choose.new.list c.choose.result (touched_within (picture_of core) core.store.directory c.requires.fit (λ f. refl))
+    rw (← found.0) (rw c.in-Sync.is (ruled_sync (of_files (picture_of core).touched) map s c.in-Some.process p a.addr a.len c.choose.new.list c.choose.result (touched_within (picture_of core) core.store.directory c.requires.fit (λ f. refl))
     (omega arith) c.if-len-eq0.false (ap (is_covered map (a.addr / 4096)) (sym count) ∙ sym c.covers.ensures ∙ c.if-not-covers.false)
-    (subst (λ (n : ℕ). IsRulingOn (is_chosen (of_files (picture_of core).touched) map (a.addr / 4096) n) c.choose.new.list c.choose.result) count c.choose.ensures)))
+    (rw (← count) c.choose.ensures)))
 
 pub returns-in-Sync-clause-listed : goal.returns-in-Sync-clause-listed
 returns-in-Sync-clause-listed g c =
@@ -59,6 +55,5 @@ returns-in-Sync-clause-taken g c =
     let a = c.args.call in
     let map = attr_at c.regions-regions.result.now in
     let count : c.div_ceil-count.result ≡ page_count a.len = omega (arith, c.div_ceil-count.ensures) in
-    subst (λ (pid : ℕ). AreTaken (picture_of core) pid a.addr a.len c.choose.new.list c.choose.result) c.in-Some.ensures.found.0
-    (taken_of (picture_of core) map c.in-Some.process a.addr a.len c.choose.new.list c.choose.result c.regions-regions.ensures
-    (subst (λ (n : ℕ). IsRulingOn (is_chosen (of_files (picture_of core).touched) map (a.addr / 4096) n) c.choose.new.list c.choose.result) count c.choose.ensures))
+    rw (← c.in-Some.ensures.found.0) (taken_of (picture_of core) map c.in-Some.process a.addr a.len c.choose.new.list c.choose.result c.regions-regions.ensures
+    (rw (← count) c.choose.ensures))

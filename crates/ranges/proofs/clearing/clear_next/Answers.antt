@@ -1,5 +1,5 @@
-use Rattle.ranges.proofs.Names.{top_level, sizes, ◌≡◌, ℕ, ◌+◌, ◌*◌, ◌/◌, ◌^◌, refl, sym, ap, ◌∙◌, subst, arith, rules, min, max, missing_of-is, Prunes-refl, IsTableOf, Picture, picture_of}
-use Rattle.ranges.proofs.{ClearedPages.{same_beside}, Gaps.{is_whole, one_some, table_at}, Pruned.{passes_missing, root_pruned}}
+use Rattle.ranges.proofs.Names.{top_level, sizes, same_Some, ◌≡◌, ℕ, ◌+◌, ◌*◌, ◌/◌, ◌^◌, refl, sym, ap, ◌∙◌, subst, arith, rules, min, max, missing_of-is, Prunes-refl, IsTableOf, Picture, picture_of}
+use Rattle.ranges.proofs.{ClearedPages.{same_beside}, Gaps.{is_whole, table_at}, Pruned.{passes_missing, root_pruned}}
 use Rattle.ranges.proofs.clearing.clear_next.Goals as goal
 
 pub last_table-missing-requires-clause-root : goal.last_table-missing-requires-clause-root
@@ -16,7 +16,7 @@ clear_table-requires-clause-part g c =
       high = omega (arith, c.min-stop.ensures, c.requires.high);
       one_table = omega (arith, c.min-stop.ensures, c.table_end.ensures);
       table = λ r' root. subst (λ (x : ℕ). IsTableOf old.frames (top_level g.M.Levels.mode) x (c.args.start / 512) c.last_table-missing.result.1.0)
-          (one_some r r' (sym c.root_of-top_table.ensures ∙ root)) row;
+          (same_Some r r' (sym c.root_of-top_table.ensures ∙ root)) row;
     }
 
 pub prune-requires-clause-root : goal.prune-requires-clause-root
@@ -27,36 +27,21 @@ span_end-requires g c = let levels = (sizes g.M.Levels.mode).levels.1 in omega (
 
 pub returns : goal.returns
 returns g c =
-    let old : Picture g.M.Levels.mode = picture_of c.args.core.now in
-    let new : Picture g.M.Levels.mode = record old { frames = c.prune.new.memory } in
     let r = c.root_of-top_table.result.0 in
     let missing = missing_of-is c.args.core.now.frames (top_level g.M.Levels.mode) r c.args.start ∙ sym (ap (λ x. x.0) c.last_table-missing.ensures.last) in
-    let step = passes_missing old new c.args.pid r c.args.start c.args.end c.min-stop-2.result c.span_end.result c.last_table-missing.result.0 c.requires c.args.core.now.sound
-    c.root_of-top_table.ensures c.prune.ensures.prunes (same_beside old c.prune.new.memory) c.prune.ensures.pruned missing c.if-missing-eq0.false c.span_end.ensures c.min-stop-2.ensures in
-    record {
-      cleans = record { pages = record { clears = step.clears; fit = step.fit; rest = search rules; refused = search rules }; cleared = step.cleared };
-      further = step.further;
-      within = omega (arith, c.min-stop-2.ensures);
-      ends = step.ends;
-    }
+    passes_missing c.args.core.now _ c.args.pid r c.args.start c.args.end c.min-stop-2.result c.span_end.result c.last_table-missing.result.0 c.requires c.root_of-top_table.ensures
+    c.prune.ensures.prunes (same_beside (picture_of c.args.core.now) c.prune.new.memory) c.prune.ensures.pruned missing c.if-missing-eq0.false c.span_end.ensures c.min-stop-2.ensures (search rules) (search rules)
 
 pub returns-then-missing-top_level : goal.returns-then-missing-top_level
 returns-then-missing-top_level g c =
-    let old : Picture g.M.Levels.mode = picture_of c.args.core.now in
     let t = c.args.core.now.frames in
     let r = c.root_of-top_table.result.0 in
     let tree = c.requires.fit.rooted in
     let missing = missing_of-is t (top_level g.M.Levels.mode) r c.args.start ∙ sym (ap (λ x. x.0) c.last_table-missing.ensures.last) in
-    let step = passes_missing old old c.args.pid r c.args.start c.args.end c.min-stop-2.result c.span_end.result c.last_table-missing.result.0 c.requires c.args.core.now.sound
-    c.root_of-top_table.ensures (Prunes-refl t (top_level g.M.Levels.mode) r c.args.start tree.forest) (same_beside old t)
+    passes_missing c.args.core.now _ c.args.pid r c.args.start c.args.end c.min-stop-2.result c.span_end.result c.last_table-missing.result.0 c.requires c.root_of-top_table.ensures
+    (Prunes-refl t (top_level g.M.Levels.mode) r c.args.start tree.forest) (same_beside (picture_of c.args.core.now) t)
     (root_pruned t (top_level g.M.Levels.mode) r c.args.start tree.forest (tree.roots c.args.pid r c.root_of-top_table.ensures).table
-    (missing ∙ c.if-missing-top_level.true ∙ c.top_level.ensures.level)) missing c.if-missing-eq0.false c.span_end.ensures c.min-stop-2.ensures in
-    record {
-      cleans = record { pages = record { clears = step.clears; fit = step.fit; rest = search rules; refused = search rules }; cleared = step.cleared };
-      further = step.further;
-      within = omega (arith, c.min-stop-2.ensures);
-      ends = step.ends;
-    }
+    (missing ∙ c.if-missing-top_level.true ∙ c.top_level.ensures.level)) missing c.if-missing-eq0.false c.span_end.ensures c.min-stop-2.ensures (search rules) (search rules)
 
 pub returns-then-missing-eq0 : goal.returns-then-missing-eq0
 returns-then-missing-eq0 g c =

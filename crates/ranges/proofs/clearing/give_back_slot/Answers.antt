@@ -11,20 +11,14 @@ returns-in-Swapped g c =
     let old : Picture g.M.Levels.mode = picture_of c.args.core.now in
     let is = slot_of c.args.number.0 c.in-Swapped.slot.0 c.decode.result c.decode.ensures.number c.decode.ensures.form c.in-Swapped.is in
     let lacks = lacks_some old (seat c.args.number.0) (InSlot c.in-Swapped.slot.0) is c.requires.lacks in
-    record {
-      fit = fit_slot old c.in-Swapped.slot.0 lacks.0 lacks.1 (slots_of c.release.new.self) c.release.ensures.releases (seat c.args.number.0) is;
-      gives = gives_slot old c.in-Swapped.slot.0 lacks.0 lacks.1 (slots_of c.release.new.self) c.release.ensures.releases (seat c.args.number.0) is;
-      rest = search rules;
-      refused = search rules;
-    }
+    let fit = fit_slot old c.in-Swapped.slot.0 lacks.0 lacks.1 (slots_of c.release.new.self) c.release.ensures.releases (seat c.args.number.0) is in
+    let gives = gives_slot old c.in-Swapped.slot.0 lacks.0 lacks.1 (slots_of c.release.new.self) c.release.ensures.releases (seat c.args.number.0) is in
+    search rules
 
 pub returns-in_default : goal.returns-in_default
 returns-in_default g c =
     let here = not_away c.args.number.0 c.decode.result c.decode.ensures.number c.decode.ensures.form c.in_default.not-Swapped in
     let none = seat_common c.args.number.0 c.requires.common here in
-    record {
-      fit = lacks_none (picture_of c.args.core.now) (seat c.args.number.0) none c.requires.lacks;
-      gives = gives_none (picture_of c.args.core.now) (seat c.args.number.0) none;
-      rest = search rules;
-      refused = search rules;
-    }
+    let fit = lacks_none (picture_of c.args.core.now) (seat c.args.number.0) none c.requires.lacks in
+    let gives = gives_none (picture_of c.args.core.now) (seat c.args.number.0) none in
+    search rules

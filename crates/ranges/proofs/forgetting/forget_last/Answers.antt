@@ -1,4 +1,4 @@
-use Rattle.ranges.proofs.{Emptied.{in_row_from, row_parts}, LastName.{named_without, named_beside, unnamed_without}, Names.{sizes, inl, inr, refl, arith, Object, picture_of}}
+use Rattle.ranges.proofs.{Emptied.{in_row_from, row_parts}, LastName.{named_without, last_there}, Names.{sizes, inl, refl, arith, Object, picture_of}}
 use Rattle.ranges.proofs.forgetting.forget_last.Goals as goal
 
 pub returns-in_default : goal.returns-in_default
@@ -13,21 +13,11 @@ returns-in_default g c = record {
 
 pub returns : goal.returns
 returns g c =
-    let at = (picture_of c.args.core.now).at in
     let some = c.in-Some.ensures.some in
     record {
       fit = c.forget_there.ensures.fit;
-      last = elim c.forget_there.ensures.there [
-        | inl same ↦ inl (
-          same.0,
-          named_beside g.M.Levels.mode at c.args.pid c.args.first c.args.pages c.args.page same.1.0 c.in-Some.at same.1.1 (let high = some.1 in let row = c.requires.bare.row.row in let most = (sizes g.M.Levels.mode).most in omega (arith, high, row, most)) same.1.2 same.1.3,
-        )
-        | inr gone ↦ inr (
-          gone.0,
-          gone.1,
-          unnamed_without g.M.Levels.mode at c.args.pid c.args.first c.args.pages c.requires.bare.row.fit.granting.objects c.args.page c.in-Some.at (in_row_from c.args.first c.args.pages c.in-Some.at some.0 some.1) some.2 gone.2,
-        )
-      ];
+      last = last_there c.args.core.now c.forget_there.new.core c.args.pid c.args.first c.args.pages c.in-Some.at c.args.page c.requires.bare.row.fit.granting.objects c.requires.bare.row.row some.0 some.1 some.2
+          c.forget_there.ensures.there;
     }
 
 pub forget_there-requires : goal.forget_there-requires

@@ -1,6 +1,6 @@
-use Rattle.ranges.proofs.{Emptied.{pages_inside}, LastName.{same_without, more_then, gone_none, gone_named, gone_forgot, forgets_all, rest_then}, Names.{◌≡◌, ℕ, ◌+◌, ◌<◌, inl, inr, true, Some, None, sym, ap, ◌∙◌, subst, arith, rules}}
-use Rattle.ranges.proofs.{Names.{same_Some, is_named, ObjectPage, Object, Place, Home, Frame, Slot, CacheTable, cache_frames, slot_count, IsInside, Core, KeepsBesidePlaces, Picture, picture_of}, forgetting.forget_nodes.Goals.{in-Some}}
-use Rattle.ranges.{proofs.forgetting.forget_nodes.Goals.{in_default}, specs.Rows.{ForgetsMore, node_of, without_maps}}
+use Rattle.ranges.proofs.{Emptied.{pages_inside}, LastName.{more_last, gone_none, gone_named, gone_forgot, forgets_all}, Names.{◌≡◌, ℕ, ◌+◌, ◌<◌, inl, inr, true, Some, None, sym, ap, ◌∙◌, subst, arith, rules}}
+use Rattle.ranges.proofs.{Names.{same_Some, is_named, ObjectPage, Object, Place, Home, Frame, Slot, CacheTable, cache_frames, slot_count, IsInside, Core, Picture, picture_of}, forgetting.forget_nodes.Goals.{in-Some}}
+use Rattle.ranges.{proofs.forgetting.forget_nodes.Goals.{in_default}, specs.Rows.{node_of, without_maps}}
 use Rattle.ranges.proofs.forgetting.forget_nodes.Goals as goal
 
 -- a node of a place is one of the nodes
@@ -24,27 +24,23 @@ loop-node-preserved g c =
       })
       | in-Some w ↦ (
           let new = w.forget_last.new.core in
-          elim w.forget_last.ensures.last [
-            | inl same ↦ (
-                let Q : Core _ _ g.row.M.Denot g.M.Levels → Type 0 = λ x. (p : ObjectPage) (m : ℕ) → node_of (cache_frames x.cache) ((picture_of x).place (Object p)) ≡ Some m → m < c.loop-node.node + 1
-                → is_named (without_maps a.at c.args.pid c.args.first c.args.pages) p.object p.page ≡ true in
-                rw w.core-is (record {
-                  fit = w.forget_last.ensures.fit;
-                  more = subst (λ (x : Core _ _ g.row.M.Denot g.M.Levels). ForgetsMore a (picture_of x) c.args.pid c.args.first c.args.pages) (sym same.0) k.more;
-                  gone = subst Q (sym same.0) (gone_named a b c.args.pid c.args.first c.args.pages frames c.loop-node.node k.more k.gone c.object_at.result c.object_at.ensures.found w.in-Some.page w.in-Some.is same.1);
-                  rest = subst (λ (x : Core _ _ g.row.M.Denot g.M.Levels). KeepsBesidePlaces c.args.core.now x) (sym same.0) k.rest;
-                }))
-            | inr gone ↦ (
-                let count : cache_frames new.cache ≡ frames = new.node_count ∙ gone.0.frames ∙ sym c.loop-node.core.node_count in
-                let Q : ℕ → Type 0 = λ x. (p : ObjectPage) (m : ℕ) → node_of x ((picture_of new).place (Object p)) ≡ Some m → m < c.loop-node.node + 1
-                → is_named (without_maps a.at c.args.pid c.args.first c.args.pages) p.object p.page ≡ true in
-                rw w.core-is (record {
-                  fit = w.forget_last.ensures.fit;
-                  more = more_then a b (picture_of new) c.args.pid c.args.first c.args.pages w.in-Some.page k.fit k.more gone.0 (sym (same_without a b c.args.pid c.args.first c.args.pages w.in-Some.page k.more) ∙ gone.2);
-                  gone = subst Q (sym count) (gone_forgot a b c.args.pid c.args.first c.args.pages frames c.loop-node.node k.more k.gone c.object_at.result c.object_at.ensures.found (picture_of new) w.in-Some.page w.in-Some.is gone.0);
-                  rest = rest_then c.args.core.now c.loop-node.core new k.rest gone.1;
-                }))
-          ])
+          let on = more_last c.args.core.now c.loop-node.core new c.args.pid c.args.first c.args.pages w.in-Some.page k.fit k.more k.rest w.forget_last.ensures.last in
+          rw w.core-is (record {
+            fit = w.forget_last.ensures.fit;
+            more = on.0;
+            gone = elim w.forget_last.ensures.last [
+              | inl same ↦ (
+                  let Q : Core _ _ g.row.M.Denot g.M.Levels → Type 0 = λ x. (p : ObjectPage) (m : ℕ) → node_of (cache_frames x.cache) ((picture_of x).place (Object p)) ≡ Some m → m < c.loop-node.node + 1
+                  → is_named (without_maps a.at c.args.pid c.args.first c.args.pages) p.object p.page ≡ true in
+                  subst Q (sym same.0) (gone_named a b c.args.pid c.args.first c.args.pages frames c.loop-node.node k.more k.gone c.object_at.result c.object_at.ensures.found w.in-Some.page w.in-Some.is same.1))
+              | inr gone ↦ (
+                  let count : cache_frames new.cache ≡ frames = new.node_count ∙ gone.0.frames ∙ sym c.loop-node.core.node_count in
+                  let Q : ℕ → Type 0 = λ x. (p : ObjectPage) (m : ℕ) → node_of x ((picture_of new).place (Object p)) ≡ Some m → m < c.loop-node.node + 1
+                  → is_named (without_maps a.at c.args.pid c.args.first c.args.pages) p.object p.page ≡ true in
+                  subst Q (sym count) (gone_forgot a b c.args.pid c.args.first c.args.pages frames c.loop-node.node k.more k.gone c.object_at.result c.object_at.ensures.found (picture_of new) w.in-Some.page w.in-Some.is gone.0))
+            ];
+            rest = on.1;
+          }))
     ]
 
 pub returns : goal.returns
@@ -52,14 +48,11 @@ returns g c =
     let k = c.loop-node.invariant in
     let t = c.args.core.now.cache in
     let count : cache_frames c.loop-node.core.cache ≡ cache_frames t = c.loop-node.core.node_count ∙ k.more.frames ∙ sym c.args.core.now.node_count in
-    record {
-      forgets = forgets_all (picture_of c.args.core.now) (picture_of c.loop-node.core) c.args.pid c.args.first c.args.pages (cache_frames t) (cache_frames t + slot_count t) c.requires.row.fit k.more
-          (λ p m at. node_inside t ((picture_of c.args.core.now).place (Object p)) m (c.frames.ensures.sound.inside (Object p)) at)
-          (λ p m at below. k.gone p m (ap (λ x. node_of x ((picture_of c.loop-node.core).place (Object p))) count ∙ at)
-          (let frames = c.frames.ensures.count in let slots = c.slots.ensures in let end = c.loop-node-test.false in omega (arith, below, frames, slots, end)));
-      fit = c.loop-node.invariant.fit;
-      rest = c.loop-node.invariant.rest;
-    }
+    let forgets = forgets_all (picture_of c.args.core.now) (picture_of c.loop-node.core) c.args.pid c.args.first c.args.pages (cache_frames t) (cache_frames t + slot_count t) c.requires.row.fit k.more
+    (λ p m at. node_inside t ((picture_of c.args.core.now).place (Object p)) m (c.frames.ensures.sound.inside (Object p)) at)
+    (λ p m at below. k.gone p m (ap (λ x. node_of x ((picture_of c.loop-node.core).place (Object p))) count ∙ at)
+    (let frames = c.frames.ensures.count in let slots = c.slots.ensures in let end = c.loop-node-test.false in omega (arith, below, frames, slots, end))) in
+    search rules
 
 pub forget_last-requires-clause-bare : goal.forget_last-requires-clause-bare
 forget_last-requires-clause-bare g c =

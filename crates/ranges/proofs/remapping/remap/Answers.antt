@@ -9,17 +9,7 @@ returns g c =
     let bare = none_left_forgot first c.clear_row.new.core c.forget_row.new.core c.args.pid c.args.first c.args.pages c.clear_row.ensures c.forget_row.ensures in
     let done = row_remapped (picture_of first) (picture_of c.forget_row.new.core) new c.args.pid c.args.first c.args.pages (attr_at c.args.regions.now) forgot c.remap.ensures.remaps c.remap.ensures.at c.requires.others
     bare c.requires.user c.requires.readable c.requires.objects in
-    record {
-      row = done.row;
-      others = done.others;
-      files = done.files;
-      tables = returned_any (picture_of first) new c.args.pid c.args.first (c.args.first + c.args.pages) done.returned;
-      row_tables = done.returned;
-      slots = done.slots;
-      fit = done.fit;
-      frames = ap frame_count c.remap.ensures.rest.frames
-          ∙ frames_forgot first c.clear_row.new.core c.forget_row.new.core c.args.pid c.args.first c.args.pages c.clear_row.ensures c.forget_row.ensures;
-      devices = search rules;
-      roots = search rules;
-      refused = search rules;
-    }
+    let tables = returned_any (picture_of first) new c.args.pid c.args.first (c.args.first + c.args.pages) done.returned in
+    let frames = ap frame_count c.remap.ensures.rest.frames
+    ∙ frames_forgot first c.clear_row.new.core c.forget_row.new.core c.args.pid c.args.first c.args.pages c.clear_row.ensures c.forget_row.ensures in
+    search rules

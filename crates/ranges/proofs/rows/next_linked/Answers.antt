@@ -1,4 +1,4 @@
-use Rattle.ranges.proofs.{Gaps.{no_whole, no_entry, one_some}, Names.{top_level, ℕ, ◌/◌, inl, inr, refl, sym, ap, ◌∙◌, subst, arith, cases_lt, min, IsTableOf, Picture, picture_of}}
+use Rattle.ranges.proofs.{Gaps.{no_whole, no_entry}, Names.{same_Some, top_level, ℕ, ◌/◌, inl, inr, refl, sym, ap, ◌∙◌, subst, arith, cases_lt, min, IsTableOf, Picture, picture_of}}
 use Rattle.ranges.proofs.rows.next_linked.Goals as goal
 
 pub linked_table-requires-clause-root : goal.linked_table-requires-clause-root
@@ -32,7 +32,7 @@ returns-in-Ok g c =
           high = omega (arith, c.min-end.ensures, c.requires.row.high);
           one_table = omega (arith, c.min-end.ensures, c.table_end.ensures);
           table = λ r' root. subst (λ (x : ℕ). IsTableOf old.frames (top_level g.M.Levels.mode) x (first / 512) c.in-Ok.table.0)
-              (one_some r r' (sym c.root_of-root.ensures ∙ root)) c.in-Ok.ensures.linked;
+              (same_Some r r' (sym c.root_of-root.ensures ∙ root)) c.in-Ok.ensures.linked;
         };
         of = refl;
         ends = c.min-end.ensures ∙ ap (min c.args.end) c.table_end.ensures;

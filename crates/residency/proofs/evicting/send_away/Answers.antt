@@ -1,5 +1,5 @@
 use Rattle.residency.proofs.Names.{sizes, user_pages_fit, ◌≡◌, ◌≢◌, ℕ, inl, inr, Some, refl, sym, ap, ◌∙◌, subst, arith, rules, Private, Cache, bytes_of, PageKey, SlotTable, slots_of, IsInUse, Frame, Slot, place_of, is_touched}
-use Rattle.residency.{specs.{Seats.{InSlot}, Picture.{Picture, picture_of, entry, held, bytes_at}}, proofs.{Asking.{asks_put, one_put}, Leaving.{leaves_frame, fit_slot, left_spares, unnamed_of}, Puts.{fit_put}}}
+use Rattle.residency.{specs.{Calls.{NeedsSlot}, Evictions.{GivesUp}, Seats.{InSlot}, Picture.{Picture, picture_of, entry, held, bytes_at}}, proofs.{Asking.{asks_put, one_put}, Leaving.{leaves_frame, fit_slot, left_spares, unnamed_of}, Puts.{fit_put}}}
 use Rattle.residency.proofs.{Putting.{put_spares, fit_unput, with_slots, kept_by, owned_by}, Sparing.{forgotten_spares, spares_then, past_unused}}
 use Rattle.residency.proofs.evicting.send_away.Goals as goal
 
@@ -33,20 +33,11 @@ returns-in-Ok g c =
     let second = put_spares mid put fit (with_slots mid t) (λ j used. (kept_by mid.slots t k _ puts j used).0) v k puts.others.total puts_counts in
     let third = left_spares put new page v (Slot (record { 0 = k })) (InSlot k) 1 filled leaves clear k (inl (held_there put new page v k was c.set_place.ensures.placed (puts.holds ∙ c.bytes.ensures))) in
     let unused : IsInUse old.slots k → ⊥ = λ used. (let P : SlotTable → Type 0 = λ s. IsInUse s k in let there = subst P (sym ch.beside.slots) used in let none = puts.was_free in omega (arith, there, none)) in
-    record {
-      free = free;
-      fit = fit_slot put new page v k filled (owned_by mid t k _ fit puts) puts.counted leaves (ch.beside.touched page ∙ c.requires.touched) clear;
-      gives = (k, unused, spares_then v k old put new (spares_then v k old mid put first second) third);
-      plain = search rules;
-      asked = inr (inr (page, c.requires.placed, c.requires.touched));
-      swap = search rules;
-      asks = asks_put g.E.SectorDisk c.args.core.now.swap c.forget_leaves.new.core.swap c.put.new.self c.put.new.self c.forget_leaves.ensures.beside.swap refl c.put.ensures.asks_free;
-      one = one_put g.E.SectorDisk c.args.core.now.swap c.forget_leaves.new.core.swap c.put.new.self c.put.new.self k c.forget_leaves.ensures.beside.swap refl c.in-Ok.ensures.asks;
-      device = search rules;
-      still = tt;
-      fault = tt;
-      cause = search rules;
-    }
+    let gives : GivesUp v old new = (k, unused, spares_then v k old put new (spares_then v k old mid put first second) third) in
+    let asked : NeedsSlot old v = inr (page, c.requires.placed, c.requires.touched) in
+    let asks = asks_put g.E.SectorDisk c.args.core.now.swap c.forget_leaves.new.core.swap c.put.new.self c.put.new.self c.forget_leaves.ensures.beside.swap refl c.put.ensures.asks_free in
+    let one = one_put g.E.SectorDisk c.args.core.now.swap c.forget_leaves.new.core.swap c.put.new.self c.put.new.self k c.forget_leaves.ensures.beside.swap refl c.in-Ok.ensures.asks in
+    search (rules, inr, free, gives, asked, asks, one, fit_slot put new page v k filled (owned_by mid t k _ fit puts) puts.counted leaves (ch.beside.touched page ∙ c.requires.touched) clear)
 
 pub returns-in-Err-Device : goal.returns-in-Err-Device
 returns-in-Err-Device g c =
@@ -57,25 +48,15 @@ returns-in-Err-Device g c =
     let v = c.args.victim.0 in
     let k = old.slots.total in
     let same = c.in-Err-Device.ensures.same in
-    record {
-      free = tt;
-      fit = fit_unput mid (record mid { slots = t }) c.forget_leaves.ensures.fit (with_slots mid t) c.in-Err-Device.ensures.same;
-      gives = (
-        k,
-        past_unused c.args.core.now.swap,
-        spares_then v k old mid put (forgotten_spares v k old mid c.requires.goes.fit (c.requires.goes.fit.places.cached c.args.page v c.requires.placed) c.forget_leaves.ensures.changes)
-            (put_spares mid put c.forget_leaves.ensures.fit (with_slots mid t) (λ j used. same.bytes j used) v k same.total (λ j ne used. same.counts j)),
-      );
-      plain = search rules;
-      asked = inr (inr (c.args.page, c.requires.placed, c.requires.touched));
-      swap = search rules;
-      asks = asks_put g.E.SectorDisk c.args.core.now.swap c.forget_leaves.new.core.swap c.put.new.self c.put.new.self c.forget_leaves.ensures.beside.swap refl c.put.ensures.asks_free;
-      one = tt;
-      device = search rules;
-      still = λ n. c.forget_leaves.ensures.changes.roles n;
-      fault = search rules;
-      cause = search rules;
-    }
+    let gives : GivesUp v old put = (
+      k,
+      past_unused c.args.core.now.swap,
+      spares_then v k old mid put (forgotten_spares v k old mid c.requires.goes.fit (c.requires.goes.fit.places.cached c.args.page v c.requires.placed) c.forget_leaves.ensures.changes)
+          (put_spares mid put c.forget_leaves.ensures.fit (with_slots mid t) (λ j used. same.bytes j used) v k same.total (λ j ne used. same.counts j)),
+    ) in
+    let asked : NeedsSlot old v = inr (c.args.page, c.requires.placed, c.requires.touched) in
+    let asks = asks_put g.E.SectorDisk c.args.core.now.swap c.forget_leaves.new.core.swap c.put.new.self c.put.new.self c.forget_leaves.ensures.beside.swap refl c.put.ensures.asks_free in
+    search (rules, inr, gives, asked, asks, c.forget_leaves.ensures.changes.roles, fit_unput mid put c.forget_leaves.ensures.fit (with_slots mid t) c.in-Err-Device.ensures.same)
 
 pub set_place-requires-clause-free : goal.set_place-requires-clause-free
 set_place-requires-clause-free g c = λ p ne at.

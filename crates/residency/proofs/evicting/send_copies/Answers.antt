@@ -1,5 +1,5 @@
 use Rattle.residency.proofs.{Asking.{asks_put, one_put}, Names.{inl, inr, refl, ◌∙◌, subst, arith, rules, Role, IsCountFor, count_of, slots_of}, Puts.{fit_put, put_noted}, Putting.{put_spares, fit_unput, with_slots, kept_by, owned_by}}
-use Rattle.residency.{proofs.Sparing.{spares_then, past_unused}, specs.{Picture.{Picture, picture_of}, Seats.{InFrame}}}
+use Rattle.residency.{proofs.Sparing.{spares_then, past_unused}, specs.{Evictions.{GivesUp}, Picture.{Picture, picture_of}, Seats.{InFrame}}}
 use Rattle.residency.proofs.evicting.send_copies.Goals as goal
 
 pub hand_over-requires : goal.hand_over-requires
@@ -39,24 +39,14 @@ returns-in-Ok g c =
     let k = c.in-Ok.slot.0 in
     let v = c.args.victim.0 in
     let puts = c.in-Ok.ensures.puts in
-    record {
-      free = c.hand_over.ensures.free;
-      fit = c.hand_over.ensures.fit;
-      gives = (
-        k,
-        (λ used. (let none = puts.was_free in omega (arith, used, none))),
-        spares_then v k old put new (put_spares old put c.requires.goes.fit (with_slots old t) (λ j used. (kept_by old.slots t k _ puts j used).0) v k puts.others.total (λ j ne used. (kept_by old.slots t k _ puts j used).1)) c.hand_over.ensures.spares,
-      );
-      plain = search rules;
-      asked = inr (inl c.requires.role);
-      swap = search rules;
-      asks = asks_put g.E.SectorDisk c.args.core.now.swap c.args.core.now.swap c.put.new.self c.hand_over.new.core.swap refl c.hand_over.ensures.pages c.put.ensures.asks_free;
-      one = one_put g.E.SectorDisk c.args.core.now.swap c.args.core.now.swap c.put.new.self c.hand_over.new.core.swap c.in-Ok.slot.0 refl c.hand_over.ensures.pages c.in-Ok.ensures.asks;
-      device = search rules;
-      still = tt;
-      fault = tt;
-      cause = search rules;
-    }
+    let gives : GivesUp v old new = (
+      k,
+      (λ used. (let none = puts.was_free in omega (arith, used, none))),
+      spares_then v k old put new (put_spares old put c.requires.goes.fit (with_slots old t) (λ j used. (kept_by old.slots t k _ puts j used).0) v k puts.others.total (λ j ne used. (kept_by old.slots t k _ puts j used).1)) c.hand_over.ensures.spares,
+    ) in
+    let asks = asks_put g.E.SectorDisk c.args.core.now.swap c.args.core.now.swap c.put.new.self c.hand_over.new.core.swap refl c.hand_over.ensures.pages c.put.ensures.asks_free in
+    let one = one_put g.E.SectorDisk c.args.core.now.swap c.args.core.now.swap c.put.new.self c.hand_over.new.core.swap c.in-Ok.slot.0 refl c.hand_over.ensures.pages c.in-Ok.ensures.asks in
+    search (rules, inl, inr, gives, asks, one)
 
 pub returns-in-Err-Device : goal.returns-in-Err-Device
 returns-in-Err-Device g c =
@@ -64,21 +54,9 @@ returns-in-Err-Device g c =
     let t = slots_of c.put.new.self in
     let v = c.args.victim.0 in
     let same = c.in-Err-Device.ensures.same in
-    record {
-      free = tt;
-      fit = fit_unput old (record old { slots = t }) c.requires.goes.fit (with_slots old t) c.in-Err-Device.ensures.same;
-      gives = (
-        old.slots.total,
-        past_unused c.args.core.now.swap,
-        put_spares old (record old { slots = t }) c.requires.goes.fit (with_slots old t) (λ j used. same.bytes j used) v old.slots.total same.total (λ j ne used. same.counts j),
-      );
-      plain = record { store = refl; roots = refl; regions = refl; clock = refl; refused = refl; looks = refl };
-      asked = inr (inl c.requires.role);
-      swap = search rules;
-      asks = c.put.ensures.asks_free;
-      one = tt;
-      device = search rules;
-      still = λ n. refl;
-      fault = refl;
-      cause = search rules;
-    }
+    let gives : GivesUp v old (record old { slots = t }) = (
+      old.slots.total,
+      past_unused c.args.core.now.swap,
+      put_spares old (record old { slots = t }) c.requires.goes.fit (with_slots old t) (λ j used. same.bytes j used) v old.slots.total same.total (λ j ne used. same.counts j),
+    ) in
+    search (rules, inl, inr, gives, c.put.ensures.asks_free, fit_unput old (record old { slots = t }) c.requires.goes.fit (with_slots old t) c.in-Err-Device.ensures.same)

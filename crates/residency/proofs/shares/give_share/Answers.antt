@@ -10,8 +10,7 @@ set-requires-clause-whole g c = seat_whole (picture_of c.args.core.now) c.args.p
 
 pub release-requires : goal.release-requires
 release-requires g c =
-    let role : role_of c.args.core.now.frames c.args.frame.0 ≡ Private =
-    c.requires.share.fit.counted.1.named c.args.process.pid c.args.page (InFrame c.args.frame.0) (omega (arith, c.requires.has.user, user_pages_fit g.M.Levels.mode)) c.requires.has.from in
+    let role = c.requires.share.fit.counted.1.named c.args.process.pid c.args.page (InFrame c.args.frame.0) (omega (arith, c.requires.has.user, user_pages_fit g.M.Levels.mode)) c.requires.has.from in
     let same : role_of c.set.new.memory c.args.frame.0 ≡ Private = ap (λ rs. get_or rs c.args.frame.0 Free) c.set.ensures.sets.kept.roles ∙ role in
     let inside = inside_of c.args.core.now.frames c.args.frame.0 c.args.core.now.sound (ap is_data role) in
     record { inside = (let frames = c.set.ensures.sets.kept.frames in rw frames inside); handed_out = rw same refl }
@@ -24,15 +23,4 @@ returns g c =
     let low : c.args.slot.0 < 2 ^ 32 = search rules in
     let given = all_given old mid new c.args.slot.0 c.args.process.pid c.args.process.root.0 c.args.page c.args.frame.0 (c.args.slot.0 * 1024 + 2) c.requires.share c.requires.has.lives (omega (arith, c.requires.has.user, user_pages_fit g.M.Levels.mode)) c.requires.has.from
     (away_number c.args.slot.0 low) c.set.ensures.sets (same_beside old c.set.new.memory) c.release.ensures.change (same_beside mid c.release.new.self) c.requires.same in
-    record {
-      moved = given.2;
-      fit = given.0;
-      lowered = search rules;
-      freed = search rules;
-      kept = given.4;
-      spares = given.1;
-      others = given.3;
-      plain = record { store = refl; roots = refl; regions = refl; clock = refl; refused = refl; looks = refl };
-      swap = refl;
-      noted = refl;
-    }
+    search (rules, given.0, given.1, given.2, given.3, given.4)

@@ -1,32 +1,18 @@
+use Rattle.{trace_lang.proofs.{Reading.{missed, reads}, Nothing.{none≢some}}, vm_types.specs.declared.command.Command.TheVariants.{Load}, std.proofs.Common.{[], ◌∷◌, refl}}
 use Rattle.trace_lang.specs.declared.names.Name.TheVariants as name
-use Rattle.trace_lang.{specs.Grammar.{IsWidth}, proofs.{FirstWord.{front_words, number_word, steps, begins_with, whole_word}, OneCommand.{unread, stands}, Nothing.{none≢some}}}
-use Rattle.std.proofs.Common.{ℕ, List, [], ◌∷◌, codes, drop, refl, sym, ◌∙◌, ap, subst}
 use Rattle.trace_lang.proofs.forms.load_in.Goals as goal
 
 pub returns-in_err-pid : goal.returns-in_err-pid
-returns-in_err-pid c = unread name.Load _ _ c.from_residual.ensures refl (λ pid addr width h.
-    absurd (c.in_err-pid.ensures.none pid _ (begins_with _ h.0 _ _ pid (ap (λ ws. drop 1 ws) h.3) h.4)))
+returns-in_err-pid c = missed name.Load [] _ _ _ c.from_residual.ensures refl (λ pid addr width. c.in_err-pid.ensures.none pid)
 
 pub returns-in_err-addr : goal.returns-in_err-addr
-returns-in_err-addr c = unread name.Load _ _ c.from_residual-in_err-addr.ensures refl (λ pid addr width h.
-    let s = steps (_ ∷ []) _ _ (_, c.in_ok-pid.ensures.found, refl) (h.0 ∷ []) _ (pid ∷ []) refl (ap (λ ws. drop 1 ws) h.3) (h.4, tt) in
-    absurd (c.in_err-addr.ensures.none addr _ (begins_with _ h.1 _ _ addr s.1 h.5)))
+returns-in_err-addr c =
+    missed name.Load (_ ∷ []) _ _ _ c.from_residual-in_err-addr.ensures (_, c.in_ok-pid.ensures.found, refl) (λ pid addr width e. c.in_err-addr.ensures.none addr)
 
 pub returns-in_err-width : goal.returns-in_err-width
-returns-in_err-width c = unread name.Load _ _ c.from_residual-in_err-width.ensures refl (λ pid addr width h.
-    let s = steps (_ ∷ _ ∷ []) _ _ (_, c.in_ok-pid.ensures.found, (_, c.in_ok-addr.ensures.found, refl)) (h.0 ∷ h.1 ∷ []) _ (pid ∷ addr ∷ []) refl (ap (λ ws. drop 1 ws) h.3) (h.4, (h.5, tt)) in
-    let P : List ℕ → Type 0 = λ t. IsWidth t width in
-    absurd (none≢some (c.in_err-width.ensures.only width (subst P (sym (whole_word _ h.2 s.1)) h.6))))
+returns-in_err-width c = missed name.Load (_ ∷ _ ∷ []) _ _ _ c.from_residual-in_err-width.ensures (_, c.in_ok-pid.ensures.found, (_, c.in_ok-addr.ensures.found, refl))
+    (λ pid addr width e f x. none≢some (c.in_err-width.ensures.only width x))
 
 pub returns : goal.returns
-returns c =
-    let p = c.in_ok-pid.ensures.found in
-    let a = c.in_ok-addr.ensures.found in
-    let x = c.in_ok-width.ensures.found in
-    let words = front_words _ _ _ p ∙ ap (λ t. p.0 ∷ t) (front_words _ _ _ a ∙ ap (λ t. a.0 ∷ t) (number_word _ _ x)) in
-    stands name.Load _ _ refl (p.0, a.0, _, ap (λ t. codes "load" ∷ t) words, p.2, a.2, x) (λ pid addr width h.
-    let s = steps (_ ∷ _ ∷ []) _ _ (_, p, (_, a, refl)) (h.0 ∷ h.1 ∷ []) _ (pid ∷ addr ∷ []) refl (ap (λ ws. drop 1 ws) h.3) (h.4, (h.5, tt)) in
-    let P : List ℕ → Type 0 = λ t. IsWidth t width in
-    let last = c.in_ok-width.ensures.only width (subst P (sym (whole_word _ h.2 s.1)) h.6) in
-    let fronts = s.0 in
-    cc)
+returns c = reads (Load _ _ _) _ _ (_, c.in_ok-pid.ensures.found, (_, c.in_ok-addr.ensures.found, refl)) c.in_ok-width.ensures.found
+    (λ pid addr width e f x. let last = c.in_ok-width.ensures.only width x in cc)

@@ -1,5 +1,5 @@
 use Rattle.{std.proofs.{Common.{◌≡◌, ℕ, List, ◌⊎◌, inl, inr, sym, subst}, lemmas.Bool.{false≢true}}, vm_types.specs.{Width.{byte_count}, declared.width.Width.{Width, TheVariants.{One, Two, Four, Eight}}}}
-use Rattle.trace_lang.{proofs.FirstWord.{front_words, step}, specs.Words.{BeginsWith}}
+use Rattle.trace_lang.{proofs.FirstWord.{one_front}, specs.Words.{BeginsWith}}
 use Rattle.trace_lang.proofs.fronts.front_width.Goals as goal
 
 no_width : (w : Width) (bytes : ℕ) → ((bytes ≡ 1) ⊎ (bytes ≡ 2) ⊎ (bytes ≡ 4) ⊎ (bytes ≡ 8) → ⊥) → bytes ≡ byte_count w → ⊥
@@ -17,7 +17,7 @@ pub returns-in_err-width-clause-none : goal.returns-in_err-width-clause-none
 returns-in_err-width-clause-none c =
     let text = c.args.text.now in
     let none : (width : Width) (rest : List ℕ) → BeginsWith (byte_count width) rest text → ⊥ = λ width rest h.
-    no_width width _ (λ some. false≢true (c.in_err-width.ensures.known.1 some)) (step _ _ text c.in_ok-bytes.ensures.found h.0 _ _ (front_words _ rest text h) h.2).0 in
+    no_width width _ (λ some. false≢true (c.in_err-width.ensures.known.1 some)) (one_front _ _ text c.in_ok-bytes.ensures.found _ rest h).0 in
     rw c.from_residual-in_err-width.ensures none
 
 pub returns-clause-found : goal.returns-clause-found

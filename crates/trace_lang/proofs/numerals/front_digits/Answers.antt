@@ -10,20 +10,18 @@ overflow_mul-value c =
 
 pub overflow_add-value : goal.overflow_add-value
 overflow_add-value c =
-    let P : ℕ → Type 0 = λ x. x < c.args.radix.base in
     let inside : c.loop-at.at < c.args.radix.most = omega arith in
     let fits = next_fits c.args.radix.base c.args.radix.most c.loop-at.at c.loop-at.value c.in-Some.digit c.args.radix.low c.args.radix.room inside c.loop-at.invariant.small
-    (subst P (sym c.in-Some.ensures.1) c.in-Some.ensures.0) in
+    (subst (λ (x : ℕ). x < c.args.radix.base) (sym c.in-Some.ensures.1) c.in-Some.ensures.0) in
     omega (arith, fits)
 
 pub loop-at-preserved : goal.loop-at-preserved
 loop-at-preserved c =
     let i = c.loop-at.at in
     let inside : i < length c.args.text.now = omega arith in
-    let P : ℕ → Type 0 = λ x. x < c.args.radix.base in
     let digit = c.in-Some.ensures in
     record {
       digits = digits_more c.args.radix.base c.args.text.now i inside c.loop-at.invariant.digits digit.0;
       value = next_value c.args.radix.base c.args.text.now i c.loop-at.value _ c.in-Some.digit _ inside c.loop-at.invariant.value refl digit.1 refl;
-      small = next_small c.args.radix.base i c.loop-at.value _ c.loop-at.invariant.small (subst P (sym digit.1) digit.0);
+      small = next_small c.args.radix.base i c.loop-at.value _ c.loop-at.invariant.small (subst (λ (x : ℕ). x < c.args.radix.base) (sym digit.1) digit.0);
     }

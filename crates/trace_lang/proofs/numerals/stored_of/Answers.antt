@@ -10,9 +10,8 @@ same_fits w v f g = let prop : IsProp (v < 2 ^ (8 * byte_count w)) = hlevel prop
 
 same_stored : (a b : StoredValue) → a.width ≡ b.width → a.value ≡ b.value → a ≡ b
 same_stored a b ew ev =
-    let P : Width → Type 0 = λ w. (f : a.value < 2 ^ (8 * byte_count w)) → a ≡ made w a.value f in
     let Q : ℕ → Type 0 = λ v. (f : v < 2 ^ (8 * byte_count b.width)) → a ≡ made b.width v f in
-    subst Q ev (subst P ew (λ f. same_fits a.width a.value a.fits f)) b.fits
+    subst Q ev (subst (λ (w : Width). (f : a.value < 2 ^ (8 * byte_count w)) → a ≡ made w a.value f) ew (λ f. same_fits a.width a.value a.fits f)) b.fits
 
 only_stored : (r : Option StoredValue) (width : Width) (value : ℕ) (stored : StoredValue) → IfSome r (λ s. (s.width ≡ width) × (s.value ≡ value))
     → IsSome r → stored.width ≡ width → stored.value ≡ value → r ≡ Some stored
@@ -28,5 +27,4 @@ same_value a b e = cc
 pub returns-clause-only : goal.returns-clause-only
 returns-clause-only c = λ stored w h f.
     let e = same_value _ _ (c.in_ok-value.ensures.only stored.value h) in
-    let P : ℕ → Type 0 = λ v. v < 2 ^ (8 * byte_count c.args.width) in
-    only_stored _ _ _ stored c.new.ensures.found (c.new.ensures.fits.1 (subst P e f)) w e
+    only_stored _ _ _ stored c.new.ensures.found (c.new.ensures.fits.1 (subst (λ (v : ℕ). v < 2 ^ (8 * byte_count c.args.width)) e f)) w e

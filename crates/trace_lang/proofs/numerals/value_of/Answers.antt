@@ -15,11 +15,10 @@ pub loop-byte-preserved : goal.loop-byte-preserved
 loop-byte-preserved c =
     let i = c.loop-byte.byte-index in
     let a = c.in_ok-value.ensures in
-    let P : ℕ → Type 0 = λ x. x < 2 ^ 64 in
     record {
       digits = digits_more c.args.radix.base c.args.digits.now i c.loop-byte-test.true c.loop-byte.invariant.digits c.in_ok-digit.ensures.0;
       value = next_value c.args.radix.base c.args.digits.now i c.loop-byte.value _ _ _ c.loop-byte-test.true c.loop-byte.invariant.value refl c.in_ok-digit.ensures.1 a.1;
-      fits = subst P (sym a.1) a.0;
+      fits = subst (λ (x : ℕ). x < 2 ^ 64) (sym a.1) a.0;
     }
 
 pub returns : goal.returns

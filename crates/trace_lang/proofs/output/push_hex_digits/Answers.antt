@@ -16,7 +16,6 @@ loop-place-preserved c =
     let low : rest % 256 % 16 ≡ rest % 16 = omega arith in
     let high : rest % 256 / 16 ≡ rest / 16 % 16 = omega arith in
     let P : ℕ → Type 0 = λ p. hex_digits (p - at) rest ++ drop p (take end out) ≡ whole in
-    let Q : List ℕ → Type 0 = λ o. hex_digits (last - at) (rest / 256) ++ drop last (take end o) ≡ whole in
     let written = set (set out (last + 1) (digit_glyph false (rest % 256 % 16))) last (digit_glyph false (rest % 256 / 16)) in
     let K : List ℕ → Type 0 = λ o. take at o ≡ take at c.args.out.now in
     record {
@@ -24,7 +23,7 @@ loop-place-preserved c =
       high = omega (arith, c.loop-place.invariant.high);
       room = c.write_pair.array_long;
       kept = subst K (sym c.write_pair.ensures) (take-set-le at _ last _ (omega arith) ∙ take-set-le at out (last + 1) _ (omega arith) ∙ c.loop-place.invariant.kept);
-      written = subst Q (sym c.write_pair.ensures)
+      written = subst (λ (o : List ℕ). hex_digits (last - at) (rest / 256) ++ drop last (take end o) ≡ whole) (sym c.write_pair.ensures)
           (ap (λ q. hex_digits (last - at) q ++ drop last (take end written)) two
           ∙ next_pair out at last end rest _ _ whole (omega arith) (omega (arith, c.loop-place.invariant.high)) (omega (arith, c.loop-place.invariant.room, c.requires))
           (ap (λ d. digit_glyph false d) low) (ap (λ d. digit_glyph false d) high) (subst P place c.loop-place.invariant.written));

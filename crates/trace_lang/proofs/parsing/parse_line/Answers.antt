@@ -13,8 +13,7 @@ none_ok P (Err e) only = λ x h. let same = only x h in cc
 pub returns-clause-found : goal.returns-clause-found
 returns-clause-found c =
     let line = c.args.line.now in
-    let P : Result Command _ → Type 0 = λ r. IfOk r (λ command. IsCommand line command) in
-    subst P (sym c.ok_or.ensures.value)
+    subst (λ (r : Result Command _). IfOk r (λ command. IsCommand line command)) (sym c.ok_or.ensures.value)
     (found_ok _ (λ command. IsCommand line command) c.command_in.result _ (λ command form. command_of_words line (words_of line) command (omega arith) refl form) c.command_in.ensures.found)
 
 pub returns-clause-only : goal.returns-clause-only

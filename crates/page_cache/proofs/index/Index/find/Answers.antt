@@ -1,12 +1,11 @@
-use Rattle.std.proofs.{Common.{◌≡◌, ◌+◌, ◌<◌, length, get_or, sym, ap, ◌∙◌, None, inl, inr, refl, arith, below_more}, lemmas.List.{get_or_read}}
+use Rattle.std.proofs.{Common.{◌+◌, ◌<◌, length, get_or, sym, ap, ◌∙◌, None, inl, inr, refl, arith, below_more}, lemmas.List.{get_or_read}}
 use Rattle.page_cache.{specs.{Nodes.{holds}, Chains.{bucket_of, IsNext}}, proofs.{NodeLemmas.{first_node-found, first_node-none, holds-true}, ChainLemmas.{passed-none}}}
 use Rattle.page_cache.proofs.index.Index.find.Goals as goal
 
 pub loop-node-init : goal.loop-node-init
 loop-node-init c =
     let index = c.args.self.now in
-    let read : c.index.result.now ≡ get_or index.links.items (bucket_of index.mask c.args.page) 0 =
-    get_or_read index.links.items c.bucket_of.result c.index.result.now (omega (arith, c.requires.count)) c.index.ensures 0
+    let read = get_or_read index.links.items c.bucket_of.result c.index.result.now (omega (arith, c.requires.count)) c.index.ensures 0
     ∙ ap (λ k. get_or index.links.items k 0) c.bucket_of.ensures.bucket in
     let next : IsNext index.pages.items index.mask (bucket_of index.mask c.args.page) 0 c.index.result.now =
     rw read (c.requires.link (bucket_of index.mask c.args.page) 0 (bucket_of index.mask c.args.page) (omega (arith, c.bucket_of.ensures.bucket)) (inl (refl, refl))) in

@@ -1,4 +1,4 @@
-use Rattle.std.proofs.{Common.{◌≡◌, ℕ, ◌+◌, ◌-◌, ◌<◌, ◌≤◌, true, false, List, length, take, set, get_or, sym, ◌∙◌, ap, subst, arith, add-one, length-set}, lemmas.List.{length-take-le}}
+use Rattle.std.proofs.{Common.{◌≡◌, ℕ, ◌-◌, ◌<◌, ◌≤◌, true, false, List, length, take, set, get_or, sym, ◌∙◌, ap, subst, arith, add-one, length-set}, lemmas.List.{length-take-le}}
 use Rattle.regions.{specs.{declared.run.Run.{Run}, Run.{merged}, RunList.{end_of, IsMaximal, joins_last, pushed}}, proofs.{ListLemmas.{maximal-pushed}, PushLemmas.{added_at, merged_last, length_added, some_last, unused}}}
 use Rattle.regions.proofs.table.Regions.push.Goals as goal
 
@@ -8,8 +8,7 @@ behind_them old now next e h = subst (λ (l : List Run). end_of 16 l ≤ next.fi
 
 pub invariant_of-self : goal.invariant_of-self
 invariant_of-self g c =
-    let goes_on : joins_last (take c.self.inside.len c.self.inside.runs) c.args.next ≡ true =
-    ap (λ (l : List Run). joins_last l c.args.next) c.self.view_is ∙ sym c.joins_last.ensures ∙ c.if-joins_last.true in
+    let goes_on = ap (λ (l : List Run). joins_last l c.args.next) c.self.view_is ∙ sym c.joins_last.ensures ∙ c.if-joins_last.true in
     let some : 0 < c.self.inside.len = some_last c.self.inside.runs c.self.inside.len c.args.next goes_on in (
       c.self.invariant.0,
       length-set c.self.inside.runs (c.self.inside.len - 1) (merged (get_or c.self.inside.runs (c.self.inside.len - 1) unused) c.args.next) ∙ c.self.invariant.1,
@@ -20,8 +19,7 @@ invariant_of-self g c =
 
 pub returns-then-joins_last-clause-ok : goal.returns-then-joins_last-clause-ok
 returns-then-joins_last-clause-ok g c =
-    let goes_on : joins_last (take c.self.inside.len c.self.inside.runs) c.args.next ≡ true =
-    ap (λ (l : List Run). joins_last l c.args.next) c.self.view_is ∙ sym c.joins_last.ensures ∙ c.if-joins_last.true in
+    let goes_on = ap (λ (l : List Run). joins_last l c.args.next) c.self.view_is ∙ sym c.joins_last.ensures ∙ c.if-joins_last.true in
     let some : 0 < c.self.inside.len = some_last c.self.inside.runs c.self.inside.len c.args.next goes_on in
     merged_last c.self.inside.runs c.self.inside.len unused c.args.next some (omega arith) goes_on
     ∙ ap (λ (l : List Run). pushed l c.args.next) c.self.view_is
@@ -33,10 +31,8 @@ returns-then-self-ge-RUNS-clause-err g c =
 
 pub invariant_of-self-2 : goal.invariant_of-self-2
 invariant_of-self-2 g c =
-    let ends : joins_last (take c.self.inside.len c.self.inside.runs) c.args.next ≡ false =
-    ap (λ (l : List Run). joins_last l c.args.next) c.self.view_is ∙ sym c.joins_last.ensures ∙ c.if-joins_last.false in
-    let more : take (c.self.inside.len + 1) (set c.self.inside.runs c.self.inside.len c.args.next) ≡ pushed (take c.self.inside.len c.self.inside.runs) c.args.next =
-    ap (λ (k : ℕ). take k (set c.self.inside.runs c.self.inside.len c.args.next)) (add-one c.self.inside.len)
+    let ends = ap (λ (l : List Run). joins_last l c.args.next) c.self.view_is ∙ sym c.joins_last.ensures ∙ c.if-joins_last.false in
+    let more = ap (λ (k : ℕ). take k (set c.self.inside.runs c.self.inside.len c.args.next)) (add-one c.self.inside.len)
     ∙ added_at c.self.inside.runs c.self.inside.len c.args.next (omega arith) ends in (
       omega arith,
       length-set c.self.inside.runs c.self.inside.len c.args.next ∙ c.self.invariant.1,
@@ -46,8 +42,7 @@ invariant_of-self-2 g c =
 
 pub returns-clause-ok : goal.returns-clause-ok
 returns-clause-ok g c =
-    let ends : joins_last (take c.self.inside.len c.self.inside.runs) c.args.next ≡ false =
-    ap (λ (l : List Run). joins_last l c.args.next) c.self.view_is ∙ sym c.joins_last.ensures ∙ c.if-joins_last.false in
+    let ends = ap (λ (l : List Run). joins_last l c.args.next) c.self.view_is ∙ sym c.joins_last.ensures ∙ c.if-joins_last.false in
     ap (λ (k : ℕ). take k (set c.self.inside.runs c.self.inside.len c.args.next)) (add-one c.self.inside.len)
     ∙ added_at c.self.inside.runs c.self.inside.len c.args.next (omega arith) ends
     ∙ ap (λ (l : List Run). pushed l c.args.next) c.self.view_is

@@ -4,8 +4,7 @@ use Rattle.regions.proofs.table.Regions.runs_behind.Goals as goal
 
 pub returns : goal.returns
 returns g c =
-    let order : IsMaximal g.M.Levels.mode 16 c.as_slice-runs.result.now =
-    subst (λ (l : List Run). IsMaximal g.M.Levels.mode 16 l) (sym c.as_slice-runs.ensures.runs) c.as_slice-runs.ensures.maximal in
+    let order = subst (λ (l : List Run). IsMaximal g.M.Levels.mode 16 l) (sym c.as_slice-runs.ensures.runs) c.as_slice-runs.ensures.maximal in
     let parted = IsPartitionedBy-leb (λ run. run.end) _ c.args.page (ends_rise g.M.Levels.mode 16 c.as_slice-runs.result.now order) in
     let point = IsPartitionPoint-from_clause (λ run. leb run.end c.args.page) _ _ c.partition_point-ended.ensures.partitioned parted (λ a r q k. search rules) in
     record {

@@ -62,16 +62,12 @@ unfolding ChoosesByClock
 returns-in_err-obtain g c =
     let got = c.in_err-obtain.ensures in
     let stalls = seeks_stall c.from_residual.result c.from_residual.ensures.1 got in
-    record {
-      same = search rules;
-      comes = comes_stall c.args.page c.from_residual.result c.from_residual.ensures.1 got;
-      rest = got.rest;
-      clock = stalls.clock;
-      aged = stalls.aged;
-      asked = also_asked g.E.SectorDisk c.args.self.now c.obtain.new.core None (IsSectorOfSlot c.args.slot.0) got.asked;
-      uses = record { swap = got.swap; device = got.device; one = search rules };
-      refused = stalls.refused;
-    }
+    search (
+      rules,
+      comes_stall c.args.page c.from_residual.result c.from_residual.ensures.1 got,
+      stalls,
+      also_asked g.E.SectorDisk c.args.self.now c.obtain.new.core None (IsSectorOfSlot c.args.slot.0) got.asked,
+    )
 
 pub release-requires : goal.release-requires
 release-requires g c =
@@ -87,6 +83,4 @@ get-requires-clause-in_use g c =
     omega (arith, one)
 
 pub set_place-requires-clause-free : goal.set_place-requires-clause-free
-set_place-requires-clause-free g c = λ p ne at.
-    let cache = c.obtain.ensures.fit.places.cached p c.in-Ok.frame.0 at in
-    let bad : Free ≡ Cache = sym c.in-Ok.ensures.taken.was_free ∙ cache in (cc)
+set_place-requires-clause-free g c = λ p ne at. (let bad : Free ≡ Cache = sym c.in-Ok.ensures.taken.was_free ∙ c.obtain.ensures.fit.places.cached p c.in-Ok.frame.0 at in (cc))

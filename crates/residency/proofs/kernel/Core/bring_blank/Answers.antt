@@ -36,6 +36,4 @@ returns-in_err-obtain g c =
     }
 
 pub set_place-requires-clause-free : goal.set_place-requires-clause-free
-set_place-requires-clause-free g c = λ p ne at.
-    let cache = c.obtain.ensures.fit.places.cached p c.in-Ok.frame.0 at in
-    let bad : Free ≡ Cache = sym c.in-Ok.ensures.taken.was_free ∙ cache in (cc)
+set_place-requires-clause-free g c = λ p ne at. (let bad : Free ≡ Cache = sym c.in-Ok.ensures.taken.was_free ∙ c.obtain.ensures.fit.places.cached p c.in-Ok.frame.0 at in (cc))

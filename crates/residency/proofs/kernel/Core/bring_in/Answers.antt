@@ -70,43 +70,27 @@ returns-in_err-obtain g c =
     let got = c.in_err-obtain.ensures in
     let stalls = seeks_stall c.from_residual.result c.from_residual.ensures.1 got in
     let once = once_unasked g.D.SectorDisk c.args.page c.args.self.now.store c.obtain.new.core.store got.rest.store in
-    record {
-      read = search rules;
-      comes = comes_stall (File c.args.page) c.from_residual.result c.from_residual.ensures.1 got;
-      rest = record { roots = got.rest.roots; regions = got.rest.regions };
-      clock = stalls.clock;
-      aged = stalls.aged;
-      store = search rules;
-      asks = asks_store g.D.SectorDisk c.args.page c.args.self.now.store c.obtain.new.core.store once;
-      once = once;
-      reads = reads_none g.D.SectorDisk c.args.page c.args.self.now.store c.obtain.new.core.store got.rest.store;
-      asked = got.asked;
-      uses = stalls.uses;
-      refuses = search rules;
-      unread = search rules;
-      short = stalls.short;
-      cause = reads_stall g.D.SectorDisk c.from_residual.result c.from_residual.ensures.1 got;
-    }
+    search (
+      rules,
+      comes_stall (File c.args.page) c.from_residual.result c.from_residual.ensures.1 got,
+      once,
+      asks_store g.D.SectorDisk c.args.page c.args.self.now.store c.obtain.new.core.store once,
+      reads_none g.D.SectorDisk c.args.page c.args.self.now.store c.obtain.new.core.store got.rest.store,
+      stalls,
+      reads_stall g.D.SectorDisk c.from_residual.result c.from_residual.ensures.1 got,
+    )
 
 pub set_place-requires-clause-free : goal.set_place-requires-clause-free
-set_place-requires-clause-free g c = λ p ne at.
-    let cache = c.obtain.ensures.fit.places.cached p c.in-Ok.frame.0 at in
-    let bad : Free ≡ Cache = sym c.in-Ok.ensures.taken.was_free ∙ cache in (cc)
+set_place-requires-clause-free g c = λ p ne at. (let bad : Free ≡ Cache = sym c.in-Ok.ensures.taken.was_free ∙ c.obtain.ensures.fit.places.cached p c.in-Ok.frame.0 at in (cc))
 
 pub invariant_of-self-clause-bounded : goal.invariant_of-self-clause-bounded
 invariant_of-self-clause-bounded g c = subst (λ d. AreBounded (λ f. option_map (λ e. e.info) (entry_of d f))) (sym c.in-Ok-read_page.ensures.files) c.obtain.new.core.bounded
 
 pub invariant_of-self-clause-page_count : goal.invariant_of-self-clause-page_count
-invariant_of-self-clause-page_count g c =
-    let same = (frames_written c.obtain.new.core.frames c.take.new.self c.in-Ok.frame.0 c.read_page.new.to c.in-Ok.ensures.taken).frames in
-    c.obtain.new.core.page_count ∙ sym same
+invariant_of-self-clause-page_count g c = c.obtain.new.core.page_count ∙ sym (frames_written c.obtain.new.core.frames c.take.new.self c.in-Ok.frame.0 c.read_page.new.to c.in-Ok.ensures.taken).frames
 
 pub invariant_of-self-clause-node_count : goal.invariant_of-self-clause-node_count
-invariant_of-self-clause-node_count g c =
-    let same = (frames_written c.obtain.new.core.frames c.take.new.self c.in-Ok.frame.0 c.read_page.new.to c.in-Ok.ensures.taken).frames in
-    c.set_place.ensures.others.frames ∙ c.obtain.new.core.node_count ∙ sym same
+invariant_of-self-clause-node_count g c = c.set_place.ensures.others.frames ∙ c.obtain.new.core.node_count ∙ sym (frames_written c.obtain.new.core.frames c.take.new.self c.in-Ok.frame.0 c.read_page.new.to c.in-Ok.ensures.taken).frames
 
 pub invariant_of-self-clause-hand_inside : goal.invariant_of-self-clause-hand_inside
-invariant_of-self-clause-hand_inside g c =
-    let same = (frames_written c.obtain.new.core.frames c.take.new.self c.in-Ok.frame.0 c.read_page.new.to c.in-Ok.ensures.taken).frames in
-    subst (λ (n : ℕ). c.obtain.new.core.clock.hand < n) (sym same) c.obtain.new.core.hand_inside
+invariant_of-self-clause-hand_inside g c = subst (λ (n : ℕ). c.obtain.new.core.clock.hand < n) (sym (frames_written c.obtain.new.core.frames c.take.new.self c.in-Ok.frame.0 c.read_page.new.to c.in-Ok.ensures.taken).frames) c.obtain.new.core.hand_inside

@@ -31,17 +31,7 @@ returns g c =
     let n = c.args.frame.0 in
     let cache = c.requires.fit.places.cached key n c.requires.placed in
     let nonzero : n ≢ 0 = λ zero. (let bad : Zero ≡ Cache = sym c.args.self.now.sound.zero_role ∙ ap (role_of c.args.self.now.frames) (sym zero) ∙ cache in (cc)) in
-    let u : Untouches old mid key = record {
-      frames = refl;
-      slots = refl;
-      root = λ pid. refl;
-      at = λ pid k. refl;
-      page_of = λ m. refl;
-      files = λ f. refl;
-      place = all_placed c.args.self.now.cache c.clean.new.self key c.clean.ensures.others c.clean.ensures.placed;
-      now = c.clean.ensures.untouched;
-      others = c.clean.ensures.others.touched;
-    } in
+    let u : Untouches old mid key = search (rules, all_placed c.args.self.now.cache c.clean.new.self key c.clean.ensures.others c.clean.ensures.placed) in
     let frames = subst (λ (t : FrameTable). SameButFor n t c.release.new.self) c.forget_pages.ensures.same c.release.ensures.change.others in
     let free = c.release.ensures.alone (λ own. (let bad : Private ≡ Cache = sym own ∙ ap (λ (t : FrameTable). role_of t n) c.forget_pages.ensures.same ∙ cache in (cc))) in
     let leaves = leaves_frame old c.release.new.self c.clean.new.self c.set_place.new.self key n Home (c.clean.ensures.placed ∙ c.requires.placed) nonzero c.set_place.ensures.placed c.set_place.ensures.others c.set_place.ensures.touched frames free in

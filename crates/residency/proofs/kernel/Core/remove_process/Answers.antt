@@ -1,4 +1,4 @@
-use Rattle.residency.{proofs.{Lives.{live_process}, Names.{rules, ◌≡◌, ◌<◌, ℕ, Some, refl, ◌∙◌, subst, arith}}, specs.Picture.{picture_of}}
+use Rattle.residency.{proofs.{Lives.{live_process}, Names.{rules, ◌≡◌, ◌<◌, ℕ, Some, ◌∙◌, subst, arith}}, specs.Picture.{picture_of}}
 use Rattle.residency.proofs.kernel.Core.remove_process.Goals as goal
 
 pub release_root-requires : goal.release_root-requires
@@ -15,19 +15,5 @@ returns-in-Some-clause-exits g c =
     let lived =
     subst P (c.from-place.ensures ∙ c.get.ensures.number) (live_process c.args.self.now c.from-place.result inside c.index.result.now c.index.ensures c.in-Some.root c.in-Some.is) in (
       c.in-Some.root.0,
-      record {
-        slots = refl;
-        lived = lived;
-        gone = search rules;
-        others = search rules;
-        spare = c.requires.spare c.in-Some.root.0 lived;
-        frames = search rules;
-        free = c.release_root.ensures.free;
-        unmapped = search rules;
-        at = search rules;
-        page_of = λ m. refl;
-        place = λ p. refl;
-        touched = λ p. refl;
-        files = λ f. refl;
-      },
+      search (rules, lived, c.requires.spare c.in-Some.root.0 lived),
     )

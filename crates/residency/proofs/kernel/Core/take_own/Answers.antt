@@ -1,5 +1,6 @@
 use Rattle.residency.proofs.Names.{◌≡◌, sym, ◌<◌, length, refl, ◌∙◌, arith, get_or-set_same, get_or-set_other, ℕ, rules, Table, Private}
-use Rattle.residency.{specs.{Picture.{picture_of}, Ages.{WantsFrame}}, proofs.{Asking.{needed_of, wants_tried}, Giving.{on_err_same}, Obtained.{entries_on, given, given_on, seeks_on, seeks_stall}}}
+use Rattle.residency.{specs.{Picture.{picture_of}, Ages.{WantsFrame}}, proofs.{Asking.{needed_of, wants_tried}, Obtained.{entries_on, given, given_on, seeks_on, seeks_stall}}}
+use Rattle.regions.proofs.ResultLemmas.{on_err}
 use Rattle.residency.proofs.kernel.Core.take_own.Goals as goal
 
 pub returns : goal.returns
@@ -16,17 +17,7 @@ returns g c =
         frees = got.frees;
         gives = given got own takes.inside takes.was_free;
         needed = needed_of c.args.self.now c.obtain.new.core got.needed;
-        own = record {
-          slots = refl;
-          takes = takes;
-          noted = get_or-set_same items own.0 c.get.result 0 there ∙ c.get.ensures.number;
-          others = λ k ne. get_or-set_other items own.0 k c.get.result 0 ne;
-          root = λ q. refl;
-          at = λ q k. refl;
-          place = λ p. refl;
-          touched = λ p. refl;
-          files = λ f. refl;
-        };
+        own = search (rules, get_or-set_other, get_or-set_same items own.0 c.get.result 0 there ∙ c.get.ensures.number);
       };
       seeks = seeks_on got own takes.inside takes.was_free _ refl refl (record { store = refl; roots = refl; regions = refl }) refl refl
           (entries_on got own takes.inside takes.was_free _ takes.others (λ t. (let bad : Private ≡ Table = sym takes.kind_set ∙ t in (cc))) (λ pid. refl))
@@ -44,7 +35,7 @@ returns-in_err-obtain g c =
     record {
       taken = search rules;
       seeks = seeks_stall c.from_residual.result c.from_residual.ensures.1 got;
-      fit = on_err_same _ c.from_residual.result got.fit;
-      frees = on_err_same _ c.from_residual.result got.frees;
-      tried = on_err_same ((v : ℕ) × WantsFrame (picture_of old) (picture_of new) v) c.from_residual.result (wants_tried old new got.needed got.full got.tried);
+      fit = on_err c.from_residual.result _ got.fit;
+      frees = on_err c.from_residual.result _ got.frees;
+      tried = on_err c.from_residual.result ((v : ℕ) × WantsFrame (picture_of old) (picture_of new) v) (wants_tried old new got.needed got.full got.tried);
     }

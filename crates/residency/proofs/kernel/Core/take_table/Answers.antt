@@ -1,5 +1,6 @@
-use Rattle.residency.proofs.{Asking.{needed_of}, Giving.{entries_same, on_err_same, roles_but, gives_table, table_given, tables_tried}, Moves.{same_beside}, Names.{ℕ, Option, refl, Some, None, rules}, Obtained.{given, seeks_on, seeks_stall}}
+use Rattle.residency.proofs.{Asking.{needed_of}, Giving.{entries_same, roles_but, gives_table, table_given, tables_tried}, Moves.{same_beside}, Names.{ℕ, Option, refl, Some, None, rules}, Obtained.{given, seeks_on, seeks_stall}}
 use Rattle.residency.{proofs.Returning.{zero_no_table}, specs.{Ages.{GivesForTables}, Picture.{Picture, picture_of}}}
+use Rattle.regions.proofs.ResultLemmas.{on_err}
 use Rattle.residency.proofs.kernel.Core.take_table.Goals as goal
 
 pub returns : goal.returns
@@ -36,9 +37,9 @@ returns-in_err-obtain g c =
       gives = search rules;
       only = search rules;
       seeks = seeks_stall c.from_residual.result c.from_residual.ensures.1 got;
-      fit = on_err_same _ c.from_residual.result got.fit;
-      frees = on_err_same _ c.from_residual.result got.frees;
-      full = on_err_same _ c.from_residual.result got.full;
-      still = on_err_same _ c.from_residual.result got.still;
-      tried = on_err_same ((tried : Option ℕ) × GivesForTables old new tried) c.from_residual.result (Some tried, tables_tried old new None tried got.frees got.tried.1 got.still got.full);
+      fit = on_err c.from_residual.result _ got.fit;
+      frees = on_err c.from_residual.result _ got.frees;
+      full = on_err c.from_residual.result _ got.full;
+      still = on_err c.from_residual.result _ got.still;
+      tried = on_err c.from_residual.result ((tried : Option ℕ) × GivesForTables old new tried) (Some tried, tables_tried old new None tried got.frees got.tried.1 got.still got.full);
     }

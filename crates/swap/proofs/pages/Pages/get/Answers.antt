@@ -4,17 +4,15 @@ use Rattle.swap.proofs.pages.Pages.get.Goals as goal
 
 pub returns : goal.returns
 returns g c =
-    let P : ℕ → Type 0 = λ x. (i : ℕ) → i < 8 → part_of c.read_page.new.to i ≡ g.D.SectorDisk.content c.args.self.now.disk (8 * x + i) in
+    let r = rw c.from.ensures at c.read_page.ensures in
     record {
       gives = λ k. on_ok_weaker c.read_page.result
-          (λ read. gives_written g.D.SectorDisk c.args.n c.args.self.now.disk c.args.self.now.written.notes c.read_page.new.to c.read_page.array_long c.requires.as_written (c.read_page.ensures.kept k) (subst P c.from.ensures read))
-          (c.read_page.ensures.gives k);
+          (gives_written g.D.SectorDisk c.args.n c.args.self.now.disk c.args.self.now.written.notes c.read_page.new.to c.read_page.array_long c.requires.as_written (r.kept k)) (r.gives k);
       same = search rules;
       unchanged = search rules;
       keeps = record {
-        asks = asks_named g.D.SectorDisk (IsOfPage (8 * c.args.n)) (IsOfPage (8 * c.from.result)) c.args.self.now.disk c.read_page.new.self
-            (λ k inside. subst (λ n. IsOfPage (8 * n) k) c.from.ensures inside) c.read_page.ensures.asks;
-        once = once_named (IsOfPage (8 * c.args.n)) (IsOfPage (8 * c.from.result)) _ _ (λ k inside. subst (λ n. IsOfPage (8 * n) k) c.from.ensures inside) c.read_page.ensures.asks;
+        asks = asks_named g.D.SectorDisk _ _ c.args.self.now.disk c.read_page.new.self (λ k inside. inside) r.asks;
+        once = once_named _ _ _ _ (λ k inside. inside) r.asks;
         as_written = search rules;
         kept = search rules;
         size = search rules;
