@@ -1,10 +1,11 @@
 -- What a commit makes of the files.
 use Rattle.file_store.proofs.{Homes.{entry_behind, home_of-entry, is_home, one_file, one_page, home_inside, inside_of-entry}, Images.{SameHead, same_head, entry_same, info_same, bad_layout_moves, stands_kept}, Names.{◌≡◌, ◌≢◌, ℕ, zero}}
 use Rattle.file_store.proofs.Names.{suc, ◌+◌, ◌*◌, ◌<◌, ◌≤◌, ◌⊎◌, ⊎_elim, inl, inr, List, map, length, get_or, take, slice_get, slice_index, Option, Some, None, cond, false, eqb, refl, sym, ap, subst, ◌∙◌, arith, cases_eq, cases_lt, eq-eqb}
-use Rattle.file_store.proofs.Names.{nat_tests, length-take-le, get_or-take, length-map, get_or-map, same_number_lists, same_Some, slice_get-get_or, slice_get_within, Image, part_of, kind_home_count, StoreStandsFor, StoreStandsForEither}
-use Rattle.file_store.{proofs.{Names.{IsStoreKept, place_among, AreHomes, changed, sector_or, Journals, FileInfo, FilePage, joined-same, joined_parts}, Pieces.{trimmed-trimmed, length-trimmed}}, specs.Commit.{cut_page, ArePages, Changes}}
-use Rattle.file_store.specs.{Commit.{StandsForEither}, Directory.{IsSoundDirectory, IsHomeOf}, Layout.{padded_page, bytes_inside}, Standing.{IsPageOf, StandsFor, standing, directory_entry, page_standing, standing_page}, Store.{entry_of}}
-use Rattle.file_store.specs.{Store.{home_of, homes_of_pages, inside_named, inside_at, IsEntryPage, PutsHomes, PutsHomesOrNone}, declared.directory.{Directory.{Directory}, Entry.{Entry}}}
+use Rattle.file_store.proofs.Names.{nat_tests, length-take-le, get_or-take, length-map, get_or-map, same_number_lists, same_Some, slice_get-get_or, slice_get_within, Image, part_of, kind_home_count, place_among, AreHomes, changed}
+use Rattle.file_store.{proofs.{Names.{sector_or, Journals, FileInfo, FilePage, joined-same, joined_parts}, Pieces.{trimmed-trimmed, length-trimmed}}, specs.Commit.{cut_page, ArePages, Changes, StandsForEither}}
+use Rattle.file_store.specs.{Directory.{IsSoundDirectory, IsHomeOf}, Layout.{padded_page, bytes_inside}, Standing.{IsPageOf, StandsFor, standing, directory_entry, page_standing, standing_page}, Store.{entry_of, home_of, homes_of_pages}}
+use Rattle.{file_store.specs.{Store.{inside_named, inside_at, IsEntryPage, PutsHomes, PutsHomesOrNone}, declared.directory.{Directory.{Directory}, Entry.{Entry}}}, sync_journal.specs.Layouts.{IsKept, StandsForEitherPages, StandsForPages}}
+use Rattle.sync_journal.specs.Kinds.{by_kind}
 
 eqb-ne : (m n : ℕ) → m ≢ n → eqb m n ≡ false
 eqb-ne m n other = grind (arith, nat_tests)
@@ -74,7 +75,7 @@ are_homes kind sectors directory files list homes sound pages of_list = record {
 module _ (kind : Journals) (sectors : ℕ) (directory : Directory) (list : List FilePage) (homes : List ℕ) (given : ℕ → List ℕ) (old new : Image)
     (sound : IsSoundDirectory (kind_home_count kind sectors) (entry_of directory)) (same_directory : (f : ℕ) → entry_of directory f ≡ directory_entry old f)
     (of_list : AreHomesOf directory list homes)
-    (kept : IsStoreKept sectors old (StoreStandsFor (changed (standing old) homes (λ i. padded_page (inside_at directory list i) (given i)))) new) where
+    (kept : IsKept by_kind sectors old (StandsForPages by_kind (changed (standing old) homes (λ i. padded_page (inside_at directory list i) (given i)))) new) where
   abbrev cut : ℕ → List ℕ
   cut i = padded_page (inside_at directory list i) (given i)
 
@@ -182,7 +183,7 @@ module _ (kind : Journals) (sectors : ℕ) (directory : Directory) (list : List 
 pub stands_either : (kind : Journals) (sectors : ℕ) (directory : Directory) (list : List FilePage) (homes : List ℕ) (given : ℕ → List ℕ) (old new : Image)
     → IsSoundDirectory (kind_home_count kind sectors) (entry_of directory) → ((f : ℕ) → entry_of directory f ≡ directory_entry old f) → AreHomesOf directory list homes
     → (files : ℕ → Option FileInfo) (before after : ℕ → ℕ → List ℕ) → StandsFor sectors files before old → Changes files list given before after
-    → IsStoreKept sectors old (StoreStandsForEither (standing old) (changed (standing old) homes (λ i. padded_page (inside_at directory list i) (given i)))) new
+    → IsKept by_kind sectors old (StandsForEitherPages by_kind (standing old) (changed (standing old) homes (λ i. padded_page (inside_at directory list i) (given i)))) new
     → StandsForEither sectors files before after new
 stands_either kind sectors directory list homes given old new sound same_directory of_list files before after was changes kept = ⊎_elim
     (λ stands. inl (stands_kept sectors old new (record { stands = stands; journal = kept.journal; outside = kept.outside }) files before was))
@@ -194,7 +195,7 @@ stands_either kind sectors directory list homes given old new sound same_directo
 pub homes_either : (kind : Journals) (sectors : ℕ) (directory : Directory) (list : List FilePage) (homes : List ℕ) (given : ℕ → List ℕ) (old new : Image)
     → IsSoundDirectory (kind_home_count kind sectors) (entry_of directory) → ((f : ℕ) → entry_of directory f ≡ directory_entry old f) → AreHomesOf directory list homes
     → AreHomes (kind_home_count kind sectors) homes
-    → IsStoreKept sectors old (StoreStandsForEither (standing old) (changed (standing old) homes (λ i. padded_page (inside_at directory list i) (given i)))) new
+    → IsKept by_kind sectors old (StandsForEitherPages by_kind (standing old) (changed (standing old) homes (λ i. padded_page (inside_at directory list i) (given i)))) new
     → PutsHomesOrNone sectors directory list given old new
 homes_either kind sectors directory list homes given old new sound same_directory of_list are kept = ⊎_elim
     (λ stands. inl (record { stands = stands; journal = kept.journal; outside = kept.outside }))

@@ -1,7 +1,7 @@
 -- How pages go on being copied, and how it ends.
 use Rattle.sync_journal.{proofs.OldJournals.{places_apart, place_behind}, specs.{Map.{home_rank}, Standing.{place_or_home_in}}}
 use Rattle.file_store.proofs.{Causes.{is_this, same_Err}, Looking.{ok_is_no_err}, Names.{◌≡◌, ◌+◌, ◌<◌, ◌≤◌, ℕ, List, length, Option, None, Some, Result, Ok, Err, ⊎_elim, inl, inr, refl, sym, ap, subst, ◌∙◌, arith, IsErrAnd, Image, Names, NamesOnce, Nothing, Ghosts}}
-use Rattle.file_store.{proofs.{Names.{once_named, once_apart, once_wider, old_homes, StandsAsListed, Journals, Single, Paired, layout_before, home_count_in, IsPageSector, kind_home_count, RunsOnDevice}, Openings.{content_is}}, specs.Directory.{home_end, IsSoundDirectory}}
+use Rattle.file_store.{proofs.{Names.{once_named, once_apart, once_wider, old_homes, StandsAsListed, Journals, Single, Paired, sizes_before, home_count_in, IsPageSector, kind_home_count, RunsOnDevice}, Openings.{content_is}}, specs.Directory.{home_end, IsSoundDirectory}}
 use Rattle.file_store.specs.{Faults.{old_fault}, Making.{Makes}, Opened.{LooksAt}, Store.{entry_of}, Upgrade.{IsOldStore, IsOldHead, IsOldFile, IsOldEntry, IsOldPage, IsOldAsked, HasUpgradeCauses, old_entry, old_place}, Upgraded.{IsCopiable, CopiesPages}}
 use Rattle.file_store.specs.declared.{directory.Entry.{Entry}, faults.{OpenFault.{OpenFault, TheVariants.{Device as OpenDevice}}, UpgradeFault.{UpgradeFault, TheVariants.{OldDevice, NewDevice}}}, old_store.OldStore.{OldStore}}
 
@@ -63,21 +63,21 @@ causes_before fault old new x looks later = record {
 }
 
 -- the head of the old store lies before all pages
-head_low : (kind : Journals) (image : Image) (k : ℕ) → IsOldHead kind image k → k < (layout_before kind).body
+head_low : (kind : Journals) (image : Image) (k : ℕ) → IsOldHead kind image k → k < (sizes_before kind).body
 head_low Single image k = ⊎_elim (⊎_elim (λ low. omega (arith, low)) (λ at. omega (arith, at))) (⊎_elim (λ gate. omega (arith, gate)) (λ map. omega (arith, map.1.1)))
 head_low Paired image k = ⊎_elim (⊎_elim (λ low. omega (arith, low)) (λ at. omega (arith, at))) (⊎_elim (λ gate. omega (arith, gate)) (λ map. omega (arith, map.1.1)))
 
 -- where a page stands, in the words of the journal's list of homes
-listed : (kind : Journals) (homes : List ℕ) (image : Image) → StandsAsListed (layout_before kind) homes image → (h k : ℕ) → IsPageSector (old_place kind image h) k
-    → IsPageSector (place_or_home_in (layout_before kind) h (home_rank homes h)) k
+listed : (kind : Journals) (homes : List ℕ) (image : Image) → StandsAsListed (sizes_before kind) homes image → (h k : ℕ) → IsPageSector (old_place kind image h) k
+    → IsPageSector (place_or_home_in (sizes_before kind) h (home_rank homes h)) k
 listed kind homes image stands h k at = subst (λ first. IsPageSector first k) (stands.at h) at
 
-file_behind : (kind : Journals) (homes : List ℕ) (image : Image) → StandsAsListed (layout_before kind) homes image → (o : Option Entry) (k : ℕ) → IsOldEntry kind image o k → (layout_before kind).body ≤ k
+file_behind : (kind : Journals) (homes : List ℕ) (image : Image) → StandsAsListed (sizes_before kind) homes image → (o : Option Entry) (k : ℕ) → IsOldEntry kind image o k → (sizes_before kind).body ≤ k
 file_behind kind homes image stands None k none = absurd none
 file_behind kind homes image stands (Some e) k at = place_behind kind (e.first + at.0) k (home_rank homes (e.first + at.0)) (listed kind homes image stands (e.first + at.0) k at.2)
 
 -- the head of the old store is asked for, and then its files
-pub copied_old_once : {D : Type 0} (g : Ghosts D) (kind : Journals) (homes : List ℕ) (old read new : D) → g.content read ≡ g.content old → StandsAsListed (layout_before kind) homes (g.content old)
+pub copied_old_once : {D : Type 0} (g : Ghosts D) (kind : Journals) (homes : List ℕ) (old read new : D) → g.content read ≡ g.content old → StandsAsListed (sizes_before kind) homes (g.content old)
     → NamesOnce (IsOldHead kind (g.content old)) (g.asked old) (g.asked read) → NamesOnce (IsOldFile kind (g.content read)) (g.asked read) (g.asked new)
     → NamesOnce (IsOldAsked kind (g.content old)) (g.asked old) (g.asked new)
 copied_old_once g kind homes old read new same stands head files =
@@ -88,7 +88,7 @@ copied_old_once g kind homes old read new same stands head files =
 
 -- a file's pages, and one more where it stands
 pub page_once : {D : Type 0} (g : Ghosts D) (kind was : Journals) (homes : List ℕ) (e : Entry) (k more : ℕ) (old mid new : D) → k < more → was ≡ kind → g.content mid ≡ g.content old
-    → StandsAsListed (layout_before kind) homes (g.content old) → length homes ≤ (layout_before kind).most → NamesOnce (IsOldPage kind (g.content old) e k) (g.asked old) (g.asked mid)
+    → StandsAsListed (sizes_before kind) homes (g.content old) → length homes ≤ (sizes_before kind).most → NamesOnce (IsOldPage kind (g.content old) e k) (g.asked old) (g.asked mid)
     → Names (IsPageSector (old_place was (g.content mid) (e.first + k))) (g.asked mid) (g.asked new) → NamesOnce (IsOldPage kind (g.content old) e more) (g.asked old) (g.asked new)
 page_once g kind was homes e k more old mid new less is same stands few so_far page =
     let image = g.content old in
@@ -106,7 +106,7 @@ abbrev pub IsOldFirst : Journals → Image → ℕ → ℕ → Type 0
 IsOldFirst kind image n k = (f : ℕ) × (f < n) × IsOldEntry kind image (old_entry kind image f) k
 
 -- two files have no sector in common
-module _ (kind : Journals) (image : Image) (store : OldStore) (n : ℕ) (known : IsOldStore kind image store) (few : length (old_homes store.journal) ≤ (layout_before kind).most)
+module _ (kind : Journals) (image : Image) (store : OldStore) (n : ℕ) (known : IsOldStore kind image store) (few : length (old_homes store.journal) ≤ (sizes_before kind).most)
     (sound : IsSoundDirectory n (entry_of store.directory)) (f h s : ℕ) (less : f < h) where
   files_apart : (o p : Option Entry) → old_entry kind image f ≡ o → old_entry kind image h ≡ p → IsOldEntry kind image o s → IsOldEntry kind image p s → ⊥
   files_apart None p is_a is_b at_a at_b = at_a
@@ -119,7 +119,7 @@ module _ (kind : Journals) (image : Image) (store : OldStore) (n : ℕ) (known :
 
 -- some files, and one more
 pub file_once : {D : Type 0} (g : Ghosts D) (kind : Journals) (store : OldStore) (n f : ℕ) (old mid new : D) → g.content mid ≡ g.content old → IsOldStore kind (g.content old) store
-    → length (old_homes store.journal) ≤ (layout_before kind).most → IsSoundDirectory n (entry_of store.directory) → NamesOnce (IsOldFirst kind (g.content old) f) (g.asked old) (g.asked mid)
+    → length (old_homes store.journal) ≤ (sizes_before kind).most → IsSoundDirectory n (entry_of store.directory) → NamesOnce (IsOldFirst kind (g.content old) f) (g.asked old) (g.asked mid)
     → NamesOnce (IsOldEntry kind (g.content mid) (entry_of store.directory f)) (g.asked mid) (g.asked new) → NamesOnce (IsOldFirst kind (g.content old) (f + 1)) (g.asked old) (g.asked new)
 file_once g kind store n f old mid new same known few sound so_far entry =
     let image = g.content old in
@@ -136,7 +136,7 @@ module _ {D E : Type 0} (g : Ghosts D) (h : Ghosts E) where
   pub copiable_still : (kind : Journals) (store : OldStore) (old old' : D) (n m : ℕ) → m ≡ n → RunsOnDevice g Nothing old old' → IsCopiable g kind store old n → IsCopiable g kind store old' m
   copiable_still kind store old old' n m same run copied = record {
     before = copied.before;
-    sound = subst (λ (s : ℕ). IsSoundDirectory (home_count_in (layout_before kind) s) (entry_of store.directory)) (sym run.size) copied.sound;
+    sound = subst (λ (s : ℕ). IsSoundDirectory (home_count_in (sizes_before kind) s) (entry_of store.directory)) (sym run.size) copied.sound;
     few = copied.few;
     found = λ k. subst (λ (image : Image). IsOldStore kind image store) (sym (content_is g old old' (run.touches k))) (copied.found (run.kept k));
     fits = λ f e is. subst (λ s. home_end e ≤ kind_home_count kind s) (sym same) (copied.fits f e is);

@@ -77,5 +77,5 @@ module _ {R : Type 0} (remaining : R → Option (List ℕ)) (sources : List (Fil
   whole_of_kind Single sectors is room fit mid c all same known marked = absurd (single_paired is)
   whole_of_kind Paired sectors is room fit mid c all same known marked =
       let moved = kindless_moves mid c same all in
-      store_if_marked Paired remaining sources sectors c room fit (record { of_kind = known; directory = moved.directory; gate = moved.gate; files = moved.files })
+      store_if_marked Paired remaining sources sectors c room fit (record { layout_of = known; directory = moved.directory; gate = moved.gate; files = moved.files })
       (marked ∙ ap (λ b. mark_of (version_at b)) (sym known))

@@ -1,13 +1,13 @@
 -- What images stand for.
 use Rattle.file_store.proofs.{Entries.{good_directory}, Names.{◌≡◌, ℕ, ◌+◌, ◌<◌, ◌≤◌, ⊎_elim, inl, inr, Bool, true, false, List, get_or, Option, Some, None, refl, sym, ap, subst, ◌∙◌, arith, bytes_eq-Decides, bytes_eq, Image, joined}}
-use Rattle.file_store.proofs.Names.{layout_before, IsBadMap, map_count, place_among, home_in, standing_under, named_in, turn_map, turn_stands, turn_kind, is_kind, kind_when, kind_of, kind_homes, kind_home, kind_standing, IsKindBad}
-use Rattle.file_store.{proofs.Names.{IsKindClosed, IsKindOutside, StoreStandsAs, Journals, Single, Paired, closed_not_bad, joined-same}, specs.{Directory.{entry_in, decoded, IsBadDirectory, AreGood}, Format.{IsFrom, IsLayoutSector}}}
-use Rattle.file_store.specs.{Format.{IsUnmarkedSector}, Layout.{IsMark, mark, turn_mark, padded_page, bytes_inside}, Standing.{standing, IsBadJournal, IsBadLayoutIn, IsBadLayout, listed_entry, info_at, directory_entry, file_info}}
-use Rattle.file_store.specs.{Standing.{page_standing, standing_page, StandsFor, StandsAs, IsBadLayoutIn.{TooSmall, Unmarked, BadDirectory}}, Versions.{version_at, version_before, version_of, homes_of, home_pages_of, directory_of, mark_of}}
-use Rattle.file_store.specs.declared.{directory.Entry.{Entry}, version.Version.{Version, TheVariants.{One, Two, Three}}}
+use Rattle.file_store.proofs.Names.{sizes_before, IsBadMap, map_count, place_among, home_in, standing_under, named_in, turn_map, turn_stands, turn_kind, is_kind, kind_when, kind_of, kind_homes, kind_home, Journals, Single, Paired}
+use Rattle.file_store.{proofs.Names.{closed_not_bad, joined-same}, specs.{Directory.{entry_in, decoded, IsBadDirectory, AreGood}, Format.{IsFrom, IsLayoutSector, IsUnmarkedSector}, Layout.{IsMark, mark, turn_mark, padded_page}}}
+use Rattle.file_store.specs.{Layout.{bytes_inside}, Standing.{standing, IsBadJournal, IsBadLayoutIn, IsBadLayoutIn.{TooSmall, Unmarked, BadDirectory}, IsBadLayout, listed_entry, info_at, directory_entry, file_info, page_standing}}
+use Rattle.file_store.specs.{Standing.{standing_page, StandsFor, StandsAs}, Versions.{version_at, version_before, version_of, homes_of, home_pages_of, directory_of, mark_of}, declared.{directory.Entry.{Entry}, version.Version.{Version}}}
+use Rattle.{file_store.specs.declared.version.Version.TheVariants.{One, Two, Three}, sync_journal.specs.{Layouts.{HomesStandAs}, Kinds.{by_kind, layout_of}}}
 
 -- where nothing stands in a journal alone, a home page stands in its home
-pub kind_closed : (kind : Journals) (image : Image) (h i : ℕ) → IsKindClosed kind image → kind_standing kind image h i ≡ image (kind_home kind h + i)
+pub kind_closed : (kind : Journals) (image : Image) (h i : ℕ) → (layout_of kind).IsClosed image → (layout_of kind).standing image h i ≡ image (kind_home kind h + i)
 unfolding standing_under place_among
 kind_closed Single image h i closed = rw closed refl
 kind_closed Paired image h i none = ap (λ n. image (turn_stands (named_in image) h (place_among (home_in (turn_map (named_in image) image)) h n) + i)) none
@@ -17,7 +17,7 @@ empty_not_bad : (most homes : ℕ) (map : List ℕ) → map_count map ≡ 0 → 
 empty_not_bad most homes map none bad = ⊎_elim (λ many. omega (arith, none, many))
     (λ other. ⊎_elim (λ outside. omega (arith, none, outside.1)) (λ twice. omega (arith, none, twice.3)) other) bad
 
-pub kind_not_bad : (kind : Journals) (sectors : ℕ) (image : Image) → IsKindClosed kind image → IsKindBad kind sectors image → ⊥
+pub kind_not_bad : (kind : Journals) (sectors : ℕ) (image : Image) → (layout_of kind).IsClosed image → (layout_of kind).IsBad sectors image → ⊥
 kind_not_bad Single sectors image closed bad = closed_not_bad sectors image closed bad
 kind_not_bad Paired sectors image none bad = empty_not_bad _ _ _ none bad
 
@@ -31,13 +31,13 @@ pub record SameHead (old new : Image) : Type 0 where
   pub kind : new 1 ≡ old 1
   pub directory : new (directory_of (version_of old)) ≡ old (directory_of (version_of old))
 
-head_outside : (kind : Journals) (sectors : ℕ) → IsKindOutside kind sectors 0 × IsKindOutside kind sectors 1 × IsKindOutside kind sectors (directory_of (version_at kind))
-head_outside Single sectors = (inl (omega arith), inl (omega arith), inl (omega arith))
-head_outside Paired sectors = (inl (omega arith), inl (omega arith), inl (omega arith))
+head_outside : (kind : Journals) (image : Image) (sectors : ℕ) → (layout_of kind).IsOutside image sectors 0 × (layout_of kind).IsOutside image sectors 1 × (layout_of kind).IsOutside image sectors (directory_of (version_at kind))
+head_outside Single image sectors = (inl (omega arith), inl (omega arith), inl (omega arith))
+head_outside Paired image sectors = (inl (omega arith), inl (omega arith), inl (omega arith))
 
-pub same_head : (sectors : ℕ) (old new : Image) → ((k : ℕ) → IsKindOutside (kind_of old) sectors k → new k ≡ old k) → SameHead old new
+pub same_head : (sectors : ℕ) (old new : Image) → ((k : ℕ) → (layout_of (kind_of old)).IsOutside old sectors k → new k ≡ old k) → SameHead old new
 same_head sectors old new outside =
-    let head = head_outside (kind_of old) sectors in
+    let head = head_outside (kind_of old) old sectors in
     record { mark = outside 0 head.0; kind = outside 1 head.1; directory = outside (directory_of (version_of old)) head.2 }
 
 module _ (old new : Image) (same : SameHead old new) where
@@ -69,7 +69,7 @@ pub standing_page-same : (old new : Image) (f k : ℕ) → directory_entry new f
 standing_page-same old new f k entry same = ap (page_standing new k) entry ∙ page_standing-same old new k (directory_entry old f) same
 
 -- what the kept image of a journal that stands for the same homes stands for
-pub stands_kept : (sectors : ℕ) (old new : Image) → StoreStandsAs sectors old new → StandsAs sectors old new
+pub stands_kept : (sectors : ℕ) (old new : Image) → HomesStandAs by_kind sectors old new → StandsAs sectors old new
 stands_kept sectors old new kept files pages was =
     let head = same_head sectors old new kept.outside in
     record {
@@ -102,7 +102,7 @@ homes_same Single = refl
 homes_same Paired = refl
 
 -- and of the layout before
-pub homes_before : (kind : Journals) → homes_of (version_before kind) ≡ (layout_before kind).homes
+pub homes_before : (kind : Journals) → homes_of (version_before kind) ≡ (sizes_before kind).homes
 homes_before Single = refl
 homes_before Paired = refl
 

@@ -7,11 +7,10 @@ pub use Rattle.std.proofs.lemmas.{Bool.{cases_eq, eq-eqb, cases_lt, cond_both, c
 pub use Rattle.std.proofs.lemmas.List.{get_or-map, get_or-append_right, get_or_past, get_or_append_left, get_or-drop, get_or-set_same, get_or-set_other, drop_at, drop-replicate, take_all, take_at, length-append, drop_all, ext_get_or}
 pub use Rattle.std.proofs.lemmas.{List.{length-replicate, get_or-replicate, append-nil, drop-set-lt, length-set, take_rest}, Option.{same_Some, slice_get_within, slice_get-get_or, slice_get_past, none-some, slice_get_cases, slice_get_read}}
 pub use Rattle.std.{proofs.lemmas.{Option.{MatchOption-at_none}, Result.{on_ok_weaker, on_err_weaker}, Slice.{put_mid-paste, Eq.{bytes_eq-Decides}}}, specs.{Io.KnownBytes.{Consumes}, Option.{option_map}, Prelude.{IsErrAnd, OnErr, IfSome}}}
-pub use Rattle.{std.specs.{Prelude.{IsErr, IsErrOf, IsSome, IfErr}, Str.{bytes_eq}}, sync_journal.proofs.{Changes.{closed_not_bad}, Gates.{closed}, InKinds.{while_reading, same_store, while_recovering, settled_since}}}
+pub use Rattle.{std.specs.{Prelude.{IsErr, IsErrOf, IsSome, IfErr}, Str.{bytes_eq}}, sync_journal.proofs.{Changes.{closed_not_bad}, Gates.{closed}, InKinds.{while_reading, while_recovering, settled_since}, Layouts.{same_stands}}}
 pub use Rattle.sync_journal.{proofs.{InTurn.{commits_weaker, blocks_weaker}, Maps.{same_number}, Runs.{one_more, read_only}}, specs.{Blocks.{LeavesInBlocks, RecoversInBlocks, MayLeaveBlocks}, Commit.{sector_or}, Gate.{closed_sector}}}
-pub use Rattle.sync_journal.specs.{Journal.{live_homes}, Kinds.{IsStoreAsked, journal_stands, kind_of, StoreStandsForEither, kind_home_count, IsStoreKept, StoreStandsFor, kind_home, kind_homes, kind_standing, IsKindClosed, kind_when}}
-pub use Rattle.sync_journal.specs.Kinds.{IsKindOutside, StoreStandsAs, IsKindBad, IsStoreRecovered, IsStoreClosed, IsBadStore, KeepsStore, IsOutsideOf, IsKindRecovered, store_live, IsStoreRest, journal_kind, AsksEachOnce}
-pub use Rattle.sync_journal.specs.{Layout.{IsPageSector, home_count_in, layout_before}, Map.{AreHomes, map_count, IsBadMap, home_in}, OldJournal.{StandsAsListed, old_homes, IsLookedAtIn}, Recovering.{RecoversEither}}
+pub use Rattle.sync_journal.specs.{Journal.{live_homes}, Kinds.{kind_of, kind_home_count, kind_home, kind_homes, kind_when, store_live, IsStoreRest, journal_kind, layout_of}}
+pub use Rattle.sync_journal.specs.{Layout.{IsPageSector, home_count_in, sizes_before}, Map.{AreHomes, map_count, IsBadMap, home_in}, OldJournal.{StandsAsListed, old_homes, IsLookedAtIn}, Recovering.{RecoversEither}}
 pub use Rattle.sync_journal.specs.{Resuming.{IsKindResumed, IsStoreResumed, TakesUp, IsLiveAsNamed}, Runs.{RunsOnDevice}, Standing.{standing_in}, Turns.{turn_map, named_in, turn_stands, turn_body, start_of}}
 pub use Rattle.{sync_journal.specs.declared.{faults.RecoverFault.{RecoverFault}, store_journal.{Journals.{Journals, TheVariants.{Single, Paired}}, StoreJournal.{StoreJournal}}}, vm_types.specs.declared.file.FileInfo.{FileInfo}}
 pub use Rattle.vm_types.specs.declared.file.FilePage.{FilePage}

@@ -1,11 +1,11 @@
 -- The directory and the homes of a new store.
 use Rattle.file_store.proofs.Names.{◌≡◌, ℕ, zero, suc, ◌+◌, ◌*◌, ◌%◌, ◌<◌, ◌≤◌, ⊎_elim, Bool, true, false, List, [], ◌∷◌, ◌++◌, length, drop, slice_get, Option, Some, None, Result, Ok, Err, OnOk, refl, sym, ap, subst, ◌∙◌, arith, cases_lt}
 use Rattle.file_store.proofs.Names.{bytes_eq-Decides, none-some, same_Some, slice_get_within, slice_get_cases, option_map, FileInfo, Image, part_of, joined, closed_sector, turn_map, map_count, turn_kind, is_kind, kind_when, kind_of}
-use Rattle.file_store.proofs.Names.{kind_homes, kind_home, kind_home_count, kind_standing, IsKindBad, IsKindClosed, Journals, Single, Paired, closed, joined-same, joined_parts}
-use Rattle.file_store.specs.{declared.directory.Entry.{Entry}, declared.sources.FileSource.{FileSource}, Layout.{pages_of_length, bytes_inside, padded_page}, Directory.{AreGood}}
-use Rattle.file_store.specs.{Standing.{IsBadLayoutIn, standing, listed_entry, info_at, directory_entry, page_standing, standing_page}, Versions.{version_at, version_of, homes_of, home_pages_of, directory_of, mark_of}, Format.{page_told}}
-use Rattle.file_store.specs.Format.{page_given, info_of, files_given, total_pages, told_by, first_home, entry_given, HoldsPage, HoldsCut, IsEmptyJournal, HasHead, HasTables, IsTooLarge, IsDirectoryOf, IsUnmarkedStoreOf, IsStoreOf}
-use Rattle.file_store.{specs.Format.IsTooLarge.{TooFewSectors, TooManyPages}, proofs.{Pieces.{trimmed-trimmed, length-trimmed}, Images.{sector_kind, kind_closed, kind_not_bad, homes_same, homes_behind, directory_inside, layout_is_good_in}}}
+use Rattle.file_store.proofs.{Names.{kind_homes, kind_home, kind_home_count, Journals, Single, Paired, closed, joined-same, joined_parts}, Pieces.{trimmed-trimmed, length-trimmed}, Images.{sector_kind, kind_closed, kind_not_bad}}
+use Rattle.file_store.{proofs.Images.{homes_same, homes_behind, directory_inside, layout_is_good_in}, specs.{declared.{directory.Entry.{Entry}, sources.FileSource.{FileSource}}, Layout.{pages_of_length, bytes_inside, padded_page}}}
+use Rattle.file_store.specs.{Directory.{AreGood}, Standing.{IsBadLayoutIn, standing, listed_entry, info_at, directory_entry, page_standing, standing_page}, Versions.{version_at, version_of, homes_of, home_pages_of, directory_of, mark_of}}
+use Rattle.file_store.specs.Format.{page_told, page_given, info_of, files_given, total_pages, told_by, first_home, entry_given, HoldsPage, HoldsCut, IsEmptyJournal, HasHead, HasTables, IsTooLarge, IsTooLarge.{TooFewSectors, TooManyPages}}
+use Rattle.{file_store.specs.Format.{IsDirectoryOf, IsUnmarkedStoreOf, IsStoreOf}, sync_journal.specs.Kinds.{layout_of}}
 
 -- where a list goes on
 pub slice_get-drop : {A : Type 0} → (list : List A) (n : ℕ) → slice_get (drop n list) 0 ≡ slice_get list n
@@ -154,7 +154,7 @@ unfolding joined
 named_zero second image is first = ap (λ b. map_count (turn_map b image)) is
     ∙ zero_map (image 25) (image 26) (image 27) (image 28) (image 29) (image 30) (image 31) (image 24) first
 
-pub empty_closed : (kind : Journals) (image : Image) → IsEmptyJournal kind image → IsKindClosed kind image
+pub empty_closed : (kind : Journals) (image : Image) → IsEmptyJournal kind image → (layout_of kind).IsClosed image
 empty_closed Single image gate = closed (image 2) gate
 empty_closed Paired image gate = named_zero _ image (closed (image 16) gate.0) gate.1
 
@@ -166,7 +166,7 @@ module _ {R : Type 0} (kind : Journals) (remaining : R → Option (List ℕ)) (s
   -- the mark is no part of it
   pub unmarked_moves : (old new : Image) → ((k : ℕ) → 1 ≤ k → new k ≡ old k) → IsUnmarkedStoreOf kind remaining sources old → IsUnmarkedStoreOf kind remaining sources new
   unmarked_moves old new same all = record {
-    of_kind = ap sector_kind (same 1 (omega arith)) ∙ all.of_kind;
+    layout_of = ap sector_kind (same 1 (omega arith)) ∙ all.layout_of;
     directory = subst (λ (s : List ℕ). IsDirectoryOf sources s) (sym (same (directory_of (version_at kind)) (directory_inside kind).0)) all.directory;
     gate = empty_moves kind old new same all.gate;
     files = λ f source lt at k below. cut_moves kind (first_home sources f + k) (bytes_inside source.length k) (page_given remaining source k) old new
@@ -174,14 +174,14 @@ module _ {R : Type 0} (kind : Journals) (remaining : R → Option (List ℕ)) (s
   }
 
   -- a page of it
-  page_stands : (image : Image) (f k : ℕ) (source : FileSource R) (page : List ℕ) → kind_of image ≡ kind → IsKindClosed kind image
+  page_stands : (image : Image) (f k : ℕ) (source : FileSource R) (page : List ℕ) → kind_of image ≡ kind → (layout_of kind).IsClosed image
       → directory_entry image f ≡ Some (record { first = first_home sources f; info = info_of source })
       → HoldsPage kind (first_home sources f + k) page image → IsTold source.length k (told_by remaining source.bytes) page → standing_page image f k ≡ page
   page_stands image f k source page known is_closed entry holds told =
       let first = first_home sources f in
       ap (page_standing image k) entry
       ∙ ap (padded_page (bytes_inside source.length k)) (joined-same 8 (standing image (first + k)) (part_of page)
-      (λ i inside. ap (λ b. kind_standing b image (first + k) i) known ∙ kind_closed kind image (first + k) i is_closed ∙ holds i inside)
+      (λ i inside. ap (λ b. (layout_of b).standing image (first + k) i) known ∙ kind_closed kind image (first + k) i is_closed ∙ holds i inside)
       ∙ joined_parts page (told_size source.length k (told_by remaining source.bytes) page told))
       ∙ told_trimmed source.length k (told_by remaining source.bytes) page told
 
@@ -192,11 +192,11 @@ module _ {R : Type 0} (kind : Journals) (remaining : R → Option (List ℕ)) (s
     layout = λ bad. layout_is_good_in (version_at kind) sectors image (omega (arith, room, homes)) (marked ∙ ap mark_of version)
         (good_given (home_pages_of (version_at kind) sectors) sources (image (directory_of (version_at kind))) (omega (arith, fit, homes)) (omega arith) all.directory)
         (subst (λ v. IsBadLayoutIn v sectors image) version bad);
-    journal = λ bad. kind_not_bad kind sectors image (empty_closed kind image all.gate) (subst (λ b. IsKindBad b sectors image) all.of_kind bad);
+    journal = λ bad. kind_not_bad kind sectors image (empty_closed kind image all.gate) (subst (λ b. (layout_of b).IsBad sectors image) all.layout_of bad);
     facts = λ f. ap (λ v. info_at v image f) version ∙ ap (option_map (λ (e : Entry). e.info)) (all.directory.entries f) ∙ info_given sources f;
     pages = λ f k source page at inside given.
         let first : first_home sources f < 1073741824 = omega (arith, first_home-fits sources f source at, fit, inside) in
-        page_stands image f k source page all.of_kind (empty_closed kind image all.gate) (ap (λ v. listed_entry v image f) version ∙ all.directory.entries f ∙ entry_of_pages sources f source at first)
+        page_stands image f k source page all.layout_of (empty_closed kind image all.gate) (ap (λ v. listed_entry v image f) version ∙ all.directory.entries f ∙ entry_of_pages sources f source at first)
         (cut_given kind (first_home sources f + k) (bytes_inside source.length k) (page_given remaining source k) page image
         (all.files f source (slice_get_within sources f source at) at k (omega (arith, inside))) given)
         (is_told source.length k (told_by remaining source.bytes) page given);
@@ -207,7 +207,7 @@ module _ {R : Type 0} (kind : Journals) (remaining : R → Option (List ℕ)) (s
       homes = homes_same kind
 
       version : version_of image ≡ version_at kind
-      version = ap version_at all.of_kind
+      version = ap version_at all.layout_of
 
 -- what is written at the head of a new store
 kind_is_kind : is_kind turn_kind ≡ true
@@ -222,7 +222,7 @@ pub tables_head : {T E : Type 0} (r : Result T E) (sector : List ℕ) (before af
     → OnOk r (after 1 ≡ turn_kind) → OnOk r (HasHead Paired sector after)
 tables_head (Err e) sector before after tables same kind = tt
 tables_head (Ok x) sector before after tables same kind = record {
-  of_kind = ap sector_kind kind ∙ ap kind_when kind_is_kind;
+  layout_of = ap sector_kind kind ∙ ap kind_when kind_is_kind;
   directory = same 9 (omega arith) ∙ tables.directory;
   journal = (same 16 (omega arith) ∙ tables.journal.0, same 24 (omega arith) ∙ tables.journal.1);
 }
@@ -230,4 +230,4 @@ tables_head (Ok x) sector before after tables same kind = record {
 -- and at that of layout 2
 pub one_head : {T E : Type 0} (r : Result T E) (sector : List ℕ) (image : Image) → is_kind sector ≡ false → image 1 ≡ sector → image 2 ≡ closed_sector → OnOk r (HasHead Single sector image)
 one_head (Err e) sector image no_kind directory gate = tt
-one_head (Ok x) sector image no_kind directory gate = record { of_kind = ap sector_kind directory ∙ ap kind_when no_kind; directory = directory; journal = gate }
+one_head (Ok x) sector image no_kind directory gate = record { layout_of = ap sector_kind directory ∙ ap kind_when no_kind; directory = directory; journal = gate }

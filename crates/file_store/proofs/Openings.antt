@@ -1,9 +1,9 @@
 -- What opening leaves meanwhile.
-use Rattle.file_store.proofs.Names.{◌≡◌, ◌≤◌, ℕ, false, List, Option, Result, Ok, Err, OnOk, inl, inr, refl, ⊎_elim, sym, ap, subst, ◌∙◌, arith, Image, MayLeave, Nothing, Touches, LeavesOnly, Ghosts, weaker, then, StoreStandsAs, KeepsStore}
-use Rattle.file_store.proofs.Names.{is_kind, kind_when, kind_of, kind_home_count, MayLeaveBlocks, LeavesInBlocks, RecoversInBlocks, layout_before, home_count_in, Journals, Single, Paired, blocks_weaker, commits_weaker, while_reading}
-use Rattle.file_store.proofs.Names.{while_recovering, same_store}
-use Rattle.file_store.specs.{declared.version.Version.{Version}, declared.directory.Entry.{Entry}, Versions.{version_at, version_before, version_of, homes_of, home_pages_of, directory_of, mark_of}, Directory.{IsSoundDirectory, AreGood}}
-use Rattle.file_store.{specs.{Blocks.{OpensByBlocks}, Standing.{StandsAs, IsHeadIn, IsBadLayoutIn}}, proofs.{Images.{sector_kind, stands_kept, layout_is_good_in}, Reading.{same_content}, Stops.{stands_as_again}}}
+use Rattle.file_store.proofs.Names.{◌≡◌, ◌≤◌, ℕ, false, List, Option, Result, Ok, Err, OnOk, inl, inr, refl, ⊎_elim, sym, ap, subst, ◌∙◌, arith, Image, MayLeave, Nothing, Touches, LeavesOnly, Ghosts, weaker, then, is_kind, kind_when}
+use Rattle.file_store.proofs.Names.{kind_of, kind_home_count, MayLeaveBlocks, LeavesInBlocks, RecoversInBlocks, sizes_before, home_count_in, Journals, Single, Paired, blocks_weaker, commits_weaker, while_reading, while_recovering}
+use Rattle.file_store.{proofs.{Names.{same_stands}, Images.{sector_kind, stands_kept, layout_is_good_in}, Reading.{same_content}, Stops.{stands_as_again}}, specs.declared.{version.Version.{Version}, directory.Entry.{Entry}}}
+use Rattle.file_store.specs.{Versions.{version_at, version_before, version_of, homes_of, home_pages_of, directory_of, mark_of}, Directory.{IsSoundDirectory, AreGood}, Blocks.{OpensByBlocks}, Standing.{StandsAs, IsHeadIn, IsBadLayoutIn}}
+use Rattle.sync_journal.specs.{Layouts.{HomesStandAs, KeepsHomes}, Kinds.{by_kind}}
 
 -- what was found of the kind: where the mark claims layout 3 it was read, and otherwise sector 1 holds a directory
 pub kind_found : (kind : Journals) (image : Image) (sector : List ℕ) → (kind ≡ Paired → kind_of image ≡ Paired) → is_kind sector ≡ false → sector ≡ image (directory_of (version_at kind)) → kind_of image ≡ kind
@@ -27,7 +27,7 @@ pub kind_sound : (kind : Journals) (version : Version) (n : ℕ) (entry : ℕ �
 kind_sound Single version n entry is sound = subst (λ v. IsSoundDirectory (home_pages_of v n) entry) is sound
 kind_sound Paired version n entry is sound = subst (λ v. IsSoundDirectory (home_pages_of v n) entry) is sound
 
-pub old_sound : (kind : Journals) (version : Version) (n : ℕ) (entry : ℕ → Option Entry) → version ≡ version_before kind → IsSoundDirectory (home_pages_of version n) entry → IsSoundDirectory (home_count_in (layout_before kind) n) entry
+pub old_sound : (kind : Journals) (version : Version) (n : ℕ) (entry : ℕ → Option Entry) → version ≡ version_before kind → IsSoundDirectory (home_pages_of version n) entry → IsSoundDirectory (home_count_in (sizes_before kind) n) entry
 old_sound Single version n entry is sound = subst (λ v. IsSoundDirectory (home_pages_of v n) entry) is sound
 old_sound Paired version n entry is sound = subst (λ v. IsSoundDirectory (home_pages_of v n) entry) is sound
 
@@ -42,15 +42,15 @@ module _ {D : Type 0} (g : Ghosts D) where
   -- reads, and then a recovery
   pub recovery_leaves : (old mid new : D) → g.sector_count mid ≡ g.sector_count old
       → ((c : Image) → g.left_since old (g.moment old) c → MayLeave (g.content old) (g.unsynced old) c)
-      → Touches g Nothing old mid → (((k : ℕ) → g.unsynced mid k → ⊥) → KeepsStore g mid new)
-      → ((k : ℕ) → g.unsynced old k → ⊥) → KeepsStore g old new
+      → Touches g Nothing old mid → (((k : ℕ) → g.unsynced mid k → ⊥) → KeepsHomes by_kind g mid new)
+      → ((k : ℕ) → g.unsynced old k → ⊥) → KeepsHomes by_kind g old new
   recovery_leaves old mid new size only_now run recovery synced =
       while_recovering g old mid new run size (while_reading g old mid new run only_now synced) (recovery (still_synced old mid run synced))
 
   -- where the homes stand, the files stand as they did before any earlier stop
   pub files_stand : (old new : D) (sectors : ℕ) (first : Image) → StandsAs sectors first (g.content old)
-      → LeavesOnly g old new (StoreStandsAs sectors (g.content old)) → LeavesOnly g old new (StandsAs sectors first)
-  files_stand old new sectors first was homes = weaker g old new (StoreStandsAs sectors (g.content old)) (StandsAs sectors first)
+      → LeavesOnly g old new (HomesStandAs by_kind sectors (g.content old)) → LeavesOnly g old new (StandsAs sectors first)
+  files_stand old new sectors first was homes = weaker g old new (HomesStandAs by_kind sectors (g.content old)) (StandsAs sectors first)
       (λ image kept. stands_as_again sectors first (g.content old) image was (stands_kept sectors (g.content old) image kept)) homes
 
   -- where a stop spoils whole blocks
@@ -62,27 +62,27 @@ module _ {D : Type 0} (g : Ghosts D) where
           (λ e. e ∙ same_content g old d reads k) (may.kept k) t
 
   pub opens_by_blocks : (old mid new : D) → g.sector_count mid ≡ g.sector_count old → ((k : ℕ) → g.unsynced old k → ⊥) → Touches g Nothing old mid
-      → RecoversInBlocks g (StoreStandsAs (g.sector_count mid) (g.content mid)) mid new → OpensByBlocks g (StoreStandsAs (g.sector_count old) (g.content old)) old new
+      → RecoversInBlocks g (HomesStandAs by_kind (g.sector_count mid) (g.content mid)) mid new → OpensByBlocks g (HomesStandAs by_kind (g.sector_count old) (g.content old)) old new
   opens_by_blocks old mid new size synced run recovery = ⊎_elim
       (λ reads. inl (reads_by_blocks P old new synced here (then g Nothing old mid new run reads)))
       (λ after. inr (after.0, reads_by_blocks P old after.0 synced here (then g Nothing old mid after.0 run after.1), after.2, after.3, after.4))
-      (subst (λ (n : ℕ). RecoversInBlocks g (StoreStandsAs n (g.content old)) mid new) size
-      (subst (λ (image : Image). RecoversInBlocks g (StoreStandsAs (g.sector_count mid) image) mid new) (content_is old mid run) recovery))
+      (subst (λ (n : ℕ). RecoversInBlocks g (HomesStandAs by_kind n (g.content old)) mid new) size
+      (subst (λ (image : Image). RecoversInBlocks g (HomesStandAs by_kind (g.sector_count mid) image) mid new) (content_is old mid run) recovery))
     where
       P : Image → Type 0
-      P = StoreStandsAs (g.sector_count old) (g.content old)
+      P = HomesStandAs by_kind (g.sector_count old) (g.content old)
 
       here : P (g.content old)
-      here = same_store (g.sector_count old) (g.content old) (g.content old) refl
+      here = same_stands by_kind (g.sector_count old) (g.content old) (g.content old) refl
 
   pub files_by_blocks : (old new : D) (sectors : ℕ) (first : Image) → StandsAs sectors first (g.content old)
-      → OpensByBlocks g (StoreStandsAs sectors (g.content old)) old new → OpensByBlocks g (StandsAs sectors first) old new
+      → OpensByBlocks g (HomesStandAs by_kind sectors (g.content old)) old new → OpensByBlocks g (StandsAs sectors first) old new
   files_by_blocks old new sectors first was = ⊎_elim
       (λ reads. inl (blocks_weaker g Nothing P Q old new more reads))
       (λ run. inr (run.0, blocks_weaker g Nothing P Q old run.0 more run.1, run.2, run.3, commits_weaker g P Q more run.2 run.3 run.0 new run.4))
     where
       P : Image → Type 0
-      P = StoreStandsAs sectors (g.content old)
+      P = HomesStandAs by_kind sectors (g.content old)
 
       Q : Image → Type 0
       Q = StandsAs sectors first

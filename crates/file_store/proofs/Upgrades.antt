@@ -1,12 +1,12 @@
 -- A store made anew in the next layout.
 use Rattle.file_store.proofs.{Blocks.{single_paired}, Formats.{home_stays}, Homes.{entry_behind, one_file}, Images.{sector_kind, kind_closed, kind_not_bad, homes_same, homes_behind, directory_inside, layout_low}, Names.{option_map, ◌≡◌}}
-use Rattle.file_store.proofs.Names.{◌≢◌, ◌⊎◌, ◌+◌, ◌*◌, ◌<◌, ◌≤◌, ℕ, List, Option, Some, None, inl, inr, ⊎_elim, refl, sym, ap, subst, ◌∙◌, arith, FileInfo, Image, joined, part_of, joined-same, joined_parts, layout_before, kind_of}
-use Rattle.file_store.proofs.{Names.{kind_homes, kind_home, kind_home_count, kind_standing, IsKindBad, IsKindClosed, standing_in, Journals, Single, Paired}, NewStores.{empty_closed, empty_moves}, Pieces.{trimmed-trimmed, length-trimmed}}
-use Rattle.file_store.specs.{Directory.{entry_in, home_end, IsHomeOf, IsBadDirectory, IsSoundDirectory, IsBadDirectory.{NotZero, Outside, Overlap}}, Faults.{old_fault}, Format.{IsFrom, IsTableSector, HasTables, HoldsPage}}
-use Rattle.file_store.specs.{Layout.{turn_mark, pages_of_length, bytes_inside, padded_page}, Standing.{IsBadLayoutIn, IsBadLayout, IsBadJournal, IsBadOldLayout, IsPageOf, standing, listed_entry, info_at, file_info, page_standing_in}}
-use Rattle.file_store.specs.{Standing.{page_standing, standing_page_at, standing_page, IsBadLayoutIn.{TooSmall, Unmarked, BadDirectory}}, Upgrade.{old_directory, old_entry, IsTooSmall, IsCopiedSector, IsUpgradeSector, IsEntrySector}}
-use Rattle.file_store.specs.{Upgrade.{IsUnmarkedUpgrade, IsKindlessUpgrade, HoldsOldFiles, IsUpgradeOf, IsTooSmall.{FewSectors, FewHomes}}, Versions.{version_at, version_before, version_of, home_pages_of, directory_of, mark_of}}
-use Rattle.file_store.specs.declared.{directory.Entry.{Entry}, faults.{OpenFault.{OpenFault, TheVariants.{Device, BadLayout, BadJournal}}, UpgradeFault.TheVariants.{OldLayout}}}
+use Rattle.file_store.proofs.Names.{◌≢◌, ◌⊎◌, ◌+◌, ◌*◌, ◌<◌, ◌≤◌, ℕ, List, Option, Some, None, inl, inr, ⊎_elim, refl, sym, ap, subst, ◌∙◌, arith, FileInfo, Image, joined, part_of, joined-same, joined_parts, sizes_before, kind_of}
+use Rattle.file_store.{proofs.{Names.{kind_homes, kind_home, kind_home_count, standing_in, Journals, Single, Paired}, NewStores.{empty_closed, empty_moves}, Pieces.{trimmed-trimmed, length-trimmed}}, specs.Directory.{entry_in, home_end}}
+use Rattle.file_store.specs.{Directory.{IsHomeOf, IsBadDirectory, IsBadDirectory.{NotZero, Outside, Overlap}, IsSoundDirectory}, Faults.{old_fault}, Format.{IsFrom, IsTableSector, HasTables, HoldsPage}, Layout.{turn_mark, pages_of_length}}
+use Rattle.file_store.specs.{Layout.{bytes_inside, padded_page}, Standing.{IsBadLayoutIn, IsBadLayoutIn.{TooSmall, Unmarked, BadDirectory}, IsBadLayout, IsBadJournal, IsBadOldLayout, IsPageOf, standing, listed_entry, info_at, file_info}}
+use Rattle.file_store.specs.{Standing.{page_standing_in, page_standing, standing_page_at, standing_page}, Upgrade.{old_directory, old_entry, IsTooSmall, IsTooSmall.{FewSectors, FewHomes}, IsCopiedSector, IsUpgradeSector, IsEntrySector}}
+use Rattle.file_store.specs.{Upgrade.{IsUnmarkedUpgrade, IsKindlessUpgrade, HoldsOldFiles, IsUpgradeOf}, Versions.{version_at, version_before, version_of, home_pages_of, directory_of, mark_of}, declared.directory.Entry.{Entry}}
+use Rattle.{file_store.specs.declared.faults.{OpenFault.{OpenFault, TheVariants.{Device, BadLayout, BadJournal}}, UpgradeFault.TheVariants.{OldLayout}}, sync_journal.specs.Kinds.{layout_of}}
 
 -- the homes of a file are homes
 pub entry_from : (kind : Journals) (entry : Option Entry) (k : ℕ) → IsEntrySector kind entry k → kind_homes kind ≤ k
@@ -48,22 +48,22 @@ new_layout kind old_sectors sectors old image room good fits directory marked (B
     (subst (λ s. IsBadDirectory (home_pages_of (version_at kind) sectors) s) directory bad)))
 
 -- a page of the new store
-page_upgraded : (kind : Journals) (old image : Image) (k : ℕ) (e : Entry) → kind_of image ≡ kind → IsKindClosed kind image
-    → HoldsPage kind (e.first + k) (page_standing_in (standing_in (layout_before kind) old) k (Some e)) image
-    → page_standing image k (Some e) ≡ page_standing_in (standing_in (layout_before kind) old) k (Some e)
+page_upgraded : (kind : Journals) (old image : Image) (k : ℕ) (e : Entry) → kind_of image ≡ kind → (layout_of kind).IsClosed image
+    → HoldsPage kind (e.first + k) (page_standing_in (standing_in (sizes_before kind) old) k (Some e)) image
+    → page_standing image k (Some e) ≡ page_standing_in (standing_in (sizes_before kind) old) k (Some e)
 page_upgraded kind old image k e known gate holds =
     let small : bytes_inside e.info.length k ≤ 4096 = omega arith in
-    let was = joined (standing_in (layout_before kind) old (e.first + k)) 8 in
+    let was = joined (standing_in (sizes_before kind) old (e.first + k)) 8 in
     let page = padded_page (bytes_inside e.info.length k) was in
     ap (padded_page (bytes_inside e.info.length k)) (joined-same 8 (standing image (e.first + k)) (part_of page)
-    (λ i lt. ap (λ b. kind_standing b image (e.first + k) i) known ∙ kind_closed kind image (e.first + k) i gate ∙ holds i lt) ∙ joined_parts page (length-trimmed (bytes_inside e.info.length k) was small))
+    (λ i lt. ap (λ b. (layout_of b).standing image (e.first + k) i) known ∙ kind_closed kind image (e.first + k) i gate ∙ holds i lt) ∙ joined_parts page (length-trimmed (bytes_inside e.info.length k) was small))
     ∙ trimmed-trimmed (bytes_inside e.info.length k) was small
 
 -- the mark is no part of what is written before it
 pub upgrade_moves : (kind : Journals) (old before after : Image) → ((k : ℕ) → 1 ≤ k → after k ≡ before k) → IsUnmarkedUpgrade kind old before → IsUnmarkedUpgrade kind old after
 upgrade_moves kind old before after same all = record {
   head = record {
-    of_kind = ap sector_kind (same 1 (omega arith)) ∙ all.head.of_kind;
+    layout_of = ap sector_kind (same 1 (omega arith)) ∙ all.head.layout_of;
     directory = same (directory_of (version_at kind)) (directory_inside kind).0 ∙ all.head.directory;
     journal = empty_moves kind before after same all.head.journal;
   };
@@ -87,17 +87,17 @@ upgraded kind old_sectors sectors old image room good fits all marked = record {
 }
   where
     version : version_of image ≡ version_at kind
-    version = ap version_at all.head.of_kind
+    version = ap version_at all.head.layout_of
 
     layout : IsBadLayout sectors image → ⊥
     layout bad = new_layout kind old_sectors sectors old image room good (λ f e is. (fits f e is).1) all.head.directory (marked ∙ ap mark_of version)
         (subst (λ v. IsBadLayoutIn v sectors image) version bad)
 
-    gate : IsKindClosed kind image
+    gate : (layout_of kind).IsClosed image
     gate = empty_closed kind image all.head.journal
 
     journal : IsBadJournal sectors image → ⊥
-    journal bad = kind_not_bad kind sectors image gate (subst (λ b. IsKindBad b sectors image) all.head.of_kind bad)
+    journal bad = kind_not_bad kind sectors image gate (subst (λ b. (layout_of b).IsBad sectors image) all.head.layout_of bad)
 
     info : (f : ℕ) → file_info image f ≡ info_at (version_before kind) old f
     info f = ap (λ v. info_at v image f) version ∙ ap (λ (s : List ℕ). option_map (λ (e : Entry). e.info) (entry_in s f)) all.head.directory
@@ -105,14 +105,14 @@ upgraded kind old_sectors sectors old image room good fits all marked = record {
     entry : (f : ℕ) → listed_entry (version_of image) image f ≡ old_entry kind old f
     entry f = ap (λ v. listed_entry v image f) version ∙ ap (λ (s : List ℕ). entry_in s f) all.head.directory
 
-    same : (files : ℕ → Option FileInfo) (f k : ℕ) → IsPageOf files f k → info_at (version_before kind) old f ≡ files f → standing_page image f k ≡ standing_page_at (version_before kind) (standing_in (layout_before kind) old) old f k
+    same : (files : ℕ → Option FileInfo) (f k : ℕ) → IsPageOf files f k → info_at (version_before kind) old f ≡ files f → standing_page image f k ≡ standing_page_at (version_before kind) (standing_in (sizes_before kind) old) old f k
     same files f k inside facts =
         let b = entry_behind (old_entry kind old f) inside.0 (facts ∙ inside.1) in
         let lt : 4096 * k < b.0.info.length = subst (λ (i : FileInfo). 4096 * k < i.length) (sym b.2) inside.2 in
         ap (page_standing image k) (entry f)
         ∙ ap (page_standing image k) b.1
-        ∙ page_upgraded kind old image k b.0 all.head.of_kind gate (all.files f b.0 (fits f b.0 b.1).0 b.1 k (omega (arith, lt)))
-        ∙ sym (ap (page_standing_in (standing_in (layout_before kind) old) k) b.1)
+        ∙ page_upgraded kind old image k b.0 all.head.layout_of gate (all.files f b.0 (fits f b.0 b.1).0 b.1 k (omega (arith, lt)))
+        ∙ sym (ap (page_standing_in (standing_in (sizes_before kind) old) k) b.1)
 
 pub upgrade_whole : (kind : Journals) (old_sectors sectors : ℕ) (old mid : Image) → kind_homes kind ≤ sectors → (IsBadOldLayout kind old_sectors old → ⊥)
     → ((f : ℕ) (e : Entry) → old_entry kind old f ≡ Some e → (f < 64) × (home_end e ≤ kind_home_count kind sectors)) → IsUnmarkedUpgrade kind old mid
@@ -164,4 +164,4 @@ upgraded_of_kind Single old_sectors sectors old is room good fits mid c all same
 upgraded_of_kind Paired old_sectors sectors old is room good fits mid c all same known marked =
     let moved = kindless_upgrade_moves old mid c same all in
     upgraded Paired old_sectors sectors old c room good fits
-    (record { head = record { of_kind = known; directory = moved.tables.directory; journal = moved.tables.journal }; files = moved.files }) (marked ∙ ap (λ b. mark_of (version_at b)) (sym known))
+    (record { head = record { layout_of = known; directory = moved.tables.directory; journal = moved.tables.journal }; files = moved.files }) (marked ∙ ap (λ b. mark_of (version_at b)) (sym known))

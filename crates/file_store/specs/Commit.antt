@@ -7,9 +7,10 @@ use Rattle.disk_model.specs.declared.sector_disk.SectorDisk.{Ghosts}
 use Rattle.sync_journal.specs.declared.faults.CommitFault.{CommitFault}
 use Rattle.sync_journal.specs.declared.faults.CommitFault.TheVariants.{Source}
 use Rattle.sync_journal.specs.declared.source.PageSource.{Ghosts as SourceGhosts}
-use Rattle.sync_journal.specs.Kinds.{IsStoreCommitted, IsStoreUsed, StoreStandsAs, AsksEachOnce}
+use Rattle.sync_journal.specs.Kinds.{IsStoreUsed, by_kind}
 use Rattle.sync_journal.specs.Blocks.{StoreCommitsInBlocks}
 use Rattle.sync_journal.specs.Source.{HasCauses, Asks}
+use Rattle.sync_journal.specs.Layouts.{HomesStandAs}
 use Rattle.vm_types.specs.declared.file.FileInfo.{FileInfo}
 use Rattle.vm_types.specs.declared.file.FilePage.{FilePage}
 use Rattle.file_store.specs.declared.store.FileStore.{FileStore}
@@ -65,7 +66,7 @@ module _ {D S : Type 0} (g : Ghosts D) (s : SourceGhosts S) where
     pub homes_moment : g.keeps_model new.disk → s.keeps_model given'
         → LeavesOnly g old.disk new.disk (PutsHomesOrNone (g.sector_count old.disk) old.directory list (s.pages given) (g.content old.disk))
     -- After a source's fault they stand for the files before, as at every moment of the call, and the store is ready.
-    pub source_homes : g.keeps_model new.disk → IsErrOf result Source → LeavesNow g new.disk (StoreStandsAs (g.sector_count old.disk) (g.content old.disk))
+    pub source_homes : g.keeps_model new.disk → IsErrOf result Source → LeavesNow g new.disk (HomesStandAs by_kind (g.sector_count old.disk) (g.content old.disk))
     pub source : g.keeps_model new.disk → IsErrOf result Source
         → (files : ℕ → Option FileInfo) (before : ℕ → ℕ → List ℕ) → LeavesNow g old.disk (StandsFor (g.sector_count old.disk) files before)
         → LeavesOnly g old.disk new.disk (StandsFor (g.sector_count old.disk) files before)
@@ -81,7 +82,7 @@ module _ {D S : Type 0} (g : Ghosts D) (s : SourceGhosts S) where
     -- is written.
     pub asks : Asks s given given'
     pub asks_device : AsksOnly g (IsStoreUsed old.journal) old.disk new.disk
-    pub once : AsksEachOnce g old.journal (homes_of_pages old.directory list) old.disk new.disk
-    pub touches : g.keeps_model new.disk → Touches g (IsStoreCommitted old.journal) old.disk new.disk
+    pub once : by_kind.AsksOnce g old.journal (homes_of_pages old.directory list) old.disk new.disk
+    pub touches : g.keeps_model new.disk → Touches g (by_kind.IsCommitted old.journal) old.disk new.disk
     -- A fault is told exactly where the one that it names failed.
     pub causes : HasCauses (g.failures old.disk) (g.failures new.disk) (s.failures given) (s.failures given') result

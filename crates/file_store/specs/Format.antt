@@ -68,7 +68,7 @@ pub record HasTables (kind : Journals) (sector : List ℕ) (image : Image) : Typ
 
 -- Kind, directory and an empty journal.
 pub record HasHead (kind : Journals) (sector : List ℕ) (image : Image) : Type 0 where
-  pub of_kind : kind_of image ≡ kind
+  pub layout_of : kind_of image ≡ kind
   pub directory : image (directory_of (version_at kind)) ≡ sector
   pub journal : IsEmptyJournal kind image
 
@@ -150,7 +150,7 @@ module _ {R : Type 0} where
 
   -- The image has all of the sources' store but the mark.
   pub record IsUnmarkedStoreOf (kind : Journals) (remaining : R → Option (List ℕ)) (sources : List (FileSource R)) (image : Image) : Type 0 where
-    pub of_kind : kind_of image ≡ kind
+    pub layout_of : kind_of image ≡ kind
     pub directory : IsDirectoryOf sources (image (directory_of (version_at kind)))
     pub gate : IsEmptyJournal kind image
     pub files : HoldsFiles kind remaining sources (length sources) image

@@ -5,10 +5,11 @@ use Rattle.disk_model.specs.Moments.{Touches, AsksOnly, Nothing, LeavesOnly, Lea
 use Rattle.disk_model.specs.declared.sector_disk.SectorDisk.{Ghosts}
 use Rattle.sync_journal.specs.declared.store_journal.Journals.{Journals}
 use Rattle.sync_journal.specs.declared.store_journal.Journals.TheVariants.{Paired}
-use Rattle.sync_journal.specs.Layout.{layout_before, home_count_in}
-use Rattle.sync_journal.specs.Kinds.{is_kind, kind_of, kind_homes, kind_home_count, store_live, IsStoreClosed, IsStoreRecovered, StoreStandsAs, KeepsStore}
+use Rattle.sync_journal.specs.Layout.{sizes_before, home_count_in}
+use Rattle.sync_journal.specs.Kinds.{is_kind, kind_of, kind_homes, kind_home_count, store_live, by_kind}
 use Rattle.sync_journal.specs.OldJournal.{old_homes}
 use Rattle.sync_journal.specs.Runs.{RunsOnDevice}
+use Rattle.sync_journal.specs.Layouts.{HomesStandAs, KeepsHomes}
 use Rattle.file_store.specs.declared.directory.Directory.{Directory}
 use Rattle.file_store.specs.declared.faults.OpenFault.{OpenFault}
 use Rattle.file_store.specs.declared.faults.OpenFault.TheVariants.{Device, BadLayout, BadJournal}
@@ -72,10 +73,10 @@ module _ {D : Type 0} (g : Ghosts D) where
     -- it is of the layout before,
     pub before : store.journal.journals ≡ journals
     -- its files have their homes within it, each its own, and its directory is no kind,
-    pub sound : IsSoundDirectory (home_count_in (layout_before journals) (g.sector_count old)) (entry_of store.directory)
+    pub sound : IsSoundDirectory (home_count_in (sizes_before journals) (g.sector_count old)) (entry_of store.directory)
     pub no_kind : is_kind store.sector ≡ false
     -- its journal names no more homes than it has room for,
-    pub few : length (old_homes store.journal) ≤ (layout_before journals).most
+    pub few : length (old_homes store.journal) ≤ (sizes_before journals).most
     -- it is what the image says,
     pub found : g.keeps_model new → IsOldStore journals (g.content old) store
     -- and layout and journal are good.
@@ -91,12 +92,12 @@ module _ {D : Type 0} (g : Ghosts D) where
     -- no sector is asked for but those that an opening asks for,
     pub asks : g.keeps_model new → AsksOnly g (IsAskedToOpen (g.content old)) old new
     -- none is written but those of a recovery, and none at all where nothing stands in a journal alone;
-    pub touches : g.keeps_model new → Touches g (IsStoreRecovered (g.content old) (g.sector_count old)) old new
-    pub closed_unwritten : g.keeps_model new → IsStoreClosed (g.content old) → Touches g Nothing old new
+    pub touches : g.keeps_model new → Touches g (by_kind.IsRecovered (g.content old) (g.sector_count old)) old new
+    pub closed_unwritten : g.keeps_model new → by_kind.IsClosed (g.content old) → Touches g Nothing old new
     -- and where nothing was unsynced, every image of a stop at any moment stands for the same homes, of layout 3 also one that spoils whole blocks.
-    pub any_moment : g.keeps_model new → ((k : ℕ) → g.unsynced old k → ⊥) → KeepsStore g old new
+    pub any_moment : g.keeps_model new → ((k : ℕ) → g.unsynced old k → ⊥) → KeepsHomes by_kind g old new
     pub blocks : g.keeps_model new → ((k : ℕ) → g.unsynced old k → ⊥) → kind_of (g.content old) ≡ Paired
-        → OpensByBlocks g (StoreStandsAs (g.sector_count old) (g.content old)) old new
+        → OpensByBlocks g (HomesStandAs by_kind (g.sector_count old) (g.content old)) old new
 
   -- The store on a device is opened:
   pub record OpensFrom (old : D) (store : FileStore D) : Type 0 where
@@ -105,14 +106,14 @@ module _ {D : Type 0} (g : Ghosts D) where
     pub bounded : AreBounded (files_of store)
     -- nothing stands in a journal alone any more, on the device neither, so that the next opening writes nothing, and nothing is unsynced;
     pub closed : store_live store.journal ≡ []
-    pub emptied : g.keeps_model store.disk → IsStoreClosed (g.content store.disk)
+    pub emptied : g.keeps_model store.disk → by_kind.IsClosed (g.content store.disk)
     pub synced : g.keeps_model store.disk → (k : ℕ) → g.unsynced store.disk k → ⊥
     -- its image was that of a store,
     pub good_layout : g.keeps_model store.disk → IsBadLayout (g.sector_count old) (g.content old) → ⊥
     pub good_journal : g.keeps_model store.disk → IsBadJournalOf (g.sector_count old) (g.content old) → ⊥
     -- and stands for what it did, from now on, and so does every home, the bytes past its file's end too.
     pub now : g.keeps_model store.disk → LeavesNow g store.disk (StandsAs (g.sector_count old) (g.content old))
-    pub homes : g.keeps_model store.disk → LeavesNow g store.disk (StoreStandsAs (g.sector_count old) (g.content old))
+    pub homes : g.keeps_model store.disk → LeavesNow g store.disk (HomesStandAs by_kind (g.sector_count old) (g.content old))
     -- Where nothing was unsynced, as after a stop, it does so at every moment of the call: as it did at first, and as it did before any earlier
     -- stop; and of layout 3 even after a stop that spoils whole blocks of 4,096 bytes.
     pub any_moment : g.keeps_model store.disk → ((k : ℕ) → g.unsynced old k → ⊥) → LeavesOnly g old store.disk (StandsAs (g.sector_count old) (g.content old))
@@ -128,8 +129,8 @@ module _ {D : Type 0} (g : Ghosts D) where
     -- No sector is asked for but mark, kind and directory, the gate, and of the journal that it names the map and where that has pages what is
     -- copied; of layout 3 then the other map, too. Nothing is written where nothing stands in a journal alone.
     pub asks : g.keeps_model store.disk → AsksOnly g (IsAskedToOpen (g.content old)) old store.disk
-    pub touches : g.keeps_model store.disk → Touches g (IsStoreRecovered (g.content old) (g.sector_count old)) old store.disk
-    pub closed_unwritten : g.keeps_model store.disk → IsStoreClosed (g.content old) → Touches g Nothing old store.disk
+    pub touches : g.keeps_model store.disk → Touches g (by_kind.IsRecovered (g.content old) (g.sector_count old)) old store.disk
+    pub closed_unwritten : g.keeps_model store.disk → by_kind.IsClosed (g.content old) → Touches g Nothing old store.disk
 
   -- The device is given back with this fault:
   pub record RefusesToOpen (old : D) (fault : OpenFault) (new : D) : Type 0 where
@@ -155,5 +156,5 @@ module _ {D : Type 0} (g : Ghosts D) where
     pub err_later : g.failures old ≤ g.failures new
     -- and is asked for no more, and written to no more, than an opening does.
     pub err_asks : g.keeps_model new → AsksOnly g (IsAskedToOpen (g.content old)) old new
-    pub err_touches : g.keeps_model new → Touches g (IsStoreRecovered (g.content old) (g.sector_count old)) old new
-    pub err_closed_unwritten : g.keeps_model new → IsStoreClosed (g.content old) → Touches g Nothing old new
+    pub err_touches : g.keeps_model new → Touches g (by_kind.IsRecovered (g.content old) (g.sector_count old)) old new
+    pub err_closed_unwritten : g.keeps_model new → by_kind.IsClosed (g.content old) → Touches g Nothing old new

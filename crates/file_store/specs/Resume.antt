@@ -3,9 +3,10 @@
 use Rattle.std.specs.Prelude.{ℕ, ◌<◌, ◌≤◌, ◌≡◌, ◌⊎◌}
 use Rattle.disk_model.specs.Moments.{Nothing, Touches, AsksOnly, LeavesNow, LeavesOnly}
 use Rattle.disk_model.specs.declared.sector_disk.SectorDisk.{Ghosts}
-use Rattle.sync_journal.specs.Kinds.{kind_homes, kind_home_count, journal_kind, store_live, IsStoreClosed, IsStoreRest, StoreStandsAs, KeepsStore}
+use Rattle.sync_journal.specs.Kinds.{kind_homes, kind_home_count, journal_kind, store_live, IsStoreRest, by_kind}
 use Rattle.sync_journal.specs.Map.{AreHomes}
 use Rattle.sync_journal.specs.Resuming.{IsStoreResumed, IsLiveAsNamed}
+use Rattle.sync_journal.specs.Layouts.{HomesStandAs, KeepsHomes}
 use Rattle.sync_journal.specs.declared.store_journal.StoreJournal.{StoreJournal}
 use Rattle.file_store.specs.declared.directory.Directory.{Directory}
 use Rattle.file_store.specs.declared.faults.OpenFault.{OpenFault}
@@ -26,8 +27,8 @@ module _ {D : Type 0} (g : Ghosts D) where
     pub later : g.failures old ≤ g.failures new
     pub asks : g.keeps_model new → AsksOnly g (IsAskedToOpen (g.content old)) old new
     pub touches : g.keeps_model new → Touches g (IsStoreResumed (g.content old) (g.sector_count old)) old new
-    pub closed_unwritten : g.keeps_model new → IsStoreClosed (g.content old) → Touches g Nothing old new
-    pub homes_moment : g.keeps_model new → KeepsStore g old new
+    pub closed_unwritten : g.keeps_model new → by_kind.IsClosed (g.content old) → Touches g Nothing old new
+    pub homes_moment : g.keeps_model new → KeepsHomes by_kind g old new
     pub any_moment : g.keeps_model new → LeavesOnly g old new (StandsAs (g.sector_count old) (g.content old))
 
   -- The image is that of a store; the device did not fail, and has nothing unsynced; what stands in a journal alone is what the journal that the
@@ -39,7 +40,7 @@ module _ {D : Type 0} (g : Ghosts D) where
     pub synced : g.keeps_model new → (k : ℕ) → g.unsynced new k → ⊥
     pub named : g.keeps_model new → IsLiveAsNamed journal (g.content old)
     pub stands : g.keeps_model new → LeavesNow g new (StandsAs (g.sector_count old) (g.content old))
-    pub homes : g.keeps_model new → LeavesNow g new (StoreStandsAs (g.sector_count old) (g.content old))
+    pub homes : g.keeps_model new → LeavesNow g new (HomesStandAs by_kind (g.sector_count old) (g.content old))
 
   -- Then the store may be read and committed to, and its files' numbers and lengths are in their bounds.
   pub record IsResumed (old : D) (store : FileStore D) : Type 0 where

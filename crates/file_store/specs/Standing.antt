@@ -5,9 +5,9 @@ use Rattle.vm_types.specs.Limits.{file_limit, file_page_limit}
 use Rattle.std.specs.Option.{option_map}
 use Rattle.vm_types.specs.declared.file.FileInfo.{FileInfo}
 use Rattle.disk_model.specs.Stop.{Image}
-use Rattle.sync_journal.specs.Layout.{layout_before}
+use Rattle.sync_journal.specs.Layout.{sizes_before}
 use Rattle.sync_journal.specs.Standing.{standing_in, IsBadJournalIn}
-use Rattle.sync_journal.specs.Kinds.{store_standing, IsBadStore, IsStoreAsked}
+use Rattle.sync_journal.specs.Kinds.{by_kind}
 use Rattle.disk_model.specs.Sectors.{joined}
 use Rattle.file_store.specs.declared.directory.Entry.{Entry}
 use Rattle.file_store.specs.Layout.{pages_of_length, bytes_inside, padded_page}
@@ -17,10 +17,10 @@ use Rattle.file_store.specs.Directory.{entry_in, IsBadDirectory}
 
 -- what stands for the home pages, and that the journal that the gate names is bad: of an image of whichever layout
 abbrev pub standing : Image → ℕ → ℕ → List ℕ
-standing image h i = store_standing image h i
+standing image h i = by_kind.standing image h i
 
 abbrev pub IsBadJournal : ℕ → Image → Type 0
-IsBadJournal sectors image = IsBadStore sectors image
+IsBadJournal sectors image = by_kind.IsBad sectors image
 
 -- An image without the layout of a store of this version: the device is too small, the mark is missing, or the directory is bad.
 pub data IsBadLayoutIn (version : Version) (sectors : ℕ) (image : Image) : Type 0 where
@@ -34,7 +34,7 @@ IsHeadIn version k = (k < 2) ⊎ (k ≡ directory_of version)
 
 -- what an opening of this image asks for: the mark, the kind, the directory, and what a recovery asks for
 abbrev pub IsAskedToOpen : Image → ℕ → Type 0
-IsAskedToOpen image k = IsHeadIn (version_of image) k ⊎ IsStoreAsked image k
+IsAskedToOpen image k = IsHeadIn (version_of image) k ⊎ by_kind.IsAsked image k
 
 -- the directory's entry of file f, of an image of this layout, and of one of the layout that its kind says
 abbrev pub listed_entry : Version → Image → ℕ → Option Entry
@@ -89,13 +89,13 @@ abbrev pub IsBadOldLayout : Journals → ℕ → Image → Type 0
 IsBadOldLayout kind sectors image = IsBadLayoutIn (version_before kind) sectors image
 
 abbrev pub IsBadOldJournal : Journals → ℕ → Image → Type 0
-IsBadOldJournal kind sectors image = IsBadJournalIn (layout_before kind) sectors image
+IsBadOldJournal kind sectors image = IsBadJournalIn (sizes_before kind) sectors image
 
 abbrev pub StandsFor : ℕ → (ℕ → Option FileInfo) → (ℕ → ℕ → List ℕ) → Image → Type 0
 StandsFor sectors files pages image = StandsForIn (version_of image) (IsBadJournal sectors image) (standing image) sectors files pages image
 
 abbrev pub OldStandsFor : Journals → ℕ → (ℕ → Option FileInfo) → (ℕ → ℕ → List ℕ) → Image → Type 0
-OldStandsFor kind sectors files pages image = StandsForIn (version_before kind) (IsBadOldJournal kind sectors image) (standing_in (layout_before kind) image) sectors files pages image
+OldStandsFor kind sectors files pages image = StandsForIn (version_before kind) (IsBadOldJournal kind sectors image) (standing_in (sizes_before kind) image) sectors files pages image
 
 -- the bytes of a file of these pages
 abbrev pub bytes_of_pages : (ℕ → List ℕ) → FileInfo → List ℕ

@@ -4,8 +4,9 @@ use Rattle.std.specs.Option.{option_map}
 use Rattle.vm_types.specs.declared.file.FileInfo.{FileInfo}
 use Rattle.disk_model.specs.declared.sector_disk.SectorDisk.{Ghosts}
 use Rattle.sync_journal.specs.Layout.{IsPageSector}
-use Rattle.sync_journal.specs.Kinds.{kind_homes, kind_home_count, journal_kind, journal_stands, store_live, IsOutsideOf, IsStoreClosed, IsStoreRest, StoreStandsAs}
+use Rattle.sync_journal.specs.Kinds.{kind_homes, kind_home_count, journal_kind, store_live, IsStoreRest, by_kind}
 use Rattle.sync_journal.specs.Map.{AreHomes}
+use Rattle.sync_journal.specs.Layouts.{HomesStandAs}
 use Rattle.sync_journal.specs.declared.store_journal.StoreJournal.{StoreJournal}
 use Rattle.file_store.specs.declared.directory.Entry.{Entry}
 use Rattle.file_store.specs.declared.directory.Directory.{Directory}
@@ -75,7 +76,7 @@ homes_of_pages directory list = map (home_of directory) list
 module _ {D : Type 0} where
   -- one of the eight sectors in which this page stands: in the body where the journal is live with it, otherwise in its home
   abbrev pub IsSectorOf : FileStore D → FilePage → ℕ → Type 0
-  IsSectorOf store p k = IsPageSector (journal_stands store.journal (home_of store.directory p)) k
+  IsSectorOf store p k = IsPageSector (by_kind.stands_at store.journal (home_of store.directory p)) k
 
 module _ {D : Type 0} (g : Ghosts D) where
   -- What opening leaves: the device at rest with this directory, and what stood for its homes.
@@ -87,9 +88,9 @@ module _ {D : Type 0} (g : Ghosts D) where
     pub same : g.keeps_model new → (f : ℕ) → entry_of directory f ≡ directory_entry (g.content new) f
     pub layout : g.keeps_model new → IsBadLayout (g.sector_count old) (g.content old) → ⊥
     pub journal : g.keeps_model new → IsBadJournal (g.sector_count old) (g.content old) → ⊥
-    pub stands : g.keeps_model new → LeavesNow g new (StoreStandsAs (g.sector_count old) (g.content old))
+    pub stands : g.keeps_model new → LeavesNow g new (HomesStandAs by_kind (g.sector_count old) (g.content old))
     pub synced : g.keeps_model new → (k : ℕ) → g.unsynced new k → ⊥
-    pub emptied : g.keeps_model new → IsStoreClosed (g.content new)
+    pub emptied : g.keeps_model new → by_kind.IsClosed (g.content new)
     pub calm : g.failures new ≡ g.failures old
 
   module _ {T E : Type 0} where
@@ -117,8 +118,8 @@ pub record PutsHomes (sectors : ℕ) (directory : Directory) (list : List FilePa
   pub listed : (i j : ℕ) (p : FilePage) → slice_get list i ≡ Some p → j < 8
       → standing new (home_of directory p) j ≡ part_of (padded_page (inside_at directory list i) (given i)) j
   pub others : (h j : ℕ) → ((i : ℕ) (p : FilePage) → slice_get list i ≡ Some p → home_of directory p ≡ h → ⊥) → j < 8 → standing new h j ≡ standing old h j
-  pub outside : (k : ℕ) → IsOutsideOf old sectors k → new k ≡ old k
+  pub outside : (k : ℕ) → by_kind.IsOutside old sectors k → new k ≡ old k
 
 -- the homes stand as they did, or as the commit makes them
 abbrev pub PutsHomesOrNone : ℕ → Directory → List FilePage → (ℕ → List ℕ) → Image → Image → Type 0
-PutsHomesOrNone sectors directory list given old new = StoreStandsAs sectors old new ⊎ PutsHomes sectors directory list given old new
+PutsHomesOrNone sectors directory list given old new = HomesStandAs by_kind sectors old new ⊎ PutsHomes sectors directory list given old new

@@ -4,7 +4,7 @@ use Rattle.sync_journal.specs.declared.store_journal.Journals.{Journals}
 use Rattle.vm_types.specs.Limits.{file_limit}
 use Rattle.vm_types.specs.declared.file.FileInfo.{FileInfo}
 use Rattle.disk_model.specs.Stop.{Image}
-use Rattle.sync_journal.specs.Layout.{layout_before, IsPageSector}
+use Rattle.sync_journal.specs.Layout.{sizes_before, IsPageSector}
 use Rattle.sync_journal.specs.Gate.{is_open}
 use Rattle.sync_journal.specs.declared.store_journal.Journals.TheVariants.{Paired}
 use Rattle.sync_journal.specs.Kinds.{kind_of, kind_homes, kind_home, kind_home_count}
@@ -33,7 +33,7 @@ old_entry kind image f = listed_entry (version_before kind) image f
 pub record IsOldStore (kind : Journals) (image : Image) (store : OldStore) : Type 0 where
   pub sector : store.sector ≡ old_directory kind image
   pub entries : (f : ℕ) → entry_of store.directory f ≡ old_entry kind image f
-  pub stands : StandsAsListed (layout_before kind) (old_homes store.journal) image
+  pub stands : StandsAsListed (sizes_before kind) (old_homes store.journal) image
 
 -- No store on so many sectors has the homes of the files of this image.
 pub data IsTooSmall (kind : Journals) (sectors : ℕ) (image : Image) : Type 0 where
@@ -42,7 +42,7 @@ pub data IsTooSmall (kind : Journals) (sectors : ℕ) (image : Image) : Type 0 w
 
 -- The homes of a file hold its first n pages as they stand in the old store, with zeros past the file's end.
 abbrev pub HoldsOldPages : Journals → Image → Entry → ℕ → Image → Type 0
-HoldsOldPages kind old e n image = (k : ℕ) → k < n → HoldsPage kind (e.first + k) (page_standing_in (standing_in (layout_before kind) old) k (Some e)) image
+HoldsOldPages kind old e n image = (k : ℕ) → k < n → HoldsPage kind (e.first + k) (page_standing_in (standing_in (sizes_before kind) old) k (Some e)) image
 
 -- The homes hold the first n files as they stand in the old store.
 abbrev pub HoldsOldFiles : Journals → Image → ℕ → Image → Type 0
@@ -71,7 +71,7 @@ IsUpgradeSector kind old k = IsMarkSector k ⊎ IsCopiedSector kind (old_entry k
 
 -- the first sector of the page that stands for home h in the old store
 abbrev pub old_place : Journals → Image → ℕ → ℕ
-old_place kind image h = standing_under (layout_before kind) (is_open image) (map_in (layout_before kind) image) h
+old_place kind image h = standing_under (sizes_before kind) (is_open image) (map_in (sizes_before kind) image) h
 
 -- a sector in which one of the first n pages of a file stands in the old store
 abbrev pub IsOldPage : Journals → Image → Entry → ℕ → ℕ → Type 0
@@ -88,7 +88,7 @@ IsOldFile kind image k = (f : ℕ) × IsOldEntry kind image (old_entry kind imag
 -- what an upgrade asks of the old store: mark and directory, the gate and where it is open the map, and the pages of the files
 -- where they stand
 abbrev pub IsOldHead : Journals → Image → ℕ → Type 0
-IsOldHead kind image k = IsHeadIn (version_before kind) k ⊎ IsLookedAtIn (layout_before kind) image k
+IsOldHead kind image k = IsHeadIn (version_before kind) k ⊎ IsLookedAtIn (sizes_before kind) image k
 
 abbrev pub IsOldAsked : Journals → Image → ℕ → Type 0
 IsOldAsked kind image k = IsOldHead kind image k ⊎ IsOldFile kind image k

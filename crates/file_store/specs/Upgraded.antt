@@ -5,7 +5,7 @@ use Rattle.disk_model.specs.Moments.{Touches, AsksOnly, Nothing, LeavesOnly}
 use Rattle.disk_model.specs.declared.sector_disk.SectorDisk.{Ghosts}
 use Rattle.sync_journal.specs.declared.store_journal.Journals.{Journals}
 use Rattle.sync_journal.specs.declared.store_journal.Journals.TheVariants.{Paired}
-use Rattle.sync_journal.specs.Layout.{layout_before, home_count_in}
+use Rattle.sync_journal.specs.Layout.{sizes_before, home_count_in}
 use Rattle.sync_journal.specs.Kinds.{kind_homes, kind_home_count}
 use Rattle.sync_journal.specs.OldJournal.{old_homes}
 use Rattle.sync_journal.specs.Runs.{RunsOnDevice}
@@ -42,9 +42,9 @@ module _ {D : Type 0} (g : Ghosts D) where
     -- it is of the layout before,
     pub before : store.journal.journals ≡ kind
     -- its files have their homes within it, each its own,
-    pub sound : IsSoundDirectory (home_count_in (layout_before kind) (g.sector_count old)) (entry_of store.directory)
+    pub sound : IsSoundDirectory (home_count_in (sizes_before kind) (g.sector_count old)) (entry_of store.directory)
     -- its journal names no more homes than it has room for,
-    pub few : length (old_homes store.journal) ≤ (layout_before kind).most
+    pub few : length (old_homes store.journal) ≤ (sizes_before kind).most
     -- it is what the image says,
     pub found : g.keeps_model old → IsOldStore kind (g.content old) store
     -- and the homes of each file end within the new device.

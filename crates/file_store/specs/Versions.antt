@@ -3,7 +3,7 @@ use Rattle.std.specs.Prelude.{ℕ, ◌-◌, ◌/◌, List, min}
 use Rattle.sync_journal.specs.declared.store_journal.Journals.{Journals}
 use Rattle.sync_journal.specs.declared.store_journal.Journals.TheVariants.{Single, Paired}
 use Rattle.disk_model.specs.Stop.{Image}
-use Rattle.sync_journal.specs.Layout.{layout_1, home_limit, first_home_sector}
+use Rattle.sync_journal.specs.Layout.{sizes_1, home_limit, first_home_sector}
 use Rattle.sync_journal.specs.Turns.{turn_homes}
 use Rattle.sync_journal.specs.Kinds.{kind_of}
 use Rattle.file_store.specs.Layout.{mark, old_mark, turn_mark}
@@ -26,7 +26,7 @@ version_of image = version_at (kind_of image)
 
 -- the first sector of the first home page
 abbrev pub homes_of : Version → ℕ
-homes_of One = layout_1.homes
+homes_of One = sizes_1.homes
 homes_of Two = first_home_sector
 homes_of Three = turn_homes
 

@@ -201,6 +201,6 @@ pub(crate) fn write_mark<D: SectorDisk>(disk: &mut D, journals: Journals) -> Res
     ensures writes { WritesSynced D.SectorDisk IsMarkSector disk.old disk.new result }
     ensures marked { D.keeps_model disk.new → OnOk result (D.content disk.new 0 ≡ mark_of (version_at journals)) }
 {
-    disk.write(MARK_SECTOR, Version::of_kind(journals).mark())?;
+    disk.write(MARK_SECTOR, Version::layout_of(journals).mark())?;
     disk.sync()
 }

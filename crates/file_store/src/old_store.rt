@@ -1,7 +1,7 @@
 //! A store from which one of the next layout is made, and which is only read.
 ghost use Rattle.std.specs.Prelude.{◌≡◌, ◌<◌, ◌+◌, Some, IfOk, OnOk, OnErr, IsErrOf};
 ghost use Rattle.disk_model.specs.Stop.{Names, NamesOnce};
-ghost use Rattle.sync_journal.specs.Layout.{layout_before, home_count_in, IsPageSector};
+ghost use Rattle.sync_journal.specs.Layout.{sizes_before, home_count_in, IsPageSector};
 ghost use Rattle.sync_journal.specs.Standing.{standing_in};
 ghost use Rattle.file_store.specs.Opened.{LooksAt, IsOldFound};
 ghost use Rattle.file_store.specs.Standing.{IsBadOldLayout, IsBadOldJournal, page_standing_in};
@@ -65,12 +65,12 @@ impl OldStore {
         k: u32,
         to: &mut [u8; 4096],
     ) -> Result<(), OpenFault>
-        requires home { entry.first + k < home_count_in (layout_before self.now.journal.journals) (D.sector_count disk.old) }
+        requires home { entry.first + k < home_count_in (sizes_before self.now.journal.journals) (D.sector_count disk.old) }
         requires found { D.keeps_model disk.old → IsOldStore self.now.journal.journals (D.content disk.old) self.now }
         ensures reads { ReadsOldPage D.SectorDisk disk.old disk.new result }
         ensures asks { D.keeps_model disk.new → Names (IsPageSector (old_place self.now.journal.journals (D.content disk.old) (entry.first + k))) (D.asked disk.old) (D.asked disk.new) }
         ensures device { OnErr result (IsErrOf result OpenFault.Device) }
-        ensures page { D.keeps_model disk.new → OnOk result (to.new ≡ page_standing_in (standing_in (layout_before self.now.journal.journals) (D.content disk.old)) k (Some entry)) }
+        ensures page { D.keeps_model disk.new → OnOk result (to.new ≡ page_standing_in (standing_in (sizes_before self.now.journal.journals) (D.content disk.old)) k (Some entry)) }
     {
         self.journal.read(disk, entry.first + k, to)?;
         trim(to, entry.info.bytes_inside(k));

@@ -75,7 +75,7 @@ pub(crate) fn read_head<D: SectorDisk>(disk: &mut D) -> Result<(Journals, Direct
     let journals = read_mark(disk)?;
     check_kind(disk, journals)?;
     let mut sector = [0; SECTOR_BYTES];
-    let directory = read_directory(disk, Version::of_kind(journals), &mut sector)?;
+    let directory = read_directory(disk, Version::layout_of(journals), &mut sector)?;
     Ok((journals, directory))
 }
 

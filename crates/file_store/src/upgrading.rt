@@ -2,7 +2,7 @@
 ghost use Rattle.std.specs.Prelude.{◌≡◌, ◌<◌, ◌≤◌, ◌⊎◌, ℕ, length, Some, false, OnOk, IsErrOf};
 ghost use Rattle.vm_types.specs.Limits.{file_limit};
 ghost use Rattle.disk_model.specs.Moments.{AsksOnly, Nothing};
-ghost use Rattle.sync_journal.specs.Layout.{layout_before, home_count_in};
+ghost use Rattle.sync_journal.specs.Layout.{sizes_before, home_count_in};
 ghost use Rattle.sync_journal.specs.Kinds.{is_kind, kind_homes, kind_home_count};
 ghost use Rattle.sync_journal.specs.OldJournal.{old_homes};
 ghost use Rattle.sync_journal.specs.Runs.{RunsOnDevice};
@@ -139,8 +139,8 @@ fn copy_file<D: SectorDisk, E: SectorDisk>(
     journals: Journals,
 ) -> Result<(), UpgradeFault>
     requires before { store.now.journal.journals ≡ journals }
-    requires few { length (old_homes store.now.journal) ≤ (layout_before journals).most }
-    requires within { home_end entry ≤ home_count_in (layout_before journals) (D.sector_count old.old) }
+    requires few { length (old_homes store.now.journal) ≤ (sizes_before journals).most }
+    requires within { home_end entry ≤ home_count_in (sizes_before journals) (D.sector_count old.old) }
     requires found { D.keeps_model old.old → IsOldStore journals (D.content old.old) store.now }
     requires fits { home_end entry ≤ kind_home_count journals (E.sector_count new.old) }
     ensures copies { CopiesPages D.SectorDisk E.SectorDisk (IsOldPage journals (D.content old.old) entry (pages_of_length entry.info.length)) (IsFileSector journals entry) old.old old.new new.old new.new result }

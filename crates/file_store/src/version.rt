@@ -52,7 +52,7 @@ pub(crate) enum Version {
 
 impl Version {
     /// The layout of a store of this kind.
-    pub(crate) fn of_kind(journals: Journals) -> Version
+    pub(crate) fn layout_of(journals: Journals) -> Version
         ensures { result ≡ version_at journals }
     {
         match journals {

@@ -1,7 +1,7 @@
 -- The stores that `format` and an upgrade make.
 use Rattle.{std.{proofs.{Common.{ℕ, ◌≡◌, ◌⊎◌, ⊎_elim, inl, inr, List, Option, refl, subst}, lemmas.{Bool.{cases_Bool}, Slice.Eq.{bytes_eq-Decides}}}, specs.Str.{bytes_eq}}, disk_model.specs.Stop.{Image}, file_store.specs.Format.{IsStoreOf}}
 use Rattle.file_store.specs.{Format.{IsStoreIfMarked}, Standing.{IsBadLayout, OldStandsFor, StandsFor, StandsForIn, standing_page, IsBadLayoutIn.{Unmarked}}, Upgrade.{IsUpgradeOf, IsUpgradeIfMarked}, Versions.{version_at, version_of}}
-use Rattle.{file_store.specs.{Versions.{mark_of}, declared.sources.FileSource.{FileSource}}, sync_journal.specs.{Kinds.{kind_of, kind_standing, IsKindBad}, declared.store_journal.Journals.{Journals, TheVariants.{Single, Paired}}}}
+use Rattle.{file_store.specs.{Versions.{mark_of}, declared.sources.FileSource.{FileSource}}, sync_journal.specs.{Kinds.{kind_of, layout_of}, declared.store_journal.Journals.{Journals, TheVariants.{Single, Paired}}}}
 use Rattle.{vm_types.specs.{Files.{Files}, View.{Pages}}, lives.specs.Formatted.{StandsForSources}}
 
 pub stands_for_sources : {R : Type 0} (journals : Journals) (remaining : R → Option (List ℕ)) (sectors : ℕ) (sources : List (FileSource R)) (image : Image)
@@ -26,7 +26,7 @@ stopped_format journals remaining sectors sources image made =
 -- what an image of layout 2 stands for is what an upgrade to layout 3 reads
 pub lived_before : (sectors : ℕ) (files : Files) (pages : Pages) (image : Image) → kind_of image ≡ Single → StandsFor sectors files pages image → OldStandsFor Paired sectors files pages image
 lived_before sectors files pages image is stood =
-    subst (λ kind. StandsForIn (version_at kind) (IsKindBad kind sectors image) (λ h i. kind_standing kind image h i) sectors files pages image) is stood
+    subst (λ kind. StandsForIn (version_at kind) ((layout_of kind).IsBad sectors image) (λ h i. (layout_of kind).standing image h i) sectors files pages image) is stood
 
 pub upgrade_stands : (journals : Journals) (old_sectors sectors : ℕ) (files : Files) (pages : Pages) (old image : Image) → OldStandsFor journals old_sectors files pages old
     → IsUpgradeOf journals old_sectors sectors old image → StandsFor sectors files pages image

@@ -1,7 +1,7 @@
 //! Laws of stores and of their lives. The functions do nothing: each one's contract is the law.
 ghost use Rattle.std.specs.Prelude.{◌≡◌, ◌⊎◌, ◌↔◌, true, ℕ, List, [], ◌∷◌, ◌++◌, Option};
 ghost use Rattle.disk_model.specs.Stop.{Image};
-ghost use Rattle.sync_journal.specs.Layout.{layout_before};
+ghost use Rattle.sync_journal.specs.Layout.{sizes_before};
 ghost use Rattle.sync_journal.specs.Standing.{standing_in};
 ghost use Rattle.sync_journal.specs.Kinds.{kind_of};
 ghost use Rattle.sync_journal.specs.declared.store_journal.Journals.{Journals};
@@ -51,7 +51,7 @@ pub fn new_store<R: Read>(_reader: &R)
 /// layout and a good journal. What a stop leaves while it is made is no store, or all of it.
 pub fn upgraded_store()
     ensures stood { (journals : Journals) (sectors : ℕ) (old : Image) → (IsBadOldLayout journals sectors old → ⊥) → (IsBadOldJournal journals sectors old → ⊥)
-        → OldStandsFor journals sectors (info_at (version_before journals) old) (standing_page_at (version_before journals) (standing_in (layout_before journals) old) old) old }
+        → OldStandsFor journals sectors (info_at (version_before journals) old) (standing_page_at (version_before journals) (standing_in (sizes_before journals) old) old) old }
     // A store of one journal, as lives leave it, stands for the same to the upgrade that makes one of two of it.
     ensures lived { (sectors : ℕ) (files : Files) (pages : Pages) (old : Image) → kind_of old ≡ Single → StandsFor sectors files pages old
         → OldStandsFor Paired sectors files pages old }

@@ -1,8 +1,8 @@
 -- Calls, each in the cases that its contract has; the faults of accesses are kept.
 use Rattle.vm_types.specs.declared.mode.Levels as Levels
-use Rattle.machine.proofs.Names.{ℕ, ◌≡◌, ◌≢◌, Bool, true, false, not, if◌then◌else◌, List, refl, sym, ap, ◌∙◌, subst, Ghosts, UsesDevice, ReadsStore, picture_of, is_live, Core, KeepsDevices, KeepsToPage, GivesPagesBack, is_denial, is_idle}
-use Rattle.machine.proofs.Names.{Access, StoredValue, Command, Errno, EIO, ESRCH, Fault, Backing, Anon, Answer, Reply, Faulted, Refused, Stalled, Width, with_shown_bytes, Past, reply_of, is_io_error, State, Outcome, outcome, answers}
-use Rattle.machine.proofs.Names.{load_outcome, store_outcome, fetch_outcome, past_after, ruling, takes, Verdict, Fine, Faults, View}
+use Rattle.machine.proofs.Names.{ℕ, ◌≡◌, ◌≢◌, Bool, true, false, not, if◌then◌else◌, refl, sym, ap, ◌∙◌, subst, Ghosts, UsesDevice, ReadsStore, picture_of, is_live, Core, KeepsDevices, KeepsToPage, GivesPagesBack, is_denial, is_idle}
+use Rattle.machine.proofs.Names.{Access, Command, Errno, EIO, ESRCH, Fault, Answer, Reply, Faulted, Refused, Stalled, Past, reply_of, is_io_error, State, Outcome, outcome, answers}
+use Rattle.machine.proofs.Names.{past_after, ruling, takes}
 use Rattle.machine.{specs.{Engine.{EngineMeets}, declared.engine.Engine.{Engine}, Accesses.{Accesses}, EngineCommands.{EngineCarriesOut}}, proofs.Flat.{OnlyNow, is_running, keeps_all, read_meets, shows_core, unread, unswapped}}
 use Rattle.spaces.specs.Calls as Calls
 use Rattle.vm_types.specs.declared.reply.Answer.TheVariants as Answers
@@ -20,31 +20,15 @@ not_failed errno other = refl
 is_denied : (reply : Reply) (errno : Errno) → reply ≡ Refused errno → errno ≢ EIO → is_denial reply ≡ true
 is_denied reply errno is other = ap is_denial is ∙ ap not (not_failed errno other)
 
-pub load_live : (s : State) (addr pid : ℕ) (width : Width) (v : Verdict) → (load_outcome s addr width v).state.live pid ≡ s.live pid
-load_live s addr pid width (Faults code) = refl
-load_live s addr pid width (Fine view) = refl
-
-pub fetch_live : (s : State) (addr pid : ℕ) (v : Verdict) → (fetch_outcome s addr v).state.live pid ≡ s.live pid
-fetch_live s addr pid (Faults code) = refl
-fetch_live s addr pid (Fine view) = refl
-
-bytes_live : (s : State) (pid page q : ℕ) (view : View) (backing : Backing) (bytes : List ℕ) → (with_shown_bytes s pid page view backing bytes).live q ≡ s.live q
-bytes_live s pid page q view Anon bytes = refl
-bytes_live s pid page q view backing bytes = refl
-
-pub store_live : (s : State) (pid addr q : ℕ) (value : StoredValue) (v : Verdict) → (store_outcome s pid addr value v).state.live q ≡ s.live q
-store_live s pid addr q value (Faults code) = refl
-store_live s pid addr q value (Fine view) = bytes_live s pid _ q view view.attr.backing _
-
 -- who faults lives
-pub faults_live : (s : State) (pid : ℕ) (x : Outcome) (fault : Fault) → x.state.live pid ≡ s.live pid
+pub faults_live : (s : State) (pid : ℕ) (x : Outcome) (fault : Fault) → ((if s.live pid then x else answers s (Refused ESRCH)).reply ≡ Faulted fault
+    → (if s.live pid then x else answers s (Refused ESRCH)).state ≡ s)
     → (if s.live pid then x else answers s (Refused ESRCH)).reply ≡ Faulted fault → (if s.live pid then x else answers s (Refused ESRCH)).state.live pid ≡ true
-faults_live s pid x fault same =
-    elim (s.live pid) as (λ (b : Bool). s.live pid ≡ b → (if b then x else answers s (Refused ESRCH)).reply ≡ Faulted fault
-    → (if b then x else answers s (Refused ESRCH)).state.live pid ≡ true) [
-      | true ↦ λ e k. same ∙ e
-      | false ↦ λ e k. cc
-    ] refl
+faults_live s pid x fault same is =
+    ap (λ (t : State). t.live pid) (same is) ∙ elim (s.live pid) as (λ (b : Bool). (if b then x else answers s (Refused ESRCH)).reply ≡ Faulted fault → b ≡ true) [
+      | true ↦ λ e. refl
+      | false ↦ λ e. cc
+    ] is
 
 module _ {M : Type 0} {levels : Levels.Ghosts M} {D E : Type 0} (g : Ghosts D) (h : Ghosts E) where
   machine_is : (m : Engine D E M levels) (core : Core D E M levels) (halted : Bool) (past : Past) → m.core ≡ core → m.halted ≡ halted → m.past ≡ past
@@ -104,11 +88,9 @@ module _ {M : Type 0} {levels : Levels.Ghosts M} {D E : Type 0} (g : Ghosts D) (
       → ((s : State) → Calls.Comes g h old.core core s command reply → new.past ≡ past_after command reply old.past)
       → IsCall old.core core command reply → Accesses g h old.core core command reply → EngineCarriesOut g h old new command result
   carries_out only_now old new core command reply result run none core_is halted_is same noted said asked =
-      let Q : Core D E M levels → Type 0 = λ k. IsCall old.core k command reply × Accesses g h old.core k command reply in
-      let both = subst Q (sym core_is) (said, asked) in
+      let both = subst (λ (k : Core D E M levels). IsCall old.core k command reply × Accesses g h old.core k command reply) (sym core_is) (said, asked) in
       let call = both.0 in
-      let P : Reply → Type 0 = λ r. EngineCarriesOut g h old new command r in
-      subst P (sym same) (record {
+      subst (λ (r : Reply). EngineCarriesOut g h old new command r) (sym same) (record {
         does = record {
           sound = record { going = λ _. call.accounts.sound };
           keeps = record { kept = call.reads.kept; swap_kept = call.device.kept; room = call.accounts.room };

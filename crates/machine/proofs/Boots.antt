@@ -1,10 +1,10 @@
 -- What a boot leaves, from what the store's opening says.
 use Rattle.vm_types.specs.declared.mode.Levels as Levels
 use Rattle.machine.proofs.Names.{ℕ, ◌*◌, ◌≡◌, ◌≤◌, ◌⊎◌, inl, inr, ⊎_elim, false, List, Some, None, is_some, [], refl, sym, ap, ◌∙◌, subst, arith, rules, LeavesOnly, Image, MayLeave, Ghosts, started, stays, asks_none, OpensFrom, view-none}
-use Rattle.machine.proofs.Names.{RefusesToOpen, StandsFor, StandsAs, file_info, standing_page, OpenFault, FileStore, left_outside, Home, PageKey, File, Object, State, IsStart, Picture, picture_of, held, ShowsPages, IsOutsideOf, slots_of}
+use Rattle.machine.proofs.Names.{RefusesToOpen, StandsFor, StandsAs, file_info, standing_page, OpenFault, FileStore, left_outside, Home, PageKey, File, Object, State, IsStart, Picture, picture_of, held, ShowsPages, slots_of}
 use Rattle.machine.specs.{Boot.{HasBadFrames, HasBadSlots, BootAccepts, BootLeaves, BootRefuses}, EngineBoot.{EngineBoots}, Fault.{boot_fault}, declared.boot.BootFault.TheVariants.{Frames, Slots, OutOfMemory, Device, BadLayout, BadJournal}}
 use Rattle.{machine.specs.declared.{config.Config.{Config}, engine.Engine.{Engine}}, std.specs.Option.{option_map}, file_store.specs.declared.faults.OpenFault.TheVariants.{Device as StoreDevice, BadLayout as StoreLayout}}
-use Rattle.file_store.specs.declared.faults.OpenFault.TheVariants.{BadJournal as StoreJournal}
+use Rattle.{file_store.specs.declared.faults.OpenFault.TheVariants.{BadJournal as StoreJournal}, sync_journal.specs.Kinds.{by_kind}}
 use Rattle.file_store.specs.Store as Stores
 
 pub was_layout : (fault : OpenFault) → boot_fault fault ≡ BadLayout → fault ≡ StoreLayout
@@ -74,7 +74,7 @@ module _ {D : Type 0} (g : Ghosts D) where
 
   -- what an opening leaves outside the homes
   same_outside : (entry : D) (store : FileStore D) → OpensFrom g entry store → g.keeps_model store.disk
-      → (k : ℕ) → IsOutsideOf (g.content entry) (g.sector_count entry) k → g.content store.disk k ≡ g.content entry k
+      → (k : ℕ) → by_kind.IsOutside (g.content entry) (g.sector_count entry) k → g.content store.disk k ≡ g.content entry k
   same_outside entry store opened keeps = (opened.homes keeps (g.content store.disk) (record { kept = λ k. inr refl })).outside
 
   -- a store that was opened, of which a machine is made

@@ -1,54 +1,41 @@
 -- msync on a machine.
 use Rattle.vm_types.specs.declared.mode.Levels as Levels
-use Rattle.machine.proofs.{Flat.{with_past, OnlyNow, is_running, shows_core, answered, unread, keeps_all}, Names.{ℕ, ◌≡◌, ◌<◌, ◌≤◌, ◌⊎◌, inl, inr, ⊎_elim, ◌∷◌, [], Bool, true, false, not, ◌==◌, ◌%◌, ◌/◌, if◌then◌else◌, nat_lt, List}}
+use Rattle.machine.proofs.{Flat.{with_past, OnlyNow, is_running, shows_core, answered, unread, keeps_all}, Names.{ℕ, ◌≡◌, ◌<◌, ◌≤◌, ◌⊎◌, inl, inr, ⊎_elim, Bool, true, false, not, ◌==◌, ◌%◌, ◌/◌, if◌then◌else◌, nat_lt, List}}
 use Rattle.machine.proofs.Names.{Option, Some, None, is_some, refl, sym, ap, ◌∙◌, subst, rules, LeavesOnly, Image, MayLeave, Ghosts, weaker, holds_now, StandsForEither, StandsFor, frame_count, slots_of, UsesDevice, picture_of, ShowsPages}
 use Rattle.machine.proofs.Names.{Core, KeepsRoom, KeepsDevices, is_denial, is_idle, KeepsMemory, GivesBack, Commits, Acknowledged, Failed, Unread, Command, Msync, MsyncMode, Sync, Async, Errno, ESRCH, EIO, EINVAL, ENOMEM, ENOSPC, Stall}
-use Rattle.machine.proofs.Names.{SwapDevice, Reply, Done, Refused, Stalled, Check, first_of, pages_from, Ruling, Refuses, Passes, Takes, or_else, row_ruling, msync_ruling, touched_count, committed, is_io_error, may_have_taken, is_covered}
+use Rattle.machine.proofs.Names.{SwapDevice, Reply, Done, Refused, Stalled, pages_from, Ruling, Refuses, Passes, Takes, or_else, row_ruling, msync_ruling, touched_count, committed, is_io_error, may_have_taken, is_covered}
 use Rattle.machine.proofs.Names.{Step, Answers, Fails, Stalls, is_success, State, IsRunning, halted, noted, outcome, msync_outcome, ruling, commit_of, commits, takes, Pages, attrs_of, false_from_ne_true, true_from_ne_false}
 use Rattle.machine.{proofs.Steps.{outcome_keeps, commit_takes}, specs.{Engine.{stands_in, MayStand, HoldsIn, StandsForSome, EngineShows, EngineMeets}, declared.engine.Engine.{Engine}}}
 use Rattle.spaces.specs.Calls as Calls
 use Rattle.msync.specs.Shows as Syncing
 
 -- no check returns EIO
-abbrev IsNoFailure : Option Errno → Type 0
-IsNoFailure None = Unit {0}
-IsNoFailure (Some errno) = is_io_error errno ≡ false
-
 abbrev RefusesOnly : Ruling → Type 0
 RefusesOnly (Refuses errno) = is_io_error errno ≡ false
 RefusesOnly o = Unit {0}
 
-one_check : (b : Bool) (errno : Errno) (rest : List Check) → is_io_error errno ≡ false → IsNoFailure (first_of rest) → IsNoFailure (first_of ((b, errno) ∷ rest))
-one_check true errno rest e h = e
-one_check false errno rest e h = h
-
-checked : (o : Option Errno) (r : Ruling) → IsNoFailure o → RefusesOnly r → RefusesOnly (or_else o r)
-checked None r h k = k
-checked (Some errno) r h k = h
-
-either_ruling : (b : Bool) (x y : Ruling) → RefusesOnly x → RefusesOnly y → RefusesOnly (if b then x else y)
-either_ruling true x y h k = h
-either_ruling false x y h k = k
+either : {A : Type 0} (P : A → Type 0) (b : Bool) (x y : A) → P x → P y → P (if b then x else y)
+either P true x y h k = h
+either P false x y h k = k
 
 row_refuses : (s : State) (pid first count : ℕ) (mode : MsyncMode) → RefusesOnly (row_ruling s pid first count mode)
 row_refuses s pid first count Async = tt
 row_refuses s pid first count Sync =
     let n = touched_count s pid first count in
-    either_ruling (nat_lt 1023 n) (Refuses ENOSPC) (if n == 0 then Passes else Takes pid first count) refl
-    (either_ruling (n == 0) Passes (Takes pid first count) tt tt)
+    let row = if n == 0 then Passes else Takes pid first count in
+    either RefusesOnly (nat_lt 1023 n) (Refuses ENOSPC) row refl (either RefusesOnly (n == 0) Passes (Takes pid first count) tt tt)
 
 msync_refuses : (s : State) (pid addr len : ℕ) (mode : MsyncMode) → RefusesOnly (msync_ruling s pid addr len mode)
 msync_refuses s pid addr len mode =
     let count = pages_from addr len in
-    let covered = (not (is_covered (attrs_of (s.views pid)) (addr / 4096) count), ENOMEM) ∷ [] in
-    let row = or_else (first_of covered) (row_ruling s pid (addr / 4096) count mode) in
-    checked (first_of ((not (s.live pid), ESRCH) ∷ (not (addr % 4096 == 0), EINVAL) ∷ [])) (if len == 0 then Passes else row)
-    (one_check (not (s.live pid)) ESRCH ((not (addr % 4096 == 0), EINVAL) ∷ []) refl
-    (one_check (not (addr % 4096 == 0)) EINVAL [] refl tt))
-    (either_ruling (len == 0) Passes row tt
-    (checked (first_of covered) (row_ruling s pid (addr / 4096) count mode)
-    (one_check (not (is_covered (attrs_of (s.views pid)) (addr / 4096) count)) ENOMEM [] refl tt)
-    (row_refuses s pid (addr / 4096) count mode)))
+    let row = row_ruling s pid (addr / 4096) count mode in
+    let out = not (is_covered (attrs_of (s.views pid)) (addr / 4096) count) in
+    let rest = if len == 0 then Passes else or_else (if out then Some ENOMEM else None) row in
+    let P : Ruling → Option Errno → Type 0 = λ r o. RefusesOnly (or_else o r) in
+    either (P rest) (not (s.live pid)) (Some ESRCH) (if not (addr % 4096 == 0) then Some EINVAL else None) refl
+    (either (P rest) (not (addr % 4096 == 0)) (Some EINVAL) None refl
+    (either RefusesOnly (len == 0) Passes (or_else (if out then Some ENOMEM else None) row) tt
+    (either (P row) out (Some ENOMEM) None refl (row_refuses s pid (addr / 4096) count mode))))
 
 ruled_so : (s : State) (r : Ruling) → RefusesOnly r → (msync_outcome s r).reply ≡ Refused EIO → ⊥
 ruled_so s (Refuses errno) fine e = let io : is_io_error errno ≡ true = ap may_have_taken e in let never : false ≡ true = sym fine ∙ io in cc
@@ -123,19 +110,8 @@ module _ {M : Type 0} {levels : Levels.Ghosts M} {D E : Type 0} (g : Ghosts D) (
       → (g.keeps_model core.store.disk → LeavesOnly g old.core.store.disk core.store.disk (StandsForSome n s.files (HoldsIn s x reply)))
       → (t : State) × EngineMeets g h old (engine halts) s t x reply
   met halts t step shown capacity taken moments =
-      let meets : EngineMeets g h old (engine halts) s t x reply = record {
-        step = step;
-        shows = shown;
-        capacity = capacity;
-        room = room;
-        size = made.size;
-        swap_size = device.size;
-        kept = made.kept;
-        swap_kept = device.kept;
-        idle = λ e. absurd (never_idle s pid addr len mode reply after commit taken e);
-        moments = moments;
-      } in
-      (t, meets)
+      let idle : is_idle s x reply ≡ true → KeepsDevices old.core core = λ e. absurd (never_idle s pid addr len mode reply after commit taken e) in
+      (t, search rules)
 
   -- the commit was made
   commit_done : GivesBack g h old.core core pid addr len → reply ≡ Done → Syncing.CoreShows g core (outcome s x).state → (t : State) × EngineMeets g h old (engine false) s t x reply

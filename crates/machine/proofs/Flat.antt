@@ -3,7 +3,7 @@ use Rattle.vm_types.specs.declared.mode.Levels as Levels
 use Rattle.machine.proofs.Names.{ℕ, ◌/◌, ◌≡◌, inl, Bool, true, false, List, Option, Some, None, is_some, refl, sym, ap, ◌∙◌, subst, inr, ⊎_elim, arith, rules, LeavesNow, LeavesOnly, Touches, Nothing, Image, MayLeave, Ghosts, stays, started}
 use Rattle.machine.proofs.Names.{goes_on, still_leaves, asks_none, StandsFor, FileStore, frame_count, slots_of, UsesDevice, ReadsStore, Picture, picture_of, ShowsPages, Core, asks_slots_same, asks_same, slotted_same, calm_same, KeepsRoom}
 use Rattle.machine.proofs.Names.{KeepsDevices, settles_nothing, writes_none, empties_none, permits_none, takes_none, AsksFor, is_idle, Access, Command, Exit, Mmap, Munmap, Mprotect, Dontneed, Msync, Load, Store, Fetch, PastFaults, Stall, Reply, Done}
-use Rattle.machine.proofs.Names.{Halted, page_count, Files, user_end, Past, Answers, Stalls, Stays, MayStall, State, IsRunning, outcome, noted, past_after, ruling, takes, Pages}
+use Rattle.machine.proofs.Names.{Halted, page_count, Files, user_end, Past, Step, Answers, Stalls, Stays, MayStall, State, IsRunning, outcome, noted, past_after, ruling, takes, Pages}
 use Rattle.machine.{specs.{Engine.{stands_in, MayStand, HoldsIn, StandsForSome, EngineShows, EngineMeets}, Accesses.{Accesses}, declared.engine.Engine.{Engine}}, proofs.Steps.{outcome_keeps, past_stalled}}
 use Rattle.msync.specs.Shows as Syncing
 use Rattle.spaces.specs.Calls as Calls
@@ -33,6 +33,7 @@ halted_asks g h c pid addr access = record {
   tables = λ n table. inl table;
   calm = λ none. calm_same c pid (addr / 4096);
   writes = writes_none access c;
+  done = search rules;
   grants = search rules;
   sectors = asks_same g h c c pid (addr / 4096) access refl refl;
 }
@@ -76,7 +77,7 @@ module _ {E : Type 0} (h : Ghosts E) where
 module _ {mode : ℕ} where
   -- memory knows nothing of the history
   pub with_past : (c : Picture mode) (s : State) (past : Past) → ShowsPages c s → ShowsPages c (record s { past = past })
-  with_past c s past shows = record { same_mode = shows.same_mode; live = shows.live; views = shows.views; files = shows.files; touched = shows.touched; objects = shows.objects; blank = shows.blank; held = shows.held; clean = shows.clean }
+  with_past c s past shows = search rules
 
 -- the same files, running or halted as before, and the same durable pages
 record Leaves (s t : State) : Type 0 where
@@ -143,53 +144,39 @@ module _ {M : Type 0} {levels : Levels.Ghosts M} {D E : Type 0} (g : Ghosts D) (
     during : g.keeps_model core.store.disk → LeavesOnly g old.core.store.disk core.store.disk (StandsForSome n s.files (HoldsIn s command reply))
     during k = only_read g only_now old.core.store.disk core.store.disk n s command reply (reads.kept k) (shows.stands (reads.kept k)) (reads.touches k)
 
+    -- what is the same however it ends
+    told : (t : State) → Step (Calls.causes g h old.core core) s command reply t → EngineShows g h new t
+        → ((stall : Stall) → reply ≡ Reply.Stalled stall → Calls.FallsShort (frame_count core.frames) (slots_of core.swap).total s command stall)
+        → EngineMeets g h old new s t command reply
+    told t step shown capacity = let moments = during in search rules
+
     did : takes s (ruling s command) s.durable ≡ s.durable → reply ≡ (outcome s command).reply → ShowsPages (picture_of core) (outcome s command).state
         → (t : State) × EngineMeets g h old new s t command reply
     did none answer pages =
         let t = noted command reply (outcome s command).state in
         let all = outcome_keeps s command in
-        let kept : Leaves s t = record { files = all.files; ends = all.ends; durable_is = all.durable_is ∙ none } in
-        let meets : EngineMeets g h old new s t command reply = record {
-          step = Answers (is_running old s shows run) answer refl;
-          shows = record {
+        let kept : Leaves s t = record { files = all.files; ends = all.ends; durable_is = all.durable_is ∙ none } in (
+          t,
+          told t (Answers (is_running old s shows run) answer refl) (record {
             pages = with_past (picture_of core) (outcome s command).state _ pages;
             running = goes t kept;
             past = kept_past ∙ ap (past_after command reply) (shows.past ∙ sym all.past);
             stands = moved t kept;
-          };
-          capacity = λ stall e. absurd (all.answers stall (sym answer ∙ e));
-          room = room;
-          size = reads.size;
-          swap_size = device.size;
-          kept = reads.kept;
-          swap_kept = device.kept;
-          idle = idle;
-          moments = during;
-        } in
-        (t, meets)
+          }) (λ stall e. absurd (all.answers stall (sym answer ∙ e))),
+        )
 
     stalled : (stall : Stall) → MayStall (Calls.causes g h old.core core) s command stall → Calls.FallsShort (frame_count core.frames) (slots_of core.swap).total s command stall
         → reply ≡ Reply.Stalled stall → ShowsPages (picture_of core) s → (t : State) × EngineMeets g h old new s t command reply
     stalled stall may short answer pages =
-        let kept : Leaves s s = record { files = refl; ends = refl; durable_is = refl } in
-        let meets : EngineMeets g h old new s s command reply = record {
-          step = Stalls stall (is_running old s shows run) may answer refl;
-          shows = record {
+        let kept : Leaves s s = record { files = refl; ends = refl; durable_is = refl } in (
+          s,
+          told s (Stalls stall (is_running old s shows run) may answer refl) (record {
             pages = pages;
             running = goes s kept;
             past = kept_past ∙ ap (λ (r : Reply). past_after command r old.past) answer ∙ past_stalled command stall old.past ∙ shows.past;
             stands = moved s kept;
-          };
-          capacity = λ other e. subst (Calls.FallsShort (frame_count core.frames) (slots_of core.swap).total s command) (same_stall stall other (sym answer ∙ e)) short;
-          room = room;
-          size = reads.size;
-          swap_size = device.size;
-          kept = reads.kept;
-          swap_kept = device.kept;
-          idle = idle;
-          moments = during;
-        } in
-        (s, meets)
+          }) (λ other e. subst (Calls.FallsShort (frame_count core.frames) (slots_of core.swap).total s command) (same_stall stall other (sym answer ∙ e)) short),
+        )
 
     pub read_meets : takes s (ruling s command) s.durable ≡ s.durable → Calls.Comes g h old.core core s command reply → (t : State) × EngineMeets g h old new s t command reply
     read_meets none (Calls.Does answer pages) = did none answer pages
@@ -217,16 +204,7 @@ module _ {M : Type 0} {levels : Levels.Ghosts M} {D E : Type 0} (g : Ghosts D) (
   stays_halted only_now old s command shows stop =
       let ends = halted_of s.ends (shows.running ∙ stop) in
       let n = g.sector_count old.core.store.disk in
-      let meets : EngineMeets g h old old s s command Halted = record {
-        step = Stays ends.0 ends.1 refl refl;
-        shows = shows;
-        capacity = λ stall e. absurd (cc);
-        room = record { frames = refl; slots = refl };
-        size = refl;
-        swap_size = refl;
-        kept = λ k. k;
-        swap_kept = λ k. k;
-        idle = λ _. record { store = refl; pages = refl };
-        moments = λ k. no_time g only_now old.core.store.disk n s command Halted k (shows.stands k);
-      } in
-      (s, meets)
+      let moments = λ (k : g.keeps_model old.core.store.disk). no_time g only_now old.core.store.disk n s command Halted k (shows.stands k) in
+      let step : Step (Calls.causes g h old.core old.core) s command Halted s = Stays ends.0 ends.1 refl refl in
+      let capacity : (stall : Stall) → Halted ≡ Reply.Stalled stall → Calls.FallsShort (frame_count old.core.frames) (slots_of old.core.swap).total s command stall = λ stall e. absurd (cc) in
+      (s, search rules)

@@ -2,24 +2,20 @@
 use Rattle.vm_types.specs.declared.mode.Levels as Levels
 use Rattle.machine.proofs.Names.{ℕ, zero, suc, ◌≢◌, ◌≡◌, ◌/◌, ◌%◌, ⊎_elim, true, false, is_some, List, [], ◌∷◌, refl, sym, ap, ◌∙◌, subst, arith, rules, inl, inr, Ghosts, picture_of, Core, KeepsToPage, AsksFor, is_denial, is_idle}
 use Rattle.machine.proofs.Names.{past_after, ruling, takes, Access, StoredValue, Command, Load, Store, Fetch, Reply, Done, Width, State, IsRunning, Backing}
-use Rattle.machine.proofs.{Accesses.{carries_out, on_page}, Counts.{counts}, Face.{face, readable}, Flat.{OnlyNow, unread, unused}, HardwareWalks.{user_walked, walks_same}, Runs.{all_ran, room_none, room_then, RanSoFar}, Tidied.{tidied}}
-use Rattle.fault.{proofs.{Forms.{own_role}, Ready.{grants_found}, Serving.{tends_none}, Settling.{beside_around}, Wanted.{walked_same}}, specs.{Changes.{IsThatPage}, Outcome.{IsOpenToStore, IsPlaced}, Serving.{Reaches}, Wants.{ShowsFile}}}
-use Rattle.frames.{proofs.FrameLemmas.{IsHeld-above, IsHeld-not_zero, IsSound-step, with_bytes-others}, specs.{FrameTable.{FrameTable, IsHeld, bytes_of, frame_count, role_of, with_bytes}, declared.role.Role.TheVariants.{Cache, Private, Table}}}
+use Rattle.machine.proofs.{Accesses.{carries_out, on_page}, Counts.{counts}, Face.{face, readable}, Flat.{OnlyNow, unread, unused}, HardwareWalks.{user_walked, walks_same}, Runs.{all_ran, ran_first, room_none, room_then, RanSoFar}, Tidied.{tidied}}
+use Rattle.fault.{proofs.{Ready.{grants_found}, Serving.{tends_none}, Settling.{beside_around}, Wanted.{walked_same}}, specs.{Changes.{IsThatPage}, Outcome.{IsPlaced}, Serving.{Reaches}, Wants.{ShowsFile}}}
+use Rattle.frames.{proofs.FrameLemmas.{IsHeld-above, IsHeld-not_zero, IsSound-step, with_bytes-others}, specs.{FrameTable.{FrameTable, IsHeld, bytes_of, frame_count, role_of, with_bytes}, declared.role.Role.TheVariants.{Table}}}
 use Rattle.{file_store.specs.Store.{IsReadyStore}, msync.specs.Shows.{IsSoundCore}, residency.specs.{Parts.{IsFit}, Picture.{Picture}}, std.specs.Prelude.{Ok}, sv39_walk.specs.Walk.{is_store}, swap.specs.Slots.{IsReady}}
-use Rattle.spaces.{proofs.{Asking.{asks_unstalled, writes_none}, Reading.{reads}, Writing.{open_held, fit_stored, others_stored, room_stored, slotted_stored, stores}}, specs.{Accesses.{CarriesRead, WritesNumber}, Calls.{Carries}}}
-use Rattle.vm_types.specs.{Access.{loaded, with_number}, Width.{byte_count}, declared.{number.Phys.{Phys}, object.PageKey.TheVariants.{File, Object}, region.Backing.TheVariants.{Common, Shared}, reply.Reply.TheVariants.{Value}, width.Width.TheVariants.{Four}}}
+use Rattle.spaces.{proofs.{Asking.{asks_unstalled, writes_none}, Reading.{reads}, Writing.{data_frame, open_held, fit_stored, others_stored, room_stored, slotted_stored, stores}}, specs.{Accesses.{CarriesRead, WritesNumber}, Calls.{Carries}}}
+use Rattle.vm_types.specs.{Access.{loaded, with_number}, Width.{byte_count}, declared.{number.Phys.{Phys}, reply.Reply.TheVariants.{Value}, width.Width.TheVariants.{Four}}}
 use Rattle.vm_types.specs.declared.access.Access.TheVariants as Kinds
-use Rattle.machine.specs.{Accesses.{Accesses}, Chain.{event, after}, Commands.{DoesEachAsTold}, EngineCommands.{EngineCarriesOut}, Engine.{IsSoundEngine}}
+use Rattle.machine.specs.{Accesses.{Accesses}, Chain.{after}, Commands.{DoesEachAsTold}, EngineCommands.{EngineCarriesOut}, Engine.{IsSoundEngine}}
 use Rattle.machine.specs.{Hardware.{TakesStep, HardwareMakes, HardwareReads, HardwareStep, HardwareSteps, HardwareWrites, IsBesideTables, IsGranted, IsGrantedBy, IsMadeByHardware, KeepsWalks, RunsThrough, TranslatesAlike, machine_after}, Machine.{halted_of, IsSoundMachine, Shows, store_of, swap_of}, Tidy.{IsTidy}}
 use Rattle.machine.specs.declared.{engine.Engine.{Engine}, machine.Machine.{Machine, TheVariants.{Sv39, Sv48}}}
 
--- a store's frame is no table
-data_frame : {mode : ℕ} (c : Picture mode) (pid page n : ℕ) (b : Backing) → IsFit c → IsOpenToStore c pid page b n → role_of c.frames n ≢ Table
-data_frame c pid page n (Shared p) fit usable is = let never : Cache ≡ Table = sym (fit.places.cached (File p) n usable.1) ∙ is in cc
-data_frame c pid page n (Common p) fit usable is = let never : Cache ≡ Table = sym (fit.places.cached (Object p) n usable.1) ∙ is in cc
-data_frame c pid page n b fit usable is =
-    let sole = usable.1 in
-    let never : Private ≡ Table = sym (ap (role_of c.frames) (sym sole.frame) ∙ own_role c pid page fit sole.inside sole.private) ∙ is in cc
+from_first : (P : ℕ → Type 0) → P zero → ((k : ℕ) → P (suc k)) → (k : ℕ) → P k
+from_first P first later zero = first
+from_first P first later (suc k) = later k
 
 module _ {M : Type 0} {levels : Levels.Ghosts M} {D E : Type 0} (g : Ghosts D) (h : Ghosts E) where
   -- what the machine's own access comes to, where the tables grant it
@@ -59,7 +55,7 @@ module _ {M : Type 0} {levels : Levels.Ghosts M} {D E : Type 0} (g : Ghosts D) (
           others = tends.others;
           reads = tends.proceeds.reads;
           device = tends.proceeds.device;
-          asks = asks_unstalled g h c c pid addr kind tends c refl refl tends.slotted (writes_none kind c) told (λ stall e. cc)
+          asks = asks_unstalled g h c c pid addr kind tends c refl refl tends.slotted (writes_none kind c) told (λ stall e. cc) (λ e. cc)
               (λ done. (placed.root, is.place, placed.lives, placed.place));
         }
 
@@ -122,7 +118,7 @@ module _ {M : Type 0} {levels : Levels.Ghosts M} {D E : Type 0} (g : Ghosts D) (
           asks = asks_unstalled g h old old pid addr Kinds.Store tends new writes.around.store writes.around.swap
               (slotted_stored before before after pid (addr / 4096) backing n bytes (ShowsFile before pid (addr / 4096)) (IsThatPage pid (addr / 4096)) sound.fit placed.usable writes.frames
               beside tends.slotted)
-              (inr (n, addr % 4096, stored, stored_there)) Done (λ stall e. cc) (λ done. (placed.root, place, placed.lives, placed.place));
+              (inr (n, addr % 4096, stored, data_frame before pid (addr / 4096) n backing sound.fit placed.usable, stored_there)) Done (λ stall e. cc) (λ e. refl) (λ done. (placed.root, place, placed.lives, placed.place));
         }
 
     write_carries : Carries g h old new (Store pid addr stored) Done
@@ -274,40 +270,29 @@ module _ {D E : Type 0} (g : Ghosts D) (h : Ghosts E) where
       }
   does_each only_now old new commands replies sound steps = absurd steps
 
+  -- the machine after k commands that were carried out is the one after k steps
+  abbrev IsAlong : (old new : Machine D E) (s : State) (commands : List Command) (replies : List Reply) → HardwareSteps g h old commands replies new
+      → RanSoFar g h old new s commands replies → ℕ → Type 0
+  IsAlong old new s commands replies steps all k = after g h old s commands replies all.events new all.last all.chain k ≡ machine_after g h old commands replies new steps k
+
   ran : (only_now : OnlyNow g) (old : Machine D E) (s : State) (commands : List Command) (replies : List Reply) (new : Machine D E) → IsSoundMachine g h old
-      → HardwareSteps g h old commands replies new → Shows g h old s → g.keeps_model (store_of new) → h.keeps_model (swap_of new)
-      → RanSoFar g h old new s commands replies
+      → (steps : HardwareSteps g h old commands replies new) → Shows g h old s → g.keeps_model (store_of new) → h.keeps_model (swap_of new)
+      → (all : RanSoFar g h old new s commands replies) × ((k : ℕ) → IsAlong old new s commands replies steps all k)
   ran only_now old s [] [] new sound same shows keeps swaps =
-      record { last = s; events = []; chain = (same, refl); shows = subst (λ (m : Machine D E). Shows g h m s) (sym same) shows }
+      (record { last = s; events = []; chain = (same, refl); shows = subst (λ (m : Machine D E). Shows g h m s) (sym same) shows }, λ k. refl)
   ran only_now old s (x ∷ xs) (r ∷ rs) new sound steps shows keeps swaps =
       let mid = steps.0 in
       let one = one_step only_now old mid x r sound steps.1 in
       let kept = (does_each only_now mid new xs rs one.sound steps.2).keeps in
       let met = one.meets s shows (readable g h mid s x (kept.kept keeps) (kept.swap_kept swaps)) in
       let rest = ran only_now mid met.0 xs rs new one.sound steps.2 (face g h old mid s met.0 x r met.1).shows keeps swaps in
-      record { last = rest.last; events = event s x r ∷ rest.events; chain = (mid, met.0, refl, met.1, rest.chain); shows = rest.shows }
+      let all = ran_first g h old mid new s met.0 x xs r rs met.1 rest.0 in
+      (all, from_first (IsAlong old new s (x ∷ xs) (r ∷ rs) steps all) (refl {a = old}) rest.1)
   ran only_now old s commands replies new sound steps shows keeps swaps = absurd steps
-
-  -- its machines are those of the steps
-  through : (only_now : OnlyNow g) (old : Machine D E) (s : State) (commands : List Command) (replies : List Reply) (new : Machine D E) (sound : IsSoundMachine g h old)
-      (steps : HardwareSteps g h old commands replies new) (shows : Shows g h old s) (keeps : g.keeps_model (store_of new)) (swaps : h.keeps_model (swap_of new)) (k : ℕ)
-      → (let all = ran only_now old s commands replies new sound steps shows keeps swaps in after g h old s commands replies all.events new all.last all.chain k)
-      ≡ machine_after g h old commands replies new steps k
-  unfolding ran
-  through only_now old s [] [] new sound steps shows keeps swaps k = refl
-  through only_now old s (x ∷ xs) (r ∷ rs) new sound steps shows keeps swaps zero = refl
-  through only_now old s (x ∷ xs) (r ∷ rs) new sound steps shows keeps swaps (suc k) =
-      let one = one_step only_now old steps.0 x r sound steps.1 in
-      let kept = (does_each only_now steps.0 new xs rs one.sound steps.2).keeps in
-      let met = one.meets s shows (readable g h steps.0 s x (kept.kept keeps) (kept.swap_kept swaps)) in
-      through only_now steps.0 met.0 xs rs new one.sound steps.2 (face g h old steps.0 s met.0 x r met.1).shows keeps swaps k
-  through only_now old s commands replies new sound steps shows keeps swaps k = absurd steps
 
   pub runs : (only_now : OnlyNow g) (old new : Machine D E) (commands : List Command) (replies : List Reply) (sound : IsSoundMachine g h old)
       (steps : HardwareSteps g h old commands replies new) (s : State) → Shows g h old s → g.keeps_model (store_of new) → h.keeps_model (swap_of new)
       → RunsThrough g h old new commands replies steps s
-  unfolding ran
-  runs only_now old new commands replies sound steps s shows keeps swaps = record {
-    runs = all_ran g h old new s commands replies only_now shows (ran only_now old s commands replies new sound steps shows keeps swaps);
-    through = λ k. through only_now old s commands replies new sound steps shows keeps swaps k;
-  }
+  runs only_now old new commands replies sound steps s shows keeps swaps =
+      let all = ran only_now old s commands replies new sound steps shows keeps swaps in
+      record { runs = all_ran g h old new s commands replies only_now shows all.0; through = all.1 }

@@ -1,12 +1,13 @@
 -- What `step` returns where hardware could have made the access, and that hardware can make it then.
 use Rattle.vm_types.specs.declared.mode.Levels as Levels
-use Rattle.std.proofs.Common.{ℕ, ◌%◌, ◌≡◌, false, Some, None, refl, sym, ◌∙◌, subst, arith}
-use Rattle.{disk_model.specs.declared.sector_disk.SectorDisk.{Ghosts}, fault.specs.Outcome.{IsWalked}, residency.specs.{Picture.{picture_of}, declared.kernel.Core.{Core}}, spaces.specs.{Accesses.{LetsThrough}, Calls.{causes}}}
+use Rattle.std.proofs.Common.{ℕ, ◌%◌, ◌≡◌, false, inl, inr, Some, None, refl, sym, ap, ◌∙◌, subst, arith}
+use Rattle.{disk_model.specs.declared.sector_disk.SectorDisk.{Ghosts}, fault.{proofs.Settling.{beside_around}, specs.Outcome.{IsWalked}}, residency.specs.{Parts.{IsFit}, Picture.{picture_of}, declared.kernel.Core.{Core}}, spaces.specs.{Accesses.{LetsThrough, MayWrite}, Calls.{causes}}}
+use Rattle.frames.{proofs.FrameLemmas.{with_bytes-others}, specs.{FrameTable.{FrameTable, bytes_of, frame_count, role_of}, declared.role.Role.TheVariants.{Table}}}
 use Rattle.vm_types.specs.declared.access.Access.TheVariants as Kinds
-use Rattle.vm_types.specs.{Run.{Step, Answers, Fails, Stalls, Stays}, Stalls.{Causes, cause_of}, State.{State, IsRunning}, Step.{outcome}, Width.{byte_count}}
-use Rattle.vm_types.specs.declared.{access.Access.{Access}, command.Command.{Command, TheVariants.{Load, Fetch}}, number.Phys.{Phys}, refusal.Stall.{Stall, TheVariants.{SwapDevice, StoreDevice}}, reply.Reply.{Reply, TheVariants.{Value}}, width.{Width.{Width}, Width.TheVariants.{Four}}}
-use Rattle.machine.proofs.{Flat.{OnlyNow, is_running}, Hardware.{made, reached}}
-use Rattle.machine.specs.{Engine.{EngineMayRead, EngineMeets, EngineShows, IsSoundEngine}, Hardware.{TakesStep, HardwareMakes, HardwareReads, IsGranted, IsGrantedBy, IsMadeByHardware}, Machine.{IsSoundMachine, Shows, store_of, swap_of}}
+use Rattle.vm_types.specs.{Run.{Step, Answers, Fails, Stalls, Stays}, Access.{with_number}, Stalls.{Causes, cause_of}, State.{State, IsRunning}, Step.{outcome}, Width.{byte_count}}
+use Rattle.vm_types.specs.declared.{access.{Access.{Access}, StoredValue.{StoredValue}}, command.Command.{Command, TheVariants.{Load, Store, Fetch}}, number.Phys.{Phys}, refusal.Stall.{Stall, TheVariants.{SwapDevice, StoreDevice}}, reply.Reply.{Reply, TheVariants.{Done, Value}}, width.{Width.{Width}, Width.TheVariants.{Four}}}
+use Rattle.machine.proofs.{Flat.{OnlyNow, is_running}, Hardware.{made, reached}, HardwareWalks.{walks_same}}
+use Rattle.machine.specs.{Commands.{DoesAsTold}, Engine.{EngineMayRead, EngineMeets, EngineShows, IsSoundEngine}, Hardware.{TakesStep, HardwareMakes, HardwareReads, IsGranted, IsGrantedBy, IsMadeByHardware}, Machine.{halted_of, IsSoundMachine, Shows, store_of, swap_of}}
 use Rattle.machine.specs.declared.{engine.Engine.{Engine}, machine.Machine.{Machine, TheVariants.{Sv39, Sv48}}}
 
 no_cause : (c : Causes) (stall : Stall) → (c.refused → ⊥) → (c.swap → ⊥) → (c.store → ⊥) → cause_of c stall → ⊥
@@ -46,28 +47,53 @@ module _ {M : Type 0} {levels : Levels.Ghosts M} {D E : Type 0} (g : Ghosts D) (
       still_told old new s command reply sound is.runs shows keeps swaps (same is.place walked) meets
       ∙ sym (still_told old old s command told sound is.runs shows keeps swaps refl (made g h only_now old old command told sound makes).meets)
 
--- what the tables let through they grant
-granted : {M : Type 0} {levels : Levels.Ghosts M} {D E : Type 0} (asked new : Core D E M levels) (pid addr : ℕ) (width : Width) (kind : Access) → addr % byte_count width ≡ 0
-    → LetsThrough (picture_of asked) pid addr kind → new ≡ asked → (place : Phys) × IsGranted (picture_of new) pid addr width kind place
-granted asked new pid addr width kind aligned lets same =
-    subst (λ c. (place : Phys) × IsGranted (picture_of c) pid addr width kind place) (sym same) (lets.1, record { aligned = aligned; root = lets.0; lives = lets.2; walk = lets.3 })
+module _ {M : Type 0} {levels : Levels.Ghosts M} {D E : Type 0} where
+  -- what was read the tables grant
+  granted : (mid new : Core D E M levels) (pid addr : ℕ) (width : Width) (kind : Access) → addr % byte_count width ≡ 0 → LetsThrough (picture_of mid) pid addr kind → new ≡ mid
+      → (place : Phys) × IsGranted (picture_of new) pid addr width kind place
+  granted mid new pid addr width kind aligned lets same =
+      subst (λ c. (place : Phys) × IsGranted (picture_of c) pid addr width kind place) (sym same) (lets.1, record { aligned = aligned; root = lets.0; lives = lets.2; walk = lets.3 })
+
+  -- and what was stored, which went beside the tables
+  granted_still : (mid new : Core D E M levels) (pid addr : ℕ) (width : Width) → addr % byte_count width ≡ 0 → LetsThrough (picture_of mid) pid addr Kinds.Store → IsFit (picture_of new)
+      → MayWrite Kinds.Store mid new → (place : Phys) × IsGranted (picture_of new) pid addr width Kinds.Store place
+  granted_still mid new pid addr width aligned lets fit (inl same) = granted mid new pid addr width Kinds.Store aligned lets same
+  granted_still mid new pid addr width aligned lets fit (inr wrote) =
+      let writes = wrote.4 in
+      let others = with_bytes-others mid.frames wrote.0 (with_number (bytes_of mid.frames wrote.0) wrote.1 (byte_count wrote.2.width) wrote.2.value) in
+      let lives : (picture_of new).root pid ≡ Some lets.0 = (beside_around mid new writes.around).root pid ∙ lets.2 in
+      let table : (m : ℕ) → role_of new.frames m ≡ Table → bytes_of mid.frames m ≡ bytes_of new.frames m = λ m is.
+      sym (ap (λ (t : FrameTable). bytes_of t m) writes.frames ∙ others.bytes m (λ e. wrote.3 (ap (role_of mid.frames) (sym e) ∙ sym (ap (λ (t : FrameTable). role_of t m) writes.frames) ∙ is))) in
+      let walk = walks_same new.frames mid.frames _ lets.0 addr Kinds.Store fit.rooted.forest (fit.rooted.roots pid lets.0 lives).table
+      (sym (ap (λ (t : FrameTable). frame_count t) writes.frames ∙ others.frames)) table in
+      (lets.1, record { aligned = aligned; root = lets.0; lives = lives; walk = sym walk ∙ lets.3 })
 
 module _ {D E : Type 0} (g : Ghosts D) (h : Ghosts E) where
   pub load_granted : (old new : Machine D E) (pid addr n : ℕ) (width : Width) → addr % byte_count width ≡ 0 → TakesStep g h old new (Load pid addr width) (Value width n)
       → (place : Phys) × IsGrantedBy new pid addr width Kinds.Load place
-  load_granted (Sv39 old) (Sv39 new) pid addr n width aligned done =
-      let asks = done.does.accesses.0 in granted asks.granted new.core pid addr width Kinds.Load aligned (asks.grants refl (λ stall e. cc)) asks.writes
-  load_granted (Sv48 old) (Sv48 new) pid addr n width aligned done =
-      let asks = done.does.accesses.0 in granted asks.granted new.core pid addr width Kinds.Load aligned (asks.grants refl (λ stall e. cc)) asks.writes
+  load_granted (Sv39 old) (Sv39 new) pid addr n width aligned done = granted _ _ pid addr width Kinds.Load aligned (done.does.accesses.0.grants refl (λ stall e. cc)) done.does.accesses.0.writes
+  load_granted (Sv48 old) (Sv48 new) pid addr n width aligned done = granted _ _ pid addr width Kinds.Load aligned (done.does.accesses.0.grants refl (λ stall e. cc)) done.does.accesses.0.writes
   load_granted old new pid addr n width aligned done = absurd done.does.accesses
 
   pub fetch_granted : (old new : Machine D E) (pid addr n : ℕ) → addr % 4 ≡ 0 → TakesStep g h old new (Fetch pid addr) (Value Four n)
       → (place : Phys) × IsGrantedBy new pid addr Four Kinds.Fetch place
-  fetch_granted (Sv39 old) (Sv39 new) pid addr n aligned done =
-      let asks = done.does.accesses.0 in granted asks.granted new.core pid addr Four Kinds.Fetch aligned (asks.grants refl (λ stall e. cc)) asks.writes
-  fetch_granted (Sv48 old) (Sv48 new) pid addr n aligned done =
-      let asks = done.does.accesses.0 in granted asks.granted new.core pid addr Four Kinds.Fetch aligned (asks.grants refl (λ stall e. cc)) asks.writes
+  fetch_granted (Sv39 old) (Sv39 new) pid addr n aligned done = granted _ _ pid addr Four Kinds.Fetch aligned (done.does.accesses.0.grants refl (λ stall e. cc)) done.does.accesses.0.writes
+  fetch_granted (Sv48 old) (Sv48 new) pid addr n aligned done = granted _ _ pid addr Four Kinds.Fetch aligned (done.does.accesses.0.grants refl (λ stall e. cc)) done.does.accesses.0.writes
   fetch_granted old new pid addr n aligned done = absurd done.does.accesses
+
+  pub store_granted : (old new : Machine D E) (pid addr : ℕ) (stored : StoredValue) (width : Width) → addr % byte_count width ≡ 0 → halted_of new ≡ false → IsSoundMachine g h new
+      → DoesAsTold g h old new (Store pid addr stored) Done → (place : Phys) × IsGrantedBy new pid addr width Kinds.Store place
+  store_granted (Sv39 old) (Sv39 new) pid addr stored width aligned runs sound does =
+      let asks = does.accesses.0 in granted_still asks.granted new.core pid addr width aligned (asks.grants refl (λ stall e. cc)) (sound.going runs).fit asks.writes
+  store_granted (Sv48 old) (Sv48 new) pid addr stored width aligned runs sound does =
+      let asks = does.accesses.0 in granted_still asks.granted new.core pid addr width aligned (asks.grants refl (λ stall e. cc)) (sound.going runs).fit asks.writes
+  store_granted old new pid addr stored width aligned runs sound does = absurd does.accesses
+
+  -- no load is a store
+  pub load_undone : (old new : Machine D E) (pid addr : ℕ) (width : Width) → DoesAsTold g h old new (Load pid addr width) Done → ⊥
+  load_undone (Sv39 old) (Sv39 new) pid addr width does = let never : Kinds.Load ≡ Kinds.Store = does.accesses.0.done refl in cc
+  load_undone (Sv48 old) (Sv48 new) pid addr width does = let never : Kinds.Load ≡ Kinds.Store = does.accesses.0.done refl in cc
+  load_undone old new pid addr width does = absurd does.accesses
 
   pub load_told : (only_now : OnlyNow g) (old new : Machine D E) (s : State) (pid addr : ℕ) (width : Width) (told reply : Reply) → IsSoundMachine g h old → Shows g h old s
       → g.keeps_model (store_of old) → h.keeps_model (swap_of old) → IsMadeByHardware old old (Load pid addr width) told → TakesStep g h old new (Load pid addr width) reply → reply ≡ told

@@ -8,7 +8,7 @@ pub use Rattle.{page_cache.specs.declared.place.Place.TheVariants.{Home}, ranges
 pub use Rattle.{spaces.specs.{Accesses.{KeepsToPage, AsksFor}, Calls.{IsCaused}, Idle.{is_idle, is_denial, refused_count, names_store, names_swap}, Ranges.{GivesPagesBack}}, std.proofs.Common.{sym, ◌≡◌, Bool, ℕ, ◌∙◌, subst, true, false}}
 pub use Rattle.std.proofs.Common.{ap, if◌then◌else◌, not, List, ◌≢◌, refl, ⊎_elim, [], Some, is_some, ◌⊎◌, rules, ◌*◌, inr, arith, None, ◌≤◌, inl, ◌<◌, ◌∷◌, ◌%◌, ◌==◌, Option, ◌/◌, nat_lt, sum_by, ◌+◌, zero, add-zero, suc, add-one, ◌++◌}
 pub use Rattle.std.{proofs.{Common.{length, set, take_all, length-set, take}, lemmas.{Bool.{cases_Bool, false≢true, false_from_ne_true, true_from_ne_false}, List.{take_more_set, take_more, Sums.{sum_by-cons}}}}, specs.Prelude.{option_map}}
-pub use Rattle.{swap.specs.Slots.{slots_of}, sync_journal.specs.Kinds.{IsOutsideOf}, vm_types.specs.{Access.{with_shown_bytes}, Checks.{first_of, Check, pages_from, page_count}, Files.{Files}, History.{Past}, Limits.{user_end}}}
+pub use Rattle.{swap.specs.Slots.{slots_of}, vm_types.specs.{Access.{with_shown_bytes}, Checks.{first_of, Check, pages_from, page_count}, Files.{Files}, History.{Past}, Limits.{user_end}}}
 pub use Rattle.vm_types.specs.{Mapping.{mmap_place, mmap_errno}, Msync.{msync_ruling, committed, Refuses, or_else, Passes, Takes, touched_count, Ruling, row_ruling}, Objects.{maps_of, names, is_named}, Prefix.{is_io_error, may_have_taken}}
 pub use Rattle.vm_types.specs.{Prefix.{is_msync, IsPrefixHolding, is_done, this_or_further, acknowledged, after_msyncs, after_event, Event}, Processes.{least_free_pid}, Ranges.{covered_checks, asked_checks, row_checks, munmap_checks}}
 pub use Rattle.vm_types.specs.{Replies.{reply_of}, Rows.{is_covered}, Run.{Stalls, Step, Answers, Fails, Stays}, Stalls.{is_success, Causes, MayStall}, State.{State, halted, IsRunning}, Step.{outcome, past_after, answers, load_outcome}}

@@ -1,7 +1,7 @@
 -- The prefixes of the msyncs, command after command.
-use Rattle.machine.proofs.Names.{ℕ, zero, suc, ◌+◌, ◌≡◌, ◌≤◌, ◌⊎◌, inl, inr, Bool, true, false, if◌then◌else◌, List, [], ◌∷◌, Some, None, refl, sym, ap, ◌∙◌, arith, add-one, add-zero, Command, Msync, EIO, Reply, Refused, Halted, Ruling}
+use Rattle.machine.proofs.Names.{ℕ, zero, suc, ◌+◌, ◌≡◌, ◌≤◌, ◌⊎◌, inl, inr, ⊎_elim, Option, subst, Bool, true, false, if◌then◌else◌, List, [], ◌∷◌, Some, None, refl, sym, ap, ◌∙◌, arith, add-one, add-zero, Command, Msync, EIO, Reply, Refused, Halted, Ruling}
 use Rattle.machine.proofs.Names.{Takes, msync_ruling, Event, is_msync, is_done, may_have_taken, after_event, after_msyncs, this_or_further, acknowledged, IsPrefixHolding, Step, Answers, Fails, Stalls, Stays, Causes, State, IsRunning}
-use Rattle.machine.{proofs.{Names.{outcome, msync_outcome, ruling, takes, commits, Pages}, Steps.{outcome_keeps, commit_takes}}, specs.Chain.{event}}
+use Rattle.machine.{proofs.{Names.{outcome, msync_outcome, ruling, takes, commits, Pages}, Steps.{outcome_keeps, commit_takes}}, specs.{Chain.{event}, Engine.{HoldsIn, IsOneOf, stands_in}}}
 
 pub step_files : (causes : Causes) (s : State) (command : Command) (reply : Reply) (t : State) → Step causes s command reply t → t.files ≡ s.files
 step_files causes s command reply t (Answers run r e) = ap (λ (x : State). x.files) e ∙ (outcome_keeps s command).files
@@ -23,14 +23,14 @@ answered_event s (Msync pid addr len mode) reply d e = msync_event s (msync_ruli
 answered_event s command reply d e = either_way (may_have_taken reply) d
 
 -- The commit of the command failed: what it leaves is before it or after it.
-pub record Failed (s : State) (command : Command) (reply : Reply) (t : State) : Type 0 where
-  pub after : Pages
-  pub commit : commits s command ≡ Some after
-  pub answer : reply ≡ Refused EIO
-  pub ends : t.ends ≡ Some (s.durable ∷ after ∷ [])
+record Failed (s : State) (command : Command) (reply : Reply) (t : State) : Type 0 where
+  after : Pages
+  commit : commits s command ≡ Some after
+  answer : reply ≡ Refused EIO
+  ends : t.ends ≡ Some (s.durable ∷ after ∷ [])
 
 -- a step from a running state goes on running, or fails
-pub goes_on_or_fails : (causes : Causes) (s : State) (command : Command) (reply : Reply) (t : State) → Step causes s command reply t → IsRunning s
+goes_on_or_fails : (causes : Causes) (s : State) (command : Command) (reply : Reply) (t : State) → Step causes s command reply t → IsRunning s
     → (IsRunning t × (t.durable ≡ after_event (event s command reply) s.durable)) ⊎ Failed s command reply t
 goes_on_or_fails causes s command reply t (Answers run r e) h =
     let kept = outcome_keeps s command in
@@ -49,7 +49,7 @@ halted_stays causes s command reply t ends (Stalls stall run may r e) h = absurd
 halted_stays causes s command reply t ends (Stays others is r e) h = (r, e)
 
 -- what a failed commit may leave is what its event says
-pub failed_event : (s : State) (command : Command) (reply : Reply) (t : State) (f : Failed s command reply t) → f.after ≡ after_event (event s command reply) s.durable
+failed_event : (s : State) (command : Command) (reply : Reply) (t : State) (f : Failed s command reply t) → f.after ≡ after_event (event s command reply) s.durable
 failed_event s command reply t f = commit_takes s (ruling s command) f.after f.commit ∙ sym (ap (λ (p : Reply). after_event (event s command p) s.durable) f.answer)
 
 -- prefixes
@@ -91,14 +91,14 @@ more_acknowledged s command reply events k i h =
       | false ↦ omega arith
     ]
 
-none_acknowledged : (events : List Event) → acknowledged events 0 ≡ 0
+pub none_acknowledged : (events : List Event) → acknowledged events 0 ≡ 0
 none_acknowledged [] = refl
 none_acknowledged (e ∷ es) = refl
 
-pub prefix_here : (d : Pages) (events : List Event) (pages : Pages) → pages ≡ d → IsPrefixHolding d events 0 pages
+prefix_here : (d : Pages) (events : List Event) (pages : Pages) → pages ≡ d → IsPrefixHolding d events 0 pages
 prefix_here d events pages e = record { i = 0; holds = omega (arith, none_acknowledged events); same = e ∙ sym (after_zero d events) }
 
-pub prefix_more : (s : State) (command : Command) (reply : Reply) (d : Pages) (events : List Event) (k : ℕ) (pages : Pages)
+prefix_more : (s : State) (command : Command) (reply : Reply) (d : Pages) (events : List Event) (k : ℕ) (pages : Pages)
     → IsPrefixHolding (after_event (event s command reply) d) events k pages → IsPrefixHolding d (event s command reply ∷ events) (suc k) pages
 prefix_more s command reply d events k pages p = record {
   i = p.i + weight command;
@@ -106,17 +106,17 @@ prefix_more s command reply d events k pages p = record {
   same = p.same ∙ one_more s command reply d events p.i;
 }
 
-pub prefix_from_start : (d : Pages) (events : List Event) (k : ℕ) (pages : Pages) → IsPrefixHolding d events k pages → IsPrefixHolding d events 0 pages
+prefix_from_start : (d : Pages) (events : List Event) (k : ℕ) (pages : Pages) → IsPrefixHolding d events k pages → IsPrefixHolding d events 0 pages
 prefix_from_start d events k pages p = record { i = p.i; holds = omega (arith, none_acknowledged events); same = p.same }
 
 -- what stands at a moment of a command
-pub prefix_during : (s : State) (command : Command) (reply : Reply) (d : Pages) (events : List Event) (pages : Pages)
+prefix_during : (s : State) (command : Command) (reply : Reply) (d : Pages) (events : List Event) (pages : Pages)
     → pages ≡ after_event (event s command reply) d → IsPrefixHolding d (event s command reply ∷ events) 0 pages
 prefix_during s command reply d events pages e =
     prefix_from_start d (event s command reply ∷ events) 1 pages (prefix_more s command reply d events 0 pages (prefix_here (after_event (event s command reply) d) events pages e))
 
 -- after a failed commit nothing is acknowledged
-pub failed_before : (s : State) (command : Command) (reply : Reply) (events : List Event) (k : ℕ) (pages : Pages) → reply ≡ Refused EIO → acknowledged events k ≡ 0
+failed_before : (s : State) (command : Command) (reply : Reply) (events : List Event) (k : ℕ) (pages : Pages) → reply ≡ Refused EIO → acknowledged events k ≡ 0
     → pages ≡ s.durable → IsPrefixHolding s.durable (event s command reply ∷ events) (suc k) pages
 failed_before s command reply events k pages r none e = record {
   i = 0;
@@ -127,7 +127,7 @@ failed_before s command reply events k pages r none e = record {
   same = e;
 }
 
-pub failed_after : (s : State) (command : Command) (reply : Reply) (events : List Event) (k : ℕ) (pages : Pages) → acknowledged events k ≡ 0
+failed_after : (s : State) (command : Command) (reply : Reply) (events : List Event) (k : ℕ) (pages : Pages) → acknowledged events k ≡ 0
     → pages ≡ after_event (event s command reply) s.durable → IsPrefixHolding s.durable (event s command reply ∷ events) (suc k) pages
 failed_after s command reply events k pages none e =
     prefix_more s command reply s.durable events k pages (record { i = 0; holds = omega (arith, none); same = e ∙ sym (after_zero _ events) })
@@ -139,3 +139,53 @@ halted_event s command reply events k r none =
       | true ↦ rw none (rw r refl)
       | false ↦ none
     ]
+
+-- what a stop may leave from a state on: what some of the msyncs left, or once it has halted one of its ends
+abbrev pub left_in : Option (List Pages) → Pages → List Event → ℕ → Pages → Type 0
+left_in None durable events k pages = IsPrefixHolding durable events k pages
+left_in (Some ends) durable events k pages = IsOneOf pages ends
+
+pub left_here : (o : Option (List Pages)) (d : Pages) (events : List Event) (pages : Pages) → stands_in o d pages → left_in o d events 0 pages
+left_here None d events pages e = prefix_here d events pages e
+left_here (Some ends) d events pages one = one
+
+pub left_first : (o : Option (List Pages)) (d : Pages) (events : List Event) (k : ℕ) (pages : Pages) → left_in o d events k pages → left_in o d events 0 pages
+left_first None d events k pages p = prefix_from_start d events k pages p
+left_first (Some ends) d events k pages one = one
+
+pub left_none : (o : Option (List Pages)) (d : Pages) (k : ℕ) (pages : Pages) → left_in o d [] 0 pages → left_in o d [] k pages
+left_none None d k pages p = record { i = p.i; holds = p.holds; same = p.same }
+left_none (Some ends) d k pages one = one
+
+-- at a moment of a command
+pub left_during : (s : State) (command : Command) (reply : Reply) (events : List Event) (pages : Pages) → HoldsIn s command reply pages
+    → left_in s.ends s.durable (event s command reply ∷ events) 0 pages
+left_during s command reply events pages holds =
+    ⊎_elim (λ stand. left_here s.ends s.durable (event s command reply ∷ events) pages stand)
+    (λ t. subst (λ (o : Option (List Pages)). left_in o s.durable (event s command reply ∷ events) 0 pages) (sym t.0)
+    (prefix_during s command reply s.durable events pages (t.2 ∙ sym (taken s command reply t.1)))) holds
+  where
+    taken : (s : State) (command : Command) (reply : Reply) → may_have_taken reply ≡ true → after_event (event s command reply) s.durable ≡ takes s (ruling s command) s.durable
+    taken s command reply e = rw e refl
+
+-- after a command
+pub left_after : (causes : Causes) (s : State) (command : Command) (reply : Reply) (t : State) (events : List Event) (k : ℕ) (pages : Pages) → Step causes s command reply t
+    → ((ends : List Pages) → t.ends ≡ Some ends → acknowledged events k ≡ 0) → left_in t.ends t.durable events k pages
+    → left_in s.ends s.durable (event s command reply ∷ events) (suc k) pages
+left_after causes s command reply t events k pages step none left =
+    elim s.ends as (λ (o : Option (List Pages)). s.ends ≡ o → left_in o s.durable (event s command reply ∷ events) (suc k) pages) [
+      | None ↦ λ run. ⊎_elim
+          (λ ran. prefix_more s command reply s.durable events k pages (subst (λ (d : Pages). IsPrefixHolding d events k pages) ran.1 (still None ran.0)))
+          (λ failed. ended failed (none _ failed.ends) (still _ failed.ends))
+          (goes_on_or_fails causes s command reply t step run)
+      | Some ends ↦ λ is. still (Some ends) (ap (λ (x : State). x.ends) (halted_stays causes s command reply t ends step is).1 ∙ is)
+    ] refl
+  where
+    still : (o : Option (List Pages)) → t.ends ≡ o → left_in o t.durable events k pages
+    still o is = subst (λ (x : Option (List Pages)). left_in x t.durable events k pages) is left
+
+    ended : (failed : Failed s command reply t) → acknowledged events k ≡ 0 → IsOneOf pages (s.durable ∷ failed.after ∷ [])
+        → IsPrefixHolding s.durable (event s command reply ∷ events) (suc k) pages
+    ended failed nothing one =
+        ⊎_elim (λ e. failed_before s command reply events k pages failed.answer nothing e)
+        (λ rest. ⊎_elim (λ e. failed_after s command reply events k pages nothing (e ∙ failed_event s command reply t failed)) (λ never. absurd never) rest) one

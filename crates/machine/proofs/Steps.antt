@@ -1,6 +1,6 @@
 -- What a step of the flat model leaves of files and durable pages.
 use Rattle.machine.proofs.Names.{ℕ, ◌≡◌, ◌/◌, ◌==◌, Bool, true, false, if◌then◌else◌, List, Option, Some, None, refl, rules, StoredValue, Command, Spawn, Fork, Exit, Mmap, Munmap, Mprotect, Dontneed, Msync, Load, Store, Fetch, PastFaults}
-use Rattle.machine.proofs.Names.{MapSource, Prot, Errno, ESRCH, Backing, Anon, Stall, Done, Refused, Stalled, Width, with_shown_bytes, Past, Ruling, Refuses, Takes, msync_ruling, committed, State, Outcome, outcome, answers}
+use Rattle.machine.proofs.Names.{MapSource, Prot, Errno, ESRCH, Backing, Anon, Stall, Fault, Done, Refused, Stalled, Faulted, Width, with_shown_bytes, Past, Ruling, Refuses, Takes, msync_ruling, committed, State, Outcome, outcome, answers}
 use Rattle.machine.proofs.Names.{refused_or, spawn_outcome, fork_outcome, fetch_outcome, mmap_outcome, msync_outcome, load_outcome, store_outcome, past_after, ruling, takes, commit_of, first_of, pages_from, least_free_pid, munmap_checks}
 use Rattle.machine.proofs.Names.{asked_checks, row_checks, covered_checks, mmap_errno, mmap_place, Verdict, Fine, Faults, View, Pages}
 
@@ -11,6 +11,7 @@ pub record Keeps (s : State) (x : Outcome) (durable : Pages) : Type 0 where
   pub durable_is : x.state.durable ≡ durable
   pub past : x.state.past ≡ s.past
   pub answers : (stall : Stall) → x.reply ≡ Stalled stall → ⊥
+  pub faults : (fault : Fault) → x.reply ≡ Faulted fault → x.state ≡ s
 
 keeps_spawn : (s : State) (pid : Option ℕ) → Keeps s (spawn_outcome s pid) s.durable
 keeps_spawn s None = search rules
@@ -31,7 +32,7 @@ keeps_refused s None x h = h
 
 keeps_done : (s : State) (checks : Option Errno) (t : State) → t.files ≡ s.files → t.ends ≡ s.ends → t.durable ≡ s.durable → t.past ≡ s.past
     → Keeps s (refused_or s checks (record { reply = Done; state = t })) s.durable
-keeps_done s checks t files ends durable past = keeps_refused s checks _ (record { files = files; ends = ends; durable_is = durable; past = past; answers = λ stall e. cc })
+keeps_done s checks t files ends durable past = keeps_refused s checks _ (record { files = files; ends = ends; durable_is = durable; past = past; answers = λ stall e. cc; faults = λ fault e. absurd (cc) })
 
 keeps_msync : (s : State) (r : Ruling) → Keeps s (msync_outcome s r) (takes s r s.durable)
 keeps_msync s (Refuses errno) = search rules

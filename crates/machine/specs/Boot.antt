@@ -3,7 +3,7 @@ use Rattle.std.specs.Prelude.{ℕ, ◌*◌, ◌^◌, ◌≡◌, ◌<◌, ◌≤�
 use Rattle.disk_model.specs.Moments.{Touches, AsksOnly, Nothing, LeavesOnly}
 use Rattle.disk_model.specs.Stop.{Image}
 use Rattle.disk_model.specs.declared.sector_disk.SectorDisk.{Ghosts}
-use Rattle.sync_journal.specs.Kinds.{IsOutsideOf}
+use Rattle.sync_journal.specs.Kinds.{by_kind}
 use Rattle.file_store.specs.Standing.{StandsFor, StandsAs, IsBadLayout, IsBadJournal, IsAskedToOpen}
 use Rattle.vm_types.specs.State.{State, IsRunning}
 use Rattle.machine.specs.declared.boot.BootFault.{BootFault}
@@ -83,7 +83,7 @@ module _ {D : Type 0} (g : Ghosts D) where
     -- no sector was asked for but mark, kind and directory, the gate, the map that it names, and, where that has pages, what is copied and written
     pub asks : g.keeps_model new → AsksOnly g (IsAskedToOpen (g.content store)) store new
     -- the mark, the directory and what lies after the last home are as they were
-    pub outside : g.keeps_model new → (k : ℕ) → IsOutsideOf (g.content store) (g.sector_count store) k → g.content new k ≡ g.content store k
+    pub outside : g.keeps_model new → (k : ℕ) → by_kind.IsOutside (g.content store) (g.sector_count store) k → g.content new k ≡ g.content store k
 
   -- Why a boot gives up with this fault, and what it leaves of the store's device, which is the new one then.
   pub record BootRefuses (config : Config) (swap_sectors : ℕ) (store : D) (fault : BootFault) (new : D) : Type 0 where
@@ -112,7 +112,7 @@ module _ {D : Type 0} (g : Ghosts D) where
     -- no sector was asked for but mark, kind and directory, the gate, the map that it names, and, where that has pages, what is copied and written
     pub asks : g.keeps_model new → AsksOnly g (IsAskedToOpen (g.content store)) store new
     -- the mark, the directory and what lies after the last home are as they were
-    pub outside : g.keeps_model new → (k : ℕ) → IsOutsideOf (g.content store) (g.sector_count store) k → g.content new k ≡ g.content store k
+    pub outside : g.keeps_model new → (k : ℕ) → by_kind.IsOutside (g.content store) (g.sector_count store) k → g.content new k ≡ g.content store k
     -- the device has as many sectors as it had
     pub err_size : g.sector_count new ≡ g.sector_count store
     -- if it keeps the disk model still, it did before

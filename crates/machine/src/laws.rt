@@ -35,12 +35,14 @@ pub fn hardware_tells<D: SectorDisk, E: SectorDisk>(_store: &D, _swap: &E)
         → IsMadeByHardware old old (Fetch pid addr) told → TakesStep D.SectorDisk E.SectorDisk old new (Fetch pid addr) reply → reply ≡ told }
 {}
 
-/// After `Machine::step` returned a number, the tables grant that access, so that hardware makes it by itself when the process asks again.
+/// After `Machine::step` returned a number, or that a store is done, the tables grant that access, so that hardware makes it by itself when the process asks again.
 pub fn hardware_goes_on<D: SectorDisk, E: SectorDisk>(_store: &D, _swap: &E)
     ensures load { (old new : Machine D E) (pid addr n : ℕ) (width : Width) → addr % byte_count width ≡ 0
         → TakesStep D.SectorDisk E.SectorDisk old new (Load pid addr width) (Value width n) → (place : Phys) × IsGrantedBy new pid addr width Access.Load place }
     ensures fetch { (old new : Machine D E) (pid addr n : ℕ) → addr % 4 ≡ 0
         → TakesStep D.SectorDisk E.SectorDisk old new (Fetch pid addr) (Value Four n) → (place : Phys) × IsGrantedBy new pid addr Four Access.Fetch place }
+    ensures store { (old new : Machine D E) (pid addr : ℕ) (stored : StoredValue) (width : Width) → addr % byte_count width ≡ 0 → halted_of new ≡ false
+        → TakesStep D.SectorDisk E.SectorDisk old new (Store pid addr stored) Done → (place : Phys) × IsGrantedBy new pid addr width Access.Store place }
 {}
 
 /// Such an access changes no table, so that what hardware has kept of walks since its last fence stays true (RISC-V Privileged Specification,

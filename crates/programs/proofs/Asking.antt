@@ -1,13 +1,13 @@
 -- What is asked of a device where a file is shown.
 use Rattle.{std.{proofs.{Common.{◌≡◌, ℕ, ◌<◌, ◌+◌, ◌*◌, List, [], Option, Some, sym, ap, subst, ◌∙◌, inl, inr, arith}, lemmas.Option.{same_Some}}, specs.Option.{option_map}}, disk_model.proofs.Moments.{asks_then, asks_wider, then, wider}}
 use Rattle.{disk_model.specs.{Moments.{Touches, Nothing, AsksOnly, LeavesNow, LeavesOnly}, Stop.{Image}, declared.sector_disk.SectorDisk.{Ghosts}}, vm_types.specs.declared.file.FileInfo.{FileInfo}, sync_journal.specs.Kinds.{is_kind}}
-use Rattle.sync_journal.specs.{Kinds.{kind_when, kind_of, kind_home, journal_kind, journal_stands, store_live, IsStoreClosed, IsStoreRecovered}, Layout.{IsPageSector}, Map.{place_among, home_rank}, Standing.{place_or_home}, Turns.{turn_stands}}
+use Rattle.sync_journal.specs.{Kinds.{kind_when, kind_of, kind_home, journal_kind, store_live, by_kind}, Layout.{IsPageSector}, Map.{place_among, home_rank}, Standing.{place_or_home}, Turns.{turn_stands}}
 use Rattle.{sync_journal.specs.declared.store_journal.{Journals.{Journals}, StoreJournal.{StoreJournal, TheVariants.{One, InTurn}}}, file_store.proofs.{Images.{same_head, entry_same}, Outside.{left_outside}}}
 use Rattle.file_store.specs.{Standing.{IsAskedToOpen, IsPageOf, StandsAs, directory_entry}, Store.{IsReadyStore, IsSectorOf, entry_of, files_of, entry_home, home_of}, declared.directory.{Directory.{Directory}, Entry.{Entry}}}
 use Rattle.{file_store.specs.declared.store.FileStore.{FileStore}, programs.{proofs.Copies.{has_entry, same_content, still_stands}, specs.Showing.{IsAskedToShow, IsInHomesOf, IsSectorOfFile, KeepsImage, KeepsToFile, OnlyReads}}}
 
 -- where nothing stands in a journal alone, a page stands in its home
-at_home : (journal : StoreJournal) (h k : ℕ) → store_live journal ≡ [] → IsPageSector (journal_stands journal h) k → IsPageSector (kind_home (journal_kind journal) h) k
+at_home : (journal : StoreJournal) (h k : ℕ) → store_live journal ≡ [] → IsPageSector (by_kind.stands_at journal h) k → IsPageSector (kind_home (journal_kind journal) h) k
 unfolding place_among
 at_home (One journal) h k none sector = subst (λ (s : List ℕ). IsPageSector (place_or_home h (home_rank s h)) k) none sector
 at_home (InTurn journal) h k none sector = subst (λ (s : List ℕ). IsPageSector (turn_stands journal.second h (home_rank s h)) k) none sector
@@ -28,8 +28,8 @@ module _ {D : Type 0} (g : Ghosts D) where
     where
       moved : (k : ℕ) → IsSectorOf mid (record { file = f; page = page }) k → IsSectorOf first (record { file = f; page = page }) k
       moved k sector =
-          subst (λ (j : StoreJournal). IsPageSector (journal_stands j (home_of first.directory (record { file = f; page = page }))) k) journal
-          (subst (λ (d : Directory). IsPageSector (journal_stands mid.journal (home_of d (record { file = f; page = page }))) k) files sector)
+          subst (λ (j : StoreJournal). IsPageSector (by_kind.stands_at j (home_of first.directory (record { file = f; page = page }))) k) journal
+          (subst (λ (d : Directory). IsPageSector (by_kind.stands_at mid.journal (home_of d (record { file = f; page = page }))) k) files sector)
 
   -- the sectors of an opened store's file are those of its homes
   in_homes : (old : D) (store : FileStore D) (f k : ℕ) → store_live store.journal ≡ [] → kind_of (g.content old) ≡ journal_kind store.journal → ((n : ℕ) → entry_of store.directory n ≡ directory_entry (g.content old) n)
@@ -65,7 +65,7 @@ module _ {D : Type 0} (g : Ghosts D) where
 
   -- a store that was opened, and of which a file was shown then
   pub keeps_to : (old : D) (store : FileStore D) (new : D) (f : ℕ) → store_live store.journal ≡ [] → IsReadyStore g store
-      → (g.keeps_model new → g.keeps_model store.disk) → (g.keeps_model store.disk → Touches g (IsStoreRecovered (g.content old) (g.sector_count old)) old store.disk)
+      → (g.keeps_model new → g.keeps_model store.disk) → (g.keeps_model store.disk → Touches g (by_kind.IsRecovered (g.content old) (g.sector_count old)) old store.disk)
       → (g.keeps_model new → Touches g Nothing store.disk new) → (g.keeps_model store.disk → AsksOnly g (IsAskedToOpen (g.content old)) old store.disk)
       → AsksOnly g (IsSectorOfFile store f) store.disk new → KeepsToFile g f old new
   keeps_to old store new f none ready kept opened read asked shown = record {
@@ -85,7 +85,7 @@ module _ {D : Type 0} (g : Ghosts D) where
   }
 
   -- an image that was not opened
-  pub keeps_unopened : (old new : D) (f : ℕ) → (g.keeps_model new → Touches g (IsStoreRecovered (g.content old) (g.sector_count old)) old new)
+  pub keeps_unopened : (old new : D) (f : ℕ) → (g.keeps_model new → Touches g (by_kind.IsRecovered (g.content old) (g.sector_count old)) old new)
       → (g.keeps_model new → AsksOnly g (IsAskedToOpen (g.content old)) old new) → KeepsToFile g f old new
   keeps_unopened old new f opened asked = record {
     asks = λ keeps. asks_wider g (IsAskedToOpen (g.content old)) (IsAskedToShow (g.content old) f) old new (λ k a. inl a) (asked keeps);
@@ -94,18 +94,18 @@ module _ {D : Type 0} (g : Ghosts D) where
 
   -- whatever comes of showing a file of a store that was just opened
   pub keeps_image : (old : D) (store new : FileStore D) (f : ℕ) → store_live store.journal ≡ [] → IsReadyStore g store → (g.keeps_model store.disk → g.keeps_model old)
-      → (g.keeps_model store.disk → Touches g (IsStoreRecovered (g.content old) (g.sector_count old)) old store.disk) → (g.keeps_model store.disk → AsksOnly g (IsAskedToOpen (g.content old)) old store.disk)
+      → (g.keeps_model store.disk → Touches g (by_kind.IsRecovered (g.content old) (g.sector_count old)) old store.disk) → (g.keeps_model store.disk → AsksOnly g (IsAskedToOpen (g.content old)) old store.disk)
       → (g.keeps_model store.disk → LeavesNow g store.disk (StandsAs (g.sector_count old) (g.content old)))
       → (g.keeps_model store.disk → ((k : ℕ) → g.unsynced old k → ⊥) → (first : Image) → StandsAs (g.sector_count old) first (g.content old)
       → LeavesOnly g old store.disk (StandsAs (g.sector_count old) first))
-      → (g.keeps_model store.disk → IsStoreClosed (g.content old) → Touches g Nothing old store.disk) → OnlyReads g (IsSectorOfFile store f) store new → KeepsImage g f old new.disk
+      → (g.keeps_model store.disk → by_kind.IsClosed (g.content old) → Touches g Nothing old store.disk) → OnlyReads g (IsSectorOfFile store f) store new → KeepsImage g f old new.disk
   keeps_image old store new f none ready kept opened asked now in_a_row unwritten shown = record {
     kept = λ keeps. kept (shown.kept keeps);
     any_moment = λ keeps synced. leaves keeps synced (g.content old) (λ files pages was. was);
     in_a_row = leaves;
     asks = keeps_to old store new.disk f none ready shown.kept opened shown.touches asked shown.asks;
-    touches = λ keeps. then g (IsStoreRecovered (g.content old) (g.sector_count old)) old store.disk new.disk (opened (shown.kept keeps))
-        (wider g Nothing (IsStoreRecovered (g.content old) (g.sector_count old)) store.disk new.disk (λ k none. absurd none) (shown.touches keeps));
+    touches = λ keeps. then g (by_kind.IsRecovered (g.content old) (g.sector_count old)) old store.disk new.disk (opened (shown.kept keeps))
+        (wider g Nothing (by_kind.IsRecovered (g.content old) (g.sector_count old)) store.disk new.disk (λ k none. absurd none) (shown.touches keeps));
     closed_unwritten = λ keeps closed. then g Nothing old store.disk new.disk (unwritten (shown.kept keeps) closed) (shown.touches keeps);
   }
     where

@@ -7,7 +7,7 @@ use Rattle.disk_model.specs.declared.sector_disk.SectorDisk.{Ghosts}
 use Rattle.vm_types.specs.declared.file.FileInfo.{FileInfo}
 use Rattle.vm_types.specs.declared.file.FilePage.{FilePage}
 use Rattle.sync_journal.specs.Layout.{IsPageSector}
-use Rattle.sync_journal.specs.Kinds.{kind_of, kind_home, store_live, IsOutsideOf, IsStoreClosed, IsStoreRecovered}
+use Rattle.sync_journal.specs.Kinds.{kind_of, kind_home, by_kind, store_live}
 use Rattle.file_store.specs.declared.directory.Entry.{Entry}
 use Rattle.file_store.specs.declared.faults.OpenFault.{OpenFault}
 use Rattle.file_store.specs.declared.faults.OpenFault.TheVariants.{Device, BadLayout, BadJournal}
@@ -67,7 +67,7 @@ module _ {D : Type 0} (g : Ghosts D) where
     -- no sector was asked for but those that an opening asks for, and the homes of the file
     pub asks : g.keeps_model new → AsksOnly g (IsAskedToShow (g.content old) f) old new
     -- the mark, the directory and what lies after the last home are as they were
-    pub outside : g.keeps_model new → (k : ℕ) → IsOutsideOf (g.content old) (g.sector_count old) k → g.content new k ≡ g.content old k
+    pub outside : g.keeps_model new → (k : ℕ) → by_kind.IsOutside (g.content old) (g.sector_count old) k → g.content new k ≡ g.content old k
 
   -- Whatever comes of a showing of file f, it changes nothing of what the device stands for:
   pub record KeepsImage (f : ℕ) (old new : D) : Type 0 where
@@ -81,8 +81,8 @@ module _ {D : Type 0} (g : Ghosts D) where
     -- no sectors are asked for but those of an opening and of the file's homes, and what lies outside the homes stays.
     pub asks : KeepsToFile f old new
     -- and none is written but those of a recovery, and none at all where nothing stands in a journal alone.
-    pub touches : g.keeps_model new → Touches g (IsStoreRecovered (g.content old) (g.sector_count old)) old new
-    pub closed_unwritten : g.keeps_model new → IsStoreClosed (g.content old) → Touches g Nothing old new
+    pub touches : g.keeps_model new → Touches g (by_kind.IsRecovered (g.content old) (g.sector_count old)) old new
+    pub closed_unwritten : g.keeps_model new → by_kind.IsClosed (g.content old) → Touches g Nothing old new
 
   -- File f is written out:
   pub record WritesOut (f : ℕ) (old : D) (store : FileStore D) (before now : Option (List ℕ)) : Type 0 where

@@ -70,54 +70,21 @@ module _ {D E : Type 0} (g : Ghosts D) (h : Ghosts E) where
         wrote = Appends-nil held;
       }
 
-  -- what the newline does to the machine
-  ends_line : (old new : Machine D E) (kept open_line text : List ℕ) → HoldsOpenLine kept open_line → Answers g h old kept text new
-      → Advances g h old open_line (10 ∷ []) text [] new
-  ends_line old new kept open_line text begun answers = record {
-    lines = open_line ∷ [];
-    cuts = Cuts-newline open_line begun.unfinished;
-    runs = CarriesOut-one g h old new open_line text (answers_line g h old new open_line text (subst (λ k. Answers g h old k text new) begun.front answers));
-  }
-
-  -- the newline, where the output is not written out
-  pub goes_on_by_newline : (old new : Machine D E) (kept cleared pending more text : List ℕ) (held : Option (List ℕ))
-      → Answers g h old kept text new → cleared ≡ [] → more ≡ pending ++ text
-      → GoesOn g h (stage old kept pending held) (stage new cleared more held) (10 ∷ [])
-  goes_on_by_newline old new kept cleared pending more text held answers none is open_line begun = record {
+  -- the newline
+  pub goes_on_by_newline : (old new : Machine D E) (kept pending more text : List ℕ) (held : Option (List ℕ)) → Answers g h old kept text new → more ≡ pending ++ text
+      → GoesOn g h (stage old kept pending held) (stage new [] more held) (10 ∷ [])
+  goes_on_by_newline old new kept pending more text held answers is open_line begun = record {
     text = text;
     rest = [];
     written = [];
-    advances = ends_line old new kept open_line text begun answers;
-    kept = subst (λ k. HoldsOpenLine k []) (sym none) HoldsOpenLine-none;
+    advances = record {
+      lines = open_line ∷ [];
+      cuts = Cuts-newline open_line begun.unfinished;
+      runs = CarriesOut-one g h old new open_line text (answers_line g h old new open_line text (subst (λ k. Answers g h old k text new) begun.front answers));
+    };
+    kept = HoldsOpenLine-none;
     sent = sym is;
     wrote = Appends-nil held;
-  }
-
-  -- the newline, where it is
-  pub goes_on_written_out : (old new : Machine D E) (kept cleared pending more text left : List ℕ) (held held_then : Option (List ℕ))
-      → Answers g h old kept text new → cleared ≡ [] → more ≡ pending ++ text → left ≡ [] → Appends held held_then more
-      → GoesOn g h (stage old kept pending held) (stage new cleared left held_then) (10 ∷ [])
-  goes_on_written_out old new kept cleared pending more text left held held_then answers none is gone wrote open_line begun = record {
-    text = text;
-    rest = [];
-    written = more;
-    advances = ends_line old new kept open_line text begun answers;
-    kept = subst (λ k. HoldsOpenLine k []) (sym none) HoldsOpenLine-none;
-    sent = sym is ∙ sym (append-nil more) ∙ ap (λ l. more ++ l) (sym gone);
-    wrote = wrote;
-  }
-
-  pub breaks_at_newline : (old new : Machine D E) (kept cleared pending more text left : List ℕ) (held held_then : Option (List ℕ))
-      → Answers g h old kept text new → more ≡ pending ++ text → WritesBeginning held held_then more
-      → BreaksOff g h (stage old kept pending held) (stage new cleared left held_then) (10 ∷ [])
-  breaks_at_newline old new kept cleared pending more text left held held_then answers is wrote open_line begun = record {
-    text = text;
-    rest = [];
-    front = 10 ∷ [];
-    more = [];
-    split = refl;
-    advances = ends_line old new kept open_line text begun answers;
-    wrote = subst (WritesBeginning held held_then) is wrote;
   }
 
   pub GoesOn-trans : (old mid new : Stage D E) (bytes more : List ℕ) → GoesOn g h old mid bytes → GoesOn g h mid new more → GoesOn g h old new (bytes ++ more)
@@ -162,8 +129,7 @@ module _ {D E : Type 0} (g : Ghosts D) (h : Ghosts E) where
       let mid = stage old line pending held in
       let after = stage new [] more held_then in
       let goes = goes_on_by_bytes old kept pending held bytes line unbroken is in
-      let P : List ℕ → Type 0 = λ k. TakesBytes g h r before (stage new k more held_then) (bytes ++ 10 ∷ []) in
-      subst P (sym none) (record {
+      subst (λ (k : List ℕ). TakesBytes g h r before (stage new k more held_then) (bytes ++ 10 ∷ [])) (sym none) (record {
         sound = ended.sound;
         reads = match_both r (GoesOn-trans before mid after bytes (10 ∷ []) goes) (breaks_after before mid after bytes (10 ∷ []) goes) ended.reads;
         room = ended.room;

@@ -1,7 +1,7 @@
 -- From the lines that were carried out to a run of the machine.
 use Rattle.{std.{proofs.Common.{◌≡◌, ℕ, List, [], ◌∷◌, ◌++◌, refl, sym, ap, subst, ◌∙◌, Option, inl, inr}, specs.Io.KnownBytes.{Consumes}}, disk_model.specs.{Stop.{Image, MayLeave}, declared.sector_disk.SectorDisk.{Ghosts}}}
-use Rattle.{vm_types.specs.{Prefix.{Event}, State.{State}, declared.{command.Command.{Command}, reply.Reply.{Reply}}}, machine.{proofs.{Face.{readable, face}, Runs.{chain_room, leaves_prefix}}, specs.Chain.{event, Caused, Chain, Runs}}}
-use Rattle.{machine.specs.{Machine.{store_of, swap_of, Shows, Meets}, declared.machine.Machine.{Machine}}, trace_lang.specs.Lines.{lines_of}, runner.specs.{Progress.{stage, EndsSo}, Session.{Obeys, Rejects, CarriesOut, Answered}}}
+use Rattle.{vm_types.specs.{State.{State}, declared.{command.Command.{Command}, reply.Reply.{Reply}}}, machine.{proofs.{Face.{readable, face}, Runs.{all_ran, RanSoFar}}, specs.Chain.{event, Caused}}}
+use Rattle.{machine.specs.{Machine.{store_of, swap_of, Shows}, declared.machine.Machine.{Machine}}, trace_lang.specs.Lines.{lines_of}, runner.specs.{Progress.{stage, EndsSo}, Session.{Obeys, Rejects, CarriesOut, Answered}}}
 use Rattle.runner.specs.{Trace.{Streams, streams, EndsTrace, CausedTrace, RunsTrace}, declared.engine.RunEnd.{RunEnd, TheVariants.{Done, ReadFault, WriteFault}}}
 
 module _ {D E : Type 0} (g : Ghosts D) (h : Ghosts E) where
@@ -91,36 +91,8 @@ module _ {D E : Type 0} (g : Ghosts D) (h : Ghosts E)
   record Session (old new : Machine D E) (s : State) (lines : List (List ℕ)) (text : List ℕ) : Type 0 where
     commands : List Command
     replies : List Reply
-    events : List Event
-    last : State
     answered : Answered lines commands replies text
-    chain : Chain g h old s commands replies events new last
-    shows : Shows g h new last
-
-  obeyed : (old mid new : Machine D E) (s : State) (line : List ℕ) (lines : List (List ℕ)) (first rest text : List ℕ)
-      → (o : Obeys g h old line first mid) → text ≡ first ++ rest
-      → (step : (t : State) × Meets g h old mid s t o.command o.reply) → Session mid new step.0 lines rest → Session old new s (line ∷ lines) text
-  obeyed old mid new s line lines first rest text o is step later = record {
-    commands = o.command ∷ later.commands;
-    replies = o.reply ∷ later.replies;
-    events = event s o.command o.reply ∷ later.events;
-    last = later.last;
-    answered = answered_more g h old mid line lines later.commands later.replies first rest text o is later.answered;
-    chain = (mid, step.0, refl, step.1, later.chain);
-    shows = later.shows;
-  }
-
-  rejected : (old mid new : Machine D E) (s : State) (line : List ℕ) (lines : List (List ℕ)) (first rest text : List ℕ)
-      → Rejects g h old line first mid → text ≡ first ++ rest → Session old new s lines rest → Session old new s (line ∷ lines) text
-  rejected old mid new s line lines first rest text r is later = record {
-    commands = later.commands;
-    replies = later.replies;
-    events = later.events;
-    last = later.last;
-    answered = answered_none g h old mid line lines later.commands later.replies first rest text r is later.answered;
-    chain = later.chain;
-    shows = later.shows;
-  }
+    ran_so_far : RanSoFar g h old new s commands replies
 
   relates : (old new : Machine D E) (s : State) (lines : List (List ℕ)) (text : List ℕ)
       → CarriesOut g h old lines text new → Shows g h old s → g.keeps_model (store_of new) → h.keeps_model (swap_of new)
@@ -128,36 +100,33 @@ module _ {D E : Type 0} (g : Ghosts D) (h : Ghosts E)
   relates old new s [] text carried shows keeps swap_keeps = record {
     commands = [];
     replies = [];
-    events = [];
-    last = s;
     answered = (refl, refl, carried.0);
-    chain = (carried.1, refl);
-    shows = subst (λ m. Shows g h m s) (sym carried.1) shows;
+    ran_so_far = record { last = s; events = []; chain = (carried.1, refl); shows = subst (λ m. Shows g h m s) (sym carried.1) shows };
   }
   relates old new s (line ∷ lines) text carried shows keeps swap_keeps =
       let mid = carried.0 in
       elim carried.3 [
         | inl o ↦
             let kept = kept_all g h mid new lines carried.2 carried.4 in
-            let may = readable g h mid s o.command (kept.0 keeps) (kept.1 swap_keeps) in
-            let step = o.steps s shows may in
-            obeyed old mid new s line lines carried.1 carried.2 text o carried.5 step
-            (relates mid new step.0 lines carried.2 carried.4 (face g h old mid s step.0 o.command o.reply step.1).shows keeps swap_keeps)
+            let step = o.steps s shows (readable g h mid s o.command (kept.0 keeps) (kept.1 swap_keeps)) in
+            let later = relates mid new step.0 lines carried.2 carried.4 (face g h old mid s step.0 o.command o.reply step.1).shows keeps swap_keeps in
+            record {
+              commands = o.command ∷ later.commands;
+              replies = o.reply ∷ later.replies;
+              answered = answered_more g h old mid line lines later.commands later.replies carried.1 carried.2 text o carried.5 later.answered;
+              ran_so_far =
+                  let rest = later.ran_so_far in
+                  record { last = rest.last; events = event s o.command o.reply ∷ rest.events; chain = (mid, step.0, refl, step.1, rest.chain); shows = rest.shows };
+            }
         | inr r ↦
-            rejected old mid new s line lines carried.1 carried.2 text r carried.5
-            (relates old new s lines carried.2 (subst (λ m. CarriesOut g h m lines carried.2 new) r.same carried.4) shows keeps swap_keeps)
+            let later = relates old new s lines carried.2 (subst (λ m. CarriesOut g h m lines carried.2 new) r.same carried.4) shows keeps swap_keeps in
+            record {
+              commands = later.commands;
+              replies = later.replies;
+              answered = answered_none g h old mid line lines later.commands later.replies carried.1 carried.2 text r carried.5 later.answered;
+              ran_so_far = later.ran_so_far;
+            }
       ]
-
-  runs : (old new : Machine D E) (s : State) (lines : List (List ℕ)) (text : List ℕ) (before : Shows g h old s)
-      (a : Session old new s lines text) → Runs g h old new a.commands a.replies s
-  runs old new s lines text before a = record {
-    last = a.last;
-    events = a.events;
-    chain = a.chain;
-    shows = a.shows;
-    room = chain_room g h old s a.commands a.replies a.events new a.last a.chain;
-    prefixes = λ run keeps. leaves_prefix g h (g.sector_count (store_of old)) s.files old s a.commands a.replies a.events new a.last a.chain keeps run refl refl only_now before;
-  }
 
   pub runs_trace : (end : RunEnd) (old new : Machine D E) (s : State) (left left_then held held_then : Option (List ℕ)) (bytes : List ℕ)
       → Consumes left left_then bytes → EndsSo g h end left_then (stage old [] [] held) (stage new [] [] held_then) bytes []
@@ -173,6 +142,6 @@ module _ {D E : Type 0} (g : Ghosts D) (h : Ghosts E)
         replies = a.replies;
         text = r.text;
         answered = a.answered;
-        runs = runs old new s r.lines r.text shows a;
+        runs = all_ran g h old new s a.commands a.replies only_now shows a.ran_so_far;
         ends = r.ends;
       }

@@ -3,7 +3,7 @@ use Rattle.std.specs.Prelude.{◌≡◌, ◌≤◌, ℕ}
 use Rattle.disk_model.specs.declared.sector_disk.SectorDisk.{Ghosts}
 use Rattle.disk_model.specs.Moments.{AsksOnly, LeavesOnly}
 use Rattle.disk_model.specs.Stop.{Image}
-use Rattle.sync_journal.specs.Kinds.{IsOutsideOf}
+use Rattle.sync_journal.specs.Kinds.{by_kind}
 use Rattle.file_store.specs.Standing.{StandsAs, IsBadLayout, IsBadJournal, IsAskedToOpen}
 use Rattle.vm_types.specs.State.{State}
 use Rattle.machine.specs.declared.config.Config.{Config}
@@ -40,6 +40,6 @@ module _ {D E : Type 0} (g : Ghosts D) (h : Ghosts E) where
     pub in_a_row : g.keeps_model (store_of old) → ((k : ℕ) → g.unsynced store k → ⊥) → (first : Image) → StandsAs (g.sector_count store) first (g.content store)
         → LeavesOnly g store (store_of old) (StandsAs (g.sector_count store) first)
     pub asks : g.keeps_model (store_of old) → AsksOnly g (IsAskedToOpen (g.content store)) store (store_of old)
-    pub outside : g.keeps_model (store_of old) → (k : ℕ) → IsOutsideOf (g.content store) (g.sector_count store) k → g.content (store_of old) k ≡ g.content store k
+    pub outside : g.keeps_model (store_of old) → (k : ℕ) → by_kind.IsOutside (g.content store) (g.sector_count store) k → g.content (store_of old) k ≡ g.content store k
     pub caused : CausedTrace g h end old new before after
     pub runs : (s : State) → Shows g h old s → g.keeps_model (store_of new) → h.keeps_model (swap_of new) → RunsTrace g h end old new before after s

@@ -5,13 +5,16 @@ use Rattle.disk_model.specs.declared.sector_disk.SectorDisk.{Ghosts}
 use Rattle.residency.specs.Picture.{is_live}
 use Rattle.vm_types.specs.Replies.{told}
 use Rattle.vm_types.specs.State.{State}
+use Rattle.vm_types.specs.declared.access.Access.TheVariants as Kinds
 use Rattle.vm_types.specs.declared.access.StoredValue.{StoredValue}
 use Rattle.vm_types.specs.declared.command.Command.{Command}
 use Rattle.vm_types.specs.declared.command.Command.TheVariants.{Load, Store}
+use Rattle.vm_types.specs.declared.number.Phys.{Phys}
 use Rattle.vm_types.specs.declared.reply.Answer.{Answer}
 use Rattle.vm_types.specs.declared.reply.Answer.TheVariants.{Process, Address, Done, Value, Faulted, Refused, Stalled, Halted}
 use Rattle.vm_types.specs.declared.width.Width.TheVariants.{One}
 use Rattle.machine.specs.Commands.{DoesAsTold, KeepsModelsAndRoom}
+use Rattle.machine.specs.Hardware.{IsGrantedBy}
 use Rattle.machine.specs.Machine.{halted_of, past_of, IsReadable, Meets, Shows}
 use Rattle.machine.specs.declared.machine.Machine.{Machine}
 use Rattle.inspection.specs.Machines.{memory_of}
@@ -65,13 +68,17 @@ module _ {D E : Type 0} (g : Ghosts D) (h : Ghosts E) where
     -- and they and the sizes of the machine were kept.
     pub keeps : KeepsModelsAndRoom g h old new
 
-  -- The byte at an address was loaded, and stored as it is; where the load gave none, its answer is the one that is told.
+  -- The byte at an address is touched:
   pub record TouchesByte (old : Machine D E) (pid addr : ℕ) (new : Machine D E) (answer : Option Answer) : Type 0 where
+    -- it was loaded,
     pub mid : Machine D E
     pub loaded : Option Answer
     pub loads : AnswersCommand old (Load pid addr One) mid loaded
+    -- and stored as it is, or, where the load gave none, the load's answer is the one that is told,
     pub stores : ((stored : StoredValue) × IsByte loaded stored × AnswersCommand mid (Store pid addr stored) new answer)
         ⊎ (IsNoByte loaded × (new ≡ mid) × (answer ≡ loaded))
+    -- and once it is done the tables grant the process a store there, so that hardware makes it by itself when it tries again.
+    pub grants : answer ≡ Some Done → halted_of new ≡ false → (place : Phys) × IsGrantedBy new pid addr One Kinds.Store place
 
   abbrev pub AnswersRequest : Machine D E → Request → Machine D E → Option Answer → Type 0
   AnswersRequest old (Carry command) new answer = AnswersCommand old command new answer

@@ -1,12 +1,13 @@
 -- Stores of the flat model in a state that memory shows.
 use Rattle.vm_types.specs.declared.mode.Levels as Levels
-use Rattle.spaces.proofs.{Calls.{does}, Names.{ℕ, ◌/◌, ◌%◌, ◌≡◌, ◌&&◌, Bool, true, false, not, if◌then◌else◌, inl, inr, List, Option, Some, None, is_some, refl, sym, ap, ◌∙◌, subst, arith, nat_tests, Ghosts, AccessRefusal, KeepsRoom}}
+use Rattle.spaces.proofs.{Calls.{does}, Names.{ℕ, ◌/◌, ◌%◌, ◌≡◌, ◌≢◌, ◌&&◌, Bool, true, false, not, if◌then◌else◌, inl, inr, List, Option, Some, None, is_some, refl, sym, ap, ◌∙◌, subst, arith, nat_tests, Ghosts, AccessRefusal, KeepsRoom}}
 use Rattle.spaces.proofs.Names.{KeepsOtherViews, KeepsSlotted, Proceeds, BringsFiles, IsReadyToStore, IsOpenToStore, IsRefusal, verdict_of, view-mapped, own_in-none, one_view, ShowsFiles, bytes_shown, shows_own, shows_shared, shows_common}
 use Rattle.spaces.proofs.Names.{view-attr, fit_own, fit_file, views_others, views_file, entries_own, entries_file, mapped_page, shared_none, with_bytes-others, bytes_of, IsHeld, Core, IsFit, is_shared, Picture, picture_of, is_live, entry}
 use Rattle.spaces.proofs.Names.{own_in, view, ShowsPages, SameBeside, CoreShows, held_framed, SlotTable, Access, StoredValue, Store, BusAdraln, SegvAccerr, BusAdrerr, ESRCH, PageKey, File, Object, Backing, Anon, Shared, Done, Refused}
 use Rattle.spaces.proofs.Names.{Width, with_number, with_shown_bytes, Files, table_count, is_success, reply_of, State, shown, copy_or_behind, with_view, Outcome, outcome, answers, judged, store_outcome, Verdict, Fine, Faults, lets}
 use Rattle.{spaces.{proofs.{Names.{is_past_end, page_verdict, View, byte_count}, Reading.{live_outcome, refused, same, files}, Short.{tables_kept}, Shown.{judged_is}}, specs.{Accesses.{reply_for}, Calls.{Comes}}}, std.specs.Prelude.{◌==◌}}
 use Rattle.vm_types.specs.declared.region.Backing.TheVariants.{Common}
+use Rattle.{fault.proofs.Forms.{own_role}, frames.specs.{FrameTable.{role_of}, declared.role.Role.TheVariants.{Cache, Private, Table}}}
 use Rattle.frames.specs.FrameTable as Frames
 use Rattle.vm_types.specs.declared.access.Access.TheVariants as Accesses
 
@@ -77,7 +78,15 @@ pub slotted_stored : {mode : ℕ} (old mid new : Picture mode) (pid page : ℕ) 
 slotted_stored old mid new pid page b n w files own fit usable frames beside slotted =
     slotted_on files own old mid new beside.place (entries_stored mid new pid page b n w fit usable frames beside) slotted
 
--- that frame was handed out
+-- that frame is no table
+pub data_frame : {mode : ℕ} (c : Picture mode) (pid page n : ℕ) (b : Backing) → IsFit c → IsOpenToStore c pid page b n → role_of c.frames n ≢ Table
+data_frame c pid page n (Shared p) fit usable is = let never : Cache ≡ Table = sym (fit.places.cached (File p) n usable.1) ∙ is in cc
+data_frame c pid page n (Common p) fit usable is = let never : Cache ≡ Table = sym (fit.places.cached (Object p) n usable.1) ∙ is in cc
+data_frame c pid page n b fit usable is =
+    let sole = usable.1 in
+    let never : Private ≡ Table = sym (ap (role_of c.frames) (sym sole.frame) ∙ own_role c pid page fit sole.inside sole.private) ∙ is in cc
+
+-- it was handed out
 pub open_held : {mode : ℕ} (c : Picture mode) (pid page : ℕ) (b : Backing) (n : ℕ) → IsOpenToStore c pid page b n → IsHeld c.frames n
 open_held c pid page Anon n usable = usable.0
 open_held c pid page b n usable = usable.0

@@ -5,7 +5,8 @@ use Rattle.disk_model.specs.declared.sector_disk.SectorDisk.{Ghosts}
 use Rattle.fault.specs.declared.refusal.AccessRefusal.{AccessRefusal}
 use Rattle.fault.specs.declared.refusal.AccessRefusal.TheVariants as Refusal
 use Rattle.fault.specs.AccessAsking.{AsksForPage}
-use Rattle.frames.specs.FrameTable.{bytes_of, with_bytes}
+use Rattle.frames.specs.FrameTable.{bytes_of, role_of, with_bytes}
+use Rattle.frames.specs.declared.role.Role.TheVariants.{Table}
 use Rattle.sv39_walk.specs.Walk.{translated}
 use Rattle.fault.specs.Wants.{Wants, ReadsHome, RefusesAccess, ShowsFile}
 use Rattle.residency.specs.declared.kernel.Core.{Core}
@@ -49,10 +50,10 @@ module _ {M : Type 0} {m : Levels.Ghosts M} {D E : Type 0} where
     pub clock : new.clock ≡ old.clock
     pub refused : new.refused ≡ old.refused
 
-  -- a store may have written a number into a frame, and nothing else changed
+  -- a store may have written a number into a frame that is no table, and nothing else changed
   abbrev pub MayWrite : Access → Core D E M m → Core D E M m → Type 0
   MayWrite Load old new = new ≡ old
-  MayWrite Store old new = (new ≡ old) ⊎ ((n : ℕ) × (offset : ℕ) × (stored : StoredValue) × WritesNumber old new n offset stored)
+  MayWrite Store old new = (new ≡ old) ⊎ ((n : ℕ) × (offset : ℕ) × (stored : StoredValue) × (role_of old.frames n ≢ Table) × WritesNumber old new n offset stored)
   MayWrite Fetch old new = new ≡ old
 
 module _ {M : Type 0} {m : Levels.Ghosts M} {D E : Type 0} (g : Ghosts D) (h : Ghosts E) where
@@ -73,6 +74,8 @@ module _ {M : Type 0} {m : Levels.Ghosts M} {D E : Type 0} (g : Ghosts D) (h : G
     pub tables : LinksTables (picture_of old) (picture_of granted) pid (addr / 4096)
     pub calm : (Wants (picture_of old) pid (addr / 4096) access → ⊥) → IsCalm old granted pid (addr / 4096)
     pub writes : MayWrite access granted new
+    -- a store alone is told to be done
+    pub done : reply ≡ Reply.Done → access ≡ Store
     -- and once it is done the tables let it through
     pub grants : is_denial reply ≡ false → ((stall : Stall) → reply ≢ Reply.Stalled stall) → LetsThrough (picture_of granted) pid addr access
     -- the devices are asked for sectors of this page, and swap for those of free slots where a frame has to be given up, and one may be

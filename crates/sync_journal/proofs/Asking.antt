@@ -1,6 +1,6 @@
 -- Which sectors the parts of a commit and of a recovery ask for.
 use Rattle.sync_journal.proofs.{Copies.{in_copied}, Names.{◌≡◌, ◌⊎◌, ◌<◌, ◌≤◌, ◌+◌, ◌*◌, ℕ, true, List, [], length, inl, inr, ⊎_elim, refl, sym, subst, arith, cases_eq, Image, Names, NamesOnce, AsksOnly, Ghosts, asks_named, asks_once}}
-use Rattle.sync_journal.{proofs.Names.{asks_then, once_named, once_apart}, specs.{Commit.{AsksInTwo}, Gate.{is_open}, OldJournal.{IsLookedAtIn}, Layout.{Layout, page_limit, gate_sector, map_sector, first_body_sector, first_home_sector, body_sector, home_sector}}}
+use Rattle.sync_journal.{proofs.Names.{asks_then, once_named, once_apart}, specs.{Commit.{AsksInTwo}, Gate.{is_open}, OldJournal.{IsLookedAtIn}, Layout.{Sizes, page_limit, gate_sector, map_sector, first_body_sector, first_home_sector, body_sector, home_sector}}}
 use Rattle.sync_journal.specs.{Layout.{IsPageSector, IsGate, IsMapIn, IsFilledAt, IsStagedAt, IsStaged, IsOpened, IsFinished, IsMovedHome, IsCommitted}, Standing.{IsOpenFor, IsAskedIn, IsCopyFrom}}
 
 -- Over how often each sector had been asked for, at three moments.
@@ -40,13 +40,13 @@ module _ (before mid now : ℕ → ℕ) where
       copies closes
 
 -- A look at the journal of a store of the layout before: at the gate,
-pub gate_looked : (layout : Layout) (image : Image) (before now : ℕ → ℕ) → Names IsGate before now → NamesOnce (IsLookedAtIn layout image) before now
-gate_looked layout image before now gate = once_named (IsLookedAtIn layout image) IsGate before now (λ k at. inl at) gate
+pub gate_looked : (sizes : Sizes) (image : Image) (before now : ℕ → ℕ) → Names IsGate before now → NamesOnce (IsLookedAtIn sizes image) before now
+gate_looked sizes image before now gate = once_named (IsLookedAtIn sizes image) IsGate before now (λ k at. inl at) gate
 
 -- and where that is open at the map
-pub map_looked : (layout : Layout) (image : Image) (before mid now : ℕ → ℕ) → is_open image ≡ true → Names IsGate before mid → NamesOnce (IsMapIn layout) mid now
-    → NamesOnce (IsLookedAtIn layout image) before now
-map_looked layout image before mid now opened gate map = once_apart IsGate (IsMapIn layout) (IsLookedAtIn layout image) before mid now
+pub map_looked : (sizes : Sizes) (image : Image) (before mid now : ℕ → ℕ) → is_open image ≡ true → Names IsGate before mid → NamesOnce (IsMapIn sizes) mid now
+    → NamesOnce (IsLookedAtIn sizes image) before now
+map_looked sizes image before mid now opened gate map = once_apart IsGate (IsMapIn sizes) (IsLookedAtIn sizes image) before mid now
     (λ k at. inl at) (λ k inside. inr (opened, inside)) (λ k at inside. omega (arith, at, inside.0))
     (once_named IsGate IsGate before mid (λ k at. at) gate) map
 

@@ -1,5 +1,5 @@
 -- Which fault a commit tells, and what a source was asked for.
-use Rattle.sync_journal.{proofs.Names.{◌≡◌, ◌<◌, ℕ, Result, Ok, Err, refl, ap, sym, subst, ◌∙◌, arith, IsErr, IsErrAnd, IsErrOf, Image, LeavesOnly}, specs.{Committing.{PutsPages}, Runs.{RunsOnDevice}, Source.{Asks, HasCauses}}}
+use Rattle.sync_journal.{proofs.Names.{◌≡◌, ◌<◌, ℕ, List, Result, Ok, Err, refl, ap, sym, subst, ◌∙◌, arith, IsErr, IsErrAnd, IsErrOf, LeavesOnly}, specs.{Committing.{HomesStandOr, PutsPages}, Layouts.{Layout}, Runs.{RunsOnDevice}, Source.{Asks, HasCauses}}}
 use Rattle.sync_journal.specs.{Steps.{BlamesJournal}, declared.{faults.{CommitFault.{CommitFault, TheVariants.{Source, Device}}, RecoverFault.{RecoverFault, TheVariants.{Device as DeviceFailed, BadJournal}}}, source.PageSource.{Ghosts}}}
 use Rattle.disk_model.specs.declared.sector_disk.SectorDisk.{Ghosts as DiskGhosts}
 
@@ -69,9 +69,9 @@ module _ (a b x y : ℕ) where
   }
 
 -- Pages that were not put, since the device failed.
-pub puts_failed : {D S : Type 0} {g : DiskGhosts D} {s : Ghosts S} {Either Before : Image → Type 0} {Written Outside : ℕ → Type 0} {Once After Rest Back : Type 0} {old new : D} {from left : S}
-    → (result : Result (Unit {0}) CommitFault) → IsErrAnd result (λ e. e ≡ Device) → (g.keeps_model new → s.keeps_model left → LeavesOnly g old new Either) → Once → RunsOnDevice g Written old new
-    → Asks s from left → g.failures old < g.failures new → s.failures left ≡ s.failures from → PutsPages g s Either Before Written Outside Once After Rest Back old new from left result
+pub puts_failed : {D S J : Type 0} {g : DiskGhosts D} {s : Ghosts S} {layout : Layout J} {Written : ℕ → Type 0} {Once : Type 0} {after back : J} {homes : List ℕ} {old new : D} {from left : S}
+    → (result : Result (Unit {0}) CommitFault) → IsErrAnd result (λ e. e ≡ Device) → (g.keeps_model new → s.keeps_model left → LeavesOnly g old new (HomesStandOr layout (g.sector_count old) homes (s.pages from) (g.content old)))
+    → Once → RunsOnDevice g Written old new → Asks s from left → g.failures old < g.failures new → s.failures left ≡ s.failures from → PutsPages g s layout Written Once after back homes old new from left result
 puts_failed (Ok done) is any_moment once run asks failed calm = absurd is
 puts_failed (Err e) is any_moment once run asks failed calm = record {
   ok = λ keeps given. tt;

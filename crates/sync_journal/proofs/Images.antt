@@ -1,8 +1,8 @@
 -- What images stand for.
 use Rattle.sync_journal.proofs.{Maps.{same_map}, Names.{◌≡◌, ◌≢◌, ◌⊎◌, ◌<◌, ◌+◌, ℕ, zero, suc, Bool, true, false, List, [], length, get_or, Option, Some, None, if◌then◌else◌, ◌==◌, refl, sym, ap, subst, ◌∙◌, ⊎_elim, arith, add-one}}
-use Rattle.sync_journal.{proofs.Names.{cases_eq, eqb-true, eqb-false, eq-eqb, nat_tests, IfSome, Image}, specs.{Commit.{IsKept}, Gate.{is_open}, Layout.{Layout, layout_2, gate_sector, first_body_sector, first_home_sector, body_sector}}}
-use Rattle.sync_journal.specs.{Layout.{home_at, home_sector, home_count, IsHomeSector, IsOutside}, Map.{place_among, home_rank, map_count, home_in, AreHomes, IsBadMap}, Standing.{place_or_home_in, place_or_home, map_in, map_of}}
-use Rattle.sync_journal.specs.Standing.{standing_under, standing_in, standing_single, StandsForPages, IsOpenIn, IsOpenFor, AreCopiedFrom}
+use Rattle.sync_journal.{proofs.Names.{cases_eq, eqb-true, eqb-false, eq-eqb, nat_tests, IfSome, Image}, specs.{Gate.{is_open}, Layout.{Sizes, sizes_2, gate_sector, first_body_sector, first_home_sector, body_sector, home_at, home_sector}}}
+use Rattle.sync_journal.specs.{Layout.{home_count, IsHomeSector, IsOutside}, Map.{place_among, home_rank, map_count, home_in, AreHomes, IsBadMap}, Standing.{place_or_home_in, place_or_home, map_in, map_of, standing_under, standing_in}}
+use Rattle.sync_journal.specs.{Standing.{standing_single, IsOpenIn, IsOpenFor, AreCopiedFrom}, Layouts.{IsKept, StandsForPages}, Commit.{one_journal}}
 
 -- maps that name the same homes have them at the same places
 pub place_same : (f g : ℕ → ℕ) (h n : ℕ) → ((j : ℕ) → j < n → f j ≡ g j) → place_among f h n ≡ place_among g h n
@@ -51,35 +51,35 @@ place_means names h zero = λ j below. absurd (omega arith)
 place_means names h (suc n) = stepped names h n (place_among names h n) (names n == h) refl (place_means names h n)
 
 -- under a closed gate the homes stand
-pub closed_place : (layout : Layout) (image : Image) (h : ℕ) → is_open image ≡ false → standing_under layout (is_open image) (map_in layout image) h ≡ home_at layout h
+pub closed_place : (sizes : Sizes) (image : Image) (h : ℕ) → is_open image ≡ false → standing_under sizes (is_open image) (map_in sizes image) h ≡ home_at sizes h
 unfolding standing_under
-closed_place layout image h closed =
-    let map = map_in layout image in
-    ap (λ gate. if gate then place_or_home_in layout h (place_among (home_in map) h (map_count map)) else home_at layout h) closed
+closed_place sizes image h closed =
+    let map = map_in sizes image in
+    ap (λ gate. if gate then place_or_home_in sizes h (place_among (home_in map) h (map_count map)) else home_at sizes h) closed
 
-pub closed_stands : (layout : Layout) (image : Image) (h i : ℕ) → is_open image ≡ false → standing_in layout image h i ≡ image (home_at layout h + i)
-closed_stands layout image h i closed = ap (λ first. image (first + i)) (closed_place layout image h closed)
+pub closed_stands : (sizes : Sizes) (image : Image) (h i : ℕ) → is_open image ≡ false → standing_in sizes image h i ≡ image (home_at sizes h + i)
+closed_stands sizes image h i closed = ap (λ first. image (first + i)) (closed_place sizes image h closed)
 
 pub standing_closed : (image : Image) (h i : ℕ) → is_open image ≡ false → standing_single image h i ≡ image (home_sector h + i)
-standing_closed image h i closed = closed_stands layout_2 image h i closed
+standing_closed image h i closed = closed_stands sizes_2 image h i closed
 
 -- under a gate that is open for homes, what the body holds for them, and the other homes
-pub open_place : (layout : Layout) (homes : List ℕ) (image : Image) (h : ℕ) → IsOpenIn layout homes image
-    → standing_under layout (is_open image) (map_in layout image) h ≡ place_or_home_in layout h (home_rank homes h)
+pub open_place : (sizes : Sizes) (homes : List ℕ) (image : Image) (h : ℕ) → IsOpenIn sizes homes image
+    → standing_under sizes (is_open image) (map_in sizes image) h ≡ place_or_home_in sizes h (home_rank homes h)
 unfolding standing_under
-open_place layout homes image h opens =
-    let map = map_in layout image in
+open_place sizes homes image h opens =
+    let map = map_in sizes image in
     let names = home_in map in
-    ap (λ gate. if gate then place_or_home_in layout h (place_among names h (map_count map)) else home_at layout h) opens.gate
-    ∙ ap (λ n. place_or_home_in layout h (place_among names h n)) opens.count
-    ∙ ap (λ place. place_or_home_in layout h place) (place_same names (λ j. get_or homes j 0) h (length homes) opens.each)
+    ap (λ gate. if gate then place_or_home_in sizes h (place_among names h (map_count map)) else home_at sizes h) opens.gate
+    ∙ ap (λ n. place_or_home_in sizes h (place_among names h n)) opens.count
+    ∙ ap (λ place. place_or_home_in sizes h place) (place_same names (λ j. get_or homes j 0) h (length homes) opens.each)
 
-pub open_stands : (layout : Layout) (homes : List ℕ) (image : Image) (h i : ℕ) → IsOpenIn layout homes image
-    → standing_in layout image h i ≡ image (place_or_home_in layout h (home_rank homes h) + i)
-open_stands layout homes image h i opens = ap (λ first. image (first + i)) (open_place layout homes image h opens)
+pub open_stands : (sizes : Sizes) (homes : List ℕ) (image : Image) (h i : ℕ) → IsOpenIn sizes homes image
+    → standing_in sizes image h i ≡ image (place_or_home_in sizes h (home_rank homes h) + i)
+open_stands sizes homes image h i opens = ap (λ first. image (first + i)) (open_place sizes homes image h opens)
 
 pub standing_open : (homes : List ℕ) (image : Image) (h i : ℕ) → IsOpenFor homes image → standing_single image h i ≡ image (place_or_home h (home_rank homes h) + i)
-standing_open homes image h i opens = open_stands layout_2 homes image h i opens
+standing_open homes image h i opens = open_stands sizes_2 homes image h i opens
 
 -- an image with the same map is open for the same homes
 pub open_as : (homes : List ℕ) (content image : Image) → IsOpenFor homes content → is_open image ≡ true → map_of image ≡ map_of content → IsOpenFor homes image
@@ -98,7 +98,7 @@ outside_homes sectors homes k are outside at_home =
 module _ (sectors : ℕ) (homes : List ℕ) (are : AreHomes (home_count sectors) homes) (content : Image) (opens : IsOpenFor homes content) where
   -- an image with the gate open, and the content but for homes that the body holds
   pub open_kept : (image : Image) → is_open image ≡ true → ((k : ℕ) → k ≢ gate_sector → IsHomeSector homes k ⊎ (image k ≡ content k))
-      → IsKept sectors content (StandsForPages (standing_single content)) image
+      → IsKept one_journal sectors content (StandsForPages one_journal (standing_single content)) image
   open_kept image gate same = record {
     stands = record { each = each };
     journal = λ bad. record { gate = opens.gate; map = subst (IsBadMap 1023 (home_count sectors)) maps bad.map };
@@ -123,7 +123,7 @@ module _ (sectors : ℕ) (homes : List ℕ) (are : AreHomes (home_count sectors)
   -- an image with the gate closed, and the content but for the homes, which hold what the body held
   pub closed_kept : (image : Image) → is_open image ≡ false → AreCopiedFrom first_body_sector first_home_sector homes [] (length homes) content image
       → ((k : ℕ) → k ≢ gate_sector → IsHomeSector homes k ⊎ (image k ≡ content k))
-      → IsKept sectors content (StandsForPages (standing_single content)) image
+      → IsKept one_journal sectors content (StandsForPages one_journal (standing_single content)) image
   closed_kept image gate copied same = record {
     stands = record { each = λ h i below. standing_closed image h i gate ∙ here h i below (home_rank homes h) (place_means (λ j. get_or homes j 0) h (length homes)) ∙ sym (standing_open homes content h i opens) };
     journal = λ bad. absurd (never bad.gate);

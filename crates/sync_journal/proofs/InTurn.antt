@@ -1,10 +1,10 @@
 -- Two journals in turn: what images stand for, and the moments of a commit.
 use Rattle.sync_journal.proofs.Names.{◌≡◌, ◌⊎◌, ◌≤◌, ◌<◌, ◌+◌, ℕ, Bool, true, false, not, List, [], length, take, get_or, Option, Some, None, refl, sym, ap, subst, ◌∙◌, ⊎_elim, inl, inr, arith, cases_lt, length-take-le, get_or-take, Image}
-use Rattle.sync_journal.proofs.Names.{MayLeave, Touches, LeavesOnly, Nothing, part_of, joined, Ghosts, started, goes_on, weaker, wider, then, joined-same, joined_parts}
-use Rattle.sync_journal.specs.{Gate.{is_open_sector}, Map.{map_bytes, place_among, home_rank, map_count, home_in, AreHomes, IsBadMap}, Commit.{sector_or, changed}}
-use Rattle.sync_journal.specs.Turns.{turn_gate, turn_homes, start_of, turn_body, turn_home, turn_home_count, named_in, turn_map, map_rank, turn_stands, stands_under, turn_standing, IsBadUnder, IsBadTurn, IsTurnSector, IsTurnGate, IsGateBlock, IsTurnHome, IsTurnStaged, IsTurnOutside, TurnStandsFor, TurnStandsForEither, IsTurnKept, TurnsStandAs, HoldsJournal, AreCopiedBut, KeepsTurns, IsTurnRest, IsTurnSettled}
-use Rattle.sync_journal.specs.{Layout.{IsPageSector}, Blocks.{IsSameBlock, LeavesInBlocks, CommitsInBlocks, RecoversInBlocks}}
-use Rattle.sync_journal.proofs.{Maps.{counted, named}, Images.{Means, no_place, place_means, place_same}, Phases.{not_bad}, Sectors.{so_since}}
+use Rattle.sync_journal.proofs.{Names.{MayLeave, Touches, LeavesOnly, Nothing, part_of, joined, Ghosts, started, goes_on, weaker, wider, then, joined-same, joined_parts}, Maps.{counted, named}, Images.{Means, no_place, place_means}}
+use Rattle.sync_journal.{proofs.{Images.{place_same}, Phases.{not_bad}, Sectors.{so_since}}, specs.{Gate.{is_open_sector}, Map.{map_bytes, place_among, home_rank, map_count, home_in, AreHomes, IsBadMap}, Commit.{sector_or, changed}}}
+use Rattle.sync_journal.specs.Turns.{turn_gate, turn_homes, start_of, turn_body, turn_home, turn_home_count, named_in, turn_map, map_rank, turn_stands, stands_under, turn_standing, IsBadUnder, IsBadTurn, IsTurnSector, IsTurnGate}
+use Rattle.sync_journal.specs.{Turns.{IsGateBlock, IsTurnHome, IsTurnStaged, IsTurnOutside, HoldsJournal, AreCopiedBut, IsTurnRest, in_turn}, Layout.{IsPageSector}, Blocks.{IsSameBlock, LeavesInBlocks, CommitsInBlocks, RecoversInBlocks}}
+use Rattle.sync_journal.specs.Layouts.{HomesStandAs, IsKept, IsSettled, StandsForEitherPages, StandsForPages}
 
 -- where the journals lie
 pub start_low : (b : Bool) → 24 ≤ start_of b
@@ -108,7 +108,7 @@ module _ (sectors : ℕ) (second : Bool) (live : List ℕ) (are : AreHomes (turn
       here (Some j) is means = let most = few in journal (turn_body second j + i) (omega arith, omega (arith, means.0, most, below))
 
   -- an image whose gate names the same journal
-  pub before_kept : (image : Image) → named_in image ≡ second → ((k : ℕ) → (IsGateBlock k → ⊥) → IsTurnStaged second live k ⊎ (image k ≡ content k)) → TurnsStandAs sectors content image
+  pub before_kept : (image : Image) → named_in image ≡ second → ((k : ℕ) → (IsGateBlock k → ⊥) → IsTurnStaged second live k ⊎ (image k ≡ content k)) → HomesStandAs in_turn sectors content image
   before_kept image names same = record {
     stands = record { each = λ h i below. ap (λ b. stands_under b image h i) names ∙ under_same image journal homes h i below ∙ sym (ap (λ b. stands_under b content h i) gate) };
     journal = λ bad. absurd (good (subst (λ m. IsBadMap 1023 (turn_home_count sectors) m) (same_turn_map second image content journal)
@@ -164,7 +164,7 @@ module _ (sectors : ℕ) (second : Bool) (live : List ℕ) (are : AreHomes (turn
               ∙ sym (ap (λ o. content (turn_stands second h o + i)) (covers h j is))
 
       -- an image whose gate names the other journal
-      pub after_kept : (image : Image) → named_in image ≡ not second → ((k : ℕ) → (IsGateBlock k → ⊥) → image k ≡ staged k) → IsTurnKept sectors content (TurnStandsFor After) image
+      pub after_kept : (image : Image) → named_in image ≡ not second → ((k : ℕ) → (IsGateBlock k → ⊥) → image k ≡ staged k) → IsKept in_turn sectors content (StandsForPages in_turn After) image
       unfolding changed
       after_kept image names same = record {
         stands = record {
@@ -184,7 +184,7 @@ module _ (sectors : ℕ) (second : Bool) (live : List ℕ) (are : AreHomes (turn
           here h i below (Some j) is means = same (turn_body (not second) j + i) (λ e. (let low = start_low (not second) in omega (arith, e.1, low))) ∙ body j i means.0 below
 
       -- whatever the gate holds, before or after
-      pub either_kept : (image : Image) → ((k : ℕ) → (IsGateBlock k → ⊥) → image k ≡ staged k) → IsTurnKept sectors content (TurnStandsForEither (turn_standing content) After) image
+      pub either_kept : (image : Image) → ((k : ℕ) → (IsGateBlock k → ⊥) → image k ≡ staged k) → IsKept in_turn sectors content (StandsForEitherPages in_turn (turn_standing content) After) image
       either_kept image same = ⊎_elim
           (λ names. let kept = before_kept image names (λ k other. ⊎_elim (λ inside. inl inside) (λ e. inr (same k other ∙ e)) (others k)) in
           record { stands = inl kept.stands; journal = kept.journal; outside = kept.outside })
@@ -239,7 +239,7 @@ pub record NamesOther {D : Type 0} (g : Ghosts D) (second : Bool) (live homes : 
 -- The states: before, and when the other journal is staged and perhaps homes are copied.
 module _ {D : Type 0} (g : Ghosts D) (second : Bool) (live : List ℕ) (old mid : D) (p : IsPrepared g second live old mid) where
   abbrev pub Before : Image → Type 0
-  Before = TurnsStandAs (g.sector_count old) (g.content old)
+  Before = HomesStandAs in_turn (g.sector_count old) (g.content old)
 
   -- the gate is neither a journal's nor a home's
   not_staged : IsTurnStaged second live turn_gate → ⊥
@@ -270,7 +270,7 @@ module _ {D : Type 0} (g : Ghosts D) (second : Bool) (live : List ℕ) (old mid 
 
   -- where the source failed
   pub staged_settled : g.sector_count mid ≡ g.sector_count old → Touches g (IsTurnSector (not second)) old mid
-      → IsTurnSettled g (g.sector_count old) (g.content old) second live mid (turn_standing (g.content old))
+      → IsSettled in_turn g (g.sector_count old) (g.content old) (second, live) mid (turn_standing (g.content old))
   staged_settled size stages = let here = as_before (g.content mid) p.run.content in record {
     rest = record {
       gate = ap is_open_sector (⊎_elim (λ staged. absurd (not_staged staged)) (λ e. e) (p.run.content turn_gate)) ∙ p.rest.gate;
@@ -300,7 +300,7 @@ module _ {D : Type 0} (g : Ghosts D) (second : Bool) (live : List ℕ) (old mid 
 
   module _ (homes : List ℕ) (pages : ℕ → List ℕ) where
     abbrev pub Either : Image → Type 0
-    Either = IsTurnKept (g.sector_count old) (g.content old) (TurnStandsForEither (turn_standing (g.content old)) (changed (turn_standing (g.content old)) homes pages))
+    Either = IsKept in_turn (g.sector_count old) (g.content old) (StandsForEitherPages in_turn (turn_standing (g.content old)) (changed (turn_standing (g.content old)) homes pages))
 
     pub while_preparing_either : LeavesOnly g old mid Either
     while_preparing_either = weaker g old mid Before Either (λ image kept. record { stands = inl kept.stands; journal = kept.journal; outside = kept.outside }) while_preparing
@@ -348,13 +348,13 @@ module _ {D : Type 0} (g : Ghosts D) (second : Bool) (live : List ℕ) (old mid 
 
         module _ (gate : named_in (g.content new) ≡ not second) (new_synced : (k : ℕ) → g.unsynced new k → ⊥) where
           after : (image : Image) → ((k : ℕ) → image k ≡ g.content new k)
-              → IsTurnKept (g.sector_count old) (g.content old) (TurnStandsFor (changed (turn_standing (g.content old)) homes pages)) image
+              → IsKept in_turn (g.sector_count old) (g.content old) (StandsForPages in_turn (changed (turn_standing (g.content old)) homes pages)) image
           after image same = after_kept (g.sector_count old) second live p.are (g.content old) p.rest.gate p.rest.good p.rest.covers p.rest.home homes q.are (g.content mid) q.map pages
               p.run.content body q.copied image (ap is_open_sector (same turn_gate) ∙ gate)
               (λ k other. same k ∙ ⊎_elim (λ at. absurd (other (at_gate k at))) (λ e. e) (q.names.content k))
 
           pub new_settled : IsTurnRest g (not second) homes new
-              → IsTurnSettled g (g.sector_count old) (g.content old) (not second) homes new (changed (turn_standing (g.content old)) homes pages)
+              → IsSettled in_turn g (g.sector_count old) (g.content old) ((not second), homes) new (changed (turn_standing (g.content old)) homes pages)
           new_settled at_rest = let here = after (g.content new) (λ k. refl) in record {
             rest = at_rest;
             stands = here.stands;
@@ -396,24 +396,6 @@ named_rest g d second n map list gate mapped counts room read are synced = recor
         ∙ ap (λ k. place_among (home_in map) h k) (sym counts ∙ sym long)
         ∙ place_same (home_in map) (λ j. get_or (take n list) j 0) h (length (take n list)) names
 
--- an image of the same sectors stands for the same
-pub turn_same : (sectors : ℕ) (content image : Image) → image ≡ content → TurnsStandAs sectors content image
-turn_same sectors content image same = subst (TurnsStandAs sectors content) (sym same) (record { stands = record { each = λ h i below. refl }; journal = λ bad. bad; outside = λ k outside. refl })
-
--- what is kept of what was kept
-pub turn_again : (sectors : ℕ) (first content image : Image) → TurnsStandAs sectors first content → TurnsStandAs sectors content image → TurnsStandAs sectors first image
-turn_again sectors first content image was kept = record {
-  stands = record { each = λ h i below. kept.stands.each h i below ∙ was.stands.each h i below };
-  journal = λ bad. was.journal (kept.journal bad);
-  outside = λ k outside. kept.outside k outside ∙ was.outside k outside;
-}
-
--- what stood for an earlier image still does
-pub turn_since : {D : Type 0} (g : Ghosts D) (old new : D) (first : Image) → TurnsStandAs (g.sector_count old) first (g.content old)
-    → KeepsTurns g old new → LeavesOnly g old new (TurnsStandAs (g.sector_count old) first)
-turn_since g old new first was run = weaker g old new (TurnsStandAs (g.sector_count old) (g.content old)) (TurnsStandAs (g.sector_count old) first)
-    (λ image kept. turn_again (g.sector_count old) first (g.content old) image was kept) run
-
 -- the journal that is named is good, and was
 pub good_before : {D : Type 0} (g : Ghosts D) (old read : D) → Touches g Nothing old read → (second : Bool) (live : List ℕ) → g.sector_count read ≡ g.sector_count old
     → IsTurnRest g second live read → IsBadTurn (g.sector_count old) (g.content old) → ⊥
@@ -425,7 +407,7 @@ unfolding changed
 changed_none before pages h i = ap (λ o. sector_or pages (before h i) i o) (no_place (λ j. get_or [] j 0) h)
 
 pub none_kept : (sectors : ℕ) (content : Image) (pages : ℕ → List ℕ) (image : Image)
-    → IsTurnKept sectors content (TurnStandsForEither (turn_standing content) (changed (turn_standing content) [] pages)) image → TurnsStandAs sectors content image
+    → IsKept in_turn sectors content (StandsForEitherPages in_turn (turn_standing content) (changed (turn_standing content) [] pages)) image → HomesStandAs in_turn sectors content image
 none_kept sectors content pages image kept = record {
   stands = ⊎_elim (λ before. before) (λ after. record { each = λ h i below. after.each h i below ∙ changed_none (turn_standing content) pages h i }) kept.stands;
   journal = kept.journal;
@@ -433,7 +415,7 @@ none_kept sectors content pages image kept = record {
 }
 
 pub none_settled : {D : Type 0} (g : Ghosts D) (sectors : ℕ) (content : Image) (second : Bool) (pages : ℕ → List ℕ) (new : D)
-    → IsTurnSettled g sectors content second [] new (changed (turn_standing content) [] pages) → IsTurnSettled g sectors content second [] new (turn_standing content)
+    → IsSettled in_turn g sectors content (second, []) new (changed (turn_standing content) [] pages) → IsSettled in_turn g sectors content (second, []) new (turn_standing content)
 none_settled g sectors content second pages new settled = record {
   rest = settled.rest;
   stands = record { each = λ h i below. settled.stands.each h i below ∙ changed_none (turn_standing content) pages h i };

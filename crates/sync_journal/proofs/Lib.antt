@@ -7,11 +7,11 @@ pub mod Images
 pub mod Maps
 pub mod OldJournals
 pub mod Phases
-pub mod Recoveries
 pub mod Stops
 pub mod Replays
 pub mod Rests
 pub mod Runs
+pub mod Layouts
 pub mod Sectors
 pub mod Since
 pub mod InTurn

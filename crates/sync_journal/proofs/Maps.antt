@@ -1,10 +1,10 @@
 -- The journal map as bytes.
 use Rattle.sync_journal.proofs.Names.{◌≡◌, ◌⊎◌, ◌≤◌, ◌<◌, ◌+◌, ◌-◌, ◌*◌, ◌^◌, ℕ, zero, suc, List, [], ◌∷◌, ◌++◌, length, take, drop, get_or, replicate, refl, sym, ap, ◌∙◌, ⊎_elim, inl, inr, arith, drop-drop, lit<, get_or-take, get_or-drop}
 use Rattle.sync_journal.proofs.Names.{drop-replicate, flat_map, little_number, little_bytes, little_number-reads_back, put_mid, Image, joined, part_of, joined-same, joined_parts}
-use Rattle.sync_journal.specs.{Layout.{layout_1, map_sector, first_body_sector}, Standing.{map_at, map_in, map_of}, Map.{map_count, home_in, map_bytes, HasNoHome, HasHomeTwice, IsBadMap}}
+use Rattle.sync_journal.specs.{Layout.{sizes_1, map_sector, first_body_sector}, Standing.{map_at, map_in, map_of}, Map.{map_count, home_in, map_bytes, HasNoHome, HasHomeTwice, IsBadMap}}
 
 -- the map of layout 1 is one sector
-pub one_sector : (image : Image) → map_in layout_1 image ≡ image map_sector
+pub one_sector : (image : Image) → map_in sizes_1 image ≡ image map_sector
 unfolding joined
 one_sector image = refl
 

@@ -1,43 +1,23 @@
 -- A recovery of one journal: a sync, a look at gate and map, and a replay.
-use Rattle.sync_journal.proofs.{Asking.{replay_asks}, Changes.{closed_not_bad}, InTurn.{none_are}, Names.{◌≡◌, ℕ, true, false, List, [], ⊎_elim, if◌then◌else◌, Result, Ok, Err, OnOk, refl, sym, ap, subst, ◌∙◌, arith, on_ok_weaker, IsErr}}
-use Rattle.sync_journal.proofs.{Names.{IsErrOf, Image, MayLeave, AsksOnly, Nothing, LeavesOnly, DiskFault, Ghosts}, Phases.{not_bad, staged_settled}, Recoveries.{same_kept, since_first}, Replays.{if_ok}, Runs.{one_more, of_more, read_only}}
-use Rattle.sync_journal.{proofs.{Runs.{replayed}, Sectors.{same_image, while_read, so_before, so_since}}, specs.{Commit.{HomesStandAs, KeepsHomes, IsSettled}, Gate.{closed_gate, closed_sector, is_open}, Layout.{gate_sector, home_count}}}
-use Rattle.sync_journal.specs.{Layout.{IsFinished, IsJournalSector, IsRecovered, IsReplayed}, Map.{AreHomes}, Recovering.{RecoversOne}, Runs.{RunsOnDevice}, Standing.{map_of, standing_single, IsAskedIn, IsBadSingle, IsOpenFor}}
-use Rattle.{sync_journal.specs.{Steps.{BlamesJournal, MovesHome}, declared.faults.RecoverFault.{RecoverFault, TheVariants.{BadJournal}}}, disk_model.proofs.Moments.{then as and_then, joined, asks_none, asks_then}}
+use Rattle.sync_journal.proofs.{Asking.{replay_asks}, Changes.{closed_not_bad}, InTurn.{none_are}, Names.{◌≡◌, ℕ, true, false, List, [], ⊎_elim, if◌then◌else◌, Result, Ok, Err, OnOk, sym, ap, subst, ◌∙◌, arith, on_ok_weaker, IsErr}}
+use Rattle.sync_journal.proofs.{Names.{IsErrOf, Image, MayLeave, AsksOnly, Nothing, DiskFault, Ghosts}, Phases.{not_bad, staged_settled}, Layouts.{FixesOutside, stays, looking, looked_at, looked_then}, Replays.{if_ok}, Runs.{one_more}}
+use Rattle.sync_journal.{proofs.{Runs.{of_more, read_only, replayed}, Sectors.{same_image, so_before, so_since}}, specs.{Gate.{closed_gate, closed_sector, is_open}, Layout.{gate_sector, home_count, IsFinished, IsJournalSector}}}
+use Rattle.sync_journal.specs.{Layout.{IsRecovered, IsReplayed}, Map.{AreHomes}, Recovering.{RecoversOne}, Runs.{RunsOnDevice}, Standing.{map_of, standing_single, IsAskedIn, IsBadSingle, IsOpenFor}, Layouts.{IsSettled, KeepsHomes}}
+use Rattle.{sync_journal.specs.{Commit.{one_journal}, Steps.{BlamesJournal, MovesHome}, declared.faults.RecoverFault.{RecoverFault, TheVariants.{BadJournal}}}, disk_model.proofs.Moments.{then as and_then, asks_none, asks_then}}
+
+pub ones_fix : FixesOutside one_journal
+ones_fix sectors a b same k out = out
 
 module _ {D : Type 0} (g : Ghosts D) (old read : D) (only_now : g.keeps_model old → (image : Image) → g.left_since old (g.moment old) image → MayLeave (g.content old) (g.unsynced old) image)
     (looks : RunsOnDevice g Nothing old read) where
   read_run : RunsOnDevice g (IsRecovered (g.sector_count old)) old read
   read_run = of_more g Nothing (IsRecovered (g.sector_count old)) old read (λ k none. absurd none) looks
 
-  looking : g.keeps_model read → ((k : ℕ) → g.unsynced old k → ⊥) → KeepsHomes g old read
-  looking keeps still = while_read g old read (looks.touches keeps) (HomesStandAs (g.sector_count old) (g.content old)) (same_kept (g.sector_count old) (g.content old) (g.content old) refl) (only_now (looks.kept keeps)) still
-
-  -- and then what was read is recovered
-  looked_then : (new : D) → (g.keeps_model new → g.keeps_model read) → g.keeps_model new → ((k : ℕ) → g.unsynced old k → ⊥) → KeepsHomes g read new → KeepsHomes g old new
-  looked_then new kept keeps still run = joined g old read new (HomesStandAs (g.sector_count old) (g.content old)) (looking (kept keeps) still)
-      (so_before g old read (looks.touches (kept keeps)) (λ n image. LeavesOnly g read new (HomesStandAs n image)) looks.size run)
-
   -- where nothing but gate and map is read
   pub looked : (result : Result (Unit {0}) RecoverFault) → IsErr result → (g.keeps_model read → AsksOnly g (IsAskedIn (g.content old)) old read) → BlamesJournal g old read result
       → (g.keeps_model read → IsErrOf result BadJournal → IsBadSingle (g.sector_count old) (g.content old)) → RecoversOne g old read result
   looked (Ok done) is asks blames bad = let none : false ≡ true = is in cc
-  looked (Err fault) is asks blames bad = record {
-    recovers = record {
-      ok = λ keeps. tt;
-      synced = λ keeps. tt;
-      emptied = λ keeps. tt;
-      stays = record { any_moment = looking; in_a_row = λ keeps still first was. since_first g old read first was (looking keeps still) };
-      run = read_run;
-      bad_unwritten = λ keeps is. looks.touches keeps;
-      closed_unwritten = λ keeps closed. looks.touches keeps;
-      asks = asks;
-      blames = blames;
-      good = λ keeps. tt;
-      bad = bad;
-    };
-    gate = λ keeps. tt;
-  }
+  looked (Err fault) is asks blames bad = record { recovers = looked_at one_journal ones_fix g old read only_now looks _ (Err fault) is asks blames bad; gate = λ keeps. tt }
 
   -- where the gate is closed
   pub closed_there : (g.keeps_model read → is_open (g.content old) ≡ false) → (g.keeps_model old → (k : ℕ) → g.unsynced old k → ⊥) → (g.keeps_model read → AsksOnly g (IsAskedIn (g.content old)) old read)
@@ -46,9 +26,9 @@ module _ {D : Type 0} (g : Ghosts D) (old read : D) (only_now : g.keeps_model ol
     recovers = record {
       ok = λ keeps. staged_settled g [] (λ _. []) old read (only_now (looks.kept keeps)) (none_are (home_count (g.sector_count old)))
           (record { closed = shut keeps; synced = λ k u. absurd (clean (looks.kept keeps) k u) }) (read_only g IsJournalSector old read (looks.touches keeps));
-      synced = λ keeps k u. ⊎_elim (clean (looks.kept keeps) k) (λ none. none) ((looks.touches keeps).unsynced k u);
       emptied = λ keeps. ap (λ (image : Image). is_open image) (same_image g old read (looks.touches keeps)) ∙ shut keeps;
-      stays = record { any_moment = looking; in_a_row = λ keeps still first was. since_first g old read first was (looking keeps still) };
+      synced = λ keeps k u. ⊎_elim (clean (looks.kept keeps) k) (λ none. none) ((looks.touches keeps).unsynced k u);
+      stays = stays one_journal ones_fix g old read (looking one_journal ones_fix g old read only_now looks);
       run = read_run;
       bad_unwritten = λ keeps is. looks.touches keeps;
       closed_unwritten = λ keeps closed. looks.touches keeps;
@@ -63,16 +43,15 @@ module _ {D : Type 0} (g : Ghosts D) (old read : D) (only_now : g.keeps_model ol
 
   -- where the pages of an open journal are copied home then
   module _ (new : D) (homes : List ℕ) (are : AreHomes (home_count (g.sector_count old)) homes) (opened : g.keeps_model read → IsOpenFor homes (g.content old)) {r : Result (Unit {0}) DiskFault}
-      (e : MovesHome g (IsReplayed homes) (IsFinished homes) (HomesStandAs (g.sector_count read) (g.content read))
-      (IsSettled g (g.sector_count read) (g.content read) [] new (standing_single (g.content read))) read new r) where
-    replaying : g.keeps_model new → ((k : ℕ) → g.unsynced old k → ⊥) → KeepsHomes g old new
-    replaying keeps still = looked_then new e.kept keeps still (e.any_moment keeps)
+      (e : MovesHome g one_journal [] (IsReplayed homes) (IsFinished homes) read new r) where
+    replaying : g.keeps_model new → ((k : ℕ) → g.unsynced old k → ⊥) → KeepsHomes one_journal g old new
+    replaying keeps still = looked_then one_journal ones_fix g old read only_now looks new e.kept keeps still (e.any_moment keeps)
 
     good_there : g.keeps_model new → IsBadSingle (g.sector_count old) (g.content old) → ⊥
     good_there keeps bad = let names = opened (e.kept keeps) in not_bad 1023 (home_count (g.sector_count old)) homes (map_of (g.content old)) are names.count names.each bad.map
 
     pub replays : (result : Result (Unit {0}) RecoverFault) → (g.keeps_model read → AsksOnly g (IsAskedIn (g.content old)) old read)
-        → (g.keeps_model new → OnOk result (IsSettled g (g.sector_count old) (g.content old) [] new (standing_single (g.content old))))
+        → (g.keeps_model new → OnOk result (IsSettled one_journal g (g.sector_count old) (g.content old) [] new (standing_single (g.content old))))
         → (g.keeps_model new → OnOk result ((k : ℕ) → g.unsynced new k → ⊥)) → BlamesJournal g old new result
         → (g.keeps_model new → IsErrOf result BadJournal → IsBadSingle (g.sector_count old) (g.content old))
         → (g.keeps_model new → OnOk result (g.content new gate_sector ≡ closed_gate (g.content old))) → RecoversOne g old new result
@@ -81,7 +60,7 @@ module _ {D : Type 0} (g : Ghosts D) (old read : D) (only_now : g.keeps_model ol
         ok = ok;
         synced = synced;
         emptied = λ keeps. on_ok_weaker result (λ settled. settled.rest.closed) (ok keeps);
-        stays = record { any_moment = replaying; in_a_row = λ keeps still first was. since_first g old new first was (replaying keeps still) };
+        stays = stays one_journal ones_fix g old new replaying;
         run = one_more g (IsRecovered (g.sector_count old)) old read new read_run (record { size = e.size; kept = e.kept; later = e.later; touches = λ keeps. replayed g (g.sector_count old) homes read new are (e.touches keeps) });
         bad_unwritten = λ keeps is. absurd (good_there keeps is);
         closed_unwritten = λ keeps closed. (let both : true ≡ false = sym (opened (e.kept keeps)).gate ∙ closed in cc);
@@ -99,10 +78,10 @@ module _ {D : Type 0} (g : Ghosts D) (old read : D) (only_now : g.keeps_model ol
     pub after_sync : (result : Result (Unit {0}) RecoverFault) → RecoversOne g read new result → RecoversOne g old new result
     after_sync result e = record {
       recovers = record {
-        ok = λ keeps. on_ok_weaker result (λ settled. so_before g old read (looks.touches (e.kept keeps)) (λ n image. IsSettled g n image [] new (standing_single image)) looks.size settled) (e.ok keeps);
+        ok = λ keeps. on_ok_weaker result (λ settled. so_before g old read (looks.touches (e.kept keeps)) (λ n image. IsSettled one_journal g n image [] new (standing_single image)) looks.size settled) (e.ok keeps);
         synced = e.synced;
         emptied = e.emptied;
-        stays = record { any_moment = moments; in_a_row = λ keeps still first was. since_first g old new first was (moments keeps still) };
+        stays = stays one_journal ones_fix g old new moments;
         run = one_more g (IsRecovered (g.sector_count old)) old read new read_run (subst (λ n. RunsOnDevice g (IsRecovered n) read new) looks.size e.run);
         bad_unwritten = λ keeps bad. and_then g Nothing old read new (looks.touches (e.kept keeps)) (e.bad_unwritten keeps (still_bad keeps bad));
         closed_unwritten = λ keeps closed. and_then g Nothing old read new (looks.touches (e.kept keeps)) (e.closed_unwritten keeps (ap (λ (image : Image). is_open image) (same (e.kept keeps)) ∙ closed));
@@ -115,8 +94,8 @@ module _ {D : Type 0} (g : Ghosts D) (old read : D) (only_now : g.keeps_model ol
       gate = λ keeps. on_ok_weaker result (λ at. at ∙ ap (λ (image : Image). closed_gate image) (same (e.kept keeps))) (e.gate keeps);
     }
       where
-        moments : g.keeps_model new → ((k : ℕ) → g.unsynced old k → ⊥) → KeepsHomes g old new
-        moments keeps still = looked_then new e.kept keeps still (e.any_moment keeps (clean (e.kept keeps)))
+        moments : g.keeps_model new → ((k : ℕ) → g.unsynced old k → ⊥) → KeepsHomes one_journal g old new
+        moments keeps still = looked_then one_journal ones_fix g old read only_now looks new e.kept keeps still (e.any_moment keeps (clean (e.kept keeps)))
 
         still_bad : g.keeps_model new → IsBadSingle (g.sector_count old) (g.content old) → IsBadSingle (g.sector_count read) (g.content read)
         still_bad keeps bad = so_since g old read (looks.touches (e.kept keeps)) IsBadSingle looks.size bad

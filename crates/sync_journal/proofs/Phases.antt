@@ -1,8 +1,8 @@
 -- The moments of a commit's own part: the pages and the map staged, and the gate opened.
 use Rattle.sync_journal.proofs.{Images.{Means, place_means, standing_closed, standing_open}, Maps.{counted, named, same_map}, Names.{◌≡◌, ◌≢◌, ◌⊎◌, ◌≤◌, ◌<◌, ◌+◌, ◌^◌, ℕ, true, false, List, [], length, get_or, Option, Some, None, refl}}
 use Rattle.sync_journal.{proofs.{Names.{sym, ap, ◌∙◌, ⊎_elim, inl, inr, arith, Image, MayLeave, Touches, LeavesOnly, Ghosts, started, goes_on, weaker}, Replays.{open_or_closed}, Rests.{live_at_rest}}, specs.Commit.{sector_or, changed}}
-use Rattle.sync_journal.specs.{Commit.{StandsForEitherPages, IsKept, IsQuiet, IsLive, IsSettled}, Gate.{is_open, is_open_sector}, Layout.{gate_sector, home_sector, body_sector, home_count, IsGate, IsJournalSector, IsOutside}}
-use Rattle.sync_journal.specs.{Map.{map_bytes, home_rank, map_count, home_in, AreFewHomes, AreHomes, IsBadMap}, Standing.{place_or_home, map_of, standing_single, StandsForPages, IsOpenFor, HoldsPages}}
+use Rattle.sync_journal.specs.{Commit.{IsQuiet, IsLive, one_journal}, Gate.{is_open, is_open_sector}, Layout.{gate_sector, home_sector, body_sector, home_count, IsGate, IsJournalSector, IsOutside}, Layouts.{IsKept, IsSettled}}
+use Rattle.sync_journal.specs.{Layouts.{StandsForEitherPages, StandsForPages}, Map.{map_bytes, home_rank, map_count, home_in, AreFewHomes, AreHomes, IsBadMap}, Standing.{place_or_home, map_of, standing_single, IsOpenFor, HoldsPages}}
 
 -- the sectors outside are neither the gate nor the journal's
 pub not_gate : (sectors k : ℕ) → IsOutside sectors k → k ≢ gate_sector
@@ -32,7 +32,7 @@ not_bad most count homes map are counts names bad = ⊎_elim
 
 -- an image with the gate closed, and the content outside the journal
 pub before_kept : (sectors : ℕ) (content image : Image) → is_open content ≡ false → is_open image ≡ false
-    → ((k : ℕ) → k ≢ gate_sector → IsJournalSector k ⊎ (image k ≡ content k)) → IsKept sectors content (StandsForPages (standing_single content)) image
+    → ((k : ℕ) → k ≢ gate_sector → IsJournalSector k ⊎ (image k ≡ content k)) → IsKept one_journal sectors content (StandsForPages one_journal (standing_single content)) image
 before_kept sectors content image was gate same = record {
   stands = record {
     each = λ h i below. standing_closed image h i gate
@@ -68,7 +68,7 @@ module _ (sectors : ℕ) (homes : List ℕ) (are : AreHomes (home_count sectors)
       let map = same_map image staged (λ k from below. same k (omega (arith, from))) in
       record { gate = gate; count = ap map_count map ∙ counts; each = λ j below. ap (λ m. home_in m j) map ∙ names j below }
 
-  pub after_kept : (image : Image) → is_open image ≡ true → ((k : ℕ) → k ≢ gate_sector → image k ≡ staged k) → IsKept sectors content (StandsForPages After) image
+  pub after_kept : (image : Image) → is_open image ≡ true → ((k : ℕ) → k ≢ gate_sector → image k ≡ staged k) → IsKept one_journal sectors content (StandsForPages one_journal After) image
   unfolding changed
   after_kept image gate same = record {
     stands = record {
@@ -86,7 +86,7 @@ module _ (sectors : ℕ) (homes : List ℕ) (are : AreHomes (home_count sectors)
       here h i below (Some j) found = same (body_sector j + i) (omega arith) ∙ body j i found.0 below
 
   -- whatever the gate holds, before or after
-  pub either_kept : (image : Image) → ((k : ℕ) → k ≢ gate_sector → image k ≡ staged k) → IsKept sectors content (StandsForEitherPages (standing_single content) After) image
+  pub either_kept : (image : Image) → ((k : ℕ) → k ≢ gate_sector → image k ≡ staged k) → IsKept one_journal sectors content (StandsForEitherPages one_journal (standing_single content) After) image
   either_kept image same = ⊎_elim
       (λ gate. let kept = after_kept image gate same in record { stands = inr kept.stands; journal = kept.journal; outside = kept.outside })
       (λ gate. let kept = before_kept sectors content image was gate (λ k other. ⊎_elim (λ inside. inl inside) (λ e. inr (same k other ∙ e)) (others k)) in
@@ -98,10 +98,10 @@ module _ {D : Type 0} (g : Ghosts D) (homes : List ℕ) (pages : ℕ → List �
     (only_now : (image : Image) → g.left_since old (g.moment old) image → MayLeave (g.content old) (g.unsynced old) image)
     (are : AreHomes (home_count (g.sector_count old)) homes) (quiet : IsQuiet g old) (stages : Touches g IsJournalSector old staged) where
   abbrev pub Before : Image → Type 0
-  Before = IsKept (g.sector_count old) (g.content old) (StandsForPages (standing_single (g.content old)))
+  Before = IsKept one_journal (g.sector_count old) (g.content old) (StandsForPages one_journal (standing_single (g.content old)))
 
   abbrev pub Either : Image → Type 0
-  Either = IsKept (g.sector_count old) (g.content old) (StandsForEitherPages (standing_single (g.content old)) (changed (standing_single (g.content old)) homes pages))
+  Either = IsKept one_journal (g.sector_count old) (g.content old) (StandsForEitherPages one_journal (standing_single (g.content old)) (changed (standing_single (g.content old)) homes pages))
 
   -- an image with the content before outside the journal
   as_before : (image : Image) → ((k : ℕ) → IsJournalSector k ⊎ (image k ≡ g.content old k)) → Before image
@@ -118,7 +118,7 @@ module _ {D : Type 0} (g : Ghosts D) (homes : List ℕ) (pages : ℕ → List �
       stages around_staging
 
   -- where the source failed
-  pub staged_settled : IsSettled g (g.sector_count old) (g.content old) [] staged (standing_single (g.content old))
+  pub staged_settled : IsSettled one_journal g (g.sector_count old) (g.content old) [] staged (standing_single (g.content old))
   staged_settled =
       let here = as_before (g.content staged) stages.content in
       record {
@@ -151,12 +151,12 @@ module _ {D : Type 0} (g : Ghosts D) (homes : List ℕ) (pages : ℕ → List �
 
     module _ (gate : is_open (g.content opened) ≡ true) (opened_synced : (k : ℕ) → g.unsynced opened k → ⊥) (some : 0 < length homes) where
       -- an image with the content as the gate was opened
-      after : (image : Image) → ((k : ℕ) → image k ≡ g.content opened k) → IsKept (g.sector_count old) (g.content old) (StandsForPages (changed (standing_single (g.content old)) homes pages)) image
+      after : (image : Image) → ((k : ℕ) → image k ≡ g.content opened k) → IsKept one_journal (g.sector_count old) (g.content old) (StandsForPages one_journal (changed (standing_single (g.content old)) homes pages)) image
       after image same = after_kept (g.sector_count old) homes are pages (g.content old) (g.content staged) quiet.closed stages.content counts names body image
           (ap is_open_sector (same gate_sector) ∙ gate)
           (λ k other. same k ∙ ⊎_elim (λ at. absurd (other at)) (λ e. e) (opens.content k))
 
-      pub opened_settled : IsLive g homes opened → IsSettled g (g.sector_count old) (g.content old) homes opened (changed (standing_single (g.content old)) homes pages)
+      pub opened_settled : IsLive g homes opened → IsSettled one_journal g (g.sector_count old) (g.content old) homes opened (changed (standing_single (g.content old)) homes pages)
       opened_settled live = let here = after (g.content opened) (λ k. refl) in record {
         rest = live_at_rest g homes opened some live;
         stands = here.stands;

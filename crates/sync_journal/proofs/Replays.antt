@@ -1,7 +1,7 @@
 -- The moments of a replay.
 use Rattle.sync_journal.proofs.Names.{Result, Ok, Err, OnOk, ◌≡◌, ◌≢◌, ◌⊎◌, ◌+◌, ℕ, Bool, true, false, List, [], length, get_or, refl, ap, ◌∙◌, ⊎_elim, inl, inr, arith, Image, MayLeave, Touches, LeavesOnly, Ghosts, started, goes_on}
-use Rattle.sync_journal.specs.{Layout.{gate_sector, first_body_sector, first_home_sector, home_sector, home_count, IsGate, IsHomeSector}, Gate.{is_open, is_open_sector}, Map.{AreHomes}}
-use Rattle.sync_journal.{specs.{Standing.{standing_single, StandsForPages, IsOpenFor, AreCopiedFrom}, Commit.{IsKept, IsSettled}}, proofs.Images.{open_kept, closed_kept}}
+use Rattle.sync_journal.{proofs.Images.{open_kept, closed_kept}, specs.{Layout.{gate_sector, first_body_sector, first_home_sector, home_sector, home_count, IsGate, IsHomeSector}, Gate.{is_open, is_open_sector}, Map.{AreHomes}}}
+use Rattle.sync_journal.specs.{Layouts.{IsKept, IsSettled, StandsForPages}, Commit.{one_journal}, Standing.{standing_single, IsOpenFor, AreCopiedFrom}}
 
 -- a gate is open or closed
 pub open_or_closed : (image : Image) → (is_open image ≡ true) ⊎ (is_open image ≡ false)
@@ -18,7 +18,7 @@ module _ {D : Type 0} (g : Ghosts D) (homes : List ℕ) (old copied new : D)
     (are : AreHomes (home_count (g.sector_count old)) homes) (opens : IsOpenFor homes (g.content old)) (synced : (k : ℕ) → g.unsynced old k → ⊥)
     (copies : Touches g (IsHomeSector homes) old copied) where
   abbrev pub Stays : Image → Type 0
-  Stays image = IsKept (g.sector_count old) (g.content old) (StandsForPages (standing_single (g.content old))) image
+  Stays image = IsKept one_journal (g.sector_count old) (g.content old) (StandsForPages one_journal (standing_single (g.content old))) image
 
   -- while the homes are written
   around_copies : (image : Image) → MayLeave (g.content old) (λ k. g.unsynced old k ⊎ IsHomeSector homes k) image → Stays image
@@ -32,7 +32,7 @@ module _ {D : Type 0} (g : Ghosts D) (homes : List ℕ) (old copied new : D)
       at : (k : ℕ) → (IsHomeSector homes k → ⊥) → image k ≡ g.content old k
       at k away = ⊎_elim (λ at_home. absurd (away at_home)) (λ e. e) (same k)
 
-  pub while_copying : LeavesOnly g old copied (IsKept (g.sector_count old) (g.content old) (StandsForPages (standing_single (g.content old))))
+  pub while_copying : LeavesOnly g old copied (IsKept one_journal (g.sector_count old) (g.content old) (StandsForPages one_journal (standing_single (g.content old))))
   while_copying = goes_on g (IsHomeSector homes) old old copied Stays
       (started g old Stays only_now (λ image may. around_copies image (record { kept = λ k. ⊎_elim (λ u. inl (inl u)) (λ e. inr e) (may.kept k) })))
       copies around_copies
@@ -56,13 +56,13 @@ module _ {D : Type 0} (g : Ghosts D) (homes : List ℕ) (old copied new : D)
     around_closing : (image : Image) → MayLeave (g.content copied) (λ k. g.unsynced copied k ⊎ IsGate k) image → Stays image
     around_closing image may = with_copies image (λ k other. ⊎_elim (⊎_elim (λ u. absurd (copied_synced k u)) (λ at. absurd (other at))) (λ e. e) (may.kept k))
 
-    pub while_closing : LeavesOnly g old new (IsKept (g.sector_count old) (g.content old) (StandsForPages (standing_single (g.content old))))
+    pub while_closing : LeavesOnly g old new (IsKept one_journal (g.sector_count old) (g.content old) (StandsForPages one_journal (standing_single (g.content old))))
     while_closing = goes_on g IsGate old copied new Stays while_copying closes around_closing
 
     after : (image : Image) → ((k : ℕ) → image k ≡ g.content new k) → Stays image
     after image same = with_copies image (λ k other. same k ∙ ⊎_elim (λ at. absurd (other at)) (λ e. e) (closes.content k))
 
-    pub settled : is_open (g.content new) ≡ false → ((k : ℕ) → g.unsynced new k → ⊥) → IsSettled g (g.sector_count old) (g.content old) [] new (standing_single (g.content old))
+    pub settled : is_open (g.content new) ≡ false → ((k : ℕ) → g.unsynced new k → ⊥) → IsSettled one_journal g (g.sector_count old) (g.content old) [] new (standing_single (g.content old))
     settled closed new_synced = let here = after (g.content new) (λ k. refl) in record {
       rest = record { closed = closed; synced = λ k u. absurd (new_synced k u) };
       stands = here.stands;

@@ -1,6 +1,6 @@
--- A commit's own part, seen from before the homes of a live journal were written.
-use Rattle.sync_journal.{proofs.{Changes.{closed_not_bad}, Names.{◌≡◌, ℕ, List, [], ap, subst, ◌∙◌, ⊎_elim, inl, inr, Image, LeavesOnly, Ghosts, weaker}}, specs.Commit.{sector_or, changed, StandsForEitherPages, IsKept, IsSettled}}
-use Rattle.{sync_journal.specs.{Map.{home_rank}, Standing.{standing_single, StandsForPages}}, disk_model.proofs.Moments.{joined}}
+-- A commit's own part, seen from before a first part, which left the homes as they stood.
+use Rattle.sync_journal.{proofs.{Layouts.{FixesOutside, kept_again, or_before, same_pages, stands_again}, Names.{◌≡◌, ◌<◌, ℕ, List, ap, subst, ◌∙◌, ⊎_elim, inl, inr, refl, LeavesOnly, Ghosts, weaker}}, specs.Commit.{sector_or}}
+use Rattle.{sync_journal.specs.{Commit.{changed}, Committing.{HomesStandOr}, Layouts.{Layout, HomesStandAs, IsSettled, KeepsHomes, StandsForPages}, Map.{home_rank}}, disk_model.proofs.Moments.{joined}}
 
 -- a commit changes the same in the same pages
 pub changed_same : (before since : ℕ → ℕ → List ℕ) (homes : List ℕ) (pages : ℕ → List ℕ) (h i : ℕ) → since h i ≡ before h i
@@ -8,76 +8,48 @@ pub changed_same : (before since : ℕ → ℕ → List ℕ) (homes : List ℕ) 
 unfolding changed
 changed_same before since homes pages h i same = ap (λ old. sector_or pages old i (home_rank homes h)) same
 
--- what stands as before stands as before or after
-pub either_of : {D : Type 0} (g : Ghosts D) (old new : D) (after : ℕ → ℕ → List ℕ) → LeavesOnly g old new (IsKept (g.sector_count old) (g.content old) (StandsForPages (standing_single (g.content old))))
-    → LeavesOnly g old new (IsKept (g.sector_count old) (g.content old) (StandsForEitherPages (standing_single (g.content old)) after))
-either_of g old new after run = weaker g old new (IsKept (g.sector_count old) (g.content old) (StandsForPages (standing_single (g.content old))))
-    (IsKept (g.sector_count old) (g.content old) (StandsForEitherPages (standing_single (g.content old)) after))
-    (λ image kept. record { stands = inl kept.stands; journal = kept.journal; outside = kept.outside }) run
+module _ {S D : Type 0} (layout : Layout S) (fixes : FixesOutside layout) (g : Ghosts D) (old mid new : D) (size : g.sector_count mid ≡ g.sector_count old)
+    {first : S} (finished : IsSettled layout g (g.sector_count old) (g.content old) first mid (layout.standing (g.content old))) where
+  held : HomesStandAs layout (g.sector_count old) (g.content old) (g.content mid)
+  held = finished.left (g.content mid) (record { kept = λ k. inr refl })
 
--- The state before, and the one when the homes of the live journal are written and the gate is closed.
-module _ {D : Type 0} (g : Ghosts D) (old mid new : D) (size : g.sector_count mid ≡ g.sector_count old)
-    (finished : IsSettled g (g.sector_count old) (g.content old) [] mid (standing_single (g.content old))) where
-  abbrev pub Was : ℕ → ℕ → List ℕ
-  Was = standing_single (g.content old)
-
-  -- what is kept since is kept since before
-  kept_since : (P Q : Image → Type 0) → ((image : Image) → P image → Q image)
-      → (image : Image) → IsKept (g.sector_count old) (g.content mid) P image → IsKept (g.sector_count old) (g.content old) Q image
-  kept_since P Q more image kept = record {
-    stands = more image kept.stands;
-    journal = λ bad. absurd (closed_not_bad (g.sector_count old) (g.content mid) finished.rest.closed (kept.journal bad));
-    outside = λ k outside. kept.outside k outside ∙ finished.outside k outside;
-  }
-
-  same_before : (image : Image) → StandsForPages (standing_single (g.content mid)) image → StandsForPages Was image
-  same_before image stands = record { each = λ h i below. stands.each h i below ∙ finished.stands.each h i below }
-
-  module _ (homes : List ℕ) (pages : ℕ → List ℕ) where
-    same_after : (image : Image) → StandsForPages (changed (standing_single (g.content mid)) homes pages) image → StandsForPages (changed Was homes pages) image
-    same_after image stands = record { each = λ h i below. stands.each h i below ∙ changed_same Was (standing_single (g.content mid)) homes pages h i (finished.stands.each h i below) }
-
-    same_either : (image : Image) → StandsForEitherPages (standing_single (g.content mid)) (changed (standing_single (g.content mid)) homes pages) image → StandsForEitherPages Was (changed Was homes pages) image
-    same_either image stands = ⊎_elim (λ before. inl (same_before image before)) (λ after. inr (same_after image after)) stands
-
-    -- the moments of both parts
-    pub both_either : LeavesOnly g old mid (IsKept (g.sector_count old) (g.content old) (StandsForPages Was))
-        → LeavesOnly g mid new (IsKept (g.sector_count mid) (g.content mid) (StandsForEitherPages (standing_single (g.content mid)) (changed (standing_single (g.content mid)) homes pages)))
-        → LeavesOnly g old new (IsKept (g.sector_count old) (g.content old) (StandsForEitherPages Was (changed Was homes pages)))
-    both_either first second = joined g old mid new (IsKept (g.sector_count old) (g.content old) (StandsForEitherPages Was (changed Was homes pages)))
-        (either_of g old mid (changed Was homes pages) first)
-        (weaker g mid new (IsKept (g.sector_count old) (g.content mid) (StandsForEitherPages (standing_single (g.content mid)) (changed (standing_single (g.content mid)) homes pages)))
-        (IsKept (g.sector_count old) (g.content old) (StandsForEitherPages Was (changed Was homes pages)))
-        (kept_since (StandsForEitherPages (standing_single (g.content mid)) (changed (standing_single (g.content mid)) homes pages)) (StandsForEitherPages Was (changed Was homes pages)) same_either)
-        (subst (λ n. LeavesOnly g mid new (IsKept n (g.content mid) (StandsForEitherPages (standing_single (g.content mid)) (changed (standing_single (g.content mid)) homes pages)))) size second))
-
-    -- and their end
-    pub settled_after : (live : List ℕ) → IsSettled g (g.sector_count mid) (g.content mid) live new (changed (standing_single (g.content mid)) homes pages)
-        → IsSettled g (g.sector_count old) (g.content old) live new (changed Was homes pages)
-    settled_after live settled =
-        let here = subst (λ n. IsSettled g n (g.content mid) live new (changed (standing_single (g.content mid)) homes pages)) size settled in
-        record {
-          rest = here.rest;
-          stands = same_after (g.content new) here.stands;
-          outside = λ k outside. here.outside k outside ∙ finished.outside k outside;
-          left = λ image may. kept_since (StandsForPages (changed (standing_single (g.content mid)) homes pages)) (StandsForPages (changed Was homes pages)) same_after image (here.left image may);
-        }
-
-  -- where the source failed
-  pub both_before : LeavesOnly g old mid (IsKept (g.sector_count old) (g.content old) (StandsForPages Was))
-      → LeavesOnly g mid new (IsKept (g.sector_count mid) (g.content mid) (StandsForPages (standing_single (g.content mid))))
-      → LeavesOnly g old new (IsKept (g.sector_count old) (g.content old) (StandsForPages Was))
-  both_before first second = joined g old mid new (IsKept (g.sector_count old) (g.content old) (StandsForPages Was)) first
-      (weaker g mid new (IsKept (g.sector_count old) (g.content mid) (StandsForPages (standing_single (g.content mid)))) (IsKept (g.sector_count old) (g.content old) (StandsForPages Was))
-      (kept_since (StandsForPages (standing_single (g.content mid))) (StandsForPages Was) same_before)
-      (subst (λ n. LeavesOnly g mid new (IsKept n (g.content mid) (StandsForPages (standing_single (g.content mid))))) size second))
-
-  pub settled_before : IsSettled g (g.sector_count mid) (g.content mid) [] new (standing_single (g.content mid)) → IsSettled g (g.sector_count old) (g.content old) [] new Was
-  settled_before settled =
-      let here = subst (λ n. IsSettled g n (g.content mid) [] new (standing_single (g.content mid))) size settled in
+  settled_with : (state : S) (found pages : ℕ → ℕ → List ℕ) → ((h i : ℕ) → i < 8 → found h i ≡ pages h i) → IsSettled layout g (g.sector_count mid) (g.content mid) state new found
+      → IsSettled layout g (g.sector_count old) (g.content old) state new pages
+  settled_with state found pages same settled =
+      let here = subst (λ n. IsSettled layout g n (g.content mid) state new found) size settled in
       record {
         rest = here.rest;
-        stands = same_before (g.content new) here.stands;
-        outside = λ k outside. here.outside k outside ∙ finished.outside k outside;
-        left = λ image may. kept_since (StandsForPages (standing_single (g.content mid))) (StandsForPages Was) same_before image (here.left image may);
+        stands = same_pages layout found pages same (g.content new) here.stands;
+        outside = λ k out. here.outside k (fixes (g.sector_count old) (g.content old) (g.content mid) held.outside k out) ∙ held.outside k out;
+        left = λ image may. kept_again layout fixes (g.sector_count old) (g.content old) (g.content mid) image (StandsForPages layout found) (StandsForPages layout pages) held
+            (same_pages layout found pages same image) (here.left image may);
       }
+
+  -- the moments of both parts where the source failed, and their end
+  pub both_before : KeepsHomes layout g old mid → KeepsHomes layout g mid new → KeepsHomes layout g old new
+  both_before earlier later = joined g old mid new (HomesStandAs layout (g.sector_count old) (g.content old)) earlier
+      (weaker g mid new (HomesStandAs layout (g.sector_count old) (g.content mid)) (HomesStandAs layout (g.sector_count old) (g.content old))
+      (λ image. stands_again layout fixes (g.sector_count old) (g.content old) (g.content mid) image held)
+      (subst (λ n. LeavesOnly g mid new (HomesStandAs layout n (g.content mid))) size later))
+
+  pub settled_before : (state : S) → IsSettled layout g (g.sector_count mid) (g.content mid) state new (layout.standing (g.content mid))
+      → IsSettled layout g (g.sector_count old) (g.content old) state new (layout.standing (g.content old))
+  settled_before state = settled_with state _ _ held.stands.each
+
+  -- and where it gave these pages
+  module _ (homes : List ℕ) (pages : ℕ → List ℕ) where
+    same_changed : (h i : ℕ) → i < 8 → changed (layout.standing (g.content mid)) homes pages h i ≡ changed (layout.standing (g.content old)) homes pages h i
+    same_changed h i below = changed_same (layout.standing (g.content old)) (layout.standing (g.content mid)) homes pages h i (held.stands.each h i below)
+
+    pub both_either : KeepsHomes layout g old mid → LeavesOnly g mid new (HomesStandOr layout (g.sector_count mid) homes pages (g.content mid))
+        → LeavesOnly g old new (HomesStandOr layout (g.sector_count old) homes pages (g.content old))
+    both_either earlier later = joined g old mid new (HomesStandOr layout (g.sector_count old) homes pages (g.content old))
+        (weaker g old mid _ _ (or_before layout (g.sector_count old) homes pages (g.content old)) earlier)
+        (weaker g mid new (HomesStandOr layout (g.sector_count old) homes pages (g.content mid)) (HomesStandOr layout (g.sector_count old) homes pages (g.content old))
+        (λ image. kept_again layout fixes (g.sector_count old) (g.content old) (g.content mid) image _ _ held
+        (⊎_elim (λ before. inl (same_pages layout _ _ held.stands.each image before)) (λ after. inr (same_pages layout _ _ same_changed image after))))
+        (subst (λ n. LeavesOnly g mid new (HomesStandOr layout n homes pages (g.content mid))) size later))
+
+    pub settled_after : (state : S) → IsSettled layout g (g.sector_count mid) (g.content mid) state new (changed (layout.standing (g.content mid)) homes pages)
+        → IsSettled layout g (g.sector_count old) (g.content old) state new (changed (layout.standing (g.content old)) homes pages)
+    settled_after state = settled_with state _ _ same_changed

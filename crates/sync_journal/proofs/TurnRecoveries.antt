@@ -1,9 +1,12 @@
 -- A recovery of two journals in turn: a sync and a look, and then a commit of no pages.
-use Rattle.sync_journal.proofs.{InKinds.{recovered_sector}, InTurn.{turn_same, good_before, turn_since}, Names.{◌≡◌, ◌<◌, ⊎_elim, ap, arith, cases_lt, ℕ, true, false, [], inl, inr, Result, Ok, Err, OnOk, refl, sym, subst, ◌∙◌, IfOk, IsErr, IsErrOf, Image, MayLeave}}
-use Rattle.sync_journal.proofs.{Names.{AsksOnly, LeavesOnly, Nothing, Touches, DiskFault, Ghosts, asks_none, asks_then}, Replays.{if_ok}, Runs.{one_more, of_more}, Sectors.{same_image, while_read, so_before}, TurnAsking.{recovery_asks}}
-use Rattle.sync_journal.specs.{Blocks.{CommitsInBlocks}, Journal.{live_homes}, Map.{AreHomes, map_count}, Recovering.{IsNamedLive, EmptiesNamed, RecoversInTurn}, Runs.{RunsOnDevice}, Steps.{BlamesJournal}, Turns.{turn_home_count, turn_standing, turn_map, named_in}}
-use Rattle.sync_journal.specs.{Turns.{IsBadTurn, IsNamedFor, IsTurnAskedIn, IsTurnCommitted, IsTurnRecovered, IsTurnSettled, KeepsTurns, TurnsStandAs}, declared.faults.RecoverFault.{RecoverFault, TheVariants.{BadJournal}}}
-use Rattle.{sync_journal.specs.declared.turns.TurnJournal.{TurnJournal}, disk_model.proofs.Moments.{joined}}
+use Rattle.sync_journal.proofs.{InKinds.{recovered_sector}, InTurn.{good_before}, Layouts.{FixesOutside, stays, looked_at, looked_then}, Names.{◌≡◌, ◌<◌, ⊎_elim, ap, arith, cases_lt, ℕ, true, false, [], inl, inr, Result, Ok, Err, OnOk}}
+use Rattle.sync_journal.proofs.{Names.{sym, subst, ◌∙◌, IfOk, IsErr, IsErrOf, Image, MayLeave, AsksOnly, Nothing, Touches, DiskFault, Ghosts, asks_none, asks_then}, Replays.{if_ok}, Runs.{one_more, of_more}, Sectors.{same_image, so_before}}
+use Rattle.sync_journal.{proofs.TurnAsking.{recovery_asks}, specs.{Blocks.{CommitsInBlocks}, Journal.{live_homes}, Map.{AreHomes, map_count}, Recovering.{IsNamedLive, EmptiesNamed, RecoversInTurn}, Runs.{RunsOnDevice}}}
+use Rattle.sync_journal.specs.{Steps.{BlamesJournal}, Turns.{turn_home_count, turn_standing, turn_map, named_in, IsBadTurn, IsNamedFor, IsTurnAskedIn, IsTurnCommitted, IsTurnRecovered, in_turn}, declared.faults.RecoverFault.{RecoverFault}}
+use Rattle.sync_journal.specs.{declared.{faults.RecoverFault.TheVariants.{BadJournal}, turns.TurnJournal.{TurnJournal}}, Layouts.{HomesStandAs, IsSettled, KeepsHomes}}
+
+turns_fix : FixesOutside in_turn
+turns_fix sectors a b same k out = out
 
 -- What a look after a sync finds stood before the sync.
 module _ {D : Type 0} (g : Ghosts D) (old mid read : D) (syncs : RunsOnDevice g Nothing old mid) (looks : RunsOnDevice g Nothing mid read) where
@@ -24,36 +27,16 @@ module _ {D : Type 0} (g : Ghosts D) (old mid read : D) (syncs : RunsOnDevice g 
 
 module _ {D : Type 0} (g : Ghosts D) (old read : D) (only_now : g.keeps_model old → (image : Image) → g.left_since old (g.moment old) image → MayLeave (g.content old) (g.unsynced old) image)
     (looks : RunsOnDevice g Nothing old read) where
-  looking : g.keeps_model read → ((k : ℕ) → g.unsynced old k → ⊥) → KeepsTurns g old read
-  looking keeps still = while_read g old read (looks.touches keeps) (TurnsStandAs (g.sector_count old) (g.content old)) (turn_same (g.sector_count old) (g.content old) (g.content old) refl) (only_now (looks.kept keeps)) still
-
   -- where nothing but gate and map is read
   pub looked : (result : Result TurnJournal RecoverFault) → IsErr result → (g.keeps_model read → AsksOnly g (IsTurnAskedIn (g.content old)) old read) → BlamesJournal g old read result
       → (g.keeps_model read → IsErrOf result BadJournal → IsBadTurn (g.sector_count old) (g.content old)) → RecoversInTurn g old read result
   looked (Ok journal) is asks blames bad = let none : false ≡ true = is in cc
-  looked (Err fault) is asks blames bad = record {
-    recovers = record {
-      ok = λ keeps. tt;
-      synced = λ keeps. tt;
-      emptied = λ keeps. tt;
-      stays = record { any_moment = looking; in_a_row = λ keeps still first was. turn_since g old read first was (looking keeps still) };
-      run = of_more g Nothing (IsTurnRecovered (g.sector_count old)) old read (λ k none. absurd none) looks;
-      bad_unwritten = λ keeps is. looks.touches keeps;
-      closed_unwritten = λ keeps none. looks.touches keeps;
-      asks = asks;
-      blames = blames;
-      good = λ keeps. tt;
-      bad = bad;
-    };
-    not_live = tt;
-    blocks = λ keeps. inl (looks.touches keeps);
-  }
+  looked (Err fault) is asks blames bad = record { recovers = looked_at in_turn turns_fix g old read only_now looks _ (Err fault) is asks blames bad; not_live = tt; blocks = λ keeps. inl (looks.touches keeps) }
 
   -- and then what is live is copied home
   module _ (new : D) (journal now : TurnJournal) (named : IsNamedLive g old read journal) {r : Result (Unit {0}) DiskFault} (e : EmptiesNamed g journal now read new r) where
-    moments : g.keeps_model new → ((k : ℕ) → g.unsynced old k → ⊥) → KeepsTurns g old new
-    moments keeps synced = joined g old read new (TurnsStandAs (g.sector_count old) (g.content old)) (looking (e.kept keeps) synced)
-        (so_before g old read (looks.touches (e.kept keeps)) (λ n image. LeavesOnly g read new (TurnsStandAs n image)) looks.size (e.any_moment keeps))
+    moments : g.keeps_model new → ((k : ℕ) → g.unsynced old k → ⊥) → KeepsHomes in_turn g old new
+    moments keeps still = looked_then in_turn turns_fix g old read only_now looks new e.kept keeps still (e.any_moment keeps)
 
     good_found : g.keeps_model new → IsBadTurn (g.sector_count old) (g.content old) → ⊥
     good_found keeps = good_before g old read (looks.touches (e.kept keeps)) journal.second (live_homes journal.live) looks.size (named.found (e.kept keeps))
@@ -66,7 +49,7 @@ module _ {D : Type 0} (g : Ghosts D) (old read : D) (only_now : g.keeps_model ol
 
     -- whatever is told of it
     pub emptied : (result : Result TurnJournal RecoverFault) → (g.keeps_model read → AsksOnly g (IsTurnAskedIn (g.content old)) old read)
-        → (g.keeps_model new → IfOk result (λ found. IsTurnSettled g (g.sector_count old) (g.content old) found.second [] new (turn_standing (g.content old))))
+        → (g.keeps_model new → IfOk result (λ found. IsSettled in_turn g (g.sector_count old) (g.content old) (found.second, []) new (turn_standing (g.content old))))
         → (g.keeps_model new → OnOk result ((k : ℕ) → g.unsynced new k → ⊥)) → BlamesJournal g old new result
         → (g.keeps_model new → IsErrOf result BadJournal → IsBadTurn (g.sector_count old) (g.content old)) → IfOk result (λ found. live_homes found.live ≡ [])
         → (0 < journal.live.count → g.keeps_model new → OnOk result (map_count (turn_map (named_in (g.content new)) (g.content new)) ≡ 0)) → RecoversInTurn g old new result
@@ -75,7 +58,7 @@ module _ {D : Type 0} (g : Ghosts D) (old read : D) (only_now : g.keeps_model ol
         ok = ok;
         synced = synced;
         emptied = λ keeps. ⊎_elim (λ some. empty some keeps) (λ none. if_ok result (stays_empty keeps (omega (arith, none)))) (cases_lt 0 journal.live.count);
-        stays = record { any_moment = moments; in_a_row = λ keeps still first was. turn_since g old new first was (moments keeps still) };
+        stays = stays in_turn turns_fix g old new moments;
         run = one_more g (IsTurnRecovered (g.sector_count old)) old read new (of_more g Nothing (IsTurnRecovered (g.sector_count old)) old read (λ k none. absurd none) looks)
             (of_more g (IsTurnCommitted journal.second (live_homes journal.live)) (IsTurnRecovered (g.sector_count old)) read new
             (recovered_sector journal.second (g.sector_count old) (live_homes journal.live) named.homes) e.run);
@@ -92,6 +75,6 @@ module _ {D : Type 0} (g : Ghosts D) (old read : D) (only_now : g.keeps_model ol
         looks.touches (e.kept keeps),
         journal.second,
         live_homes journal.live,
-        so_before g old read (looks.touches (e.kept keeps)) (λ n image. CommitsInBlocks g journal.second (live_homes journal.live) (TurnsStandAs n image) read new) looks.size (e.blocks keeps),
+        so_before g old read (looks.touches (e.kept keeps)) (λ n image. CommitsInBlocks g journal.second (live_homes journal.live) (HomesStandAs in_turn n image) read new) looks.size (e.blocks keeps),
       );
     }

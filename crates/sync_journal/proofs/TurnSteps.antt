@@ -1,10 +1,11 @@
 -- The steps of a commit of two journals in turn, and what holds where it ends after one of them. A recovery is a commit of no pages.
-use Rattle.sync_journal.proofs.{Causes.{not_source, puts_failed}, InTurn.{IsPrepared, NamesOther, prepared, map_stays, copied_since, while_preparing, while_naming, staged_blocks, named_blocks, blocks_weaker, commits_weaker, new_rest}}
+use Rattle.sync_journal.proofs.{Causes.{not_source, puts_failed}, Layouts.{or_before}, InTurn.{IsPrepared, NamesOther, prepared, map_stays, copied_since, while_preparing, while_naming, staged_blocks, named_blocks, blocks_weaker, commits_weaker, new_rest}}
 use Rattle.sync_journal.proofs.{InTurn.{new_settled, body_stays}, Names.{◌≡◌, ◌<◌, ℕ, Bool, true, false, not, List, [], length, Result, Ok, Err, OnOk, inl, inr, ◌∙◌, arith, IsErr, IsErrAnd, Image, MayLeave, NamesOnce, LeavesOnly}}
 use Rattle.sync_journal.{proofs.{Names.{DiskFault, Ghosts, weaker, wider}, Runs.{one_more, of_more}, TurnAsking.{Prepared, part_used, prepared_asks, prepared_used, used_asks, asks_some}}, specs.{Blocks.{CommitsInBlocks}, Commit.{changed}}}
-use Rattle.sync_journal.specs.{Committing.{CommitsInTurn}, Journal.{live_homes}, Map.{AreHomes, map_bytes, map_count}, Recovering.{EmptiesNamed}, Runs.{RunsOnDevice}, Source.{Asks}, Steps.{SyncsInto}, Turns.{named_in, turn_map, turn_home_count}}
-use Rattle.sync_journal.specs.Turns.{turn_standing, IsTurnSector, IsTurnHome, IsTurnGate, IsTurnPart, IsTurnCopy, IsTurnUsed, IsTurnCommitted, IsTurnStaged, IsTurnKept, TurnStandsForEither, TurnsStandAs, HoldsJournal, AreCopiedBut}
-use Rattle.sync_journal.specs.{Turns.{IsTurnRest, IsTurnSettled}, declared.{faults.CommitFault.{CommitFault, TheVariants.{Device}}, source.PageSource.{Ghosts as SourceGhosts}, turns.TurnJournal.{TurnJournal}}}
+use Rattle.sync_journal.specs.{Committing.{CommitsInTurn, HomesStandOr}, Journal.{live_homes}, Map.{AreHomes, map_bytes, map_count}, Recovering.{EmptiesNamed}, Runs.{RunsOnDevice}, Source.{Asks}, Steps.{SyncsInto}, Turns.{named_in, turn_map, turn_home_count}}
+use Rattle.sync_journal.specs.Turns.{turn_standing, IsTurnSector, IsTurnHome, IsTurnGate, IsTurnPart, IsTurnCopy, IsTurnUsed, IsTurnCommitted, IsTurnStaged, HoldsJournal, AreCopiedBut}
+use Rattle.sync_journal.specs.{Layouts.{HomesStandAs, IsSettled}, Turns.{in_turn}}
+use Rattle.sync_journal.specs.{Turns.{IsTurnRest}, declared.{faults.CommitFault.{CommitFault, TheVariants.{Device}}, source.PageSource.{Ghosts as SourceGhosts}, turns.TurnJournal.{TurnJournal}}}
 
 -- A commit to homes over the live ones.
 module _ {D : Type 0} (g : Ghosts D) (second : Bool) (live homes : List ℕ) (old : D) where
@@ -24,20 +25,17 @@ module _ {D : Type 0} (g : Ghosts D) (second : Bool) (live homes : List ℕ) (ol
 
   -- the pages that stood there, or the new ones
   abbrev pub Before : Image → Type 0
-  Before = TurnsStandAs (g.sector_count old) (g.content old)
+  Before = HomesStandAs in_turn (g.sector_count old) (g.content old)
 
   abbrev pub Either : (ℕ → List ℕ) → Image → Type 0
-  Either pages = IsTurnKept (g.sector_count old) (g.content old) (TurnStandsForEither (turn_standing (g.content old)) (changed (turn_standing (g.content old)) homes pages))
-
-  as_either : (pages : ℕ → List ℕ) (image : Image) → Before image → Either pages image
-  as_either pages image kept = record { stands = inl kept.stands; journal = kept.journal; outside = kept.outside }
+  Either pages = HomesStandOr in_turn (g.sector_count old) homes pages (g.content old)
 
   -- What it did when the other journal is named, and that this is at rest then, and stands for the new pages.
   pub record Names (Given : Type 0) (pages : ℕ → List ℕ) (new : D) : Type 0 where
     pub leaves : Leaves Given (Either pages) new
     pub rests : g.keeps_model new → named_in (g.content new) ≡ not second → ((k : ℕ) → g.unsynced new k → ⊥) → IsTurnRest g (not second) homes new
     pub settles : g.keeps_model new → Given → named_in (g.content new) ≡ not second → ((k : ℕ) → g.unsynced new k → ⊥)
-        → IsTurnSettled g (g.sector_count old) (g.content old) (not second) homes new (changed (turn_standing (g.content old)) homes pages)
+        → IsSettled in_turn g (g.sector_count old) (g.content old) ((not second), homes) new (changed (turn_standing (g.content old)) homes pages)
 
 module _ {D : Type 0} {g : Ghosts D} {second : Bool} {live homes : List ℕ} {old : D} {Given : Type 0} where
   pub leaves_weaker : (P Q : Image → Type 0) (new : D) → ((image : Image) → P image → Q image) → Leaves g second live homes old Given P new → Leaves g second live homes old Given Q new
@@ -49,7 +47,7 @@ module _ {D : Type 0} {g : Ghosts D} {second : Bool} {live homes : List ℕ} {ol
   }
 
   pub leaves_either : (pages : ℕ → List ℕ) (new : D) → Leaves g second live homes old Given (Before g second live homes old) new → Leaves g second live homes old Given (Either g second live homes old pages) new
-  leaves_either pages new = leaves_weaker (Before g second live homes old) (Either g second live homes old pages) new (as_either g second live homes old pages)
+  leaves_either pages new = leaves_weaker (Before g second live homes old) (Either g second live homes old pages) new (or_before in_turn (g.sector_count old) homes pages (g.content old))
 
 module _ {D : Type 0} {g : Ghosts D} {second : Bool} {live homes : List ℕ} {old : D} (Given : Type 0) (b : Begins g second live homes old)
     (staged : D) (stages : RunsOnDevice g (IsTurnSector (not second)) old staged) (stages_once : NamesOnce (IsTurnPart (not second) (length homes)) (g.asked old) (g.asked staged)) where
@@ -101,7 +99,7 @@ module _ {D : Type 0} {g : Ghosts D} {second : Bool} {live homes : List ℕ} {ol
       any_moment = λ keeps given. while_naming g second live old mid (p keeps) homes pages new (q keeps) (body keeps given);
       blocks = λ keeps given. inr (
         mid,
-        blocks_weaker g (IsTurnStaged second live) (Before g second live homes old) (Either g second live homes old pages) old mid (as_either g second live homes old pages) (staged_blocks g second live old mid (p keeps)),
+        blocks_weaker g (IsTurnStaged second live) (Before g second live homes old) (Either g second live homes old pages) old mid (or_before in_turn (g.sector_count old) homes pages (g.content old)) (staged_blocks g second live old mid (p keeps)),
         named_blocks g second live old mid (p keeps) homes pages new (q keeps) (body keeps given),
       );
     };
@@ -143,7 +141,7 @@ commit_failed g s was now homes old new from left (Err e) is leaves asks failed 
 -- A commit of no pages that ends, where there were live ones.
 pub emptied_so_far : {D : Type 0} (g : Ghosts D) (was now : TurnJournal) (old new : D) (r : Result (Unit {0}) DiskFault) → 0 < was.live.count
     → Leaves g was.second (live_homes was.live) [] old (Unit {0}) (Before g was.second (live_homes was.live) [] old) new
-    → (g.keeps_model new → OnOk r (IsTurnSettled g (g.sector_count old) (g.content old) now.second [] new (turn_standing (g.content old)))) → (IsErr r → g.failures old < g.failures new)
+    → (g.keeps_model new → OnOk r (IsSettled in_turn g (g.sector_count old) (g.content old) (now.second, []) new (turn_standing (g.content old)))) → (IsErr r → g.failures old < g.failures new)
     → OnOk r (g.failures new ≡ g.failures old) → OnOk r (live_homes now.live ≡ []) → (g.keeps_model new → OnOk r ((k : ℕ) → g.unsynced new k → ⊥))
     → (g.keeps_model new → OnOk r (map_count (turn_map (named_in (g.content new)) (g.content new)) ≡ 0)) → EmptiesNamed g was now old new r
 emptied_so_far g was now old new r some leaves done failed calm not_live synced emptied = record {

@@ -1,13 +1,13 @@
--- What a commit and a recovery leave, at every moment and at their end.
+-- What a commit changes, and layout 2: one journal, as it is between two commits.
 -- All or nothing over all pages at once: failure-atomic msync (Park, Kelly and Shen, EuroSys 2013).
-use Rattle.std.specs.Prelude.{ℕ, ◌≡◌, ◌⊎◌, false, List, [], ◌∷◌, Option, Some, None}
-use Rattle.disk_model.specs.Stop.{Image, NamesOnce}
-use Rattle.disk_model.specs.Moments.{LeavesNow, LeavesOnly}
+use Rattle.std.specs.Prelude.{ℕ, ◌≡◌, false, List, [], ◌∷◌, length, Option, Some, None}
+use Rattle.disk_model.specs.Stop.{NamesOnce}
 use Rattle.disk_model.specs.declared.sector_disk.SectorDisk.{Ghosts}
-use Rattle.sync_journal.specs.Layout.{IsJournalSector, IsOutside, IsMovedHome, IsOpened}
+use Rattle.sync_journal.specs.Layout.{IsJournalSector, IsOutside, IsRecovered, IsCommitted, IsMovedHome, IsOpened}
 use Rattle.sync_journal.specs.Gate.{is_open}
 use Rattle.sync_journal.specs.Map.{home_rank}
-use Rattle.sync_journal.specs.Standing.{standing_single, StandsForPages, IsOpenFor, IsBadSingle}
+use Rattle.sync_journal.specs.Standing.{standing_single, place_or_home, IsAskedIn, IsOpenFor, IsBadSingle}
+use Rattle.sync_journal.specs.Layouts.{Layout}
 use Rattle.disk_model.specs.Sectors.{part_of}
 
 -- sector i of a page: of page j where there is a place j, otherwise the old one
@@ -19,26 +19,7 @@ sector_or pages old i (Some j) = part_of (pages j) i
 unfoldable pub changed : (ℕ → ℕ → List ℕ) → List ℕ → (ℕ → List ℕ) → ℕ → ℕ → List ℕ
 changed before homes pages h i = sector_or pages (before h i) i (home_rank homes h)
 
--- the pages of before, or those of after
-abbrev pub StandsForEitherPages : (ℕ → ℕ → List ℕ) → (ℕ → ℕ → List ℕ) → Image → Type 0
-StandsForEitherPages before after image = StandsForPages before image ⊎ StandsForPages after image
-
--- An image that a stop may leave where the device held this content: what it stands for has `Stands`, its journal is
--- bad only where that of the content was, and nothing outside the gate, the journal and the homes is changed.
-pub record IsKept (sectors : ℕ) (content : Image) (Stands : Image → Type 0) (image : Image) : Type 0 where
-  pub stands : Stands image
-  pub journal : IsBadSingle sectors image → IsBadSingle sectors content
-  pub outside : (k : ℕ) → IsOutside sectors k → image k ≡ content k
-
--- An image that a stop may leave where the device held the old one, and that stands for the same home pages.
-abbrev pub HomesStandAs : ℕ → Image → Image → Type 0
-HomesStandAs sectors old image = IsKept sectors old (StandsForPages (standing_single old)) image
-
 module _ {D : Type 0} (g : Ghosts D) where
-  -- Every image that a stop at some moment from old to new might have left stands for the home pages of old.
-  abbrev pub KeepsHomes : D → D → Type 0
-  KeepsHomes old new = LeavesOnly g old new (HomesStandAs (g.sector_count old) (g.content old))
-
   -- The gate is closed, and nothing is unsynced but in map and body.
   pub record IsQuiet (d : D) : Type 0 where
     pub closed : is_open (g.content d) ≡ false
@@ -54,17 +35,24 @@ module _ {D : Type 0} (g : Ghosts D) where
   IsAtRest [] d = IsQuiet d
   IsAtRest (home ∷ homes) d = IsLive (home ∷ homes) d
 
-  -- The device is at rest again, and stands for these pages now and after every stop. Outside the gate, the journal and
-  -- the homes it holds this content.
-  pub record IsSettled (sectors : ℕ) (content : Image) (live : List ℕ) (new : D) (pages : ℕ → ℕ → List ℕ) : Type 0 where
-    pub rest : IsAtRest live new
-    pub stands : StandsForPages pages (g.content new)
-    pub outside : (k : ℕ) → IsOutside sectors k → g.content new k ≡ content k
-    pub left : LeavesNow g new (IsKept sectors content (StandsForPages pages))
-
   -- A commit of so many pages over these live homes asks, where there are any, once at most for the gate and for each sector that
   -- it copies from and to, and then once at most for the gate, the map and each sector of as many pages of the body.
   pub record AsksInTwo (live : List ℕ) (pages : ℕ) (old new : D) : Type 0 where
     pub between : ℕ → ℕ
     pub copies : NamesOnce (IsMovedHome live) (g.asked old) between
     pub opens : NamesOnce (IsOpened pages) between (g.asked new)
+
+-- Layout 2, of one journal, which is live with a list of homes.
+abbrev pub one_journal : Layout (List ℕ)
+one_journal = record {
+  standing = standing_single;
+  IsBad = IsBadSingle;
+  IsClosed = λ image. is_open image ≡ false;
+  IsOutside = λ image sectors k. IsOutside sectors k;
+  IsRecovered = λ image sectors k. IsRecovered sectors k;
+  IsAsked = IsAskedIn;
+  IsRest = λ g live d. IsAtRest g live d;
+  IsCommitted = IsCommitted;
+  AsksOnce = λ g live homes old new. AsksInTwo g live (length homes) old new;
+  stands_at = λ live h. place_or_home h (home_rank live h);
+}

@@ -5,8 +5,8 @@ use Rattle.std.specs.Prelude.{ℕ, ◌+◌, ◌-◌, ◌*◌, ◌/◌, ◌^◌, 
 use Rattle.sync_journal.specs.declared.store_journal.Journals.{Journals}
 use Rattle.sync_journal.specs.declared.store_journal.Journals.TheVariants.{Single, Paired}
 
--- What the layouts have in different sizes and places.
-pub record Layout : Type 0 where
+-- What layouts have in different sizes and places.
+pub record Sizes : Type 0 where
   -- how many sectors the journal map has
   pub map_sectors : ℕ
   -- the most pages of one commit: what the map has room for
@@ -16,9 +16,9 @@ pub record Layout : Type 0 where
   -- the first sector of the first home page
   pub homes : ℕ
 
--- the layout of stores before
-abbrev pub layout_1 : Layout
-layout_1 = record { map_sectors = 1; most = 127; body = 4; homes = 1020 }
+-- those of layout 1
+abbrev pub sizes_1 : Sizes
+sizes_1 = record { map_sectors = 1; most = 127; body = 4; homes = 1020 }
 
 -- the most pages of one commit
 abbrev pub page_limit : ℕ
@@ -48,32 +48,32 @@ first_body_sector = 11
 abbrev pub first_home_sector : ℕ
 first_home_sector = 8195
 
--- the layout of stores
-abbrev pub layout_2 : Layout
-layout_2 = record { map_sectors = map_sectors; most = page_limit; body = first_body_sector; homes = first_home_sector }
+-- those of layout 2
+abbrev pub sizes_2 : Sizes
+sizes_2 = record { map_sectors = map_sectors; most = page_limit; body = first_body_sector; homes = first_home_sector }
 
--- the layout from which an upgrade makes a store: of layout 3, with two journals in turn, from layout 2, and of that from layout 1
-abbrev pub layout_before : Journals → Layout
-layout_before Single = layout_1
-layout_before Paired = layout_2
+-- those of the layout from which an upgrade makes a store: of layout 3, with two journals in turn, from layout 2, and of that from layout 1
+abbrev pub sizes_before : Journals → Sizes
+sizes_before Single = sizes_1
+sizes_before Paired = sizes_2
 
 -- the first sector of page j of the journal body
-abbrev pub body_at : Layout → ℕ → ℕ
-body_at layout j = layout.body + 8 * j
+abbrev pub body_at : Sizes → ℕ → ℕ
+body_at sizes j = sizes.body + 8 * j
 
 abbrev pub body_sector : ℕ → ℕ
 body_sector j = first_body_sector + 8 * j
 
 -- the first sector of home page h
-abbrev pub home_at : Layout → ℕ → ℕ
-home_at layout h = layout.homes + 8 * h
+abbrev pub home_at : Sizes → ℕ → ℕ
+home_at sizes h = sizes.homes + 8 * h
 
 abbrev pub home_sector : ℕ → ℕ
 home_sector h = first_home_sector + 8 * h
 
 -- how many home pages a device of so many sectors has
-abbrev pub home_count_in : Layout → ℕ → ℕ
-home_count_in layout sectors = min ((sectors - layout.homes) / 8) home_limit
+abbrev pub home_count_in : Sizes → ℕ → ℕ
+home_count_in sizes sectors = min ((sectors - sizes.homes) / 8) home_limit
 
 abbrev pub home_count : ℕ → ℕ
 home_count sectors = min ((sectors - first_home_sector) / 8) home_limit
@@ -98,11 +98,11 @@ abbrev pub IsGate : ℕ → Type 0
 IsGate k = k ≡ gate_sector
 
 -- a sector of the map
-abbrev pub IsMapIn : Layout → ℕ → Type 0
-IsMapIn layout k = (map_sector ≤ k) × (k < map_sector + layout.map_sectors)
+abbrev pub IsMapIn : Sizes → ℕ → Type 0
+IsMapIn sizes k = (map_sector ≤ k) × (k < map_sector + sizes.map_sectors)
 
-abbrev pub IsGateOrMapIn : Layout → ℕ → Type 0
-IsGateOrMapIn layout k = IsGate k ⊎ IsMapIn layout k
+abbrev pub IsGateOrMapIn : Sizes → ℕ → Type 0
+IsGateOrMapIn sizes k = IsGate k ⊎ IsMapIn sizes k
 
 -- the gate and the sectors of these homes
 abbrev pub IsReplayed : List ℕ → ℕ → Type 0

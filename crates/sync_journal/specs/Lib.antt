@@ -1,4 +1,5 @@
 pub mod Layout
+pub mod Layouts
 pub mod Gate
 pub mod Map
 pub mod Standing

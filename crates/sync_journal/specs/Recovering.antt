@@ -1,25 +1,25 @@
 -- What a recovery comes to: of one journal, of two in turn, and of either.
-use Rattle.std.specs.Prelude.{ℕ, ◌<◌, ◌≡◌, false, [], Result, IfOk, OnOk, IsErrOf}
+use Rattle.std.specs.Prelude.{ℕ, ◌<◌, ◌≡◌, [], Result, IfOk, OnOk, IsErrOf}
 use Rattle.disk_model.specs.Stop.{Image}
 use Rattle.disk_model.specs.Moments.{LeavesOnly, Touches, AsksOnly, Nothing}
 use Rattle.disk_model.specs.declared.sector_disk.DiskFault.{DiskFault}
 use Rattle.disk_model.specs.declared.sector_disk.SectorDisk.{Ghosts}
-use Rattle.sync_journal.specs.Layout.{gate_sector, IsRecovered}
-use Rattle.sync_journal.specs.Gate.{is_open, closed_gate}
-use Rattle.sync_journal.specs.Map.{map_count, AreHomes}
+use Rattle.sync_journal.specs.Layout.{gate_sector}
+use Rattle.sync_journal.specs.Gate.{closed_gate}
+use Rattle.sync_journal.specs.Map.{AreHomes}
 use Rattle.sync_journal.specs.Runs.{RunsOnDevice}
-use Rattle.sync_journal.specs.Standing.{standing_single, IsBadSingle, IsAskedIn}
-use Rattle.sync_journal.specs.Commit.{HomesStandAs, IsSettled}
 use Rattle.sync_journal.specs.Journal.{live_homes}
-use Rattle.sync_journal.specs.Turns.{named_in, turn_home_count, turn_map, turn_standing, IsBadTurn, IsNamedFor, IsTurnAskedIn, IsTurnCommitted, IsTurnRecovered, IsTurnRest, IsTurnSettled, IsTurnUsed, TurnsStandAs}
+use Rattle.sync_journal.specs.Turns.{turn_home_count, IsNamedFor, IsTurnRest, IsTurnUsed, in_turn}
 use Rattle.sync_journal.specs.Blocks.{CommitsInBlocks, RecoversInBlocks}
-use Rattle.sync_journal.specs.Kinds.{journal_kind, store_live, store_standing, IsBadStore, IsStoreAsked, IsStoreClosed, IsStoreRecovered, IsStoreSettled, StoreStandsAs}
+use Rattle.sync_journal.specs.Kinds.{journal_kind, store_live, by_kind}
 use Rattle.sync_journal.specs.Steps.{BlamesJournal, MovesHome}
 use Rattle.sync_journal.specs.declared.faults.RecoverFault.{RecoverFault}
 use Rattle.sync_journal.specs.declared.faults.RecoverFault.TheVariants.{BadJournal}
 use Rattle.sync_journal.specs.declared.turns.TurnJournal.{TurnJournal}
 use Rattle.sync_journal.specs.declared.store_journal.Journals.{Journals}
 use Rattle.sync_journal.specs.declared.store_journal.Journals.TheVariants.{Paired}
+use Rattle.sync_journal.specs.Commit.{one_journal}
+use Rattle.sync_journal.specs.Layouts.{Layout, HomesStandAs, IsSettled}
 use Rattle.sync_journal.specs.declared.store_journal.StoreJournal.{StoreJournal}
 
 module _ {D : Type 0} (g : Ghosts D) where
@@ -30,59 +30,53 @@ module _ {D : Type 0} (g : Ghosts D) where
     -- and for what stood before an earlier stop, whose image the device holds.
     pub in_a_row : g.keeps_model new → ((k : ℕ) → g.unsynced old k → ⊥) → (first : Image) → StandsAs first (g.content old) → LeavesOnly g old new (StandsAs first)
 
-  -- A recovery, in the words of a layout:
-  pub record RecoversBy {T : Type 0} (StandsAs : Image → Image → Type 0) (Written Asked : ℕ → Type 0) (IsBad : Type 0) (IsClosed : Image → Type 0) (After : Type 0) (old new : D) (result : Result T RecoverFault) : Type 0 where
-    -- the device is at rest with no page live, stands for what it did, has nothing unsynced, and no page stands in its journal,
-    pub ok : g.keeps_model new → After
+  -- A recovery, after which the journal is in the state that the result tells:
+  pub record RecoversBy {S T : Type 0} (layout : Layout S) (state : T → S) (old new : D) (result : Result T RecoverFault) : Type 0 where
+    -- the device is at rest, stands for what it did, and has nothing unsynced; no page stands in a journal alone,
+    pub ok : g.keeps_model new → IfOk result (λ found. IsSettled layout g (g.sector_count old) (g.content old) (state found) new (layout.standing (g.content old)))
     pub synced : g.keeps_model new → OnOk result ((k : ℕ) → g.unsynced new k → ⊥)
-    pub emptied : g.keeps_model new → OnOk result (IsClosed (g.content new))
+    pub emptied : g.keeps_model new → OnOk result (layout.IsClosed (g.content new))
     -- as it stood for at every moment;
-    pub stays : StaysThrough StandsAs old new
+    pub stays : StaysThrough (HomesStandAs layout (g.sector_count old)) old new
     pub open stays use *
     -- gate and homes alone are written, and nothing where the journal is bad or no page stands in it;
-    pub run : RunsOnDevice g Written old new
+    pub run : RunsOnDevice g (layout.IsRecovered (g.content old) (g.sector_count old)) old new
     pub open run use *
-    pub bad_unwritten : g.keeps_model new → IsBad → Touches g Nothing old new
-    pub closed_unwritten : g.keeps_model new → IsClosed (g.content old) → Touches g Nothing old new
+    pub bad_unwritten : g.keeps_model new → layout.IsBad (g.sector_count old) (g.content old) → Touches g Nothing old new
+    pub closed_unwritten : g.keeps_model new → layout.IsClosed (g.content old) → Touches g Nothing old new
     -- what is looked at and copied alone is asked for;
-    pub asks : g.keeps_model new → AsksOnly g Asked old new
+    pub asks : g.keeps_model new → AsksOnly g (layout.IsAsked (g.content old)) old new
     -- or the device failed, or the journal is bad, and with a bad one there is no other end.
     pub blames : BlamesJournal g old new result
     pub open blames use *
-    pub good : g.keeps_model new → OnOk result (IsBad → ⊥)
-    pub bad : g.keeps_model new → IsErrOf result BadJournal → IsBad
+    pub good : g.keeps_model new → OnOk result (layout.IsBad (g.sector_count old) (g.content old) → ⊥)
+    pub bad : g.keeps_model new → IsErrOf result BadJournal → layout.IsBad (g.sector_count old) (g.content old)
 
   -- One journal is recovered:
   pub record RecoversOne (old new : D) (result : Result (Unit {0}) RecoverFault) : Type 0 where
-    pub recovers : RecoversBy (HomesStandAs (g.sector_count old)) (IsRecovered (g.sector_count old)) (IsAskedIn (g.content old))
-        (IsBadSingle (g.sector_count old) (g.content old)) (λ image. is_open image ≡ false)
-        (OnOk result (IsSettled g (g.sector_count old) (g.content old) [] new (standing_single (g.content old)))) old new result
+    pub recovers : RecoversBy one_journal (λ done. []) old new result
     pub open recovers use *
     -- its gate holds zeros where it was open.
     pub gate : g.keeps_model new → OnOk result (g.content new gate_sector ≡ closed_gate (g.content old))
 
   -- Two journals in turn are recovered:
   pub record RecoversInTurn (old new : D) (result : Result TurnJournal RecoverFault) : Type 0 where
-    pub recovers : RecoversBy (TurnsStandAs (g.sector_count old)) (IsTurnRecovered (g.sector_count old)) (IsTurnAskedIn (g.content old))
-        (IsBadTurn (g.sector_count old) (g.content old)) (λ image. map_count (turn_map (named_in image) image) ≡ 0)
-        (IfOk result (λ journal. IsTurnSettled g (g.sector_count old) (g.content old) journal.second [] new (turn_standing (g.content old)))) old new result
+    pub recovers : RecoversBy in_turn (λ journal. (journal.second, [])) old new result
     pub open recovers use *
     -- the journal that is returned has no live page,
     pub not_live : IfOk result (λ journal. live_homes journal.live ≡ [])
     -- and a stop may even spoil whole blocks of 4,096 bytes.
-    pub blocks : g.keeps_model new → RecoversInBlocks g (TurnsStandAs (g.sector_count old) (g.content old)) old new
+    pub blocks : g.keeps_model new → RecoversInBlocks g (HomesStandAs in_turn (g.sector_count old) (g.content old)) old new
 
   -- A store's journal is recovered, of either layout:
   pub record RecoversEither (journals : Journals) (old new : D) (result : Result StoreJournal RecoverFault) : Type 0 where
-    pub recovers : RecoversBy (StoreStandsAs (g.sector_count old)) (IsStoreRecovered (g.content old) (g.sector_count old)) (IsStoreAsked (g.content old))
-        (IsBadStore (g.sector_count old) (g.content old)) IsStoreClosed
-        (IfOk result (λ journal. IsStoreSettled g (g.sector_count old) (g.content old) journal new (store_standing (g.content old)))) old new result
+    pub recovers : RecoversBy by_kind (λ journal. journal) old new result
     pub open recovers use *
     -- the journal that is returned is of that layout and has no live page,
     pub kind : IfOk result (λ journal. journal_kind journal ≡ journals)
     pub not_live : IfOk result (λ journal. store_live journal ≡ [])
     -- and of two in turn a stop may even spoil whole blocks of 4,096 bytes.
-    pub blocks : g.keeps_model new → journals ≡ Paired → RecoversInBlocks g (StoreStandsAs (g.sector_count old) (g.content old)) old new
+    pub blocks : g.keeps_model new → journals ≡ Paired → RecoversInBlocks g (HomesStandAs by_kind (g.sector_count old) (g.content old)) old new
 
   -- The journal that the gate names is taken up:
   pub record IsNamedLive (old new : D) (journal : TurnJournal) : Type 0 where
@@ -95,15 +89,13 @@ module _ {D : Type 0} (g : Ghosts D) where
 
   -- What stands in the named journal alone is copied home, and the other one is named, which is empty:
   pub record EmptiesNamed (was now : TurnJournal) (old new : D) (result : Result (Unit {0}) DiskFault) : Type 0 where
-    pub home : MovesHome g (IsTurnCommitted was.second (live_homes was.live)) (λ k. (0 < was.live.count) × IsTurnUsed was.second (live_homes was.live) [] k)
-        (TurnsStandAs (g.sector_count old) (g.content old))
-        (IsTurnSettled g (g.sector_count old) (g.content old) now.second [] new (turn_standing (g.content old))) old new result
+    pub home : MovesHome g in_turn (now.second, []) (in_turn.IsCommitted (was.second, live_homes was.live)) (λ k. (0 < was.live.count) × IsTurnUsed was.second (live_homes was.live) [] k) old new result
     pub open home use *
     -- a stop may even spoil whole blocks of 4,096 bytes;
-    pub blocks : g.keeps_model new → CommitsInBlocks g was.second (live_homes was.live) (TurnsStandAs (g.sector_count old) (g.content old)) old new
+    pub blocks : g.keeps_model new → CommitsInBlocks g was.second (live_homes was.live) (HomesStandAs in_turn (g.sector_count old) (g.content old)) old new
     -- no page is live then and nothing unsynced, and the map of the journal that the gate names has none,
     pub not_live : OnOk result (live_homes now.live ≡ [])
     pub synced : g.keeps_model new → OnOk result ((k : ℕ) → g.unsynced new k → ⊥)
-    pub emptied : 0 < was.live.count → g.keeps_model new → OnOk result (map_count (turn_map (named_in (g.content new)) (g.content new)) ≡ 0)
+    pub emptied : 0 < was.live.count → g.keeps_model new → OnOk result (in_turn.IsClosed (g.content new))
     -- but nothing is done where none was live.
     pub idle : was.live.count ≡ 0 → new ≡ old

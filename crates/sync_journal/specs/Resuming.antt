@@ -8,8 +8,9 @@ use Rattle.sync_journal.specs.Layout.{IsRecovered}
 use Rattle.sync_journal.specs.Map.{AreHomes}
 use Rattle.sync_journal.specs.Journal.{live_homes}
 use Rattle.sync_journal.specs.Turns.{IsNamedFor}
-use Rattle.sync_journal.specs.Kinds.{kind_of, kind_home_count, journal_kind, store_live, store_standing, IsBadStore, IsStoreAsked, IsStoreClosed, IsStoreSettled, KeepsStore}
+use Rattle.sync_journal.specs.Kinds.{kind_of, kind_home_count, journal_kind, store_live, by_kind}
 use Rattle.sync_journal.specs.Runs.{RunsOnDevice}
+use Rattle.sync_journal.specs.Layouts.{IsSettled, KeepsHomes}
 use Rattle.sync_journal.specs.declared.faults.RecoverFault.{RecoverFault}
 use Rattle.sync_journal.specs.declared.faults.RecoverFault.TheVariants.{Device, BadJournal}
 use Rattle.sync_journal.specs.declared.store_journal.Journals.{Journals}
@@ -37,16 +38,16 @@ module _ {D : Type 0} (g : Ghosts D) where
     pub kind : journal_kind journal ≡ journals
     pub homes : AreHomes (kind_home_count journals (g.sector_count old)) (store_live journal)
     pub calm : g.failures new ≡ g.failures old
-    pub settled : g.keeps_model new → IsStoreSettled g (g.sector_count old) (g.content old) journal new (store_standing (g.content old))
+    pub settled : g.keeps_model new → IsSettled by_kind g (g.sector_count old) (g.content old) journal new (by_kind.standing (g.content old))
     pub synced : g.keeps_model new → (k : ℕ) → g.unsynced new k → ⊥
     pub named : g.keeps_model new → IsLiveAsNamed journal (g.content old)
-    pub good : g.keeps_model new → IsBadStore (g.sector_count old) (g.content old) → ⊥
+    pub good : g.keeps_model new → by_kind.IsBad (g.sector_count old) (g.content old) → ⊥
 
   -- `Device` comes only where the device failed, and `BadJournal` only where it didn't and the journal that the gate names is bad; nothing is written then.
   pub record IsResumeRefused (old new : D) (result : Result StoreJournal RecoverFault) : Type 0 where
     pub device : IsErrOf result Device → g.failures old < g.failures new
     pub still : IsErrOf result BadJournal → g.failures new ≡ g.failures old
-    pub bad : g.keeps_model new → IsErrOf result BadJournal → IsBadStore (g.sector_count old) (g.content old)
+    pub bad : g.keeps_model new → IsErrOf result BadJournal → by_kind.IsBad (g.sector_count old) (g.content old)
     pub unwritten : g.keeps_model new → IsErrOf result BadJournal → Touches g Nothing old new
 
   -- The journal of a store is taken up:
@@ -54,12 +55,12 @@ module _ {D : Type 0} (g : Ghosts D) where
     -- it is the one that stands there,
     pub ok : IfOk result (λ journal. IsJournalResumed journals old new journal)
     -- and every image of a stop at any moment of the call stands for the same pages;
-    pub any_moment : g.keeps_model new → KeepsStore g old new
+    pub any_moment : g.keeps_model new → KeepsHomes by_kind g old new
     -- of one journal gate and homes alone are written, of two in turn nothing, nor where the journal is bad or no page stands in it;
     pub run : RunsOnDevice g (IsKindResumed journals (g.sector_count old)) old new
-    pub bad_unwritten : g.keeps_model new → IsBadStore (g.sector_count old) (g.content old) → Touches g Nothing old new
-    pub closed_unwritten : g.keeps_model new → IsStoreClosed (g.content old) → Touches g Nothing old new
+    pub bad_unwritten : g.keeps_model new → by_kind.IsBad (g.sector_count old) (g.content old) → Touches g Nothing old new
+    pub closed_unwritten : g.keeps_model new → by_kind.IsClosed (g.content old) → Touches g Nothing old new
     -- what is looked at and copied alone is asked for;
-    pub asks : g.keeps_model new → AsksOnly g (IsStoreAsked (g.content old)) old new
+    pub asks : g.keeps_model new → AsksOnly g (by_kind.IsAsked (g.content old)) old new
     -- or a fault is told, for its cause.
     pub err : IsResumeRefused old new result

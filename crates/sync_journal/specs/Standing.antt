@@ -2,23 +2,23 @@
 use Rattle.std.specs.Prelude.{ℕ, ◌+◌, ◌*◌, ◌<◌, ◌≡◌, ◌⊎◌, Bool, true, List, length, slice_index, Option, Some, None, if◌then◌else◌}
 use Rattle.disk_model.specs.Sectors.{part_of, joined}
 use Rattle.disk_model.specs.Stop.{Image}
-use Rattle.sync_journal.specs.Layout.{Layout, layout_2, map_sector, body_at, home_at, home_count_in, body_sector, home_sector, IsGate, IsStaged, IsPageSector}
+use Rattle.sync_journal.specs.Layout.{Sizes, sizes_2, map_sector, body_at, home_at, home_count_in, body_sector, home_sector, IsGate, IsStaged, IsPageSector}
 use Rattle.sync_journal.specs.Gate.{is_open}
 use Rattle.sync_journal.specs.Map.{map_count, home_in, place_among, home_rank, IsBadMap}
 
-module _ (layout : Layout) where
+module _ (sizes : Sizes) where
   -- where home page h stands if the map names it at this place
   abbrev pub place_or_home_in : ℕ → Option ℕ → ℕ
-  place_or_home_in h None = home_at layout h
-  place_or_home_in h (Some j) = body_at layout j
+  place_or_home_in h None = home_at sizes h
+  place_or_home_in h (Some j) = body_at sizes j
 
   -- the journal map of an image
   abbrev pub map_in : Image → List ℕ
-  map_in image = joined (λ i. image (map_sector + i)) layout.map_sectors
+  map_in image = joined (λ i. image (map_sector + i)) sizes.map_sectors
 
   -- where home page h stands under this gate and this map
   unfoldable pub standing_under : Bool → List ℕ → ℕ → ℕ
-  standing_under gate map h = if gate then place_or_home_in h (place_among (home_in map) h (map_count map)) else home_at layout h
+  standing_under gate map h = if gate then place_or_home_in h (place_among (home_in map) h (map_count map)) else home_at sizes h
 
   -- sector i of the page that stands for home page h
   abbrev pub standing_in : Image → ℕ → ℕ → List ℕ
@@ -27,7 +27,7 @@ module _ (layout : Layout) where
   -- an open gate before a map that no commit writes
   pub record IsBadJournalIn (sectors : ℕ) (image : Image) : Type 0 where
     pub gate : is_open image ≡ true
-    pub map : IsBadMap layout.most (home_count_in layout sectors) (map_in image)
+    pub map : IsBadMap sizes.most (home_count_in sizes sectors) (map_in image)
 
   -- The gate is open before a map that names these homes.
   pub record IsOpenIn (homes : List ℕ) (image : Image) : Type 0 where
@@ -37,23 +37,19 @@ module _ (layout : Layout) where
 
 -- The same of layout 2.
 abbrev pub place_or_home : ℕ → Option ℕ → ℕ
-place_or_home h place = place_or_home_in layout_2 h place
+place_or_home h place = place_or_home_in sizes_2 h place
 
 abbrev pub map_of : Image → List ℕ
-map_of image = map_in layout_2 image
+map_of image = map_in sizes_2 image
 
 abbrev pub standing_single : Image → ℕ → ℕ → List ℕ
-standing_single image h i = standing_in layout_2 image h i
+standing_single image h i = standing_in sizes_2 image h i
 
 abbrev pub IsBadSingle : ℕ → Image → Type 0
-IsBadSingle sectors image = IsBadJournalIn layout_2 sectors image
+IsBadSingle sectors image = IsBadJournalIn sizes_2 sectors image
 
 abbrev pub IsOpenFor : List ℕ → Image → Type 0
-IsOpenFor homes image = IsOpenIn layout_2 homes image
-
--- The image stands for these pages, of eight sectors each.
-pub record StandsForPages (pages : ℕ → ℕ → List ℕ) (image : Image) : Type 0 where
-  pub each : (h i : ℕ) → i < 8 → standing_single image h i ≡ pages h i
+IsOpenFor homes image = IsOpenIn sizes_2 homes image
 
 -- what the first n of these homes are copied from and to, where a body begins at one sector and the homes at another, but for
 -- those that the other list names

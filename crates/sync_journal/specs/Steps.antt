@@ -1,8 +1,8 @@
 -- What the steps of a commit and of a recovery come to on a device, in whichever layout.
 use Rattle.std.specs.Prelude.{ℕ, List, ◌+◌, ◌*◌, ◌^◌, ◌<◌, ◌≤◌, ◌≡◌, Result, OnOk, IsErr, IsErrOf}
 use Rattle.disk_model.specs.Sectors.{joined}
-use Rattle.disk_model.specs.Stop.{Image, HasCause, Names, NamesOnce}
-use Rattle.disk_model.specs.Moments.{LeavesOnly, Nothing}
+use Rattle.disk_model.specs.Stop.{HasCause, Names, NamesOnce}
+use Rattle.disk_model.specs.Moments.{Nothing}
 use Rattle.disk_model.specs.declared.sector_disk.DiskFault.{DiskFault}
 use Rattle.disk_model.specs.declared.sector_disk.SectorDisk.{Ghosts}
 use Rattle.sync_journal.specs.declared.faults.CommitFault.{CommitFault}
@@ -13,6 +13,7 @@ use Rattle.sync_journal.specs.Layout.{page_limit, homes_from, IsPageSector}
 use Rattle.sync_journal.specs.Map.{AreHomes}
 use Rattle.sync_journal.specs.Runs.{RunsOnDevice}
 use Rattle.sync_journal.specs.Source.{Asks, HasCauses}
+use Rattle.sync_journal.specs.Layouts.{Layout, IsSettled, KeepsHomes}
 
 module _ {D : Type 0} (g : Ghosts D) where
   -- A device is read:
@@ -32,8 +33,8 @@ module _ {D : Type 0} (g : Ghosts D) where
     pub open reads use *
     pub asks : Names (IsPageSector first) (g.asked old) (g.asked new)
 
-  -- The page that stands for a home is read:
-  pub record SeesHome (bytes : List ℕ) (Asked : ℕ → Type 0) (Rest : Type 0) (old new : D) (to : List ℕ) (result : Result (Unit {0}) DiskFault) : Type 0 where
+  -- A page is read:
+  pub record SeesPage (bytes : List ℕ) (first : ℕ) (Rest : Type 0) (old new : D) (to : List ℕ) (result : Result (Unit {0}) DiskFault) : Type 0 where
     -- it is that page,
     pub page : g.keeps_model new → OnOk result (to ≡ bytes)
     -- the journal stands as it did,
@@ -41,7 +42,11 @@ module _ {D : Type 0} (g : Ghosts D) where
     -- and the device is read alone, each sector in which that page stands once.
     pub reads : ReadsOnly old new result
     pub open reads use *
-    pub asks : Names Asked (g.asked old) (g.asked new)
+    pub asks : Names (IsPageSector first) (g.asked old) (g.asked new)
+
+  -- The page that stands for a home, under a journal in this state:
+  abbrev pub SeesHome : {J : Type 0} → Layout J → J → ℕ → D → D → List ℕ → Result (Unit {0}) DiskFault → Type 0
+  SeesHome layout state home old new to result = SeesPage (joined (layout.standing (g.content old) home) 8) (layout.stands_at state home) (layout.IsRest g state new) old new to result
 
   -- Sectors are written:
   pub record WritesInto {T E : Type 0} (Written Asked : ℕ → Type 0) (After : Type 0) (old new : D) (result : Result T E) : Type 0 where
@@ -70,13 +75,13 @@ module _ {D : Type 0} (g : Ghosts D) where
     pub low : first < 2 ^ 32
     pub are : AreHomes (homes_from first (g.sector_count disk)) homes
 
-  -- What stands in a journal alone is copied home:
-  pub record MovesHome {T E : Type 0} (Written Asked : ℕ → Type 0) (Stays : Image → Type 0) (After : Type 0) (old new : D) (result : Result T E) : Type 0 where
-    -- the device is at rest then, with homes in which all of it stands, or the device failed;
-    pub writes : WritesInto Written Asked After old new result
+  -- What stands in a journal alone is copied home, and the journal is in this state then:
+  pub record MovesHome {J T E : Type 0} (layout : Layout J) (after : J) (Written Asked : ℕ → Type 0) (old new : D) (result : Result T E) : Type 0 where
+    -- the device is at rest under it, with homes in which all of it stands, or the device failed;
+    pub writes : WritesInto Written Asked (IsSettled layout g (g.sector_count old) (g.content old) after new (layout.standing (g.content old))) old new result
     pub open writes use *
     -- and every image of a stop at any moment of the call stands for the same pages.
-    pub any_moment : g.keeps_model new → LeavesOnly g old new Stays
+    pub any_moment : g.keeps_model new → KeepsHomes layout g old new
 
   -- A fault of a recovery has its cause:
   pub record BlamesJournal {T : Type 0} (old new : D) (result : Result T RecoverFault) : Type 0 where

@@ -2,8 +2,9 @@
 -- Failure-atomic msync asks of recovery that it may be stopped and begun again (Park, Kelly and Shen, EuroSys 2013).
 use Rattle.std.specs.Prelude.{ℕ, zero, suc, ◌≡◌}
 use Rattle.disk_model.specs.Stop.{Image}
+use Rattle.sync_journal.specs.Commit.{one_journal}
+use Rattle.sync_journal.specs.Layouts.{KeepsHomes}
 use Rattle.disk_model.specs.declared.sector_disk.SectorDisk.{Ghosts}
-use Rattle.sync_journal.specs.Commit.{KeepsHomes}
 
 module _ {D : Type 0} (g : Ghosts D) where
   -- A recovery, from old to new, of a device of so many sectors that came up with this image, all of it synced.
@@ -12,7 +13,7 @@ module _ {D : Type 0} (g : Ghosts D) where
     pub held : g.content old ≡ image
     pub synced : (k : ℕ) → g.unsynced old k → ⊥
     pub keeps : g.keeps_model new
-    pub homes : KeepsHomes g old new
+    pub homes : KeepsHomes one_journal g old new
 
   -- The last image is one that n stops in a row may leave: the first of them within a recovery of the first image, and
   -- each other one within a recovery of what the stop before it left.

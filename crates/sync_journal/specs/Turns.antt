@@ -2,14 +2,14 @@
 -- The format is our own. What it has to keep is failure-atomic msync (Park, Kelly and Shen, "Failure-Atomic msync()", EuroSys 2013).
 use Rattle.std.specs.Prelude.{ℕ, ◌+◌, ◌-◌, ◌*◌, ◌/◌, ◌<◌, ◌≤◌, ◌⊎◌, ◌≡◌, Bool, true, false, not, List, [], length, slice_index, Option, Some, None, min}
 use Rattle.disk_model.specs.Sectors.{part_of, joined}
-use Rattle.disk_model.specs.Stop.{Image}
-use Rattle.disk_model.specs.Moments.{LeavesNow, LeavesOnly}
+use Rattle.disk_model.specs.Stop.{Image, NamesOnce}
 use Rattle.disk_model.specs.declared.sector_disk.SectorDisk.{Ghosts}
 use Rattle.sync_journal.specs.Layout.{page_limit, home_limit, IsPageSector, IsHomeFrom}
 use Rattle.sync_journal.specs.Standing.{IsCopyFrom, AreCopiedFrom}
 use Rattle.sync_journal.specs.Gate.{is_open_sector}
 use Rattle.sync_journal.specs.Map.{map_count, home_in, place_among, home_rank, IsBadMap}
 use Rattle.sync_journal.specs.Journal.{live_homes}
+use Rattle.sync_journal.specs.Layouts.{Layout}
 use Rattle.sync_journal.specs.declared.turns.TurnJournal.{TurnJournal}
 
 -- the gate, alone in its block of 4,096 bytes: the bytes `GATEOPEN` 64 times name the second journal, any others the first
@@ -128,24 +128,6 @@ IsTurnAskedIn image k = IsTurnGate k ⊎ (IsPageSector (start_of (named_in image
 abbrev pub IsTurnRecovered : ℕ → ℕ → Type 0
 IsTurnRecovered sectors k = (turn_gate ≤ k) × (k < turn_home (turn_home_count sectors))
 
--- The image stands for these pages, of eight sectors each.
-pub record TurnStandsFor (pages : ℕ → ℕ → List ℕ) (image : Image) : Type 0 where
-  pub each : (h i : ℕ) → i < 8 → turn_standing image h i ≡ pages h i
-
-abbrev pub TurnStandsForEither : (ℕ → ℕ → List ℕ) → (ℕ → ℕ → List ℕ) → Image → Type 0
-TurnStandsForEither before after image = TurnStandsFor before image ⊎ TurnStandsFor after image
-
--- An image that a stop may leave where the device held this content: what it stands for has `Stands`, its journal is
--- bad only where that of the content was, and nothing outside the gate, the journals and the homes is changed.
-pub record IsTurnKept (sectors : ℕ) (content : Image) (Stands : Image → Type 0) (image : Image) : Type 0 where
-  pub stands : Stands image
-  pub journal : IsBadTurn sectors image → IsBadTurn sectors content
-  pub outside : (k : ℕ) → IsTurnOutside sectors k → image k ≡ content k
-
--- An image that a stop may leave where the device held the old one, and that stands for the same home pages.
-abbrev pub TurnsStandAs : ℕ → Image → Image → Type 0
-TurnsStandAs sectors old image = IsTurnKept sectors old (TurnStandsFor (turn_standing old)) image
-
 -- A journal's body holds the first n of these pages.
 abbrev pub HoldsJournal : Bool → ℕ → (ℕ → List ℕ) → Image → Type 0
 HoldsJournal second n pages image = (j i : ℕ) → j < n → i < 8 → image (turn_body second j + i) ≡ part_of (pages j) i
@@ -162,10 +144,6 @@ pub record IsNamedFor (journal : TurnJournal) (image : Image) : Type 0 where
   pub each : (j : ℕ) → j < journal.live.count → home_in (turn_map (named_in image) image) j ≡ slice_index (live_homes journal.live) j
 
 module _ {D : Type 0} (g : Ghosts D) where
-  -- Every image that a stop at some moment from old to new might have left stands for the home pages of old.
-  abbrev pub KeepsTurns : D → D → Type 0
-  KeepsTurns old new = LeavesOnly g old new (TurnsStandAs (g.sector_count old) (g.content old))
-
   -- What the device holds between two commits of a journal with these live homes: the gate names the journal, whose map is
   -- good and names them at their places; every other home page stands in its home; and nothing is unsynced but in the other
   -- journal.
@@ -176,10 +154,17 @@ module _ {D : Type 0} (g : Ghosts D) where
     pub home : (h i : ℕ) → i < 8 → home_rank live h ≡ None → stands_under second (g.content d) h i ≡ g.content d (turn_home h + i)
     pub synced : (k : ℕ) → g.unsynced d k → IsTurnSector (not second) k
 
-  -- The device is at rest again, and stands for these pages now and after every stop. Outside the gate, the journals and
-  -- the homes it holds this content.
-  pub record IsTurnSettled (sectors : ℕ) (content : Image) (second : Bool) (live : List ℕ) (new : D) (pages : ℕ → ℕ → List ℕ) : Type 0 where
-    pub rest : IsTurnRest second live new
-    pub stands : TurnStandsFor pages (g.content new)
-    pub outside : (k : ℕ) → IsTurnOutside sectors k → g.content new k ≡ content k
-    pub left : LeavesNow g new (IsTurnKept sectors content (TurnStandsFor pages))
+-- Layout 3, of which the gate names a journal that is live with a list of homes.
+abbrev pub in_turn : Layout (Bool × List ℕ)
+in_turn = record {
+  standing = turn_standing;
+  IsBad = IsBadTurn;
+  IsClosed = λ image. map_count (turn_map (named_in image) image) ≡ 0;
+  IsOutside = λ image sectors k. IsTurnOutside sectors k;
+  IsRecovered = λ image sectors k. IsTurnRecovered sectors k;
+  IsAsked = IsTurnAskedIn;
+  IsRest = λ g named d. IsTurnRest g named.0 named.1 d;
+  IsCommitted = λ named. IsTurnCommitted named.0 named.1;
+  AsksOnce = λ g named homes old new. NamesOnce (IsTurnUsed named.0 named.1 homes) (g.asked old) (g.asked new);
+  stands_at = λ named h. turn_stands named.0 h (home_rank named.1 h);
+}

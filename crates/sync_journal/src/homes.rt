@@ -3,9 +3,9 @@ ghost use Rattle.std.specs.Prelude.{◌≡◌, ◌<◌, ◌≤◌, ◌⊎◌, �
 ghost use Rattle.sync_journal.specs.Layout.{gate_sector, home_count, homes_from, IsPageSector, IsHomeFrom, IsReplayed, IsFinished, first_home_sector};
 ghost use Rattle.sync_journal.specs.Gate.{closed_sector};
 ghost use Rattle.sync_journal.specs.Map.{AreHomes, home_rank};
-ghost use Rattle.sync_journal.specs.Standing.{IsOpenFor, IsCopyFrom, AreCopiedFrom, standing_single};
-ghost use Rattle.sync_journal.specs.Commit.{IsSettled, HomesStandAs};
+ghost use Rattle.sync_journal.specs.Standing.{IsOpenFor, IsCopyFrom, AreCopiedFrom};
 ghost use Rattle.sync_journal.specs.Steps.{IsSyncedStore, MayCopyHome, WritesInto, SyncsInto, MovesHome};
+ghost use Rattle.sync_journal.specs.Commit.{one_journal};
 
 use crate::commits::place;
 use crate::gate::close_gate;
@@ -18,8 +18,7 @@ pub(crate) fn replay<D: SectorDisk>(disk: &mut D, homes: &[u32]) -> Result<(), D
     requires on { IsSyncedStore D.SectorDisk first_home_sector disk.old }
     requires homes { AreHomes (home_count (D.sector_count disk.old)) homes.now }
     requires opened { D.keeps_model disk.old → IsOpenFor homes.now (D.content disk.old) }
-    ensures home { MovesHome D.SectorDisk (IsReplayed homes.now) (IsFinished homes.now) (HomesStandAs (D.sector_count disk.old) (D.content disk.old))
-        (IsSettled D.SectorDisk (D.sector_count disk.old) (D.content disk.old) [] disk.new (standing_single (D.content disk.old))) disk.old disk.new result }
+    ensures home { MovesHome D.SectorDisk one_journal [] (IsReplayed homes.now) (IsFinished homes.now) disk.old disk.new result }
     ensures zeros { D.keeps_model disk.new → OnOk result (D.content disk.new gate_sector ≡ closed_sector) }
     ensures all_synced { D.keeps_model disk.new → OnOk result ((k : ℕ) → D.unsynced disk.new k → ⊥) }
 {

@@ -1,11 +1,11 @@
 //! The journal of a store of the layout before, which is only read.
 ghost use Rattle.std.specs.Prelude.{◌≡◌, ◌<◌, ◌≤◌, ◌+◌, ◌*◌, ◌⊎◌};
 ghost use Rattle.disk_model.specs.Sectors.{joined};
-ghost use Rattle.sync_journal.specs.Layout.{layout_1, layout_2, layout_before, home_at, home_count_in, IsPageSector};
+ghost use Rattle.sync_journal.specs.Layout.{sizes_1, sizes_2, sizes_before, home_at, home_count_in};
 ghost use Rattle.sync_journal.specs.Map.{home_rank};
 ghost use Rattle.sync_journal.specs.OldMaps.{ReadsHomes};
 ghost use Rattle.sync_journal.specs.Standing.{standing_in, place_or_home_in};
-ghost use Rattle.sync_journal.specs.Steps.{SeesHome};
+ghost use Rattle.sync_journal.specs.Steps.{SeesPage};
 
 use crate::commits::place;
 use crate::faults::RecoverFault;
@@ -27,7 +27,7 @@ const OLD_PAGE_LIMIT: usize = 127;
 
 /// The number of home pages of a device of so many sectors with layout 1.
 pub fn old_home_count(sectors: u64) -> u64
-    ensures { result ≡ home_count_in layout_1 sectors }
+    ensures { result ≡ home_count_in sizes_1 sectors }
 {
     (sectors.saturating_sub(OLD_FIRST_HOME) / PAGE_SECTORS).min(MAX_HOMES)
 }
@@ -42,7 +42,7 @@ pub struct OldJournal {
     pub(crate) homes: [u32; PAGE_LIMIT],
     /// How many they are: none where the gate is closed.
     pub(crate) count: usize,
-    ghost within: { count ≤ (layout_before journals).most },
+    ghost within: { count ≤ (sizes_before journals).most },
 }
 
 impl OldJournal {
@@ -55,7 +55,7 @@ impl OldJournal {
     /// `BadJournal` comes exactly where the gate is open and the map names more pages than it has room for, a home that the
     /// device hasn't or a home twice, unless the device fails first. `Device` comes exactly where the device failed.
     pub fn find<D: SectorDisk>(disk: &mut D, journals: Journals) -> Result<OldJournal, RecoverFault>
-        requires { (layout_before journals).homes ≤ D.sector_count disk.old }
+        requires { (sizes_before journals).homes ≤ D.sector_count disk.old }
         ensures { FindsBefore D.SectorDisk journals disk.old disk.new result }
     {
         let mut homes = [0; PAGE_LIMIT];
@@ -86,19 +86,19 @@ impl OldJournal {
         home: u32,
         to: &mut [u8; 4096],
     ) -> Result<(), DiskFault>
-        requires home { home < home_count_in (layout_before self.now.journals) (D.sector_count disk.old) }
-        requires found { D.keeps_model disk.old → StandsAsListed (layout_before self.now.journals) (old_homes self.now) (D.content disk.old) }
-        ensures { SeesHome D.SectorDisk (joined (standing_in (layout_before self.now.journals) (D.content disk.old) home) 8)
-            (IsPageSector (place_or_home_in (layout_before self.now.journals) home (home_rank (old_homes self.now) home)))
-            (StandsAsListed (layout_before self.now.journals) (old_homes self.now) (D.content disk.new)) disk.old disk.new to.new result }
+        requires home { home < home_count_in (sizes_before self.now.journals) (D.sector_count disk.old) }
+        requires found { D.keeps_model disk.old → StandsAsListed (sizes_before self.now.journals) (old_homes self.now) (D.content disk.old) }
+        ensures { SeesPage D.SectorDisk (joined (standing_in (sizes_before self.now.journals) (D.content disk.old) home) 8)
+            (place_or_home_in (sizes_before self.now.journals) home (home_rank (old_homes self.now) home))
+            (StandsAsListed (sizes_before self.now.journals) (old_homes self.now) (D.content disk.new)) disk.old disk.new to.new result }
     {
         read_page(disk, self.stands_at(home), to)
     }
 
     // The first sector of the page that stands for a home.
     fn stands_at(&self, home: u32) -> u64
-        ensures at { result ≡ place_or_home_in (layout_before self.now.journals) home (home_rank (old_homes self.now) home) }
-        ensures inside { (result + 8 ≤ (layout_before self.now.journals).homes) ⊎ (result ≡ home_at (layout_before self.now.journals) home) }
+        ensures at { result ≡ place_or_home_in (sizes_before self.now.journals) home (home_rank (old_homes self.now) home) }
+        ensures inside { (result + 8 ≤ (sizes_before self.now.journals).homes) ⊎ (result ≡ home_at (sizes_before self.now.journals) home) }
     {
         match place(&self.homes[..self.count], home) {
             Some(j) => body_before(self.journals) + PAGE_SECTORS * j as u64,
@@ -109,8 +109,8 @@ impl OldJournal {
 
 // The first sector of the body of the layout before.
 fn body_before(journals: Journals) -> u64
-    ensures is { result ≡ (layout_before journals).body }
-    ensures after { result + 8 * (layout_before journals).most ≤ (layout_before journals).homes }
+    ensures is { result ≡ (sizes_before journals).body }
+    ensures after { result + 8 * (sizes_before journals).most ≤ (sizes_before journals).homes }
     ensures small { result ≤ 11 }
 {
     match journals {
@@ -121,7 +121,7 @@ fn body_before(journals: Journals) -> u64
 
 // The first sector of the first home page of the layout before.
 fn homes_before(journals: Journals) -> u64
-    ensures is { result ≡ (layout_before journals).homes }
+    ensures is { result ≡ (sizes_before journals).homes }
     ensures small { result ≤ 8195 }
 {
     match journals {
@@ -137,8 +137,8 @@ fn read_map<D: SectorDisk>(
     journals: Journals,
     homes: &mut [u32; PAGE_LIMIT],
 ) -> Result<Option<usize>, DiskFault>
-    requires { (layout_before journals).homes ≤ D.sector_count disk.old }
-    ensures { ReadsHomes D.SectorDisk (layout_before journals) disk.old disk.new homes.new result }
+    requires { (sizes_before journals).homes ≤ D.sector_count disk.old }
+    ensures { ReadsHomes D.SectorDisk (sizes_before journals) disk.old disk.new homes.new result }
 {
     match journals {
         Journals::Single => read_map_of_1(disk, homes),
@@ -151,8 +151,8 @@ fn read_map_of_1<D: SectorDisk>(
     disk: &mut D,
     homes: &mut [u32; PAGE_LIMIT],
 ) -> Result<Option<usize>, DiskFault>
-    requires { layout_1.homes ≤ D.sector_count disk.old }
-    ensures { ReadsHomes D.SectorDisk layout_1 disk.old disk.new homes.new result }
+    requires { sizes_1.homes ≤ D.sector_count disk.old }
+    ensures { ReadsHomes D.SectorDisk sizes_1 disk.old disk.new homes.new result }
 {
     let mut map = [0; 512];
     disk.read(MAP, &mut map)?;
@@ -169,8 +169,8 @@ fn read_map_of_2<D: SectorDisk>(
     disk: &mut D,
     homes: &mut [u32; PAGE_LIMIT],
 ) -> Result<Option<usize>, DiskFault>
-    requires { layout_2.homes ≤ D.sector_count disk.old }
-    ensures { ReadsHomes D.SectorDisk layout_2 disk.old disk.new homes.new result }
+    requires { sizes_2.homes ≤ D.sector_count disk.old }
+    ensures { ReadsHomes D.SectorDisk sizes_2 disk.old disk.new homes.new result }
 {
     let mut map = [0; 4096];
     read_page(disk, MAP, &mut map)?;

@@ -5,10 +5,11 @@ ghost use Rattle.disk_model.specs.Moments.{AsksOnly};
 ghost use Rattle.sync_journal.specs.Layout.{first_home_sector};
 ghost use Rattle.sync_journal.specs.Recovery.{Finds, GivesHomes};
 ghost use Rattle.sync_journal.specs.Standing.{IsAskedIn};
-ghost use Rattle.sync_journal.specs.Commit.{HomesStandAs};
 ghost use Rattle.sync_journal.specs.Stops.{LeftByRecoveries};
 ghost use Rattle.sync_journal.specs.Recovering.{RecoversOne};
 ghost use Rattle.sync_journal.specs.Steps.{IsSyncedStore, LooksOnly};
+ghost use Rattle.sync_journal.specs.Layouts.{HomesStandAs};
+ghost use Rattle.sync_journal.specs.Commit.{one_journal};
 
 use crate::faults::RecoverFault;
 use crate::gate::is_open_gate;
@@ -36,7 +37,7 @@ pub fn recover<D: SectorDisk>(disk: &mut D) -> Result<(), RecoverFault>
 /// It does nothing: its contract is a law. Whatever image any number of stops in a row leave, each within a recovery of
 /// what the one before left, stands for the home pages of the first image.
 pub fn stops_in_a_row<D: SectorDisk>(_disk: &D)
-    ensures { (sectors n : ℕ) (first last : Image) → LeftByRecoveries D.SectorDisk sectors n first last → HomesStandAs sectors first last }
+    ensures { (sectors n : ℕ) (first last : Image) → LeftByRecoveries D.SectorDisk sectors n first last → HomesStandAs one_journal sectors first last }
 {}
 
 // Recovers a device that has nothing unsynced.

@@ -1,7 +1,5 @@
 //! The journal of a store of either layout.
 ghost use Rattle.std.specs.Prelude.{◌≡◌, ◌<◌, ◌≤◌, ℕ, length};
-ghost use Rattle.disk_model.specs.Sectors.{joined};
-ghost use Rattle.sync_journal.specs.Layout.{IsPageSector};
 ghost use Rattle.sync_journal.specs.Map.{AreHomes};
 
 use crate::faults::{CommitFault, RecoverFault};
@@ -30,7 +28,7 @@ pub enum StoreJournal {
 }
 
 impl StoreJournal {
-    ghost use Rattle.sync_journal.specs.Kinds.{kind_of, kind_homes, kind_home_count, store_standing, journal_kind, journal_stands, store_live, IsStoreRest};
+    ghost use Rattle.sync_journal.specs.Kinds.{kind_of, kind_homes, kind_home_count, journal_kind, store_live, by_kind, IsStoreRest};
     ghost use Rattle.sync_journal.specs.Steps.{SeesHome};
     ghost use Rattle.sync_journal.specs.Committing.{CommitsEither};
     ghost use Rattle.sync_journal.specs.Recovering.{RecoversEither};
@@ -122,8 +120,7 @@ impl StoreJournal {
         requires room { kind_homes (journal_kind self.now) ≤ D.sector_count disk.old }
         requires home { home < kind_home_count (journal_kind self.now) (D.sector_count disk.old) }
         requires rest { D.keeps_model disk.old → IsStoreRest D.SectorDisk self.now disk.old }
-        ensures { SeesHome D.SectorDisk (joined (store_standing (D.content disk.old) home) 8) (IsPageSector (journal_stands self.now home))
-            (IsStoreRest D.SectorDisk self.now disk.new) disk.old disk.new to.new result }
+        ensures { SeesHome D.SectorDisk by_kind self.now home disk.old disk.new to.new result }
     {
         match self {
             StoreJournal::One(journal) => journal.read(disk, home, to),

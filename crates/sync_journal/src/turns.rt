@@ -1,12 +1,10 @@
 //! Two journals in turn: layout 3.
 ghost use Rattle.std.specs.Prelude.{◌≡◌, ◌<◌, ◌≤◌, ◌⊎◌, ◌+◌, ℕ, [], length, None, IfOk, IsErrOf};
 ghost use Rattle.disk_model.specs.Moments.{AsksOnly};
-ghost use Rattle.disk_model.specs.Sectors.{joined};
-ghost use Rattle.sync_journal.specs.Layout.{IsPageSector};
 ghost use Rattle.sync_journal.specs.Gate.{is_open_sector};
 ghost use Rattle.sync_journal.specs.Map.{AreHomes, map_bytes, home_rank};
 ghost use Rattle.sync_journal.specs.Journal.{live_homes};
-ghost use Rattle.sync_journal.specs.Turns.{turn_homes, start_of, turn_home, turn_home_count, turn_home_count as homes_of, named_in, turn_map, turn_stands, turn_standing, IsTurnSector, IsTurnGate, IsTurnHome, IsBadTurn, IsTurnPart, IsTurnCopy, IsTurnAskedIn, HoldsJournal, AreCopiedBut, IsTurnRest};
+ghost use Rattle.sync_journal.specs.Turns.{turn_homes, start_of, turn_home, turn_home_count, turn_home_count as homes_of, named_in, turn_map, turn_stands, in_turn, IsTurnSector, IsTurnGate, IsTurnHome, IsBadTurn, IsTurnPart, IsTurnCopy, IsTurnAskedIn, HoldsJournal, AreCopiedBut, IsTurnRest};
 ghost use Rattle.sync_journal.specs.Recovering.{RecoversInTurn, IsNamedLive, EmptiesNamed};
 ghost use Rattle.sync_journal.specs.Committing.{CommitsInTurn};
 ghost use Rattle.sync_journal.specs.Steps.{SeesHome, WritesInto, SyncsInto, LooksOnly, IsSyncedStore, MayFill, FillsJournal};
@@ -119,8 +117,7 @@ impl TurnJournal {
         requires room { turn_homes ≤ D.sector_count disk.old }
         requires home { home < turn_home_count (D.sector_count disk.old) }
         requires rest { D.keeps_model disk.old → IsTurnRest D.SectorDisk self.now.second (live_homes self.now.live) disk.old }
-        ensures { SeesHome D.SectorDisk (joined (turn_standing (D.content disk.old) home) 8) (IsPageSector (turn_stands self.now.second home (home_rank (live_homes self.now.live) home)))
-            (IsTurnRest D.SectorDisk self.now.second (live_homes self.now.live) disk.new) disk.old disk.new to.new result }
+        ensures { SeesHome D.SectorDisk in_turn (self.now.second, live_homes self.now.live) home disk.old disk.new to.new result }
     {
         read_page(disk, self.stands_at(home), to)
     }

@@ -6,7 +6,8 @@ pub use Rattle.{file_store.specs.{Store.{PutsHomesOrNone}, Versions.{mark_of, ve
 pub use Rattle.std.proofs.Common.{Bool, ◌≤◌, suc, ◌∙◌, inr, slice_get, arith, false, zero, ◌≡◌, inl, ◌+◌, Some, true, refl, eq-eqb, IsTrue, ◌<◌, if◌then◌else◌, List, Option, ⊎_elim, ne_eqb, subst, ◌==◌, length, ◌&&◌, ◌≢◌, ◌||◌, Result, []}
 pub use Rattle.std.proofs.{Common.{IfErr, ◌∷◌, ◌-◌, rules, ◌*◌, OnOk, IfOk}, Math.{ListN.{get_or, set}, Path.{fun_ext}}, lemmas.{Bool.{false≢true, cases_Bool, lt-ltb, le-leb, cases_eq, cases_lt, lt-leb}, List.{length-set, get_or-set_same}}}
 pub use Rattle.std.{proofs.lemmas.{List.{get_or-set_other}, Option.{slice_get-get_or, slice_get_past, same_Some}, Result.{IfErr-weaker}}, specs.{Cmp.Lexicographic.{same_text}, Option.{option_map}, Prelude.{ltb}}}
-pub use Rattle.sync_journal.specs.{Kinds.{IsKindOutside, is_kind, kind_when, IsOutsideOf, store_live, IsStoreRest, kind_of}, Map.{home_rank}, Turns.{stands_under}, declared.store_journal.Journals.{Journals, TheVariants.{Paired, Single}}}
+pub use Rattle.sync_journal.proofs.InKinds.{other_image}
+pub use Rattle.sync_journal.specs.{Kinds.{is_kind, kind_when, store_live, IsStoreRest, kind_of}, Map.{home_rank}, Turns.{stands_under}, declared.store_journal.Journals.{Journals, TheVariants.{Paired, Single}}}
 pub use Rattle.{sync_journal.specs.declared.store_journal.StoreJournal.{StoreJournal, TheVariants.{One, InTurn}}, vm_types.specs.declared.file.{FileInfo.{FileInfo}, FilePage.{FilePage}}}
 pub use borrow.Rule.Slice.PartMut.{put_mid}
 unfoldable pub use Rattle.{file_store.specs.Layout.{mark}, sync_journal.specs.{Kinds.{turn_kind}, Map.{place_among}}}

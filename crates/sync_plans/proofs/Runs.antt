@@ -1,8 +1,9 @@
 -- A store that is opened, and then committed to.
-use Rattle.sync_plans.proofs.Names.{ℕ, ◌≡◌, List, [], Option, Result, inl, inr, ⊎_elim, refl, sym, ap, subst, ◌∙◌, IfErr-weaker, fun_ext, option_map, home_rank, place_among, stands_under, is_kind, kind_when, store_live, IsKindOutside}
-use Rattle.sync_plans.proofs.Names.{IsOutsideOf, IsStoreRest, StoreJournal, One, InTurn, FileStore, files_of, IsStoreAtRest, PutsHomesOrNone, Directory, StandsFor, StandsAs, IsBadLayout, IsBadJournal, file_info, standing_page}
+use Rattle.sync_plans.proofs.Names.{ℕ, ◌≡◌, List, [], Option, Result, inl, inr, ⊎_elim, refl, sym, ap, subst, ◌∙◌, IfErr-weaker, fun_ext, option_map, home_rank, place_among, stands_under, is_kind, kind_when, store_live}
+use Rattle.sync_plans.proofs.Names.{other_image, kind_of, IsStoreRest, StoreJournal, One, InTurn, FileStore, files_of, IsStoreAtRest, PutsHomesOrNone, Directory, StandsFor, StandsAs, IsBadLayout, IsBadJournal, file_info, standing_page}
 use Rattle.sync_plans.proofs.Names.{StandsForEither, OpenFault, IsResumed, IsRefusedFor, Image, LeavesOnly, LeavesNow, Ghosts, weaker, joined, FileInfo, FilePage, bad_layout_moves, same_head, stands_for_itself}
 use Rattle.sync_plans.specs.{Requests.{IsKindEmpty, IsClosed, IsStore, KeepsOutside, HasLayout, RefusesImage, RefusesOn}, declared.requests.Refusal.{Refusal, TheVariants.{Device, BadLayout, BadJournal, BadPages, ReadOnly}}}
+use Rattle.sync_journal.specs.Kinds.{by_kind, layout_of}
 use Rattle.{std.specs.Prelude.{IfErr}, sync_journal.specs.Commit.{IsAtRest as IsJournalAtRest}, file_store.specs.declared.faults.OpenFault.TheVariants.{Device as OpenDevice, BadLayout as OpenBadLayout, BadJournal as OpenBadJournal}}
 
 module _ {D : Type 0} (g : Ghosts D) (sectors : ℕ) (files : ℕ → Option FileInfo) (before : ℕ → ℕ → List ℕ) (old mid : D) (left : LeavesNow g old (StandsFor sectors files before)) where
@@ -34,8 +35,8 @@ pub is_closed : {D : Type 0} (g : Ghosts D) (store : FileStore D) → store_live
 is_closed g store none rest = journal_closed g store.disk store.journal none rest.journal
 
 -- what lies outside the homes of an image does so of an image that keeps it
-pub still_outside : (sectors : ℕ) (old new : Image) → KeepsOutside sectors old new → (k : ℕ) → IsOutsideOf old sectors k → IsOutsideOf new sectors k
-still_outside sectors old new kept k out = subst (λ kind. IsKindOutside kind sectors k) (sym (ap (λ sector. kind_when (is_kind sector)) (same_head sectors old new kept).kind)) out
+pub still_outside : (sectors : ℕ) (old new : Image) → KeepsOutside sectors old new → (k : ℕ) → by_kind.IsOutside old sectors k → by_kind.IsOutside new sectors k
+still_outside sectors old new kept k out = subst (λ kind. (layout_of kind).IsOutside new sectors k) (sym (ap (λ sector. kind_when (is_kind sector)) (same_head sectors old new kept).kind)) (other_image (kind_of old) old new sectors k out)
 
 -- The layout is good at every moment of an opening and of a commit.
 module _ {D : Type 0} (g : Ghosts D) (sectors : ℕ) (directory : Directory) (list : List FilePage) (given : ℕ → List ℕ) (old mid new : D)

@@ -7,7 +7,7 @@ use Rattle.disk_model.specs.Moments.{LeavesOnly, LeavesNow}
 use Rattle.disk_model.specs.Stop.{Image}
 use Rattle.sync_journal.specs.Gate.{is_open}
 use Rattle.sync_journal.specs.Turns.{turn_home, turn_standing}
-use Rattle.sync_journal.specs.Kinds.{kind_of, IsOutsideOf}
+use Rattle.sync_journal.specs.Kinds.{kind_of, by_kind}
 use Rattle.sync_journal.specs.declared.store_journal.Journals.{Journals}
 use Rattle.sync_journal.specs.declared.store_journal.Journals.TheVariants.{Single, Paired}
 use Rattle.file_store.specs.Standing.{StandsFor, IsBadLayout, IsBadJournal, file_info}
@@ -40,7 +40,7 @@ IsClosed image = IsKindEmpty (kind_of image) image
 
 -- the mark, the directory, and what lies after the last home page are as they were
 abbrev pub KeepsOutside : ℕ → Image → Image → Type 0
-KeepsOutside sectors old new = (k : ℕ) → IsOutsideOf old sectors k → new k ≡ old k
+KeepsOutside sectors old new = (k : ℕ) → by_kind.IsOutside old sectors k → new k ≡ old k
 
 -- a commit may bring these pages
 pub record AreWritable (image : Image) (list : List FilePage) : Type 0 where

@@ -89,7 +89,7 @@ marked_store g c r none marked synced all causes =
     (λ paired. whole_of_kind g.R.Read.remaining sources kind sectors paired fits.0 fits.1) made (w.fills.run.touches last) (w.last last).kind_behind (w.synced last)
     (whole last) (kindless_moves g.R.Read.remaining sources) new (m.touches k) in
     record {
-      ok = λ k. on_ok_weaker r (marked_whole d (Whole kind) kind made new (whole (m.kept k)) (w.written (m.kept k)).of_kind (m.touches k)) (marked k);
+      ok = λ k. on_ok_weaker r (marked_whole d (Whole kind) kind made new (whole (m.kept k)) (w.written (m.kept k)).layout_of (m.touches k)) (marked k);
       marked = marked;
       synced = synced;
       whole = all;

@@ -49,7 +49,7 @@ returns-clause-written g c = λ keeps.
     let here = c.in_ok-write_layout.ensures in
     let sources = c.args.sources.now in
     record {
-      of_kind = (here.head keeps).of_kind;
+      layout_of = (here.head keeps).layout_of;
       directory = subst (λ (s : List ℕ). IsDirectoryOf sources s) (sym (here.head keeps).directory) c.directory_of-directory.ensures;
       gate = (here.head keeps).journal;
       files = λ f source less at k inside. cut_moves c.args.journals (first_home sources f + k) (bytes_inside source.length k) (page_given g.R.Read.remaining source k)

@@ -1,5 +1,5 @@
 use Rattle.file_store.proofs.{Causes.{is_this}, Images.{same_head, entry_same}, Mounted.{head_refuses, journal_refuses, mounts_head, mounts}, Names.{ℕ, ◌≤◌, Err, sym, ap, subst, ◌∙◌, IfErr, Image, kind_of, kind_homes, kind_home_count}}
-use Rattle.file_store.{proofs.{Names.{IsBadStore, settled_since}, Openings.{content_is}}, specs.{Directory.{IsSoundDirectory}, Faults.{open_fault}, Resume.{IsRefusedFor}, Store.{entry_of}}}
+use Rattle.{file_store.{proofs.{Names.{settled_since}, Openings.{content_is}}, specs.{Directory.{IsSoundDirectory}, Faults.{open_fault}, Resume.{IsRefusedFor}, Store.{entry_of}}}, sync_journal.specs.Kinds.{by_kind}}
 use Rattle.file_store.proofs.opening.mount.Goals as goal
 
 -- mark, kind or directory can't be read, or are bad
@@ -62,7 +62,7 @@ returns-clause-ok g c =
       layout = λ k. head.good (c.recover.ensures.kept k);
       journal = λ k bad.
           let same = content_is g.D.SectorDisk old c.read_head.new.disk (run.touches (c.recover.ensures.kept k)) in
-          done.good k (subst (λ (n : ℕ). IsBadStore n (g.D.SectorDisk.content c.read_head.new.disk)) (sym run.size) (subst (λ (image : Image). IsBadStore (g.D.SectorDisk.sector_count old) image) (sym same) bad));
+          done.good k (subst (λ (n : ℕ). by_kind.IsBad n (g.D.SectorDisk.content c.read_head.new.disk)) (sym run.size) (subst (λ (image : Image). by_kind.IsBad (g.D.SectorDisk.sector_count old) image) (sym same) bad));
       stands = λ k. (settled_since g.D.SectorDisk old c.read_head.new.disk c.recover.new.disk (run.touches (c.recover.ensures.kept k)) journal run.size (done.ok k)).left;
       synced = λ k. c.in_ok-journal.ensures.synced k;
       emptied = λ k. done.emptied k;

@@ -29,7 +29,7 @@ returns-in_err-directory-clause-looks g c =
     bad_as_claimed journals n content (c.in_ok-journals.ensures.mark (c.check_kind.ensures.looks.run.kept k1)) (BadDirectory
     (subst (λ (image : Image). IsBadDirectory (home_pages_of (version_at journals) n) (image (directory_of (version_at journals)))) (content_is d old mid (run.touches k1))
     (subst (λ (m : ℕ). IsBadDirectory (home_pages_of (version_at journals) m) (d.content mid (directory_of (version_at journals)))) run.size
-    (subst (λ v. IsBadDirectory (home_pages_of v (d.sector_count mid)) (d.content mid (directory_of v))) c.of_kind.ensures bad))))))
+    (subst (λ v. IsBadDirectory (home_pages_of v (d.sector_count mid)) (d.content mid (directory_of v))) c.layout_of.ensures bad))))))
 
 pub returns-clause-looks : goal.returns-clause-looks
 returns-clause-looks g c =
@@ -51,19 +51,19 @@ returns-clause-found g c =
     let k2 = c.check_kind.ensures.looks.run.kept (kept k) in
     kind_found journals content c.read_directory.new.sector
     (λ e. sym (ap (λ (image : Image). kind_of image) (content_is d old c.read_mark.new.disk (c.read_mark.ensures.looks.run.touches k2))) ∙ c.in_ok-check_kind.ensures.kind (kept k) e) found.no_kind
-    (found.sector k ∙ ap (λ v. d.content mid (directory_of v)) c.of_kind.ensures ∙ ap (λ (image : Image). image (directory_of version)) (same k)) in
+    (found.sector k ∙ ap (λ v. d.content mid (directory_of v)) c.layout_of.ensures ∙ ap (λ (image : Image). image (directory_of version)) (same k)) in
     record {
       room = room;
-      sound = kind_sound journals c.of_kind.result n (entry_of c.in_ok-directory.directory) c.of_kind.ensures
-          (subst (λ (m : ℕ). IsSoundDirectory (home_pages_of c.of_kind.result m) (entry_of c.in_ok-directory.directory)) run.size found.sound);
+      sound = kind_sound journals c.layout_of.result n (entry_of c.in_ok-directory.directory) c.layout_of.ensures
+          (subst (λ (m : ℕ). IsSoundDirectory (home_pages_of c.layout_of.result m) (entry_of c.in_ok-directory.directory)) run.size found.sound);
       kind = known;
-      entries = λ k f. found.entries k f ∙ ap (λ v. listed_entry v (d.content mid) f) c.of_kind.ensures
+      entries = λ k f. found.entries k f ∙ ap (λ v. listed_entry v (d.content mid) f) c.layout_of.ensures
           ∙ ap (λ (image : Image). listed_entry version image f) (same k) ∙ ap (λ b. listed_entry (version_at b) content f) (sym (known k));
       good = λ k bad.
           let good : AreGood (home_pages_of version n) (content (directory_of version)) 64 =
           (subst (λ (image : Image). AreGood (home_pages_of version n) (image (directory_of version)) 64) (same k)
           (subst (λ (m : ℕ). AreGood (home_pages_of version m) (d.content mid (directory_of version)) 64) run.size
-          (subst (λ v. AreGood (home_pages_of v (d.sector_count mid)) (d.content mid (directory_of v)) 64) c.of_kind.ensures (c.in_ok-directory.ensures.good k)))) in
+          (subst (λ v. AreGood (home_pages_of v (d.sector_count mid)) (d.content mid (directory_of v)) 64) c.layout_of.ensures (c.in_ok-directory.ensures.good k)))) in
           layout_is_good_in version n content (subst (λ m. m ≤ n) (sym (homes_same journals)) room) (c.in_ok-journals.ensures.mark (c.check_kind.ensures.looks.run.kept (kept k))) good
           (subst (λ b. IsBadLayoutIn (version_at b) n content) (known k) bad);
     }
@@ -71,13 +71,13 @@ returns-clause-found g c =
 pub returns-clause-asks : goal.returns-clause-asks
 returns-clause-asks g c = λ k.
     let k1 = c.read_directory.ensures.looks.run.kept k in
-    head_asked g.D.SectorDisk c.in_ok-journals.journals c.of_kind.result c.args.disk.now c.read_mark.new.disk c.check_kind.new.disk c.read_directory.new.disk
-    (c.read_mark.ensures.looks.run.touches (c.check_kind.ensures.looks.run.kept k1)) (c.in_ok-check_kind.ensures.kind k1) c.of_kind.ensures c.read_mark.ensures.asks c.check_kind.ensures.asks
-    (asks_once g.D.SectorDisk (λ s. s ≡ directory_of c.of_kind.result) (λ s. s ≡ directory_of c.of_kind.result) c.check_kind.new.disk c.read_directory.new.disk (λ s at. at) c.read_directory.ensures.once)
+    head_asked g.D.SectorDisk c.in_ok-journals.journals c.layout_of.result c.args.disk.now c.read_mark.new.disk c.check_kind.new.disk c.read_directory.new.disk
+    (c.read_mark.ensures.looks.run.touches (c.check_kind.ensures.looks.run.kept k1)) (c.in_ok-check_kind.ensures.kind k1) c.layout_of.ensures c.read_mark.ensures.asks c.check_kind.ensures.asks
+    (asks_once g.D.SectorDisk (λ s. s ≡ directory_of c.layout_of.result) (λ s. s ≡ directory_of c.layout_of.result) c.check_kind.new.disk c.read_directory.new.disk (λ s at. at) c.read_directory.ensures.once)
 
 pub returns-in_err-directory-clause-asks : goal.returns-in_err-directory-clause-asks
 returns-in_err-directory-clause-asks g c = λ k.
     let k1 = c.read_directory.ensures.looks.run.kept k in
-    head_asked g.D.SectorDisk c.in_ok-journals.journals c.of_kind.result c.args.disk.now c.read_mark.new.disk c.check_kind.new.disk c.read_directory.new.disk
-    (c.read_mark.ensures.looks.run.touches (c.check_kind.ensures.looks.run.kept k1)) (c.in_ok-check_kind.ensures.kind k1) c.of_kind.ensures c.read_mark.ensures.asks c.check_kind.ensures.asks
-    (asks_once g.D.SectorDisk (λ s. s ≡ directory_of c.of_kind.result) (λ s. s ≡ directory_of c.of_kind.result) c.check_kind.new.disk c.read_directory.new.disk (λ s at. at) c.read_directory.ensures.once)
+    head_asked g.D.SectorDisk c.in_ok-journals.journals c.layout_of.result c.args.disk.now c.read_mark.new.disk c.check_kind.new.disk c.read_directory.new.disk
+    (c.read_mark.ensures.looks.run.touches (c.check_kind.ensures.looks.run.kept k1)) (c.in_ok-check_kind.ensures.kind k1) c.layout_of.ensures c.read_mark.ensures.asks c.check_kind.ensures.asks
+    (asks_once g.D.SectorDisk (λ s. s ≡ directory_of c.layout_of.result) (λ s. s ≡ directory_of c.layout_of.result) c.check_kind.new.disk c.read_directory.new.disk (λ s at. at) c.read_directory.ensures.once)

@@ -1,6 +1,6 @@
-use Rattle.file_store.proofs.Names.{◌≡◌, ◌≤◌, ℕ, Err, ⊎_elim, sym, ap, subst, ◌∙◌, IfErr, Image, kind_of, kind_homes, kind_home_count, store_live, IsBadStore, AreHomes, IsLiveAsNamed, settled_since}
-use Rattle.file_store.specs.{Faults.{open_fault}, Directory.{IsSoundDirectory}, Resume.{IsRefusedFor}, Store.{entry_of}}
-use Rattle.file_store.proofs.{Causes.{is_this}, Mounted.{head_refuses, journal_refuses}, Images.{same_head, entry_same, stands_kept}, Openings.{content_is}, Resumes.{resumes_head, resumes}}
+use Rattle.file_store.proofs.{Names.{◌≡◌, ◌≤◌, ℕ, Err, ⊎_elim, sym, ap, subst, ◌∙◌, IfErr, Image, kind_of, kind_homes, kind_home_count, store_live, AreHomes, IsLiveAsNamed, settled_since}, Causes.{is_this}, Mounted.{head_refuses}}
+use Rattle.file_store.{proofs.{Mounted.{journal_refuses}, Images.{same_head, entry_same, stands_kept}, Openings.{content_is}, Resumes.{resumes_head, resumes}}, specs.{Faults.{open_fault}, Directory.{IsSoundDirectory}}}
+use Rattle.{file_store.specs.{Resume.{IsRefusedFor}, Store.{entry_of}}, sync_journal.specs.Kinds.{by_kind}}
 use Rattle.file_store.proofs.resuming.take_up.Goals as goal
 
 -- mark, kind or directory can't be read, or are bad
@@ -79,7 +79,7 @@ returns-clause-ok g c =
         good_layout = λ k. head.good (kept k);
         good_journal = λ k bad.
             let same = content_is d old read (run.touches (kept k)) in
-            done.good k (subst (λ (n : ℕ). IsBadStore n (d.content read)) (sym run.size) (subst (λ (image : Image). IsBadStore (d.sector_count old) image) (sym same) bad));
+            done.good k (subst (λ (n : ℕ). by_kind.IsBad n (d.content read)) (sym run.size) (subst (λ (image : Image). by_kind.IsBad (d.sector_count old) image) (sym same) bad));
         calm = done.calm ∙ c.in_ok-found.ensures.looks.calm;
         synced = done.synced;
         named = λ k. subst (λ (image : Image). IsLiveAsNamed journal image) (content_is d old read (run.touches (kept k))) (done.named k);

@@ -1,4 +1,4 @@
-use Rattle.file_store.proofs.Names.{◌≡◌, ◌+◌, ◌*◌, ◌<◌, Some, refl, sym, ap, subst, ◌∙◌, ⊎_elim, arith, cases_eq, Image, Nothing, part_of, old_homes, layout_before, home_count_in, standing_in, kind_home, one_more}
+use Rattle.file_store.proofs.Names.{◌≡◌, ◌+◌, ◌*◌, ◌<◌, Some, refl, sym, ap, subst, ◌∙◌, ⊎_elim, arith, cases_eq, Image, Nothing, part_of, old_homes, sizes_before, home_count_in, standing_in, kind_home, one_more}
 use Rattle.file_store.specs.{Layout.{pages_of_length}, Format.{HoldsPage}, Standing.{page_standing_in}, Upgrade.{IsOldStore, IsFileSector, IsOldPage}, Faults.{old_fault}}
 use Rattle.file_store.proofs.{Causes.{same_Err}, Copied.{page_once, copies_unread, copies_unwritten}, Making.{makes_more, makes_page}, Openings.{content_is}}
 use Rattle.file_store.proofs.upgrading.copy_file.Goals as goal
@@ -7,8 +7,8 @@ pub read_page-requires-clause-home : goal.read_page-requires-clause-home
 read_page-requires-clause-home g c =
     let size = c.loop-k.invariant.old_run.size in
     let below : c.loop-k.k < pages_of_length c.args.entry.info.length = omega (arith, c.loop-k-test.true, c.pages-k-end.ensures) in
-    subst (λ b. c.args.entry.first + c.loop-k.k < home_count_in (layout_before b) (g.D.SectorDisk.sector_count c.loop-k.old)) (sym c.requires.before)
-    (subst (λ n. c.args.entry.first + c.loop-k.k < home_count_in (layout_before c.args.journals) n) (sym size) (omega (arith, below, c.requires.within)))
+    subst (λ b. c.args.entry.first + c.loop-k.k < home_count_in (sizes_before b) (g.D.SectorDisk.sector_count c.loop-k.old)) (sym c.requires.before)
+    (subst (λ n. c.args.entry.first + c.loop-k.k < home_count_in (sizes_before c.args.journals) n) (sym size) (omega (arith, below, c.requires.within)))
 
 pub read_page-requires-clause-found : goal.read_page-requires-clause-found
 read_page-requires-clause-found g c = λ keeps.
@@ -34,11 +34,11 @@ loop-k-preserved g c =
       pages = λ keeps_old keeps j below_j.
           let was = c.read_page.ensures.reads.run.kept keeps_old in
           let same = content_is d c.args.old.now c.loop-k.old (inv.old_run.touches was) in ⊎_elim
-          (λ here. subst (λ m. HoldsPage c.args.journals (entry.first + m) (page_standing_in (standing_in (layout_before c.args.journals) old) m (Some entry)) new) (sym here)
+          (λ here. subst (λ m. HoldsPage c.args.journals (entry.first + m) (page_standing_in (standing_in (sizes_before c.args.journals) old) m (Some entry)) new) (sym here)
           (λ i lt. ap (λ m. new (m + 8 * (entry.first + c.loop-k.k) + i)) (sym c.first_home-homes.ensures.is) ∙ ap (λ m. new (c.first_home-homes.result + 8 * m + i)) (sym c.from.ensures)
           ∙ c.in_ok-write_page.ensures.written keeps i lt
           ∙ ap (λ page. part_of page i) (c.in_ok-read_page.ensures.page keeps_old
-          ∙ ap (λ b. page_standing_in (standing_in (layout_before b) (d.content c.loop-k.old)) c.loop-k.k (Some entry)) c.requires.before ∙ ap (λ (image : Image). page_standing_in (standing_in (layout_before c.args.journals) image) c.loop-k.k (Some entry)) same)))
+          ∙ ap (λ b. page_standing_in (standing_in (sizes_before b) (d.content c.loop-k.old)) c.loop-k.k (Some entry)) c.requires.before ∙ ap (λ (image : Image). page_standing_in (standing_in (sizes_before c.args.journals) image) c.loop-k.k (Some entry)) same)))
           (λ other. λ i lt. ⊎_elim {C = new (kind_home c.args.journals (entry.first + j) + i) ≡ n.content c.loop-k.new (kind_home c.args.journals (entry.first + j) + i)}
           (λ at. absurd (omega (arith, at.0, at.1, c.from.ensures, other, lt, c.first_home-homes.ensures.is))) (λ e. e) ((w.run.touches keeps).content (kind_home c.args.journals (entry.first + j) + i))
           ∙ inv.pages was (w.run.kept keeps) j (omega (arith, below_j, other)) i lt)

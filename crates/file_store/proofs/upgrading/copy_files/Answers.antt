@@ -1,4 +1,4 @@
-use Rattle.file_store.proofs.Names.{◌≡◌, ◌+◌, Some, sym, ap, subst, ◌∙◌, ⊎_elim, arith, cases_eq, Image, Nothing, once_wider, layout_before, home_count_in, kind_home, one_more}
+use Rattle.file_store.proofs.Names.{◌≡◌, ◌+◌, Some, sym, ap, subst, ◌∙◌, ⊎_elim, arith, cases_eq, Image, Nothing, once_wider, sizes_before, home_count_in, kind_home, one_more}
 use Rattle.file_store.specs.{Layout.{pages_of_length}, Store.{entry_of}, Upgrade.{IsEntrySector, IsFilesSector, IsOldFile, HoldsOldPages}}
 use Rattle.file_store.proofs.{Copied.{IsOldFirst, copiable_still, copies_done, copies_error, file_once}, Making.{makes_more, makes_of}, Openings.{content_is}, Upgrades.{not_in_entry}}
 use Rattle.file_store.proofs.upgrading.copy_files.Goals as goal
@@ -22,7 +22,7 @@ loop-f-preserved g c =
       once_old = λ keeps.
           let was = c.copy_entry.ensures.copies.old_run.kept keeps in
           let same = content_is d c.args.old.now c.loop-f.old (inv.old_run.touches was) in
-          file_once d c.args.journals c.args.store.now (home_count_in (layout_before c.args.journals) (d.sector_count c.args.old.now)) c.loop-f.f c.args.old.now c.loop-f.old c.copy_entry.new.old same
+          file_once d c.args.journals c.args.store.now (home_count_in (sizes_before c.args.journals) (d.sector_count c.args.old.now)) c.loop-f.f c.args.old.now c.loop-f.old c.copy_entry.new.old same
           (c.requires.found (inv.old_run.kept was)) c.requires.few c.requires.sound (inv.once_old was) (c.copy_entry.ensures.copies.once_old keeps);
       run = makes_more n (IsFilesSector c.args.journals (entry_of c.args.store.now.directory)) c.args.new.now c.loop-f.new c.copy_entry.new.new inv.run
           (makes_of n (IsEntrySector c.args.journals entry) (IsFilesSector c.args.journals (entry_of c.args.store.now.directory)) c.loop-f.new c.copy_entry.new.new (λ k at. (c.loop-f.f, at)) c.copy_entry.ensures.copies.run);
@@ -36,7 +36,7 @@ loop-f-preserved g c =
           (λ here. subst (λ (image : Image). HoldsOldPages c.args.journals image e (pages_of_length e.info.length) new) same
           (c.in_ok-copy_entry.ensures.pages keeps_old keeps e (ap (entry_of directory) (sym here) ∙ known)))
           (λ other. λ k inside i lt. ⊎_elim {C = new (kind_home c.args.journals (e.first + k) + i) ≡ n.content c.loop-f.new (kind_home c.args.journals (e.first + k) + i)}
-          (λ at. absurd (not_in_entry c.args.journals (home_count_in (layout_before c.args.journals) (d.sector_count c.args.old.now)) (entry_of directory) c.requires.sound h c.loop-f.f k i e other known inside lt at))
+          (λ at. absurd (not_in_entry c.args.journals (home_count_in (sizes_before c.args.journals) (d.sector_count c.args.old.now)) (entry_of directory) c.requires.sound h c.loop-f.f k i e other known inside lt at))
           (λ e. e) ((w.copies.run.touches keeps).content (kind_home c.args.journals (e.first + k) + i))
           ∙ inv.files was (w.copies.run.kept keeps) h e (omega (arith, less, other)) is k inside i lt)
           (cases_eq h c.loop-f.f);
@@ -53,7 +53,7 @@ returns-in_err-copy_entry-clause-copies g c =
     let was = c.copy_entry.ensures.copies.old_run.kept keeps in
     let same = content_is d c.args.old.now c.loop-f.old (inv.old_run.touches was) in
     once_wider (IsOldFirst c.args.journals old (c.loop-f.f + 1)) (IsOldFile c.args.journals old) (d.asked c.args.old.now) (d.asked c.copy_entry.new.old) (λ k at. (at.0, at.2))
-    (file_once d c.args.journals c.args.store.now (home_count_in (layout_before c.args.journals) (d.sector_count c.args.old.now)) c.loop-f.f c.args.old.now c.loop-f.old c.copy_entry.new.old same
+    (file_once d c.args.journals c.args.store.now (home_count_in (sizes_before c.args.journals) (d.sector_count c.args.old.now)) c.loop-f.f c.args.old.now c.loop-f.old c.copy_entry.new.old same
     (c.requires.found (inv.old_run.kept was)) c.requires.few c.requires.sound (inv.once_old was) (c.copy_entry.ensures.copies.once_old keeps)))
     (makes_more g.E.SectorDisk (IsFilesSector c.args.journals (entry_of c.args.store.now.directory)) c.args.new.now c.loop-f.new c.copy_entry.new.new c.loop-f.invariant.run
     (makes_of g.E.SectorDisk (IsEntrySector c.args.journals entry) (IsFilesSector c.args.journals (entry_of c.args.store.now.directory)) c.loop-f.new c.copy_entry.new.new (λ k at. (c.loop-f.f, at)) c.copy_entry.ensures.copies.run))

@@ -1,6 +1,6 @@
 use Rattle.file_store.proofs.{Causes.{is_this, same_Err}, Copied.{causes_after, causes_before, causes_none, causes_marking, copied_old_once}, Formats.{marked_whole}, Looking.{ok_is_no_err}, Marking.{LeavesNoPart, nothing_made}}
 use Rattle.file_store.proofs.{Marking.{unmarked_made, marked_made}, Names.{◌≡◌, ◌⊎◌, ◌≤◌, ◌<◌, ℕ, Result, Err, OnOk, Some, refl, inl, inr, ⊎_elim, sym, ap, subst, ◌∙◌, on_ok_weaker, IsErrOf, Image, Nothing, AsksOnly, stays, asks_none}}
-use Rattle.file_store.proofs.{Names.{NamesOnce, once_wider, asks_once, asks_then, asks_wider, Journals, kind_home_count, layout_before, home_count_in, one_more}, Openings.{content_is}, Refusing.{of_old, broken_from, when_checking, when_copying, when_marking}}
+use Rattle.file_store.proofs.{Names.{NamesOnce, once_wider, asks_once, asks_then, asks_wider, Journals, kind_home_count, sizes_before, home_count_in, one_more}, Openings.{content_is}, Refusing.{of_old, broken_from, when_checking, when_copying, when_marking}}
 use Rattle.file_store.proofs.{Refusing.{room_is_not_small, causes_checked, upgrade_refused}, Upgrades.{kindless_upgrade_moves, upgraded_of_kind, copied_from, copied_asked, layout_from, old_fault_cases, too_small, upgrade_whole}}
 use Rattle.file_store.{proofs.{Upgrades.{entries_fit}, upgrading.upgrade.{Given.{Over}, Goals.{After-write_mark}}}, specs.{Directory.{home_end, IsSoundDirectory}, Faults.{old_fault}, Format.{IsMarkSector}, Store.{entry_of}}}
 use Rattle.file_store.specs.{Upgrade.{old_entry, IsOldStore, IsUnmarkedUpgrade, IsKindlessUpgrade, IsUpgradeOf, IsCopiedSector, IsUpgradeSector, IsOldHead, IsOldAsked, HasUpgradeCauses}, Upgraded.{UpgradesStore}, Versions.{version_at}}
@@ -12,7 +12,7 @@ copy_unmarked-requires-clause-copied g c =
     let d = g.D.SectorDisk in let store = c.in_ok-store.store in let found = c.in_ok-store.ensures.found in
     record {
       before = found.before;
-      sound = subst (λ (n : ℕ). IsSoundDirectory (home_count_in (layout_before c.args.journals) n) (entry_of store.directory)) (sym c.find.ensures.looks.run.size) found.sound;
+      sound = subst (λ (n : ℕ). IsSoundDirectory (home_count_in (sizes_before c.args.journals) n) (entry_of store.directory)) (sym c.find.ensures.looks.run.size) found.sound;
       few = found.few;
       found = λ keeps. subst (λ (image : Image). IsOldStore c.args.journals image store) (sym (content_is d c.args.old.now c.find.new.disk (c.find.ensures.looks.run.touches keeps))) (found.found keeps);
       fits = λ f e is. subst (λ (n : ℕ). home_end e ≤ kind_home_count c.args.journals n) (sym c.check_new.ensures.run.size) ((c.in_ok-check_new.ensures.room (ok_is_no_err _ _)).fits f e is);
@@ -114,7 +114,7 @@ marked_upgrade g c r none marked synced causes =
     (λ paired. upgraded_of_kind kind (d.sector_count old) sectors image paired has.room (found.good_layout (copies.old_run.kept k)) (known k)) made (copies.run.touches last)
     (c.in_ok-copy_unmarked.ensures.last k last).kind_behind (c.in_ok-copy_unmarked.ensures.synced last) (whole k last) (kindless_upgrade_moves image) last_new (m.touches k') in
     record {
-      ok = λ k k'. let last = m.kept k' in on_ok_weaker r (marked_whole n (Whole kind) kind made last_new (whole k last) (written k last).head.of_kind (m.touches k')) (marked k');
+      ok = λ k k'. let last = m.kept k' in on_ok_weaker r (marked_whole n (Whole kind) kind made last_new (whole k last) (written k last).head.layout_of (m.touches k')) (marked k');
       marked = marked;
       synced = synced;
       any_moment = λ k k'. (leaves k k').any_moment;

@@ -74,7 +74,8 @@ returns-in-Err-clause-refuses g c =
       bad_layout = λ keeps is. e.bad_layout keeps (same_open c.in-Err.fault _ is);
       bad_journal = λ keeps is. e.bad_journal keeps (same_open c.in-Err.fault _ is);
       layout_first = λ keeps is. e.layout_first keeps (same_open c.in-Err.fault _ is);
-      unwritten = search rules;
+      unwritten = λ keeps is. e.unwritten keeps (λ device. ⊎_elim
+          (λ layout. (let bad = sym (same_open c.in-Err.fault _ layout) ∙ device in cc)) (λ journal. (let bad = sym (same_open c.in-Err.fault _ journal) ∙ device in cc)) is);
       good_layout = λ _ none. absurd (none c.in-Err.fault refl);
       good_journal = λ _ none. absurd (none c.in-Err.fault refl);
       no_file = search rules;

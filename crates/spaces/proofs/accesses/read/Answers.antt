@@ -14,40 +14,35 @@ returns-in-Ok-clause-keeps g c =
     let tends = c.access.ensures.tends in
     let placed = c.in-Ok.ensures.placed in
     let asks = asks_unstalled g.D.SectorDisk g.E.SectorDisk a.core.now new c.in-Some.pid a.addr a.kind tends new refl refl tends.slotted (writes_none a.kind new) (Value a.width c.read_number-value.result)
-    (λ stall e. cc) (λ done. (placed.root, c.in-Ok.place, placed.lives, placed.place)) in
-    subst (λ (p : ℕ). KeepsToPage g.D.SectorDisk g.E.SectorDisk a.core.now new p a.addr a.kind (Value a.width c.read_number-value.result)) c.in-Some.ensures.found.0 (search rules)
+    (λ stall e. cc) (λ e. cc) (λ done. (placed.root, c.in-Ok.place, placed.lives, placed.place)) in
+    rw (← c.in-Some.ensures.found.0) (search rules)
 
 pub returns-in-Ok-clause-walked : goal.returns-in-Ok-clause-walked
 returns-in-Ok-clause-walked g c place walked =
-    (c.access.ensures.walked place (subst (λ (p : ℕ). IsWalked (picture_of c.args.core.now) p c.args.addr c.args.width c.args.kind place) (sym c.in-Some.ensures.found.0) walked)).0
+    (c.access.ensures.walked place (rw c.in-Some.ensures.found.0 walked)).0
 
 pub returns-in-Ok-clause-comes : goal.returns-in-Ok-clause-comes
 returns-in-Ok-clause-comes g c =
     let a = c.args in
     let new = c.access.new.core in
     let value = c.read_number-value.result in
-    subst (λ (p : ℕ). CarriesRead g.D.SectorDisk g.E.SectorDisk a.core.now new p a.addr a.width a.kind (Value a.width value)) c.in-Some.ensures.found.0
-    (reads g.D.SectorDisk g.E.SectorDisk a.core.now new c.in-Some.pid a.addr a.width a.kind c.access.result c.access.ensures c.in-Some.ensures.found.1 c.requires.kind c.in-Ok.place c.in-Ok.is value
+    rw (← c.in-Some.ensures.found.0) (reads g.D.SectorDisk g.E.SectorDisk a.core.now new c.in-Some.pid a.addr a.width a.kind c.access.result c.access.ensures c.in-Some.ensures.found.1 c.requires.kind c.in-Ok.place c.in-Ok.is value
     (c.read_number-value.ensures
     ∙ ap (λ (b : List ℕ). loaded b (a.addr % 4096) (byte_count a.width)) (c.bytes-page.ensures ∙ ap (λ (n : ℕ). bytes_of new.frames n) c.frame_of-frame.ensures)))
 
 pub returns-in-Err-clause-keeps : goal.returns-in-Err-clause-keeps
 returns-in-Err-clause-keeps g c =
     let a = c.args in
-    subst (λ (p : ℕ). KeepsToPage g.D.SectorDisk g.E.SectorDisk a.core.now c.access.new.core p a.addr a.kind (reply_of c.refused.result)) c.in-Some.ensures.found.0
-    (subst (λ (r : Answer). KeepsToPage g.D.SectorDisk g.E.SectorDisk a.core.now c.access.new.core c.in-Some.pid a.addr a.kind (reply_of r)) (sym c.refused.ensures)
-    (keeps_refused g.D.SectorDisk g.E.SectorDisk a.core.now c.access.new.core c.in-Some.pid a.addr a.width a.kind c.access.result c.in-Err.refusal c.access.ensures c.in-Err.ensures.refusal))
+    rw (← c.in-Some.ensures.found.0) (rw c.refused.ensures (keeps_refused g.D.SectorDisk g.E.SectorDisk a.core.now c.access.new.core c.in-Some.pid a.addr a.width a.kind c.access.result c.in-Err.refusal c.access.ensures c.in-Err.ensures.refusal))
 
 pub returns-in-Err-clause-walked : goal.returns-in-Err-clause-walked
 returns-in-Err-clause-walked g c place walked =
-    (c.access.ensures.walked place (subst (λ (p : ℕ). IsWalked (picture_of c.args.core.now) p c.args.addr c.args.width c.args.kind place) (sym c.in-Some.ensures.found.0) walked)).0
+    (c.access.ensures.walked place (rw c.in-Some.ensures.found.0 walked)).0
 
 pub returns-in-Err-clause-comes : goal.returns-in-Err-clause-comes
 returns-in-Err-clause-comes g c =
     let a = c.args in
-    subst (λ (p : ℕ). CarriesRead g.D.SectorDisk g.E.SectorDisk a.core.now c.access.new.core p a.addr a.width a.kind (reply_of c.refused.result)) c.in-Some.ensures.found.0
-    (subst (λ (r : Answer). CarriesRead g.D.SectorDisk g.E.SectorDisk a.core.now c.access.new.core c.in-Some.pid a.addr a.width a.kind (reply_of r)) (sym c.refused.ensures)
-    (read_refused g.D.SectorDisk g.E.SectorDisk a.core.now c.access.new.core c.in-Some.pid a.addr a.width a.kind c.access.result c.access.ensures c.in-Some.ensures.found.1
+    rw (← c.in-Some.ensures.found.0) (rw c.refused.ensures (read_refused g.D.SectorDisk g.E.SectorDisk a.core.now c.access.new.core c.in-Some.pid a.addr a.width a.kind c.access.result c.access.ensures c.in-Some.ensures.found.1
     c.in-Err.refusal c.in-Err.ensures.refusal))
 
 pub returns-in_default-clause-walked : goal.returns-in_default-clause-walked

@@ -1,7 +1,7 @@
 use Rattle.spaces.proofs.Names.{ℕ, ◌<◌, ◌≡◌, inr, is_some, ◌/◌, ◌%◌, List, refl, sym, ap, ◌∙◌, subst, rules, arith, FrameTable, IsHeld, IsSound, with_bytes, IsHeld-above, IsHeld-not_zero, IsSound-step, with_bytes-others, IsThatPage, Grants}
 use Rattle.spaces.proofs.Names.{IsReadyToStore, IsOpenToStore, IsWalked, Tends, ShowsFile, picture_of, Store, Phys, Answer, Done, with_number, byte_count, reply_of}
 use Rattle.spaces.{specs.{Accesses.{KeepsToPage, LetsThrough}, Calls.{Comes}}, proofs.{Asking.{asks_unstalled, keeps_dead, keeps_refused, no_root, one_end, one_place, writes_walked}, Calls.{found_lives}}}
-use Rattle.spaces.proofs.Writing.{fit_stored, open_held, others_stored, room_stored, slotted_stored, store_refused, stores}
+use Rattle.spaces.proofs.Writing.{data_frame, fit_stored, open_held, others_stored, room_stored, slotted_stored, store_refused, stores}
 use Rattle.vm_types.specs.declared.access.Access.TheVariants as Accesses
 use Rattle.spaces.proofs.accesses.store.Goals as goal
 
@@ -11,9 +11,7 @@ frame_of-frame-requires g c =
 
 pub bytes_mut-page-requires : goal.bytes_mut-page-requires
 bytes_mut-page-requires g c =
-    let placed = c.in-Ok.ensures.placed in
-    open_held (picture_of c.access.new.core) c.in-Some.pid (c.args.addr / 4096) placed.seen.attr.backing c.frame_of-frame.result.0
-    (subst (λ (k : ℕ). IsOpenToStore (picture_of c.access.new.core) c.in-Some.pid (c.args.addr / 4096) placed.seen.attr.backing k) (sym c.frame_of-frame.ensures) placed.usable)
+    open_held (picture_of c.access.new.core) c.in-Some.pid (c.args.addr / 4096) c.in-Ok.ensures.placed.seen.attr.backing c.frame_of-frame.result.0 (rw c.frame_of-frame.ensures c.in-Ok.ensures.placed.usable)
 
 pub returns-in-Ok-clause-keeps : goal.returns-in-Ok-clause-keeps
 returns-in-Ok-clause-keeps g c =
@@ -21,13 +19,12 @@ returns-in-Ok-clause-keeps g c =
     let old = picture_of a.core.now in
     let mid = picture_of c.access.new.core in
     let found = c.in-Some.ensures.found.0 in
-    let tends = subst (λ (p : ℕ). Tends g.D.SectorDisk g.E.SectorDisk a.core.now c.access.new.core p (a.addr / 4096) Accesses.Store) found c.access.ensures.tends in
+    let tends = rw found at c.access.ensures.tends in
     let goes = tends.proceeds in
     let placed = c.in-Ok.ensures.placed in
     let n = c.frame_of-frame.result.0 in
     let backing = placed.seen.attr.backing in
-    let open_there = subst (λ (k : ℕ). IsOpenToStore mid c.in-Some.pid (a.addr / 4096) backing k) (sym c.frame_of-frame.ensures) placed.usable in
-    let usable = subst (λ (p : ℕ). IsOpenToStore mid p (a.addr / 4096) backing n) found open_there in
+    let usable = rw (← c.frame_of-frame.ensures, found) at placed.usable in
     let written = writes_walked c.access.new.core c.access.new.core _ n n (a.addr % 4096) a.stored c.write_number.new.page refl refl
     (record { store = refl; swap = refl; cache = refl; roots = refl; regions = refl; page_of = refl }) refl refl refl
     (c.write_number.ensures
@@ -53,8 +50,8 @@ returns-in-Ok-clause-keeps g c =
           (slotted_stored old mid _ a.pid (a.addr / 4096) backing n c.write_number.new.page
           (ShowsFile old a.pid (a.addr / 4096)) (IsThatPage a.pid (a.addr / 4096)) goes.fit usable refl
           (record { slots = refl; root = λ q. refl; at = λ q k. refl; page_of = λ m. refl; place = λ p. refl; touched = λ p. refl; files = λ f. refl }) tends.slotted)
-          (inr (n, a.addr % 4096, a.stored, written)) Done (λ stall e. cc)
-          (λ done. subst (λ (p : ℕ). LetsThrough mid p a.addr Accesses.Store) found (placed.root, c.in-Ok.place, placed.lives, placed.place));
+          (inr (n, a.addr % 4096, a.stored, data_frame mid a.pid (a.addr / 4096) n backing goes.fit usable, written)) Done (λ stall e. cc) (λ e. refl)
+          (λ done. rw (← found) (placed.root, c.in-Ok.place, placed.lives, placed.place));
     }
 
 pub returns-in-Ok-clause-comes : goal.returns-in-Ok-clause-comes
@@ -62,10 +59,8 @@ returns-in-Ok-clause-comes g c = λ s shows keeps swaps.
     let a = c.args in
     let mid = c.access.new.core in
     let n = c.frame_of-frame.result.0 in
-    let granted = subst (λ (p : ℕ). Grants (picture_of a.core.now) (picture_of mid) p a.addr a.stored.width Accesses.Store c.in-Ok.place) c.in-Some.ensures.found.0
-    (c.in-Ok.ensures.granted (λ away. swaps refl)) in
-    let ready = subst (λ (k : ℕ). IsReadyToStore (picture_of a.core.now) (picture_of mid) a.pid (a.addr / 4096) granted.seen granted.seen.attr.backing k)
-    (sym c.frame_of-frame.ensures) granted.ready in
+    let granted = rw c.in-Some.ensures.found.0 at (c.in-Ok.ensures.granted (λ away. swaps refl)) in
+    let ready = rw (← c.frame_of-frame.ensures) at granted.ready in
     stores g.D.SectorDisk g.E.SectorDisk a.core.now mid _ s shows (keeps refl) (swaps refl) c.requires.sound.fit c.access.ensures.proceeds c.access.ensures.brings
     a.pid a.addr (found_lives (picture_of a.core.now) c.in-Some.pid a.pid c.in-Some.ensures.found) a.stored granted.seen granted.fine n _ c.write_number.new.page refl
     (record { slots = refl; root = λ q. refl; at = λ q k. refl; page_of = λ m. refl; place = λ p. refl; touched = λ p. refl; files = λ f. refl })
@@ -76,7 +71,7 @@ returns-in-Ok-clause-comes g c = λ s shows keeps swaps.
 pub returns-in-Ok-clause-walked : goal.returns-in-Ok-clause-walked
 returns-in-Ok-clause-walked g c place walked =
     let a = c.args in
-    let granted = c.access.ensures.walked place (subst (λ (p : ℕ). IsWalked (picture_of a.core.now) p a.addr a.stored.width Accesses.Store place) (sym c.in-Some.ensures.found.0) walked) in
+    let granted = c.access.ensures.walked place (rw c.in-Some.ensures.found.0 walked) in
     let number = c.frame_of-frame.ensures ∙ ap (λ (p : Phys). p.0 / 4096) (one_place c.access.result c.in-Ok.place place c.in-Ok.is granted.1) in
     writes_walked a.core.now c.access.new.core _ c.frame_of-frame.result.0 (place.0 / 4096) (a.addr % 4096) a.stored c.write_number.new.page granted.0 number
     (record { store = refl; swap = refl; cache = refl; roots = refl; regions = refl; page_of = refl }) refl refl refl
@@ -87,22 +82,18 @@ pub returns-in-Err-clause-comes : goal.returns-in-Err-clause-comes
 returns-in-Err-clause-comes g c = λ s shows keeps swaps.
     let a = c.args in
     let new = c.access.new.core in
-    subst (λ (p : ℕ). Comes g.D.SectorDisk g.E.SectorDisk a.core.now new s (Store p a.addr a.stored) (reply_of c.refused.result)) c.in-Some.ensures.found.0
-    (subst (λ (r : Answer). Comes g.D.SectorDisk g.E.SectorDisk a.core.now new s (Store c.in-Some.pid a.addr a.stored) (reply_of r)) (sym c.refused.ensures)
-    (store_refused g.D.SectorDisk g.E.SectorDisk a.core.now new _ s shows (keeps refl) (swaps refl) c.requires.sound.fit c.access.ensures.proceeds c.access.ensures.brings
+    rw (← c.in-Some.ensures.found.0) (rw c.refused.ensures (store_refused g.D.SectorDisk g.E.SectorDisk a.core.now new _ s shows (keeps refl) (swaps refl) c.requires.sound.fit c.access.ensures.proceeds c.access.ensures.brings
     c.in-Some.pid a.addr c.in-Some.ensures.found.1 a.stored c.in-Err.refusal c.in-Err.ensures.refusal))
 
 pub returns-in-Err-clause-keeps : goal.returns-in-Err-clause-keeps
 returns-in-Err-clause-keeps g c =
     let a = c.args in
     let new = c.access.new.core in
-    subst (λ (p : ℕ). KeepsToPage g.D.SectorDisk g.E.SectorDisk a.core.now new p a.addr Accesses.Store (reply_of c.refused.result)) c.in-Some.ensures.found.0
-    (subst (λ (r : Answer). KeepsToPage g.D.SectorDisk g.E.SectorDisk a.core.now new c.in-Some.pid a.addr Accesses.Store (reply_of r)) (sym c.refused.ensures)
-    (keeps_refused g.D.SectorDisk g.E.SectorDisk a.core.now new c.in-Some.pid a.addr a.stored.width Accesses.Store c.access.result c.in-Err.refusal c.access.ensures c.in-Err.ensures.refusal))
+    rw (← c.in-Some.ensures.found.0) (rw c.refused.ensures (keeps_refused g.D.SectorDisk g.E.SectorDisk a.core.now new c.in-Some.pid a.addr a.stored.width Accesses.Store c.access.result c.in-Err.refusal c.access.ensures c.in-Err.ensures.refusal))
 
 pub returns-in-Err-clause-walked : goal.returns-in-Err-clause-walked
 returns-in-Err-clause-walked g c place walked =
-    let granted = c.access.ensures.walked place (subst (λ (p : ℕ). IsWalked (picture_of c.args.core.now) p c.args.addr c.args.stored.width Accesses.Store place) (sym c.in-Some.ensures.found.0) walked) in
+    let granted = c.access.ensures.walked place (rw c.in-Some.ensures.found.0 walked) in
     absurd (one_end c.access.result place c.in-Err.refusal c.in-Err.is granted.1)
 
 pub returns-in_default-clause-walked : goal.returns-in_default-clause-walked
@@ -121,7 +112,7 @@ invariant_of-core-clause-sound g c =
     let mid = c.access.new.core in
     let n = c.frame_of-frame.result.0 in
     let placed = c.in-Ok.ensures.placed in
-    let usable = subst (λ (k : ℕ). IsOpenToStore (picture_of mid) c.in-Some.pid (c.args.addr / 4096) placed.seen.attr.backing k) (sym c.frame_of-frame.ensures) placed.usable in
+    let usable = rw (← c.frame_of-frame.ensures) at placed.usable in
     sound_written mid.frames n c.write_number.new.page (open_held (picture_of mid) c.in-Some.pid (c.args.addr / 4096) placed.seen.attr.backing n usable) mid.sound
 
 -- the frame that was written is one of as many as there were

@@ -7,22 +7,20 @@ clear_row-requires-clause-row g c =
     let here : attr_at c.regions.result.now ≡ (picture_of c.args.core.now).at c.in-Some.pid = λ t page. c.regions.ensures page t in
     covered_within g.M.Levels.mode ((picture_of c.args.core.now).at c.in-Some.pid) (c.args.addr / 4096) c.div_ceil-pages.result (c.requires.sound.fit.granting.user c.in-Some.pid)
     (omega (arith, c.div_ceil-pages.ensures, c.if-len-eq0.false))
-    (subst (λ (m : ℕ → Option Attr). is_covered m (c.args.addr / 4096) c.div_ceil-pages.result ≡ true) here (sym c.covers.ensures ∙ c.if-not-covers.false))
+    (rw (← here) (sym c.covers.ensures ∙ c.if-not-covers.false))
 
 pub returns-then-not-covers-clause-comes : goal.returns-then-not-covers-clause-comes
 returns-then-not-covers-clause-comes g c = λ s shows reads swaps.
     let a = c.args in
     let found = c.in-Some.ensures.found in
-    subst (λ (p : ℕ). Comes g.D.SectorDisk g.E.SectorDisk a.core.now a.core.now s (Dontneed p a.addr a.len) (Refused ENOMEM)) found.0
-    (refused_hole g.D.SectorDisk g.E.SectorDisk a.core.now s c.in-Some.pid a.addr a.len shows.pages found.1 (omega arith) c.if-len-eq0.false
+    rw (← found.0) (refused_hole g.D.SectorDisk g.E.SectorDisk a.core.now s c.in-Some.pid a.addr a.len shows.pages found.1 (omega arith) c.if-len-eq0.false
     c.regions.result.now c.regions.ensures c.div_ceil-pages.result (omega (arith, c.div_ceil-pages.ensures)) (sym c.covers.ensures ∙ c.if-not-covers.true))
 
 pub returns-clause-comes : goal.returns-clause-comes
 returns-clause-comes g c = λ s shows reads swaps.
     let a = c.args in
     let found = c.in-Some.ensures.found in
-    subst (λ (p : ℕ). Comes g.D.SectorDisk g.E.SectorDisk a.core.now c.clear_row.new.core s (Dontneed p a.addr a.len) Done) found.0
-    (gives_up g.D.SectorDisk g.E.SectorDisk a.core.now s c.in-Some.pid a.addr a.len shows.pages found.1 (omega arith) c.if-len-eq0.false
+    rw (← found.0) (gives_up g.D.SectorDisk g.E.SectorDisk a.core.now s c.in-Some.pid a.addr a.len shows.pages found.1 (omega arith) c.if-len-eq0.false
     c.regions.result.now c.regions.ensures c.div_ceil-pages.result (omega (arith, c.div_ceil-pages.ensures)) (sym c.covers.ensures ∙ c.if-not-covers.false)
     c.clear_row.new.core c.clear_row.ensures.row c.clear_row.ensures.files)
 
@@ -34,7 +32,7 @@ returns-clause-keeps g c =
     let room = room_same old new cleared.rest.cache in
     let sound = sound_kept old new room g.D.SectorDisk g.E.SectorDisk cleared.rest.store cleared.rest.pages cleared.fit c.requires.sound in
     let takes = takes_cleared old new c.in-Some.pid 0 0 c.requires.sound.fit cleared.fit cleared.rest.roots cleared.tables cleared.rest.cache cleared.others in
-    subst (λ (p : ℕ). GivesPagesBack g.D.SectorDisk g.E.SectorDisk old new p 0 0 Done) c.in-Some.ensures.found.0 (search rules)
+    rw (← c.in-Some.ensures.found.0) (search rules)
 
 pub returns-then-len-eq0-clause-entries : goal.returns-then-len-eq0-clause-entries
 returns-then-len-eq0-clause-entries g c = record {
@@ -49,5 +47,4 @@ returns-clause-entries g c =
     let new = picture_of c.clear_row.new.core in
     let row = c.clear_row.ensures.row in
     let count : c.div_ceil-pages.result ≡ page_count a.len = omega (arith, c.div_ceil-pages.ensures) in
-    subst (λ (p : ℕ). EmptiesRange old new p (a.addr / 4096) (page_count a.len) Done) c.in-Some.ensures.found.0
-    (subst (λ (n : ℕ). EmptiesRange old new c.in-Some.pid (a.addr / 4096) n Done) count (record { beside = row.kept; bare = λ done. row.entries }))
+    rw (← c.in-Some.ensures.found.0) (rw (← count) (record { beside = row.kept; bare = λ done. row.entries }))

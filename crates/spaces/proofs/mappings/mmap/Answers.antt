@@ -24,8 +24,7 @@ remap-requires-clause-objects g c =
     let here : attr_at c.regions-regions.result.now ≡ at pid = λ t page. c.regions-regions.ensures page t in
     objects_mapped g.M.Levels.mode at pid first pages (attr_at c.planned.new.next) c.args.request.source c.args.request.prot fit.granting.objects fit.granting.user (lives_below c.args.core.now fit)
     (λ is. new_unused g.M.Levels.mode at pid first pages (nobody_has c.args.core.now fit) fit.granting.user (c.in-Ok.ensures.few is))
-    (subst (λ (m : ℕ → Option Attr). (page : ℕ) → attr_at c.planned.new.next page ≡ replaced m first pages (attr_there at pid pages c.args.request.source c.args.request.prot first) page) here
-    c.in-Ok.ensures.ok.map)
+    (rw (← here) c.in-Ok.ensures.ok.map)
 
 pub overflow_mul-result : goal.overflow_mul-result
 overflow_mul-result g c = omega (arith, c.in-Ok.ensures.ok.high, (sizes g.M.Levels.mode).most)
@@ -35,8 +34,7 @@ returns-in-Ok-clause-comes g c = λ s shows reads swaps.
     let a = c.args in
     let r = a.request in
     let found = c.in-Some.ensures.found in
-    subst (λ (p : ℕ). Comes g.D.SectorDisk g.E.SectorDisk a.core.now c.remap.new.core s (Mmap p r.addr r.len r.prot r.source r.placing) (Address (c.in-Ok.first * 4096))) found.0
-    (maps g.D.SectorDisk g.E.SectorDisk a.core.now s c.in-Some.pid r.addr r.len r.prot r.source r.placing shows.pages found.1
+    rw (← found.0) (maps g.D.SectorDisk g.E.SectorDisk a.core.now s c.in-Some.pid r.addr r.len r.prot r.source r.placing shows.pages found.1
     c.in_default-refusal.ensures.asked c.regions-regions.result.now c.regions-regions.ensures c.div_ceil-pages.result (omega (arith, c.div_ceil-pages.ensures))
     c.in-Ok.first c.planned.new.next c.in-Ok.ensures.ok c.remap.new.core c.remap.ensures.fit c.remap.ensures.row c.remap.ensures.files)
 
@@ -45,8 +43,7 @@ returns-in-Err-clause-comes g c = λ s shows reads swaps.
     let a = c.args in
     let r = a.request in
     let found = c.in-Some.ensures.found in
-    subst (λ (p : ℕ). Comes g.D.SectorDisk g.E.SectorDisk a.core.now a.core.now s (Mmap p r.addr r.len r.prot r.source r.placing) (Refused c.in-Err.errno)) found.0
-    (refused_place g.D.SectorDisk g.E.SectorDisk a.core.now s c.in-Some.pid r.addr r.len r.prot r.source r.placing shows.pages found.1
+    rw (← found.0) (refused_place g.D.SectorDisk g.E.SectorDisk a.core.now s c.in-Some.pid r.addr r.len r.prot r.source r.placing shows.pages found.1
     c.in_default-refusal.ensures.asked c.regions-regions.result.now c.regions-regions.ensures c.div_ceil-pages.result (omega (arith, c.div_ceil-pages.ensures))
     c.in-Err.errno c.in-Err.ensures.err)
 
@@ -63,9 +60,7 @@ returns-in-Ok-clause-keeps g c =
     let room : KeepsRoom (picture_of old) (picture_of new) = record { frames = done.frames; slots = done.slots.total } in
     let sound = sound_kept old new room g.D.SectorDisk g.E.SectorDisk done.devices.store done.devices.pages done.fit c.requires.sound in
     let takes = takes_remapped old new pid first c.div_ceil-pages.result c.requires.sound.fit done.fit done.roots done.tables done.files done.others in
-    subst (λ (p : ℕ). GivesPagesBack g.D.SectorDisk g.E.SectorDisk old new p (first * 4096 / 4096) pages (Address (first * 4096))) c.in-Some.ensures.found.0
-    (subst (λ (n : ℕ). GivesPagesBack g.D.SectorDisk g.E.SectorDisk old new pid n pages (Address (first * 4096))) place
-    (subst (λ (n : ℕ). GivesPagesBack g.D.SectorDisk g.E.SectorDisk old new pid first n (Address (first * 4096))) count (search rules)))
+    rw (← c.in-Some.ensures.found.0) (rw (← place) (rw (← count) (search rules)))
 
 pub returns-in-Ok-clause-entries : goal.returns-in-Ok-clause-entries
 returns-in-Ok-clause-entries g c =
@@ -76,6 +71,4 @@ returns-in-Ok-clause-entries g c =
     let row = c.remap.ensures.row in
     let count : c.div_ceil-pages.result ≡ page_count a.request.len = omega (arith, c.div_ceil-pages.ensures) in
     let place : first ≡ first * 4096 / 4096 = omega arith in
-    subst (λ (p : ℕ). EmptiesRange old new p (first * 4096 / 4096) (page_count a.request.len) (Address (first * 4096))) c.in-Some.ensures.found.0
-    (subst (λ (n : ℕ). EmptiesRange old new c.in-Some.pid n (page_count a.request.len) (Address (first * 4096))) place
-    (subst (λ (n : ℕ). EmptiesRange old new c.in-Some.pid first n (Address (first * 4096))) count (record { beside = row.kept; bare = λ done. row.entries })))
+    rw (← c.in-Some.ensures.found.0) (rw (← place) (rw (← count) (record { beside = row.kept; bare = λ done. row.entries })))

@@ -3,8 +3,7 @@ use Rattle.spaces.proofs.processes.exit.Goals as goal
 
 pub returns-clause-comes : goal.returns-clause-comes
 returns-clause-comes g c = λ s shows reads swaps.
-    subst (λ (p : ℕ). Comes g.D.SectorDisk g.E.SectorDisk c.args.core.now c.exit.new.core s (Exit p) Done) c.in-Some.ensures.found.0
-    (exits g.D.SectorDisk g.E.SectorDisk c.args.core.now c.exit.new.core s c.in-Some.pid shows.pages c.in-Some.ensures.found.1
+    rw (← c.in-Some.ensures.found.0) (exits g.D.SectorDisk g.E.SectorDisk c.args.core.now c.exit.new.core s c.in-Some.pid shows.pages c.in-Some.ensures.found.1
     c.requires.sound.fit c.exit.ensures.fit c.exit.ensures.files c.exit.ensures.removed)
 
 pub returns-clause-keeps : goal.returns-clause-keeps
@@ -15,4 +14,4 @@ returns-clause-keeps g c =
     let end = user_end g.M.Levels.mode in
     let sound = sound_kept old new ends.room g.D.SectorDisk g.E.SectorDisk ends.devices.store ends.devices.pages ends.fit c.requires.sound in
     let takes = takes_named (picture_of old) (picture_of new) c.in-Some.pid 0 end ends.frames ends.files ends.others in
-    subst (λ (p : ℕ). GivesPagesBack g.D.SectorDisk g.E.SectorDisk old new p 0 end Done) c.in-Some.ensures.found.0 (search rules)
+    rw (← c.in-Some.ensures.found.0) (search rules)

@@ -11,8 +11,7 @@ pub returns-in-Ok-clause-comes : goal.returns-in-Ok-clause-comes
 returns-in-Ok-clause-comes g c = λ s shows reads swaps.
     let old = c.args.core.now in
     let found = c.in-Some.ensures.found in
-    subst (λ (p : ℕ). Comes g.D.SectorDisk g.E.SectorDisk old c.fork.new.core s (Fork p) (Process c.in-Some-free_pid.child)) found.0
-    (forks_to g.D.SectorDisk g.E.SectorDisk old s shows.pages c.free_pid.result c.free_pid.ensures.least c.in-Some.parent found.1
+    rw (← found.0) (forks_to g.D.SectorDisk g.E.SectorDisk old s shows.pages c.free_pid.result c.free_pid.ensures.least c.in-Some.parent found.1
     c.in-Some-free_pid.child c.in-Some-free_pid.is c.fork.new.core c.fork.ensures.files c.in-Ok.ensures.ok)
 
 pub returns-in-Err-clause-comes : goal.returns-in-Err-clause-comes
@@ -20,8 +19,7 @@ returns-in-Err-clause-comes g c = λ s shows reads swaps.
     let old = c.args.core.now in
     let found = c.in-Some.ensures.found in
     let said = c.in-Err.ensures in
-    subst (λ (p : ℕ). Comes g.D.SectorDisk g.E.SectorDisk old c.fork.new.core s (Fork p) (Stalled c.in-Err.stall)) found.0
-    (fork_stalls g.D.SectorDisk g.E.SectorDisk old s shows.pages c.free_pid.result c.free_pid.ensures.least c.in-Some.parent found.1
+    rw (← found.0) (fork_stalls g.D.SectorDisk g.E.SectorDisk old s shows.pages c.free_pid.result c.free_pid.ensures.least c.in-Some.parent found.1
     c.in-Some-free_pid.child c.in-Some-free_pid.is c.fork.new.core c.in-Err.stall c.requires.sound.fit said.cause said.short c.fork.ensures.room c.fork.ensures.files said.err)
 
 pub returns-in-Err-clause-keeps : goal.returns-in-Err-clause-keeps

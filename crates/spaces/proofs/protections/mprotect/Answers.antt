@@ -3,13 +3,11 @@ use Rattle.spaces.{specs.{Calls.{Comes}, Ranges.{GivesPagesBack, PermitsRange}},
 use Rattle.spaces.proofs.protections.mprotect.Goals as goal
 
 pub reprotect-requires-clause-reads : goal.reprotect-requires-clause-reads
-reprotect-requires-clause-reads g c = subst (λ (p : Prot). ReadsToo p) (sym c.kept.ensures) (reads_kept c.args.request.prot)
+reprotect-requires-clause-reads g c = rw c.kept.ensures (reads_kept c.args.request.prot)
 
 pub reprotect-requires-clause-map : goal.reprotect-requires-clause-map
 reprotect-requires-clause-map g c =
-    subst (λ (p : Prot). (page : ℕ) → attr_at c.permitted.new.next page ≡ protected ((picture_of c.args.core.now).at c.in-Some.pid) (c.args.request.addr / 4096) c.div_ceil-pages.result p page)
-    (sym c.kept.ensures)
-    (protected_map c.regions.result.now c.permitted.new.next ((picture_of c.args.core.now).at c.in-Some.pid) (c.args.request.addr / 4096) c.div_ceil-pages.result _
+    rw c.kept.ensures (protected_map c.regions.result.now c.permitted.new.next ((picture_of c.args.core.now).at c.in-Some.pid) (c.args.request.addr / 4096) c.div_ceil-pages.result _
     c.regions.ensures c.in-Ok.ensures.ok.map)
 
 pub returns-in-Ok-clause-comes : goal.returns-in-Ok-clause-comes
@@ -17,17 +15,15 @@ returns-in-Ok-clause-comes g c = λ s shows reads swaps.
     let a = c.args in
     let found = c.in-Some.ensures.found in
     let pages = c.div_ceil-pages.result in
-    subst (λ (p : ℕ). Comes g.D.SectorDisk g.E.SectorDisk a.core.now c.reprotect.new.core s (Mprotect p a.request.addr a.request.len a.request.prot) Done) found.0
-    (protects g.D.SectorDisk g.E.SectorDisk a.core.now s c.in-Some.pid a.request.addr a.request.len a.request.prot shows.pages found.1 (omega arith) c.if-len-eq0.false
+    rw (← found.0) (protects g.D.SectorDisk g.E.SectorDisk a.core.now s c.in-Some.pid a.request.addr a.request.len a.request.prot shows.pages found.1 (omega arith) c.if-len-eq0.false
     c.regions.result.now c.regions.ensures pages (omega (arith, c.div_ceil-pages.ensures)) c.permitted.new.next c.in-Ok.ensures.ok c.reprotect.new.core
-    (subst (λ (p : Prot). ReprotectsRow (picture_of a.core.now) (picture_of c.reprotect.new.core) c.in-Some.pid (a.request.addr / 4096) pages p) c.kept.ensures c.reprotect.ensures.row))
+    (rw (← c.kept.ensures) c.reprotect.ensures.row))
 
 pub returns-in-Err-clause-comes : goal.returns-in-Err-clause-comes
 returns-in-Err-clause-comes g c = λ s shows reads swaps.
     let a = c.args in
     let found = c.in-Some.ensures.found in
-    subst (λ (p : ℕ). Comes g.D.SectorDisk g.E.SectorDisk a.core.now a.core.now s (Mprotect p a.request.addr a.request.len a.request.prot) (Refused c.in-Err.errno)) found.0
-    (refuses g.D.SectorDisk g.E.SectorDisk a.core.now s c.in-Some.pid a.request.addr a.request.len a.request.prot shows.pages found.1 (omega arith) c.if-len-eq0.false
+    rw (← found.0) (refuses g.D.SectorDisk g.E.SectorDisk a.core.now s c.in-Some.pid a.request.addr a.request.len a.request.prot shows.pages found.1 (omega arith) c.if-len-eq0.false
     c.regions.result.now c.regions.ensures c.div_ceil-pages.result (omega (arith, c.div_ceil-pages.ensures)) c.in-Err.errno c.in-Err.ensures.err)
 
 pub returns-in-Ok-clause-keeps : goal.returns-in-Ok-clause-keeps
@@ -38,7 +34,7 @@ returns-in-Ok-clause-keeps g c =
     let pages = ap (λ (s : Swap _). s.pages) done.swap in
     let sound = sound_kept old new (room_same old new done.cache) g.D.SectorDisk g.E.SectorDisk done.store pages done.fit c.requires.sound in
     let takes = takes_rewritten old new c.in-Some.pid 0 0 done.frames done.cache done.others in
-    subst (λ (p : ℕ). GivesPagesBack g.D.SectorDisk g.E.SectorDisk old new p 0 0 Done) c.in-Some.ensures.found.0 (search rules)
+    rw (← c.in-Some.ensures.found.0) (search rules)
 
 pub returns-then-len-eq0-clause-entries : goal.returns-then-len-eq0-clause-entries
 returns-then-len-eq0-clause-entries g c = record {
@@ -53,9 +49,8 @@ returns-in-Ok-clause-entries g c =
     let new = picture_of c.reprotect.new.core in
     let first = a.request.addr / 4096 in
     let count : c.div_ceil-pages.result ≡ page_count a.request.len = omega (arith, c.div_ceil-pages.ensures) in
-    let row = subst (λ (p : Prot). ReprotectsRow old new c.in-Some.pid first c.div_ceil-pages.result p) c.kept.ensures c.reprotect.ensures.row in
-    subst (λ (p : ℕ). PermitsRange old new p first (page_count a.request.len) a.request.prot Done) c.in-Some.ensures.found.0
-    (subst (λ (n : ℕ). PermitsRange old new c.in-Some.pid first n a.request.prot Done) count (record { beside = row.kept; permits = λ done. row.entries }))
+    let row = rw c.kept.ensures at c.reprotect.ensures.row in
+    rw (← c.in-Some.ensures.found.0) (rw (← count) (record { beside = row.kept; permits = λ done. row.entries }))
 
 pub returns-in-Ok-clause-swap : goal.returns-in-Ok-clause-swap
 returns-in-Ok-clause-swap g c = c.reprotect.ensures.swap

@@ -30,8 +30,7 @@ returns-in-Ok-clause-comes g c = λ s shows reads swaps.
     let found = c.in-Some.ensures.found in
     let pages = c.div_ceil-pages.result in
     let start = c.min-start.result in
-    subst (λ (p : ℕ). Comes g.D.SectorDisk g.E.SectorDisk a.core.now c.remap.new.core s (Munmap p a.addr a.len) Done) found.0
-    (unmaps g.D.SectorDisk g.E.SectorDisk a.core.now s c.in-Some.pid a.addr a.len shows.pages found.1 (omega arith) (omega arith)
+    rw (← found.0) (unmaps g.D.SectorDisk g.E.SectorDisk a.core.now s c.in-Some.pid a.addr a.len shows.pages found.1 (omega arith) (omega arith)
     c.regions-regions.result.now c.regions-regions.ensures pages (omega (arith, c.div_ceil-pages.ensures))
     c.in-Ok.ensures.few c.remove_into.new.next c.in-Ok.ensures.ok (c.requires.sound.fit.granting.user c.in-Some.pid) start (c.min-end.result - start)
     (c.min-start.ensures ∙ ap (λ (n : ℕ). min (a.addr / 4096) n) c.user_end-stop.ensures.end)
@@ -42,8 +41,7 @@ pub returns-in-Err-clause-comes : goal.returns-in-Err-clause-comes
 returns-in-Err-clause-comes g c = λ s shows reads swaps.
     let a = c.args in
     let found = c.in-Some.ensures.found in
-    subst (λ (p : ℕ). Comes g.D.SectorDisk g.E.SectorDisk a.core.now a.core.now s (Munmap p a.addr a.len) (Refused ENOMEM)) found.0
-    (refused_many g.D.SectorDisk g.E.SectorDisk a.core.now s c.in-Some.pid a.addr a.len shows.pages found.1 (omega arith) (omega arith)
+    rw (← found.0) (refused_many g.D.SectorDisk g.E.SectorDisk a.core.now s c.in-Some.pid a.addr a.len shows.pages found.1 (omega arith) (omega arith)
     c.regions-regions.result.now c.regions-regions.ensures c.div_ceil-pages.result (omega (arith, c.div_ceil-pages.ensures)) c.in-Err.ensures.too_many)
 
 pub returns-in-Ok-clause-keeps : goal.returns-in-Ok-clause-keeps
@@ -65,9 +63,8 @@ returns-in-Ok-clause-keeps g c =
     let room : KeepsRoom (picture_of old) (picture_of new) = record { frames = done.frames; slots = done.slots.total } in
     let sound = sound_kept old new room g.D.SectorDisk g.E.SectorDisk done.devices.store done.devices.pages done.fit c.requires.sound in
     let takes = takes_remapped old new pid first pages c.requires.sound.fit done.fit done.roots done.tables
-    (subst (λ (maps : Maps). KeepsNamed maps (picture_of old) (picture_of new)) (sym row) done.files) done.others in
-    subst (λ (p : ℕ). GivesPagesBack g.D.SectorDisk g.E.SectorDisk old new p first (page_count a.len) Done) c.in-Some.ensures.found.0
-    (subst (λ (n : ℕ). GivesPagesBack g.D.SectorDisk g.E.SectorDisk old new pid first n Done) count (search rules))
+    (rw row done.files) done.others in
+    rw (← c.in-Some.ensures.found.0) (rw (← count) (search rules))
 
 pub returns-in-Ok-clause-beside : goal.returns-in-Ok-clause-beside
 returns-in-Ok-clause-beside g c =
@@ -79,6 +76,4 @@ returns-in-Ok-clause-beside g c =
     let outside = beside_part g.M.Levels.mode first pages start (c.min-end.result - start)
     (c.min-start.ensures ∙ ap (λ (n : ℕ). min first n) c.user_end-stop.ensures.end)
     (ap (λ (n : ℕ). n - start) (c.min-end.ensures ∙ ap (λ (n : ℕ). min (first + pages) n) c.user_end-stop.ensures.end)) in
-    subst (λ (p : ℕ). KeepsEntriesBeside (picture_of a.core.now) (picture_of c.remap.new.core) p first (page_count a.len)) c.in-Some.ensures.found.0
-    (subst (λ (n : ℕ). KeepsEntriesBeside (picture_of a.core.now) (picture_of c.remap.new.core) c.in-Some.pid first n) count
-    (λ page user out. c.remap.ensures.row.kept page user (outside page out)))
+    rw (← c.in-Some.ensures.found.0) (rw (← count) (λ page user out. c.remap.ensures.row.kept page user (outside page out)))

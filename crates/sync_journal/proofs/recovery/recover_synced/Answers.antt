@@ -1,6 +1,6 @@
-use Rattle.sync_journal.proofs.Names.{ℕ, [], Option, Result, Ok, take, if◌then◌else◌, refl, ap, sym, subst, ◌∙◌, arith, rules, length-take-le}
-use Rattle.sync_journal.specs.{Layout.{gate_sector, home_count}, Gate.{closed_sector}, Map.{AreHomes}, Standing.{standing_single}, Commit.{IsSettled}, Recovery.{GivesHomes, Finds}, declared.faults.RecoverFault.{RecoverFault}}
-use Rattle.sync_journal.proofs.{Sectors.{so_before}, Causes.{told_was, is_error, not_bad_device, blames_device, blames_on, blames_none}, OneRecoveries.{looked, closed_there, replays}}
+use Rattle.sync_journal.proofs.{Names.{ℕ, [], Option, Result, Ok, take, if◌then◌else◌, refl, ap, sym, subst, ◌∙◌, arith, rules, length-take-le}, Sectors.{so_before}, Causes.{told_was, is_error, not_bad_device, blames_device, blames_on}}
+use Rattle.sync_journal.{proofs.{Causes.{blames_none}, OneRecoveries.{looked, closed_there, replays}}, specs.{Layout.{gate_sector, home_count}, Gate.{closed_sector}, Map.{AreHomes}, Standing.{standing_single}, Recovery.{GivesHomes, Finds}}}
+use Rattle.sync_journal.specs.{declared.faults.RecoverFault.{RecoverFault}, Layouts.{IsSettled}, Commit.{one_journal}}
 use Rattle.sync_journal.proofs.recovery.recover_synced.Goals as goal
 
 pub slice_bounds-homes-end : goal.slice_bounds-homes-end
@@ -55,7 +55,7 @@ returns g c =
     let found = subst (λ (o : Option ℕ). GivesHomes sectors c.find_open.new.homes (Ok o)) c.in-Some.is c.in_ok-count.ensures.gives in
     replays d old read (λ k image left. g.met.D.SectorDisk.only_now old image k left) looks new (take c.in-Some.count c.find_open.new.homes) found.1
     (λ keeps. subst (λ (o : Option ℕ). Finds sectors (d.content old) c.find_open.new.homes (Ok o)) c.in-Some.is (c.in_ok-count.ensures.finds keeps)) c.replay.ensures.home
-    _ c.find_open.ensures.asks (λ keeps. so_before d old read (looks.touches (c.replay.ensures.home.kept keeps)) (λ n image. IsSettled d n image [] new (standing_single image)) looks.size (done.home.done keeps)) done.all_synced
+    _ c.find_open.ensures.asks (λ keeps. so_before d old read (looks.touches (c.replay.ensures.home.kept keeps)) (λ n image. IsSettled one_journal d n image [] new (standing_single image)) looks.size (done.home.done keeps)) done.all_synced
     (blames_none d old new _ (done.home.calm ∙ c.in_ok-count.ensures.looks.calm)) (λ keeps is. cc)
     (λ keeps. (let opened = subst (λ (o : Option ℕ). Finds sectors (d.content old) c.find_open.new.homes (Ok o)) c.in-Some.is (c.in_ok-count.ensures.finds (c.replay.ensures.home.kept keeps)) in
     done.zeros keeps ∙ ap (λ b. if b then closed_sector else (d.content old gate_sector)) (sym opened.gate)))

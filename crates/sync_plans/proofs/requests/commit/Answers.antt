@@ -1,5 +1,5 @@
-use Rattle.sync_plans.proofs.Names.{ℕ, Option, inr, refl, sym, subst, ◌∙◌, FileInfo, LeavesOnly, LeavesNow, StandsFor, ArePages, StandsForEither, PutsHomesOrNone, HasReadOnly, IsOutsideOf}
-use Rattle.sync_plans.{specs.{Pages.{lent_page}, Requests.{CommitsStore}}, proofs.Runs.{when_open, then_committed, laid_out, same_files, still_outside, found_store, told_so}}
+use Rattle.sync_plans.proofs.{Names.{ℕ, Option, inr, refl, sym, subst, ◌∙◌, FileInfo, LeavesOnly, LeavesNow, StandsFor, ArePages, StandsForEither, PutsHomesOrNone, HasReadOnly}, Runs.{when_open, then_committed, laid_out, same_files}}
+use Rattle.{sync_plans.{proofs.Runs.{still_outside, found_store, told_so}, specs.{Pages.{lent_page}, Requests.{CommitsStore}}}, sync_journal.specs.Kinds.{by_kind}}
 use Rattle.sync_plans.proofs.requests.commit.Goals as goal
 
 pub returns-in-Ok-commit-clause-commits : goal.returns-in-Ok-commit-clause-commits
@@ -38,7 +38,7 @@ returns-in-Ok-commit-clause-commits g c = λ k.
       outside =
           let opened = found.homes k1 (disk.content mid) (record { kept = λ n. inr refl }) in
           let done = c.in-Ok-commit.ensures.homes k2 tt (disk.content new) (record { kept = λ n. inr refl }) in
-          λ n out. done.outside n (subst (λ (s : ℕ). IsOutsideOf (disk.content mid) s n) (sym size)
+          λ n out. done.outside n (subst (λ (s : ℕ). by_kind.IsOutside (disk.content mid) s n) (sym size)
           (still_outside sectors (disk.content old) (disk.content mid) opened.outside n out)) ∙ opened.outside n out;
     })
 

@@ -1,4 +1,4 @@
-use Rattle.file_store.proofs.Names.{◌≡◌, ◌≤◌, ℕ, Err, inl, sym, ap, subst, ◌∙◌, rules, Image, NamesOnce, once_wider, layout_before, IsLookedAtIn, old_homes, StandsAsListed}
+use Rattle.file_store.proofs.Names.{◌≡◌, ◌≤◌, ℕ, Err, inl, sym, ap, subst, ◌∙◌, rules, Image, NamesOnce, once_wider, sizes_before, IsLookedAtIn, old_homes, StandsAsListed}
 use Rattle.file_store.specs.{declared.faults.OpenFault.TheVariants.{BadLayout}, Faults.{open_fault}, Standing.{IsHeadIn, IsBadLayoutIn, IsBadOldJournal, listed_entry}, Store.{entry_of}, Upgrade.{IsOldHead}, Versions.{homes_of, directory_of}}
 use Rattle.file_store.proofs.{Asking.{old_head_once}, Causes.{journal_from, is_this, same_Err}, Images.{homes_before}, Openings.{content_is, old_sound}}
 use Rattle.file_store.proofs.old_store.OldStore.find.Goals as goal
@@ -10,7 +10,7 @@ returns-in_err-directory-clause-bad_layout g c = λ k is.
     (c.in_err-directory.ensures.looks.bad k (ap Err (same_Err c.in_err-directory.field-0.0 BadLayout (sym made ∙ is))))
 
 pub find-requires : goal.find-requires
-find-requires g c = subst (λ m. (layout_before c.args.journals).homes ≤ m) (sym c.read_layout.ensures.looks.run.size)
+find-requires g c = subst (λ m. (sizes_before c.args.journals).homes ≤ m) (sym c.read_layout.ensures.looks.run.size)
     (subst (λ m. m ≤ g.D.SectorDisk.sector_count c.args.disk.now) (ap homes_of c.before-2.ensures ∙ homes_before c.args.journals) c.in_ok-directory.ensures.room)
 
 pub returns-in_err-journal-clause-bad_journal : goal.returns-in_err-journal-clause-bad_journal
@@ -44,7 +44,7 @@ returns-clause-found g c =
       found = λ k. record {
         sector = layout.found.sector (kept k) ∙ ap (λ v. content (directory_of v)) before;
         entries = λ f. layout.found.entries (kept k) f ∙ ap (λ v. listed_entry v content f) before;
-        stands = subst (λ (image : Image). StandsAsListed (layout_before c.args.journals) (old_homes c.in_ok-journal.journal) image) (same k) (c.in_ok-journal.ensures.found k);
+        stands = subst (λ (image : Image). StandsAsListed (sizes_before c.args.journals) (old_homes c.in_ok-journal.journal) image) (same k) (c.in_ok-journal.ensures.found k);
       };
       good_layout = λ k bad. layout.good (kept k) (subst (λ v. IsBadLayoutIn v n content) (sym before) bad);
       good_journal = λ k bad. c.in_ok-journal.ensures.good k (subst (λ (s : ℕ). IsBadOldJournal c.args.journals s (d.content mid)) (sym layout.looks.run.size)
@@ -60,7 +60,7 @@ returns-in_err-journal-clause-once g c = λ k.
     let d = g.D.SectorDisk in let old = c.args.disk.now in let mid = c.read_layout.new.disk in
     old_head_once c.args.journals (d.content old) (d.asked old) (d.asked mid) (d.asked c.find.new.disk)
     (subst (λ v. NamesOnce (IsHeadIn v) (d.asked old) (d.asked mid)) c.before-2.ensures c.read_layout.ensures.once)
-    (subst (λ (image : Image). NamesOnce (IsLookedAtIn (layout_before c.args.journals) image) (d.asked mid) (d.asked c.find.new.disk))
+    (subst (λ (image : Image). NamesOnce (IsLookedAtIn (sizes_before c.args.journals) image) (d.asked mid) (d.asked c.find.new.disk))
     (content_is d old mid (c.read_layout.ensures.looks.run.touches (c.find.ensures.run.kept k))) (c.find.ensures.once k))
 
 pub returns-clause-once : goal.returns-clause-once
@@ -68,5 +68,5 @@ returns-clause-once g c = λ k.
     let d = g.D.SectorDisk in let old = c.args.disk.now in let mid = c.read_layout.new.disk in
     old_head_once c.args.journals (d.content old) (d.asked old) (d.asked mid) (d.asked c.find.new.disk)
     (subst (λ v. NamesOnce (IsHeadIn v) (d.asked old) (d.asked mid)) c.before-2.ensures c.read_layout.ensures.once)
-    (subst (λ (image : Image). NamesOnce (IsLookedAtIn (layout_before c.args.journals) image) (d.asked mid) (d.asked c.find.new.disk))
+    (subst (λ (image : Image). NamesOnce (IsLookedAtIn (sizes_before c.args.journals) image) (d.asked mid) (d.asked c.find.new.disk))
     (content_is d old mid (c.read_layout.ensures.looks.run.touches (c.find.ensures.run.kept k))) (c.find.ensures.once k))

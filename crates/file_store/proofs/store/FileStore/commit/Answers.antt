@@ -1,6 +1,6 @@
-use Rattle.file_store.proofs.Names.{◌≡◌, ℕ, List, length, take, subst, arith, rules, on_ok_weaker, Image, weaker, changed, live_homes, journal_kind, StoreStandsFor, StoreStandsForEither, IsStoreKept, AsksEachOnce, commits_weaker}
-use Rattle.file_store.specs.{Layout.{padded_page}, Standing.{StandsFor, standing, directory_entry}, Store.{entry_of, inside_at, files_of, PutsHomesOrNone}, Commit.{StandsForEither}}
-use Rattle.file_store.proofs.{Reading.{has_content}, Homes.{entry_page}, Images.{stands_kept}, Rests.{ready_again, ready_with}, Changed.{are_homes, homes_front, homes_mapped, stands_changed, stands_either, homes_put, homes_either}}
+use Rattle.file_store.proofs.{Names.{◌≡◌, ℕ, List, length, take, subst, arith, rules, on_ok_weaker, Image, weaker, changed, live_homes, journal_kind, commits_weaker}, Reading.{has_content}, Homes.{entry_page}, Images.{stands_kept}}
+use Rattle.file_store.{proofs.{Rests.{ready_again, ready_with}, Changed.{are_homes, homes_front, homes_mapped, stands_changed, stands_either, homes_put, homes_either}}, specs.{Layout.{padded_page}, Standing.{StandsFor, standing}}}
+use Rattle.{file_store.specs.{Standing.{directory_entry}, Store.{entry_of, inside_at, files_of, PutsHomesOrNone}, Commit.{StandsForEither}}, sync_journal.specs.{Layouts.{IsKept, StandsForEitherPages, StandsForPages}, Kinds.{by_kind}}}
 use Rattle.file_store.proofs.store.FileStore.commit.Goals as goal
 
 pub fill_homes-requires-clause-inside : goal.fill_homes-requires-clause-inside
@@ -34,7 +34,7 @@ returns g c =
     let of_list = homes_front directory list c.fill_homes.new.homes (let few = c.requires.pages.few in omega (arith, few, long)) c.fill_homes.ensures.homes
     (λ i p at. entry_page kind sectors directory sound p (c.requires.pages.inside i p at)) in
     let are = are_homes kind sectors directory (files_of store) list homes sound c.requires.pages of_list in
-    let Either : Image → Type 0 = IsStoreKept sectors old (StoreStandsForEither (standing old) (changed (standing old) homes (λ i. padded_page (inside_at directory list i) (given i)))) in
+    let Either : Image → Type 0 = IsKept by_kind sectors old (StandsForEitherPages by_kind (standing old) (changed (standing old) homes (λ i. padded_page (inside_at directory list i) (given i)))) in
     record {
       ok = λ k ks files before after left changes. on_ok_weaker c.commit.result (λ settled image may. stands_changed kind sectors directory list homes given old image sound (rest k) of_list
           (settled.left image may) files before after (has_content d store.disk (StandsFor sectors files before) left) changes) (e.ok k (let ks' : g.S.PageSource.keeps_model c.commit.new.source.source.now = search rules in ks'));
@@ -50,7 +50,7 @@ returns g c =
       homes_moment = λ k ks. weaker d store.disk c.commit.new.disk Either (PutsHomesOrNone sectors directory list given old)
           (λ image kept. homes_either kind sectors directory list homes given old image sound (rest k) of_list are kept) (e.any_moment k (let ks' : g.S.PageSource.keeps_model c.commit.new.source.source.now = search rules in ks'));
       source_homes = λ k is. (e.source k is).left;
-      source = λ k is files before left. weaker d store.disk c.commit.new.disk (IsStoreKept sectors old (StoreStandsFor (standing old))) (StandsFor sectors files before)
+      source = λ k is files before left. weaker d store.disk c.commit.new.disk (IsKept by_kind sectors old (StandsForPages by_kind (standing old))) (StandsFor sectors files before)
           (λ image kept. stands_kept sectors old image kept files before (has_content d store.disk (StandsFor sectors files before) left)) (e.source_moments k is);
       source_now = λ k is files before left image may. stands_kept sectors old image ((e.source k is).left image may) files before (has_content d store.disk (StandsFor sectors files before) left);
       ready_after_source = λ is. ready_with d store c.commit.new.disk c.commit.new.self c.requires.ready e.kind e.size e.kept (e.source_live is) (λ k. (e.source k is).rest) (λ k. (e.source k is).outside);
@@ -59,7 +59,7 @@ returns g c =
       kept = search rules;
       asks = let a = e.asks.follows.1 in search rules;
       asks_device = search rules;
-      once = subst (λ (homes : List ℕ). AsksEachOnce d store.journal homes store.disk c.commit.new.disk) (homes_mapped directory list homes of_list) e.once;
+      once = subst (λ (homes : List ℕ). by_kind.AsksOnce d store.journal homes store.disk c.commit.new.disk) (homes_mapped directory list homes of_list) e.once;
       touches = search rules;
       causes = search rules;
     }

@@ -1,6 +1,6 @@
 use Rattle.std.proofs.lemmas.Grind.{common_steps}
 use Rattle.machine.proofs.Names.{rules, arith, refl, ap, reply_of, Spawn, Fork, Exit, Mmap, Munmap, Mprotect, Dontneed, Load, Store, Fetch}
-use Rattle.machine.proofs.{Accesses.{apart, carries_out, faults_live, fetch_live, given_back, lives, load_live, on_page, store_live}, Flat.{halted_accesses, stays_halted}}
+use Rattle.machine.proofs.{Accesses.{apart, carries_out, faults_live, given_back, lives, on_page}, Flat.{halted_accesses, stays_halted}, Steps.{outcome_keeps}}
 use Rattle.machine.proofs.engine.Engine.carry_out.Goals as goal
 
 pub returns-then-self : goal.returns-then-self
@@ -55,7 +55,7 @@ returns-in-Load g c =
     let call = c.load-answer in
     let pid = c.in-Load.pid in
     rw c.in-Load.is (carries_out g.D.SectorDisk g.E.SectorDisk (λ d i k left. g.met.D.SectorDisk.only_now d i k left) c.args.self.now _ call.new.core (Load pid c.in-Load.addr c.in-Load.width) (reply_of call.result) _ c.if-self.false (λ s. refl) c.noted.ensures.core c.noted.ensures.halted (ap reply_of c.noted.ensures.answer)
-    (λ s comes. c.noted.ensures.past (λ fault e. lives g.D.SectorDisk g.E.SectorDisk _ _ s _ _ pid comes (λ other. faults_live s pid _ other (load_live s c.in-Load.addr pid c.in-Load.width _)) fault (ap reply_of e)))
+    (λ s comes. c.noted.ensures.past (λ fault e. lives g.D.SectorDisk g.E.SectorDisk _ _ s _ _ pid comes (λ other. faults_live s pid _ other ((outcome_keeps s (Load pid c.in-Load.addr c.in-Load.width)).faults other)) fault (ap reply_of e)))
     (on_page g.D.SectorDisk g.E.SectorDisk _ _ _ _ _ _ _ call.ensures.keeps call.ensures.comes (λ s idle. idle)) (call.ensures.keeps.asks, call.ensures.walked))
 
 pub returns-in-Store : goal.returns-in-Store
@@ -63,7 +63,7 @@ returns-in-Store g c =
     let call = c.store-answer in
     let pid = c.in-Store.pid in
     rw c.in-Store.is (carries_out g.D.SectorDisk g.E.SectorDisk (λ d i k left. g.met.D.SectorDisk.only_now d i k left) c.args.self.now _ call.new.core (Store pid c.in-Store.addr c.in-Store.stored) (reply_of call.result) _ c.if-self.false (λ s. refl) c.noted-in-Store.ensures.core c.noted-in-Store.ensures.halted (ap reply_of c.noted-in-Store.ensures.answer)
-    (λ s comes. c.noted-in-Store.ensures.past (λ fault e. lives g.D.SectorDisk g.E.SectorDisk _ _ s _ _ pid comes (λ other. faults_live s pid _ other (store_live s pid c.in-Store.addr pid c.in-Store.stored _)) fault (ap reply_of e)))
+    (λ s comes. c.noted-in-Store.ensures.past (λ fault e. lives g.D.SectorDisk g.E.SectorDisk _ _ s _ _ pid comes (λ other. faults_live s pid _ other ((outcome_keeps s (Store pid c.in-Store.addr c.in-Store.stored)).faults other)) fault (ap reply_of e)))
     (on_page g.D.SectorDisk g.E.SectorDisk _ _ _ _ _ _ _ call.ensures.keeps call.ensures.comes (λ s idle. idle)) (call.ensures.keeps.asks, λ place walked _. call.ensures.walked place walked))
 
 pub returns-in-Fetch : goal.returns-in-Fetch
@@ -71,7 +71,7 @@ returns-in-Fetch g c =
     let call = c.fetch-answer in
     let pid = c.in-Fetch.pid in
     rw c.in-Fetch.is (carries_out g.D.SectorDisk g.E.SectorDisk (λ d i k left. g.met.D.SectorDisk.only_now d i k left) c.args.self.now _ call.new.core (Fetch pid c.in-Fetch.addr) (reply_of call.result) _ c.if-self.false (λ s. refl) c.noted-in-Fetch.ensures.core c.noted-in-Fetch.ensures.halted (ap reply_of c.noted-in-Fetch.ensures.answer)
-    (λ s comes. c.noted-in-Fetch.ensures.past (λ fault e. lives g.D.SectorDisk g.E.SectorDisk _ _ s _ _ pid comes (λ other. faults_live s pid _ other (fetch_live s c.in-Fetch.addr pid _)) fault (ap reply_of e)))
+    (λ s comes. c.noted-in-Fetch.ensures.past (λ fault e. lives g.D.SectorDisk g.E.SectorDisk _ _ s _ _ pid comes (λ other. faults_live s pid _ other ((outcome_keeps s (Fetch pid c.in-Fetch.addr)).faults other)) fault (ap reply_of e)))
     (on_page g.D.SectorDisk g.E.SectorDisk _ _ _ _ _ _ _ call.ensures.keeps call.ensures.comes (λ s idle. idle)) (call.ensures.keeps.asks, call.ensures.walked))
 
 pub returns-in-Msync : goal.returns-in-Msync

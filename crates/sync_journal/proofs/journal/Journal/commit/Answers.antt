@@ -1,5 +1,5 @@
-use Rattle.sync_journal.proofs.{Asking.{finish_only, commit_only, in_one, in_two}, Causes.{calm_first, told_on, told_was, not_source, puts_failed, asks_nothing}, Names.{length, refl, sym, subst, ◌∙◌, rules}, Rests.{live_at_rest}}
-use Rattle.sync_journal.{proofs.{Runs.{finished_run, committed_run}, Since.{either_of, both_either, both_before, settled_before, settled_after}}, specs.{Journal.{live_homes}, Layout.{IsOutside}}}
+use Rattle.sync_journal.proofs.{Asking.{finish_only, commit_only, in_one, in_two}, Causes.{calm_first, told_on, told_was, not_source, puts_failed, asks_nothing}, Names.{[], weaker, length, refl, sym, subst, ◌∙◌, rules}}
+use Rattle.sync_journal.{proofs.{Layouts.{or_before}, OneRecoveries.{ones_fix}, Runs.{finished_run, committed_run}, Since.{both_either, both_before, settled_before, settled_after}}, specs.{Journal.{live_homes}, Commit.{one_journal}, Layout.{IsOutside}}}
 use Rattle.sync_journal.proofs.journal.Journal.commit.Goals as goal
 
 pub returns-in_err-finish : goal.returns-in_err-finish
@@ -7,7 +7,8 @@ returns-in_err-finish g c =
     record {
       puts = puts_failed _ c.from_residual.ensures.1
           (λ keeps gives.
-          either_of g.D.SectorDisk c.args.disk.now c.finish.new.disk _ (c.finish.ensures.home.any_moment keeps))
+          weaker g.D.SectorDisk c.args.disk.now c.finish.new.disk _ _ (or_before one_journal (g.D.SectorDisk.sector_count c.args.disk.now) c.args.homes.now
+          (g.S.PageSource.pages c.args.source.now) (g.D.SectorDisk.content c.args.disk.now)) (c.finish.ensures.home.any_moment keeps))
           (in_one g.D.SectorDisk (live_homes c.args.self.now) (length c.args.homes.now) c.args.disk.now c.finish.new.disk c.finish.ensures.home.once)
           (finished_run g.D.SectorDisk (live_homes c.args.self.now) c.args.disk.now c.finish.new.disk c.finish.ensures.home.run)
           (asks_nothing g.S.PageSource c.args.source.now (g.met.S.PageSource.stays c.args.source.now)) (c.in_err-finish.ensures.home.failed refl) refl;
@@ -27,7 +28,7 @@ returns-in_err-publish g c =
         ok = search rules;
         rest = search rules;
         outside = search rules;
-        any_moment = λ keeps gives. (let mid = c.publish.ensures.kept keeps in both_either g.D.SectorDisk c.args.disk.now c.finish.new.disk c.publish.new.disk c.finish.ensures.home.run.size (c.in_ok-finish.ensures.home.done mid)
+        any_moment = λ keeps gives. (let mid = c.publish.ensures.kept keeps in both_either one_journal ones_fix g.D.SectorDisk c.args.disk.now c.finish.new.disk c.publish.new.disk c.finish.ensures.home.run.size (c.in_ok-finish.ensures.home.done mid)
             c.args.homes.now (g.S.PageSource.pages c.args.source.now) (c.finish.ensures.home.any_moment mid) (c.publish.ensures.any_moment keeps gives));
         once = in_two g.D.SectorDisk (live_homes c.args.self.now) (length c.args.homes.now) c.args.disk.now c.finish.new.disk c.publish.new.disk c.finish.ensures.home.once c.publish.ensures.once;
         takes = record {
@@ -36,9 +37,9 @@ returns-in_err-publish g c =
           causes = told_on (g.D.SectorDisk.failures c.args.disk.now) (g.D.SectorDisk.failures c.publish.new.disk) (g.S.PageSource.failures c.args.source.now) (g.S.PageSource.failures c.publish.new.source) _ _ c.from_residual-in_err-publish.ensures.1
               (calm_first c.in_ok-finish.ensures.home.calm c.in_err-publish.ensures.causes);
         };
-        source = λ keeps is. settled_before g.D.SectorDisk c.args.disk.now c.finish.new.disk c.publish.new.disk c.finish.ensures.home.run.size (c.in_ok-finish.ensures.home.done (e.kept keeps))
+        source = λ keeps is. settled_before one_journal ones_fix g.D.SectorDisk c.args.disk.now c.finish.new.disk c.publish.new.disk c.finish.ensures.home.run.size (c.in_ok-finish.ensures.home.done (e.kept keeps)) []
             (e.source keeps (told_was _ _ _ c.from_residual-in_err-publish.ensures.1 is));
-        source_moments = λ keeps is_source. (let mid = c.publish.ensures.kept keeps in both_before g.D.SectorDisk c.args.disk.now c.finish.new.disk c.publish.new.disk c.finish.ensures.home.run.size (c.in_ok-finish.ensures.home.done mid)
+        source_moments = λ keeps is_source. (let mid = c.publish.ensures.kept keeps in both_before one_journal ones_fix g.D.SectorDisk c.args.disk.now c.finish.new.disk c.publish.new.disk c.finish.ensures.home.run.size (c.in_ok-finish.ensures.home.done mid)
             (c.finish.ensures.home.any_moment mid) (e.source_moments keeps (told_was _ _ _ c.from_residual-in_err-publish.ensures.1 is_source)));
       };
       live = search rules;
@@ -54,11 +55,11 @@ pub returns : goal.returns
 returns g c =
     record {
       puts = record {
-        ok = λ keeps gives. (let mid = c.publish.ensures.kept keeps in settled_after g.D.SectorDisk c.args.disk.now c.finish.new.disk c.publish.new.disk c.finish.ensures.home.run.size (c.in_ok-finish.ensures.home.done mid)
+        ok = λ keeps gives. (let mid = c.publish.ensures.kept keeps in settled_after one_journal ones_fix g.D.SectorDisk c.args.disk.now c.finish.new.disk c.publish.new.disk c.finish.ensures.home.run.size (c.in_ok-finish.ensures.home.done mid)
             c.args.homes.now (g.S.PageSource.pages c.args.source.now) c.args.homes.now (c.in_ok-publish.ensures.ok keeps gives));
-        rest = λ keeps. live_at_rest g.D.SectorDisk c.args.homes.now c.publish.new.disk c.requires.some (c.in_ok-publish.ensures.rest keeps);
+        rest = c.in_ok-publish.ensures.rest;
         outside = λ keeps k out. c.in_ok-publish.ensures.outside keeps k (subst (λ n. IsOutside n k) (sym c.finish.ensures.home.run.size) out) ∙ (c.in_ok-finish.ensures.home.done (c.publish.ensures.kept keeps)).outside k out;
-        any_moment = λ keeps gives. (let mid = c.publish.ensures.kept keeps in both_either g.D.SectorDisk c.args.disk.now c.finish.new.disk c.publish.new.disk c.finish.ensures.home.run.size (c.in_ok-finish.ensures.home.done mid)
+        any_moment = λ keeps gives. (let mid = c.publish.ensures.kept keeps in both_either one_journal ones_fix g.D.SectorDisk c.args.disk.now c.finish.new.disk c.publish.new.disk c.finish.ensures.home.run.size (c.in_ok-finish.ensures.home.done mid)
             c.args.homes.now (g.S.PageSource.pages c.args.source.now) (c.finish.ensures.home.any_moment mid) (c.publish.ensures.any_moment keeps gives));
         once = in_two g.D.SectorDisk (live_homes c.args.self.now) (length c.args.homes.now) c.args.disk.now c.finish.new.disk c.publish.new.disk c.finish.ensures.home.once c.publish.ensures.once;
         takes = record {
@@ -71,7 +72,7 @@ returns g c =
       };
       live = search rules;
       map = c.in_ok-publish.ensures.map;
-      synced = λ keeps. (c.in_ok-publish.ensures.rest keeps).synced;
+      synced = λ keeps. (c.in_ok-publish.ensures.lives keeps).synced;
       asks_device = commit_only g.D.SectorDisk (live_homes c.args.self.now) (length c.args.homes.now) c.args.disk.now c.finish.new.disk c.publish.new.disk
           c.requires.live.few c.requires.given.homes_are.few c.finish.ensures.home.once c.publish.ensures.once;
       not_live = λ is. cc;

@@ -1,5 +1,5 @@
 use Rattle.sync_journal.proofs.Names.{◌≡◌, length, take, refl, ap, sym, subst, inl, inr, ◌∙◌, arith, rules, Image, Nothing, asks_named, asks_once, asks_then, length-take-le}
-use Rattle.sync_journal.specs.{Layout.{layout_before, home_count_in, IsMapIn, IsGateOrMapIn}, Gate.{is_open_sector}, Map.{AreNamed, IsWithinHomes, ReadsMap}, Standing.{map_in, IsOpenIn}}
+use Rattle.sync_journal.specs.{Layout.{sizes_before, home_count_in, IsMapIn, IsGateOrMapIn}, Gate.{is_open_sector}, Map.{AreNamed, IsWithinHomes, ReadsMap}, Standing.{map_in, IsOpenIn}}
 use Rattle.sync_journal.proofs.{Asking.{gate_looked, map_looked}, Causes.{not_bad_device, blames_device, blames_none}, Runs.{no_write, one_more}, OldJournals.{closed_at, open_at, named_opens, named_good, most_before}}
 use Rattle.sync_journal.proofs.old_journal.OldJournal.find.Goals as goal
 
@@ -14,8 +14,8 @@ returns-in_err-read g c =
       few = search rules;
       found = search rules;
       looks = record { run = no_write d Nothing old new r.size r.kept r.cause.later r.same r.unsynced r.time; blames = blames_device d old new _ c.from_residual.ensures.1 (c.in_err-read.ensures.cause.failed refl) };
-      asks = asks_named d (IsGateOrMapIn (layout_before c.args.journals)) (λ k. k ≡ 2) old new (λ k here. inl here) r.asks;
-      once = λ keeps. gate_looked (layout_before c.args.journals) (d.content old) (d.asked old) (d.asked new) r.asks;
+      asks = asks_named d (IsGateOrMapIn (sizes_before c.args.journals)) (λ k. k ≡ 2) old new (λ k here. inl here) r.asks;
+      once = λ keeps. gate_looked (sizes_before c.args.journals) (d.content old) (d.asked old) (d.asked new) r.asks;
       good = search rules;
       bad = λ keeps is. absurd (not_bad_device _ c.from_residual.ensures.1 is);
     }
@@ -29,10 +29,10 @@ returns-then-not-is_open_gate g c =
     record {
       before = refl;
       few = omega arith;
-      found = λ keeps. closed_at (layout_before c.args.journals) (d.content old) (ap is_open_sector (sym (r.gives keeps)) ∙ sym c.is_open_gate.ensures ∙ c.if-not-is_open_gate.true);
+      found = λ keeps. closed_at (sizes_before c.args.journals) (d.content old) (ap is_open_sector (sym (r.gives keeps)) ∙ sym c.is_open_gate.ensures ∙ c.if-not-is_open_gate.true);
       looks = record { run = no_write d Nothing old new r.size r.kept r.cause.later r.same r.unsynced r.time; blames = blames_none d old new _ r.cause.calm };
-      asks = asks_named d (IsGateOrMapIn (layout_before c.args.journals)) (λ k. k ≡ 2) old new (λ k here. inl here) r.asks;
-      once = λ keeps. gate_looked (layout_before c.args.journals) (d.content old) (d.asked old) (d.asked new) r.asks;
+      asks = asks_named d (IsGateOrMapIn (sizes_before c.args.journals)) (λ k. k ≡ 2) old new (λ k here. inl here) r.asks;
+      once = λ keeps. gate_looked (sizes_before c.args.journals) (d.content old) (d.asked old) (d.asked new) r.asks;
       good = λ keeps bad. (let closed = ap is_open_sector (sym (r.gives keeps)) ∙ sym c.is_open_gate.ensures ∙ c.if-not-is_open_gate.true in let opened = bad.gate in cc);
       bad = λ keeps is. cc;
     }
@@ -46,7 +46,7 @@ returns-in_err-count g c =
     let r = c.in_ok-read.ensures in
     let calm = r.cause.calm in
     let failed = c.in_err-count.ensures.cause.failed refl in
-    let asked = IsGateOrMapIn (layout_before c.args.journals) in
+    let asked = IsGateOrMapIn (sizes_before c.args.journals) in
     record {
       before = search rules;
       few = search rules;
@@ -56,8 +56,8 @@ returns-in_err-count g c =
         blames = blames_device d old new _ c.from_residual-in_err-count.ensures.1 (omega (arith, failed, calm));
       };
       asks = asks_then d asked old mid new (asks_named d asked (λ k. k ≡ 2) old mid (λ k here. inl here) r.asks)
-          (asks_once d asked (IsMapIn (layout_before c.args.journals)) mid new (λ k map. inr map) c.read_map.ensures.once);
-      once = λ keeps. map_looked (layout_before c.args.journals) (d.content old) (d.asked old) (d.asked mid) (d.asked new) (ap is_open_sector (sym (r.gives (c.read_map.ensures.run.kept keeps))) ∙ sym c.is_open_gate.ensures ∙ c.if-not-is_open_gate.false) r.asks c.read_map.ensures.once;
+          (asks_once d asked (IsMapIn (sizes_before c.args.journals)) mid new (λ k map. inr map) c.read_map.ensures.once);
+      once = λ keeps. map_looked (sizes_before c.args.journals) (d.content old) (d.asked old) (d.asked mid) (d.asked new) (ap is_open_sector (sym (r.gives (c.read_map.ensures.run.kept keeps))) ∙ sym c.is_open_gate.ensures ∙ c.if-not-is_open_gate.false) r.asks c.read_map.ensures.once;
       good = search rules;
       bad = λ keeps is. absurd (not_bad_device _ c.from_residual-in_err-count.ensures.1 is);
     }
@@ -69,7 +69,7 @@ returns-in-Some g c =
     let mid = c.read.new.self in
     let new = c.read_map.new.disk in
     let r = c.in_ok-read.ensures in
-    let layout = layout_before c.args.journals in
+    let layout = sizes_before c.args.journals in
     let content = d.content old in
     let limit = home_count_in layout (d.sector_count old) in
     let count = c.in-Some.count in
@@ -105,7 +105,7 @@ returns-in-None g c =
     let mid = c.read.new.self in
     let new = c.read_map.new.disk in
     let r = c.in_ok-read.ensures in
-    let layout = layout_before c.args.journals in
+    let layout = sizes_before c.args.journals in
     let limit = home_count_in layout (d.sector_count old) in
     let homes = c.read_map.new.homes in
     let asked = IsGateOrMapIn layout in

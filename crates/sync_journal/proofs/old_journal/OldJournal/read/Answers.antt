@@ -1,10 +1,10 @@
 use Rattle.sync_journal.proofs.Names.{OnOk, ap, sym, subst, ◌≡◌, ◌+◌, ◌∙◌, rules, joined, Names, joined-same}
-use Rattle.sync_journal.{specs.{Layout.{layout_before, IsPageSector}, OldJournal.{old_homes, StandsAsListed}, Standing.{standing_in}}, proofs.{OldJournals.{stands_there}, Sectors.{same_image}}}
+use Rattle.sync_journal.{specs.{Layout.{sizes_before, IsPageSector}, OldJournal.{old_homes, StandsAsListed}, Standing.{standing_in}}, proofs.{OldJournals.{stands_there}, Sectors.{same_image}}}
 use Rattle.sync_journal.proofs.old_journal.OldJournal.read.Goals as goal
 
 pub returns : goal.returns
 returns g c =
-    let layout = layout_before c.args.self.now.journals in
+    let layout = sizes_before c.args.self.now.journals in
     let homes = old_homes c.args.self.now in
     let content = g.D.SectorDisk.content c.args.disk.now in
     record {

@@ -1,6 +1,6 @@
-use Rattle.sync_journal.proofs.Names.{sym, subst, ◌∙◌, rules, AsksOnly, weaker}
-use Rattle.sync_journal.specs.{Map.{AreHomes}, Journal.{live_homes}, Kinds.{kind_home_count, IsKindAsked, IsKindClosed}, Runs.{RunsOnDevice}, Resuming.{IsKindResumed}, declared.store_journal.Journals.TheVariants.{Single, Paired}}
-use Rattle.sync_journal.proofs.{Causes.{told_was}, InTurn.{none_are}, InKinds.{kind_same, one_settled, one_as_before, while_reading}, Resuming.{bad_of, of_bad, looked_synced, two_looked, two_good}}
+use Rattle.sync_journal.proofs.{Names.{sym, subst, ◌∙◌, rules, AsksOnly, weaker}, Causes.{told_was}, InTurn.{none_are}, InKinds.{kind_same, one_settled, kind_as_before, while_reading}, Resuming.{bad_of, of_bad, looked_synced, two_looked}}
+use Rattle.sync_journal.{proofs.Resuming.{two_good}, specs.{Map.{AreHomes}, Journal.{live_homes}, Kinds.{kind_home_count, layout_of}, Runs.{RunsOnDevice}, Resuming.{IsKindResumed}, declared.store_journal.Journals.TheVariants.{Single}}}
+use Rattle.sync_journal.specs.declared.store_journal.Journals.TheVariants.{Paired}
 use Rattle.sync_journal.proofs.store_journal.StoreJournal.resume.Goals as goal
 
 -- of one journal
@@ -24,11 +24,11 @@ returns-in_ok-recover_synced-in-Single g c =
         named = λ keeps. c.closed.ensures;
         good = λ keeps bad. done.good keeps (of_bad Single n image (c.requires.kind (e.kept keeps) ∙ is) bad);
       };
-      any_moment = λ keeps. weaker d old new _ _ (one_as_before n image (c.requires.kind (e.kept keeps) ∙ is)) (e.any_moment keeps (c.requires.synced (e.kept keeps)));
+      any_moment = λ keeps. weaker d old new _ _ (kind_as_before Single n image (c.requires.kind (e.kept keeps) ∙ is)) (e.any_moment keeps (c.requires.synced (e.kept keeps)));
       run = subst (λ b. RunsOnDevice d (IsKindResumed b n) old new) (sym is) e.run;
       bad_unwritten = λ keeps bad. e.bad_unwritten keeps (of_bad Single n image (c.requires.kind (e.kept keeps) ∙ is) bad);
-      closed_unwritten = λ keeps closed. e.closed_unwritten keeps (subst (λ b. IsKindClosed b image) (c.requires.kind (e.kept keeps) ∙ is) closed);
-      asks = λ keeps. subst (λ b. AsksOnly d (IsKindAsked b image) old new) (sym (c.requires.kind (e.kept keeps) ∙ is)) (e.asks keeps);
+      closed_unwritten = λ keeps closed. e.closed_unwritten keeps (subst (λ b. (layout_of b).IsClosed image) (c.requires.kind (e.kept keeps) ∙ is) closed);
+      asks = λ keeps. subst (λ b. AsksOnly d ((layout_of b).IsAsked image) old new) (sym (c.requires.kind (e.kept keeps) ∙ is)) (e.asks keeps);
       err = record { device = λ told. cc; still = λ told. cc; bad = λ keeps told. cc; unwritten = λ keeps told. cc };
     }
 
@@ -43,11 +43,11 @@ returns-in_err-recover_synced-in-Single g c =
     let is = c.in-Single.is in
     record {
       ok = search rules;
-      any_moment = λ keeps. weaker d old new _ _ (one_as_before n image (c.requires.kind (e.kept keeps) ∙ is)) (e.any_moment keeps (c.requires.synced (e.kept keeps)));
+      any_moment = λ keeps. weaker d old new _ _ (kind_as_before Single n image (c.requires.kind (e.kept keeps) ∙ is)) (e.any_moment keeps (c.requires.synced (e.kept keeps)));
       run = subst (λ b. RunsOnDevice d (IsKindResumed b n) old new) (sym is) e.run;
       bad_unwritten = λ keeps bad. e.bad_unwritten keeps (of_bad Single n image (c.requires.kind (e.kept keeps) ∙ is) bad);
-      closed_unwritten = λ keeps closed. e.closed_unwritten keeps (subst (λ b. IsKindClosed b image) (c.requires.kind (e.kept keeps) ∙ is) closed);
-      asks = λ keeps. subst (λ b. AsksOnly d (IsKindAsked b image) old new) (sym (c.requires.kind (e.kept keeps) ∙ is)) (e.asks keeps);
+      closed_unwritten = λ keeps closed. e.closed_unwritten keeps (subst (λ b. (layout_of b).IsClosed image) (c.requires.kind (e.kept keeps) ∙ is) closed);
+      asks = λ keeps. subst (λ b. AsksOnly d ((layout_of b).IsAsked image) old new) (sym (c.requires.kind (e.kept keeps) ∙ is)) (e.asks keeps);
       err = record {
         device = λ told. e.device (told_was _ _ _ c.from_residual.ensures.1 told);
         still = λ told. e.still (told_was _ _ _ c.from_residual.ensures.1 told);
@@ -73,7 +73,7 @@ returns-in_err-journal-in-Paired g c =
       run = subst (λ b. RunsOnDevice d (IsKindResumed b n) old new) (sym is) run;
       bad_unwritten = λ keeps bad. run.touches keeps;
       closed_unwritten = λ keeps closed. run.touches keeps;
-      asks = λ keeps. subst (λ b. AsksOnly d (IsKindAsked b image) old new) (sym (c.requires.kind (run.kept keeps) ∙ is)) (e.asks keeps);
+      asks = λ keeps. subst (λ b. AsksOnly d ((layout_of b).IsAsked image) old new) (sym (c.requires.kind (run.kept keeps) ∙ is)) (e.asks keeps);
       err = record {
         device = λ told. e.looks.device (told_was _ _ _ c.from_residual-in_err-journal-in-Paired.ensures.1 told);
         still = λ told. e.looks.still (told_was _ _ _ c.from_residual-in_err-journal-in-Paired.ensures.1 told);
@@ -107,6 +107,6 @@ returns-in_ok-journal-in-Paired g c =
       run = subst (λ b. RunsOnDevice d (IsKindResumed b n) old new) (sym is) run;
       bad_unwritten = λ keeps bad. run.touches keeps;
       closed_unwritten = λ keeps closed. run.touches keeps;
-      asks = λ keeps. subst (λ b. AsksOnly d (IsKindAsked b image) old new) (sym (c.requires.kind (run.kept keeps) ∙ is)) (done.asks keeps);
+      asks = λ keeps. subst (λ b. AsksOnly d ((layout_of b).IsAsked image) old new) (sym (c.requires.kind (run.kept keeps) ∙ is)) (done.asks keeps);
       err = record { device = λ told. cc; still = λ told. cc; bad = λ keeps told. cc; unwritten = λ keeps told. cc };
     }

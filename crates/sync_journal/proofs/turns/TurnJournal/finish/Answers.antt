@@ -1,5 +1,6 @@
 use Rattle.sync_journal.proofs.{Causes.{is_error}, InTurn.{IsPrepared, gate_map, map_stays, while_preparing, staged_blocks, staged_settled, none_kept, none_settled, none_are}, Names.{[], Bool, not, ap, refl, subst, inl, ◌∙◌, arith, rules, stays}, Maps.{counted}, Rests.{none_live}}
-use Rattle.sync_journal.{proofs.TurnSteps.{Begins, leaves_weaker, staged_leaves, prepared_leaves, named, emptied_so_far, emptying_failed}, specs.{Journal.{live_homes}, Map.{map_count}, Turns.{turn_map, turn_standing, turn_home_count, IsTurnSettled}}}
+use Rattle.sync_journal.{proofs.TurnSteps.{Begins, leaves_weaker, staged_leaves, prepared_leaves, named, emptied_so_far, emptying_failed}, specs.{Journal.{live_homes}, Map.{map_count}, Turns.{turn_map, turn_standing, turn_home_count}}}
+use Rattle.sync_journal.specs.{Layouts.{IsSettled}, Turns.{in_turn}}
 use Rattle.sync_journal.proofs.turns.TurnJournal.finish.Goals as goal
 
 pub returns-in_err-clear_map : goal.returns-in_err-clear_map
@@ -59,7 +60,7 @@ returns-else-self-gt0 g c =
     record {
       home = record {
         writes = record {
-          done = λ keeps. subst (λ homes. IsTurnSettled d (d.sector_count old) (d.content old) second homes old (turn_standing (d.content old)))
+          done = λ keeps. subst (λ homes. IsSettled in_turn d (d.sector_count old) (d.content old) (second, homes) old (turn_standing (d.content old)))
               (none_live c.args.self.now.live (omega (arith, c.if-self-gt0.false))) (staged_settled d second live old old (p keeps) refl (stays d _ old));
           run = search rules;
           once = search rules;

@@ -1,5 +1,5 @@
 use Rattle.sync_journal.proofs.{Causes.{told_was, is_error, not_bad_device, blames_device, blames_on, blames_none}, Names.{[], refl, ◌∙◌, arith, rules, Nothing, asks_none}, Runs.{no_write, one_more}, Sectors.{so_before}}
-use Rattle.sync_journal.{proofs.TurnRecoveries.{named_since, asks_since, looked, emptied}, specs.Turns.{turn_standing, IsBadTurn, IsTurnAskedIn, IsTurnSettled}}
+use Rattle.sync_journal.{proofs.TurnRecoveries.{named_since, asks_since, looked, emptied}, specs.{Turns.{turn_standing, IsBadTurn, IsTurnAskedIn, in_turn}, Layouts.{IsSettled}}}
 use Rattle.sync_journal.proofs.turns.TurnJournal.recover.Goals as goal
 
 pub returns-in_err-sync : goal.returns-in_err-sync
@@ -55,5 +55,5 @@ returns g c =
     emptied d old read (λ k image left. g.met.D.SectorDisk.only_now old image k left) looks new c.in_ok-journal.journal c.finish.new.self
     (named_since d old mid read syncs found.looks.run c.in_ok-journal.journal c.in_ok-journal.ensures.ok) c.finish.ensures
     _ (asks_since d old mid read syncs found.looks.run s.asks found.asks)
-    (λ keeps. so_before d old read (looks.touches (c.finish.ensures.kept keeps)) (λ n image. IsTurnSettled d n image c.finish.new.self.second [] new (turn_standing image)) looks.size (c.in_ok-finish.ensures.done keeps))
+    (λ keeps. so_before d old read (looks.touches (c.finish.ensures.kept keeps)) (λ n image. IsSettled in_turn d n image (c.finish.new.self.second, []) new (turn_standing image)) looks.size (c.in_ok-finish.ensures.done keeps))
     c.in_ok-finish.ensures.synced (blames_none d old new _ (c.in_ok-finish.ensures.calm ∙ c.in_ok-journal.ensures.looks.calm ∙ c.in_ok-sync.ensures.cause.calm)) (λ keeps is. cc) c.in_ok-finish.ensures.not_live c.in_ok-finish.ensures.emptied
