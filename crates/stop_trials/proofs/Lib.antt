@@ -4,3 +4,4 @@ mod Contents
 mod Tried
 mod Lines
 mod States
+mod Ends

@@ -1,7 +1,8 @@
-pub mod Stopping
-pub mod Parts
+pub mod Ends
 pub mod Fillings
-pub mod Standing
-pub mod Trials
 pub mod Lines
+pub mod Parts
 pub mod Runs
+pub mod Standing
+pub mod Stopping
+pub mod Trials

@@ -1,4 +1,6 @@
 //! Why trials of stops give up.
+ghost use Rattle.std.specs.Prelude.{◌≡◌};
+
 use file_store::OpenFault;
 use machine::BootFault;
 use programs::ProgramFault;
@@ -16,6 +18,10 @@ pub(crate) enum TrialFault {
 }
 
 impl From<AllocError> for TrialFault {
+    ghost use Rattle.stop_trials.specs.declared.faults.TrialFault.TheVariants.{OutOfMemory as NoMemory};
+
+    ghost from_gives = { λ _ fault. fault ≡ NoMemory };
+
     fn from(_: AllocError) -> Self {
         TrialFault::OutOfMemory
     }

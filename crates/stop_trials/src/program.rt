@@ -1,10 +1,12 @@
 //! The program that tries stops.
 ghost use Rattle.std.specs.Prelude.{◌≤◌, IfOk, map};
+ghost use Rattle.stop_trials.specs.Ends.{EndsTrials, ExitsWith};
 ghost use Rattle.stop_trials.specs.Lines.{AreCommandsOf};
 
 use crate::runs::Setting;
+use crate::stopping::StoppingDisk;
 use command_words::{StopWords, stop_words};
-use disk_model::{SECTOR_BYTES, SimDisk};
+use disk_model::{SECTOR_BYTES, SectorDisk, SimDisk};
 use file_store::{format, image_bytes};
 use machine::Config;
 use programs::{ProgramFault, held_places, open_sources, report};
@@ -35,6 +37,7 @@ pub fn pagestops<R: Files<File = File> + AllocGlobal, I: Read, O: Write, X: Writ
     errors: &mut X,
 ) -> u8
     ensures statuses { result ≤ 2 }
+    ensures ends { ExitsWith ⟦<StoppingDisk as SectorDisk>⟧ ⟦<SimDisk as SectorDisk>⟧ result }
 {
     report("pagestops", tried(rt, words, reader, writer), errors)
 }
@@ -46,7 +49,8 @@ fn tried<'a, R: Files<File = File> + AllocGlobal, I: Read, O: Write>(
     reader: &mut I,
     writer: &mut O,
 ) -> Result<u8, ProgramFault<'a>>
-    ensures { IfOk result (λ status. status ≤ 1) }
+    ensures statuses { IfOk result (λ status. status ≤ 1) }
+    ensures ends { IfOk result (EndsTrials ⟦<StoppingDisk as SectorDisk>⟧ ⟦<SimDisk as SectorDisk>⟧) }
 {
     let words = stop_words(rt.alloc(), words)?;
     let _places = held_places(rt)?;

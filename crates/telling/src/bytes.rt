@@ -15,7 +15,8 @@ use std::fmt::{self, Display, Formatter};
 use std::io::{self, Write};
 use sv39_walk::Pte;
 use vm_types::{Attr, FrameNo, Levels, PAGE_BYTES, PageKey, Pid};
-use watching::{PageText, bytes_before, user_end};
+use watching::{PageText, bytes_before};
+use ways::user_end;
 
 /// The bytes of a line.
 const ROW: usize = 16;

@@ -11,7 +11,8 @@ use inspection::{Holding, Mapper, SlotHolding};
 use machine::Machine;
 use std::io::{self, Write};
 use vm_types::{FrameNo, SlotNo};
-use watching::{HoldingText, PageText, StateText, TableText, top_level};
+use watching::{HoldingText, PageText, StateText, TableText};
+use ways::top_level;
 
 /// `?frames`: a line for each frame from `first` to `last` that is not free, and how many of them are. The clock's hand stands at `>`.
 pub(crate) fn tell_frames<W: Write, D: SectorDisk, E: SectorDisk>(

@@ -11,7 +11,8 @@ use std::fmt::{self, Display, Formatter};
 use std::io::{self, Write};
 use sv39_walk::Pte;
 use vm_types::{FrameNo, Pid};
-use watching::{BackingText, ProtText, bytes_before, frame_in};
+use watching::{BackingText, ProtText, bytes_before};
+use ways::frame_in;
 
 /// The pages of a run, counted by their entries (proc_pid_smaps(5)).
 #[derive(Clone, Copy, Default)]

@@ -10,7 +10,8 @@ use memory::LINES;
 use std::io::{self, Write};
 use sv39_walk::Pte;
 use vm_types::{FrameNo, PAGE_BYTES, PROCESSES, Pid};
-use watching::{BitsText, EntryText, Way, bytes_before, pages_of_entry, top_level, user_end};
+use watching::{BitsText, EntryText, bytes_before};
+use ways::{Way, pages_of_entry, top_level, user_end};
 
 /// The bytes of an entry.
 const ENTRY_BYTES: usize = 8;

@@ -1,3 +1,2 @@
 mod Books
-mod OnWays
 mod Notes

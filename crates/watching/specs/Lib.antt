@@ -1,6 +1,6 @@
 pub mod Books
 pub mod Changes
 pub mod Entries
-pub mod WaySteps
 pub mod Noted
-pub mod Sparing
+pub mod Outcomes
+pub mod Settling

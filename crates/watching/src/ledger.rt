@@ -9,9 +9,6 @@ ghost use Rattle.watching.specs.Noted.{KeepsNotes, NotesFrame, NotesFrames};
 
 use crate::counts::{Count, Counts, FrameCounts};
 use crate::events::{Content, Event, Refuge, Source};
-use crate::sparing::Uses;
-use crate::targets::Target;
-use crate::ways::{Way, frame_in, slot_in, top_level};
 use disk_model::SectorDisk;
 use inspection::{FrameView, Holding, Mapper, PageEntry, PageView, Place, Step};
 use machine::Machine;
@@ -19,6 +16,7 @@ use std::alloc::{AllocError, Global};
 use std::io::{self, Write};
 use sv39_walk::Pte;
 use vm_types::{FrameNo, PageKey, Pid};
+use ways::{Target, Uses, Way, frame_in, slot_in, top_level};
 
 /// What each frame held after the last command, and what was counted since the start.
 #[derive(Drop)]
@@ -413,7 +411,7 @@ fn changeable(way: &Way, target: &Target, behind: Option<FrameNo>) -> [Option<Fr
         table_of(third),
         table_of(fourth),
         behind,
-        way.entry().and_then(frame_in),
+        way.entry().and_then(|entry| frame_in(entry)),
         frame_in(target.entry),
     ]
 }

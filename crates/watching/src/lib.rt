@@ -6,10 +6,7 @@ mod counts;
 mod events;
 mod ledger;
 mod pending;
-mod sparing;
-mod targets;
 mod texts;
-mod ways;
 
 pub use counts::{AccessCounts, CallCounts, Count, Counts, FaultCounts, FrameCounts, TableCounts};
 pub use ledger::Ledger;
@@ -18,4 +15,3 @@ pub use texts::{
     BackingText, BitsText, EntryText, HoldingText, PageText, ProtText, StateText, TableText,
     bytes_before,
 };
-pub use ways::{Way, frame_in, pages_of_entry, slot_in, top_level, user_end};

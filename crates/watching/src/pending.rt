@@ -1,16 +1,17 @@
 //! A command, and what it did.
-ghost use Rattle.std.specs.Prelude.{◌≡◌, ◌-◌, ◌^◌, true, false, length, min, OnOk};
-ghost use Rattle.machine.specs.Machine.{halted_of, IsSoundMachine};
-ghost use Rattle.watching.specs.Books.{KeepsBooks};
-ghost use Rattle.watching.specs.Noted.{NotesFrames, compares_all, reaches_all};
+ghost use Rattle.std.specs.Prelude.{◌≡◌, true, false};
+ghost use Rattle.machine.specs.Machine.{IsSoundMachine};
+ghost use Rattle.watching.specs.Noted.{compares_all, reaches_all};
+ghost use Rattle.watching.specs.Outcomes.{outcome_of};
+ghost use Rattle.watching.specs.Settling.{Settles};
 
 use crate::counts::{AccessCounts, CallCounts, Counts};
 use crate::ledger::{Inquiry, Ledger};
-use crate::targets::Target;
 use disk_model::SectorDisk;
 use machine::Machine;
 use std::io::{self, Write};
 use vm_types::Command;
+use ways::Target;
 
 /// What a command came to, by the first letter of its reply.
 #[derive(Clone, Copy)]
@@ -44,7 +45,9 @@ enum Reach<'a> {
 
 impl Outcome {
     /// By the first letter of a reply's text, which are those of `error`, `fault`, `stall` and `halted`, or of none of them.
-    pub fn of(reply: &[u8]) -> Outcome {
+    pub fn of(reply: &[u8]) -> Outcome
+        ensures { result ≡ outcome_of reply.now }
+    {
         match reply.first() {
             Some(b'e') => Outcome::Refused,
             Some(b'f') => Outcome::Faulted,
@@ -95,9 +98,7 @@ impl Pending {
         out: &mut W,
     ) -> io::Result<()>
         requires { IsSoundMachine D.SectorDisk E.SectorDisk machine.now }
-        ensures books { KeepsBooks ledger.old.counts.frames ledger.new.counts.frames }
-        ensures frames { compares_all self.now.command outcome ≡ true → halted_of machine.now ≡ false
-            → OnOk result (NotesFrames machine.now ledger.new.frames.items (min (length ledger.old.frames.items) (2 ^ 32 - 1))) }
+        ensures { Settles machine.now self.now.command outcome ledger.old ledger.new result }
     {
         let evictions = ledger.counts.frames.evictions;
         self.compare(outcome, ledger, machine, out)?;
@@ -113,9 +114,7 @@ impl Pending {
         out: &mut W,
     ) -> io::Result<()>
         requires { IsSoundMachine D.SectorDisk E.SectorDisk machine.now }
-        ensures books { KeepsBooks ledger.old.counts.frames ledger.new.counts.frames }
-        ensures frames { compares_all self.now.command outcome ≡ true → halted_of machine.now ≡ false
-            → OnOk result (NotesFrames machine.now ledger.new.frames.items (min (length ledger.old.frames.items) (2 ^ 32 - 1))) }
+        ensures { Settles machine.now self.now.command outcome ledger.old ledger.new result }
     {
         ledger.counts.commands.add();
         match self.count(outcome, machine.hits(), &mut ledger.counts) {

@@ -1,7 +1,7 @@
 //! The page of an access, as it was before.
 ghost use Rattle.machine.specs.Machine.{IsSoundMachine};
 
-use crate::ways::Way;
+use crate::way::Way;
 use disk_model::SectorDisk;
 use inspection::{PageView, Place};
 use machine::Machine;
@@ -10,7 +10,7 @@ use vm_types::{FrameNo, PAGE_BYTES, PageKey, Pid};
 
 /// The page that an access is for, as it was before.
 #[derive(Clone, Copy)]
-pub(crate) struct Target {
+pub struct Target {
     pub pid: Pid,
     /// The page's number.
     pub page: u64,
@@ -22,14 +22,14 @@ pub(crate) struct Target {
 
 /// What stands behind a page: a page of a file or of shared anonymous memory.
 #[derive(Clone, Copy)]
-pub(crate) struct Behind {
+pub struct Behind {
     pub page: PageKey,
     pub view: PageView,
 }
 
 impl Target {
     /// The page of an access at that address; `None` where there is no such process, or the machine has halted.
-    pub(crate) fn new<D: SectorDisk, E: SectorDisk>(
+    pub fn new<D: SectorDisk, E: SectorDisk>(
         machine: &Machine<D, E>,
         pid: u64,
         addr: u64,
@@ -54,7 +54,7 @@ impl Target {
     }
 
     /// The frame that the page has as its own by its entry of now, and had not before.
-    pub(crate) fn gained(&self, now: Pte) -> Option<FrameNo> {
+    pub fn gained(&self, now: Pte) -> Option<FrameNo> {
         if !now.is_private() || now.is_swapped() {
             return None;
         }
@@ -66,7 +66,7 @@ impl Target {
     }
 
     /// Where that page was, if it stands behind this one.
-    pub(crate) fn place_of(&self, page: PageKey) -> Option<Place> {
+    pub fn place_of(&self, page: PageKey) -> Option<Place> {
         match self.behind {
             Some(behind) if behind.page == page => Some(behind.view.place),
             _ => None,
@@ -74,7 +74,7 @@ impl Target {
     }
 
     /// Whether that page stands behind this one and was touched.
-    pub(crate) fn knows_touched(&self, page: PageKey) -> bool {
+    pub fn knows_touched(&self, page: PageKey) -> bool {
         match self.behind {
             Some(behind) => behind.page == page && behind.view.is_touched,
             None => false,

@@ -2,10 +2,10 @@
 ghost use Rattle.std.specs.Prelude.{◌≡◌, ◌<◌, ◌≤◌, ◌&&◌, ◌||◌, not, ltb, leb, if◌then◌else◌, true, false, length, IfOk, IfSome};
 ghost use Rattle.inspection.specs.Machines.{memory_of};
 ghost use Rattle.machine.specs.Machine.{halted_of, IsSoundMachine};
-ghost use Rattle.watching.specs.Sparing.{HasLostMark, IsUser, is_passed};
+ghost use Rattle.ways.specs.Sparing.{HasLostMark, IsUser, is_passed};
 
 use crate::targets::Target;
-use crate::ways::frame_in;
+use crate::way::frame_in;
 use disk_model::SectorDisk;
 use inspection::Mapper;
 use machine::Machine;
@@ -16,7 +16,7 @@ use vm_types::FrameNo;
 
 /// Which frames were in use before a command, and where the clock's hand stood.
 #[derive(Drop)]
-pub(crate) struct Uses {
+pub struct Uses {
     /// Of each frame a page over it that has A.
     users: Vec<Option<Mapper>>,
     /// Only where the command may move it, and that is watched.
@@ -46,7 +46,7 @@ impl Uses {
     ///
     /// # Errors
     /// `AllocError` where the host has not enough memory.
-    pub(crate) fn new(alloc: Global, frames: usize) -> Result<Uses, AllocError>
+    pub fn new(alloc: Global, frames: usize) -> Result<Uses, AllocError>
         ensures { IfOk result (λ uses. length uses.users.items ≡ frames) }
     {
         let mut users = Vec::new(alloc);
@@ -57,7 +57,7 @@ impl Uses {
     }
 
     /// Notes which frames are in use, and where the hand stands. The page of an access is left out: where the hand takes its A, the access sets it again.
-    pub(crate) fn note<D: SectorDisk, E: SectorDisk>(
+    pub fn note<D: SectorDisk, E: SectorDisk>(
         &mut self,
         machine: &Machine<D, E>,
         target: Option<&Target>,
@@ -74,13 +74,13 @@ impl Uses {
     }
 
     /// Notes nothing.
-    pub(crate) fn forget(&mut self) {
+    pub fn forget(&mut self) {
         self.hand = None;
     }
 
     /// Tells which frames the hand has passed since these were noted, and which of them were in use and are not any more, so that they were spared.
     /// Nothing is told where it passed none.
-    pub(crate) fn tell<W: Write, D: SectorDisk, E: SectorDisk>(
+    pub fn tell<W: Write, D: SectorDisk, E: SectorDisk>(
         &mut self,
         machine: &Machine<D, E>,
         is_evicted: bool,

@@ -1,5 +1,5 @@
-use Rattle.watching.proofs.OnWays.{goes_on}
-use Rattle.watching.proofs.ways.step_below.Goals as goal
+use Rattle.ways.proofs.OnWays.{goes_on}
+use Rattle.ways.proofs.way.step_below.Goals as goal
 
 pub returns-in-Some-clause-goes_on : goal.returns-in-Some-clause-goes_on
 returns-in-Some-clause-goes_on g c pid =

@@ -1,5 +1,5 @@
 use Rattle.std.proofs.Common.{◌≡◌, length}
-use Rattle.watching.proofs.sparing.Uses.new.Given as goal
+use Rattle.ways.proofs.sparing.Uses.new.Given as goal
 
 abbrev pub invariant-loop-i : goal.invariant-loop-i
 invariant-loop-i l = length l.users.items ≡ l.i

@@ -6,7 +6,7 @@ ghost use Rattle.machine.specs.Machine.{bits_of, mode_of, IsSoundMachine};
 ghost use Rattle.inspection.specs.Machines.{memory_of};
 ghost use Rattle.vm_types.specs.Limits.{top_level, user_end};
 ghost use Rattle.inspection.specs.declared.walks.Step.{Step};
-ghost use Rattle.watching.specs.WaySteps.{StepsFrom, IsWayOf, last_step};
+ghost use Rattle.ways.specs.WaySteps.{StepsFrom, IsWayOf, last_step};
 
 use disk_model::SectorDisk;
 use inspection::Step;
