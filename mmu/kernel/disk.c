@@ -22,7 +22,7 @@ static struct disk {
   volatile struct used used __attribute__((aligned(16)));
   struct head head;
   volatile u8 status;
-} disks[DISKS];
+} disks[MOST_DISKS];
 static int count;
 
 static u32 get(struct disk *disk, int at) { return disk->registers[at / 4]; }
@@ -56,7 +56,7 @@ static void disk_start(struct disk *disk) {
 }
 
 void disks_start(void) {
-  for (u64 place = 0; place < PLACES && count < DISKS; place++) {
+  for (u64 place = 0; place < PLACES && count < MOST_DISKS; place++) {
     struct disk *disk = &disks[count];
     disk->registers = (volatile u32 *)(FIRST + STEP * place);
     if (get(disk, MAGIC) != 0x74726976 || get(disk, VERSION) != 2 || get(disk, DEVICE) != 2) continue;

@@ -1,4 +1,4 @@
-# Entry, traps, the switch between the kernel's stack and the pager's, and what C has no words for.
+# Entry, traps, and what C has no words for.
 # Instructions and registers of the hypervisor extension stand by their numbers, so that any assembler for RISC-V takes them.
 
 #define HSTATUS 0x600
@@ -23,26 +23,7 @@ _start:                      # a0: the hart, a1: the device tree
 3:  wfi
     j 3b
 
-# switch_stacks(a0: where to keep the stack pointer, a1: the other side's): a call that returns when the other side calls it.
     .text
-    .globl switch_stacks
-switch_stacks:
-    addi sp, sp, -208
-    sd ra, 0(sp)
-    .irp n, 0, 1, 2, 3, 4, 5, 6, 7, 8, 9, 10, 11
-    sd s\n, (8 + 8 * \n)(sp)
-    fsd fs\n, (104 + 8 * \n)(sp)
-    .endr
-    sd sp, 0(a0)
-    mv sp, a1
-    ld ra, 0(sp)
-    .irp n, 0, 1, 2, 3, 4, 5, 6, 7, 8, 9, 10, 11
-    ld s\n, (8 + 8 * \n)(sp)
-    fld fs\n, (104 + 8 * \n)(sp)
-    .endr
-    addi sp, sp, 208
-    ret
-
 # A trap. While a process runs, sscratch is where its registers are kept; in the kernel it is 0, and a trap is a mistake
 # unless an access on behalf of a process (hardware_load, hardware_store) expects it.
     .balign 4
@@ -92,7 +73,8 @@ kernel_trap:
     la sp, kernel_stack_end
     call kernel_trapped
 
-# An access by the hardware, as the guest's user mode would make it: HLV.BU or HSV.B. Returns the byte, and 0 or the cause of its fault.
+# An access by the hardware, as the guest's user mode would make it: HLV.BU, HLV.HU, HLV.WU, HLV.D, HLVX.WU, HSV.B, HSV.H, HSV.W, HSV.D.
+# Returns the number, and 0 or the cause of its fault.
     .macro access name, instruction:vararg
     .globl \name
 \name:
@@ -106,7 +88,14 @@ kernel_trap:
 1:  ret
     .endm
     access hardware_load, 0x30, a0, t2, x1
+    access hardware_load_2, 0x32, a0, t2, x1
+    access hardware_load_4, 0x34, a0, t2, x1
+    access hardware_load_8, 0x36, a0, t2, x0
+    access hardware_fetch, 0x34, a0, t2, x3
     access hardware_store, 0x31, x0, t2, a1
+    access hardware_store_2, 0x33, x0, t2, a1
+    access hardware_store_4, 0x35, x0, t2, a1
+    access hardware_store_8, 0x37, x0, t2, a1
 
 # Whether there is a hypervisor extension: its register hstatus is read. Returns as an access does.
     .globl hypervisor_trial

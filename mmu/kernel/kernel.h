@@ -17,15 +17,17 @@ enum cause {
 };
 #define TIMER (1ul << 63 | 5)
 
-/* console.c */
+/* firmware.c */
 void put_char(int c);
-void put(const char *text);
-void put_number(u64 n);
-void put_hex(u64 n);
 void set_timer(u64 at);
 u64 time_now(void);
 u64 instructions(void);
 _Noreturn void power_off(int status);
+
+/* console.c */
+void put(const char *text);
+void put_number(u64 n);
+void put_hex(u64 n);
 _Noreturn void panic(const char *why, u64 a, u64 b);
 
 /* memory.c */
@@ -41,7 +43,7 @@ extern u64 frames_bytes;
 void heap_start(u8 *from, u8 *to, u64 frames);
 
 /* disk.c */
-enum { IMAGE, SWAP, DISKS };
+enum { IMAGE, SWAP, DISKS, TRACE = DISKS, MOST_DISKS }; /* the pager has the first two; a third is for a variant of the kernel */
 void disks_start(void);
 u64 disk_bytes(int disk);
 int disk_read(int disk, u64 at, void *to, u64 n);
@@ -102,7 +104,9 @@ void switch_stacks(u64 *keep, u64 to);
 _Noreturn void enter(u64 *regs);
 struct access { u64 value, cause; };
 struct access hardware_load(u64 at);
+struct access hardware_load_2(u64 at), hardware_load_4(u64 at), hardware_load_8(u64 at), hardware_fetch(u64 at);
 struct access hardware_store(u64 at, u64 byte);
+struct access hardware_store_2(u64 at, u64 value), hardware_store_4(u64 at, u64 value), hardware_store_8(u64 at, u64 value);
 struct access hypervisor_trial(void);
 void fence_first_stage(void);
 void fence_second_stage(void);

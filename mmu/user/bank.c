@@ -30,7 +30,12 @@ int main(int file) {
   for (u64 round = 0; round < ROUNDS; round++) {
     for (u64 i = 0; i < TRANSFERS; i++) transfer(bank);
     long error = msync(bank, FILE_PAGES * PAGE);
-    if (error) return 1;
+    if (error) {
+      say("msync: error ");
+      say_number(-error);
+      say("\n");
+      return 1;
+    }
     say("durable ");
     say_number(bank->transfers);
     say("\n");
