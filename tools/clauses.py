@@ -15,7 +15,7 @@ CLAUSE = re.compile(r"^\s*(ensures|requires)\b\*?\s*(\w*)\s*\{", re.M)
 DEFINITION = re.compile(r"^ *(?:pub |unfoldable )*(?:abbrev|record|data) (?:pub )?([A-Za-z_][\w-]*)", re.M)
 GROUP = re.compile(r"((?:`[^`]+`[^`()]*)+)\(((?:`[^`]+`|[,;:.\s])+)\)")
 QUOTED = re.compile(r"`([^`]+)`")
-DEEP = 4  # how many definitions may lie between a clause and a name
+DEEP = 6  # how many definitions may lie between a clause and a name
 
 
 def expanded(name):
@@ -47,7 +47,7 @@ class Clauses:
     """The functions and the definitions of a tree."""
 
     def __init__(self, texts):
-        self.functions, self.words, self.reached = {}, {}, {}
+        self.functions, self.words, self.values, self.reached = {}, {}, set(), {}
         for path, text in texts.items():
             if re.fullmatch(r"crates/\w+/src/.*\.rt", path):
                 for name, head in contracts(text):
@@ -62,12 +62,14 @@ class Clauses:
             end = places[place + 1].start() if place + 1 < len(places) else len(text)
             body = re.sub(r"--.*", "", text[found.end():end])
             self.words.setdefault(found[1], set()).update(WORD.findall(body))
+            if re.search(r"= record \{$", body, re.M):
+                self.values.add(found[1])
 
     def leads_to(self, words):
-        """All names that words lead to, by way of relations and records, whose names begin with a capital."""
+        """All names that words lead to, by way of relations and records, whose names begin with a capital, and of values that are records written out."""
         found, new = set(words), set(words)
         for _ in range(DEEP):
-            new = set().union(*(self.words.get(it, ()) for it in new if it[0].isupper())) - found
+            new = set().union(*(self.words.get(it, ()) for it in new if it[0].isupper() or it in self.values)) - found
             found |= new
         return found
 
