@@ -1,0 +1,14 @@
+pub mod Asking
+pub mod BlockReads
+pub mod BlockWrites
+pub mod Bytes
+pub mod Copied
+pub mod Filled
+pub mod Found
+pub mod Free
+pub mod Loose
+pub mod Phases
+pub mod Room
+pub mod Slots
+pub mod Taken
+pub mod Thinned

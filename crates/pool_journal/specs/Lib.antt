@@ -1,0 +1,12 @@
+pub mod Blocks
+pub mod Commit
+pub mod Copying
+pub mod Filling
+pub mod Gates
+pub mod Giving
+pub mod Journal
+pub mod Maps
+pub mod Pools
+pub mod Reading
+pub mod Room
+pub mod Sizes
