@@ -8,6 +8,7 @@ use Rattle.fault.{proofs.Steps.{slotted_frees, spaces_then, room_then, seen_then
 use Rattle.fault.proofs.{Names.{false_from_ne_true, ⊎_elim, rules}, Steps.{on_right}}
 use Rattle.fault.specs.{Asking.{AsksIfFull, AsksNoNew, IsSectorOfPage, IsSectorOfStoredPage}, Changes.{AddsNoTable, KeepsSpaces, KeepsTables, KeepsRows, KeepsRoom, KeepsSeen, KeepsBare, KeepsSlotted, Moves, MarksTouched, IsCalm}}
 use Rattle.{fault.specs.{Files.{IsInStore, IsBrought, Stays, Leaves, Comes, Blank, BringsPages, Proceeds, BringsFiles}, PagingIn.{PagesIn}}, file_store.specs.declared.directory.Entry.{Entry}, std.specs.Option.{option_map}}
+use Rattle.fault.proofs.{Chances.{chance_came}, Names.{IsLeftBut}}
 use Rattle.vm_types.specs.declared.mode.Levels as Levels
 
 pub ok_then : (P Q : FrameNo → Type 0) (r : Result FrameNo Stall) → ((n : FrameNo) → P n → Q n) → IfOk r P → IfOk r Q
@@ -330,13 +331,14 @@ module _ {mode : ℕ} (old new : Picture mode) (page : PageKey) (fit : IsFit old
 
 -- such a page was brought in, or wasn't, and nothing read from the store
 module _ {M : Type 0} {m : Levels.Ghosts M} {D E : Type 0} (g : Ghosts D) (h : Ghosts E) {before after : Core D E M m} {page : PageKey} {r : Result FrameNo Stall} where
-  pub pages_in_beside : IsFit (picture_of before) → IsReadyStore g before.store → ((k : FrameNo) → (picture_of before).place page ≢ Frame k) → ComesIn before after page r → KeepsRest before after
+  pub pages_in_beside : IsFit (picture_of before) → IsReadyStore g before.store → ((k : FrameNo) → (picture_of before).place page ≢ Frame k) → ComesIn before after page r → KeepsRest before after → (IsFull before.frames → IfOk r (IsLeftBut before after None))
       → {also : ℕ → Type 0} → UsesSwap h before after also r → IsRefused h before after None r → AsksIfFull h before after None (IsSectorOfPage (picture_of before) page)
       → BringsFiles g h (λ p. p ≡ page) before after → PagesIn g h before after page r
-  pages_in_beside fit store away comes rest uses refused asks brings =
+  pages_in_beside fit store away comes rest aged uses refused asks brings =
       let keeps = keeps_in comes in
       let placed = placed_in comes in
       let only = only_in comes in
+      let chance = chance_came before after page r comes.brought aged in
       let ready = subst (λ (s : FileStore D). IsReadyStore g s) (sym rest.store) store in
       let reads = reads_none g before.store after.store rest.store in
       let asks_store = store_same g (IsSectorOfStoredPage before.store page) before.store after.store rest.store in

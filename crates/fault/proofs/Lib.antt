@@ -11,6 +11,8 @@ pub mod Ready
 pub mod Settled
 pub mod AccessSteps
 pub mod Wanted
+pub mod Chances
+pub mod Kept
 pub mod AccessSlotted
 pub mod Linked
 pub mod Entered

@@ -30,5 +30,6 @@ pub use Rattle.vm_types.specs.{State.{behind, or_zeros, copy_or_behind, with_vie
 pub use Rattle.vm_types.specs.declared.{access.Access.TheVariants.{Store, Fetch, Load}, file.{FileInfo.{FileInfo}, FilePage.{FilePage}}, number.{FrameNo.{FrameNo}, Phys.{Phys}, SlotNo.{SlotNo}}, object.ObjectPage.{ObjectPage}}
 pub use Rattle.vm_types.specs.declared.{object.PageKey.{PageKey, TheVariants.{File, Object}}, permission.Prot.{Prot}, refusal.{Code.{Code, TheVariants.{BusAdrerr, SegvMaperr, SegvAccerr}}, Stall.{Stall, TheVariants.{NoFrames, SwapDevice}}}}
 pub use Rattle.vm_types.specs.declared.{refusal.Stall.TheVariants.{NoSwap, StoreDevice}, region.{Attr.{Attr}, Backing.{Backing, TheVariants.{Common, Shared, Anon}}}, width.Width.{Width}}
+pub use Rattle.residency.{proofs.{Asking.{entries_taken}, Chance.{chance_owned, chance_cached}, Sparing.{frees_none}}, specs.{AskedFrames.{TakesOwnFrame}, Chances.{AreAllMarked, GivesChance, KeepsButA}, Views.{IsLeftBut}}}
 unfoldable pub use Rattle.{frames.specs.FrameTable.{zero_bytes}, residency.specs.{Capacity.{IsShort}, Picture.{entry, view, held}, Seats.{holders_at}}, sv39_walk.specs.{Entry.{has_bit}, Walk.{frame_in, answer_of}}}
 unfoldable pub use Rattle.vm_types.specs.View.{zero_page}

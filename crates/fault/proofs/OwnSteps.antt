@@ -1,8 +1,8 @@
 -- A frame of its own given to a page, with the bytes that it showed.
-use Rattle.fault.proofs.{Forms.{mapped_page, behind_used, behind_datum, own_role, used_inside}, Names.{top_level, PageKey, Attr, Backing, can_write, ◌≡◌, ◌≢◌, ℕ, inl, inr, Bool, true, false, Some, get_or, refl, sym, ap, ◌∙◌}}
+use Rattle.fault.proofs.{Forms.{mapped_page, behind_used, behind_datum, own_role, used_inside}, Names.{top_level, PageKey, Attr, Backing, can_write, ◌≡◌, ◌≢◌, ◌⊎◌, ℕ, inl, inr, Bool, true, false, Some, get_or, refl, sym, ap, ◌∙◌}}
 use Rattle.fault.proofs.Names.{rules, subst, eq-eqb, cases_Bool, same_Some, ◌&&◌, ◌==◌, option_map, Ghosts, Free, Table, Private, IsFrame, IsSound, bytes_of, role_of, count_of, Releases, frame_of, IsPage, IsEntryOver, Frame, Core}
 use Rattle.fault.proofs.Names.{InFrame, is_private, is_swapped, Frees, Picture, picture_of, entry, view, view_of, bytes_in, IsFit, IsFitBut, IsBehind, SameBeside, shown_stays, fit_released, release_spares, same, seat_own}
-use Rattle.fault.{proofs.{Names.{seat_common}, Settling.{KeepsAside, aside_then, aside_released, HasFrame, GivesFrame, fit_given, fit_seated, entry_given, bytes_given, count_given, view_given, aside_given}}, specs.Changes.{IsLinked}}
+use Rattle.fault.{proofs.{Names.{seat_common}, Settling.{KeepsAside, aside_then, aside_released, HasFrame, GivesFrame, fit_given, fit_seated, entry_given, bytes_given, count_given, set_others, view_given, aside_given}}, specs.Changes.{IsLinked}}
 use Rattle.fault.specs.{Changes.{TakesCopy, frame_of_place, frame_behind, shown_frame}, Leaves.{IsFullEntry}, OwnFrames.{IsOwnable}, declared.spot.Spot.{Spot}}
 use Rattle.vm_types.specs.declared.mode.Levels as Levels
 use Rattle.vm_types.specs.declared.region.Backing.TheVariants as Backings
@@ -149,6 +149,9 @@ module _ {mode : ℕ} {old : Picture mode} {pid page m : ℕ} {a : Attr} (shows 
         module _ {new : Picture mode} (releases : Releases set.frames new.frames m) (beside : SameBeside set new) where
           pub fit_shared : IsFit new
           fit_shared = fit_released set new m 0 fit_set role_shared releases beside
+
+          pub shared_others : (q p : ℕ) → IsPage (top_level mode) p → (q ≢ pid) ⊎ (p ≢ page) → entry new q p ≡ entry mid q p
+          shared_others q p h other = same set new m 0 fit_set role_shared releases beside q p ∙ set_others copy_frame gives q p h other
 
           pub copied_shared : can_write a.prot ≡ true → IsCopied old new pid page m n a
           copied_shared writable =

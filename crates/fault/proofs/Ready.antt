@@ -204,7 +204,7 @@ page_user c pid page a fit mapped = (fit.granting.user pid).user_pages page (let
 
 -- the walk reads the entry
 module _ {mode : ℕ} where
-  walk_entry : (c : Picture mode) (pid root addr : ℕ) (access : Access) → IsFit c → c.root pid ≡ Some root → addr / 4096 < user_end mode
+  pub walk_entry : (c : Picture mode) (pid root addr : ℕ) (access : Access) → IsFit c → c.root pid ≡ Some root → addr / 4096 < user_end mode
       → translated (top_level mode) c.frames root addr access ≡ answer_of (frame_count c.frames) addr access 0 (entry c pid (addr / 4096))
   walk_entry c pid root addr access fit lives user =
       translated-entry mode c.frames root addr access fit.rooted.forest (fit.rooted.roots pid root lives) user

@@ -8,6 +8,7 @@ use Rattle.fault.specs.{Changes.{KeepsOtherViews, KeepsSlotted, Moves, StandsAt}
 use Rattle.fault.specs.{Leaves.{IsFullEntry}, SpotServing.{MayServeAt}, Wants.{ShowsFile, Wants}, declared.{refusal.AccessRefusal.{AccessRefusal}, spot.Spot.{Spot}}}
 use Rattle.vm_types.specs.declared.mode.Levels as Levels
 use Rattle.fault.specs.declared.refusal.AccessRefusal.TheVariants as Refusal
+use Rattle.fault.proofs.Chances.{others_same}
 
 module _ {M : Type 0} {m : Levels.Ghosts M} {D E : Type 0} (g : Ghosts D) (h : Ghosts E) where
   -- nothing changed
@@ -101,14 +102,14 @@ module _ {M : Type 0} {m : Levels.Ghosts M} {D E : Type 0} (g : Ghosts D) (h : G
   pub serves_stall : (old new : Core D E M m) (pid page : ℕ) (attr : Attr) (access : Access) (r : Result FrameNo Stall) (stall : Stall) → IsErrAnd r (λ e. e ≡ stall) → Tends g h old new pid page access
       → IsStalled g h old new pid page access stall → Serves g h old new pid page attr access r
   serves_stall old new pid page attr access r stall is tends stalled =
-      subst (Serves g h old new pid page attr access) (err_is r stall is) (record { tends = tends; entered = tt; ready = λ trusted. tt; counts = tt; stalled = stalled })
+      subst (Serves g h old new pid page attr access) (err_is r stall is) (record { tends = tends; entered = tt; ready = λ trusted. tt; chance = λ one. tt; counts = tt; stalled = stalled })
 
   pub reaches_stall : (old new : Core D E M m) (pid addr : ℕ) (width : Width) (access : Access) (r : Result Phys AccessRefusal) (stall : Stall) → IsErrAnd r (λ e. e ≡ Refusal.Stall stall)
       → Tends g h old new pid (addr / 4096) access → ((place : Phys) → IsWalked (picture_of old) pid addr width access place → ⊥) → Stalls g h old new pid addr width access stall
       → Reaches g h old new pid addr width access r
   reaches_stall old new pid addr width access r stall is tends never stalls =
       subst (Reaches g h old new pid addr width access) (err_is r (Refusal.Stall stall) is)
-      (record { tends = tends; placed = tt; entered = tt; walked = λ place walked. absurd (never place walked); granted = λ trusted. tt; counts = tt; refusal = stalls })
+      (record { tends = tends; placed = tt; entered = tt; walked = λ place walked. absurd (never place walked); granted = λ trusted. tt; chance = λ one. tt; counts = tt; refusal = stalls })
 
 module _ {M : Type 0} {m : Levels.Ghosts M} {D E : Type 0} {g : Ghosts D} {h : Ghosts E} {before : Core D E M m} {spot : Spot} {attr : Attr} {other : Access} (may : MayServeAt g h before spot attr other) where
   pub may_bring : {p : PageKey} → stands_on attr.backing ≡ Some p → MayBring g h before p
@@ -136,6 +137,7 @@ module _ {M : Type 0} {m : Levels.Ghosts M} {D E : Type 0} {g : Ghosts D} {h : G
         tends = tends_entered g h before after spot.pid spot.page access may.store may.swap enters shows.files;
         entered = read_entered old new spot.pid spot.page attr access frame _ _ _ enters.fit after.sound mapped now (record { views = enters.views; touched = shows.files.touched }) shows.entry reads lets full;
         ready = λ trusted. read_ready old new spot.pid spot.page attr access frame _ _ _ enters.fit after.sound mapped now (record { views = enters.views; touched = shows.files.touched }) shows.entry reads lets;
+        chance = λ one. others_same old new spot.pid spot.page _ enters.calm.others;
         counts = counts_calm g h before after spot.pid spot.page enters.calm;
         stalled = tt;
       }

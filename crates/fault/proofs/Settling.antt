@@ -306,6 +306,9 @@ module _ {mode : ℕ} {old found mid : Picture mode} {keep : Option FrameNo} {pi
         ap (λ o. view_of o (new.at pid page)) (ap (λ z. option_map (bytes_in new.frames new.slots) z) (ap seat set.changed ∙ to) ∙ ap (λ b. Some b) bytes_given)
         ∙ ap (λ o. view_of (Some (bytes_of mid.frames n)) o) (gives.beside.at pid page ∙ has.changes.at pid page ∙ at)
 
+    pub set_others : (q p : ℕ) → IsPage (top_level mode) p → (q ≢ pid) ⊎ (p ≢ page) → entry new q p ≡ entry mid q p
+    set_others = set.others
+
     entry_others : (q p : ℕ) → IsPage (top_level mode) p → (q ≢ pid) ⊎ (p ≢ page) → entry new q p ≡ entry found q p
     entry_others q p h other = set.others q p h other ∙ entry_mid q p
 

@@ -7,6 +7,7 @@ pub mod OwnFrames
 pub mod WaysLinked
 pub mod Shown
 pub mod Wants
+pub mod Chances
 pub mod Outcome
 pub mod Found
 pub mod Granted

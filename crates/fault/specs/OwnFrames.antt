@@ -1,6 +1,6 @@
 -- What giving a page a frame of its own needs, and what it comes to.
 use Rattle.vm_types.specs.declared.mode.Levels as Levels
-use Rattle.std.specs.Prelude.{◌≡◌, ◌≢◌, ℕ, true, false, Option, Some, None, Result, IfOk, IfErr, OnErr}
+use Rattle.std.specs.Prelude.{◌≡◌, ◌≢◌, ℕ, true, false, Option, Some, None, Result, IfOk, IfErr, OnOk, OnErr}
 use Rattle.vm_types.specs.declared.number.FrameNo.{FrameNo}
 use Rattle.vm_types.specs.declared.refusal.Stall.{Stall}
 use Rattle.vm_types.specs.declared.region.Attr.{Attr}
@@ -17,10 +17,12 @@ use Rattle.residency.specs.Picture.{picture_of, entry, is_private, is_swapped, v
 use Rattle.residency.specs.Parts.{IsBehind, IsFit, is_shared}
 use Rattle.residency.specs.Calls.{Frees, KeepsRest, Refuses, UsesDevice}
 use Rattle.residency.specs.Capacity.{IsShort}
+use Rattle.residency.specs.Chances.{AreAllMarked, GivesChance}
 use Rattle.residency.specs.Shows.{KeepsFiles}
 use Rattle.residency.specs.Stalls.{HasStallCause}
 use Rattle.fault.specs.declared.spot.Spot.{Spot}
 use Rattle.fault.specs.Asking.{AsksIfFull, IsSectorOfCopy}
+use Rattle.fault.specs.Chances.{GivesOthersChance}
 use Rattle.fault.specs.Changes.{StandsAt, AddsNoTable, IsCalm, IsThatPage, KeepsOtherBare, KeepsOtherViews, KeepsSlotted, KeepsViews, Moves, TakesCopy, is_sole, shown_frame}
 use Rattle.fault.specs.Leaves.{IsFullEntry}
 
@@ -61,6 +63,8 @@ module _ {M : Type 0} {m : Levels.Ghosts M} {D E : Type 0} (h : Ghosts E) where
   pub record TakesFrameWith (old new : Core D E M m) (page : ℕ) (source : FrameNo) (also : ℕ → Type 0) (result : Result FrameNo Stall) : Type 0 where
     -- one that holds the same bytes, and that no entry names yet, is returned,
     pub taken : IfOk result (λ n. TakesCopy (picture_of old) (picture_of new) n.0 page source.0)
+    -- each page that was accessed keeps its entry but for A, unless every frame that might be given up had its mark,
+    pub chance : OnOk result (GivesChance (picture_of old) (picture_of new) (Some source))
     -- all but memory and swap is as it was, and the swap device may be used further;
     pub rest : KeepsRest old new
     pub swap : IsReady h new.swap
@@ -109,6 +113,8 @@ module _ {M : Type 0} {m : Levels.Ghosts M} {D E : Type 0} (h : Ghosts E) where
         → IsBehind (picture_of new) attr.backing n × (bytes_of new.frames n ≡ bytes_of old.frames n)
     pub keeps : LeavesOthers old new pid page
     pub open keeps use *
+    -- those that were accessed keep their entries but for A, unless every frame that might be given up had its mark;
+    pub chance : OnOk result (GivesOthersChance (picture_of old) (picture_of new) pid page (AreAllMarked (picture_of old) (Some shown)))
     -- the swap device is asked for free slots alone, and only where no frame is free;
     pub asks : AsksIfFull h old new (Some shown) Nothing
     -- or no frame is to be had, and that one isn't given up for it.
@@ -133,6 +139,8 @@ module _ {M : Type 0} {m : Levels.Ghosts M} {D E : Type 0} (h : Ghosts E) where
     pub seen : h.keeps_model new.swap.pages.disk → KeepsViews (picture_of old) (picture_of new)
     pub keeps : LeavesOthers old new pid page
     pub open keeps use *
+    -- those that were accessed keep their entries but for A, unless every frame that might be given up had its mark;
+    pub chance : OnOk result (GivesOthersChance (picture_of old) (picture_of new) pid page (AreAllMarked (picture_of old) None))
     -- the swap device is asked for that slot alone, and where no frame is free for free ones;
     pub asks : AsksIfFull h old new None (IsSectorOfCopy (picture_of old) pid page)
     -- or no frame is to be had, or the swap device failed.

@@ -1,6 +1,6 @@
 -- What bringing a page of a file or an object into a frame comes to.
 use Rattle.vm_types.specs.declared.mode.Levels as Levels
-use Rattle.std.specs.Prelude.{◌≡◌, ◌≢◌, ◌⊎◌, Some, None, Result, IfOk, IfErr, OnErr}
+use Rattle.std.specs.Prelude.{◌≡◌, ◌≢◌, ◌⊎◌, Some, None, Result, IfOk, IfErr, OnOk, OnErr}
 use Rattle.vm_types.specs.declared.number.FrameNo.{FrameNo}
 use Rattle.vm_types.specs.declared.object.PageKey.{PageKey}
 use Rattle.vm_types.specs.declared.refusal.Stall.{Stall}
@@ -18,6 +18,7 @@ use Rattle.residency.specs.Parts.{IsFit, IsPageFor}
 use Rattle.residency.specs.Ages.{KeepsRolesBut}
 use Rattle.residency.specs.Calls.{Frees, Refuses}
 use Rattle.residency.specs.Capacity.{IsShort}
+use Rattle.residency.specs.Chances.{GivesChance}
 use Rattle.residency.specs.Stalls.{HasReadCause}
 use Rattle.fault.specs.Asking.{AsksIfFull, AsksNoNew, IsSectorOfPage, IsSectorOfStoredPage}
 use Rattle.fault.specs.Changes.{AddsNoTable, KeepsBare, KeepsRows, KeepsSeen, KeepsSlotted}
@@ -42,6 +43,8 @@ module _ {M : Type 0} {m : Levels.Ghosts M} {D E : Type 0} (g : Ghosts D) (h : G
     pub proceeds : Proceeds g h old new
     pub brings : BringsFiles g h (λ p. p ≡ page) old new
     pub keeps : KeepsSeen (picture_of old) (picture_of new)
+    -- each page that was accessed keeps its entry but for A, unless every frame that might be given up had its mark;
+    pub chance : OnOk result (GivesChance (picture_of old) (picture_of new) None)
     -- no entry is made, no table made or lost, and nothing else comes out of a slot;
     pub bare : KeepsBare (picture_of old) (picture_of new)
     pub rows : KeepsRows (picture_of old) (picture_of new)

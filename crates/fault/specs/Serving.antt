@@ -12,6 +12,7 @@ use Rattle.page_tables.specs.Tree.{Points}
 use Rattle.residency.specs.declared.kernel.Core.{Core}
 use Rattle.residency.specs.Picture.{picture_of, entry, is_swapped}
 use Rattle.residency.specs.Stalls.{CountsNothing}
+use Rattle.fault.specs.Chances.{AreAllMarkedFor, GivesOthersChance, WantsOneFrame}
 use Rattle.fault.specs.Changes.{IsCalm, IsThatPage, KeepsOtherViews, KeepsSlotted, LinksTables}
 use Rattle.fault.specs.Files.{Proceeds, BringsFiles}
 use Rattle.fault.specs.declared.refusal.AccessRefusal.{AccessRefusal}
@@ -49,6 +50,10 @@ module _ {M : Type 0} {m : Levels.Ghosts M} {D E : Type 0} (g : Ghosts D) (h : G
     -- which holds what the page showed, where it lay in a slot as long as the swap device keeps its model,
     pub ready : (is_swapped (entry (picture_of old) pid page) ≡ true → h.keeps_model new.swap.pages.disk)
         → IfOk result (λ frame. IsReadyAt (picture_of old) (picture_of new) pid page attr access frame.0)
+    -- every other page that was accessed keeps its entry but for A where one frame is wanted at most, unless every frame that might be
+    -- given up had its mark,
+    pub chance : WantsOneFrame (picture_of old) pid page access
+        → OnOk result (GivesOthersChance (picture_of old) (picture_of new) pid page (AreAllMarkedFor (picture_of old) pid page access))
     -- and no device failed;
     pub counts : OnOk result (CountsNothing g h old new)
     -- or a frame was wanted for it, and none was to be had.
@@ -66,6 +71,10 @@ module _ {M : Type 0} {m : Levels.Ghosts M} {D E : Type 0} (g : Ghosts D) (h : G
     -- where the page's bytes are, if it lay in a slot as long as the swap device keeps its model,
     pub granted : (is_swapped (entry (picture_of old) pid (addr / 4096)) ≡ true → h.keeps_model new.swap.pages.disk)
         → IfOk result (Grants (picture_of old) (picture_of new) pid addr width access)
+    -- every other page that was accessed keeps its entry but for A where one frame is wanted at most, unless every frame that might be
+    -- given up had its mark,
+    pub chance : WantsOneFrame (picture_of old) pid (addr / 4096) access
+        → OnOk result (GivesOthersChance (picture_of old) (picture_of new) pid (addr / 4096) (AreAllMarkedFor (picture_of old) pid (addr / 4096) access))
     -- and no device failed;
     pub counts : OnOk result (CountsNothing g h old new)
     -- or the fault that the flat model tells, or the stall.

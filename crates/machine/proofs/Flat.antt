@@ -35,6 +35,7 @@ halted_asks g h c pid addr access = record {
   writes = writes_none access c;
   done = search rules;
   grants = search rules;
+  chance = search rules;
   sectors = asks_same g h c c pid (addr / 4096) access refl refl;
 }
 

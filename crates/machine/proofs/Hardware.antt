@@ -3,10 +3,10 @@ use Rattle.vm_types.specs.declared.mode.Levels as Levels
 use Rattle.machine.proofs.Names.{ℕ, zero, suc, ◌≢◌, ◌≡◌, ◌/◌, ◌%◌, ⊎_elim, true, false, is_some, List, [], ◌∷◌, refl, sym, ap, ◌∙◌, subst, arith, rules, inl, inr, Ghosts, picture_of, Core, KeepsToPage, AsksFor, is_denial, is_idle}
 use Rattle.machine.proofs.Names.{past_after, ruling, takes, Access, StoredValue, Command, Load, Store, Fetch, Reply, Done, Width, State, IsRunning, Backing}
 use Rattle.machine.proofs.{Accesses.{carries_out, on_page}, Counts.{counts}, Face.{face, readable}, Flat.{OnlyNow, unread, unused}, HardwareWalks.{user_walked, walks_same}, Runs.{all_ran, ran_first, room_none, room_then, RanSoFar}, Tidied.{tidied}}
-use Rattle.fault.{proofs.{Ready.{grants_found}, Serving.{tends_none}, Settling.{beside_around}, Wanted.{walked_same}}, specs.{Changes.{IsThatPage}, Outcome.{IsPlaced}, Serving.{Reaches}, Wants.{ShowsFile}}}
+use Rattle.fault.{proofs.{Chances.{others_kept, others_same}, Ready.{grants_found}, Serving.{tends_none}, Settling.{beside_around}, Wanted.{walked_same}}, specs.{Changes.{IsThatPage}, Outcome.{IsPlaced}, Serving.{Reaches}, Wants.{ShowsFile}}}
 use Rattle.frames.{proofs.FrameLemmas.{IsHeld-above, IsHeld-not_zero, IsSound-step, with_bytes-others}, specs.{FrameTable.{FrameTable, IsHeld, bytes_of, frame_count, role_of, with_bytes}, declared.role.Role.TheVariants.{Table}}}
 use Rattle.{file_store.specs.Store.{IsReadyStore}, msync.specs.Shows.{IsSoundCore}, residency.specs.{Parts.{IsFit}, Picture.{Picture}}, std.specs.Prelude.{Ok}, sv39_walk.specs.Walk.{is_store}, swap.specs.Slots.{IsReady}}
-use Rattle.spaces.{proofs.{Asking.{asks_unstalled, writes_none}, Reading.{reads}, Writing.{data_frame, open_held, fit_stored, others_stored, room_stored, slotted_stored, stores}}, specs.{Accesses.{CarriesRead, WritesNumber}, Calls.{Carries}}}
+use Rattle.spaces.{proofs.{Asking.{asks_unstalled, writes_none}, Reading.{reads}, Writing.{data_frame, entries_stored, open_held, fit_stored, others_stored, room_stored, slotted_stored, stores}}, specs.{Accesses.{CarriesRead, WritesNumber}, Calls.{Carries}}}
 use Rattle.vm_types.specs.{Access.{loaded, with_number}, Width.{byte_count}, declared.{number.Phys.{Phys}, reply.Reply.TheVariants.{Value}, width.Width.TheVariants.{Four}}}
 use Rattle.vm_types.specs.declared.access.Access.TheVariants as Kinds
 use Rattle.machine.specs.{Accesses.{Accesses}, Chain.{after}, Commands.{DoesEachAsTold}, EngineCommands.{EngineCarriesOut}, Engine.{IsSoundEngine}}
@@ -30,6 +30,7 @@ module _ {M : Type 0} {levels : Levels.Ghosts M} {D E : Type 0} (g : Ghosts D) (
         entered = inl refl;
         walked = λ other walked. (refl, ap (λ p. Ok p) (walked_same (picture_of c) pid addr width access place other found.0 walked));
         granted = λ trusted. found.1;
+        chance = λ one. others_same (picture_of c) (picture_of c) pid (addr / 4096) _ (λ q p inside other. refl);
         counts = (refl, refl, refl);
         refusal = tt;
       }
@@ -56,7 +57,7 @@ module _ {M : Type 0} {levels : Levels.Ghosts M} {D E : Type 0} (g : Ghosts D) (
           reads = tends.proceeds.reads;
           device = tends.proceeds.device;
           asks = asks_unstalled g h c c pid addr kind tends c refl refl tends.slotted (writes_none kind c) told (λ stall e. cc) (λ e. cc)
-              (λ done. (placed.root, is.place, placed.lives, placed.place));
+              (λ done. (placed.root, is.place, placed.lives, placed.place)) (λ done. reach.chance);
         }
 
     -- is what the command returns
@@ -118,7 +119,9 @@ module _ {M : Type 0} {levels : Levels.Ghosts M} {D E : Type 0} (g : Ghosts D) (
           asks = asks_unstalled g h old old pid addr Kinds.Store tends new writes.around.store writes.around.swap
               (slotted_stored before before after pid (addr / 4096) backing n bytes (ShowsFile before pid (addr / 4096)) (IsThatPage pid (addr / 4096)) sound.fit placed.usable writes.frames
               beside tends.slotted)
-              (inr (n, addr % 4096, stored, data_frame before pid (addr / 4096) n backing sound.fit placed.usable, stored_there)) Done (λ stall e. cc) (λ e. refl) (λ done. (placed.root, place, placed.lives, placed.place));
+              (inr (n, addr % 4096, stored, data_frame before pid (addr / 4096) n backing sound.fit placed.usable, stored_there)) Done (λ stall e. cc) (λ e. refl) (λ done. (placed.root, place, placed.lives, placed.place))
+              (λ done one. others_kept before before after pid (addr / 4096) _ (arrives.chance one)
+              (λ q p inside. entries_stored before after pid (addr / 4096) backing n bytes sound.fit placed.usable writes.frames beside q p));
         }
 
     write_carries : Carries g h old new (Store pid addr stored) Done

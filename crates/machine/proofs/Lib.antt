@@ -8,6 +8,7 @@ pub mod Face
 pub mod Flat
 pub mod Hardware
 pub mod HardwareTells
+pub mod HardwareChance
 pub mod HardwareWalks
 pub mod Prefixes
 pub mod Runs

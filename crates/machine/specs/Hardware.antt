@@ -6,7 +6,9 @@ use Rattle.disk_model.specs.declared.sector_disk.SectorDisk.{Ghosts}
 use Rattle.frames.specs.declared.role.Role.TheVariants.{Table}
 use Rattle.frames.specs.FrameTable.{IsHeld, bytes_of, role_of}
 use Rattle.sv39_walk.specs.Walk.{translated}
-use Rattle.residency.specs.Picture.{Picture, picture_of}
+use Rattle.residency.specs.Picture.{Picture, picture_of, entry}
+use Rattle.fault.specs.Chances.{AreAllMarkedFor, WantsOneFrame}
+use Rattle.residency.specs.Chances.{KeepsButA}
 use Rattle.spaces.specs.Accesses.{WritesNumber}
 use Rattle.vm_types.specs.Access.{loaded}
 use Rattle.vm_types.specs.Limits.{top_level}
@@ -36,6 +38,12 @@ module _ {mode : ℕ} where
     pub root : ℕ
     pub lives : c.root pid ≡ Some root
     pub walk : translated (top_level mode) c.frames root addr access ≡ Ok place
+
+-- Every other page that the tables grant to an access keeps its entry but for A, unless that is so.
+module _ {mode : ℕ} where
+  pub record KeepsGranted (old new : Picture mode) (pid page : ℕ) (unless : Type 0) : Type 0 where
+    pub each : (q addr : ℕ) (width : Width) (access : Access) (place : Phys) → IsGranted old q addr width access place → (q ≢ pid) ⊎ (addr / 4096 ≢ page)
+        → KeepsButA (entry old q (addr / 4096)) (entry new q (addr / 4096)) ⊎ unless
 
 -- What hardware has kept of the tables since its last fence is still so:
 module _ {mode : ℕ} where
@@ -82,6 +90,11 @@ module _ {D E : Type 0} where
   -- the tables of a machine grant the access at that place
   abbrev pub IsGrantedBy : Machine D E → ℕ → ℕ → Width → Access → Phys → Type 0
   IsGrantedBy m pid addr width access place = InMode (λ M levels engine. IsGranted (picture_of engine.core) pid addr width access place) m
+
+  -- Where an access to that page of a process wants one frame at most, each page that the tables granted has its second chance.
+  abbrev pub SparesGranted : Machine D E → Machine D E → ℕ → ℕ → Access → Type 0
+  SparesGranted old new pid page access = InSameMode (λ M levels before after. WantsOneFrame (picture_of before.core) pid page access
+      → KeepsGranted (picture_of before.core) (picture_of after.core) pid page (AreAllMarkedFor (picture_of before.core) pid page access)) old new
 
   -- frame n was handed out, and is no table
   abbrev pub IsBesideTables : Machine D E → ℕ → Type 0

@@ -12,7 +12,7 @@ ghost use Rattle.vm_types.specs.Width.{byte_count};
 ghost use Rattle.vm_types.specs.declared.width.Width.{Width};
 ghost use Rattle.vm_types.specs.declared.width.Width.TheVariants.{Four};
 ghost use Rattle.machine.specs.Commands.{DoesEachAsTold};
-ghost use Rattle.machine.specs.Hardware.{TakesStep, HardwareSteps, IsBesideTables, IsGrantedBy, IsMadeByHardware, RunsThrough, TranslatesAlike};
+ghost use Rattle.machine.specs.Hardware.{SparesGranted, TakesStep, HardwareSteps, IsBesideTables, IsGrantedBy, IsMadeByHardware, RunsThrough, TranslatesAlike};
 ghost use Rattle.machine.specs.Machine.{halted_of, store_of, swap_of, IsSoundMachine, Shows};
 ghost use Rattle.machine.specs.declared.machine.Machine.{Machine};
 
@@ -43,6 +43,17 @@ pub fn hardware_goes_on<D: SectorDisk, E: SectorDisk>(_store: &D, _swap: &E)
         → TakesStep D.SectorDisk E.SectorDisk old new (Fetch pid addr) (Value Four n) → (place : Phys) × IsGrantedBy new pid addr Four Access.Fetch place }
     ensures store { (old new : Machine D E) (pid addr : ℕ) (stored : StoredValue) (width : Width) → addr % byte_count width ≡ 0 → halted_of new ≡ false
         → TakesStep D.SectorDisk E.SectorDisk old new (Store pid addr stored) Done → (place : Phys) × IsGrantedBy new pid addr width Access.Store place }
+{}
+
+/// After `Machine::step` returned a number, or that a store is done, for an access that wants one frame at most, every other page that the tables
+/// granted keeps its entry but for A, unless every frame that might have been given up had its mark: each has its second chance.
+pub fn hardware_chance<D: SectorDisk, E: SectorDisk>(_store: &D, _swap: &E)
+    ensures load { (old new : Machine D E) (pid addr n : ℕ) (width : Width) → IsSoundMachine D.SectorDisk E.SectorDisk old → halted_of old ≡ false
+        → TakesStep D.SectorDisk E.SectorDisk old new (Load pid addr width) (Value width n) → SparesGranted old new pid (addr / 4096) Access.Load }
+    ensures fetch { (old new : Machine D E) (pid addr n : ℕ) → IsSoundMachine D.SectorDisk E.SectorDisk old → halted_of old ≡ false
+        → TakesStep D.SectorDisk E.SectorDisk old new (Fetch pid addr) (Value Four n) → SparesGranted old new pid (addr / 4096) Access.Fetch }
+    ensures store { (old new : Machine D E) (pid addr : ℕ) (stored : StoredValue) → IsSoundMachine D.SectorDisk E.SectorDisk old → halted_of old ≡ false
+        → TakesStep D.SectorDisk E.SectorDisk old new (Store pid addr stored) Done → SparesGranted old new pid (addr / 4096) Access.Store }
 {}
 
 /// Such an access changes no table, so that what hardware has kept of walks since its last fence stays true (RISC-V Privileged Specification,

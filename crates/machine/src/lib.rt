@@ -16,6 +16,7 @@ pub use boot::{BootFault, MAX_SLOTS};
 pub use config::Config;
 pub use engine::Engine;
 pub use laws::{
-    hardware_access, hardware_fence, hardware_goes_on, hardware_run, hardware_store, hardware_tells,
+    hardware_access, hardware_chance, hardware_fence, hardware_goes_on, hardware_run,
+    hardware_store, hardware_tells,
 };
 pub use machine::Machine;

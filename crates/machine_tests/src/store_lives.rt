@@ -6,8 +6,8 @@ use lives::{
     new_store, one_content, one_more_life, trace_life, two_lives, upgraded_lives, upgraded_store,
 };
 use machine::{
-    Config, hardware_access, hardware_fence, hardware_goes_on, hardware_run, hardware_store,
-    hardware_tells,
+    Config, hardware_access, hardware_chance, hardware_fence, hardware_goes_on, hardware_run,
+    hardware_store, hardware_tells,
 };
 use runner::Devices;
 use std::process::Abort;
@@ -116,6 +116,7 @@ fn laws_hold(rt: HostRuntime) {
     hardware_access(&store, &store);
     hardware_tells(&store, &store);
     hardware_goes_on(&store, &store);
+    hardware_chance(&store, &store);
     hardware_fence(&store, &store);
     hardware_store(&store, &store);
     hardware_run(&store, &store);

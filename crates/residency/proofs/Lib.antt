@@ -44,4 +44,5 @@ pub mod Asking
 pub mod Homing
 pub mod Cleaning
 pub mod Forgotten
+pub mod Chance
 pub mod SeatForms

@@ -21,6 +21,7 @@ mod contents;
 mod evicting;
 mod forgetting;
 mod kernel;
+mod laws;
 mod leaves;
 mod looking;
 mod obtaining;
@@ -32,6 +33,7 @@ mod views;
 
 pub use contents::{Content, content_of};
 pub use kernel::{Core, PLACES};
+pub use laws::second_chance;
 pub use leaves::{Change, change_leaves, page_over};
 pub use obtaining::obtain;
 pub use views::{next_over, root_of};

@@ -4,7 +4,7 @@ use Rattle.spaces.proofs.Names.{ℕ, ◌≡◌, ◌≢◌, ◌⊎◌, ◌/◌, t
 use Rattle.spaces.proofs.Names.{IsRefusal, ReadsHome, RefusesAccess, ShowsFile, KeepsSlotted, IsThatPage, bytes_of, with_bytes, Core, KeepsAround, Picture, picture_of, is_live, Access, StoredValue, Phys, ESRCH, Stall, StoreDevice, Reply}
 use Rattle.spaces.{proofs.{Names.{Done, Faulted, Refused, Stalled, Width, with_number, reply_of, byte_count}, Refusals.{no_stall, same_stall, refused_idle, refused_caused}}, specs.Accesses.{reply_for, AsksFor, KeepsToPage, LetsThrough, MayWrite}}
 use Rattle.{spaces.specs.{Accesses.{WritesNumber}, Idle.{is_denial}}, vm_types.specs.declared.access.Access.TheVariants.{Store}}
-use Rattle.{disk_model.specs.Stop.{NamesOnce}, fault.specs.AccessAsking.{IsSectorShown}}
+use Rattle.{disk_model.specs.Stop.{NamesOnce}, fault.specs.{AccessAsking.{IsSectorShown}, Chances.{AreAllMarkedFor, GivesOthersChance, WantsOneFrame}}}
 use Rattle.fault.specs.declared.refusal.AccessRefusal.TheVariants as Refusal
 
 -- nothing was written
@@ -20,8 +20,10 @@ module _ {M : Type 0} {m : Levels.Ghosts M} {D E : Type 0} (g : Ghosts D) (h : G
   pub asks_unstalled : (new : Core D E M m) → new.store ≡ mid.store → new.swap ≡ mid.swap
       → KeepsSlotted (ShowsFile (picture_of old) pid (addr / 4096)) (IsThatPage pid (addr / 4096)) (picture_of old) (picture_of new) → MayWrite access mid new
       → (reply : Reply) → ((stall : Stall) → reply ≡ Stalled stall → ⊥) → (reply ≡ Done → access ≡ Store) → (is_denial reply ≡ false → LetsThrough (picture_of mid) pid addr access)
+      → (is_denial reply ≡ false → WantsOneFrame (picture_of old) pid (addr / 4096) access
+      → GivesOthersChance (picture_of old) (picture_of new) pid (addr / 4096) (AreAllMarkedFor (picture_of old) pid (addr / 4096) access))
       → AsksFor g h old new pid addr access reply
-  asks_unstalled new store swap slotted writes reply none stores grants = record {
+  asks_unstalled new store swap slotted writes reply none stores grants chance = record {
     wanted = λ stall e. absurd (none stall e);
     refused = λ stall e. absurd (none stall e);
     home = λ e. absurd (none StoreDevice e);
@@ -34,6 +36,7 @@ module _ {M : Type 0} {m : Levels.Ghosts M} {D E : Type 0} (g : Ghosts D) (h : G
     writes = writes;
     done = stores;
     grants = λ done unstalled. grants done;
+    chance = λ done unstalled. chance done;
     sectors = record {
       once = subst (λ (x : FileStore D). NamesOnce (IsSectorShown old pid (addr / 4096)) (g.asked old.store.disk) (g.asked x.disk)) (sym store) tends.asks.once;
       store = asks_as g _ old.store.disk mid.store.disk new.store.disk (ap (λ (x : FileStore D). x.disk) store) tends.asks.store;
@@ -45,6 +48,7 @@ module _ {M : Type 0} {m : Levels.Ghosts M} {D E : Type 0} (g : Ghosts D) (h : G
   pub asks_refused : (width : Width) (refusal : AccessRefusal) → IsRefusal g h old mid pid addr width access refusal → AsksFor g h old mid pid addr access (reply_of (reply_for refusal))
   asks_refused width (Refusal.Fault fault) is =
       asks_unstalled mid refl refl tends.slotted (writes_none access mid) (Faulted fault) (no_stall fault) (λ e. cc) (λ done. absurd (let never : true ≡ false = done in cc))
+      (λ done. absurd (let never : true ≡ false = done in cc))
   asks_refused width (Refusal.Stall stall) is = record {
     wanted = λ other e. is.stalled.wanted;
     refused = λ other e. (subst (λ (x : Stall). x ≢ StoreDevice → RefusesAccess (picture_of mid) pid (addr / 4096) access x) (same_stall stall other e) is.stalled.refused);
@@ -58,6 +62,7 @@ module _ {M : Type 0} {m : Levels.Ghosts M} {D E : Type 0} (g : Ghosts D) (h : G
     writes = writes_none access mid;
     done = λ e. absurd (let never : Stalled stall ≡ Done = e in cc);
     grants = λ done unstalled. absurd (unstalled stall refl);
+    chance = λ done unstalled. absurd (unstalled stall refl);
     sectors = tends.asks;
   }
 
@@ -77,7 +82,7 @@ module _ {M : Type 0} {m : Levels.Ghosts M} {D E : Type 0} (g : Ghosts D) (h : G
   keeps_dead core pid addr access sound =
       let tends = tends_none g h core pid (addr / 4096) access sound.fit sound.ready sound.swap in
       let asks = asks_unstalled g h core core pid addr access tends core refl refl tends.slotted (writes_none access core) (Refused ESRCH) (λ stall e. cc) (λ e. cc)
-      (λ done. absurd (let never : true ≡ false = done in cc)) in
+      (λ done. absurd (let never : true ≡ false = done in cc)) (λ done. absurd (let never : true ≡ false = done in cc)) in
       search rules
 
 -- the tables of no process grant nothing

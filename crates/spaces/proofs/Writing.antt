@@ -58,7 +58,7 @@ others_stored old mid new pid page (Common p) n w fit usable frames beside other
 others_stored old mid new pid page b n w fit usable frames beside others = λ q k other. views_others mid new n w fit usable.0 frames beside pid page usable.1 q k other ∙ others q k other
 
 -- nor has a page another entry
-entries_stored : {mode : ℕ} (mid new : Picture mode) (pid page : ℕ) (b : Backing) (n : ℕ) (w : List ℕ) → IsFit mid → IsOpenToStore mid pid page b n
+pub entries_stored : {mode : ℕ} (mid new : Picture mode) (pid page : ℕ) (b : Backing) (n : ℕ) (w : List ℕ) → IsFit mid → IsOpenToStore mid pid page b n
     → new.frames ≡ Frames.with_bytes mid.frames n w → SameBeside mid new → (q k : ℕ) → entry new q k ≡ entry mid q k
 entries_stored mid new pid page (Shared p) n w fit usable frames beside = entries_file mid new n w fit usable.0 frames beside (File p) usable.1
 entries_stored mid new pid page (Common p) n w fit usable frames beside = entries_file mid new n w fit usable.0 frames beside (Object p) usable.1

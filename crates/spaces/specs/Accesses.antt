@@ -10,6 +10,7 @@ use Rattle.frames.specs.declared.role.Role.TheVariants.{Table}
 use Rattle.sv39_walk.specs.Walk.{translated}
 use Rattle.fault.specs.Wants.{Wants, ReadsHome, RefusesAccess, ShowsFile}
 use Rattle.residency.specs.declared.kernel.Core.{Core}
+use Rattle.fault.specs.Chances.{AreAllMarkedFor, GivesOthersChance, WantsOneFrame}
 use Rattle.fault.specs.Changes.{IsCalm, KeepsOtherViews, KeepsSlotted, IsThatPage, LinksTables}
 use Rattle.residency.specs.Ways.{KeepsAround}
 use Rattle.residency.specs.Calls.{UsesDevice}
@@ -78,6 +79,10 @@ module _ {M : Type 0} {m : Levels.Ghosts M} {D E : Type 0} (g : Ghosts D) (h : G
     pub done : reply ≡ Reply.Done → access ≡ Store
     -- and once it is done the tables let it through
     pub grants : is_denial reply ≡ false → ((stall : Stall) → reply ≢ Reply.Stalled stall) → LetsThrough (picture_of granted) pid addr access
+    -- every other page that was accessed keeps its entry but for A where one frame is wanted at most, unless every frame that might be
+    -- given up had its mark
+    pub chance : is_denial reply ≡ false → ((stall : Stall) → reply ≢ Reply.Stalled stall) → WantsOneFrame (picture_of old) pid (addr / 4096) access
+        → GivesOthersChance (picture_of old) (picture_of new) pid (addr / 4096) (AreAllMarkedFor (picture_of old) pid (addr / 4096) access)
     -- the devices are asked for sectors of this page, and swap for those of free slots where a frame has to be given up, and one may be
     -- that needs a slot
     pub sectors : AsksForPage g h old new pid (addr / 4096) access

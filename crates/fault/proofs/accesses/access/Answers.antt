@@ -2,6 +2,7 @@ use Rattle.fault.proofs.Names.{user_end, Fine, FrameNo, Phys, Stall, ℕ, refl, 
 use Rattle.fault.{specs.{Outcome.{seen_at}, Serving.{Reaches, Serves}}, proofs.{Serving.{reaches_stall, tends_none}, Ready.{placed_made, grants_made, page_user}, Wanted.{root_live, walked_same, no_walk}}}
 use Rattle.fault.specs.declared.refusal.AccessRefusal.TheVariants as Refusal
 use Rattle.fault.{proofs.Names.{◌≡◌, ◌+◌, ◌*◌, ◌%◌, Some, arith, inl, inr}, specs.Granted.{IsEntered}}
+use Rattle.fault.proofs.Chances.{others_same}
 use Rattle.fault.proofs.accesses.access.Goals as goal
 
 there : (frame addr : ℕ) → frame ≡ (frame * 4096 + addr % 4096) / 4096
@@ -22,6 +23,7 @@ returns-in-Place g c =
       entered = inl refl;
       walked = λ place walked. (refl, ap (λ p. Ok p) (walked_same old pid addr c.args.width c.args.access c.in-Place.place place found.0 walked));
       granted = λ trusted. found.1;
+      chance = λ one. others_same old old pid (addr / 4096) _ (λ q p inside other. refl);
       counts = (refl, refl, refl);
       refusal = tt;
     })
@@ -39,6 +41,7 @@ returns-in-Fault g c =
       entered = tt;
       walked = λ place walked. absurd (no_walk (picture_of before) pid addr c.args.width c.args.access c.in-Fault.code place c.in-Fault.ensures.found walked);
       granted = λ trusted. tt;
+      chance = λ one. tt;
       counts = tt;
       refusal = (c.in-Fault.code, c.in-Fault.ensures.found, c.fault.ensures, refl);
     })
@@ -92,6 +95,7 @@ returns-in_ok-frame-in-Page g c =
       walked = λ place walked. absurd (found.unwalked walked.root place walked.lives walked.place);
       entered = inr (attr, mapped, subst N (there frame.0 addr) serves.entered);
       granted = λ trusted. grants_made old new pid addr width access attr frame.0 fine (serves.ready trusted);
+      chance = serves.chance;
       counts = serves.counts;
       refusal = tt;
     })

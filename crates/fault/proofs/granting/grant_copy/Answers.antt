@@ -1,6 +1,7 @@
 use Rattle.fault.{specs.{Changes.{copied_frame}, Granted.{IsReadyAt}}, proofs.{Forms.{none_here, behind_of}, Steps.{no_table_then, linked_kept}, WaySteps.{links_no_table}, AccessAsking.{asks_copied, brought_out, copies_cached}}}
 use Rattle.fault.proofs.{Linked.{read_then, calm_then, brings_on, stalled_on}, Entered.{owned_ready, owned_entered, owned_calm, owned_stalled}, Serving.{may_bring, shows_at, serves_away, stands_brought, open_brought, none_brought}}
 use Rattle.fault.proofs.{Names.{ap, ◌∙◌, rules, Store, File, stands_on, Core, picture_of, is_shared}, Settled.{ready_after}, AccessSlotted.{slotted_on}, AccessSteps.{proceeds_then, ok_then, on_ok_then, counts_then, counts_done}}
+use Rattle.fault.{proofs.{Kept.{own_others}, Names.{Attr, OnOk, refl, same_Some, subst, sym}}, specs.Chances.{AreAllMarkedFor, GivesOthersChance}}
 use Rattle.fault.proofs.granting.grant_copy.Goals as goal
 
 pub cached-requires : goal.cached-requires
@@ -75,6 +76,11 @@ returns g c =
       ready = λ trusted. ok_then (λ n. IsReadyAt mid new pid page attr Store n.0) (λ n. IsReadyAt old new pid page attr Store n.0) r (λ n. ready_after old mid new pid page attr Store n.0 mapped at first.keeps)
           (owned_ready mid new pid page attr between.sound done.moves.fit after.sound now alone asked.may.allowed.lets here
           (λ common. (c.in_ok-cached.field-0.0, behind_of mid attr.backing file c.in_ok-cached.field-0.0 backs first.placed)) done.behind done.others done.files r done.bytes done.entered);
+      chance = λ one.
+          let there = one.here file shows refl (ap (λ (a : Attr). is_shared a.backing) (same_Some shows.attr attr (sym shows.mapped ∙ mapped)) ∙ alone) in
+          subst (λ (k : Core _ _ _ _). OnOk r (GivesOthersChance (picture_of k) new pid page (AreAllMarkedFor (picture_of k) pid page Store))) (idle there.0 there.1).0
+          (own_others mid pid page new attr r (linked_kept old mid pid page asked.may.spot.linked first.proceeds.fit first.proceeds.spaces first.proceeds.tables) at alone here
+          (λ common. (c.in_ok-cached.field-0.0, behind_of mid attr.backing file c.in_ok-cached.field-0.0 backs first.placed)) done.chance);
       counts = on_ok_then _ _ r (counts_then g.D.SectorDisk g.E.SectorDisk before between after first.cause) (counts_done g.D.SectorDisk g.E.SectorDisk between after r done.moves.store done.cause);
       stalled = stalled_on before between pid page file shows g.D.SectorDisk g.E.SectorDisk after Store r (λ n is. (idle n is).0) first.keeps first.cause.2 first.cause.0 first.cause.1 done.cause
           (owned_stalled between after pid page attr at alone g.D.SectorDisk g.E.SectorDisk r (linked_kept old mid pid page asked.may.spot.linked first.proceeds.fit first.proceeds.spaces first.proceeds.tables) here

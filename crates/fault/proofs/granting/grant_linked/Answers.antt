@@ -1,5 +1,6 @@
 use Rattle.{residency.specs.Picture.{is_swapped}, fault.proofs.{AccessSteps.{counts_done}, Entered.{swapped_entered, swapped_ready, swapped_stalled}, Forms.{mapped_page}, Names.{inl, None, sym, ap, ◌∙◌, subst, Access, picture_of}}}
 use Rattle.fault.{proofs.{Serving.{tends_moved}, SwapSteps.{swapped_page}}, specs.{Asking.{IsSectorOfCopy}, Serving.{Serves}, SpotServing.{MayServeAt}, Wants.{ForSlot}}}
+use Rattle.fault.proofs.{AccessSteps.{on_ok_then}, Chances.{others_for}, Kept.{all_marked_for}, Names.{frees_none}, Wanted.{away_keeps}}
 use Rattle.fault.proofs.granting.grant_linked.Goals as goal
 
 pub swap_in-requires : goal.swap_in-requires
@@ -35,6 +36,7 @@ returns-then-is_swapped g c =
       entered = swapped_entered old new pid page attr access done.moves.fit after.sound now its.not_shared asked.may.allowed.lets r done.entered done.sole;
       ready = λ trusted. swapped_ready old new pid page attr access done.moves.fit after.sound now its.not_shared asked.may.allowed.lets r at (record { views = done.seen (trusted away); touched = done.files.touched })
           done.entered done.sole;
+      chance = λ one. on_ok_then _ _ r (others_for old new pid page _ _ (all_marked_for old pid page (away_keeps old old pid page access inside its.common away (frees_none old None)))) done.chance;
       counts = counts_done g.D.SectorDisk g.E.SectorDisk before after r done.moves.store done.cause;
       stalled = swapped_stalled g.D.SectorDisk g.E.SectorDisk before after pid page access r done.moves.store done.files done.same inside its.common away done.frees done.cause done.short done.refuses;
     }

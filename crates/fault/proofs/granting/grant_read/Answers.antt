@@ -5,6 +5,7 @@ use Rattle.std.proofs.Common.{List, slice_index_or}
 use Rattle.vm_types.specs.declared.region.Backing.TheVariants.{Anon}
 use Rattle.vm_types.specs.declared.mode.Levels as Levels
 use Rattle.vm_types.specs.Permission as Permission
+use Rattle.fault.proofs.{Chances.{others_for, others_on}, Kept.{all_marked_for, read_keeps}, Names.{None}}
 use Rattle.fault.proofs.granting.grant_read.Goals as goal
 
 full_shown : {M : Type 0} {m : Levels.Ghosts M} {D E : Type 0} {old new : Core D E M m} {spot : Spot} {a : Attr} {frame : ℕ} {private : Bool} → ShowsFully old new spot a frame private
@@ -102,6 +103,7 @@ returns-in_ok-frame-in-Some g c access reads lets =
       tends = tends_shown g.D.SectorDisk g.E.SectorDisk before between pid page access stored shows c.requires.may.1.spot.linked.fit after _ first (λ n at. (idle n at).0) enters files.held files.files;
       entered = read_entered old new pid page c.args.attr.now access frame _ _ _ enters.fit after.sound mapped now seen c.show_cached.ensures.entry reads lets (full_shown c.show_cached.ensures);
       ready = λ trusted. read_ready old new pid page c.args.attr.now access frame _ _ _ enters.fit after.sound mapped now seen c.show_cached.ensures.entry reads lets;
+      chance = λ one. others_for old new pid page _ _ (all_marked_for old pid page (read_keeps old pid page access reads)) (others_on old mid new pid page None first.chance enters.calm.others);
       counts = counts_then g.D.SectorDisk g.E.SectorDisk before between after first.cause (counts_calm g.D.SectorDisk g.E.SectorDisk between after pid page enters.calm);
       stalled = tt;
     }

@@ -1,5 +1,6 @@
 use Rattle.fault.proofs.{Forms.{mapped_page, shared_none}, Settled.{full_touched, reads_too, entered_store, entered_ready, ready_shared, touched_entry, touches_after}, Serving.{may_bring, shows_at, serves_away, stands_brought, open_brought, tends_shown}}
 use Rattle.fault.proofs.{Names.{false, inl, ap, ◌∙◌, Store, slots_of, picture_of, entry}, AccessSteps.{held_marked, counts_then, counts_calm}}
+use Rattle.fault.proofs.{Chances.{others_for, others_on}, Kept.{all_marked_for, shared_keeps}, Names.{None}}
 use Rattle.fault.proofs.granting.grant_shared.Goals as goal
 
 pub cached-requires : goal.cached-requires
@@ -35,6 +36,7 @@ returns g c =
       entered = entered_store new pid page attr frame false readable c.touch.ensures.entry
           (full_touched new attr stored frame (entry new pid page) c.requires.shared c.requires.stands marks.touched c.requires.may.allowed.lets c.touch.ensures.entry) (entered_ready Store mid new pid page attr frame (ready_shared mid new pid page attr stored frame c.requires.shared c.requires.stands touched));
       ready = λ trusted. ready_shared old new pid page attr stored frame c.requires.shared c.requires.stands (touches_after old mid new stored frame first.keeps touched);
+      chance = λ one. others_for old new pid page _ _ (all_marked_for old pid page (shared_keeps old pid page attr Store mapped c.requires.shared)) (others_on old mid new pid page None first.chance enters.calm.others);
       counts = counts_then g.D.SectorDisk g.E.SectorDisk before between after first.cause (counts_calm g.D.SectorDisk g.E.SectorDisk between after pid page enters.calm);
       stalled = tt;
     }

@@ -1,6 +1,7 @@
 use Rattle.fault.proofs.{AccessAsking.{asks_less, asks_back, tables_out}, AccessSlotted.{slotted_none, slotted_back}, AccessSteps.{proceeds_moves, proceeds_after, brings_none, on_ok_then, counts_then}, Forms.{mapped_page}}
 use Rattle.fault.proofs.{Linked.{open_still, calm_back, read_back, away_back, ready_back, brings_back, stalled_back, stalled_tables}, Names.{◌≢◌, inl, Option, None, refl, sym, ap, ◌∙◌, subst, rules, IsSome, Attr, Nothing, IsFull}}
 use Rattle.fault.{proofs.{Names.{otherwise, picture_of, IsWhole}, Serving.{serves_stall}, Wanted.{root_live, root_lives, whole_or}, WaySteps.{links_on}}, specs.Wants.{ForTable, ShowsFile}}
+use Rattle.fault.{proofs.Names.{Core, OnOk}, specs.Chances.{AreAllMarkedFor, GivesOthersChance, WantsOneFrame}}
 use Rattle.fault.proofs.granting.grant_unlinked.Goals as goal
 
 pub link_tables-requires-clause-live : goal.link_tables-requires-clause-live
@@ -82,6 +83,9 @@ returns g c =
       entered = then.entered;
       ready = λ trusted. ready_back before between pid page lives first.pages idle (picture_of after) attr access r at
           (then.ready (λ away. trusted (away_back before between pid page lives first.pages idle inside first.bare away)));
+      chance = λ one.
+          subst (λ (k : Core _ _ _ _). WantsOneFrame (picture_of k) pid page access → OnOk r (GivesOthersChance (picture_of k) (picture_of after) pid page (AreAllMarkedFor (picture_of k) pid page access)))
+          (idle one.whole) then.chance one;
       counts = on_ok_then _ _ r (counts_then g.D.SectorDisk g.E.SectorDisk before between after (first.cause.0, ap (λ s. g.D.SectorDisk.failures s.disk) first.moves.store, first.cause.1)) then.counts;
       stalled = stalled_back before between pid page lives first.pages idle g.D.SectorDisk g.E.SectorDisk first.moves first.whole first.gives first.tables after access r first.cause.0 first.cause.1 then.stalled;
     }

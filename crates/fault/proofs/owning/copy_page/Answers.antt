@@ -1,7 +1,8 @@
 use Rattle.fault.proofs.{Asking.{asks_slots_kept}, Forms.{used_inside}, Names.{is_some, IsTrue, ◌≡◌, Some, refl, sym, ap, ◌∙◌, subst, rules, false≢true, Nothing, Role, Free, Private, is_handed_out, Swap, IsReady, UsesDevice, picture_of}}
-use Rattle.fault.proofs.{OwnSteps.{ownable_frame, shown_used, shown_datum, shown_inside, copy_frame, copied_given, fit_first, behind_freed, behind_first, role_shared, fit_shared, copied_shared}, Settling.{aside_freed, leaves_aside}}
-use Rattle.{fault.proofs.{Settling.{forest_mid, root_mid, rows_mid, gives_frame}, Steps.{same_with}}, residency.specs.Picture.{is_private}}
+use Rattle.fault.proofs.{OwnSteps.{ownable_frame, shown_used, shown_datum, shown_inside, copy_frame, copied_given, shared_others, fit_first, behind_freed, behind_first, role_shared, fit_shared, copied_shared}, Settling.{aside_freed, leaves_aside}}
+use Rattle.{fault.proofs.{Settling.{forest_mid, root_mid, rows_mid, gives_frame, set_others}, Steps.{same_with}}, residency.specs.Picture.{is_private}}
 use Rattle.fault.{specs.OwnFrames.{LeavesOthers}, proofs.Names.{ℕ, false, entry}}
+use Rattle.fault.proofs.Chances.{others_on}
 use Rattle.fault.proofs.owning.copy_page.Goals as goal
 
 pub take_copy-requires : goal.take_copy-requires
@@ -49,6 +50,8 @@ returns-then-is_private g c =
       behind = λ x not_own. absurd (false≢true (sym not_own ∙ private));
       keeps = leaves_aside g.E.SectorDisk c.args.core.now _ (fit_shared shows done.taken page.stands.root gives private releases beside) (subst P (sym rest.swap) done.swap) copied.aside
           (rest.store ∙ done.rest.store) (subst (λ (s : Swap _). UsesDevice g.E.SectorDisk c.args.core.now.swap.pages.disk s.pages.disk) (sym rest.swap) done.device);
+      chance = others_on (picture_of c.args.core.now) (picture_of c.take_copy.new.core) _ c.args.spot.now.pid c.args.spot.now.page (Some c.args.shown) done.chance
+          (shared_others shows done.taken page.stands.root gives private releases beside);
       asks = asks_slots_kept g.E.SectorDisk c.args.core.now c.take_copy.new.core c.set_full.new.core (Some c.args.shown) Nothing (ap (λ (s : Swap _). s.pages) rest.swap) done.asks;
       stalls = record { same = tt; frees = tt; refuses = tt; short = tt; cause = search rules };
     }
@@ -71,6 +74,8 @@ returns-else-is_private g c =
       behind = λ x not_own. behind_first shows done.taken page.stands.root gives not_own x;
       keeps = leaves_aside g.E.SectorDisk c.args.core.now _ (fit_first shows done.taken page.stands.root gives common) (subst P (sym rest.swap) done.swap) copied.aside
           (rest.store ∙ done.rest.store) (subst (λ (s : Swap _). UsesDevice g.E.SectorDisk c.args.core.now.swap.pages.disk s.pages.disk) (sym rest.swap) done.device);
+      chance = others_on (picture_of c.args.core.now) (picture_of c.take_copy.new.core) _ c.args.spot.now.pid c.args.spot.now.page (Some c.args.shown) done.chance
+          (set_others (copy_frame shows done.taken page.stands.root) gives);
       asks = asks_slots_kept g.E.SectorDisk c.args.core.now c.take_copy.new.core c.set_full.new.core (Some c.args.shown) Nothing (ap (λ (s : Swap _). s.pages) rest.swap) done.asks;
       stalls = record { same = tt; frees = tt; refuses = tt; short = tt; cause = search rules };
     }

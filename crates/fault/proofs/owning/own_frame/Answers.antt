@@ -3,6 +3,7 @@ use Rattle.fault.proofs.{Names.{IsFull, Nothing, bytes_of, count_of, role_of, fr
 use Rattle.fault.{proofs.{Steps.{no_table_calm, slotted_calm, moves_entered}, owning.own_frame.Goals.{else-is_private-via-then-is_private+else-count-eq1, else-is_private-via-else-is_private}}, specs.Changes.{KeepsOtherBare, shown_frame, copied_frame}}
 use Rattle.{fault.specs.{Changes.{is_sole}, Leaves.{IsFullEntry}, OwnFrames.{CopiesPage}}, residency.specs.Picture.{is_private}}
 use Rattle.std.proofs.{Common.{ne_eqb}, lemmas.Bool.{and_left, and_right, both_ways}}
+use Rattle.fault.proofs.{Chances.{others_same}, Names.{AreAllMarked}}
 use Rattle.fault.proofs.owning.own_frame.Goals as goal
 
 pub shown_frame-shown-requires-clause-number : goal.shown_frame-shown-requires-clause-number
@@ -53,6 +54,7 @@ returns-then-count-eq1 g c =
     let entered = subst Q frame (full_own old attr (frame_of was) now one c.requires.page.writable (subst P own c.regrant.ensures.entry)) in
     let sole = ap (λ cs. get_or cs c.shown_frame-shown.result.0 0) enters.calm.frames.counts ∙ ap (count_of old.frames) (sym frame) ∙ one in
     let moves = moves_entered g.E.SectorDisk c.args.core.now c.regrant.new.core pid page c.requires.page.swap enters in
+    let chance = others_same old (picture_of c.regrant.new.core) pid page (AreAllMarked old (copied_frame old pid page attr)) enters.calm.others in
     let no_table = no_table_calm c.args.core.now c.regrant.new.core pid page enters.calm in
     let bare : KeepsOtherBare old (picture_of c.regrant.new.core) pid page = λ q p h other none. enters.calm.others q p h other ∙ none in
     let slotted = slotted_calm (λ p. ⊥) c.args.core.now c.regrant.new.core pid page enters.calm in

@@ -3,6 +3,7 @@ use Rattle.fault.proofs.Names.{ChangesFrame}
 use Rattle.fault.proofs.{Asking.{asks_swap}, SwapSteps.{own_written, changes_further}}
 use Rattle.fault.proofs.{Taken.{sound_taken}, owning.take_copy.Given.{Over}}
 use Rattle.fault.specs.Changes.{TakesCopy}
+use Rattle.fault.proofs.{Chances.{chance_written}, Names.{Private, Table}}
 use Rattle.fault.proofs.owning.take_copy.Goals as goal
 
 frames_same : (g : Over) (c : goal.After-fill g) → frame_count c.fill.new.frames ≡ frame_count c.take_own.new.self.frames
@@ -40,6 +41,7 @@ returns g c =
       noted = took.own.noted;
       copied = ap (λ t. bytes_of t n) c.fill.ensures ∙ with_bytes-same taken.frames n w inside ∙ took.own.takes.others.bytes m apart ∙ took.frees.kept_bytes m refl c.requires.datum;
     } in
+    let chance = chance_written done (record taken { frames = c.fill.new.frames }) copy.changes (λ t. (let bad : Private ≡ Table = sym copy.role ∙ t in (cc))) in
     search rules
 
 pub returns-in_err-own : goal.returns-in_err-own

@@ -12,6 +12,6 @@ returns-in-Slot g c =
     let done = c.bring_back.ensures in
     let here : ℕ → Type 0 = IsSectorOfSlot slot.0 in
     let at = c.requires.place ∙ c.in-Slot.is in
-    pages_in_beside g.D.SectorDisk g.E.SectorDisk c.requires.may.fit c.requires.may.store (λ k there. let bad = sym at ∙ there in (cc)) done.comes done.rest done.uses done.refused
+    pages_in_beside g.D.SectorDisk g.E.SectorDisk c.requires.may.fit c.requires.may.store (λ k there. let bad = sym at ∙ there in (cc)) done.comes done.rest done.aged done.uses done.refused
     (asks_slots_wider g.E.SectorDisk before after None here (IsSectorOfPage old page) (λ k is. inl (slot, at, is)) (asks_swap_also g.E.SectorDisk before after None here done.asked))
     (λ kept. brings_slot_of g.D.SectorDisk before.store.disk after.store.disk old (picture_of after) page slot.0 c.bring_back.result done.brought done.frees at (done.same kept))

@@ -1,5 +1,6 @@
 use Rattle.fault.proofs.{AccessSteps.{no_new_of, pages_in_beside, keeps_in, only_in, placed_in, brings_home_of, brings_blank_of, err_always, untouched_home}, Asking.{asks_swap}, Names.{◌≡◌, rules, StoreDevice, None, refl, ap, sym, ◌∙◌, subst}}
 use Rattle.fault.{proofs.Names.{PageKey, File, Object, asks_wider, once_wider, IsSectorOf, picture_of}, specs.{Asking.{IsSectorOfPage, IsSectorOfStoredPage}, Files.{IsInStore}, PagingIn.{PagesIn}}}
+use Rattle.fault.proofs.Chances.{chance_came}
 use Rattle.fault.proofs.page_in.bring_home.Goals as goal
 
 pub returns-in-File : goal.returns-in-File
@@ -16,6 +17,7 @@ returns-in-File g c =
     subst (λ (p : PageKey). PagesIn g.D.SectorDisk g.E.SectorDisk before after p r) (sym c.in-File.is)
     (let placed = placed_in done.comes in
     let only = only_in done.comes in
+    let chance = chance_came before after page r done.brought done.aged in
     let brings = brings_home_of g.D.SectorDisk before.store.disk after.store.disk old new c.in-File.page r done.brought done.frees (untouched_home old page c.requires.may.fit home) done.read in
     let read : IsInStore old page = (c.in-File.page, refl, home) in
     let asks = asks_swap g.E.SectorDisk before after None (IsSectorOfPage old page) done.asked in
@@ -35,6 +37,6 @@ returns-in-Object g c =
     let done = c.bring_blank.ensures in
     let home = ap old.place (sym c.in-Object.is) ∙ c.requires.home in
     subst (λ (p : PageKey). PagesIn g.D.SectorDisk g.E.SectorDisk before after p r) (sym c.in-Object.is)
-    (pages_in_beside g.D.SectorDisk g.E.SectorDisk c.requires.may.fit c.requires.may.store (λ k at. let bad = sym home ∙ at in (cc)) done.comes done.rest done.uses done.refused
+    (pages_in_beside g.D.SectorDisk g.E.SectorDisk c.requires.may.fit c.requires.may.store (λ k at. let bad = sym home ∙ at in (cc)) done.comes done.rest done.aged done.uses done.refused
     (asks_swap g.E.SectorDisk before after None (IsSectorOfPage old page) done.asked)
     (λ kept. brings_blank_of g.D.SectorDisk before.store.disk after.store.disk old (picture_of after) c.in-Object.page r done.brought done.frees (untouched_home old page c.requires.may.fit home) done.blank))

@@ -1,6 +1,7 @@
 use Rattle.fault.{specs.Asking.{IsSectorOfPage, IsSectorOfStoredPage}, proofs.{Asking.{no_new_same, asks_slots_same}, AccessSteps.{once_same, store_same, reads_none, brings_none}}}
 use Rattle.fault.specs.Files.{IsInStore}
 use Rattle.fault.proofs.{Names.{◌≡◌, ◌⊎◌, IsFull, KeepsRolesBut, Some, None, inl, inr, refl, rules, picture_of}, Steps.{no_table_none, slotted_same, device_none, files_same, seen_none}}
+use Rattle.fault.proofs.Chances.{chance_none}
 use Rattle.fault.proofs.page_in.cached.Goals as goal
 
 pub returns-in-Frame-clause-pages_in : goal.returns-in-Frame-clause-pages_in
@@ -12,6 +13,7 @@ returns-in-Frame-clause-pages_in g c =
     let device = device_none g.E.SectorDisk core.swap.pages.disk in
     let brings = brings_none g.D.SectorDisk core.store.disk core.store.disk (λ p. p ≡ page) (picture_of core) (picture_of core) (files_same (picture_of core)) in
     let keeps = seen_none (picture_of core) in
+    let chance = chance_none (picture_of core) None in
     let no_table = no_table_none (picture_of core) in
     let slotted = slotted_same (λ p. p ≡ page) (λ q p. ⊥) (picture_of core) (picture_of core) (λ p. refl) (λ q p h. refl) in
     let read : (core.store ≡ core.store) ⊎ IsInStore (picture_of core) page = inl refl in

@@ -4,6 +4,7 @@ use Rattle.fault.proofs.{Settling.{leaves_aside, forest_mid, root_mid, rows_mid,
 use Rattle.{fault.{proofs.SwapSteps.{fit_in, aside_in, seen_in, own_spent, changes_further, full_count, ready_released}, specs.Asking.{MayAsk, IsSectorOfCopy}}, residency.specs.Picture.{is_swapped}}
 use Rattle.fault.proofs.{Names.{◌<◌, IsFrame, arith}, Taken.{sound_taken}}
 use Rattle.fault.specs.OwnFrames.{LeavesOthers}
+use Rattle.fault.proofs.{Chances.{chance_written, others_on}, Names.{Private}, Settling.{set_others, slots_aside}}
 use Rattle.fault.proofs.swapping.swap_in.Goals as goal
 
 pub decode-requires : goal.decode-requires
@@ -80,6 +81,9 @@ returns-in-Ok g c =
           (subst Q (sym c.release.ensures.pages) (subst (λ (x : Swap _). UsesDevice g.E.SectorDisk c.args.core.now.swap.pages.disk x.pages.disk) (sym rest.swap)
           (device_then g.E.SectorDisk c.args.core.now.swap.pages.disk c.take_own.new.self.swap.pages.disk c.get.new.self.pages.disk done.device
           (record { size = c.get.ensures.size; kept = c.get.ensures.kept; later = c.get.ensures.cause.later }))));
+      chance = others_on old written (record set { slots = t }) c.args.spot.now.pid c.args.spot.now.page None
+          (chance_written done written has.changes (λ table. (let bad : Private ≡ Table = sym has.role ∙ table in (cc))))
+          (λ q p inside other. slots_aside set t q p ∙ set_others has gives q p inside other);
       asks = asks_between g.E.SectorDisk (MayAsk old (IsFull old.frames) None also) c.args.core.now.swap c.args.core.now.swap c.get.new.self c.release.new.self refl
           (c.release.ensures.pages ∙ ap (λ (s : Swap _). s.pages) rest.swap) read;
       stalls = record { same = tt; frees = tt; refuses = tt; short = tt; cause = search rules };
@@ -106,6 +110,7 @@ returns-in-Err g c =
       entered = search rules;
       sole = search rules;
       seen = λ model. frees.pages.views;
+      chance = tt;
       keeps = leaves_aside g.E.SectorDisk c.args.core.now _ (fit_spent took.found new n took.fit changes datum free) c.get.ensures.ready (aside_freed frees) done.rest.store
           (device_then g.E.SectorDisk c.args.core.now.swap.pages.disk c.take_own.new.self.swap.pages.disk c.get.new.self.pages.disk done.device
           (record { size = c.get.ensures.size; kept = c.get.ensures.kept; later = c.get.ensures.cause.later }));
@@ -114,6 +119,7 @@ returns-in-Err g c =
     }
 
 pub returns-in_err-frame : goal.returns-in_err-frame
+unfolding entry
 returns-in_err-frame g c =
     let done = c.in_err-frame.ensures in
     let keeps : LeavesOthers g.E.SectorDisk c.args.core.now c.take_own.new.self c.args.spot.now.pid c.args.spot.now.page = leaves_aside g.E.SectorDisk c.args.core.now c.take_own.new.self done.fit done.swap (aside_freed done.frees) done.rest.store done.device in

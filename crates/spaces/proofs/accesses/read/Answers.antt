@@ -14,8 +14,16 @@ returns-in-Ok-clause-keeps g c =
     let tends = c.access.ensures.tends in
     let placed = c.in-Ok.ensures.placed in
     let asks = asks_unstalled g.D.SectorDisk g.E.SectorDisk a.core.now new c.in-Some.pid a.addr a.kind tends new refl refl tends.slotted (writes_none a.kind new) (Value a.width c.read_number-value.result)
-    (λ stall e. cc) (λ e. cc) (λ done. (placed.root, c.in-Ok.place, placed.lives, placed.place)) in
-    rw (← c.in-Some.ensures.found.0) (search rules)
+    (λ stall e. cc) (λ e. cc) (λ done. (placed.root, c.in-Ok.place, placed.lives, placed.place)) (λ done. c.in-Ok.ensures.chance) in
+    let goes = tends.proceeds in
+    let counts = c.in-Ok.ensures.counts in
+    rw (← c.in-Some.ensures.found.0) (record {
+      accounts = record { sound = record { ready = goes.ready; swap = goes.swap; fit = goes.fit }; room = goes.room; denied = λ e. cc; caused = search (rules, counts) };
+      others = tends.others;
+      reads = goes.reads;
+      device = goes.device;
+      asks = asks;
+    })
 
 pub returns-in-Ok-clause-walked : goal.returns-in-Ok-clause-walked
 returns-in-Ok-clause-walked g c place walked =

@@ -1,8 +1,9 @@
 use Rattle.spaces.proofs.Names.{ℕ, ◌<◌, ◌≡◌, inr, is_some, ◌/◌, ◌%◌, List, refl, sym, ap, ◌∙◌, subst, rules, arith, FrameTable, IsHeld, IsSound, with_bytes, IsHeld-above, IsHeld-not_zero, IsSound-step, with_bytes-others, IsThatPage, Grants}
 use Rattle.spaces.proofs.Names.{IsReadyToStore, IsOpenToStore, IsWalked, Tends, ShowsFile, picture_of, Store, Phys, Answer, Done, with_number, byte_count, reply_of}
 use Rattle.spaces.{specs.{Accesses.{KeepsToPage, LetsThrough}, Calls.{Comes}}, proofs.{Asking.{asks_unstalled, keeps_dead, keeps_refused, no_root, one_end, one_place, writes_walked}, Calls.{found_lives}}}
-use Rattle.spaces.proofs.Writing.{data_frame, fit_stored, open_held, others_stored, room_stored, slotted_stored, store_refused, stores}
+use Rattle.spaces.proofs.Writing.{data_frame, entries_stored, fit_stored, open_held, others_stored, room_stored, slotted_stored, store_refused, stores}
 use Rattle.vm_types.specs.declared.access.Access.TheVariants as Accesses
+use Rattle.fault.proofs.Chances.{others_kept}
 use Rattle.spaces.proofs.accesses.store.Goals as goal
 
 pub frame_of-frame-requires : goal.frame_of-frame-requires
@@ -51,7 +52,10 @@ returns-in-Ok-clause-keeps g c =
           (ShowsFile old a.pid (a.addr / 4096)) (IsThatPage a.pid (a.addr / 4096)) goes.fit usable refl
           (record { slots = refl; root = λ q. refl; at = λ q k. refl; page_of = λ m. refl; place = λ p. refl; touched = λ p. refl; files = λ f. refl }) tends.slotted)
           (inr (n, a.addr % 4096, a.stored, data_frame mid a.pid (a.addr / 4096) n backing goes.fit usable, written)) Done (λ stall e. cc) (λ e. refl)
-          (λ done. rw (← found) (placed.root, c.in-Ok.place, placed.lives, placed.place));
+          (λ done. rw (← found) (placed.root, c.in-Ok.place, placed.lives, placed.place))
+          (λ done one. others_kept old mid _ a.pid (a.addr / 4096) _ ((rw found at c.in-Ok.ensures.chance) one)
+          (λ q p inside. entries_stored mid _ a.pid (a.addr / 4096) backing n c.write_number.new.page goes.fit usable refl
+          (record { slots = refl; root = λ q. refl; at = λ q k. refl; page_of = λ m. refl; place = λ p. refl; touched = λ p. refl; files = λ f. refl }) q p));
     }
 
 pub returns-in-Ok-clause-comes : goal.returns-in-Ok-clause-comes
