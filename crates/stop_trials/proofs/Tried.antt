@@ -51,14 +51,14 @@ pub is_refused : (sectors : ℕ) (image : Image) (told : TrialFault) (fault inne
 is_refused sectors image told fault inner is same refused = subst (IsUnopenedFor sectors image) (is ∙ ap Refused same) refused
 
 module _ (g : Ghosts StoppingDisk) (h : Ghosts SimDisk) (setting : Setting) (states : List (Vec ℕ Global)) where
-  pub none_tried : (every : ℕ) (summary : Summary) → summary.stops ≡ 0 → AreTried g h setting states every summary
-  none_tried every summary none = record { trials = []; each = tt; count = none; good = λ zero. tt }
+  pub none_tried : (every : ℕ) (summary : Summary) → summary.stops ≡ 0 → summary.bad ≡ 0 → AreTried g h setting states every summary
+  none_tried every summary none unbad = record { trials = []; each = tt; count = none; good = λ zero. tt; bad = λ good. unbad }
 
   -- one trial more, in the i-th multiple
   pub one_tried : (every i number : ℕ) (old new : Summary) (found : Option Trial) (trial : Trial) → AreTried g h setting states every old → old.stops + 1 ≡ i → i < 2 ^ 64 - 1
       → number ≡ min (every * i) (2 ^ 64 - 1) → found ≡ Some trial → IfSome found (IsTrial g h setting states number) → new.stops ≡ one_more old.stops
-      → (new.bad ≡ 0 → AllStand trial × (old.bad ≡ 0)) → AreTried g h setting states every new
-  one_tried every i number old new found trial before next few is some tried stops bad =
+      → (new.bad ≡ 0 → AllStand trial × (old.bad ≡ 0)) → (AllStand trial → new.bad ≡ old.bad) → AreTried g h setting states every new
+  one_tried every i number old new found trial before next few is some tried stops bad good =
       let count = before.count in
       let place : i ≡ length before.trials + 1 = omega (arith, count, next) in
       let here : IsTrial g h setting states number trial = subst (λ (t : Option Trial). IfSome t (IsTrial g h setting states number)) some tried in
@@ -67,4 +67,5 @@ module _ (g : Ghosts StoppingDisk) (h : Ghosts SimDisk) (setting : Setting) (sta
         each = (subst (λ (n : ℕ). IsTrial g h setting states n trial) (is ∙ ap (λ (m : ℕ). min (every * m) (2 ^ 64 - 1)) place) here, before.each);
         count = omega (arith, stops, count, next, few);
         good = λ zero. let b = bad zero in (b.0, before.good b.1);
+        bad = λ all. good all.0 ∙ before.bad all.1;
       }

@@ -75,14 +75,30 @@ module _ (g : Ghosts StoppingDisk) (h : Ghosts SimDisk) (setting : Setting) (sta
   AreTrials every [] = Unit {0}
   AreTrials every (trial ∷ earlier) = IsTrial (min (every * (length earlier + 1)) (2 ^ 64 - 1)) trial × AreTrials every earlier
 
+-- A run that was to be stopped in the event of that number has none: its device did not stop there.
+module _ (g : Ghosts StoppingDisk) (h : Ghosts SimDisk) (setting : Setting) where
+  pub record HasNoEvent (number : ℕ) : Type 0 where
+    pub replies : List Reply
+    pub device : StoppingDisk
+    pub ran : IsTrialRun g h setting number replies device
+    pub unstopped : device.stop ≡ Some number → device.stopped ≡ None
+
 -- each of them left with each filling what it may
 abbrev pub AreGoodTrials : List Trial → Type 0
 AreGoodTrials [] = Unit {0}
 AreGoodTrials (trial ∷ earlier) = AllStand trial × AreGoodTrials earlier
 
--- What the trials come to: so many stops, and where none was bad each left what it may.
+-- What the trials come to: so many stops, none of them bad exactly where each left what it may.
 pub record AreTried (g : Ghosts StoppingDisk) (h : Ghosts SimDisk) (setting : Setting) (states : List (Vec ℕ Global)) (every : ℕ) (summary : Summary) : Type 0 where
   pub trials : List Trial
   pub each : AreTrials g h setting states every trials
   pub count : summary.stops ≡ length trials
   pub good : summary.bad ≡ 0 → AreGoodTrials trials
+  pub bad : AreGoodTrials trials → summary.bad ≡ 0
+
+-- All stops in events of these numbers were tried:
+pub record AreAllTried (g : Ghosts StoppingDisk) (h : Ghosts SimDisk) (setting : Setting) (states : List (Vec ℕ Global)) (every : ℕ) (summary : Summary) : Type 0 where
+  -- the trials come to this,
+  pub tried : AreTried g h setting states every summary
+  -- and a run has no event of the next number, unless there were 2^64 - 2 of them.
+  pub last : HasNoEvent g h setting (min (every * (summary.stops + 1)) (2 ^ 64 - 1)) ⊎ (summary.stops ≡ 2 ^ 64 - 2)

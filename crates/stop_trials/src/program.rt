@@ -1,7 +1,7 @@
 //! The program that tries stops.
-ghost use Rattle.std.specs.Prelude.{◌≤◌, IfOk, map};
-ghost use Rattle.stop_trials.specs.Ends.{EndsTrials, ExitsWith};
-ghost use Rattle.stop_trials.specs.Lines.{AreCommandsOf};
+ghost use Rattle.std.specs.Prelude.{◌≡◌, ◌≤◌, IfOk, map};
+ghost use Rattle.stop_trials.specs.Ends.{EndsTrials, ExitsAfterTrials, HoldsNewStore};
+ghost use Rattle.stop_trials.specs.Lines.{AreCommandsOf, IsReadWhole, split_lines};
 
 use crate::runs::Setting;
 use crate::stopping::StoppingDisk;
@@ -37,7 +37,7 @@ pub fn pagestops<R: Files<File = File> + AllocGlobal, I: Read, O: Write, X: Writ
     errors: &mut X,
 ) -> u8
     ensures statuses { result ≤ 2 }
-    ensures ends { ExitsWith ⟦<StoppingDisk as SectorDisk>⟧ ⟦<SimDisk as SectorDisk>⟧ result }
+    ensures ends { ExitsAfterTrials ⟦<StoppingDisk as SectorDisk>⟧ ⟦<SimDisk as SectorDisk>⟧ (I.remaining reader.old) (I.remaining reader.new) result }
 {
     report("pagestops", tried(rt, words, reader, writer), errors)
 }
@@ -50,7 +50,7 @@ fn tried<'a, R: Files<File = File> + AllocGlobal, I: Read, O: Write>(
     writer: &mut O,
 ) -> Result<u8, ProgramFault<'a>>
     ensures statuses { IfOk result (λ status. status ≤ 1) }
-    ensures ends { IfOk result (EndsTrials ⟦<StoppingDisk as SectorDisk>⟧ ⟦<SimDisk as SectorDisk>⟧) }
+    ensures ends { IfOk result (EndsTrials ⟦<StoppingDisk as SectorDisk>⟧ ⟦<SimDisk as SectorDisk>⟧ (I.remaining reader.old) (I.remaining reader.new)) }
 {
     let words = stop_words(rt.alloc(), words)?;
     let _places = held_places(rt)?;
@@ -81,7 +81,9 @@ fn tried<'a, R: Files<File = File> + AllocGlobal, I: Read, O: Write>(
 fn new_image<'a, R: Files<File = File> + AllocGlobal>(
     rt: &R,
     words: &StopWords<'a>,
-) -> Result<SimDisk, ProgramFault<'a>> {
+) -> Result<SimDisk, ProgramFault<'a>>
+    ensures { IfOk result (HoldsNewStore words.now.journals (map (λ spec. spec.now) words.now.specs.items)) }
+{
     let mut sources = open_sources(rt.alloc(), rt, words.specs.as_slice())?;
     let sectors = image_bytes(words.journals, sources.as_slice()) / SECTOR_BYTES as u64;
     let mut image = SimDisk::new(rt.alloc(), sectors)?;
@@ -92,7 +94,9 @@ fn new_image<'a, R: Files<File = File> + AllocGlobal>(
 }
 
 /// The lines of a trace, without the newlines that end them.
-fn lines_of(alloc: Global, trace: &[u8]) -> Result<Vec<&[u8]>, AllocError> {
+fn lines_of(alloc: Global, trace: &[u8]) -> Result<Vec<&[u8]>, AllocError>
+    ensures { IfOk result (λ lines. map (λ line. line.now) lines.items ≡ split_lines trace.now) }
+{
     trace.split(|byte| *byte == b'\n').collect(alloc)
 }
 
@@ -110,7 +114,9 @@ fn commands_of(alloc: Global, lines: &[&[u8]]) -> Result<Vec<Command>, AllocErro
 }
 
 /// All bytes of the reader.
-fn whole_trace<'a, I: Read>(alloc: Global, reader: &mut I) -> Result<Vec<u8>, ProgramFault<'a>> {
+fn whole_trace<'a, I: Read>(alloc: Global, reader: &mut I) -> Result<Vec<u8>, ProgramFault<'a>>
+    ensures { IfOk result (λ trace. IsReadWhole (I.remaining reader.old) (I.remaining reader.new) trace.items) }
+{
     let mut trace = Vec::new(alloc);
     match reader.read_to_end(&mut trace) {
         Ok(_) => Ok(trace),

@@ -1,10 +1,10 @@
 //! Trials of stops, and what they come to.
-ghost use Rattle.std.specs.Prelude.{◌≡◌, ◌≤◌, ◌↔◌, ℕ, List, IsTrue, IfOk, IfSome};
+ghost use Rattle.std.specs.Prelude.{◌≡◌, ◌≤◌, ◌↔◌, ℕ, List, IsTrue, IfOk, IfNone, IfSome};
 ghost use Rattle.std.specs.declared.alloc.Global.{Global};
 ghost use Rattle.std.specs.declared.vec.Vec.{Vec};
 ghost use Rattle.disk_model.specs.Plan.{one_more};
 ghost use Rattle.stop_trials.specs.Runs.{AreStates};
-ghost use Rattle.stop_trials.specs.Trials.{AllStand, IsJudged, StandWithEach, IsTrial, AreTried};
+ghost use Rattle.stop_trials.specs.Trials.{AllStand, IsJudged, StandWithEach, IsTrial, HasNoEvent, AreAllTried};
 
 use crate::faults::TrialFault;
 use crate::fillings::Filling;
@@ -163,7 +163,8 @@ impl Setting<'_> {
 
     /// The trial of a stop in that event, or none where the run has no such event.
     fn trial(&self, states: &[Vec<u8>], number: u64) -> Result<Option<Trial>, TrialFault>
-        ensures { IfOk result (λ trial. IfSome trial (IsTrial ⟦<StoppingDisk as SectorDisk>⟧ ⟦<SimDisk as SectorDisk>⟧ self.now states.now number)) }
+        ensures found { IfOk result (λ trial. IfSome trial (IsTrial ⟦<StoppingDisk as SectorDisk>⟧ ⟦<SimDisk as SectorDisk>⟧ self.now states.now number)) }
+        ensures none { IfOk result (λ trial. IfNone trial (HasNoEvent ⟦<StoppingDisk as SectorDisk>⟧ ⟦<SimDisk as SectorDisk>⟧ self.now number)) }
     {
         let ran = self.run(number)?;
         let Some(event) = ran.device.stopped_in(number) else {
@@ -188,7 +189,7 @@ impl Setting<'_> {
         every: u64,
         writer: &mut W,
     ) -> Result<Summary, TrialFault>
-        ensures { IfOk result (AreTried ⟦<StoppingDisk as SectorDisk>⟧ ⟦<SimDisk as SectorDisk>⟧ self.now states.now every) }
+        ensures { IfOk result (AreAllTried ⟦<StoppingDisk as SectorDisk>⟧ ⟦<SimDisk as SectorDisk>⟧ self.now states.now every) }
     {
         let mut summary = Summary { stops: 0, bad: 0 };
         for i in 1..u64::MAX {
@@ -216,7 +217,7 @@ impl Setting<'_> {
         writer: &mut W,
     ) -> Result<Summary, TrialFault>
         ensures { IfOk result (λ summary. (states : List (Vec ℕ Global)) × AreStates ⟦<SimDisk as SectorDisk>⟧ self.now states
-            × AreTried ⟦<StoppingDisk as SectorDisk>⟧ ⟦<SimDisk as SectorDisk>⟧ self.now states every summary) }
+            × AreAllTried ⟦<StoppingDisk as SectorDisk>⟧ ⟦<SimDisk as SectorDisk>⟧ self.now states every summary) }
     {
         let states = self.states()?;
         let summary = self.tried(states.as_slice(), every, writer)?;

@@ -9,7 +9,7 @@ use Rattle.watching.specs.declared.ledger.Ledger.{Ledger}
 use Rattle.watching.specs.declared.pending.Outcome.{Outcome}
 
 -- A command that came to this outcome was counted:
-pub record Settles {D E A X : Type 0} (m : Machine D E) (command : Command) (outcome : Outcome) (old new : Ledger) (result : Result A X) : Type 0 where
+pub record CountsCommand {D E A X : Type 0} (m : Machine D E) (command : Command) (outcome : Outcome) (old new : Ledger) (result : Result A X) : Type 0 where
   -- the books of frames were kept on,
   pub books : KeepsBooks old.counts.frames new.counts.frames
   -- and each frame is kept as it is, where the command is one after which all are compared.

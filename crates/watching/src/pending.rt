@@ -3,7 +3,7 @@ ghost use Rattle.std.specs.Prelude.{◌≡◌, true, false};
 ghost use Rattle.machine.specs.Machine.{IsSoundMachine};
 ghost use Rattle.watching.specs.Noted.{compares_all, reaches_all};
 ghost use Rattle.watching.specs.Outcomes.{outcome_of};
-ghost use Rattle.watching.specs.Settling.{Settles};
+ghost use Rattle.watching.specs.Settling.{CountsCommand};
 
 use crate::counts::{AccessCounts, CallCounts, Counts};
 use crate::ledger::{Inquiry, Ledger};
@@ -98,7 +98,7 @@ impl Pending {
         out: &mut W,
     ) -> io::Result<()>
         requires { IsSoundMachine D.SectorDisk E.SectorDisk machine.now }
-        ensures { Settles machine.now self.now.command outcome ledger.old ledger.new result }
+        ensures { CountsCommand machine.now self.now.command outcome ledger.old ledger.new result }
     {
         let evictions = ledger.counts.frames.evictions;
         self.compare(outcome, ledger, machine, out)?;
@@ -114,7 +114,7 @@ impl Pending {
         out: &mut W,
     ) -> io::Result<()>
         requires { IsSoundMachine D.SectorDisk E.SectorDisk machine.now }
-        ensures { Settles machine.now self.now.command outcome ledger.old ledger.new result }
+        ensures { CountsCommand machine.now self.now.command outcome ledger.old ledger.new result }
     {
         ledger.counts.commands.add();
         match self.count(outcome, machine.hits(), &mut ledger.counts) {

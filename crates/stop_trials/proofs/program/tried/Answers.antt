@@ -1,5 +1,5 @@
-use Rattle.std.proofs.Common.{rules, map, sym, subst, refl}
-use Rattle.stop_trials.{proofs.Ends.{same_option, tried_at}, specs.Lines.{AreCommandsOf}}
+use Rattle.std.proofs.Common.{rules, map, ap, ◌∙◌, refl}
+use Rattle.stop_trials.{proofs.Ends.{same_option, tried_at, commands_at}, specs.Lines.{split_lines}}
 use Rattle.disk_model.specs.contracts.sim_disk.SimDiskSectorDisk.TheImpl as Sim
 use Rattle.stop_trials.specs.contracts.stopping.StoppingDiskSectorDisk.TheImpl as Stopping
 use Rattle.stop_trials.proofs.program.tried.Goals as goal
@@ -12,8 +12,10 @@ returns-in-Ok-clause-ends g c = record {
   slots = refl;
   layout = refl;
   drops = same_option (λ x y e. e) c.in_ok-words.words.drop c.map.result c.map.ensures.cases;
-  lines = map (λ line. line.now) c.as_slice-2.result.now;
-  commands = subst (AreCommandsOf (map (λ line. line.now) c.as_slice-2.result.now)) (sym c.as_slice-3.ensures.value) c.in_ok-commands.ensures;
+  store = c.in_ok-image.ensures;
+  trace = c.in_ok-trace.trace.items;
+  whole = c.in_ok-trace.ensures;
+  commands = commands_at _ _ _ _ (ap (map (λ line. line.now)) c.as_slice-2.ensures.value ∙ c.in_ok-lines.ensures ∙ ap split_lines c.as_slice.ensures.value) c.as_slice-3.ensures.value c.in_ok-commands.ensures;
   states = c.in-Ok.ensures.0;
   are = c.in-Ok.ensures.1;
   summary = c.in-Ok.summary;
