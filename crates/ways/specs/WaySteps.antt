@@ -1,11 +1,12 @@
 -- What the tables on the way to a page say, one after another.
-use Rattle.std.specs.Prelude.{◌≡◌, ℕ, ◌+◌, ◌<◌, List, Option, None, Some, false, slice_index_or}
+use Rattle.std.specs.Prelude.{◌≡◌, ℕ, ◌+◌, ◌<◌, ◌==◌, if◌then◌else◌, List, Option, None, Some, false, slice_index_or}
 use Rattle.sv39_walk.specs.Entry.{is_pointer}
 use Rattle.residency.specs.Picture.{is_live}
 use Rattle.inspection.specs.Machines.{memory_of, Tells}
 use Rattle.inspection.specs.Walks.{IsStep}
 use Rattle.inspection.specs.declared.walks.Step.{Step}
 use Rattle.machine.specs.declared.machine.Machine.{Machine}
+use Rattle.ways.specs.declared.targets.Target.{Target}
 
 -- the first of two that is there
 abbrev pub step_or : Option Step → Option Step → Option Step
@@ -15,6 +16,11 @@ step_or (Some step) other = Some step
 -- what the last of at most four tables on a way says
 abbrev pub last_step : List (Option Step) → Option Step
 last_step steps = step_or (slice_index_or steps 3 None) (step_or (slice_index_or steps 2 None) (step_or (slice_index_or steps 1 None) (slice_index_or steps 0 None)))
+
+-- the entry of a page by what the last table on its way says: 0 where that is no table of pages, or there is none
+abbrev pub entry_of_step : Option Step → ℕ
+entry_of_step None = 0
+entry_of_step (Some step) = if step.level == 0 then step.entry.0 else 0
 
 module _ {D E : Type 0} where
   -- after a step on the way to a page comes what the next table says, one level lower, or nothing where the way ends
@@ -30,3 +36,11 @@ module _ {D E : Type 0} where
     pub second : StepsFrom m pid page (slice_index_or steps 0 None) (slice_index_or steps 1 None)
     pub third : StepsFrom m pid page (slice_index_or steps 1 None) (slice_index_or steps 2 None)
     pub fourth : StepsFrom m pid page (slice_index_or steps 2 None) (slice_index_or steps 3 None)
+
+  -- An access is for that page of that process, and this was its entry before: that at the end of its way, or 0.
+  pub record IsTargetAt (m : Machine D E) (pid page : ℕ) (target : Target) : Type 0 where
+    pub process : target.pid ≡ pid
+    pub is : target.page ≡ page
+    pub way : List (Option Step)
+    pub leads : IsWayOf m pid page way
+    pub ends : target.entry.0 ≡ entry_of_step (last_step way)

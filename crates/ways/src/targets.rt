@@ -1,5 +1,7 @@
 //! The page of an access, as it was before.
+ghost use Rattle.std.specs.Prelude.{◌/◌, IfSome};
 ghost use Rattle.machine.specs.Machine.{IsSoundMachine};
+ghost use Rattle.ways.specs.WaySteps.{IsTargetAt};
 
 use crate::way::Way;
 use disk_model::SectorDisk;
@@ -35,6 +37,7 @@ impl Target {
         addr: u64,
     ) -> Option<Target>
         requires { IsSoundMachine D.SectorDisk E.SectorDisk machine.now }
+        ensures { IfSome result (IsTargetAt machine.now pid (addr / 4096)) }
     {
         let pid = Pid::new(pid)?;
         let page = addr / PAGE_BYTES as u64;
