@@ -1,13 +1,20 @@
-/* The functions of memory that compilers call. */
+/* The functions of memory that compilers call. They go word by word, and in blocks of eight words, where both places are equally far behind a word's; else byte by byte. */
 #include "kernel.h"
 
-static int are_aligned(const void *a, const void *b) { return (((u64)a | (u64)b) & 7) == 0; }
+enum { WORD = 8, BLOCK = 8 * WORD };
+typedef u64 __attribute__((may_alias)) word;
+
+static u64 past_word(const void *at) { return (u64)at % WORD; }
 
 void *memcpy(void *to, const void *from, size_t n) {
   u8 *t = to;
   const u8 *f = from;
-  if (are_aligned(t, f))
-    for (; n >= 8; n -= 8, t += 8, f += 8) *(u64 *)t = *(const u64 *)f;
+  if (past_word(t) == past_word(f)) {
+    for (; n && past_word(t); n--) *t++ = *f++;
+    for (; n >= BLOCK; n -= BLOCK, t += BLOCK, f += BLOCK)
+      for (int i = 0; i < BLOCK; i += WORD) *(word *)(t + i) = *(const word *)(f + i);
+    for (; n >= WORD; n -= WORD, t += WORD, f += WORD) *(word *)t = *(const word *)f;
+  }
   while (n--) *t++ = *f++;
   return to;
 }
@@ -16,6 +23,10 @@ void *memmove(void *to, const void *from, size_t n) {
   u8 *t = to;
   const u8 *f = from;
   if (t <= f || t >= f + n) return memcpy(to, from, n);
+  if (past_word(t) == past_word(f)) {
+    for (; n && past_word(t + n); n--) t[n - 1] = f[n - 1];
+    for (; n >= WORD; n -= WORD) *(word *)(t + n - WORD) = *(const word *)(f + n - WORD);
+  }
   while (n--) t[n] = f[n];
   return to;
 }
@@ -23,8 +34,10 @@ void *memmove(void *to, const void *from, size_t n) {
 void *memset(void *to, int c, size_t n) {
   u8 *t = to;
   u64 eight = (u8)c * 0x0101010101010101ul;
-  if (are_aligned(t, t))
-    for (; n >= 8; n -= 8, t += 8) *(u64 *)t = eight;
+  for (; n && past_word(t); n--) *t++ = c;
+  for (; n >= BLOCK; n -= BLOCK, t += BLOCK)
+    for (int i = 0; i < BLOCK; i += WORD) *(word *)(t + i) = eight;
+  for (; n >= WORD; n -= WORD, t += WORD) *(word *)t = eight;
   while (n--) *t++ = c;
   return to;
 }

@@ -1,11 +1,16 @@
 //! What a kernel is told.
-ghost use Rattle.std.specs.Prelude.{◌≡◌, OnOk};
+ghost use Rattle.std.specs.Prelude.{◌≡◌, ◌≤◌, ◌+◌, ◌++◌, take, MatchResult};
 ghost use Rattle.std.specs.Io.KnownBytes.{Appends};
+ghost use Rattle.byteorder.specs.Endian.{little_bytes};
+ghost use Rattle.runner.specs.Bytes.{WritesBeginning};
 ghost use Rattle.serving.specs.Responses.{number_bytes, response_bytes, code_number, fault_numbers, numbers_of, of_answer, of_kind};
 
-use byteorder::{LittleEndian, WriteBytesExt};
-use std::io::{self, Write};
+use runner::{WriteFault, write_bytes};
+use std::io::Write;
 use vm_types::{Answer, Code, Fault};
+
+/// Bytes of a reply: five numbers of eight.
+const REPLY_BYTES: usize = 40;
 
 /// The kind of the reply to what is no request.
 const MALFORMED: u64 = 8;
@@ -85,17 +90,26 @@ impl ReplyNumbers {
         ReplyNumbers { root, ..numbers }
     }
 
-    /// Writes each in eight bytes, the low one first.
-    fn write<W: Write>(&self, writer: &mut W) -> io::Result<()>
-        ensures { OnOk result (Appends (W.contents writer.old) (W.contents writer.new) (number_bytes self.now)) }
+    /// Each in eight bytes, the low one first.
+    fn bytes(&self) -> [u8; REPLY_BYTES]
+        ensures { result ≡ number_bytes self.now }
     {
-        writer.write_u64::<LittleEndian>(self.kind)?;
-        writer.write_u64::<LittleEndian>(self.first)?;
-        writer.write_u64::<LittleEndian>(self.second)?;
-        writer.write_u64::<LittleEndian>(self.third)?;
-        writer.write_u64::<LittleEndian>(self.root)?;
-        Ok(())
+        let mut bytes = [0; REPLY_BYTES];
+        put_number(&mut bytes, 0, self.kind);
+        put_number(&mut bytes, 8, self.first);
+        put_number(&mut bytes, 16, self.second);
+        put_number(&mut bytes, 24, self.third);
+        put_number(&mut bytes, 32, self.root);
+        bytes
     }
+}
+
+/// Puts a number behind so many of the bytes.
+fn put_number(bytes: &mut [u8; REPLY_BYTES], at: usize, number: u64)
+    requires { at + 8 ≤ 40 }
+    ensures { take (at + 8) bytes.new ≡ take at bytes.old ++ little_bytes 8 number }
+{
+    bytes[at..at + 8].copy_from_slice(&number.to_le_bytes());
 }
 
 /// The number of a reason, as they stand in their order.
@@ -124,10 +138,16 @@ impl Response {
         }
     }
 
-    /// Writes its numbers.
-    pub(crate) fn write<W: Write>(&self, writer: &mut W) -> io::Result<()>
-        ensures { OnOk result (Appends (W.contents writer.old) (W.contents writer.new) (response_bytes self.now)) }
+    /// Writes its numbers, by one call of the writer where that takes them all.
+    ///
+    /// # Errors
+    ///
+    /// `WriteFault` where the writer failed, took no bytes, or was called 2^64 - 1 times; it took a beginning of them then.
+    pub(crate) fn write<W: Write>(&self, writer: &mut W) -> Result<(), WriteFault>
+        ensures { MatchResult result
+            (λ _. Appends (W.contents writer.old) (W.contents writer.new) (response_bytes self.now))
+            (λ _. WritesBeginning (W.contents writer.old) (W.contents writer.new) (response_bytes self.now)) }
     {
-        self.numbers().write(writer)
+        write_bytes(&self.numbers().bytes(), writer)
     }
 }
