@@ -124,8 +124,8 @@ impl Version {
     }
 }
 
-/// Whether a sector is the mark of layout 1, 2 or 3.
-pub fn is_any_mark(sector: &[u8; 512]) -> bool
+/// Whether a sector is the mark of any layout.
+pub(crate) fn is_any_mark(sector: &[u8; 512]) -> bool
     ensures { IsTrue result ↔ IsMark sector.now }
 {
     Version::Two.marks(sector) || Version::One.marks(sector) || Version::Three.marks(sector)
