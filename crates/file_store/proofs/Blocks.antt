@@ -50,7 +50,7 @@ module _ {D : Type 0} (g : Ghosts D) where
       writes = run;
       each = λ d touched c may kind marked. ⊎_elim
           (λ at. absurd (⊎_elim (synced at.0) (λ far. omega (arith, far, at.1)) (touched.unsynced at.0 at.2)))
-          (λ same. ⊎_elim (λ far. absurd (omega (arith, far))) (λ kept. absurd (unmarked (inr (inr (sym (same ∙ kept) ∙ marked))))) (touched.content 0))
+          (λ same. ⊎_elim (λ far. absurd (omega (arith, far))) (λ kept. absurd (unmarked (inr (inr (inl (sym (same ∙ kept) ∙ marked)))))) (touched.content 0))
           (may.kept 0);
     }
 

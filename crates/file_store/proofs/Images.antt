@@ -167,4 +167,4 @@ bad_as_claimed kind sectors image marked bad = cases (kind_of image) kind refl m
 pub is_some_mark : (version : Version) → IsMark (mark_of version)
 is_some_mark One = inr (inl refl)
 is_some_mark Two = inl refl
-is_some_mark Three = inr (inr refl)
+is_some_mark Three = inr (inr (inl refl))

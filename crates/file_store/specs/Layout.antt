@@ -16,9 +16,13 @@ old_mark = repeated 64 (70 ∷ 65 ∷ 77 ∷ 83 ∷ 89 ∷ 78 ∷ 67 ∷ 49 ∷ 
 abbrev pub turn_mark : List ℕ
 turn_mark = turn_kind
 
+-- sector 0 of every store of layout 4, whose pages stay in a pool: the bytes `FAMSYNC4`, 64 times
+unfoldable pub pool_mark : List ℕ
+pool_mark = repeated 64 (70 ∷ 65 ∷ 77 ∷ 83 ∷ 89 ∷ 78 ∷ 67 ∷ 52 ∷ [])
+
 -- the mark of any layout
 abbrev pub IsMark : List ℕ → Type 0
-IsMark sector = (sector ≡ mark) ⊎ ((sector ≡ old_mark) ⊎ (sector ≡ turn_mark))
+IsMark sector = (sector ≡ mark) ⊎ ((sector ≡ old_mark) ⊎ ((sector ≡ turn_mark) ⊎ (sector ≡ pool_mark)))
 
 -- how many pages of 4,096 bytes a file of so many bytes has, the last one in part perhaps
 abbrev pub pages_of_length : ℕ → ℕ

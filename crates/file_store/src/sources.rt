@@ -28,8 +28,8 @@ pub struct FileSource<R> {
 }
 
 impl<R> FileSource<R> {
-    /// How many pages the file has.
-    pub(crate) fn pages(&self) -> u64
+    /// How many pages the file has, 2^20 at most.
+    pub fn pages(&self) -> u64
         ensures count { result ≡ pages_of_length self.now.length }
         ensures bound { result ≤ 2 ^ 20 }
     {
@@ -48,8 +48,9 @@ impl<R> FileSource<R> {
 }
 
 impl<R: Read> FileSource<R> {
-    /// Reads page `k`, which follows those that were read before, into a page of zeros.
-    pub(crate) fn read_page(&mut self, k: u64, page: &mut [u8; 4096]) -> Result<(), FormatFault>
+    /// Reads page `k`, which follows those that were read before, into a page of zeros: the file's bytes, and zeros past its end.
+    /// `Source` comes only where there is a reader, and it failed or ended before the file does.
+    pub fn read_page(&mut self, k: u64, page: &mut [u8; 4096]) -> Result<(), FormatFault>
         requires bound { k ≤ 2 ^ 20 }
         requires zeros { page.old ≡ replicate 4096 0 }
         ensures info { info_of self.new ≡ info_of self.old }
@@ -89,7 +90,7 @@ pub fn image_bytes<R>(journals: Journals, sources: &[FileSource<R>]) -> u64
 }
 
 /// How many pages the files have, or 2^64 - 1 where that is more.
-fn pages_of<R>(sources: &[FileSource<R>]) -> u64
+pub fn pages_of<R>(sources: &[FileSource<R>]) -> u64
     ensures { result ≡ min (total_pages sources.now) (2 ^ 64 - 1) }
 {
     let mut total: u64 = 0;

@@ -1,7 +1,7 @@
 //! The layouts of stores.
 ghost use Rattle.std.specs.Prelude.{◌≡◌, ◌≤◌, ◌↔◌, IsTrue};
 ghost use Rattle.sync_journal.specs.Kinds.{is_kind, kind_homes, kind_home_count, kind_home};
-ghost use Rattle.file_store.specs.Layout.{IsMark};
+ghost use Rattle.file_store.specs.Layout.{IsMark, pool_mark};
 ghost use Rattle.file_store.specs.Versions.{version_at, version_before, homes_of, home_pages_of, directory_of, mark_of};
 
 use crate::layout::{DIRECTORY_SECTOR, TURN_DIRECTORY};
@@ -38,6 +38,16 @@ const TURN_MARK: &[u8; 512] = b"\
     FAMSYNC3FAMSYNC3FAMSYNC3FAMSYNC3FAMSYNC3FAMSYNC3FAMSYNC3FAMSYNC3\
     FAMSYNC3FAMSYNC3FAMSYNC3FAMSYNC3FAMSYNC3FAMSYNC3FAMSYNC3FAMSYNC3\
     FAMSYNC3FAMSYNC3FAMSYNC3FAMSYNC3FAMSYNC3FAMSYNC3FAMSYNC3FAMSYNC3";
+
+const POOL_MARK: &[u8; 512] = b"\
+    FAMSYNC4FAMSYNC4FAMSYNC4FAMSYNC4FAMSYNC4FAMSYNC4FAMSYNC4FAMSYNC4\
+    FAMSYNC4FAMSYNC4FAMSYNC4FAMSYNC4FAMSYNC4FAMSYNC4FAMSYNC4FAMSYNC4\
+    FAMSYNC4FAMSYNC4FAMSYNC4FAMSYNC4FAMSYNC4FAMSYNC4FAMSYNC4FAMSYNC4\
+    FAMSYNC4FAMSYNC4FAMSYNC4FAMSYNC4FAMSYNC4FAMSYNC4FAMSYNC4FAMSYNC4\
+    FAMSYNC4FAMSYNC4FAMSYNC4FAMSYNC4FAMSYNC4FAMSYNC4FAMSYNC4FAMSYNC4\
+    FAMSYNC4FAMSYNC4FAMSYNC4FAMSYNC4FAMSYNC4FAMSYNC4FAMSYNC4FAMSYNC4\
+    FAMSYNC4FAMSYNC4FAMSYNC4FAMSYNC4FAMSYNC4FAMSYNC4FAMSYNC4FAMSYNC4\
+    FAMSYNC4FAMSYNC4FAMSYNC4FAMSYNC4FAMSYNC4FAMSYNC4FAMSYNC4FAMSYNC4";
 
 /// The layout of a store.
 #[derive(Clone, Copy, Debug, PartialEq, Eq)]
@@ -124,11 +134,28 @@ impl Version {
     }
 }
 
-/// Whether a sector is the mark of any layout.
-pub(crate) fn is_any_mark(sector: &[u8; 512]) -> bool
+/// Whether a sector is the mark of layout 1, 2, 3 or 4.
+pub fn is_any_mark(sector: &[u8; 512]) -> bool
     ensures { IsTrue result ↔ IsMark sector.now }
 {
-    Version::Two.marks(sector) || Version::One.marks(sector) || Version::Three.marks(sector)
+    Version::Two.marks(sector)
+        || Version::One.marks(sector)
+        || Version::Three.marks(sector)
+        || is_pool_mark(sector)
+}
+
+/// What sector 0 of every store of layout 4 holds.
+pub fn pool_mark() -> &'static [u8; 512]
+    ensures { result.now ≡ pool_mark }
+{
+    POOL_MARK
+}
+
+/// Whether a sector is the mark of layout 4, that of a store whose pages stay in a pool.
+pub fn is_pool_mark(sector: &[u8; 512]) -> bool
+    ensures { IsTrue result ↔ (sector.now ≡ pool_mark) }
+{
+    sector.as_slice() == pool_mark().as_slice()
 }
 
 /// Whether sector 1 is the kind of layout 3.

@@ -4,6 +4,7 @@ ghost use Rattle.programs.specs.Disks.{OpensDisk};
 
 use crate::faults::ProgramFault;
 use disk_model::{FileContents, FileDisk, SectorDisk};
+use file_store::is_any_mark;
 use std::fs::{File, Files};
 use std::io;
 use std::os::unix::fs::FileExt;
@@ -58,9 +59,6 @@ pub(crate) fn open_to_read<'a, R: Files<File = File>>(
     }
 }
 
-/// What the first 512 bytes of an image are, 64 times over: of each layout.
-const MARKS: [&[u8]; 3] = [b"FAMSYNC1", b"FAMSYNC2", b"FAMSYNC3"];
-
 /// Whether a file begins as an image of any layout does.
 pub(crate) fn has_mark(file: &File) -> io::Result<bool> {
     let mut sector = [0; 512];
@@ -68,10 +66,5 @@ pub(crate) fn has_mark(file: &File) -> io::Result<bool> {
         return Ok(false);
     }
     file.read_exact_at(&mut sector, 0)?;
-    Ok(MARKS.iter().any(|mark| repeats(&sector, mark)))
-}
-
-/// Whether a sector is this word all over.
-fn repeats(sector: &[u8; 512], word: &[u8]) -> bool {
-    sector.chunks(8).all(|part| part == word)
+    Ok(is_any_mark(&sector))
 }

@@ -31,17 +31,19 @@ module _ {D : Type 0} (g : Ghosts D) (journals : Journals) (old new : D) (kind :
       → (g.keeps_model new → IfOk result (λ journal. IsSettled by_kind g (g.sector_count old) (g.content old) journal new (by_kind.standing (g.content old))))
       → RecoversBy g (layout_of journals) state old new r → RecoversBy g by_kind (λ journal. journal) old new result
   recovers_kind state r result same settled e = record {
-    ok = settled;
-    synced = λ keeps. ok_still r result _ same (e.synced keeps);
+    restores = record {
+      ok = settled;
+      synced = λ keeps. ok_still r result _ same (e.synced keeps);
+      stays = stays by_kind kinds_fix g old new moments;
+      run = record { size = e.size; kept = e.kept; later = e.later; touches = λ keeps. subst (λ b. Touches g ((layout_of b).IsRecovered (g.content old) (g.sector_count old)) old new) (sym (kind (e.kept keeps))) (e.touches keeps) };
+      bad_unwritten = λ keeps bad. e.bad_unwritten keeps (here keeps bad);
+      closed_unwritten = λ keeps closed. e.closed_unwritten keeps (subst (λ b. (layout_of b).IsClosed (g.content old)) (kind (e.kept keeps)) closed);
+      asks = λ keeps. subst (λ b. AsksOnly g ((layout_of b).IsAsked (g.content old)) old new) (sym (kind (e.kept keeps))) (e.asks keeps);
+      blames = record { device = λ is. e.device (err_was r result _ same is); calm = ok_still r result _ same e.calm; still = λ is. e.still (err_was r result _ same is) };
+      good = λ keeps. ok_still r result _ same (on_ok_weaker r (λ good bad. good (here keeps bad)) (e.good keeps));
+      bad = λ keeps is. subst (λ b. (layout_of b).IsBad (g.sector_count old) (g.content old)) (sym (kind (e.kept keeps))) (e.bad keeps (err_was r result _ same is));
+    };
     emptied = λ keeps. emptied r result same (kind (e.kept keeps)) (settled keeps) (e.emptied keeps);
-    stays = stays by_kind kinds_fix g old new moments;
-    run = record { size = e.size; kept = e.kept; later = e.later; touches = λ keeps. subst (λ b. Touches g ((layout_of b).IsRecovered (g.content old) (g.sector_count old)) old new) (sym (kind (e.kept keeps))) (e.touches keeps) };
-    bad_unwritten = λ keeps bad. e.bad_unwritten keeps (here keeps bad);
-    closed_unwritten = λ keeps closed. e.closed_unwritten keeps (subst (λ b. (layout_of b).IsClosed (g.content old)) (kind (e.kept keeps)) closed);
-    asks = λ keeps. subst (λ b. AsksOnly g ((layout_of b).IsAsked (g.content old)) old new) (sym (kind (e.kept keeps))) (e.asks keeps);
-    blames = record { device = λ is. e.device (err_was r result _ same is); calm = ok_still r result _ same e.calm; still = λ is. e.still (err_was r result _ same is) };
-    good = λ keeps. ok_still r result _ same (on_ok_weaker r (λ good bad. good (here keeps bad)) (e.good keeps));
-    bad = λ keeps is. subst (λ b. (layout_of b).IsBad (g.sector_count old) (g.content old)) (sym (kind (e.kept keeps))) (e.bad keeps (err_was r result _ same is));
   }
     where
       moments : g.keeps_model new → ((k : ℕ) → g.unsynced old k → ⊥) → KeepsHomes by_kind g old new

@@ -1,6 +1,6 @@
 -- What holds of every layout: what follows from what is kept, and the moments of a recovery.
 use Rattle.sync_journal.proofs.{Names.{◌≡◌, ◌<◌, ℕ, true, false, List, Result, Ok, Err, inl, refl, sym, subst, ◌∙◌, IsErr, IsErrOf, Image, MayLeave, AsksOnly, LeavesOnly, Nothing, Ghosts, weaker}, Runs.{of_more}, Sectors.{while_read, so_before}}
-use Rattle.sync_journal.specs.{Committing.{HomesStandOr}, Recovering.{StaysThrough, RecoversBy}, Runs.{RunsOnDevice}, Steps.{BlamesJournal}, Layouts.{Layout, HomesStandAs, IsKept, KeepsHomes, StandsForPages}, declared.faults.RecoverFault.{RecoverFault}}
+use Rattle.sync_journal.specs.{Committing.{HomesStandOr}, Recovering.{StaysThrough, Restores, RecoversBy}, Runs.{RunsOnDevice}, Steps.{BlamesJournal}, Layouts.{Layout, HomesStandAs, IsKept, KeepsHomes, StandsForPages}, declared.faults.RecoverFault.{RecoverFault}}
 use Rattle.{sync_journal.specs.declared.faults.RecoverFault.TheVariants.{BadJournal}, disk_model.proofs.Moments.{joined}}
 
 -- what lies outside of an image does so of one that agrees with it there
@@ -54,13 +54,12 @@ module _ {S : Type 0} (layout : Layout S) where
           (so_before g old read (looks.touches (kept keeps)) (λ n image. LeavesOnly g read new (HomesStandAs layout n image)) looks.size run)
 
       -- where nothing but gate and map is read
-      pub looked_at : {T : Type 0} (state : T → S) (result : Result T RecoverFault) → IsErr result → (g.keeps_model read → AsksOnly g (layout.IsAsked (g.content old)) old read) → BlamesJournal g old read result
-          → (g.keeps_model read → IsErrOf result BadJournal → layout.IsBad (g.sector_count old) (g.content old)) → RecoversBy g layout state old read result
-      looked_at state (Ok found) is asks blames bad = let none : false ≡ true = is in cc
-      looked_at state (Err fault) is asks blames bad = record {
+      pub only_looked : {T : Type 0} (state : T → S) (result : Result T RecoverFault) → IsErr result → (g.keeps_model read → AsksOnly g (layout.IsAsked (g.content old)) old read) → BlamesJournal g old read result
+          → (g.keeps_model read → IsErrOf result BadJournal → layout.IsBad (g.sector_count old) (g.content old)) → Restores g layout state old read result
+      only_looked state (Ok found) is asks blames bad = let none : false ≡ true = is in cc
+      only_looked state (Err fault) is asks blames bad = record {
         ok = λ keeps. tt;
         synced = λ keeps. tt;
-        emptied = λ keeps. tt;
         stays = stays g old read looking;
         run = of_more g Nothing (layout.IsRecovered (g.content old) (g.sector_count old)) old read (λ k none. absurd none) looks;
         bad_unwritten = λ keeps is. looks.touches keeps;
@@ -70,3 +69,8 @@ module _ {S : Type 0} (layout : Layout S) where
         good = λ keeps. tt;
         bad = bad;
       }
+
+      pub looked_at : {T : Type 0} (state : T → S) (result : Result T RecoverFault) → IsErr result → (g.keeps_model read → AsksOnly g (layout.IsAsked (g.content old)) old read) → BlamesJournal g old read result
+          → (g.keeps_model read → IsErrOf result BadJournal → layout.IsBad (g.sector_count old) (g.content old)) → RecoversBy g layout state old read result
+      looked_at state (Ok found) is asks blames bad = let none : false ≡ true = is in cc
+      looked_at state (Err fault) is asks blames bad = record { restores = only_looked state (Err fault) is asks blames bad; emptied = λ keeps. tt }

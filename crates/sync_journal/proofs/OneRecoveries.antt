@@ -24,18 +24,20 @@ module _ {D : Type 0} (g : Ghosts D) (old read : D) (only_now : g.keeps_model ol
       → g.failures read ≡ g.failures old → RecoversOne g old read (Ok (tt {0}))
   closed_there shut clean asks calm = record {
     recovers = record {
-      ok = λ keeps. staged_settled g [] (λ _. []) old read (only_now (looks.kept keeps)) (none_are (home_count (g.sector_count old)))
-          (record { closed = shut keeps; synced = λ k u. absurd (clean (looks.kept keeps) k u) }) (read_only g IsJournalSector old read (looks.touches keeps));
+      restores = record {
+        ok = λ keeps. staged_settled g [] (λ _. []) old read (only_now (looks.kept keeps)) (none_are (home_count (g.sector_count old)))
+            (record { closed = shut keeps; synced = λ k u. absurd (clean (looks.kept keeps) k u) }) (read_only g IsJournalSector old read (looks.touches keeps));
+        synced = λ keeps k u. ⊎_elim (clean (looks.kept keeps) k) (λ none. none) ((looks.touches keeps).unsynced k u);
+        stays = stays one_journal ones_fix g old read (looking one_journal ones_fix g old read only_now looks);
+        run = read_run;
+        bad_unwritten = λ keeps is. looks.touches keeps;
+        closed_unwritten = λ keeps closed. looks.touches keeps;
+        asks = asks;
+        blames = record { device = λ is. cc; calm = calm; still = λ is. cc };
+        good = λ keeps bad. closed_not_bad (g.sector_count old) (g.content old) (shut keeps) bad;
+        bad = λ keeps is. cc;
+      };
       emptied = λ keeps. ap (λ (image : Image). is_open image) (same_image g old read (looks.touches keeps)) ∙ shut keeps;
-      synced = λ keeps k u. ⊎_elim (clean (looks.kept keeps) k) (λ none. none) ((looks.touches keeps).unsynced k u);
-      stays = stays one_journal ones_fix g old read (looking one_journal ones_fix g old read only_now looks);
-      run = read_run;
-      bad_unwritten = λ keeps is. looks.touches keeps;
-      closed_unwritten = λ keeps closed. looks.touches keeps;
-      asks = asks;
-      blames = record { device = λ is. cc; calm = calm; still = λ is. cc };
-      good = λ keeps bad. closed_not_bad (g.sector_count old) (g.content old) (shut keeps) bad;
-      bad = λ keeps is. cc;
     };
     gate = λ keeps. ap (λ (image : Image). image gate_sector) (same_image g old read (looks.touches keeps))
         ∙ ap (λ b. if b then closed_sector else (g.content old gate_sector)) (sym (shut keeps));
@@ -57,17 +59,19 @@ module _ {D : Type 0} (g : Ghosts D) (old read : D) (only_now : g.keeps_model ol
         → (g.keeps_model new → OnOk result (g.content new gate_sector ≡ closed_gate (g.content old))) → RecoversOne g old new result
     replays result asks ok synced blames bad gate = record {
       recovers = record {
-        ok = ok;
-        synced = synced;
+        restores = record {
+          ok = ok;
+          synced = synced;
+          stays = stays one_journal ones_fix g old new replaying;
+          run = one_more g (IsRecovered (g.sector_count old)) old read new read_run (record { size = e.size; kept = e.kept; later = e.later; touches = λ keeps. replayed g (g.sector_count old) homes read new are (e.touches keeps) });
+          bad_unwritten = λ keeps is. absurd (good_there keeps is);
+          closed_unwritten = λ keeps closed. (let both : true ≡ false = sym (opened (e.kept keeps)).gate ∙ closed in cc);
+          asks = λ keeps. replay_asks g (g.content old) homes old read new (opened (e.kept keeps)) (asks (e.kept keeps)) e.once;
+          blames = blames;
+          good = λ keeps. if_ok result (good_there keeps);
+          bad = bad;
+        };
         emptied = λ keeps. on_ok_weaker result (λ settled. settled.rest.closed) (ok keeps);
-        stays = stays one_journal ones_fix g old new replaying;
-        run = one_more g (IsRecovered (g.sector_count old)) old read new read_run (record { size = e.size; kept = e.kept; later = e.later; touches = λ keeps. replayed g (g.sector_count old) homes read new are (e.touches keeps) });
-        bad_unwritten = λ keeps is. absurd (good_there keeps is);
-        closed_unwritten = λ keeps closed. (let both : true ≡ false = sym (opened (e.kept keeps)).gate ∙ closed in cc);
-        asks = λ keeps. replay_asks g (g.content old) homes old read new (opened (e.kept keeps)) (asks (e.kept keeps)) e.once;
-        blames = blames;
-        good = λ keeps. if_ok result (good_there keeps);
-        bad = bad;
       };
       gate = gate;
     }
@@ -78,18 +82,20 @@ module _ {D : Type 0} (g : Ghosts D) (old read : D) (only_now : g.keeps_model ol
     pub after_sync : (result : Result (Unit {0}) RecoverFault) → RecoversOne g read new result → RecoversOne g old new result
     after_sync result e = record {
       recovers = record {
-        ok = λ keeps. on_ok_weaker result (λ settled. so_before g old read (looks.touches (e.kept keeps)) (λ n image. IsSettled one_journal g n image [] new (standing_single image)) looks.size settled) (e.ok keeps);
-        synced = e.synced;
+        restores = record {
+          ok = λ keeps. on_ok_weaker result (λ settled. so_before g old read (looks.touches (e.kept keeps)) (λ n image. IsSettled one_journal g n image [] new (standing_single image)) looks.size settled) (e.ok keeps);
+          synced = e.synced;
+          stays = stays one_journal ones_fix g old new moments;
+          run = one_more g (IsRecovered (g.sector_count old)) old read new read_run (subst (λ n. RunsOnDevice g (IsRecovered n) read new) looks.size e.run);
+          bad_unwritten = λ keeps bad. and_then g Nothing old read new (looks.touches (e.kept keeps)) (e.bad_unwritten keeps (still_bad keeps bad));
+          closed_unwritten = λ keeps closed. and_then g Nothing old read new (looks.touches (e.kept keeps)) (e.closed_unwritten keeps (ap (λ (image : Image). is_open image) (same (e.kept keeps)) ∙ closed));
+          asks = λ keeps. asks_then g (IsAskedIn (g.content old)) old read new (asks_none g (IsAskedIn (g.content old)) old read unasked)
+              (subst (λ (image : Image). AsksOnly g (IsAskedIn image) read new) (same (e.kept keeps)) (e.asks keeps));
+          blames = record { device = λ is. (let failed = e.device is in omega (arith, failed, looks.later)); calm = on_ok_weaker result (λ still. still ∙ calm) e.calm; still = λ is. e.still is ∙ calm };
+          good = λ keeps. on_ok_weaker result (λ good bad. good (still_bad keeps bad)) (e.good keeps);
+          bad = λ keeps is. so_before g old read (looks.touches (e.kept keeps)) IsBadSingle looks.size (e.bad keeps is);
+        };
         emptied = e.emptied;
-        stays = stays one_journal ones_fix g old new moments;
-        run = one_more g (IsRecovered (g.sector_count old)) old read new read_run (subst (λ n. RunsOnDevice g (IsRecovered n) read new) looks.size e.run);
-        bad_unwritten = λ keeps bad. and_then g Nothing old read new (looks.touches (e.kept keeps)) (e.bad_unwritten keeps (still_bad keeps bad));
-        closed_unwritten = λ keeps closed. and_then g Nothing old read new (looks.touches (e.kept keeps)) (e.closed_unwritten keeps (ap (λ (image : Image). is_open image) (same (e.kept keeps)) ∙ closed));
-        asks = λ keeps. asks_then g (IsAskedIn (g.content old)) old read new (asks_none g (IsAskedIn (g.content old)) old read unasked)
-            (subst (λ (image : Image). AsksOnly g (IsAskedIn image) read new) (same (e.kept keeps)) (e.asks keeps));
-        blames = record { device = λ is. (let failed = e.device is in omega (arith, failed, looks.later)); calm = on_ok_weaker result (λ still. still ∙ calm) e.calm; still = λ is. e.still is ∙ calm };
-        good = λ keeps. on_ok_weaker result (λ good bad. good (still_bad keeps bad)) (e.good keeps);
-        bad = λ keeps is. so_before g old read (looks.touches (e.kept keeps)) IsBadSingle looks.size (e.bad keeps is);
       };
       gate = λ keeps. on_ok_weaker result (λ at. at ∙ ap (λ (image : Image). closed_gate image) (same (e.kept keeps))) (e.gate keeps);
     }

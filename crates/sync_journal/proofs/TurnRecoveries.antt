@@ -55,19 +55,21 @@ module _ {D : Type 0} (g : Ghosts D) (old read : D) (only_now : g.keeps_model ol
         → (0 < journal.live.count → g.keeps_model new → OnOk result (map_count (turn_map (named_in (g.content new)) (g.content new)) ≡ 0)) → RecoversInTurn g old new result
     emptied result asks ok synced blames bad not_live empty = record {
       recovers = record {
-        ok = ok;
-        synced = synced;
+        restores = record {
+          ok = ok;
+          synced = synced;
+          stays = stays in_turn turns_fix g old new moments;
+          run = one_more g (IsTurnRecovered (g.sector_count old)) old read new (of_more g Nothing (IsTurnRecovered (g.sector_count old)) old read (λ k none. absurd none) looks)
+              (of_more g (IsTurnCommitted journal.second (live_homes journal.live)) (IsTurnRecovered (g.sector_count old)) read new
+              (recovered_sector journal.second (g.sector_count old) (live_homes journal.live) named.homes) e.run);
+          bad_unwritten = λ keeps is. absurd (good_found keeps is);
+          closed_unwritten = λ keeps none. subst (λ after. Touches g Nothing old after) (sym (e.idle (sym (named.names (e.kept keeps)).count ∙ none))) (looks.touches (e.kept keeps));
+          asks = λ keeps. recovery_asks g (g.content old) journal old read new (named.names (e.kept keeps)) (asks (e.kept keeps)) e.once;
+          blames = blames;
+          good = λ keeps. if_ok result (good_found keeps);
+          bad = bad;
+        };
         emptied = λ keeps. ⊎_elim (λ some. empty some keeps) (λ none. if_ok result (stays_empty keeps (omega (arith, none)))) (cases_lt 0 journal.live.count);
-        stays = stays in_turn turns_fix g old new moments;
-        run = one_more g (IsTurnRecovered (g.sector_count old)) old read new (of_more g Nothing (IsTurnRecovered (g.sector_count old)) old read (λ k none. absurd none) looks)
-            (of_more g (IsTurnCommitted journal.second (live_homes journal.live)) (IsTurnRecovered (g.sector_count old)) read new
-            (recovered_sector journal.second (g.sector_count old) (live_homes journal.live) named.homes) e.run);
-        bad_unwritten = λ keeps is. absurd (good_found keeps is);
-        closed_unwritten = λ keeps none. subst (λ after. Touches g Nothing old after) (sym (e.idle (sym (named.names (e.kept keeps)).count ∙ none))) (looks.touches (e.kept keeps));
-        asks = λ keeps. recovery_asks g (g.content old) journal old read new (named.names (e.kept keeps)) (asks (e.kept keeps)) e.once;
-        blames = blames;
-        good = λ keeps. if_ok result (good_found keeps);
-        bad = bad;
       };
       not_live = not_live;
       blocks = λ keeps. inr (

@@ -1,0 +1,29 @@
+-- Slots that the pages of a commit are written to.
+use Rattle.std.specs.Prelude.{ℕ, ◌+◌, ◌*◌, ◌<◌, ◌≡◌, false, List, length, get_or}
+use Rattle.disk_model.specs.{Sectors.{part_of}, Stop.{Image}}
+use Rattle.pool_journal.specs.Pools.{pool_slot}
+use Rattle.pool_journal.specs.declared.slot.Slot.{Slot}
+use Rattle.sync_journal.specs.Layout.{IsPageSector}
+
+-- the slot at a place of a list
+abbrev pub slot_at : List Slot → ℕ → Slot
+slot_at slots j = get_or slots j (record { second = false; place = 0 })
+
+-- its first sector
+abbrev pub filled_at : ℕ → List Slot → ℕ → ℕ
+filled_at m slots j = pool_slot m (slot_at slots j).second (slot_at slots j).place
+
+-- Slots of a pool whose maps have m blocks:
+pub record AreSlots (m : ℕ) (slots : List Slot) : Type 0 where
+  -- each is one of its bodies',
+  pub inside : (j : ℕ) → j < length slots → (slot_at slots j).place < 504 * m
+  -- and none stands twice.
+  pub apart : (i j : ℕ) → i < j → j < length slots → slot_at slots i ≡ slot_at slots j → ⊥
+
+-- a sector of one of the first n of them
+abbrev pub IsFilled : ℕ → List Slot → ℕ → ℕ → Type 0
+IsFilled m slots n k = (j : ℕ) × (j < n) × IsPageSector (filled_at m slots j) k
+
+-- the first n of them hold these pages
+abbrev pub HoldsSlots : ℕ → List Slot → ℕ → (ℕ → List ℕ) → Image → Type 0
+HoldsSlots m slots n pages image = (j i : ℕ) → j < n → i < 8 → image (filled_at m slots j + i) ≡ part_of (pages j) i

@@ -1,0 +1,72 @@
+-- The journal of a pool in memory.
+use Rattle.std.specs.Prelude.{ℕ, ◌+◌, ◌*◌, ◌≤◌, ◌≡◌, Bool, true, false, not, List, length, take, nat_lt}
+use Rattle.pool_journal.specs.Giving.{number_but, live_among}
+use Rattle.pool_journal.specs.Maps.{entries_of, IsMapOf, IsEmptyMap, free_slots}
+use Rattle.pool_journal.specs.Sizes.{IsSized}
+use Rattle.pool_journal.specs.declared.map.SlotMap.{SlotMap}
+use Rattle.pool_journal.specs.declared.pool.PoolJournal.{PoolJournal}
+use Rattle.pool_journal.specs.declared.searches.FreeSlots.{FreeSlots}
+use Rattle.pool_journal.specs.declared.sizes.PoolSizes.{PoolSizes}
+use Rattle.pool_journal.specs.declared.slot.Slot.{Slot}
+
+-- how many slots a map gives to no home
+abbrev pub free_count : ℕ → (Bool → ℕ → ℕ) → ℕ
+free_count m entries = length (free_slots m entries false true)
+
+-- A list of slots has room for all those of a pool of so many blocks.
+abbrev pub HasRoom : ℕ → FreeSlots → Type 0
+HasRoom m free = (free.count ≤ length free.slots.items) × (1008 * m ≤ length free.slots.items)
+
+-- the slots that a map gives to no home, first those of one body
+abbrev pub free_from : ℕ → (Bool → ℕ → ℕ) → Bool → List Slot
+free_from m entries first = free_slots m entries first (not first)
+
+-- It lists those.
+abbrev pub IsListOf : ℕ → SlotMap → Bool → FreeSlots → Type 0
+IsListOf m map first free = take free.count free.slots.items ≡ free_from m (entries_of map) first
+
+-- A journal between two commits:
+pub record IsPoolJournal (journal : PoolJournal) : Type 0 where
+  -- its pool has slots,
+  pub sized : IsSized journal.sizes
+  -- it has a map of them, and room for another,
+  pub map : IsMapOf journal.sizes.blocks journal.map
+  pub next : IsMapOf journal.sizes.blocks journal.next
+  -- the map gives them to homes of the device alone,
+  pub homes : (body : Bool) (r : ℕ) → entries_of journal.map body r ≤ journal.sizes.homes
+  -- and those that it gives to none are listed, first those of the body behind the other map.
+  pub room : HasRoom journal.sizes.blocks journal.free
+  pub listed : IsListOf journal.sizes.blocks journal.map (not journal.second) journal.free
+
+-- A new journal:
+pub record IsNewJournal (sizes : PoolSizes) (journal : PoolJournal) : Type 0 where
+  pub is : IsPoolJournal journal
+  -- it is so large,
+  pub size : journal.sizes ≡ sizes
+  -- and its map is the first one, and gives no slot to a home.
+  pub first : journal.second ≡ false
+  pub empty : IsEmptyMap journal.map
+
+-- how many slots a map gives to homes
+abbrev pub live_count : ℕ → (Bool → ℕ → ℕ) → ℕ
+live_count m entries = live_among (entries false) (504 * m) + live_among (entries true) (504 * m)
+
+-- The map of the next commit is begun:
+pub record BeginsMap (homes : List ℕ) (old new : PoolJournal) (full : Bool) : Type 0 where
+  -- it is the map, but its homes keep no slot;
+  pub next : (body : Bool) (r : ℕ) → entries_of new.next body r ≡ number_but homes (entries_of old.map body r)
+  -- the answer is whether slots for them and for the others are more than a body has;
+  pub full_is : full ≡ nat_lt (504 * old.sizes.blocks) (live_count old.sizes.blocks (entries_of new.next) + length homes)
+  -- and nothing else changes.
+  pub is : IsPoolJournal new
+  pub sizes : new.sizes ≡ old.sizes
+  pub second : new.second ≡ old.second
+  pub map : new.map ≡ old.map
+  pub free : new.free ≡ old.free
+
+-- The gate names the other map, which is the next one:
+pub record TurnsMap (old new : PoolJournal) : Type 0 where
+  pub is : IsPoolJournal new
+  pub sizes : new.sizes ≡ old.sizes
+  pub second : new.second ≡ not old.second
+  pub map : new.map ≡ old.next

@@ -1,0 +1,15 @@
+pub mod Blocks
+pub mod Clearing
+pub mod Commit
+pub mod Committing
+pub mod Copying
+pub mod Filling
+pub mod Gates
+pub mod Giving
+pub mod Journal
+pub mod Maps
+pub mod Pools
+pub mod Reading
+pub mod Recovering
+pub mod Room
+pub mod Sizes

@@ -1,0 +1,65 @@
+//! The page that stands for a home.
+ghost use Rattle.std.specs.Prelude.{◌≡◌, ◌≤◌, ◌<◌, ◌^◌};
+ghost use Rattle.pool_journal.specs.Journal.{IsPoolJournal};
+ghost use Rattle.pool_journal.specs.Maps.{entries_of, IsMapOf};
+ghost use Rattle.pool_journal.specs.Pools.{pool_home, slot_by, pool_stands};
+ghost use Rattle.pool_journal.specs.Reading.{ReadsHome};
+ghost use Rattle.pool_journal.specs.Sizes.{HasPool, IsSized};
+
+use crate::map::SlotMap;
+use crate::pool::PoolJournal;
+use crate::sizes::PoolSizes;
+use disk_model::{DiskFault, SectorDisk};
+use sync_journal::read_page;
+
+impl PoolJournal {
+    /// Reads the page that stands for a home between two commits: what the first slot holds that the journal's map gives to the home, or where it gives none, what
+    /// the home itself holds. The home is below the pool's `homes`. Nothing is written.
+    ///
+    /// # Errors
+    ///
+    /// An error comes exactly where the device failed; of the bytes nothing is promised then.
+    pub fn read<D: SectorDisk>(
+        &self,
+        disk: &mut D,
+        home: u32,
+        to: &mut [u8; 4096],
+    ) -> Result<(), DiskFault>
+        requires is { IsPoolJournal self.now }
+        requires pool { HasPool D.SectorDisk self.now.sizes disk.old }
+        requires home { home < self.now.sizes.homes }
+        ensures { ReadsHome D.SectorDisk self.now.sizes.blocks (entries_of self.now.map) home disk.old disk.new to.new result }
+    {
+        read_page_of(disk, self.sizes, &self.map, home, to)
+    }
+}
+
+/// Reads the page that stands for a home under a map.
+pub(crate) fn read_page_of<D: SectorDisk>(
+    disk: &mut D,
+    sizes: PoolSizes,
+    map: &SlotMap,
+    home: u32,
+    to: &mut [u8; 4096],
+) -> Result<(), DiskFault>
+    requires pool { HasPool D.SectorDisk sizes disk.old }
+    requires size { IsMapOf sizes.blocks map.now }
+    requires home { home < sizes.homes }
+    ensures { ReadsHome D.SectorDisk sizes.blocks (entries_of map.now) home disk.old disk.new to.new result }
+{
+    read_page(disk, stands_at(sizes, map, home), to)
+}
+
+// The first sector of the page that stands for a home.
+fn stands_at(sizes: PoolSizes, map: &SlotMap, home: u32) -> u64
+    requires sized { IsSized sizes }
+    requires size { IsMapOf sizes.blocks map.now }
+    requires low { home < 2 ^ 30 }
+    ensures at { result ≡ pool_stands sizes.blocks home (slot_by sizes.blocks (entries_of map.now) home) }
+    ensures inside { result ≤ pool_home sizes.blocks home }
+{
+    match map.slot_of(home) {
+        Some(slot) => sizes.slot(slot),
+        None => sizes.home(home),
+    }
+}

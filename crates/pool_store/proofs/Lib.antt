@@ -1,0 +1,23 @@
+pub mod Entries
+pub mod Homes
+pub mod PageReads
+pub mod StoreReads
+pub mod Looking
+pub mod Standing
+pub mod Ordered
+pub mod Changed
+pub mod Ready
+mod Names
+pub mod Made
+pub mod Held
+pub mod Stopped
+pub mod Older
+pub mod Making
+pub mod Formats
+pub mod Asked
+pub mod OneKind
+pub mod Keeping
+pub mod Blames
+pub mod Stops
+pub mod Taking
+pub mod Renewing

@@ -1,0 +1,11 @@
+pub mod Files
+pub mod Pools
+pub mod Store
+pub mod Faults
+pub mod Reading
+pub mod Places
+pub mod Commit
+pub mod Format
+pub mod Formatted
+pub mod Resume
+pub mod Opened

@@ -1,0 +1,63 @@
+//! Commits: what they write, where pages stand, and sources that fail.
+use crate::bench::{FRONT, Filled, Pool, equal, expect};
+use std::test::Fail;
+use sync_journal::CommitFault;
+
+#[test]
+fn a_commit_takes_three_runs_of_writes_and_two_syncs_and_no_home(
+    rt: HostRuntime,
+) -> Result<(), Fail> {
+    let mut pool = Pool::new(rt.alloc(), 600)?;
+    // The pages, their map and the gate; the maps are filled in turn.
+    for (byte, runs, syncs) in [(1, 3, 2), (2, 6, 4), (3, 9, 6)] {
+        let mut source = Filled::with(byte);
+        let done = pool.commit(&[5, 6, 7, 8, 9, 20, 300, 599], &mut source)?;
+        expect(done.is_ok(), "a commit")?;
+        let disk = &pool.disk;
+        equal(&rt, (disk.runs, disk.disk.syncs()), (runs, syncs));
+        expect(disk.last < FRONT, "a home was written")?;
+        equal(&rt, pool.bytes([4, 5, 300, 599]), [0, byte, byte, byte]);
+    }
+    // Each page took eight writes, and so did a map.
+    equal(&rt, pool.disk.disk.writes(), 3 * (8 * 8 + 8 + 1));
+    // The third is in body 1 again, which lies behind map 1.
+    expect(pool.holds(16 + 4040 + 8, 3), "a page in a slot")
+}
+
+#[test]
+fn a_commit_takes_as_many_pages_as_are_free(rt: HostRuntime) -> Result<(), Fail> {
+    let mut pool = Pool::new(rt.alloc(), 1010)?;
+    let mut homes = Vec::new(rt.alloc());
+    for home in 1..1009 {
+        homes.push(home)?;
+    }
+    let mut source = Filled::with(7);
+    expect(pool.commit(&homes, &mut source)?.is_ok(), "all slots")?;
+    equal(&rt, pool.free_pages(), 0);
+    expect(pool.disk.last < FRONT, "a home was written")?;
+    equal(&rt, pool.bytes([0, 1, 1008, 1009]), [0, 7, 7, 0]);
+    // A commit of no page copies them home, and all slots are free then.
+    expect(pool.commit(&[], &mut source)?.is_ok(), "no page")?;
+    equal(&rt, pool.free_pages(), 1008);
+    equal(&rt, pool.disk.last, FRONT + 8 * 1009 - 1);
+    equal(&rt, pool.bytes([0, 1, 1008, 1009]), [0, 7, 7, 0]);
+    Ok(())
+}
+
+#[test]
+fn a_source_that_fails_leaves_the_pages_before(rt: HostRuntime) -> Result<(), Fail> {
+    let mut pool = Pool::new(rt.alloc(), 4)?;
+    let mut source = Filled::with(1);
+    expect(pool.commit(&[0, 2], &mut source)?.is_ok(), "the first")?;
+    source.byte = 2;
+    source.fails = true;
+    let done = pool.commit(&[0, 1, 2], &mut source)?;
+    equal(&rt, done, Err(CommitFault::Source));
+    equal(&rt, pool.bytes([0, 1, 2, 3]), [1, 0, 1, 0]);
+    let mut left = pool.left(rt.alloc(), Some([9; 512]))?;
+    expect(left.recover().is_ok(), "a recovery")?;
+    equal(&rt, left.bytes([0, 1, 2, 3]), [1, 0, 1, 0]);
+    expect(pool.commit(&[0, 1, 2], &mut source)?.is_ok(), "the next")?;
+    equal(&rt, pool.bytes([0, 1, 2, 3]), [2, 2, 2, 0]);
+    Ok(())
+}
