@@ -1,0 +1,9 @@
+mod Names
+pub mod Heads
+pub mod Says
+pub mod PagesRead
+pub mod Committing
+pub mod RoomMade
+pub mod KindOpens
+pub mod PoolOpens
+pub mod Looked

@@ -1,0 +1,143 @@
+-- An opening after a look at the mark, a device without a sector, and stops in a row.
+use Rattle.stores.proofs.Names.{ℕ, zero, suc, Bool, true, false, Result, Ok, Err, ◌≡◌, ◌<◌, ◌⊎◌, ◌∙◌, inl, refl, sym, subst, arith, stays, then, wider}
+use Rattle.stores.proofs.Names.{Ghosts, Image, AsksOnly, LeavesNow, LeavesOnly, MayLeave, Nothing, Touches, RunsOnDevice}
+use Rattle.std.specs.Prelude.{MatchResult}
+use Rattle.disk_model.proofs.Moments.{asks_named, asks_none, asks_then, joined}
+use Rattle.sync_journal.proofs.Sectors.{reads_unsynced, same_content, so_before, while_read}
+use Rattle.sync_journal.specs.{Kinds.{kind_of}, declared.store_journal.Journals.{Journals, TheVariants.{Single, Paired}}}
+use Rattle.file_store.specs.{Standing.{IsBadLayoutIn.{TooSmall as FewSectors}}, Versions.{homes_of, version_at}}
+use Rattle.pool_store.specs.{Pools.{IsBadPool.{TooSmall}}, Resume.{HasPoolHead}}
+use Rattle.stores.specs.Images.{is_pool, says_by, IsBadLayout, IsBadJournal, IsClosed, IsOutside, IsAskedToOpen, IsWrittenToOpen, StandsAs}
+use Rattle.stores.specs.{Marks.{LooksAtMark}, Opened.{IsCarriedOut, LeftInARow, OpensFrom, RefusesToOpen, RunsOpening}, Store.{disk_of, kept_of}}
+use Rattle.stores.specs.declared.{faults.OpenFault.{OpenFault, TheVariants.{Device, BadLayout}}, store.Store.{Store}}
+
+-- Every layout has sectors before its homes, so that a device without one has no store, whatever its image.
+homes_behind : (kind : Journals) → 0 < homes_of (version_at kind)
+homes_behind Single = omega arith
+homes_behind Paired = omega arith
+
+none_fits : (in_pool : Bool) (sectors : ℕ) (image : Image) → sectors ≡ 0 → (says_by in_pool sectors image).HasBadLayout
+none_fits false sectors image none = FewSectors (let behind = homes_behind (kind_of image) in omega (arith, none, behind))
+none_fits true sectors image none = TooSmall (omega (arith, none))
+
+-- Every opening asks for the mark.
+mark_asked : (in_pool : Bool) (sectors : ℕ) (image : Image) (k : ℕ) → k ≡ 0 → (says_by in_pool sectors image).IsAsked k
+mark_asked false sectors image k at = inl (inl (omega (arith, at)))
+mark_asked true sectors image k at = inl (omega (arith, at))
+
+module _ {D : Type 0} (g : Ghosts D) (old : D) (only_now : (d : D) (image : Image) → g.keeps_model d → g.left_since d (g.moment d) image → MayLeave (g.content d) (g.unsynced d) image) where
+  -- Where nothing is written, what an opening must keep is kept.
+  reads_alone : (new : D) → RunsOnDevice g Nothing old new → AsksOnly g (IsAskedToOpen (g.sector_count old) (g.content old)) old new → RunsOpening g old new
+  reads_alone new run asks = record {
+    size = run.size;
+    kept = run.kept;
+    later = run.later;
+    asks = λ keeps. asks;
+    touches = λ keeps. wider g Nothing (IsWrittenToOpen (g.sector_count old) (g.content old)) old new (λ k none. absurd none) (run.touches keeps);
+    closed_unwritten = λ keeps closed. run.touches keeps;
+    outside = λ keeps k out. same_content g old new (run.touches keeps) k;
+    any_moment = λ keeps synced. while_read g old new (run.touches keeps) (StandsAs (g.sector_count old) (g.content old)) (λ files pages stands. stands)
+        (λ image left. only_now old image (run.kept keeps) left) synced;
+  }
+
+  -- A device without a sector is refused, and not looked at.
+  pub refuses_none : g.sector_count old ≡ 0 → RefusesToOpen g old BadLayout old
+  refuses_none none = record {
+    err_run = reads_alone old (record { size = refl; kept = λ keeps. keeps; later = omega arith; touches = λ keeps. stays g Nothing old })
+        (asks_none g (IsAskedToOpen (g.sector_count old) (g.content old)) old old (λ k. refl));
+    device = λ is. cc;
+    err_calm = λ other. refl;
+    unwritten = λ keeps other. stays g Nothing old;
+    bad_unwritten = λ keeps bad. stays g Nothing old;
+    bad_layout = λ keeps is. none_fits (is_pool (g.content old)) (g.sector_count old) (g.content old) none;
+    bad_journal = λ keeps is. cc;
+    layout_first = λ keeps is bad. cc;
+    memory = λ keeps is. cc;
+  }
+
+  -- So does a look at the mark, of which every opening asks.
+  looks_alone : {E : Type 0} {r : Result Bool E} (mid : D) → LooksAtMark g old mid r → RunsOpening g old mid
+  looks_alone mid look = reads_alone mid look.run
+      (asks_named g (IsAskedToOpen (g.sector_count old) (g.content old)) (λ k. k ≡ 0) old mid (mark_asked (is_pool (g.content old)) (g.sector_count old) (g.content old)) look.once)
+
+  -- It may fail,
+  pub refuses_look : {E : Type 0} (e : E) (mid : D) → LooksAtMark g old mid (Err e) → RefusesToOpen g old Device mid
+  refuses_look e mid look = record {
+    err_run = looks_alone mid look;
+    device = λ is. look.cause.failed refl;
+    err_calm = λ other. absurd (other refl);
+    unwritten = λ keeps other. absurd (other refl);
+    bad_unwritten = λ keeps bad. look.run.touches keeps;
+    bad_layout = λ keeps is. cc;
+    bad_journal = λ keeps is. cc;
+    layout_first = λ keeps is bad. cc;
+    memory = λ keeps is. cc;
+  }
+
+  -- and what comes of an opening after it came of the device before it.
+  module _ {E : Type 0} (in_pool : Bool) (mid : D) (look : LooksAtMark {E = E} g old mid (Ok in_pool)) where
+    before : (P : ℕ → Image → Type 0) → g.keeps_model mid → P (g.sector_count mid) (g.content mid) → P (g.sector_count old) (g.content old)
+    before P keeps = so_before g old mid (look.run.touches keeps) P look.run.size
+
+    run_since : (new : D) → RunsOpening g mid new → RunsOpening g old new
+    run_since new run =
+        let first = looks_alone mid look in
+        record {
+          size = run.size ∙ look.run.size;
+          kept = λ keeps. look.run.kept (run.kept keeps);
+          later = (let one = look.run.later in let two = run.later in omega (arith, one, two));
+          asks = λ keeps. asks_then g (IsAskedToOpen (g.sector_count old) (g.content old)) old mid new (first.asks (run.kept keeps))
+              (before (λ n image. AsksOnly g (IsAskedToOpen n image) mid new) (run.kept keeps) (run.asks keeps));
+          touches = λ keeps. then g (IsWrittenToOpen (g.sector_count old) (g.content old)) old mid new (first.touches (run.kept keeps))
+              (before (λ n image. Touches g (IsWrittenToOpen n image) mid new) (run.kept keeps) (run.touches keeps));
+          closed_unwritten = λ keeps closed. then g Nothing old mid new (look.run.touches (run.kept keeps))
+              (before (λ n image. IsClosed n image → Touches g Nothing mid new) (run.kept keeps) (run.closed_unwritten keeps) closed);
+          outside = λ keeps k out. before (λ n image. IsOutside n image k → g.content new k ≡ g.content mid k) (run.kept keeps) (run.outside keeps k) out
+              ∙ same_content g old mid (look.run.touches (run.kept keeps)) k;
+          any_moment = λ keeps synced. joined g old mid new (StandsAs (g.sector_count old) (g.content old)) (first.any_moment (run.kept keeps) synced)
+              (before (λ n image. LeavesOnly g mid new (StandsAs n image)) (run.kept keeps)
+              (run.any_moment keeps (λ k u. synced k (reads_unsynced g old mid (look.run.touches (run.kept keeps)) k u))));
+        }
+
+    opens_since : (store : Store D) → OpensFrom g mid store → OpensFrom g old store
+    opens_since store o = record {
+      run = run_since (disk_of store) o.run;
+      ready = o.ready;
+      bounded = o.bounded;
+      good_layout = λ keeps. before (λ n image. IsBadLayout n image → ⊥) (o.run.kept keeps) (o.good_layout keeps);
+      good_journal = λ keeps. before (λ n image. IsBadJournal n image → ⊥) (o.run.kept keeps) (o.good_journal keeps);
+      now = λ keeps. before (λ n image. LeavesNow g (disk_of store) (StandsAs n image)) (o.run.kept keeps) (o.now keeps);
+      synced = o.synced;
+      carried = λ keeps. before (λ n image. IsCarriedOut (kept_of store) image) (o.run.kept keeps) (o.carried keeps);
+      emptied = λ keeps. before (λ n image. is_pool image ≡ false → IsClosed n (g.content (disk_of store))) (o.run.kept keeps) (o.emptied keeps);
+      calm = o.calm ∙ look.cause.calm;
+    }
+
+    refuses_since : (fault : OpenFault) (new : D) → RefusesToOpen g mid fault new → RefusesToOpen g old fault new
+    refuses_since fault new r = record {
+      err_run = run_since new r.err_run;
+      device = λ is. (let failed = r.device is in let calm = look.cause.calm in omega (arith, failed, calm));
+      err_calm = λ other. r.err_calm other ∙ look.cause.calm;
+      unwritten = λ keeps other. then g Nothing old mid new (look.run.touches (r.err_run.kept keeps)) (r.unwritten keeps other);
+      bad_unwritten = λ keeps bad. then g Nothing old mid new (look.run.touches (r.err_run.kept keeps))
+          (before (λ n image. IsBadLayout n image ⊎ IsBadJournal n image → Touches g Nothing mid new) (r.err_run.kept keeps) (r.bad_unwritten keeps) bad);
+      bad_layout = λ keeps is. before IsBadLayout (r.err_run.kept keeps) (r.bad_layout keeps is);
+      bad_journal = λ keeps is. before IsBadJournal (r.err_run.kept keeps) (r.bad_journal keeps is);
+      layout_first = λ keeps is. before (λ n image. IsBadLayout n image → ⊥) (r.err_run.kept keeps) (r.layout_first keeps is);
+      memory = λ keeps is. before HasPoolHead (r.err_run.kept keeps) (r.memory keeps is);
+    }
+
+    pub since_look : (r : Result (Store D) (OpenFault × D)) → MatchResult r (λ store. OpensFrom g mid store) (λ e. RefusesToOpen g mid e.0 e.1)
+        → MatchResult r (λ store. OpensFrom g old store) (λ e. RefusesToOpen g old e.0 e.1)
+    since_look (Ok store) opened = opens_since store opened
+    since_look (Err e) refused = refuses_since e.0 e.1 refused
+
+-- What any number of stops in a row leave, each within an opening of what the one before left, stands for what stood at first.
+pub still_stands : {D : Type 0} (g : Ghosts D) (sectors n : ℕ) (first last : Image) → LeftInARow g sectors n first last → StandsAs sectors first last
+still_stands g sectors zero first last same = subst (StandsAs sectors first) (sym same) (λ files pages was. was)
+still_stands g sectors (suc n) first last stops =
+    let old = stops.1 in
+    let opens = stops.4 in
+    let here = subst (λ k. StandsAs k stops.0 last) opens.size
+    (subst (λ (held : Image). StandsAs (g.sector_count old) held last) opens.held (opens.stands.each last stops.5)) in
+    λ files pages was. here files pages (still_stands g sectors n first stops.0 stops.3 files pages was)

@@ -1,0 +1,228 @@
+-- A store of a pool that is opened, in the words of stores of any layout.
+use Rattle.stores.proofs.{Heads.{blocks_are, pages_are, same_blocks, same_mark, same_pages}, Says.{IsHeaded, as_pool, head_of}}
+use Rattle.stores.proofs.Names.{ℕ, ◌≡◌, ◌⊎◌, ◌∙◌, ◌<◌, ◌≤◌, ◌*◌, true, List, Option, Some, None, refl, sym, ap, subst, ⊎_elim, inl, inr, arith, bytes_eq-Decides}
+use Rattle.stores.proofs.Names.{Image, AsksOnly, Touches, Nothing, Ghosts, weaker, wider, true≢false}
+use Rattle.std.{proofs.lemmas.{Bool.{cases_Bool, cases_lt}, Option.{none-some, same_Some}}, specs.{Option.{option_map}, Str.{bytes_eq}}}
+use Rattle.vm_types.specs.{Limits.{file_limit, file_page_limit}, declared.file.FileInfo.{FileInfo}}
+use Rattle.disk_model.proofs.Moments.{asks_wider}
+use Rattle.directories.specs.{Kinds.{IsKind, kind_sector}, Layouts.{entry_in}, declared.entry.Entry.{Entry}}
+use Rattle.file_store.specs.Standing.{AreBounded}
+use Rattle.pool_journal.{proofs.Loose.{map_high, map_low}, specs.Pools.{pool, pool_home_count}}
+use Rattle.pool_store.specs.{Files.{info_in, info_of, page_in, StandsAs as PoolStandsAs}, Opened.{OpensPool, RefusesPool, IsWrittenToOpen}}
+use Rattle.pool_store.proofs.OneKind.{bad_by_all}
+use Rattle.pool_store.specs.{Pools.{files_in_pool, HaveBounds, IsBadPool, IsBadPool.{OtherKind}}, Resume.{IsAskedToOpen, IsAskedOf, IsAskedIn, IsNoPool}, Store.{layout_of}}
+use Rattle.pool_store.specs.declared.{faults.OpenFault.{OpenFault as PoolFault, TheVariants.{Device as PoolDevice, BadLayout as PoolLayout, Memory as PoolMemory}}, store.PoolStore.{PoolStore}}
+use Rattle.stores.specs.{Faults.{of_pool}, Images.{ImageSays, directory_pages, is_pool, map_blocks, says, says_by, StandsAs}, Opened.{OpensFrom, RefusesToOpen, RunsOpening}}
+use Rattle.stores.specs.declared.{faults.OpenFault.TheVariants.{Device, BadLayout, BadJournal, Memory}, store.Store.TheVariants.{Pool}}
+
+-- what an image says by the layout of stores with maps of m blocks and a directory of d pages, on a device of so many sectors and n homes
+abbrev pool_says : ℕ → ℕ → ℕ → ℕ → Image → ImageSays
+pool_says m d n sectors image = record {
+  info = info_in (files_in_pool m d n) image;
+  page = page_in (files_in_pool m d n) image;
+  HasBadLayout = (files_in_pool m d n).IsBad sectors image;
+  HasBadJournal = (files_in_pool m d n).pages.IsBad sectors image;
+  IsClosed = (files_in_pool m d n).pages.IsClosed image;
+  IsOutside = (files_in_pool m d n).pages.IsOutside image sectors;
+  IsAsked = IsAskedToOpen sectors image;
+  IsWritten = IsWrittenToOpen sectors image;
+}
+
+module _ (m d n sectors : ℕ) (homes : n ≡ pool_home_count m sectors) (image : Image) (head : IsHeaded m d image) (P : ImageSays → Type 0) where
+  -- what is so of these words is so of the words of an image with mark and kind of such a store,
+  pub by_head : P (pool_says m d n sectors image) → P (says sectors image)
+  by_head here = subst (λ b. P (says_by b sectors image)) (sym head.mark)
+      (subst (λ x. P (pool_says x (directory_pages image) (pool_home_count x sectors) sectors image)) (sym head.blocks)
+      (subst (λ y. P (pool_says m y (pool_home_count m sectors) sectors image)) (sym head.pages)
+      (subst (λ k. P (pool_says m d k sectors image)) homes here)))
+
+-- and the other way round
+pub of_head : (m d n sectors : ℕ) → n ≡ pool_home_count m sectors → (image : Image) → IsHeaded m d image → (P : ImageSays → Type 0) → P (says sectors image) → P (pool_says m d n sectors image)
+of_head m d n sectors homes image head P = by_head m d n sectors homes image head (λ (words : ImageSays). P words → P (pool_says m d n sectors image)) (λ here. here)
+
+-- a number lies from 1 to the most, or not
+sized_cases : (most n : ℕ) → ((1 ≤ n) × (n ≤ most)) ⊎ ((1 ≤ n) × (n ≤ most) → ⊥)
+sized_cases most n = ⊎_elim
+    (λ none. inr (λ sized. omega (arith, none, sized.0)))
+    (λ some. ⊎_elim (λ more. inr (λ sized. omega (arith, more, sized.1))) (λ few. inl (some, few)) (cases_lt most n))
+    (cases_lt n 1)
+
+-- a sector is a kind with these numbers, or not
+pub kind_cases : (m d : ℕ) (sector : List ℕ) → IsKind m d sector ⊎ (IsKind m d sector → ⊥)
+kind_cases m d sector =
+    let decides = bytes_eq-Decides sector (kind_sector m d) in
+    ⊎_elim
+    (λ is. ⊎_elim
+    (λ maps. ⊎_elim (λ pages. inl (record { bytes = decides.0 is; maps = maps; pages = pages })) (λ other. inr (λ kind. other kind.pages)) (sized_cases 256 d))
+    (λ other. inr (λ kind. other kind.maps)) (sized_cases 2048 m))
+    (λ is. inr (λ kind. (let other = decides.1 kind.bytes in cc)))
+    (cases_Bool (bytes_eq sector (kind_sector m d)))
+
+-- a kind has the numbers that the image has
+pub same_kind : (m d : ℕ) (image : Image) → IsKind m d (image 1) → IsKind (map_blocks image) (directory_pages image) (image 1)
+same_kind m d image kind = subst (λ x. IsKind x (directory_pages image) (image 1)) (sym (blocks_are m d image kind))
+    (subst (λ y. IsKind m y (image 1)) (sym (pages_are m d image kind)) kind)
+
+-- files whose entries are bounded are so
+pub are_bounded : (entries : List (Option Entry)) → HaveBounds entries → AreBounded (λ f. option_map info_of (entry_in entries f))
+are_bounded entries bounds = record { each = λ f k inside. from f k inside.0 inside.2 (entry_in entries f) refl inside.1 }
+  where
+    from : (f k : ℕ) (info : FileInfo) → 4096 * k < info.length → (o : Option Entry) → entry_in entries f ≡ o → option_map info_of o ≡ Some info → (f < file_limit) × (k < file_page_limit)
+    from f k info inside None is none = absurd (none-some info none)
+    from f k info inside (Some e) is same =
+        let here = bounds f e is in
+        let length : e.length ≡ info.length = ap (λ (i : FileInfo). i.length) (same_Some (info_of e) info same) in
+        (here.0, (let short = here.1 in omega (arith, short, length, inside)))
+
+-- of which fault a fault is
+device_of : (fault : PoolFault) → of_pool fault ≡ Device → fault ≡ PoolDevice
+device_of PoolDevice is = refl
+device_of PoolLayout is = cc
+device_of PoolMemory is = cc
+
+bad_of : (fault : PoolFault) → of_pool fault ≡ BadLayout → fault ≡ PoolLayout
+bad_of PoolDevice is = cc
+bad_of PoolLayout is = refl
+bad_of PoolMemory is = cc
+
+memory_of : (fault : PoolFault) → of_pool fault ≡ Memory → fault ≡ PoolMemory
+memory_of PoolDevice is = cc
+memory_of PoolLayout is = cc
+memory_of PoolMemory is = refl
+
+no_journal : (fault : PoolFault) → of_pool fault ≡ BadJournal → ⊥
+no_journal PoolDevice is = cc
+no_journal PoolLayout is = cc
+no_journal PoolMemory is = cc
+
+-- an opening writes neither mark nor kind
+front_unwritten : (m n sectors : ℕ) (image : Image) (k : ℕ) → k < 2 → (pool m n).IsRecovered image sectors k → ⊥
+front_unwritten m n sectors image k low = ⊎_elim (λ gate. omega (arith, gate, low)) (λ map. map_high m _ k map (omega (arith, low)))
+
+-- nor what lies outside of gate, pool and homes
+outside_unwritten : (m n sectors : ℕ) (image : Image) (k : ℕ) → (pool m n).IsOutside image sectors k → (pool m n).IsRecovered image sectors k → ⊥
+outside_unwritten m n sectors image k = ⊎_elim
+    (λ low. ⊎_elim (λ gate. omega (arith, gate, low)) (λ map. map_high m _ k map (omega (arith, low))))
+    (λ high. ⊎_elim (λ gate. omega (arith, gate, high)) (λ map. map_low m _ k map (omega (arith, high))))
+
+module _ {D : Type 0} (g : Ghosts D) (old : D) where
+  abbrev sectors : ℕ
+  sectors = g.sector_count old
+
+  abbrev image : Image
+  image = g.content old
+
+  -- The store is opened.
+  module _ (store : PoolStore D) (o : OpensPool g old store) where
+    abbrev m : ℕ
+    m = store.journal.sizes.blocks
+
+    abbrev d : ℕ
+    d = store.directory.pages
+
+    abbrev n : ℕ
+    n = store.journal.sizes.homes
+
+    abbrev disk : D
+    disk = store.disk
+
+    homes : n ≡ pool_home_count m sectors
+    homes = o.finds.ready.is.pool.homes ∙ ap (pool_home_count m) o.run.size
+
+    front : g.keeps_model disk → (k : ℕ) → k < 2 → image k ≡ g.content disk k
+    front keeps k low = ⊎_elim (λ at. absurd (front_unwritten m n sectors image k low at)) (λ same. sym same) ((o.run.touches keeps).content k)
+
+    kind : g.keeps_model disk → IsKind m d (image 1)
+    kind keeps = subst (λ sector. IsKind m d sector) (sym (front keeps 1 (omega arith))) (o.finds.ready.is.at_rest keeps).kind
+
+    head : g.keeps_model disk → IsHeaded m d image
+    head keeps = (let now = head_of g store o.finds.ready keeps in record {
+      mark = same_mark (g.content disk) image (front keeps 0 (omega arith)) ∙ now.mark;
+      blocks = same_blocks (g.content disk) image (front keeps 1 (omega arith)) ∙ now.blocks;
+      pages = same_pages (g.content disk) image (front keeps 1 (omega arith)) ∙ now.pages;
+    })
+
+    runs : RunsOpening g old disk
+    runs = record {
+      size = o.run.size;
+      kept = o.run.kept;
+      later = o.run.later;
+      asks = λ keeps. by_head m d n sectors homes image (head keeps) (λ (words : ImageSays). AsksOnly g words.IsAsked old disk)
+          (asks_wider g (IsAskedOf store image) (IsAskedToOpen sectors image) old disk
+          (λ k at. inr (m, d, kind keeps, subst (λ x. IsAskedIn m d x image k) homes at)) (o.asks keeps));
+      touches = λ keeps. by_head m d n sectors homes image (head keeps) (λ (words : ImageSays). Touches g words.IsWritten old disk)
+          (wider g ((pool m n).IsRecovered image sectors) (IsWrittenToOpen sectors image) old disk (λ k at. (m, d, kind keeps, at)) (o.run.touches keeps));
+      outside = λ keeps. by_head m d n sectors homes image (head keeps) (λ (words : ImageSays). (k : ℕ) → words.IsOutside k → g.content disk k ≡ image k)
+          (λ k at. ⊎_elim (λ written. absurd (outside_unwritten m n sectors image k at written)) (λ same. same) ((o.run.touches keeps).content k));
+      closed_unwritten = λ keeps closed. o.closed_unwritten keeps (of_head m d n sectors homes image (head keeps) (λ (words : ImageSays). words.IsClosed) closed);
+      any_moment = λ keeps still. weaker g old disk (PoolStandsAs (layout_of store) sectors image) (StandsAs sectors image)
+          (λ left stays. as_pool m d n sectors homes image left (head keeps) stays) (o.finds.stays.through.any_moment keeps still);
+    }
+
+    pub pool_opens : OpensFrom g old (Pool store)
+    pool_opens = record {
+      run = runs;
+      ready = o.finds.ready;
+      bounded = are_bounded store.directory.entries.items o.finds.ready.is.is_directory.may.bounded;
+      good_layout = λ keeps bad. o.finds.good keeps (of_head m d n sectors homes image (head keeps) (λ (words : ImageSays). words.HasBadLayout) bad);
+      good_journal = λ keeps bad. of_head m d n sectors homes image (head keeps) (λ (words : ImageSays). words.HasBadJournal) bad;
+      now = λ keeps left may. as_pool m d n sectors homes image left (head keeps) (o.finds.now keeps left may);
+      synced = o.finds.synced;
+      carried = λ keeps. (o.finds.map keeps, o.anew keeps);
+      emptied = λ keeps none. absurd (true≢false (sym (head keeps).mark ∙ none));
+      calm = o.calm;
+    }
+
+  -- Or the device is given back: of an image of whatever kind, with the numbers that it has.
+  module _ (marked : g.keeps_model old → is_pool image ≡ true) (fault : PoolFault) (new : D) (r : RefusesPool g old fault new) where
+    abbrev blocks : ℕ
+    blocks = map_blocks image
+
+    abbrev pages : ℕ
+    pages = directory_pages image
+
+    abbrev count : ℕ
+    count = pool_home_count blocks sectors
+
+    -- bad by the numbers that it has, it is so by any
+    no_pool : IsBadPool blocks pages count sectors image → IsNoPool sectors image
+    no_pool bad = ⊎_elim (λ is. bad_by_all blocks pages sectors image is bad) (λ none x y. OtherKind (λ is. none (same_kind x y image is)))
+        (kind_cases blocks pages (image 1))
+
+    headed : g.keeps_model new → IsHeaded blocks pages image
+    headed keeps = record { mark = marked (r.err_run.kept keeps); blocks = refl; pages = refl }
+
+    refused_runs : RunsOpening g old new
+    refused_runs = record {
+      size = r.err_run.size;
+      kept = r.err_run.kept;
+      later = r.err_run.later;
+      asks = λ keeps. by_head blocks pages count sectors refl image (headed keeps) (λ (words : ImageSays). AsksOnly g words.IsAsked old new) (r.err_asks keeps);
+      touches = λ keeps. by_head blocks pages count sectors refl image (headed keeps) (λ (words : ImageSays). Touches g words.IsWritten old new) (r.err_run.touches keeps);
+      outside = λ keeps. by_head blocks pages count sectors refl image (headed keeps) (λ (words : ImageSays). (k : ℕ) → words.IsOutside k → g.content new k ≡ image k)
+          (λ k at. ⊎_elim
+          (λ written. absurd (outside_unwritten blocks count sectors image k at
+          (subst (λ x. (pool x (pool_home_count x sectors)).IsRecovered image sectors k) (sym (blocks_are written.0 written.1 image written.2)) written.3)))
+          (λ same. same) ((r.err_run.touches keeps).content k));
+      closed_unwritten = λ keeps closed. ⊎_elim
+          (λ is. r.err_closed_unwritten keeps blocks pages is (of_head blocks pages count sectors refl image (headed keeps) (λ (words : ImageSays). words.IsClosed) closed))
+          (λ none. r.bad_unwritten keeps (λ x y. OtherKind (λ is. none (same_kind x y image is))))
+          (kind_cases blocks pages (image 1));
+      any_moment = λ keeps still. weaker g old new (PoolStandsAs (files_in_pool blocks pages count) sectors image) (StandsAs sectors image)
+          (λ left stays. as_pool blocks pages count sectors refl image left (headed keeps) stays) ((r.err_stays blocks pages).through.any_moment keeps still);
+    }
+
+    pub pool_refuses : RefusesToOpen g old (of_pool fault) new
+    pool_refuses = record {
+      err_run = refused_runs;
+      device = λ is. r.blames.device (device_of fault is);
+      err_calm = λ other. r.blames.err_calm (λ is. other (ap of_pool is));
+      unwritten = λ keeps other. r.unwritten keeps (λ is. other (ap of_pool is));
+      bad_unwritten = λ keeps. by_head blocks pages count sectors refl image (headed keeps)
+          (λ (words : ImageSays). words.HasBadLayout ⊎ words.HasBadJournal → Touches g Nothing old new)
+          (⊎_elim (λ bad. r.bad_unwritten keeps (no_pool bad)) (λ none. absurd none));
+      bad_layout = λ keeps is. by_head blocks pages count sectors refl image (headed keeps) (λ (words : ImageSays). words.HasBadLayout) (r.blames.bad keeps (bad_of fault is) blocks pages);
+      bad_journal = λ keeps is. absurd (no_journal fault is);
+      layout_first = λ keeps is. absurd (no_journal fault is);
+      memory = λ keeps is. r.blames.memory keeps (memory_of fault is);
+    }

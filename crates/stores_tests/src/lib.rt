@@ -1,0 +1,9 @@
+//! Tests of stores of any layout over a device in memory: how they are opened, read and committed to, what stands after stops, and what is no store.
+#![tactic(auto)]
+
+#[cfg(test)]
+mod bench;
+#[cfg(test)]
+mod commits;
+#[cfg(test)]
+mod openings;

@@ -1,0 +1,92 @@
+//! Stores of each layout that are opened, and what is no store.
+use crate::bench::{Layout, bytes, equal, left, made, opened, refusal};
+use disk_model::{SectorDisk, SimDisk};
+use std::test::Fail;
+use stores::OpenFault;
+use vm_types::FileInfo;
+
+#[test]
+fn a_store_has_the_files_that_it_is_made_of(rt: HostRuntime) -> Result<(), Fail> {
+    let alloc = rt.alloc();
+    let facts = |length, read_only| Some(FileInfo { length, read_only });
+    let infos = [
+        (0, facts(4097, false)),
+        (1, facts(3, true)),
+        (2, None),
+        (255, None),
+    ];
+    for (layout, most) in [
+        (Layout::Two, (1023, 1023)),
+        (Layout::Three, (1023, 1023)),
+        (Layout::Four, (1008, 504)),
+    ] {
+        let mut store = opened(alloc, left(alloc, &made(alloc, layout)?, None)?)?;
+        for (n, info) in infos {
+            equal(&rt, store.file(n), info);
+            equal(&rt, store.info(u64::from(n)), info);
+        }
+        equal(&rt, store.info(256), None);
+        equal(&rt, (store.free_pages(), store.always_free_pages()), most);
+        equal(&rt, bytes(&mut store)?, *b"aab");
+        equal(&rt, store.disk().writes(), 0);
+    }
+    Ok(())
+}
+
+#[test]
+fn a_device_without_a_whole_mark_is_no_store(rt: HostRuntime) -> Result<(), Fail> {
+    let alloc = rt.alloc();
+    for sectors in [0, 1, 8152, 16_432] {
+        let disk = SimDisk::new(alloc, sectors)?;
+        equal(&rt, refusal(alloc, disk), (Some(OpenFault::BadLayout), 0));
+    }
+    for layout in [Layout::Two, Layout::Three, Layout::Four] {
+        let mut disk = made(alloc, layout)?;
+        if disk.sectors() > 0 {
+            let mut torn = *disk.sector(0);
+            torn[511] = 0;
+            disk.write(0, &torn)?;
+        }
+        let writes = disk.writes();
+        equal(
+            &rt,
+            refusal(alloc, disk),
+            (Some(OpenFault::BadLayout), writes),
+        );
+    }
+    Ok(())
+}
+
+// A mark of layout 4 on a store of another, whose sector 1 is no kind of a pool.
+#[test]
+fn a_mark_of_a_pool_alone_is_no_store(rt: HostRuntime) -> Result<(), Fail> {
+    let alloc = rt.alloc();
+    for layout in [Layout::Two, Layout::Three] {
+        let mut disk = made(alloc, layout)?;
+        if disk.sectors() > 0 {
+            disk.write(0, file_store::pool_mark())?;
+        }
+        let writes = disk.writes();
+        equal(
+            &rt,
+            refusal(alloc, disk),
+            (Some(OpenFault::BadLayout), writes),
+        );
+    }
+    Ok(())
+}
+
+#[test]
+fn a_device_that_fails_is_told(rt: HostRuntime) -> Result<(), Fail> {
+    let alloc = rt.alloc();
+    for layout in [Layout::Two, Layout::Three, Layout::Four] {
+        let store = opened(alloc, left(alloc, &made(alloc, layout)?, None)?)?;
+        // The calls of an opening are those that a device has had as it is opened.
+        for call in [1, store.disk().calls()] {
+            let mut disk = left(alloc, store.disk(), None)?;
+            disk.fail_at(call);
+            equal(&rt, refusal(alloc, disk), (Some(OpenFault::Device), 0));
+        }
+    }
+    Ok(())
+}
