@@ -1,24 +1,31 @@
 //! The words of `pagefmt`.
+ghost use Rattle.std.specs.Prelude.{IfOk};
+ghost use Rattle.stores.specs.NewStores.{IsSizedNew};
+ghost use Rattle.command_words.specs.Words.{NamesStore};
+
 use crate::arguments::{SPECS, Taken, Word, command_of, specs_of, word_of};
 use crate::faults::WordsFault;
+use crate::pools::blocks_of;
 use clap::{ArgMatches, Command};
 use std::alloc::{AllocError, Global};
+use stores::NewStore;
 use sync_journal::Journals;
 
 /// The words of `pagefmt`.
 #[derive(Drop)]
 pub enum FormatWords<'a> {
-    /// `new IMAGE SPEC...` or `new3 IMAGE SPEC...`
+    /// `new IMAGE SPEC...`, `new3 IMAGE SPEC...` or `new4 [--pool PAGES] IMAGE SPEC...`
     New(NewWords<'a>),
     /// `upgrade OLD NEW` or `upgrade3 OLD NEW`
     Upgrade(UpgradeWords<'a>),
 }
 
-/// The words of `pagefmt new IMAGE SPEC...`, whose store has one journal, or of `pagefmt new3 IMAGE SPEC...`, whose store has two in turn.
+/// The words of `pagefmt new IMAGE SPEC...`, whose store has one journal, of `pagefmt new3 IMAGE SPEC...`, whose store has two in turn, or of
+/// `pagefmt new4 [--pool PAGES] IMAGE SPEC...`, whose store has a pool of so many pages at least.
 #[derive(Drop)]
 pub struct NewWords<'a> {
-    /// Those of the store, which say its layout.
-    pub journals: Journals,
+    /// The store.
+    pub store: NewStore,
     /// The path of the image.
     pub image: &'a str,
     /// What the files are to be made of, one spec or more, which were not looked at.
@@ -40,6 +47,7 @@ pub struct UpgradeWords<'a> {
 #[derive(Clone, Copy)]
 enum Making {
     New(Journals),
+    NewPool,
     Upgrade(Journals),
 }
 
@@ -49,6 +57,8 @@ fn making_of(word: &str) -> Option<Making> {
         Some(Making::New(Journals::Single))
     } else if word == "new3" {
         Some(Making::New(Journals::Paired))
+    } else if word == "new4" {
+        Some(Making::NewPool)
     } else if word == "upgrade" {
         Some(Making::Upgrade(Journals::Single))
     } else if word == "upgrade3" {
@@ -60,27 +70,36 @@ fn making_of(word: &str) -> Option<Making> {
 
 const NEW_WORDS: [Word; 2] = [("IMAGE", Taken::Needed), SPECS];
 
+const POOL_WORDS: [Word; 3] = [("pool", Taken::Named), ("IMAGE", Taken::Needed), SPECS];
+
 const UPGRADE_WORDS: [Word; 2] = [("OLD", Taken::Needed), ("NEW", Taken::Needed)];
 
-const FORMS: [(&str, [Word; 2]); 4] = [
-    ("new", NEW_WORDS),
-    ("new3", NEW_WORDS),
-    ("upgrade", UPGRADE_WORDS),
-    ("upgrade3", UPGRADE_WORDS),
+const FORMS: [(&str, &[Word]); 5] = [
+    ("new", &NEW_WORDS),
+    ("new3", &NEW_WORDS),
+    ("new4", &POOL_WORDS),
+    ("upgrade", &UPGRADE_WORDS),
+    ("upgrade3", &UPGRADE_WORDS),
 ];
 
 /// Reads the words of `pagefmt`. The specs are not looked at yet.
 ///
 /// # Errors
 ///
-/// `Usage` where they are others, and `OutOfMemory` where the host has no memory.
-pub fn format_words<'a>(alloc: Global, words: &'a [String]) -> Result<FormatWords<'a>, WordsFault> {
+/// `Usage` where they are others, or PAGES is 0 or over 2,064,384, and `OutOfMemory` where the host has no memory.
+pub fn format_words<'a>(alloc: Global, words: &'a [String]) -> Result<FormatWords<'a>, WordsFault>
+    ensures { IfOk result NamesStore }
+{
     let matches = format_command(alloc)?.try_get_matches_from(words)?;
     let Some((word, found)) = matches.subcommand() else {
         return Err(WordsFault::Usage);
     };
     match making_of(word) {
-        Some(Making::New(journals)) => new_words(alloc, journals, found),
+        Some(Making::New(journals)) => new_words(alloc, NewStore::Journals(journals), found),
+        Some(Making::NewPool) => {
+            let blocks = blocks_of(found.get_str("pool"))?;
+            new_words(alloc, NewStore::Pool(blocks), found)
+        }
         Some(Making::Upgrade(journals)) => upgrade_words(journals, found),
         None => Err(WordsFault::Usage),
     }
@@ -97,13 +116,16 @@ fn format_command<'a>(alloc: Global) -> Result<Command<'a>, AllocError> {
 
 fn new_words<'a>(
     alloc: Global,
-    journals: Journals,
+    store: NewStore,
     matches: &ArgMatches<'a>,
-) -> Result<FormatWords<'a>, WordsFault> {
+) -> Result<FormatWords<'a>, WordsFault>
+    requires { IsSizedNew store }
+    ensures { IfOk result NamesStore }
+{
     let image = word_of(matches, "IMAGE")?;
     let specs = specs_of(matches, alloc)?;
     Ok(FormatWords::New(NewWords {
-        journals,
+        store,
         image,
         specs,
     }))
@@ -112,7 +134,9 @@ fn new_words<'a>(
 fn upgrade_words<'a>(
     journals: Journals,
     matches: &ArgMatches<'a>,
-) -> Result<FormatWords<'a>, WordsFault> {
+) -> Result<FormatWords<'a>, WordsFault>
+    ensures { IfOk result NamesStore }
+{
     let old = word_of(matches, "OLD")?;
     let new = word_of(matches, "NEW")?;
     Ok(FormatWords::Upgrade(UpgradeWords { journals, old, new }))

@@ -5,6 +5,7 @@ mod arguments;
 mod faults;
 mod formatting;
 mod numbers;
+mod pools;
 mod running;
 mod showing;
 mod stopping;

@@ -1,22 +1,25 @@
 //! The words of `pagestops`.
 ghost use Rattle.std.specs.Prelude.{◌<◌, IfOk};
+ghost use Rattle.stores.specs.NewStores.{IsSizedNew};
 
 use crate::arguments::{SPECS, Taken, Word, command_of, specs_of};
 use crate::faults::WordsFault;
 use crate::numbers::{number_or, wanted_number};
+use crate::pools::DEFAULT_BLOCKS;
 use crate::running::{DEFAULT_FRAMES, DEFAULT_SLOTS};
 use std::alloc::Global;
+use stores::NewStore;
 use sync_journal::Journals;
 
-/// The words of `pagestops [--every K] [--drop K] [--layout 2|3] [--frames N] [--slots N] SPEC...`.
+/// The words of `pagestops [--every K] [--drop K] [--layout 2|3|4] [--frames N] [--slots N] SPEC...`.
 #[derive(Drop)]
 pub struct StopWords<'a> {
     /// The events to stop in are this one, 1 or more, and its multiples.
     pub every: u32,
     /// The sync of this event is dropped.
     pub drop: Option<u32>,
-    /// Those of the store, which say its layout.
-    pub journals: Journals,
+    /// The store: of layout 4 with a pool of 4,032 pages.
+    pub store: NewStore,
     /// How many page frames the machine is to have: any number, `DEFAULT_FRAMES` where none is given.
     pub frames: u32,
     /// How many slots of a page its swap device is to have: any number, `DEFAULT_SLOTS` where none is given.
@@ -40,7 +43,8 @@ const STOP_WORDS: [Word; 6] = [
 ///
 /// `Usage` where they are others, or K of `--every` is 0, and `OutOfMemory` where the host has no memory.
 pub fn stop_words<'a>(alloc: Global, words: &'a [String]) -> Result<StopWords<'a>, WordsFault>
-    ensures { IfOk result (λ words. 0 < words.every) }
+    ensures every { IfOk result (λ words. 0 < words.every) }
+    ensures store { IfOk result (λ words. IsSizedNew words.store) }
 {
     let matches = command_of(alloc, "pagestops", &STOP_WORDS)?.try_get_matches_from(words)?;
     let every = number_or(matches.get_str("every"), 1)?;
@@ -50,22 +54,26 @@ pub fn stop_words<'a>(alloc: Global, words: &'a [String]) -> Result<StopWords<'a
     Ok(StopWords {
         every,
         drop: chosen_number(matches.get_str("drop"))?,
-        journals: journals_of(matches.get_str("layout"))?,
+        store: store_of(matches.get_str("layout"))?,
         frames: number_or(matches.get_str("frames"), DEFAULT_FRAMES)?,
         slots: number_or(matches.get_str("slots"), DEFAULT_SLOTS)?,
         specs: specs_of(&matches, alloc)?,
     })
 }
 
-/// The journals of a store of that layout, or of layout 2 where none is given.
-fn journals_of(layout: Option<&str>) -> Result<Journals, WordsFault> {
+/// A store of that layout, or of layout 2 where none is given.
+fn store_of(layout: Option<&str>) -> Result<NewStore, WordsFault>
+    ensures { IfOk result IsSizedNew }
+{
     let Some(layout) = layout else {
-        return Ok(Journals::Single);
+        return Ok(NewStore::Journals(Journals::Single));
     };
     if layout == "2" {
-        Ok(Journals::Single)
+        Ok(NewStore::Journals(Journals::Single))
     } else if layout == "3" {
-        Ok(Journals::Paired)
+        Ok(NewStore::Journals(Journals::Paired))
+    } else if layout == "4" {
+        Ok(NewStore::Pool(DEFAULT_BLOCKS))
     } else {
         Err(WordsFault::Usage)
     }

@@ -1,12 +1,13 @@
 -- Which sectors an access asks for, from step to step.
 use Rattle.fault.proofs.{AccessSteps.{keeps_seen}, Asking.{asks_slots_any, asks_slots_if, asks_slots_kept, asks_slots_same, asks_slots_then, asks_slots_wider}, Forms.{none_common, seat_zero}, Linked.{as_before, lacks_none}, Names.{top_level, Access}}
 use Rattle.fault.proofs.Names.{Store, FilePage, FrameNo, SlotNo, PageKey, File, Attr, ◌≡◌, ◌≢◌, ◌<◌, ℕ, true, inl, inr, ◌⊎◌, Option, Some, None, refl, sym, ap, ◌∙◌, subst, arith, cases_Bool, cases_lt, Ghosts, AsksOnly, Nothing, NamesOnce}
-use Rattle.fault.proofs.Names.{asks_none, asks_once, once_none, once_wider, asks_wider, FileStore, IsSectorOf, IsFull, frame_count, Swap, inside_of, IsPage, Place, Home, Frame, Slot, Core, InSlot, seat, is_private, is_swapped, Picture}
+use Rattle.fault.proofs.Names.{asks_none, asks_once, once_none, once_wider, asks_wider, AnyStore, IsSectorOf, IsFull, frame_count, Swap, inside_of, IsPage, Place, Home, Frame, Slot, Core, InSlot, seat, is_private, is_swapped, Picture}
 use Rattle.fault.proofs.Names.{picture_of, entry, is_data, IsOwned}
 use Rattle.fault.proofs.{Steps.{on_right}, Names.{otherwise, true_from_ne_false, ⊎_elim, IsFit, GivesForTables, KeepsRolesBut, KeepsPages, KeepsFiles, IsWhole, holders_none, seat_common, seat_own}, OwnSteps.{shown_common}, Wanted.{cases_frame, shows_back}}
 use Rattle.fault.specs.{AccessAsking.{IsSectorOfItsSlot, IsSectorShown, AsksForPage}, Asking.{HasSwappable, MayAsk, AsksIfFull, AsksNoNew, AsksSlotsIf, IsSectorOfStoredPage, IsSectorOfPage}, Changes.{IsCalm, KeepsBare, KeepsSlotted, LinksTables, Moves}}
 use Rattle.{fault.specs.{Changes.{copied_frame, frame_behind, frame_of_place}, Wants.{LacksTable, RunsOut, ShowsFile, WantsTwo}}, vm_types.specs.declared.region.Backing.TheVariants.{Private}}
 use Rattle.vm_types.specs.declared.mode.Levels as Levels
+use Rattle.stores.specs.Store.{disk_of}
 
 -- an entry that names a slot as the seat of its page is one of a page that lies in a slot
 away_of : (e k : ℕ) → seat e ≡ Some (InSlot k) → is_swapped e ≡ true
@@ -100,8 +101,8 @@ module _ {M : Type 0} {m : Levels.Ghosts M} {D E : Type 0} (g : Ghosts D) (h : G
   pub asks_less : (old new : Core D E M m) (pid page : ℕ) (access : Access) (full : Type 0) (keep : Option FrameNo) (few : ℕ → Type 0) → new.store ≡ old.store
       → ((k : ℕ) → few k → IsSectorOfItsSlot (picture_of old) pid page k) → (full → RunsOut (picture_of old) pid page access) → AsksSlotsIf h full old new keep few → AsksForPage g h old new pid page access
   asks_less old new pid page access full keep few same less out asks = record {
-    store = asks_none g _ old.store.disk new.store.disk (λ k. ap (λ (s : FileStore D). g.asked s.disk k) same);
-    once = once_none (IsSectorShown old pid page) (g.asked old.store.disk) (g.asked new.store.disk) (λ k. ap (λ (s : FileStore D). g.asked s.disk k) same);
+    store = asks_none g _ (disk_of old.store) (disk_of new.store) (λ k. ap (λ (s : AnyStore D). g.asked (disk_of s) k) same);
+    once = once_none (IsSectorShown old pid page) (g.asked (disk_of old.store)) (g.asked (disk_of new.store)) (λ k. ap (λ (s : AnyStore D). g.asked (disk_of s) k) same);
     swap = asks_slots_if h (RunsOut (picture_of old) pid page access) old new None (IsSectorOfItsSlot (picture_of old) pid page) out
         (asks_slots_wider h old new None few (IsSectorOfItsSlot (picture_of old) pid page) (λ k is. inl (less k is)) (asks_slots_any h old new keep few asks));
   }
@@ -114,17 +115,17 @@ module _ {M : Type 0} {m : Levels.Ghosts M} {D E : Type 0} (g : Ghosts D) (h : G
   asks_calm old new pid page access calm = asks_same old new pid page access calm.store calm.swap
 
   module _ (old mid : Core D E M m) (pid page : ℕ) (access : Access) (p : PageKey) (shows : ShowsFile (picture_of old) pid page p) (swap : AsksIfFull h old mid None (IsSectorOfPage (picture_of old) p))
-      (store : NamesOnce (IsSectorOfStoredPage old.store p) (g.asked old.store.disk) (g.asked mid.store.disk)) where
+      (store : NamesOnce (IsSectorOfStoredPage old.store p) (g.asked (disk_of old.store)) (g.asked (disk_of mid.store))) where
     of_file : (k : ℕ) → IsSectorOfStoredPage old.store p k → IsSectorShown old pid page k
     of_file k is = (is.0, (let P : PageKey → Type 0 = λ x. ShowsFile (picture_of old) pid page x in subst P is.1 shows), is.2)
 
-    file_once : (new : Core D E M m) → new.store ≡ mid.store → NamesOnce (IsSectorShown old pid page) (g.asked old.store.disk) (g.asked new.store.disk)
+    file_once : (new : Core D E M m) → new.store ≡ mid.store → NamesOnce (IsSectorShown old pid page) (g.asked (disk_of old.store)) (g.asked (disk_of new.store))
     file_once new same =
-        let P : FileStore D → Type 0 = λ s. NamesOnce (IsSectorOfStoredPage old.store p) (g.asked old.store.disk) (g.asked s.disk) in
-        once_wider (IsSectorOfStoredPage old.store p) (IsSectorShown old pid page) (g.asked old.store.disk) (g.asked new.store.disk) of_file (subst P (sym same) store)
+        let P : AnyStore D → Type 0 = λ s. NamesOnce (IsSectorOfStoredPage old.store p) (g.asked (disk_of old.store)) (g.asked (disk_of s)) in
+        once_wider (IsSectorOfStoredPage old.store p) (IsSectorShown old pid page) (g.asked (disk_of old.store)) (g.asked (disk_of new.store)) of_file (subst P (sym same) store)
 
-    file_asked : (new : Core D E M m) → new.store ≡ mid.store → AsksOnly g (IsSectorShown old pid page) old.store.disk new.store.disk
-    file_asked new same = asks_once g (IsSectorShown old pid page) (IsSectorShown old pid page) old.store.disk new.store.disk (λ k is. is) (file_once new same)
+    file_asked : (new : Core D E M m) → new.store ≡ mid.store → AsksOnly g (IsSectorShown old pid page) (disk_of old.store) (disk_of new.store)
+    file_asked new same = asks_once g (IsSectorShown old pid page) (IsSectorShown old pid page) (disk_of old.store) (disk_of new.store) (λ k is. is) (file_once new same)
 
     slot_asked : (new : Core D E M m) → AsksSlotsIf h (RunsOut (picture_of old) pid page access) old new None (IsSectorOfPage (picture_of old) p)
         → AsksSlotsIf h (RunsOut (picture_of old) pid page access) old new None (IsSectorOfItsSlot (picture_of old) pid page)
@@ -205,13 +206,13 @@ module _ {M : Type 0} {m : Levels.Ghosts M} {D E : Type 0} (g : Ghosts D) (h : G
     asks_back none first asks =
         let its = IsSectorOfItsSlot (picture_of old) pid page in
         let out = RunsOut (picture_of old) pid page access in
-        let W : FileStore D → ℕ → Type 0 = λ s k. (f : FilePage) × ShowsFile (picture_of old) pid page (File f) × IsSectorOf s f k in
-        let P : FileStore D → Type 0 = λ s. AsksOnly g (W s) s.disk new.store.disk in
-        let Q : FileStore D → Type 0 = λ s. NamesOnce (W s) (g.asked s.disk) (g.asked new.store.disk) in
+        let W : AnyStore D → ℕ → Type 0 = λ s k. (f : FilePage) × ShowsFile (picture_of old) pid page (File f) × IsSectorOf s f k in
+        let P : AnyStore D → Type 0 = λ s. AsksOnly g (W s) (disk_of s) (disk_of new.store) in
+        let Q : AnyStore D → Type 0 = λ s. NamesOnce (W s) (g.asked (disk_of s)) (g.asked (disk_of new.store)) in
         let shown : (k : ℕ) → IsSectorShown mid pid page k → W mid.store k = λ k is. (is.0, shown_before (File is.0) is.1, is.2) in
         record {
-          store = subst P moves.store (asks_wider g _ (W mid.store) mid.store.disk new.store.disk shown asks.store);
-          once = subst Q moves.store (once_wider _ (W mid.store) (g.asked mid.store.disk) (g.asked new.store.disk) shown asks.once);
+          store = subst P moves.store (asks_wider g _ (W mid.store) (disk_of mid.store) (disk_of new.store) shown asks.store);
+          once = subst Q moves.store (once_wider _ (W mid.store) (g.asked (disk_of mid.store)) (g.asked (disk_of new.store)) shown asks.once);
           swap = asks_slots_then h (RunsOut (picture_of mid) pid page access) old mid new None its (IsSectorOfItsSlot (picture_of mid) pid page)
               (asks_slots_if h out old mid None its (λ full. out_after (inl full)) (asks_slots_wider h old mid None Nothing its (λ k no_sector. absurd no_sector) first))
               (no_new_wider (picture_of old) (picture_of mid) None its none) out_before asks.swap its_before;

@@ -20,7 +20,7 @@ module _ {mode : ℕ} where
 module _ {mode : ℕ} where
   -- what is at home is as it is durable
   abbrev pub IsHomeDurable : {D : Type 0} → Ghosts D → D → Picture mode → State → Type 0
-  IsHomeDurable g disk c s = (p : FilePage) → IsPageOf c.files p.file p.page → standing_page (g.content disk) p.file p.page ≡ s.durable p.file p.page
+  IsHomeDurable g disk c s = (p : FilePage) → IsPageOf c.files p.file p.page → standing_page (g.sector_count disk) (g.content disk) p.file p.page ≡ s.durable p.file p.page
 
 page_of_same : {mode : ℕ} (old new : Picture mode) (p : FilePage) → ((f : ℕ) → new.files f ≡ old.files f) → IsPageOf new.files p.file p.page → IsPageOf old.files p.file p.page
 page_of_same old new p files inside = (inside.0, sym (files p.file) ∙ inside.1, inside.2)
@@ -40,7 +40,7 @@ module _ {mode : ℕ} {D : Type 0} (g : Ghosts D) (before after : D) (W : PageKe
   held_now shows p bytes is (Comes f read e among here untouched from) =
       let same : f ≡ p = (cc) in
       let inside = page_of_same old new p brings.files (fit.places.inside (File p) (held_away new (File p) bytes is)) in
-      shows.clean p untouched inside ∙ sym (homes p inside) ∙ ap (λ x. standing_page (g.content before) x.file x.page) (sym same) ∙ sym (from kept) ∙ same_Some read bytes (sym here ∙ is)
+      shows.clean p untouched inside ∙ sym (homes p inside) ∙ ap (λ x. standing_page (g.sector_count before) (g.content before) x.file x.page) (sym same) ∙ sym (from kept) ∙ same_Some read bytes (sym here ∙ is)
   held_now shows p bytes is (Leaves none untouched) = (cc)
   held_now shows p bytes is (Blank o e among here untouched) = (cc)
 

@@ -1,15 +1,16 @@
 -- How the steps of an access follow one another, and what a page of a file or an object leaves that is brought into memory.
 use Rattle.fault.proofs.{Asking.{asks_swap, no_new_frees}, Names.{◌≡◌, ◌≢◌, ℕ, false, inl, inr, ◌⊎◌, Option, Some, None, Result, Ok, Err, refl, sym, ap, ◌∙◌, subst, arith, ◌+◌, cases_eq, IfOk, IfErr, OnErr, OnOk, FilePage}}
-use Rattle.fault.proofs.Names.{ObjectPage, PageKey, File, Object, zero_page, FrameNo, Stall, SwapDevice, StoreDevice, FileInfo, Ghosts, Touches, Nothing, AsksOnly, FileStore, Directory, IsReadyStore, entry_of, files_of}
+use Rattle.fault.proofs.Names.{ObjectPage, PageKey, File, Object, zero_page, FrameNo, Stall, SwapDevice, StoreDevice, Ghosts, Touches, Nothing, AsksOnly, AnyStore, IsReadyStore, files_of}
 use Rattle.fault.proofs.Names.{IsFull, bytes_of, role_of, Home, Frame, Slot, Place, Core, KeepsRolesBut, ComesIn, IsRefused, UsesSwap, Picture, picture_of, held, bytes_at, is_data, IsFit, Frees, ObtainsCached, KeepsPages, KeepsRest}
 use Rattle.fault.proofs.Names.{AsksSwap, StallCause, HasStallCause, ReadCause, HasReadCause, CountsNothing, ReadsStore, IsRead, KeepsFiles, BringsIn, trees_brought, entries_brought, views_brought, held_else, held_here, cases_page}
 use Rattle.fault.proofs.{Names.{one_frame, one_slot, NamesOnce, once_none, asks_none, asks_wider, asks_then, Swap, IsSectorOfSlot, IsSectorOfFreeSlot}, Steps.{no_table_then, no_table_freed, no_table_trees, rows_then, rows_freed, rows_trees, slotted_then}}
 use Rattle.fault.{proofs.Steps.{slotted_frees, spaces_then, room_then, seen_then, tables_then, bare_then, tables_same, spaces_freed, room_freed, seen_freed, tables_freed, bare_freed, device_then}, specs.Asking.{HasSwappable, MayAsk}}
 use Rattle.fault.proofs.{Names.{false_from_ne_true, ⊎_elim, rules}, Steps.{on_right}}
 use Rattle.fault.specs.{Asking.{AsksIfFull, AsksNoNew, IsSectorOfPage, IsSectorOfStoredPage}, Changes.{AddsNoTable, KeepsSpaces, KeepsTables, KeepsRows, KeepsRoom, KeepsSeen, KeepsBare, KeepsSlotted, Moves, MarksTouched, IsCalm}}
-use Rattle.{fault.specs.{Files.{IsInStore, IsBrought, Stays, Leaves, Comes, Blank, BringsPages, Proceeds, BringsFiles}, PagingIn.{PagesIn}}, file_store.specs.declared.directory.Entry.{Entry}, std.specs.Option.{option_map}}
+use Rattle.fault.specs.{Files.{IsInStore, IsBrought, Stays, Leaves, Comes, Blank, BringsPages, Proceeds, BringsFiles}, PagingIn.{PagesIn}}
 use Rattle.fault.proofs.{Chances.{chance_came}, Names.{IsLeftBut}}
 use Rattle.vm_types.specs.declared.mode.Levels as Levels
+use Rattle.stores.specs.Store.{directory_in, disk_of, files_in}
 
 pub ok_then : (P Q : FrameNo → Type 0) (r : Result FrameNo Stall) → ((n : FrameNo) → P n → Q n) → IfOk r P → IfOk r Q
 ok_then P Q (Ok n) each is = each n is
@@ -79,14 +80,14 @@ module _ {D : Type 0} (g : Ghosts D) where
   touches_none : (d : D) → Touches g Nothing d d
   touches_none d = record { content = λ k. inr refl; unsynced = λ k u. inl u; later = omega arith; moments = λ t c before left. inl left }
 
-  pub reads_none : (old new : FileStore D) → new ≡ old → ReadsStore g old new
+  pub reads_none : (old new : AnyStore D) → new ≡ old → ReadsStore g old new
   reads_none old new same =
-      subst (λ (s : FileStore D). ReadsStore g old s) (sym same) (record {
+      subst (λ (s : AnyStore D). ReadsStore g old s) (sym same) (record {
         size = refl;
         kept = λ k. k;
         failures = omega arith;
-        touches = λ k. touches_none old.disk;
-        directory = refl;
+        touches = λ k. touches_none (disk_of old);
+        same = refl;
       })
 
 module _ {mode : ℕ} {D : Type 0} (g : Ghosts D) where
@@ -178,10 +179,10 @@ module _ {M : Type 0} {m : Levels.Ghosts M} {D : Type 0} (g : Ghosts D) where
     -- what a stall of the swap device's layer is by both devices
     pub cause_of : (old new : Core D E M m) (stall : Stall) → new.store ≡ old.store → StallCause h old new stall → ReadCause g h old new stall
     cause_of old new StoreDevice same c = absurd c
-    cause_of old new stall same c = (c.0, ap (λ s. g.failures s.disk) same, c.1)
+    cause_of old new stall same c = (c.0, ap (λ (s : AnyStore D). g.failures (disk_of s)) same, c.1)
 
     pub causes_of : (old new : Core D E M m) (r : Result FrameNo Stall) → new.store ≡ old.store → HasStallCause h old new r → HasReadCause g h old new r
-    causes_of old new (Ok n) same c = (c.0, ap (λ s. g.failures s.disk) same, c.1)
+    causes_of old new (Ok n) same c = (c.0, ap (λ (s : AnyStore D). g.failures (disk_of s)) same, c.1)
     causes_of old new (Err s) same c = cause_of old new s same c
 
     pub never_store : (Q : Type 0) (old new : Core D E M m) (r : Result FrameNo Stall) → HasStallCause h old new r → IfErr r (λ stall. stall ≡ StoreDevice → Q)
@@ -211,14 +212,10 @@ pub held_marked : {mode : ℕ} (old new : Picture mode) (touched : PageKey) → 
 unfolding held
 held_marked old new touched marks slots p = ap (bytes_at new.frames new.slots) (marks.place p) ∙ held_at old new p (old.place p) refl (marks.place p) (marks.bytes p) slots
 
-info_in : Directory → ℕ → Option FileInfo
-info_in d f = option_map (λ (e : Entry). e.info) (entry_of d f)
-
 module _ {D : Type 0} (g : Ghosts D) where
   -- reading the store changes no file
-  pub files_read : (old new : FileStore D) → ReadsStore g old new → (f : ℕ) → files_of new f ≡ files_of old f
-  unfolding info_in
-  files_read old new reads f = ap (λ d. info_in d f) reads.directory
+  pub files_read : (old new : AnyStore D) → ReadsStore g old new → (f : ℕ) → files_of new f ≡ files_of old f
+  files_read old new reads f = ap (λ k. files_in (directory_in k) f) reads.same
 
 module _ {M : Type 0} {m : Levels.Ghosts M} {D : Type 0} (g : Ghosts D) where
   module _ {E : Type 0} (h : Ghosts E) where
@@ -226,26 +223,26 @@ module _ {M : Type 0} {m : Levels.Ghosts M} {D : Type 0} (g : Ghosts D) where
     pub proceeds_after : (a b c : Core D E M m) → Moves h a b → Proceeds g h b c → Proceeds g h a c
     proceeds_after a b c p q =
         let tables = tables_then (picture_of a) (picture_of b) (picture_of c) p.spaces.root p.tables q.tables in
-        let reads = subst (λ (s : FileStore D). ReadsStore g s c.store) p.store q.reads in
+        let reads = subst (λ (s : AnyStore D). ReadsStore g s c.store) p.store q.reads in
         search (rules, spaces_then, room_then, device_then)
 
     -- or after
     pub proceeds_then : (a b c : Core D E M m) → Proceeds g h a b → Moves h b c → Proceeds g h a c
     proceeds_then a b c p q =
-        let ready = subst (λ (s : FileStore D). IsReadyStore g s) (sym q.store) p.ready in
+        let ready = subst (λ (s : AnyStore D). IsReadyStore g s) (sym q.store) p.ready in
         let tables = tables_then (picture_of a) (picture_of b) (picture_of c) p.spaces.root p.tables q.tables in
-        let reads = subst (λ (s : FileStore D). ReadsStore g a.store s) (sym q.store) p.reads in
+        let reads = subst (λ (s : AnyStore D). ReadsStore g a.store s) (sym q.store) p.reads in
         search (rules, spaces_then, room_then, device_then)
 
     pub proceeds_moves : (a b : Core D E M m) → IsReadyStore g a.store → Moves h a b → Proceeds g h a b
     proceeds_moves a b ready q =
-        let ready = subst (λ (s : FileStore D). IsReadyStore g s) (sym q.store) ready in
+        let ready = subst (λ (s : AnyStore D). IsReadyStore g s) (sym q.store) ready in
         let reads = reads_none g a.store b.store q.store in
         search rules
 
     -- a stall after a step in which neither device failed and no frame was refused
     pub cause_then : (a b c : Core D E M m) (stall : Stall) → h.failures b.swap.pages.disk ≡ h.failures a.swap.pages.disk → b.refused.number ≡ a.refused.number
-        → g.failures b.store.disk ≡ g.failures a.store.disk → ReadCause g h b c stall → ReadCause g h a c stall
+        → g.failures (disk_of b.store) ≡ g.failures (disk_of a.store) → ReadCause g h b c stall → ReadCause g h a c stall
     cause_then a b c SwapDevice swap_calm same calm x = (x.0 ∙ same, x.1 ∙ calm, (let m = x.2 in omega (arith, swap_calm, m)))
     cause_then a b c StoreDevice swap_calm same calm x = (x.0 ∙ same, (let m = x.1 in omega (arith, calm, m)), x.2 ∙ swap_calm)
     cause_then a b c stall swap_calm same calm x = (x.0 ∙ ap (λ n. n + 1) same, x.1 ∙ calm, x.2 ∙ swap_calm)
@@ -256,11 +253,11 @@ module _ {M : Type 0} {m : Levels.Ghosts M} {D : Type 0} (g : Ghosts D) where
 
     -- nor where one entry changed
     pub counts_calm : (a b : Core D E M m) (pid page : ℕ) → IsCalm a b pid page → CountsNothing g h a b
-    counts_calm a b pid page calm = (calm.refused, ap (λ s. g.failures s.disk) calm.store, ap (λ s. h.failures s.pages.disk) calm.swap)
+    counts_calm a b pid page calm = (calm.refused, ap (λ (s : AnyStore D). g.failures (disk_of s)) calm.store, ap (λ s. h.failures s.pages.disk) calm.swap)
 
     -- nor where a frame was had, and the store was left alone
     pub counts_done : (a b : Core D E M m) (r : Result FrameNo Stall) → b.store ≡ a.store → HasStallCause h a b r → OnOk r (CountsNothing g h a b)
-    counts_done a b (Ok n) same done = (done.0, ap (λ s. g.failures s.disk) same, done.1)
+    counts_done a b (Ok n) same done = (done.0, ap (λ (s : AnyStore D). g.failures (disk_of s)) same, done.1)
     counts_done a b (Err s) same done = tt
 
 pub on_ok_then : (P Q : Type 0) (r : Result FrameNo Stall) → (P → Q) → OnOk r P → OnOk r Q
@@ -277,11 +274,11 @@ module _ {M : Type 0} {m : Levels.Ghosts M} {D E : Type 0} (h : Ghosts E) where
 
 -- the store is as it was
 module _ {D : Type 0} (g : Ghosts D) where
-  pub store_same : (W : ℕ → Type 0) (old new : FileStore D) → new ≡ old → AsksOnly g W old.disk new.disk
-  store_same W old new same = asks_none g W old.disk new.disk (λ k. ap (λ (s : FileStore D). g.asked s.disk k) same)
+  pub store_same : (W : ℕ → Type 0) (old new : AnyStore D) → new ≡ old → AsksOnly g W (disk_of old) (disk_of new)
+  store_same W old new same = asks_none g W (disk_of old) (disk_of new) (λ k. ap (λ (s : AnyStore D). g.asked (disk_of s) k) same)
 
-  pub once_same : (W : ℕ → Type 0) (old new : FileStore D) → new ≡ old → NamesOnce W (g.asked old.disk) (g.asked new.disk)
-  once_same W old new same = once_none W (g.asked old.disk) (g.asked new.disk) (λ k. ap (λ (s : FileStore D). g.asked s.disk k) same)
+  pub once_same : (W : ℕ → Type 0) (old new : AnyStore D) → new ≡ old → NamesOnce W (g.asked (disk_of old)) (g.asked (disk_of new))
+  once_same W old new same = once_none W (g.asked (disk_of old)) (g.asked (disk_of new)) (λ k. ap (λ (s : AnyStore D). g.asked (disk_of s) k) same)
 
 cases_slot : (y : Place) (s : ℕ) → (y ≡ Slot (record { 0 = s })) ⊎ (y ≢ Slot (record { 0 = s }))
 cases_slot (Slot k) s = ⊎_elim (λ e. inl (ap (λ x. Slot (record { 0 = x })) e)) (λ ne. inr (λ e. ne (one_slot k.0 s e))) (cases_eq k.0 s)
@@ -339,7 +336,7 @@ module _ {M : Type 0} {m : Levels.Ghosts M} {D E : Type 0} (g : Ghosts D) (h : G
       let placed = placed_in comes in
       let only = only_in comes in
       let chance = chance_came before after page r comes.brought aged in
-      let ready = subst (λ (s : FileStore D). IsReadyStore g s) (sym rest.store) store in
+      let ready = subst (λ (s : AnyStore D). IsReadyStore g s) (sym rest.store) store in
       let reads = reads_none g before.store after.store rest.store in
       let asks_store = store_same g (IsSectorOfStoredPage before.store page) before.store after.store rest.store in
       let once_store = once_same g (IsSectorOfStoredPage before.store page) before.store after.store rest.store in

@@ -1,18 +1,19 @@
 -- An access goes on after the tables on its way were linked, or after the file page of its page was brought into a frame.
 use Rattle.fault.proofs.Names.{top_level, Access, PageKey, FrameNo, Stall, StoreDevice, File, Attr, Backing, Shared, is_past_end_of, is_past_end, ◌≡◌, ◌≢◌, ℕ, false, inl, inr, ◌⊎◌, None, Result, Ok, Err, sym, ◌∙◌, subst}
-use Rattle.fault.proofs.Names.{true, Some, ap, false≢true, IfErr, IfOk, Ghosts, FileStore, IsPage, Frame, Core, Picture, picture_of, held, entry, IsFit, Frees, Refuses, UsesDevice, KeepsPages, HasStallCause, ReadCause, StallCause, IsShort}
+use Rattle.fault.proofs.Names.{true, Some, ap, false≢true, IfErr, IfOk, Ghosts, AnyStore, IsPage, Frame, Core, Picture, picture_of, held, entry, IsFit, Frees, Refuses, UsesDevice, KeepsPages, HasStallCause, ReadCause, StallCause, IsShort}
 use Rattle.vm_types.specs.declared.region.Backing.TheVariants.{Private}
 use Rattle.fault.specs.{Changes.{IsCalm, KeepsSeen, KeepsSpaces, KeepsBare, LinksTables, Moves}, Files.{BringsPages, BringsFiles, IsInStore}, Outcome.{IsStalled}, Wants.{ShowsFile, Wants, ReadsHome, LacksTable, ForTable}, Found.{IsOpenTo}}
 use Rattle.fault.{specs.Granted.{IsReadyAt}, proofs.{Steps.{seen_then, files_same}, Wanted.{nowhere_keeps, unlinked_keeps, page_there, there_or, reads_home, whole_or, shows_back}}}
 use Rattle.fault.proofs.{SwapSteps.{zero_here}, Names.{⊎_elim, otherwise, GivesForTables, is_swapped, IsWhole, page_entry-missing, entry-of}, AccessSteps.{brings_after, brings_then, cause_then, no_store, cause_of, keeps_seen}, Settled.{ready_after}}
 use Rattle.vm_types.specs.declared.mode.Levels as Levels
+use Rattle.stores.specs.Store.{disk_of}
 
 -- The file page of its page was brought into a frame.
 module _ {M : Type 0} {m : Levels.Ghosts M} {D E : Type 0} (old mid : Core D E M m) (pid page : ℕ) (p : PageKey) (shows : ShowsFile (picture_of old) pid page p) where
   only : (q : PageKey) → q ≡ p → ShowsFile (picture_of old) pid page q
   only q is = let P : PageKey → Type 0 = λ x. ShowsFile (picture_of old) pid page x in subst P (sym is) shows
 
-  pub read_then : (new : FileStore D) → IsFit (picture_of old) → new ≡ mid.store → (mid.store ≡ old.store) ⊎ IsInStore (picture_of old) p
+  pub read_then : (new : AnyStore D) → IsFit (picture_of old) → new ≡ mid.store → (mid.store ≡ old.store) ⊎ IsInStore (picture_of old) p
       → (new ≡ old.store) ⊎ ReadsHome (picture_of old) pid page
   read_then new fit same (inl e) = inl (same ∙ e)
   read_then new fit same (inr home) = inr (reads_home (picture_of old) pid page p fit shows home)
@@ -33,7 +34,7 @@ module _ {M : Type 0} {m : Levels.Ghosts M} {D E : Type 0} (old mid : Core D E M
     pub brings_wider : BringsFiles g h (λ q. q ≡ p) old mid → BringsFiles g h (ShowsFile (picture_of old) pid page) old mid
     brings_wider brings kept =
         let W : PageKey → Type 0 = λ q. q ≡ p in
-        brings_after g old.store.disk mid.store.disk W (ShowsFile (picture_of old) pid page) (picture_of old) (picture_of old) (picture_of mid) only (files_same (picture_of old)) (brings kept)
+        brings_after g (disk_of old.store) (disk_of mid.store) W (ShowsFile (picture_of old) pid page) (picture_of old) (picture_of old) (picture_of mid) only (files_same (picture_of old)) (brings kept)
 
     -- no other came after it
     pub brings_on : (new : Core D E M m) → BringsFiles g h (λ q. q ≡ p) old mid → KeepsSeen (picture_of old) (picture_of mid) → new.store ≡ mid.store → UsesDevice h mid.swap.pages.disk new.swap.pages.disk
@@ -42,8 +43,8 @@ module _ {M : Type 0} {m : Levels.Ghosts M} {D E : Type 0} (old mid : Core D E M
     brings_on new brings keeps same device each files kept =
         let W : PageKey → Type 0 = λ q. q ≡ p in
         let V = ShowsFile (picture_of old) pid page in
-        subst (λ (s : FileStore D). BringsPages g old.store.disk s.disk V (picture_of old) (picture_of new)) (sym same)
-        (brings_then g old.store.disk mid.store.disk W V (picture_of old) (picture_of mid) (picture_of new) only keeps.touched (brings (device.kept kept)) each files)
+        subst (λ (s : AnyStore D). BringsPages g (disk_of old.store) (disk_of s) V (picture_of old) (picture_of new)) (sym same)
+        (brings_then g (disk_of old.store) (disk_of mid.store) W V (picture_of old) (picture_of mid) (picture_of new) only keeps.touched (brings (device.kept kept)) each files)
 
     -- it wasn't brought
     pub stalled_away : (access : Access) (stall : Stall) → IsFit (picture_of old) → KeepsSeen (picture_of old) (picture_of mid) → ((n : FrameNo) → (picture_of old).place p ≡ Frame n → ⊥)
@@ -60,7 +61,7 @@ module _ {M : Type 0} {m : Levels.Ghosts M} {D E : Type 0} (old mid : Core D E M
 
     -- or a frame was refused afterwards
     pub stalled_on : (new : Core D E M m) (access : Access) (r : Result FrameNo Stall) → ((n : FrameNo) → (picture_of old).place p ≡ Frame n → mid ≡ old) → KeepsSeen (picture_of old) (picture_of mid)
-        → h.failures mid.swap.pages.disk ≡ h.failures old.swap.pages.disk → mid.refused.number ≡ old.refused.number → g.failures mid.store.disk ≡ g.failures old.store.disk
+        → h.failures mid.swap.pages.disk ≡ h.failures old.swap.pages.disk → mid.refused.number ≡ old.refused.number → g.failures (disk_of mid.store) ≡ g.failures (disk_of old.store)
         → HasStallCause h mid new r → IfErr r (IsStalled g h mid new pid page access) → IfErr r (IsStalled g h old new pid page access)
     stalled_on new access (Ok n) idle keeps swap_calm same calm cause stalled = tt
     stalled_on new access (Err s) idle keeps swap_calm same calm cause stalled = record {
@@ -120,7 +121,7 @@ module _ {M : Type 0} {m : Levels.Ghosts M} {D E : Type 0} (old mid : Core D E M
   })
 
   pub read_back : IsWhole (picture_of mid) pid page → GivesForTables (picture_of old) (picture_of mid) None → LinksTables (picture_of old) (picture_of mid) pid page
-      → (new : FileStore D) → mid.store ≡ old.store → (new ≡ mid.store) ⊎ ReadsHome (picture_of mid) pid page → (new ≡ old.store) ⊎ ReadsHome (picture_of old) pid page
+      → (new : AnyStore D) → mid.store ≡ old.store → (new ≡ mid.store) ⊎ ReadsHome (picture_of mid) pid page → (new ≡ old.store) ⊎ ReadsHome (picture_of old) pid page
   read_back linked gives tables new same (inl e) = inl (e ∙ same)
   read_back linked gives tables new same (inr home) = inr (home_back linked gives tables home)
 
@@ -139,15 +140,15 @@ module _ {M : Type 0} {m : Levels.Ghosts M} {D E : Type 0} (old mid : Core D E M
     brings_back new brings kept =
         let W = ShowsFile (picture_of mid) pid page in
         let V = ShowsFile (picture_of old) pid page in
-        subst (λ (s : FileStore D). BringsPages g s.disk new.store.disk V (picture_of old) (picture_of new)) moves.store
-        (brings_after g mid.store.disk new.store.disk W V (picture_of old) (picture_of mid) (picture_of new) shows_before pages.files (brings kept))
+        subst (λ (s : AnyStore D). BringsPages g (disk_of s) (disk_of new.store) V (picture_of old) (picture_of new)) moves.store
+        (brings_after g (disk_of mid.store) (disk_of new.store) W V (picture_of old) (picture_of mid) (picture_of new) shows_before pages.files (brings kept))
 
     pub stalled_back : IsWhole (picture_of mid) pid page → GivesForTables (picture_of old) (picture_of mid) None → LinksTables (picture_of old) (picture_of mid) pid page → (new : Core D E M m) (access : Access) (r : Result FrameNo Stall) → mid.refused.number ≡ old.refused.number → h.failures mid.swap.pages.disk ≡ h.failures old.swap.pages.disk
         → IfErr r (IsStalled g h mid new pid page access) → IfErr r (IsStalled g h old new pid page access)
     stalled_back linked gives tables new access (Ok n) same swap_calm stalled = tt
     stalled_back linked gives tables new access (Err s) same swap_calm stalled = record {
       keeps = seen_then (picture_of old) (picture_of mid) (picture_of new) (keeps_seen (picture_of old) (picture_of mid) pages) stalled.keeps;
-      cause = cause_then g h old mid new s swap_calm same (ap (λ s. g.failures s.disk) moves.store) stalled.cause;
+      cause = cause_then g h old mid new s swap_calm same (ap (λ (s : AnyStore D). g.failures (disk_of s)) moves.store) stalled.cause;
       short = stalled.short;
       refused = stalled.refused;
       wanted = wants_back access stalled.wanted;

@@ -1,6 +1,7 @@
 -- What the proofs of this crate cite of the crates below it and of the standard library: `use Rattle.fault.proofs.Names.{..}`.
-pub use Rattle.{disk_model.{proofs.{Moments.{asks_once, asks_wider, asks_none, asks_then}, Naming.{once_none, once_wider}}, specs.{Moments.{Nothing, AsksOnly, Touches}, Stop.{NamesOnce}, declared.sector_disk.SectorDisk.{Ghosts}}}, file_store.specs.Standing.{standing_page, IsPageOf, AreBounded}}
-pub use Rattle.{file_store.specs.{Store.{IsSectorOf, IsReadyStore, entry_of, files_of}, declared.{directory.Directory.{Directory}, store.FileStore.{FileStore}}}, frames.proofs.FrameLemmas.{with_bytes-same, with_bytes-others}}
+pub use Rattle.disk_model.{proofs.{Moments.{asks_once, asks_wider, asks_none, asks_then}, Naming.{once_none, once_wider}}, specs.{Moments.{Nothing, AsksOnly, Touches}, Stop.{NamesOnce}, declared.sector_disk.SectorDisk.{Ghosts}}}
+pub use Rattle.{stores.specs.{Images.{standing_page}, Store.{IsSectorOf, IsReadyStore, files_of}, declared.store.Store.{Store as AnyStore}}, file_store.specs.Standing.{IsPageOf, AreBounded}}
+pub use Rattle.frames.proofs.FrameLemmas.{with_bytes-same, with_bytes-others}
 pub use Rattle.frames.specs.{FrameTable.{IsFull, frame_count, bytes_of, role_of, IsSound, count_of, IsFrame, FrameTable, Releases, is_handed_out, IsHeld, with_bytes, Takes, SameButFor}, declared.role.Role.{Role, TheVariants.{Private}}}
 pub use Rattle.{frames.specs.declared.role.Role.TheVariants.{Free, Table, Cache}, memory.proofs.Walks.{translated-entry}, page_cache.specs.{CacheTable.{is_touched, place_of}, declared.place.Place.{Place, TheVariants.{Frame, Home, Slot}}}}
 pub use Rattle.page_tables.proofs.{Pruning.{otherwise}, Bits.{over_some, parked_framed, parked_invalid}, Data.{KeepsTrees}, Ends.{page_entry-missing, missing_of-is, way_forth, page_is_entry}, Linking.{empty_last}, Places.{row_same}, Ways.{ends}}

@@ -9,6 +9,7 @@ use Rattle.fault.specs.{Leaves.{IsFullEntry}, SpotServing.{MayServeAt}, Wants.{S
 use Rattle.vm_types.specs.declared.mode.Levels as Levels
 use Rattle.fault.specs.declared.refusal.AccessRefusal.TheVariants as Refusal
 use Rattle.fault.proofs.Chances.{others_same}
+use Rattle.stores.specs.Store.{disk_of}
 
 module _ {M : Type 0} {m : Levels.Ghosts M} {D E : Type 0} (g : Ghosts D) (h : Ghosts E) where
   -- nothing changed
@@ -17,7 +18,7 @@ module _ {M : Type 0} {m : Levels.Ghosts M} {D E : Type 0} (g : Ghosts D) (h : G
       let c : Picture m.mode = picture_of core in
       record {
         proceeds = proceeds_moves g h core core store (moves_none h core fit swap);
-        brings = λ kept. brings_none g core.store.disk core.store.disk (ShowsFile c pid page) c c (files_same c);
+        brings = λ kept. brings_none g (disk_of core.store) (disk_of core.store) (ShowsFile c pid page) c c (files_same c);
         others = λ q k other. refl;
         slotted = slotted_same (ShowsFile c pid page) (IsThatPage pid page) c;
         calm = λ none. calm_same core pid page;
@@ -32,7 +33,7 @@ module _ {M : Type 0} {m : Levels.Ghosts M} {D E : Type 0} (g : Ghosts D) (h : G
       → Tends g h old new pid page access
   tends_entered old new pid page access store swap enters files = record {
     proceeds = proceeds_moves g h old new store (moves_entered h old new pid page swap enters);
-    brings = λ kept. brings_none g old.store.disk new.store.disk (ShowsFile (picture_of old) pid page) (picture_of old) (picture_of new) files;
+    brings = λ kept. brings_none g (disk_of old.store) (disk_of new.store) (ShowsFile (picture_of old) pid page) (picture_of old) (picture_of new) files;
     others = λ q k other. enters.views q k;
     slotted = slotted_calm (ShowsFile (picture_of old) pid page) old new pid page enters.calm;
     calm = λ none. enters.calm;
@@ -49,7 +50,7 @@ module _ {M : Type 0} {m : Levels.Ghosts M} {D E : Type 0} (g : Ghosts D) (h : G
       → AddsNoTable (picture_of old) (picture_of new) → Tends g h old new pid page access
   tends_moved old new pid page access keep few store moves files others slotted calm less asks none = record {
     proceeds = proceeds_moves g h old new store moves;
-    brings = λ kept. brings_none g old.store.disk new.store.disk (ShowsFile (picture_of old) pid page) (picture_of old) (picture_of new) files;
+    brings = λ kept. brings_none g (disk_of old.store) (disk_of new.store) (ShowsFile (picture_of old) pid page) (picture_of old) (picture_of new) files;
     others = others;
     slotted = slotted_own (picture_of old) (picture_of new) pid page slotted;
     calm = calm;

@@ -2,7 +2,7 @@
 use Rattle.fault.proofs.{AccessSteps.{untouched_home}, Forms.{mapped_page}, Names.{top_level, widest_end, Access, Store, FrameNo, PageKey, File, Object, Attr, Backing, Anon, Common, stands_on, Phys, Code, Width, Fine}}
 use Rattle.fault.proofs.Names.{true_from_ne_false, leb-false, ⊎_elim, Faults, is_past_end, FileInfo, ObjectPage, is_object_page, names, is_past_end_of, ◌≡◌, ◌≢◌, ℕ, inl, inr, true, false, Some, None, refl, sym, ap, ◌∙◌, Result, Ok, Err}
 use Rattle.fault.proofs.Names.{◌⊎◌, Option, subst, ◌*◌, ◌<◌, arith, eq-eqb, cases_Bool, cases_eq, false≢true, same_Some, bytes_of, IsPage, missing_of, Place, Home, Frame, Slot, InFrame, InSlot, seat, is_private, is_swapped, Picture, entry}
-use Rattle.fault.proofs.{Names.{IsFit, IsBehind, is_shared, IsPageFor, Frees, IsWhole, Core, seat_own, seat_common, seat_away, IsErrAnd, Ghosts, translated, sizes, named-at}, OwnSteps.{shown_own, shown_behind}}
+use Rattle.fault.proofs.{Names.{IsFit, IsBehind, is_shared, IsPageFor, Frees, IsWhole, Core, seat_own, seat_common, seat_away, IsErrAnd, translated, sizes, named-at}, OwnSteps.{shown_own, shown_behind}}
 use Rattle.fault.{proofs.{Ready.{page_user, behind_place, one_place}, Settled.{none_same}, Steps.{linked_kept, on_right}}, specs.Changes.{IsLinked, KeepsSeen, KeepsSpaces, KeepsTables, KeepsViews, copied_frame, shown_frame, IsCalm, is_sole}}
 use Rattle.{fault.specs.{Files.{IsInStore}, Outcome.{verdict_of, IsPlaced, IsWalked}, Wants.{HoldsShown, KeepsOwnFrame, ShowsFile, LacksTable, Wants, ForFile, ForStore, ReadsHome}}, std.proofs.Common.{is_some}}
 use Rattle.vm_types.specs.declared.mode.Levels as Levels

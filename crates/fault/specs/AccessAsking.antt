@@ -8,7 +8,7 @@ use Rattle.vm_types.specs.declared.object.PageKey.TheVariants.{File}
 use Rattle.disk_model.specs.declared.sector_disk.SectorDisk.{Ghosts}
 use Rattle.disk_model.specs.Moments.{AsksOnly}
 use Rattle.disk_model.specs.Stop.{NamesOnce}
-use Rattle.file_store.specs.Store.{IsSectorOf}
+use Rattle.stores.specs.Store.{IsSectorOf, disk_of}
 use Rattle.residency.specs.declared.kernel.Core.{Core}
 use Rattle.residency.specs.Picture.{Picture, picture_of}
 use Rattle.fault.specs.Asking.{AsksSlotsIf, IsSectorOfCopy, IsSectorOfPage}
@@ -28,8 +28,8 @@ module _ {M : Type 0} {m : Levels.Ghosts M} {D E : Type 0} (g : Ghosts D) (h : G
   -- Which sectors an access to a page asks for, of both devices.
   pub record AsksForPage (old new : Core D E M m) (pid page : ℕ) (access : Access) : Type 0 where
     -- of the store those of the file page that it shows, each of them once at most
-    pub store : AsksOnly g (IsSectorShown old pid page) old.store.disk new.store.disk
-    pub once : NamesOnce (IsSectorShown old pid page) (g.asked old.store.disk) (g.asked new.store.disk)
+    pub store : AsksOnly g (IsSectorShown old pid page) (disk_of old.store) (disk_of new.store)
+    pub once : NamesOnce (IsSectorShown old pid page) (g.asked (disk_of old.store)) (g.asked (disk_of new.store))
     -- of swap those of the slot that its page lies in, and those of free slots, which only where a frame has to be given up, and one may
     -- be that needs a slot
     pub swap : AsksSlotsIf h (RunsOut (picture_of old) pid page access) old new None (IsSectorOfItsSlot (picture_of old) pid page)

@@ -7,7 +7,7 @@ use Rattle.vm_types.specs.declared.object.PageKey.{PageKey}
 use Rattle.vm_types.specs.declared.object.PageKey.TheVariants.{File, Object}
 use Rattle.vm_types.specs.View.{zero_page}
 use Rattle.disk_model.specs.declared.sector_disk.SectorDisk.{Ghosts}
-use Rattle.file_store.specs.Store.{IsReadyStore}
+use Rattle.stores.specs.Store.{IsReadyStore, disk_of}
 use Rattle.swap.specs.Slots.{IsReady}
 use Rattle.page_cache.specs.declared.place.Place.TheVariants.{Home}
 use Rattle.residency.specs.declared.kernel.Core.{Core}
@@ -50,4 +50,4 @@ module _ {M : Type 0} {m : Levels.Ghosts M} {D : Type 0} (g : Ghosts D) where
 
     -- as long as the swap device keeps its model
     abbrev pub BringsFiles : (PageKey → Type 0) → Core D E M m → Core D E M m → Type 0
-    BringsFiles W old new = h.keeps_model new.swap.pages.disk → BringsPages g old.store.disk new.store.disk W (picture_of old) (picture_of new)
+    BringsFiles W old new = h.keeps_model new.swap.pages.disk → BringsPages g (disk_of old.store) (disk_of new.store) W (picture_of old) (picture_of new)

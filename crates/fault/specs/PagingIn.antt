@@ -9,7 +9,7 @@ use Rattle.disk_model.specs.declared.sector_disk.SectorDisk.{Ghosts}
 use Rattle.disk_model.specs.Moments.{AsksOnly}
 use Rattle.disk_model.specs.Stop.{NamesOnce}
 use Rattle.frames.specs.FrameTable.{IsFull}
-use Rattle.file_store.specs.Store.{IsReadyStore}
+use Rattle.stores.specs.Store.{IsReadyStore, disk_of}
 use Rattle.page_cache.specs.declared.place.Place.TheVariants.{Frame}
 use Rattle.swap.specs.Slots.{IsReady}
 use Rattle.residency.specs.declared.kernel.Core.{Core}
@@ -54,8 +54,8 @@ module _ {M : Type 0} {m : Levels.Ghosts M} {D E : Type 0} (g : Ghosts D) (h : G
     -- page's, now or by who goes on, but swap for those of free slots where no frame is free;
     pub read : (new.store ≡ old.store) ⊎ IsInStore (picture_of old) page
     pub asks : AsksIfFull h old new None (IsSectorOfPage (picture_of old) page)
-    pub asks_store : AsksOnly g (IsSectorOfStoredPage old.store page) old.store.disk new.store.disk
-    pub once_store : NamesOnce (IsSectorOfStoredPage old.store page) (g.asked old.store.disk) (g.asked new.store.disk)
+    pub asks_store : AsksOnly g (IsSectorOfStoredPage old.store page) (disk_of old.store) (disk_of new.store)
+    pub once_store : NamesOnce (IsSectorOfStoredPage old.store page) (g.asked (disk_of old.store)) (g.asked (disk_of new.store))
     pub asks_later : IfOk result (λ n. AsksNoNew (picture_of old) (picture_of new) (Some n) (IsSectorOfPage (picture_of old) page))
     -- a stall has its cause: a device failed, or none of the frames that were left could be had.
     pub cause : HasReadCause g h old new result

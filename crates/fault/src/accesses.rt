@@ -1,6 +1,6 @@
 //! Accesses.
 ghost use Rattle.std.specs.Prelude.{◌≡◌, true};
-ghost use Rattle.file_store.specs.Store.{IsReadyStore};
+ghost use Rattle.stores.specs.Store.{IsReadyStore};
 ghost use Rattle.swap.specs.Slots.{IsReady};
 ghost use Rattle.residency.specs.Picture.{picture_of, is_live};
 ghost use Rattle.residency.specs.Parts.{IsFit};

@@ -1,31 +1,26 @@
 -- What a stop leaves while a store is made: all but the mark is written and synced, and then the mark.
 use Rattle.file_store.proofs.{Blocks.{single_paired}, Images.{sector_kind, is_some_mark}, Names.{◌≡◌, ◌⊎◌, ◌+◌, ◌<◌, ◌≤◌, ℕ, ⊎_elim, inl, inr, List, length, Option, sym, ap, subst, ◌∙◌, arith, Image, MayLeave, Touches, LeavesOnly, Ghosts}}
 use Rattle.file_store.{proofs.{Names.{started, goes_on, kind_of, kind_homes, kind_home, kind_home_count, Journals, Single, Paired}, NewStores.{cut_moves, unmarked_moves, store_if_marked}}, specs.Format.{total_pages, first_home, page_given}}
-use Rattle.file_store.specs.{Format.{IsFrom, IsMarkSector, IsTableSector, IsDirectoryOf, HoldsFiles, HasTables, IsStoreOf, IsUnmarkedStoreOf, IsKindlessStoreOf}, Layout.{turn_mark, IsMark, bytes_inside}, Versions.{version_at, version_of}}
-use Rattle.file_store.specs.{Versions.{mark_of}, declared.sources.FileSource.{FileSource}}
+use Rattle.file_store.specs.{Format.{IsFrom, IsMarkSector, IsTableSector, IsDirectoryOf, HoldsFiles, HasTables, IsStoreOf, IsStoreIfMarked, IsUnmarkedStoreOf, IsKindlessStoreOf}, Layout.{turn_mark, IsMark, bytes_inside}}
+use Rattle.file_store.specs.{Versions.{version_at, version_of, mark_of}, declared.sources.FileSource.{FileSource}}
 
--- whatever such an image is, if it has the mark
-module _ {D : Type 0} (g : Ghosts D) (Whole : Image → Type 0) (old : D)
+-- an image without a mark has P
+module _ {D : Type 0} (g : Ghosts D) (P : Image → Type 0) (lacks : (c : Image) → (IsMark (c 0) → ⊥) → P c) (old : D)
     (only_now : (c : Image) → g.left_since old (g.moment old) c → MayLeave (g.content old) (g.unsynced old) c)
     (synced : (k : ℕ) → g.unsynced old k → ⊥) (unmarked : IsMark (g.content old 0) → ⊥) where
-  abbrev pub IfMarked : Image → Type 0
-  IfMarked image = image 0 ≡ mark_of (version_of image) → Whole image
+  -- as long as sector 0 is not written, no image has a mark
+  lacks_mark : (c : Image) → MayLeave (g.content old) (λ k. g.unsynced old k ⊎ IsFrom 1 k) c → P c
+  lacks_mark c may = lacks c (λ marked. ⊎_elim (⊎_elim (λ u. synced 0 u) (λ behind. omega (arith, behind))) (λ same. unmarked (subst IsMark same marked)) (may.kept 0))
 
-  -- as long as sector 0 is not written, no image has the mark
-  lacks_mark : (c : Image) → MayLeave (g.content old) (λ k. g.unsynced old k ⊎ IsFrom 1 k) c → IfMarked c
-  lacks_mark c may = λ marked. ⊎_elim (⊎_elim (λ u. absurd (synced 0 u)) (λ behind. absurd (omega (arith, behind))))
-      (λ same. absurd (unmarked (subst IsMark (sym marked ∙ same) (is_some_mark (version_of c))))) (may.kept 0)
-
-  pub while_unmarked : (new : D) → Touches g (IsFrom 1) old new → LeavesOnly g old new IfMarked
-  while_unmarked new run = goes_on g (IsFrom 1) old old new IfMarked
-      (started g old IfMarked only_now
-      (λ c may. lacks_mark c (record { kept = λ k. ⊎_elim (λ u. inl (inl u)) (λ e. inr e) (may.kept k) })))
+  pub while_unmarked : (new : D) → Touches g (IsFrom 1) old new → LeavesOnly g old new P
+  while_unmarked new run = goes_on g (IsFrom 1) old old new P
+      (started g old P only_now (λ c may. lacks_mark c (record { kept = λ k. ⊎_elim (λ u. inl (inl u)) (λ e. inr e) (may.kept k) })))
       run lacks_mark
 
   -- and then all but the mark is synced
   pub while_marking : (mid new : D) → Touches g (IsFrom 1) old mid → ((k : ℕ) → g.unsynced mid k → ⊥)
-      → ((c : Image) → ((k : ℕ) → 1 ≤ k → c k ≡ g.content mid k) → c 0 ≡ mark_of (version_of c) → Whole c) → Touches g IsMarkSector mid new → LeavesOnly g old new IfMarked
-  while_marking mid new run mid_synced whole marks = goes_on g IsMarkSector old mid new IfMarked (while_unmarked mid run) marks
+      → ((c : Image) → ((k : ℕ) → 1 ≤ k → c k ≡ g.content mid k) → P c) → Touches g IsMarkSector mid new → LeavesOnly g old new P
+  while_marking mid new run mid_synced whole marks = goes_on g IsMarkSector old mid new P (while_unmarked mid run) marks
       (λ c may. whole c (λ k behind. ⊎_elim (⊎_elim (λ u. absurd (mid_synced k u)) (λ at. absurd (omega (arith, behind, at)))) (λ same. same) (may.kept k)))
 
 -- with the mark written last it is whole
@@ -37,11 +32,16 @@ marked_whole g Whole kind mid new whole known marks marked = whole (g.content ne
     same : (k : ℕ) → 1 ≤ k → g.content new k ≡ g.content mid k
     same k behind = ⊎_elim (λ at. absurd (omega (arith, behind, at))) (λ e. e) (marks.content k)
 
--- a new store with the mark
+-- without a mark it is no store
+pub no_store : {R : Type 0} (kind : Journals) (remaining : R → Option (List ℕ)) (sectors : ℕ) (sources : List (FileSource R)) (c : Image) → (IsMark (c 0) → ⊥) → IsStoreIfMarked kind remaining sectors sources c
+no_store kind remaining sectors sources c none = record { store = λ marked. absurd (none (subst IsMark (sym marked) (is_some_mark (version_of c)))); made = λ marked. absurd (none marked) }
+
+-- a new store, whatever its sector 0 reads
 pub store_whole : {R : Type 0} (kind : Journals) (remaining : R → Option (List ℕ)) (sectors : ℕ) (sources : List (FileSource R)) (mid : Image) → IsUnmarkedStoreOf kind remaining sources mid
-    → kind_homes kind ≤ sectors → total_pages sources ≤ kind_home_count kind sectors → (c : Image) → ((k : ℕ) → 1 ≤ k → c k ≡ mid k) → c 0 ≡ mark_of (version_of c) → IsStoreOf kind remaining sectors sources c
-store_whole kind remaining sectors sources mid all room fit c same marked =
-    store_if_marked kind remaining sources sectors c room fit (unmarked_moves kind remaining sources mid c same all) marked
+    → kind_homes kind ≤ sectors → total_pages sources ≤ kind_home_count kind sectors → (c : Image) → ((k : ℕ) → 1 ≤ k → c k ≡ mid k) → IsStoreIfMarked kind remaining sectors sources c
+store_whole kind remaining sectors sources mid all room fit c same =
+    let moved = unmarked_moves kind remaining sources mid c same all in
+    record { store = λ marked. store_if_marked kind remaining sources sectors c room fit moved marked; made = λ _. moved }
 
 -- directory, gate and first map of layout 3 lie between the block of the mark and the homes
 pub table_between : (k : ℕ) → IsTableSector Paired k → (8 ≤ k) × (k < 25)

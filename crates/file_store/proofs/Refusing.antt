@@ -1,8 +1,9 @@
 -- Why an upgrade is refused.
 use Rattle.file_store.proofs.{Causes.{is_this, same_Err}, Marking.{LeavesNoPart}, Names.{◌≡◌, ◌⊎◌, ◌≤◌, ℕ, Result, Err, inl, inr, refl, ⊎_elim, sym, ap, subst, ◌∙◌, arith, IsErrAnd, IsErrOf, Image, Nothing, Touches, AsksOnly, Ghosts}}
-use Rattle.file_store.{proofs.Names.{Journals, NamesOnce, asks_once, RunsOnDevice}, specs.{Faults.{old_fault}, Layout.{IsMark}, Standing.{IsBadOldLayout, IsBadOldJournal}, Store.{entry_of}, Upgrade.{old_entry, IsTooSmall, IsOldAsked, IsUpgradeSector}}}
-use Rattle.file_store.specs.{Upgrade.{IsUpgradeOf, HasUpgradeCauses, IsTooSmall.{FewSectors, FewHomes}}, Upgraded.{HasRoomFor, HasCheckCauses, UpgradesStore}, declared.{directory.Directory.{Directory}, faults.OpenFault.{OpenFault}}}
-use Rattle.file_store.specs.declared.faults.{OpenFault.TheVariants.{Device, BadJournal}, UpgradeFault.{UpgradeFault, TheVariants.{OldDevice, OldLayout, OldJournal, NewDevice, NewSmall, Formatted}}}
+use Rattle.file_store.{proofs.Names.{Journals, Paired, NamesOnce, asks_once, RunsOnDevice}, specs.{Faults.{old_fault}, Layout.{IsMark}, Standing.{IsBadOldLayout, IsBadOldJournal}, Store.{entry_of}}}
+use Rattle.file_store.specs.{Upgrade.{old_entry, IsTooSmall, IsOldAsked, IsUpgradeSector, IsUpgradeOf, IsUpgradeIfMarked, HasUpgradeCauses, IsTooSmall.{FewSectors, FewHomes}}, Upgraded.{HasRoomFor}}
+use Rattle.file_store.specs.{Upgraded.{HasCheckCauses, UpgradesStore}, declared.{directory.Directory.{Directory}, faults.OpenFault.{OpenFault, TheVariants.{Device, BadJournal}}}}
+use Rattle.file_store.specs.declared.faults.UpgradeFault.{UpgradeFault, TheVariants.{OldDevice, OldLayout, OldJournal, NewDevice, NewSmall, Formatted}}
 
 -- what a fault of the old store is not
 pub of_old : (f : OpenFault) → (old_fault f ≡ NewSmall → ⊥) × (old_fault f ≡ Formatted → ⊥)
@@ -45,7 +46,7 @@ module _ {D E T : Type 0} (g : Ghosts D) (h : Ghosts E) (kind : Journals) (old o
   pub upgrade_refused : (fault : UpgradeFault) (r : Result T UpgradeFault) → IsErrAnd r (λ f. f ≡ fault) → RunsOnDevice g Nothing old old' → h.sector_count new' ≡ h.sector_count new → (h.keeps_model new' → h.keeps_model new)
       → (g.keeps_model old' → NamesOnce (IsOldAsked kind (g.content old)) (g.asked old) (g.asked old')) → (g.keeps_model old' → AsksOnly h (IsUpgradeSector kind (g.content old)) new new')
       → HasUpgradeCauses {T = T} (g.failures old) (g.failures old') (h.failures new) (h.failures new') (Err fault)
-      → (g.keeps_model old' → h.keeps_model new' → LeavesNoPart h kind (λ b. IsUpgradeOf b (g.sector_count old) (h.sector_count new) (g.content old)) new new')
+      → (g.keeps_model old' → h.keeps_model new' → LeavesNoPart h kind (IsUpgradeIfMarked kind (g.sector_count old) (h.sector_count new) (g.content old)) (IsUpgradeOf Paired (g.sector_count old) (h.sector_count new) (g.content old)) new new')
       → (g.keeps_model old' → fault ≡ OldLayout → IsBadOldLayout kind (g.sector_count old) (g.content old))
       → (g.keeps_model old' → IsBadOldLayout kind (g.sector_count old) (g.content old) → (fault ≡ OldLayout) ⊎ (fault ≡ OldDevice))
       → (g.keeps_model old' → fault ≡ OldJournal → IsBadOldJournal kind (g.sector_count old) (g.content old))

@@ -1,12 +1,12 @@
 -- A store made anew in the next layout.
-use Rattle.file_store.proofs.{Blocks.{single_paired}, Formats.{home_stays}, Homes.{entry_behind, one_file}, Images.{sector_kind, kind_closed, kind_not_bad, homes_same, homes_behind, directory_inside, layout_low}, Names.{option_map, ◌≡◌}}
-use Rattle.file_store.proofs.Names.{◌≢◌, ◌⊎◌, ◌+◌, ◌*◌, ◌<◌, ◌≤◌, ℕ, List, Option, Some, None, inl, inr, ⊎_elim, refl, sym, ap, subst, ◌∙◌, arith, FileInfo, Image, joined, part_of, joined-same, joined_parts, sizes_before, kind_of}
-use Rattle.file_store.{proofs.{Names.{kind_homes, kind_home, kind_home_count, standing_in, Journals, Single, Paired}, NewStores.{empty_closed, empty_moves}, Pieces.{trimmed-trimmed, length-trimmed}}, specs.Directory.{entry_in, home_end}}
-use Rattle.file_store.specs.{Directory.{IsHomeOf, IsBadDirectory, IsBadDirectory.{NotZero, Outside, Overlap}, IsSoundDirectory}, Faults.{old_fault}, Format.{IsFrom, IsTableSector, HasTables, HoldsPage}, Layout.{turn_mark, pages_of_length}}
-use Rattle.file_store.specs.{Layout.{bytes_inside, padded_page}, Standing.{IsBadLayoutIn, IsBadLayoutIn.{TooSmall, Unmarked, BadDirectory}, IsBadLayout, IsBadJournal, IsBadOldLayout, IsPageOf, standing, listed_entry, info_at, file_info}}
-use Rattle.file_store.specs.{Standing.{page_standing_in, page_standing, standing_page_at, standing_page}, Upgrade.{old_directory, old_entry, IsTooSmall, IsTooSmall.{FewSectors, FewHomes}, IsCopiedSector, IsUpgradeSector, IsEntrySector}}
-use Rattle.file_store.specs.{Upgrade.{IsUnmarkedUpgrade, IsKindlessUpgrade, HoldsOldFiles, IsUpgradeOf}, Versions.{version_at, version_before, version_of, home_pages_of, directory_of, mark_of}, declared.directory.Entry.{Entry}}
-use Rattle.{file_store.specs.declared.faults.{OpenFault.{OpenFault, TheVariants.{Device, BadLayout, BadJournal}}, UpgradeFault.TheVariants.{OldLayout}}, sync_journal.specs.Kinds.{layout_of}}
+use Rattle.file_store.proofs.{Blocks.{single_paired}, Formats.{home_stays}, Homes.{entry_behind, one_file}, Images.{sector_kind, kind_closed, kind_not_bad, homes_same, homes_behind, directory_inside, layout_low, is_some_mark}}
+use Rattle.file_store.proofs.Names.{option_map, ◌≡◌, ◌≢◌, ◌⊎◌, ◌+◌, ◌*◌, ◌<◌, ◌≤◌, ℕ, List, Option, Some, None, inl, inr, ⊎_elim, refl, sym, ap, subst, ◌∙◌, arith, FileInfo, Image, joined, part_of, joined-same, joined_parts, sizes_before}
+use Rattle.file_store.proofs.{Names.{kind_of, kind_homes, kind_home, kind_home_count, standing_in, Journals, Single, Paired}, NewStores.{empty_closed, empty_moves}, Pieces.{trimmed-trimmed, length-trimmed}}
+use Rattle.file_store.specs.{Directory.{entry_in, home_end, IsHomeOf, IsBadDirectory, IsBadDirectory.{NotZero, Outside, Overlap}, IsSoundDirectory}, Faults.{old_fault}, Format.{IsFrom, IsTableSector, HasTables, HoldsPage}}
+use Rattle.file_store.specs.{Layout.{turn_mark, IsMark, pages_of_length, bytes_inside, padded_page}, Standing.{IsBadLayoutIn, IsBadLayoutIn.{TooSmall, Unmarked, BadDirectory}, IsBadLayout, IsBadJournal, IsBadOldLayout, IsPageOf, standing}}
+use Rattle.file_store.specs.{Standing.{listed_entry, info_at, file_info, page_standing_in, page_standing, standing_page_at, standing_page}, Upgrade.{old_directory, old_entry, IsTooSmall, IsTooSmall.{FewSectors, FewHomes}, IsCopiedSector}}
+use Rattle.file_store.specs.{Upgrade.{IsUpgradeSector, IsEntrySector, IsUnmarkedUpgrade, IsKindlessUpgrade, HoldsOldFiles, IsUpgradeOf, IsUpgradeIfMarked}, Versions.{version_at, version_before, version_of, home_pages_of, directory_of}}
+use Rattle.{file_store.specs.{Versions.{mark_of}, declared.{directory.Entry.{Entry}, faults.{OpenFault.{OpenFault, TheVariants.{Device, BadLayout, BadJournal}}, UpgradeFault.TheVariants.{OldLayout}}}}, sync_journal.specs.Kinds.{layout_of}}
 
 -- the homes of a file are homes
 pub entry_from : (kind : Journals) (entry : Option Entry) (k : ℕ) → IsEntrySector kind entry k → kind_homes kind ≤ k
@@ -114,11 +114,17 @@ upgraded kind old_sectors sectors old image room good fits all marked = record {
         ∙ page_upgraded kind old image k b.0 all.head.layout_of gate (all.files f b.0 (fits f b.0 b.1).0 b.1 k (omega (arith, lt)))
         ∙ sym (ap (page_standing_in (standing_in (sizes_before kind) old) k) b.1)
 
+-- without a mark it is no store
+pub no_upgrade : (kind : Journals) (old_sectors sectors : ℕ) (old image : Image) → (IsMark (image 0) → ⊥) → IsUpgradeIfMarked kind old_sectors sectors old image
+no_upgrade kind old_sectors sectors old image none = record { store = λ marked. absurd (none (subst IsMark (sym marked) (is_some_mark (version_of image)))); made = λ marked. absurd (none marked) }
+
+-- and with all but the mark it is one with it, whatever its sector 0 reads
 pub upgrade_whole : (kind : Journals) (old_sectors sectors : ℕ) (old mid : Image) → kind_homes kind ≤ sectors → (IsBadOldLayout kind old_sectors old → ⊥)
     → ((f : ℕ) (e : Entry) → old_entry kind old f ≡ Some e → (f < 64) × (home_end e ≤ kind_home_count kind sectors)) → IsUnmarkedUpgrade kind old mid
-    → (image : Image) → ((k : ℕ) → 1 ≤ k → image k ≡ mid k) → image 0 ≡ mark_of (version_of image) → IsUpgradeOf kind old_sectors sectors old image
-upgrade_whole kind old_sectors sectors old mid room good fits all image same marked =
-    upgraded kind old_sectors sectors old image room good fits (upgrade_moves kind old mid image same all) marked
+    → (image : Image) → ((k : ℕ) → 1 ≤ k → image k ≡ mid k) → IsUpgradeIfMarked kind old_sectors sectors old image
+upgrade_whole kind old_sectors sectors old mid room good fits all image same =
+    let moved = upgrade_moves kind old mid image same all in
+    record { store = λ marked. upgraded kind old_sectors sectors old image room good fits moved marked; made = λ _. moved }
 
 -- what a fault of the old store says
 pub layout_from : (fault : OpenFault) → old_fault fault ≡ OldLayout → fault ≡ BadLayout

@@ -14,7 +14,7 @@ use Rattle.disk_model.specs.Sectors.{part_of}
 use Rattle.file_store.specs.declared.version.Version.TheVariants.{Two, Three}
 use Rattle.file_store.specs.declared.directory.Entry.{Entry}
 use Rattle.file_store.specs.declared.sources.FileSource.{FileSource}
-use Rattle.file_store.specs.Layout.{turn_mark, pages_of_length, bytes_inside, padded_page}
+use Rattle.file_store.specs.Layout.{turn_mark, IsMark, pages_of_length, bytes_inside, padded_page}
 use Rattle.file_store.specs.Versions.{version_at, version_of, directory_of, mark_of}
 use Rattle.file_store.specs.Directory.{entry_in, entry_bytes, IsZero}
 use Rattle.file_store.specs.Standing.{IsBadLayout, IsBadJournal, file_info, standing_page}
@@ -175,9 +175,12 @@ module _ {R : Type 0} where
   abbrev pub IsStoreIfPaired : (R → Option (List ℕ)) → ℕ → List (FileSource R) → Image → Type 0
   IsStoreIfPaired remaining sectors sources image = kind_of image ≡ Paired → image 0 ≡ turn_mark → IsStoreOf Paired remaining sectors sources image
 
-  -- An image that has the mark of its kind is such a store.
-  abbrev pub IsStoreIfMarked : Journals → (R → Option (List ℕ)) → ℕ → List (FileSource R) → Image → Type 0
-  IsStoreIfMarked kind remaining sectors sources image = image 0 ≡ mark_of (version_of image) → IsStoreOf kind remaining sectors sources image
+  -- An image that a stop may leave:
+  pub record IsStoreIfMarked (kind : Journals) (remaining : R → Option (List ℕ)) (sectors : ℕ) (sources : List (FileSource R)) (image : Image) : Type 0 where
+    -- with the mark of its kind it is such a store,
+    pub store : image 0 ≡ mark_of (version_of image) → IsStoreOf kind remaining sectors sources image
+    -- and with the mark of any layout, as which a torn one may read, it has all the rest of the store.
+    pub made : IsMark (image 0) → IsUnmarkedStoreOf kind remaining sources image
 
   -- The bytes of page k that a source's reader gave, in a page of zeros:
   pub record IsPageRead (remaining : R → Option (List ℕ)) (old new : FileSource R) (k : ℕ) (given : List ℕ) : Type 0 where

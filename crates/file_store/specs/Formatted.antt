@@ -23,8 +23,8 @@ module _ {D : Type 0} (g : Ghosts D) where
       pub synced : g.keeps_model new → OnOk result ((k : ℕ) → g.unsynced new k → ⊥)
       -- and each reader that tells its bytes told enough of them.
       pub whole : OnOk result (AreWhole remaining sources (length sources))
-      -- Whatever it returns, every image that a stop at any moment of the call might leave lacks the mark or is the store, where the device had no
-      -- mark and nothing unsynced.
+      -- Whatever it returns, every image that a stop at any moment of the call might leave has no mark or all the rest of the store, and with the
+      -- mark of its kind is the store, where the device had no mark and nothing unsynced.
       pub any_moment : g.keeps_model new → ((k : ℕ) → g.unsynced old k → ⊥) → (IsMark (g.content old 0) → ⊥)
           → LeavesOnly g old new (IsStoreIfMarked kind remaining (g.sector_count old) sources)
       -- Of layout 3 so it is, too, where a stop leaves any bytes in each block of 4,096 bytes that was written to since the last sync: an image of

@@ -15,7 +15,7 @@ use Rattle.file_store.specs.declared.directory.Entry.{Entry}
 use Rattle.file_store.specs.declared.old_store.OldStore.{OldStore}
 use Rattle.file_store.specs.declared.faults.UpgradeFault.{UpgradeFault}
 use Rattle.file_store.specs.declared.faults.UpgradeFault.TheVariants.{OldDevice, NewDevice}
-use Rattle.file_store.specs.Layout.{turn_mark, pages_of_length}
+use Rattle.file_store.specs.Layout.{turn_mark, IsMark, pages_of_length}
 use Rattle.file_store.specs.Directory.{home_end, IsHomeOf}
 use Rattle.file_store.specs.Format.{IsMarkSector, IsLayoutSector, HoldsPage, HasHead, HasTables}
 use Rattle.file_store.specs.Standing.{IsHeadIn, IsBadLayout, IsBadJournal, OldStandsFor, StandsFor, listed_entry, page_standing_in}
@@ -106,9 +106,12 @@ pub record IsUpgradeOf (kind : Journals) (old_sectors sectors : ℕ) (old image 
   -- byte for byte
   pub made : IsUnmarkedUpgrade kind old image
 
--- An image that has the mark of its kind is such a store.
-abbrev pub IsUpgradeIfMarked : Journals → ℕ → ℕ → Image → Image → Type 0
-IsUpgradeIfMarked kind old_sectors sectors old image = image 0 ≡ mark_of (version_of image) → IsUpgradeOf kind old_sectors sectors old image
+-- An image that a stop may leave:
+pub record IsUpgradeIfMarked (kind : Journals) (old_sectors sectors : ℕ) (old image : Image) : Type 0 where
+  -- with the mark of its kind it is such a store,
+  pub store : image 0 ≡ mark_of (version_of image) → IsUpgradeOf kind old_sectors sectors old image
+  -- and with the mark of any layout, as which a torn one may read, it has all the rest of the store.
+  pub made : IsMark (image 0) → IsUnmarkedUpgrade kind old image
 
 -- The image has all of an upgraded store of layout 3 but kind and mark.
 pub record IsKindlessUpgrade (old image : Image) : Type 0 where

@@ -76,8 +76,8 @@ module _ {D : Type 0} (g : Ghosts D) where
       pub ok : g.keeps_model old' → h.keeps_model new' → OnOk result (IsUpgradeOf kind (g.sector_count old) (h.sector_count new) (g.content old) (h.content new'))
       pub marked : h.keeps_model new' → OnOk result (h.content new' 0 ≡ mark_of (version_at kind))
       pub synced : h.keeps_model new' → OnOk result ((k : ℕ) → h.unsynced new' k → ⊥)
-      -- Whatever it returns, every image that a stop at any moment of the call might leave of the new device lacks the mark or stands for what the
-      -- old one stands for, where the new one had no mark and nothing unsynced.
+      -- Whatever it returns, every image that a stop at any moment of the call might leave of the new device has no mark or all the rest of the
+      -- store, and with the mark of its kind stands for what the old one stands for, where the new one had no mark and nothing unsynced.
       pub any_moment : g.keeps_model old' → h.keeps_model new' → ((k : ℕ) → h.unsynced new k → ⊥) → (IsMark (h.content new 0) → ⊥)
           → LeavesOnly h new new' (IsUpgradeIfMarked kind (g.sector_count old) (h.sector_count new) (g.content old))
       -- Of layout 3 so it is, too, where a stop leaves any bytes in each block of 4,096 bytes that was written to since the last sync: an image of

@@ -35,16 +35,6 @@ impl<R> FileSource<R> {
     {
         u64::from(self.length).div_ceil(PAGE_BYTES)
     }
-
-    /// The file's facts.
-    fn info(&self) -> FileInfo
-        ensures { result ≡ info_of self.now }
-    {
-        FileInfo {
-            length: self.length,
-            read_only: self.read_only,
-        }
-    }
 }
 
 impl<R: Read> FileSource<R> {
@@ -110,10 +100,14 @@ pub(crate) fn directory_of<R>(sources: &[FileSource<R>]) -> [u8; SECTOR_BYTES]
     let mut first = 0;
     for f in 0..sources.len() {
         let source = &sources[f];
+        let info = FileInfo {
+            length: source.length,
+            read_only: source.read_only,
+        };
         // Only an empty file's first home can be the one behind the last that a number of 30 bits names.
         let entry = Entry {
             first: (first % MAX_HOMES) as u32,
-            info: source.info(),
+            info,
         };
         entry.encode(&mut directory[8 * f..]);
         first += source.pages();

@@ -1,12 +1,16 @@
 //! What the tests share: a trace over an image of files, and a run of it with a fault. No other file here makes a machine.
+ghost use Rattle.stores.specs.NewStores.{IsSizedNew};
+
 use crate::fillings::{EACH, FILLINGS, OLD, OPEN};
 use crate::judge::{Judge, heard};
 use crate::short_disk::ShortDisk;
 use disk_model::SimDisk;
-use file_store::{FileSource, FileStore, OpenFault, format};
+use file_store::FileSource;
 use machine::{BootFault, Config};
 use runner::{Devices, RunEnd, run_on};
+use std::alloc::Global;
 use std::process::Abort;
+use stores::{NewStore, OpenFault, Store, format};
 use sync_journal::Journals;
 
 /// The fault that a device is to have: the store's, or that of swap, whose calls are counted from the start of the machine on.
@@ -34,8 +38,7 @@ impl Armed {
 pub(crate) struct Case<'a> {
     pub config: Config,
     pub lengths: &'a [u32],
-    /// The journals of the store.
-    pub journals: Journals,
+    pub store: NewStore,
     /// The writes of the store's gate that each msync ends with, the first write being 1.
     pub gates: &'a [u64],
     pub trace: &'a [u8],
@@ -56,9 +59,19 @@ pub(crate) fn expect(rt: &impl Abort, holds: bool, otherwise: &str) {
     assert!(rt; holds, "{otherwise}");
 }
 
+/// That store, which has to be one that is made: a constant has no condition.
+fn sized(rt: &impl Abort, store: NewStore) -> NewStore
+    ensures { IsSizedNew result }
+{
+    if let NewStore::Pool(blocks) = store {
+        assert!(rt; 1 <= blocks && blocks <= 2048);
+    }
+    store
+}
+
 /// Why the store of an image was not opened, if so, and its device.
-pub(crate) fn tried(image: ShortDisk) -> (Option<OpenFault>, ShortDisk) {
-    match FileStore::open(image) {
+pub(crate) fn tried(alloc: Global, image: ShortDisk) -> (Option<OpenFault>, ShortDisk) {
+    match Store::open(alloc, image) {
         Ok(store) => (None, store.into_disk()),
         Err((fault, disk)) => (Some(fault), disk),
     }
@@ -79,8 +92,8 @@ impl Case<'_> {
                 })
                 .expect(rt, "memory");
         }
-        let mut disk = ShortDisk::new(rt.alloc(), self.journals, homes).expect(rt, "memory");
-        format(&mut disk, self.journals, files.as_mut_slice()).expect(rt, "a store");
+        let mut disk = ShortDisk::new(rt.alloc(), self.store, homes).expect(rt, "memory");
+        format(&mut disk, sized(rt, self.store), files.as_mut_slice()).expect(rt, "a store");
         disk
     }
 
@@ -118,8 +131,8 @@ impl Case<'_> {
     }
 
     /// What the homes hold once the store was opened that a run left, with that filling of its unsynced sectors: that is what the
-    /// judge says, with an msync that failed only where the gate's sector is filled with what says that it is done. Two journals are
-    /// named in turn: the second by what opens a gate, and the first by other bytes, of which the old ones are none.
+    /// judge says, with an msync that failed only where the gate's sector is filled with what says that it is done. Two journals, or two maps
+    /// of a pool, are named in turn: the second by what opens a gate, and the first by other bytes, of which the old ones are none.
     pub(crate) fn standing(
         &self,
         rt: &(impl AllocGlobal + Abort),
@@ -129,8 +142,9 @@ impl Case<'_> {
     ) -> Vec<u8> {
         let write = told.store.disk.writes();
         let at_gate = self.gates.get(judge.synced) == Some(&write);
-        let is_named = match self.journals {
-            Journals::Paired if judge.synced % 2 == 1 => filling != OPEN && filling != OLD,
+        let is_named = match self.store {
+            NewStore::Journals(Journals::Single) => filling == OPEN,
+            _ if judge.synced % 2 == 1 => filling != OPEN && filling != OLD,
             _ => filling == OPEN,
         };
         let is_done = at_gate && is_named;
@@ -139,7 +153,7 @@ impl Case<'_> {
             _ => judge.flat.durable(rt.alloc()).expect(rt, "memory"),
         };
         let left = told.store.left(rt.alloc(), FILLINGS[filling % 5]);
-        let (fault, left) = tried(left.expect(rt, "memory"));
+        let (fault, left) = tried(rt.alloc(), left.expect(rt, "memory"));
         let found = left.homes(rt.alloc()).expect(rt, "memory");
         let is_same = fault.is_none() && found.as_slice() == wanted.as_slice();
         assert!(rt; is_same, "write {write}, filling {filling}: other files");

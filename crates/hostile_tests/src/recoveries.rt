@@ -5,12 +5,12 @@
 //! stopped recoveries leave, those are left out in which the filling of one isn't the next of `FILLINGS` after that of the one
 //! before; for the longest trace the first stop takes one filling a write, the next each time. So each test takes seconds.
 use crate::bench::{Armed, Case, expect, tried};
-use crate::cases::{ONE_PAGE_IN_TURN, PARTIAL_PAGE, TWO_FILES, TWO_PROCESSES};
+use crate::cases::{ONE_PAGE_IN_A_POOL, ONE_PAGE_IN_TURN, PARTIAL_PAGE, TWO_FILES, TWO_PROCESSES};
 use crate::fillings::{EACH, FILLINGS, OPEN};
 use crate::judge::heard;
 use crate::short_disk::ShortDisk;
-use file_store::OpenFault;
 use std::process::Abort;
+use stores::OpenFault;
 
 /// How many recoveries are stopped in a row.
 const STOPS: usize = 3;
@@ -25,7 +25,7 @@ struct Left {
 
 /// Recovers an image, which has to give these homes: how many writes that took.
 fn recover(rt: &(impl AllocGlobal + Abort), disk: ShortDisk, wanted: &[u8]) -> u64 {
-    let (fault, disk) = tried(disk);
+    let (fault, disk) = tried(rt.alloc(), disk);
     let found = disk.homes(rt.alloc()).expect(rt, "memory");
     let is_same = fault.is_none() && found.as_slice() == wanted;
     expect(rt, is_same, "other files");
@@ -47,7 +47,7 @@ fn stop_at_each(
     for write in 1..=recover(rt, copy, wanted) {
         let mut disk = before.disk.left(rt.alloc(), None).expect(rt, "memory");
         disk.disk.stop_at(write);
-        let (fault, disk) = tried(disk);
+        let (fault, disk) = tried(rt.alloc(), disk);
         expect(rt, fault == Some(OpenFault::Device), "it stopped nothing");
         let left = disk.left(rt.alloc(), FILLINGS[before.filling % 5]);
         list.push(Left {
@@ -109,10 +109,12 @@ fn stopped_recoveries_of_a_second_msync_change_nothing(rt: HostRuntime) {
     }
 }
 
-/// A recovery of two journals in turn is a commit of no pages, of seventeen writes for one page. The first stop comes at the gate that
-/// names the second journal.
+/// A recovery of two journals in turn is a commit of no pages, of seventeen writes for one page, and one of a pool writes a block of the map
+/// and the gate. The first stop comes at the gate that names the second journal or map.
 #[test]
-fn stopped_recoveries_of_journals_in_turn_change_nothing(rt: HostRuntime) {
-    let image = ONE_PAGE_IN_TURN.image(&rt);
-    stop_at(&rt, &ONE_PAGE_IN_TURN, &image, 17, &[OPEN]);
+fn stopped_recoveries_of_journals_in_turn_and_of_a_pool_change_nothing(rt: HostRuntime) {
+    for case in [ONE_PAGE_IN_TURN, ONE_PAGE_IN_A_POOL] {
+        let image = case.image(&rt);
+        stop_at(&rt, &case, &image, 17, &[OPEN]);
+    }
 }

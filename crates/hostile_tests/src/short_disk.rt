@@ -4,14 +4,21 @@ ghost use Rattle.disk_model.specs.Stop.{HasCause};
 ghost use Rattle.disk_model.specs.Asked.{times_named};
 ghost use Rattle.disk_model.specs.SimDisk.{sectors_in, sector_of, IsUnsynced, moment_of, LeftSince, failures_of};
 
+use crate::fillings::{FILLINGS, OPEN};
 use disk_model::{Asked, DiskFault, SectorDisk, SimDisk};
+use pool_journal::POOL_GATE;
+use pool_store::DIRECTORY_PAGES;
 use std::alloc::{AllocError, Global};
+use stores::NewStore;
 use sync_journal::{
     BODY, FIRST_BODY, FIRST_HOME, Journals, PAGE_LIMIT, SECOND_BODY, SECOND_MAP, TURN_HOMES,
 };
 
 /// The first sector that any run writes.
 const FIRST_WRITTEN: u64 = 2;
+
+/// The homes of a pool that come before those of files.
+const DIRECTORY: u64 = DIRECTORY_PAGES as u64;
 
 /// Sectors that are there, from one up to another, behind so many that are absent.
 #[derive(Clone, Copy)]
@@ -34,16 +41,21 @@ impl Piece {
     }
 }
 
-/// Where the pieces of a store of few homes lie: what lies before a body and so many sectors of the body, of each journal, and the homes.
-fn pieces_of(journals: Journals, body: u64, homes: u64) -> [Piece; 3] {
-    let (first, second, first_home) = match journals {
-        Journals::Single => (BODY, BODY, FIRST_HOME),
-        Journals::Paired => (FIRST_BODY, SECOND_MAP, TURN_HOMES),
+/// Where the pieces of a store of few homes lie: what lies before a body and so many sectors of the body, of each journal or half of a pool,
+/// and the homes.
+fn pieces_of(store: NewStore, body: u64, homes: u64) -> [Piece; 3] {
+    let (first, second, second_body, first_home) = match store {
+        NewStore::Journals(Journals::Single) => (BODY, BODY, BODY, FIRST_HOME),
+        NewStore::Journals(Journals::Paired) => (FIRST_BODY, SECOND_MAP, SECOND_BODY, TURN_HOMES),
+        NewStore::Pool(blocks) => {
+            let (map, half) = (8 * u64::from(blocks), 4040 * u64::from(blocks));
+            (16 + map, 16 + half, 16 + half + map, 16 + 2 * half)
+        }
     };
     let first_end = body.saturating_add(first);
-    let second_end = match journals {
-        Journals::Single => second,
-        Journals::Paired => body.saturating_add(SECOND_BODY),
+    let second_end = match store {
+        NewStore::Journals(Journals::Single) => second,
+        _ => body.saturating_add(second_body),
     };
     let second_length = second_end.saturating_sub(second);
     [
@@ -65,43 +77,48 @@ fn pieces_of(journals: Journals, body: u64, homes: u64) -> [Piece; 3] {
     ]
 }
 
-/// A device in memory. Of a journal's body it has as many pages as there are homes, since no commit takes more: a call that
-/// asks for another sector of the body fails.
+/// A device in memory. Of a journal's body it has as many pages as there are homes, since no commit takes more, and of a body of a pool twice as
+/// many, since a commit takes the first that are free, and no home has two slots before it: a call that asks for another sector of a body fails.
 #[derive(Drop)]
 pub(crate) struct ShortDisk {
     pub disk: SimDisk,
     sectors: u64,
     pieces: [Piece; 3],
-    /// Of a store of two journals, for each block of eight sectors whether it was written to since the last sync: a stop may spoil all of it.
+    /// The slots of a body of a pool, none where there is none.
+    slots: u64,
+    /// Of a store of two journals or a pool, for each block of eight sectors whether it was written to since the last sync: a stop may spoil all of it.
     torn: Vec<bool>,
     asked: Asked,
 }
 
 impl ShortDisk {
     /// A device of zeros with so many homes.
-    pub(crate) fn new(
-        alloc: Global,
-        journals: Journals,
-        homes: u64,
-    ) -> Result<ShortDisk, AllocError> {
-        let body = homes.min(PAGE_LIMIT as u64).saturating_mul(8);
-        let pieces = pieces_of(journals, body, homes.saturating_mul(8));
+    pub(crate) fn new(alloc: Global, store: NewStore, homes: u64) -> Result<ShortDisk, AllocError> {
+        let (pages, slots, homes) = match store {
+            NewStore::Journals(_) => (homes.min(PAGE_LIMIT as u64), 0, homes),
+            NewStore::Pool(_) => {
+                let slots = homes.saturating_mul(2);
+                (slots, slots, homes.saturating_add(DIRECTORY))
+            }
+        };
+        let pieces = pieces_of(store, pages.saturating_mul(8), homes.saturating_mul(8));
         let end = pieces[2].to.saturating_sub(pieces[2].absent);
-        let blocks = match journals {
-            Journals::Single => 0,
-            Journals::Paired => end / 8,
+        let blocks = match store {
+            NewStore::Journals(Journals::Single) => 0,
+            _ => end / 8,
         };
         Ok(ShortDisk {
             disk: SimDisk::new(alloc, end)?,
             sectors: pieces[2].to,
             pieces,
+            slots,
             torn: Vec::from_elem(alloc, false, blocks as usize)?,
             asked: Asked::new(),
         })
     }
 
     /// The device after a stop, with these bytes in its unsynced sectors, or else those that were last synced. Of a store of two
-    /// journals these bytes are in each block of 4,096 that has such a sector.
+    /// journals or a pool these bytes are in each block of 4,096 that has such a sector.
     pub(crate) fn left(
         &self,
         alloc: Global,
@@ -122,6 +139,7 @@ impl ShortDisk {
             disk,
             sectors: self.sectors,
             pieces: self.pieces,
+            slots: self.slots,
             torn: Vec::from_elem(alloc, false, self.torn.len())?,
             asked: Asked::new(),
         })
@@ -153,14 +171,50 @@ impl ShortDisk {
         }
     }
 
-    /// What the homes hold.
+    /// What the homes of files hold, or of a pool what stands for them.
     pub(crate) fn homes(&self, alloc: Global) -> Result<Vec<u8>, AllocError> {
         let mut bytes = Vec::new(alloc);
         let homes = self.pieces[2];
-        for n in homes.from.saturating_sub(homes.absent)..self.disk.sectors() {
-            bytes.extend_from_slice(self.disk.sector(n))?;
+        let first = if self.slots > 0 { DIRECTORY } else { 0 };
+        for home in first..homes.to.saturating_sub(homes.from) / 8 {
+            let start = self.stands_at(home);
+            for i in 0..8 {
+                bytes.extend_from_slice(&self.sector(start.saturating_add(i)))?;
+            }
         }
         Ok(bytes)
+    }
+
+    /// The first sector of what stands for a home: of a pool of the first slot that the named map gives to it, or else of the home.
+    fn stands_at(&self, home: u64) -> u64 {
+        let gate = self.sector(POOL_GATE);
+        let named = self.pieces[usize::from(FILLINGS[OPEN] == Some(&gate))];
+        let body = self.slots.saturating_mul(8);
+        // Of a map the block of the first slots comes last.
+        let block = named.to.saturating_sub(body).saturating_sub(8);
+        for place in 0..1008_u64 {
+            let slot = place % 504;
+            if slot < self.slots && self.number(block, 16 + place) == home.saturating_add(1) {
+                let end = self.pieces[(place / 504) as usize].to;
+                return end.saturating_sub(body).saturating_add(8 * slot);
+            }
+        }
+        self.pieces[2].from.saturating_add(home.saturating_mul(8))
+    }
+
+    /// A number of the block of a map that begins at a sector.
+    fn number(&self, block: u64, n: u64) -> u64 {
+        let sector = self.sector(block.saturating_add(n / 128));
+        let at = 4 * (n % 128) as usize;
+        u64::from(u32::from_le_bytes([sector[at], sector[at + 1], sector[at + 2], sector[at + 3]]))
+    }
+
+    /// What a sector holds, or zeros where it is absent.
+    fn sector(&self, n: u64) -> [u8; 512] {
+        match self.place(n, 1) {
+            Some(at) => *self.disk.sector(at),
+            None => [0; 512],
+        }
     }
 
     /// Where so many sectors from that one on lie, unless they are absent.

@@ -18,13 +18,13 @@ pub use Rattle.residency.proofs.{Seats.{counted_filled, cases_seat, counted_shar
 pub use Rattle.residency.{proofs.{TableSteps.{rooted_set, sets_page}, Tables.{sum-below}}, specs.{Ages.{GivesForTables, Same, KeepsRoles, KeepsRolesBut, Cleared, Left, Ages, IsGiven}, Calls.{KeepsBesideProcesses, ObtainsTable, KeepsPages}}}
 pub use Rattle.residency.specs.{Calls.{Frees, Refuses, UsesDevice}, Capacity.{touched_file, stored_object}, Parts.{AreObjects, IsFit, Nothing, IsMapped, IsGranting, IsEntryFor, Resident, Away, OnWay, IsUsed, AsRoot, IsRootedBut, IsFitBut}}
 pub use Rattle.residency.specs.{Parts.{nowhere, IsBehind}, Picture.{bytes_in, view_of, Picture, entry, own_in, picture_of, is_live, IsOwned, number_of_frame, page_in, count_in, bytes_at, is_data, attr_where, root_in}, Seats.{InFrame}}
-pub use Rattle.residency.specs.{Seats.{InSlot, seat, Seat, is_private, is_swapped, is_seat, off}, Shows.{KeepsFiles}, Steps.{Remaps, Spawns, Exits, SameBeside, SetsPage}, Ways.{IsWhole}, declared.kernel.Core.{Core}}
+pub use Rattle.residency.specs.{Seats.{InSlot, seat, Seat, is_private, is_swapped, is_seat, off}, Shows.{KeepsFiles}, Stalls.{StallCause}, Steps.{Remaps, Spawns, Exits, SameBeside, SetsPage}, Ways.{IsWhole}, declared.kernel.Core.{Core}}
 pub use Rattle.std.proofs.Common.{inr, Option, None, ◌≡◌, ◌∙◌, eq-eqb, ◌≢◌, if◌then◌else◌, inl, Some, ◌==◌, sym, ap, ℕ, refl, ne_eqb, List, true, subst, ◌⊎◌, Bool, false, Ok, ◌≤◌, arith, ◌<◌, ◌^◌, suc, zero, ◌*◌, ◌+◌, ◌-◌, get_or, ◌/◌, ◌%◌}
 pub use Rattle.std.{proofs.{Common.{[], eqb-true, rules}, Math.Path.{fun_ext}, lemmas.{Bool.{cases_eq, cases_Bool, false≢true, cases_lt, and_parts}, Option.{same_Some}}}, specs.Prelude.{IsSome, Result, IsErrAnd, Err, is_some, IfErr}}
 pub use Rattle.{std.specs.Prelude.{option_map, ◌&&◌, slice_index_or}, sv39_walk.specs.{Entry.{can_write, is_valid, entry_at, is_pointer, is_accessed, is_leaf}, Walk.{index_of}, declared.pte.Pte.{Pte}}, swap.specs.Slots.{slots_of, IsReady}}
 pub use Rattle.{swap.specs.{Slots.{SlotTable, IsInUse}, declared.{pages.Pages.{Pages}, slots.Swap.{Swap}}}, vm_types.{proofs.{Modes.{user_pages_fit, sizes}, Naming.{named-at, named-where}}, specs.Capacity.{has_own, tables_below}}}
 pub use Rattle.vm_types.specs.{Capacity.{tables_of, used_rows, object_page_limit}, Counting.{any_below}, Limits.{top_level, user_end, table_entries, object_limit}, Objects.{uses, names, is_named, Maps}, Rows.{in_row}, View.{View}}
 pub use Rattle.vm_types.specs.declared.{number.{FrameNo.{FrameNo}, SlotNo.{SlotNo}}, object.{ObjectPage.{ObjectPage}, PageKey.{PageKey, TheVariants.{Object, File}}}, refusal.Stall.{Stall, TheVariants.{NoFrames, SwapDevice, StoreDevice}}}
-pub use Rattle.vm_types.specs.declared.{refusal.Stall.TheVariants.{NoSwap}, region.{Attr.{Attr}, Backing.{Backing}}}
+pub use Rattle.{fault.proofs.Steps.{stall_then}, vm_types.specs.declared.{refusal.Stall.TheVariants.{NoSwap}, region.{Attr.{Attr}, Backing.{Backing}}}}
 unfoldable pub use Rattle.{residency.specs.{Capacity.{IsShort, copies_over, tables_over}, Picture.{view, held}, Seats.{holders_at}}, sv39_walk.specs.Entry.{frame_of, has_bit}, vm_types.specs.Counting.{count_below, sum_below}}
 unfoldable pub use Rattle.vm_types.specs.Processes.{least_free_from}

@@ -1,7 +1,17 @@
 -- A fork that stalls: what it took of memory is given back.
+use Rattle.vm_types.specs.declared.mode.Levels as Levels
 use Rattle.lifecycle.proofs.Names.{top_level, user_end, PageKey, Object, Stall, ◌≡◌, ◌≢◌, ℕ, suc, inl, inr, ◌⊎◌, ◌+◌, Option, Some, None, refl, sym, ap, ◌∙◌, subst, arith, cases_eq, Role, Free, Zero, Table, Private, Cache, role_of}
 use Rattle.lifecycle.proofs.Names.{count_of, IsCountFor, IsFull, IsSound, IsPage, IsTable, InFrame, InSlot, seat, holders_at, off, Picture, entry, page_in, IsFit, nowhere, Frees, Refuses, GivesForTables, KeepsRoles, holders_none, off-none}
+use Rattle.lifecycle.proofs.Names.{◌<◌, Ghosts, Core, Pages, StallCause, SwapDevice, StoreDevice}
 use Rattle.lifecycle.{proofs.Names.{seat-none, KeepsRoom, IsTableOnWay, used_inside, KeepsEntriesOfOthers, LosesSlots}, specs.{Changes.{FreesTables, StallsToFork}, Steps.{HasCopy, LacksTableForCopy}}}
+
+-- the cause of a stall stands after a step that was refused nothing and asked no device
+pub stall_before : {M : Type 0} {m : Levels.Ghosts M} → {D E : Type 0} (h : Ghosts E) (a b c : Core D E M m) (stall : Stall) → c.refused ≡ b.refused → c.swap.pages ≡ b.swap.pages
+    → StallCause h a b stall → StallCause h a c stall
+stall_before h a b c SwapDevice refused pages cause =
+    (ap (λ r. r.number) refused ∙ cause.0, subst (λ (p : Pages _). h.failures a.swap.pages.disk < h.failures p.disk) (sym pages) cause.1)
+stall_before h a b c StoreDevice refused pages cause = absurd cause
+stall_before h a b c stall refused pages cause = (ap (λ r. r.number) refused ∙ cause.0, ap (λ p. h.failures p.disk) pages ∙ cause.1)
 
 -- no frame was to be had for the root
 pub stalls_first : {mode : ℕ} (old new : Picture mode) (parent child : ℕ) (stall : Stall) → old.root child ≡ None → IsFit new → Frees old new None

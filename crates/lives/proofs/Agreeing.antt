@@ -1,5 +1,6 @@
 -- Pages that are the same inside the files, and what msyncs make of them.
-use Rattle.{std.proofs.Common.{ℕ, zero, suc, ◌≡◌, Bool, true, false, if◌then◌else◌, List, [], ◌∷◌, refl, sym, ◌∙◌}, disk_model.specs.Stop.{Image}, file_store.specs.Standing.{IsPageOf, StandsFor}, vm_types.specs.Files.{Files}}
+use Rattle.{std.proofs.Common.{ℕ, zero, suc, ◌≡◌, Bool, true, false, if◌then◌else◌, List, [], ◌∷◌, refl, sym, ◌∙◌}, disk_model.specs.Stop.{Image}, file_store.specs.Standing.{IsPageOf}, stores.specs.Images.{StandsFor}}
+use Rattle.vm_types.specs.Files.{Files}
 use Rattle.vm_types.specs.{Msync.{Ruling, Takes, touched_in}, Prefix.{Event, is_msync, may_have_taken, after_event, after_msyncs}, State.{State}, Step.{ruling, takes}, View.{Pages}}
 
 -- the same bytes in each page of these files

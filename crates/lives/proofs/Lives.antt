@@ -1,6 +1,6 @@
 -- What lives leave.
 use Rattle.{std.proofs.Common.{ℕ, ◌≡◌, ◌≤◌, inl, inr, ⊎_elim, List, [], ◌∷◌, ◌++◌, length, refl, sym, ◌∙◌, subst, arith}, disk_model.specs.{Moments.{LeavesOnly}, Stop.{Image, MayLeave}, declared.sector_disk.SectorDisk.{Ghosts}}}
-use Rattle.{file_store.specs.Standing.{StandsAs, StandsFor}, vm_types.specs.{Files.{Files}, Prefix.{Event, acknowledged, after_msyncs, IsPrefixHolding}, State.{State}, View.{Pages}, declared.command.Command.{Command}}}
+use Rattle.{stores.specs.Images.{StandsAs, StandsFor}, vm_types.specs.{Files.{Files}, Prefix.{Event, acknowledged, after_msyncs, IsPrefixHolding}, State.{State}, View.{Pages}, declared.command.Command.{Command}}}
 use Rattle.{vm_types.specs.declared.reply.Reply.{Reply}, machine.specs.{Boot.{Boots}, Chain.{Chain, Runs, after}, Engine.{StandsForSome}, Machine.{store_of}, declared.machine.Machine.{Machine}}, lives.proofs.Agreeing.{agree_msyncs}}
 use Rattle.lives.{proofs.Agreeing.{same_files, same_pages, stands_for_same}, specs.Lives.{Life, IsLeftBy, StopsEarly, StopsLater, Lives, LeftInLives, HoldsLives, RanSince}}
 
@@ -77,7 +77,7 @@ module _ {D E : Type 0} (g : Ghosts D) (h : Ghosts E) where
       → (image : Image) → g.left_since new (g.moment store) image
       → Lives g h (g.sector_count store) (g.content store) (record { events = []; answered = 0 }) image
   early_life store new keeps synced stands image left =
-      inl (record { old = store; new = new; opens = record { size = refl; held = refl; synced = synced; keeps = keeps; stands = stands }; left = left; none = refl })
+      inl (record { old = store; new = new; opens = record { size = refl; held = refl; synced = synced; stands = stands }; left = left; none = refl })
 
   -- the machine after all commands
   pub at_end : (old : Machine D E) (s : State) (commands : List Command) (replies : List Reply) (events : List Event) (new : Machine D E) (t : State)

@@ -1,10 +1,11 @@
--- The store that `format` makes, as an image that stands for files.
+-- A new store, as an image that stands for files.
 use Rattle.std.specs.Prelude.{ℕ, ◌*◌, ◌<◌, ◌≡◌, List, Option, Some, slice_get}
 use Rattle.disk_model.specs.Stop.{Image}
 use Rattle.disk_model.specs.declared.sector_disk.SectorDisk.{Ghosts}
-use Rattle.sync_journal.specs.declared.store_journal.Journals.{Journals}
 use Rattle.file_store.specs.declared.sources.FileSource.{FileSource}
-use Rattle.file_store.specs.Format.{page_given, files_given, IsStoreOf}
+use Rattle.file_store.specs.Format.{page_given, files_given}
+use Rattle.stores.specs.NewStores.{IsNewStore}
+use Rattle.stores.specs.declared.new_stores.NewStore.{NewStore}
 use Rattle.vm_types.specs.View.{Pages}
 use Rattle.machine.specs.Engine.{StandsForSome}
 use Rattle.lives.specs.Lives.{Life, LeftInLives}
@@ -19,10 +20,10 @@ module _ {R : Type 0} (remaining : R → Option (List ℕ)) where
   abbrev pub StandsForSources : ℕ → List (FileSource R) → Image → Type 0
   StandsForSources sectors sources image = StandsForSome sectors (files_given sources) (AreSourcesBytes sources) image
 
-  -- `format` made a store of these sources on so many sectors, of either layout, and this image is what lives of it left.
+  -- A new store of these sources was made on so many sectors, of any layout, and this image is what lives of it left.
   pub record IsFormattedStore {D E : Type 0} (g : Ghosts D) (h : Ghosts E) (sectors : ℕ) (sources : List (FileSource R)) (lives : List Life)
       (image : Image) : Type 0 where
-    pub journals : Journals
+    pub store : NewStore
     pub first : Image
-    pub made : IsStoreOf journals remaining sectors sources first
+    pub made : IsNewStore remaining store sectors sources first
     pub lived : LeftInLives g h sectors lives first image

@@ -3,8 +3,8 @@
 use Rattle.std.specs.Prelude.{ℕ, ◌≡◌, ◌⊎◌, List, [], ◌∷◌, length}
 use Rattle.disk_model.specs.Stop.{Image}
 use Rattle.disk_model.specs.declared.sector_disk.SectorDisk.{Ghosts}
-use Rattle.file_store.specs.Standing.{IsPageOf, StandsFor}
-use Rattle.file_store.specs.Stops.{Opens}
+use Rattle.{file_store.specs.Standing.{IsPageOf}, stores.specs.Images.{StandsFor}}
+use Rattle.stores.specs.Opened.{Opens}
 use Rattle.vm_types.specs.declared.command.Command.{Command}
 use Rattle.vm_types.specs.declared.reply.Reply.{Reply}
 use Rattle.vm_types.specs.Files.{Files}

@@ -1,16 +1,19 @@
 //! Laws of stores and of their lives. The functions do nothing: each one's contract is the law.
-ghost use Rattle.std.specs.Prelude.{◌≡◌, ◌⊎◌, ◌↔◌, true, ℕ, List, [], ◌∷◌, ◌++◌, Option};
+ghost use Rattle.std.specs.Prelude.{◌≡◌, ◌⊎◌, ◌↔◌, true, false, ℕ, List, [], ◌∷◌, ◌++◌, Option};
 ghost use Rattle.disk_model.specs.Stop.{Image};
 ghost use Rattle.sync_journal.specs.Layout.{sizes_before};
 ghost use Rattle.sync_journal.specs.Standing.{standing_in};
 ghost use Rattle.sync_journal.specs.Kinds.{kind_of};
 ghost use Rattle.sync_journal.specs.declared.store_journal.Journals.{Journals};
 ghost use Rattle.sync_journal.specs.declared.store_journal.Journals.TheVariants.{Single, Paired};
-ghost use Rattle.file_store.specs.Format.{IsStoreOf, IsStoreIfMarked, files_given};
-ghost use Rattle.file_store.specs.Standing.{IsBadLayout, IsBadJournal, IsBadOldLayout, IsBadOldJournal, IsPageOf, OldStandsFor, StandsFor, info_at, standing_page_at};
+ghost use Rattle.file_store.specs.Format.{files_given};
+ghost use Rattle.stores.specs.Images.{IsBadLayout, IsBadJournal, StandsFor, is_pool};
+ghost use Rattle.file_store.specs.Standing.{IsBadOldLayout, IsBadOldJournal, IsPageOf, OldStandsFor, info_at, standing_page_at};
 ghost use Rattle.file_store.specs.Versions.{version_before};
 ghost use Rattle.file_store.specs.Upgrade.{IsUpgradeOf, IsUpgradeIfMarked};
 ghost use Rattle.file_store.specs.declared.sources.FileSource.{FileSource};
+ghost use Rattle.stores.specs.NewStores.{IsNewOrNone, IsNewStore};
+ghost use Rattle.stores.specs.declared.new_stores.NewStore.{NewStore};
 ghost use Rattle.vm_types.specs.declared.command.Command.{Command};
 ghost use Rattle.vm_types.specs.declared.reply.Reply.{Reply};
 ghost use Rattle.vm_types.specs.Files.{Files};
@@ -37,13 +40,13 @@ ghost use Rattle.lives.specs.Upgraded.{IsUpgradedStore};
 use disk_model::SectorDisk;
 use std::io::Read;
 
-/// A new store of either layout stands for the bytes of its sources: its layout and its journal are good, its files are those of the sources,
+/// A new store of any layout stands for the bytes of its sources: its layout and its journal are good, its files are those of the sources,
 /// and each page of them is the one that the source told. What a stop leaves while it is made is no store, so that every
 /// opening and boot returns `BadLayout`, or all of it.
 pub fn new_store<R: Read>(_reader: &R)
-    ensures made { (journals : Journals) (sectors : ℕ) (sources : List (FileSource R)) (image : Image) → IsStoreOf journals R.remaining sectors sources image
+    ensures made { (store : NewStore) (sectors : ℕ) (sources : List (FileSource R)) (image : Image) → IsNewStore R.remaining store sectors sources image
         → StandsForSources R.remaining sectors sources image }
-    ensures stopped { (journals : Journals) (sectors : ℕ) (sources : List (FileSource R)) (image : Image) → IsStoreIfMarked journals R.remaining sectors sources image
+    ensures stopped { (store : NewStore) (sectors : ℕ) (sources : List (FileSource R)) (image : Image) → IsNewOrNone R.remaining store sectors sources image
         → IsBadLayout sectors image ⊎ StandsForSources R.remaining sectors sources image }
 {}
 
@@ -53,7 +56,7 @@ pub fn upgraded_store()
     ensures stood { (journals : Journals) (sectors : ℕ) (old : Image) → (IsBadOldLayout journals sectors old → ⊥) → (IsBadOldJournal journals sectors old → ⊥)
         → OldStandsFor journals sectors (info_at (version_before journals) old) (standing_page_at (version_before journals) (standing_in (sizes_before journals) old) old) old }
     // A store of one journal, as lives leave it, stands for the same to the upgrade that makes one of two of it.
-    ensures lived { (sectors : ℕ) (files : Files) (pages : Pages) (old : Image) → kind_of old ≡ Single → StandsFor sectors files pages old
+    ensures lived { (sectors : ℕ) (files : Files) (pages : Pages) (old : Image) → kind_of old ≡ Single → is_pool old ≡ false → StandsFor sectors files pages old
         → OldStandsFor Paired sectors files pages old }
     ensures made { (journals : Journals) (old_sectors sectors : ℕ) (files : Files) (pages : Pages) (old image : Image) → OldStandsFor journals old_sectors files pages old
         → IsUpgradeOf journals old_sectors sectors old image → StandsFor sectors files pages image }
@@ -75,7 +78,7 @@ pub fn one_more_life<D: SectorDisk, E: SectorDisk>(_store: &D, _swap: &E)
         → HoldsLives D.SectorDisk E.SectorDisk files before (lives ++ life ∷ []) new }
 {}
 
-/// What lives leave of a store that `format` made begins with the bytes of the sources.
+/// What lives leave of a new store begins with the bytes of the sources.
 pub fn formatted_lives<R: Read, D: SectorDisk, E: SectorDisk>(_reader: &R, _store: &D, _swap: &E)
     ensures { (sectors : ℕ) (sources : List (FileSource R)) (lives : List Life) (image : Image)
         → IsFormattedStore R.remaining D.SectorDisk E.SectorDisk sectors sources lives image

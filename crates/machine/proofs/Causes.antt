@@ -3,6 +3,7 @@ use Rattle.vm_types.specs.declared.mode.Levels as Levels
 use Rattle.machine.proofs.{Accesses.{refused_so}, Names.{◌≡◌, ◌≢◌, ◌<◌, ◌≤◌, true, false, refl, sym, ap, ◌∙◌, subst, arith, Ghosts, Tally, Core, ReadCause, IsCaused, names_store, names_swap, refused_count, EIO, Stall, SwapDevice, Answer}}
 use Rattle.{machine.proofs.Names.{reply_of}, vm_types.specs.declared.reply.Answer.TheVariants.{Refused, Stalled}}
 use Rattle.vm_types.specs.declared.reply.Reply.TheVariants as Reply
+use Rattle.stores.specs.Store.{disk_of}
 
 -- only the answer that stalls is a stall
 stalled_so : (a : Answer) (stall : Stall) → reply_of a ≡ Reply.Stalled stall → a ≡ Stalled stall
@@ -26,14 +27,14 @@ unstalled a only calm stall is =
     absurd (let never : true ≡ false = named in cc)
 
 module _ {M : Type 0} {levels : Levels.Ghosts M} {D E : Type 0} (g : Ghosts D) (h : Ghosts E) where
-  stall_cause : (old new : Core D E M levels) (stall : Stall) → stall ≡ SwapDevice → new.refused ≡ old.refused → g.failures new.store.disk ≡ g.failures old.store.disk
+  stall_cause : (old new : Core D E M levels) (stall : Stall) → stall ≡ SwapDevice → new.refused ≡ old.refused → g.failures (disk_of new.store) ≡ g.failures (disk_of old.store)
       → h.failures old.swap.pages.disk < h.failures new.swap.pages.disk → ReadCause g h old new stall
   stall_cause old new stall is refused calm grew = subst (ReadCause g h old new) (sym is) (ap (λ (c : Tally). c.number) refused, calm, grew)
 
-  pub msync_caused : (old new : Core D E M levels) (a : Answer) → g.failures old.store.disk ≤ g.failures new.store.disk
+  pub msync_caused : (old new : Core D E M levels) (a : Answer) → g.failures (disk_of old.store) ≤ g.failures (disk_of new.store)
       → h.failures old.swap.pages.disk ≤ h.failures new.swap.pages.disk
-      → (a ≡ Refused EIO → g.failures old.store.disk < g.failures new.store.disk)
-      → (a ≢ Refused EIO → g.failures new.store.disk ≡ g.failures old.store.disk)
+      → (a ≡ Refused EIO → g.failures (disk_of old.store) < g.failures (disk_of new.store))
+      → (a ≢ Refused EIO → g.failures (disk_of new.store) ≡ g.failures (disk_of old.store))
       → ((stall : Stall) → a ≡ Stalled stall → (stall ≡ SwapDevice) × (h.failures old.swap.pages.disk < h.failures new.swap.pages.disk))
       → (((stall : Stall) → a ≢ Stalled stall) → h.failures new.swap.pages.disk ≡ h.failures old.swap.pages.disk)
       → new.refused ≡ old.refused → IsCaused g h old new (reply_of a)

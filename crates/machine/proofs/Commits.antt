@@ -8,6 +8,8 @@ use Rattle.machine.proofs.Names.{Step, Answers, Fails, Stalls, is_success, State
 use Rattle.machine.{proofs.Steps.{outcome_keeps, commit_takes}, specs.{Engine.{stands_in, MayStand, HoldsIn, StandsForSome, EngineShows, EngineMeets}, declared.engine.Engine.{Engine}}}
 use Rattle.spaces.specs.Calls as Calls
 use Rattle.msync.specs.Shows as Syncing
+use Rattle.stores.specs.Store.{directory_of, disk_of}
+use Rattle.msync.proofs.Committing.{store_same}
 
 -- no check returns EIO
 abbrev RefusesOnly : Ruling → Type 0
@@ -93,21 +95,21 @@ module _ {M : Type 0} {levels : Levels.Ghosts M} {D E : Type 0} (g : Ghosts D) (
   x = Msync pid addr len mode
 
   abbrev n : ℕ
-  n = g.sector_count old.core.store.disk
+  n = g.sector_count (disk_of old.core.store)
 
   abbrev engine : Bool → Engine D E M levels
   engine halts = record { core = core; halted = halts; past = old.past; sync_room = tt; region_room = tt }
 
   -- at every moment the pages are as they were, or as they are to be
-  during : may_have_taken reply ≡ true → GivesBack g h old.core core pid addr len → g.keeps_model core.store.disk
-      → LeavesOnly g old.core.store.disk core.store.disk (StandsForSome n s.files (HoldsIn s x reply))
-  during taken back k = weaker g old.core.store.disk core.store.disk (StandsForEither n s.files s.durable after) (StandsForSome n s.files (HoldsIn s x reply))
+  during : may_have_taken reply ≡ true → GivesBack g h old.core core pid addr len → g.keeps_model (disk_of core.store)
+      → LeavesOnly g (disk_of old.core.store) (disk_of core.store) (StandsForSome n s.files (HoldsIn s x reply))
+  during taken back k = weaker g (disk_of old.core.store) (disk_of core.store) (StandsForEither n s.files s.durable after) (StandsForSome n s.files (HoldsIn s x reply))
       (λ c either. holds_either n s x reply after c run commit taken either) (made.either k back)
 
   -- what is the same however it ends
   met : (halts : Bool) (t : State) → Step (Calls.causes g h old.core core) s x reply t → EngineShows g h (engine halts) t
       → ((stall : Stall) → reply ≡ Stalled stall → Calls.FallsShort (frame_count core.frames) (slots_of core.swap).total s x stall) → is_denial reply ≡ false
-      → (g.keeps_model core.store.disk → LeavesOnly g old.core.store.disk core.store.disk (StandsForSome n s.files (HoldsIn s x reply)))
+      → (g.keeps_model (disk_of core.store) → LeavesOnly g (disk_of old.core.store) (disk_of core.store) (StandsForSome n s.files (HoldsIn s x reply)))
       → (t : State) × EngineMeets g h old (engine halts) s t x reply
   met halts t step shown capacity taken moments =
       let idle : is_idle s x reply ≡ true → KeepsDevices old.core core = λ e. absurd (never_idle s pid addr len mode reply after commit taken e) in
@@ -129,27 +131,28 @@ module _ {M : Type 0} {levels : Levels.Ghosts M} {D E : Type 0} (g : Ghosts D) (
       (λ stall e. absurd (let never : Done ≡ Stalled stall = sym done ∙ e in cc)) (ap is_denial done) (during (ap may_have_taken done) back)
 
   -- the store failed in it
-  commit_failed : CountsNow g → GivesBack g h old.core core pid addr len → reply ≡ Refused EIO → g.failures old.core.store.disk < g.failures core.store.disk
+  commit_failed : CountsNow g → GivesBack g h old.core core pid addr len → reply ≡ Refused EIO → g.failures (disk_of old.core.store) < g.failures (disk_of core.store)
       → KeepsMemory old.core core → (t : State) × EngineMeets g h old (engine true) s t x reply
   commit_failed counts_now back failed grew memory =
       let t = halted s after in
       let pages : ShowsPages (picture_of old.core) t = search rules in
       met true t (Fails after run commit grew failed refl)
       (record {
-        pages = rw (memory.frames, memory.slots, memory.cache, memory.roots, memory.regions, memory.page_of, memory.directory) pages;
+        pages = rw (memory.frames, memory.cache, memory.roots, memory.regions, memory.page_of)
+            (store_same (λ c. ShowsPages c t) (picture_of old.core) (slots_of old.core.swap) (slots_of core.swap) (directory_of old.core.store) (directory_of core.store) memory.slots memory.directory pages);
         running = refl;
         past = shows.past;
         stands = λ k c may.
             subst (λ (sectors : ℕ). StandsForSome sectors s.files (MayStand t) c) (sym made.size)
             (⊎_elim (λ b. (s.durable, inl refl, b)) (λ a. (after, inr (inl refl), a))
-            (holds_now g old.core.store.disk core.store.disk (StandsForEither n s.files s.durable after)
-            (λ m i le ml. counts_now core.store.disk m i k le ml) (made.either k back) c may));
+            (holds_now g (disk_of old.core.store) (disk_of core.store) (StandsForEither n s.files s.durable after)
+            (λ m i le ml. counts_now (disk_of core.store) m i k le ml) (made.either k back) c may));
       })
       (λ stall e. absurd (let never : Refused EIO ≡ Stalled stall = sym failed ∙ e in cc)) (ap is_denial failed) (during (ap may_have_taken failed) back)
 
   -- a slot couldn't be read
   commit_unread : reply ≡ Stalled SwapDevice → h.failures old.core.swap.pages.disk < h.failures core.swap.pages.disk → Syncing.CoreShows g core s
-      → (g.keeps_model core.store.disk → LeavesOnly g old.core.store.disk core.store.disk (StandsFor n s.files s.durable)) → (t : State) × EngineMeets g h old (engine false) s t x reply
+      → (g.keeps_model (disk_of core.store) → LeavesOnly g (disk_of old.core.store) (disk_of core.store) (StandsFor n s.files s.durable)) → (t : State) × EngineMeets g h old (engine false) s t x reply
   commit_unread stalled grew now only =
       let durable : stands_in s.ends s.durable s.durable = subst (λ (o : Option (List Pages)). stands_in o s.durable s.durable) (sym run) refl in
       met false s
@@ -157,7 +160,7 @@ module _ {M : Type 0} {levels : Levels.Ghosts M} {D E : Type 0} (g : Ghosts D) (
       (record { otherwise = ap is_success (done_of s (ruling s x) after commit); open_to = ap is_some commit; cause = grew }) stalled refl)
       (record { pages = now.pages; running = ap is_some run; past = shows.past; stands = λ k c may. (s.durable, durable, now.stands k c may) })
       (λ stall e. subst (Calls.FallsShort (frame_count core.frames) (slots_of core.swap).total s x) (stall_is stall (sym stalled ∙ e)) tt) (ap is_denial stalled)
-      (λ k. weaker g old.core.store.disk core.store.disk (StandsFor n s.files s.durable) (StandsForSome n s.files (HoldsIn s x reply))
+      (λ k. weaker g (disk_of old.core.store) (disk_of core.store) (StandsFor n s.files s.durable) (StandsForSome n s.files (HoldsIn s x reply))
       (λ c stands. (s.durable, inl durable, stands)) (only k))
 
 module _ {M : Type 0} {levels : Levels.Ghosts M} {D E : Type 0} (g : Ghosts D) (h : Ghosts E) where

@@ -1,7 +1,7 @@
 -- What the words on machines say, whatever the mode.
 use Rattle.machine.proofs.Names.{◌+◌, ◌≡◌, ◌≤◌, ◌<◌, true, false, is_some, ap, rules, LeavesNow, LeavesOnly, Ghosts, is_idle, names_store, names_swap, refused_count, Command, EIO, SwapDevice, StoreDevice, Reply, Refused, Stalled, Step}
 use Rattle.machine.{proofs.Names.{Causes, State}, specs.{Engine.{MayStand, HoldsIn, StandsForSome}, Machine.{store_of, swap_of, halted_of, past_of, refused_of, mode_of, bits_of, KeepsSizes, IsCausedBetween, Shows, Meets, IsReadable}}}
-use Rattle.machine.specs.declared.machine.Machine.{Machine, TheVariants.{Sv39, Sv48}}
+use Rattle.{machine.specs.declared.machine.Machine.{Machine, TheVariants.{Sv39, Sv48}}, stores.specs.Store.{disk_of}}
 
 module _ {D E : Type 0} (g : Ghosts D) (h : Ghosts E) where
   -- what came to pass between two machines
@@ -43,11 +43,11 @@ module _ {D E : Type 0} (g : Ghosts D) (h : Ghosts E) where
   pub face : (old new : Machine D E) (s t : State) (command : Command) (reply : Reply) → Meets g h old new s t command reply → IsMet old new s t command reply
   face (Sv39 old) (Sv39 new) s t command reply meets =
       let idle : is_idle s command reply ≡ true → (store_of (Sv39 new) ≡ store_of (Sv39 old)) × (swap_of (Sv39 new) ≡ swap_of (Sv39 old)) = λ e.
-      let keeps = meets.idle e in (ap (λ store. store.disk) keeps.store, ap (λ pages. pages.disk) keeps.pages) in
+      let keeps = meets.idle e in (ap disk_of keeps.store, ap (λ pages. pages.disk) keeps.pages) in
       search rules
   face (Sv48 old) (Sv48 new) s t command reply meets =
       let idle : is_idle s command reply ≡ true → (store_of (Sv48 new) ≡ store_of (Sv48 old)) × (swap_of (Sv48 new) ≡ swap_of (Sv48 old)) = λ e.
-      let keeps = meets.idle e in (ap (λ store. store.disk) keeps.store, ap (λ pages. pages.disk) keeps.pages) in
+      let keeps = meets.idle e in (ap disk_of keeps.store, ap (λ pages. pages.disk) keeps.pages) in
       search rules
   face old new s t command reply meets = absurd meets
 

@@ -1,13 +1,14 @@
 -- Commands that write nothing to the store.
 use Rattle.vm_types.specs.declared.mode.Levels as Levels
 use Rattle.machine.proofs.Names.{ℕ, ◌/◌, ◌≡◌, inl, Bool, true, false, List, Option, Some, None, is_some, refl, sym, ap, ◌∙◌, subst, inr, ⊎_elim, arith, rules, LeavesNow, LeavesOnly, Touches, Nothing, Image, MayLeave, Ghosts, stays, started}
-use Rattle.machine.proofs.Names.{goes_on, still_leaves, asks_none, StandsFor, FileStore, frame_count, slots_of, UsesDevice, ReadsStore, Picture, picture_of, ShowsPages, Core, asks_slots_same, asks_same, slotted_same, calm_same, KeepsRoom}
+use Rattle.machine.proofs.Names.{goes_on, still_leaves, asks_none, StandsFor, frame_count, slots_of, UsesDevice, ReadsStore, Picture, picture_of, ShowsPages, Core, asks_slots_same, asks_same, slotted_same, calm_same, KeepsRoom}
 use Rattle.machine.proofs.Names.{KeepsDevices, settles_nothing, writes_none, empties_none, permits_none, takes_none, AsksFor, is_idle, Access, Command, Exit, Mmap, Munmap, Mprotect, Dontneed, Msync, Load, Store, Fetch, PastFaults, Stall, Reply, Done}
 use Rattle.machine.proofs.Names.{Halted, page_count, Files, user_end, Past, Step, Answers, Stalls, Stays, MayStall, State, IsRunning, outcome, noted, past_after, ruling, takes, Pages}
 use Rattle.machine.{specs.{Engine.{stands_in, MayStand, HoldsIn, StandsForSome, EngineShows, EngineMeets}, Accesses.{Accesses}, declared.engine.Engine.{Engine}}, proofs.Steps.{outcome_keeps, past_stalled}}
 use Rattle.msync.specs.Shows as Syncing
 use Rattle.spaces.specs.Calls as Calls
 use Rattle.vm_types.specs.declared.access.Access.TheVariants as Kinds
+use Rattle.stores.specs.{Store.{disk_of, kept_of}, declared.store.Store.{Store as AnyStore}}
 
 running_of : (o : Option (List Pages)) → is_some o ≡ false → o ≡ None
 running_of None e = refl
@@ -51,7 +52,7 @@ module _ {M : Type 0} {levels : Levels.Ghosts M} {D E : Type 0} (g : Ghosts D) (
   halted_accesses c (Dontneed pid addr len) = (takes_none (picture_of c) pid 0 0, empties_none (picture_of c) pid (addr / 4096) (page_count len) Halted refl)
   halted_accesses c (Msync pid addr len mode) = (
     settles_nothing (picture_of c),
-    record { store = asks_none g _ c.store.disk c.store.disk (λ k. refl); swap = asks_none h _ c.swap.pages.disk c.swap.pages.disk (λ k. refl) },
+    record { store = asks_none g _ (disk_of c.store) (disk_of c.store) (λ k. refl); swap = asks_none h _ c.swap.pages.disk c.swap.pages.disk (λ k. refl) },
   )
   halted_accesses c PastFaults = refl
   halted_accesses c command = (search rules, refl, asks_slots_same h c c None Nothing refl)
@@ -61,13 +62,13 @@ module _ {D : Type 0} (g : Ghosts D) where
   OnlyNow = (d : D) (c : Image) → g.keeps_model d → g.left_since d (g.moment d) c → MayLeave (g.content d) (g.unsynced d) c
 
   -- a call that leaves the store alone reads it, too
-  pub unread : (old core : FileStore D) → core ≡ old → ReadsStore g old core
+  pub unread : (old core : AnyStore D) → core ≡ old → ReadsStore g old core
   unread old core same = record {
-    size = ap (λ (store : FileStore D). g.sector_count store.disk) same;
-    kept = λ k. subst (λ (store : FileStore D). g.keeps_model store.disk) same k;
+    size = ap (λ (store : AnyStore D). g.sector_count (disk_of store)) same;
+    kept = λ k. subst (λ (store : AnyStore D). g.keeps_model (disk_of store)) same k;
     failures = rw same (omega arith);
-    touches = λ k. subst (λ (store : FileStore D). Touches g Nothing old.disk store.disk) (sym same) (stays g Nothing old.disk);
-    directory = ap (λ (store : FileStore D). store.directory) same;
+    touches = λ k. subst (λ (store : AnyStore D). Touches g Nothing (disk_of old) (disk_of store)) (sym same) (stays g Nothing (disk_of old));
+    same = ap (λ (store : AnyStore D). kept_of store) same;
   }
 
 module _ {E : Type 0} (h : Ghosts E) where
@@ -112,12 +113,12 @@ module _ {M : Type 0} {levels : Levels.Ghosts M} {D E : Type 0} (g : Ghosts D) (
   pub is_running : (m : Engine D E M levels) (s : State) → EngineShows g h m s → m.halted ≡ false → IsRunning s
   is_running m s shows e = running_of s.ends (shows.running ∙ e)
 
-  durable_now : (old : Engine D E M levels) (s : State) → EngineShows g h old s → IsRunning s → g.keeps_model old.core.store.disk
-      → LeavesNow g old.core.store.disk (StandsFor (g.sector_count old.core.store.disk) s.files s.durable)
+  durable_now : (old : Engine D E M levels) (s : State) → EngineShows g h old s → IsRunning s → g.keeps_model (disk_of old.core.store)
+      → LeavesNow g (disk_of old.core.store) (StandsFor (g.sector_count (disk_of old.core.store)) s.files s.durable)
   durable_now old s shows run keeps c may =
       let p = shows.stands keeps c may in
       let e : p.0 ≡ s.durable = subst (λ (o : Option (List Pages)). stands_in o s.durable p.0) run p.1 in
-      subst (λ (d : Pages). StandsFor (g.sector_count old.core.store.disk) s.files d c) e p.2
+      subst (λ (d : Pages). StandsFor (g.sector_count (disk_of old.core.store)) s.files d c) e p.2
 
   -- a running machine's processes and files
   pub shows_core : (old : Engine D E M levels) (s : State) → EngineShows g h old s → IsRunning s → Syncing.CoreShows g old.core s
@@ -131,19 +132,19 @@ module _ {M : Type 0} {levels : Levels.Ghosts M} {D E : Type 0} (g : Ghosts D) (
     new = record { core = core; halted = false; past = past; sync_room = tt; region_room = tt }
 
     abbrev n : ℕ
-    n = g.sector_count old.core.store.disk
+    n = g.sector_count (disk_of old.core.store)
 
-    moved : (t : State) → Leaves s t → g.keeps_model core.store.disk → LeavesNow g core.store.disk (StandsForSome (g.sector_count core.store.disk) t.files (MayStand t))
+    moved : (t : State) → Leaves s t → g.keeps_model (disk_of core.store) → LeavesNow g (disk_of core.store) (StandsForSome (g.sector_count (disk_of core.store)) t.files (MayStand t))
     moved t kept k = λ c may.
-        same_stands (g.sector_count core.store.disk) s t c kept
+        same_stands (g.sector_count (disk_of core.store)) s t c kept
         (subst (λ (sectors : ℕ). StandsForSome sectors s.files (MayStand s) c) (sym reads.size)
-        (still_leaves g old.core.store.disk core.store.disk (StandsForSome n s.files (MayStand s)) (reads.touches k) (shows.stands (reads.kept k)) c may))
+        (still_leaves g (disk_of old.core.store) (disk_of core.store) (StandsForSome n s.files (MayStand s)) (reads.touches k) (shows.stands (reads.kept k)) c may))
 
     goes : (t : State) → Leaves s t → is_some t.ends ≡ false
     goes t kept = rw kept.ends (rw (is_running old s shows run) refl)
 
-    during : g.keeps_model core.store.disk → LeavesOnly g old.core.store.disk core.store.disk (StandsForSome n s.files (HoldsIn s command reply))
-    during k = only_read g only_now old.core.store.disk core.store.disk n s command reply (reads.kept k) (shows.stands (reads.kept k)) (reads.touches k)
+    during : g.keeps_model (disk_of core.store) → LeavesOnly g (disk_of old.core.store) (disk_of core.store) (StandsForSome n s.files (HoldsIn s command reply))
+    during k = only_read g only_now (disk_of old.core.store) (disk_of core.store) n s command reply (reads.kept k) (shows.stands (reads.kept k)) (reads.touches k)
 
     -- what is the same however it ends
     told : (t : State) → Step (Calls.causes g h old.core core) s command reply t → EngineShows g h new t
@@ -204,8 +205,8 @@ module _ {M : Type 0} {levels : Levels.Ghosts M} {D E : Type 0} (g : Ghosts D) (
       → (t : State) × EngineMeets g h old old s t command Halted
   stays_halted only_now old s command shows stop =
       let ends = halted_of s.ends (shows.running ∙ stop) in
-      let n = g.sector_count old.core.store.disk in
-      let moments = λ (k : g.keeps_model old.core.store.disk). no_time g only_now old.core.store.disk n s command Halted k (shows.stands k) in
+      let n = g.sector_count (disk_of old.core.store) in
+      let moments = λ (k : g.keeps_model (disk_of old.core.store)). no_time g only_now (disk_of old.core.store) n s command Halted k (shows.stands k) in
       let step : Step (Calls.causes g h old.core old.core) s command Halted s = Stays ends.0 ends.1 refl refl in
       let capacity : (stall : Stall) → Halted ≡ Reply.Stalled stall → Calls.FallsShort (frame_count old.core.frames) (slots_of old.core.swap).total s command stall = λ stall e. absurd (cc) in
       (s, search rules)

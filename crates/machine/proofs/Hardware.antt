@@ -5,7 +5,7 @@ use Rattle.machine.proofs.Names.{past_after, ruling, takes, Access, StoredValue,
 use Rattle.machine.proofs.{Accesses.{carries_out, on_page}, Counts.{counts}, Face.{face, readable}, Flat.{OnlyNow, unread, unused}, HardwareWalks.{user_walked, walks_same}, Runs.{all_ran, ran_first, room_none, room_then, RanSoFar}, Tidied.{tidied}}
 use Rattle.fault.{proofs.{Chances.{others_kept, others_same}, Ready.{grants_found}, Serving.{tends_none}, Settling.{beside_around}, Wanted.{walked_same}}, specs.{Changes.{IsThatPage}, Outcome.{IsPlaced}, Serving.{Reaches}, Wants.{ShowsFile}}}
 use Rattle.frames.{proofs.FrameLemmas.{IsHeld-above, IsHeld-not_zero, IsSound-step, with_bytes-others}, specs.{FrameTable.{FrameTable, IsHeld, bytes_of, frame_count, role_of, with_bytes}, declared.role.Role.TheVariants.{Table}}}
-use Rattle.{file_store.specs.Store.{IsReadyStore}, msync.specs.Shows.{IsSoundCore}, residency.specs.{Parts.{IsFit}, Picture.{Picture}}, std.specs.Prelude.{Ok}, sv39_walk.specs.Walk.{is_store}, swap.specs.Slots.{IsReady}}
+use Rattle.{stores.specs.Store.{disk_of, kept_of, HasRoomFor, IsReadyStore}, vm_types.specs.Limits.{msync_pages}, msync.specs.Shows.{IsSoundCore}, residency.specs.{Parts.{IsFit}, Picture.{Picture}}, std.specs.Prelude.{Ok}, sv39_walk.specs.Walk.{is_store}, swap.specs.Slots.{IsReady}}
 use Rattle.spaces.{proofs.{Asking.{asks_unstalled, writes_none}, Reading.{reads}, Writing.{data_frame, entries_stored, open_held, fit_stored, others_stored, room_stored, slotted_stored, stores}}, specs.{Accesses.{CarriesRead, WritesNumber}, Calls.{Carries}}}
 use Rattle.vm_types.specs.{Access.{loaded, with_number}, Width.{byte_count}, declared.{number.Phys.{Phys}, reply.Reply.TheVariants.{Value}, width.Width.TheVariants.{Four}}}
 use Rattle.vm_types.specs.declared.access.Access.TheVariants as Kinds
@@ -98,6 +98,7 @@ module _ {M : Type 0} {levels : Levels.Ghosts M} {D E : Type 0} (g : Ghosts D) (
           accounts = record {
             sound = record {
               ready = subst (λ x. IsReadyStore g x) (sym writes.around.store) sound.ready;
+              room = subst (λ x. HasRoomFor msync_pages (kept_of x)) (sym writes.around.store) sound.room;
               swap = subst (λ x. IsReady h x) (sym writes.around.swap) sound.swap;
               fit = fit_stored before after pid (addr / 4096) backing n bytes sound.fit placed.usable writes.frames beside;
             };
@@ -106,7 +107,7 @@ module _ {M : Type 0} {levels : Levels.Ghosts M} {D E : Type 0} (g : Ghosts D) (
             caused = record {
               later = rw writes.around.store (omega arith);
               swap_later = rw writes.around.swap (omega arith);
-              calm = λ e. ap (λ x. g.failures x.disk) writes.around.store;
+              calm = λ e. ap (λ x. g.failures (disk_of x)) writes.around.store;
               swap_calm = λ e. ap (λ x. h.failures x.pages.disk) writes.around.swap;
               counted = rw writes.refused (omega arith);
               failed = λ e. cc;
@@ -128,7 +129,7 @@ module _ {M : Type 0} {levels : Levels.Ghosts M} {D E : Type 0} (g : Ghosts D) (
     write_carries = λ s shows keeps swaps.
         let kept = subst (λ x. h.keeps_model x.pages.disk) writes.around.swap (swaps refl) in
         let grants = arrives.granted (λ away. kept) in
-        stores g h old old _ s shows (subst (λ x. g.keeps_model x.disk) writes.around.store (keeps refl)) kept sound.fit arrives.tends.proceeds arrives.tends.brings
+        stores g h old old _ s shows (subst (λ x. g.keeps_model (disk_of x)) writes.around.store (keeps refl)) kept sound.fit arrives.tends.proceeds arrives.tends.brings
         pid addr (ap is_some granted.lives) stored grants.seen grants.fine n new bytes writes.frames (beside_around old new writes.around) grants.ready
         (ap (λ (at : ℕ). with_number (bytes_of old.frames n) at (byte_count stored.width) stored.value) arrives.placed.offset)
 

@@ -9,6 +9,7 @@ use Rattle.vm_types.specs.declared.{access.{Access.{Access}, StoredValue.{Stored
 use Rattle.machine.proofs.{Flat.{OnlyNow, is_running}, Hardware.{made, reached}, HardwareWalks.{walks_same}}
 use Rattle.machine.specs.{Commands.{DoesAsTold}, Engine.{EngineMayRead, EngineMeets, EngineShows, IsSoundEngine}, Hardware.{TakesStep, HardwareMakes, HardwareReads, IsGranted, IsGrantedBy, IsMadeByHardware}, Machine.{halted_of, IsSoundMachine, Shows, store_of, swap_of}}
 use Rattle.machine.specs.declared.{engine.Engine.{Engine}, machine.Machine.{Machine, TheVariants.{Sv39, Sv48}}}
+use Rattle.stores.specs.Store.{disk_of}
 
 no_cause : (c : Causes) (stall : Stall) → (c.refused → ⊥) → (c.swap → ⊥) → (c.store → ⊥) → cause_of c stall → ⊥
 no_cause c SwapDevice refused swap store is = swap is
@@ -26,11 +27,11 @@ by_row c s command reply t run refused swap store (Stays ends halts is goes) = a
 module _ {M : Type 0} {levels : Levels.Ghosts M} {D E : Type 0} (g : Ghosts D) (h : Ghosts E) where
   -- a command that left memory and the devices as they were
   still_told : (old new : Engine D E M levels) (s : State) (command : Command) (reply : Reply) → IsSoundEngine g h old → old.halted ≡ false → EngineShows g h old s
-      → g.keeps_model old.core.store.disk → h.keeps_model old.core.swap.pages.disk → new.core ≡ old.core
+      → g.keeps_model (disk_of old.core.store) → h.keeps_model old.core.swap.pages.disk → new.core ≡ old.core
       → ((u : State) → EngineShows g h old u → EngineMayRead g h new u command → (t : State) × EngineMeets g h old new u t command reply) → reply ≡ (outcome s command).reply
   still_told old new s command reply sound runs shows keeps swaps same meets =
       let met = meets s shows (record {
-        files = λ _. subst (λ x. g.keeps_model x.store.disk) (sym same) keeps;
+        files = λ _. subst (λ x. g.keeps_model (disk_of x.store)) (sym same) keeps;
         slots = λ _. subst (λ x. h.keeps_model x.swap.pages.disk) (sym same) swaps;
       }) in
       by_row (causes g h old.core old.core) s command reply met.0 (is_running g h old s shows runs) (λ e. omega (arith, e)) (λ e. omega (arith, e)) (λ e. omega (arith, e))
@@ -39,7 +40,7 @@ module _ {M : Type 0} {levels : Levels.Ghosts M} {D E : Type 0} (g : Ghosts D) (
   -- a number that hardware could have read
   read_told : (only_now : OnlyNow g) (old new : Engine D E M levels) (s : State) (pid addr : ℕ) (width : Width) (kind : Access) (command : Command) (told reply : Reply)
       (is : HardwareReads old old pid addr width kind told) → HardwareMakes old old command told → IsSoundEngine g h old → EngineShows g h old s
-      → g.keeps_model old.core.store.disk → h.keeps_model old.core.swap.pages.disk → ((place : Phys) → IsWalked (picture_of old.core) pid addr width kind place → new.core ≡ old.core)
+      → g.keeps_model (disk_of old.core.store) → h.keeps_model old.core.swap.pages.disk → ((place : Phys) → IsWalked (picture_of old.core) pid addr width kind place → new.core ≡ old.core)
       → ((u : State) → EngineShows g h old u → EngineMayRead g h new u command → (t : State) × EngineMeets g h old new u t command reply) → reply ≡ told
   read_told only_now old new s pid addr width kind command told reply is makes sound shows keeps swaps same meets =
       let placed = (reached g h old.core pid addr width kind is.place (sound.going is.runs) is.granted).placed in

@@ -13,4 +13,5 @@ pub mod HardwareWalks
 pub mod Prefixes
 pub mod Runs
 pub mod Steps
+pub mod StoreBoots
 pub mod Tidied

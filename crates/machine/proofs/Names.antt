@@ -1,9 +1,9 @@
 -- What the proofs of this crate cite of the crates below it and of the standard library: `use Rattle.machine.proofs.Names.{..}`.
 pub use Rattle.residency.{proofs.Moves.{view-none}, specs.{Calls.{UsesDevice, IsStart}, Parts.{IsFit}, Picture.{is_live, picture_of, Picture}, Reading.{ReadsStore}, Shows.{ShowsPages}, Stalls.{ReadCause}, declared.kernel.Core.{Core}}}
-pub use Rattle.disk_model.{proofs.Moments.{stays, asks_none, started, holds_now, weaker, goes_on, still_leaves}, specs.{Moments.{LeavesOnly, LeavesNow, Touches, Nothing}, Stop.{Image, MayLeave}, Tally.{Tally}}}
+pub use Rattle.disk_model.{proofs.Moments.{stays, asks_none, asks_then, asks_wider, joined, started, holds_now, weaker, goes_on, still_leaves}, specs.{Moments.{LeavesOnly, LeavesNow, Touches, Nothing}, Stop.{Image, MayLeave}, Tally.{Tally}}}
 pub use Rattle.{disk_model.specs.declared.sector_disk.SectorDisk.{Ghosts}, fault.{proofs.{AccessAsking.{asks_same}, AccessSlotted.{slotted_same}, Asking.{asks_slots_same}, Wanted.{calm_same}}, specs.Changes.{KeepsRoom}}}
-pub use Rattle.file_store.{proofs.Outside.{left_outside}, specs.{Commit.{StandsForEither}, Opened.{RefusesToOpen, OpensFrom}, Standing.{standing_page, file_info, StandsAs, StandsFor}, declared.faults.OpenFault.{OpenFault}}}
-pub use Rattle.{file_store.specs.declared.store.FileStore.{FileStore}, frames.specs.FrameTable.{frame_count}, msync.{proofs.SettledPages.{settles_nothing}, specs.Core.{GivesBack, Failed, Commits, KeepsMemory, Unread, Acknowledged}}}
+pub use Rattle.stores.specs.{Images.{StandsForEither, standing_page, file_info, StandsAs, StandsFor}, declared.faults.OpenFault.{OpenFault}}
+pub use Rattle.{frames.specs.FrameTable.{frame_count}, msync.{proofs.SettledPages.{settles_nothing}, specs.Core.{GivesBack, Failed, Commits, KeepsMemory, Unread, Acknowledged}}}
 pub use Rattle.{page_cache.specs.declared.place.Place.TheVariants.{Home}, ranges.{proofs.Named.{named-alike}, specs.Steps.{KeepsDevices}}, spaces.proofs.{Asking.{writes_none}, Pages.{attrs_seen}, Returning.{empties_none, permits_none, takes_none}}}
 pub use Rattle.{spaces.specs.{Accesses.{KeepsToPage, AsksFor}, Calls.{IsCaused}, Idle.{is_idle, is_denial, refused_count, names_store, names_swap}, Ranges.{GivesPagesBack}}, std.proofs.Common.{sym, ◌≡◌, Bool, ℕ, ◌∙◌, subst, true, false}}
 pub use Rattle.std.proofs.Common.{ap, if◌then◌else◌, not, List, ◌≢◌, refl, ⊎_elim, [], Some, is_some, ◌⊎◌, rules, ◌*◌, inr, arith, None, ◌≤◌, inl, ◌<◌, ◌∷◌, ◌%◌, ◌==◌, Option, ◌/◌, nat_lt, sum_by, ◌+◌, zero, add-zero, suc, add-one, ◌++◌}

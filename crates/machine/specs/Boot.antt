@@ -1,13 +1,13 @@
 -- What a boot leaves, and when it gives up.
-use Rattle.std.specs.Prelude.{ℕ, ◌*◌, ◌^◌, ◌≡◌, ◌<◌, ◌≤◌, ◌⊎◌, false, None, []}
+use Rattle.std.specs.Prelude.{ℕ, ◌*◌, ◌^◌, ◌≡◌, ◌<◌, ◌≤◌, ◌⊎◌, true, false, None, []}
 use Rattle.disk_model.specs.Moments.{Touches, AsksOnly, Nothing, LeavesOnly}
 use Rattle.disk_model.specs.Stop.{Image}
 use Rattle.disk_model.specs.declared.sector_disk.SectorDisk.{Ghosts}
-use Rattle.sync_journal.specs.Kinds.{by_kind}
-use Rattle.file_store.specs.Standing.{StandsFor, StandsAs, IsBadLayout, IsBadJournal, IsAskedToOpen}
+use Rattle.stores.specs.Images.{is_pool, map_blocks, StandsFor, StandsAs, IsBadLayout, IsBadJournal, IsAskedToOpen, IsOutside}
+use Rattle.vm_types.specs.Limits.{msync_pages}
 use Rattle.vm_types.specs.State.{State, IsRunning}
 use Rattle.machine.specs.declared.boot.BootFault.{BootFault}
-use Rattle.machine.specs.declared.boot.BootFault.TheVariants.{Frames, Slots, Device, BadLayout, BadJournal}
+use Rattle.machine.specs.declared.boot.BootFault.TheVariants.{Frames, Slots, Device, BadLayout, BadJournal, SmallPool}
 use Rattle.machine.specs.declared.config.Config.{Config}
 use Rattle.machine.specs.declared.machine.Machine.{Machine}
 use Rattle.machine.specs.Machine.{Shows, IsEmpty, store_of, swap_of, frames_of, slot_count_of, refused_of, mode_of, bits_of}
@@ -19,6 +19,15 @@ HasBadFrames config = (config.frames < 8) ⊎ (2 ^ 16 < config.frames)
 -- more than 65,536 slots, or more than the swap device has room for
 abbrev pub HasBadSlots : Config → ℕ → Type 0
 HasBadSlots config sectors = (2 ^ 16 < config.slots) ⊎ (sectors < 8 * config.slots)
+
+-- a pool that has fewer slots in a body than an msync takes pages at most
+abbrev pub HasSmallPool : Image → Type 0
+HasSmallPool image = (is_pool image ≡ true) × (504 * map_blocks image < msync_pages)
+
+-- What a boot asks a store's device for: what an opening does, and of a pool any sector of gate, maps, slots and homes, since a commit of no pages may
+-- make room for the first msync.
+abbrev pub IsAskedToBoot : ℕ → Image → ℕ → Type 0
+IsAskedToBoot sectors image k = IsAskedToOpen sectors image k ⊎ ((is_pool image ≡ true) × (IsOutside sectors image k → ⊥))
 
 -- The flat model as it starts: no process, files of which nothing was stored to, and no objects.
 pub record IsBootState (s : State) : Type 0 where
@@ -72,6 +81,8 @@ module _ {D : Type 0} (g : Ghosts D) where
     pub layout : g.keeps_model new → IsBadLayout (g.sector_count store) (g.content store) → ⊥
     -- no journal stands over its homes, or one with a map that some commit writes
     pub journal : g.keeps_model new → IsBadJournal (g.sector_count store) (g.content store) → ⊥
+    -- a body of its pool, if it has one, has slots for an msync
+    pub pool : g.keeps_model new → HasSmallPool (g.content store) → ⊥
     -- the device has as many sectors as it had
     pub size : g.sector_count new ≡ g.sector_count store
     -- if it keeps the disk model still, it did before
@@ -80,10 +91,10 @@ module _ {D : Type 0} (g : Ghosts D) where
     pub later : g.failures store ≤ g.failures new
     -- and it did not fail
     pub calm : g.failures new ≡ g.failures store
-    -- no sector was asked for but mark, kind and directory, the gate, the map that it names, and, where that has pages, what is copied and written
-    pub asks : g.keeps_model new → AsksOnly g (IsAskedToOpen (g.content store)) store new
-    -- the mark, the directory and what lies after the last home are as they were
-    pub outside : g.keeps_model new → (k : ℕ) → by_kind.IsOutside (g.content store) (g.sector_count store) k → g.content new k ≡ g.content store k
+    -- no sector was asked for but those that a boot asks for
+    pub asks : g.keeps_model new → AsksOnly g (IsAskedToBoot (g.sector_count store) (g.content store)) store new
+    -- the mark, the kind, a directory that stands outside of the homes, and what lies after the last home are as they were
+    pub outside : g.keeps_model new → (k : ℕ) → IsOutside (g.sector_count store) (g.content store) k → g.content new k ≡ g.content store k
 
   -- Why a boot gives up with this fault, and what it leaves of the store's device, which is the new one then.
   pub record BootRefuses (config : Config) (swap_sectors : ℕ) (store : D) (fault : BootFault) (new : D) : Type 0 where
@@ -105,14 +116,16 @@ module _ {D : Type 0} (g : Ghosts D) where
     pub bad_journal : g.keeps_model new → fault ≡ BadJournal → IsBadJournal (g.sector_count store) (g.content store)
     -- a bad layout is reported before a bad journal
     pub layout_first : g.keeps_model new → fault ≡ BadJournal → IsBadLayout (g.sector_count store) (g.content store) → ⊥
+    -- `SmallPool` comes only where a body of the pool has fewer slots than an msync takes pages
+    pub small_pool : g.keeps_model new → fault ≡ SmallPool → HasSmallPool (g.content store)
     -- for sizes nothing was asked of the device
     pub unasked : (fault ≡ Frames) ⊎ (fault ≡ Slots) → new ≡ store
     -- for a bad image nothing was written to it
     pub unwritten : g.keeps_model new → (fault ≡ BadLayout) ⊎ (fault ≡ BadJournal) → Touches g Nothing store new
-    -- no sector was asked for but mark, kind and directory, the gate, the map that it names, and, where that has pages, what is copied and written
-    pub asks : g.keeps_model new → AsksOnly g (IsAskedToOpen (g.content store)) store new
-    -- the mark, the directory and what lies after the last home are as they were
-    pub outside : g.keeps_model new → (k : ℕ) → by_kind.IsOutside (g.content store) (g.sector_count store) k → g.content new k ≡ g.content store k
+    -- no sector was asked for but those that a boot asks for
+    pub asks : g.keeps_model new → AsksOnly g (IsAskedToBoot (g.sector_count store) (g.content store)) store new
+    -- the mark, the kind, a directory that stands outside of the homes, and what lies after the last home are as they were
+    pub outside : g.keeps_model new → (k : ℕ) → IsOutside (g.sector_count store) (g.content store) k → g.content new k ≡ g.content store k
     -- the device has as many sectors as it had
     pub err_size : g.sector_count new ≡ g.sector_count store
     -- if it keeps the disk model still, it did before

@@ -4,7 +4,7 @@ use Rattle.std.specs.Prelude.{ℕ, ◌≡◌, ◌≢◌, ◌⊎◌, true, false,
 use Rattle.disk_model.specs.Moments.{LeavesNow, LeavesOnly}
 use Rattle.disk_model.specs.Stop.{Image}
 use Rattle.disk_model.specs.declared.sector_disk.SectorDisk.{Ghosts}
-use Rattle.file_store.specs.Standing.{StandsFor}
+use Rattle.stores.specs.Images.{StandsFor}
 use Rattle.frames.specs.FrameTable.{frame_count}
 use Rattle.swap.specs.Slots.{slots_of}
 use Rattle.residency.specs.Picture.{picture_of}
@@ -29,6 +29,7 @@ use Rattle.vm_types.specs.State.{State, IsRunning}
 use Rattle.vm_types.specs.Step.{ruling, takes}
 use Rattle.vm_types.specs.View.{Pages}
 use Rattle.machine.specs.declared.engine.Engine.{Engine}
+use Rattle.stores.specs.Store.{disk_of}
 
 -- one of a list of contents
 abbrev pub IsOneOf : Pages → List Pages → Type 0
@@ -73,8 +74,8 @@ module _ {M : Type 0} {levels : Levels.Ghosts M} {D E : Type 0} (g : Ghosts D) (
     pub pages : ShowsPages (picture_of m.core) s
     pub running : is_some s.ends ≡ m.halted
     pub past : m.past ≡ s.past
-    pub stands : g.keeps_model m.core.store.disk
-        → LeavesNow g m.core.store.disk (StandsForSome (g.sector_count m.core.store.disk) s.files (MayStand s))
+    pub stands : g.keeps_model (disk_of m.core.store)
+        → LeavesNow g (disk_of m.core.store) (StandsForSome (g.sector_count (disk_of m.core.store)) s.files (MayStand s))
 
   -- A command was carried out: as the flat model does, stalled for want of memory only where that is short, with as many frames and
   -- slots as there were, and with nothing else durable at any moment.
@@ -83,15 +84,15 @@ module _ {M : Type 0} {levels : Levels.Ghosts M} {D E : Type 0} (g : Ghosts D) (
     pub shows : EngineShows new t
     pub capacity : (stall : Stall) → reply ≡ Stalled stall → Calls.FallsShort (frame_count new.core.frames) (slots_of new.core.swap).total s command stall
     pub room : KeepsRoom (picture_of old.core) (picture_of new.core)
-    pub size : g.sector_count new.core.store.disk ≡ g.sector_count old.core.store.disk
+    pub size : g.sector_count (disk_of new.core.store) ≡ g.sector_count (disk_of old.core.store)
     pub swap_size : h.sector_count new.core.swap.pages.disk ≡ h.sector_count old.core.swap.pages.disk
-    pub kept : g.keeps_model new.core.store.disk → g.keeps_model old.core.store.disk
+    pub kept : g.keeps_model (disk_of new.core.store) → g.keeps_model (disk_of old.core.store)
     pub swap_kept : h.keeps_model new.core.swap.pages.disk → h.keeps_model old.core.swap.pages.disk
     pub idle : is_idle s command reply ≡ true → KeepsDevices old.core new.core
-    pub moments : g.keeps_model new.core.store.disk
-        → LeavesOnly g old.core.store.disk new.core.store.disk (StandsForSome (g.sector_count old.core.store.disk) s.files (HoldsIn s command reply))
+    pub moments : g.keeps_model (disk_of new.core.store)
+        → LeavesOnly g (disk_of old.core.store) (disk_of new.core.store) (StandsForSome (g.sector_count (disk_of old.core.store)) s.files (HoldsIn s command reply))
 
   -- The premise of a command's contract: a device that it reads keeps its model.
   pub record EngineMayRead (m : Engine D E M levels) (s : State) (command : Command) : Type 0 where
-    pub files : reads_files command ≡ true → g.keeps_model m.core.store.disk
+    pub files : reads_files command ≡ true → g.keeps_model (disk_of m.core.store)
     pub slots : reads_swap s command ≡ true → h.keeps_model m.core.swap.pages.disk

@@ -2,7 +2,7 @@
 use Rattle.vm_types.specs.declared.mode.Levels as Levels
 use Rattle.std.specs.Prelude.{◌≡◌}
 use Rattle.disk_model.specs.declared.sector_disk.SectorDisk.{Ghosts}
-use Rattle.file_store.specs.Standing.{StandsFor}
+use Rattle.stores.specs.Images.{StandsFor}
 use Rattle.frames.specs.FrameTable.{frame_count}
 use Rattle.swap.specs.Slots.{slots_of}
 use Rattle.residency.specs.Calls.{IsStart}
@@ -11,6 +11,7 @@ use Rattle.machine.specs.Boot.{IsBootState}
 use Rattle.machine.specs.Engine.{EngineShows}
 use Rattle.machine.specs.declared.config.Config.{Config}
 use Rattle.machine.specs.declared.engine.Engine.{Engine}
+use Rattle.stores.specs.Store.{disk_of}
 
 module _ {M : Type 0} {levels : Levels.Ghosts M} where
   -- The engine starts with
@@ -34,4 +35,4 @@ module _ {M : Type 0} {levels : Levels.Ghosts M} {D E : Type 0} (g : Ghosts D) (
     -- no frame and no slot is taken
     pub fresh : IsStart m.core (frame_count m.core.frames) (slots_of m.core.swap).total
     -- the image at entry stood for these files, with these bytes
-    pub stands : g.keeps_model m.core.store.disk → StandsFor (g.sector_count store) state.files state.durable (g.content store)
+    pub stands : g.keeps_model (disk_of m.core.store) → StandsFor (g.sector_count store) state.files state.durable (g.content store)

@@ -10,12 +10,13 @@ use Rattle.vm_types.specs.State.{State}
 use Rattle.machine.specs.Accesses.{Accesses}
 use Rattle.machine.specs.Engine.{EngineMayRead, EngineMeets, EngineShows, IsSoundEngine, KeepsIfDenied}
 use Rattle.machine.specs.declared.engine.Engine.{Engine}
+use Rattle.stores.specs.Store.{disk_of}
 
 module _ {M : Type 0} {levels : Levels.Ghosts M} {D E : Type 0} (g : Ghosts D) (h : Ghosts E) where
   -- Whatever comes of a command,
   pub record EngineKeeps (old new : Engine D E M levels) : Type 0 where
     -- a store that keeps the disk model after it kept the model before it,
-    pub kept : g.keeps_model new.core.store.disk → g.keeps_model old.core.store.disk
+    pub kept : g.keeps_model (disk_of new.core.store) → g.keeps_model (disk_of old.core.store)
     -- and so did swap,
     pub swap_kept : h.keeps_model new.core.swap.pages.disk → h.keeps_model old.core.swap.pages.disk
     -- and there are as many frames and slots as there were.

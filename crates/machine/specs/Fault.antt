@@ -1,9 +1,9 @@
 -- The numbers of boot's faults. Our own.
 use Rattle.std.specs.Prelude.{ℕ}
-use Rattle.file_store.specs.declared.faults.OpenFault.{OpenFault}
-use Rattle.file_store.specs.declared.faults.OpenFault.TheVariants.{Device as StoreDevice, BadLayout as StoreLayout, BadJournal as StoreJournal}
+use Rattle.stores.specs.declared.faults.OpenFault.{OpenFault}
+use Rattle.stores.specs.declared.faults.OpenFault.TheVariants.{Device as StoreDevice, BadLayout as StoreLayout, BadJournal as StoreJournal, Memory as StoreMemory}
 use Rattle.machine.specs.declared.boot.BootFault.{BootFault}
-use Rattle.machine.specs.declared.boot.BootFault.TheVariants.{Frames, Slots, OutOfMemory, Device, BadLayout, BadJournal}
+use Rattle.machine.specs.declared.boot.BootFault.TheVariants.{Frames, Slots, OutOfMemory, Device, BadLayout, BadJournal, SmallPool}
 
 abbrev pub fault_number : BootFault → ℕ
 fault_number Frames = 1
@@ -12,9 +12,11 @@ fault_number OutOfMemory = 3
 fault_number Device = 4
 fault_number BadLayout = 5
 fault_number BadJournal = 6
+fault_number SmallPool = 7
 
 -- why a store that can't be opened can't be booted
 abbrev pub boot_fault : OpenFault → BootFault
 boot_fault StoreDevice = Device
 boot_fault StoreLayout = BadLayout
 boot_fault StoreJournal = BadJournal
+boot_fault StoreMemory = OutOfMemory

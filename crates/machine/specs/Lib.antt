@@ -1,5 +1,6 @@
 pub mod Accesses
 pub mod Boot
+pub mod StoreBoot
 pub mod Chain
 pub mod Commands
 pub mod Counts

@@ -16,6 +16,7 @@ use Rattle.machine.specs.Engine.{EngineShows, EngineMeets, EngineMayRead, IsSoun
 use Rattle.machine.specs.declared.engine.Engine.{Engine}
 use Rattle.machine.specs.declared.machine.Machine.{Machine}
 use Rattle.machine.specs.declared.machine.Machine.TheVariants.{Sv39, Sv48}
+use Rattle.stores.specs.Store.{disk_of}
 
 -- the bits of an address in a mode, by which a state of the flat model tells its mode
 abbrev pub bits_of : Mode → ℕ
@@ -25,8 +26,8 @@ bits_of Modes.Sv48 = 48
 module _ {D E : Type 0} where
   -- the store's device
   abbrev pub store_of : Machine D E → D
-  store_of (Sv39 m) = m.core.store.disk
-  store_of (Sv48 m) = m.core.store.disk
+  store_of (Sv39 m) = (disk_of m.core.store)
+  store_of (Sv48 m) = (disk_of m.core.store)
 
   -- the swap device
   abbrev pub swap_of : Machine D E → E

@@ -1,21 +1,23 @@
 //! Starting the machine of one mode.
-ghost use Rattle.std.specs.Prelude.{◌≡◌, IfOk, IfErr};
+ghost use Rattle.stores.specs.Store.{disk_of};
+ghost use Rattle.std.specs.Prelude.{◌≡◌, IfOk, IfErr, MatchResult};
 ghost use Rattle.machine.specs.Engine.{IsSoundEngine};
 ghost use Rattle.machine.specs.Boot.{BootAccepts, BootLeaves, BootRefuses};
+ghost use Rattle.machine.specs.StoreBoot.{BootsStore, RefusesStore};
 ghost use Rattle.machine.specs.EngineBoot.{EngineBoots, EngineStarts};
 ghost use Rattle.machine.specs.Fault.{fault_number, boot_fault};
 
 use crate::config::Config;
 use crate::engine::Engine;
 use crate::fault_log::FaultLog;
-use disk_model::SectorDisk;
-use file_store::{FileStore, OpenFault};
+use disk_model::{DiskFault, SectorDisk};
 use residency::Core;
 use spaces::{RegionRoom, SyncRoom};
 use std::alloc::Global;
+use stores::{OpenFault, Store};
 use swap::Swap;
 use thiserror::Error;
-use vm_types::Levels;
+use vm_types::{Levels, MSYNC_PAGES};
 
 /// The fewest and the most frames.
 const MIN_FRAMES: u32 = 8;
@@ -49,10 +51,13 @@ pub enum BootFault {
     /// The journal is open with a map that no commit writes. Nothing was written.
     #[error("{}", OpenFault::BadJournal)]
     BadJournal = 6,
+    /// The pool of a store of layout 4 has fewer slots in a body than the 1,023 pages that an msync takes at most: its maps have one block or two.
+    #[error("SMALLPOOL")]
+    SmallPool = 7,
 }
 
 impl BootFault {
-    /// The number, 1 to 6.
+    /// The number, 1 to 7.
     pub fn number(self) -> u8
         ensures { result ≡ fault_number self }
     {
@@ -68,6 +73,7 @@ impl From<OpenFault> for BootFault {
             OpenFault::Device => BootFault::Device,
             OpenFault::BadLayout => BootFault::BadLayout,
             OpenFault::BadJournal => BootFault::BadJournal,
+            OpenFault::Memory => BootFault::OutOfMemory,
         }
     }
 }
@@ -76,8 +82,8 @@ impl<D: SectorDisk, E: SectorDisk + Drop, M: Levels> Engine<D, E, M> {
     /// Starts the engine of that mode, as `Machine::boot` starts the machine that has it: of the configuration it reads the sizes
     /// alone, before the store is asked.
     ///
-    /// `Frames`, `Slots`, `BadLayout` and `BadJournal` come exactly where their texts say, unless an earlier one
-    /// comes; `Device` exactly where the store device failed in this call. Each fault hands the store back.
+    /// `Frames`, `Slots`, `BadLayout`, `BadJournal` and `SmallPool` come exactly where their texts say, unless another one
+    /// comes first; `Device` exactly where the store device failed in this call. Each fault hands the store back.
     pub fn boot(
         alloc: Global,
         config: Config,
@@ -87,8 +93,8 @@ impl<D: SectorDisk, E: SectorDisk + Drop, M: Levels> Engine<D, E, M> {
         ensures sound { IfOk result (λ m. IsSoundEngine D.SectorDisk E.SectorDisk m) }
         ensures boots { IfOk result (λ m. EngineBoots D.SectorDisk E.SectorDisk store m) }
         ensures starts { IfOk result (λ m. EngineStarts m config swap) }
-        ensures accepts { IfOk result (λ m. BootAccepts D.SectorDisk config (E.sector_count swap) store m.core.store.disk) }
-        ensures moments { IfOk result (λ m. BootLeaves D.SectorDisk store m.core.store.disk) }
+        ensures accepts { IfOk result (λ m. BootAccepts D.SectorDisk config (E.sector_count swap) store (disk_of m.core.store)) }
+        ensures moments { IfOk result (λ m. BootLeaves D.SectorDisk store (disk_of m.core.store)) }
         ensures refuses { IfErr result (λ e. BootRefuses D.SectorDisk config (E.sector_count swap) store e.0 e.1) }
         ensures err_moments { IfErr result (λ e. BootLeaves D.SectorDisk store e.1) }
     {
@@ -98,9 +104,9 @@ impl<D: SectorDisk, E: SectorDisk + Drop, M: Levels> Engine<D, E, M> {
         if config.slots > MAX_SLOTS || SLOT_SECTORS * u64::from(config.slots) > swap.sectors() {
             return Err((BootFault::Slots, store));
         }
-        let store = match FileStore::open(store) {
+        let store = match open_store(alloc, store) {
             Ok(store) => store,
-            Err((fault, disk)) => return Err((BootFault::from(fault), disk)),
+            Err(fault) => return Err(fault),
         };
         let Ok(past) = FaultLog::new(alloc) else {
             return Err((BootFault::OutOfMemory, store.into_disk()));
@@ -118,5 +124,22 @@ impl<D: SectorDisk, E: SectorDisk + Drop, M: Levels> Engine<D, E, M> {
             }),
             Err((_, store)) => Err((BootFault::OutOfMemory, store.into_disk())),
         }
+    }
+}
+
+/// Opens the store on a device, and makes room in it for as many pages as an msync takes at most.
+fn open_store<D: SectorDisk>(alloc: Global, disk: D) -> Result<Store<D>, (BootFault, D)>
+    ensures { MatchResult result (λ store. BootsStore D.SectorDisk disk store) (λ e. RefusesStore D.SectorDisk disk e.0 e.1) }
+{
+    let mut store = match Store::open(alloc, disk) {
+        Ok(store) => store,
+        Err((fault, disk)) => return Err((BootFault::from(fault), disk)),
+    };
+    if store.always_free_pages() < MSYNC_PAGES {
+        return Err((BootFault::SmallPool, store.into_disk()));
+    }
+    match store.make_room() {
+        Ok(()) => Ok(store),
+        Err(DiskFault) => Err((BootFault::Device, store.into_disk())),
     }
 }

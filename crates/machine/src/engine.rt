@@ -1,4 +1,5 @@
 //! The machine of one mode: commands in, replies out, over a store that survives stops.
+ghost use Rattle.stores.specs.Store.{disk_of};
 ghost use Rattle.std.specs.Prelude.{◌≡◌, ◌≤◌, ◌<◌, ◌↔◌, is_some, true, IfSome, IsNone};
 ghost use Rattle.vm_types.specs.State.{State, IsRunning};
 ghost use Rattle.machine.specs.Engine.{IsSoundEngine, EngineShows};
@@ -34,7 +35,7 @@ pub struct Engine<D, E, M: Levels> {
 impl<D: SectorDisk, E: SectorDisk, M: Levels> Engine<D, E, M> {
     /// The store's device.
     pub fn store(&self) -> &D
-        ensures { result.now ≡ self.now.core.store.disk }
+        ensures { result.now ≡ disk_of self.now.core.store }
     {
         self.core.store.disk()
     }
@@ -43,7 +44,7 @@ impl<D: SectorDisk, E: SectorDisk, M: Levels> Engine<D, E, M> {
     pub fn into_store(self) -> D
     where
         E: Drop,
-        ensures { result ≡ self.core.store.disk }
+        ensures { result ≡ (disk_of self.core.store) }
     {
         self.core.store.into_disk()
     }

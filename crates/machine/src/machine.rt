@@ -139,8 +139,8 @@ impl<D: SectorDisk, E: SectorDisk + Drop> Machine<D, E> {
     /// unsynced: opens it, recovering it, and takes all memory that the machine will ever need. The sizes are looked at
     /// before the store is asked.
     ///
-    /// `Frames`, `Slots`, `BadLayout` and `BadJournal` come exactly where their texts say, unless an earlier one
-    /// comes; `Device` exactly where the store device failed in this call. Each fault hands the store back.
+    /// `Frames`, `Slots`, `BadLayout`, `BadJournal` and `SmallPool` come exactly where their texts say, unless another one
+    /// comes first; `Device` exactly where the store device failed in this call. Each fault hands the store back.
     pub fn boot(
         alloc: Global,
         config: Config,

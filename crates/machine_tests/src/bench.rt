@@ -2,11 +2,12 @@
 ghost use Rattle.machine.specs.Machine.{IsSoundMachine};
 
 use disk_model::{SectorDisk, SimDisk};
-use file_store::{FileSource, format};
+use file_store::FileSource;
 use machine::{BootFault, Config, Machine};
 use runner::Devices;
 use std::fmt::Debug;
 use std::process::Abort;
+use stores::{NewStore, format};
 use sync_journal::Journals;
 use vm_types::{
     Code, Command, Errno, Fault, MapSource, Mode, MsyncMode, Pid, Placing, Prot, Reply,
@@ -248,6 +249,14 @@ pub(crate) fn lived<D: SectorDisk, E: SectorDisk + Drop>(
     }
 }
 
+/// What a device holds: nothing, or a store of one file of one page of zeros, with one journal, or with a pool that is too small for a machine.
+#[derive(Clone, Copy)]
+pub(crate) enum Contents {
+    Nothing,
+    Store,
+    SmallPool,
+}
+
 /// What a stop leaves of a device.
 pub(crate) fn left(
     rt: &(impl AllocGlobal + Abort),
@@ -257,17 +266,20 @@ pub(crate) fn left(
     disk.left(rt.alloc(), gate).expect(rt, "memory")
 }
 
-/// The same of one on which a store of one file of one page of zeros was made, or none.
-pub(crate) fn image(rt: &(impl AllocGlobal + Abort), formatted: bool) -> SimDisk {
+/// The same of one that holds this.
+pub(crate) fn image(rt: &(impl AllocGlobal + Abort), contents: Contents) -> SimDisk {
     let mut disk = SimDisk::new(rt.alloc(), 8203).expect(rt, "memory");
-    if formatted {
-        let mut files: [FileSource<&[u8]>; 1] = [FileSource {
-            read_only: false,
-            length: 4096,
-            bytes: None,
-        }];
-        format(&mut disk, Journals::Single, &mut files).expect(rt, "a store");
-    }
+    let mut files: [FileSource<&[u8]>; 1] = [FileSource {
+        read_only: false,
+        length: 4096,
+        bytes: None,
+    }];
+    let made = match contents {
+        Contents::Nothing => Ok(()),
+        Contents::Store => format(&mut disk, NewStore::Journals(Journals::Single), &mut files),
+        Contents::SmallPool => format(&mut disk, NewStore::Pool(1), &mut files),
+    };
+    made.expect(rt, "a store");
     left(rt, &disk, &[])
 }
 

@@ -1,7 +1,7 @@
 //! A machine is looked into once a byte was stored to one of two pages.
 ghost use Rattle.machine.specs.Machine.{IsSoundMachine};
 
-use crate::bench::{Act, CONFIG, Call, End, carry_out, equal, first, image, with_swap};
+use crate::bench::{Act, CONFIG, Call, Contents, End, carry_out, equal, first, image, with_swap};
 use disk_model::SectorDisk;
 use inspection::{FrameView, Holding, PageView, Place, SlotHolding, SlotView, Step, TablePlace};
 use machine::{Config, Machine};
@@ -162,6 +162,10 @@ fn a_stored_page_is_found(rt: HostRuntime) {
             mode,
             ..CONFIG
         };
-        look_after_a_store(&rt, config, with_swap(&rt, image(&rt, true), 128));
+        look_after_a_store(
+            &rt,
+            config,
+            with_swap(&rt, image(&rt, Contents::Store), 128),
+        );
     }
 }

@@ -1,5 +1,5 @@
 //! Each call of a machine over devices in memory.
-use crate::bench::{Act, CONFIG, Call, End, equal, image, lived, with_swap};
+use crate::bench::{Act, CONFIG, Call, Contents, End, equal, image, lived, with_swap};
 use disk_model::SimDisk;
 use machine::{BootFault, Config};
 use std::process::Abort;
@@ -78,22 +78,26 @@ fn find(rt: &(impl AllocGlobal + Abort), store: SimDisk, byte: u64) {
 /// What was synced stands in the next machine over the store, and what was only stored doesn't.
 #[test]
 fn commands_are_carried_out(rt: HostRuntime) {
-    let at_boot = after(&rt, image(&rt, true), &[]).syncs();
+    let at_boot = after(&rt, image(&rt, Contents::Store), &[]).syncs();
     // The map and the page's body, and the gate opened: the page's home is written with a later msync.
-    let synced = after(&rt, image(&rt, true), &[STORES, IS_SYNCED]);
+    let synced = after(&rt, image(&rt, Contents::Store), &[STORES, IS_SYNCED]);
     equal(
         &rt,
         (synced.writes(), synced.syncs()),
         (17, at_boot.saturating_add(2)),
     );
-    find(&rt, after(&rt, image(&rt, true), &STORES_ANOTHER), 0x5a);
+    find(
+        &rt,
+        after(&rt, image(&rt, Contents::Store), &STORES_ANOTHER),
+        0x5a,
+    );
 }
 
 /// The store has unsynced writes then; it is handed on all the same.
 #[test]
 fn a_failed_msync_halts(rt: HostRuntime) {
-    let before = after(&rt, image(&rt, true), &[STORES]);
-    let mut store = image(&rt, true);
+    let before = after(&rt, image(&rt, Contents::Store), &[STORES]);
+    let mut store = image(&rt, Contents::Store);
     store.fail_at(before.calls().saturating_add(1));
     find(&rt, after(&rt, store, &HALTS), 0);
 }
@@ -101,19 +105,20 @@ fn a_failed_msync_halts(rt: HostRuntime) {
 /// The first fault in the order of their numbers; the store is handed back with no write.
 #[test]
 fn boots_are_refused(rt: HostRuntime) {
-    for (frames, slots, failing, fault, number) in [
-        (7, 17, 1, BootFault::Frames, 1),
-        (65537, 17, 1, BootFault::Frames, 1),
-        (8, 17, 1, BootFault::Slots, 2),
-        (8, 16, 1, BootFault::Device, 4),
-        (8, 16, 0, BootFault::BadLayout, 5),
+    for (held, frames, slots, failing, fault, number) in [
+        (Contents::Nothing, 7, 17, 1, BootFault::Frames, 1),
+        (Contents::Nothing, 65537, 17, 1, BootFault::Frames, 1),
+        (Contents::Nothing, 8, 17, 1, BootFault::Slots, 2),
+        (Contents::Nothing, 8, 16, 1, BootFault::Device, 4),
+        (Contents::Nothing, 8, 16, 0, BootFault::BadLayout, 5),
+        (Contents::SmallPool, 8, 16, 0, BootFault::SmallPool, 7),
     ] {
         let config = Config {
             frames,
             slots,
             ..CONFIG
         };
-        let mut store = image(&rt, false);
+        let mut store = image(&rt, held);
         store.fail_at(failing);
         let (told, store) = lived(&rt, config, with_swap(&rt, store, 135), &[]);
         let asked = store.calls() > 0;
@@ -133,9 +138,9 @@ fn translations_and_faults_are_kept(rt: HostRuntime) {
             mode,
             ..CONFIG
         };
-        let devices = with_swap(&rt, image(&rt, true), 128);
+        let devices = with_swap(&rt, image(&rt, Contents::Store), 128);
         let (fault, _store) = lived(&rt, config, devices, &TEN_LOADS_ARE_TEN_HITS);
         equal(&rt, fault, None);
     }
-    after(&rt, image(&rt, true), &A_FAULT_IS_KEPT);
+    after(&rt, image(&rt, Contents::Store), &A_FAULT_IS_KEPT);
 }

@@ -1,5 +1,5 @@
 //! Two lives of a store on a device in memory, the second of which is stopped in the gate of its msync.
-use crate::bench::{Call, End, command, equal, image, left, reply, with_swap};
+use crate::bench::{Call, Contents, End, command, equal, image, left, reply, with_swap};
 use disk_model::{SectorDisk, SimDisk};
 use lives::{
     boot_after_lives, flat_run, formatted_lives, hardware_life, live, lives_boot, lives_in_a_row,
@@ -62,7 +62,13 @@ fn after(
 #[test]
 fn the_second_life_stops_in_its_gate(rt: HostRuntime) {
     // A life, of three levels of page tables, makes a byte durable.
-    let store = after(&rt, Mode::Sv39, image(&rt, true), storing(0x11), End::Done);
+    let store = after(
+        &rt,
+        Mode::Sv39,
+        image(&rt, Contents::Store),
+        storing(0x11),
+        End::Done,
+    );
     after(
         &rt,
         Mode::Sv39,
@@ -101,7 +107,7 @@ fn the_second_life_stops_in_its_gate(rt: HostRuntime) {
 /// The laws of that store.
 #[test]
 fn laws_hold(rt: HostRuntime) {
-    let store = image(&rt, true);
+    let store = image(&rt, Contents::Store);
     let reader: &[u8] = &[];
     new_store(&reader);
     lives_in_a_row(&store, &store);

@@ -1,14 +1,15 @@
 -- A commit of the touched pages of a row, as the flat model sees it.
 use Rattle.vm_types.specs.declared.mode.Levels as Levels
 use Rattle.msync.proofs.Names.{ℕ, inl, inr, ◌⊎◌, ◌-◌, ◌*◌, ◌≡◌, ◌≢◌, ◌<◌, ◌≤◌, ◌&&◌, ◌++◌, not, true, false, min, List, length, take, replicate, slice_get, Option, Some, None, Result, Err, refl, sym, ap, ◌∙◌, subst, arith, rules}
-use Rattle.msync.proofs.Names.{get_or-take, cases_Bool, length-take-le, get_or_from_slice_get, slice_get-get_or, slice_get_within, and-true, and-false, option_map, is_some, IsErrOf, frame_of, LeavesNow, LeavesOnly, Ghosts, Directory}
-use Rattle.msync.proofs.Names.{FileStore, ArePages, Changes, StandsForEither, cut_page, StandsFor, IsPageOf, entry_of, HasCauses, CommitFault, Source, Device, Private, Cache, FrameTable, SlotTable, Home, Frame, Slot, Msync, MsyncMode}
+use Rattle.msync.proofs.Names.{get_or-take, cases_Bool, length-take-le, get_or_from_slice_get, slice_get-get_or, slice_get_within, and-true, and-false, is_some, IsErrOf, frame_of, LeavesNow, LeavesOnly, Ghosts, AnyDirectory}
+use Rattle.msync.proofs.Names.{Store, ArePages, Changes, StandsForEither, cut_page, StandsFor, IsPageOf, HasCauses, CommitFault, Source, Device, Private, Cache, FrameTable, SlotTable, Home, Frame, Slot, Msync, MsyncMode}
 use Rattle.msync.proofs.Names.{FileInfo, FilePage, ObjectPage, PageKey, File, Object, SlotNo, EIO, SwapDevice, Reply, Done, Refused, Files, inside_of, cut, trimmed, touched_in, committed, synced, State, msync_outcome, commit_of, commits}
 use Rattle.msync.{proofs.{Names.{Pages, Core, InFrame, Picture, picture_of, entry, held, is_private, IsFit, ShowsPages}, SettledPages.{one_file, held_spot, cases_listed}}, specs.Choice.{Chosen, chosen_page, first_page, ListsTouched}}
 use Rattle.msync.specs.{Choice.{TakesSame, IsListedPage, IsAway}, Core.{KeepsMemory, IsEnd, Acknowledged, Failed, Unread, Commits}, Settling.{settled_place, settled_in, Settles, LosesDirtyOnly, ComesHome, SettlesMemory, SettlesPlaces}}
 use Rattle.msync.specs.{Shows.{IsSoundCore, CoreShows}, Spots.{spot_at, place_at, bytes_there, IsSlotted, HasSlot, AreSpots, HasSpots}, declared.chosen.{Residence.{Residence, TheVariants.{Framed, Slotted}}, Spot.{Spot}}}
 use Rattle.{vm_types.specs.declared.reply.Reply.TheVariants.{Stalled}, file_store.specs.Layout.{padded_page as store_trimmed}}
 use Rattle.vm_types.specs.Msync as Flat
+use Rattle.msync.proofs.Names.{StoreKept, OfJournals, OfPool, files_in, least_in, free_in, always_free_in, HasRoomFor, directory_of, disk_of, msync_pages}
 
 -- what stands at a place of a list
 some_get : (xs : List FilePage) (i : ℕ) (p : FilePage) → slice_get xs i ≡ Some p → (i < length xs) × (p ≡ chosen_page xs i)
@@ -36,18 +37,40 @@ front_once c chosen listed i j less high e =
     let below : j < chosen.count = omega (arith, front_length chosen (fits c chosen listed)) in
     listed.once i j less below (sym (front_same chosen i (omega arith)) ∙ e ∙ front_same chosen j below)
 
--- they may be committed
-pub are_pages : {mode : ℕ} (c : Picture mode) (chosen : Chosen) → IsFit c → IsListedPage c chosen → ArePages c.files (take chosen.count chosen.list)
-are_pages c chosen fit listed =
+-- they are as many as an msync takes
+pub front_few : {mode : ℕ} (c : Picture mode) (chosen : Chosen) → IsListedPage c chosen → length (take chosen.count chosen.list) ≤ msync_pages
+front_few c chosen listed = omega (arith, front_length chosen (fits c chosen listed), listed.few)
+
+-- every store takes a commit of one page
+pub least_one : (kept : StoreKept) → least_in kept ≤ 1
+least_one (OfJournals directory journal) = omega arith
+least_one (OfPool directory journal) = omega arith
+
+-- so they may be committed where there is room
+pub are_pages : {mode : ℕ} (c : Picture mode) (chosen : Chosen) (least most : ℕ) → least ≤ 1 → msync_pages ≤ most → IsFit c → IsListedPage c chosen
+    → ArePages c.files least most (take chosen.count chosen.list)
+are_pages c chosen least most one room fit listed =
     let front = take chosen.count chosen.list in
     record {
-      some = omega (arith, front_length chosen (fits c chosen listed), listed.some);
-      few = omega (arith, front_length chosen (fits c chosen listed), listed.few);
+      some = omega (arith, front_length chosen (fits c chosen listed), listed.some, one);
+      few = omega (arith, front_few c chosen listed, room);
       inside = λ i p e.
           let r = some_get front i p e in
           fit.places.inside (File p) (fit.dirty.held (File p) (ap (λ q. c.touched (File q)) r.1 ∙ front_touched c chosen listed i r.0));
       distinct = λ i j p less at_i at_j. let b = some_get front j p at_j in front_once c chosen listed i j less b.0 (sym (some_get front i p at_i).1 ∙ b.1);
     }
+
+-- there is room after them for as many
+pub room_next : (old new : StoreKept) (pages : ℕ) → HasRoomFor msync_pages old → pages ≤ msync_pages → (pages ≤ always_free_in old → always_free_in old ≤ free_in new)
+    → always_free_in new ≡ always_free_in old → HasRoomFor msync_pages new
+room_next old new pages had few room always = record {
+  next = (let more = room (omega (arith, few, had.always)) in omega (arith, more, had.always));
+  always = omega (arith, always, had.always);
+}
+
+-- and there is where as much is left
+pub room_left : (old new : StoreKept) → HasRoomFor msync_pages old → free_in new ≡ free_in old → always_free_in new ≡ always_free_in old → HasRoomFor msync_pages new
+room_left old new had free always = record { next = omega (arith, free, had.next); always = omega (arith, always, had.always) }
 
 -- they lie in their spots, each once
 pub are_spots : {mode : ℕ} (c : Picture mode) (chosen : Chosen) (list : List Spot) → IsListedPage c chosen → HasSpots c (take chosen.count chosen.list) list → AreSpots c list
@@ -286,25 +309,25 @@ takes_some s pid addr len mode chosen same none = let bad : Some (committed s pi
 
 -- memory with other slots and another directory
 module _ {mode : ℕ} where
-  abbrev pub with_store : Picture mode → SlotTable → Directory → Picture mode
-  with_store c t d = record c { slots = t; files = λ f. option_map (λ e. e.info) (entry_of d f) }
+  abbrev pub with_store : Picture mode → SlotTable → AnyDirectory → Picture mode
+  with_store c t d = record c { slots = t; files = λ f. files_in d f }
 
 -- what holds of memory holds of it with the same slots and files
-pub store_same : {mode : ℕ} (P : Picture mode → Type 0) (c : Picture mode) (t t' : SlotTable) (d d' : Directory) → t' ≡ t → d' ≡ d → P (with_store c t d) → P (with_store c t' d')
-store_same P c t t' d d' slots files p = subst (λ (x : Directory). P (with_store c t' x)) (sym files) (subst (λ (x : SlotTable). P (with_store c x d)) (sym slots) p)
+pub store_same : {mode : ℕ} (P : Picture mode → Type 0) (c : Picture mode) (t t' : SlotTable) (d d' : AnyDirectory) → t' ≡ t → d' ≡ d → P (with_store c t d) → P (with_store c t' d')
+store_same P c t t' d d' slots files p = subst (λ (x : AnyDirectory). P (with_store c t' x)) (sym files) (subst (λ (x : SlotTable). P (with_store c x d)) (sym slots) p)
 
 module _ {D : Type 0} (g : Ghosts D) where
   -- what the store's commit says of these contents, as long as its source kept its model
-  pub record StoreCommits (model : Type 0) (n : ℕ) (files : Files) (before after : Pages) (old new : FileStore D) : Type 0 where
-    pub directory : new.directory ≡ old.directory
-    pub size : g.sector_count new.disk ≡ g.sector_count old.disk
-    pub kept : g.keeps_model new.disk → g.keeps_model old.disk
-    pub either : g.keeps_model new.disk → model → LeavesNow g old.disk (StandsFor n files before) → LeavesOnly g old.disk new.disk (StandsForEither n files before after)
+  pub record StoreCommits (model : Type 0) (n : ℕ) (files : Files) (before after : Pages) (old new : Store D) : Type 0 where
+    pub directory : directory_of new ≡ directory_of old
+    pub size : g.sector_count (disk_of new) ≡ g.sector_count (disk_of old)
+    pub kept : g.keeps_model (disk_of new) → g.keeps_model (disk_of old)
+    pub either : g.keeps_model (disk_of new) → model → LeavesNow g (disk_of old) (StandsFor n files before) → LeavesOnly g (disk_of old) (disk_of new) (StandsForEither n files before after)
 
 module _ {M : Type 0} {m : Levels.Ghosts M} {D E : Type 0} (g : Ghosts D) (h : Ghosts E) where
   module _ (model : Type 0) (old new : Core D E M m) (s : State) (after : Pages) (pid addr len : ℕ) (mode : MsyncMode) (chosen : Chosen) (shows : CoreShows g old s)
       (same : TakesSame s pid addr len mode chosen) (takes : commits s (Msync pid addr len mode) ≡ Some after)
-      (store : StoreCommits g model (g.sector_count old.store.disk) s.files s.durable (committed s pid same.first same.count s.durable) old.store new.store) where
+      (store : StoreCommits g model (g.sector_count (disk_of old.store)) s.files s.durable (committed s pid same.first same.count s.durable) old.store new.store) where
     -- a commit that came to some end
     commit_ended : (reply : Reply) → IsEnd g h model old new s (Msync pid addr len mode) reply → Commits g h model old new s after (Msync pid addr len mode) reply
     commit_ended reply end =
@@ -317,8 +340,8 @@ module _ {M : Type 0} {m : Levels.Ghosts M} {D E : Type 0} (g : Ghosts D) (h : G
         } in
         subst (λ (x : Pages). Commits g h model old new s x (Msync pid addr len mode) reply) (after_is s after pid addr len mode chosen same takes) done
 
-    pub commit_done : (g.keeps_model new.store.disk → model → LeavesNow g old.store.disk (StandsFor (g.sector_count old.store.disk) s.files s.durable)
-        → LeavesNow g new.store.disk (StandsFor (g.sector_count old.store.disk) s.files (committed s pid same.first same.count s.durable)))
+    pub commit_done : (g.keeps_model (disk_of new.store) → model → LeavesNow g (disk_of old.store) (StandsFor (g.sector_count (disk_of old.store)) s.files s.durable)
+        → LeavesNow g (disk_of new.store) (StandsFor (g.sector_count (disk_of old.store)) s.files (committed s pid same.first same.count s.durable)))
         → ShowsPages (picture_of new) (synced s pid same.first same.count) → IsSoundCore g h new
         → Commits g h model old new s after (Msync pid addr len mode) Done
     commit_done ok pages sound =
@@ -330,14 +353,14 @@ module _ {M : Type 0} {m : Levels.Ghosts M} {D E : Type 0} (g : Ghosts D) (h : G
         } in
         commit_ended Done (Acknowledged refl (subst (λ (x : State). ShowsPages (picture_of new) x) t_is pages) (subst (λ (x : State). model → CoreShows g new x) t_is now) sound)
 
-    pub commit_failed : KeepsMemory old new → g.failures old.store.disk < g.failures new.store.disk → Commits g h model old new s after (Msync pid addr len mode) (Refused EIO)
+    pub commit_failed : KeepsMemory old new → g.failures (disk_of old.store) < g.failures (disk_of new.store) → Commits g h model old new s after (Msync pid addr len mode) (Refused EIO)
     commit_failed memory grew = commit_ended (Refused EIO) (Failed refl grew memory)
 
     pub commit_unread : KeepsMemory old new → h.failures old.swap.pages.disk < h.failures new.swap.pages.disk → ShowsPages (picture_of new) s → IsSoundCore g h new
-        → (g.keeps_model new.store.disk → LeavesNow g old.store.disk (StandsFor (g.sector_count old.store.disk) s.files s.durable)
-        → LeavesNow g new.store.disk (StandsFor (g.sector_count old.store.disk) s.files s.durable))
-        → (g.keeps_model new.store.disk → LeavesNow g old.store.disk (StandsFor (g.sector_count old.store.disk) s.files s.durable)
-        → LeavesOnly g old.store.disk new.store.disk (StandsFor (g.sector_count old.store.disk) s.files s.durable))
+        → (g.keeps_model (disk_of new.store) → LeavesNow g (disk_of old.store) (StandsFor (g.sector_count (disk_of old.store)) s.files s.durable)
+        → LeavesNow g (disk_of new.store) (StandsFor (g.sector_count (disk_of old.store)) s.files s.durable))
+        → (g.keeps_model (disk_of new.store) → LeavesNow g (disk_of old.store) (StandsFor (g.sector_count (disk_of old.store)) s.files s.durable)
+        → LeavesOnly g (disk_of old.store) (disk_of new.store) (StandsFor (g.sector_count (disk_of old.store)) s.files s.durable))
         → Commits g h model old new s after (Msync pid addr len mode) (Stalled SwapDevice)
     commit_unread memory grew pages sound now moments =
         let still : CoreShows g new s = record {

@@ -1,8 +1,9 @@
 -- How an msync is judged, as the flat model sees it.
-use Rattle.msync.proofs.{Appending.{lists_same}, Names.{ℕ, zero, suc, ◌+◌, ◌/◌, ◌%◌, ◌≡◌, ◌≢◌, ◌<◌, ◌^◌, ◌==◌, ◌&&◌, not, Bool, true, false, nat_lt, List, [], ◌∷◌, length, Option, Some, None, refl, sym, ap, ◌∙◌, arith, and_parts}}
+use Rattle.msync.proofs.{Appending.{lists_same}, Names.{ℕ, zero, suc, ◌+◌, ◌/◌, ◌%◌, ◌≡◌, ◌≢◌, ◌<◌, ◌^◌, ◌==◌, ◌&&◌, not, Bool, true, false, nat_lt, List, [], ◌∷◌, length, inl, inr, Option, Some, None, refl, sym, ap, ◌∙◌, arith, and_parts}}
 use Rattle.msync.proofs.Names.{nat_tests, option_map, MsyncMode, Sync, FileInfo, FilePage, File, ENOMEM, Attr, first_of, page_count, pages_from, any_below, shares, touched_in, touched_count, msync_ruling, row_ruling, or_else, is_covered}
-use Rattle.msync.{proofs.{Names.{State, View, attrs_of, Directory, Entry, entry_of, Picture, entry, is_live, own_in, view_of, view, IsFit, ShowsPages, any-same}, Totals.{total, IsWithin, at_least, exactly}}, specs.Choice.{of_files}}
+use Rattle.msync.{proofs.{Names.{State, View, attrs_of, Picture, entry, is_live, own_in, view_of, view, IsFit, ShowsPages, any-same}, Totals.{total, IsWithin, at_least, exactly}}, specs.Choice.{of_files}}
 use Rattle.msync.specs.{Choice.{chosen_page, shares_page, is_shared_in, is_chosen, OverflowsRow, ListsTouched, IsRulingOn, RulesSame, AreListed, AreTaken}, declared.chosen.Ruling.{Ruling, TheVariants.{Refuses, Passes, Takes}}}
+use Rattle.msync.proofs.Names.{AnyDirectory, files_in, Directory, Entry, entry_of, PoolDirectory, PoolEntry, pool_entry_of, info_of}
 use Rattle.vm_types.specs.Msync as Flat
 
 -- a process, and what its pages are
@@ -146,14 +147,22 @@ taken_of c map pid addr len list (Takes taken) same choice = λ i less.
 taken_of c map pid addr len list r same choice = tt
 
 -- touched pages are pages of files, of which there are 64, of fewer than 2 ^ 32 bytes
-in_file : (d : Directory) (f : ℕ) (o : Option Entry) (info : FileInfo) → entry_of d f ≡ o → option_map (λ e. e.info) o ≡ Some info → (f < 64) × (info.length < 2 ^ 32)
-in_file d f None info is e = cc
-in_file d f (Some x) info is e = let same : x.info ≡ info = cc in (d.numbers f x is, (let small = d.lengths f x is in omega (arith, small, ap (λ (i : FileInfo). i.length) same)))
+in_journals : (d : Directory) (f : ℕ) (o : Option Entry) (info : FileInfo) → entry_of d f ≡ o → option_map (λ e. e.info) o ≡ Some info → (f < 64) × (info.length < 2 ^ 32)
+in_journals d f None info is e = cc
+in_journals d f (Some x) info is e = let same : x.info ≡ info = cc in (d.numbers f x is, (let small = d.lengths f x is in omega (arith, small, ap (λ (i : FileInfo). i.length) same)))
 
-pub touched_within : {mode : ℕ} (c : Picture mode) (d : Directory) → IsFit c → ((f : ℕ) → c.files f ≡ option_map (λ e. e.info) (entry_of d f)) → IsWithin (of_files c.touched) 64 (2 ^ 20)
+in_pool : (d : PoolDirectory) (f : ℕ) (o : Option PoolEntry) (info : FileInfo) → pool_entry_of d f ≡ o → option_map info_of o ≡ Some info → (f < 64) × (info.length < 2 ^ 32)
+in_pool d f None info is e = cc
+in_pool d f (Some x) info is e = let same : info_of x ≡ info = cc in (d.numbers f x is, (let small = d.lengths f x is in omega (arith, small, ap (λ (i : FileInfo). i.length) same)))
+
+in_file : (d : AnyDirectory) (f : ℕ) (info : FileInfo) → files_in d f ≡ Some info → (f < 64) × (info.length < 2 ^ 32)
+in_file (inl d) f info is = in_journals d f (entry_of d f) info refl is
+in_file (inr d) f info is = in_pool d f (pool_entry_of d f) info refl is
+
+pub touched_within : {mode : ℕ} (c : Picture mode) (d : AnyDirectory) → IsFit c → ((f : ℕ) → c.files f ≡ files_in d f) → IsWithin (of_files c.touched) 64 (2 ^ 20)
 touched_within c d fit files = record {
-  file = λ p e. (let at = fit.places.inside (File p) (fit.dirty.held (File p) e) in (in_file d p.file (entry_of d p.file) at.0 refl (sym (files p.file) ∙ at.1)).0);
+  file = λ p e. (let at = fit.places.inside (File p) (fit.dirty.held (File p) e) in (in_file d p.file at.0 (sym (files p.file) ∙ at.1)).0);
   page = λ p e. (
       let at = fit.places.inside (File p) (fit.dirty.held (File p) e) in
-      omega (arith, (in_file d p.file (entry_of d p.file) at.0 refl (sym (files p.file) ∙ at.1)).1, at.2));
+      omega (arith, (in_file d p.file at.0 (sym (files p.file) ∙ at.1)).1, at.2));
 }

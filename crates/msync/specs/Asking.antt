@@ -3,7 +3,6 @@ use Rattle.vm_types.specs.declared.mode.Levels as Levels
 use Rattle.std.specs.Prelude.{◌≡◌, ◌<◌, ℕ, true}
 use Rattle.disk_model.specs.Moments.{AsksOnly}
 use Rattle.disk_model.specs.declared.sector_disk.SectorDisk.{Ghosts}
-use Rattle.sync_journal.specs.Kinds.{IsStoreUsed}
 use Rattle.swap.specs.Slots.{IsSectorOfSlot}
 use Rattle.vm_types.specs.declared.file.FilePage.{FilePage}
 use Rattle.vm_types.specs.declared.object.PageKey.TheVariants.{File}
@@ -12,6 +11,7 @@ use Rattle.page_cache.specs.declared.place.Place.TheVariants.{Slot}
 use Rattle.residency.specs.declared.kernel.Core.{Core}
 use Rattle.residency.specs.Picture.{Picture, picture_of}
 use Rattle.msync.specs.Choice.{Chosen, chosen_page, takes_page}
+use Rattle.stores.specs.Store.{IsUsedIn, disk_of, kept_of}
 
 module _ {mode : ℕ} where
   -- a sector of the slot that a file page lies in
@@ -29,7 +29,7 @@ module _ {mode : ℕ} where
 module _ {M : Type 0} {m : Levels.Ghosts M} {D E : Type 0} (g : Ghosts D) (h : Ghosts E) where
   -- Which sectors an msync asks for, of both devices.
   pub record AsksToCommit (old new : Core D E M m) (pid addr len : ℕ) : Type 0 where
-    -- of the store those of the gate, of the map and the body of a journal, and what the pages of the commit before are copied from and to
-    pub store : AsksOnly g (IsStoreUsed old.store.journal) old.store.disk new.store.disk
+    -- of the store those of gate, maps and bodies that its kind of journal uses, and what pages are copied from and to that leave it for their homes
+    pub store : AsksOnly g (IsUsedIn (kept_of old.store)) (disk_of old.store) (disk_of new.store)
     -- of swap those of the slots that the pages lie in which it takes
     pub swap : AsksOnly h (IsSectorTaken (picture_of old) pid addr len) old.swap.pages.disk new.swap.pages.disk

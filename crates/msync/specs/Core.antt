@@ -3,8 +3,7 @@ use Rattle.vm_types.specs.declared.mode.Levels as Levels
 use Rattle.std.specs.Prelude.{◌≡◌, ◌<◌, ℕ}
 use Rattle.disk_model.specs.Moments.{LeavesOnly}
 use Rattle.disk_model.specs.declared.sector_disk.SectorDisk.{Ghosts}
-use Rattle.file_store.specs.Commit.{StandsForEither}
-use Rattle.file_store.specs.Standing.{StandsFor}
+use Rattle.stores.specs.Images.{StandsForEither, StandsFor}
 use Rattle.swap.specs.Slots.{slots_of}
 use Rattle.vm_types.specs.declared.command.Command.{Command}
 use Rattle.vm_types.specs.declared.refusal.Errno.TheVariants.{EIO}
@@ -19,11 +18,12 @@ use Rattle.residency.specs.Picture.{picture_of}
 use Rattle.residency.specs.Shows.{ShowsPages}
 use Rattle.msync.specs.Choice.{TakesAway}
 use Rattle.msync.specs.Shows.{IsSoundCore, CoreShows}
+use Rattle.stores.specs.Store.{directory_of, disk_of}
 
 module _ {M : Type 0} {m : Levels.Ghosts M} {D E : Type 0} where
   -- memory and slots are as they were, and the store has the same files
   pub record KeepsMemory (old new : Core D E M m) : Type 0 where
-    pub directory : new.store.directory ≡ old.store.directory
+    pub directory : directory_of new.store ≡ directory_of old.store
     pub slots : slots_of new.swap ≡ slots_of old.swap
     pub frames : new.frames ≡ old.frames
     pub cache : new.cache ≡ old.cache
@@ -43,17 +43,17 @@ module _ {M : Type 0} {m : Levels.Ghosts M} {D E : Type 0} (g : Ghosts D) (h : G
   pub data IsEnd (given_back : Type 0) (old new : Core D E M m) (s : State) (command : Command) (reply : Reply) : Type 0 where
     Acknowledged : reply ≡ Done → ShowsPages (picture_of new) (outcome s command).state → (given_back → CoreShows g new (outcome s command).state) → IsSoundCore g h new
         → IsEnd given_back old new s command reply
-    Failed : reply ≡ Refused EIO → g.failures old.store.disk < g.failures new.store.disk → KeepsMemory old new → IsEnd given_back old new s command reply
+    Failed : reply ≡ Refused EIO → g.failures (disk_of old.store) < g.failures (disk_of new.store) → KeepsMemory old new → IsEnd given_back old new s command reply
     Unread : reply ≡ Stalled SwapDevice → h.failures old.swap.pages.disk < h.failures new.swap.pages.disk → KeepsMemory old new → CoreShows g new s → IsSoundCore g h new
-        → (g.keeps_model new.store.disk → LeavesOnly g old.store.disk new.store.disk (StandsFor (g.sector_count old.store.disk) s.files s.durable))
+        → (g.keeps_model (disk_of new.store) → LeavesOnly g (disk_of old.store) (disk_of new.store) (StandsFor (g.sector_count (disk_of old.store)) s.files s.durable))
         → IsEnd given_back old new s command reply
 
   -- What an msync that makes pages durable comes to: at every moment a stop leaves the files as they were, or with all of
   -- those pages, as long as slots gave back what was put.
   pub record Commits (given_back : Type 0) (old new : Core D E M m) (s : State) (after : Pages) (command : Command) (reply : Reply) : Type 0 where
     pub end : IsEnd given_back old new s command reply
-    pub directory : new.store.directory ≡ old.store.directory
-    pub size : g.sector_count new.store.disk ≡ g.sector_count old.store.disk
-    pub kept : g.keeps_model new.store.disk → g.keeps_model old.store.disk
-    pub either : g.keeps_model new.store.disk → given_back
-        → LeavesOnly g old.store.disk new.store.disk (StandsForEither (g.sector_count old.store.disk) s.files s.durable after)
+    pub directory : directory_of new.store ≡ directory_of old.store
+    pub size : g.sector_count (disk_of new.store) ≡ g.sector_count (disk_of old.store)
+    pub kept : g.keeps_model (disk_of new.store) → g.keeps_model (disk_of old.store)
+    pub either : g.keeps_model (disk_of new.store) → given_back
+        → LeavesOnly g (disk_of old.store) (disk_of new.store) (StandsForEither (g.sector_count (disk_of old.store)) s.files s.durable after)

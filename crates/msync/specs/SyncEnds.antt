@@ -15,7 +15,6 @@ use Rattle.vm_types.specs.declared.reply.Answer.{Answer}
 use Rattle.vm_types.specs.declared.reply.Answer.TheVariants.{Refused, Stalled}
 use Rattle.disk_model.specs.Moments.{AsksOnly}
 use Rattle.disk_model.specs.declared.sector_disk.SectorDisk.{Ghosts}
-use Rattle.sync_journal.specs.Kinds.{IsStoreUsed}
 use Rattle.frames.specs.FrameTable.{frame_count}
 use Rattle.swap.specs.Slots.{slots_of, IsReady}
 use Rattle.residency.specs.declared.kernel.Core.{Core}
@@ -27,6 +26,7 @@ use Rattle.msync.specs.Choice.{Chosen, IsAway, TakesAway, TakesSame}
 use Rattle.msync.specs.Core.{Commits, GivesBack}
 use Rattle.msync.specs.Settling.{SettlesMemory}
 use Rattle.msync.specs.Shows.{IsSoundCore, CoreShows}
+use Rattle.stores.specs.Store.{IsUsedIn, disk_of, kept_of}
 
 module _ {M : Type 0} {m : Levels.Ghosts M} {D E : Type 0} (g : Ghosts D) (h : Ghosts E) where
   -- Whatever comes of a commit, of whose pages one lies in a slot only where that holds:
@@ -38,16 +38,16 @@ module _ {M : Type 0} {m : Levels.Ghosts M} {D E : Type 0} (g : Ghosts D) (h : G
     pub memory : SettlesMemory (picture_of old) (picture_of new)
     -- the store, as large as it was, may be committed to further, unless it failed,
     pub ready : result ≢ Refused EIO → IsSoundCore g h new
-    pub size : g.sector_count new.store.disk ≡ g.sector_count old.store.disk
-    pub kept : g.keeps_model new.store.disk → g.keeps_model old.store.disk
+    pub size : g.sector_count (disk_of new.store) ≡ g.sector_count (disk_of old.store)
+    pub kept : g.keeps_model (disk_of new.store) → g.keeps_model (disk_of old.store)
     -- and so may swap, which is read, and given slots back, only where a page lies in one;
     pub swap : IsReady h new.swap
     pub device : UsesDevice h old.swap.pages.disk new.swap.pages.disk
     pub away : (new.swap ≡ old.swap) ⊎ slotted
     -- EIO says that the store failed, and a stall that the swap device did; with no other answer one failed;
-    pub later : g.failures old.store.disk ≤ g.failures new.store.disk
-    pub cause : result ≡ Refused EIO → g.failures old.store.disk < g.failures new.store.disk
-    pub calm : result ≢ Refused EIO → g.failures new.store.disk ≡ g.failures old.store.disk
+    pub later : g.failures (disk_of old.store) ≤ g.failures (disk_of new.store)
+    pub cause : result ≡ Refused EIO → g.failures (disk_of old.store) < g.failures (disk_of new.store)
+    pub calm : result ≢ Refused EIO → g.failures (disk_of new.store) ≡ g.failures (disk_of old.store)
     pub stalled : (stall : Stall) → result ≡ Stalled stall → (stall ≡ SwapDevice) × (h.failures old.swap.pages.disk < h.failures new.swap.pages.disk)
     pub still : ((stall : Stall) → result ≢ Stalled stall) → h.failures new.swap.pages.disk ≡ h.failures old.swap.pages.disk
     -- and no stall for a frame is counted.
@@ -61,7 +61,7 @@ module _ {M : Type 0} {m : Levels.Ghosts M} {D E : Type 0} (g : Ghosts D) (h : G
         → Commits g h (IsAway (picture_of old) chosen → h.keeps_model new.swap.pages.disk) old new s after (Msync pid addr len mode) (reply_of result)
     pub ends : EndsCommit (IsAway (picture_of old) chosen) old new result
     -- it asks the devices for what these pages and the store's journal want, and for nothing else;
-    pub asks_store : AsksOnly g (IsStoreUsed old.store.journal) old.store.disk new.store.disk
+    pub asks_store : AsksOnly g (IsUsedIn (kept_of old.store)) (disk_of old.store) (disk_of new.store)
     pub asks_slots : AsksOnly h (IsSectorListed (picture_of old) chosen) old.swap.pages.disk new.swap.pages.disk
     -- and it is refused only where the store failed.
     pub answers : (errno : Errno) → result ≡ Refused errno → errno ≡ EIO

@@ -25,7 +25,7 @@ use vm_types::{Answer, Errno, FilePage, Levels, MSYNC_PAGES, PageKey, Stall};
 /// msync, EuroSys 2013): the file pages, stored to and not made durable since, that stand behind the shared pages which hold
 /// the `len` bytes from `addr` on. They are touched no more, bytes past a file's end become zero, and no process's entry
 /// says D of them. One that lay in a slot is at home then. Where there is none, and where the call is asynchronous, no device is
-/// asked; else the store for its journal and the homes of the commit before alone, and swap for the slots of those pages alone.
+/// asked; else the store for its journal and the homes of pages that leave it alone, and swap for the slots of those pages alone.
 ///
 /// `ESRCH` where no such process lives, `EINVAL` where `addr` is no multiple of 4,096, `ENOMEM` where a page of the range
 /// isn't mapped, `ENOSPC` where there are more than 1,023 such pages; nothing is changed then. `EIO` comes exactly where the

@@ -8,6 +8,8 @@ mod images;
 #[cfg(test)]
 mod looks;
 #[cfg(test)]
+mod pools;
+#[cfg(test)]
 mod refusals;
 #[cfg(test)]
 mod runs;

@@ -7,7 +7,7 @@ use test_steps::Step::{self, Does, Fails, File, Files, Refuses, Removes, Shows};
 use test_steps::{NEW, TwoFiles, UNMADE, carry_out, carry_out_all, carry_out_for_each, path};
 
 /// Words that the programs do not take.
-const OTHER_WORDS: [Step<'static>; 34] = [
+const OTHER_WORDS: [Step<'static>; 35] = [
     Refuses(Format, &[]),
     Refuses(Format, &["new"]),
     Refuses(Format, &["new", "/tmp/none"]),
@@ -41,6 +41,7 @@ const OTHER_WORDS: [Step<'static>; 34] = [
     Refuses(Stops, &["--every", "zero:1"]),
     Refuses(Stops, &["--frames", "+64", "zero:1"]),
     Refuses(Stops, &["--slots", "4294967296", "zero:1"]),
+    Refuses(Stops, &["--layout", "5", "zero:1"]),
     Refuses(Stops, &["--help"]),
 ];
 

@@ -289,13 +289,13 @@ fn a_device_is_handed_back(rt: HostRuntime) -> Result<(), Fail> {
     }];
     format(&mut disk, Journals::Single, &mut sources)?;
     let mut output = Vec::new(rt.alloc());
-    let Err((fault, disk)) = show(disk, 1, &mut output) else {
+    let Err((fault, disk)) = show(rt.alloc(), disk, 1, &mut output) else {
         return Err(Fail::new("there is no file 1"));
     };
     if fault != ShowFault::NoFile || !output.is_empty() {
         return Err(Fail::new("another fault, or bytes"));
     }
-    let Ok(_) = show(disk, 0, &mut output) else {
+    let Ok(_) = show(rt.alloc(), disk, 0, &mut output) else {
         return Err(Fail::new("file 0 was not shown"));
     };
     same("file 0", output.as_slice(), b"abc")

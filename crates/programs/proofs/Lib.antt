@@ -1,4 +1,5 @@
 pub mod Specs
 pub mod Copies
+pub mod FilePages
 pub mod Asking
 pub mod Outcomes

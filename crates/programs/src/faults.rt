@@ -4,11 +4,12 @@ ghost use Rattle.programs.specs.Faults.{fault_status, words_fault};
 
 use crate::showing::ShowFault;
 use command_words::WordsFault;
-use file_store::{FormatFault, OpenFault, UpgradeFault};
+use file_store::{FormatFault, UpgradeFault};
 use machine::BootFault;
 use std::alloc::AllocError;
 use std::fmt::{self, Display, Formatter, Write as _};
 use std::io::Write;
+use stores::OpenFault;
 use thiserror::Error;
 
 /// Why a program gives up. A path or a spec is the word that named it. `Display` gives it in one line, as the programs tell it.

@@ -1,6 +1,7 @@
 //! The program that makes images.
 ghost use Rattle.std.specs.Prelude.{◌≤◌, IfOk};
 ghost use Rattle.programs.specs.Disks.{IsJustOpened};
+ghost use Rattle.stores.specs.NewStores.{IsSizedNew};
 
 use crate::faults::{ProgramFault, report};
 use crate::files::{disk_in, has_mark};
@@ -9,11 +10,11 @@ use crate::sources::open_sources;
 use crate::upgrading::upgrade_image;
 use command_words::{FormatWords, NewWords, format_words};
 use disk_model::{FileContents, FileDisk, SectorDisk, Unknown};
-use file_store::{FileSource, FormatFault, format, image_bytes};
+use file_store::{FileSource, FormatFault};
 use host_files::{Opening, lengthen, open_alone, open_regular};
 use std::fs::{self, File, Files, TryLockError};
 use std::io::{self, ErrorKind, Read, Write};
-use sync_journal::Journals;
+use stores::{NewStore, format, image_bytes};
 use vm_types::FILES;
 
 /// `pagefmt new IMAGE SPEC...`: makes IMAGE where it is missing, lengthens it to `512 * (8195 + 8 H)` bytes for the `H`
@@ -25,6 +26,9 @@ use vm_types::FILES;
 /// is left to it.
 ///
 /// `pagefmt new3 IMAGE SPEC...` does the same with a store of two journals in turn, whose image has `512 * (16408 + 8 H)` bytes.
+///
+/// `pagefmt new4 [--pool PAGES] IMAGE SPEC...` does so with a store that has a pool of PAGES slots at least, 4,032 where none is given: they are made in steps
+/// of 1,008, each with `512 * 8080` bytes of the image, which has 24,576 more, and a page for each home page.
 ///
 /// `pagefmt upgrade OLD NEW`: makes NEW where it is missing, lengthens it so that it has as many home pages as OLD, an image of
 /// layout 1, and makes a store on it that stands for what OLD stands for. OLD is only read. Until something is written to NEW,
@@ -61,26 +65,23 @@ fn format_or_upgrade<'a, C: FileContents, K: FileContents, R: Files<File = File>
 fn format_image<'a, C: FileContents, R: Files<File = File> + AllocGlobal>(
     rt: &R,
     words: NewWords<'a>,
-) -> Result<(), ProgramFault<'a>> {
+) -> Result<(), ProgramFault<'a>>
+    requires { IsSizedNew words.store }
+{
     let _places = held_places(rt)?;
     let mut sources = open_sources(rt.alloc(), rt, words.specs.as_slice())?;
     let (file, former) = match image_file(rt, words.image) {
         Ok(opened) => opened,
         Err(_) => return Err(ProgramFault::CannotOpen(words.image)),
     };
-    let mut disk = match unmarked_disk::<C>(
-        words.image,
-        &file,
-        words.journals,
-        sources.as_slice(),
-    ) {
+    let mut disk = match unmarked_disk::<C>(words.image, &file, words.store, sources.as_slice()) {
         Ok(disk) => disk,
         Err(fault) => {
             set_back(rt, words.image, &file, former);
             return Err(fault);
         }
     };
-    match format(&mut disk, words.journals, sources.as_mut_slice()) {
+    match format(&mut disk, words.store, sources.as_mut_slice()) {
         Ok(()) => Ok(()),
         Err(fault) => {
             if !disk.is_written() {
@@ -169,16 +170,17 @@ fn former_of_made(file: &File) -> Former {
 fn unmarked_disk<'a, C: FileContents>(
     path: &'a str,
     file: &File,
-    journals: Journals,
+    store: NewStore,
     sources: &[FileSource<File>],
 ) -> Result<FileDisk<C>, ProgramFault<'a>>
+    requires { IsSizedNew store }
     ensures { IfOk result (IsJustOpened ⟦<FileDisk<C> as SectorDisk>⟧) }
 {
     if sources.len() > FILES {
         return Err(ProgramFault::Format(FormatFault::TooLarge));
     }
     match has_mark(file) {
-        Ok(false) => disk_in::<C>(path, lengthened(file, image_bytes(journals, sources))),
+        Ok(false) => disk_in::<C>(path, lengthened(file, image_bytes(store, sources))),
         Ok(true) => Err(ProgramFault::Format(FormatFault::Formatted)),
         Err(_) => Err(ProgramFault::Format(FormatFault::Device)),
     }

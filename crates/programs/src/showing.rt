@@ -3,8 +3,8 @@ ghost use Rattle.std.specs.Prelude.{◌≡◌, ◌≤◌, ℕ, List, Some, None,
 ghost use Rattle.std.specs.Io.KnownBytes.{Appends};
 ghost use Rattle.vm_types.specs.declared.file.FileInfo.{FileInfo};
 ghost use Rattle.vm_types.specs.Files.{bytes_inside};
-ghost use Rattle.file_store.specs.Standing.{standing_page, standing_file};
-ghost use Rattle.file_store.specs.Store.{IsReadyStore, IsSectorOf, files_of};
+ghost use Rattle.stores.specs.Images.{standing_page, standing_file};
+ghost use Rattle.stores.specs.Store.{disk_of, files_of, IsReadyStore, IsSectorOf};
 ghost use Rattle.programs.specs.Showing.{BlamesDevice, IsSectorOfFile, KeepsImage, IsCopyable, OnlyReads, RefusesToShow, WritesOut, WritesOutPart};
 ghost use Rattle.runner.specs.Bytes.{WritesBeginning};
 
@@ -13,16 +13,17 @@ use crate::files::{disk_in, settled};
 use crate::places::held_places;
 use command_words::cat_words;
 use disk_model::{DiskFault, FileContents, SectorDisk, Unknown};
-use file_store::{FileStore, OpenFault};
 use host_files::open_to_show;
 use runner::{WriteFault, write_bytes};
+use std::alloc::Global;
 use std::fs::{File, Files};
 use std::io::{Read, Write};
+use stores::{OpenFault, Store};
 use thiserror::Error;
 use vm_types::{FilePage, PAGE_BYTES};
 
-/// `pagecat IMAGE N`: opens the image, which carries out an open journal, and writes the bytes of file N to `writer`, a
-/// page at a time. An image that may not be written is only read, and its journal has to be closed.
+/// `pagecat IMAGE N`: opens the image, of whichever layout, which carries out what a stop left, and writes the bytes of file N to `writer`, a
+/// page at a time. An image that may not be written is only read, and no page may stand in a journal or a slot alone then.
 ///
 /// Returns the exit status: 0 done; 1 a fault; 2 other words. For 1 and 2 one line on `errors` says why.
 pub fn pagecat<R: Files<File = File> + AllocGlobal, I: Read, O: Write, X: Write>(
@@ -47,7 +48,7 @@ fn show_file<'a, C: FileContents, R: Files<File = File> + AllocGlobal, O: Write>
     let _places = held_places(rt)?;
     let disk = disk_in::<C>(words.image, open_to_show(rt, words.image))?;
     let disk = settled(disk, ProgramFault::Open(OpenFault::Device))?;
-    match show(disk, words.file, writer) {
+    match show(rt.alloc(), disk, words.file, writer) {
         Ok(_) => Ok(()),
         Err((fault, _)) => Err(told(fault, words.file)),
     }
@@ -97,23 +98,24 @@ impl From<CopyFault> for ShowFault {
 /// image that a stop might leave meanwhile stands for what the device did at first, and for what it did before any earlier stop.
 ///
 /// After a fault the writer took a beginning of the bytes, and after `Open` none. `Open` reports a bad layout or a bad
-/// journal exactly where the image has one, unless the device fails first, and the device only where it failed
-/// (`FileStore::open`); the other faults come only once the image is open: `NoFile` where it has no file of that number,
+/// journal exactly where the image has one, unless memory is short or the device fails first, and the device only where it failed
+/// (`Store::open`); the other faults come only once the image is open: `NoFile` where it has no file of that number,
 /// `Read` only where the device failed, and `Write` where the writer failed or took no bytes. Each fault hands the device back,
 /// and no failure of it is forgotten. An image that is no store has had nothing written. No sector is asked for but those that an
-/// opening asks for and the file's own, and what lies outside the homes stays.
+/// opening asks for and the file's own, and what lies outside of journals, pool and homes stays.
 pub fn show<D: SectorDisk + Drop, W: Write>(
+    alloc: Global,
     disk: D,
     file: u32,
     writer: &mut W,
-) -> Result<FileStore<D>, (ShowFault, D)>
+) -> Result<Store<D>, (ShowFault, D)>
     ensures writes { IfOk result (λ store. WritesOut D.SectorDisk file disk store (W.contents writer.old) (W.contents writer.new)) }
-    ensures keeps { IfOk result (λ store. KeepsImage D.SectorDisk file disk store.disk) }
+    ensures keeps { IfOk result (λ store. KeepsImage D.SectorDisk file disk (disk_of store)) }
     ensures refuses { IfErr result (λ e. RefusesToShow D.SectorDisk file disk e.0 e.1) }
     ensures begins { IfErr result (λ e. WritesOutPart D.SectorDisk file disk e.0 e.1 (W.contents writer.old) (W.contents writer.new)) }
     ensures err_keeps { IfErr result (λ e. KeepsImage D.SectorDisk file disk e.1) }
 {
-    let mut store = match FileStore::open(disk) {
+    let mut store = match Store::open(alloc, disk) {
         Ok(store) => store,
         Err((fault, disk)) => return Err((ShowFault::Open(fault), disk)),
     };
@@ -130,7 +132,7 @@ pub fn show<D: SectorDisk + Drop, W: Write>(
 ///
 /// `NoFile` exactly where the store has no such file, `Read` only where the device failed, and `Write` where the writer did.
 pub fn show_opened<D: SectorDisk, W: Write>(
-    store: &mut FileStore<D>,
+    store: &mut Store<D>,
     file: u32,
     writer: &mut W,
 ) -> Result<(), ShowFault>
@@ -139,8 +141,8 @@ pub fn show_opened<D: SectorDisk, W: Write>(
     ensures some { OnOk result ((info : FileInfo) × (files_of store.old file ≡ Some info)) }
     ensures unopened { (fault : OpenFault) → IsErrOf result (ShowFault.Open fault) → ⊥ }
     ensures none { IsErrOf result ShowFault.NoFile → files_of store.old file ≡ None }
-    ensures blames { BlamesDevice (D.failures store.old.disk) (D.failures store.new.disk) ShowFault.Read result }
-    ensures written { D.keeps_model store.new.disk → (bytes : List ℕ) → standing_file (D.content store.old.disk) file ≡ Some bytes
+    ensures blames { BlamesDevice (D.failures (disk_of store.old)) (D.failures (disk_of store.new)) ShowFault.Read result }
+    ensures written { D.keeps_model (disk_of store.new) → (bytes : List ℕ) → standing_file (D.sector_count (disk_of store.old)) (D.content (disk_of store.old)) file ≡ Some bytes
         → MatchResult result
         (λ _. Appends (W.contents writer.old) (W.contents writer.new) bytes)
         (λ _. WritesBeginning (W.contents writer.old) (W.contents writer.new) bytes) }
@@ -184,7 +186,7 @@ impl From<WriteFault> for CopyFault {
 /// Writes the bytes of a file to the writer. After a fault it took a beginning of them; `Read` comes only where the
 /// device failed.
 fn copy_file<D: SectorDisk, W: Write>(
-    store: &mut FileStore<D>,
+    store: &mut Store<D>,
     file: u8,
     length: u32,
     writer: &mut W,
@@ -192,8 +194,8 @@ fn copy_file<D: SectorDisk, W: Write>(
     requires ready { IsReadyStore D.SectorDisk store.old }
     requires file { (info : FileInfo) × (files_of store.old file ≡ Some info) × (info.length ≡ length) }
     ensures reads { OnlyReads D.SectorDisk (IsSectorOfFile store.old file) store.old store.new }
-    ensures blames { BlamesDevice (D.failures store.old.disk) (D.failures store.new.disk) CopyFault.Read result }
-    ensures written { D.keeps_model store.new.disk → (bytes : List ℕ) → standing_file (D.content store.old.disk) file ≡ Some bytes
+    ensures blames { BlamesDevice (D.failures (disk_of store.old)) (D.failures (disk_of store.new)) CopyFault.Read result }
+    ensures written { D.keeps_model (disk_of store.new) → (bytes : List ℕ) → standing_file (D.sector_count (disk_of store.old)) (D.content (disk_of store.old)) file ≡ Some bytes
         → MatchResult result
         (λ _. Appends (W.contents writer.old) (W.contents writer.new) bytes)
         (λ _. WritesBeginning (W.contents writer.old) (W.contents writer.new) bytes) }
@@ -210,7 +212,7 @@ fn copy_file<D: SectorDisk, W: Write>(
 
 /// Writes the bytes of a page that lie inside its file to the writer.
 fn copy_page<D: SectorDisk, W: Write>(
-    store: &mut FileStore<D>,
+    store: &mut Store<D>,
     page: FilePage,
     length: u32,
     bytes: &mut [u8; 4096],
@@ -218,12 +220,12 @@ fn copy_page<D: SectorDisk, W: Write>(
 ) -> Result<(), CopyFault>
     requires { IsCopyable D.SectorDisk store.old page length }
     ensures reads { OnlyReads D.SectorDisk (IsSectorOf store.old page) store.old store.new }
-    ensures blames { BlamesDevice (D.failures store.old.disk) (D.failures store.new.disk) CopyFault.Read result }
-    ensures written { D.keeps_model store.new.disk → MatchResult result
+    ensures blames { BlamesDevice (D.failures (disk_of store.old)) (D.failures (disk_of store.new)) CopyFault.Read result }
+    ensures written { D.keeps_model (disk_of store.new) → MatchResult result
         (λ _. Appends (W.contents writer.old) (W.contents writer.new)
-        (take (bytes_inside length page.page) (standing_page (D.content store.old.disk) page.file page.page)))
+        (take (bytes_inside length page.page) (standing_page (D.sector_count (disk_of store.old)) (D.content (disk_of store.old)) page.file page.page)))
         (λ _. WritesBeginning (W.contents writer.old) (W.contents writer.new)
-        (take (bytes_inside length page.page) (standing_page (D.content store.old.disk) page.file page.page))) }
+        (take (bytes_inside length page.page) (standing_page (D.sector_count (disk_of store.old)) (D.content (disk_of store.old)) page.file page.page))) }
 {
     store.read_page(page, bytes)?;
     let inside = (length as usize - PAGE_BYTES * page.page as usize).min(PAGE_BYTES);

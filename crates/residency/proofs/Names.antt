@@ -5,7 +5,8 @@ pub use Rattle.vm_types.specs.{Capacity.{tables_below, tables_of}, Files.{is_pas
 pub use Rattle.vm_types.specs.{State.{State}, Verdict.{is_past_end}, View.{View}, declared.{file.{FileInfo.{FileInfo}, FilePage.{FilePage}}, number.{FrameNo.{FrameNo}, SlotNo.{SlotNo}}, object.{ObjectPage.{ObjectPage}, PageKey.{PageKey}}}}
 pub use Rattle.vm_types.specs.declared.{object.PageKey.TheVariants.{Object, File}, refusal.Stall.{Stall, TheVariants.{SwapDevice, NoFrames, StoreDevice, NoSwap}}, region.{Attr.{Attr}, Backing.{Backing, TheVariants.{Anon, Shared, Common}}}}
 pub use Rattle.{clock_replace.specs.declared.clock.Clock.{Clock}, disk_model.{proofs.{Moments.{asks_once, asks_then, asks_wider, asks_none}, Naming.{once_none, once_named}}, specs.{Moments.{AsksOnly, Nothing}, Stop.{Names, NamesOnce}}}}
-pub use Rattle.{disk_model.specs.declared.sector_disk.SectorDisk.{Ghosts}, file_store.specs.{Standing.{IsPageOf, standing_page, AreBounded}, Store.{ReadsFilePage, IsSectorOf, entry_of, files_of}, declared.store.FileStore.{FileStore}}}
+pub use Rattle.{disk_model.specs.declared.sector_disk.SectorDisk.{Ghosts}, file_store.specs.Standing.{IsPageOf, AreBounded}}
+pub use Rattle.stores.specs.{Images.{standing_page}, Store.{ReadsFilePage, IsSectorOf, directory_in, disk_of, files_in, files_of}, declared.store.Store.{Store}}
 pub use Rattle.frames.{proofs.FrameLemmas.{with_bytes-others, with_bytes-same}, specs.FrameTable.{IsFull, role_of, SameButFor, IsFrame, count_of, FrameTable, Takes, bytes_of, with_bytes, Releases, frame_count, IsSound, IsCountFor, IsFresh}}
 pub use Rattle.{frames.specs.{FrameTable.{IsHeld}, declared.role.Role.{Role, TheVariants.{Table, Free, Private, Cache, Zero}}}, memory.{proofs.Numbers.{is_number, of_number}, specs.Notes.{NamesFrame}}}
 pub use Rattle.{page_cache.specs.{CacheTable.{place_of, is_touched, SameButForPage, CacheTable}, declared.place.Place.{Place, TheVariants.{Home, Slot, Frame}}}, page_tables.proofs.{Bits.{parked_framed}, Data.{KeepsTrees, data_changed}}}

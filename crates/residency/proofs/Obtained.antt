@@ -1,7 +1,7 @@
 -- A frame that was obtained, and what was done with it.
 use Rattle.vm_types.specs.declared.mode.Levels as Levels
 use Rattle.residency.proofs.{Asking.{also_taken, asked_taken, entries_taken, gives_taken, needed_of, wants_taken, wants_tried}, BroughtIn.{fit_brought}, Cleaning.{all_touched}, Giving.{frame_taken, one_given}, Names.{◌≡◌, ◌≢◌, ℕ, ◌⊎◌, ◌≤◌, Option, None}}
-use Rattle.residency.proofs.Names.{sym, ap, ◌∙◌, subst, arith, rules, IsErrAnd, FrameNo, PageKey, Stall, StoreDevice, Ghosts, AsksOnly, Free, Table, Cache, role_of, IsFrame, IsFull, SameButFor, FrameTable, Takes, Swap, IsReady, IsSectorOfSlot}
+use Rattle.residency.proofs.Names.{sym, ap, ◌∙◌, subst, arith, rules, IsErrAnd, FrameNo, PageKey, Stall, StoreDevice, Ghosts, disk_of, AsksOnly, Free, Table, Cache, role_of, IsFrame, IsFull, SameButFor, FrameTable, Takes, Swap, IsReady, IsSectorOfSlot}
 use Rattle.residency.{proofs.{Names.{Frame, place_of, is_touched, SameButForPage}, Returning.{frees_spent}, Sparing.{frees_then}, Taking.{fit_spent}}, specs.{Ages.{GivesFrame}, AskedFrames.{ComesIn, Obtains, SeeksFrame}, Calls.{AsksSwap}}}
 use Rattle.residency.specs.{Calls.{AsksSwapAlso, KeepsRest, UsesDevice}, Parts.{IsPageFor}, Picture.{Picture, picture_of, entry}, Stalls.{StallCause, ReadCause, HasReadCause}, Steps.{BringsIn, ChangesFrame, LeavesSlot}, Views.{AsksClock, IsLeftBut}}
 use Rattle.{residency.specs.{Views.{ChoosesByClock, TurnsClock}, declared.kernel.Core.{Core}}, std.proofs.Common.{Result, Ok, Err}}
@@ -104,7 +104,7 @@ module _ {M : Type 0} {m : Levels.Ghosts M} {D E : Type 0} {h : Ghosts E} {old f
 -- why, where the store is as it was
 read_cause : {M : Type 0} {m : Levels.Ghosts M} {D E : Type 0} (g : Ghosts D) (h : Ghosts E) (old new : Core D E M m) (stall : Stall) → new.store ≡ old.store → StallCause h old new stall → ReadCause g h old new stall
 read_cause g h old new StoreDevice store c = absurd c
-read_cause g h old new stall store c = (c.0, ap (λ s. g.failures s.disk) store, c.1)
+read_cause g h old new stall store c = (c.0, ap (λ s. g.failures (disk_of s)) store, c.1)
 
 -- none was had
 module _ {M : Type 0} {m : Levels.Ghosts M} {D E : Type 0} {h : Ghosts E} {old new : Core D E M m} {stall : Stall} where

@@ -5,6 +5,7 @@ use Rattle.vm_types.specs.declared.refusal.Stall.{Stall}
 use Rattle.vm_types.specs.declared.refusal.Stall.TheVariants.{NoFrames, NoSwap, SwapDevice, StoreDevice}
 use Rattle.disk_model.specs.declared.sector_disk.SectorDisk.{Ghosts}
 use Rattle.residency.specs.declared.kernel.Core.{Core}
+use Rattle.stores.specs.Store.{disk_of}
 
 module _ {M : Type 0} {m : Levels.Ghosts M} {E : Type 0} (h : Ghosts E) where
   module _ {D : Type 0} where
@@ -24,15 +25,15 @@ module _ {M : Type 0} {m : Levels.Ghosts M} {E : Type 0} (h : Ghosts E) where
 module _ {M : Type 0} {m : Levels.Ghosts M} {D : Type 0} (g : Ghosts D) {E : Type 0} (h : Ghosts E) where
   -- no request was refused, and neither device counted a failure
   abbrev pub CountsNothing : Core D E M m → Core D E M m → Type 0
-  CountsNothing old new = (new.refused.number ≡ old.refused.number) × (g.failures new.store.disk ≡ g.failures old.store.disk) × (h.failures new.swap.pages.disk ≡ h.failures old.swap.pages.disk)
+  CountsNothing old new = (new.refused.number ≡ old.refused.number) × (g.failures (disk_of new.store) ≡ g.failures (disk_of old.store)) × (h.failures new.swap.pages.disk ≡ h.failures old.swap.pages.disk)
 
   -- Of a call that reads the store: the device that the stall names failed, and the other one, or both where it names none,
   -- counted no failure.
   abbrev pub ReadCause : Core D E M m → Core D E M m → Stall → Type 0
-  ReadCause old new NoFrames = (new.refused.number ≡ old.refused.number + 1) × (g.failures new.store.disk ≡ g.failures old.store.disk) × (h.failures new.swap.pages.disk ≡ h.failures old.swap.pages.disk)
-  ReadCause old new NoSwap = (new.refused.number ≡ old.refused.number + 1) × (g.failures new.store.disk ≡ g.failures old.store.disk) × (h.failures new.swap.pages.disk ≡ h.failures old.swap.pages.disk)
-  ReadCause old new SwapDevice = (new.refused.number ≡ old.refused.number) × (g.failures new.store.disk ≡ g.failures old.store.disk) × (h.failures old.swap.pages.disk < h.failures new.swap.pages.disk)
-  ReadCause old new StoreDevice = (new.refused.number ≡ old.refused.number) × (g.failures old.store.disk < g.failures new.store.disk) × (h.failures new.swap.pages.disk ≡ h.failures old.swap.pages.disk)
+  ReadCause old new NoFrames = (new.refused.number ≡ old.refused.number + 1) × (g.failures (disk_of new.store) ≡ g.failures (disk_of old.store)) × (h.failures new.swap.pages.disk ≡ h.failures old.swap.pages.disk)
+  ReadCause old new NoSwap = (new.refused.number ≡ old.refused.number + 1) × (g.failures (disk_of new.store) ≡ g.failures (disk_of old.store)) × (h.failures new.swap.pages.disk ≡ h.failures old.swap.pages.disk)
+  ReadCause old new SwapDevice = (new.refused.number ≡ old.refused.number) × (g.failures (disk_of new.store) ≡ g.failures (disk_of old.store)) × (h.failures old.swap.pages.disk < h.failures new.swap.pages.disk)
+  ReadCause old new StoreDevice = (new.refused.number ≡ old.refused.number) × (g.failures (disk_of old.store) < g.failures (disk_of new.store)) × (h.failures new.swap.pages.disk ≡ h.failures old.swap.pages.disk)
 
   -- A stall has its cause, and where there is none, nothing was counted.
   abbrev pub HasReadCause : {T : Type 0} → Core D E M m → Core D E M m → Result T Stall → Type 0

@@ -1,7 +1,7 @@
 //! The values under all calls.
 ghost use Rattle.std.specs.Prelude.{◌≡◌, ◌≤◌, ◌<◌, IfOk, IfErr, length};
 ghost use Rattle.file_store.specs.Standing.{AreBounded};
-ghost use Rattle.file_store.specs.Store.{files_of};
+ghost use Rattle.stores.specs.Store.{files_of};
 ghost use Rattle.frames.specs.FrameTable.{IsSound, frame_count};
 ghost use Rattle.page_cache.specs.CacheTable as CacheTable;
 ghost use Rattle.swap.specs.Slots.{slots_of};
@@ -10,11 +10,11 @@ ghost use Rattle.residency.specs.Sound.{IsSound-prop, AreBounded-prop};
 
 use clock_replace::Clock;
 use disk_model::Count;
-use file_store::FileStore;
 use memory::Memory;
 use page_cache::PageCache;
 use regions::Regions;
 use std::alloc::{AllocError, Global};
+use stores::Store;
 use swap::Swap;
 use vm_types::{FrameNo, Levels, PROCESSES};
 
@@ -27,7 +27,7 @@ pub const PLACES: usize = PROCESSES + 1;
 #[derive(Drop)]
 pub struct Core<D, E, M: Levels> {
     /// The files, as they stand on their device.
-    pub store: FileStore<D>,
+    pub store: Store<D>,
     /// The slots that pages are swapped to.
     pub swap: Swap<E>,
     /// Physical memory, with its buffer of translations.
@@ -70,11 +70,11 @@ impl<D, E, M: Levels> Core<D, E, M> {
     /// `AllocError` where the host has not enough memory. The files are handed back.
     pub fn new(
         alloc: Global,
-        store: FileStore<D>,
+        store: Store<D>,
         swap: Swap<E>,
         frames: u32,
         slots: u32,
-    ) -> Result<Core<D, E, M>, (AllocError, FileStore<D>)>
+    ) -> Result<Core<D, E, M>, (AllocError, Store<D>)>
     where
         E: Drop,
         requires swap { Slots.AreNewSlots (slots_of swap) slots }

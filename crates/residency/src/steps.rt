@@ -3,7 +3,7 @@ ghost use Rattle.std.specs.Prelude.{◌≡◌, true};
 ghost use Rattle.vm_types.specs.declared.object.PageKey.TheVariants.{File, Object};
 ghost use Rattle.vm_types.specs.Objects.{is_named};
 ghost use Rattle.file_store.specs.Standing.{IsPageOf};
-ghost use Rattle.file_store.specs.Store.{IsReadyStore};
+ghost use Rattle.stores.specs.Store.{IsReadyStore};
 ghost use Rattle.page_cache.specs.declared.place.Place.TheVariants.{Home, Slot};
 ghost use Rattle.swap.specs.Slots.{IsReady};
 ghost use Rattle.residency.specs.Picture.{picture_of};

@@ -1,11 +1,12 @@
 -- What an access asks for.
 use Rattle.vm_types.specs.declared.mode.Levels as Levels
-use Rattle.spaces.proofs.Names.{ℕ, ◌≡◌, ◌≢◌, ◌⊎◌, ◌/◌, true, false, Some, is_some, List, Result, Ok, Err, inl, refl, sym, ap, ◌∙◌, subst, rules, AsksOnly, Ghosts, FileStore, Swap, IsSoundCore, tends_none, AccessRefusal, Reaches, Tends}
+use Rattle.spaces.proofs.Names.{ℕ, ◌≡◌, ◌≢◌, ◌⊎◌, ◌/◌, true, false, Some, is_some, List, Result, Ok, Err, inl, refl, sym, ap, ◌∙◌, subst, rules, AsksOnly, Ghosts, AnyStore, Swap, IsSoundCore, tends_none, AccessRefusal, Reaches, Tends}
 use Rattle.spaces.proofs.Names.{IsRefusal, ReadsHome, RefusesAccess, ShowsFile, KeepsSlotted, IsThatPage, bytes_of, with_bytes, Core, KeepsAround, Picture, picture_of, is_live, Access, StoredValue, Phys, ESRCH, Stall, StoreDevice, Reply}
 use Rattle.spaces.{proofs.{Names.{Done, Faulted, Refused, Stalled, Width, with_number, reply_of, byte_count}, Refusals.{no_stall, same_stall, refused_idle, refused_caused}}, specs.Accesses.{reply_for, AsksFor, KeepsToPage, LetsThrough, MayWrite}}
-use Rattle.{spaces.specs.{Accesses.{WritesNumber}, Idle.{is_denial}}, vm_types.specs.declared.access.Access.TheVariants.{Store}}
+use Rattle.{spaces.{proofs.Room.{room_left}, specs.{Accesses.{WritesNumber}, Idle.{is_denial}}}, vm_types.specs.declared.access.Access.TheVariants.{Store}}
 use Rattle.{disk_model.specs.Stop.{NamesOnce}, fault.specs.{AccessAsking.{IsSectorShown}, Chances.{AreAllMarkedFor, GivesOthersChance, WantsOneFrame}}}
 use Rattle.fault.specs.declared.refusal.AccessRefusal.TheVariants as Refusal
+use Rattle.{stores.specs.Store.{disk_of, kept_of, HasRoomFor}, vm_types.specs.Limits.{msync_pages}}
 
 -- nothing was written
 pub writes_none : {M : Type 0} {m : Levels.Ghosts M} → {D E : Type 0} (access : Access) (c : Core D E M m) → MayWrite access c c
@@ -27,7 +28,7 @@ module _ {M : Type 0} {m : Levels.Ghosts M} {D E : Type 0} (g : Ghosts D) (h : G
     wanted = λ stall e. absurd (none stall e);
     refused = λ stall e. absurd (none stall e);
     home = λ e. absurd (none StoreDevice e);
-    read = subst (λ (x : FileStore D). (x ≡ old.store) ⊎ ReadsHome (picture_of old) pid (addr / 4096)) (sym store) tends.read;
+    read = subst (λ (x : AnyStore D). (x ≡ old.store) ⊎ ReadsHome (picture_of old) pid (addr / 4096)) (sym store) tends.read;
     slots = λ calm. swap ∙ (tends.calm calm).swap;
     slotted = slotted;
     granted = mid;
@@ -38,8 +39,8 @@ module _ {M : Type 0} {m : Levels.Ghosts M} {D E : Type 0} (g : Ghosts D) (h : G
     grants = λ done unstalled. grants done;
     chance = λ done unstalled. chance done;
     sectors = record {
-      once = subst (λ (x : FileStore D). NamesOnce (IsSectorShown old pid (addr / 4096)) (g.asked old.store.disk) (g.asked x.disk)) (sym store) tends.asks.once;
-      store = asks_as g _ old.store.disk mid.store.disk new.store.disk (ap (λ (x : FileStore D). x.disk) store) tends.asks.store;
+      once = subst (λ (x : AnyStore D). NamesOnce (IsSectorShown old pid (addr / 4096)) (g.asked (disk_of old.store)) (g.asked (disk_of x))) (sym store) tends.asks.once;
+      store = asks_as g _ (disk_of old.store) (disk_of mid.store) (disk_of new.store) (ap (λ (x : AnyStore D). disk_of x) store) tends.asks.store;
       swap = asks_as h _ old.swap.pages.disk mid.swap.pages.disk new.swap.pages.disk (ap (λ (x : Swap E). x.pages.disk) swap) tends.asks.swap;
     };
   }
@@ -69,9 +70,11 @@ module _ {M : Type 0} {m : Levels.Ghosts M} {D E : Type 0} (g : Ghosts D) (h : G
 module _ {M : Type 0} {m : Levels.Ghosts M} {D E : Type 0} (g : Ghosts D) (h : Ghosts E) where
   -- where there is no place
   pub keeps_refused : (old new : Core D E M m) (pid addr : ℕ) (width : Width) (access : Access) (r : Result Phys AccessRefusal) (refusal : AccessRefusal)
-      → Reaches g h old new pid addr width access r → IsRefusal g h old new pid addr width access refusal → KeepsToPage g h old new pid addr access (reply_of (reply_for refusal))
-  keeps_refused old new pid addr width access r refusal reached is =
+      → Reaches g h old new pid addr width access r → IsRefusal g h old new pid addr width access refusal → HasRoomFor msync_pages (kept_of old.store)
+      → KeepsToPage g h old new pid addr access (reply_of (reply_for refusal))
+  keeps_refused old new pid addr width access r refusal reached is had =
       let goes = reached.proceeds in
+      let left = room_left old.store new.store goes.reads.same had in
       let idle = refused_idle g h old new pid addr width access refusal is in
       let caused = refused_caused g h old new pid addr width access refusal goes.reads.failures goes.device.later is in
       let asks = asks_refused g h old new pid addr access reached.tends width refusal is in

@@ -2,10 +2,12 @@
 use Rattle.vm_types.specs.declared.mode.Levels as Levels
 use Rattle.spaces.proofs.Names.{user_end, Command, Spawn, Fork, Exit, EAGAIN, Stall, SwapDevice, StoreDevice, Process, Done, Refused, Stalled, Maps, named_objects, least_free_from, least_free_pid, with_process}
 use Rattle.spaces.proofs.Names.{without_process, without_space, table_count, tables_of, is_success, is_open_to, cause_of, needs_frames, reads_swap, State, Outcome, outcome, spawn_outcome, fork_outcome, exit_outcome, View, ℕ, ◌≡◌, ◌≢◌, ◌+◌}
-use Rattle.spaces.proofs.Names.{◌≤◌, ◌==◌, ◌&&◌, ◌||◌, not, Bool, true, false, if◌then◌else◌, Option, Some, None, refl, sym, ap, ◌∙◌, subst, arith, rules, nat_tests, Ghosts, Result, FileStore, IsReadyStore, IsSoundCore, frame_count, AddsProcess, RemovesProcess, KeepsProcesses}
+use Rattle.spaces.proofs.Names.{◌≤◌, ◌==◌, ◌&&◌, ◌||◌, not, Bool, true, false, if◌then◌else◌, Option, Some, None, refl, sym, ap, ◌∙◌, subst, arith, rules, nat_tests}
+use Rattle.spaces.proofs.Names.{Ghosts, Result, AnyStore, IsReadyStore, IsSoundCore, frame_count, AddsProcess, RemovesProcess, KeepsProcesses}
 use Rattle.spaces.proofs.Names.{IsShortToFork, KeepsRoom, StallCause, ReadCause, IsShort, IsFit, Core, Picture, picture_of, is_live, view, ShowsPages, KeepsFiles, shows_named, KeepsNamed, without_maps, slots_of}
 use Rattle.{lifecycle.specs.Lifetimes.{WantsProcess}, spaces.specs.Calls.{Comes, Stalls, FallsShort, IsCaused, LeavesStore, causes}}
-use Rattle.spaces.proofs.{Calls.{does, does_answer, shows_with, pages_of}, Pages.{views_seen, maps_gone}, Refusals.{stall_caused}, Short.{falls_short, falls_short_to_fork, least_below, tables_added}}
+use Rattle.spaces.proofs.{Calls.{does, does_answer, shows_with, pages_of}, Pages.{views_seen, maps_gone}, Refusals.{stall_caused}, Room.{room_left}, Short.{falls_short, falls_short_to_fork, least_below, tables_added}}
+use Rattle.stores.specs.Store.{disk_of, kept_of}
 
 -- a test of all numbers, where one is decided
 lives_with : (pid q : ℕ) (b : Bool) (seen : ℕ → Bool) → seen pid ≡ true → (q ≢ pid → b ≡ seen q) → (q == pid || b) ≡ seen q
@@ -72,23 +74,28 @@ stalled g h old new s command stall o cause e fine frames swaps short shows =
 -- the stall says of the store's device that it was left alone
 stall_read : {M : Type 0} {m : Levels.Ghosts M} → {D E : Type 0} (g : Ghosts D) (h : Ghosts E) (old new : Core D E M m) (stall : Stall) → new.store ≡ old.store → StallCause h old new stall → ReadCause g h old new stall
 stall_read g h old new StoreDevice same cause = absurd cause
-stall_read g h old new stall same cause = (cause.0, ap (λ (t : FileStore _). g.failures t.disk) same, cause.1)
+stall_read g h old new stall same cause = (cause.0, ap (λ (t : AnyStore _). g.failures (disk_of t)) same, cause.1)
 
 -- so it is told what the stall came from
 pub store_kept_caused : {M : Type 0} {m : Levels.Ghosts M} → {D E : Type 0} (g : Ghosts D) (h : Ghosts E) (old new : Core D E M m) (stall : Stall) → new.store ≡ old.store
     → h.failures old.swap.pages.disk ≤ h.failures new.swap.pages.disk → StallCause h old new stall → IsCaused g h old new (Stalled stall)
 store_kept_caused g h old new stall same later cause =
-    let still : g.failures new.store.disk ≡ g.failures old.store.disk = ap (λ (t : FileStore _). g.failures t.disk) same in
+    let still : g.failures (disk_of new.store) ≡ g.failures (disk_of old.store) = ap (λ (t : AnyStore _). g.failures (disk_of t)) same in
     stall_caused g h old new stall (omega (arith, still)) later (stall_read g h old new stall same cause)
 
 -- a process came, and nothing failed
 pub came : {M : Type 0} {m : Levels.Ghosts M} → {D E : Type 0} (g : Ghosts D) (h : Ghosts E) (old new : Core D E M m) (pid : ℕ) → {T : Type 0} (r : Result T Stall) → IsSoundCore g h old → WantsProcess h old new r
     → (new.refused.number ≡ old.refused.number) × (h.failures new.swap.pages.disk ≡ h.failures old.swap.pages.disk) → LeavesStore g h old new (Process pid)
 came g h old new pid r sound keeps none =
-    let still : g.failures new.store.disk ≡ g.failures old.store.disk = ap (λ (t : FileStore _). g.failures t.disk) keeps.store in
+    let still : g.failures (disk_of new.store) ≡ g.failures (disk_of old.store) = ap (λ (t : AnyStore _). g.failures (disk_of t)) keeps.store in
     record {
       accounts = record {
-        sound = record { ready = subst (λ (t : FileStore _). IsReadyStore g t) (sym keeps.store) sound.ready; swap = keeps.swap; fit = keeps.fit };
+        sound = record {
+          ready = subst (λ (t : AnyStore _). IsReadyStore g t) (sym keeps.store) sound.ready;
+          room = room_left old.store new.store (ap (λ (t : AnyStore _). kept_of t) keeps.store) sound.room;
+          swap = keeps.swap;
+          fit = keeps.fit;
+        };
         room = keeps.room;
         denied = search rules;
         caused = record { later = omega (arith, still); swap_later = keeps.device.later; calm = λ e. still; swap_calm = λ e. none.1; counted = omega (arith, none.0); failed = search rules; stalled = search rules };

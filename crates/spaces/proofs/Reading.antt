@@ -7,6 +7,7 @@ use Rattle.spaces.proofs.Names.{cause_of, needs_frames, reads_files, reads_swap,
 use Rattle.spaces.{specs.{Accesses.{reply_for, CarriesRead}, Calls.{Comes, Stalls, causes}}, proofs.{Calls.{does, does_answer}, Short.{falls_short}, Shown.{judged_is, homes}}}
 use Rattle.fault.specs.declared.refusal.AccessRefusal.TheVariants as Refusal
 use Rattle.vm_types.specs.declared.access.Access.TheVariants as Accesses
+use Rattle.stores.specs.Store.{disk_of}
 
 -- the frame of a load or a fetch is one of memory's
 pub open_read : {mode : ℕ} (kind : Access) (c : Picture mode) (pid page : ℕ) (b : Backing) (n : ℕ) → is_store kind ≡ false → IsFrameFor kind c pid page b n → IsFrame c.frames n
@@ -47,15 +48,15 @@ module _ {M : Type 0} {m : Levels.Ghosts M} {D E : Type 0} (g : Ghosts D) (h : G
   refused (Refusal.Stall stall) is shows same = stalls stall is.seen is.fine is.stalled.cause is.stalled.short (same is.stalled.keeps)
 
 module _ {M : Type 0} {m : Levels.Ghosts M} {D E : Type 0} (g : Ghosts D) (h : Ghosts E) (old new : Core D E M m) (W : PageKey → Type 0) (s : State) (shows : CoreShows g old s)
-    (keeps : g.keeps_model new.store.disk) (swaps : h.keeps_model new.swap.pages.disk) (goes : Proceeds g h old new) (brings : BringsFiles g h W old new) where
+    (keeps : g.keeps_model (disk_of new.store)) (swaps : h.keeps_model new.swap.pages.disk) (goes : Proceeds g h old new) (brings : BringsFiles g h W old new) where
   pub same : KeepsSeen (picture_of old) (picture_of new) → ShowsPages (picture_of new) s
   same kept =
-      shows_kept g old.store.disk new.store.disk W (picture_of old) (picture_of new) s goes.fit (brings swaps) goes.spaces keeps
+      shows_kept g (disk_of old.store) (disk_of new.store) W (picture_of old) (picture_of new) s goes.fit (brings swaps) goes.spaces keeps
       (homes g old new s shows goes.reads keeps) kept shows.pages
 
   pub files : ShowsFiles (picture_of new) s
   files =
-      shows_files g old.store.disk new.store.disk W (picture_of old) (picture_of new) s goes.fit (brings swaps) goes.spaces keeps
+      shows_files g (disk_of old.store) (disk_of new.store) W (picture_of old) (picture_of new) s goes.fit (brings swaps) goes.spaces keeps
       (homes g old new s shows goes.reads keeps) shows.pages
 
 -- what a read of a number comes to
@@ -85,7 +86,7 @@ module _ {M : Type 0} {m : Levels.Ghosts M} {D E : Type 0} (g : Ghosts D) (h : G
 
   -- what comes of each such command comes of a load and of a fetch
   carries : is_live (picture_of old) pid ≡ true → (reply : Reply)
-      → ((s : State) (command : Command) → CoreShows g old s → g.keeps_model new.store.disk → h.keeps_model new.swap.pages.disk → IsRead s command → Comes g h old new s command reply)
+      → ((s : State) (command : Command) → CoreShows g old s → g.keeps_model (disk_of new.store) → h.keeps_model new.swap.pages.disk → IsRead s command → Comes g h old new s command reply)
       → CarriesRead g h old new pid addr width kind reply
   carries live reply comes = record {
     load = λ is s shows keeps swaps.

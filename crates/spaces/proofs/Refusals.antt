@@ -4,6 +4,7 @@ use Rattle.spaces.proofs.Names.{ℕ, ◌≡◌, ◌≤◌, ◌+◌, true, false,
 use Rattle.spaces.specs.{Accesses.{reply_for}, Calls.{IsCaused}, Idle.{is_denial, refused_by, stalls_store, stalls_swap}}
 use Rattle.fault.specs.declared.refusal.AccessRefusal.TheVariants as Refusal
 use Rattle.fault.specs.Outcome as Faults
+use Rattle.stores.specs.Store.{disk_of}
 
 -- a fault is no stall
 pub no_stall : (fault : Fault) (stall : Stall) → Faulted fault ≡ Stalled stall → ⊥
@@ -18,7 +19,7 @@ module _ {M : Type 0} {m : Levels.Ghosts M} {D E : Type 0} (g : Ghosts D) (h : G
   counted old new StoreDevice cause = omega (arith, cause.0)
   counted old new stall cause = cause.0
 
-  calm : (old new : Core D E M m) (stall : Stall) → ReadCause g h old new stall → stalls_store stall ≡ false → g.failures new.store.disk ≡ g.failures old.store.disk
+  calm : (old new : Core D E M m) (stall : Stall) → ReadCause g h old new stall → stalls_store stall ≡ false → g.failures (disk_of new.store) ≡ g.failures (disk_of old.store)
   calm old new StoreDevice cause other = absurd (let never : true ≡ false = other in cc)
   calm old new stall cause other = cause.1
 
@@ -27,7 +28,7 @@ module _ {M : Type 0} {m : Levels.Ghosts M} {D E : Type 0} (g : Ghosts D) (h : G
   swap_calm old new stall cause other = cause.2
 
   -- a stall comes of what it names
-  pub stall_caused : (old new : Core D E M m) (stall : Stall) → g.failures old.store.disk ≤ g.failures new.store.disk
+  pub stall_caused : (old new : Core D E M m) (stall : Stall) → g.failures (disk_of old.store) ≤ g.failures (disk_of new.store)
       → h.failures old.swap.pages.disk ≤ h.failures new.swap.pages.disk → ReadCause g h old new stall → IsCaused g h old new (Stalled stall)
   stall_caused old new stall later swap_later cause = record {
     later = later;
@@ -45,12 +46,12 @@ module _ {M : Type 0} {m : Levels.Ghosts M} {D E : Type 0} (g : Ghosts D) (h : G
     refused_idle (Refusal.Fault fault) is denied = is.3
     refused_idle (Refusal.Stall stall) is denied = absurd (let never : false ≡ true = denied in cc)
 
-    pub refused_caused : (refusal : AccessRefusal) → g.failures old.store.disk ≤ g.failures new.store.disk → h.failures old.swap.pages.disk ≤ h.failures new.swap.pages.disk
+    pub refused_caused : (refusal : AccessRefusal) → g.failures (disk_of old.store) ≤ g.failures (disk_of new.store) → h.failures old.swap.pages.disk ≤ h.failures new.swap.pages.disk
         → Faults.IsRefusal g h old new pid addr width kind refusal → IsCaused g h old new (reply_of (reply_for refusal))
     refused_caused (Refusal.Fault fault) later swap_later is = record {
       later = later;
       swap_later = swap_later;
-      calm = λ named. ap (λ (c : Core D E M m). g.failures c.store.disk) is.3;
+      calm = λ named. ap (λ (c : Core D E M m). g.failures (disk_of c.store)) is.3;
       swap_calm = λ named. ap (λ (c : Core D E M m). h.failures c.swap.pages.disk) is.3;
       counted = let same : new.refused.number ≡ old.refused.number = ap (λ (c : Core D E M m). c.refused.number) is.3 in omega (arith, same);
       failed = search rules;

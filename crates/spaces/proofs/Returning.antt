@@ -1,8 +1,9 @@
 -- Calls that take nothing.
 use Rattle.vm_types.specs.declared.mode.Levels as Levels
 use Rattle.spaces.proofs.Names.{ℕ, inl, inr, ◌≡◌, List, refl, sym, ap, ◌∙◌, cases_Bool, get_or, Role, Free, TakesNoFrame, none_taken, still_framed, place_of, is_touched, KeepsNamed, without_maps, KeepsEntriesOfOthers, ReturnsTables}
-use Rattle.spaces.proofs.Names.{true, false, false≢true, subst, arith, nat_tests, in_row, page_count, Reply, Prot}
-use Rattle.spaces.{proofs.Names.{KeepsFrames, Core, IsFit, Picture, picture_of, root_in, Object, is_named}, specs.Ranges.{EmptiesRange, PermitsRange, TakesNothing, is_range_done}}
+use Rattle.spaces.proofs.Names.{true, false, not, false≢true, subst, arith, nat_tests, in_row, page_count, Errno, Reply, Refused, Prot, Ghosts, IsSoundCore}
+use Rattle.spaces.{proofs.Names.{KeepsFrames, Core, IsFit, Picture, picture_of, root_in, Object, is_named}, specs.{Calls.{AccountsFor}, Ranges.{EmptiesRange, GivesPagesBack, PermitsRange, TakesNothing, is_range_done}}}
+use Rattle.vm_types.specs.{Prefix.{is_io_error}, declared.refusal.Errno.TheVariants.{EIO}}
 
 -- a call that changes nothing takes nothing
 pub takes_none : {mode : ℕ} (c : Picture mode) (pid first pages : ℕ) → TakesNothing c c pid first pages
@@ -14,6 +15,37 @@ empties_none c pid first pages reply not_done = record { beside = λ page h out.
 
 pub permits_none : {mode : ℕ} (c : Picture mode) (pid first pages : ℕ) (prot : Prot) (reply : Reply) → is_range_done reply ≡ false → PermitsRange c c pid first pages prot reply
 permits_none c pid first pages prot reply not_done = record { beside = λ page h out. refl; permits = λ done. absurd (false≢true (sym not_done ∙ done)) }
+
+same_errno : (a b : Errno) → Refused a ≡ Refused b → a ≡ b
+same_errno a b e = cc
+
+-- a call that a check refuses, which is never by EIO, does nothing
+module _ {M : Type 0} {m : Levels.Ghosts M} {D E : Type 0} (g : Ghosts D) (h : Ghosts E) (core : Core D E M m) (errno : Errno) (other : not (is_io_error errno) ≡ true) (sound : IsSoundCore g h core) where
+  no_error : Refused errno ≡ Refused EIO → ⊥
+  no_error e = false≢true (subst (λ (n : Errno). not (is_io_error n) ≡ true) (same_errno errno EIO e) other)
+
+  accounts_refused : AccountsFor g h core core (Refused errno)
+  accounts_refused = record {
+    sound = sound;
+    room = record { frames = refl; slots = refl };
+    denied = λ denied. refl;
+    caused = record {
+      later = omega arith;
+      swap_later = omega arith;
+      calm = λ named. refl;
+      swap_calm = λ named. refl;
+      counted = omega arith;
+      failed = λ e. absurd (no_error e);
+      stalled = λ stall e. cc;
+    };
+  }
+
+  pub returns_refused : (pid first pages : ℕ) → GivesPagesBack g h core core pid first pages (Refused errno)
+  returns_refused pid first pages = record {
+    accounts = accounts_refused;
+    devices = record { store = refl; pages = refl };
+    takes = takes_none (picture_of core) pid first pages;
+  }
 
 -- no bytes are those of no page
 pub no_page : (first len page : ℕ) → len ≡ 0 → in_row first (page_count len) page ≡ true → ⊥

@@ -1,7 +1,11 @@
 -- Memory of the size that it was, and sound as it was.
 use Rattle.vm_types.specs.declared.mode.Levels as Levels
-use Rattle.spaces.proofs.Names.{◌≡◌, refl, sym, ap, ◌∙◌, subst, Ghosts, FileStore, IsReadyStore, ready_released, KeepsRoom, IsSoundCore, Core, IsFit, picture_of}
+use Rattle.spaces.proofs.Names.{◌≡◌, refl, sym, ap, ◌∙◌, subst, Ghosts, AnyStore, IsReadyStore, HasRoomFor, kept_of, msync_pages, ready_released, KeepsRoom, IsSoundCore, Core, IsFit, picture_of}
 use Rattle.page_cache.specs.CacheTable as CacheTable
+
+-- a store that keeps in memory what it kept has room for the commits that it had room for
+pub room_left : {D : Type 0} (old new : AnyStore D) → kept_of new ≡ kept_of old → HasRoomFor msync_pages (kept_of old) → HasRoomFor msync_pages (kept_of new)
+room_left old new same room = subst (HasRoomFor msync_pages) (sym same) room
 
 module _ {M : Type 0} {m : Levels.Ghosts M} {D E : Type 0} (old new : Core D E M m) where
   -- there is a node for each frame and for each slot, so the map of places tells how many there are
@@ -12,7 +16,8 @@ module _ {M : Type 0} {m : Levels.Ghosts M} {D E : Type 0} (old new : Core D E M
   pub sound_kept : KeepsRoom (picture_of old) (picture_of new) → (g : Ghosts D) (h : Ghosts E) → new.store ≡ old.store → new.swap.pages ≡ old.swap.pages → IsFit (picture_of new)
       → IsSoundCore g h old → IsSoundCore g h new
   sound_kept room g h store pages fit sound = record {
-    ready = subst (λ (x : FileStore D). IsReadyStore g x) (sym store) sound.ready;
+    ready = subst (λ (x : AnyStore D). IsReadyStore g x) (sym store) sound.ready;
+    room = room_left old.store new.store (ap (λ (x : AnyStore D). kept_of x) store) sound.room;
     swap = ready_released h old.swap old.swap new.swap refl pages room.slots sound.swap;
     fit = fit;
   }

@@ -10,6 +10,7 @@ use Rattle.vm_types.specs.declared.region.Backing.TheVariants.{Common}
 use Rattle.{fault.proofs.Forms.{own_role}, frames.specs.{FrameTable.{role_of}, declared.role.Role.TheVariants.{Cache, Private, Table}}}
 use Rattle.frames.specs.FrameTable as Frames
 use Rattle.vm_types.specs.declared.access.Access.TheVariants as Accesses
+use Rattle.stores.specs.Store.{disk_of}
 
 -- the page of an access that is fine
 fine_page : (files : Files) (o : Option View) (kind : Access) (v : View) → page_verdict files o kind ≡ Fine v → o ≡ Some v
@@ -117,7 +118,7 @@ module _ (mode : ℕ) where
   stored_tables s pid page v b w seen = tables_kept s (with_shown_bytes s pid page v b w) refl (λ q. refl) (mapped_still s pid page v (record v { own = Some w }) seen)
 
 module _ {M : Type 0} {m : Levels.Ghosts M} {D E : Type 0} (g : Ghosts D) (h : Ghosts E) (old mid : Core D E M m) (W : PageKey → Type 0) (s : State) (shows : CoreShows g old s)
-    (keeps : g.keeps_model mid.store.disk) (swaps : h.keeps_model mid.swap.pages.disk) (before : IsFit (picture_of old)) (goes : Proceeds g h old mid)
+    (keeps : g.keeps_model (disk_of mid.store)) (swaps : h.keeps_model mid.swap.pages.disk) (before : IsFit (picture_of old)) (goes : Proceeds g h old mid)
     (brings : BringsFiles g h W old mid) (pid addr : ℕ) (live : is_live (picture_of old) pid ≡ true) (value : StoredValue) where
   store_is : (v : Verdict) → verdict_of (picture_of old) pid addr value.width Accesses.Store ≡ v → outcome s (Store pid addr value) ≡ store_outcome s pid addr value v
   store_is v e =

@@ -22,6 +22,7 @@ use Rattle.vm_types.specs.Stalls.{Causes, MayStall, reads_files, reads_swap}
 use Rattle.vm_types.specs.State.{State}
 use Rattle.vm_types.specs.Step.{outcome}
 use Rattle.spaces.specs.Idle.{is_denial, names_store, names_swap, refused_count}
+use Rattle.stores.specs.Store.{disk_of}
 
 -- Memory of so many frames, or so many slots, are short of what a command needs: the tables of the state after it and three more
 -- frames, or a slot for each page that processes have of their own, each touched file page and each page of an object that was stored to.
@@ -35,7 +36,7 @@ module _ {M : Type 0} {m : Levels.Ghosts M} {D E : Type 0} (g : Ghosts D) (h : G
   -- what came to pass between two states of memory
   abbrev pub causes : Core D E M m → Core D E M m → Causes
   causes old new = record {
-    store = g.failures old.store.disk < g.failures new.store.disk;
+    store = g.failures (disk_of old.store) < g.failures (disk_of new.store);
     swap = h.failures old.swap.pages.disk < h.failures new.swap.pages.disk;
     refused = new.refused.number ≡ old.refused.number + 1;
   }
@@ -50,18 +51,18 @@ module _ {M : Type 0} {m : Levels.Ghosts M} {D E : Type 0} (g : Ghosts D) (h : G
   -- the same from every state that memory shows, as long as the devices keep the disk model where the call reads them
   abbrev pub Carries : Core D E M m → Core D E M m → Command → Reply → Type 0
   Carries old new command reply =
-      (s : State) → CoreShows g old s → (reads_files command ≡ true → g.keeps_model new.store.disk)
+      (s : State) → CoreShows g old s → (reads_files command ≡ true → g.keeps_model (disk_of new.store))
       → (reads_swap s command ≡ true → h.keeps_model new.swap.pages.disk) → Comes old new s command reply
 
   -- Whatever the devices do: a reply names a device or the want of a frame exactly where that failed in the call, or was refused.
   -- No failure is forgotten, neither an earlier one nor one in the call, and no more than one request was refused.
   pub record IsCaused (old new : Core D E M m) (reply : Reply) : Type 0 where
-    pub later : g.failures old.store.disk ≤ g.failures new.store.disk
+    pub later : g.failures (disk_of old.store) ≤ g.failures (disk_of new.store)
     pub swap_later : h.failures old.swap.pages.disk ≤ h.failures new.swap.pages.disk
-    pub calm : names_store reply ≡ false → g.failures new.store.disk ≡ g.failures old.store.disk
+    pub calm : names_store reply ≡ false → g.failures (disk_of new.store) ≡ g.failures (disk_of old.store)
     pub swap_calm : names_swap reply ≡ false → h.failures new.swap.pages.disk ≡ h.failures old.swap.pages.disk
     pub counted : new.refused.number ≡ old.refused.number + refused_count reply
-    pub failed : reply ≡ Refused EIO → g.failures old.store.disk < g.failures new.store.disk
+    pub failed : reply ≡ Refused EIO → g.failures (disk_of old.store) < g.failures (disk_of new.store)
     pub stalled : (stall : Stall) → reply ≡ Stalled stall → ReadCause g h old new stall
 
   -- A call accounts for what it did, whatever comes of it:

@@ -1,14 +1,16 @@
 //! Memory over devices in memory.
 ghost use Rattle.std.specs.Prelude.{IfOk};
-ghost use Rattle.file_store.specs.Store.{IsReadyStore, files_of};
 ghost use Rattle.file_store.specs.Standing.{AreBounded};
 ghost use Rattle.msync.specs.Shows.{IsSoundCore};
+ghost use Rattle.stores.specs.Store.{IsReadyStore, HasRoomFor, files_of, kept_of};
+ghost use Rattle.vm_types.specs.Limits.{msync_pages};
 
 use disk_model::{DiskFault, SectorDisk, SimDisk};
-use file_store::{FileSource, FileStore, OpenFault, format};
+use file_store::{FileSource, format};
 use residency::Core;
 use std::alloc::Global;
 use std::test::Fail;
+use stores::{OpenFault, Store};
 use swap::Swap;
 use sync_journal::{FIRST_HOME, Journals};
 use vm_types::Levels;
@@ -54,13 +56,15 @@ fn begin_file(disk: &mut SimDisk, first: u8) -> Result<(), DiskFault> {
     disk.sync()
 }
 
-// The store on a device.
-fn opened(disk: SimDisk) -> Result<FileStore<SimDisk>, OpenFault>
+// The store on a device, which has no pool.
+fn opened(alloc: Global, disk: SimDisk) -> Result<Store<SimDisk>, OpenFault>
     ensures ready { IfOk result (λ store. IsReadyStore ⟦<SimDisk as SectorDisk>⟧ store) }
+    ensures room { IfOk result (λ store. HasRoomFor msync_pages (kept_of store)) }
     ensures bounded { IfOk result (λ store. AreBounded (files_of store)) }
 {
-    match FileStore::open(disk) {
-        Ok(store) => Ok(store),
+    match Store::open(alloc, disk) {
+        Ok(Store::Journals(store)) => Ok(Store::Journals(store)),
+        Ok(Store::Pool(_)) => Err(OpenFault::BadLayout),
         Err((fault, _)) => Err(fault),
     }
 }
@@ -74,7 +78,7 @@ pub(crate) fn memory<M: Levels>(
 {
     let mut disk = image(alloc, sizes)?;
     disk.fail_at(sizes.store_fails);
-    let store = opened(disk)?;
+    let store = opened(alloc, disk)?;
     let slots = sizes.slots.min(64);
     let mut device = SimDisk::new(alloc, 8 * u64::from(slots))?;
     device.fail_at(sizes.swap_fails);

@@ -221,11 +221,11 @@ pub(crate) const ROWS: [Row<'static>; 10] = [
             ],
         ],
     },
-    // The store is opened by four calls, and the fifth reads the page of the file.
+    // The store is opened by five calls, and the sixth reads the page of the file.
     Row {
         name: "tells that a file page was not read",
         sizes: Sizes {
-            store_fails: 5,
+            store_fails: 6,
             ..FEW
         },
         parts: &[

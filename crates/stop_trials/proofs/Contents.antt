@@ -1,7 +1,9 @@
 -- The bytes of all files, as an image stands for them and as an open store gives them.
 use Rattle.{std.{proofs.Common.{◌≡◌, ◌<◌, ◌*◌, ℕ, List, [], take, Option, Some, None, refl, sym, ap, ◌∙◌, arith}, specs.Option.{option_map, unwrap_or}}, vm_types.specs.declared.file.FileInfo.{FileInfo}}
-use Rattle.{disk_model.{proofs.Pieces.{joined-same}, specs.{Sectors.{joined}, Stop.{Image}, declared.sector_disk.SectorDisk.{Ghosts}}}, file_store.specs.{Layout.{pages_of_length}, Standing.{IsBadLayout, IsBadJournal, IsPageOf, StandsAs}}}
-use Rattle.{file_store.specs.{Standing.{bytes_of_pages, file_info, standing_file, standing_page}, Store.{IsReadyStore, files_of}, declared.store.FileStore.{FileStore}}, stop_trials.specs.Standing.{standing_bytes, standing_contents}}
+use Rattle.{disk_model.{proofs.Pieces.{joined-same}, specs.{Sectors.{joined}, Stop.{Image}, declared.sector_disk.SectorDisk.{Ghosts}}}, file_store.specs.{Layout.{pages_of_length}, Standing.{IsPageOf}}}
+use Rattle.{file_store.specs.Standing.{bytes_of_pages}, stores.proofs.Said.{files_said, stands_for_own}}
+use Rattle.stores.specs.{Images.{IsBadLayout, IsBadJournal, StandsAs, file_info, standing_file, standing_page}, Store.{IsReadyStore, disk_of, files_of}, declared.store.Store.{Store}}
+use Rattle.stop_trials.specs.Standing.{standing_bytes, standing_contents}
 
 -- the bytes of a file of these pages, none where there is none
 of_file : (ℕ → List ℕ) → Option FileInfo → List ℕ
@@ -16,33 +18,34 @@ same_pages (Some i) xs ys same = ap (take i.length) (joined-same (pages_of_lengt
     inside : (i : FileInfo) (k : ℕ) → k < pages_of_length i.length → 4096 * k < i.length
     inside i k lt = omega (arith, lt)
 
-same_bytes : (old new : Image) (f : ℕ) → file_info new f ≡ file_info old f → ((k : ℕ) → IsPageOf (file_info old) f k → standing_page new f k ≡ standing_page old f k)
-    → standing_bytes new f ≡ standing_bytes old f
+same_bytes : (sectors : ℕ) (old new : Image) (f : ℕ) → file_info sectors new f ≡ file_info sectors old f
+    → ((k : ℕ) → IsPageOf (file_info sectors old) f k → standing_page sectors new f k ≡ standing_page sectors old f k) → standing_bytes sectors new f ≡ standing_bytes sectors old f
 unfolding of_file
-same_bytes old new f facts pages =
-    ap (of_file (standing_page new f)) facts ∙ same_pages (file_info old f) (standing_page new f) (standing_page old f) (λ k i is inside. pages k (i, is, inside))
+same_bytes sectors old new f facts pages =
+    ap (of_file (standing_page sectors new f)) facts
+    ∙ same_pages (file_info sectors old f) (standing_page sectors new f) (standing_page sectors old f) (λ k i is inside. pages k (i, is, inside))
 
 -- an image that stands for what another one does has the same bytes in its files
-pub same_contents : (sectors : ℕ) (old new : Image) → (IsBadLayout sectors old → ⊥) → (IsBadJournal sectors old → ⊥) → StandsAs sectors old new → standing_contents new ≡ standing_contents old
+pub same_contents : (sectors : ℕ) (old new : Image) → (IsBadLayout sectors old → ⊥) → (IsBadJournal sectors old → ⊥) → StandsAs sectors old new
+    → standing_contents sectors new ≡ standing_contents sectors old
 same_contents sectors old new layout journal stands =
-    let now = stands (file_info old) (standing_page old) (record { layout = layout; journal = journal; facts = λ f. refl; same = λ f k inside. refl }) in
-    joined-same 64 (standing_bytes new) (standing_bytes old) (λ f lt. same_bytes old new f (now.facts f) (now.same f))
+    let now = stands (file_info sectors old) (standing_page sectors old) (stands_for_own sectors old layout journal) in
+    joined-same 64 (standing_bytes sectors new) (standing_bytes sectors old) (λ f lt. same_bytes sectors old new f (now.facts f) (now.same f))
 
 module _ {D : Type 0} (g : Ghosts D) where
   -- what an open store says of a file is what its device stands for
-  told : (store : FileStore D) (f : ℕ) → IsReadyStore g store → g.keeps_model store.disk → file_info (g.content store.disk) f ≡ files_of store f
-  told store f ready keeps = ap (option_map (λ e. e.info)) (sym ((ready.at_rest keeps).directory f))
-
-  pub known_file : (store : FileStore D) (f : ℕ) (info : FileInfo) → IsReadyStore g store → g.keeps_model store.disk → files_of store f ≡ Some info
-      → standing_file (g.content store.disk) f ≡ Some (standing_bytes (g.content store.disk) f)
+  pub known_file : (store : Store D) (f : ℕ) (info : FileInfo) → IsReadyStore g store → g.keeps_model (disk_of store) → files_of store f ≡ Some info
+      → standing_file (g.sector_count (disk_of store)) (g.content (disk_of store)) f ≡ Some (standing_bytes (g.sector_count (disk_of store)) (g.content (disk_of store)) f)
   known_file store f info ready keeps file =
-      let image = g.content store.disk in
-      let facts : file_info image f ≡ Some info = told store f ready keeps ∙ file in
-      let bytes : Option FileInfo → Option (List ℕ) = option_map (bytes_of_pages (standing_page image f)) in
+      let sectors = g.sector_count (disk_of store) in
+      let image = g.content (disk_of store) in
+      let facts : file_info sectors image f ≡ Some info = sym (files_said g store ready keeps f) ∙ file in
+      let bytes : Option FileInfo → Option (List ℕ) = option_map (bytes_of_pages (standing_page sectors image f)) in
       ap bytes facts ∙ sym (ap (λ (i : Option FileInfo). Some (unwrap_or (bytes i) [])) facts)
 
-  pub no_file : (store : FileStore D) (f : ℕ) → IsReadyStore g store → g.keeps_model store.disk → files_of store f ≡ None → standing_bytes (g.content store.disk) f ≡ []
+  pub no_file : (store : Store D) (f : ℕ) → IsReadyStore g store → g.keeps_model (disk_of store) → files_of store f ≡ None
+      → standing_bytes (g.sector_count (disk_of store)) (g.content (disk_of store)) f ≡ []
   no_file store f ready keeps none =
-      let image = g.content store.disk in
-      let facts : file_info image f ≡ None = told store f ready keeps ∙ none in
-      ap (λ (i : Option FileInfo). unwrap_or (option_map (bytes_of_pages (standing_page image f)) i) []) facts
+      let sectors = g.sector_count (disk_of store) in
+      let image = g.content (disk_of store) in
+      ap (λ (i : Option FileInfo). unwrap_or (option_map (bytes_of_pages (standing_page sectors image f)) i) []) (sym (files_said g store ready keeps f) ∙ none)

@@ -56,14 +56,15 @@ module _ (h : Ghosts SimDisk) (setting : Setting) where
   -- what the files hold as it ends
   pub ends_with : (count : ℕ) (bytes : List ℕ) (replies : List Reply) (device left : SimDisk) (commands : List Command)
       → IsWholeRun h setting commands replies device → commands ≡ take count setting.commands.now
-      → ((k : ℕ) → k < sectors_in device → sector_of left k ≡ left_with Old device k) → bytes ≡ standing_contents (sector_of left) → EndsWith h setting count bytes
-  ends_with count bytes replies device left commands ran first each holds = record {
+      → sectors_in left ≡ sectors_in device → ((k : ℕ) → k < sectors_in device → sector_of left k ≡ left_with Old device k) → bytes ≡ standing_contents (sectors_in left) (sector_of left)
+      → EndsWith h setting count bytes
+  ends_with count bytes replies device left commands ran first size each holds = record {
     replies = replies;
     device = device;
     ran = subst (λ (cs : List Command). IsWholeRun h setting cs replies device) first ran;
     image = sector_of left;
     left = each;
-    holds = holds;
+    holds = holds ∙ ap (λ sectors. standing_contents sectors (sector_of left)) size;
   }
 
 module _ (h : Ghosts SimDisk) (setting : Setting) (replies : List Reply) where

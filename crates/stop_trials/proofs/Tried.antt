@@ -1,20 +1,27 @@
 -- Trials, one after another, and what one of them finds.
 use Rattle.std.{proofs.Common.{◌≡◌, ◌<◌, ◌+◌, ◌*◌, ◌-◌, ◌^◌, min, ℕ, zero, suc, List, [], ◌∷◌, length, Option, Some, None, IfSome, IfNone, refl, ap, subst, ◌∙◌, inl, inr, arith}, specs.declared.{alloc.Global.{Global}, vec.Vec.{Vec}}}
-use Rattle.{disk_model.specs.{Plan.{one_more}, SimDisk.{sectors_in, sector_of}, declared.{sector_disk.SectorDisk.{Ghosts}, sim_disk.SimDisk.{SimDisk}}}, file_store.specs.Standing.{IsBadLayout, IsBadJournal}}
+use Rattle.{disk_model.specs.{Plan.{one_more}, SimDisk.{sectors_in, sector_of}, declared.{sector_disk.SectorDisk.{Ghosts}, sim_disk.SimDisk.{SimDisk}}}, stores.specs.Images.{IsBadLayout, IsBadJournal}}
 use Rattle.stop_trials.specs.{Fillings.{left_with}, Standing.{IsUnopenedFor, IsStanding, standing_contents}, Trials.{AllStand, IsJudged, StandWithEach, IsTrial, AreTried}}
-use Rattle.{disk_model.specs.Stop.{Image}, file_store.specs.declared.faults.OpenFault.{OpenFault, TheVariants.{Device, BadLayout, BadJournal}}}
+use Rattle.{disk_model.specs.Stop.{Image}, stores.specs.declared.faults.OpenFault.{OpenFault, TheVariants.{Device, BadLayout, BadJournal, Memory}}}
 use Rattle.stop_trials.specs.declared.faults.TrialFault.{TrialFault, TheVariants.{Open as Refused}}
 use Rattle.stop_trials.specs.declared.{fillings.Filling.{Filling, TheVariants.{Old, Zeros, Ones, HalfOpen, Open}}, runs.Setting.{Setting}, stopping.StoppingDisk.{StoppingDisk}, trials.{Summary.{Summary}, Trial.{Trial}}}
 
 -- what is left of a device is a store, and how its files stand
 pub judged_store : (states : List (Vec ℕ Global)) (acknowledged : ℕ) (device left : SimDisk) (filling : Filling) (slice bytes : List ℕ) (standing : Option ℕ)
-    → slice ≡ bytes → ((k : ℕ) → k < sectors_in device → sector_of left k ≡ left_with filling device k) → bytes ≡ standing_contents (sector_of left)
+    → slice ≡ bytes → sectors_in left ≡ sectors_in device → ((k : ℕ) → k < sectors_in device → sector_of left k ≡ left_with filling device k)
+    → bytes ≡ standing_contents (sectors_in left) (sector_of left)
     → IfSome standing (IsStanding states acknowledged slice) → IfNone standing ((n : ℕ) → IsStanding states acknowledged slice n → ⊥)
     → IsJudged states acknowledged device filling standing
-judged_store states acknowledged device left filling slice bytes None read each holds found none =
-    record { image = sector_of left; left = each; bad = inr (subst (λ (b : List ℕ). (n : ℕ) → IsStanding states acknowledged b n → ⊥) (read ∙ holds) none) }
-judged_store states acknowledged device left filling slice bytes (Some n) read each holds found none =
-    record { image = sector_of left; left = each; stands = subst (λ (b : List ℕ). IsStanding states acknowledged b n) (read ∙ holds) found }
+judged_store states acknowledged device left filling slice bytes None read size each holds found none = record {
+  image = sector_of left;
+  left = each;
+  bad = inr (subst (λ (b : List ℕ). (n : ℕ) → IsStanding states acknowledged b n → ⊥) (read ∙ holds ∙ ap (λ sectors. standing_contents sectors (sector_of left)) size) none);
+}
+judged_store states acknowledged device left filling slice bytes (Some n) read size each holds found none = record {
+  image = sector_of left;
+  left = each;
+  stands = subst (λ (b : List ℕ). IsStanding states acknowledged b n) (read ∙ holds ∙ ap (λ sectors. standing_contents sectors (sector_of left)) size) found;
+}
 
 -- it is no store
 pub judged_layout : (states : List (Vec ℕ Global)) (acknowledged : ℕ) (device left : SimDisk) (filling : Filling) → sectors_in left ≡ sectors_in device
@@ -45,6 +52,7 @@ pub refused_open : (sectors : ℕ) (image : Image) (fault : OpenFault) → (faul
 refused_open sectors image Device layout journal = tt
 refused_open sectors image BadLayout layout journal = layout refl
 refused_open sectors image BadJournal layout journal = journal refl
+refused_open sectors image Memory layout journal = tt
 
 pub is_refused : (sectors : ℕ) (image : Image) (told : TrialFault) (fault inner : OpenFault) → told ≡ Refused fault → fault ≡ inner → IsUnopenedFor sectors image told
     → IsUnopenedFor sectors image (Refused inner)

@@ -8,11 +8,11 @@ use Rattle.disk_model.specs.declared.sector_disk.SectorDisk.{Ghosts}
 use Rattle.disk_model.specs.declared.sim_disk.SimDisk.{SimDisk}
 use Rattle.disk_model.specs.SimDisk.{sectors_in, sector_of}
 use Rattle.file_store.specs.declared.sources.FileSource.{FileSource}
-use Rattle.file_store.specs.Format.{IsStoreOf}
 use Rattle.programs.specs.declared.faults.ProgramFault.{ProgramFault}
 use Rattle.programs.specs.Running.{outcome_status}
 use Rattle.programs.specs.Specs.{AreSpecSources}
-use Rattle.sync_journal.specs.declared.store_journal.Journals.{Journals}
+use Rattle.stores.specs.NewStores.{IsNewStore}
+use Rattle.stores.specs.declared.new_stores.NewStore.{NewStore}
 use Rattle.stop_trials.specs.declared.runs.Setting.{Setting}
 use Rattle.stop_trials.specs.declared.stopping.StoppingDisk.{StoppingDisk}
 use Rattle.stop_trials.specs.declared.trials.Summary.{Summary}
@@ -20,11 +20,11 @@ use Rattle.stop_trials.specs.Lines.{AreCommandsOf, IsReadWhole, split_lines}
 use Rattle.stop_trials.specs.Runs.{AreStates}
 use Rattle.stop_trials.specs.Trials.{AreAllTried}
 
--- The device holds a new store of that layout, of the files that these specs name.
-pub record HoldsNewStore (kind : Journals) (specs : List (List ℕ)) (image : SimDisk) : Type 0 where
+-- The device holds such a new store, of the files that these specs name.
+pub record HoldsNewStore (store : NewStore) (specs : List (List ℕ)) (image : SimDisk) : Type 0 where
   pub sources : List (FileSource File)
   pub named : AreSpecSources specs sources
-  pub made : IsStoreOf kind (λ file. None) (sectors_in image) sources (sector_of image)
+  pub made : IsNewStore (λ file. None) store (sectors_in image) sources (sector_of image)
 
 module _ (g : Ghosts StoppingDisk) (h : Ghosts SimDisk) where
   -- Stops were tried as these words ask for it:
@@ -34,8 +34,8 @@ module _ (g : Ghosts StoppingDisk) (h : Ghosts SimDisk) where
     -- on a machine of the size that they name, over a new store of the layout and the files that they name,
     pub frames : setting.config.frames ≡ words.frames
     pub slots : setting.config.slots ≡ words.slots
-    pub layout : setting.journals ≡ words.journals
-    pub store : HoldsNewStore words.journals (map (λ spec. spec.now) words.specs.items) setting.image.now
+    pub layout : setting.store ≡ words.store
+    pub store : HoldsNewStore words.store (map (λ spec. spec.now) words.specs.items) setting.image.now
     pub drops : setting.drops ≡ words.drop
     -- the commands of all lines that were read were run,
     pub trace : List ℕ

@@ -3,6 +3,7 @@ pub mod Fillings
 pub mod Lines
 pub mod Parts
 pub mod Runs
+pub mod Sized
 pub mod Standing
 pub mod Stopping
 pub mod Trials

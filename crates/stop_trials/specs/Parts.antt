@@ -1,9 +1,13 @@
 -- The parts of a store's image, by sectors.
-use Rattle.std.specs.Prelude.{◌≡◌, ℕ, true, false, ◌==◌, nat_lt, if◌then◌else◌, refl}
+use Rattle.std.specs.Prelude.{◌≡◌, ◌+◌, ◌*◌, ℕ, true, false, ◌==◌, nat_lt, if◌then◌else◌, refl}
 use Rattle.sync_journal.specs.Layout.{gate_sector, first_body_sector, first_home_sector}
 use Rattle.sync_journal.specs.Turns.{turn_gate, turn_homes, turn_body, start_of}
 use Rattle.sync_journal.specs.declared.store_journal.Journals.{Journals}
 use Rattle.sync_journal.specs.declared.store_journal.Journals.TheVariants.{Single, Paired}
+use Rattle.pool_journal.specs.Pools.{pool_gate, pool_start, pool_home}
+use Rattle.pool_store.specs.Format.{new_pages}
+use Rattle.stores.specs.declared.new_stores.NewStore.{NewStore}
+use Rattle.stores.specs.declared.new_stores.NewStore.TheVariants.{Journals as OfJournals, Pool}
 use Rattle.stop_trials.specs.declared.parts.Part.{Part}
 use Rattle.stop_trials.specs.declared.parts.Part.TheVariants.{Mark, Kind, Directory, Gate, Map, Body, Home}
 
@@ -27,9 +31,25 @@ part_in_turn sector =
     else (if nat_lt sector (turn_body true 0) then Map
     else (if nat_lt sector turn_homes then Body else Home)))))))
 
-abbrev pub store_part : Journals → ℕ → Part
-store_part Single sector = part_at sector
-store_part Paired sector = part_in_turn sector
+-- of a new pool with maps of m blocks, whose directory is the first homes
+abbrev pub part_in_pool : ℕ → ℕ → Part
+part_in_pool m sector =
+    if sector == 0 then Mark
+    else (if sector == 1 then Kind
+    else (if sector == pool_gate then Gate
+    else (if nat_lt sector (pool_start m false + 8 * m) then Map
+    else (if nat_lt sector (pool_start m true) then Body
+    else (if nat_lt sector (pool_start m true + 8 * m) then Map
+    else (if nat_lt sector (pool_home m 0) then Body
+    else (if nat_lt sector (pool_home m new_pages) then Directory else Home)))))))
+
+abbrev pub journals_part : Journals → ℕ → Part
+journals_part Single sector = part_at sector
+journals_part Paired sector = part_in_turn sector
+
+abbrev pub store_part : NewStore → ℕ → Part
+store_part (OfJournals journals) sector = journals_part journals sector
+store_part (Pool blocks) sector = part_in_pool blocks sector
 
 pub last_of_the_map : part_at 10 ≡ Map
 last_of_the_map = refl
@@ -39,3 +59,9 @@ last_of_the_body = refl
 
 pub first_home : part_at 8195 ≡ Home
 first_home = refl
+
+pub first_slot_of_four : part_in_pool 4 48 ≡ Body
+first_slot_of_four = refl
+
+pub first_page_of_four : part_in_pool 4 32368 ≡ Home
+first_page_of_four = refl

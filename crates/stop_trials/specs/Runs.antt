@@ -81,7 +81,7 @@ module _ (h : Ghosts SimDisk) (setting : Setting) where
     -- they stand so in what is left where nothing that was not synced is.
     pub image : Image
     pub left : (k : ℕ) → k < sectors_in device → image k ≡ left_with Old device k
-    pub holds : bytes ≡ standing_contents image
+    pub holds : bytes ≡ standing_contents (sectors_in device) image
 
   -- The files hold these bytes after n of the msyncs that these replies acknowledge:
   pub record IsState (replies : List Reply) (n : ℕ) (bytes : List ℕ) : Type 0 where

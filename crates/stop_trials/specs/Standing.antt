@@ -6,18 +6,18 @@ use Rattle.std.specs.declared.alloc.Global.{Global}
 use Rattle.std.specs.declared.vec.Vec.{Vec}
 use Rattle.disk_model.specs.Stop.{Image}
 use Rattle.disk_model.specs.Sectors.{joined}
-use Rattle.file_store.specs.Standing.{standing_file, IsBadLayout, IsBadJournal}
-use Rattle.file_store.specs.declared.faults.OpenFault.TheVariants.{BadLayout, BadJournal}
+use Rattle.stores.specs.Images.{standing_file, IsBadLayout, IsBadJournal}
+use Rattle.stores.specs.declared.faults.OpenFault.TheVariants.{BadLayout, BadJournal}
 use Rattle.stop_trials.specs.declared.faults.TrialFault.{TrialFault}
 use Rattle.stop_trials.specs.declared.faults.TrialFault.TheVariants.{Open}
 
 -- the bytes of file f as they stand, none where there is no such file
-abbrev pub standing_bytes : Image → ℕ → List ℕ
-standing_bytes image f = unwrap_or (standing_file image f) []
+abbrev pub standing_bytes : ℕ → Image → ℕ → List ℕ
+standing_bytes sectors image f = unwrap_or (standing_file sectors image f) []
 
 -- the bytes of all files as they stand, one file after another
-abbrev pub standing_contents : Image → List ℕ
-standing_contents image = joined (standing_bytes image) file_limit
+abbrev pub standing_contents : ℕ → Image → List ℕ
+standing_contents sectors image = joined (standing_bytes sectors image) file_limit
 
 -- what the files hold after so many msyncs
 abbrev pub state_after : List (Vec ℕ Global) → ℕ → Option (List ℕ)

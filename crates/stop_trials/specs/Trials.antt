@@ -4,7 +4,7 @@ use Rattle.std.specs.declared.alloc.Global.{Global}
 use Rattle.std.specs.declared.vec.Vec.{Vec}
 use Rattle.disk_model.specs.Stop.{Image}
 use Rattle.disk_model.specs.declared.sector_disk.SectorDisk.{Ghosts}
-use Rattle.file_store.specs.Standing.{IsBadLayout, IsBadJournal}
+use Rattle.stores.specs.Images.{IsBadLayout, IsBadJournal}
 use Rattle.vm_types.specs.declared.reply.Reply.{Reply}
 use Rattle.disk_model.specs.SimDisk.{sectors_in}
 use Rattle.disk_model.specs.declared.sim_disk.SimDisk.{SimDisk}
@@ -23,12 +23,12 @@ use Rattle.stop_trials.specs.Standing.{IsStanding, standing_contents}
 pub record StandsWith (states : List (Vec ℕ Global)) (acknowledged : ℕ) (device : SimDisk) (filling : Filling) (n : ℕ) : Type 0 where
   pub image : Image
   pub left : (k : ℕ) → k < sectors_in device → image k ≡ left_with filling device k
-  pub stands : IsStanding states acknowledged (standing_contents image) n
+  pub stands : IsStanding states acknowledged (standing_contents (sectors_in device) image) n
 
 -- the image is no store, or its files stand as after none of the msyncs from the acknowledged ones on
 abbrev pub IsBadStop : List (Vec ℕ Global) → ℕ → ℕ → Image → Type 0
 IsBadStop states acknowledged sectors image =
-    (IsBadLayout sectors image ⊎ IsBadJournal sectors image) ⊎ ((n : ℕ) → IsStanding states acknowledged (standing_contents image) n → ⊥)
+    (IsBadLayout sectors image ⊎ IsBadJournal sectors image) ⊎ ((n : ℕ) → IsStanding states acknowledged (standing_contents sectors image) n → ⊥)
 
 -- What a stop of this device leaves with this filling is none of what it may.
 pub record StandsNowhere (states : List (Vec ℕ Global)) (acknowledged : ℕ) (device : SimDisk) (filling : Filling) : Type 0 where
@@ -58,7 +58,7 @@ module _ (g : Ghosts StoppingDisk) (h : Ghosts SimDisk) (setting : Setting) (sta
   pub record IsTrial (number : ℕ) (trial : Trial) : Type 0 where
     -- it has the number, and the kind of store that says which part of it a sector is of;
     pub is : trial.number ≡ number
-    pub of : trial.journals ≡ setting.journals
+    pub of : trial.store ≡ setting.store
     -- the commands were run on a device that stops in that event, and drops the sync that is to be dropped,
     pub replies : List Reply
     pub device : StoppingDisk

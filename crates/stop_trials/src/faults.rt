@@ -1,10 +1,10 @@
 //! Why trials of stops give up.
 ghost use Rattle.std.specs.Prelude.{◌≡◌};
 
-use file_store::OpenFault;
 use machine::BootFault;
 use programs::ProgramFault;
 use std::alloc::AllocError;
+use stores::OpenFault;
 
 /// Why trials give up: each is the fault of that name of the program.
 #[derive(Clone, Copy)]

@@ -1,12 +1,18 @@
 //! The parts of a store's image.
 ghost use Rattle.std.specs.Prelude.{◌≡◌};
-ghost use Rattle.stop_trials.specs.Parts.{part_at, part_in_turn, store_part};
+ghost use Rattle.stores.specs.NewStores.{IsSizedNew};
+ghost use Rattle.directories.specs.Kinds.{IsMapSize};
+ghost use Rattle.stop_trials.specs.Parts.{journals_part, part_at, part_in_pool, part_in_turn, store_part};
 
 use crate::stopping::Event;
 use file_store::{DIRECTORY_SECTOR, KIND_SECTOR, MARK_SECTOR, TURN_DIRECTORY};
+use pool_journal::{BLOCK_SLOTS, POOL_GATE, PoolSizes};
+use pool_store::DIRECTORY_PAGES;
 use std::fmt::{self, Display, Formatter};
+use stores::NewStore;
 use sync_journal::{
-    BODY, FIRST_BODY, FIRST_HOME, GATE, Journals, SECOND_BODY, SECOND_MAP, TURN_GATE, TURN_HOMES,
+    BODY, FIRST_BODY, FIRST_HOME, GATE, Journals, PAGE_SECTORS, SECOND_BODY, SECOND_MAP, TURN_GATE,
+    TURN_HOMES,
 };
 
 /// A part of a store's image. `Display` gives its name.
@@ -14,28 +20,51 @@ use sync_journal::{
 pub(crate) enum Part {
     /// The layout mark.
     Mark,
-    /// The kind of a store of two journals.
+    /// The kind of a store of two journals or of a pool.
     Kind,
     /// The directory of files.
     Directory,
     /// The gate.
     Gate,
-    /// The map of a journal.
+    /// A map of a journal or of a pool.
     Map,
-    /// The body of a journal.
+    /// The body of a journal, or of a pool.
     Body,
     /// The home pages.
     Home,
 }
 
 impl Part {
-    /// The part that a sector is of, of a store of these journals.
-    pub(crate) fn of(journals: Journals, sector: u64) -> Part
-        ensures { result ≡ store_part journals sector }
+    /// The part that a sector is of, of such a new store.
+    pub(crate) fn of(store: NewStore, sector: u64) -> Part
+        requires { IsSizedNew store }
+        ensures { result ≡ store_part store sector }
     {
-        match journals {
-            Journals::Single => Part::of_one(sector),
-            Journals::Paired => Part::of_two(sector),
+        match store {
+            NewStore::Journals(Journals::Single) => Part::of_one(sector),
+            NewStore::Journals(Journals::Paired) => Part::of_two(sector),
+            NewStore::Pool(blocks) => Part::of_pool(blocks, sector),
+        }
+    }
+
+    fn of_pool(blocks: u32, sector: u64) -> Part
+        requires { IsMapSize blocks }
+        ensures { result ≡ part_in_pool blocks sector }
+    {
+        let sizes = PoolSizes::of(blocks, 0);
+        let map = PAGE_SECTORS * u64::from(blocks);
+        let first = 2 * PAGE_SECTORS;
+        let second = first + map + u64::from(BLOCK_SLOTS) * map;
+        match sector {
+            MARK_SECTOR => Part::Mark,
+            KIND_SECTOR => Part::Kind,
+            POOL_GATE => Part::Gate,
+            _ if sector < first + map => Part::Map,
+            _ if sector < second => Part::Body,
+            _ if sector < second + map => Part::Map,
+            _ if sector < sizes.home(0) => Part::Body,
+            _ if sector < sizes.home(DIRECTORY_PAGES) => Part::Directory,
+            _ => Part::Home,
         }
     }
 
@@ -83,14 +112,16 @@ impl Display for Part {
     }
 }
 
-/// Writes the part of a store of these journals that was to be written, or that it was a sync.
+/// Writes the part of such a store that was to be written, or that it was a sync.
 pub(crate) fn write_event<W: fmt::Write>(
-    journals: Journals,
+    store: NewStore,
     event: Event,
     f: &mut Formatter<W>,
-) -> fmt::Result {
+) -> fmt::Result
+    requires { IsSizedNew store }
+{
     match event {
-        Event::Write(sector) => write!(f, "{}", Part::of(journals, sector)),
+        Event::Write(sector) => write!(f, "{}", Part::of(store, sector)),
         Event::Sync => f.write_str("sync"),
     }
 }

@@ -1,5 +1,6 @@
 //! The program that tries stops.
 ghost use Rattle.std.specs.Prelude.{◌≡◌, ◌≤◌, IfOk, map};
+ghost use Rattle.stores.specs.NewStores.{IsSizedNew};
 ghost use Rattle.stop_trials.specs.Ends.{EndsTrials, ExitsAfterTrials, HoldsNewStore};
 ghost use Rattle.stop_trials.specs.Lines.{AreCommandsOf, IsReadWhole, split_lines};
 
@@ -7,17 +8,17 @@ use crate::runs::Setting;
 use crate::stopping::StoppingDisk;
 use command_words::{StopWords, stop_words};
 use disk_model::{SECTOR_BYTES, SectorDisk, SimDisk};
-use file_store::{format, image_bytes};
 use machine::Config;
 use programs::{ProgramFault, held_places, open_sources, report};
 use std::alloc::{AllocError, Global};
 use std::fs::{File, Files};
 use std::io::{ErrorKind, Read, Write};
+use stores::{format, image_bytes};
 use trace_lang::parse_line;
 use vm_types::{Command, Mode};
 
-/// `pagestops [--every K] [--drop K] [--layout 2|3] [--frames N] [--slots N] SPEC...`: formats a store of layout 2, or of
-/// layout 3 where that is asked for, in memory for the specs, as `pagefmt` does an image,
+/// `pagestops [--every K] [--drop K] [--layout 2|3|4] [--frames N] [--slots N] SPEC...`: formats a store of layout 2, or of
+/// layout 3 or 4 where that is asked for, of 4 with a pool of 4,032 pages, in memory for the specs, as `pagefmt` does an image,
 /// and runs the trace of `reader` on it. The run is stopped in each event of the store's device, a write of a sector or a
 /// sync, or in each Kth; what is left is recovered with five fillings of the sectors that were not synced (`Filling`), and
 /// a line on `writer` says after how many msyncs the files stand. The last line counts the stops, the recoveries and the bad
@@ -66,7 +67,7 @@ fn tried<'a, R: Files<File = File> + AllocGlobal, I: Read, O: Write>(
     let setting = Setting {
         alloc: rt.alloc(),
         image: &image,
-        journals: words.journals,
+        store: words.store,
         config,
         commands: commands.as_slice(),
         drops: words.drop.map(u64::from),
@@ -82,12 +83,13 @@ fn new_image<'a, R: Files<File = File> + AllocGlobal>(
     rt: &R,
     words: &StopWords<'a>,
 ) -> Result<SimDisk, ProgramFault<'a>>
-    ensures { IfOk result (HoldsNewStore words.now.journals (map (λ spec. spec.now) words.now.specs.items)) }
+    requires { IsSizedNew words.now.store }
+    ensures { IfOk result (HoldsNewStore words.now.store (map (λ spec. spec.now) words.now.specs.items)) }
 {
     let mut sources = open_sources(rt.alloc(), rt, words.specs.as_slice())?;
-    let sectors = image_bytes(words.journals, sources.as_slice()) / SECTOR_BYTES as u64;
+    let sectors = image_bytes(words.store, sources.as_slice()) / SECTOR_BYTES as u64;
     let mut image = SimDisk::new(rt.alloc(), sectors)?;
-    match format(&mut image, words.journals, sources.as_mut_slice()) {
+    match format(&mut image, words.store, sources.as_mut_slice()) {
         Ok(()) => Ok(image),
         Err(fault) => Err(ProgramFault::Format(fault)),
     }

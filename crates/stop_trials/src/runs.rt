@@ -3,8 +3,9 @@ ghost use Rattle.std.specs.Prelude.{◌≡◌, ◌≤◌, ◌&&◌, ◌++◌, �
 ghost use Rattle.std.specs.declared.alloc.Global.{Global};
 ghost use Rattle.std.specs.declared.vec.Vec.{Vec};
 ghost use Rattle.vm_types.specs.Prefix.{is_msync, is_done};
+ghost use Rattle.stores.specs.NewStores.{IsSizedNew};
 ghost use Rattle.stop_trials.specs.Lines.{acknowledged_in};
-ghost use Rattle.stop_trials.specs.Runs.{AreStates, EndsWith, IsSetUp, IsTrialRun, IsWholeRun};
+ghost use Rattle.stop_trials.specs.Sized.{IsSizedNew-prop};
 
 use crate::faults::TrialFault;
 use crate::fillings::Filling;
@@ -15,7 +16,7 @@ use lives::live;
 use machine::{BootFault, Config, MAX_SLOTS};
 use runner::Devices;
 use std::alloc::{AllocError, Global};
-use sync_journal::Journals;
+use stores::NewStore;
 use vm_types::{Command, Reply};
 
 /// The sectors of a slot.
@@ -27,7 +28,8 @@ const SLOT_SECTORS: u64 = 8;
 pub(crate) struct Setting<'a> {
     pub alloc: Global,
     pub image: &'a SimDisk,
-    pub journals: Journals,
+    pub store: NewStore,
+    ghost sized: { IsSizedNew store } by { IsSizedNew-prop store },
     pub config: Config,
     pub commands: &'a [Command],
     pub drops: Option<u64>,
@@ -85,6 +87,8 @@ fn swap_sectors(slots: u32) -> u64 {
 }
 
 impl Setting<'_> {
+    ghost use Rattle.stop_trials.specs.Runs.{AreStates, EndsWith, IsSetUp, IsTrialRun, IsWholeRun};
+
     /// The store device, which stops in that event, and an empty swap device.
     fn devices(&self, stop: u64) -> Result<Devices<StoppingDisk, SimDisk>, AllocError>
         ensures { IfOk result (λ devices. IsSetUp self.now stop devices.store) }

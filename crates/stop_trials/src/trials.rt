@@ -3,8 +3,8 @@ ghost use Rattle.std.specs.Prelude.{◌≡◌, ◌≤◌, ◌↔◌, ℕ, List, 
 ghost use Rattle.std.specs.declared.alloc.Global.{Global};
 ghost use Rattle.std.specs.declared.vec.Vec.{Vec};
 ghost use Rattle.disk_model.specs.Plan.{one_more};
-ghost use Rattle.stop_trials.specs.Runs.{AreStates};
-ghost use Rattle.stop_trials.specs.Trials.{AllStand, IsJudged, StandWithEach, IsTrial, HasNoEvent, AreAllTried};
+ghost use Rattle.stores.specs.NewStores.{IsSizedNew};
+ghost use Rattle.stop_trials.specs.Sized.{IsSizedNew-prop};
 
 use crate::faults::TrialFault;
 use crate::fillings::Filling;
@@ -14,12 +14,11 @@ use crate::runs::{Setting, acknowledged_in};
 use crate::standing::msyncs_standing;
 use crate::stopping::{Event, StoppingDisk};
 use disk_model::{SectorDisk, SimDisk};
-use file_store::OpenFault;
 use runner::write_bytes;
 use std::alloc::Global;
 use std::fmt::{self, Display, Formatter};
 use std::io::Write;
-use sync_journal::Journals;
+use stores::{NewStore, OpenFault};
 
 /// How many fillings a stop is tried with.
 const FILLINGS: u64 = 5;
@@ -31,16 +30,19 @@ pub struct Trial {
     pub number: u64,
     /// What the event was.
     pub event: Event,
-    /// The journals of the store, which say what its sectors are.
-    pub journals: Journals,
+    /// The store, which says what its sectors are.
+    pub store: NewStore,
     /// How many msyncs returned `ok`.
     pub acknowledged: usize,
     /// For each filling after how many msyncs the files stand; `None` where that is no number of them that holds each
     /// acknowledged one, or the store can't be opened.
     pub standing: [Option<usize>; 5],
+    ghost sized: { IsSizedNew store } by { IsSizedNew-prop store },
 }
 
 impl Trial {
+    ghost use Rattle.stop_trials.specs.Trials.{AllStand};
+
     /// Whether with each filling the files stand as after some of the msyncs, each acknowledged one among them.
     fn is_good(&self) -> bool
         ensures { IsTrue result ↔ AllStand self.now }
@@ -52,7 +54,7 @@ impl Trial {
 impl Display for Trial {
     fn fmt<W: fmt::Write>(&self, f: &mut Formatter<W>) -> fmt::Result {
         write!(f, "stop {} ", self.number)?;
-        write_event(self.journals, self.event, f)?;
+        write_event(self.store, self.event, f)?;
         write!(f, " acknowledged {} left", self.acknowledged)?;
         for standing in &self.standing {
             match standing {
@@ -76,6 +78,8 @@ pub(crate) struct Summary {
 }
 
 impl Summary {
+    ghost use Rattle.stop_trials.specs.Trials.{AllStand};
+
     /// Counts a trial.
     fn add(&mut self, trial: &Trial)
         ensures stops { self.new.stops ≡ one_more self.old.stops }
@@ -124,6 +128,9 @@ fn write_line<T: Display, W: Write>(
 }
 
 impl Setting<'_> {
+    ghost use Rattle.stop_trials.specs.Runs.{AreStates};
+    ghost use Rattle.stop_trials.specs.Trials.{IsJudged, StandWithEach, IsTrial, HasNoEvent, AreAllTried};
+
     /// After how many msyncs the files stand that a stop of that device leaves with that filling; `None` where that is no number of
     /// them that holds each acknowledged one, or what is left is no store.
     fn judged(
@@ -175,7 +182,7 @@ impl Setting<'_> {
         Ok(Some(Trial {
             number,
             event,
-            journals: self.journals,
+            store: self.store,
             acknowledged,
             standing,
         }))

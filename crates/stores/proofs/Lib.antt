@@ -7,3 +7,4 @@ pub mod RoomMade
 pub mod KindOpens
 pub mod PoolOpens
 pub mod Looked
+pub mod Said

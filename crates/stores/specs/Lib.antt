@@ -1,4 +1,5 @@
 pub mod Images
+pub mod NewStores
 pub mod Store
 pub mod Commit
 pub mod Rooms

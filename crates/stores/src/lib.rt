@@ -9,10 +9,12 @@
 mod commits;
 mod faults;
 mod marks;
+mod new_stores;
 mod opening;
 mod rooms;
 mod store;
 
 pub use faults::OpenFault;
+pub use new_stores::{NewStore, format, image_bytes};
 pub use opening::stops_in_a_row;
 pub use store::Store;

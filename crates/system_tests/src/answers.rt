@@ -1,7 +1,7 @@
 //! Rows of traces that are run, and what comes of them: the replies, what the store's device was asked, and the files that are left.
 use crate::bench::{
-    Armed, CONFIG, Exchange, GOES_ON, PLAIN, SMALL, Setting, asked_after_start, expect_all, image,
-    left_in, left_over, same,
+    Armed, CONFIG, Exchange, GOES_ON, PLAIN, SINGLE, SMALL, Setting, asked_after_start, expect_all,
+    image, left_in, left_over, same,
 };
 use crate::evictions::{
     EIGHT_PAGES, EIGHT_PAGES_SHOWN, EIGHT_PAGES_SYNCED, FORTY_LINES, LOOKED_AFTER_AN_MSYNC,
@@ -9,6 +9,7 @@ use crate::evictions::{
 };
 use crate::{evictions, four_levels, histories, mappings, private_memory, processes, shared_pages};
 use machine::Config;
+use stores::NewStore;
 use sync_journal::Journals;
 use vm_types::Mode;
 
@@ -24,7 +25,7 @@ fn traces_are_answered(rt: HostRuntime) {
     ] {
         expect_all(&rt, Setting { length, ..PLAIN }, rows);
     }
-    let letters = image(&rt, Journals::Single, 4096, Some(&[0x41; 4096]));
+    let letters = image(&rt, SINGLE, 4096, Some(&[0x41; 4096]));
     for exchange in private_memory::LETTERS {
         let run = (CONFIG, Armed::Nothing);
         let _ = left_over(&rt, &letters, run, exchange, GOES_ON);
@@ -34,7 +35,7 @@ fn traces_are_answered(rt: HostRuntime) {
 /// 64 frames, over a page of zeros.
 const SV48: Setting = Setting {
     length: 4096,
-    journals: Journals::Single,
+    store: SINGLE,
     config: Config {
         frames: 64,
         slots: 16,
@@ -61,7 +62,7 @@ fn machines_of_other_sizes_answer(rt: HostRuntime) {
 /// Eight frames, of which four are for pages, over a file of eight pages.
 const FEW_FRAMES: Setting = Setting {
     length: 0x8000,
-    journals: Journals::Single,
+    store: SINGLE,
     config: SMALL,
     armed: Armed::Nothing,
 };
@@ -89,7 +90,7 @@ load 1 0x10000 1\nmsync 1 0x10000 0x2000 sync\n",
 /// as that holds it.
 const WITHOUT_SLOTS: Setting = Setting {
     length: 0xa000,
-    journals: Journals::Single,
+    store: SINGLE,
     config: Config {
         frames: 8,
         slots: 0,
@@ -100,7 +101,13 @@ const WITHOUT_SLOTS: Setting = Setting {
 
 /// The same over two journals in turn.
 const IN_TURN: Setting = Setting {
-    journals: Journals::Paired,
+    store: NewStore::Journals(Journals::Paired),
+    ..WITHOUT_SLOTS
+};
+
+/// The same over the smallest pool that a machine takes.
+const IN_A_POOL: Setting = Setting {
+    store: NewStore::Pool(3),
     ..WITHOUT_SLOTS
 };
 
@@ -114,9 +121,9 @@ msync 1 0x10000 0x2000 sync\n",
 
 /// How many writes and syncs the store's device is asked for once a machine has started. An msync of `n` pages has `8 n` sectors of the
 /// body, eight of the map, and the gate, with two syncs; before it comes what a journal that is live still owes to the homes, which takes
-/// two syncs more, or with two journals in turn none. Those owe nothing to a home that is taken again. Pages that are given up are never
-/// written home.
-const ASKED: [(Setting, Exchange<'static>, (u64, u64)); 16] = [
+/// two syncs more, or with two journals in turn none. Those owe nothing to a home that is taken again. A pool owes nothing to any: its map is
+/// one block here, as long as few pages have slots. Pages that are given up are never written home.
+const ASKED: [(Setting, Exchange<'static>, (u64, u64)); 18] = [
     (PLAIN, (b"", b""), (0, 0)),
     (PLAIN, STORED, (0, 0)),
     (PLAIN, STORED_AND_SYNCED, (17, 2)),
@@ -125,7 +132,7 @@ const ASKED: [(Setting, Exchange<'static>, (u64, u64)); 16] = [
     (
         Setting {
             length: 4096,
-            journals: Journals::Single,
+            store: SINGLE,
             config: Config {
                 frames: 64,
                 slots: 0,
@@ -146,6 +153,8 @@ const ASKED: [(Setting, Exchange<'static>, (u64, u64)); 16] = [
     (IN_TURN, STORED_AND_SYNCED, (17, 2)),
     (IN_TURN, LOOKED_AFTER_TWO_MSYNCS, (34, 4)),
     (IN_TURN, PAGES_IN_TURN, (17 + 25 + 25, 6)),
+    (IN_A_POOL, LOOKED_AFTER_TWO_MSYNCS, (34, 4)),
+    (IN_A_POOL, PAGES_IN_TURN, (17 + 17 + 25, 6)),
 ];
 
 #[test]
@@ -196,7 +205,7 @@ msync 1 0x10000 4096 sync\n",
     (
         Setting {
             length: 5000,
-            journals: Journals::Single,
+            store: SINGLE,
             config: CONFIG,
             armed: Armed::Nothing,
         },

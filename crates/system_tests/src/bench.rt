@@ -2,13 +2,16 @@
 //!
 //! No test holds a machine, or compares replies by itself: it names a trace and the replies that are wanted. Nothing returns an error,
 //! since each `?` is a way out, which lets go of all that a function holds, and for a machine, a device or replies that takes long to prove.
+ghost use Rattle.stores.specs.NewStores.{IsSizedNew};
+
 use disk_model::SimDisk;
-use file_store::{FileSource, format};
+use file_store::FileSource;
 use machine::{BootFault, Config};
 use runner::{Devices, RunEnd, run_on};
 use std::fmt::Debug;
 use std::io::{Read, Write};
 use std::process::Abort;
+use stores::{NewStore, format, image_bytes};
 use sync_journal::Journals;
 use vm_types::Mode;
 
@@ -40,12 +43,14 @@ pub(crate) const SMALL: Config = Config {
     mode: Mode::Sv39,
 };
 
-/// What a trace is run on: a machine of that size over a file of so many zeros, in a store of these journals, and the fault of its
-/// devices.
+/// A store of one journal.
+pub(crate) const SINGLE: NewStore = NewStore::Journals(Journals::Single);
+
+/// What a trace is run on: a machine of that size over a file of so many zeros, in such a store, and the fault of its devices.
 #[derive(Clone, Copy)]
 pub(crate) struct Setting {
     pub(crate) length: u32,
-    pub(crate) journals: Journals,
+    pub(crate) store: NewStore,
     pub(crate) config: Config,
     pub(crate) armed: Armed,
 }
@@ -53,7 +58,7 @@ pub(crate) struct Setting {
 /// A machine of 64 frames over a page of zeros, whose devices have no fault.
 pub(crate) const PLAIN: Setting = Setting {
     length: 4096,
-    journals: Journals::Single,
+    store: SINGLE,
     config: CONFIG,
     armed: Armed::Nothing,
 };
@@ -71,25 +76,32 @@ pub(crate) fn same<T: PartialEq + Debug + Drop>(rt: &impl Abort, found: T, wante
     assert_eq!(rt; found, wanted);
 }
 
-/// An image of one file, of so many zeros or of these bytes, which may only be read then, in a store of these journals.
+/// That store, which has to be one that is made: a constant has no condition.
+fn sized(rt: &impl Abort, store: NewStore) -> NewStore
+    ensures { IsSizedNew result }
+{
+    if let NewStore::Pool(blocks) = store {
+        assert!(rt; 1 <= blocks && blocks <= 2048);
+    }
+    store
+}
+
+/// An image of one file, of so many zeros or of these bytes, which may only be read then, in such a store.
 pub(crate) fn image(
     rt: &(impl AllocGlobal + Abort),
-    journals: Journals,
+    store: NewStore,
     length: u32,
     bytes: Option<&[u8]>,
 ) -> SimDisk {
-    let homes = match journals {
-        Journals::Single => 8195,
-        Journals::Paired => 16408,
-    };
-    let sectors = homes + 8 * u64::from(length).div_ceil(4096);
-    let mut disk = SimDisk::new(rt.alloc(), sectors).expect(rt, "memory");
+    let store = sized(rt, store);
     let mut files: [FileSource<&[u8]>; 1] = [FileSource {
         read_only: bytes.is_some(),
         length,
         bytes,
     }];
-    format(&mut disk, journals, &mut files).expect(rt, "a store");
+    let sectors = image_bytes(store, &files) / 512;
+    let mut disk = SimDisk::new(rt.alloc(), sectors).expect(rt, "memory");
+    format(&mut disk, store, &mut files).expect(rt, "a store");
     disk
 }
 
@@ -157,7 +169,7 @@ pub(crate) fn left_in(
     exchange: Exchange<'_>,
     ending: Ending,
 ) -> SimDisk {
-    let image = image(rt, setting.journals, setting.length, None);
+    let image = image(rt, setting.store, setting.length, None);
     let run = (setting.config, setting.armed);
     left_over(rt, &image, run, exchange, ending)
 }
@@ -195,7 +207,7 @@ pub(crate) fn streamed<R: Read, W: Write>(
     reader: &mut R,
     writer: &mut W,
 ) -> Result<RunEnd, BootFault> {
-    let image = image(rt, Journals::Single, 4096, None);
+    let image = image(rt, SINGLE, 4096, None);
     let devices = devices(rt, &image, Armed::Nothing);
     match run_on(rt.alloc(), CONFIG, devices, reader, writer) {
         Ok((end, _)) => Ok(end),

@@ -1,20 +1,21 @@
 //! Devices that fail a call once, and machines that do not start.
 use crate::bench::{
-    Armed, CONFIG, Ending, Exchange, GOES_ON, PLAIN, SMALL, Setting, image, left_in, left_over,
+    Armed, CONFIG, Ending, Exchange, GOES_ON, PLAIN, SINGLE, SMALL, Setting, image, left_in,
+    left_over,
 };
 use crate::evictions::{BACK_TO_A_FREE_FRAME, EIGHT_PAGES_SYNCED_AGAIN, ONE_WRITE_LOST};
 use disk_model::{SectorDisk, SimDisk};
 use machine::{BootFault, Config};
 use runner::RunEnd;
 use std::process::Abort;
-use sync_journal::Journals;
+use stores::NewStore;
 use vm_types::Mode;
 
 /// The end of a trace on a machine that has halted.
 const HALTED: Ending = Ok((RunEnd::Done, true));
 
 /// The calls of the store's device by which a machine starts.
-const START: u64 = 4;
+const START: u64 = 5;
 
 /// A page is read in eight calls, then an msync of one page writes its body, its map and the gate, with a sync before and after the gate.
 const FIRST_SYNC: u64 = START + 8 + 17;
@@ -29,13 +30,13 @@ load 1 0x10000 1\nfaults\nspawn\nfork\n",
     b"pid 1\naddr 0x10000\nok\nerror 5 EIO\nhalted\nhalted\nhalted\nbad line\n",
 );
 
-const ENDINGS: [(Setting, Exchange<'static>, Ending); 11] = [
+const ENDINGS: [(Setting, Exchange<'static>, Ending); 12] = [
     (PLAIN, (b"spawn\n", b"pid 1\n"), GOES_ON),
     // The first call of a start.
     (
         Setting {
             length: 4096,
-            journals: Journals::Single,
+            store: SINGLE,
             config: CONFIG,
             armed: Armed::StoreFailsAtCall(1),
         },
@@ -45,7 +46,7 @@ const ENDINGS: [(Setting, Exchange<'static>, Ending); 11] = [
     (
         Setting {
             length: 4096,
-            journals: Journals::Single,
+            store: SINGLE,
             config: Config {
                 frames: 8,
                 slots: 17,
@@ -59,7 +60,7 @@ const ENDINGS: [(Setting, Exchange<'static>, Ending); 11] = [
     (
         Setting {
             length: 4096,
-            journals: Journals::Single,
+            store: SINGLE,
             config: Config {
                 frames: 7,
                 slots: 16,
@@ -70,11 +71,20 @@ const ENDINGS: [(Setting, Exchange<'static>, Ending); 11] = [
         (b"spawn\n", b""),
         Err(BootFault::Frames),
     ),
+    // A body of a pool with two blocks of map has 1,008 slots.
+    (
+        Setting {
+            store: NewStore::Pool(2),
+            ..PLAIN
+        },
+        (b"spawn\n", b""),
+        Err(BootFault::SmallPool),
+    ),
     // A failed read stalls the access and changes nothing; the next access tries again, and a page that was read stays.
     (
         Setting {
             length: 8192,
-            journals: Journals::Single,
+            store: SINGLE,
             config: CONFIG,
             armed: Armed::StoreFailsAtCall(START + 1),
         },
@@ -90,7 +100,7 @@ ok\nvalue 0x03\nvalue 0x00\n",
     (
         Setting {
             length: 4096,
-            journals: Journals::Single,
+            store: SINGLE,
             config: CONFIG,
             armed: Armed::StoreFailsAtCall(START + 8),
         },
@@ -103,7 +113,7 @@ ok\nvalue 0x03\nvalue 0x00\n",
     (
         Setting {
             length: 4096,
-            journals: Journals::Single,
+            store: SINGLE,
             config: CONFIG,
             armed: Armed::StoreFailsAtCall(FIRST_SYNC),
         },
@@ -113,7 +123,7 @@ ok\nvalue 0x03\nvalue 0x00\n",
     (
         Setting {
             length: 4096,
-            journals: Journals::Single,
+            store: SINGLE,
             config: CONFIG,
             armed: Armed::StoreFailsAtCall(SECOND_SYNC),
         },
@@ -124,7 +134,7 @@ ok\nvalue 0x03\nvalue 0x00\n",
     (
         Setting {
             length: 0x8000,
-            journals: Journals::Single,
+            store: SINGLE,
             config: SMALL,
             armed: Armed::SwapFailsAtCall(1),
         },
@@ -135,7 +145,7 @@ ok\nvalue 0x03\nvalue 0x00\n",
     (
         Setting {
             length: 0x8000,
-            journals: Journals::Single,
+            store: SINGLE,
             config: SMALL,
             armed: Armed::SwapFailsAtCall(33),
         },
@@ -146,7 +156,7 @@ ok\nvalue 0x03\nvalue 0x00\n",
     (
         Setting {
             length: 4096,
-            journals: Journals::Single,
+            store: SINGLE,
             config: SMALL,
             armed: Armed::SwapFailsAtCall(17),
         },
@@ -178,7 +188,7 @@ fn open_gate_over_1024_pages(rt: &impl Abort, disk: &mut SimDisk) {
 
 #[test]
 fn an_open_gate_over_a_map_of_too_many_pages_is_refused(rt: HostRuntime) {
-    let mut disk = image(&rt, Journals::Single, 4096, None);
+    let mut disk = image(&rt, SINGLE, 4096, None);
     open_gate_over_1024_pages(&rt, &mut disk);
     let run = (CONFIG, Armed::Nothing);
     let refused = Err(BootFault::BadJournal);

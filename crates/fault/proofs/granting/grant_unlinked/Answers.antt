@@ -1,8 +1,9 @@
 use Rattle.fault.proofs.{AccessAsking.{asks_less, asks_back, tables_out}, AccessSlotted.{slotted_none, slotted_back}, AccessSteps.{proceeds_moves, proceeds_after, brings_none, on_ok_then, counts_then}, Forms.{mapped_page}}
 use Rattle.fault.proofs.{Linked.{open_still, calm_back, read_back, away_back, ready_back, brings_back, stalled_back, stalled_tables}, Names.{◌≢◌, inl, Option, None, refl, sym, ap, ◌∙◌, subst, rules, IsSome, Attr, Nothing, IsFull}}
 use Rattle.fault.{proofs.{Names.{otherwise, picture_of, IsWhole}, Serving.{serves_stall}, Wanted.{root_live, root_lives, whole_or}, WaySteps.{links_on}}, specs.Wants.{ForTable, ShowsFile}}
-use Rattle.fault.{proofs.Names.{Core, OnOk}, specs.Chances.{AreAllMarkedFor, GivesOthersChance, WantsOneFrame}}
+use Rattle.fault.{proofs.Names.{AnyStore, Core, OnOk}, specs.Chances.{AreAllMarkedFor, GivesOthersChance, WantsOneFrame}}
 use Rattle.fault.proofs.granting.grant_unlinked.Goals as goal
+use Rattle.stores.specs.Store.{disk_of}
 
 pub link_tables-requires-clause-live : goal.link_tables-requires-clause-live
 link_tables-requires-clause-live g c = root_lives ((picture_of c.args.core.now).root c.args.pid) c.requires.may.lives
@@ -37,7 +38,7 @@ returns-in_err-table g c =
     serves_stall g.D.SectorDisk g.E.SectorDisk before after pid page c.args.attr.now c.args.access c.from_residual.result c.in_err-table.field-0.0 c.from_residual.ensures.1
     (record {
       proceeds = proceeds_moves g.D.SectorDisk g.E.SectorDisk before after c.requires.may.store done.moves;
-      brings = λ kept. brings_none g.D.SectorDisk before.store.disk after.store.disk (ShowsFile old pid page) old new done.pages.files;
+      brings = λ kept. brings_none g.D.SectorDisk (disk_of before.store) (disk_of after.store) (ShowsFile old pid page) old new done.pages.files;
       others = λ q k other. done.pages.views q k;
       slotted = slotted_none old new pid page done.slotted;
       calm = λ unwanted. absurd (unwanted (ForTable lacks));
@@ -86,6 +87,6 @@ returns g c =
       chance = λ one.
           subst (λ (k : Core _ _ _ _). WantsOneFrame (picture_of k) pid page access → OnOk r (GivesOthersChance (picture_of k) (picture_of after) pid page (AreAllMarkedFor (picture_of k) pid page access)))
           (idle one.whole) then.chance one;
-      counts = on_ok_then _ _ r (counts_then g.D.SectorDisk g.E.SectorDisk before between after (first.cause.0, ap (λ s. g.D.SectorDisk.failures s.disk) first.moves.store, first.cause.1)) then.counts;
+      counts = on_ok_then _ _ r (counts_then g.D.SectorDisk g.E.SectorDisk before between after (first.cause.0, ap (λ (s : AnyStore _). g.D.SectorDisk.failures (disk_of s)) first.moves.store, first.cause.1)) then.counts;
       stalled = stalled_back before between pid page lives first.pages idle g.D.SectorDisk g.E.SectorDisk first.moves first.whole first.gives first.tables after access r first.cause.0 first.cause.1 then.stalled;
     }

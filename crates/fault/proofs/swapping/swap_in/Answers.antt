@@ -1,9 +1,9 @@
 use Rattle.fault.proofs.{AccessSteps.{asks_read}, Asking.{asks_swap}, Names.{top_level, is_some, ◌≡◌, ◌≢◌, ℕ, None, get_or, refl, sym, ap, ◌∙◌, subst, rules, false≢true, Free, Table, IsFull, role_of, with_bytes, with_bytes-others, Swap, Pages, slots_of}}
-use Rattle.fault.proofs.{Names.{IsPageEntry, page_is_entry, on_err, Picture, picture_of, entry, UsesDevice, IsShort, ChangesFrame, asks_between, entry-of, frees_spent, swapped_form, frees_then, fit_spent}, Settling.{aside_freed}}
+use Rattle.fault.proofs.{Names.{IsPageEntry, page_is_entry, Picture, picture_of, entry, UsesDevice, IsShort, ChangesFrame, asks_between, entry-of, frees_spent, swapped_form, frees_then, fit_spent}, Settling.{aside_freed}}
 use Rattle.fault.proofs.{Settling.{leaves_aside, forest_mid, root_mid, rows_mid, gives_frame, entry_given, count_given}, Steps.{frees_any, device_then}, SwapSteps.{slot_seat, swapped_here, slot_used, slot_frame, slot_bytes, slot_set}}
 use Rattle.{fault.{proofs.SwapSteps.{fit_in, aside_in, seen_in, own_spent, changes_further, full_count, ready_released}, specs.Asking.{MayAsk, IsSectorOfCopy}}, residency.specs.Picture.{is_swapped}}
 use Rattle.fault.proofs.{Names.{◌<◌, IsFrame, arith}, Taken.{sound_taken}}
-use Rattle.fault.specs.OwnFrames.{LeavesOthers}
+use Rattle.fault.{proofs.Wanted.{err_is}, specs.OwnFrames.{SwapsIn}}
 use Rattle.fault.proofs.{Chances.{chance_written, others_on}, Names.{Private}, Settling.{set_others, slots_aside}}
 use Rattle.fault.proofs.swapping.swap_in.Goals as goal
 
@@ -119,13 +119,23 @@ returns-in-Err g c =
     }
 
 pub returns-in_err-frame : goal.returns-in_err-frame
-unfolding entry
 returns-in_err-frame g c =
+    let before = c.args.core.now in
+    let after = c.take_own.new.self in
+    let pid = c.args.spot.now.pid in
+    let page = c.args.spot.now.page in
     let done = c.in_err-frame.ensures in
-    let keeps : LeavesOthers g.E.SectorDisk c.args.core.now c.take_own.new.self c.args.spot.now.pid c.args.spot.now.page = leaves_aside g.E.SectorDisk c.args.core.now c.take_own.new.self done.fit done.swap (aside_freed done.frees) done.rest.store done.device in
-    let asks = asks_swap g.E.SectorDisk c.args.core.now c.take_own.new.self None (IsSectorOfCopy (picture_of c.args.core.now) c.args.spot.now.pid c.args.spot.now.page) done.asked in
-    let frees = on_err c.from_residual.result _ (frees_any (picture_of c.args.core.now) (picture_of c.take_own.new.self) _ done.frees) in
-    search rules
+    let frees = frees_any (picture_of before) (picture_of after) _ done.frees in
+    subst (SwapsIn g.E.SectorDisk before after pid page c.args.attr.now) (err_is c.from_residual.result c.in_err-frame.field-0.0 c.from_residual.ensures.1)
+    (record {
+      entered = tt;
+      sole = tt;
+      seen = λ model. frees.pages.views;
+      keeps = leaves_aside g.E.SectorDisk before after done.fit done.swap (aside_freed frees) done.rest.store done.device;
+      chance = tt;
+      asks = asks_swap g.E.SectorDisk before after None (IsSectorOfCopy (picture_of before) pid page) done.asked;
+      stalls = record { same = frees.pages.views; frees = frees; refuses = done.refuses; short = done.short; cause = done.cause };
+    })
 
 pub invariant_of-core-clause-page_count : goal.invariant_of-core-clause-page_count
 invariant_of-core-clause-page_count g c = c.take_own.new.self.page_count ∙ sym (with_bytes-others c.take_own.new.self.frames c.in_ok-frame.frame.0 c.get.new.to).frames

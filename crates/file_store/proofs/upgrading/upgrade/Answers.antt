@@ -1,10 +1,11 @@
 use Rattle.file_store.proofs.{Causes.{is_this, same_Err}, Copied.{causes_after, causes_before, causes_none, causes_marking, copied_old_once}, Formats.{marked_whole}, Looking.{ok_is_no_err}, Marking.{LeavesNoPart, nothing_made}}
-use Rattle.file_store.proofs.{Marking.{unmarked_made, marked_made}, Names.{◌≡◌, ◌⊎◌, ◌≤◌, ◌<◌, ℕ, Result, Err, OnOk, Some, refl, inl, inr, ⊎_elim, sym, ap, subst, ◌∙◌, on_ok_weaker, IsErrOf, Image, Nothing, AsksOnly, stays, asks_none}}
-use Rattle.file_store.proofs.{Names.{NamesOnce, once_wider, asks_once, asks_then, asks_wider, Journals, kind_home_count, sizes_before, home_count_in, one_more}, Openings.{content_is}, Refusing.{of_old, broken_from, when_checking, when_copying, when_marking}}
-use Rattle.file_store.proofs.{Refusing.{room_is_not_small, causes_checked, upgrade_refused}, Upgrades.{kindless_upgrade_moves, upgraded_of_kind, copied_from, copied_asked, layout_from, old_fault_cases, too_small, upgrade_whole}}
-use Rattle.file_store.{proofs.{Upgrades.{entries_fit}, upgrading.upgrade.{Given.{Over}, Goals.{After-write_mark}}}, specs.{Directory.{home_end, IsSoundDirectory}, Faults.{old_fault}, Format.{IsMarkSector}, Store.{entry_of}}}
-use Rattle.file_store.specs.{Upgrade.{old_entry, IsOldStore, IsUnmarkedUpgrade, IsKindlessUpgrade, IsUpgradeOf, IsCopiedSector, IsUpgradeSector, IsOldHead, IsOldAsked, HasUpgradeCauses}, Upgraded.{UpgradesStore}, Versions.{version_at}}
-use Rattle.file_store.specs.{Versions.{version_of, mark_of}, declared.{directory.Entry.{Entry}, faults.UpgradeFault.{UpgradeFault, TheVariants.{OldLayout, OldJournal, NewDevice, NewSmall, Formatted}}}}
+use Rattle.file_store.proofs.{Marking.{unmarked_made, marked_made}, Names.{◌≡◌, ◌⊎◌, ◌≤◌, ◌<◌, ℕ, Result, Err, OnOk, Some, refl, inl, inr, ⊎_elim, sym, ap, subst, ◌∙◌, on_ok_weaker, IsErrOf, Image, Nothing, AsksOnly, stays}}
+use Rattle.file_store.proofs.{Names.{asks_none, NamesOnce, once_wider, asks_once, asks_then, asks_wider, Paired, kind_home_count, sizes_before, home_count_in, one_more}, Openings.{content_is}}
+use Rattle.file_store.proofs.Refusing.{of_old, broken_from, when_checking, when_copying, when_marking, room_is_not_small, causes_checked, upgrade_refused}
+use Rattle.file_store.proofs.{Upgrades.{kindless_upgrade_moves, upgraded_of_kind, copied_from, copied_asked, layout_from, old_fault_cases, too_small, no_upgrade, upgrade_whole, entries_fit}}
+use Rattle.file_store.{proofs.upgrading.upgrade.{Given.{Over}, Goals.{After-write_mark}}, specs.{Directory.{home_end, IsSoundDirectory}, Faults.{old_fault}, Format.{IsMarkSector}, Store.{entry_of}}}
+use Rattle.file_store.specs.{Upgrade.{old_entry, IsOldStore, IsUnmarkedUpgrade, IsKindlessUpgrade, IsUpgradeOf, IsUpgradeIfMarked, IsCopiedSector, IsUpgradeSector, IsOldHead, IsOldAsked, HasUpgradeCauses}, Upgraded.{UpgradesStore}}
+use Rattle.file_store.specs.{Versions.{version_at, mark_of}, declared.{directory.Entry.{Entry}, faults.UpgradeFault.{UpgradeFault, TheVariants.{OldLayout, OldJournal, NewDevice, NewSmall, Formatted}}}}
 use Rattle.file_store.proofs.upgrading.upgrade.Goals as goal
 
 pub copy_unmarked-requires-clause-copied : goal.copy_unmarked-requires-clause-copied
@@ -27,7 +28,8 @@ returns-in_err-store g c =
     upgrade_refused d n kind old read new new (old_fault fault) c.from_residual.result c.from_residual.ensures.1 find.looks.run refl (λ k. k)
     (λ k. once_wider (IsOldHead kind image) (IsOldAsked kind image) (d.asked old) (d.asked read) (λ s at. inl at) (find.once k)) (λ k. asks_none n (IsUpgradeSector kind image) new new (λ s. refl))
     (causes_before fault _ _ _ e.looks find.looks.run.later)
-    (λ k k'. nothing_made n kind (λ b. IsUpgradeOf b (d.sector_count old) (n.sector_count new) image) new (λ i left. g.met.E.SectorDisk.only_now new i k' left) new (stays n Nothing new))
+    (λ k k'. nothing_made n kind (IsUpgradeIfMarked kind (d.sector_count old) (n.sector_count new) image) (IsUpgradeOf Paired (d.sector_count old) (n.sector_count new) image) new
+    (no_upgrade kind (d.sector_count old) (n.sector_count new) image) (λ i left. g.met.E.SectorDisk.only_now new i k' left) new (stays n Nothing new))
     (λ k is. e.bad_layout k (ap Err (layout_from fault is)))
     (λ k bad. ⊎_elim (λ device. inr (ap old_fault device)) (⊎_elim (λ layout. inl (ap old_fault layout)) (λ journal. absurd ((e.bad_journal k (ap Err journal)).1 bad))) (old_fault_cases fault))
     (λ k is. (e.bad_journal k (ap Err (broken_from fault is))).0)
@@ -46,7 +48,8 @@ returns-in_err-check_new g c =
     upgrade_refused d n kind old read new checked fault c.from_residual-in_err-check_new.result c.from_residual-in_err-check_new.ensures.1 find.looks.run check.run.size check.run.kept
     (λ k. once_wider (IsOldHead kind image) (IsOldAsked kind image) (d.asked old) (d.asked read) (λ s at. inl at) (find.once k)) (λ k. asks_wider n IsMarkSector (IsUpgradeSector kind image) new checked (λ s at. inl at) check.asks)
     (causes_checked fault _ _ _ _ calm other.1.1 check.run.later e.causes)
-    (λ k k'. nothing_made n kind (λ b. IsUpgradeOf b (d.sector_count old) (n.sector_count new) image) new (λ i left. g.met.E.SectorDisk.only_now new i (check.run.kept k') left) checked (check.run.touches k'))
+    (λ k k'. nothing_made n kind (IsUpgradeIfMarked kind (d.sector_count old) (n.sector_count new) image) (IsUpgradeOf Paired (d.sector_count old) (n.sector_count new) image) new
+    (no_upgrade kind (d.sector_count old) (n.sector_count new) image) (λ i left. g.met.E.SectorDisk.only_now new i (check.run.kept k') left) checked (check.run.touches k'))
     (λ k is. absurd (other.0 is)) (λ k bad. absurd (found.good_layout k bad)) (λ k is. absurd (other.1.0 is)) (λ k bad. absurd (found.good_journal k bad))
     (λ k is. too_small kind (n.sector_count new) image (entry_of c.in_ok-store.store.directory) (found.found k).entries (e.small (ap Err is)))
     (λ k small. ⊎_elim (λ is. inr (inr (inr (same_Err _ _ is))))
@@ -65,7 +68,7 @@ returns-in_err-copy_unmarked g c =
     let known : d.keeps_model copied → (f : ℕ) (e : Entry) → old_entry kind image f ≡ Some e → (f < 64) × (home_end e ≤ kind_home_count kind sectors) = λ k.
     entries_fit kind sectors image entries (found.found (copies.old_run.kept k)).entries c.in_ok-store.store.directory.numbers has.fits in
     let same : d.keeps_model copied → d.content read ≡ image = λ k. content_is d old read (find.looks.run.touches (copies.old_run.kept k)) in
-    let Whole : Journals → Image → Type 0 = λ b. IsUpgradeOf b (d.sector_count old) sectors image in
+    let P : Image → Type 0 = IsUpgradeIfMarked kind (d.sector_count old) sectors image in let Whole : Image → Type 0 = IsUpgradeOf Paired (d.sector_count old) sectors image in
     let once_old : d.keeps_model copied → NamesOnce (IsOldAsked kind image) (d.asked old) (d.asked copied) = λ k.
     copied_old_once d kind _ old read copied (same k) (found.found (copies.old_run.kept k)).stands (find.once (copies.old_run.kept k)) (copies.once_old k) in
     let asks_made : d.keeps_model copied → AsksOnly n (IsUpgradeSector kind image) new made = λ k. asks_then n (IsUpgradeSector kind image) new checked made
@@ -75,7 +78,7 @@ returns-in_err-copy_unmarked g c =
     let e = c.in_err-copy_unmarked.ensures in let other = when_copying fault e.copies.others in
     upgrade_refused d n kind old copied new made fault c.from_residual-in_err-copy_unmarked.result c.from_residual-in_err-copy_unmarked.ensures.1 run (copies.run.size ∙ check.run.size) (λ k. check.run.kept (copies.run.kept k))
     once_old asks_made (causes_after fault _ _ _ _ _ _ calm still e.copies.causes)
-    (λ k k'. unmarked_made n kind Whole new (λ image left. g.met.E.SectorDisk.only_now new image (check.run.kept (copies.run.kept k')) left) checked (check.run.touches (copies.run.kept k'))
+    (λ k k'. unmarked_made n kind P Whole new (no_upgrade kind (d.sector_count old) sectors image) (λ image left. g.met.E.SectorDisk.only_now new image (check.run.kept (copies.run.kept k')) left) checked (check.run.touches (copies.run.kept k'))
     (IsCopiedSector kind entries) (copied_from kind entries) (IsKindlessUpgrade (d.content read)) (IsKindlessUpgrade image) (λ i q. subst (λ (o : Image). IsKindlessUpgrade o i) (same k) q)
     (λ paired. upgraded_of_kind kind (d.sector_count old) sectors image paired has.room (found.good_layout (copies.old_run.kept k)) (known k)) made (copies.run.touches k')
     (c.copy_unmarked.ensures.last k k').epochs)
@@ -99,22 +102,22 @@ marked_upgrade g c r none marked synced causes =
     let known : d.keeps_model copied → (f : ℕ) (e : Entry) → old_entry kind image f ≡ Some e → (f < 64) × (home_end e ≤ kind_home_count kind sectors) = λ k.
     entries_fit kind sectors image entries (found.found (copies.old_run.kept k)).entries c.in_ok-store.store.directory.numbers has.fits in
     let same : d.keeps_model copied → d.content read ≡ image = λ k. content_is d old read (find.looks.run.touches (copies.old_run.kept k)) in
-    let Whole : Journals → Image → Type 0 = λ b. IsUpgradeOf b (d.sector_count old) sectors image in
+    let P : Image → Type 0 = IsUpgradeIfMarked kind (d.sector_count old) sectors image in let Whole : Image → Type 0 = IsUpgradeOf Paired (d.sector_count old) sectors image in
     let once_old : d.keeps_model copied → NamesOnce (IsOldAsked kind image) (d.asked old) (d.asked copied) = λ k.
     copied_old_once d kind _ old read copied (same k) (found.found (copies.old_run.kept k)).stands (find.once (copies.old_run.kept k)) (copies.once_old k) in
     let run = one_more d Nothing old read copied find.looks.run copies.old_run in let m = c.write_mark.ensures.writes.run in
     let last_new = c.write_mark.new.disk in
     let written : d.keeps_model copied → n.keeps_model made → IsUnmarkedUpgrade kind image (n.content made) = λ k last. subst (λ (i : Image). IsUnmarkedUpgrade kind i (n.content made)) (same k) (c.in_ok-copy_unmarked.ensures.written k last) in
-    let whole : d.keeps_model copied → n.keeps_model made → (i : Image) → ((s : ℕ) → 1 ≤ s → i s ≡ n.content made s) → i 0 ≡ mark_of (version_of i) → IsUpgradeOf kind (d.sector_count old) sectors image i = λ k last.
+    let whole : d.keeps_model copied → n.keeps_model made → (i : Image) → ((s : ℕ) → 1 ≤ s → i s ≡ n.content made s) → P i = λ k last.
     upgrade_whole kind (d.sector_count old) sectors image (n.content made) has.room (found.good_layout (copies.old_run.kept k)) (known k) (written k last) in
-    let leaves : d.keeps_model copied → n.keeps_model last_new → LeavesNoPart n kind Whole new last_new = λ k k'.
+    let leaves : d.keeps_model copied → n.keeps_model last_new → LeavesNoPart n kind P Whole new last_new = λ k k'.
     let last = m.kept k' in
-    marked_made n kind Whole new (λ image left. g.met.E.SectorDisk.only_now new image (check.run.kept (copies.run.kept last)) left) checked (check.run.touches (copies.run.kept last))
+    marked_made n kind P Whole new (no_upgrade kind (d.sector_count old) sectors image) (λ image left. g.met.E.SectorDisk.only_now new image (check.run.kept (copies.run.kept last)) left) checked (check.run.touches (copies.run.kept last))
     (IsCopiedSector kind entries) (copied_from kind entries) (IsKindlessUpgrade (d.content read)) (IsKindlessUpgrade image) (λ i q. subst (λ (o : Image). IsKindlessUpgrade o i) (same k) q)
     (λ paired. upgraded_of_kind kind (d.sector_count old) sectors image paired has.room (found.good_layout (copies.old_run.kept k)) (known k)) made (copies.run.touches last)
     (c.in_ok-copy_unmarked.ensures.last k last).kind_behind (c.in_ok-copy_unmarked.ensures.synced last) (whole k last) (kindless_upgrade_moves image) last_new (m.touches k') in
     record {
-      ok = λ k k'. let last = m.kept k' in on_ok_weaker r (marked_whole n (Whole kind) kind made last_new (whole k last) (written k last).head.layout_of (m.touches k')) (marked k');
+      ok = λ k k'. let last = m.kept k' in on_ok_weaker r (marked_whole n (IsUpgradeOf kind (d.sector_count old) sectors image) kind made last_new (λ i same_i. (whole k last i same_i).store) (written k last).head.layout_of (m.touches k')) (marked k');
       marked = marked;
       synced = synced;
       any_moment = λ k k'. (leaves k k').any_moment;

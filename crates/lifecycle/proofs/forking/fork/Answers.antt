@@ -1,6 +1,7 @@
 use Rattle.lifecycle.proofs.{Asking.{asks_forked}, Copying.{readied, short_readied, unmade, copied, copies_shared, bare_shared, tables_kept, as_stall}, Ending.{ready_ended}, Keeping.{dead_root, live_same}, Live.{live_root}}
 use Rattle.lifecycle.proofs.Names.{user_end, PageKey, ◌≡◌, true, ◌≢◌, ℕ, inl, [], None, refl, sym, ap, ◌∙◌, subst, rules, false≢true, slice_index_or, frame_count, role_of, place_of, Swap, Pages, slots_of, Picture, picture_of, attr_where}
-use Rattle.lifecycle.proofs.{Names.{keeps_files_then, is_live, UsesDevice, gives_then, device_then, ready_released}, Returned.{no_copy_taken}, Shortage.{short_before}, Stalling.{stalls_first, stalls_later}, Taking.{gives_mapped, tables_mid, entries_forked}}
+use Rattle.lifecycle.proofs.{Names.{keeps_files_then, is_live, UsesDevice, gives_then, device_then, ready_released, stall_then}, Returned.{no_copy_taken}, Shortage.{short_before}}
+use Rattle.lifecycle.proofs.{Stalling.{stall_before, stalls_first, stalls_later}, Taking.{gives_mapped, tables_mid, entries_forked}}
 use Rattle.lifecycle.{proofs.{Taking.{tables_taken}, Unchanged.{files_unchanged, places_unchanged}}, specs.Changes.{IsShortToFork, KeepsBareOfOthers, StallsToFork, TakesNoCopy}}
 use Rattle.lifecycle.proofs.forking.fork.Goals as goal
 
@@ -37,6 +38,8 @@ returns-in-Err g c =
     let gives = gives_mapped old spawned mapped mid c.args.parent c.args.child first.taken.0 first.gives first.taken.1 frames places maps roots done.tables in
     let alone : (page : ℕ) → mid.at c.args.child page ≡ mid.at c.args.parent page = λ page. done.moves.spaces.at c.args.child page ∙ maps.same page ∙ sym (done.moves.spaces.at c.args.parent page) in
     let root = live_root (mid.root c.args.parent) parent_lives in
+    let cause_between = stall_then h c.args.core.now c.map_alike.new.core c.link_copies.new.core c.in-Err.stall (ap (λ r. r.number) rest.refused ∙ first.cause.0)
+    (ap (λ s. h.failures s.pages.disk) rest.swap ∙ first.cause.1) done.cause in
     let unchanged = files_unchanged mid new c.args.parent c.args.child root.0 apart root.1 done.moves.fit c.exit.ensures.fit alone c.exit.ensures.files in
     record {
       ok = tt;
@@ -56,7 +59,7 @@ returns-in-Err g c =
         files = keeps_files_then old mid new ready.files unchanged;
         copies = λ n is. (let mapped = c.in-Err.ensures.no_copy n (no_copy_taken c.link_copies.new.core.frames c.exit.new.core.frames c.exit.ensures.frames n is) in c.in_ok-spawn.ensures.copies n (sym (ap (λ t. role_of t n) c.map_alike.ensures.rest.frames) ∙ mapped));
         err = unmade old mid c.args.parent c.args.child ready (picture_of c.exit.new.core) c.exit.ensures.removed;
-        cause = search rules;
+        cause = stall_before h c.args.core.now c.link_copies.new.core c.exit.new.core c.in-Err.stall c.exit.ensures.refused c.exit.ensures.devices.pages cause_between;
       };
       asks = asks_forked g.E.SectorDisk c.args.core.now c.spawn.new.core c.map_alike.new.core c.link_copies.new.core c.exit.new.core first.asks first.asks_later c.map_alike.ensures.rest
           c.in-Err.ensures.asks c.exit.ensures.devices.pages;

@@ -3,5 +3,5 @@ use Rattle.lives.proofs.laws.formatted_lives.Goals as goal
 
 pub returns : goal.returns
 returns g c = λ sectors sources lives image store.
-    let new = stands_for_sources store.journals g.R.Read.remaining sectors sources store.first store.made in
+    let new = stands_for_sources g.R.Read.remaining sectors sources store.first store.store store.made in
     (new.0, new.1, lives_leave g.D.SectorDisk g.E.SectorDisk sectors _ new.0 lives store.first image new.2 store.lived)

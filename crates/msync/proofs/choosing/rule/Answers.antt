@@ -1,5 +1,5 @@
 use Rattle.msync.proofs.{Names.{◌≡◌, ℕ, ◌/◌, ◌∙◌, ap, sym, subst, refl, arith, MsyncMode, Async, ENOMEM, page_count, is_covered, attr_at, picture_of, user_map-same}, Rulings.{the_process, ruled_missing, ruled_row, ruled_sync, listed_of}}
-use Rattle.msync.{proofs.Rulings.{taken_of, touched_within}, specs.{Choice.{of_files, is_chosen, AreTaken, IsRulingOn, RulesSame}, declared.chosen.Ruling.TheVariants.{Refuses, Passes}}}
+use Rattle.msync.{proofs.{Names.{directory_of}, Rulings.{taken_of, touched_within}}, specs.{Choice.{of_files, is_chosen, AreTaken, IsRulingOn, RulesSame}, declared.chosen.Ruling.TheVariants.{Refuses, Passes}}}
 use Rattle.msync.proofs.choosing.rule.Goals as goal
 
 pub returns-then-not-covers-clause-same : goal.returns-then-not-covers-clause-same
@@ -19,7 +19,7 @@ choose-requires-clause-pages g c =
     let pid = c.in-Some.process in
     record {
       user = user_map-same g.M.Levels.mode ((picture_of core).at pid) (attr_at c.regions-regions.result.now) c.regions-regions.ensures (c.requires.fit.granting.user pid);
-      inside = (touched_within (picture_of core) core.store.directory c.requires.fit (λ f. refl)).page;
+      inside = (touched_within (picture_of core) (directory_of core.store) c.requires.fit (λ f. refl)).page;
     }
 
 pub returns-in-Async-clause-same : goal.returns-in-Async-clause-same
@@ -41,8 +41,8 @@ returns-in-Sync-clause-same g c = λ s shows.
     let found = c.in-Some.ensures.found in
     let count : c.div_ceil-count.result ≡ page_count a.len = omega (arith, c.div_ceil-count.ensures) in
     let p = the_process (picture_of core) map s c.in-Some.process shows found.1 c.regions-regions.ensures in
-    rw (← found.0) (rw c.in-Sync.is (ruled_sync (of_files (picture_of core).touched) map s c.in-Some.process p a.addr a.len c.choose.new.list c.choose.result (touched_within (picture_of core) core.store.directory c.requires.fit (λ f. refl))
-    (omega arith) c.if-len-eq0.false (ap (is_covered map (a.addr / 4096)) (sym count) ∙ sym c.covers.ensures ∙ c.if-not-covers.false)
+    rw (← found.0) (rw c.in-Sync.is (ruled_sync (of_files (picture_of core).touched) map s c.in-Some.process p a.addr a.len c.choose.new.list c.choose.result
+    (touched_within (picture_of core) (directory_of core.store) c.requires.fit (λ f. refl)) (omega arith) c.if-len-eq0.false (ap (is_covered map (a.addr / 4096)) (sym count) ∙ sym c.covers.ensures ∙ c.if-not-covers.false)
     (rw (← count) c.choose.ensures)))
 
 pub returns-in-Sync-clause-listed : goal.returns-in-Sync-clause-listed

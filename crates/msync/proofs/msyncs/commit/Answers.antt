@@ -1,16 +1,21 @@
-use Rattle.msync.proofs.{Asking.{asks_listed}, Committing.{fits, are_pages, are_spots, front_lists, changes, synced_shows, memory_synced, away_of, err_is, device_failed, source_failed, store_same, commit_done, commit_failed, commit_unread}}
-use Rattle.msync.proofs.{Committing.{StoreCommits}, Names.{◌≡◌, ◌≢◌, ◌⊎◌, inl, inr, length, take, refl, sym, ◌∙◌, subst, rules, LeavesNow, AsksOnly, FileStore, StandsFor, IsReadyStore, slots_of, IsStoreUsed, Source, committed, Stall}}
+use Rattle.msync.proofs.{Asking.{asks_listed}, Committing.{fits, front_few, least_one, are_pages, room_next, room_left, are_spots, front_lists, changes, synced_shows, memory_synced, away_of, err_is}}
+use Rattle.msync.proofs.Committing.{device_failed, source_failed, store_same, commit_done, commit_failed, commit_unread}
+use Rattle.msync.proofs.{Committing.{StoreCommits}, Names.{◌≡◌, ◌≢◌, ◌⊎◌, inl, inr, length, take, refl, sym, ◌∙◌, subst, rules, LeavesNow, AsksOnly, Store, StandsFor, IsReadyStore, IsUsedIn, slots_of, Source, committed, Stall}}
+use Rattle.msync.proofs.Names.{HasRoomFor, directory_of, disk_of, kept_of, least_of, free_of, msync_pages}
 use Rattle.msync.{proofs.{Names.{SwapDevice, Stalled, picture_of, IsFit, ShowsPages}, SettledPages.{ready_shared, settles_nothing}}, specs.{Asking.{IsSectorListed}, Choice.{chosen_of, IsAway}, Settling.{Settles, SettlesMemory}}}
 use Rattle.{msync.specs.{Shows.{IsSoundCore}, Spots.{AreSpots, HasSlot}}, swap.specs.declared.pages.Pages.{Pages as Swap_pages}}
 use Rattle.msync.proofs.msyncs.commit.Goals as goal
 
 pub commit-requires-clause-pages : goal.commit-requires-clause-pages
-commit-requires-clause-pages g c = are_pages (picture_of c.args.core.now) (chosen_of c.args.list.now c.args.count) c.requires.sound.fit c.requires.listed
+commit-requires-clause-pages g c =
+    let store = c.args.core.now.store in
+    are_pages (picture_of c.args.core.now) (chosen_of c.args.list.now c.args.count) (least_of store) (free_of store) (least_one (kept_of store)) c.requires.sound.room.next
+    c.requires.sound.fit c.requires.listed
 
 pub settle-requires-clause-fit : goal.settle-requires-clause-fit
 settle-requires-clause-fit g c =
     let old = c.args.core.now in
-    store_same IsFit (picture_of old) (slots_of old.swap) (slots_of c.commit.new.source.swap.now) old.store.directory c.commit.new.self.directory
+    store_same IsFit (picture_of old) (slots_of old.swap) (slots_of c.commit.new.source.swap.now) (directory_of old.store) (directory_of c.commit.new.self)
     c.in-Ok.ensures.asks.follows.2.slots c.in-Ok.ensures.files c.requires.sound.fit
 
 pub settle-requires-clause-spots : goal.settle-requires-clause-spots
@@ -18,7 +23,7 @@ settle-requires-clause-spots g c =
     let old = c.args.core.now in
     let ch = chosen_of c.args.list.now c.args.count in
     let list = take (length (take ch.count ch.list)) c.fill_spots.new.spots in
-    store_same (λ x. AreSpots x list) (picture_of old) (slots_of old.swap) (slots_of c.commit.new.source.swap.now) old.store.directory c.commit.new.self.directory
+    store_same (λ x. AreSpots x list) (picture_of old) (slots_of old.swap) (slots_of c.commit.new.source.swap.now) (directory_of old.store) (directory_of c.commit.new.self)
     c.in-Ok.ensures.asks.follows.2.slots c.in-Ok.ensures.files (are_spots (picture_of old) ch list c.requires.listed c.fill_spots.ensures)
 
 pub returns-in-Ok : goal.returns-in-Ok
@@ -35,10 +40,12 @@ returns-in-Ok g c =
     let away : HasSlot list → IsAway (picture_of old) ch = λ has. away_of (picture_of old) ch list few spots has in
     let new = c.settle.new.core in
     let beside = c.settle.ensures.beside in
-    let settles = store_same (λ x. Settles x (picture_of new) list (length list)) (picture_of old) (slots_of source) (slots_of old.swap) c.commit.new.self.directory old.store.directory
+    let settles = store_same (λ x. Settles x (picture_of new) list (length list)) (picture_of old) (slots_of source) (slots_of old.swap) (directory_of c.commit.new.self) (directory_of old.store)
     (sym reads.slots) (sym done.files) c.settle.ensures.settles in
     let sound : IsSoundCore g.D.SectorDisk g.E.SectorDisk new = record {
-      ready = subst (λ (x : FileStore g.row.D.Denot). IsReadyStore g.D.SectorDisk x) (sym beside.store) done.ready;
+      ready = subst (λ (x : Store g.row.D.Denot). IsReadyStore g.D.SectorDisk x) (sym beside.store) done.ready;
+      room = subst (λ (x : Store g.row.D.Denot). HasRoomFor msync_pages (kept_of x)) (sym beside.store)
+          (room_next (kept_of old.store) (kept_of c.commit.new.self) (length front) c.requires.sound.room (front_few (picture_of old) ch c.requires.listed) done.room done.always);
       swap = ready_shared g.E.SectorDisk source new.swap (reads.ready c.requires.sound.swap) beside.pages c.settle.ensures.settles.slots;
       fit = c.settle.ensures.fit;
     } in
@@ -52,7 +59,7 @@ returns-in-Ok g c =
           let taken = committed s pid same.first same.count s.durable in
           let lists = front_lists s pid same.first same.count ch few same.lists in
           let change = changes (picture_of old) s pid same.first same.count front list c.requires.sound.fit shows.pages spots lists s.durable in
-          let n = g.D.SectorDisk.sector_count old.store.disk in
+          let n = g.D.SectorDisk.sector_count (disk_of old.store) in
           let M : Type 0 = IsAway (picture_of old) ch → g.E.SectorDisk.keeps_model new.swap.pages.disk in
           let model : M → HasSlot c.commit.new.source.spots.now → g.E.SectorDisk.keeps_model source.pages.disk =
           λ m has. subst (λ (p : Swap_pages g.row.E.Denot). g.E.SectorDisk.keeps_model p.disk) beside.pages (m (away (subst (λ l. HasSlot l) done.asks.follows.1 has))) in
@@ -62,14 +69,14 @@ returns-in-Ok g c =
             kept = done.kept;
             either = λ k m now. done.any_moment k (model m) s.files s.durable taken now change;
           } in
-          let Q : FileStore g.row.D.Denot → Type 0 = λ x. g.D.SectorDisk.keeps_model x.disk → M → LeavesNow g.D.SectorDisk old.store.disk (StandsFor n s.files s.durable)
-          → LeavesNow g.D.SectorDisk x.disk (StandsFor n s.files taken) in
+          let Q : Store g.row.D.Denot → Type 0 = λ x. g.D.SectorDisk.keeps_model (disk_of x) → M → LeavesNow g.D.SectorDisk (disk_of old.store) (StandsFor n s.files s.durable)
+          → LeavesNow g.D.SectorDisk (disk_of x) (StandsFor n s.files taken) in
           commit_done g.D.SectorDisk g.E.SectorDisk M old new s after pid addr len mode ch shows same takes
-          (subst (λ (x : FileStore g.row.D.Denot). StoreCommits g.D.SectorDisk M n s.files s.durable taken old.store x) (sym beside.store) commits_to)
+          (subst (λ (x : Store g.row.D.Denot). StoreCommits g.D.SectorDisk M n s.files s.durable taken old.store x) (sym beside.store) commits_to)
           (subst Q (sym beside.store) (λ k m now. done.ok k (model m) s.files s.durable taken now change))
           (synced_shows (picture_of old) s pid same.first same.count front list c.requires.sound.fit shows.pages spots lists (picture_of new) settles) sound;
       ends = search rules;
-      asks_store = subst (λ (x : FileStore g.row.D.Denot). AsksOnly g.D.SectorDisk (IsStoreUsed old.store.journal) old.store.disk x.disk) (sym beside.store) done.asks_device;
+      asks_store = subst (λ (x : Store g.row.D.Denot). AsksOnly g.D.SectorDisk (IsUsedIn (kept_of old.store)) (disk_of old.store) (disk_of x)) (sym beside.store) done.asks_device;
       asks_slots =
           let P : Swap_pages g.row.E.Denot → Type 0 = λ x. AsksOnly g.E.SectorDisk (IsSectorListed (picture_of old) ch) old.swap.pages.disk x.disk in
           subst P (sym beside.pages) (asks_listed g.E.SectorDisk (picture_of old) ch list old.swap.pages.disk source.pages.disk few spots reads.asks);
@@ -88,10 +95,10 @@ returns-in-Err-Device g c =
     let reads = done.asks.follows.2 in
     let source = c.commit.new.source.swap.now in
     let away : HasSlot list → IsAway (picture_of old) ch = λ has. away_of (picture_of old) ch list few spots has in
-    let memory : SettlesMemory (picture_of old) _ = store_same (λ x. SettlesMemory (picture_of old) x) (picture_of old) (slots_of old.swap) (slots_of source) old.store.directory c.commit.new.self.directory
+    let memory : SettlesMemory (picture_of old) _ = store_same (λ x. SettlesMemory (picture_of old) x) (picture_of old) (slots_of old.swap) (slots_of source) (directory_of old.store) (directory_of c.commit.new.self)
     reads.slots done.files (settles_nothing (picture_of old)) in
     let apart : (source ≡ old.swap) ⊎ IsAway (picture_of old) ch = elim reads.only [ inl same ↦ inl same | inr has ↦ inr (away has) ] in
-    let fit : IsFit _ = store_same IsFit (picture_of old) (slots_of old.swap) (slots_of source) old.store.directory c.commit.new.self.directory reads.slots done.files c.requires.sound.fit in
+    let fit : IsFit _ = store_same IsFit (picture_of old) (slots_of old.swap) (slots_of source) (directory_of old.store) (directory_of c.commit.new.self) reads.slots done.files c.requires.sound.fit in
     record {
       commits = λ s after pid addr len mode shows takes same.
           let taken = committed s pid same.first same.count s.durable in
@@ -105,7 +112,7 @@ returns-in-Err-Device g c =
           (record { directory = done.files; slots = reads.slots; frames = refl; cache = refl; roots = refl; regions = refl; page_of = refl; clock = refl; refused = refl })
           (device_failed _ _ _ _ c.in-Err-Device.field-0 c.in-Err-Device.field-0-is done.causes);
       ends = search rules;
-      asks_store = search rules;
+      asks_store = done.asks_device;
       asks_slots = asks_listed g.E.SectorDisk (picture_of old) ch list old.swap.pages.disk source.pages.disk few spots reads.asks;
       answers = search rules;
     }
@@ -122,13 +129,18 @@ returns-in-Err-Source g c =
     let reads = done.asks.follows.2 in
     let source = c.commit.new.source.swap.now in
     let away : HasSlot list → IsAway (picture_of old) ch = λ has. away_of (picture_of old) ch list few spots has in
-    let memory : SettlesMemory (picture_of old) _ = store_same (λ x. SettlesMemory (picture_of old) x) (picture_of old) (slots_of old.swap) (slots_of source) old.store.directory c.commit.new.self.directory
+    let memory : SettlesMemory (picture_of old) _ = store_same (λ x. SettlesMemory (picture_of old) x) (picture_of old) (slots_of old.swap) (slots_of source) (directory_of old.store) (directory_of c.commit.new.self)
     reads.slots done.files (settles_nothing (picture_of old)) in
     let apart : (source ≡ old.swap) ⊎ IsAway (picture_of old) ch = elim reads.only [ inl same ↦ inl same | inr has ↦ inr (away has) ] in
-    let fit : IsFit _ = store_same IsFit (picture_of old) (slots_of old.swap) (slots_of source) old.store.directory c.commit.new.self.directory reads.slots done.files c.requires.sound.fit in
+    let fit : IsFit _ = store_same IsFit (picture_of old) (slots_of old.swap) (slots_of source) (directory_of old.store) (directory_of c.commit.new.self) reads.slots done.files c.requires.sound.fit in
     let still : ((stall : Stall) → Stalled SwapDevice ≢ Stalled stall) → g.E.SectorDisk.failures source.pages.disk ≡ g.E.SectorDisk.failures old.swap.pages.disk = λ none. absurd (none SwapDevice refl) in
     let failed = err_is c.in-Err-Source.field-0 Source c.in-Err-Source.field-0-is in
-    let sound : IsSoundCore g.D.SectorDisk g.E.SectorDisk _ = record { ready = done.ready_after_source failed; swap = reads.ready c.requires.sound.swap; fit = fit } in
+    let sound : IsSoundCore g.D.SectorDisk g.E.SectorDisk _ = record {
+      ready = done.ready_after_source failed;
+      room = room_left (kept_of old.store) (kept_of c.commit.new.self) c.requires.sound.room (done.room_after_source failed) done.always;
+      swap = reads.ready c.requires.sound.swap;
+      fit = fit;
+    } in
     record {
       commits = λ s after pid addr len mode shows takes same.
           let taken = committed s pid same.first same.count s.durable in
@@ -141,10 +153,10 @@ returns-in-Err-Source g c =
           (record { directory = done.files; size = done.size; kept = done.kept; either = λ k m now. done.any_moment k (model m) s.files s.durable taken now change })
           (record { directory = done.files; slots = reads.slots; frames = refl; cache = refl; roots = refl; regions = refl; page_of = refl; clock = refl; refused = refl })
           (source_failed _ _ _ _ c.in-Err-Source.field-0 c.in-Err-Source.field-0-is done.causes)
-          (store_same (λ x. ShowsPages x s) (picture_of old) (slots_of old.swap) (slots_of source) old.store.directory c.commit.new.self.directory reads.slots done.files shows.pages) sound
+          (store_same (λ x. ShowsPages x s) (picture_of old) (slots_of old.swap) (slots_of source) (directory_of old.store) (directory_of c.commit.new.self) reads.slots done.files shows.pages) sound
           (λ k now. done.source_now k failed s.files s.durable now) (λ k now. done.source k failed s.files s.durable now);
       ends = search rules;
-      asks_store = search rules;
+      asks_store = done.asks_device;
       asks_slots = asks_listed g.E.SectorDisk (picture_of old) ch list old.swap.pages.disk source.pages.disk few spots reads.asks;
       answers = search rules;
     }

@@ -1,6 +1,7 @@
 use Rattle.std.{proofs.{Common.{◌≡◌, ◌+◌, ◌*◌, ◌/◌, ◌<◌, ◌≤◌, ◌++◌, sym, ap, subst, ◌∙◌, take, drop, arith, rules}, KnownBytes.{Appends-trans}, lemmas.List.{take-append-drop}}, specs.Io.KnownBytes.{Appends}}
 use Rattle.programs.proofs.{Asking.{reads_more}, Copies.{begins_more, next_piece, all_pages}}
 use Rattle.programs.proofs.showing.copy_file.Goals as goal
+use Rattle.stores.specs.Store.{disk_of}
 
 pub returns-in-Err-clause-reads : goal.returns-in-Err-clause-reads
 returns-in-Err-clause-reads g c =
@@ -21,7 +22,7 @@ returns-in-Err-clause-written g c = λ keeps bytes is.
     let count : c.div_ceil-k-end.result ≡ (c.args.length + 4095) / 4096 = search rules in
     let inside : 4096 * k < c.args.length = omega (arith, count, c.loop-k-test.true) in
     let before = i.written first bytes is in
-    let next = next_piece g.D.SectorDisk c.args.store.now c.loop-k.store.disk c.args.file k c.args.length file.0 bytes c.requires.ready (i.reads.kept first) file.1 file.2 is (i.reads.touches first) inside in
+    let next = next_piece g.D.SectorDisk c.args.store.now (disk_of c.loop-k.store) c.args.file k c.args.length file.0 bytes c.requires.ready (i.reads.kept first) file.1 file.2 is i.reads.size (i.reads.touches first) inside in
     let split : bytes ≡ take (4096 * (k + 1)) bytes ++ drop (4096 * (k + 1)) bytes = sym (take-append-drop (4096 * (k + 1)) bytes) in
     begins_more _ _ _ bytes _ _ (drop (4096 * (k + 1)) bytes) (split ∙ ap (λ s. s ++ drop (4096 * (k + 1)) bytes) next) before (e.written keeps)
 
@@ -39,7 +40,7 @@ loop-k-preserved g c =
       written = λ keeps bytes is.
           let first = e.reads.kept keeps in
           let before = i.written first bytes is in
-          let next = next_piece g.D.SectorDisk c.args.store.now c.loop-k.store.disk c.args.file k c.args.length file.0 bytes c.requires.ready (i.reads.kept first) file.1 file.2 is (i.reads.touches first) inside in
+          let next = next_piece g.D.SectorDisk c.args.store.now (disk_of c.loop-k.store) c.args.file k c.args.length file.0 bytes c.requires.ready (i.reads.kept first) file.1 file.2 is i.reads.size (i.reads.touches first) inside in
           subst (λ b. Appends (g.W.Write.contents c.args.writer.now) (g.W.Write.contents c.copy_page.new.writer) b) (sym next)
           (Appends-trans _ _ _ _ _ before (e.written keeps));
     }

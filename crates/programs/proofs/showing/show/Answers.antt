@@ -1,5 +1,5 @@
-use Rattle.sync_journal.specs.Kinds.{store_live}
-use Rattle.{std.proofs.Common.{⊎_elim, refl, sym, ap, ◌∙◌, subst, Err, rules}, programs.{proofs.{Asking.{keeps_image, keeps_unopened}, Copies.{same_open, opened_bytes, opened_info}}, specs.Showing.{KeepsImage, RefusesToShow}}}
+use Rattle.{std.proofs.Common.{⊎_elim, refl, sym, ap, ◌∙◌, subst, Err, rules}, stores.specs.{Opened.{IsCarriedOut}, Store.{StoreKept}}}
+use Rattle.programs.{proofs.{Asking.{keeps_image, keeps_unopened}, Copies.{same_open, opened_bytes, opened_info}}, specs.Showing.{KeepsImage, RefusesToShow}}
 use Rattle.programs.proofs.showing.show.Goals as goal
 
 pub returns-in-Ok-show_opened-clause-writes : goal.returns-in-Ok-show_opened-clause-writes
@@ -9,27 +9,23 @@ returns-in-Ok-show_opened-clause-writes g c =
     record {
       calm = search rules;
       ready = search rules;
-      closed = ap store_live e.reads.journal ∙ opened.closed;
+      carried = λ keeps. subst (λ (kept : StoreKept). IsCarriedOut kept (g.D.SectorDisk.content c.args.disk)) (sym e.reads.same) (opened.carried (e.reads.kept keeps));
       synced = λ keeps k u. ⊎_elim (λ was. opened.synced (e.reads.kept keeps) k was) (λ none. none) ((e.reads.touches keeps).unsynced k u);
       good_layout = λ keeps. opened.good_layout (e.reads.kept keeps);
       good_journal = λ keeps. opened.good_journal (e.reads.kept keeps);
       shown = λ keeps files pages stood.
-          let first = e.reads.kept keeps in
-          let read = opened_bytes g.D.SectorDisk c.args.disk c.in-Ok.store (g.D.SectorDisk.sector_count c.args.disk) c.args.file e.some.0
-          opened.ready first (opened.now first) e.some.1 files pages stood in
+          let read = opened_bytes g.D.SectorDisk c.args.disk c.in-Ok.store opened (e.reads.kept keeps) files pages stood c.args.file e.some.0 e.some.1 in
           (e.some.0, read.0, e.written keeps _ read.1);
     }
 
 pub returns-in-Ok-show_opened-clause-keeps : goal.returns-in-Ok-show_opened-clause-keeps
 returns-in-Ok-show_opened-clause-keeps g c =
-    let e = c.in-Ok.ensures in
-    keeps_image g.D.SectorDisk c.args.disk c.in-Ok.store c.show_opened.new.store c.args.file e.closed e.ready e.kept e.touches e.asks e.now e.in_a_row e.closed_unwritten c.show_opened.ensures.reads
+    keeps_image g.D.SectorDisk c.args.disk c.in-Ok.store c.show_opened.new.store c.args.file c.in-Ok.ensures c.show_opened.ensures.reads
 
 pub returns-in-Err-show_opened-clause-err_keeps : goal.returns-in-Err-show_opened-clause-err_keeps
 returns-in-Err-show_opened-clause-err_keeps g c =
-    let e = c.in-Ok.ensures in
     subst (λ d. KeepsImage g.D.SectorDisk c.args.file c.args.disk d) (sym c.into_disk.ensures)
-    (keeps_image g.D.SectorDisk c.args.disk c.in-Ok.store c.show_opened.new.store c.args.file e.closed e.ready e.kept e.touches e.asks e.now e.in_a_row e.closed_unwritten c.show_opened.ensures.reads)
+    (keeps_image g.D.SectorDisk c.args.disk c.in-Ok.store c.show_opened.new.store c.args.file c.in-Ok.ensures c.show_opened.ensures.reads)
 
 pub returns-in-Err-show_opened-clause-refuses : goal.returns-in-Err-show_opened-clause-refuses
 returns-in-Err-show_opened-clause-refuses g c =
@@ -46,22 +42,19 @@ returns-in-Err-show_opened-clause-refuses g c =
       good_layout = λ keeps _. opened.good_layout (e.reads.kept keeps);
       good_journal = λ keeps _. opened.good_journal (e.reads.kept keeps);
       no_file = λ is keeps files pages stood.
-          let first = e.reads.kept keeps in
-          sym (opened_info g.D.SectorDisk c.args.disk c.in-Ok.store (g.D.SectorDisk.sector_count c.args.disk) c.args.file opened.ready first (opened.now first) files pages stood)
-          ∙ e.none (ap Err is);
+          sym (opened_info g.D.SectorDisk c.args.disk c.in-Ok.store opened (e.reads.kept keeps) files pages stood c.args.file) ∙ e.none (ap Err is);
     })
 
 pub returns-in-Err-show_opened-clause-begins : goal.returns-in-Err-show_opened-clause-begins
 returns-in-Err-show_opened-clause-begins g c =
     let opened = c.in-Ok.ensures in
-    let e = c.in-Err-show_opened.ensures in
-    let sectors = g.D.SectorDisk.sector_count c.args.disk in record {
+    let e = c.in-Err-show_opened.ensures in record {
       no_byte = λ other is. absurd (e.unopened _ (ap Err is));
       begun = λ keeps files pages info stood is.
           let kept = subst g.D.SectorDisk.keeps_model c.into_disk.ensures keeps in
           let first = e.reads.kept kept in
-          let file = opened_info g.D.SectorDisk c.args.disk c.in-Ok.store sectors c.args.file opened.ready first (opened.now first) files pages stood ∙ is in
-          let read = opened_bytes g.D.SectorDisk c.args.disk c.in-Ok.store sectors c.args.file info opened.ready first (opened.now first) file files pages stood in
+          let file = opened_info g.D.SectorDisk c.args.disk c.in-Ok.store opened first files pages stood c.args.file ∙ is in
+          let read = opened_bytes g.D.SectorDisk c.args.disk c.in-Ok.store opened first files pages stood c.args.file info file in
           e.written kept _ read.1;
     }
 
@@ -82,12 +75,4 @@ returns-in-Err-clause-refuses g c =
     }
 
 pub returns-in-Err-clause-err_keeps : goal.returns-in-Err-clause-err_keeps
-returns-in-Err-clause-err_keeps g c =
-    let e = c.in-Err.ensures in record {
-      kept = e.err_kept;
-      any_moment = e.err_moment;
-      in_a_row = e.err_in_a_row;
-      touches = e.err_touches;
-      closed_unwritten = e.err_closed_unwritten;
-      asks = keeps_unopened g.D.SectorDisk c.args.disk c.in-Err.disk c.args.file e.err_touches e.err_asks;
-    }
+returns-in-Err-clause-err_keeps g c = keeps_unopened g.D.SectorDisk c.args.disk c.in-Err.disk c.args.file c.in-Err.ensures.err_run

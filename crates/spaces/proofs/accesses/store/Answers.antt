@@ -1,6 +1,6 @@
 use Rattle.spaces.proofs.Names.{ℕ, ◌<◌, ◌≡◌, inr, is_some, ◌/◌, ◌%◌, List, refl, sym, ap, ◌∙◌, subst, rules, arith, FrameTable, IsHeld, IsSound, with_bytes, IsHeld-above, IsHeld-not_zero, IsSound-step, with_bytes-others, IsThatPage, Grants}
 use Rattle.spaces.proofs.Names.{IsReadyToStore, IsOpenToStore, IsWalked, Tends, ShowsFile, picture_of, Store, Phys, Answer, Done, with_number, byte_count, reply_of}
-use Rattle.spaces.{specs.{Accesses.{KeepsToPage, LetsThrough}, Calls.{Comes}}, proofs.{Asking.{asks_unstalled, keeps_dead, keeps_refused, no_root, one_end, one_place, writes_walked}, Calls.{found_lives}}}
+use Rattle.spaces.{specs.{Accesses.{KeepsToPage, LetsThrough}, Calls.{Comes}}, proofs.{Asking.{asks_unstalled, keeps_dead, keeps_refused, no_root, one_end, one_place, writes_walked}, Calls.{found_lives}, Room.{room_left}}}
 use Rattle.spaces.proofs.Writing.{data_frame, entries_stored, fit_stored, open_held, others_stored, room_stored, slotted_stored, store_refused, stores}
 use Rattle.vm_types.specs.declared.access.Access.TheVariants as Accesses
 use Rattle.fault.proofs.Chances.{others_kept}
@@ -34,6 +34,7 @@ returns-in-Ok-clause-keeps g c =
       accounts = record {
         sound = record {
           ready = goes.ready;
+          room = room_left a.core.now.store c.access.new.core.store goes.reads.same c.requires.sound.room;
           swap = goes.swap;
           fit = fit_stored mid _ a.pid (a.addr / 4096) backing n c.write_number.new.page goes.fit usable refl
               (record { slots = refl; root = λ q. refl; at = λ q k. refl; page_of = λ m. refl; place = λ p. refl; touched = λ p. refl; files = λ f. refl });
@@ -93,7 +94,7 @@ pub returns-in-Err-clause-keeps : goal.returns-in-Err-clause-keeps
 returns-in-Err-clause-keeps g c =
     let a = c.args in
     let new = c.access.new.core in
-    rw (← c.in-Some.ensures.found.0) (rw c.refused.ensures (keeps_refused g.D.SectorDisk g.E.SectorDisk a.core.now new c.in-Some.pid a.addr a.stored.width Accesses.Store c.access.result c.in-Err.refusal c.access.ensures c.in-Err.ensures.refusal))
+    rw (← c.in-Some.ensures.found.0) (rw c.refused.ensures (keeps_refused g.D.SectorDisk g.E.SectorDisk a.core.now new c.in-Some.pid a.addr a.stored.width Accesses.Store c.access.result c.in-Err.refusal c.access.ensures c.in-Err.ensures.refusal c.requires.sound.room))
 
 pub returns-in-Err-clause-walked : goal.returns-in-Err-clause-walked
 returns-in-Err-clause-walked g c place walked =

@@ -1,6 +1,6 @@
-use Rattle.spaces.proofs.Names.{sizes, ℕ, ◌*◌, ◌/◌, ◌≡◌, Option, subst, arith, rules, attr_at, KeepsRoom, picture_of, Mmap, Attr, Address, Refused, replaced, page_count}
-use Rattle.spaces.specs.{Mappings.{attr_there}, Calls.{Comes}, Ranges.{EmptiesRange, GivesPagesBack}}
-use Rattle.spaces.proofs.{Mapped.{refused_as_asked, refused_place, maps, reads_mapped}, Calls.{found_lives}, Numbers.{nobody_has, lives_below}, NewObject.{new_unused, objects_mapped}, Room.{sound_kept}, Returning.{takes_remapped}}
+use Rattle.spaces.proofs.Names.{sizes, ℕ, ◌*◌, ◌/◌, ◌≡◌, Option, refl, sym, subst, arith, rules, attr_at, KeepsRoom, picture_of, Mmap, Attr, Address, Refused, replaced, page_count}
+use Rattle.spaces.specs.{Mappings.{attr_there, mmap_asked_checks}, Calls.{Comes}, Ranges.{EmptiesRange, GivesPagesBack}}
+use Rattle.spaces.proofs.{Mapped.{refused_as_asked, refused_place, maps, reads_mapped}, Calls.{found_lives}, Numbers.{nobody_has, lives_below}, NewObject.{new_unused, objects_mapped}, Room.{sound_kept}, Checks.{first_of-other}, Returning.{returns_refused, takes_remapped}}
 use Rattle.spaces.proofs.mappings.mmap.Goals as goal
 
 pub returns-in-Some-refusal-clause-comes : goal.returns-in-Some-refusal-clause-comes
@@ -8,6 +8,14 @@ returns-in-Some-refusal-clause-comes g c = λ s shows reads swaps.
     let a = c.args in
     refused_as_asked g.D.SectorDisk g.E.SectorDisk a.core.now s a.pid a.request.addr a.request.len a.request.prot a.request.source a.request.placing shows.pages (found_lives (picture_of a.core.now) c.in-Some.pid a.pid c.in-Some.ensures.found)
     c.in-Some-refusal.errno c.in-Some-refusal.ensures.asked
+
+pub returns-in-Some-refusal-clause-keeps : goal.returns-in-Some-refusal-clause-keeps
+returns-in-Some-refusal-clause-keeps g c =
+    let a = c.args in
+    let r = a.request in
+    let errno = c.in-Some-refusal.errno in
+    let other = first_of-other (mmap_asked_checks (picture_of a.core.now).files r.addr r.len r.prot r.source r.placing) errno refl (sym c.in-Some-refusal.ensures.asked) in
+    returns_refused g.D.SectorDisk g.E.SectorDisk a.core.now errno other c.requires.sound a.pid 0 (page_count r.len)
 
 pub remap-requires-clause-readable : goal.remap-requires-clause-readable
 remap-requires-clause-readable g c =

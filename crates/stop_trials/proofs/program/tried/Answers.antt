@@ -23,3 +23,6 @@ returns-in-Ok-clause-ends g c = record {
   good = search rules;
   bad = search rules;
 }
+
+pub invariant_of-setting : goal.invariant_of-setting
+invariant_of-setting g c = record { sized = c.in_ok-words.ensures.store }

@@ -1,5 +1,5 @@
-use Rattle.machine.proofs.{Boots.{fine_frames, fine_slots, still, boots, accepts, refuses_frames, refuses_slots, refuses_memory, refuses_store, opened_leaves}, Names.{inl, inr, ⊎_elim, refl, sym, ap, ◌∙◌, subst, arith, OpensFrom}}
-use Rattle.machine.{proofs.engine.Engine.boot.Goals.{then-config-gt-MAX_SLOTS-via-then-config-gt-MAX_SLOTS, then-config-gt-MAX_SLOTS-via-else-config-gt-MAX_SLOTS+then-from-sectors}, specs.Boot.{HasBadSlots}}
+use Rattle.machine.proofs.{Boots.{fine_frames, fine_slots, still, boots, accepts, refuses_frames, refuses_slots, refuses_memory, refuses_store}, Names.{inl, inr, ⊎_elim, refl, sym, ap, ◌∙◌, subst, arith}}
+use Rattle.machine.{proofs.engine.Engine.boot.Goals.{then-config-gt-MAX_SLOTS-via-then-config-gt-MAX_SLOTS, then-config-gt-MAX_SLOTS-via-else-config-gt-MAX_SLOTS+then-from-sectors}, specs.{Boot.{HasBadSlots}, StoreBoot.{BootsStore}}}
 use Rattle.swap.specs.declared.slots.Swap.{Swap}
 use Rattle.machine.proofs.engine.Engine.boot.Goals as goal
 
@@ -23,11 +23,11 @@ returns-then-config-gt-MAX_SLOTS-clause-err_moments g c = still g.D.SectorDisk c
 
 pub returns-in-Err-clause-refuses : goal.returns-in-Err-clause-refuses
 returns-in-Err-clause-refuses g c =
-    rw c.from-in-Err.ensures (refuses_store g.D.SectorDisk c.args.config _ c.args.store c.in-Err.fault c.in-Err.disk (fine_frames c.args.config c.if-config-lt-MIN_FRAMES.false c.if-config-gt-MAX_FRAMES.false)
-    (fine_slots c.args.config _ _ _ c.if-config-gt-MAX_SLOTS.false c.from.ensures c.sectors.ensures c.if-from-sectors.false) c.in-Err.ensures)
+    refuses_store g.D.SectorDisk c.args.config _ c.args.store c.in-Err.fault.0 c.in-Err.fault.1 (fine_frames c.args.config c.if-config-lt-MIN_FRAMES.false c.if-config-gt-MAX_FRAMES.false)
+    (fine_slots c.args.config _ _ _ c.if-config-gt-MAX_SLOTS.false c.from.ensures c.sectors.ensures c.if-from-sectors.false) c.in-Err.ensures
 
 pub returns-in-Err-clause-err_moments : goal.returns-in-Err-clause-err_moments
-returns-in-Err-clause-err_moments g c = record { any_moment = c.in-Err.ensures.err_moment; in_a_row = c.in-Err.ensures.err_in_a_row }
+returns-in-Err-clause-err_moments g c = c.in-Err.ensures.leaves
 
 pub returns-in_default-clause-refuses : goal.returns-in_default-clause-refuses
 returns-in_default-clause-refuses g c =
@@ -35,7 +35,7 @@ returns-in_default-clause-refuses g c =
     (fine_slots c.args.config _ _ _ c.if-config-gt-MAX_SLOTS.false c.from.ensures c.sectors.ensures c.if-from-sectors.false) c.in-Ok.ensures)
 
 pub returns-in_default-clause-err_moments : goal.returns-in_default-clause-err_moments
-returns-in_default-clause-err_moments g c = rw c.into_disk.ensures (opened_leaves g.D.SectorDisk c.args.store c.in-Ok.store c.in-Ok.ensures)
+returns-in_default-clause-err_moments g c = rw c.into_disk.ensures c.in-Ok.ensures.leaves
 
 pub returns-in_default-new-clause-refuses : goal.returns-in_default-new-clause-refuses
 returns-in_default-new-clause-refuses g c =
@@ -43,7 +43,7 @@ returns-in_default-new-clause-refuses g c =
     (fine_slots c.args.config _ _ _ c.if-config-gt-MAX_SLOTS.false c.from.ensures c.sectors.ensures c.if-from-sectors.false) c.in-Ok.ensures)
 
 pub returns-in_default-new-clause-err_moments : goal.returns-in_default-new-clause-err_moments
-returns-in_default-new-clause-err_moments g c = rw c.into_disk-in_default-new.ensures (opened_leaves g.D.SectorDisk c.args.store c.in-Ok.store c.in-Ok.ensures)
+returns-in_default-new-clause-err_moments g c = rw c.into_disk-in_default-new.ensures c.in-Ok.ensures.leaves
 
 pub returns-in-Err-new-clause-refuses : goal.returns-in-Err-new-clause-refuses
 returns-in-Err-new-clause-refuses g c =
@@ -51,13 +51,13 @@ returns-in-Err-new-clause-refuses g c =
     (fine_slots c.args.config _ _ _ c.if-config-gt-MAX_SLOTS.false c.from.ensures c.sectors.ensures c.if-from-sectors.false) c.in-Ok.ensures)
 
 pub returns-in-Err-new-clause-err_moments : goal.returns-in-Err-new-clause-err_moments
-returns-in-Err-new-clause-err_moments g c = rw (c.into_disk-in-Err-new.ensures, c.in-Err-new.ensures.err) (opened_leaves g.D.SectorDisk c.args.store c.in-Ok.store c.in-Ok.ensures)
+returns-in-Err-new-clause-err_moments g c = rw (c.into_disk-in-Err-new.ensures, c.in-Err-new.ensures.err) c.in-Ok.ensures.leaves
 
 pub returns-in-Ok-new-3-clause-boots : goal.returns-in-Ok-new-3-clause-boots
 returns-in-Ok-new-3-clause-boots g c =
     let made = c.in-Ok-new-3.ensures in
     boots g.D.SectorDisk g.E.SectorDisk c.args.store _ c.args.config.frames c.args.config.slots refl c.in-Ok-new.ensures
-    (subst (λ store. OpensFrom g.D.SectorDisk c.args.store store) (sym made.store) c.in-Ok.ensures) made.start
+    (subst (λ store. BootsStore g.D.SectorDisk c.args.store store) (sym made.store) c.in-Ok.ensures) made.start
 
 pub returns-in-Ok-new-3-clause-accepts : goal.returns-in-Ok-new-3-clause-accepts
 returns-in-Ok-new-3-clause-accepts g c =
@@ -65,7 +65,7 @@ returns-in-Ok-new-3-clause-accepts g c =
     (fine_slots c.args.config _ _ _ c.if-config-gt-MAX_SLOTS.false c.from.ensures c.sectors.ensures c.if-from-sectors.false) c.in-Ok.ensures)
 
 pub returns-in-Ok-new-3-clause-moments : goal.returns-in-Ok-new-3-clause-moments
-returns-in-Ok-new-3-clause-moments g c = rw c.in-Ok-new-3.ensures.store (opened_leaves g.D.SectorDisk c.args.store c.in-Ok.store c.in-Ok.ensures)
+returns-in-Ok-new-3-clause-moments g c = rw c.in-Ok-new-3.ensures.store c.in-Ok.ensures.leaves
 
 pub returns-in-Ok-new-3-clause-starts : goal.returns-in-Ok-new-3-clause-starts
 returns-in-Ok-new-3-clause-starts g c =

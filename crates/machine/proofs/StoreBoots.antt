@@ -1,0 +1,213 @@
+-- A store that a boot opens, from what its opening and the room made in it say.
+use Rattle.machine.proofs.Names.{ℕ, ◌*◌, ◌≡◌, ◌≤◌, ◌<◌, ◌⊎◌, ◌∙◌, inl, inr, ⊎_elim, Bool, true, false, refl, sym, ap, subst, arith, cases_Bool}
+use Rattle.machine.proofs.Names.{LeavesNow, LeavesOnly, Image, MayLeave, Ghosts, joined, weaker, asks_none, asks_then, asks_wider, StandsFor, StandsAs, file_info, standing_page, OpenFault}
+use Rattle.machine.specs.{Boot.{BootLeaves, HasSmallPool, IsAskedToBoot}, Fault.{boot_fault}, StoreBoot.{BootsStore, RefusesStore, RunsStoreBoot}}
+use Rattle.machine.specs.declared.boot.{BootFault.{BootFault}, BootFault.TheVariants.{Frames, Slots, Device, BadLayout, BadJournal, SmallPool}}
+use Rattle.std.specs.Prelude.{Result, Ok, Err}
+use Rattle.disk_model.specs.{Moments.{AsksOnly}, declared.sector_disk.DiskFault.{DiskFault}}
+use Rattle.file_store.specs.Standing.{AreBounded}
+use Rattle.stores.proofs.{Heads.{same_blocks, same_mark}, Said.{always_said, committed_inside, kind_outside, mark_outside, outside_alike, roomy, stands_as_said, stands_for_own, used_inside}}
+use Rattle.stores.specs.{Images.{is_pool, map_blocks, IsAskedToOpen, IsOutside}, Opened.{OpensFrom, RefusesToOpen, RunsOpening}, Rooms.{MakesRoom}}
+use Rattle.stores.specs.Store.{AnyDirectory, always_free_in, disk_of, files_in, kept_of, IsUsedIn}
+use Rattle.stores.specs.declared.{faults.OpenFault.TheVariants.{Device as StoreDevice, BadLayout as StoreLayout, BadJournal as StoreJournal, Memory as StoreMemory}, store.Store.{Store}}
+
+-- a fault that is told is the one that came
+was_layout : (fault : OpenFault) → boot_fault fault ≡ BadLayout → fault ≡ StoreLayout
+was_layout StoreLayout e = refl
+was_layout fault e = cc
+
+was_journal : (fault : OpenFault) → boot_fault fault ≡ BadJournal → fault ≡ StoreJournal
+was_journal StoreJournal e = refl
+was_journal fault e = cc
+
+was_device : (fault : OpenFault) → boot_fault fault ≡ Device → fault ≡ StoreDevice
+was_device StoreDevice e = refl
+was_device fault e = cc
+
+-- none of a store is one of the machine's sizes, nor of a small pool
+no_size : (fault : OpenFault) → (boot_fault fault ≡ Frames) ⊎ (boot_fault fault ≡ Slots) → ⊥
+no_size StoreDevice (inl e) = cc
+no_size StoreDevice (inr e) = cc
+no_size StoreLayout (inl e) = cc
+no_size StoreLayout (inr e) = cc
+no_size StoreJournal (inl e) = cc
+no_size StoreJournal (inr e) = cc
+no_size StoreMemory (inl e) = cc
+no_size StoreMemory (inr e) = cc
+
+no_small : (fault : OpenFault) → boot_fault fault ≡ SmallPool → ⊥
+no_small StoreDevice e = cc
+no_small StoreLayout e = cc
+no_small StoreJournal e = cc
+no_small StoreMemory e = cc
+
+-- a bad store is no failed device
+no_device : (fault : OpenFault) → (boot_fault fault ≡ BadLayout) ⊎ (boot_fault fault ≡ BadJournal) → fault ≡ StoreDevice → ⊥
+no_device StoreDevice (inl e) same = cc
+no_device StoreDevice (inr e) same = cc
+no_device StoreLayout e same = cc
+no_device StoreJournal e same = cc
+no_device StoreMemory e same = cc
+
+module _ {D : Type 0} (g : Ghosts D) where
+  -- what stands for what the store stood for stands for what stood before earlier stops
+  leaves_by : (entry new : D) → (g.keeps_model new → ((k : ℕ) → g.unsynced entry k → ⊥) → LeavesOnly g entry new (StandsAs (g.sector_count entry) (g.content entry)))
+      → BootLeaves g entry new
+  leaves_by entry new moment = record {
+    any_moment = moment;
+    in_a_row = λ keeps synced first stands. weaker g entry new (StandsAs (g.sector_count entry) (g.content entry)) (StandsAs (g.sector_count entry) first)
+        (λ image here files pages was. here files pages (stands files pages was)) (moment keeps synced);
+  }
+
+  -- whatever comes of an opening, a boot may do
+  opening_runs : (entry new : D) → RunsOpening g entry new → RunsStoreBoot g entry new
+  opening_runs entry new run = record {
+    size = run.size;
+    kept = run.kept;
+    later = run.later;
+    asks = λ keeps. asks_wider g (IsAskedToOpen (g.sector_count entry) (g.content entry)) (IsAskedToBoot (g.sector_count entry) (g.content entry)) entry new
+        (λ k asked. inl asked) (run.asks keeps);
+    outside = run.outside;
+    leaves = leaves_by entry new run.any_moment;
+  }
+
+  -- The store can't be opened.
+  pub refuses_unopened : (entry : D) (fault : OpenFault) (left : D) → RefusesToOpen g entry fault left → RefusesStore g entry (boot_fault fault) left
+  refuses_unopened entry fault left unopened = record {
+    err_run = opening_runs entry left unopened.err_run;
+    sized = no_size fault;
+    device = λ e. unopened.device (was_device fault e);
+    err_calm = λ other. unopened.err_calm (λ e. other (ap boot_fault e));
+    bad_layout = λ keeps e. unopened.bad_layout keeps (was_layout fault e);
+    bad_journal = λ keeps e. unopened.bad_journal keeps (was_journal fault e);
+    layout_first = λ keeps e. unopened.layout_first keeps (was_journal fault e);
+    small_pool = λ keeps e. absurd (no_small fault e);
+    unwritten = λ keeps bad. unopened.unwritten keeps (no_device fault bad);
+  }
+
+  -- It is opened.
+  module _ (entry : D) (mid : Store D) (opened : OpensFrom g entry mid) where
+    abbrev n : ℕ
+    n = g.sector_count entry
+
+    abbrev image : Image
+    image = g.content entry
+
+    abbrev opened_image : Image
+    opened_image = g.content (disk_of mid)
+
+    -- its mark is the one at entry, and of a pool its kind, too
+    mark : g.keeps_model (disk_of mid) → opened_image 0 ≡ image 0
+    mark keeps = opened.outside keeps 0 (mark_outside n image)
+
+    kind : g.keeps_model (disk_of mid) → is_pool image ≡ true → opened_image 1 ≡ image 1
+    kind keeps marked = opened.outside keeps 1 (kind_outside n image marked)
+
+    is_still : (b : Bool) → g.keeps_model (disk_of mid) → is_pool image ≡ b → is_pool opened_image ≡ b
+    is_still b keeps is = same_mark image opened_image (mark keeps) ∙ is
+
+    slots : g.keeps_model (disk_of mid) → is_pool image ≡ true → always_free_in (kept_of mid) ≡ 504 * map_blocks image
+    slots keeps marked = always_said g mid opened.ready keeps (is_still true keeps marked) ∙ ap (λ m. 504 * m) (same_blocks image opened_image (kind keeps marked))
+
+    -- what lies outside at entry lies outside still
+    outside_still : g.keeps_model (disk_of mid) → is_pool image ≡ true → (k : ℕ) → IsOutside n image k → IsOutside (g.sector_count (disk_of mid)) opened_image k
+    outside_still keeps marked k out = subst (λ x. IsOutside x opened_image k) (sym opened.size) (outside_alike n image opened_image (mark keeps) (kind keeps marked) marked k out)
+
+    -- A body of its pool has fewer slots than an msync takes pages.
+    pub refuses_small : always_free_in (kept_of mid) < 1023 → RefusesStore g entry SmallPool (disk_of mid)
+    refuses_small few = record {
+      err_run = opening_runs entry (disk_of mid) opened.run;
+      sized = λ e. ⊎_elim (λ e'. cc) (λ e'. cc) e;
+      device = λ e. cc;
+      err_calm = λ other. opened.calm;
+      bad_layout = λ keeps e. cc;
+      bad_journal = λ keeps e. cc;
+      layout_first = λ keeps e bad. cc;
+      small_pool = λ keeps e. ⊎_elim
+          (λ marked. (marked, (let all = slots keeps marked in omega (arith, few, all))))
+          (λ unmarked. (let all = (roomy g mid opened.ready keeps (is_still false keeps unmarked)).0 in absurd (omega (arith, few, all))))
+          (cases_Bool (is_pool image));
+      unwritten = λ keeps e. absurd (⊎_elim (λ e'. cc) (λ e'. cc) e);
+    }
+
+    -- Room is made in it:
+    module _ (new : Store D) (result : Result (Unit {0}) DiskFault) (made : MakesRoom g mid new result) where
+      -- where it is one of layout 2 or 3 nothing is done,
+      idle : g.keeps_model (disk_of new) → is_pool image ≡ false → new ≡ mid
+      idle keeps unmarked = made.idle (roomy g mid opened.ready (made.kept keeps) (is_still false (made.kept keeps) unmarked)).1
+
+      asks : g.keeps_model (disk_of new) → AsksOnly g (IsAskedToBoot n image) (disk_of mid) (disk_of new)
+      asks keeps = ⊎_elim
+          (λ marked. asks_wider g (IsUsedIn (kept_of mid)) (IsAskedToBoot n image) (disk_of mid) (disk_of new)
+          (λ k used. inr (
+            marked,
+            λ out. used_inside g mid opened.ready (made.kept keeps) (is_still true (made.kept keeps) marked) k used
+                (outside_still (made.kept keeps) marked k out),
+          )) made.asks)
+          (λ unmarked. asks_none g (IsAskedToBoot n image) (disk_of mid) (disk_of new) (λ k. ap (λ (store : Store D). g.asked (disk_of store) k) (idle keeps unmarked)))
+          (cases_Bool (is_pool image))
+
+      outside : g.keeps_model (disk_of new) → (k : ℕ) → IsOutside n image k → g.content (disk_of new) k ≡ opened_image k
+      outside keeps k out = ⊎_elim
+          (λ marked. ⊎_elim
+          (λ written. absurd (committed_inside g mid opened.ready (made.kept keeps) (is_still true (made.kept keeps) marked) k written
+          (outside_still (made.kept keeps) marked k out)))
+          (λ same. same) ((made.touches keeps).content k))
+          (λ unmarked. ap (λ (store : Store D). g.content (disk_of store) k) (idle keeps unmarked))
+          (cases_Bool (is_pool image))
+
+      -- and what stood for the files at entry stands for them,
+      abbrev StandsStill : ℕ → Image → Type 0
+      StandsStill sectors = StandsFor sectors (file_info n image) (standing_page n image)
+
+      left : g.keeps_model (disk_of new) → LeavesNow g (disk_of mid) (StandsStill (g.sector_count (disk_of mid)))
+      left keeps c may = subst (λ x. StandsStill x c) (sym opened.size)
+          (opened.now (made.kept keeps) c may (file_info n image) (standing_page n image)
+          (stands_for_own n image (opened.good_layout (made.kept keeps)) (opened.good_journal (made.kept keeps))))
+
+      stands_as : (c : Image) → StandsStill (g.sector_count (disk_of mid)) c → StandsAs n image c
+      stands_as c stands = stands_as_said n image c (subst (λ x. StandsStill x c) opened.size stands)
+
+      now : g.keeps_model (disk_of new) → LeavesNow g (disk_of new) (StandsAs n image)
+      now keeps c may = stands_as c (made.stands keeps (file_info n image) (standing_page n image) (left keeps) c may)
+
+      run : RunsStoreBoot g entry (disk_of new)
+      run = record {
+        size = made.size ∙ opened.size;
+        kept = λ keeps. opened.kept (made.kept keeps);
+        later = (let first = opened.later in let second = made.cause.later in omega (arith, first, second));
+        asks = λ keeps. asks_then g (IsAskedToBoot n image) entry (disk_of mid) (disk_of new)
+            (asks_wider g (IsAskedToOpen n image) (IsAskedToBoot n image) entry (disk_of mid) (λ k asked. inl asked) (opened.asks (made.kept keeps))) (asks keeps);
+        outside = λ keeps k out. outside keeps k out ∙ opened.outside (made.kept keeps) k out;
+        leaves = leaves_by entry (disk_of new) (λ keeps synced. joined g entry (disk_of mid) (disk_of new) (StandsAs n image) (opened.any_moment (made.kept keeps) synced)
+            (weaker g (disk_of mid) (disk_of new) (StandsStill (g.sector_count (disk_of mid))) (StandsAs n image) stands_as
+            (made.any_moment keeps (file_info n image) (standing_page n image) (left keeps))));
+      }
+
+    -- enough for an msync,
+    pub boots_store : (new : Store D) → MakesRoom g mid new (Ok (tt {0})) → 1023 ≤ always_free_in (kept_of mid) → BootsStore g entry new
+    boots_store new made enough = record {
+      run = run new (Ok (tt {0})) made;
+      ready = made.ready;
+      room = record { next = (let free = made.room in omega (arith, enough, free)); always = (let same = made.always in omega (arith, enough, same)) };
+      bounded = subst (λ (directory : AnyDirectory). AreBounded (files_in directory)) (sym made.files) opened.bounded;
+      layout = λ keeps. opened.good_layout (made.kept keeps);
+      journal = λ keeps. opened.good_journal (made.kept keeps);
+      pool = λ keeps small. (let all = slots (made.kept keeps) small.0 in omega (arith, enough, all, small.1));
+      now = now new (Ok (tt {0})) made;
+      calm = made.cause.calm ∙ opened.calm;
+    }
+
+    -- or the device fails.
+    pub refuses_failed : (new : Store D) (fault : DiskFault) → MakesRoom g mid new (Err fault) → RefusesStore g entry Device (disk_of new)
+    refuses_failed new fault made = record {
+      err_run = run new (Err fault) made;
+      sized = λ e. ⊎_elim (λ e'. cc) (λ e'. cc) e;
+      device = λ e. (let more = made.cause.failed refl in let calm = opened.calm in omega (arith, more, calm));
+      err_calm = λ other. absurd (other refl);
+      bad_layout = λ keeps e. cc;
+      bad_journal = λ keeps e. cc;
+      layout_first = λ keeps e bad. cc;
+      small_pool = λ keeps e. cc;
+      unwritten = λ keeps e. absurd (⊎_elim (λ e'. cc) (λ e'. cc) e);
+    }

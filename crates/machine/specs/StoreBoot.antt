@@ -1,0 +1,58 @@
+-- How a boot opens its store.
+use Rattle.std.specs.Prelude.{ℕ, ◌≡◌, ◌<◌, ◌≤◌, ◌⊎◌}
+use Rattle.disk_model.specs.Moments.{Touches, AsksOnly, Nothing, LeavesNow}
+use Rattle.disk_model.specs.declared.sector_disk.SectorDisk.{Ghosts}
+use Rattle.file_store.specs.Standing.{AreBounded}
+use Rattle.stores.specs.Images.{StandsAs, IsBadLayout, IsBadJournal, IsOutside}
+use Rattle.stores.specs.Store.{disk_of, kept_of, files_of, HasRoomFor, IsReadyStore}
+use Rattle.stores.specs.declared.store.Store.{Store}
+use Rattle.vm_types.specs.Limits.{msync_pages}
+use Rattle.machine.specs.declared.boot.BootFault.{BootFault}
+use Rattle.machine.specs.declared.boot.BootFault.TheVariants.{Frames, Slots, Device, BadLayout, BadJournal, SmallPool}
+use Rattle.machine.specs.Boot.{HasSmallPool, IsAskedToBoot, BootLeaves}
+
+module _ {D : Type 0} (g : Ghosts D) where
+  -- Whatever comes of it,
+  pub record RunsStoreBoot (entry new : D) : Type 0 where
+    -- the device keeps its size, and forgets no failure,
+    pub size : g.sector_count new ≡ g.sector_count entry
+    pub kept : g.keeps_model new → g.keeps_model entry
+    pub later : g.failures entry ≤ g.failures new
+    -- no sector is asked for but those that a boot asks for, what lies outside is as it was,
+    pub asks : g.keeps_model new → AsksOnly g (IsAskedToBoot (g.sector_count entry) (g.content entry)) entry new
+    pub outside : g.keeps_model new → (k : ℕ) → IsOutside (g.sector_count entry) (g.content entry) k → g.content new k ≡ g.content entry k
+    -- and what a stop leaves meanwhile stands for what the store did.
+    pub leaves : BootLeaves g entry new
+
+  -- The store on a device is opened for a machine:
+  pub record BootsStore (entry : D) (store : Store D) : Type 0 where
+    pub run : RunsStoreBoot entry (disk_of store)
+    pub open run use *
+    -- it may be read, and committed to as often as msync asks, and its files' numbers and lengths are in their bounds;
+    pub ready : IsReadyStore g store
+    pub room : HasRoomFor msync_pages (kept_of store)
+    pub bounded : AreBounded (files_of store)
+    -- its image was that of a store with enough room, and stands for what it did, from now on;
+    pub layout : g.keeps_model (disk_of store) → IsBadLayout (g.sector_count entry) (g.content entry) → ⊥
+    pub journal : g.keeps_model (disk_of store) → IsBadJournal (g.sector_count entry) (g.content entry) → ⊥
+    pub pool : g.keeps_model (disk_of store) → HasSmallPool (g.content entry) → ⊥
+    pub now : g.keeps_model (disk_of store) → LeavesNow g (disk_of store) (StandsAs (g.sector_count entry) (g.content entry))
+    -- and the device did not fail.
+    pub calm : g.failures (disk_of store) ≡ g.failures entry
+
+  -- The device is given back with this fault:
+  pub record RefusesStore (entry : D) (fault : BootFault) (new : D) : Type 0 where
+    pub err_run : RunsStoreBoot entry new
+    pub open err_run use *
+    -- it is none of the machine's sizes;
+    pub sized : (fault ≡ Frames) ⊎ (fault ≡ Slots) → ⊥
+    -- `Device` comes only where the device failed, and any other only where it did not;
+    pub device : fault ≡ Device → g.failures entry < g.failures new
+    pub err_calm : (fault ≡ Device → ⊥) → g.failures new ≡ g.failures entry
+    -- `BadLayout`, `BadJournal` and `SmallPool` come only where it is so, a bad layout before a bad journal,
+    pub bad_layout : g.keeps_model new → fault ≡ BadLayout → IsBadLayout (g.sector_count entry) (g.content entry)
+    pub bad_journal : g.keeps_model new → fault ≡ BadJournal → IsBadJournal (g.sector_count entry) (g.content entry)
+    pub layout_first : g.keeps_model new → fault ≡ BadJournal → IsBadLayout (g.sector_count entry) (g.content entry) → ⊥
+    pub small_pool : g.keeps_model new → fault ≡ SmallPool → HasSmallPool (g.content entry)
+    -- and where the image is bad nothing was written.
+    pub unwritten : g.keeps_model new → (fault ≡ BadLayout) ⊎ (fault ≡ BadJournal) → Touches g Nothing entry new
